@@ -1,0 +1,9 @@
+pub mod Causes
+pub mod Files
+pub mod Front
+pub mod FullShelves
+pub mod Lines
+pub mod MemoryFiles
+pub mod MemoryShelves
+pub mod MemorySinks
+pub mod Sinks
