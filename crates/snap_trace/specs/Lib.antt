@@ -1,0 +1,6 @@
+pub mod Drafts
+pub mod OneSwitch
+pub mod PacketLines
+pub mod Reports
+pub mod Shown
+pub mod Spelled

@@ -1,0 +1,49 @@
+-- The packets that a file spells, and why its reading ends.
+use Rattle.std.specs.Prelude.{ℕ, ◌+◌, zero, suc, List, [], ◌∷◌}
+use Rattle.snap_core.specs.declared.program.Field.{Field}
+use Rattle.snap_core.specs.declared.program.Which.TheVariants.{Bytes, Lines}
+use Rattle.snap_io.specs.Lines.{Next, next_line, no_line, long_line, many_bytes, next_in}
+use Rattle.snap_trace.specs.declared.fault.TraceFault.{TraceFault}
+use Rattle.snap_trace.specs.declared.fault.TraceFault.TheVariants.{Limit, Packets}
+use Rattle.snap_trace.specs.PacketLines.{Said, skip, inject, bad, said_by}
+
+-- reading has come to the file's end, or a line is refused
+pub data Stop : Type 0 where
+  ended : Stop
+  refused : TraceFault → Stop
+
+-- the packets of the lines before reading stops
+pub record Spelled : Type 0 where
+  pub packets : List (List ℕ)
+  pub stop : Stop
+
+abbrev pub stops : Stop → Spelled
+stops stop = record { packets = []; stop = stop }
+
+-- a line of this number, before the lines behind it
+abbrev pub with_said : ℕ → Said → Spelled → Spelled
+with_said line skip rest = rest
+with_said line (inject packet) rest = record { packets = packet ∷ rest.packets; stop = rest.stop }
+with_said line bad rest = stops (refused (Packets line))
+
+-- what stands next, as the line of this number
+abbrev pub with_next : List Field → ℕ → Next → (ℕ → Spelled) → Spelled
+with_next fields line (next_line text behind) rest = with_said line (said_by fields text) (rest behind)
+with_next fields line no_line rest = stops ended
+with_next fields line long_line rest = stops (refused (Packets line))
+with_next fields line many_bytes rest = stops (refused (Limit Bytes 67108865))
+
+-- where no further line may come
+abbrev pub after_last : Next → Spelled
+after_last no_line = stops ended
+after_last next = stops (refused (Limit Lines 1000001))
+
+-- From this place on the file's lines are read, of which the first has this number and `left` may come. A file has
+-- at most 67,108,864 bytes, and a line 65,536.
+unfoldable pub spelled_from : List Field → (file : List ℕ) → (left line at : ℕ) → Spelled
+spelled_from fields file zero line at = after_last (next_in 67108864 65536 file at)
+spelled_from fields file (suc left) line at = with_next fields line (next_in 67108864 65536 file at) (λ behind. spelled_from fields file left (line + 1) behind)
+
+-- what a file of at most 1,000,000 lines spells
+abbrev pub spelled : List Field → List ℕ → Spelled
+spelled fields file = spelled_from fields file 1000000 1 0

@@ -1,0 +1,115 @@
+//! A packet while the words of its line are read.
+
+use crate::line::LineFault;
+use crate::words::{next_word, plain_value, split_value};
+use snap_core::NoMemory;
+use snap_core::packet::Packet;
+use snap_core::parts::split_at_first;
+use snap_core::program::{Fields, Found};
+use std::alloc::Global;
+
+/// A packet as far as it is read, and the set of components that were named, a bit each.
+#[derive(Debug, Drop)]
+pub(crate) struct Draft {
+    numbers: Vec<u64>,
+    named: u64,
+}
+
+impl Draft {
+    ghost use Rattle.std.specs.Prelude.{◌≡◌, ◌<◌, ◌≤◌, length, IfOk, MatchResult, vec_len, Some, None};
+    ghost use Rattle.snap_core.specs.Fields.{count, found};
+    ghost use Rattle.snap_core.specs.Parts.{parts_by};
+    ghost use Rattle.snap_trace.specs.Drafts.{draft_of};
+    ghost use Rattle.snap_trace.specs.PacketLines.{draft_at, with_number, with_value, with_word, with_words, words_of};
+    ghost use Rattle.snap_trace.specs.declared.line.LineFault.TheVariants.{Bad};
+
+    /// A packet that comes in at this port and is 0 elsewhere.
+    pub(crate) fn new(alloc: Global, fields: &Fields, port: u32) -> Result<Draft, NoMemory>
+        ensures { IfOk result (λ draft. draft_of draft ≡ draft_at fields.now port) }
+    {
+        let mut numbers = vec![in alloc; 0u64; fields.count() as usize]?;
+        numbers[0] = u64::from(port);
+        Ok(Draft { numbers, named: 1 })
+    }
+
+    /// Names the components that the words of a text set.
+    pub(crate) fn set_words(&mut self, fields: &Fields, text: &[u8]) -> Result<(), LineFault>
+        requires { vec_len self.old.numbers ≡ count fields.now }
+        ensures { MatchResult result
+            (λ _. with_words fields.now (words_of text.now) (draft_of self.old) ≡ Some (draft_of self.new))
+            (λ e. (e ≡ Bad) × (with_words fields.now (words_of text.now) (draft_of self.old) ≡ None)) }
+    {
+        let mut rest = text;
+        while let Some((word, behind)) = next_word(rest) {
+            self.set_word(fields, word)?;
+            rest = behind;
+        }
+        Ok(())
+    }
+
+    // Names what one word `NAME=VALUE` sets.
+    fn set_word(&mut self, fields: &Fields, word: &[u8]) -> Result<(), LineFault>
+        requires { vec_len self.old.numbers ≡ count fields.now }
+        ensures same { vec_len self.new.numbers ≡ vec_len self.old.numbers }
+        ensures set { MatchResult result
+            (λ _. with_word fields.now word.now (draft_of self.old) ≡ Some (draft_of self.new))
+            (λ e. (e ≡ Bad) × (with_word fields.now word.now (draft_of self.old) ≡ None)) }
+    {
+        let Some((name, value)) = split_at_first(word, b'=') else {
+            return Err(LineFault::Bad);
+        };
+        match split_at_first(value, b'=') {
+            Some(_) => Err(LineFault::Bad),
+            None => self.set_value(fields.find(name), value),
+        }
+    }
+
+    // Sets what a name stands for to what stands behind it.
+    fn set_value(&mut self, found: Option<Found>, value: &[u8]) -> Result<(), LineFault>
+        requires { IsWithin (vec_len self.old.numbers) found }
+        ensures same { vec_len self.new.numbers ≡ vec_len self.old.numbers }
+        ensures set { MatchResult result
+            (λ _. with_value found value.now (draft_of self.old) ≡ Some (draft_of self.new))
+            (λ e. (e ≡ Bad) × (with_value found value.now (draft_of self.old) ≡ None)) }
+    {
+        match found {
+            None => Err(LineFault::Bad),
+            Some(Found::Plain(comp)) => match plain_value(value) {
+                Some(number) => self.set_number(comp, number),
+                None => Err(LineFault::Bad),
+            },
+            Some(Found::Split { net, host, prefix }) => match split_value(prefix, value) {
+                Some((of_net, of_host)) => {
+                    self.set_number(net, of_net)?;
+                    self.set_number(host, of_host)
+                }
+                None => Err(LineFault::Bad),
+            },
+        }
+    }
+
+    // Sets one component, which was not named before.
+    fn set_number(&mut self, comp: u16, number: u64) -> Result<(), LineFault>
+        requires within { comp < vec_len self.old.numbers }
+        requires few { vec_len self.old.numbers ≤ 64 }
+        ensures same { vec_len self.new.numbers ≡ vec_len self.old.numbers }
+        ensures set { MatchResult result
+            (λ _. with_number comp number (draft_of self.old) ≡ Some (draft_of self.new))
+            (λ e. (e ≡ Bad) × (with_number comp number (draft_of self.old) ≡ None)) }
+    {
+        let bit = 1u64 << comp;
+        if self.named & bit != 0 {
+            return Err(LineFault::Bad);
+        }
+        self.named |= bit;
+        self.numbers[comp as usize] = number;
+        Ok(())
+    }
+
+    /// The packet.
+    pub(crate) fn packet(self) -> Packet
+        ensures { result ≡ self.numbers.items }
+    {
+        Packet::new(self.numbers)
+    }
+}

@@ -1,0 +1,13 @@
+//! Lines of packets, and the report of one big switch over a file of them.
+#![tactic(auto)]
+
+pub mod draft;
+pub mod fault;
+pub mod line;
+pub mod report;
+pub mod words;
+
+pub use fault::TraceFault;
+pub use line::{Line, LineFault, read_line};
+
+
