@@ -1,5 +1,5 @@
 -- What the fields of a program declare.
-use Rattle.std.specs.Prelude.{◌≡◌, ℕ, ◌+◌, ◌≤◌, Option, None, Some, List, [], ◌∷◌, ◌++◌, map, codes, take, ⊤}
+use Rattle.std.specs.Prelude.{◌≡◌, ℕ, ◌+◌, ◌<◌, ◌≤◌, Option, None, Some, List, [], ◌∷◌, ◌++◌, map, codes, take, ⊤}
 use Rattle.std.specs.List.{All, IsDistinct}
 use Rattle.std.specs.Map.{lookup}
 use Rattle.std.specs.Str.{bytes_eq}
@@ -47,3 +47,9 @@ pub record IsFields (fs : List Field) : Type 0 where
   pub different : IsDistinct bytes_eq (names_of fs)
   pub prefixes : All (λ f. PrefixFits f.prefix) fs
   pub few : count fs ≤ 64
+
+-- what a name stands for lies below a number of components
+abbrev pub FoundFits : ℕ → Option Found → Type 0
+FoundFits comps None = ⊤
+FoundFits comps (Some (Plain c)) = c < comps
+FoundFits comps (Some (Split net host n)) = (net < comps) × (host < comps) × (1 ≤ n) × (n ≤ 31)

@@ -37,8 +37,8 @@ fn address_of_parts(first: &[u8], second: &[u8], third: &[u8], fourth: &[u8]) ->
     Some(((first * 256 + second) * 256 + third) * 256 + fourth)
 }
 
-// The number, if it is at most `most`.
-fn number_up_to(most: u64, text: &[u8]) -> Option<u64>
+/// The number that a text spells in digits, if it is at most `most`.
+pub fn number_up_to(most: u64, text: &[u8]) -> Option<u64>
     ensures { result ≡ number_up_to most text.now }
 {
     if text.is_empty() {

@@ -19,7 +19,7 @@ impl Draft {
     ghost use Rattle.std.specs.Prelude.{◌≡◌, ◌<◌, ◌≤◌, length, IfOk, MatchResult, vec_len, Some, None};
     ghost use Rattle.snap_core.specs.Fields.{count, found};
     ghost use Rattle.snap_core.specs.Parts.{parts_by};
-    ghost use Rattle.snap_trace.specs.Drafts.{draft_of};
+    ghost use Rattle.snap_trace.specs.Drafts.{draft_of, IsWithin};
     ghost use Rattle.snap_trace.specs.PacketLines.{draft_at, with_number, with_value, with_word, with_words, words_of};
     ghost use Rattle.snap_trace.specs.declared.line.LineFault.TheVariants.{Bad};
 

@@ -1,13 +1,14 @@
 //! Lines of a packets file.
 
-ghost use Rattle.std.specs.Prelude.{◌≡◌};
+ghost use Rattle.std.specs.Prelude.{◌≡◌, ◌^◌, ◌-◌, ◌≤◌, Some, IfSome, MatchResult};
+ghost use Rattle.snap_core.specs.Figures.{number_up_to};
 ghost use Rattle.snap_trace.specs.PacketLines.{said_by};
 ghost use Rattle.snap_trace.specs.Shown.{Says};
 
 use crate::draft::Draft;
 use crate::words::{next_word, without_return};
 use snap_core::NoMemory;
-use snap_core::figures::number;
+use snap_core::figures::number_up_to;
 use snap_core::packet::Packet;
 use snap_core::program::Fields;
 use std::alloc::Global;
@@ -69,7 +70,9 @@ pub fn read_line(alloc: Global, fields: &Fields, line: &[u8]) -> Result<Line, Li
 
 // A port's number.
 fn read_port(word: &[u8]) -> Result<u32, LineFault>
-    ensures { IsPort word.now result }
+    ensures { MatchResult result
+        (λ port. (number_up_to (2 ^ 32 - 1) word.now ≡ Some port) × (1 ≤ port))
+        (λ e. (e ≡ LineFault.Bad) × IfSome (number_up_to (2 ^ 32 - 1) word.now) (λ port. port ≡ 0)) }
 {
     match number_up_to(u64::from(u32::MAX), word) {
         Some(port) if 1 <= port => Ok(port as u32),
