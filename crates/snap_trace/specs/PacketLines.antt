@@ -1,5 +1,6 @@
 -- What a line of a packets file says.
-use Rattle.std.specs.Prelude.{ℕ, ◌+◌, ◌-◌, ◌^◌, ◌/◌, ◌%◌, Bool, true, false, ◌==◌, ◌||◌, nat_le, if◌then◌else◌, List, [], ◌∷◌, filter, length, take, slice_set, replicate, bit_or, codes, Some, None, option_and_then, option_map}
+use Rattle.std.specs.Prelude.{◌≡◌, ℕ, not, slice_get, ◌+◌, ◌-◌, ◌^◌, ◌/◌, ◌%◌, Bool, true, false, ◌==◌, ◌||◌, nat_le, if◌then◌else◌, List, [], ◌∷◌, filter, length, take, slice_set, replicate, bit_or, codes, Some, None, option_and_then, option_map}
+use Rattle.std.specs.Option.{option_map_or}
 use Rattle.std.specs.declared.option.Option.{Option}
 use Rattle.snap_core.specs.declared.program.Field.{Field}
 use Rattle.snap_core.specs.declared.program.Found.{Found}
@@ -27,11 +28,20 @@ is_some_text (b ∷ bs) = true
 abbrev pub words_of : List ℕ → List (List ℕ)
 words_of text = filter is_some_text (parts_by is_blank text)
 
+abbrev pub is_inked : ℕ → Bool
+is_inked b = not (is_blank b)
+
+-- the first byte is no blank
+abbrev pub BeginsWord : List ℕ → Type 0
+BeginsWord [] = ⊥
+BeginsWord (b ∷ bs) = is_blank b ≡ false
+
+abbrev pub ends_with_return : List ℕ → Bool
+ends_with_return text = option_map_or (λ b. b == 13) (slice_get text (length text - 1)) false
+
 -- a text without the CR at its end, where it has one
 abbrev pub without_return : List ℕ → List ℕ
-without_return [] = []
-without_return (b ∷ []) = if b == 13 then [] else b ∷ []
-without_return (b ∷ c ∷ bs) = b ∷ without_return (c ∷ bs)
+without_return text = if ends_with_return text then take (length text - 1) text else text
 
 -- the value of a plain field or of a component: a number or an address
 abbrev pub plain_or : Option ℕ → Option ℕ → Option ℕ
@@ -87,16 +97,18 @@ with_words fields (word ∷ words) draft = option_and_then (with_words fields wo
 abbrev pub is_port : ℕ → Bool
 is_port n = nat_le 1 n
 
--- the packet before the words that name its components: `inport` is the port, the others are 0
-abbrev pub draft_at : List Field → ℕ → Draft
-draft_at fields port = record { numbers = slice_set (replicate (count fields) 0) 0 port; named = 1 }
+-- the packet before the words that name its components. None may name `inport`
+abbrev pub draft_at_first : List Field → Draft
+draft_at_first fields = record { numbers = replicate (count fields) 0; named = 1 }
+
+-- the packet of a port and of words that name components: `inport` is the port, and what isn't named is 0
+abbrev pub packet_at : List Field → List (List ℕ) → ℕ → Option (List ℕ)
+packet_at fields words port =
+    if is_port port then option_map (λ (draft : Draft). slice_set draft.numbers 0 port) (with_words fields words (draft_at_first fields)) else None
 
 abbrev pub packet_of_words : List Field → List (List ℕ) → Option (List ℕ)
 packet_of_words fields [] = None
-packet_of_words fields (word ∷ words) =
-    option_and_then
-    (λ port. if is_port port then option_map (λ (draft : Draft). draft.numbers) (with_words fields words (draft_at fields port)) else None)
-    (number_up_to (2 ^ 32 - 1) word)
+packet_of_words fields (word ∷ words) = option_and_then (packet_at fields words) (number_up_to (2 ^ 32 - 1) word)
 
 abbrev pub said_or_bad : Option (List ℕ) → Said
 said_or_bad None = bad

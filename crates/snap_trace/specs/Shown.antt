@@ -1,5 +1,5 @@
 -- What a line that was read says.
-use Rattle.std.specs.Prelude.{◌≡◌, ◌≢◌, ℕ, List, slice_index, Result, Ok, Err}
+use Rattle.std.specs.Prelude.{◌≡◌, ℕ, length, slice_index, Result, Ok, Err}
 use Rattle.snap_trace.specs.declared.line.Line.{Line}
 use Rattle.snap_trace.specs.declared.line.Line.TheVariants.{Skip, Inject}
 use Rattle.snap_trace.specs.declared.line.LineFault.{LineFault}
@@ -12,3 +12,8 @@ Says said (Ok Skip) = said ≡ skip
 Says said (Ok (Inject port packet)) = (said ≡ inject packet) × (slice_index packet 0 ≡ port)
 Says said (Err Bad) = said ≡ bad
 Says said (Err NoMemory) = Unit {0}
+
+-- the packet has this many components
+abbrev pub HasComps : ℕ → Line → Type 0
+HasComps comps Skip = Unit {0}
+HasComps comps (Inject port packet) = length packet ≡ comps

@@ -16,26 +16,28 @@ pub(crate) struct Draft {
 }
 
 impl Draft {
-    ghost use Rattle.std.specs.Prelude.{◌≡◌, ◌<◌, ◌≤◌, length, IfOk, MatchResult, vec_len, Some, None};
-    ghost use Rattle.snap_core.specs.Fields.{count, found};
+    ghost use Rattle.std.specs.Prelude.{◌≡◌, ◌<◌, ◌≤◌, length, IfOk, MatchResult, slice_set, vec_len, Some, None};
+    ghost use Rattle.snap_core.specs.Fields.{FoundFits, count, found};
     ghost use Rattle.snap_core.specs.Parts.{parts_by};
-    ghost use Rattle.snap_trace.specs.Drafts.{draft_of, IsWithin};
-    ghost use Rattle.snap_trace.specs.PacketLines.{draft_at, with_number, with_value, with_word, with_words, words_of};
+    ghost use Rattle.snap_trace.specs.Drafts.{draft_of};
+    ghost use Rattle.snap_trace.specs.PacketLines.{draft_at_first, with_number, with_value, with_word, with_words, words_of};
     ghost use Rattle.snap_trace.specs.declared.line.LineFault.TheVariants.{Bad};
 
-    /// A packet that comes in at this port and is 0 elsewhere.
-    pub(crate) fn new(alloc: Global, fields: &Fields, port: u32) -> Result<Draft, NoMemory>
-        ensures { IfOk result (λ draft. draft_of draft ≡ draft_at fields.now port) }
+    /// A packet before a word has named anything. `inport` counts as named.
+    pub(crate) fn new(alloc: Global, fields: &Fields) -> Result<Draft, NoMemory>
+        ensures draft { IfOk result (λ draft. draft_of draft ≡ draft_at_first fields.now) }
+        ensures comps { IfOk result (λ draft. (vec_len draft.numbers ≡ count fields.now) × (2 ≤ vec_len draft.numbers) × (vec_len draft.numbers ≤ 64)) }
     {
-        let mut numbers = vec![in alloc; 0u64; fields.count() as usize]?;
-        numbers[0] = u64::from(port);
+        let numbers = vec![in alloc; 0u64; fields.count() as usize]?;
         Ok(Draft { numbers, named: 1 })
     }
 
     /// Names the components that the words of a text set.
     pub(crate) fn set_words(&mut self, fields: &Fields, text: &[u8]) -> Result<(), LineFault>
-        requires { vec_len self.old.numbers ≡ count fields.now }
-        ensures { MatchResult result
+        requires comps { vec_len self.old.numbers ≡ count fields.now }
+        requires few { vec_len self.old.numbers ≤ 64 }
+        ensures same { vec_len self.new.numbers ≡ vec_len self.old.numbers }
+        ensures set { MatchResult result
             (λ _. with_words fields.now (words_of text.now) (draft_of self.old) ≡ Some (draft_of self.new))
             (λ e. (e ≡ Bad) × (with_words fields.now (words_of text.now) (draft_of self.old) ≡ None)) }
     {
@@ -49,7 +51,8 @@ impl Draft {
 
     // Names what one word `NAME=VALUE` sets.
     fn set_word(&mut self, fields: &Fields, word: &[u8]) -> Result<(), LineFault>
-        requires { vec_len self.old.numbers ≡ count fields.now }
+        requires comps { vec_len self.old.numbers ≡ count fields.now }
+        requires few { vec_len self.old.numbers ≤ 64 }
         ensures same { vec_len self.new.numbers ≡ vec_len self.old.numbers }
         ensures set { MatchResult result
             (λ _. with_word fields.now word.now (draft_of self.old) ≡ Some (draft_of self.new))
@@ -66,7 +69,8 @@ impl Draft {
 
     // Sets what a name stands for to what stands behind it.
     fn set_value(&mut self, found: Option<Found>, value: &[u8]) -> Result<(), LineFault>
-        requires { IsWithin (vec_len self.old.numbers) found }
+        requires fits { FoundFits (vec_len self.old.numbers) found }
+        requires few { vec_len self.old.numbers ≤ 64 }
         ensures same { vec_len self.new.numbers ≡ vec_len self.old.numbers }
         ensures set { MatchResult result
             (λ _. with_value found value.now (draft_of self.old) ≡ Some (draft_of self.new))
@@ -97,19 +101,22 @@ impl Draft {
             (λ _. with_number comp number (draft_of self.old) ≡ Some (draft_of self.new))
             (λ e. (e ≡ Bad) × (with_number comp number (draft_of self.old) ≡ None)) }
     {
-        let bit = 1u64 << comp;
-        if self.named & bit != 0 {
+        if (self.named >> comp) & 1 == 1 {
             return Err(LineFault::Bad);
         }
-        self.named |= bit;
+        self.named |= 1 << comp;
         self.numbers[comp as usize] = number;
         Ok(())
     }
 
-    /// The packet.
-    pub(crate) fn packet(self) -> Packet
-        ensures { result ≡ self.numbers.items }
+    /// The packet, which comes in at this port.
+    pub(crate) fn packet(self, port: u32) -> Packet
+        requires { 0 < vec_len self.numbers }
+        ensures packet { result ≡ slice_set self.numbers.items 0 port }
+        ensures length { length result ≡ vec_len self.numbers }
     {
-        Packet::new(self.numbers)
+        let mut numbers = self.numbers;
+        numbers[0] = u64::from(port);
+        Packet::new(numbers)
     }
 }

@@ -1,9 +1,10 @@
 //! Lines of a packets file.
 
-ghost use Rattle.std.specs.Prelude.{◌≡◌, ◌^◌, ◌-◌, ◌≤◌, Some, IfSome, MatchResult};
+ghost use Rattle.std.specs.Prelude.{◌≡◌, ◌^◌, ◌-◌, ◌≤◌, Some, IfOk, IfSome, MatchResult};
+ghost use Rattle.snap_core.specs.Fields.{count};
 ghost use Rattle.snap_core.specs.Figures.{number_up_to};
 ghost use Rattle.snap_trace.specs.PacketLines.{said_by};
-ghost use Rattle.snap_trace.specs.Shown.{Says};
+ghost use Rattle.snap_trace.specs.Shown.{HasComps, Says};
 
 use crate::draft::Draft;
 use crate::words::{next_word, without_return};
@@ -49,7 +50,8 @@ impl From<NoMemory> for LineFault {
 /// What a line says, of packets with these fields (`docs/FORMATS.md`, "Packet lines"). The line has no LF; a CR at its
 /// end is dropped. `Bad` comes exactly where the line isn't in form.
 pub fn read_line(alloc: Global, fields: &Fields, line: &[u8]) -> Result<Line, LineFault>
-    ensures { Says (said_by fields.now line.now) result }
+    ensures said { Says (said_by fields.now line.now) result }
+    ensures comps { IfOk result (HasComps (count fields.now)) }
 {
     if line.first() == Some(&b'#') {
         return Ok(Line::Skip);
@@ -58,11 +60,11 @@ pub fn read_line(alloc: Global, fields: &Fields, line: &[u8]) -> Result<Line, Li
         None => Ok(Line::Skip),
         Some((word, rest)) => {
             let port = read_port(word)?;
-            let mut draft = Draft::new(alloc, fields, port)?;
+            let mut draft = Draft::new(alloc, fields)?;
             draft.set_words(fields, rest)?;
             Ok(Line::Inject {
                 port,
-                packet: draft.packet(),
+                packet: draft.packet(port),
             })
         }
     }

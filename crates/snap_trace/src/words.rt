@@ -1,7 +1,7 @@
 //! The words of a line, and the values that they spell.
 
-ghost use Rattle.std.specs.Prelude.{◌≡◌, ◌==◌, ◌<◌, ◌≤◌, [], ◌∷◌, length, IfSome, MatchOption};
-ghost use Rattle.snap_trace.specs.PacketLines.{is_blank, plain_value, split_value, both_numbers, without_return, words_of};
+ghost use Rattle.std.specs.Prelude.{◌≡◌, ◌==◌, ◌<◌, ◌≤◌, [], ◌∷◌, length, IfSome, MatchOption, position};
+ghost use Rattle.snap_trace.specs.PacketLines.{BeginsWord, both_numbers, ends_with_return, is_blank, is_inked, plain_value, split_value, without_return, words_of};
 ghost use Rattle.snap_core.specs.Parts.{parts_by};
 
 use snap_core::figures::{address, number};
@@ -18,7 +18,20 @@ fn is_blank(byte: u8) -> bool
 pub(crate) fn without_return(line: &[u8]) -> &[u8]
     ensures { result.now ≡ without_return line.now }
 {
-    line.strip_suffix(b"\r".as_slice()).unwrap_or(line)
+    if ends_with_return(line) {
+        &line[..line.len() - 1]
+    } else {
+        line
+    }
+}
+
+fn ends_with_return(line: &[u8]) -> bool
+    ensures { result ≡ ends_with_return line.now }
+{
+    match line.last() {
+        Some(byte) => *byte == b'\r',
+        None => false,
+    }
 }
 
 /// The first word of a text, and the text behind it.
@@ -26,12 +39,34 @@ pub(crate) fn next_word(text: &[u8]) -> Option<(&[u8], &[u8])>
     ensures word { MatchOption result (words_of text.now ≡ []) (λ pair. words_of text.now ≡ pair.0.now ∷ words_of pair.1.now) }
     ensures shorter { IfSome result (λ pair. length pair.1.now < length text.now) }
 {
-    let begin = text.iter().position(|byte| !is_blank(*byte))?;
-    let rest = &text[begin..];
-    match rest.iter().position(|byte| is_blank(*byte)) {
-        Some(end) => Some((&rest[..end], &rest[end..])),
-        None => Some((rest, &[])),
+    match first_inked(text) {
+        Some(begin) => Some(split_word(&text[begin..])),
+        None => None,
     }
+}
+
+// The word at the front of a text that begins with one, and the text behind it.
+fn split_word(text: &[u8]) -> (&[u8], &[u8])
+    requires { BeginsWord text.now }
+    ensures word { words_of text.now ≡ result.0.now ∷ words_of result.1.now }
+    ensures shorter { length result.1.now < length text.now }
+{
+    match first_blank(text) {
+        Some(end) => (&text[..end], &text[end..]),
+        None => (text, &[]),
+    }
+}
+
+fn first_blank(text: &[u8]) -> Option<usize>
+    ensures { result ≡ position is_blank text.now }
+{
+    text.iter().position(|byte| is_blank(*byte))
+}
+
+fn first_inked(text: &[u8]) -> Option<usize>
+    ensures { result ≡ position is_inked text.now }
+{
+    text.iter().position(|byte| !is_blank(*byte))
 }
 
 /// The value of a plain field or of a component: a number or an address.
