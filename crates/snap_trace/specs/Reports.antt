@@ -24,10 +24,14 @@ abbrev pub value_text : Option ℕ → ℕ → List ℕ → List ℕ
 value_text None c packet = decimal (slice_index packet c)
 value_text (Some prefix) c packet = split_text prefix (slice_index packet c) (slice_index packet (c + 1))
 
+-- ` NAME=VALUE` of a field whose components begin at c
+abbrev pub field_text : Field → ℕ → List ℕ → List ℕ
+field_text f c packet = concat (codes " " ∷ f.name ∷ codes "=" ∷ value_text f.prefix c packet ∷ [])
+
 -- the fields of a packet in order of declaration, of which the first has its components from c on
 abbrev pub fields_text : ℕ → List Field → List ℕ → List ℕ
 fields_text c [] packet = []
-fields_text c (f ∷ fs) packet = concat (codes " " ∷ f.name ∷ codes "=" ∷ value_text f.prefix c packet ∷ []) ++ fields_text (c + width f.prefix) fs packet
+fields_text c (f ∷ fs) packet = field_text f c packet ++ fields_text (c + width f.prefix) fs packet
 
 abbrev pub out_line : List Field → List ℕ → List ℕ
 out_line fields packet = codes "out" ++ fields_text 0 fields packet ++ codes "\n"

@@ -1,8 +1,9 @@
 //! The texts of a report, put behind one another in a buffer.
 
-ghost use Rattle.std.specs.Prelude.{◌≡◌, ◌<◌, ◌≤◌, ◌++◌, decimal, length, IfOk, OnOk};
-ghost use Rattle.snap_core.specs.Fields.{count};
-ghost use Rattle.snap_trace.specs.Reports.{address_text, array_line, block, end_text, fields_text, index_text, out_line, split_text, value_text};
+ghost use Rattle.std.specs.Prelude.{◌≡◌, ◌<◌, ◌≤◌, ◌+◌, ◌++◌, All, [], decimal, length, slice_get, unwrap_or, OnOk};
+ghost use Rattle.snap_core.specs.Fields.{PrefixFits, count, width};
+ghost use Rattle.snap_core.specs.Packets.{AllLong};
+ghost use Rattle.snap_trace.specs.Reports.{address_text, array_line, block, end_text, field_text, index_text, out_line, split_text, value_text};
 
 use itoa::Buffer;
 use snap_core::NoMemory;
@@ -47,4 +48,118 @@ fn put_split(out: &mut Vec<u8>, prefix: u8, net: u64, host: u64) -> Result<(), N
         out.push(b':')?;
         put_number(out, host)
     }
+}
+
+// Puts the value of a field whose components begin at `comp`.
+fn put_value(
+    out: &mut Vec<u8>,
+    prefix: Option<u8>,
+    comp: u16,
+    packet: &Packet,
+) -> Result<(), NoMemory>
+    requires comps { comp + width prefix ≤ length packet.now }
+    requires few { length packet.now ≤ 64 }
+    requires prefix { PrefixFits prefix }
+    ensures { OnOk result (out.new.items ≡ out.old.items ++ value_text prefix comp packet.now) }
+{
+    match prefix {
+        None => put_number(out, packet.get(comp)),
+        Some(prefix) => put_split(out, prefix, packet.get(comp), packet.get(comp + 1)),
+    }
+}
+
+// Puts ` NAME=VALUE` of one field.
+fn put_field(
+    out: &mut Vec<u8>,
+    field: &Field,
+    comp: u16,
+    packet: &Packet,
+) -> Result<(), NoMemory>
+    requires comps { comp + width field.now.prefix ≤ length packet.now }
+    requires few { length packet.now ≤ 64 }
+    requires prefix { PrefixFits field.now.prefix }
+    ensures { OnOk result (out.new.items ≡ out.old.items ++ field_text field.now comp packet.now) }
+{
+    out.push(b' ')?;
+    out.extend_from_slice(field.name.bytes())?;
+    out.push(b'=')?;
+    put_value(out, field.prefix, comp, packet)
+}
+
+// Puts the line of a packet that goes out.
+fn put_out(out: &mut Vec<u8>, fields: &Fields, packet: &Packet) -> Result<(), NoMemory>
+    requires { length packet.now ≡ count fields.now }
+    ensures { OnOk result (out.new.items ≡ out.old.items ++ out_line fields.now packet.now) }
+{
+    out.extend_from_slice(b"out")?;
+    let mut comp = 0u16;
+    for field in fields.list() {
+        put_field(out, field, comp, packet)?;
+        comp += field.width();
+    }
+    out.push(b'\n')?;
+    Ok(())
+}
+
+/// Puts the block of the packet with this number, which became this set of packets.
+pub(crate) fn put_block(
+    out: &mut Vec<u8>,
+    fields: &Fields,
+    number: u64,
+    packets: &Packets,
+) -> Result<(), NoMemory>
+    requires { AllLong (count fields.now) packets.now }
+    ensures { OnOk result (out.new.items ≡ out.old.items ++ block fields.now number packets.now) }
+{
+    out.extend_from_slice(b"packet ")?;
+    put_number(out, number)?;
+    out.push(b'\n')?;
+    for packet in packets.list() {
+        put_out(out, fields, packet)?;
+    }
+    Ok(())
+}
+
+// Puts the numbers of an index.
+fn put_index(out: &mut Vec<u8>, index: &[u64]) -> Result<(), NoMemory>
+    ensures { OnOk result (out.new.items ≡ out.old.items ++ index_text index.now) }
+{
+    for number in index {
+        out.push(b' ')?;
+        put_number(out, *number)?;
+    }
+    Ok(())
+}
+
+fn name_at(names: &Names, var: u16) -> &[u8]
+    requires { var < length names.now }
+    ensures { result.now ≡ unwrap_or (slice_get names.now var) [] }
+{
+    names.items()[var as usize].bytes()
+}
+
+// Puts the line of a place that isn't 0.
+fn put_entry(out: &mut Vec<u8>, names: &Names, entry: &Entry) -> Result<(), NoMemory>
+    requires { entry.now.place.var < length names.now }
+    ensures { OnOk result (out.new.items ≡ out.old.items ++ array_line names.now entry.now) }
+{
+    out.extend_from_slice(b"array ")?;
+    out.extend_from_slice(name_at(names, entry.place.var))?;
+    put_index(out, entry.place.index.list())?;
+    out.extend_from_slice(b" = ")?;
+    put_number(out, entry.value)?;
+    out.push(b'\n')?;
+    Ok(())
+}
+
+/// Puts the end of a report: the places that aren't 0, and the last line.
+pub(crate) fn put_end(out: &mut Vec<u8>, names: &Names, entries: &[Entry]) -> Result<(), NoMemory>
+    requires { All (λ e. e.place.var < length names.now) entries.now }
+    ensures { OnOk result (out.new.items ≡ out.old.items ++ end_text names.now entries.now) }
+{
+    for entry in entries {
+        put_entry(out, names, entry)?;
+    }
+    out.extend_from_slice(b"end\n")?;
+    Ok(())
 }
