@@ -4,3 +4,4 @@ pub mod PacketLines
 pub mod Reports
 pub mod Shown
 pub mod Spelled
+pub mod Steps

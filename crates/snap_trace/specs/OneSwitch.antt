@@ -1,62 +1,66 @@
 -- The report of one big switch over the packets that a file spells.
-use Rattle.std.specs.Prelude.{◌≡◌, ℕ, ◌+◌, List, [], ◌∷◌, ◌++◌, Result, Ok, Err, MatchOption}
+use Rattle.std.specs.Prelude.{◌≡◌, ◌⊎◌, ℕ, ◌+◌, List, [], ◌∷◌, ◌++◌, Result, Ok, Err, MatchOption}
 use Rattle.std.specs.declared.option.Option.{Option}
+use Rattle.std.specs.Option.{option_map_or}
 use Rattle.std.specs.Io.KnownBytes.{Appends}
-use Rattle.snap_core.specs.declared.program.Field.{Field}
 use Rattle.snap_core.specs.declared.program.Program.{Program}
 use Rattle.snap_core.specs.declared.place.Entry.{Entry}
 use Rattle.snap_core.specs.Arrays.{Arrays, zero_arrays}
 use Rattle.snap_core.specs.Listing.{IsListing}
-use Rattle.snap_core.specs.Meaning.{Meaning, eval}
+use Rattle.snap_core.specs.Meaning.{eval}
 use Rattle.snap_io.specs.Sinks.{AppendsPart}
 use Rattle.snap_trace.specs.declared.fault.TraceFault.{TraceFault}
-use Rattle.snap_trace.specs.declared.fault.TraceFault.TheVariants.{Read, Write, Limit, Packets, Undefined, NoMemory}
+use Rattle.snap_trace.specs.declared.fault.TraceFault.TheVariants.{Read, Write, Undefined, NoMemory}
 use Rattle.snap_trace.specs.Reports.{block, end_text}
-use Rattle.snap_trace.specs.Spelled.{Stop, ended, refused, Spelled, spelled}
+use Rattle.snap_trace.specs.Spelled.{Stop, ended, refused, spelled}
 
 -- how a run ends
 abbrev pub Ending : Type 0
 Ending = Result (Unit {0}) TraceFault
 
--- What is to be written where no device fails and memory is there: how the run ends, and the text by then. Of the
--- text, `so_far` may have gone out before the last read and the last request for memory.
-pub record Due : Type 0 where
-  pub ending : Ending
-  pub text : List ℕ
-  pub so_far : List ℕ
+-- Packets are evaluated one after another from some arrays, the first of which has this number: their blocks, up to a
+-- packet on which evaluation is undefined.
+abbrev pub blocks_from : Program → ℕ → Arrays → List (List ℕ) → List ℕ
+blocks_from program number m [] = []
+blocks_from program number m (packet ∷ packets) =
+    option_map_or (λ o. block program.fields number o.packets ++ blocks_from program (number + 1) o.arrays packets) (eval program.body m packet) []
 
-abbrev pub refusal : TraceFault → Due
-refusal fault = record { ending = Err fault; text = []; so_far = [] }
+-- how the run ends: undefined at a packet, or as reading stopped behind the last
+abbrev pub ending_from : Program → ℕ → Arrays → List (List ℕ) → Stop → Ending
+ending_from program number m [] ended = Ok tt
+ending_from program number m [] (refused fault) = Err fault
+ending_from program number m (packet ∷ packets) stop =
+    option_map_or (λ o. ending_from program (number + 1) o.arrays packets stop) (eval program.body m packet) (Err (Undefined number))
 
--- the same behind a text
-abbrev pub behind : List ℕ → Due → Due
-behind text due = record { ending = due.ending; text = text ++ due.text; so_far = text ++ due.so_far }
+-- what stands behind the blocks: where the whole file was read and evaluated, the last arrays' places that aren't 0
+abbrev pub IsTailFrom : Program → Arrays → List (List ℕ) → Stop → List ℕ → Type 0
+IsTailFrom program m [] ended tail = (entries : List Entry) × IsListing m entries × (tail ≡ end_text program.vars entries)
+IsTailFrom program m [] (refused fault) tail = tail ≡ []
+IsTailFrom program m (packet ∷ packets) stop tail = MatchOption (eval program.body m packet) (tail ≡ []) (λ o. IsTailFrom program o.arrays packets stop tail)
 
--- at the end of the packets, with these arrays
-abbrev pub IsDueAt : Program → Arrays → Stop → Due → Type 0
-IsDueAt program m ended due = (entries : List Entry) × IsListing m entries × (due ≡ record { ending = Ok tt; text = end_text program.vars entries; so_far = [] })
-IsDueAt program m (refused fault) due = due ≡ refusal fault
+-- the same of a file's packets, from arrays that are 0 everywhere
+abbrev pub blocks_of : Program → (file : List ℕ) → List ℕ
+blocks_of program file = blocks_from program 1 zero_arrays (spelled program.fields file).packets
 
--- The packets are evaluated one after another from these arrays, the first of which has this number. A packet on
--- which evaluation is undefined ends the run.
-abbrev pub IsDueFrom : Program → ℕ → Arrays → List (List ℕ) → Stop → Due → Type 0
-IsDueFrom program number m [] stop due = IsDueAt program m stop due
-IsDueFrom program number m (packet ∷ packets) stop due =
-    MatchOption (eval program.body m packet)
-    (due ≡ refusal (Undefined number))
-    (λ o. (rest : Due) × IsDueFrom program (number + 1) o.arrays packets stop rest × (due ≡ behind (block program.fields number o.packets) rest))
+abbrev pub ending_of : Program → (file : List ℕ) → Ending
+ending_of program file = ending_from program 1 zero_arrays (spelled program.fields file).packets (spelled program.fields file).stop
 
--- the report over a file's packets, from arrays that are 0 everywhere
-abbrev pub IsDue : Program → (file : List ℕ) → Due → Type 0
-IsDue program file due = let all = spelled program.fields file in IsDueFrom program 1 zero_arrays all.packets all.stop due
+abbrev pub IsTailOf : Program → (file : List ℕ) → List ℕ → Type 0
+IsTailOf program file tail = IsTailFrom program zero_arrays (spelled program.fields file).packets (spelled program.fields file).stop tail
 
--- The run ended as is due, with the whole text. Or a device failed or memory was short, and some first bytes of the
--- text have gone out.
-abbrev pub Meets : Due → Ending → Option (List ℕ) → Option (List ℕ) → Type 0
-Meets due (Err Read) old new = AppendsPart old new due.so_far
-Meets due (Err Write) old new = AppendsPart old new due.text
-Meets due (Err NoMemory) old new = AppendsPart old new due.so_far
-Meets due ending old new = (ending ≡ due.ending) × Appends old new due.text
+-- the whole text that goes out
+abbrev pub IsReport : Program → (file : List ℕ) → List ℕ → Type 0
+IsReport program file text = (tail : List ℕ) × IsTailOf program file tail × (text ≡ blocks_of program file ++ tail)
 
-abbrev pub MeetsDue : Program → (file : List ℕ) → Ending → Option (List ℕ) → Option (List ℕ) → Type 0
-MeetsDue program file ending old new = (due : Due) × IsDue program file due × Meets due ending old new
+-- some first bytes of the whole text went out
+
+abbrev pub AppendsSome : Program → (file : List ℕ) → Option (List ℕ) → Option (List ℕ) → Type 0
+AppendsSome program file old new = (text : List ℕ) × IsReport program file text × AppendsPart old new text
+
+-- The run ended as the file deserves, and its whole text went out. Or a device failed or memory was short, and some
+-- first bytes of the blocks have gone out; where the sink failed, perhaps of what stands behind them too.
+abbrev pub Meets : Program → (file : List ℕ) → Ending → Option (List ℕ) → Option (List ℕ) → Type 0
+Meets program file (Err Read) old new = AppendsPart old new (blocks_of program file)
+Meets program file (Err NoMemory) old new = AppendsPart old new (blocks_of program file)
+Meets program file (Err Write) old new = AppendsPart old new (blocks_of program file) ⊎ AppendsSome program file old new
+Meets program file ending old new = (ending ≡ ending_of program file) × ((text : List ℕ) × IsReport program file text × Appends old new text)
