@@ -1,5 +1,5 @@
 -- What a buffer of bytes that were read holds.
-use Rattle.std.specs.Prelude.{ℕ, List, slice_range}
+use Rattle.std.specs.Prelude.{◌≡◌, ℕ, ◌≤◌, List, ◌++◌, length, take, drop, slice_range}
 use Rattle.snap_io.specs.declared.held.Held.{Held}
 
 -- the bytes read and not yet given
@@ -13,3 +13,8 @@ held_line held = slice_range held.buffer.items held.line_start held.line_end
 -- how many bytes a line may have
 abbrev pub held_most : Held → ℕ
 held_most held = held.most
+
+-- the new bytes are the old ones and so many of the file's from this place on; none came only at the file's end
+pub record GrowsBy (file : List ℕ) (from count : ℕ) (old new : List ℕ) : Type 0 where
+  pub bytes : new ≡ old ++ take count (drop from file)
+  pub ended : count ≡ 0 → length file ≤ from

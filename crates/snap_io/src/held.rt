@@ -1,5 +1,7 @@
 // The bytes of a file that were read and not yet given, in a buffer of a fixed size.
 ghost use Rattle.std.specs.Prelude.{◌≡◌, ◌+◌, ◌*◌, ◌<◌, ◌≤◌, [], ◌++◌, length, take, drop, slice_range, vec_len, IfOk, IfSome, OnErr};
+ghost use Rattle.snap_io.specs.Causes.{HasCause};
+ghost use Rattle.snap_io.specs.Files.{file_of, ReadsPart};
 ghost use Rattle.snap_io.specs.Lines.{before_lf};
 
 use crate::{Failed, Shelf};
@@ -34,10 +36,8 @@ pub(crate) struct Held {
 }
 
 impl Held {
-    ghost use Rattle.snap_io.specs.Causes.{HasCause};
-    ghost use Rattle.snap_io.specs.Files.{file_of, ReadsPart};
     ghost use Rattle.snap_io.specs.Lines.{first_line};
-    ghost use Rattle.snap_io.specs.Held.{held_bytes, held_line, held_most};
+    ghost use Rattle.snap_io.specs.Held.{held_bytes, held_line, held_most, GrowsBy};
 
     /// Takes the memory for lines of at most `most` bytes.
     pub(crate) fn new(alloc: Global, most: usize) -> Result<Held, NoMemory>
@@ -117,9 +117,8 @@ impl Held {
         requires piece { want ≤ 65536 }
         ensures more { IfOk result (λ count. count ≤ want) }
         ensures len { IfOk result (λ count. length (held_bytes self.new) ≡ length (held_bytes self.old) + count) }
-        ensures kept { IfOk result (λ count. take (length (held_bytes self.old)) (held_bytes self.new) ≡ held_bytes self.old) }
         ensures bytes { IfSome (S.files shelf.old) (λ files.
-            IfOk result (λ count. ReadsPart (file_of files name.now) from count (drop (length (held_bytes self.old)) (held_bytes self.new)))) }
+            IfOk result (λ count. GrowsBy (file_of files name.now) from count (held_bytes self.old) (held_bytes self.new))) }
         ensures line { held_line self.new ≡ held_line self.old }
         ensures most { held_most self.new ≡ held_most self.old }
         ensures err { OnErr result (held_bytes self.new ≡ held_bytes self.old) }
@@ -127,12 +126,46 @@ impl Held {
         ensures cause { HasCause (S.faults shelf.old) (S.faults shelf.new) result }
     {
         self.make_room();
-        let end = self.end;
-        let count = shelf.read_at(name, from, &mut self.buffer[end..end + want])?;
-        let more = &self.buffer[end..end + count];
-        self.before += memchr(b'\n', more).unwrap_or(count);
-        self.end = end + count;
+        let count = self.fill(shelf, name, from, want)?;
+        self.hold(count);
         Ok(count)
+    }
+
+    // Reads up to `want` bytes of the file to the place behind those held, and holds none of them yet.
+    fn fill<S: Shelf>(
+        &mut self,
+        shelf: &mut S,
+        name: &[u8],
+        from: u64,
+        want: usize,
+    ) -> Result<usize, Failed>
+        requires some { 0 < want }
+        requires room { self.old.end + want ≤ vec_len self.old.buffer }
+        ensures bound { IfOk result (λ count. count ≤ want) }
+        ensures part { IfSome (S.files shelf.old) (λ files.
+            IfOk result (λ count. ReadsPart (file_of files name.now) from count (drop self.new.end self.new.buffer.items))) }
+        ensures end { self.new.end ≡ self.old.end }
+        ensures room { vec_len self.new.buffer ≡ vec_len self.old.buffer }
+        ensures bytes { held_bytes self.new ≡ held_bytes self.old }
+        ensures line { held_line self.new ≡ held_line self.old }
+        ensures most { held_most self.new ≡ held_most self.old }
+        ensures files { S.files shelf.new ≡ S.files shelf.old }
+        ensures cause { HasCause (S.faults shelf.old) (S.faults shelf.new) result }
+    {
+        read_behind(shelf, name, from, &mut self.buffer, self.end, want)
+    }
+
+    // Holds so many more bytes, which stand behind those held.
+    fn hold(&mut self, count: usize)
+        requires room { self.old.end + count ≤ vec_len self.old.buffer }
+        requires no_line { before_lf (held_bytes self.old) ≡ length (held_bytes self.old) }
+        ensures bytes { held_bytes self.new ≡ held_bytes self.old ++ take count (drop self.old.end self.old.buffer.items) }
+        ensures line { held_line self.new ≡ held_line self.old }
+        ensures most { held_most self.new ≡ held_most self.old }
+    {
+        let more = &self.buffer[self.end..self.end + count];
+        self.before += memchr(b'\n', more).unwrap_or(more.len());
+        self.end += count;
     }
 
     // Leaves room for a piece behind the bytes held.
@@ -152,4 +185,25 @@ impl Held {
             self.end -= shift;
         }
     }
+}
+
+// Reads up to `want` bytes of a file to the place behind a buffer's first `end` bytes.
+fn read_behind<S: Shelf>(
+    shelf: &mut S,
+    name: &[u8],
+    from: u64,
+    buffer: &mut [u8],
+    end: usize,
+    want: usize,
+) -> Result<usize, Failed>
+    requires some { 0 < want }
+    requires room { end + want ≤ length buffer.old }
+    ensures bound { IfOk result (λ count. count ≤ want) }
+    ensures front { take end buffer.new ≡ take end buffer.old }
+    ensures bytes { IfSome (S.files shelf.old) (λ files.
+        IfOk result (λ count. ReadsPart (file_of files name.now) from count (drop end buffer.new))) }
+    ensures files { S.files shelf.new ≡ S.files shelf.old }
+    ensures cause { HasCause (S.faults shelf.old) (S.faults shelf.new) result }
+{
+    shelf.read_at(name, from, &mut buffer[end..end + want])
 }
