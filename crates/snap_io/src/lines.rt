@@ -1,7 +1,10 @@
 // The lines of a file, read in pieces, within limits.
-ghost use Rattle.std.specs.Prelude.{◌≡◌, ◌≢◌, ◌↔◌, ℕ, ◌+◌, ◌-◌, ◌<◌, ◌≤◌, Ok, Err, true, length, slice_range, IsTrue, IfOk, IfSome, IsErrOf};
+ghost use Rattle.std.specs.Prelude.{◌≡◌, ◌≢◌, ◌↔◌, ℕ, ◌+◌, ◌-◌, ◌<◌, ◌≤◌, List, Ok, Err, true, false, nat_lt, length, IsTrue, IfOk, OnOk, IfSome, IsErrOf};
 ghost use Rattle.std.specs.declared.option.Option.{Option};
 ghost use Rattle.snap_io.specs.declared.lines.LinesFault.TheVariants as fault;
+ghost use Rattle.snap_io.specs.Causes.{HasCause, Rose};
+ghost use Rattle.snap_io.specs.Files.{Files, file_of};
+ghost use Rattle.snap_io.specs.Lines.{many_bytes, next_in};
 
 use crate::held::{Held, PIECE};
 use crate::{Failed, Shelf};
@@ -50,9 +53,7 @@ pub struct Lines {
 }
 
 impl Lines {
-    ghost use Rattle.snap_io.specs.Causes.{Rose};
-    ghost use Rattle.snap_io.specs.Files.{Files};
-    ghost use Rattle.snap_io.specs.LineReaders.{lines_name, lines_limit, lines_most, lines_given, lines_line, HoldsLine, AgreesWith, AnswersNext, next_of};
+    ghost use Rattle.snap_io.specs.LineReaders.{is_open, left_to_read, OnlyReads, Agrees, lines_name, lines_limit, lines_most, lines_given, lines_line, HoldsLine, AgreesWith, AnswersNext, next_of};
 
     /// A reader of the file with this name. The file may have `limit` bytes, and a line `most`.
     ///
@@ -118,20 +119,53 @@ impl Lines {
         ensures not_failed { HoldsLine self.old → result ≢ Err LinesFault.Failed }
         ensures not_many { HoldsLine self.old → result ≢ Err LinesFault.ManyBytes }
     {
-        while self.is_open() {
-            self.read_more(shelf)?;
+        if !self.whole() {
+            self.read_line(shelf)?;
         }
         self.give()
     }
 
-    // Whether more of the file has to be read before the answer is known.
-    fn is_open(&self) -> bool {
+    // Reads on until what is held tells the next line.
+    fn read_line<S: Shelf>(&mut self, shelf: &mut S) -> Result<(), LinesFault>
+        requires { AgreesWith (S.files shelf.old) self.old }
+        ensures settled { OnOk result (is_open self.new ≡ false) }
+        ensures agrees { AgreesWith (S.files shelf.new) self.new }
+        ensures many { IfSome (S.files shelf.old) (λ files.
+            IsErrOf result LinesFault.ManyBytes → next_of self.old files ≡ many_bytes) }
+        ensures not_long { result ≢ Err LinesFault.LongLine }
+        ensures reads { OnlyReads self.old self.new }
+        ensures failed { IsErrOf result LinesFault.Failed → Rose (S.faults shelf.old) (S.faults shelf.new) }
+        ensures files { S.files shelf.new ≡ S.files shelf.old }
+        ensures later { S.faults shelf.old ≤ S.faults shelf.new }
+    {
+        while self.is_open() {
+            self.read_more(shelf)?;
+        }
+        Ok(())
+    }
+
+    // Whether more of the file has to be read before the next line is known.
+    fn is_open(&self) -> bool
+        ensures { result ≡ is_open self.now }
+    {
         let len = self.held.len();
         !self.ended && self.held.before() == len && len <= self.held.most()
     }
 
     // Reads a piece of the file, or finds its end.
-    fn read_more<S: Shelf>(&mut self, shelf: &mut S) -> Result<(), LinesFault> {
+    fn read_more<S: Shelf>(&mut self, shelf: &mut S) -> Result<(), LinesFault>
+        requires open { is_open self.old ≡ true }
+        requires agrees { AgreesWith (S.files shelf.old) self.old }
+        ensures progress { OnOk result (left_to_read self.new < left_to_read self.old) }
+        ensures agrees { AgreesWith (S.files shelf.new) self.new }
+        ensures many { IfSome (S.files shelf.old) (λ files.
+            IsErrOf result LinesFault.ManyBytes → next_of self.old files ≡ many_bytes) }
+        ensures not_long { result ≢ Err LinesFault.LongLine }
+        ensures reads { OnlyReads self.old self.new }
+        ensures failed { IsErrOf result LinesFault.Failed → Rose (S.faults shelf.old) (S.faults shelf.new) }
+        ensures files { S.files shelf.new ≡ S.files shelf.old }
+        ensures later { S.faults shelf.old ≤ S.faults shelf.new }
+    {
         let place = self.given + self.held.len() as u64;
         let left = self.limit - place;
         if left == 0 {
@@ -148,7 +182,19 @@ impl Lines {
     }
 
     // Gives what is held of the next line, which ends there or is too long.
-    fn give(&mut self) -> Result<bool, LinesFault> {
+    fn give(&mut self) -> Result<bool, LinesFault>
+        requires { is_open self.old ≡ false }
+        ensures next { (file : List ℕ) → Agrees self.old file →
+            AnswersNext (next_in (lines_limit self.old) (lines_most self.old) file (lines_given self.old)) self.new result }
+        ensures agrees { (file : List ℕ) → Agrees self.old file → Agrees self.new file }
+        ensures given { result ≢ Ok true → lines_given self.new ≡ lines_given self.old }
+        ensures line { result ≢ Ok true → lines_line self.new ≡ lines_line self.old }
+        ensures name { lines_name self.new ≡ lines_name self.old }
+        ensures limit { lines_limit self.new ≡ lines_limit self.old }
+        ensures most { lines_most self.new ≡ lines_most self.old }
+        ensures not_failed { result ≢ Err LinesFault.Failed }
+        ensures not_many { result ≢ Err LinesFault.ManyBytes }
+    {
         let before = self.held.before();
         if self.held.most() < before {
             return Err(LinesFault::LongLine);
@@ -164,7 +210,12 @@ impl Lines {
 }
 
 // Whether the file has a byte at this place.
-fn goes_on<S: Shelf>(shelf: &mut S, name: &[u8], from: u64) -> Result<bool, Failed> {
+fn goes_on<S: Shelf>(shelf: &mut S, name: &[u8], from: u64) -> Result<bool, Failed>
+    ensures more { IfSome (S.files shelf.old) (λ files.
+        IfOk result (λ more. more ≡ nat_lt from (length (file_of files name.now)))) }
+    ensures files { S.files shelf.new ≡ S.files shelf.old }
+    ensures cause { HasCause (S.faults shelf.old) (S.faults shelf.new) result }
+{
     let mut byte = [0u8; 1];
     let count = shelf.read_at(name, from, &mut byte)?;
     Ok(0 < count)
