@@ -8,6 +8,8 @@ use Rattle.std.proofs.lemmas.List.{with_items_is, take_all, length-take, length-
 use Rattle.std.proofs.lemmas.List.Edits.{take-paste}
 use Rattle.std.proofs.Math.Nat.{min_comm}
 use Rattle.std.proofs.Math.Seq.{take-add}
+use Rattle.snap_io.specs.declared.held.Held.{Held}
+use Rattle.snap_io.specs.Held.{held_bytes}
 use Rattle.snap_io.specs.Lines.{before_lf}
 use Rattle.snap_io.proofs.LinesLemmas.{before_lf-append}
 
@@ -59,3 +61,6 @@ before_lf-more xs shown i j n before found ordered same scanned none is =
     let first = slice_range xs i j in
     let behind : found ≡ before_lf (take n (drop j xs)) = is ∙ ap (λ l. before_lf (slice_range l j (j + n))) same ∙ ap (λ k. before_lf (take k (drop j xs))) (let e : j + n - j ≡ n = omega arith in e) in
     (λ k. (scanned ∙ none) k + behind k) ∙ sym (before_lf-append first (take n (drop j xs)) none) ∙ ap before_lf (sym (slice_range-more xs i j n ordered))
+
+pub length-held_bytes : (held : Held) → length (held_bytes held) ≡ held.end - held.start
+length-held_bytes held = length-slice_range held.buffer.items held.start held.end (omega (arith, held.within, held.buffer.ok.0))

@@ -1,11 +1,11 @@
 -- What stands before the first LF, and what stands next in a file.
-use Rattle.std.proofs.Common.{zero, suc, ◌≡◌, ℕ, ◌+◌, ◌-◌, ◌<◌, ◌≤◌, min, Bool, true, false, cond, eqb, List, [], ◌∷◌, ◌++◌, length, get_or, take, drop, Option, Some, None, refl, sym, ap, ◌∙◌, arith, length-drop}
+use Rattle.std.proofs.Common.{zero, suc, ◌≡◌, ℕ, ◌+◌, ◌-◌, ◌<◌, ◌≤◌, min, Bool, true, false, cond, eqb, List, [], ◌∷◌, ◌++◌, length, get_or, take, drop, Option, Some, None, refl, sym, ap, ◌∙◌, arith, Contains}
 use Rattle.std.specs.Prelude.{◌==◌, not}
 use Rattle.std.specs.List.{position_or_len, prefix_len, slice_range}
 use Rattle.std.specs.Option.{unwrap_or}
-use Rattle.std.proofs.lemmas.Bool.{false_from_ne_true, eq-eqb}
+use Rattle.std.proofs.lemmas.Bool.{false_from_ne_true, eq-eqb, eqb-true, false≢true}
 use Rattle.std.proofs.lemmas.List.{length-take}
-use Rattle.std.proofs.lemmas.List.Sums.{position_or_len_is, prefix_len-le-length}
+use Rattle.std.proofs.lemmas.List.Sums.{position_or_len_is, prefix_len-le-length, passes_at_first, fails_before_first}
 use Rattle.std.proofs.lemmas.List.Folds.{prefix_len-append}
 use Rattle.memchr.specs.Find.{IsFirstByte, is_byte}
 use Rattle.snap_io.specs.Lines.{before_lf}
@@ -37,3 +37,12 @@ pub before_lf-take : (n : ℕ) (bytes : List ℕ) → before_lf (take n bytes) �
 before_lf-take zero bytes = omega arith
 before_lf-take (suc n) [] = omega arith
 before_lf-take (suc n) (x ∷ xs) = before_lf-take_cons n x xs (x == 10) (before_lf-take n xs)
+
+-- a line's end is held where the search found one
+pub before_lf-lt : (bytes : List ℕ) → before_lf bytes < length bytes → Contains bytes 10
+before_lf-lt bytes lt = (before_lf bytes, lt, eqb-true _ _ (passes_at_first (λ b. b == 10) bytes 10 lt))
+
+pub before_lf-Contains : (bytes : List ℕ) → Contains bytes 10 → before_lf bytes < length bytes
+before_lf-Contains bytes (k, lt, is) =
+    let absent : length bytes ≤ before_lf bytes → ⊥ = λ le. false≢true (sym (fails_before_first (λ b. b == 10) bytes k 10 (omega arith)) ∙ eq-eqb _ _ is) in
+    omega (arith, absent)
