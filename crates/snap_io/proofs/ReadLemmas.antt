@@ -1,11 +1,14 @@
 -- A reader that reads on, at a shelf that may tell its files.
-use Rattle.std.proofs.Common.{◌≡◌, ℕ, ◌+◌, ◌-◌, ◌≤◌, Bool, true, ltb, List, length, IsTrue, Option, Some, None, IfSome, take, drop, sym, ap, subst, ◌∙◌, arith}
-use Rattle.std.proofs.lemmas.Bool.{ltb-true}
+use Rattle.std.proofs.Common.{◌≡◌, ℕ, ◌+◌, ◌-◌, ◌≤◌, Bool, true, false, not, ◌&&◌, eqb, leb, ltb, Result, List, length, IsTrue, Option, Some, None, IfSome, take, drop, refl, sym, ap, subst, ◌∙◌, arith}
+use Rattle.std.proofs.lemmas.Bool.{ltb-true, eqb-true, false_from_ne_true}
+use Rattle.std.proofs.Math.Bool.{and-false}
 use Rattle.snap_io.specs.declared.lines.Lines.{Lines}
+use Rattle.snap_io.specs.declared.lines.LinesFault.{LinesFault}
 use Rattle.snap_io.specs.Files.{Files, file_of}
 use Rattle.snap_io.specs.Held.{GrowsBy}
-use Rattle.snap_io.specs.Lines.{before_lf, many_bytes}
-use Rattle.snap_io.specs.LineReaders.{lines_name, lines_limit, lines_most, lines_given, lines_held, is_open, Agrees, AgreesWith, next_of}
+use Rattle.snap_io.specs.Lines.{Next, before_lf, many_bytes, next_in}
+use Rattle.snap_io.specs.LineReaders.{lines_name, lines_limit, lines_most, lines_given, lines_held, HoldsLine, is_open, OnlyReads, Agrees, AgreesWith, AnswersNext, next_of}
+use Rattle.snap_io.proofs.LinesLemmas.{before_lf-Contains}
 use Rattle.snap_io.proofs.HeldLemmas.{length-held_bytes}
 use Rattle.snap_io.proofs.NextLemmas.{next_in-many, AreAt-more, open_parts}
 
@@ -39,3 +42,47 @@ AgreesWith-more (Some files) now old new shown at count same agrees grows name k
       ended = λ end. omega (arith, grew.ended (ended end), ended end);
     } in
     subst (λ (o : Option Files). AgreesWith o new) (sym same) here
+
+-- with an LF held there is nothing to read
+pub is_open-HoldsLine : (lines : Lines) → HoldsLine lines → is_open lines ≡ false
+is_open-HoldsLine lines has =
+    let held = lines_held lines in
+    let less = before_lf-Contains held has in
+    let apart : eqb (before_lf held) (length held) ≡ false = false_from_ne_true _ (λ same. absurd (omega (arith, eqb-true _ _ same))) in
+    ap (λ t. not lines.ended && (t && leb (length held) (lines_most lines))) apart ∙ and-false (not lines.ended)
+
+-- after the reads of a call, if it made any, the next line is known
+pub record IsReady (told now : Option Files) (old ready : Lines) : Type 0 where
+  pub reads : OnlyReads old ready
+  pub agrees : AgreesWith now ready
+  pub same : now ≡ told
+  pub settled : is_open ready ≡ false
+
+pub IsReady-held : (told now : Option Files) (old ready : Lines) → ready ≡ old → now ≡ told → AgreesWith told old → HoldsLine old → IsReady told now old ready
+IsReady-held told now old ready is same agrees has = record {
+  reads = subst (OnlyReads old) (sym is) (record { name = refl; limit = refl; most = refl; given = refl; line = refl });
+  agrees = subst (λ (o : Option Files). AgreesWith o ready) (sym same) (subst (AgreesWith told) (sym is) agrees);
+  same = same;
+  settled = ap is_open is ∙ is_open-HoldsLine old has;
+}
+
+pub AnswersNext-ready : (told now : Option Files) (old ready new : Lines) (result : Result Bool LinesFault) → IsReady told now old ready
+    → ((file : List ℕ) → Agrees ready file → AnswersNext (next_in (lines_limit ready) (lines_most ready) file (lines_given ready)) new result) → IfSome told (λ files. AnswersNext (next_of old files) new result)
+AnswersNext-ready None now old ready new result is gives = tt
+AnswersNext-ready (Some files) now old ready new result is gives =
+    let agrees = subst (λ (o : Option Files). AgreesWith o ready) is.same is.agrees in
+    let reads = is.reads in
+    let next : next_in (lines_limit ready) (lines_most ready) (file_of files (lines_name ready)) (lines_given ready) ≡ next_of old files = λ i. next_in (reads.limit i) (reads.most i) (file_of files (reads.name i)) (reads.given i) in
+    subst (λ (n : Next). AnswersNext n new result) next (gives (file_of files (lines_name ready)) agrees)
+
+pub AgreesWith-kept : (told : Option Files) (old new : Lines) → lines_name new ≡ lines_name old → AgreesWith told old → ((file : List ℕ) → Agrees old file → Agrees new file) → AgreesWith told new
+AgreesWith-kept None old new name agrees keeps = tt
+AgreesWith-kept (Some files) old new name agrees keeps = subst (λ (n : List ℕ). Agrees new (file_of files n)) (sym name) (keeps (file_of files (lines_name old)) agrees)
+
+pub IsReady-read : (told then now : Option Files) (old read ready : Lines) → ready ≡ read → now ≡ then → OnlyReads old read → AgreesWith then read → then ≡ told → is_open read ≡ false → IsReady told now old ready
+IsReady-read told then now old read ready is same reads agrees kept settled = record {
+  reads = subst (OnlyReads old) (sym is) reads;
+  agrees = subst (λ (o : Option Files). AgreesWith o ready) (sym same) (subst (AgreesWith then) (sym is) agrees);
+  same = same ∙ kept;
+  settled = ap is_open is ∙ settled;
+}
