@@ -2,6 +2,8 @@ pub mod Causes
 pub mod Files
 pub mod Front
 pub mod FullShelves
+pub mod Held
+pub mod LineReaders
 pub mod Lines
 pub mod MemoryFiles
 pub mod MemoryShelves

@@ -1,4 +1,5 @@
 -- The lines of a file, one after another, within limits on the file's bytes and on those of a line.
+use Rattle.std.specs.List.{position_or_len}
 use Rattle.std.specs.Prelude.{ℕ, ◌+◌, Bool, not, ◌&&◌, ◌==◌, nat_lt, nat_le, min, if◌then◌else◌, List, length, take_while, drop}
 
 -- what stands next in a file: a line, with the place behind it and its LF; nothing; a line that is too long; or
@@ -8,6 +9,10 @@ pub data Next : Type 0 where
   no_line : Next
   long_line : Next
   many_bytes : Next
+
+-- how many bytes stand before the first LF, or in all where there is none
+abbrev pub before_lf : List ℕ → ℕ
+before_lf bytes = position_or_len (λ b. b == 10) bytes
 
 -- the bytes before the first LF, or all where there is none
 abbrev pub first_line : List ℕ → List ℕ

@@ -28,14 +28,21 @@ pub record IsSame (old new : Switch) : Type 0 where
   pub text : new.text.items ≡ old.text.items
   pub number : new.number ≡ old.number
 
--- a line of this number was taken
+-- a packet was taken
+abbrev pub TakesPacket : Program → List ℕ → Switch → Switch → Ending → Type 0
+TakesPacket program packet old new (Ok u) = Evaluates program packet old new
+TakesPacket program packet old new (Err (Undefined n)) = (n ≡ old.number) × (eval program.body (arrays_of old.store) packet ≡ None) × (new.text.items ≡ old.text.items)
+TakesPacket program packet old new (Err NoMemory) = Unit {0}
+TakesPacket program packet old new (Err fault) = ⊥
+
+-- a line of this number was taken, which says this
 abbrev pub Takes : Program → ℕ → Said → Switch → Switch → Ending → Type 0
-Takes program line said old new (Ok u) = ((said ≡ skip) × IsSame old new) ⊎ ((packet : List ℕ) × (said ≡ inject packet) × Evaluates program packet old new)
-Takes program line said old new (Err (Packets l)) = (l ≡ line) × (said ≡ bad) × (new.text.items ≡ old.text.items)
-Takes program line said old new (Err (Undefined n)) =
-    (n ≡ old.number) × ((packet : List ℕ) × (said ≡ inject packet) × (eval program.body (arrays_of old.store) packet ≡ None)) × (new.text.items ≡ old.text.items)
+Takes program line skip old new (Ok u) = IsSame old new
+Takes program line (inject packet) old new (Err (Packets l)) = ⊥
+Takes program line (inject packet) old new result = TakesPacket program packet old new result
+Takes program line bad old new (Err (Packets l)) = (l ≡ line) × (new.text.items ≡ old.text.items)
 Takes program line said old new (Err NoMemory) = Unit {0}
-Takes program line said old new (Err fault) = ⊥
+Takes program line said old new result = ⊥
 
 -- the sink has taken a first part of the text, and the rest waits
 pub record Waits (old new : Option (List ℕ)) (text waiting : List ℕ) : Type 0 where

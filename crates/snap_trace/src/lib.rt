@@ -5,6 +5,7 @@ pub mod draft;
 pub mod fault;
 pub mod line;
 pub mod report;
+pub mod switch;
 pub mod words;
 
 pub use fault::TraceFault;

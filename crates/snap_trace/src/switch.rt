@@ -1,9 +1,10 @@
 //! One big switch over a file of packets.
 
-ghost use Rattle.std.specs.Prelude.{◌≡◌, ◌+◌, ◌<◌, ◌≤◌, [], OnOk, OnErr, IfSome, IfOk, IsErrOf};
+ghost use Rattle.std.specs.Prelude.{◌≡◌, ◌+◌, ◌^◌, ◌<◌, ◌≤◌, [], length, OnOk, OnErr, IfSome, IfOk, IsErrOf};
 ghost use Rattle.std.specs.Io.KnownBytes.{Appends};
 ghost use Rattle.snap_core.specs.Arrays.{zero_arrays};
 ghost use Rattle.snap_core.specs.Cells.{arrays_of};
+ghost use Rattle.snap_core.specs.Fields.{count};
 ghost use Rattle.snap_core.specs.Programs.{IsInForm};
 ghost use Rattle.snap_io.specs.Causes.{HasCause, Rose};
 ghost use Rattle.snap_io.specs.Files.{file_of};
@@ -11,16 +12,17 @@ ghost use Rattle.snap_io.specs.LineReaders.{AgreesWith, lines_given, lines_limit
 ghost use Rattle.snap_io.specs.Sinks.{AppendsPart};
 ghost use Rattle.snap_trace.specs.OneSwitch.{Meets};
 ghost use Rattle.snap_trace.specs.PacketLines.{said_by};
-ghost use Rattle.snap_trace.specs.Steps.{Closes, Takes};
+ghost use Rattle.snap_trace.specs.Steps.{Closes, Takes, TakesPacket};
 
 use crate::fault::TraceFault;
 use crate::line::{Line, LineFault, read_line};
-use crate::report::{put_block, put_end};
-use snap_core::NoMemory;
+use crate::report::put_block;
+use snap_core::eval::evaluate;
+use snap_core::outcome::EvalFault;
 use snap_core::packet::Packet;
-use snap_core::program::{Program, Which};
+use snap_core::program::Program;
 use snap_core::store::Store;
-use snap_io::{Lines, LinesFault, Shelf, Sink, WriteFailed, write_whole};
+use snap_io::{Sink, WriteFailed, write_whole};
 use std::alloc::Global;
 
 /// The most bytes of a packets file.
@@ -41,4 +43,79 @@ pub(crate) struct Switch {
     store: Store,
     number: u64,
     text: Vec<u8>,
+}
+
+impl Switch {
+    /// Before the first packet.
+    fn new(alloc: Global) -> Switch
+        ensures arrays { arrays_of result.store ≡ zero_arrays }
+        ensures number { result.number ≡ 1 }
+        ensures text { result.text.items ≡ [] }
+    {
+        Switch {
+            store: Store::new(alloc),
+            number: 1,
+            text: Vec::new(alloc),
+        }
+    }
+
+    // Writes what waits.
+    fn flush<K: Sink>(&mut self, sink: &mut K) -> Result<(), WriteFailed>
+        ensures ok { OnOk result (Appends (K.taken sink.old) (K.taken sink.new) self.old.text.items) }
+        ensures err { OnErr result (AppendsPart (K.taken sink.old) (K.taken sink.new) self.old.text.items) }
+        ensures cause { HasCause (K.faults sink.old) (K.faults sink.new) result }
+        ensures text { OnOk result (self.new.text.items ≡ []) }
+        ensures store { self.new.store ≡ self.old.store }
+        ensures number { self.new.number ≡ self.old.number }
+    {
+        write_whole(sink, &self.text)?;
+        self.text.clear();
+        Ok(())
+    }
+
+    // Takes a line of this number.
+    fn take_line(
+        &mut self,
+        alloc: Global,
+        program: &Program,
+        line: &[u8],
+        number: u64,
+    ) -> Result<(), TraceFault>
+        requires form { IsInForm program.now }
+        requires number { self.old.number < 2 ^ 63 }
+        ensures { Takes program.now number (said_by program.now.fields line.now) self.old self.new result }
+    {
+        match read_line(alloc, &program.fields, line) {
+            Ok(Line::Skip) => Ok(()),
+            Ok(Line::Inject { port: _, packet }) => self.take_packet(alloc, program, &packet),
+            Err(LineFault::Bad) => Err(TraceFault::Packets { line: number }),
+            Err(LineFault::NoMemory) => Err(TraceFault::NoMemory),
+        }
+    }
+
+    // Evaluates a packet, and puts its block behind the text.
+    fn take_packet(
+        &mut self,
+        alloc: Global,
+        program: &Program,
+        packet: &Packet,
+    ) -> Result<(), TraceFault>
+        requires form { IsInForm program.now }
+        requires comps { length packet.now ≡ count program.now.fields }
+        requires number { self.old.number < 2 ^ 63 }
+        ensures { TakesPacket program.now packet.now self.old self.new result }
+    {
+        match evaluate(alloc, &program.body, &self.store, packet) {
+            Ok(outcome) => {
+                put_block(&mut self.text, &program.fields, self.number, &outcome.packets)?;
+                self.store = outcome.store;
+                self.number += 1;
+                Ok(())
+            }
+            Err(EvalFault::Undefined) => Err(TraceFault::Undefined {
+                packet: self.number,
+            }),
+            Err(EvalFault::NoMemory) => Err(TraceFault::NoMemory),
+        }
+    }
 }
