@@ -1,2 +1,4 @@
 pub mod DraftLemmas
 pub mod WordLemmas
+pub mod RunLemmas
+pub mod StepLemmas

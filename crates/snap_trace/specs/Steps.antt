@@ -1,19 +1,25 @@
 -- What one line makes of a run, and how far a run has come.
-use Rattle.std.specs.Prelude.{◌≡◌, ◌⊎◌, ℕ, ◌+◌, ◌-◌, List, ◌++◌, Result, Ok, Err, Some, None}
+use Rattle.std.specs.Prelude.{◌≡◌, ℕ, ◌+◌, ◌-◌, Bool, true, false, List, ◌++◌, Result, Ok, Err, Some, None}
 use Rattle.std.specs.declared.option.Option.{Option}
 use Rattle.std.specs.Io.KnownBytes.{Appends}
 use Rattle.snap_core.specs.declared.program.Program.{Program}
 use Rattle.snap_core.specs.Arrays.{Arrays}
 use Rattle.snap_core.specs.Cells.{arrays_of}
 use Rattle.snap_core.specs.Meaning.{Meaning, eval}
+use Rattle.snap_core.specs.declared.place.Entry.{Entry}
+use Rattle.snap_core.specs.Listing.{IsListing}
+use Rattle.snap_core.specs.declared.program.Which.TheVariants.{Bytes}
+use Rattle.snap_io.specs.declared.lines.LinesFault.{LinesFault}
+use Rattle.snap_io.specs.declared.lines.LinesFault.TheVariants.{Failed, LongLine, ManyBytes}
+use Rattle.snap_io.specs.Lines.{no_line, next_in}
 use Rattle.snap_io.specs.Sinks.{AppendsPart}
 use Rattle.snap_trace.specs.declared.fault.TraceFault.{TraceFault}
 use Rattle.snap_trace.specs.declared.fault.TraceFault.TheVariants.{Read, Write, Limit, Packets, Undefined, NoMemory}
 use Rattle.snap_trace.specs.declared.switch.Switch.{Switch}
 use Rattle.snap_trace.specs.OneSwitch.{Ending, blocks_from, blocks_of, ending_from, ending_of, IsTailFrom, IsTailOf}
 use Rattle.snap_trace.specs.PacketLines.{Said, skip, inject, bad}
-use Rattle.snap_trace.specs.Reports.{block}
-use Rattle.snap_trace.specs.Spelled.{spelled_from}
+use Rattle.snap_trace.specs.Reports.{block, end_text}
+use Rattle.snap_trace.specs.Spelled.{Spelled, spelled_from}
 
 -- the packet was evaluated, and its block stands behind the text
 pub record Evaluates (program : Program) (packet : List ℕ) (old new : Switch) : Type 0 where
@@ -50,17 +56,43 @@ pub record Waits (old new : Option (List ℕ)) (text waiting : List ℕ) : Type 
   pub taken : Appends old new front
   pub whole : text ≡ front ++ waiting
 
--- So far a run has come: `read` lines of the file are taken, up to the place `at`.
-pub record Comes (program : Program) (file : List ℕ) (read at : ℕ) (old new : Option (List ℕ)) (switch : Switch) : Type 0 where
+-- the packets that are left, and why reading stops, where `read` lines are taken, up to the place `at`
+abbrev pub left_at : Program → (file : List ℕ) → (read at : ℕ) → Spelled
+left_at program file read at = spelled_from program.fields file (1000000 - read) (read + 1) at
+
+-- So far a run has come: `read` lines are taken, up to the place `at`, and the next packet has this number and meets
+-- these arrays.
+pub record Comes (program : Program) (file : List ℕ) (read at : ℕ) (old new : Option (List ℕ)) (number : ℕ) (m : Arrays) (waiting : List ℕ) : Type 0 where
   pub done : List ℕ
-  pub waits : Waits old new done switch.text.items
-  pub blocks : blocks_of program file ≡ done ++ blocks_from program switch.number (arrays_of switch.store) (spelled_from program.fields file (1000000 - read) (read + 1) at).packets
-  pub ending : ending_of program file ≡ ending_from program switch.number (arrays_of switch.store) (spelled_from program.fields file (1000000 - read) (read + 1) at).packets (spelled_from program.fields file (1000000 - read) (read + 1) at).stop
-  pub tail : (tail : List ℕ) → IsTailFrom program (arrays_of switch.store) (spelled_from program.fields file (1000000 - read) (read + 1) at).packets (spelled_from program.fields file (1000000 - read) (read + 1) at).stop tail → IsTailOf program file tail
+  pub waits : Waits old new done waiting
+  pub blocks : blocks_of program file ≡ done ++ blocks_from program number m (left_at program file read at).packets
+  pub ending : ending_of program file ≡ ending_from program number m (left_at program file read at).packets (left_at program file read at).stop
+  pub tail : (tail : List ℕ) → IsTailFrom program m (left_at program file read at).packets (left_at program file read at).stop tail → IsTailOf program file tail
+
+abbrev pub ComesTo : Program → (file : List ℕ) → (read at : ℕ) → (old new : Option (List ℕ)) → Switch → Type 0
+ComesTo program file read at old new switch = Comes program file read at old new switch.number (arrays_of switch.store) switch.text.items
 
 -- The run has ended, and what is left of its text waits. Or a device failed or memory was short.
-abbrev pub Closes : Program → (file : List ℕ) → Ending → Option (List ℕ) → Option (List ℕ) → Switch → Type 0
-Closes program file (Err Read) old new switch = AppendsPart old new (blocks_of program file)
-Closes program file (Err NoMemory) old new switch = AppendsPart old new (blocks_of program file)
-Closes program file (Err Write) old new switch = AppendsPart old new (blocks_of program file)
-Closes program file ending old new switch = (ending ≡ ending_of program file) × ((tail : List ℕ) × IsTailOf program file tail × Waits old new (blocks_of program file ++ tail) switch.text.items)
+abbrev pub Closes : Program → (file : List ℕ) → Ending → Option (List ℕ) → Option (List ℕ) → List ℕ → Type 0
+Closes program file (Err Read) old new waiting = AppendsPart old new (blocks_of program file)
+Closes program file (Err NoMemory) old new waiting = AppendsPart old new (blocks_of program file)
+Closes program file (Err Write) old new waiting = AppendsPart old new (blocks_of program file)
+Closes program file ending old new waiting = (ending ≡ ending_of program file) × ((tail : List ℕ) × IsTailOf program file tail × Waits old new (blocks_of program file ++ tail) waiting)
+
+-- The run has come one line on, or to the last line's end, or it has ended.
+abbrev pub ComesOn : Program → (file : List ℕ) → (read at : ℕ) → (old new : Option (List ℕ)) → Switch → Result Bool TraceFault → Type 0
+ComesOn program file read at old new switch (Ok true) = ComesTo program file (read + 1) at old new switch
+ComesOn program file read at old new switch (Ok false) = ComesTo program file read at old new switch × (next_in 67108864 65536 file at ≡ no_line)
+ComesOn program file read at old new switch (Err fault) = Closes program file (Err fault) old new switch.text.items
+
+-- the end of the report was put
+abbrev pub PutsEnd : Program → Switch → Switch → Ending → Type 0
+PutsEnd program old new (Ok u) = (entries : List Entry) × IsListing (arrays_of old.store) entries × (new.text.items ≡ old.text.items ++ end_text program.vars entries)
+PutsEnd program old new (Err NoMemory) = Unit {0}
+PutsEnd program old new (Err fault) = ⊥
+
+-- why the line of this number isn't given
+abbrev pub refusal_of : LinesFault → ℕ → TraceFault
+refusal_of Failed line = Read
+refusal_of LongLine line = Packets line
+refusal_of ManyBytes line = Limit Bytes 67108865

@@ -1,6 +1,7 @@
 //! One big switch over a file of packets.
 
-ghost use Rattle.std.specs.Prelude.{◌≡◌, ◌+◌, ◌^◌, ◌<◌, ◌≤◌, [], length, OnOk, OnErr, IfSome, IfOk, IsErrOf};
+ghost use Rattle.std.specs.Prelude.{◌≡◌, ◌+◌, ◌^◌, ◌<◌, ◌≤◌, ◌++◌, ℕ, List, [], length, OnOk, OnErr, IfSome, IfOk, IsErrOf};
+ghost use Rattle.std.specs.declared.option.Option.{Option};
 ghost use Rattle.std.specs.Io.KnownBytes.{Appends};
 ghost use Rattle.snap_core.specs.Arrays.{zero_arrays};
 ghost use Rattle.snap_core.specs.Cells.{arrays_of};
@@ -12,7 +13,7 @@ ghost use Rattle.snap_io.specs.LineReaders.{AgreesWith, lines_given, lines_limit
 ghost use Rattle.snap_io.specs.Sinks.{AppendsPart};
 ghost use Rattle.snap_trace.specs.OneSwitch.{Meets};
 ghost use Rattle.snap_trace.specs.PacketLines.{said_by};
-ghost use Rattle.snap_trace.specs.Steps.{Closes, Takes, TakesPacket};
+ghost use Rattle.snap_trace.specs.Steps.{Closes, ComesOn, ComesTo, PutsEnd, Takes, refusal_of, TakesPacket, Waits};
 
 use crate::fault::TraceFault;
 use crate::line::{Line, LineFault, read_line};
@@ -20,9 +21,9 @@ use crate::report::put_block;
 use snap_core::eval::evaluate;
 use snap_core::outcome::EvalFault;
 use snap_core::packet::Packet;
-use snap_core::program::Program;
+use snap_core::program::{Program, Which};
 use snap_core::store::Store;
-use snap_io::{Sink, WriteFailed, write_whole};
+use snap_io::{Lines, LinesFault, Shelf, Sink, WriteFailed, write_whole};
 use std::alloc::Global;
 
 /// The most bytes of a packets file.
@@ -61,7 +62,8 @@ impl Switch {
 
     // Writes what waits.
     fn flush<K: Sink>(&mut self, sink: &mut K) -> Result<(), WriteFailed>
-        ensures ok { OnOk result (Appends (K.taken sink.old) (K.taken sink.new) self.old.text.items) }
+        ensures ok { OnOk result ((start : Option (List ℕ)) (text : List ℕ) →
+            Waits start (K.taken sink.old) text self.old.text.items → Waits start (K.taken sink.new) text self.new.text.items) }
         ensures err { OnErr result (AppendsPart (K.taken sink.old) (K.taken sink.new) self.old.text.items) }
         ensures cause { HasCause (K.faults sink.old) (K.faults sink.new) result }
         ensures text { OnOk result (self.new.text.items ≡ []) }
@@ -117,5 +119,75 @@ impl Switch {
             }),
             Err(EvalFault::NoMemory) => Err(TraceFault::NoMemory),
         }
+    }
+
+    // Writes what waits where lines have to be read, and where much waits.
+    fn before_read<K: Sink>(&mut self, lines: &Lines, sink: &mut K) -> Result<(), WriteFailed>
+        ensures ok { OnOk result ((start : Option (List ℕ)) (text : List ℕ) →
+            Waits start (K.taken sink.old) text self.old.text.items → Waits start (K.taken sink.new) text self.new.text.items) }
+        ensures err { OnErr result (AppendsPart (K.taken sink.old) (K.taken sink.new) self.old.text.items) }
+        ensures cause { HasCause (K.faults sink.old) (K.faults sink.new) result }
+        ensures store { self.new.store ≡ self.old.store }
+        ensures number { self.new.number ≡ self.old.number }
+    {
+        if lines.whole() && self.text.len() < PIECE {
+            return Ok(());
+        }
+        self.flush(sink)
+    }
+
+    // Takes the next line, the one behind `read` lines. False: there is none.
+    fn step<S: Shelf, K: Sink>(
+        &mut self,
+        alloc: Global,
+        shelf: &mut S,
+        lines: &mut Lines,
+        program: &Program,
+        sink: &mut K,
+        read: u64,
+    ) -> Result<bool, TraceFault>
+        requires form { IsInForm program.now }
+        requires number { self.old.number ≤ read + 1 }
+        requires read { read < MOST_LINES }
+        requires limit { lines_limit lines.old ≡ MOST_BYTES }
+        requires most { lines_most lines.old ≡ MOST_LINE }
+        requires agrees { AgreesWith (S.files shelf.old) lines.old }
+        ensures comes { IfSome (S.files shelf.old) (λ files. (start : Option (List ℕ)) →
+            ComesTo program.now (file_of files (lines_name lines.old)) read (lines_given lines.old) start (K.taken sink.old) self.old →
+            ComesOn program.now (file_of files (lines_name lines.old)) read (lines_given lines.new) start (K.taken sink.new) self.new result) }
+        ensures number { IfOk result (λ _. self.new.number ≤ read + 2) }
+        ensures limit { lines_limit lines.new ≡ lines_limit lines.old }
+        ensures most { lines_most lines.new ≡ lines_most lines.old }
+        ensures name { lines_name lines.new ≡ lines_name lines.old }
+        ensures agrees { AgreesWith (S.files shelf.new) lines.new }
+        ensures read { IsErrOf result TraceFault.Read → Rose (S.faults shelf.old) (S.faults shelf.new) }
+        ensures write { IsErrOf result TraceFault.Write → Rose (K.faults sink.old) (K.faults sink.new) }
+        ensures files { S.files shelf.new ≡ S.files shelf.old }
+        ensures later { S.faults shelf.old ≤ S.faults shelf.new }
+        ensures sink_later { K.faults sink.old ≤ K.faults sink.new }
+    {
+        self.before_read(lines, sink)?;
+        match lines.next(shelf) {
+            Ok(true) => match self.take_line(alloc, program, lines.line(), read + 1) {
+                Ok(()) => Ok(true),
+                Err(fault) => Err(fault),
+            },
+            Ok(false) => Ok(false),
+            Err(fault) => Err(refusal(fault, read + 1)),
+        }
+    }
+}
+
+// Why the line of this number isn't given.
+fn refusal(fault: LinesFault, line: u64) -> TraceFault
+    ensures { result ≡ refusal_of fault line }
+{
+    match fault {
+        LinesFault::Failed => TraceFault::Read,
+        LinesFault::LongLine => TraceFault::Packets { line },
+        LinesFault::ManyBytes => TraceFault::Limit {
+            which: Which::Bytes,
+            count: MOST_BYTES + 1,
+        },
     }
 }
