@@ -6,10 +6,12 @@ ghost use Rattle.snap_core.specs.declared.place.Place.{Place};
 ghost use Rattle.snap_core.specs.Arrays.{updates, put, taken, update, zero_arrays};
 ghost use Rattle.snap_core.specs.Cells.{cell, arrays_of};
 ghost use Rattle.snap_core.specs.Fits.{UpdateFits};
+ghost use Rattle.snap_core.specs.Listing.{IsListing};
 
 use crate::NoMemory;
 use crate::atoms::index_on;
 use crate::packet::Packet;
+use crate::place::Entry;
 use crate::policy::{Op, Update};
 use std::alloc::Global;
 use std::collections::BTreeMap;
@@ -192,5 +194,12 @@ impl Store {
     {
         let sum = self.get(var, index).wrapping_add(value);
         self.put(var, index, sum)
+    }
+
+    /// The places that aren't 0, each with its number, rising by variable and then by index.
+    pub fn entries(&self) -> Result<Vec<Entry>, NoMemory>
+        ensures { IfOk result (λ entries. IsListing (arrays_of self.now) entries.items) }
+    {
+        Err(NoMemory)
     }
 }

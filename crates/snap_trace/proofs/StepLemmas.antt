@@ -1,21 +1,26 @@
 -- What one line makes of a run.
-use Rattle.std.proofs.Common.{◌≡◌, ℕ, ◌+◌, ◌<◌, List, Option, Some, None, IfSome, Err, Ok, true, false, refl, sym, ap, ◌∙◌}
+use Rattle.std.proofs.Common.{Bool, ◌≡◌, ℕ, ◌+◌, ◌<◌, List, [], ◌++◌, Option, Some, None, IfSome, Err, Ok, true, false, take, refl, sym, ap, subst, ◌∙◌, inl, inr, append-nil}
+use Rattle.std.specs.Io.KnownBytes.{Appends}
+use Rattle.std.proofs.KnownBytes.{Appends-trans}
+use Rattle.snap_io.specs.Sinks.{AppendsPart}
+use Rattle.snap_io.proofs.SinksLemmas.{part_of_pair}
 use Rattle.snap_core.specs.declared.program.Program.{Program}
-use Rattle.snap_core.specs.declared.program.Which.TheVariants.{Bytes}
+use Rattle.snap_core.specs.declared.program.Which.TheVariants.{Bytes, Lines as ManyLines}
 use Rattle.snap_core.specs.Cells.{arrays_of}
 use Rattle.snap_io.specs.declared.lines.Lines.{Lines}
 use Rattle.snap_io.specs.declared.lines.LinesFault.{LinesFault}
 use Rattle.snap_io.specs.declared.lines.LinesFault.TheVariants.{Failed, LongLine, ManyBytes}
-use Rattle.snap_io.specs.Files.{Files}
+use Rattle.snap_io.specs.Files.{Files, file_of}
 use Rattle.snap_io.specs.LineReaders.{AnswersNext}
 use Rattle.snap_io.specs.Lines.{Next, next_line, no_line, long_line, many_bytes, next_in}
 use Rattle.snap_trace.specs.declared.fault.TraceFault.{TraceFault}
 use Rattle.snap_trace.specs.declared.fault.TraceFault.TheVariants.{Read, Write, Limit, Packets, Undefined, NoMemory}
 use Rattle.snap_trace.specs.declared.switch.Switch.{Switch}
 use Rattle.snap_trace.specs.PacketLines.{Said, skip, inject, bad, said_by}
-use Rattle.snap_trace.specs.Spelled.{Spelled, stops, refused, ended, with_said, with_next}
-use Rattle.snap_trace.specs.Steps.{Takes, Comes, ComesTo, ComesOn, Closes, left_at, refusal_of}
-use Rattle.snap_trace.proofs.RunLemmas.{left_at-next, comes-nothing, comes-refused, comes-undefined, comes-skip, comes-packet}
+use Rattle.snap_trace.specs.Spelled.{Spelled, stops, refused, ended, with_said, with_next, after_last}
+use Rattle.snap_trace.specs.OneSwitch.{Ending, Meets, IsReport, blocks_of, ending_of, IsTailOf}
+use Rattle.snap_trace.specs.Steps.{Takes, Waits, ComesTo, ComesOn, Closes, PutsEnd, left_at, refusal_of, refusal_past_last, is_told}
+use Rattle.snap_trace.proofs.RunLemmas.{left_at-next, left_at-last, comes-nothing, comes-ended, comes-refused, comes-undefined, comes-skip, comes-packet}
 
 -- what holds of each file that a shelf may tell holds of the one that it tells
 pub where_told : (told : Option Files) (P Q : Files → Type 0) → ((files : Files) → P files → Q files) → IfSome told P → IfSome told Q
@@ -85,3 +90,108 @@ module _ (program : Program) (file : List ℕ) (start now : Option (List ℕ)) (
   fault-next lines Failed is = failed-next
   fault-next lines LongLine is = long-next is
   fault-next lines ManyBytes is = many-next is
+
+-- what holds of each file that a shelf may tell, from two facts
+pub where_both_told : (told : Option Files) (P Q R : Files → Type 0) → ((files : Files) → P files → Q files → R files) → IfSome told P → IfSome told Q → IfSome told R
+where_both_told None P Q R f h k = tt
+where_both_told (Some files) P Q R f h k = f files h k
+
+-- the end of the report is put where no line is left
+pub end-put : (program : Program) (file : List ℕ) (start now : Option (List ℕ)) (read at : ℕ) (old new : Switch) → ComesTo program file read at start now old
+    → left_at program file read at ≡ stops ended → (ending : Ending) → PutsEnd program old new ending → Closes program file ending start now new.text.items
+end-put program file start now read at old new came e (Ok u) put = comes-ended program file start read at now old.number (arrays_of old.store) old.text.items came put.0 new.text.items e put.1 put.2
+end-put program file start now read at old new came e (Err NoMemory) put = comes-nothing program file start read at now old.number (arrays_of old.store) old.text.items came
+end-put program file start now read at old new came e (Err Read) put = absurd put
+end-put program file start now read at old new came e (Err Write) put = absurd put
+end-put program file start now read at old new came e (Err (Limit which count)) put = absurd put
+end-put program file start now read at old new came e (Err (Packets line)) put = absurd put
+end-put program file start now read at old new came e (Err (Undefined packet)) put = absurd put
+
+-- no line is left
+pub left_at-none : (program : Program) (file : List ℕ) (read at : ℕ) → read < 1000000 → next_in 67108864 65536 file at ≡ no_line → left_at program file read at ≡ stops ended
+left_at-none program file read at more is = left_at-next program file read at more ∙ ap (λ x. with_next program.fields (read + 1) x (left_at program file (read + 1))) is
+
+module _ (program : Program) (file : List ℕ) (start now : Option (List ℕ)) (at : ℕ) (old : Switch) (came : ComesTo program file 1000000 at start now old) where
+  last : (next : Next) → next_in 67108864 65536 file at ≡ next → left_at program file 1000000 at ≡ after_last next
+  last next is = left_at-last program file 1000000 at refl ∙ ap after_last is
+
+  too_many : left_at program file 1000000 at ≡ stops (refused (Limit ManyLines 1000001)) → Closes program file (Err (Limit ManyLines 1000001)) start now old.text.items
+  too_many e = comes-refused program file start 1000000 at now old.number (arrays_of old.store) old.text.items came (Limit ManyLines 1000001) old.text.items e refl
+
+  pub past_last-line : (text : List ℕ) (at' : ℕ) → next_in 67108864 65536 file at ≡ next_line text at' → Closes program file (Err (Limit ManyLines 1000001)) start now old.text.items
+  past_last-line text at' is = too_many (last (next_line text at') is)
+
+  pub past_last-fault : (lines : Lines) (fault : LinesFault) → AnswersNext (next_in 67108864 65536 file at) lines (Err fault) → Closes program file (Err (refusal_past_last fault)) start now old.text.items
+  past_last-fault lines Failed is = comes-nothing program file start 1000000 at now old.number (arrays_of old.store) old.text.items came
+  past_last-fault lines LongLine is = too_many (last long_line is)
+  past_last-fault lines ManyBytes is = too_many (last many_bytes is)
+
+  pub past_last-end : next_in 67108864 65536 file at ≡ no_line → (new : Switch) (ending : Ending) → PutsEnd program old new ending → Closes program file ending start now new.text.items
+  past_last-end is new ending put = end-put program file start now 1000000 at old new came (last no_line is) ending put
+
+-- Where the run has come to its end, what waits is written.
+pub meets-written : (program : Program) (file : List ℕ) (start now then : Option (List ℕ)) (waiting now_waiting : List ℕ) (ending : Ending) → is_told ending ≡ true
+    → Closes program file ending start now waiting → ((text : List ℕ) → Waits start now text waiting → Waits start then text now_waiting) → now_waiting ≡ [] → Meets program file ending start then
+meets-written program file start now then waiting now_waiting ending told closed keeps none = by_ending ending told closed
+  where
+    written : (text : List ℕ) → Waits start now text waiting → Appends start then text
+    written text w = let done = keeps text w in subst (Appends start then) (sym (done.whole ∙ ap (λ l. done.front ++ l) none ∙ append-nil done.front)) done.taken
+
+    whole : (e : Ending) → (e ≡ ending_of program file) × ((tail : List ℕ) × IsTailOf program file tail × Waits start now (blocks_of program file ++ tail) waiting)
+        → (e ≡ ending_of program file) × ((text : List ℕ) × IsReport program file text × Appends start then text)
+    whole e c = (c.0, (blocks_of program file ++ c.1.0, (c.1.0, c.1.1, refl), written (blocks_of program file ++ c.1.0) c.1.2))
+
+    by_ending : (e : Ending) → is_told e ≡ true → Closes program file e start now waiting → Meets program file e start then
+    by_ending (Ok u) t c = whole (Ok u) c
+    by_ending (Err Read) t c = absurd (cc)
+    by_ending (Err Write) t c = absurd (cc)
+    by_ending (Err NoMemory) t c = absurd (cc)
+    by_ending (Err (Limit which count)) t c = whole (Err (Limit which count)) c
+    by_ending (Err (Packets line)) t c = whole (Err (Packets line)) c
+    by_ending (Err (Undefined packet)) t c = whole (Err (Undefined packet)) c
+
+-- Where a device failed or memory was short, nothing more is written.
+pub meets-short : (program : Program) (file : List ℕ) (start now : Option (List ℕ)) (waiting : List ℕ) (ending : Ending) → is_told ending ≡ false
+    → Closes program file ending start now waiting → Meets program file ending start now
+meets-short program file start now waiting (Ok u) t c = absurd (cc)
+meets-short program file start now waiting (Err Read) t c = c
+meets-short program file start now waiting (Err Write) t c = inl c
+meets-short program file start now waiting (Err NoMemory) t c = c
+meets-short program file start now waiting (Err (Limit which count)) t c = absurd (cc)
+meets-short program file start now waiting (Err (Packets line)) t c = absurd (cc)
+meets-short program file start now waiting (Err (Undefined packet)) t c = absurd (cc)
+
+-- Where the sink fails at the end, some first bytes of the whole text went out.
+pub meets-failed : (program : Program) (file : List ℕ) (start now then : Option (List ℕ)) (waiting : List ℕ) (ending : Ending) → is_told ending ≡ true
+    → Closes program file ending start now waiting → AppendsPart now then waiting → Meets program file (Err Write) start then
+meets-failed program file start now then waiting ending told closed part = by_ending ending told closed
+  where
+    some : (e : Ending) → (e ≡ ending_of program file) × ((tail : List ℕ) × IsTailOf program file tail × Waits start now (blocks_of program file ++ tail) waiting) → Meets program file (Err Write) start then
+    some e c =
+        let text = blocks_of program file ++ c.1.0 in
+        let w = c.1.2 in
+        let cut : text ≡ w.front ++ (waiting ++ []) = w.whole ∙ ap (λ l. w.front ++ l) (sym (append-nil waiting)) in
+        inr (text, (c.1.0, c.1.1, refl), part_of_pair start then w.front waiting [] text cut part.0 (Appends-trans start now then w.front (take part.0 waiting) w.taken part.1))
+
+    by_ending : (e : Ending) → is_told e ≡ true → Closes program file e start now waiting → Meets program file (Err Write) start then
+    by_ending (Ok u) t c = some (Ok u) c
+    by_ending (Err Read) t c = absurd (cc)
+    by_ending (Err Write) t c = absurd (cc)
+    by_ending (Err NoMemory) t c = absurd (cc)
+    by_ending (Err (Limit which count)) t c = some (Err (Limit which count)) c
+    by_ending (Err (Packets line)) t c = some (Err (Packets line)) c
+    by_ending (Err (Undefined packet)) t c = some (Err (Undefined packet)) c
+
+-- where a step finds no line, the end of the report that is put closes the run
+pub run-end : (program : Program) (told told' : Option Files) (name name' : List ℕ) (start now then : Option (List ℕ)) (read at at' : ℕ) (old mid new : Switch) (b : Bool) (ending : Ending)
+    → read < 1000000 → told' ≡ told → name' ≡ name → b ≡ false
+    → IfSome told (λ files. ComesTo program (file_of files name) read at start now old)
+    → IfSome told' (λ files. (from : Option (List ℕ)) → ComesTo program (file_of files name') read at from now old → ComesOn program (file_of files name') read at' from then mid (Ok b))
+    → PutsEnd program mid new ending → IfSome told (λ files. Closes program (file_of files name) ending start then new.text.items)
+run-end program told told' name name' start now then read at at' old mid new b ending more same called none came steps put =
+    let Step : List ℕ → Files → Type 0 = λ n files. (from : Option (List ℕ)) → ComesTo program (file_of files n) read at from now old → ComesOn program (file_of files n) read at' from then mid (Ok b) in
+    where_both_told told (λ files. ComesTo program (file_of files name) read at start now old) (Step name) (λ files. Closes program (file_of files name) ending start then new.text.items)
+    (λ files came step.
+        let on = subst (λ x. ComesOn program (file_of files name) read at' start then mid (Ok x)) none (step start came) in
+        end-put program (file_of files name) start then read at' mid new on.0 (left_at-none program (file_of files name) read at' more on.1) ending put)
+    came (subst (λ o. IfSome o (Step name)) same (subst (λ n. IfSome told' (Step n)) called steps))

@@ -1,6 +1,6 @@
 //! The texts of a report, put behind one another in a buffer.
 
-ghost use Rattle.std.specs.Prelude.{◌≡◌, ◌<◌, ◌≤◌, ◌+◌, ◌++◌, All, [], decimal, length, slice_get, unwrap_or, OnOk};
+ghost use Rattle.std.specs.Prelude.{◌≡◌, ◌<◌, ◌≤◌, ◌+◌, ◌++◌, [], decimal, length, slice_get, unwrap_or, OnOk};
 ghost use Rattle.snap_core.specs.Fields.{PrefixFits, count, width};
 ghost use Rattle.snap_core.specs.Packets.{AllLong};
 ghost use Rattle.snap_trace.specs.Reports.{address_text, array_line, block, end_text, field_text, index_text, out_line, split_text, value_text};
@@ -131,16 +131,18 @@ fn put_index(out: &mut Vec<u8>, index: &[u64]) -> Result<(), NoMemory>
     Ok(())
 }
 
+// The name of an array, or nothing where no array has this number.
 fn name_at(names: &Names, var: u16) -> &[u8]
-    requires { var < length names.now }
     ensures { result.now ≡ unwrap_or (slice_get names.now var) [] }
 {
-    names.items()[var as usize].bytes()
+    match names.items().get(var as usize) {
+        Some(name) => name.bytes(),
+        None => &[],
+    }
 }
 
 // Puts the line of a place that isn't 0.
 fn put_entry(out: &mut Vec<u8>, names: &Names, entry: &Entry) -> Result<(), NoMemory>
-    requires { entry.now.place.var < length names.now }
     ensures { OnOk result (out.new.items ≡ out.old.items ++ array_line names.now entry.now) }
 {
     out.extend_from_slice(b"array ")?;
@@ -154,7 +156,6 @@ fn put_entry(out: &mut Vec<u8>, names: &Names, entry: &Entry) -> Result<(), NoMe
 
 /// Puts the end of a report: the places that aren't 0, and the last line.
 pub(crate) fn put_end(out: &mut Vec<u8>, names: &Names, entries: &[Entry]) -> Result<(), NoMemory>
-    requires { All (λ e. e.place.var < length names.now) entries.now }
     ensures { OnOk result (out.new.items ≡ out.old.items ++ end_text names.now entries.now) }
 {
     for entry in entries {

@@ -1,23 +1,24 @@
 //! One big switch over a file of packets.
 
-ghost use Rattle.std.specs.Prelude.{◌≡◌, ◌+◌, ◌^◌, ◌<◌, ◌≤◌, ◌++◌, ℕ, List, [], length, OnOk, OnErr, IfSome, IfOk, IsErrOf};
+ghost use Rattle.std.specs.Prelude.{◌≡◌, ◌⊎◌, ◌+◌, ◌^◌, ◌<◌, ◌≤◌, ◌++◌, ℕ, List, [], length, OnOk, OnErr, IfSome, IfOk, IsErrOf};
 ghost use Rattle.std.specs.declared.option.Option.{Option};
 ghost use Rattle.std.specs.Io.KnownBytes.{Appends};
 ghost use Rattle.snap_core.specs.Arrays.{zero_arrays};
 ghost use Rattle.snap_core.specs.Cells.{arrays_of};
 ghost use Rattle.snap_core.specs.Fields.{count};
 ghost use Rattle.snap_core.specs.Programs.{IsInForm};
+ghost use Rattle.snap_core.specs.declared.program.Program.{Program as ProgramData};
 ghost use Rattle.snap_io.specs.Causes.{HasCause, Rose};
 ghost use Rattle.snap_io.specs.Files.{file_of};
 ghost use Rattle.snap_io.specs.LineReaders.{AgreesWith, lines_given, lines_limit, lines_most, lines_name};
 ghost use Rattle.snap_io.specs.Sinks.{AppendsPart};
 ghost use Rattle.snap_trace.specs.OneSwitch.{Meets};
 ghost use Rattle.snap_trace.specs.PacketLines.{said_by};
-ghost use Rattle.snap_trace.specs.Steps.{Closes, ComesOn, ComesTo, PutsEnd, Takes, refusal_of, TakesPacket, Waits};
+ghost use Rattle.snap_trace.specs.Steps.{Closes, ComesOn, ComesTo, PutsEnd, Takes, is_told, refusal_of, refusal_past_last, TakesPacket, Waits};
 
 use crate::fault::TraceFault;
 use crate::line::{Line, LineFault, read_line};
-use crate::report::put_block;
+use crate::report::{put_block, put_end};
 use snap_core::eval::evaluate;
 use snap_core::outcome::EvalFault;
 use snap_core::packet::Packet;
@@ -176,6 +177,128 @@ impl Switch {
             Err(fault) => Err(refusal(fault, read + 1)),
         }
     }
+
+    // Sees whether a line stands behind the last that may come, and puts the end of the report where none does.
+    fn past_last<S: Shelf, K: Sink>(
+        &mut self,
+        shelf: &mut S,
+        lines: &mut Lines,
+        program: &Program,
+        sink: &mut K,
+    ) -> Result<(), TraceFault>
+        requires limit { lines_limit lines.old ≡ MOST_BYTES }
+        requires most { lines_most lines.old ≡ MOST_LINE }
+        requires agrees { AgreesWith (S.files shelf.old) lines.old }
+        ensures closes { IfSome (S.files shelf.old) (λ files. (start : Option (List ℕ)) →
+            ComesTo program.now (file_of files (lines_name lines.old)) MOST_LINES (lines_given lines.old) start (K.taken sink.old) self.old →
+            Closes program.now (file_of files (lines_name lines.old)) result start (K.taken sink.new) self.new.text.items) }
+        ensures read { IsErrOf result TraceFault.Read → Rose (S.faults shelf.old) (S.faults shelf.new) }
+        ensures write { IsErrOf result TraceFault.Write → Rose (K.faults sink.old) (K.faults sink.new) }
+        ensures files { S.files shelf.new ≡ S.files shelf.old }
+        ensures later { S.faults shelf.old ≤ S.faults shelf.new }
+        ensures sink_later { K.faults sink.old ≤ K.faults sink.new }
+    {
+        self.before_read(lines, sink)?;
+        match lines.next(shelf) {
+            Ok(true) => Err(many_lines()),
+            Ok(false) => self.put_end(program),
+            Err(fault) => Err(refusal_past_last(fault)),
+        }
+    }
+
+    // Takes the lines up to the last that may come, one after another, and puts the end of the report where all were
+    // taken.
+    fn run<S: Shelf, K: Sink>(
+        &mut self,
+        alloc: Global,
+        shelf: &mut S,
+        lines: &mut Lines,
+        program: &Program,
+        sink: &mut K,
+    ) -> Result<(), TraceFault>
+        requires form { IsInForm program.now }
+        requires number { self.old.number ≡ 1 }
+        requires arrays { arrays_of self.old.store ≡ zero_arrays }
+        requires text { self.old.text.items ≡ [] }
+        requires limit { lines_limit lines.old ≡ MOST_BYTES }
+        requires most { lines_most lines.old ≡ MOST_LINE }
+        requires given { lines_given lines.old ≡ 0 }
+        requires agrees { AgreesWith (S.files shelf.old) lines.old }
+        ensures closes { IfSome (S.files shelf.old) (λ files.
+            Closes program.now (file_of files (lines_name lines.old)) result (K.taken sink.old) (K.taken sink.new) self.new.text.items) }
+        ensures read { IsErrOf result TraceFault.Read → Rose (S.faults shelf.old) (S.faults shelf.new) }
+        ensures write { IsErrOf result TraceFault.Write → Rose (K.faults sink.old) (K.faults sink.new) }
+        ensures files { S.files shelf.new ≡ S.files shelf.old }
+        ensures later { S.faults shelf.old ≤ S.faults shelf.new }
+        ensures sink_later { K.faults sink.old ≤ K.faults sink.new }
+    {
+        for read in 0..MOST_LINES {
+            if !self.step(alloc, shelf, lines, program, sink, read)? {
+                return self.put_end(program);
+            }
+        }
+        self.past_last(shelf, lines, program, sink)
+    }
+
+    // Puts the end of the report behind the text.
+    fn put_end(&mut self, program: &Program) -> Result<(), TraceFault>
+        ensures { PutsEnd program.now self.old self.new result }
+    {
+        let entries = self.store.entries()?;
+        put_end(&mut self.text, &program.vars, &entries)?;
+        Ok(())
+    }
+
+    // Writes what waits, unless a device failed or memory was short.
+    fn close<K: Sink>(
+        &mut self,
+        sink: &mut K,
+        ended: Result<(), TraceFault>,
+    ) -> Result<(), TraceFault>
+        ensures report { (program : ProgramData) (file : List ℕ) (start : Option (List ℕ)) →
+            Closes program file ended start (K.taken sink.old) self.old.text.items → Meets program file result start (K.taken sink.new) }
+        ensures read { IsErrOf result TraceFault.Read → IsErrOf ended TraceFault.Read }
+        ensures write { IsErrOf result TraceFault.Write → IsErrOf ended TraceFault.Write ⊎ Rose (K.faults sink.old) (K.faults sink.new) }
+        ensures later { K.faults sink.old ≤ K.faults sink.new }
+    {
+        if !is_told(&ended) {
+            return ended;
+        }
+        match self.flush(sink) {
+            Ok(()) => ended,
+            Err(_) => Err(TraceFault::Write),
+        }
+    }
+}
+
+// Whether the run has come to its end, with no device's failure and no want of memory.
+fn is_told(ended: &Result<(), TraceFault>) -> bool
+    ensures { result ≡ is_told ended.now }
+{
+    !matches!(
+        ended,
+        Err(TraceFault::Read | TraceFault::Write | TraceFault::NoMemory)
+    )
+}
+
+fn many_lines() -> TraceFault
+    ensures { result ≡ TraceFault.Limit Which.Lines 1000001 }
+{
+    TraceFault::Limit {
+        which: Which::Lines,
+        count: MOST_LINES + 1,
+    }
+}
+
+// Why no line is given behind the last that may come.
+fn refusal_past_last(fault: LinesFault) -> TraceFault
+    ensures { result ≡ refusal_past_last fault }
+{
+    match fault {
+        LinesFault::Failed => TraceFault::Read,
+        LinesFault::LongLine => many_lines(),
+        LinesFault::ManyBytes => many_lines(),
+    }
 }
 
 // Why the line of this number isn't given.
@@ -190,4 +313,37 @@ fn refusal(fault: LinesFault, line: u64) -> TraceFault
             count: MOST_BYTES + 1,
         },
     }
+}
+
+/// Writes the report of one big switch over the packets file with this name (`docs/FORMATS.md`, "Reports"): packets are
+/// evaluated in the order of their lines, and the store is carried from one to the next.
+///
+/// What is read is written in pieces, and what waits is written before each read.
+///
+/// # Errors
+///
+/// `Packets` at the first line that isn't in form or has more than `MOST_LINE` bytes; `Limit` where the file has more
+/// than `MOST_LINES` lines or `MOST_BYTES` bytes; `Undefined` at the first packet on which evaluation is undefined: the
+/// blocks of the packets before have gone out. `Read` and `Write` only where the shelf's and the sink's count of faults
+/// rose, `NoMemory` for want of memory: some first bytes of the report have gone out.
+pub fn one_switch<S: Shelf, K: Sink>(
+    alloc: Global,
+    shelf: &mut S,
+    packets: &[u8],
+    program: &Program,
+    sink: &mut K,
+) -> Result<(), TraceFault>
+    requires { IsInForm program.now }
+    ensures report { IfSome (S.files shelf.old) (λ files.
+        Meets program.now (file_of files packets.now) result (K.taken sink.old) (K.taken sink.new)) }
+    ensures read { IsErrOf result TraceFault.Read → Rose (S.faults shelf.old) (S.faults shelf.new) }
+    ensures write { IsErrOf result TraceFault.Write → Rose (K.faults sink.old) (K.faults sink.new) }
+    ensures files { S.files shelf.new ≡ S.files shelf.old }
+    ensures later { S.faults shelf.old ≤ S.faults shelf.new }
+    ensures sink_later { K.faults sink.old ≤ K.faults sink.new }
+{
+    let mut lines = Lines::new(alloc, packets, MOST_BYTES, MOST_LINE)?;
+    let mut switch = Switch::new(alloc);
+    let ended = switch.run(alloc, shelf, &mut lines, program, sink);
+    switch.close(sink, ended)
 }
