@@ -2,11 +2,13 @@
 
 ghost use Rattle.std.specs.Prelude.{◌≡◌, ◌<◌, ◌≤◌, ◌+◌, [], List, ℕ, OnOk, OnErr, IfOk, IsOk, Some, length, unwrap_or, if◌then◌else◌};
 ghost use Rattle.std.specs.Str.{bytes_eq};
-ghost use Rattle.snap_core.specs.Cells.{cell};
+ghost use Rattle.snap_core.specs.Cells.{cell, cells_of, either};
+ghost use Rattle.std.specs.HashMap.{spare};
 
 use crate::NoMemory;
+use crate::patch::Patch;
 use std::alloc::Global;
-use std::collections::HashMap;
+use std::collections::{BTreeMap, HashMap};
 use std::marker::Model;
 
 /// The cells of one array, each a number with its index, and the room for more.
@@ -65,5 +67,34 @@ impl Array {
         let key = Vec::from_slice(self.alloc, index)?;
         self.cells.insert(key, value)?;
         Ok(())
+    }
+
+    /// Takes memory for more cells.
+    pub(crate) fn reserve(&mut self, more: usize) -> Result<(), NoMemory>
+        ensures cells { (q : List ℕ) → cell self.new.0 q ≡ cell self.old.0 q }
+        ensures room { OnOk result (more ≤ self.new.1) }
+        ensures kept { self.old.1 ≤ self.new.1 }
+    {
+        self.cells.reserve(more)?;
+        Ok(())
+    }
+
+    /// Puts the numbers of a patch, for which there is room.
+    pub(crate) fn take(&mut self, patch: Patch)
+        requires { length patch ≤ self.old.1 }
+        ensures { (q : List ℕ) → cell self.new.0 q ≡ either (cell patch q) (cell self.old.0 q) }
+    {
+        put_all(&mut self.cells, patch.into_cells());
+    }
+}
+
+// Puts each of these numbers, for which there is room.
+fn put_all(cells: &mut HashMap<Vec<u64>, u64>, patch: BTreeMap<Vec<u64>, u64>)
+    requires { length patch.entries ≤ spare cells.old }
+    ensures { (q : List ℕ) → cell (cells_of cells.new.entries) q ≡ either (cell (cells_of patch.entries) q) (cell (cells_of cells.old.entries) q) }
+{
+    for (index, value) in patch {
+        let put: Result<_, _> = cells.insert(index, value);
+        put.unwrap();
     }
 }

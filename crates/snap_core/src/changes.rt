@@ -146,4 +146,17 @@ impl Changes {
         }
         Ok(())
     }
+
+    /// The changes of each variable.
+    pub(crate) fn patches(&self) -> &BTreeMap<u16, Patch>
+        ensures { result.now.entries ≡ self.now }
+    {
+        &self.patches
+    }
+
+    pub(crate) fn into_patches(self) -> BTreeMap<u16, Patch>
+        ensures { result.entries ≡ self }
+    {
+        self.patches
+    }
 }

@@ -1,4 +1,4 @@
-//! Evaluation over a store that stays as it is.
+//! Evaluation.
 
 ghost use Rattle.std.specs.Prelude.{◌≡◌, ◌<◌, IfOk, true, false, None, Some, Err, map, length, All};
 ghost use Rattle.snap_core.specs.Arrays.{Arrays, place_at};
@@ -6,6 +6,7 @@ ghost use Rattle.snap_core.specs.Cells.{arrays_of, overlaid};
 ghost use Rattle.snap_core.specs.Fits.{AtomFits, IndexFits, PredFits, PolFits, UpdateFits, VarsBelow};
 ghost use Rattle.snap_core.specs.declared.policy.Pol.TheVariants.{Filter, Set, Change};
 ghost use Rattle.snap_core.specs.Meaning.{truth, vars_of, eval, all_together};
+ghost use Rattle.snap_core.specs.Outcomes.{meaning_of};
 ghost use Rattle.snap_core.specs.Packets.{AllLong, listed};
 ghost use Rattle.snap_core.specs.Runs.{meaning_over, set_in};
 
@@ -14,13 +15,31 @@ use crate::atoms::index_on;
 use crate::changes::Changes;
 use crate::copies::Copies;
 use crate::lists::Atoms;
-use crate::outcome::EvalFault;
+use crate::outcome::{EvalFault, Outcome};
 use crate::packet::Packet;
 use crate::packets::Packets;
 use crate::policy::{Atom, Pol, Pred, Update};
 use crate::run::Run;
 use crate::store::Store;
 use std::alloc::Global;
+
+/// The meaning of a policy on a store and a packet. It copies the store; `run` doesn't.
+pub fn eval(alloc: Global, pol: &Pol, store: &Store, packet: &Packet) -> Result<Outcome, EvalFault>
+    requires { PolFits (length packet.now) 64 pol.now }
+    ensures ok { IfOk result (λ o. eval pol.now (arrays_of store.now) packet.now ≡ Some (meaning_of o)) }
+    ensures undefined { result ≡ Err EvalFault.Undefined → eval pol.now (arrays_of store.now) packet.now ≡ None }
+    ensures lengths { IfOk result (λ o. AllLong (length packet.now) o.packets) }
+{
+    let run = run(alloc, pol, store, Changes::new(alloc), packet.copy()?)?;
+    let mut after = store.copy()?;
+    after.apply_changes(run.changes)?;
+    Ok(Outcome {
+        store: after,
+        packets: run.copies.into_set(alloc)?,
+        reads: run.reads,
+        writes: run.writes,
+    })
+}
 
 /// The meaning of a policy on a packet and on a store with changes over it. The store stays as it is.
 #[cycle(eval)]
@@ -152,12 +171,7 @@ fn set(comp: u16, from: Atom, before: Changes, mut packet: Packet) -> Run
     }
 }
 
-fn change(
-    update: &Update,
-    store: &Store,
-    before: Changes,
-    packet: Packet,
-) -> Result<Run, NoMemory>
+fn change(update: &Update, store: &Store, before: Changes, packet: Packet) -> Result<Run, NoMemory>
     requires { UpdateFits (length packet) 64 update.now }
     ensures ok { IfOk result (λ r. eval (Change update.now) (overlaid (arrays_of store.now) before) packet ≡ Some (meaning_over (arrays_of store.now) r)) }
     ensures lengths { IfOk result (λ r. AllLong (length packet) (set_in r.copies)) }

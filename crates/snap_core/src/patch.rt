@@ -2,7 +2,7 @@
 
 ghost use Rattle.std.specs.Prelude.{◌≡◌, [], List, ℕ, OnOk, OnErr, IfOk, Some, length, if◌then◌else◌};
 ghost use Rattle.std.specs.Str.{bytes_eq};
-ghost use Rattle.snap_core.specs.Cells.{cell};
+ghost use Rattle.snap_core.specs.Cells.{cell, cells_of};
 
 use crate::NoMemory;
 use std::alloc::Global;
@@ -53,5 +53,18 @@ impl Patch {
     {
         self.cells.insert(index, value)?;
         Ok(())
+    }
+
+    /// The number of cells.
+    pub(crate) fn len(&self) -> usize
+        ensures { result ≡ length self.now }
+    {
+        self.cells.len()
+    }
+
+    pub(crate) fn into_cells(self) -> BTreeMap<Vec<u64>, u64>
+        ensures { cells_of result.entries ≡ self }
+    {
+        self.cells
     }
 }

@@ -1,14 +1,17 @@
 //! Stores: the numbers of the state variables.
 
-ghost use Rattle.std.specs.Prelude.{◌≡◌, ◌+◌, ◌%◌, ◌^◌, ◌==◌, All, [], List, ℕ, OnOk, OnErr, IfOk, if◌then◌else◌, length};
-ghost use Rattle.std.specs.Str.{bytes_eq};
+ghost use Rattle.std.specs.Prelude.{◌≡◌, ◌≤◌, ◌+◌, ◌%◌, ◌^◌, ◌==◌, false, All, ℕ, OnOk, OnErr, IfOk, if◌then◌else◌, length, unwrap_or};
 ghost use Rattle.snap_core.specs.declared.place.Place.{Place};
-ghost use Rattle.snap_core.specs.Arrays.{updates, put, taken, update, zero_arrays};
-ghost use Rattle.snap_core.specs.Cells.{cell, arrays_of};
+ghost use Rattle.snap_core.specs.Arrays.{updates, put, zero_arrays};
+ghost use Rattle.snap_core.specs.Cells.{cell, arrays_of, overlaid, changed_at, room_at};
 ghost use Rattle.snap_core.specs.Fits.{UpdateFits};
 
 use crate::NoMemory;
 use crate::array::Array;
+use crate::changes::Changes;
+use crate::packet::Packet;
+use crate::patch::Patch;
+use crate::policy::Update;
 use std::alloc::Global;
 use std::collections::BTreeMap;
 use std::marker::Model;
@@ -94,5 +97,79 @@ impl Store {
     {
         let sum = self.get(var, index).wrapping_add(value);
         self.put(var, index, sum)
+    }
+
+    /// Does all updates in order, or none.
+    pub fn apply(&mut self, packet: &Packet, changes: &[Update]) -> Result<(), NoMemory>
+        requires { All (UpdateFits (length packet.now) 64) changes.now }
+        ensures ok { OnOk result (arrays_of self.new ≡ updates (arrays_of self.old) changes.now packet.now) }
+        ensures err { OnErr result (arrays_of self.new ≡ arrays_of self.old) }
+    {
+        let done = self.after_updates(packet, changes)?;
+        self.apply_changes(done)
+    }
+
+    // What updates in order change.
+    fn after_updates(&self, packet: &Packet, changes: &[Update]) -> Result<Changes, NoMemory>
+        requires { All (UpdateFits (length packet.now) 64) changes.now }
+        ensures { IfOk result (λ done. overlaid (arrays_of self.now) done ≡ updates (arrays_of self.now) changes.now packet.now) }
+    {
+        let mut done = Changes::new(self.alloc);
+        for change in changes {
+            done.update(self, packet, change)?;
+        }
+        Ok(done)
+    }
+
+    /// Does all changes, or none.
+    pub fn apply_changes(&mut self, changes: Changes) -> Result<(), NoMemory>
+        ensures ok { OnOk result (arrays_of self.new ≡ overlaid (arrays_of self.old) changes) }
+        ensures err { OnErr result (arrays_of self.new ≡ arrays_of self.old) }
+    {
+        self.make_room(&changes)?;
+        for (var, patch) in changes.into_patches() {
+            self.take(var, patch);
+        }
+        Ok(())
+    }
+
+    // Takes memory for all cells that changes have.
+    fn make_room(&mut self, changes: &Changes) -> Result<(), NoMemory>
+        ensures same { arrays_of self.new ≡ arrays_of self.old }
+        ensures room { OnOk result ((s : ℕ) → length (changed_at changes.now s) ≤ room_at self.new s) }
+    {
+        let patches = changes.patches();
+        for var in patches.keys() {
+            if let Some(patch) = patches.get(var) {
+                self.reserve(*var, patch.len())?;
+            }
+        }
+        Ok(())
+    }
+
+    // Takes memory for more cells of one variable.
+    fn reserve(&mut self, var: u16, more: usize) -> Result<(), NoMemory>
+        ensures same { arrays_of self.new ≡ arrays_of self.old }
+        ensures room { OnOk result (more ≤ room_at self.new var) }
+        ensures kept { (s : ℕ) → room_at self.old s ≤ room_at self.new s }
+    {
+        if let Some(array) = self.arrays.get_mut(&var) {
+            return array.reserve(more);
+        }
+        let mut array = Array::new(self.alloc);
+        array.reserve(more)?;
+        self.arrays.insert(var, array)?;
+        Ok(())
+    }
+
+    // Puts the numbers of a patch, for which there is room.
+    fn take(&mut self, var: u16, patch: Patch)
+        requires { length patch ≤ room_at self.old var }
+        ensures arrays { (p : Place) → arrays_of self.new p ≡ (if var == p.var then unwrap_or (cell patch p.index) (arrays_of self.old p) else arrays_of self.old p) }
+        ensures kept { (s : ℕ) → (var == s) ≡ false → room_at self.new s ≡ room_at self.old s }
+    {
+        if let Some(array) = self.arrays.get_mut(&var) {
+            array.take(patch);
+        }
     }
 }
