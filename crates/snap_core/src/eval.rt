@@ -1,163 +1,245 @@
 //! Evaluation.
 
-ghost use Rattle.std.specs.Prelude.{◌≡◌, ◌<◌, IfOk, OnOk, true, false, None, Some, Err, map, length, All};
-ghost use Rattle.snap_core.specs.Cells.{arrays_of};
-ghost use Rattle.snap_core.specs.Fits.{AtomFits, PredFits, PolFits, UpdateFits, VarsBelow};
+ghost use Rattle.std.specs.Prelude.{◌≡◌, ◌<◌, IfOk, true, false, None, Some, Err, map, length, All};
+ghost use Rattle.snap_core.specs.Arrays.{Arrays, place_at};
+ghost use Rattle.snap_core.specs.Cells.{arrays_of, overlaid};
+ghost use Rattle.snap_core.specs.Fits.{AtomFits, IndexFits, PredFits, PolFits, UpdateFits, VarsBelow};
 ghost use Rattle.snap_core.specs.declared.policy.Pol.TheVariants.{Filter, Set, Change};
 ghost use Rattle.snap_core.specs.Meaning.{truth, vars_of, eval, all_together};
 ghost use Rattle.snap_core.specs.Outcomes.{meaning_of};
-ghost use Rattle.snap_core.specs.Packets.{AllLong};
+ghost use Rattle.snap_core.specs.Packets.{AllLong, listed};
+ghost use Rattle.snap_core.specs.Runs.{meaning_over, set_in};
 
 use crate::NoMemory;
 use crate::atoms::index_on;
+use crate::changes::Changes;
+use crate::copies::Copies;
+use crate::lists::Atoms;
 use crate::outcome::{EvalFault, Outcome};
 use crate::packet::Packet;
+use crate::packets::Packets;
 use crate::policy::{Atom, Pol, Pred, Update};
+use crate::run::Run;
 use crate::store::Store;
 use std::alloc::Global;
 
-/// The meaning of a policy on a store and a packet.
-#[cycle(eval)]
-pub fn evaluate(
-    alloc: Global,
-    pol: &Pol,
-    store: &Store,
-    packet: &Packet,
-) -> Result<Outcome, EvalFault>
+/// The meaning of a policy on a store and a packet. It copies the store; `run` doesn't.
+pub fn eval(alloc: Global, pol: &Pol, store: &Store, packet: &Packet) -> Result<Outcome, EvalFault>
     requires { PolFits (length packet.now) 64 pol.now }
     ensures ok { IfOk result (λ o. eval pol.now (arrays_of store.now) packet.now ≡ Some (meaning_of o)) }
     ensures undefined { result ≡ Err EvalFault.Undefined → eval pol.now (arrays_of store.now) packet.now ≡ None }
     ensures lengths { IfOk result (λ o. AllLong (length packet.now) o.packets) }
 {
+    let run = run(alloc, pol, store, Changes::new(alloc), packet.copy()?)?;
+    let mut after = store.copy()?;
+    after.apply_changes(run.changes)?;
+    Ok(Outcome {
+        store: after,
+        packets: run.copies.into_set(alloc)?,
+        reads: run.reads,
+        writes: run.writes,
+    })
+}
+
+/// The meaning of a policy on a packet and on a store with changes over it. The store stays as it is.
+#[cycle(eval)]
+pub fn run(
+    alloc: Global,
+    pol: &Pol,
+    store: &Store,
+    before: Changes,
+    packet: Packet,
+) -> Result<Run, EvalFault>
+    requires { PolFits (length packet) 64 pol.now }
+    ensures ok { IfOk result (λ r. eval pol.now (overlaid (arrays_of store.now) before) packet ≡ Some (meaning_over (arrays_of store.now) r)) }
+    ensures undefined { result ≡ Err EvalFault.Undefined → eval pol.now (overlaid (arrays_of store.now) before) packet ≡ None }
+    ensures lengths { IfOk result (λ r. AllLong (length packet) (set_in r.copies)) }
+{
     match pol {
-        Pol::Filter(pred) => Ok(filter(alloc, pred, store, packet)?),
-        Pol::Set { comp, from } => Ok(set(alloc, *comp, *from, store, packet)?),
-        Pol::Change(update) => Ok(change(alloc, update, store, packet)?),
+        Pol::Filter(pred) => Ok(filter(alloc, pred, store, before, packet)?),
+        Pol::Set { comp, from } => Ok(set(*comp, *from, before, packet)),
+        Pol::Change(update) => Ok(change(update, store, before, packet)?),
         Pol::Par(left, right) => {
-            let left = evaluate(alloc, left, store, packet)?;
-            let right = evaluate(alloc, right, store, packet)?;
-            let mut both = Outcome::unchanged(alloc, store)?;
-            both.add(&left)?;
-            both.add(&right)?;
-            Ok(both)
+            let left = run(alloc, left, store, before.copy()?, packet.copy()?)?;
+            let right = run(alloc, right, store, before, packet)?;
+            left.beside(alloc, right)
         }
         Pol::Seq(first, second) => {
-            let before = evaluate(alloc, first, store, packet)?;
-            let after = each(alloc, second, &before.store, before.packets.list(), packet)?;
-            Ok(after.logged(before.reads, before.writes))
+            let comps = packet.comps().len();
+            let first = run(alloc, first, store, before, packet)?;
+            let after = each(alloc, second, store, first.changes, first.copies, comps)?;
+            Ok(after.logged(first.reads, first.writes))
         }
         Pol::If(test, yes, no) => {
             let reads = read_by(test);
-            if holds(alloc, test, store, packet)? {
-                Ok(evaluate(alloc, yes, store, packet)?.logged(reads, 0))
+            if holds(alloc, test, store, &before, &packet)? {
+                Ok(run(alloc, yes, store, before, packet)?.logged(reads, 0))
             } else {
-                Ok(evaluate(alloc, no, store, packet)?.logged(reads, 0))
+                Ok(run(alloc, no, store, before, packet)?.logged(reads, 0))
             }
         }
-        Pol::Atomic(part) => evaluate(alloc, part, store, packet),
+        Pol::Atomic(part) => run(alloc, part, store, before, packet),
     }
 }
 
-// A policy on each packet from the same store, side by side. The packets are as long as `like`.
+// A policy on each packet from the same changes, side by side. Each packet has this many components.
 #[cycle(eval)]
 fn each(
     alloc: Global,
     pol: &Pol,
     store: &Store,
-    packets: &[Packet],
-    like: &Packet,
-) -> Result<Outcome, EvalFault>
-    requires fits { PolFits (length like.now) 64 pol.now }
-    requires lengths { All (λ k. length k ≡ length like.now) packets.now }
-    ensures ok { IfOk result (λ o. all_together (arrays_of store.now) (map (λ k. eval pol.now (arrays_of store.now) k) packets.now) ≡ Some (meaning_of o)) }
-    ensures undefined { result ≡ Err EvalFault.Undefined → all_together (arrays_of store.now) (map (λ k. eval pol.now (arrays_of store.now) k) packets.now) ≡ None }
-    ensures lengths { IfOk result (λ o. AllLong (length like.now) o.packets) }
+    before: Changes,
+    copies: Copies,
+    comps: usize,
+) -> Result<Run, EvalFault>
+    requires fits { PolFits comps 64 pol.now }
+    requires lengths { AllLong comps (set_in copies) }
+    ensures ok { IfOk result (λ r. all_together (overlaid (arrays_of store.now) before) (map (λ k. eval pol.now (overlaid (arrays_of store.now) before) k) (listed (set_in copies))) ≡ Some (meaning_over (arrays_of store.now) r)) }
+    ensures undefined { result ≡ Err EvalFault.Undefined → all_together (overlaid (arrays_of store.now) before) (map (λ k. eval pol.now (overlaid (arrays_of store.now) before) k) (listed (set_in copies))) ≡ None }
+    ensures lengths { IfOk result (λ r. AllLong comps (set_in r.copies)) }
 {
-    let mut all = Outcome::unchanged(alloc, store)?;
+    match copies {
+        Copies::One(packet) => run(alloc, pol, store, before, packet),
+        Copies::Many(packets) => {
+            let packets = Packets::from_list(alloc, packets)?;
+            side_by_side(alloc, pol, store, &before, packets.list(), comps)
+        }
+    }
+}
+
+// A policy on each of these packets.
+#[cycle(eval)]
+fn side_by_side(
+    alloc: Global,
+    pol: &Pol,
+    store: &Store,
+    before: &Changes,
+    packets: &[Packet],
+    comps: usize,
+) -> Result<Run, EvalFault>
+    requires fits { PolFits comps 64 pol.now }
+    requires lengths { All (λ k. length k ≡ comps) packets.now }
+    ensures ok { IfOk result (λ r. all_together (overlaid (arrays_of store.now) before.now) (map (λ k. eval pol.now (overlaid (arrays_of store.now) before.now) k) packets.now) ≡ Some (meaning_over (arrays_of store.now) r)) }
+    ensures undefined { result ≡ Err EvalFault.Undefined → all_together (overlaid (arrays_of store.now) before.now) (map (λ k. eval pol.now (overlaid (arrays_of store.now) before.now) k) packets.now) ≡ None }
+    ensures lengths { IfOk result (λ r. AllLong comps (set_in r.copies)) }
+{
+    let mut all = Run::blank(alloc, before.copy()?);
     for packet in packets {
-        let one = evaluate(alloc, pol, store, packet)?;
-        all.add(&one)?;
+        let one = run(alloc, pol, store, before.copy()?, packet.copy()?)?;
+        all = all.beside(alloc, one)?;
     }
     Ok(all)
 }
 
-fn filter(alloc: Global, pred: &Pred, store: &Store, packet: &Packet) -> Result<Outcome, NoMemory>
-    requires { PredFits (length packet.now) 64 pred.now }
-    ensures ok { IfOk result (λ o. eval (Filter pred.now) (arrays_of store.now) packet.now ≡ Some (meaning_of o)) }
-    ensures lengths { IfOk result (λ o. AllLong (length packet.now) o.packets) }
+fn filter(
+    alloc: Global,
+    pred: &Pred,
+    store: &Store,
+    before: Changes,
+    packet: Packet,
+) -> Result<Run, NoMemory>
+    requires { PredFits (length packet) 64 pred.now }
+    ensures ok { IfOk result (λ r. eval (Filter pred.now) (overlaid (arrays_of store.now) before) packet ≡ Some (meaning_over (arrays_of store.now) r)) }
+    ensures lengths { IfOk result (λ r. AllLong (length packet) (set_in r.copies)) }
 {
-    let mut outcome = Outcome::unchanged(alloc, store)?;
-    if holds(alloc, pred, store, packet)? {
-        outcome.packets.insert(packet.copy()?)?;
+    let copies = if holds(alloc, pred, store, &before, &packet)? {
+        Copies::One(packet)
+    } else {
+        Copies::none(alloc)
+    };
+    Ok(Run {
+        changes: before,
+        copies,
+        reads: read_by(pred),
+        writes: 0,
+    })
+}
+
+fn set(comp: u16, from: Atom, before: Changes, mut packet: Packet) -> Run
+    requires comp { comp < length packet }
+    requires from { AtomFits (length packet) from }
+    ensures ok { (m : Arrays) → eval (Set comp from) (overlaid m before) packet ≡ Some (meaning_over m result) }
+    ensures lengths { AllLong (length packet) (set_in result.copies) }
+{
+    let number = from.value(&packet);
+    packet.set(comp, number);
+    Run {
+        changes: before,
+        copies: Copies::One(packet),
+        reads: 0,
+        writes: 0,
     }
-    outcome.reads = read_by(pred);
-    Ok(outcome)
 }
 
-fn set(
-    alloc: Global,
-    comp: u16,
-    from: Atom,
-    store: &Store,
-    packet: &Packet,
-) -> Result<Outcome, NoMemory>
-    requires comp { comp < length packet.now }
-    requires from { AtomFits (length packet.now) from }
-    ensures ok { IfOk result (λ o. eval (Set comp from) (arrays_of store.now) packet.now ≡ Some (meaning_of o)) }
-    ensures lengths { IfOk result (λ o. AllLong (length packet.now) o.packets) }
+fn change(update: &Update, store: &Store, before: Changes, packet: Packet) -> Result<Run, NoMemory>
+    requires { UpdateFits (length packet) 64 update.now }
+    ensures ok { IfOk result (λ r. eval (Change update.now) (overlaid (arrays_of store.now) before) packet ≡ Some (meaning_over (arrays_of store.now) r)) }
+    ensures lengths { IfOk result (λ r. AllLong (length packet) (set_in r.copies)) }
 {
-    let mut outcome = Outcome::unchanged(alloc, store)?;
-    outcome
-        .packets
-        .insert(packet.with(comp, from.value(packet))?)?;
-    Ok(outcome)
-}
-
-fn change(
-    alloc: Global,
-    update: &Update,
-    store: &Store,
-    packet: &Packet,
-) -> Result<Outcome, NoMemory>
-    requires { UpdateFits (length packet.now) 64 update.now }
-    ensures ok { IfOk result (λ o. eval (Change update.now) (arrays_of store.now) packet.now ≡ Some (meaning_of o)) }
-    ensures lengths { IfOk result (λ o. AllLong (length packet.now) o.packets) }
-{
-    let mut outcome = Outcome::unchanged(alloc, store)?;
-    outcome.store.update(packet, update)?;
-    outcome.packets.insert(packet.copy()?)?;
-    outcome.writes = 1 << update.var;
-    Ok(outcome)
+    let mut changes = before;
+    changes.update(store, &packet, update)?;
+    Ok(Run {
+        changes,
+        copies: Copies::One(packet),
+        reads: 0,
+        writes: 1 << update.var,
+    })
 }
 
 // Whether a predicate is true.
-fn holds(alloc: Global, pred: &Pred, store: &Store, packet: &Packet) -> Result<bool, NoMemory>
+fn holds(
+    alloc: Global,
+    pred: &Pred,
+    store: &Store,
+    changes: &Changes,
+    packet: &Packet,
+) -> Result<bool, NoMemory>
     requires { PredFits (length packet.now) 64 pred.now }
-    ensures { IfOk result (λ answer. answer ≡ truth pred.now (arrays_of store.now) packet.now) }
+    ensures { IfOk result (λ answer. answer ≡ truth pred.now (overlaid (arrays_of store.now) changes.now) packet.now) }
 {
     match pred {
         Pred::Id => Ok(true),
         Pred::Drop => Ok(false),
         Pred::Field { comp, num } => Ok(packet.get(*comp) == *num),
         Pred::State { var, index, value } => {
-            let index = index_on(alloc, index, packet)?;
-            Ok(store.get(*var, &index) == value.value(packet))
+            let number = number_at(alloc, *var, index, store, changes, packet)?;
+            Ok(number == value.value(packet))
         }
         Pred::Not(part) => {
-            let answer = holds(alloc, part, store, packet)?;
+            let answer = holds(alloc, part, store, changes, packet)?;
             Ok(!answer)
         }
         Pred::And(left, right) => {
-            let a = holds(alloc, left, store, packet)?;
-            let b = holds(alloc, right, store, packet)?;
-            Ok(a && b)
+            if holds(alloc, left, store, changes, packet)? {
+                holds(alloc, right, store, changes, packet)
+            } else {
+                Ok(false)
+            }
         }
         Pred::Or(left, right) => {
-            let a = holds(alloc, left, store, packet)?;
-            let b = holds(alloc, right, store, packet)?;
-            Ok(a || b)
+            if holds(alloc, left, store, changes, packet)? {
+                Ok(true)
+            } else {
+                holds(alloc, right, store, changes, packet)
+            }
         }
     }
+}
+
+// The number at the place that index atoms give on a packet.
+fn number_at(
+    alloc: Global,
+    var: u16,
+    index: &Atoms,
+    store: &Store,
+    changes: &Changes,
+    packet: &Packet,
+) -> Result<u64, NoMemory>
+    requires { IndexFits (length packet.now) index.now }
+    ensures { IfOk result (λ number. number ≡ overlaid (arrays_of store.now) changes.now (place_at var index.now packet.now)) }
+{
+    let index = index_on(alloc, index, packet)?;
+    Ok(changes.number(store, var, &index))
 }
 
 // The variables that stand in a predicate, a bit each.

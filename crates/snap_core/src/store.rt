@@ -1,77 +1,20 @@
 //! Stores: the numbers of the state variables.
 
-ghost use Rattle.std.specs.Prelude.{◌≡◌, ◌+◌, ◌%◌, ◌^◌, ◌==◌, All, [], List, ℕ, OnOk, OnErr, IfOk, if◌then◌else◌, length};
-ghost use Rattle.std.specs.Str.{bytes_eq};
+ghost use Rattle.std.specs.Prelude.{◌≡◌, ◌≤◌, ◌+◌, ◌%◌, ◌^◌, ◌==◌, false, All, ℕ, OnOk, OnErr, IfOk, if◌then◌else◌, length, unwrap_or};
 ghost use Rattle.snap_core.specs.declared.place.Place.{Place};
-ghost use Rattle.snap_core.specs.Arrays.{updates, put, taken, update, zero_arrays};
-ghost use Rattle.snap_core.specs.Cells.{cell, arrays_of};
+ghost use Rattle.snap_core.specs.Arrays.{updates, put, zero_arrays};
+ghost use Rattle.snap_core.specs.Cells.{cell, arrays_of, overlaid, changed_at, room_at};
 ghost use Rattle.snap_core.specs.Fits.{UpdateFits};
-ghost use Rattle.snap_core.specs.Listing.{IsListing};
 
 use crate::NoMemory;
-use crate::atoms::index_on;
+use crate::array::Array;
+use crate::changes::Changes;
 use crate::packet::Packet;
-use crate::place::Entry;
-use crate::policy::{Op, Update};
+use crate::patch::Patch;
+use crate::policy::Update;
 use std::alloc::Global;
 use std::collections::BTreeMap;
 use std::marker::Model;
-
-/// One array: the numbers that aren't 0, each by its index.
-#[derive(Drop)]
-pub struct Array {
-    alloc: Global,
-    cells: BTreeMap<Vec<u64>, u64>,
-}
-
-impl Model for Array {
-    ghost use Rattle.snap_core.specs.Cells.{Cells, cells_of};
-
-    ghost Value = { Cells };
-
-    ghost view = { λ a. cells_of a.cells.entries };
-}
-
-impl Array {
-    pub fn new(alloc: Global) -> Array
-        ensures { result ≡ [] }
-    {
-        Array {
-            alloc,
-            cells: BTreeMap::new(alloc),
-        }
-    }
-
-    pub fn get(&self, index: &[u64]) -> u64
-        ensures { result ≡ cell self.now index.now }
-    {
-        self.cells.get(index).copied().unwrap_or(0)
-    }
-
-    pub fn copy(&self) -> Result<Array, NoMemory>
-        ensures { IfOk result (λ copy. copy ≡ self.now) }
-    {
-        let cells = self.cells.clone()?;
-        Ok(Array {
-            alloc: self.alloc,
-            cells,
-        })
-    }
-
-    /// Changes one number, and no other.
-    pub fn put(&mut self, index: &[u64], value: u64) -> Result<(), NoMemory>
-        ensures ok { OnOk result ((q : List ℕ) → cell self.new q ≡ (if bytes_eq index.now q then value else cell self.old q)) }
-        ensures err { OnErr result (self.new ≡ self.old) }
-    {
-        if value == 0 {
-            self.cells.remove(index);
-            return Ok(());
-        }
-        let key = Vec::from_slice(self.alloc, index)?;
-        self.cells.insert(key, value)?;
-        Ok(())
-    }
-}
 
 /// The numbers of all places, seen by `arrays_of` as the number at each place.
 #[derive(Drop)]
@@ -81,10 +24,9 @@ pub struct Store {
 }
 
 impl Model for Store {
-    ghost use Rattle.std.specs.Prelude.{List, ℕ};
-    ghost use Rattle.snap_core.specs.Cells.{Cells};
+    ghost use Rattle.snap_core.specs.Cells.{Kept};
 
-    ghost Value = { List (ℕ × Cells) };
+    ghost Value = { Kept };
 
     ghost view = { λ a. a.arrays.entries };
 }
@@ -104,7 +46,7 @@ impl Store {
         ensures { result ≡ arrays_of self.now (record { var = var; index = index.now }) }
     {
         match self.arrays.get(&var) {
-            Some(array) => array.get(index),
+            Some(array) => array.get(index).unwrap_or(0),
             None => 0,
         }
     }
@@ -128,25 +70,13 @@ impl Store {
     {
         let mut copy = Store::new(self.alloc);
         for var in self.arrays.keys() {
-            copy.take_array(self, *var)?;
+            copy.copy_array(self, *var)?;
         }
         Ok(copy)
     }
 
-    /// Takes the arrays of these variables from another store.
-    pub fn take_arrays(&mut self, other: &Store, vars: u64) -> Result<(), NoMemory>
-        ensures { OnOk result (arrays_of self.new ≡ taken (arrays_of self.old) (arrays_of other.now) vars) }
-    {
-        for var in 0..64u16 {
-            if (vars >> var) & 1 == 1 {
-                self.take_array(other, var)?;
-            }
-        }
-        Ok(())
-    }
-
-    // Takes one array.
-    fn take_array(&mut self, other: &Store, var: u16) -> Result<(), NoMemory>
+    // Makes one array as it is in another store.
+    fn copy_array(&mut self, other: &Store, var: u16) -> Result<(), NoMemory>
         ensures { OnOk result ((p : Place) → arrays_of self.new p ≡ (if var == p.var then arrays_of other.now p else arrays_of self.old p)) }
     {
         match other.arrays.get(&var) {
@@ -160,33 +90,6 @@ impl Store {
         Ok(())
     }
 
-    /// Does all updates in order, or none.
-    pub fn apply(&mut self, packet: &Packet, changes: &[Update]) -> Result<(), NoMemory>
-        requires { All (UpdateFits (length packet.now) 64) changes.now }
-        ensures ok { OnOk result (arrays_of self.new ≡ updates (arrays_of self.old) changes.now packet.now) }
-        ensures err { OnErr result (arrays_of self.new ≡ arrays_of self.old) }
-    {
-        let mut next = self.copy()?;
-        for change in changes {
-            next.update(packet, change)?;
-        }
-        *self = next;
-        Ok(())
-    }
-
-    /// Does one update.
-    pub(crate) fn update(&mut self, packet: &Packet, change: &Update) -> Result<(), NoMemory>
-        requires { UpdateFits (length packet.now) 64 change.now }
-        ensures ok { OnOk result (arrays_of self.new ≡ update (arrays_of self.old) change.now packet.now) }
-        ensures err { OnErr result (arrays_of self.new ≡ arrays_of self.old) }
-    {
-        let index = index_on(self.alloc, &change.index, packet)?;
-        match change.op {
-            Op::Put(atom) => self.put(change.var, &index, atom.value(packet)),
-            Op::Add(plus) => self.add(change.var, &index, plus),
-        }
-    }
-
     /// Adds to the number at one place, modulo 2^64.
     pub fn add(&mut self, var: u16, index: &[u64], value: u64) -> Result<(), NoMemory>
         ensures ok { OnOk result (let p : Place = record { var = var; index = index.now } in arrays_of self.new ≡ put (arrays_of self.old) p ((arrays_of self.old p + value) % 2 ^ 64)) }
@@ -196,10 +99,77 @@ impl Store {
         self.put(var, index, sum)
     }
 
-    /// The places that aren't 0, each with its number, rising by variable and then by index.
-    pub fn entries(&self) -> Result<Vec<Entry>, NoMemory>
-        ensures { IfOk result (λ entries. IsListing (arrays_of self.now) entries.items) }
+    /// Does all updates in order, or none.
+    pub fn apply(&mut self, packet: &Packet, changes: &[Update]) -> Result<(), NoMemory>
+        requires { All (UpdateFits (length packet.now) 64) changes.now }
+        ensures ok { OnOk result (arrays_of self.new ≡ updates (arrays_of self.old) changes.now packet.now) }
+        ensures err { OnErr result (arrays_of self.new ≡ arrays_of self.old) }
     {
-        Err(NoMemory)
+        let done = self.after_updates(packet, changes)?;
+        self.apply_changes(done)
+    }
+
+    // What updates in order change.
+    fn after_updates(&self, packet: &Packet, changes: &[Update]) -> Result<Changes, NoMemory>
+        requires { All (UpdateFits (length packet.now) 64) changes.now }
+        ensures { IfOk result (λ done. overlaid (arrays_of self.now) done ≡ updates (arrays_of self.now) changes.now packet.now) }
+    {
+        let mut done = Changes::new(self.alloc);
+        for change in changes {
+            done.update(self, packet, change)?;
+        }
+        Ok(done)
+    }
+
+    /// Does all changes, or none.
+    pub fn apply_changes(&mut self, changes: Changes) -> Result<(), NoMemory>
+        ensures ok { OnOk result (arrays_of self.new ≡ overlaid (arrays_of self.old) changes) }
+        ensures err { OnErr result (arrays_of self.new ≡ arrays_of self.old) }
+    {
+        self.make_room(&changes)?;
+        for (var, patch) in changes.into_patches() {
+            self.take(var, patch);
+        }
+        Ok(())
+    }
+
+    // Takes memory for all cells that changes have.
+    fn make_room(&mut self, changes: &Changes) -> Result<(), NoMemory>
+        ensures same { arrays_of self.new ≡ arrays_of self.old }
+        ensures room { OnOk result ((s : ℕ) → length (changed_at changes.now s) ≤ room_at self.new s) }
+    {
+        let patches = changes.patches();
+        for var in patches.keys() {
+            if let Some(patch) = patches.get(var) {
+                self.reserve(*var, patch.len())?;
+            }
+        }
+        Ok(())
+    }
+
+    // Takes memory for more cells of one variable.
+    fn reserve(&mut self, var: u16, more: usize) -> Result<(), NoMemory>
+        ensures same { arrays_of self.new ≡ arrays_of self.old }
+        ensures room { OnOk result (more ≤ room_at self.new var) }
+        ensures kept { (s : ℕ) → room_at self.old s ≤ room_at self.new s }
+    {
+        if let Some(array) = self.arrays.get_mut(&var) {
+            return array.reserve(more);
+        }
+        let mut array = Array::new(self.alloc);
+        array.reserve(more)?;
+        self.arrays.insert(var, array)?;
+        Ok(())
+    }
+
+    // Puts the numbers of a patch, for which there is room.
+    fn take(&mut self, var: u16, patch: Patch)
+        requires { length patch ≤ room_at self.old var }
+        ensures arrays { (p : Place) → arrays_of self.new p ≡ (if var == p.var then unwrap_or (cell patch p.index) (arrays_of self.old p) else arrays_of self.old p) }
+        ensures kept { (s : ℕ) → (var == s) ≡ false → room_at self.new s ≡ room_at self.old s }
+    {
+        if let Some(array) = self.arrays.get_mut(&var) {
+            array.take(patch);
+        }
     }
 }

@@ -1,4 +1,4 @@
-use crate::eval::evaluate;
+use crate::eval::eval;
 use crate::lists::Atoms;
 use crate::outcome::EvalFault;
 use crate::packet::Packet;
@@ -52,7 +52,7 @@ fn a_pending_update_is_seen_by_a_later_test(rt: HostRuntime) -> Result<(), Fail>
     let store = Store::new(alloc);
     let packet = Packet::new(vec![in alloc; 7, 0, 7, u64::MAX]?);
     assert!(rt; body.fits(packet.comps().len(), 64));
-    let outcome = evaluate(alloc, &body, &store, &packet);
+    let outcome = eval(alloc, &body, &store, &packet);
     match outcome {
         Ok(outcome) => {
             assert!(rt; outcome.packets.list().len() == 1);
@@ -78,8 +78,8 @@ fn two_copies_that_both_count_are_undefined(rt: HostRuntime) -> Result<(), Fail>
     let other = Packet::new(vec![in alloc; 1, 3]?);
     assert!(rt; body.fits(same.comps().len(), 64));
     assert!(rt; body.fits(other.comps().len(), 64));
-    assert!(rt; evaluate(alloc, &body, &store, &same).is_ok());
-    match evaluate(alloc, &body, &store, &other) {
+    assert!(rt; eval(alloc, &body, &store, &same).is_ok());
+    match eval(alloc, &body, &store, &other) {
         Ok(_) => assert!(rt; false),
         Err(fault) => assert!(rt; fault == EvalFault::Undefined),
     }

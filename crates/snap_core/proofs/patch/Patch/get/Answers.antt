@@ -1,0 +1,9 @@
+use Rattle.std.proofs.Common.{ap, ◌∙◌}
+use Rattle.snap_core.specs.Cells.{cell}
+use Rattle.snap_core.proofs.CellLemmas.{cell-ordered}
+use Rattle.snap_core.proofs.patch.Patch.get.Goals as goal
+
+pub returns : goal.returns
+returns c =
+    c.copied.ensures ∙ c.get.ensures.value ∙ cell-ordered c.args.index.now c.self.inside.cells.entries
+    ∙ ap (λ m. cell m c.args.index.now) c.self.view_is

@@ -1,0 +1,10 @@
+use Rattle.std.proofs.Common.{ap, ◌∙◌, Some, cond}
+use Rattle.std.specs.Str.{bytes_eq}
+use Rattle.snap_core.specs.Cells.{cell}
+use Rattle.snap_core.proofs.CellLemmas.{cell-ordered_update}
+use Rattle.snap_core.proofs.patch.Patch.put.Goals as goal
+
+pub returns-clause-ok : goal.returns-clause-ok
+returns-clause-ok c = λ q.
+    cell-ordered_update c.args.index.items c.self.inside.cells c.insert.new.self (Some c.args.value) c.in_ok-insert.ensures.updates q
+    ∙ ap (λ m. cond (bytes_eq c.args.index.items q) (Some c.args.value) (cell m q)) c.self.view_is

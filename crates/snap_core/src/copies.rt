@@ -1,0 +1,64 @@
+//! The packets of an evaluation.
+
+ghost use Rattle.std.specs.Prelude.{◌≡◌, IfOk};
+ghost use Rattle.snap_core.specs.Packets.{no_packets, union, with_packets};
+ghost use Rattle.snap_core.specs.Runs.{set_in};
+
+use crate::NoMemory;
+use crate::packet::Packet;
+use crate::packets::Packets;
+use std::alloc::Global;
+
+/// One packet, or packets in no order. Equal ones count once.
+#[derive(Drop)]
+pub enum Copies {
+    One(Packet),
+    Many(Vec<Packet>),
+}
+
+impl Copies {
+    pub(crate) fn none(alloc: Global) -> Copies
+        ensures { set_in result ≡ no_packets }
+    {
+        Copies::Many(Vec::new(alloc))
+    }
+
+    /// Both together.
+    pub(crate) fn join(self, alloc: Global, other: Copies) -> Result<Copies, NoMemory>
+        ensures { IfOk result (λ both. set_in both ≡ union (set_in self) (set_in other)) }
+    {
+        let mut all = self.into_vec(alloc)?;
+        match other {
+            Copies::One(packet) => all.push(packet)?,
+            Copies::Many(mut packets) => all.append(&mut packets)?,
+        }
+        Ok(Copies::Many(all))
+    }
+
+    fn into_vec(self, alloc: Global) -> Result<Vec<Packet>, NoMemory>
+        ensures { IfOk result (λ packets. with_packets no_packets packets.items ≡ set_in self) }
+    {
+        match self {
+            Copies::One(packet) => {
+                let mut packets = Vec::new(alloc);
+                packets.push(packet)?;
+                Ok(packets)
+            }
+            Copies::Many(packets) => Ok(packets),
+        }
+    }
+
+    /// The set of these packets.
+    pub fn into_set(self, alloc: Global) -> Result<Packets, NoMemory>
+        ensures { IfOk result (λ packets. packets ≡ set_in self) }
+    {
+        match self {
+            Copies::One(packet) => {
+                let mut packets = Packets::new(alloc);
+                packets.insert(packet)?;
+                Ok(packets)
+            }
+            Copies::Many(packets) => Packets::from_list(alloc, packets),
+        }
+    }
+}
