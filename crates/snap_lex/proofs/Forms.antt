@@ -114,4 +114,3 @@ no_form bytes letter digit none n (as_sign sign h) = none sign n h
 
 pub never : false ≡ true → ⊥
 never e = cc
-

@@ -10,11 +10,10 @@ use Rattle.snap_parse.specs.declared.tree.Source.{Source}
 use Rattle.snap_parse.specs.declared.tree.Policy.{Policy, Policy-F, fold-Policy}
 use Rattle.snap_parse.specs.declared.tree.Sequence.{Sequence, Sequence-F, fold-Sequence}
 use Rattle.snap_parse.specs.declared.tree.Choice.{Choice, Choice-F, fold-Choice}
-use Rattle.snap_parse.specs.declared.tree.Choice.TheOpen.{If, Plain}
+use Rattle.snap_parse.specs.declared.tree.Choice.TheOpen.{If, Plain, Not, Id, Drop, Group, Atomic, Name, Test, Set, Bare, ArrayTest, ArraySet, Up, Down, ArrayAdd, ArraySub}
 use Rattle.snap_parse.specs.declared.tree.Either.{Either, Either-F, fold-Either}
 use Rattle.snap_parse.specs.declared.tree.Both.{Both, Both-F, fold-Both}
 use Rattle.snap_parse.specs.declared.tree.Single.{Single, Single-F, fold-Single}
-use Rattle.snap_parse.specs.declared.tree.Single.TheOpen.{Not, Id, Drop, Group, Atomic, Name, Test, Set, Bare, ArrayTest, ArraySet, Up, Down, ArrayAdd, ArraySub}
 
 -- A repeated part is the place of its first token, and the list of its operands, which grows at its end.
 mutual
@@ -124,11 +123,11 @@ both_append b [] = b
 both_append b (s ∷ ss) = both_append (both_more b s) ss
 
 -- The tree of a node, from the trees of its children.
-abbrev pub choice_node : Choice-F ChoiceTree SingleTree PolicyTree SequenceTree EitherTree BothTree → ChoiceTree
+abbrev pub choice_node : Choice-F ChoiceTree SingleTree BothTree EitherTree PolicyTree SequenceTree → ChoiceTree
 choice_node (If at test met unmet) = if_tree at test met.value unmet.value
 choice_node (Plain e) = plain_tree e
 
-abbrev pub single_node : Single-F ChoiceTree SingleTree PolicyTree SequenceTree EitherTree BothTree → SingleTree
+abbrev pub single_node : Single-F ChoiceTree SingleTree BothTree EitherTree PolicyTree SequenceTree → SingleTree
 single_node (Not at part) = not_tree at part.value
 single_node (Id at) = id_tree at
 single_node (Drop at) = drop_tree at
@@ -145,35 +144,35 @@ single_node (Down name places) = down_tree name places.items
 single_node (ArrayAdd name places value) = array_add_tree name places.items value
 single_node (ArraySub name places value) = array_sub_tree name places.items value
 
-abbrev pub policy_node : Policy-F ChoiceTree SingleTree PolicyTree SequenceTree EitherTree BothTree → PolicyTree
+abbrev pub policy_node : Policy-F ChoiceTree SingleTree BothTree EitherTree PolicyTree SequenceTree → PolicyTree
 policy_node p = policy_append (policy_begin p.at) p.parts.items
 
-abbrev pub sequence_node : Sequence-F ChoiceTree SingleTree PolicyTree SequenceTree EitherTree BothTree → SequenceTree
+abbrev pub sequence_node : Sequence-F ChoiceTree SingleTree BothTree EitherTree PolicyTree SequenceTree → SequenceTree
 sequence_node s = sequence_append (sequence_begin s.at) s.parts.items
 
-abbrev pub either_node : Either-F ChoiceTree SingleTree PolicyTree SequenceTree EitherTree BothTree → EitherTree
+abbrev pub either_node : Either-F ChoiceTree SingleTree BothTree EitherTree PolicyTree SequenceTree → EitherTree
 either_node e = either_append (either_begin e.at) e.parts.items
 
-abbrev pub both_node : Both-F ChoiceTree SingleTree PolicyTree SequenceTree EitherTree BothTree → BothTree
+abbrev pub both_node : Both-F ChoiceTree SingleTree BothTree EitherTree PolicyTree SequenceTree → BothTree
 both_node b = both_append (both_begin b.at) b.parts.items
 
 unfoldable pub policy_tree : Policy → PolicyTree
-policy_tree = fold-Policy ChoiceTree SingleTree PolicyTree SequenceTree EitherTree BothTree choice_node single_node policy_node sequence_node either_node both_node
+policy_tree = fold-Policy ChoiceTree SingleTree BothTree EitherTree PolicyTree SequenceTree choice_node single_node both_node either_node policy_node sequence_node
 
 unfoldable pub sequence_tree : Sequence → SequenceTree
-sequence_tree = fold-Sequence ChoiceTree SingleTree PolicyTree SequenceTree EitherTree BothTree choice_node single_node policy_node sequence_node either_node both_node
+sequence_tree = fold-Sequence ChoiceTree SingleTree BothTree EitherTree PolicyTree SequenceTree choice_node single_node both_node either_node policy_node sequence_node
 
 unfoldable pub choice_tree : Choice → ChoiceTree
-choice_tree = fold-Choice ChoiceTree SingleTree PolicyTree SequenceTree EitherTree BothTree choice_node single_node policy_node sequence_node either_node both_node
+choice_tree = fold-Choice ChoiceTree SingleTree BothTree EitherTree PolicyTree SequenceTree choice_node single_node both_node either_node policy_node sequence_node
 
 unfoldable pub either_tree : Either → EitherTree
-either_tree = fold-Either ChoiceTree SingleTree PolicyTree SequenceTree EitherTree BothTree choice_node single_node policy_node sequence_node either_node both_node
+either_tree = fold-Either ChoiceTree SingleTree BothTree EitherTree PolicyTree SequenceTree choice_node single_node both_node either_node policy_node sequence_node
 
 unfoldable pub both_tree : Both → BothTree
-both_tree = fold-Both ChoiceTree SingleTree PolicyTree SequenceTree EitherTree BothTree choice_node single_node policy_node sequence_node either_node both_node
+both_tree = fold-Both ChoiceTree SingleTree BothTree EitherTree PolicyTree SequenceTree choice_node single_node both_node either_node policy_node sequence_node
 
 unfoldable pub single_tree : Single → SingleTree
-single_tree = fold-Single ChoiceTree SingleTree PolicyTree SequenceTree EitherTree BothTree choice_node single_node policy_node sequence_node either_node both_node
+single_tree = fold-Single ChoiceTree SingleTree BothTree EitherTree PolicyTree SequenceTree choice_node single_node both_node either_node policy_node sequence_node
 
 abbrev pub decl_tree : Decl → DeclTree
 decl_tree (decls.Field at name prefix) = field_tree at name prefix

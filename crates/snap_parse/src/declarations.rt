@@ -43,11 +43,7 @@ impl Parser {
     }
 
     // What stands behind the `field` at `at`.
-    fn field<'a>(
-        &self,
-        at: u32,
-        tokens: &'a [Token],
-    ) -> Result<(Decl, &'a [Token]), ParseFault> {
+    fn field<'a>(&self, at: u32, tokens: &'a [Token]) -> Result<(Decl, &'a [Token]), ParseFault> {
         let (word, rest) = self.expect(tokens, Kind::Word)?;
         let name = span(word);
         match next_if(rest, Kind::Sign(Sign::Slash)) {
@@ -66,11 +62,7 @@ impl Parser {
     }
 
     // What stands behind the `array` at `at`.
-    fn array<'a>(
-        &self,
-        at: u32,
-        tokens: &'a [Token],
-    ) -> Result<(Decl, &'a [Token]), ParseFault> {
+    fn array<'a>(&self, at: u32, tokens: &'a [Token]) -> Result<(Decl, &'a [Token]), ParseFault> {
         let (word, rest) = self.expect(tokens, Kind::Word)?;
         let (_, rest) = self.expect(rest, Kind::Sign(Sign::Semicolon))?;
         Ok((
@@ -97,11 +89,7 @@ impl Parser {
     }
 
     // What stands behind the `let` at `at`.
-    fn binding<'a>(
-        &self,
-        at: u32,
-        tokens: &'a [Token],
-    ) -> Result<(Decl, &'a [Token]), ParseFault> {
+    fn binding<'a>(&self, at: u32, tokens: &'a [Token]) -> Result<(Decl, &'a [Token]), ParseFault> {
         let (word, rest) = self.expect(tokens, Kind::Word)?;
         let (open, rest) = self.expect(rest, Kind::Sign(Sign::OpenCurly))?;
         let (body, rest) = self.enclosed(open.from, rest, Kind::Sign(Sign::CloseCurly), 0)?;

@@ -17,12 +17,13 @@ pub mod tree;
 pub mod values;
 
 pub use cursor::MAX_DEPTH;
-pub use fault::ParseFault;
-pub use tree::{Both, Choice, Decl, Either, Literal, Policy, Sequence, Single, Source, Span, Value};
-
 use cursor::Parser;
+pub use fault::ParseFault;
 use snap_lex::Token;
 use std::alloc::Global;
+pub use tree::{
+    Both, Choice, Decl, Either, Literal, Policy, Sequence, Single, Source, Span, Value,
+};
 
 /// The tree that the text's tokens derive.
 ///

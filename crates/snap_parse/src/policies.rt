@@ -98,11 +98,7 @@ impl Parser {
     }
 
     #[cycle(parser)]
-    fn both<'a>(
-        &self,
-        tokens: &'a [Token],
-        depth: u32,
-    ) -> Result<(Both, &'a [Token]), ParseFault> {
+    fn both<'a>(&self, tokens: &'a [Token], depth: u32) -> Result<(Both, &'a [Token]), ParseFault> {
         let at = self.place(tokens);
         let mut parts = Vec::new(self.alloc);
         let mut rest = tokens;
@@ -203,20 +199,48 @@ impl Parser {
     ) -> Result<(Single, &'a [Token]), ParseFault> {
         if let Some((_, rest)) = next_if(tokens, Kind::Sign(Sign::Equals)) {
             let (value, rest) = self.value(rest)?;
-            Ok((Single::ArrayTest { name, places, value }, rest))
+            Ok((
+                Single::ArrayTest {
+                    name,
+                    places,
+                    value,
+                },
+                rest,
+            ))
         } else if let Some((_, rest)) = next_if(tokens, Kind::Sign(Sign::Arrow)) {
             let (value, rest) = self.value(rest)?;
-            Ok((Single::ArraySet { name, places, value }, rest))
+            Ok((
+                Single::ArraySet {
+                    name,
+                    places,
+                    value,
+                },
+                rest,
+            ))
         } else if let Some((_, rest)) = next_if(tokens, Kind::Sign(Sign::PlusPlus)) {
             Ok((Single::Up { name, places }, rest))
         } else if let Some((_, rest)) = next_if(tokens, Kind::Sign(Sign::MinusMinus)) {
             Ok((Single::Down { name, places }, rest))
         } else if let Some((_, rest)) = next_if(tokens, Kind::Sign(Sign::PlusEquals)) {
             let (value, rest) = self.value(rest)?;
-            Ok((Single::ArrayAdd { name, places, value }, rest))
+            Ok((
+                Single::ArrayAdd {
+                    name,
+                    places,
+                    value,
+                },
+                rest,
+            ))
         } else if let Some((_, rest)) = next_if(tokens, Kind::Sign(Sign::MinusEquals)) {
             let (value, rest) = self.value(rest)?;
-            Ok((Single::ArraySub { name, places, value }, rest))
+            Ok((
+                Single::ArraySub {
+                    name,
+                    places,
+                    value,
+                },
+                rest,
+            ))
         } else {
             Ok((Single::Bare { name, places }, tokens))
         }

@@ -45,7 +45,10 @@ pub enum Decl {
         prefix: Option<Span>,
     },
     /// `array name;`
-    Array { at: u32, name: Span },
+    Array {
+        at: u32,
+        name: Span,
+    },
     /// `const name = value;`
     Const {
         at: u32,
@@ -53,7 +56,11 @@ pub enum Decl {
         value: Literal,
     },
     /// `let name { body }`
-    Let { at: u32, name: Span, body: Policy },
+    Let {
+        at: u32,
+        name: Span,
+        body: Policy,
+    },
 }
 
 /// Sequences joined by `+`.
@@ -106,23 +113,45 @@ pub struct Both {
 #[derive(Drop)]
 pub enum Single {
     /// `!part`
-    Not { at: u32, part: Box<Single> },
+    Not {
+        at: u32,
+        part: Box<Single>,
+    },
     /// `id`
-    Id { at: u32 },
+    Id {
+        at: u32,
+    },
     /// `drop`
-    Drop { at: u32 },
+    Drop {
+        at: u32,
+    },
     /// `(body)`
-    Group { at: u32, body: Box<Policy> },
+    Group {
+        at: u32,
+        body: Box<Policy>,
+    },
     /// `atomic(body)`
-    Atomic { at: u32, body: Box<Policy> },
+    Atomic {
+        at: u32,
+        body: Box<Policy>,
+    },
     /// `name`
     Name(Span),
     /// `name = value`
-    Test { name: Span, value: Value },
+    Test {
+        name: Span,
+        value: Value,
+    },
     /// `name <- value`
-    Set { name: Span, value: Value },
+    Set {
+        name: Span,
+        value: Value,
+    },
     /// `name[place]`, with one place or more, as in the forms below
-    Bare { name: Span, places: Vec<Value> },
+    Bare {
+        name: Span,
+        places: Vec<Value>,
+    },
     /// `name[place] = value`
     ArrayTest {
         name: Span,
@@ -136,9 +165,15 @@ pub enum Single {
         value: Value,
     },
     /// `name[place]++`
-    Up { name: Span, places: Vec<Value> },
+    Up {
+        name: Span,
+        places: Vec<Value>,
+    },
     /// `name[place]--`
-    Down { name: Span, places: Vec<Value> },
+    Down {
+        name: Span,
+        places: Vec<Value>,
+    },
     /// `name[place] += value`
     ArrayAdd {
         name: Span,

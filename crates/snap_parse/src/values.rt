@@ -18,10 +18,7 @@ fn literal_of(token: Token) -> Option<Literal> {
 
 impl Parser {
     // A literal.
-    pub fn literal<'a>(
-        &self,
-        tokens: &'a [Token],
-    ) -> Result<(Literal, &'a [Token]), ParseFault> {
+    pub fn literal<'a>(&self, tokens: &'a [Token]) -> Result<(Literal, &'a [Token]), ParseFault> {
         let (token, rest) = self.next(tokens)?;
         match literal_of(token) {
             Some(literal) => Ok((literal, rest)),
@@ -59,10 +56,7 @@ impl Parser {
     }
 
     // The values in a name's places, from behind the first `[`.
-    pub fn places<'a>(
-        &self,
-        tokens: &'a [Token],
-    ) -> Result<(Vec<Value>, &'a [Token]), ParseFault> {
+    pub fn places<'a>(&self, tokens: &'a [Token]) -> Result<(Vec<Value>, &'a [Token]), ParseFault> {
         let mut places = Vec::new(self.alloc);
         let mut rest = tokens;
         'places: loop {
