@@ -9,6 +9,8 @@ ghost use Rattle.snap_lex.specs.declared.LexFault.TheVariants.{BadByte, BadNumbe
 pub mod address;
 pub mod bytes;
 pub mod lexemes;
+#[cfg(test)]
+mod tests;
 
 use bytes::is_blank;
 use lexemes::{behind, comment_len, token_at};
