@@ -1,3 +1,5 @@
 pub mod Tree
 pub mod Grammar
+pub mod Kinds
+pub mod Machine
 pub mod Parsing
