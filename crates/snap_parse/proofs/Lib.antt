@@ -4,3 +4,6 @@ pub mod Into
 pub mod Out
 pub mod Live
 pub mod Exact
+pub mod Steps
+pub mod Trees
+pub mod Parts

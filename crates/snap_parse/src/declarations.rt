@@ -39,17 +39,21 @@ impl Parser {
         ensures shortens { ShortensIfSome tokens.now result }
         ensures reads { ReadsDeclaration MAX_DEPTH self.now.end tokens.now result }
     {
-        let Some((token, rest)) = tokens.split_first() else {
-            return Ok(None);
-        };
-        let found = match token.kind {
-            Kind::Key(Key::Field) => self.field(token.from, rest)?,
-            Kind::Key(Key::Array) => self.array(token.from, rest)?,
-            Kind::Key(Key::Const) => self.constant(token.from, rest)?,
-            Kind::Key(Key::Let) => self.binding(token.from, rest)?,
-            _ => return Ok(None),
-        };
-        Ok(Some(found))
+        if let Some((token, rest)) = next_if(tokens, Kind::Key(Key::Field)) {
+            let found = self.field(token.from, rest)?;
+            Ok(Some(found))
+        } else if let Some((token, rest)) = next_if(tokens, Kind::Key(Key::Array)) {
+            let found = self.array(token.from, rest)?;
+            Ok(Some(found))
+        } else if let Some((token, rest)) = next_if(tokens, Kind::Key(Key::Const)) {
+            let found = self.constant(token.from, rest)?;
+            Ok(Some(found))
+        } else if let Some((token, rest)) = next_if(tokens, Kind::Key(Key::Let)) {
+            let found = self.binding(token.from, rest)?;
+            Ok(Some(found))
+        } else {
+            Ok(None)
+        }
     }
 
     // What stands behind the `field` at `at`.
