@@ -7,3 +7,4 @@ pub mod Exact
 pub mod Steps
 pub mod Trees
 pub mod Parts
+pub mod Told

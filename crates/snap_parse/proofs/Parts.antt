@@ -137,19 +137,33 @@ module _ (limit end : ℕ) where
       (ap (λ o. follow limit end (on_literal o (in_constant_value ds at name)) (t ∷ ts)) (h.1 t ts refl) ∙ stays limit end stuck (t ∷ ts) refl)
 
   -- what is no single
-  pub begins_no_single : (kind : Kind) (t : Token) (k : AfterSingle) → kind ≢ kinds.Sign signs.Not → kind ≢ kinds.Key keys.Id → kind ≢ kinds.Key keys.Drop →
-      kind ≢ kinds.Sign signs.OpenRound → kind ≢ kinds.Key keys.Atomic → kind ≢ kinds.Word → begin_single k t kind ≡ stuck
+  begins_no_single : (kind : Kind) (t : Token) (k : AfterSingle) → kind ≢ kinds.Sign signs.Not → kind ≢ kinds.Sign signs.OpenRound → kind ≢ kinds.Key keys.Id →
+      kind ≢ kinds.Key keys.Drop → kind ≢ kinds.Key keys.Atomic → kind ≢ kinds.Word → begin_single k t kind ≡ stuck
   begins_no_single (kinds.Sign signs.Not) t k a b c d e f = absurd (a refl)
-  begins_no_single (kinds.Key keys.Id) t k a b c d e f = absurd (b refl)
-  begins_no_single (kinds.Key keys.Drop) t k a b c d e f = absurd (c refl)
-  begins_no_single (kinds.Sign signs.OpenRound) t k a b c d e f = absurd (d refl)
+  begins_no_single (kinds.Sign signs.OpenRound) t k a b c d e f = absurd (b refl)
+  begins_no_single (kinds.Key keys.Id) t k a b c d e f = absurd (c refl)
+  begins_no_single (kinds.Key keys.Drop) t k a b c d e f = absurd (d refl)
   begins_no_single (kinds.Key keys.Atomic) t k a b c d e f = absurd (e refl)
   begins_no_single kinds.Word t k a b c d e f = absurd (f refl)
   begins_no_single _ t k a b c d e f = refl
 
-  pub no_single : (ts rest : List Token) (t : Token) (k : AfterSingle) → ts ≡ t ∷ rest → begin_single k t t.kind ≡ stuck →
-      run limit end (at_single k) ts ≡ Err (Unexpected t.from)
-  no_single ts rest t k is none = begins limit end (begin_single k) ts rest t t.kind is refl ∙ stays limit end (begin_single k t t.kind) (t ∷ rest) none
+  pub refuses_single : (k : AfterSingle) (ts : List Token) (e : ParseFault) → Lacks (kinds.Sign signs.Not) ts → Lacks (kinds.Sign signs.OpenRound) ts → Lacks (kinds.Key keys.Id) ts →
+      Lacks (kinds.Key keys.Drop) ts → Lacks (kinds.Key keys.Atomic) ts → (e ≡ Unexpected (place end ts)) × Lacks kinds.Word ts → Refuses e (run limit end (at_single k) ts)
+  refuses_single k [] e a b c d g h = subst (λ x. Refuses x (run limit end (at_single k) [])) (sym h.0) (stays limit end stuck [] refl)
+  refuses_single k (t ∷ ts) e a b c d g h =
+      subst (λ x. Refuses x (run limit end (at_single k) (t ∷ ts))) (sym h.0)
+      (stays limit end (begin_single k t t.kind) (t ∷ ts)
+      (begins_no_single t.kind t k (a t ts refl) (b t ts refl) (c t ts refl) (d t ts refl) (g t ts refl) (h.1 t ts refl)))
+
+  -- behind the whole program
+  pub ends : (ds : List DeclTree) (p : PolicyTree) (ts : List Token) → ts ≡ [] → run limit end (past_policy p (the_end ds)) ts ≡ Ok (record { decls = ds; policy = p })
+  unfolding follow
+  ends ds p ts is = ap (run limit end (past_policy p (the_end ds))) is
+
+  pub goes_past : (ds : List DeclTree) (p : PolicyTree) (ts : List Token) → ts ≢ [] → run limit end (past_policy p (the_end ds)) ts ≡ Err (Unexpected (place end ts))
+  unfolding follow
+  goes_past ds p [] other = absurd (other refl)
+  goes_past ds p (t ∷ ts) other = refl
 
   -- what the exit of a `?` returns
   pub exits_places : (ts : List Token) (r : Result (Vec Value Global × Bor (List Token)) ParseFault) (e : ParseFault) → IsErrAnd r (λ y. y ≡ e) →

@@ -150,26 +150,27 @@ impl Parser {
         ensures shortens { Shortens tokens.now result }
         ensures reads { ReadsSingle MAX_DEPTH self.now.end depth tokens.now result }
     {
-        let (token, rest) = self.next(tokens)?;
-        let at = token.from;
-        match token.kind {
-            Kind::Sign(Sign::Not) => self.negation(at, rest, depth),
-            Kind::Key(Key::Id) => Ok((Single::Id { at }, rest)),
-            Kind::Key(Key::Drop) => Ok((Single::Drop { at }, rest)),
-            Kind::Sign(Sign::OpenRound) => {
-                let (body, rest) = self.enclosed(at, rest, Kind::Sign(Sign::CloseRound), depth)?;
-                let body = Box::new(self.alloc, body)?;
-                Ok((Single::Group { at, body }, rest))
-            }
-            Kind::Key(Key::Atomic) => {
-                let (open, rest) = self.expect(rest, Kind::Sign(Sign::OpenRound))?;
-                let close = Kind::Sign(Sign::CloseRound);
-                let (body, rest) = self.enclosed(open.from, rest, close, depth)?;
-                let body = Box::new(self.alloc, body)?;
-                Ok((Single::Atomic { at, body }, rest))
-            }
-            Kind::Word => self.named(span(token), rest),
-            _ => Err(ParseFault::Unexpected { at }),
+        if let Some((token, rest)) = next_if(tokens, Kind::Sign(Sign::Not)) {
+            self.negation(token.from, rest, depth)
+        } else if let Some((token, rest)) = next_if(tokens, Kind::Sign(Sign::OpenRound)) {
+            let at = token.from;
+            let (policy, rest) = self.enclosed(at, rest, Kind::Sign(Sign::CloseRound), depth)?;
+            let body = Box::new(self.alloc, policy)?;
+            Ok((Single::Group { at, body }, rest))
+        } else if let Some((token, rest)) = next_if(tokens, Kind::Key(Key::Id)) {
+            Ok((Single::Id { at: token.from }, rest))
+        } else if let Some((token, rest)) = next_if(tokens, Kind::Key(Key::Drop)) {
+            Ok((Single::Drop { at: token.from }, rest))
+        } else if let Some((token, rest)) = next_if(tokens, Kind::Key(Key::Atomic)) {
+            let at = token.from;
+            let (open, rest) = self.expect(rest, Kind::Sign(Sign::OpenRound))?;
+            let close = Kind::Sign(Sign::CloseRound);
+            let (atom, rest) = self.enclosed(open.from, rest, close, depth)?;
+            let body = Box::new(self.alloc, atom)?;
+            Ok((Single::Atomic { at, body }, rest))
+        } else {
+            let (word, rest) = self.expect(tokens, Kind::Word)?;
+            self.named(span(word), rest)
         }
     }
 

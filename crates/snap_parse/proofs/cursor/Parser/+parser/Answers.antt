@@ -18,10 +18,9 @@ use Rattle.snap_parse.specs.Tree.{policy_tree, sequence_tree, choice_tree, eithe
 use Rattle.snap_parse.specs.declared.fault.ParseFault.TheVariants.{Unexpected}
 use Rattle.snap_parse.specs.declared.cursor.TheConstants.{MAX_DEPTH}
 use Rattle.snap_parse.proofs.Steps.{goes, takes, met, missed, wanted, begins, refuses, refuses_end, refuses_kind, refuses_wanted, refuses_depth, exits, comes_on}
-use Rattle.snap_parse.proofs.Parts.{plain, no_decl, refuses_value, reads_literal, reads_constant, refuses_constant, begins_no_single, no_single, exits_places, exits_declaration, placed-Equals, placed-Arrow, placed-PlusPlus, placed-MinusMinus, placed-PlusEquals, placed-MinusEquals, placed-alone, after_name-Equals, after_name-Arrow, after_name-OpenSquare, after_name-alone}
+use Rattle.snap_parse.proofs.Parts.{plain, no_decl, refuses_value, reads_literal, reads_constant, refuses_constant, refuses_single, ends, goes_past, exits_places, exits_declaration, placed-Equals, placed-Arrow, placed-PlusPlus, placed-MinusMinus, placed-PlusEquals, placed-MinusEquals, placed-alone, after_name-Equals, after_name-Arrow, after_name-OpenSquare, after_name-alone}
 use Rattle.snap_parse.proofs.Trees.{single_tree-Not, single_tree-Id, single_tree-Drop, single_tree-Group, single_tree-Atomic, single_tree-Name, single_tree-Test, single_tree-Set, single_tree-Bare, single_tree-Up, single_tree-Down, single_tree-ArrayTest, single_tree-ArraySet, single_tree-ArrayAdd, single_tree-ArraySub, choice_tree-Plain, choice_tree-If, policy_tree-roll, sequence_tree-out, either_tree-roll, both_tree-out, policy_next, sequence_next, either_next, both_next}
 use Rattle.snap_parse.proofs.cursor.Parser.+parser.Goals as goal
-use Rattle.snap_parse.proofs.cursor.Parser.+parser.Goals.{single-in_default-via-in-Sign+in_default, single-in_default-via-in-Key+in_default, single-in_default-via-in_default}
 
 pub policy-parts-preserved : goal.policy-parts-preserved
 policy-parts-preserved t c = let end = c.args.self.now.end in
@@ -212,68 +211,65 @@ enclosed-returns-clause-reads t c = λ k next tok d here close deep. let end = c
     ∙ (c.in_ok-policy.ensures.reads k (omega (arith, d, c.in_ok-inner.ensures.0)) ∙ ap (λ m. follow MAX_DEPTH end m c.in_ok-policy.rest.now) (close (policy_tree c.in_ok-policy.policy) c.in_ok-policy.rest.now)))
     ∙ met MAX_DEPTH end c.args.close (next (policy_tree c.in_ok-policy.policy)) stuck c.in_ok-policy.rest.now c.in_ok-rest.rest.now _ c.in_ok-rest.ensures (deep (policy_tree c.in_ok-policy.policy))
 
-pub single-returns-in_err-token-clause-reads : goal.single-returns-in_err-token-clause-reads
-single-returns-in_err-token-clause-reads t c = λ k d. let end = c.args.self.now.end in
+pub single-returns-in-Some-clause-reads : goal.single-returns-in-Some-clause-reads
+single-returns-in-Some-clause-reads t c = λ k d. let end = c.args.self.now.end in
+    comes_on MAX_DEPTH end (λ x. past_single (single_tree x) k) c.negation.result (step (at_single k) (front c.args.tokens.now)) (go (at_single (end_of_not c.in-Some.token.from k))) c.args.tokens.now (c.in-Some.token ∷ c.in-Some.rest.now)
+    (begins MAX_DEPTH end (begin_single k) c.args.tokens.now c.in-Some.rest.now c.in-Some.token (kinds.Sign signs.Not) c.in-Some.ensures.0 c.in-Some.ensures.1) (c.negation.ensures.reads k c.in-Some.token d refl)
+
+pub single-returns-in-Some-next_if-2-clause-reads : goal.single-returns-in-Some-next_if-2-clause-reads
+single-returns-in-Some-next_if-2-clause-reads t c = λ k d. let end = c.args.self.now.end in
+    begins MAX_DEPTH end (begin_single k) c.args.tokens.now c.in-Some-next_if-2.rest.now c.in-Some-next_if-2.token (kinds.Key keys.Id) c.in-Some-next_if-2.ensures.0 c.in-Some-next_if-2.ensures.1
+    ∙ (goes MAX_DEPTH end (past_single (id_tree c.in-Some-next_if-2.token.from) k) c.in-Some-next_if-2.token c.in-Some-next_if-2.rest.now (omega (arith, d, c.requires))
+    ∙ ap (λ x. run MAX_DEPTH end (past_single x k) c.in-Some-next_if-2.rest.now) (sym (single_tree-Id c.in-Some-next_if-2.token.from)))
+
+pub single-returns-in-Some-next_if-3-clause-reads : goal.single-returns-in-Some-next_if-3-clause-reads
+single-returns-in-Some-next_if-3-clause-reads t c = λ k d. let end = c.args.self.now.end in
+    begins MAX_DEPTH end (begin_single k) c.args.tokens.now c.in-Some-next_if-3.rest.now c.in-Some-next_if-3.token (kinds.Key keys.Drop) c.in-Some-next_if-3.ensures.0 c.in-Some-next_if-3.ensures.1
+    ∙ (goes MAX_DEPTH end (past_single (drop_tree c.in-Some-next_if-3.token.from) k) c.in-Some-next_if-3.token c.in-Some-next_if-3.rest.now (omega (arith, d, c.requires))
+    ∙ ap (λ x. run MAX_DEPTH end (past_single x k) c.in-Some-next_if-3.rest.now) (sym (single_tree-Drop c.in-Some-next_if-3.token.from)))
+
+pub single-returns-in_err-policy-clause-reads : goal.single-returns-in_err-policy-clause-reads
+single-returns-in_err-policy-clause-reads t c = λ k d. let end = c.args.self.now.end in
     exits MAX_DEPTH end (λ x. past_single (single_tree x) k) c.from_residual.result _ (step (at_single k) (front c.args.tokens.now)) c.args.tokens.now c.from_residual.ensures.1
-    (refuses_end MAX_DEPTH end (λ x. begin_single k x x.kind) c.args.tokens.now _ c.in_err-token.ensures)
+    (refuses MAX_DEPTH end _ _ _ (begins MAX_DEPTH end (begin_single k) c.args.tokens.now c.in-Some-next_if.rest.now c.in-Some-next_if.token (kinds.Sign signs.OpenRound) c.in-Some-next_if.ensures.0 c.in-Some-next_if.ensures.1)
+    (c.in_err-policy.ensures.reads (close_round (group_tree c.in-Some-next_if.token.from) k) (λ x. past_single (group_tree c.in-Some-next_if.token.from x) k) c.in-Some-next_if.token (omega (arith, d)) refl (λ x ts. refl) (λ x. omega (arith, d, c.requires))))
 
-pub single-returns-in-Sign-Not-clause-reads : goal.single-returns-in-Sign-Not-clause-reads
-single-returns-in-Sign-Not-clause-reads t c = λ k d. let end = c.args.self.now.end in
-    comes_on MAX_DEPTH end (λ x. past_single (single_tree x) k) c.negation.result (step (at_single k) (front c.args.tokens.now)) (go (at_single (end_of_not c.in_ok-token.token.from k))) c.args.tokens.now (c.in_ok-token.token ∷ c.in_ok-token.rest.now)
-    (begins MAX_DEPTH end (begin_single k) c.args.tokens.now c.in_ok-token.rest.now c.in_ok-token.token (kinds.Sign signs.Not) c.in_ok-token.ensures (c.in-Sign-Not.is ∙ ap kinds.Sign c.in-Sign-Not.field-0-is)) (c.negation.ensures.reads k c.in_ok-token.token d refl)
+pub single-returns-in_ok-body-clause-reads : goal.single-returns-in_ok-body-clause-reads
+single-returns-in_ok-body-clause-reads t c = λ k d. let end = c.args.self.now.end in let o = c.in_ok-policy in let b = c.in_ok-body in
+    begins MAX_DEPTH end (begin_single k) c.args.tokens.now c.in-Some-next_if.rest.now c.in-Some-next_if.token (kinds.Sign signs.OpenRound) c.in-Some-next_if.ensures.0 c.in-Some-next_if.ensures.1
+    ∙ (o.ensures.reads (close_round (group_tree c.in-Some-next_if.token.from) k) (λ x. past_single (group_tree c.in-Some-next_if.token.from x) k) c.in-Some-next_if.token (omega (arith, d)) refl (λ x ts. refl) (λ x. omega (arith, d, c.requires))
+    ∙ ap (λ x. run MAX_DEPTH end (past_single x k) o.rest.now) (sym (single_tree-Group c.in-Some-next_if.token.from b.body ∙ ap (λ x. group_tree c.in-Some-next_if.token.from (policy_tree x)) b.ensures.ok)))
 
-pub single-returns-in-Key-Id-clause-reads : goal.single-returns-in-Key-Id-clause-reads
-single-returns-in-Key-Id-clause-reads t c = λ k d. let end = c.args.self.now.end in
-    begins MAX_DEPTH end (begin_single k) c.args.tokens.now c.in_ok-token.rest.now c.in_ok-token.token (kinds.Key keys.Id) c.in_ok-token.ensures (c.in-Key-Id.is ∙ ap kinds.Key c.in-Key-Id.field-0-is)
-    ∙ (goes MAX_DEPTH end (past_single (id_tree c.in_ok-token.token.from) k) c.in_ok-token.token c.in_ok-token.rest.now (omega (arith, d, c.requires))
-    ∙ ap (λ x. run MAX_DEPTH end (past_single x k) c.in_ok-token.rest.now) (sym (single_tree-Id c.in_ok-token.token.from)))
+pub single-returns-in_err-open-clause-reads : goal.single-returns-in_err-open-clause-reads
+single-returns-in_err-open-clause-reads t c = λ k d. let end = c.args.self.now.end in
+    exits MAX_DEPTH end (λ x. past_single (single_tree x) k) c.from_residual-in_err-open.result _ (step (at_single k) (front c.args.tokens.now)) c.args.tokens.now c.from_residual-in_err-open.ensures.1
+    (refuses MAX_DEPTH end _ _ _ (begins MAX_DEPTH end (begin_single k) c.args.tokens.now c.in-Some-next_if-4.rest.now c.in-Some-next_if-4.token (kinds.Key keys.Atomic) c.in-Some-next_if-4.ensures.0 c.in-Some-next_if-4.ensures.1
+    ∙ goes MAX_DEPTH end (at_open (kinds.Sign signs.OpenRound) (close_round (atomic_tree c.in-Some-next_if-4.token.from) k)) c.in-Some-next_if-4.token c.in-Some-next_if-4.rest.now (omega (arith, d, c.requires))) (refuses_kind MAX_DEPTH end (kinds.Sign signs.OpenRound) (at_policy (close_round (atomic_tree c.in-Some-next_if-4.token.from) k)) c.in-Some-next_if-4.rest.now _ c.in_err-open.ensures))
 
-pub single-returns-in-Key-Drop-clause-reads : goal.single-returns-in-Key-Drop-clause-reads
-single-returns-in-Key-Drop-clause-reads t c = λ k d. let end = c.args.self.now.end in
-    begins MAX_DEPTH end (begin_single k) c.args.tokens.now c.in_ok-token.rest.now c.in_ok-token.token (kinds.Key keys.Drop) c.in_ok-token.ensures (c.in-Key-Drop.is ∙ ap kinds.Key c.in-Key-Drop.field-0-is)
-    ∙ (goes MAX_DEPTH end (past_single (drop_tree c.in_ok-token.token.from) k) c.in_ok-token.token c.in_ok-token.rest.now (omega (arith, d, c.requires))
-    ∙ ap (λ x. run MAX_DEPTH end (past_single x k) c.in_ok-token.rest.now) (sym (single_tree-Drop c.in_ok-token.token.from)))
+pub single-returns-in_err-atom-clause-reads : goal.single-returns-in_err-atom-clause-reads
+single-returns-in_err-atom-clause-reads t c = λ k d. let end = c.args.self.now.end in
+    exits MAX_DEPTH end (λ x. past_single (single_tree x) k) c.from_residual-in_err-atom.result _ (step (at_single k) (front c.args.tokens.now)) c.args.tokens.now c.from_residual-in_err-atom.ensures.1
+    (refuses MAX_DEPTH end _ _ _ ((begins MAX_DEPTH end (begin_single k) c.args.tokens.now c.in-Some-next_if-4.rest.now c.in-Some-next_if-4.token (kinds.Key keys.Atomic) c.in-Some-next_if-4.ensures.0 c.in-Some-next_if-4.ensures.1
+    ∙ goes MAX_DEPTH end (at_open (kinds.Sign signs.OpenRound) (close_round (atomic_tree c.in-Some-next_if-4.token.from) k)) c.in-Some-next_if-4.token c.in-Some-next_if-4.rest.now (omega (arith, d, c.requires)))
+    ∙ takes MAX_DEPTH end (kinds.Sign signs.OpenRound) (at_policy (close_round (atomic_tree c.in-Some-next_if-4.token.from) k)) stuck c.in-Some-next_if-4.rest.now c.in_ok-open.rest.now c.in_ok-open.open c.in_ok-open.ensures)
+    (c.in_err-atom.ensures.reads (close_round (atomic_tree c.in-Some-next_if-4.token.from) k) (λ x. past_single (atomic_tree c.in-Some-next_if-4.token.from x) k) c.in_ok-open.open (omega (arith, d)) refl (λ x ts. refl) (λ x. omega (arith, d, c.requires))))
 
-pub single-returns-in_err-body-in-Sign-OpenRound-clause-reads : goal.single-returns-in_err-body-in-Sign-OpenRound-clause-reads
-single-returns-in_err-body-in-Sign-OpenRound-clause-reads t c = λ k d. let end = c.args.self.now.end in
-    exits MAX_DEPTH end (λ x. past_single (single_tree x) k) c.from_residual-in_err-body-in-Sign-OpenRound.result _ (step (at_single k) (front c.args.tokens.now)) c.args.tokens.now c.from_residual-in_err-body-in-Sign-OpenRound.ensures.1
-    (refuses MAX_DEPTH end _ _ _ (begins MAX_DEPTH end (begin_single k) c.args.tokens.now c.in_ok-token.rest.now c.in_ok-token.token (kinds.Sign signs.OpenRound) c.in_ok-token.ensures (c.in-Sign-OpenRound.is ∙ ap kinds.Sign c.in-Sign-OpenRound.field-0-is))
-    (c.in_err-body-in-Sign-OpenRound.ensures.reads (close_round (group_tree c.in_ok-token.token.from) k) (λ x. past_single (group_tree c.in_ok-token.token.from x) k) c.in_ok-token.token (omega (arith, d)) refl (λ x ts. refl) (λ x. omega (arith, d, c.requires))))
+pub single-returns-in_ok-body-2-clause-reads : goal.single-returns-in_ok-body-2-clause-reads
+single-returns-in_ok-body-2-clause-reads t c = λ k d. let end = c.args.self.now.end in let o = c.in_ok-atom in let b = c.in_ok-body-2 in
+    ((begins MAX_DEPTH end (begin_single k) c.args.tokens.now c.in-Some-next_if-4.rest.now c.in-Some-next_if-4.token (kinds.Key keys.Atomic) c.in-Some-next_if-4.ensures.0 c.in-Some-next_if-4.ensures.1
+    ∙ goes MAX_DEPTH end (at_open (kinds.Sign signs.OpenRound) (close_round (atomic_tree c.in-Some-next_if-4.token.from) k)) c.in-Some-next_if-4.token c.in-Some-next_if-4.rest.now (omega (arith, d, c.requires)))
+    ∙ takes MAX_DEPTH end (kinds.Sign signs.OpenRound) (at_policy (close_round (atomic_tree c.in-Some-next_if-4.token.from) k)) stuck c.in-Some-next_if-4.rest.now c.in_ok-open.rest.now c.in_ok-open.open c.in_ok-open.ensures)
+    ∙ (o.ensures.reads (close_round (atomic_tree c.in-Some-next_if-4.token.from) k) (λ x. past_single (atomic_tree c.in-Some-next_if-4.token.from x) k) c.in_ok-open.open (omega (arith, d)) refl (λ x ts. refl) (λ x. omega (arith, d, c.requires))
+    ∙ ap (λ x. run MAX_DEPTH end (past_single x k) o.rest.now) (sym (single_tree-Atomic c.in-Some-next_if-4.token.from b.body ∙ ap (λ x. atomic_tree c.in-Some-next_if-4.token.from (policy_tree x)) b.ensures.ok)))
 
-pub single-returns-in_ok-body-in-Sign-OpenRound-2-clause-reads : goal.single-returns-in_ok-body-in-Sign-OpenRound-2-clause-reads
-single-returns-in_ok-body-in-Sign-OpenRound-2-clause-reads t c = λ k d. let end = c.args.self.now.end in let o = c.in_ok-body-in-Sign-OpenRound in let b = c.in_ok-body-in-Sign-OpenRound-2 in
-    begins MAX_DEPTH end (begin_single k) c.args.tokens.now c.in_ok-token.rest.now c.in_ok-token.token (kinds.Sign signs.OpenRound) c.in_ok-token.ensures (c.in-Sign-OpenRound.is ∙ ap kinds.Sign c.in-Sign-OpenRound.field-0-is)
-    ∙ (o.ensures.reads (close_round (group_tree c.in_ok-token.token.from) k) (λ x. past_single (group_tree c.in_ok-token.token.from x) k) c.in_ok-token.token (omega (arith, d)) refl (λ x ts. refl) (λ x. omega (arith, d, c.requires))
-    ∙ ap (λ x. run MAX_DEPTH end (past_single x k) o.rest.now) (sym (single_tree-Group c.in_ok-token.token.from b.body ∙ ap (λ x. group_tree c.in_ok-token.token.from (policy_tree x)) b.ensures.ok)))
+pub single-returns-in_err-word-clause-reads : goal.single-returns-in_err-word-clause-reads
+single-returns-in_err-word-clause-reads t c = λ k d. let end = c.args.self.now.end in
+    exits MAX_DEPTH end (λ x. past_single (single_tree x) k) c.from_residual-in_err-word.result _ (step (at_single k) (front c.args.tokens.now)) c.args.tokens.now c.from_residual-in_err-word.ensures.1
+    (refuses_single MAX_DEPTH end k c.args.tokens.now _ c.in_default.ensures c.in_default-next_if.ensures c.in_default-next_if-2.ensures c.in_default-next_if-3.ensures c.in_default-next_if-4.ensures c.in_err-word.ensures)
 
-pub single-returns-in_err-open-in-Key-Atomic-clause-reads : goal.single-returns-in_err-open-in-Key-Atomic-clause-reads
-single-returns-in_err-open-in-Key-Atomic-clause-reads t c = λ k d. let end = c.args.self.now.end in
-    exits MAX_DEPTH end (λ x. past_single (single_tree x) k) c.from_residual-in_err-open-in-Key-Atomic.result _ (step (at_single k) (front c.args.tokens.now)) c.args.tokens.now c.from_residual-in_err-open-in-Key-Atomic.ensures.1
-    (refuses MAX_DEPTH end _ _ _ (begins MAX_DEPTH end (begin_single k) c.args.tokens.now c.in_ok-token.rest.now c.in_ok-token.token (kinds.Key keys.Atomic) c.in_ok-token.ensures (c.in-Key-Atomic.is ∙ ap kinds.Key c.in-Key-Atomic.field-0-is)
-    ∙ goes MAX_DEPTH end (at_open (kinds.Sign signs.OpenRound) (close_round (atomic_tree c.in_ok-token.token.from) k)) c.in_ok-token.token c.in_ok-token.rest.now (omega (arith, d, c.requires))) (refuses_kind MAX_DEPTH end (kinds.Sign signs.OpenRound) (at_policy (close_round (atomic_tree c.in_ok-token.token.from) k)) c.in_ok-token.rest.now _ c.in_err-open-in-Key-Atomic.ensures))
-
-pub single-returns-in_err-body-in-Key-Atomic-clause-reads : goal.single-returns-in_err-body-in-Key-Atomic-clause-reads
-single-returns-in_err-body-in-Key-Atomic-clause-reads t c = λ k d. let end = c.args.self.now.end in
-    exits MAX_DEPTH end (λ x. past_single (single_tree x) k) c.from_residual-in_err-body-in-Key-Atomic.result _ (step (at_single k) (front c.args.tokens.now)) c.args.tokens.now c.from_residual-in_err-body-in-Key-Atomic.ensures.1
-    (refuses MAX_DEPTH end _ _ _ ((begins MAX_DEPTH end (begin_single k) c.args.tokens.now c.in_ok-token.rest.now c.in_ok-token.token (kinds.Key keys.Atomic) c.in_ok-token.ensures (c.in-Key-Atomic.is ∙ ap kinds.Key c.in-Key-Atomic.field-0-is)
-    ∙ goes MAX_DEPTH end (at_open (kinds.Sign signs.OpenRound) (close_round (atomic_tree c.in_ok-token.token.from) k)) c.in_ok-token.token c.in_ok-token.rest.now (omega (arith, d, c.requires)))
-    ∙ takes MAX_DEPTH end (kinds.Sign signs.OpenRound) (at_policy (close_round (atomic_tree c.in_ok-token.token.from) k)) stuck c.in_ok-token.rest.now c.in_ok-open-in-Key-Atomic.rest.now c.in_ok-open-in-Key-Atomic.open c.in_ok-open-in-Key-Atomic.ensures)
-    (c.in_err-body-in-Key-Atomic.ensures.reads (close_round (atomic_tree c.in_ok-token.token.from) k) (λ x. past_single (atomic_tree c.in_ok-token.token.from x) k) c.in_ok-open-in-Key-Atomic.open (omega (arith, d)) refl (λ x ts. refl) (λ x. omega (arith, d, c.requires))))
-
-pub single-returns-in_ok-body-in-Key-Atomic-2-clause-reads : goal.single-returns-in_ok-body-in-Key-Atomic-2-clause-reads
-single-returns-in_ok-body-in-Key-Atomic-2-clause-reads t c = λ k d. let end = c.args.self.now.end in let o = c.in_ok-body-in-Key-Atomic in let b = c.in_ok-body-in-Key-Atomic-2 in
-    ((begins MAX_DEPTH end (begin_single k) c.args.tokens.now c.in_ok-token.rest.now c.in_ok-token.token (kinds.Key keys.Atomic) c.in_ok-token.ensures (c.in-Key-Atomic.is ∙ ap kinds.Key c.in-Key-Atomic.field-0-is)
-    ∙ goes MAX_DEPTH end (at_open (kinds.Sign signs.OpenRound) (close_round (atomic_tree c.in_ok-token.token.from) k)) c.in_ok-token.token c.in_ok-token.rest.now (omega (arith, d, c.requires)))
-    ∙ takes MAX_DEPTH end (kinds.Sign signs.OpenRound) (at_policy (close_round (atomic_tree c.in_ok-token.token.from) k)) stuck c.in_ok-token.rest.now c.in_ok-open-in-Key-Atomic.rest.now c.in_ok-open-in-Key-Atomic.open c.in_ok-open-in-Key-Atomic.ensures)
-    ∙ (o.ensures.reads (close_round (atomic_tree c.in_ok-token.token.from) k) (λ x. past_single (atomic_tree c.in_ok-token.token.from x) k) c.in_ok-open-in-Key-Atomic.open (omega (arith, d)) refl (λ x ts. refl) (λ x. omega (arith, d, c.requires))
-    ∙ ap (λ x. run MAX_DEPTH end (past_single x k) o.rest.now) (sym (single_tree-Atomic c.in_ok-token.token.from b.body ∙ ap (λ x. atomic_tree c.in_ok-token.token.from (policy_tree x)) b.ensures.ok)))
-
-pub single-returns-in-Word-clause-reads : goal.single-returns-in-Word-clause-reads
-single-returns-in-Word-clause-reads t c = λ k d. let end = c.args.self.now.end in
-    comes_on MAX_DEPTH end (λ x. past_single (single_tree x) k) c.named.result (step (at_single k) (front c.args.tokens.now)) (after_name c.span.result k (front c.in_ok-token.rest.now)) c.args.tokens.now c.in_ok-token.rest.now
-    (begins MAX_DEPTH end (begin_single k) c.args.tokens.now c.in_ok-token.rest.now c.in_ok-token.token kinds.Word c.in_ok-token.ensures c.in-Word.is
-    ∙ (goes MAX_DEPTH end (past_name (span_of c.in_ok-token.token) k) c.in_ok-token.token c.in_ok-token.rest.now (omega (arith, d, c.requires)) ∙ ap (λ x. run MAX_DEPTH end (past_name x k) c.in_ok-token.rest.now) (sym c.span.ensures)))
+pub single-returns-in_ok-word-clause-reads : goal.single-returns-in_ok-word-clause-reads
+single-returns-in_ok-word-clause-reads t c = λ k d. let end = c.args.self.now.end in
+    comes_on MAX_DEPTH end (λ x. past_single (single_tree x) k) c.named.result (step (at_single k) (front c.args.tokens.now)) (after_name c.span.result k (front c.in_ok-word.rest.now)) c.args.tokens.now c.in_ok-word.rest.now
+    (begins MAX_DEPTH end (begin_single k) c.args.tokens.now c.in_ok-word.rest.now c.in_ok-word.word kinds.Word c.in_ok-word.ensures.0 c.in_ok-word.ensures.1
+    ∙ (goes MAX_DEPTH end (past_name (span_of c.in_ok-word.word) k) c.in_ok-word.word c.in_ok-word.rest.now (omega (arith, d, c.requires)) ∙ ap (λ x. run MAX_DEPTH end (past_name x k) c.in_ok-word.rest.now) (sym c.span.ensures)))
     (c.named.ensures.reads k (omega (arith, d, c.requires)))
-
-pub single-returns-in_default-clause-reads : goal.single-returns-in_default-clause-reads
-single-returns-in_default-clause-reads t c = elim c.in_default.branch [ single-in_default-via-in-Sign+in_default w ↦ ? | single-in_default-via-in-Key+in_default w ↦ ? | single-in_default-via-in_default w ↦ ? ]

@@ -18,7 +18,7 @@ use Rattle.snap_parse.specs.Tree.{policy_tree, sequence_tree, choice_tree, eithe
 use Rattle.snap_parse.specs.declared.fault.ParseFault.TheVariants.{Unexpected}
 use Rattle.snap_parse.specs.declared.cursor.TheConstants.{MAX_DEPTH}
 use Rattle.snap_parse.proofs.Steps.{goes, takes, met, missed, wanted, begins, refuses, refuses_end, refuses_kind, refuses_wanted, refuses_depth, exits, comes_on}
-use Rattle.snap_parse.proofs.Parts.{plain, no_decl, refuses_value, reads_literal, reads_constant, refuses_constant, begins_no_single, no_single, exits_places, exits_declaration, placed-Equals, placed-Arrow, placed-PlusPlus, placed-MinusMinus, placed-PlusEquals, placed-MinusEquals, placed-alone, after_name-Equals, after_name-Arrow, after_name-OpenSquare, after_name-alone}
+use Rattle.snap_parse.proofs.Parts.{plain, no_decl, refuses_value, reads_literal, reads_constant, refuses_constant, refuses_single, ends, goes_past, exits_places, exits_declaration, placed-Equals, placed-Arrow, placed-PlusPlus, placed-MinusMinus, placed-PlusEquals, placed-MinusEquals, placed-alone, after_name-Equals, after_name-Arrow, after_name-OpenSquare, after_name-alone}
 use Rattle.snap_parse.proofs.Trees.{single_tree-Not, single_tree-Id, single_tree-Drop, single_tree-Group, single_tree-Atomic, single_tree-Name, single_tree-Test, single_tree-Set, single_tree-Bare, single_tree-Up, single_tree-Down, single_tree-ArrayTest, single_tree-ArraySet, single_tree-ArrayAdd, single_tree-ArraySub, choice_tree-Plain, choice_tree-If, policy_tree-roll, sequence_tree-out, either_tree-roll, both_tree-out, policy_next, sequence_next, either_next, both_next}
 use Rattle.snap_parse.proofs.cursor.Parser.value.Goals as goal
 
