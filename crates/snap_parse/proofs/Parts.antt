@@ -19,6 +19,7 @@ use Rattle.snap_parse.specs.Tree.{PolicyTree, policy_begin, policy_more, Sequenc
 use Rattle.snap_parse.specs.Grammar.{IsLiteral, number_literal, address_literal, true_literal, false_literal, IsValue, literal_value, prefix_value, name_value, IsPlacesRest, places_end, places_more, IsPlaces, places, IsPolicy, policy, IsPolicyRest, policy_end, policy_plus, IsSequence, sequence, IsSequenceRest, sequence_end, sequence_semicolon, IsChoice, if_choice, plain_choice, IsEither, either, IsEitherRest, either_end, either_or, IsBoth, both, IsBothRest, both_end, both_and, IsSingle, not_single, id_single, drop_single, group_single, atomic_single, name_single, test_single, set_single, bare_single, array_test_single, array_set_single, up_single, down_single, array_add_single, array_sub_single, IsDecl, field_decl, split_field_decl, array_decl, const_decl, let_decl, IsProgramRest, last_policy, next_decl}
 use Rattle.snap_parse.specs.Machine.{AfterPolicy, the_end, close_let, close_round, else_part, AfterSequence, part_of_policy, AfterChoice, part_of_sequence, end_of_if, AfterEither, then_part, end_of_plain, AfterBoth, part_of_either, AfterSingle, part_of_both, end_of_not, AfterValue, end_of_value, close_place, policy_depth, sequence_depth, choice_depth, either_depth, both_depth, single_depth, value_depth, State, wants, at_open, at_decl, past_field, at_constant, at_policy, at_sequence, at_choice, at_either, at_both, at_single, at_value, past_address, past_value, past_name, past_places, past_single, past_both, past_either, past_choice, past_sequence, past_policy, token_of, one_less, state_depth, Move, go, done, stuck, front, on_next, after_policy, after_sequence, after_choice, after_either, after_both, after_single, after_value, after_address, placed, after_places, after_name, literal_of, begin_value, begin_single, begin_both, begin_either, begin_choice, begin_sequence, begin_policy, in_field, in_array, in_constant, in_let, begin_decl, after_field, on_literal, in_constant_value, with_next, step}
 use Rattle.snap_parse.specs.declared.tree.Decl.{Decl}
+use Rattle.snap_parse.specs.Tree.{decl_tree}
 use Rattle.snap_parse.specs.declared.fault.ParseFault.{ParseFault}
 use Rattle.snap_parse.specs.declared.fault.ParseFault.TheVariants.{Unexpected}
 use Rattle.snap_parse.specs.Machine.{follow, run, place}
@@ -164,6 +165,15 @@ module _ (limit end : ℕ) where
   unfolding follow
   goes_past ds p [] other = absurd (other refl)
   goes_past ds p (t ∷ ts) other = refl
+
+  -- a declaration, or none
+  pub some_decl : (ts : List Token) (o : Option (Decl × Bor (List Token))) (x : Decl × Bor (List Token)) → o ≡ Some x → ReadsDeclaration limit end ts (Ok o) → (ds : List DeclTree) →
+      run limit end (at_decl ds) ts ≡ run limit end (at_decl (ds ++ decl_tree x.0 ∷ [])) (x.1).now
+  some_decl ts o x is h ds = subst (λ y. ReadsDeclaration limit end ts (Ok y)) is h ds
+
+  pub none_decl : (ts : List Token) (o : Option (Decl × Bor (List Token))) → o ≡ None → ReadsDeclaration limit end ts (Ok o) → (ds : List DeclTree) →
+      run limit end (at_decl ds) ts ≡ run limit end (at_policy (the_end ds)) ts
+  none_decl ts o is h ds = subst (λ y. ReadsDeclaration limit end ts (Ok y)) is h ds
 
   -- what the exit of a `?` returns
   pub exits_places : (ts : List Token) (r : Result (Vec Value Global × Bor (List Token)) ParseFault) (e : ParseFault) → IsErrAnd r (λ y. y ≡ e) →
