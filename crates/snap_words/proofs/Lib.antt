@@ -1,0 +1,5 @@
+pub mod ClapForm
+pub mod Rows
+pub mod Shapes
+pub mod Turns
+pub mod Walk

@@ -1,0 +1,12 @@
+//! The commands.
+
+/// A command with the files that its words name.
+#[derive(Clone, Copy, Debug)]
+pub enum Command<'a> {
+    /// The report of one big switch: a program and its packets.
+    Obs { program: &'a [u8], packets: &'a [u8] },
+    /// The dependencies and groups of a program.
+    Deps { program: &'a [u8] },
+    /// The distances and next hops of a topology.
+    Routes { topology: &'a [u8] },
+}
