@@ -1,5 +1,7 @@
+pub mod Cases
 pub mod ClapForm
 pub mod Rows
 pub mod Shapes
+pub mod Checked
 pub mod Turns
 pub mod Walk
