@@ -1,5 +1,6 @@
 pub mod Cases
 pub mod ClapForm
+pub mod ClapTold
 pub mod Rows
 pub mod Shapes
 pub mod Checked

@@ -3,8 +3,6 @@ use Rattle.std.specs.Prelude.{◌||◌, List, [], ◌∷◌, codes, Option, Some
 use Rattle.std.specs.List.{list_all}
 use Rattle.std.specs.Str.{bytes_eq, is_utf8}
 use Rattle.snap_words.specs.Words.{Text, Told, told_by}
-use Rattle.snap_words.specs.declared.command.Command.{Command as Given}
-use Rattle.snap_words.specs.declared.command.Command.TheVariants as given
 
 -- a command and the files that it names
 pub data Command : Type 0 where
@@ -43,9 +41,3 @@ command_in (first ∷ words) = option_and_then (command_for first) (told_by word
 -- the command that the words of a command line name; each word is UTF-8
 abbrev pub command_of : List Text → Option Command
 command_of words = if list_all is_utf8 words then command_in words else None
-
--- the command that an answer gives
-abbrev pub shown : Given → Command
-shown (given.Obs program packets) = obs program.now packets.now
-shown (given.Deps program) = deps program.now
-shown (given.Routes topology) = routes topology.now
