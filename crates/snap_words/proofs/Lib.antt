@@ -1,3 +1,4 @@
+pub mod Among
 pub mod Cases
 pub mod ClapForm
 pub mod ClapTold

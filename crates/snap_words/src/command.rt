@@ -1,6 +1,6 @@
-//! The commands.
+//! The commands, as their words name them.
 
-/// A command with the files that its words name.
+/// A command and the files that it names.
 #[derive(Clone, Copy, Debug)]
 pub enum Command<'a> {
     /// The report of one big switch: a program and its packets.
