@@ -1,13 +1,11 @@
 -- The names that words say are among the words.
-use Rattle.std.proofs.Common.{◌≡◌, ◌∙◌, refl, sym, ap, Bool, true, false, cond, List, [], ◌∷◌, ◌++◌, ◌&&◌, ◌||◌, Option, Some, None, is_some, option_and_then, subst}
-use Rattle.std.specs.List.{list_all, list_any}
-use Rattle.std.specs.Str.{bytes_eq}
+use Rattle.std.proofs.Common.{◌≡◌, ◌∙◌, refl, Bool, true, false, cond, List, [], ◌∷◌, Option, Some, None, is_some, option_and_then, subst}
 use Rattle.std.proofs.Math.Bool.{or-true}
 use Rattle.std.proofs.lemmas.Bool.{and_parts}
 use Rattle.std.proofs.lemmas.List.Folds.{list_all-append}
 use Rattle.std.proofs.lemmas.Slice.Eq.{bytes_eq-Decides}
 use Rattle.snap_words.specs.Said.{are_among, is_among}
-use Rattle.snap_words.specs.Words.{Text, Told, Word, add, checked, end_of_options, has_names, hops_option, name_word, nothing, schedule_file, schedule_option, tell, told_by, with_hops, with_names, with_schedule, word_of}
+use Rattle.snap_words.specs.Words.{Text, Told, Word, add, checked, end_of_options, has_names, hops_option, name_word, nothing, schedule_file, schedule_option, tell, told_by, with_names, word_of}
 
 same_some : {A : Type 0} {x y : A} → Some x ≡ Some y → x ≡ y
 same_some e = cc

@@ -1,14 +1,13 @@
 -- What a word is, and what `clap` makes of it.
-use Rattle.std.proofs.Common.{arith, ◌≡◌, ◌≢◌, ◌∙◌, ◌<◌, ◌+◌, ◌-◌, refl, sym, ap, subst, Bool, true, false, cond, List, [], ◌∷◌, ◌++◌, ◌==◌, codes, length, get_or, ℕ, zero, suc, Option, Some, None}
+use Rattle.std.proofs.Common.{arith, ◌≡◌, ◌∙◌, refl, sym, ap, subst, Bool, true, false, cond, [], ◌∷◌, ◌++◌, ◌==◌, codes, ℕ, zero, suc, Option, Some, None}
 use Rattle.std.specs.Str.{bytes_eq}
-use Rattle.std.proofs.lemmas.Grind.{common_steps}
 use Rattle.std.proofs.lemmas.Bool.{eqb-true, false≢true}
 use Rattle.std.proofs.lemmas.Bool.Decides.{nat_tests}
 use Rattle.std.proofs.lemmas.Slice.Eq.{bytes_eq-Decides}
 use Rattle.clap.specs.Lexer.{name_and_value}
 use Rattle.clap.proofs.CutLemmas.{Lacks}
 use Rattle.clap.proofs.LexerLemmas.{name_and_value-at, name_and_value-without}
-use Rattle.snap_words.specs.Words.{Text, behind, end_of_options, file_or_name, hops_option, is_name, name_word, schedule_file, schedule_option, word_of}
+use Rattle.snap_words.specs.Words.{Text, behind, end_of_options, hops_option, is_name, name_word, schedule_file, schedule_option, word_of}
 use Rattle.snap_words.proofs.ClapForm.{dashes, hops_met, met_of, name_met, named, refused, schedule_met, schedule_valued}
 
 pub data Cases (w : Text) : Type 0 where

@@ -1,18 +1,16 @@
 -- From the matches of `clap` to what was told.
-use Rattle.std.proofs.Common.{◌≡◌, ◌≢◌, ◌∙◌, refl, sym, ap, ap₂, subst, Bool, true, false, cond, List, [], ◌∷◌, codes, map, Option, Some, None, option_and_then, option_map, unwrap_or, slice_get, find, MatchOption, ⊎_elim}
+use Rattle.std.proofs.Common.{◌≡◌, ◌≢◌, ◌∙◌, refl, sym, ap, subst, Bool, true, false, cond, List, [], ◌∷◌, codes, Option, Some, None, option_and_then, option_map, unwrap_or, slice_get, find, MatchOption}
 use Rattle.std.specs.List.{list_all}
 use Rattle.std.specs.Str.{bytes_eq, is_utf8}
 use Rattle.std.proofs.lemmas.Str.{IsUtf8-from_is_utf8}
 use Rattle.std.proofs.lemmas.Bool.{and_parts}
-use Rattle.clap.specs.Matches.{first_value, found_of, one_text}
-use Rattle.clap.specs.Walk.{first_of, one_of}
-use Rattle.clap.specs.Words.{HasKind, IsAmong, Kinds, Row, all_of, fault_of, kind_of, matches_of, rows_of}
-use Rattle.clap.specs.declared.error.Error.{Error}
-use Rattle.clap.specs.declared.error.kind.ErrorKind.TheVariants.{OutOfMemory}
+use Rattle.clap.specs.Matches.{first_value, one_text}
+use Rattle.clap.specs.Walk.{first_of}
+use Rattle.clap.specs.Words.{Row, all_of, fault_of, matches_of, rows_of}
 use Rattle.clap.specs.declared.parser.matches.Found.{Found}
 use Rattle.clap.proofs.WalkLemmas.{first_value-rows, one_text-rows}
 use Rattle.snap_words.specs.Clap.{app}
-use Rattle.snap_words.specs.Words.{Text, Told, checked, has_names, nothing, tell, told_by}
+use Rattle.snap_words.specs.Words.{Text, Told, checked, has_names, nothing, told_by}
 use Rattle.snap_words.proofs.Checked.{tell-read}
 use Rattle.snap_words.proofs.ClapForm.{Has, read}
 use Rattle.snap_words.proofs.Shapes.{AllText}

@@ -1,5 +1,5 @@
 -- What `clap` makes of one word, where it stands between two words.
-use Rattle.std.proofs.Common.{◌≡◌, ◌∙◌, refl, ap, Bool, true, false, cond, not, List, [], ◌∷◌, codes, ℕ, Option, Some, None, slice_get}
+use Rattle.std.proofs.Common.{◌≡◌, refl, Bool, true, false, cond, not, List, [], ◌∷◌, codes, ℕ, Option, Some, None, slice_get}
 use Rattle.std.specs.Str.{bytes_eq, chars}
 use Rattle.std.specs.Char.{encode_utf8}
 use Rattle.std.proofs.Math.Bool.{and-false}

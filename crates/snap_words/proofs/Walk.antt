@@ -1,5 +1,5 @@
 -- What `clap` makes of all the words: it takes them exactly where they are of its form.
-use Rattle.std.proofs.Common.{option_and_then, MatchOption, subst, option_map, unwrap_or, append_assoc, append-nil, ◌≡◌, ◌∙◌, refl, sym, ap, Bool, true, false, cond, List, [], ◌∷◌, ◌++◌, codes, ℕ, Option, Some, None, is_some, fold}
+use Rattle.std.proofs.Common.{option_and_then, MatchOption, subst, option_map, unwrap_or, append_assoc, append-nil, ◌≡◌, ◌∙◌, refl, sym, ap, Bool, true, false, cond, List, [], ◌∷◌, ◌++◌, codes, Option, Some, None, is_some, fold}
 use Rattle.std.specs.Str.{IsUtf8, bytes_eq}
 use Rattle.std.proofs.Math.Bool.{or-true}
 use Rattle.clap.specs.Words.{matches_of, Row, Text, built, fault_of}
@@ -17,7 +17,7 @@ use Rattle.snap_words.specs.Words.{Told, nothing, with_names}
 use Rattle.snap_words.proofs.ClapForm.{Has, after, dashes, long_met, named, read}
 use Rattle.snap_words.proofs.Rows.{all_of-other, all_of-same, has_row-all_of, one_of-other, one_of-same, without-absent}
 use Rattle.snap_words.proofs.Shapes.{AllText, first_char, short_text}
-use Rattle.snap_words.proofs.Turns.{at, dashes_moves, dashes_turn, done, got_moves, got_turn, held, hops_built, hops_id, hops_moves, hops_turn, hops_used, hops_valued, long_turn, name_built, name_done, name_id, name_moves, name_settles, name_turn, name_used, rest, schedule_built, schedule_id, schedule_used, settles, short_turn, top, trail_moves, trail_turn, twice, val_done, val_settles, value_moves, value_turn, wait_again, wait_dashes_moves, wait_dashes_turn, wait_hops, wait_long, wait_moves, wait_short, wait_trail_turn, wait_turn, wait_value, wait_valued, waits}
+use Rattle.snap_words.proofs.Turns.{at, dashes_moves, dashes_turn, done, got_moves, got_turn, held, hops_built, hops_id, hops_moves, hops_turn, hops_used, hops_valued, long_turn, name_built, name_done, name_id, name_moves, name_settles, name_turn, name_used, schedule_built, schedule_id, schedule_used, settles, short_turn, top, trail_moves, trail_turn, twice, val_done, val_settles, value_moves, value_turn, wait_again, wait_dashes_moves, wait_dashes_turn, wait_hops, wait_long, wait_moves, wait_short, wait_trail_turn, wait_turn, wait_value, wait_valued, waits}
 
 or_else-nil : (k : Kinds) → or_else k [] ≡ k
 or_else-nil [] = refl
@@ -50,8 +50,8 @@ fault-none w = refl
 
 defaults-by : (rows : List Row) (b : Bool) → has_row hops_id rows ≡ b → defaults_fault rows top.rules ≡ []
 unfolding clap_on_literals
-defaults-by rows true has = rw (has, or-true, or-true) refl
-defaults-by rows false has = rw (has, or-true, or-true) refl
+defaults-by rows true has = simp (has, or-true) refl
+defaults-by rows false has = simp (has, or-true) refl
 
 ends : (r : List Row) (q : Option (Text × List Text)) → ending (held r q) ≡ settles r q
 ends r q = ap (λ k. or_else (settles r q) (or_else k [])) (defaults-by (done r q) _ refl) ∙ or_else-nil (settles r q)

@@ -1,12 +1,19 @@
 //! The commands, as their words name them.
 
 /// A command and the files that it names.
-#[derive(Clone, Copy, Debug)]
+#[derive(Clone, Copy, Debug, PartialEq, Eq)]
 pub enum Command<'a> {
     /// The report of one big switch: a program and its packets.
-    Obs { program: &'a [u8], packets: &'a [u8] },
+    Obs {
+        program: &'a [u8],
+        packets: &'a [u8],
+    },
     /// The dependencies and groups of a program.
-    Deps { program: &'a [u8] },
+    Deps {
+        program: &'a [u8],
+    },
     /// The distances and next hops of a topology.
-    Routes { topology: &'a [u8] },
+    Routes {
+        topology: &'a [u8],
+    },
 }

@@ -4,4 +4,6 @@
 pub mod calls;
 pub mod command;
 pub mod fault;
+#[cfg(test)]
+mod tests;
 mod told;

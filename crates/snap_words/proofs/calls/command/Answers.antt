@@ -1,5 +1,5 @@
 use Rattle.std.proofs.Common.{◌≡◌, ◌∙◌, ap, sym, subst, true, List, ◌∷◌}
-use Rattle.snap_words.specs.Said.{are_among, bytes_of, lent, said}
+use Rattle.snap_words.specs.Said.{are_among, lent, said}
 use Rattle.snap_words.specs.Words.{Text}
 use Rattle.snap_words.proofs.Among.{are_among-cons, told_by-among}
 use Rattle.snap_words.proofs.calls.command.Goals as goal

@@ -1,10 +1,10 @@
-use Rattle.std.proofs.Common.{rules, ap, ap₂, true, ◌≡◌, ◌∙◌, IfOk}
+use Rattle.std.proofs.Common.{rules, ap, ap₂, true, ◌≡◌, ◌∙◌}
 use Rattle.std.proofs.lemmas.Result.{IfOk-weaker}
 use Rattle.clap.specs.Words.{App, app_of, rule_of, with_rule}
 use Rattle.clap.specs.Simple.{app_of_fields}
 use Rattle.clap.specs.declared.builder.command.Command.{Command}
 use Rattle.clap.specs.declared.builder.command.Command.TheOpen.{Command-F}
-use Rattle.snap_words.specs.Clap.{app, bare, hops_rule, name_rule, schedule_rule}
+use Rattle.snap_words.specs.Clap.{bare, hops_rule, name_rule, schedule_rule}
 use Rattle.snap_words.proofs.told.flat.Goals as goal
 
 pub returns : goal.returns

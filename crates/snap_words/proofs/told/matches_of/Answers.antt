@@ -1,5 +1,5 @@
-use Rattle.std.proofs.Common.{◌≡◌, ◌≢◌, ◌∙◌, ap, sym, refl, [], List, ⊎_elim, subst, true}
-use Rattle.clap.specs.Words.{App, HasKind, IsAmong, Kinds, Text, app_of, fault_of, found_of, is_simple, is_simple_and_free, kind_of, matches_of, rows_of}
+use Rattle.std.proofs.Common.{◌≡◌, ◌≢◌, ◌∙◌, ap, sym, refl, [], ⊎_elim, subst, true}
+use Rattle.clap.specs.Words.{App, HasKind, IsAmong, Kinds, app_of, fault_of, is_simple, is_simple_and_free, kind_of, matches_of}
 use Rattle.clap.specs.declared.error.Error.{Error}
 use Rattle.clap.specs.declared.error.kind.ErrorKind.TheVariants.{OutOfMemory}
 use Rattle.snap_words.specs.Clap.{app}
@@ -18,8 +18,7 @@ some_fault ks e has other none = ⊎_elim other (λ among. let P : Kinds → Typ
 pub returns-in-Ok-clause-ok : goal.returns-in-Ok-clause-ok
 returns-in-Ok-clause-ok c =
     let is : app_of c.in_ok-flat.field-0 ≡ app = c.in_ok-flat.ensures in
-    let ws = lent c.args.words.now in
-    (
+    let ws = lent c.args.words.now in (
       ap (λ (a : App). fault_of a ws) (sym is) ∙ c.in-Ok.ensures.kinds (ap is_simple_and_free is ∙ free),
       (c.in-Ok.ensures.matches (ap is_simple is ∙ simple)).0 ∙ ap (λ (a : App). matches_of a ws) is,
     )

@@ -1,4 +1,4 @@
-use Rattle.std.proofs.Common.{◌≡◌, ◌∙◌, ap, sym, [], List, codes, unwrap_or, Option, Some, None, option_map, IfOk, Bor}
+use Rattle.std.proofs.Common.{◌≡◌, ◌∙◌, ap, [], List, codes, unwrap_or, Option, Some, None, option_map}
 use Rattle.std.proofs.lemmas.Result.{IfOk-weaker}
 use Rattle.clap.specs.Words.{Text, all_of, found_of, matched_of, raw_values, rows_of}
 use Rattle.clap.specs.declared.parser.matches.Found.{Found}
