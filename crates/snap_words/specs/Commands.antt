@@ -14,6 +14,7 @@ pub data Command : Type 0 where
 abbrev pub names_alone : Told → Option (List Text)
 names_alone t = if t.hops || is_some t.schedule then None else Some t.names
 
+-- a command of one name, and of two
 abbrev pub with_one : (Text → Command) → List Text → Option Command
 with_one make [] = None
 with_one make (a ∷ []) = Some (make a)

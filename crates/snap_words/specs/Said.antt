@@ -19,13 +19,14 @@ lent texts = map (λ t. t.now) texts
 abbrev pub bytes_of : List (Vec ℕ Global) → List Text
 bytes_of words = map (λ w. w.items) words
 
+-- a word with a name's bytes is there
 abbrev pub is_among : List Text → Text → Bool
 is_among words name = list_any (λ w. bytes_eq w name) words
 
 abbrev pub are_among : List Text → List Text → Bool
 are_among words names = list_all (is_among words) names
 
--- what was told
+-- what the code was told
 abbrev pub said : Taken → Told
 said t = record { hops = t.hops; schedule = option_map (λ s. s.now) t.schedule; names = lent t.names.items }
 

@@ -12,7 +12,8 @@ behind [] word = Some word
 behind (p ∷ ps) [] = None
 behind (p ∷ ps) (x ∷ xs) = if x == p then behind ps xs else None
 
--- what a word is: `--`, `--hops`, `--schedule` with its file in the next word, `--schedule=FILE`, or a name
+-- what a word is where no file is waited for: `--`, `--hops`, `--schedule` with its file in the next word,
+-- `--schedule=FILE`, or a name, as every other word
 pub data Word : Type 0 where
   end_of_options : Word
   hops_option : Word
@@ -76,6 +77,7 @@ is_name_or_none (Some file) = is_name file
 abbrev pub has_names : Told → Bool
 has_names t = list_all is_name t.names && is_name_or_none t.schedule
 
+-- nothing where a name isn't one
 abbrev pub checked : Told → Option Told
 checked t = if has_names t then Some t else None
 

@@ -1,6 +1,6 @@
 //! The commands, as their words name them.
 
-/// A command and the files that it names.
+/// A command and the files that it names. A name is text that is not empty and does not begin with `-`.
 #[derive(Clone, Copy, Debug, PartialEq, Eq)]
 pub enum Command<'a> {
     /// The report of one big switch: a program and its packets.
