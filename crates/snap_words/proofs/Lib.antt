@@ -1,0 +1,9 @@
+pub mod Among
+pub mod Cases
+pub mod ClapForm
+pub mod ClapTold
+pub mod Rows
+pub mod Shapes
+pub mod Checked
+pub mod Turns
+pub mod Walk

@@ -1,0 +1,26 @@
+use Rattle.std.proofs.Common.{◌∙◌, sym}
+use Rattle.std.proofs.lemmas.Result.{err_from_is_err_and}
+use Rattle.clap.specs.Words.{found_of}
+use Rattle.snap_words.specs.Said.{lent, said}
+use Rattle.snap_words.specs.Words.{Told}
+use Rattle.snap_words.proofs.ClapTold.{checked-false, checked-true, clap_err, told_from}
+use Rattle.snap_words.proofs.told.read.Goals as goal
+
+pub returns-in_err-matches-clause-usage : goal.returns-in_err-matches-clause-usage
+returns-in_err-matches-clause-usage c =
+    let p = err_from_is_err_and c.from_residual.result c.from_residual.ensures.1 in
+    rw (p.1, p.2) (λ usage. clap_err (lent c.args.words.now) c.requires (c.in_err-matches.ensures.usage usage))
+
+pub returns-then-has_names-clause-ok : goal.returns-then-has_names-clause-ok
+returns-then-has_names-clause-ok c =
+    let t : Told = said (record { hops = c.get_flag.result; schedule = c.get_str.result; names = c.in_ok-names_in.field-0 }) in
+    let same = told_from (lent c.args.words.now) (found_of c.in_ok-matches.matches) t c.requires c.in_ok-matches.ensures.ok.0 c.in_ok-matches.ensures.ok.1
+    c.get_flag.ensures.value c.get_flag.ensures.other c.get_str.ensures c.in_ok-names_in.ensures in
+    same ∙ checked-true t (sym c.has_names.ensures ∙ c.if-has_names.true)
+
+pub returns-clause-usage : goal.returns-clause-usage
+returns-clause-usage c = λ usage.
+    let t : Told = said (record { hops = c.get_flag.result; schedule = c.get_str.result; names = c.in_ok-names_in.field-0 }) in
+    let same = told_from (lent c.args.words.now) (found_of c.in_ok-matches.matches) t c.requires c.in_ok-matches.ensures.ok.0 c.in_ok-matches.ensures.ok.1
+    c.get_flag.ensures.value c.get_flag.ensures.other c.get_str.ensures c.in_ok-names_in.ensures in
+    same ∙ checked-false t (sym c.has_names.ensures ∙ c.if-has_names.false)

@@ -1,0 +1,4 @@
+pub mod Clap
+pub mod Commands
+pub mod Said
+pub mod Words

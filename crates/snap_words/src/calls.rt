@@ -1,0 +1,130 @@
+//! From the words of a command line to its command.
+
+ghost use Rattle.std.specs.Prelude.{◌≡◌, IfErr, IfOk, IsTrue, None, Some, false, option_map};
+ghost use Rattle.std.specs.List.{list_all};
+ghost use Rattle.std.specs.Str.{is_utf8};
+ghost use Rattle.snap_words.specs.Commands.{command_for, command_of, deps, names_alone, obs, routes, with_one, with_two};
+ghost use Rattle.snap_words.specs.Said.{are_among, bytes_of, is_among, lent, said, shown};
+
+use crate::command::Command;
+use crate::fault::WordsFault;
+use crate::told::{self, Told};
+use std::alloc::Global;
+
+/// The command that the words behind the program's name give, with its files' names lent from the
+/// words. `Usage` exactly where they are of no command's form.
+pub fn command<'a>(alloc: Global, words: &'a [Vec<u8>]) -> Result<Command<'a>, WordsFault>
+    ensures ok { IfOk result (λ c. command_of (bytes_of words.entry.now) ≡ Some (shown c)) }
+    ensures usage { IfErr result (λ e. e ≡ WordsFault.Usage
+        → command_of (bytes_of words.entry.now) ≡ None) }
+{
+    let texts = texts(alloc, words)?;
+    let Some((first, rest)) = texts.as_slice().split_first() else {
+        return Err(WordsFault::Usage);
+    };
+    let told = told::read(alloc, rest)?;
+    match command_for(words, *first, &told) {
+        Some(command) => Ok(command),
+        None => Err(WordsFault::Usage),
+    }
+}
+
+/// The words as texts. `Usage` where one is not UTF-8.
+fn texts<'a>(alloc: Global, words: &'a [Vec<u8>]) -> Result<Vec<&'a str>, WordsFault>
+    ensures same { IfOk result (λ v. lent v.items ≡ bytes_of words.entry.now) }
+    ensures ok { IfOk result (λ _. IsTrue (list_all is_utf8 (bytes_of words.entry.now))) }
+    ensures usage { IfErr result (λ e. e ≡ WordsFault.Usage
+        → list_all is_utf8 (bytes_of words.entry.now) ≡ false) }
+{
+    let mut texts = Vec::with_capacity(alloc, words.len())?;
+    for word in words {
+        texts.push(text(word.as_slice())?)?;
+    }
+    Ok(texts)
+}
+
+/// A word as text.
+fn text(word: &[u8]) -> Result<&str, WordsFault>
+    ensures same { IfOk result (λ s. s.now ≡ word.entry.now) }
+    ensures ok { IfOk result (λ _. IsTrue (is_utf8 word.entry.now)) }
+    ensures usage { IfErr result (λ _. is_utf8 word.entry.now ≡ false) }
+{
+    match str::from_utf8(word) {
+        Ok(text) => Ok(text),
+        Err(_) => Err(WordsFault::Usage),
+    }
+}
+
+/// The command of a first word and of what the others say. The options belong to no command yet.
+fn command_for<'a>(words: &'a [Vec<u8>], first: &str, told: &Told) -> Option<Command<'a>>
+    requires { IsTrue (are_among (bytes_of words.now) (said told.now).names) }
+    ensures { option_map shown result ≡ command_for first.now (said told.now) }
+{
+    let names = names_alone(told)?;
+    match first {
+        "obs" => obs(words, names),
+        "deps" => deps(words, names),
+        "routes" => routes(words, names),
+        _ => None,
+    }
+}
+
+/// The names behind a command that has no options.
+fn names_alone<'t>(told: &'t Told) -> Option<&'t [&'t str]>
+    ensures { option_map (λ s. lent s.now) result ≡ names_alone (said told.entry.now) }
+{
+    if told.hops || told.schedule.is_some() {
+        None
+    } else {
+        Some(told.names.as_slice())
+    }
+}
+
+fn obs<'a>(words: &'a [Vec<u8>], names: &[&str]) -> Option<Command<'a>>
+    requires { IsTrue (are_among (bytes_of words.now) (lent names.now)) }
+    ensures { option_map shown result ≡ with_two obs (lent names.now) }
+{
+    match names {
+        [program, packets] => Some(Command::Obs {
+            program: word(words, program),
+            packets: word(words, packets),
+        }),
+        _ => None,
+    }
+}
+
+fn deps<'a>(words: &'a [Vec<u8>], names: &[&str]) -> Option<Command<'a>>
+    requires { IsTrue (are_among (bytes_of words.now) (lent names.now)) }
+    ensures { option_map shown result ≡ with_one deps (lent names.now) }
+{
+    match names {
+        [program] => Some(Command::Deps {
+            program: word(words, program),
+        }),
+        _ => None,
+    }
+}
+
+fn routes<'a>(words: &'a [Vec<u8>], names: &[&str]) -> Option<Command<'a>>
+    requires { IsTrue (are_among (bytes_of words.now) (lent names.now)) }
+    ensures { option_map shown result ≡ with_one routes (lent names.now) }
+{
+    match names {
+        [topology] => Some(Command::Routes {
+            topology: word(words, topology),
+        }),
+        _ => None,
+    }
+}
+
+/// The word that a name was read from: `clap` lends its own texts, and an answer lends the words.
+fn word<'a>(words: &'a [Vec<u8>], name: &str) -> &'a [u8]
+    requires { IsTrue (is_among (bytes_of words.now) name.now) }
+    ensures { result.now ≡ name.now }
+{
+    words
+        .iter()
+        .find(|word| word.as_slice() == name.as_bytes())
+        .unwrap()
+        .as_slice()
+}

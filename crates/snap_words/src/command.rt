@@ -1,0 +1,19 @@
+//! The commands, as their words name them.
+
+/// A command and the files that it names. A name is text that is not empty and does not begin with `-`.
+#[derive(Clone, Copy, Debug, PartialEq, Eq)]
+pub enum Command<'a> {
+    /// The report of one big switch: a program and its packets.
+    Obs {
+        program: &'a [u8],
+        packets: &'a [u8],
+    },
+    /// The dependencies and groups of a program.
+    Deps {
+        program: &'a [u8],
+    },
+    /// The distances and next hops of a topology.
+    Routes {
+        topology: &'a [u8],
+    },
+}

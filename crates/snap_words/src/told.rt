@@ -1,0 +1,126 @@
+//! What the words behind a command say: options and names, read with `clap`.
+
+ghost use Rattle.std.specs.Prelude.{◌≡◌, ◌≢◌, [], IfErr, IfOk, IsTrue, None, Some, codes, option_map, unwrap_or};
+ghost use Rattle.std.specs.List.{list_all};
+ghost use Rattle.std.specs.Str.{is_utf8};
+ghost use Rattle.clap.specs.Words.{all_of, app_of, fault_of, found_of, kind_of, matches_of, rows_of};
+ghost use Rattle.snap_words.specs.Clap.{app};
+ghost use Rattle.snap_words.specs.Said.{lent, said};
+ghost use Rattle.snap_words.specs.Words.{has_names, is_name, is_name_or_none, told_by};
+
+use crate::fault::WordsFault;
+use clap::error::ErrorKind;
+use clap::{Arg, ArgAction, ArgMatches, Command, Error};
+use std::alloc::{AllocError, Global};
+
+/// What words say.
+#[derive(Drop)]
+pub struct Told<'a> {
+    /// `--hops` was there.
+    pub hops: bool,
+    /// The file of `--schedule`.
+    pub schedule: Option<&'a str>,
+    /// The names of files, in their order.
+    pub names: Vec<&'a str>,
+}
+
+/// What the words behind a command say. `Usage` where they are not of the form: an option that is
+/// unknown or comes twice, or a name that is empty or begins with `-`.
+pub fn read<'a>(alloc: Global, words: &'a [&'a str]) -> Result<Told<'a>, WordsFault>
+    requires { IsTrue (list_all is_utf8 (lent words.now)) }
+    ensures ok { IfOk result (λ t. told_by (lent words.entry.now) ≡ Some (said t)) }
+    ensures usage { IfErr result (λ e. e ≡ WordsFault.Usage → told_by (lent words.entry.now) ≡ None) }
+{
+    let matches = matches_of(alloc, words)?;
+    let told = Told {
+        hops: matches.get_flag("hops"),
+        schedule: matches.get_str("schedule"),
+        names: names_in(alloc, &matches)?,
+    };
+    if has_names(&told) {
+        Ok(told)
+    } else {
+        Err(WordsFault::Usage)
+    }
+}
+
+/// What `clap` finds in the words.
+fn matches_of<'a>(alloc: Global, words: &'a [&'a str]) -> Result<ArgMatches<'a>, WordsFault>
+    ensures ok { IfOk result (λ m. (fault_of app (lent words.entry.now) ≡ [])
+        × (rows_of (found_of m) ≡ matches_of app (lent words.entry.now))) }
+    ensures usage { IfErr result (λ e. e ≡ WordsFault.Usage → fault_of app (lent words.entry.now) ≢ []) }
+{
+    match flat(alloc)?.try_get_matches_from(words) {
+        Ok(matches) => Ok(matches),
+        Err(error) => Err(words_fault(&error)),
+    }
+}
+
+/// The one flat command for all: `--hops`, `--schedule FILE` and names, in any order.
+fn flat<'a>(alloc: Global) -> Result<Command<'a>, AllocError>
+    ensures { IfOk result (λ c. app_of c ≡ app) }
+{
+    let hops = Arg::new(alloc, "hops")
+        .long("hops")
+        .action(ArgAction::SetTrue);
+    let schedule = Arg::new(alloc, "schedule")
+        .long("schedule")
+        .action(ArgAction::Set);
+    let name = Arg::new(alloc, "name").action(ArgAction::Append);
+    Command::new(alloc, "snapc")
+        .no_binary_name(true)
+        .disable_help_flag(true)
+        .arg(hops)?
+        .arg(schedule)?
+        .arg(name)
+}
+
+/// `clap`'s errors are usage, but for want of memory.
+fn words_fault(error: &Error) -> WordsFault
+    ensures { result ≡ WordsFault.Usage → kind_of error.now ≢ ErrorKind.OutOfMemory }
+{
+    match error.kind() {
+        ErrorKind::OutOfMemory => WordsFault::NoMemory,
+        _ => WordsFault::Usage,
+    }
+}
+
+/// The names that `clap` found.
+fn names_in<'a>(alloc: Global, matches: &ArgMatches<'a>) -> Result<Vec<&'a str>, AllocError>
+    ensures { IfOk result (λ v. lent v.items
+        ≡ unwrap_or (all_of (codes "name") (rows_of (found_of matches.now))) []) }
+{
+    match matches.get_raw("name") {
+        Some(names) => Vec::from_slice(alloc, names),
+        None => Ok(Vec::new(alloc)),
+    }
+}
+
+/// Whether all names are names of files. `clap` takes any word behind `--`, and an empty one.
+fn has_names(told: &Told) -> bool
+    ensures { result ≡ has_names (said told.now) }
+{
+    all_names(told.names.as_slice()) && is_name_or_none(told.schedule)
+}
+
+fn all_names(names: &[&str]) -> bool
+    ensures { result ≡ list_all is_name (lent names.now) }
+{
+    names.iter().all(|name| is_name(name))
+}
+
+fn is_name_or_none(file: Option<&str>) -> bool
+    ensures { result ≡ is_name_or_none (option_map (λ s. s.now) file.entry) }
+{
+    match file {
+        Some(name) => is_name(name),
+        None => true,
+    }
+}
+
+/// Whether a word is a file's name: not empty, and with no `-` in front.
+fn is_name(word: &str) -> bool
+    ensures { result ≡ is_name word.now }
+{
+    !word.is_empty() && !word.starts_with('-')
+}
