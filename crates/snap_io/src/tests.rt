@@ -37,14 +37,13 @@ fn reads_a_file_in_memory(rt: HostRuntime) -> Result<(), Fail> {
 }
 
 // A shelf with one file of three lines and 9 bytes, which gives at most `most` bytes a read.
-fn shelf(alloc: Global, most: usize, fails: &[u64]) -> Result<MemoryShelf, Fail>
-    requires { 0 < most }
-{
+fn shelf(alloc: Global, most: usize, fails: &[u64]) -> Result<MemoryShelf, Fail> {
     let files = vec![in alloc; file(alloc, b"a", b"one\r\n\ntwo")?]?;
     if !have_distinct_names(&files) {
         return Err(Fail::from("two files have one name"));
     }
-    Ok(MemoryShelf::limited(files, most, fails.to_vec(alloc)?))
+    let fails = fails.to_vec(alloc)?;
+    Ok(MemoryShelf::limited(files, most.max(1), fails))
 }
 
 #[test]
