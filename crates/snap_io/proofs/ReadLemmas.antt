@@ -1,5 +1,5 @@
 -- A reader that reads on, at a shelf that may tell its files.
-use Rattle.std.proofs.Common.{◌≡◌, ℕ, ◌+◌, ◌-◌, ◌≤◌, Bool, true, false, not, ◌&&◌, eqb, leb, ltb, Result, List, length, IsTrue, Option, Some, None, IfSome, take, drop, refl, sym, ap, subst, ◌∙◌, arith}
+use Rattle.std.proofs.Common.{◌≡◌, ℕ, ◌+◌, ◌-◌, Bool, true, false, not, ◌&&◌, eqb, leb, ltb, Result, List, length, IsTrue, Option, Some, None, IfSome, take, drop, refl, sym, ap, subst, ◌∙◌, arith}
 use Rattle.std.proofs.lemmas.Bool.{ltb-true, eqb-true, false_from_ne_true}
 use Rattle.std.proofs.Math.Bool.{and-false}
 use Rattle.snap_io.specs.declared.lines.Lines.{Lines}
