@@ -1,7 +1,7 @@
 -- What stands before the first LF, and what stands next in a file.
-use Rattle.std.proofs.Common.{zero, suc, ◌≡◌, ℕ, ◌+◌, ◌-◌, ◌<◌, ◌≤◌, min, Bool, true, false, cond, eqb, List, [], ◌∷◌, ◌++◌, length, get_or, take, drop, Option, Some, None, refl, sym, ap, ◌∙◌, arith, Contains}
+use Rattle.std.proofs.Common.{zero, suc, ◌≡◌, ℕ, ◌+◌, ◌-◌, ◌<◌, ◌≤◌, min, Bool, true, false, cond, List, [], ◌∷◌, ◌++◌, length, take, drop, Option, Some, None, sym, ap, ◌∙◌, arith, Contains}
 use Rattle.std.specs.Prelude.{◌==◌, not}
-use Rattle.std.specs.List.{position_or_len, prefix_len, slice_range}
+use Rattle.std.specs.List.{slice_range}
 use Rattle.std.specs.Option.{unwrap_or}
 use Rattle.std.proofs.lemmas.Bool.{false_from_ne_true, eq-eqb, eqb-true, false≢true}
 use Rattle.std.proofs.lemmas.List.{length-take}

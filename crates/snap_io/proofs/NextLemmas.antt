@@ -1,5 +1,5 @@
 -- What stands next in a file, by the bytes of it that are held.
-use Rattle.std.proofs.Common.{◌≡◌, ℕ, ◌+◌, ◌-◌, ◌<◌, ◌≤◌, min, Bool, true, false, not, ◌&&◌, leb, ltb, eqb, if◌then◌else◌, List, [], ◌++◌, length, take, drop, refl, sym, ap, ◌∙◌, ◌⊎◌, inl, inr, arith, length-drop, IsTrue}
+use Rattle.std.proofs.Common.{◌≡◌, ℕ, ◌+◌, ◌-◌, ◌<◌, ◌≤◌, min, Bool, true, false, not, ◌&&◌, leb, ltb, eqb, if◌then◌else◌, List, ◌++◌, length, take, drop, refl, sym, ap, ◌∙◌, ◌⊎◌, inl, inr, arith, length-drop, IsTrue}
 use Rattle.std.proofs.lemmas.Bool.{le-leb, lt-leb, lt-ltb, le-ltb, eq-eqb, false≢true, ltb-true, ltb-false, leb-true, eqb-true}
 use Rattle.std.proofs.lemmas.List.{length-take, take-take, drop-drop, drop-take, drop_min}
 use Rattle.std.proofs.lemmas.List.Folds.{length-prefix_len}

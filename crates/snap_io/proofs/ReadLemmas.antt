@@ -1,5 +1,5 @@
 -- A reader that reads on, at a shelf that may tell its files.
-use Rattle.std.proofs.Common.{◌≡◌, ℕ, ◌+◌, ◌-◌, ◌≤◌, Bool, true, false, not, ◌&&◌, eqb, leb, ltb, Result, List, length, IsTrue, Option, Some, None, IfSome, take, drop, refl, sym, ap, subst, ◌∙◌, arith}
+use Rattle.std.proofs.Common.{◌≡◌, ℕ, ◌+◌, ◌-◌, Bool, true, false, not, ◌&&◌, eqb, leb, ltb, Result, List, length, IsTrue, Option, Some, None, IfSome, take, drop, refl, sym, ap, subst, ◌∙◌, arith}
 use Rattle.std.proofs.lemmas.Bool.{ltb-true, eqb-true, false_from_ne_true}
 use Rattle.std.proofs.Math.Bool.{and-false}
 use Rattle.snap_io.specs.declared.lines.Lines.{Lines}
@@ -22,26 +22,26 @@ many_told X (Some files) lines shown at more agrees byte name met must place non
     let held = lines_held lines in
     let parts = open_parts lines.ended (before_lf held) (length held) (lines_most lines) must in
     let full : lines_given lines + length held ≡ lines_limit lines = omega (arith, lines.within, length-held_bytes lines.held) in
-    next_in-many (lines_limit lines) (lines_most lines) (file_of files (lines_name lines)) (lines_given lines) held agrees.held full parts.0 parts.1
+    next_in-many (lines_limit lines) (lines_most lines) (file_of files (lines_name lines)) (lines_given lines) held agrees.agrees.held full parts.0 parts.1
     (omega (arith, ltb-true at _ (sym byte ∙ met), ap (λ n. length (file_of files n)) name))
 
 -- bytes were read, or the file's end was met
 pub AgreesWith-more : (told now : Option Files) (old new : Lines) (shown : List ℕ) (at count : ℕ)
     → now ≡ told → AgreesWith told old → IfSome told (λ files. GrowsBy (file_of files shown) at count (lines_held old) (lines_held new)) → shown ≡ lines_name old → lines_name new ≡ lines_name old
     → at ≡ lines_given old + length (lines_held old) → lines_given new ≡ lines_given old → length (lines_held new) ≡ length (lines_held old) + count → (IsTrue new.ended → count ≡ 0) → AgreesWith now new
-AgreesWith-more None now old new shown at count same agrees grows name kept place given len ended = subst (λ (o : Option Files). AgreesWith o new) (sym same) tt
+AgreesWith-more None now old new shown at count same agrees grows name kept place given len ended = subst (λ (o : Option Files). AgreesWith o new) (sym same) (record { agrees = tt })
 AgreesWith-more (Some files) now old new shown at count same agrees grows name kept place given len ended =
     let file = file_of files (lines_name new) in
     let named : file_of files shown ≡ file = ap (file_of files) (name ∙ sym kept) in
     let was : file_of files (lines_name old) ≡ file = ap (file_of files) (sym kept) in
     let grew : GrowsBy file at count (lines_held old) (lines_held new) = subst (λ (f : List ℕ). GrowsBy f at count (lines_held old) (lines_held new)) named grows in
-    let had : Agrees old file = subst (Agrees old) was agrees in
+    let had : Agrees old file = subst (Agrees old) was agrees.agrees in
     let fits = AreAt-more file (lines_given old) at count (lines_held old) (lines_held new) had.held place len grew in
     let here : Agrees new file = record {
       held = fits ∙ ap (λ n. take (length (lines_held new)) (drop n file)) (sym given);
       ended = λ end. omega (arith, grew.ended (ended end), ended end);
     } in
-    subst (λ (o : Option Files). AgreesWith o new) (sym same) here
+    subst (λ (o : Option Files). AgreesWith o new) (sym same) (record { agrees = here })
 
 -- with an LF held there is nothing to read
 pub is_open-HoldsLine : (lines : Lines) → HoldsLine lines → is_open lines ≡ false
@@ -73,11 +73,11 @@ AnswersNext-ready (Some files) now old ready new result is gives =
     let agrees = subst (λ (o : Option Files). AgreesWith o ready) is.same is.agrees in
     let reads = is.reads in
     let next : next_in (lines_limit ready) (lines_most ready) (file_of files (lines_name ready)) (lines_given ready) ≡ next_of old files = λ i. next_in (reads.limit i) (reads.most i) (file_of files (reads.name i)) (reads.given i) in
-    subst (λ (n : Next). AnswersNext n new result) next (gives (file_of files (lines_name ready)) agrees)
+    subst (λ (n : Next). AnswersNext n new result) next (gives (file_of files (lines_name ready)) agrees.agrees)
 
 pub AgreesWith-kept : (told : Option Files) (old new : Lines) → lines_name new ≡ lines_name old → AgreesWith told old → ((file : List ℕ) → Agrees old file → Agrees new file) → AgreesWith told new
-AgreesWith-kept None old new name agrees keeps = tt
-AgreesWith-kept (Some files) old new name agrees keeps = subst (λ (n : List ℕ). Agrees new (file_of files n)) (sym name) (keeps (file_of files (lines_name old)) agrees)
+AgreesWith-kept None old new name agrees keeps = record { agrees = tt }
+AgreesWith-kept (Some files) old new name agrees keeps = record { agrees = subst (λ (n : List ℕ). Agrees new (file_of files n)) (sym name) (keeps (file_of files (lines_name old)) agrees.agrees) }
 
 pub IsReady-read : (told then now : Option Files) (old read ready : Lines) → ready ≡ read → now ≡ then → OnlyReads old read → AgreesWith then read → then ≡ told → is_open read ≡ false → IsReady told now old ready
 IsReady-read told then now old read ready is same reads agrees kept settled = record {

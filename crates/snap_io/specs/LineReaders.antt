@@ -41,9 +41,9 @@ pub record Agrees (lines : Lines) (file : List ℕ) : Type 0 where
   pub held : lines_held lines ≡ take (length (lines_held lines)) (drop (lines_given lines) file)
   pub ended : IsTrue lines.ended → length file ≤ lines_given lines + length (lines_held lines)
 
--- what was read is what the shelf tells of the file
-abbrev pub AgreesWith : Option Files → Lines → Type 0
-AgreesWith told lines = IfSome told (λ files. Agrees lines (file_of files (lines_name lines)))
+-- what was read is the file's, where the shelf tells its files
+pub record AgreesWith (told : Option Files) (lines : Lines) : Type 0 where
+  pub agrees : IfSome told (λ files. Agrees lines (file_of files (lines_name lines)))
 
 -- more of the file has to be read before the next line is known
 abbrev pub is_open : Lines → Bool

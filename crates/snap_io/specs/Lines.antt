@@ -1,6 +1,6 @@
 -- The lines of a file, one after another, within limits on the file's bytes and on those of a line.
 use Rattle.std.specs.List.{position_or_len}
-use Rattle.std.specs.Prelude.{ℕ, ◌+◌, Bool, not, ◌&&◌, ◌==◌, nat_lt, nat_le, min, if◌then◌else◌, List, length, take_while, drop}
+use Rattle.std.specs.Prelude.{ℕ, ◌+◌, not, ◌&&◌, ◌==◌, nat_lt, nat_le, min, if◌then◌else◌, List, length, take_while, drop}
 
 -- what stands next in a file: a line, with the place behind it and its LF; nothing; a line that is too long; or
 -- a line that doesn't end within the limit on bytes

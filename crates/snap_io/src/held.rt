@@ -1,16 +1,15 @@
 // The bytes of a file that were read and not yet given, in a buffer of a fixed size.
 ghost use Rattle.std.specs.Prelude.{◌≡◌, ◌+◌, ◌*◌, ◌<◌, ◌≤◌, [], ◌++◌, length, take, drop, slice_range, vec_len, IfOk, IfSome, OnErr};
+ghost use Rattle.snap_io.specs.declared.device.TheConstants.{PIECE};
 ghost use Rattle.snap_io.specs.Causes.{HasCause};
 ghost use Rattle.snap_io.specs.Files.{file_of, ReadsPart};
 ghost use Rattle.snap_io.specs.Lines.{before_lf};
 
+use crate::device::PIECE;
 use crate::{Failed, Shelf};
 use memchr::memchr;
 use snap_core::NoMemory;
 use std::alloc::Global;
-
-/// How many bytes one read asks for at most.
-pub(crate) const PIECE: usize = 65_536;
 
 /// Bytes read and not yet given, and before them in the buffer the line that was given last.
 ///
@@ -25,7 +24,7 @@ pub(crate) struct Held {
     start: usize,
     end: usize,
     before: usize,
-    ghost room: { vec_len buffer ≡ 2 * most + 65537 },
+    ghost room: { vec_len buffer ≡ 2 * most + PIECE + 1 },
     ghost line_ordered: { line_start ≤ line_end },
     ghost line_fits: { line_end ≤ line_start + most },
     ghost line_before: { line_end ≤ start },
@@ -114,7 +113,7 @@ impl Held {
         requires few { length (held_bytes self.old) ≤ held_most self.old }
         requires no_line { before_lf (held_bytes self.old) ≡ length (held_bytes self.old) }
         requires some { 0 < want }
-        requires piece { want ≤ 65536 }
+        requires piece { want ≤ PIECE }
         ensures more { IfOk result (λ count. count ≤ want) }
         ensures len { IfOk result (λ count. length (held_bytes self.new) ≡ length (held_bytes self.old) + count) }
         ensures bytes { IfSome (S.files shelf.old) (λ files.
@@ -171,7 +170,7 @@ impl Held {
     // Leaves room for a piece behind the bytes held.
     fn make_room(&mut self)
         requires few { length (held_bytes self.old) ≤ held_most self.old }
-        ensures room { self.new.end + 65536 ≤ vec_len self.new.buffer }
+        ensures room { self.new.end + PIECE ≤ vec_len self.new.buffer }
         ensures bytes { held_bytes self.new ≡ held_bytes self.old }
         ensures line { held_line self.new ≡ held_line self.old }
         ensures most { held_most self.new ≡ held_most self.old }

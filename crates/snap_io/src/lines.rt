@@ -6,7 +6,8 @@ ghost use Rattle.snap_io.specs.Causes.{HasCause, Rose};
 ghost use Rattle.snap_io.specs.Files.{Files, file_of};
 ghost use Rattle.snap_io.specs.Lines.{many_bytes, next_in};
 
-use crate::held::{Held, PIECE};
+use crate::device::PIECE;
+use crate::held::Held;
 use crate::{Failed, Shelf};
 use snap_core::NoMemory;
 use std::alloc::Global;
