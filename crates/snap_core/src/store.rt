@@ -5,12 +5,14 @@ ghost use Rattle.snap_core.specs.declared.place.Place.{Place};
 ghost use Rattle.snap_core.specs.Arrays.{updates, put, zero_arrays};
 ghost use Rattle.snap_core.specs.Cells.{cell, arrays_of, overlaid, changed_at, room_at};
 ghost use Rattle.snap_core.specs.Fits.{UpdateFits};
+ghost use Rattle.snap_core.specs.Listing.{IsListing};
 
 use crate::NoMemory;
 use crate::array::Array;
 use crate::changes::Changes;
 use crate::packet::Packet;
 use crate::patch::Patch;
+use crate::place::Entry;
 use crate::policy::Update;
 use std::alloc::Global;
 use std::collections::BTreeMap;
@@ -171,5 +173,12 @@ impl Store {
         if let Some(array) = self.arrays.get_mut(&var) {
             array.take(patch);
         }
+    }
+
+    /// The places that aren't 0, each with its number, rising by variable and then by index.
+    pub fn entries(&self) -> Result<Vec<Entry>, NoMemory>
+        ensures { IfOk result (λ entries. IsListing (arrays_of self.now) entries.items) }
+    {
+        Err(NoMemory)
     }
 }

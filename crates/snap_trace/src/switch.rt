@@ -6,7 +6,7 @@ ghost use Rattle.std.specs.Io.KnownBytes.{Appends};
 ghost use Rattle.snap_core.specs.Arrays.{zero_arrays};
 ghost use Rattle.snap_core.specs.Cells.{arrays_of};
 ghost use Rattle.snap_core.specs.Fields.{count};
-ghost use Rattle.snap_core.specs.Programs.{IsInForm};
+ghost use Rattle.snap_core.specs.Programs.{IsBounded};
 ghost use Rattle.snap_core.specs.declared.program.Program.{Program as ProgramData};
 ghost use Rattle.snap_io.specs.Causes.{HasCause, Rose};
 ghost use Rattle.snap_io.specs.Files.{file_of};
@@ -19,7 +19,8 @@ ghost use Rattle.snap_trace.specs.Steps.{Closes, ComesOn, ComesTo, PutsEnd, Take
 use crate::fault::TraceFault;
 use crate::line::{Line, LineFault, read_line};
 use crate::report::{put_block, put_end};
-use snap_core::eval::evaluate;
+use snap_core::changes::Changes;
+use snap_core::eval::run;
 use snap_core::outcome::EvalFault;
 use snap_core::packet::Packet;
 use snap_core::program::{Program, Which};
@@ -84,13 +85,13 @@ impl Switch {
         line: &[u8],
         number: u64,
     ) -> Result<(), TraceFault>
-        requires form { IsInForm program.now }
+        requires form { IsBounded program.now }
         requires number { self.old.number < 2 ^ 63 }
         ensures { Takes program.now number (said_by program.now.fields line.now) self.old self.new result }
     {
         match read_line(alloc, &program.fields, line) {
             Ok(Line::Skip) => Ok(()),
-            Ok(Line::Inject { port: _, packet }) => self.take_packet(alloc, program, &packet),
+            Ok(Line::Inject { port: _, packet }) => self.take_packet(alloc, program, packet),
             Err(LineFault::Bad) => Err(TraceFault::Packets { line: number }),
             Err(LineFault::NoMemory) => Err(TraceFault::NoMemory),
         }
@@ -101,17 +102,24 @@ impl Switch {
         &mut self,
         alloc: Global,
         program: &Program,
-        packet: &Packet,
+        packet: Packet,
     ) -> Result<(), TraceFault>
-        requires form { IsInForm program.now }
-        requires comps { length packet.now ≡ count program.now.fields }
+        requires form { IsBounded program.now }
+        requires comps { length packet ≡ count program.now.fields }
         requires number { self.old.number < 2 ^ 63 }
-        ensures { TakesPacket program.now packet.now self.old self.new result }
+        ensures { TakesPacket program.now packet self.old self.new result }
     {
-        match evaluate(alloc, &program.body, &self.store, packet) {
-            Ok(outcome) => {
-                put_block(&mut self.text, &program.fields, self.number, &outcome.packets)?;
-                self.store = outcome.store;
+        match run(
+            alloc,
+            &program.body,
+            &self.store,
+            Changes::new(alloc),
+            packet,
+        ) {
+            Ok(run) => {
+                let packets = run.copies.into_set(alloc)?;
+                put_block(&mut self.text, &program.fields, self.number, &packets)?;
+                self.store.apply_changes(run.changes)?;
                 self.number += 1;
                 Ok(())
             }
@@ -147,7 +155,7 @@ impl Switch {
         sink: &mut K,
         read: u64,
     ) -> Result<bool, TraceFault>
-        requires form { IsInForm program.now }
+        requires form { IsBounded program.now }
         requires number { self.old.number ≤ read + 1 }
         requires read { read < MOST_LINES }
         requires limit { lines_limit lines.old ≡ MOST_BYTES }
@@ -216,7 +224,7 @@ impl Switch {
         program: &Program,
         sink: &mut K,
     ) -> Result<(), TraceFault>
-        requires form { IsInForm program.now }
+        requires form { IsBounded program.now }
         requires number { self.old.number ≡ 1 }
         requires arrays { arrays_of self.old.store ≡ zero_arrays }
         requires text { self.old.text.items ≡ [] }
@@ -333,7 +341,7 @@ pub fn one_switch<S: Shelf, K: Sink>(
     program: &Program,
     sink: &mut K,
 ) -> Result<(), TraceFault>
-    requires { IsInForm program.now }
+    requires { IsBounded program.now }
     ensures report { IfSome (S.files shelf.old) (λ files.
         Meets program.now (file_of files packets.now) result (K.taken sink.old) (K.taken sink.new)) }
     ensures read { IsErrOf result TraceFault.Read → Rose (S.faults shelf.old) (S.faults shelf.new) }

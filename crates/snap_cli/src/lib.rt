@@ -1,0 +1,6 @@
+//! All that the program does, over any shelf and sinks.
+#![tactic(auto)]
+
+pub mod program;
+pub mod refusal;
+pub mod spot;
