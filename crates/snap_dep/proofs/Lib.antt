@@ -1,0 +1,4 @@
+pub mod Agreement
+pub mod Below
+pub mod ByRank
+pub mod Locals

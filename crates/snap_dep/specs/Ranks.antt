@@ -1,0 +1,51 @@
+-- Groups of tied variables, and their order.
+use Rattle.std.specs.Prelude.{◌≡◌, ◌≢◌, ◌↔◌, ℕ, ◌<◌, ◌≤◌, List, take, length, slice_index, Contains}
+use Rattle.std.specs.List.{AllPairs}
+use Rattle.snap_core.specs.declared.policy.Pol.{Pol}
+use Rattle.snap_dep.specs.Dependencies.{Depends, Tied, UsesBelow}
+
+-- a group goes by the least of its variables, of which there are n
+pub record IsGroup (p : Pol) (n g : ℕ) : Type 0 where
+  pub below : g < n
+  pub least : (v : ℕ) → v < n → Tied p g v → g ≤ v
+
+-- a variable of the one group has a dependency to one of the other
+abbrev pub Precedes : Pol → ℕ → ℕ → Type 0
+Precedes p g h = (s : ℕ) × (t : ℕ) × Tied p g s × Tied p h t × Depends p s t
+
+-- each other group that precedes g is among those taken
+abbrev pub IsReady : Pol → ℕ → List ℕ → ℕ → Type 0
+IsReady p n taken g = (h : ℕ) → IsGroup p n h → Precedes p h g → h ≢ g → Contains taken h
+
+-- each group once, and each the least of those that were ready when it was taken
+pub record IsRank (p : Pol) (n : ℕ) (order : List ℕ) : Type 0 where
+  pub groups : (g : ℕ) → Contains order g ↔ IsGroup p n g
+  pub once : AllPairs (λ g h. g ≢ h) order
+  pub ready : (i : ℕ) → i < length order → IsReady p n (take i order) (slice_index order i)
+  pub least : (i g : ℕ) → i < length order → IsGroup p n g → ¬ (Contains (take i order) g) → IsReady p n (take i order) g → slice_index order i ≤ g
+
+-- each variable's rank: the place of its group in the order
+pub record IsRankIn (p : Pol) (n : ℕ) (order : List ℕ) (rank : ℕ → ℕ) : Type 0 where
+  pub below : (v : ℕ) → v < n → rank v < length order
+  pub group : (v : ℕ) → v < n → Tied p (slice_index order (rank v)) v
+
+-- the rank of each variable, and the groups by rank
+pub record Grouping : Type 0 where
+  pub ranks : List ℕ
+  pub order : List ℕ
+
+-- the rank of a variable
+abbrev pub rank_of : Grouping → ℕ → ℕ
+rank_of g v = slice_index g.ranks v
+
+-- the groups of a policy with n variables
+pub record IsGrouping (p : Pol) (n : ℕ) (g : Grouping) : Type 0 where
+  pub count : length g.ranks ≡ n
+  pub order : IsRank p n g.order
+  pub ranks : IsRankIn p n g.order (rank_of g)
+  pub tied : (a b : ℕ) → a < n → b < n → (rank_of g a ≡ rank_of g b) ↔ Tied p a b
+
+-- each policy's groups have an order, and only one
+pub record HasOneRank (p : Pol) (n : ℕ) : Type 0 where
+  pub exists : (order : List ℕ) × IsRank p n order
+  pub unique : (a b : List ℕ) → IsRank p n a → IsRank p n b → a ≡ b

@@ -1,0 +1,4 @@
+//! Dependencies between the variables of a program, their groups and the rank of each group.
+#![tactic(auto)]
+
+pub mod laws;
