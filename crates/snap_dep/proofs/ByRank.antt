@@ -12,6 +12,7 @@ use Rattle.snap_dep.specs.Dependencies.{Depends, UsesBelow}
 use Rattle.snap_dep.specs.Ranks.{Precedes, IsGroup, IsRank, IsRankIn}
 use Rattle.snap_dep.specs.Locality.{ActsByRank, AgreeOn, IsClosed, cut, arrays_after, IsStore}
 use Rattle.snap_dep.proofs.Below.{depends_below}
+use Rattle.snap_dep.proofs.Taking.{begun_groups, begun_once}
 use Rattle.snap_dep.proofs.Locals.{settled, IfBoth, SettledAt}
 
 -- ---- dependencies never lead to a lesser rank
@@ -21,7 +22,7 @@ module _ (p : Pol) (n : ℕ) (order : List ℕ) (rank : ℕ → ℕ) (fits : Use
     where
       by_order : (t : Bool) → nat_le i j ≡ t → i ≤ j
       by_order true l = leb-true i j l
-      by_order false l = absurd (ranked.once j i d (leb-false i j l) a (sym e))
+      by_order false l = absurd (begun_once p n order ranked.steps j i d (leb-false i j l) a (sym e))
 
   rising : (s t : ℕ) → Depends p s t → rank s ≤ rank t
   rising s t d = by_group (nat_eq h g) refl
@@ -48,7 +49,7 @@ module _ (p : Pol) (n : ℕ) (order : List ℕ) (rank : ℕ → ℕ) (fits : Use
       precedes = (s, t, own.group s sn, own.group t tn, d)
 
       is_group : IsGroup p n h
-      is_group = (ranked.groups h).0 (rank s, own.below s sn, get_or_default order (rank s) _ 0 (own.below s sn))
+      is_group = begun_groups p n order ranked.steps h (rank s, own.below s sn, get_or_default order (rank s) _ 0 (own.below s sn))
 
       before : Contains (take (rank t) order) h → rank s ≤ rank t
       before f =
@@ -60,7 +61,7 @@ module _ (p : Pol) (n : ℕ) (order : List ℕ) (rank : ℕ → ℕ) (fits : Use
 
       by_group : (b : Bool) → nat_eq h g ≡ b → rank s ≤ rank t
       by_group true e = once_only (rank s) (rank t) 0 (own.below s sn) (own.below t tn) (eqb-true h g e)
-      by_group false e = before (ranked.ready (rank t) (own.below t tn) h is_group precedes (eqb-false h g e))
+      by_group false e = before ((ranked.steps (rank t) (own.below t tn)).ready h is_group precedes (eqb-false h g e))
 
 pub is_cut : (rank : ℕ → ℕ) (r : ℕ) (m : Arrays) → AgreeOn (λ v. nat_le (rank v) r) m (cut rank r m)
 is_cut rank r m q e = sym (cond-true _ _ _ e)

@@ -1,4 +1,11 @@
 pub mod Agreement
 pub mod Below
 pub mod ByRank
+pub mod Chains
+pub mod Choices
+pub mod GroupLemmas
 pub mod Locals
+pub mod OneRank
+pub mod Rows
+pub mod Sets
+pub mod Taking

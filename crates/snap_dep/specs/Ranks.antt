@@ -2,7 +2,7 @@
 use Rattle.std.specs.Prelude.{◌≡◌, ◌≢◌, ◌↔◌, ℕ, ◌<◌, ◌≤◌, List, take, length, slice_index, Contains}
 use Rattle.std.specs.List.{AllPairs}
 use Rattle.snap_core.specs.declared.policy.Pol.{Pol}
-use Rattle.snap_dep.specs.Dependencies.{Depends, Tied, UsesBelow}
+use Rattle.snap_dep.specs.Dependencies.{Depends, Tied}
 
 -- a group goes by the least of its variables, of which there are n
 pub record IsGroup (p : Pol) (n g : ℕ) : Type 0 where
@@ -17,12 +17,17 @@ Precedes p g h = (s : ℕ) × (t : ℕ) × Tied p g s × Tied p h t × Depends p
 abbrev pub IsReady : Pol → ℕ → List ℕ → ℕ → Type 0
 IsReady p n taken g = (h : ℕ) → IsGroup p n h → Precedes p h g → h ≢ g → Contains taken h
 
--- each group once, and each the least of those that were ready when it was taken
+-- the least of the groups that aren't taken and are ready
+pub record IsNext (p : Pol) (n : ℕ) (taken : List ℕ) (g : ℕ) : Type 0 where
+  pub group : IsGroup p n g
+  pub new : ¬ (Contains taken g)
+  pub ready : IsReady p n taken g
+  pub least : (h : ℕ) → IsGroup p n h → ¬ (Contains taken h) → IsReady p n taken h → g ≤ h
+
+-- again and again the next group is taken, until none is left
 pub record IsRank (p : Pol) (n : ℕ) (order : List ℕ) : Type 0 where
-  pub groups : (g : ℕ) → Contains order g ↔ IsGroup p n g
-  pub once : AllPairs (λ g h. g ≢ h) order
-  pub ready : (i : ℕ) → i < length order → IsReady p n (take i order) (slice_index order i)
-  pub least : (i g : ℕ) → i < length order → IsGroup p n g → ¬ (Contains (take i order) g) → IsReady p n (take i order) g → slice_index order i ≤ g
+  pub steps : (i : ℕ) → i < length order → IsNext p n (take i order) (slice_index order i)
+  pub all : (g : ℕ) → IsGroup p n g → Contains order g
 
 -- each variable's rank: the place of its group in the order
 pub record IsRankIn (p : Pol) (n : ℕ) (order : List ℕ) (rank : ℕ → ℕ) : Type 0 where
@@ -45,7 +50,9 @@ pub record IsGrouping (p : Pol) (n : ℕ) (g : Grouping) : Type 0 where
   pub ranks : IsRankIn p n g.order (rank_of g)
   pub tied : (a b : ℕ) → a < n → b < n → (rank_of g a ≡ rank_of g b) ↔ Tied p a b
 
--- each policy's groups have an order, and only one
+-- the groups of a policy have an order by rank, and only one, which has each group once
 pub record HasOneRank (p : Pol) (n : ℕ) : Type 0 where
   pub exists : (order : List ℕ) × IsRank p n order
   pub unique : (a b : List ℕ) → IsRank p n a → IsRank p n b → a ≡ b
+  pub groups : (order : List ℕ) → IsRank p n order → (g : ℕ) → Contains order g ↔ IsGroup p n g
+  pub once : (order : List ℕ) → IsRank p n order → AllPairs (λ g h. g ≢ h) order

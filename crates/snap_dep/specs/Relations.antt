@@ -1,5 +1,5 @@
 -- Relations between variables, as rows of sets: a row for each variable, with those that are related to it.
-use Rattle.std.specs.Prelude.{◌↔◌, ℕ, IsTrue, List, slice_index}
+use Rattle.std.specs.Prelude.{◌↔◌, ◌≢◌, ℕ, IsTrue, List, slice_index}
 use Rattle.snap_core.specs.Variables.{has}
 
 -- the row of t has s
@@ -9,3 +9,12 @@ Relates rows s t = IsTrue (has (slice_index rows t) s)
 -- the rows are those of a relation
 abbrev pub IsRelation : (ℕ → ℕ → Type 0) → List ℕ → Type 0
 IsRelation R rows = (s t : ℕ) → Relates rows s t ↔ R s t
+
+-- the variables with a property, as a set
+abbrev pub IsSetOf : (ℕ → Type 0) → ℕ → Type 0
+IsSetOf P set = (v : ℕ) → IsTrue (has set v) ↔ P v
+
+-- a variable of the set to which no other one of the set is related
+pub record IsFree (rows : List ℕ) (set v : ℕ) : Type 0 where
+  pub inside : IsTrue (has set v)
+  pub free : (s : ℕ) → IsTrue (has set s) → s ≢ v → ¬ (Relates rows s v)

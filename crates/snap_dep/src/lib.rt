@@ -2,3 +2,6 @@
 #![tactic(auto)]
 
 pub mod laws;
+mod order;
+mod relation;
+mod uses;

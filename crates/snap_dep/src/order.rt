@@ -1,0 +1,77 @@
+//! The groups of tied variables, in the order of their ranks.
+
+ghost use Rattle.std.specs.Prelude.{◌≡◌, ◌≢◌, ◌≤◌, ◌<◌, ◌↔◌, ℕ, IsTrue, IfOk, MatchOption, length};
+ghost use Rattle.snap_core.specs.Variables.{has};
+ghost use Rattle.snap_core.specs.declared.policy.Pol.{Pol};
+ghost use Rattle.snap_dep.specs.Dependencies.{Reaches, Tied, UsesBelow};
+ghost use Rattle.snap_dep.specs.Ranks.{IsGroup, IsRank, IsRankIn};
+ghost use Rattle.snap_dep.specs.Relations.{Relates, IsRelation, IsSetOf, IsFree};
+
+use crate::relation::{are_tied, has_var};
+use snap_core::NoMemory;
+use std::alloc::Global;
+
+// Whether a variable is the least of those that are tied to it.
+fn is_group(rows: &[u64], var: usize) -> bool
+    requires small { length rows.now ≤ 64 }
+    requires within { var < length rows.now }
+    ensures { (p : Pol) → IsRelation (Reaches p) rows.now → IsTrue result ↔ IsGroup p (length rows.now) var }
+{
+    for other in 0..var {
+        if are_tied(rows, other, var) {
+            return false;
+        }
+    }
+    true
+}
+
+// The set of the groups, each by its least variable.
+fn all_groups(rows: &[u64]) -> u64
+    requires { length rows.now ≤ 64 }
+    ensures { (p : Pol) → IsRelation (Reaches p) rows.now → IsSetOf (IsGroup p (length rows.now)) result }
+{
+    let mut groups = 0;
+    for var in 0..rows.len() {
+        if is_group(rows, var) {
+            groups |= 1 << var;
+        }
+    }
+    groups
+}
+
+// Whether a variable of the set is one to which no other of the set is related.
+fn is_free(rows: &[u64], set: u64, var: usize) -> bool
+    requires small { length rows.now ≤ 64 }
+    requires within { var < length rows.now }
+    ensures { IsTrue result ↔ IsFree rows.now set var }
+{
+    has_var(set, var) && rows[var] & set & !(1 << var) == 0
+}
+
+// The least such variable.
+fn first_free(rows: &[u64], set: u64) -> Option<usize>
+    requires { length rows.now ≤ 64 }
+    ensures { MatchOption result ((v : ℕ) → v < length rows.now → ¬ (IsFree rows.now set v))
+        (λ var. (var < length rows.now) × IsFree rows.now set var × ((v : ℕ) → v < var → ¬ (IsFree rows.now set v))) }
+{
+    for var in 0..rows.len() {
+        if is_free(rows, set, var) {
+            return Some(var);
+        }
+    }
+    None
+}
+
+// The groups in the order of their ranks.
+pub(crate) fn by_rank(alloc: Global, rows: &[u64]) -> Result<Vec<u16>, NoMemory>
+    requires { length rows.now ≤ 64 }
+    ensures { IfOk result (λ order. (p : Pol) → UsesBelow (length rows.now) p → IsRelation (Reaches p) rows.now → IsRank p (length rows.now) order.items) }
+{
+    let mut left = all_groups(rows);
+    let mut order = Vec::new(alloc);
+    while let Some(next) = first_free(rows, left) {
+        order.push(next as u16)?;
+        left &= !(1 << next);
+    }
+    Ok(order)
+}
