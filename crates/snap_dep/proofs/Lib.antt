@@ -9,3 +9,4 @@ pub mod OneRank
 pub mod Rows
 pub mod Sets
 pub mod Taking
+pub mod UseLemmas

@@ -12,7 +12,7 @@ pub record Progress (before now : List ℕ) (i : ℕ) (Q : ℕ → ℕ → Type 
   pub done : (s t : ℕ) → t < i → Relates now s t ↔ (Relates before s t ⊎ Q s t)
   pub rest : (t : ℕ) → i ≤ t → slice_index now t ≡ slice_index before t
 
-either_iff : {A B C D : Type 0} → A ↔ B → C ↔ D → (A ⊎ C) ↔ (B ⊎ D)
+pub either_iff : {A B C D : Type 0} → A ↔ B → C ↔ D → (A ⊎ C) ↔ (B ⊎ D)
 either_iff {A} {B} {C} {D} e f = (to, from)
   where
     to : (A ⊎ C) → (B ⊎ D)

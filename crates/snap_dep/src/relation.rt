@@ -1,6 +1,6 @@
 //! Relations between at most 64 variables: for each variable the set of those that are related to it.
 
-ghost use Rattle.std.specs.Prelude.{◌≡◌, ◌≤◌, ◌<◌, ◌↔◌, ◌⊎◌, ℕ, IsTrue, length};
+ghost use Rattle.std.specs.Prelude.{◌≡◌, ◌^◌, ◌≤◌, ◌<◌, ◌↔◌, ◌⊎◌, ℕ, IsTrue, length};
 ghost use Rattle.snap_core.specs.Variables.{has};
 ghost use Rattle.snap_core.specs.declared.policy.Pol.{Pol};
 ghost use Rattle.snap_dep.specs.Dependencies.{Depends, Reaches, Tied, UsesBelow};
@@ -12,6 +12,14 @@ pub(crate) fn has_var(set: u64, var: usize) -> bool
     ensures { result ≡ has set var }
 {
     set >> var & 1 == 1
+}
+
+// The set of one variable.
+pub(crate) fn only(var: usize) -> u64
+    requires { var < 64 }
+    ensures { result ≡ 2 ^ var }
+{
+    1 << var
 }
 
 // Relates each variable of the one set to each of the other.

@@ -6,7 +6,7 @@ ghost use Rattle.snap_core.specs.Fits.{VarsBelow};
 ghost use Rattle.snap_dep.specs.Dependencies.{Reads, Writes, Depends, UsesBelow};
 ghost use Rattle.snap_dep.specs.Relations.{Relates, IsSetOf};
 
-use crate::relation::relate;
+use crate::relation::{only, relate};
 use snap_core::policy::{Pol, Pred};
 
 // The variables that a policy reads, and those that it writes.
@@ -36,7 +36,7 @@ fn tested(pred: &Pred) -> u64
 {
     match pred {
         Pred::Id | Pred::Drop | Pred::Field { .. } => 0,
-        Pred::State { var, .. } => 1 << *var,
+        Pred::State { var, .. } => only(*var as usize),
         Pred::Not(part) => tested(part),
         Pred::And(left, right) => tested(left) | tested(right),
         Pred::Or(left, right) => tested(left) | tested(right),
@@ -54,7 +54,7 @@ pub(crate) fn depend(pol: &Pol, rows: &mut [u64]) -> Used
     match pol {
         Pol::Filter(pred) => Used { reads: tested(pred), writes: 0 },
         Pol::Set { .. } => Used { reads: 0, writes: 0 },
-        Pol::Change(update) => Used { reads: 0, writes: 1 << update.var },
+        Pol::Change(update) => Used { reads: 0, writes: only(update.var as usize) },
         Pol::Par(left, right) => {
             let one = depend(left, rows);
             let other = depend(right, rows);
