@@ -6,6 +6,7 @@ pub mod Choices
 pub mod GroupLemmas
 pub mod Locals
 pub mod OneRank
+pub mod OrderLemmas
 pub mod Rows
 pub mod Sets
 pub mod Taking

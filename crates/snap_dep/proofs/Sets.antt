@@ -1,9 +1,11 @@
 -- Sets of variables.
-use Rattle.std.proofs.Common.{◌≡◌, ◌≢◌, ◌↔◌, ℕ, suc, zero, ◌+◌, ◌<◌, ◌≤◌, ◌^◌, ◌⊎◌, inl, inr, Bool, true, false, ◌||◌, ◌&&◌, refl, sym, ap, subst, ◌∙◌, arith, bit_or, bit_and, max, min, eqb-true, eq-eqb}
+use Rattle.std.proofs.Common.{◌≡◌, ◌≢◌, ◌↔◌, ℕ, suc, zero, ◌+◌, ◌*◌, ◌%◌, ◌<◌, ◌≤◌, ◌^◌, ◌⊎◌, inl, inr, Bool, true, false, ◌||◌, ◌&&◌, refl, sym, ap, subst, ◌∙◌, arith, bit_or, bit_and, max, min, eqb-true, eq-eqb}
 use Rattle.std.specs.Prelude.{nat_eq, nat_lt, IsTrue}
-use Rattle.std.specs.Int.{bit_at}
+use Rattle.std.specs.Int.{bit_at, bit_not}
+use Rattle.std.proofs.lemmas.Nat.{and_le_l}
+use mir.Syntax.{w64}
 use Rattle.std.proofs.lemmas.Bool.{eqb-false, ltb-true, ltb-false, or_cases, or_left, or_right, and_parts, and_from, false≢true}
-use Rattle.std.proofs.lemmas.Nat.Bits.{bit_at_or, bit_at_and, bit_at-lt, bit_at-pow_same, bit_at-pow_other, bit_at-zero, bit_at_above}
+use Rattle.std.proofs.lemmas.Nat.Bits.{bit_at_or, bit_at_and, bit_at-lt, bit_at-pow_same, bit_at-pow_other, bit_at-zero, bit_at_above, bit_at_clear_same, bit_at_clear_other, same_from_bits}
 use Rattle.snap_core.specs.declared.policy.Pred.{Pred}
 use Rattle.snap_core.specs.declared.policy.Pred.TheVariants.{Id, Drop, Field, State, Not', And', Or'}
 use Rattle.snap_core.specs.Fits.{VarsBelow}
@@ -112,3 +114,29 @@ VarsBelow-le m n (State s es a) l f = omega (arith, l, f)
 VarsBelow-le m n (Not' _ x) l f = VarsBelow-le m n x l f
 VarsBelow-le m n (And' _ x _ y) l f = (VarsBelow-le m n x l f.0, VarsBelow-le m n y l f.1)
 VarsBelow-le m n (Or' _ x _ y) l f = (VarsBelow-le m n x l f.0, VarsBelow-le m n y l f.1)
+
+-- ---- an empty set, and a set without one variable
+pub no_members : (x : ℕ) → ((v : ℕ) → ¬ (IsTrue (has x v))) → x ≡ 0
+no_members x none = same_from_bits x 0 (λ v. zero_at v (nat_eq (bit_at x v) 1) refl ∙ sym (bit_at-zero v))
+  where
+    zero_at : (v : ℕ) (t : Bool) → nat_eq (bit_at x v) 1 ≡ t → bit_at x v ≡ 0
+    zero_at v true e = absurd (none v e)
+    zero_at v false e = let small = bit_at-lt x v in let ne = eqb-false (bit_at x v) 1 e in omega (arith, small, ne)
+
+-- what is left of w without k
+abbrev pub cleared : ℕ → ℕ → ℕ
+cleared w k = bit_and w (bit_not w64 (1 * 2 ^ k % 2 ^ 64))
+
+not_cleared : (w k : ℕ) → k < 64 → ¬ (IsTrue (has (cleared w k) k))
+not_cleared w k l h = let one_bit = eqb-true (bit_at (cleared w k) k) 1 h in let none = bit_at_clear_same w64 w k l in omega (arith, one_bit, none)
+
+pub in_cleared : (w k v : ℕ) → w < 2 ^ 64 → k < 64 → IsTrue (has (cleared w k) v) ↔ (IsTrue (has w v) × (v ≢ k))
+in_cleared w k v fits l =
+    (λ h. (((in_and w (bit_not w64 (1 * 2 ^ k % 2 ^ 64)) v).0 h).0, λ e. not_cleared w k l (subst (λ u. IsTrue (has (cleared w k) u)) e h)),
+    λ h. ap (λ b. nat_eq b 1) (bit_at_clear_other w64 w k l v (has-below w v fits h.0) h.1) ∙ h.0)
+
+pub cleared-less : (w k : ℕ) → k < 64 → IsTrue (has w k) → cleared w k < w
+cleared-less w k l h =
+    let le = and_le_l w (bit_not w64 (1 * 2 ^ k % 2 ^ 64)) in
+    let ne : cleared w k ≢ w = λ e. not_cleared w k l (subst (λ x. IsTrue (has x k)) (sym e) h) in
+    omega (arith, le, ne)

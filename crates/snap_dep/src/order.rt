@@ -7,7 +7,7 @@ ghost use Rattle.snap_dep.specs.Dependencies.{Reaches, Tied, UsesBelow};
 ghost use Rattle.snap_dep.specs.Ranks.{IsGroup, IsRank, IsRankIn};
 ghost use Rattle.snap_dep.specs.Relations.{Relates, IsRelation, IsSetOf, IsFree};
 
-use crate::relation::{are_tied, has_var};
+use crate::relation::{are_tied, has_var, only, without};
 use snap_core::NoMemory;
 use std::alloc::Global;
 
@@ -33,7 +33,7 @@ fn all_groups(rows: &[u64]) -> u64
     let mut groups = 0;
     for var in 0..rows.len() {
         if is_group(rows, var) {
-            groups |= 1 << var;
+            groups |= only(var);
         }
     }
     groups
@@ -45,7 +45,7 @@ fn is_free(rows: &[u64], set: u64, var: usize) -> bool
     requires within { var < length rows.now }
     ensures { IsTrue result ↔ IsFree rows.now set var }
 {
-    has_var(set, var) && rows[var] & set & !(1 << var) == 0
+    has_var(set, var) && rows[var] & without(set, var) == 0
 }
 
 // The least such variable.
@@ -71,7 +71,7 @@ pub(crate) fn by_rank(alloc: Global, rows: &[u64]) -> Result<Vec<u16>, NoMemory>
     let mut order = Vec::new(alloc);
     while let Some(next) = first_free(rows, left) {
         order.push(next as u16)?;
-        left &= !(1 << next);
+        left = without(left, next);
     }
     Ok(order)
 }

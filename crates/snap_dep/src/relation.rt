@@ -1,6 +1,6 @@
 //! Relations between at most 64 variables: for each variable the set of those that are related to it.
 
-ghost use Rattle.std.specs.Prelude.{◌≡◌, ◌^◌, ◌≤◌, ◌<◌, ◌↔◌, ◌⊎◌, ℕ, IsTrue, length};
+ghost use Rattle.std.specs.Prelude.{◌≡◌, ◌≢◌, ◌^◌, ◌≤◌, ◌<◌, ◌↔◌, ◌⊎◌, ℕ, IsTrue, length};
 ghost use Rattle.snap_core.specs.Variables.{has};
 ghost use Rattle.snap_core.specs.declared.policy.Pol.{Pol};
 ghost use Rattle.snap_dep.specs.Dependencies.{Depends, Reaches, Tied, UsesBelow};
@@ -20,6 +20,15 @@ pub(crate) fn only(var: usize) -> u64
     ensures { result ≡ 2 ^ var }
 {
     1 << var
+}
+
+// A set without one variable.
+pub(crate) fn without(set: u64, var: usize) -> u64
+    requires { var < 64 }
+    ensures set { (v : ℕ) → IsTrue (has result v) ↔ (IsTrue (has set v) × (v ≢ var)) }
+    ensures less { IsTrue (has set var) → result < set }
+{
+    set & !(1 << var)
 }
 
 // Relates each variable of the one set to each of the other.
