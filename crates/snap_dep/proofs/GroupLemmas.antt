@@ -1,8 +1,8 @@
 -- Each variable has one group, and what precedes a group reaches it.
-use Rattle.std.proofs.Common.{◌≡◌, ◌≢◌, ℕ, ◌<◌, ◌≤◌, ◌⊎◌, inl, inr, refl, sym, subst, arith}
+use Rattle.std.proofs.Common.{◌≡◌, ◌≢◌, ℕ, ◌<◌, ◌≤◌, ◌⊎◌, inl, inr, refl, subst, arith}
 use Rattle.std.proofs.lemmas.Bool.{cases_eq, cases_lt}
 use Rattle.snap_core.specs.declared.policy.Pol.{Pol}
-use Rattle.snap_dep.specs.Dependencies.{Depends, Reaches, one, more, Tied, UsesBelow}
+use Rattle.snap_dep.specs.Dependencies.{Reaches, one, more, Tied, UsesBelow}
 use Rattle.snap_dep.specs.Ranks.{IsGroup, Precedes}
 use Rattle.snap_dep.proofs.Below.{depends_below}
 use Rattle.snap_dep.proofs.Chains.{joined, tied_on, tied_back, tied_then, then_tied, dec_reaches, dec_tied}

@@ -7,6 +7,7 @@ pub mod GroupLemmas
 pub mod Locals
 pub mod OneRank
 pub mod OrderLemmas
+pub mod PairLemmas
 pub mod Rows
 pub mod Sets
 pub mod Taking

@@ -1,5 +1,5 @@
 -- The groups that are left, as a set, and the next one among them.
-use Rattle.std.proofs.Common.{◌≡◌, ◌≢◌, ◌↔◌, ℕ, ◌+◌, ◌<◌, ◌≤◌, ◌^◌, ◌⊎◌, inl, inr, List, [], ◌∷◌, ◌++◌, length, refl, sym, subst, arith, bit_or}
+use Rattle.std.proofs.Common.{◌≡◌, ◌≢◌, ◌↔◌, ℕ, ◌+◌, ◌<◌, ◌^◌, ◌⊎◌, inl, inr, List, [], ◌∷◌, ◌++◌, sym, subst, arith, bit_or}
 use Rattle.std.specs.Prelude.{IsTrue}
 use Rattle.std.specs.List.{Contains}
 use Rattle.std.proofs.lemmas.Bool.{cases_eq}
@@ -8,7 +8,7 @@ use Rattle.snap_core.specs.declared.policy.Pol.{Pol}
 use Rattle.snap_core.specs.Variables.{has}
 use Rattle.snap_dep.specs.Dependencies.{Reaches, UsesBelow}
 use Rattle.snap_dep.specs.Ranks.{IsGroup, IsRank}
-use Rattle.snap_dep.specs.Relations.{Relates, IsRelation, IsSetOf, IsFree}
+use Rattle.snap_dep.specs.Relations.{IsRelation, IsSetOf, IsFree}
 use Rattle.snap_dep.proofs.Choices.{Dec, dec_contains}
 use Rattle.snap_dep.proofs.Sets.{in_or, in_pow}
 use Rattle.snap_dep.proofs.Taking.{IsBegun, IsClear, begun_more, clear_next, some_clear}
@@ -21,6 +21,7 @@ module _ (G : ℕ → Type 0) (w k : ℕ) (below : IsSetOf (λ v. (v < k) × G v
       to : (IsTrue (has w v) ⊎ IsTrue (has (2 ^ k) v)) → (v < k + 1) × G v
       to (inl h) = let b = (below v).0 h in ((let l = b.0 in omega (arith, l)), b.1)
       to (inr h) = let e = (in_pow k v).0 h in (omega (arith, e), subst G e g)
+
       from : v < k + 1 → G v → (v ≡ k) ⊎ (v ≡ k → ⊥) → (IsTrue (has w v) ⊎ IsTrue (has (2 ^ k) v))
       from l x (inl e) = inr ((in_pow k v).1 (sym e))
       from l x (inr ne) = inl ((below v).1 (omega (arith, l, ne), x))
@@ -75,9 +76,10 @@ module _ (p : Pol) (n left : ℕ) (order rows : List ℕ) (below : UsesBelow n p
 
       from : (v : ℕ) → IsGroup p n v × (Contains (order ++ g ∷ []) v → ⊥) → IsTrue (has after v)
       from v h =
-          (less v).1
-          ((so_far.rest v).1 (h.0, λ c. h.1 (Contains-append_left order (g ∷ []) v c)),
-          λ e. h.1 (subst (Contains (order ++ g ∷ [])) (sym e) (Contains-push order g)))
+          (less v).1 (
+            (so_far.rest v).1 (h.0, λ c. h.1 (Contains-append_left order (g ∷ []) v c)),
+            λ e. h.1 (subst (Contains (order ++ g ∷ [])) (sym e) (Contains-push order g)),
+          )
 
   -- none is left
   pub all_taken : ((v : ℕ) → v < n → ¬ (IsFree rows left v)) → IsRank p n order

@@ -1,5 +1,5 @@
 -- Rows of a relation, one after another.
-use Rattle.std.proofs.Common.{◌≡◌, ◌≢◌, ◌↔◌, ℕ, ◌+◌, ◌<◌, ◌≤◌, ◌⊎◌, inl, inr, List, length, set, get_or, refl, sym, subst, ap, ◌∙◌, arith, bit_or}
+use Rattle.std.proofs.Common.{◌≡◌, ◌↔◌, ℕ, ◌+◌, ◌<◌, ◌≤◌, ◌⊎◌, inl, inr, List, length, set, get_or, refl, sym, subst, ap, ◌∙◌, arith, bit_or}
 use Rattle.std.specs.Prelude.{IsTrue, slice_index}
 use Rattle.std.proofs.lemmas.Bool.{cases_eq, cases_lt}
 use Rattle.std.proofs.lemmas.List.{get_or-set_same, get_or-set_other, get_or_past}
@@ -18,6 +18,7 @@ either_iff {A} {B} {C} {D} e f = (to, from)
     to : (A ⊎ C) → (B ⊎ D)
     to (inl a) = inl (e.0 a)
     to (inr c) = inr (f.0 c)
+
     from : (B ⊎ D) → (A ⊎ C)
     from (inl b) = inl (e.1 b)
     from (inr d) = inr (f.1 d)

@@ -1,5 +1,5 @@
 -- Sets of variables.
-use Rattle.std.proofs.Common.{◌≡◌, ◌≢◌, ◌↔◌, ℕ, suc, zero, ◌+◌, ◌*◌, ◌%◌, ◌<◌, ◌≤◌, ◌^◌, ◌⊎◌, inl, inr, Bool, true, false, ◌||◌, ◌&&◌, refl, sym, ap, subst, ◌∙◌, arith, bit_or, bit_and, max, min, eqb-true, eq-eqb}
+use Rattle.std.proofs.Common.{◌≡◌, ◌≢◌, ◌↔◌, ℕ, suc, zero, ◌*◌, ◌%◌, ◌<◌, ◌≤◌, ◌^◌, ◌⊎◌, inl, inr, Bool, true, false, ◌||◌, ◌&&◌, refl, sym, ap, subst, ◌∙◌, arith, bit_or, bit_and, max, min, eqb-true}
 use Rattle.std.specs.Prelude.{nat_eq, nat_lt, IsTrue}
 use Rattle.std.specs.Int.{bit_at, bit_not}
 use Rattle.std.proofs.lemmas.Nat.{and_le_l}
@@ -90,6 +90,7 @@ set_or P Q a b x y v = (λ h. to ((in_or a b v).0 h), from)
     to : (IsTrue (has a v) ⊎ IsTrue (has b v)) → (P v ⊎ Q v)
     to (inl h) = inl ((x v).0 h)
     to (inr h) = inr ((y v).0 h)
+
     from : (P v ⊎ Q v) → IsTrue (has (bit_or a b) v)
     from (inl h) = (in_or a b v).1 (inl ((x v).1 h))
     from (inr h) = (in_or a b v).1 (inr ((y v).1 h))
@@ -131,9 +132,10 @@ not_cleared : (w k : ℕ) → k < 64 → ¬ (IsTrue (has (cleared w k) k))
 not_cleared w k l h = let one_bit = eqb-true (bit_at (cleared w k) k) 1 h in let none = bit_at_clear_same w64 w k l in omega (arith, one_bit, none)
 
 pub in_cleared : (w k v : ℕ) → w < 2 ^ 64 → k < 64 → IsTrue (has (cleared w k) v) ↔ (IsTrue (has w v) × (v ≢ k))
-in_cleared w k v fits l =
-    (λ h. (((in_and w (bit_not w64 (1 * 2 ^ k % 2 ^ 64)) v).0 h).0, λ e. not_cleared w k l (subst (λ u. IsTrue (has (cleared w k) u)) e h)),
-    λ h. ap (λ b. nat_eq b 1) (bit_at_clear_other w64 w k l v (has-below w v fits h.0) h.1) ∙ h.0)
+in_cleared w k v fits l = (
+  λ h. (((in_and w (bit_not w64 (1 * 2 ^ k % 2 ^ 64)) v).0 h).0, λ e. not_cleared w k l (subst (λ u. IsTrue (has (cleared w k) u)) e h)),
+  λ h. ap (λ b. nat_eq b 1) (bit_at_clear_other w64 w k l v (has-below w v fits h.0) h.1) ∙ h.0,
+)
 
 pub cleared-less : (w k : ℕ) → k < 64 → IsTrue (has w k) → cleared w k < w
 cleared-less w k l h =

@@ -1,16 +1,16 @@
 -- Groups that are taken one after another, each when it is the next.
-use Rattle.std.proofs.Common.{◌≡◌, ◌≢◌, ◌↔◌, ℕ, ◌+◌, ◌<◌, ◌≤◌, ◌⊎◌, inl, inr, List, [], ◌∷◌, ◌++◌, take, length, get_or, refl, sym, subst, ap, ◌∙◌, arith}
+use Rattle.std.proofs.Common.{◌≡◌, ◌≢◌, ◌↔◌, ℕ, ◌<◌, ◌≤◌, ◌⊎◌, inl, inr, List, [], ◌∷◌, ◌++◌, take, length, refl, sym, subst, ◌∙◌, arith}
 use Rattle.std.specs.Prelude.{slice_index}
 use Rattle.std.specs.List.{Contains, AllPairs}
-use Rattle.std.proofs.lemmas.Bool.{cases_eq, cases_lt}
-use Rattle.std.proofs.lemmas.List.{get_or-take, get_or_default, get_or_append_left, get_or_push, length-take-le, length_push, take-append-le, take_all}
+use Rattle.std.proofs.lemmas.Bool.{cases_eq, cases_lt, cases_order}
+use Rattle.std.proofs.lemmas.List.{get_or-take, get_or_default, get_or_append_left, get_or_push, length-take-le, length_push, take-append-le}
 use Rattle.std.proofs.Math.Seq.{take-append_seam}
 use Rattle.snap_core.specs.declared.policy.Pol.{Pol}
 use Rattle.snap_dep.specs.Dependencies.{Reaches, Tied, UsesBelow}
-use Rattle.snap_dep.specs.Ranks.{IsGroup, Precedes, IsReady, IsNext, IsRank}
-use Rattle.snap_dep.proofs.Choices.{Dec, dec_both, dec_not, dec_contains, Least, least, Minimal, minimal}
-use Rattle.snap_dep.proofs.GroupLemmas.{precedes_reaches, back, Before, before_on, before_proper, dec_before, group_before, dec_group}
-use Rattle.snap_dep.proofs.Chains.{dec_reaches}
+use Rattle.snap_dep.specs.Ranks.{IsGroup, Precedes, IsReady, IsNext, IsRank, IsRankIn, IsGrouping}
+use Rattle.snap_dep.proofs.Choices.{Dec, dec_both, dec_not, dec_contains, Minimal, minimal}
+use Rattle.snap_dep.proofs.GroupLemmas.{same_group, precedes_reaches, back, Before, before_on, before_proper, dec_before, group_before, dec_group}
+use Rattle.snap_dep.proofs.Chains.{tied_on, tied_back}
 
 -- each group so far was the next
 abbrev pub IsBegun : Pol → ℕ → List ℕ → Type 0
@@ -28,8 +28,11 @@ module _ (p : Pol) (n : ℕ) (order : List ℕ) (begun : IsBegun p n order) wher
   pub begun_once : AllPairs (λ g h. g ≢ h) order
   begun_once i j d lt l e =
       let size = length-take-le j order (omega (arith, l)) in
-      (begun j l).new (i, omega (arith, size, lt),
-      get_or-take j order i (slice_index order j) lt ∙ get_or_default order i (slice_index order j) d (omega (arith, lt, l)) ∙ e ∙ get_or_default order j d 0 l)
+      (begun j l).new (
+        i,
+        omega (arith, size, lt),
+        get_or-take j order i (slice_index order j) lt ∙ get_or_default order i (slice_index order j) d (omega (arith, lt, l)) ∙ e ∙ get_or_default order j d 0 l,
+      )
 
   -- what precedes a group that is taken is taken
   pub begun_closed : (g h : ℕ) → Contains order g → IsGroup p n h → Precedes p h g → Contains order h
@@ -110,3 +113,30 @@ begun_more p n order g begun next i l = by_place (cases_lt i (length order))
         subst (λ j. IsNext p n (take j (order ++ g ∷ [])) (slice_index (order ++ g ∷ []) j)) last
         (subst (λ taken. IsNext p n taken (slice_index (order ++ g ∷ []) (length order))) (sym (take-append_seam order (g ∷ [])))
         (subst (IsNext p n order) (sym (get_or_push order g 0 (length order) refl)) next))
+
+-- ---- variables of one rank are those that are tied
+module _ (p : Pol) (n : ℕ) (order : List ℕ) (rank : ℕ → ℕ) (ranked : IsRank p n order) (own : IsRankIn p n order rank) where
+  same_place : (i j : ℕ) → i < length order → j < length order → slice_index order i ≡ slice_index order j → i ≡ j
+  same_place i j li lj e = by_order (cases_order i j)
+    where
+      by_order : (i ≡ j) ⊎ ((i < j) ⊎ (j < i)) → i ≡ j
+      by_order (inl s) = s
+      by_order (inr (inl l)) = absurd (begun_once p n order ranked.steps i j 0 l lj e)
+      by_order (inr (inr l)) = absurd (begun_once p n order ranked.steps j i 0 l li (sym e))
+
+  pub tied_ranks : (a b : ℕ) → a < n → b < n → (rank a ≡ rank b) ↔ Tied p a b
+  tied_ranks a b la lb = (
+    λ e. tied_on p a (slice_index order (rank a)) b (tied_back p (slice_index order (rank a)) a (own.group a la)) (subst (λ r. Tied p (slice_index order r) b) (sym e) (own.group b lb)),
+    λ t. same_place (rank a) (rank b) (own.below a la) (own.below b lb)
+        (same_group p n (slice_index order (rank a)) (slice_index order (rank b)) (ranked.steps (rank a) (own.below a la)).group (ranked.steps (rank b) (own.below b lb)).group
+        (tied_on p (slice_index order (rank a)) a (slice_index order (rank b)) (own.group a la)
+        (tied_on p a b (slice_index order (rank b)) t (tied_back p (slice_index order (rank b)) b (own.group b lb))))),
+  )
+
+pub grouping : (p : Pol) (n : ℕ) (ranks order : List ℕ) → length ranks ≡ n → IsRank p n order → IsRankIn p n order (slice_index ranks) → IsGrouping p n (record { ranks = ranks; order = order })
+grouping p n ranks order long ranked own = record {
+  count = long;
+  order = ranked;
+  ranks = own;
+  tied = tied_ranks p n order (slice_index ranks) ranked own;
+}

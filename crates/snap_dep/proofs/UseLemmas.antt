@@ -24,9 +24,11 @@ either_more {A} {B} {C} {D} {E} e f = (λ a. to (e.0 a), from)
     inner : (D ⊎ E) → D ⊎ (E ⊎ C)
     inner (inl d) = inl d
     inner (inr x) = inr (inl x)
+
     to : (B ⊎ C) → D ⊎ (E ⊎ C)
     to (inl b) = inner (f.0 b)
     to (inr c) = inr (inr c)
+
     from : (D ⊎ (E ⊎ C)) → A
     from (inl d) = e.1 (inl (f.1 (inl d)))
     from (inr (inl x)) = e.1 (inl (f.1 (inr x)))
@@ -39,9 +41,11 @@ either_within {A} {B} {D} {E} {X} e f sub = (λ a. to (e.0 a), from)
     inner : (D ⊎ E) → D ⊎ X
     inner (inl d) = inl d
     inner (inr x) = inr (sub x)
+
     to : (B ⊎ X) → D ⊎ X
     to (inl b) = inner (f.0 b)
     to (inr x) = inr x
+
     from : (D ⊎ X) → A
     from (inl d) = e.1 (inl (f.1 (inl d)))
     from (inr x) = e.1 (inr x)
@@ -49,7 +53,6 @@ either_within {A} {B} {D} {E} {X} e f sub = (λ a. to (e.0 a), from)
 -- ---- a dependency is between variables that the policy uses
 abbrev pub Uses : Pol → ℕ → Type 0
 Uses p v = Reads p v ⊎ Writes p v
-
 
 use_left : {A B C D : Type 0} → A ⊎ B → (A ⊎ C) ⊎ (B ⊎ D)
 use_left (inl a) = inl (inl a)

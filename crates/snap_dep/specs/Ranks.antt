@@ -1,5 +1,5 @@
 -- Groups of tied variables, and their order.
-use Rattle.std.specs.Prelude.{◌≡◌, ◌≢◌, ◌↔◌, ℕ, ◌<◌, ◌≤◌, List, take, length, slice_index, Contains}
+use Rattle.std.specs.Prelude.{◌≡◌, ◌≢◌, ◌↔◌, ℕ, ◌<◌, ◌≤◌, List, All, take, length, slice_index, Contains}
 use Rattle.std.specs.List.{AllPairs}
 use Rattle.snap_core.specs.declared.policy.Pol.{Pol}
 use Rattle.snap_dep.specs.Dependencies.{Depends, Tied}
@@ -42,6 +42,11 @@ pub record Grouping : Type 0 where
 -- the rank of a variable
 abbrev pub rank_of : Grouping → ℕ → ℕ
 rank_of g v = slice_index g.ranks v
+
+-- each of at most 64 variables has a rank in the order
+pub record IsRanked (g : Grouping) : Type 0 where
+  pub few : length g.ranks ≤ 64
+  pub below : All (λ r. r < length g.order) g.ranks
 
 -- the groups of a policy with n variables
 pub record IsGrouping (p : Pol) (n : ℕ) (g : Grouping) : Type 0 where

@@ -1,6 +1,6 @@
 //! The groups of tied variables, in the order of their ranks.
 
-ghost use Rattle.std.specs.Prelude.{◌≡◌, ◌≢◌, ◌≤◌, ◌<◌, ◌↔◌, ℕ, IsTrue, IfOk, MatchOption, length};
+ghost use Rattle.std.specs.Prelude.{◌≡◌, ◌≢◌, ◌≤◌, ◌<◌, ◌↔◌, ℕ, IsTrue, IfOk, MatchOption, All, length, slice_index};
 ghost use Rattle.snap_core.specs.Variables.{has};
 ghost use Rattle.snap_core.specs.declared.policy.Pol.{Pol};
 ghost use Rattle.snap_dep.specs.Dependencies.{Reaches, Tied, UsesBelow};
@@ -65,7 +65,8 @@ fn first_free(rows: &[u64], set: u64) -> Option<usize>
 // The groups in the order of their ranks.
 pub(crate) fn by_rank(alloc: Global, rows: &[u64]) -> Result<Vec<u16>, NoMemory>
     requires { length rows.now ≤ 64 }
-    ensures { IfOk result (λ order. (p : Pol) → UsesBelow (length rows.now) p → IsRelation (Reaches p) rows.now → IsRank p (length rows.now) order.items) }
+    ensures below { IfOk result (λ order. All (λ g. g < length rows.now) order.items) }
+    ensures rank { IfOk result (λ order. (p : Pol) → UsesBelow (length rows.now) p → IsRelation (Reaches p) rows.now → IsRank p (length rows.now) order.items) }
 {
     let mut left = all_groups(rows);
     let mut order = Vec::new(alloc);
@@ -74,4 +75,35 @@ pub(crate) fn by_rank(alloc: Global, rows: &[u64]) -> Result<Vec<u16>, NoMemory>
         left = without(left, next);
     }
     Ok(order)
+}
+
+// The place in the order of the group of a variable.
+fn rank_in(rows: &[u64], order: &[u16], var: usize) -> usize
+    requires small { length rows.now ≤ 64 }
+    requires within { var < length rows.now }
+    requires below { All (λ g. g < length rows.now) order.now }
+    ensures { (p : Pol) → UsesBelow (length rows.now) p → IsRelation (Reaches p) rows.now → IsRank p (length rows.now) order.now
+        → (result < length order.now) × Tied p (slice_index order.now result) var }
+{
+    for (rank, group) in order.iter().enumerate() {
+        if are_tied(rows, *group as usize, var) {
+            return rank;
+        }
+    }
+    order.len()
+}
+
+// The rank of each variable.
+pub(crate) fn ranks(alloc: Global, rows: &[u64], order: &[u16]) -> Result<Vec<usize>, NoMemory>
+    requires small { length rows.now ≤ 64 }
+    requires below { All (λ g. g < length rows.now) order.now }
+    ensures count { IfOk result (λ ranks. length ranks.items ≡ length rows.now) }
+    ensures ranks { IfOk result (λ ranks. (p : Pol) → UsesBelow (length rows.now) p → IsRelation (Reaches p) rows.now → IsRank p (length rows.now) order.now
+        → IsRankIn p (length rows.now) order.now (slice_index ranks.items)) }
+{
+    let mut ranks = Vec::with_capacity(alloc, rows.len())?;
+    for var in 0..rows.len() {
+        ranks.push(rank_in(rows, order, var))?;
+    }
+    Ok(ranks)
 }

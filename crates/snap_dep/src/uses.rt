@@ -52,9 +52,18 @@ pub(crate) fn depend(pol: &Pol, rows: &mut [u64]) -> Used
     ensures rows { (s t : ℕ) → Relates rows.new s t ↔ (Relates rows.old s t ⊎ Depends pol.now s t) }
 {
     match pol {
-        Pol::Filter(pred) => Used { reads: tested(pred), writes: 0 },
-        Pol::Set { .. } => Used { reads: 0, writes: 0 },
-        Pol::Change(update) => Used { reads: 0, writes: only(update.var as usize) },
+        Pol::Filter(pred) => Used {
+            reads: tested(pred),
+            writes: 0,
+        },
+        Pol::Set { .. } => Used {
+            reads: 0,
+            writes: 0,
+        },
+        Pol::Change(update) => Used {
+            reads: 0,
+            writes: only(update.var as usize),
+        },
         Pol::Par(left, right) => {
             let one = depend(left, rows);
             let other = depend(right, rows);

@@ -1,6 +1,6 @@
-use Rattle.std.proofs.Common.{◌≡◌, ◌↔◌, ◌≤◌, ℕ, length, subst, sym, arith}
+use Rattle.std.proofs.Common.{◌≡◌, ◌↔◌, length, subst, arith}
 use Rattle.snap_dep.specs.Relations.{Relates}
-use Rattle.snap_dep.specs.Dependencies.{Depends, Reaches}
+use Rattle.snap_dep.specs.Dependencies.{Depends}
 use Rattle.snap_dep.proofs.Chains.{Via, via_all, via_map}
 use Rattle.snap_dep.proofs.Rows.{iff_on}
 use Rattle.snap_dep.proofs.relation.close.Goals as goal

@@ -1,14 +1,10 @@
-use Rattle.std.proofs.Common.{◌≡◌, ◌↔◌, ◌<◌, ◌≤◌, ◌⊎◌, ℕ, length, subst, sym, arith, bit_or, ⊎_elim, inl, inr}
+use Rattle.std.proofs.Common.{◌↔◌, ◌<◌, length, subst, arith, ⊎_elim}
 use Rattle.std.specs.Prelude.{IsTrue}
-use Rattle.snap_core.specs.declared.policy.Pol.{Pol}
-use Rattle.snap_core.specs.Fits.{VarsBelow}
 use Rattle.snap_core.specs.Variables.{has}
-use Rattle.snap_core.specs.Meaning.{vars_of}
-use Rattle.snap_dep.specs.Dependencies.{Tests, Reads, Writes, Depends, UsesBelow}
-use Rattle.snap_dep.specs.Relations.{Relates, IsSetOf}
+use Rattle.snap_dep.specs.Dependencies.{Tests, UsesBelow}
 use Rattle.snap_dep.proofs.Below.{reads_below, writes_below}
 use Rattle.snap_dep.proofs.Rows.{iff_on, either_iff}
-use Rattle.snap_dep.proofs.Sets.{set_or, set_vars, in_pow, in_zero, in_or, VarsBelow-le}
+use Rattle.snap_dep.proofs.Sets.{set_or, set_vars, in_pow, in_or, VarsBelow-le}
 use Rattle.snap_dep.proofs.UseLemmas.{reads_at, writes_at, depends_at, either_more, either_within, both_iff, depends_used}
 use Rattle.snap_dep.proofs.uses.+depend.Goals as goal
 
@@ -21,25 +17,25 @@ tested-reads-requires t c = VarsBelow-le (length c.args.rows.now) 64 c.in-If.tes
 pub relate-requires-clause-within : goal.relate-requires-clause-within
 relate-requires-clause-within t c = λ v h.
     let below = writes_below (length c.args.rows.now) c.in-Seq.second.value (subst (UsesBelow (length c.args.rows.now)) c.in-Seq.is c.requires.below).1 v
-            ((writes_at _ c.deref-in-Seq-2.ensures c.depend-after.ensures.writes v).0 h) in
+    ((writes_at _ c.deref-in-Seq-2.ensures c.depend-after.ensures.writes v).0 h) in
     omega (arith, below)
 
 pub relate-requires-in-If-clause-within : goal.relate-requires-in-If-clause-within
 relate-requires-in-If-clause-within t c = λ v h.
     let fits = subst (UsesBelow (length c.args.rows.now)) c.in-If.is c.requires.below in
     let below : v < length c.args.rows.now = ⊎_elim
-            (λ w. writes_below (length c.args.rows.now) c.in-If.yes.value fits.1 v ((writes_at _ c.deref-in-If.ensures c.depend-one-in-If.ensures.writes v).0 w))
-            (λ w. writes_below (length c.args.rows.now) c.in-If.no.value fits.2 v ((writes_at _ c.deref-in-If-2.ensures c.depend-other-in-If.ensures.writes v).0 w))
-            ((in_or _ _ v).0 h) in
+    (λ w. writes_below (length c.args.rows.now) c.in-If.yes.value fits.1 v ((writes_at _ c.deref-in-If.ensures c.depend-one-in-If.ensures.writes v).0 w))
+    (λ w. writes_below (length c.args.rows.now) c.in-If.no.value fits.2 v ((writes_at _ c.deref-in-If-2.ensures c.depend-other-in-If.ensures.writes v).0 w))
+    ((in_or _ _ v).0 h) in
     omega (arith, below)
 
 pub relate-requires-in-Atomic-clause-within : goal.relate-requires-in-Atomic-clause-within
 relate-requires-in-Atomic-clause-within t c = λ v h.
     let fits = subst (UsesBelow (length c.args.rows.now)) c.in-Atomic.is c.requires.below in
     let below : v < length c.args.rows.now = ⊎_elim
-            (λ w. reads_below (length c.args.rows.now) c.in-Atomic.part.value fits v ((reads_at _ c.deref-in-Atomic.ensures c.depend-used.ensures.reads v).0 w))
-            (λ w. writes_below (length c.args.rows.now) c.in-Atomic.part.value fits v ((writes_at _ c.deref-in-Atomic.ensures c.depend-used.ensures.writes v).0 w))
-            ((in_or _ _ v).0 h) in
+    (λ w. reads_below (length c.args.rows.now) c.in-Atomic.part.value fits v ((reads_at _ c.deref-in-Atomic.ensures c.depend-used.ensures.reads v).0 w))
+    (λ w. writes_below (length c.args.rows.now) c.in-Atomic.part.value fits v ((writes_at _ c.deref-in-Atomic.ensures c.depend-used.ensures.writes v).0 w))
+    ((in_or _ _ v).0 h) in
     omega (arith, below)
 
 pub returns-in-Filter-clause-reads : goal.returns-in-Filter-clause-reads
