@@ -13,3 +13,6 @@ mod order;
 mod pairs;
 mod relation;
 mod uses;
+
+#[cfg(test)]
+mod tests;

@@ -37,6 +37,9 @@ pub(crate) fn relate(rows: &mut [u64], from: u64, to: u64)
     requires within { (t : ℕ) → IsTrue (has to t) → t < length rows.old }
     ensures { (s t : ℕ) → Relates rows.new s t ↔ (Relates rows.old s t ⊎ (IsTrue (has from s) × IsTrue (has to t))) }
 {
+    if from == 0 || to == 0 {
+        return;
+    }
     for (var, row) in rows.iter_mut().enumerate() {
         if has_var(to, var) {
             *row |= from;
