@@ -12,7 +12,6 @@ pub mod laws;
 mod order;
 mod pairs;
 mod relation;
-mod uses;
-
 #[cfg(test)]
 mod tests;
+mod uses;

@@ -54,9 +54,9 @@ fn first_free(rows: &[u64], set: u64) -> Option<usize>
     ensures { MatchOption result ((v : ℕ) → v < length rows.now → ¬ (IsFree rows.now set v))
         (λ var. (var < length rows.now) × IsFree rows.now set var × ((v : ℕ) → v < var → ¬ (IsFree rows.now set v))) }
 {
-    for var in 0..rows.len() {
-        if is_free(rows, set, var) {
-            return Some(var);
+    for next in 0..rows.len() {
+        if is_free(rows, set, next) {
+            return Some(next);
         }
     }
     None
