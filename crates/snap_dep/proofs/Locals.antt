@@ -1,9 +1,7 @@
 -- Evaluation from arrays that agree on a set of variables closed under dependencies.
-use Rattle.std.proofs.Common.{◌≡◌, ◌≢◌, ℕ, ◌^◌, Bool, true, false, cond, ◌⊎◌, inl, inr, List, [], ◌∷◌, Option, Some, None, map, refl, sym, ap, subst, ◌∙◌, arith, bit_or, max}
-use Rattle.std.specs.Prelude.{nat_eq, option_and_then, option_map}
-use Rattle.std.specs.Int.{bit_at}
-use Rattle.std.proofs.lemmas.Bool.{eqb-true, eqb-false, ne_eqb, cond-false}
-use Rattle.std.proofs.lemmas.Nat.Bits.{bit_at_or, bit_at-lt, bit_at-pow_other, bit_at-zero}
+use Rattle.std.proofs.Common.{◌≡◌, ◌||◌, ℕ, Bool, true, false, cond, ◌⊎◌, inl, inr, List, [], ◌∷◌, Option, Some, None, map, refl, sym, ap, subst, ◌∙◌, bit_or}
+use Rattle.std.specs.Prelude.{option_and_then, option_map}
+use Rattle.std.proofs.lemmas.Bool.{cond-false, or_from}
 use Rattle.snap_core.specs.declared.place.Place.{Place}
 use Rattle.snap_core.specs.declared.policy.Pol.{Pol}
 use Rattle.snap_core.specs.declared.policy.Pol.TheVariants.{Filter, Set, Change, Par', Seq', If', Atomic'}
@@ -14,58 +12,18 @@ use Rattle.snap_core.specs.Meaning.{Meaning, eval, truth, vars_of, any_clash, me
 use Rattle.snap_core.proofs.Unwritten.{updated_keeps}
 use Rattle.snap_dep.specs.Dependencies.{Reads, Writes}
 use Rattle.snap_dep.specs.Locality.{AgreeOn, IsClosed}
+use Rattle.snap_dep.proofs.Chains.{dec_writes}
+use Rattle.snap_dep.proofs.Choices.{dec_either}
+use Rattle.snap_dep.proofs.Sets.{has-or, has-zero, has-pow_other}
 use Rattle.snap_dep.proofs.Agreement.{SameOn, Alike, Each, same_truth, update_agrees, reads_decide}
 
 -- ---- logs of one variable
-no : (n v : ℕ) → bit_at n v ≡ 0 → has n v ≡ false
-no n v e = ne_eqb (bit_at n v) 1 (λ f. absurd (omega (arith, e, f)))
-
-has-zero : (v : ℕ) → has 0 v ≡ false
-has-zero v = no 0 v (bit_at-zero v)
-
-zero_bit : (n v : ℕ) → has n v ≡ false → bit_at n v ≡ 0
-zero_bit n v h = let l = bit_at-lt n v in let ne = eqb-false (bit_at n v) 1 h in omega (arith, l, ne)
-
-pub has-other : (s v : ℕ) → s ≢ v → has (2 ^ s) v ≡ false
-has-other s v ne = no (2 ^ s) v (bit_at-pow_other s v (λ e. ne (sym e)))
-
-has-or : (a b v : ℕ) → has a v ≡ false → has b v ≡ false → has (bit_or a b) v ≡ false
-has-or a b v p q = no (bit_or a b) v (bit_at_or a b v ∙ (λ i. max (zero_bit a v p i) (zero_bit b v q i)))
-
-one_bit : (n v : ℕ) → has n v ≡ true → bit_at n v ≡ 1
-one_bit n v h = eqb-true (bit_at n v) 1 h
-
-same_bit : (a b v : ℕ) (t : Bool) → has a v ≡ t → has b v ≡ t → bit_at a v ≡ bit_at b v
-same_bit a b v true p q = one_bit a v p ∙ sym (one_bit b v q)
-same_bit a b v false p q = zero_bit a v p ∙ sym (zero_bit b v q)
+has-or_neither : (a b v : ℕ) → has a v ≡ false → has b v ≡ false → has (bit_or a b) v ≡ false
+has-or_neither a b v p q = has-or a b v ∙ or_from (has a v) (has b v) p q
 
 -- both sets or neither
-same-or : (a b c d v : ℕ) → has a v ≡ has c v → has b v ≡ has d v → has (bit_or a b) v ≡ has (bit_or c d) v
-same-or a b c d v p q =
-    ap (λ n. nat_eq n 1) (bit_at_or a b v ∙ (λ i. max (same_bit a c v (has a v) refl (sym p) i) (same_bit b d v (has b v) refl (sym q) i)) ∙ sym (bit_at_or c d v))
-
--- ---- whether a policy has an update of a variable
-both_no : {A B : Type 0} → (A → ⊥) → (B → ⊥) → (A ⊎ B) → ⊥
-both_no f g (inl a) = f a
-both_no f g (inr b) = g b
-
-or_no : {A B : Type 0} → A ⊎ (A → ⊥) → B ⊎ (B → ⊥) → (A ⊎ B) ⊎ ((A ⊎ B) → ⊥)
-or_no (inl a) d = inl (inl a)
-or_no (inr f) (inl b) = inl (inr b)
-or_no (inr f) (inr g) = inr (both_no f g)
-
-same_number : (s v : ℕ) (t : Bool) → nat_eq s v ≡ t → (s ≡ v) ⊎ (s ≢ v)
-same_number s v true e = inl (eqb-true s v e)
-same_number s v false e = inr (eqb-false s v e)
-
-pub writes_or_not : (p : Pol) (v : ℕ) → Writes p v ⊎ (Writes p v → ⊥)
-writes_or_not (Filter x) v = inr (λ w. w)
-writes_or_not (Set c n) v = inr (λ w. w)
-writes_or_not (Change u) v = same_number u.var v _ refl
-writes_or_not (Par' _ a _ b) v = or_no (writes_or_not a v) (writes_or_not b v)
-writes_or_not (Seq' _ a _ b) v = or_no (writes_or_not a v) (writes_or_not b v)
-writes_or_not (If' x _ a _ b) v = or_no (writes_or_not a v) (writes_or_not b v)
-writes_or_not (Atomic' _ a) v = writes_or_not a v
+has-or_same : (a b c d v : ℕ) → has a v ≡ has c v → has b v ≡ has d v → has (bit_or a b) v ≡ has (bit_or c d) v
+has-or_same a b c d v p q = has-or a b v ∙ (λ i. p i || q i) ∙ sym (has-or c d v)
 
 -- ---- a variable without an update stays as it was
 abbrev pub IfDefined : {A : Type 0} → (A → Type 0) → Option A → Type 0
@@ -83,7 +41,7 @@ Every P (o ∷ os) = P o × Every P os
 module _ (q : Place) where
   all_unwritten : (m : Arrays) (os : List Meaning) → Every (Untouched q m) os → has (all_writes os) q.var ≡ false
   all_unwritten m [] h = has-zero q.var
-  all_unwritten m (o ∷ os) h = has-or o.writes (all_writes os) q.var h.0.writes (all_unwritten m os h.1)
+  all_unwritten m (o ∷ os) h = has-or_neither o.writes (all_writes os) q.var h.0.writes (all_unwritten m os h.1)
 
   merge_untouched : (m n : Arrays) (os : List Meaning) → Every (Untouched q n) os → merge m os q ≡ m q
   merge_untouched m n [] h = refl
@@ -115,7 +73,7 @@ module _ (q : Place) where
 
   logged_untouched : (m n : Arrays) (r w : ℕ) → has w q.var ≡ false → n q ≡ m q → (x : Option Meaning) → IfDefined (Untouched q n) x → IfDefined (Untouched q m) (option_map (logged r w) x)
   logged_untouched m n r w a e None h = tt
-  logged_untouched m n r w a e (Some o) h = record { writes = has-or w o.writes q.var a h.writes; arrays = h.arrays ∙ e }
+  logged_untouched m n r w a e (Some o) h = record { writes = has-or_neither w o.writes q.var a h.writes; arrays = h.arrays ∙ e }
 
   then_untouched : (m : Arrays) (f : Meaning → Option Meaning) → ((o : Meaning) → Untouched q m o → IfDefined (Untouched q m) (f o)) → (x : Option Meaning) → IfDefined (Untouched q m) x → IfDefined (Untouched q m) (option_and_then f x)
   then_untouched m f next None h = tt
@@ -132,7 +90,7 @@ module _ (q : Place) where
   pub untouched : (p : Pol) → (Writes p q.var → ⊥) → (m : Arrays) (k : List ℕ) → IfDefined (Untouched q m) (eval p m k)
   untouched (Filter x) ne m k = record { writes = has-zero q.var; arrays = refl }
   untouched (Set c a) ne m k = record { writes = has-zero q.var; arrays = refl }
-  untouched (Change u) ne m k = record { writes = has-other u.var q.var ne; arrays = updated_keeps u m k q (has-other u.var q.var ne) }
+  untouched (Change u) ne m k = record { writes = has-pow_other u.var q.var ne; arrays = updated_keeps u m k q (has-pow_other u.var q.var ne) }
   untouched (Par' _ a _ b) ne m k = all_untouched m (eval a m k ∷ eval b m k ∷ []) (untouched a (λ w. ne (inl w)) m k, (untouched b (λ w. ne (inr w)) m k, tt))
   untouched (Seq' _ a _ b) ne m k =
       then_untouched m _
@@ -175,7 +133,7 @@ module _ (q : Place) where
   written_both [] [] h = refl
   written_both [] (u ∷ us) h = absurd h
   written_both (o ∷ os) [] h = absurd h
-  written_both (o ∷ os) (u ∷ us) h = same-or o.writes (all_writes os) u.writes (all_writes us) q.var h.0.writes (written_both os us h.1)
+  written_both (o ∷ os) (u ∷ us) h = has-or_same o.writes (all_writes os) u.writes (all_writes us) q.var h.0.writes (written_both os us h.1)
 
   together_both : (m n : Arrays) → m q ≡ n q → (c d : Option (List Meaning)) → IfBoth (Each (SettledAt q)) c d → IfBoth (SettledAt q) (option_and_then (together m) c) (option_and_then (together n) d)
   together_both m n e None d h = tt
@@ -205,7 +163,7 @@ module _ (q : Place) where
   logged_both : (r s w v : ℕ) → has w q.var ≡ has v q.var → (x y : Option Meaning) → IfBoth (SettledAt q) x y → IfBoth (SettledAt q) (option_map (logged r w) x) (option_map (logged s v) y)
   logged_both r s w v e None y h = tt
   logged_both r s w v e (Some a) None h = tt
-  logged_both r s w v e (Some a) (Some b) h = record { arrays = h.arrays; writes = same-or w a.writes v b.writes q.var e h.writes }
+  logged_both r s w v e (Some a) (Some b) h = record { arrays = h.arrays; writes = has-or_same w a.writes v b.writes q.var e h.writes }
 
   choice_both : (s t : Bool) → s ≡ t → (x y z u : Option Meaning) → IfBoth (SettledAt q) x z → IfBoth (SettledAt q) y u → IfBoth (SettledAt q) (cond s x y) (cond t z u)
   choice_both s t e x y z u a b = subst (λ t. IfBoth (SettledAt q) (cond s x y) (cond t z u)) e (same s)
@@ -244,7 +202,7 @@ module _ (S : ℕ → Bool) where
       all_both q m n (h q s) (eval a m k ∷ eval b m k ∷ []) (eval a n k ∷ eval b n k ∷ [])
       (settled a (λ v t d. c v t (inl d)) m n k h q s, (settled b (λ v t d. c v t (inr d)) m n k h q s, tt))
   settled (Seq' _ a _ b) c m n k h q s =
-      then_both q ((v : ℕ) → Reads a v → S v ≡ true) _ _ (by_writes (λ m' n' k' h'. settled b (λ v t d. c v t (inl (inr d))) m' n' k' h' q s) (writes_or_not b q.var)) (eval a m k) (eval a n k)
+      then_both q ((v : ℕ) → Reads a v → S v ≡ true) _ _ (by_writes (λ m' n' k' h'. settled b (λ v t d. c v t (inl (inr d))) m' n' k' h' q s) (dec_writes b q.var)) (eval a m k) (eval a n k)
       (settled a (λ v t d. c v t (inl (inl d))) m n k h) (λ r. reads_decide S a r m n k h)
     where
       by_writes : ((m' n' : Arrays) (k' : List ℕ) → AgreeOn S m' n' → IfBoth (SettledAt q) (eval b m' k') (eval b n' k')) → Writes b q.var ⊎ (Writes b q.var → ⊥) → (o u : Meaning) → ((p : Place) → S p.var ≡ true → SettledAt p o u) → (((v : ℕ) → Reads a v → S v ≡ true) → o.packets ≡ u.packets)
@@ -261,7 +219,7 @@ module _ (S : ℕ → Bool) where
           (all_untouched q u.arrays _ (map_untouched q u.arrays _ (λ k'. untouched q b ne u.arrays k') (listed u.packets))))
   settled (If' x _ a _ b) c m n k h q s =
       logged_both q (vars_of x) (vars_of x) 0 0 refl _ _
-      (by_writes (settled a (λ v t d. c v t (inl (inl d))) m n k h q s) (settled b (λ v t d. c v t (inl (inr d))) m n k h q s) (or_no (writes_or_not a q.var) (writes_or_not b q.var)))
+      (by_writes (settled a (λ v t d. c v t (inl (inl d))) m n k h q s) (settled b (λ v t d. c v t (inl (inr d))) m n k h q s) (dec_either (dec_writes a q.var) (dec_writes b q.var)))
     where
       by_writes : IfBoth (SettledAt q) (eval a m k) (eval a n k) → IfBoth (SettledAt q) (eval b m k) (eval b n k) → (Writes a q.var ⊎ Writes b q.var) ⊎ ((Writes a q.var ⊎ Writes b q.var) → ⊥) → IfBoth (SettledAt q) (cond (truth x m k) (eval a m k) (eval b m k)) (cond (truth x n k) (eval a n k) (eval b n k))
       by_writes first second (inl w) =
@@ -271,7 +229,7 @@ module _ (S : ℕ → Bool) where
           untouched_both q m n (h q s) _ _
           (choice_untouched q m (truth x m k) _ _ (untouched q a (λ w. ne (inl w)) m k) (untouched q b (λ w. ne (inr w)) m k))
           (choice_untouched q n (truth x n k) _ _ (untouched q a (λ w. ne (inl w)) n k) (untouched q b (λ w. ne (inr w)) n k))
-  settled (Atomic' _ a) c m n k h q s = by_writes (writes_or_not a q.var)
+  settled (Atomic' _ a) c m n k h q s = by_writes (dec_writes a q.var)
     where
       by_writes : Writes a q.var ⊎ (Writes a q.var → ⊥) → IfBoth (SettledAt q) (eval a m k) (eval a n k)
       by_writes (inl w) = from_alike q s _ _ (reads_decide S a (λ v r. c v q.var (inl r, inr w) s) m n k h)

@@ -1,20 +1,10 @@
 -- The pairs of a relation, one after another.
-use Rattle.std.proofs.Common.{◌≡◌, ◌↔◌, ℕ, ◌+◌, ◌<◌, ◌⊎◌, inl, inr, List, [], ◌∷◌, ◌++◌, get_or, sym, ap, subst, arith}
+use Rattle.std.proofs.Common.{◌≡◌, ℕ, ◌+◌, ◌<◌, ◌⊎◌, inl, inr, List, [], ◌∷◌, ◌++◌, get_or, sym, ap, subst, arith}
 use Rattle.std.specs.List.{Contains}
 use Rattle.std.proofs.lemmas.Bool.{cases_eq}
 use Rattle.std.proofs.lemmas.List.Elements.{Contains-get_or, Contains-append_left, Contains-push, Contains-push_cases}
 use Rattle.std.proofs.lemmas.List.Quantifiers.{all_pairs_push}
-use Rattle.snap_dep.specs.Relations.{IsBefore, Lists, ListsTo}
-
-pub no_pairs : (R : ℕ → ℕ → Type 0) → ListsTo R (0, 0) []
-no_pairs R = record {
-  rising = λ i j d lt l. absurd (omega (arith, l));
-  each = λ s t. (λ c. absurd (let l = c.1 in omega (arith, l)), λ h. absurd (none s t h.1));
-}
-  where
-    none : (s t : ℕ) → IsBefore (s, t) (0, 0) → ⊥
-    none s t (inl l) = omega (arith, l)
-    none s t (inr l) = (let m = l.1 in omega (arith, m))
+use Rattle.snap_dep.specs.Relations.{IsBefore, ListsTo}
 
 module _ (R : ℕ → ℕ → Type 0) (s t : ℕ) (ps : List (ℕ × ℕ)) (so_far : ListsTo R (s, t) ps) where
   one_later : (a b : ℕ) → IsBefore (a, b) (s, t) → IsBefore (a, b) (s, t + 1)
@@ -75,14 +65,3 @@ module _ (R : ℕ → ℕ → Type 0) (s t : ℕ) (ps : List (ℕ × ℕ)) (so_f
       from : (a b : ℕ) → R a b → IsBefore (a, b) (s + 1, 0) → IsBefore (a, b) (s, t)
       from a b r (inl l) = by_first a b r l (cases_eq a s)
       from a b r (inr l) = absurd (let m = l.1 in omega (arith, m))
-
--- all pairs are listed
-pub list_all : (R : ℕ → ℕ → Type 0) (s : ℕ) (ps : List (ℕ × ℕ)) → ListsTo R (s, 0) ps → ((a b : ℕ) → R a b → a < s) → Lists R ps
-list_all R s ps so_far within = record {
-  rising = so_far.rising;
-  each = λ a b. (λ c. ((so_far.each a b).0 c).0, λ h. (so_far.each a b).1 (h, inl (within a b h)));
-}
-
--- for two relations that are the same
-pub Lists-same : (R Q : ℕ → ℕ → Type 0) (ps : List (ℕ × ℕ)) → ((a b : ℕ) → R a b ↔ Q a b) → Lists R ps → Lists Q ps
-Lists-same R Q ps same l = record { rising = l.rising; each = λ a b. (λ c. (same a b).0 ((l.each a b).0 c), λ q. (l.each a b).1 ((same a b).1 q)) }

@@ -1,5 +1,5 @@
 -- Rows of a relation, one after another.
-use Rattle.std.proofs.Common.{◌≡◌, ◌↔◌, ℕ, ◌+◌, ◌<◌, ◌≤◌, ◌⊎◌, inl, inr, List, length, set, get_or, refl, sym, subst, ap, ◌∙◌, arith, bit_or}
+use Rattle.std.proofs.Common.{◌≡◌, ◌↔◌, ℕ, ◌+◌, ◌<◌, ◌≤◌, ◌⊎◌, inl, inr, List, length, set, get_or, sym, subst, ap, ◌∙◌, arith, bit_or}
 use Rattle.std.specs.Prelude.{IsTrue, slice_index}
 use Rattle.std.proofs.lemmas.Bool.{cases_eq, cases_lt}
 use Rattle.std.proofs.lemmas.List.{get_or-set_same, get_or-set_other, get_or_past}
@@ -33,9 +33,6 @@ iff_on e f = (λ a. f.0 (e.0 a), λ c. e.1 (f.1 c))
 pub without_right : {A B : Type 0} → (B → ⊥) → A ↔ (A ⊎ B)
 without_right f = (λ a. inl a, drop_right f)
 
-pub start : (before : List ℕ) (Q : ℕ → ℕ → Type 0) → Progress before before 0 Q
-start before Q = record { done = λ s t l. absurd (omega (arith, l)); rest = λ t l. refl }
-
 module _ (before now : List ℕ) (i : ℕ) (Q : ℕ → ℕ → Type 0) (so_far : Progress before now i Q) where
   -- a row gets more
   pub write : (added : ℕ) → i < length now → ((s : ℕ) → IsTrue (has added s) ↔ Q s i) → Progress before (set now i (bit_or (get_or now i 0) added)) (i + 1) Q
@@ -61,14 +58,6 @@ module _ (before now : List ℕ) (i : ℕ) (Q : ℕ → ℕ → Type 0) (so_far 
       at_row : (s t : ℕ) → t < i + 1 → (t ≡ i) ⊎ (t ≡ i → ⊥) → Relates now s t ↔ (Relates before s t ⊎ Q s t)
       at_row s t l (inl e) = subst (λ u. Relates now s u ↔ (Relates before s u ⊎ Q s u)) (sym e) (here s)
       at_row s t l (inr ne) = so_far.done s t (omega (arith, l, ne))
-
-  -- all rows are done
-  pub finish : ((s t : ℕ) → Q s t → t < i) → (s t : ℕ) → Relates now s t ↔ (Relates before s t ⊎ Q s t)
-  finish within s t = by_place (cases_lt t i)
-    where
-      by_place : (t < i) ⊎ (i ≤ t) → Relates now s t ↔ (Relates before s t ⊎ Q s t)
-      by_place (inl l) = so_far.done s t l
-      by_place (inr l) = subst (λ r. IsTrue (has r s) ↔ (Relates before s t ⊎ Q s t)) (sym (so_far.rest t l)) (without_right (λ q. absurd (let below = within s t q in omega (arith, l, below))))
 
 -- what is related to a variable is related to one of the rows
 pub within_rows : (rows : List ℕ) (s t : ℕ) → Relates rows s t → t < length rows

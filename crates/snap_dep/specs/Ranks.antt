@@ -2,7 +2,8 @@
 use Rattle.std.specs.Prelude.{◌≡◌, ◌≢◌, ◌↔◌, ℕ, ◌<◌, ◌≤◌, List, All, take, length, slice_index, Contains}
 use Rattle.std.specs.List.{AllPairs}
 use Rattle.snap_core.specs.declared.policy.Pol.{Pol}
-use Rattle.snap_dep.specs.Dependencies.{Depends, Tied}
+use Rattle.snap_dep.specs.Dependencies.{Depends, Reaches, Tied, UsesBelow}
+use Rattle.snap_dep.specs.Relations.{IsRelation}
 
 -- a group goes by the least of its variables, of which there are n
 pub record IsGroup (p : Pol) (n g : ℕ) : Type 0 where
@@ -54,6 +55,10 @@ pub record IsGrouping (p : Pol) (n : ℕ) (g : Grouping) : Type 0 where
   pub order : IsRank p n g.order
   pub ranks : IsRankIn p n g.order (rank_of g)
   pub tied : (a b : ℕ) → a < n → b < n → (rank_of g a ≡ rank_of g b) ↔ Tied p a b
+
+-- what holds of each policy of which the rows tell which variable reaches which
+abbrev pub ForChains : List ℕ → (Pol → Type 0) → Type 0
+ForChains rows P = (p : Pol) → UsesBelow (length rows) p → IsRelation (Reaches p) rows → P p
 
 -- the groups of a policy have an order by rank, and only one, which has each group once
 pub record HasOneRank (p : Pol) (n : ℕ) : Type 0 where

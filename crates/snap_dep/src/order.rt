@@ -1,11 +1,10 @@
 //! The groups of tied variables, in the order of their ranks.
 
-ghost use Rattle.std.specs.Prelude.{◌≡◌, ◌≢◌, ◌≤◌, ◌<◌, ◌↔◌, ℕ, IsTrue, IfOk, MatchOption, All, length, slice_index};
-ghost use Rattle.snap_core.specs.Variables.{has};
+ghost use Rattle.std.specs.Prelude.{◌≡◌, ◌≤◌, ◌<◌, ◌↔◌, ℕ, IsTrue, IfOk, MatchOption, All, length, slice_index};
 ghost use Rattle.snap_core.specs.declared.policy.Pol.{Pol};
-ghost use Rattle.snap_dep.specs.Dependencies.{Reaches, Tied, UsesBelow};
-ghost use Rattle.snap_dep.specs.Ranks.{IsGroup, IsRank, IsRankIn};
-ghost use Rattle.snap_dep.specs.Relations.{Relates, IsRelation, IsSetOf, IsFree};
+ghost use Rattle.snap_dep.specs.Dependencies.{Reaches, Tied};
+ghost use Rattle.snap_dep.specs.Ranks.{IsGroup, IsRank, IsRankIn, ForChains};
+ghost use Rattle.snap_dep.specs.Relations.{IsRelation, IsSetOf, IsFree};
 
 use crate::relation::{are_tied, has_var, only, without};
 use snap_core::NoMemory;
@@ -66,7 +65,7 @@ fn first_free(rows: &[u64], set: u64) -> Option<usize>
 pub(crate) fn by_rank(alloc: Global, rows: &[u64]) -> Result<Vec<u16>, NoMemory>
     requires { length rows.now ≤ 64 }
     ensures below { IfOk result (λ order. All (λ g. g < length rows.now) order.items) }
-    ensures rank { IfOk result (λ order. (p : Pol) → UsesBelow (length rows.now) p → IsRelation (Reaches p) rows.now → IsRank p (length rows.now) order.items) }
+    ensures rank { IfOk result (λ order. ForChains rows.now (λ p. IsRank p (length rows.now) order.items)) }
 {
     let mut left = all_groups(rows);
     let mut order = Vec::new(alloc);
@@ -82,8 +81,8 @@ fn rank_in(rows: &[u64], order: &[u16], var: usize) -> usize
     requires small { length rows.now ≤ 64 }
     requires within { var < length rows.now }
     requires below { All (λ g. g < length rows.now) order.now }
-    ensures { (p : Pol) → UsesBelow (length rows.now) p → IsRelation (Reaches p) rows.now → IsRank p (length rows.now) order.now
-        → (result < length order.now) × Tied p (slice_index order.now result) var }
+    ensures { ForChains rows.now (λ p. IsRank p (length rows.now) order.now
+        → (result < length order.now) × Tied p (slice_index order.now result) var) }
 {
     for (rank, group) in order.iter().enumerate() {
         if are_tied(rows, *group as usize, var) {
@@ -98,8 +97,8 @@ pub(crate) fn ranks(alloc: Global, rows: &[u64], order: &[u16]) -> Result<Vec<us
     requires small { length rows.now ≤ 64 }
     requires below { All (λ g. g < length rows.now) order.now }
     ensures count { IfOk result (λ ranks. length ranks.items ≡ length rows.now) }
-    ensures ranks { IfOk result (λ ranks. (p : Pol) → UsesBelow (length rows.now) p → IsRelation (Reaches p) rows.now → IsRank p (length rows.now) order.now
-        → IsRankIn p (length rows.now) order.now (slice_index ranks.items)) }
+    ensures ranks { IfOk result (λ ranks. ForChains rows.now (λ p. IsRank p (length rows.now) order.now
+        → IsRankIn p (length rows.now) order.now (slice_index ranks.items))) }
 {
     let mut ranks = Vec::with_capacity(alloc, rows.len())?;
     for var in 0..rows.len() {
