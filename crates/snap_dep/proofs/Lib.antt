@@ -1,0 +1,14 @@
+pub mod Agreement
+pub mod Below
+pub mod ByRank
+pub mod Chains
+pub mod Choices
+pub mod GroupLemmas
+pub mod Locals
+pub mod OneRank
+pub mod OrderLemmas
+pub mod PairLemmas
+pub mod Rows
+pub mod Sets
+pub mod Taking
+pub mod UseLemmas

@@ -1,0 +1,4 @@
+pub mod Dependencies
+pub mod Locality
+pub mod Ranks
+pub mod Relations
