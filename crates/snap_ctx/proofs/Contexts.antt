@@ -1,20 +1,18 @@
 -- What every context is, from its start and through each assumption.
-use Rattle.std.proofs.Common.{◌≡◌, ℕ, ◌^◌, ◌<◌, ◌≤◌, true, false, Bool, List, [], ◌∷◌, ◌++◌, length, get_or, refl, sym, ap, subst, ◌∙◌, arith, length-append}
+use Rattle.std.proofs.Common.{◌≡◌, ℕ, ◌<◌, ◌≤◌, true, false, Bool, List, [], ◌∷◌, ◌++◌, length, get_or, refl, sym, ap, subst, ◌∙◌, arith, length-append}
 use Rattle.std.specs.Prelude.{All, slice_index}
-use Rattle.std.proofs.lemmas.List.Elements.{All-from_recursion, recursion_from_All, All-push, All-weaker, All-nil}
+use Rattle.std.proofs.lemmas.List.Elements.{All-push, All-weaker, All-nil}
 use Rattle.std.proofs.lemmas.List.{get_or_default}
 use Rattle.std.proofs.lemmas.Bool.{false_from_ne_true, true_from_ne_false}
 use Rattle.snap_core.specs.declared.policy.Term.{Term}
-use Rattle.snap_core.specs.declared.policy.Term.TheVariants.{Num, Plus}
+use Rattle.snap_core.specs.declared.policy.Term.TheVariants.{Plus}
 use Rattle.snap_core.specs.declared.policy.Test.{Test}
-use Rattle.snap_core.specs.Arrays.{Arrays}
 use Rattle.snap_core.specs.Tests.{passes, term_value}
 use Rattle.snap_ctx.specs.declared.fact.Fact.{Fact}
-use Rattle.snap_ctx.specs.Meets.{Meets, Under, IsPacket, IsMet, NoneMeets, with_fact}
+use Rattle.snap_ctx.specs.Meets.{Under, IsPacket, IsMet, NoneMeets, with_fact}
 use Rattle.snap_ctx.specs.Classes.{class_of, IsTest, IsClass, FactRule, PairRule, Says, Rules, left_of, normal}
 use Rattle.snap_ctx.specs.Closing.{IsClosed, IsBroken, MeetsWith, RulesFor, RulesOf, AllRules}
 use Rattle.snap_ctx.specs.View.{View, IsContext, AreFirst}
-use Rattle.snap_ctx.proofs.Each.{Each-left, Each-right}
 use Rattle.snap_ctx.proofs.Wrap.{wrap_zero}
 use Rattle.snap_ctx.proofs.Model.{model}
 use Rattle.snap_ctx.proofs.Answers.{Meets-with_fact, Meets-parts}

@@ -4,6 +4,7 @@ pub mod Apart
 pub mod Contexts
 pub mod Each
 pub mod Finite
+pub mod Fitting
 pub mod Fresh
 pub mod Indices
 pub mod Merging
@@ -12,6 +13,5 @@ pub mod Numbered
 pub mod Places
 pub mod Roots
 pub mod Sound
-pub mod Tests
 pub mod Tying
 pub mod Wrap

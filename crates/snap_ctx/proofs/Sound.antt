@@ -1,10 +1,9 @@
 -- What facts say of the classes, where a packet fits them.
-use Rattle.std.proofs.Common.{◌≡◌, ◌≢◌, ℕ, ◌^◌, ◌<◌, true, false, Bool, List, [], ◌∷◌, length, map, refl, sym, ap, ◌∙◌}
+use Rattle.std.proofs.Common.{◌≡◌, ℕ, ◌^◌, ◌<◌, true, false, Bool, List, [], ◌∷◌, length, map, refl, sym, ap, ◌∙◌}
 use Rattle.std.specs.Prelude.{◌==◌, All, slice_index, Result, Ok, Err, MatchResult}
 use Rattle.std.specs.List.{AllByRecursion}
 use Rattle.std.proofs.lemmas.Bool.{eqb-true, eqb-false}
 use Rattle.std.proofs.lemmas.List.Elements.{recursion_from_All}
-use Rattle.snap_core.specs.declared.place.Place.{Place}
 use Rattle.snap_core.specs.declared.policy.Atom.{Atom}
 use Rattle.snap_core.specs.declared.policy.Atom.TheVariants.{Num as Number, Comp}
 use Rattle.snap_core.specs.declared.policy.Term.{Term}
@@ -17,8 +16,8 @@ use Rattle.snap_ctx.specs.declared.fact.Fact.{Fact}
 use Rattle.snap_ctx.specs.declared.look.Breach.{Breach}
 use Rattle.snap_ctx.specs.declared.look.Breach.TheVariants.{Join, Contradiction}
 use Rattle.snap_ctx.specs.Meets.{IsPacket}
-use Rattle.snap_ctx.specs.Classes.{wrap, shift, class_of, normal, atom_class, IsTerm, IsAtom, IsTest, IsClass, Fits, is_state, left_of, right_of, var_of, index_of, Says, SamePlace, PairRule}
-use Rattle.snap_ctx.specs.Closing.{IsJoin, IsBroken, IsBreach, Compares, MeetsOne, MeetsTwo}
+use Rattle.snap_ctx.specs.Classes.{wrap, shift, class_of, normal, atom_class, IsTerm, IsAtom, IsTest, IsClass, Fits, is_state, left_of, right_of, index_of, Says, SamePlace, PairRule}
+use Rattle.snap_ctx.specs.Closing.{IsBreach, Compares, MeetsOne, MeetsTwo}
 use Rattle.snap_ctx.proofs.Wrap.{wrap_below, wrap_zero}
 use Rattle.snap_ctx.proofs.Algebra.{normal-value}
 use Rattle.snap_ctx.proofs.Roots.{left-term, right-term, index-atoms}

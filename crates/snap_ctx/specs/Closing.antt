@@ -1,5 +1,5 @@
 -- What a look over facts finds, and what it makes of the classes.
-use Rattle.std.specs.Prelude.{◌≡◌, ◌≢◌, ℕ, ◌-◌, ◌^◌, ◌<◌, ◌==◌, Bool, true, false, if◌then◌else◌, List, length, map, All, Option, Some, None}
+use Rattle.std.specs.Prelude.{◌≡◌, ◌≢◌, ℕ, ◌-◌, ◌^◌, ◌==◌, Bool, true, false, if◌then◌else◌, List, length, map, All, Option, Some, None}
 use Rattle.snap_core.specs.declared.policy.Term.{Term}
 use Rattle.snap_core.specs.declared.policy.Term.TheVariants.{Num, Plus}
 use Rattle.snap_core.specs.Arrays.{Arrays}

@@ -1,10 +1,7 @@
 -- The two facts are of one place.
-use Rattle.std.proofs.Common.{◌≡◌, List, map, sym, ap, ◌∙◌, arith}
-use Rattle.std.specs.Prelude.{MatchResult}
-use Rattle.snap_core.specs.declared.policy.Atom.{Atom}
+use Rattle.std.proofs.Common.{◌≡◌, map, sym, ap, ◌∙◌, arith}
 use Rattle.snap_core.specs.declared.policy.Test.{Test}
-use Rattle.snap_ctx.specs.Classes.{atom_class, normal, is_state, var_of, index_of, left_of, Says, SamePlace}
-use Rattle.snap_ctx.specs.Closing.{Compares}
+use Rattle.snap_ctx.specs.Classes.{atom_class, normal, is_state, var_of, index_of, left_of, SamePlace}
 use Rattle.snap_ctx.proofs.Sound.{pair_found}
 use Rattle.snap_ctx.proofs.look.look_pair.Goals as goal
 

@@ -1,6 +1,5 @@
 -- The facts are those of the context, with the new one.
-use Rattle.std.proofs.Common.{◌≡◌, ◌<◌, ◌++◌, ◌∷◌, [], true, Bool, List, length, ap, subst, sym, ◌∙◌, arith}
-use Rattle.snap_core.specs.declared.policy.Term.{Term}
+use Rattle.std.proofs.Common.{◌≡◌, ◌<◌, ◌++◌, ◌∷◌, [], List, length, ap, subst, sym, ◌∙◌, arith}
 use Rattle.snap_core.specs.declared.policy.Test.{Test}
 use Rattle.snap_ctx.specs.declared.fact.Fact.{Fact}
 use Rattle.snap_ctx.specs.Classes.{IsTest}
@@ -8,7 +7,7 @@ use Rattle.snap_ctx.specs.Closing.{IsClosed}
 use Rattle.snap_ctx.specs.Meets.{with_fact}
 use Rattle.snap_ctx.specs.View.{View, IsContext}
 use Rattle.snap_ctx.proofs.Contexts.{rules_at, broken_at, closed_at, none_meets, more_met, more_context}
-use Rattle.snap_ctx.proofs.Tests.{is_test}
+use Rattle.snap_ctx.proofs.Fitting.{is_test}
 use Rattle.snap_ctx.proofs.context.Context.assume.Goals as goal
 use Rattle.snap_ctx.proofs.context.Context.assume.Goals.{After-deref-2, In_ok-push-in-Some}
 

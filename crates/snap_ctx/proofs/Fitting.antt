@@ -1,6 +1,5 @@
 -- Tests that fit, with numbers in range.
 use Rattle.std.proofs.Common.{ℕ, ◌≤◌, length, get_or}
-use Rattle.std.specs.Prelude.{All}
 use Rattle.std.proofs.lemmas.List.Elements.{All-from_recursion}
 use Rattle.snap_core.specs.declared.policy.Atom.{Atom}
 use Rattle.snap_core.specs.declared.policy.Atom.TheVariants.{Num as Number, Comp}
