@@ -33,8 +33,8 @@ fn close(classes: &mut [Term], facts: &[Fact], fact: &Fact) -> bool
     true
 }
 
-/// The classes with all conclusions of a new fact, or none where it contradicts the facts.
-pub fn closed(
+// The classes with all conclusions of a new fact, or none where it contradicts the facts.
+pub(crate) fn closed(
     alloc: Global,
     classes: &[Term],
     facts: &[Fact],

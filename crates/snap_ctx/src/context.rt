@@ -14,8 +14,8 @@ use snap_core::policy::{Term, Test};
 use std::alloc::Global;
 use std::marker::Model;
 
-/// Facts of a store and a packet, which some store and packet meet. Seen as the facts and the
-/// classes of the components. At most 64 components and 4294967295 facts.
+/// Facts of a store and a packet, which some store and packet meet. Contracts see the facts and the
+/// class of each component. At most 64 components and 4294967295 facts.
 #[derive(Drop)]
 pub struct Context {
     classes: Vec<Term>,
@@ -85,7 +85,9 @@ impl Context {
         &self.facts
     }
 
-    /// The class of a component: a number, or another component with an offset.
+    /// The class of a component. A number says that all that meet the facts have that number there;
+    /// a component with an offset says that they have that component with the offset there, and its
+    /// own class is then itself.
     pub fn class(&self, comp: u16) -> Term
         requires { comp < length self.now.classes }
         ensures class { result ≡ class_of self.now.classes comp }
@@ -95,7 +97,8 @@ impl Context {
         class_at(&self.classes, comp)
     }
 
-    /// The context with one fact more, a test and whether it passes.
+    /// The context with one fact more: a test, and whether it passes. Past 4294967295 facts a growth
+    /// is refused as for want of memory.
     pub fn assume(&self, test: &Test, yes: bool) -> Result<Assumed, NoMemory>
         requires fits { TestFits (length self.now.classes) test.now }
         requires short { length (index_of test.now) ≤ 8 }
@@ -138,7 +141,8 @@ impl Context {
         requires short { length (index_of test.now) ≤ 8 }
         ensures { IfOk result (IsVerdict self.now test.now) }
     {
-        let _known = &self.facts;
+        // A read of a field tells the prover that some store and packet meet the facts.
+        let _facts = &self.facts;
         know_test(test);
         let passes = Fact {
             test: copy_test(test)?,

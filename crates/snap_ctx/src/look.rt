@@ -1,6 +1,6 @@
 //! Which rules facts break beside the classes.
 
-ghost use Rattle.std.specs.Prelude.{◌≡◌, true, false, length, All, MatchOption, MatchResult};
+ghost use Rattle.std.specs.Prelude.{◌≡◌, ◌↔◌, true, false, length, All, IsTrue, MatchOption, MatchResult};
 ghost use Rattle.snap_core.specs.declared.policy.Term.{Term};
 ghost use Rattle.snap_ctx.specs.Meets.{Meets};
 ghost use Rattle.snap_ctx.specs.Classes.{FactRule, IsClass, IsTest, PairRule, Says, is_state, left_of, right_of};
@@ -77,6 +77,16 @@ fn look_alone(classes: &[Term], fact: &Fact) -> Result<(), Breach>
     }
 }
 
+// Whether a fact says what a place holds.
+fn says_what_is_held(fact: &Fact) -> bool
+    ensures { IsTrue result ↔ ((fact.now.yes ≡ true) × (is_state fact.now.test ≡ true)) }
+{
+    match fact.test {
+        Test::State { .. } => fact.yes,
+        Test::Value { .. } | Test::Equal { .. } => false,
+    }
+}
+
 // Where the first fact says what a place holds, the second must agree.
 fn look_pair(classes: &[Term], first: &Fact, second: &Fact) -> Result<(), Breach>
     requires classes { All (IsClass classes.now) classes.now }
@@ -113,6 +123,9 @@ fn look_one(classes: &[Term], fact: &Fact, facts: &[Fact]) -> Result<(), Breach>
     ensures { MatchResult result (λ _. RulesFor classes.now fact.now facts.now) (IsBreach (MeetsWith fact.now facts.now) classes.now) }
 {
     look_alone(classes, fact)?;
+    if !says_what_is_held(fact) {
+        return Ok(());
+    }
     for other in facts {
         look_pair(classes, fact, other)?;
     }
@@ -131,8 +144,8 @@ fn look_old(classes: &[Term], facts: &[Fact]) -> Result<(), Breach>
     Ok(())
 }
 
-/// Looks at a new fact, alone and beside facts that keep the rules.
-pub fn look_new(classes: &[Term], facts: &[Fact], fact: &Fact) -> Result<(), Breach>
+// Looks at a new fact, alone and beside facts that keep the rules.
+pub(crate) fn look_new(classes: &[Term], facts: &[Fact], fact: &Fact) -> Result<(), Breach>
     requires classes { All (IsClass classes.now) classes.now }
     requires test { IsTest (length classes.now) fact.now.test }
     requires tests { All (λ f. IsTest (length classes.now) f.test) facts.now }
@@ -146,8 +159,8 @@ pub fn look_new(classes: &[Term], facts: &[Fact], fact: &Fact) -> Result<(), Bre
     Ok(())
 }
 
-/// Looks at all facts and a new one.
-pub fn look(classes: &[Term], facts: &[Fact], fact: &Fact) -> Result<(), Breach>
+// Looks at all facts and a new one.
+pub(crate) fn look(classes: &[Term], facts: &[Fact], fact: &Fact) -> Result<(), Breach>
     requires classes { All (IsClass classes.now) classes.now }
     requires test { IsTest (length classes.now) fact.now.test }
     requires tests { All (λ f. IsTest (length classes.now) f.test) facts.now }

@@ -7,6 +7,12 @@ use Rattle.snap_ctx.specs.declared.fact.Fact.{Fact}
 use Rattle.snap_ctx.specs.Classes.{PairRule}
 use Rattle.snap_ctx.proofs.look.look_one.Goals as goal
 
+pub returns-then-not-says_what_is_held : goal.returns-then-not-says_what_is_held
+returns-then-not-says_what_is_held c = (
+  c.in_ok-look_alone.ensures,
+  λ k d l y same. let held = c.says_what_is_held.ensures.1 (y, same.first) in let bad = rw c.if-not-says_what_is_held.true at held in absurd (cc),
+)
+
 pub loop-other-preserved : goal.loop-other-preserved
 loop-other-preserved c = (
   c.loop-other.invariant.0,
