@@ -107,7 +107,9 @@ fn set(
     ensures lengths { IfOk result (λ o. AllLong (length packet.now) o.packets) }
 {
     let mut outcome = Outcome::unchanged(alloc, store)?;
-    outcome.packets.insert(packet.with(comp, from.value(packet))?)?;
+    outcome
+        .packets
+        .insert(packet.with(comp, from.value(packet))?)?;
     Ok(outcome)
 }
 

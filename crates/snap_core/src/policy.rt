@@ -152,3 +152,26 @@ impl Update {
         })
     }
 }
+
+impl Test {
+    pub fn copy(&self) -> Result<Test, NoMemory>
+        ensures { IfOk result (λ copy. copy ≡ self.now) }
+    {
+        Ok(match self {
+            Test::Value { comp, num } => Test::Value {
+                comp: *comp,
+                num: *num,
+            },
+            Test::Equal { left, right, plus } => Test::Equal {
+                left: *left,
+                right: *right,
+                plus: *plus,
+            },
+            Test::State { var, index, value } => Test::State {
+                var: *var,
+                index: index.copy()?,
+                value: *value,
+            },
+        })
+    }
+}

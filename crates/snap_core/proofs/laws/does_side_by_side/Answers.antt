@@ -1,10 +1,8 @@
-use Rattle.std.proofs.Common.{◌≡◌, ℕ, ◌^◌, Bool, true, false, cond, ◌&&◌, List, [], ◌∷◌, refl, sym, ap, ◌∙◌, bit_or}
-use Rattle.std.specs.Prelude.{nat_eq}
+use Rattle.std.proofs.Common.{◌≡◌, ℕ, ◌^◌, Bool, true, false, cond, List, [], ◌∷◌, refl, sym, ap, ◌∙◌}
 use Rattle.std.proofs.lemmas.Bool.{eqb-true, cond-true, cond-false, and_parts, both_ways, false_from_ne_true}
 use Rattle.snap_core.specs.declared.place.Place.{Place}
-use Rattle.snap_core.specs.declared.policy.Op.{Op}
 use Rattle.snap_core.specs.declared.policy.Update.{Update}
-use Rattle.snap_core.specs.Arrays.{Arrays, same_place, place_at, number_after, update, updates, taken}
+use Rattle.snap_core.specs.Arrays.{Arrays, same_place, place_at, number_after, update, updates}
 use Rattle.snap_core.specs.Variables.{has}
 use Rattle.snap_core.specs.Laws.{written_by}
 use Rattle.snap_core.proofs.Unwritten.{neither, updated_keeps}

@@ -1,13 +1,10 @@
-use Rattle.std.proofs.Common.{◌≡◌, ℕ, ◌^◌, Bool, true, false, cond, List, [], ◌∷◌, Option, Some, None, map, refl, ap, subst, ◌∙◌, arith, bit_or}
-use Rattle.std.specs.Prelude.{nat_eq, option_and_then, option_map}
-use Rattle.std.specs.Int.{bit_at}
-use Rattle.std.proofs.lemmas.Bool.{eqb-false, ne_eqb, and_left, cond-false}
-use Rattle.std.proofs.lemmas.Nat.Bits.{bit_at_or, bit_at-lt, bit_at-pow_same}
+use Rattle.std.proofs.Common.{◌≡◌, ℕ, Bool, true, false, cond, List, [], ◌∷◌, Option, Some, None, map, refl, subst, ◌∙◌, bit_or}
+use Rattle.std.specs.Prelude.{option_and_then, option_map}
+use Rattle.std.proofs.lemmas.Bool.{cond-false}
 use Rattle.snap_core.specs.declared.place.Place.{Place}
-use Rattle.snap_core.specs.declared.policy.Update.{Update}
 use Rattle.snap_core.specs.declared.policy.Pol.{Pol}
 use Rattle.snap_core.specs.declared.policy.Pol.TheVariants.{Filter, Set, Change, Par', Seq', If', Atomic'}
-use Rattle.snap_core.specs.Arrays.{Arrays, same_place, place_at, update}
+use Rattle.snap_core.specs.Arrays.{Arrays}
 use Rattle.snap_core.specs.Variables.{has}
 use Rattle.snap_core.specs.Packets.{listed}
 use Rattle.snap_core.specs.Meaning.{Meaning, eval, truth, vars_of, any_clash, merge, all_writes, together, all_defined, all_together, logged}
