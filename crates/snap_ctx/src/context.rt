@@ -7,7 +7,7 @@ ghost use Rattle.snap_ctx.specs.Meets.{IsMet, NoneMeets, Under, with_fact};
 
 use crate::classes::{class_at, first_classes};
 use crate::close::closed;
-use crate::fact::{Fact, copy_facts, copy_test};
+use crate::fact::{Fact, copy_facts};
 use crate::ranges::know_test;
 use snap_core::NoMemory;
 use snap_core::policy::{Term, Test};
@@ -109,7 +109,7 @@ impl Context {
         }
         know_test(test);
         let fact = Fact {
-            test: copy_test(test)?,
+            test: test.copy()?,
             yes,
         };
         let alloc = *self.facts.allocator();
@@ -145,7 +145,7 @@ impl Context {
         let _facts = &self.facts;
         know_test(test);
         let passes = Fact {
-            test: copy_test(test)?,
+            test: test.copy()?,
             yes: true,
         };
         if self.refutes(&passes)? {

@@ -20,30 +20,9 @@ impl Fact {
         ensures { IfOk result (λ copy. copy ≡ self.now) }
     {
         Ok(Fact {
-            test: copy_test(&self.test)?,
+            test: self.test.copy()?,
             yes: self.yes,
         })
-    }
-}
-
-pub(crate) fn copy_test(test: &Test) -> Result<Test, NoMemory>
-    ensures { IfOk result (λ copy. copy ≡ test.now) }
-{
-    match test {
-        Test::Value { comp, num } => Ok(Test::Value {
-            comp: *comp,
-            num: *num,
-        }),
-        Test::Equal { left, right, plus } => Ok(Test::Equal {
-            left: *left,
-            right: *right,
-            plus: *plus,
-        }),
-        Test::State { var, index, value } => Ok(Test::State {
-            var: *var,
-            index: index.copy()?,
-            value: *value,
-        }),
     }
 }
 
