@@ -1,5 +1,5 @@
 -- A draft from fact to fact, and what it is in the end.
-use Rattle.std.proofs.Common.{◌≡◌, ℕ, ◌<◌, ⊎_elim, true, false, cond, Bool, List, [], ◌∷◌, ◌++◌, length, get_or, refl, sym, ap, subst, ◌∙◌, Some, arith}
+use Rattle.std.proofs.Common.{◌≡◌, ℕ, ◌^◌, ◌<◌, ⊎_elim, true, false, cond, Bool, List, [], ◌∷◌, ◌++◌, length, get_or, refl, sym, ap, subst, ◌∙◌, Some, arith}
 use Rattle.std.specs.Prelude.{◌==◌, All}
 use Rattle.std.proofs.lemmas.Bool.{cases_Bool, cond-true}
 use Rattle.std.proofs.lemmas.Grind.{same_number_lists}
@@ -12,7 +12,7 @@ use Rattle.snap_core.specs.Cells.{Cells, arrays_of}
 use Rattle.snap_core.specs.Listing.{number_in}
 use Rattle.snap_core.specs.Tests.{passes, term_value}
 use Rattle.snap_ctx.specs.declared.fact.Fact.{Fact}
-use Rattle.snap_ctx.specs.Meets.{Meets, IsPacket, IsMet}
+use Rattle.snap_ctx.specs.Meets.{Meets, IsStore, IsPacket, IsMet}
 use Rattle.snap_ctx.specs.Classes.{is_state, var_of, index_of}
 use Rattle.snap_ctx.specs.View.{View}
 use Rattle.snap_ctx.proofs.Places.{same_place-refl}
@@ -22,6 +22,11 @@ use Rattle.snap_model.specs.declared.example.Draft.{Draft}
 use Rattle.snap_model.specs.Asks.{IsSettled}
 use Rattle.snap_model.specs.Models.{current, Forces, IsDraft, Knows, Settles, place_of}
 use Rattle.snap_model.proofs.Settling.{settled_new, run_kept, fact_kept}
+
+IsStore-put : (m n : Arrays) (p : Place) (x : ℕ) → IsStore m → x < 2 ^ 64 → n ≡ put m p x → IsStore n
+IsStore-put m n p x small lt e q =
+    subst (λ (a : Arrays). a q < 2 ^ 64) (sym e)
+    (elim (same_place p q) as (λ b. cond b x (m q) < 2 ^ 64) [ true ↦ lt | false ↦ small q ])
 
 -- no fact so far
 pub settles_none : (v : View) (y : Bool) (d : Draft) → IsDraft v d → Settles v y [] d d
@@ -43,7 +48,11 @@ settles_more v y facts old d f s store settled written h =
     let number : arrays_of store p ≡ s.num = ap (λ (m : Arrays). m p) written ∙ cond-true (same_place p p) s.num (arrays_of d.store p) (same_place-refl p) in
     subst (λ n. Forces s.ctx (At p) n) (sym number) (settled_new w (At p) s settled)
     in record {
-      draft = record { run = run_kept w (At p) s settled v d.packet h.draft.run; whole = h.draft.whole };
+      draft = record {
+        run = run_kept w (At p) s settled v d.packet h.draft.run;
+        whole = h.draft.whole;
+        small = IsStore-put (arrays_of d.store) (arrays_of store) p s.num h.draft.small settled.small written;
+      };
       places = All-push (λ g. g.yes ≡ y → Knows v new g) facts f (λ i e l a. keeps (get_or facts i e) (h.places i e l a)) (λ _. here);
       kept = λ g k. keeps g (h.kept g k);
     }

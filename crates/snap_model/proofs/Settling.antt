@@ -1,30 +1,20 @@
 -- Each answer stays as the context grows, and all together are a model.
-use Rattle.std.proofs.Common.{◌≡◌, ℕ, ◌+◌, ◌^◌, ◌<◌, ◌≤◌, ⊎_elim, true, false, cond, Bool, List, [], ◌∷◌, ◌++◌, length, get_or, refl, sym, ap, subst, ◌∙◌, arith, length-append}
-use Rattle.std.specs.Prelude.{◌==◌, slice_index, All}
-use Rattle.std.proofs.lemmas.Bool.{eqb-true, cases_lt, cases_Bool}
+use Rattle.std.proofs.Common.{◌≡◌, ℕ, ◌+◌, ◌<◌, ◌≤◌, ⊎_elim, true, false, cond, Bool, List, [], ◌∷◌, ◌++◌, length, get_or, refl, sym, ap, subst, ◌∙◌, arith, length-append}
+use Rattle.std.specs.Prelude.{slice_index}
+use Rattle.std.proofs.lemmas.Bool.{eqb-true, cases_lt}
 use Rattle.std.proofs.lemmas.Grind.{common_steps}
 use Rattle.snap_core.specs.declared.place.Place.{Place}
-use Rattle.snap_core.specs.declared.policy.Atom.{Atom}
-use Rattle.snap_core.specs.declared.policy.Atom.TheVariants.{Num as Number, Comp}
-use Rattle.snap_core.specs.declared.policy.Term.{Term}
-use Rattle.snap_core.specs.declared.policy.Term.TheVariants.{Num, Plus}
-use Rattle.snap_core.specs.declared.policy.Test.{Test}
 use Rattle.snap_core.specs.Arrays.{Arrays, put, same_place}
-use Rattle.snap_core.specs.Listing.{number_in}
-use Rattle.snap_core.specs.Tests.{passes, TermFits}
-use Rattle.snap_core.specs.Fits.{AtomFits, IndexFits}
-use Rattle.std.specs.List.{AllByRecursion}
-use Rattle.std.proofs.lemmas.List.Elements.{recursion_from_All}
+use Rattle.snap_core.specs.Tests.{passes}
 use Rattle.snap_ctx.specs.declared.fact.Fact.{Fact}
-use Rattle.snap_ctx.specs.Meets.{Meets, IsPacket, IsMet, Under}
-use Rattle.snap_ctx.specs.Classes.{is_state, IsAtom, IsTerm}
+use Rattle.snap_ctx.specs.Meets.{Meets}
 use Rattle.snap_ctx.specs.View.{View}
 use Rattle.snap_ctx.proofs.Answers.{Meets-parts}
-use Rattle.snap_ctx.proofs.Places.{passes-like, same_place-true}
+use Rattle.snap_ctx.proofs.Places.{same_place-true}
 use Rattle.snap_model.specs.declared.ask.Ask.{Ask}
 use Rattle.snap_model.specs.declared.ask.Ask.TheVariants.{Component, At}
 use Rattle.snap_model.specs.declared.ask.Settled.{Settled}
-use Rattle.snap_model.specs.Asks.{test_of, answer_of, IsSettled}
+use Rattle.snap_model.specs.Asks.{test_of, IsSettled}
 use Rattle.snap_model.specs.Models.{Extends, Forces, ForcesPacket, ForcesFact, IsRun, place_of}
 use Rattle.snap_model.proofs.Asking.{passes-ask}
 

@@ -28,4 +28,5 @@ AskFits comps (At p) = length p.index ≤ 8
 -- the context with the answer as one fact more
 pub record IsSettled (v : View) (ask : Ask) (s : Settled) : Type 0 where
   pub facts : s.ctx.facts ≡ with_fact v.facts (test_of ask s.num) true
+  pub small : s.num < 2 ^ 64
   pub same : length s.ctx.classes ≡ length v.classes

@@ -4,7 +4,7 @@ use Rattle.snap_core.specs.declared.place.Place.{Place}
 use Rattle.snap_core.specs.Arrays.{Arrays, place_at}
 use Rattle.snap_core.specs.Cells.{arrays_of}
 use Rattle.snap_ctx.specs.declared.fact.Fact.{Fact}
-use Rattle.snap_ctx.specs.Meets.{Meets, Under}
+use Rattle.snap_ctx.specs.Meets.{Meets, Under, IsStore}
 use Rattle.snap_ctx.specs.Classes.{is_state, var_of, index_of}
 use Rattle.snap_ctx.specs.View.{View}
 use Rattle.snap_model.specs.declared.ask.Ask.{Ask}
@@ -47,6 +47,7 @@ ForcesFact w k m f = is_state f.test ≡ true → Forces w (At (place_of f k)) (
 pub record IsDraft (v : View) (e : Draft) : Type 0 where
   pub run : IsRun v e.packet (current v e.grown)
   pub whole : length e.packet ≡ length v.classes
+  pub small : IsStore (arrays_of e.store)
 
 abbrev pub Knows : View → Draft → Fact → Type 0
 Knows v e f = ForcesFact (current v e.grown) e.packet (arrays_of e.store) f

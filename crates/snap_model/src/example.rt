@@ -4,7 +4,7 @@ ghost use Rattle.std.specs.Prelude.{◌≡◌, ◌<◌, IfOk, MatchOption, false
 ghost use Rattle.snap_core.specs.Arrays.{put};
 ghost use Rattle.snap_core.specs.Cells.{arrays_of};
 ghost use Rattle.snap_ctx.specs.Classes.{IsTest, is_state};
-ghost use Rattle.snap_ctx.specs.Meets.{IsMet, IsPacket, Meets};
+ghost use Rattle.snap_ctx.specs.Meets.{IsMet, IsPacket, IsStore, Meets};
 ghost use Rattle.snap_model.specs.declared.ask.Ask.TheVariants.{Component, At};
 ghost use Rattle.snap_model.specs.Asks.{IsSettled};
 
@@ -134,6 +134,7 @@ fn know_met(ctx: &Context)
 /// A store and a packet that meet every fact of the context.
 pub fn example(alloc: Global, ctx: &Context) -> Result<(Store, Packet), NoMemory>
     ensures facts { IfOk result (λ e. Meets ctx.now.facts (arrays_of e.0) e.1) }
+    ensures store { IfOk result (λ e. IsStore (arrays_of e.0)) }
     ensures packet { IfOk result (λ e. IsPacket (length ctx.now.classes) e.1) }
 {
     let draft = settle_packet(alloc, ctx)?;

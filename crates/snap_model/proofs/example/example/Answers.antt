@@ -20,3 +20,6 @@ pub returns-clause-packet : goal.returns-clause-packet
 returns-clause-packet c =
     let d = (goal.at.returns-clause-packet c).After-know_met in
     draft_packet c.args.ctx.now c.in_ok-draft-3.draft c.in_ok-draft-3.ensures.draft (met d)
+
+pub returns-clause-store : goal.returns-clause-store
+returns-clause-store c = c.in_ok-draft-3.ensures.draft.small

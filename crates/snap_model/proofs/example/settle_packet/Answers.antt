@@ -1,9 +1,10 @@
 -- One component more.
-use Rattle.std.proofs.Common.{◌≡◌, ◌+◌, ℕ, ◌++◌, ◌∷◌, [], length, sym, subst, ap, ◌∙◌, arith, length-append}
+use Rattle.std.proofs.Common.{◌≡◌, ◌+◌, ℕ, ◌++◌, ◌∷◌, [], length, sym, subst, ap, ◌∙◌, arith, length-append, List}
+use Rattle.snap_ctx.specs.Meets.{IsStore}
 use Rattle.snap_ctx.specs.View.{View}
 use Rattle.snap_model.specs.declared.ask.Ask.TheVariants.{Component}
 use Rattle.snap_model.specs.Asks.{IsSettled}
-use Rattle.snap_model.specs.Models.{current}
+use Rattle.snap_model.specs.Models.{current, IsRun}
 use Rattle.snap_model.proofs.Settling.{run_more}
 use Rattle.snap_model.proofs.example.settle_packet.Goals as goal
 
@@ -20,3 +21,13 @@ loop-comp-preserved c =
           let m : length c.loop-comp.comps.items ≡ c.loop-comp.comp = h.1 in
           omega (arith, l, m)),
     )
+
+pub returns : goal.returns
+returns c =
+    let h = c.loop-comp.invariant in
+    let end : c.loop-comp.comp ≡ length c.args.ctx.now.classes = omega (arith, c.loop-comp-test.false, c.loop-comp.auto.comp-end, c.comps-comp-end.ensures) in
+    record {
+      run = subst (λ (k : List ℕ). IsRun c.args.ctx.now k (current c.args.ctx.now c.loop-comp.grown)) (sym c.new.ensures) h.0;
+      whole = ap length c.new.ensures ∙ (h.1 ∙ end);
+      small = subst IsStore (sym c.new-2.ensures) (λ p. omega arith);
+    }

@@ -1,7 +1,7 @@
 -- Each fact in turn: left, or its place settled.
-use Rattle.std.proofs.Common.{◌≡◌, ◌≤◌, ◌+◌, ◌<◌, true, false, not, Bool, Some, List, ◌++◌, ◌∷◌, [], length, take, get_or, sym, ap, subst, ◌∙◌}
+use Rattle.std.proofs.Common.{◌≡◌, ◌+◌, ◌<◌, true, false, not, Bool, Some, List, ◌++◌, ◌∷◌, [], length, take, get_or, sym, ap, subst, ◌∙◌}
 use Rattle.std.proofs.Math.Bool.{beq}
-use Rattle.std.proofs.lemmas.List.{take_more, take_all}
+use Rattle.std.proofs.lemmas.List.{take_more}
 use Rattle.snap_core.specs.Arrays.{put}
 use Rattle.snap_core.specs.Cells.{arrays_of}
 use Rattle.snap_ctx.specs.declared.fact.Fact.{Fact}
@@ -9,9 +9,8 @@ use Rattle.snap_ctx.specs.Classes.{is_state}
 use Rattle.snap_ctx.specs.View.{View}
 use Rattle.snap_model.specs.declared.ask.Ask.TheVariants.{At}
 use Rattle.snap_model.specs.declared.ask.Settled.{Settled}
-use Rattle.snap_model.specs.declared.example.Draft.{Draft}
 use Rattle.snap_model.specs.Asks.{IsSettled}
-use Rattle.snap_model.specs.Models.{current, place_of, Settles}
+use Rattle.snap_model.specs.Models.{place_of, Settles}
 use Rattle.snap_model.proofs.Drafts.{settles_skip, settles_more}
 use Rattle.snap_model.proofs.example.settle_places.Goals as goal
 use Rattle.snap_model.proofs.example.settle_places.Goals.{After-fact-item, After-settle_fact, in-Some+in-Some-1, in-Some+in-None-1, in_default}
