@@ -1,0 +1,17 @@
+pub mod Algebra
+pub mod Answers
+pub mod Apart
+pub mod Contexts
+pub mod Each
+pub mod Finite
+pub mod Fitting
+pub mod Fresh
+pub mod Indices
+pub mod Merging
+pub mod Model
+pub mod Numbered
+pub mod Places
+pub mod Roots
+pub mod Sound
+pub mod Tying
+pub mod Wrap

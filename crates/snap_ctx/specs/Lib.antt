@@ -1,0 +1,6 @@
+pub mod Answers
+pub mod Classes
+pub mod Closing
+pub mod Meets
+pub mod Ranges
+pub mod View

@@ -1,0 +1,163 @@
+//! Contexts.
+
+ghost use Rattle.std.specs.Prelude.{◌≡◌, ◌<◌, ◌≤◌, All, IfOk, MatchBool, [], length, slice_index};
+ghost use Rattle.snap_core.specs.Tests.{TestFits, term_value};
+ghost use Rattle.snap_ctx.specs.Classes.{IsClass, IsTest, class_of, index_of};
+ghost use Rattle.snap_ctx.specs.Meets.{IsMet, NoneMeets, Under, with_fact};
+
+use crate::classes::{class_at, first_classes};
+use crate::close::closed;
+use crate::fact::{Fact, copy_facts};
+use crate::ranges::know_test;
+use snap_core::NoMemory;
+use snap_core::policy::{Term, Test};
+use std::alloc::Global;
+use std::marker::Model;
+
+/// Facts of a store and a packet, which some store and packet meet. Contracts see the facts and the
+/// class of each component. At most 64 components and 4294967295 facts.
+#[derive(Drop)]
+pub struct Context {
+    classes: Vec<Term>,
+    facts: Vec<Fact>,
+}
+
+impl Model for Context {
+    ghost use Rattle.snap_ctx.specs.View.{View, IsContext};
+
+    ghost Value = { View };
+
+    ghost view = { λ c. record { facts = c.facts.items; classes = c.classes.items } };
+
+    ghost invariant = { λ c. IsContext (record { facts = c.facts.items; classes = c.classes.items }) };
+}
+
+/// What comes of one fact more.
+#[derive(Drop)]
+pub enum Assumed {
+    /// No store and packet meet all facts.
+    Impossible,
+    More(Context),
+}
+
+/// What a context says of a test.
+#[derive(Clone, Copy, Debug, PartialEq, Eq)]
+pub enum Verdict {
+    /// All stores and packets that meet the facts pass.
+    Always,
+    /// None of them passes.
+    Never,
+    /// Some pass and some don't.
+    Unsure,
+}
+
+// The most facts that a context holds.
+const MOST_FACTS: usize = 4_294_967_295;
+
+impl Context {
+    ghost use Rattle.snap_ctx.specs.Answers.{IsAssumed, IsVerdict};
+
+    /// No facts over so many components.
+    pub fn empty(alloc: Global, comps: u16) -> Result<Context, NoMemory>
+        requires { comps ≤ 64 }
+        ensures { IfOk result (λ c. (c.facts ≡ []) × (length c.classes ≡ comps)) }
+    {
+        let classes = first_classes(alloc, comps)?;
+        Ok(Context {
+            classes,
+            facts: Vec::new(alloc),
+        })
+    }
+
+    /// The number of components.
+    pub fn comps(&self) -> u16
+        ensures { result ≡ length self.now.classes }
+    {
+        self.classes.len() as u16
+    }
+
+    /// The facts, in the order in which they were assumed.
+    pub fn facts(&self) -> &[Fact]
+        ensures facts { result.now ≡ self.now.facts }
+        ensures met { IsMet (length self.now.classes) self.now.facts }
+        ensures tests { All (λ f. IsTest (length self.now.classes) f.test) self.now.facts }
+    {
+        &self.facts
+    }
+
+    /// The class of a component. A number says that all that meet the facts have that number there;
+    /// a component with an offset says that they have that component with the offset there, and its
+    /// own class is then itself.
+    pub fn class(&self, comp: u16) -> Term
+        requires { comp < length self.now.classes }
+        ensures class { result ≡ class_of self.now.classes comp }
+        ensures root { IsClass self.now.classes result }
+        ensures told { Under (length self.now.classes) self.now.facts (λ m k. term_value result k ≡ slice_index k comp) }
+    {
+        class_at(&self.classes, comp)
+    }
+
+    /// The context with one fact more: a test, and whether it passes. Past 4294967295 facts a growth
+    /// is refused as for want of memory.
+    pub fn assume(&self, test: &Test, yes: bool) -> Result<Assumed, NoMemory>
+        requires fits { TestFits (length self.now.classes) test.now }
+        requires short { length (index_of test.now) ≤ 8 }
+        ensures { IfOk result (IsAssumed self.now test.now yes) }
+    {
+        if self.facts.len() >= MOST_FACTS {
+            return Err(NoMemory);
+        }
+        know_test(test);
+        let fact = Fact {
+            test: test.copy()?,
+            yes,
+        };
+        let alloc = *self.facts.allocator();
+        match closed(alloc, &self.classes, &self.facts, &fact)? {
+            None => Ok(Assumed::Impossible),
+            Some(classes) => {
+                let mut facts = copy_facts(alloc, &self.facts)?;
+                facts.push(fact)?;
+                Ok(Assumed::More(Context { classes, facts }))
+            }
+        }
+    }
+
+    // Whether nothing meets the facts and a new one.
+    fn refutes(&self, fact: &Fact) -> Result<bool, NoMemory>
+        requires fits { IsTest (length self.now.classes) fact.now.test }
+        ensures { IfOk result (λ none. MatchBool none (NoneMeets (length self.now.classes) (with_fact self.now.facts fact.now.test fact.now.yes)) (IsMet (length self.now.classes) (with_fact self.now.facts fact.now.test fact.now.yes))) }
+    {
+        let alloc = *self.facts.allocator();
+        match closed(alloc, &self.classes, &self.facts, fact)? {
+            None => Ok(true),
+            Some(_) => Ok(false),
+        }
+    }
+
+    /// Whether all, none or some of the stores and packets that meet the facts pass the test.
+    pub fn decide(&self, test: &Test) -> Result<Verdict, NoMemory>
+        requires fits { TestFits (length self.now.classes) test.now }
+        requires short { length (index_of test.now) ≤ 8 }
+        ensures { IfOk result (IsVerdict self.now test.now) }
+    {
+        // A read of a field tells the prover that some store and packet meet the facts.
+        let _facts = &self.facts;
+        know_test(test);
+        let passes = Fact {
+            test: test.copy()?,
+            yes: true,
+        };
+        if self.refutes(&passes)? {
+            return Ok(Verdict::Never);
+        }
+        let fails = Fact {
+            test: passes.test,
+            yes: false,
+        };
+        if self.refutes(&fails)? {
+            return Ok(Verdict::Always);
+        }
+        Ok(Verdict::Unsure)
+    }
+}

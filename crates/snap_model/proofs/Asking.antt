@@ -1,0 +1,57 @@
+-- What a model answers is no impossible answer.
+use Rattle.std.proofs.Common.{◌≡◌, ℕ, ◌+◌, ◌^◌, ◌<◌, ◌≤◌, ⊎_elim, true, List, [], ◌∷◌, length, map, refl, ap, ◌∙◌, arith}
+use Rattle.std.specs.Prelude.{◌==◌}
+use Rattle.std.specs.List.{AllByRecursion}
+use Rattle.std.proofs.lemmas.Bool.{eq-eqb, cases_lt}
+use Rattle.std.proofs.lemmas.List.{length-map}
+use Rattle.snap_core.specs.declared.place.Place.{Place}
+use Rattle.snap_core.specs.declared.policy.Atom.TheVariants.{Num as Number}
+use Rattle.snap_core.specs.Arrays.{Arrays, value_of}
+use Rattle.snap_core.specs.Fits.{AtomFits}
+use Rattle.snap_core.specs.Listing.{number_in}
+use Rattle.snap_core.specs.Tests.{passes, TestFits}
+use Rattle.snap_ctx.specs.Meets.{IsStore, IsPacket, IsMet, NoneMeets, with_fact}
+use Rattle.snap_ctx.specs.Classes.{index_of}
+use Rattle.snap_ctx.specs.View.{View}
+use Rattle.snap_ctx.proofs.Answers.{Meets-with_fact}
+use Rattle.snap_model.specs.declared.ask.Ask.{Ask}
+use Rattle.snap_model.specs.declared.ask.Ask.TheVariants.{Component, At}
+use Rattle.snap_model.specs.Asks.{test_of, answer_of, AskFits}
+
+numbers_fit : (comps : ℕ) (ix : List ℕ) → AllByRecursion (AtomFits comps) (map Number ix)
+numbers_fit comps [] = tt
+numbers_fit comps (x ∷ ix) = (tt, numbers_fit comps ix)
+
+pub ask_fits : (comps : ℕ) (ask : Ask) (n : ℕ) → AskFits comps ask → TestFits comps (test_of ask n)
+ask_fits comps (Component c) n h = h
+ask_fits comps (At p) n h = (numbers_fit comps p.index, tt)
+
+pub ask_short : (comps : ℕ) (ask : Ask) (n : ℕ) → AskFits comps ask → length (index_of (test_of ask n)) ≤ 8
+ask_short comps (Component c) n h = omega arith
+ask_short comps (At p) n h = rw length-map h
+
+num_values : (k : List ℕ) (ix : List ℕ) → map (λ a. value_of a k) (map Number ix) ≡ ix
+num_values k [] = refl
+num_values k (x ∷ ix) = ap (λ xs. x ∷ xs) (num_values k ix)
+
+-- the test passes exactly where the answer is the number
+pub passes-ask : (m : Arrays) (k : List ℕ) (ask : Ask) (n : ℕ) → passes (test_of ask n) m k ≡ (answer_of ask m k == n)
+passes-ask m k (Component c) n = refl
+passes-ask m k (At p) n = ap (λ xs. let q : Place = record { var = p.var; index = xs } in m q == n) (num_values k p.index)
+
+answer_small : (comps : ℕ) (m : Arrays) (k : List ℕ) (ask : Ask) → AskFits comps ask → IsStore m → IsPacket comps k → answer_of ask m k < 2 ^ 64
+answer_small comps m k (Component c) o s p = p.1 c 0 (rw p.0 o)
+answer_small comps m k (At q) o s p = s q
+
+-- a context that is met has an answer that is possible
+pub some_answer : (v : View) (ask : Ask) → AskFits (length v.classes) ask → IsMet (length v.classes) v.facts → ((j : ℕ) → j < 2 ^ 64 → NoneMeets (length v.classes) (with_fact v.facts (test_of ask j) true)) → ⊥
+some_answer v ask o met none =
+    let n : ℕ = answer_of ask (number_in met.entries) met.packet in
+    none (answer_of ask (number_in met.entries) met.packet) (answer_small (length v.classes) (number_in met.entries) met.packet ask o met.is_store met.is_packet)
+    (number_in met.entries) met.packet met.is_packet
+    (Meets-with_fact v.facts (test_of ask (answer_of ask (number_in met.entries) met.packet)) true (number_in met.entries) met.packet met.meets
+    (passes-ask (number_in met.entries) met.packet ask (answer_of ask (number_in met.entries) met.packet) ∙ eq-eqb _ _ refl))
+
+-- one candidate more is refused
+pub one_more : (P : ℕ → Type 0) (n : ℕ) → ((j : ℕ) → j < n → P j) → P n → (j : ℕ) → j < n + 1 → P j
+one_more P n below here j l = ⊎_elim (λ (h : j < n). below j h) (λ (h : n ≤ j). let e : j ≡ n = omega (arith, h, l) in rw e here) (cases_lt j n)

@@ -1,0 +1,146 @@
+//! Examples of contexts.
+
+ghost use Rattle.std.specs.Prelude.{◌≡◌, ◌<◌, IfOk, MatchOption, false, length};
+ghost use Rattle.snap_core.specs.Arrays.{put};
+ghost use Rattle.snap_core.specs.Cells.{arrays_of};
+ghost use Rattle.snap_ctx.specs.Classes.{IsTest, is_state};
+ghost use Rattle.snap_ctx.specs.Meets.{IsMet, IsPacket, IsStore, Meets};
+ghost use Rattle.snap_model.specs.declared.ask.Ask.TheVariants.{Component, At};
+ghost use Rattle.snap_model.specs.Asks.{IsSettled};
+
+use crate::ask::{Ask, Settled, settle};
+use snap_core::NoMemory;
+use snap_core::atoms::index_on;
+use snap_core::lists::Index;
+use snap_core::packet::Packet;
+use snap_core::place::Place;
+use snap_core::policy::{Term, Test};
+use snap_core::store::Store;
+use snap_ctx::context::Context;
+use snap_ctx::fact::Fact;
+use std::alloc::Global;
+
+/// An example in the making: a packet, a store, and what the context grew to. All models of that
+/// have the packet.
+#[derive(Drop)]
+pub struct Draft {
+    pub packet: Packet,
+    pub store: Store,
+    pub grown: Option<Context>,
+}
+
+ghost use Rattle.snap_model.specs.Models.{current, place_of, IsDraft, IsRun, Settles};
+
+// A context, or what it grew to.
+fn current<'a>(ctx: &'a Context, grown: &'a Option<Context>) -> &'a Context
+    ensures { result.now ≡ current ctx.now grown.now }
+{
+    match grown {
+        Some(more) => more,
+        None => ctx,
+    }
+}
+
+// Settles one component: at the number that it must have, if there is one.
+fn settle_component(alloc: Global, ctx: &Context, comp: u16) -> Result<Settled, NoMemory>
+    requires { comp < length ctx.now.classes }
+    ensures { IfOk result (IsSettled ctx.now (Component comp)) }
+{
+    let guess = match ctx.class(comp) {
+        Term::Num(num) => num,
+        Term::Plus { .. } => 0,
+    };
+    settle(alloc, ctx, &Ask::Component(comp), guess)
+}
+
+// Settles the packet, with an empty store.
+fn settle_packet(alloc: Global, ctx: &Context) -> Result<Draft, NoMemory>
+    ensures { IfOk result (IsDraft ctx.now) }
+{
+    let mut comps = Vec::new(alloc);
+    let mut grown: Option<Context> = None;
+    for comp in 0..ctx.comps() {
+        let settled = settle_component(alloc, current(ctx, &grown), comp)?;
+        comps.push(settled.num)?;
+        grown = Some(settled.ctx);
+    }
+    Ok(Draft {
+        packet: Packet::new(comps),
+        store: Store::new(alloc),
+        grown,
+    })
+}
+
+// Settles the place of a state fact: at the number that the fact says, or else at the store's.
+fn settle_fact(
+    alloc: Global,
+    ctx: &Context,
+    packet: &Packet,
+    store: &mut Store,
+    fact: &Fact,
+) -> Result<Option<Settled>, NoMemory>
+    requires packet { length packet.now ≡ length ctx.now.classes }
+    requires test { IsTest (length packet.now) fact.now.test }
+    ensures { IfOk result (λ o. MatchOption o
+        ((is_state fact.now.test ≡ false) × (store.new ≡ store.old))
+        (λ s. IsSettled ctx.now (At (place_of fact.now packet.now)) s × (arrays_of store.new ≡ put (arrays_of store.old) (place_of fact.now packet.now) s.num))) }
+{
+    let Test::State { var, index, value } = &fact.test else {
+        return Ok(None);
+    };
+    let index = Index::new(index_on(alloc, index, packet)?);
+    let guess = if fact.yes {
+        value.value(packet)
+    } else {
+        store.get(*var, index.list())
+    };
+    let ask = Ask::At(Place { var: *var, index });
+    let settled = settle(alloc, ctx, &ask, guess)?;
+    if let Ask::At(place) = &ask {
+        store.put(place.var, place.index.list(), settled.num)?;
+    }
+    Ok(Some(settled))
+}
+
+// Settles the places of the state facts with this answer.
+fn settle_places(
+    alloc: Global,
+    ctx: &Context,
+    mut draft: Draft,
+    yes: bool,
+) -> Result<Draft, NoMemory>
+    requires { IsDraft ctx.now draft }
+    ensures { IfOk result (Settles ctx.now yes ctx.now.facts draft) }
+{
+    for fact in ctx.facts() {
+        if fact.yes != yes {
+            continue;
+        }
+        let known = current(ctx, &draft.grown);
+        if let Some(settled) = settle_fact(alloc, known, &draft.packet, &mut draft.store, fact)? {
+            draft.grown = Some(settled.ctx);
+        }
+    }
+    Ok(draft)
+}
+
+// What a context grew to has a model.
+fn know_met(ctx: &Context)
+    ensures { IsMet (length ctx.now.classes) ctx.now.facts }
+{
+    let _facts = ctx.facts();
+}
+
+/// A store and a packet that meet every fact of the context.
+pub fn example(alloc: Global, ctx: &Context) -> Result<(Store, Packet), NoMemory>
+    ensures facts { IfOk result (λ e. Meets ctx.now.facts (arrays_of e.0) e.1) }
+    ensures store { IfOk result (λ e. IsStore (arrays_of e.0)) }
+    ensures packet { IfOk result (λ e. IsPacket (length ctx.now.classes) e.1) }
+{
+    let draft = settle_packet(alloc, ctx)?;
+    // What a fact denies may be what another says, so these come first.
+    let draft = settle_places(alloc, ctx, draft, true)?;
+    let draft = settle_places(alloc, ctx, draft, false)?;
+    know_met(current(ctx, &draft.grown));
+    Ok((draft.store, draft.packet))
+}

@@ -1,0 +1,7 @@
+//! Examples: a store and a packet that meet the facts of a context.
+#![tactic(auto)]
+
+pub mod ask;
+pub mod example;
+#[cfg(test)]
+mod tests;

@@ -1,0 +1,125 @@
+ghost use Rattle.std.specs.Prelude.{◌≤◌, IsTrue, length};
+ghost use Rattle.snap_core.specs.Tests.{TestFits};
+ghost use Rattle.snap_ctx.specs.Classes.{index_of};
+
+use crate::example::example;
+use snap_core::lists::Atoms;
+use snap_core::policy::{Atom, Term, Test};
+use snap_ctx::context::{Assumed, Context};
+use snap_ctx::fact::Fact;
+use std::alloc::{AllocError, Global};
+use std::test::Fail;
+
+fn fits(test: &Test, comps: u16) -> bool
+    ensures fits { IsTrue result → TestFits comps test.now }
+    ensures short { IsTrue result → length (index_of test.now) ≤ 8 }
+{
+    match test {
+        Test::Value { comp, .. } => *comp < comps,
+        Test::Equal { left, right, .. } => *left < comps && *right < comps,
+        Test::State { index, value, .. } => {
+            index.list().len() <= 8
+                && index.list().iter().all(|atom| atom.fits(comps as usize))
+                && match value {
+                    Term::Num(_) => true,
+                    Term::Plus { comp, .. } => *comp < comps,
+                }
+        }
+    }
+}
+
+fn yes(test: Test) -> Fact {
+    Fact { test, yes: true }
+}
+
+fn no(test: Test) -> Fact {
+    Fact { test, yes: false }
+}
+
+fn value(comp: u16, num: u64) -> Test {
+    Test::Value { comp, num }
+}
+
+fn equal(left: u16, right: u16, plus: u64) -> Test {
+    Test::Equal { left, right, plus }
+}
+
+fn plain(comp: u16) -> Term {
+    Term::Plus { comp, plus: 0 }
+}
+
+fn at(alloc: Global, atom: Atom, value: Term) -> Result<Test, AllocError> {
+    Ok(Test::State {
+        var: 0,
+        index: Atoms::new(vec![in alloc; atom]?),
+        value,
+    })
+}
+
+// Whether the example of these facts over five components meets them.
+fn is_met(alloc: Global, facts: Vec<Fact>) -> Result<bool, Fail> {
+    let mut ctx = Context::empty(alloc, 5)?;
+    for fact in &facts {
+        if !fits(&fact.test, ctx.comps()) {
+            return Err("the test doesn't fit")?;
+        }
+        match ctx.assume(&fact.test, fact.yes)? {
+            Assumed::More(more) => ctx = more,
+            Assumed::Impossible => return Err("impossible")?,
+        }
+    }
+    let (store, packet) = example(alloc, &ctx)?;
+    for fact in &facts {
+        if packet.comps().len() != 5 || !fits(&fact.test, 5) {
+            return Err("the test doesn't fit")?;
+        }
+        if fact.test.passes(alloc, &store, &packet)? != fact.yes {
+            return Ok(false);
+        }
+    }
+    Ok(true)
+}
+
+#[test]
+fn examples_meet_their_facts(rt: HostRuntime) -> Result<(), Fail> {
+    let alloc = rt.alloc();
+    let (two, three, zero) = (Atom::Comp(2), Atom::Comp(3), Atom::Num(0));
+    let facts = vec![in alloc;
+        yes(value(3, 1)),
+        yes(value(4, 2)),
+        yes(at(alloc, two, plain(3))?),
+    ]?;
+    assert!(rt; is_met(alloc, facts)?);
+    let facts = vec![in alloc; yes(equal(2, 3, 1)), yes(value(2, 0))]?;
+    assert!(rt; is_met(alloc, facts)?);
+    let facts = vec![in alloc;
+        yes(at(alloc, two, Term::Num(0))?),
+        yes(at(alloc, three, Term::Num(1))?),
+    ]?;
+    assert!(rt; is_met(alloc, facts)?);
+    let facts = vec![in alloc; yes(at(alloc, two, Term::Num(0))?)]?;
+    assert!(rt; is_met(alloc, facts)?);
+    let facts = vec![in alloc; yes(at(alloc, two, plain(4))?), yes(equal(2, 3, 0))]?;
+    assert!(rt; is_met(alloc, facts)?);
+    let facts = vec![in alloc;
+        no(at(alloc, zero, Term::Num(0))?),
+        no(at(alloc, zero, Term::Num(1))?),
+    ]?;
+    assert!(rt; is_met(alloc, facts)?);
+    Ok(())
+}
+
+// A place that is denied one number first, and is then said to hold a great one.
+#[test]
+fn great_numbers_are_found_at_once(rt: HostRuntime) -> Result<(), Fail> {
+    let alloc = rt.alloc();
+    let great = Term::Num(18446744073709551615);
+    let facts = vec![in alloc;
+        no(at(alloc, Atom::Comp(2), Term::Num(0))?),
+        yes(equal(2, 3, 1)),
+        yes(value(4, 9223372036854775808)),
+        yes(at(alloc, Atom::Comp(2), great)?),
+    ]?;
+    assert!(rt; is_met(alloc, facts)?);
+    Ok(())
+}
