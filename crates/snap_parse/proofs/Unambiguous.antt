@@ -1,5 +1,5 @@
 -- The grammar is unambiguous: a token list derives one tree at most.
-use Rattle.std.proofs.Common.{◌≡◌, ℕ, ◌+◌, ◌≤◌, List, [], ◌∷◌, Result, Ok, Err, Bool, true, false, cond, refl, sym, ap, ◌∙◌, arith}
+use Rattle.std.proofs.Common.{◌≡◌, ℕ, ◌+◌, ◌≤◌, List, [], ◌∷◌, Result, Ok, Err, Bool, true, false, cond, refl, ap, ◌∙◌, arith}
 use Rattle.std.specs.Prelude.{nat_le}
 use Rattle.std.proofs.lemmas.Bool.{leb-true, le-leb}
 use Rattle.snap_lex.specs.declared.Token.{Token}
@@ -7,7 +7,7 @@ use Rattle.snap_parse.specs.declared.fault.ParseFault.{ParseFault}
 use Rattle.snap_parse.specs.declared.fault.ParseFault.TheVariants.{TooDeep}
 use Rattle.snap_parse.specs.Tree.{SourceTree}
 use Rattle.snap_parse.specs.Grammar.{Derives}
-use Rattle.snap_parse.specs.Machine.{at_decl, State, state_depth, Move, go, done, stuck, front, step, follow, run}
+use Rattle.snap_parse.specs.Machine.{at_decl, state_depth, Move, go, done, stuck, front, step, follow, run}
 use Rattle.snap_parse.proofs.Exact.{derives_ok}
 
 -- what is answered within a limit is answered within a greater one
