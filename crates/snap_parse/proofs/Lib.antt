@@ -8,3 +8,4 @@ pub mod Steps
 pub mod Trees
 pub mod Parts
 pub mod Told
+pub mod Unambiguous

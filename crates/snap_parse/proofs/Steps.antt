@@ -1,5 +1,5 @@
 -- One step of the machine, as an equation of what its moves come to.
-use Rattle.std.proofs.Common.{◌≡◌, ◌≢◌, ℕ, suc, ◌≤◌, List, [], ◌∷◌, Option, Some, None, Result, Ok, Err, Bool, true, false, cond, refl, sym, ap, ◌∙◌, subst, arith}
+use Rattle.std.proofs.Common.{◌≡◌, ℕ, suc, ◌≤◌, List, [], ◌∷◌, Result, Ok, Err, Bool, true, false, cond, refl, sym, ap, ◌∙◌, subst, arith}
 use Rattle.std.specs.Prelude.{nat_le, IsErrAnd}
 use Rattle.std.specs.Borrow.{Bor}
 use Rattle.std.proofs.lemmas.Bool.{leb-true, le-leb}
@@ -8,9 +8,8 @@ use Rattle.snap_lex.specs.declared.Token.{Token}
 use Rattle.snap_lex.specs.declared.Kind.{Kind}
 use Rattle.snap_parse.specs.declared.fault.ParseFault.{ParseFault}
 use Rattle.snap_parse.specs.declared.fault.ParseFault.TheVariants.{Unexpected, TooDeep, NoMemory}
-use Rattle.snap_parse.specs.Kinds.{same_kind}
 use Rattle.snap_parse.specs.Tree.{SourceTree}
-use Rattle.snap_parse.specs.Machine.{State, wants, state_depth, Move, go, stuck, front, on_next, with_next, step, follow, run, place}
+use Rattle.snap_parse.specs.Machine.{State, wants, state_depth, Move, go, stuck, front, on_next, with_next, follow, run, place}
 use Rattle.snap_parse.specs.Reading.{Refuses, Comes, Lacks}
 use Rattle.snap_parse.proofs.NextToken.{same_kind-same, same_kind-other}
 
