@@ -1,6 +1,9 @@
 //! All that the program does, over any shelf and sinks.
 #![tactic(auto)]
 
+pub mod obs;
 pub mod program;
 pub mod refusal;
 pub mod spot;
+pub mod top;
+

@@ -8,7 +8,7 @@ ghost use Rattle.snap_cli.specs.Spots.{spot_of};
 ghost use Rattle.snap_cli.specs.Steps.{GivesProgram, GivesText, IsRead, refusal_of_names, refusal_of_tokens, refusal_of_tree};
 
 use crate::refusal::{NamingFault, Refusal, SyntaxFault};
-use crate::spot::spot;
+use crate::spot::spot_at;
 use snap_core::program::{Program, Which};
 use snap_io::{ReadRefusal, Shelf, read_whole};
 use snap_lex::{LexFault, tokens};
@@ -92,11 +92,11 @@ fn refusal_of_tokens<'a>(text: &[u8], fault: LexFault) -> Refusal<'a>
     match fault {
         LexFault::BadByte { at } => Refusal::Syntax {
             fault: SyntaxFault::BadByte,
-            spot: spot(text, at),
+            spot: spot_at(text, at),
         },
         LexFault::BadNumber { at } => Refusal::Syntax {
             fault: SyntaxFault::BadNumber,
-            spot: spot(text, at),
+            spot: spot_at(text, at),
         },
         LexFault::NoMemory => Refusal::NoMemory,
     }
@@ -109,11 +109,11 @@ fn refusal_of_tree<'a>(text: &[u8], fault: ParseFault) -> Refusal<'a>
     match fault {
         ParseFault::Unexpected { at } => Refusal::Syntax {
             fault: SyntaxFault::UnexpectedToken,
-            spot: spot(text, at),
+            spot: spot_at(text, at),
         },
         ParseFault::TooDeep { at } => Refusal::Syntax {
             fault: SyntaxFault::TooDeep,
-            spot: spot(text, at),
+            spot: spot_at(text, at),
         },
         ParseFault::NoMemory => Refusal::NoMemory,
     }
@@ -141,6 +141,6 @@ fn naming<'a>(text: &[u8], fault: NamingFault, at: u32) -> Refusal<'a>
 {
     Refusal::Naming {
         fault,
-        spot: spot(text, at),
+        spot: spot_at(text, at),
     }
 }

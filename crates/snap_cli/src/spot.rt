@@ -11,7 +11,7 @@ pub struct Spot {
 }
 
 /// The line and the column of the byte at `at`.
-pub(crate) fn spot(text: &[u8], at: u32) -> Spot
+pub(crate) fn spot_at(text: &[u8], at: u32) -> Spot
     requires { length text.now ≤ 262144 }
     ensures { result ≡ spot_of text.now at }
 {

@@ -2,4 +2,3 @@ pub mod Core
 pub mod Senses
 pub mod Reading
 pub mod Declarations
-pub mod Parts

@@ -8,6 +8,7 @@ ghost use Rattle.snap_names.specs.Declarations.{resolved, core_program};
 ghost use Rattle.snap_names.specs.declared.fault.NameFault.TheVariants.{NoMemory};
 
 pub mod fault;
+pub mod scope;
 
 pub use fault::NameFault;
 use snap_core::program::Program;

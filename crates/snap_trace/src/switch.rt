@@ -116,10 +116,10 @@ impl Switch {
             Changes::new(alloc),
             packet,
         ) {
-            Ok(run) => {
-                let packets = run.copies.into_set(alloc)?;
+            Ok(done) => {
+                let packets = done.copies.into_set(alloc)?;
                 put_block(&mut self.text, &program.fields, self.number, &packets)?;
-                self.store.apply_changes(run.changes)?;
+                self.store.apply_changes(done.changes)?;
                 self.number += 1;
                 Ok(())
             }
