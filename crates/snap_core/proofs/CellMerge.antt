@@ -121,3 +121,7 @@ room-step v b r old new distinct fits kept s =
     let fit = fits s in let keep = kept s other in
     omega (arith, is, fit, keep))
     (cases_Bool (nat_eq v s))
+
+pub either-none : (o : Option ℕ) → either o None ≡ o
+either-none None = refl
+either-none (Some x) = refl

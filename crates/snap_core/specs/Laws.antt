@@ -1,11 +1,18 @@
 -- Laws of evaluation.
-use Rattle.std.specs.Prelude.{◌≡◌, ℕ, ◌^◌, List, [], ◌∷◌, true, false, Some, bit_or}
+use Rattle.std.specs.Prelude.{◌≡◌, ℕ, ◌<◌, ◌^◌, List, [], ◌∷◌, IsTrue, true, false, Some, bit_or, length, ⊤}
+use Rattle.std.specs.List.{AllByRecursion}
+use Rattle.std.specs.FinMap.{contains_key}
 use Rattle.snap_core.specs.declared.place.Place.{Place}
+use Rattle.snap_core.specs.declared.policy.Atom.{Atom}
+use Rattle.snap_core.specs.declared.policy.Atom.TheVariants.{Num, Comp}
+use Rattle.snap_core.specs.declared.policy.Op.{Op}
+use Rattle.snap_core.specs.declared.policy.Op.TheVariants.{Put, Add}
 use Rattle.snap_core.specs.declared.policy.Pol.{Pol}
+use Rattle.snap_core.specs.declared.policy.Pol.TheVariants.{Filter, Set, Change, Par', Seq', If', Atomic'}
 use Rattle.snap_core.specs.declared.policy.Update.{Update}
 use Rattle.snap_core.specs.Arrays.{Arrays, taken, updates}
 use Rattle.snap_core.specs.Variables.{has}
-use Rattle.snap_core.specs.Meaning.{Meaning, eval}
+use Rattle.snap_core.specs.Meaning.{Meaning, eval, vars_of}
 
 -- a variable that is not in the log of writes is as it was
 abbrev pub KeepsUnwritten : Type 0
@@ -20,3 +27,61 @@ written_by (u ∷ us) = bit_or (2 ^ u.var) (written_by us)
 abbrev pub DoesSideBySide : Type 0
 DoesSideBySide = (us vs : List Update) (m : Arrays) (k : List ℕ) → ((v : ℕ) → has (written_by us) v ≡ true → has (written_by vs) v ≡ false)
     → updates (updates m us k) vs k ≡ taken (updates m us k) (updates m vs k) (written_by vs)
+
+-- ---- logs
+-- the variables that stand in predicates, and those that stand in updates
+abbrev pub read_vars : Pol → ℕ
+read_vars (Filter x) = vars_of x
+read_vars (Set c a) = 0
+read_vars (Change u) = 0
+read_vars (Par' _ p _ q) = bit_or (read_vars p) (read_vars q)
+read_vars (Seq' _ p _ q) = bit_or (read_vars p) (read_vars q)
+read_vars (If' x _ p _ q) = bit_or (vars_of x) (bit_or (read_vars p) (read_vars q))
+read_vars (Atomic' _ p) = read_vars p
+
+abbrev pub write_vars : Pol → ℕ
+write_vars (Filter x) = 0
+write_vars (Set c a) = 0
+write_vars (Change u) = 2 ^ u.var
+write_vars (Par' _ p _ q) = bit_or (write_vars p) (write_vars q)
+write_vars (Seq' _ p _ q) = bit_or (write_vars p) (write_vars q)
+write_vars (If' x _ p _ q) = bit_or (write_vars p) (write_vars q)
+write_vars (Atomic' _ p) = write_vars p
+
+-- each variable of a is one of b
+abbrev pub IsWithin : ℕ → ℕ → Type 0
+IsWithin a b = (v : ℕ) → has a v ≡ true → has b v ≡ true
+
+-- what is read stands in predicates, and what is written stands in updates
+abbrev pub LogsWhatStands : Type 0
+LogsWhatStands = (p : Pol) (m : Arrays) (k : List ℕ) (o : Meaning) → eval p m k ≡ Some o → IsWithin o.reads (read_vars p) × IsWithin o.writes (write_vars p)
+
+-- ---- 64 bits
+abbrev pub AtomIsSmall : Atom → Type 0
+AtomIsSmall (Num n) = n < 2 ^ 64
+AtomIsSmall (Comp c) = ⊤
+
+abbrev pub OpIsSmall : Op → Type 0
+OpIsSmall (Put a) = AtomIsSmall a
+OpIsSmall (Add n) = ⊤
+
+-- each number that a policy puts anywhere has 64 bits
+abbrev pub PutsSmall : Pol → Type 0
+PutsSmall (Filter x) = ⊤
+PutsSmall (Set c a) = AtomIsSmall a
+PutsSmall (Change u) = OpIsSmall u.op
+PutsSmall (Par' _ p _ q) = PutsSmall p × PutsSmall q
+PutsSmall (Seq' _ p _ q) = PutsSmall p × PutsSmall q
+PutsSmall (If' x _ p _ q) = PutsSmall p × PutsSmall q
+PutsSmall (Atomic' _ p) = PutsSmall p
+
+abbrev pub AreSmall : List ℕ → Type 0
+AreSmall k = AllByRecursion (λ n. n < 2 ^ 64) k
+
+abbrev pub HoldSmall : Arrays → Type 0
+HoldSmall m = (q : Place) → m q < 2 ^ 64
+
+-- numbers stay within 64 bits, and packets keep their length
+abbrev pub StaysSmall : Type 0
+StaysSmall = (p : Pol) (m : Arrays) (k : List ℕ) (o : Meaning) → PutsSmall p → HoldSmall m → AreSmall k → eval p m k ≡ Some o
+    → HoldSmall o.arrays × ((k' : List ℕ) → IsTrue (contains_key o.packets k') → (length k' ≡ length k) × AreSmall k')

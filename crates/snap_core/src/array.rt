@@ -86,6 +86,18 @@ impl Array {
     {
         put_all(&mut self.cells, patch.into_cells());
     }
+
+    /// The same cells in the order of their indices.
+    pub(crate) fn ordered(&self) -> Result<Patch, NoMemory>
+        ensures { IfOk result (λ ordered. (q : List ℕ) → cell ordered q ≡ cell self.now.0 q) }
+    {
+        let mut ordered = Patch::new(self.alloc);
+        for (index, value) in &self.cells {
+            let key = Vec::from_slice(self.alloc, index.as_slice())?;
+            ordered.put(key, *value)?;
+        }
+        Ok(ordered)
+    }
 }
 
 // Puts each of these numbers, for which there is room.

@@ -1,18 +1,23 @@
 //! Stores: the numbers of the state variables.
 
-ghost use Rattle.std.specs.Prelude.{◌≡◌, ◌≤◌, ◌+◌, ◌%◌, ◌^◌, ◌==◌, false, All, ℕ, OnOk, OnErr, IfOk, if◌then◌else◌, length, unwrap_or};
+ghost use Rattle.std.specs.Prelude.{◌≡◌, ◌≤◌, ◌+◌, ◌++◌, ◌%◌, ◌^◌, ◌==◌, false, All, ℕ, OnOk, OnErr, IfOk, if◌then◌else◌, length, unwrap_or};
+ghost use Rattle.std.specs.Cmp.Lexicographic.{slice_cmp};
+ghost use Rattle.std.specs.List.Sorted.{IsStrictlySortedBy};
+ghost use Rattle.std.specs.Map.{keys_of};
+ghost use Rattle.std.specs.Ordering.{nat_cmp};
 ghost use Rattle.snap_core.specs.declared.place.Place.{Place};
 ghost use Rattle.snap_core.specs.Arrays.{updates, put, zero_arrays};
 ghost use Rattle.snap_core.specs.Cells.{cell, arrays_of, overlaid, changed_at, room_at};
 ghost use Rattle.snap_core.specs.Fits.{UpdateFits};
-ghost use Rattle.snap_core.specs.Listing.{IsListing};
+ghost use Rattle.snap_core.specs.Listing.{IsListing, entries_of};
 
 use crate::NoMemory;
 use crate::array::Array;
 use crate::changes::Changes;
+use crate::lists::Index;
 use crate::packet::Packet;
 use crate::patch::Patch;
-use crate::place::Entry;
+use crate::place::{Entry, Place};
 use crate::policy::Update;
 use std::alloc::Global;
 use std::collections::BTreeMap;
@@ -175,10 +180,35 @@ impl Store {
         }
     }
 
-    /// The places that aren't 0, each with its number, rising by variable and then by index.
+    /// The places that don't hold 0, rising by variable and then by index, with their numbers.
     pub fn entries(&self) -> Result<Vec<Entry>, NoMemory>
         ensures { IfOk result (λ entries. IsListing (arrays_of self.now) entries.items) }
     {
-        Err(NoMemory)
+        let mut entries = Vec::new(self.alloc);
+        for var in self.arrays.keys() {
+            if let Some(array) = self.arrays.get(var) {
+                push_entries(&mut entries, *var, array.ordered()?)?;
+            }
+        }
+        Ok(entries)
     }
+}
+
+// Adds the entries of one array, whose cells are in order.
+fn push_entries(entries: &mut Vec<Entry>, var: u16, cells: Patch) -> Result<(), NoMemory>
+    ensures items { OnOk result (entries.new.items ≡ entries.old.items ++ entries_of var cells) }
+    ensures rising { OnOk result (IsStrictlySortedBy (slice_cmp nat_cmp) (keys_of cells)) }
+{
+    for (index, value) in cells.into_cells() {
+        if value != 0 {
+            entries.push(Entry {
+                place: Place {
+                    var,
+                    index: Index::new(index),
+                },
+                value,
+            })?;
+        }
+    }
+    Ok(())
 }

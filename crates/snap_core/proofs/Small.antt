@@ -1,0 +1,126 @@
+-- Numbers of 64 bits stay so.
+use Rattle.std.proofs.Common.{◌≡◌, ℕ, ◌+◌, ◌%◌, ◌^◌, ◌<◌, Bool, true, false, cond, ◌||◌, List, [], ◌∷◌, map, length, zero, suc, refl, sym, ap, subst, ◌∙◌, ⊎_elim, arith, lit<}
+use Rattle.std.specs.Prelude.{IsTrue, slice_index, slice_set}
+use Rattle.std.specs.List.{AllByRecursion, list_any}
+use Rattle.std.specs.FinMap.{contains_key, contains_key-keys}
+use Rattle.std.specs.Ordering.{is_eq, eq_by_cmp}
+use Rattle.std.specs.Cmp.{tied_itself}
+use Rattle.std.specs.Cmp.Lexicographic.{bytes_decides, nat_list_cmp_total}
+use Rattle.std.proofs.Math.ListN.{length-set}
+use Rattle.std.proofs.lemmas.Bool.{both_ways, or_cases}
+use Rattle.std.proofs.lemmas.Map.Text.{is_eq-slice_cmp}
+use Rattle.snap_core.specs.declared.place.Place.{Place}
+use Rattle.snap_core.specs.declared.policy.Atom.{Atom}
+use Rattle.snap_core.specs.declared.policy.Atom.TheVariants.{Num, Comp}
+use Rattle.snap_core.specs.declared.policy.Op.{Op}
+use Rattle.snap_core.specs.declared.policy.Op.TheVariants.{Put, Add}
+use Rattle.snap_core.specs.declared.policy.Update.{Update}
+use Rattle.snap_core.specs.declared.policy.Pol.{Pol}
+use Rattle.snap_core.specs.declared.policy.Pol.TheVariants.{Filter, Set, Change, Par', Seq', If', Atomic'}
+use Rattle.snap_core.specs.Arrays.{Arrays, same_place, place_at, value_of, number_after, update}
+use Rattle.snap_core.specs.Variables.{has}
+use Rattle.snap_core.specs.Packets.{PacketSet, packet_cmp, no_packets, with_packet, union, listed}
+use Rattle.snap_core.specs.Meaning.{Meaning, eval, truth, vars_of, merge, all_packets}
+use Rattle.snap_core.specs.Laws.{AtomIsSmall, OpIsSmall, PutsSmall, AreSmall, HoldSmall}
+use Rattle.snap_core.proofs.Kept.{IfDefined}
+use Rattle.snap_core.proofs.Gathered.{beside_all, all_together_has, logged_has, then_has, either_has, each_has}
+use Rattle.snap_core.proofs.PacketSets.{contains-no_packets, contains-with_packet, contains-union}
+
+-- ---- one number
+small-index : (k : List ℕ) (c : ℕ) → AreSmall k → slice_index k c < 2 ^ 64
+small-index [] c h = lit< tt
+small-index (x ∷ k) zero h = h.0
+small-index (x ∷ k) (suc c) h = small-index k c h.1
+
+small-set : (k : List ℕ) (c v : ℕ) → AreSmall k → v < 2 ^ 64 → AreSmall (slice_set k c v)
+small-set [] c v h s = tt
+small-set (x ∷ k) zero v h s = (s, h.1)
+small-set (x ∷ k) (suc c) v h s = (h.0, small-set k c v h.1 s)
+
+small-value : (a : Atom) (k : List ℕ) → AtomIsSmall a → AreSmall k → value_of a k < 2 ^ 64
+small-value (Num n) k a h = a
+small-value (Comp c) k a h = small-index k c h
+
+small-number : (o : Op) (old : ℕ) (k : List ℕ) → OpIsSmall o → AreSmall k → number_after o old k < 2 ^ 64
+small-number (Put a) old k s h = small-value a k s h
+small-number (Add n) old k s h = let positive : 0 < 2 ^ 64 = lit< tt in omega arith
+
+small-update : (u : Update) (m : Arrays) (k : List ℕ) → OpIsSmall u.op → HoldSmall m → AreSmall k → HoldSmall (update m u k)
+small-update u m k s h a q =
+    elim (same_place (place_at u.var u.index k) q) as (λ t. cond t (number_after u.op (m (place_at u.var u.index k)) k) (m q) < 2 ^ 64) [
+      | true ↦ small-number u.op (m (place_at u.var u.index k)) k s a
+      | false ↦ h q
+    ]
+
+-- ---- packets
+abbrev pub Good : ℕ → List ℕ → Type 0
+Good n k = (length k ≡ n) × AreSmall k
+
+abbrev pub AllGood : ℕ → PacketSet → Type 0
+AllGood n s = (k : List ℕ) → IsTrue (contains_key s k) → Good n k
+
+good-none : (n : ℕ) → AllGood n no_packets
+good-none n k h = absurd (both_ways _ (contains-no_packets k) h)
+
+good-one : (n : ℕ) (x : List ℕ) → Good n x → AllGood n (with_packet no_packets x)
+good-one n x good k h =
+    ⊎_elim
+    (λ same. subst (Good n) (sym ((bytes_decides k x).0 (sym (is_eq-slice_cmp k x) ∙ same))) good)
+    (λ other. absurd (both_ways _ (contains-no_packets k) other))
+    (or_cases (eq_by_cmp packet_cmp k x) (contains_key no_packets k) (sym (contains-with_packet no_packets x k) ∙ h))
+
+good-union : (n : ℕ) (s t : PacketSet) → AllGood n s → AllGood n t → AllGood n (union s t)
+good-union n s t a b k h = ⊎_elim (λ x. a k x) (λ y. b k y) (or_cases (contains_key s k) (contains_key t k) (sym (contains-union s t k) ∙ h))
+
+members : (G : List ℕ → Type 0) (ks : List (List ℕ)) → ((k : List ℕ) → list_any (eq_by_cmp packet_cmp k) ks ≡ true → G k) → AllByRecursion G ks
+members G [] h = tt
+members G (x ∷ ks) h =
+    ( h x (ap (λ b. b || list_any (eq_by_cmp packet_cmp x) ks) (ap is_eq (tied_itself nat_list_cmp_total x)))
+    , members G ks (λ k e. h k (ap (λ b. eq_by_cmp packet_cmp k x || b) e ∙ or_true (eq_by_cmp packet_cmp k x))))
+  where
+    or_true : (b : Bool) → (b || true) ≡ true
+    or_true true = refl
+    or_true false = refl
+
+good-listed : (n : ℕ) (s : PacketSet) → AllGood n s → AllByRecursion (Good n) (listed s)
+good-listed n s h = members (Good n) (listed s) (λ k e. h k (contains_key-keys s k ∙ e))
+
+-- ---- outcomes
+abbrev pub Fine : ℕ → Meaning → Type 0
+Fine n o = HoldSmall o.arrays × AllGood n o.packets
+
+fine-all : (n : ℕ) (m : Arrays) → HoldSmall m → (os : List Meaning) → AllByRecursion (Fine n) os → Fine n (beside_all m os)
+fine-all n m small os h = (λ q. arrays q os h, packets os h)
+  where
+    arrays : (q : Place) (xs : List Meaning) → AllByRecursion (Fine n) xs → merge m xs q < 2 ^ 64
+    arrays q [] k = small q
+    arrays q (x ∷ xs) k =
+        elim (has x.writes q.var) as (λ t. cond t (x.arrays q) (merge m xs q) < 2 ^ 64) [
+          | true ↦ k.0.0 q
+          | false ↦ arrays q xs k.1
+        ]
+
+    packets : (xs : List Meaning) → AllByRecursion (Fine n) xs → AllGood n (all_packets xs)
+    packets [] k = good-none n
+    packets (x ∷ xs) k = good-union n x.packets (all_packets xs) k.0.1 (packets xs k.1)
+
+filtered : (n : ℕ) (k : List ℕ) (t : Bool) → Good n k → AllGood n (cond t (with_packet no_packets k) no_packets)
+filtered n k true h = good-one n k h
+filtered n k false h = good-none n
+
+pub stays_fine : (p : Pol) (m : Arrays) (k : List ℕ) (n : ℕ) → PutsSmall p → HoldSmall m → Good n k → IfDefined (Fine n) (eval p m k)
+stays_fine (Filter x) m k n s h a = (h, filtered n k (truth x m k) a)
+stays_fine (Set c b) m k n s h a = (h, good-one n (slice_set k c (value_of b k)) (length-set k c (value_of b k) ∙ a.0, small-set k c (value_of b k) a.1 (small-value b k s a.1)))
+stays_fine (Change u) m k n s h a = (small-update u m k s h a.1, good-one n k a)
+stays_fine (Par' _ p _ q) m k n s h a = all_together_has (Fine n) (Fine n) m (fine-all n m h) (eval p m k ∷ eval q m k ∷ []) (stays_fine p m k n s.0 h a, (stays_fine q m k n s.1 h a, tt))
+stays_fine (Seq' _ p _ q) m k n s h a =
+    then_has (Fine n) (Fine n) (eval p m k) _
+    (λ o first.
+    logged_has (Fine n) (Fine n) o.reads o.writes _ (λ x f. f)
+    (all_together_has (Fine n) (Fine n) o.arrays (fine-all n o.arrays first.0) (map (λ k'. eval q o.arrays k') (listed o.packets))
+    (each_has (Good n) (Fine n) (λ k'. eval q o.arrays k') (listed o.packets) (λ k' g. stays_fine q o.arrays k' n s.1 first.0 g) (good-listed n o.packets first.1))))
+    (stays_fine p m k n s.0 h a)
+stays_fine (If' x _ p _ q) m k n s h a =
+    logged_has (Fine n) (Fine n) (vars_of x) 0 _ (λ o f. f)
+    (either_has (Fine n) (truth x m k) (eval p m k) (eval q m k) (stays_fine p m k n s.0 h a) (stays_fine q m k n s.1 h a))
+stays_fine (Atomic' _ p) m k n s h a = stays_fine p m k n s h a
