@@ -53,12 +53,6 @@ abbrev after_name_from_2 : Span → AfterSingle → Option Token → Move
 after_name_from_2 name k o = on_next (kinds.Sign signs.Arrow) o (at_value (end_of_value (set_tree name) k)) (after_name_from_3 name k o)
 
 module _ (limit end : ℕ) where
-  -- where a part begins is where its first part begins
-  pub starts_policy : (k : AfterPolicy) (ts : List Token) (at : ℕ) → at ≡ place end ts →
-      run limit end (at_policy k) ts ≡ run limit end (at_sequence (part_of_policy (policy_begin at) k)) ts
-  starts_policy k [] at is = refl
-  starts_policy k (t ∷ ts) at is = ap (λ n. run limit end (at_sequence (part_of_policy (policy_begin n) k)) (t ∷ ts)) (sym is)
-
   -- a choice that is no `if`
   begins_plain : (kind : Kind) (t : Token) (k : AfterChoice) → kind ≢ kinds.Key keys.If → begin_choice k t kind ≡ begin_either (end_of_plain k) t kind
   begins_plain (kinds.Key keys.If) t k other = absurd (other refl)

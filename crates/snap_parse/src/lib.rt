@@ -9,14 +9,14 @@ ghost use Rattle.snap_parse.specs.Parsing.{GivesTree, GivesFault};
 ghost use Rattle.snap_parse.specs.declared.fault.ParseFault.TheVariants.{Unexpected, TooDeep};
 ghost use Rattle.snap_parse.specs.declared.cursor.TheConstants.{MAX_DEPTH};
 
-pub mod cursor;
-pub mod declarations;
+mod cursor;
+mod declarations;
 pub mod fault;
-pub mod policies;
+mod policies;
 #[cfg(test)]
 mod tests;
 pub mod tree;
-pub mod values;
+mod values;
 
 pub use cursor::MAX_DEPTH;
 use cursor::Parser;
