@@ -45,7 +45,7 @@ both_have a b v p q =
     let x : bit_at a v ≡ 1 = eqb-true _ 1 p in let y : bit_at b v ≡ 1 = eqb-true _ 1 q in let z = bit_at_and a b v in
     ap not (ne_eqb (bit_and a b) 0 (λ e. let w = bit_at-zero v in let u = ap (λ n. bit_at n v) e in absurd (omega (arith, x, y, z, w, u))))
 
-or_assoc : (x y z : ℕ) → bit_or x (bit_or y z) ≡ bit_or (bit_or x y) z
+pub or_assoc : (x y z : ℕ) → bit_or x (bit_or y z) ≡ bit_or (bit_or x y) z
 or_assoc x y z = same_from_bits _ _ (λ i.
     let a = bit_at_or x (bit_or y z) i in let b = bit_at_or y z i in
     let c = bit_at_or (bit_or x y) z i in let d = bit_at_or x y i in

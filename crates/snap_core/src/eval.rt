@@ -1,11 +1,12 @@
 //! Evaluation.
 
-ghost use Rattle.std.specs.Prelude.{◌≡◌, ◌<◌, IfOk, true, false, None, Some, Err, map, length, All};
+ghost use Rattle.std.specs.Prelude.{◌≡◌, ◌<◌, ◌≤◌, IfOk, option_map, true, false, None, Some, Err, map, length, All};
 ghost use Rattle.snap_core.specs.Arrays.{Arrays, place_at};
 ghost use Rattle.snap_core.specs.Cells.{arrays_of, overlaid};
 ghost use Rattle.snap_core.specs.Fits.{AtomFits, IndexFits, PredFits, PolFits, UpdateFits, VarsBelow};
 ghost use Rattle.snap_core.specs.declared.policy.Pol.TheVariants.{Filter, Set, Change};
-ghost use Rattle.snap_core.specs.Meaning.{truth, vars_of, eval, all_together};
+ghost use Rattle.snap_core.specs.Meaning.{truth, vars_of, eval, all_together, logged};
+ghost use Rattle.snap_core.specs.declared.policy.Pol.{size-Pol};
 ghost use Rattle.snap_core.specs.Outcomes.{meaning_of};
 ghost use Rattle.snap_core.specs.Packets.{AllLong, listed};
 ghost use Rattle.snap_core.specs.Runs.{meaning_over, set_in};
@@ -44,6 +45,59 @@ pub fn eval(alloc: Global, pol: &Pol, store: &Store, packet: &Packet) -> Result<
 /// The meaning of a policy on a packet and on a store with changes over it. The store stays as it is.
 #[cycle(eval)]
 pub fn run(
+    alloc: Global,
+    pol: &Pol,
+    store: &Store,
+    before: Changes,
+    packet: Packet,
+) -> Result<Run, EvalFault>
+    requires { PolFits (length packet) 64 pol.now }
+    ensures ok { IfOk result (λ r. eval pol.now (overlaid (arrays_of store.now) before) packet ≡ Some (meaning_over (arrays_of store.now) r)) }
+    ensures undefined { result ≡ Err EvalFault.Undefined → eval pol.now (overlaid (arrays_of store.now) before) packet ≡ None }
+    ensures lengths { IfOk result (λ r. AllLong (length packet) (set_in r.copies)) }
+{
+    let chosen = choose(alloc, pol, store, &before, &packet)?;
+    let done = part(alloc, chosen.pol, store, before, packet)?;
+    Ok(done.logged(chosen.reads, 0))
+}
+
+// What choices lead to, and the variables that they read.
+#[derive(Drop)]
+struct Chosen<'a> {
+    pol: &'a Pol,
+    reads: u64,
+}
+
+// The policy behind the choices with which a policy begins.
+#[inline(never)]
+fn choose<'a>(
+    alloc: Global,
+    pol: &'a Pol,
+    store: &Store,
+    changes: &Changes,
+    packet: &Packet,
+) -> Result<Chosen<'a>, NoMemory>
+    requires { PolFits (length packet.now) 64 pol.now }
+    ensures fits { IfOk result (λ c. PolFits (length packet.now) 64 c.pol.now) }
+    ensures same { IfOk result (λ c. eval pol.now (overlaid (arrays_of store.now) changes.now) packet.now ≡ option_map (logged c.reads 0) (eval c.pol.now (overlaid (arrays_of store.now) changes.now) packet.now)) }
+    ensures inner { IfOk result (λ c. size-Pol c.pol.now ≤ size-Pol pol.now) }
+{
+    let mut pol = pol;
+    let mut reads = 0;
+    while let Pol::If(test, yes, no) = pol {
+        reads |= read_by(test);
+        pol = if holds(alloc, test, store, changes, packet)? {
+            yes
+        } else {
+            no
+        };
+    }
+    Ok(Chosen { pol, reads })
+}
+
+// The same as `run`, for a policy that begins with no choice.
+#[cycle(eval)]
+fn part(
     alloc: Global,
     pol: &Pol,
     store: &Store,
@@ -131,6 +185,7 @@ fn side_by_side(
     Ok(all)
 }
 
+#[inline(never)]
 fn filter(
     alloc: Global,
     pred: &Pred,
@@ -155,6 +210,7 @@ fn filter(
     })
 }
 
+#[inline(never)]
 fn set(comp: u16, from: Atom, before: Changes, mut packet: Packet) -> Run
     requires comp { comp < length packet }
     requires from { AtomFits (length packet) from }
