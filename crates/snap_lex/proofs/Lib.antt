@@ -1,0 +1,6 @@
+pub mod Words
+pub mod Forms
+pub mod Addresses
+pub mod Spelled
+pub mod Unique
+pub mod Told

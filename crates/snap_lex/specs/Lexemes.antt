@@ -1,0 +1,127 @@
+-- Words, figures and signs, and the token list that a text spells by longest match.
+use Rattle.std.specs.Prelude.{◌≡◌, ◌≢◌, ℕ, ◌+◌, ◌<◌, ◌≤◌, ◌⊎◌, List, [], ◌∷◌, length, slice_index, take, drop, true, false}
+use Rattle.snap_lex.specs.declared.Token.{Token}
+use Rattle.snap_lex.specs.declared.Kind.{Kind}
+use Rattle.snap_lex.specs.declared.Kind.TheVariants as kinds
+use Rattle.snap_lex.specs.declared.Key.{Key}
+use Rattle.snap_lex.specs.declared.Key.TheVariants as keys
+use Rattle.snap_lex.specs.declared.Sign.{Sign}
+use Rattle.snap_lex.specs.declared.Sign.TheVariants as signs
+use Rattle.snap_lex.specs.Address.{IsAddress}
+use Rattle.snap_lex.specs.Bytes.{is_blank, is_digit, is_letter, is_part, is_joint, is_figure_part}
+
+-- The first n bytes are a word: a letter or `_`, then letters, digits, `_`, and `.` or `-` where one of these follows.
+pub record IsWord (bytes : List ℕ) (n : ℕ) : Type 0 where
+  pub some : 0 < n
+  pub within : n ≤ length bytes
+  pub first : is_letter (slice_index bytes 0) ≡ true
+  pub parts : (i : ℕ) → i < n → (is_part (slice_index bytes i) ≡ true)
+      ⊎ ((is_joint (slice_index bytes i) ≡ true) × (i + 1 < n) × (is_part (slice_index bytes (i + 1)) ≡ true))
+
+-- The first n bytes are a figure: a digit, then letters, digits, `_` and `.`.
+pub record IsFigure (bytes : List ℕ) (n : ℕ) : Type 0 where
+  pub some : 0 < n
+  pub within : n ≤ length bytes
+  pub first : is_digit (slice_index bytes 0) ≡ true
+  pub parts : (i : ℕ) → i < n → is_figure_part (slice_index bytes i) ≡ true
+
+abbrev pub sign_text : Sign → List ℕ
+sign_text signs.PlusPlus = 43 ∷ 43 ∷ []
+sign_text signs.MinusMinus = 45 ∷ 45 ∷ []
+sign_text signs.Arrow = 60 ∷ 45 ∷ []
+sign_text signs.OpenSquare = 91 ∷ []
+sign_text signs.CloseSquare = 93 ∷ []
+sign_text signs.OpenRound = 40 ∷ []
+sign_text signs.CloseRound = 41 ∷ []
+sign_text signs.OpenCurly = 123 ∷ []
+sign_text signs.CloseCurly = 125 ∷ []
+sign_text signs.Equals = 61 ∷ []
+sign_text signs.Not = 33 ∷ []
+sign_text signs.And = 38 ∷ []
+sign_text signs.Or = 124 ∷ []
+sign_text signs.Plus = 43 ∷ []
+sign_text signs.Semicolon = 59 ∷ []
+sign_text signs.Slash = 47 ∷ []
+sign_text signs.PlusEquals = 43 ∷ 61 ∷ []
+sign_text signs.MinusEquals = 45 ∷ 61 ∷ []
+
+pub record IsSign (sign : Sign) (bytes : List ℕ) (n : ℕ) : Type 0 where
+  pub text : take n bytes ≡ sign_text sign
+  pub size : n ≡ length (sign_text sign)
+
+-- the first n bytes are a word, a figure or a sign
+pub data HasForm (bytes : List ℕ) (n : ℕ) : Type 0 where
+  as_word : IsWord bytes n → HasForm bytes n
+  as_figure : IsFigure bytes n → HasForm bytes n
+  as_sign : (sign : Sign) → IsSign sign bytes n → HasForm bytes n
+
+abbrev pub IsLongest : List ℕ → ℕ → Type 0
+IsLongest bytes n = (m : ℕ) → HasForm bytes m → m ≤ n
+
+abbrev pub key_text : Key → List ℕ
+key_text keys.Field = 102 ∷ 105 ∷ 101 ∷ 108 ∷ 100 ∷ []
+key_text keys.Array = 97 ∷ 114 ∷ 114 ∷ 97 ∷ 121 ∷ []
+key_text keys.Const = 99 ∷ 111 ∷ 110 ∷ 115 ∷ 116 ∷ []
+key_text keys.Let = 108 ∷ 101 ∷ 116 ∷ []
+key_text keys.If = 105 ∷ 102 ∷ []
+key_text keys.Then = 116 ∷ 104 ∷ 101 ∷ 110 ∷ []
+key_text keys.Else = 101 ∷ 108 ∷ 115 ∷ 101 ∷ []
+key_text keys.Id = 105 ∷ 100 ∷ []
+key_text keys.Drop = 100 ∷ 114 ∷ 111 ∷ 112 ∷ []
+key_text keys.Atomic = 97 ∷ 116 ∷ 111 ∷ 109 ∷ 105 ∷ 99 ∷ []
+key_text keys.True = 84 ∷ 114 ∷ 117 ∷ 101 ∷ []
+key_text keys.False = 70 ∷ 97 ∷ 108 ∷ 115 ∷ 101 ∷ []
+
+abbrev pub AreDigits : List ℕ → ℕ → Type 0
+AreDigits bytes n = (i : ℕ) → i < n → is_digit (slice_index bytes i) ≡ true
+
+-- the first n bytes are a token of this kind
+pub data IsLexeme (bytes : List ℕ) (n : ℕ) : Kind → Type 0 where
+  a_name : IsWord bytes n → ((key : Key) → take n bytes ≡ key_text key → ⊥) → IsLexeme bytes n kinds.Word
+  a_key : (key : Key) → IsWord bytes n → take n bytes ≡ key_text key → IsLexeme bytes n (kinds.Key key)
+  a_number : IsFigure bytes n → AreDigits bytes n → IsLexeme bytes n kinds.Number
+  an_address : IsFigure bytes n → IsAddress (take n bytes) → IsLexeme bytes n kinds.Address
+  a_sign : (sign : Sign) → IsSign sign bytes n → IsLexeme bytes n (kinds.Sign sign)
+
+-- a comment of n bytes: `#` and what stands before the next LF
+pub record IsComment (bytes : List ℕ) (n : ℕ) : Type 0 where
+  pub some : 0 < n
+  pub within : n ≤ length bytes
+  pub first : slice_index bytes 0 ≡ 35
+  pub inside : (i : ℕ) → i < n → slice_index bytes i ≢ 10
+  pub ends : n < length bytes → slice_index bytes n ≡ 10
+
+-- The bytes, which begin at `at`, spell the tokens up to the rest, which begins at `end`.
+pub data Spells : ℕ → List ℕ → List Token → ℕ → List ℕ → Type 0 where
+  spells_nothing : {at : ℕ} {rest : List ℕ} → Spells at rest [] at rest
+  spells_blank : {at end b : ℕ} {bytes rest : List ℕ} {ts : List Token} → is_blank b ≡ true → Spells (at + 1) bytes ts end rest → Spells at (b ∷ bytes) ts end rest
+  spells_comment : {at end : ℕ} {bytes rest : List ℕ} {ts : List Token} (n : ℕ) → IsComment bytes n → Spells (at + n) (drop n bytes) ts end rest → Spells at bytes ts end rest
+  spells_token : {at end : ℕ} {bytes rest : List ℕ} {ts : List Token} (n : ℕ) (kind : Kind) → IsLexeme bytes n kind → IsLongest bytes n →
+      Spells (at + n) (drop n bytes) ts end rest → Spells at bytes (record { kind = kind; from = at; to = at + n } ∷ ts) end rest
+
+-- no token begins with these bytes, nor a blank or a comment
+pub record BeginsNothing (bytes : List ℕ) : Type 0 where
+  pub some : 0 < length bytes
+  pub no_blank : is_blank (slice_index bytes 0) ≡ false
+  pub no_comment : slice_index bytes 0 ≢ 35
+  pub no_form : (n : ℕ) → HasForm bytes n → ⊥
+
+-- the longest figure of these bytes is neither a number nor an address
+pub record BeginsNoNumber (bytes : List ℕ) : Type 0 where
+  pub size : ℕ
+  pub figure : IsFigure bytes size
+  pub longest : IsLongest bytes size
+  pub no_number : AreDigits bytes size → ⊥
+  pub no_address : IsAddress (take size bytes) → ⊥
+
+-- the whole text spells these tokens
+abbrev pub SpellsTokens : List ℕ → List Token → Type 0
+SpellsTokens text ts = Spells 0 text ts (length text) []
+
+-- the byte at `at` begins no token, where one is due
+abbrev pub IsBadByte : List ℕ → ℕ → Type 0
+IsBadByte text at = (ts : List Token) × (rest : List ℕ) × Spells 0 text ts at rest × BeginsNothing rest
+
+-- the figure at `at`, where a token is due, is neither a number nor an address
+abbrev pub IsBadNumber : List ℕ → ℕ → Type 0
+IsBadNumber text at = (ts : List Token) × (rest : List ℕ) × Spells 0 text ts at rest × BeginsNoNumber rest

@@ -1,0 +1,4 @@
+pub mod Bytes
+pub mod Address
+pub mod Lexemes
+pub mod Scanning

@@ -1,0 +1,77 @@
+// Addresses: four groups of digits, joined by dots.
+
+ghost use Rattle.std.specs.Prelude.{◌≡◌, ◌↔◌, ◌++◌, ◌∷◌, ◌≤◌, ◌<◌, ◌≢◌, slice_index, ℕ, List, IsTrue, MatchOption, true, length};
+ghost use Rattle.snap_lex.specs.Address.{IsAddress, HasDots, is_group, digit_of};
+ghost use Rattle.snap_lex.specs.Bytes.{is_digit};
+
+use crate::bytes::is_digit;
+
+// The value of a digit.
+fn digit(b: u8) -> u16
+    requires { is_digit b ≡ true }
+    ensures value { result ≡ digit_of b }
+    ensures small { result ≤ 9 }
+{
+    u16::from(b - b'0')
+}
+
+// Whether these are one to three digits of value at most 255.
+fn is_group(bytes: &[u8]) -> bool
+    ensures { result ≡ is_group bytes.now }
+{
+    match bytes {
+        [a] => is_digit(*a),
+        [a, b] => is_digit(*a) && is_digit(*b),
+        [a, b, c] => {
+            is_digit(*a)
+                && is_digit(*b)
+                && is_digit(*c)
+                && digit(*a) * 100 + digit(*b) * 10 + digit(*c) <= 255
+        }
+        _ => false,
+    }
+}
+
+// Where the first dot stands.
+fn dot_at(bytes: &[u8]) -> Option<usize>
+    ensures { MatchOption result
+        ((j : ℕ) → j < length bytes.now → slice_index bytes.now j ≢ 46)
+        (λ i. (i < length bytes.now) × (slice_index bytes.now i ≡ 46) × ((j : ℕ) → j < i → slice_index bytes.now j ≢ 46)) }
+{
+    bytes.iter().position(|b| *b == b'.')
+}
+
+// What stands behind a group and a dot.
+fn behind_group(bytes: &[u8]) -> Option<&[u8]>
+    ensures { MatchOption result
+        ((group rest : List ℕ) → is_group group ≡ true → bytes.now ≡ group ++ 46 ∷ rest → ⊥)
+        (λ rest. (group : List ℕ) × (is_group group ≡ true) × (bytes.now ≡ group ++ 46 ∷ rest.now)) }
+{
+    let dot = dot_at(bytes)?;
+    if is_group(&bytes[..dot]) {
+        Some(&bytes[dot + 1..])
+    } else {
+        None
+    }
+}
+
+// Whether the bytes are an address.
+pub fn is_address(bytes: &[u8]) -> bool
+    ensures { IsTrue result ↔ IsAddress bytes.now }
+{
+    has_dots(bytes, 3)
+}
+
+// Whether the bytes are groups joined by this many dots.
+fn has_dots(bytes: &[u8], dots: u8) -> bool
+    ensures { IsTrue result ↔ HasDots dots bytes.now }
+{
+    if dots == 0 {
+        is_group(bytes)
+    } else {
+        match behind_group(bytes) {
+            Some(rest) => has_dots(rest, dots - 1),
+            None => false,
+        }
+    }
+}

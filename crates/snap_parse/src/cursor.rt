@@ -1,0 +1,83 @@
+// Reading tokens one by one.
+
+ghost use Rattle.std.specs.Prelude.{◌≡◌, ◌+◌, ◌≤◌, MatchResult};
+ghost use Rattle.snap_parse.specs.Tree.{span_of};
+
+use crate::fault::ParseFault;
+use crate::tree::Span;
+use snap_lex::{Kind, Token};
+use std::alloc::Global;
+
+/// The greatest depth of a program.
+pub const MAX_DEPTH: u32 = 128;
+
+// Where the token stands.
+pub fn span(token: Token) -> Span
+    ensures { result ≡ span_of token }
+{
+    Span {
+        from: token.from,
+        to: token.to,
+    }
+}
+
+// The depth inside of what the token at `at` begins.
+pub fn deeper(depth: u32, at: u32) -> Result<u32, ParseFault>
+    requires { depth ≤ MAX_DEPTH }
+    ensures { MatchResult result (λ inner. (inner ≡ depth + 1) × (inner ≤ MAX_DEPTH)) (λ e. (depth ≡ MAX_DEPTH) × (e ≡ ParseFault.TooDeep at)) }
+{
+    if depth < MAX_DEPTH {
+        Ok(depth + 1)
+    } else {
+        Err(ParseFault::TooDeep { at })
+    }
+}
+
+// The next token, if it's of this kind, and those behind it.
+pub fn next_if<'a>(tokens: &'a [Token], kind: Kind) -> Option<(Token, &'a [Token])> {
+    let (token, rest) = tokens.split_first()?;
+    if token.kind == kind {
+        Some((*token, rest))
+    } else {
+        None
+    }
+}
+
+/// Where the tree's memory comes from, and where the text ends.
+#[derive(Clone, Copy)]
+pub struct Parser {
+    pub alloc: Global,
+    pub end: u32,
+}
+
+impl Parser {
+    // The next token and those behind it; at the end, that it's unexpected.
+    pub fn next<'a>(&self, tokens: &'a [Token]) -> Result<(Token, &'a [Token]), ParseFault> {
+        match tokens.split_first() {
+            Some((token, rest)) => Ok((*token, rest)),
+            None => Err(ParseFault::Unexpected { at: self.end }),
+        }
+    }
+
+    // Where the next token begins, or the text ends.
+    pub fn place(&self, tokens: &[Token]) -> u32 {
+        match tokens.first() {
+            Some(token) => token.from,
+            None => self.end,
+        }
+    }
+
+    // The next token, which must be of this kind, and those behind it.
+    pub fn expect<'a>(
+        &self,
+        tokens: &'a [Token],
+        kind: Kind,
+    ) -> Result<(Token, &'a [Token]), ParseFault> {
+        let (token, rest) = self.next(tokens)?;
+        if token.kind == kind {
+            Ok((token, rest))
+        } else {
+            Err(ParseFault::Unexpected { at: token.from })
+        }
+    }
+}
