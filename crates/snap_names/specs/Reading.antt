@@ -69,11 +69,11 @@ abbrev mutual
   policy_is_predicate e _ = false
 
 -- the fault at a name where no predicate begins
-abbrev pub name_fault : Env → Span → NameFault
-name_fault e name = elim (sense_of e.words name) [ Ok x ↦ Kind name.from | Err f ↦ f ]
+abbrev pub name_fault : Words → Span → NameFault
+name_fault e name = elim (sense_of e name) [ Ok x ↦ Kind name.from | Err f ↦ f ]
 
 -- the fault at the first token of a tree that isn't a predicate
-abbrev pub single_fault : Env → SingleTree → NameFault
+abbrev pub single_fault : Words → SingleTree → NameFault
 single_fault e (set_tree name v) = name_fault e name
 single_fault e (array_set_tree name vs v) = name_fault e name
 single_fault e (up_tree name vs) = name_fault e name
@@ -82,11 +82,11 @@ single_fault e (array_add_tree name vs v) = name_fault e name
 single_fault e (array_sub_tree name vs v) = name_fault e name
 single_fault e s = Kind (single_at s)
 
-abbrev pub both_fault : Env → BothTree → NameFault
+abbrev pub both_fault : Words → BothTree → NameFault
 both_fault e (both_more (both_begin at) s) = single_fault e s
 both_fault e b = Kind (both_at b)
 
-abbrev pub either_fault : Env → EitherTree → NameFault
+abbrev pub either_fault : Words → EitherTree → NameFault
 either_fault e (either_more (either_begin at) b) = both_fault e b
 either_fault e d = Kind (either_at d)
 
@@ -144,7 +144,7 @@ abbrev mutual
   pub read_choice : Env → ChoiceTree → Arities → Reading
   read_choice e (plain_tree d) before = read_either e d before
   read_choice e (if_tree at test met unmet) before =
-      after (operand (either_is_predicate e test) (either_fault e test) (read_either e test before)) (λ x.
+      after (operand (either_is_predicate e test) (either_fault e.words test) (read_either e test before)) (λ x.
       after (after (read_sequences e met x.1) whole) (λ p.
       after (read_choice e unmet p.1) (λ q. Ok (choice x.0 p.0 q.0, q.1))))
 
@@ -154,14 +154,14 @@ abbrev mutual
   read_either e (either_more (either_begin at) b) before = read_both e b before
   read_either e (either_more (either_more d c) b) before =
       after (after (after (read_boths e d before)
-      (more or_test (λ arities. operand (both_is_predicate e c) (both_fault e c) (read_both e c arities))))
-      (more or_test (λ arities. operand (both_is_predicate e b) (both_fault e b) (read_both e b arities)))) whole_test
+      (more or_test (λ arities. operand (both_is_predicate e c) (both_fault e.words c) (read_both e c arities))))
+      (more or_test (λ arities. operand (both_is_predicate e b) (both_fault e.words b) (read_both e b arities)))) whole_test
 
   -- predicates joined by `|`
   pub read_boths : Env → EitherTree → Arities → Result (Option CoreTest × Arities) NameFault
   read_boths e (either_begin at) before = Ok (None, before)
   read_boths e (either_more d b) before =
-      after (read_boths e d before) (more or_test (λ arities. operand (both_is_predicate e b) (both_fault e b) (read_both e b arities)))
+      after (read_boths e d before) (more or_test (λ arities. operand (both_is_predicate e b) (both_fault e.words b) (read_both e b arities)))
 
   -- one operand, or several predicates joined by `&`
   pub read_both : Env → BothTree → Arities → Reading
@@ -169,18 +169,18 @@ abbrev mutual
   read_both e (both_more (both_begin at) s) before = read_single e s before
   read_both e (both_more (both_more b t) s) before =
       after (after (after (read_singles e b before)
-      (more and_test (λ arities. operand (is_predicate e t) (single_fault e t) (read_single e t arities))))
-      (more and_test (λ arities. operand (is_predicate e s) (single_fault e s) (read_single e s arities)))) whole_test
+      (more and_test (λ arities. operand (is_predicate e t) (single_fault e.words t) (read_single e t arities))))
+      (more and_test (λ arities. operand (is_predicate e s) (single_fault e.words s) (read_single e s arities)))) whole_test
 
   -- predicates joined by `&`
   pub read_singles : Env → BothTree → Arities → Result (Option CoreTest × Arities) NameFault
   read_singles e (both_begin at) before = Ok (None, before)
   read_singles e (both_more b s) before =
-      after (read_singles e b before) (more and_test (λ arities. operand (is_predicate e s) (single_fault e s) (read_single e s arities)))
+      after (read_singles e b before) (more and_test (λ arities. operand (is_predicate e s) (single_fault e.words s) (read_single e s arities)))
 
   pub read_single : Env → SingleTree → Arities → Reading
   read_single e (not_tree at s) before =
-      after (operand (is_predicate e s) (single_fault e s) (read_single e s before)) (λ x. Ok (filter (not_test x.0), x.1))
+      after (operand (is_predicate e s) (single_fault e.words s) (read_single e s before)) (λ x. Ok (filter (not_test x.0), x.1))
   read_single e (id_tree at) before = Ok (filter id_test, before)
   read_single e (drop_tree at) before = Ok (filter drop_test, before)
   read_single e (group_tree at p) before = after (read_sequences e p before) whole
