@@ -45,6 +45,11 @@ pub record IsInForm (p : Program) : Type 0 where
   pub fits : PolFits (count p.fields) (length p.vars) p.body
   pub indices : HasOneArity p.body
 
+-- no more than 64 arrays, and the body has no component or array beyond the program's
+pub record IsBounded (p : Program) : Type 0 where
+  pub few : length p.vars ≤ 64
+  pub fits : PolFits (count p.fields) (length p.vars) p.body
+
 -- core nodes: each constructor of a predicate and of a policy, but that of a filter
 abbrev pub pred_nodes : Pred → ℕ
 pred_nodes Id = 1

@@ -5,3 +5,8 @@ pub mod Operands
 pub mod Named
 pub mod Loops
 pub mod Sizes
+pub mod BoundedCore
+pub mod BoundedDeclared
+pub mod BoundedReading
+pub mod BoundedSenses
+pub mod BoundedSteps

@@ -2,6 +2,7 @@
 #![tactic(auto)]
 
 ghost use Rattle.std.specs.Prelude.{◌≡◌, ◌≢◌, IfOk, IfErr, Ok, Err};
+ghost use Rattle.snap_core.specs.Programs.{IsBounded};
 ghost use Rattle.snap_parse.specs.Tree.{source_tree};
 ghost use Rattle.snap_names.specs.Declarations.{resolved, core_program};
 ghost use Rattle.snap_names.specs.declared.fault.NameFault.TheVariants.{NoMemory};
@@ -32,6 +33,7 @@ use std::alloc::Global;
 /// weight of 16,777,216.
 pub fn resolve(alloc: Global, text: &[u8], source: &Source) -> Result<Program, NameFault>
     ensures ok { IfOk result (λ p. resolved text.now (source_tree source.now) ≡ Ok (core_program p)) }
+    ensures bounded { IfOk result IsBounded }
     ensures refused { IfErr result (λ f. f ≢ NoMemory → resolved text.now (source_tree source.now) ≡ Err f) }
 {
     let mut scope = Scope::ports(alloc, text)?;
