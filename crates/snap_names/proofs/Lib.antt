@@ -4,4 +4,5 @@ pub mod Readings
 pub mod Operands
 pub mod Named
 pub mod Loops
-pub mod Sizes
+pub mod CoreSizes
+pub mod Nodes

@@ -1,11 +1,11 @@
 // Policies: a function for each line of the grammar.
 
-ghost use Rattle.std.specs.Prelude.{Result, Option, ◌≡◌, ◌≢◌, ◌+◌, true, false, Ok, Err, List, IfOk, IfErr};
+ghost use Rattle.std.specs.Prelude.{Result, Option, ◌≡◌, true, false, IfOk, IfErr};
 ghost use Rattle.snap_parse.specs.Tree.{single_tree, both_tree, either_tree, choice_tree, sequence_tree, policy_tree};
-ghost use Rattle.snap_names.specs.Core.{CorePolicy};
+ghost use Rattle.snap_names.specs.Core.{CoreTest, CorePolicy};
 ghost use Rattle.snap_names.specs.declared.scope.Tally.{Tally};
-ghost use Rattle.snap_names.specs.Parts.{IsPartOf, Reads, ReadsTest, HasRead, HaveRead, words_of, env_in};
-ghost use Rattle.snap_names.specs.Reading.{read_policy, read_sequence, read_choice, read_either, read_both, read_single, operand, single_fault, both_fault, either_fault, is_predicate, both_is_predicate, either_is_predicate, whole};
+ghost use Rattle.snap_names.specs.Parts.{Reads, ReadsTest, HasRead, HaveRead, HaveReadTests};
+ghost use Rattle.snap_names.specs.Reading.{read_policy, read_sequence, read_choice, read_either, read_both, read_single, operand, single_fault, both_fault, either_fault, is_predicate, both_is_predicate, either_is_predicate, whole, whole_test};
 ghost use Rattle.snap_names.specs.Senses.{Arities, after};
 ghost use Rattle.snap_names.specs.declared.fault.NameFault.{NameFault};
 
@@ -26,7 +26,8 @@ fn as_test(part: Part, fault: NameFault) -> Result<Part, NameFault>
 impl Tally {
     // A repeated part: its operands, or `id` where there are none.
     fn whole(&mut self, parts: Option<Part>) -> Part
-        ensures { (r : Result (Option CorePolicy × Arities) NameFault) (old : Tally) → HaveRead r old self.old parts → HasRead (after r whole) old self.new result }
+        ensures policies { (r : Result (Option CorePolicy × Arities) NameFault) (old : Tally) → HaveRead r old self.old parts → HasRead (after r whole) old self.new result }
+        ensures tests { (r : Result (Option CoreTest × Arities) NameFault) (old : Tally) → HaveReadTests r old self.old parts → HasRead (after r whole_test) old self.new result }
     {
         match parts {
             Some(part) => part,
@@ -44,7 +45,8 @@ impl Scope<'_> {
         let mut parts: Option<Part> = None;
         for part in &tree.parts {
             let next = self.sequence(tally, part)?;
-            parts = Some(parts::par(self.alloc, tally, parts, next)?);
+            let joined = parts::par(self.alloc, tally, parts, next)?;
+            parts = Some(joined);
         }
         Ok(tally.whole(parts))
     }
@@ -56,7 +58,8 @@ impl Scope<'_> {
         let mut parts: Option<Part> = None;
         for part in &tree.parts {
             let next = self.choice(tally, part)?;
-            parts = Some(parts::seq(self.alloc, tally, parts, next)?);
+            let joined = parts::seq(self.alloc, tally, parts, next)?;
+            parts = Some(joined);
         }
         Ok(tally.whole(parts))
     }
@@ -98,7 +101,8 @@ impl Scope<'_> {
         let mut parts: Option<Part> = None;
         for part in &tree.parts {
             let next = self.both_operand(tally, part)?;
-            parts = Some(parts::or(self.alloc, tally, parts, next)?);
+            let joined = parts::or(self.alloc, tally, parts, next)?;
+            parts = Some(joined);
         }
         Ok(tally.whole(parts))
     }
@@ -125,7 +129,8 @@ impl Scope<'_> {
         let mut parts: Option<Part> = None;
         for part in &tree.parts {
             let next = self.single_operand(tally, part)?;
-            parts = Some(parts::and(self.alloc, tally, parts, next)?);
+            let joined = parts::and(self.alloc, tally, parts, next)?;
+            parts = Some(joined);
         }
         Ok(tally.whole(parts))
     }
