@@ -190,14 +190,14 @@ pub HasRead-choice : (test : TestReading) (met unmet : Arities → Reading) (old
 HasRead-choice test met unmet old a b c new x p q r h k l arities count join = record {
   policy = choice h.test k.policy l.policy;
   reading =
-    ap (λ y. after y (λ x. after (met x.1) (λ p. after (unmet p.1) (λ q. Ok (choice x.0 p.0 q.0, q.1))))) h.reading
-    ∙ ap (λ y. after y (λ p. after (unmet p.1) (λ q. Ok (choice h.test p.0 q.0, q.1)))) k.reading
-    ∙ ap (λ y. after y (λ q. Ok (choice h.test k.policy q.0, q.1))) l.reading
-    ∙ ap (λ a. Ok (choice h.test k.policy l.policy, a)) (sym arities);
+      ap (λ y. after y (λ x. after (met x.1) (λ p. after (unmet p.1) (λ q. Ok (choice x.0 p.0 q.0, q.1))))) h.reading
+      ∙ ap (λ y. after y (λ p. after (unmet p.1) (λ q. Ok (choice h.test p.0 q.0, q.1)))) k.reading
+      ∙ ap (λ y. after y (λ q. Ok (choice h.test k.policy q.0, q.1))) l.reading
+      ∙ ap (λ a. Ok (choice h.test k.policy l.policy, a)) (sym arities);
   counted = sum_of old.nodes a.nodes b.nodes c.nodes new.nodes (test_nodes h.test) (nodes k.policy) (nodes l.policy) h.counted k.counted l.counted count;
   stands = join h.test k.policy l.policy
-    (IsPart-later (filter h.test) b.nodes c.nodes (nodes l.policy) x l.counted (IsPart-later (filter h.test) a.nodes b.nodes (nodes k.policy) x k.counted h.stands))
-    (IsPart-later k.policy b.nodes c.nodes (nodes l.policy) p l.counted k.stands) l.stands;
+      (IsPart-later (filter h.test) b.nodes c.nodes (nodes l.policy) x l.counted (IsPart-later (filter h.test) a.nodes b.nodes (nodes k.policy) x k.counted h.stands))
+      (IsPart-later k.policy b.nodes c.nodes (nodes l.policy) p l.counted k.stands) l.stands;
 }
   where
     sum_of : (old a b c new x p q : ℕ) → capped a ≡ capped (old + x) → capped b ≡ capped (a + p) → capped c ≡ capped (b + q) → new ≡ capped (c + 1) →

@@ -31,7 +31,7 @@ policy-returns-in_err-next t c = λ ne lets are.
     let is : c.part-item.result ≡ get_or items c.loop-part.part-index c.part-item.result = search rules in
     ap (λ t. after (read_sequences e t c.args.tally.now.arities.items) whole) (policy_tree-out c.args.tree.now)
     ∙ ap (λ r. after r whole) (policy-refused e (out-Policy c.args.tree.now).at items c.loop-part.part-index c.part-item.result c.args.tally.now c.loop-part.tally c.loop-part.parts _ within is
-        (c.loop-part.invariant lets are) (c.in_err-next.ensures ne lets are))
+    (c.loop-part.invariant lets are) (c.in_err-next.ensures ne lets are))
 
 pub policy-returns : goal.policy-returns
 policy-returns t c = λ lets are.
@@ -62,7 +62,7 @@ sequence-returns-in_err-next t c = λ ne lets are.
     let is : c.part-item.result ≡ get_or items c.loop-part.part-index c.part-item.result = search rules in
     ap (λ t. after (read_choices e t c.args.tally.now.arities.items) whole) (sequence_tree-out c.args.tree.now)
     ∙ ap (λ r. after r whole) (sequence-refused e c.args.tree.now.at items c.loop-part.part-index c.part-item.result c.args.tally.now c.loop-part.tally c.loop-part.parts _ within is
-        (c.loop-part.invariant lets are) (c.in_err-next.ensures ne lets are))
+    (c.loop-part.invariant lets are) (c.in_err-next.ensures ne lets are))
 
 pub sequence-returns : goal.sequence-returns
 sequence-returns t c = λ lets are.

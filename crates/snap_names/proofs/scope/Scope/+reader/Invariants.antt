@@ -23,4 +23,3 @@ invariant-either-loop-part l = (lets : List CorePolicy) → AreBodies l.self.let
 abbrev pub invariant-both-loop-part : goal.invariant-both-loop-part
 invariant-both-loop-part l = (lets : List CorePolicy) → AreBodies l.self.lets.items lets →
     HaveReadTests (read_singles (env_in l.self lets) (both_of l.tree.at (take l.part-index l.tree.parts.items)) l.fn.tally.arities.items) l.fn.tally l.tally l.parts
-
