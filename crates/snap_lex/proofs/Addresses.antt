@@ -1,9 +1,8 @@
 -- Groups and dots.
-use Rattle.std.proofs.Common.{◌≡◌, ◌≢◌, ℕ, zero, suc, ◌+◌, ◌-◌, ◌<◌, ◌≤◌, List, [], ◌∷◌, ◌++◌, length, true, false, ap, sym, ◌∙◌, subst, take, drop, drop-cons, arith, refl, get_or, length-append, length-take}
-use Rattle.std.specs.Prelude.{slice_index, Bool, ◌&&◌, nat_eq, Option, Some, None, MatchOption, IsTrue, ◌↔◌}
+use Rattle.std.proofs.Common.{◌≡◌, ◌≢◌, ℕ, zero, suc, ◌+◌, ◌-◌, ◌<◌, ◌≤◌, List, [], ◌∷◌, ◌++◌, length, true, false, ap, sym, ◌∙◌, subst, take, drop, arith, refl, get_or, length-append, length-take}
+use Rattle.std.specs.Prelude.{Bool, ◌&&◌, Option, None, MatchOption, IsTrue, ◌↔◌}
 use Rattle.std.proofs.Math.Seq.{get_or-append_seam}
 use Rattle.std.proofs.lemmas.List.{get_or-take}
-use Rattle.std.proofs.lemmas.Bool.Decides.{nat_tests}
 use Rattle.snap_lex.specs.Bytes.{is_digit}
 use Rattle.snap_lex.specs.Address.{is_group, HasDots, last_group, next_group, IsAddress}
 use Rattle.snap_lex.specs.Lexemes.{AreDigits}

@@ -1,6 +1,7 @@
 -- What is declared fits, so a program that is read is bounded.
-use Rattle.std.proofs.Common.{◌≡◌, ℕ, ◌+◌, ◌<◌, ◌≤◌, List, [], ◌∷◌, ◌++◌, length, Option, None, Some, Ok, IfOk, sym, ap, ◌∙◌, subst, arith, add_assoc, le_refl, lt_of_le_of_lt, lt_of_lt_of_le, length-append}
+use Rattle.std.proofs.Common.{◌≡◌, ℕ, ◌+◌, ◌<◌, ◌≤◌, List, [], ◌∷◌, ◌++◌, length, Option, None, Some, Result, Ok, IfOk, sym, ap, ◌∙◌, subst, arith, add_assoc, le_refl, lt_of_le_of_lt, lt_of_lt_of_le, length-append}
 use Rattle.std.proofs.Math.Nat.{min-le_left}
+use Rattle.std.proofs.lemmas.Result.{IfOk-weaker}
 use Rattle.std.specs.List.{AllByRecursion, list_any}
 use Rattle.snap_core.specs.declared.program.Field.{Field}
 use Rattle.snap_core.specs.declared.program.Program.{Program}
@@ -10,6 +11,7 @@ use Rattle.snap_parse.specs.Tree.{DeclTree, field_tree, array_tree, const_tree, 
 use Rattle.snap_core.specs.Programs.{IsBounded}
 use Rattle.snap_names.specs.declared.scope.Sense.{Sense}
 use Rattle.snap_names.specs.declared.scope.Sense.TheVariants.{Plain, Split, Array, Constant, Policy}
+use Rattle.snap_names.specs.declared.fault.NameFault.{NameFault}
 use Rattle.snap_names.specs.declared.fault.NameFault.TheVariants.{Twice}
 use Rattle.snap_names.specs.Core.{CorePolicy, nodes, weight}
 use Rattle.snap_names.specs.Senses.{Arities, word, literal, is_address}
@@ -126,3 +128,6 @@ pub IsBounded-resolved : (text : List ℕ) (s : SourceTree) (p : Program) → re
 IsBounded-resolved text s p e =
     let h : CoreBounded (core_program p) = subst (λ r. IfOk r CoreBounded) e (resolved-bounded text s) in
     record { few = h.0; fits = PolFits-core_policy (count p.fields) (length p.vars) p.body h.1 }
+
+pub IfOk-resolved : (text : List ℕ) (s : SourceTree) (r : Result Program NameFault) → IfOk r (λ p. resolved text s ≡ Ok (core_program p)) → IfOk r IsBounded
+IfOk-resolved text s r h = IfOk-weaker r _ IsBounded (IsBounded-resolved text s) h

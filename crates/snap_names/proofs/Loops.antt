@@ -65,11 +65,11 @@ policy-refused e at items i part old before parts f within is h k =
     let a = old.arities.items in
     let so_far = policy_of at (take i items) in
     let split : policy_of at items ≡ policy_append (policy_more so_far (sequence_tree part)) (map sequence_tree (drop (i + 1) items)) =
-        ap (policy_of at) (parted items i part within is)
-        ∙ ap (policy_append (policy_begin at)) (map-append sequence_tree (take i items) (part ∷ drop (i + 1) items))
-        ∙ policy_append-both (policy_begin at) (map sequence_tree (take i items)) (map sequence_tree (part ∷ drop (i + 1) items)) in
+    ap (policy_of at) (parted items i part within is)
+    ∙ ap (policy_append (policy_begin at)) (map-append sequence_tree (take i items) (part ∷ drop (i + 1) items))
+    ∙ policy_append-both (policy_begin at) (map sequence_tree (take i items)) (map sequence_tree (part ∷ drop (i + 1) items)) in
     let met : read_sequences e (policy_more so_far (sequence_tree part)) a ≡ Err f =
-        ap (λ r. after r (more par (policy_operand e part))) h.reading ∙ ap (λ r. after r (λ y. Ok (Some (joined par h.policy y.0), y.1))) k in
+    ap (λ r. after r (more par (policy_operand e part))) h.reading ∙ ap (λ r. after r (λ y. Ok (Some (joined par h.policy y.0), y.1))) k in
     ap (λ t. read_sequences e t a) split ∙ policy_append-refused e (policy_more so_far (sequence_tree part)) (map sequence_tree (drop (i + 1) items)) a f met
 
 -- Choices joined by `;`.
@@ -108,11 +108,11 @@ sequence-refused e at items i part old before parts f within is h k =
     let a = old.arities.items in
     let so_far = sequence_of at (take i items) in
     let split : sequence_of at items ≡ sequence_append (sequence_more so_far (choice_tree part)) (map choice_tree (drop (i + 1) items)) =
-        ap (sequence_of at) (parted items i part within is)
-        ∙ ap (sequence_append (sequence_begin at)) (map-append choice_tree (take i items) (part ∷ drop (i + 1) items))
-        ∙ sequence_append-both (sequence_begin at) (map choice_tree (take i items)) (map choice_tree (part ∷ drop (i + 1) items)) in
+    ap (sequence_of at) (parted items i part within is)
+    ∙ ap (sequence_append (sequence_begin at)) (map-append choice_tree (take i items) (part ∷ drop (i + 1) items))
+    ∙ sequence_append-both (sequence_begin at) (map choice_tree (take i items)) (map choice_tree (part ∷ drop (i + 1) items)) in
     let met : read_choices e (sequence_more so_far (choice_tree part)) a ≡ Err f =
-        ap (λ r. after r (more seq (sequence_operand e part))) h.reading ∙ ap (λ r. after r (λ y. Ok (Some (joined seq h.policy y.0), y.1))) k in
+    ap (λ r. after r (more seq (sequence_operand e part))) h.reading ∙ ap (λ r. after r (λ y. Ok (Some (joined seq h.policy y.0), y.1))) k in
     ap (λ t. read_choices e t a) split ∙ sequence_append-refused e (sequence_more so_far (choice_tree part)) (map choice_tree (drop (i + 1) items)) a f met
 
 -- Predicates joined by `|`.
@@ -151,11 +151,11 @@ either-refused e at items i part old before parts f within is h k =
     let a = old.arities.items in
     let so_far = either_of at (take i items) in
     let split : either_of at items ≡ either_append (either_more so_far (both_tree part)) (map both_tree (drop (i + 1) items)) =
-        ap (either_of at) (parted items i part within is)
-        ∙ ap (either_append (either_begin at)) (map-append both_tree (take i items) (part ∷ drop (i + 1) items))
-        ∙ either_append-both (either_begin at) (map both_tree (take i items)) (map both_tree (part ∷ drop (i + 1) items)) in
+    ap (either_of at) (parted items i part within is)
+    ∙ ap (either_append (either_begin at)) (map-append both_tree (take i items) (part ∷ drop (i + 1) items))
+    ∙ either_append-both (either_begin at) (map both_tree (take i items)) (map both_tree (part ∷ drop (i + 1) items)) in
     let met : read_boths e (either_more so_far (both_tree part)) a ≡ Err f =
-        ap (λ r. after r (more or_test (either_operand e part))) h.reading ∙ ap (λ r. after r (λ y. Ok (Some (joined or_test h.test y.0), y.1))) k in
+    ap (λ r. after r (more or_test (either_operand e part))) h.reading ∙ ap (λ r. after r (λ y. Ok (Some (joined or_test h.test y.0), y.1))) k in
     ap (λ t. read_boths e t a) split ∙ either_append-refused e (either_more so_far (both_tree part)) (map both_tree (drop (i + 1) items)) a f met
 
 -- Predicates joined by `&`.
@@ -194,9 +194,9 @@ both-refused e at items i part old before parts f within is h k =
     let a = old.arities.items in
     let so_far = both_of at (take i items) in
     let split : both_of at items ≡ both_append (both_more so_far (single_tree part)) (map single_tree (drop (i + 1) items)) =
-        ap (both_of at) (parted items i part within is)
-        ∙ ap (both_append (both_begin at)) (map-append single_tree (take i items) (part ∷ drop (i + 1) items))
-        ∙ both_append-both (both_begin at) (map single_tree (take i items)) (map single_tree (part ∷ drop (i + 1) items)) in
+    ap (both_of at) (parted items i part within is)
+    ∙ ap (both_append (both_begin at)) (map-append single_tree (take i items) (part ∷ drop (i + 1) items))
+    ∙ both_append-both (both_begin at) (map single_tree (take i items)) (map single_tree (part ∷ drop (i + 1) items)) in
     let met : read_singles e (both_more so_far (single_tree part)) a ≡ Err f =
-        ap (λ r. after r (more and_test (both_operand e part))) h.reading ∙ ap (λ r. after r (λ y. Ok (Some (joined and_test h.test y.0), y.1))) k in
+    ap (λ r. after r (more and_test (both_operand e part))) h.reading ∙ ap (λ r. after r (λ y. Ok (Some (joined and_test h.test y.0), y.1))) k in
     ap (λ t. read_singles e t a) split ∙ both_append-refused e (both_more so_far (single_tree part)) (map single_tree (drop (i + 1) items)) a f met

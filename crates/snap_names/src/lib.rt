@@ -15,6 +15,7 @@ pub mod parts;
 pub mod places;
 pub mod policies;
 pub mod predicates;
+pub mod repeated;
 pub mod scope;
 pub mod singles;
 pub mod sizes;

@@ -1,39 +1,14 @@
 // Policies: a function for each line of the grammar.
 
-ghost use Rattle.std.specs.Prelude.{Result, Option, ◌≡◌, ◌≢◌, ◌+◌, true, false, Ok, Err, List, IfOk, IfErr};
 ghost use Rattle.snap_parse.specs.Tree.{single_tree, both_tree, either_tree, choice_tree, sequence_tree, policy_tree};
-ghost use Rattle.snap_names.specs.Core.{CorePolicy};
-ghost use Rattle.snap_names.specs.declared.scope.Tally.{Tally};
-ghost use Rattle.snap_names.specs.Parts.{IsPartOf, Reads, ReadsTest, HasRead, HaveRead, words_of, env_in};
-ghost use Rattle.snap_names.specs.Reading.{read_policy, read_sequence, read_choice, read_either, read_both, read_single, operand, single_fault, both_fault, either_fault, is_predicate, both_is_predicate, either_is_predicate, whole};
-ghost use Rattle.snap_names.specs.Senses.{Arities, after};
-ghost use Rattle.snap_names.specs.declared.fault.NameFault.{NameFault};
+ghost use Rattle.snap_names.specs.Parts.{Reads, ReadsTest};
+ghost use Rattle.snap_names.specs.Reading.{read_policy, read_sequence, read_choice, read_either, read_both, read_single, operand, single_fault, both_fault, either_fault, is_predicate, both_is_predicate, either_is_predicate};
 
 use crate::fault::NameFault;
 use crate::parts;
 use crate::scope::{Part, Scope, Tally};
 use snap_core::policy::{Pol, Pred};
 use snap_parse::{Both, Choice, Either, Policy, Sequence, Single};
-
-// A part that must be a predicate; `fault` says that it isn't.
-fn as_test(part: Part, fault: NameFault) -> Result<Part, NameFault>
-    ensures ok { IfOk result (λ r. (r ≡ part) × (part.is_test ≡ true)) }
-    ensures err { IfErr result (λ f. (f ≡ fault) × (part.is_test ≡ false)) }
-{
-    if part.is_test { Ok(part) } else { Err(fault) }
-}
-
-impl Tally {
-    // A repeated part: its operands, or `id` where there are none.
-    fn whole(&mut self, parts: Option<Part>) -> Part
-        ensures { (r : Result (Option CorePolicy × Arities) NameFault) (old : Tally) → HaveRead r old self.old parts → HasRead (after r whole) old self.new result }
-    {
-        match parts {
-            Some(part) => part,
-            None => self.leaf(Pol::Filter(Pred::Id)),
-        }
-    }
-}
 
 impl Scope<'_> {
     /// The core policy of sequences joined by `+`.
@@ -44,7 +19,8 @@ impl Scope<'_> {
         let mut parts: Option<Part> = None;
         for part in &tree.parts {
             let next = self.sequence(tally, part)?;
-            parts = Some(parts::par(self.alloc, tally, parts, next)?);
+            let joined = parts::par(self.alloc, tally, parts, next)?;
+            parts = Some(joined);
         }
         Ok(tally.whole(parts))
     }
@@ -56,7 +32,8 @@ impl Scope<'_> {
         let mut parts: Option<Part> = None;
         for part in &tree.parts {
             let next = self.choice(tally, part)?;
-            parts = Some(parts::seq(self.alloc, tally, parts, next)?);
+            let joined = parts::seq(self.alloc, tally, parts, next)?;
+            parts = Some(joined);
         }
         Ok(tally.whole(parts))
     }
@@ -70,7 +47,8 @@ impl Scope<'_> {
                 let test = self.either_operand(tally, test)?;
                 let yes = self.policy(tally, yes)?;
                 let no = self.choice(tally, no)?;
-                parts::choice(self.alloc, tally, test, yes, no)
+                let joined = parts::choice(self.alloc, tally, test, yes, no)?;
+                Ok(joined)
             }
             Choice::Plain(either) => self.either(tally, either),
         }
@@ -81,11 +59,12 @@ impl Scope<'_> {
         ensures { ReadsTest self.now (λ e arities. operand (either_is_predicate e (either_tree tree.now)) (either_fault e.words (either_tree tree.now)) (read_either e (either_tree tree.now) arities)) tally.old tally.new result }
     {
         let fault = self.either_fault(tree);
-        if !self.either_is_predicate(tree) {
+        let is_predicate = self.either_is_predicate(tree);
+        if !is_predicate {
             return Err(fault);
         }
         let part = self.either(tally, tree)?;
-        as_test(part, fault)
+        if part.is_test { Ok(part) } else { Err(fault) }
     }
 
     #[cycle(reader)]
@@ -98,7 +77,8 @@ impl Scope<'_> {
         let mut parts: Option<Part> = None;
         for part in &tree.parts {
             let next = self.both_operand(tally, part)?;
-            parts = Some(parts::or(self.alloc, tally, parts, next)?);
+            let joined = parts::or(self.alloc, tally, parts, next)?;
+            parts = Some(joined);
         }
         Ok(tally.whole(parts))
     }
@@ -108,11 +88,12 @@ impl Scope<'_> {
         ensures { ReadsTest self.now (λ e arities. operand (both_is_predicate e (both_tree tree.now)) (both_fault e.words (both_tree tree.now)) (read_both e (both_tree tree.now) arities)) tally.old tally.new result }
     {
         let fault = self.both_fault(tree);
-        if !self.both_is_predicate(tree) {
+        let is_predicate = self.both_is_predicate(tree);
+        if !is_predicate {
             return Err(fault);
         }
         let part = self.both(tally, tree)?;
-        as_test(part, fault)
+        if part.is_test { Ok(part) } else { Err(fault) }
     }
 
     #[cycle(reader)]
@@ -125,7 +106,8 @@ impl Scope<'_> {
         let mut parts: Option<Part> = None;
         for part in &tree.parts {
             let next = self.single_operand(tally, part)?;
-            parts = Some(parts::and(self.alloc, tally, parts, next)?);
+            let joined = parts::and(self.alloc, tally, parts, next)?;
+            parts = Some(joined);
         }
         Ok(tally.whole(parts))
     }
@@ -135,11 +117,12 @@ impl Scope<'_> {
         ensures { ReadsTest self.now (λ e arities. operand (is_predicate e (single_tree tree.now)) (single_fault e.words (single_tree tree.now)) (read_single e (single_tree tree.now) arities)) tally.old tally.new result }
     {
         let fault = self.single_fault(tree);
-        if !self.is_predicate(tree) {
+        let is_predicate = self.is_predicate(tree);
+        if !is_predicate {
             return Err(fault);
         }
         let part = self.single(tally, tree)?;
-        as_test(part, fault)
+        if part.is_test { Ok(part) } else { Err(fault) }
     }
 
     #[cycle(reader)]
@@ -149,12 +132,14 @@ impl Scope<'_> {
         match tree {
             Single::Not { part, .. } => {
                 let part = self.single_operand(tally, part)?;
-                parts::not(self.alloc, tally, part)
+                let negated = parts::not(self.alloc, tally, part)?;
+                Ok(negated)
             }
             Single::Group { body, .. } => self.policy(tally, body),
             Single::Atomic { body, .. } => {
                 let body = self.policy(tally, body)?;
-                parts::atomic(self.alloc, tally, body)
+                let whole = parts::atomic(self.alloc, tally, body)?;
+                Ok(whole)
             }
             Single::Name(name) => self.named(tally, *name),
             Single::Id { .. } => Ok(tally.leaf(Pol::Filter(Pred::Id))),

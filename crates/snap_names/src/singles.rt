@@ -75,7 +75,10 @@ impl Scope<'_> {
     }
 
     // A test of a split field.
-    fn split_test(&self, comps: (u16, u16), prefix: u8, value: Value) -> Result<Pred, NameFault> {
+    fn split_test(&self, comps: (u16, u16), prefix: u8, value: Value) -> Result<Pred, NameFault>
+        ensures ok { IfOk result (λ x. split_test (words_of self.now) comps.0 comps.1 prefix value ≡ Ok (core_test x)) }
+        ensures err { Refuses (split_test (words_of self.now) comps.0 comps.1 prefix value) result }
+    {
         match value {
             Value::Prefix { address, length } => {
                 let num = self.split_net(prefix, address, length)?;

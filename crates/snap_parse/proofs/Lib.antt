@@ -1,0 +1,11 @@
+pub mod NextToken
+pub mod Completion
+pub mod Into
+pub mod Out
+pub mod Live
+pub mod Exact
+pub mod Steps
+pub mod Trees
+pub mod Parts
+pub mod Told
+pub mod Unambiguous

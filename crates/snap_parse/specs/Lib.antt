@@ -1,3 +1,6 @@
 pub mod Tree
 pub mod Grammar
+pub mod Kinds
+pub mod Machine
+pub mod Reading
 pub mod Parsing

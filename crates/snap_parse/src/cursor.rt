@@ -1,7 +1,9 @@
 // Reading tokens one by one.
 
-ghost use Rattle.std.specs.Prelude.{◌≡◌, ◌+◌, ◌≤◌, MatchResult};
+ghost use Rattle.std.specs.Prelude.{◌≡◌, ◌+◌, ◌≤◌, ◌∷◌, [], MatchResult};
 ghost use Rattle.snap_parse.specs.Tree.{span_of};
+ghost use Rattle.snap_parse.specs.Machine.{place};
+ghost use Rattle.snap_parse.specs.Reading.{ReadsKind, IsNextIf};
 
 use crate::fault::ParseFault;
 use crate::tree::Span;
@@ -34,7 +36,9 @@ pub fn deeper(depth: u32, at: u32) -> Result<u32, ParseFault>
 }
 
 // The next token, if it's of this kind, and those behind it.
-pub fn next_if<'a>(tokens: &'a [Token], kind: Kind) -> Option<(Token, &'a [Token])> {
+pub fn next_if<'a>(tokens: &'a [Token], kind: Kind) -> Option<(Token, &'a [Token])>
+    ensures { IsNextIf kind tokens.now result }
+{
     let (token, rest) = tokens.split_first()?;
     if token.kind == kind {
         Some((*token, rest))
@@ -52,7 +56,9 @@ pub struct Parser {
 
 impl Parser {
     // The next token and those behind it; at the end, that it's unexpected.
-    pub fn next<'a>(&self, tokens: &'a [Token]) -> Result<(Token, &'a [Token]), ParseFault> {
+    pub fn next<'a>(&self, tokens: &'a [Token]) -> Result<(Token, &'a [Token]), ParseFault>
+        ensures { MatchResult result (λ x. tokens.now ≡ x.0 ∷ (x.1).now) (λ e. (tokens.now ≡ []) × (e ≡ ParseFault.Unexpected self.now.end)) }
+    {
         match tokens.split_first() {
             Some((token, rest)) => Ok((*token, rest)),
             None => Err(ParseFault::Unexpected { at: self.end }),
@@ -60,7 +66,9 @@ impl Parser {
     }
 
     // Where the next token begins, or the text ends.
-    pub fn place(&self, tokens: &[Token]) -> u32 {
+    pub fn place(&self, tokens: &[Token]) -> u32
+        ensures { result ≡ place self.now.end tokens.now }
+    {
         match tokens.first() {
             Some(token) => token.from,
             None => self.end,
@@ -72,7 +80,9 @@ impl Parser {
         &self,
         tokens: &'a [Token],
         kind: Kind,
-    ) -> Result<(Token, &'a [Token]), ParseFault> {
+    ) -> Result<(Token, &'a [Token]), ParseFault>
+        ensures { ReadsKind self.now.end kind tokens.now result }
+    {
         let (token, rest) = self.next(tokens)?;
         if token.kind == kind {
             Ok((token, rest))

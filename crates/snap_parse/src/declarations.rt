@@ -1,5 +1,10 @@
 // Declarations, and the whole program.
 
+ghost use Rattle.std.specs.Prelude.{[]};
+ghost use Rattle.snap_parse.specs.Machine.{run, at_decl, in_field, in_array, in_constant, in_let};
+ghost use Rattle.snap_parse.specs.Reading.{ReadsDecl, ReadsDeclaration, Shortens, ShortensIfSome, Answers};
+ghost use Rattle.snap_parse.specs.declared.cursor.TheConstants.{MAX_DEPTH};
+
 use crate::cursor::{Parser, next_if, span};
 use crate::fault::ParseFault;
 use crate::tree::{Decl, Source};
@@ -7,7 +12,9 @@ use snap_lex::{Key, Kind, Sign, Token};
 
 impl Parser {
     // Declarations and a policy, and nothing behind it.
-    pub fn program(&self, tokens: &[Token]) -> Result<Source, ParseFault> {
+    pub fn program(&self, tokens: &[Token]) -> Result<Source, ParseFault>
+        ensures { Answers result (run MAX_DEPTH self.now.end (at_decl []) tokens.now) }
+    {
         let mut decls = Vec::new(self.alloc);
         let mut rest = tokens;
         while let Some((decl, after)) = self.declaration(rest)? {
@@ -28,22 +35,32 @@ impl Parser {
     fn declaration<'a>(
         &self,
         tokens: &'a [Token],
-    ) -> Result<Option<(Decl, &'a [Token])>, ParseFault> {
-        let Some((token, rest)) = tokens.split_first() else {
-            return Ok(None);
-        };
-        let found = match token.kind {
-            Kind::Key(Key::Field) => self.field(token.from, rest)?,
-            Kind::Key(Key::Array) => self.array(token.from, rest)?,
-            Kind::Key(Key::Const) => self.constant(token.from, rest)?,
-            Kind::Key(Key::Let) => self.binding(token.from, rest)?,
-            _ => return Ok(None),
-        };
-        Ok(Some(found))
+    ) -> Result<Option<(Decl, &'a [Token])>, ParseFault>
+        ensures shortens { ShortensIfSome tokens.now result }
+        ensures reads { ReadsDeclaration MAX_DEPTH self.now.end tokens.now result }
+    {
+        if let Some((token, rest)) = next_if(tokens, Kind::Key(Key::Field)) {
+            let found = self.field(token.from, rest)?;
+            Ok(Some(found))
+        } else if let Some((token, rest)) = next_if(tokens, Kind::Key(Key::Array)) {
+            let found = self.array(token.from, rest)?;
+            Ok(Some(found))
+        } else if let Some((token, rest)) = next_if(tokens, Kind::Key(Key::Const)) {
+            let found = self.constant(token.from, rest)?;
+            Ok(Some(found))
+        } else if let Some((token, rest)) = next_if(tokens, Kind::Key(Key::Let)) {
+            let found = self.binding(token.from, rest)?;
+            Ok(Some(found))
+        } else {
+            Ok(None)
+        }
     }
 
     // What stands behind the `field` at `at`.
-    fn field<'a>(&self, at: u32, tokens: &'a [Token]) -> Result<(Decl, &'a [Token]), ParseFault> {
+    fn field<'a>(&self, at: u32, tokens: &'a [Token]) -> Result<(Decl, &'a [Token]), ParseFault>
+        ensures shortens { Shortens tokens.now result }
+        ensures reads { ReadsDecl MAX_DEPTH self.now.end (λ ds. in_field ds at) tokens.now result }
+    {
         let (word, rest) = self.expect(tokens, Kind::Word)?;
         let name = span(word);
         match next_if(rest, Kind::Sign(Sign::Slash)) {
@@ -62,7 +79,10 @@ impl Parser {
     }
 
     // What stands behind the `array` at `at`.
-    fn array<'a>(&self, at: u32, tokens: &'a [Token]) -> Result<(Decl, &'a [Token]), ParseFault> {
+    fn array<'a>(&self, at: u32, tokens: &'a [Token]) -> Result<(Decl, &'a [Token]), ParseFault>
+        ensures shortens { Shortens tokens.now result }
+        ensures reads { ReadsDecl MAX_DEPTH self.now.end (λ ds. in_array ds at) tokens.now result }
+    {
         let (word, rest) = self.expect(tokens, Kind::Word)?;
         let (_, rest) = self.expect(rest, Kind::Sign(Sign::Semicolon))?;
         Ok((
@@ -75,11 +95,10 @@ impl Parser {
     }
 
     // What stands behind the `const` at `at`.
-    fn constant<'a>(
-        &self,
-        at: u32,
-        tokens: &'a [Token],
-    ) -> Result<(Decl, &'a [Token]), ParseFault> {
+    fn constant<'a>(&self, at: u32, tokens: &'a [Token]) -> Result<(Decl, &'a [Token]), ParseFault>
+        ensures shortens { Shortens tokens.now result }
+        ensures reads { ReadsDecl MAX_DEPTH self.now.end (λ ds. in_constant ds at) tokens.now result }
+    {
         let (word, rest) = self.expect(tokens, Kind::Word)?;
         let (_, rest) = self.expect(rest, Kind::Sign(Sign::Equals))?;
         let (value, rest) = self.literal(rest)?;
@@ -89,7 +108,10 @@ impl Parser {
     }
 
     // What stands behind the `let` at `at`.
-    fn binding<'a>(&self, at: u32, tokens: &'a [Token]) -> Result<(Decl, &'a [Token]), ParseFault> {
+    fn binding<'a>(&self, at: u32, tokens: &'a [Token]) -> Result<(Decl, &'a [Token]), ParseFault>
+        ensures shortens { Shortens tokens.now result }
+        ensures reads { ReadsDecl MAX_DEPTH self.now.end (λ ds. in_let ds at) tokens.now result }
+    {
         let (word, rest) = self.expect(tokens, Kind::Word)?;
         let (open, rest) = self.expect(rest, Kind::Sign(Sign::OpenCurly))?;
         let (body, rest) = self.enclosed(open.from, rest, Kind::Sign(Sign::CloseCurly), 0)?;

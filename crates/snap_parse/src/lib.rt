@@ -13,6 +13,8 @@ pub mod cursor;
 pub mod declarations;
 pub mod fault;
 pub mod policies;
+#[cfg(test)]
+mod tests;
 pub mod tree;
 pub mod values;
 

@@ -1,5 +1,9 @@
 // Policies by recursive descent: a function for each line of the grammar, which gives the tree and the tokens behind it.
 
+ghost use Rattle.std.specs.Prelude.{◌≤◌};
+ghost use Rattle.snap_parse.specs.Reading.{ReadsPolicy, ReadsSequence, ReadsChoice, ReadsBranches, ReadsEither, ReadsBoth, ReadsSingle, ReadsNegation, ReadsEnclosed, ReadsNamed, ReadsPlaced, Shortens, KeepsOrShortens};
+ghost use Rattle.snap_parse.specs.declared.cursor.TheConstants.{MAX_DEPTH};
+
 use crate::cursor::{Parser, deeper, next_if, span};
 use crate::fault::ParseFault;
 use crate::tree::{Both, Choice, Either, Policy, Sequence, Single, Span, Value};
@@ -11,7 +15,11 @@ impl Parser {
         &self,
         tokens: &'a [Token],
         depth: u32,
-    ) -> Result<(Policy, &'a [Token]), ParseFault> {
+    ) -> Result<(Policy, &'a [Token]), ParseFault>
+        requires { depth ≤ MAX_DEPTH }
+        ensures shortens { Shortens tokens.now result }
+        ensures reads { ReadsPolicy MAX_DEPTH self.now.end depth tokens.now result }
+    {
         let at = self.place(tokens);
         let mut parts = Vec::new(self.alloc);
         let mut rest = tokens;
@@ -30,7 +38,11 @@ impl Parser {
         &self,
         tokens: &'a [Token],
         depth: u32,
-    ) -> Result<(Sequence, &'a [Token]), ParseFault> {
+    ) -> Result<(Sequence, &'a [Token]), ParseFault>
+        requires { depth ≤ MAX_DEPTH }
+        ensures shortens { Shortens tokens.now result }
+        ensures reads { ReadsSequence MAX_DEPTH self.now.end depth tokens.now result }
+    {
         let at = self.place(tokens);
         let mut parts = Vec::new(self.alloc);
         let mut rest = tokens;
@@ -49,7 +61,11 @@ impl Parser {
         &self,
         tokens: &'a [Token],
         depth: u32,
-    ) -> Result<(Choice, &'a [Token]), ParseFault> {
+    ) -> Result<(Choice, &'a [Token]), ParseFault>
+        requires { depth ≤ MAX_DEPTH }
+        ensures shortens { Shortens tokens.now result }
+        ensures reads { ReadsChoice MAX_DEPTH self.now.end depth tokens.now result }
+    {
         match next_if(tokens, Kind::Key(Key::If)) {
             Some((token, rest)) => self.branches(token.from, rest, depth),
             None => {
@@ -66,7 +82,11 @@ impl Parser {
         at: u32,
         tokens: &'a [Token],
         depth: u32,
-    ) -> Result<(Choice, &'a [Token]), ParseFault> {
+    ) -> Result<(Choice, &'a [Token]), ParseFault>
+        requires { depth ≤ MAX_DEPTH }
+        ensures shortens { KeepsOrShortens tokens.now result }
+        ensures reads { ReadsBranches MAX_DEPTH self.now.end at depth tokens.now result }
+    {
         let inner = deeper(depth, at)?;
         let (test, rest) = self.either(tokens, inner)?;
         let (_, rest) = self.expect(rest, Kind::Key(Key::Then))?;
@@ -83,7 +103,11 @@ impl Parser {
         &self,
         tokens: &'a [Token],
         depth: u32,
-    ) -> Result<(Either, &'a [Token]), ParseFault> {
+    ) -> Result<(Either, &'a [Token]), ParseFault>
+        requires { depth ≤ MAX_DEPTH }
+        ensures shortens { Shortens tokens.now result }
+        ensures reads { ReadsEither MAX_DEPTH self.now.end depth tokens.now result }
+    {
         let at = self.place(tokens);
         let mut parts = Vec::new(self.alloc);
         let mut rest = tokens;
@@ -98,7 +122,11 @@ impl Parser {
     }
 
     #[cycle(parser)]
-    fn both<'a>(&self, tokens: &'a [Token], depth: u32) -> Result<(Both, &'a [Token]), ParseFault> {
+    fn both<'a>(&self, tokens: &'a [Token], depth: u32) -> Result<(Both, &'a [Token]), ParseFault>
+        requires { depth ≤ MAX_DEPTH }
+        ensures shortens { Shortens tokens.now result }
+        ensures reads { ReadsBoth MAX_DEPTH self.now.end depth tokens.now result }
+    {
         let at = self.place(tokens);
         let mut parts = Vec::new(self.alloc);
         let mut rest = tokens;
@@ -117,27 +145,32 @@ impl Parser {
         &self,
         tokens: &'a [Token],
         depth: u32,
-    ) -> Result<(Single, &'a [Token]), ParseFault> {
-        let (token, rest) = self.next(tokens)?;
-        let at = token.from;
-        match token.kind {
-            Kind::Sign(Sign::Not) => self.negation(at, rest, depth),
-            Kind::Key(Key::Id) => Ok((Single::Id { at }, rest)),
-            Kind::Key(Key::Drop) => Ok((Single::Drop { at }, rest)),
-            Kind::Sign(Sign::OpenRound) => {
-                let (body, rest) = self.enclosed(at, rest, Kind::Sign(Sign::CloseRound), depth)?;
-                let body = Box::new(self.alloc, body)?;
-                Ok((Single::Group { at, body }, rest))
-            }
-            Kind::Key(Key::Atomic) => {
-                let (open, rest) = self.expect(rest, Kind::Sign(Sign::OpenRound))?;
-                let close = Kind::Sign(Sign::CloseRound);
-                let (body, rest) = self.enclosed(open.from, rest, close, depth)?;
-                let body = Box::new(self.alloc, body)?;
-                Ok((Single::Atomic { at, body }, rest))
-            }
-            Kind::Word => self.named(span(token), rest),
-            _ => Err(ParseFault::Unexpected { at }),
+    ) -> Result<(Single, &'a [Token]), ParseFault>
+        requires { depth ≤ MAX_DEPTH }
+        ensures shortens { Shortens tokens.now result }
+        ensures reads { ReadsSingle MAX_DEPTH self.now.end depth tokens.now result }
+    {
+        if let Some((token, rest)) = next_if(tokens, Kind::Sign(Sign::Not)) {
+            self.negation(token.from, rest, depth)
+        } else if let Some((token, rest)) = next_if(tokens, Kind::Sign(Sign::OpenRound)) {
+            let at = token.from;
+            let (policy, rest) = self.enclosed(at, rest, Kind::Sign(Sign::CloseRound), depth)?;
+            let body = Box::new(self.alloc, policy)?;
+            Ok((Single::Group { at, body }, rest))
+        } else if let Some((token, rest)) = next_if(tokens, Kind::Key(Key::Id)) {
+            Ok((Single::Id { at: token.from }, rest))
+        } else if let Some((token, rest)) = next_if(tokens, Kind::Key(Key::Drop)) {
+            Ok((Single::Drop { at: token.from }, rest))
+        } else if let Some((token, rest)) = next_if(tokens, Kind::Key(Key::Atomic)) {
+            let at = token.from;
+            let (open, rest) = self.expect(rest, Kind::Sign(Sign::OpenRound))?;
+            let close = Kind::Sign(Sign::CloseRound);
+            let (atom, rest) = self.enclosed(open.from, rest, close, depth)?;
+            let body = Box::new(self.alloc, atom)?;
+            Ok((Single::Atomic { at, body }, rest))
+        } else {
+            let (word, rest) = self.expect(tokens, Kind::Word)?;
+            self.named(span(word), rest)
         }
     }
 
@@ -148,7 +181,11 @@ impl Parser {
         at: u32,
         tokens: &'a [Token],
         depth: u32,
-    ) -> Result<(Single, &'a [Token]), ParseFault> {
+    ) -> Result<(Single, &'a [Token]), ParseFault>
+        requires { depth ≤ MAX_DEPTH }
+        ensures shortens { KeepsOrShortens tokens.now result }
+        ensures reads { ReadsNegation MAX_DEPTH self.now.end at depth tokens.now result }
+    {
         let inner = deeper(depth, at)?;
         let (part, rest) = self.single(tokens, inner)?;
         let part = Box::new(self.alloc, part)?;
@@ -163,7 +200,11 @@ impl Parser {
         tokens: &'a [Token],
         close: Kind,
         depth: u32,
-    ) -> Result<(Policy, &'a [Token]), ParseFault> {
+    ) -> Result<(Policy, &'a [Token]), ParseFault>
+        requires { depth ≤ MAX_DEPTH }
+        ensures shortens { KeepsOrShortens tokens.now result }
+        ensures reads { ReadsEnclosed MAX_DEPTH self.now.end at close depth tokens.now result }
+    {
         let inner = deeper(depth, at)?;
         let (policy, rest) = self.policy(tokens, inner)?;
         let (_, rest) = self.expect(rest, close)?;
@@ -175,7 +216,10 @@ impl Parser {
         &self,
         name: Span,
         tokens: &'a [Token],
-    ) -> Result<(Single, &'a [Token]), ParseFault> {
+    ) -> Result<(Single, &'a [Token]), ParseFault>
+        ensures shortens { KeepsOrShortens tokens.now result }
+        ensures reads { ReadsNamed MAX_DEPTH self.now.end name tokens.now result }
+    {
         if let Some((_, rest)) = next_if(tokens, Kind::Sign(Sign::Equals)) {
             let (value, rest) = self.value(rest)?;
             Ok((Single::Test { name, value }, rest))
@@ -196,7 +240,10 @@ impl Parser {
         name: Span,
         places: Vec<Value>,
         tokens: &'a [Token],
-    ) -> Result<(Single, &'a [Token]), ParseFault> {
+    ) -> Result<(Single, &'a [Token]), ParseFault>
+        ensures shortens { KeepsOrShortens tokens.now result }
+        ensures reads { ReadsPlaced MAX_DEPTH self.now.end name places.items tokens.now result }
+    {
         if let Some((_, rest)) = next_if(tokens, Kind::Sign(Sign::Equals)) {
             let (value, rest) = self.value(rest)?;
             Ok((

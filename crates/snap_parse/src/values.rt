@@ -1,12 +1,20 @@
 // Literals, values and places.
 
+ghost use Rattle.std.specs.Prelude.{◌≡◌};
+ghost use Rattle.snap_parse.specs.Tree.{span_of};
+ghost use Rattle.snap_parse.specs.Machine.{literal_of};
+ghost use Rattle.snap_parse.specs.Reading.{ReadsLiteral, ReadsValue, ReadsAddress, ReadsPlaces, Shortens, KeepsOrShortens};
+ghost use Rattle.snap_parse.specs.declared.cursor.TheConstants.{MAX_DEPTH};
+
 use crate::cursor::{Parser, next_if, span};
 use crate::fault::ParseFault;
 use crate::tree::{Literal, Span, Value};
 use snap_lex::{Key, Kind, Sign, Token};
 
 // The literal that the token is.
-fn literal_of(token: Token) -> Option<Literal> {
+fn literal_of(token: Token) -> Option<Literal>
+    ensures { result ≡ literal_of token.kind (span_of token) }
+{
     match token.kind {
         Kind::Number => Some(Literal::Number(span(token))),
         Kind::Address => Some(Literal::Address(span(token))),
@@ -18,7 +26,9 @@ fn literal_of(token: Token) -> Option<Literal> {
 
 impl Parser {
     // A literal.
-    pub fn literal<'a>(&self, tokens: &'a [Token]) -> Result<(Literal, &'a [Token]), ParseFault> {
+    pub fn literal<'a>(&self, tokens: &'a [Token]) -> Result<(Literal, &'a [Token]), ParseFault>
+        ensures { ReadsLiteral self.now.end tokens.now result }
+    {
         let (token, rest) = self.next(tokens)?;
         match literal_of(token) {
             Some(literal) => Ok((literal, rest)),
@@ -27,7 +37,10 @@ impl Parser {
     }
 
     // A value.
-    pub fn value<'a>(&self, tokens: &'a [Token]) -> Result<(Value, &'a [Token]), ParseFault> {
+    pub fn value<'a>(&self, tokens: &'a [Token]) -> Result<(Value, &'a [Token]), ParseFault>
+        ensures shortens { Shortens tokens.now result }
+        ensures reads { ReadsValue MAX_DEPTH self.now.end tokens.now result }
+    {
         let (token, rest) = self.next(tokens)?;
         match token.kind {
             Kind::Word => Ok((Value::Name(span(token)), rest)),
@@ -44,7 +57,10 @@ impl Parser {
         &self,
         address: Span,
         tokens: &'a [Token],
-    ) -> Result<(Value, &'a [Token]), ParseFault> {
+    ) -> Result<(Value, &'a [Token]), ParseFault>
+        ensures shortens { KeepsOrShortens tokens.now result }
+        ensures reads { ReadsAddress MAX_DEPTH self.now.end address tokens.now result }
+    {
         match next_if(tokens, Kind::Sign(Sign::Slash)) {
             Some((_, rest)) => {
                 let (token, rest) = self.expect(rest, Kind::Number)?;
@@ -56,7 +72,10 @@ impl Parser {
     }
 
     // The values in a name's places, from behind the first `[`.
-    pub fn places<'a>(&self, tokens: &'a [Token]) -> Result<(Vec<Value>, &'a [Token]), ParseFault> {
+    pub fn places<'a>(&self, tokens: &'a [Token]) -> Result<(Vec<Value>, &'a [Token]), ParseFault>
+        ensures shortens { KeepsOrShortens tokens.now result }
+        ensures reads { ReadsPlaces MAX_DEPTH self.now.end tokens.now result }
+    {
         let mut places = Vec::new(self.alloc);
         let mut rest = tokens;
         'places: loop {

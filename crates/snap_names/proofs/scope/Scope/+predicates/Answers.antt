@@ -1,7 +1,8 @@
 use Rattle.std.proofs.Common.{rules, arith, ◌≡◌, ◌≢◌, ◌∙◌, ℕ, sym, ap, length, get_or, true, false}
 use Rattle.snap_parse.specs.declared.tree.Policy.{out-Policy}
 use Rattle.snap_parse.specs.declared.tree.Either.{out-Either}
-use Rattle.snap_parse.proofs.Trees.{policy_tree-out, sequence_tree-out, either_tree-out, both_tree-out}
+use Rattle.snap_parse.proofs.Trees.{sequence_tree-out, both_tree-out}
+use Rattle.snap_names.proofs.Nodes.{policy_tree-out, either_tree-out}
 use Rattle.snap_names.specs.Parts.{env_in}
 use Rattle.snap_names.specs.Reading.{both_is_predicate, either_is_predicate, sequence_is_predicate, policy_is_predicate}
 use Rattle.snap_names.proofs.Operands.{both_none, both_one, both_many, either_none, either_one, either_many, sequence_one, sequence_other, policy_one, policy_other}
