@@ -32,6 +32,8 @@ use std::alloc::Global;
 /// Refused is the first broken naming rule in text order, `let` bodies that aren't used among them; or, where none is
 /// broken, the first count that passes its limit: 64 components, 64 arrays, 8 atoms of one index, 2,000 core nodes, a
 /// weight of 16,777,216.
+///
+/// What is given is bounded: at most 64 arrays, and no component or array beyond those of the program.
 pub fn resolve(alloc: Global, text: &[u8], source: &Source) -> Result<Program, NameFault>
     ensures ok { IfOk result (λ p. resolved text.now (source_tree source.now) ≡ Ok (core_program p)) }
     ensures bounded { IfOk result IsBounded }
