@@ -1,0 +1,13 @@
+pub mod BoundedCore
+pub mod BoundedDeclared
+pub mod BoundedReading
+pub mod BoundedSenses
+pub mod BoundedSteps
+pub mod Lookups
+pub mod PartLemmas
+pub mod Readings
+pub mod Operands
+pub mod Named
+pub mod Loops
+pub mod CoreSizes
+pub mod Nodes

@@ -1,0 +1,5 @@
+pub mod Core
+pub mod Senses
+pub mod Reading
+pub mod Declarations
+pub mod Parts
