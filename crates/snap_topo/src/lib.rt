@@ -1,0 +1,8 @@
+//! Topologies, read from TOML.
+#![tactic(auto)]
+
+mod document;
+mod listing;
+pub mod lists;
+pub mod names;
+pub mod topology;
