@@ -1,2 +1,5 @@
+pub mod NumberLemmas
 pub mod Numerals
+pub mod Pairs
+pub mod Repeats
 pub mod TableLemmas

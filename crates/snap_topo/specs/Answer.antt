@@ -1,5 +1,5 @@
 -- What is answered for a text: its first fault, or its topology.
-use Rattle.std.specs.Prelude.{◌≡◌, ◌↔◌, ℕ, not, List, [], ◌∷◌, ◌++◌, length, map, find, Contains, Option, Some, None, if◌then◌else◌, nat_lt, Result, Ok, Err, IsOkAnd}
+use Rattle.std.specs.Prelude.{Bool, ◌≡◌, ◌↔◌, ℕ, not, List, [], ◌∷◌, ◌++◌, length, map, find, Contains, Option, Some, None, if◌then◌else◌, nat_lt, Result, Ok, Err, IsOkAnd}
 use Rattle.std.specs.List.{flat_map}
 use Rattle.std.specs.List.Sorted.{IsStrictlySortedBy}
 use Rattle.snap_core.specs.declared.program.Which.{Which}
@@ -31,12 +31,18 @@ first_repeat names = repeat_after [] names
 abbrev pub ends : List ℕ × List ℕ → List (List ℕ)
 ends link = link.0 ∷ link.1 ∷ []
 
+abbrev pub port_name : ℕ × List ℕ → List ℕ
+port_name p = p.1
+
 -- the names in the links as listed, then those in the ports by rising number
 abbrev pub mentioned : Spelled → List (List ℕ)
-mentioned s = flat_map ends s.links ++ map (λ (p : ℕ × List ℕ). p.1) s.ports
+mentioned s = flat_map ends s.links ++ map port_name s.ports
+
+abbrev pub is_unknown : List (List ℕ) → List ℕ → Bool
+is_unknown switches name = not (is_switch switches name)
 
 abbrev pub first_unknown : Spelled → Option (List ℕ)
-first_unknown s = find (λ name. not (is_switch s.switches name)) (mentioned s)
+first_unknown s = find (is_unknown s.switches) (mentioned s)
 
 -- the topology of what a document spells: each link once, and the ports by rising number
 pub record IsTopologyOf (s : Spelled) (t : Topology) : Type 0 where

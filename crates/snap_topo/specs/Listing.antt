@@ -6,8 +6,11 @@ use Rattle.std.specs.declared.alloc.Global.{Global}
 use Rattle.snap_topo.specs.declared.listing.Listing.{Listing}
 use Rattle.snap_topo.specs.Shape.{Spelled}
 
+abbrev pub string_texts : List (String Global) → List (List ℕ)
+string_texts names = map string_bytes names
+
 abbrev pub texts : Vec (String Global) Global → List (List ℕ)
-texts v = map string_bytes v.items
+texts v = string_texts v.items
 
 abbrev pub pair_text : String Global × String Global → List ℕ × List ℕ
 pair_text p = (string_bytes p.0, string_bytes p.1)

@@ -1,6 +1,6 @@
 -- The numbers of switches, for their names.
-use Rattle.std.specs.Prelude.{ℕ, Bool, List, position, unwrap_or, min, max}
-use Rattle.std.specs.List.{list_any}
+use Rattle.std.specs.Prelude.{ℕ, Bool, List, min, max}
+use Rattle.std.specs.List.{list_any, position_or_len}
 use Rattle.std.specs.Str.{bytes_eq}
 use Rattle.snap_core.specs.declared.ports.PortAt.{PortAt}
 
@@ -9,7 +9,7 @@ is_switch switches name = list_any (bytes_eq name) switches
 
 -- a switch's number is its place in the list
 abbrev pub number_of : List (List ℕ) → List ℕ → ℕ
-number_of switches name = unwrap_or (position (bytes_eq name) switches) 0
+number_of switches name = position_or_len (bytes_eq name) switches
 
 -- a link by numbers, the lesser first
 abbrev pub numbered : List (List ℕ) → List ℕ × List ℕ → ℕ × ℕ

@@ -3,6 +3,7 @@
 
 mod document;
 mod listing;
+mod resolve;
 pub mod lists;
 pub mod names;
 pub mod topology;
