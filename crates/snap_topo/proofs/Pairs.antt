@@ -14,7 +14,6 @@ use Rattle.snap_topo.specs.Form.{link_cmp}
 abbrev pub link_eq : ℕ × ℕ → ℕ × ℕ → Bool
 link_eq x y = nat_eq x.0 y.0 && nat_eq x.1 y.1
 
-
 pub link_cmp_total : IsTotalOrder link_cmp
 link_cmp_total = then_total (on_total (λ (p : ℕ × ℕ). p.0) nat_cmp_total) (on_total (λ (p : ℕ × ℕ). p.1) nat_cmp_total)
 

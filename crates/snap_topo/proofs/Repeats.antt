@@ -32,6 +32,7 @@ pub repeats-on : (keys new names : List (String Global)) (i : ℕ) (x owned : St
 repeats-on keys new names i x owned text lt is same own not put =
     let left : string_texts (drop i names) ≡ text ∷ string_texts (drop (i + 1) names) = string_texts-drop names i x lt is ∙ ap (λ t. t ∷ string_texts (drop (i + 1) names)) (sym same) in
     let absent : list_any (λ k. bytes_eq (string_bytes owned) (string_bytes k)) keys ≡ false = ap (λ t. list_any (λ k. bytes_eq t (string_bytes k)) keys) own ∙ not in
-    let texts_new : string_texts new ≡ string_texts keys ++ text ∷ [] = put_keys _ keys new owned absent put ∙ ap (λ t. string_texts keys ++ t ∷ []) own in
-    (ap (λ ts. ts ++ string_texts (drop (i + 1) names)) texts_new ∙ append_assoc (string_texts keys) (text ∷ []) (string_texts (drop (i + 1) names)) ∙ ap (λ ts. string_texts keys ++ ts) (sym left),
-     ap (λ ts. repeat_after ts (string_texts (drop (i + 1) names))) texts_new ∙ sym (repeats-after (string_texts keys) _ (string_texts (drop (i + 1) names)) text left (is_switch-texts text keys ∙ not)))
+    let texts_new : string_texts new ≡ string_texts keys ++ text ∷ [] = put_keys _ keys new owned absent put ∙ ap (λ t. string_texts keys ++ t ∷ []) own in (
+      ap (λ ts. ts ++ string_texts (drop (i + 1) names)) texts_new ∙ append_assoc (string_texts keys) (text ∷ []) (string_texts (drop (i + 1) names)) ∙ ap (λ ts. string_texts keys ++ ts) (sym left),
+      ap (λ ts. repeat_after ts (string_texts (drop (i + 1) names))) texts_new ∙ sym (repeats-after (string_texts keys) _ (string_texts (drop (i + 1) names)) text left (is_switch-texts text keys ∙ not)),
+    )

@@ -3,7 +3,10 @@
 
 mod document;
 mod listing;
-mod resolve;
 pub mod lists;
 pub mod names;
+mod reading;
+mod resolve;
 pub mod topology;
+
+pub use reading::read;

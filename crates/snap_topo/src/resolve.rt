@@ -34,13 +34,22 @@ fn within_limits(listing: &Listing) -> Result<(), TopoFault>
     let links = listing.links.as_slice().len();
     let ports = listing.ports.len();
     if switches > MOST_SWITCHES {
-        return Err(TopoFault::Limit { which: Which::Switches, count: switches as u64 });
+        return Err(TopoFault::Limit {
+            which: Which::Switches,
+            count: switches as u64,
+        });
     }
     if links > MOST_LINKS {
-        return Err(TopoFault::Limit { which: Which::Links, count: links as u64 });
+        return Err(TopoFault::Limit {
+            which: Which::Links,
+            count: links as u64,
+        });
     }
     if ports > MOST_PORTS {
-        return Err(TopoFault::Limit { which: Which::Ports, count: ports as u64 });
+        return Err(TopoFault::Limit {
+            which: Which::Ports,
+            count: ports as u64,
+        });
     }
     Ok(())
 }
@@ -53,7 +62,9 @@ fn numbers_of(alloc: Global, names: &[String]) -> Result<IndexSet<String>, TopoF
     let mut numbers = IndexSet::new(alloc);
     for name in names {
         if numbers.contains(name.as_str()) {
-            return Err(TopoFault::Twice { name: name_of(alloc, name.as_str())? });
+            return Err(TopoFault::Twice {
+                name: name_of(alloc, name.as_str())?,
+            });
         }
         numbers.insert(String::from_str(alloc, name.as_str())?)?;
     }
@@ -68,12 +79,18 @@ fn number(alloc: Global, numbers: &IndexSet<String>, name: &str) -> Result<u16, 
 {
     match numbers.get_index_of(name) {
         Some(i) => Ok(i as u16),
-        None => Err(TopoFault::Unknown { name: name_of(alloc, name)? }),
+        None => Err(TopoFault::Unknown {
+            name: name_of(alloc, name)?,
+        }),
     }
 }
 
 /// A link by numbers, the lesser first.
-fn link_of(alloc: Global, numbers: &IndexSet<String>, link: &(String, String)) -> Result<(u16, u16), TopoFault>
+fn link_of(
+    alloc: Global,
+    numbers: &IndexSet<String>,
+    link: &(String, String),
+) -> Result<(u16, u16), TopoFault>
     requires { index_set_len numbers.now ≤ MOST_SWITCHES }
     ensures ok { IfOk result (λ pair. (find (is_unknown (string_texts numbers.now.keys)) (ends (pair_text link.now)) ≡ None) × (pair ≡ numbered (string_texts numbers.now.keys) (pair_text link.now))) }
     ensures unknown { IfErr result (λ e. e ≢ TopoFault.NoMemory → IsSomeAnd (find (is_unknown (string_texts numbers.now.keys)) (ends (pair_text link.now))) (λ name. e ≡ TopoFault.Unknown name)) }
@@ -84,7 +101,11 @@ fn link_of(alloc: Global, numbers: &IndexSet<String>, link: &(String, String)) -
 }
 
 /// The links by numbers, as listed.
-fn links_of(alloc: Global, numbers: &IndexSet<String>, links: &[(String, String)]) -> Result<Vec<(u16, u16)>, TopoFault>
+fn links_of(
+    alloc: Global,
+    numbers: &IndexSet<String>,
+    links: &[(String, String)],
+) -> Result<Vec<(u16, u16)>, TopoFault>
     requires { index_set_len numbers.now ≤ MOST_SWITCHES }
     ensures ok { IfOk result (λ pairs. (find (is_unknown (string_texts numbers.now.keys)) (flat_map ends (map pair_text links.now)) ≡ None) × (pairs.items ≡ map (numbered (string_texts numbers.now.keys)) (map pair_text links.now))) }
     ensures unknown { IfErr result (λ e. e ≢ TopoFault.NoMemory → IsSomeAnd (find (is_unknown (string_texts numbers.now.keys)) (flat_map ends (map pair_text links.now))) (λ name. e ≡ TopoFault.Unknown name)) }
@@ -97,7 +118,11 @@ fn links_of(alloc: Global, numbers: &IndexSet<String>, links: &[(String, String)
 }
 
 /// The ports by numbers of their switches.
-fn ports_of(alloc: Global, numbers: &IndexSet<String>, ports: &BTreeMap<u32, String>) -> Result<Vec<PortAt>, TopoFault>
+fn ports_of(
+    alloc: Global,
+    numbers: &IndexSet<String>,
+    ports: &BTreeMap<u32, String>,
+) -> Result<Vec<PortAt>, TopoFault>
     requires { index_set_len numbers.now ≤ MOST_SWITCHES }
     ensures ok { IfOk result (λ placed. (find (is_unknown (string_texts numbers.now.keys)) (map port_name (port_texts ports.now)) ≡ None) × (placed.items ≡ map (port_at (string_texts numbers.now.keys)) (port_texts ports.now))) }
     ensures unknown { IfErr result (λ e. e ≢ TopoFault.NoMemory → IsSomeAnd (find (is_unknown (string_texts numbers.now.keys)) (map port_name (port_texts ports.now))) (λ name. e ≡ TopoFault.Unknown name)) }
@@ -129,4 +154,22 @@ fn switches_of(alloc: Global, names: &[String]) -> Result<Switches, AllocError>
         switches.push(name_of(alloc, name.as_str())?)?;
     }
     Ok(Switches::new(switches))
+}
+
+/// The topology of a listing, or its first fault.
+pub(crate) fn resolve(alloc: Global, listing: &Listing) -> Result<Topology, TopoFault>
+    ensures few { IfOk result (λ t. length t.links ≤ length (spelled_by listing.now).links) }
+    ensures answer { MatchResult result (λ t. WithinThen (spelled_by listing.now) (too_many (spelled_by listing.now)) (Ok t))
+        (λ e. e ≢ TopoFault.NoMemory → WithinThen (spelled_by listing.now) (too_many (spelled_by listing.now)) (Err e)) }
+{
+    within_limits(listing)?;
+    let numbers = numbers_of(alloc, &listing.switches)?;
+    let links = links_of(alloc, &numbers, &listing.links)?;
+    let ports = ports_of(alloc, &numbers, &listing.ports)?;
+    let switches = switches_of(alloc, &listing.switches)?;
+    Ok(Topology {
+        switches,
+        links: Links::new(once(links)),
+        ports: Ports::new(ports),
+    })
 }

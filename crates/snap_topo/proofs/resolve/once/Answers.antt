@@ -18,7 +18,9 @@ returns-clause-same c =
     let kept : c.dedup.new.self.items ≡ dedup link_eq c.sort_unstable.new.self.items = dedup_is link_eq _ _ c.dedup.ensures.filtered in
     let old = c.args.links.items in
     let sorted = c.sort_unstable.new.self.items in
-    λ link. (λ here. Contains-permutation sorted old link (IsPermutation-sym old sorted c.sort_unstable.ensures.permutation)
-        (Contains-from_dedup link_eq sorted link (subst (λ (xs : List (ℕ × ℕ)). Contains xs link) kept here)),
+    λ link. (
+      λ here. Contains-permutation sorted old link (IsPermutation-sym old sorted c.sort_unstable.ensures.permutation)
+          (Contains-from_dedup link_eq sorted link (subst (λ (xs : List (ℕ × ℕ)). Contains xs link) kept here)),
       λ there. subst (λ (xs : List (ℕ × ℕ)). Contains xs link) (sym kept)
-        (Contains-dedup link_eq_equiv link_same sorted link (Contains-permutation old sorted link c.sort_unstable.ensures.permutation there)))
+          (Contains-dedup link_eq_equiv link_same sorted link (Contains-permutation old sorted link c.sort_unstable.ensures.permutation there)),
+    )
