@@ -10,3 +10,6 @@ mod resolve;
 pub mod topology;
 
 pub use reading::read;
+
+#[cfg(test)]
+mod tests;

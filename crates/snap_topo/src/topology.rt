@@ -42,10 +42,10 @@ pub enum TopoFault {
     #[error("{count} are too many")]
     Limit { which: Which, count: u64 },
     /// The first switch that stands earlier in the list.
-    #[error("a switch stands twice")]
+    #[error("switch twice")]
     Twice { name: Name },
     /// The first name in the links as listed, or else in the ports by rising number, that is no switch.
-    #[error("an unknown switch")]
+    #[error("unknown switch")]
     Unknown { name: Name },
     /// Memory ran out.
     #[error("out of memory")]
