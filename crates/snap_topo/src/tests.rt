@@ -104,12 +104,19 @@ fn tells_each_fault(rt: HostRuntime) -> Result<(), Fail> {
     Ok(())
 }
 
+fn unknown_name(fault: &TopoFault) -> &[u8] {
+    match fault {
+        TopoFault::Unknown { name } => name.bytes(),
+        _ => b"",
+    }
+}
+
 #[test]
 fn names_the_least_port_of_an_unknown_switch(rt: HostRuntime) -> Result<(), Fail> {
     let text = "switches = [\"a\"]\nlinks = []\n[ports]\n10 = \"x\"\n9 = \"y\"";
     match crate::read(rt.alloc(), text.as_bytes()) {
-        Err(TopoFault::Unknown { name }) => assert_eq!(rt; name.bytes(), b"y".as_slice()),
-        _ => assert!(rt; false),
+        Ok(_topology) => assert!(rt; false),
+        Err(fault) => assert_eq!(rt; unknown_name(&fault), b"y".as_slice()),
     }
     Ok(())
 }

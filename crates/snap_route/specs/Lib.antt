@@ -1,0 +1,5 @@
+pub mod Graphs
+pub mod Hops
+pub mod Search
+pub mod Tables
+pub mod Walks
