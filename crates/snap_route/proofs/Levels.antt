@@ -1,8 +1,9 @@
 -- What a search knows after each level, and at its end.
-use Rattle.std.proofs.Common.{◌≡◌, ◌∙◌, ◌⊎◌, inl, inr, ℕ, zero, suc, ◌+◌, ◌<◌, ◌≤◌, List, [], ◌∷◌, length, get_or, replicate, Option, Some, None, IsSome, is_none, MatchOption, refl, sym, ap, subst, arith}
+use Rattle.std.proofs.Common.{◌≡◌, ◌∙◌, inl, inr, ℕ, zero, suc, ◌+◌, ◌<◌, ◌≤◌, List, [], ◌∷◌, length, take, drop, ◌++◌, replicate, Option, Some, None, IsSome, is_none, MatchOption, refl, sym, ap, subst, arith}
 use Rattle.std.specs.Option.{IsSomeAnd}
 use Rattle.std.specs.List.{Contains, flat_map}
 use Rattle.std.proofs.lemmas.Bool.{cases_eq}
+use Rattle.std.proofs.lemmas.Grind.{common_steps}
 use Rattle.std.proofs.lemmas.List.{length-replicate}
 use Rattle.std.proofs.lemmas.List.Sums.{count_by-le-length}
 use Rattle.snap_route.specs.Walks.{IsWalk, HasWalk, IsDistance}
@@ -121,3 +122,7 @@ Settles-from graph target d ds level none levels = record {
   count = levels.count;
   each = λ v lt. settled graph target v (distance_in ds v) (λ k is. levels.walks v k is) (λ xs walk. closed-walk graph target d ds level none levels xs v walk);
 }
+
+-- what is written back through a slice of a list's length
+pub written-back : {X : Type 0} (n : ℕ) (new old : List X) → length new ≡ length old → n ≡ length old → take n (new ++ drop (length new) old) ≡ new
+written-back n new old same all = grind (arith, common_steps)

@@ -1,6 +1,6 @@
 -- Steps of a search by levels.
-use Rattle.std.proofs.Common.{◌≡◌, ◌∙◌, ◌⊎◌, inl, inr, ℕ, ◌+◌, ◌<◌, ◌≤◌, Bool, true, false, not, cond, List, [], ◌∷◌, ◌++◌, length, get_or, set, take, Option, Some, None, IsSome, is_some, is_none, refl, sym, ap, subst, arith, get_or-set_same, get_or-set_other, length-append, append-nil}
-use Rattle.std.specs.List.{All, Contains, count_by, flat_map}
+use Rattle.std.proofs.Common.{◌≡◌, ◌∙◌, inl, inr, ℕ, ◌+◌, ◌<◌, Bool, true, false, cond, List, [], ◌∷◌, ◌++◌, length, get_or, set, take, Option, Some, None, IsSome, is_some, is_none, refl, sym, ap, subst, arith, get_or-set_same, get_or-set_other, length-append, append-nil}
+use Rattle.std.specs.List.{All, Contains, flat_map}
 use Rattle.std.proofs.lemmas.Bool.{cases_eq}
 use Rattle.std.proofs.lemmas.List.{get_or_read, length-set, take_more}
 use Rattle.std.proofs.lemmas.Grind.{flat_map-append}

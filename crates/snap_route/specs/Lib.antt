@@ -1,3 +1,4 @@
+pub mod Faults
 pub mod Graphs
 pub mod Hops
 pub mod Search

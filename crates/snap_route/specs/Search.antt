@@ -1,7 +1,6 @@
 -- What a search by levels knows.
-use Rattle.std.specs.Prelude.{◌≡◌, ◌≢◌, ◌≤◌, ◌<◌, ◌+◌, ◌⊎◌, ℕ, List, length, Contains, Option, Some, None, IsSome, is_none, count_by, MatchOption, slice_index_or}
-use Rattle.std.specs.Option.{IsSomeAnd}
-use Rattle.snap_route.specs.Walks.{IsWalk, IsDistance, HasWalk}
+use Rattle.std.specs.Prelude.{◌≡◌, ◌<◌, ◌+◌, ◌⊎◌, ℕ, List, length, Contains, Option, Some, None, IsSome, is_none, count_by, MatchOption, slice_index_or}
+use Rattle.snap_route.specs.Walks.{IsDistance, HasWalk}
 use Rattle.snap_route.specs.Graphs.{Adjacent}
 
 -- what is known of a switch's distance

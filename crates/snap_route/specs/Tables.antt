@@ -1,7 +1,7 @@
 -- A table of routes, and when it is that of a topology.
-use Rattle.std.specs.Prelude.{◌≡◌, ◌≢◌, ◌<◌, ◌⊎◌, ℕ, List, [], length, All, slice_index, slice_index_or}
+use Rattle.std.specs.Prelude.{◌≡◌, ◌≢◌, ◌<◌, ℕ, List, [], length, All, slice_index, slice_index_or}
 use Rattle.snap_topo.specs.declared.topology.Topology.{Topology}
-use Rattle.snap_route.specs.Walks.{Linked, HasWalk, IsDistance, IsNext, IsDiameter}
+use Rattle.snap_route.specs.Walks.{Linked, IsDistance, IsNext, IsDiameter, IsFirstApart}
 
 -- from each switch the distance to one target, and the next hop
 pub record Row : Type 0 where
@@ -13,8 +13,14 @@ pub record Table : Type 0 where
   pub rows : List Row
   pub diameter : ℕ
 
+abbrev pub empty_row : Row
+empty_row = record { distances = []; nexts = [] }
+
+abbrev pub row_in : List Row → ℕ → Row
+row_in rows target = slice_index_or rows target empty_row
+
 abbrev pub row_of : Table → ℕ → Row
-row_of t target = slice_index_or t.rows target (record { distances = []; nexts = [] })
+row_of t target = row_in t.rows target
 
 abbrev pub switch_count : Table → ℕ
 switch_count t = length t.rows
@@ -37,13 +43,6 @@ pub record AreRoutes (topology : Topology) (t : Table) : Type 0 where
   pub nexts : (a b : ℕ) → a < length topology.switches → b < length topology.switches → a ≢ b → IsNext (Linked topology.links) a b (next_of t a b)
   pub diameter : IsDiameter (Linked topology.links) (length topology.switches) t.diameter
 
--- the pair of c and d comes before that of a and b
-abbrev pub IsBefore : ℕ → ℕ → ℕ → ℕ → Type 0
-IsBefore c d a b = (c < a) ⊎ ((c ≡ a) × (d < b))
-
 -- the least pair of switches between which there is no walk
-pub record IsUnreachable (topology : Topology) (a b : ℕ) : Type 0 where
-  pub lesser : a < b
-  pub below : b < length topology.switches
-  pub apart : HasWalk (Linked topology.links) a b → ⊥
-  pub least : (c d : ℕ) → c < d → d < length topology.switches → IsBefore c d a b → HasWalk (Linked topology.links) c d
+abbrev pub IsUnreachable : Topology → ℕ → ℕ → Type 0
+IsUnreachable topology a b = IsFirstApart (Linked topology.links) (length topology.switches) a b

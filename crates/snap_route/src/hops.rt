@@ -1,12 +1,22 @@
 //! Next hops towards a switch.
 
-ghost use Rattle.std.specs.Prelude.{◌≡◌, ◌≢◌, ◌<◌, ◌≤◌, ℕ, Contains, IfOk, MatchOption, [], length, slice_index_or};
+ghost use Rattle.std.specs.Prelude.{◌≡◌, ◌⊎◌, ◌<◌, ◌≤◌, ℕ, Contains, IfOk, MatchOption, [], length, slice_index_or};
 ghost use Rattle.snap_route.specs.Graphs.{Adjacent, IsGraph, neighbours_of};
-ghost use Rattle.snap_route.specs.Hops.{IsNearest};
+ghost use Rattle.snap_route.specs.Hops.{HasDistance, IsNearest, is_closer};
 
 use crate::graph::Neighbours;
+use crate::table::Toward;
 use snap_core::NoMemory;
 use std::alloc::Global;
+
+fn is_closer(distances: &[u32], a: u16, b: u16) -> bool
+    requires first { a < length distances.now }
+    requires second { b < length distances.now }
+    ensures { result ≡ is_closer distances.now a b }
+{
+    let (near, far) = (distances[a as usize], distances[b as usize]);
+    near < far || (near == far && a < b)
+}
 
 /// The nearest of some switches, and the one of least number among the nearest.
 fn nearest(switches: &[u16], distances: &[u32]) -> Option<u16>
@@ -15,8 +25,7 @@ fn nearest(switches: &[u16], distances: &[u32]) -> Option<u16>
 {
     let mut best = *switches.first()?;
     for switch in switches {
-        let (near, far) = (distances[*switch as usize], distances[best as usize]);
-        if near < far || (near == far && *switch < best) {
+        if is_closer(distances, *switch, best) {
             best = *switch;
         }
     }
@@ -45,12 +54,24 @@ pub(crate) fn next_hops(
 
 /// The greatest of some distances.
 pub(crate) fn greatest(distances: &[u32]) -> u32
-    ensures reached { [] ≢ distances.now → Contains distances.now result }
+    ensures reached { (result ≡ 0) ⊎ Contains distances.now result }
     ensures bound { (d : ℕ) → Contains distances.now d → d ≤ result }
 {
     let mut most = 0;
     for distance in distances {
         most = most.max(*distance);
+    }
+    most
+}
+
+/// The greatest distance of some rows.
+pub(crate) fn diameter_of(rows: &[Toward]) -> u32
+    ensures reached { (result ≡ 0) ⊎ HasDistance rows.now result }
+    ensures bound { (d : ℕ) → HasDistance rows.now d → d ≤ result }
+{
+    let mut most = 0;
+    for row in rows {
+        most = most.max(greatest(row.distances()));
     }
     most
 }

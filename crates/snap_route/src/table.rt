@@ -1,7 +1,7 @@
 //! Routes, and why a topology has none.
 
 ghost use Rattle.std.specs.Prelude.{◌≡◌, ◌≢◌, ◌<◌, length};
-ghost use Rattle.snap_route.specs.Tables.{distance_of, next_of, switch_count};
+ghost use Rattle.snap_route.specs.Tables.{IsSquare, distance_of, next_of, switch_count};
 
 use snap_core::NoMemory;
 use std::alloc::{AllocError, AllocFailed};
@@ -73,6 +73,13 @@ impl Model for Routes {
 }
 
 impl Routes {
+    pub(crate) fn new(toward: Vec<Toward>, diameter: u32) -> Routes
+        requires { IsSquare (record { rows = toward.items; diameter = diameter }) }
+        ensures { result ≡ record { rows = toward.items; diameter = diameter } }
+    {
+        Routes { toward, diameter }
+    }
+
     /// The least number of links of a walk from `a` to `b`. Takes no memory.
     pub fn distance(&self, a: u16, b: u16) -> u32
         requires from { a < switch_count self.now }

@@ -1,4 +1,4 @@
-use Rattle.std.proofs.Common.{◌≡◌, ◌∙◌, [], ℕ, sym, arith, get_or, refl}
+use Rattle.std.proofs.Common.{[], arith, get_or, refl}
 use Rattle.std.proofs.lemmas.List.Elements.{Contains-get_or}
 use Rattle.snap_route.proofs.Reaching.{neighbours_of-below, neighbours_of-read, reach-level}
 use Rattle.snap_route.proofs.search.next_level.Goals as goal

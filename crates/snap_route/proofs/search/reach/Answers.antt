@@ -1,4 +1,4 @@
-use Rattle.std.proofs.Common.{◌≡◌, ◌∙◌, ℕ, ap, not, true, Vec, Global, arith}
+use Rattle.std.proofs.Common.{◌∙◌, ℕ, ap, not, Vec, Global, arith}
 use Rattle.snap_route.proofs.Reaching.{reach-fresh, reach-known}
 use Rattle.snap_route.proofs.search.reach.Goals as goal
 use Rattle.snap_route.proofs.search.reach.Goals.{then-is_none+in_ok-push, else-is_none}
