@@ -2,39 +2,8 @@
 
 ghost use Rattle.std.specs.Prelude.{◌≡◌};
 
-use snap_core::lists::Name;
 use snap_core::ports::PortAt;
 use std::marker::Model;
-
-/// The names of the switches. A switch's number is the position of its name, from 0.
-#[derive(Debug, Drop)]
-pub struct Switches {
-    names: Vec<Name>,
-}
-
-impl Model for Switches {
-    ghost use Rattle.std.specs.Prelude.{List, ℕ};
-
-    ghost Value = { List (List ℕ) };
-
-    ghost view = { λ a. a.names.items };
-}
-
-impl Switches {
-    /// The list of these names. Takes no memory.
-    pub fn new(names: Vec<Name>) -> Switches
-        ensures { result ≡ names.items }
-    {
-        Switches { names }
-    }
-
-    /// The names. Takes no memory.
-    pub fn items(&self) -> &[Name]
-        ensures { result.now ≡ self.now }
-    {
-        &self.names
-    }
-}
 
 /// Links, each a pair of numbers of switches.
 #[derive(Debug, Drop)]

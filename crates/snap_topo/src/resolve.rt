@@ -10,10 +10,10 @@ ghost use Rattle.snap_topo.specs.Listing.{pair_text, pair_texts, port_texts, spe
 ghost use Rattle.snap_topo.specs.Numbers.{is_switch, number_of, numbered, port_at};
 
 use crate::listing::Listing;
-use crate::lists::{Links, Ports, Switches};
+use crate::lists::{Links, Ports};
 use crate::topology::{MOST_LINKS, MOST_PORTS, MOST_SWITCHES, TopoFault, Topology};
 use indexmap::IndexSet;
-use snap_core::lists::Name;
+use snap_core::lists::{Name, Names};
 use snap_core::ports::PortAt;
 use snap_core::program::Which;
 use std::alloc::{AllocError, Global};
@@ -146,14 +146,14 @@ fn once(mut links: Vec<(u16, u16)>) -> Vec<(u16, u16)>
     links
 }
 
-fn switches_of(alloc: Global, names: &[String]) -> Result<Switches, AllocError>
+fn switches_of(alloc: Global, names: &[String]) -> Result<Names, AllocError>
     ensures { IfOk result (λ switches. switches ≡ string_texts names.now) }
 {
     let mut switches = Vec::new(alloc);
     for name in names {
         switches.push(name_of(alloc, name.as_str())?)?;
     }
-    Ok(Switches::new(switches))
+    Ok(Names::new(switches))
 }
 
 /// The topology of a listing, or its first fault.

@@ -3,8 +3,8 @@
 ghost use Rattle.std.specs.Prelude.{◌≡◌};
 ghost use Rattle.snap_topo.specs.declared.topology.TopoFault.TheVariants.{NoMemory};
 
-use crate::lists::{Links, Ports, Switches};
-use snap_core::lists::Name;
+use crate::lists::{Links, Ports};
+use snap_core::lists::{Name, Names};
 use snap_core::program::Which;
 use std::alloc::{AllocError, AllocFailed};
 use thiserror::Error;
@@ -24,7 +24,8 @@ pub const MOST_PORTS: usize = 1024;
 /// first, links and ports rise, all numbers of switches are below the count, and the limits hold.
 #[derive(Debug, Drop)]
 pub struct Topology {
-    pub switches: Switches,
+    /// The names of the switches. A switch's number is the position of its name, from 0.
+    pub switches: Names,
     pub links: Links,
     pub ports: Ports,
 }
