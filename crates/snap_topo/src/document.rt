@@ -55,7 +55,7 @@ fn has_exact_keys(table: &Table) -> bool
 }
 
 /// The text of a value that is a switch name.
-pub(crate) fn switch_name(value: &Value) -> Option<&str>
+pub fn switch_name(value: &Value) -> Option<&str>
     ensures { option_copied result ≡ name_in (view value.now) }
 {
     let text = value.as_str()?;

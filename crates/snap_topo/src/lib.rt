@@ -1,7 +1,7 @@
 //! Topologies, read from TOML.
 #![tactic(auto)]
 
-mod document;
+pub mod document;
 mod listing;
 pub mod lists;
 pub mod names;

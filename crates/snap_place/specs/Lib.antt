@@ -1,0 +1,5 @@
+pub mod Answer
+pub mod Keywords
+pub mod Shape
+pub mod Texts
+pub mod Together

@@ -1,0 +1,25 @@
+-- Tied variables at one switch.
+use Rattle.std.specs.Prelude.{◌≡◌, ◌≢◌, ◌<◌, ◌⊎◌, ℕ, List, length, slice_index}
+use Rattle.snap_place.specs.declared.placement.PlaceFault.{PlaceFault}
+use Rattle.snap_place.specs.declared.placement.PlaceFault.TheVariants.{Apart}
+
+-- the pair of c and d comes before that of a and b
+abbrev pub IsBefore : ℕ → ℕ → ℕ → ℕ → Type 0
+IsBefore c d a b = (c < a) ⊎ ((c ≡ a) × (d < b))
+
+-- tied variables have one owner
+abbrev pub IsTogether : (ℕ → ℕ → Type 0) → List ℕ → Type 0
+IsTogether tied owners = (a b : ℕ) → a < b → b < length owners → tied a b → slice_index owners a ≡ slice_index owners b
+
+-- a and b are tied and have different owners, and are the first such pair
+pub record IsFirstApart (tied : ℕ → ℕ → Type 0) (owners : List ℕ) (a b : ℕ) : Type 0 where
+  pub lesser : a < b
+  pub below : b < length owners
+  pub together : tied a b
+  pub apart : slice_index owners a ≢ slice_index owners b
+  pub first : (c d : ℕ) → c < d → d < length owners → IsBefore c d a b → tied c d → slice_index owners c ≡ slice_index owners d
+
+-- the fault names the first such pair
+abbrev pub TellsApart : (ℕ → ℕ → Type 0) → List ℕ → PlaceFault → Type 0
+TellsApart tied owners (Apart a b) = IsFirstApart tied owners a b
+TellsApart tied owners _ = ⊥
