@@ -1,6 +1,6 @@
 -- What is answered for the text of a placement: its first fault, or the owners.
-use Rattle.std.specs.Prelude.{◌≡◌, ◌<◌, ℕ, Bool, true, false, not, List, All, length, map, find, position, is_none, slice_index, Option, Some, None, Result, Ok, Err, MatchResult}
-use Rattle.std.specs.List.{list_any}
+use Rattle.std.specs.Prelude.{◌≡◌, ◌<◌, ℕ, Bool, true, false, not, List, All, length, map, find, is_none, slice_index, Option, Some, None, Result, Ok, Err, MatchResult}
+use Rattle.std.specs.List.{list_any, position_from}
 use Rattle.std.specs.Map.{lookup}
 use Rattle.std.specs.Str.{bytes_eq}
 use Rattle.snap_core.specs.declared.program.Program.{Program}
@@ -34,11 +34,11 @@ no_variable vars entries = find (is_unknown vars) entries
 
 -- the first variable without a place
 abbrev pub missing : List (List ℕ) → List (List ℕ × List ℕ) → Option ℕ
-missing vars entries = position (λ name. is_none (place_of entries name)) vars
+missing vars entries = position_from (λ name. is_none (place_of entries name)) 0 vars
 
 -- the first variable whose place is no switch
 abbrev pub no_switch : List (List ℕ) → List (List ℕ) → List (List ℕ × List ℕ) → Option ℕ
-no_switch vars switches entries = position (λ name. not (is_at_switch switches (place_of entries name))) vars
+no_switch vars switches entries = position_from (λ name. not (is_at_switch switches (place_of entries name))) 0 vars
 
 -- each variable's switch
 abbrev pub owners : List (List ℕ) → List (List ℕ) → List (List ℕ × List ℕ) → List ℕ

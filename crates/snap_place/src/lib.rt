@@ -4,3 +4,8 @@
 mod document;
 mod names;
 pub mod placement;
+mod reading;
+mod resolve;
+mod together;
+
+pub use reading::read;

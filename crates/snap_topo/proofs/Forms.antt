@@ -221,7 +221,7 @@ shaped None s is = cc
 
 -- ---- known names
 
-abbrev Known : List (List ℕ) → List ℕ → Type 0
+abbrev pub Known : List (List ℕ) → List ℕ → Type 0
 Known switches name = is_switch switches name ≡ true
 
 find-step : (switches names : List (List ℕ)) (name : List ℕ) (b : Bool) → is_switch switches name ≡ b → cond (not b) (Some name) (find (is_unknown switches) names) ≡ None → Known switches name × (find (is_unknown switches) names ≡ None)
@@ -252,7 +252,7 @@ known-rest : (b d : Bool) → (b || d) ≡ true → b ≡ false → d ≡ true
 known-rest true d is not = cc
 known-rest false d is not = is
 
-number_of-below : (switches : List (List ℕ)) (name : List ℕ) → Known switches name → number_of switches name < length switches
+pub number_of-below : (switches : List (List ℕ)) (name : List ℕ) → Known switches name → number_of switches name < length switches
 number_of-below [] name known = cc
 number_of-below (x ∷ xs) name known =
     let step = number-step (bytes_eq name x) (number_of xs name) (length xs) (λ other. number_of-below xs name (known-rest _ _ known other)) in omega (arith, step)

@@ -4,3 +4,6 @@ use Rattle.snap_place.proofs.names.goes_on.Given as goal
 
 abbrev pub invariant-loop-byte : goal.invariant-loop-byte
 invariant-loop-byte l = goes_on l.rest ≡ goes_on l.text
+
+abbrev pub decreases-loop-byte : goal.decreases-loop-byte
+decreases-loop-byte l = length l.rest
