@@ -9,3 +9,6 @@ mod resolve;
 mod together;
 
 pub use reading::read;
+
+#[cfg(test)]
+mod tests;

@@ -15,21 +15,21 @@ returns-in_err-owners-clause-answer c =
     let program = c.args.program.now in
     let shape = ap entries_of c.in_ok-table.ensures ∙ c.in_ok-entries.ensures in
     rw (p.1, p.2) (λ memory. read-answer (TiedBy c.args.groups.now) (Tied program.body) program.vars c.args.topology.now.switches c.items.result.now c.items-2.result.now (vec_texts c.in_ok-entries.entries) (entry_texts c.as_slice.result.now)
-        (entries_of (document c.args.text.now)) (Err c.in_err-owners.field-0.0) c.items.ensures c.items-2.ensures (ap entry_texts c.as_slice.ensures.value) shape c.requires.groups.tied (c.in_err-owners.ensures memory))
+    (entries_of (document c.args.text.now)) (Err c.in_err-owners.field-0.0) c.items.ensures c.items-2.ensures (ap entry_texts c.as_slice.ensures.value) shape c.requires.groups.tied (c.in_err-owners.ensures memory))
 
 pub returns-clause-answer : goal.returns-clause-answer
 returns-clause-answer c =
     let program = c.args.program.now in
     let shape = ap entries_of c.in_ok-table.ensures ∙ c.in_ok-entries.ensures in
     subst (λ (p : List ℕ). IsAnswer program c.args.topology.now c.args.text.now (Ok p)) (sym c.new.ensures)
-        (read-answer (TiedBy c.args.groups.now) (Tied program.body) program.vars c.args.topology.now.switches c.items.result.now c.items-2.result.now (vec_texts c.in_ok-entries.entries) (entry_texts c.as_slice.result.now)
-            (entries_of (document c.args.text.now)) (Ok c.in_ok-owners.owners.items) c.items.ensures c.items-2.ensures (ap entry_texts c.as_slice.ensures.value) shape c.requires.groups.tied c.in_ok-owners.ensures)
+    (read-answer (TiedBy c.args.groups.now) (Tied program.body) program.vars c.args.topology.now.switches c.items.result.now c.items-2.result.now (vec_texts c.in_ok-entries.entries) (entry_texts c.as_slice.result.now)
+    (entries_of (document c.args.text.now)) (Ok c.in_ok-owners.owners.items) c.items.ensures c.items-2.ensures (ap entry_texts c.as_slice.ensures.value) shape c.requires.groups.tied c.in_ok-owners.ensures)
 
 pub returns-clause-switches : goal.returns-clause-switches
 returns-clause-switches c =
     let program = c.args.program.now in
     let shape = ap entries_of c.in_ok-table.ensures ∙ c.in_ok-entries.ensures in
     let answer = read-answer (TiedBy c.args.groups.now) (Tied program.body) program.vars c.args.topology.now.switches c.items.result.now c.items-2.result.now (vec_texts c.in_ok-entries.entries) (entry_texts c.as_slice.result.now)
-        (entries_of (document c.args.text.now)) (Ok c.in_ok-owners.owners.items) c.items.ensures c.items-2.ensures (ap entry_texts c.as_slice.ensures.value) shape c.requires.groups.tied c.in_ok-owners.ensures in
+    (entries_of (document c.args.text.now)) (Ok c.in_ok-owners.owners.items) c.items.ensures c.items-2.ensures (ap entry_texts c.as_slice.ensures.value) shape c.requires.groups.tied c.in_ok-owners.ensures in
     let placed = read-placed (Tied program.body) program.vars c.args.topology.now.switches (vec_texts c.in_ok-entries.entries) (entries_of (document c.args.text.now)) c.in_ok-owners.owners.items shape answer in
     subst (λ (p : List ℕ). GivesSwitches program c.args.topology.now p) (sym c.new.ensures) (record { count = placed.size; below = placed.below; together = placed.together })
