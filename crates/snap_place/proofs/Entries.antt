@@ -1,5 +1,5 @@
 -- One turn of a loop over the entries of a placement.
-use Rattle.std.proofs.Common.{◌≡◌, ◌∙◌, ℕ, List, [], ◌∷◌, ◌++◌, map, string_bytes, Option, Some, None, option_map, refl, sym, ap, append_assoc, String, Global}
+use Rattle.std.proofs.Common.{◌≡◌, ◌∙◌, ℕ, List, [], ◌∷◌, ◌++◌, string_bytes, Option, Some, None, option_map, refl, sym, ap, append_assoc, String, Global}
 use Rattle.std.proofs.lemmas.List.{map-append}
 use Rattle.toml.specs.declared.value.Value.{Value}
 use Rattle.toml.specs.View.{members_view, view}

@@ -1,6 +1,6 @@
 -- The entries of a table rise, so the first unknown name is the least.
-use Rattle.std.proofs.Common.{◌≡◌, ◌∙◌, ◌≢◌, ℕ, Bool, true, false, cond, List, [], ◌∷◌, map, find, string_bytes, Option, Some, None, Result, Ok, Err, refl, sym, ap, subst, String, Global}
-use Rattle.std.specs.List.{All, AllByRecursion}
+use Rattle.std.proofs.Common.{◌≡◌, ◌∙◌, ◌≢◌, ℕ, Bool, true, false, cond, List, [], ◌∷◌, map, find, string_bytes, ◌++◌, append-nil, option_map, Option, Some, None, Result, Ok, Err, refl, sym, ap, subst, String, Global}
+use Rattle.std.specs.List.{AllByRecursion}
 use Rattle.std.specs.Map.{keys_of}
 use Rattle.std.specs.List.Sorted.{IsStrictlySortedBy}
 use Rattle.std.specs.Option.{IsSomeAnd}
@@ -9,15 +9,16 @@ use Rattle.std.specs.Cmp.Lexicographic.{slice_cmp}
 use Rattle.std.specs.declared.cmp.Ordering.{Ordering}
 use Rattle.std.specs.declared.cmp.Ordering.TheVariants.{Less, Equal, Greater}
 use Rattle.std.proofs.lemmas.Cmp.{nat_list_cmp_total, tied_itself}
-use Rattle.std.proofs.lemmas.List.Elements.{All-nil, All-cons, All-from_recursion}
+use Rattle.std.proofs.lemmas.List.Elements.{All-from_recursion}
 use Rattle.toml.specs.declared.value.Value.{Value}
 use Rattle.toml.specs.View.{members_view, view}
 use Rattle.snap_topo.specs.Shape.{name_in, with_first}
 use Rattle.snap_place.specs.declared.placement.PlaceFault.{PlaceFault}
 use Rattle.snap_place.specs.declared.placement.PlaceFault.TheVariants.{NotToml, Shape, NoVariable, Missing, NoSwitch, Apart, NoMemory}
-use Rattle.snap_place.specs.Answer.{is_unknown, no_variable}
-use Rattle.snap_place.specs.Order.{InByteOrder, IsLeast, TellsLeastOf}
-use Rattle.snap_place.specs.Shape.{entries_in, entry_of}
+use Rattle.snap_place.specs.Answer.{is_unknown, no_variable, missing, no_switch, owners, SwitchThen, MissingThen, VariableThen, IsAnswerFor}
+use Rattle.snap_place.specs.Order.{InByteOrder, IsLeast, TellsLeast, TellsLeastOf}
+use Rattle.snap_place.specs.Shape.{entries_in, entries_of, entry_of}
+use Rattle.snap_topo.specs.Document.{document}
 
 abbrev Entry : Type 0
 Entry = List ℕ × List ℕ
@@ -95,3 +96,67 @@ tells-least vars entries (Missing var) order is = tt
 tells-least vars entries (NoSwitch var) order is = tt
 tells-least vars entries (Apart a b) order is = tt
 tells-least vars entries NoMemory order is = tt
+
+-- ---- at each exit
+
+pub least-not-toml : (vars : List (List ℕ)) (text : List ℕ) (e : PlaceFault) (X : Type 0) → (e ≢ NoMemory → (e ≡ NotToml) × X) → TellsLeast vars text e
+least-not-toml vars text (NoVariable name) X is = let same : NoVariable name ≡ NotToml = (is (λ e. cc)).0 in cc
+least-not-toml vars text NotToml X is = λ entries found. tt
+least-not-toml vars text (Shape rule) X is = λ entries found. tt
+least-not-toml vars text (Missing var) X is = λ entries found. tt
+least-not-toml vars text (NoSwitch var) X is = λ entries found. tt
+least-not-toml vars text (Apart a b) X is = λ entries found. tt
+least-not-toml vars text NoMemory X is = λ entries found. tt
+
+pub least-out-of-shape : (vars : List (List ℕ)) (text : List ℕ) (e : PlaceFault) → (e ≢ NoMemory → entries_of (document text) ≡ Err e) → TellsLeast vars text e
+least-out-of-shape vars text (NoVariable name) is = λ entries found. (let not-ok = is (λ e. cc) in cc)
+least-out-of-shape vars text NotToml is = λ entries found. tt
+least-out-of-shape vars text (Shape rule) is = λ entries found. tt
+least-out-of-shape vars text (Missing var) is = λ entries found. tt
+least-out-of-shape vars text (NoSwitch var) is = λ entries found. tt
+least-out-of-shape vars text (Apart a b) is = λ entries found. tt
+least-out-of-shape vars text NoMemory is = λ entries found. tt
+
+not-later : (T : ℕ → ℕ → Type 0) (owned : List ℕ) (o : Option ℕ) (name : List ℕ) → SwitchThen T owned o (Err (NoVariable name)) → ⊥
+not-later T owned (Some var) name is = cc
+not-later T owned None name is = is
+
+not-missing : (T : ℕ → ℕ → Type 0) (vars switches : List (List ℕ)) (entries : List Entry) (o : Option ℕ) (name : List ℕ) → MissingThen T vars switches entries o (Err (NoVariable name)) → ⊥
+not-missing T vars switches entries (Some var) name is = cc
+not-missing T vars switches entries None name is = not-later T (owners vars switches entries) (no_switch vars switches entries) name is
+
+abbrev fault-err : PlaceFault → Result (List ℕ) PlaceFault
+fault-err e = Err e
+
+of-variable : (T : ℕ → ℕ → Type 0) (vars switches : List (List ℕ)) (entries : List Entry) (o : Option Entry) (name : List ℕ) → VariableThen T vars switches entries o (Err (NoVariable name)) → IsSomeAnd o (λ entry. NoVariable name ≡ NoVariable entry.0)
+of-variable T vars switches entries (Some entry) name is = inner is
+  where
+    inner : {x y : PlaceFault} → fault-err x ≡ fault-err y → x ≡ y
+    inner e = cc
+of-variable T vars switches entries None name is = absurd (not-missing T vars switches entries (missing vars entries) name is)
+
+told : (T : ℕ → ℕ → Type 0) (vars switches : List (List ℕ)) (entries : List Entry) (e : PlaceFault) → InByteOrder entries → (e ≢ NoMemory → IsAnswerFor T vars switches entries (Err e)) → TellsLeastOf vars entries e
+told T vars switches entries (NoVariable name) order is = named vars entries name (no_variable vars entries) refl order (of-variable T vars switches entries (no_variable vars entries) name (is (λ e. cc)))
+told T vars switches entries NotToml order is = tt
+told T vars switches entries (Shape rule) order is = tt
+told T vars switches entries (Missing var) order is = tt
+told T vars switches entries (NoSwitch var) order is = tt
+told T vars switches entries (Apart a b) order is = tt
+told T vars switches entries NoMemory order is = tt
+
+abbrev entries-ok : List Entry → Result (List Entry) PlaceFault
+entries-ok x = Ok x
+
+ok-same : {x y : List Entry} → entries-ok x ≡ entries-ok y → x ≡ y
+ok-same e = cc
+
+pub least-of-answer : (T : ℕ → ℕ → Type 0) (vars names switches : List (List ℕ)) (entries listed : List Entry) (text : List ℕ) (e : PlaceFault) → names ≡ vars → listed ≡ entries → entries_of (document text) ≡ Ok entries → InByteOrder entries
+    → (e ≢ NoMemory → IsAnswerFor T names switches listed (Err e)) → TellsLeast vars text e
+least-of-answer T vars names switches entries listed text e same texts shape order is = λ es found.
+    let equal : entries ≡ es = ok-same (sym shape ∙ found) in
+    subst (λ (x : List Entry). TellsLeastOf vars x e) equal (told T vars switches entries e order (λ memory.
+    subst (λ (x : List (List ℕ)). IsAnswerFor T x switches entries (Err e)) same (subst (λ (x : List Entry). IsAnswerFor T names switches x (Err e)) texts (is memory))))
+
+pub at-end : (so_far : List (List ℕ × List ℕ)) (left : List (String Global × Value)) (o : Option (List (List ℕ × List ℕ))) → left ≡ [] → option_map (λ r. so_far ++ r) (entries_in (members_view left)) ≡ o → o ≡ Some so_far
+at-end so_far left o none kept =
+    sym (subst (λ (l : List (String Global × Value)). option_map (λ r. so_far ++ r) (entries_in (members_view l)) ≡ o) none kept) ∙ ap (λ (x : List Entry). Some x) (append-nil so_far)

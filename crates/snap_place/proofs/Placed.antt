@@ -1,16 +1,14 @@
 -- What is answered at each stage of a reading, and what it gives.
-use Rattle.std.proofs.Common.{◌≡◌, ◌∙◌, ◌↔◌, ◌⊎◌, inl, inr, ℕ, ◌+◌, ◌<◌, ◌≤◌, Bool, true, false, not, cond, List, [], ◌∷◌, length, map, Option, Some, None, is_none, Result, Ok, Err, MatchResult, IfOk, refl, sym, ap, subst, arith, slice_index}
+use Rattle.std.proofs.Common.{◌≡◌, ◌∙◌, ◌↔◌, inl, inr, ℕ, ◌+◌, ◌<◌, Bool, true, false, not, cond, List, [], ◌∷◌, length, Option, Some, None, Result, Ok, Err, refl, sym, ap, subst, arith, slice_index}
 use Rattle.std.specs.Option.{IsSomeAnd}
 use Rattle.std.specs.List.{All, position_from}
 use Rattle.std.proofs.lemmas.List.{length-map}
 use Rattle.std.proofs.lemmas.List.Elements.{All-nil, All-cons}
-use Rattle.snap_dep.specs.Ranks.{Grouping, rank_of}
-use Rattle.snap_topo.specs.Numbers.{is_switch, number_of}
 use Rattle.snap_topo.proofs.Forms.{number_of-below}
 use Rattle.snap_place.specs.declared.placement.PlaceFault.{PlaceFault}
 use Rattle.snap_place.specs.declared.placement.PlaceFault.TheVariants.{NotToml, Shape, NoVariable, Missing, NoSwitch, Apart, NoMemory}
 use Rattle.snap_place.specs.Answer.{place_of, is_at_switch, owner_at, no_variable, missing, no_switch, owners, OwnersThen, SwitchThen, MissingThen, VariableThen, IsAnswerFor, ShapeThen}
-use Rattle.snap_place.specs.Together.{IsBefore, IsTogether, IsTogetherWith, IsFirstApart, IsFirstTorn, TellsApart, TiedBy}
+use Rattle.snap_place.specs.Together.{IsTogether, IsTogetherWith, IsFirstApart, IsFirstTorn, TellsApart}
 
 abbrev Answer : Type 0
 Answer = Result (List ℕ) PlaceFault

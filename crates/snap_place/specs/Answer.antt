@@ -1,5 +1,5 @@
 -- What is answered for the text of a placement: its first fault, or the owners.
-use Rattle.std.specs.Prelude.{◌≡◌, ◌<◌, ℕ, Bool, true, false, not, List, All, length, map, find, is_none, slice_index, Option, Some, None, Result, Ok, Err, MatchResult}
+use Rattle.std.specs.Prelude.{◌≡◌, ◌<◌, ℕ, Bool, false, not, List, All, length, map, find, is_none, Option, Some, None, Result, Ok, Err, MatchResult}
 use Rattle.std.specs.List.{list_any, position_from}
 use Rattle.std.specs.Map.{lookup}
 use Rattle.std.specs.Str.{bytes_eq}

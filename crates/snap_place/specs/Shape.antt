@@ -1,5 +1,5 @@
 -- The shape of a placement's document: which array is placed at which switch, by names.
-use Rattle.std.specs.Prelude.{ℕ, Bool, true, ◌&&◌, List, [], ◌∷◌, Option, Some, None, if◌then◌else◌, Result, Ok, Err}
+use Rattle.std.specs.Prelude.{ℕ, Bool, true, ◌&&◌, List, [], Option, Some, None, if◌then◌else◌, Result, Ok, Err}
 use Rattle.toml.specs.Data.{Members, no_members, member}
 use Rattle.snap_core.specs.Names.{is_name}
 use Rattle.snap_topo.specs.Shape.{name_in, with_first}

@@ -1,8 +1,9 @@
 //! The TOML document of a placement, and its shape.
 
-ghost use Rattle.std.specs.Prelude.{◌≡◌, ◌≢◌, Err, IfOk, MatchResult, None, Ok, Some, option_map};
+ghost use Rattle.std.specs.Prelude.{◌≡◌, ◌≢◌, Err, IfOk, IfSome, MatchResult, None, Ok, Some, option_map};
 ghost use Rattle.toml.specs.View.{table_view};
 ghost use Rattle.snap_topo.specs.Document.{document};
+ghost use Rattle.snap_place.specs.Order.{InByteOrder};
 ghost use Rattle.snap_place.specs.Shape.{entries_in, entries_of, has_names};
 ghost use Rattle.snap_place.specs.Texts.{entry_texts, vec_texts};
 
@@ -43,9 +44,10 @@ fn has_names(table: &Table) -> bool
 
 /// The names with their switches, where each value is a switch name.
 fn entries(alloc: Global, table: &Table) -> Result<Option<Vec<(String, String)>>, AllocError>
-    ensures { IfOk result (λ r. option_map vec_texts r ≡ entries_in (table_view table.now)) }
+    ensures entries { IfOk result (λ r. option_map vec_texts r ≡ entries_in (table_view table.now)) }
+    ensures order { IfOk result (λ r. IfSome r (λ v. InByteOrder (vec_texts v))) }
 {
-    let mut entries = Vec::new(alloc);
+    let mut entries = Vec::with_capacity(alloc, table.len())?;
     for (key, value) in table {
         let Some(place) = switch_name(value) else {
             return Ok(None);
@@ -59,7 +61,8 @@ fn entries(alloc: Global, table: &Table) -> Result<Option<Vec<(String, String)>>
 
 /// The entries of a document of the right shape.
 pub(crate) fn shaped(alloc: Global, table: &Table) -> Result<Vec<(String, String)>, PlaceFault>
-    ensures { MatchResult result (λ v. entries_of (Some (table_view table.now)) ≡ Ok (vec_texts v))
+    ensures order { IfOk result (λ v. InByteOrder (vec_texts v)) }
+    ensures entries { MatchResult result (λ v. entries_of (Some (table_view table.now)) ≡ Ok (vec_texts v))
         (λ e. e ≢ PlaceFault.NoMemory → entries_of (Some (table_view table.now)) ≡ Err e) }
 {
     if !has_names(table) {

@@ -1,9 +1,10 @@
 //! From a text to its placement.
 
-ghost use Rattle.std.specs.Prelude.{◌≢◌, Err, IfOk, MatchResult, Ok, length};
+ghost use Rattle.std.specs.Prelude.{◌≢◌, Err, IfErr, IfOk, MatchResult, Ok, length};
 ghost use Rattle.snap_dep.specs.Ranks.{IsGrouping};
 ghost use Rattle.snap_topo.specs.Form.{IsInForm};
 ghost use Rattle.snap_place.specs.Answer.{GivesSwitches, IsAnswer};
+ghost use Rattle.snap_place.specs.Order.{TellsLeast};
 
 use crate::document::{read_document, shaped};
 use crate::placement::{PlaceFault, Placement};
@@ -28,6 +29,7 @@ pub fn read(
     requires form { IsInForm topology.now }
     ensures answer { MatchResult result (λ p. IsAnswer program.now topology.now text.now (Ok p))
         (λ e. e ≢ PlaceFault.NoMemory → IsAnswer program.now topology.now text.now (Err e)) }
+    ensures least { IfErr result (TellsLeast program.now.vars text.now) }
     ensures switches { IfOk result (GivesSwitches program.now topology.now) }
 {
     let _count = groups.count();
