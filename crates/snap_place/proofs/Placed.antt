@@ -1,0 +1,162 @@
+-- What is answered at each stage of a reading, and what it gives.
+use Rattle.std.proofs.Common.{◌≡◌, ◌∙◌, ◌↔◌, inl, inr, ℕ, ◌+◌, ◌<◌, Bool, true, false, not, cond, List, [], ◌∷◌, length, Option, Some, None, Result, Ok, Err, refl, sym, ap, subst, arith, slice_index}
+use Rattle.std.specs.Option.{IsSomeAnd}
+use Rattle.std.specs.List.{All, position_from}
+use Rattle.std.proofs.lemmas.List.{length-map}
+use Rattle.std.proofs.lemmas.List.Elements.{All-nil, All-cons}
+use Rattle.snap_topo.proofs.Forms.{number_of-below}
+use Rattle.snap_place.specs.declared.placement.PlaceFault.{PlaceFault}
+use Rattle.snap_place.specs.declared.placement.PlaceFault.TheVariants.{NotToml, Shape, NoVariable, Missing, NoSwitch, Apart, NoMemory}
+use Rattle.snap_place.specs.Answer.{place_of, is_at_switch, owner_at, no_variable, missing, no_switch, owners, OwnersThen, SwitchThen, MissingThen, VariableThen, IsAnswerFor, ShapeThen}
+use Rattle.snap_place.specs.Together.{IsTogether, IsTogetherWith, IsFirstApart, IsFirstTorn, TellsApart}
+
+abbrev Answer : Type 0
+Answer = Result (List ℕ) PlaceFault
+
+-- ---- the stages
+
+pub told-variable : (T : ℕ → ℕ → Type 0) (vars switches : List (List ℕ)) (entries : List (List ℕ × List ℕ)) (o : Option (List ℕ × List ℕ)) (e : PlaceFault) → IsSomeAnd o (λ entry. e ≡ NoVariable entry.0) → VariableThen T vars switches entries o (Err e)
+told-variable T vars switches entries (Some entry) e is = ap Err is
+told-variable T vars switches entries None e is = absurd is
+
+told-missing : (T : ℕ → ℕ → Type 0) (vars switches : List (List ℕ)) (entries : List (List ℕ × List ℕ)) (o : Option ℕ) (e : PlaceFault) → IsSomeAnd o (λ var. e ≡ Missing var) → MissingThen T vars switches entries o (Err e)
+told-missing T vars switches entries (Some var) e is = ap Err is
+told-missing T vars switches entries None e is = absurd is
+
+told-switch : (T : ℕ → ℕ → Type 0) (owned : List ℕ) (o : Option ℕ) (e : PlaceFault) → IsSomeAnd o (λ var. e ≡ NoSwitch var) → SwitchThen T owned o (Err e)
+told-switch T owned (Some var) e is = ap Err is
+told-switch T owned None e is = absurd is
+
+pub after-variables : (T : ℕ → ℕ → Type 0) (vars switches : List (List ℕ)) (entries : List (List ℕ × List ℕ)) (r : Answer) → no_variable vars entries ≡ None → MissingThen T vars switches entries (missing vars entries) r → IsAnswerFor T vars switches entries r
+after-variables T vars switches entries r known h = subst (λ (o : Option (List ℕ × List ℕ)). VariableThen T vars switches entries o r) (sym known) h
+
+pub after-missing : (T : ℕ → ℕ → Type 0) (vars switches : List (List ℕ)) (entries : List (List ℕ × List ℕ)) (r : Answer) → no_variable vars entries ≡ None → missing vars entries ≡ None → SwitchThen T (owners vars switches entries) (no_switch vars switches entries) r → IsAnswerFor T vars switches entries r
+after-missing T vars switches entries r known placed h = after-variables T vars switches entries r known (subst (λ (o : Option ℕ). MissingThen T vars switches entries o r) (sym placed) h)
+
+pub after-switches : (T : ℕ → ℕ → Type 0) (vars switches : List (List ℕ)) (entries : List (List ℕ × List ℕ)) (r : Answer) → no_variable vars entries ≡ None → missing vars entries ≡ None → no_switch vars switches entries ≡ None → OwnersThen T (owners vars switches entries) r → IsAnswerFor T vars switches entries r
+after-switches T vars switches entries r known placed found h = after-missing T vars switches entries r known placed (subst (λ (o : Option ℕ). SwitchThen T (owners vars switches entries) o r) (sym found) h)
+
+pub answer-missing : (T : ℕ → ℕ → Type 0) (vars switches : List (List ℕ)) (entries : List (List ℕ × List ℕ)) (e : PlaceFault) → no_variable vars entries ≡ None → IsSomeAnd (missing vars entries) (λ var. e ≡ Missing var) → IsAnswerFor T vars switches entries (Err e)
+answer-missing T vars switches entries e known is = after-variables T vars switches entries (Err e) known (told-missing T vars switches entries (missing vars entries) e is)
+
+pub answer-switch : (T : ℕ → ℕ → Type 0) (vars switches : List (List ℕ)) (entries : List (List ℕ × List ℕ)) (e : PlaceFault) → no_variable vars entries ≡ None → missing vars entries ≡ None → IsSomeAnd (no_switch vars switches entries) (λ var. e ≡ NoSwitch var) → IsAnswerFor T vars switches entries (Err e)
+answer-switch T vars switches entries e known placed is = after-missing T vars switches entries (Err e) known placed (told-switch T (owners vars switches entries) (no_switch vars switches entries) e is)
+
+-- ---- pairs
+
+pub first-apart : (T : ℕ → ℕ → Type 0) (owned : List ℕ) (a b : ℕ) → ((c : ℕ) → c < a → IsTogetherWith T owned c) → IsFirstTorn T owned a b → IsFirstApart T owned a b
+first-apart T owned a b before torn = record {
+  lesser = torn.lesser;
+  below = torn.below;
+  together = torn.together;
+  apart = torn.apart;
+  first = λ c d lt low earlier tied. elim earlier [
+    | inl smaller ↦ before c smaller d lt low tied
+    | inr here ↦ ap (slice_index owned) here.0 ∙ torn.first d (let same = here.0 in omega arith) here.1 (subst (λ (x : ℕ). T x d) here.0 tied)
+  ];
+}
+
+apart-by : (T U : ℕ → ℕ → Type 0) (owned : List ℕ) → ((a b : ℕ) → a < length owned → b < length owned → T a b ↔ U a b) → (a b : ℕ) → IsFirstApart T owned a b → IsFirstApart U owned a b
+apart-by T U owned same a b is = record {
+  lesser = is.lesser;
+  below = is.below;
+  together = (let lt = is.lesser in let low = is.below in (same a b (omega arith) low).0 is.together);
+  apart = is.apart;
+  first = λ c d lt low earlier tied. is.first c d lt low earlier ((same c d (omega arith) low).1 tied);
+}
+
+together-by : (T U : ℕ → ℕ → Type 0) (owned : List ℕ) → ((a b : ℕ) → a < length owned → b < length owned → T a b ↔ U a b) → IsTogether T owned → IsTogether U owned
+together-by T U owned same is a b lt low tied = is a b lt low ((same a b (omega arith) low).1 tied)
+
+tells-by : (T U : ℕ → ℕ → Type 0) (owned : List ℕ) → ((a b : ℕ) → a < length owned → b < length owned → T a b ↔ U a b) → (e : PlaceFault) → TellsApart T owned e → TellsApart U owned e
+tells-by T U owned same (Apart a b) is = apart-by T U owned same a b is
+tells-by T U owned same NotToml is = absurd is
+tells-by T U owned same (Shape rule) is = absurd is
+tells-by T U owned same (NoVariable name) is = absurd is
+tells-by T U owned same (Missing var) is = absurd is
+tells-by T U owned same (NoSwitch var) is = absurd is
+tells-by T U owned same NoMemory is = absurd is
+
+-- ---- by another relation
+
+owners-by : (T U : ℕ → ℕ → Type 0) (owned : List ℕ) (r : Answer) → ((a b : ℕ) → a < length owned → b < length owned → T a b ↔ U a b) → OwnersThen T owned r → OwnersThen U owned r
+owners-by T U owned (Ok p) same is = (is.0, together-by T U owned same is.1)
+owners-by T U owned (Err e) same is = tells-by T U owned same e is
+
+switch-by : (T U : ℕ → ℕ → Type 0) (owned : List ℕ) (o : Option ℕ) (r : Answer) → ((a b : ℕ) → a < length owned → b < length owned → T a b ↔ U a b) → SwitchThen T owned o r → SwitchThen U owned o r
+switch-by T U owned (Some var) r same is = is
+switch-by T U owned None r same is = owners-by T U owned r same is
+
+length-owners : (vars switches : List (List ℕ)) (entries : List (List ℕ × List ℕ)) → length (owners vars switches entries) ≡ length vars
+length-owners vars switches entries = length-map vars (λ name. owner_at switches (place_of entries name))
+
+missing-by : (T U : ℕ → ℕ → Type 0) (vars switches : List (List ℕ)) (entries : List (List ℕ × List ℕ)) (o : Option ℕ) (r : Answer) → ((a b : ℕ) → a < length vars → b < length vars → T a b ↔ U a b) → MissingThen T vars switches entries o r → MissingThen U vars switches entries o r
+missing-by T U vars switches entries (Some var) r same is = is
+missing-by T U vars switches entries None r same is =
+    let size = length-owners vars switches entries in
+    switch-by T U (owners vars switches entries) (no_switch vars switches entries) r (λ a b low also. same a b (omega arith) (omega arith)) is
+
+variable-by : (T U : ℕ → ℕ → Type 0) (vars switches : List (List ℕ)) (entries : List (List ℕ × List ℕ)) (o : Option (List ℕ × List ℕ)) (r : Answer) → ((a b : ℕ) → a < length vars → b < length vars → T a b ↔ U a b) → VariableThen T vars switches entries o r → VariableThen U vars switches entries o r
+variable-by T U vars switches entries (Some entry) r same is = is
+variable-by T U vars switches entries None r same is = missing-by T U vars switches entries (missing vars entries) r same is
+
+pub answer-by : (T U : ℕ → ℕ → Type 0) (vars switches : List (List ℕ)) (entries : List (List ℕ × List ℕ)) (r : Answer) → ((a b : ℕ) → a < length vars → b < length vars → T a b ↔ U a b) → IsAnswerFor T vars switches entries r → IsAnswerFor U vars switches entries r
+answer-by T U vars switches entries r same is = variable-by T U vars switches entries (no_variable vars entries) r same is
+
+-- ---- owners are switches
+
+at-step : (b : Bool) (i : ℕ) (o : Option ℕ) → cond b (Some i) o ≡ None → (b ≡ false) × (o ≡ None)
+at-step true i o is = cc
+at-step false i o is = (refl, is)
+
+not-false : (b : Bool) → not b ≡ false → b ≡ true
+not-false true is = refl
+not-false false is = cc
+
+owner-below : (switches : List (List ℕ)) (o : Option (List ℕ)) → is_at_switch switches o ≡ true → owner_at switches o < length switches
+owner-below switches (Some place) is = number_of-below switches place is
+owner-below switches None is = cc
+
+owners-below : (vars switches : List (List ℕ)) (entries : List (List ℕ × List ℕ)) (i : ℕ) → position_from (λ name. not (is_at_switch switches (place_of entries name))) i vars ≡ None → All (λ at. at < length switches) (owners vars switches entries)
+owners-below [] switches entries i is = All-nil (λ at. at < length switches)
+owners-below (v ∷ vars) switches entries i is =
+    let parts = at-step (not (is_at_switch switches (place_of entries v))) i (position_from (λ name. not (is_at_switch switches (place_of entries name))) (i + 1) vars) is in
+    All-cons (λ at. at < length switches) (owner_at switches (place_of entries v)) (owners vars switches entries) (owner-below switches (place_of entries v) (not-false _ parts.0)) (owners-below vars switches entries (i + 1) parts.1)
+
+-- what an answer of owners is like
+pub record IsPlaced (T : ℕ → ℕ → Type 0) (n count : ℕ) (owned : List ℕ) : Type 0 where
+  pub size : length owned ≡ n
+  pub below : All (λ at. at < count) owned
+  pub together : IsTogether T owned
+
+placed-owners : (T : ℕ → ℕ → Type 0) (vars switches : List (List ℕ)) (entries : List (List ℕ × List ℕ)) (p : List ℕ) → no_switch vars switches entries ≡ None → OwnersThen T (owners vars switches entries) (Ok p) → IsPlaced T (length vars) (length switches) p
+placed-owners T vars switches entries p found is =
+    subst (λ (o : List ℕ). IsPlaced T (length vars) (length switches) o) (sym is.0) (record { size = length-owners vars switches entries; below = owners-below vars switches entries 0 found; together = is.1 })
+
+placed-switch : (T : ℕ → ℕ → Type 0) (vars switches : List (List ℕ)) (entries : List (List ℕ × List ℕ)) (p : List ℕ) (o : Option ℕ) → no_switch vars switches entries ≡ o → SwitchThen T (owners vars switches entries) o (Ok p) → IsPlaced T (length vars) (length switches) p
+placed-switch T vars switches entries p (Some var) found is = cc
+placed-switch T vars switches entries p None found is = placed-owners T vars switches entries p found is
+
+placed-missing : (T : ℕ → ℕ → Type 0) (vars switches : List (List ℕ)) (entries : List (List ℕ × List ℕ)) (p : List ℕ) (o : Option ℕ) → MissingThen T vars switches entries o (Ok p) → IsPlaced T (length vars) (length switches) p
+placed-missing T vars switches entries p (Some var) is = cc
+placed-missing T vars switches entries p None is = placed-switch T vars switches entries p (no_switch vars switches entries) refl is
+
+placed-variable : (T : ℕ → ℕ → Type 0) (vars switches : List (List ℕ)) (entries : List (List ℕ × List ℕ)) (p : List ℕ) (o : Option (List ℕ × List ℕ)) → VariableThen T vars switches entries o (Ok p) → IsPlaced T (length vars) (length switches) p
+placed-variable T vars switches entries p (Some entry) is = cc
+placed-variable T vars switches entries p None is = placed-missing T vars switches entries p (missing vars entries) is
+
+pub placed-from : (T : ℕ → ℕ → Type 0) (vars switches : List (List ℕ)) (entries : List (List ℕ × List ℕ)) (p : List ℕ) → IsAnswerFor T vars switches entries (Ok p) → IsPlaced T (length vars) (length switches) p
+placed-from T vars switches entries p is = placed-variable T vars switches entries p (no_variable vars entries) is
+
+-- ---- the whole
+
+pub read-answer : (T U : ℕ → ℕ → Type 0) (vars switches names places : List (List ℕ)) (entries listed : List (List ℕ × List ℕ)) (o : Result (List (List ℕ × List ℕ)) PlaceFault) (r : Answer) → names ≡ vars → places ≡ switches → listed ≡ entries → o ≡ Ok entries
+    → ((a b : ℕ) → a < length vars → b < length vars → T a b ↔ U a b) → IsAnswerFor T names places listed r → ShapeThen U vars switches o r
+read-answer T U vars switches names places entries listed o r same also texts shape tied is =
+    let by-names = subst (λ (x : List (List ℕ)). IsAnswerFor T x places listed r) same is in
+    let by-places = subst (λ (x : List (List ℕ)). IsAnswerFor T vars x listed r) also by-names in
+    let by-texts = subst (λ (x : List (List ℕ × List ℕ)). IsAnswerFor T vars switches x r) texts by-places in
+    subst (λ (x : Result (List (List ℕ × List ℕ)) PlaceFault). ShapeThen U vars switches x r) (sym shape) (answer-by T U vars switches entries r tied by-texts)
+
+pub read-placed : (U : ℕ → ℕ → Type 0) (vars switches : List (List ℕ)) (entries : List (List ℕ × List ℕ)) (o : Result (List (List ℕ × List ℕ)) PlaceFault) (p : List ℕ) → o ≡ Ok entries → ShapeThen U vars switches o (Ok p) → IsPlaced U (length vars) (length switches) p
+read-placed U vars switches entries o p shape is = placed-from U vars switches entries p (subst (λ (x : Result (List (List ℕ × List ℕ)) PlaceFault). ShapeThen U vars switches x (Ok p)) shape is)

@@ -1,0 +1,6 @@
+pub mod Answer
+pub mod Keywords
+pub mod Order
+pub mod Shape
+pub mod Texts
+pub mod Together

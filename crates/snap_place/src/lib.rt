@@ -1,0 +1,14 @@
+//! Placements of a program's arrays, read from TOML.
+#![tactic(auto)]
+
+mod document;
+mod names;
+pub mod placement;
+mod reading;
+mod resolve;
+mod together;
+
+pub use reading::read;
+
+#[cfg(test)]
+mod tests;

@@ -1,0 +1,142 @@
+//! The switches of the variables, by number.
+
+ghost use Rattle.std.specs.Prelude.{◌≡◌, ◌≢◌, ◌≤◌, ◌^◌, Err, IfErr, IfOk, IsSomeAnd, MatchOption, MatchResult, None, Ok, OnOk, false, length, true};
+ghost use Rattle.std.specs.List.{list_any};
+ghost use Rattle.std.specs.Option.{option_copied};
+ghost use Rattle.std.specs.Str.{bytes_eq};
+ghost use Rattle.snap_topo.specs.Numbers.{is_switch, number_of};
+ghost use Rattle.snap_place.specs.Answer.{IsAnswerFor, is_at_switch, missing, no_switch, no_variable, owner_at, owners, place_of};
+ghost use Rattle.snap_place.specs.Texts.{entry_texts};
+ghost use Rattle.snap_place.specs.Together.{TiedBy};
+
+use crate::placement::PlaceFault;
+use crate::together::together;
+use snap_core::lists::Name;
+use snap_dep::groups::Groups;
+use std::alloc::{AllocError, Global};
+
+fn name_of(alloc: Global, bytes: &[u8]) -> Result<Name, AllocError>
+    ensures { IfOk result (λ name. name ≡ bytes.now) }
+{
+    Ok(Name::new(Vec::from_slice(alloc, bytes)?))
+}
+
+fn is_among(names: &[Name], name: &[u8]) -> bool
+    ensures { result ≡ list_any (bytes_eq name.now) names.now }
+{
+    for known in names {
+        if name == known.bytes() {
+            return true;
+        }
+    }
+    false
+}
+
+/// Refuses a placed name that is no variable.
+fn known(alloc: Global, entries: &[(String, String)], vars: &[Name]) -> Result<(), PlaceFault>
+    ensures ok { OnOk result (no_variable vars.now (entry_texts entries.now) ≡ None) }
+    ensures unknown { IfErr result (λ e. e ≢ PlaceFault.NoMemory → IsSomeAnd (no_variable vars.now (entry_texts entries.now)) (λ entry. e ≡ PlaceFault.NoVariable entry.0)) }
+{
+    for (name, _place) in entries {
+        if !is_among(vars, name.as_bytes()) {
+            return Err(PlaceFault::NoVariable {
+                name: name_of(alloc, name.as_bytes())?,
+            });
+        }
+    }
+    Ok(())
+}
+
+/// The switch name at which a variable is placed.
+fn place_of<'a>(entries: &'a [(String, String)], name: &[u8]) -> Option<&'a [u8]>
+    ensures { option_copied result ≡ place_of (entry_texts entries.now) name.now }
+{
+    for (var, place) in entries {
+        if name == var.as_bytes() {
+            return Some(place.as_bytes());
+        }
+    }
+    None
+}
+
+/// Refuses a variable without a place.
+fn placed(entries: &[(String, String)], vars: &[Name]) -> Result<(), PlaceFault>
+    requires { length vars.now ≤ 64 }
+    ensures ok { OnOk result (missing vars.now (entry_texts entries.now) ≡ None) }
+    ensures missing { IfErr result (λ e. IsSomeAnd (missing vars.now (entry_texts entries.now)) (λ var. e ≡ PlaceFault.Missing var)) }
+{
+    for (var, name) in vars.iter().enumerate() {
+        if place_of(entries, name.bytes()).is_none() {
+            return Err(PlaceFault::Missing { var: var as u16 });
+        }
+    }
+    Ok(())
+}
+
+/// The number of a switch.
+fn switch_number(switches: &[Name], name: &[u8]) -> Option<u16>
+    requires { length switches.now ≤ 2 ^ 16 }
+    ensures { MatchOption result (is_switch switches.now name.now ≡ false) (λ n. (is_switch switches.now name.now ≡ true) × (n ≡ number_of switches.now name.now)) }
+{
+    for (at, switch) in switches.iter().enumerate() {
+        if name == switch.bytes() {
+            return Some(at as u16);
+        }
+    }
+    None
+}
+
+/// The number of the switch at which a variable is placed.
+fn owner(entries: &[(String, String)], switches: &[Name], name: &[u8]) -> Option<u16>
+    requires { length switches.now ≤ 2 ^ 16 }
+    ensures { MatchOption result (is_at_switch switches.now (place_of (entry_texts entries.now) name.now) ≡ false)
+        (λ n. (is_at_switch switches.now (place_of (entry_texts entries.now) name.now) ≡ true) × (n ≡ owner_at switches.now (place_of (entry_texts entries.now) name.now))) }
+{
+    match place_of(entries, name) {
+        Some(place) => switch_number(switches, place),
+        None => None,
+    }
+}
+
+/// The number of each variable's switch.
+fn owners(
+    alloc: Global,
+    entries: &[(String, String)],
+    vars: &[Name],
+    switches: &[Name],
+) -> Result<Vec<u16>, PlaceFault>
+    requires vars { length vars.now ≤ 64 }
+    requires switches { length switches.now ≤ 2 ^ 16 }
+    ensures ok { IfOk result (λ owned. (no_switch vars.now switches.now (entry_texts entries.now) ≡ None) × (owned.items ≡ owners vars.now switches.now (entry_texts entries.now))) }
+    ensures no_switch { IfErr result (λ e. e ≢ PlaceFault.NoMemory → IsSomeAnd (no_switch vars.now switches.now (entry_texts entries.now)) (λ var. e ≡ PlaceFault.NoSwitch var)) }
+{
+    let mut owned = Vec::new(alloc);
+    for (var, name) in vars.iter().enumerate() {
+        match owner(entries, switches, name.bytes()) {
+            Some(at) => owned.push(at)?,
+            None => return Err(PlaceFault::NoSwitch { var: var as u16 }),
+        }
+    }
+    Ok(owned)
+}
+
+/// The switches of the variables, or the first fault.
+pub(crate) fn resolve(
+    alloc: Global,
+    entries: &[(String, String)],
+    vars: &[Name],
+    groups: &Groups,
+    switches: &[Name],
+) -> Result<Vec<u16>, PlaceFault>
+    requires count { length groups.now.ranks ≡ length vars.now }
+    requires vars { length vars.now ≤ 64 }
+    requires switches { length switches.now ≤ 2 ^ 16 }
+    ensures { MatchResult result (λ owned. IsAnswerFor (TiedBy groups.now) vars.now switches.now (entry_texts entries.now) (Ok owned.items))
+        (λ e. e ≢ PlaceFault.NoMemory → IsAnswerFor (TiedBy groups.now) vars.now switches.now (entry_texts entries.now) (Err e)) }
+{
+    known(alloc, entries, vars)?;
+    placed(entries, vars)?;
+    let owned = owners(alloc, entries, vars, switches)?;
+    together(groups, owned.as_slice())?;
+    Ok(owned)
+}

@@ -1,0 +1,5 @@
+pub mod Joined
+pub mod Levels
+pub mod Nearest
+pub mod Reaching
+pub mod Walking

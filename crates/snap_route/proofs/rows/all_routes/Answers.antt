@@ -1,0 +1,16 @@
+use Rattle.std.proofs.Common.{◌∙◌, ◌∷◌, [], ap, arith, List, length, length-append}
+use Rattle.std.proofs.lemmas.Result.{err_from_is_err_and}
+use Rattle.snap_route.specs.Tables.{Row}
+use Rattle.snap_route.proofs.Walking.{apart-cause, rows-more}
+use Rattle.snap_route.proofs.rows.all_routes.Goals as goal
+
+pub returns-in_err-toward-clause-apart : goal.returns-in_err-toward-clause-apart
+returns-in_err-toward-clause-apart c =
+    let p = err_from_is_err_and c.from_residual.result c.from_residual.ensures.1 in
+    rw (p.1, p.2) (apart-cause c.args.graph.now c.loop-target.rows.items c.loop-target.target c.in_err-toward.field-0.0 c.requires c.loop-target-test.true c.loop-target.invariant.rows c.in_err-toward.ensures.away)
+
+pub loop-target-preserved : goal.loop-target-preserved
+loop-target-preserved c = record {
+  count = ap (λ (rs : List Row). length rs) c.in_ok-push.ensures.items ∙ omega (arith, length-append c.loop-target.rows.items (c.in_ok-toward.field-0 ∷ []), c.loop-target.invariant.count);
+  rows = rows-more c.args.graph.now c.loop-target.rows.items _ c.loop-target.target c.in_ok-toward.field-0 c.loop-target.invariant.count c.in_ok-push.ensures.items c.loop-target.invariant.rows c.in_ok-toward.ensures.ok;
+}

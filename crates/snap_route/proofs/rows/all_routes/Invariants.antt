@@ -1,0 +1,11 @@
+use Rattle.std.proofs.Common.{◌≡◌, ◌<◌, ℕ, length}
+use Rattle.snap_route.specs.Hops.{IsToward}
+use Rattle.snap_route.specs.Tables.{row_in}
+use Rattle.snap_route.proofs.rows.all_routes.Given as goal
+
+-- the switches so far have their rows
+abbrev pub invariant-loop-target : goal.invariant-loop-target
+invariant-loop-target l = record {
+  count : length l.rows.items ≡ l.target;
+  rows : (b : ℕ) → b < l.target → IsToward l.graph b (row_in l.rows.items b);
+}

@@ -1,0 +1,11 @@
+use Rattle.std.proofs.Common.{◌+◌, length}
+use Rattle.snap_route.specs.Search.{unreached}
+use Rattle.snap_route.proofs.Levels.{Levels}
+use Rattle.snap_route.proofs.search.distances_to.Given as goal
+
+abbrev pub invariant-levels : goal.invariant-levels
+invariant-levels l = Levels l.graph l.target l.distance l.distances.items l.level.items
+
+-- each turn reaches a switch or leaves an empty level
+abbrev pub decreases-levels : goal.decreases-levels
+decreases-levels l = unreached l.distances.items + length l.level.items

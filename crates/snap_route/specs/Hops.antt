@@ -1,0 +1,45 @@
+-- Next hops over a list of distances to one target.
+use Rattle.std.specs.Prelude.{◌≡◌, ◌≤◌, ◌<◌, ℕ, Bool, ◌==◌, ◌&&◌, ◌||◌, nat_lt, List, length, Option, None, IsSome, Contains, slice_index}
+use Rattle.snap_route.specs.Graphs.{Adjacent, neighbours_of}
+use Rattle.snap_route.specs.Search.{distance_in}
+use Rattle.snap_route.specs.Tables.{Row, row_in}
+use Rattle.snap_route.specs.Walks.{IsDistance, HasWalk}
+
+-- n is nearest among ms, and of least number among the nearest
+pub record IsNearest (ms distances : List ℕ) (n : ℕ) : Type 0 where
+  pub member : Contains ms n
+  pub nearest : (m : ℕ) → Contains ms m → slice_index distances n ≤ slice_index distances m
+  pub least : (m : ℕ) → Contains ms m → slice_index distances m ≡ slice_index distances n → n ≤ m
+
+-- each switch's distance to the target
+pub record AreDistances (graph : List (List ℕ)) (target : ℕ) (distances : List ℕ) : Type 0 where
+  pub count : length distances ≡ length graph
+  pub each : (v : ℕ) → v < length graph → IsDistance (Adjacent graph) v target (slice_index distances v)
+
+-- whether a is nearer than b, or of lesser number where both are as near
+abbrev pub is_closer : List ℕ → ℕ → ℕ → Bool
+is_closer distances a b = nat_lt (slice_index distances a) (slice_index distances b) || ((slice_index distances a == slice_index distances b) && nat_lt a b)
+
+-- v is the first switch that was not reached
+pub record IsFirstUnreached (ds : List (Option ℕ)) (v : ℕ) : Type 0 where
+  pub below : v < length ds
+  pub none : distance_in ds v ≡ None
+  pub first : (w : ℕ) → w < v → IsSome (distance_in ds w)
+
+-- v is the first switch from which no walk leads to the target
+pub record IsFirstAway (graph : List (List ℕ)) (target v : ℕ) : Type 0 where
+  pub below : v < length graph
+  pub away : HasWalk (Adjacent graph) v target → ⊥
+  pub first : (w : ℕ) → w < v → HasWalk (Adjacent graph) w target
+
+-- the distances and next hops to one target
+pub record IsToward (graph : List (List ℕ)) (target : ℕ) (row : Row) : Type 0 where
+  pub distances : AreDistances graph target row.distances
+  pub count : length row.nexts ≡ length graph
+  pub nexts : (a m : ℕ) → a < length graph → Adjacent graph a m → IsNearest (neighbours_of graph a) row.distances (slice_index row.nexts a)
+
+-- some row has the distance
+pub record HasDistance (rows : List Row) (d : ℕ) : Type 0 where
+  pub target : ℕ
+  pub below : target < length rows
+  pub member : Contains (row_in rows target).distances d

@@ -1,0 +1,63 @@
+//! A topology as the list of each switch's neighbours.
+
+ghost use Rattle.std.specs.Prelude.{◌≡◌, ◌<◌, ◌↔◌, ℕ, Contains, IfOk, length};
+ghost use Rattle.snap_route.specs.Graphs.{Adjacent};
+ghost use Rattle.snap_route.specs.Walks.{Linked};
+
+use snap_core::NoMemory;
+use std::alloc::Global;
+use std::marker::Model;
+
+/// The neighbours of a switch.
+#[derive(Debug, Drop)]
+pub(crate) struct Neighbours {
+    switches: Vec<u16>,
+}
+
+impl Model for Neighbours {
+    ghost use Rattle.std.specs.Prelude.{List, ℕ};
+
+    ghost Value = { List ℕ };
+
+    ghost view = { λ a. a.switches.items };
+}
+
+impl Neighbours {
+    pub(crate) fn items(&self) -> &[u16]
+        ensures { result.now ≡ self.now }
+    {
+        &self.switches
+    }
+}
+
+/// The switches to which links join a switch.
+fn neighbours_of(alloc: Global, links: &[(u16, u16)], switch: u16) -> Result<Neighbours, NoMemory>
+    ensures { IfOk result (λ ms. (m : ℕ) → Contains ms m ↔ Linked links.now switch m) }
+{
+    let mut switches = Vec::new(alloc);
+    for (a, b) in links {
+        if *a == switch {
+            switches.push(*b)?;
+        }
+        if *b == switch {
+            switches.push(*a)?;
+        }
+    }
+    Ok(Neighbours { switches })
+}
+
+/// The neighbours of each of `count` switches.
+pub(crate) fn graph(
+    alloc: Global,
+    links: &[(u16, u16)],
+    count: u16,
+) -> Result<Vec<Neighbours>, NoMemory>
+    ensures count { IfOk result (λ graph. length graph.items ≡ count) }
+    ensures linked { IfOk result (λ graph. (a m : ℕ) → a < count → Adjacent graph.items a m ↔ Linked links.now a m) }
+{
+    let mut graph = Vec::new(alloc);
+    for switch in 0..count {
+        graph.push(neighbours_of(alloc, links, switch)?)?;
+    }
+    Ok(graph)
+}

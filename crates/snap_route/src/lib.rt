@@ -1,0 +1,11 @@
+//! Routes of a topology: distances, next hops and the diameter.
+#![tactic(auto)]
+
+pub mod calls;
+mod graph;
+mod hops;
+mod rows;
+mod search;
+pub mod table;
+#[cfg(test)]
+mod tests;

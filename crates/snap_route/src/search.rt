@@ -1,0 +1,88 @@
+//! The distances to a switch, by levels.
+
+ghost use Rattle.std.specs.Prelude.{◌≡◌, ◌<◌, ◌+◌, ◌^◌, ℕ, [], All, Contains, IfOk, None, replicate, length};
+ghost use Rattle.std.specs.List.{flat_map};
+ghost use Rattle.snap_route.specs.Graphs.{IsGraph, neighbours_of};
+ghost use Rattle.snap_route.specs.Search.{Reaches, Settles};
+
+use crate::graph::Neighbours;
+use snap_core::NoMemory;
+use std::alloc::Global;
+
+fn nowhere(alloc: Global, count: usize) -> Result<Vec<Option<u32>>, NoMemory>
+    ensures { IfOk result (λ ds. ds.items ≡ replicate count None) }
+{
+    let mut distances = Vec::new(alloc);
+    for _i in 0..count {
+        distances.push(None)?;
+    }
+    Ok(distances)
+}
+
+/// Reaches those of some switches that were not reached, at this distance, and adds them to the level.
+fn reach(
+    switches: &[u16],
+    distance: u32,
+    distances: &mut [Option<u32>],
+    level: &mut Vec<u16>,
+) -> Result<(), NoMemory>
+    requires { All (λ v. v < length distances.old) switches.now }
+    ensures { IfOk result (λ _. Reaches switches.now distance distances.old distances.new level.old.items level.new.items) }
+{
+    for switch in switches {
+        let at = *switch as usize;
+        if distances[at].is_none() {
+            distances[at] = Some(distance);
+            level.push(*switch)?;
+        }
+    }
+    Ok(())
+}
+
+/// Reaches the switches next to a level, and gives them as the next level.
+fn next_level(
+    alloc: Global,
+    graph: &[Neighbours],
+    level: &[u16],
+    distance: u32,
+    distances: &mut [Option<u32>],
+) -> Result<Vec<u16>, NoMemory>
+    requires graph { IsGraph graph.now }
+    requires count { length distances.old ≡ length graph.now }
+    requires level { (v : ℕ) → Contains level.now v → v < length graph.now }
+    ensures { IfOk result (λ next. Reaches (flat_map (neighbours_of graph.now) level.now) distance distances.old distances.new [] next.items) }
+{
+    let mut next = Vec::new(alloc);
+    for switch in level {
+        let switches = graph[*switch as usize].items();
+        reach(switches, distance, distances, &mut next)?;
+    }
+    Ok(next)
+}
+
+/// The distance of each switch to the target, or `None` where no walk leads there.
+pub(crate) fn distances_to(
+    alloc: Global,
+    graph: &[Neighbours],
+    target: u16,
+) -> Result<Vec<Option<u32>>, NoMemory>
+    requires graph { IsGraph graph.now }
+    requires target { target < length graph.now }
+    ensures { IfOk result (λ ds. Settles graph.now target ds.items) }
+{
+    let mut distances = nowhere(alloc, graph.len())?;
+    let mut level = Vec::new(alloc);
+    let mut distance = 0;
+    reach(&[target], distance, distances.as_mut_slice(), &mut level)?;
+    'levels: while !level.is_empty() {
+        distance += 1;
+        level = next_level(
+            alloc,
+            graph,
+            level.as_slice(),
+            distance,
+            distances.as_mut_slice(),
+        )?;
+    }
+    Ok(distances)
+}

@@ -1,0 +1,57 @@
+-- Ports that are put in one after the other rise.
+use Rattle.std.proofs.Common.{◌≡◌, ℕ, ◌<◌, List, [], ◌∷◌, fold, refl, sym, subst, arith}
+use Rattle.std.specs.List.{All, AllByRecursion}
+use Rattle.std.specs.List.Sorted.{IsStrictlySortedBy}
+use Rattle.std.specs.Map.{keys_of}
+use Rattle.std.specs.BTreeMap.{insert_entry}
+use Rattle.std.specs.Ordering.{nat_cmp, match_ordering}
+use Rattle.std.specs.declared.cmp.Ordering.{Ordering}
+use Rattle.std.specs.declared.cmp.Ordering.TheVariants.{Less}
+use Rattle.std.specs.Cmp.{nat_cmp_is}
+use Rattle.std.proofs.lemmas.Cmp.{by_ranked, ranked}
+use Rattle.std.proofs.lemmas.List.Elements.{All-nil, All-from_recursion, recursion_from_All, All-weaker}
+use Rattle.std.proofs.lemmas.Map.Views.{All-keys-insert_entry}
+use Rattle.snap_topo.specs.Shape.{put_port, by_number}
+
+abbrev Port : Type 0
+Port = ℕ × List ℕ
+
+less : (x y : ℕ) → x < y → nat_cmp x y ≡ Less
+less x y lt = sym (nat_cmp_is x y Less lt)
+
+below : (x y : ℕ) → nat_cmp x y ≡ Less → x < y
+below x y is = by_ranked (x < y) (x ≡ y) (y < x) (nat_cmp x y) (ranked x y (nat_cmp x y) refl) (λ _ lt. lt) (λ e _. absurd (cc (e, is))) (λ e _. absurd (cc (e, is)))
+
+abbrev Rise : List Port → Type 0
+Rise ps = IsStrictlySortedBy nat_cmp (keys_of ps)
+
+-- the number is below all of these
+abbrev Over : ℕ → List Port → Type 0
+Over x ps = AllByRecursion (λ y. nat_cmp x y ≡ Less) (keys_of ps)
+
+over-further : (x k : ℕ) (ps : List Port) → k < x → Over x ps → Over k ps
+over-further x k ps lt over = recursion_from_All _ (keys_of ps) (All-weaker (λ y. nat_cmp x y ≡ Less) (λ y. nat_cmp k y ≡ Less) (λ y h. let up = below x y h in less k y (omega arith)) (keys_of ps) (All-from_recursion _ (keys_of ps) over))
+
+rise-insert : (ps : List Port) (k : ℕ) (v : List ℕ) → Rise ps → Rise (insert_entry nat_cmp ps k v)
+unfolding IsStrictlySortedBy
+rise-insert [] k v rise = (tt, tt)
+rise-insert (p ∷ ps) k v rise = by_ranked (k < p.0) (k ≡ p.0) (p.0 < k) (nat_cmp k p.0) (ranked k p.0 (nat_cmp k p.0) refl)
+    (λ is lt. subst (λ (o : Ordering). Rise (match_ordering o ((k, v) ∷ p ∷ ps) ((p.0, v) ∷ ps) (p ∷ insert_entry nat_cmp ps k v))) (sym is) ((is, over-further p.0 k ps lt rise.0), rise))
+    (λ is same. subst (λ (o : Ordering). Rise (match_ordering o ((k, v) ∷ p ∷ ps) ((p.0, v) ∷ ps) (p ∷ insert_entry nat_cmp ps k v))) (sym is) rise)
+    (λ is lt. subst (λ (o : Ordering). Rise (match_ordering o ((k, v) ∷ p ∷ ps) ((p.0, v) ∷ ps) (p ∷ insert_entry nat_cmp ps k v))) (sym is)
+    (recursion_from_All _ (keys_of (insert_entry nat_cmp ps k v)) (All-keys-insert_entry nat_cmp k v (λ y. nat_cmp p.0 y ≡ Less) ps (All-from_recursion _ (keys_of ps) rise.0) (less p.0 k lt)), rise-insert ps k v rise.1))
+
+fold-rise : (so_far ps : List Port) → Rise so_far → Rise (fold put_port so_far ps)
+fold-rise so_far [] rise = rise
+fold-rise so_far (p ∷ ps) rise = fold-rise (put_port so_far p) ps (rise-insert so_far p.0 p.1 rise)
+
+pub by_number-rise : (ps : List (ℕ × List ℕ)) → IsStrictlySortedBy nat_cmp (keys_of (by_number ps))
+unfolding IsStrictlySortedBy
+by_number-rise ps = fold-rise [] ps tt
+
+fold-keys : (P : ℕ → Type 0) (so_far ps : List Port) → All P (keys_of so_far) → AllByRecursion (λ (p : Port). P p.0) ps → All P (keys_of (fold put_port so_far ps))
+fold-keys P so_far [] all more = all
+fold-keys P so_far (p ∷ ps) all more = fold-keys P (put_port so_far p) ps (All-keys-insert_entry nat_cmp p.0 p.1 P so_far all more.0) more.1
+
+pub by_number-keys : (P : ℕ → Type 0) (ps : List (ℕ × List ℕ)) → AllByRecursion (λ (p : ℕ × List ℕ). P p.0) ps → All P (keys_of (by_number ps))
+by_number-keys P ps all = fold-keys P [] ps (All-nil P) all

@@ -1,0 +1,13 @@
+use Rattle.std.proofs.Common.{◌≡◌, ◌++◌, drop, find, map}
+use Rattle.std.specs.List.{flat_map}
+use Rattle.snap_topo.specs.Answer.{ends, is_unknown}
+use Rattle.snap_topo.specs.Listing.{pair_text, string_texts}
+use Rattle.snap_topo.specs.Numbers.{numbered}
+use Rattle.snap_topo.proofs.resolve.links_of.Given as goal
+
+-- the links so far, whose names are known, before those that are left
+abbrev pub invariant-loop-link : goal.invariant-loop-link
+invariant-loop-link l = record {
+  all : l.pairs.items ++ map (numbered (string_texts l.numbers.keys)) (map pair_text (drop l.link-index l.links)) ≡ map (numbered (string_texts l.numbers.keys)) (map pair_text l.links);
+  known : find (is_unknown (string_texts l.numbers.keys)) (flat_map ends (map pair_text (drop l.link-index l.links))) ≡ find (is_unknown (string_texts l.numbers.keys)) (flat_map ends (map pair_text l.links));
+}

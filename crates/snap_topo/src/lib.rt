@@ -1,0 +1,15 @@
+//! Topologies, read from TOML.
+#![tactic(auto)]
+
+pub mod document;
+mod listing;
+pub mod lists;
+pub mod names;
+mod reading;
+mod resolve;
+pub mod topology;
+
+pub use reading::read;
+
+#[cfg(test)]
+mod tests;

@@ -1,0 +1,11 @@
+//! What a document of the right shape spells, before its names are looked up.
+
+use std::collections::BTreeMap;
+
+/// The names of the switches, the links as listed, and the ports by rising number.
+#[derive(Debug, Drop)]
+pub(crate) struct Listing {
+    pub(crate) switches: Vec<String>,
+    pub(crate) links: Vec<(String, String)>,
+    pub(crate) ports: BTreeMap<u32, String>,
+}

@@ -1,0 +1,175 @@
+//! The numbers of the names in a listing, and its topology.
+
+ghost use Rattle.std.specs.Prelude.{◌≡◌, ◌≢◌, ◌≤◌, ◌↔◌, ℕ, Err, Ok, Some, None, find, length, map, not, string_bytes, IfOk, IfErr, IsSomeAnd, MatchResult, OnOk, Contains, true, false};
+ghost use Rattle.std.specs.List.{flat_map};
+ghost use Rattle.std.specs.List.Sorted.{IsStrictlySortedBy};
+ghost use Rattle.indexmap.specs.IndexSet.{index_set_len};
+ghost use Rattle.snap_topo.specs.Answer.{ends, first_repeat, port_name, first_unknown, is_unknown, too_many, WithinThen};
+ghost use Rattle.snap_topo.specs.Form.{link_cmp};
+ghost use Rattle.snap_topo.specs.Listing.{pair_text, pair_texts, port_texts, spelled_by, string_texts, texts};
+ghost use Rattle.snap_topo.specs.Numbers.{is_switch, number_of, numbered, port_at};
+
+use crate::listing::Listing;
+use crate::lists::{Links, Ports};
+use crate::topology::{MOST_LINKS, MOST_PORTS, MOST_SWITCHES, TopoFault, Topology};
+use indexmap::IndexSet;
+use snap_core::lists::{Name, Names};
+use snap_core::ports::PortAt;
+use snap_core::program::Which;
+use std::alloc::{AllocError, Global};
+use std::collections::BTreeMap;
+
+fn name_of(alloc: Global, text: &str) -> Result<Name, AllocError>
+    ensures { IfOk result (λ name. name ≡ text.now) }
+{
+    Ok(Name::new(Vec::from_slice(alloc, text.as_bytes())?))
+}
+
+/// Refuses a listing of too many switches, links or ports.
+fn within_limits(listing: &Listing) -> Result<(), TopoFault>
+    ensures ok { OnOk result (too_many (spelled_by listing.now) ≡ None) }
+    ensures limit { IfErr result (λ e. IsSomeAnd (too_many (spelled_by listing.now)) (λ many. e ≡ TopoFault.Limit many.0 many.1)) }
+{
+    let switches = listing.switches.as_slice().len();
+    let links = listing.links.as_slice().len();
+    let ports = listing.ports.len();
+    if switches > MOST_SWITCHES {
+        return Err(TopoFault::Limit {
+            which: Which::Switches,
+            count: switches as u64,
+        });
+    }
+    if links > MOST_LINKS {
+        return Err(TopoFault::Limit {
+            which: Which::Links,
+            count: links as u64,
+        });
+    }
+    if ports > MOST_PORTS {
+        return Err(TopoFault::Limit {
+            which: Which::Ports,
+            count: ports as u64,
+        });
+    }
+    Ok(())
+}
+
+/// The switches by their names, each of which stands once.
+fn numbers_of(alloc: Global, names: &[String]) -> Result<IndexSet<String>, TopoFault>
+    ensures ok { IfOk result (λ numbers. (first_repeat (string_texts names.now) ≡ None) × (string_texts numbers.keys ≡ string_texts names.now)) }
+    ensures twice { IfErr result (λ e. e ≢ TopoFault.NoMemory → IsSomeAnd (first_repeat (string_texts names.now)) (λ name. e ≡ TopoFault.Twice name)) }
+{
+    let mut numbers = IndexSet::new(alloc);
+    for name in names {
+        if numbers.contains(name.as_str()) {
+            return Err(TopoFault::Twice {
+                name: name_of(alloc, name.as_str())?,
+            });
+        }
+        numbers.insert(String::from_str(alloc, name.as_str())?)?;
+    }
+    Ok(numbers)
+}
+
+/// The number of a switch.
+fn number(alloc: Global, numbers: &IndexSet<String>, name: &str) -> Result<u16, TopoFault>
+    requires { index_set_len numbers.now ≤ MOST_SWITCHES }
+    ensures ok { IfOk result (λ n. (is_switch (string_texts numbers.now.keys) name.now ≡ true) × (n ≡ number_of (string_texts numbers.now.keys) name.now)) }
+    ensures unknown { IfErr result (λ e. e ≢ TopoFault.NoMemory → (is_switch (string_texts numbers.now.keys) name.now ≡ false) × (e ≡ TopoFault.Unknown name.now)) }
+{
+    match numbers.get_index_of(name) {
+        Some(i) => Ok(i as u16),
+        None => Err(TopoFault::Unknown {
+            name: name_of(alloc, name)?,
+        }),
+    }
+}
+
+/// A link by numbers, the lesser first.
+fn link_of(
+    alloc: Global,
+    numbers: &IndexSet<String>,
+    link: &(String, String),
+) -> Result<(u16, u16), TopoFault>
+    requires { index_set_len numbers.now ≤ MOST_SWITCHES }
+    ensures ok { IfOk result (λ pair. (find (is_unknown (string_texts numbers.now.keys)) (ends (pair_text link.now)) ≡ None) × (pair ≡ numbered (string_texts numbers.now.keys) (pair_text link.now))) }
+    ensures unknown { IfErr result (λ e. e ≢ TopoFault.NoMemory → IsSomeAnd (find (is_unknown (string_texts numbers.now.keys)) (ends (pair_text link.now))) (λ name. e ≡ TopoFault.Unknown name)) }
+{
+    let a = number(alloc, numbers, link.0.as_str())?;
+    let b = number(alloc, numbers, link.1.as_str())?;
+    Ok((a.min(b), a.max(b)))
+}
+
+/// The links by numbers, as listed.
+fn links_of(
+    alloc: Global,
+    numbers: &IndexSet<String>,
+    links: &[(String, String)],
+) -> Result<Vec<(u16, u16)>, TopoFault>
+    requires { index_set_len numbers.now ≤ MOST_SWITCHES }
+    ensures ok { IfOk result (λ pairs. (find (is_unknown (string_texts numbers.now.keys)) (flat_map ends (map pair_text links.now)) ≡ None) × (pairs.items ≡ map (numbered (string_texts numbers.now.keys)) (map pair_text links.now))) }
+    ensures unknown { IfErr result (λ e. e ≢ TopoFault.NoMemory → IsSomeAnd (find (is_unknown (string_texts numbers.now.keys)) (flat_map ends (map pair_text links.now))) (λ name. e ≡ TopoFault.Unknown name)) }
+{
+    let mut pairs = Vec::new(alloc);
+    for link in links {
+        pairs.push(link_of(alloc, numbers, link)?)?;
+    }
+    Ok(pairs)
+}
+
+/// The ports by numbers of their switches.
+fn ports_of(
+    alloc: Global,
+    numbers: &IndexSet<String>,
+    ports: &BTreeMap<u32, String>,
+) -> Result<Vec<PortAt>, TopoFault>
+    requires { index_set_len numbers.now ≤ MOST_SWITCHES }
+    ensures ok { IfOk result (λ placed. (find (is_unknown (string_texts numbers.now.keys)) (map port_name (port_texts ports.now)) ≡ None) × (placed.items ≡ map (port_at (string_texts numbers.now.keys)) (port_texts ports.now))) }
+    ensures unknown { IfErr result (λ e. e ≢ TopoFault.NoMemory → IsSomeAnd (find (is_unknown (string_texts numbers.now.keys)) (map port_name (port_texts ports.now))) (λ name. e ≡ TopoFault.Unknown name)) }
+{
+    let mut placed = Vec::new(alloc);
+    for (port, name) in ports {
+        let at = number(alloc, numbers, name.as_str())?;
+        placed.push(PortAt { port: *port, at })?;
+    }
+    Ok(placed)
+}
+
+/// Each link once, in rising order.
+fn once(mut links: Vec<(u16, u16)>) -> Vec<(u16, u16)>
+    ensures rise { IsStrictlySortedBy link_cmp result.items }
+    ensures same { (link : ℕ × ℕ) → Contains result.items link ↔ Contains links.items link }
+    ensures fewer { length result.items ≤ length links.items }
+{
+    links.sort_unstable();
+    links.dedup();
+    links
+}
+
+fn switches_of(alloc: Global, names: &[String]) -> Result<Names, AllocError>
+    ensures { IfOk result (λ switches. switches ≡ string_texts names.now) }
+{
+    let mut switches = Vec::new(alloc);
+    for name in names {
+        switches.push(name_of(alloc, name.as_str())?)?;
+    }
+    Ok(Names::new(switches))
+}
+
+/// The topology of a listing, or its first fault.
+pub(crate) fn resolve(alloc: Global, listing: &Listing) -> Result<Topology, TopoFault>
+    ensures few { IfOk result (λ t. length t.links ≤ length (spelled_by listing.now).links) }
+    ensures answer { MatchResult result (λ t. WithinThen (spelled_by listing.now) (too_many (spelled_by listing.now)) (Ok t))
+        (λ e. e ≢ TopoFault.NoMemory → WithinThen (spelled_by listing.now) (too_many (spelled_by listing.now)) (Err e)) }
+{
+    within_limits(listing)?;
+    let numbers = numbers_of(alloc, &listing.switches)?;
+    let links = links_of(alloc, &numbers, &listing.links)?;
+    let ports = ports_of(alloc, &numbers, &listing.ports)?;
+    let switches = switches_of(alloc, &listing.switches)?;
+    Ok(Topology {
+        switches,
+        links: Links::new(once(links)),
+        ports: Ports::new(ports),
+    })
+}
