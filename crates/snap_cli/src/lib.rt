@@ -6,4 +6,3 @@ pub mod program;
 pub mod refusal;
 pub mod spot;
 pub mod top;
-

@@ -207,19 +207,19 @@ ListsBut-array v vs m es cs sorted here lists = record {
   below = Below-append es (entries_of v cs) vs (Below-tail es v vs lists.below) (Below-entries_of v cs vs lists.left.0);
   left = lists.left.1;
   numbers = λ p absent.
-  ⊎_elim
-  (λ same.
-  let var : p.var ≡ v = eqb-true p.var v same in
-  number-later es (entries_of v cs) p lists.nonzero (lists.others p (ap (λ t. t || list_any (nat_eq p.var) vs) same))
-  ∙ (λ i. number_in (entries_of (sym var i) cs) p) ∙ number-here p.var cs p.index sorted ∙ here p var)
-  (λ other.
-  number-first es (entries_of v cs) p (number-other v cs p (flipped v p.var other))
-  ∙ lists.numbers p (ap (λ t. t || list_any (nat_eq p.var) vs) other ∙ absent))
-  (cases_Bool (nat_eq p.var v));
+      ⊎_elim
+      (λ same.
+      let var : p.var ≡ v = eqb-true p.var v same in
+      number-later es (entries_of v cs) p lists.nonzero (lists.others p (ap (λ t. t || list_any (nat_eq p.var) vs) same))
+      ∙ (λ i. number_in (entries_of (sym var i) cs) p) ∙ number-here p.var cs p.index sorted ∙ here p var)
+      (λ other.
+      number-first es (entries_of v cs) p (number-other v cs p (flipped v p.var other))
+      ∙ lists.numbers p (ap (λ t. t || list_any (nat_eq p.var) vs) other ∙ absent))
+      (cases_Bool (nat_eq p.var v));
   others = λ p present.
-  let apart : nat_eq v p.var ≡ false = ne_eqb v p.var (λ e. both_ways (list_any (nat_eq p.var) vs) (subst (λ s. list_any (nat_eq s) vs ≡ false) e (not_below v vs lists.left.0)) present) in
-  number-first es (entries_of v cs) p (number-other v cs p apart)
-  ∙ lists.others p (ap (λ t. nat_eq p.var v || t) present ∙ or_right (nat_eq p.var v));
+      let apart : nat_eq v p.var ≡ false = ne_eqb v p.var (λ e. both_ways (list_any (nat_eq p.var) vs) (subst (λ s. list_any (nat_eq s) vs ≡ false) e (not_below v vs lists.left.0)) present) in
+      number-first es (entries_of v cs) p (number-other v cs p apart)
+      ∙ lists.others p (ap (λ t. nat_eq p.var v || t) present ∙ or_right (nat_eq p.var v));
 }
   where
     flipped : (a b : ℕ) → nat_eq b a ≡ false → nat_eq a b ≡ false

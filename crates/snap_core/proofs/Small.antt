@@ -74,9 +74,10 @@ good-union n s t a b k h = ⊎_elim (λ x. a k x) (λ y. b k y) (or_cases (conta
 
 members : (G : List ℕ → Type 0) (ks : List (List ℕ)) → ((k : List ℕ) → list_any (eq_by_cmp packet_cmp k) ks ≡ true → G k) → AllByRecursion G ks
 members G [] h = tt
-members G (x ∷ ks) h =
-    ( h x (ap (λ b. b || list_any (eq_by_cmp packet_cmp x) ks) (ap is_eq (tied_itself nat_list_cmp_total x)))
-    , members G ks (λ k e. h k (ap (λ b. eq_by_cmp packet_cmp k x || b) e ∙ or_true (eq_by_cmp packet_cmp k x))))
+members G (x ∷ ks) h = (
+  h x (ap (λ b. b || list_any (eq_by_cmp packet_cmp x) ks) (ap is_eq (tied_itself nat_list_cmp_total x))),
+  members G ks (λ k e. h k (ap (λ b. eq_by_cmp packet_cmp k x || b) e ∙ or_true (eq_by_cmp packet_cmp k x))),
+)
   where
     or_true : (b : Bool) → (b || true) ≡ true
     or_true true = refl

@@ -101,8 +101,7 @@ module _ (program : Program) (file : List ℕ) (start : Option (List ℕ)) where
     pub comes-refused : (fault : TraceFault) (waiting' : List ℕ) → left_at program file read at ≡ stops (refused fault) → waiting' ≡ waiting
         → (Err fault ≡ ending_of program file) × ((tail : List ℕ) × IsTailOf program file tail × Waits start now (blocks_of program file ++ tail) waiting')
     comes-refused fault waiting' e same =
-        let none : blocks_of program file ≡ c.done = c.blocks ∙ ap (λ s. c.done ++ blocks_from program number m s.packets) e ∙ append-nil c.done in
-        (
+        let none : blocks_of program file ≡ c.done = c.blocks ∙ ap (λ s. c.done ++ blocks_from program number m s.packets) e ∙ append-nil c.done in (
           sym (c.ending ∙ ap (λ s. ending_from program number m s.packets s.stop) e),
           ([], c.tail [] (subst (λ s. IsTailFrom program m s.packets s.stop []) (sym e) refl), waits-same start now c.done (blocks_of program file ++ []) waiting waiting' (sym (append-nil (blocks_of program file) ∙ none)) same c.waits),
         )
@@ -111,8 +110,7 @@ module _ (program : Program) (file : List ℕ) (start : Option (List ℕ)) where
         → (Ok tt ≡ ending_of program file) × ((tail : List ℕ) × IsTailOf program file tail × Waits start now (blocks_of program file ++ tail) waiting')
     comes-ended entries waiting' e listing more =
         let tail = end_text program.vars entries in
-        let none : blocks_of program file ≡ c.done = c.blocks ∙ ap (λ s. c.done ++ blocks_from program number m s.packets) e ∙ append-nil c.done in
-        (
+        let none : blocks_of program file ≡ c.done = c.blocks ∙ ap (λ s. c.done ++ blocks_from program number m s.packets) e ∙ append-nil c.done in (
           sym (c.ending ∙ ap (λ s. ending_from program number m s.packets s.stop) e),
           (tail, c.tail tail (subst (λ s. IsTailFrom program m s.packets s.stop tail) (sym e) (entries, listing, refl)), waits-same start now (c.done ++ tail) (blocks_of program file ++ tail) waiting' waiting' (ap (λ l. l ++ tail) (sym none)) refl (waits-more start now c.done waiting tail waiting' more c.waits)),
         )
@@ -122,11 +120,10 @@ module _ (program : Program) (file : List ℕ) (start : Option (List ℕ)) where
         → (Err (Undefined number) ≡ ending_of program file) × ((tail : List ℕ) × IsTailOf program file tail × Waits start now (blocks_of program file ++ tail) waiting')
     comes-undefined packet rest waiting' e none same =
         let stopped : blocks_of program file ≡ c.done =
-            c.blocks ∙ ap (λ s. c.done ++ blocks_from program number m s.packets) e
-            ∙ ap (λ o. c.done ++ option_map_or (λ (x : Meaning). block program.fields number x.packets ++ blocks_from program (number + 1) x.arrays rest.packets) o []) none ∙ append-nil c.done in
+        c.blocks ∙ ap (λ s. c.done ++ blocks_from program number m s.packets) e
+        ∙ ap (λ o. c.done ++ option_map_or (λ (x : Meaning). block program.fields number x.packets ++ blocks_from program (number + 1) x.arrays rest.packets) o []) none ∙ append-nil c.done in
         let empty : List ℕ = [] in
-        let left : IsTailFrom program m (packet ∷ rest.packets) rest.stop empty = subst (λ o. MatchOption o (empty ≡ []) (λ (x : Meaning). IsTailFrom program x.arrays rest.packets rest.stop empty)) (sym none) refl in
-        (
+        let left : IsTailFrom program m (packet ∷ rest.packets) rest.stop empty = subst (λ o. MatchOption o (empty ≡ []) (λ (x : Meaning). IsTailFrom program x.arrays rest.packets rest.stop empty)) (sym none) refl in (
           sym (c.ending ∙ ap (λ s. ending_from program number m s.packets s.stop) e ∙ ap (λ o. option_map_or (λ (x : Meaning). ending_from program (number + 1) x.arrays rest.packets rest.stop) o (Err (Undefined number))) none),
           ([], c.tail [] (subst (λ s. IsTailFrom program m s.packets s.stop []) (sym e) left), waits-same start now c.done (blocks_of program file ++ []) waiting waiting' (sym (append-nil (blocks_of program file) ∙ stopped)) same c.waits),
         )

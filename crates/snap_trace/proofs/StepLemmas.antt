@@ -192,6 +192,6 @@ run-end program told told' name name' start now then read at at' old mid new b e
     let Step : List ℕ → Files → Type 0 = λ n files. (from : Option (List ℕ)) → ComesTo program (file_of files n) read at from now old → ComesOn program (file_of files n) read at' from then mid (Ok b) in
     where_both_told told (λ files. ComesTo program (file_of files name) read at start now old) (Step name) (λ files. Closes program (file_of files name) ending start then new.text.items)
     (λ files came step.
-        let on = subst (λ x. ComesOn program (file_of files name) read at' start then mid (Ok x)) none (step start came) in
-        end-put program (file_of files name) start then read at' mid new on.0 (left_at-none program (file_of files name) read at' more on.1) ending put)
+    let on = subst (λ x. ComesOn program (file_of files name) read at' start then mid (Ok x)) none (step start came) in
+    end-put program (file_of files name) start then read at' mid new on.0 (left_at-none program (file_of files name) read at' more on.1) ending put)
     came (subst (λ o. IfSome o (Step name)) same (subst (λ n. IfSome told' (Step n)) called steps))

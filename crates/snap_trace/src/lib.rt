@@ -10,5 +10,3 @@ pub mod words;
 
 pub use fault::TraceFault;
 pub use line::{Line, LineFault, read_line};
-
-

@@ -69,12 +69,7 @@ fn put_value(
 }
 
 // Puts ` NAME=VALUE` of one field.
-fn put_field(
-    out: &mut Vec<u8>,
-    field: &Field,
-    comp: u16,
-    packet: &Packet,
-) -> Result<(), NoMemory>
+fn put_field(out: &mut Vec<u8>, field: &Field, comp: u16, packet: &Packet) -> Result<(), NoMemory>
     requires comps { comp + width field.now.prefix ≤ length packet.now }
     requires few { length packet.now ≤ 64 }
     requires prefix { PrefixFits field.now.prefix }

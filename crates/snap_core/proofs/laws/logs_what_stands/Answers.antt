@@ -65,17 +65,19 @@ stands (Set c a) m k = (none 0, none 0)
 stands (Change u) m k = (none 0, same (2 ^ u.var))
 stands (Par' _ p _ q) m k =
     let r = bit_or (read_vars p) (read_vars q) in let w = bit_or (write_vars p) (write_vars q) in
-    all_together_has (Stands r w) (Stands r w) m (gathered r w m) (eval p m k ∷ eval q m k ∷ [])
-    ( weaker (Stands (read_vars p) (write_vars p)) (Stands r w) (eval p m k) (λ x h. (left x.reads (read_vars p) (read_vars q) h.0, left x.writes (write_vars p) (write_vars q) h.1)) (stands p m k)
-    , (weaker (Stands (read_vars q) (write_vars q)) (Stands r w) (eval q m k) (λ x h. (right x.reads (read_vars p) (read_vars q) h.0, right x.writes (write_vars p) (write_vars q) h.1)) (stands q m k), tt))
+    all_together_has (Stands r w) (Stands r w) m (gathered r w m) (eval p m k ∷ eval q m k ∷ []) (
+      weaker (Stands (read_vars p) (write_vars p)) (Stands r w) (eval p m k) (λ x h. (left x.reads (read_vars p) (read_vars q) h.0, left x.writes (write_vars p) (write_vars q) h.1)) (stands p m k),
+      (weaker (Stands (read_vars q) (write_vars q)) (Stands r w) (eval q m k) (λ x h. (right x.reads (read_vars p) (read_vars q) h.0, right x.writes (write_vars p) (write_vars q) h.1)) (stands q m k), tt),
+    )
 stands (Seq' _ p _ q) m k =
     let r = bit_or (read_vars p) (read_vars q) in let w = bit_or (write_vars p) (write_vars q) in
     then_has (Stands (read_vars p) (write_vars p)) (Stands r w) (eval p m k) _
     (λ o first.
     logged_has (Stands (read_vars q) (write_vars q)) (Stands r w) o.reads o.writes _
-    (λ x h.
-    ( both o.reads x.reads r (left o.reads (read_vars p) (read_vars q) first.0) (right x.reads (read_vars p) (read_vars q) h.0)
-    , both o.writes x.writes w (left o.writes (write_vars p) (write_vars q) first.1) (right x.writes (write_vars p) (write_vars q) h.1)))
+    (λ x h. (
+      both o.reads x.reads r (left o.reads (read_vars p) (read_vars q) first.0) (right x.reads (read_vars p) (read_vars q) h.0),
+      both o.writes x.writes w (left o.writes (write_vars p) (write_vars q) first.1) (right x.writes (write_vars p) (write_vars q) h.1),
+    ))
     (all_together_has (Stands (read_vars q) (write_vars q)) (Stands (read_vars q) (write_vars q)) o.arrays (gathered (read_vars q) (write_vars q) o.arrays) (map (λ k'. eval q o.arrays k') (listed o.packets))
     (each_has (λ k'. Unit {0}) (Stands (read_vars q) (write_vars q)) (λ k'. eval q o.arrays k') (listed o.packets) (λ k' u. stands q o.arrays k') (any (listed o.packets)))))
     (stands p m k)

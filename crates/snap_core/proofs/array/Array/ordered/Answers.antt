@@ -12,9 +12,9 @@ loop-index-init c =
     record {
       distinct = subst (λ l. IsDistinct bytes_eq (keys_of (cells_of l))) (sym same) (IsDistinct-cells_of c.self.inside.cells.entries c.into_iter-index-iterator.ensures.into_iter_gives.4);
       cells = λ q.
-      (λ i. either (cell (cells_of (same i)) q) (cell (c.new-ordered.ensures i) q))
-      ∙ either-none (cell (cells_of c.self.inside.cells.entries) q)
-      ∙ ap (λ v. cell v.0 q) c.self.view_is;
+          (λ i. either (cell (cells_of (same i)) q) (cell (c.new-ordered.ensures i) q))
+          ∙ either-none (cell (cells_of c.self.inside.cells.entries) q)
+          ∙ ap (λ v. cell v.0 q) c.self.view_is;
     }
 
 pub loop-index-preserved : goal.loop-index-preserved
@@ -28,9 +28,9 @@ loop-index-preserved c =
     record {
       distinct = distinct.1;
       cells = λ q.
-      cell-put k v (cells_of rest) distinct q (cell old q) (cell new q) (c.in_ok-put.ensures.ok q ∙ ap (λ l. cond (bytes_eq l q) (Some v) (cell old q)) same)
-      ∙ ap (λ l. either (cell (cells_of l) q) (cell old q)) (sym left)
-      ∙ c.loop-index.invariant.cells q;
+          cell-put k v (cells_of rest) distinct q (cell old q) (cell new q) (c.in_ok-put.ensures.ok q ∙ ap (λ l. cond (bytes_eq l q) (Some v) (cell old q)) same)
+          ∙ ap (λ l. either (cell (cells_of l) q) (cell old q)) (sym left)
+          ∙ c.loop-index.invariant.cells q;
     }
 
 pub returns : goal.returns
