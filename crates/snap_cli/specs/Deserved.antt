@@ -5,29 +5,23 @@ use Rattle.std.specs.Io.KnownBytes.{Appends}
 use Rattle.snap_io.specs.Causes.{Rose}
 use Rattle.snap_io.specs.Files.{Files}
 use Rattle.snap_io.specs.Sinks.{AppendsPart}
-use Rattle.snap_words.specs.Commands.{Command, obs, deps, routes}
+use Rattle.snap_words.specs.Commands.{Command, obs}
 use Rattle.snap_cli.specs.declared.refusal.Refusal.{Refusal}
-use Rattle.snap_cli.specs.declared.refusal.Refusal.TheVariants.{Usage, Read, Write, NoMemory}
+use Rattle.snap_cli.specs.declared.refusal.Refusal.TheVariants.{Read, Write, NoMemory}
 use Rattle.snap_cli.specs.Obs.{EndsObs, IsObsText, MayPrecedeObs}
 use Rattle.snap_cli.specs.Refusals.{Ending}
 
 -- how each command ends on these files where no device fails and memory is there
 abbrev pub Ends : Files → Command → Ending → Type 0
 Ends files (obs program packets) ending = EndsObs files program packets ending
-Ends files (deps program) ending = ending ≡ Err Usage
-Ends files (routes topology) ending = ending ≡ Err Usage
 
 -- the text that has gone out then
 abbrev pub IsText : Files → Command → List ℕ → Type 0
 IsText files (obs program packets) text = IsObsText files program packets text
-IsText files (deps program) text = text ≡ []
-IsText files (routes topology) text = text ≡ []
 
 -- of this text some first bytes may have gone out where a read fails, or memory is short
 abbrev pub MayPrecede : Files → Command → List ℕ → Type 0
 MayPrecede files (obs program packets) text = MayPrecedeObs files program packets text
-MayPrecede files (deps program) text = text ≡ []
-MayPrecede files (routes topology) text = text ≡ []
 
 -- some first bytes went out of a text of which this is true
 abbrev pub AppendsSome : (List ℕ → Type 0) → Option (List ℕ) → Option (List ℕ) → Type 0

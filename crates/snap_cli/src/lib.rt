@@ -5,4 +5,6 @@ pub mod obs;
 pub mod program;
 pub mod refusal;
 pub mod spot;
+#[cfg(test)]
+mod tests;
 pub mod top;

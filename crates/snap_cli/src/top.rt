@@ -62,7 +62,6 @@ fn run<'a, S: Shelf, O: Sink>(
 {
     match command(alloc, words) {
         Ok(Command::Obs { program, packets }) => obs::report(alloc, program, packets, shelf, out),
-        Ok(Command::Deps { program: _ } | Command::Routes { topology: _ }) => Err(Refusal::Usage),
         Err(WordsFault::Usage) => Err(Refusal::Usage),
         Err(WordsFault::NoMemory) => Err(Refusal::NoMemory),
     }

@@ -11,18 +11,6 @@ fn obs<'a>(program: &'a str, packets: &'a str) -> Result<Command<'a>, WordsFault
     })
 }
 
-fn deps<'a>(program: &'a str) -> Result<Command<'a>, WordsFault> {
-    Ok(Command::Deps {
-        program: program.as_bytes(),
-    })
-}
-
-fn routes<'a>(topology: &'a str) -> Result<Command<'a>, WordsFault> {
-    Ok(Command::Routes {
-        topology: topology.as_bytes(),
-    })
-}
-
 /// The words of a line, with one space between.
 fn words_of(alloc: Global, line: &str) -> Result<Vec<Vec<u8>>, Fail> {
     let mut words = Vec::new(alloc);
@@ -36,32 +24,30 @@ fn words_of(alloc: Global, line: &str) -> Result<Vec<Vec<u8>>, Fail> {
 fn words_name_a_command(rt: HostRuntime) -> Result<(), Fail> {
     for (line, want) in [
         ("obs p k", obs("p", "k")),
-        ("deps p", deps("p")),
-        ("routes t", routes("t")),
         ("obs -- p k", obs("p", "k")),
         ("obs p -- k", obs("p", "k")),
         ("obs p k --", obs("p", "k")),
-        ("deps p p=q", Err(WordsFault::Usage)),
-        ("deps p=q", deps("p=q")),
+        ("obs p p=q r", Err(WordsFault::Usage)),
+        ("obs p=q k", obs("p=q", "k")),
         ("obs p p", obs("p", "p")),
-        ("deps help", deps("help")),
-        ("deps --", Err(WordsFault::Usage)),
+        ("obs help k", obs("help", "k")),
+        ("obs --", Err(WordsFault::Usage)),
         ("obs -- p -- k", Err(WordsFault::Usage)),
-        ("deps -- --", Err(WordsFault::Usage)),
-        ("deps -- -p", Err(WordsFault::Usage)),
-        ("deps -p", Err(WordsFault::Usage)),
-        ("deps -", Err(WordsFault::Usage)),
-        ("deps ", Err(WordsFault::Usage)),
+        ("obs p -- --", Err(WordsFault::Usage)),
+        ("obs k -- -p", Err(WordsFault::Usage)),
+        ("obs k -p", Err(WordsFault::Usage)),
+        ("obs k -", Err(WordsFault::Usage)),
+        ("obs k ", Err(WordsFault::Usage)),
         ("obs  k", Err(WordsFault::Usage)),
         ("obs --hops p k", Err(WordsFault::Usage)),
         ("obs p k --schedule s", Err(WordsFault::Usage)),
         ("obs p k --schedule=s", Err(WordsFault::Usage)),
-        ("deps p --help", Err(WordsFault::Usage)),
+        ("obs p k --help", Err(WordsFault::Usage)),
         ("obs p", Err(WordsFault::Usage)),
         ("obs p k k", Err(WordsFault::Usage)),
-        ("routes", Err(WordsFault::Usage)),
+        ("obs", Err(WordsFault::Usage)),
         ("trace t k", Err(WordsFault::Usage)),
-        ("-- deps p", Err(WordsFault::Usage)),
+        ("-- obs p k", Err(WordsFault::Usage)),
         ("", Err(WordsFault::Usage)),
     ] {
         let words = words_of(rt.alloc(), line)?;
