@@ -1,2 +1,0 @@
-pub mod ObsLemmas
-pub mod TopLemmas

@@ -1,5 +1,0 @@
-pub mod Core
-pub mod Senses
-pub mod Reading
-pub mod Declarations
-pub mod Parts
