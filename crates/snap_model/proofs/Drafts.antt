@@ -8,7 +8,7 @@ use Rattle.snap_core.specs.declared.place.Place.{Place}
 use Rattle.snap_core.specs.declared.policy.Test.{Test}
 use Rattle.snap_core.specs.declared.policy.Test.TheVariants.{Value, Equal, State}
 use Rattle.snap_core.specs.Arrays.{Arrays, put, place_at, same_place}
-use Rattle.snap_core.specs.Cells.{Cells, arrays_of}
+use Rattle.snap_core.specs.Cells.{Kept, arrays_of}
 use Rattle.snap_core.specs.Listing.{number_in}
 use Rattle.snap_core.specs.Tests.{passes, term_value}
 use Rattle.snap_ctx.specs.declared.fact.Fact.{Fact}
@@ -37,7 +37,7 @@ pub settles_skip : (v : View) (y : Bool) (facts : List Fact) (old d : Draft) (f 
 settles_skip v y facts old d f here h = record { draft = h.draft; places = All-push (λ g. g.yes ≡ y → Knows v d g) facts f h.places here; kept = h.kept }
 
 -- a fact whose place was settled
-pub settles_more : (v : View) (y : Bool) (facts : List Fact) (old d : Draft) (f : Fact) (s : Settled) (store : List (ℕ × Cells)) → IsSettled (current v d.grown) (At (place_of f d.packet)) s → arrays_of store ≡ put (arrays_of d.store) (place_of f d.packet) s.num
+pub settles_more : (v : View) (y : Bool) (facts : List Fact) (old d : Draft) (f : Fact) (s : Settled) (store : Kept) → IsSettled (current v d.grown) (At (place_of f d.packet)) s → arrays_of store ≡ put (arrays_of d.store) (place_of f d.packet) s.num
     → Settles v y facts old d → Settles v y (facts ++ f ∷ []) old (record { packet = d.packet; store = store; grown = Some s.ctx })
 settles_more v y facts old d f s store settled written h =
     let w : View = current v d.grown in
