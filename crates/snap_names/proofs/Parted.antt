@@ -1,8 +1,9 @@
 -- Readings by the form of a tree: one operand or several, operands that must be predicates, and the faults of a choice.
 use Rattle.std.proofs.Common.{◌≡◌, ◌≢◌, ℕ, Bool, true, false, List, [], ◌∷◌, length, get_or, map, Result, Ok, Err, refl, ap, sym, ◌∙◌, subst, arith}
+use Rattle.snap_parse.specs.declared.tree.Either.{Either}
 use Rattle.snap_parse.specs.declared.tree.Both.{Both}
 use Rattle.snap_parse.specs.declared.tree.Single.{Single}
-use Rattle.snap_parse.specs.Tree.{EitherTree, BothTree, SingleTree, ChoiceTree, either_begin, either_more, either_append, both_begin, both_more, both_append, single_tree, both_tree}
+use Rattle.snap_parse.specs.Tree.{EitherTree, BothTree, SingleTree, ChoiceTree, either_begin, either_more, either_append, both_begin, both_more, both_append, single_tree, both_tree, either_tree}
 use Rattle.snap_names.specs.declared.scope.Scope.{Scope}
 use Rattle.snap_names.specs.declared.scope.Part.{Part}
 use Rattle.snap_names.specs.declared.scope.Tally.{Tally}
@@ -10,7 +11,7 @@ use Rattle.snap_names.specs.declared.fault.NameFault.{NameFault}
 use Rattle.snap_names.specs.declared.fault.NameFault.TheVariants.{NoMemory}
 use Rattle.snap_names.specs.Core.{CorePolicy, choice}
 use Rattle.snap_names.specs.Senses.{Arities, after}
-use Rattle.snap_names.specs.Reading.{Env, Reading, TestReading, operand, whole_test, read_single, read_both, read_singles, read_either, read_boths, read_choice}
+use Rattle.snap_names.specs.Reading.{Env, Reading, TestReading, operand, whole_test, either_is_predicate, either_fault, read_single, read_both, read_singles, read_either, read_boths, read_choice}
 use Rattle.snap_names.specs.Parts.{AreBodies, HasRead, HasReadTest, Reads, env_in}
 use Rattle.snap_names.proofs.Readings.{HasReadTest-operand, operand-no_test}
 
@@ -75,6 +76,10 @@ Reads-same s read same old new result is h = subst (λ r. Reads s r old new resu
 pub Reads-err : (s : Scope) (read : Env → Arities → Reading) (old new : Tally) (result : Result Part NameFault) (f : NameFault) → result ≡ Err f →
     (f ≢ NoMemory → (lets : List CorePolicy) → AreBodies s.lets.items lets → read (env_in s lets) old.arities.items ≡ Err f) → Reads s read old new result
 Reads-err s read old new result f is h = subst (λ r. Reads s read old new r) (sym is) h
+
+-- the reading of the test of a choice
+abbrev pub read_test : Env → Either → Arities → TestReading
+read_test e test arities = operand (either_is_predicate e (either_tree test)) (either_fault e.words (either_tree test)) (read_either e (either_tree test) arities)
 
 -- The faults of the two sides of a choice.
 pub choice-met_refused : (test : TestReading) (met unmet : Arities → Reading) (old a : Tally) (x : Part) (f : NameFault) →

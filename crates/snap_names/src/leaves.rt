@@ -14,12 +14,7 @@ use snap_parse::{Span, Value};
 
 impl Scope<'_> {
     /// `name = value` of a field
-    pub fn test_part(
-        &self,
-        tally: &mut Tally,
-        name: Span,
-        value: Value,
-    ) -> Result<Part, NameFault>
+    pub fn test_part(&self, tally: &mut Tally, name: Span, value: Value) -> Result<Part, NameFault>
         ensures { Reads self.now (λ e arities. read_single e (test_tree name value) arities) tally.old tally.new result }
     {
         let test = self.field_equals(name, value)?;

@@ -1,4 +1,4 @@
-use Rattle.std.proofs.Common.{rules, arith, true, ◌≡◌, ◌≢◌, ◌<◌, ◌≤◌, ◌∙◌, Ok, Err, ap, sym, refl, subst, length, get_or, take}
+use Rattle.std.proofs.Common.{rules, true, ◌≡◌, ◌≢◌, ◌<◌, ◌≤◌, ◌∙◌, Ok, Err, ap, sym, refl, subst, length, get_or, take}
 use Rattle.std.proofs.lemmas.List.{take_all}
 use Rattle.snap_parse.specs.declared.tree.Policy.{out-Policy}
 use Rattle.snap_parse.specs.declared.tree.Either.{out-Either}
@@ -7,11 +7,11 @@ use Rattle.snap_parse.proofs.Trees.{sequence_tree-out, both_tree-out, choice_tre
 use Rattle.snap_names.specs.Core.{id_test, drop_test, filter}
 use Rattle.snap_names.specs.Parts.{HasRead, env_in}
 use Rattle.snap_names.specs.Senses.{after}
-use Rattle.snap_names.specs.Reading.{read_policy, read_sequence, read_sequences, read_choices, read_choice, read_either, read_boths, read_both, read_singles, read_single, whole, whole_test, operand, is_predicate, both_is_predicate, either_is_predicate, single_fault, both_fault, either_fault}
+use Rattle.snap_names.specs.Reading.{read_policy, read_sequence, read_sequences, read_choices, read_choice, read_either, read_boths, read_both, read_singles, read_single, whole, whole_test, is_predicate, both_is_predicate, either_is_predicate, single_fault, both_fault, either_fault}
 use Rattle.snap_names.proofs.Nodes.{policy_tree-out, either_tree-out}
 use Rattle.snap_names.proofs.Readings.{HaveRead-none, HaveReadTests-none, HasRead-choice, HasRead-not, HasRead-atomic, HasRead-leaf, after-refused}
-use Rattle.snap_names.proofs.Parted.{operand_read, operand_no_test, Reads-err, Reads-same, Reads-choice, Reads-single, read_either-one, read_either-other, read_both-one, read_both-other, choice-met_refused, choice-unmet_refused}
-use Rattle.snap_names.proofs.Loops.{policy_of, sequence_of, either_of, both_of, policy-step, sequence-step, either-step, both-step, policy-refused, sequence-refused, either-refused, both-refused}
+use Rattle.snap_names.proofs.Parted.{read_test, operand_read, operand_no_test, Reads-err, Reads-same, Reads-choice, Reads-single, read_either-one, read_either-other, read_both-one, read_both-other, choice-met_refused, choice-unmet_refused}
+use Rattle.snap_names.proofs.Loops.{policy_of, sequence_of, either_of, both_of, both_operand, policy-step, sequence-step, either-step, both-step, policy-refused, sequence-refused, either-refused, both-refused}
 use Rattle.snap_names.proofs.scope.Scope.+reader.Goals as goal
 
 pub policy-loop-part-init : goal.policy-loop-part-init
@@ -177,85 +177,130 @@ both-returns-then-len-eq1 t c =
 pub choice-returns-in_err-test-in-If : goal.choice-returns-in_err-test-in-If
 choice-returns-in_err-test-in-If t c =
     let given : c.from_residual.result ≡ Err c.in_err-test-in-If.field-0.0 = search rules in
-    Reads-choice c.args.self.now c.args.tally.now c.either_operand.new.tally _ (choice_tree c.args.tree.now) (if_tree c.in-If.at (either_tree c.in-If.test) (policy_tree c.in-If.yes.value) (choice_tree c.in-If.no.value)) (ap choice_tree c.in-If.is ∙ choice_tree-If c.in-If.at c.in-If.test c.in-If.yes c.in-If.no)
-    (Reads-err c.args.self.now (λ e arities. read_choice e (if_tree c.in-If.at (either_tree c.in-If.test) (policy_tree c.in-If.yes.value) (choice_tree c.in-If.no.value)) arities) c.args.tally.now c.either_operand.new.tally _ c.in_err-test-in-If.field-0.0 given
+    let tree = if_tree c.in-If.at (either_tree c.in-If.test) (policy_tree c.in-If.yes.value) (choice_tree c.in-If.no.value) in
+    let same : choice_tree c.args.tree.now ≡ tree =
+    ap choice_tree c.in-If.is ∙ choice_tree-If c.in-If.at c.in-If.test c.in-If.yes c.in-If.no in
+    Reads-choice c.args.self.now c.args.tally.now c.either_operand.new.tally _ (choice_tree c.args.tree.now) tree same
+    (Reads-err c.args.self.now (λ e arities. read_choice e tree arities) c.args.tally.now c.either_operand.new.tally _ c.in_err-test-in-If.field-0.0 given
     (λ ne lets are.
     let e = env_in c.args.self.now lets in
-    after-refused (operand (either_is_predicate e (either_tree c.in-If.test)) (either_fault e.words (either_tree c.in-If.test)) (read_either e (either_tree c.in-If.test) c.args.tally.now.arities.items)) _ _ (c.in_err-test-in-If.ensures ne lets are)))
+    after-refused (read_test e c.in-If.test c.args.tally.now.arities.items) _ _ (c.in_err-test-in-If.ensures ne lets are)))
 
 pub choice-returns-in_err-yes-in-If : goal.choice-returns-in_err-yes-in-If
 choice-returns-in_err-yes-in-If t c =
     let given : c.from_residual-in_err-yes-in-If.result ≡ Err c.in_err-yes-in-If.field-0.0 = search rules in
-    Reads-choice c.args.self.now c.args.tally.now c.policy.new.tally _ (choice_tree c.args.tree.now) (if_tree c.in-If.at (either_tree c.in-If.test) (policy_tree c.deref.result.now) (choice_tree c.in-If.no.value)) (ap choice_tree c.in-If.is ∙ choice_tree-If c.in-If.at c.in-If.test c.in-If.yes c.in-If.no ∙ ap (λ p. if_tree c.in-If.at (either_tree c.in-If.test) (policy_tree p) (choice_tree c.in-If.no.value)) (sym c.deref.ensures))
-    (Reads-err c.args.self.now (λ e arities. read_choice e (if_tree c.in-If.at (either_tree c.in-If.test) (policy_tree c.deref.result.now) (choice_tree c.in-If.no.value)) arities) c.args.tally.now c.policy.new.tally _ c.in_err-yes-in-If.field-0.0 given
+    let tree = if_tree c.in-If.at (either_tree c.in-If.test) (policy_tree c.deref.result.now) (choice_tree c.in-If.no.value) in
+    let same : choice_tree c.args.tree.now ≡ tree =
+    ap choice_tree c.in-If.is ∙ choice_tree-If c.in-If.at c.in-If.test c.in-If.yes c.in-If.no
+    ∙ ap (λ p. if_tree c.in-If.at (either_tree c.in-If.test) (policy_tree p) (choice_tree c.in-If.no.value)) (sym c.deref.ensures) in
+    Reads-choice c.args.self.now c.args.tally.now c.policy.new.tally _ (choice_tree c.args.tree.now) tree same
+    (Reads-err c.args.self.now (λ e arities. read_choice e tree arities) c.args.tally.now c.policy.new.tally _ c.in_err-yes-in-If.field-0.0 given
     (λ ne lets are.
     let e = env_in c.args.self.now lets in
-    choice-met_refused (operand (either_is_predicate e (either_tree c.in-If.test)) (either_fault e.words (either_tree c.in-If.test)) (read_either e (either_tree c.in-If.test) c.args.tally.now.arities.items)) (read_policy e (policy_tree c.deref.result.now)) (read_choice e (choice_tree c.in-If.no.value)) c.args.tally.now c.either_operand.new.tally c.in_ok-test-in-If.test _ (c.in_ok-test-in-If.ensures lets are) (c.in_err-yes-in-If.ensures ne lets are)))
+    choice-met_refused (read_test e c.in-If.test c.args.tally.now.arities.items) (read_policy e (policy_tree c.deref.result.now)) (read_choice e (choice_tree c.in-If.no.value))
+    c.args.tally.now c.either_operand.new.tally c.in_ok-test-in-If.test _ (c.in_ok-test-in-If.ensures lets are) (c.in_err-yes-in-If.ensures ne lets are)))
 
 pub choice-returns-in_err-no-in-If : goal.choice-returns-in_err-no-in-If
 choice-returns-in_err-no-in-If t c =
     let given : c.from_residual-in_err-no-in-If.result ≡ Err c.in_err-no-in-If.field-0.0 = search rules in
-    Reads-choice c.args.self.now c.args.tally.now c.choice.new.tally _ (choice_tree c.args.tree.now) (if_tree c.in-If.at (either_tree c.in-If.test) (policy_tree c.deref.result.now) (choice_tree c.deref-in-If.result.now)) (ap choice_tree c.in-If.is ∙ choice_tree-If c.in-If.at c.in-If.test c.in-If.yes c.in-If.no ∙ ap (λ p. if_tree c.in-If.at (either_tree c.in-If.test) (policy_tree p) (choice_tree c.in-If.no.value)) (sym c.deref.ensures) ∙ ap (λ q. if_tree c.in-If.at (either_tree c.in-If.test) (policy_tree c.deref.result.now) (choice_tree q)) (sym c.deref-in-If.ensures))
-    (Reads-err c.args.self.now (λ e arities. read_choice e (if_tree c.in-If.at (either_tree c.in-If.test) (policy_tree c.deref.result.now) (choice_tree c.deref-in-If.result.now)) arities) c.args.tally.now c.choice.new.tally _ c.in_err-no-in-If.field-0.0 given
+    let tree = if_tree c.in-If.at (either_tree c.in-If.test) (policy_tree c.deref.result.now) (choice_tree c.deref-in-If.result.now) in
+    let same : choice_tree c.args.tree.now ≡ tree =
+    ap choice_tree c.in-If.is ∙ choice_tree-If c.in-If.at c.in-If.test c.in-If.yes c.in-If.no
+    ∙ ap (λ p. if_tree c.in-If.at (either_tree c.in-If.test) (policy_tree p) (choice_tree c.in-If.no.value)) (sym c.deref.ensures)
+    ∙ ap (λ q. if_tree c.in-If.at (either_tree c.in-If.test) (policy_tree c.deref.result.now) (choice_tree q)) (sym c.deref-in-If.ensures) in
+    Reads-choice c.args.self.now c.args.tally.now c.choice.new.tally _ (choice_tree c.args.tree.now) tree same
+    (Reads-err c.args.self.now (λ e arities. read_choice e tree arities) c.args.tally.now c.choice.new.tally _ c.in_err-no-in-If.field-0.0 given
     (λ ne lets are.
     let e = env_in c.args.self.now lets in
-    choice-unmet_refused (operand (either_is_predicate e (either_tree c.in-If.test)) (either_fault e.words (either_tree c.in-If.test)) (read_either e (either_tree c.in-If.test) c.args.tally.now.arities.items)) (read_policy e (policy_tree c.deref.result.now)) (read_choice e (choice_tree c.deref-in-If.result.now)) c.args.tally.now c.either_operand.new.tally c.policy.new.tally c.in_ok-test-in-If.test c.in_ok-yes-in-If.yes _ (c.in_ok-test-in-If.ensures lets are) (c.in_ok-yes-in-If.ensures lets are) (c.in_err-no-in-If.ensures ne lets are)))
+    choice-unmet_refused (read_test e c.in-If.test c.args.tally.now.arities.items) (read_policy e (policy_tree c.deref.result.now)) (read_choice e (choice_tree c.deref-in-If.result.now))
+    c.args.tally.now c.either_operand.new.tally c.policy.new.tally c.in_ok-test-in-If.test c.in_ok-yes-in-If.yes _
+    (c.in_ok-test-in-If.ensures lets are) (c.in_ok-yes-in-If.ensures lets are) (c.in_err-no-in-If.ensures ne lets are)))
 
 pub choice-returns-in_ok-joined-in-If : goal.choice-returns-in_ok-joined-in-If
 choice-returns-in_ok-joined-in-If t c =
-    Reads-choice c.args.self.now c.args.tally.now c.choice-in-If.new.tally (Ok c.in_ok-joined-in-If.joined) (choice_tree c.args.tree.now) (if_tree c.in-If.at (either_tree c.in-If.test) (policy_tree c.deref.result.now) (choice_tree c.deref-in-If.result.now)) (ap choice_tree c.in-If.is ∙ choice_tree-If c.in-If.at c.in-If.test c.in-If.yes c.in-If.no ∙ ap (λ p. if_tree c.in-If.at (either_tree c.in-If.test) (policy_tree p) (choice_tree c.in-If.no.value)) (sym c.deref.ensures) ∙ ap (λ q. if_tree c.in-If.at (either_tree c.in-If.test) (policy_tree c.deref.result.now) (choice_tree q)) (sym c.deref-in-If.ensures))
+    let tree = if_tree c.in-If.at (either_tree c.in-If.test) (policy_tree c.deref.result.now) (choice_tree c.deref-in-If.result.now) in
+    let same : choice_tree c.args.tree.now ≡ tree =
+    ap choice_tree c.in-If.is ∙ choice_tree-If c.in-If.at c.in-If.test c.in-If.yes c.in-If.no
+    ∙ ap (λ p. if_tree c.in-If.at (either_tree c.in-If.test) (policy_tree p) (choice_tree c.in-If.no.value)) (sym c.deref.ensures)
+    ∙ ap (λ q. if_tree c.in-If.at (either_tree c.in-If.test) (policy_tree c.deref.result.now) (choice_tree q)) (sym c.deref-in-If.ensures) in
+    Reads-choice c.args.self.now c.args.tally.now c.choice-in-If.new.tally (Ok c.in_ok-joined-in-If.joined) (choice_tree c.args.tree.now) tree same
     (λ lets are.
     let e = env_in c.args.self.now lets in
-    HasRead-choice (operand (either_is_predicate e (either_tree c.in-If.test)) (either_fault e.words (either_tree c.in-If.test)) (read_either e (either_tree c.in-If.test) c.args.tally.now.arities.items)) (read_policy e (policy_tree c.deref.result.now)) (read_choice e (choice_tree c.deref-in-If.result.now)) c.args.tally.now c.either_operand.new.tally c.policy.new.tally c.choice.new.tally c.choice-in-If.new.tally c.in_ok-test-in-If.test c.in_ok-yes-in-If.yes c.in_ok-no-in-If.no c.in_ok-joined-in-If.joined
+    HasRead-choice (read_test e c.in-If.test c.args.tally.now.arities.items) (read_policy e (policy_tree c.deref.result.now)) (read_choice e (choice_tree c.deref-in-If.result.now))
+    c.args.tally.now c.either_operand.new.tally c.policy.new.tally c.choice.new.tally c.choice-in-If.new.tally c.in_ok-test-in-If.test c.in_ok-yes-in-If.yes c.in_ok-no-in-If.no c.in_ok-joined-in-If.joined
     (c.in_ok-test-in-If.ensures lets are) (c.in_ok-yes-in-If.ensures lets are) (c.in_ok-no-in-If.ensures lets are) c.in_ok-joined-in-If.ensures.arities c.in_ok-joined-in-If.ensures.nodes c.in_ok-joined-in-If.ensures.part)
 
 pub choice-returns-in-Plain : goal.choice-returns-in-Plain
 choice-returns-in-Plain t c =
-    Reads-choice c.args.self.now c.args.tally.now c.either.new.tally c.either.result (choice_tree c.args.tree.now) (plain_tree (either_tree c.in-Plain.either)) (ap choice_tree c.in-Plain.is ∙ choice_tree-Plain c.in-Plain.either) c.either.ensures
+    let tree = plain_tree (either_tree c.in-Plain.either) in
+    let same : choice_tree c.args.tree.now ≡ tree = ap choice_tree c.in-Plain.is ∙ choice_tree-Plain c.in-Plain.either in
+    Reads-choice c.args.self.now c.args.tally.now c.either.new.tally c.either.result (choice_tree c.args.tree.now) tree same c.either.ensures
 
 pub single-returns-in-Group : goal.single-returns-in-Group
 single-returns-in-Group t c =
-    Reads-single c.args.self.now c.args.tally.now c.policy.new.tally c.policy.result (single_tree c.args.tree.now) (group_tree c.in-Group.at (policy_tree c.deref-in-Group.result.now)) (ap single_tree c.in-Group.is ∙ single_tree-Group c.in-Group.at c.in-Group.body ∙ ap (λ p. group_tree c.in-Group.at (policy_tree p)) (sym c.deref-in-Group.ensures)) c.policy.ensures
+    let tree = group_tree c.in-Group.at (policy_tree c.deref-in-Group.result.now) in
+    let same : single_tree c.args.tree.now ≡ tree = ap single_tree c.in-Group.is ∙ single_tree-Group c.in-Group.at c.in-Group.body ∙ ap (λ p. group_tree c.in-Group.at (policy_tree p)) (sym c.deref-in-Group.ensures) in
+    Reads-single c.args.self.now c.args.tally.now c.policy.new.tally c.policy.result (single_tree c.args.tree.now) tree same c.policy.ensures
 
 pub single-returns-in-Name : goal.single-returns-in-Name
 single-returns-in-Name t c =
-    Reads-single c.args.self.now c.args.tally.now c.named.new.tally c.named.result (single_tree c.args.tree.now) (name_tree c.in-Name.name) (ap single_tree c.in-Name.is ∙ single_tree-Name c.in-Name.name) c.named.ensures
+    let tree = name_tree c.in-Name.name in
+    let same : single_tree c.args.tree.now ≡ tree = ap single_tree c.in-Name.is ∙ single_tree-Name c.in-Name.name in
+    Reads-single c.args.self.now c.args.tally.now c.named.new.tally c.named.result (single_tree c.args.tree.now) tree same c.named.ensures
 
 pub single-returns-in-Test : goal.single-returns-in-Test
 single-returns-in-Test t c =
-    Reads-single c.args.self.now c.args.tally.now c.test_part.new.tally c.test_part.result (single_tree c.args.tree.now) (test_tree c.in-Test.name c.in-Test.value) (ap single_tree c.in-Test.is ∙ single_tree-Test c.in-Test.name c.in-Test.value) c.test_part.ensures
+    let tree = test_tree c.in-Test.name c.in-Test.value in
+    let same : single_tree c.args.tree.now ≡ tree = ap single_tree c.in-Test.is ∙ single_tree-Test c.in-Test.name c.in-Test.value in
+    Reads-single c.args.self.now c.args.tally.now c.test_part.new.tally c.test_part.result (single_tree c.args.tree.now) tree same c.test_part.ensures
 
 pub single-returns-in-Set : goal.single-returns-in-Set
 single-returns-in-Set t c =
-    Reads-single c.args.self.now c.args.tally.now c.set_part.new.tally c.set_part.result (single_tree c.args.tree.now) (set_tree c.in-Set.name c.in-Set.value) (ap single_tree c.in-Set.is ∙ single_tree-Set c.in-Set.name c.in-Set.value) c.set_part.ensures
+    let tree = set_tree c.in-Set.name c.in-Set.value in
+    let same : single_tree c.args.tree.now ≡ tree = ap single_tree c.in-Set.is ∙ single_tree-Set c.in-Set.name c.in-Set.value in
+    Reads-single c.args.self.now c.args.tally.now c.set_part.new.tally c.set_part.result (single_tree c.args.tree.now) tree same c.set_part.ensures
 
 pub single-returns-in-Bare : goal.single-returns-in-Bare
 single-returns-in-Bare t c =
-    Reads-single c.args.self.now c.args.tally.now c.bare_part.new.tally c.bare_part.result (single_tree c.args.tree.now) (bare_tree c.in-Bare.name c.deref-in-Bare.result.now) (ap single_tree c.in-Bare.is ∙ single_tree-Bare c.in-Bare.name c.in-Bare.places ∙ ap (bare_tree c.in-Bare.name) (sym c.deref-in-Bare.ensures.value)) c.bare_part.ensures
+    let tree = bare_tree c.in-Bare.name c.deref-in-Bare.result.now in
+    let same : single_tree c.args.tree.now ≡ tree = ap single_tree c.in-Bare.is ∙ single_tree-Bare c.in-Bare.name c.in-Bare.places ∙ ap (bare_tree c.in-Bare.name) (sym c.deref-in-Bare.ensures.value) in
+    Reads-single c.args.self.now c.args.tally.now c.bare_part.new.tally c.bare_part.result (single_tree c.args.tree.now) tree same c.bare_part.ensures
 
 pub single-returns-in-Up : goal.single-returns-in-Up
 single-returns-in-Up t c =
-    Reads-single c.args.self.now c.args.tally.now c.step_part.new.tally c.step_part.result (single_tree c.args.tree.now) (up_tree c.in-Up.name c.deref-in-Up.result.now) (ap single_tree c.in-Up.is ∙ single_tree-Up c.in-Up.name c.in-Up.places ∙ ap (up_tree c.in-Up.name) (sym c.deref-in-Up.ensures.value)) c.step_part.ensures
+    let tree = up_tree c.in-Up.name c.deref-in-Up.result.now in
+    let same : single_tree c.args.tree.now ≡ tree = ap single_tree c.in-Up.is ∙ single_tree-Up c.in-Up.name c.in-Up.places ∙ ap (up_tree c.in-Up.name) (sym c.deref-in-Up.ensures.value) in
+    Reads-single c.args.self.now c.args.tally.now c.step_part.new.tally c.step_part.result (single_tree c.args.tree.now) tree same c.step_part.ensures
 
 pub single-returns-in-Down : goal.single-returns-in-Down
 single-returns-in-Down t c =
-    Reads-single c.args.self.now c.args.tally.now c.step_part-in-Down.new.tally c.step_part-in-Down.result (single_tree c.args.tree.now) (down_tree c.in-Down.name c.deref-in-Down.result.now) (ap single_tree c.in-Down.is ∙ single_tree-Down c.in-Down.name c.in-Down.places ∙ ap (down_tree c.in-Down.name) (sym c.deref-in-Down.ensures.value)) c.step_part-in-Down.ensures
+    let tree = down_tree c.in-Down.name c.deref-in-Down.result.now in
+    let same : single_tree c.args.tree.now ≡ tree = ap single_tree c.in-Down.is ∙ single_tree-Down c.in-Down.name c.in-Down.places ∙ ap (down_tree c.in-Down.name) (sym c.deref-in-Down.ensures.value) in
+    Reads-single c.args.self.now c.args.tally.now c.step_part-in-Down.new.tally c.step_part-in-Down.result (single_tree c.args.tree.now) tree same c.step_part-in-Down.ensures
 
 pub single-returns-in-ArrayTest : goal.single-returns-in-ArrayTest
 single-returns-in-ArrayTest t c =
-    Reads-single c.args.self.now c.args.tally.now c.array_test_part.new.tally c.array_test_part.result (single_tree c.args.tree.now) (array_test_tree c.in-ArrayTest.name c.deref-in-ArrayTest.result.now c.in-ArrayTest.value) (ap single_tree c.in-ArrayTest.is ∙ single_tree-ArrayTest c.in-ArrayTest.name c.in-ArrayTest.places c.in-ArrayTest.value ∙ ap (λ ps. array_test_tree c.in-ArrayTest.name ps c.in-ArrayTest.value) (sym c.deref-in-ArrayTest.ensures.value)) c.array_test_part.ensures
+    let tree = array_test_tree c.in-ArrayTest.name c.deref-in-ArrayTest.result.now c.in-ArrayTest.value in
+    let same : single_tree c.args.tree.now ≡ tree = ap single_tree c.in-ArrayTest.is ∙ single_tree-ArrayTest c.in-ArrayTest.name c.in-ArrayTest.places c.in-ArrayTest.value ∙ ap (λ ps. array_test_tree c.in-ArrayTest.name ps c.in-ArrayTest.value) (sym c.deref-in-ArrayTest.ensures.value) in
+    Reads-single c.args.self.now c.args.tally.now c.array_test_part.new.tally c.array_test_part.result (single_tree c.args.tree.now) tree same c.array_test_part.ensures
 
 pub single-returns-in-ArraySet : goal.single-returns-in-ArraySet
 single-returns-in-ArraySet t c =
-    Reads-single c.args.self.now c.args.tally.now c.array_set_part.new.tally c.array_set_part.result (single_tree c.args.tree.now) (array_set_tree c.in-ArraySet.name c.deref-in-ArraySet.result.now c.in-ArraySet.value) (ap single_tree c.in-ArraySet.is ∙ single_tree-ArraySet c.in-ArraySet.name c.in-ArraySet.places c.in-ArraySet.value ∙ ap (λ ps. array_set_tree c.in-ArraySet.name ps c.in-ArraySet.value) (sym c.deref-in-ArraySet.ensures.value)) c.array_set_part.ensures
+    let tree = array_set_tree c.in-ArraySet.name c.deref-in-ArraySet.result.now c.in-ArraySet.value in
+    let same : single_tree c.args.tree.now ≡ tree = ap single_tree c.in-ArraySet.is ∙ single_tree-ArraySet c.in-ArraySet.name c.in-ArraySet.places c.in-ArraySet.value ∙ ap (λ ps. array_set_tree c.in-ArraySet.name ps c.in-ArraySet.value) (sym c.deref-in-ArraySet.ensures.value) in
+    Reads-single c.args.self.now c.args.tally.now c.array_set_part.new.tally c.array_set_part.result (single_tree c.args.tree.now) tree same c.array_set_part.ensures
 
 pub single-returns-in-ArrayAdd : goal.single-returns-in-ArrayAdd
 single-returns-in-ArrayAdd t c =
-    Reads-single c.args.self.now c.args.tally.now c.array_add_part.new.tally c.array_add_part.result (single_tree c.args.tree.now) (array_add_tree c.in-ArrayAdd.name c.deref-in-ArrayAdd.result.now c.in-ArrayAdd.value) (ap single_tree c.in-ArrayAdd.is ∙ single_tree-ArrayAdd c.in-ArrayAdd.name c.in-ArrayAdd.places c.in-ArrayAdd.value ∙ ap (λ ps. array_add_tree c.in-ArrayAdd.name ps c.in-ArrayAdd.value) (sym c.deref-in-ArrayAdd.ensures.value)) c.array_add_part.ensures
+    let tree = array_add_tree c.in-ArrayAdd.name c.deref-in-ArrayAdd.result.now c.in-ArrayAdd.value in
+    let same : single_tree c.args.tree.now ≡ tree = ap single_tree c.in-ArrayAdd.is ∙ single_tree-ArrayAdd c.in-ArrayAdd.name c.in-ArrayAdd.places c.in-ArrayAdd.value ∙ ap (λ ps. array_add_tree c.in-ArrayAdd.name ps c.in-ArrayAdd.value) (sym c.deref-in-ArrayAdd.ensures.value) in
+    Reads-single c.args.self.now c.args.tally.now c.array_add_part.new.tally c.array_add_part.result (single_tree c.args.tree.now) tree same c.array_add_part.ensures
 
 pub single-returns-in-ArraySub : goal.single-returns-in-ArraySub
 single-returns-in-ArraySub t c =
-    Reads-single c.args.self.now c.args.tally.now c.array_sub_part.new.tally c.array_sub_part.result (single_tree c.args.tree.now) (array_sub_tree c.in-ArraySub.name c.deref-in-ArraySub.result.now c.in-ArraySub.value) (ap single_tree c.in-ArraySub.is ∙ single_tree-ArraySub c.in-ArraySub.name c.in-ArraySub.places c.in-ArraySub.value ∙ ap (λ ps. array_sub_tree c.in-ArraySub.name ps c.in-ArraySub.value) (sym c.deref-in-ArraySub.ensures.value)) c.array_sub_part.ensures
+    let tree = array_sub_tree c.in-ArraySub.name c.deref-in-ArraySub.result.now c.in-ArraySub.value in
+    let same : single_tree c.args.tree.now ≡ tree = ap single_tree c.in-ArraySub.is ∙ single_tree-ArraySub c.in-ArraySub.name c.in-ArraySub.places c.in-ArraySub.value ∙ ap (λ ps. array_sub_tree c.in-ArraySub.name ps c.in-ArraySub.value) (sym c.deref-in-ArraySub.ensures.value) in
+    Reads-single c.args.self.now c.args.tally.now c.array_sub_part.new.tally c.array_sub_part.result (single_tree c.args.tree.now) tree same c.array_sub_part.ensures
 
 pub single-returns-in-Id : goal.single-returns-in-Id
 single-returns-in-Id t c =
@@ -270,32 +315,42 @@ single-returns-in-Drop t c =
 pub single-returns-in_err-part-in-Not : goal.single-returns-in_err-part-in-Not
 single-returns-in_err-part-in-Not t c =
     let given : c.from_residual.result ≡ Err c.in_err-part-in-Not.field-0.0 = search rules in
-    Reads-single c.args.self.now c.args.tally.now c.single_operand.new.tally _ (single_tree c.args.tree.now) (not_tree c.in-Not.at (single_tree c.deref.result.now)) (ap single_tree c.in-Not.is ∙ single_tree-Not c.in-Not.at c.in-Not.part ∙ ap (λ s. not_tree c.in-Not.at (single_tree s)) (sym c.deref.ensures))
-    (Reads-err c.args.self.now (λ e arities. read_single e (not_tree c.in-Not.at (single_tree c.deref.result.now)) arities) c.args.tally.now c.single_operand.new.tally _ c.in_err-part-in-Not.field-0.0 given
+    let tree = not_tree c.in-Not.at (single_tree c.deref.result.now) in
+    let same : single_tree c.args.tree.now ≡ tree = ap single_tree c.in-Not.is ∙ single_tree-Not c.in-Not.at c.in-Not.part ∙ ap (λ s. not_tree c.in-Not.at (single_tree s)) (sym c.deref.ensures) in
+    Reads-single c.args.self.now c.args.tally.now c.single_operand.new.tally _ (single_tree c.args.tree.now) tree same
+    (Reads-err c.args.self.now (λ e arities. read_single e tree arities) c.args.tally.now c.single_operand.new.tally _ c.in_err-part-in-Not.field-0.0 given
     (λ ne lets are.
     let e = env_in c.args.self.now lets in
-    after-refused (operand (is_predicate e (single_tree c.deref.result.now)) (single_fault e.words (single_tree c.deref.result.now)) (read_single e (single_tree c.deref.result.now) c.args.tally.now.arities.items)) _ _ (c.in_err-part-in-Not.ensures ne lets are)))
-
-pub single-returns-in_ok-negated-in-Not : goal.single-returns-in_ok-negated-in-Not
-single-returns-in_ok-negated-in-Not t c =
-    Reads-single c.args.self.now c.args.tally.now c.not.new.tally (Ok c.in_ok-negated-in-Not.negated) (single_tree c.args.tree.now) (not_tree c.in-Not.at (single_tree c.deref.result.now)) (ap single_tree c.in-Not.is ∙ single_tree-Not c.in-Not.at c.in-Not.part ∙ ap (λ s. not_tree c.in-Not.at (single_tree s)) (sym c.deref.ensures))
-    (λ lets are.
-    let e = env_in c.args.self.now lets in
-    HasRead-not (operand (is_predicate e (single_tree c.deref.result.now)) (single_fault e.words (single_tree c.deref.result.now)) (read_single e (single_tree c.deref.result.now) c.args.tally.now.arities.items)) c.args.tally.now c.single_operand.new.tally c.not.new.tally c.in_ok-part-in-Not.part c.in_ok-negated-in-Not.negated
-    (c.in_ok-part-in-Not.ensures lets are) c.in_ok-negated-in-Not.ensures.arities c.in_ok-negated-in-Not.ensures.nodes c.in_ok-negated-in-Not.ensures.part)
+    after-refused (both_operand e c.deref.result.now c.args.tally.now.arities.items) _ _ (c.in_err-part-in-Not.ensures ne lets are)))
 
 pub single-returns-in_err-body-in-Atomic : goal.single-returns-in_err-body-in-Atomic
 single-returns-in_err-body-in-Atomic t c =
     let given : c.from_residual-in_err-body-in-Atomic.result ≡ Err c.in_err-body-in-Atomic.field-0.0 = search rules in
-    Reads-single c.args.self.now c.args.tally.now c.policy-in-Atomic.new.tally _ (single_tree c.args.tree.now) (atomic_tree c.in-Atomic.at (policy_tree c.deref-in-Atomic.result.now)) (ap single_tree c.in-Atomic.is ∙ single_tree-Atomic c.in-Atomic.at c.in-Atomic.body ∙ ap (λ p. atomic_tree c.in-Atomic.at (policy_tree p)) (sym c.deref-in-Atomic.ensures))
-    (Reads-err c.args.self.now (λ e arities. read_single e (atomic_tree c.in-Atomic.at (policy_tree c.deref-in-Atomic.result.now)) arities) c.args.tally.now c.policy-in-Atomic.new.tally _ c.in_err-body-in-Atomic.field-0.0 given
+    let tree = atomic_tree c.in-Atomic.at (policy_tree c.deref-in-Atomic.result.now) in
+    let same : single_tree c.args.tree.now ≡ tree =
+    ap single_tree c.in-Atomic.is ∙ single_tree-Atomic c.in-Atomic.at c.in-Atomic.body ∙ ap (λ p. atomic_tree c.in-Atomic.at (policy_tree p)) (sym c.deref-in-Atomic.ensures) in
+    Reads-single c.args.self.now c.args.tally.now c.policy-in-Atomic.new.tally _ (single_tree c.args.tree.now) tree same
+    (Reads-err c.args.self.now (λ e arities. read_single e tree arities) c.args.tally.now c.policy-in-Atomic.new.tally _ c.in_err-body-in-Atomic.field-0.0 given
     (λ ne lets are.
     let e = env_in c.args.self.now lets in
     after-refused (read_policy e (policy_tree c.deref-in-Atomic.result.now) c.args.tally.now.arities.items) _ _ (c.in_err-body-in-Atomic.ensures ne lets are)))
 
+pub single-returns-in_ok-negated-in-Not : goal.single-returns-in_ok-negated-in-Not
+single-returns-in_ok-negated-in-Not t c =
+    let tree = not_tree c.in-Not.at (single_tree c.deref.result.now) in
+    let same : single_tree c.args.tree.now ≡ tree = ap single_tree c.in-Not.is ∙ single_tree-Not c.in-Not.at c.in-Not.part ∙ ap (λ s. not_tree c.in-Not.at (single_tree s)) (sym c.deref.ensures) in
+    Reads-single c.args.self.now c.args.tally.now c.not.new.tally (Ok c.in_ok-negated-in-Not.negated) (single_tree c.args.tree.now) tree same
+    (λ lets are.
+    let e = env_in c.args.self.now lets in
+    HasRead-not (both_operand e c.deref.result.now c.args.tally.now.arities.items) c.args.tally.now c.single_operand.new.tally c.not.new.tally c.in_ok-part-in-Not.part c.in_ok-negated-in-Not.negated
+    (c.in_ok-part-in-Not.ensures lets are) c.in_ok-negated-in-Not.ensures.arities c.in_ok-negated-in-Not.ensures.nodes c.in_ok-negated-in-Not.ensures.part)
+
 pub single-returns-in_ok-whole-in-Atomic : goal.single-returns-in_ok-whole-in-Atomic
 single-returns-in_ok-whole-in-Atomic t c =
-    Reads-single c.args.self.now c.args.tally.now c.atomic.new.tally (Ok c.in_ok-whole-in-Atomic.whole) (single_tree c.args.tree.now) (atomic_tree c.in-Atomic.at (policy_tree c.deref-in-Atomic.result.now)) (ap single_tree c.in-Atomic.is ∙ single_tree-Atomic c.in-Atomic.at c.in-Atomic.body ∙ ap (λ p. atomic_tree c.in-Atomic.at (policy_tree p)) (sym c.deref-in-Atomic.ensures))
+    let tree = atomic_tree c.in-Atomic.at (policy_tree c.deref-in-Atomic.result.now) in
+    let same : single_tree c.args.tree.now ≡ tree =
+    ap single_tree c.in-Atomic.is ∙ single_tree-Atomic c.in-Atomic.at c.in-Atomic.body ∙ ap (λ p. atomic_tree c.in-Atomic.at (policy_tree p)) (sym c.deref-in-Atomic.ensures) in
+    Reads-single c.args.self.now c.args.tally.now c.atomic.new.tally (Ok c.in_ok-whole-in-Atomic.whole) (single_tree c.args.tree.now) tree same
     (λ lets are.
     let e = env_in c.args.self.now lets in
     HasRead-atomic (read_policy e (policy_tree c.deref-in-Atomic.result.now) c.args.tally.now.arities.items) c.args.tally.now c.policy-in-Atomic.new.tally c.atomic.new.tally c.in_ok-body-in-Atomic.body c.in_ok-whole-in-Atomic.whole
