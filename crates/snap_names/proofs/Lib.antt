@@ -9,5 +9,6 @@ pub mod Readings
 pub mod Operands
 pub mod Named
 pub mod Loops
+pub mod Parted
 pub mod CoreSizes
 pub mod Nodes

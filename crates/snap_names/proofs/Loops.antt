@@ -1,15 +1,13 @@
 -- Loops over the operands of a repeated part: what was read so far, one operand more, and the first that is refused.
-use Rattle.std.proofs.Common.{◌≡◌, ℕ, ◌+◌, ◌<◌, List, [], ◌∷◌, ◌++◌, length, take, drop, get_or, map, Option, Some, None, Result, Ok, Err, refl, ap, sym, ◌∙◌, subst, suc, append_assoc, add-one}
+use Rattle.std.proofs.Common.{◌≡◌, ℕ, ◌+◌, ◌<◌, List, [], ◌∷◌, ◌++◌, length, take, drop, get_or, map, Option, Some, Ok, Err, refl, ap, sym, ◌∙◌, subst, add-one}
 use Rattle.std.specs.Prelude.{is_some, option_map, if◌then◌else◌}
 use Rattle.std.proofs.lemmas.List.{take_more, take-append-drop, map-append}
 use Rattle.std.proofs.Math.Seq.{drop-cons}
-use Rattle.snap_parse.specs.declared.tree.Policy.{Policy}
 use Rattle.snap_parse.specs.declared.tree.Sequence.{Sequence}
 use Rattle.snap_parse.specs.declared.tree.Choice.{Choice}
-use Rattle.snap_parse.specs.declared.tree.Either.{Either}
 use Rattle.snap_parse.specs.declared.tree.Both.{Both}
 use Rattle.snap_parse.specs.declared.tree.Single.{Single}
-use Rattle.snap_parse.specs.Tree.{PolicyTree, SequenceTree, ChoiceTree, EitherTree, BothTree, SingleTree, policy_tree, sequence_tree, choice_tree, either_tree, both_tree, single_tree, policy_append, policy_begin, policy_more, sequence_append, sequence_begin, sequence_more, either_append, either_begin, either_more, both_append, both_begin, both_more}
+use Rattle.snap_parse.specs.Tree.{PolicyTree, SequenceTree, ChoiceTree, EitherTree, BothTree, SingleTree, sequence_tree, choice_tree, both_tree, single_tree, policy_append, policy_begin, policy_more, sequence_append, sequence_begin, sequence_more, either_append, either_begin, either_more, both_append, both_begin, both_more}
 use Rattle.snap_parse.proofs.Trees.{policy_next, sequence_next, either_next, both_next}
 use Rattle.snap_names.specs.declared.scope.Part.{Part}
 use Rattle.snap_names.specs.declared.scope.Tally.{Tally}

@@ -1,5 +1,5 @@
 -- Predicates of repeated parts, and the bodies of `let`.
-use Rattle.std.proofs.Common.{◌≡◌, ℕ, Bool, true, false, List, [], ◌∷◌, Option, Some, None, refl, ap, sym, ◌∙◌, slice_get, zero, suc, subst, ◌≢◌, length, map, get_or, arith}
+use Rattle.std.proofs.Common.{◌≡◌, ℕ, true, false, List, [], ◌∷◌, Some, None, refl, ap, sym, slice_get, zero, suc, subst, ◌≢◌, length, map, get_or, arith}
 use Rattle.snap_parse.specs.declared.tree.Sequence.{Sequence}
 use Rattle.snap_parse.specs.declared.tree.Choice.{Choice}
 use Rattle.snap_parse.specs.declared.tree.Both.{Both}

@@ -10,6 +10,7 @@ ghost use Rattle.snap_names.specs.declared.fault.NameFault.TheVariants.{NoMemory
 pub mod copies;
 pub mod declarations;
 pub mod fault;
+pub mod leaves;
 pub mod limits;
 pub mod parts;
 pub mod places;

@@ -144,58 +144,31 @@ impl Scope<'_> {
             Single::Name(name) => self.named(tally, *name),
             Single::Id { .. } => Ok(tally.leaf(Pol::Filter(Pred::Id))),
             Single::Drop { .. } => Ok(tally.leaf(Pol::Filter(Pred::Drop))),
-            Single::Test { name, value } => {
-                let test = self.field_equals(*name, *value)?;
-                Ok(tally.leaf(Pol::Filter(test)))
-            }
-            Single::Set { name, value } => {
-                let set = self.field_gets(*name, *value)?;
-                Ok(tally.leaf(set))
-            }
-            Single::Bare { name, places } => {
-                let bare = self.bare(tally, *name, places)?;
-                Ok(tally.leaf(bare))
-            }
+            Single::Test { name, value } => self.test_part(tally, *name, *value),
+            Single::Set { name, value } => self.set_part(tally, *name, *value),
+            Single::Bare { name, places } => self.bare_part(tally, *name, places),
             Single::ArrayTest {
                 name,
                 places,
                 value,
-            } => {
-                let test = self.array_test(tally, *name, places, *value)?;
-                Ok(tally.leaf(test))
-            }
+            } => self.array_test_part(tally, *name, places, *value),
             Single::ArraySet {
                 name,
                 places,
                 value,
-            } => {
-                let set = self.array_set(tally, *name, places, *value)?;
-                Ok(tally.leaf(set))
-            }
-            Single::Up { name, places } => {
-                let up = self.array_step(tally, *name, places, 1)?;
-                Ok(tally.leaf(up))
-            }
-            Single::Down { name, places } => {
-                let down = self.array_step(tally, *name, places, u64::MAX)?;
-                Ok(tally.leaf(down))
-            }
+            } => self.array_set_part(tally, *name, places, *value),
+            Single::Up { name, places } => self.step_part(tally, *name, places, 1),
+            Single::Down { name, places } => self.step_part(tally, *name, places, u64::MAX),
             Single::ArrayAdd {
                 name,
                 places,
                 value,
-            } => {
-                let add = self.array_add(tally, *name, places, *value)?;
-                Ok(tally.leaf(add))
-            }
+            } => self.array_add_part(tally, *name, places, *value),
             Single::ArraySub {
                 name,
                 places,
                 value,
-            } => {
-                let sub = self.array_sub(tally, *name, places, *value)?;
-                Ok(tally.leaf(sub))
-            }
+            } => self.array_sub_part(tally, *name, places, *value),
         }
     }
 }

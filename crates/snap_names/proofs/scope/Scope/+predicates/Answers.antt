@@ -1,4 +1,4 @@
-use Rattle.std.proofs.Common.{rules, arith, ◌≡◌, ◌≢◌, ◌∙◌, ℕ, sym, ap, length, get_or, true, false}
+use Rattle.std.proofs.Common.{rules, ◌≡◌, ◌≢◌, ◌∙◌, sym, ap, length, get_or}
 use Rattle.snap_parse.specs.declared.tree.Policy.{out-Policy}
 use Rattle.snap_parse.specs.declared.tree.Either.{out-Either}
 use Rattle.snap_parse.proofs.Trees.{sequence_tree-out, both_tree-out}

@@ -1,4 +1,4 @@
-use Rattle.std.proofs.Common.{◌≡◌, List, take}
+use Rattle.std.proofs.Common.{List, take}
 use Rattle.snap_parse.specs.declared.tree.Policy.{out-Policy}
 use Rattle.snap_parse.specs.declared.tree.Either.{out-Either}
 use Rattle.snap_names.specs.Core.{CorePolicy}

@@ -1,10 +1,8 @@
-use Rattle.std.proofs.Common.{rules, arith, ◌≡◌, ◌≢◌, ◌∙◌, ℕ, sym, ap, length, get_or}
-use Rattle.snap_parse.specs.declared.tree.Either.{out-Either}
+use Rattle.std.proofs.Common.{rules, ◌≡◌, ◌≢◌, ◌∙◌, sym, ap, length, get_or}
 use Rattle.snap_parse.proofs.Trees.{both_tree-out}
-use Rattle.snap_names.proofs.Nodes.{either_tree-out}
 use Rattle.snap_names.specs.Parts.{words_of}
-use Rattle.snap_names.specs.Reading.{both_fault, either_fault}
-use Rattle.snap_names.proofs.Operands.{both_fault_one, both_fault_other, either_fault_one, either_fault_other}
+use Rattle.snap_names.specs.Reading.{both_fault}
+use Rattle.snap_names.proofs.Operands.{both_fault_one, both_fault_other}
 use Rattle.snap_names.proofs.scope.Scope.both_fault.Goals as goal
 
 pub returns-then-len-eq1 : goal.returns-then-len-eq1

@@ -1,10 +1,6 @@
-use Rattle.std.proofs.Common.{rules, ◌≡◌, ◌∙◌, sym, ap, Ok, Err, Result, subst}
-use Rattle.std.specs.Prelude.{IfOk, IfErr}
-use Rattle.snap_core.specs.declared.policy.Pred.{Pred}
-use Rattle.snap_names.specs.declared.scope.Sense.{Sense}
+use Rattle.std.proofs.Common.{◌≡◌, ◌∙◌, sym, ap, Ok, subst}
+use Rattle.std.specs.Prelude.{IfOk}
 use Rattle.snap_names.specs.declared.scope.Sense.TheVariants.{Split}
-use Rattle.snap_names.specs.declared.fault.NameFault.{NameFault}
-use Rattle.snap_names.specs.declared.fault.NameFault.TheVariants.{NoMemory}
 use Rattle.snap_names.specs.Core.{core_test}
 use Rattle.snap_names.specs.Parts.{words_of, Refuses}
 use Rattle.snap_names.specs.Senses.{after, sense_of, field_equals, split_test, test_of_sense}

@@ -1,7 +1,7 @@
-use Rattle.std.proofs.Common.{rules, ◌≡◌, ◌∙◌, sym, ap, Ok, Err, Some, None, slice_get}
+use Rattle.std.proofs.Common.{rules, ◌≡◌, ◌∙◌, sym, ap, Ok, Some, None, slice_get}
 use Rattle.std.proofs.lemmas.Option.{slice_get-get_or, slice_get_past}
 use Rattle.snap_names.specs.declared.scope.Sense.TheVariants.{Policy}
-use Rattle.snap_names.specs.Parts.{words_of, env_in}
+use Rattle.snap_names.specs.Parts.{words_of}
 use Rattle.snap_names.specs.Senses.{sense_of}
 use Rattle.snap_names.specs.Reading.{is_filter_or_fault}
 use Rattle.snap_names.proofs.Named.{named-some, named-none}

@@ -1,9 +1,7 @@
-use Rattle.std.proofs.Common.{rules, ◌≡◌, Some, None, Option, ap, sym, ◌∙◌}
+use Rattle.std.proofs.Common.{ap, sym, ◌∙◌}
 use Rattle.std.specs.Map.{lookup}
 use Rattle.std.specs.Str.{bytes_eq}
-use Rattle.snap_names.specs.declared.scope.Sense.{Sense}
 use Rattle.snap_names.specs.declared.fault.NameFault.TheVariants.{Unknown}
-use Rattle.snap_names.specs.Parts.{words_of, names_in}
 use Rattle.snap_names.specs.Senses.{word, or_fault}
 use Rattle.snap_names.proofs.Lookups.{lookup-names_in}
 use Rattle.snap_names.proofs.scope.Scope.sense.Goals as goal

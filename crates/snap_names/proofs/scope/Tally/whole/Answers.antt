@@ -1,4 +1,4 @@
-use Rattle.std.proofs.Common.{◌≡◌, subst}
+use Rattle.std.proofs.Common.{subst}
 use Rattle.snap_names.specs.Parts.{HaveRead, HaveReadTests}
 use Rattle.snap_names.proofs.Readings.{HasRead-whole, HasRead-whole_none, HasRead-whole_test, HasRead-whole_test_none}
 use Rattle.snap_names.proofs.scope.Tally.whole.Goals as goal
