@@ -11,3 +11,4 @@ pub mod Named
 pub mod Loops
 pub mod CoreSizes
 pub mod Nodes
+pub mod Declaring
