@@ -17,7 +17,7 @@ use Rattle.snap_names.specs.declared.scope.Scope.{Scope}
 use Rattle.snap_names.specs.declared.fault.NameFault.{NameFault}
 use Rattle.snap_names.specs.Core.{CorePolicy, nodes}
 use Rattle.snap_names.specs.Senses.{Arities}
-use Rattle.snap_names.specs.Declarations.{Declared, is_known, field_names, field_senses, short, capped, with_field, with_array, with_constant, with_let}
+use Rattle.snap_names.specs.Declarations.{Declared, ports, is_known, field_names, field_senses, short, capped, with_field, with_array, with_constant, with_let}
 use Rattle.snap_names.specs.Parts.{names_in, AreBodies, no_bodies, more_bodies, IsBody, IsPart}
 use Rattle.snap_names.specs.Scopes.{declared_in, IsScope, HasDeclared}
 use Rattle.snap_names.proofs.PartLemmas.{IsPart-later}
@@ -183,3 +183,23 @@ IsBody-kept p n kept part e counted h =
     let here : kept ≡ min (nodes p) 4294967295 = omega (arith, e, same) in
     let later : min kept 4294967295 ≡ min (n + 0) 4294967295 = omega (arith, e) in
     record { nodes = here; part = IsPart-later p n kept 0 part later h }
+
+second_new : (d : Declared) → with_field (declared_with [] [] [] [] []) (codes "inport") None ≡ d → list_any (is_known d.names) (field_names (codes "outport") false) ≡ false
+second_new d e = subst (λ w. list_any (is_known w.names) (field_names (codes "outport") false) ≡ false) e refl
+
+with_ports : (d : Declared) → with_field (declared_with [] [] [] [] []) (codes "inport") None ≡ d → with_field d (codes "outport") None ≡ ports
+with_ports d e = subst (λ w. with_field w (codes "outport") None ≡ ports) e refl
+
+abbrev FieldDeclared : Scope → Scope → List ℕ → Type 0
+FieldDeclared old new name = list_any (is_known (names_in old.names.entries)) (field_names name false) ≡ false → (lets : List CorePolicy) → IsScope old lets → (arities : Arities) → HasDeclared old.text.now (Ok (with_field (declared_in old lets arities) name None)) new arities
+
+-- The two plain fields that are declared before a text.
+pub ports_declared : (text : List ℕ) (s0 s1 s2 : Scope) → declared_in s0 [] [] ≡ declared_with [] [] [] [] [] → s0.text.now ≡ text → IsScope s0 []
+  → FieldDeclared s0 s1 (codes "inport") → FieldDeclared s1 s2 (codes "outport") → HasDeclared text (Ok ports) s2 []
+ports_declared text s0 s1 s2 e t h a b =
+    let k : list_any (is_known (names_in s0.names.entries)) (field_names (codes "inport") false) ≡ false = subst (λ w. list_any (is_known w.names) (field_names (codes "inport") false) ≡ false) (sym e) refl in
+    let first : HasDeclared s0.text.now (Ok (with_field (declared_in s0 [] []) (codes "inport") None)) s1 [] = a k [] h [] in
+    let f : with_field (declared_in s0 [] []) (codes "inport") None ≡ declared_in s1 first.lets [] = cc first.declares in
+    let g : with_field (declared_with [] [] [] [] []) (codes "inport") None ≡ declared_in s1 first.lets [] = subst (λ w. with_field w (codes "inport") None ≡ declared_in s1 first.lets []) e f in
+    let second : HasDeclared s1.text.now (Ok (with_field (declared_in s1 first.lets []) (codes "outport") None)) s2 [] = b (second_new _ g) first.lets first.scope [] in
+    record { lets = second.lets; scope = second.scope; text_is = second.text_is ∙ first.text_is ∙ t; declares = ap Ok (sym (with_ports _ g)) ∙ second.declares }

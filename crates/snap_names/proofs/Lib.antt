@@ -12,3 +12,4 @@ pub mod Loops
 pub mod CoreSizes
 pub mod Nodes
 pub mod Declaring
+pub mod Within

@@ -55,8 +55,8 @@ impl Scope<'_> {
     /// The program with this body, if it is within all limits.
     pub fn limited(self, tally: Tally, body: Part) -> Result<Program, NameFault>
         requires { AreFields self }
-        ensures ok { IfOk result (λ program. Limits self tally body (λ r. r ≡ Ok (core_program program))) }
-        ensures refused { IfErr result (λ f. f ≢ NoMemory → Limits self tally body (λ r. r ≡ Err f)) }
+        ensures ok { IfOk result (λ program. Limits self.entry tally body (λ r. r ≡ Ok (core_program program))) }
+        ensures refused { IfErr result (λ f. f ≢ NoMemory → Limits self.entry tally body (λ r. r ≡ Err f)) }
     {
         within(Which::Components, count(&self.fields), 64)?;
         within(Which::Arrays, self.arrays.len() as u64, 64)?;

@@ -1,4 +1,4 @@
-use Rattle.std.proofs.Common.{◌≡◌, Ok, Err, false, List, [], ◌∷◌, ◌++◌, length, refl, ap, ◌∙◌, subst}
+use Rattle.std.proofs.Common.{rules, ◌≡◌, Ok, Err, false, List, [], ◌∷◌, ◌++◌, length, refl, ap, ◌∙◌, subst}
 use Rattle.snap_parse.specs.Tree.{policy_tree}
 use Rattle.snap_names.specs.declared.scope.Sense.TheVariants.{Policy}
 use Rattle.snap_names.specs.declared.fault.NameFault.TheVariants.{Twice}
@@ -17,7 +17,8 @@ returns c = λ at lets h.
     let behind = c.body.new.tally.arities.items in
     let r = c.in_ok-part.ensures lets h.bodies in
     let ns = names_in old.names.entries in
-    let numbered = subst (λ i. is_known ns c.in_ok-word.word.items ≡ false → names_in c.add.new.names.entries ≡ ns ++ (c.in_ok-word.word.items, Policy i) ∷ []) c.len-number.ensures c.in_ok-add.ensures.ok in
+    let counted : c.len-number.result ≡ length old.lets.items = search rules in
+    let numbered = subst (λ i. is_known ns c.in_ok-word.word.items ≡ false → names_in c.add.new.names.entries ≡ ns ++ (c.in_ok-word.word.items, Policy i) ∷ []) counted c.in_ok-add.ensures.ok in
     let named = subst (λ w. is_known ns w ≡ false → names_in c.add.new.names.entries ≡ ns ++ (w, Policy (length old.lets.items)) ∷ []) c.in_ok-word.ensures.word numbered in
     HasDeclared-is old.text.now _ (Ok (with_let (declared_in old lets c.args.tally.now.arities.items) name (r.policy, behind))) _ behind
     (is_new (is_known (names_in old.names.entries) name) (Twice c.args.name.from) _ _ c.in_ok-word.ensures.new (rw r.reading refl))
