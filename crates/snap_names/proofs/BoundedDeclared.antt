@@ -1,5 +1,5 @@
 -- What is declared fits, so a program that is read is bounded.
-use Rattle.std.proofs.Common.{◌≡◌, ℕ, ◌+◌, ◌<◌, ◌≤◌, List, [], ◌∷◌, ◌++◌, length, Option, None, Some, Result, Ok, IfOk, sym, ap, ◌∙◌, subst, arith, add_assoc, le_refl, lt_of_le_of_lt, lt_of_lt_of_le, length-append}
+use Rattle.std.proofs.Common.{◌≡◌, ℕ, ◌+◌, ◌<◌, ◌≤◌, List, [], ◌∷◌, ◌++◌, length, Option, None, Some, is_some, Result, Ok, IfOk, sym, ap, ◌∙◌, subst, arith, add_assoc, le_refl, lt_of_le_of_lt, lt_of_lt_of_le, length-append}
 use Rattle.std.proofs.Math.Nat.{min-le_left}
 use Rattle.std.proofs.lemmas.Result.{IfOk-weaker}
 use Rattle.std.specs.List.{AllByRecursion, list_any}
@@ -26,7 +26,7 @@ use Rattle.snap_names.proofs.BoundedSteps.{AllByRecursion-weaker, AllByRecursion
 abbrev DeclaredFits : Declared → Type 0
 DeclaredFits d = NamesFit (count d.fields) (length d.arrays) d.names × AllByRecursion (PolicyFits (count d.fields) (length d.arrays)) d.lets
 
-count-append : (fs gs : List Field) → count (fs ++ gs) ≡ count fs + count gs
+pub count-append : (fs gs : List Field) → count (fs ++ gs) ≡ count fs + count gs
 count-append [] gs = omega arith
 count-append (f ∷ fs) gs = ap (λ n. width f.prefix + n) (count-append fs gs) ∙ sym (add_assoc (width f.prefix) (count fs) (count gs))
 
@@ -84,7 +84,7 @@ with_let-fits d name x h k =
 
 declare-fits : (text : List ℕ) (d : Declared) → DeclaredFits d → (t : DeclTree) → IfOk (declare text d t) DeclaredFits
 declare-fits text d h (field_tree at t p) =
-    IfOk-unless DeclaredFits (list_any (is_known d.names) (field_names (word text t) p)) (Twice t.from) _
+    IfOk-unless DeclaredFits (list_any (is_known d.names) (field_names (word text t) (is_some p))) (Twice t.from) _
     (IfOk-after_any DeclaredFits (prefix_length text p) _ (λ n. with_field-fits d (word text t) n h))
 declare-fits text d h (array_tree at t) = IfOk-unless DeclaredFits (is_known d.names (word text t)) (Twice t.from) (Ok (with_array d (word text t))) (with_array-fits d (word text t) h)
 declare-fits text d h (const_tree at t l) =

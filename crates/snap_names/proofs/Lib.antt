@@ -12,3 +12,5 @@ pub mod Loops
 pub mod Parted
 pub mod CoreSizes
 pub mod Nodes
+pub mod Declaring
+pub mod Within

@@ -43,9 +43,9 @@ abbrev pub is_known : List (List ℕ × Sense) → List ℕ → Bool
 is_known names name = is_some (lookup (bytes_eq name) names)
 
 -- the names that a field declares: a split one also those of its components
-abbrev pub field_names : List ℕ → Option Span → List (List ℕ)
-field_names name None = name ∷ []
-field_names name (Some t) = name ∷ (name ++ codes ".net") ∷ (name ++ codes ".host") ∷ []
+abbrev pub field_names : List ℕ → Bool → List (List ℕ)
+field_names name false = name ∷ []
+field_names name true = name ∷ (name ++ codes ".net") ∷ (name ++ codes ".host") ∷ []
 
 -- Programs number components in 16 bits; one with more is refused.
 abbrev pub short : ℕ → ℕ
@@ -76,7 +76,7 @@ with_let d name x = record d { lets = d.lets ++ x.0 ∷ []; names = d.names ++ (
 -- what is declared behind a declaration
 abbrev pub declare : List ℕ → Declared → DeclTree → Result Declared NameFault
 declare text d (field_tree at t p) =
-    if list_any (is_known d.names) (field_names (word text t) p) then Err (Twice t.from)
+    if list_any (is_known d.names) (field_names (word text t) (is_some p)) then Err (Twice t.from)
     else after (prefix_length text p) (λ n. Ok (with_field d (word text t) n))
 declare text d (array_tree at t) = if is_known d.names (word text t) then Err (Twice t.from) else Ok (with_array d (word text t))
 declare text d (const_tree at t l) =

@@ -3,3 +3,4 @@ pub mod Senses
 pub mod Reading
 pub mod Declarations
 pub mod Parts
+pub mod Scopes
