@@ -13,3 +13,4 @@ pub mod CoreSizes
 pub mod Nodes
 pub mod Declaring
 pub mod Within
+pub mod Resolving
