@@ -14,3 +14,4 @@ pub mod Nodes
 pub mod Declaring
 pub mod Within
 pub mod Resolving
+pub mod DeclaredFields

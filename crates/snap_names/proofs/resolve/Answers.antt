@@ -9,6 +9,7 @@ use Rattle.snap_names.specs.Declarations.{core_program, limited, resolved}
 use Rattle.snap_names.specs.Scopes.{Limits, declared_in}
 use Rattle.snap_names.proofs.Resolving.{AreDeclared, AreDeclared-more, resolved-refused, AreDeclared-rest, map-drop, drop-all, IfErr-from, resolved-read, resolved-limited, IfErr-weaker}
 use Rattle.snap_names.proofs.BoundedDeclared.{IfOk-resolved}
+use Rattle.snap_names.proofs.DeclaredFields.{IsFields-declared}
 use Rattle.snap_names.proofs.resolve.Goals as goal
 
 pub returns-in_err-declare-clause-refused : goal.returns-in_err-declare-clause-refused
@@ -32,7 +33,11 @@ returns-in_err-body-clause-refused c =
       ∙ ap (λ r. after r (limited (declared_in c.loop-decl.scope all.lets arities))) (c.in_err-body.ensures n all.lets all.scope.bodies))
 
 pub limited-requires : goal.limited-requires
-limited-requires c = ?
+limited-requires c =
+    let tree = source_tree c.args.source.now in
+    let arities = c.loop-decl.tally.arities.items in
+    let all : AreDeclared c.args.text.now tree.decls [] c.loop-decl.scope arities = AreDeclared-rest c.args.text.now tree.decls _ _ c.loop-decl.scope arities (drop-all decl_tree c.args.source.now.decls.items c.loop-decl.decl-index (subst (λ xs. length xs ≤ c.loop-decl.decl-index) c.deref-decl-items.ensures.value c.loop-decl-test.false)) c.loop-decl.invariant in
+    IsFields-declared c.args.text.now tree.decls (declared_in c.loop-decl.scope all.lets arities) all.rest_is
 
 pub returns-clause-ok : goal.returns-clause-ok
 returns-clause-ok c =
