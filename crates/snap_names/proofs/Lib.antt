@@ -14,3 +14,5 @@ pub mod CoreSizes
 pub mod Nodes
 pub mod Declaring
 pub mod Within
+pub mod Resolving
+pub mod DeclaredFields
