@@ -61,20 +61,18 @@ with_field-fits d name prefix h =
     let f : Field = record { name = name; prefix = prefix } in
     let counted : count (d.fields ++ f ∷ []) ≡ count d.fields + (width prefix + 0) = count-append d.fields (f ∷ []) in
     let wider : count d.fields + width prefix ≤ count (d.fields ++ f ∷ []) = omega (arith, counted) in
-    let more : count d.fields ≤ count (d.fields ++ f ∷ []) = omega (arith, counted) in
-    (
+    let more : count d.fields ≤ count (d.fields ++ f ∷ []) = omega (arith, counted) in (
       NamesFit-append _ _ d.names (field_senses (count d.fields) name prefix) (NamesFit-more _ _ _ _ more (le_refl _) d.names h.0) (field_senses-fit _ _ _ name prefix wider),
-      LetsFit-more _ _ _ _ more (le_refl _) d.lets h.1
+      LetsFit-more _ _ _ _ more (le_refl _) d.lets h.1,
     )
 
 with_array-fits : (d : Declared) (name : List ℕ) → DeclaredFits d → DeclaredFits (with_array d name)
 with_array-fits d name h =
     let counted : length (d.arrays ++ name ∷ []) ≡ length d.arrays + 1 = length-append d.arrays (name ∷ []) in
     let below : length d.arrays < length (d.arrays ++ name ∷ []) = omega (arith, counted) in
-    let more : length d.arrays ≤ length (d.arrays ++ name ∷ []) = omega (arith, counted) in
-    (
+    let more : length d.arrays ≤ length (d.arrays ++ name ∷ []) = omega (arith, counted) in (
       NamesFit-append _ _ d.names ((name, Array (length d.arrays)) ∷ []) (NamesFit-more _ _ _ _ (le_refl _) more d.names h.0) (below, tt),
-      LetsFit-more _ _ _ _ (le_refl _) more d.lets h.1
+      LetsFit-more _ _ _ _ (le_refl _) more d.lets h.1,
     )
 
 with_constant-fits : (d : Declared) (name : List ℕ) (n : ℕ) (b : _) → DeclaredFits d → DeclaredFits (with_constant d name n b)

@@ -18,7 +18,7 @@ use Rattle.snap_names.specs.declared.fault.NameFault.{NameFault}
 use Rattle.snap_names.specs.declared.fault.NameFault.TheVariants.{Twice, Prefix}
 use Rattle.snap_parse.specs.Tree.{DeclTree, field_tree, array_tree, const_tree, let_tree}
 use Rattle.std.proofs.lemmas.Bool.Decides.{nat_tests}
-use Rattle.snap_names.proofs.Declaring.{bytes_eq-apart}
+use Rattle.snap_names.proofs.Declaring.{bytes_eq-apart, or_left, or_right}
 use Rattle.std.specs.Prelude.{nat_le, ◌&&◌, if◌then◌else◌, take}
 use Rattle.snap_names.proofs.BoundedSteps.{AllByRecursion-append, AllByRecursion-weaker, IfOk-after, IfOk-after_any, IfOk-unless}
 
@@ -30,11 +30,11 @@ names_one c name None = refl
 names_one c name (Some n) = refl
 
 names_step : (c : ℕ) (name : List ℕ) (prefix : Option ℕ) (xs ys : List (List ℕ × _)) (more : List (List ℕ)) → map (λ e. e.0) xs ≡ map (λ e. e.0) ys ++ more
-  → map (λ e. e.0) (declared_at c name prefix ++ xs) ≡ map (λ e. e.0) (declared_at c name prefix ++ ys) ++ more
+    → map (λ e. e.0) (declared_at c name prefix ++ xs) ≡ map (λ e. e.0) (declared_at c name prefix ++ ys) ++ more
 names_step c name None xs ys more h = ap (λ w. name ∷ w) h
 names_step c name (Some n) xs ys more h = ap (λ w. name ∷ (name ++ codes ".net") ∷ (name ++ codes ".host") ∷ w) h
 
-pub names_from-append : (c : ℕ) (fs : List Field) (name : List ℕ) (prefix : Option ℕ) → names_from c (fs ++ record { name = name; prefix = prefix } ∷ []) ≡ names_from c fs ++ field_names name (is_some prefix)
+names_from-append : (c : ℕ) (fs : List Field) (name : List ℕ) (prefix : Option ℕ) → names_from c (fs ++ record { name = name; prefix = prefix } ∷ []) ≡ names_from c fs ++ field_names name (is_some prefix)
 names_from-append c [] name prefix = names_one c name prefix
 names_from-append c (f ∷ fs) name prefix = names_step c f.name f.prefix _ _ _ (names_from-append (c + width f.prefix) fs name prefix)
 
@@ -56,20 +56,12 @@ different names x y h k = by_test (bytes_eq x y) refl
         cc
     by_test false e = e
 
-or_false_left : (a b : Bool) → (a || b) ≡ false → a ≡ false
-or_false_left true b h = h
-or_false_left false b h = refl
-
-or_false_right : (a b : Bool) → (a || b) ≡ false → b ≡ false
-or_false_right true b h = cc
-or_false_right false b h = h
-
 different_all : (names : List (List ℕ × Sense)) (x : List ℕ) (ys : List (List ℕ)) → is_known names x ≡ true → list_any (is_known names) ys ≡ false → AllByRecursion (λ y. bytes_eq x y ≡ false) ys
 different_all names x [] h k = tt
-different_all names x (y ∷ ys) h k = (different names x y h (or_false_left _ _ k), different_all names x ys h (or_false_right (is_known names y) _ k))
+different_all names x (y ∷ ys) h k = (different names x y h (or_left _ _ k), different_all names x ys h (or_right (is_known names y) _ k))
 
 pub IsDistinct-append : (names : List (List ℕ × Sense)) (xs ys : List (List ℕ)) → AllByRecursion (λ x. is_known names x ≡ true) xs → list_any (is_known names) ys ≡ false
-  → IsDistinct bytes_eq xs → IsDistinct bytes_eq ys → IsDistinct bytes_eq (xs ++ ys)
+    → IsDistinct bytes_eq xs → IsDistinct bytes_eq ys → IsDistinct bytes_eq (xs ++ ys)
 unfolding IsDistinct
 IsDistinct-append names [] ys h k d e = e
 IsDistinct-append names (x ∷ xs) ys h k d e =
@@ -102,10 +94,13 @@ known_new c name None = (known_first name (Plain (short c)) [], tt)
 known_new c name (Some p) =
     let whole : List ℕ × Sense = (name, Split (short c) (short (c + 1)) p) in
     let net : List ℕ × Sense = (name ++ codes ".net", Plain (short c)) in
-    let host : List ℕ × Sense = (name ++ codes ".host", Plain (short (c + 1))) in
-    (known_first name whole.1 (net ∷ host ∷ []),
-    (known_behind (whole ∷ []) (net ∷ host ∷ []) (name ++ codes ".net") (known_first (name ++ codes ".net") net.1 (host ∷ [])),
-    (known_behind (whole ∷ net ∷ []) (host ∷ []) (name ++ codes ".host") (known_first (name ++ codes ".host") host.1 []), tt)))
+    let host : List ℕ × Sense = (name ++ codes ".host", Plain (short (c + 1))) in (
+      known_first name whole.1 (net ∷ host ∷ []),
+      (
+        known_behind (whole ∷ []) (net ∷ host ∷ []) (name ++ codes ".net") (known_first (name ++ codes ".net") net.1 (host ∷ [])),
+        (known_behind (whole ∷ net ∷ []) (host ∷ []) (name ++ codes ".host") (known_first (name ++ codes ".host") host.1 []), tt),
+      ),
+    )
 
 record FieldsStand (d : Declared) : Type 0 where
   rest : List Field
@@ -123,8 +118,8 @@ with_field-stands d name prefix h k fits =
       first = ap (λ (fs : List Field). fs ++ record { name = name; prefix = prefix } ∷ []) h.first;
       distinct = subst (IsDistinct bytes_eq) (sym e) (IsDistinct-append d.names (names_of d.fields) _ h.known k h.distinct (names_apart name (is_some prefix)));
       known = subst (AllByRecursion (λ n. is_known (d.names ++ more) n ≡ true)) (sym e) (AllByRecursion-append (λ n. is_known (d.names ++ more) n ≡ true) _ _
-        (AllByRecursion-weaker (λ n. is_known d.names n ≡ true) (λ n. is_known (d.names ++ more) n ≡ true) (is_known-more d.names more) _ h.known)
-        (AllByRecursion-weaker (λ n. is_known more n ≡ true) (λ n. is_known (d.names ++ more) n ≡ true) (known_behind d.names more) _ (known_new (count d.fields) name prefix)));
+          (AllByRecursion-weaker (λ n. is_known d.names n ≡ true) (λ n. is_known (d.names ++ more) n ≡ true) (is_known-more d.names more) _ h.known)
+          (AllByRecursion-weaker (λ n. is_known more n ≡ true) (λ n. is_known (d.names ++ more) n ≡ true) (known_behind d.names more) _ (known_new (count d.fields) name prefix)));
       prefixes = AllByRecursion-append (λ f. PrefixFits f.prefix) d.fields _ h.prefixes (fits, tt);
     }
 
@@ -137,20 +132,20 @@ unless_step P false f r h = h refl
 
 named-stands : (d e : Declared) (more : List (List ℕ × Sense)) → e.fields ≡ d.fields → e.names ≡ d.names ++ more → FieldsStand d → FieldsStand e
 named-stands d e more fs ns h = record {
-    rest = h.rest;
-    first = fs ∙ h.first;
-    distinct = rw fs h.distinct;
-    known = rw (fs, ns) (AllByRecursion-weaker (λ n. is_known d.names n ≡ true) (λ n. is_known (d.names ++ more) n ≡ true) (is_known-more d.names more) _ h.known);
-    prefixes = rw fs h.prefixes;
-  }
+  rest = h.rest;
+  first = fs ∙ h.first;
+  distinct = rw fs h.distinct;
+  known = rw (fs, ns) (AllByRecursion-weaker (λ n. is_known d.names n ≡ true) (λ n. is_known (d.names ++ more) n ≡ true) (is_known-more d.names more) _ h.known);
+  prefixes = rw fs h.prefixes;
+}
 
 IfOk-split : (d : Declared) (name : List ℕ) (b : Bool) (n : ℕ) (f : NameFault) → FieldsStand d → list_any (is_known d.names) (field_names name true) ≡ false → (b ≡ true → PrefixFits (Some n))
-  → IfOk (after (if b then Ok (Some n) else Err f) (λ w. Ok (with_field d name w))) FieldsStand
+    → IfOk (after (if b then Ok (Some n) else Err f) (λ w. Ok (with_field d name w))) FieldsStand
 IfOk-split d name true n f h k fits = with_field-stands d name (Some n) h k (fits refl)
 IfOk-split d name false n f h k fits = tt
 
 IfOk-split_after : (d : Declared) (name : List ℕ) (r : Result ℕ NameFault) (f : NameFault) → FieldsStand d → list_any (is_known d.names) (field_names name true) ≡ false
-  → IfOk (after (after r (λ n. if nat_le 1 n && nat_le n 31 then Ok (Some n) else Err f)) (λ w. Ok (with_field d name w))) FieldsStand
+    → IfOk (after (after r (λ n. if nat_le 1 n && nat_le n 31 then Ok (Some n) else Err f)) (λ w. Ok (with_field d name w))) FieldsStand
 IfOk-split_after d name (Err e) f h k = tt
 IfOk-split_after d name (Ok n) f h k = IfOk-split d name (nat_le 1 n && nat_le n 31) n f h k (within_31 n)
 

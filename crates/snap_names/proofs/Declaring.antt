@@ -24,15 +24,15 @@ use Rattle.snap_names.proofs.PartLemmas.{IsPart-later}
 use Rattle.snap_names.proofs.BoundedDeclared.{count-append}
 
 insert_step : (b : Bool) (e : Vec ℕ Global × Sense) (es more : List (Vec ℕ Global × Sense)) (name : Vec ℕ Global) (s : Sense)
-  → (is_known (names_in es) name.items ≡ false → names_in more ≡ names_in es ++ (name.items, s) ∷ [])
-  → is_some (cond b (Some e.1) (lookup (bytes_eq name.items) (names_in es))) ≡ false
-  → names_in (if b then (e.0, s) ∷ es else e ∷ more) ≡ (e.0.items, e.1) ∷ (names_in es ++ (name.items, s) ∷ [])
+    → (is_known (names_in es) name.items ≡ false → names_in more ≡ names_in es ++ (name.items, s) ∷ [])
+    → is_some (cond b (Some e.1) (lookup (bytes_eq name.items) (names_in es))) ≡ false
+    → names_in (if b then (e.0, s) ∷ es else e ∷ more) ≡ (e.0.items, e.1) ∷ (names_in es ++ (name.items, s) ∷ [])
 insert_step true e es more name s rest h = cc
 insert_step false e es more name s rest h = ap (λ xs. (e.0.items, e.1) ∷ xs) (rest h)
 
 -- A new name stands behind those before.
 pub names_in-insert_entry : (es : List (Vec ℕ Global × Sense)) (name : Vec ℕ Global) (s : Sense)
-  → is_known (names_in es) name.items ≡ false → names_in (insert_entry (λ x y. bytes_eq x.items y.items) es name s) ≡ names_in es ++ (name.items, s) ∷ []
+    → is_known (names_in es) name.items ≡ false → names_in (insert_entry (λ x y. bytes_eq x.items y.items) es name s) ≡ names_in es ++ (name.items, s) ∷ []
 names_in-insert_entry [] name s h = refl
 names_in-insert_entry (e ∷ es) name s h = insert_step (bytes_eq name.items e.0.items) e es (insert_entry (λ x y. bytes_eq x.items y.items) es name s) name s (names_in-insert_entry es name s) h
 
@@ -52,27 +52,27 @@ bytes_eq-apart xs ys h = by_test (bytes_eq xs ys) refl
     by_test true e = absurd (h (ap length ((bytes_eq-Decides xs ys).0 e)))
     by_test false e = e
 
-or_left : (a b : Bool) → (a || b) ≡ false → a ≡ false
+pub or_left : (a b : Bool) → (a || b) ≡ false → a ≡ false
 or_left true b h = h
 or_left false b h = refl
 
-or_right : (a b : Bool) → (a || b) ≡ false → b ≡ false
+pub or_right : (a b : Bool) → (a || b) ≡ false → b ≡ false
 or_right true b h = cc
 or_right false b h = h
 
 pub one_new : (ns n1 : List (List ℕ × Sense)) (name : List ℕ) (s : Sense)
-  → list_any (is_known ns) (field_names name false) ≡ false
-  → (is_known ns name ≡ false → n1 ≡ ns ++ (name, s) ∷ [])
-  → n1 ≡ ns ++ (name, s) ∷ []
+    → list_any (is_known ns) (field_names name false) ≡ false
+    → (is_known ns name ≡ false → n1 ≡ ns ++ (name, s) ∷ [])
+    → n1 ≡ ns ++ (name, s) ∷ []
 one_new ns n1 name s h f = f (or_left (is_known ns name) false h)
 
 pub three_new : (ns n1 n2 n3 : List (List ℕ × Sense)) (name net host : List ℕ) (s1 s2 s3 : Sense)
-  → list_any (is_known ns) (field_names name true) ≡ false
-  → net ≡ name ++ codes ".net" → host ≡ name ++ codes ".host"
-  → (is_known ns name ≡ false → n1 ≡ ns ++ (name, s1) ∷ [])
-  → (is_known n1 net ≡ false → n2 ≡ n1 ++ (net, s2) ∷ [])
-  → (is_known n2 host ≡ false → n3 ≡ n2 ++ (host, s3) ∷ [])
-  → n3 ≡ ns ++ (name, s1) ∷ (name ++ codes ".net", s2) ∷ (name ++ codes ".host", s3) ∷ []
+    → list_any (is_known ns) (field_names name true) ≡ false
+    → net ≡ name ++ codes ".net" → host ≡ name ++ codes ".host"
+    → (is_known ns name ≡ false → n1 ≡ ns ++ (name, s1) ∷ [])
+    → (is_known n1 net ≡ false → n2 ≡ n1 ++ (net, s2) ∷ [])
+    → (is_known n2 host ≡ false → n3 ≡ n2 ++ (host, s3) ∷ [])
+    → n3 ≡ ns ++ (name, s1) ∷ (name ++ codes ".net", s2) ∷ (name ++ codes ".host", s3) ∷ []
 three_new ns n1 n2 n3 name net host s1 s2 s3 h en eh f1 f2 f3 =
     let k1 : is_known ns name ≡ false = or_left (is_known ns name) _ h in
     let r1 : (is_known ns (name ++ codes ".net") || (is_known ns (name ++ codes ".host") || false)) ≡ false = or_right (is_known ns name) _ h in
@@ -92,15 +92,15 @@ abbrev declared_with : List Field → List (List ℕ) → List CorePolicy → Li
 declared_with fs ars ls ns ar = record { fields = fs; arrays = ars; lets = ls; names = ns; arities = ar }
 
 pub split_senses : (n comp host prefix : ℕ) (ns : List (List ℕ × Sense)) (name : List ℕ) → comp ≡ short n → host ≡ min (comp + 1) 65535
-  → ns ++ (name, Split comp host prefix) ∷ (name ++ codes ".net", Plain comp) ∷ (name ++ codes ".host", Plain host) ∷ [] ≡ ns ++ field_senses n name (Some prefix)
+    → ns ++ (name, Split comp host prefix) ∷ (name ++ codes ".net", Plain comp) ∷ (name ++ codes ".host", Plain host) ∷ [] ≡ ns ++ field_senses n name (Some prefix)
 split_senses n comp host prefix ns name e f =
     let g : host ≡ min (n + 1) 65535 = omega (arith, e, f) in
     rw (g, e) refl
 
 -- What is declared in a scope, part by part.
 pub declared_in-is : (fs : List Field) (ars : List (List ℕ)) (ls : List CorePolicy) (ns : List (List ℕ × Sense)) (ar : Arities) (s : Scope) (lets : List CorePolicy) (arities : Arities)
-  → fs ≡ s.fields.items → ars ≡ s.arrays.items → ls ≡ lets → ns ≡ names_in s.names.entries → ar ≡ arities
-  → declared_with fs ars ls ns ar ≡ declared_in s lets arities
+    → fs ≡ s.fields.items → ars ≡ s.arrays.items → ls ≡ lets → ns ≡ names_in s.names.entries → ar ≡ arities
+    → declared_with fs ars ls ns ar ≡ declared_in s lets arities
 declared_in-is fs ars ls ns ar s lets arities a b c d e = rw (a, b, c, d, e) refl
 
 AreBodies-append : (bs : List _) (ps : List CorePolicy) (b : _) (p : CorePolicy) → AreBodies bs ps → IsBody b p → AreBodies (bs ++ b ∷ []) (ps ++ p ∷ [])
@@ -112,11 +112,11 @@ AreBodies-length _ _ no_bodies = refl
 AreBodies-length _ _ (more_bodies h hs) = ap suc (AreBodies-length _ _ hs)
 
 pub field_declared : (old new : Scope) (lets : List CorePolicy) (arities : Arities) (name : List ℕ) (prefix : Option ℕ) → IsScope old lets
-  → new.text.now ≡ old.text.now → new.lets.items ≡ old.lets.items → new.arrays.items ≡ old.arrays.items
-  → new.fields.items ≡ old.fields.items ++ record { name = name; prefix = prefix } ∷ []
-  → new.comps ≡ min (old.comps + width prefix) 65535
-  → names_in new.names.entries ≡ names_in old.names.entries ++ field_senses (count old.fields.items) name prefix
-  → HasDeclared old.text.now (Ok (with_field (declared_in old lets arities) name prefix)) new arities
+    → new.text.now ≡ old.text.now → new.lets.items ≡ old.lets.items → new.arrays.items ≡ old.arrays.items
+    → new.fields.items ≡ old.fields.items ++ record { name = name; prefix = prefix } ∷ []
+    → new.comps ≡ min (old.comps + width prefix) 65535
+    → names_in new.names.entries ≡ names_in old.names.entries ++ field_senses (count old.fields.items) name prefix
+    → HasDeclared old.text.now (Ok (with_field (declared_in old lets arities) name prefix)) new arities
 field_declared old new lets arities name prefix h text ls as_is fs cs ns =
     let f : Field = record { name = name; prefix = prefix } in
     let counted : count (old.fields.items ++ f ∷ []) ≡ count old.fields.items + (width prefix + 0) = count-append old.fields.items (f ∷ []) in
@@ -130,40 +130,40 @@ field_declared old new lets arities name prefix h text ls as_is fs cs ns =
     }
 
 pub array_declared : (old new : Scope) (lets : List CorePolicy) (before behind : Arities) (name : List ℕ) → IsScope old lets
-  → new.text.now ≡ old.text.now → new.lets.items ≡ old.lets.items → new.arrays.items ≡ old.arrays.items ++ name ∷ []
-  → new.fields.items ≡ old.fields.items → new.comps ≡ old.comps → behind ≡ before ++ None ∷ []
-  → names_in new.names.entries ≡ names_in old.names.entries ++ (name, Array (length old.arrays.items)) ∷ []
-  → HasDeclared old.text.now (Ok (with_array (declared_in old lets before) name)) new behind
+    → new.text.now ≡ old.text.now → new.lets.items ≡ old.lets.items → new.arrays.items ≡ old.arrays.items ++ name ∷ []
+    → new.fields.items ≡ old.fields.items → new.comps ≡ old.comps → behind ≡ before ++ None ∷ []
+    → names_in new.names.entries ≡ names_in old.names.entries ++ (name, Array (length old.arrays.items)) ∷ []
+    → HasDeclared old.text.now (Ok (with_array (declared_in old lets before) name)) new behind
 array_declared old new lets before behind name h text ls ars fs cs ar ns = record {
-    lets = lets;
-    scope = record { bodies = rw ls h.bodies; comps = rw (cs, fs) h.comps };
-    text_is = text;
-    declares = ap Ok (declared_in-is _ _ _ _ _ new lets behind (sym fs) (sym ars) refl (sym ns) (sym ar));
-  }
+  lets = lets;
+  scope = record { bodies = rw ls h.bodies; comps = rw (cs, fs) h.comps };
+  text_is = text;
+  declares = ap Ok (declared_in-is _ _ _ _ _ new lets behind (sym fs) (sym ars) refl (sym ns) (sym ar));
+}
 
 pub constant_declared : (old new : Scope) (lets : List CorePolicy) (arities : Arities) (name : List ℕ) (n : ℕ) (b : Bool) → IsScope old lets
-  → new.text.now ≡ old.text.now → new.lets.items ≡ old.lets.items → new.arrays.items ≡ old.arrays.items
-  → new.fields.items ≡ old.fields.items → new.comps ≡ old.comps
-  → names_in new.names.entries ≡ names_in old.names.entries ++ (name, Constant n b) ∷ []
-  → HasDeclared old.text.now (Ok (with_constant (declared_in old lets arities) name n b)) new arities
+    → new.text.now ≡ old.text.now → new.lets.items ≡ old.lets.items → new.arrays.items ≡ old.arrays.items
+    → new.fields.items ≡ old.fields.items → new.comps ≡ old.comps
+    → names_in new.names.entries ≡ names_in old.names.entries ++ (name, Constant n b) ∷ []
+    → HasDeclared old.text.now (Ok (with_constant (declared_in old lets arities) name n b)) new arities
 constant_declared old new lets arities name n b h text ls ars fs cs ns = record {
-    lets = lets;
-    scope = record { bodies = rw ls h.bodies; comps = rw (cs, fs) h.comps };
-    text_is = text;
-    declares = ap Ok (declared_in-is _ _ _ _ _ new lets arities (sym fs) (sym ars) refl (sym ns) refl);
-  }
+  lets = lets;
+  scope = record { bodies = rw ls h.bodies; comps = rw (cs, fs) h.comps };
+  text_is = text;
+  declares = ap Ok (declared_in-is _ _ _ _ _ new lets arities (sym fs) (sym ars) refl (sym ns) refl);
+}
 
 pub let_declared : (old new : Scope) (lets : List CorePolicy) (before behind : Arities) (name : List ℕ) (body : Body) (p : CorePolicy) → IsScope old lets → IsBody body p
-  → new.text.now ≡ old.text.now → new.lets.items ≡ old.lets.items ++ body ∷ [] → new.arrays.items ≡ old.arrays.items
-  → new.fields.items ≡ old.fields.items → new.comps ≡ old.comps
-  → names_in new.names.entries ≡ names_in old.names.entries ++ (name, Policy (length old.lets.items)) ∷ []
-  → HasDeclared old.text.now (Ok (with_let (declared_in old lets before) name (p, behind))) new behind
+    → new.text.now ≡ old.text.now → new.lets.items ≡ old.lets.items ++ body ∷ [] → new.arrays.items ≡ old.arrays.items
+    → new.fields.items ≡ old.fields.items → new.comps ≡ old.comps
+    → names_in new.names.entries ≡ names_in old.names.entries ++ (name, Policy (length old.lets.items)) ∷ []
+    → HasDeclared old.text.now (Ok (with_let (declared_in old lets before) name (p, behind))) new behind
 let_declared old new lets before behind name body p h k text ls ars fs cs ns = record {
-    lets = lets ++ p ∷ [];
-    scope = record { bodies = rw ls (AreBodies-append _ _ body p h.bodies k); comps = rw (cs, fs) h.comps };
-    text_is = text;
-    declares = ap Ok (declared_in-is _ _ _ _ _ new (lets ++ p ∷ []) behind (sym fs) (sym ars) refl (sym (ns ∙ ap (λ i. names_in old.names.entries ++ (name, Policy i) ∷ []) (AreBodies-length _ _ h.bodies))) refl);
-  }
+  lets = lets ++ p ∷ [];
+  scope = record { bodies = rw ls (AreBodies-append _ _ body p h.bodies k); comps = rw (cs, fs) h.comps };
+  text_is = text;
+  declares = ap Ok (declared_in-is _ _ _ _ _ new (lets ++ p ∷ []) behind (sym fs) (sym ars) refl (sym (ns ∙ ap (λ i. names_in old.names.entries ++ (name, Policy i) ∷ []) (AreBodies-length _ _ h.bodies))) refl);
+}
 
 -- A name that is known is refused.
 pub is_twice : {A : Type 0} (b : Bool) (f g : NameFault) (r : Result A NameFault) → b ≡ true → f ≡ g → (if b then Err g else r) ≡ Err f
@@ -195,7 +195,7 @@ FieldDeclared old new name = list_any (is_known (names_in old.names.entries)) (f
 
 -- The two plain fields that are declared before a text.
 pub ports_declared : (text : List ℕ) (s0 s1 s2 : Scope) → declared_in s0 [] [] ≡ declared_with [] [] [] [] [] → s0.text.now ≡ text → IsScope s0 []
-  → FieldDeclared s0 s1 (codes "inport") → FieldDeclared s1 s2 (codes "outport") → HasDeclared text (Ok ports) s2 []
+    → FieldDeclared s0 s1 (codes "inport") → FieldDeclared s1 s2 (codes "outport") → HasDeclared text (Ok ports) s2 []
 ports_declared text s0 s1 s2 e t h a b =
     let k : list_any (is_known (names_in s0.names.entries)) (field_names (codes "inport") false) ≡ false = subst (λ w. list_any (is_known w.names) (field_names (codes "inport") false) ≡ false) (sym e) refl in
     let first : HasDeclared s0.text.now (Ok (with_field (declared_in s0 [] []) (codes "inport") None)) s1 [] = a k [] h [] in

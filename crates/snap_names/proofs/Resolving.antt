@@ -30,18 +30,18 @@ AreDeclared-none text all s arities e h =
     record { lets = h.lets; scope = h.scope; text_is = h.text_is; rest_is = rw e (ap (declare_all text all) p) }
 
 pub AreDeclared-more : (text : List ℕ) (all : List DeclTree) (t : DeclTree) (rest : List DeclTree) (s new : Scope) (before behind : Arities)
-  → AreDeclared text all (t ∷ rest) s before
-  → ((lets : List CorePolicy) → IsScope s lets → HasDeclared s.text.now (declare s.text.now (declared_in s lets before) t) new behind)
-  → AreDeclared text all rest new behind
+    → AreDeclared text all (t ∷ rest) s before
+    → ((lets : List CorePolicy) → IsScope s lets → HasDeclared s.text.now (declare s.text.now (declared_in s lets before) t) new behind)
+    → AreDeclared text all rest new behind
 AreDeclared-more text all t rest s new before behind h d =
     let k : HasDeclared s.text.now (declare s.text.now (declared_in s h.lets before) t) new behind = d h.lets h.scope in
     let e : declare text (declared_in s h.lets before) t ≡ Ok (declared_in new k.lets behind) = subst (λ w. declare w (declared_in s h.lets before) t ≡ Ok (declared_in new k.lets behind)) h.text_is k.declares in
     record { lets = k.lets; scope = k.scope; text_is = k.text_is ∙ h.text_is; rest_is = h.rest_is ∙ ap (λ r. after r (declare_all text rest)) e }
 
 pub resolved-refused : (text : List ℕ) (tree : SourceTree) (t : DeclTree) (rest : List DeclTree) (s : Scope) (before : Arities) (f : NameFault)
-  → AreDeclared text tree.decls (t ∷ rest) s before
-  → ((lets : List CorePolicy) → IsScope s lets → declare s.text.now (declared_in s lets before) t ≡ Err f)
-  → resolved text tree ≡ Err f
+    → AreDeclared text tree.decls (t ∷ rest) s before
+    → ((lets : List CorePolicy) → IsScope s lets → declare s.text.now (declared_in s lets before) t ≡ Err f)
+    → resolved text tree ≡ Err f
 resolved-refused text tree t rest s before f h d =
     let e : declare text (declared_in s h.lets before) t ≡ Err f = subst (λ w. declare w (declared_in s h.lets before) t ≡ Err f) h.text_is (d h.lets h.scope) in
     let all : declare_all text tree.decls ports ≡ Err f = h.rest_is ∙ ap (λ r. after r (declare_all text rest)) e in
@@ -49,7 +49,7 @@ resolved-refused text tree t rest s before f h d =
 
 -- What is resolved behind the declarations.
 pub resolved-read : (text : List ℕ) (tree : SourceTree) (s : Scope) (arities : Arities) → (h : AreDeclared text tree.decls [] s arities)
-  → resolved text tree ≡ after (read_policy (env_of s.text.now (declared_in s h.lets arities)) tree.policy arities) (limited (declared_in s h.lets arities))
+    → resolved text tree ≡ after (read_policy (env_of s.text.now (declared_in s h.lets arities)) tree.policy arities) (limited (declared_in s h.lets arities))
 resolved-read text tree s arities h =
     ap (λ r. after r (λ d. after (read_policy (env_of text d) tree.policy d.arities) (limited d))) h.rest_is
     ∙ ap (λ w. after (read_policy (env_of w (declared_in s h.lets arities)) tree.policy arities) (limited (declared_in s h.lets arities))) (sym h.text_is)
@@ -75,9 +75,9 @@ pub drop-all : {A B : Type 0} (f : A → B) (xs : List A) (i : ℕ) → length x
 drop-all f xs i h = ap (map f) (drop_all i xs h)
 
 pub resolved-limited : (text : List ℕ) (tree : SourceTree) (s : Scope) (arities : Arities) (old new : Tally) (part : Part) (a : Result CoreProgram NameFault)
-  → AreDeclared text tree.decls [] s arities
-  → ((lets : List CorePolicy) → AreBodies s.lets.items lets → HasRead (read_policy (env_in s lets) tree.policy arities) (record old { nodes = 0 }) new part)
-  → Limits s new part (λ r. r ≡ a) → resolved text tree ≡ a
+    → AreDeclared text tree.decls [] s arities
+    → ((lets : List CorePolicy) → AreBodies s.lets.items lets → HasRead (read_policy (env_in s lets) tree.policy arities) (record old { nodes = 0 }) new part)
+    → Limits s new part (λ r. r ≡ a) → resolved text tree ≡ a
 resolved-limited text tree s arities old new part a h reads limits =
     let r : HasRead (read_policy (env_in s h.lets) tree.policy arities) (record old { nodes = 0 }) new part = reads h.lets h.scope.bodies in
     let counted : capped new.nodes ≡ capped (0 + nodes r.policy) = r.counted in

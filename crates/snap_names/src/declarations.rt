@@ -195,12 +195,7 @@ impl<'a> Scope<'a> {
     }
 
     // `let name { body }`
-    fn declare_let(
-        &mut self,
-        tally: &mut Tally,
-        name: Span,
-        body: &Policy,
-    ) -> Result<(), NameFault>
+    fn declare_let(&mut self, tally: &mut Tally, name: Span, body: &Policy) -> Result<(), NameFault>
         ensures { (at : ℕ) → Declares (let_tree at name (policy_tree body.now)) self.old self.new tally.old.arities.items tally.new.arities.items result }
     {
         let word = self.new_name(name)?;

@@ -30,7 +30,7 @@ returns-in_err-body-clause-refused c =
     let all : AreDeclared c.args.text.now tree.decls [] c.loop-decl.scope arities = AreDeclared-rest c.args.text.now tree.decls _ _ c.loop-decl.scope arities (drop-all decl_tree c.args.source.now.decls.items c.loop-decl.decl-index (subst (λ xs. length xs ≤ c.loop-decl.decl-index) c.deref-decl-items.ensures.value c.loop-decl-test.false)) c.loop-decl.invariant in
     IfErr-from c.from_residual-in_err-body.result c.in_err-body.field-0.0 _ c.from_residual-in_err-body.ensures.1
     (λ n. resolved-read c.args.text.now tree c.loop-decl.scope arities all
-      ∙ ap (λ r. after r (limited (declared_in c.loop-decl.scope all.lets arities))) (c.in_err-body.ensures n all.lets all.scope.bodies))
+    ∙ ap (λ r. after r (limited (declared_in c.loop-decl.scope all.lets arities))) (c.in_err-body.ensures n all.lets all.scope.bodies))
 
 pub limited-requires : goal.limited-requires
 limited-requires c =

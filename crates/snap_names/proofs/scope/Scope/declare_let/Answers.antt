@@ -23,6 +23,6 @@ returns c = λ at lets h.
     HasDeclared-is old.text.now _ (Ok (with_let (declared_in old lets c.args.tally.now.arities.items) name (r.policy, behind))) _ behind
     (is_new (is_known (names_in old.names.entries) name) (Twice c.args.name.from) _ _ c.in_ok-word.ensures.new (rw r.reading refl))
     (let_declared old _ lets c.args.tally.now.arities.items behind name _ r.policy h
-      (IsBody-kept r.policy c.body.new.tally.nodes _ c.in_ok-part.part c.min-nodes.ensures r.counted r.stands)
-      refl c.in_ok-push.ensures.items refl refl refl
-      (named c.in_ok-word.ensures.new))
+    (IsBody-kept r.policy c.body.new.tally.nodes _ c.in_ok-part.part c.min-nodes.ensures r.counted r.stands)
+    refl c.in_ok-push.ensures.items refl refl refl
+    (named c.in_ok-word.ensures.new))
