@@ -12,6 +12,5 @@ pub mod Loops
 pub mod CoreSizes
 pub mod Nodes
 pub mod Declaring
-pub mod Within
 pub mod Resolving
 pub mod DeclaredFields
