@@ -18,7 +18,7 @@ use Rattle.snap_names.specs.declared.fault.NameFault.{NameFault}
 use Rattle.snap_names.specs.declared.fault.NameFault.TheVariants.{Twice, Prefix}
 use Rattle.snap_parse.specs.Tree.{DeclTree, field_tree, array_tree, const_tree, let_tree}
 use Rattle.std.proofs.lemmas.Bool.Decides.{nat_tests}
-use Rattle.snap_names.proofs.Declaring.{bytes_eq-apart}
+use Rattle.snap_names.proofs.Declaring.{bytes_eq-apart, or_left, or_right}
 use Rattle.std.specs.Prelude.{nat_le, ◌&&◌, if◌then◌else◌, take}
 use Rattle.snap_names.proofs.BoundedSteps.{AllByRecursion-append, AllByRecursion-weaker, IfOk-after, IfOk-after_any, IfOk-unless}
 
@@ -34,7 +34,7 @@ names_step : (c : ℕ) (name : List ℕ) (prefix : Option ℕ) (xs ys : List (Li
 names_step c name None xs ys more h = ap (λ w. name ∷ w) h
 names_step c name (Some n) xs ys more h = ap (λ w. name ∷ (name ++ codes ".net") ∷ (name ++ codes ".host") ∷ w) h
 
-pub names_from-append : (c : ℕ) (fs : List Field) (name : List ℕ) (prefix : Option ℕ) → names_from c (fs ++ record { name = name; prefix = prefix } ∷ []) ≡ names_from c fs ++ field_names name (is_some prefix)
+names_from-append : (c : ℕ) (fs : List Field) (name : List ℕ) (prefix : Option ℕ) → names_from c (fs ++ record { name = name; prefix = prefix } ∷ []) ≡ names_from c fs ++ field_names name (is_some prefix)
 names_from-append c [] name prefix = names_one c name prefix
 names_from-append c (f ∷ fs) name prefix = names_step c f.name f.prefix _ _ _ (names_from-append (c + width f.prefix) fs name prefix)
 
@@ -56,17 +56,9 @@ different names x y h k = by_test (bytes_eq x y) refl
         cc
     by_test false e = e
 
-or_false_left : (a b : Bool) → (a || b) ≡ false → a ≡ false
-or_false_left true b h = h
-or_false_left false b h = refl
-
-or_false_right : (a b : Bool) → (a || b) ≡ false → b ≡ false
-or_false_right true b h = cc
-or_false_right false b h = h
-
 different_all : (names : List (List ℕ × Sense)) (x : List ℕ) (ys : List (List ℕ)) → is_known names x ≡ true → list_any (is_known names) ys ≡ false → AllByRecursion (λ y. bytes_eq x y ≡ false) ys
 different_all names x [] h k = tt
-different_all names x (y ∷ ys) h k = (different names x y h (or_false_left _ _ k), different_all names x ys h (or_false_right (is_known names y) _ k))
+different_all names x (y ∷ ys) h k = (different names x y h (or_left _ _ k), different_all names x ys h (or_right (is_known names y) _ k))
 
 pub IsDistinct-append : (names : List (List ℕ × Sense)) (xs ys : List (List ℕ)) → AllByRecursion (λ x. is_known names x ≡ true) xs → list_any (is_known names) ys ≡ false
     → IsDistinct bytes_eq xs → IsDistinct bytes_eq ys → IsDistinct bytes_eq (xs ++ ys)

@@ -52,11 +52,11 @@ bytes_eq-apart xs ys h = by_test (bytes_eq xs ys) refl
     by_test true e = absurd (h (ap length ((bytes_eq-Decides xs ys).0 e)))
     by_test false e = e
 
-or_left : (a b : Bool) → (a || b) ≡ false → a ≡ false
+pub or_left : (a b : Bool) → (a || b) ≡ false → a ≡ false
 or_left true b h = h
 or_left false b h = refl
 
-or_right : (a b : Bool) → (a || b) ≡ false → b ≡ false
+pub or_right : (a b : Bool) → (a || b) ≡ false → b ≡ false
 or_right true b h = cc
 or_right false b h = h
 

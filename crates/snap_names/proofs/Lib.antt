@@ -13,6 +13,5 @@ pub mod Parted
 pub mod CoreSizes
 pub mod Nodes
 pub mod Declaring
-pub mod Within
 pub mod Resolving
 pub mod DeclaredFields
