@@ -1,9 +1,34 @@
-# The proved crates of a SNAP compiler. `make test` proves and tests all of it.
-.PHONY: test clean
+# snapc: a verified SNAP compiler and simulator. `make run` shows it at work, `make test` proves and tests all of it.
+PREFIX ?= /usr/local
+PROGRAM = examples/first-run/two-ports.snap
+PACKETS = examples/first-run/packets
 
-# All proofs, tests and must-fail edits.
+.PHONY: all run try test install clean
+
+# The proved program.
+all: bin/snapc
+
+bin/snapc: crates.txt $(shell find crates -name out -prune -o \( -name '*.rt' -o -name '*.antt' \) -print)
+	cd crates/snapc && rt run -- obs ../../$(PROGRAM) ../../$(PACKETS) > /dev/null
+	mkdir -p bin
+	install -m 755 crates/snapc/out/snapc bin/snapc
+
+# The report of one big switch over a real packets file.
+run: bin/snapc
+	bin/snapc obs $(PROGRAM) $(PACKETS)
+
+# The same, compiled and not proved, in about a minute.
+try:
+	cd crates/snapc && rt try -- obs ../../$(PROGRAM) ../../$(PACKETS)
+
+# All proofs, tests and must-fail edits, and then the examples with the built program.
 test:
 	rt ci
+	examples/check crates/snapc/out/snapc
+
+install: bin/snapc
+	mkdir -p $(PREFIX)/bin
+	install -m 755 bin/snapc $(PREFIX)/bin/snapc
 
 clean:
-	rm -rf crates/*/out
+	rm -rf bin crates/*/out

@@ -1,0 +1,2 @@
+pub mod ObsLemmas
+pub mod TopLemmas

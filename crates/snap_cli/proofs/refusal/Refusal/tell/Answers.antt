@@ -1,0 +1,16 @@
+use Rattle.snap_cli.proofs.refusal.Refusal.tell.Goals as goal
+
+pub returns-in-Usage-clause-err : goal.returns-in-Usage-clause-err
+returns-in-Usage-clause-err g c = rw c.in-Usage.is c.tell_text.ensures.err
+
+pub returns-in-Packets-clause-ok : goal.returns-in-Packets-clause-ok
+returns-in-Packets-clause-ok g c = rw c.in-Packets.is c.tell_number.ensures.ok
+
+pub returns-in-Packets-clause-err : goal.returns-in-Packets-clause-err
+returns-in-Packets-clause-err g c = rw c.in-Packets.is c.tell_number.ensures.err
+
+pub returns-in-Undefined-clause-ok : goal.returns-in-Undefined-clause-ok
+returns-in-Undefined-clause-ok g c = rw c.in-Undefined.is c.tell_number-in-Undefined.ensures.ok
+
+pub returns-in-Undefined-clause-err : goal.returns-in-Undefined-clause-err
+returns-in-Undefined-clause-err g c = rw c.in-Undefined.is c.tell_number-in-Undefined.ensures.err

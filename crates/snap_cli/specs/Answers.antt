@@ -1,0 +1,23 @@
+-- What the top call promises.
+use Rattle.std.specs.Prelude.{◌≡◌, ◌⊎◌, ℕ, List, [], Err, Some, None, IfSome, MatchOption}
+use Rattle.std.specs.declared.option.Option.{Option}
+use Rattle.std.specs.Io.KnownBytes.{Appends}
+use Rattle.snap_io.specs.Files.{Files}
+use Rattle.snap_words.specs.Commands.{Command, command_of}
+use Rattle.snap_cli.specs.declared.refusal.Refusal.TheVariants.{Usage, NoMemory}
+use Rattle.snap_cli.specs.Deserved.{Meets, Tells}
+use Rattle.snap_cli.specs.Refusals.{Ending, status_of, message_of}
+
+-- Words of no command's form are usage, and nothing goes out. Memory may be short before they are read.
+abbrev pub MeetsWords : Files → List (List ℕ) → Ending → Option (List ℕ) → Option (List ℕ) → Type 0
+MeetsWords files words ending old new =
+    MatchOption (command_of words) (((ending ≡ Err Usage) ⊎ (ending ≡ Err NoMemory)) × Appends old new []) (λ command. Meets files command ending old new)
+
+-- The status, the output and the message are those of one ending. Where the shelf tells its files, it is one that the
+-- words deserve on them, or a device's or memory's.
+pub record Answers (words : List (List ℕ)) (told : Option Files) (status : ℕ) (out_old out_new : Option (List ℕ))
+    (err_before err_now : ℕ) (err_old err_new : Option (List ℕ)) : Type 0 where
+  pub ending : Ending
+  pub status_is : status ≡ status_of ending
+  pub out : IfSome told (λ files. MeetsWords files words ending out_old out_new)
+  pub err : Tells err_before err_now err_old err_new (message_of ending)

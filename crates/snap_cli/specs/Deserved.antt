@@ -1,0 +1,41 @@
+-- What a command's words and files deserve, and what a call did for it.
+use Rattle.std.specs.Prelude.{◌≡◌, ◌⊎◌, ℕ, List, [], Err}
+use Rattle.std.specs.declared.option.Option.{Option}
+use Rattle.std.specs.Io.KnownBytes.{Appends}
+use Rattle.snap_io.specs.Causes.{Rose}
+use Rattle.snap_io.specs.Files.{Files}
+use Rattle.snap_io.specs.Sinks.{AppendsPart}
+use Rattle.snap_words.specs.Commands.{Command, obs}
+use Rattle.snap_cli.specs.declared.refusal.Refusal.{Refusal}
+use Rattle.snap_cli.specs.declared.refusal.Refusal.TheVariants.{Read, Write, NoMemory}
+use Rattle.snap_cli.specs.Obs.{EndsObs, IsObsText, MayPrecedeObs}
+use Rattle.snap_cli.specs.Refusals.{Ending}
+
+-- how each command ends on these files where no device fails and memory is there
+abbrev pub Ends : Files → Command → Ending → Type 0
+Ends files (obs program packets) ending = EndsObs files program packets ending
+
+-- the text that has gone out then
+abbrev pub IsText : Files → Command → List ℕ → Type 0
+IsText files (obs program packets) text = IsObsText files program packets text
+
+-- of this text some first bytes may have gone out where a read fails, or memory is short
+abbrev pub MayPrecede : Files → Command → List ℕ → Type 0
+MayPrecede files (obs program packets) text = MayPrecedeObs files program packets text
+
+-- some first bytes went out of a text of which this is true
+abbrev pub AppendsSome : (List ℕ → Type 0) → Option (List ℕ) → Option (List ℕ) → Type 0
+AppendsSome P old new = (text : List ℕ) × P text × AppendsPart old new text
+
+-- The ending is one that the command deserves, and its whole text went out. Or a device failed or memory was short, and
+-- some first bytes of what may have gone out by then did.
+abbrev pub Meets : Files → Command → Ending → Option (List ℕ) → Option (List ℕ) → Type 0
+Meets files command (Err (Read name)) old new = AppendsSome (MayPrecede files command) old new
+Meets files command (Err NoMemory) old new = AppendsSome (MayPrecede files command) old new
+Meets files command (Err Write) old new = AppendsSome (MayPrecede files command) old new ⊎ AppendsSome (IsText files command) old new
+Meets files command ending old new = Ends files command ending × ((text : List ℕ) × IsText files command text × Appends old new text)
+
+-- the whole message went out, or the sink failed and a first part did
+pub record Tells (before now : ℕ) (old new : Option (List ℕ)) (message : List ℕ) : Type 0 where
+  pub part : AppendsPart old new message
+  pub whole : Rose before now ⊎ Appends old new message

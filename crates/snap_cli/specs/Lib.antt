@@ -1,0 +1,7 @@
+pub mod Answers
+pub mod Deserved
+pub mod Obs
+pub mod ProgramOf
+pub mod Refusals
+pub mod Spots
+pub mod Steps

@@ -1,0 +1,47 @@
+-- What `obs` deserves on its files.
+use Rattle.std.specs.Prelude.{◌≡◌, ◌⊎◌, ℕ, List, [], Ok, Err}
+use Rattle.std.specs.declared.option.Option.{Option}
+use Rattle.std.specs.Io.KnownBytes.{Appends}
+use Rattle.snap_core.specs.declared.program.Program.{Program}
+use Rattle.snap_io.specs.Files.{Files, file_of}
+use Rattle.snap_io.specs.Sinks.{AppendsPart}
+use Rattle.snap_trace.specs.declared.fault.TraceFault.{TraceFault}
+use Rattle.snap_trace.specs.declared.fault.TraceFault.TheVariants as run
+use Rattle.snap_trace.specs.OneSwitch.{Ending as RunEnding, blocks_of, ending_of, IsReport}
+use Rattle.snap_cli.specs.declared.refusal.Refusal.{Refusal}
+use Rattle.snap_cli.specs.declared.refusal.Refusal.TheVariants.{Read, Write, Limit, Packets, NoMemory, Undefined}
+use Rattle.snap_cli.specs.ProgramOf.{ProgramOf}
+use Rattle.snap_cli.specs.Refusals.{Ending}
+
+-- how a run ends, as an ending of the command. It has no failure of a device among the endings that a file deserves.
+abbrev pub IsRunEnding : RunEnding → Ending → Type 0
+IsRunEnding (Ok u) ending = ending ≡ Ok tt
+IsRunEnding (Err (run.Limit which count)) ending = ending ≡ Err (Limit which count)
+IsRunEnding (Err (run.Packets line)) ending = ending ≡ Err (Packets line)
+IsRunEnding (Err (run.Undefined packet)) ending = ending ≡ Err (Undefined packet)
+IsRunEnding (Err fault) ending = ⊥
+
+-- how the command ends where no device fails and memory is there
+abbrev pub EndsObs : Files → (program packets : List ℕ) → Ending → Type 0
+EndsObs files program packets ending =
+    ((refusal : Refusal) × ProgramOf (file_of files program) (Err refusal) × (ending ≡ Err refusal))
+    ⊎ ((p : Program) × ProgramOf (file_of files program) (Ok p) × IsRunEnding (ending_of p (file_of files packets)) ending)
+
+-- the text that has gone out then: nothing before the program is read, and the report of one big switch
+abbrev pub IsObsText : Files → (program packets : List ℕ) → List ℕ → Type 0
+IsObsText files program packets text =
+    ((refusal : Refusal) × ProgramOf (file_of files program) (Err refusal) × (text ≡ []))
+    ⊎ ((p : Program) × ProgramOf (file_of files program) (Ok p) × IsReport p (file_of files packets) text)
+
+-- of this text some first bytes may have gone out where a read fails or memory is short
+abbrev pub MayPrecedeObs : Files → (program packets : List ℕ) → List ℕ → Type 0
+MayPrecedeObs files program packets text =
+    (text ≡ []) ⊎ ((p : Program) × ProgramOf (file_of files program) (Ok p) × (text ≡ blocks_of p (file_of files packets)))
+
+-- What the run of a program that was read did: it ended as the packets file deserves, with its whole report. Or a device
+-- failed or memory was short, and some first bytes of the blocks went out, or of the report.
+abbrev pub MeetsRun : Program → (file : List ℕ) → Ending → Option (List ℕ) → Option (List ℕ) → Type 0
+MeetsRun p file (Err (Read name)) old new = AppendsPart old new (blocks_of p file)
+MeetsRun p file (Err NoMemory) old new = AppendsPart old new (blocks_of p file)
+MeetsRun p file (Err Write) old new = AppendsPart old new (blocks_of p file) ⊎ ((text : List ℕ) × IsReport p file text × AppendsPart old new text)
+MeetsRun p file ending old new = IsRunEnding (ending_of p file) ending × ((text : List ℕ) × IsReport p file text × Appends old new text)

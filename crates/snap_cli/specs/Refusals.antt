@@ -1,0 +1,82 @@
+-- The status and the message of each ending.
+use Rattle.std.specs.Prelude.{ℕ, List, [], ◌∷◌, Ok, Err, Result, codes, decimal}
+use Rattle.std.specs.List.{concat}
+use Rattle.snap_core.specs.declared.program.Which.{Which}
+use Rattle.snap_core.specs.declared.program.Which.TheVariants as which
+use Rattle.snap_cli.specs.declared.refusal.Refusal.{Refusal}
+use Rattle.snap_cli.specs.declared.refusal.Refusal.TheVariants.{Usage, Read, Write, Syntax, Naming, Limit, Packets, NoMemory, Undefined}
+use Rattle.snap_cli.specs.declared.refusal.SyntaxFault.{SyntaxFault}
+use Rattle.snap_cli.specs.declared.refusal.SyntaxFault.TheVariants.{BadByte, BadNumber, UnexpectedToken, TooDeep}
+use Rattle.snap_cli.specs.declared.refusal.NamingFault.{NamingFault}
+use Rattle.snap_cli.specs.declared.refusal.NamingFault.TheVariants.{UnknownName, DeclaredTwice, WrongKind, WrongArity, TooWide, WrongPrefix}
+use Rattle.snap_cli.specs.declared.spot.Spot.{Spot}
+
+-- how a command ends
+abbrev pub Ending : Type 0
+Ending = Result (Unit {0}) Refusal
+
+abbrev pub status_of : Ending → ℕ
+status_of (Ok u) = 0
+status_of (Err Usage) = 1
+status_of (Err (Read name)) = 2
+status_of (Err Write) = 3
+status_of (Err (Syntax fault spot)) = 4
+status_of (Err (Naming fault spot)) = 5
+status_of (Err (Limit which count)) = 6
+status_of (Err (Packets line)) = 12
+status_of (Err NoMemory) = 14
+status_of (Err (Undefined packet)) = 15
+
+abbrev pub which_text : Which → List ℕ
+which_text which.Bytes = codes "bytes"
+which_text which.Lines = codes "lines"
+which_text which.Components = codes "components"
+which_text which.Arrays = codes "arrays"
+which_text which.Atoms = codes "atoms"
+which_text which.Nodes = codes "nodes"
+which_text which.Weight = codes "weight"
+which_text which.Switches = codes "switches"
+which_text which.Links = codes "links"
+which_text which.Ports = codes "ports"
+
+abbrev pub syntax_text : SyntaxFault → List ℕ
+syntax_text BadByte = codes "bad byte"
+syntax_text BadNumber = codes "bad number"
+syntax_text UnexpectedToken = codes "unexpected token"
+syntax_text TooDeep = codes "too deep"
+
+abbrev pub naming_text : NamingFault → List ℕ
+naming_text UnknownName = codes "unknown name"
+naming_text DeclaredTwice = codes "declared twice"
+naming_text WrongKind = codes "wrong kind"
+naming_text WrongArity = codes "wrong number of indices"
+naming_text TooWide = codes "number too wide"
+naming_text WrongPrefix = codes "wrong prefix"
+
+abbrev pub message_text : List ℕ → List ℕ
+message_text text = concat (codes "snapc: " ∷ text ∷ codes "\n" ∷ [])
+
+abbrev pub message_at : Spot → List ℕ → List ℕ
+message_at spot text = concat (codes "snapc: " ∷ decimal spot.line ∷ codes ":" ∷ decimal spot.column ∷ codes ": " ∷ text ∷ codes "\n" ∷ [])
+
+abbrev pub message_with : List ℕ → ℕ → List ℕ
+message_with text number = concat (codes "snapc: " ∷ text ∷ codes " " ∷ decimal number ∷ codes "\n" ∷ [])
+
+abbrev pub message_of_limit : Which → ℕ → List ℕ
+message_of_limit which count = concat (codes "snapc: limit: " ∷ which_text which ∷ codes " " ∷ decimal count ∷ codes "\n" ∷ [])
+
+abbrev pub message_of_read : List ℕ → List ℕ
+message_of_read name = concat (codes "snapc: cannot read " ∷ name ∷ codes "\n" ∷ [])
+
+-- what is written to the error sink
+abbrev pub message_of : Ending → List ℕ
+message_of (Ok u) = []
+message_of (Err Usage) = message_text (codes "usage")
+message_of (Err (Read name)) = message_of_read name.now
+message_of (Err Write) = message_text (codes "cannot write")
+message_of (Err (Syntax fault spot)) = message_at spot (syntax_text fault)
+message_of (Err (Naming fault spot)) = message_at spot (naming_text fault)
+message_of (Err (Limit which count)) = message_of_limit which count
+message_of (Err (Packets line)) = message_with (codes "packets: line") line
+message_of (Err NoMemory) = message_text (codes "out of memory")
+message_of (Err (Undefined packet)) = message_with (codes "undefined: packet") packet

@@ -1,0 +1,10 @@
+//! All that the program does, over any shelf and sinks.
+#![tactic(auto)]
+
+pub mod obs;
+pub mod program;
+pub mod refusal;
+pub mod spot;
+#[cfg(test)]
+mod tests;
+pub mod top;

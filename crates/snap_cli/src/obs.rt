@@ -1,0 +1,73 @@
+//! The command `obs`: the report of one big switch.
+
+ghost use Rattle.std.specs.Prelude.{◌≡◌, ◌≤◌, IfSome, IsErrOf};
+ghost use Rattle.snap_words.specs.Commands.{obs};
+ghost use Rattle.snap_core.specs.Programs.{IsBounded};
+ghost use Rattle.snap_io.specs.Files.{file_of};
+ghost use Rattle.snap_cli.specs.Deserved.{Meets};
+ghost use Rattle.snap_cli.specs.Obs.{MeetsRun};
+ghost use Rattle.snap_cli.specs.Steps.{HasCauses, refusal_of_run};
+
+use crate::program::load_program;
+use crate::refusal::Refusal;
+use snap_core::program::Program;
+use snap_io::{Shelf, Sink};
+use snap_trace::TraceFault;
+use snap_trace::switch::one_switch;
+use std::alloc::Global;
+
+/// Writes the report of one big switch: the program over the packets file.
+pub(crate) fn report<'a, S: Shelf, O: Sink>(
+    alloc: Global,
+    program: &'a [u8],
+    packets: &'a [u8],
+    shelf: &mut S,
+    out: &mut O,
+) -> Result<(), Refusal<'a>>
+    ensures meets { IfSome (S.files shelf.old) (λ files.
+        Meets files (obs program.entry.now packets.entry.now) result (O.taken out.old) (O.taken out.new)) }
+    ensures causes { HasCauses (S.faults shelf.old) (S.faults shelf.new) (O.faults out.old) (O.faults out.new) result }
+    ensures not_usage { IsErrOf result Refusal.Usage → ⊥ }
+{
+    match load_program(alloc, shelf, program) {
+        Ok(program) => report_of(alloc, &program, packets, shelf, out),
+        Err(refusal) => Err(refusal),
+    }
+}
+
+// Writes the report of a program that was read.
+fn report_of<'a, S: Shelf, O: Sink>(
+    alloc: Global,
+    program: &Program,
+    packets: &'a [u8],
+    shelf: &mut S,
+    out: &mut O,
+) -> Result<(), Refusal<'a>>
+    requires { IsBounded program.now }
+    ensures meets { IfSome (S.files shelf.old) (λ files.
+        MeetsRun program.now (file_of files packets.entry.now) result (O.taken out.old) (O.taken out.new)) }
+    ensures causes { HasCauses (S.faults shelf.old) (S.faults shelf.new) (O.faults out.old) (O.faults out.new) result }
+    ensures not_usage { IsErrOf result Refusal.Usage → ⊥ }
+    ensures files { S.files shelf.new ≡ S.files shelf.old }
+    ensures later { S.faults shelf.old ≤ S.faults shelf.new }
+    ensures out_later { O.faults out.old ≤ O.faults out.new }
+{
+    match one_switch(alloc, shelf, packets, program, out) {
+        Ok(()) => Ok(()),
+        Err(fault) => Err(refusal_of_run(packets, fault)),
+    }
+}
+
+// The refusal of a run over the packets file with this name.
+fn refusal_of_run(packets: &[u8], fault: TraceFault) -> Refusal<'_>
+    ensures { result ≡ refusal_of_run packets.entry fault }
+{
+    match fault {
+        TraceFault::Read => Refusal::Read { name: packets },
+        TraceFault::Write => Refusal::Write,
+        TraceFault::Limit { which, count } => Refusal::Limit { which, count },
+        TraceFault::Packets { line } => Refusal::Packets { line },
+        TraceFault::Undefined { packet } => Refusal::Undefined { packet },
+        TraceFault::NoMemory => Refusal::NoMemory,
+    }
+}

@@ -1,0 +1,146 @@
+//! The program of a file.
+
+ghost use Rattle.std.specs.Prelude.{◌≡◌, ◌≤◌, IfOk, IfSome, IsErrOf, length};
+ghost use Rattle.snap_core.specs.Programs.{IsBounded};
+ghost use Rattle.snap_io.specs.Causes.{Rose};
+ghost use Rattle.snap_io.specs.Files.{file_of};
+ghost use Rattle.snap_cli.specs.Spots.{spot_of};
+ghost use Rattle.snap_cli.specs.Steps.{GivesProgram, GivesText, IsRead, refusal_of_names, refusal_of_tokens, refusal_of_tree};
+
+use crate::refusal::{NamingFault, Refusal, SyntaxFault};
+use crate::spot::spot_at;
+use snap_core::program::{Program, Which};
+use snap_io::{ReadRefusal, Shelf, read_whole};
+use snap_lex::{LexFault, tokens};
+use snap_names::{NameFault, resolve};
+use snap_parse::{ParseFault, parse};
+use std::alloc::Global;
+
+/// The most bytes of a program's text.
+pub const MOST_PROGRAM: u64 = 262_144;
+
+/// Reads a program's file, and the program that its text spells.
+pub(crate) fn load_program<'a, S: Shelf>(
+    alloc: Global,
+    shelf: &mut S,
+    name: &'a [u8],
+) -> Result<Program, Refusal<'a>>
+    ensures gives { IfSome (S.files shelf.old) (λ files. GivesProgram (file_of files name.entry.now) result) }
+    ensures bounded { IfOk result IsBounded }
+    ensures read { IsRead result → Rose (S.faults shelf.old) (S.faults shelf.new) }
+    ensures not_write { IsErrOf result Refusal.Write → ⊥ }
+    ensures not_usage { IsErrOf result Refusal.Usage → ⊥ }
+    ensures files { S.files shelf.new ≡ S.files shelf.old }
+    ensures later { S.faults shelf.old ≤ S.faults shelf.new }
+{
+    let text = load_text(alloc, shelf, name)?;
+    read_program(alloc, &text)
+}
+
+// Reads the text of a program.
+fn load_text<'a, S: Shelf>(
+    alloc: Global,
+    shelf: &mut S,
+    name: &'a [u8],
+) -> Result<Vec<u8>, Refusal<'a>>
+    ensures gives { IfSome (S.files shelf.old) (λ files. GivesText (file_of files name.entry.now) result) }
+    ensures bound { IfOk result (λ text. length text.items ≤ 262144) }
+    ensures read { IsRead result → Rose (S.faults shelf.old) (S.faults shelf.new) }
+    ensures not_write { IsErrOf result Refusal.Write → ⊥ }
+    ensures not_usage { IsErrOf result Refusal.Usage → ⊥ }
+    ensures files { S.files shelf.new ≡ S.files shelf.old }
+    ensures later { S.faults shelf.old ≤ S.faults shelf.new }
+{
+    match read_whole(alloc, shelf, name, MOST_PROGRAM) {
+        Ok(text) => Ok(text),
+        Err(ReadRefusal::Failed) => Err(Refusal::Read { name }),
+        Err(ReadRefusal::TooLong) => Err(Refusal::Limit {
+            which: Which::Bytes,
+            count: MOST_PROGRAM + 1,
+        }),
+        Err(ReadRefusal::NoMemory) => Err(Refusal::NoMemory),
+    }
+}
+
+/// The program that a text spells.
+pub(crate) fn read_program<'a>(alloc: Global, text: &[u8]) -> Result<Program, Refusal<'a>>
+    requires { length text.now ≤ 262144 }
+    ensures gives { GivesProgram text.now result }
+    ensures bounded { IfOk result IsBounded }
+    ensures not_read { IsRead result → ⊥ }
+    ensures not_write { IsErrOf result Refusal.Write → ⊥ }
+    ensures not_usage { IsErrOf result Refusal.Usage → ⊥ }
+{
+    let tokens = match tokens(alloc, text) {
+        Ok(tokens) => tokens,
+        Err(fault) => return Err(refusal_of_tokens(text, fault)),
+    };
+    let source = match parse(alloc, text, &tokens) {
+        Ok(source) => source,
+        Err(fault) => return Err(refusal_of_tree(text, fault)),
+    };
+    match resolve(alloc, text, &source) {
+        Ok(program) => Ok(program),
+        Err(fault) => Err(refusal_of_names(text, fault)),
+    }
+}
+
+fn refusal_of_tokens<'a>(text: &[u8], fault: LexFault) -> Refusal<'a>
+    requires { length text.now ≤ 262144 }
+    ensures { result ≡ refusal_of_tokens text.now fault }
+{
+    match fault {
+        LexFault::BadByte { at } => Refusal::Syntax {
+            fault: SyntaxFault::BadByte,
+            spot: spot_at(text, at),
+        },
+        LexFault::BadNumber { at } => Refusal::Syntax {
+            fault: SyntaxFault::BadNumber,
+            spot: spot_at(text, at),
+        },
+        LexFault::NoMemory => Refusal::NoMemory,
+    }
+}
+
+fn refusal_of_tree<'a>(text: &[u8], fault: ParseFault) -> Refusal<'a>
+    requires { length text.now ≤ 262144 }
+    ensures { result ≡ refusal_of_tree text.now fault }
+{
+    match fault {
+        ParseFault::Unexpected { at } => Refusal::Syntax {
+            fault: SyntaxFault::UnexpectedToken,
+            spot: spot_at(text, at),
+        },
+        ParseFault::TooDeep { at } => Refusal::Syntax {
+            fault: SyntaxFault::TooDeep,
+            spot: spot_at(text, at),
+        },
+        ParseFault::NoMemory => Refusal::NoMemory,
+    }
+}
+
+fn refusal_of_names<'a>(text: &[u8], fault: NameFault) -> Refusal<'a>
+    requires { length text.now ≤ 262144 }
+    ensures { result ≡ refusal_of_names text.now fault }
+{
+    match fault {
+        NameFault::Unknown { at } => naming(text, NamingFault::UnknownName, at),
+        NameFault::Twice { at } => naming(text, NamingFault::DeclaredTwice, at),
+        NameFault::Kind { at } => naming(text, NamingFault::WrongKind, at),
+        NameFault::Arity { at } => naming(text, NamingFault::WrongArity, at),
+        NameFault::Wide { at } => naming(text, NamingFault::TooWide, at),
+        NameFault::Prefix { at } => naming(text, NamingFault::WrongPrefix, at),
+        NameFault::Limit { which, count } => Refusal::Limit { which, count },
+        NameFault::NoMemory => Refusal::NoMemory,
+    }
+}
+
+fn naming<'a>(text: &[u8], fault: NamingFault, at: u32) -> Refusal<'a>
+    requires { length text.now ≤ 262144 }
+    ensures { result ≡ Refusal.Naming fault (spot_of text.now at) }
+{
+    Refusal::Naming {
+        fault,
+        spot: spot_at(text, at),
+    }
+}

@@ -1,0 +1,197 @@
+//! Why a command ends without its whole output: its status and its message.
+
+ghost use Rattle.std.specs.Prelude.{◌≡◌, Err, OnOk, OnErr};
+ghost use Rattle.std.specs.Io.KnownBytes.{Appends};
+ghost use Rattle.snap_io.specs.Causes.{HasCause};
+ghost use Rattle.snap_io.specs.Sinks.{AppendsPart};
+ghost use Rattle.snap_cli.specs.Refusals.{message_at, message_of, message_of_limit, message_of_read, message_text, message_with, naming_text, status_of, syntax_text, which_text};
+
+use crate::spot::Spot;
+use itoa::Buffer;
+use snap_core::program::Which;
+use snap_io::{Sink, WriteFailed, write_pieces};
+
+/// Why a text has no tree.
+#[derive(Clone, Copy, Debug, PartialEq, Eq)]
+pub enum SyntaxFault {
+    BadByte,
+    BadNumber,
+    UnexpectedToken,
+    TooDeep,
+}
+
+/// Which naming rule is broken.
+#[derive(Clone, Copy, Debug, PartialEq, Eq)]
+pub enum NamingFault {
+    UnknownName,
+    DeclaredTwice,
+    WrongKind,
+    WrongArity,
+    TooWide,
+    WrongPrefix,
+}
+
+/// Why a command ends without its whole output.
+#[derive(Clone, Copy, Debug)]
+pub enum Refusal<'a> {
+    /// The words are of no command's form.
+    Usage,
+
+    /// The file with this name can't be read.
+    Read { name: &'a [u8] },
+
+    /// The output can't be written.
+    Write,
+
+    /// The program's text has no tokens or no tree.
+    Syntax { fault: SyntaxFault, spot: Spot },
+
+    /// A naming rule is broken.
+    Naming { fault: NamingFault, spot: Spot },
+
+    /// A counted quantity passes its limit.
+    Limit { which: Which, count: u64 },
+
+    /// This line of the packets file isn't in form, or too long.
+    Packets { line: u64 },
+
+    /// Memory was refused.
+    NoMemory,
+
+    /// Evaluation is undefined first at this packet.
+    Undefined { packet: u64 },
+}
+
+fn which_text(which: Which) -> &'static [u8]
+    ensures { result.now ≡ which_text which }
+{
+    match which {
+        Which::Bytes => b"bytes",
+        Which::Lines => b"lines",
+        Which::Components => b"components",
+        Which::Arrays => b"arrays",
+        Which::Atoms => b"atoms",
+        Which::Nodes => b"nodes",
+        Which::Weight => b"weight",
+        Which::Switches => b"switches",
+        Which::Links => b"links",
+        Which::Ports => b"ports",
+    }
+}
+
+fn syntax_text(fault: SyntaxFault) -> &'static [u8]
+    ensures { result.now ≡ syntax_text fault }
+{
+    match fault {
+        SyntaxFault::BadByte => b"bad byte",
+        SyntaxFault::BadNumber => b"bad number",
+        SyntaxFault::UnexpectedToken => b"unexpected token",
+        SyntaxFault::TooDeep => b"too deep",
+    }
+}
+
+fn naming_text(fault: NamingFault) -> &'static [u8]
+    ensures { result.now ≡ naming_text fault }
+{
+    match fault {
+        NamingFault::UnknownName => b"unknown name",
+        NamingFault::DeclaredTwice => b"declared twice",
+        NamingFault::WrongKind => b"wrong kind",
+        NamingFault::WrongArity => b"wrong number of indices",
+        NamingFault::TooWide => b"number too wide",
+        NamingFault::WrongPrefix => b"wrong prefix",
+    }
+}
+
+// Writes `snapc: LINE:COL: TEXT`.
+fn tell_at<E: Sink>(err: &mut E, spot: Spot, text: &[u8]) -> Result<(), WriteFailed>
+    ensures ok { OnOk result (Appends (E.taken err.old) (E.taken err.new) (message_at spot text.now)) }
+    ensures err { OnErr result (AppendsPart (E.taken err.old) (E.taken err.new) (message_at spot text.now)) }
+    ensures cause { HasCause (E.faults err.old) (E.faults err.new) result }
+{
+    let mut lines = Buffer::new();
+    let mut columns = Buffer::new();
+    let line = lines.format(spot.line).as_bytes();
+    let column = columns.format(spot.column).as_bytes();
+    write_pieces(err, &[b"snapc: ", line, b":", column, b": ", text, b"\n"])
+}
+
+// Writes `snapc: TEXT NUMBER`.
+fn tell_number<E: Sink>(err: &mut E, text: &[u8], number: u64) -> Result<(), WriteFailed>
+    ensures ok { OnOk result (Appends (E.taken err.old) (E.taken err.new) (message_with text.now number)) }
+    ensures err { OnErr result (AppendsPart (E.taken err.old) (E.taken err.new) (message_with text.now number)) }
+    ensures cause { HasCause (E.faults err.old) (E.faults err.new) result }
+{
+    let mut digits = Buffer::new();
+    let number = digits.format(number).as_bytes();
+    write_pieces(err, &[b"snapc: ", text, b" ", number, b"\n"])
+}
+
+// Writes `snapc: limit: WHICH COUNT`.
+fn tell_limit<E: Sink>(err: &mut E, which: Which, count: u64) -> Result<(), WriteFailed>
+    ensures ok { OnOk result (Appends (E.taken err.old) (E.taken err.new) (message_of_limit which count)) }
+    ensures err { OnErr result (AppendsPart (E.taken err.old) (E.taken err.new) (message_of_limit which count)) }
+    ensures cause { HasCause (E.faults err.old) (E.faults err.new) result }
+{
+    let mut digits = Buffer::new();
+    let count = digits.format(count).as_bytes();
+    write_pieces(
+        err,
+        &[b"snapc: limit: ", which_text(which), b" ", count, b"\n"],
+    )
+}
+
+// Writes `snapc: TEXT`.
+fn tell_text<E: Sink>(err: &mut E, text: &[u8]) -> Result<(), WriteFailed>
+    ensures ok { OnOk result (Appends (E.taken err.old) (E.taken err.new) (message_text text.now)) }
+    ensures err { OnErr result (AppendsPart (E.taken err.old) (E.taken err.new) (message_text text.now)) }
+    ensures cause { HasCause (E.faults err.old) (E.faults err.new) result }
+{
+    write_pieces(err, &[b"snapc: ", text, b"\n"])
+}
+
+// Writes `snapc: cannot read NAME`.
+fn tell_read<E: Sink>(err: &mut E, name: &[u8]) -> Result<(), WriteFailed>
+    ensures ok { OnOk result (Appends (E.taken err.old) (E.taken err.new) (message_of_read name.now)) }
+    ensures err { OnErr result (AppendsPart (E.taken err.old) (E.taken err.new) (message_of_read name.now)) }
+    ensures cause { HasCause (E.faults err.old) (E.faults err.new) result }
+{
+    write_pieces(err, &[b"snapc: cannot read ", name, b"\n"])
+}
+
+impl Refusal<'_> {
+    pub fn status(&self) -> u8
+        ensures { result ≡ status_of (Err self.now) }
+    {
+        match self {
+            Refusal::Usage => 1,
+            Refusal::Read { .. } => 2,
+            Refusal::Write => 3,
+            Refusal::Syntax { .. } => 4,
+            Refusal::Naming { .. } => 5,
+            Refusal::Limit { .. } => 6,
+            Refusal::Packets { .. } => 12,
+            Refusal::NoMemory => 14,
+            Refusal::Undefined { .. } => 15,
+        }
+    }
+
+    /// Writes the message, one line. It takes no memory.
+    pub fn tell<E: Sink>(&self, err: &mut E) -> Result<(), WriteFailed>
+        ensures ok { OnOk result (Appends (E.taken err.old) (E.taken err.new) (message_of (Err self.now))) }
+        ensures err { OnErr result (AppendsPart (E.taken err.old) (E.taken err.new) (message_of (Err self.now))) }
+        ensures cause { HasCause (E.faults err.old) (E.faults err.new) result }
+    {
+        match *self {
+            Refusal::Usage => tell_text(err, b"usage"),
+            Refusal::Read { name } => tell_read(err, name),
+            Refusal::Write => tell_text(err, b"cannot write"),
+            Refusal::Syntax { fault, spot } => tell_at(err, spot, syntax_text(fault)),
+            Refusal::Naming { fault, spot } => tell_at(err, spot, naming_text(fault)),
+            Refusal::Limit { which, count } => tell_limit(err, which, count),
+            Refusal::Packets { line } => tell_number(err, b"packets: line", line),
+            Refusal::NoMemory => tell_text(err, b"out of memory"),
+            Refusal::Undefined { packet } => tell_number(err, b"undefined: packet", packet),
+        }
+    }
+}

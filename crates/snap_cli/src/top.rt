@@ -1,0 +1,68 @@
+//! The top call.
+
+ghost use Rattle.std.specs.Prelude.{◌≡◌, ◌⊎◌, [], None, IfSome, IsErrOf};
+ghost use Rattle.std.specs.Io.KnownBytes.{Appends};
+ghost use Rattle.snap_io.specs.Causes.{Rose};
+ghost use Rattle.snap_words.specs.Commands.{command_of};
+ghost use Rattle.snap_words.specs.Said.{bytes_of};
+ghost use Rattle.snap_cli.specs.Answers.{Answers, MeetsWords};
+ghost use Rattle.snap_cli.specs.Steps.{HasCauses};
+
+use crate::obs;
+use crate::refusal::Refusal;
+use snap_io::{Shelf, Sink};
+use snap_words::calls::command;
+use snap_words::command::Command;
+use snap_words::fault::WordsFault;
+use std::alloc::Global;
+
+/// Does what the words ask, with the files of the shelf: it writes the output to `out`, and a refusal's message to
+/// `err`, and answers the status (`README.md` lists them). A fault of `err` changes neither status nor output.
+pub fn snap<S: Shelf, O: Sink, E: Sink>(
+    alloc: Global,
+    words: &[Vec<u8>],
+    shelf: &mut S,
+    out: &mut O,
+    err: &mut E,
+) -> u8
+    // The status, the output and the message are what the words and the files deserve.
+    ensures answer { Answers (bytes_of words.now) (S.files shelf.old) result
+        (O.taken out.old) (O.taken out.new) (E.faults err.old) (E.faults err.new) (E.taken err.old) (E.taken err.new) }
+
+    // These hold for shelves and sinks that tell nothing too.
+    ensures usage { result ≡ 1 → command_of (bytes_of words.now) ≡ None }
+    ensures usage_comes { command_of (bytes_of words.now) ≡ None → (result ≡ 1) ⊎ (result ≡ 14) }
+    ensures nothing { result ≡ 1 → Appends (O.taken out.old) (O.taken out.new) [] }
+    ensures read { result ≡ 2 → Rose (S.faults shelf.old) (S.faults shelf.new) }
+    ensures write { result ≡ 3 → Rose (O.faults out.old) (O.faults out.new) }
+{
+    let ending = run(alloc, words, shelf, out);
+    match ending {
+        Ok(()) => 0,
+        Err(refusal) => {
+            let _ = refusal.tell(err);
+            refusal.status()
+        }
+    }
+}
+
+// The commands, each by its words.
+fn run<'a, S: Shelf, O: Sink>(
+    alloc: Global,
+    words: &'a [Vec<u8>],
+    shelf: &mut S,
+    out: &mut O,
+) -> Result<(), Refusal<'a>>
+    ensures meets { IfSome (S.files shelf.old) (λ files.
+        MeetsWords files (bytes_of words.entry.now) result (O.taken out.old) (O.taken out.new)) }
+    ensures usage { IsErrOf result Refusal.Usage → command_of (bytes_of words.entry.now) ≡ None }
+    ensures usage_comes { command_of (bytes_of words.entry.now) ≡ None → IsErrOf result Refusal.Usage ⊎ IsErrOf result Refusal.NoMemory }
+    ensures nothing { IsErrOf result Refusal.Usage → Appends (O.taken out.old) (O.taken out.new) [] }
+    ensures causes { HasCauses (S.faults shelf.old) (S.faults shelf.new) (O.faults out.old) (O.faults out.new) result }
+{
+    match command(alloc, words) {
+        Ok(Command::Obs { program, packets }) => obs::report(alloc, program, packets, shelf, out),
+        Err(WordsFault::Usage) => Err(Refusal::Usage),
+        Err(WordsFault::NoMemory) => Err(Refusal::NoMemory),
+    }
+}

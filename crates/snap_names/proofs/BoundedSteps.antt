@@ -1,0 +1,59 @@
+-- What holds of each element, and of what a reading gives, step by step.
+use Rattle.std.proofs.Common.{◌≡◌, ℕ, zero, suc, ◌≤◌, Bool, true, false, List, [], ◌∷◌, ◌++◌, Option, None, Some, Result, Ok, Err, IfOk, IfSome, cond, if◌then◌else◌, slice_get, nat_lt, refl, ltb-false}
+use Rattle.std.specs.List.{AllByRecursion}
+use Rattle.std.specs.Map.{lookup}
+use Rattle.snap_core.specs.declared.program.Which.{Which}
+use Rattle.snap_names.specs.declared.fault.NameFault.{NameFault}
+use Rattle.snap_names.specs.Senses.{after, or_fault}
+use Rattle.snap_names.specs.Declarations.{within}
+
+pub AllByRecursion-weaker : {X : Type 0} (P Q : X → Type 0) → ((x : X) → P x → Q x) → (xs : List X) → AllByRecursion P xs → AllByRecursion Q xs
+AllByRecursion-weaker P Q f [] h = tt
+AllByRecursion-weaker P Q f (x ∷ xs) h = (f x h.0, AllByRecursion-weaker P Q f xs h.1)
+
+pub AllByRecursion-append : {X : Type 0} (P : X → Type 0) (xs ys : List X) → AllByRecursion P xs → AllByRecursion P ys → AllByRecursion P (xs ++ ys)
+AllByRecursion-append P [] ys h k = k
+AllByRecursion-append P (x ∷ xs) ys h k = (h.0, AllByRecursion-append P xs ys h.1 k)
+
+pub AllByRecursion-slice_get : {X : Type 0} (P : X → Type 0) (xs : List X) (i : ℕ) → AllByRecursion P xs → IfSome (slice_get xs i) P
+AllByRecursion-slice_get P [] i h = tt
+AllByRecursion-slice_get P (x ∷ xs) zero h = h.0
+AllByRecursion-slice_get P (x ∷ xs) (suc i) h = AllByRecursion-slice_get P xs i h.1
+
+IfSome-cond : {X : Type 0} (P : X → Type 0) (b : Bool) (x : X) (o : Option X) → P x → IfSome o P → IfSome (cond b (Some x) o) P
+IfSome-cond P true x o h k = h
+IfSome-cond P false x o h k = k
+
+-- what holds of each value holds of the one that a look-up finds
+pub AllByRecursion-lookup : {K X : Type 0} (P : X → Type 0) (test : K → Bool) (es : List (K × X)) → AllByRecursion (λ e. P e.1) es → IfSome (lookup test es) P
+AllByRecursion-lookup P test [] h = tt
+AllByRecursion-lookup P test (e ∷ es) h = IfSome-cond P (test e.0) e.1 (lookup test es) h.0 (AllByRecursion-lookup P test es h.1)
+
+pub IfOk-or_fault : {A : Type 0} (P : A → Type 0) (f : NameFault) (o : Option A) → IfSome o P → IfOk (or_fault f o) P
+IfOk-or_fault P f None h = tt
+IfOk-or_fault P f (Some x) h = h
+
+pub IfOk-after : {A B : Type 0} (P : A → Type 0) (Q : B → Type 0) (r : Result A NameFault) (f : A → Result B NameFault) → IfOk r P → ((x : A) → P x → IfOk (f x) Q) → IfOk (after r f) Q
+IfOk-after P Q (Ok x) f h k = k x h
+IfOk-after P Q (Err e) f h k = tt
+
+-- whatever the first gives
+pub IfOk-after_any : {A B : Type 0} (Q : B → Type 0) (r : Result A NameFault) (f : A → Result B NameFault) → ((x : A) → IfOk (f x) Q) → IfOk (after r f) Q
+IfOk-after_any Q (Ok x) f k = k x
+IfOk-after_any Q (Err e) f k = tt
+
+pub IfOk-if : {A : Type 0} (P : A → Type 0) (b : Bool) (r : Result A NameFault) (f : NameFault) → IfOk r P → IfOk (if b then r else Err f) P
+IfOk-if P true r f h = h
+IfOk-if P false r f h = tt
+
+pub IfOk-unless : {A : Type 0} (P : A → Type 0) (b : Bool) (f : NameFault) (r : Result A NameFault) → IfOk r P → IfOk (if b then Err f else r) P
+IfOk-unless P true f r h = tt
+IfOk-unless P false f r h = h
+
+-- what is within a limit may use that it is
+pub IfOk-within : {A : Type 0} (P : A → Type 0) (which : Which) (n most : ℕ) (r : Result A NameFault) → (n ≤ most → IfOk r P) → IfOk (within which n most r) P
+IfOk-within P which n most r k = by_test (nat_lt most n) refl
+  where
+    by_test : (b : Bool) → nat_lt most n ≡ b → IfOk (within which n most r) P
+    by_test true e = rw e tt
+    by_test false e = rw e (k (ltb-false most n e))

@@ -1,0 +1,187 @@
+-- The fields that are declared are those of a program, but for their number.
+use Rattle.std.proofs.Common.{◌≡◌, ◌≢◌, ℕ, zero, suc, ◌+◌, ◌≤◌, Bool, true, false, List, [], ◌∷◌, ◌++◌, map, length, codes, Option, None, Some, is_some, Result, Ok, Err, IfOk, cond, refl, sym, ap, ◌∙◌, subst, arith, length-append}
+use Rattle.std.specs.List.{AllByRecursion, All, IsDistinct, list_any}
+use Rattle.std.specs.Map.{lookup}
+use Rattle.std.specs.Str.{bytes_eq}
+use Rattle.std.specs.Prelude.{◌||◌}
+use Rattle.std.proofs.lemmas.Slice.Eq.{bytes_eq-Decides}
+use Rattle.snap_core.specs.declared.program.Field.{Field}
+use Rattle.snap_core.specs.Fields.{count, width, declared_at, declared_from, names_of, plain_field, PrefixFits, IsFields}
+use Rattle.snap_names.specs.declared.scope.Sense.{Sense}
+use Rattle.snap_names.specs.declared.scope.Sense.TheVariants.{Plain, Split}
+use Rattle.snap_names.specs.Declarations.{Declared, ports, is_known, field_names, with_field}
+use Rattle.snap_names.specs.Declarations.{field_senses, prefix_length, short, with_array, with_constant, with_let, declare, declare_all}
+use Rattle.snap_names.specs.Senses.{after, word, literal, is_address, number_at}
+use Rattle.snap_names.specs.Reading.{read_policy}
+use Rattle.snap_names.specs.Declarations.{env_of}
+use Rattle.snap_names.specs.declared.fault.NameFault.{NameFault}
+use Rattle.snap_names.specs.declared.fault.NameFault.TheVariants.{Twice, Prefix}
+use Rattle.snap_parse.specs.Tree.{DeclTree, field_tree, array_tree, const_tree, let_tree}
+use Rattle.std.proofs.lemmas.Bool.Decides.{nat_tests}
+use Rattle.snap_names.proofs.Declaring.{bytes_eq-apart, or_left, or_right}
+use Rattle.std.specs.Prelude.{nat_le, ◌&&◌, if◌then◌else◌, take}
+use Rattle.snap_names.proofs.BoundedSteps.{AllByRecursion-append, AllByRecursion-weaker, IfOk-after, IfOk-after_any, IfOk-unless}
+
+abbrev names_from : ℕ → List Field → List (List ℕ)
+names_from c fs = map (λ e. e.0) (declared_from c fs)
+
+names_one : (c : ℕ) (name : List ℕ) (prefix : Option ℕ) → names_from c (record { name = name; prefix = prefix } ∷ []) ≡ field_names name (is_some prefix)
+names_one c name None = refl
+names_one c name (Some n) = refl
+
+names_step : (c : ℕ) (name : List ℕ) (prefix : Option ℕ) (xs ys : List (List ℕ × _)) (more : List (List ℕ)) → map (λ e. e.0) xs ≡ map (λ e. e.0) ys ++ more
+    → map (λ e. e.0) (declared_at c name prefix ++ xs) ≡ map (λ e. e.0) (declared_at c name prefix ++ ys) ++ more
+names_step c name None xs ys more h = ap (λ w. name ∷ w) h
+names_step c name (Some n) xs ys more h = ap (λ w. name ∷ (name ++ codes ".net") ∷ (name ++ codes ".host") ∷ w) h
+
+names_from-append : (c : ℕ) (fs : List Field) (name : List ℕ) (prefix : Option ℕ) → names_from c (fs ++ record { name = name; prefix = prefix } ∷ []) ≡ names_from c fs ++ field_names name (is_some prefix)
+names_from-append c [] name prefix = names_one c name prefix
+names_from-append c (f ∷ fs) name prefix = names_step c f.name f.prefix _ _ _ (names_from-append (c + width f.prefix) fs name prefix)
+
+known_step : (b : Bool) (x : Sense) (o p : Option Sense) → (is_some o ≡ true → is_some p ≡ true) → is_some (cond b (Some x) o) ≡ true → is_some (cond b (Some x) p) ≡ true
+known_step true x o p rest h = refl
+known_step false x o p rest h = rest h
+
+is_known-more : (names more : List (List ℕ × Sense)) (n : List ℕ) → is_known names n ≡ true → is_known (names ++ more) n ≡ true
+is_known-more [] more n h = cc
+is_known-more (x ∷ names) more n h = known_step (bytes_eq n x.0) x.1 (lookup (bytes_eq n) names) (lookup (bytes_eq n) (names ++ more)) (is_known-more names more n) h
+
+different : (names : List (List ℕ × Sense)) (x y : List ℕ) → is_known names x ≡ true → is_known names y ≡ false → bytes_eq x y ≡ false
+different names x y h k = by_test (bytes_eq x y) refl
+  where
+    by_test : (b : Bool) → bytes_eq x y ≡ b → bytes_eq x y ≡ false
+    by_test true e =
+        let same : x ≡ y = (bytes_eq-Decides x y).0 e in
+        let wrong : is_known names x ≡ false = subst (λ w. is_known names w ≡ false) (sym same) k in
+        cc
+    by_test false e = e
+
+different_all : (names : List (List ℕ × Sense)) (x : List ℕ) (ys : List (List ℕ)) → is_known names x ≡ true → list_any (is_known names) ys ≡ false → AllByRecursion (λ y. bytes_eq x y ≡ false) ys
+different_all names x [] h k = tt
+different_all names x (y ∷ ys) h k = (different names x y h (or_left _ _ k), different_all names x ys h (or_right (is_known names y) _ k))
+
+pub IsDistinct-append : (names : List (List ℕ × Sense)) (xs ys : List (List ℕ)) → AllByRecursion (λ x. is_known names x ≡ true) xs → list_any (is_known names) ys ≡ false
+    → IsDistinct bytes_eq xs → IsDistinct bytes_eq ys → IsDistinct bytes_eq (xs ++ ys)
+unfolding IsDistinct
+IsDistinct-append names [] ys h k d e = e
+IsDistinct-append names (x ∷ xs) ys h k d e =
+    (AllByRecursion-append (λ y. bytes_eq x y ≡ false) xs ys d.0 (different_all names x ys h.0 k), IsDistinct-append names xs ys h.1 k d.1 e)
+
+names_apart : (name : List ℕ) (b : Bool) → IsDistinct bytes_eq (field_names name b)
+unfolding IsDistinct
+names_apart name false = (tt, tt)
+names_apart name true =
+    let n : length (name ++ codes ".net") ≡ length name + 4 = length-append name (codes ".net") in
+    let h : length (name ++ codes ".host") ≡ length name + 5 = length-append name (codes ".host") in
+    let a : bytes_eq name (name ++ codes ".net") ≡ false = bytes_eq-apart name (name ++ codes ".net") (omega (arith, n)) in
+    let b : bytes_eq name (name ++ codes ".host") ≡ false = bytes_eq-apart name (name ++ codes ".host") (omega (arith, h)) in
+    let e : bytes_eq (name ++ codes ".net") (name ++ codes ".host") ≡ false = bytes_eq-apart (name ++ codes ".net") (name ++ codes ".host") (omega (arith, n, h)) in
+    ((a, (b, tt)), ((e, tt), (tt, tt)))
+
+behind_step : (b : Bool) (x : Sense) (o : Option Sense) → is_some o ≡ true → is_some (cond b (Some x) o) ≡ true
+behind_step true x o h = refl
+behind_step false x o h = h
+
+known_behind : (names more : List (List ℕ × Sense)) (n : List ℕ) → is_known more n ≡ true → is_known (names ++ more) n ≡ true
+known_behind [] more n h = h
+known_behind (x ∷ names) more n h = behind_step (bytes_eq n x.0) x.1 _ (known_behind names more n h)
+
+known_first : (n : List ℕ) (s : Sense) (more : List (List ℕ × Sense)) → is_known ((n, s) ∷ more) n ≡ true
+known_first n s more = rw ((bytes_eq-Decides n n).1 refl) refl
+
+known_new : (c : ℕ) (name : List ℕ) (prefix : Option ℕ) → AllByRecursion (λ n. is_known (field_senses c name prefix) n ≡ true) (field_names name (is_some prefix))
+known_new c name None = (known_first name (Plain (short c)) [], tt)
+known_new c name (Some p) =
+    let whole : List ℕ × Sense = (name, Split (short c) (short (c + 1)) p) in
+    let net : List ℕ × Sense = (name ++ codes ".net", Plain (short c)) in
+    let host : List ℕ × Sense = (name ++ codes ".host", Plain (short (c + 1))) in (
+      known_first name whole.1 (net ∷ host ∷ []),
+      (
+        known_behind (whole ∷ []) (net ∷ host ∷ []) (name ++ codes ".net") (known_first (name ++ codes ".net") net.1 (host ∷ [])),
+        (known_behind (whole ∷ net ∷ []) (host ∷ []) (name ++ codes ".host") (known_first (name ++ codes ".host") host.1 []), tt),
+      ),
+    )
+
+record FieldsStand (d : Declared) : Type 0 where
+  rest : List Field
+  first : d.fields ≡ plain_field (codes "inport") ∷ plain_field (codes "outport") ∷ rest
+  distinct : IsDistinct bytes_eq (names_of d.fields)
+  known : AllByRecursion (λ n. is_known d.names n ≡ true) (names_of d.fields)
+  prefixes : AllByRecursion (λ f. PrefixFits f.prefix) d.fields
+
+with_field-stands : (d : Declared) (name : List ℕ) (prefix : Option ℕ) → FieldsStand d → list_any (is_known d.names) (field_names name (is_some prefix)) ≡ false → PrefixFits prefix → FieldsStand (with_field d name prefix)
+with_field-stands d name prefix h k fits =
+    let more = field_senses (count d.fields) name prefix in
+    let e = names_from-append 0 d.fields name prefix in
+    record {
+      rest = h.rest ++ record { name = name; prefix = prefix } ∷ [];
+      first = ap (λ (fs : List Field). fs ++ record { name = name; prefix = prefix } ∷ []) h.first;
+      distinct = subst (IsDistinct bytes_eq) (sym e) (IsDistinct-append d.names (names_of d.fields) _ h.known k h.distinct (names_apart name (is_some prefix)));
+      known = subst (AllByRecursion (λ n. is_known (d.names ++ more) n ≡ true)) (sym e) (AllByRecursion-append (λ n. is_known (d.names ++ more) n ≡ true) _ _
+          (AllByRecursion-weaker (λ n. is_known d.names n ≡ true) (λ n. is_known (d.names ++ more) n ≡ true) (is_known-more d.names more) _ h.known)
+          (AllByRecursion-weaker (λ n. is_known more n ≡ true) (λ n. is_known (d.names ++ more) n ≡ true) (known_behind d.names more) _ (known_new (count d.fields) name prefix)));
+      prefixes = AllByRecursion-append (λ f. PrefixFits f.prefix) d.fields _ h.prefixes (fits, tt);
+    }
+
+within_31 : (n : ℕ) → (nat_le 1 n && nat_le n 31) ≡ true → PrefixFits (Some n)
+within_31 n h = grind (arith, nat_tests)
+
+unless_step : {A : Type 0} (P : A → Type 0) (b : Bool) (f : NameFault) (r : Result A NameFault) → (b ≡ false → IfOk r P) → IfOk (if b then Err f else r) P
+unless_step P true f r h = tt
+unless_step P false f r h = h refl
+
+named-stands : (d e : Declared) (more : List (List ℕ × Sense)) → e.fields ≡ d.fields → e.names ≡ d.names ++ more → FieldsStand d → FieldsStand e
+named-stands d e more fs ns h = record {
+  rest = h.rest;
+  first = fs ∙ h.first;
+  distinct = rw fs h.distinct;
+  known = rw (fs, ns) (AllByRecursion-weaker (λ n. is_known d.names n ≡ true) (λ n. is_known (d.names ++ more) n ≡ true) (is_known-more d.names more) _ h.known);
+  prefixes = rw fs h.prefixes;
+}
+
+IfOk-split : (d : Declared) (name : List ℕ) (b : Bool) (n : ℕ) (f : NameFault) → FieldsStand d → list_any (is_known d.names) (field_names name true) ≡ false → (b ≡ true → PrefixFits (Some n))
+    → IfOk (after (if b then Ok (Some n) else Err f) (λ w. Ok (with_field d name w))) FieldsStand
+IfOk-split d name true n f h k fits = with_field-stands d name (Some n) h k (fits refl)
+IfOk-split d name false n f h k fits = tt
+
+IfOk-split_after : (d : Declared) (name : List ℕ) (r : Result ℕ NameFault) (f : NameFault) → FieldsStand d → list_any (is_known d.names) (field_names name true) ≡ false
+    → IfOk (after (after r (λ n. if nat_le 1 n && nat_le n 31 then Ok (Some n) else Err f)) (λ w. Ok (with_field d name w))) FieldsStand
+IfOk-split_after d name (Err e) f h k = tt
+IfOk-split_after d name (Ok n) f h k = IfOk-split d name (nat_le 1 n && nat_le n 31) n f h k (within_31 n)
+
+declare-stands : (text : List ℕ) (d : Declared) → FieldsStand d → (t : DeclTree) → IfOk (declare text d t) FieldsStand
+declare-stands text d h (field_tree at t p) =
+    unless_step FieldsStand (list_any (is_known d.names) (field_names (word text t) (is_some p))) (Twice t.from) _ (λ k. field_step p k)
+  where
+    field_step : (q : _) → list_any (is_known d.names) (field_names (word text t) (is_some q)) ≡ false → IfOk (after (prefix_length text q) (λ n. Ok (with_field d (word text t) n))) FieldsStand
+    field_step None k = with_field-stands d (word text t) None h k tt
+    field_step (Some s) k = IfOk-split_after d (word text t) (number_at text s) (Prefix s.from) h k
+declare-stands text d h (array_tree at t) = IfOk-unless FieldsStand (is_known d.names (word text t)) (Twice t.from) _ (named-stands d _ _ refl refl h)
+declare-stands text d h (const_tree at t l) =
+    IfOk-unless FieldsStand (is_known d.names (word text t)) (Twice t.from) _
+    (IfOk-after_any FieldsStand (literal text l) _ (λ n. named-stands d (with_constant d (word text t) n (is_address l)) _ refl refl h))
+declare-stands text d h (let_tree at t p) =
+    IfOk-unless FieldsStand (is_known d.names (word text t)) (Twice t.from) _
+    (IfOk-after_any FieldsStand (read_policy (env_of text d) p d.arities) _ (λ x. named-stands d (with_let d (word text t) x) _ refl refl h))
+
+declare_all-stands : (text : List ℕ) (ts : List DeclTree) (d : Declared) → FieldsStand d → IfOk (declare_all text ts d) FieldsStand
+declare_all-stands text [] d h = h
+declare_all-stands text (t ∷ ts) d h = IfOk-after FieldsStand FieldsStand (declare text d t) (declare_all text ts) (declare-stands text d h t) (declare_all-stands text ts)
+
+ports-differ : IsDistinct bytes_eq (names_of ports.fields)
+unfolding IsDistinct
+ports-differ = ((refl, tt), (tt, tt))
+
+ports-stand : FieldsStand ports
+ports-stand = record { rest = []; first = refl; distinct = ports-differ; known = (refl, (refl, tt)); prefixes = (tt, (tt, tt)) }
+
+All-from : {X : Type 0} (P : X → Type 0) (xs : List X) → AllByRecursion P xs → All P xs
+All-from P [] h k d l = absurd (omega arith)
+All-from P (x ∷ xs) h zero d l = h.0
+All-from P (x ∷ xs) h (suc k) d l = All-from P xs h.1 k d (omega arith)
+
+-- What a text declares are the fields of a program, but for their number.
+pub IsFields-declared : (text : List ℕ) (ts : List DeclTree) (d : Declared) → declare_all text ts ports ≡ Ok d → count d.fields ≤ 64 → IsFields d.fields
+IsFields-declared text ts d e few =
+    let h : FieldsStand d = subst (λ r. IfOk r FieldsStand) e (declare_all-stands text ts ports ports-stand) in
+    record { ports = rw h.first refl; different = h.distinct; prefixes = All-from (λ f. PrefixFits f.prefix) d.fields h.prefixes; few = few }

@@ -1,0 +1,17 @@
+pub mod BoundedCore
+pub mod BoundedDeclared
+pub mod BoundedReading
+pub mod BoundedSenses
+pub mod BoundedSteps
+pub mod Lookups
+pub mod PartLemmas
+pub mod Readings
+pub mod Operands
+pub mod Named
+pub mod Loops
+pub mod Parted
+pub mod CoreSizes
+pub mod Nodes
+pub mod Declaring
+pub mod Resolving
+pub mod DeclaredFields

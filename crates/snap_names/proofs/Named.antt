@@ -1,0 +1,54 @@
+-- What a lone name reads as.
+use Rattle.std.proofs.Common.{◌≡◌, ℕ, ◌+◌, List, Some, None, Result, Ok, Err, ap, sym, ◌∙◌, slice_get, arith}
+use Rattle.std.specs.Prelude.{IfOk, IfErr, OnOk}
+use Rattle.snap_parse.specs.declared.tree.Span.{Span}
+use Rattle.snap_names.specs.declared.scope.Sense.TheVariants.{Policy}
+use Rattle.snap_names.specs.declared.scope.Part.{Part}
+use Rattle.snap_names.specs.declared.scope.Body.{Body}
+use Rattle.snap_names.specs.declared.scope.Tally.{Tally}
+use Rattle.snap_names.specs.declared.scope.Scope.{Scope}
+use Rattle.snap_names.specs.declared.fault.NameFault.{NameFault}
+use Rattle.snap_names.specs.declared.fault.NameFault.TheVariants.{Kind, NoMemory}
+use Rattle.snap_names.specs.Core.{CorePolicy, nodes}
+use Rattle.snap_names.specs.Declarations.{capped}
+use Rattle.snap_names.specs.Senses.{after, or_fault, sense_of}
+use Rattle.snap_names.specs.Reading.{named, body_of, is_filter_or_fault}
+use Rattle.snap_names.specs.Parts.{IsPart, IsBody, AreBodies, Reads, words_of, env_in}
+use Rattle.snap_names.proofs.Operands.{body_at, no_body_at}
+
+-- a `let`
+pub Reads-named : (s : Scope) (name : Span) (old new : Tally) (result : Result Part NameFault) (i : ℕ) (b : Body) →
+    sense_of (words_of s) name ≡ Ok (Policy i) → slice_get s.lets.items i ≡ Some b →
+    IfOk result (λ part. (p : CorePolicy) → IsBody b p → IsPart p new.nodes part) →
+    OnOk result (new.nodes ≡ capped (old.nodes + b.nodes)) → OnOk result (new.arities.items ≡ old.arities.items) → IfErr result (λ f. f ≡ NoMemory) →
+    Reads s (λ e arities. after (named e name) (λ p. Ok (p, arities))) old new result
+Reads-named s name old new (Ok part) i b found at part_is counted arities none = λ lets are.
+    let body = body_at s.lets.items lets are i b at in
+    let env = env_in s lets in
+    let n = body.stands.nodes in
+    record {
+      policy = body.policy;
+      reading = ap (λ r. after (after r (body_of env name.from)) (λ p. Ok (p, old.arities.items))) found
+          ∙ ap (λ o. after (or_fault (Kind name.from) o) (λ p. Ok (p, old.arities.items))) body.at
+          ∙ ap (λ a. Ok (body.policy, a)) (sym arities);
+      counted = sum_of new.nodes old.nodes b.nodes (nodes body.policy) counted n;
+      stands = part_is body.policy body.stands;
+    }
+  where
+    sum_of : (new old n m : ℕ) → new ≡ capped (old + n) → n ≡ capped m → capped new ≡ capped (old + m)
+    sum_of new old n m a b = omega arith
+Reads-named s name old new (Err f) i b found at part_is counted arities none = λ ne. absurd (ne none)
+
+-- a number that no `let` has
+pub named-none : (s : Scope) (name : Span) (i : ℕ) (lets : List CorePolicy) → sense_of (words_of s) name ≡ Ok (Policy i) → slice_get s.lets.items i ≡ None →
+    AreBodies s.lets.items lets → named (env_in s lets) name ≡ Err (Kind name.from)
+named-none s name i lets found at are =
+    ap (λ r. after r (body_of (env_in s lets) name.from)) found ∙ ap (or_fault (Kind name.from)) (no_body_at s.lets.items lets are i at)
+
+-- whether a `let` is a predicate
+pub named-some : (s : Scope) (name : Span) (i : ℕ) (b : Body) (lets : List CorePolicy) → sense_of (words_of s) name ≡ Ok (Policy i) → slice_get s.lets.items i ≡ Some b →
+    AreBodies s.lets.items lets → b.part.is_test ≡ is_filter_or_fault (named (env_in s lets) name)
+named-some s name i b lets found at are =
+    let body = body_at s.lets.items lets are i b at in
+    body.stands.part.is_test
+    ∙ sym (ap is_filter_or_fault (ap (λ r. after r (body_of (env_in s lets) name.from)) found ∙ ap (or_fault (Kind name.from)) body.at))

@@ -1,0 +1,6 @@
+pub mod Core
+pub mod Senses
+pub mod Reading
+pub mod Declarations
+pub mod Parts
+pub mod Scopes

@@ -1,0 +1,135 @@
+-- How the parts that are built stand for core policies.
+use Rattle.std.specs.Prelude.{◌≡◌, ◌≢◌, ℕ, ◌+◌, ◌≤◌, Bool, true, List, [], ◌∷◌, map, Option, None, Some, option_map, Result, Ok, Err, IfOk, IfErr, Vec}
+use Rattle.std.specs.declared.alloc.Global.{Global}
+use Rattle.snap_core.specs.declared.policy.Pol.{Pol}
+use Rattle.snap_names.specs.declared.scope.Sense.{Sense}
+use Rattle.snap_names.specs.declared.scope.Part.{Part}
+use Rattle.snap_names.specs.declared.scope.Body.{Body}
+use Rattle.snap_names.specs.declared.scope.Tally.{Tally}
+use Rattle.snap_names.specs.declared.scope.Scope.{Scope}
+use Rattle.snap_names.specs.declared.fault.NameFault.{NameFault}
+use Rattle.snap_names.specs.declared.fault.NameFault.TheVariants.{NoMemory}
+use Rattle.snap_names.specs.Core.{CoreTest, CorePolicy, filter, not_test, and_test, or_test, par, seq, choice, core_policy, is_filter, test_nodes, nodes, weight}
+use Rattle.snap_names.specs.Declarations.{capped}
+use Rattle.snap_names.specs.Senses.{Words, Arities, Place}
+use Rattle.snap_names.specs.declared.places.Indexed.{Indexed}
+use Rattle.snap_names.specs.Reading.{Env, Reading, TestReading}
+
+-- The part stands for the core policy. `all` core nodes are counted with it, and it is built as long as these are within the limit.
+pub record IsPart (p : CorePolicy) (all : ℕ) (part : Part) : Type 0 where
+  pub is_test : part.is_test ≡ is_filter p
+  pub weight : part.weight ≡ capped (weight p)
+  pub built : all ≤ 2000 → option_map core_policy part.policy ≡ Some p
+
+-- the operands so far, if there are any
+abbrev pub IsPartOf : Option CorePolicy → ℕ → Option Part → Type 0
+IsPartOf None all None = Unit {0}
+IsPartOf (Some p) all (Some part) = IsPart p all part
+IsPartOf _ all _ = ⊥
+
+-- how policies that may not be built are joined
+abbrev pub filter_of : Option CorePolicy → Option CoreTest
+filter_of (Some (filter x)) = Some x
+filter_of _ = None
+
+abbrev pub negated_core : Option CorePolicy → Option CorePolicy
+negated_core p = option_map (λ x. filter (not_test x)) (filter_of p)
+
+abbrev pub joined_tests : (CoreTest → CoreTest → CoreTest) → Option CoreTest → Option CoreTest → Option CorePolicy
+joined_tests f (Some x) (Some y) = Some (filter (f x y))
+joined_tests f _ _ = None
+
+abbrev pub both_core : Option CorePolicy → Option CorePolicy → Option CorePolicy
+both_core p q = joined_tests and_test (filter_of p) (filter_of q)
+
+abbrev pub one_core : Option CorePolicy → Option CorePolicy → Option CorePolicy
+one_core p q = joined_tests or_test (filter_of p) (filter_of q)
+
+abbrev pub joined_policies : (CorePolicy → CorePolicy → CorePolicy) → Option CorePolicy → Option CorePolicy → Option CorePolicy
+joined_policies f (Some p) (Some q) = Some (f p q)
+joined_policies f _ _ = None
+
+abbrev pub beside_core : Option CorePolicy → Option CorePolicy → Option CorePolicy
+beside_core p q = joined_policies par p q
+
+abbrev pub behind_core : Option CorePolicy → Option CorePolicy → Option CorePolicy
+behind_core p q = joined_policies seq p q
+
+abbrev pub chosen_policies : Option CoreTest → Option CorePolicy → Option CorePolicy → Option CorePolicy
+chosen_policies (Some x) (Some p) (Some q) = Some (choice x p q)
+chosen_policies _ _ _ = None
+
+abbrev pub chosen_core : Option CorePolicy → Option CorePolicy → Option CorePolicy → Option CorePolicy
+chosen_core x p q = chosen_policies (filter_of x) p q
+
+-- the body of a `let` stands for the core policy
+pub record IsBody (body : Body) (p : CorePolicy) : Type 0 where
+  pub nodes : body.nodes ≡ capped (nodes p)
+  pub part : IsPart p body.nodes body.part
+
+pub data AreBodies : List Body → List CorePolicy → Type 0 where
+  no_bodies : AreBodies [] []
+  more_bodies : {b : Body} {p : CorePolicy} {bs : List Body} {ps : List CorePolicy} → IsBody b p → AreBodies bs ps → AreBodies (b ∷ bs) (p ∷ ps)
+
+abbrev pub names_in : List (Vec ℕ Global × Sense) → List (List ℕ × Sense)
+names_in es = map (λ e. (e.0.items, e.1)) es
+
+-- what is known in a scope
+abbrev pub words_of : Scope → Words
+words_of s = record { text = s.text.now; names = names_in s.names.entries }
+
+abbrev pub env_in : Scope → List CorePolicy → Env
+env_in s lets = record { words = words_of s; lets = lets }
+
+-- a part was read, and its nodes counted
+pub record HasRead (r : Reading) (old new : Tally) (part : Part) : Type 0 where
+  pub policy : CorePolicy
+  pub reading : r ≡ Ok (policy, new.arities.items)
+  pub counted : capped new.nodes ≡ capped (old.nodes + nodes policy)
+  pub stands : IsPart policy new.nodes part
+
+-- a predicate was read, and its nodes counted
+pub record HasReadTest (r : TestReading) (old new : Tally) (part : Part) : Type 0 where
+  pub test : CoreTest
+  pub reading : r ≡ Ok (test, new.arities.items)
+  pub counted : capped new.nodes ≡ capped (old.nodes + test_nodes test)
+  pub stands : IsPart (filter test) new.nodes part
+
+-- the operands so far were read, and their nodes counted
+abbrev pub nodes_of_all : Option CorePolicy → ℕ
+nodes_of_all None = 0
+nodes_of_all (Some p) = nodes p
+
+pub record HaveRead (r : Result (Option CorePolicy × Arities) NameFault) (old new : Tally) (parts : Option Part) : Type 0 where
+  pub policy : Option CorePolicy
+  pub reading : r ≡ Ok (policy, new.arities.items)
+  pub counted : capped new.nodes ≡ capped (old.nodes + nodes_of_all policy)
+  pub stands : IsPartOf policy new.nodes parts
+
+pub record HaveReadTests (r : Result (Option CoreTest × Arities) NameFault) (old new : Tally) (parts : Option Part) : Type 0 where
+  pub test : Option CoreTest
+  pub reading : r ≡ Ok (test, new.arities.items)
+  pub counted : capped new.nodes ≡ capped (old.nodes + nodes_of_all (option_map filter test))
+  pub stands : IsPartOf (option_map filter test) new.nodes parts
+
+-- a refusal is that of the reading, but for want of memory
+abbrev pub Refuses : {A B : Type 0} → Result A NameFault → Result B NameFault → Type 0
+Refuses r result = IfErr result (λ f. f ≢ NoMemory → r ≡ Err f)
+
+-- The answer is the reading's, but for want of memory, whatever core policies the bodies of `let` stand for.
+abbrev pub Reads : Scope → (Env → Arities → Reading) → Tally → Tally → Result Part NameFault → Type 0
+Reads s read old new (Ok part) = (lets : List CorePolicy) → AreBodies s.lets.items lets → HasRead (read (env_in s lets) old.arities.items) old new part
+Reads s read old new (Err f) = f ≢ NoMemory → (lets : List CorePolicy) → AreBodies s.lets.items lets → read (env_in s lets) old.arities.items ≡ Err f
+
+abbrev pub ReadsTest : Scope → (Env → Arities → TestReading) → Tally → Tally → Result Part NameFault → Type 0
+ReadsTest s read old new (Ok part) = (lets : List CorePolicy) → AreBodies s.lets.items lets → HasReadTest (read (env_in s lets) old.arities.items) old new part
+ReadsTest s read old new (Err f) = f ≢ NoMemory → (lets : List CorePolicy) → AreBodies s.lets.items lets → read (env_in s lets) old.arities.items ≡ Err f
+
+-- a simple policy was read, without counting its nodes
+abbrev pub ReadsSimple : Reading → Tally → Result Pol NameFault → Type 0
+ReadsSimple r new (Ok p) = r ≡ Ok (core_policy p, new.arities.items)
+ReadsSimple r new (Err f) = f ≢ NoMemory → r ≡ Err f
+
+-- an array that is indexed, with the arities behind it
+abbrev pub place_with : Indexed → Tally → Place
+place_with p tally = record { var = p.var; index = p.index; arities = tally.arities.items }
