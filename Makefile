@@ -24,7 +24,9 @@ try:
 # All proofs, tests and must-fail edits, and then the examples with the built program.
 test:
 	rt ci
-	examples/check crates/snapc/out/snapc
+	mkdir -p bin
+	install -m 755 crates/snapc/out/snapc bin/snapc
+	examples/check bin/snapc
 
 install: bin/snapc
 	mkdir -p $(PREFIX)/bin
