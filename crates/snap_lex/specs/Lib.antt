@@ -2,3 +2,4 @@ pub mod Bytes
 pub mod Address
 pub mod Lexemes
 pub mod Scanning
+pub mod Laws

@@ -8,6 +8,7 @@ ghost use Rattle.snap_lex.specs.declared.LexFault.TheVariants.{BadByte, BadNumbe
 
 pub mod address;
 pub mod bytes;
+pub mod laws;
 pub mod lexemes;
 #[cfg(test)]
 mod tests;

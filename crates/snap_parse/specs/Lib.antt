@@ -4,3 +4,4 @@ pub mod Kinds
 pub mod Machine
 pub mod Reading
 pub mod Parsing
+pub mod Laws

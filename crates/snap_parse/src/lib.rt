@@ -12,6 +12,7 @@ ghost use Rattle.snap_parse.specs.declared.cursor.TheConstants.{MAX_DEPTH};
 mod cursor;
 mod declarations;
 pub mod fault;
+pub mod laws;
 mod policies;
 #[cfg(test)]
 mod tests;

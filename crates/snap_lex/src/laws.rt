@@ -1,0 +1,8 @@
+//! Laws of tokens, each the contract of a call that does nothing.
+
+ghost use Rattle.snap_lex.specs.Laws.{FindsOnce};
+
+/// A text spells one list of tokens at most, or has a bad byte or a bad number at one place, and no two of these.
+pub fn finds_once()
+    ensures { FindsOnce }
+{}

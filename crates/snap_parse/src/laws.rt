@@ -1,0 +1,13 @@
+//! Laws of parsing, each the contract of a call that does nothing.
+
+ghost use Rattle.snap_parse.specs.Laws.{YieldsAlways, YieldsOnce};
+
+/// Tokens have one tree at most, or are unexpected or too deep at one place, and no two of these.
+pub fn yields_once()
+    ensures { YieldsOnce }
+{}
+
+/// Tokens without a tree are unexpected, or too deep, at some place.
+pub fn yields_always()
+    ensures { YieldsAlways }
+{}
