@@ -12,31 +12,24 @@ pub(crate) struct Called {
     pub(crate) err: MemorySink,
 }
 
-// The words, each owned.
-pub(crate) fn spelled(alloc: Global, words: &[&[u8]]) -> Result<Vec<Vec<u8>>, Fail> {
-    let mut spelled = Vec::new(alloc);
-    for word in words {
-        spelled.push(word.to_vec(alloc)?)?;
-    }
-    Ok(spelled)
+// How many bytes the shelf and the sink take at most in a call, which of their calls fail, and the room for a message.
+#[derive(Clone, Copy)]
+pub(crate) struct Devices<'a> {
+    pub(crate) read_most: usize,
+    pub(crate) read_fails: &'a [u64],
+    pub(crate) write_most: usize,
+    pub(crate) write_fails: &'a [u64],
+    pub(crate) err_room: usize,
 }
 
-// A shelf that holds these files, names with contents.
-pub(crate) fn shelf_of(
-    rt: &impl Abort,
-    alloc: Global,
-    files: &[(&[u8], &[u8])],
-) -> Result<MemoryShelf, Fail> {
-    let mut held = Vec::new(alloc);
-    for (name, bytes) in files {
-        held.push(File {
-            name: name.to_vec(alloc)?,
-            bytes: bytes.to_vec(alloc)?,
-        })?;
-    }
-    assert!(rt; have_distinct_names(&held));
-    Ok(MemoryShelf::new(held, Vec::new(alloc)))
-}
+// Devices that never fail.
+pub(crate) const AMPLE: Devices<'static> = Devices {
+    read_most: 4096,
+    read_fails: &[],
+    write_most: 4096,
+    write_fails: &[],
+    err_room: 256,
+};
 
 // Calls `snap` with these files, names with contents.
 pub(crate) fn call(
@@ -45,10 +38,44 @@ pub(crate) fn call(
     words: &[&[u8]],
     files: &[(&[u8], &[u8])],
 ) -> Result<Called, Fail> {
-    let words = spelled(alloc, words)?;
-    let mut shelf = shelf_of(rt, alloc, files)?;
-    let mut out = MemorySink::new(alloc, 4096, 4096, Vec::new(alloc))?;
-    let mut err = MemorySink::new(alloc, 256, 256, Vec::new(alloc))?;
+    call_over(rt, alloc, words, files, AMPLE)
+}
+
+// The same over devices that may fail.
+pub(crate) fn call_over(
+    rt: &impl Abort,
+    alloc: Global,
+    words: &[&[u8]],
+    files: &[(&[u8], &[u8])],
+    devices: Devices,
+) -> Result<Called, Fail> {
+    let words = owned(alloc, words)?;
+    let files = files_of(alloc, files)?;
+    assert!(rt; have_distinct_names(&files));
+    let fails = devices.read_fails.to_vec(alloc)?;
+    let mut shelf = MemoryShelf::limited(files, devices.read_most.max(1), fails);
+    let fails = devices.write_fails.to_vec(alloc)?;
+    let mut out = MemorySink::new(alloc, 4096, devices.write_most.max(1), fails)?;
+    let mut err = MemorySink::new(alloc, devices.err_room, 256, Vec::new(alloc))?;
     let status = snap(alloc, &words, &mut shelf, &mut out, &mut err);
     Ok(Called { status, out, err })
+}
+
+fn owned(alloc: Global, words: &[&[u8]]) -> Result<Vec<Vec<u8>>, Fail> {
+    let mut owned = Vec::new(alloc);
+    for word in words {
+        owned.push(word.to_vec(alloc)?)?;
+    }
+    Ok(owned)
+}
+
+fn files_of(alloc: Global, files: &[(&[u8], &[u8])]) -> Result<Vec<File>, Fail> {
+    let mut held = Vec::new(alloc);
+    for (name, bytes) in files {
+        held.push(File {
+            name: name.to_vec(alloc)?,
+            bytes: bytes.to_vec(alloc)?,
+        })?;
+    }
+    Ok(held)
 }
