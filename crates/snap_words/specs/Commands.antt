@@ -7,12 +7,19 @@ use Rattle.snap_words.specs.Words.{Text, Told, told_by}
 -- a command and the files that it names
 pub data Command : Type 0 where
   obs : Text → Text → Command
+  deps : Text → Command
+  routes : Text → Command
 
 -- the names of a command that has no options
 abbrev pub names_alone : Told → Option (List Text)
 names_alone t = if t.hops || is_some t.schedule then None else Some t.names
 
--- a command of two names
+-- a command of one name, and of two
+abbrev pub with_one : (Text → Command) → List Text → Option Command
+with_one make [] = None
+with_one make (a ∷ []) = Some (make a)
+with_one make (a ∷ b ∷ more) = None
+
 abbrev pub with_two : (Text → Text → Command) → List Text → Option Command
 with_two make [] = None
 with_two make (a ∷ []) = None
@@ -23,6 +30,8 @@ with_two make (a ∷ b ∷ c ∷ more) = None
 abbrev pub command_for : Text → Told → Option Command
 command_for first t =
     if bytes_eq first (codes "obs") then option_and_then (with_two obs) (names_alone t)
+    else if bytes_eq first (codes "deps") then option_and_then (with_one deps) (names_alone t)
+    else if bytes_eq first (codes "routes") then option_and_then (with_one routes) (names_alone t)
     else None
 
 -- the command that texts name

@@ -8,4 +8,12 @@ pub enum Command<'a> {
         program: &'a [u8],
         packets: &'a [u8],
     },
+    /// The dependencies and groups of a program.
+    Deps {
+        program: &'a [u8],
+    },
+    /// The distances and next hops of a topology.
+    Routes {
+        topology: &'a [u8],
+    },
 }

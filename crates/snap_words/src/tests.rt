@@ -11,6 +11,18 @@ fn obs<'a>(program: &'a str, packets: &'a str) -> Result<Command<'a>, WordsFault
     })
 }
 
+fn deps<'a>(program: &'a str) -> Result<Command<'a>, WordsFault> {
+    Ok(Command::Deps {
+        program: program.as_bytes(),
+    })
+}
+
+fn routes<'a>(topology: &'a str) -> Result<Command<'a>, WordsFault> {
+    Ok(Command::Routes {
+        topology: topology.as_bytes(),
+    })
+}
+
 /// The words of a line, with one space between.
 fn words_of(alloc: Global, line: &str) -> Result<Vec<Vec<u8>>, Fail> {
     let mut words = Vec::new(alloc);
@@ -24,6 +36,21 @@ fn words_of(alloc: Global, line: &str) -> Result<Vec<Vec<u8>>, Fail> {
 fn words_name_a_command(rt: HostRuntime) -> Result<(), Fail> {
     for (line, want) in [
         ("obs p k", obs("p", "k")),
+        ("deps p", deps("p")),
+        ("routes t", routes("t")),
+        ("deps -- p", deps("p")),
+        ("routes t --", routes("t")),
+        ("deps help", deps("help")),
+        ("deps p=q", deps("p=q")),
+        ("deps", Err(WordsFault::Usage)),
+        ("deps p q", Err(WordsFault::Usage)),
+        ("deps -p", Err(WordsFault::Usage)),
+        ("deps -- -", Err(WordsFault::Usage)),
+        ("deps --hops p", Err(WordsFault::Usage)),
+        ("routes", Err(WordsFault::Usage)),
+        ("routes t u", Err(WordsFault::Usage)),
+        ("routes t --schedule s", Err(WordsFault::Usage)),
+        ("Deps p", Err(WordsFault::Usage)),
         ("obs -- p k", obs("p", "k")),
         ("obs p -- k", obs("p", "k")),
         ("obs p k --", obs("p", "k")),
