@@ -1,30 +1,44 @@
-use crate::eval::eval;
+use crate::changes::Changes;
+use crate::eval::{eval, run};
 use crate::lists::Atoms;
 use crate::outcome::EvalFault;
 use crate::packet::Packet;
 use crate::policy::{Atom, Op, Pol, Pred, Update};
 use crate::store::Store;
 use std::alloc::{AllocError, Global};
+use std::process::Abort;
 use std::test::Fail;
+
+// ---- policies over the components `inport`, `outport` and `srcport` and over the array `s`, which has number 0
+const INPORT: u16 = 0;
+
+const OUTPORT: u16 = 1;
+
+const SRCPORT: u16 = 2;
 
 fn at(alloc: Global, comp: u16) -> Result<Atoms, AllocError> {
     Ok(Atoms::new(vec![in alloc; Atom::Comp(comp)]?))
 }
 
-fn boxed(alloc: Global, pol: Pol) -> Result<Box<Pol>, AllocError> {
-    Ok(Box::new(alloc, pol)?)
-}
-
 fn seq(alloc: Global, first: Pol, second: Pol) -> Result<Pol, AllocError> {
-    Ok(Pol::Seq(boxed(alloc, first)?, boxed(alloc, second)?))
+    Ok(Pol::Seq(Box::new(alloc, first)?, Box::new(alloc, second)?))
 }
 
-fn update(alloc: Global, comp: u16, op: Op) -> Result<Pol, AllocError> {
+fn par(alloc: Global, left: Pol, right: Pol) -> Result<Pol, AllocError> {
+    Ok(Pol::Par(Box::new(alloc, left)?, Box::new(alloc, right)?))
+}
+
+fn change(alloc: Global, comp: u16, op: Op) -> Result<Pol, AllocError> {
     Ok(Pol::Change(Update {
         var: 0,
         index: at(alloc, comp)?,
         op,
     }))
+}
+
+// `s[inport]++`
+fn count(alloc: Global) -> Result<Pol, AllocError> {
+    change(alloc, INPORT, Op::Add(1))
 }
 
 fn set(comp: u16, num: u64) -> Pol {
@@ -34,54 +48,169 @@ fn set(comp: u16, num: u64) -> Pol {
     }
 }
 
-#[test]
-fn a_pending_update_is_seen_by_a_later_test(rt: HostRuntime) -> Result<(), Fail> {
-    let alloc = rt.alloc();
-    let test = Pred::State {
+// `s[comp] = num`
+fn holds(alloc: Global, comp: u16, num: u64) -> Result<Pred, AllocError> {
+    Ok(Pred::State {
         var: 0,
-        index: at(alloc, 2)?,
-        value: Atom::Num(0),
-    };
-    let choice = Pol::If(test, boxed(alloc, set(1, 1))?, boxed(alloc, set(1, 2))?);
-    let writes = seq(
-        alloc,
-        update(alloc, 2, Op::Put(Atom::Comp(3)))?,
-        update(alloc, 0, Op::Add(1))?,
-    )?;
-    let body = seq(alloc, writes, choice)?;
-    let store = Store::new(alloc);
-    let packet = Packet::new(vec![in alloc; 7, 0, 7, u64::MAX]?);
-    assert!(rt; body.fits(packet.comps().len(), 64));
-    let outcome = eval(alloc, &body, &store, &packet);
-    match outcome {
+        index: at(alloc, comp)?,
+        value: Atom::Num(num),
+    })
+}
+
+// `id + comp <- num; s[inport]++`
+fn copies_count(alloc: Global, comp: u16, num: u64) -> Result<Pol, AllocError> {
+    let copies = par(alloc, Pol::Filter(Pred::Id), set(comp, num))?;
+    seq(alloc, copies, count(alloc)?)
+}
+
+// `if s[comp] = num then outport <- 1 else outport <- 2`
+fn choice(alloc: Global, comp: u16, num: u64) -> Result<Pol, AllocError> {
+    Ok(Pol::If(
+        holds(alloc, comp, num)?,
+        Box::new(alloc, set(OUTPORT, 1))?,
+        Box::new(alloc, set(OUTPORT, 2))?,
+    ))
+}
+
+#[derive(Clone, Copy)]
+enum Case {
+    /// `s[srcport] = 1 + s[srcport] <- 1`
+    Race,
+    /// `(id + srcport <- 1); s[inport]++`
+    CopySrcport,
+    /// `(id + outport <- 2); s[inport]++`
+    CopyOutport,
+    /// `s[inport] <- srcport; if s[inport] = 5 then outport <- 1 else outport <- 2`
+    Written,
+    /// `srcport <- 5; outport <- srcport`
+    Moved,
+    /// `drop; s[inport]++`
+    DropFirst,
+    /// `s[inport]++; drop`
+    DropLast,
+}
+
+fn policy(alloc: Global, case: Case) -> Result<Pol, AllocError> {
+    match case {
+        Case::Race => par(
+            alloc,
+            Pol::Filter(holds(alloc, SRCPORT, 1)?),
+            change(alloc, SRCPORT, Op::Put(Atom::Num(1)))?,
+        ),
+        Case::CopySrcport => copies_count(alloc, SRCPORT, 1),
+        Case::CopyOutport => copies_count(alloc, OUTPORT, 2),
+        Case::Written => seq(
+            alloc,
+            change(alloc, INPORT, Op::Put(Atom::Comp(SRCPORT)))?,
+            choice(alloc, INPORT, 5)?,
+        ),
+        Case::Moved => seq(
+            alloc,
+            set(SRCPORT, 5),
+            Pol::Set {
+                comp: OUTPORT,
+                from: Atom::Comp(SRCPORT),
+            },
+        ),
+        Case::DropFirst => seq(alloc, Pol::Filter(Pred::Drop), count(alloc)?),
+        Case::DropLast => seq(alloc, count(alloc)?, Pol::Filter(Pred::Drop)),
+    }
+}
+
+// What an evaluation gives: how many packets, the first one's `outport`, and the number at `s[inport]`.
+type Gives = Option<(usize, u64, u64)>;
+
+// Evaluates on the packet with these components, over the store in which `s[7]` holds `seven`.
+fn gives(
+    rt: &impl Abort,
+    alloc: Global,
+    pol: &Pol,
+    seven: u64,
+    comps: [u64; 3],
+) -> Result<Gives, Fail> {
+    let mut store = Store::new(alloc);
+    store.put(0, &[7], seven)?;
+    let packet = Packet::new(vec![in alloc; comps[0], comps[1], comps[2]]?);
+    assert!(rt; pol.fits(packet.comps().len(), 64));
+    match eval(alloc, pol, &store, &packet) {
         Ok(outcome) => {
-            assert!(rt; outcome.packets.list().len() == 1);
-            assert!(rt; outcome.packets.list()[0].comps() == [7, 1, 7, u64::MAX].as_slice());
-            assert!(rt; outcome.store.get(0, &[7]) == 0);
-            assert!(rt; outcome.reads == 1 && outcome.writes == 1);
+            let packets = outcome.packets.list();
+            let outport = match packets.first() {
+                Some(first) => first.comps().get(OUTPORT as usize).copied(),
+                None => None,
+            };
+            let at_inport = outcome.store.get(0, &[comps[0]]);
+            Ok(Some((packets.len(), outport.unwrap_or(0), at_inport)))
         }
-        Err(_) => assert!(rt; false),
+        Err(fault) => {
+            assert!(rt; fault == EvalFault::Undefined);
+            Ok(None)
+        }
+    }
+}
+
+// What each policy gives, worked by hand: the number at `s[7]` before, the components of the packet, and what is given.
+const GIVEN: [(Case, u64, [u64; 3], Gives); 18] = [
+    (Case::Race, 0, [7, 2, 7], None),
+    (Case::Race, 1, [7, 2, 7], None),
+    (Case::Race, 1, [7, 2, 8], None),
+    (Case::Race, 5, [0, 0, 0], None),
+    (Case::CopySrcport, 0, [7, 2, 1], Some((1, 2, 1))),
+    (Case::CopySrcport, 4, [7, 2, 1], Some((1, 2, 5))),
+    (Case::CopySrcport, 4, [7, 2, 3], None),
+    (Case::CopyOutport, 0, [7, 2, 5], Some((1, 2, 1))),
+    (Case::CopyOutport, 0, [7, 1, 5], None),
+    (Case::CopyOutport, 0, [7, 0, 5], None),
+    (Case::CopyOutport, 9, [3, u64::MAX, 5], None),
+    (Case::Written, 6, [7, 9, 5], Some((1, 1, 5))),
+    (Case::Written, 5, [7, 9, 6], Some((1, 2, 6))),
+    (Case::Written, 5, [7, 9, 0], Some((1, 2, 0))),
+    (Case::Moved, 3, [7, 9, 8], Some((1, 5, 3))),
+    (Case::DropFirst, 3, [7, 2, 5], Some((0, 0, 3))),
+    (Case::DropLast, 3, [7, 2, 5], Some((0, 0, 4))),
+    (Case::DropLast, u64::MAX, [7, 2, 5], Some((0, 0, 0))),
+];
+
+#[test]
+fn policies_give_what_was_worked_by_hand(rt: HostRuntime) -> Result<(), Fail> {
+    let alloc = rt.alloc();
+    for (at, (case, seven, comps, wanted)) in GIVEN.into_iter().enumerate() {
+        let pol = policy(alloc, case)?;
+        assert!(rt;
+            gives(&rt, alloc, &pol, seven, comps)? == wanted,
+            "case {at}"
+        );
     }
     Ok(())
 }
 
+// `s[srcport] <- dstport; s[inport]++; if s[srcport] = 0 then outport <- 1 else outport <- 2`, where `dstport` is the
+// fourth component.
+fn pending(alloc: Global) -> Result<Pol, AllocError> {
+    let put = change(alloc, SRCPORT, Op::Put(Atom::Comp(3)))?;
+    let writes = seq(alloc, put, count(alloc)?)?;
+    seq(alloc, writes, choice(alloc, SRCPORT, 0)?)
+}
+
 #[test]
-fn two_copies_that_both_count_are_undefined(rt: HostRuntime) -> Result<(), Fail> {
+fn a_pending_update_is_seen_by_a_later_test(rt: HostRuntime) -> Result<(), Fail> {
     let alloc = rt.alloc();
-    let copies = Pol::Par(
-        boxed(alloc, Pol::Filter(Pred::Id))?,
-        boxed(alloc, set(1, 2))?,
-    );
-    let body = seq(alloc, copies, update(alloc, 0, Op::Add(1))?)?;
+    let body = pending(alloc)?;
     let store = Store::new(alloc);
-    let same = Packet::new(vec![in alloc; 1, 2]?);
-    let other = Packet::new(vec![in alloc; 1, 3]?);
-    assert!(rt; body.fits(same.comps().len(), 64));
-    assert!(rt; body.fits(other.comps().len(), 64));
-    assert!(rt; eval(alloc, &body, &store, &same).is_ok());
-    match eval(alloc, &body, &store, &other) {
-        Ok(_) => assert!(rt; false),
-        Err(fault) => assert!(rt; fault == EvalFault::Undefined),
+    let packet = Packet::new(vec![in alloc; 7, 0, 7, u64::MAX]?);
+    assert!(rt; body.fits(packet.comps().len(), 64));
+    let changes = Changes::new(alloc);
+    match run(alloc, &body, &store, changes, packet.copy()?) {
+        Ok(done) => {
+            let mut after = store.copy()?;
+            after.apply_changes(done.changes)?;
+            let packets = done.copies.into_set(alloc)?;
+            assert!(rt; packets.list().len() == 1);
+            assert!(rt; packets.list()[0].comps() == [7, 1, 7, u64::MAX].as_slice());
+            assert!(rt; after.get(0, &[7]) == 0 && after.entries()?.is_empty());
+            assert!(rt; done.reads == 1 && done.writes == 1);
+        }
+        Err(_) => assert!(rt; false),
     }
     Ok(())
 }

@@ -1,0 +1,216 @@
+ghost use Rattle.std.specs.Prelude.{◌≡◌, All, IfOk, IsTrue};
+ghost use Rattle.snap_core.specs.Fits.{UpdateFits};
+ghost use Rattle.snap_core.specs.Tests.{OutFits, TestFits};
+
+use crate::NoMemory;
+use crate::figures::{address, number, number_up_to};
+use crate::lists::{Atoms, Name, Out};
+use crate::outs::after_all;
+use crate::packet::Packet;
+use crate::policy::{Atom, Op, Term, Test, Update};
+use crate::program::{Field, Fields, Found};
+use crate::store::Store;
+use std::alloc::{AllocError, Global};
+use std::test::Fail;
+
+// A store with a few numbers.
+fn store(alloc: Global) -> Result<Store, NoMemory> {
+    let mut store = Store::new(alloc);
+    store.put(1, &[3, 2], 6)?;
+    store.put(0, &[10], 1)?;
+    store.put(0, &[9], 5)?;
+    store.put(0, &[8], 0)?;
+    store.add(0, &[9], u64::MAX)?;
+    store.add(1, &[3], 2)?;
+    Ok(store)
+}
+
+// `s[1st]++; s[1st] <- 2nd; t[1st, 2]--`
+fn updates(alloc: Global) -> Result<Vec<Update>, NoMemory> {
+    let mut updates = Vec::new(alloc);
+    updates.push(updated(0, first(alloc)?, Op::Add(1)))?;
+    updates.push(updated(0, first(alloc)?, Op::Put(Atom::Comp(1))))?;
+    let pair = Atoms::new(vec![in alloc; Atom::Comp(0), Atom::Num(2)]?);
+    updates.push(updated(1, pair, Op::Add(u64::MAX)).copy()?)?;
+    Ok(updates)
+}
+
+fn all_fit(updates: &[Update], comps: usize) -> bool
+    ensures { IsTrue result → All (UpdateFits comps 64) updates.now }
+{
+    updates.iter().all(|update| update.fits(comps, 64))
+}
+
+#[test]
+fn a_store_holds_what_was_put(rt: HostRuntime) -> Result<(), Fail> {
+    let alloc = rt.alloc();
+    let mut store = store(alloc)?;
+    let before = store.copy()?;
+    let updates = updates(alloc)?;
+    let packet = Packet::new(vec![in alloc; 3, 4]?);
+    let comps = packet.comps().len();
+    assert!(rt; all_fit(&updates, comps));
+    store.apply(&packet, &updates)?;
+    let listed = [
+        (0, [3].as_slice(), 4),
+        (0, [9].as_slice(), 4),
+        (0, [10].as_slice(), 1),
+        (1, [3].as_slice(), 2),
+        (1, [3, 2].as_slice(), 5),
+    ];
+    let entries = store.entries()?;
+    assert!(rt; entries.len() == listed.len());
+    for (entry, (var, index, value)) in entries.iter().zip(listed.iter()) {
+        assert!(rt; entry.place.var == *var && entry.place.index.list() == *index);
+        assert!(rt; entry.value == *value && store.get(*var, *index) == *value);
+    }
+    assert!(rt; before.get(1, &[3, 2]) == 6 && before.get(0, &[3]) == 0);
+    Ok(())
+}
+
+// The first component as an index.
+fn first(alloc: Global) -> Result<Atoms, AllocError> {
+    Ok(Atoms::new(vec![in alloc; Atom::Comp(0)]?))
+}
+
+fn updated(var: u16, index: Atoms, op: Op) -> Update {
+    Update { var, index, op }
+}
+
+fn name(alloc: Global, bytes: &[u8]) -> Result<Name, AllocError>
+    ensures { IfOk result (λ name. name ≡ bytes.now) }
+{
+    Ok(Name::new(Vec::from_slice(alloc, bytes)?))
+}
+
+// `inport`, `outport` and `ip/24`
+fn three_fields(alloc: Global) -> Result<Fields, Fail> {
+    let mut fields = Vec::new(alloc);
+    fields.push(Field {
+        name: name(alloc, b"inport")?,
+        prefix: None,
+    })?;
+    fields.push(Field {
+        name: name(alloc, b"outport")?,
+        prefix: None,
+    })?;
+    fields.push(Field {
+        name: name(alloc, b"ip")?,
+        prefix: Some(24),
+    })?;
+    Ok(Fields::new(alloc, fields)?)
+}
+
+#[test]
+fn names_of_fields_are_found(rt: HostRuntime) -> Result<(), Fail> {
+    let alloc = rt.alloc();
+    let fields = three_fields(alloc)?.copy()?;
+    assert!(rt; fields.count() == 4 && fields.list().len() == 3);
+    let found = [
+        ("outport", Some(Found::Plain(1))),
+        (
+            "ip",
+            Some(Found::Split {
+                net: 2,
+                host: 3,
+                prefix: 24,
+            }),
+        ),
+        ("ip.net", Some(Found::Plain(2))),
+        ("ip.host", Some(Found::Plain(3))),
+        ("ip.", None),
+        ("outport.net", None),
+        ("", None),
+    ];
+    for (text, wanted) in found {
+        assert!(rt; fields.find(text.as_bytes()) == wanted, "{text}");
+    }
+    Ok(())
+}
+
+#[test]
+fn texts_spell_numbers(rt: HostRuntime) {
+    assert_eq!(rt; number(b"018446744073709551615"), Some(u64::MAX));
+    assert_eq!(rt; number(b"18446744073709551616"), None);
+    assert_eq!(rt; number_up_to(9, b"9"), Some(9));
+    assert_eq!(rt; number_up_to(9, b"10"), None);
+    assert_eq!(rt; address(b"10.1.0.255"), Some(167837951));
+    assert_eq!(rt; address(b"10.1.0.256"), None);
+    assert_eq!(rt; address(b"10.1.0"), None);
+}
+
+fn out_fits(out: &Out, comps: usize) -> bool
+    ensures { IsTrue result → OutFits comps out.now }
+{
+    out.parts().iter().all(|(comp, atom)| (*comp as usize) < comps && atom.fits(comps))
+}
+
+#[test]
+fn outs_make_a_set_of_packets(rt: HostRuntime) -> Result<(), Fail> {
+    let alloc = rt.alloc();
+    // both components exchanged, the second one made 9, and the packet itself
+    let exchanged = Out::new(vec![in alloc; (0, Atom::Comp(1)), (1, Atom::Comp(0))]?);
+    let nine = Out::new(vec![in alloc; (1, Atom::Num(9))]?);
+    let mut outs = Vec::new(alloc);
+    outs.push(exchanged.copy()?)?;
+    outs.push(nine)?;
+    outs.push(Out::new(Vec::new(alloc)))?;
+    for (comps, wanted) in [([4, 5], 3), ([4, 9], 2), ([9, 9], 1)] {
+        let packet = Packet::new(vec![in alloc; comps[0], comps[1]]?);
+        assert!(rt; outs.iter().all(|out| out_fits(out, packet.comps().len())));
+        let packets = after_all(alloc, &outs, &packet)?;
+        assert!(rt; packets.list().len() == wanted);
+        match packets.list().first() {
+            Some(first) => assert!(rt; first.comps() == comps.as_slice()),
+            None => assert!(rt; false),
+        }
+    }
+    Ok(())
+}
+
+fn test_fits(test: &Test, comps: usize) -> bool
+    ensures { IsTrue result → TestFits comps test.now }
+{
+    match test {
+        Test::Value { comp, .. } => (*comp as usize) < comps,
+        Test::Equal { left, right, .. } => (*left as usize) < comps && (*right as usize) < comps,
+        Test::State { index, value, .. } => {
+            index.list().iter().all(|atom| atom.fits(comps))
+                && match value {
+                    Term::Num(_) => true,
+                    Term::Plus { comp, .. } => (*comp as usize) < comps,
+                }
+        }
+    }
+}
+
+#[test]
+fn tests_are_modulo_two_to_the_64(rt: HostRuntime) -> Result<(), Fail> {
+    let alloc = rt.alloc();
+    let mut store = Store::new(alloc);
+    store.put(0, &[0], 5)?;
+    let packet = Packet::new(vec![in alloc; 0, u64::MAX]?);
+    // `1st = 2nd + 1`, `1st = 2nd`, `2nd = 5`, `s[1st] = 2nd + 6` and `s[1st] = 2nd + 7`
+    let equal = |plus| Test::Equal {
+        left: 0,
+        right: 1,
+        plus,
+    };
+    let mut tests = Vec::new(alloc);
+    tests.push((equal(1), true))?;
+    tests.push((equal(0), false))?;
+    tests.push((Test::Value { comp: 1, num: 5 }, false))?;
+    for (plus, wanted) in [(6, true), (7, false)] {
+        let state = Test::State {
+            var: 0,
+            index: first(alloc)?,
+            value: Term::Plus { comp: 1, plus },
+        };
+        tests.push((state.copy()?, wanted))?;
+    }
+    for (test, wanted) in &tests {
+        assert!(rt; test_fits(test, packet.comps().len()));
+        assert!(rt; test.passes(alloc, &store, &packet)? == *wanted);
+    }
+    Ok(())
+}
