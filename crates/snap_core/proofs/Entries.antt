@@ -25,7 +25,7 @@ use Rattle.snap_core.specs.Listing.{place_cmp, number_in, entries_of}
 abbrev pub places : List Entry → List Place
 places es = map (λ e. e.place) es
 
-same_key : (x y : List ℕ) → bytes_eq x y ≡ true → x ≡ y
+pub same_key : (x y : List ℕ) → bytes_eq x y ≡ true → x ≡ y
 same_key x y = (bytes_decides x y).0
 
 -- ---- one list behind another

@@ -28,6 +28,11 @@ abbrev pub DoesSideBySide : Type 0
 DoesSideBySide = (us vs : List Update) (m : Arrays) (k : List ℕ) → ((v : ℕ) → has (written_by us) v ≡ true → has (written_by vs) v ≡ false)
     → updates (updates m us k) vs k ≡ taken (updates m us k) (updates m vs k) (written_by vs)
 
+-- and in either order
+abbrev pub Commutes : Type 0
+Commutes = (us vs : List Update) (m : Arrays) (k : List ℕ) → ((v : ℕ) → has (written_by us) v ≡ true → has (written_by vs) v ≡ false)
+    → updates (updates m us k) vs k ≡ updates (updates m vs k) us k
+
 -- ---- logs
 -- the variables that stand in predicates, and those that stand in updates
 abbrev pub read_vars : Pol → ℕ
