@@ -5,3 +5,6 @@ pub mod Spelled
 pub mod Unique
 pub mod Once
 pub mod Told
+pub mod Decided
+pub mod Fronts
+pub mod Scanned

@@ -15,3 +15,7 @@ Finds text (Err NoMemory) = ⊥
 -- In a text one thing is found at most: one list of tokens, or one bad byte, or one bad number.
 abbrev pub FindsOnce : Type 0
 FindsOnce = (text : List ℕ) (a b : Result (List Token) LexFault) → Finds text a → Finds text b → a ≡ b
+
+-- In a text something is found: where it spells no tokens it has a bad byte or a bad number.
+abbrev pub FindsAlways : Type 0
+FindsAlways = (text : List ℕ) → (a : Result (List Token) LexFault) × Finds text a
