@@ -94,8 +94,8 @@ fn obs_answers_by_its_words_and_files(rt: HostRuntime) -> Result<(), Fail> {
         ),
         (
             obs,
-            b"field srcport; field dstport; array s;
-              s[srcport] <- dstport; s[inport]++; if s[srcport] = 0 then outport <- 1 else outport <- 2",
+            b"field srcport; field dstport; array s; s[srcport] <- dstport; s[inport]++;\n\
+              if s[srcport] = 0 then outport <- 1 else outport <- 2",
             b"7 srcport=7 dstport=18446744073709551615\n7 srcport=8 dstport=5\n",
             0,
             b"packet 1\nout inport=7 outport=1 srcport=7 dstport=18446744073709551615\n\
