@@ -1,0 +1,3 @@
+pub mod Injective
+pub mod Numbered
+pub mod Remembering

@@ -1,0 +1,35 @@
+-- The old number, or the list's next.
+use Rattle.std.proofs.Common.{◌≡◌, ◌++◌, ◌∷◌, [], length, Some, None, cond, sym, ap, subst, ◌∙◌, rules, refl}
+use Rattle.std.specs.Str.{bytes_eq}
+use Rattle.snap_core.specs.Cells.{cell}
+use Rattle.snap_arena.specs.Codes.{node_code}
+use Rattle.snap_arena.specs.Arena.{IsNumbered, IsLower, Grew}
+use Rattle.snap_arena.proofs.Numbered.{at_found, noted_old, noted_new, numbered_more, undone}
+use Rattle.snap_arena.proofs.nodes.Nodes.note.Goals as goal
+
+pub returns-in-Some-clause-ok : goal.returns-in-Some-clause-ok
+returns-in-Some-clause-ok g c =
+    let found : cell c.self.inside.numbers (node_code g.L.Coded.code c.args.node) ≡ Some c.in-Some.id
+    = ap (cell c.self.inside.numbers) (sym (c.deref.ensures.value ∙ c.in_ok-code.ensures)) ∙ sym c.get.ensures ∙ c.in-Some.is in
+    rw (sym c.self.view_is) (noted_old g.L.Coded.code c.codes_differ.ensures c.self.inside.nodes.items c.self.inside.numbers c.self.invariant c.args.node c.in-Some.id found)
+
+pub returns-in-Some-clause-lower : goal.returns-in-Some-clause-lower
+returns-in-Some-clause-lower g c =
+    let found : cell c.self.inside.numbers (node_code g.L.Coded.code c.args.node) ≡ Some c.in-Some.id
+    = ap (cell c.self.inside.numbers) (sym (c.deref.ensures.value ∙ c.in_ok-code.ensures)) ∙ sym c.get.ensures ∙ c.in-Some.is in
+    c.self.invariant.lower c.in-Some.id c.args.node (at_found g.L.Coded.code c.codes_differ.ensures c.self.inside.nodes.items c.self.inside.numbers c.self.invariant c.args.node c.in-Some.id found)
+
+pub invariant_of-self-in_default : goal.invariant_of-self-in_default
+invariant_of-self-in_default g c =
+    let none : cell c.self.inside.numbers (node_code g.L.Coded.code c.args.node) ≡ None
+    = ap (cell c.self.inside.numbers) (sym (c.deref.ensures.value ∙ c.in_ok-code.ensures)) ∙ sym c.get.ensures ∙ c.in-None.is in
+    let low : IsLower (length c.self.inside.nodes.items) c.args.node = rw c.self.view_is c.requires in
+    let count : c.len-count.result ≡ length c.self.inside.nodes.items = search rules in
+    rw c.in_ok-push-in-None.ensures.items
+    (numbered_more g.L.Coded.code c.self.inside.nodes.items c.args.node c.self.inside.numbers c.put.new.self c.self.invariant none
+    (λ q. c.in_default.ensures.ok q ∙ (λ i. cond (bytes_eq (c.in_ok-code.ensures i) q) (Some (count i)) (cell c.self.inside.numbers q))) low)
+
+pub returns-in_default-clause-ok : goal.returns-in_default-clause-ok
+returns-in_default-clause-ok g c =
+    let count : c.len-count.result ≡ length c.self.inside.nodes.items = search rules in
+    rw (c.in_ok-push-in-None.ensures.items, sym c.self.view_is, count) (noted_new c.self.inside.nodes.items c.args.node)

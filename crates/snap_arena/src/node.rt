@@ -1,0 +1,49 @@
+//! Nodes.
+
+ghost use Rattle.std.specs.Prelude.{◌≡◌, ◌++◌, IfOk, OnOk, List, ℕ};
+ghost use Rattle.snap_arena.specs.Codes.{node_code};
+
+use crate::codes::push_test;
+use snap_core::NoMemory;
+use snap_core::policy::Test;
+use std::alloc::Global;
+
+/// A test with the numbers of its two ways, or a leaf.
+#[derive(Drop)]
+pub enum Node<L> {
+    Ask { test: Test, yes: u64, no: u64 },
+    Leaf(L),
+}
+
+/// What has a list of numbers of its own, by which it is found.
+pub trait Coded {
+    ghost code: { Self → List ℕ };
+
+    /// Adds the numbers.
+    fn push_code(&self, out: &mut Vec<u64>) -> Result<(), NoMemory>
+        ensures { OnOk result (out.new.items ≡ out.old.items ++ code self.now) };
+
+    /// Different ones have different numbers.
+    fn codes_differ()
+        ensures { (a b : Self) → code a ≡ code b → a ≡ b };
+}
+
+// A node's numbers.
+pub(crate) fn code_of<L: Coded>(alloc: Global, node: &Node<L>) -> Result<Vec<u64>, NoMemory>
+    ensures { IfOk result (λ code. code.items ≡ node_code L.code node.now) }
+{
+    let mut code = Vec::new(alloc);
+    match node {
+        Node::Ask { test, yes, no } => {
+            code.push(1)?;
+            code.push(*yes)?;
+            code.push(*no)?;
+            push_test(&mut code, test)?;
+        }
+        Node::Leaf(leaf) => {
+            code.push(0)?;
+            leaf.push_code(&mut code)?;
+        }
+    }
+    Ok(code)
+}

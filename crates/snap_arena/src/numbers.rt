@@ -1,0 +1,48 @@
+//! The number of each node.
+
+ghost use Rattle.std.specs.Prelude.{◌≡◌, [], List, ℕ, OnOk, OnErr, Some, if◌then◌else◌};
+ghost use Rattle.std.specs.Str.{bytes_eq};
+ghost use Rattle.snap_core.specs.Cells.{cell};
+
+use snap_core::NoMemory;
+use std::alloc::Global;
+use std::collections::BTreeMap;
+use std::marker::Model;
+
+/// Numbers by the codes of their nodes.
+#[derive(Drop)]
+pub(crate) struct Numbers {
+    numbers: BTreeMap<Vec<u64>, u64>,
+}
+
+impl Model for Numbers {
+    ghost use Rattle.snap_core.specs.Cells.{Cells, cells_of};
+
+    ghost Value = { Cells };
+
+    ghost view = { λ a. cells_of a.numbers.entries };
+}
+
+impl Numbers {
+    pub(crate) fn new(alloc: Global) -> Numbers
+        ensures { result ≡ [] }
+    {
+        Numbers {
+            numbers: BTreeMap::new(alloc),
+        }
+    }
+
+    pub(crate) fn get(&self, code: &[u64]) -> Option<u64>
+        ensures { result ≡ cell self.now code.now }
+    {
+        self.numbers.get(code).copied()
+    }
+
+    pub(crate) fn put(&mut self, code: Vec<u64>, number: u64) -> Result<(), NoMemory>
+        ensures ok { OnOk result ((q : List ℕ) → cell self.new q ≡ (if bytes_eq code.items q then Some number else cell self.old q)) }
+        ensures err { OnErr result (self.new ≡ self.old) }
+    {
+        self.numbers.insert(code, number)?;
+        Ok(())
+    }
+}

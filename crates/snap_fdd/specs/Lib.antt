@@ -1,0 +1,9 @@
+pub mod Codes
+pub mod Leaves
+pub mod Diagrams
+pub mod Order
+pub mod Bounds
+pub mod Contexts
+pub mod Subjects
+pub mod Picks
+pub mod Pruned

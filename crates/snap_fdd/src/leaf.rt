@@ -1,0 +1,84 @@
+//! Leaves of diagrams.
+
+ghost use Rattle.std.specs.Prelude.{◌≡◌, IfOk};
+
+use snap_core::NoMemory;
+use snap_core::lists::Out;
+use snap_core::policy::Update;
+use std::alloc::Global;
+use std::marker::Model;
+
+/// The ways out of a leaf.
+#[derive(Debug, Drop)]
+pub struct Outs {
+    outs: Vec<Out>,
+}
+
+impl Model for Outs {
+    ghost use Rattle.std.specs.Prelude.{List, ℕ};
+    ghost use Rattle.snap_core.specs.declared.policy.Atom.{Atom};
+
+    ghost Value = { List (List (ℕ × Atom)) };
+
+    ghost view = { λ a. a.outs.items };
+}
+
+impl Outs {
+    pub fn new(outs: Vec<Out>) -> Outs
+        ensures { result ≡ outs.items }
+    {
+        Outs { outs }
+    }
+
+    pub fn list(&self) -> &[Out]
+        ensures { result.now ≡ self.now }
+    {
+        &self.outs
+    }
+}
+
+/// Updates, done in order.
+#[derive(Debug, Drop)]
+pub struct Updates {
+    updates: Vec<Update>,
+}
+
+impl Model for Updates {
+    ghost use Rattle.std.specs.Prelude.{List};
+    ghost use Rattle.snap_core.specs.declared.policy.Update.{Update};
+
+    ghost Value = { List Update };
+
+    ghost view = { λ a. a.updates.items };
+}
+
+impl Updates {
+    pub fn new(updates: Vec<Update>) -> Updates
+        ensures { result ≡ updates.items }
+    {
+        Updates { updates }
+    }
+
+    pub fn list(&self) -> &[Update]
+        ensures { result.now ≡ self.now }
+    {
+        &self.updates
+    }
+}
+
+/// What a leaf does: its ways out, its updates, and the variables read and written, a bit each.
+#[derive(Debug, Drop)]
+pub struct Go {
+    pub outs: Outs,
+    pub ups: Updates,
+    pub reads: u64,
+    pub writes: u64,
+}
+
+/// A leaf.
+#[derive(Debug, Drop)]
+pub enum Leaf {
+    /// Two parts race.
+    Race,
+    Go(Go),
+}

@@ -1,0 +1,12 @@
+//! Decision diagrams over shared nodes: tests in one order on each path, and leaves that say what is done.
+#![tactic(auto)]
+
+pub mod bounds;
+mod codes;
+pub mod leaf;
+pub mod only;
+pub mod order;
+pub mod pick;
+pub mod pruning;
+mod subject;
+pub mod walking;

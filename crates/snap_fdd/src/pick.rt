@@ -1,0 +1,205 @@
+//! A test before two diagrams.
+
+ghost use Rattle.std.specs.Prelude.{◌≡◌, ◌<◌, ◌≤◌, ℕ, List, length, IfOk, true, false, if◌then◌else◌};
+ghost use Rattle.snap_core.specs.Arrays.{Arrays};
+ghost use Rattle.snap_core.specs.Tests.{passes};
+ghost use Rattle.snap_arena.specs.Arena.{Grew};
+ghost use Rattle.snap_fdd.specs.Bounds.{Sizes, TestIn};
+ghost use Rattle.snap_fdd.specs.Contexts.{Under};
+ghost use Rattle.snap_fdd.specs.Diagrams.{diagram, walk, answer, IsNodeOf};
+ghost use Rattle.snap_fdd.specs.Order.{Above};
+ghost use Rattle.snap_fdd.specs.Picks.{IsDiagram, Where, Anywhere, IsSide, IsPick, StartsWith, IsLeast, IsLower, sizes, IsArgument};
+ghost use Rattle.snap_fdd.specs.Pruned.{IsShaped};
+
+use crate::leaf::Leaf;
+use crate::order::compare;
+use crate::subject::told;
+use snap_arena::equal::same_test;
+use snap_arena::node::Node;
+use snap_arena::nodes::Nodes;
+use snap_core::NoMemory;
+use snap_core::policy::Test;
+use snap_ctx::context::Context;
+use snap_dep::groups::Groups;
+use std::cmp::Ordering;
+
+/// The node of a number.
+pub fn look(nodes: &Nodes<Leaf>, d: u64) -> &Node<Leaf>
+    requires { d < length nodes.now }
+    ensures { IsNodeOf nodes.now d result.now }
+{
+    nodes.get(d)
+}
+
+/// The diagram where a test gives an answer, as far as its first tests ask the same subject.
+pub fn side(nodes: &Nodes<Leaf>, d: u64, test: &Test, yes: bool) -> u64
+    requires { d < length nodes.now }
+    ensures within { result ≤ d }
+    ensures falls { StartsWith test.now (diagram nodes.now d) → result < d }
+    ensures side { (ranks : List ℕ) (s : Sizes) → IsDiagram ranks s (diagram nodes.now d) → IsSide ranks s test.now yes (diagram nodes.now d) (diagram nodes.now result) }
+{
+    match look(nodes, d) {
+        Node::Leaf(_) => d,
+        Node::Ask {
+            test: other,
+            yes: y,
+            no: n,
+        } => match told(test, yes, other) {
+            Some(true) => side(nodes, *y, test, yes),
+            Some(false) => side(nodes, *n, test, yes),
+            None => d,
+        },
+    }
+}
+
+/// The lesser of a test and the first test of a diagram.
+pub fn lower(
+    nodes: &Nodes<Leaf>,
+    groups: &Groups,
+    ctx: &Context,
+    test: Test,
+    d: u64,
+) -> Result<Test, NoMemory>
+    requires d { d < length nodes.now }
+    requires diagram { IsDiagram groups.now.ranks (sizes groups.now.ranks ctx.now) (diagram nodes.now d) }
+    requires test { TestIn (sizes groups.now.ranks ctx.now) test }
+    ensures { IfOk result (λ u. IsLower groups.now.ranks (sizes groups.now.ranks ctx.now) test (diagram nodes.now d) u) }
+{
+    match look(nodes, d) {
+        Node::Leaf(_) => Ok(test),
+        Node::Ask {
+            test: other,
+            yes: _,
+            no: _,
+        } => match compare(nodes.allocator(), groups, &test, other)? {
+            Ordering::Greater => other.copy(),
+            _ => Ok(test),
+        },
+    }
+}
+
+// The least of a test and the first tests of two diagrams.
+fn least(
+    nodes: &Nodes<Leaf>,
+    groups: &Groups,
+    ctx: &Context,
+    test: &Test,
+    a: u64,
+    b: u64,
+) -> Result<Test, NoMemory>
+    requires a { a < length nodes.now }
+    requires b { b < length nodes.now }
+    requires first { IsDiagram groups.now.ranks (sizes groups.now.ranks ctx.now) (diagram nodes.now a) }
+    requires second { IsDiagram groups.now.ranks (sizes groups.now.ranks ctx.now) (diagram nodes.now b) }
+    requires test { TestIn (sizes groups.now.ranks ctx.now) test.now }
+    ensures { IfOk result (λ u. IsLeast groups.now.ranks (sizes groups.now.ranks ctx.now) test.now (diagram nodes.now a) (diagram nodes.now b) u) }
+{
+    let copy = test.copy()?;
+    let first = lower(nodes, groups, ctx, copy, a)?;
+    lower(nodes, groups, ctx, first, b)
+}
+
+/// A test before two diagrams that begin above it.
+pub fn ask(
+    nodes: &mut Nodes<Leaf>,
+    groups: &Groups,
+    ctx: &Context,
+    test: Test,
+    yes: u64,
+    no: u64,
+) -> Result<u64, NoMemory>
+    requires yes { yes < length nodes.old }
+    requires no { no < length nodes.old }
+    requires first { IsDiagram groups.now.ranks (sizes groups.now.ranks ctx.now) (diagram nodes.old yes) }
+    requires second { IsDiagram groups.now.ranks (sizes groups.now.ranks ctx.now) (diagram nodes.old no) }
+    requires test { TestIn (sizes groups.now.ranks ctx.now) test }
+    requires above_yes { Above groups.now.ranks test (diagram nodes.old yes) }
+    requires above_no { Above groups.now.ranks test (diagram nodes.old no) }
+    ensures grew { Grew nodes.old nodes.new }
+    ensures number { IfOk result (λ d. d < length nodes.new) }
+    ensures pick { IfOk result (λ d. IsPick groups.now.ranks (sizes groups.now.ranks ctx.now) Anywhere test (diagram nodes.old yes) (diagram nodes.old no) (diagram nodes.new d)) }
+    ensures shape { IfOk result (λ d. IsShaped test (diagram nodes.old yes) (diagram nodes.old no) (diagram nodes.new d)) }
+{
+    nodes.node(test, yes, no)
+}
+
+/// A test before two diagrams.
+#[cycle(pick)]
+pub fn pick(
+    nodes: &mut Nodes<Leaf>,
+    groups: &Groups,
+    ctx: &Context,
+    test: &Test,
+    a: u64,
+    b: u64,
+) -> Result<u64, NoMemory>
+    requires a { a < length nodes.old }
+    requires b { b < length nodes.old }
+    requires first { IsDiagram groups.now.ranks (sizes groups.now.ranks ctx.now) (diagram nodes.old a) }
+    requires second { IsDiagram groups.now.ranks (sizes groups.now.ranks ctx.now) (diagram nodes.old b) }
+    requires test { TestIn (sizes groups.now.ranks ctx.now) test.now }
+    ensures grew { Grew nodes.old nodes.new }
+    ensures number { IfOk result (λ d. d < length nodes.new) }
+    ensures pick { IfOk result (λ d. IsPick groups.now.ranks (sizes groups.now.ranks ctx.now) Anywhere test.now (diagram nodes.old a) (diagram nodes.old b) (diagram nodes.new d)) }
+{
+    let first = least(nodes, groups, ctx, test, a, b)?;
+    let ay = side(nodes, a, &first, true);
+    let bn = side(nodes, b, &first, false);
+    if same_test(test, &first) {
+        return ask(nodes, groups, ctx, first, ay, bn);
+    }
+    let an = side(nodes, a, &first, false);
+    let by = side(nodes, b, &first, true);
+    let y = pick_under(nodes, groups, ctx, &first, true, test, ay, by)?;
+    let n = pick_under(nodes, groups, ctx, &first, false, test, an, bn)?;
+    ask(nodes, groups, ctx, first, y, n)
+}
+
+// A test before two diagrams, where another test has an answer.
+#[cycle(pick)]
+fn pick_under(
+    nodes: &mut Nodes<Leaf>,
+    groups: &Groups,
+    ctx: &Context,
+    first: &Test,
+    yes: bool,
+    test: &Test,
+    a: u64,
+    b: u64,
+) -> Result<u64, NoMemory>
+    requires a { a < length nodes.old }
+    requires b { b < length nodes.old }
+    requires first { IsDiagram groups.now.ranks (sizes groups.now.ranks ctx.now) (diagram nodes.old a) }
+    requires second { IsDiagram groups.now.ranks (sizes groups.now.ranks ctx.now) (diagram nodes.old b) }
+    requires test { TestIn (sizes groups.now.ranks ctx.now) test.now }
+    ensures grew { Grew nodes.old nodes.new }
+    ensures number { IfOk result (λ d. d < length nodes.new) }
+    ensures pick { IfOk result (λ d. IsPick groups.now.ranks (sizes groups.now.ranks ctx.now) (Where first.now yes) test.now (diagram nodes.old a) (diagram nodes.old b) (diagram nodes.new d)) }
+{
+    match told(first, yes, test) {
+        Some(true) => Ok(a),
+        Some(false) => Ok(b),
+        None => pick(nodes, groups, ctx, test, a, b),
+    }
+}
+
+/// A test before two diagrams: the answer is that of `yes` where the test passes, and else that of
+/// `no`. This holds everywhere, so under the context too.
+pub fn ite(
+    nodes: &mut Nodes<Leaf>,
+    groups: &Groups,
+    ctx: &Context,
+    test: Test,
+    yes: u64,
+    no: u64,
+) -> Result<u64, NoMemory>
+    requires yes { IsArgument groups.now.ranks ctx.now nodes.old yes }
+    requires no { IsArgument groups.now.ranks ctx.now nodes.old no }
+    requires test { TestIn (sizes groups.now.ranks ctx.now) test }
+    ensures grew { Grew nodes.old nodes.new }
+    ensures diagram { IfOk result (IsArgument groups.now.ranks ctx.now nodes.new) }
+    ensures walks { IfOk result (λ d. (m : Arrays) (k : List ℕ) → walk (diagram nodes.new d) m k ≡ (if passes test m k then walk (diagram nodes.old yes) m k else walk (diagram nodes.old no) m k)) }
+    ensures answer { IfOk result (λ d. Under ctx.now (λ m k. answer nodes.new d m k ≡ (if passes test m k then answer nodes.old yes m k else answer nodes.old no m k))) }
+{
+    pick(nodes, groups, ctx, &test, yes, no)
+}

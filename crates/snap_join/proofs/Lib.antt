@@ -1,0 +1,5 @@
+pub mod Changes
+pub mod Combining
+pub mod Tested
+pub mod Chosen
+pub mod Turning

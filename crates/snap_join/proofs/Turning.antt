@@ -1,0 +1,102 @@
+-- Predicates turned round.
+use Rattle.std.proofs.Common.{◌≡◌, ◌≢◌, ◌⊎◌, inl, inr, ℕ, ◌<◌, ◌^◌, Bool, true, false, not, cond, List, [], ◌∷◌, length, refl, sym, ap, subst, ◌∙◌, arith, pow_pos}
+use Rattle.std.specs.Prelude.{Result, Ok, Err, IfOk, All, ◌==◌}
+use Rattle.std.specs.List.{AllByRecursion}
+use Rattle.std.proofs.lemmas.List.Elements.{All-from_recursion, All-nil}
+use Rattle.snap_core.specs.declared.policy.Test.{Test}
+use Rattle.snap_core.specs.declared.policy.Update.{Update}
+use Rattle.snap_core.specs.Arrays.{Arrays}
+use Rattle.snap_arena.specs.declared.node.Node.{Node}
+use Rattle.snap_arena.specs.declared.node.Node.TheVariants as node
+use Rattle.snap_arena.specs.Arena.{IsNoted}
+use Rattle.std.proofs.lemmas.Bool.{eqb-false}
+use Rattle.std.proofs.lemmas.Bool.Decides.{Decides-eqb}
+use Rattle.std.proofs.lemmas.Option.{slice_get_within}
+use Rattle.snap_core.specs.declared.policy.Atom.{Atom}
+use Rattle.snap_fdd.specs.declared.leaf.Go.{Go}
+use Rattle.snap_fdd.specs.declared.leaf.Leaf.{Leaf}
+use Rattle.snap_fdd.specs.declared.leaf.Leaf.TheVariants.{Race, Go as Goes}
+use Rattle.snap_fdd.specs.Leaves.{answer_of}
+use Rattle.snap_core.specs.Tests.{passes}
+use Rattle.snap_fdd.specs.Diagrams.{Diagram, Only, Asks, walk}
+use Rattle.snap_fdd.specs.Order.{Above}
+use Rattle.snap_core.specs.Tests.{PartFits, OutFits}
+use Rattle.snap_fdd.specs.Bounds.{Sizes, LeafIn, UpdateIn}
+use Rattle.snap_fdd.specs.Picks.{IsDiagram}
+use Rattle.snap_fdd.specs.Pruned.{IsShaped}
+use Rattle.snap_fdd.proofs.Comparing.{above_trans}
+use Rattle.snap_join.specs.Predicates.{IsPredicateLeaf, any_outs, passed, reads_of, test_answer, turned_outs, negate_leaf, IsNegated}
+use Rattle.snap_join.proofs.Tested.{answer_is}
+
+turned_in : (s : Sizes) (xs : List (List (ℕ × Atom))) → All (OutFits s.comps) (turned_outs xs)
+turned_in s [] = All-from_recursion (OutFits s.comps) ([] ∷ []) (All-nil (PartFits s.comps), tt)
+turned_in s (x ∷ xs) = All-nil (OutFits s.comps)
+
+negate_in : (s : Sizes) (l : Leaf) → LeafIn s l → LeafIn s (negate_leaf l)
+negate_in s Race h = tt
+negate_in s (Goes g) h = (turned_in s g.outs, All-nil (UpdateIn s), h.2, omega (arith, pow_pos s.vars))
+
+pub negated_leaf : (d r : Diagram) (l x : Leaf) → d ≡ Only l → x ≡ negate_leaf l → r ≡ Only x → IsNegated d r
+negated_leaf d r l x e f g = rw (e, g, f) (record {
+  walks = λ m k. refl;
+  keeps = λ ranks s i. record { ordered = tt; bounds = negate_in s l i.bounds };
+  above = λ ranks s low i a. tt;
+})
+
+-- a test over two diagrams turned round
+pub negated_both : (t : Test) (d y n ry rn r : Diagram) → d ≡ Asks t y n → IsNegated y ry → IsNegated n rn → IsShaped t ry rn r → IsNegated d r
+negated_both t d y n ry rn r e hy hn shape = rw e (by shape)
+  where
+    parts_y : (ranks : List ℕ) (s : Sizes) → IsDiagram ranks s (Asks t y n) → IsDiagram ranks s y
+    parts_y ranks s i = record { ordered = i.ordered.2; bounds = i.bounds.1 }
+
+    parts_n : (ranks : List ℕ) (s : Sizes) → IsDiagram ranks s (Asks t y n) → IsDiagram ranks s n
+    parts_n ranks s i = record { ordered = i.ordered.3; bounds = i.bounds.2 }
+
+    ways : (b : Bool) (m : Arrays) (k : List ℕ) → cond b (walk ry m k) (walk rn m k) ≡ negate_leaf (cond b (walk y m k) (walk n m k))
+    ways true m k = hy.walks m k
+    ways false m k = hn.walks m k
+
+    same : (b : Bool) (m : Arrays) (k : List ℕ) → ry ≡ rn → walk ry m k ≡ negate_leaf (cond b (walk y m k) (walk n m k))
+    same true m k q = hy.walks m k
+    same false m k q = ap (λ (x : Diagram). walk x m k) q ∙ hn.walks m k
+
+    by : IsShaped t ry rn r → IsNegated (Asks t y n) r
+    by (inl f) = rw f (record {
+      walks = λ m k. ways (passes t m k) m k;
+      keeps = λ ranks s i. record {
+        ordered = (hy.above ranks s t (parts_y ranks s i) i.ordered.0, hn.above ranks s t (parts_n ranks s i) i.ordered.1, (hy.keeps ranks s (parts_y ranks s i)).ordered, (hn.keeps ranks s (parts_n ranks s i)).ordered);
+        bounds = (i.bounds.0, (hy.keeps ranks s (parts_y ranks s i)).bounds, (hn.keeps ranks s (parts_n ranks s i)).bounds);
+      };
+      above = λ ranks s low i a. a;
+    })
+    by (inr f) = rw f.0 (record {
+      walks = λ m k. same (passes t m k) m k f.1;
+      keeps = λ ranks s i. hy.keeps ranks s (parts_y ranks s i);
+      above = λ ranks s low i a. hy.above ranks s low (parts_y ranks s i) (above_trans ranks low t y a i.ordered.0);
+    })
+
+turned_test : (xs : List (List (ℕ × Atom))) → ((turned_outs xs ≡ []) ⊎ (turned_outs xs ≡ [] ∷ [])) × (any_outs (turned_outs xs) ≡ not (any_outs xs))
+turned_test [] = (inr refl, refl)
+turned_test (x ∷ xs) = (inl refl, refl)
+
+negate_is : (l : Leaf) → IsPredicateLeaf l → IsPredicateLeaf (negate_leaf l) × (passed (negate_leaf l) ≡ not (passed l)) × (reads_of (negate_leaf l) ≡ reads_of l)
+negate_is Race h = absurd h
+negate_is (Goes g) h = let t = turned_test g.outs in ((refl, t.0, refl), t.1, refl)
+
+pub negated_answer : (d r : Diagram) (m : Arrays) (k : List ℕ) → IsNegated d r → IsPredicateLeaf (walk d m k) → IsPredicateLeaf (walk r m k) × (answer_of (walk r m k) k ≡ test_answer (not (passed (walk d m k))) (reads_of (walk d m k)) k)
+negated_answer d r m k j h =
+    let i = negate_is (walk d m k) h in
+    let p : IsPredicateLeaf (walk r m k) = rw (j.walks m k) i.0 in
+    (p, answer_is (walk r m k) k p ∙ (rw (j.walks m k, i.1, i.2) refl))
+
+pub node_number : {E : Type 0} (t : Test) (old new : List (Node Leaf)) (y n : ℕ) (r : Result ℕ E) → y < length old
+    → IfOk r (λ d. y ≡ n → (d ≡ y) × (new ≡ old)) → IfOk r (λ d. y ≢ n → IsNoted old (node.Ask t y n) new d) → IfOk r (λ d. d < length new)
+node_number t old new y n (Err e) hy both two = tt
+node_number t old new y n (Ok d) hy both two =
+    let Goal : Bool → Type 0 = λ v. (y == n) ≡ v → d < length new in
+    let by : (v : Bool) → Goal v = λ v. elim v as Goal [
+      | true ↦ λ e. (let p = both ((Decides-eqb y n).0 e) in rw (p.0, p.1) hy)
+      | false ↦ λ e. slice_get_within new d (node.Ask t y n) (two (eqb-false y n e)).at
+    ] in
+    by (y == n) refl

@@ -1,0 +1,4 @@
+pub mod Beside
+pub mod Joined
+pub mod Predicates
+pub mod Chosen

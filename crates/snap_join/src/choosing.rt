@@ -1,0 +1,87 @@
+//! One of two diagrams, by a predicate.
+
+ghost use Rattle.std.specs.Prelude.{◌≡◌, ◌<◌, length, IfOk, if◌then◌else◌};
+ghost use Rattle.snap_arena.specs.Arena.{Grew};
+ghost use Rattle.snap_fdd.specs.Contexts.{Under};
+ghost use Rattle.snap_fdd.specs.Diagrams.{diagram, answer, Only};
+ghost use Rattle.snap_fdd.specs.declared.leaf.Leaf.{Leaf};
+ghost use Rattle.snap_fdd.specs.Picks.{sizes, IsArgument};
+ghost use Rattle.snap_join.specs.Predicates.{IsPredicate, holds, reads, more_reads, passed};
+ghost use Rattle.snap_join.specs.Chosen.{IsChosen};
+
+use crate::joining::combine;
+use crate::leaves::How;
+use snap_arena::node::Node;
+use snap_arena::nodes::Nodes;
+use snap_core::NoMemory;
+use snap_ctx::context::Context;
+use snap_dep::groups::Groups;
+use snap_fdd::leaf::Leaf;
+use snap_fdd::pick::{look, pick};
+use snap_fdd::pruning::{Part, part_of};
+
+// Whether a leaf of a predicate passes the packet.
+fn leaf_passes(nodes: &Nodes<Leaf>, x: u64) -> bool
+    requires { x < length nodes.now }
+    ensures { (l : Leaf) → diagram nodes.now x ≡ Only l → result ≡ passed l }
+{
+    match look(nodes, x) {
+        Node::Ask { .. } => false,
+        Node::Leaf(leaf) => match leaf {
+            Leaf::Race => false,
+            Leaf::Go(go) => !go.outs.list().is_empty(),
+        },
+    }
+}
+
+fn chosen(
+    nodes: &mut Nodes<Leaf>,
+    groups: &Groups,
+    ctx: &Context,
+    x: u64,
+    p: u64,
+    q: u64,
+) -> Result<u64, NoMemory>
+    requires x { IsArgument groups.now.ranks ctx.now nodes.old x }
+    requires p { IsArgument groups.now.ranks ctx.now nodes.old p }
+    requires q { IsArgument groups.now.ranks ctx.now nodes.old q }
+    ensures grew { Grew nodes.old nodes.new }
+    ensures number { IfOk result (λ d. d < length nodes.new) }
+    ensures chosen { IfOk result (λ d. IsChosen groups.now.ranks (sizes groups.now.ranks ctx.now) (diagram nodes.old x) (diagram nodes.old p) (diagram nodes.old q) (diagram nodes.new d)) }
+{
+    match part_of(nodes, x)? {
+        Part::Whole => {
+            if leaf_passes(nodes, x) {
+                combine(nodes, groups, ctx, How::Logged, x, p)
+            } else {
+                combine(nodes, groups, ctx, How::Logged, x, q)
+            }
+        }
+        Part::Split { test, yes, no } => {
+            let y = chosen(nodes, groups, ctx, yes, p, q)?;
+            let n = chosen(nodes, groups, ctx, no, p, q)?;
+            pick(nodes, groups, ctx, &test, y, n)
+        }
+    }
+}
+
+/// One of two diagrams: the answer is that of `p` where the predicate `x` is true, and else that of
+/// `q`, with the reads of the predicate.
+pub fn choose(
+    nodes: &mut Nodes<Leaf>,
+    groups: &Groups,
+    ctx: &Context,
+    x: u64,
+    p: u64,
+    q: u64,
+) -> Result<u64, NoMemory>
+    requires x { IsArgument groups.now.ranks ctx.now nodes.old x }
+    requires predicate { IsPredicate nodes.old x }
+    requires p { IsArgument groups.now.ranks ctx.now nodes.old p }
+    requires q { IsArgument groups.now.ranks ctx.now nodes.old q }
+    ensures grew { Grew nodes.old nodes.new }
+    ensures diagram { IfOk result (IsArgument groups.now.ranks ctx.now nodes.new) }
+    ensures answer { IfOk result (λ d. Under ctx.now (λ m k. answer nodes.new d m k ≡ more_reads (reads nodes.old x m k) (if holds nodes.old x m k then answer nodes.old p m k else answer nodes.old q m k))) }
+{
+    chosen(nodes, groups, ctx, x, p, q)
+}

@@ -1,0 +1,157 @@
+//! Two diagrams combined: side by side, and predicates.
+
+ghost use Rattle.std.specs.Prelude.{◌≡◌, ◌<◌, length, IfOk, ◌&&◌, ◌||◌, bit_or};
+ghost use Rattle.snap_arena.specs.Arena.{Grew};
+ghost use Rattle.snap_fdd.specs.Contexts.{Under};
+ghost use Rattle.snap_fdd.specs.Diagrams.{diagram, answer};
+ghost use Rattle.snap_fdd.specs.Picks.{IsDiagram, sizes, IsArgument};
+ghost use Rattle.snap_join.specs.Beside.{beside};
+ghost use Rattle.snap_join.specs.Predicates.{IsPredicate, holds, reads, test_answer};
+ghost use Rattle.snap_join.specs.Joined.{IsJoined, IsStart};
+
+use crate::leaves::{How, combine_leaves};
+use snap_arena::node::Node;
+use snap_arena::nodes::Nodes;
+use snap_core::NoMemory;
+use snap_core::policy::Test;
+use snap_ctx::context::Context;
+use snap_dep::groups::Groups;
+use snap_fdd::leaf::Leaf;
+use snap_fdd::pick::{ask, look, lower, side};
+
+/// How two diagrams begin: both are leaves, or a test comes first.
+#[derive(Debug, Drop)]
+pub enum Start {
+    Leaves(Leaf),
+    First(Test),
+}
+
+fn begin(
+    nodes: &Nodes<Leaf>,
+    groups: &Groups,
+    ctx: &Context,
+    how: How,
+    a: u64,
+    b: u64,
+) -> Result<Start, NoMemory>
+    requires a { a < length nodes.now }
+    requires b { b < length nodes.now }
+    requires first { IsDiagram groups.now.ranks (sizes groups.now.ranks ctx.now) (diagram nodes.now a) }
+    requires second { IsDiagram groups.now.ranks (sizes groups.now.ranks ctx.now) (diagram nodes.now b) }
+    ensures { IfOk result (IsStart how groups.now.ranks (sizes groups.now.ranks ctx.now) (diagram nodes.now a) (diagram nodes.now b)) }
+{
+    match look(nodes, a) {
+        Node::Ask {
+            test,
+            yes: _,
+            no: _,
+        } => {
+            let copy = test.copy()?;
+            let first = lower(nodes, groups, ctx, copy, b)?;
+            Ok(Start::First(first))
+        }
+        Node::Leaf(left) => match look(nodes, b) {
+            Node::Ask {
+                test,
+                yes: _,
+                no: _,
+            } => {
+                let copy = test.copy()?;
+                Ok(Start::First(copy))
+            }
+            Node::Leaf(right) => {
+                let leaf = combine_leaves(nodes.allocator(), how, left, right)?;
+                Ok(Start::Leaves(leaf))
+            }
+        },
+    }
+}
+
+/// Two diagrams combined leaf by leaf.
+pub fn combine(
+    nodes: &mut Nodes<Leaf>,
+    groups: &Groups,
+    ctx: &Context,
+    how: How,
+    a: u64,
+    b: u64,
+) -> Result<u64, NoMemory>
+    requires a { a < length nodes.old }
+    requires b { b < length nodes.old }
+    requires first { IsDiagram groups.now.ranks (sizes groups.now.ranks ctx.now) (diagram nodes.old a) }
+    requires second { IsDiagram groups.now.ranks (sizes groups.now.ranks ctx.now) (diagram nodes.old b) }
+    ensures grew { Grew nodes.old nodes.new }
+    ensures number { IfOk result (λ d. d < length nodes.new) }
+    ensures joined { IfOk result (λ d. IsJoined groups.now.ranks (sizes groups.now.ranks ctx.now) how (diagram nodes.old a) (diagram nodes.old b) (diagram nodes.new d)) }
+{
+    match begin(nodes, groups, ctx, how, a, b)? {
+        Start::Leaves(leaf) => nodes.leaf(leaf),
+        Start::First(first) => {
+            let ay = side(nodes, a, &first, true);
+            let by = side(nodes, b, &first, true);
+            let an = side(nodes, a, &first, false);
+            let bn = side(nodes, b, &first, false);
+            let y = combine(nodes, groups, ctx, how, ay, by)?;
+            let n = combine(nodes, groups, ctx, how, an, bn)?;
+            ask(nodes, groups, ctx, first, y, n)
+        }
+    }
+}
+
+/// Two diagrams side by side: the answer is that of the parallel rule, undefined where one is or
+/// where they clash. Each store is merged by the sets of variables written.
+pub fn join(
+    nodes: &mut Nodes<Leaf>,
+    groups: &Groups,
+    ctx: &Context,
+    a: u64,
+    b: u64,
+) -> Result<u64, NoMemory>
+    requires a { IsArgument groups.now.ranks ctx.now nodes.old a }
+    requires b { IsArgument groups.now.ranks ctx.now nodes.old b }
+    ensures grew { Grew nodes.old nodes.new }
+    ensures diagram { IfOk result (IsArgument groups.now.ranks ctx.now nodes.new) }
+    ensures answer { IfOk result (λ d. Under ctx.now (λ m k. answer nodes.new d m k ≡ beside (answer nodes.old a m k) (answer nodes.old b m k))) }
+{
+    combine(nodes, groups, ctx, How::Beside, a, b)
+}
+
+/// Two predicates, both of them, with united reads.
+pub fn both(
+    nodes: &mut Nodes<Leaf>,
+    groups: &Groups,
+    ctx: &Context,
+    a: u64,
+    b: u64,
+) -> Result<u64, NoMemory>
+    requires a { IsArgument groups.now.ranks ctx.now nodes.old a }
+    requires b { IsArgument groups.now.ranks ctx.now nodes.old b }
+    requires first { IsPredicate nodes.old a }
+    requires second { IsPredicate nodes.old b }
+    ensures grew { Grew nodes.old nodes.new }
+    ensures diagram { IfOk result (IsArgument groups.now.ranks ctx.now nodes.new) }
+    ensures predicate { IfOk result (IsPredicate nodes.new) }
+    ensures answer { IfOk result (λ d. Under ctx.now (λ m k. answer nodes.new d m k ≡ test_answer (holds nodes.old a m k && holds nodes.old b m k) (bit_or (reads nodes.old a m k) (reads nodes.old b m k)) k)) }
+{
+    combine(nodes, groups, ctx, How::AndBoth, a, b)
+}
+
+/// Two predicates, one of them or both, with united reads.
+pub fn either(
+    nodes: &mut Nodes<Leaf>,
+    groups: &Groups,
+    ctx: &Context,
+    a: u64,
+    b: u64,
+) -> Result<u64, NoMemory>
+    requires a { IsArgument groups.now.ranks ctx.now nodes.old a }
+    requires b { IsArgument groups.now.ranks ctx.now nodes.old b }
+    requires first { IsPredicate nodes.old a }
+    requires second { IsPredicate nodes.old b }
+    ensures grew { Grew nodes.old nodes.new }
+    ensures diagram { IfOk result (IsArgument groups.now.ranks ctx.now nodes.new) }
+    ensures predicate { IfOk result (IsPredicate nodes.new) }
+    ensures answer { IfOk result (λ d. Under ctx.now (λ m k. answer nodes.new d m k ≡ test_answer (holds nodes.old a m k || holds nodes.old b m k) (bit_or (reads nodes.old a m k) (reads nodes.old b m k)) k)) }
+{
+    combine(nodes, groups, ctx, How::OrEither, a, b)
+}

@@ -1,0 +1,60 @@
+//! Predicates turned round.
+
+ghost use Rattle.std.specs.Prelude.{◌≡◌, ◌<◌, ℕ, List, length, IfOk, not};
+ghost use Rattle.snap_core.specs.Arrays.{Arrays};
+ghost use Rattle.snap_arena.specs.Arena.{Grew};
+ghost use Rattle.snap_fdd.specs.Bounds.{Sizes};
+ghost use Rattle.snap_fdd.specs.Diagrams.{diagram, answer, Only};
+ghost use Rattle.snap_fdd.specs.declared.leaf.Leaf.{Leaf};
+ghost use Rattle.snap_fdd.specs.Picks.{IsDiagram};
+ghost use Rattle.snap_join.specs.Predicates.{IsPredicate, holds, reads, test_answer, negate_leaf, IsNegated};
+
+use crate::leaves::negate_of;
+use snap_arena::node::Node;
+use snap_arena::nodes::Nodes;
+use snap_core::NoMemory;
+use snap_fdd::leaf::Leaf;
+use snap_fdd::pick::look;
+use snap_fdd::pruning::{Part, part_of};
+
+fn leaf_negated(nodes: &Nodes<Leaf>, a: u64) -> Result<Leaf, NoMemory>
+    requires { a < length nodes.now }
+    ensures { IfOk result (λ r. (l : Leaf) → diagram nodes.now a ≡ Only l → r ≡ negate_leaf l) }
+{
+    match look(nodes, a) {
+        Node::Ask { .. } => Ok(Leaf::Race),
+        Node::Leaf(leaf) => negate_of(nodes.allocator(), leaf),
+    }
+}
+
+fn negated(nodes: &mut Nodes<Leaf>, a: u64) -> Result<u64, NoMemory>
+    requires a { a < length nodes.old }
+    ensures grew { Grew nodes.old nodes.new }
+    ensures number { IfOk result (λ d. d < length nodes.new) }
+    ensures negated { IfOk result (λ d. IsNegated (diagram nodes.old a) (diagram nodes.new d)) }
+{
+    match part_of(nodes, a)? {
+        Part::Whole => {
+            let leaf = leaf_negated(nodes, a)?;
+            nodes.leaf(leaf)
+        }
+        Part::Split { test, yes, no } => {
+            let y = negated(nodes, yes)?;
+            let n = negated(nodes, no)?;
+            nodes.node(test, y, n)
+        }
+    }
+}
+
+/// A predicate's negation, with the same reads. The tests stay, so under any groups the order does.
+pub fn negate(nodes: &mut Nodes<Leaf>, a: u64) -> Result<u64, NoMemory>
+    requires a { a < length nodes.old }
+    requires predicate { IsPredicate nodes.old a }
+    ensures grew { Grew nodes.old nodes.new }
+    ensures number { IfOk result (λ d. d < length nodes.new) }
+    ensures diagram { IfOk result (λ d. (ranks : List ℕ) (s : Sizes) → IsDiagram ranks s (diagram nodes.old a) → IsDiagram ranks s (diagram nodes.new d)) }
+    ensures predicate { IfOk result (IsPredicate nodes.new) }
+    ensures answer { IfOk result (λ d. (m : Arrays) (k : List ℕ) → answer nodes.new d m k ≡ test_answer (not (holds nodes.old a m k)) (reads nodes.old a m k) k) }
+{
+    negated(nodes, a)
+}
