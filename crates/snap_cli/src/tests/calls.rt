@@ -49,11 +49,8 @@ pub(crate) fn call_over(
     files: &[(&[u8], &[u8])],
     devices: Devices,
 ) -> Result<Called, Fail> {
-    let words = owned(alloc, words)?;
-    let files = files_of(alloc, files)?;
-    assert!(rt; have_distinct_names(&files));
-    let fails = devices.read_fails.to_vec(alloc)?;
-    let mut shelf = MemoryShelf::limited(files, devices.read_most.max(1), fails);
+    let words = spelled(alloc, words)?;
+    let mut shelf = shelf_over(rt, alloc, files, devices)?;
     let fails = devices.write_fails.to_vec(alloc)?;
     let mut out = MemorySink::new(alloc, 4096, devices.write_most.max(1), fails)?;
     let mut err = MemorySink::new(alloc, devices.err_room, 256, Vec::new(alloc))?;
@@ -61,15 +58,30 @@ pub(crate) fn call_over(
     Ok(Called { status, out, err })
 }
 
-fn owned(alloc: Global, words: &[&[u8]]) -> Result<Vec<Vec<u8>>, Fail> {
-    let mut owned = Vec::new(alloc);
+// The words, each owned.
+pub(crate) fn spelled(alloc: Global, words: &[&[u8]]) -> Result<Vec<Vec<u8>>, Fail> {
+    let mut spelled = Vec::new(alloc);
     for word in words {
-        owned.push(word.to_vec(alloc)?)?;
+        spelled.push(word.to_vec(alloc)?)?;
     }
-    Ok(owned)
+    Ok(spelled)
 }
 
-fn files_of(alloc: Global, files: &[(&[u8], &[u8])]) -> Result<Vec<File>, Fail> {
+// A shelf that holds these files, names with contents.
+pub(crate) fn shelf_of(
+    rt: &impl Abort,
+    alloc: Global,
+    files: &[(&[u8], &[u8])],
+) -> Result<MemoryShelf, Fail> {
+    shelf_over(rt, alloc, files, AMPLE)
+}
+
+fn shelf_over(
+    rt: &impl Abort,
+    alloc: Global,
+    files: &[(&[u8], &[u8])],
+    devices: Devices,
+) -> Result<MemoryShelf, Fail> {
     let mut held = Vec::new(alloc);
     for (name, bytes) in files {
         held.push(File {
@@ -77,5 +89,7 @@ fn files_of(alloc: Global, files: &[(&[u8], &[u8])]) -> Result<Vec<File>, Fail> 
             bytes: bytes.to_vec(alloc)?,
         })?;
     }
-    Ok(held)
+    assert!(rt; have_distinct_names(&held));
+    let fails = devices.read_fails.to_vec(alloc)?;
+    Ok(MemoryShelf::limited(held, devices.read_most.max(1), fails))
 }
