@@ -1,12 +1,11 @@
 -- What `obs` did, from what its steps did.
-use Rattle.std.proofs.Common.{◌≡◌, ℕ, List, [], Option, Some, None, IfSome, Result, Ok, Err, refl, sym, subst, inl, inr}
-use Rattle.std.proofs.KnownBytes.{Appends-nil}
+use Rattle.std.proofs.Common.{◌≡◌, ℕ, List, Option, Some, None, IfSome, Ok, Err, refl, sym, subst, inl, inr}
 use Rattle.snap_core.specs.declared.program.Program.{Program}
 use Rattle.snap_io.specs.Files.{Files, file_of}
 use Rattle.std.specs.Borrow.{Bor}
 use Rattle.snap_trace.specs.declared.fault.TraceFault.{TraceFault}
 use Rattle.snap_trace.specs.declared.fault.TraceFault.TheVariants as run
-use Rattle.snap_trace.specs.OneSwitch.{blocks_of, ending_of, Meets as MeetsReport}
+use Rattle.snap_trace.specs.OneSwitch.{blocks_of, Meets as MeetsReport}
 use Rattle.snap_words.specs.Commands.{obs}
 use Rattle.snap_cli.specs.declared.refusal.Refusal.{Refusal}
 use Rattle.snap_cli.specs.declared.refusal.Refusal.TheVariants.{Usage, Read, Write, Syntax, Naming, Limit, Packets, NoMemory, Undefined}
@@ -15,29 +14,16 @@ use Rattle.snap_cli.specs.Obs.{IsRunEnding, MeetsRun}
 use Rattle.snap_cli.specs.ProgramOf.{ProgramOf}
 use Rattle.snap_cli.specs.Refusals.{Ending}
 use Rattle.snap_cli.specs.Steps.{GivesProgram, refusal_of_run}
+use Rattle.snap_cli.proofs.Refused.{Refuses}
 
--- the program was refused before anything was written
-meets-refused : (files : Files) (p q : List ℕ) (out : Option (List ℕ)) (e : Refusal) → GivesProgram (file_of files p) (Err e) → Meets files (obs p q) (Err e) out out
-meets-refused files p q out (Read name) h = ([], inl refl, (0, Appends-nil out))
-meets-refused files p q out NoMemory h = ([], inl refl, (0, Appends-nil out))
-meets-refused files p q out Usage h = absurd h
-meets-refused files p q out Write h = absurd h
-meets-refused files p q out (Packets line) h = absurd h
-meets-refused files p q out (Undefined packet) h = absurd h
-meets-refused files p q out (Syntax fault spot) h = (inl (Syntax fault spot, h, refl), ([], inl (Syntax fault spot, h, refl), Appends-nil out))
-meets-refused files p q out (Naming fault spot) h = (inl (Naming fault spot, h, refl), ([], inl (Naming fault spot, h, refl), Appends-nil out))
-meets-refused files p q out (Limit which count) h = (inl (Limit which count, h, refl), ([], inl (Limit which count, h, refl), Appends-nil out))
-
-pub obs-refused : (told : Option Files) (p q : List ℕ) (out : Option (List ℕ)) (e : Refusal)
-    → IfSome told (λ files. GivesProgram (file_of files p) (Err e)) → IfSome told (λ files. Meets files (obs p q) (Err e) out out)
-obs-refused None p q out e h = tt
-obs-refused (Some files) p q out e h = meets-refused files p q out e h
+pub obs-refuses : (p q : List ℕ) (files : Files) → Refuses files (obs p q) p
+obs-refuses p q files = record { ends = λ e h. inl (e, h, refl); text = λ e h. inl (e, h, refl); read = inl (refl, refl); memory = inl refl }
 
 -- the program was read, and this is what its run did
 meets-run : (files : Files) (p q : List ℕ) (program : Program) (old new : Option (List ℕ)) (e : Ending) → ProgramOf (file_of files p) (Ok program)
-    → MeetsRun program (file_of files q) e old new → Meets files (obs p q) e old new
+    → MeetsRun program q (file_of files q) e old new → Meets files (obs p q) e old new
 meets-run files p q program old new (Ok u) h m = (inr (program, h, m.0), (m.1.0, inr (program, h, m.1.1), m.1.2))
-meets-run files p q program old new (Err (Read name)) h m = (blocks_of program (file_of files q), inr (program, h, refl), m)
+meets-run files p q program old new (Err (Read name)) h m = (blocks_of program (file_of files q), inr (m.0, (program, h, refl)), m.1)
 meets-run files p q program old new (Err NoMemory) h m = (blocks_of program (file_of files q), inr (program, h, refl), m)
 meets-run files p q program old new (Err Write) h (inl m) = inl (blocks_of program (file_of files q), inr (program, h, refl), m)
 meets-run files p q program old new (Err Write) h (inr m) = inr (m.0, inr (program, h, m.1), m.2)
@@ -49,32 +35,34 @@ meets-run files p q program old new (Err (Packets line)) h m = (inr (program, h,
 meets-run files p q program old new (Err (Undefined packet)) h m = (inr (program, h, m.0), (m.1.0, inr (program, h, m.1.1), m.1.2))
 
 pub obs-run : (told now : Option Files) (p q : List ℕ) (program : Program) (old new : Option (List ℕ)) (e : Ending) → now ≡ told
-    → IfSome told (λ files. GivesProgram (file_of files p) (Ok program)) → IfSome now (λ files. MeetsRun program (file_of files q) e old new)
+    → IfSome told (λ files. GivesProgram p (file_of files p) (Ok program)) → IfSome now (λ files. MeetsRun program q (file_of files q) e old new)
     → IfSome told (λ files. Meets files (obs p q) e old new)
 obs-run None now p q program old new e same h m = tt
 obs-run (Some files) now p q program old new e same h m =
-    meets-run files p q program old new e h (subst (λ o. IfSome o (λ files. MeetsRun program (file_of files q) e old new)) same m)
+    meets-run files p q program old new e h (subst (λ o. IfSome o (λ files. MeetsRun program q (file_of files q) e old new)) same m)
 
 -- the run of a program, as the command tells it
-run-ok : (program : Program) (file : List ℕ) (old new : Option (List ℕ)) → MeetsReport program file (Ok tt) old new → MeetsRun program file (Ok tt) old new
-run-ok program file old new m = (subst (λ r. IsRunEnding r (Ok tt)) m.0 refl, m.1)
+run-ok : (program : Program) (packets file : List ℕ) (old new : Option (List ℕ)) → MeetsReport program file (Ok tt) old new → MeetsRun program packets file (Ok tt) old new
+run-ok program packets file old new m = (subst (λ r. IsRunEnding r (Ok tt)) m.0 refl, m.1)
 
-run-err : (program : Program) (file : List ℕ) (packets : Bor (List ℕ)) (old new : Option (List ℕ)) (fault : TraceFault) → MeetsReport program file (Err fault) old new
-    → MeetsRun program file (Err (refusal_of_run packets fault)) old new
-run-err program file packets old new run.Read m = m
-run-err program file packets old new run.Write m = m
-run-err program file packets old new run.NoMemory m = m
-run-err program file packets old new (run.Limit which count) m = (subst (λ r. IsRunEnding r (Err (Limit which count))) m.0 refl, m.1)
-run-err program file packets old new (run.Packets line) m = (subst (λ r. IsRunEnding r (Err (Packets line))) m.0 refl, m.1)
-run-err program file packets old new (run.Undefined packet) m = (subst (λ r. IsRunEnding r (Err (Undefined packet))) m.0 refl, m.1)
+run-err : (program : Program) (packets : Bor (List ℕ)) (file : List ℕ) (old new : Option (List ℕ)) (fault : TraceFault) → MeetsReport program file (Err fault) old new
+    → MeetsRun program packets.now file (Err (refusal_of_run packets fault)) old new
+run-err program packets file old new run.Read m = (refl, m)
+run-err program packets file old new run.Write m = m
+run-err program packets file old new run.NoMemory m = m
+run-err program packets file old new (run.Limit which count) m = (subst (λ r. IsRunEnding r (Err (Limit which count))) m.0 refl, m.1)
+run-err program packets file old new (run.Packets line) m = (subst (λ r. IsRunEnding r (Err (Packets line))) m.0 refl, m.1)
+run-err program packets file old new (run.Undefined packet) m = (subst (λ r. IsRunEnding r (Err (Undefined packet))) m.0 refl, m.1)
 
 pub told-ok : (told : Option Files) (program : Program) (q : List ℕ) (old new : Option (List ℕ)) → IfSome told (λ files. MeetsReport program (file_of files q) (Ok tt) old new)
-    → IfSome told (λ files. MeetsRun program (file_of files q) (Ok tt) old new)
+    → IfSome told (λ files. MeetsRun program q (file_of files q) (Ok tt) old new)
 told-ok None program q old new m = tt
-told-ok (Some files) program q old new m = run-ok program (file_of files q) old new m
+told-ok (Some files) program q old new m = run-ok program q (file_of files q) old new m
 
-pub told-err : (told : Option Files) (program : Program) (q : List ℕ) (packets : Bor (List ℕ)) (old new : Option (List ℕ)) (fault : TraceFault) (e : Refusal) → e ≡ refusal_of_run packets fault
-    → IfSome told (λ files. MeetsReport program (file_of files q) (Err fault) old new) → IfSome told (λ files. MeetsRun program (file_of files q) (Err e) old new)
-told-err None program q packets old new fault e is m = tt
-told-err (Some files) program q packets old new fault e is m =
-    subst (λ x. MeetsRun program (file_of files q) (Err x) old new) (sym is) (run-err program (file_of files q) packets old new fault m)
+pub told-err : (told : Option Files) (program : Program) (packets : Bor (List ℕ)) (old new : Option (List ℕ)) (fault : TraceFault) (e : Refusal) → e ≡ refusal_of_run packets fault
+    → IfSome told (λ files. MeetsReport program (file_of files packets.now) (Err fault) old new)
+    → IfSome told (λ files. MeetsRun program packets.now (file_of files packets.now) (Err e) old new)
+told-err None program packets old new fault e is m = tt
+told-err (Some files) program packets old new fault e is m =
+    let file = file_of files packets.now in
+    subst (λ x. MeetsRun program packets.now file (Err x) old new) (sym is) (run-err program packets file old new fault m)

@@ -1,5 +1,5 @@
 -- What the top call did, from what its parts did.
-use Rattle.std.proofs.Common.{◌≡◌, ℕ, List, length, Result, Ok, Err, OnOk, OnErr, sym, subst, inl, inr, arith}
+use Rattle.std.proofs.Common.{ℕ, List, length, Result, Ok, Err, OnOk, OnErr, sym, subst, inl, inr, arith}
 use Rattle.std.specs.declared.option.Option.{Option}
 use Rattle.std.specs.Io.KnownBytes.{Appends}
 use Rattle.std.proofs.lemmas.List.{take_all}

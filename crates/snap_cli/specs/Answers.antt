@@ -1,9 +1,9 @@
 -- What the top call promises.
-use Rattle.std.specs.Prelude.{◌≡◌, ◌⊎◌, ℕ, List, [], Err, Some, None, IfSome, MatchOption}
+use Rattle.std.specs.Prelude.{◌≡◌, ◌⊎◌, ℕ, List, [], Err, IfSome, MatchOption}
 use Rattle.std.specs.declared.option.Option.{Option}
 use Rattle.std.specs.Io.KnownBytes.{Appends}
 use Rattle.snap_io.specs.Files.{Files}
-use Rattle.snap_words.specs.Commands.{Command, command_of}
+use Rattle.snap_words.specs.Commands.{command_of}
 use Rattle.snap_cli.specs.declared.refusal.Refusal.TheVariants.{Usage, NoMemory}
 use Rattle.snap_cli.specs.Deserved.{Meets, Tells}
 use Rattle.snap_cli.specs.Refusals.{Ending, status_of, message_of}

@@ -5,32 +5,45 @@ use Rattle.std.specs.Io.KnownBytes.{Appends}
 use Rattle.snap_io.specs.Causes.{Rose}
 use Rattle.snap_io.specs.Files.{Files}
 use Rattle.snap_io.specs.Sinks.{AppendsPart}
-use Rattle.snap_words.specs.Commands.{Command, obs}
-use Rattle.snap_cli.specs.declared.refusal.Refusal.{Refusal}
+use Rattle.snap_words.specs.Commands.{Command, deps, obs, routes}
 use Rattle.snap_cli.specs.declared.refusal.Refusal.TheVariants.{Read, Write, NoMemory}
-use Rattle.snap_cli.specs.Obs.{EndsObs, IsObsText, MayPrecedeObs}
+use Rattle.snap_cli.specs.Deps.{EndsDeps, IsDepsText}
+use Rattle.snap_cli.specs.Obs.{EndsObs, IsObsText, MayPrecedeObs, MayPrecedeReadObs}
 use Rattle.snap_cli.specs.Refusals.{Ending}
+use Rattle.snap_cli.specs.Routes.{EndsRoutes, IsRoutesText, MayPrecedeRoutes}
 
 -- how each command ends on these files where no device fails and memory is there
 abbrev pub Ends : Files → Command → Ending → Type 0
 Ends files (obs program packets) ending = EndsObs files program packets ending
+Ends files (deps program) ending = EndsDeps files program ending
+Ends files (routes topology) ending = EndsRoutes files topology ending
 
 -- the text that has gone out then
 abbrev pub IsText : Files → Command → List ℕ → Type 0
 IsText files (obs program packets) text = IsObsText files program packets text
+IsText files (deps program) text = IsDepsText files program text
+IsText files (routes topology) text = IsRoutesText files topology text
 
--- of this text some first bytes may have gone out where a read fails, or memory is short
+-- of this text some first bytes may have gone out where memory is short
 abbrev pub MayPrecede : Files → Command → List ℕ → Type 0
 MayPrecede files (obs program packets) text = MayPrecedeObs files program packets text
+MayPrecede files (deps program) text = text ≡ []
+MayPrecede files (routes topology) text = MayPrecedeRoutes files topology text
+
+-- the file with this name is one of the command's, and of this text some first bytes may have gone out where it can't be read
+abbrev pub MayPrecedeRead : Files → Command → (name : List ℕ) → List ℕ → Type 0
+MayPrecedeRead files (obs program packets) name text = MayPrecedeReadObs files program packets name text
+MayPrecedeRead files (deps program) name text = (name ≡ program) × (text ≡ [])
+MayPrecedeRead files (routes topology) name text = (name ≡ topology) × MayPrecedeRoutes files topology text
 
 -- some first bytes went out of a text of which this is true
 abbrev pub AppendsSome : (List ℕ → Type 0) → Option (List ℕ) → Option (List ℕ) → Type 0
 AppendsSome P old new = (text : List ℕ) × P text × AppendsPart old new text
 
--- The ending is one that the command deserves, and its whole text went out. Or a device failed or memory was short, and
--- some first bytes of what may have gone out by then did.
+-- The ending is one that the command deserves, and its whole text went out. Or a file of the command couldn't be read,
+-- memory was short or the sink failed, and some first bytes of what may have gone out by then did.
 abbrev pub Meets : Files → Command → Ending → Option (List ℕ) → Option (List ℕ) → Type 0
-Meets files command (Err (Read name)) old new = AppendsSome (MayPrecede files command) old new
+Meets files command (Err (Read name)) old new = AppendsSome (MayPrecedeRead files command name.now) old new
 Meets files command (Err NoMemory) old new = AppendsSome (MayPrecede files command) old new
 Meets files command (Err Write) old new = AppendsSome (MayPrecede files command) old new ⊎ AppendsSome (IsText files command) old new
 Meets files command ending old new = Ends files command ending × ((text : List ℕ) × IsText files command text × Appends old new text)

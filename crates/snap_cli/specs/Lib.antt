@@ -1,7 +1,9 @@
 pub mod Answers
+pub mod Deps
 pub mod Deserved
 pub mod Obs
 pub mod ProgramOf
 pub mod Refusals
+pub mod Routes
 pub mod Spots
 pub mod Steps

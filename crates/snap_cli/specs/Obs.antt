@@ -5,7 +5,6 @@ use Rattle.std.specs.Io.KnownBytes.{Appends}
 use Rattle.snap_core.specs.declared.program.Program.{Program}
 use Rattle.snap_io.specs.Files.{Files, file_of}
 use Rattle.snap_io.specs.Sinks.{AppendsPart}
-use Rattle.snap_trace.specs.declared.fault.TraceFault.{TraceFault}
 use Rattle.snap_trace.specs.declared.fault.TraceFault.TheVariants as run
 use Rattle.snap_trace.specs.OneSwitch.{Ending as RunEnding, blocks_of, ending_of, IsReport}
 use Rattle.snap_cli.specs.declared.refusal.Refusal.{Refusal}
@@ -33,15 +32,25 @@ IsObsText files program packets text =
     ((refusal : Refusal) × ProgramOf (file_of files program) (Err refusal) × (text ≡ []))
     ⊎ ((p : Program) × ProgramOf (file_of files program) (Ok p) × IsReport p (file_of files packets) text)
 
--- of this text some first bytes may have gone out where a read fails or memory is short
-abbrev pub MayPrecedeObs : Files → (program packets : List ℕ) → List ℕ → Type 0
-MayPrecedeObs files program packets text =
-    (text ≡ []) ⊎ ((p : Program) × ProgramOf (file_of files program) (Ok p) × (text ≡ blocks_of p (file_of files packets)))
+-- the blocks of a program that was read, before the packets are all read
+abbrev pub AreBlocks : Files → (program packets : List ℕ) → List ℕ → Type 0
+AreBlocks files program packets text = (p : Program) × ProgramOf (file_of files program) (Ok p) × (text ≡ blocks_of p (file_of files packets))
 
--- What the run of a program that was read did: it ended as the packets file deserves, with its whole report. Or a device
--- failed or memory was short, and some first bytes of the blocks went out, or of the report.
-abbrev pub MeetsRun : Program → (file : List ℕ) → Ending → Option (List ℕ) → Option (List ℕ) → Type 0
-MeetsRun p file (Err (Read name)) old new = AppendsPart old new (blocks_of p file)
-MeetsRun p file (Err NoMemory) old new = AppendsPart old new (blocks_of p file)
-MeetsRun p file (Err Write) old new = AppendsPart old new (blocks_of p file) ⊎ ((text : List ℕ) × IsReport p file text × AppendsPart old new text)
-MeetsRun p file ending old new = IsRunEnding (ending_of p file) ending × ((text : List ℕ) × IsReport p file text × Appends old new text)
+-- of this text some first bytes may have gone out where memory is short
+abbrev pub MayPrecedeObs : Files → (program packets : List ℕ) → List ℕ → Type 0
+MayPrecedeObs files program packets text = (text ≡ []) ⊎ AreBlocks files program packets text
+
+-- of this text some first bytes may have gone out where the file with this name can't be read: nothing before the program
+-- is read, and blocks before the packets are
+abbrev pub MayPrecedeReadObs : Files → (program packets name : List ℕ) → List ℕ → Type 0
+MayPrecedeReadObs files program packets name text =
+    ((name ≡ program) × (text ≡ [])) ⊎ ((name ≡ packets) × AreBlocks files program packets text)
+
+-- What the run of a program that was read did, over the packets file with this name: it ended as the file deserves, with
+-- its whole report. Or a device failed, that file's reading or the sink, or memory was short, and some first bytes of the
+-- blocks went out, or of the report.
+abbrev pub MeetsRun : Program → (packets file : List ℕ) → Ending → Option (List ℕ) → Option (List ℕ) → Type 0
+MeetsRun p packets file (Err (Read name)) old new = (name.now ≡ packets) × AppendsPart old new (blocks_of p file)
+MeetsRun p packets file (Err NoMemory) old new = AppendsPart old new (blocks_of p file)
+MeetsRun p packets file (Err Write) old new = AppendsPart old new (blocks_of p file) ⊎ ((text : List ℕ) × IsReport p file text × AppendsPart old new text)
+MeetsRun p packets file ending old new = IsRunEnding (ending_of p file) ending × ((text : List ℕ) × IsReport p file text × Appends old new text)

@@ -24,18 +24,22 @@ abbrev pub IsRead : {X : Type 0} → Result X Refusal → Type 0
 IsRead (Err (Read name)) = Unit {0}
 IsRead result = ⊥
 
--- the text of a program, or that it is too long, or a device failed or memory was short
-abbrev pub GivesText : List ℕ → Result (Vec ℕ Global) Refusal → Type 0
-GivesText file (Ok text) = text.items ≡ file
-GivesText file (Err (Read name)) = Unit {0}
-GivesText file (Err NoMemory) = Unit {0}
-GivesText file (Err refusal) = ProgramOf file (Err refusal)
+-- the text of the file with this name, or that it is too long or can't be read, or memory was short
+abbrev pub GivesText : (name file : List ℕ) → Result (Vec ℕ Global) Refusal → Type 0
+GivesText name file (Ok text) = text.items ≡ file
+GivesText name file (Err (Read failed)) = failed.now ≡ name
+GivesText name file (Err NoMemory) = Unit {0}
+GivesText name file (Err refusal) = ProgramOf file (Err refusal)
 
--- the program that a text spells, or why it spells none, or a device failed or memory was short
-abbrev pub GivesProgram : List ℕ → Result Program Refusal → Type 0
-GivesProgram text (Err (Read name)) = Unit {0}
-GivesProgram text (Err NoMemory) = Unit {0}
-GivesProgram text result = ProgramOf text result
+-- the program that a text spells, or why it spells none, or memory was short
+abbrev pub SpellsProgram : List ℕ → Result Program Refusal → Type 0
+SpellsProgram text (Err NoMemory) = Unit {0}
+SpellsProgram text result = ProgramOf text result
+
+-- the same of the file with this name, or it can't be read
+abbrev pub GivesProgram : (name file : List ℕ) → Result Program Refusal → Type 0
+GivesProgram name file (Err (Read failed)) = failed.now ≡ name
+GivesProgram name file result = SpellsProgram file result
 
 -- a failure of a device has its cause
 pub record HasCauses (shelf_before shelf_now out_before out_now : ℕ) (ending : Result (Unit {0}) Refusal) : Type 0 where

@@ -1,9 +1,11 @@
 //! All that the program does, over any shelf and sinks.
 #![tactic(auto)]
 
+pub mod deps;
 pub mod obs;
 pub mod program;
 pub mod refusal;
+pub mod routes;
 pub mod spot;
 #[cfg(test)]
 mod tests;

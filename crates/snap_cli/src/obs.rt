@@ -45,7 +45,7 @@ fn report_of<'a, S: Shelf, O: Sink>(
 ) -> Result<(), Refusal<'a>>
     requires { IsBounded program.now }
     ensures meets { IfSome (S.files shelf.old) (λ files.
-        MeetsRun program.now (file_of files packets.entry.now) result (O.taken out.old) (O.taken out.new)) }
+        MeetsRun program.now packets.entry.now (file_of files packets.entry.now) result (O.taken out.old) (O.taken out.new)) }
     ensures causes { HasCauses (S.faults shelf.old) (S.faults shelf.new) (O.faults out.old) (O.faults out.new) result }
     ensures not_usage { IsErrOf result Refusal.Usage → ⊥ }
     ensures files { S.files shelf.new ≡ S.files shelf.old }

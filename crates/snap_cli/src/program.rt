@@ -5,7 +5,7 @@ ghost use Rattle.snap_core.specs.Programs.{IsBounded};
 ghost use Rattle.snap_io.specs.Causes.{Rose};
 ghost use Rattle.snap_io.specs.Files.{file_of};
 ghost use Rattle.snap_cli.specs.Spots.{spot_of};
-ghost use Rattle.snap_cli.specs.Steps.{GivesProgram, GivesText, IsRead, refusal_of_names, refusal_of_tokens, refusal_of_tree};
+ghost use Rattle.snap_cli.specs.Steps.{GivesProgram, GivesText, IsRead, SpellsProgram, refusal_of_names, refusal_of_tokens, refusal_of_tree};
 
 use crate::refusal::{NamingFault, Refusal, SyntaxFault};
 use crate::spot::spot_at;
@@ -25,7 +25,7 @@ pub(crate) fn load_program<'a, S: Shelf>(
     shelf: &mut S,
     name: &'a [u8],
 ) -> Result<Program, Refusal<'a>>
-    ensures gives { IfSome (S.files shelf.old) (λ files. GivesProgram (file_of files name.entry.now) result) }
+    ensures gives { IfSome (S.files shelf.old) (λ files. GivesProgram name.entry.now (file_of files name.entry.now) result) }
     ensures bounded { IfOk result IsBounded }
     ensures read { IsRead result → Rose (S.faults shelf.old) (S.faults shelf.new) }
     ensures not_write { IsErrOf result Refusal.Write → ⊥ }
@@ -43,7 +43,7 @@ fn load_text<'a, S: Shelf>(
     shelf: &mut S,
     name: &'a [u8],
 ) -> Result<Vec<u8>, Refusal<'a>>
-    ensures gives { IfSome (S.files shelf.old) (λ files. GivesText (file_of files name.entry.now) result) }
+    ensures gives { IfSome (S.files shelf.old) (λ files. GivesText name.entry.now (file_of files name.entry.now) result) }
     ensures bound { IfOk result (λ text. length text.items ≤ 262144) }
     ensures read { IsRead result → Rose (S.faults shelf.old) (S.faults shelf.new) }
     ensures not_write { IsErrOf result Refusal.Write → ⊥ }
@@ -65,7 +65,7 @@ fn load_text<'a, S: Shelf>(
 /// The program that a text spells.
 pub(crate) fn read_program<'a>(alloc: Global, text: &[u8]) -> Result<Program, Refusal<'a>>
     requires { length text.now ≤ 262144 }
-    ensures gives { GivesProgram text.now result }
+    ensures gives { SpellsProgram text.now result }
     ensures bounded { IfOk result IsBounded }
     ensures not_read { IsRead result → ⊥ }
     ensures not_write { IsErrOf result Refusal.Write → ⊥ }

@@ -8,8 +8,8 @@ ghost use Rattle.snap_words.specs.Said.{bytes_of};
 ghost use Rattle.snap_cli.specs.Answers.{Answers, MeetsWords};
 ghost use Rattle.snap_cli.specs.Steps.{HasCauses};
 
-use crate::obs;
 use crate::refusal::Refusal;
+use crate::{deps, obs, routes};
 use snap_io::{Shelf, Sink};
 use snap_words::calls::command;
 use snap_words::command::Command;
@@ -62,6 +62,8 @@ fn run<'a, S: Shelf, O: Sink>(
 {
     match command(alloc, words) {
         Ok(Command::Obs { program, packets }) => obs::report(alloc, program, packets, shelf, out),
+        Ok(Command::Deps { program }) => deps::report(alloc, program, shelf, out),
+        Ok(Command::Routes { topology }) => routes::report(alloc, topology, shelf, out),
         Err(WordsFault::Usage) => Err(Refusal::Usage),
         Err(WordsFault::NoMemory) => Err(Refusal::NoMemory),
     }

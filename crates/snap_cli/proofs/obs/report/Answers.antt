@@ -1,4 +1,6 @@
-use Rattle.snap_cli.proofs.ObsLemmas.{obs-refused, obs-run}
+use Rattle.snap_words.specs.Commands.{obs}
+use Rattle.snap_cli.proofs.ObsLemmas.{obs-refuses, obs-run}
+use Rattle.snap_cli.proofs.Refused.{told-refused}
 use Rattle.snap_cli.proofs.obs.report.Goals as goal
 
 pub returns-in-Ok-clause-meets : goal.returns-in-Ok-clause-meets
@@ -8,4 +10,5 @@ returns-in-Ok-clause-meets g c =
 
 pub returns-in-Err-clause-meets : goal.returns-in-Err-clause-meets
 returns-in-Err-clause-meets g c =
-    obs-refused (g.S.Shelf.files c.args.shelf.now) c.args.program.now c.args.packets.now (g.O.Sink.taken c.args.out.now) c.in-Err.refusal c.in-Err.ensures.gives
+    let p = c.args.program.now in let q = c.args.packets.now in
+    told-refused (g.S.Shelf.files c.args.shelf.now) (obs p q) p (g.O.Sink.taken c.args.out.now) c.in-Err.refusal (obs-refuses p q) c.in-Err.ensures.gives

@@ -7,4 +7,4 @@ returns-in-Ok-clause-meets g c =
 
 pub returns-in-Err-clause-meets : goal.returns-in-Err-clause-meets
 returns-in-Err-clause-meets g c =
-    told-err (g.S.Shelf.files c.args.shelf.now) c.args.program.now c.args.packets.now c.args.packets (g.O.Sink.taken c.args.out.now) (g.O.Sink.taken c.one_switch.new.sink) c.in-Err.fault c.refusal_of_run.result c.refusal_of_run.ensures c.in-Err.ensures.report
+    told-err (g.S.Shelf.files c.args.shelf.now) c.args.program.now c.args.packets (g.O.Sink.taken c.args.out.now) (g.O.Sink.taken c.one_switch.new.sink) c.in-Err.fault c.refusal_of_run.result c.refusal_of_run.ensures c.in-Err.ensures.report
