@@ -19,7 +19,7 @@ run: bin/snapc
 
 # The same, compiled and not proved, in about a minute.
 try:
-	cd crates/snapc && rt try -- obs ../../$(PROGRAM) ../../$(PACKETS)
+	cd crates/snapc && rt try -- obs $(CURDIR)/$(PROGRAM) $(CURDIR)/$(PACKETS)
 
 # All proofs, tests and must-fail edits, and then the examples with the built program.
 test:

@@ -53,7 +53,6 @@ abbrev pub IsReport : Program → (file : List ℕ) → List ℕ → Type 0
 IsReport program file text = (tail : List ℕ) × IsTailOf program file tail × (text ≡ blocks_of program file ++ tail)
 
 -- some first bytes of the whole text went out
-
 abbrev pub AppendsSome : Program → (file : List ℕ) → Option (List ℕ) → Option (List ℕ) → Type 0
 AppendsSome program file old new = (text : List ℕ) × IsReport program file text × AppendsPart old new text
 

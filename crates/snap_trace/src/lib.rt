@@ -6,6 +6,8 @@ pub mod fault;
 pub mod line;
 pub mod report;
 pub mod switch;
+#[cfg(test)]
+mod tests;
 pub mod words;
 
 pub use fault::TraceFault;

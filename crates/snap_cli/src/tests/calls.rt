@@ -12,6 +12,52 @@ pub(crate) struct Called {
     pub(crate) err: MemorySink,
 }
 
+// How many bytes the shelf and the sink take at most in a call, which of their calls fail, and the room for a message.
+#[derive(Clone, Copy)]
+pub(crate) struct Devices<'a> {
+    pub(crate) read_most: usize,
+    pub(crate) read_fails: &'a [u64],
+    pub(crate) write_most: usize,
+    pub(crate) write_fails: &'a [u64],
+    pub(crate) err_room: usize,
+}
+
+// Devices that never fail.
+pub(crate) const AMPLE: Devices<'static> = Devices {
+    read_most: 4096,
+    read_fails: &[],
+    write_most: 4096,
+    write_fails: &[],
+    err_room: 256,
+};
+
+// Calls `snap` with these files, names with contents.
+pub(crate) fn call(
+    rt: &impl Abort,
+    alloc: Global,
+    words: &[&[u8]],
+    files: &[(&[u8], &[u8])],
+) -> Result<Called, Fail> {
+    call_over(rt, alloc, words, files, AMPLE)
+}
+
+// The same over devices that may fail.
+pub(crate) fn call_over(
+    rt: &impl Abort,
+    alloc: Global,
+    words: &[&[u8]],
+    files: &[(&[u8], &[u8])],
+    devices: Devices,
+) -> Result<Called, Fail> {
+    let words = spelled(alloc, words)?;
+    let mut shelf = shelf_over(rt, alloc, files, devices)?;
+    let fails = devices.write_fails.to_vec(alloc)?;
+    let mut out = MemorySink::new(alloc, 4096, devices.write_most.max(1), fails)?;
+    let mut err = MemorySink::new(alloc, devices.err_room, 256, Vec::new(alloc))?;
+    let status = snap(alloc, &words, &mut shelf, &mut out, &mut err);
+    Ok(Called { status, out, err })
+}
+
 // The words, each owned.
 pub(crate) fn spelled(alloc: Global, words: &[&[u8]]) -> Result<Vec<Vec<u8>>, Fail> {
     let mut spelled = Vec::new(alloc);
@@ -27,6 +73,15 @@ pub(crate) fn shelf_of(
     alloc: Global,
     files: &[(&[u8], &[u8])],
 ) -> Result<MemoryShelf, Fail> {
+    shelf_over(rt, alloc, files, AMPLE)
+}
+
+fn shelf_over(
+    rt: &impl Abort,
+    alloc: Global,
+    files: &[(&[u8], &[u8])],
+    devices: Devices,
+) -> Result<MemoryShelf, Fail> {
     let mut held = Vec::new(alloc);
     for (name, bytes) in files {
         held.push(File {
@@ -35,20 +90,6 @@ pub(crate) fn shelf_of(
         })?;
     }
     assert!(rt; have_distinct_names(&held));
-    Ok(MemoryShelf::new(held, Vec::new(alloc)))
-}
-
-// Calls `snap` with these files, names with contents.
-pub(crate) fn call(
-    rt: &impl Abort,
-    alloc: Global,
-    words: &[&[u8]],
-    files: &[(&[u8], &[u8])],
-) -> Result<Called, Fail> {
-    let words = spelled(alloc, words)?;
-    let mut shelf = shelf_of(rt, alloc, files)?;
-    let mut out = MemorySink::new(alloc, 4096, 4096, Vec::new(alloc))?;
-    let mut err = MemorySink::new(alloc, 256, 256, Vec::new(alloc))?;
-    let status = snap(alloc, &words, &mut shelf, &mut out, &mut err);
-    Ok(Called { status, out, err })
+    let fails = devices.read_fails.to_vec(alloc)?;
+    Ok(MemoryShelf::limited(held, devices.read_most.max(1), fails))
 }

@@ -1,0 +1,189 @@
+ghost use Rattle.std.specs.Prelude.{◌≡◌, IfOk};
+
+use crate::switch::one_switch;
+use crate::{Line, LineFault, read_line};
+use snap_core::lists::{Atoms, Name, Names};
+use snap_core::policy::{Atom, Op, Pol, Pred, Update};
+use snap_core::program::{Field, Fields, Program};
+use snap_io::{File, MemoryShelf, MemorySink, have_distinct_names};
+use std::alloc::{AllocError, Global};
+use std::test::Fail;
+
+fn name(alloc: Global, bytes: &[u8]) -> Result<Name, AllocError>
+    ensures { IfOk result (λ name. name ≡ bytes.now) }
+{
+    Ok(Name::new(Vec::from_slice(alloc, bytes)?))
+}
+
+// The ports, a plain field `f`, and a field `g` split behind 24 bits.
+fn fields(alloc: Global) -> Result<Fields, Fail> {
+    let mut fields = Vec::new(alloc);
+    fields.push(Field {
+        name: name(alloc, b"inport")?,
+        prefix: None,
+    })?;
+    fields.push(Field {
+        name: name(alloc, b"outport")?,
+        prefix: None,
+    })?;
+    fields.push(Field {
+        name: name(alloc, b"f")?,
+        prefix: None,
+    })?;
+    fields.push(Field {
+        name: name(alloc, b"g")?,
+        prefix: Some(24),
+    })?;
+    Ok(Fields::new(alloc, fields)?)
+}
+
+#[test]
+fn lines_say_their_packets(rt: HostRuntime) -> Result<(), Fail> {
+    let alloc = rt.alloc();
+    let fields = fields(alloc)?;
+    let said: [(&[u8], [u64; 5]); 14] = [
+        (b"1", [1, 0, 0, 0, 0]),
+        (b"1\r", [1, 0, 0, 0, 0]),
+        (b"4294967295", [4_294_967_295, 0, 0, 0, 0]),
+        (b"007 outport=03", [7, 3, 0, 0, 0]),
+        (b" 2\tf=5  outport=9 \r", [2, 9, 5, 0, 0]),
+        (b"1 f=18446744073709551615", [1, 0, u64::MAX, 0, 0]),
+        (b"1 f=10.0.6.1", [1, 0, 167_773_697, 0, 0]),
+        (b"1 g=10.0.6.1", [1, 0, 0, 655_366, 1]),
+        (b"1 g=255.255.255.255", [1, 0, 0, 16_777_215, 255]),
+        (b"1 g=7:300", [1, 0, 0, 7, 300]),
+        (b"1 g=18446744073709551615:0", [1, 0, 0, u64::MAX, 0]),
+        (b"1 g.net=4 g.host=5", [1, 0, 0, 4, 5]),
+        (b"1 g.host=10.0.6.1", [1, 0, 0, 0, 167_773_697]),
+        (b"1 g.host=5 f=1 outport=2", [1, 2, 1, 0, 5]),
+    ];
+    for (line, numbers) in said {
+        match read_line(alloc, &fields, line) {
+            Ok(Line::Inject { port, packet }) => {
+                assert_eq!(rt; u64::from(port), numbers[0]);
+                assert_eq!(rt; packet.comps(), numbers.as_slice());
+            }
+            _ => assert!(rt; false, "no packet"),
+        }
+    }
+    Ok(())
+}
+
+#[test]
+fn lines_say_nothing_or_are_refused(rt: HostRuntime) -> Result<(), Fail> {
+    let alloc = rt.alloc();
+    let fields = fields(alloc)?;
+    let skipped: [&[u8]; 5] = [b"", b"\r", b" \t", b"# 1 f=2", b"#"];
+    for line in skipped {
+        assert!(rt; matches!(read_line(alloc, &fields, line), Ok(Line::Skip)));
+    }
+    let refused: [&[u8]; 36] = [
+        b"x",
+        b"0",
+        b"4294967296",
+        b"+1",
+        b"-1",
+        b"1.0.0.1",
+        b"1\r\r",
+        b"\r1",
+        b" # 1",
+        b"1 2",
+        b"1 f",
+        b"1 f=",
+        b"1 =3",
+        b"1 f = 3",
+        b"1 f=1=2",
+        b"1 f=+3",
+        b"1 f=-3",
+        b"1 f=18446744073709551616",
+        b"1 f=1:2",
+        b"1 f=10.0.6",
+        b"1 f=10.0.6.256",
+        b"1 f=10.0.6.0001",
+        b"1 f=10.0.6.1.2",
+        b"1 g=3",
+        b"1 g=:2",
+        b"1 g=1:",
+        b"1 g=1:2:3",
+        b"1 g=10.0.6.1:2",
+        b"1 g=1:18446744073709551616",
+        b"1 h=1",
+        b"1 F=1",
+        b"1 f=1 f=1",
+        b"1 inport=1",
+        b"1 g=7:1 g.net=7",
+        b"1 g.host=1 g=10.0.6.1",
+        b"1 f.net=1",
+    ];
+    for line in refused {
+        assert!(rt; matches!(read_line(alloc, &fields, line), Err(LineFault::Bad)));
+    }
+    Ok(())
+}
+
+fn boxed(alloc: Global, pol: Pol) -> Result<Box<Pol>, Fail> {
+    Ok(Box::new(alloc, pol)?)
+}
+
+fn outport(num: u64) -> Pol {
+    Pol::Set {
+        comp: 1,
+        from: Atom::Num(num),
+    }
+}
+
+fn inport(alloc: Global) -> Result<Atoms, Fail> {
+    Ok(Atoms::new(vec![in alloc; Atom::Comp(0)]?))
+}
+
+// `s[inport]++; if s[inport] = 2 then outport <- 2 + outport <- 1 else outport <- 3`
+fn counting(alloc: Global) -> Result<Program, Fail> {
+    let count = Pol::Change(Update {
+        var: 0,
+        index: inport(alloc)?,
+        op: Op::Add(1),
+    });
+    let second = Pred::State {
+        var: 0,
+        index: inport(alloc)?,
+        value: Atom::Num(2),
+    };
+    let both = Pol::Par(boxed(alloc, outport(2))?, boxed(alloc, outport(1))?);
+    let choice = Pol::If(second, boxed(alloc, both)?, boxed(alloc, outport(3))?);
+    Ok(Program {
+        fields: fields(alloc)?,
+        vars: Names::new(vec![in alloc; name(alloc, b"s")?]?),
+        body: Pol::Seq(boxed(alloc, count)?, boxed(alloc, choice)?),
+    })
+}
+
+#[test]
+fn one_switch_writes_its_report(rt: HostRuntime) -> Result<(), Fail> {
+    let alloc = rt.alloc();
+    let program = counting(alloc)?;
+    let arrays = program.vars.items().len();
+    assert!(rt; arrays <= 64);
+    assert!(rt; program.body.fits(program.fields.count() as usize, arrays));
+    let packets = File {
+        name: b"q".to_vec(alloc)?,
+        bytes: b"7 g=10.0.6.1\n# second\n7 f=9\n5 g=7:300".to_vec(alloc)?,
+    };
+    let files = vec![in alloc; packets]?;
+    assert!(rt; have_distinct_names(&files));
+    let mut shelf = MemoryShelf::new(files, Vec::new(alloc));
+    let mut sink = MemorySink::new(alloc, 4096, 4096, Vec::new(alloc))?;
+    let ended = one_switch(alloc, &mut shelf, b"q", &program, &mut sink);
+    assert_eq!(rt; ended, Ok(()));
+    let report: &[u8] = b"packet 1\n\
+        out inport=7 outport=3 f=0 g=10.0.6.1\n\
+        packet 2\n\
+        out inport=7 outport=1 f=9 g=0.0.0.0\n\
+        out inport=7 outport=2 f=9 g=0.0.0.0\n\
+        packet 3\n\
+        out inport=5 outport=3 f=0 g=7:300\n\
+        array s 5 = 1\n\
+        array s 7 = 2\n\
+        end\n";
+    assert_eq!(rt; sink.bytes(), report);
+    Ok(())
+}
