@@ -10,3 +10,4 @@ pub mod spot;
 #[cfg(test)]
 mod tests;
 pub mod top;
+pub mod topology;
