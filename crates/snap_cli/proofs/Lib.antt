@@ -1,2 +1,5 @@
 pub mod ObsLemmas
 pub mod TopLemmas
+pub mod ProgramOnce
+pub mod SameCore
+pub mod ObsOnce

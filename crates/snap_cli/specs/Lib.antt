@@ -1,5 +1,6 @@
 pub mod Answers
 pub mod Deserved
+pub mod Laws
 pub mod Obs
 pub mod ProgramOf
 pub mod Refusals
