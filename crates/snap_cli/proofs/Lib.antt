@@ -5,3 +5,6 @@ pub mod Rising
 pub mod Rows
 pub mod TextLemmas
 pub mod TopLemmas
+pub mod ProgramOnce
+pub mod SameCore
+pub mod ObsOnce

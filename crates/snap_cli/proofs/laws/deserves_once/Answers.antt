@@ -1,0 +1,21 @@
+use Rattle.std.proofs.Common.{◌≡◌, List, ℕ}
+use Rattle.snap_core.specs.Listing.{HasOneListing}
+use Rattle.snap_io.specs.Files.{Files}
+use Rattle.snap_words.specs.Commands.{Command, obs}
+use Rattle.snap_cli.specs.Deserved.{Ends, IsText}
+use Rattle.snap_cli.specs.Laws.{SpellsOneProgram}
+use Rattle.snap_cli.specs.Refusals.{Ending}
+use Rattle.snap_cli.proofs.ObsOnce.{ends_obs_once, obs_text_once}
+use Rattle.snap_cli.proofs.laws.deserves_once.Goals as goal
+
+ends_once : SpellsOneProgram → (files : Files) (command : Command) (a b : Ending) → Ends files command a → Ends files command b → a ≡ b
+ends_once spells files (obs program packets) a b h k = ends_obs_once spells files program packets a b h k
+
+text_once : SpellsOneProgram → HasOneListing → (files : Files) (command : Command) (a b : List ℕ) → IsText files command a → IsText files command b → a ≡ b
+text_once spells lists files (obs program packets) a b h k = obs_text_once spells lists files program packets a b h k
+
+pub returns : goal.returns
+returns c = record {
+  ending = ends_once c.spells_one_program.ensures;
+  text = text_once c.spells_one_program.ensures c.has_one_listing.ensures;
+}
