@@ -1,7 +1,9 @@
 pub mod DepsLemmas
 pub mod ObsLemmas
+pub mod Parts
 pub mod Refused
 pub mod Rising
+pub mod RoutesLemmas
 pub mod Rows
 pub mod TextLemmas
 pub mod TopLemmas

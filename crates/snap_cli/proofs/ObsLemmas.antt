@@ -8,7 +8,7 @@ use Rattle.snap_trace.specs.declared.fault.TraceFault.TheVariants as run
 use Rattle.snap_trace.specs.OneSwitch.{blocks_of, Meets as MeetsReport}
 use Rattle.snap_words.specs.Commands.{obs}
 use Rattle.snap_cli.specs.declared.refusal.Refusal.{Refusal}
-use Rattle.snap_cli.specs.declared.refusal.Refusal.TheVariants.{Usage, Read, Write, Syntax, Naming, Limit, Packets, NoMemory, Undefined}
+use Rattle.snap_cli.specs.declared.refusal.Refusal.TheVariants.{Usage, Read, Write, Syntax, Naming, Limit, Topology, Unreachable, Packets, NoMemory, Undefined}
 use Rattle.snap_cli.specs.Deserved.{Meets}
 use Rattle.snap_cli.specs.Obs.{IsRunEnding, MeetsRun}
 use Rattle.snap_cli.specs.ProgramOf.{ProgramOf}
@@ -31,6 +31,8 @@ meets-run files p q program old new (Err Usage) h m = (inr (program, h, m.0), (m
 meets-run files p q program old new (Err (Syntax fault spot)) h m = (inr (program, h, m.0), (m.1.0, inr (program, h, m.1.1), m.1.2))
 meets-run files p q program old new (Err (Naming fault spot)) h m = (inr (program, h, m.0), (m.1.0, inr (program, h, m.1.1), m.1.2))
 meets-run files p q program old new (Err (Limit which count)) h m = (inr (program, h, m.0), (m.1.0, inr (program, h, m.1.1), m.1.2))
+meets-run files p q program old new (Err (Topology fault)) h m = (inr (program, h, m.0), (m.1.0, inr (program, h, m.1.1), m.1.2))
+meets-run files p q program old new (Err (Unreachable switches a b)) h m = (inr (program, h, m.0), (m.1.0, inr (program, h, m.1.1), m.1.2))
 meets-run files p q program old new (Err (Packets line)) h m = (inr (program, h, m.0), (m.1.0, inr (program, h, m.1.1), m.1.2))
 meets-run files p q program old new (Err (Undefined packet)) h m = (inr (program, h, m.0), (m.1.0, inr (program, h, m.1.1), m.1.2))
 

@@ -34,7 +34,7 @@ MayPrecede files (routes topology) text = MayPrecedeRoutes files topology text
 abbrev pub MayPrecedeRead : Files → Command → (name : List ℕ) → List ℕ → Type 0
 MayPrecedeRead files (obs program packets) name text = MayPrecedeReadObs files program packets name text
 MayPrecedeRead files (deps program) name text = (name ≡ program) × (text ≡ [])
-MayPrecedeRead files (routes topology) name text = (name ≡ topology) × MayPrecedeRoutes files topology text
+MayPrecedeRead files (routes topology) name text = (name ≡ topology) × (text ≡ [])
 
 -- some first bytes went out of a text of which this is true
 abbrev pub AppendsSome : (List ℕ → Type 0) → Option (List ℕ) → Option (List ℕ) → Type 0

@@ -6,5 +6,7 @@ pub mod Obs
 pub mod ProgramOf
 pub mod Refusals
 pub mod Routes
+pub mod RoutesSteps
 pub mod Spots
 pub mod Steps
+pub mod TopologyOf

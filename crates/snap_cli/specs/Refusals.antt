@@ -1,14 +1,16 @@
 -- The status and the message of each ending.
-use Rattle.std.specs.Prelude.{ℕ, List, [], ◌∷◌, Ok, Err, Result, codes, decimal}
+use Rattle.std.specs.Prelude.{ℕ, List, [], ◌∷◌, Ok, Err, Result, codes, decimal, slice_get, unwrap_or}
 use Rattle.std.specs.List.{concat}
 use Rattle.snap_core.specs.declared.program.Which.{Which}
 use Rattle.snap_core.specs.declared.program.Which.TheVariants as which
 use Rattle.snap_cli.specs.declared.refusal.Refusal.{Refusal}
-use Rattle.snap_cli.specs.declared.refusal.Refusal.TheVariants.{Usage, Read, Write, Syntax, Naming, Limit, Packets, NoMemory, Undefined}
+use Rattle.snap_cli.specs.declared.refusal.Refusal.TheVariants.{Usage, Read, Write, Syntax, Naming, Limit, Topology, Unreachable, Packets, NoMemory, Undefined}
 use Rattle.snap_cli.specs.declared.refusal.SyntaxFault.{SyntaxFault}
 use Rattle.snap_cli.specs.declared.refusal.SyntaxFault.TheVariants.{BadByte, BadNumber, UnexpectedToken, TooDeep}
 use Rattle.snap_cli.specs.declared.refusal.NamingFault.{NamingFault}
 use Rattle.snap_cli.specs.declared.refusal.NamingFault.TheVariants.{UnknownName, DeclaredTwice, WrongKind, WrongArity, TooWide, WrongPrefix}
+use Rattle.snap_cli.specs.declared.refusal.TopologyFault.{TopologyFault}
+use Rattle.snap_cli.specs.declared.refusal.TopologyFault.TheVariants.{NotToml, Shape, SwitchTwice, UnknownSwitch}
 use Rattle.snap_cli.specs.declared.spot.Spot.{Spot}
 
 -- how a command ends
@@ -23,6 +25,8 @@ status_of (Err Write) = 3
 status_of (Err (Syntax fault spot)) = 4
 status_of (Err (Naming fault spot)) = 5
 status_of (Err (Limit which count)) = 6
+status_of (Err (Topology fault)) = 7
+status_of (Err (Unreachable switches a b)) = 8
 status_of (Err (Packets line)) = 12
 status_of (Err NoMemory) = 14
 status_of (Err (Undefined packet)) = 15
@@ -68,6 +72,22 @@ message_of_limit which count = concat (codes "snapc: limit: " ∷ which_text whi
 abbrev pub message_of_read : List ℕ → List ℕ
 message_of_read name = concat (codes "snapc: cannot read " ∷ name ∷ codes "\n" ∷ [])
 
+abbrev pub message_naming : List ℕ → List ℕ → List ℕ
+message_naming text name = concat (codes "snapc: " ∷ text ∷ codes " " ∷ name ∷ codes "\n" ∷ [])
+
+abbrev pub message_of_topology : TopologyFault → List ℕ
+message_of_topology NotToml = message_text (codes "topology: not TOML")
+message_of_topology (Shape rule) = message_with (codes "topology: shape") rule
+message_of_topology (SwitchTwice name) = message_naming (codes "topology: switch twice") name
+message_of_topology (UnknownSwitch name) = message_naming (codes "topology: unknown switch") name
+
+-- the name of the switch with this number
+abbrev pub name_at : List (List ℕ) → ℕ → List ℕ
+name_at switches number = unwrap_or (slice_get switches number) []
+
+abbrev pub message_apart : List (List ℕ) → ℕ → ℕ → List ℕ
+message_apart switches a b = concat (codes "snapc: unreachable: " ∷ name_at switches a ∷ codes " " ∷ name_at switches b ∷ codes "\n" ∷ [])
+
 -- what is written to the error sink
 abbrev pub message_of : Ending → List ℕ
 message_of (Ok u) = []
@@ -77,6 +97,8 @@ message_of (Err Write) = message_text (codes "cannot write")
 message_of (Err (Syntax fault spot)) = message_at spot (syntax_text fault)
 message_of (Err (Naming fault spot)) = message_at spot (naming_text fault)
 message_of (Err (Limit which count)) = message_of_limit which count
+message_of (Err (Topology fault)) = message_of_topology fault
+message_of (Err (Unreachable switches a b)) = message_apart switches a b
 message_of (Err (Packets line)) = message_with (codes "packets: line") line
 message_of (Err NoMemory) = message_text (codes "out of memory")
 message_of (Err (Undefined packet)) = message_with (codes "undefined: packet") packet

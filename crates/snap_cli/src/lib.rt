@@ -11,3 +11,4 @@ pub mod spot;
 #[cfg(test)]
 mod tests;
 pub mod top;
+pub mod topology;

@@ -4,10 +4,13 @@ ghost use Rattle.std.specs.Prelude.{◌≡◌, Err, OnOk, OnErr};
 ghost use Rattle.std.specs.Io.KnownBytes.{Appends};
 ghost use Rattle.snap_io.specs.Causes.{HasCause};
 ghost use Rattle.snap_io.specs.Sinks.{AppendsPart};
-ghost use Rattle.snap_cli.specs.Refusals.{message_at, message_of, message_of_limit, message_of_read, message_text, message_with, naming_text, status_of, syntax_text, which_text};
+ghost use Rattle.snap_cli.specs.declared.refusal.Refusal.TheVariants as refused;
+ghost use Rattle.snap_cli.specs.Refusals.{message_apart, message_at, message_naming, message_of, message_of_limit, message_of_read, message_of_topology, message_text, message_with, name_at, naming_text, status_of, syntax_text, which_text};
 
 use crate::spot::Spot;
 use itoa::Buffer;
+use snap_core::NoMemory;
+use snap_core::lists::{Name, Names};
 use snap_core::program::Which;
 use snap_io::{Sink, WriteFailed, write_pieces};
 
@@ -31,8 +34,24 @@ pub enum NamingFault {
     WrongPrefix,
 }
 
+/// Why a file spells no topology.
+#[derive(Debug, Drop)]
+pub enum TopologyFault {
+    /// The bytes are not UTF-8, or no TOML document.
+    NotToml,
+
+    /// The keys (1), `switches` (2), `links` (3) or `ports` (4) are out of shape.
+    Shape { rule: u8 },
+
+    /// This switch stands earlier in the list.
+    SwitchTwice { name: Name },
+
+    /// A link or a port names this, which is no switch.
+    UnknownSwitch { name: Name },
+}
+
 /// Why a command ends without its whole output.
-#[derive(Clone, Copy, Debug)]
+#[derive(Debug, Drop)]
 pub enum Refusal<'a> {
     /// The words are of no command's form.
     Usage,
@@ -51,6 +70,12 @@ pub enum Refusal<'a> {
 
     /// A counted quantity passes its limit.
     Limit { which: Which, count: u64 },
+
+    /// The file spells no topology.
+    Topology { fault: TopologyFault },
+
+    /// No walk joins two of these switches, those with the numbers `a` and `b`.
+    Unreachable { switches: Names, a: u16, b: u16 },
 
     /// This line of the packets file isn't in form, or too long.
     Packets { line: u64 },
@@ -159,6 +184,53 @@ fn tell_read<E: Sink>(err: &mut E, name: &[u8]) -> Result<(), WriteFailed>
     write_pieces(err, &[b"snapc: cannot read ", name, b"\n"])
 }
 
+// Writes `snapc: TEXT NAME`.
+fn tell_name<E: Sink>(err: &mut E, text: &[u8], name: &[u8]) -> Result<(), WriteFailed>
+    ensures ok { OnOk result (Appends (E.taken err.old) (E.taken err.new) (message_naming text.now name.now)) }
+    ensures err { OnErr result (AppendsPart (E.taken err.old) (E.taken err.new) (message_naming text.now name.now)) }
+    ensures cause { HasCause (E.faults err.old) (E.faults err.new) result }
+{
+    write_pieces(err, &[b"snapc: ", text, b" ", name, b"\n"])
+}
+
+// Writes why a file spells no topology.
+fn tell_topology<E: Sink>(err: &mut E, fault: &TopologyFault) -> Result<(), WriteFailed>
+    ensures ok { OnOk result (Appends (E.taken err.old) (E.taken err.new) (message_of_topology fault.now)) }
+    ensures err { OnErr result (AppendsPart (E.taken err.old) (E.taken err.new) (message_of_topology fault.now)) }
+    ensures cause { HasCause (E.faults err.old) (E.faults err.new) result }
+{
+    match fault {
+        TopologyFault::NotToml => tell_text(err, b"topology: not TOML"),
+        TopologyFault::Shape { rule } => tell_number(err, b"topology: shape", *rule as u64),
+        TopologyFault::SwitchTwice { name } => {
+            tell_name(err, b"topology: switch twice", name.bytes())
+        }
+        TopologyFault::UnknownSwitch { name } => {
+            tell_name(err, b"topology: unknown switch", name.bytes())
+        }
+    }
+}
+
+/// The name of the switch with this number, or nothing where there is none.
+pub(crate) fn name_at(switches: &Names, number: u16) -> &[u8]
+    ensures { result.now ≡ name_at switches.now number }
+{
+    match switches.items().get(number as usize) {
+        Some(name) => name.bytes(),
+        None => &[],
+    }
+}
+
+// Writes `snapc: unreachable: A B`.
+fn tell_apart<E: Sink>(err: &mut E, switches: &Names, a: u16, b: u16) -> Result<(), WriteFailed>
+    ensures ok { OnOk result (Appends (E.taken err.old) (E.taken err.new) (message_apart switches.now a b)) }
+    ensures err { OnErr result (AppendsPart (E.taken err.old) (E.taken err.new) (message_apart switches.now a b)) }
+    ensures cause { HasCause (E.faults err.old) (E.faults err.new) result }
+{
+    let (from, to) = (name_at(switches, a), name_at(switches, b));
+    write_pieces(err, &[b"snapc: unreachable: ", from, b" ", to, b"\n"])
+}
+
 impl Refusal<'_> {
     pub fn status(&self) -> u8
         ensures { result ≡ status_of (Err self.now) }
@@ -170,6 +242,8 @@ impl Refusal<'_> {
             Refusal::Syntax { .. } => 4,
             Refusal::Naming { .. } => 5,
             Refusal::Limit { .. } => 6,
+            Refusal::Topology { .. } => 7,
+            Refusal::Unreachable { .. } => 8,
             Refusal::Packets { .. } => 12,
             Refusal::NoMemory => 14,
             Refusal::Undefined { .. } => 15,
@@ -182,16 +256,34 @@ impl Refusal<'_> {
         ensures err { OnErr result (AppendsPart (E.taken err.old) (E.taken err.new) (message_of (Err self.now))) }
         ensures cause { HasCause (E.faults err.old) (E.faults err.new) result }
     {
-        match *self {
+        match self {
             Refusal::Usage => tell_text(err, b"usage"),
             Refusal::Read { name } => tell_read(err, name),
             Refusal::Write => tell_text(err, b"cannot write"),
-            Refusal::Syntax { fault, spot } => tell_at(err, spot, syntax_text(fault)),
-            Refusal::Naming { fault, spot } => tell_at(err, spot, naming_text(fault)),
-            Refusal::Limit { which, count } => tell_limit(err, which, count),
-            Refusal::Packets { line } => tell_number(err, b"packets: line", line),
+            Refusal::Syntax { fault, spot } => tell_at(err, *spot, syntax_text(*fault)),
+            Refusal::Naming { fault, spot } => tell_at(err, *spot, naming_text(*fault)),
+            Refusal::Limit { which, count } => tell_limit(err, *which, *count),
+            Refusal::Topology { fault } => tell_topology(err, fault),
+            Refusal::Unreachable { switches, a, b } => tell_apart(err, switches, *a, *b),
+            Refusal::Packets { line } => tell_number(err, b"packets: line", *line),
             Refusal::NoMemory => tell_text(err, b"out of memory"),
-            Refusal::Undefined { packet } => tell_number(err, b"undefined: packet", packet),
+            Refusal::Undefined { packet } => tell_number(err, b"undefined: packet", *packet),
         }
+    }
+}
+
+impl From<NoMemory> for Refusal<'_> {
+    ghost from_gives = { λ _ e. e ≡ refused.NoMemory };
+
+    fn from(_: NoMemory) -> Self {
+        Refusal::NoMemory
+    }
+}
+
+impl From<WriteFailed> for Refusal<'_> {
+    ghost from_gives = { λ _ e. e ≡ refused.Write };
+
+    fn from(_: WriteFailed) -> Self {
+        Refusal::Write
     }
 }

@@ -1,3 +1,4 @@
 mod calls;
 mod deps;
 mod obs;
+mod routes;

@@ -1,5 +1,6 @@
 use crate::topology::TopoFault;
 use snap_core::program::Which;
+use std::alloc::Global;
 use std::test::Fail;
 
 const DNS_TUNNEL: &str = "switches = [\"s1\", \"s2\", \"s3\", \"s4\"]
@@ -101,6 +102,10 @@ fn tells_each_fault(rt: HostRuntime) -> Result<(), Fail> {
             }
         }
     }
+    match crate::read(alloc, b"# \xff") {
+        Err(TopoFault::NotToml) => (),
+        _ => assert!(rt; false),
+    }
     Ok(())
 }
 
@@ -121,20 +126,44 @@ fn names_the_least_port_of_an_unknown_switch(rt: HostRuntime) -> Result<(), Fail
     Ok(())
 }
 
-#[test]
-fn counts_switches(rt: HostRuntime) -> Result<(), Fail> {
-    let alloc = rt.alloc();
-    let mut text = String::from_str(alloc, "links = []\nports = {}\nswitches = [\"a\"")?;
-    for _ in 0..256 {
-        text.push_str(", \"a\"")?;
+// A topology of so many switches, links as listed, and ports. The links join two switches again and again.
+fn sized(alloc: Global, switches: u32, links: u32, ports: u32) -> Result<String, Fail> {
+    let mut text = String::from_str(alloc, "switches = [\"s0\"")?;
+    for i in 1..switches {
+        text.push_str(format!(in alloc; ", \"s{i}\"")?.as_str())?;
     }
-    text.push_str("]")?;
-    match crate::read(alloc, text.as_bytes()) {
-        Err(TopoFault::Limit { which, count }) => {
-            assert_eq!(rt; which, Which::Switches);
-            assert_eq!(rt; count, 257);
+    text.push_str("]\nlinks = [[\"s0\", \"s1\"]")?;
+    for _ in 1..links {
+        text.push_str(", [\"s1\", \"s0\"]")?;
+    }
+    text.push_str("]\n[ports]\n")?;
+    for port in 1..=ports {
+        text.push_str(format!(in alloc; "{port} = \"s0\"\n")?.as_str())?;
+    }
+    Ok(text)
+}
+
+#[test]
+fn counts_up_to_its_limits(rt: HostRuntime) -> Result<(), Fail> {
+    let alloc = rt.alloc();
+    let full = crate::read(alloc, sized(alloc, 256, 4096, 1024)?.as_bytes())?;
+    assert_eq!(rt; full.switches.items().len(), 256);
+    assert_eq!(rt; full.links.items(), [(0, 1)].as_slice());
+    assert_eq!(rt; full.ports.items().len(), 1024);
+    let cases = [
+        (257, 4097, 1025, Which::Switches, 257),
+        (256, 4097, 1025, Which::Links, 4097),
+        (256, 4096, 1025, Which::Ports, 1025),
+    ];
+    for (switches, links, ports, passed, number) in cases {
+        let text = sized(alloc, switches, links, ports)?;
+        match crate::read(alloc, text.as_bytes()) {
+            Err(TopoFault::Limit { which, count }) => {
+                assert_eq!(rt; which, passed);
+                assert_eq!(rt; count, number);
+            }
+            _ => assert!(rt; false),
         }
-        _ => assert!(rt; false),
     }
     Ok(())
 }

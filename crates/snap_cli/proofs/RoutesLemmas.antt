@@ -1,0 +1,76 @@
+-- What `routes` did, from what its steps did.
+use Rattle.std.proofs.Common.{◌≡◌, ℕ, List, [], Option, Some, None, IfSome, Result, Ok, Err, refl, sym, subst, inl, inr}
+use Rattle.std.proofs.KnownBytes.{Appends-nil}
+use Rattle.snap_io.specs.Files.{Files, file_of}
+use Rattle.snap_topo.specs.declared.topology.Topology.{Topology}
+use Rattle.snap_route.specs.declared.table.RouteFault.{RouteFault}
+use Rattle.snap_route.specs.declared.table.RouteFault.TheVariants as route
+use Rattle.snap_route.specs.Faults.{IsCause}
+use Rattle.snap_route.specs.Tables.{Table, AreRoutes, IsUnreachable}
+use Rattle.snap_words.specs.Commands.{routes}
+use Rattle.snap_cli.specs.declared.refusal.Refusal.{Refusal}
+use Rattle.snap_cli.specs.declared.refusal.Refusal.TheVariants.{Usage, Read, Write, Syntax, Naming, Limit, Topology as NoTopology, Unreachable, Packets, NoMemory, Undefined}
+use Rattle.snap_cli.specs.Deserved.{Meets}
+use Rattle.snap_cli.specs.Refusals.{Ending}
+use Rattle.snap_cli.specs.Routes.{HasNoRoutes, IsTextOf, routes_text}
+use Rattle.snap_cli.specs.RoutesSteps.{GivesTopology, IsApart, MeetsTopology, Writes, refusal_of_routes}
+use Rattle.snap_cli.specs.TopologyOf.{TopologyOf}
+
+module _ (files : Files) (name : List ℕ) (out : Option (List ℕ)) where
+  meets-refused : (e : Refusal) → GivesTopology name (file_of files name) (Err e) → Meets files (routes name) (Err e) out out
+  meets-refused (Read failed) h = ([], (h, refl), (0, Appends-nil out))
+  meets-refused NoMemory h = ([], inl refl, (0, Appends-nil out))
+  meets-refused Write h = inl ([], inl refl, (0, Appends-nil out))
+  meets-refused (Unreachable switches a b) (inl h) = absurd (let e = h.1 in cc)
+  meets-refused (Unreachable switches a b) (inr h) = absurd h.1
+  meets-refused Usage h = (h, ([], inl (Usage, h, refl), Appends-nil out))
+  meets-refused (Syntax fault spot) h = (h, ([], inl (Syntax fault spot, h, refl), Appends-nil out))
+  meets-refused (Naming fault spot) h = (h, ([], inl (Naming fault spot, h, refl), Appends-nil out))
+  meets-refused (Limit which count) h = (h, ([], inl (Limit which count, h, refl), Appends-nil out))
+  meets-refused (NoTopology fault) h = (h, ([], inl (NoTopology fault, h, refl), Appends-nil out))
+  meets-refused (Packets line) h = (h, ([], inl (Packets line, h, refl), Appends-nil out))
+  meets-refused (Undefined packet) h = (h, ([], inl (Undefined packet, h, refl), Appends-nil out))
+
+module _ (files : Files) (name : List ℕ) (old new : Option (List ℕ)) (t : Topology) (read : TopologyOf (file_of files name) (Ok t)) where
+  meets-apart : (e : Ending) → IsApart t e old new → Meets files (routes name) e old new
+  meets-apart e h =
+      let refusal : Refusal = Unreachable t.switches h.a h.b in
+      let none : HasNoRoutes (file_of files name) refusal = (t, read, h.unreachable, refl) in
+      subst (λ x. Meets files (routes name) x old new) (sym h.is) (none, ([], inl (refusal, none, refl), h.nothing))
+
+  meets-written : (table : Table) → AreRoutes t table → (e : Ending) → Writes (routes_text t.switches table) e old new → Meets files (routes name) e old new
+  meets-written table are (Ok u) h =
+      let text = routes_text t.switches table in
+      let is : IsTextOf (file_of files name) text = (t, table, read, are, refl) in
+      ((text, is), (text, inr is, h))
+  meets-written table are (Err Write) h = inr (routes_text t.switches table, inr (t, table, read, are, refl), h)
+  meets-written table are (Err NoMemory) h = (routes_text t.switches table, inr (t, table, read, are, refl), h)
+  meets-written table are (Err Usage) h = absurd h
+  meets-written table are (Err (Read failed)) h = absurd h
+  meets-written table are (Err (Syntax fault spot)) h = absurd h
+  meets-written table are (Err (Naming fault spot)) h = absurd h
+  meets-written table are (Err (Limit which count)) h = absurd h
+  meets-written table are (Err (NoTopology fault)) h = absurd h
+  meets-written table are (Err (Unreachable switches a b)) h = absurd h
+  meets-written table are (Err (Packets line)) h = absurd h
+  meets-written table are (Err (Undefined packet)) h = absurd h
+
+  meets-topology : (e : Ending) → MeetsTopology t e old new → Meets files (routes name) e old new
+  meets-topology e (inl h) = meets-written h.0 h.1 e h.2
+  meets-topology e (inr (inl h)) = meets-apart e h
+  meets-topology e (inr (inr h)) = subst (λ x. Meets files (routes name) x old new) (sym h.0) ([], inl refl, (0, h.1))
+
+-- a topology without routes
+pub meets-fault : (t : Topology) (out : Option (List ℕ)) (fault : RouteFault) → IsCause (IsUnreachable t) fault → MeetsTopology t (Err (refusal_of_routes t.switches fault)) out out
+meets-fault t out (route.Unreachable a b) h = inr (inl (record { a = a; b = b; unreachable = h; is = refl; nothing = Appends-nil out }))
+meets-fault t out route.NoMemory h = inr (inr (refl, Appends-nil out))
+
+pub told-refused : (told : Option Files) (name : List ℕ) (out : Option (List ℕ)) (e : Refusal) → IfSome told (λ files. GivesTopology name (file_of files name) (Err e))
+    → IfSome told (λ files. Meets files (routes name) (Err e) out out)
+told-refused None name out e h = tt
+told-refused (Some files) name out e h = meets-refused files name out e h
+
+pub told-report : (told : Option Files) (name : List ℕ) (old new : Option (List ℕ)) (t : Topology) (e : Ending) → IfSome told (λ files. GivesTopology name (file_of files name) (Ok t))
+    → MeetsTopology t e old new → IfSome told (λ files. Meets files (routes name) e old new)
+told-report None name old new t e h m = tt
+told-report (Some files) name old new t e h m = meets-topology files name old new t h e m

@@ -1,0 +1,81 @@
+//! The topology of a file.
+
+ghost use Rattle.std.specs.Prelude.{◌≡◌, ◌≤◌, IfOk, IfSome, IsErrOf, length};
+ghost use Rattle.snap_io.specs.Causes.{Rose};
+ghost use Rattle.snap_io.specs.Files.{file_of};
+ghost use Rattle.snap_topo.specs.Form.{IsInForm};
+ghost use Rattle.snap_cli.specs.RoutesSteps.{GivesTopology, GivesTopologyText, refusal_of_topology};
+ghost use Rattle.snap_cli.specs.Steps.{IsRead};
+
+use crate::refusal::{Refusal, TopologyFault};
+use snap_core::program::Which;
+use snap_io::{ReadRefusal, Shelf, read_whole};
+use snap_topo::topology::{TopoFault, Topology};
+use std::alloc::Global;
+
+/// The most bytes of a topology's file.
+pub const MOST_TOPOLOGY: u64 = 1_048_576;
+
+/// Reads a topology's file, and the topology that it spells.
+pub(crate) fn load_topology<'a, S: Shelf>(
+    alloc: Global,
+    shelf: &mut S,
+    name: &'a [u8],
+) -> Result<Topology, Refusal<'a>>
+    ensures gives { IfSome (S.files shelf.old) (λ files. GivesTopology name.entry.now (file_of files name.entry.now) result) }
+    ensures form { IfOk result IsInForm }
+    ensures read { IsRead result → Rose (S.faults shelf.old) (S.faults shelf.new) }
+    ensures not_write { IsErrOf result Refusal.Write → ⊥ }
+    ensures not_usage { IsErrOf result Refusal.Usage → ⊥ }
+    ensures files { S.files shelf.new ≡ S.files shelf.old }
+    ensures later { S.faults shelf.old ≤ S.faults shelf.new }
+{
+    let text = load_text(alloc, shelf, name)?;
+    match snap_topo::read(alloc, &text) {
+        Ok(topology) => Ok(topology),
+        Err(fault) => Err(refusal_of_topology(fault)),
+    }
+}
+
+// Reads the text of a topology.
+fn load_text<'a, S: Shelf>(
+    alloc: Global,
+    shelf: &mut S,
+    name: &'a [u8],
+) -> Result<Vec<u8>, Refusal<'a>>
+    ensures gives { IfSome (S.files shelf.old) (λ files. GivesTopologyText name.entry.now (file_of files name.entry.now) result) }
+    ensures read { IsRead result → Rose (S.faults shelf.old) (S.faults shelf.new) }
+    ensures not_write { IsErrOf result Refusal.Write → ⊥ }
+    ensures not_usage { IsErrOf result Refusal.Usage → ⊥ }
+    ensures files { S.files shelf.new ≡ S.files shelf.old }
+    ensures later { S.faults shelf.old ≤ S.faults shelf.new }
+{
+    match read_whole(alloc, shelf, name, MOST_TOPOLOGY) {
+        Ok(text) => Ok(text),
+        Err(ReadRefusal::Failed) => Err(Refusal::Read { name }),
+        Err(ReadRefusal::TooLong) => Err(Refusal::Limit {
+            which: Which::Bytes,
+            count: MOST_TOPOLOGY + 1,
+        }),
+        Err(ReadRefusal::NoMemory) => Err(Refusal::NoMemory),
+    }
+}
+
+fn refusal_of_topology<'a>(fault: TopoFault) -> Refusal<'a>
+    ensures { result ≡ refusal_of_topology fault }
+{
+    match fault {
+        TopoFault::NotToml => told(TopologyFault::NotToml),
+        TopoFault::Shape { rule } => told(TopologyFault::Shape { rule }),
+        TopoFault::Limit { which, count } => Refusal::Limit { which, count },
+        TopoFault::Twice { name } => told(TopologyFault::SwitchTwice { name }),
+        TopoFault::Unknown { name } => told(TopologyFault::UnknownSwitch { name }),
+        TopoFault::NoMemory => Refusal::NoMemory,
+    }
+}
+
+fn told<'a>(fault: TopologyFault) -> Refusal<'a>
+    ensures { result ≡ Refusal.Topology fault }
+{
+    Refusal::Topology { fault }
+}
