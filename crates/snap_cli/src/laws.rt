@@ -2,6 +2,7 @@
 
 ghost use Rattle.snap_cli.specs.Laws.{AnswersExactly, DeservesOneEnding, DeservesOneText, SpellsOneProgram};
 
+use crate::deps::has_one_text;
 use snap_core::laws::has_one_listing;
 use snap_lex::laws::finds_once;
 use snap_parse::laws::yields_once;
@@ -21,6 +22,7 @@ pub fn deserves_once()
 {
     spells_one_program();
     has_one_listing();
+    has_one_text();
 }
 
 /// Where no device failed and memory was there, a call's status, output and message are those of the one ending that
