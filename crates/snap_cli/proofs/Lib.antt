@@ -1,9 +1,17 @@
 pub mod DepsLemmas
+pub mod DepsOnce
 pub mod ObsLemmas
+pub mod ObsOnce
+pub mod OneTable
+pub mod OneTopology
 pub mod Parts
+pub mod ProgramOnce
 pub mod Refused
 pub mod Rising
 pub mod RoutesLemmas
+pub mod RoutesOnce
 pub mod Rows
+pub mod SameCore
+pub mod SameUses
 pub mod TextLemmas
 pub mod TopLemmas

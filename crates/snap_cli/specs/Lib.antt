@@ -1,6 +1,7 @@
 pub mod Answers
 pub mod Deps
 pub mod Deserved
+pub mod Laws
 pub mod Obs
 pub mod ProgramOf
 pub mod Refusals

@@ -1,5 +1,5 @@
 -- The program that a text spells, or why it spells none.
-use Rattle.std.specs.Prelude.{◌≡◌, ◌⊎◌, ℕ, ◌<◌, List, length, Result, Ok, Err}
+use Rattle.std.specs.Prelude.{◌≡◌, ◌⊎◌, ℕ, ◌<◌, ◌≤◌, List, length, Result, Ok, Err}
 use Rattle.snap_core.specs.declared.program.Program.{Program}
 use Rattle.snap_core.specs.declared.program.Which.TheVariants.{Bytes}
 use Rattle.snap_core.specs.Programs.{IsBounded}
@@ -30,13 +30,17 @@ naming_at WrongPrefix at = name.Prefix at
 abbrev pub ReadsAs : List ℕ → Result CoreProgram NameFault → Type 0
 ReadsAs text reading = (ts : List Token) × (s : SourceTree) × SpellsTokens text ts × DerivesWithin 128 ts s × (resolved text s ≡ reading)
 
+-- a text that isn't too long
+abbrev pub IsShort : List ℕ → Type 0
+IsShort text = length text ≤ 262144
+
 -- The text has at most 262,144 bytes, and spells this program; or it doesn't for this reason, at this place.
 abbrev pub ProgramOf : List ℕ → Result Program Refusal → Type 0
-ProgramOf text (Ok program) = ReadsAs text (Ok (core_program program)) × IsBounded program
-ProgramOf text (Err (Syntax BadByte spot)) = (at : ℕ) × IsBadByte text at × (spot ≡ spot_of text at)
-ProgramOf text (Err (Syntax BadNumber spot)) = (at : ℕ) × IsBadNumber text at × (spot ≡ spot_of text at)
-ProgramOf text (Err (Syntax UnexpectedToken spot)) = (ts : List Token) × (at : ℕ) × SpellsTokens text ts × IsUnexpected 128 (length text) ts at × (spot ≡ spot_of text at)
-ProgramOf text (Err (Syntax TooDeep spot)) = (ts : List Token) × (at : ℕ) × SpellsTokens text ts × IsTooDeep 128 ts at × (spot ≡ spot_of text at)
-ProgramOf text (Err (Naming fault spot)) = (at : ℕ) × ReadsAs text (Err (naming_at fault at)) × (spot ≡ spot_of text at)
-ProgramOf text (Err (Limit which count)) = ((which ≡ Bytes) × (count ≡ 262145) × (262144 < length text)) ⊎ ReadsAs text (Err (name.Limit which count))
+ProgramOf text (Ok program) = IsShort text × ReadsAs text (Ok (core_program program)) × IsBounded program
+ProgramOf text (Err (Syntax BadByte spot)) = (at : ℕ) × IsShort text × IsBadByte text at × (spot ≡ spot_of text at)
+ProgramOf text (Err (Syntax BadNumber spot)) = (at : ℕ) × IsShort text × IsBadNumber text at × (spot ≡ spot_of text at)
+ProgramOf text (Err (Syntax UnexpectedToken spot)) = (ts : List Token) × (at : ℕ) × IsShort text × SpellsTokens text ts × IsUnexpected 128 (length text) ts at × (spot ≡ spot_of text at)
+ProgramOf text (Err (Syntax TooDeep spot)) = (ts : List Token) × (at : ℕ) × IsShort text × SpellsTokens text ts × IsTooDeep 128 ts at × (spot ≡ spot_of text at)
+ProgramOf text (Err (Naming fault spot)) = (at : ℕ) × IsShort text × ReadsAs text (Err (naming_at fault at)) × (spot ≡ spot_of text at)
+ProgramOf text (Err (Limit which count)) = ((which ≡ Bytes) × (count ≡ 262145) × (262144 < length text)) ⊎ (IsShort text × ReadsAs text (Err (name.Limit which count)))
 ProgramOf text (Err refusal) = ⊥

@@ -2,6 +2,7 @@
 #![tactic(auto)]
 
 pub mod deps;
+pub mod laws;
 pub mod obs;
 pub mod program;
 pub mod refusal;

@@ -1,0 +1,131 @@
+-- A program does what its core program says, wherever its parts lie in memory.
+use Rattle.std.proofs.Common.{◌≡◌, ◌+◌, ◌++◌, ℕ, Bool, true, false, List, [], ◌∷◌, map, Option, Some, None, Err, refl, sym, ◌∙◌, ap, subst}
+use Rattle.std.specs.Prelude.{if◌then◌else◌, not, ◌&&◌, ◌||◌, ◌==◌, ◌^◌, option_and_then, option_map, bit_or, slice_index, slice_set}
+use Rattle.std.specs.Option.{MatchOption, option_map_or}
+use Rattle.snap_core.specs.declared.policy.Pol.{Pol}
+use Rattle.snap_core.specs.declared.policy.Pol.TheVariants.{Filter, Set, Change, Par', Seq', If', Atomic'}
+use Rattle.snap_core.specs.declared.policy.Pred.{Pred}
+use Rattle.snap_core.specs.declared.policy.Pred.TheVariants.{Id, Drop, Field, State, Not', And', Or'}
+use Rattle.snap_core.specs.declared.program.Program.{Program}
+use Rattle.snap_core.specs.Arrays.{Arrays, zero_arrays, update, place_at, value_of}
+use Rattle.snap_core.specs.Packets.{no_packets, with_packet, listed}
+use Rattle.snap_core.specs.Meaning.{Meaning, eval, truth, vars_of, all_together, logged}
+use Rattle.snap_names.specs.Core.{CoreTest, id_test, drop_test, field_test, state_test, not_test, and_test, or_test, CorePolicy, filter, set, change, par, seq, choice, atomic, core_test, core_policy}
+use Rattle.snap_names.specs.Declarations.{CoreProgram, core_program}
+use Rattle.snap_trace.specs.OneSwitch.{blocks_from, ending_from, ending_of, IsTailFrom, IsReport}
+use Rattle.snap_trace.specs.Reports.{block, end_text}
+use Rattle.snap_trace.specs.Spelled.{Stop, ended, refused, spelled}
+use Rattle.snap_trace.specs.declared.fault.TraceFault.TheVariants.{Undefined}
+
+-- evaluation of the core language
+abbrev core_truth : CoreTest → Arrays → List ℕ → Bool
+core_truth id_test m k = true
+core_truth drop_test m k = false
+core_truth (field_test c n) m k = slice_index k c == n
+core_truth (state_test s es a) m k = m (place_at s es k) == value_of a k
+core_truth (not_test x) m k = not (core_truth x m k)
+core_truth (and_test x y) m k = core_truth x m k && core_truth y m k
+core_truth (or_test x y) m k = core_truth x m k || core_truth y m k
+
+abbrev core_vars : CoreTest → ℕ
+core_vars id_test = 0
+core_vars drop_test = 0
+core_vars (field_test c n) = 0
+core_vars (state_test s es a) = 2 ^ s
+core_vars (not_test x) = core_vars x
+core_vars (and_test x y) = bit_or (core_vars x) (core_vars y)
+core_vars (or_test x y) = bit_or (core_vars x) (core_vars y)
+
+abbrev core_eval : CorePolicy → Arrays → List ℕ → Option Meaning
+core_eval (filter x) m k =
+    Some (record { arrays = m; packets = if core_truth x m k then with_packet no_packets k else no_packets; reads = core_vars x; writes = 0 })
+core_eval (set c a) m k = Some (record { arrays = m; packets = with_packet no_packets (slice_set k c (value_of a k)); reads = 0; writes = 0 })
+core_eval (change u) m k = Some (record { arrays = update m u k; packets = with_packet no_packets k; reads = 0; writes = 2 ^ u.var })
+core_eval (par p q) m k = all_together m (core_eval p m k ∷ core_eval q m k ∷ [])
+core_eval (seq p q) m k =
+    option_and_then (λ o.
+    option_map (logged o.reads o.writes)
+    (all_together o.arrays (map (λ k'. core_eval q o.arrays k') (listed o.packets))))
+    (core_eval p m k)
+core_eval (choice x p q) m k = option_map (logged (core_vars x) 0) (if core_truth x m k then core_eval p m k else core_eval q m k)
+core_eval (atomic p) m k = core_eval p m k
+
+same_truth : (x : Pred) (m : Arrays) (k : List ℕ) → truth x m k ≡ core_truth (core_test x) m k
+same_truth Id m k = refl
+same_truth Drop m k = refl
+same_truth (Field c n) m k = refl
+same_truth (State s es a) m k = refl
+same_truth (Not' _ x) m k = ap not (same_truth x m k)
+same_truth (And' _ x _ y) m k = λ i. same_truth x m k i && same_truth y m k i
+same_truth (Or' _ x _ y) m k = λ i. same_truth x m k i || same_truth y m k i
+
+same_vars : (x : Pred) → vars_of x ≡ core_vars (core_test x)
+same_vars Id = refl
+same_vars Drop = refl
+same_vars (Field c n) = refl
+same_vars (State s es a) = refl
+same_vars (Not' _ x) = same_vars x
+same_vars (And' _ x _ y) = λ i. bit_or (same_vars x i) (same_vars y i)
+same_vars (Or' _ x _ y) = λ i. bit_or (same_vars x i) (same_vars y i)
+
+by_core : (p : Pol) (m : Arrays) (k : List ℕ) → eval p m k ≡ core_eval (core_policy p) m k
+by_core (Filter x) m k = λ i.
+    Some (record { arrays = m; packets = if same_truth x m k i then with_packet no_packets k else no_packets; reads = same_vars x i; writes = 0 })
+by_core (Set c a) m k = refl
+by_core (Change u) m k = refl
+by_core (Par' _ p _ q) m k = λ i. all_together m (by_core p m k i ∷ by_core q m k i ∷ [])
+by_core (Seq' _ p _ q) m k = λ i.
+    option_and_then (λ o.
+    option_map (logged o.reads o.writes)
+    (all_together o.arrays (map (λ k'. by_core q o.arrays k' i) (listed o.packets))))
+    (by_core p m k i)
+by_core (If' x _ p _ q) m k = λ i.
+    option_map (logged (same_vars x i) 0) (if same_truth x m k i then by_core p m k i else by_core q m k i)
+by_core (Atomic' _ p) m k = by_core p m k
+
+weaker : (o : Option Meaning) (A : Type 0) (P Q : Meaning → Type 0) → ((x : Meaning) → P x → Q x) → MatchOption o A P → MatchOption o A Q
+weaker None A P Q f h = h
+weaker (Some x) A P Q f h = f x h
+
+-- two programs with one core program
+module _ (p q : Program) (same : core_program p ≡ core_program q) where
+  same_fields : p.fields ≡ q.fields
+  same_fields = ap (λ (c : CoreProgram). c.fields) same
+
+  same_names : p.vars ≡ q.vars
+  same_names = ap (λ (c : CoreProgram). c.vars) same
+
+  same_eval : (m : Arrays) (k : List ℕ) → eval p.body m k ≡ eval q.body m k
+  same_eval m k = by_core p.body m k ∙ (ap (λ (c : CoreProgram). core_eval c.body m k) same ∙ sym (by_core q.body m k))
+
+  same_blocks : (number : ℕ) (m : Arrays) (packets : List (List ℕ)) → blocks_from p number m packets ≡ blocks_from q number m packets
+  same_blocks number m [] = refl
+  same_blocks number m (packet ∷ packets) = λ i.
+      option_map_or (λ o. block (same_fields i) number o.packets ++ same_blocks (number + 1) o.arrays packets i) (same_eval m packet i) []
+
+  same_endings : (number : ℕ) (m : Arrays) (packets : List (List ℕ)) (stop : Stop) → ending_from p number m packets stop ≡ ending_from q number m packets stop
+  same_endings number m [] ended = refl
+  same_endings number m [] (refused fault) = refl
+  same_endings number m (packet ∷ packets) stop = λ i.
+      option_map_or (λ o. same_endings (number + 1) o.arrays packets stop i) (same_eval m packet i) (Err (Undefined number))
+
+  same_tail : (packets : List (List ℕ)) (m : Arrays) (stop : Stop) (tail : List ℕ) → IsTailFrom p m packets stop tail → IsTailFrom q m packets stop tail
+  same_tail [] m ended tail h = (h.0, h.1, h.2 ∙ ap (λ names. end_text names h.0) same_names)
+  same_tail [] m (refused fault) tail h = h
+  same_tail (packet ∷ packets) m stop tail h =
+      subst (λ o. MatchOption o (tail ≡ []) (λ x. IsTailFrom q x.arrays packets stop tail)) (same_eval m packet)
+      (weaker (eval p.body m packet) (tail ≡ []) (λ x. IsTailFrom p x.arrays packets stop tail) (λ x. IsTailFrom q x.arrays packets stop tail)
+      (λ x. same_tail packets x.arrays stop tail) h)
+
+  pub same_ending : (file : List ℕ) → ending_of p file ≡ ending_of q file
+  same_ending file =
+      same_endings 1 zero_arrays (spelled p.fields file).packets (spelled p.fields file).stop
+      ∙ ap (λ f. ending_from q 1 zero_arrays (spelled f file).packets (spelled f file).stop) same_fields
+
+  pub same_report : (file text : List ℕ) → IsReport p file text → IsReport q file text
+  same_report file text h = (
+    h.0,
+    subst (λ f. IsTailFrom q zero_arrays (spelled f file).packets (spelled f file).stop h.0) same_fields
+        (same_tail (spelled p.fields file).packets zero_arrays (spelled p.fields file).stop h.0 h.1),
+    h.2 ∙ ap (λ x. x ++ h.0) (same_blocks 1 zero_arrays (spelled p.fields file).packets ∙ ap (λ f. blocks_from q 1 zero_arrays (spelled f file).packets) same_fields),
+  )

@@ -1,0 +1,34 @@
+//! Laws of what words and files deserve, each the contract of a call that does nothing but name the laws below it.
+
+ghost use Rattle.snap_cli.specs.Laws.{AnswersExactly, DeservesOneEnding, DeservesOneText, SpellsOneProgram};
+
+use crate::deps::has_one_text;
+use snap_core::laws::has_one_listing;
+use snap_lex::laws::finds_once;
+use snap_parse::laws::yields_once;
+
+/// A text spells one program at most, or is refused for one reason at one place, and not both.
+pub fn spells_one_program()
+    ensures { SpellsOneProgram }
+{
+    finds_once();
+    yields_once();
+}
+
+/// A command deserves one ending at most on its files, and one text.
+pub fn deserves_once()
+    ensures ending { DeservesOneEnding }
+    ensures text { DeservesOneText }
+{
+    spells_one_program();
+    has_one_listing();
+    has_one_text();
+}
+
+/// Where no device failed and memory was there, a call's status, output and message are those of the one ending that
+/// its words and files deserve.
+pub fn answers_exactly()
+    ensures { AnswersExactly }
+{
+    deserves_once();
+}
