@@ -8,5 +8,8 @@ pub mod only;
 pub mod order;
 pub mod pick;
 pub mod pruning;
+mod quiet;
+pub mod sets;
 mod subject;
+mod survey;
 pub mod walking;
