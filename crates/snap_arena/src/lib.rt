@@ -6,3 +6,5 @@ pub mod equal;
 pub mod node;
 pub mod nodes;
 pub mod numbers;
+#[cfg(test)]
+mod tests;

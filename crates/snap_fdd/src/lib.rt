@@ -12,4 +12,6 @@ mod quiet;
 pub mod sets;
 mod subject;
 mod survey;
+#[cfg(test)]
+mod tests;
 pub mod walking;
