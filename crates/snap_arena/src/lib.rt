@@ -5,4 +5,6 @@ pub mod codes;
 pub mod equal;
 pub mod node;
 pub mod nodes;
-mod numbers;
+pub mod numbers;
+#[cfg(test)]
+mod tests;

@@ -1,4 +1,4 @@
-//! The number of each node.
+//! Numbers that are found by lists of numbers.
 
 ghost use Rattle.std.specs.Prelude.{◌≡◌, [], List, ℕ, OnOk, OnErr, Some, if◌then◌else◌};
 ghost use Rattle.std.specs.Str.{bytes_eq};
@@ -9,9 +9,9 @@ use std::alloc::Global;
 use std::collections::BTreeMap;
 use std::marker::Model;
 
-/// Numbers by the codes of their nodes.
+/// The numbers of nodes by their codes, or by what they were made of.
 #[derive(Drop)]
-pub(crate) struct Numbers {
+pub struct Numbers {
     numbers: BTreeMap<Vec<u64>, u64>,
 }
 
@@ -24,7 +24,8 @@ impl Model for Numbers {
 }
 
 impl Numbers {
-    pub(crate) fn new(alloc: Global) -> Numbers
+    /// No numbers.
+    pub fn new(alloc: Global) -> Numbers
         ensures { result ≡ [] }
     {
         Numbers {
@@ -32,13 +33,15 @@ impl Numbers {
         }
     }
 
-    pub(crate) fn get(&self, code: &[u64]) -> Option<u64>
+    /// The number for a list, if there is one.
+    pub fn get(&self, code: &[u64]) -> Option<u64>
         ensures { result ≡ cell self.now code.now }
     {
         self.numbers.get(code).copied()
     }
 
-    pub(crate) fn put(&mut self, code: Vec<u64>, number: u64) -> Result<(), NoMemory>
+    /// Puts the number for a list, and changes no other.
+    pub fn put(&mut self, code: Vec<u64>, number: u64) -> Result<(), NoMemory>
         ensures ok { OnOk result ((q : List ℕ) → cell self.new q ≡ (if bytes_eq code.items q then Some number else cell self.old q)) }
         ensures err { OnErr result (self.new ≡ self.old) }
     {

@@ -62,3 +62,9 @@ not_below_less ranks a b (Asks t y n) h i = λ g.
     let by : (o : Ordering) → test_cmp ranks b t ≡ o → o ≢ Greater → ⊥ = λ o. elim o as (λ (o : Ordering). test_cmp ranks b t ≡ o → o ≢ Greater → ⊥)
     [ Less ↦ λ e f. (let l = less_trans ranks a b t h e in absurd (cc)) | Equal ↦ λ e f. (let s = same_if_equal ranks b t e in let l : test_cmp ranks a t ≡ Less = rw (sym s) h in absurd (cc)) | Greater ↦ λ e f. absurd (f refl) ] in
     by (test_cmp ranks b t) refl i
+
+pub not_itself : (ranks : List ℕ) (a b : Test) → test_cmp ranks a b ≡ Less → a ≡ b → ⊥
+not_itself ranks a b l e =
+    let same : test_cmp ranks a a ≡ Less = rw (sym e) at l in
+    let turned = nat_list_cmp_total.antisymm (key ranks a) (key ranks a) in
+    absurd (let back : test_cmp ranks a a ≡ ordering_reverse Less = turned ∙ ap ordering_reverse same in cc)

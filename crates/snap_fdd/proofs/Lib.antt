@@ -4,3 +4,7 @@ pub mod Walkable
 pub mod Comparing
 pub mod Picking
 pub mod Cutting
+pub mod Memoed
+pub mod Between
+pub mod Calm
+pub mod Quieting

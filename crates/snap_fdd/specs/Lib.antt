@@ -7,3 +7,5 @@ pub mod Contexts
 pub mod Subjects
 pub mod Picks
 pub mod Pruned
+pub mod Memoed
+pub mod Quiet

@@ -8,5 +8,10 @@ pub mod only;
 pub mod order;
 pub mod pick;
 pub mod pruning;
+mod quiet;
+pub mod sets;
 mod subject;
+mod survey;
+#[cfg(test)]
+mod tests;
 pub mod walking;

@@ -1,12 +1,14 @@
 //! A test before two diagrams.
 
-ghost use Rattle.std.specs.Prelude.{◌≡◌, ◌<◌, ◌≤◌, ℕ, List, length, IfOk, true, false, if◌then◌else◌};
+ghost use Rattle.std.specs.Prelude.{◌≡◌, ◌<◌, ◌≤◌, ℕ, List, length, IfOk, OnOk, true, false, if◌then◌else◌};
 ghost use Rattle.snap_core.specs.Arrays.{Arrays};
 ghost use Rattle.snap_core.specs.Tests.{passes};
 ghost use Rattle.snap_arena.specs.Arena.{Grew};
+ghost use Rattle.snap_arena.specs.Memos.{Remembers};
 ghost use Rattle.snap_fdd.specs.Bounds.{Sizes, TestIn};
 ghost use Rattle.snap_fdd.specs.Contexts.{Under};
 ghost use Rattle.snap_fdd.specs.Diagrams.{diagram, walk, answer, IsNodeOf};
+ghost use Rattle.snap_fdd.specs.Memoed.{PickedFor};
 ghost use Rattle.snap_fdd.specs.Order.{Above};
 ghost use Rattle.snap_fdd.specs.Picks.{IsDiagram, Where, Anywhere, IsSide, IsPick, StartsWith, IsLeast, IsLower, sizes, IsArgument};
 ghost use Rattle.snap_fdd.specs.Pruned.{IsShaped};
@@ -17,6 +19,7 @@ use crate::subject::told;
 use snap_arena::equal::same_test;
 use snap_arena::node::Node;
 use snap_arena::nodes::Nodes;
+use snap_arena::numbers::Numbers;
 use snap_core::NoMemory;
 use snap_core::policy::Test;
 use snap_ctx::context::Context;
@@ -124,7 +127,6 @@ pub fn ask(
 }
 
 /// A test before two diagrams.
-#[cycle(pick)]
 pub fn pick(
     nodes: &mut Nodes<Leaf>,
     groups: &Groups,
@@ -142,6 +144,61 @@ pub fn pick(
     ensures number { IfOk result (λ d. d < length nodes.new) }
     ensures pick { IfOk result (λ d. IsPick groups.now.ranks (sizes groups.now.ranks ctx.now) Anywhere test.now (diagram nodes.old a) (diagram nodes.old b) (diagram nodes.new d)) }
 {
+    let mut memo = Numbers::new(nodes.allocator());
+    picked(nodes, groups, ctx, &mut memo, test, a, b)
+}
+
+// A test before two diagrams, which may be remembered.
+#[cycle(picked)]
+fn picked(
+    nodes: &mut Nodes<Leaf>,
+    groups: &Groups,
+    ctx: &Context,
+    memo: &mut Numbers,
+    test: &Test,
+    a: u64,
+    b: u64,
+) -> Result<u64, NoMemory>
+    requires a { a < length nodes.old }
+    requires b { b < length nodes.old }
+    requires first { IsDiagram groups.now.ranks (sizes groups.now.ranks ctx.now) (diagram nodes.old a) }
+    requires second { IsDiagram groups.now.ranks (sizes groups.now.ranks ctx.now) (diagram nodes.old b) }
+    requires test { TestIn (sizes groups.now.ranks ctx.now) test.now }
+    requires memo { Remembers (PickedFor groups.now.ranks (sizes groups.now.ranks ctx.now) test.now nodes.old) memo.old }
+    ensures grew { Grew nodes.old nodes.new }
+    ensures number { IfOk result (λ d. d < length nodes.new) }
+    ensures pick { IfOk result (λ d. IsPick groups.now.ranks (sizes groups.now.ranks ctx.now) Anywhere test.now (diagram nodes.old a) (diagram nodes.old b) (diagram nodes.new d)) }
+    ensures memo { OnOk result (Remembers (PickedFor groups.now.ranks (sizes groups.now.ranks ctx.now) test.now nodes.new) memo.new) }
+{
+    if let Some(d) = memo.get(&[a, b]) {
+        return Ok(d);
+    }
+    let d = picked_anew(nodes, groups, ctx, memo, test, a, b)?;
+    memo.put(vec![in nodes.allocator(); a, b]?, d)?;
+    Ok(d)
+}
+
+#[cycle(picked)]
+fn picked_anew(
+    nodes: &mut Nodes<Leaf>,
+    groups: &Groups,
+    ctx: &Context,
+    memo: &mut Numbers,
+    test: &Test,
+    a: u64,
+    b: u64,
+) -> Result<u64, NoMemory>
+    requires a { a < length nodes.old }
+    requires b { b < length nodes.old }
+    requires first { IsDiagram groups.now.ranks (sizes groups.now.ranks ctx.now) (diagram nodes.old a) }
+    requires second { IsDiagram groups.now.ranks (sizes groups.now.ranks ctx.now) (diagram nodes.old b) }
+    requires test { TestIn (sizes groups.now.ranks ctx.now) test.now }
+    requires memo { Remembers (PickedFor groups.now.ranks (sizes groups.now.ranks ctx.now) test.now nodes.old) memo.old }
+    ensures grew { Grew nodes.old nodes.new }
+    ensures number { IfOk result (λ d. d < length nodes.new) }
+    ensures pick { IfOk result (λ d. IsPick groups.now.ranks (sizes groups.now.ranks ctx.now) Anywhere test.now (diagram nodes.old a) (diagram nodes.old b) (diagram nodes.new d)) }
+    ensures memo { OnOk result (Remembers (PickedFor groups.now.ranks (sizes groups.now.ranks ctx.now) test.now nodes.new) memo.new) }
+{
     let first = least(nodes, groups, ctx, test, a, b)?;
     let ay = side(nodes, a, &first, true);
     let bn = side(nodes, b, &first, false);
@@ -150,17 +207,18 @@ pub fn pick(
     }
     let an = side(nodes, a, &first, false);
     let by = side(nodes, b, &first, true);
-    let y = pick_under(nodes, groups, ctx, &first, true, test, ay, by)?;
-    let n = pick_under(nodes, groups, ctx, &first, false, test, an, bn)?;
+    let y = picked_under(nodes, groups, ctx, memo, &first, true, test, ay, by)?;
+    let n = picked_under(nodes, groups, ctx, memo, &first, false, test, an, bn)?;
     ask(nodes, groups, ctx, first, y, n)
 }
 
 // A test before two diagrams, where another test has an answer.
-#[cycle(pick)]
-fn pick_under(
+#[cycle(picked)]
+fn picked_under(
     nodes: &mut Nodes<Leaf>,
     groups: &Groups,
     ctx: &Context,
+    memo: &mut Numbers,
     first: &Test,
     yes: bool,
     test: &Test,
@@ -172,14 +230,16 @@ fn pick_under(
     requires first { IsDiagram groups.now.ranks (sizes groups.now.ranks ctx.now) (diagram nodes.old a) }
     requires second { IsDiagram groups.now.ranks (sizes groups.now.ranks ctx.now) (diagram nodes.old b) }
     requires test { TestIn (sizes groups.now.ranks ctx.now) test.now }
+    requires memo { Remembers (PickedFor groups.now.ranks (sizes groups.now.ranks ctx.now) test.now nodes.old) memo.old }
     ensures grew { Grew nodes.old nodes.new }
     ensures number { IfOk result (λ d. d < length nodes.new) }
     ensures pick { IfOk result (λ d. IsPick groups.now.ranks (sizes groups.now.ranks ctx.now) (Where first.now yes) test.now (diagram nodes.old a) (diagram nodes.old b) (diagram nodes.new d)) }
+    ensures memo { OnOk result (Remembers (PickedFor groups.now.ranks (sizes groups.now.ranks ctx.now) test.now nodes.new) memo.new) }
 {
     match told(first, yes, test) {
         Some(true) => Ok(a),
         Some(false) => Ok(b),
-        None => pick(nodes, groups, ctx, test, a, b),
+        None => picked(nodes, groups, ctx, memo, test, a, b),
     }
 }
 

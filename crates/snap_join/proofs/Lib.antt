@@ -3,3 +3,4 @@ pub mod Combining
 pub mod Tested
 pub mod Chosen
 pub mod Turning
+pub mod Memoed

@@ -2,3 +2,4 @@ pub mod Beside
 pub mod Joined
 pub mod Predicates
 pub mod Chosen
+pub mod Memoed

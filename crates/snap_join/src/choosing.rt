@@ -1,18 +1,21 @@
 //! One of two diagrams, by a predicate.
 
-ghost use Rattle.std.specs.Prelude.{◌≡◌, ◌<◌, length, IfOk, if◌then◌else◌};
+ghost use Rattle.std.specs.Prelude.{◌≡◌, ◌<◌, length, IfOk, OnOk, if◌then◌else◌};
 ghost use Rattle.snap_arena.specs.Arena.{Grew};
+ghost use Rattle.snap_arena.specs.Memos.{Remembers};
 ghost use Rattle.snap_fdd.specs.Contexts.{Under};
 ghost use Rattle.snap_fdd.specs.Diagrams.{diagram, answer, Only};
 ghost use Rattle.snap_fdd.specs.declared.leaf.Leaf.{Leaf};
 ghost use Rattle.snap_fdd.specs.Picks.{sizes, IsArgument};
 ghost use Rattle.snap_join.specs.Predicates.{IsPredicate, holds, reads, more_reads, passed};
 ghost use Rattle.snap_join.specs.Chosen.{IsChosen};
+ghost use Rattle.snap_join.specs.Memoed.{DecidedFor};
 
 use crate::joining::combine;
 use crate::leaves::How;
 use snap_arena::node::Node;
 use snap_arena::nodes::Nodes;
+use snap_arena::numbers::Numbers;
 use snap_core::NoMemory;
 use snap_ctx::context::Context;
 use snap_dep::groups::Groups;
@@ -34,10 +37,13 @@ fn leaf_passes(nodes: &Nodes<Leaf>, x: u64) -> bool
     }
 }
 
+// A choice, which may be remembered.
+#[cycle(chosen)]
 fn chosen(
     nodes: &mut Nodes<Leaf>,
     groups: &Groups,
     ctx: &Context,
+    memo: &mut Numbers,
     x: u64,
     p: u64,
     q: u64,
@@ -45,9 +51,38 @@ fn chosen(
     requires x { IsArgument groups.now.ranks ctx.now nodes.old x }
     requires p { IsArgument groups.now.ranks ctx.now nodes.old p }
     requires q { IsArgument groups.now.ranks ctx.now nodes.old q }
+    requires memo { Remembers (DecidedFor groups.now.ranks (sizes groups.now.ranks ctx.now) nodes.old) memo.old }
     ensures grew { Grew nodes.old nodes.new }
     ensures number { IfOk result (λ d. d < length nodes.new) }
     ensures chosen { IfOk result (λ d. IsChosen groups.now.ranks (sizes groups.now.ranks ctx.now) (diagram nodes.old x) (diagram nodes.old p) (diagram nodes.old q) (diagram nodes.new d)) }
+    ensures memo { OnOk result (Remembers (DecidedFor groups.now.ranks (sizes groups.now.ranks ctx.now) nodes.new) memo.new) }
+{
+    if let Some(d) = memo.get(&[x, p, q]) {
+        return Ok(d);
+    }
+    let d = chosen_anew(nodes, groups, ctx, memo, x, p, q)?;
+    memo.put(vec![in nodes.allocator(); x, p, q]?, d)?;
+    Ok(d)
+}
+
+#[cycle(chosen)]
+fn chosen_anew(
+    nodes: &mut Nodes<Leaf>,
+    groups: &Groups,
+    ctx: &Context,
+    memo: &mut Numbers,
+    x: u64,
+    p: u64,
+    q: u64,
+) -> Result<u64, NoMemory>
+    requires x { IsArgument groups.now.ranks ctx.now nodes.old x }
+    requires p { IsArgument groups.now.ranks ctx.now nodes.old p }
+    requires q { IsArgument groups.now.ranks ctx.now nodes.old q }
+    requires memo { Remembers (DecidedFor groups.now.ranks (sizes groups.now.ranks ctx.now) nodes.old) memo.old }
+    ensures grew { Grew nodes.old nodes.new }
+    ensures number { IfOk result (λ d. d < length nodes.new) }
+    ensures chosen { IfOk result (λ d. IsChosen groups.now.ranks (sizes groups.now.ranks ctx.now) (diagram nodes.old x) (diagram nodes.old p) (diagram nodes.old q) (diagram nodes.new d)) }
+    ensures memo { OnOk result (Remembers (DecidedFor groups.now.ranks (sizes groups.now.ranks ctx.now) nodes.new) memo.new) }
 {
     match part_of(nodes, x)? {
         Part::Whole => {
@@ -58,8 +93,8 @@ fn chosen(
             }
         }
         Part::Split { test, yes, no } => {
-            let y = chosen(nodes, groups, ctx, yes, p, q)?;
-            let n = chosen(nodes, groups, ctx, no, p, q)?;
+            let y = chosen(nodes, groups, ctx, memo, yes, p, q)?;
+            let n = chosen(nodes, groups, ctx, memo, no, p, q)?;
             pick(nodes, groups, ctx, &test, y, n)
         }
     }
@@ -83,5 +118,6 @@ pub fn choose(
     ensures diagram { IfOk result (IsArgument groups.now.ranks ctx.now nodes.new) }
     ensures answer { IfOk result (λ d. Under ctx.now (λ m k. answer nodes.new d m k ≡ more_reads (reads nodes.old x m k) (if holds nodes.old x m k then answer nodes.old p m k else answer nodes.old q m k))) }
 {
-    chosen(nodes, groups, ctx, x, p, q)
+    let mut memo = Numbers::new(nodes.allocator());
+    chosen(nodes, groups, ctx, &mut memo, x, p, q)
 }

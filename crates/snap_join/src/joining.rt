@@ -1,17 +1,20 @@
 //! Two diagrams combined: side by side, and predicates.
 
-ghost use Rattle.std.specs.Prelude.{◌≡◌, ◌<◌, length, IfOk, ◌&&◌, ◌||◌, bit_or};
+ghost use Rattle.std.specs.Prelude.{◌≡◌, ◌<◌, length, IfOk, OnOk, ◌&&◌, ◌||◌, bit_or};
 ghost use Rattle.snap_arena.specs.Arena.{Grew};
+ghost use Rattle.snap_arena.specs.Memos.{Remembers};
 ghost use Rattle.snap_fdd.specs.Contexts.{Under};
 ghost use Rattle.snap_fdd.specs.Diagrams.{diagram, answer};
 ghost use Rattle.snap_fdd.specs.Picks.{IsDiagram, sizes, IsArgument};
 ghost use Rattle.snap_join.specs.Beside.{beside};
 ghost use Rattle.snap_join.specs.Predicates.{IsPredicate, holds, reads, test_answer};
 ghost use Rattle.snap_join.specs.Joined.{IsJoined, IsStart};
+ghost use Rattle.snap_join.specs.Memoed.{CombinedFor};
 
 use crate::leaves::{How, combine_leaves};
 use snap_arena::node::Node;
 use snap_arena::nodes::Nodes;
+use snap_arena::numbers::Numbers;
 use snap_core::NoMemory;
 use snap_core::policy::Test;
 use snap_ctx::context::Context;
@@ -84,6 +87,59 @@ pub fn combine(
     ensures number { IfOk result (λ d. d < length nodes.new) }
     ensures joined { IfOk result (λ d. IsJoined groups.now.ranks (sizes groups.now.ranks ctx.now) how (diagram nodes.old a) (diagram nodes.old b) (diagram nodes.new d)) }
 {
+    let mut memo = Numbers::new(nodes.allocator());
+    combined(nodes, groups, ctx, how, &mut memo, a, b)
+}
+
+// Two diagrams combined, which may be remembered.
+#[cycle(combined)]
+fn combined(
+    nodes: &mut Nodes<Leaf>,
+    groups: &Groups,
+    ctx: &Context,
+    how: How,
+    memo: &mut Numbers,
+    a: u64,
+    b: u64,
+) -> Result<u64, NoMemory>
+    requires a { a < length nodes.old }
+    requires b { b < length nodes.old }
+    requires first { IsDiagram groups.now.ranks (sizes groups.now.ranks ctx.now) (diagram nodes.old a) }
+    requires second { IsDiagram groups.now.ranks (sizes groups.now.ranks ctx.now) (diagram nodes.old b) }
+    requires memo { Remembers (CombinedFor groups.now.ranks (sizes groups.now.ranks ctx.now) how nodes.old) memo.old }
+    ensures grew { Grew nodes.old nodes.new }
+    ensures number { IfOk result (λ d. d < length nodes.new) }
+    ensures joined { IfOk result (λ d. IsJoined groups.now.ranks (sizes groups.now.ranks ctx.now) how (diagram nodes.old a) (diagram nodes.old b) (diagram nodes.new d)) }
+    ensures memo { OnOk result (Remembers (CombinedFor groups.now.ranks (sizes groups.now.ranks ctx.now) how nodes.new) memo.new) }
+{
+    if let Some(d) = memo.get(&[a, b]) {
+        return Ok(d);
+    }
+    let d = combined_anew(nodes, groups, ctx, how, memo, a, b)?;
+    memo.put(vec![in nodes.allocator(); a, b]?, d)?;
+    Ok(d)
+}
+
+#[cycle(combined)]
+fn combined_anew(
+    nodes: &mut Nodes<Leaf>,
+    groups: &Groups,
+    ctx: &Context,
+    how: How,
+    memo: &mut Numbers,
+    a: u64,
+    b: u64,
+) -> Result<u64, NoMemory>
+    requires a { a < length nodes.old }
+    requires b { b < length nodes.old }
+    requires first { IsDiagram groups.now.ranks (sizes groups.now.ranks ctx.now) (diagram nodes.old a) }
+    requires second { IsDiagram groups.now.ranks (sizes groups.now.ranks ctx.now) (diagram nodes.old b) }
+    requires memo { Remembers (CombinedFor groups.now.ranks (sizes groups.now.ranks ctx.now) how nodes.old) memo.old }
+    ensures grew { Grew nodes.old nodes.new }
+    ensures number { IfOk result (λ d. d < length nodes.new) }
+    ensures joined { IfOk result (λ d. IsJoined groups.now.ranks (sizes groups.now.ranks ctx.now) how (diagram nodes.old a) (diagram nodes.old b) (diagram nodes.new d)) }
+    ensures memo { OnOk result (Remembers (CombinedFor groups.now.ranks (sizes groups.now.ranks ctx.now) how nodes.new) memo.new) }
+{
     match begin(nodes, groups, ctx, how, a, b)? {
         Start::Leaves(leaf) => nodes.leaf(leaf),
         Start::First(first) => {
@@ -91,8 +147,8 @@ pub fn combine(
             let by = side(nodes, b, &first, true);
             let an = side(nodes, a, &first, false);
             let bn = side(nodes, b, &first, false);
-            let y = combine(nodes, groups, ctx, how, ay, by)?;
-            let n = combine(nodes, groups, ctx, how, an, bn)?;
+            let y = combined(nodes, groups, ctx, how, memo, ay, by)?;
+            let n = combined(nodes, groups, ctx, how, memo, an, bn)?;
             ask(nodes, groups, ctx, first, y, n)
         }
     }

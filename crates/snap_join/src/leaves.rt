@@ -1,7 +1,6 @@
 //! Two leaves combined, and a predicate's leaf turned round.
 
 ghost use Rattle.std.specs.Prelude.{◌≡◌, ◌++◌, IfOk, OnOk};
-ghost use Rattle.snap_core.specs.Variables.{has};
 ghost use Rattle.snap_fdd.specs.declared.leaf.Leaf.TheVariants.{Go as Goes};
 ghost use Rattle.snap_join.specs.Beside.{logs_clash};
 ghost use Rattle.snap_join.specs.Predicates.{turned_outs, negate_leaf};
@@ -11,6 +10,7 @@ use snap_core::NoMemory;
 use snap_core::lists::Out;
 use snap_core::policy::Update;
 use snap_fdd::leaf::{Go, Leaf, Outs, Updates};
+use snap_fdd::sets::is_in;
 use std::alloc::Global;
 
 /// How two leaves are combined.
@@ -35,18 +35,12 @@ fn push_outs(to: &mut Vec<Out>, outs: &[Out]) -> Result<(), NoMemory>
     Ok(())
 }
 
-fn in_set(set: u64, var: u16) -> bool
-    ensures { result ≡ has set var }
-{
-    var < 64 && (set >> var) & 1 == 1
-}
-
 // Adds the updates of the variables of a set.
 fn push_updates(to: &mut Vec<Update>, set: u64, updates: &[Update]) -> Result<(), NoMemory>
     ensures { OnOk result (to.new.items ≡ to.old.items ++ only set updates.now) }
 {
     for update in updates {
-        if in_set(set, update.var) {
+        if is_in(set, update.var) {
             to.push(update.copy()?)?;
         }
     }

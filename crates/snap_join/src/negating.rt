@@ -1,17 +1,20 @@
 //! Predicates turned round.
 
-ghost use Rattle.std.specs.Prelude.{◌≡◌, ◌<◌, ℕ, List, length, IfOk, not};
+ghost use Rattle.std.specs.Prelude.{◌≡◌, ◌<◌, ℕ, List, length, IfOk, OnOk, not};
 ghost use Rattle.snap_core.specs.Arrays.{Arrays};
 ghost use Rattle.snap_arena.specs.Arena.{Grew};
+ghost use Rattle.snap_arena.specs.Memos.{Remembers};
 ghost use Rattle.snap_fdd.specs.Bounds.{Sizes};
 ghost use Rattle.snap_fdd.specs.Diagrams.{diagram, answer, Only};
 ghost use Rattle.snap_fdd.specs.declared.leaf.Leaf.{Leaf};
 ghost use Rattle.snap_fdd.specs.Picks.{IsDiagram};
 ghost use Rattle.snap_join.specs.Predicates.{IsPredicate, holds, reads, test_answer, negate_leaf, IsNegated};
+ghost use Rattle.snap_join.specs.Memoed.{TurnedFor};
 
 use crate::leaves::negate_of;
 use snap_arena::node::Node;
 use snap_arena::nodes::Nodes;
+use snap_arena::numbers::Numbers;
 use snap_core::NoMemory;
 use snap_fdd::leaf::Leaf;
 use snap_fdd::pick::look;
@@ -27,11 +30,32 @@ fn leaf_negated(nodes: &Nodes<Leaf>, a: u64) -> Result<Leaf, NoMemory>
     }
 }
 
-fn negated(nodes: &mut Nodes<Leaf>, a: u64) -> Result<u64, NoMemory>
+// A predicate turned round, which may be remembered.
+#[cycle(negated)]
+fn negated(nodes: &mut Nodes<Leaf>, memo: &mut Numbers, a: u64) -> Result<u64, NoMemory>
     requires a { a < length nodes.old }
+    requires memo { Remembers (TurnedFor nodes.old) memo.old }
     ensures grew { Grew nodes.old nodes.new }
     ensures number { IfOk result (λ d. d < length nodes.new) }
     ensures negated { IfOk result (λ d. IsNegated (diagram nodes.old a) (diagram nodes.new d)) }
+    ensures memo { OnOk result (Remembers (TurnedFor nodes.new) memo.new) }
+{
+    if let Some(d) = memo.get(&[a]) {
+        return Ok(d);
+    }
+    let d = negated_anew(nodes, memo, a)?;
+    memo.put(vec![in nodes.allocator(); a]?, d)?;
+    Ok(d)
+}
+
+#[cycle(negated)]
+fn negated_anew(nodes: &mut Nodes<Leaf>, memo: &mut Numbers, a: u64) -> Result<u64, NoMemory>
+    requires a { a < length nodes.old }
+    requires memo { Remembers (TurnedFor nodes.old) memo.old }
+    ensures grew { Grew nodes.old nodes.new }
+    ensures number { IfOk result (λ d. d < length nodes.new) }
+    ensures negated { IfOk result (λ d. IsNegated (diagram nodes.old a) (diagram nodes.new d)) }
+    ensures memo { OnOk result (Remembers (TurnedFor nodes.new) memo.new) }
 {
     match part_of(nodes, a)? {
         Part::Whole => {
@@ -39,8 +63,8 @@ fn negated(nodes: &mut Nodes<Leaf>, a: u64) -> Result<u64, NoMemory>
             nodes.leaf(leaf)
         }
         Part::Split { test, yes, no } => {
-            let y = negated(nodes, yes)?;
-            let n = negated(nodes, no)?;
+            let y = negated(nodes, memo, yes)?;
+            let n = negated(nodes, memo, no)?;
             nodes.node(test, y, n)
         }
     }
@@ -56,5 +80,6 @@ pub fn negate(nodes: &mut Nodes<Leaf>, a: u64) -> Result<u64, NoMemory>
     ensures predicate { IfOk result (IsPredicate nodes.new) }
     ensures answer { IfOk result (λ d. (m : Arrays) (k : List ℕ) → answer nodes.new d m k ≡ test_answer (not (holds nodes.old a m k)) (reads nodes.old a m k) k) }
 {
-    negated(nodes, a)
+    let mut memo = Numbers::new(nodes.allocator());
+    negated(nodes, &mut memo, a)
 }

@@ -7,6 +7,7 @@ use Rattle.snap_fdd.specs.Diagrams.{diagram}
 use Rattle.snap_fdd.specs.Picks.{IsDiagram, IsPick, Anywhere, sizes}
 use Rattle.snap_fdd.specs.Pruned.{IsPart, IsPruned, IsShaped}
 use Rattle.snap_fdd.proofs.Picking.{yes_part, no_part}
+use Rattle.snap_fdd.proofs.Quieting.{still_marked}
 use Rattle.snap_fdd.proofs.Shared.{kept, still_below}
 use Rattle.snap_fdd.proofs.Cutting.{IsMore, under_more, keeps_of, pruned_no, pruned_yes, pruned_both, if_ok_both}
 use Rattle.snap_fdd.proofs.pruning.+pruned.Goals as goal
@@ -20,7 +21,7 @@ pruned-requires-in-More-2-2 t c =
     let m2 : IsMore c.args.ctx.now c.in-More-2.no_ctx c.in-Split.test false = record { facts = a2.0; count = a2.1; met = a2.2 } in
     let hn : c.in-Split.no < length c.args.nodes.now = omega (arith, part.2, c.requires.d) in
     let kn = kept c.args.nodes.now c.pruned-in-More-2.new.nodes c.in-Split.no c.pruned-in-More-2.ensures.grew hn in
-    (omega (arith, part.2, c.decreases), (still_below _ _ _ c.pruned-in-More-2.ensures.grew hn, rw kn (under_more c.args.groups.now.ranks c.args.ctx.now c.in-More-2.no_ctx c.in-Split.test false (diagram c.args.nodes.now c.in-Split.no) m2 (no_part c.args.groups.now.ranks (sizes c.args.groups.now.ranks c.args.ctx.now) _ _ _ j))))
+    (omega (arith, part.2, c.decreases), (still_below _ _ _ c.pruned-in-More-2.ensures.grew hn, (rw kn (under_more c.args.groups.now.ranks c.args.ctx.now c.in-More-2.no_ctx c.in-Split.test false (diagram c.args.nodes.now c.in-Split.no) m2 (no_part c.args.groups.now.ranks (sizes c.args.groups.now.ranks c.args.ctx.now) _ _ _ j)), still_marked c.args.survey.now c.args.nodes.now c.pruned-in-More-2.new.nodes c.args.quiet.now c.pruned-in-More-2.ensures.grew c.requires.marked)))
 
 pub ask-requires-clause-first : goal.ask-requires-clause-first
 ask-requires-clause-first t c =

@@ -1,5 +1,9 @@
 -- Ways are lower.
+use Rattle.std.proofs.Common.{ℕ, ◌+◌, ◌*◌}
 use Rattle.snap_join.proofs.choosing.+chosen.Given as goal
 
 abbrev pub decreases-chosen : goal.decreases-chosen
-decreases-chosen l = l.x
+decreases-chosen l = 2 * l.x + 1
+
+abbrev pub decreases-chosen_anew : goal.decreases-chosen_anew
+decreases-chosen_anew l = 2 * l.x

@@ -1,0 +1,68 @@
+-- Diagrams in which nothing can be dead: they test components and places for numbers alone, and no place can turn out to be another.
+use Rattle.std.specs.Prelude.{◌≡◌, ℕ, ◌+◌, ◌<◌, ◌≤◌, ◌^◌, max, Bool, true, false, Option, Some, None, List, length, slice_get, slice_index_or}
+use Rattle.std.specs.declared.cmp.Ordering.TheVariants.{Less}
+use Rattle.std.specs.List.{AllByRecursion}
+use Rattle.snap_core.specs.declared.policy.Atom.{Atom}
+use Rattle.snap_core.specs.declared.policy.Atom.TheVariants.{Num as Number, Comp}
+use Rattle.snap_core.specs.declared.policy.Term.{Term}
+use Rattle.snap_core.specs.declared.policy.Term.TheVariants.{Num, Plus}
+use Rattle.snap_core.specs.declared.policy.Test.{Test}
+use Rattle.snap_core.specs.declared.policy.Test.TheVariants.{Value, Equal, State}
+use Rattle.snap_core.specs.Variables.{has}
+use Rattle.snap_ctx.specs.declared.fact.Fact.{Fact}
+use Rattle.snap_ctx.specs.Ranges.{AtomInRange}
+use Rattle.snap_fdd.specs.declared.survey.Seen.{Seen}
+use Rattle.snap_fdd.specs.declared.survey.Seen.TheVariants.{Never, One, Many}
+use Rattle.snap_fdd.specs.declared.survey.Survey.{Survey}
+use Rattle.snap_arena.specs.declared.node.Node.{Node}
+use Rattle.snap_fdd.specs.declared.leaf.Leaf.{Leaf}
+use Rattle.snap_fdd.specs.Diagrams.{Diagram, Only, Asks, diagram}
+use Rattle.snap_fdd.specs.Order.{test_cmp}
+
+-- an atom that no test of a component's number gives a number
+abbrev pub AtomIsFree : Survey → Atom → Type 0
+AtomIsFree s (Number n) = Unit {0}
+AtomIsFree s (Comp c) = has s.values c ≡ false
+
+-- the array is tested at this index alone, or the index has free atoms
+abbrev pub IndexIsFine : Survey → Option Seen → List Atom → Type 0
+IndexIsFine s (Some (One iy)) ix = ix ≡ iy
+IndexIsFine s (Some Many) ix = AllByRecursion (AtomIsFree s) ix
+IndexIsFine s (Some Never) ix = ⊥
+IndexIsFine s None ix = ⊥
+
+-- a test of a number, as the survey says
+abbrev pub IsFine : Survey → Test → Type 0
+IsFine s (Value c n) = (n < 2 ^ 64) × (has s.values c ≡ true)
+IsFine s (Equal l r p) = ⊥
+IsFine s (State v ix (Num n)) = (n < 2 ^ 64) × AllByRecursion AtomInRange ix × IndexIsFine s (slice_get s.arrays.items v) ix
+IsFine s (State v ix (Plus c p)) = ⊥
+
+-- tests of one component, or of one place
+abbrev pub SameSubject : Test → Test → Type 0
+SameSubject (Value c n) (Value d o) = c ≡ d
+SameSubject (State v ix t) (State w iy u) = (v ≡ w) × (ix ≡ iy)
+SameSubject t u = ⊥
+
+-- the diagram begins with another subject
+abbrev pub BeginsElsewhere : Test → Diagram → Type 0
+BeginsElsewhere t (Only l) = Unit {0}
+BeginsElsewhere t (Asks u y n) = ¬ (SameSubject t u)
+
+abbrev pub IsQuiet : Survey → Diagram → Type 0
+IsQuiet s (Only l) = Unit {0}
+IsQuiet s (Asks t y n) = IsFine s t × BeginsElsewhere t y × IsQuiet s y × IsQuiet s n
+
+-- a fact that is fine, on a test before t, and on another subject if it passes
+abbrev pub StandsBefore : List ℕ → Survey → Test → Fact → Type 0
+StandsBefore ranks s t f = IsFine s f.test × (test_cmp ranks f.test t ≡ Less) × (f.yes ≡ true → ¬ (SameSubject f.test t))
+
+-- marks of quiet diagrams
+pub record IsMarked (s : Survey) (ns : List (Node Leaf)) (marks : List Bool) : Type 0 where
+  pub few : length marks ≤ length ns
+  pub quiet : (i : ℕ) → i < length marks → slice_index_or marks i false ≡ true → IsQuiet s (diagram ns i)
+
+-- the length of the longest path
+abbrev pub depth : Diagram → ℕ
+depth (Only l) = 0
+depth (Asks t y n) = 1 + max (depth y) (depth n)

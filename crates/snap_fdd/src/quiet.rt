@@ -1,0 +1,182 @@
+//! Which diagrams nothing can be dead in, whatever comes before them.
+
+ghost use Rattle.std.specs.Prelude.{◌≡◌, ◌↔◌, ◌<◌, ◌≤◌, ℕ, IfOk, IsTrue, length, slice_index, true};
+ghost use Rattle.std.specs.List.{AllByRecursion};
+ghost use Rattle.snap_ctx.specs.declared.fact.Fact.{Fact};
+ghost use Rattle.snap_fdd.specs.Contexts.{Met};
+ghost use Rattle.snap_fdd.specs.Diagrams.{diagram};
+ghost use Rattle.snap_fdd.specs.Order.{IsRanked, test_cmp};
+ghost use Rattle.snap_fdd.specs.Picks.{IsDiagram, sizes};
+ghost use Rattle.snap_fdd.specs.Pruned.{IsLive};
+ghost use Rattle.snap_fdd.specs.Quiet.{BeginsElsewhere, IsFine, IsMarked, IsQuiet, SameSubject, StandsBefore};
+
+use crate::leaf::Leaf;
+use crate::order::compare;
+use crate::pick::look;
+use crate::survey::Survey;
+use snap_arena::equal::same_index;
+use snap_arena::node::Node;
+use snap_arena::nodes::Nodes;
+use snap_core::NoMemory;
+use snap_core::policy::Test;
+use snap_ctx::context::Context;
+use snap_ctx::fact::Fact;
+use snap_dep::groups::Groups;
+use std::cmp::Ordering;
+
+// Whether two tests are of one component, or of one place.
+fn same_subject(a: &Test, b: &Test) -> bool
+    ensures { IsTrue result ↔ SameSubject a.now b.now }
+{
+    match a {
+        Test::Value { comp, num: _ } => match b {
+            Test::Value { comp: c, num: _ } => *comp == *c,
+            _ => false,
+        },
+        Test::Equal { .. } => false,
+        Test::State {
+            var,
+            index,
+            value: _,
+        } => match b {
+            Test::State {
+                var: v,
+                index: i,
+                value: _,
+            } => *var == *v && same_index(index.list(), i.list()),
+            _ => false,
+        },
+    }
+}
+
+// Whether a diagram begins with another subject.
+fn begins_elsewhere(nodes: &Nodes<Leaf>, test: &Test, d: u64) -> bool
+    requires { d < length nodes.now }
+    ensures { IsTrue result → BeginsElsewhere test.now (diagram nodes.now d) }
+{
+    match look(nodes, d) {
+        Node::Leaf(_) => true,
+        Node::Ask {
+            test: other,
+            yes: _,
+            no: _,
+        } => !same_subject(test, other),
+    }
+}
+
+// Whether a node is quiet, by those before it.
+fn is_quiet(nodes: &Nodes<Leaf>, survey: &Survey, quiet: &[bool], d: u64) -> bool
+    requires d { d < length nodes.now }
+    requires before { length quiet.now ≡ d }
+    requires quiet { IsMarked survey.now nodes.now quiet.now }
+    ensures { IsTrue result → IsQuiet survey.now (diagram nodes.now d) }
+{
+    match look(nodes, d) {
+        Node::Leaf(_) => true,
+        Node::Ask { test, yes, no } => {
+            if !quiet[*yes as usize] || !quiet[*no as usize] {
+                return false;
+            }
+            survey.is_fine(test) && begins_elsewhere(nodes, test, *yes)
+        }
+    }
+}
+
+/// Which of the numbers up to `root` are of quiet diagrams.
+pub fn quiet_ones(nodes: &Nodes<Leaf>, survey: &Survey, root: u64) -> Result<Vec<bool>, NoMemory>
+    ensures { IfOk result (λ quiet. IsMarked survey.now nodes.now quiet.items) }
+{
+    let mut quiet = Vec::new(nodes.allocator());
+    for d in 0..nodes.count() {
+        if d > root {
+            break;
+        }
+        let next = is_quiet(nodes, survey, &quiet, d);
+        quiet.push(next)?;
+    }
+    Ok(quiet)
+}
+
+// Whether a fact is fine, on a test before this one, and on another subject if it passes.
+fn stands_before(
+    groups: &Groups,
+    survey: &Survey,
+    fact: &Fact,
+    test: &Test,
+    nodes: &Nodes<Leaf>,
+) -> Result<bool, NoMemory>
+    requires { IsRanked (length groups.now.ranks) test.now }
+    ensures { IfOk result (λ b. IsTrue b → StandsBefore groups.now.ranks survey.now test.now fact.now) }
+{
+    if !survey.is_fine(&fact.test) || !has_rank(groups, &fact.test) {
+        return Ok(false);
+    }
+    if compare(nodes.allocator(), groups, &fact.test, test)? != Ordering::Less {
+        return Ok(false);
+    }
+    Ok(!fact.yes || !same_subject(&fact.test, test))
+}
+
+// Whether all facts are so.
+fn all_before(
+    groups: &Groups,
+    survey: &Survey,
+    facts: &[Fact],
+    test: &Test,
+    nodes: &Nodes<Leaf>,
+) -> Result<bool, NoMemory>
+    requires { IsRanked (length groups.now.ranks) test.now }
+    ensures { IfOk result (λ b. IsTrue b → AllByRecursion (StandsBefore groups.now.ranks survey.now test.now) facts.now) }
+{
+    for fact in facts {
+        if !stands_before(groups, survey, fact, test, nodes)? {
+            return Ok(false);
+        }
+    }
+    Ok(true)
+}
+
+/// Whether each way of each test of a diagram is met under a context, as far as marks tell.
+pub fn stays(
+    nodes: &Nodes<Leaf>,
+    groups: &Groups,
+    ctx: &Context,
+    survey: &Survey,
+    quiet: &[bool],
+    d: u64,
+) -> Result<bool, NoMemory>
+    requires d { d < length nodes.now }
+    requires diagram { IsDiagram groups.now.ranks (sizes groups.now.ranks ctx.now) (diagram nodes.now d) }
+    requires marked { IsMarked survey.now nodes.now quiet.now }
+    ensures { IfOk result (λ b. IsTrue b → IsLive (Met ctx.now) (diagram nodes.now d)) }
+{
+    let _arena = nodes.count();
+    let facts = ctx.facts();
+    if d >= quiet.len() as u64 || !quiet[d as usize] {
+        return Ok(false);
+    }
+    if d > MOST || facts.len() as u64 > MOST || ctx.comps() > 64 {
+        return Ok(false);
+    }
+    match look(nodes, d) {
+        Node::Leaf(_) => Ok(true),
+        Node::Ask {
+            test,
+            yes: _,
+            no: _,
+        } => all_before(groups, survey, facts, test, nodes),
+    }
+}
+
+// Facts and tests of which the model of a context is known to hold twice as many.
+const MOST: u64 = 2_147_483_648;
+
+fn has_rank(groups: &Groups, test: &Test) -> bool
+    ensures { IsTrue result → IsRanked (length groups.now.ranks) test.now }
+{
+    match test {
+        Test::Value { .. } => true,
+        Test::Equal { .. } => true,
+        Test::State { var, .. } => (*var as usize) < groups.count(),
+    }
+}

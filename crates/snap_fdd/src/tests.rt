@@ -1,0 +1,288 @@
+ghost use Rattle.std.specs.Prelude.{◌≡◌, ◌<◌, IfOk, IsTrue, length};
+ghost use Rattle.snap_core.specs.Tests.{TestFits};
+ghost use Rattle.snap_arena.specs.Arena.{Grew};
+ghost use Rattle.snap_fdd.specs.Picks.{IsArgument};
+
+use crate::bounds::{leaf_fits, test_fits};
+use crate::leaf::{Go, Leaf, Outs, Updates};
+use crate::only::only;
+use crate::pick::ite;
+use crate::pruning::prune;
+use crate::walking::walk;
+use snap_arena::node::Node;
+use snap_arena::nodes::Nodes;
+use snap_core::lists::{Atoms, Name, Names, Out};
+use snap_core::packet::Packet;
+use snap_core::policy::{Atom, Op, Pol, Pred, Term, Test, Update};
+use snap_core::program::{Field, Fields, Program};
+use snap_core::store::Store;
+use snap_ctx::context::{Assumed, Context};
+use snap_dep::calls::groups;
+use snap_dep::groups::Groups;
+use std::alloc::{AllocError, Global};
+use std::process::Abort;
+use std::test::Fail;
+
+fn name(alloc: Global, bytes: &[u8]) -> Result<Name, AllocError>
+    ensures { IfOk result (λ name. name ≡ bytes.now) }
+{
+    Ok(Name::new(Vec::from_slice(alloc, bytes)?))
+}
+
+fn ports(alloc: Global) -> Result<Fields, Fail> {
+    let mut fields = Vec::new(alloc);
+    fields.push(Field {
+        name: name(alloc, b"inport")?,
+        prefix: None,
+    })?;
+    fields.push(Field {
+        name: name(alloc, b"outport")?,
+        prefix: None,
+    })?;
+    Ok(Fields::new(alloc, fields)?)
+}
+
+fn at(alloc: Global, comp: u16) -> Result<Atoms, AllocError> {
+    Ok(Atoms::new(vec![in alloc; Atom::Comp(comp)]?))
+}
+
+// Two arrays, of which the second has the lower rank: the first is written after it was read.
+fn second_first(rt: &impl Abort, alloc: Global) -> Result<Groups, Fail> {
+    let mut vars = Vec::new(alloc);
+    vars.push(name(alloc, b"t")?)?;
+    vars.push(name(alloc, b"s")?)?;
+    let reads = Pred::State {
+        var: 1,
+        index: at(alloc, 0)?,
+        value: Atom::Num(1),
+    };
+    let writes = Pol::Change(Update {
+        var: 0,
+        index: at(alloc, 0)?,
+        op: Op::Add(1),
+    });
+    let program = Program {
+        fields: ports(alloc)?,
+        vars: Names::new(vars),
+        body: Pol::Seq(
+            Box::new(alloc, Pol::Filter(reads))?,
+            Box::new(alloc, writes)?,
+        ),
+    };
+    let count = program.vars.items().len();
+    assert!(rt; count <= 64);
+    assert!(rt; program.body.fits(program.fields.count() as usize, count));
+    Ok(groups(alloc, &program)?)
+}
+
+// The leaf that sets `outport`.
+fn mark(nodes: &mut Nodes<Leaf>, groups: &Groups, ctx: &Context, num: u64) -> Result<u64, Fail>
+    ensures grew { Grew nodes.old nodes.new }
+    ensures diagram { IfOk result (IsArgument groups.now.ranks ctx.now nodes.new) }
+{
+    let alloc = nodes.allocator();
+    let out = Out::new(vec![in alloc; (1, Atom::Num(num))]?);
+    let leaf = Leaf::Go(Go {
+        outs: Outs::new(vec![in alloc; out]?),
+        ups: Updates::new(Vec::new(alloc)),
+        reads: 0,
+        writes: 0,
+    });
+    if !leaf_fits(groups, ctx, &leaf) {
+        return Err("the leaf doesn't fit")?;
+    }
+    Ok(only(nodes, groups, ctx, leaf)?)
+}
+
+// Tests, each asked before those in front of it, where it passes with a mark of its own.
+fn chain(
+    nodes: &mut Nodes<Leaf>,
+    groups: &Groups,
+    ctx: &Context,
+    tests: &[Test],
+) -> Result<u64, Fail>
+    ensures { IfOk result (IsArgument groups.now.ranks ctx.now nodes.new) }
+{
+    let mut d = mark(nodes, groups, ctx, 0)?;
+    for (at, test) in tests.iter().enumerate() {
+        let yes = mark(nodes, groups, ctx, at as u64 + 1)?;
+        if !test_fits(groups, ctx, test) {
+            return Err("the test doesn't fit")?;
+        }
+        d = ite(nodes, groups, ctx, test.copy()?, yes, d)?;
+    }
+    Ok(d)
+}
+
+// The mark to which a diagram walks.
+fn marked(leaf: &Leaf) -> Option<u64> {
+    match leaf {
+        Leaf::Race => None,
+        Leaf::Go(go) => match go.outs.list().first()?.parts().first()?.1 {
+            Atom::Num(num) => Some(num),
+            Atom::Comp(_) => None,
+        },
+    }
+}
+
+fn value(comp: u16, num: u64) -> Test {
+    Test::Value { comp, num }
+}
+
+fn state(alloc: Global, var: u16, comp: u16, value: Term) -> Result<Test, AllocError> {
+    Ok(Test::State {
+        var,
+        index: at(alloc, comp)?,
+        value,
+    })
+}
+
+fn fits(test: &Test, packet: &Packet) -> bool
+    ensures { IsTrue result → TestFits (length packet.now) test.now }
+{
+    let comps = packet.comps().len();
+    match test {
+        Test::Value { comp, .. } => (*comp as usize) < comps,
+        Test::Equal { left, right, .. } => (*left as usize) < comps && (*right as usize) < comps,
+        Test::State { index, value, .. } => {
+            index.list().iter().all(|atom| atom.fits(comps))
+                && match value {
+                    Term::Num(_) => true,
+                    Term::Plus { comp, .. } => (*comp as usize) < comps,
+                }
+        }
+    }
+}
+
+// The mark of the last test that passes, and 0 where none does.
+fn direct(alloc: Global, tests: &[Test], store: &Store, packet: &Packet) -> Result<u64, Fail> {
+    let mut found = 0;
+    for (at, test) in tests.iter().enumerate() {
+        if !fits(test, packet) {
+            return Err("the test doesn't fit")?;
+        }
+        if test.passes(alloc, store, packet)? {
+            found = at as u64 + 1;
+        }
+    }
+    Ok(found)
+}
+
+// Two arrays with numbers at two places each.
+fn filled(alloc: Global, first: u64, second: u64) -> Result<Store, Fail> {
+    let mut store = Store::new(alloc);
+    store.put(0, &[5], first)?;
+    store.put(0, &[6], second)?;
+    store.put(1, &[5], second)?;
+    store.put(1, &[6], first)?;
+    Ok(store)
+}
+
+#[test]
+fn walks_as_its_tests_decide(rt: HostRuntime) -> Result<(), Fail> {
+    let alloc = rt.alloc();
+    let groups = second_first(&rt, alloc)?;
+    let ctx = Context::empty(alloc, 4)?;
+    let tests = vec![in alloc;
+        value(2, 5),
+        state(alloc, 1, 2, Term::Num(1))?,
+        state(alloc, 0, 3, Term::Num(1))?,
+        state(
+            alloc,
+            1,
+            3,
+            Term::Plus {
+                comp: 2,
+                plus: 18446744073709551612
+            }
+        )?,
+        Test::Equal {
+            left: 2,
+            right: 3,
+            plus: 1
+        },
+        state(alloc, 0, 2, Term::Num(2))?,
+        value(2, 6),
+        state(alloc, 1, 2, Term::Num(2))?,
+    ]?;
+    let mut nodes = Nodes::new(alloc);
+    let d = chain(&mut nodes, &groups, &ctx, &tests)?;
+    for number in 0..81u64 {
+        let store = filled(alloc, number % 3, number / 3 % 3)?;
+        let comps = vec![in alloc; 1, 1, 4 + number / 9 % 3, 4 + number / 27 % 3]?;
+        let packet = Packet::new(comps);
+        assert!(rt; packet.comps().len() == ctx.comps() as usize);
+        let leaf = walk(&nodes, d, &store, &packet);
+        assert_eq!(rt; marked(leaf), Some(direct(alloc, &tests, &store, &packet)?));
+    }
+    Ok(())
+}
+
+// The variables tested where every test fails.
+fn variables(alloc: Global, nodes: &Nodes<Leaf>, root: u64) -> Result<Vec<u16>, Fail> {
+    let mut vars = Vec::new(alloc);
+    let mut d = root;
+    for _ in 0..nodes.count() {
+        if d >= nodes.count() {
+            return Err("no such node")?;
+        }
+        match nodes.get(d) {
+            Node::Leaf(_) => return Ok(vars),
+            Node::Ask { test, no, .. } => {
+                if let Test::State { var, .. } = test {
+                    vars.push(*var)?;
+                }
+                d = *no;
+            }
+        }
+    }
+    Ok(vars)
+}
+
+#[test]
+fn state_tests_go_by_rank(rt: HostRuntime) -> Result<(), Fail> {
+    let alloc = rt.alloc();
+    let groups = second_first(&rt, alloc)?;
+    let ctx = Context::empty(alloc, 4)?;
+    let tests = vec![in alloc;
+        state(alloc, 1, 2, Term::Num(3))?,
+        state(alloc, 0, 2, Term::Num(1))?,
+        state(alloc, 1, 3, Term::Num(1))?,
+        state(alloc, 0, 3, Term::Num(2))?,
+        state(alloc, 1, 2, Term::Num(1))?,
+        state(alloc, 0, 2, Term::Num(2))?,
+    ]?;
+    let mut nodes = Nodes::new(alloc);
+    let d = chain(&mut nodes, &groups, &ctx, &tests)?;
+    let vars = variables(alloc, &nodes, d)?;
+    assert!(rt; vars.as_slice() == [1, 1, 1, 0, 0, 0].as_slice());
+    Ok(())
+}
+
+#[test]
+fn a_way_that_no_one_goes_is_cut(rt: HostRuntime) -> Result<(), Fail> {
+    let alloc = rt.alloc();
+    let groups = second_first(&rt, alloc)?;
+    let facts = vec![in alloc;
+        value(3, 1),
+        value(4, 2),
+        state(alloc, 0, 2, Term::Plus { comp: 3, plus: 0 })?,
+    ]?;
+    let mut ctx = Context::empty(alloc, 5)?;
+    for fact in &facts {
+        assert!(rt; test_fits(&groups, &ctx, fact));
+        match ctx.assume(fact, true)? {
+            Assumed::More(more) => ctx = more,
+            Assumed::Impossible => return Err("impossible")?,
+        }
+    }
+    let mut nodes = Nodes::new(alloc);
+    let no = mark(&mut nodes, &groups, &ctx, 7)?;
+    let yes = mark(&mut nodes, &groups, &ctx, 8)?;
+    let test = state(alloc, 0, 2, Term::Plus { comp: 4, plus: 0 })?;
+    assert!(rt; test_fits(&groups, &ctx, &test));
+    let d = ite(&mut nodes, &groups, &ctx, test, yes, no)?;
+    assert!(rt; d > yes);
+    assert_eq!(rt; prune(&mut nodes, &groups, &ctx, d)?, no);
+    Ok(())
+}
