@@ -9,7 +9,7 @@ use Rattle.snap_route.specs.Tables.{Table, AreRoutes, IsUnreachable, distance_of
 use Rattle.snap_route.specs.Walks.{HasWalk, IsBefore, IsDiameter, IsDistance, IsFirstApart, IsNext, IsWalk, Linked}
 use Rattle.snap_route.proofs.Walking.{distance-same, distance-walk}
 use Rattle.snap_cli.specs.Refusals.{name_at}
-use Rattle.snap_cli.specs.Routes.{end_text, line_between, lines_from, route_line, routes_text}
+use Rattle.snap_cli.specs.Routes.{end_text, line_between, lines_from, routes_text}
 
 -- a property that has no least number has none
 module _ (P : ℕ → Type 0) (no_least : (d : ℕ) → P d → ((e : ℕ) → P e → d ≤ e) → ⊥) where

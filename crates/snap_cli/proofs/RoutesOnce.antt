@@ -1,8 +1,8 @@
 -- `routes` deserves one ending and one text.
-use Rattle.std.proofs.Common.{◌≡◌, ◌⊎◌, ℕ, List, [], Result, Ok, Err, refl, sym, ◌∙◌, ap, subst, inl, inr}
+use Rattle.std.proofs.Common.{◌≡◌, ◌⊎◌, ℕ, List, Ok, Err, refl, sym, ◌∙◌, ap, subst, inl, inr}
 use Rattle.snap_io.specs.Files.{Files, file_of}
 use Rattle.snap_topo.specs.declared.topology.Topology.{Topology}
-use Rattle.snap_route.specs.Tables.{Table, AreRoutes, IsUnreachable}
+use Rattle.snap_route.specs.Tables.{AreRoutes, IsUnreachable}
 use Rattle.snap_cli.specs.declared.refusal.Refusal.{Refusal}
 use Rattle.snap_cli.specs.declared.refusal.Refusal.TheVariants.{Unreachable}
 use Rattle.snap_cli.specs.Refusals.{Ending}

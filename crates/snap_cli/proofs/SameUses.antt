@@ -9,7 +9,7 @@ use Rattle.snap_core.specs.declared.policy.Pred.{Pred}
 use Rattle.snap_core.specs.declared.policy.Pred.TheVariants.{Id, Drop, Field, State, Not', And', Or'}
 use Rattle.snap_core.specs.declared.program.Program.{Program}
 use Rattle.snap_dep.specs.Dependencies.{Depends, Reaches, Reads, Tests, Tied, Writes, one, more}
-use Rattle.snap_dep.specs.Ranks.{Grouping, IsGroup, IsGrouping, IsNext, IsRank, IsRankIn, IsReady, Precedes, rank_of}
+use Rattle.snap_dep.specs.Ranks.{Grouping, IsGroup, IsGrouping, IsNext, IsReady, Precedes}
 use Rattle.snap_names.specs.Core.{CoreTest, id_test, drop_test, field_test, state_test, not_test, and_test, or_test, CorePolicy, filter, set, change, par, seq, choice, atomic, core_test, core_policy}
 use Rattle.snap_names.specs.Declarations.{CoreProgram, core_program}
 use Rattle.snap_cli.specs.Deps.{IsTextOf, dep_line, groups_text}

@@ -86,9 +86,7 @@ fn routes_answers_by_its_file(rt: HostRuntime) -> Result<(), Fail> {
 // A topology of one switch, in a file of this many bytes.
 fn padded(alloc: Global, size: usize) -> Result<Vec<u8>, Fail> {
     let mut file = b"switches = [\"a\"]\nlinks = []\nports = {}\n".to_vec(alloc)?;
-    while file.len() < size {
-        file.push(b'\n')?;
-    }
+    file.resize(size, b'\n')?;
     Ok(file)
 }
 
