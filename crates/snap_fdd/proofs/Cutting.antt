@@ -1,5 +1,5 @@
 -- Ways that are met, and ways that are not.
-use Rattle.std.proofs.Common.{◌≡◌, ◌⊎◌, inl, inr, ℕ, Bool, true, false, cond, List, [], ◌∷◌, ◌++◌, length, refl, sym, ap, subst, ◌∙◌}
+use Rattle.std.proofs.Common.{◌≡◌, inl, inr, ℕ, Bool, true, false, cond, List, length, refl, sym, ap, subst, ◌∙◌}
 use Rattle.std.specs.Prelude.{◌<◌, ◌≢◌, ◌==◌, Result, Ok, Err, IfOk}
 use Rattle.std.proofs.lemmas.Bool.{eqb-false, false_from_ne_true, true_from_ne_false}
 use Rattle.std.proofs.lemmas.Bool.Decides.{Decides-eqb}
@@ -17,14 +17,14 @@ use Rattle.snap_arena.specs.declared.node.Node.{Node}
 use Rattle.snap_arena.specs.declared.node.Node.TheVariants as node
 use Rattle.snap_arena.specs.Arena.{Grew, IsNoted}
 use Rattle.snap_fdd.specs.declared.leaf.Leaf.{Leaf}
-use Rattle.snap_fdd.specs.Contexts.{Met, Under}
+use Rattle.snap_fdd.specs.Contexts.{Met}
 use Rattle.snap_fdd.specs.Diagrams.{Diagram, Only, Asks, walk, diagram}
 use Rattle.snap_fdd.specs.Order.{test_cmp, Above}
 use Rattle.snap_fdd.specs.Bounds.{Sizes, TestIn}
 use Rattle.snap_fdd.specs.Picks.{IsDiagram, Where, Anywhere, IsPick, sizes}
 use Rattle.snap_fdd.specs.Pruned.{Someone, With, IsLive, IsPruned, IsShaped}
 use Rattle.snap_fdd.proofs.Comparing.{above_trans}
-use Rattle.snap_fdd.proofs.Shared.{kept, new_ask}
+use Rattle.snap_fdd.proofs.Shared.{new_ask}
 
 -- a context with one more fact
 pub record IsMore (v w : View) (t : Test) (b : Bool) : Type 0 where

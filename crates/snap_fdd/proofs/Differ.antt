@@ -5,9 +5,8 @@ use Rattle.snap_core.specs.declared.policy.Atom.TheVariants.{Num, Comp}
 use Rattle.snap_core.specs.declared.policy.Op.{Op}
 use Rattle.snap_core.specs.declared.policy.Op.TheVariants.{Put, Add}
 use Rattle.snap_core.specs.declared.policy.Update.{Update}
-use Rattle.snap_arena.specs.Codes.{atom_code, index_code}
+use Rattle.snap_arena.specs.Codes.{atom_code}
 use Rattle.snap_arena.proofs.Injective.{same_index}
-use Rattle.snap_fdd.specs.declared.leaf.Go.{Go}
 use Rattle.snap_fdd.specs.declared.leaf.Leaf.{Leaf}
 use Rattle.snap_fdd.specs.declared.leaf.Leaf.TheVariants.{Race, Go as Goes}
 use Rattle.snap_fdd.specs.Codes.{out_code, outs_code, op_code, ups_code, leaf_code}

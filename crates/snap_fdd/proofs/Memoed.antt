@@ -1,5 +1,5 @@
 -- What a memo remembers of picks, as the list of nodes grows.
-use Rattle.std.proofs.Common.{◌≡◌, ℕ, ◌<◌, List, [], ◌∷◌, length}
+use Rattle.std.proofs.Common.{ℕ, ◌<◌, List, [], ◌∷◌, length}
 use Rattle.snap_core.specs.declared.policy.Test.{Test}
 use Rattle.snap_core.specs.Cells.{Cells}
 use Rattle.snap_arena.specs.declared.node.Node.{Node}
@@ -9,7 +9,7 @@ use Rattle.snap_arena.proofs.Remembering.{remembers_weaker}
 use Rattle.snap_fdd.specs.declared.leaf.Leaf.{Leaf}
 use Rattle.snap_fdd.specs.Bounds.{Sizes}
 use Rattle.snap_fdd.specs.Diagrams.{diagram}
-use Rattle.snap_fdd.specs.Memoed.{IsPicked, PickedFor}
+use Rattle.snap_fdd.specs.Memoed.{PickedFor}
 use Rattle.snap_fdd.specs.Picks.{IsPick, Anywhere}
 use Rattle.snap_fdd.proofs.Shared.{kept, still_below}
 

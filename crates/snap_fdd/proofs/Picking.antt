@@ -6,7 +6,7 @@ use Rattle.std.proofs.lemmas.Bool.Decides.{Decides-eqb}
 use Rattle.snap_arena.specs.declared.node.Node.{Node}
 use Rattle.snap_arena.specs.declared.node.Node.TheVariants as node
 use Rattle.snap_arena.specs.Arena.{Grew, IsNoted}
-use Rattle.snap_fdd.proofs.Shared.{new_ask, kept}
+use Rattle.snap_fdd.proofs.Shared.{new_ask}
 use Rattle.std.specs.declared.cmp.Ordering.TheVariants.{Less, Greater}
 use Rattle.snap_core.specs.declared.policy.Test.{Test}
 use Rattle.snap_core.specs.Arrays.{Arrays}
@@ -14,8 +14,8 @@ use Rattle.snap_fdd.specs.declared.leaf.Leaf.{Leaf}
 use Rattle.snap_core.specs.Tests.{passes}
 use Rattle.snap_fdd.specs.Leaves.{answer_of}
 use Rattle.snap_fdd.specs.Diagrams.{Diagram, Only, Asks, walk, diagram}
-use Rattle.snap_fdd.specs.Order.{test_cmp, Above, NotBelow, IsOrdered}
-use Rattle.snap_fdd.specs.Bounds.{Sizes, IsIn, TestIn}
+use Rattle.snap_fdd.specs.Order.{test_cmp, Above, NotBelow}
+use Rattle.snap_fdd.specs.Bounds.{Sizes, TestIn}
 use Rattle.snap_fdd.specs.Picks.{IsDiagram, Where, Anywhere, IsSide, IsPick, StartsWith, IsLeast, IsLower}
 use Rattle.snap_fdd.proofs.Comparing.{less_trans, less_if, less_from_greater, not_below_itself, not_below_less, above_trans, above_at}
 

@@ -1,12 +1,12 @@
 -- Nothing is dead below calm facts in a quiet diagram.
-use Rattle.std.proofs.Common.{◌≡◌, ◌≢◌, ◌⊎◌, inl, inr, ℕ, zero, suc, Option, Some, None, ◌+◌, ◌<◌, ◌≤◌, ◌^◌, max, Bool, true, false, List, [], ◌∷◌, ◌++◌, length, refl, sym, ap, subst, ◌∙◌, arith, length-append}
+use Rattle.std.proofs.Common.{◌≡◌, inl, inr, ℕ, zero, suc, Option, Some, None, ◌+◌, ◌<◌, ◌≤◌, ◌^◌, Bool, true, false, List, [], ◌∷◌, length, refl, sym, ap, subst, ◌∙◌, arith, length-append}
 use Rattle.std.specs.declared.cmp.Ordering.TheVariants.{Less}
 use Rattle.snap_core.specs.declared.policy.Atom.{Atom}
 use Rattle.snap_core.specs.declared.policy.Term.TheVariants.{Num, Plus}
 use Rattle.snap_core.specs.declared.policy.Test.{Test}
 use Rattle.snap_core.specs.declared.policy.Test.TheVariants.{Value, Equal as Same, State}
 use Rattle.std.specs.List.{AllByRecursion}
-use Rattle.std.specs.Prelude.{◌==◌, All, slice_get, slice_index, slice_index_or}
+use Rattle.std.specs.Prelude.{◌==◌, All, slice_get, slice_index}
 use Rattle.std.proofs.lemmas.Option.{slice_get-get_or}
 use Rattle.std.proofs.lemmas.Bool.{eqb-true, eqb-false}
 use Rattle.std.proofs.lemmas.List.Elements.{All-from_recursion, recursion_from_All}
@@ -35,7 +35,7 @@ use Rattle.snap_fdd.specs.Picks.{IsDiagram, sizes}
 use Rattle.snap_fdd.specs.Pruned.{Someone, With, IsLive}
 use Rattle.snap_fdd.specs.Quiet.{IsFine, SameSubject, BeginsElsewhere, IsQuiet, IsMarked, StandsBefore, depth}
 use Rattle.snap_fdd.proofs.Between.{Plain, same_between}
-use Rattle.snap_fdd.proofs.Calm.{Among, among_last, from_all, Tells, number_of, Agree, IsCalm, calm_is_met}
+use Rattle.snap_fdd.proofs.Calm.{Among, among_last, from_all, Tells, number_of, IsCalm, calm_is_met}
 use Rattle.snap_fdd.proofs.Comparing.{less_trans, not_itself}
 use Rattle.snap_fdd.proofs.Shared.{kept, node_of}
 

@@ -1,18 +1,14 @@
 -- One of two diagrams.
-use Rattle.std.proofs.Common.{◌≡◌, ℕ, Bool, true, false, cond, List, refl, sym, ap, subst, ◌∙◌}
+use Rattle.std.proofs.Common.{◌≡◌, ℕ, Bool, true, false, cond, List, refl, ap, ◌∙◌}
 use Rattle.snap_core.specs.declared.policy.Test.{Test}
 use Rattle.snap_core.specs.Arrays.{Arrays}
-use Rattle.snap_ctx.specs.View.{View}
-use Rattle.snap_arena.specs.declared.node.Node.{Node}
-use Rattle.snap_arena.specs.Arena.{Grew}
 use Rattle.snap_fdd.specs.declared.leaf.Leaf.{Leaf}
 use Rattle.snap_fdd.specs.declared.leaf.Leaf.TheVariants.{Race, Go as Goes}
 use Rattle.snap_fdd.specs.Leaves.{answer_of}
 use Rattle.snap_core.specs.Tests.{passes}
-use Rattle.snap_fdd.specs.Diagrams.{Diagram, Only, Asks, walk}
+use Rattle.snap_fdd.specs.Diagrams.{Diagram, Asks, walk}
 use Rattle.snap_fdd.specs.Bounds.{Sizes}
-use Rattle.snap_fdd.specs.Picks.{IsDiagram, IsPick, IsArgument, Anywhere}
-use Rattle.snap_fdd.proofs.Shared.{kept, still_below}
+use Rattle.snap_fdd.specs.Picks.{IsPick, Anywhere}
 use Rattle.snap_join.specs.declared.leaves.How.TheVariants.{Logged}
 use Rattle.snap_join.specs.Joined.{combined}
 use Rattle.snap_join.specs.Predicates.{IsPredicateLeaf, passed, reads_of, more_reads}

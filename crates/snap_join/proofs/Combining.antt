@@ -1,5 +1,5 @@
 -- Two diagrams combined.
-use Rattle.std.proofs.Common.{◌≡◌, ◌⊎◌, inl, inr, ℕ, ◌<◌, ◌^◌, Bool, true, false, cond, List, [], ◌∷◌, ◌++◌, refl, sym, ap, subst, ◌∙◌, bit_or, arith, pow_pos}
+use Rattle.std.proofs.Common.{◌≡◌, inl, inr, ℕ, ◌<◌, ◌^◌, Bool, true, false, cond, List, [], ◌∷◌, ◌++◌, refl, sym, ap, subst, ◌∙◌, bit_or, arith, pow_pos}
 use Rattle.std.specs.Prelude.{All}
 use Rattle.std.proofs.lemmas.List.Elements.{All-append, All-nil, All-from_recursion, recursion_from_All}
 use Rattle.std.proofs.lemmas.Nat.{or_lt}
@@ -17,10 +17,9 @@ use Rattle.snap_fdd.specs.Leaves.{answer_of}
 use Rattle.snap_join.specs.Beside.{logs_clash, beside}
 use Rattle.snap_core.specs.Tests.{passes}
 use Rattle.snap_fdd.specs.Diagrams.{Diagram, Only, Asks, walk}
-use Rattle.snap_fdd.specs.Order.{test_cmp, Above, NotBelow}
-use Rattle.snap_core.specs.Tests.{PartFits, OutFits}
+use Rattle.snap_core.specs.Tests.{OutFits}
 use Rattle.snap_fdd.specs.Bounds.{Sizes, LeafIn, UpdateIn}
-use Rattle.snap_fdd.specs.Picks.{IsDiagram, IsSide, IsPick, Anywhere, StartsWith, IsLower}
+use Rattle.snap_fdd.specs.Picks.{IsDiagram, IsSide, IsPick, Anywhere, IsLower}
 use Rattle.snap_fdd.proofs.Comparing.{above_trans, not_below_itself}
 use Rattle.snap_fdd.proofs.Picking.{low_below}
 use Rattle.snap_join.specs.declared.leaves.How.{How}

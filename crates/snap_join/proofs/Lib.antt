@@ -4,3 +4,4 @@ pub mod Tested
 pub mod Chosen
 pub mod Turning
 pub mod Memoed
+pub mod Known

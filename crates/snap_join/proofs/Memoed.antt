@@ -1,5 +1,5 @@
 -- What memos remember, as the list of nodes grows.
-use Rattle.std.proofs.Common.{◌≡◌, ℕ, ◌<◌, List, [], ◌∷◌, length}
+use Rattle.std.proofs.Common.{ℕ, ◌<◌, List, [], ◌∷◌, length}
 use Rattle.snap_core.specs.Cells.{Cells}
 use Rattle.snap_arena.specs.declared.node.Node.{Node}
 use Rattle.snap_arena.specs.Arena.{Grew}
@@ -13,7 +13,7 @@ use Rattle.snap_join.specs.declared.leaves.How.{How}
 use Rattle.snap_join.specs.Joined.{IsJoined}
 use Rattle.snap_join.specs.Predicates.{IsNegated}
 use Rattle.snap_join.specs.Chosen.{IsChosen}
-use Rattle.snap_join.specs.Memoed.{IsCombined, CombinedFor, IsTurned, TurnedFor, IsDecided, DecidedFor}
+use Rattle.snap_join.specs.Memoed.{CombinedFor, TurnedFor, DecidedFor}
 
 -- ---- two diagrams combined
 combined_kept : (ranks : List ℕ) (s : Sizes) (how : How) (old new : List (Node Leaf)) → Grew old new → (q : List ℕ) (d : ℕ) → CombinedFor ranks s how old q d → CombinedFor ranks s how new q d

@@ -1,14 +1,13 @@
 -- Predicates combined.
-use Rattle.std.proofs.Common.{◌≡◌, ◌⊎◌, inl, inr, ℕ, Bool, true, false, ◌&&◌, ◌||◌, List, [], ◌∷◌, refl, sym, ap, subst, ◌∙◌, bit_or}
+use Rattle.std.proofs.Common.{◌≡◌, ◌⊎◌, inl, inr, ℕ, ◌&&◌, ◌||◌, List, [], ◌∷◌, refl, ◌∙◌, bit_or}
 use Rattle.snap_core.specs.Arrays.{Arrays}
-use Rattle.snap_fdd.specs.declared.leaf.Go.{Go}
 use Rattle.snap_core.specs.declared.policy.Atom.{Atom}
 use Rattle.snap_fdd.specs.declared.leaf.Leaf.{Leaf}
 use Rattle.snap_fdd.specs.declared.leaf.Leaf.TheVariants.{Race, Go as Goes}
-use Rattle.snap_fdd.specs.Leaves.{Answer, answer_of}
+use Rattle.snap_fdd.specs.Leaves.{answer_of}
 use Rattle.snap_fdd.specs.Diagrams.{Diagram, walk}
 use Rattle.snap_fdd.specs.Bounds.{Sizes}
-use Rattle.snap_join.specs.declared.leaves.How.TheVariants.{Beside, AndBoth, OrEither}
+use Rattle.snap_join.specs.declared.leaves.How.TheVariants.{AndBoth, OrEither}
 use Rattle.snap_join.specs.Joined.{IsJoined, both_outs, either_outs, both_leaf, either_leaf}
 use Rattle.snap_join.specs.Predicates.{IsPredicateLeaf, any_outs, passed, reads_of, test_answer}
 

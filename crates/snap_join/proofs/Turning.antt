@@ -1,10 +1,8 @@
 -- Predicates turned round.
-use Rattle.std.proofs.Common.{◌≡◌, ◌≢◌, ◌⊎◌, inl, inr, ℕ, ◌<◌, ◌^◌, Bool, true, false, not, cond, List, [], ◌∷◌, length, refl, sym, ap, subst, ◌∙◌, arith, pow_pos}
+use Rattle.std.proofs.Common.{◌≡◌, ◌≢◌, ◌⊎◌, inl, inr, ℕ, ◌<◌, Bool, true, false, not, cond, List, [], ◌∷◌, length, refl, ap, ◌∙◌, arith, pow_pos}
 use Rattle.std.specs.Prelude.{Result, Ok, Err, IfOk, All, ◌==◌}
-use Rattle.std.specs.List.{AllByRecursion}
 use Rattle.std.proofs.lemmas.List.Elements.{All-from_recursion, All-nil}
 use Rattle.snap_core.specs.declared.policy.Test.{Test}
-use Rattle.snap_core.specs.declared.policy.Update.{Update}
 use Rattle.snap_core.specs.Arrays.{Arrays}
 use Rattle.snap_arena.specs.declared.node.Node.{Node}
 use Rattle.snap_arena.specs.declared.node.Node.TheVariants as node
@@ -13,13 +11,11 @@ use Rattle.std.proofs.lemmas.Bool.{eqb-false}
 use Rattle.std.proofs.lemmas.Bool.Decides.{Decides-eqb}
 use Rattle.std.proofs.lemmas.Option.{slice_get_within}
 use Rattle.snap_core.specs.declared.policy.Atom.{Atom}
-use Rattle.snap_fdd.specs.declared.leaf.Go.{Go}
 use Rattle.snap_fdd.specs.declared.leaf.Leaf.{Leaf}
 use Rattle.snap_fdd.specs.declared.leaf.Leaf.TheVariants.{Race, Go as Goes}
 use Rattle.snap_fdd.specs.Leaves.{answer_of}
 use Rattle.snap_core.specs.Tests.{passes}
 use Rattle.snap_fdd.specs.Diagrams.{Diagram, Only, Asks, walk}
-use Rattle.snap_fdd.specs.Order.{Above}
 use Rattle.snap_core.specs.Tests.{PartFits, OutFits}
 use Rattle.snap_fdd.specs.Bounds.{Sizes, LeafIn, UpdateIn}
 use Rattle.snap_fdd.specs.Picks.{IsDiagram}

@@ -1,7 +1,6 @@
 -- One of two diagrams, by a predicate.
-use Rattle.std.specs.Prelude.{◌≡◌, ℕ, Bool, List, if◌then◌else◌, bit_or}
+use Rattle.std.specs.Prelude.{◌≡◌, ℕ, List, if◌then◌else◌}
 use Rattle.snap_core.specs.Arrays.{Arrays}
-use Rattle.snap_fdd.specs.declared.leaf.Leaf.{Leaf}
 use Rattle.snap_fdd.specs.Diagrams.{Diagram, walk}
 use Rattle.snap_fdd.specs.Bounds.{Sizes}
 use Rattle.snap_fdd.specs.Picks.{IsDiagram}

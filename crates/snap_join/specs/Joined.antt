@@ -1,6 +1,5 @@
 -- What two leaves become, and what two diagrams do, side by side.
-use Rattle.std.specs.Prelude.{◌≡◌, ◌⊎◌, ℕ, ◌<◌, Bool, true, false, ◌||◌, List, [], ◌∷◌, ◌++◌, bit_or, if◌then◌else◌}
-use Rattle.std.specs.declared.cmp.Ordering.TheVariants.{Less}
+use Rattle.std.specs.Prelude.{◌≡◌, ◌⊎◌, ℕ, List, [], ◌∷◌, ◌++◌, bit_or, if◌then◌else◌}
 use Rattle.snap_core.specs.declared.policy.Test.{Test}
 use Rattle.snap_core.specs.declared.policy.Update.{Update}
 use Rattle.snap_core.specs.Arrays.{Arrays}
@@ -10,9 +9,9 @@ use Rattle.snap_fdd.specs.declared.leaf.Go.{Go}
 use Rattle.snap_fdd.specs.declared.leaf.Leaf.{Leaf}
 use Rattle.snap_fdd.specs.declared.leaf.Leaf.TheVariants.{Race, Go as Goes}
 use Rattle.snap_join.specs.Beside.{logs_clash}
-use Rattle.snap_fdd.specs.Diagrams.{Diagram, Only, Asks, walk}
-use Rattle.snap_fdd.specs.Order.{test_cmp, Above, NotBelow, IsOrdered}
-use Rattle.snap_fdd.specs.Bounds.{Sizes, IsIn, TestIn}
+use Rattle.snap_fdd.specs.Diagrams.{Diagram, Only, walk}
+use Rattle.snap_fdd.specs.Order.{Above, NotBelow}
+use Rattle.snap_fdd.specs.Bounds.{Sizes, TestIn}
 use Rattle.snap_fdd.specs.Picks.{IsDiagram, StartsWith}
 use Rattle.snap_join.specs.declared.leaves.How.{How}
 use Rattle.snap_join.specs.declared.leaves.How.TheVariants.{Beside, AndBoth, OrEither, Logged}

@@ -1,10 +1,9 @@
 -- A test before two diagrams, asked at once or after another.
-use Rattle.std.proofs.Common.{[], ◌∷◌, ◌≡◌, ◌≢◌, ◌+◌, ◌*◌, ◌<◌, ℕ, sym, subst, ◌∙◌, rules, arith, length, true, false}
+use Rattle.std.proofs.Common.{[], ◌∷◌, ◌≡◌, ◌≢◌, ◌<◌, sym, rules, arith, length, false}
 use Rattle.std.proofs.lemmas.Result.{IfOk-weaker}
 use Rattle.std.proofs.lemmas.Bool.{false≢true}
 use Rattle.snap_fdd.specs.Diagrams.{diagram}
-use Rattle.snap_fdd.specs.Picks.{IsPick, IsSide, IsDiagram, Where, Anywhere, StartsWith, IsLeast, sizes}
-use Rattle.snap_fdd.specs.Order.{Above}
+use Rattle.snap_fdd.specs.Picks.{IsPick, Where, Anywhere, sizes}
 use Rattle.snap_fdd.proofs.Picking.{picked_here, picked_later, falls_both, later}
 use Rattle.snap_arena.proofs.Remembering.{remembers_more}
 use Rattle.snap_fdd.specs.Memoed.{PickedFor}

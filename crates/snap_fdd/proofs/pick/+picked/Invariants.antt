@@ -1,5 +1,5 @@
 -- The two diagrams are lower together.
-use Rattle.std.proofs.Common.{ℕ, ◌+◌, ◌*◌}
+use Rattle.std.proofs.Common.{◌+◌, ◌*◌}
 use Rattle.snap_fdd.proofs.pick.+picked.Given as goal
 
 abbrev pub decreases-picked : goal.decreases-picked

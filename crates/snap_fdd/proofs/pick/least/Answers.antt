@@ -1,5 +1,5 @@
 -- The least of three.
-use Rattle.std.proofs.Common.{◌≡◌, subst, ◌∙◌, sym}
+use Rattle.std.proofs.Common.{sym}
 use Rattle.std.proofs.lemmas.Result.{IfOk-weaker}
 use Rattle.snap_fdd.specs.Picks.{IsLower, sizes}
 use Rattle.snap_fdd.specs.Diagrams.{diagram}

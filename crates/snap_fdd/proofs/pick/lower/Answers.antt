@@ -1,5 +1,5 @@
 -- The diagram's test is the lesser.
-use Rattle.std.proofs.Common.{◌≡◌, subst, ◌∙◌, rules}
+use Rattle.std.proofs.Common.{subst, rules}
 use Rattle.std.proofs.lemmas.Result.{IfOk-weaker}
 use Rattle.snap_fdd.specs.Diagrams.{IsNodeOf}
 use Rattle.snap_fdd.proofs.Picking.{lower_first}

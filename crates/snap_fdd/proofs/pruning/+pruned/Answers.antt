@@ -1,12 +1,11 @@
 -- One way, the other, or both.
-use Rattle.std.proofs.Common.{◌≡◌, ◌<◌, ℕ, sym, subst, rules, arith, length, true, false}
-use Rattle.std.specs.Prelude.{IfOk}
+use Rattle.std.proofs.Common.{◌<◌, sym, subst, arith, length, true, false}
 use Rattle.std.proofs.lemmas.Result.{IfOk-weaker}
 use Rattle.snap_ctx.specs.Answers.{IsAssumed}
 use Rattle.snap_fdd.specs.Diagrams.{diagram}
-use Rattle.snap_fdd.specs.Picks.{IsDiagram, IsPick, Anywhere, sizes}
-use Rattle.snap_fdd.specs.Pruned.{IsPart, IsPruned, IsShaped}
-use Rattle.snap_fdd.proofs.Picking.{yes_part, no_part}
+use Rattle.snap_fdd.specs.Picks.{IsDiagram, sizes}
+use Rattle.snap_fdd.specs.Pruned.{IsPart, IsPruned}
+use Rattle.snap_fdd.proofs.Picking.{no_part}
 use Rattle.snap_fdd.proofs.Quieting.{still_marked}
 use Rattle.snap_fdd.proofs.Shared.{kept, still_below}
 use Rattle.snap_fdd.proofs.Cutting.{IsMore, under_more, keeps_of, pruned_no, pruned_yes, pruned_both, if_ok_both}

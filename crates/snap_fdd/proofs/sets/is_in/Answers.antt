@@ -1,5 +1,5 @@
 -- No bit from 64 on.
-use Rattle.std.proofs.Common.{◌≡◌, rules, arith, sym, ◌∙◌}
+use Rattle.std.proofs.Common.{rules, arith}
 use Rattle.std.proofs.lemmas.Nat.Bits.{bit_at_above}
 use Rattle.snap_core.proofs.Unwritten.{without}
 use Rattle.snap_fdd.proofs.sets.is_in.Goals as goal

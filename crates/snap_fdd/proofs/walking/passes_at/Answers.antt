@@ -1,5 +1,5 @@
 -- The place's number against the term's.
-use Rattle.std.proofs.Common.{◌≡◌, refl, sym}
+use Rattle.std.proofs.Common.{refl, sym}
 use Rattle.snap_fdd.proofs.walking.passes_at.Goals as goal
 
 pub returns-in-State : goal.returns-in-State

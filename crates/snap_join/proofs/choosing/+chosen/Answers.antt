@@ -1,5 +1,5 @@
 -- By the predicate's tests.
-use Rattle.std.proofs.Common.{[], ◌∷◌, ◌≡◌, ◌<◌, sym, subst, arith, length}
+use Rattle.std.proofs.Common.{[], ◌∷◌, ◌<◌, sym, subst, arith, length}
 use Rattle.std.proofs.lemmas.Result.{IfOk-weaker}
 use Rattle.snap_fdd.specs.Diagrams.{diagram}
 use Rattle.snap_fdd.specs.Picks.{IsDiagram, IsArgument, sizes}

@@ -1,13 +1,12 @@
 -- Two diagrams, below their first test.
-use Rattle.std.proofs.Common.{[], ◌∷◌, ◌≡◌, ◌+◌, ◌<◌, ℕ, sym, subst, rules, arith, length, true, false}
-use Rattle.std.specs.Prelude.{IfOk}
+use Rattle.std.proofs.Common.{[], ◌∷◌, ◌<◌, sym, subst, arith, length}
 use Rattle.std.proofs.lemmas.Result.{IfOk-weaker}
 use Rattle.snap_fdd.specs.Diagrams.{diagram}
-use Rattle.snap_fdd.specs.Picks.{Anywhere, sizes}
+use Rattle.snap_fdd.specs.Picks.{sizes}
 use Rattle.snap_fdd.proofs.Picking.{falls_both}
 use Rattle.snap_fdd.proofs.Shared.{kept, still_below, new_leaf}
 use Rattle.snap_arena.proofs.Remembering.{remembers_more}
-use Rattle.snap_join.specs.Joined.{IsStart, IsJoined, IsFirst}
+use Rattle.snap_join.specs.Joined.{IsStart, IsJoined}
 use Rattle.snap_join.specs.Memoed.{CombinedFor}
 use Rattle.snap_join.proofs.Memoed.{combined_memo, combined_now}
 use Rattle.snap_join.proofs.Combining.{joined_leaves, joined_later}

@@ -1,8 +1,6 @@
 -- The first test of two diagrams.
-use Rattle.std.proofs.Common.{◌≡◌, subst, ◌∙◌, sym}
-use Rattle.snap_fdd.specs.Diagrams.{IsNodeOf, diagram}
-use Rattle.snap_fdd.specs.Picks.{IsLower, sizes}
-use Rattle.snap_join.specs.Joined.{IsFirst}
+use Rattle.std.proofs.Common.{subst, sym}
+use Rattle.snap_fdd.specs.Diagrams.{IsNodeOf}
 use Rattle.snap_join.proofs.Combining.{first_of_lower, first_of_second}
 use Rattle.snap_join.proofs.joining.begin.Goals as goal
 

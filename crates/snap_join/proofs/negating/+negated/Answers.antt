@@ -1,5 +1,5 @@
 -- A leaf, or a test over two.
-use Rattle.std.proofs.Common.{[], ◌∷◌, ◌≡◌, ◌<◌, sym, subst, arith, length}
+use Rattle.std.proofs.Common.{[], ◌∷◌, ◌<◌, sym, subst, arith, length}
 use Rattle.std.proofs.lemmas.Result.{IfOk-weaker}
 use Rattle.snap_fdd.specs.Diagrams.{diagram}
 use Rattle.snap_fdd.specs.Pruned.{IsPart}

@@ -1,5 +1,5 @@
 -- Ways are lower.
-use Rattle.std.proofs.Common.{ℕ, ◌+◌, ◌*◌}
+use Rattle.std.proofs.Common.{◌+◌, ◌*◌}
 use Rattle.snap_join.proofs.negating.+negated.Given as goal
 
 abbrev pub decreases-negated : goal.decreases-negated

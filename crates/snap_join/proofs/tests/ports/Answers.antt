@@ -1,0 +1,28 @@
+use Rattle.std.proofs.Common.{◌≡◌, List, [], ◌∷◌, refl, sym, subst, arith}
+use Rattle.std.specs.Prelude.{codes}
+use Rattle.std.specs.List.{IsDistinct}
+use Rattle.std.specs.Str.{bytes_eq}
+use Rattle.std.proofs.lemmas.List.Elements.{All-cons, All-nil}
+use Rattle.snap_core.specs.Fields.{IsFields, PrefixFits, names_of, plain_field}
+use Rattle.snap_core.specs.declared.program.Field.{Field}
+use Rattle.snap_join.proofs.tests.ports.Goals as goal
+
+abbrev the_ports : List Field
+the_ports = plain_field (codes "inport") ∷ plain_field (codes "outport") ∷ []
+
+different : IsDistinct bytes_eq (names_of the_ports)
+unfolding IsDistinct
+different = ((refl, tt), (tt, tt))
+
+are_fields : IsFields the_ports
+are_fields = record {
+  ports = refl;
+  different = different;
+  prefixes = All-cons (λ f. PrefixFits f.prefix) (plain_field (codes "inport")) (plain_field (codes "outport") ∷ []) tt (All-cons (λ f. PrefixFits f.prefix) (plain_field (codes "outport")) [] tt (All-nil (λ f. PrefixFits f.prefix)));
+  few = omega arith;
+}
+
+pub new-requires : goal.new-requires
+new-requires c =
+    let items : c.push-2.new.self.items ≡ the_ports = rw (c.in_ok-push-2.ensures.items, c.in_ok-push.ensures.items, c.new-fields.ensures.items, c.in_ok-name.ensures, c.in_ok-name-2.ensures) refl in
+    subst IsFields (sym items) are_fields
