@@ -1,5 +1,5 @@
 -- What `deps` deserves on its file, and what its text is.
-use Rattle.std.specs.Prelude.{◌≡◌, ◌⊎◌, ◌==◌, ℕ, List, [], ◌∷◌, ◌++◌, length, Ok, Err, codes, slice_get, unwrap_or}
+use Rattle.std.specs.Prelude.{◌≡◌, ◌⊎◌, ◌==◌, ℕ, List, [], ◌∷◌, ◌++◌, length, Ok, Err, codes}
 use Rattle.std.specs.declared.option.Option.{Option}
 use Rattle.std.specs.List.{concat, filter, flat_map, range_with_len}
 use Rattle.std.specs.Io.KnownBytes.{Appends}
@@ -13,15 +13,11 @@ use Rattle.snap_io.specs.Sinks.{AppendsPart}
 use Rattle.snap_cli.specs.declared.refusal.Refusal.{Refusal}
 use Rattle.snap_cli.specs.declared.refusal.Refusal.TheVariants.{Write, NoMemory}
 use Rattle.snap_cli.specs.ProgramOf.{ProgramOf}
-use Rattle.snap_cli.specs.Refusals.{Ending}
-
--- the name of an array
-abbrev pub name_of : List (List ℕ) → ℕ → List ℕ
-name_of names v = unwrap_or (slice_get names v) []
+use Rattle.snap_cli.specs.Refusals.{Ending, name_at}
 
 -- `dep S T`, for a dependency from the first array to the second
 abbrev pub dep_line : List (List ℕ) → ℕ × ℕ → List ℕ
-dep_line names d = concat (codes "dep " ∷ name_of names d.0 ∷ codes " " ∷ name_of names d.1 ∷ codes "\n" ∷ [])
+dep_line names d = concat (codes "dep " ∷ name_at names d.0 ∷ codes " " ∷ name_at names d.1 ∷ codes "\n" ∷ [])
 
 -- the arrays of a rank, in rising order
 abbrev pub members_of : Grouping → (rank : ℕ) → List ℕ
@@ -29,7 +25,7 @@ members_of g rank = filter (λ v. rank_of g v == rank) (range_with_len 0 (length
 
 -- ` V`, for an array of a group
 abbrev pub member_text : List (List ℕ) → ℕ → List ℕ
-member_text names v = codes " " ++ name_of names v
+member_text names v = codes " " ++ name_at names v
 
 -- `group V1 V2 ..`, for the arrays of a rank
 abbrev pub group_line : List (List ℕ) → Grouping → (rank : ℕ) → List ℕ

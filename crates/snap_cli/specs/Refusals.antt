@@ -81,9 +81,9 @@ message_of_topology (Shape rule) = message_with (codes "topology: shape") rule
 message_of_topology (SwitchTwice name) = message_naming (codes "topology: switch twice") name
 message_of_topology (UnknownSwitch name) = message_naming (codes "topology: unknown switch") name
 
--- the name of the switch with this number
+-- the name of the array or the switch with this number
 abbrev pub name_at : List (List ℕ) → ℕ → List ℕ
-name_at switches number = unwrap_or (slice_get switches number) []
+name_at names number = unwrap_or (slice_get names number) []
 
 abbrev pub message_apart : List (List ℕ) → ℕ → ℕ → List ℕ
 message_apart switches a b = concat (codes "snapc: unreachable: " ∷ name_at switches a ∷ codes " " ∷ name_at switches b ∷ codes "\n" ∷ [])

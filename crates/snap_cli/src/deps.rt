@@ -5,12 +5,12 @@ ghost use Rattle.std.specs.List.{flat_map};
 ghost use Rattle.snap_core.specs.Programs.{IsBounded};
 ghost use Rattle.snap_io.specs.Causes.{Rose};
 ghost use Rattle.snap_words.specs.Commands.{deps};
-ghost use Rattle.snap_cli.specs.Deps.{HasOneText, IsTextOf, MeetsText, dep_line, group_line, groups_text, member_text, name_of};
+ghost use Rattle.snap_cli.specs.Deps.{HasOneText, IsTextOf, MeetsText, dep_line, group_line, groups_text, member_text};
 ghost use Rattle.snap_cli.specs.Deserved.{Meets};
 ghost use Rattle.snap_cli.specs.Steps.{HasCauses, IsRead};
 
 use crate::program::load_program;
-use crate::refusal::Refusal;
+use crate::refusal::{Refusal, name_at};
 use snap_core::NoMemory;
 use snap_core::lists::Names;
 use snap_core::program::Program;
@@ -92,9 +92,9 @@ fn put_dependency(out: &mut Vec<u8>, names: &Names, pair: (u16, u16)) -> Result<
     ensures { OnOk result (out.new.items ≡ out.old.items ++ dep_line names.now pair) }
 {
     out.extend_from_slice(b"dep ")?;
-    out.extend_from_slice(name_of(names, pair.0))?;
+    out.extend_from_slice(name_at(names, pair.0))?;
     out.push(b' ')?;
-    out.extend_from_slice(name_of(names, pair.1))?;
+    out.extend_from_slice(name_at(names, pair.1))?;
     out.push(b'\n')?;
     Ok(())
 }
@@ -128,16 +128,6 @@ fn put_member(out: &mut Vec<u8>, names: &Names, var: u16) -> Result<(), NoMemory
     ensures { OnOk result (out.new.items ≡ out.old.items ++ member_text names.now var) }
 {
     out.push(b' ')?;
-    out.extend_from_slice(name_of(names, var))?;
+    out.extend_from_slice(name_at(names, var))?;
     Ok(())
-}
-
-// The name of an array, or nothing where no array has this number.
-fn name_of(names: &Names, var: u16) -> &[u8]
-    ensures { result.now ≡ name_of names.now var }
-{
-    match names.items().get(var as usize) {
-        Some(name) => name.bytes(),
-        None => &[],
-    }
 }

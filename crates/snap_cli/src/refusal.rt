@@ -211,11 +211,11 @@ fn tell_topology<E: Sink>(err: &mut E, fault: &TopologyFault) -> Result<(), Writ
     }
 }
 
-/// The name of the switch with this number, or nothing where there is none.
-pub(crate) fn name_at(switches: &Names, number: u16) -> &[u8]
-    ensures { result.now ≡ name_at switches.now number }
+/// The name of the array or the switch with this number, or nothing where there is none.
+pub(crate) fn name_at(names: &Names, number: u16) -> &[u8]
+    ensures { result.now ≡ name_at names.now number }
 {
-    match switches.items().get(number as usize) {
+    match names.items().get(number as usize) {
         Some(name) => name.bytes(),
         None => &[],
     }
