@@ -29,7 +29,7 @@ together_keeps : (m : Arrays) (os : List Meaning) (q : Place) (t : Bool) → IfD
 together_keeps m os q true = tt
 together_keeps m os q false = λ h. merged_unwritten m os q h
 
-all_together_keeps : (m : Arrays) (q : Place) (d : Option (List Meaning)) → IfDefined (Keeps m q) (option_and_then (together m) d)
+pub all_together_keeps : (m : Arrays) (q : Place) (d : Option (List Meaning)) → IfDefined (Keeps m q) (option_and_then (together m) d)
 all_together_keeps m q None = tt
 all_together_keeps m q (Some os) = together_keeps m os q (any_clash os)
 

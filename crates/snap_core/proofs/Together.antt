@@ -40,7 +40,7 @@ meets_flip a b = ap (λ n. not (nat_eq n 0)) (and_comm a b)
 or-meets : (x y z : ℕ) → meets (bit_or x y) z ≡ (meets x z || meets y z)
 or-meets x y z = meets_flip (bit_or x y) z ∙ meets-or z x y ∙ (λ i. meets_flip z x i || meets_flip z y i)
 
-both_have : (a b v : ℕ) → has a v ≡ true → has b v ≡ true → meets a b ≡ true
+pub both_have : (a b v : ℕ) → has a v ≡ true → has b v ≡ true → meets a b ≡ true
 both_have a b v p q =
     let x : bit_at a v ≡ 1 = eqb-true _ 1 p in let y : bit_at b v ≡ 1 = eqb-true _ 1 q in let z = bit_at_and a b v in
     ap not (ne_eqb (bit_and a b) 0 (λ e. let w = bit_at-zero v in let u = ap (λ n. bit_at n v) e in absurd (omega (arith, x, y, z, w, u))))

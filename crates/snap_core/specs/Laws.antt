@@ -18,6 +18,15 @@ use Rattle.snap_core.specs.Meaning.{Meaning, eval, vars_of}
 abbrev pub KeepsUnwritten : Type 0
 KeepsUnwritten = (p : Pol) (m : Arrays) (k : List ℕ) (o : Meaning) → eval p m k ≡ Some o → (q : Place) → has o.writes q.var ≡ false → o.arrays q ≡ m q
 
+-- n is as m is at each variable of a set
+abbrev pub AgreesOn : ℕ → Arrays → Arrays → Type 0
+AgreesOn vars m n = (q : Place) → has vars q.var ≡ true → n q ≡ m q
+
+-- an evaluation depends on the variables of its logs alone: from other arrays that agree on them it does the same, and leaves the rest of these as it is
+abbrev pub DependsOnLogged : Type 0
+DependsOnLogged = (p : Pol) (m n : Arrays) (k : List ℕ) (o : Meaning) → eval p m k ≡ Some o → AgreesOn (bit_or o.reads o.writes) m n
+    → eval p n k ≡ Some (record o { arrays = taken n o.arrays o.writes })
+
 -- the variables of updates
 abbrev pub written_by : List Update → ℕ
 written_by [] = 0

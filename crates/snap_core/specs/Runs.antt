@@ -1,18 +1,24 @@
--- What an evaluation over a store means.
-use Rattle.std.specs.Prelude.{ℕ}
+-- What an evaluation in place means.
+use Rattle.std.specs.Prelude.{ℕ, Option, Some, None, bit_or, if◌then◌else◌}
 use Rattle.snap_core.specs.declared.copies.Copies.{Copies}
 use Rattle.snap_core.specs.declared.copies.Copies.TheVariants.{One, Many}
 use Rattle.snap_core.specs.declared.run.Run.{Run}
 use Rattle.snap_core.specs.Arrays.{Arrays}
-use Rattle.snap_core.specs.Cells.{overlaid}
-use Rattle.snap_core.specs.Packets.{PacketSet, no_packets, with_packet, with_packets}
-use Rattle.snap_core.specs.Meaning.{Meaning}
+use Rattle.snap_core.specs.Packets.{PacketSet, no_packets, with_packet, with_packets, union}
+use Rattle.snap_core.specs.Meaning.{Meaning, clash}
 
 -- the set of packets
 abbrev pub set_in : Copies → PacketSet
 set_in (One k) = with_packet no_packets k
 set_in (Many v) = with_packets no_packets v.items
 
--- what a run means over a store whose arrays are m
-abbrev pub meaning_over : Arrays → Run → Meaning
-meaning_over m r = record { arrays = overlaid m r.changes; packets = set_in r.copies; reads = r.reads; writes = r.writes }
+-- what a run means that left the arrays m
+abbrev pub meaning_with : Arrays → Run → Meaning
+meaning_with m r = record { arrays = m; packets = set_in r.copies; reads = r.reads; writes = r.writes }
+
+-- ---- parts side by side, done one after the other: b began where a left the arrays
+abbrev pub after_both : Meaning → Meaning → Meaning
+after_both a b = record { arrays = b.arrays; packets = union a.packets b.packets; reads = bit_or a.reads b.reads; writes = bit_or a.writes b.writes }
+
+abbrev pub begun_behind : Meaning → Meaning → Option Meaning
+begun_behind a b = if clash a b then None else Some (after_both a b)

@@ -1,11 +1,9 @@
 //! Changes of a store that are not yet done in it.
 
-ghost use Rattle.std.specs.Prelude.{◌≡◌, ◌==◌, [], OnOk, OnErr, IfOk, Some, None, length, if◌then◌else◌};
-ghost use Rattle.snap_core.specs.Arrays.{Arrays, put, taken, update};
+ghost use Rattle.std.specs.Prelude.{◌≡◌, [], OnOk, length};
+ghost use Rattle.snap_core.specs.Arrays.{Arrays, put, update};
 ghost use Rattle.snap_core.specs.Cells.{arrays_of, held, overlaid};
 ghost use Rattle.snap_core.specs.Fits.{UpdateFits};
-ghost use Rattle.snap_core.specs.Variables.{has};
-ghost use Rattle.snap_core.specs.declared.place.Place.{Place};
 
 use crate::NoMemory;
 use crate::atoms::index_on;
@@ -20,7 +18,7 @@ use std::marker::Model;
 /// Numbers at places, which lie over a store: a place that was changed has its number here, and each other place
 /// the store's.
 #[derive(Drop)]
-pub struct Changes {
+pub(crate) struct Changes {
     alloc: Global,
     patches: BTreeMap<u16, Patch>,
 }
@@ -34,7 +32,7 @@ impl Model for Changes {
 }
 
 impl Changes {
-    pub fn new(alloc: Global) -> Changes
+    pub(crate) fn new(alloc: Global) -> Changes
         ensures { result ≡ [] }
     {
         Changes {
@@ -92,59 +90,6 @@ impl Changes {
             Op::Add(plus) => self.number(store, change.var, &index).wrapping_add(plus),
         };
         self.put(change.var, index, value)
-    }
-
-    pub(crate) fn copy(&self) -> Result<Changes, NoMemory>
-        ensures { (m : Arrays) → IfOk result (λ copy. overlaid m copy ≡ overlaid m self.now) }
-    {
-        let mut copy = Changes::new(self.alloc);
-        for var in self.patches.keys() {
-            copy.copy_array(self, *var)?;
-        }
-        Ok(copy)
-    }
-
-    // Makes the changes of one array as they are in other changes.
-    fn copy_array(&mut self, other: &Changes, var: u16) -> Result<(), NoMemory>
-        ensures { OnOk result ((p : Place) → held self.new p ≡ (if var == p.var then held other.now p else held self.old p)) }
-    {
-        match other.patches.get(&var) {
-            Some(patch) => {
-                self.patches.insert(var, patch.copy()?)?;
-            }
-            None => {
-                self.patches.remove(&var);
-            }
-        }
-        Ok(())
-    }
-
-    /// Takes the arrays of these variables from other changes of the same store.
-    pub(crate) fn take_arrays(&mut self, mut other: Changes, vars: u64) -> Result<(), NoMemory>
-        ensures { (m : Arrays) → OnOk result (overlaid m self.new ≡ taken (overlaid m self.old) (overlaid m other) vars) }
-    {
-        for var in 0..64u16 {
-            if (vars >> var) & 1 == 1 {
-                self.take_array(&mut other, var)?;
-            }
-        }
-        Ok(())
-    }
-
-    // Takes one array, which the other changes then don't have.
-    fn take_array(&mut self, other: &mut Changes, var: u16) -> Result<(), NoMemory>
-        ensures taken { OnOk result ((p : Place) → held self.new p ≡ (if var == p.var then held other.old p else held self.old p)) }
-        ensures left { OnOk result ((p : Place) → held other.new p ≡ (if var == p.var then None else held other.old p)) }
-    {
-        match other.patches.remove(&var) {
-            Some(patch) => {
-                self.patches.insert(var, patch)?;
-            }
-            None => {
-                self.patches.remove(&var);
-            }
-        }
-        Ok(())
     }
 
     /// The changes of each variable.

@@ -39,13 +39,6 @@ impl Patch {
         self.cells.get(index).copied()
     }
 
-    pub(crate) fn copy(&self) -> Result<Patch, NoMemory>
-        ensures { IfOk result (λ copy. copy ≡ self.now) }
-    {
-        let cells = self.cells.clone()?;
-        Ok(Patch { cells })
-    }
-
     /// Puts a number into the cell at an index, which is made where there is none.
     pub(crate) fn put(&mut self, index: Vec<u64>, value: u64) -> Result<(), NoMemory>
         ensures ok { OnOk result ((q : List ℕ) → cell self.new q ≡ (if bytes_eq index.items q then Some value else cell self.old q)) }

@@ -1,22 +1,19 @@
-//! What an evaluation over a store gives.
+//! What an evaluation in place gives.
 
 ghost use Rattle.std.specs.Prelude.{◌≡◌, IfOk, Some, None, Err};
 ghost use Rattle.snap_core.specs.Arrays.{Arrays};
-ghost use Rattle.snap_core.specs.Cells.{overlaid};
 ghost use Rattle.snap_core.specs.Packets.{no_packets};
-ghost use Rattle.snap_core.specs.Meaning.{Meaning, beside, clash, joined, logged};
-ghost use Rattle.snap_core.specs.Runs.{meaning_over};
+ghost use Rattle.snap_core.specs.Meaning.{Meaning, clash, logged};
+ghost use Rattle.snap_core.specs.Runs.{after_both, begun_behind, meaning_with};
 
 use crate::NoMemory;
-use crate::changes::Changes;
 use crate::copies::Copies;
 use crate::outcome::EvalFault;
 use std::alloc::Global;
 
-/// The changes of the store and the packets, and the variables that were read and written, a bit each.
+/// The packets, and the variables that were read and written, a bit each.
 #[derive(Drop)]
 pub struct Run {
-    pub changes: Changes,
     pub copies: Copies,
     pub reads: u64,
     pub writes: u64,
@@ -24,11 +21,10 @@ pub struct Run {
 
 impl Run {
     /// Nothing was done, and no packet goes on.
-    pub(crate) fn blank(alloc: Global, changes: Changes) -> Run
-        ensures { (m : Arrays) → meaning_over m result ≡ record { arrays = overlaid m changes; packets = no_packets; reads = 0; writes = 0 } }
+    pub(crate) fn blank(alloc: Global) -> Run
+        ensures { (m : Arrays) → meaning_with m result ≡ record { arrays = m; packets = no_packets; reads = 0; writes = 0 } }
     {
         Run {
-            changes,
             copies: Copies::none(alloc),
             reads: 0,
             writes: 0,
@@ -37,16 +33,16 @@ impl Run {
 
     // Whether one writes what the other reads or writes.
     fn clashes(&self, other: &Run) -> bool
-        ensures { (m : Arrays) → result ≡ clash (meaning_over m self.now) (meaning_over m other.now) }
+        ensures { (m n : Arrays) → result ≡ clash (meaning_with m self.now) (meaning_with n other.now) }
     {
         self.writes & (other.reads | other.writes) != 0
             || other.writes & (self.reads | self.writes) != 0
     }
 
-    /// Both side by side, begun from the same changes. It is undefined where they clash.
+    /// This and another that began where this one left the arrays. It is undefined where they clash.
     pub(crate) fn beside(self, alloc: Global, other: Run) -> Result<Run, EvalFault>
-        ensures ok { (m : Arrays) → IfOk result (λ both. beside (Some (meaning_over m self)) (Some (meaning_over m other)) ≡ Some (meaning_over m both)) }
-        ensures undefined { (m : Arrays) → result ≡ Err EvalFault.Undefined → beside (Some (meaning_over m self)) (Some (meaning_over m other)) ≡ None }
+        ensures ok { (m n : Arrays) → IfOk result (λ both. begun_behind (meaning_with m self) (meaning_with n other) ≡ Some (meaning_with n both)) }
+        ensures undefined { (m n : Arrays) → result ≡ Err EvalFault.Undefined → begun_behind (meaning_with m self) (meaning_with n other) ≡ None }
     {
         if self.clashes(&other) {
             return Err(EvalFault::Undefined);
@@ -56,12 +52,9 @@ impl Run {
 
     // Both, which don't clash.
     fn join(self, alloc: Global, other: Run) -> Result<Run, NoMemory>
-        ensures { (m : Arrays) → IfOk result (λ both. meaning_over m both ≡ joined (meaning_over m self) (meaning_over m other)) }
+        ensures { (m n : Arrays) → IfOk result (λ both. meaning_with n both ≡ after_both (meaning_with m self) (meaning_with n other)) }
     {
-        let mut changes = self.changes;
-        changes.take_arrays(other.changes, other.writes)?;
         Ok(Run {
-            changes,
             copies: self.copies.join(alloc, other.copies)?,
             reads: self.reads | other.reads,
             writes: self.writes | other.writes,
@@ -70,10 +63,9 @@ impl Run {
 
     /// The run with more variables read and written.
     pub(crate) fn logged(self, reads: u64, writes: u64) -> Run
-        ensures { (m : Arrays) → meaning_over m result ≡ logged reads writes (meaning_over m self) }
+        ensures { (m : Arrays) → meaning_with m result ≡ logged reads writes (meaning_with m self) }
     {
         Run {
-            changes: self.changes,
             copies: self.copies,
             reads: reads | self.reads,
             writes: writes | self.writes,

@@ -6,19 +6,20 @@ ghost use Rattle.std.specs.List.Sorted.{IsStrictlySortedBy};
 ghost use Rattle.std.specs.Map.{keys_of};
 ghost use Rattle.std.specs.Ordering.{nat_cmp};
 ghost use Rattle.snap_core.specs.declared.place.Place.{Place};
-ghost use Rattle.snap_core.specs.Arrays.{updates, put, zero_arrays};
+ghost use Rattle.snap_core.specs.Arrays.{update, updates, put, zero_arrays};
 ghost use Rattle.snap_core.specs.Cells.{cell, arrays_of, overlaid, changed_at, room_at};
 ghost use Rattle.snap_core.specs.Fits.{UpdateFits};
 ghost use Rattle.snap_core.specs.Listing.{IsListing, entries_of};
 
 use crate::NoMemory;
 use crate::array::Array;
+use crate::atoms::index_on;
 use crate::changes::Changes;
 use crate::lists::Index;
 use crate::packet::Packet;
 use crate::patch::Patch;
 use crate::place::{Entry, Place};
-use crate::policy::Update;
+use crate::policy::{Op, Update};
 use std::alloc::Global;
 use std::collections::BTreeMap;
 use std::marker::Model;
@@ -106,6 +107,18 @@ impl Store {
         self.put(var, index, sum)
     }
 
+    /// Does one update.
+    pub(crate) fn update(&mut self, packet: &Packet, change: &Update) -> Result<(), NoMemory>
+        requires { UpdateFits (length packet.now) 64 change.now }
+        ensures { OnOk result (arrays_of self.new ≡ update (arrays_of self.old) change.now packet.now) }
+    {
+        let index = index_on(self.alloc, &change.index, packet)?;
+        match change.op {
+            Op::Put(atom) => self.put(change.var, &index, atom.value(packet)),
+            Op::Add(plus) => self.add(change.var, &index, plus),
+        }
+    }
+
     /// Does all updates in order, or none.
     pub fn apply(&mut self, packet: &Packet, changes: &[Update]) -> Result<(), NoMemory>
         requires { All (UpdateFits (length packet.now) 64) changes.now }
@@ -128,8 +141,8 @@ impl Store {
         Ok(done)
     }
 
-    /// Does all changes, or none.
-    pub fn apply_changes(&mut self, changes: Changes) -> Result<(), NoMemory>
+    // Does all changes, or none.
+    fn apply_changes(&mut self, changes: Changes) -> Result<(), NoMemory>
         ensures ok { OnOk result (arrays_of self.new ≡ overlaid (arrays_of self.old) changes) }
         ensures err { OnErr result (arrays_of self.new ≡ arrays_of self.old) }
     {

@@ -1,4 +1,3 @@
-use crate::changes::Changes;
 use crate::eval::{eval, run};
 use crate::lists::Atoms;
 use crate::outcome::EvalFault;
@@ -196,18 +195,15 @@ fn pending(alloc: Global) -> Result<Pol, AllocError> {
 fn a_pending_update_is_seen_by_a_later_test(rt: HostRuntime) -> Result<(), Fail> {
     let alloc = rt.alloc();
     let body = pending(alloc)?;
-    let store = Store::new(alloc);
+    let mut store = Store::new(alloc);
     let packet = Packet::new(vec![in alloc; 7, 0, 7, u64::MAX]?);
     assert!(rt; body.fits(packet.comps().len(), 64));
-    let changes = Changes::new(alloc);
-    match run(alloc, &body, &store, changes, packet.copy()?) {
+    match run(alloc, &body, &mut store, packet) {
         Ok(done) => {
-            let mut after = store.copy()?;
-            after.apply_changes(done.changes)?;
             let packets = done.copies.into_set(alloc)?;
             assert!(rt; packets.list().len() == 1);
             assert!(rt; packets.list()[0].comps() == [7, 1, 7, u64::MAX].as_slice());
-            assert!(rt; after.get(0, &[7]) == 0 && after.entries()?.is_empty());
+            assert!(rt; store.get(0, &[7]) == 0 && store.entries()?.is_empty());
             assert!(rt; done.reads == 1 && done.writes == 1);
         }
         Err(_) => assert!(rt; false),

@@ -1,7 +1,7 @@
 use Rattle.std.proofs.Common.{◌≡◌, ◌≤◌, refl, true, false, cond, length, ap, sym, subst, ◌∙◌, rules, arith, bit_or}
 use Rattle.std.specs.Prelude.{option_map}
 use Rattle.snap_core.specs.declared.policy.Pol.{size-Pol, the_lemmas}
-use Rattle.snap_core.specs.Cells.{arrays_of, overlaid}
+use Rattle.snap_core.specs.Cells.{arrays_of}
 use Rattle.snap_core.specs.Fits.{PolFits}
 use Rattle.snap_core.specs.Meaning.{eval, truth, vars_of, logged}
 use Rattle.snap_core.proofs.FitLemmas.{VarsBelow-fits}
@@ -18,7 +18,7 @@ read_by-reads-requires c = let n = length c.args.packet.now in VarsBelow-fits n 
 
 pub loop-pol-preserved-then-branch : goal.loop-pol-preserved-then-branch
 loop-pol-preserved-then-branch c =
-    let b = overlaid (arrays_of c.args.store.now) c.args.changes.now in let k = c.args.packet.now in let n = length k in
+    let b = arrays_of c.args.store.now in let k = c.args.packet.now in let n = length k in
     let x = c.in-If.test in let yes = c.in-If.yes.value in let no = c.in-If.no.value in let r = c.loop-pol.reads in
     let next = sym c.deref-pol.ensures in
     let decided : truth x b k ≡ true = sym c.in_ok-holds.ensures ∙ c.if-branch.true in
@@ -38,7 +38,7 @@ loop-pol-preserved-then-branch c =
 
 pub loop-pol-preserved : goal.loop-pol-preserved
 loop-pol-preserved c =
-    let b = overlaid (arrays_of c.args.store.now) c.args.changes.now in let k = c.args.packet.now in let n = length k in
+    let b = arrays_of c.args.store.now in let k = c.args.packet.now in let n = length k in
     let x = c.in-If.test in let yes = c.in-If.yes.value in let no = c.in-If.no.value in let r = c.loop-pol.reads in
     let next = sym c.deref-pol-else-branch.ensures in
     let decided : truth x b k ≡ false = sym c.in_ok-holds.ensures ∙ c.if-branch.false in
