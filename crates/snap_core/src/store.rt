@@ -6,19 +6,20 @@ ghost use Rattle.std.specs.List.Sorted.{IsStrictlySortedBy};
 ghost use Rattle.std.specs.Map.{keys_of};
 ghost use Rattle.std.specs.Ordering.{nat_cmp};
 ghost use Rattle.snap_core.specs.declared.place.Place.{Place};
-ghost use Rattle.snap_core.specs.Arrays.{updates, put, zero_arrays};
+ghost use Rattle.snap_core.specs.Arrays.{update, updates, put, zero_arrays};
 ghost use Rattle.snap_core.specs.Cells.{cell, arrays_of, overlaid, changed_at, room_at};
 ghost use Rattle.snap_core.specs.Fits.{UpdateFits};
 ghost use Rattle.snap_core.specs.Listing.{IsListing, entries_of};
 
 use crate::NoMemory;
 use crate::array::Array;
+use crate::atoms::index_on;
 use crate::changes::Changes;
 use crate::lists::Index;
 use crate::packet::Packet;
 use crate::patch::Patch;
 use crate::place::{Entry, Place};
-use crate::policy::Update;
+use crate::policy::{Op, Update};
 use std::alloc::Global;
 use std::collections::BTreeMap;
 use std::marker::Model;
@@ -102,8 +103,25 @@ impl Store {
         ensures ok { OnOk result (let p : Place = record { var = var; index = index.now } in arrays_of self.new ≡ put (arrays_of self.old) p ((arrays_of self.old p + value) % 2 ^ 64)) }
         ensures err { OnErr result (arrays_of self.new ≡ arrays_of self.old) }
     {
-        let sum = self.get(var, index).wrapping_add(value);
-        self.put(var, index, sum)
+        if let Some(array) = self.arrays.get_mut(&var) {
+            return array.add(index, value);
+        }
+        let mut array = Array::new(self.alloc);
+        array.add(index, value)?;
+        self.arrays.insert(var, array)?;
+        Ok(())
+    }
+
+    /// Does one update.
+    pub(crate) fn update(&mut self, packet: &Packet, change: &Update) -> Result<(), NoMemory>
+        requires { UpdateFits (length packet.now) 64 change.now }
+        ensures { OnOk result (arrays_of self.new ≡ update (arrays_of self.old) change.now packet.now) }
+    {
+        let index = index_on(self.alloc, &change.index, packet)?;
+        match change.op {
+            Op::Put(atom) => self.put(change.var, &index, atom.value(packet)),
+            Op::Add(plus) => self.add(change.var, &index, plus),
+        }
     }
 
     /// Does all updates in order, or none.
