@@ -1,6 +1,6 @@
 //! One array of a store.
 
-ghost use Rattle.std.specs.Prelude.{◌≡◌, ◌<◌, ◌≤◌, ◌+◌, [], List, ℕ, OnOk, OnErr, IfOk, IsOk, Some, length, unwrap_or, if◌then◌else◌};
+ghost use Rattle.std.specs.Prelude.{◌≡◌, ◌<◌, ◌≤◌, ◌+◌, ◌%◌, ◌^◌, [], List, ℕ, OnOk, OnErr, IfOk, IsOk, Some, length, unwrap_or, if◌then◌else◌};
 ghost use Rattle.std.specs.Str.{bytes_eq};
 ghost use Rattle.snap_core.specs.Cells.{cell, cells_of, either};
 ghost use Rattle.std.specs.HashMap.{spare};
@@ -62,6 +62,20 @@ impl Array {
     {
         if let Some(cell) = self.cells.get_mut(index) {
             *cell = value;
+            return Ok(());
+        }
+        let key = Vec::from_slice(self.alloc, index)?;
+        self.cells.insert(key, value)?;
+        Ok(())
+    }
+
+    /// Adds to the number in the cell at an index, modulo 2^64; a cell that is made holds 0 before.
+    pub(crate) fn add(&mut self, index: &[u64], value: u64) -> Result<(), NoMemory>
+        ensures ok { OnOk result ((q : List ℕ) → cell self.new.0 q ≡ (if bytes_eq index.now q then Some ((unwrap_or (cell self.old.0 index.now) 0 + value) % 2 ^ 64) else cell self.old.0 q)) }
+        ensures err { OnErr result (self.new.0 ≡ self.old.0) }
+    {
+        if let Some(cell) = self.cells.get_mut(index) {
+            *cell = cell.wrapping_add(value);
             return Ok(());
         }
         let key = Vec::from_slice(self.alloc, index)?;

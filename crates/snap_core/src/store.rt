@@ -103,8 +103,25 @@ impl Store {
         ensures ok { OnOk result (let p : Place = record { var = var; index = index.now } in arrays_of self.new ≡ put (arrays_of self.old) p ((arrays_of self.old p + value) % 2 ^ 64)) }
         ensures err { OnErr result (arrays_of self.new ≡ arrays_of self.old) }
     {
-        let sum = self.get(var, index).wrapping_add(value);
-        self.put(var, index, sum)
+        if let Some(array) = self.arrays.get_mut(&var) {
+            return array.add(index, value);
+        }
+        let mut array = Array::new(self.alloc);
+        array.add(index, value)?;
+        self.arrays.insert(var, array)?;
+        Ok(())
+    }
+
+    /// Does one update.
+    pub(crate) fn update(&mut self, packet: &Packet, change: &Update) -> Result<(), NoMemory>
+        requires { UpdateFits (length packet.now) 64 change.now }
+        ensures { OnOk result (arrays_of self.new ≡ update (arrays_of self.old) change.now packet.now) }
+    {
+        let index = index_on(self.alloc, &change.index, packet)?;
+        match change.op {
+            Op::Put(atom) => self.put(change.var, &index, atom.value(packet)),
+            Op::Add(plus) => self.add(change.var, &index, plus),
+        }
     }
 
     /// Does one update.
