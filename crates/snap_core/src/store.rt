@@ -124,18 +124,6 @@ impl Store {
         }
     }
 
-    /// Does one update.
-    pub(crate) fn update(&mut self, packet: &Packet, change: &Update) -> Result<(), NoMemory>
-        requires { UpdateFits (length packet.now) 64 change.now }
-        ensures { OnOk result (arrays_of self.new ≡ update (arrays_of self.old) change.now packet.now) }
-    {
-        let index = index_on(self.alloc, &change.index, packet)?;
-        match change.op {
-            Op::Put(atom) => self.put(change.var, &index, atom.value(packet)),
-            Op::Add(plus) => self.add(change.var, &index, plus),
-        }
-    }
-
     /// Does all updates in order, or none.
     pub fn apply(&mut self, packet: &Packet, changes: &[Update]) -> Result<(), NoMemory>
         requires { All (UpdateFits (length packet.now) 64) changes.now }
