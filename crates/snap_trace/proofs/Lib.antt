@@ -2,3 +2,4 @@ pub mod DraftLemmas
 pub mod WordLemmas
 pub mod RunLemmas
 pub mod StepLemmas
+pub mod TailLemmas

@@ -1,25 +1,23 @@
 -- How a run comes from one line to the next.
-use Rattle.std.proofs.Common.{◌≡◌, ℕ, ◌+◌, ◌-◌, ◌<◌, ◌≤◌, zero, suc, List, [], ◌∷◌, ◌++◌, Option, Some, None, Err, Ok, length, take, refl, sym, ap, subst, ◌∙◌, arith, append_assoc, append-nil}
+use Rattle.std.proofs.Common.{◌≡◌, ℕ, ◌+◌, ◌-◌, ◌<◌, zero, suc, List, [], ◌∷◌, ◌++◌, Option, Some, None, Err, Ok, take, refl, sym, ap, subst, ◌∙◌, arith, append_assoc, append-nil}
 use Rattle.std.specs.Option.{option_map_or}
 use Rattle.std.specs.Prelude.{MatchOption}
 use Rattle.std.specs.Io.KnownBytes.{Appends}
 use Rattle.std.proofs.KnownBytes.{Appends-nil, Appends-trans}
-use Rattle.std.proofs.Math.Seq.{take-append_seam}
 use Rattle.snap_core.specs.declared.program.Program.{Program}
 use Rattle.snap_core.specs.declared.program.Field.{Field}
 use Rattle.snap_core.specs.declared.place.Entry.{Entry}
 use Rattle.snap_core.specs.Arrays.{Arrays, zero_arrays}
 use Rattle.snap_core.specs.Listing.{IsListing}
 use Rattle.snap_core.specs.Meaning.{Meaning, eval}
-use Rattle.snap_io.specs.Lines.{Next, next_line, no_line, next_in}
+use Rattle.snap_io.specs.Lines.{next_in}
 use Rattle.snap_io.specs.Sinks.{AppendsPart}
 use Rattle.snap_io.proofs.SinksLemmas.{part_of_pair}
 use Rattle.snap_trace.specs.declared.fault.TraceFault.{TraceFault}
 use Rattle.snap_trace.specs.declared.fault.TraceFault.TheVariants.{Undefined}
-use Rattle.snap_trace.specs.OneSwitch.{Ending, blocks_from, blocks_of, ending_from, ending_of, IsTailFrom, IsTailOf}
-use Rattle.snap_trace.specs.PacketLines.{Said, skip, inject, bad, said_by}
+use Rattle.snap_trace.specs.OneSwitch.{AppendsSome, blocks_from, blocks_of, ending_from, ending_of, IsTailFrom, IsTailOf}
 use Rattle.snap_trace.specs.Reports.{block, end_text}
-use Rattle.snap_trace.specs.Spelled.{Stop, ended, refused, Spelled, stops, with_said, with_next, after_last, spelled_from}
+use Rattle.snap_trace.specs.Spelled.{ended, refused, Spelled, stops, with_next, after_last, spelled_from}
 use Rattle.snap_trace.specs.Steps.{Waits, Comes, left_at}
 
 -- the lines from one that may come
@@ -52,6 +50,27 @@ waits-written a b c text waiting w p = record {
   taken = Appends-trans a b c w.front waiting w.taken p;
   whole = w.whole ∙ sym (append-nil (w.front ++ waiting));
 }
+
+-- nothing was written of what waits
+pub waits-first : (a : Option (List ℕ)) (waiting : List ℕ) → Waits a a waiting waiting
+waits-first a waiting = record { front = []; taken = Appends-nil a; whole = refl }
+
+-- more was put behind what waits, and a first part of both was written
+pub waits-then : (a b c : Option (List ℕ)) (text waiting more now : List ℕ) → Waits a b text waiting → Waits b c (waiting ++ more) now → Waits a c (text ++ more) now
+waits-then a b c text waiting more now v w = record {
+  front = v.front ++ w.front;
+  taken = Appends-trans a b c v.front w.front v.taken w.taken;
+  whole =
+      ap (λ l. l ++ more) v.whole ∙ append_assoc v.front waiting more ∙ ap (λ l. v.front ++ l) w.whole
+      ∙ sym (append_assoc v.front w.front now);
+}
+
+-- more was put behind what waits, and some first bytes of both were written
+pub waits-part : (a b c : Option (List ℕ)) (text waiting more : List ℕ) → Waits a b text waiting → AppendsPart b c (waiting ++ more) → AppendsPart a c (text ++ more)
+waits-part a b c text waiting more v part =
+    let whole : text ++ more ≡ v.front ++ ((waiting ++ more) ++ []) =
+    ap (λ l. l ++ more) v.whole ∙ append_assoc v.front waiting more ∙ ap (λ l. v.front ++ l) (sym (append-nil (waiting ++ more))) in
+    part_of_pair a c v.front (waiting ++ more) [] (text ++ more) whole part.0 (Appends-trans a b c v.front (take part.0 (waiting ++ more)) v.taken part.1)
 
 -- more text waits
 waits-more : (a b : Option (List ℕ)) (text waiting more now : List ℕ) → now ≡ waiting ++ more → Waits a b text waiting → Waits a b (text ++ more) now
@@ -106,14 +125,31 @@ module _ (program : Program) (file : List ℕ) (start : Option (List ℕ)) where
           ([], c.tail [] (subst (λ s. IsTailFrom program m s.packets s.stop []) (sym e) refl), waits-same start now c.done (blocks_of program file ++ []) waiting waiting' (sym (append-nil (blocks_of program file) ∙ none)) same c.waits),
         )
 
-    pub comes-ended : (entries : List Entry) (waiting' : List ℕ) → left_at program file read at ≡ stops ended → IsListing m entries → waiting' ≡ waiting ++ end_text program.vars entries
-        → (Ok tt ≡ ending_of program file) × ((tail : List ℕ) × IsTailOf program file tail × Waits start now (blocks_of program file ++ tail) waiting')
-    comes-ended entries waiting' e listing more =
+    -- nothing is left
+    all_blocks : left_at program file read at ≡ stops ended → blocks_of program file ≡ c.done
+    all_blocks e = c.blocks ∙ ap (λ s. c.done ++ blocks_from program number m s.packets) e ∙ append-nil c.done
+
+    ended-tail : (entries : List Entry) → left_at program file read at ≡ stops ended → IsListing m entries → IsTailOf program file (end_text program.vars entries)
+    ended-tail entries e listing =
         let tail = end_text program.vars entries in
-        let none : blocks_of program file ≡ c.done = c.blocks ∙ ap (λ s. c.done ++ blocks_from program number m s.packets) e ∙ append-nil c.done in (
+        c.tail tail (subst (λ s. IsTailFrom program m s.packets s.stop tail) (sym e) (entries, listing, refl))
+
+    -- the end of the report was put, and a first part of what waits was written
+    pub comes-ended : (then : Option (List ℕ)) (entries : List Entry) (waiting' : List ℕ) → left_at program file read at ≡ stops ended → IsListing m entries → Waits now then (waiting ++ end_text program.vars entries) waiting'
+        → (Ok tt ≡ ending_of program file) × ((tail : List ℕ) × IsTailOf program file tail × Waits start then (blocks_of program file ++ tail) waiting')
+    comes-ended then entries waiting' e listing more =
+        let tail = end_text program.vars entries in
+        let all = waits-then start now then c.done waiting tail waiting' c.waits more in (
           sym (c.ending ∙ ap (λ s. ending_from program number m s.packets s.stop) e),
-          (tail, c.tail tail (subst (λ s. IsTailFrom program m s.packets s.stop tail) (sym e) (entries, listing, refl)), waits-same start now (c.done ++ tail) (blocks_of program file ++ tail) waiting' waiting' (ap (λ l. l ++ tail) (sym none)) refl (waits-more start now c.done waiting tail waiting' more c.waits)),
+          (tail, ended-tail entries e listing, waits-same start then (c.done ++ tail) (blocks_of program file ++ tail) waiting' waiting' (ap (λ l. l ++ tail) (sym (all_blocks e))) refl all),
         )
+
+    -- the sink failed while the end of the report was put
+    pub comes-ended-part : (then : Option (List ℕ)) (entries : List Entry) → left_at program file read at ≡ stops ended → IsListing m entries → AppendsPart now then (waiting ++ end_text program.vars entries) → AppendsSome program file start then
+    comes-ended-part then entries e listing part =
+        let tail = end_text program.vars entries in
+        let some = waits-part start now then c.done waiting tail c.waits part in
+        (blocks_of program file ++ tail, (tail, ended-tail entries e listing, refl), subst (λ l. AppendsPart start then (l ++ tail)) (sym (all_blocks e)) some)
 
     -- a packet on which evaluation is undefined
     pub comes-undefined : (packet : List ℕ) (rest : Spelled) (waiting' : List ℕ) → left_at program file read at ≡ record { packets = packet ∷ rest.packets; stop = rest.stop } → eval program.body m packet ≡ None → waiting' ≡ waiting

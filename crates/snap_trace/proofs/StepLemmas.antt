@@ -1,5 +1,5 @@
 -- What one line makes of a run.
-use Rattle.std.proofs.Common.{Bool, ◌≡◌, ℕ, ◌+◌, ◌<◌, List, [], ◌++◌, Option, Some, None, IfSome, Err, Ok, true, false, take, refl, sym, ap, subst, ◌∙◌, inl, inr, append-nil}
+use Rattle.std.proofs.Common.{Bool, ◌≡◌, ℕ, ◌+◌, ◌<◌, List, [], ◌++◌, Option, Some, None, IfSome, Err, Ok, true, false, take, refl, sym, ap, subst, ◌∙◌, inr, append-nil}
 use Rattle.std.specs.Io.KnownBytes.{Appends}
 use Rattle.std.proofs.KnownBytes.{Appends-trans}
 use Rattle.snap_io.specs.Sinks.{AppendsPart}
@@ -17,10 +17,10 @@ use Rattle.snap_trace.specs.declared.fault.TraceFault.{TraceFault}
 use Rattle.snap_trace.specs.declared.fault.TraceFault.TheVariants.{Read, Write, Limit, Packets, Undefined, NoMemory}
 use Rattle.snap_trace.specs.declared.switch.Switch.{Switch}
 use Rattle.snap_trace.specs.PacketLines.{Said, skip, inject, bad, said_by}
-use Rattle.snap_trace.specs.Spelled.{Spelled, stops, refused, ended, with_said, with_next, after_last}
+use Rattle.snap_trace.specs.Spelled.{stops, refused, ended, with_said, with_next, after_last}
 use Rattle.snap_trace.specs.OneSwitch.{Ending, Meets, IsReport, blocks_of, ending_of, IsTailOf}
 use Rattle.snap_trace.specs.Steps.{Takes, Waits, ComesTo, ComesOn, Closes, PutsEnd, left_at, refusal_of, refusal_past_last, is_told}
-use Rattle.snap_trace.proofs.RunLemmas.{left_at-next, left_at-last, comes-nothing, comes-ended, comes-refused, comes-undefined, comes-skip, comes-packet}
+use Rattle.snap_trace.proofs.RunLemmas.{left_at-next, left_at-last, comes-nothing, comes-ended, comes-ended-part, comes-refused, comes-undefined, comes-skip, comes-packet}
 
 -- what holds of each file that a shelf may tell holds of the one that it tells
 pub where_told : (told : Option Files) (P Q : Files → Type 0) → ((files : Files) → P files → Q files) → IfSome told P → IfSome told Q
@@ -97,15 +97,15 @@ where_both_told None P Q R f h k = tt
 where_both_told (Some files) P Q R f h k = f files h k
 
 -- the end of the report is put where no line is left
-pub end-put : (program : Program) (file : List ℕ) (start now : Option (List ℕ)) (read at : ℕ) (old new : Switch) → ComesTo program file read at start now old
-    → left_at program file read at ≡ stops ended → (ending : Ending) → PutsEnd program old new ending → Closes program file ending start now new.text.items
-end-put program file start now read at old new came e (Ok u) put = comes-ended program file start read at now old.number (arrays_of old.store) old.text.items came put.0 new.text.items e put.1 put.2
-end-put program file start now read at old new came e (Err NoMemory) put = comes-nothing program file start read at now old.number (arrays_of old.store) old.text.items came
-end-put program file start now read at old new came e (Err Read) put = absurd put
-end-put program file start now read at old new came e (Err Write) put = absurd put
-end-put program file start now read at old new came e (Err (Limit which count)) put = absurd put
-end-put program file start now read at old new came e (Err (Packets line)) put = absurd put
-end-put program file start now read at old new came e (Err (Undefined packet)) put = absurd put
+pub end-put : (program : Program) (file : List ℕ) (start now then : Option (List ℕ)) (read at : ℕ) (old : Switch) (waiting : List ℕ) → ComesTo program file read at start now old
+    → left_at program file read at ≡ stops ended → (ending : Ending) → PutsEnd program old now then waiting ending → Closes program file ending start then waiting
+end-put program file start now then read at old waiting came e (Ok u) put = comes-ended program file start read at now old.number (arrays_of old.store) old.text.items came then put.0 waiting e put.1 put.2
+end-put program file start now then read at old waiting came e (Err NoMemory) put = subst (λ x. AppendsPart start x (blocks_of program file)) (sym put) (comes-nothing program file start read at now old.number (arrays_of old.store) old.text.items came)
+end-put program file start now then read at old waiting came e (Err Write) put = inr (comes-ended-part program file start read at now old.number (arrays_of old.store) old.text.items came then put.0 e put.1 put.2)
+end-put program file start now then read at old waiting came e (Err Read) put = absurd put
+end-put program file start now then read at old waiting came e (Err (Limit which count)) put = absurd put
+end-put program file start now then read at old waiting came e (Err (Packets line)) put = absurd put
+end-put program file start now then read at old waiting came e (Err (Undefined packet)) put = absurd put
 
 -- no line is left
 pub left_at-none : (program : Program) (file : List ℕ) (read at : ℕ) → read < 1000000 → next_in 67108864 65536 file at ≡ no_line → left_at program file read at ≡ stops ended
@@ -126,8 +126,8 @@ module _ (program : Program) (file : List ℕ) (start now : Option (List ℕ)) (
   past_last-fault lines LongLine is = too_many (last long_line is)
   past_last-fault lines ManyBytes is = too_many (last many_bytes is)
 
-  pub past_last-end : next_in 67108864 65536 file at ≡ no_line → (new : Switch) (ending : Ending) → PutsEnd program old new ending → Closes program file ending start now new.text.items
-  past_last-end is new ending put = end-put program file start now 1000000 at old new came (last no_line is) ending put
+  pub past_last-end : next_in 67108864 65536 file at ≡ no_line → (then : Option (List ℕ)) (waiting : List ℕ) (ending : Ending) → PutsEnd program old now then waiting ending → Closes program file ending start then waiting
+  past_last-end is then waiting ending put = end-put program file start now then 1000000 at old waiting came (last no_line is) ending put
 
 -- Where the run has come to its end, what waits is written.
 pub meets-written : (program : Program) (file : List ℕ) (start now then : Option (List ℕ)) (waiting now_waiting : List ℕ) (ending : Ending) → is_told ending ≡ true
@@ -155,7 +155,7 @@ pub meets-short : (program : Program) (file : List ℕ) (start now : Option (Lis
     → Closes program file ending start now waiting → Meets program file ending start now
 meets-short program file start now waiting (Ok u) t c = absurd (cc)
 meets-short program file start now waiting (Err Read) t c = c
-meets-short program file start now waiting (Err Write) t c = inl c
+meets-short program file start now waiting (Err Write) t c = c
 meets-short program file start now waiting (Err NoMemory) t c = c
 meets-short program file start now waiting (Err (Limit which count)) t c = absurd (cc)
 meets-short program file start now waiting (Err (Packets line)) t c = absurd (cc)
@@ -183,15 +183,15 @@ meets-failed program file start now then waiting ending told closed part = by_en
     by_ending (Err (Undefined packet)) t c = some (Err (Undefined packet)) c
 
 -- where a step finds no line, the end of the report that is put closes the run
-pub run-end : (program : Program) (told told' : Option Files) (name name' : List ℕ) (start now then : Option (List ℕ)) (read at at' : ℕ) (old mid new : Switch) (b : Bool) (ending : Ending)
+pub run-end : (program : Program) (told told' : Option Files) (name name' : List ℕ) (start now then last : Option (List ℕ)) (read at at' : ℕ) (old mid : Switch) (waiting : List ℕ) (b : Bool) (ending : Ending)
     → read < 1000000 → told' ≡ told → name' ≡ name → b ≡ false
     → IfSome told (λ files. ComesTo program (file_of files name) read at start now old)
     → IfSome told' (λ files. (from : Option (List ℕ)) → ComesTo program (file_of files name') read at from now old → ComesOn program (file_of files name') read at' from then mid (Ok b))
-    → PutsEnd program mid new ending → IfSome told (λ files. Closes program (file_of files name) ending start then new.text.items)
-run-end program told told' name name' start now then read at at' old mid new b ending more same called none came steps put =
+    → PutsEnd program mid then last waiting ending → IfSome told (λ files. Closes program (file_of files name) ending start last waiting)
+run-end program told told' name name' start now then last read at at' old mid waiting b ending more same called none came steps put =
     let Step : List ℕ → Files → Type 0 = λ n files. (from : Option (List ℕ)) → ComesTo program (file_of files n) read at from now old → ComesOn program (file_of files n) read at' from then mid (Ok b) in
-    where_both_told told (λ files. ComesTo program (file_of files name) read at start now old) (Step name) (λ files. Closes program (file_of files name) ending start then new.text.items)
+    where_both_told told (λ files. ComesTo program (file_of files name) read at start now old) (Step name) (λ files. Closes program (file_of files name) ending start last waiting)
     (λ files came step.
     let on = subst (λ x. ComesOn program (file_of files name) read at' start then mid (Ok x)) none (step start came) in
-    end-put program (file_of files name) start then read at' mid new on.0 (left_at-none program (file_of files name) read at' more on.1) ending put)
+    end-put program (file_of files name) start then last read at' mid waiting on.0 (left_at-none program (file_of files name) read at' more on.1) ending put)
     came (subst (λ o. IfSome o (Step name)) same (subst (λ n. IfSome told' (Step n)) called steps))

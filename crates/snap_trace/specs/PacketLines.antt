@@ -1,5 +1,5 @@
 -- What a line of a packets file says.
-use Rattle.std.specs.Prelude.{◌≡◌, ℕ, not, slice_get, ◌+◌, ◌-◌, ◌^◌, ◌/◌, ◌%◌, Bool, true, false, ◌==◌, ◌||◌, nat_le, if◌then◌else◌, List, [], ◌∷◌, filter, length, take, slice_set, replicate, bit_or, codes, Some, None, option_and_then, option_map}
+use Rattle.std.specs.Prelude.{◌≡◌, ℕ, not, slice_get, ◌-◌, ◌^◌, ◌/◌, ◌%◌, Bool, true, false, ◌==◌, ◌||◌, nat_le, if◌then◌else◌, List, [], ◌∷◌, filter, length, take, slice_set, replicate, bit_or, Some, None, option_and_then, option_map}
 use Rattle.std.specs.Option.{option_map_or}
 use Rattle.std.specs.declared.option.Option.{Option}
 use Rattle.snap_core.specs.declared.program.Field.{Field}

@@ -1,5 +1,5 @@
 -- What one line makes of a run, and how far a run has come.
-use Rattle.std.specs.Prelude.{◌≡◌, ℕ, ◌+◌, ◌-◌, Bool, true, false, List, ◌++◌, Result, Ok, Err, Some, None}
+use Rattle.std.specs.Prelude.{◌≡◌, ◌⊎◌, ℕ, ◌+◌, ◌-◌, Bool, true, false, List, ◌++◌, Result, Ok, Err, Some, None}
 use Rattle.std.specs.declared.option.Option.{Option}
 use Rattle.std.specs.Io.KnownBytes.{Appends}
 use Rattle.snap_core.specs.declared.program.Program.{Program}
@@ -16,7 +16,7 @@ use Rattle.snap_io.specs.Sinks.{AppendsPart}
 use Rattle.snap_trace.specs.declared.fault.TraceFault.{TraceFault}
 use Rattle.snap_trace.specs.declared.fault.TraceFault.TheVariants.{Read, Write, Limit, Packets, Undefined, NoMemory}
 use Rattle.snap_trace.specs.declared.switch.Switch.{Switch}
-use Rattle.snap_trace.specs.OneSwitch.{Ending, blocks_from, blocks_of, ending_from, ending_of, IsTailFrom, IsTailOf}
+use Rattle.snap_trace.specs.OneSwitch.{AppendsSome, Ending, blocks_from, blocks_of, ending_from, ending_of, IsTailFrom, IsTailOf}
 use Rattle.snap_trace.specs.PacketLines.{Said, skip, inject, bad}
 use Rattle.snap_trace.specs.Reports.{block, end_text}
 use Rattle.snap_trace.specs.Spelled.{Spelled, spelled_from}
@@ -56,6 +56,12 @@ pub record Waits (old new : Option (List ℕ)) (text waiting : List ℕ) : Type 
   pub taken : Appends old new front
   pub whole : text ≡ front ++ waiting
 
+-- More was put behind what waited: the sink has taken a first part of both, and the rest waits. Or the sink failed, and
+-- has taken some first bytes of both.
+abbrev pub Puts : {E : Type 0} → (old new : Option (List ℕ)) → (waiting more : List ℕ) → Result (Unit {0}) E → (now_waiting : List ℕ) → Type 0
+Puts old new waiting more (Ok u) now_waiting = Waits old new (waiting ++ more) now_waiting
+Puts old new waiting more (Err e) now_waiting = AppendsPart old new (waiting ++ more)
+
 -- the packets that are left, and why reading stops, where `read` lines are taken, up to the place `at`
 abbrev pub left_at : Program → (file : List ℕ) → (read at : ℕ) → Spelled
 left_at program file read at = spelled_from program.fields file (1000000 - read) (read + 1) at
@@ -72,11 +78,12 @@ pub record Comes (program : Program) (file : List ℕ) (read at : ℕ) (old new 
 abbrev pub ComesTo : Program → (file : List ℕ) → (read at : ℕ) → (old new : Option (List ℕ)) → Switch → Type 0
 ComesTo program file read at old new switch = Comes program file read at old new switch.number (arrays_of switch.store) switch.text.items
 
--- The run has ended, and what is left of its text waits. Or a device failed or memory was short.
+-- The run has ended, and what is left of its text waits. Or a device failed or memory was short; where the sink failed,
+-- perhaps when some of what stands behind the blocks had gone out.
 abbrev pub Closes : Program → (file : List ℕ) → Ending → Option (List ℕ) → Option (List ℕ) → List ℕ → Type 0
 Closes program file (Err Read) old new waiting = AppendsPart old new (blocks_of program file)
 Closes program file (Err NoMemory) old new waiting = AppendsPart old new (blocks_of program file)
-Closes program file (Err Write) old new waiting = AppendsPart old new (blocks_of program file)
+Closes program file (Err Write) old new waiting = AppendsPart old new (blocks_of program file) ⊎ AppendsSome program file old new
 Closes program file ending old new waiting = (ending ≡ ending_of program file) × ((tail : List ℕ) × IsTailOf program file tail × Waits old new (blocks_of program file ++ tail) waiting)
 
 -- The run has come one line on, or to the last line's end, or it has ended.
@@ -85,11 +92,12 @@ ComesOn program file read at old new switch (Ok true) = ComesTo program file (re
 ComesOn program file read at old new switch (Ok false) = ComesTo program file read at old new switch × (next_in 67108864 65536 file at ≡ no_line)
 ComesOn program file read at old new switch (Err fault) = Closes program file (Err fault) old new switch.text.items
 
--- the end of the report was put
-abbrev pub PutsEnd : Program → Switch → Switch → Ending → Type 0
-PutsEnd program old new (Ok u) = (entries : List Entry) × IsListing (arrays_of old.store) entries × (new.text.items ≡ old.text.items ++ end_text program.vars entries)
-PutsEnd program old new (Err NoMemory) = Unit {0}
-PutsEnd program old new (Err fault) = ⊥
+-- the end of the report was put behind what waited
+abbrev pub PutsEnd : Program → (switch : Switch) → (old new : Option (List ℕ)) → (waiting : List ℕ) → Ending → Type 0
+PutsEnd program switch old new waiting (Ok u) = (entries : List Entry) × IsListing (arrays_of switch.store) entries × Waits old new (switch.text.items ++ end_text program.vars entries) waiting
+PutsEnd program switch old new waiting (Err Write) = (entries : List Entry) × IsListing (arrays_of switch.store) entries × AppendsPart old new (switch.text.items ++ end_text program.vars entries)
+PutsEnd program switch old new waiting (Err NoMemory) = new ≡ old
+PutsEnd program switch old new waiting (Err fault) = ⊥
 
 -- why the line of this number isn't given
 abbrev pub refusal_of : LinesFault → ℕ → TraceFault

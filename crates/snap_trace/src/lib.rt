@@ -6,6 +6,7 @@ pub mod fault;
 pub mod line;
 pub mod report;
 pub mod switch;
+pub mod tail;
 #[cfg(test)]
 mod tests;
 pub mod words;

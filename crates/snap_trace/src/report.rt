@@ -3,14 +3,13 @@
 ghost use Rattle.std.specs.Prelude.{◌≡◌, ◌<◌, ◌≤◌, ◌+◌, ◌++◌, [], decimal, length, slice_get, unwrap_or, OnOk};
 ghost use Rattle.snap_core.specs.Fields.{PrefixFits, count, width};
 ghost use Rattle.snap_core.specs.Packets.{AllLong};
-ghost use Rattle.snap_trace.specs.Reports.{address_text, array_line, block, end_text, field_text, index_text, out_line, split_text, value_text};
+ghost use Rattle.snap_trace.specs.Reports.{address_text, block, field_text, out_line, split_text, value_text};
 
 use itoa::Buffer;
 use snap_core::NoMemory;
 use snap_core::lists::Names;
 use snap_core::packet::Packet;
 use snap_core::packets::Packets;
-use snap_core::place::Entry;
 use snap_core::program::{Field, Fields};
 
 // Puts a number in digits behind the buffer.
@@ -115,47 +114,12 @@ pub(crate) fn put_block(
     Ok(())
 }
 
-// Puts the numbers of an index.
-fn put_index(out: &mut Vec<u8>, index: &[u64]) -> Result<(), NoMemory>
-    ensures { OnOk result (out.new.items ≡ out.old.items ++ index_text index.now) }
-{
-    for number in index {
-        out.push(b' ')?;
-        put_number(out, *number)?;
-    }
-    Ok(())
-}
-
-// The name of an array, or nothing where no array has this number.
-fn name_at(names: &Names, var: u16) -> &[u8]
+/// The name of an array, or nothing where no array has this number.
+pub(crate) fn name_at(names: &Names, var: u16) -> &[u8]
     ensures { result.now ≡ unwrap_or (slice_get names.now var) [] }
 {
     match names.items().get(var as usize) {
         Some(name) => name.bytes(),
         None => &[],
     }
-}
-
-// Puts the line of a place that isn't 0.
-fn put_entry(out: &mut Vec<u8>, names: &Names, entry: &Entry) -> Result<(), NoMemory>
-    ensures { OnOk result (out.new.items ≡ out.old.items ++ array_line names.now entry.now) }
-{
-    out.extend_from_slice(b"array ")?;
-    out.extend_from_slice(name_at(names, entry.place.var))?;
-    put_index(out, entry.place.index.list())?;
-    out.extend_from_slice(b" = ")?;
-    put_number(out, entry.value)?;
-    out.push(b'\n')?;
-    Ok(())
-}
-
-/// Puts the end of a report: the places that aren't 0, and the last line.
-pub(crate) fn put_end(out: &mut Vec<u8>, names: &Names, entries: &[Entry]) -> Result<(), NoMemory>
-    ensures { OnOk result (out.new.items ≡ out.old.items ++ end_text names.now entries.now) }
-{
-    for entry in entries {
-        put_entry(out, names, entry)?;
-    }
-    out.extend_from_slice(b"end\n")?;
-    Ok(())
 }

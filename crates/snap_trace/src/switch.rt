@@ -18,7 +18,8 @@ ghost use Rattle.snap_trace.specs.Steps.{Closes, ComesOn, ComesTo, PutsEnd, Take
 
 use crate::fault::TraceFault;
 use crate::line::{Line, LineFault, read_line};
-use crate::report::{put_block, put_end};
+use crate::report::put_block;
+use crate::tail::{PIECE, put_end};
 use snap_core::changes::Changes;
 use snap_core::eval::run;
 use snap_core::outcome::EvalFault;
@@ -36,9 +37,6 @@ pub const MOST_LINE: usize = 65_536;
 
 /// The most lines of a packets file.
 pub const MOST_LINES: u64 = 1_000_000;
-
-// As many bytes wait at least before they are written while lines are at hand.
-const PIECE: usize = 65_536;
 
 /// A switch between two packets: its store, the number of the next packet, and the text that waits to be written.
 #[derive(Drop)]
@@ -209,7 +207,7 @@ impl Switch {
         self.before_read(lines, sink)?;
         match lines.next(shelf) {
             Ok(true) => Err(many_lines()),
-            Ok(false) => self.put_end(program),
+            Ok(false) => self.put_end(program, sink),
             Err(fault) => Err(refusal_past_last(fault)),
         }
     }
@@ -242,18 +240,20 @@ impl Switch {
     {
         for read in 0..MOST_LINES {
             if !self.step(alloc, shelf, lines, program, sink, read)? {
-                return self.put_end(program);
+                return self.put_end(program, sink);
             }
         }
         self.past_last(shelf, lines, program, sink)
     }
 
-    // Puts the end of the report behind the text.
-    fn put_end(&mut self, program: &Program) -> Result<(), TraceFault>
-        ensures { PutsEnd program.now self.old self.new result }
+    // Puts the end of the report behind the text, and writes pieces of both. It takes memory before it writes.
+    fn put_end<K: Sink>(&mut self, program: &Program, sink: &mut K) -> Result<(), TraceFault>
+        ensures puts { PutsEnd program.now self.old (K.taken sink.old) (K.taken sink.new) self.new.text.items result }
+        ensures write { IsErrOf result TraceFault.Write → Rose (K.faults sink.old) (K.faults sink.new) }
+        ensures sink_later { K.faults sink.old ≤ K.faults sink.new }
     {
         let entries = self.store.entries()?;
-        put_end(&mut self.text, &program.vars, &entries)?;
+        put_end(&mut self.text, sink, &program.vars, &entries)?;
         Ok(())
     }
 

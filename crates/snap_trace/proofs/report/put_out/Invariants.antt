@@ -1,4 +1,4 @@
-use Rattle.std.proofs.Common.{◌≡◌, ◌+◌, ◌++◌, drop, codes}
+use Rattle.std.proofs.Common.{◌≡◌, ◌+◌, ◌++◌, drop}
 use Rattle.snap_core.specs.Fields.{count}
 use Rattle.snap_trace.specs.Reports.{fields_text}
 use Rattle.snap_trace.proofs.report.put_out.Given as goal

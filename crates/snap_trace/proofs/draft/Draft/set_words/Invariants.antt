@@ -1,4 +1,4 @@
-use Rattle.std.proofs.Common.{◌≡◌, ◌≤◌, length, vec_len}
+use Rattle.std.proofs.Common.{◌≡◌, length, vec_len}
 use Rattle.snap_core.specs.Fields.{count}
 use Rattle.snap_trace.specs.Drafts.{draft_of}
 use Rattle.snap_trace.specs.PacketLines.{with_words, words_of}

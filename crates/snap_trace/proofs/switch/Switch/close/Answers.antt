@@ -1,6 +1,6 @@
-use Rattle.std.proofs.Common.{◌≡◌, false, true, sym, ◌∙◌}
+use Rattle.std.proofs.Common.{◌≡◌, true, sym, ◌∙◌}
 use Rattle.snap_trace.specs.Steps.{is_told}
-use Rattle.snap_trace.proofs.StepLemmas.{meets-written, meets-short, meets-failed}
+use Rattle.snap_trace.proofs.StepLemmas.{meets-written, meets-failed}
 use Rattle.snap_trace.proofs.switch.Switch.close.Goals as goal
 
 pub returns-in-Ok-clause-report : goal.returns-in-Ok-clause-report

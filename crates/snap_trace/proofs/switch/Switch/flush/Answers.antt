@@ -1,4 +1,4 @@
-use Rattle.std.proofs.Common.{[], refl, sym, subst, ◌∙◌}
+use Rattle.std.proofs.Common.{[], refl, subst}
 use Rattle.std.specs.Io.KnownBytes.{Appends}
 use Rattle.snap_trace.proofs.RunLemmas.{waits-written, waits-same}
 use Rattle.snap_trace.proofs.switch.Switch.flush.Goals as goal

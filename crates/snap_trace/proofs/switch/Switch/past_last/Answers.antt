@@ -1,4 +1,4 @@
-use Rattle.std.proofs.Common.{◌≡◌, ◌<◌, ◌+◌, Err, Ok, IfSome, false, true, ap, sym, subst, ◌∙◌}
+use Rattle.std.proofs.Common.{Err, Ok, inl, ap, sym, subst}
 use Rattle.std.proofs.lemmas.Result.{err_from_is_err_and}
 use Rattle.snap_core.specs.Cells.{arrays_of}
 use Rattle.snap_io.specs.Files.{file_of}
@@ -19,7 +19,7 @@ returns-in_err-before_read-clause-closes g c =
     let now = g.K.Sink.taken c.before_read.new.sink in
     let part = comes-part program file start 1000000 (lines_given c.args.lines.now) (g.K.Sink.taken c.args.sink.now) old.number (arrays_of old.store) old.text.items came now c.in_err-before_read.ensures.err in
     subst (λ r. Closes program file r start now c.before_read.new.self.text.items) (sym out.1)
-    (subst (λ e. Closes program file (Err e) start now c.before_read.new.self.text.items) (sym out.2) part))
+    (subst (λ e. Closes program file (Err e) start now c.before_read.new.self.text.items) (sym out.2) (inl part)))
 
 pub returns-in-Ok-true-clause-closes : goal.returns-in-Ok-true-clause-closes
 returns-in-Ok-true-clause-closes g c =
@@ -48,7 +48,7 @@ returns-in-Ok-false-clause-closes g c =
     let lines = c.next.new.self in
     let here = comes-written program file start 1000000 at (g.K.Sink.taken c.args.sink.now) old.number (arrays_of old.store) old.text.items came now mid.number (arrays_of mid.store) mid.text.items (c.in_ok-before_read.ensures.ok start) c.in_ok-before_read.ensures.number (ap arrays_of c.in_ok-before_read.ensures.store) in
     let none = subst (λ b. AnswersNext (next_in 67108864 65536 file at) lines (Ok b)) c.in-Ok-false.field-0-test (subst (λ x. AnswersNext x lines (Ok c.in-Ok-false.field-0)) (λ i. next_in (c.requires.limit i) (c.requires.most i) file at) next) in
-    past_last-end program file start now at mid here none c.put_end.new.self c.put_end.result c.put_end.ensures)
+    past_last-end program file start now at mid here none (g.K.Sink.taken c.put_end.new.sink) c.put_end.new.self.text.items c.put_end.result c.put_end.ensures.puts)
     c.in-Ok-false.ensures.next
 
 pub returns-in-Err-clause-closes : goal.returns-in-Err-clause-closes

@@ -6,6 +6,6 @@ pub returns-then-not-branch-clause-closes : goal.returns-then-not-branch-clause-
 returns-then-not-branch-clause-closes g c =
     let loop = c.loop-read in
     run-end c.args.program.now (g.S.Shelf.files c.args.shelf.now) (g.S.Shelf.files loop.shelf) (lines_name c.args.lines.now) (lines_name loop.lines)
-    (g.K.Sink.taken c.args.sink.now) (g.K.Sink.taken loop.sink) (g.K.Sink.taken c.step.new.sink) loop.read (lines_given loop.lines) (lines_given c.step.new.lines)
-    loop.self c.step.new.self c.put_end.new.self c.in_ok-step.field-0 c.put_end.result
-    c.loop-read-test.true loop.invariant.files loop.invariant.name c.if-not-branch.true loop.invariant.comes c.in_ok-step.ensures.comes c.put_end.ensures
+    (g.K.Sink.taken c.args.sink.now) (g.K.Sink.taken loop.sink) (g.K.Sink.taken c.step.new.sink) (g.K.Sink.taken c.put_end.new.sink) loop.read (lines_given loop.lines) (lines_given c.step.new.lines)
+    loop.self c.step.new.self c.put_end.new.self.text.items c.in_ok-step.field-0 c.put_end.result
+    c.loop-read-test.true loop.invariant.files loop.invariant.name c.if-not-branch.true loop.invariant.comes c.in_ok-step.ensures.comes c.put_end.ensures.puts

@@ -1,13 +1,11 @@
-use Rattle.std.proofs.Common.{◌≡◌, ◌+◌, Err, Ok, false, true, ap, sym, subst, refl, ◌∙◌}
+use Rattle.std.proofs.Common.{◌≡◌, ◌+◌, Err, Ok, inl, ap, sym, subst, ◌∙◌}
 use Rattle.std.proofs.lemmas.Result.{err_from_is_err_and}
 use Rattle.snap_core.specs.Cells.{arrays_of}
 use Rattle.snap_io.specs.Files.{file_of}
 use Rattle.snap_io.specs.LineReaders.{AnswersNext, lines_given, lines_line, lines_name}
 use Rattle.snap_io.specs.Lines.{next_in}
-use Rattle.snap_io.specs.declared.lines.LinesFault.{LinesFault}
-use Rattle.snap_io.specs.declared.lines.LinesFault.TheVariants.{Failed, LongLine, ManyBytes}
 use Rattle.snap_trace.specs.PacketLines.{said_by}
-use Rattle.snap_trace.specs.Steps.{Closes, ComesOn, ComesTo, Takes, refusal_of}
+use Rattle.snap_trace.specs.Steps.{Closes, ComesOn, ComesTo, Takes}
 use Rattle.snap_trace.proofs.RunLemmas.{comes-part, comes-written}
 use Rattle.snap_trace.proofs.StepLemmas.{where_told, whatever_told, line-taken, line-refused, fault-next}
 use Rattle.snap_trace.proofs.switch.Switch.step.Goals as goal
@@ -22,7 +20,7 @@ returns-in_err-before_read-clause-comes g c =
     let now = g.K.Sink.taken c.before_read.new.sink in
     let part = comes-part program file start c.args.read (lines_given c.args.lines.now) (g.K.Sink.taken c.args.sink.now) old.number (arrays_of old.store) old.text.items came now c.in_err-before_read.ensures.err in
     subst (ComesOn program file c.args.read (lines_given c.args.lines.now) start now c.before_read.new.self) (sym out.1)
-    (subst (λ e. Closes program file (Err e) start now c.before_read.new.self.text.items) (sym out.2) part))
+    (subst (λ e. Closes program file (Err e) start now c.before_read.new.self.text.items) (sym out.2) (inl part)))
 
 pub returns-in-Ok-clause-comes : goal.returns-in-Ok-clause-comes
 returns-in-Ok-clause-comes g c =
