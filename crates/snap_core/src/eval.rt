@@ -46,12 +46,7 @@ pub fn eval(alloc: Global, pol: &Pol, store: &Store, packet: &Packet) -> Result<
 /// Parts side by side begin one after the other, each where the one before left the store: a part that reads or writes
 /// what an earlier one wrote clashes with it, and any other doesn't see the difference.
 #[cycle(eval)]
-pub fn run(
-    alloc: Global,
-    pol: &Pol,
-    store: &mut Store,
-    packet: Packet,
-) -> Result<Run, EvalFault>
+pub fn run(alloc: Global, pol: &Pol, store: &mut Store, packet: Packet) -> Result<Run, EvalFault>
     requires { PolFits (length packet) 64 pol.now }
     ensures ok { IfOk result (λ r. eval pol.now (arrays_of store.old) packet ≡ Some (meaning_with (arrays_of store.new) r)) }
     ensures undefined { result ≡ Err EvalFault.Undefined → eval pol.now (arrays_of store.old) packet ≡ None }

@@ -20,7 +20,6 @@ use crate::fault::TraceFault;
 use crate::line::{Line, LineFault, read_line};
 use crate::report::put_block;
 use crate::tail::{PIECE, put_end};
-use snap_core::changes::Changes;
 use snap_core::eval::run;
 use snap_core::outcome::EvalFault;
 use snap_core::packet::Packet;
@@ -107,17 +106,10 @@ impl Switch {
         requires number { self.old.number < 2 ^ 63 }
         ensures { TakesPacket program.now packet self.old self.new result }
     {
-        match run(
-            alloc,
-            &program.body,
-            &self.store,
-            Changes::new(alloc),
-            packet,
-        ) {
+        match run(alloc, &program.body, &mut self.store, packet) {
             Ok(done) => {
                 let packets = done.copies.into_set(alloc)?;
                 put_block(&mut self.text, &program.fields, self.number, &packets)?;
-                self.store.apply_changes(done.changes)?;
                 self.number += 1;
                 Ok(())
             }

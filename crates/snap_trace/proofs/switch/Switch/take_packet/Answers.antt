@@ -1,9 +1,8 @@
 use Rattle.std.proofs.Common.{◌≡◌, ◌++◌, Some, length, subst, sym, ap, ◌∙◌, refl}
-use Rattle.snap_core.specs.Cells.{arrays_of, overlaid}
+use Rattle.snap_core.specs.Cells.{arrays_of}
 use Rattle.snap_core.specs.Fields.{count}
 use Rattle.snap_core.specs.Fits.{PolFits}
-use Rattle.snap_core.specs.Meaning.{eval}
-use Rattle.snap_core.specs.Runs.{meaning_over}
+use Rattle.snap_core.specs.Runs.{meaning_with}
 use Rattle.snap_core.proofs.FitLemmas.{PolFits-vars}
 use Rattle.snap_trace.specs.Reports.{block}
 use Rattle.snap_trace.proofs.switch.Switch.take_packet.Goals as goal
@@ -13,15 +12,14 @@ run-requires c =
     let program = c.args.program.now in
     subst (λ n. PolFits n 64 program.body) (sym c.requires.comps) (PolFits-vars (count program.fields) (length program.vars) 64 program.body c.requires.form.few c.requires.form.fits)
 
-pub returns-in_ok-apply_changes-in-Ok : goal.returns-in_ok-apply_changes-in-Ok
-returns-in_ok-apply_changes-in-Ok c =
+pub returns-in_ok-put_block-in-Ok : goal.returns-in_ok-put_block-in-Ok
+returns-in_ok-put_block-in-Ok c =
     let program = c.args.program.now in
     let old = c.args.self.now in
-    let m = arrays_of old.store in
     record {
-      outcome = meaning_over m c.in-Ok.done;
-      is = subst (λ b. eval program.body (overlaid m b) c.args.packet ≡ Some (meaning_over m c.in-Ok.done)) c.new.ensures c.in-Ok.ensures.ok;
-      arrays = c.in_ok-apply_changes-in-Ok.ensures.ok;
+      outcome = meaning_with (arrays_of c.run.new.store) c.in-Ok.done;
+      is = c.in-Ok.ensures.ok;
+      arrays = refl;
       text = c.in_ok-put_block-in-Ok.ensures ∙ ap (λ s. old.text.items ++ block program.fields old.number s) c.in_ok-packets-in-Ok.ensures;
       number = refl;
     }
