@@ -8,7 +8,7 @@ use Rattle.std.specs.Ordering.{nat_cmp}
 use Rattle.std.specs.Str.{bytes_eq}
 use Rattle.std.specs.Cmp.{unsigned_tied}
 use Rattle.std.specs.Cmp.Lexicographic.{nat_list_eq_equiv}
-use Rattle.std.proofs.lemmas.Bool.{cases_Bool, cond-true, cond-false, eqb-true, eqb-false, eq-eqb, ne_eqb}
+use Rattle.std.proofs.lemmas.Bool.{cases_Bool, eqb-true, eqb-false, eq-eqb}
 use Rattle.std.proofs.lemmas.Cmp.{nat_eq_equiv}
 use Rattle.std.proofs.lemmas.List.Elements.{All-nil, All-cons}
 use Rattle.snap_core.specs.declared.place.Place.{Place}
@@ -198,6 +198,3 @@ number-all (a ∷ m) vars indices p =
 -- ---- one cell
 pub entries_of-zero : (s : ℕ) (k : List ℕ) (v : ℕ) (cs : Cells) → v ≡ 0 → entries_of s ((k, v) ∷ cs) ≡ entries_of s cs
 entries_of-zero s k v cs e = ap (λ t. cond t (entries_of s cs) (entry s k v ∷ entries_of s cs)) (eq-eqb v 0 e)
-
-pub entries_of-cell : (s : ℕ) (k : List ℕ) (v : ℕ) (cs : Cells) → v ≢ 0 → entries_of s ((k, v) ∷ cs) ≡ entry s k v ∷ entries_of s cs
-entries_of-cell s k v cs ne = ap (λ t. cond t (entries_of s cs) (entry s k v ∷ entries_of s cs)) (ne_eqb v 0 ne)

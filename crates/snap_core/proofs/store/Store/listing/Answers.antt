@@ -1,4 +1,4 @@
-use Rattle.std.proofs.Common.{◌≡◌, ◌++◌, map, ap, sym, subst, ◌∙◌, append_assoc, rules, is_lt}
+use Rattle.std.proofs.Common.{◌++◌, map, ap, sym, subst, ◌∙◌, append_assoc, rules, is_lt}
 use Rattle.std.proofs.lemmas.List.{append-nil}
 use Rattle.std.proofs.lemmas.List.Sorted.{ranks_by}
 use Rattle.std.proofs.lemmas.Fn.{always_returns_same}
