@@ -1,15 +1,15 @@
 -- Cells in another order, and cells put one after another.
-use Rattle.std.proofs.Common.{◌≡◌, ℕ, ◌≤◌, Bool, true, false, cond, ◌||◌, List, [], ◌∷◌, Option, None, Some, map, length, refl, sym, ap, subst, ◌∙◌, ⊎_elim, arith}
+use Rattle.std.proofs.Common.{◌≡◌, ℕ, ◌≤◌, Bool, true, false, cond, ◌||◌, List, [], ◌∷◌, Option, None, Some, length, refl, sym, ap, subst, ◌∙◌, ⊎_elim, arith}
 use Rattle.std.specs.Prelude.{unwrap_or, nat_eq}
 use Rattle.std.specs.Global.{Vec}
-use Rattle.std.specs.List.{AllByRecursion, IsDistinct, Contains, list_any}
+use Rattle.std.specs.List.{AllByRecursion, IsDistinct, list_any}
 use Rattle.std.specs.List.Sorted.{IsPermutation, IsStrictlySortedBy}
 use Rattle.std.specs.Map.{lookup, keys_of}
 use Rattle.std.specs.Ordering.{nat_cmp}
 use Rattle.std.specs.Str.{bytes_eq}
 use Rattle.std.specs.BTreeMap.{is_at}
-use Rattle.std.specs.Cmp.{unsigned_tied}
-use Rattle.std.specs.Cmp.Lexicographic.{bytes_decides, nat_list_eq_equiv}
+use Rattle.std.specs.Cmp.{IsEquivalence, unsigned_tied}
+use Rattle.std.specs.Cmp.Lexicographic.{nat_list_eq_equiv}
 use Rattle.std.proofs.lemmas.Bool.{cases_Bool, cond-true, cond-false, eqb-true, eqb-false, ne_eqb}
 use Rattle.std.proofs.lemmas.List.Sorted.{IsPermutation-map, IsPermutation-sym, Contains-permutation}
 use Rattle.std.proofs.lemmas.Map.Keys.{IsDistinct-from_sorted, IsDistinct-IsPermutation}
@@ -19,6 +19,7 @@ use Rattle.snap_core.specs.declared.place.Place.{Place}
 use Rattle.snap_core.specs.Arrays.{Arrays}
 use Rattle.snap_core.specs.Cells.{Cells, Changed, cell, cells_of, either, changed_at, held, overlaid}
 use Rattle.snap_core.proofs.CellLemmas.{key_cmp, key_eq}
+use Rattle.snap_core.proofs.Places.{same_key}
 use Rattle.snap_core.proofs.StoreLemmas.{at-absent}
 
 -- ---- different keys
@@ -38,22 +39,21 @@ pub IsDistinct-vars : {X : Type 0} (es : List (ℕ × X)) → IsStrictlySortedBy
 IsDistinct-vars es h = subst (λ e. IsDistinct e (keys_of es)) (λ i x y. unsigned_tied x y i) (IsDistinct-from_sorted nat_cmp (keys_of es) h)
 
 -- ---- another order
-same_key : (x y : List ℕ) → bytes_eq x y ≡ true → x ≡ y
-same_key x y = (bytes_decides x y).0
-
-by_found : (es fs : Cells) (q : List ℕ) → ((v : ℕ) → cell es q ≡ Some v → cell fs q ≡ Some v) → ((v : ℕ) → cell fs q ≡ Some v → cell es q ≡ Some v) → (o p : Option ℕ) → cell es q ≡ o → cell fs q ≡ p → p ≡ o
-by_found es fs q there back None None e f = refl
-by_found es fs q there back None (Some v) e f = absurd (let no : None ≡ Some v = sym e ∙ back v f in cc)
-by_found es fs q there back (Some v) p e f = sym f ∙ there v e
+pub lookup-reordered : {K X : Type 0} {eq : K → K → Bool} → IsEquivalence eq → ((x y : K) → eq x y ≡ true → x ≡ y) → (es fs : List (K × X)) → IsPermutation es fs → IsDistinct eq (keys_of fs) → (q : K) → lookup (eq q) fs ≡ lookup (eq q) es
+lookup-reordered {K} {X} {eq} equiv exact es fs moved distinct q =
+    let back = IsPermutation-sym es fs moved in
+    let before : IsDistinct eq (keys_of es) = IsDistinct-IsPermutation eq equiv.symm (keys_of fs) (keys_of es) (IsPermutation-map (λ (e : K × X). e.0) fs es back) distinct in
+    by_found (lookup (eq q) es) (lookup (eq q) fs)
+    (λ v e. lookup-from_Contains equiv q v fs distinct (Contains-permutation es fs (q, v) moved (Contains-from_lookup exact q v es e)))
+    (λ v e. lookup-from_Contains equiv q v es before (Contains-permutation fs es (q, v) back (Contains-from_lookup exact q v fs e)))
+  where
+    by_found : (o p : Option X) → ((v : X) → o ≡ Some v → p ≡ Some v) → ((v : X) → p ≡ Some v → o ≡ Some v) → p ≡ o
+    by_found None None there back = refl
+    by_found None (Some v) there back = sym (back v refl)
+    by_found (Some v) p there back = there v refl
 
 pub cell-reordered : (es fs : Cells) → IsPermutation es fs → IsDistinct bytes_eq (keys_of fs) → (q : List ℕ) → cell fs q ≡ cell es q
-cell-reordered es fs moved distinct q =
-    let back = IsPermutation-sym es fs moved in
-    let before : IsDistinct bytes_eq (keys_of es) = IsDistinct-IsPermutation bytes_eq nat_list_eq_equiv.symm (keys_of fs) (keys_of es) (IsPermutation-map (λ (e : List ℕ × ℕ). e.0) fs es back) distinct in
-    by_found es fs q
-    (λ v e. lookup-from_Contains nat_list_eq_equiv q v fs distinct (Contains-permutation es fs (q, v) moved (Contains-from_lookup same_key q v es e)))
-    (λ v e. lookup-from_Contains nat_list_eq_equiv q v es before (Contains-permutation fs es (q, v) back (Contains-from_lookup same_key q v fs e)))
-    (cell es q) (cell fs q) refl refl
+cell-reordered es fs moved distinct q = lookup-reordered nat_list_eq_equiv same_key es fs moved distinct q
 
 -- ---- one cell after another
 cell-absent : (k : List ℕ) (cs : Cells) → AllByRecursion (λ y. bytes_eq k y ≡ false) (keys_of cs) → cell cs k ≡ None
@@ -76,7 +76,7 @@ cell-put k v rest distinct q old new is =
     (cases_Bool (bytes_eq k q))
 
 -- ---- one array after another
-unwrap-cond : {A : Type 0} (t : Bool) (x : A) (y : Option A) (d : A) → unwrap_or (cond t (Some x) y) d ≡ cond t x (unwrap_or y d)
+pub unwrap-cond : {A : Type 0} (t : Bool) (x : A) (y : Option A) (d : A) → unwrap_or (cond t (Some x) y) d ≡ cond t x (unwrap_or y d)
 unwrap-cond true x y d = refl
 unwrap-cond false x y d = refl
 
@@ -121,7 +121,3 @@ room-step v b r old new distinct fits kept s =
     let fit = fits s in let keep = kept s other in
     omega (arith, is, fit, keep))
     (cases_Bool (nat_eq v s))
-
-pub either-none : (o : Option ℕ) → either o None ≡ o
-either-none None = refl
-either-none (Some x) = refl

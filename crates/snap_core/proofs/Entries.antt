@@ -1,54 +1,47 @@
--- The entries of arrays, one array after another.
-use Rattle.std.proofs.Common.{◌≡◌, ◌≢◌, ℕ, Bool, true, false, cond, ◌&&◌, ◌||◌, List, [], ◌∷◌, ◌++◌, Option, None, Some, map, refl, sym, ap, subst, ◌∙◌, ⊎_elim}
+-- The entries of a store's arrays, one array after another.
+use Rattle.std.proofs.Common.{◌≡◌, ◌≢◌, ℕ, Bool, true, false, cond, List, [], ◌∷◌, ◌++◌, Some, map, refl, sym, ap, subst, ◌∙◌, ⊎_elim}
 use Rattle.std.specs.Prelude.{unwrap_or, nat_eq}
-use Rattle.std.specs.Global.{Vec}
-use Rattle.std.specs.List.{All, AllByRecursion, list_any}
-use Rattle.std.specs.List.Sorted.{IsStrictlySortedBy}
-use Rattle.std.specs.Map.{keys_of}
-use Rattle.std.specs.Ordering.{nat_cmp, ordering_then, is_eq}
+use Rattle.std.specs.List.{All, AllByRecursion, IsDistinct}
+use Rattle.std.specs.Map.{keys_of, lookup}
+use Rattle.std.specs.BTreeMap.{is_at}
+use Rattle.std.specs.Ordering.{nat_cmp}
 use Rattle.std.specs.Str.{bytes_eq}
-use Rattle.std.specs.Cmp.{unsigned_tied, tied_itself}
-use Rattle.std.proofs.lemmas.Cmp.{nat_cmp_total}
-use Rattle.std.specs.Cmp.Lexicographic.{slice_cmp, bytes_decides, nat_list_eq_equiv}
-use Rattle.std.specs.declared.cmp.Ordering.{Ordering}
-use Rattle.std.specs.declared.cmp.Ordering.TheVariants.{Less, Equal, Greater}
-use Rattle.std.proofs.lemmas.Bool.{cases_Bool, cond-true, cond-false, eqb-true, eqb-false, eq-eqb, ne_eqb, both_ways, and_left}
-use Rattle.std.proofs.lemmas.Map.Text.{is_eq-slice_cmp}
-use Rattle.std.proofs.lemmas.List.Elements.{All-nil, All-cons, All-append}
+use Rattle.std.specs.Cmp.{unsigned_tied}
+use Rattle.std.specs.Cmp.Lexicographic.{nat_list_eq_equiv}
+use Rattle.std.proofs.lemmas.Bool.{cases_Bool, eqb-true, eqb-false, eq-eqb}
+use Rattle.std.proofs.lemmas.Cmp.{nat_eq_equiv}
+use Rattle.std.proofs.lemmas.List.Elements.{All-nil, All-cons}
 use Rattle.snap_core.specs.declared.place.Place.{Place}
 use Rattle.snap_core.specs.declared.place.Entry.{Entry}
-use Rattle.snap_core.specs.Arrays.{Arrays, same_place}
-use Rattle.snap_core.specs.Cells.{Cells, cell, cells_of}
-use Rattle.snap_core.proofs.CellLemmas.{key_cmp}
-use Rattle.snap_core.specs.Listing.{place_cmp, number_in, entries_of}
+use Rattle.snap_core.specs.Arrays.{same_place}
+use Rattle.snap_core.specs.Cells.{Cells, Kept, cell, arrays_of}
+use Rattle.snap_core.specs.Listing.{number_in, entries_of}
+use Rattle.snap_core.proofs.Places.{same_key, same_place-itself, same_place-flips, apart-var, apart-index}
 
 abbrev pub places : List Entry → List Place
 places es = map (λ e. e.place) es
 
-pub same_key : (x y : List ℕ) → bytes_eq x y ≡ true → x ≡ y
-same_key x y = (bytes_decides x y).0
+-- the entry of one cell
+abbrev entry : ℕ → List ℕ → ℕ → Entry
+entry s k v = record { place = record { var = s; index = k }; value = v }
 
 -- ---- one list behind another
-sorted-append : (xs ys : List Place) → IsStrictlySortedBy place_cmp xs → IsStrictlySortedBy place_cmp ys → AllByRecursion (λ x. AllByRecursion (λ y. place_cmp x y ≡ Less) ys) xs → IsStrictlySortedBy place_cmp (xs ++ ys)
-unfolding IsStrictlySortedBy
-sorted-append [] ys a b below = b
-sorted-append (x ∷ xs) ys a b below = (both xs a.0 below.0, sorted-append xs ys a.1 b below.1)
-  where
-    both : (zs : List Place) → AllByRecursion (λ y. place_cmp x y ≡ Less) zs → AllByRecursion (λ y. place_cmp x y ≡ Less) ys → AllByRecursion (λ y. place_cmp x y ≡ Less) (zs ++ ys)
-    both [] h k = k
-    both (z ∷ zs) h k = (h.0, both zs h.1 k)
+both : {X : Type 0} (P : X → Type 0) (xs ys : List X) → AllByRecursion P xs → AllByRecursion P ys → AllByRecursion P (xs ++ ys)
+both P [] ys h k = k
+both P (x ∷ xs) ys h k = (h.0, both P xs ys h.1 k)
 
 places-append : (es fs : List Entry) → places (es ++ fs) ≡ places es ++ places fs
 places-append [] fs = refl
 places-append (e ∷ es) fs = ap (λ l. e.place ∷ l) (places-append es fs)
 
+IsDistinct-append : (ps qs : List Place) → IsDistinct same_place ps → IsDistinct same_place qs → AllByRecursion (λ p. AllByRecursion (λ q. same_place p q ≡ false) qs) ps → IsDistinct same_place (ps ++ qs)
+unfolding IsDistinct
+IsDistinct-append [] qs a b apart = b
+IsDistinct-append (p ∷ ps) qs a b apart = (both (λ q. same_place p q ≡ false) ps qs a.0 apart.0, IsDistinct-append ps qs a.1 b apart.1)
+
 -- no entry holds 0
 abbrev pub NoZero : List Entry → Type 0
 NoZero es = AllByRecursion (λ e. e.value ≢ 0) es
-
-NoZero-append : (es fs : List Entry) → NoZero es → NoZero fs → NoZero (es ++ fs)
-NoZero-append [] fs h k = k
-NoZero-append (e ∷ es) fs h k = (h.0, NoZero-append es fs h.1 k)
 
 pub All-NoZero : (es : List Entry) → NoZero es → All (λ e. e.value ≢ 0) es
 All-NoZero [] h = All-nil (λ (e : Entry). e.value ≢ 0)
@@ -68,59 +61,45 @@ number-later (e ∷ es) fs p some h =
     ] (λ z. number-later es fs p some.1 z) h
 
 -- ---- one array
-apart-var : (s : ℕ) (ix : List ℕ) (p : Place) → nat_eq s p.var ≡ false → same_place (record { var = s; index = ix }) p ≡ false
-apart-var s ix p h = and_left (nat_eq s p.var) _ h
-
 number-other : (s : ℕ) (cs : Cells) (p : Place) → nat_eq s p.var ≡ false → number_in (entries_of s cs) p ≡ 0
 number-other s [] p h = refl
 number-other s (c ∷ cs) p h =
-    elim (nat_eq c.1 0) as (λ t. number_in (cond t (entries_of s cs) (record { place = record { var = s; index = c.0 }; value = c.1 } ∷ entries_of s cs)) p ≡ 0) [
+    elim (nat_eq c.1 0) as (λ t. number_in (cond t (entries_of s cs) (entry s c.0 c.1 ∷ entries_of s cs)) p ≡ 0) [
       | true ↦ number-other s cs p h
       | false ↦ ap (λ t. cond t c.1 (number_in (entries_of s cs) p)) (apart-var s c.0 p h) ∙ number-other s cs p h
     ]
 
-apart_all : (k : List ℕ) (cs : Cells) → AllByRecursion (λ y. slice_cmp nat_cmp k y ≡ Less) (keys_of cs) → (s : ℕ) → number_in (entries_of s cs) (record { var = s; index = k }) ≡ 0
-apart_all k [] h s = refl
-apart_all k (c ∷ cs) h s =
-    let other : bytes_eq c.0 k ≡ false = nat_list_eq_equiv.symm c.0 k ∙ sym (is_eq-slice_cmp k c.0) ∙ ap is_eq h.0 in
-    let apart : same_place (record { var = s; index = c.0 }) (record { var = s; index = k }) ≡ false = ap (λ t. nat_eq s s && t) other ∙ and_right (nat_eq s s) in
-    elim (nat_eq c.1 0) as (λ t. number_in (cond t (entries_of s cs) (record { place = record { var = s; index = c.0 }; value = c.1 } ∷ entries_of s cs)) (record { var = s; index = k }) ≡ 0) [
-      | true ↦ apart_all k cs h.1 s
-      | false ↦ ap (λ t. cond t c.1 (number_in (entries_of s cs) (record { var = s; index = k }))) apart ∙ apart_all k cs h.1 s
+number-absent : (s : ℕ) (k : List ℕ) (cs : Cells) → AllByRecursion (λ y. bytes_eq k y ≡ false) (keys_of cs) → number_in (entries_of s cs) (record { var = s; index = k }) ≡ 0
+number-absent s k [] h = refl
+number-absent s k (c ∷ cs) h =
+    let apart = apart-index s c.0 (record { var = s; index = k }) (nat_list_eq_equiv.symm c.0 k ∙ h.0) in
+    elim (nat_eq c.1 0) as (λ t. number_in (cond t (entries_of s cs) (entry s c.0 c.1 ∷ entries_of s cs)) (record { var = s; index = k }) ≡ 0) [
+      | true ↦ number-absent s k cs h.1
+      | false ↦ ap (λ t. cond t c.1 (number_in (entries_of s cs) (record { var = s; index = k }))) apart ∙ number-absent s k cs h.1
     ]
-  where
-    and_right : (t : Bool) → (t && false) ≡ false
-    and_right true = refl
-    and_right false = refl
 
-number-here : (s : ℕ) (cs : Cells) (ix : List ℕ) → IsStrictlySortedBy (slice_cmp nat_cmp) (keys_of cs) → number_in (entries_of s cs) (record { var = s; index = ix }) ≡ unwrap_or (cell cs ix) 0
-unfolding IsStrictlySortedBy
-number-here s [] ix sorted = refl
-number-here s (c ∷ cs) ix sorted =
+number-here : (s : ℕ) (cs : Cells) (ix : List ℕ) → IsDistinct bytes_eq (keys_of cs) → number_in (entries_of s cs) (record { var = s; index = ix }) ≡ unwrap_or (cell cs ix) 0
+unfolding IsDistinct
+number-here s [] ix distinct = refl
+number-here s (c ∷ cs) ix distinct =
     let p : Place = record { var = s; index = ix } in
-    let next = number-here s cs ix sorted.1 in
+    let next = number-here s cs ix distinct.1 in
     ⊎_elim
     (λ same.
     let e : c.0 ≡ ix = same_key c.0 ix same in
     let found : unwrap_or (cell (c ∷ cs) ix) 0 ≡ c.1 = ap (λ t. unwrap_or (cond t (Some c.1) (cell cs ix)) 0) (nat_list_eq_equiv.symm ix c.0 ∙ same) in
-    let none : number_in (entries_of s cs) p ≡ 0 = subst (λ k. number_in (entries_of s cs) (record { var = s; index = k }) ≡ 0) e (apart_all c.0 cs sorted.0 s) in
-    zero_or (nat_eq c.1 0) c.1 (entries_of s cs) c.0 p refl none (ap (λ t. t && bytes_eq c.0 ix) (eq-eqb s s refl) ∙ same) ∙ sym found)
+    let none : number_in (entries_of s cs) p ≡ 0 = subst (λ k. number_in (entries_of s cs) (record { var = s; index = k }) ≡ 0) e (number-absent s c.0 cs distinct.0) in
+    zero_or (nat_eq c.1 0) c.1 (entries_of s cs) c.0 p refl none (subst (λ k. same_place (record { var = s; index = c.0 }) (record { var = s; index = k }) ≡ true) e (same_place-itself (record { var = s; index = c.0 }))) ∙ sym found)
     (λ other.
     let passed : unwrap_or (cell (c ∷ cs) ix) 0 ≡ unwrap_or (cell cs ix) 0 = ap (λ t. unwrap_or (cond t (Some c.1) (cell cs ix)) 0) (nat_list_eq_equiv.symm ix c.0 ∙ other) in
-    skipped (nat_eq c.1 0) c.1 (entries_of s cs) c.0 p (ap (λ t. nat_eq s s && t) other ∙ and_right (nat_eq s s)) ∙ next ∙ sym passed)
+    skipped (nat_eq c.1 0) c.1 (entries_of s cs) c.0 p (apart-index s c.0 p other) ∙ next ∙ sym passed)
     (cases_Bool (bytes_eq c.0 ix))
   where
-    and_right : (t : Bool) → (t && false) ≡ false
-    and_right true = refl
-    and_right false = refl
-
-    zero_or : (t : Bool) (v : ℕ) (es : List Entry) (k : List ℕ) (p : Place) → nat_eq v 0 ≡ t → number_in es p ≡ 0 → same_place (record { var = s; index = k }) p ≡ true
-        → number_in (cond t es (record { place = record { var = s; index = k }; value = v } ∷ es)) p ≡ v
+    zero_or : (t : Bool) (v : ℕ) (es : List Entry) (k : List ℕ) (p : Place) → nat_eq v 0 ≡ t → number_in es p ≡ 0 → same_place (record { var = s; index = k }) p ≡ true → number_in (cond t es (entry s k v ∷ es)) p ≡ v
     zero_or true v es k p z none here = none ∙ sym (eqb-true v 0 z)
     zero_or false v es k p z none here = ap (λ t. cond t v (number_in es p)) here
 
-    skipped : (t : Bool) (v : ℕ) (es : List Entry) (k : List ℕ) (p : Place) → same_place (record { var = s; index = k }) p ≡ false
-        → number_in (cond t es (record { place = record { var = s; index = k }; value = v } ∷ es)) p ≡ number_in es p
+    skipped : (t : Bool) (v : ℕ) (es : List Entry) (k : List ℕ) (p : Place) → same_place (record { var = s; index = k }) p ≡ false → number_in (cond t es (entry s k v ∷ es)) p ≡ number_in es p
     skipped true v es k p apart = refl
     skipped false v es k p apart = ap (λ t. cond t v (number_in es p)) apart
 
@@ -128,131 +107,94 @@ NoZero-entries_of : (s : ℕ) (cs : Cells) → NoZero (entries_of s cs)
 NoZero-entries_of s [] = tt
 NoZero-entries_of s (c ∷ cs) = by_zero (nat_eq c.1 0) refl (NoZero-entries_of s cs)
   where
-    by_zero : (t : Bool) → nat_eq c.1 0 ≡ t → NoZero (entries_of s cs) → NoZero (cond t (entries_of s cs) (record { place = record { var = s; index = c.0 }; value = c.1 } ∷ entries_of s cs))
+    by_zero : (t : Bool) → nat_eq c.1 0 ≡ t → NoZero (entries_of s cs) → NoZero (cond t (entries_of s cs) (entry s c.0 c.1 ∷ entries_of s cs))
     by_zero true z h = h
     by_zero false z h = (eqb-false c.1 0 z, h)
 
-same_var : (s : ℕ) (a b : List ℕ) → slice_cmp nat_cmp a b ≡ Less → place_cmp (record { var = s; index = a }) (record { var = s; index = b }) ≡ Less
-same_var s a b h = ap (λ o. ordering_then o (slice_cmp nat_cmp a b)) (tied_itself nat_cmp_total s) ∙ h
-
-sorted-entries_of : (s : ℕ) (cs : Cells) → IsStrictlySortedBy (slice_cmp nat_cmp) (keys_of cs) → IsStrictlySortedBy place_cmp (places (entries_of s cs))
-unfolding IsStrictlySortedBy
-sorted-entries_of s [] sorted = sorted
-sorted-entries_of s (c ∷ cs) sorted =
-    elim (nat_eq c.1 0) as (λ t. IsStrictlySortedBy place_cmp (places (cond t (entries_of s cs) (record { place = record { var = s; index = c.0 }; value = c.1 } ∷ entries_of s cs)))) [
-      | true ↦ sorted-entries_of s cs sorted.1
-      | false ↦ (above cs sorted.0, sorted-entries_of s cs sorted.1)
-    ]
-  where
-    above : (ds : Cells) → AllByRecursion (λ y. slice_cmp nat_cmp c.0 y ≡ Less) (keys_of ds) → AllByRecursion (λ q. place_cmp (record { var = s; index = c.0 }) q ≡ Less) (places (entries_of s ds))
-    above [] h = tt
-    above (d ∷ ds) h =
-        elim (nat_eq d.1 0) as (λ t. AllByRecursion (λ q. place_cmp (record { var = s; index = c.0 }) q ≡ Less) (places (cond t (entries_of s ds) (record { place = record { var = s; index = d.0 }; value = d.1 } ∷ entries_of s ds)))) [
-          | true ↦ above ds h.1
-          | false ↦ (same_var s c.0 d.0 h.0, above ds h.1)
-        ]
-
--- ---- one array behind those of lower variables
--- each entry's variable is below each of these
-abbrev pub Below : List Entry → List ℕ → Type 0
-Below es vs = AllByRecursion (λ e. AllByRecursion (λ v. nat_cmp e.place.var v ≡ Less) vs) es
-
-Below-tail : (es : List Entry) (v : ℕ) (vs : List ℕ) → Below es (v ∷ vs) → Below es vs
-Below-tail [] v vs h = tt
-Below-tail (e ∷ es) v vs h = (h.0.1, Below-tail es v vs h.1)
-
-Below-append : (es fs : List Entry) (vs : List ℕ) → Below es vs → Below fs vs → Below (es ++ fs) vs
-Below-append [] fs vs h k = k
-Below-append (e ∷ es) fs vs h k = (h.0, Below-append es fs vs h.1 k)
-
-Below-entries_of : (s : ℕ) (cs : Cells) (vs : List ℕ) → AllByRecursion (λ v. nat_cmp s v ≡ Less) vs → Below (entries_of s cs) vs
-Below-entries_of s [] vs h = tt
-Below-entries_of s (c ∷ cs) vs h =
-    elim (nat_eq c.1 0) as (λ t. Below (cond t (entries_of s cs) (record { place = record { var = s; index = c.0 }; value = c.1 } ∷ entries_of s cs)) vs) [
-      | true ↦ Below-entries_of s cs vs h
-      | false ↦ (h, Below-entries_of s cs vs h)
+-- what holds of the place of each cell holds of the place of each entry
+places-entries_of : (P : Place → Type 0) (s : ℕ) (cs : Cells) → AllByRecursion (λ k. P (record { var = s; index = k })) (keys_of cs) → AllByRecursion P (places (entries_of s cs))
+places-entries_of P s [] h = tt
+places-entries_of P s (c ∷ cs) h =
+    elim (nat_eq c.1 0) as (λ t. AllByRecursion P (places (cond t (entries_of s cs) (entry s c.0 c.1 ∷ entries_of s cs)))) [
+      | true ↦ places-entries_of P s cs h.1
+      | false ↦ (h.0, places-entries_of P s cs h.1)
     ]
 
-below-array : (es : List Entry) (v : ℕ) (vs : List ℕ) (cs : Cells) → Below es (v ∷ vs) → AllByRecursion (λ x. AllByRecursion (λ y. place_cmp x y ≡ Less) (places (entries_of v cs))) (places es)
-below-array [] v vs cs h = tt
-below-array (e ∷ es) v vs cs h = (one cs, below-array es v vs cs h.1)
+IsDistinct-entries_of : (s : ℕ) (cs : Cells) → IsDistinct bytes_eq (keys_of cs) → IsDistinct same_place (places (entries_of s cs))
+unfolding IsDistinct
+IsDistinct-entries_of s [] h = h
+IsDistinct-entries_of s (c ∷ cs) h =
+    elim (nat_eq c.1 0) as (λ t. IsDistinct same_place (places (cond t (entries_of s cs) (entry s c.0 c.1 ∷ entries_of s cs)))) [
+      | true ↦ IsDistinct-entries_of s cs h.1
+      | false ↦ (places-entries_of (λ q. same_place (record { var = s; index = c.0 }) q ≡ false) s cs (apart (keys_of cs) h.0), IsDistinct-entries_of s cs h.1)
+    ]
   where
-    one : (ds : Cells) → AllByRecursion (λ y. place_cmp e.place y ≡ Less) (places (entries_of v ds))
-    one [] = tt
-    one (d ∷ ds) =
-        elim (nat_eq d.1 0) as (λ t. AllByRecursion (λ y. place_cmp e.place y ≡ Less) (places (cond t (entries_of v ds) (record { place = record { var = v; index = d.0 }; value = d.1 } ∷ entries_of v ds)))) [
-          | true ↦ one ds
-          | false ↦ (ap (λ o. ordering_then o (slice_cmp nat_cmp e.place.index d.0)) h.0.0, one ds)
-        ]
+    apart : (ks : List (List ℕ)) → AllByRecursion (λ y. bytes_eq c.0 y ≡ false) ks → AllByRecursion (λ k. same_place (record { var = s; index = c.0 }) (record { var = s; index = k }) ≡ false) ks
+    apart [] h = tt
+    apart (k ∷ ks) h = (apart-index s c.0 (record { var = s; index = k }) h.0, apart ks h.1)
 
--- entries that list the arrays of all variables but some
-pub record ListsBut (vs : List ℕ) (m : Arrays) (es : List Entry) : Type 0 where
-  pub rising : IsStrictlySortedBy place_cmp (places es)
-  pub nonzero : NoZero es
-  pub below : Below es vs
-  pub left : IsStrictlySortedBy nat_cmp vs
-  pub numbers : (p : Place) → list_any (nat_eq p.var) vs ≡ false → number_in es p ≡ m p
-  pub others : (p : Place) → list_any (nat_eq p.var) vs ≡ true → number_in es p ≡ 0
+-- ---- all arrays
+abbrev pub all_entries : Kept → List Entry
+all_entries [] = []
+all_entries (a ∷ m) = entries_of a.0 a.1.0 ++ all_entries m
 
-not_below : (s : ℕ) (vs : List ℕ) → AllByRecursion (λ v. nat_cmp s v ≡ Less) vs → list_any (nat_eq s) vs ≡ false
-not_below s [] h = refl
-not_below s (v ∷ vs) h = ap (λ t. t || list_any (nat_eq s) vs) (sym (unsigned_tied s v) ∙ ap is_eq h.0) ∙ not_below s vs h.1
+-- the indices of each array differ
+abbrev pub HaveDistinct : Kept → Type 0
+HaveDistinct m = AllByRecursion (λ a. IsDistinct bytes_eq (keys_of a.1.0)) m
 
-pub ListsBut-array : (v : ℕ) (vs : List ℕ) (m : Arrays) (es : List Entry) (cs : Cells) → IsStrictlySortedBy (slice_cmp nat_cmp) (keys_of cs) → ((p : Place) → p.var ≡ v → unwrap_or (cell cs p.index) 0 ≡ m p)
-    → ListsBut (v ∷ vs) m es → ListsBut vs m (es ++ entries_of v cs)
-unfolding IsStrictlySortedBy
-ListsBut-array v vs m es cs sorted here lists = record {
-  rising = subst (IsStrictlySortedBy place_cmp) (sym (places-append es (entries_of v cs))) (sorted-append (places es) (places (entries_of v cs)) lists.rising (sorted-entries_of v cs sorted) (below-array es v vs cs lists.below));
-  nonzero = NoZero-append es (entries_of v cs) lists.nonzero (NoZero-entries_of v cs);
-  below = Below-append es (entries_of v cs) vs (Below-tail es v vs lists.below) (Below-entries_of v cs vs lists.left.0);
-  left = lists.left.1;
-  numbers = λ p absent.
-      ⊎_elim
-      (λ same.
-      let var : p.var ≡ v = eqb-true p.var v same in
-      number-later es (entries_of v cs) p lists.nonzero (lists.others p (ap (λ t. t || list_any (nat_eq p.var) vs) same))
-      ∙ (λ i. number_in (entries_of (sym var i) cs) p) ∙ number-here p.var cs p.index sorted ∙ here p var)
-      (λ other.
-      number-first es (entries_of v cs) p (number-other v cs p (flipped v p.var other))
-      ∙ lists.numbers p (ap (λ t. t || list_any (nat_eq p.var) vs) other ∙ absent))
-      (cases_Bool (nat_eq p.var v));
-  others = λ p present.
-      let apart : nat_eq v p.var ≡ false = ne_eqb v p.var (λ e. both_ways (list_any (nat_eq p.var) vs) (subst (λ s. list_any (nat_eq s) vs ≡ false) e (not_below v vs lists.left.0)) present) in
-      number-first es (entries_of v cs) p (number-other v cs p apart)
-      ∙ lists.others p (ap (λ t. nat_eq p.var v || t) present ∙ or_right (nat_eq p.var v));
-}
+pub NoZero-all : (m : Kept) → NoZero (all_entries m)
+NoZero-all [] = tt
+NoZero-all (a ∷ m) = both (λ e. e.value ≢ 0) (entries_of a.0 a.1.0) (all_entries m) (NoZero-entries_of a.0 a.1.0) (NoZero-all m)
+
+-- no entry has a variable that is none of these
+apart-all : (p : Place) (m : Kept) → AllByRecursion (λ s. nat_eq p.var s ≡ false) (keys_of m) → AllByRecursion (λ q. same_place p q ≡ false) (places (all_entries m))
+apart-all p [] h = tt
+apart-all p (a ∷ m) h =
+    subst (AllByRecursion (λ q. same_place p q ≡ false)) (sym (places-append (entries_of a.0 a.1.0) (all_entries m)))
+    (both (λ q. same_place p q ≡ false) (places (entries_of a.0 a.1.0)) (places (all_entries m)) (places-entries_of (λ q. same_place p q ≡ false) a.0 a.1.0 (others (keys_of a.1.0))) (apart-all p m h.1))
   where
-    flipped : (a b : ℕ) → nat_eq b a ≡ false → nat_eq a b ≡ false
-    flipped a b e = ne_eqb a b (λ h. eqb-false b a e (sym h))
+    others : (ks : List (List ℕ)) → AllByRecursion (λ k. same_place p (record { var = a.0; index = k }) ≡ false) ks
+    others [] = tt
+    others (k ∷ ks) = (apart-var p.var p.index (record { var = a.0; index = k }) h.0, others ks)
 
-    or_right : (t : Bool) → (t || true) ≡ true
-    or_right true = refl
-    or_right false = refl
+number-none : (p : Place) (es : List Entry) → AllByRecursion (λ q. same_place p q ≡ false) (places es) → number_in es p ≡ 0
+number-none p [] h = refl
+number-none p (e ∷ es) h = ap (λ t. cond t e.value (number_in es p)) (same_place-flips e.place p ∙ h.0) ∙ number-none p es h.1
 
-pub ListsBut-none : (vs : List ℕ) (m : Arrays) → IsStrictlySortedBy nat_cmp vs → ((p : Place) → list_any (nat_eq p.var) vs ≡ false → m p ≡ 0) → ListsBut vs m []
-unfolding IsStrictlySortedBy
-ListsBut-none vs m left zero = record {
-  rising = tt;
-  nonzero = tt;
-  below = tt;
-  left = left;
-  numbers = λ p absent. sym (zero p absent);
-  others = λ p present. refl;
-}
-
--- ---- what a map gives in order
-pub sorted-cells_of : (es : List (Vec ℕ × ℕ)) → IsStrictlySortedBy key_cmp (keys_of es) → IsStrictlySortedBy (slice_cmp nat_cmp) (keys_of (cells_of es))
-unfolding IsStrictlySortedBy
-sorted-cells_of [] h = h
-sorted-cells_of (e ∷ es) h = (above es h.0, sorted-cells_of es h.1)
+pub IsDistinct-all : (m : Kept) → IsDistinct nat_eq (keys_of m) → HaveDistinct m → IsDistinct same_place (places (all_entries m))
+unfolding IsDistinct
+IsDistinct-all [] vars indices = vars
+IsDistinct-all (a ∷ m) vars indices =
+    subst (IsDistinct same_place) (sym (places-append (entries_of a.0 a.1.0) (all_entries m)))
+    (IsDistinct-append (places (entries_of a.0 a.1.0)) (places (all_entries m)) (IsDistinct-entries_of a.0 a.1.0 indices.0) (IsDistinct-all m vars.1 indices.1)
+    (places-entries_of (λ p. AllByRecursion (λ q. same_place p q ≡ false) (places (all_entries m))) a.0 a.1.0 (each (keys_of a.1.0))))
   where
-    above : (fs : List (Vec ℕ × ℕ)) → AllByRecursion (λ y. key_cmp e.0 y ≡ Less) (keys_of fs) → AllByRecursion (λ y. slice_cmp nat_cmp e.0.items y ≡ Less) (keys_of (cells_of fs))
-    above [] h = tt
-    above (f ∷ fs) h = (h.0, above fs h.1)
+    each : (ks : List (List ℕ)) → AllByRecursion (λ k. AllByRecursion (λ q. same_place (record { var = a.0; index = k }) q ≡ false) (places (all_entries m))) ks
+    each [] = tt
+    each (k ∷ ks) = (apart-all (record { var = a.0; index = k }) m vars.0, each ks)
 
--- one cell of an array
+pub number-all : (m : Kept) → IsDistinct nat_eq (keys_of m) → HaveDistinct m → (p : Place) → number_in (all_entries m) p ≡ arrays_of m p
+unfolding IsDistinct
+number-all [] vars indices p = refl
+number-all (a ∷ m) vars indices p =
+    let first = entries_of a.0 a.1.0 in
+    ⊎_elim
+    (λ same.
+    let var : p.var ≡ a.0 = eqb-true p.var a.0 same in
+    let none = number-none p (all_entries m) (apart-all p m (subst (λ s. AllByRecursion (λ t. nat_eq s t ≡ false) (keys_of m)) (sym var) vars.0)) in
+    number-first first (all_entries m) p none
+    ∙ ap (λ s. number_in (entries_of s a.1.0) p) (sym var)
+    ∙ number-here p.var a.1.0 p.index indices.0
+    ∙ sym (ap (λ t. found t) (unsigned_tied p.var a.0 ∙ same)))
+    (λ other.
+    number-later first (all_entries m) p (NoZero-entries_of a.0 a.1.0) (number-other a.0 a.1.0 p (nat_eq_equiv.symm a.0 p.var ∙ other))
+    ∙ number-all m vars.1 indices.1 p
+    ∙ sym (ap (λ t. found t) (unsigned_tied p.var a.0 ∙ other)))
+    (cases_Bool (nat_eq p.var a.0))
+  where
+    found : Bool → ℕ
+    found t = unwrap_or (cell (unwrap_or (cond t (Some a.1) (lookup (is_at (nat_cmp p.var)) m)) ([], 0)).0 p.index) 0
+
+-- ---- one cell
 pub entries_of-zero : (s : ℕ) (k : List ℕ) (v : ℕ) (cs : Cells) → v ≡ 0 → entries_of s ((k, v) ∷ cs) ≡ entries_of s cs
-entries_of-zero s k v cs e = ap (λ t. cond t (entries_of s cs) (record { place = record { var = s; index = k }; value = v } ∷ entries_of s cs)) (eq-eqb v 0 e)
-
-pub entries_of-cell : (s : ℕ) (k : List ℕ) (v : ℕ) (cs : Cells) → v ≢ 0 → entries_of s ((k, v) ∷ cs) ≡ record { place = record { var = s; index = k }; value = v } ∷ entries_of s cs
-entries_of-cell s k v cs ne = ap (λ t. cond t (entries_of s cs) (record { place = record { var = s; index = k }; value = v } ∷ entries_of s cs)) (ne_eqb v 0 ne)
+entries_of-zero s k v cs e = ap (λ t. cond t (entries_of s cs) (entry s k v ∷ entries_of s cs)) (eq-eqb v 0 e)

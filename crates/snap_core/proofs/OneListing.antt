@@ -1,39 +1,18 @@
 -- A store has one listing at most.
-use Rattle.std.proofs.Common.{◌≡◌, ◌≢◌, ℕ, Bool, true, false, cond, ◌&&◌, List, [], ◌∷◌, refl, sym, ap, subst, ◌∙◌}
-use Rattle.std.specs.Prelude.{nat_eq}
+use Rattle.std.proofs.Common.{◌≡◌, ◌≢◌, Bool, true, false, cond, List, [], ◌∷◌, refl, sym, ap, subst, ◌∙◌}
 use Rattle.std.specs.List.{AllByRecursion}
 use Rattle.std.specs.List.Sorted.{IsStrictlySortedBy}
-use Rattle.std.specs.Ordering.{nat_cmp, ordering_reverse, is_eq}
-use Rattle.std.specs.Str.{bytes_eq}
-use Rattle.std.specs.Cmp.{IsTotalOrder, tied_itself}
-use Rattle.std.specs.Cmp.Lexicographic.{slice_cmp, nat_list_eq_equiv}
+use Rattle.std.specs.Ordering.{ordering_reverse, is_eq}
+use Rattle.std.specs.Cmp.{tied_itself}
 use Rattle.std.specs.declared.cmp.Ordering.{Ordering}
 use Rattle.std.specs.declared.cmp.Ordering.TheVariants.{Less, Equal, Greater}
-use Rattle.std.proofs.lemmas.Bool.{cond-true, cond-false, eqb-true, eq-eqb, both_ways, and_parts, false_from_ne_true}
-use Rattle.std.proofs.lemmas.Cmp.{nat_cmp_total, nat_list_cmp_total, on_total, then_total}
-use Rattle.std.proofs.lemmas.Map.Lookups.{exact_unsigned, exact_bytes, exact_pairs}
+use Rattle.std.proofs.lemmas.Bool.{cond-true, cond-false, both_ways, false_from_ne_true}
 use Rattle.snap_core.specs.declared.place.Place.{Place}
 use Rattle.snap_core.specs.declared.place.Entry.{Entry}
 use Rattle.snap_core.specs.Arrays.{same_place}
 use Rattle.snap_core.specs.Listing.{place_cmp, number_in}
-use Rattle.snap_core.proofs.Entries.{NoZero, places, same_key}
-
--- ---- the order of places
-place_total : IsTotalOrder place_cmp
-place_total = then_total (on_total (λ (p : Place). p.var) nat_cmp_total) (on_total (λ (p : Place). p.index) nat_list_cmp_total)
-
-abbrev from_pair : ℕ × List ℕ → Place
-from_pair t = record { var = t.0; index = t.1 }
-
-place_exact : (p q : Place) → place_cmp p q ≡ Equal → p ≡ q
-place_exact p q h = ap from_pair (exact_pairs nat_cmp (slice_cmp nat_cmp) exact_unsigned exact_bytes (p.var, p.index) (q.var, q.index) h)
-
-same_place-exact : (p q : Place) → same_place p q ≡ true → p ≡ q
-same_place-exact p q h =
-    let parts = and_parts (nat_eq p.var q.var) (bytes_eq p.index q.index) h in
-    let var : p.var ≡ q.var = eqb-true p.var q.var parts.0 in
-    let index : p.index ≡ q.index = same_key p.index q.index parts.1 in
-    λ i. record { var = var i; index = index i }
+use Rattle.snap_core.proofs.Entries.{NoZero, places}
+use Rattle.snap_core.proofs.Places.{place_total, place_exact, same_place-exact, same_place-itself}
 
 -- a place below another is another place
 apart : (p q : Place) → place_cmp p q ≡ Less → same_place q p ≡ false
@@ -53,10 +32,7 @@ number-below p [] h = refl
 number-below p (e ∷ es) h = ap (λ t. cond t e.value (number_in es p)) (apart p e.place h.0) ∙ number-below p es h.1
 
 number-head : (e : Entry) (es : List Entry) → number_in (e ∷ es) e.place ≡ e.value
-number-head e es = cond-true (same_place e.place e.place) e.value (number_in es e.place) (itself e.place)
-  where
-    itself : (p : Place) → same_place p p ≡ true
-    itself p = ap (λ t. t && bytes_eq p.index p.index) (eq-eqb p.var p.var refl) ∙ nat_list_eq_equiv.refl p.index
+number-head e es = cond-true (same_place e.place e.place) e.value (number_in es e.place) (same_place-itself e.place)
 
 -- the later entries give the same numbers where all entries do and the first ones have one place
 number-tails : (e f : Entry) (es fs : List Entry) → e.place ≡ f.place → AllByRecursion (λ q. place_cmp e.place q ≡ Less) (places es) → AllByRecursion (λ q. place_cmp f.place q ≡ Less) (places fs)

@@ -1,12 +1,16 @@
 //! One array of a store.
 
-ghost use Rattle.std.specs.Prelude.{◌≡◌, ◌<◌, ◌≤◌, ◌+◌, ◌%◌, ◌^◌, [], List, ℕ, OnOk, OnErr, IfOk, IsOk, Some, length, unwrap_or, if◌then◌else◌};
+ghost use Rattle.std.specs.Prelude.{◌≡◌, ◌<◌, ◌≤◌, ◌+◌, ◌%◌, ◌^◌, ◌++◌, [], List, map, ℕ, OnOk, OnErr, IfOk, IsOk, Some, length, unwrap_or, if◌then◌else◌};
+ghost use Rattle.std.specs.List.{IsDistinct};
+ghost use Rattle.std.specs.Map.{keys_of};
 ghost use Rattle.std.specs.Str.{bytes_eq};
 ghost use Rattle.snap_core.specs.Cells.{cell, cells_of, either};
+ghost use Rattle.snap_core.specs.Listing.{entries_of, entry_of};
 ghost use Rattle.std.specs.HashMap.{spare};
 
 use crate::NoMemory;
 use crate::patch::Patch;
+use crate::place::Listed;
 use std::alloc::Global;
 use std::collections::{BTreeMap, HashMap};
 use std::marker::Model;
@@ -101,16 +105,28 @@ impl Array {
         put_all(&mut self.cells, patch.into_cells());
     }
 
-    /// The same cells in the order of their indices.
-    pub(crate) fn ordered(&self) -> Result<Patch, NoMemory>
-        ensures { IfOk result (λ ordered. (q : List ℕ) → cell ordered q ≡ cell self.now.0 q) }
+    /// The number of cells.
+    pub(crate) fn len(&self) -> usize
+        ensures { result ≡ length self.now.0 }
     {
-        let mut ordered = Patch::new(self.alloc);
+        self.cells.len()
+    }
+
+    /// Adds the cells that don't hold 0 to a list, in no order.
+    pub(crate) fn list<'a>(&'a self, var: u16, listed: &mut Vec<Listed<'a>>) -> Result<(), NoMemory>
+        ensures items { OnOk result (map entry_of listed.new.items ≡ map entry_of listed.old.items ++ entries_of var self.now.0) }
+        ensures distinct { IsDistinct bytes_eq (keys_of self.now.0) }
+    {
         for (index, value) in &self.cells {
-            let key = Vec::from_slice(self.alloc, index.as_slice())?;
-            ordered.put(key, *value)?;
+            if *value != 0 {
+                listed.push(Listed {
+                    var,
+                    index,
+                    value: *value,
+                })?;
+            }
         }
-        Ok(ordered)
+        Ok(())
     }
 }
 

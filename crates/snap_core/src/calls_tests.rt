@@ -68,6 +68,31 @@ fn a_store_holds_what_was_put(rt: HostRuntime) -> Result<(), Fail> {
     Ok(())
 }
 
+#[test]
+fn a_listing_rises_and_leaves_out_zeros(rt: HostRuntime) -> Result<(), Fail> {
+    let alloc = rt.alloc();
+    let mut store = Store::new(alloc);
+    store.put(1, &[9], 1)?;
+    store.put(1, &[5, 7], 2)?;
+    store.put(1, &[5], 3)?;
+    store.put(0, &[6], 0)?;
+    store.put(0, &[4], 5)?;
+    store.put(0, &[2], 6)?;
+    let wanted = [
+        (0, [2].as_slice(), 6),
+        (0, [4].as_slice(), 5),
+        (1, [5].as_slice(), 3),
+        (1, [5, 7].as_slice(), 2),
+        (1, [9].as_slice(), 1),
+    ];
+    let listing = store.listing()?;
+    assert!(rt; listing.len() == wanted.len());
+    for (found, (var, index, value)) in listing.iter().zip(wanted.iter()) {
+        assert!(rt; found.var == *var && found.index == *index && found.value == *value);
+    }
+    Ok(())
+}
+
 // The first component as an index.
 fn first(alloc: Global) -> Result<Atoms, AllocError> {
     Ok(Atoms::new(vec![in alloc; Atom::Comp(0)]?))

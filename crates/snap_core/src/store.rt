@@ -1,24 +1,19 @@
 //! Stores: the numbers of the state variables.
 
-ghost use Rattle.std.specs.Prelude.{◌≡◌, ◌≤◌, ◌+◌, ◌++◌, ◌%◌, ◌^◌, ◌==◌, false, All, ℕ, OnOk, OnErr, IfOk, if◌then◌else◌, length, unwrap_or};
-ghost use Rattle.std.specs.Cmp.Lexicographic.{slice_cmp};
-ghost use Rattle.std.specs.List.Sorted.{IsStrictlySortedBy};
-ghost use Rattle.std.specs.Map.{keys_of};
-ghost use Rattle.std.specs.Ordering.{nat_cmp};
+ghost use Rattle.std.specs.Prelude.{◌≡◌, ◌≤◌, ◌+◌, ◌%◌, ◌^◌, ◌==◌, false, All, ℕ, OnOk, OnErr, IfOk, if◌then◌else◌, map, length, unwrap_or};
 ghost use Rattle.snap_core.specs.declared.place.Place.{Place};
 ghost use Rattle.snap_core.specs.Arrays.{update, updates, put, zero_arrays};
 ghost use Rattle.snap_core.specs.Cells.{cell, arrays_of, overlaid, changed_at, room_at};
 ghost use Rattle.snap_core.specs.Fits.{UpdateFits};
-ghost use Rattle.snap_core.specs.Listing.{IsListing, entries_of};
+ghost use Rattle.snap_core.specs.Listing.{IsListing, entry_of};
 
 use crate::NoMemory;
 use crate::array::Array;
 use crate::atoms::index_on;
 use crate::changes::Changes;
-use crate::lists::Index;
 use crate::packet::Packet;
 use crate::patch::Patch;
-use crate::place::{Entry, Place};
+use crate::place::{Entry, Listed};
 use crate::policy::{Op, Update};
 use std::alloc::Global;
 use std::collections::BTreeMap;
@@ -202,31 +197,25 @@ impl Store {
     pub fn entries(&self) -> Result<Vec<Entry>, NoMemory>
         ensures { IfOk result (λ entries. IsListing (arrays_of self.now) entries.items) }
     {
-        let mut entries = Vec::new(self.alloc);
-        for var in self.arrays.keys() {
-            if let Some(array) = self.arrays.get(var) {
-                push_entries(&mut entries, *var, array.ordered()?)?;
-            }
+        let listed = self.listing()?;
+        let mut entries = Vec::with_capacity(self.alloc, listed.len())?;
+        for each in &listed {
+            entries.push(each.entry(self.alloc)?)?;
         }
         Ok(entries)
     }
-}
 
-// Adds the entries of one array, whose cells are in order.
-fn push_entries(entries: &mut Vec<Entry>, var: u16, cells: Patch) -> Result<(), NoMemory>
-    ensures items { OnOk result (entries.new.items ≡ entries.old.items ++ entries_of var cells) }
-    ensures rising { OnOk result (IsStrictlySortedBy (slice_cmp nat_cmp) (keys_of cells)) }
-{
-    for (index, value) in cells.into_cells() {
-        if value != 0 {
-            entries.push(Entry {
-                place: Place {
-                    var,
-                    index: Index::new(index),
-                },
-                value,
-            })?;
+    /// The same without copies of the indices.
+    pub fn listing(&self) -> Result<Vec<Listed<'_>>, NoMemory>
+        ensures { IfOk result (λ listed. IsListing (arrays_of self.now) (map entry_of listed.items)) }
+    {
+        let lengths = self.arrays.values().map(|array| array.len());
+        let cells = lengths.fold(0, |sum: usize, length| sum.saturating_add(length));
+        let mut listed = Vec::with_capacity(self.alloc, cells)?;
+        for (var, array) in &self.arrays {
+            array.list(*var, &mut listed)?;
         }
+        listed.sort_unstable_by(|left, right| left.compare(right));
+        Ok(listed)
     }
-    Ok(())
 }

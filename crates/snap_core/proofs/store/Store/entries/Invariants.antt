@@ -1,6 +1,6 @@
-use Rattle.snap_core.specs.Cells.{arrays_of}
-use Rattle.snap_core.proofs.Entries.{ListsBut}
+use Rattle.std.proofs.Common.{◌≡◌, map, take}
+use Rattle.snap_core.specs.Listing.{entry_of}
 use Rattle.snap_core.proofs.store.Store.entries.Given as goal
 
-abbrev pub invariant-loop-var : goal.invariant-loop-var
-invariant-loop-var l = ListsBut l.var-iterator (arrays_of l.self) l.entries.items
+abbrev pub invariant-loop-each : goal.invariant-loop-each
+invariant-loop-each l = l.entries.items ≡ map entry_of (take l.each-index l.each-items)
