@@ -81,6 +81,7 @@ fn put_field(out: &mut Vec<u8>, field: &Field, comp: u16, packet: &Packet) -> Re
 }
 
 // Puts the line of a packet that goes out.
+#[inline(never)]
 fn put_out(out: &mut Vec<u8>, fields: &Fields, packet: &Packet) -> Result<(), NoMemory>
     requires { length packet.now ≡ count fields.now }
     ensures { OnOk result (out.new.items ≡ out.old.items ++ out_line fields.now packet.now) }
