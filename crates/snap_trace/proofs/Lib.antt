@@ -3,3 +3,4 @@ pub mod WordLemmas
 pub mod RunLemmas
 pub mod StepLemmas
 pub mod TailLemmas
+pub mod DigitLemmas

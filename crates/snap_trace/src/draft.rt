@@ -33,6 +33,7 @@ impl Draft {
     }
 
     /// Names the components that the words of a text set.
+    #[inline(never)]
     pub(crate) fn set_words(&mut self, fields: &Fields, text: &[u8]) -> Result<(), LineFault>
         requires comps { vec_len self.old.numbers ≡ count fields.now }
         requires few { vec_len self.old.numbers ≤ 64 }
@@ -68,6 +69,7 @@ impl Draft {
     }
 
     // Sets what a name stands for to what stands behind it.
+    #[inline(never)]
     fn set_value(&mut self, found: Option<Found>, value: &[u8]) -> Result<(), LineFault>
         requires fits { FoundFits (vec_len self.old.numbers) found }
         requires few { vec_len self.old.numbers ≤ 64 }

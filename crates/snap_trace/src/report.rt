@@ -12,13 +12,29 @@ use snap_core::packet::Packet;
 use snap_core::packets::Packets;
 use snap_core::program::{Field, Fields};
 
-// Puts a number in digits behind the buffer.
+// Puts a number in digits behind the buffer. Most are short, as the parts of an address.
 fn put_number(out: &mut Vec<u8>, number: u64) -> Result<(), NoMemory>
     ensures { OnOk result (out.new.items ≡ out.old.items ++ decimal number) }
 {
-    let mut digits = Buffer::new();
-    out.extend_from_slice(digits.format(number).as_bytes())?;
+    if number < 10 {
+        out.push(digit(number))?;
+    } else if number < 100 {
+        out.extend_from_slice(&[digit(number / 10), digit(number % 10)])?;
+    } else if number < 1000 {
+        let front = number / 10;
+        out.extend_from_slice(&[digit(front / 10), digit(front % 10), digit(number % 10)])?;
+    } else {
+        let mut digits = Buffer::new();
+        out.extend_from_slice(digits.format(number).as_bytes())?;
+    }
     Ok(())
+}
+
+fn digit(number: u64) -> u8
+    requires { number < 10 }
+    ensures { result ≡ 48 + number }
+{
+    b'0' + number as u8
 }
 
 // Puts an address behind the buffer.
@@ -81,6 +97,7 @@ fn put_field(out: &mut Vec<u8>, field: &Field, comp: u16, packet: &Packet) -> Re
 }
 
 // Puts the line of a packet that goes out.
+#[inline(never)]
 fn put_out(out: &mut Vec<u8>, fields: &Fields, packet: &Packet) -> Result<(), NoMemory>
     requires { length packet.now ≡ count fields.now }
     ensures { OnOk result (out.new.items ≡ out.old.items ++ out_line fields.now packet.now) }
