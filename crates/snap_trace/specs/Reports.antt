@@ -3,6 +3,8 @@ use Rattle.std.specs.Prelude.{ℕ, ◌+◌, ◌-◌, ◌*◌, ◌^◌, ◌/◌, 
 use Rattle.std.specs.List.{concat, flat_map}
 use Rattle.std.specs.declared.option.Option.{Option}
 use Rattle.snap_core.specs.declared.program.Field.{Field}
+use Rattle.snap_core.specs.declared.place.Listed.{Listed}
+use Rattle.snap_core.specs.Listing.{entry_of}
 use Rattle.snap_core.specs.declared.place.Entry.{Entry}
 use Rattle.snap_core.specs.Fields.{width}
 use Rattle.snap_core.specs.Packets.{PacketSet, listed}
@@ -46,6 +48,9 @@ index_text index = flat_map (λ n. codes " " ++ decimal n) index
 -- a line for a place that isn't 0
 abbrev pub array_line : List (List ℕ) → Entry → List ℕ
 array_line names e = concat (codes "array " ∷ unwrap_or (slice_get names e.place.var) [] ∷ index_text e.place.index ∷ codes " = " ∷ decimal e.value ∷ codes "\n" ∷ [])
+
+abbrev pub listed_line : List (List ℕ) → Listed → List ℕ
+listed_line names l = array_line names (entry_of l)
 
 -- the end of a report: the places that aren't 0, and the last line
 abbrev pub end_text : List (List ℕ) → List Entry → List ℕ

@@ -244,8 +244,8 @@ impl Switch {
         ensures write { IsErrOf result TraceFault.Write → Rose (K.faults sink.old) (K.faults sink.new) }
         ensures sink_later { K.faults sink.old ≤ K.faults sink.new }
     {
-        let entries = self.store.entries()?;
-        put_end(&mut self.text, sink, &program.vars, &entries)?;
+        let listing = self.store.listing()?;
+        put_end(&mut self.text, sink, &program.vars, &listing)?;
         Ok(())
     }
 

@@ -3,16 +3,17 @@
 //! Want of memory may end a run only before the first byte of the end goes out. So nothing here needs memory: where
 //! the text that waits can't grow, it is written.
 
-ghost use Rattle.std.specs.Prelude.{◌++◌, [], decimal};
+ghost use Rattle.std.specs.Prelude.{◌++◌, [], decimal, map};
 ghost use Rattle.std.specs.List.{flat_map};
+ghost use Rattle.snap_core.specs.Listing.{entry_of};
 ghost use Rattle.snap_io.specs.Causes.{HasCause};
-ghost use Rattle.snap_trace.specs.Reports.{array_line, end_text, index_text};
+ghost use Rattle.snap_trace.specs.Reports.{end_text, index_text, listed_line};
 ghost use Rattle.snap_trace.specs.Steps.{Puts};
 
 use crate::report::name_at;
 use itoa::Buffer;
 use snap_core::lists::Names;
-use snap_core::place::Entry;
+use snap_core::place::Listed;
 use snap_io::{Sink, WriteFailed, write_whole};
 
 /// As many bytes wait at least before they are written while more are at hand.
@@ -75,14 +76,14 @@ fn put_entry<K: Sink>(
     text: &mut Vec<u8>,
     sink: &mut K,
     names: &Names,
-    entry: &Entry,
+    entry: &Listed<'_>,
 ) -> Result<(), WriteFailed>
-    ensures puts { Puts (K.taken sink.old) (K.taken sink.new) text.old.items (array_line names.now entry.now) result text.new.items }
+    ensures puts { Puts (K.taken sink.old) (K.taken sink.new) text.old.items (listed_line names.now entry.now) result text.new.items }
     ensures cause { HasCause (K.faults sink.old) (K.faults sink.new) result }
 {
     put(text, sink, b"array ")?;
-    put(text, sink, name_at(names, entry.place.var))?;
-    put_index(text, sink, entry.place.index.list())?;
+    put(text, sink, name_at(names, entry.var))?;
+    put_index(text, sink, entry.index)?;
     put_number(text, sink, b" = ", entry.value)?;
     put(text, sink, b"\n")
 }
@@ -92,9 +93,9 @@ fn put_entries<K: Sink>(
     text: &mut Vec<u8>,
     sink: &mut K,
     names: &Names,
-    entries: &[Entry],
+    entries: &[Listed<'_>],
 ) -> Result<(), WriteFailed>
-    ensures puts { Puts (K.taken sink.old) (K.taken sink.new) text.old.items (flat_map (array_line names.now) entries.now) result text.new.items }
+    ensures puts { Puts (K.taken sink.old) (K.taken sink.new) text.old.items (flat_map (listed_line names.now) entries.now) result text.new.items }
     ensures cause { HasCause (K.faults sink.old) (K.faults sink.new) result }
 {
     for entry in entries {
@@ -110,9 +111,9 @@ pub(crate) fn put_end<K: Sink>(
     text: &mut Vec<u8>,
     sink: &mut K,
     names: &Names,
-    entries: &[Entry],
+    entries: &[Listed<'_>],
 ) -> Result<(), WriteFailed>
-    ensures puts { Puts (K.taken sink.old) (K.taken sink.new) text.old.items (end_text names.now entries.now) result text.new.items }
+    ensures puts { Puts (K.taken sink.old) (K.taken sink.new) text.old.items (end_text names.now (map entry_of entries.now)) result text.new.items }
     ensures cause { HasCause (K.faults sink.old) (K.faults sink.new) result }
 {
     put_entries(text, sink, names, entries)?;

@@ -1,16 +1,25 @@
-use Rattle.std.proofs.Common.{codes}
+use Rattle.std.proofs.Common.{List, ℕ, ◌++◌, codes, subst, sym}
 use Rattle.std.specs.List.{flat_map}
+use Rattle.std.proofs.lemmas.List.Folds.{flat_map-map}
 use Rattle.std.proofs.lemmas.Result.{err_from_is_err_and}
-use Rattle.snap_trace.specs.Reports.{array_line}
+use Rattle.snap_core.specs.Listing.{entry_of}
+use Rattle.snap_io.specs.Sinks.{AppendsPart}
+use Rattle.snap_trace.specs.Reports.{array_line, listed_line}
+use Rattle.snap_trace.specs.Steps.{Puts}
 use Rattle.snap_trace.proofs.TailLemmas.{puts-short, puts-then}
 use Rattle.snap_trace.proofs.tail.put_end.Goals as goal
 
 pub returns-in_err-put_entries-clause-puts : goal.returns-in_err-put_entries-clause-puts
 returns-in_err-put_entries-clause-puts g c =
     let out = err_from_is_err_and c.from_residual.result c.from_residual.ensures.1 in
-    rw out.1 (puts-short _ _ c.args.text.now.items (flat_map (array_line c.args.names.now) c.args.entries.now) (codes "end\n") c.in_err-put_entries.ensures.puts)
+    let now = g.K.Sink.taken c.put_entries.new.sink in
+    rw out.1
+    (subst (λ l. AppendsPart (g.K.Sink.taken c.args.sink.now) now (c.args.text.now.items ++ (l ++ codes "end\n"))) (sym (flat_map-map (array_line c.args.names.now) entry_of c.args.entries.now))
+    (puts-short (g.K.Sink.taken c.args.sink.now) now c.args.text.now.items (flat_map (listed_line c.args.names.now) c.args.entries.now) (codes "end\n") c.in_err-put_entries.ensures.puts))
 
 pub returns-clause-puts : goal.returns-clause-puts
 returns-clause-puts g c =
-    puts-then (g.K.Sink.taken c.args.sink.now) (g.K.Sink.taken c.put_entries.new.sink) (g.K.Sink.taken c.put.new.sink) c.args.text.now.items (flat_map (array_line c.args.names.now) c.args.entries.now) (codes "end\n")
-    c.put_entries.new.text.items c.put.new.text.items c.put.result c.in_ok-put_entries.ensures.puts c.put.ensures.puts
+    let start = g.K.Sink.taken c.args.sink.now in let now = g.K.Sink.taken c.put.new.sink in
+    subst (λ l. Puts start now c.args.text.now.items (l ++ codes "end\n") c.put.result c.put.new.text.items) (sym (flat_map-map (array_line c.args.names.now) entry_of c.args.entries.now))
+    (puts-then start (g.K.Sink.taken c.put_entries.new.sink) now c.args.text.now.items (flat_map (listed_line c.args.names.now) c.args.entries.now) (codes "end\n")
+    c.put_entries.new.text.items c.put.new.text.items c.put.result c.in_ok-put_entries.ensures.puts c.put.ensures.puts)

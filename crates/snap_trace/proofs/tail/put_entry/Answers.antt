@@ -1,7 +1,7 @@
 use Rattle.std.proofs.Common.{Err, List, ℕ, ◌++◌, codes, decimal, subst}
 use Rattle.std.specs.Prelude.{[], slice_get, unwrap_or}
 use Rattle.std.proofs.lemmas.Result.{err_from_is_err_and}
-use Rattle.snap_core.specs.declared.place.Entry.{Entry}
+use Rattle.snap_core.specs.declared.place.Listed.{Listed}
 use Rattle.snap_io.specs.Sinks.{AppendsPart}
 use Rattle.snap_trace.specs.Reports.{index_text}
 use Rattle.snap_trace.specs.Steps.{Waits}
@@ -9,19 +9,19 @@ use Rattle.snap_trace.proofs.TailLemmas.{puts-short, puts-then}
 use Rattle.snap_trace.proofs.tail.put_entry.Goals as goal
 
 -- the parts of the line behind its first word
-abbrev name_of : List (List ℕ) → Entry → List ℕ
-name_of names e = unwrap_or (slice_get names e.place.var) []
+abbrev name_of : List (List ℕ) → Listed → List ℕ
+name_of names e = unwrap_or (slice_get names e.var) []
 
-abbrev value_of : Entry → List ℕ
+abbrev value_of : Listed → List ℕ
 value_of e = codes " = " ++ decimal e.value
 
-abbrev from_value : Entry → List ℕ
+abbrev from_value : Listed → List ℕ
 from_value e = value_of e ++ codes "\n"
 
-abbrev from_index : Entry → List ℕ
-from_index e = index_text e.place.index ++ from_value e
+abbrev from_index : Listed → List ℕ
+from_index e = index_text e.index.now ++ from_value e
 
-abbrev from_name : List (List ℕ) → Entry → List ℕ
+abbrev from_name : List (List ℕ) → Listed → List ℕ
 from_name names e = name_of names e ++ from_index e
 
 pub returns-in_err-put-clause-puts : goal.returns-in_err-put-clause-puts
@@ -56,7 +56,7 @@ returns-in_err-put_index-clause-puts g c =
     rw out.1
     (puts-then (start) (g.K.Sink.taken c.put.new.sink) (g.K.Sink.taken c.put_index.new.sink) (c.args.text.now.items) (codes "array ") (from_name names e) (c.put.new.text.items) (c.put_index.new.text.items) (Err out.0) c.in_ok-put.ensures.puts
     (puts-then (g.K.Sink.taken c.put.new.sink) (g.K.Sink.taken c.put-2.new.sink) (g.K.Sink.taken c.put_index.new.sink) (c.put.new.text.items) (name_of names e) (from_index e) (c.put-2.new.text.items) (c.put_index.new.text.items) (Err out.0) named
-    (puts-short (g.K.Sink.taken c.put-2.new.sink) (g.K.Sink.taken c.put_index.new.sink) (c.put-2.new.text.items) (index_text e.place.index) (from_value e) (subst (λ l. AppendsPart (g.K.Sink.taken c.put-2.new.sink) (g.K.Sink.taken c.put_index.new.sink) (c.put-2.new.text.items ++ index_text l)) c.list.ensures c.in_err-put_index.ensures.puts))))
+    (puts-short (g.K.Sink.taken c.put-2.new.sink) (g.K.Sink.taken c.put_index.new.sink) (c.put-2.new.text.items) (index_text e.index.now) (from_value e) c.in_err-put_index.ensures.puts)))
 
 pub returns-in_err-put_number-clause-puts : goal.returns-in_err-put_number-clause-puts
 returns-in_err-put_number-clause-puts g c =
@@ -66,11 +66,10 @@ returns-in_err-put_number-clause-puts g c =
     let names = c.args.names.now in
     let out = err_from_is_err_and c.from_residual-in_err-put_number.result c.from_residual-in_err-put_number.ensures.1 in
     let named = subst (λ l. Waits first (g.K.Sink.taken c.put-2.new.sink) (c.put.new.text.items ++ l) c.put-2.new.text.items) c.name_at.ensures c.in_ok-put-2.ensures.puts in
-    let indexed = subst (λ l. Waits (g.K.Sink.taken c.put-2.new.sink) (g.K.Sink.taken c.put_index.new.sink) (c.put-2.new.text.items ++ index_text l) c.put_index.new.text.items) c.list.ensures c.in_ok-put_index.ensures.puts in
     rw out.1
     (puts-then (start) (g.K.Sink.taken c.put.new.sink) (g.K.Sink.taken c.put_number.new.sink) (c.args.text.now.items) (codes "array ") (from_name names e) (c.put.new.text.items) (c.put_number.new.text.items) (Err out.0) c.in_ok-put.ensures.puts
     (puts-then (g.K.Sink.taken c.put.new.sink) (g.K.Sink.taken c.put-2.new.sink) (g.K.Sink.taken c.put_number.new.sink) (c.put.new.text.items) (name_of names e) (from_index e) (c.put-2.new.text.items) (c.put_number.new.text.items) (Err out.0) named
-    (puts-then (g.K.Sink.taken c.put-2.new.sink) (g.K.Sink.taken c.put_index.new.sink) (g.K.Sink.taken c.put_number.new.sink) (c.put-2.new.text.items) (index_text e.place.index) (from_value e) (c.put_index.new.text.items) (c.put_number.new.text.items) (Err out.0) indexed
+    (puts-then (g.K.Sink.taken c.put-2.new.sink) (g.K.Sink.taken c.put_index.new.sink) (g.K.Sink.taken c.put_number.new.sink) (c.put-2.new.text.items) (index_text e.index.now) (from_value e) (c.put_index.new.text.items) (c.put_number.new.text.items) (Err out.0) c.in_ok-put_index.ensures.puts
     (puts-short (g.K.Sink.taken c.put_index.new.sink) (g.K.Sink.taken c.put_number.new.sink) (c.put_index.new.text.items) (value_of e) (codes "\n") c.in_err-put_number.ensures.puts))))
 
 pub returns-clause-puts : goal.returns-clause-puts
@@ -80,9 +79,8 @@ returns-clause-puts g c =
     let e = c.args.entry.now in
     let names = c.args.names.now in
     let named = subst (λ l. Waits first (g.K.Sink.taken c.put-2.new.sink) (c.put.new.text.items ++ l) c.put-2.new.text.items) c.name_at.ensures c.in_ok-put-2.ensures.puts in
-    let indexed = subst (λ l. Waits (g.K.Sink.taken c.put-2.new.sink) (g.K.Sink.taken c.put_index.new.sink) (c.put-2.new.text.items ++ index_text l) c.put_index.new.text.items) c.list.ensures c.in_ok-put_index.ensures.puts in
     puts-then (start) (g.K.Sink.taken c.put.new.sink) (g.K.Sink.taken c.put-3.new.sink) (c.args.text.now.items) (codes "array ") (from_name names e) (c.put.new.text.items) (c.put-3.new.text.items) (c.put-3.result) c.in_ok-put.ensures.puts
     (puts-then (g.K.Sink.taken c.put.new.sink) (g.K.Sink.taken c.put-2.new.sink) (g.K.Sink.taken c.put-3.new.sink) (c.put.new.text.items) (name_of names e) (from_index e) (c.put-2.new.text.items) (c.put-3.new.text.items) (c.put-3.result) named
-    (puts-then (g.K.Sink.taken c.put-2.new.sink) (g.K.Sink.taken c.put_index.new.sink) (g.K.Sink.taken c.put-3.new.sink) (c.put-2.new.text.items) (index_text e.place.index) (from_value e) (c.put_index.new.text.items) (c.put-3.new.text.items) (c.put-3.result) indexed
+    (puts-then (g.K.Sink.taken c.put-2.new.sink) (g.K.Sink.taken c.put_index.new.sink) (g.K.Sink.taken c.put-3.new.sink) (c.put-2.new.text.items) (index_text e.index.now) (from_value e) (c.put_index.new.text.items) (c.put-3.new.text.items) (c.put-3.result) c.in_ok-put_index.ensures.puts
     (puts-then (g.K.Sink.taken c.put_index.new.sink) (g.K.Sink.taken c.put_number.new.sink) (g.K.Sink.taken c.put-3.new.sink) (c.put_index.new.text.items) (value_of e) (codes "\n") (c.put_number.new.text.items) (c.put-3.new.text.items) (c.put-3.result) c.in_ok-put_number.ensures.puts
     (c.put-3.ensures.puts))))
