@@ -119,11 +119,7 @@ impl Array {
     {
         for (index, value) in &self.cells {
             if *value != 0 {
-                listed.push(Listed {
-                    var,
-                    index,
-                    value: *value,
-                })?;
+                listed.push(Listed::new(var, index, *value))?;
             }
         }
         Ok(())
