@@ -1,4 +1,7 @@
 //! Lines of packets, and the report of one big switch over a file of them.
+//!
+//! Functions that loop over a line's bytes are marked `inline(never)`: inlined into one large function, these loops keep
+//! their counters on the stack.
 #![tactic(auto)]
 
 pub mod draft;

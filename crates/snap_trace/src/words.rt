@@ -57,7 +57,6 @@ fn split_word(text: &[u8]) -> (&[u8], &[u8])
     }
 }
 
-// In a function of its own its loop keeps to registers.
 #[inline(never)]
 fn first_blank(text: &[u8]) -> Option<usize>
     ensures { result ≡ position is_blank text.now }
