@@ -1,11 +1,12 @@
 -- What an evaluation in place means.
-use Rattle.std.specs.Prelude.{ℕ, Option, Some, None, bit_or, if◌then◌else◌}
+use Rattle.std.specs.Prelude.{ℕ, Option, Some, None, map, bit_or, option_map, if◌then◌else◌}
 use Rattle.snap_core.specs.declared.copies.Copies.{Copies}
 use Rattle.snap_core.specs.declared.copies.Copies.TheVariants.{One, Many}
+use Rattle.snap_core.specs.declared.policy.Pol.{Pol}
 use Rattle.snap_core.specs.declared.run.Run.{Run}
 use Rattle.snap_core.specs.Arrays.{Arrays}
-use Rattle.snap_core.specs.Packets.{PacketSet, no_packets, with_packet, with_packets, union}
-use Rattle.snap_core.specs.Meaning.{Meaning, clash}
+use Rattle.snap_core.specs.Packets.{PacketSet, no_packets, with_packet, with_packets, listed, union}
+use Rattle.snap_core.specs.Meaning.{Meaning, all_together, clash, eval, logged}
 
 -- the set of packets
 abbrev pub set_in : Copies → PacketSet
@@ -15,6 +16,10 @@ set_in (Many v) = with_packets no_packets v.items
 -- what a run means that left the arrays m
 abbrev pub meaning_with : Arrays → Run → Meaning
 meaning_with m r = record { arrays = m; packets = set_in r.copies; reads = r.reads; writes = r.writes }
+
+-- the second part on the packets of the first, from the arrays that it left
+abbrev pub after_first : Pol → Meaning → Option Meaning
+after_first q o = option_map (logged o.reads o.writes) (all_together o.arrays (map (λ k. eval q o.arrays k) (listed o.packets)))
 
 -- ---- parts side by side, done one after the other: b began where a left the arrays
 abbrev pub after_both : Meaning → Meaning → Meaning

@@ -1,6 +1,6 @@
 //! Evaluation.
 
-ghost use Rattle.std.specs.Prelude.{◌≡◌, ◌<◌, ◌≤◌, IfOk, option_map, true, false, None, Some, Err, map, length, All};
+ghost use Rattle.std.specs.Prelude.{◌≡◌, ◌<◌, ◌≤◌, IfOk, IfErr, [], ◌∷◌, if◌then◌else◌, option_and_then, option_map, true, false, None, Some, Err, map, length, All};
 ghost use Rattle.snap_core.specs.Arrays.{Arrays, place_at};
 ghost use Rattle.snap_core.specs.Cells.{arrays_of};
 ghost use Rattle.snap_core.specs.Fits.{AtomFits, IndexFits, PredFits, PolFits, UpdateFits, VarsBelow};
@@ -9,7 +9,7 @@ ghost use Rattle.snap_core.specs.Meaning.{truth, vars_of, eval, all_together, lo
 ghost use Rattle.snap_core.specs.declared.policy.Pol.{size-Pol};
 ghost use Rattle.snap_core.specs.Outcomes.{meaning_of};
 ghost use Rattle.snap_core.specs.Packets.{AllLong, listed};
-ghost use Rattle.snap_core.specs.Runs.{meaning_with, set_in};
+ghost use Rattle.snap_core.specs.Runs.{after_first, meaning_with, set_in};
 
 use crate::NoMemory;
 use crate::atoms::index_on;
@@ -98,30 +98,84 @@ fn part(alloc: Global, pol: &Pol, store: &mut Store, packet: Packet) -> Result<R
     ensures lengths { IfOk result (λ r. AllLong (length packet) (set_in r.copies)) }
 {
     match pol {
-        Pol::Filter(pred) => Ok(filter(alloc, pred, store, packet)?),
+        Pol::Filter(pred) => filter(alloc, pred, store, packet),
         Pol::Set { comp, from } => Ok(set(*comp, *from, packet)),
-        Pol::Change(update) => Ok(change(update, store, packet)?),
-        Pol::Par(left, right) => {
-            let left = run(alloc, left, store, packet.copy()?)?;
-            let right = run(alloc, right, store, packet)?;
-            left.beside(alloc, right)
-        }
-        Pol::Seq(first, second) => {
-            let comps = packet.comps().len();
-            let first = run(alloc, first, store, packet)?;
-            let after = each(alloc, second, store, first.copies, comps)?;
-            Ok(after.logged(first.reads, first.writes))
-        }
-        Pol::If(test, yes, no) => {
-            let reads = read_by(test);
-            if holds(alloc, test, store, &packet)? {
-                Ok(run(alloc, yes, store, packet)?.logged(reads, 0))
-            } else {
-                Ok(run(alloc, no, store, packet)?.logged(reads, 0))
-            }
-        }
+        Pol::Change(update) => change(update, store, packet),
+        Pol::Par(left, right) => both(alloc, left, right, store, packet),
+        Pol::Seq(first, second) => in_turn(alloc, first, second, store, packet),
+        Pol::If(test, yes, no) => choice(alloc, test, yes, no, store, packet),
         Pol::Atomic(part) => run(alloc, part, store, packet),
     }
+}
+
+// Two policies side by side.
+#[inline(never)]
+#[cycle(eval)]
+fn both(
+    alloc: Global,
+    left: &Pol,
+    right: &Pol,
+    store: &mut Store,
+    packet: Packet,
+) -> Result<Run, EvalFault>
+    requires left { PolFits (length packet) 64 left.now }
+    requires right { PolFits (length packet) 64 right.now }
+    ensures ok { IfOk result (λ r. all_together (arrays_of store.old) (eval left.now (arrays_of store.old) packet ∷ eval right.now (arrays_of store.old) packet ∷ []) ≡ Some (meaning_with (arrays_of store.new) r)) }
+    ensures undefined { result ≡ Err EvalFault.Undefined → all_together (arrays_of store.old) (eval left.now (arrays_of store.old) packet ∷ eval right.now (arrays_of store.old) packet ∷ []) ≡ None }
+    ensures lengths { IfOk result (λ r. AllLong (length packet) (set_in r.copies)) }
+{
+    let left = run(alloc, left, store, packet.copy()?)?;
+    let right = run(alloc, right, store, packet)?;
+    left.beside(alloc, right)
+}
+
+// A policy, and another on each packet that it gives.
+#[inline(never)]
+#[cycle(eval)]
+fn in_turn(
+    alloc: Global,
+    first: &Pol,
+    second: &Pol,
+    store: &mut Store,
+    packet: Packet,
+) -> Result<Run, EvalFault>
+    requires first { PolFits (length packet) 64 first.now }
+    requires second { PolFits (length packet) 64 second.now }
+    ensures ok { IfOk result (λ r. option_and_then (after_first second.now) (eval first.now (arrays_of store.old) packet) ≡ Some (meaning_with (arrays_of store.new) r)) }
+    ensures undefined { result ≡ Err EvalFault.Undefined → option_and_then (after_first second.now) (eval first.now (arrays_of store.old) packet) ≡ None }
+    ensures lengths { IfOk result (λ r. AllLong (length packet) (set_in r.copies)) }
+{
+    let comps = packet.comps().len();
+    let first = run(alloc, first, store, packet)?;
+    let after = each(alloc, second, store, first.copies, comps)?;
+    Ok(after.logged(first.reads, first.writes))
+}
+
+// One of two policies.
+#[inline(never)]
+#[cycle(eval)]
+fn choice(
+    alloc: Global,
+    test: &Pred,
+    yes: &Pol,
+    no: &Pol,
+    store: &mut Store,
+    packet: Packet,
+) -> Result<Run, EvalFault>
+    requires test { PredFits (length packet) 64 test.now }
+    requires yes { PolFits (length packet) 64 yes.now }
+    requires no { PolFits (length packet) 64 no.now }
+    ensures ok { IfOk result (λ r. option_map (logged (vars_of test.now) 0) (if truth test.now (arrays_of store.old) packet then eval yes.now (arrays_of store.old) packet else eval no.now (arrays_of store.old) packet) ≡ Some (meaning_with (arrays_of store.new) r)) }
+    ensures undefined { result ≡ Err EvalFault.Undefined → option_map (logged (vars_of test.now) 0) (if truth test.now (arrays_of store.old) packet then eval yes.now (arrays_of store.old) packet else eval no.now (arrays_of store.old) packet) ≡ None }
+    ensures lengths { IfOk result (λ r. AllLong (length packet) (set_in r.copies)) }
+{
+    let pol = if holds(alloc, test, store, &packet)? {
+        yes
+    } else {
+        no
+    };
+    let done = run(alloc, pol, store, packet)?;
+    Ok(done.logged(read_by(test), 0))
 }
 
 // A policy on each packet, side by side. Each packet has this many components.
@@ -171,9 +225,11 @@ fn side_by_side(
     Ok(all)
 }
 
-fn filter(alloc: Global, pred: &Pred, store: &Store, packet: Packet) -> Result<Run, NoMemory>
+#[inline(never)]
+fn filter(alloc: Global, pred: &Pred, store: &Store, packet: Packet) -> Result<Run, EvalFault>
     requires { PredFits (length packet) 64 pred.now }
     ensures ok { IfOk result (λ r. eval (Filter pred.now) (arrays_of store.now) packet ≡ Some (meaning_with (arrays_of store.now) r)) }
+    ensures memory { IfErr result (λ e. e ≡ EvalFault.NoMemory) }
     ensures lengths { IfOk result (λ r. AllLong (length packet) (set_in r.copies)) }
 {
     let copies = if holds(alloc, pred, store, &packet)? {
@@ -203,9 +259,11 @@ fn set(comp: u16, from: Atom, mut packet: Packet) -> Run
     }
 }
 
-fn change(update: &Update, store: &mut Store, packet: Packet) -> Result<Run, NoMemory>
+#[inline(never)]
+fn change(update: &Update, store: &mut Store, packet: Packet) -> Result<Run, EvalFault>
     requires { UpdateFits (length packet) 64 update.now }
     ensures ok { IfOk result (λ r. eval (Change update.now) (arrays_of store.old) packet ≡ Some (meaning_with (arrays_of store.new) r)) }
+    ensures memory { IfErr result (λ e. e ≡ EvalFault.NoMemory) }
     ensures lengths { IfOk result (λ r. AllLong (length packet) (set_in r.copies)) }
 {
     store.update(&packet, update)?;
