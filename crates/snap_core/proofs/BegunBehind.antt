@@ -1,5 +1,5 @@
 -- Parts side by side may be done one after the other.
-use Rattle.std.proofs.Common.{◌≡◌, ℕ, Bool, true, false, cond, ◌||◌, List, [], ◌∷◌, Option, Some, None, refl, sym, ap, subst, ◌∙◌, bit_or}
+use Rattle.std.proofs.Common.{◌≡◌, ℕ, Bool, true, false, cond, List, [], ◌∷◌, Option, Some, None, refl, sym, ap, subst, ◌∙◌, bit_or}
 use Rattle.std.specs.Prelude.{option_and_then, unwrap_or}
 use Rattle.std.proofs.lemmas.Bool.{or_parts, both_ways}
 use Rattle.snap_core.specs.declared.place.Place.{Place}

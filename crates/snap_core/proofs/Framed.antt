@@ -1,10 +1,10 @@
 -- An evaluation depends on the variables of its logs alone.
-use Rattle.std.proofs.Common.{◌≡◌, ℕ, ◌^◌, Bool, true, false, cond, ◌||◌, List, [], ◌∷◌, Option, Some, None, map, refl, sym, ap, subst, ◌∙◌, ⊎_elim, arith, bit_or}
+use Rattle.std.proofs.Common.{◌≡◌, ℕ, ◌^◌, Bool, true, false, cond, ◌||◌, List, [], ◌∷◌, Option, Some, None, map, refl, sym, ap, subst, ◌∙◌, arith, bit_or}
 use Rattle.std.specs.Prelude.{option_and_then, option_map, unwrap_or}
 use Rattle.std.specs.Int.{bit_at}
 use Rattle.std.specs.Int.Bits.{or_zero_l}
 use Rattle.std.specs.List.{list_any}
-use Rattle.std.proofs.lemmas.Bool.{cases_Bool, cond-true, cond-false, eqb-true, eq-eqb}
+use Rattle.std.proofs.lemmas.Bool.{cond-true, cond-false, eqb-true, eq-eqb}
 use Rattle.std.proofs.lemmas.Nat.Bits.{bit_at_or, bit_at-lt, bit_at-zero, bit_at-pow_same}
 use Rattle.snap_core.specs.declared.place.Place.{Place}
 use Rattle.snap_core.specs.declared.policy.Pol.{Pol}
@@ -14,10 +14,9 @@ use Rattle.snap_core.specs.declared.policy.Pred.TheVariants.{Id, Drop, Field, St
 use Rattle.snap_core.specs.declared.policy.Update.{Update}
 use Rattle.snap_core.specs.Arrays.{Arrays, same_place, place_at, value_of, number_after, update, taken}
 use Rattle.snap_core.specs.Laws.{AgreesOn}
-use Rattle.snap_core.specs.Variables.{has, meets}
-use Rattle.snap_core.specs.Packets.{PacketSet, no_packets, with_packet, listed, union}
+use Rattle.snap_core.specs.Variables.{has}
+use Rattle.snap_core.specs.Packets.{no_packets, with_packet, listed, union}
 use Rattle.snap_core.specs.Meaning.{Meaning, truth, vars_of, clash, any_clash, merge, all_packets, all_reads, all_writes, together, joined, beside, all_defined, all_together, logged, eval}
-use Rattle.snap_core.specs.Runs.{after_both, begun_behind}
 use Rattle.snap_core.proofs.EvalLemmas.{both_together}
 use Rattle.snap_core.proofs.Gathered.{beside_all}
 use Rattle.snap_core.proofs.Kept.{Keeps, IfDefined, keeps, all_together_keeps}

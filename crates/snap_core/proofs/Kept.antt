@@ -1,5 +1,5 @@
 -- What an evaluation leaves as it is.
-use Rattle.std.proofs.Common.{◌≡◌, ℕ, Bool, true, false, cond, List, [], ◌∷◌, Option, Some, None, map, refl, subst, ◌∙◌, bit_or}
+use Rattle.std.proofs.Common.{◌≡◌, ℕ, Bool, true, false, cond, List, [], ◌∷◌, Option, Some, None, map, refl, ◌∙◌, bit_or}
 use Rattle.std.specs.Prelude.{option_and_then, option_map}
 use Rattle.std.proofs.lemmas.Bool.{cond-false}
 use Rattle.snap_core.specs.declared.place.Place.{Place}

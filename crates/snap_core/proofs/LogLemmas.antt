@@ -1,5 +1,5 @@
 -- Logs of one outcome, one after another.
-use Rattle.std.proofs.Common.{◌≡◌, ℕ, Bool, true, false, cond, Option, None, Some, refl, sym, ap, ◌∙◌, bit_or}
+use Rattle.std.proofs.Common.{◌≡◌, ℕ, Option, None, Some, refl, sym, bit_or}
 use Rattle.std.specs.Prelude.{option_map}
 use Rattle.std.specs.Int.Bits.{or_zero_l}
 use Rattle.snap_core.specs.Meaning.{Meaning, logged}

@@ -1,5 +1,5 @@
 -- Numbers of 64 bits stay so.
-use Rattle.std.proofs.Common.{◌≡◌, ℕ, ◌+◌, ◌%◌, ◌^◌, ◌<◌, Bool, true, false, cond, ◌||◌, List, [], ◌∷◌, map, length, zero, suc, refl, sym, ap, subst, ◌∙◌, ⊎_elim, arith, lit<}
+use Rattle.std.proofs.Common.{◌≡◌, ℕ, ◌^◌, ◌<◌, Bool, true, false, cond, ◌||◌, List, [], ◌∷◌, map, length, zero, suc, refl, sym, ap, subst, ◌∙◌, ⊎_elim, arith, lit<}
 use Rattle.std.specs.Prelude.{IsTrue, slice_index, slice_set}
 use Rattle.std.specs.List.{AllByRecursion, list_any}
 use Rattle.std.specs.FinMap.{contains_key, contains_key-keys}

@@ -1,5 +1,5 @@
 -- What an evaluation in place means.
-use Rattle.std.specs.Prelude.{ℕ, Option, Some, None, map, bit_or, option_map, if◌then◌else◌}
+use Rattle.std.specs.Prelude.{Option, Some, None, map, bit_or, option_map, if◌then◌else◌}
 use Rattle.snap_core.specs.declared.copies.Copies.{Copies}
 use Rattle.snap_core.specs.declared.copies.Copies.TheVariants.{One, Many}
 use Rattle.snap_core.specs.declared.policy.Pol.{Pol}

@@ -1,4 +1,4 @@
-use Rattle.std.proofs.Common.{◌≡◌, ◌≤◌, ◌+◌, ◌∷◌, ap, sym, subst, ◌∙◌, length, arith, Some, Result, Ok, Err, OnOk, suc}
+use Rattle.std.proofs.Common.{◌≡◌, ◌≤◌, ◌∷◌, ap, sym, subst, ◌∙◌, length, arith, Some, Result, Ok, Err, OnOk, suc}
 use Rattle.std.specs.HashMap.{spare}
 use Rattle.std.specs.List.{IsDistinct}
 use Rattle.std.specs.Map.{keys_of}

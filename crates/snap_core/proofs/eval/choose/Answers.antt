@@ -1,4 +1,4 @@
-use Rattle.std.proofs.Common.{◌≡◌, ◌≤◌, refl, true, false, cond, length, ap, sym, subst, ◌∙◌, rules, arith, bit_or}
+use Rattle.std.proofs.Common.{◌≡◌, ◌≤◌, true, false, cond, length, ap, sym, subst, ◌∙◌, rules, arith, bit_or}
 use Rattle.std.specs.Prelude.{option_map}
 use Rattle.snap_core.specs.declared.policy.Pol.{size-Pol, the_lemmas}
 use Rattle.snap_core.specs.Cells.{arrays_of}

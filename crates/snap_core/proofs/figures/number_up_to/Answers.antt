@@ -1,7 +1,5 @@
-use Rattle.std.proofs.Common.{◌<◌, ◌≡◌, ◌∙◌, sym, ap, true, length, rules, arith}
-use Rattle.std.proofs.lemmas.Grind.{common_steps}
-use Rattle.snap_core.specs.Figures.{value_of_digits}
-use Rattle.snap_core.proofs.FigureLemmas.{number_up_to-above, number_up_to-other, number_up_to-digits, value_of_digits-more, value_of_digits-read, value_of_digits-le, digits-more, digits-other, digits-read}
+use Rattle.std.proofs.Common.{◌∙◌, sym, arith}
+use Rattle.snap_core.proofs.FigureLemmas.{number_up_to-above, value_of_digits-le}
 use Rattle.snap_core.proofs.figures.number_up_to.Goals as goal
 
 pub returns-in_err-checked_mul : goal.returns-in_err-checked_mul

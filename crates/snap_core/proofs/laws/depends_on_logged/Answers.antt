@@ -1,5 +1,4 @@
 use Rattle.std.proofs.Common.{subst}
-use Rattle.snap_core.specs.Laws.{AgreesOn}
 use Rattle.snap_core.specs.Meaning.{eval}
 use Rattle.snap_core.proofs.Framed.{Follows, follows}
 use Rattle.snap_core.proofs.laws.depends_on_logged.Goals as goal

@@ -1,4 +1,4 @@
-use Rattle.std.proofs.Common.{ℕ, ◌<◌, eqb, arith, eq-eqb, get_or}
+use Rattle.std.proofs.Common.{◌<◌, eqb, arith, eq-eqb, get_or}
 use Rattle.snap_core.proofs.PartLemmas.{parts_by-split, parts_by-none}
 use Rattle.snap_core.proofs.parts.split_at_first.Goals as goal
 

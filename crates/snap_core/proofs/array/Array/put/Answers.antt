@@ -1,4 +1,4 @@
-use Rattle.std.proofs.Common.{ap, sym, ◌∙◌, Some, cond, rules}
+use Rattle.std.proofs.Common.{ap, ◌∙◌, Some, cond, rules}
 use Rattle.std.specs.Str.{bytes_eq}
 use Rattle.snap_core.specs.Cells.{cell}
 use Rattle.snap_core.proofs.CellLemmas.{cell-hashed_update}

@@ -1,6 +1,5 @@
 use Rattle.std.proofs.Common.{ap, ◌∙◌}
 use Rattle.std.proofs.lemmas.List.Sorted.{IsPermutation-map}
-use Rattle.std.specs.Global.{Vec}
 use Rattle.snap_core.specs.Cells.{cell, cells_of}
 use Rattle.snap_core.proofs.CellMerge.{cell-reordered, IsDistinct-cells_of}
 use Rattle.snap_core.proofs.array.Array.reserve.Goals as goal

@@ -1,4 +1,4 @@
-use Rattle.std.proofs.Common.{◌≡◌, [], ◌∷◌, ◌++◌, ap, sym, ◌∙◌, rules}
+use Rattle.std.proofs.Common.{◌≡◌, [], ◌∷◌, ap, sym, ◌∙◌, rules}
 use Rattle.snap_core.specs.Packets.{no_packets, union, with_packets}
 use Rattle.snap_core.specs.Runs.{set_in}
 use Rattle.snap_core.proofs.PacketSets.{union-with_packets}

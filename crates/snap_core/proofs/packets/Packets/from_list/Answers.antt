@@ -3,7 +3,7 @@ use Rattle.std.specs.FinMap.{contains_key}
 use Rattle.std.specs.List.{list_any}
 use Rattle.std.specs.Ordering.{eq_by_cmp}
 use Rattle.std.proofs.lemmas.List.{nil_from_length}
-use Rattle.snap_core.specs.Packets.{packet_cmp, with_packet}
+use Rattle.snap_core.specs.Packets.{packet_cmp}
 use Rattle.snap_core.proofs.PacketSets.{contains-with_packet, contains-no_packets, contains-listed, same_packets, swapped_out, or-none}
 use Rattle.snap_core.proofs.packets.Packets.from_list.Goals as goal
 

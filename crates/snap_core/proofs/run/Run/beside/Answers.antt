@@ -1,4 +1,4 @@
-use Rattle.std.proofs.Common.{◌≡◌, None, Some, cond, ap, sym, ◌∙◌}
+use Rattle.std.proofs.Common.{None, Some, cond, ap, sym, ◌∙◌}
 use Rattle.snap_core.specs.Runs.{after_both, meaning_with}
 use Rattle.snap_core.proofs.run.Run.beside.Goals as goal
 

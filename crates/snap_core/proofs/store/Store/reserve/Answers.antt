@@ -1,4 +1,4 @@
-use Rattle.std.proofs.Common.{ap, sym, ◌∙◌, [], Some, rules}
+use Rattle.std.proofs.Common.{ap, sym, ◌∙◌, [], rules}
 use Rattle.std.specs.Prelude.{unwrap_or}
 use Rattle.snap_core.specs.Cells.{cell, array_at, arrays_of}
 use Rattle.snap_core.proofs.StoreLemmas.{arrays-kept}

@@ -1,4 +1,4 @@
-use Rattle.std.proofs.Common.{◌≡◌, ◌++◌, Some, length, subst, sym, ap, ◌∙◌, refl}
+use Rattle.std.proofs.Common.{◌++◌, length, subst, sym, ap, ◌∙◌, refl}
 use Rattle.snap_core.specs.Cells.{arrays_of}
 use Rattle.snap_core.specs.Fields.{count}
 use Rattle.snap_core.specs.Fits.{PolFits}
