@@ -1,12 +1,17 @@
 -- What an evaluation in place means.
-use Rattle.std.specs.Prelude.{Option, Some, None, map, bit_or, option_map, if◌then◌else◌}
+use Rattle.std.specs.Prelude.{ℕ, List, Option, Some, None, map, bit_or, option_map, if◌then◌else◌}
 use Rattle.snap_core.specs.declared.copies.Copies.{Copies}
 use Rattle.snap_core.specs.declared.copies.Copies.TheVariants.{One, Many}
+use Rattle.snap_core.specs.declared.copies.Flow.{Flow}
+use Rattle.snap_core.specs.declared.copies.Flow.TheVariants.{Same}
+use Rattle.snap_core.specs.declared.copies.Flow.TheVariants as flow
 use Rattle.snap_core.specs.declared.policy.Pol.{Pol}
+use Rattle.snap_core.specs.declared.policy.Pred.{Pred}
 use Rattle.snap_core.specs.declared.run.Run.{Run}
+use Rattle.snap_core.specs.declared.run.Logs.{Logs}
 use Rattle.snap_core.specs.Arrays.{Arrays}
 use Rattle.snap_core.specs.Packets.{PacketSet, no_packets, with_packet, with_packets, listed, union}
-use Rattle.snap_core.specs.Meaning.{Meaning, all_together, clash, eval, logged}
+use Rattle.snap_core.specs.Meaning.{Meaning, all_together, clash, eval, logged, truth, vars_of}
 
 -- the set of packets
 abbrev pub set_in : Copies → PacketSet
@@ -17,6 +22,24 @@ set_in (Many v) = with_packets no_packets v.items
 abbrev pub meaning_with : Arrays → Run → Meaning
 meaning_with m r = record { arrays = m; packets = set_in r.copies; reads = r.reads; writes = r.writes }
 
+-- ---- in place
+abbrev pub set_after : Flow → List ℕ → PacketSet
+set_after Same k = with_packet no_packets k
+set_after (flow.Many v) k = with_packets no_packets v.items
+
+-- what a policy came to, within a run with these logs, that left the arrays m and the packet k
+abbrev pub flown : Arrays → Flow → List ℕ → Logs → Meaning
+flown m f k l = record { arrays = m; packets = set_after f k; reads = l.reads; writes = l.writes }
+
+-- an outcome within a run with these logs
+abbrev pub within : Logs → Option Meaning → Option Meaning
+within l o = option_map (logged l.reads l.writes) o
+
+-- the outcome of one of two parts
+abbrev pub chosen : Pred → (yes no : Option Meaning) → Arrays → List ℕ → Option Meaning
+chosen x a b m k = option_map (logged (vars_of x) 0) (if truth x m k then a else b)
+
+-- ---- one part after another
 -- the second part on the packets of the first, from the arrays that it left
 abbrev pub after_first : Pol → Meaning → Option Meaning
 after_first q o = option_map (logged o.reads o.writes) (all_together o.arrays (map (λ k. eval q o.arrays k) (listed o.packets)))

@@ -2,7 +2,7 @@
 
 ghost use Rattle.std.specs.Prelude.{◌≡◌, IfOk};
 ghost use Rattle.snap_core.specs.Packets.{no_packets, union, with_packets};
-ghost use Rattle.snap_core.specs.Runs.{set_in};
+ghost use Rattle.snap_core.specs.Runs.{set_after, set_in};
 
 use crate::NoMemory;
 use crate::packet::Packet;
@@ -14,6 +14,28 @@ use std::alloc::Global;
 pub enum Copies {
     One(Packet),
     Many(Vec<Packet>),
+}
+
+/// What a policy makes of a packet that it changes in place.
+#[derive(Drop)]
+pub(crate) enum Flow {
+    /// The packet alone, as it now is.
+    Same,
+
+    /// These packets, in no order. Equal ones count once.
+    Many(Vec<Packet>),
+}
+
+impl Flow {
+    /// The packets, where the packet in place now is this one.
+    pub(crate) fn copies(self, packet: Packet) -> Copies
+        ensures { set_in result ≡ set_after self packet }
+    {
+        match self {
+            Flow::Same => Copies::One(packet),
+            Flow::Many(packets) => Copies::Many(packets),
+        }
+    }
 }
 
 impl Copies {
@@ -35,7 +57,8 @@ impl Copies {
         Ok(Copies::Many(all))
     }
 
-    fn into_vec(self, alloc: Global) -> Result<Vec<Packet>, NoMemory>
+    /// The packets in a list.
+    pub(crate) fn into_vec(self, alloc: Global) -> Result<Vec<Packet>, NoMemory>
         ensures { IfOk result (λ packets. with_packets no_packets packets.items ≡ set_in self) }
     {
         match self {

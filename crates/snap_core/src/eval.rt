@@ -1,25 +1,26 @@
 //! Evaluation.
 
-ghost use Rattle.std.specs.Prelude.{◌≡◌, ◌<◌, ◌≤◌, IfOk, IfErr, [], ◌∷◌, if◌then◌else◌, option_and_then, option_map, true, false, None, Some, Err, map, length, All};
+ghost use Rattle.std.specs.Prelude.{◌≡◌, ◌<◌, ◌≤◌, ◌^◌, IfOk, IfErr, [], ◌∷◌, if◌then◌else◌, option_and_then, option_map, true, false, None, Some, Err, map, length, All};
 ghost use Rattle.snap_core.specs.Arrays.{Arrays, place_at};
 ghost use Rattle.snap_core.specs.Cells.{arrays_of};
 ghost use Rattle.snap_core.specs.Fits.{AtomFits, IndexFits, PredFits, PolFits, UpdateFits, VarsBelow};
 ghost use Rattle.snap_core.specs.declared.policy.Pol.TheVariants.{Filter, Set, Change};
 ghost use Rattle.snap_core.specs.Meaning.{truth, vars_of, eval, all_together, logged};
 ghost use Rattle.snap_core.specs.declared.policy.Pol.{size-Pol};
+ghost use Rattle.snap_core.specs.declared.run.Logs.{Logs as LogsData};
 ghost use Rattle.snap_core.specs.Outcomes.{meaning_of};
-ghost use Rattle.snap_core.specs.Packets.{AllLong, listed};
-ghost use Rattle.snap_core.specs.Runs.{after_first, meaning_with, set_in};
+ghost use Rattle.snap_core.specs.Packets.{AllLong, listed, no_packets, with_packets};
+ghost use Rattle.snap_core.specs.Runs.{after_first, chosen, flown, meaning_with, set_after, set_in, within};
 
 use crate::NoMemory;
 use crate::atoms::index_on;
-use crate::copies::Copies;
+use crate::copies::Flow;
 use crate::lists::Atoms;
 use crate::outcome::{EvalFault, Outcome};
 use crate::packet::Packet;
 use crate::packets::Packets;
 use crate::policy::{Atom, Pol, Pred, Update};
-use crate::run::Run;
+use crate::run::{Logs, Run};
 use crate::store::Store;
 use std::alloc::Global;
 
@@ -52,16 +53,36 @@ pub fn run(alloc: Global, pol: &Pol, store: &mut Store, packet: Packet) -> Resul
     ensures undefined { result ≡ Err EvalFault.Undefined → eval pol.now (arrays_of store.old) packet ≡ None }
     ensures lengths { IfOk result (λ r. AllLong (length packet) (set_in r.copies)) }
 {
-    let chosen = choose(alloc, pol, store, &packet)?;
-    let done = part(alloc, chosen.pol, store, packet)?;
-    Ok(done.logged(chosen.reads, 0))
+    let mut packet = packet;
+    let mut logs = Logs {
+        reads: 0,
+        writes: 0,
+    };
+    let flow = pass(alloc, pol, store, &mut packet, &mut logs)?;
+    Ok(Run {
+        copies: flow.copies(packet),
+        reads: logs.reads,
+        writes: logs.writes,
+    })
 }
 
-// What choices lead to, and the variables that they read.
-#[derive(Drop)]
-struct Chosen<'a> {
-    pol: &'a Pol,
-    reads: u64,
+// The same within a run, whose packet is changed in place and whose logs grow.
+#[cycle(eval)]
+fn pass(
+    alloc: Global,
+    pol: &Pol,
+    store: &mut Store,
+    packet: &mut Packet,
+    logs: &mut Logs,
+) -> Result<Flow, EvalFault>
+    requires { PolFits (length packet.old) 64 pol.now }
+    ensures ok { IfOk result (λ f. within logs.old (eval pol.now (arrays_of store.old) packet.old) ≡ Some (flown (arrays_of store.new) f packet.new logs.new)) }
+    ensures undefined { result ≡ Err EvalFault.Undefined → eval pol.now (arrays_of store.old) packet.old ≡ None }
+    ensures lengths { IfOk result (λ f. AllLong (length packet.old) (set_after f packet.new)) }
+    ensures length { length packet.new ≡ length packet.old }
+{
+    let pol = choose(alloc, pol, store, packet, logs)?;
+    part(alloc, pol, store, packet, logs)
 }
 
 // The policy behind the choices with which a policy begins.
@@ -70,41 +91,51 @@ fn choose<'a>(
     pol: &'a Pol,
     store: &Store,
     packet: &Packet,
-) -> Result<Chosen<'a>, NoMemory>
+    logs: &mut Logs,
+) -> Result<&'a Pol, NoMemory>
     requires { PolFits (length packet.now) 64 pol.now }
-    ensures fits { IfOk result (λ c. PolFits (length packet.now) 64 c.pol.now) }
-    ensures same { IfOk result (λ c. eval pol.now (arrays_of store.now) packet.now ≡ option_map (logged c.reads 0) (eval c.pol.now (arrays_of store.now) packet.now)) }
-    ensures inner { IfOk result (λ c. size-Pol c.pol.now ≤ size-Pol pol.now) }
+    ensures fits { IfOk result (λ c. PolFits (length packet.now) 64 c.now) }
+    ensures same { IfOk result (λ c. within logs.old (eval pol.now (arrays_of store.now) packet.now) ≡ within logs.new (eval c.now (arrays_of store.now) packet.now)) }
+    ensures inner { IfOk result (λ c. size-Pol c.now ≤ size-Pol pol.now) }
 {
     let mut pol = pol;
-    let mut reads = 0;
     while let Pol::If(test, yes, no) = pol {
-        reads |= read_by(test);
+        logs.reads |= read_by(test);
         pol = if holds(alloc, test, store, packet)? {
             yes
         } else {
             no
         };
     }
-    Ok(Chosen { pol, reads })
+    Ok(pol)
 }
 
-// The same as `run`, for a policy that begins with no choice.
+// The same as `pass`, for a policy that begins with no choice.
 #[cycle(eval)]
-fn part(alloc: Global, pol: &Pol, store: &mut Store, packet: Packet) -> Result<Run, EvalFault>
-    requires { PolFits (length packet) 64 pol.now }
-    ensures ok { IfOk result (λ r. eval pol.now (arrays_of store.old) packet ≡ Some (meaning_with (arrays_of store.new) r)) }
-    ensures undefined { result ≡ Err EvalFault.Undefined → eval pol.now (arrays_of store.old) packet ≡ None }
-    ensures lengths { IfOk result (λ r. AllLong (length packet) (set_in r.copies)) }
+fn part(
+    alloc: Global,
+    pol: &Pol,
+    store: &mut Store,
+    packet: &mut Packet,
+    logs: &mut Logs,
+) -> Result<Flow, EvalFault>
+    requires { PolFits (length packet.old) 64 pol.now }
+    ensures ok { IfOk result (λ f. within logs.old (eval pol.now (arrays_of store.old) packet.old) ≡ Some (flown (arrays_of store.new) f packet.new logs.new)) }
+    ensures undefined { result ≡ Err EvalFault.Undefined → eval pol.now (arrays_of store.old) packet.old ≡ None }
+    ensures lengths { IfOk result (λ f. AllLong (length packet.old) (set_after f packet.new)) }
+    ensures length { length packet.new ≡ length packet.old }
 {
     match pol {
-        Pol::Filter(pred) => filter(alloc, pred, store, packet),
+        Pol::Filter(pred) => filter(alloc, pred, store, packet, logs),
         Pol::Set { comp, from } => Ok(set(*comp, *from, packet)),
-        Pol::Change(update) => change(update, store, packet),
-        Pol::Par(left, right) => both(alloc, left, right, store, packet),
-        Pol::Seq(first, second) => in_turn(alloc, first, second, store, packet),
-        Pol::If(test, yes, no) => choice(alloc, test, yes, no, store, packet),
-        Pol::Atomic(part) => run(alloc, part, store, packet),
+        Pol::Change(update) => change(update, store, packet, logs),
+        Pol::Par(left, right) => {
+            let done = both(alloc, left, right, store, packet.copy()?)?;
+            Ok(done.within(alloc, logs)?)
+        }
+        Pol::Seq(first, second) => in_turn(alloc, first, second, store, packet, logs),
+        Pol::If(test, yes, no) => choice(alloc, test, yes, no, store, packet, logs),
+        Pol::Atomic(part) => pass(alloc, part, store, packet, logs),
     }
 }
 
@@ -130,25 +161,24 @@ fn both(
 }
 
 // A policy, and another on each packet that it gives.
-#[inline(never)]
 #[cycle(eval)]
 fn in_turn(
     alloc: Global,
     first: &Pol,
     second: &Pol,
     store: &mut Store,
-    packet: Packet,
-) -> Result<Run, EvalFault>
-    requires first { PolFits (length packet) 64 first.now }
-    requires second { PolFits (length packet) 64 second.now }
-    ensures ok { IfOk result (λ r. option_and_then (after_first second.now) (eval first.now (arrays_of store.old) packet) ≡ Some (meaning_with (arrays_of store.new) r)) }
-    ensures undefined { result ≡ Err EvalFault.Undefined → option_and_then (after_first second.now) (eval first.now (arrays_of store.old) packet) ≡ None }
-    ensures lengths { IfOk result (λ r. AllLong (length packet) (set_in r.copies)) }
+    packet: &mut Packet,
+    logs: &mut Logs,
+) -> Result<Flow, EvalFault>
+    requires first { PolFits (length packet.old) 64 first.now }
+    requires second { PolFits (length packet.old) 64 second.now }
+    ensures ok { IfOk result (λ f. within logs.old (option_and_then (after_first second.now) (eval first.now (arrays_of store.old) packet.old)) ≡ Some (flown (arrays_of store.new) f packet.new logs.new)) }
+    ensures undefined { result ≡ Err EvalFault.Undefined → option_and_then (after_first second.now) (eval first.now (arrays_of store.old) packet.old) ≡ None }
+    ensures lengths { IfOk result (λ f. AllLong (length packet.old) (set_after f packet.new)) }
+    ensures length { length packet.new ≡ length packet.old }
 {
-    let comps = packet.comps().len();
-    let first = run(alloc, first, store, packet)?;
-    let after = each(alloc, second, store, first.copies, comps)?;
-    Ok(after.logged(first.reads, first.writes))
+    let flow = pass(alloc, first, store, packet, logs)?;
+    each(alloc, second, store, packet, logs, flow)
 }
 
 // One of two policies.
@@ -160,46 +190,70 @@ fn choice(
     yes: &Pol,
     no: &Pol,
     store: &mut Store,
-    packet: Packet,
-) -> Result<Run, EvalFault>
-    requires test { PredFits (length packet) 64 test.now }
-    requires yes { PolFits (length packet) 64 yes.now }
-    requires no { PolFits (length packet) 64 no.now }
-    ensures ok { IfOk result (λ r. option_map (logged (vars_of test.now) 0) (if truth test.now (arrays_of store.old) packet then eval yes.now (arrays_of store.old) packet else eval no.now (arrays_of store.old) packet) ≡ Some (meaning_with (arrays_of store.new) r)) }
-    ensures undefined { result ≡ Err EvalFault.Undefined → option_map (logged (vars_of test.now) 0) (if truth test.now (arrays_of store.old) packet then eval yes.now (arrays_of store.old) packet else eval no.now (arrays_of store.old) packet) ≡ None }
-    ensures lengths { IfOk result (λ r. AllLong (length packet) (set_in r.copies)) }
+    packet: &mut Packet,
+    logs: &mut Logs,
+) -> Result<Flow, EvalFault>
+    requires test { PredFits (length packet.old) 64 test.now }
+    requires yes { PolFits (length packet.old) 64 yes.now }
+    requires no { PolFits (length packet.old) 64 no.now }
+    ensures ok { IfOk result (λ f. within logs.old (chosen test.now (eval yes.now (arrays_of store.old) packet.old) (eval no.now (arrays_of store.old) packet.old) (arrays_of store.old) packet.old) ≡ Some (flown (arrays_of store.new) f packet.new logs.new)) }
+    ensures undefined { result ≡ Err EvalFault.Undefined → chosen test.now (eval yes.now (arrays_of store.old) packet.old) (eval no.now (arrays_of store.old) packet.old) (arrays_of store.old) packet.old ≡ None }
+    ensures lengths { IfOk result (λ f. AllLong (length packet.old) (set_after f packet.new)) }
+    ensures length { length packet.new ≡ length packet.old }
 {
-    let pol = if holds(alloc, test, store, &packet)? {
+    logs.reads |= read_by(test);
+    let pol = if holds(alloc, test, store, packet)? {
         yes
     } else {
         no
     };
-    let done = run(alloc, pol, store, packet)?;
-    Ok(done.logged(read_by(test), 0))
+    pass(alloc, pol, store, packet, logs)
 }
 
-// A policy on each packet, side by side. Each packet has this many components.
+// A policy on each packet that another gave, side by side.
 #[cycle(eval)]
 fn each(
     alloc: Global,
     pol: &Pol,
     store: &mut Store,
-    copies: Copies,
-    comps: usize,
-) -> Result<Run, EvalFault>
-    requires fits { PolFits comps 64 pol.now }
-    requires lengths { AllLong comps (set_in copies) }
-    ensures ok { IfOk result (λ r. all_together (arrays_of store.old) (map (λ k. eval pol.now (arrays_of store.old) k) (listed (set_in copies))) ≡ Some (meaning_with (arrays_of store.new) r)) }
-    ensures undefined { result ≡ Err EvalFault.Undefined → all_together (arrays_of store.old) (map (λ k. eval pol.now (arrays_of store.old) k) (listed (set_in copies))) ≡ None }
-    ensures lengths { IfOk result (λ r. AllLong comps (set_in r.copies)) }
+    packet: &mut Packet,
+    logs: &mut Logs,
+    flow: Flow,
+) -> Result<Flow, EvalFault>
+    requires fits { PolFits (length packet.old) 64 pol.now }
+    requires lengths { AllLong (length packet.old) (set_after flow packet.old) }
+    ensures ok { IfOk result (λ f. within logs.old (all_together (arrays_of store.old) (map (λ k. eval pol.now (arrays_of store.old) k) (listed (set_after flow packet.old)))) ≡ Some (flown (arrays_of store.new) f packet.new logs.new)) }
+    ensures undefined { result ≡ Err EvalFault.Undefined → all_together (arrays_of store.old) (map (λ k. eval pol.now (arrays_of store.old) k) (listed (set_after flow packet.old))) ≡ None }
+    ensures lengths { IfOk result (λ f. AllLong (length packet.old) (set_after f packet.new)) }
+    ensures length { length packet.new ≡ length packet.old }
 {
-    match copies {
-        Copies::One(packet) => run(alloc, pol, store, packet),
-        Copies::Many(packets) => {
-            let packets = Packets::from_list(alloc, packets)?;
-            side_by_side(alloc, pol, store, packets.list(), comps)
-        }
+    match flow {
+        Flow::Same => pass(alloc, pol, store, packet, logs),
+        Flow::Many(packets) => on_all(alloc, pol, store, packet, logs, packets),
     }
+}
+
+// A policy on each of these packets, which may be equal, side by side.
+#[inline(never)]
+#[cycle(eval)]
+fn on_all(
+    alloc: Global,
+    pol: &Pol,
+    store: &mut Store,
+    packet: &Packet,
+    logs: &mut Logs,
+    packets: Vec<Packet>,
+) -> Result<Flow, EvalFault>
+    requires fits { PolFits (length packet.now) 64 pol.now }
+    requires lengths { AllLong (length packet.now) (with_packets no_packets packets.items) }
+    ensures ok { IfOk result (λ f. within logs.old (all_together (arrays_of store.old) (map (λ k. eval pol.now (arrays_of store.old) k) (listed (with_packets no_packets packets.items)))) ≡ Some (flown (arrays_of store.new) f packet.now logs.new)) }
+    ensures undefined { result ≡ Err EvalFault.Undefined → all_together (arrays_of store.old) (map (λ k. eval pol.now (arrays_of store.old) k) (listed (with_packets no_packets packets.items))) ≡ None }
+    ensures lengths { IfOk result (λ f. AllLong (length packet.now) (set_after f packet.now)) }
+{
+    let comps = packet.comps().len();
+    let packets = Packets::from_list(alloc, packets)?;
+    let done = side_by_side(alloc, pol, store, packets.list(), comps)?;
+    Ok(done.within(alloc, logs)?)
 }
 
 // A policy on each of these packets, side by side.
@@ -225,53 +279,60 @@ fn side_by_side(
     Ok(all)
 }
 
-#[inline(never)]
-fn filter(alloc: Global, pred: &Pred, store: &Store, packet: Packet) -> Result<Run, EvalFault>
-    requires { PredFits (length packet) 64 pred.now }
-    ensures ok { IfOk result (λ r. eval (Filter pred.now) (arrays_of store.now) packet ≡ Some (meaning_with (arrays_of store.now) r)) }
+fn filter(
+    alloc: Global,
+    pred: &Pred,
+    store: &Store,
+    packet: &Packet,
+    logs: &mut Logs,
+) -> Result<Flow, EvalFault>
+    requires { PredFits (length packet.now) 64 pred.now }
+    ensures ok { IfOk result (λ f. within logs.old (eval (Filter pred.now) (arrays_of store.now) packet.now) ≡ Some (flown (arrays_of store.now) f packet.now logs.new)) }
     ensures memory { IfErr result (λ e. e ≡ EvalFault.NoMemory) }
-    ensures lengths { IfOk result (λ r. AllLong (length packet) (set_in r.copies)) }
+    ensures lengths { IfOk result (λ f. AllLong (length packet.now) (set_after f packet.now)) }
 {
-    let copies = if holds(alloc, pred, store, &packet)? {
-        Copies::One(packet)
+    logs.reads |= read_by(pred);
+    if holds(alloc, pred, store, packet)? {
+        Ok(Flow::Same)
     } else {
-        Copies::none(alloc)
-    };
-    Ok(Run {
-        copies,
-        reads: read_by(pred),
-        writes: 0,
-    })
-}
-
-fn set(comp: u16, from: Atom, mut packet: Packet) -> Run
-    requires comp { comp < length packet }
-    requires from { AtomFits (length packet) from }
-    ensures ok { (m : Arrays) → eval (Set comp from) m packet ≡ Some (meaning_with m result) }
-    ensures lengths { AllLong (length packet) (set_in result.copies) }
-{
-    let number = from.value(&packet);
-    packet.set(comp, number);
-    Run {
-        copies: Copies::One(packet),
-        reads: 0,
-        writes: 0,
+        Ok(Flow::Many(Vec::new(alloc)))
     }
 }
 
-#[inline(never)]
-fn change(update: &Update, store: &mut Store, packet: Packet) -> Result<Run, EvalFault>
-    requires { UpdateFits (length packet) 64 update.now }
-    ensures ok { IfOk result (λ r. eval (Change update.now) (arrays_of store.old) packet ≡ Some (meaning_with (arrays_of store.new) r)) }
-    ensures memory { IfErr result (λ e. e ≡ EvalFault.NoMemory) }
-    ensures lengths { IfOk result (λ r. AllLong (length packet) (set_in r.copies)) }
+fn set(comp: u16, from: Atom, packet: &mut Packet) -> Flow
+    requires comp { comp < length packet.old }
+    requires from { AtomFits (length packet.old) from }
+    ensures ok { (m : Arrays) (l : LogsData) → within l (eval (Set comp from) m packet.old) ≡ Some (flown m result packet.new l) }
+    ensures lengths { AllLong (length packet.old) (set_after result packet.new) }
+    ensures length { length packet.new ≡ length packet.old }
 {
-    store.update(&packet, update)?;
-    Ok(Run {
-        copies: Copies::One(packet),
-        reads: 0,
-        writes: 1 << update.var,
-    })
+    let number = from.value(packet);
+    packet.set(comp, number);
+    Flow::Same
+}
+
+fn change(
+    update: &Update,
+    store: &mut Store,
+    packet: &Packet,
+    logs: &mut Logs,
+) -> Result<Flow, EvalFault>
+    requires { UpdateFits (length packet.now) 64 update.now }
+    ensures ok { IfOk result (λ f. within logs.old (eval (Change update.now) (arrays_of store.old) packet.now) ≡ Some (flown (arrays_of store.new) f packet.now logs.new)) }
+    ensures memory { IfErr result (λ e. e ≡ EvalFault.NoMemory) }
+    ensures lengths { IfOk result (λ f. AllLong (length packet.now) (set_after f packet.now)) }
+{
+    store.update(packet, update)?;
+    logs.writes |= bit(update.var);
+    Ok(Flow::Same)
+}
+
+// The set of one variable.
+fn bit(var: u16) -> u64
+    requires { var < 64 }
+    ensures { result ≡ 2 ^ var }
+{
+    1 << var
 }
 
 // Whether a predicate is true.

@@ -1,15 +1,22 @@
 //! What an evaluation in place gives.
 
-ghost use Rattle.std.specs.Prelude.{◌≡◌, IfOk, Some, None, Err};
+ghost use Rattle.std.specs.Prelude.{◌≡◌, IfOk, Some, None, Err, List, ℕ};
 ghost use Rattle.snap_core.specs.Arrays.{Arrays};
 ghost use Rattle.snap_core.specs.Packets.{no_packets};
 ghost use Rattle.snap_core.specs.Meaning.{Meaning, clash, logged};
-ghost use Rattle.snap_core.specs.Runs.{after_both, begun_behind, meaning_with};
+ghost use Rattle.snap_core.specs.Runs.{after_both, begun_behind, flown, meaning_with};
 
 use crate::NoMemory;
-use crate::copies::Copies;
+use crate::copies::{Copies, Flow};
 use crate::outcome::EvalFault;
 use std::alloc::Global;
+
+/// The variables that were read and written so far, a bit each.
+#[derive(Clone, Copy)]
+pub(crate) struct Logs {
+    pub(crate) reads: u64,
+    pub(crate) writes: u64,
+}
 
 /// The packets, and the variables that were read and written, a bit each.
 #[derive(Drop)]
@@ -61,14 +68,12 @@ impl Run {
         })
     }
 
-    /// The run with more variables read and written.
-    pub(crate) fn logged(self, reads: u64, writes: u64) -> Run
-        ensures { (m : Arrays) → meaning_with m result ≡ logged reads writes (meaning_with m self) }
+    /// What the run gives within another, which has these logs.
+    pub(crate) fn within(self, alloc: Global, logs: &mut Logs) -> Result<Flow, NoMemory>
+        ensures { (m : Arrays) (k : List ℕ) → IfOk result (λ flow. flown m flow k logs.new ≡ logged logs.old.reads logs.old.writes (meaning_with m self)) }
     {
-        Run {
-            copies: self.copies,
-            reads: reads | self.reads,
-            writes: writes | self.writes,
-        }
+        logs.reads |= self.reads;
+        logs.writes |= self.writes;
+        Ok(Flow::Many(self.copies.into_vec(alloc)?))
     }
 }
