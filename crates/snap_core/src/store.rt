@@ -9,7 +9,7 @@ ghost use Rattle.snap_core.specs.Listing.{IsListing, entry_of};
 
 use crate::NoMemory;
 use crate::array::Array;
-use crate::atoms::index_on;
+use crate::atoms::{ShortIndex, put_index};
 use crate::changes::Changes;
 use crate::packet::Packet;
 use crate::patch::Patch;
@@ -112,10 +112,12 @@ impl Store {
         requires { UpdateFits (length packet.now) 64 change.now }
         ensures { OnOk result (arrays_of self.new ≡ update (arrays_of self.old) change.now packet.now) }
     {
-        let index = index_on(self.alloc, &change.index, packet)?;
+        let mut numbers = ShortIndex::new(self.alloc);
+        put_index(&mut numbers, &change.index, packet)?;
+        let index = numbers.as_slice();
         match change.op {
-            Op::Put(atom) => self.put(change.var, &index, atom.value(packet)),
-            Op::Add(plus) => self.add(change.var, &index, plus),
+            Op::Put(atom) => self.put(change.var, index, atom.value(packet)),
+            Op::Add(plus) => self.add(change.var, index, plus),
         }
     }
 
