@@ -1,7 +1,6 @@
 -- The parts of a text between separators.
-use Rattle.std.proofs.Common.{◌≡◌, ℕ, ◌+◌, ◌-◌, ◌<◌, zero, suc, Bool, true, false, cond, eqb, None, List, [], ◌∷◌, length, take, drop, get_or, refl, sym, ap, ◌∙◌, arith, add-one, length-drop}
+use Rattle.std.proofs.Common.{◌≡◌, ℕ, ◌+◌, ◌-◌, ◌<◌, zero, suc, Bool, true, false, cond, eqb, List, [], ◌∷◌, length, take, drop, get_or, refl, sym, ap, ◌∙◌, arith, add-one, length-drop}
 use Rattle.std.proofs.lemmas.List.{take_all}
-use Rattle.snap_core.specs.Figures.{address_of_parts}
 use Rattle.snap_core.specs.Parts.{onto_first, parts_by}
 
 pub eqb-of_not : (x y : ℕ) → (x ≡ y → ⊥) → eqb x y ≡ false
@@ -30,12 +29,3 @@ module _ (p : ℕ → Bool) where
   parts_by-split bytes i lt before here =
       parts_by-first bytes i lt before here
       ∙ ap (λ l. take i bytes ∷ parts_by p l) (ap (λ k. drop k bytes) (sym (add-one i)) ∙ sym (take_all (length bytes - (i + 1)) (drop (i + 1) bytes) (omega (arith, length-drop (i + 1) bytes))))
-
--- five parts or more are no address
-pub address_of_parts-many : (p : ℕ → Bool) (a b c d rest : List ℕ) → address_of_parts (a ∷ b ∷ c ∷ d ∷ parts_by p rest) ≡ None
-address_of_parts-many p a b c d [] = refl
-address_of_parts-many p a b c d (x ∷ xs) =
-    elim (p x) as (λ t. address_of_parts (a ∷ b ∷ c ∷ d ∷ cond t ([] ∷ parts_by p xs) (onto_first x (parts_by p xs))) ≡ None) [
-      | true ↦ refl
-      | false ↦ elim (parts_by p xs) as (λ ps. address_of_parts (a ∷ b ∷ c ∷ d ∷ onto_first x ps) ≡ None) [ [] ↦ refl | q ∷ qs ↦ refl ]
-    ]

@@ -1,9 +1,7 @@
 //! Numbers and addresses, as texts spell them in decimal digits. Leading zeros are read.
 
-ghost use Rattle.std.specs.Prelude.{◌≡◌, [], ◌∷◌};
-ghost use Rattle.snap_core.specs.Figures.{address_of, address_of_parts, number_of, number_up_to, octet_of};
-
-use crate::parts::split_at_first;
+ghost use Rattle.std.specs.Prelude.{◌≡◌, ◌≤◌, IfSome};
+ghost use Rattle.snap_core.specs.Figures.{address_of, number_of, number_up_to};
 
 /// The number that a text spells in digits, if it has 64 bits.
 pub fn number(text: &[u8]) -> Option<u64>
@@ -17,24 +15,108 @@ pub fn number(text: &[u8]) -> Option<u64>
 pub fn address(text: &[u8]) -> Option<u32>
     ensures { result ≡ address_of text.now }
 {
-    let (first, rest) = split_at_first(text, b'.')?;
-    let (second, rest) = split_at_first(rest, b'.')?;
-    let (third, fourth) = split_at_first(rest, b'.')?;
-    match split_at_first(fourth, b'.') {
-        Some(_) => None,
-        None => address_of_parts(first, second, third, fourth),
+    let mut reading = Reading::new();
+    for byte in text {
+        reading = reading.with(*byte)?;
     }
+    reading.address()
 }
 
-// The number of an address, from its four parts.
-fn address_of_parts(first: &[u8], second: &[u8], third: &[u8], fourth: &[u8]) -> Option<u32>
-    ensures { result ≡ address_of_parts (first.now ∷ second.now ∷ third.now ∷ fourth.now ∷ []) }
-{
-    let first = u32::from(octet(first)?);
-    let second = u32::from(octet(second)?);
-    let third = u32::from(octet(third)?);
-    let fourth = u32::from(octet(fourth)?);
-    Some(((first * 256 + second) * 256 + third) * 256 + fourth)
+// An address as far as it is read: the number of the parts before the last dot, the part behind it, how many digits
+// that one has, and how many dots there were.
+#[derive(Clone, Copy)]
+struct Reading {
+    front: u32,
+    part: u32,
+    digits: u8,
+    dots: u8,
+}
+
+impl Reading {
+    ghost use Rattle.snap_core.specs.AddressSteps.{ReadingFits, address_at_end, is_octet, number_so_far, reading_at_first, with_byte, with_digit, with_dot};
+
+    fn new() -> Reading
+        ensures first { result ≡ reading_at_first }
+        ensures fits { ReadingFits result }
+    {
+        Reading {
+            front: 0,
+            part: 0,
+            digits: 0,
+            dots: 0,
+        }
+    }
+
+    // One byte more, where an address may go on with it.
+    fn with(self, byte: u8) -> Option<Reading>
+        requires { ReadingFits self }
+        ensures with { result ≡ with_byte self byte }
+        ensures fits { IfSome result ReadingFits }
+    {
+        if byte == b'.' {
+            self.with_dot()
+        } else {
+            self.with_digit(byte)
+        }
+    }
+
+    fn with_digit(self, byte: u8) -> Option<Reading>
+        requires { ReadingFits self }
+        ensures with { result ≡ with_digit self byte }
+        ensures fits { IfSome result ReadingFits }
+    {
+        if !byte.is_ascii_digit() || self.digits >= 3 {
+            return None;
+        }
+        Some(Reading {
+            front: self.front,
+            part: self.part * 10 + u32::from(byte - b'0'),
+            digits: self.digits + 1,
+            dots: self.dots,
+        })
+    }
+
+    fn with_dot(self) -> Option<Reading>
+        requires { ReadingFits self }
+        ensures with { result ≡ with_dot self }
+        ensures fits { IfSome result ReadingFits }
+    {
+        if !self.is_octet() || self.dots >= 3 {
+            return None;
+        }
+        Some(Reading {
+            front: self.number_so_far(),
+            part: 0,
+            digits: 0,
+            dots: self.dots + 1,
+        })
+    }
+
+    // The address, where the text ends here.
+    fn address(self) -> Option<u32>
+        requires { ReadingFits self }
+        ensures { result ≡ address_at_end self }
+    {
+        if self.is_octet() && self.dots == 3 {
+            Some(self.number_so_far())
+        } else {
+            None
+        }
+    }
+
+    fn is_octet(self) -> bool
+        ensures { result ≡ is_octet self }
+    {
+        self.digits >= 1 && self.part <= 255
+    }
+
+    fn number_so_far(self) -> u32
+        requires front { ReadingFits self }
+        requires part { self.part ≤ 255 }
+        ensures { result ≡ number_so_far self }
+    {
+        self.front * 256 + self.part
+    }
 }
 
 /// The number that a text spells in digits, if it is at most `most`.
@@ -54,17 +136,4 @@ pub fn number_up_to(most: u64, text: &[u8]) -> Option<u64>
             .checked_add(u64::from(*digit - b'0'))?;
     }
     if number <= most { Some(number) } else { None }
-}
-
-// A part of an address.
-fn octet(text: &[u8]) -> Option<u8>
-    ensures { result ≡ octet_of text.now }
-{
-    if text.len() > 3 {
-        return None;
-    }
-    match number_up_to(255, text) {
-        Some(number) => Some(number as u8),
-        None => None,
-    }
 }

@@ -1,14 +1,66 @@
 -- Drafts, one word more.
-use Rattle.std.proofs.Common.{◌≡◌, ℕ, Bool, true, false, cond, None, List, [], ◌∷◌, refl}
+use Rattle.std.proofs.Common.{◌≡◌, ℕ, ◌||◌, Bool, true, false, cond, eqb, Option, None, Some, List, [], ◌∷◌, refl, sym, ap, ◌∙◌}
+use Rattle.std.specs.Prelude.{option_and_then}
+use Rattle.std.specs.List.{list_any}
 use Rattle.snap_core.specs.declared.program.Field.{Field}
+use Rattle.snap_core.specs.declared.program.Found.{Found}
+use Rattle.snap_core.specs.declared.program.Found.TheVariants.{Plain, Split}
+use Rattle.snap_core.specs.Fields.{found}
 use Rattle.snap_core.specs.Parts.{onto_first, parts_by}
-use Rattle.snap_trace.specs.PacketLines.{Draft, with_parts}
+use Rattle.snap_trace.specs.PacketLines.{Draft, with_number, with_parts, with_value}
+use Rattle.snap_trace.proofs.EqualsLemmas.{is_equals, has_equals, plain_value-equals, split_value-equals}
 
--- a word with a second `=` names nothing
-pub with_parts-many : (p : ℕ → Bool) (fields : List Field) (a b rest : List ℕ) (draft : Draft) → with_parts fields (a ∷ b ∷ parts_by p rest) draft ≡ None
-with_parts-many p fields a b [] draft = refl
-with_parts-many p fields a b (x ∷ xs) draft =
-    elim (p x) as (λ t. with_parts fields (a ∷ b ∷ cond t ([] ∷ parts_by p xs) (onto_first x (parts_by p xs))) draft ≡ None) [
-      | true ↦ refl
-      | false ↦ elim (parts_by p xs) as (λ ps. with_parts fields (a ∷ b ∷ onto_first x ps) draft ≡ None) [ [] ↦ refl | q ∷ qs ↦ refl ]
-    ]
+abbrev are_many : List (List ℕ) → Bool
+are_many (a ∷ b ∷ parts) = true
+are_many parts = false
+
+module _ (p : ℕ → Bool) where
+  two_parts : (a text : List ℕ) → are_many (a ∷ parts_by p text) ≡ true
+  two_parts a [] = refl
+  two_parts a (x ∷ xs) =
+      elim (p x) as (λ t. are_many (a ∷ cond t ([] ∷ parts_by p xs) (onto_first x (parts_by p xs))) ≡ true) [
+        | true ↦ refl
+        | false ↦ elim (parts_by p xs) as (λ ps. are_many (a ∷ onto_first x ps) ≡ true) [ [] ↦ refl | q ∷ qs ↦ refl ]
+      ]
+
+  are_many-onto : (b : ℕ) (parts : List (List ℕ)) → are_many (onto_first b parts) ≡ are_many parts
+  are_many-onto b [] = refl
+  are_many-onto b (x ∷ []) = refl
+  are_many-onto b (x ∷ y ∷ parts) = refl
+
+  -- a text has two parts or more where it has a separator
+  are_many-any : (text : List ℕ) → are_many (parts_by p text) ≡ list_any p text
+  are_many-any [] = refl
+  are_many-any (x ∷ xs) =
+      elim (p x) as (λ t. are_many (cond t ([] ∷ parts_by p xs) (onto_first x (parts_by p xs))) ≡ (t || list_any p xs)) [
+        | true ↦ two_parts [] xs
+        | false ↦ are_many-onto x (parts_by p xs) ∙ are_many-any xs
+      ]
+
+  one_part : (text : List ℕ) → list_any p text ≡ false → parts_by p text ≡ text ∷ []
+  one_part [] e = refl
+  one_part (x ∷ xs) e =
+      elim (p x) as (λ t. (t || list_any p xs) ≡ false → cond t ([] ∷ parts_by p xs) (onto_first x (parts_by p xs)) ≡ (x ∷ xs) ∷ []) [
+        | true ↦ λ h. absurd (cc)
+        | false ↦ λ h. ap (onto_first x) (one_part xs h)
+      ] e
+
+with_parts-many : (fields : List Field) (name : List ℕ) (parts : List (List ℕ)) (draft : Draft) → are_many parts ≡ true → with_parts fields (name ∷ parts) draft ≡ None
+with_parts-many fields name [] draft e = absurd (cc)
+with_parts-many fields name (a ∷ []) draft e = absurd (cc)
+with_parts-many fields name (a ∷ b ∷ parts) draft e = refl
+
+-- a value with a `=` in it sets nothing
+with_value-equals : (named : Option Found) (value : List ℕ) (draft : Draft) → has_equals value ≡ true → with_value named value draft ≡ None
+with_value-equals None value draft e = refl
+with_value-equals (Some (Plain comp)) value draft e = ap (λ n. option_and_then (λ n. with_number comp n draft) n) (plain_value-equals value e)
+with_value-equals (Some (Split net host prefix)) value draft e =
+    ap (λ n. option_and_then (λ (pair : ℕ × ℕ). option_and_then (with_number host pair.1) (with_number net pair.0 draft)) n) (split_value-equals prefix value e)
+
+-- A word is cut at its first `=`: no value has another.
+pub with_parts-value : (fields : List Field) (name value : List ℕ) (draft : Draft) → with_parts fields (name ∷ parts_by (λ b. eqb b 61) value) draft ≡ with_value (found fields name) value draft
+with_parts-value fields name value draft =
+    elim (has_equals value) as (λ t. has_equals value ≡ t → with_parts fields (name ∷ parts_by is_equals value) draft ≡ with_value (found fields name) value draft) [
+      | true ↦ λ e. with_parts-many fields name (parts_by is_equals value) draft (are_many-any is_equals value ∙ e) ∙ sym (with_value-equals (found fields name) value draft e)
+      | false ↦ λ e. ap (λ parts. with_parts fields (name ∷ parts) draft) (one_part is_equals value e)
+    ] refl

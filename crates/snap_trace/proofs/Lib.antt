@@ -4,3 +4,4 @@ pub mod RunLemmas
 pub mod StepLemmas
 pub mod TailLemmas
 pub mod DigitLemmas
+pub mod EqualsLemmas

@@ -62,10 +62,8 @@ impl Draft {
         let Some((name, value)) = split_at_first(word, b'=') else {
             return Err(LineFault::Bad);
         };
-        match split_at_first(value, b'=') {
-            Some(_) => Err(LineFault::Bad),
-            None => self.set_value(fields.find(name), value),
-        }
+        // A value with another `=` in it is no number and no address, and is refused as such.
+        self.set_value(fields.find(name), value)
     }
 
     // Sets what a name stands for to what stands behind it.

@@ -1,7 +1,7 @@
 use Rattle.std.proofs.Common.{◌≡◌, ◌&&◌, true, false, take, drop, length, sym, ap, ◌∙◌, arith}
 use Rattle.std.specs.Str.{bytes_eq}
 use Rattle.snap_core.proofs.FieldLemmas.{bytes_eq-joined}
-use Rattle.snap_core.proofs.program.is_joined.Goals as goal
+use Rattle.snap_core.proofs.program.is_joined_of.Goals as goal
 
 pub returns-then-eq : goal.returns-then-eq
 returns-then-eq c =
