@@ -1,5 +1,5 @@
 -- Outcomes within a run, one part after another.
-use Rattle.std.proofs.Common.{◌≡◌, ℕ, List, Option, Some, None, map, refl, sym, ap, subst, ◌∙◌, bit_or}
+use Rattle.std.proofs.Common.{◌≡◌, ℕ, Option, Some, None, map, refl, sym, ap, subst, ◌∙◌, bit_or}
 use Rattle.std.specs.Prelude.{option_and_then, option_map, unwrap_or}
 use Rattle.std.specs.Int.Bits.{or_zero_l, or_zero_r}
 use Rattle.snap_core.specs.declared.policy.Pol.{Pol}
