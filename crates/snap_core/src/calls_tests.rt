@@ -162,6 +162,9 @@ fn texts_spell_numbers(rt: HostRuntime) {
     assert_eq!(rt; address(b"10.1.0.255"), Some(167837951));
     assert_eq!(rt; address(b"10.1.0.256"), None);
     assert_eq!(rt; address(b"10.1.0"), None);
+    assert_eq!(rt; address(b"10.1.0.2.5"), None);
+    assert_eq!(rt; address(b"10.1..2"), None);
+    assert_eq!(rt; address(b"10.1.0.0002"), None);
 }
 
 fn out_fits(out: &Out, comps: usize) -> bool
