@@ -1,16 +1,19 @@
 //! The texts of a report, put behind one another in a buffer.
 
-ghost use Rattle.std.specs.Prelude.{◌≡◌, ◌<◌, ◌≤◌, ◌+◌, ◌++◌, [], decimal, length, slice_get, unwrap_or, OnOk};
+ghost use Rattle.std.specs.Prelude.{◌≡◌, ◌<◌, ◌≤◌, ◌+◌, ◌++◌, [], codes, decimal, length, slice_get, unwrap_or, OnOk};
 ghost use Rattle.snap_core.specs.Fields.{PrefixFits, count, width};
 ghost use Rattle.snap_core.specs.Packets.{AllLong};
+ghost use Rattle.snap_core.specs.Runs.{set_in};
 ghost use Rattle.snap_trace.specs.Reports.{address_text, block, field_text, out_line, split_text, value_text};
 
 use itoa::Buffer;
 use snap_core::NoMemory;
+use snap_core::copies::Copies;
 use snap_core::lists::Names;
 use snap_core::packet::Packet;
 use snap_core::packets::Packets;
 use snap_core::program::{Field, Fields};
+use std::alloc::Global;
 
 // Puts a number in digits behind the buffer. Most are short, as the parts of an address.
 fn put_number(out: &mut Vec<u8>, number: u64) -> Result<(), NoMemory>
@@ -112,8 +115,8 @@ fn put_out(out: &mut Vec<u8>, fields: &Fields, packet: &Packet) -> Result<(), No
     Ok(())
 }
 
-/// Puts the block of the packet with this number, which became this set of packets.
-pub(crate) fn put_block(
+// Puts the block of the packet with this number, which became this set of packets.
+fn put_block(
     out: &mut Vec<u8>,
     fields: &Fields,
     number: u64,
@@ -129,6 +132,37 @@ pub(crate) fn put_block(
         put_out(out, fields, packet)?;
     }
     Ok(())
+}
+
+// Puts the block of the packet with this number, which became this packet alone.
+fn put_one(out: &mut Vec<u8>, fields: &Fields, number: u64, packet: &Packet) -> Result<(), NoMemory>
+    requires { length packet.now ≡ count fields.now }
+    ensures { OnOk result (out.new.items ≡ out.old.items ++ (codes "packet " ++ decimal number ++ codes "\n" ++ out_line fields.now packet.now)) }
+{
+    out.extend_from_slice(b"packet ")?;
+    put_number(out, number)?;
+    out.push(b'\n')?;
+    put_out(out, fields, packet)
+}
+
+/// Puts the block of the packet with this number, which became these packets.
+pub(crate) fn put_copies(
+    alloc: Global,
+    out: &mut Vec<u8>,
+    fields: &Fields,
+    number: u64,
+    copies: Copies,
+) -> Result<(), NoMemory>
+    requires { AllLong (count fields.now) (set_in copies) }
+    ensures { OnOk result (out.new.items ≡ out.old.items ++ block fields.now number (set_in copies)) }
+{
+    match copies {
+        Copies::One(packet) => put_one(out, fields, number, &packet),
+        Copies::Many(packets) => {
+            let packets = Packets::from_list(alloc, packets)?;
+            put_block(out, fields, number, &packets)
+        }
+    }
 }
 
 /// The name of an array, or nothing where no array has this number.

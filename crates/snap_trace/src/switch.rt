@@ -18,7 +18,7 @@ ghost use Rattle.snap_trace.specs.Steps.{Closes, ComesOn, ComesTo, PutsEnd, Take
 
 use crate::fault::TraceFault;
 use crate::line::{Line, LineFault, read_line};
-use crate::report::put_block;
+use crate::report::put_copies;
 use crate::tail::{PIECE, put_end};
 use snap_core::eval::run;
 use snap_core::outcome::EvalFault;
@@ -108,8 +108,13 @@ impl Switch {
     {
         match run(alloc, &program.body, &mut self.store, packet) {
             Ok(done) => {
-                let packets = done.copies.into_set(alloc)?;
-                put_block(&mut self.text, &program.fields, self.number, &packets)?;
+                put_copies(
+                    alloc,
+                    &mut self.text,
+                    &program.fields,
+                    self.number,
+                    done.copies,
+                )?;
                 self.number += 1;
                 Ok(())
             }
