@@ -115,6 +115,16 @@ fn put_out(out: &mut Vec<u8>, fields: &Fields, packet: &Packet) -> Result<(), No
     Ok(())
 }
 
+// Puts the first line of the block of the packet with this number.
+fn put_head(out: &mut Vec<u8>, number: u64) -> Result<(), NoMemory>
+    ensures { OnOk result (out.new.items ≡ out.old.items ++ (codes "packet " ++ decimal number ++ codes "\n")) }
+{
+    out.extend_from_slice(b"packet ")?;
+    put_number(out, number)?;
+    out.push(b'\n')?;
+    Ok(())
+}
+
 // Puts the block of the packet with this number, which became this set of packets.
 fn put_block(
     out: &mut Vec<u8>,
@@ -125,9 +135,7 @@ fn put_block(
     requires { AllLong (count fields.now) packets.now }
     ensures { OnOk result (out.new.items ≡ out.old.items ++ block fields.now number packets.now) }
 {
-    out.extend_from_slice(b"packet ")?;
-    put_number(out, number)?;
-    out.push(b'\n')?;
+    put_head(out, number)?;
     for packet in packets.list() {
         put_out(out, fields, packet)?;
     }
@@ -139,9 +147,7 @@ fn put_one(out: &mut Vec<u8>, fields: &Fields, number: u64, packet: &Packet) -> 
     requires { length packet.now ≡ count fields.now }
     ensures { OnOk result (out.new.items ≡ out.old.items ++ (codes "packet " ++ decimal number ++ codes "\n" ++ out_line fields.now packet.now)) }
 {
-    out.extend_from_slice(b"packet ")?;
-    put_number(out, number)?;
-    out.push(b'\n')?;
+    put_head(out, number)?;
     put_out(out, fields, packet)
 }
 
