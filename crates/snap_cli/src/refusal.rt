@@ -101,6 +101,8 @@ fn which_text(which: Which) -> &'static [u8]
         Which::Switches => b"switches",
         Which::Links => b"links",
         Which::Ports => b"ports",
+        Which::Demands => b"demands",
+        Which::Changes => b"changes",
     }
 }
 

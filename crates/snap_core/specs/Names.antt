@@ -1,6 +1,6 @@
 -- What a name is, over its bytes.
-use Rattle.std.specs.Prelude.{ℕ, Bool, true, false, not, ◌&&◌, ◌||◌, ◌==◌, nat_le, List, [], ◌∷◌, IsTrue, codes}
-use Rattle.std.specs.List.{list_any}
+use Rattle.std.specs.Prelude.{ℕ, Bool, true, false, not, ◌&&◌, ◌||◌, ◌==◌, nat_le, nat_lt, length, List, [], ◌∷◌, IsTrue, codes}
+use Rattle.std.specs.List.{list_all, list_any}
 use Rattle.std.specs.Str.{bytes_eq}
 
 -- whether a byte is from a to z, both among them
@@ -48,3 +48,12 @@ is_name w = is_word w && not (is_keyword w)
 
 abbrev pub IsName : List ℕ → Type 0
 IsName w = IsTrue (is_name w)
+
+-- ---- names of switches
+-- a letter, a digit, `_`, `.` or `-`
+abbrev pub is_name_byte : ℕ → Bool
+is_name_byte b = (nat_le 48 b && nat_le b 57) || ((nat_le 65 b && nat_le b 90) || ((nat_le 97 b && nat_le b 122) || (b == 95 || (b == 46 || b == 45))))
+
+-- one or more of these
+abbrev pub is_switch_name : List ℕ → Bool
+is_switch_name name = nat_lt 0 (length name) && list_all is_name_byte name

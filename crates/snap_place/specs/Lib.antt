@@ -1,5 +1,4 @@
 pub mod Answer
-pub mod Keywords
 pub mod Order
 pub mod Shape
 pub mod Texts

@@ -7,8 +7,8 @@ ghost use Rattle.snap_place.specs.Order.{InByteOrder};
 ghost use Rattle.snap_place.specs.Shape.{entries_in, entries_of, has_names};
 ghost use Rattle.snap_place.specs.Texts.{entry_texts, vec_texts};
 
-use crate::names::is_name;
 use crate::placement::PlaceFault;
+use snap_core::names::is_name;
 use snap_topo::document::switch_name;
 use std::alloc::{AllocError, Global};
 use toml::Table;

@@ -2,7 +2,6 @@
 #![tactic(auto)]
 
 mod document;
-mod names;
 pub mod placement;
 mod reading;
 mod resolve;

@@ -16,7 +16,8 @@ use Rattle.std.specs.Str.Parse.{digits_value}
 use Rattle.snap_core.specs.declared.program.Which.{Which}
 use Rattle.snap_topo.specs.declared.topology.Topology.{Topology}
 use Rattle.snap_topo.specs.declared.topology.TopoFault.{TopoFault}
-use Rattle.snap_topo.specs.Names.{is_switch_name, port_number}
+use Rattle.snap_core.specs.Names.{is_switch_name}
+use Rattle.snap_topo.specs.Names.{port_number}
 use Rattle.snap_topo.specs.Numbers.{is_switch, number_of, numbered, port_at}
 use Rattle.snap_topo.specs.Shape.{Spelled, name_in, with_first, names_in, switches_in, pair_of, link_in, links_listed, links_in, port_of, ports_listed, by_number, ports_in, ports_then, links_then, switches_then, spelled, has_keys}
 use Rattle.snap_topo.specs.Answer.{ends, first_repeat, repeat_after, is_unknown, KnownThen, DifferentThen, WithinThen, IsTopologyOf, first_unknown, too_many, port_name}

@@ -8,7 +8,7 @@ use Rattle.std.specs.Str.{bytes_eq}
 use Rattle.snap_core.specs.declared.ports.PortAt.{PortAt}
 use Rattle.snap_topo.specs.declared.topology.Topology.{Topology}
 use Rattle.snap_topo.specs.declared.topology.TheConstants.{MOST_SWITCHES, MOST_LINKS, MOST_PORTS}
-use Rattle.snap_topo.specs.Names.{is_switch_name}
+use Rattle.snap_core.specs.Names.{is_switch_name}
 
 -- links by the first number, then by the second
 abbrev pub link_cmp : ℕ × ℕ → ℕ × ℕ → Ordering

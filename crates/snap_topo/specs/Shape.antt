@@ -6,7 +6,8 @@ use Rattle.std.specs.Str.{bytes_eq}
 use Rattle.toml.specs.Data.{Data, string, array, table, Items, no_items, item, Members, no_members, member, get_member}
 use Rattle.snap_topo.specs.declared.topology.TopoFault.{TopoFault}
 use Rattle.snap_topo.specs.declared.topology.TopoFault.TheVariants.{NotToml, Shape}
-use Rattle.snap_topo.specs.Names.{is_switch_name, port_number}
+use Rattle.snap_core.specs.Names.{is_switch_name}
+use Rattle.snap_topo.specs.Names.{port_number}
 
 -- the names of the switches, the links as listed, and the ports by rising number
 pub record Spelled : Type 0 where

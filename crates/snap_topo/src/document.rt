@@ -10,8 +10,9 @@ ghost use Rattle.snap_topo.specs.Names.{port_number};
 ghost use Rattle.snap_topo.specs.Shape.{by_number, has_keys, link_in, links_in, links_listed, member_count, name_in, names_in, port_of, ports_in, ports_listed, spelled, switches_in};
 
 use crate::listing::Listing;
-use crate::names::{is_name, port_of};
+use crate::names::port_of;
 use crate::topology::TopoFault;
+use snap_core::names::is_switch_name;
 use std::alloc::{AllocError, Global};
 use std::collections::BTreeMap;
 use toml::{Table, Value};
@@ -59,7 +60,7 @@ pub fn switch_name(value: &Value) -> Option<&str>
     ensures { option_copied result ≡ name_in (view value.now) }
 {
     let text = value.as_str()?;
-    if is_name(text.as_bytes()) {
+    if is_switch_name(text.as_bytes()) {
         Some(text)
     } else {
         None

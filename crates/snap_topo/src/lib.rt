@@ -3,7 +3,6 @@
 
 pub mod document;
 mod listing;
-pub mod lists;
 pub mod names;
 mod reading;
 mod resolve;

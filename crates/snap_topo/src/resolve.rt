@@ -10,11 +10,10 @@ ghost use Rattle.snap_topo.specs.Listing.{pair_text, pair_texts, port_texts, spe
 ghost use Rattle.snap_topo.specs.Numbers.{is_switch, number_of, numbered, port_at};
 
 use crate::listing::Listing;
-use crate::lists::{Links, Ports};
 use crate::topology::{MOST_LINKS, MOST_PORTS, MOST_SWITCHES, TopoFault, Topology};
 use indexmap::IndexSet;
 use snap_core::lists::{Name, Names};
-use snap_core::ports::PortAt;
+use snap_core::ports::{Links, PortAt, Ports};
 use snap_core::program::Which;
 use std::alloc::{AllocError, Global};
 use std::collections::BTreeMap;

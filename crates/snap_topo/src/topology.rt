@@ -3,8 +3,8 @@
 ghost use Rattle.std.specs.Prelude.{◌≡◌};
 ghost use Rattle.snap_topo.specs.declared.topology.TopoFault.TheVariants.{NoMemory};
 
-use crate::lists::{Links, Ports};
 use snap_core::lists::{Name, Names};
+use snap_core::ports::{Links, Ports};
 use snap_core::program::Which;
 use std::alloc::{AllocError, AllocFailed};
 use thiserror::Error;

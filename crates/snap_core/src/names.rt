@@ -1,8 +1,9 @@
-//! How names of a program are spelled.
+//! How names of a program and of its network are spelled.
 
 ghost use Rattle.std.specs.Prelude.{◌≡◌, ◌&&◌, ◌||◌};
-ghost use Rattle.snap_core.specs.Names.{begins_plain, goes_on, is_joint, is_keyword, is_letter, is_name, is_plain, is_word};
-ghost use Rattle.snap_place.specs.Keywords.{begins_declaration, belongs_to_choice, is_constant};
+ghost use Rattle.std.specs.List.{list_all};
+ghost use Rattle.snap_core.specs.Names.{begins_plain, goes_on, is_joint, is_keyword, is_letter, is_name, is_name_byte, is_plain, is_switch_name, is_word};
+ghost use Rattle.snap_core.specs.Keywords.{begins_declaration, belongs_to_choice, is_constant};
 
 fn is_letter(byte: u8) -> bool
     ensures { result ≡ is_letter byte }
@@ -84,9 +85,28 @@ fn is_keyword(word: &str) -> bool
     begins_declaration(word) || belongs_to_choice(word) || is_constant(word)
 }
 
-/// Whether a text is a word that is no keyword.
-pub(crate) fn is_name(text: &str) -> bool
+/// Whether a text is a name of a program: a word that is no keyword.
+pub fn is_name(text: &str) -> bool
     ensures { result ≡ is_name text.now }
 {
     is_word(text.as_bytes()) && !is_keyword(text)
+}
+
+fn is_name_byte(byte: u8) -> bool
+    ensures { result ≡ is_name_byte byte }
+{
+    byte.is_ascii_alphanumeric() || byte == b'_' || byte == b'.' || byte == b'-'
+}
+
+fn has_name_bytes(text: &[u8]) -> bool
+    ensures { result ≡ list_all is_name_byte text.now }
+{
+    text.iter().all(|b| is_name_byte(*b))
+}
+
+/// Whether a text is a name of a switch: letters, digits, `_`, `.` and `-`, one at least.
+pub fn is_switch_name(text: &[u8]) -> bool
+    ensures { result ≡ is_switch_name text.now }
+{
+    !text.is_empty() && has_name_bytes(text)
 }

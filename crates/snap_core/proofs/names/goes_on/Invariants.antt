@@ -1,6 +1,6 @@
 use Rattle.std.proofs.Common.{◌≡◌, length}
 use Rattle.snap_core.specs.Names.{goes_on}
-use Rattle.snap_place.proofs.names.goes_on.Given as goal
+use Rattle.snap_core.proofs.names.goes_on.Given as goal
 
 abbrev pub invariant-loop-byte : goal.invariant-loop-byte
 invariant-loop-byte l = goes_on l.rest ≡ goes_on l.text
