@@ -22,10 +22,6 @@ bytes_eq-joined (x ∷ front) back (y ∷ text) h =
 cut : (fs : List Field) (i : ℕ) (d : Field) → i < length fs → drop i fs ≡ get_or fs i d ∷ drop (i + 1) fs
 cut fs i d h = rw add-one (drop-cons fs i d h)
 
--- the components of a field and of those behind it
-pub count-drop : (fs : List Field) (i : ℕ) (d : Field) → i < length fs → count (drop i fs) ≡ width (get_or fs i d).prefix + count (drop (i + 1) fs)
-count-drop fs i d h = ap count (cut fs i d h)
-
 pub width-bound : (n : Option ℕ) → (1 ≤ width n) × (width n ≤ 2)
 width-bound None = (omega arith, omega arith)
 width-bound (Some n) = (omega arith, omega arith)
@@ -46,10 +42,6 @@ lookup-append_found test (x ∷ xs) ys f h =
       | true ↦ λ next e. e
       | false ↦ λ next e. next e
     ] (lookup-append_found test xs ys f) h
-
--- the names of a field and of those behind it
-pub declared-drop : (c : ℕ) (fs : List Field) (i : ℕ) (d : Field) → i < length fs → declared_from c (drop i fs) ≡ declared_at c (get_or fs i d).name (get_or fs i d).prefix ++ declared_from (c + width (get_or fs i d).prefix) (drop (i + 1) fs)
-declared-drop c fs i d h = ap (declared_from c) (cut fs i d h)
 
 -- the names of one field, and what stands behind them
 found-at : (test : List ℕ → Bool) (c n : ℕ) (name : List ℕ) (prefix : Option ℕ) (rest : List (List ℕ × Found)) → PrefixFits prefix

@@ -42,18 +42,6 @@ number_up_to-digits most (d ∷ ds) some digits within =
 pub value_of_digits-more : (text : List ℕ) (i n : ℕ) → i < length text → value_of_digits text ≡ value_after n (drop i text) → value_of_digits text ≡ value_after (n * 10 + (get_or text i 0 - 48)) (drop (i + 1) text)
 value_of_digits-more text i n within e = e ∙ at_drop_more (value_after n) text i 0 within
 
-pub value_of_digits-read : (text : List ℕ) (i n : ℕ) → length text ≤ i → value_of_digits text ≡ value_after n (drop i text) → value_of_digits text ≡ n
-value_of_digits-read text i n past e = e ∙ at_drop_all (value_after n) text i past
-
-pub digits-more : (text : List ℕ) (i : ℕ) → i < length text → list_all is_ascii_digit text ≡ list_all is_ascii_digit (drop i text) → is_ascii_digit (get_or text i 0) ≡ true → list_all is_ascii_digit text ≡ list_all is_ascii_digit (drop (i + 1) text)
-digits-more text i within e digit = e ∙ at_drop_more (list_all is_ascii_digit) text i 0 within ∙ ap (λ b. b && list_all is_ascii_digit (drop (i + 1) text)) digit
-
-pub digits-other : (text : List ℕ) (i : ℕ) → i < length text → list_all is_ascii_digit text ≡ list_all is_ascii_digit (drop i text) → is_ascii_digit (get_or text i 0) ≡ false → list_all is_ascii_digit text ≡ false
-digits-other text i within e other = e ∙ at_drop_more (list_all is_ascii_digit) text i 0 within ∙ ap (λ b. b && list_all is_ascii_digit (drop (i + 1) text)) other
-
-pub digits-read : (text : List ℕ) (i : ℕ) → length text ≤ i → list_all is_ascii_digit text ≡ list_all is_ascii_digit (drop i text) → list_all is_ascii_digit text ≡ true
-digits-read text i past e = e ∙ at_drop_all (list_all is_ascii_digit) text i past
-
 -- the number after the next digit is no more than the whole
 pub value_of_digits-le : (text : List ℕ) (i n : ℕ) → i < length text → value_of_digits text ≡ value_after n (drop i text) → n * 10 + (get_or text i 0 - 48) ≤ value_of_digits text
 value_of_digits-le text i n within e = omega (arith, value_of_digits-more text i n within e, value_after-le (n * 10 + (get_or text i 0 - 48)) (drop (i + 1) text))

@@ -3,9 +3,6 @@ use Rattle.std.proofs.Common.{◌≡◌, ℕ, ◌+◌, ◌-◌, ◌<◌, zero, s
 use Rattle.std.proofs.lemmas.List.{take_all}
 use Rattle.snap_core.specs.Parts.{onto_first, parts_by}
 
-pub eqb-of_not : (x y : ℕ) → (x ≡ y → ⊥) → eqb x y ≡ false
-eqb-of_not x y n = grind arith
-
 module _ (p : ℕ → Bool) where
   parts_by-step : (b : ℕ) (bs : List ℕ) (t : Bool) → p b ≡ t → parts_by p (b ∷ bs) ≡ cond t ([] ∷ parts_by p bs) (onto_first b (parts_by p bs))
   parts_by-step b bs t e = ap (λ t. cond t ([] ∷ parts_by p bs) (onto_first b (parts_by p bs))) e

@@ -23,10 +23,6 @@ within-logged l r w (Some o) = λ i. Some (record o { reads = or_assoc l.reads r
 pub within-read : (l : Logs) (r : ℕ) (o : Option Meaning) → within l (option_map (logged r 0) o) ≡ within (record { reads = bit_or l.reads r; writes = l.writes }) o
 within-read l r o = within-logged l r 0 o ∙ (λ i. within (record { reads = bit_or l.reads r; writes = or_zero_r l.writes i }) o)
 
-pub within-nothing : (o : Option Meaning) → o ≡ within (record { reads = 0; writes = 0 }) o
-within-nothing None = refl
-within-nothing (Some o) = λ i. Some (record o { reads = sym (or_zero_l o.reads) i; writes = sym (or_zero_l o.writes) i })
-
 -- one part came to y within the logs, and the next goes on from there
 module _ (q : Pol) (l : Logs) (y : Meaning) where
   abbrev next : Meaning → Option Meaning
