@@ -1,4 +1,4 @@
-use Rattle.std.proofs.Common.{◌≡◌, [], ◌∷◌, ap, sym, ◌∙◌}
+use Rattle.std.proofs.Common.{[], ◌∷◌, ap, sym, ◌∙◌}
 use Rattle.snap_core.specs.Packets.{no_packets, union, with_packets}
 use Rattle.snap_core.specs.Runs.{set_in}
 use Rattle.snap_core.proofs.PacketSets.{union-turned, union-with_packets}
