@@ -1,7 +1,7 @@
 //! The packets of an evaluation.
 
 ghost use Rattle.std.specs.Prelude.{◌≡◌, IfOk};
-ghost use Rattle.snap_core.specs.Packets.{no_packets, union, with_packets};
+ghost use Rattle.snap_core.specs.Packets.{no_packets, union, with_packet, with_packets};
 ghost use Rattle.snap_core.specs.Runs.{set_after, set_in};
 
 use crate::NoMemory;
@@ -45,16 +45,42 @@ impl Copies {
         Copies::Many(Vec::new(alloc))
     }
 
-    /// Both together.
+    /// Both together. The fewer go to the more, so that a chain moves each packet seldom, whichever way it leans.
     pub(crate) fn join(self, alloc: Global, other: Copies) -> Result<Copies, NoMemory>
         ensures { IfOk result (λ both. set_in both ≡ union (set_in self) (set_in other)) }
     {
-        let mut all = self.into_vec(alloc)?;
         match other {
-            Copies::One(packet) => all.push(packet)?,
-            Copies::Many(mut packets) => all.append(&mut packets)?,
+            Copies::One(packet) => self.with(alloc, packet),
+            Copies::Many(packets) => self.with_all(packets),
         }
+    }
+
+    fn with(self, alloc: Global, packet: Packet) -> Result<Copies, NoMemory>
+        ensures { IfOk result (λ both. set_in both ≡ with_packet (set_in self) packet) }
+    {
+        let mut all = self.into_vec(alloc)?;
+        all.push(packet)?;
         Ok(Copies::Many(all))
+    }
+
+    fn with_all(self, mut packets: Vec<Packet>) -> Result<Copies, NoMemory>
+        ensures { IfOk result (λ both. set_in both ≡ union (set_in self) (with_packets no_packets packets.items)) }
+    {
+        match self {
+            Copies::One(packet) => {
+                packets.push(packet)?;
+                Ok(Copies::Many(packets))
+            }
+            Copies::Many(mut own) => {
+                if own.len() < packets.len() {
+                    packets.append(&mut own)?;
+                    Ok(Copies::Many(packets))
+                } else {
+                    own.append(&mut packets)?;
+                    Ok(Copies::Many(own))
+                }
+            }
+        }
     }
 
     /// The packets in a list.
@@ -75,13 +101,6 @@ impl Copies {
     pub fn into_set(self, alloc: Global) -> Result<Packets, NoMemory>
         ensures { IfOk result (λ packets. packets ≡ set_in self) }
     {
-        match self {
-            Copies::One(packet) => {
-                let mut packets = Packets::new(alloc);
-                packets.insert(packet)?;
-                Ok(packets)
-            }
-            Copies::Many(packets) => Packets::from_list(alloc, packets),
-        }
+        Packets::from_list(alloc, self.into_vec(alloc)?)
     }
 }

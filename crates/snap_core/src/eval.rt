@@ -6,7 +6,6 @@ ghost use Rattle.snap_core.specs.Cells.{arrays_of};
 ghost use Rattle.snap_core.specs.Fits.{AtomFits, IndexFits, PredFits, PolFits, UpdateFits, VarsBelow};
 ghost use Rattle.snap_core.specs.declared.policy.Pol.TheVariants.{Filter, Set, Change};
 ghost use Rattle.snap_core.specs.Meaning.{truth, vars_of, eval, all_together, logged};
-ghost use Rattle.snap_core.specs.declared.policy.Pol.{size-Pol};
 ghost use Rattle.snap_core.specs.declared.run.Logs.{Logs as LogsData};
 ghost use Rattle.snap_core.specs.Outcomes.{meaning_of};
 ghost use Rattle.snap_core.specs.Packets.{AllLong, listed, no_packets, with_packets};
@@ -81,58 +80,11 @@ fn pass(
     ensures lengths { IfOk result (λ f. AllLong (length packet.old) (set_after f packet.new)) }
     ensures length { length packet.new ≡ length packet.old }
 {
-    let pol = choose(alloc, pol, store, packet, logs)?;
-    part(alloc, pol, store, packet, logs)
-}
-
-// The policy behind the choices with which a policy begins.
-fn choose<'a>(
-    alloc: Global,
-    pol: &'a Pol,
-    store: &Store,
-    packet: &Packet,
-    logs: &mut Logs,
-) -> Result<&'a Pol, NoMemory>
-    requires { PolFits (length packet.now) 64 pol.now }
-    ensures fits { IfOk result (λ c. PolFits (length packet.now) 64 c.now) }
-    ensures same { IfOk result (λ c. within logs.old (eval pol.now (arrays_of store.now) packet.now) ≡ within logs.new (eval c.now (arrays_of store.now) packet.now)) }
-    ensures inner { IfOk result (λ c. size-Pol c.now ≤ size-Pol pol.now) }
-{
-    let mut pol = pol;
-    while let Pol::If(test, yes, no) = pol {
-        logs.reads |= read_by(test);
-        pol = if holds(alloc, test, store, packet)? {
-            yes
-        } else {
-            no
-        };
-    }
-    Ok(pol)
-}
-
-// The same as `pass`, for a policy that begins with no choice.
-#[cycle(eval)]
-fn part(
-    alloc: Global,
-    pol: &Pol,
-    store: &mut Store,
-    packet: &mut Packet,
-    logs: &mut Logs,
-) -> Result<Flow, EvalFault>
-    requires { PolFits (length packet.old) 64 pol.now }
-    ensures ok { IfOk result (λ f. within logs.old (eval pol.now (arrays_of store.old) packet.old) ≡ Some (flown (arrays_of store.new) f packet.new logs.new)) }
-    ensures undefined { result ≡ Err EvalFault.Undefined → eval pol.now (arrays_of store.old) packet.old ≡ None }
-    ensures lengths { IfOk result (λ f. AllLong (length packet.old) (set_after f packet.new)) }
-    ensures length { length packet.new ≡ length packet.old }
-{
     match pol {
         Pol::Filter(pred) => filter(alloc, pred, store, packet, logs),
         Pol::Set { comp, from } => Ok(set(*comp, *from, packet)),
         Pol::Change(update) => change(update, store, packet, logs),
-        Pol::Par(left, right) => {
-            let done = both(alloc, left, right, store, packet.copy()?)?;
-            Ok(done.within(alloc, logs)?)
-        }
+        Pol::Par(left, right) => both(alloc, left, right, store, packet, logs),
         Pol::Seq(first, second) => in_turn(alloc, first, second, store, packet, logs),
         Pol::If(test, yes, no) => choice(alloc, test, yes, no, store, packet, logs),
         Pol::Atomic(part) => pass(alloc, part, store, packet, logs),
@@ -147,16 +99,36 @@ fn both(
     left: &Pol,
     right: &Pol,
     store: &mut Store,
-    packet: Packet,
+    packet: &Packet,
+    logs: &mut Logs,
+) -> Result<Flow, EvalFault>
+    requires left { PolFits (length packet.now) 64 left.now }
+    requires right { PolFits (length packet.now) 64 right.now }
+    ensures ok { IfOk result (λ f. within logs.old (all_together (arrays_of store.old) (eval left.now (arrays_of store.old) packet.now ∷ eval right.now (arrays_of store.old) packet.now ∷ [])) ≡ Some (flown (arrays_of store.new) f packet.now logs.new)) }
+    ensures undefined { result ≡ Err EvalFault.Undefined → all_together (arrays_of store.old) (eval left.now (arrays_of store.old) packet.now ∷ eval right.now (arrays_of store.old) packet.now ∷ []) ≡ None }
+    ensures lengths { IfOk result (λ f. AllLong (length packet.now) (set_after f packet.now)) }
+{
+    let done = run_both(alloc, left, right, store, packet)?;
+    Ok(done.within(alloc, logs)?)
+}
+
+// Both as a run of their own.
+#[cycle(eval)]
+fn run_both(
+    alloc: Global,
+    left: &Pol,
+    right: &Pol,
+    store: &mut Store,
+    packet: &Packet,
 ) -> Result<Run, EvalFault>
-    requires left { PolFits (length packet) 64 left.now }
-    requires right { PolFits (length packet) 64 right.now }
-    ensures ok { IfOk result (λ r. all_together (arrays_of store.old) (eval left.now (arrays_of store.old) packet ∷ eval right.now (arrays_of store.old) packet ∷ []) ≡ Some (meaning_with (arrays_of store.new) r)) }
-    ensures undefined { result ≡ Err EvalFault.Undefined → all_together (arrays_of store.old) (eval left.now (arrays_of store.old) packet ∷ eval right.now (arrays_of store.old) packet ∷ []) ≡ None }
-    ensures lengths { IfOk result (λ r. AllLong (length packet) (set_in r.copies)) }
+    requires left { PolFits (length packet.now) 64 left.now }
+    requires right { PolFits (length packet.now) 64 right.now }
+    ensures ok { IfOk result (λ r. all_together (arrays_of store.old) (eval left.now (arrays_of store.old) packet.now ∷ eval right.now (arrays_of store.old) packet.now ∷ []) ≡ Some (meaning_with (arrays_of store.new) r)) }
+    ensures undefined { result ≡ Err EvalFault.Undefined → all_together (arrays_of store.old) (eval left.now (arrays_of store.old) packet.now ∷ eval right.now (arrays_of store.old) packet.now ∷ []) ≡ None }
+    ensures lengths { IfOk result (λ r. AllLong (length packet.now) (set_in r.copies)) }
 {
     let left = run(alloc, left, store, packet.copy()?)?;
-    let right = run(alloc, right, store, packet)?;
+    let right = run(alloc, right, store, packet.copy()?)?;
     left.beside(alloc, right)
 }
 

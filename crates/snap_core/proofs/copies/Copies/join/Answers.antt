@@ -1,20 +1,15 @@
-use Rattle.std.proofs.Common.{◌≡◌, [], ◌∷◌, ap, sym, ◌∙◌, rules}
-use Rattle.snap_core.specs.Packets.{no_packets, union, with_packets}
+use Rattle.std.proofs.Common.{◌≡◌, ap, sym, subst, ◌∙◌, IfOk}
+use Rattle.snap_core.specs.Packets.{union}
 use Rattle.snap_core.specs.Runs.{set_in}
-use Rattle.snap_core.proofs.PacketSets.{union-with_packets}
+use Rattle.snap_core.proofs.PacketSets.{union-one}
 use Rattle.snap_core.proofs.copies.Copies.join.Goals as goal
-use Rattle.snap_core.proofs.copies.Copies.join.Goals.{in-One+in_ok-push-in-One, in-Many+in_ok-append-in-Many}
 
-pub returns : goal.returns
-returns c =
-    let first : with_packets no_packets c.in_ok-all.all.items ≡ set_in c.args.self = c.in_ok-all.ensures in
-    elim c.match-other-2.branch [
-      | in-One+in_ok-push-in-One w ↦
-          ap (with_packets no_packets) (search rules)
-          ∙ sym (union-with_packets c.in_ok-all.all.items (w.in-One.packet ∷ []))
-          ∙ (λ i. union (first i) (set_in (sym w.in-One.is i)))
-      | in-Many+in_ok-append-in-Many w ↦
-          ap (with_packets no_packets) (search rules)
-          ∙ sym (union-with_packets c.in_ok-all.all.items w.in-Many.packets.items)
-          ∙ (λ i. union (first i) (set_in (sym w.in-Many.is i)))
-    ]
+pub returns-in-One : goal.returns-in-One
+returns-in-One c =
+    let s = set_in c.args.self in
+    subst (λ t. IfOk c.with.result (λ both. set_in both ≡ t)) (sym (union-one s c.in-One.packet) ∙ ap (λ x. union s (set_in x)) (sym c.in-One.is)) c.with.ensures
+
+pub returns-in-Many : goal.returns-in-Many
+returns-in-Many c =
+    let s = set_in c.args.self in
+    subst (λ t. IfOk c.with_all.result (λ both. set_in both ≡ t)) (ap (λ x. union s (set_in x)) (sym c.in-Many.is)) c.with_all.ensures
