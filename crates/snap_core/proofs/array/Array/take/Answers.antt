@@ -13,7 +13,7 @@ loop-index-init c =
     let same = given.0 in
     let all = ap cells_of same ∙ c.into_cells-index-items.ensures in
     record {
-      room = subst (λ l. l ≤ c.args.self.now.1) (sym (ap length all) ∙ length-map _ c.into_iter-index-iterator.result) c.requires;
+      room = subst (λ l. l ≤ c.args.self.now.1) (sym (ap length all) ∙ length-map c.into_iter-index-iterator.result (λ e. (e.0.items, e.1))) c.requires;
       distinct = subst (λ l. IsDistinct bytes_eq (keys_of (cells_of l))) (sym same) (IsDistinct-ordered c.into_cells-index-items.result.entries given.5);
       cells = λ q. ap (λ l. either (cell l q) (cell c.args.self.now.0 q)) all;
     }
