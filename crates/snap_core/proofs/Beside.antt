@@ -136,17 +136,20 @@ head_apart k cs (d ∷ ds) some = by_known (is_some (cell cs d.0)) refl (head_ap
   where
     by_known : (t : Bool) → is_some (cell cs d.0) ≡ t → AllByRecursion (λ y. bytes_eq k y ≡ false) (keys_of (without cs ds)) → AllByRecursion (λ y. bytes_eq k y ≡ false) (keys_of (cond t (without cs ds) (d ∷ without cs ds)))
     by_known true e rest = rest
-    by_known false e rest =
-        (⊎_elim
-        (λ same. absurd (false≢true (sym e ∙ ap (λ l. is_some (cell cs l)) (sym (same_key k d.0 same)) ∙ some)))
-        (λ other. other)
-        (cases_Bool (bytes_eq k d.0)), rest)
+    by_known false e rest = (
+      ⊎_elim
+          (λ same. absurd (false≢true (sym e ∙ ap (λ l. is_some (cell cs l)) (sym (same_key k d.0 same)) ∙ some)))
+          (λ other. other)
+          (cases_Bool (bytes_eq k d.0)),
+      rest,
+    )
 
 all_apart : (bs cs ds : Cells) → ((k : List ℕ) → is_some (cell bs k) ≡ true → is_some (cell cs k) ≡ true) → AllByRecursion (λ x. AllByRecursion (λ y. bytes_eq x y ≡ false) (keys_of (without cs ds))) (keys_of bs)
 all_apart [] cs ds h = tt
-all_apart (b ∷ bs) cs ds h =
-    (head_apart b.0 cs ds (h b.0 (ap (λ t. is_some (cond t (Some b.1) (cell bs b.0))) (nat_list_eq_equiv.refl b.0))),
-    all_apart bs cs ds (λ k some. h k (later k (bytes_eq k b.0) some)))
+all_apart (b ∷ bs) cs ds h = (
+  head_apart b.0 cs ds (h b.0 (ap (λ t. is_some (cond t (Some b.1) (cell bs b.0))) (nat_list_eq_equiv.refl b.0))),
+  all_apart bs cs ds (λ k some. h k (later k (bytes_eq k b.0) some)),
+)
   where
     later : (k : List ℕ) (t : Bool) → is_some (cell bs k) ≡ true → is_some (cond t (Some b.1) (cell bs k)) ≡ true
     later k true some = refl
