@@ -26,7 +26,7 @@ abbrev entry : ℕ → List ℕ → ℕ → Entry
 entry s k v = record { place = record { var = s; index = k }; value = v }
 
 -- ---- one list behind another
-both : {X : Type 0} (P : X → Type 0) (xs ys : List X) → AllByRecursion P xs → AllByRecursion P ys → AllByRecursion P (xs ++ ys)
+pub both : {X : Type 0} (P : X → Type 0) (xs ys : List X) → AllByRecursion P xs → AllByRecursion P ys → AllByRecursion P (xs ++ ys)
 both P [] ys h k = k
 both P (x ∷ xs) ys h k = (h.0, both P xs ys h.1 k)
 
@@ -34,10 +34,10 @@ places-append : (es fs : List Entry) → places (es ++ fs) ≡ places es ++ plac
 places-append [] fs = refl
 places-append (e ∷ es) fs = ap (λ l. e.place ∷ l) (places-append es fs)
 
-IsDistinct-append : (ps qs : List Place) → IsDistinct same_place ps → IsDistinct same_place qs → AllByRecursion (λ p. AllByRecursion (λ q. same_place p q ≡ false) qs) ps → IsDistinct same_place (ps ++ qs)
+pub IsDistinct-append : {X : Type 0} (eq : X → X → Bool) (ps qs : List X) → IsDistinct eq ps → IsDistinct eq qs → AllByRecursion (λ p. AllByRecursion (λ q. eq p q ≡ false) qs) ps → IsDistinct eq (ps ++ qs)
 unfolding IsDistinct
-IsDistinct-append [] qs a b apart = b
-IsDistinct-append (p ∷ ps) qs a b apart = (both (λ q. same_place p q ≡ false) ps qs a.0 apart.0, IsDistinct-append ps qs a.1 b apart.1)
+IsDistinct-append eq [] qs a b apart = b
+IsDistinct-append eq (p ∷ ps) qs a b apart = (both (λ q. eq p q ≡ false) ps qs a.0 apart.0, IsDistinct-append eq ps qs a.1 b apart.1)
 
 -- no entry holds 0
 abbrev pub NoZero : List Entry → Type 0
@@ -166,7 +166,7 @@ unfolding IsDistinct
 IsDistinct-all [] vars indices = vars
 IsDistinct-all (a ∷ m) vars indices =
     subst (IsDistinct same_place) (sym (places-append (entries_of a.0 a.1.0) (all_entries m)))
-    (IsDistinct-append (places (entries_of a.0 a.1.0)) (places (all_entries m)) (IsDistinct-entries_of a.0 a.1.0 indices.0) (IsDistinct-all m vars.1 indices.1)
+    (IsDistinct-append same_place (places (entries_of a.0 a.1.0)) (places (all_entries m)) (IsDistinct-entries_of a.0 a.1.0 indices.0) (IsDistinct-all m vars.1 indices.1)
     (places-entries_of (λ p. AllByRecursion (λ q. same_place p q ≡ false) (places (all_entries m))) a.0 a.1.0 (each (keys_of a.1.0))))
   where
     each : (ks : List (List ℕ)) → AllByRecursion (λ k. AllByRecursion (λ q. same_place (record { var = a.0; index = k }) q ≡ false) (places (all_entries m))) ks
@@ -198,3 +198,12 @@ number-all (a ∷ m) vars indices p =
 -- ---- one cell
 pub entries_of-zero : (s : ℕ) (k : List ℕ) (v : ℕ) (cs : Cells) → v ≡ 0 → entries_of s ((k, v) ∷ cs) ≡ entries_of s cs
 entries_of-zero s k v cs e = ap (λ t. cond t (entries_of s cs) (entry s k v ∷ entries_of s cs)) (eq-eqb v 0 e)
+
+-- ---- cells behind others
+pub entries_of-append : (s : ℕ) (cs ds : Cells) → entries_of s (cs ++ ds) ≡ entries_of s cs ++ entries_of s ds
+entries_of-append s [] ds = refl
+entries_of-append s (c ∷ cs) ds =
+    elim (nat_eq c.1 0) as (λ t. cond t (entries_of s (cs ++ ds)) (entry s c.0 c.1 ∷ entries_of s (cs ++ ds)) ≡ cond t (entries_of s cs) (entry s c.0 c.1 ∷ entries_of s cs) ++ entries_of s ds) [
+      | true ↦ entries_of-append s cs ds
+      | false ↦ ap (λ l. entry s c.0 c.1 ∷ l) (entries_of-append s cs ds)
+    ]

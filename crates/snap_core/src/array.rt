@@ -1,35 +1,35 @@
 //! One array of a store.
 
-ghost use Rattle.std.specs.Prelude.{◌≡◌, ◌<◌, ◌≤◌, ◌+◌, ◌%◌, ◌^◌, ◌++◌, [], List, map, ℕ, OnOk, OnErr, IfOk, IsOk, Some, length, unwrap_or, if◌then◌else◌};
+ghost use Rattle.std.specs.Prelude.{◌≡◌, ◌<◌, ◌≤◌, ◌+◌, ◌%◌, ◌^◌, ◌++◌, ◌&&◌, [], List, map, ℕ, OnOk, OnErr, IfOk, None, Some, length, unwrap_or, if◌then◌else◌};
 ghost use Rattle.std.specs.List.{IsDistinct};
 ghost use Rattle.std.specs.Map.{keys_of};
 ghost use Rattle.std.specs.Str.{bytes_eq};
-ghost use Rattle.snap_core.specs.Cells.{cell, cells_of, either};
+ghost use Rattle.snap_core.specs.Cells.{cell, either, without};
 ghost use Rattle.snap_core.specs.Listing.{entries_of, entry_of};
-ghost use Rattle.std.specs.HashMap.{spare};
 
 use crate::NoMemory;
 use crate::patch::Patch;
 use crate::place::Listed;
+use crate::table::Table;
 use std::alloc::Global;
-use std::collections::{BTreeMap, HashMap};
 use std::marker::Model;
 
-/// The cells of one array, each a number with its index, and the room for more.
+/// The cells of one array, each a number with its index, and the room for more. They are found by a hash, but those
+/// whose group is crowded stand in order: whatever the indices are, a look-up reads one group and goes down one tree.
 #[derive(Drop)]
 pub(crate) struct Array {
     alloc: Global,
-    cells: HashMap<Vec<u64>, u64>,
+    table: Table,
+    crowded: Patch,
 }
 
 impl Model for Array {
     ghost use Rattle.std.specs.Prelude.{ℕ};
-    ghost use Rattle.std.specs.HashMap.{spare};
-    ghost use Rattle.snap_core.specs.Cells.{Cells, cells_of};
+    ghost use Rattle.snap_core.specs.Cells.{Cells, beside};
 
     ghost Value = { Cells × ℕ };
 
-    ghost view = { λ a. (cells_of a.cells.entries, spare a.cells) };
+    ghost view = { λ a. (beside a.table.0 a.crowded, a.table.1) };
 }
 
 impl Array {
@@ -38,7 +38,8 @@ impl Array {
     {
         Array {
             alloc,
-            cells: HashMap::new(alloc),
+            table: Table::new(alloc),
+            crowded: Patch::new(alloc),
         }
     }
 
@@ -46,55 +47,77 @@ impl Array {
     pub(crate) fn get(&self, index: &[u64]) -> Option<u64>
         ensures { result ≡ cell self.now.0 index.now }
     {
-        self.cells.get(index).copied()
+        match self.table.get(index) {
+            Some(number) => Some(number),
+            None => self.crowded.get(index),
+        }
     }
 
     pub(crate) fn copy(&self) -> Result<Array, NoMemory>
         ensures { IfOk result (λ copy. copy.0 ≡ self.now.0) }
     {
-        let cells = self.cells.clone()?;
+        let table = self.table.copy()?;
+        let crowded = self.crowded.copy()?;
         Ok(Array {
             alloc: self.alloc,
-            cells,
+            table,
+            crowded,
         })
     }
 
     /// Puts a number into the cell at an index, which is made where there is none.
     pub(crate) fn put(&mut self, index: &[u64], value: u64) -> Result<(), NoMemory>
         ensures ok { OnOk result ((q : List ℕ) → cell self.new.0 q ≡ (if bytes_eq index.now q then Some value else cell self.old.0 q)) }
-        ensures err { OnErr result (self.new.0 ≡ self.old.0) }
+        ensures err { OnErr result ((q : List ℕ) → cell self.new.0 q ≡ cell self.old.0 q) }
     {
-        if let Some(cell) = self.cells.get_mut(index) {
-            *cell = value;
+        if self.table.write(index, value) {
             return Ok(());
         }
-        let key = Vec::from_slice(self.alloc, index)?;
-        self.cells.insert(key, value)?;
-        Ok(())
+        if self.crowded.write(index, value) {
+            return Ok(());
+        }
+        self.make(index, value)
     }
 
     /// Adds to the number in the cell at an index, modulo 2^64; a cell that is made holds 0 before.
     pub(crate) fn add(&mut self, index: &[u64], value: u64) -> Result<(), NoMemory>
         ensures ok { OnOk result ((q : List ℕ) → cell self.new.0 q ≡ (if bytes_eq index.now q then Some ((unwrap_or (cell self.old.0 index.now) 0 + value) % 2 ^ 64) else cell self.old.0 q)) }
-        ensures err { OnErr result (self.new.0 ≡ self.old.0) }
+        ensures err { OnErr result ((q : List ℕ) → cell self.new.0 q ≡ cell self.old.0 q) }
     {
-        if let Some(cell) = self.cells.get_mut(index) {
-            *cell = cell.wrapping_add(value);
+        if self.table.raise(index, value) {
             return Ok(());
         }
-        let key = Vec::from_slice(self.alloc, index)?;
-        self.cells.insert(key, value)?;
-        Ok(())
+        if self.crowded.raise(index, value) {
+            return Ok(());
+        }
+        self.make(index, value)
     }
 
-    /// Takes memory for more cells.
-    pub(crate) fn reserve(&mut self, more: usize) -> Result<(), NoMemory>
-        ensures cells { (q : List ℕ) → cell self.new.0 q ≡ cell self.old.0 q }
-        ensures room { OnOk result (more ≤ self.new.1) }
-        ensures kept { self.old.1 ≤ self.new.1 }
+    // Makes a cell at an index that has none.
+    fn make(&mut self, index: &[u64], value: u64) -> Result<(), NoMemory>
+        requires { cell self.old.0 index.now ≡ None }
+        ensures ok { OnOk result ((q : List ℕ) → cell self.new.0 q ≡ (if bytes_eq index.now q then Some value else cell self.old.0 q)) }
+        ensures err { OnErr result ((q : List ℕ) → cell self.new.0 q ≡ cell self.old.0 q) }
     {
-        self.cells.reserve(more)?;
-        Ok(())
+        let key = Vec::from_slice(self.alloc, index)?;
+        self.table.spread()?;
+        if self.table.is_crowded(index) {
+            self.crowded.put(key, value)
+        } else {
+            self.table.put(key, value)
+        }
+    }
+
+    /// Makes a cell for each number of a patch, and takes memory for as many more. No number changes.
+    pub(crate) fn reserve(&mut self, patch: &Patch) -> Result<(), NoMemory>
+        ensures numbers { (q : List ℕ) → unwrap_or (cell self.new.0 q) 0 ≡ unwrap_or (cell self.old.0 q) 0 }
+        ensures room { OnOk result (length patch.now ≤ self.new.1) }
+    {
+        for index in patch.cells().keys() {
+            let number = self.get(index).unwrap_or(0);
+            self.put(index, number)?;
+        }
+        self.table.reserve(patch.len())
     }
 
     /// Puts the numbers of a patch, for which there is room.
@@ -102,37 +125,68 @@ impl Array {
         requires { length patch ≤ self.old.1 }
         ensures { (q : List ℕ) → cell self.new.0 q ≡ either (cell patch q) (cell self.old.0 q) }
     {
-        put_all(&mut self.cells, patch.into_cells());
+        for (index, value) in patch.into_cells() {
+            self.place(index, value);
+        }
     }
 
-    /// The number of cells.
-    pub(crate) fn len(&self) -> usize
-        ensures { result ≡ length self.now.0 }
+    // Puts a number into the cell at an index; where there is none, there is room for it.
+    fn place(&mut self, index: Vec<u64>, value: u64)
+        requires { 0 < self.old.1 }
+        ensures cells { (q : List ℕ) → cell self.new.0 q ≡ (if bytes_eq index.items q then Some value else cell self.old.0 q) }
+        ensures room { self.old.1 ≤ self.new.1 + 1 }
     {
-        self.cells.len()
+        if self.write_crowded(&index, value) {
+            return;
+        }
+        let put: Result<_, _> = self.table.put(index, value);
+        put.unwrap();
+    }
+
+    // Puts a number into the cell at an index, if there is one that stands in order, and says whether there is.
+    fn write_crowded(&mut self, index: &[u64], value: u64) -> bool
+        ensures cells { (q : List ℕ) → cell self.new.0 q ≡ (if result && bytes_eq index.now q then Some value else cell self.old.0 q) }
+        ensures room { self.new.1 ≡ self.old.1 }
+    {
+        match self.table.get(index) {
+            Some(_) => false,
+            None => self.crowded.write(index, value),
+        }
+    }
+
+    /// The number of cells, or more.
+    pub(crate) fn len(&self) -> usize
+        ensures { length self.now.0 ≤ result }
+    {
+        self.table.len() + self.crowded.len()
     }
 
     /// Adds the cells that don't hold 0 to a list, in no order.
     pub(crate) fn list<'a>(&'a self, var: u16, listed: &mut Vec<Listed<'a>>) -> Result<(), NoMemory>
         ensures items { OnOk result (map entry_of listed.new.items ≡ map entry_of listed.old.items ++ entries_of var self.now.0) }
-        ensures distinct { IsDistinct bytes_eq (keys_of self.now.0) }
+        ensures distinct { OnOk result (IsDistinct bytes_eq (keys_of self.now.0)) }
     {
-        for (index, value) in &self.cells {
+        self.table.list(var, listed)?;
+        list_beside(&self.table, &self.crowded, var, listed)
+    }
+}
+
+// Adds the cells that stand in order and don't hold 0.
+fn list_beside<'a>(
+    table: &Table,
+    crowded: &'a Patch,
+    var: u16,
+    listed: &mut Vec<Listed<'a>>,
+) -> Result<(), NoMemory>
+    ensures items { OnOk result (map entry_of listed.new.items ≡ map entry_of listed.old.items ++ entries_of var (without table.now.0 crowded.now)) }
+    ensures distinct { IsDistinct bytes_eq (keys_of crowded.now) }
+{
+    for (index, value) in crowded.cells() {
+        if table.get(index).is_none() {
             if *value != 0 {
                 listed.push(Listed::new(var, index, *value))?;
             }
         }
-        Ok(())
     }
-}
-
-// Puts each of these numbers, for which there is room.
-fn put_all(cells: &mut HashMap<Vec<u64>, u64>, patch: BTreeMap<Vec<u64>, u64>)
-    requires { length patch.entries ≤ spare cells.old }
-    ensures { (q : List ℕ) → cell (cells_of cells.new.entries) q ≡ either (cell (cells_of patch.entries) q) (cell (cells_of cells.old.entries) q) }
-{
-    for (index, value) in patch {
-        let put: Result<_, _> = cells.insert(index, value);
-        put.unwrap();
-    }
+    Ok(())
 }

@@ -1,6 +1,6 @@
 //! Changes of one array.
 
-ghost use Rattle.std.specs.Prelude.{◌≡◌, [], List, ℕ, OnOk, OnErr, IfOk, Some, length, if◌then◌else◌};
+ghost use Rattle.std.specs.Prelude.{◌≡◌, ◌<◌, ◌+◌, ◌%◌, ◌^◌, ◌&&◌, [], List, ℕ, OnOk, OnErr, IfOk, Some, length, is_some, unwrap_or, if◌then◌else◌};
 ghost use Rattle.std.specs.Str.{bytes_eq};
 ghost use Rattle.snap_core.specs.Cells.{cell, cells_of};
 
@@ -48,11 +48,49 @@ impl Patch {
         Ok(())
     }
 
+    /// Puts a number into the cell at an index, if there is one, and says whether there is.
+    pub(crate) fn write(&mut self, index: &[u64], value: u64) -> bool
+        ensures found { result ≡ is_some (cell self.old index.now) }
+        ensures cells { (q : List ℕ) → cell self.new q ≡ (if result && bytes_eq index.now q then Some value else cell self.old q) }
+    {
+        if let Some(cell) = self.cells.get_mut(index) {
+            *cell = value;
+            return true;
+        }
+        false
+    }
+
+    /// Adds to the number in the cell at an index, modulo 2^64, if there is one, and says whether there is.
+    pub(crate) fn raise(&mut self, index: &[u64], value: u64) -> bool
+        ensures found { result ≡ is_some (cell self.old index.now) }
+        ensures cells { (q : List ℕ) → cell self.new q ≡ (if result && bytes_eq index.now q then Some ((unwrap_or (cell self.old index.now) 0 + value) % 2 ^ 64) else cell self.old q) }
+    {
+        if let Some(cell) = self.cells.get_mut(index) {
+            *cell = cell.wrapping_add(value);
+            return true;
+        }
+        false
+    }
+
+    pub(crate) fn copy(&self) -> Result<Patch, NoMemory>
+        ensures { IfOk result (λ copy. copy ≡ self.now) }
+    {
+        let cells = self.cells.clone()?;
+        Ok(Patch { cells })
+    }
+
     /// The number of cells.
     pub(crate) fn len(&self) -> usize
-        ensures { result ≡ length self.now }
+        ensures length { result ≡ length self.now }
+        ensures small { result < 2 ^ 63 }
     {
         self.cells.len()
+    }
+
+    pub(crate) fn cells(&self) -> &BTreeMap<Vec<u64>, u64>
+        ensures { cells_of result.now.entries ≡ self.now }
+    {
+        &self.cells
     }
 
     pub(crate) fn into_cells(self) -> BTreeMap<Vec<u64>, u64>

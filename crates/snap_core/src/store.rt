@@ -163,23 +163,23 @@ impl Store {
         let patches = changes.patches();
         for var in patches.keys() {
             if let Some(patch) = patches.get(var) {
-                self.reserve(*var, patch.len())?;
+                self.reserve(*var, patch)?;
             }
         }
         Ok(())
     }
 
-    // Takes memory for more cells of one variable.
-    fn reserve(&mut self, var: u16, more: usize) -> Result<(), NoMemory>
+    // Takes memory for the numbers of a patch of one variable.
+    fn reserve(&mut self, var: u16, patch: &Patch) -> Result<(), NoMemory>
         ensures same { arrays_of self.new ≡ arrays_of self.old }
-        ensures room { OnOk result (more ≤ room_at self.new var) }
-        ensures kept { (s : ℕ) → room_at self.old s ≤ room_at self.new s }
+        ensures room { OnOk result (length patch.now ≤ room_at self.new var) }
+        ensures kept { (s : ℕ) → (var == s) ≡ false → room_at self.new s ≡ room_at self.old s }
     {
         if let Some(array) = self.arrays.get_mut(&var) {
-            return array.reserve(more);
+            return array.reserve(patch);
         }
         let mut array = Array::new(self.alloc);
-        array.reserve(more)?;
+        array.reserve(patch)?;
         self.arrays.insert(var, array)?;
         Ok(())
     }

@@ -1,12 +1,12 @@
-use Rattle.std.proofs.Common.{ap, ◌∙◌}
-use Rattle.std.proofs.lemmas.List.Sorted.{IsPermutation-map}
-use Rattle.snap_core.specs.Cells.{cell, cells_of}
-use Rattle.snap_core.proofs.CellMerge.{cell-reordered, IsDistinct-cells_of}
+use Rattle.std.proofs.Common.{refl, ap, ◌∙◌}
+use Rattle.std.specs.Prelude.{unwrap_or}
+use Rattle.snap_core.specs.Cells.{cell}
+use Rattle.snap_core.proofs.Beside.{beside-same}
 use Rattle.snap_core.proofs.array.Array.reserve.Goals as goal
 
-pub returns-clause-cells : goal.returns-clause-cells
-returns-clause-cells c = λ q.
-    cell-reordered (cells_of c.self.inside.cells.entries) (cells_of c.reserve.new.self.entries)
-    (IsPermutation-map _ c.self.inside.cells.entries c.reserve.new.self.entries c.reserve.ensures.entries.0)
-    (IsDistinct-cells_of c.reserve.new.self.entries c.reserve.ensures.unique) q
-    ∙ ap (λ a. cell a.0 q) c.self.view_is
+pub returns-clause-numbers : goal.returns-clause-numbers
+returns-clause-numbers c = λ q.
+    ap (λ o. unwrap_or o 0)
+    (beside-same c.self.inside.table.0 c.reserve.new.self.0 c.self.inside.crowded c.self.inside.crowded c.reserve.ensures.cells (λ p. refl) q
+    ∙ ap (λ a. cell a.0 q) c.self.view_is)
+    ∙ c.loop-index.invariant q

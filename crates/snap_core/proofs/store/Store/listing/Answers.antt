@@ -28,7 +28,7 @@ loop-var-preserved c =
           ∙ append_assoc es (entries_of c.in-Some.var.now c.in-Some.array.now.0) (all_entries rest)
           ∙ ap (λ l. es ++ all_entries l) (sym left)
           ∙ c.loop-var.invariant.listed;
-      indices = λ h. c.loop-var.invariant.indices (subst HaveDistinct (sym left) (c.list.ensures.distinct, h));
+      indices = λ h. c.loop-var.invariant.indices (subst HaveDistinct (sym left) (c.in_ok-list.ensures.distinct, h));
     }
 
 pub returns : goal.returns

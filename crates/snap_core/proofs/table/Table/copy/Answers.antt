@@ -1,7 +1,7 @@
 use Rattle.std.proofs.Common.{ap, ◌∙◌, rules}
 use Rattle.std.proofs.lemmas.List.Elements.{same_from_all_zip}
 use Rattle.snap_core.proofs.CellLemmas.{cells_of-clones}
-use Rattle.snap_core.proofs.array.Array.copy.Goals as goal
+use Rattle.snap_core.proofs.table.Table.copy.Goals as goal
 
 pub returns : goal.returns
 returns c =

@@ -1,0 +1,11 @@
+use Rattle.std.proofs.Common.{ap, sym, ◌∙◌, Some, cond}
+use Rattle.std.specs.Prelude.{◌&&◌}
+use Rattle.std.specs.Str.{bytes_eq}
+use Rattle.snap_core.specs.Cells.{cell, beside}
+use Rattle.snap_core.proofs.Beside.{beside-second_if}
+use Rattle.snap_core.proofs.array.Array.write_crowded.Goals as goal
+
+pub returns-in-None-clause-cells : goal.returns-in-None-clause-cells
+returns-in-None-clause-cells c = λ q.
+    beside-second_if c.write.result c.args.index.now c.args.value c.self.inside.table.0 c.self.inside.crowded c.write.new.self (sym c.in-None.ensures) c.write.ensures.cells q
+    ∙ ap (λ a. cond (c.write.result && bytes_eq c.args.index.now q) (Some c.args.value) (cell a.0 q)) c.self.view_is
