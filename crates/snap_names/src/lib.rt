@@ -8,20 +8,20 @@ ghost use Rattle.snap_names.specs.Declarations.{resolved, core_program};
 ghost use Rattle.snap_names.specs.Texts.{HasTree};
 ghost use Rattle.snap_names.specs.declared.fault.NameFault.TheVariants.{NoMemory};
 
-pub mod copies;
-pub mod declarations;
+mod copies;
+mod declarations;
 pub mod fault;
-pub mod leaves;
-pub mod limits;
-pub mod parts;
-pub mod places;
-pub mod policies;
-pub mod predicates;
-pub mod repeated;
-pub mod scope;
-pub mod singles;
-pub mod sizes;
-pub mod values;
+mod leaves;
+mod limits;
+mod parts;
+mod places;
+mod policies;
+mod predicates;
+mod repeated;
+mod scope;
+mod singles;
+mod sizes;
+mod values;
 
 pub use fault::NameFault;
 use scope::{Scope, Tally};
@@ -54,6 +54,3 @@ pub fn resolve(alloc: Global, text: &[u8], source: &Source) -> Result<Program, N
     let body = scope.body(&mut tally, &source.policy)?;
     scope.limited(tally, body)
 }
-
-#[cfg(test)]
-mod tests;

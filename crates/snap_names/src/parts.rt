@@ -164,7 +164,10 @@ fn joined_policies(
     if !room {
         return Ok(None);
     }
-    let (Some(left), Some(right)) = (left, right) else {
+    let Some(left) = left else {
+        return Ok(None);
+    };
+    let Some(right) = right else {
         return Ok(None);
     };
     let left = Box::new(alloc, left)?;
@@ -188,7 +191,10 @@ fn chosen(
     let Some(test) = test_of(test) else {
         return Ok(None);
     };
-    let (Some(yes), Some(no)) = (yes, no) else {
+    let Some(yes) = yes else {
+        return Ok(None);
+    };
+    let Some(no) = no else {
         return Ok(None);
     };
     let yes = Box::new(alloc, yes)?;
