@@ -1,5 +1,5 @@
--- Which programs are in form, and how large they are.
-use Rattle.std.specs.Prelude.{◌≡◌, ℕ, ◌+◌, ◌*◌, ◌≤◌, ◌++◌, length, ⊤}
+-- Which programs are in form.
+use Rattle.std.specs.Prelude.{◌≡◌, ℕ, ◌≤◌, ◌++◌, length, ⊤}
 use Rattle.std.specs.List.{All, IsDistinct}
 use Rattle.std.specs.Str.{bytes_eq}
 use Rattle.snap_core.specs.declared.policy.Pol.{Pol}
@@ -49,41 +49,3 @@ pub record IsInForm (p : Program) : Type 0 where
 pub record IsBounded (p : Program) : Type 0 where
   pub few : length p.vars ≤ 64
   pub fits : PolFits (count p.fields) (length p.vars) p.body
-
--- core nodes: each constructor of a predicate and of a policy, but that of a filter
-abbrev pub pred_nodes : Pred → ℕ
-pred_nodes Id = 1
-pred_nodes Drop = 1
-pred_nodes (Field c n) = 1
-pred_nodes (State s es a) = 1
-pred_nodes (Not' _ x) = 1 + pred_nodes x
-pred_nodes (And' _ x _ y) = 1 + pred_nodes x + pred_nodes y
-pred_nodes (Or' _ x _ y) = 1 + pred_nodes x + pred_nodes y
-
-abbrev pub nodes_of : Pol → ℕ
-nodes_of (Filter x) = pred_nodes x
-nodes_of (Set c a) = 1
-nodes_of (Change u) = 1
-nodes_of (Par' _ p _ q) = 1 + nodes_of p + nodes_of q
-nodes_of (Seq' _ p _ q) = 1 + nodes_of p + nodes_of q
-nodes_of (If' x _ p _ q) = 1 + pred_nodes x + nodes_of p + nodes_of q
-nodes_of (Atomic' _ p) = 1 + nodes_of p
-
--- weight: sums over choices, products over parallel parts and sequences
-abbrev pub pred_weight : Pred → ℕ
-pred_weight Id = 1
-pred_weight Drop = 1
-pred_weight (Field c n) = 2
-pred_weight (State s es a) = 2
-pred_weight (Not' _ x) = pred_weight x
-pred_weight (And' _ x _ y) = pred_weight x + pred_weight y
-pred_weight (Or' _ x _ y) = pred_weight x + pred_weight y
-
-abbrev pub weight_of : Pol → ℕ
-weight_of (Filter x) = pred_weight x
-weight_of (Set c a) = 1
-weight_of (Change u) = 1
-weight_of (Par' _ p _ q) = weight_of p * weight_of q
-weight_of (Seq' _ p _ q) = weight_of p * weight_of q
-weight_of (If' x _ p _ q) = pred_weight x + weight_of p + weight_of q
-weight_of (Atomic' _ p) = weight_of p

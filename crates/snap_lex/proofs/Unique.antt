@@ -138,16 +138,16 @@ comment_same : (bytes : List ℕ) (n m : ℕ) → IsComment bytes n → IsCommen
 comment_same bytes n m a b = omega (arith, comment_least bytes n m a b, comment_least bytes m n b a)
 
 -- the second spelling goes on where the first stops, or the other way round
-pub data Meets (ts us : List Token) (e1 : ℕ) (r1 : List ℕ) (e2 : ℕ) (r2 : List ℕ) : Type 0 where
-  goes_on : (more : List Token) → us ≡ ts ++ more → Spells e1 r1 more e2 r2 → Meets ts us e1 r1 e2 r2
-  stops : (more : List Token) → ts ≡ us ++ more → Spells e2 r2 more e1 r1 → Meets ts us e1 r1 e2 r2
+pub data OneGoesOn (ts us : List Token) (e1 : ℕ) (r1 : List ℕ) (e2 : ℕ) (r2 : List ℕ) : Type 0 where
+  goes_on : (more : List Token) → us ≡ ts ++ more → Spells e1 r1 more e2 r2 → OneGoesOn ts us e1 r1 e2 r2
+  stops : (more : List Token) → ts ≡ us ++ more → Spells e2 r2 more e1 r1 → OneGoesOn ts us e1 r1 e2 r2
 
-meets_more : (t : Token) (ts us : List Token) (e1 : ℕ) (r1 : List ℕ) (e2 : ℕ) (r2 : List ℕ) → Meets ts us e1 r1 e2 r2 → Meets (t ∷ ts) (t ∷ us) e1 r1 e2 r2
-meets_more t ts us e1 r1 e2 r2 (goes_on more is h) = goes_on more (ap (λ x. t ∷ x) is) h
-meets_more t ts us e1 r1 e2 r2 (stops more is h) = stops more (ap (λ x. t ∷ x) is) h
+one_goes_on_more : (t : Token) (ts us : List Token) (e1 : ℕ) (r1 : List ℕ) (e2 : ℕ) (r2 : List ℕ) → OneGoesOn ts us e1 r1 e2 r2 → OneGoesOn (t ∷ ts) (t ∷ us) e1 r1 e2 r2
+one_goes_on_more t ts us e1 r1 e2 r2 (goes_on more is h) = goes_on more (ap (λ x. t ∷ x) is) h
+one_goes_on_more t ts us e1 r1 e2 r2 (stops more is h) = stops more (ap (λ x. t ∷ x) is) h
 
 pub meet : (at : ℕ) (bytes : List ℕ) (ts us : List Token) (e1 : ℕ) (r1 : List ℕ) (e2 : ℕ) (r2 : List ℕ) →
-    Spells at bytes ts e1 r1 → Spells at bytes us e2 r2 → Meets ts us e1 r1 e2 r2
+    Spells at bytes ts e1 r1 → Spells at bytes us e2 r2 → OneGoesOn ts us e1 r1 e2 r2
 meet at bytes ts us e1 r1 e2 r2 spells_nothing b = goes_on us refl b
 meet at bytes ts us e1 r1 e2 r2 (spells_blank is a) spells_nothing = stops ts refl (spells_blank is a)
 meet at bytes ts us e1 r1 e2 r2 (spells_blank {bytes = inner} is a) (spells_blank was b) = meet (at + 1) inner ts us e1 r1 e2 r2 a b
@@ -169,7 +169,7 @@ meet at bytes ts us e1 r1 e2 r2 (spells_token {ts = ts1} n kind lexeme most a) (
     let t2 : Token = record { kind = kind2; from = at; to = at + m } in
     let token : t1 ≡ t2 = cc in
     let later = meet (at + n) (drop n bytes) ts1 us1 e1 r1 e2 r2 a (subst (λ x. Spells (at + x) (drop x bytes) us1 e2 r2) same b) in
-    subst (λ x. Meets (t1 ∷ ts1) (x ∷ us1) e1 r1 e2 r2) token (meets_more t1 ts1 us1 e1 r1 e2 r2 later)
+    subst (λ x. OneGoesOn (t1 ∷ ts1) (x ∷ us1) e1 r1 e2 r2) token (one_goes_on_more t1 ts1 us1 e1 r1 e2 r2 later)
 
 empty_form : (n : ℕ) → HasForm [] n → ⊥
 empty_form n (as_word w) = absurd (omega (arith, w.some, w.within))
@@ -222,7 +222,7 @@ pub record SameStop (ts us : List Token) (e1 e2 : ℕ) (r1 r2 : List ℕ) : Type
   pub at : e1 ≡ e2
   pub rest : r1 ≡ r2
 
-same_stop_from : (ts us : List Token) (e1 : ℕ) (r1 : List ℕ) (e2 : ℕ) (r2 : List ℕ) → IsStop r1 → IsStop r2 → Meets ts us e1 r1 e2 r2 → SameStop ts us e1 e2 r1 r2
+same_stop_from : (ts us : List Token) (e1 : ℕ) (r1 : List ℕ) (e2 : ℕ) (r2 : List ℕ) → IsStop r1 → IsStop r2 → OneGoesOn ts us e1 r1 e2 r2 → SameStop ts us e1 e2 r1 r2
 same_stop_from ts us e1 r1 e2 r2 s1 s2 (goes_on more is h) =
     elim (stopped e1 r1 more e2 r2 s1 h) [ ends none at rest ↦ record { tokens = sym (is ∙ (ap (λ x. ts ++ x) none ∙ append-nil ts)); at = at; rest = rest } ]
 same_stop_from ts us e1 r1 e2 r2 s1 s2 (stops more is h) =

@@ -10,8 +10,6 @@ pub mod address;
 pub mod bytes;
 pub mod laws;
 pub mod lexemes;
-#[cfg(test)]
-mod tests;
 
 use bytes::is_blank;
 use lexemes::{behind, comment_len, token_at};

@@ -1,6 +1,7 @@
 -- What a name or a value stands for fits, where each name does.
-use Rattle.std.proofs.Common.{ℕ, ◌<◌, true, false, List, [], ◌∷◌, ◌++◌, Ok, IfOk, ◌==◌, lt_of_le_of_lt, slice_get}
-use Rattle.std.proofs.Math.Nat.{min-le_left}
+use Rattle.std.proofs.Common.{◌≡◌, ℕ, zero, suc, ◌+◌, ◌<◌, ◌≤◌, Bool, true, false, List, [], ◌∷◌, ◌++◌, length, Option, None, Some, Result, Ok, Err, IfOk, if◌then◌else◌, ◌==◌, slice_get, slice_set, refl, sym, ap, ◌∙◌, arith, length-append}
+use Rattle.std.proofs.lemmas.Bool.{eqb-true}
+use Rattle.std.proofs.lemmas.Result.{IfOk-weaker}
 use Rattle.std.specs.List.{AllByRecursion}
 use Rattle.std.specs.Str.{bytes_eq}
 use Rattle.snap_core.specs.declared.policy.Atom.{Atom}
@@ -11,10 +12,11 @@ use Rattle.snap_parse.specs.declared.tree.Value.{Value}
 use Rattle.snap_parse.specs.declared.tree.Value.TheVariants as values
 use Rattle.snap_names.specs.declared.scope.Sense.{Sense}
 use Rattle.snap_names.specs.declared.scope.Sense.TheVariants.{Plain, Split, Array, Constant, Policy}
-use Rattle.snap_names.specs.declared.fault.NameFault.TheVariants.{Unknown, Kind}
-use Rattle.snap_names.specs.Senses.{Words, Arities, Place, word, sense_of, literal, constant, atom_of, field_atom, array_atom, address_literal, split_of_sense, split_atoms, split_address, split_net, split_test, test_of_sense, field_equals, set_of_sense, field_gets, atoms_of_sense, value_atoms, atoms_behind, array_of_sense, arity_seen, width, place_of, place}
-use Rattle.snap_names.proofs.BoundedCore.{TestFits, PolicyFits}
-use Rattle.snap_names.proofs.BoundedSteps.{AllByRecursion-append, AllByRecursion-lookup, IfOk-or_fault, IfOk-after, IfOk-after_any, IfOk-if}
+use Rattle.snap_names.specs.declared.fault.NameFault.{NameFault}
+use Rattle.snap_names.specs.declared.fault.NameFault.TheVariants.{Unknown, Kind, Arity}
+use Rattle.snap_names.specs.Senses.{Words, Arities, Place, after, word, sense_of, literal, constant, atom_of, field_atom, array_atom, address_literal, split_of_sense, split_atoms, split_address, split_net, split_test, test_of_sense, field_equals, set_of_sense, field_gets, atoms_of_sense, value_atoms, atoms_behind, array_of_sense, arity_seen, width_of, value_width, width, place_of, place}
+use Rattle.snap_names.proofs.BoundedCore.{IsIndexed, TestFits, PolicyFits, Grows, Grows-same}
+use Rattle.snap_names.proofs.BoundedSteps.{AllByRecursion-append, AllByRecursion-lookup, IfOk-or_fault, IfOk-after, IfOk-after_any, IfOk-if, IfOk-both}
 
 -- a component is one of c, and an array one of v
 abbrev pub SenseFits : ℕ → ℕ → Sense → Type 0
@@ -27,8 +29,9 @@ SenseFits c v (Policy i) = Unit {0}
 abbrev pub NamesFit : ℕ → ℕ → List (List ℕ × Sense) → Type 0
 NamesFit c v names = AllByRecursion (λ x. SenseFits c v x.1) names
 
-abbrev pub PlaceFits : ℕ → ℕ → Place → Type 0
-PlaceFits c v p = (p.var < v) × IndexFits c p.index
+-- an array that is indexed as it was before, and the arities behind it
+abbrev pub PlaceFits : Type 0 → ℕ → ℕ → Arities → Place → Type 0
+PlaceFits W c v before p = Grows before p.arities × IsIndexed W v p.arities p.var p.index × IndexFits c p.index
 
 sense_of-fits : (c v : ℕ) (e : Words) (name : Span) → NamesFit c v e.names → IfOk (sense_of e name) (SenseFits c v)
 sense_of-fits c v e name h = IfOk-or_fault (SenseFits c v) (Unknown name.from) _ (AllByRecursion-lookup (SenseFits c v) (bytes_eq (word e.text name)) e.names h)
@@ -66,30 +69,30 @@ split_atoms-fits c v e n (values.Literal l) h = IfOk-after_any (AtomsFit c) (add
 split_atoms-fits c v e n (values.Prefix a l) h = tt
 split_atoms-fits c v e n (values.Name t) h = IfOk-after (SenseFits c v) (AtomsFit c) (sense_of e t) (split_of_sense n t.from) (sense_of-fits c v e t h) (split_of_sense-fits c v n t.from)
 
-split_test-fits : (c v : ℕ) (e : Words) (a b n : ℕ) (x : Value) → a < c → b < c → IfOk (split_test e a b n x) (TestFits c v)
-split_test-fits c v e a b n (values.Literal l) h k = IfOk-after_any (TestFits c v) (split_address e (values.Literal l)) _ (λ y. (h, k))
-split_test-fits c v e a b n (values.Prefix t l) h k = IfOk-after_any (TestFits c v) (split_net e n t l) _ (λ y. h)
-split_test-fits c v e a b n (values.Name t) h k = IfOk-after_any (TestFits c v) (split_address e (values.Name t)) _ (λ y. (h, k))
+split_test-fits : (W : Type 0) (c v : ℕ) (seen : Arities) (e : Words) (a b n : ℕ) (x : Value) → a < c → b < c → IfOk (split_test e a b n x) (TestFits W c v seen)
+split_test-fits W c v seen e a b n (values.Literal l) h k = IfOk-after_any (TestFits W c v seen) (split_address e (values.Literal l)) _ (λ y. (h, k))
+split_test-fits W c v seen e a b n (values.Prefix t l) h k = IfOk-after_any (TestFits W c v seen) (split_net e n t l) _ (λ y. h)
+split_test-fits W c v seen e a b n (values.Name t) h k = IfOk-after_any (TestFits W c v seen) (split_address e (values.Name t)) _ (λ y. (h, k))
 
-test_of_sense-fits : (c v : ℕ) (e : Words) (at : ℕ) (x : Value) (s : Sense) → SenseFits c v s → IfOk (test_of_sense e at x s) (TestFits c v)
-test_of_sense-fits c v e at x (Plain i) h = IfOk-after_any (TestFits c v) (constant e x) _ (λ n. h)
-test_of_sense-fits c v e at x (Split a b n) h = split_test-fits c v e a b n x h.0 h.1
-test_of_sense-fits c v e at x (Array s) h = tt
-test_of_sense-fits c v e at x (Constant n b) h = tt
-test_of_sense-fits c v e at x (Policy i) h = tt
+test_of_sense-fits : (W : Type 0) (c v : ℕ) (seen : Arities) (e : Words) (at : ℕ) (x : Value) (s : Sense) → SenseFits c v s → IfOk (test_of_sense e at x s) (TestFits W c v seen)
+test_of_sense-fits W c v seen e at x (Plain i) h = IfOk-after_any (TestFits W c v seen) (constant e x) _ (λ n. h)
+test_of_sense-fits W c v seen e at x (Split a b n) h = split_test-fits W c v seen e a b n x h.0 h.1
+test_of_sense-fits W c v seen e at x (Array s) h = tt
+test_of_sense-fits W c v seen e at x (Constant n b) h = tt
+test_of_sense-fits W c v seen e at x (Policy i) h = tt
 
-pub field_equals-fits : (c v : ℕ) (e : Words) (name : Span) (x : Value) → NamesFit c v e.names → IfOk (field_equals e name x) (TestFits c v)
-field_equals-fits c v e name x h = IfOk-after (SenseFits c v) (TestFits c v) (sense_of e name) (test_of_sense e name.from x) (sense_of-fits c v e name h) (test_of_sense-fits c v e name.from x)
+pub field_equals-fits : (W : Type 0) (c v : ℕ) (seen : Arities) (e : Words) (name : Span) (x : Value) → NamesFit c v e.names → IfOk (field_equals e name x) (TestFits W c v seen)
+field_equals-fits W c v seen e name x h = IfOk-after (SenseFits c v) (TestFits W c v seen) (sense_of e name) (test_of_sense e name.from x) (sense_of-fits c v e name h) (test_of_sense-fits W c v seen e name.from x)
 
-set_of_sense-fits : (c v : ℕ) (e : Words) (at : ℕ) (x : Value) → NamesFit c v e.names → (s : Sense) → SenseFits c v s → IfOk (set_of_sense e at x s) (PolicyFits c v)
-set_of_sense-fits c v e at x w (Plain i) h = IfOk-after (AtomFits c) (PolicyFits c v) (field_atom e x) _ (field_atom-fits c v e x w) (λ a k. (h, k))
-set_of_sense-fits c v e at x w (Split a b n) h = IfOk-after (AtomsFit c) (PolicyFits c v) (split_atoms e n x) _ (split_atoms-fits c v e n x w) (λ y k. ((h.0, k.0), (h.1, k.1)))
-set_of_sense-fits c v e at x w (Array s) h = tt
-set_of_sense-fits c v e at x w (Constant n b) h = tt
-set_of_sense-fits c v e at x w (Policy i) h = tt
+set_of_sense-fits : (W : Type 0) (c v : ℕ) (seen : Arities) (e : Words) (at : ℕ) (x : Value) → NamesFit c v e.names → (s : Sense) → SenseFits c v s → IfOk (set_of_sense e at x s) (PolicyFits W c v seen)
+set_of_sense-fits W c v seen e at x w (Plain i) h = IfOk-after (AtomFits c) (PolicyFits W c v seen) (field_atom e x) _ (field_atom-fits c v e x w) (λ a k. (h, k))
+set_of_sense-fits W c v seen e at x w (Split a b n) h = IfOk-after (AtomsFit c) (PolicyFits W c v seen) (split_atoms e n x) _ (split_atoms-fits c v e n x w) (λ y k. ((h.0, k.0), (h.1, k.1)))
+set_of_sense-fits W c v seen e at x w (Array s) h = tt
+set_of_sense-fits W c v seen e at x w (Constant n b) h = tt
+set_of_sense-fits W c v seen e at x w (Policy i) h = tt
 
-pub field_gets-fits : (c v : ℕ) (e : Words) (name : Span) (x : Value) → NamesFit c v e.names → IfOk (field_gets e name x) (PolicyFits c v)
-field_gets-fits c v e name x h = IfOk-after (SenseFits c v) (PolicyFits c v) (sense_of e name) (set_of_sense e name.from x) (sense_of-fits c v e name h) (set_of_sense-fits c v e name.from x h)
+pub field_gets-fits : (W : Type 0) (c v : ℕ) (seen : Arities) (e : Words) (name : Span) (x : Value) → NamesFit c v e.names → IfOk (field_gets e name x) (PolicyFits W c v seen)
+field_gets-fits W c v seen e name x h = IfOk-after (SenseFits c v) (PolicyFits W c v seen) (sense_of e name) (set_of_sense e name.from x) (sense_of-fits c v e name h) (set_of_sense-fits W c v seen e name.from x h)
 
 atoms_of_sense-fits : (c v at : ℕ) (s : Sense) → SenseFits c v s → IfOk (atoms_of_sense at s) (IndexFits c)
 atoms_of_sense-fits c v at (Plain i) h = (h, tt)
@@ -116,14 +119,102 @@ array_of_sense-fits c v at (Array s) h = h
 array_of_sense-fits c v at (Constant n b) h = tt
 array_of_sense-fits c v at (Policy i) h = tt
 
-place_of-fits : (c v : ℕ) (e : Words) (before : Arities) (at : ℕ) (xs : List Value) → NamesFit c v e.names → (s : ℕ) → s < v → IfOk (place_of e before at xs s) (PlaceFits c v)
-place_of-fits c v e before at xs w s h =
-    IfOk-after_any (PlaceFits c v) (arity_seen before s (width e xs) at (slice_get before s)) _ (λ arities.
-    IfOk-after (IndexFits c) (PlaceFits c v) (atoms_behind e [] xs) _ (atoms_behind-fits c v e w [] xs tt) (λ index k.
-    (lt_of_le_of_lt (min-le_left s 65535) h, k)))
+-- A value gives as many atoms as its width says.
+atoms_of_sense-length : (at : ℕ) (r : Result Sense NameFault) → IfOk (after r (atoms_of_sense at)) (λ es. length es ≡ width_of r)
+atoms_of_sense-length at (Err f) = tt
+atoms_of_sense-length at (Ok (Plain i)) = refl
+atoms_of_sense-length at (Ok (Split a b n)) = refl
+atoms_of_sense-length at (Ok (Array s)) = tt
+atoms_of_sense-length at (Ok (Constant n b)) = refl
+atoms_of_sense-length at (Ok (Policy i)) = tt
 
-pub place-fits : (c v : ℕ) (e : Words) (before : Arities) (name : Span) (xs : List Value) → NamesFit c v e.names → IfOk (place e before name xs) (PlaceFits c v)
-place-fits c v e before name xs h =
-    IfOk-after (λ i. i < v) (PlaceFits c v) _ (place_of e before name.from xs)
+value_atoms-length : (e : Words) (x : Value) → IfOk (value_atoms e x) (λ es. length es ≡ value_width e x)
+value_atoms-length e (values.Literal l) = IfOk-after_any (λ es. length es ≡ 1) (literal e.text l) _ (λ n. refl)
+value_atoms-length e (values.Prefix a l) = tt
+value_atoms-length e (values.Name t) = atoms_of_sense-length t.from (sense_of e t)
+
+atoms_behind-length : (e : Words) (before : List Atom) (xs : List Value) → IfOk (atoms_behind e before xs) (λ es. length es ≡ length before + width e xs)
+atoms_behind-length e before [] = omega arith
+atoms_behind-length e before (x ∷ xs) =
+    IfOk-after (λ es. length es ≡ value_width e x) (λ es. length es ≡ length before + (value_width e x + width e xs)) (value_atoms e x) (λ es. atoms_behind e (before ++ es) xs) (value_atoms-length e x)
+    (λ es k. IfOk-weaker (atoms_behind e (before ++ es) xs) (λ fs. length fs ≡ length (before ++ es) + width e xs) _ (λ fs l. omega (arith, l, k, length-append before es)) (atoms_behind-length e (before ++ es) xs))
+
+index-length : (e : Words) (xs : List Value) → IfOk (atoms_behind e [] xs) (λ es. length es ≡ width e xs)
+index-length e xs = IfOk-weaker (atoms_behind e [] xs) (λ es. length es ≡ 0 + width e xs) _ (λ es h. omega (arith, h)) (atoms_behind-length e [] xs)
+
+width_of-some : (r : Result Sense NameFault) → 1 ≤ width_of r
+width_of-some (Err f) = omega arith
+width_of-some (Ok (Plain i)) = omega arith
+width_of-some (Ok (Split a b n)) = omega arith
+width_of-some (Ok (Array s)) = omega arith
+width_of-some (Ok (Constant n b)) = omega arith
+width_of-some (Ok (Policy i)) = omega arith
+
+value_width-some : (e : Words) (x : Value) → 1 ≤ value_width e x
+value_width-some e (values.Literal l) = omega arith
+value_width-some e (values.Prefix a l) = omega arith
+value_width-some e (values.Name t) = width_of-some (sense_of e t)
+
+width-some : (e : Words) (xs : List Value) → 1 ≤ length xs → 1 ≤ width e xs
+width-some e [] h = absurd (omega (arith, h))
+width-some e (x ∷ xs) h = omega (arith, value_width-some e x)
+
+-- the arities behind an array that is indexed with n atoms
+record IsSeen (before behind : Arities) (s n : ℕ) : Type 0 where
+  grows : Grows before behind
+  arity : slice_get behind s ≡ Some (Some n)
+
+slice_get-set : (seen : Arities) (s n : ℕ) → s < length seen → slice_get (slice_set seen s (Some n)) s ≡ Some (Some n)
+slice_get-set [] s n h = absurd (omega (arith, h))
+slice_get-set (x ∷ xs) zero n h = refl
+slice_get-set (x ∷ xs) (suc s) n h = slice_get-set xs s n (omega (arith, h))
+
+Grows-set : (seen : Arities) (s n : ℕ) → slice_get seen s ≡ Some None → Grows seen (slice_set seen s (Some n))
+Grows-set seen s n e = record { size = longer seen s; kept = kept seen s e }
+  where
+    longer : (xs : Arities) (i : ℕ) → length xs ≤ length (slice_set xs i (Some n))
+    longer [] i = omega arith
+    longer (x ∷ xs) zero = omega arith
+    longer (x ∷ xs) (suc i) = omega (arith, longer xs i)
+
+    none_is_some : (m : ℕ) → Some None ≡ Some (Some m) → ⊥
+    none_is_some m h = cc
+
+    kept : (xs : Arities) (i : ℕ) → slice_get xs i ≡ Some None → (j m : ℕ) → slice_get xs j ≡ Some (Some m) → slice_get (slice_set xs i (Some n)) j ≡ Some (Some m)
+    kept [] i e j m h = cc
+    kept (x ∷ xs) zero e zero m h = absurd (none_is_some m (sym e ∙ h))
+    kept (x ∷ xs) zero e (suc j) m h = h
+    kept (x ∷ xs) (suc i) e zero m h = h
+    kept (x ∷ xs) (suc i) e (suc j) m h = kept xs i e j m h
+
+arity_seen-gives : (before : Arities) (s n at : ℕ) → s < length before → (o : Option (Option ℕ)) → slice_get before s ≡ o → IfOk (arity_seen before s n at o) (λ behind. IsSeen before behind s n)
+arity_seen-gives before s n at h None e = absurd (none_within before s h e)
+  where
+    none_within : (xs : Arities) (i : ℕ) → i < length xs → slice_get xs i ≡ None → ⊥
+    none_within [] i l w = omega (arith, l)
+    none_within (x ∷ xs) zero l w = cc
+    none_within (x ∷ xs) (suc i) l w = none_within xs i (omega (arith, l)) w
+arity_seen-gives before s n at h (Some None) e = record { grows = Grows-set before s n e; arity = slice_get-set before s n h }
+arity_seen-gives before s n at h (Some (Some m)) e = by_test (m == n) refl
+  where
+    by_test : (b : Bool) → (m == n) ≡ b → IfOk (if b then Ok before else Err (Arity at)) (λ behind. IsSeen before behind s n)
+    by_test true same = record { grows = Grows-same before; arity = e ∙ ap (λ k. Some (Some k)) (eqb-true m n same) }
+    by_test false other = tt
+
+place_of-fits : (W : Type 0) (c v : ℕ) (e : Words) (before : Arities) (at : ℕ) (xs : List Value) → NamesFit c v e.names → v ≤ length before → (W → 1 ≤ length xs) → (s : ℕ) → s < v → IfOk (place_of e before at xs s) (PlaceFits W c v before)
+place_of-fits W c v e before at xs w room some s h =
+    IfOk-after (λ behind. IsSeen before behind s (width e xs)) (PlaceFits W c v before) (arity_seen before s (width e xs) at (slice_get before s)) _
+    (arity_seen-gives before s (width e xs) at (omega (arith, h, room)) (slice_get before s) refl) (λ arities seen.
+    IfOk-after (λ es. IndexFits c es × (length es ≡ width e xs)) (PlaceFits W c v before) (atoms_behind e [] xs) _
+    (IfOk-both (IndexFits c) (λ es. length es ≡ width e xs) (atoms_behind e [] xs) (atoms_behind-fits c v e w [] xs tt) (index-length e xs)) (λ index k.
+    (
+      seen.grows,
+      record { array = s; below = h; number = refl; arity = seen.arity ∙ ap (λ n. Some (Some n)) (sym k.1); some = λ q. omega (arith, width-some e xs (some q), k.1) },
+      k.0,
+    )))
+
+pub place-fits : (W : Type 0) (c v : ℕ) (e : Words) (before : Arities) (name : Span) (xs : List Value) → NamesFit c v e.names → v ≤ length before → (W → 1 ≤ length xs) → IfOk (place e before name xs) (PlaceFits W c v before)
+place-fits W c v e before name xs h room some =
+    IfOk-after (λ i. i < v) (PlaceFits W c v before) _ (place_of e before name.from xs)
     (IfOk-after (SenseFits c v) (λ i. i < v) (sense_of e name) (array_of_sense name.from) (sense_of-fits c v e name h) (array_of_sense-fits c v name.from))
-    (place_of-fits c v e before name.from xs h)
+    (place_of-fits W c v e before name.from xs h room some)

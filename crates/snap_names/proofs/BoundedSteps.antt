@@ -57,3 +57,7 @@ IfOk-within P which n most r k = by_test (nat_lt most n) refl
     by_test : (b : Bool) → nat_lt most n ≡ b → IfOk (within which n most r) P
     by_test true e = rw e tt
     by_test false e = rw e (k (ltb-false most n e))
+
+pub IfOk-both : {A : Type 0} (P Q : A → Type 0) (r : Result A NameFault) → IfOk r P → IfOk r Q → IfOk r (λ x. P x × Q x)
+IfOk-both P Q (Ok x) h k = (h, k)
+IfOk-both P Q (Err f) h k = tt

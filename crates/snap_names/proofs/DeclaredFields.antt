@@ -1,5 +1,5 @@
 -- The fields that are declared are those of a program, but for their number.
-use Rattle.std.proofs.Common.{◌≡◌, ◌≢◌, ℕ, zero, suc, ◌+◌, ◌≤◌, Bool, true, false, List, [], ◌∷◌, ◌++◌, map, length, codes, Option, None, Some, is_some, Result, Ok, Err, IfOk, cond, refl, sym, ap, ◌∙◌, subst, arith, length-append}
+use Rattle.std.proofs.Common.{◌≡◌, ◌≢◌, ℕ, zero, suc, ◌+◌, ◌≤◌, Bool, true, false, List, [], ◌∷◌, ◌++◌, map, length, codes, Option, None, Some, is_some, Result, Ok, Err, IfOk, cond, refl, sym, ap, ◌∙◌, subst, arith, append_assoc, length-append}
 use Rattle.std.specs.List.{AllByRecursion, All, IsDistinct, list_any}
 use Rattle.std.specs.Map.{lookup}
 use Rattle.std.specs.Str.{bytes_eq}
@@ -8,9 +8,9 @@ use Rattle.std.proofs.lemmas.Slice.Eq.{bytes_eq-Decides}
 use Rattle.snap_core.specs.declared.program.Field.{Field}
 use Rattle.snap_core.specs.Fields.{count, width, declared_at, declared_from, names_of, plain_field, PrefixFits, IsFields}
 use Rattle.snap_names.specs.declared.scope.Sense.{Sense}
-use Rattle.snap_names.specs.declared.scope.Sense.TheVariants.{Plain, Split}
+use Rattle.snap_names.specs.declared.scope.Sense.TheVariants.{Plain, Split, Array}
 use Rattle.snap_names.specs.Declarations.{Declared, ports, is_known, field_names, with_field}
-use Rattle.snap_names.specs.Declarations.{field_senses, prefix_length, short, with_array, with_constant, with_let, declare, declare_all}
+use Rattle.snap_names.specs.Declarations.{field_senses, prefix_length, short, with_array, with_constant, with_let, declare}
 use Rattle.snap_names.specs.Senses.{after, word, literal, is_address, number_at}
 use Rattle.snap_names.specs.Reading.{read_policy}
 use Rattle.snap_names.specs.Declarations.{env_of}
@@ -18,6 +18,9 @@ use Rattle.snap_names.specs.declared.fault.NameFault.{NameFault}
 use Rattle.snap_names.specs.declared.fault.NameFault.TheVariants.{Twice, Prefix}
 use Rattle.snap_parse.specs.Tree.{DeclTree, field_tree, array_tree, const_tree, let_tree}
 use Rattle.std.proofs.lemmas.Bool.Decides.{nat_tests}
+use Rattle.snap_core.specs.Names.{IsName}
+use Rattle.snap_names.proofs.Placed.{DeclWritten}
+use Rattle.snap_names.proofs.NameParts.{IsName-field}
 use Rattle.snap_names.proofs.Declaring.{bytes_eq-apart, or_left, or_right}
 use Rattle.std.specs.Prelude.{nat_le, ◌&&◌, if◌then◌else◌, take}
 use Rattle.snap_names.proofs.BoundedSteps.{AllByRecursion-append, AllByRecursion-weaker, IfOk-after, IfOk-after_any, IfOk-unless}
@@ -67,6 +70,47 @@ IsDistinct-append names [] ys h k d e = e
 IsDistinct-append names (x ∷ xs) ys h k d e =
     (AllByRecursion-append (λ y. bytes_eq x y ≡ false) xs ys d.0 (different_all names x ys h.0 k), IsDistinct-append names xs ys h.1 k d.1 e)
 
+different_back : (names : List (List ℕ × Sense)) (x : List ℕ) (ys : List (List ℕ)) → is_known names x ≡ false → AllByRecursion (λ y. is_known names y ≡ true) ys → AllByRecursion (λ y. bytes_eq x y ≡ false) ys
+different_back names x [] h k = tt
+different_back names x (y ∷ ys) h k = (apart (bytes_eq x y) refl, different_back names x ys h k.1)
+  where
+    apart : (b : Bool) → bytes_eq x y ≡ b → bytes_eq x y ≡ false
+    apart true e =
+        let wrong : is_known names x ≡ true = subst (λ w. is_known names w ≡ true) (sym ((bytes_eq-Decides x y).0 e)) k.0 in
+        cc
+    apart false e = e
+
+AllByRecursion-between : {X : Type 0} (P : X → Type 0) (xs ys zs : List X) → AllByRecursion P (xs ++ zs) → AllByRecursion P ys → AllByRecursion P ((xs ++ ys) ++ zs)
+AllByRecursion-between P [] ys zs h k = AllByRecursion-append P ys zs k h
+AllByRecursion-between P (x ∷ xs) ys zs h k = (h.0, AllByRecursion-between P xs ys zs h.1 k)
+
+-- new names before names that are known
+IsDistinct-before : (names : List (List ℕ × Sense)) (ys zs : List (List ℕ)) → list_any (is_known names) ys ≡ false → AllByRecursion (λ z. is_known names z ≡ true) zs → IsDistinct bytes_eq ys → IsDistinct bytes_eq zs → IsDistinct bytes_eq (ys ++ zs)
+unfolding IsDistinct
+IsDistinct-before names [] zs h k d e = e
+IsDistinct-before names (y ∷ ys) zs h k d e =
+    (AllByRecursion-append (λ z. bytes_eq y z ≡ false) ys zs d.0 (different_back names y zs (or_left _ _ h) k), IsDistinct-before names ys zs (or_right (is_known names y) _ h) k d.1 e)
+
+-- new names among names that are known
+IsDistinct-between : (names : List (List ℕ × Sense)) (xs ys zs : List (List ℕ)) → AllByRecursion (λ x. is_known names x ≡ true) (xs ++ zs) → list_any (is_known names) ys ≡ false
+    → IsDistinct bytes_eq (xs ++ zs) → IsDistinct bytes_eq ys → IsDistinct bytes_eq ((xs ++ ys) ++ zs)
+unfolding IsDistinct
+IsDistinct-between names [] ys zs h k d e = IsDistinct-before names ys zs k h e d
+IsDistinct-between names (x ∷ xs) ys zs h k d e = (AllByRecursion-between (λ y. bytes_eq x y ≡ false) xs ys zs d.0 (different_all names x ys h.0 k), IsDistinct-between names xs ys zs h.1 k d.1 e)
+
+AllByRecursion-front : {X : Type 0} (P : X → Type 0) (xs ys : List X) → AllByRecursion P (xs ++ ys) → AllByRecursion P xs
+AllByRecursion-front P [] ys h = tt
+AllByRecursion-front P (x ∷ xs) ys h = (h.0, AllByRecursion-front P xs ys h.1)
+
+IsDistinct-front : (xs ys : List (List ℕ)) → IsDistinct bytes_eq (xs ++ ys) → IsDistinct bytes_eq xs
+unfolding IsDistinct
+IsDistinct-front [] ys h = tt
+IsDistinct-front (x ∷ xs) ys h = (AllByRecursion-front (λ y. bytes_eq x y ≡ false) xs ys h.0, IsDistinct-front xs ys h.1)
+
+IsDistinct-one : (name : List ℕ) → IsDistinct bytes_eq (name ∷ [])
+unfolding IsDistinct
+IsDistinct-one name = (tt, tt)
+
 names_apart : (name : List ℕ) (b : Bool) → IsDistinct bytes_eq (field_names name b)
 unfolding IsDistinct
 names_apart name false = (tt, tt)
@@ -102,25 +146,45 @@ known_new c name (Some p) =
       ),
     )
 
-record FieldsStand (d : Declared) : Type 0 where
-  rest : List Field
-  first : d.fields ≡ plain_field (codes "inport") ∷ plain_field (codes "outport") ∷ rest
-  distinct : IsDistinct bytes_eq (names_of d.fields)
-  known : AllByRecursion (λ n. is_known d.names n ≡ true) (names_of d.fields)
-  prefixes : AllByRecursion (λ f. PrefixFits f.prefix) d.fields
+-- The fields that are declared are a program's, all names of fields and arrays differ, and each is a name, where W says that the text spells names.
+pub record FieldsStand (W : Type 0) (d : Declared) : Type 0 where
+  pub rest : List Field
+  pub first : d.fields ≡ plain_field (codes "inport") ∷ plain_field (codes "outport") ∷ rest
+  pub distinct : IsDistinct bytes_eq (names_of d.fields ++ d.arrays)
+  pub known : AllByRecursion (λ n. is_known d.names n ≡ true) (names_of d.fields ++ d.arrays)
+  pub named : W → AllByRecursion IsName (names_of d.fields ++ d.arrays)
+  pub prefixes : AllByRecursion (λ f. PrefixFits f.prefix) d.fields
 
-with_field-stands : (d : Declared) (name : List ℕ) (prefix : Option ℕ) → FieldsStand d → list_any (is_known d.names) (field_names name (is_some prefix)) ≡ false → PrefixFits prefix → FieldsStand (with_field d name prefix)
-with_field-stands d name prefix h k fits =
+with_field-stands : (W : Type 0) (d : Declared) (name : List ℕ) (prefix : Option ℕ) → FieldsStand W d → list_any (is_known d.names) (field_names name (is_some prefix)) ≡ false → (W → IsName name) → PrefixFits prefix → FieldsStand W (with_field d name prefix)
+with_field-stands W d name prefix h k w fits =
     let more = field_senses (count d.fields) name prefix in
-    let e = names_from-append 0 d.fields name prefix in
+    let old : List (List ℕ) = names_of d.fields in
+    let new : List (List ℕ) = field_names name (is_some prefix) in
+    let e : names_of (d.fields ++ record { name = name; prefix = prefix } ∷ []) ++ d.arrays ≡ (old ++ new) ++ d.arrays = ap (λ ns. ns ++ d.arrays) (names_from-append 0 d.fields name prefix) in
     record {
       rest = h.rest ++ record { name = name; prefix = prefix } ∷ [];
       first = ap (λ (fs : List Field). fs ++ record { name = name; prefix = prefix } ∷ []) h.first;
-      distinct = subst (IsDistinct bytes_eq) (sym e) (IsDistinct-append d.names (names_of d.fields) _ h.known k h.distinct (names_apart name (is_some prefix)));
-      known = subst (AllByRecursion (λ n. is_known (d.names ++ more) n ≡ true)) (sym e) (AllByRecursion-append (λ n. is_known (d.names ++ more) n ≡ true) _ _
+      distinct = subst (IsDistinct bytes_eq) (sym e) (IsDistinct-between d.names old new d.arrays h.known k h.distinct (names_apart name (is_some prefix)));
+      known = subst (AllByRecursion (λ n. is_known (d.names ++ more) n ≡ true)) (sym e) (AllByRecursion-between (λ n. is_known (d.names ++ more) n ≡ true) old new d.arrays
           (AllByRecursion-weaker (λ n. is_known d.names n ≡ true) (λ n. is_known (d.names ++ more) n ≡ true) (is_known-more d.names more) _ h.known)
           (AllByRecursion-weaker (λ n. is_known more n ≡ true) (λ n. is_known (d.names ++ more) n ≡ true) (known_behind d.names more) _ (known_new (count d.fields) name prefix)));
+      named = λ q. subst (AllByRecursion IsName) (sym e) (AllByRecursion-between IsName old new d.arrays (h.named q) (IsName-field name (is_some prefix) (w q)));
       prefixes = AllByRecursion-append (λ f. PrefixFits f.prefix) d.fields _ h.prefixes (fits, tt);
+    }
+
+with_array-stands : (W : Type 0) (d : Declared) (name : List ℕ) → FieldsStand W d → is_known d.names name ≡ false → (W → IsName name) → FieldsStand W (with_array d name)
+with_array-stands W d name h k w =
+    let more : List (List ℕ × Sense) = (name, Array (length d.arrays)) ∷ [] in
+    let e : names_of d.fields ++ (d.arrays ++ name ∷ []) ≡ (names_of d.fields ++ d.arrays) ++ name ∷ [] = sym (append_assoc (names_of d.fields) d.arrays (name ∷ [])) in
+    record {
+      rest = h.rest;
+      first = h.first;
+      distinct = subst (IsDistinct bytes_eq) (sym e) (IsDistinct-append d.names _ (name ∷ []) h.known (rw k refl) h.distinct (IsDistinct-one name));
+      known = subst (AllByRecursion (λ n. is_known (d.names ++ more) n ≡ true)) (sym e) (AllByRecursion-append (λ n. is_known (d.names ++ more) n ≡ true) _ (name ∷ [])
+          (AllByRecursion-weaker (λ n. is_known d.names n ≡ true) (λ n. is_known (d.names ++ more) n ≡ true) (is_known-more d.names more) _ h.known)
+          (known_behind d.names more name (known_first name (Array (length d.arrays)) []), tt));
+      named = λ q. subst (AllByRecursion IsName) (sym e) (AllByRecursion-append IsName _ (name ∷ []) (h.named q) (w q, tt));
+      prefixes = h.prefixes;
     }
 
 within_31 : (n : ℕ) → (nat_le 1 n && nat_le n 31) ≡ true → PrefixFits (Some n)
@@ -130,58 +194,57 @@ unless_step : {A : Type 0} (P : A → Type 0) (b : Bool) (f : NameFault) (r : Re
 unless_step P true f r h = tt
 unless_step P false f r h = h refl
 
-named-stands : (d e : Declared) (more : List (List ℕ × Sense)) → e.fields ≡ d.fields → e.names ≡ d.names ++ more → FieldsStand d → FieldsStand e
-named-stands d e more fs ns h = record {
+named-stands : (W : Type 0) (d e : Declared) (more : List (List ℕ × Sense)) → e.fields ≡ d.fields → e.arrays ≡ d.arrays → e.names ≡ d.names ++ more → FieldsStand W d → FieldsStand W e
+named-stands W d e more fs as_is ns h = record {
   rest = h.rest;
   first = fs ∙ h.first;
-  distinct = rw fs h.distinct;
-  known = rw (fs, ns) (AllByRecursion-weaker (λ n. is_known d.names n ≡ true) (λ n. is_known (d.names ++ more) n ≡ true) (is_known-more d.names more) _ h.known);
+  distinct = rw (fs, as_is) h.distinct;
+  known = rw (fs, as_is, ns) (AllByRecursion-weaker (λ n. is_known d.names n ≡ true) (λ n. is_known (d.names ++ more) n ≡ true) (is_known-more d.names more) _ h.known);
+  named = rw (fs, as_is) h.named;
   prefixes = rw fs h.prefixes;
 }
 
-IfOk-split : (d : Declared) (name : List ℕ) (b : Bool) (n : ℕ) (f : NameFault) → FieldsStand d → list_any (is_known d.names) (field_names name true) ≡ false → (b ≡ true → PrefixFits (Some n))
-    → IfOk (after (if b then Ok (Some n) else Err f) (λ w. Ok (with_field d name w))) FieldsStand
-IfOk-split d name true n f h k fits = with_field-stands d name (Some n) h k (fits refl)
-IfOk-split d name false n f h k fits = tt
+IfOk-split : (W : Type 0) (d : Declared) (name : List ℕ) (b : Bool) (n : ℕ) (f : NameFault) → FieldsStand W d → list_any (is_known d.names) (field_names name true) ≡ false → (W → IsName name) → (b ≡ true → PrefixFits (Some n))
+    → IfOk (after (if b then Ok (Some n) else Err f) (λ w. Ok (with_field d name w))) (FieldsStand W)
+IfOk-split W d name true n f h k w fits = with_field-stands W d name (Some n) h k w (fits refl)
+IfOk-split W d name false n f h k w fits = tt
 
-IfOk-split_after : (d : Declared) (name : List ℕ) (r : Result ℕ NameFault) (f : NameFault) → FieldsStand d → list_any (is_known d.names) (field_names name true) ≡ false
-    → IfOk (after (after r (λ n. if nat_le 1 n && nat_le n 31 then Ok (Some n) else Err f)) (λ w. Ok (with_field d name w))) FieldsStand
-IfOk-split_after d name (Err e) f h k = tt
-IfOk-split_after d name (Ok n) f h k = IfOk-split d name (nat_le 1 n && nat_le n 31) n f h k (within_31 n)
+IfOk-split_after : (W : Type 0) (d : Declared) (name : List ℕ) (r : Result ℕ NameFault) (f : NameFault) → FieldsStand W d → list_any (is_known d.names) (field_names name true) ≡ false → (W → IsName name)
+    → IfOk (after (after r (λ n. if nat_le 1 n && nat_le n 31 then Ok (Some n) else Err f)) (λ w. Ok (with_field d name w))) (FieldsStand W)
+IfOk-split_after W d name (Err e) f h k w = tt
+IfOk-split_after W d name (Ok n) f h k w = IfOk-split W d name (nat_le 1 n && nat_le n 31) n f h k w (within_31 n)
 
-declare-stands : (text : List ℕ) (d : Declared) → FieldsStand d → (t : DeclTree) → IfOk (declare text d t) FieldsStand
-declare-stands text d h (field_tree at t p) =
-    unless_step FieldsStand (list_any (is_known d.names) (field_names (word text t) (is_some p))) (Twice t.from) _ (λ k. field_step p k)
+pub declare-stands : (W : Type 0) (text : List ℕ) (d : Declared) → FieldsStand W d → (t : DeclTree) → (W → DeclWritten text t) → IfOk (declare text d t) (FieldsStand W)
+declare-stands W text d h (field_tree at t p) w =
+    unless_step (FieldsStand W) (list_any (is_known d.names) (field_names (word text t) (is_some p))) (Twice t.from) _ (λ k. field_step p k)
   where
-    field_step : (q : _) → list_any (is_known d.names) (field_names (word text t) (is_some q)) ≡ false → IfOk (after (prefix_length text q) (λ n. Ok (with_field d (word text t) n))) FieldsStand
-    field_step None k = with_field-stands d (word text t) None h k tt
-    field_step (Some s) k = IfOk-split_after d (word text t) (number_at text s) (Prefix s.from) h k
-declare-stands text d h (array_tree at t) = IfOk-unless FieldsStand (is_known d.names (word text t)) (Twice t.from) _ (named-stands d _ _ refl refl h)
-declare-stands text d h (const_tree at t l) =
-    IfOk-unless FieldsStand (is_known d.names (word text t)) (Twice t.from) _
-    (IfOk-after_any FieldsStand (literal text l) _ (λ n. named-stands d (with_constant d (word text t) n (is_address l)) _ refl refl h))
-declare-stands text d h (let_tree at t p) =
-    IfOk-unless FieldsStand (is_known d.names (word text t)) (Twice t.from) _
-    (IfOk-after_any FieldsStand (read_policy (env_of text d) p d.arities) _ (λ x. named-stands d (with_let d (word text t) x) _ refl refl h))
-
-declare_all-stands : (text : List ℕ) (ts : List DeclTree) (d : Declared) → FieldsStand d → IfOk (declare_all text ts d) FieldsStand
-declare_all-stands text [] d h = h
-declare_all-stands text (t ∷ ts) d h = IfOk-after FieldsStand FieldsStand (declare text d t) (declare_all text ts) (declare-stands text d h t) (declare_all-stands text ts)
+    field_step : (q : _) → list_any (is_known d.names) (field_names (word text t) (is_some q)) ≡ false → IfOk (after (prefix_length text q) (λ n. Ok (with_field d (word text t) n))) (FieldsStand W)
+    field_step None k = with_field-stands W d (word text t) None h k w tt
+    field_step (Some s) k = IfOk-split_after W d (word text t) (number_at text s) (Prefix s.from) h k w
+declare-stands W text d h (array_tree at t) w = unless_step (FieldsStand W) (is_known d.names (word text t)) (Twice t.from) _ (λ k. with_array-stands W d (word text t) h k w)
+declare-stands W text d h (const_tree at t l) w =
+    IfOk-unless (FieldsStand W) (is_known d.names (word text t)) (Twice t.from) _
+    (IfOk-after_any (FieldsStand W) (literal text l) _ (λ n. named-stands W d (with_constant d (word text t) n (is_address l)) _ refl refl refl h))
+declare-stands W text d h (let_tree at t p) w =
+    IfOk-unless (FieldsStand W) (is_known d.names (word text t)) (Twice t.from) _
+    (IfOk-after_any (FieldsStand W) (read_policy (env_of text d) p d.arities) _ (λ x. named-stands W d (with_let d (word text t) x) _ refl refl refl h))
 
 ports-differ : IsDistinct bytes_eq (names_of ports.fields)
 unfolding IsDistinct
 ports-differ = ((refl, tt), (tt, tt))
 
-ports-stand : FieldsStand ports
-ports-stand = record { rest = []; first = refl; distinct = ports-differ; known = (refl, (refl, tt)); prefixes = (tt, (tt, tt)) }
+pub ports-stand : (W : Type 0) → FieldsStand W ports
+ports-stand W = record { rest = []; first = refl; distinct = ports-differ; known = (refl, (refl, tt)); named = λ q. (refl, (refl, tt)); prefixes = (tt, (tt, tt)) }
 
-All-from : {X : Type 0} (P : X → Type 0) (xs : List X) → AllByRecursion P xs → All P xs
+pub All-from : {X : Type 0} (P : X → Type 0) (xs : List X) → AllByRecursion P xs → All P xs
 All-from P [] h k d l = absurd (omega arith)
 All-from P (x ∷ xs) h zero d l = h.0
 All-from P (x ∷ xs) h (suc k) d l = All-from P xs h.1 k d (omega arith)
 
--- What a text declares are the fields of a program, but for their number.
-pub IsFields-declared : (text : List ℕ) (ts : List DeclTree) (d : Declared) → declare_all text ts ports ≡ Ok d → count d.fields ≤ 64 → IsFields d.fields
-IsFields-declared text ts d e few =
-    let h : FieldsStand d = subst (λ r. IfOk r FieldsStand) e (declare_all-stands text ts ports ports-stand) in
-    record { ports = rw h.first refl; different = h.distinct; prefixes = All-from (λ f. PrefixFits f.prefix) d.fields h.prefixes; few = few }
+pub IsFields-stand : (W : Type 0) (d : Declared) → FieldsStand W d → count d.fields ≤ 64 → IsFields d.fields
+IsFields-stand W d h few = record {
+  ports = rw h.first refl;
+  different = IsDistinct-front (names_of d.fields) d.arrays h.distinct;
+  prefixes = All-from (λ f. PrefixFits f.prefix) d.fields h.prefixes;
+  few = few;
+}

@@ -10,7 +10,11 @@ pub mod Operands
 pub mod Named
 pub mod Loops
 pub mod Parted
-pub mod CoreSizes
+pub mod Placed
+pub mod NameParts
+pub mod InForm
+pub mod SpelledNames
+pub mod DerivedTrees
 pub mod Nodes
 pub mod Declaring
 pub mod Resolving

@@ -4,3 +4,4 @@ pub mod Reading
 pub mod Declarations
 pub mod Parts
 pub mod Scopes
+pub mod Texts

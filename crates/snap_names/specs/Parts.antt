@@ -2,6 +2,10 @@
 use Rattle.std.specs.Prelude.{◌≡◌, ◌≢◌, ℕ, ◌+◌, ◌≤◌, Bool, true, List, [], ◌∷◌, map, Option, None, Some, option_map, Result, Ok, Err, IfOk, IfErr, Vec}
 use Rattle.std.specs.declared.alloc.Global.{Global}
 use Rattle.snap_core.specs.declared.policy.Pol.{Pol}
+use Rattle.snap_names.specs.declared.parts.TestJoin.{TestJoin}
+use Rattle.snap_names.specs.declared.parts.TestJoin.TheVariants.{Both, Either}
+use Rattle.snap_names.specs.declared.parts.PolicyJoin.{PolicyJoin}
+use Rattle.snap_names.specs.declared.parts.PolicyJoin.TheVariants.{Beside, Behind}
 use Rattle.snap_names.specs.declared.scope.Sense.{Sense}
 use Rattle.snap_names.specs.declared.scope.Part.{Part}
 use Rattle.snap_names.specs.declared.scope.Body.{Body}
@@ -35,25 +39,22 @@ filter_of _ = None
 abbrev pub negated_core : Option CorePolicy → Option CorePolicy
 negated_core p = option_map (λ x. filter (not_test x)) (filter_of p)
 
+-- how predicates are joined, and policies
+abbrev pub test_join : TestJoin → CoreTest → CoreTest → CoreTest
+test_join Both = and_test
+test_join Either = or_test
+
+abbrev pub policy_join : PolicyJoin → CorePolicy → CorePolicy → CorePolicy
+policy_join Beside = par
+policy_join Behind = seq
+
 abbrev pub joined_tests : (CoreTest → CoreTest → CoreTest) → Option CoreTest → Option CoreTest → Option CorePolicy
 joined_tests f (Some x) (Some y) = Some (filter (f x y))
 joined_tests f _ _ = None
 
-abbrev pub both_core : Option CorePolicy → Option CorePolicy → Option CorePolicy
-both_core p q = joined_tests and_test (filter_of p) (filter_of q)
-
-abbrev pub one_core : Option CorePolicy → Option CorePolicy → Option CorePolicy
-one_core p q = joined_tests or_test (filter_of p) (filter_of q)
-
 abbrev pub joined_policies : (CorePolicy → CorePolicy → CorePolicy) → Option CorePolicy → Option CorePolicy → Option CorePolicy
 joined_policies f (Some p) (Some q) = Some (f p q)
 joined_policies f _ _ = None
-
-abbrev pub beside_core : Option CorePolicy → Option CorePolicy → Option CorePolicy
-beside_core p q = joined_policies par p q
-
-abbrev pub behind_core : Option CorePolicy → Option CorePolicy → Option CorePolicy
-behind_core p q = joined_policies seq p q
 
 abbrev pub chosen_policies : Option CoreTest → Option CorePolicy → Option CorePolicy → Option CorePolicy
 chosen_policies (Some x) (Some p) (Some q) = Some (choice x p q)

@@ -2,25 +2,26 @@
 #![tactic(auto)]
 
 ghost use Rattle.std.specs.Prelude.{◌≡◌, ◌≢◌, IfOk, IfErr, Ok, Err};
-ghost use Rattle.snap_core.specs.Programs.{IsBounded};
+ghost use Rattle.snap_core.specs.Programs.{IsBounded, IsInForm};
 ghost use Rattle.snap_parse.specs.Tree.{source_tree};
 ghost use Rattle.snap_names.specs.Declarations.{resolved, core_program};
+ghost use Rattle.snap_names.specs.Texts.{HasTree};
 ghost use Rattle.snap_names.specs.declared.fault.NameFault.TheVariants.{NoMemory};
 
-pub mod copies;
-pub mod declarations;
+mod copies;
+mod declarations;
 pub mod fault;
-pub mod leaves;
-pub mod limits;
-pub mod parts;
-pub mod places;
-pub mod policies;
-pub mod predicates;
-pub mod repeated;
-pub mod scope;
-pub mod singles;
-pub mod sizes;
-pub mod values;
+mod leaves;
+mod limits;
+mod parts;
+mod places;
+mod policies;
+mod predicates;
+mod repeated;
+mod scope;
+mod singles;
+mod sizes;
+mod values;
 
 pub use fault::NameFault;
 use scope::{Scope, Tally};
@@ -34,10 +35,12 @@ use std::alloc::Global;
 /// broken, the first count that passes its limit: 64 components, 64 arrays, 8 atoms of one index, 2,000 core nodes, a
 /// weight of 16,777,216.
 ///
-/// What is given is bounded: at most 64 arrays, and no component or array beyond those of the program.
+/// What is given is bounded: at most 64 arrays, and no component or array beyond those of the program. Where the tree is
+/// the text's, the program is in form: names are names and differ, and each array is indexed in one way.
 pub fn resolve(alloc: Global, text: &[u8], source: &Source) -> Result<Program, NameFault>
     ensures ok { IfOk result (λ p. resolved text.now (source_tree source.now) ≡ Ok (core_program p)) }
     ensures bounded { IfOk result IsBounded }
+    ensures in_form { HasTree text.now (source_tree source.now) → IfOk result IsInForm }
     ensures refused { IfErr result (λ f. f ≢ NoMemory → resolved text.now (source_tree source.now) ≡ Err f) }
 {
     let mut scope = Scope::ports(alloc, text)?;
@@ -51,6 +54,3 @@ pub fn resolve(alloc: Global, text: &[u8], source: &Source) -> Result<Program, N
     let body = scope.body(&mut tally, &source.policy)?;
     scope.limited(tally, body)
 }
-
-#[cfg(test)]
-mod tests;

@@ -1,9 +1,9 @@
 // Parts of a program, joined and counted.
 
 ghost use Rattle.std.specs.Prelude.{◌≡◌, ◌≢◌, ◌+◌, ◌≤◌, ℕ, Bool, true, Option, option_map, is_some, if◌then◌else◌, IfOk, IfErr, OnOk};
-ghost use Rattle.snap_names.specs.Core.{CoreTest, CorePolicy, is_filter, core_test, core_policy, nodes, filter, not_test, and_test, or_test, par, seq, choice, atomic};
+ghost use Rattle.snap_names.specs.Core.{CoreTest, CorePolicy, is_filter, core_test, core_policy, nodes, filter, not_test, choice, atomic};
 ghost use Rattle.snap_names.specs.Declarations.{capped};
-ghost use Rattle.snap_names.specs.Parts.{IsPart, IsPartOf, filter_of, negated_core, both_core, one_core, beside_core, behind_core, chosen_core};
+ghost use Rattle.snap_names.specs.Parts.{IsPart, IsPartOf, filter_of, negated_core, test_join, policy_join, joined_tests, joined_policies, chosen_core};
 ghost use Rattle.snap_names.specs.Reading.{joined};
 ghost use Rattle.snap_names.specs.declared.fault.NameFault.TheVariants.{NoMemory};
 
@@ -85,13 +85,55 @@ fn negated(alloc: Global, policy: Option<Pol>) -> Result<Option<Pol>, NameFault>
     }
 }
 
-fn both_of(
+/// How predicates are joined.
+#[derive(Clone, Copy, Debug)]
+pub enum TestJoin {
+    /// `&`
+    Both,
+    /// `|`
+    Either,
+}
+
+/// How policies are joined.
+#[derive(Clone, Copy, Debug)]
+pub enum PolicyJoin {
+    /// `+`
+    Beside,
+    /// `;`
+    Behind,
+}
+
+impl TestJoin {
+    fn of(self, left: Box<Pred>, right: Box<Pred>) -> Pred
+        ensures { core_test result ≡ test_join self (core_test left.value) (core_test right.value) }
+    {
+        match self {
+            TestJoin::Both => Pred::And(left, right),
+            TestJoin::Either => Pred::Or(left, right),
+        }
+    }
+}
+
+impl PolicyJoin {
+    fn of(self, left: Box<Pol>, right: Box<Pol>) -> Pol
+        ensures { core_policy result ≡ policy_join self (core_policy left.value) (core_policy right.value) }
+    {
+        match self {
+            PolicyJoin::Beside => Pol::Par(left, right),
+            PolicyJoin::Behind => Pol::Seq(left, right),
+        }
+    }
+}
+
+// Two predicates joined, where there is room for them.
+fn joined_tests(
     alloc: Global,
     room: bool,
+    join: TestJoin,
     left: Option<Pol>,
     right: Option<Pol>,
 ) -> Result<Option<Pol>, NameFault>
-    ensures ok { IfOk result (λ r. room ≡ true → option_map core_policy r ≡ both_core (option_map core_policy left) (option_map core_policy right)) }
+    ensures ok { IfOk result (λ r. room ≡ true → option_map core_policy r ≡ joined_tests (test_join join) (filter_of (option_map core_policy left)) (filter_of (option_map core_policy right))) }
     ensures err { IfErr result (λ f. f ≡ NoMemory) }
 {
     if !room {
@@ -105,39 +147,18 @@ fn both_of(
     };
     let left = Box::new(alloc, left)?;
     let right = Box::new(alloc, right)?;
-    Ok(Some(Pol::Filter(Pred::And(left, right))))
+    Ok(Some(Pol::Filter(join.of(left, right))))
 }
 
-fn one_of(
+// Two policies joined, where there is room for them.
+fn joined_policies(
     alloc: Global,
     room: bool,
+    join: PolicyJoin,
     left: Option<Pol>,
     right: Option<Pol>,
 ) -> Result<Option<Pol>, NameFault>
-    ensures ok { IfOk result (λ r. room ≡ true → option_map core_policy r ≡ one_core (option_map core_policy left) (option_map core_policy right)) }
-    ensures err { IfErr result (λ f. f ≡ NoMemory) }
-{
-    if !room {
-        return Ok(None);
-    }
-    let Some(left) = test_of(left) else {
-        return Ok(None);
-    };
-    let Some(right) = test_of(right) else {
-        return Ok(None);
-    };
-    let left = Box::new(alloc, left)?;
-    let right = Box::new(alloc, right)?;
-    Ok(Some(Pol::Filter(Pred::Or(left, right))))
-}
-
-fn beside(
-    alloc: Global,
-    room: bool,
-    left: Option<Pol>,
-    right: Option<Pol>,
-) -> Result<Option<Pol>, NameFault>
-    ensures ok { IfOk result (λ r. room ≡ true → option_map core_policy r ≡ beside_core (option_map core_policy left) (option_map core_policy right)) }
+    ensures ok { IfOk result (λ r. room ≡ true → option_map core_policy r ≡ joined_policies (policy_join join) (option_map core_policy left) (option_map core_policy right)) }
     ensures err { IfErr result (λ f. f ≡ NoMemory) }
 {
     if !room {
@@ -151,30 +172,7 @@ fn beside(
     };
     let left = Box::new(alloc, left)?;
     let right = Box::new(alloc, right)?;
-    Ok(Some(Pol::Par(left, right)))
-}
-
-fn behind(
-    alloc: Global,
-    room: bool,
-    first: Option<Pol>,
-    second: Option<Pol>,
-) -> Result<Option<Pol>, NameFault>
-    ensures ok { IfOk result (λ r. room ≡ true → option_map core_policy r ≡ behind_core (option_map core_policy first) (option_map core_policy second)) }
-    ensures err { IfErr result (λ f. f ≡ NoMemory) }
-{
-    if !room {
-        return Ok(None);
-    }
-    let Some(first) = first else {
-        return Ok(None);
-    };
-    let Some(second) = second else {
-        return Ok(None);
-    };
-    let first = Box::new(alloc, first)?;
-    let second = Box::new(alloc, second)?;
-    Ok(Some(Pol::Seq(first, second)))
+    Ok(Some(join.of(left, right)))
 }
 
 fn chosen(
@@ -251,14 +249,15 @@ pub fn atomic(alloc: Global, tally: &mut Tally, part: Part) -> Result<Part, Name
     })
 }
 
-/// `before & next`, or what stands alone
-pub fn and(
+/// `before & next` or `before | next`, or what stands alone
+pub fn join_tests(
     alloc: Global,
     tally: &mut Tally,
+    join: TestJoin,
     before: Option<Part>,
     next: Part,
 ) -> Result<Part, NameFault>
-    ensures part { IfOk result (λ r. (x : Option CoreTest) (y : CoreTest) → IsPartOf (option_map filter x) tally.old.nodes before → IsPart (filter y) tally.old.nodes next → IsPart (filter (joined and_test x y)) tally.new.nodes r) }
+    ensures part { IfOk result (λ r. (x : Option CoreTest) (y : CoreTest) → IsPartOf (option_map filter x) tally.old.nodes before → IsPart (filter y) tally.old.nodes next → IsPart (filter (joined (test_join join) x y)) tally.new.nodes r) }
     ensures nodes { OnOk result (tally.new.nodes ≡ (if is_some before then capped (tally.old.nodes + 1) else tally.old.nodes)) }
     ensures arities { OnOk result (tally.new.arities.items ≡ tally.old.arities.items) }
     ensures err { IfErr result (λ f. f ≡ NoMemory) }
@@ -266,33 +265,25 @@ pub fn and(
     let Some(before) = before else {
         return Ok(next);
     };
-    let Part {
-        weight: first,
-        policy: left,
-        ..
-    } = before;
-    let Part {
-        weight: second,
-        policy: right,
-        ..
-    } = next;
+    let weight = sum(before.weight, next.weight);
     let room = tally.has_room();
-    let policy = both_of(alloc, room, left, right)?;
+    let policy = joined_tests(alloc, room, join, before.policy, next.policy)?;
     Ok(Part {
         is_test: true,
-        weight: sum(first, second),
+        weight,
         policy,
     })
 }
 
-/// `before | next`, or what stands alone
-pub fn or(
+/// `before + next` or `before ; next`, or what stands alone
+pub fn join_policies(
     alloc: Global,
     tally: &mut Tally,
+    join: PolicyJoin,
     before: Option<Part>,
     next: Part,
 ) -> Result<Part, NameFault>
-    ensures part { IfOk result (λ r. (x : Option CoreTest) (y : CoreTest) → IsPartOf (option_map filter x) tally.old.nodes before → IsPart (filter y) tally.old.nodes next → IsPart (filter (joined or_test x y)) tally.new.nodes r) }
+    ensures part { IfOk result (λ r. (p : Option CorePolicy) (q : CorePolicy) → IsPartOf p tally.old.nodes before → IsPart q tally.old.nodes next → IsPart (joined (policy_join join) p q) tally.new.nodes r) }
     ensures nodes { OnOk result (tally.new.nodes ≡ (if is_some before then capped (tally.old.nodes + 1) else tally.old.nodes)) }
     ensures arities { OnOk result (tally.new.arities.items ≡ tally.old.arities.items) }
     ensures err { IfErr result (λ f. f ≡ NoMemory) }
@@ -300,89 +291,12 @@ pub fn or(
     let Some(before) = before else {
         return Ok(next);
     };
-    let Part {
-        weight: first,
-        policy: left,
-        ..
-    } = before;
-    let Part {
-        weight: second,
-        policy: right,
-        ..
-    } = next;
+    let weight = product(before.weight, next.weight);
     let room = tally.has_room();
-    let policy = one_of(alloc, room, left, right)?;
-    Ok(Part {
-        is_test: true,
-        weight: sum(first, second),
-        policy,
-    })
-}
-
-/// `before + next`, or what stands alone
-pub fn par(
-    alloc: Global,
-    tally: &mut Tally,
-    before: Option<Part>,
-    next: Part,
-) -> Result<Part, NameFault>
-    ensures part { IfOk result (λ r. (p : Option CorePolicy) (q : CorePolicy) → IsPartOf p tally.old.nodes before → IsPart q tally.old.nodes next → IsPart (joined par p q) tally.new.nodes r) }
-    ensures nodes { OnOk result (tally.new.nodes ≡ (if is_some before then capped (tally.old.nodes + 1) else tally.old.nodes)) }
-    ensures arities { OnOk result (tally.new.arities.items ≡ tally.old.arities.items) }
-    ensures err { IfErr result (λ f. f ≡ NoMemory) }
-{
-    let Some(before) = before else {
-        return Ok(next);
-    };
-    let Part {
-        weight: first,
-        policy: left,
-        ..
-    } = before;
-    let Part {
-        weight: second,
-        policy: right,
-        ..
-    } = next;
-    let room = tally.has_room();
-    let policy = beside(alloc, room, left, right)?;
+    let policy = joined_policies(alloc, room, join, before.policy, next.policy)?;
     Ok(Part {
         is_test: false,
-        weight: product(first, second),
-        policy,
-    })
-}
-
-/// `before ; next`, or what stands alone
-pub fn seq(
-    alloc: Global,
-    tally: &mut Tally,
-    before: Option<Part>,
-    next: Part,
-) -> Result<Part, NameFault>
-    ensures part { IfOk result (λ r. (p : Option CorePolicy) (q : CorePolicy) → IsPartOf p tally.old.nodes before → IsPart q tally.old.nodes next → IsPart (joined seq p q) tally.new.nodes r) }
-    ensures nodes { OnOk result (tally.new.nodes ≡ (if is_some before then capped (tally.old.nodes + 1) else tally.old.nodes)) }
-    ensures arities { OnOk result (tally.new.arities.items ≡ tally.old.arities.items) }
-    ensures err { IfErr result (λ f. f ≡ NoMemory) }
-{
-    let Some(before) = before else {
-        return Ok(next);
-    };
-    let Part {
-        weight: first,
-        policy: left,
-        ..
-    } = before;
-    let Part {
-        weight: second,
-        policy: right,
-        ..
-    } = next;
-    let room = tally.has_room();
-    let policy = behind(alloc, room, left, right)?;
-    Ok(Part {
-        is_test: false,
-        weight: product(first, second),
+        weight,
         policy,
     })
 }
@@ -400,26 +314,12 @@ pub fn choice(
     ensures arities { OnOk result (tally.new.arities.items ≡ tally.old.arities.items) }
     ensures err { IfErr result (λ f. f ≡ NoMemory) }
 {
-    let Part {
-        weight: first,
-        policy: test,
-        ..
-    } = test;
-    let Part {
-        weight: second,
-        policy: yes,
-        ..
-    } = yes;
-    let Part {
-        weight: third,
-        policy: no,
-        ..
-    } = no;
+    let weight = sum(sum(test.weight, yes.weight), no.weight);
     let room = tally.has_room();
-    let policy = chosen(alloc, room, test, yes, no)?;
+    let policy = chosen(alloc, room, test.policy, yes.policy, no.policy)?;
     Ok(Part {
         is_test: false,
-        weight: sum(sum(first, second), third),
+        weight,
         policy,
     })
 }

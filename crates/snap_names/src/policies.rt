@@ -5,7 +5,7 @@ ghost use Rattle.snap_names.specs.Parts.{Reads, ReadsTest};
 ghost use Rattle.snap_names.specs.Reading.{read_policy, read_sequence, read_choice, read_either, read_both, read_single, operand, single_fault, both_fault, either_fault, is_predicate, both_is_predicate, either_is_predicate};
 
 use crate::fault::NameFault;
-use crate::parts;
+use crate::parts::{self, PolicyJoin, TestJoin};
 use crate::scope::{Part, Scope, Tally};
 use snap_core::policy::{Pol, Pred};
 use snap_parse::{Both, Choice, Either, Policy, Sequence, Single};
@@ -19,7 +19,7 @@ impl Scope<'_> {
         let mut parts: Option<Part> = None;
         for part in &tree.parts {
             let next = self.sequence(tally, part)?;
-            let joined = parts::par(self.alloc, tally, parts, next)?;
+            let joined = parts::join_policies(self.alloc, tally, PolicyJoin::Beside, parts, next)?;
             parts = Some(joined);
         }
         Ok(tally.whole(parts))
@@ -32,7 +32,7 @@ impl Scope<'_> {
         let mut parts: Option<Part> = None;
         for part in &tree.parts {
             let next = self.choice(tally, part)?;
-            let joined = parts::seq(self.alloc, tally, parts, next)?;
+            let joined = parts::join_policies(self.alloc, tally, PolicyJoin::Behind, parts, next)?;
             parts = Some(joined);
         }
         Ok(tally.whole(parts))
@@ -77,7 +77,7 @@ impl Scope<'_> {
         let mut parts: Option<Part> = None;
         for part in &tree.parts {
             let next = self.both_operand(tally, part)?;
-            let joined = parts::or(self.alloc, tally, parts, next)?;
+            let joined = parts::join_tests(self.alloc, tally, TestJoin::Either, parts, next)?;
             parts = Some(joined);
         }
         Ok(tally.whole(parts))
@@ -106,7 +106,7 @@ impl Scope<'_> {
         let mut parts: Option<Part> = None;
         for part in &tree.parts {
             let next = self.single_operand(tally, part)?;
-            let joined = parts::and(self.alloc, tally, parts, next)?;
+            let joined = parts::join_tests(self.alloc, tally, TestJoin::Both, parts, next)?;
             parts = Some(joined);
         }
         Ok(tally.whole(parts))

@@ -8,4 +8,3 @@ pub mod Steps
 pub mod Trees
 pub mod Parts
 pub mod Told
-pub mod Unambiguous

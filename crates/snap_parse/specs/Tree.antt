@@ -90,10 +90,6 @@ abbrev pub either_at : EitherTree → ℕ
 either_at (either_begin at) = at
 either_at (either_more e b) = either_at e
 
-abbrev pub choice_at : ChoiceTree → ℕ
-choice_at (if_tree at test met unmet) = at
-choice_at (plain_tree e) = either_at e
-
 abbrev pub sequence_at : SequenceTree → ℕ
 sequence_at (sequence_begin at) = at
 sequence_at (sequence_more q c) = sequence_at q

@@ -14,8 +14,6 @@ mod declarations;
 pub mod fault;
 pub mod laws;
 mod policies;
-#[cfg(test)]
-mod tests;
 pub mod tree;
 mod values;
 

@@ -7,6 +7,4 @@
 pub mod calls;
 pub mod command;
 pub mod fault;
-#[cfg(test)]
-mod tests;
 mod told;

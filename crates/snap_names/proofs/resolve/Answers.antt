@@ -8,8 +8,8 @@ use Rattle.snap_names.specs.Senses.{after}
 use Rattle.snap_names.specs.Declarations.{core_program, limited, resolved}
 use Rattle.snap_names.specs.Scopes.{Limits, declared_in}
 use Rattle.snap_names.proofs.Resolving.{AreDeclared, AreDeclared-more, resolved-refused, AreDeclared-rest, map-drop, drop-all, IfErr-from, resolved-read, resolved-limited, IfErr-weaker}
-use Rattle.snap_names.proofs.BoundedDeclared.{IfOk-resolved}
-use Rattle.snap_names.proofs.DeclaredFields.{IsFields-declared}
+use Rattle.snap_names.proofs.InForm.{IfOk-bounded, IfOk-in_form, IsFields-declared}
+use Rattle.snap_names.proofs.DerivedTrees.{SourceWritten-text}
 use Rattle.snap_names.proofs.resolve.Goals as goal
 
 pub returns-in_err-declare-clause-refused : goal.returns-in_err-declare-clause-refused
@@ -37,7 +37,7 @@ limited-requires c =
     let tree = source_tree c.args.source.now in
     let arities = c.loop-decl.tally.arities.items in
     let all : AreDeclared c.args.text.now tree.decls [] c.loop-decl.scope arities = AreDeclared-rest c.args.text.now tree.decls _ _ c.loop-decl.scope arities (drop-all decl_tree c.args.source.now.decls.items c.loop-decl.decl-index (subst (λ xs. length xs ≤ c.loop-decl.decl-index) c.deref-decl-items.ensures.value c.loop-decl-test.false)) c.loop-decl.invariant in
-    IsFields-declared c.args.text.now tree.decls (declared_in c.loop-decl.scope all.lets arities) all.rest_is
+    IsFields-declared c.args.text.now tree (declared_in c.loop-decl.scope all.lets arities) all.rest_is
 
 pub returns-clause-ok : goal.returns-clause-ok
 returns-clause-ok c =
@@ -49,7 +49,10 @@ returns-clause-ok c =
     c.limited.ensures.ok
 
 pub returns-clause-bounded : goal.returns-clause-bounded
-returns-clause-bounded c = IfOk-resolved c.args.text.now (source_tree c.args.source.now) c.limited.result (returns-clause-ok c)
+returns-clause-bounded c = IfOk-bounded c.args.text.now (source_tree c.args.source.now) c.limited.result (returns-clause-ok c)
+
+pub returns-clause-in_form : goal.returns-clause-in_form
+returns-clause-in_form c = λ h. IfOk-in_form c.args.text.now (source_tree c.args.source.now) c.limited.result (SourceWritten-text c.args.text.now (source_tree c.args.source.now) h) (returns-clause-ok c)
 
 pub returns-clause-refused : goal.returns-clause-refused
 returns-clause-refused c =

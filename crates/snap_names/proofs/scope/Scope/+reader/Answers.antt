@@ -22,7 +22,7 @@ policy-loop-part-preserved t c = λ lets are.
     let items = (out-Policy c.args.tree.now).parts.items in
     let within : c.loop-part.part-index < length items = search rules in
     let is : c.part-item.result ≡ get_or items c.loop-part.part-index c.part-item.result = search rules in
-    policy-step (env_in c.args.self.now lets) (out-Policy c.args.tree.now).at items c.loop-part.part-index c.part-item.result c.args.tally.now c.loop-part.tally c.sequence.new.tally c.par.new.tally
+    policy-step (env_in c.args.self.now lets) (out-Policy c.args.tree.now).at items c.loop-part.part-index c.part-item.result c.args.tally.now c.loop-part.tally c.sequence.new.tally c.join_policies.new.tally
     c.loop-part.parts c.in_ok-next.next c.in_ok-joined.joined within is (c.loop-part.invariant lets are) (c.in_ok-next.ensures lets are)
     c.in_ok-joined.ensures.arities c.in_ok-joined.ensures.nodes c.in_ok-joined.ensures.part
 
@@ -56,7 +56,7 @@ sequence-loop-part-preserved t c = λ lets are.
     let items = c.args.tree.now.parts.items in
     let within : c.loop-part.part-index < length items = search rules in
     let is : c.part-item.result ≡ get_or items c.loop-part.part-index c.part-item.result = search rules in
-    sequence-step (env_in c.args.self.now lets) c.args.tree.now.at items c.loop-part.part-index c.part-item.result c.args.tally.now c.loop-part.tally c.choice.new.tally c.seq.new.tally
+    sequence-step (env_in c.args.self.now lets) c.args.tree.now.at items c.loop-part.part-index c.part-item.result c.args.tally.now c.loop-part.tally c.choice.new.tally c.join_policies.new.tally
     c.loop-part.parts c.in_ok-next.next c.in_ok-joined.joined within is (c.loop-part.invariant lets are) (c.in_ok-next.ensures lets are)
     c.in_ok-joined.ensures.arities c.in_ok-joined.ensures.nodes c.in_ok-joined.ensures.part
 
@@ -90,7 +90,7 @@ either-loop-part-preserved t c = λ lets are.
     let items = (out-Either c.args.tree.now).parts.items in
     let within : c.loop-part.part-index < length items = search rules in
     let is : c.part-item.result ≡ get_or items c.loop-part.part-index c.part-item.result = search rules in
-    either-step (env_in c.args.self.now lets) (out-Either c.args.tree.now).at items c.loop-part.part-index c.part-item.result c.args.tally.now c.loop-part.tally c.both_operand.new.tally c.or.new.tally
+    either-step (env_in c.args.self.now lets) (out-Either c.args.tree.now).at items c.loop-part.part-index c.part-item.result c.args.tally.now c.loop-part.tally c.both_operand.new.tally c.join_tests.new.tally
     c.loop-part.parts c.in_ok-next.next c.in_ok-joined.joined within is (c.loop-part.invariant lets are) (c.in_ok-next.ensures lets are)
     c.in_ok-joined.ensures.arities c.in_ok-joined.ensures.nodes c.in_ok-joined.ensures.part
 
@@ -128,7 +128,7 @@ both-loop-part-preserved t c = λ lets are.
     let items = c.args.tree.now.parts.items in
     let within : c.loop-part.part-index < length items = search rules in
     let is : c.part-item.result ≡ get_or items c.loop-part.part-index c.part-item.result = search rules in
-    both-step (env_in c.args.self.now lets) c.args.tree.now.at items c.loop-part.part-index c.part-item.result c.args.tally.now c.loop-part.tally c.single_operand.new.tally c.and.new.tally
+    both-step (env_in c.args.self.now lets) c.args.tree.now.at items c.loop-part.part-index c.part-item.result c.args.tally.now c.loop-part.tally c.single_operand.new.tally c.join_tests.new.tally
     c.loop-part.parts c.in_ok-next.next c.in_ok-joined.joined within is (c.loop-part.invariant lets are) (c.in_ok-next.ensures lets are)
     c.in_ok-joined.ensures.arities c.in_ok-joined.ensures.nodes c.in_ok-joined.ensures.part
 
