@@ -12,7 +12,7 @@ ghost use Rattle.snap_io.specs.Causes.{HasCause, NoneFell, Rose};
 ghost use Rattle.snap_io.specs.Files.{file_of};
 ghost use Rattle.snap_io.specs.LineReaders.{AgreesWith, lines_given, lines_limit, lines_most, lines_name};
 ghost use Rattle.snap_io.specs.Sinks.{AppendsPart};
-ghost use Rattle.snap_trace.specs.OneSwitch.{Meets};
+ghost use Rattle.snap_trace.specs.OneSwitch.{WritesReport};
 ghost use Rattle.snap_trace.specs.PacketLines.{said_by};
 ghost use Rattle.snap_trace.specs.Steps.{Closes, ComesOn, ComesTo, PutsEnd, Takes, is_told, refusal_of, refusal_past_last, TakesPacket, Waits};
 
@@ -261,7 +261,7 @@ impl Switch {
         ended: Result<(), TraceFault>,
     ) -> Result<(), TraceFault>
         ensures report { (program : ProgramData) (file : List ℕ) (start : Option (List ℕ)) →
-            Closes program file ended start (K.taken sink.old) self.old.text.items → Meets program file result start (K.taken sink.new) }
+            Closes program file ended start (K.taken sink.old) self.old.text.items → WritesReport program file result start (K.taken sink.new) }
         ensures read { IsErrOf result TraceFault.Read → IsErrOf ended TraceFault.Read }
         ensures write { IsErrOf result TraceFault.Write → IsErrOf ended TraceFault.Write ⊎ Rose (K.faults sink.old) (K.faults sink.new) }
         ensures later { K.faults sink.old ≤ K.faults sink.new }
@@ -340,7 +340,7 @@ pub fn one_switch<S: Shelf, K: Sink>(
 ) -> Result<(), TraceFault>
     requires { IsBounded program.now }
     ensures report { IfSome (S.files shelf.old) (λ files.
-        Meets program.now (file_of files packets.now) result (K.taken sink.old) (K.taken sink.new)) }
+        WritesReport program.now (file_of files packets.now) result (K.taken sink.old) (K.taken sink.new)) }
     ensures read { IsErrOf result TraceFault.Read → Rose (S.faults shelf.old packets.now) (S.faults shelf.new packets.now) }
     ensures write { IsErrOf result TraceFault.Write → Rose (K.faults sink.old) (K.faults sink.new) }
     ensures files { S.files shelf.new ≡ S.files shelf.old }
