@@ -35,7 +35,7 @@ module _ (lists : HasOneListing) (p : Program) where
 
   read_once : (stop : Stop) (made : Switched) (e f : RunEnding) (a b : List ℕ) → EndsAsRead p.fields p.vars stop made e a → EndsAsRead p.fields p.vars stop made f b → (e ≡ f) × (a ≡ b)
   read_once ended made e f a b h k =
-      (h.0 ∙ sym k.0, h.1.1.1 ∙ (ap (λ entries. made_text p.fields made ++ end_text p.vars entries) (lists made.arrays h.1.0 k.1.0 h.1.1.0 k.1.1.0) ∙ sym k.1.1.1))
+      (h.0 ∙ sym k.0, h.1.2 ∙ (ap (λ entries. made_text p.fields made ++ end_text p.vars entries) (lists made.arrays h.1.0 k.1.0 h.1.1 k.1.1) ∙ sym k.1.2))
   read_once (refused fault) made e f a b h k = (h.0 ∙ sym k.0, h.1 ∙ sym k.1)
 
   -- one big switch that is defined on all packets is undefined after none
@@ -59,17 +59,17 @@ module _ (lists : HasOneListing) (p : Program) where
   pub reports_once : (file : List ℕ) (e f : RunEnding) (a b : List ℕ) → IsReport p file e a → IsReport p file f b → (e ≡ f) × (a ≡ b)
   reports_once file e f a b (inl h) (inl k) =
       let read = spelled p.fields file in
-      let same = made_once (Switch read.packets) h.0 k.0 h.1.0 k.1.0 in
-      read_once read.stop k.0 e f a b (subst (λ made. EndsAsRead p.fields p.vars read.stop made e a) same h.1.1) k.1.1
-  reports_once file e f a b (inl h) (inr k) = absurd (never_after (spelled p.fields file).packets h.0 k.1.0 k.0 h.1.0 k.1.1.0)
-  reports_once file e f a b (inr h) (inl k) = absurd (never_after (spelled p.fields file).packets k.0 h.1.0 h.0 k.1.0 h.1.1.0)
+      let same = made_once (Switch read.packets) h.0 k.0 h.1 k.1 in
+      read_once read.stop k.0 e f a b (subst (λ made. EndsAsRead p.fields p.vars read.stop made e a) same h.2) k.2
+  reports_once file e f a b (inl h) (inr k) = absurd (never_after (spelled p.fields file).packets h.0 k.1 k.0 h.1 k.2)
+  reports_once file e f a b (inr h) (inl k) = absurd (never_after (spelled p.fields file).packets k.0 h.1 h.0 k.1 h.2)
   reports_once file e f a b (inr h) (inr k) =
       let packets = (spelled p.fields file).packets in
-      let at = after_once packets h.1.0 k.1.0 h.0 k.0 h.1.1.0 k.1.1.0 in
-      let same = made_once (Switch (take k.0 packets)) h.1.0 k.1.0 (subst (λ n. Switch (take n packets) ≡ Some h.1.0) at h.1.1.0.some) k.1.1.0.some in
+      let at = after_once packets h.1 k.1 h.0 k.0 h.2 k.2 in
+      let same = made_once (Switch (take k.0 packets)) h.1 k.1 (subst (λ n. Switch (take n packets) ≡ Some h.1) at h.2.some) k.2.some in
       (
-        h.1.1.1.0 ∙ (ap (λ n. Err (run.Undefined (n + 1))) at ∙ sym k.1.1.1.0),
-        h.1.1.1.1 ∙ (ap (made_text p.fields) same ∙ sym k.1.1.1.1),
+        h.3 ∙ (ap (λ n. Err (run.Undefined (n + 1))) at ∙ sym k.3),
+        h.4 ∙ (ap (made_text p.fields) same ∙ sym k.4),
       )
 
 module _ (spells : SpellsOneProgram) (lists : HasOneListing) (files : Files) (program packets : List ℕ) where
@@ -82,8 +82,8 @@ module _ (spells : SpellsOneProgram) (lists : HasOneListing) (files : Files) (pr
       let same = spells (file_of files program) (Ok h.0) (Ok k.0) h.1 k.1 in
       let mine = h.2.1 in
       let other = k.2.1 in
-      let one = (reports_once lists k.0 file mine.0 other.0 h.2.0 k.2.0 (same_report h.0 k.0 same file mine.0 h.2.0 mine.1.0) other.1.0).0 in
-      run_ends_once other.0 a b (subst (λ r. IsRunEnding r a) one mine.1.1) other.1.1
+      let one = (reports_once lists k.0 file mine.0 other.0 h.2.0 k.2.0 (same_report h.0 k.0 same file mine.0 h.2.0 mine.1) other.1).0 in
+      run_ends_once other.0 a b (subst (λ r. IsRunEnding r a) one mine.2) other.2
 
   pub obs_text_once : (a b : List ℕ) → IsObsText files program packets a → IsObsText files program packets b → a ≡ b
   obs_text_once a b (inl h) (inl k) = h.2 ∙ sym k.2

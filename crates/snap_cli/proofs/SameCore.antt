@@ -104,20 +104,20 @@ module _ (p q : Program) (same : core_program p ≡ core_program q) where
         let packets = λ (fields : List Field). (spelled fields file).packets in
         inl (
           h.0,
-          subst (λ fields. one_big_switch q.body zero_arrays (packets fields) ≡ Some h.0) same_fields (sym (same_switch (packets p.fields) zero_arrays) ∙ h.1.0),
+          subst (λ fields. one_big_switch q.body zero_arrays (packets fields) ≡ Some h.0) same_fields (sym (same_switch (packets p.fields) zero_arrays) ∙ h.1),
           subst (λ fields. EndsAsRead fields q.vars (spelled fields file).stop h.0 ending text) same_fields
-              (subst (λ names. EndsAsRead p.fields names (spelled p.fields file).stop h.0 ending text) same_names h.1.1),
+              (subst (λ names. EndsAsRead p.fields names (spelled p.fields file).stop h.0 ending text) same_names h.2),
         )
     same_report (inr h) =
         let packets = λ (fields : List Field). (spelled fields file).packets in
-        let cut = h.1.1.0 in
+        let cut = h.2 in
         inr (
           h.0,
-          h.1.0,
+          h.1,
           record {
-            some = subst (λ fields. one_big_switch q.body zero_arrays (take h.0 (packets fields)) ≡ Some h.1.0) same_fields (sym (same_switch (take h.0 (packets p.fields)) zero_arrays) ∙ cut.some);
+            some = subst (λ fields. one_big_switch q.body zero_arrays (take h.0 (packets fields)) ≡ Some h.1) same_fields (sym (same_switch (take h.0 (packets p.fields)) zero_arrays) ∙ cut.some);
             none = subst (λ fields. one_big_switch q.body zero_arrays (take (h.0 + 1) (packets fields)) ≡ None) same_fields (sym (same_switch (take (h.0 + 1) (packets p.fields)) zero_arrays) ∙ cut.none);
           },
-          h.1.1.1.0,
-          h.1.1.1.1 ∙ ap (λ fields. made_text fields h.1.0) same_fields,
+          h.3,
+          h.4 ∙ ap (λ fields. made_text fields h.1) same_fields,
         )
