@@ -3,14 +3,15 @@ use Rattle.std.proofs.Common.{◌≡◌, ℕ, List, Option, Some, None, IfSome, 
 use Rattle.snap_core.specs.declared.program.Program.{Program}
 use Rattle.snap_io.specs.Files.{Files, file_of}
 use Rattle.std.specs.Borrow.{Bor}
+use Rattle.std.specs.Io.KnownBytes.{Appends}
 use Rattle.snap_trace.specs.declared.fault.TraceFault.{TraceFault}
 use Rattle.snap_trace.specs.declared.fault.TraceFault.TheVariants as run
-use Rattle.snap_trace.specs.OneSwitch.{blocks_of, Meets as MeetsReport}
+use Rattle.snap_trace.specs.OneSwitch.{WritesReport}
 use Rattle.snap_words.specs.Commands.{obs}
 use Rattle.snap_cli.specs.declared.refusal.Refusal.{Refusal}
 use Rattle.snap_cli.specs.declared.refusal.Refusal.TheVariants.{Usage, Read, Write, Syntax, Naming, Limit, Topology, Unreachable, Packets, NoMemory, Undefined}
 use Rattle.snap_cli.specs.Deserved.{Meets}
-use Rattle.snap_cli.specs.Obs.{IsRunEnding, MeetsRun}
+use Rattle.snap_cli.specs.Obs.{EndsObs, IsObsText, MeetsRun, RunsTo}
 use Rattle.snap_cli.specs.ProgramOf.{ProgramOf}
 use Rattle.snap_cli.specs.Refusals.{Ending}
 use Rattle.snap_cli.specs.Steps.{GivesProgram, refusal_of_run}
@@ -19,22 +20,29 @@ use Rattle.snap_cli.proofs.Refused.{Refuses}
 pub obs-refuses : (p q : List ℕ) (files : Files) → Refuses files (obs p q) p
 obs-refuses p q files = record { ends = λ e h. inl (e, h, refl); text = λ e h. inl (e, h, refl); read = inl (refl, refl); memory = inl refl }
 
+-- the program was read, and its whole report went out
+whole-run : (files : Files) (p q : List ℕ) (program : Program) (old new : Option (List ℕ)) (e : Ending) → ProgramOf (file_of files p) (Ok program)
+    → (text : List ℕ) × RunsTo program (file_of files q) e text × Appends old new text → EndsObs files p q e × ((text : List ℕ) × IsObsText files p q text × Appends old new text)
+whole-run files p q program old new e h m =
+    let run = m.1 in
+    (inr (program, h, (m.0, run)), (m.0, inr (program, h, (run.0, run.1)), m.2))
+
 -- the program was read, and this is what its run did
 meets-run : (files : Files) (p q : List ℕ) (program : Program) (old new : Option (List ℕ)) (e : Ending) → ProgramOf (file_of files p) (Ok program)
     → MeetsRun program q (file_of files q) e old new → Meets files (obs p q) e old new
-meets-run files p q program old new (Ok u) h m = (inr (program, h, m.0), (m.1.0, inr (program, h, m.1.1), m.1.2))
-meets-run files p q program old new (Err (Read name)) h m = (blocks_of program (file_of files q), inr (m.0, (program, h, refl)), m.1)
-meets-run files p q program old new (Err NoMemory) h m = (blocks_of program (file_of files q), inr (program, h, refl), m)
-meets-run files p q program old new (Err Write) h (inl m) = inl (blocks_of program (file_of files q), inr (program, h, refl), m)
+meets-run files p q program old new (Ok u) h m = whole-run files p q program old new (Ok u) h m
+meets-run files p q program old new (Err (Read name)) h m = (m.1.0, inr (m.0, (program, h, m.1.1)), m.1.2)
+meets-run files p q program old new (Err NoMemory) h m = (m.0, inr (program, h, m.1), m.2)
+meets-run files p q program old new (Err Write) h (inl m) = inl (m.0, inr (program, h, m.1), m.2)
 meets-run files p q program old new (Err Write) h (inr m) = inr (m.0, inr (program, h, m.1), m.2)
-meets-run files p q program old new (Err Usage) h m = (inr (program, h, m.0), (m.1.0, inr (program, h, m.1.1), m.1.2))
-meets-run files p q program old new (Err (Syntax fault spot)) h m = (inr (program, h, m.0), (m.1.0, inr (program, h, m.1.1), m.1.2))
-meets-run files p q program old new (Err (Naming fault spot)) h m = (inr (program, h, m.0), (m.1.0, inr (program, h, m.1.1), m.1.2))
-meets-run files p q program old new (Err (Limit which count)) h m = (inr (program, h, m.0), (m.1.0, inr (program, h, m.1.1), m.1.2))
-meets-run files p q program old new (Err (Topology fault)) h m = (inr (program, h, m.0), (m.1.0, inr (program, h, m.1.1), m.1.2))
-meets-run files p q program old new (Err (Unreachable switches a b)) h m = (inr (program, h, m.0), (m.1.0, inr (program, h, m.1.1), m.1.2))
-meets-run files p q program old new (Err (Packets line)) h m = (inr (program, h, m.0), (m.1.0, inr (program, h, m.1.1), m.1.2))
-meets-run files p q program old new (Err (Undefined packet)) h m = (inr (program, h, m.0), (m.1.0, inr (program, h, m.1.1), m.1.2))
+meets-run files p q program old new (Err Usage) h m = whole-run files p q program old new (Err Usage) h m
+meets-run files p q program old new (Err (Syntax fault spot)) h m = whole-run files p q program old new (Err (Syntax fault spot)) h m
+meets-run files p q program old new (Err (Naming fault spot)) h m = whole-run files p q program old new (Err (Naming fault spot)) h m
+meets-run files p q program old new (Err (Limit which count)) h m = whole-run files p q program old new (Err (Limit which count)) h m
+meets-run files p q program old new (Err (Topology fault)) h m = whole-run files p q program old new (Err (Topology fault)) h m
+meets-run files p q program old new (Err (Unreachable switches a b)) h m = whole-run files p q program old new (Err (Unreachable switches a b)) h m
+meets-run files p q program old new (Err (Packets line)) h m = whole-run files p q program old new (Err (Packets line)) h m
+meets-run files p q program old new (Err (Undefined packet)) h m = whole-run files p q program old new (Err (Undefined packet)) h m
 
 pub obs-run : (told now : Option Files) (p q : List ℕ) (program : Program) (old new : Option (List ℕ)) (e : Ending) → now ≡ told
     → IfSome told (λ files. GivesProgram p (file_of files p) (Ok program)) → IfSome now (λ files. MeetsRun program q (file_of files q) e old new)
@@ -44,25 +52,25 @@ obs-run (Some files) now p q program old new e same h m =
     meets-run files p q program old new e h (subst (λ o. IfSome o (λ files. MeetsRun program q (file_of files q) e old new)) same m)
 
 -- the run of a program, as the command tells it
-run-ok : (program : Program) (packets file : List ℕ) (old new : Option (List ℕ)) → MeetsReport program file (Ok tt) old new → MeetsRun program packets file (Ok tt) old new
-run-ok program packets file old new m = (subst (λ r. IsRunEnding r (Ok tt)) m.0 refl, m.1)
+run-ok : (program : Program) (packets file : List ℕ) (old new : Option (List ℕ)) → WritesReport program file (Ok tt) old new → MeetsRun program packets file (Ok tt) old new
+run-ok program packets file old new m = (m.0, (Ok tt, m.1, refl), m.2)
 
-run-err : (program : Program) (packets : Bor (List ℕ)) (file : List ℕ) (old new : Option (List ℕ)) (fault : TraceFault) → MeetsReport program file (Err fault) old new
+run-err : (program : Program) (packets : Bor (List ℕ)) (file : List ℕ) (old new : Option (List ℕ)) (fault : TraceFault) → WritesReport program file (Err fault) old new
     → MeetsRun program packets.now file (Err (refusal_of_run packets fault)) old new
 run-err program packets file old new run.Read m = (refl, m)
 run-err program packets file old new run.Write m = m
 run-err program packets file old new run.NoMemory m = m
-run-err program packets file old new (run.Limit which count) m = (subst (λ r. IsRunEnding r (Err (Limit which count))) m.0 refl, m.1)
-run-err program packets file old new (run.Packets line) m = (subst (λ r. IsRunEnding r (Err (Packets line))) m.0 refl, m.1)
-run-err program packets file old new (run.Undefined packet) m = (subst (λ r. IsRunEnding r (Err (Undefined packet))) m.0 refl, m.1)
+run-err program packets file old new (run.Limit which count) m = (m.0, (Err (run.Limit which count), m.1, refl), m.2)
+run-err program packets file old new (run.Packets line) m = (m.0, (Err (run.Packets line), m.1, refl), m.2)
+run-err program packets file old new (run.Undefined packet) m = (m.0, (Err (run.Undefined packet), m.1, refl), m.2)
 
-pub told-ok : (told : Option Files) (program : Program) (q : List ℕ) (old new : Option (List ℕ)) → IfSome told (λ files. MeetsReport program (file_of files q) (Ok tt) old new)
+pub told-ok : (told : Option Files) (program : Program) (q : List ℕ) (old new : Option (List ℕ)) → IfSome told (λ files. WritesReport program (file_of files q) (Ok tt) old new)
     → IfSome told (λ files. MeetsRun program q (file_of files q) (Ok tt) old new)
 told-ok None program q old new m = tt
 told-ok (Some files) program q old new m = run-ok program q (file_of files q) old new m
 
 pub told-err : (told : Option Files) (program : Program) (packets : Bor (List ℕ)) (old new : Option (List ℕ)) (fault : TraceFault) (e : Refusal) → e ≡ refusal_of_run packets fault
-    → IfSome told (λ files. MeetsReport program (file_of files packets.now) (Err fault) old new)
+    → IfSome told (λ files. WritesReport program (file_of files packets.now) (Err fault) old new)
     → IfSome told (λ files. MeetsRun program packets.now (file_of files packets.now) (Err e) old new)
 told-err None program packets old new fault e is m = tt
 told-err (Some files) program packets old new fault e is m =

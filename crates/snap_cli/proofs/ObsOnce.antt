@@ -1,19 +1,22 @@
 -- `obs` deserves one ending and one text.
-use Rattle.std.proofs.Common.{◌≡◌, ◌++◌, ℕ, List, [], ◌∷◌, Option, Some, None, Ok, Err, sym, ◌∙◌, ap, subst, inl, inr}
-use Rattle.std.specs.Option.{MatchOption}
+use Rattle.std.proofs.Common.{◌≡◌, ◌++◌, ◌+◌, ◌<◌, ℕ, Bool, true, false, ltb, List, take, Option, Some, Ok, Err, refl, sym, ◌∙◌, ap, subst, inl, inr, arith}
+use Rattle.std.specs.Option.{unwrap_or}
+use Rattle.std.proofs.lemmas.Bool.{ltb-false, ltb-true}
+use Rattle.std.proofs.lemmas.List.{take-take}
 use Rattle.snap_core.specs.declared.program.Program.{Program}
-use Rattle.snap_core.specs.Arrays.{Arrays, zero_arrays}
+use Rattle.snap_core.specs.Arrays.{zero_arrays}
 use Rattle.snap_core.specs.Listing.{HasOneListing}
-use Rattle.snap_core.specs.Meaning.{Meaning, eval}
+use Rattle.snap_core.specs.Switch.{Switched, one_big_switch}
 use Rattle.snap_io.specs.Files.{Files, file_of}
 use Rattle.snap_trace.specs.declared.fault.TraceFault.TheVariants as run
-use Rattle.snap_trace.specs.OneSwitch.{Ending as RunEnding, blocks_of, ending_of, IsTailFrom, IsReport}
+use Rattle.snap_trace.specs.OneSwitch.{EndsAsRead, IsReport, IsUndefinedAfter, made_text, RunEnding}
 use Rattle.snap_trace.specs.Reports.{end_text}
 use Rattle.snap_trace.specs.Spelled.{Stop, ended, refused, spelled}
 use Rattle.snap_cli.specs.Laws.{SpellsOneProgram}
 use Rattle.snap_cli.specs.Obs.{EndsObs, IsObsText, IsRunEnding}
 use Rattle.snap_cli.specs.Refusals.{Ending}
-use Rattle.snap_cli.proofs.SameCore.{same_ending, same_report}
+use Rattle.snap_trace.proofs.SwitchLemmas.{switch-take}
+use Rattle.snap_cli.proofs.SameCore.{same_report}
 
 run_ends_once : (r : RunEnding) (a b : Ending) → IsRunEnding r a → IsRunEnding r b → a ≡ b
 run_ends_once (Ok u) a b h k = h ∙ sym k
@@ -23,33 +26,65 @@ run_ends_once (Err (run.Undefined packet)) a b h k = h ∙ sym k
 run_ends_once (Err fault) a b h k = absurd h
 
 module _ (lists : HasOneListing) (p : Program) where
-  tails_at : (o : Option Meaning) (packets : List (List ℕ)) (stop : Stop) (a b : List ℕ)
-      → ((m : Arrays) → IsTailFrom p m packets stop a → IsTailFrom p m packets stop b → a ≡ b)
-      → MatchOption o (a ≡ []) (λ x. IsTailFrom p x.arrays packets stop a) → MatchOption o (b ≡ []) (λ x. IsTailFrom p x.arrays packets stop b) → a ≡ b
-  tails_at None packets stop a b later h k = h ∙ sym k
-  tails_at (Some x) packets stop a b later h k = later x.arrays h k
+  abbrev Switch : List (List ℕ) → Option Switched
+  Switch packets = one_big_switch p.body zero_arrays packets
 
-  tails_once : (packets : List (List ℕ)) (m : Arrays) (stop : Stop) (a b : List ℕ) → IsTailFrom p m packets stop a → IsTailFrom p m packets stop b → a ≡ b
-  tails_once [] m ended a b h k = h.2 ∙ (ap (end_text p.vars) (lists m h.0 k.0 h.1 k.1) ∙ sym k.2)
-  tails_once [] m (refused fault) a b h k = h ∙ sym k
-  tails_once (packet ∷ packets) m stop a b h k =
-      tails_at (eval p.body m packet) packets stop a b (λ n. tails_once packets n stop a b) h k
+  -- what one big switch made is one
+  made_once : (o : Option Switched) (a b : Switched) → o ≡ Some a → o ≡ Some b → a ≡ b
+  made_once o a b h k = ap (λ x. unwrap_or x a) (sym h ∙ k)
 
-  pub reports_once : (file a b : List ℕ) → IsReport p file a → IsReport p file b → a ≡ b
-  reports_once file a b h k =
-      let here = spelled p.fields file in
-      h.2 ∙ (ap (λ t. blocks_of p file ++ t) (tails_once here.packets zero_arrays here.stop h.0 k.0 h.1 k.1) ∙ sym k.2)
+  read_once : (stop : Stop) (made : Switched) (e f : RunEnding) (a b : List ℕ) → EndsAsRead p.fields p.vars stop made e a → EndsAsRead p.fields p.vars stop made f b → (e ≡ f) × (a ≡ b)
+  read_once ended made e f a b h k =
+      (h.0 ∙ sym k.0, h.1.2 ∙ (ap (λ entries. made_text p.fields made ++ end_text p.vars entries) (lists made.arrays h.1.0 k.1.0 h.1.1 k.1.1) ∙ sym k.1.2))
+  read_once (refused fault) made e f a b h k = (h.0 ∙ sym k.0, h.1 ∙ sym k.1)
 
-module _ (spells : SpellsOneProgram) (files : Files) (program packets : List ℕ) where
+  -- one big switch that is defined on all packets is undefined after none
+  never_after : (packets : List (List ℕ)) (made cut : Switched) (before : ℕ) → Switch packets ≡ Some made → IsUndefinedAfter p packets before cut → ⊥
+  never_after packets made cut before whole after = switch-take p.body packets zero_arrays (before + 1) made whole after.none
+
+  -- and it is undefined first at one packet
+  not_before : (packets : List (List ℕ)) (made cut : Switched) (a b : ℕ) → IsUndefinedAfter p packets a made → IsUndefinedAfter p packets b cut → a < b → ⊥
+  not_before packets made cut a b h k less =
+      let same : take (a + 1) (take b packets) ≡ take (a + 1) packets = take-take (a + 1) b packets (omega arith) in
+      switch-take p.body (take b packets) zero_arrays (a + 1) cut k.some (ap Switch same ∙ h.none)
+
+  after_once : (packets : List (List ℕ)) (made cut : Switched) (a b : ℕ) → IsUndefinedAfter p packets a made → IsUndefinedAfter p packets b cut → a ≡ b
+  after_once packets made cut a b h k = from (ltb a b) refl (ltb b a) refl
+    where
+      from : (t : Bool) → ltb a b ≡ t → (u : Bool) → ltb b a ≡ u → a ≡ b
+      from true e u f = absurd (not_before packets made cut a b h k (ltb-true a b e))
+      from false e true f = absurd (not_before packets cut made b a k h (ltb-true b a f))
+      from false e false f = omega (ltb-false a b e, ltb-false b a f)
+
+  pub reports_once : (file : List ℕ) (e f : RunEnding) (a b : List ℕ) → IsReport p file e a → IsReport p file f b → (e ≡ f) × (a ≡ b)
+  reports_once file e f a b (inl h) (inl k) =
+      let read = spelled p.fields file in
+      let same = made_once (Switch read.packets) h.0 k.0 h.1 k.1 in
+      read_once read.stop k.0 e f a b (subst (λ made. EndsAsRead p.fields p.vars read.stop made e a) same h.2) k.2
+  reports_once file e f a b (inl h) (inr k) = absurd (never_after (spelled p.fields file).packets h.0 k.1 k.0 h.1 k.2)
+  reports_once file e f a b (inr h) (inl k) = absurd (never_after (spelled p.fields file).packets k.0 h.1 h.0 k.1 h.2)
+  reports_once file e f a b (inr h) (inr k) =
+      let packets = (spelled p.fields file).packets in
+      let at = after_once packets h.1 k.1 h.0 k.0 h.2 k.2 in
+      let same = made_once (Switch (take k.0 packets)) h.1 k.1 (subst (λ n. Switch (take n packets) ≡ Some h.1) at h.2.some) k.2.some in
+      (
+        h.3 ∙ (ap (λ n. Err (run.Undefined (n + 1))) at ∙ sym k.3),
+        h.4 ∙ (ap (made_text p.fields) same ∙ sym k.4),
+      )
+
+module _ (spells : SpellsOneProgram) (lists : HasOneListing) (files : Files) (program packets : List ℕ) where
   pub ends_obs_once : (a b : Ending) → EndsObs files program packets a → EndsObs files program packets b → a ≡ b
   ends_obs_once a b (inl h) (inl k) = h.2 ∙ (ap (λ e. Err e) (spells (file_of files program) (Err h.0) (Err k.0) h.1 k.1) ∙ sym k.2)
   ends_obs_once a b (inl h) (inr k) = absurd (spells (file_of files program) (Err h.0) (Ok k.0) h.1 k.1)
   ends_obs_once a b (inr h) (inl k) = absurd (spells (file_of files program) (Ok h.0) (Err k.0) h.1 k.1)
   ends_obs_once a b (inr h) (inr k) =
+      let file = file_of files packets in
       let same = spells (file_of files program) (Ok h.0) (Ok k.0) h.1 k.1 in
-      run_ends_once (ending_of k.0 (file_of files packets)) a b (subst (λ r. IsRunEnding r a) (same_ending h.0 k.0 same (file_of files packets)) h.2) k.2
+      let mine = h.2.1 in
+      let other = k.2.1 in
+      let one = (reports_once lists k.0 file mine.0 other.0 h.2.0 k.2.0 (same_report h.0 k.0 same file mine.0 h.2.0 mine.1) other.1).0 in
+      run_ends_once other.0 a b (subst (λ r. IsRunEnding r a) one mine.2) other.2
 
-module _ (spells : SpellsOneProgram) (lists : HasOneListing) (files : Files) (program packets : List ℕ) where
   pub obs_text_once : (a b : List ℕ) → IsObsText files program packets a → IsObsText files program packets b → a ≡ b
   obs_text_once a b (inl h) (inl k) = h.2 ∙ sym k.2
   obs_text_once a b (inl h) (inr k) = absurd (spells (file_of files program) (Err h.0) (Ok k.0) h.1 k.1)
@@ -57,4 +92,4 @@ module _ (spells : SpellsOneProgram) (lists : HasOneListing) (files : Files) (pr
   obs_text_once a b (inr h) (inr k) =
       let file = file_of files packets in
       let same = spells (file_of files program) (Ok h.0) (Ok k.0) h.1 k.1 in
-      reports_once lists k.0 file a b (same_report h.0 k.0 same file a h.2) k.2
+      (reports_once lists k.0 file h.2.0 k.2.0 a b (same_report h.0 k.0 same file h.2.0 a h.2.1) k.2.1).1

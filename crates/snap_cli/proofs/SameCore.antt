@@ -1,21 +1,21 @@
 -- A program does what its core program says, wherever its parts lie in memory.
-use Rattle.std.proofs.Common.{◌≡◌, ◌+◌, ◌++◌, ℕ, Bool, true, false, List, [], ◌∷◌, map, Option, Some, None, Err, refl, sym, ◌∙◌, ap, subst}
+use Rattle.std.proofs.Common.{◌≡◌, ◌+◌, ℕ, Bool, true, false, List, [], ◌∷◌, map, take, Option, Some, None, refl, sym, ◌∙◌, ap, subst, inl, inr}
 use Rattle.std.specs.Prelude.{if◌then◌else◌, not, ◌&&◌, ◌||◌, ◌==◌, ◌^◌, option_and_then, option_map, bit_or, slice_index, slice_set}
-use Rattle.std.specs.Option.{MatchOption, option_map_or}
 use Rattle.snap_core.specs.declared.policy.Pol.{Pol}
 use Rattle.snap_core.specs.declared.policy.Pol.TheVariants.{Filter, Set, Change, Par', Seq', If', Atomic'}
 use Rattle.snap_core.specs.declared.policy.Pred.{Pred}
 use Rattle.snap_core.specs.declared.policy.Pred.TheVariants.{Id, Drop, Field, State, Not', And', Or'}
+use Rattle.snap_core.specs.declared.program.Field.{Field}
 use Rattle.snap_core.specs.declared.program.Program.{Program}
 use Rattle.snap_core.specs.Arrays.{Arrays, zero_arrays, update, place_at, value_of}
 use Rattle.snap_core.specs.Packets.{no_packets, with_packet, listed}
+use Rattle.snap_core.specs.Switch.{one_big_switch}
 use Rattle.snap_core.specs.Meaning.{Meaning, eval, truth, vars_of, all_together, logged}
 use Rattle.snap_names.specs.Core.{CoreTest, id_test, drop_test, field_test, state_test, not_test, and_test, or_test, CorePolicy, filter, set, change, par, seq, choice, atomic, core_test, core_policy}
 use Rattle.snap_names.specs.Declarations.{CoreProgram, core_program}
-use Rattle.snap_trace.specs.OneSwitch.{blocks_from, ending_from, ending_of, IsTailFrom, IsReport}
-use Rattle.snap_trace.specs.Reports.{block, end_text}
-use Rattle.snap_trace.specs.Spelled.{Stop, ended, refused, spelled}
-use Rattle.snap_trace.specs.declared.fault.TraceFault.TheVariants.{Undefined}
+use Rattle.snap_trace.specs.OneSwitch.{EndsAsRead, IsReport, IsUndefinedAfter, made_text, RunEnding}
+use Rattle.snap_trace.specs.Spelled.{spelled}
+use Rattle.snap_trace.proofs.SwitchLemmas.{behind}
 
 -- evaluation of the core language
 abbrev core_truth : CoreTest → Arrays → List ℕ → Bool
@@ -83,10 +83,6 @@ by_core (If' x _ p _ q) m k = λ i.
     option_map (logged (same_vars x i) 0) (if same_truth x m k i then by_core p m k i else by_core q m k i)
 by_core (Atomic' _ p) m k = by_core p m k
 
-weaker : (o : Option Meaning) (A : Type 0) (P Q : Meaning → Type 0) → ((x : Meaning) → P x → Q x) → MatchOption o A P → MatchOption o A Q
-weaker None A P Q f h = h
-weaker (Some x) A P Q f h = f x h
-
 -- two programs with one core program
 module _ (p q : Program) (same : core_program p ≡ core_program q) where
   same_fields : p.fields ≡ q.fields
@@ -98,34 +94,30 @@ module _ (p q : Program) (same : core_program p ≡ core_program q) where
   same_eval : (m : Arrays) (k : List ℕ) → eval p.body m k ≡ eval q.body m k
   same_eval m k = by_core p.body m k ∙ (ap (λ (c : CoreProgram). core_eval c.body m k) same ∙ sym (by_core q.body m k))
 
-  same_blocks : (number : ℕ) (m : Arrays) (packets : List (List ℕ)) → blocks_from p number m packets ≡ blocks_from q number m packets
-  same_blocks number m [] = refl
-  same_blocks number m (packet ∷ packets) = λ i.
-      option_map_or (λ o. block (same_fields i) number o.packets ++ same_blocks (number + 1) o.arrays packets i) (same_eval m packet i) []
+  same_switch : (packets : List (List ℕ)) (m : Arrays) → one_big_switch p.body m packets ≡ one_big_switch q.body m packets
+  same_switch [] m = refl
+  same_switch (packet ∷ packets) m = λ i. option_and_then (λ o. option_map (behind o) (same_switch packets o.arrays i)) (same_eval m packet i)
 
-  same_endings : (number : ℕ) (m : Arrays) (packets : List (List ℕ)) (stop : Stop) → ending_from p number m packets stop ≡ ending_from q number m packets stop
-  same_endings number m [] ended = refl
-  same_endings number m [] (refused fault) = refl
-  same_endings number m (packet ∷ packets) stop = λ i.
-      option_map_or (λ o. same_endings (number + 1) o.arrays packets stop i) (same_eval m packet i) (Err (Undefined number))
-
-  same_tail : (packets : List (List ℕ)) (m : Arrays) (stop : Stop) (tail : List ℕ) → IsTailFrom p m packets stop tail → IsTailFrom q m packets stop tail
-  same_tail [] m ended tail h = (h.0, h.1, h.2 ∙ ap (λ names. end_text names h.0) same_names)
-  same_tail [] m (refused fault) tail h = h
-  same_tail (packet ∷ packets) m stop tail h =
-      subst (λ o. MatchOption o (tail ≡ []) (λ x. IsTailFrom q x.arrays packets stop tail)) (same_eval m packet)
-      (weaker (eval p.body m packet) (tail ≡ []) (λ x. IsTailFrom p x.arrays packets stop tail) (λ x. IsTailFrom q x.arrays packets stop tail)
-      (λ x. same_tail packets x.arrays stop tail) h)
-
-  pub same_ending : (file : List ℕ) → ending_of p file ≡ ending_of q file
-  same_ending file =
-      same_endings 1 zero_arrays (spelled p.fields file).packets (spelled p.fields file).stop
-      ∙ ap (λ f. ending_from q 1 zero_arrays (spelled f file).packets (spelled f file).stop) same_fields
-
-  pub same_report : (file text : List ℕ) → IsReport p file text → IsReport q file text
-  same_report file text h = (
-    h.0,
-    subst (λ f. IsTailFrom q zero_arrays (spelled f file).packets (spelled f file).stop h.0) same_fields
-        (same_tail (spelled p.fields file).packets zero_arrays (spelled p.fields file).stop h.0 h.1),
-    h.2 ∙ ap (λ x. x ++ h.0) (same_blocks 1 zero_arrays (spelled p.fields file).packets ∙ ap (λ f. blocks_from q 1 zero_arrays (spelled f file).packets) same_fields),
-  )
+  module _ (file : List ℕ) (ending : RunEnding) (text : List ℕ) where
+    pub same_report : IsReport p file ending text → IsReport q file ending text
+    same_report (inl h) =
+        let packets = λ (fields : List Field). (spelled fields file).packets in
+        inl (
+          h.0,
+          subst (λ fields. one_big_switch q.body zero_arrays (packets fields) ≡ Some h.0) same_fields (sym (same_switch (packets p.fields) zero_arrays) ∙ h.1),
+          subst (λ fields. EndsAsRead fields q.vars (spelled fields file).stop h.0 ending text) same_fields
+              (subst (λ names. EndsAsRead p.fields names (spelled p.fields file).stop h.0 ending text) same_names h.2),
+        )
+    same_report (inr h) =
+        let packets = λ (fields : List Field). (spelled fields file).packets in
+        let cut = h.2 in
+        inr (
+          h.0,
+          h.1,
+          record {
+            some = subst (λ fields. one_big_switch q.body zero_arrays (take h.0 (packets fields)) ≡ Some h.1) same_fields (sym (same_switch (take h.0 (packets p.fields)) zero_arrays) ∙ cut.some);
+            none = subst (λ fields. one_big_switch q.body zero_arrays (take (h.0 + 1) (packets fields)) ≡ None) same_fields (sym (same_switch (take (h.0 + 1) (packets p.fields)) zero_arrays) ∙ cut.none);
+          },
+          h.3,
+          h.4 ∙ ap (λ fields. made_text fields h.1) same_fields,
+        )

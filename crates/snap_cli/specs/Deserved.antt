@@ -4,7 +4,7 @@ use Rattle.std.specs.declared.option.Option.{Option}
 use Rattle.std.specs.Io.KnownBytes.{Appends}
 use Rattle.snap_io.specs.Causes.{Rose}
 use Rattle.snap_io.specs.Files.{Files}
-use Rattle.snap_io.specs.Sinks.{AppendsPart}
+use Rattle.snap_io.specs.Sinks.{AppendsPart, AppendsSome}
 use Rattle.snap_words.specs.Commands.{Command, deps, obs, routes}
 use Rattle.snap_cli.specs.declared.refusal.Refusal.TheVariants.{Read, Write, NoMemory}
 use Rattle.snap_cli.specs.Deps.{EndsDeps, IsDepsText}
@@ -35,10 +35,6 @@ abbrev pub MayPrecedeRead : Files → Command → (name : List ℕ) → List ℕ
 MayPrecedeRead files (obs program packets) name text = MayPrecedeReadObs files program packets name text
 MayPrecedeRead files (deps program) name text = (name ≡ program) × (text ≡ [])
 MayPrecedeRead files (routes topology) name text = (name ≡ topology) × (text ≡ [])
-
--- some first bytes went out of a text of which this is true
-abbrev pub AppendsSome : (List ℕ → Type 0) → Option (List ℕ) → Option (List ℕ) → Type 0
-AppendsSome P old new = (text : List ℕ) × P text × AppendsPart old new text
 
 -- The ending is one that the command deserves, and its whole text went out. Or a file of the command couldn't be read,
 -- memory was short or the sink failed, and some first bytes of what may have gone out by then did.

@@ -50,7 +50,7 @@ IsFailure status = (status ≡ 2) ⊎ ((status ≡ 3) ⊎ (status ≡ 14))
 
 -- Where no device failed and memory was there, a call answers what is due.
 abbrev pub AnswersExactly : Type 0
-AnswersExactly = (words : List (List ℕ)) (files : Files) (command : Command) (status : ℕ) (out_old out_new : Option (List ℕ))
-    (err_before err_now : ℕ) (err_old err_new : Option (List ℕ))
-    → command_of words ≡ Some command → Answers words (Some files) status out_old out_new err_before err_now err_old err_new
+AnswersExactly = (words : List (List ℕ)) (files : Files) (command : Command) (status : ℕ) (shelf_before shelf_now : List ℕ → ℕ)
+    (out_before out_now : ℕ) (out_old out_new : Option (List ℕ)) (err_before err_now : ℕ) (err_old err_new : Option (List ℕ))
+    → command_of words ≡ Some command → Answers words (Some files) status shelf_before shelf_now out_before out_now out_old out_new err_before err_now err_old err_new
     → IsFailure status ⊎ ((ending : Ending) × (text : List ℕ) × IsDue files command ending text × IsExact ending text status out_old out_new err_before err_now err_old err_new)

@@ -1,4 +1,5 @@
 pub mod Answers
+pub mod Causes
 pub mod Deps
 pub mod Deserved
 pub mod Laws

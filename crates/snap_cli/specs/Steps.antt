@@ -1,5 +1,5 @@
 -- What a step of a command gives.
-use Rattle.std.specs.Prelude.{◌≡◌, ℕ, List, Result, Ok, Err, IsErrOf}
+use Rattle.std.specs.Prelude.{◌≡◌, ℕ, List, Result, Ok, Err}
 use Rattle.snap_core.specs.declared.program.Program.{Program}
 use Rattle.std.specs.Prelude.{Vec}
 use Rattle.std.specs.declared.alloc.Global.{Global}
@@ -15,14 +15,9 @@ use Rattle.std.specs.Borrow.{Bor}
 use Rattle.snap_trace.specs.declared.fault.TraceFault.{TraceFault}
 use Rattle.snap_trace.specs.declared.fault.TraceFault.TheVariants as run
 use Rattle.snap_cli.specs.Spots.{spot_of}
-use Rattle.snap_io.specs.Causes.{Rose}
 use Rattle.snap_cli.specs.declared.refusal.Refusal.{Refusal}
 use Rattle.snap_cli.specs.declared.refusal.Refusal.TheVariants.{Read, Write, Syntax, Naming, Limit, Packets, NoMemory, Undefined}
 use Rattle.snap_cli.specs.ProgramOf.{ProgramOf}
-
-abbrev pub IsRead : {X : Type 0} → Result X Refusal → Type 0
-IsRead (Err (Read name)) = Unit {0}
-IsRead result = ⊥
 
 -- the text of the file with this name, or that it is too long or can't be read, or memory was short
 abbrev pub GivesText : (name file : List ℕ) → Result (Vec ℕ Global) Refusal → Type 0
@@ -40,11 +35,6 @@ SpellsProgram text result = ProgramOf text result
 abbrev pub GivesProgram : (name file : List ℕ) → Result Program Refusal → Type 0
 GivesProgram name file (Err (Read failed)) = failed.now ≡ name
 GivesProgram name file result = SpellsProgram file result
-
--- a failure of a device has its cause
-pub record HasCauses (shelf_before shelf_now out_before out_now : ℕ) (ending : Result (Unit {0}) Refusal) : Type 0 where
-  pub read : IsRead ending → Rose shelf_before shelf_now
-  pub write : IsErrOf ending Write → Rose out_before out_now
 
 -- the refusal of a text that spells no tokens
 abbrev pub refusal_of_tokens : List ℕ → LexFault → Refusal

@@ -6,8 +6,8 @@ ghost use Rattle.snap_core.specs.Programs.{IsBounded};
 ghost use Rattle.snap_io.specs.Causes.{Rose};
 ghost use Rattle.snap_words.specs.Commands.{deps};
 ghost use Rattle.snap_cli.specs.Deps.{HasOneText, IsTextOf, MeetsText, dep_line, group_line, groups_text, member_text};
+ghost use Rattle.snap_cli.specs.Causes.{HasCauses, IsRead};
 ghost use Rattle.snap_cli.specs.Deserved.{Meets};
-ghost use Rattle.snap_cli.specs.Steps.{HasCauses, IsRead};
 
 use crate::program::load_program;
 use crate::refusal::{Refusal, name_at};

@@ -3,10 +3,12 @@
 ghost use Rattle.std.specs.Prelude.{◌≡◌, ◌≤◌, IfSome, IsErrOf};
 ghost use Rattle.snap_words.specs.Commands.{obs};
 ghost use Rattle.snap_core.specs.Programs.{IsBounded};
+ghost use Rattle.snap_io.specs.Causes.{NoneFell};
 ghost use Rattle.snap_io.specs.Files.{file_of};
+ghost use Rattle.snap_cli.specs.Causes.{HasCauses};
 ghost use Rattle.snap_cli.specs.Deserved.{Meets};
 ghost use Rattle.snap_cli.specs.Obs.{MeetsRun};
-ghost use Rattle.snap_cli.specs.Steps.{HasCauses, refusal_of_run};
+ghost use Rattle.snap_cli.specs.Steps.{refusal_of_run};
 
 use crate::program::load_program;
 use crate::refusal::Refusal;
@@ -49,7 +51,7 @@ fn report_of<'a, S: Shelf, O: Sink>(
     ensures causes { HasCauses (S.faults shelf.old) (S.faults shelf.new) (O.faults out.old) (O.faults out.new) result }
     ensures not_usage { IsErrOf result Refusal.Usage → ⊥ }
     ensures files { S.files shelf.new ≡ S.files shelf.old }
-    ensures later { S.faults shelf.old ≤ S.faults shelf.new }
+    ensures later { NoneFell (S.faults shelf.old) (S.faults shelf.new) }
     ensures out_later { O.faults out.old ≤ O.faults out.new }
 {
     match one_switch(alloc, shelf, packets, program, out) {

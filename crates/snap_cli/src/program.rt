@@ -1,11 +1,12 @@
 //! The program of a file.
 
-ghost use Rattle.std.specs.Prelude.{◌≡◌, ◌≤◌, IfOk, IfSome, IsErrOf, length};
+ghost use Rattle.std.specs.Prelude.{◌≡◌, ◌≤◌, ℕ, List, IfOk, IfSome, IsErrOf, length};
 ghost use Rattle.snap_core.specs.Programs.{IsBounded};
-ghost use Rattle.snap_io.specs.Causes.{Rose};
+ghost use Rattle.snap_io.specs.Causes.{NoneFell, Rose};
 ghost use Rattle.snap_io.specs.Files.{file_of};
+ghost use Rattle.snap_cli.specs.Causes.{IsRead, IsReadOf};
 ghost use Rattle.snap_cli.specs.Spots.{spot_of};
-ghost use Rattle.snap_cli.specs.Steps.{GivesProgram, GivesText, IsRead, SpellsProgram, refusal_of_names, refusal_of_tokens, refusal_of_tree};
+ghost use Rattle.snap_cli.specs.Steps.{GivesProgram, GivesText, SpellsProgram, refusal_of_names, refusal_of_tokens, refusal_of_tree};
 
 use crate::refusal::{NamingFault, Refusal, SyntaxFault};
 use crate::spot::spot_at;
@@ -27,11 +28,11 @@ pub(crate) fn load_program<'a, S: Shelf>(
 ) -> Result<Program, Refusal<'a>>
     ensures gives { IfSome (S.files shelf.old) (λ files. GivesProgram name.entry.now (file_of files name.entry.now) result) }
     ensures bounded { IfOk result IsBounded }
-    ensures read { IsRead result → Rose (S.faults shelf.old) (S.faults shelf.new) }
+    ensures read { (file : List ℕ) → IsReadOf file result → Rose (S.faults shelf.old file) (S.faults shelf.new file) }
     ensures not_write { IsErrOf result Refusal.Write → ⊥ }
     ensures not_usage { IsErrOf result Refusal.Usage → ⊥ }
     ensures files { S.files shelf.new ≡ S.files shelf.old }
-    ensures later { S.faults shelf.old ≤ S.faults shelf.new }
+    ensures later { NoneFell (S.faults shelf.old) (S.faults shelf.new) }
 {
     let text = load_text(alloc, shelf, name)?;
     read_program(alloc, &text)
@@ -45,11 +46,11 @@ fn load_text<'a, S: Shelf>(
 ) -> Result<Vec<u8>, Refusal<'a>>
     ensures gives { IfSome (S.files shelf.old) (λ files. GivesText name.entry.now (file_of files name.entry.now) result) }
     ensures bound { IfOk result (λ text. length text.items ≤ 262144) }
-    ensures read { IsRead result → Rose (S.faults shelf.old) (S.faults shelf.new) }
+    ensures read { (file : List ℕ) → IsReadOf file result → Rose (S.faults shelf.old file) (S.faults shelf.new file) }
     ensures not_write { IsErrOf result Refusal.Write → ⊥ }
     ensures not_usage { IsErrOf result Refusal.Usage → ⊥ }
     ensures files { S.files shelf.new ≡ S.files shelf.old }
-    ensures later { S.faults shelf.old ≤ S.faults shelf.new }
+    ensures later { NoneFell (S.faults shelf.old) (S.faults shelf.new) }
 {
     match read_whole(alloc, shelf, name, MOST_PROGRAM) {
         Ok(text) => Ok(text),

@@ -7,10 +7,10 @@ ghost use Rattle.snap_io.specs.Sinks.{AppendsPart};
 ghost use Rattle.snap_topo.specs.Form.{IsInForm};
 ghost use Rattle.snap_route.specs.Tables.{switch_count};
 ghost use Rattle.snap_words.specs.Commands.{routes};
+ghost use Rattle.snap_cli.specs.Causes.{HasCauses, IsRead};
 ghost use Rattle.snap_cli.specs.Deserved.{Meets};
 ghost use Rattle.snap_cli.specs.Routes.{end_text, line_between, lines_from, route_line, routes_text};
 ghost use Rattle.snap_cli.specs.RoutesSteps.{MeetsTopology, Writes, refusal_of_routes};
-ghost use Rattle.snap_cli.specs.Steps.{HasCauses, IsRead};
 
 use crate::refusal::{Refusal, name_at};
 use crate::topology::load_topology;

@@ -1,12 +1,12 @@
 //! The top call.
 
-ghost use Rattle.std.specs.Prelude.{◌≡◌, ◌⊎◌, [], None, IfSome, IsErrOf};
+ghost use Rattle.std.specs.Prelude.{◌≡◌, ◌⊎◌, ℕ, List, [], None, IfSome, IsErrOf};
 ghost use Rattle.std.specs.Io.KnownBytes.{Appends};
 ghost use Rattle.snap_io.specs.Causes.{Rose};
 ghost use Rattle.snap_words.specs.Commands.{command_of};
 ghost use Rattle.snap_words.specs.Said.{bytes_of};
 ghost use Rattle.snap_cli.specs.Answers.{Answers, MeetsWords};
-ghost use Rattle.snap_cli.specs.Steps.{HasCauses};
+ghost use Rattle.snap_cli.specs.Causes.{HasCauses};
 
 use crate::refusal::Refusal;
 use crate::{deps, obs, routes};
@@ -26,14 +26,15 @@ pub fn snap<S: Shelf, O: Sink, E: Sink>(
     err: &mut E,
 ) -> u8
     // The status, the output and the message are what the words and the files deserve.
-    ensures answer { Answers (bytes_of words.now) (S.files shelf.old) result
-        (O.taken out.old) (O.taken out.new) (E.faults err.old) (E.faults err.new) (E.taken err.old) (E.taken err.new) }
+    ensures answer { Answers (bytes_of words.now) (S.files shelf.old) result (S.faults shelf.old) (S.faults shelf.new)
+        (O.faults out.old) (O.faults out.new) (O.taken out.old) (O.taken out.new)
+        (E.faults err.old) (E.faults err.new) (E.taken err.old) (E.taken err.new) }
 
     // These hold for shelves and sinks that tell nothing too.
     ensures usage { result ≡ 1 → command_of (bytes_of words.now) ≡ None }
     ensures usage_comes { command_of (bytes_of words.now) ≡ None → (result ≡ 1) ⊎ (result ≡ 14) }
     ensures nothing { result ≡ 1 → Appends (O.taken out.old) (O.taken out.new) [] }
-    ensures read { result ≡ 2 → Rose (S.faults shelf.old) (S.faults shelf.new) }
+    ensures read { result ≡ 2 → (name : List ℕ) × Rose (S.faults shelf.old name) (S.faults shelf.new name) }
     ensures write { result ≡ 3 → Rose (O.faults out.old) (O.faults out.new) }
 {
     let ending = run(alloc, words, shelf, out);

@@ -1,11 +1,11 @@
 //! The topology of a file.
 
-ghost use Rattle.std.specs.Prelude.{◌≡◌, ◌≤◌, IfOk, IfSome, IsErrOf, length};
-ghost use Rattle.snap_io.specs.Causes.{Rose};
+ghost use Rattle.std.specs.Prelude.{◌≡◌, ◌≤◌, ℕ, List, IfOk, IfSome, IsErrOf, length};
+ghost use Rattle.snap_io.specs.Causes.{NoneFell, Rose};
 ghost use Rattle.snap_io.specs.Files.{file_of};
 ghost use Rattle.snap_topo.specs.Form.{IsInForm};
+ghost use Rattle.snap_cli.specs.Causes.{IsReadOf};
 ghost use Rattle.snap_cli.specs.RoutesSteps.{GivesTopology, GivesTopologyText, refusal_of_topology};
-ghost use Rattle.snap_cli.specs.Steps.{IsRead};
 
 use crate::refusal::{Refusal, TopologyFault};
 use snap_core::program::Which;
@@ -24,11 +24,11 @@ pub(crate) fn load_topology<'a, S: Shelf>(
 ) -> Result<Topology, Refusal<'a>>
     ensures gives { IfSome (S.files shelf.old) (λ files. GivesTopology name.entry.now (file_of files name.entry.now) result) }
     ensures form { IfOk result IsInForm }
-    ensures read { IsRead result → Rose (S.faults shelf.old) (S.faults shelf.new) }
+    ensures read { (file : List ℕ) → IsReadOf file result → Rose (S.faults shelf.old file) (S.faults shelf.new file) }
     ensures not_write { IsErrOf result Refusal.Write → ⊥ }
     ensures not_usage { IsErrOf result Refusal.Usage → ⊥ }
     ensures files { S.files shelf.new ≡ S.files shelf.old }
-    ensures later { S.faults shelf.old ≤ S.faults shelf.new }
+    ensures later { NoneFell (S.faults shelf.old) (S.faults shelf.new) }
 {
     let text = load_text(alloc, shelf, name)?;
     match snap_topo::read(alloc, &text) {
@@ -44,11 +44,11 @@ fn load_text<'a, S: Shelf>(
     name: &'a [u8],
 ) -> Result<Vec<u8>, Refusal<'a>>
     ensures gives { IfSome (S.files shelf.old) (λ files. GivesTopologyText name.entry.now (file_of files name.entry.now) result) }
-    ensures read { IsRead result → Rose (S.faults shelf.old) (S.faults shelf.new) }
+    ensures read { (file : List ℕ) → IsReadOf file result → Rose (S.faults shelf.old file) (S.faults shelf.new file) }
     ensures not_write { IsErrOf result Refusal.Write → ⊥ }
     ensures not_usage { IsErrOf result Refusal.Usage → ⊥ }
     ensures files { S.files shelf.new ≡ S.files shelf.old }
-    ensures later { S.faults shelf.old ≤ S.faults shelf.new }
+    ensures later { NoneFell (S.faults shelf.old) (S.faults shelf.new) }
 {
     match read_whole(alloc, shelf, name, MOST_TOPOLOGY) {
         Ok(text) => Ok(text),

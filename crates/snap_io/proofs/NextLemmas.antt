@@ -19,10 +19,6 @@ choose past long fits line behind = if past then no_line else if long then long_
 abbrev behind : List ℕ → ℕ → ℕ
 behind file at = min (at + length (first_line (drop at file)) + 1) (length file)
 
-pub next_in-past : (limit most : ℕ) (file : List ℕ) (at : ℕ) → length file ≤ at → next_in limit most file at ≡ no_line
-next_in-past limit most file at past = λ i.
-    choose (le-leb (length file) at past i) (ltb most (length (first_line (drop at file))) && ltb (at + most) limit) (leb (behind file at) limit) (first_line (drop at file)) (behind file at)
-
 -- the held bytes are those of the file at this place
 abbrev pub AreAt : List ℕ → ℕ → List ℕ → Type 0
 AreAt file at held = held ≡ take (length held) (drop at file)

@@ -1,4 +1,5 @@
 pub mod Causes
+pub mod FaultCounts
 pub mod Files
 pub mod Front
 pub mod FullShelves

@@ -1,7 +1,7 @@
 // The bytes of a file that were read and not yet given, in a buffer of a fixed size.
 ghost use Rattle.std.specs.Prelude.{◌≡◌, ◌+◌, ◌*◌, ◌<◌, ◌≤◌, [], ◌++◌, length, take, drop, slice_range, vec_len, IfOk, IfSome, OnErr};
 ghost use Rattle.snap_io.specs.declared.device.TheConstants.{PIECE};
-ghost use Rattle.snap_io.specs.Causes.{HasCause};
+ghost use Rattle.snap_io.specs.Causes.{HasCause, NoneFell};
 ghost use Rattle.snap_io.specs.Files.{file_of, ReadsPart};
 ghost use Rattle.snap_io.specs.Lines.{before_lf};
 
@@ -122,7 +122,8 @@ impl Held {
         ensures most { held_most self.new ≡ held_most self.old }
         ensures err { OnErr result (held_bytes self.new ≡ held_bytes self.old) }
         ensures files { S.files shelf.new ≡ S.files shelf.old }
-        ensures cause { HasCause (S.faults shelf.old) (S.faults shelf.new) result }
+        ensures cause { HasCause (S.faults shelf.old name.now) (S.faults shelf.new name.now) result }
+        ensures later { NoneFell (S.faults shelf.old) (S.faults shelf.new) }
     {
         self.make_room();
         let count = self.fill(shelf, name, from, want)?;
@@ -149,7 +150,8 @@ impl Held {
         ensures line { held_line self.new ≡ held_line self.old }
         ensures most { held_most self.new ≡ held_most self.old }
         ensures files { S.files shelf.new ≡ S.files shelf.old }
-        ensures cause { HasCause (S.faults shelf.old) (S.faults shelf.new) result }
+        ensures cause { HasCause (S.faults shelf.old name.now) (S.faults shelf.new name.now) result }
+        ensures later { NoneFell (S.faults shelf.old) (S.faults shelf.new) }
     {
         read_behind(shelf, name, from, &mut self.buffer, self.end, want)
     }
@@ -202,7 +204,8 @@ fn read_behind<S: Shelf>(
     ensures bytes { IfSome (S.files shelf.old) (λ files.
         IfOk result (λ count. ReadsPart (file_of files name.now) from count (drop end buffer.new))) }
     ensures files { S.files shelf.new ≡ S.files shelf.old }
-    ensures cause { HasCause (S.faults shelf.old) (S.faults shelf.new) result }
+    ensures cause { HasCause (S.faults shelf.old name.now) (S.faults shelf.new name.now) result }
+    ensures later { NoneFell (S.faults shelf.old) (S.faults shelf.new) }
 {
     shelf.read_at(name, from, &mut buffer[end..end + want])
 }

@@ -2,7 +2,7 @@
 ghost use Rattle.std.specs.Prelude.{◌≡◌, ◌≢◌, ◌↔◌, ℕ, ◌+◌, ◌-◌, ◌<◌, ◌≤◌, List, Ok, Err, true, false, nat_lt, length, IsTrue, IfOk, OnOk, IfSome, IsErrOf};
 ghost use Rattle.std.specs.declared.option.Option.{Option};
 ghost use Rattle.snap_io.specs.declared.lines.LinesFault.TheVariants as fault;
-ghost use Rattle.snap_io.specs.Causes.{HasCause, Rose};
+ghost use Rattle.snap_io.specs.Causes.{HasCause, NoneFell, Rose};
 ghost use Rattle.snap_io.specs.Files.{Files, file_of};
 ghost use Rattle.snap_io.specs.Lines.{many_bytes, next_in};
 
@@ -99,7 +99,7 @@ impl Lines {
     ///
     /// # Errors
     ///
-    /// `Failed` where the shelf failed, `LongLine` and `ManyBytes` exactly where the line breaks these limits.
+    /// `Failed` where the shelf failed at this file, `LongLine` and `ManyBytes` exactly where the line breaks these limits.
     pub fn next<S: Shelf>(&mut self, shelf: &mut S) -> Result<bool, LinesFault>
         requires { AgreesWith (S.files shelf.old) self.old }
         ensures next { IfSome (S.files shelf.old) (λ files.
@@ -111,9 +111,9 @@ impl Lines {
         ensures limit { lines_limit self.new ≡ lines_limit self.old }
         ensures most { lines_most self.new ≡ lines_most self.old }
 
-        ensures failed { IsErrOf result LinesFault.Failed → Rose (S.faults shelf.old) (S.faults shelf.new) }
+        ensures failed { IsErrOf result LinesFault.Failed → Rose (S.faults shelf.old (lines_name self.old)) (S.faults shelf.new (lines_name self.old)) }
         ensures files { S.files shelf.new ≡ S.files shelf.old }
-        ensures later { S.faults shelf.old ≤ S.faults shelf.new }
+        ensures later { NoneFell (S.faults shelf.old) (S.faults shelf.new) }
 
         // where an LF is held, the call makes no read
         ensures no_read { HoldsLine self.old → shelf.new ≡ shelf.old }
@@ -135,9 +135,9 @@ impl Lines {
             IsErrOf result LinesFault.ManyBytes → next_of self.old files ≡ many_bytes) }
         ensures not_long { result ≢ Err LinesFault.LongLine }
         ensures reads { OnlyReads self.old self.new }
-        ensures failed { IsErrOf result LinesFault.Failed → Rose (S.faults shelf.old) (S.faults shelf.new) }
+        ensures failed { IsErrOf result LinesFault.Failed → Rose (S.faults shelf.old (lines_name self.old)) (S.faults shelf.new (lines_name self.old)) }
         ensures files { S.files shelf.new ≡ S.files shelf.old }
-        ensures later { S.faults shelf.old ≤ S.faults shelf.new }
+        ensures later { NoneFell (S.faults shelf.old) (S.faults shelf.new) }
     {
         while self.is_open() {
             self.read_more(shelf)?;
@@ -163,9 +163,9 @@ impl Lines {
             IsErrOf result LinesFault.ManyBytes → next_of self.old files ≡ many_bytes) }
         ensures not_long { result ≢ Err LinesFault.LongLine }
         ensures reads { OnlyReads self.old self.new }
-        ensures failed { IsErrOf result LinesFault.Failed → Rose (S.faults shelf.old) (S.faults shelf.new) }
+        ensures failed { IsErrOf result LinesFault.Failed → Rose (S.faults shelf.old (lines_name self.old)) (S.faults shelf.new (lines_name self.old)) }
         ensures files { S.files shelf.new ≡ S.files shelf.old }
-        ensures later { S.faults shelf.old ≤ S.faults shelf.new }
+        ensures later { NoneFell (S.faults shelf.old) (S.faults shelf.new) }
     {
         let place = self.given + self.held.len() as u64;
         let left = self.limit - place;
@@ -215,7 +215,8 @@ fn goes_on<S: Shelf>(shelf: &mut S, name: &[u8], from: u64) -> Result<bool, Fail
     ensures more { IfSome (S.files shelf.old) (λ files.
         IfOk result (λ more. more ≡ nat_lt from (length (file_of files name.now)))) }
     ensures files { S.files shelf.new ≡ S.files shelf.old }
-    ensures cause { HasCause (S.faults shelf.old) (S.faults shelf.new) result }
+    ensures cause { HasCause (S.faults shelf.old name.now) (S.faults shelf.new name.now) result }
+    ensures later { NoneFell (S.faults shelf.old) (S.faults shelf.new) }
 {
     let mut byte = [0u8; 1];
     let count = shelf.read_at(name, from, &mut byte)?;

@@ -128,6 +128,29 @@ fn reads_the_hosts_files(rt: HostRuntime) -> Result<(), Fail> {
 }
 
 #[test]
+fn reads_the_hosts_files_at_any_place(rt: HostRuntime) -> Result<(), Fail> {
+    fs::write(&rt, "first_of_a_test", b"abcdef")?;
+    fs::write(&rt, "second_of_a_test", b"uvwxyz")?;
+    let mut shelf = HostShelf::new(&rt);
+    let reads: [(&[u8], u64, &[u8]); 6] = [
+        (b"first_of_a_test", 0, b"ab"),
+        (b"first_of_a_test", 0, b"ab"),
+        (b"first_of_a_test", 3, b"de"),
+        (b"second_of_a_test", 4, b"yz"),
+        (b"first_of_a_test", 3, b"de"),
+        (b"first_of_a_test", 1, b"bc"),
+    ];
+    for (name, from, bytes) in reads {
+        let mut into = [0u8; 2];
+        assert_eq!(rt; shelf.read_at(name, from, &mut into), Ok(2));
+        assert_eq!(rt; into.as_slice(), bytes);
+    }
+    fs::remove_file(&rt, "first_of_a_test")?;
+    fs::remove_file(&rt, "second_of_a_test")?;
+    Ok(())
+}
+
+#[test]
 fn fills_sinks(rt: HostRuntime) -> Result<(), Fail> {
     let mut sink = HostSink::new(Vec::new(rt.alloc()));
     assert_eq!(rt; write_whole(&mut sink, b"text"), Ok(()));

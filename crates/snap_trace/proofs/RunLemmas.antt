@@ -15,8 +15,8 @@ use Rattle.snap_io.specs.Sinks.{AppendsPart}
 use Rattle.snap_io.proofs.SinksLemmas.{part_of_pair}
 use Rattle.snap_trace.specs.declared.fault.TraceFault.{TraceFault}
 use Rattle.snap_trace.specs.declared.fault.TraceFault.TheVariants.{Undefined}
-use Rattle.snap_trace.specs.OneSwitch.{AppendsSome, blocks_from, blocks_of, ending_from, ending_of, IsTailFrom, IsTailOf}
-use Rattle.snap_trace.specs.Reports.{block, end_text}
+use Rattle.snap_trace.specs.ByPackets.{AppendsRunText, blocks_from, blocks_of, ending_from, ending_of, IsTailFrom, IsTailOf}
+use Rattle.snap_trace.specs.Reports.{all_lines, block, end_text}
 use Rattle.snap_trace.specs.Spelled.{ended, refused, Spelled, stops, with_next, after_last, spelled_from}
 use Rattle.snap_trace.specs.Steps.{Waits, Comes, left_at}
 
@@ -145,7 +145,7 @@ module _ (program : Program) (file : List ℕ) (start : Option (List ℕ)) where
         )
 
     -- the sink failed while the end of the report was put
-    pub comes-ended-part : (then : Option (List ℕ)) (entries : List Entry) → left_at program file read at ≡ stops ended → IsListing m entries → AppendsPart now then (waiting ++ end_text program.vars entries) → AppendsSome program file start then
+    pub comes-ended-part : (then : Option (List ℕ)) (entries : List Entry) → left_at program file read at ≡ stops ended → IsListing m entries → AppendsPart now then (waiting ++ end_text program.vars entries) → AppendsRunText program file start then
     comes-ended-part then entries e listing part =
         let tail = end_text program.vars entries in
         let some = waits-part start now then c.done waiting tail c.waits part in
@@ -157,7 +157,7 @@ module _ (program : Program) (file : List ℕ) (start : Option (List ℕ)) where
     comes-undefined packet rest waiting' e none same =
         let stopped : blocks_of program file ≡ c.done =
         c.blocks ∙ ap (λ s. c.done ++ blocks_from program number m s.packets) e
-        ∙ ap (λ o. c.done ++ option_map_or (λ (x : Meaning). block program.fields number x.packets ++ blocks_from program (number + 1) x.arrays rest.packets) o []) none ∙ append-nil c.done in
+        ∙ ap (λ o. c.done ++ option_map_or (λ (x : Meaning). block (all_lines program.fields) number x.packets ++ blocks_from program (number + 1) x.arrays rest.packets) o []) none ∙ append-nil c.done in
         let empty : List ℕ = [] in
         let left : IsTailFrom program m (packet ∷ rest.packets) rest.stop empty = subst (λ o. MatchOption o (empty ≡ []) (λ (x : Meaning). IsTailFrom program x.arrays rest.packets rest.stop empty)) (sym none) refl in (
           sym (c.ending ∙ ap (λ s. ending_from program number m s.packets s.stop) e ∙ ap (λ o. option_map_or (λ (x : Meaning). ending_from program (number + 1) x.arrays rest.packets rest.stop) o (Err (Undefined number))) none),
@@ -178,17 +178,17 @@ module _ (program : Program) (file : List ℕ) (start : Option (List ℕ)) where
     -- a packet was evaluated
     pub comes-packet : (packet : List ℕ) (o : Meaning) (at' number' : ℕ) (m' : Arrays) (waiting' : List ℕ)
         → left_at program file read at ≡ record { packets = packet ∷ (left_at program file (read + 1) at').packets; stop = (left_at program file (read + 1) at').stop }
-        → eval program.body m packet ≡ Some o → number' ≡ number + 1 → m' ≡ o.arrays → waiting' ≡ waiting ++ block program.fields number o.packets
+        → eval program.body m packet ≡ Some o → number' ≡ number + 1 → m' ≡ o.arrays → waiting' ≡ waiting ++ block (all_lines program.fields) number o.packets
         → Comes program file (read + 1) at' start now number' m' waiting'
     comes-packet packet o at' number' m' waiting' e is n a w =
         let rest = left_at program file (read + 1) at' in
-        let text = block program.fields number o.packets in
+        let text = block (all_lines program.fields) number o.packets in
         record {
           done = c.done ++ text;
           waits = waits-more start now c.done waiting text waiting' w c.waits;
           blocks =
               c.blocks ∙ ap (λ s. c.done ++ blocks_from program number m s.packets) e
-              ∙ ap (λ x. c.done ++ option_map_or (λ (y : Meaning). block program.fields number y.packets ++ blocks_from program (number + 1) y.arrays rest.packets) x []) is
+              ∙ ap (λ x. c.done ++ option_map_or (λ (y : Meaning). block (all_lines program.fields) number y.packets ++ blocks_from program (number + 1) y.arrays rest.packets) x []) is
               ∙ sym (append_assoc c.done text (blocks_from program (number + 1) o.arrays rest.packets))
               ∙ (λ i. (c.done ++ text) ++ blocks_from program (sym n i) (sym a i) rest.packets);
           ending =

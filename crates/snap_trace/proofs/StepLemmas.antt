@@ -1,11 +1,12 @@
 -- What one line makes of a run.
-use Rattle.std.proofs.Common.{Bool, ◌≡◌, ℕ, ◌+◌, ◌<◌, List, [], ◌++◌, Option, Some, None, IfSome, Err, Ok, true, false, take, refl, sym, ap, subst, ◌∙◌, inr, append-nil}
+use Rattle.std.proofs.Common.{Bool, ◌≡◌, ℕ, ◌+◌, ◌<◌, List, [], ◌++◌, Option, Some, None, IfSome, Err, Ok, true, false, take, refl, sym, ap, subst, ◌∙◌, inl, inr, append-nil}
 use Rattle.std.specs.Io.KnownBytes.{Appends}
-use Rattle.std.proofs.KnownBytes.{Appends-trans}
+use Rattle.std.proofs.KnownBytes.{Appends-nil, Appends-trans}
 use Rattle.snap_io.specs.Sinks.{AppendsPart}
 use Rattle.snap_io.proofs.SinksLemmas.{part_of_pair}
 use Rattle.snap_core.specs.declared.program.Program.{Program}
 use Rattle.snap_core.specs.declared.program.Which.TheVariants.{Bytes, Lines as ManyLines}
+use Rattle.snap_core.specs.Arrays.{zero_arrays}
 use Rattle.snap_core.specs.Cells.{arrays_of}
 use Rattle.snap_io.specs.declared.lines.Lines.{Lines}
 use Rattle.snap_io.specs.declared.lines.LinesFault.{LinesFault}
@@ -18,8 +19,10 @@ use Rattle.snap_trace.specs.declared.fault.TraceFault.TheVariants.{Read, Write, 
 use Rattle.snap_trace.specs.declared.switch.Switch.{Switch}
 use Rattle.snap_trace.specs.PacketLines.{Said, skip, inject, bad, said_by}
 use Rattle.snap_trace.specs.Spelled.{stops, refused, ended, with_said, with_next, after_last}
-use Rattle.snap_trace.specs.OneSwitch.{Ending, Meets, IsReport, blocks_of, ending_of, IsTailOf}
+use Rattle.snap_trace.specs.ByPackets.{blocks_of, ending_of, IsTailOf}
+use Rattle.snap_trace.specs.OneSwitch.{HasReport, IsReport, RunEnding, WritesReport}
 use Rattle.snap_trace.specs.Steps.{Takes, Waits, ComesTo, ComesOn, Closes, PutsEnd, left_at, refusal_of, refusal_past_last, is_told}
+use Rattle.snap_trace.proofs.SwitchLemmas.{are-blocks, is-report}
 use Rattle.snap_trace.proofs.RunLemmas.{left_at-next, left_at-last, comes-nothing, comes-ended, comes-ended-part, comes-refused, comes-undefined, comes-skip, comes-packet}
 
 -- what holds of each file that a shelf may tell holds of the one that it tells
@@ -98,7 +101,7 @@ where_both_told (Some files) P Q R f h k = f files h k
 
 -- the end of the report is put where no line is left
 pub end-put : (program : Program) (file : List ℕ) (start now then : Option (List ℕ)) (read at : ℕ) (old : Switch) (waiting : List ℕ) → ComesTo program file read at start now old
-    → left_at program file read at ≡ stops ended → (ending : Ending) → PutsEnd program old now then waiting ending → Closes program file ending start then waiting
+    → left_at program file read at ≡ stops ended → (ending : RunEnding) → PutsEnd program old now then waiting ending → Closes program file ending start then waiting
 end-put program file start now then read at old waiting came e (Ok u) put = comes-ended program file start read at now old.number (arrays_of old.store) old.text.items came then put.0 waiting e put.1 put.2
 end-put program file start now then read at old waiting came e (Err NoMemory) put = subst (λ x. AppendsPart start x (blocks_of program file)) (sym put) (comes-nothing program file start read at now old.number (arrays_of old.store) old.text.items came)
 end-put program file start now then read at old waiting came e (Err Write) put = inr (comes-ended-part program file start read at now old.number (arrays_of old.store) old.text.items came then put.0 e put.1 put.2)
@@ -126,22 +129,24 @@ module _ (program : Program) (file : List ℕ) (start now : Option (List ℕ)) (
   past_last-fault lines LongLine is = too_many (last long_line is)
   past_last-fault lines ManyBytes is = too_many (last many_bytes is)
 
-  pub past_last-end : next_in 67108864 65536 file at ≡ no_line → (then : Option (List ℕ)) (waiting : List ℕ) (ending : Ending) → PutsEnd program old now then waiting ending → Closes program file ending start then waiting
+  pub past_last-end : next_in 67108864 65536 file at ≡ no_line → (then : Option (List ℕ)) (waiting : List ℕ) (ending : RunEnding) → PutsEnd program old now then waiting ending → Closes program file ending start then waiting
   past_last-end is then waiting ending put = end-put program file start now then 1000000 at old waiting came (last no_line is) ending put
 
 -- Where the run has come to its end, what waits is written.
-pub meets-written : (program : Program) (file : List ℕ) (start now then : Option (List ℕ)) (waiting now_waiting : List ℕ) (ending : Ending) → is_told ending ≡ true
-    → Closes program file ending start now waiting → ((text : List ℕ) → Waits start now text waiting → Waits start then text now_waiting) → now_waiting ≡ [] → Meets program file ending start then
+pub meets-written : (program : Program) (file : List ℕ) (start now then : Option (List ℕ)) (waiting now_waiting : List ℕ) (ending : RunEnding) → is_told ending ≡ true
+    → Closes program file ending start now waiting → ((text : List ℕ) → Waits start now text waiting → Waits start then text now_waiting) → now_waiting ≡ [] → WritesReport program file ending start then
 meets-written program file start now then waiting now_waiting ending told closed keeps none = by_ending ending told closed
   where
     written : (text : List ℕ) → Waits start now text waiting → Appends start then text
     written text w = let done = keeps text w in subst (Appends start then) (sym (done.whole ∙ ap (λ l. done.front ++ l) none ∙ append-nil done.front)) done.taken
 
-    whole : (e : Ending) → (e ≡ ending_of program file) × ((tail : List ℕ) × IsTailOf program file tail × Waits start now (blocks_of program file ++ tail) waiting)
-        → (e ≡ ending_of program file) × ((text : List ℕ) × IsReport program file text × Appends start then text)
-    whole e c = (c.0, (blocks_of program file ++ c.1.0, (c.1.0, c.1.1, refl), written (blocks_of program file ++ c.1.0) c.1.2))
+    whole : (e : RunEnding) → (e ≡ ending_of program file) × ((tail : List ℕ) × IsTailOf program file tail × Waits start now (blocks_of program file ++ tail) waiting)
+        → (text : List ℕ) × IsReport program file e text × Appends start then text
+    whole e c =
+        let text = blocks_of program file ++ c.1.0 in
+        (text, subst (λ x. IsReport program file x text) (sym c.0) (is-report program file c.1.0 c.1.1), written text c.1.2)
 
-    by_ending : (e : Ending) → is_told e ≡ true → Closes program file e start now waiting → Meets program file e start then
+    by_ending : (e : RunEnding) → is_told e ≡ true → Closes program file e start now waiting → WritesReport program file e start then
     by_ending (Ok u) t c = whole (Ok u) c
     by_ending (Err Read) t c = absurd (cc)
     by_ending (Err Write) t c = absurd (cc)
@@ -150,30 +155,36 @@ meets-written program file start now then waiting now_waiting ending told closed
     by_ending (Err (Packets line)) t c = whole (Err (Packets line)) c
     by_ending (Err (Undefined packet)) t c = whole (Err (Undefined packet)) c
 
+-- Where memory is short before anything is read, nothing is written.
+pub writes-nothing : (program : Program) (file : List ℕ) (out : Option (List ℕ)) → WritesReport program file (Err NoMemory) out out
+writes-nothing program file out = ([], (0, record { packets = []; arrays = zero_arrays }, refl, refl), (0, Appends-nil out))
+
 -- Where a device failed or memory was short, nothing more is written.
-pub meets-short : (program : Program) (file : List ℕ) (start now : Option (List ℕ)) (waiting : List ℕ) (ending : Ending) → is_told ending ≡ false
-    → Closes program file ending start now waiting → Meets program file ending start now
+pub meets-short : (program : Program) (file : List ℕ) (start now : Option (List ℕ)) (waiting : List ℕ) (ending : RunEnding) → is_told ending ≡ false
+    → Closes program file ending start now waiting → WritesReport program file ending start now
 meets-short program file start now waiting (Ok u) t c = absurd (cc)
-meets-short program file start now waiting (Err Read) t c = c
-meets-short program file start now waiting (Err Write) t c = c
-meets-short program file start now waiting (Err NoMemory) t c = c
+meets-short program file start now waiting (Err Read) t c = (blocks_of program file, are-blocks program file, c)
+meets-short program file start now waiting (Err Write) t (inl c) = inl (blocks_of program file, are-blocks program file, c)
+meets-short program file start now waiting (Err Write) t (inr c) =
+    inr (c.0, subst (HasReport program file) (sym c.1.2) (ending_of program file, is-report program file c.1.0 c.1.1), c.2)
+meets-short program file start now waiting (Err NoMemory) t c = (blocks_of program file, are-blocks program file, c)
 meets-short program file start now waiting (Err (Limit which count)) t c = absurd (cc)
 meets-short program file start now waiting (Err (Packets line)) t c = absurd (cc)
 meets-short program file start now waiting (Err (Undefined packet)) t c = absurd (cc)
 
 -- Where the sink fails at the end, some first bytes of the whole text went out.
-pub meets-failed : (program : Program) (file : List ℕ) (start now then : Option (List ℕ)) (waiting : List ℕ) (ending : Ending) → is_told ending ≡ true
-    → Closes program file ending start now waiting → AppendsPart now then waiting → Meets program file (Err Write) start then
+pub meets-failed : (program : Program) (file : List ℕ) (start now then : Option (List ℕ)) (waiting : List ℕ) (ending : RunEnding) → is_told ending ≡ true
+    → Closes program file ending start now waiting → AppendsPart now then waiting → WritesReport program file (Err Write) start then
 meets-failed program file start now then waiting ending told closed part = by_ending ending told closed
   where
-    some : (e : Ending) → (e ≡ ending_of program file) × ((tail : List ℕ) × IsTailOf program file tail × Waits start now (blocks_of program file ++ tail) waiting) → Meets program file (Err Write) start then
+    some : (e : RunEnding) → (e ≡ ending_of program file) × ((tail : List ℕ) × IsTailOf program file tail × Waits start now (blocks_of program file ++ tail) waiting) → WritesReport program file (Err Write) start then
     some e c =
         let text = blocks_of program file ++ c.1.0 in
         let w = c.1.2 in
         let cut : text ≡ w.front ++ (waiting ++ []) = w.whole ∙ ap (λ l. w.front ++ l) (sym (append-nil waiting)) in
-        inr (text, (c.1.0, c.1.1, refl), part_of_pair start then w.front waiting [] text cut part.0 (Appends-trans start now then w.front (take part.0 waiting) w.taken part.1))
+        inr (text, (ending_of program file, is-report program file c.1.0 c.1.1), part_of_pair start then w.front waiting [] text cut part.0 (Appends-trans start now then w.front (take part.0 waiting) w.taken part.1))
 
-    by_ending : (e : Ending) → is_told e ≡ true → Closes program file e start now waiting → Meets program file (Err Write) start then
+    by_ending : (e : RunEnding) → is_told e ≡ true → Closes program file e start now waiting → WritesReport program file (Err Write) start then
     by_ending (Ok u) t c = some (Ok u) c
     by_ending (Err Read) t c = absurd (cc)
     by_ending (Err Write) t c = absurd (cc)
@@ -183,7 +194,7 @@ meets-failed program file start now then waiting ending told closed part = by_en
     by_ending (Err (Undefined packet)) t c = some (Err (Undefined packet)) c
 
 -- where a step finds no line, the end of the report that is put closes the run
-pub run-end : (program : Program) (told told' : Option Files) (name name' : List ℕ) (start now then last : Option (List ℕ)) (read at at' : ℕ) (old mid : Switch) (waiting : List ℕ) (b : Bool) (ending : Ending)
+pub run-end : (program : Program) (told told' : Option Files) (name name' : List ℕ) (start now then last : Option (List ℕ)) (read at at' : ℕ) (old mid : Switch) (waiting : List ℕ) (b : Bool) (ending : RunEnding)
     → read < 1000000 → told' ≡ told → name' ≡ name → b ≡ false
     → IfSome told (λ files. ComesTo program (file_of files name) read at start now old)
     → IfSome told' (λ files. (from : Option (List ℕ)) → ComesTo program (file_of files name') read at from now old → ComesOn program (file_of files name') read at' from then mid (Ok b))

@@ -1,3 +1,4 @@
+pub mod ByPackets
 pub mod Drafts
 pub mod OneSwitch
 pub mod PacketLines

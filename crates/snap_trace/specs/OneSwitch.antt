@@ -1,65 +1,60 @@
 -- The report of one big switch over the packets that a file spells.
-use Rattle.std.specs.Prelude.{◌≡◌, ◌⊎◌, ℕ, ◌+◌, List, [], ◌∷◌, ◌++◌, Result, Ok, Err, MatchOption}
+use Rattle.std.specs.Prelude.{◌≡◌, ◌⊎◌, ℕ, ◌+◌, List, ◌++◌, take, Result, Ok, Err, Some, None}
 use Rattle.std.specs.declared.option.Option.{Option}
-use Rattle.std.specs.Option.{option_map_or}
 use Rattle.std.specs.Io.KnownBytes.{Appends}
+use Rattle.snap_core.specs.declared.program.Field.{Field}
 use Rattle.snap_core.specs.declared.program.Program.{Program}
 use Rattle.snap_core.specs.declared.place.Entry.{Entry}
-use Rattle.snap_core.specs.Arrays.{Arrays, zero_arrays}
+use Rattle.snap_core.specs.Arrays.{zero_arrays}
 use Rattle.snap_core.specs.Listing.{IsListing}
-use Rattle.snap_core.specs.Meaning.{eval}
-use Rattle.snap_io.specs.Sinks.{AppendsPart}
+use Rattle.snap_core.specs.Switch.{Switched, one_big_switch}
+use Rattle.snap_io.specs.Sinks.{AppendsSome}
 use Rattle.snap_trace.specs.declared.fault.TraceFault.{TraceFault}
 use Rattle.snap_trace.specs.declared.fault.TraceFault.TheVariants.{Read, Write, Undefined, NoMemory}
-use Rattle.snap_trace.specs.Reports.{block, end_text}
+use Rattle.snap_trace.specs.Reports.{all_lines, blocks, end_text}
 use Rattle.snap_trace.specs.Spelled.{Stop, ended, refused, spelled}
 
 -- how a run ends
-abbrev pub Ending : Type 0
-Ending = Result (Unit {0}) TraceFault
+abbrev pub RunEnding : Type 0
+RunEnding = Result (Unit {0}) TraceFault
 
--- Packets are evaluated one after another from some arrays, the first of which has this number: their blocks, up to a
--- packet on which evaluation is undefined.
-abbrev pub blocks_from : Program → ℕ → Arrays → List (List ℕ) → List ℕ
-blocks_from program number m [] = []
-blocks_from program number m (packet ∷ packets) =
-    option_map_or (λ o. block program.fields number o.packets ++ blocks_from program (number + 1) o.arrays packets) (eval program.body m packet) []
+-- the blocks of the sets of packets that one big switch made
+abbrev pub made_text : List Field → Switched → List ℕ
+made_text fields made = blocks (all_lines fields) 1 made.packets
 
--- how the run ends: undefined at a packet, or as reading stopped behind the last
-abbrev pub ending_from : Program → ℕ → Arrays → List (List ℕ) → Stop → Ending
-ending_from program number m [] ended = Ok tt
-ending_from program number m [] (refused fault) = Err fault
-ending_from program number m (packet ∷ packets) stop =
-    option_map_or (λ o. ending_from program (number + 1) o.arrays packets stop) (eval program.body m packet) (Err (Undefined number))
+-- One big switch made this of all packets that were read. The run ends as reading did; where that came to the file's end,
+-- the last arrays stand behind the blocks.
+abbrev pub EndsAsRead : List Field → List (List ℕ) → Stop → Switched → RunEnding → List ℕ → Type 0
+EndsAsRead fields names ended made ending text =
+    (ending ≡ Ok tt) × ((entries : List Entry) × IsListing made.arrays entries × (text ≡ made_text fields made ++ end_text names entries))
+EndsAsRead fields names (refused fault) made ending text = (ending ≡ Err fault) × (text ≡ made_text fields made)
 
--- what stands behind the blocks: where the whole file was read and evaluated, the last arrays' places that aren't 0
-abbrev pub IsTailFrom : Program → Arrays → List (List ℕ) → Stop → List ℕ → Type 0
-IsTailFrom program m [] ended tail = (entries : List Entry) × IsListing m entries × (tail ≡ end_text program.vars entries)
-IsTailFrom program m [] (refused fault) tail = tail ≡ []
-IsTailFrom program m (packet ∷ packets) stop tail = MatchOption (eval program.body m packet) (tail ≡ []) (λ o. IsTailFrom program o.arrays packets stop tail)
+-- One big switch made this of so many first packets, and on one more it is undefined.
+pub record IsUndefinedAfter (program : Program) (packets : List (List ℕ)) (before : ℕ) (made : Switched) : Type 0 where
+  pub some : one_big_switch program.body zero_arrays (take before packets) ≡ Some made
+  pub none : one_big_switch program.body zero_arrays (take (before + 1) packets) ≡ None
 
--- the same of a file's packets, from arrays that are 0 everywhere
-abbrev pub blocks_of : Program → (file : List ℕ) → List ℕ
-blocks_of program file = blocks_from program 1 zero_arrays (spelled program.fields file).packets
+-- How a run over a file ends, and its report. One big switch is defined on the packets that the file spells, or it is
+-- undefined first at one of them, and the blocks of those before are the report.
+abbrev pub IsReport : Program → (file : List ℕ) → RunEnding → List ℕ → Type 0
+IsReport program file ending text =
+    let read = spelled program.fields file in
+    ((made : Switched) × (one_big_switch program.body zero_arrays read.packets ≡ Some made) × EndsAsRead program.fields program.vars read.stop made ending text)
+    ⊎ ((before : ℕ) × (made : Switched) × IsUndefinedAfter program read.packets before made × (ending ≡ Err (Undefined (before + 1))) × (text ≡ made_text program.fields made))
 
-abbrev pub ending_of : Program → (file : List ℕ) → Ending
-ending_of program file = ending_from program 1 zero_arrays (spelled program.fields file).packets (spelled program.fields file).stop
+-- the blocks of some first packets that the file spells, on which one big switch is defined
+abbrev pub AreBlocks : Program → (file : List ℕ) → List ℕ → Type 0
+AreBlocks program file text =
+    (count : ℕ) × (made : Switched) × (one_big_switch program.body zero_arrays (take count (spelled program.fields file).packets) ≡ Some made) × (text ≡ made_text program.fields made)
 
-abbrev pub IsTailOf : Program → (file : List ℕ) → List ℕ → Type 0
-IsTailOf program file tail = IsTailFrom program zero_arrays (spelled program.fields file).packets (spelled program.fields file).stop tail
+-- the file has this report
+abbrev pub HasReport : Program → (file : List ℕ) → List ℕ → Type 0
+HasReport program file text = (ending : RunEnding) × IsReport program file ending text
 
--- the whole text that goes out
-abbrev pub IsReport : Program → (file : List ℕ) → List ℕ → Type 0
-IsReport program file text = (tail : List ℕ) × IsTailOf program file tail × (text ≡ blocks_of program file ++ tail)
-
--- some first bytes of the whole text went out
-abbrev pub AppendsSome : Program → (file : List ℕ) → Option (List ℕ) → Option (List ℕ) → Type 0
-AppendsSome program file old new = (text : List ℕ) × IsReport program file text × AppendsPart old new text
-
--- The run ended as the file deserves, and its whole text went out. Or a device failed or memory was short, and some
--- first bytes of the blocks have gone out; where the sink failed, perhaps of what stands behind them too.
-abbrev pub Meets : Program → (file : List ℕ) → Ending → Option (List ℕ) → Option (List ℕ) → Type 0
-Meets program file (Err Read) old new = AppendsPart old new (blocks_of program file)
-Meets program file (Err NoMemory) old new = AppendsPart old new (blocks_of program file)
-Meets program file (Err Write) old new = AppendsPart old new (blocks_of program file) ⊎ AppendsSome program file old new
-Meets program file ending old new = (ending ≡ ending_of program file) × ((text : List ℕ) × IsReport program file text × Appends old new text)
+-- The run ended as the file deserves, and its whole report went out. Or a device failed or memory was short, and some
+-- first bytes of blocks have gone out; where the sink failed, perhaps of what stands behind them too.
+abbrev pub WritesReport : Program → (file : List ℕ) → RunEnding → Option (List ℕ) → Option (List ℕ) → Type 0
+WritesReport program file (Err Read) old new = AppendsSome (AreBlocks program file) old new
+WritesReport program file (Err NoMemory) old new = AppendsSome (AreBlocks program file) old new
+WritesReport program file (Err Write) old new = AppendsSome (AreBlocks program file) old new ⊎ AppendsSome (HasReport program file) old new
+WritesReport program file ending old new = (text : List ℕ) × IsReport program file ending text × Appends old new text

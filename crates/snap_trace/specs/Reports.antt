@@ -38,9 +38,22 @@ fields_text c (f ∷ fs) packet = field_text f c packet ++ fields_text (c + widt
 abbrev pub out_line : List Field → List ℕ → List ℕ
 out_line fields packet = codes "out" ++ fields_text 0 fields packet ++ codes "\n"
 
--- the block of the packet with this number: a line for each packet of its set, in rising order
-abbrev pub block : List Field → (number : ℕ) → PacketSet → List ℕ
-block fields number set = codes "packet " ++ decimal number ++ codes "\n" ++ flat_map (out_line fields) (listed set)
+-- a line for each of these packets
+abbrev pub out_lines : List Field → List (List ℕ) → List ℕ
+out_lines fields packets = flat_map (out_line fields) packets
+
+-- a set of packets shown whole, in rising order
+abbrev pub all_lines : List Field → PacketSet → List ℕ
+all_lines fields set = out_lines fields (listed set)
+
+-- the block of the packet with this number: the set of packets that it became, shown by these lines
+abbrev pub block : (shown : PacketSet → List ℕ) → (number : ℕ) → PacketSet → List ℕ
+block shown number set = codes "packet " ++ decimal number ++ codes "\n" ++ shown set
+
+-- the blocks of packets one after another, of which the first has this number
+abbrev pub blocks : (shown : PacketSet → List ℕ) → (number : ℕ) → List PacketSet → List ℕ
+blocks shown number [] = []
+blocks shown number (set ∷ sets) = block shown number set ++ blocks shown (number + 1) sets
 
 abbrev pub index_text : List ℕ → List ℕ
 index_text index = flat_map (λ n. codes " " ++ decimal n) index

@@ -16,9 +16,10 @@ use Rattle.snap_io.specs.Sinks.{AppendsPart}
 use Rattle.snap_trace.specs.declared.fault.TraceFault.{TraceFault}
 use Rattle.snap_trace.specs.declared.fault.TraceFault.TheVariants.{Read, Write, Limit, Packets, Undefined, NoMemory}
 use Rattle.snap_trace.specs.declared.switch.Switch.{Switch}
-use Rattle.snap_trace.specs.OneSwitch.{AppendsSome, Ending, blocks_from, blocks_of, ending_from, ending_of, IsTailFrom, IsTailOf}
+use Rattle.snap_trace.specs.ByPackets.{AppendsRunText, blocks_from, blocks_of, ending_from, ending_of, IsTailFrom, IsTailOf}
+use Rattle.snap_trace.specs.OneSwitch.{RunEnding}
 use Rattle.snap_trace.specs.PacketLines.{Said, skip, inject, bad}
-use Rattle.snap_trace.specs.Reports.{block, end_text}
+use Rattle.snap_trace.specs.Reports.{all_lines, block, end_text}
 use Rattle.snap_trace.specs.Spelled.{Spelled, spelled_from}
 
 -- the packet was evaluated, and its block stands behind the text
@@ -26,7 +27,7 @@ pub record Evaluates (program : Program) (packet : List ℕ) (old new : Switch) 
   pub outcome : Meaning
   pub is : eval program.body (arrays_of old.store) packet ≡ Some outcome
   pub arrays : arrays_of new.store ≡ outcome.arrays
-  pub text : new.text.items ≡ old.text.items ++ block program.fields old.number outcome.packets
+  pub text : new.text.items ≡ old.text.items ++ block (all_lines program.fields) old.number outcome.packets
   pub number : new.number ≡ old.number + 1
 
 pub record IsSame (old new : Switch) : Type 0 where
@@ -35,14 +36,14 @@ pub record IsSame (old new : Switch) : Type 0 where
   pub number : new.number ≡ old.number
 
 -- a packet was taken
-abbrev pub TakesPacket : Program → List ℕ → Switch → Switch → Ending → Type 0
+abbrev pub TakesPacket : Program → List ℕ → Switch → Switch → RunEnding → Type 0
 TakesPacket program packet old new (Ok u) = Evaluates program packet old new
 TakesPacket program packet old new (Err (Undefined n)) = (n ≡ old.number) × (eval program.body (arrays_of old.store) packet ≡ None) × (new.text.items ≡ old.text.items)
 TakesPacket program packet old new (Err NoMemory) = Unit {0}
 TakesPacket program packet old new (Err fault) = ⊥
 
 -- a line of this number was taken, which says this
-abbrev pub Takes : Program → ℕ → Said → Switch → Switch → Ending → Type 0
+abbrev pub Takes : Program → ℕ → Said → Switch → Switch → RunEnding → Type 0
 Takes program line skip old new (Ok u) = IsSame old new
 Takes program line (inject packet) old new (Err (Packets l)) = ⊥
 Takes program line (inject packet) old new result = TakesPacket program packet old new result
@@ -80,10 +81,10 @@ ComesTo program file read at old new switch = Comes program file read at old new
 
 -- The run has ended, and what is left of its text waits. Or a device failed or memory was short; where the sink failed,
 -- perhaps when some of what stands behind the blocks had gone out.
-abbrev pub Closes : Program → (file : List ℕ) → Ending → Option (List ℕ) → Option (List ℕ) → List ℕ → Type 0
+abbrev pub Closes : Program → (file : List ℕ) → RunEnding → Option (List ℕ) → Option (List ℕ) → List ℕ → Type 0
 Closes program file (Err Read) old new waiting = AppendsPart old new (blocks_of program file)
 Closes program file (Err NoMemory) old new waiting = AppendsPart old new (blocks_of program file)
-Closes program file (Err Write) old new waiting = AppendsPart old new (blocks_of program file) ⊎ AppendsSome program file old new
+Closes program file (Err Write) old new waiting = AppendsPart old new (blocks_of program file) ⊎ AppendsRunText program file old new
 Closes program file ending old new waiting = (ending ≡ ending_of program file) × ((tail : List ℕ) × IsTailOf program file tail × Waits old new (blocks_of program file ++ tail) waiting)
 
 -- The run has come one line on, or to the last line's end, or it has ended.
@@ -93,7 +94,7 @@ ComesOn program file read at old new switch (Ok false) = ComesTo program file re
 ComesOn program file read at old new switch (Err fault) = Closes program file (Err fault) old new switch.text.items
 
 -- the end of the report was put behind what waited
-abbrev pub PutsEnd : Program → (switch : Switch) → (old new : Option (List ℕ)) → (waiting : List ℕ) → Ending → Type 0
+abbrev pub PutsEnd : Program → (switch : Switch) → (old new : Option (List ℕ)) → (waiting : List ℕ) → RunEnding → Type 0
 PutsEnd program switch old new waiting (Ok u) = (entries : List Entry) × IsListing (arrays_of switch.store) entries × Waits old new (switch.text.items ++ end_text program.vars entries) waiting
 PutsEnd program switch old new waiting (Err Write) = (entries : List Entry) × IsListing (arrays_of switch.store) entries × AppendsPart old new (switch.text.items ++ end_text program.vars entries)
 PutsEnd program switch old new waiting (Err NoMemory) = new ≡ old
@@ -112,7 +113,7 @@ refusal_past_last LongLine = Limit Lines 1000001
 refusal_past_last ManyBytes = Limit Lines 1000001
 
 -- the run has come to its end, with no device's failure and no want of memory
-abbrev pub is_told : Ending → Bool
+abbrev pub is_told : RunEnding → Bool
 is_told (Err Read) = false
 is_told (Err Write) = false
 is_told (Err NoMemory) = false

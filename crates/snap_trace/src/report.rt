@@ -4,7 +4,7 @@ ghost use Rattle.std.specs.Prelude.{◌≡◌, ◌<◌, ◌≤◌, ◌+◌, ◌+
 ghost use Rattle.snap_core.specs.Fields.{PrefixFits, count, width};
 ghost use Rattle.snap_core.specs.Packets.{AllLong};
 ghost use Rattle.snap_core.specs.Runs.{set_in};
-ghost use Rattle.snap_trace.specs.Reports.{address_text, block, field_text, out_line, split_text, value_text};
+ghost use Rattle.snap_trace.specs.Reports.{address_text, all_lines, block, field_text, out_line, split_text, value_text};
 
 use itoa::Buffer;
 use snap_core::NoMemory;
@@ -133,7 +133,7 @@ fn put_block(
     packets: &Packets,
 ) -> Result<(), NoMemory>
     requires { AllLong (count fields.now) packets.now }
-    ensures { OnOk result (out.new.items ≡ out.old.items ++ block fields.now number packets.now) }
+    ensures { OnOk result (out.new.items ≡ out.old.items ++ block (all_lines fields.now) number packets.now) }
 {
     put_head(out, number)?;
     for packet in packets.list() {
@@ -160,7 +160,7 @@ pub(crate) fn put_copies(
     copies: Copies,
 ) -> Result<(), NoMemory>
     requires { AllLong (count fields.now) (set_in copies) }
-    ensures { OnOk result (out.new.items ≡ out.old.items ++ block fields.now number (set_in copies)) }
+    ensures { OnOk result (out.new.items ≡ out.old.items ++ block (all_lines fields.now) number (set_in copies)) }
 {
     match copies {
         Copies::One(packet) => put_one(out, fields, number, &packet),

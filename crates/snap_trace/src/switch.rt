@@ -8,11 +8,11 @@ ghost use Rattle.snap_core.specs.Cells.{arrays_of};
 ghost use Rattle.snap_core.specs.Fields.{count};
 ghost use Rattle.snap_core.specs.Programs.{IsBounded};
 ghost use Rattle.snap_core.specs.declared.program.Program.{Program as ProgramData};
-ghost use Rattle.snap_io.specs.Causes.{HasCause, Rose};
+ghost use Rattle.snap_io.specs.Causes.{HasCause, NoneFell, Rose};
 ghost use Rattle.snap_io.specs.Files.{file_of};
 ghost use Rattle.snap_io.specs.LineReaders.{AgreesWith, lines_given, lines_limit, lines_most, lines_name};
 ghost use Rattle.snap_io.specs.Sinks.{AppendsPart};
-ghost use Rattle.snap_trace.specs.OneSwitch.{Meets};
+ghost use Rattle.snap_trace.specs.OneSwitch.{WritesReport};
 ghost use Rattle.snap_trace.specs.PacketLines.{said_by};
 ghost use Rattle.snap_trace.specs.Steps.{Closes, ComesOn, ComesTo, PutsEnd, Takes, is_told, refusal_of, refusal_past_last, TakesPacket, Waits};
 
@@ -164,10 +164,10 @@ impl Switch {
         ensures most { lines_most lines.new ≡ lines_most lines.old }
         ensures name { lines_name lines.new ≡ lines_name lines.old }
         ensures agrees { AgreesWith (S.files shelf.new) lines.new }
-        ensures read { IsErrOf result TraceFault.Read → Rose (S.faults shelf.old) (S.faults shelf.new) }
+        ensures read { IsErrOf result TraceFault.Read → Rose (S.faults shelf.old (lines_name lines.old)) (S.faults shelf.new (lines_name lines.old)) }
         ensures write { IsErrOf result TraceFault.Write → Rose (K.faults sink.old) (K.faults sink.new) }
         ensures files { S.files shelf.new ≡ S.files shelf.old }
-        ensures later { S.faults shelf.old ≤ S.faults shelf.new }
+        ensures later { NoneFell (S.faults shelf.old) (S.faults shelf.new) }
         ensures sink_later { K.faults sink.old ≤ K.faults sink.new }
     {
         self.before_read(lines, sink)?;
@@ -195,10 +195,10 @@ impl Switch {
         ensures closes { IfSome (S.files shelf.old) (λ files. (start : Option (List ℕ)) →
             ComesTo program.now (file_of files (lines_name lines.old)) MOST_LINES (lines_given lines.old) start (K.taken sink.old) self.old →
             Closes program.now (file_of files (lines_name lines.old)) result start (K.taken sink.new) self.new.text.items) }
-        ensures read { IsErrOf result TraceFault.Read → Rose (S.faults shelf.old) (S.faults shelf.new) }
+        ensures read { IsErrOf result TraceFault.Read → Rose (S.faults shelf.old (lines_name lines.old)) (S.faults shelf.new (lines_name lines.old)) }
         ensures write { IsErrOf result TraceFault.Write → Rose (K.faults sink.old) (K.faults sink.new) }
         ensures files { S.files shelf.new ≡ S.files shelf.old }
-        ensures later { S.faults shelf.old ≤ S.faults shelf.new }
+        ensures later { NoneFell (S.faults shelf.old) (S.faults shelf.new) }
         ensures sink_later { K.faults sink.old ≤ K.faults sink.new }
     {
         self.before_read(lines, sink)?;
@@ -229,10 +229,10 @@ impl Switch {
         requires agrees { AgreesWith (S.files shelf.old) lines.old }
         ensures closes { IfSome (S.files shelf.old) (λ files.
             Closes program.now (file_of files (lines_name lines.old)) result (K.taken sink.old) (K.taken sink.new) self.new.text.items) }
-        ensures read { IsErrOf result TraceFault.Read → Rose (S.faults shelf.old) (S.faults shelf.new) }
+        ensures read { IsErrOf result TraceFault.Read → Rose (S.faults shelf.old (lines_name lines.old)) (S.faults shelf.new (lines_name lines.old)) }
         ensures write { IsErrOf result TraceFault.Write → Rose (K.faults sink.old) (K.faults sink.new) }
         ensures files { S.files shelf.new ≡ S.files shelf.old }
-        ensures later { S.faults shelf.old ≤ S.faults shelf.new }
+        ensures later { NoneFell (S.faults shelf.old) (S.faults shelf.new) }
         ensures sink_later { K.faults sink.old ≤ K.faults sink.new }
     {
         for read in 0..MOST_LINES {
@@ -261,7 +261,7 @@ impl Switch {
         ended: Result<(), TraceFault>,
     ) -> Result<(), TraceFault>
         ensures report { (program : ProgramData) (file : List ℕ) (start : Option (List ℕ)) →
-            Closes program file ended start (K.taken sink.old) self.old.text.items → Meets program file result start (K.taken sink.new) }
+            Closes program file ended start (K.taken sink.old) self.old.text.items → WritesReport program file result start (K.taken sink.new) }
         ensures read { IsErrOf result TraceFault.Read → IsErrOf ended TraceFault.Read }
         ensures write { IsErrOf result TraceFault.Write → IsErrOf ended TraceFault.Write ⊎ Rose (K.faults sink.old) (K.faults sink.new) }
         ensures later { K.faults sink.old ≤ K.faults sink.new }
@@ -329,8 +329,8 @@ fn refusal(fault: LinesFault, line: u64) -> TraceFault
 ///
 /// `Packets` at the first line that isn't in form or has more than `MOST_LINE` bytes; `Limit` where the file has more
 /// than `MOST_LINES` lines or `MOST_BYTES` bytes; `Undefined` at the first packet on which evaluation is undefined: the
-/// blocks of the packets before have gone out. `Read` and `Write` only where the shelf's and the sink's count of faults
-/// rose, `NoMemory` for want of memory: some first bytes of the report have gone out.
+/// blocks of the packets before have gone out. `Read` only where the shelf's count of faults at the packets file rose,
+/// `Write` only where the sink's rose, `NoMemory` for want of memory: some first bytes of the report have gone out.
 pub fn one_switch<S: Shelf, K: Sink>(
     alloc: Global,
     shelf: &mut S,
@@ -340,11 +340,11 @@ pub fn one_switch<S: Shelf, K: Sink>(
 ) -> Result<(), TraceFault>
     requires { IsBounded program.now }
     ensures report { IfSome (S.files shelf.old) (λ files.
-        Meets program.now (file_of files packets.now) result (K.taken sink.old) (K.taken sink.new)) }
-    ensures read { IsErrOf result TraceFault.Read → Rose (S.faults shelf.old) (S.faults shelf.new) }
+        WritesReport program.now (file_of files packets.now) result (K.taken sink.old) (K.taken sink.new)) }
+    ensures read { IsErrOf result TraceFault.Read → Rose (S.faults shelf.old packets.now) (S.faults shelf.new packets.now) }
     ensures write { IsErrOf result TraceFault.Write → Rose (K.faults sink.old) (K.faults sink.new) }
     ensures files { S.files shelf.new ≡ S.files shelf.old }
-    ensures later { S.faults shelf.old ≤ S.faults shelf.new }
+    ensures later { NoneFell (S.faults shelf.old) (S.faults shelf.new) }
     ensures sink_later { K.faults sink.old ≤ K.faults sink.new }
 {
     let mut lines = Lines::new(alloc, packets, MOST_BYTES, MOST_LINE)?;

@@ -11,7 +11,7 @@ fn obs_answers_by_its_words_and_files(rt: HostRuntime) -> Result<(), Fail> {
     let schedule: &[&[u8]] = &[b"obs", b"p", b"q", b"--schedule=x"];
     let two_ports: &[u8] =
         b"if inport = 1 then outport <- 2 else if inport = 2 then outport <- 1 else drop";
-    let cases: [(&[&[u8]], &[u8], &[u8], u8, &[u8], &[u8]); 15] = [
+    let cases: [(&[&[u8]], &[u8], &[u8], u8, &[u8], &[u8]); 16] = [
         (
             obs,
             two_ports,
@@ -83,6 +83,14 @@ fn obs_answers_by_its_words_and_files(rt: HostRuntime) -> Result<(), Fail> {
             5,
             b"",
             b"snapc: 1:30: wrong kind\n",
+        ),
+        (
+            absent,
+            b"outport <-",
+            b"",
+            4,
+            b"",
+            b"snapc: 1:11: unexpected token\n",
         ),
         (
             absent,

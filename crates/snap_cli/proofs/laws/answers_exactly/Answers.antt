@@ -35,14 +35,14 @@ module _ (one_ending : DeservesOneEnding) (one_text : DeservesOneText) where
     no_other_text = λ t other. one_text files command t text other k;
   }
 
-  exactly : (files : Files) (words : List (List ℕ)) (command : Command) (status : ℕ) (out_old out_new : Option (List ℕ)) (err_before err_now : ℕ) (err_old err_new : Option (List ℕ))
-      (a : Answers words (Some files) status out_old out_new err_before err_now err_old err_new) → IsFailure (status_of a.ending) ⊎ IsWhole files command a.ending out_old out_new
+  exactly : (files : Files) (words : List (List ℕ)) (command : Command) (status : ℕ) (shelf_before shelf_now : List ℕ → ℕ) (out_before out_now : ℕ) (out_old out_new : Option (List ℕ)) (err_before err_now : ℕ) (err_old err_new : Option (List ℕ))
+      (a : Answers words (Some files) status shelf_before shelf_now out_before out_now out_old out_new err_before err_now err_old err_new) → IsFailure (status_of a.ending) ⊎ IsWhole files command a.ending out_old out_new
       → IsFailure status ⊎ ((ending : Ending) × (text : List ℕ) × IsDue files command ending text × IsExact ending text status out_old out_new err_before err_now err_old err_new)
-  exactly files words command status out_old out_new err_before err_now err_old err_new a (inl failed) = inl (subst IsFailure (sym a.status_is) failed)
-  exactly files words command status out_old out_new err_before err_now err_old err_new a (inr whole) =
+  exactly files words command status shelf_before shelf_now out_before out_now out_old out_new err_before err_now err_old err_new a (inl failed) = inl (subst IsFailure (sym a.status_is) failed)
+  exactly files words command status shelf_before shelf_now out_before out_now out_old out_new err_before err_now err_old err_new a (inr whole) =
       inr (a.ending, whole.1.0, due files command a.ending whole.1.0 whole.0 whole.1.1, record { status_is = a.status_is; out = whole.1.2; err = a.err })
 
 pub returns : goal.returns
-returns c = λ words files command status out_old out_new err_before err_now err_old err_new is a.
-    exactly c.deserves_once.ensures.ending c.deserves_once.ensures.text files words command status out_old out_new err_before err_now err_old err_new a
+returns c = λ words files command status shelf_before shelf_now out_before out_now out_old out_new err_before err_now err_old err_new is a.
+    exactly c.deserves_once.ensures.ending c.deserves_once.ensures.text files words command status shelf_before shelf_now out_before out_now out_old out_new err_before err_now err_old err_new a
     (met files command a.ending out_old out_new (meets files words command a.ending out_old out_new is a.out))

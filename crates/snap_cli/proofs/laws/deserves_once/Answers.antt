@@ -11,10 +11,10 @@ use Rattle.snap_cli.proofs.ObsOnce.{ends_obs_once, obs_text_once}
 use Rattle.snap_cli.proofs.RoutesOnce.{ends_routes_once, routes_text_once}
 use Rattle.snap_cli.proofs.laws.deserves_once.Goals as goal
 
-ends_once : SpellsOneProgram → (files : Files) (command : Command) (a b : Ending) → Ends files command a → Ends files command b → a ≡ b
-ends_once spells files (obs program packets) a b h k = ends_obs_once spells files program packets a b h k
-ends_once spells files (deps program) a b h k = ends_deps_once spells files program a b h k
-ends_once spells files (routes topology) a b h k = ends_routes_once files topology a b h k
+ends_once : SpellsOneProgram → HasOneListing → (files : Files) (command : Command) (a b : Ending) → Ends files command a → Ends files command b → a ≡ b
+ends_once spells lists files (obs program packets) a b h k = ends_obs_once spells lists files program packets a b h k
+ends_once spells lists files (deps program) a b h k = ends_deps_once spells files program a b h k
+ends_once spells lists files (routes topology) a b h k = ends_routes_once files topology a b h k
 
 text_once : SpellsOneProgram → HasOneListing → HasOneText → (files : Files) (command : Command) (a b : List ℕ) → IsText files command a → IsText files command b → a ≡ b
 text_once spells lists one files (obs program packets) a b h k = obs_text_once spells lists files program packets a b h k
@@ -23,6 +23,6 @@ text_once spells lists one files (routes topology) a b h k = routes_text_once fi
 
 pub returns : goal.returns
 returns c = record {
-  ending = ends_once c.spells_one_program.ensures;
+  ending = ends_once c.spells_one_program.ensures c.has_one_listing.ensures;
   text = text_once c.spells_one_program.ensures c.has_one_listing.ensures c.has_one_text.ensures;
 }

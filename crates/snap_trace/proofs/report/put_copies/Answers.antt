@@ -6,7 +6,7 @@ use Rattle.snap_core.specs.Packets.{AllLong, listed}
 use Rattle.snap_core.specs.Runs.{set_in}
 use Rattle.snap_core.proofs.EvalLemmas.{listed-one}
 use Rattle.snap_core.proofs.Lengths.{length-one}
-use Rattle.snap_trace.specs.Reports.{block, out_line}
+use Rattle.snap_trace.specs.Reports.{all_lines, block, out_line}
 use Rattle.snap_trace.proofs.report.put_copies.Goals as goal
 
 pub put_one-requires : goal.put_one-requires
@@ -26,4 +26,4 @@ returns-in-One c =
 
 pub returns-in_ok-packets-in-Many : goal.returns-in_ok-packets-in-Many
 returns-in_ok-packets-in-Many c =
-    subst (λ s. OnOk c.put_block.result (c.put_block.new.out.items ≡ c.args.out.now.items ++ block c.args.fields.now c.args.number s)) (c.in_ok-packets-in-Many.ensures ∙ ap set_in (sym c.in-Many.is)) c.put_block.ensures
+    subst (λ s. OnOk c.put_block.result (c.put_block.new.out.items ≡ c.args.out.now.items ++ block (all_lines c.args.fields.now) c.args.number s)) (c.in_ok-packets-in-Many.ensures ∙ ap set_in (sym c.in-Many.is)) c.put_block.ensures

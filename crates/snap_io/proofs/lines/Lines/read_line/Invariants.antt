@@ -1,4 +1,5 @@
-use Rattle.std.proofs.Common.{◌≡◌, ◌≤◌}
+use Rattle.std.proofs.Common.{◌≡◌}
+use Rattle.snap_io.specs.Causes.{NoneFell}
 use Rattle.snap_io.specs.LineReaders.{AgreesWith, OnlyReads, left_to_read}
 use Rattle.snap_io.proofs.lines.Lines.read_line.Given as goal
 
@@ -9,7 +10,7 @@ invariant-loop-self g l =
       agrees : AgreesWith (shelf.files l.shelf) l.self;
       reads : OnlyReads l.fn.self l.self;
       same : shelf.files l.shelf ≡ shelf.files l.fn.shelf;
-      later : shelf.faults l.fn.shelf ≤ shelf.faults l.shelf;
+      later : NoneFell (shelf.faults l.fn.shelf) (shelf.faults l.shelf);
     }
 
 abbrev pub decreases-loop-self : goal.decreases-loop-self

@@ -1,6 +1,6 @@
-use Rattle.std.proofs.Common.{◌≡◌, true, sym, ◌∙◌}
+use Rattle.std.proofs.Common.{◌≡◌, true, false, sym, ◌∙◌}
 use Rattle.snap_trace.specs.Steps.{is_told}
-use Rattle.snap_trace.proofs.StepLemmas.{meets-written, meets-failed}
+use Rattle.snap_trace.proofs.StepLemmas.{meets-written, meets-failed, meets-short}
 use Rattle.snap_trace.proofs.switch.Switch.close.Goals as goal
 
 pub returns-in-Ok-clause-report : goal.returns-in-Ok-clause-report
@@ -16,3 +16,8 @@ returns-in-Err-clause-report g c = λ program file start closed.
     let now = g.K.Sink.taken c.flush.new.sink in
     let told : is_told c.args.ended ≡ true = sym c.is_told.ensures ∙ c.if-not-is_told.false in
     meets-failed program file start before now c.args.self.now.text.items c.args.ended told closed c.in-Err.ensures.err
+
+pub returns-then-not-is_told-clause-report : goal.returns-then-not-is_told-clause-report
+returns-then-not-is_told-clause-report g c = λ program file start closed.
+    let told : is_told c.args.ended ≡ false = sym c.is_told.ensures ∙ c.if-not-is_told.true in
+    meets-short program file start (g.K.Sink.taken c.args.sink.now) c.args.self.now.text.items c.args.ended told closed

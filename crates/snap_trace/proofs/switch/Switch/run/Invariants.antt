@@ -1,4 +1,5 @@
 use Rattle.std.proofs.Common.{◌≡◌, ◌+◌, ◌≤◌, IfSome}
+use Rattle.snap_io.specs.Causes.{NoneFell}
 use Rattle.snap_io.specs.Files.{file_of}
 use Rattle.snap_io.specs.LineReaders.{AgreesWith, lines_given, lines_limit, lines_most, lines_name}
 use Rattle.snap_trace.specs.Steps.{ComesTo}
@@ -16,6 +17,6 @@ invariant-loop-read g l =
       name : lines_name l.lines ≡ lines_name l.fn.lines;
       agrees : AgreesWith (shelf.files l.shelf) l.lines;
       files : shelf.files l.shelf ≡ shelf.files l.fn.shelf;
-      later : shelf.faults l.fn.shelf ≤ shelf.faults l.shelf;
+      later : NoneFell (shelf.faults l.fn.shelf) (shelf.faults l.shelf);
       sink_later : sink.faults l.fn.sink ≤ sink.faults l.sink;
     }
