@@ -341,8 +341,8 @@ fn holds(alloc: Global, pred: &Pred, store: &Store, packet: &Packet) -> Result<b
     }
 }
 
-// The number at the place that index atoms give on a packet.
-fn number_at(
+/// The number at the place that index atoms give on a packet.
+pub(crate) fn number_at(
     alloc: Global,
     var: u16,
     index: &Atoms,

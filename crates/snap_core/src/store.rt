@@ -78,8 +78,8 @@ impl Store {
         Ok(copy)
     }
 
-    // Makes one array as it is in another store.
-    fn copy_array(&mut self, other: &Store, var: u16) -> Result<(), NoMemory>
+    /// Makes one array as it is in another store.
+    pub fn copy_array(&mut self, other: &Store, var: u16) -> Result<(), NoMemory>
         ensures { OnOk result ((p : Place) → arrays_of self.new p ≡ (if var == p.var then arrays_of other.now p else arrays_of self.old p)) }
     {
         match other.arrays.get(&var) {
