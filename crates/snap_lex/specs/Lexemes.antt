@@ -1,5 +1,5 @@
 -- Words, figures and signs, and the token list that a text spells by longest match.
-use Rattle.std.specs.Prelude.{◌≡◌, ◌≢◌, ℕ, ◌+◌, ◌<◌, ◌≤◌, ◌⊎◌, List, [], ◌∷◌, length, slice_index, take, drop, true, false}
+use Rattle.std.specs.Prelude.{◌≡◌, ◌≢◌, ℕ, ◌+◌, ◌<◌, ◌≤◌, ◌⊎◌, List, [], ◌∷◌, length, slice_index, take, drop, codes, true, false}
 use Rattle.snap_lex.specs.declared.Token.{Token}
 use Rattle.snap_lex.specs.declared.Kind.{Kind}
 use Rattle.snap_lex.specs.declared.Kind.TheVariants as kinds
@@ -26,24 +26,24 @@ pub record IsFigure (bytes : List ℕ) (n : ℕ) : Type 0 where
   pub parts : (i : ℕ) → i < n → is_figure_part (slice_index bytes i) ≡ true
 
 abbrev pub sign_text : Sign → List ℕ
-sign_text signs.PlusPlus = 43 ∷ 43 ∷ []
-sign_text signs.MinusMinus = 45 ∷ 45 ∷ []
-sign_text signs.Arrow = 60 ∷ 45 ∷ []
-sign_text signs.OpenSquare = 91 ∷ []
-sign_text signs.CloseSquare = 93 ∷ []
-sign_text signs.OpenRound = 40 ∷ []
-sign_text signs.CloseRound = 41 ∷ []
-sign_text signs.OpenCurly = 123 ∷ []
-sign_text signs.CloseCurly = 125 ∷ []
-sign_text signs.Equals = 61 ∷ []
-sign_text signs.Not = 33 ∷ []
-sign_text signs.And = 38 ∷ []
-sign_text signs.Or = 124 ∷ []
-sign_text signs.Plus = 43 ∷ []
-sign_text signs.Semicolon = 59 ∷ []
-sign_text signs.Slash = 47 ∷ []
-sign_text signs.PlusEquals = 43 ∷ 61 ∷ []
-sign_text signs.MinusEquals = 45 ∷ 61 ∷ []
+sign_text signs.PlusPlus = codes "++"
+sign_text signs.MinusMinus = codes "--"
+sign_text signs.Arrow = codes "<-"
+sign_text signs.OpenSquare = codes "["
+sign_text signs.CloseSquare = codes "]"
+sign_text signs.OpenRound = codes "("
+sign_text signs.CloseRound = codes ")"
+sign_text signs.OpenCurly = codes "{"
+sign_text signs.CloseCurly = codes "}"
+sign_text signs.Equals = codes "="
+sign_text signs.Not = codes "!"
+sign_text signs.And = codes "&"
+sign_text signs.Or = codes "|"
+sign_text signs.Plus = codes "+"
+sign_text signs.Semicolon = codes ";"
+sign_text signs.Slash = codes "/"
+sign_text signs.PlusEquals = codes "+="
+sign_text signs.MinusEquals = codes "-="
 
 pub record IsSign (sign : Sign) (bytes : List ℕ) (n : ℕ) : Type 0 where
   pub text : take n bytes ≡ sign_text sign
@@ -59,18 +59,18 @@ abbrev pub IsLongest : List ℕ → ℕ → Type 0
 IsLongest bytes n = (m : ℕ) → HasForm bytes m → m ≤ n
 
 abbrev pub key_text : Key → List ℕ
-key_text keys.Field = 102 ∷ 105 ∷ 101 ∷ 108 ∷ 100 ∷ []
-key_text keys.Array = 97 ∷ 114 ∷ 114 ∷ 97 ∷ 121 ∷ []
-key_text keys.Const = 99 ∷ 111 ∷ 110 ∷ 115 ∷ 116 ∷ []
-key_text keys.Let = 108 ∷ 101 ∷ 116 ∷ []
-key_text keys.If = 105 ∷ 102 ∷ []
-key_text keys.Then = 116 ∷ 104 ∷ 101 ∷ 110 ∷ []
-key_text keys.Else = 101 ∷ 108 ∷ 115 ∷ 101 ∷ []
-key_text keys.Id = 105 ∷ 100 ∷ []
-key_text keys.Drop = 100 ∷ 114 ∷ 111 ∷ 112 ∷ []
-key_text keys.Atomic = 97 ∷ 116 ∷ 111 ∷ 109 ∷ 105 ∷ 99 ∷ []
-key_text keys.True = 84 ∷ 114 ∷ 117 ∷ 101 ∷ []
-key_text keys.False = 70 ∷ 97 ∷ 108 ∷ 115 ∷ 101 ∷ []
+key_text keys.Field = codes "field"
+key_text keys.Array = codes "array"
+key_text keys.Const = codes "const"
+key_text keys.Let = codes "let"
+key_text keys.If = codes "if"
+key_text keys.Then = codes "then"
+key_text keys.Else = codes "else"
+key_text keys.Id = codes "id"
+key_text keys.Drop = codes "drop"
+key_text keys.Atomic = codes "atomic"
+key_text keys.True = codes "True"
+key_text keys.False = codes "False"
 
 abbrev pub AreDigits : List ℕ → ℕ → Type 0
 AreDigits bytes n = (i : ℕ) → i < n → is_digit (slice_index bytes i) ≡ true

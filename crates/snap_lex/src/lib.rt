@@ -6,10 +6,10 @@ ghost use Rattle.snap_lex.specs.Lexemes.{SpellsTokens, IsBadByte, IsBadNumber};
 ghost use Rattle.snap_lex.specs.Scanning.{Scans, GivesTokens, GivesLexFault};
 ghost use Rattle.snap_lex.specs.declared.LexFault.TheVariants.{BadByte, BadNumber};
 
-pub mod address;
-pub mod bytes;
+mod address;
+mod bytes;
 pub mod laws;
-pub mod lexemes;
+mod lexemes;
 
 use bytes::is_blank;
 use lexemes::{behind, comment_len, token_at};

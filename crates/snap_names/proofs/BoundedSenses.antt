@@ -206,8 +206,7 @@ place_of-fits W c v e before at xs w room some s h =
     IfOk-after (λ behind. IsSeen before behind s (width e xs)) (PlaceFits W c v before) (arity_seen before s (width e xs) at (slice_get before s)) _
     (arity_seen-gives before s (width e xs) at (omega (arith, h, room)) (slice_get before s) refl) (λ arities seen.
     IfOk-after (λ es. IndexFits c es × (length es ≡ width e xs)) (PlaceFits W c v before) (atoms_behind e [] xs) _
-    (IfOk-both (IndexFits c) (λ es. length es ≡ width e xs) (atoms_behind e [] xs) (atoms_behind-fits c v e w [] xs tt) (index-length e xs)) (λ index k.
-    (
+    (IfOk-both (IndexFits c) (λ es. length es ≡ width e xs) (atoms_behind e [] xs) (atoms_behind-fits c v e w [] xs tt) (index-length e xs)) (λ index k. (
       seen.grows,
       record { array = s; below = h; number = refl; arity = seen.arity ∙ ap (λ n. Some (Some n)) (sym k.1); some = λ q. omega (arith, width-some e xs (some q), k.1) },
       k.0,

@@ -1,9 +1,8 @@
 -- The fields that are declared are those of a program, but for their number.
-use Rattle.std.proofs.Common.{◌≡◌, ◌≢◌, ℕ, zero, suc, ◌+◌, ◌≤◌, Bool, true, false, List, [], ◌∷◌, ◌++◌, map, length, codes, Option, None, Some, is_some, Result, Ok, Err, IfOk, cond, refl, sym, ap, ◌∙◌, subst, arith, append_assoc, length-append}
+use Rattle.std.proofs.Common.{◌≡◌, ℕ, zero, suc, ◌+◌, ◌≤◌, Bool, true, false, List, [], ◌∷◌, ◌++◌, map, length, codes, Option, None, Some, is_some, Result, Ok, Err, IfOk, cond, refl, sym, ap, ◌∙◌, subst, arith, append_assoc, length-append}
 use Rattle.std.specs.List.{AllByRecursion, All, IsDistinct, list_any}
 use Rattle.std.specs.Map.{lookup}
 use Rattle.std.specs.Str.{bytes_eq}
-use Rattle.std.specs.Prelude.{◌||◌}
 use Rattle.std.proofs.lemmas.Slice.Eq.{bytes_eq-Decides}
 use Rattle.snap_core.specs.declared.program.Field.{Field}
 use Rattle.snap_core.specs.Fields.{count, width, declared_at, declared_from, names_of, plain_field, PrefixFits, IsFields}
@@ -22,8 +21,8 @@ use Rattle.snap_core.specs.Names.{IsName}
 use Rattle.snap_names.proofs.Placed.{DeclWritten}
 use Rattle.snap_names.proofs.NameParts.{IsName-field}
 use Rattle.snap_names.proofs.Declaring.{bytes_eq-apart, or_left, or_right}
-use Rattle.std.specs.Prelude.{nat_le, ◌&&◌, if◌then◌else◌, take}
-use Rattle.snap_names.proofs.BoundedSteps.{AllByRecursion-append, AllByRecursion-weaker, IfOk-after, IfOk-after_any, IfOk-unless}
+use Rattle.std.specs.Prelude.{nat_le, ◌&&◌, if◌then◌else◌}
+use Rattle.snap_names.proofs.BoundedSteps.{AllByRecursion-append, AllByRecursion-weaker, IfOk-after_any, IfOk-unless}
 
 abbrev names_from : ℕ → List Field → List (List ℕ)
 names_from c fs = map (λ e. e.0) (declared_from c fs)

@@ -1,5 +1,5 @@
 -- The tree of a text has names for names, and no empty list of places.
-use Rattle.std.proofs.Common.{◌≡◌, ℕ, suc, ◌+◌, ◌≤◌, List, [], ◌∷◌, ◌++◌, length, arith, length-append}
+use Rattle.std.proofs.Common.{ℕ, suc, ◌≤◌, List, [], ◌∷◌, length, arith, length-append}
 use Rattle.std.specs.List.{AllByRecursion}
 use Rattle.snap_lex.specs.declared.Token.{Token}
 use Rattle.snap_parse.specs.declared.tree.Literal.{Literal}

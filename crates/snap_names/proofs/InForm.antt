@@ -1,5 +1,5 @@
 -- A program that is resolved is in form.
-use Rattle.std.proofs.Common.{◌≡◌, ℕ, zero, suc, ◌≤◌, ◌++◌, min, max, List, [], ◌∷◌, length, slice_get, Option, None, Some, Result, Ok, IfOk, sym, ap, ◌∙◌, subst, arith, le_refl}
+use Rattle.std.proofs.Common.{◌≡◌, ℕ, zero, suc, ◌≤◌, ◌++◌, min, max, List, [], ◌∷◌, length, slice_get, Option, None, Some, Result, Ok, IfOk, sym, ap, ◌∙◌, subst, arith}
 use Rattle.std.proofs.Math.Nat.{le-max_left, le-max_right}
 use Rattle.std.proofs.lemmas.Result.{IfOk-weaker}
 use Rattle.std.specs.List.{AllByRecursion, IsDistinct}
@@ -13,7 +13,7 @@ use Rattle.snap_core.specs.declared.program.Program.{Program}
 use Rattle.snap_core.specs.declared.program.Which.TheVariants.{Components, Arrays, Atoms, Nodes, Weight}
 use Rattle.snap_core.specs.Fields.{IsFields, count, names_of}
 use Rattle.snap_core.specs.Names.{IsName}
-use Rattle.snap_core.specs.Programs.{PredHasArity, HasArity, HasOneArity, IsInForm, IsBounded}
+use Rattle.snap_core.specs.Programs.{PredHasArity, HasArity, IsInForm, IsBounded}
 use Rattle.snap_parse.specs.Tree.{DeclTree, SourceTree}
 use Rattle.snap_names.specs.declared.fault.NameFault.{NameFault}
 use Rattle.snap_names.specs.Core.{CorePolicy, core_test, core_policy, nodes, weight}

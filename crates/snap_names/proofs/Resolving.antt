@@ -1,5 +1,5 @@
 -- A tree is resolved declaration by declaration.
-use Rattle.std.proofs.Common.{◌≡◌, ◌≢◌, ℕ, zero, suc, ◌≤◌, ◌<◌, ◌+◌, length, get_or, add-one, min, arith, List, [], ◌∷◌, map, drop, Result, Ok, Err, IfErr, refl, sym, ap, ◌∙◌, subst}
+use Rattle.std.proofs.Common.{◌≡◌, ℕ, ◌≤◌, ◌<◌, ◌+◌, length, get_or, add-one, min, arith, List, [], ◌∷◌, map, drop, Result, Ok, Err, IfErr, refl, sym, ap, ◌∙◌, subst}
 use Rattle.std.specs.Result.{IsErrAnd}
 use Rattle.std.proofs.lemmas.List.{drop_all}
 use Rattle.std.proofs.lemmas.Result.{err_from_is_err_and}
@@ -10,11 +10,10 @@ use Rattle.snap_names.specs.Parts.{AreBodies, HasRead, env_in}
 use Rattle.snap_parse.specs.Tree.{DeclTree, SourceTree}
 use Rattle.snap_names.specs.declared.scope.Scope.{Scope}
 use Rattle.snap_names.specs.declared.fault.NameFault.{NameFault}
-use Rattle.snap_names.specs.declared.fault.NameFault.TheVariants.{NoMemory}
 use Rattle.snap_names.specs.Core.{CorePolicy, nodes}
 use Rattle.snap_names.specs.Senses.{Arities, after}
 use Rattle.snap_names.specs.Reading.{read_policy}
-use Rattle.snap_names.specs.Declarations.{Declared, ports, env_of, capped, declare, declare_all, limited, resolved, CoreProgram}
+use Rattle.snap_names.specs.Declarations.{ports, env_of, capped, declare, declare_all, limited, resolved, CoreProgram}
 use Rattle.snap_names.specs.Scopes.{declared_in, IsScope, HasDeclared, Limits}
 
 -- The declarations but the rest are declared in the scope.

@@ -1,5 +1,5 @@
 -- What declarations declare, the reading of a whole tree, and its limits.
-use Rattle.std.specs.Prelude.{ℕ, ◌+◌, ◌*◌, Bool, true, false, ◌&&◌, nat_le, nat_lt, if◌then◌else◌, List, [], ◌∷◌, ◌++◌, length, min, max, map, codes, Option, None, Some, is_some, Result, Ok, Err}
+use Rattle.std.specs.Prelude.{ℕ, ◌+◌, Bool, true, false, ◌&&◌, nat_le, nat_lt, if◌then◌else◌, List, [], ◌∷◌, ◌++◌, length, min, max, codes, Option, None, Some, is_some, Result, Ok, Err}
 use Rattle.std.specs.List.{list_any}
 use Rattle.std.specs.Map.{lookup}
 use Rattle.std.specs.Str.{bytes_eq}
@@ -9,7 +9,7 @@ use Rattle.snap_core.specs.declared.program.Which.{Which}
 use Rattle.snap_core.specs.declared.program.Which.TheVariants.{Components, Arrays, Atoms, Nodes, Weight}
 use Rattle.snap_core.specs.Fields.{count, plain_field}
 use Rattle.snap_parse.specs.declared.tree.Span.{Span}
-use Rattle.snap_parse.specs.Tree.{PolicyTree, DeclTree, field_tree, array_tree, const_tree, let_tree, SourceTree}
+use Rattle.snap_parse.specs.Tree.{DeclTree, field_tree, array_tree, const_tree, let_tree, SourceTree}
 use Rattle.snap_names.specs.declared.scope.Sense.{Sense}
 use Rattle.snap_names.specs.declared.scope.Sense.TheVariants.{Plain, Split, Array, Constant, Policy}
 use Rattle.snap_names.specs.declared.fault.NameFault.{NameFault}

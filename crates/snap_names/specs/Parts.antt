@@ -1,5 +1,5 @@
 -- How the parts that are built stand for core policies.
-use Rattle.std.specs.Prelude.{◌≡◌, ◌≢◌, ℕ, ◌+◌, ◌≤◌, Bool, true, List, [], ◌∷◌, map, Option, None, Some, option_map, Result, Ok, Err, IfOk, IfErr, Vec}
+use Rattle.std.specs.Prelude.{◌≡◌, ◌≢◌, ℕ, ◌+◌, ◌≤◌, List, [], ◌∷◌, map, Option, None, Some, option_map, Result, Ok, Err, IfErr, Vec}
 use Rattle.std.specs.declared.alloc.Global.{Global}
 use Rattle.snap_core.specs.declared.policy.Pol.{Pol}
 use Rattle.snap_names.specs.declared.parts.TestJoin.{TestJoin}

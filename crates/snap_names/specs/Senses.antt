@@ -11,7 +11,7 @@ use Rattle.snap_parse.specs.declared.tree.Literal.TheVariants as literals
 use Rattle.snap_parse.specs.declared.tree.Value.{Value}
 use Rattle.snap_parse.specs.declared.tree.Value.TheVariants as values
 use Rattle.snap_names.specs.declared.scope.Sense.{Sense}
-use Rattle.snap_names.specs.declared.scope.Sense.TheVariants.{Plain, Split, Array, Constant, Policy}
+use Rattle.snap_names.specs.declared.scope.Sense.TheVariants.{Plain, Split, Array, Constant}
 use Rattle.snap_names.specs.declared.fault.NameFault.{NameFault}
 use Rattle.snap_names.specs.declared.fault.NameFault.TheVariants.{Unknown, Kind, Arity, Wide, Prefix}
 use Rattle.snap_names.specs.Core.{CoreTest, CorePolicy, field_test, and_test, set, seq}

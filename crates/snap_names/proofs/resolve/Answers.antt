@@ -1,11 +1,10 @@
 -- A program that is resolved is the reading's, so it is bounded.
-use Rattle.std.proofs.Common.{rules, ◌≡◌, ◌≢◌, ◌≤◌, ◌+◌, ℕ, suc, ◌<◌, length, get_or, List, [], ◌∷◌, map, drop, Result, Ok, Err, refl, sym, ap, ◌∙◌, subst, arith, add-one, IfErr}
+use Rattle.std.proofs.Common.{◌≡◌, ◌≢◌, ◌≤◌, ◌<◌, length, get_or, [], Ok, Err, ap, ◌∙◌, subst}
 use Rattle.std.proofs.lemmas.Result.{IfOk-weaker}
-use Rattle.snap_parse.specs.Tree.{source_tree, decl_tree, policy_tree, DeclTree}
-use Rattle.snap_names.specs.declared.fault.NameFault.{NameFault}
+use Rattle.snap_parse.specs.Tree.{source_tree, decl_tree}
 use Rattle.snap_names.specs.declared.fault.NameFault.TheVariants.{NoMemory}
 use Rattle.snap_names.specs.Senses.{after}
-use Rattle.snap_names.specs.Declarations.{core_program, limited, resolved}
+use Rattle.snap_names.specs.Declarations.{core_program, limited}
 use Rattle.snap_names.specs.Scopes.{Limits, declared_in}
 use Rattle.snap_names.proofs.Resolving.{AreDeclared, AreDeclared-more, resolved-refused, AreDeclared-rest, map-drop, drop-all, IfErr-from, resolved-read, resolved-limited, IfErr-weaker}
 use Rattle.snap_names.proofs.InForm.{IfOk-bounded, IfOk-in_form, IsFields-declared}

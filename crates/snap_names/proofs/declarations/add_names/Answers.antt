@@ -1,4 +1,4 @@
-use Rattle.std.proofs.Common.{◌≡◌, false, Some, is_some, List, [], ◌∷◌, ◌++◌, subst, sym, ◌∙◌}
+use Rattle.std.proofs.Common.{◌≡◌, false, Some, is_some, [], ◌∷◌, ◌++◌, subst, sym, ◌∙◌}
 use Rattle.std.specs.List.{list_any}
 use Rattle.snap_names.specs.Declarations.{is_known, field_names, field_senses}
 use Rattle.snap_names.specs.declared.scope.Sense.TheVariants.{Split}

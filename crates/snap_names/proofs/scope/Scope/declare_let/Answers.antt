@@ -1,11 +1,9 @@
-use Rattle.std.proofs.Common.{rules, ◌≡◌, Ok, Err, false, List, [], ◌∷◌, ◌++◌, length, refl, ap, ◌∙◌, subst}
-use Rattle.snap_parse.specs.Tree.{policy_tree}
+use Rattle.std.proofs.Common.{rules, ◌≡◌, Ok, false, [], ◌∷◌, ◌++◌, length, refl, subst}
 use Rattle.snap_names.specs.declared.scope.Sense.TheVariants.{Policy}
 use Rattle.snap_names.specs.declared.fault.NameFault.TheVariants.{Twice}
 use Rattle.snap_names.specs.Senses.{word}
-use Rattle.snap_names.specs.Reading.{read_policy}
-use Rattle.snap_names.specs.Declarations.{is_known, env_of, with_let}
-use Rattle.snap_names.specs.Parts.{names_in, HasRead}
+use Rattle.snap_names.specs.Declarations.{is_known, with_let}
+use Rattle.snap_names.specs.Parts.{names_in}
 use Rattle.snap_names.specs.Scopes.{declared_in}
 use Rattle.snap_names.proofs.Declaring.{HasDeclared-is, is_new, let_declared, IsBody-kept}
 use Rattle.snap_names.proofs.scope.Scope.declare_let.Goals as goal

@@ -1,4 +1,4 @@
-use Rattle.std.proofs.Common.{◌≡◌, is_some, ap, sym, ◌∙◌}
+use Rattle.std.proofs.Common.{is_some, ap, sym, ◌∙◌}
 use Rattle.snap_names.proofs.Lookups.{lookup-names_in}
 use Rattle.snap_names.proofs.scope.Scope.is_known.Goals as goal
 
