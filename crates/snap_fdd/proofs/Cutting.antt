@@ -1,5 +1,5 @@
 -- Ways that are met, and ways that are not.
-use Rattle.std.proofs.Common.{◌≡◌, inl, inr, ℕ, Bool, true, false, cond, List, length, refl, sym, ap, subst, ◌∙◌}
+use Rattle.std.proofs.Common.{◌≡◌, inl, inr, ℕ, Bool, true, false, cond, List, length, refl, sym, ap, subst, ◌∙◌, arith}
 use Rattle.std.specs.Prelude.{◌<◌, ◌≢◌, ◌==◌, Result, Ok, Err, IfOk}
 use Rattle.std.proofs.lemmas.Bool.{eqb-false, false_from_ne_true, true_from_ne_false}
 use Rattle.std.proofs.lemmas.Bool.Decides.{Decides-eqb}
