@@ -66,8 +66,7 @@ module _ (lists : HasOneListing) (p : Program) where
   reports_once file e f a b (inr h) (inr k) =
       let packets = (spelled p.fields file).packets in
       let at = after_once packets h.1 k.1 h.0 k.0 h.2 k.2 in
-      let same = made_once (Switch (take k.0 packets)) h.1 k.1 (subst (λ n. Switch (take n packets) ≡ Some h.1) at h.2.some) k.2.some in
-      (
+      let same = made_once (Switch (take k.0 packets)) h.1 k.1 (subst (λ n. Switch (take n packets) ≡ Some h.1) at h.2.some) k.2.some in (
         h.3 ∙ (ap (λ n. Err (run.Undefined (n + 1))) at ∙ sym k.3),
         h.4 ∙ (ap (made_text p.fields) same ∙ sym k.4),
       )

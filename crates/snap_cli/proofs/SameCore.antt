@@ -5,7 +5,7 @@ use Rattle.snap_core.specs.declared.policy.Pol.{Pol}
 use Rattle.snap_core.specs.declared.policy.Pol.TheVariants.{Filter, Set, Change, Par', Seq', If', Atomic'}
 use Rattle.snap_core.specs.declared.policy.Pred.{Pred}
 use Rattle.snap_core.specs.declared.policy.Pred.TheVariants.{Id, Drop, Field, State, Not', And', Or'}
-use Rattle.snap_core.specs.declared.program.Field.{Field}
+use Rattle.snap_core.specs.declared.program.Field.{Field as FieldData}
 use Rattle.snap_core.specs.declared.program.Program.{Program}
 use Rattle.snap_core.specs.Arrays.{Arrays, zero_arrays, update, place_at, value_of}
 use Rattle.snap_core.specs.Packets.{no_packets, with_packet, listed}
@@ -101,7 +101,7 @@ module _ (p q : Program) (same : core_program p ≡ core_program q) where
   module _ (file : List ℕ) (ending : RunEnding) (text : List ℕ) where
     pub same_report : IsReport p file ending text → IsReport q file ending text
     same_report (inl h) =
-        let packets = λ (fields : List Field). (spelled fields file).packets in
+        let packets = λ (fields : List FieldData). (spelled fields file).packets in
         inl (
           h.0,
           subst (λ fields. one_big_switch q.body zero_arrays (packets fields) ≡ Some h.0) same_fields (sym (same_switch (packets p.fields) zero_arrays) ∙ h.1),
@@ -109,7 +109,7 @@ module _ (p q : Program) (same : core_program p ≡ core_program q) where
               (subst (λ names. EndsAsRead p.fields names (spelled p.fields file).stop h.0 ending text) same_names h.2),
         )
     same_report (inr h) =
-        let packets = λ (fields : List Field). (spelled fields file).packets in
+        let packets = λ (fields : List FieldData). (spelled fields file).packets in
         let cut = h.2 in
         inr (
           h.0,

@@ -1,5 +1,5 @@
-use Rattle.std.proofs.Common.{Err}
-use Rattle.snap_cli.proofs.TopLemmas.{tells}
+use Rattle.std.proofs.Common.{Err, sym, ◌∙◌}
+use Rattle.snap_cli.proofs.TopLemmas.{read-rose, tells}
 use Rattle.snap_cli.proofs.top.snap.Goals as goal
 
 pub returns-in-Err-clause-answer : goal.returns-in-Err-clause-answer
@@ -10,3 +10,8 @@ returns-in-Err-clause-answer g c = record {
   causes = c.in-Err.ensures.causes;
   err = tells _ _ _ _ _ c.tell.result c.tell.ensures.ok c.tell.ensures.err c.tell.ensures.cause;
 }
+
+pub returns-in-Err-clause-read : goal.returns-in-Err-clause-read
+returns-in-Err-clause-read g c = λ two.
+    read-rose (g.S.Shelf.faults c.args.shelf.now) (g.S.Shelf.faults c.run-ending.new.shelf) (g.O.Sink.faults c.args.out.now) (g.O.Sink.faults c.run-ending.new.out) c.in-Err.refusal
+    c.in-Err.ensures.causes (sym c.status.ensures ∙ two)
