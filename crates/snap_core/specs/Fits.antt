@@ -27,6 +27,11 @@ pub record UpdateFits (c v : ℕ) (u : Update) : Type 0 where
   pub index : IndexFits c u.index
   pub op : OpFits c u.op
 
+-- an update of any variable that reads no other component
+pub record UpdateReads (c : ℕ) (u : Update) : Type 0 where
+  pub index : IndexFits c u.index
+  pub op : OpFits c u.op
+
 abbrev pub PredFits : ℕ → ℕ → Pred → Type 0
 PredFits c v Id = Unit {0}
 PredFits c v Drop = Unit {0}

@@ -1,5 +1,5 @@
 ghost use Rattle.std.specs.Prelude.{◌≡◌, All, IfOk, IsTrue};
-ghost use Rattle.snap_core.specs.Fits.{UpdateFits};
+ghost use Rattle.snap_core.specs.Fits.{UpdateReads};
 ghost use Rattle.snap_core.specs.Tests.{OutFits, TestFits};
 
 use crate::NoMemory;
@@ -36,7 +36,7 @@ fn updates(alloc: Global) -> Result<Vec<Update>, NoMemory> {
 }
 
 fn all_fit(updates: &[Update], comps: usize) -> bool
-    ensures { IsTrue result → All (UpdateFits comps 64) updates.now }
+    ensures { IsTrue result → All (UpdateReads comps) updates.now }
 {
     updates.iter().all(|update| update.fits(comps, 64))
 }

@@ -3,7 +3,7 @@
 ghost use Rattle.std.specs.Prelude.{◌≡◌, [], OnOk, length};
 ghost use Rattle.snap_core.specs.Arrays.{Arrays, put, update};
 ghost use Rattle.snap_core.specs.Cells.{arrays_of, held, overlaid};
-ghost use Rattle.snap_core.specs.Fits.{UpdateFits};
+ghost use Rattle.snap_core.specs.Fits.{UpdateReads};
 
 use crate::NoMemory;
 use crate::atoms::index_on;
@@ -81,7 +81,7 @@ impl Changes {
         packet: &Packet,
         change: &Update,
     ) -> Result<(), NoMemory>
-        requires { UpdateFits (length packet.now) 64 change.now }
+        requires { UpdateReads (length packet.now) change.now }
         ensures { OnOk result (overlaid (arrays_of store.now) self.new ≡ update (overlaid (arrays_of store.now) self.old) change.now packet.now) }
     {
         let index = index_on(self.alloc, &change.index, packet)?;

@@ -4,7 +4,7 @@ ghost use Rattle.std.specs.Prelude.{◌≡◌, ◌≤◌, ◌+◌, ◌%◌, ◌^
 ghost use Rattle.snap_core.specs.declared.place.Place.{Place};
 ghost use Rattle.snap_core.specs.Arrays.{update, updates, put, zero_arrays};
 ghost use Rattle.snap_core.specs.Cells.{cell, arrays_of, overlaid, changed_at, room_at};
-ghost use Rattle.snap_core.specs.Fits.{UpdateFits};
+ghost use Rattle.snap_core.specs.Fits.{UpdateReads};
 ghost use Rattle.snap_core.specs.Listing.{IsListing, entry_of};
 
 use crate::NoMemory;
@@ -109,7 +109,7 @@ impl Store {
 
     /// Does one update.
     pub(crate) fn update(&mut self, packet: &Packet, change: &Update) -> Result<(), NoMemory>
-        requires { UpdateFits (length packet.now) 64 change.now }
+        requires { UpdateReads (length packet.now) change.now }
         ensures { OnOk result (arrays_of self.new ≡ update (arrays_of self.old) change.now packet.now) }
     {
         let mut numbers = ShortIndex::new(self.alloc);
@@ -123,7 +123,7 @@ impl Store {
 
     /// Does all updates in order, or none.
     pub fn apply(&mut self, packet: &Packet, changes: &[Update]) -> Result<(), NoMemory>
-        requires { All (UpdateFits (length packet.now) 64) changes.now }
+        requires { All (UpdateReads (length packet.now)) changes.now }
         ensures ok { OnOk result (arrays_of self.new ≡ updates (arrays_of self.old) changes.now packet.now) }
         ensures err { OnErr result (arrays_of self.new ≡ arrays_of self.old) }
     {
@@ -133,7 +133,7 @@ impl Store {
 
     // What updates in order change.
     fn after_updates(&self, packet: &Packet, changes: &[Update]) -> Result<Changes, NoMemory>
-        requires { All (UpdateFits (length packet.now) 64) changes.now }
+        requires { All (UpdateReads (length packet.now)) changes.now }
         ensures { IfOk result (λ done. overlaid (arrays_of self.now) done ≡ updates (arrays_of self.now) changes.now packet.now) }
     {
         let mut done = Changes::new(self.alloc);

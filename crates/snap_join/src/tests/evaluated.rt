@@ -1,7 +1,7 @@
 //! Diagrams beside evaluation.
 
 ghost use Rattle.std.specs.Prelude.{◌≡◌, All, IfOk, IsTrue, length};
-ghost use Rattle.snap_core.specs.Fits.{UpdateFits};
+ghost use Rattle.snap_core.specs.Fits.{UpdateReads};
 ghost use Rattle.snap_core.specs.Tests.{OutFits};
 ghost use Rattle.snap_arena.specs.Arena.{Grew};
 ghost use Rattle.snap_fdd.specs.Picks.{IsArgument};
@@ -145,7 +145,7 @@ fn policy(nodes: &mut Nodes<Leaf>, groups: &Groups, ctx: &Context, pol: &Pol) ->
 }
 
 fn updates_fit(updates: &[Update], packet: &Packet) -> bool
-    ensures { IsTrue result → All (UpdateFits (length packet.now) 64) updates.now }
+    ensures { IsTrue result → All (UpdateReads (length packet.now)) updates.now }
 {
     let comps = packet.comps().len();
     updates.iter().all(|update| update.fits(comps, 64))
