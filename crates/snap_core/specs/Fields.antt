@@ -41,9 +41,13 @@ PrefixFits (Some n) = (1 ≤ n) × (n ≤ 31)
 abbrev pub plain_field : List ℕ → Field
 plain_field name = record { name = name; prefix = None }
 
+-- the fields that every program has
+abbrev pub the_ports : List Field
+the_ports = plain_field (codes "inport") ∷ plain_field (codes "outport") ∷ []
+
 -- the fields of a program
 pub record IsFields (fs : List Field) : Type 0 where
-  pub ports : take 2 fs ≡ plain_field (codes "inport") ∷ plain_field (codes "outport") ∷ []
+  pub ports : take 2 fs ≡ the_ports
   pub different : IsDistinct bytes_eq (names_of fs)
   pub prefixes : All (λ f. PrefixFits f.prefix) fs
   pub few : count fs ≤ 64

@@ -1,4 +1,4 @@
-ghost use Rattle.std.specs.Prelude.{◌≡◌, All, IfOk, IsTrue};
+ghost use Rattle.std.specs.Prelude.{All, IsTrue};
 ghost use Rattle.snap_core.specs.Fits.{UpdateReads};
 ghost use Rattle.snap_core.specs.Tests.{OutFits, TestFits};
 
@@ -102,25 +102,19 @@ fn updated(var: u16, index: Atoms, op: Op) -> Update {
     Update { var, index, op }
 }
 
-fn name(alloc: Global, bytes: &[u8]) -> Result<Name, AllocError>
-    ensures { IfOk result (λ name. name ≡ bytes.now) }
-{
-    Ok(Name::new(Vec::from_slice(alloc, bytes)?))
-}
-
 // `inport`, `outport` and `ip/24`
 fn three_fields(alloc: Global) -> Result<Fields, Fail> {
     let mut fields = Vec::new(alloc);
     fields.push(Field {
-        name: name(alloc, b"inport")?,
+        name: Name::of(alloc, b"inport")?,
         prefix: None,
     })?;
     fields.push(Field {
-        name: name(alloc, b"outport")?,
+        name: Name::of(alloc, b"outport")?,
         prefix: None,
     })?;
     fields.push(Field {
-        name: name(alloc, b"ip")?,
+        name: Name::of(alloc, b"ip")?,
         prefix: Some(24),
     })?;
     Ok(Fields::new(alloc, fields)?)

@@ -1,37 +1,16 @@
-ghost use Rattle.std.specs.Prelude.{◌≡◌, IfOk};
-
 use crate::calls::{dependencies, groups};
 use crate::groups::Groups;
 use snap_core::lists::{Atoms, Name, Names};
 use snap_core::policy::{Atom, Op, Pol, Pred, Update};
-use snap_core::program::{Field, Fields, Program};
-use std::alloc::{AllocError, Global};
+use snap_core::program::{Fields, Program};
+use std::alloc::Global;
 use std::process::Abort;
 use std::test::Fail;
-
-fn name(alloc: Global, bytes: &[u8]) -> Result<Name, AllocError>
-    ensures { IfOk result (λ name. name ≡ bytes.now) }
-{
-    Ok(Name::new(Vec::from_slice(alloc, bytes)?))
-}
-
-fn ports(alloc: Global) -> Result<Fields, Fail> {
-    let mut fields = Vec::new(alloc);
-    fields.push(Field {
-        name: name(alloc, b"inport")?,
-        prefix: None,
-    })?;
-    fields.push(Field {
-        name: name(alloc, b"outport")?,
-        prefix: None,
-    })?;
-    Ok(Fields::new(alloc, fields)?)
-}
 
 fn variables(alloc: Global, count: usize) -> Result<Names, Fail> {
     let mut names = Vec::new(alloc);
     for _ in 0..count {
-        names.push(name(alloc, b"v")?)?;
+        names.push(Name::of(alloc, b"v")?)?;
     }
     Ok(Names::new(names))
 }
@@ -44,7 +23,7 @@ fn solve(
     body: Pol,
 ) -> Result<(Vec<(u16, u16)>, Groups), Fail> {
     let program = Program {
-        fields: ports(alloc)?,
+        fields: Fields::ports(alloc)?,
         vars: variables(alloc, count)?,
         body,
     };

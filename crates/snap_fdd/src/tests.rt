@@ -1,4 +1,4 @@
-ghost use Rattle.std.specs.Prelude.{◌≡◌, ◌<◌, IfOk, length};
+ghost use Rattle.std.specs.Prelude.{◌<◌, IfOk, length};
 ghost use Rattle.snap_arena.specs.Arena.{Grew};
 ghost use Rattle.snap_fdd.specs.Picks.{IsArgument};
 
@@ -12,7 +12,7 @@ use snap_arena::nodes::Nodes;
 use snap_core::lists::{Atoms, Name, Names, Out};
 use snap_core::packet::Packet;
 use snap_core::policy::{Atom, Op, Pol, Pred, Term, Test, Update};
-use snap_core::program::{Field, Fields, Program};
+use snap_core::program::{Fields, Program};
 use snap_core::store::Store;
 use snap_ctx::context::{Assumed, Context};
 use snap_dep::calls::groups;
@@ -21,25 +21,6 @@ use std::alloc::{AllocError, Global};
 use std::process::Abort;
 use std::test::Fail;
 
-fn name(alloc: Global, bytes: &[u8]) -> Result<Name, AllocError>
-    ensures { IfOk result (λ name. name ≡ bytes.now) }
-{
-    Ok(Name::new(Vec::from_slice(alloc, bytes)?))
-}
-
-fn ports(alloc: Global) -> Result<Fields, Fail> {
-    let mut fields = Vec::new(alloc);
-    fields.push(Field {
-        name: name(alloc, b"inport")?,
-        prefix: None,
-    })?;
-    fields.push(Field {
-        name: name(alloc, b"outport")?,
-        prefix: None,
-    })?;
-    Ok(Fields::new(alloc, fields)?)
-}
-
 fn at(alloc: Global, comp: u16) -> Result<Atoms, AllocError> {
     Ok(Atoms::new(vec![in alloc; Atom::Comp(comp)]?))
 }
@@ -47,8 +28,8 @@ fn at(alloc: Global, comp: u16) -> Result<Atoms, AllocError> {
 // Two arrays, of which the second has the lower rank: the first is written after it was read.
 fn second_first(rt: &impl Abort, alloc: Global) -> Result<Groups, Fail> {
     let mut vars = Vec::new(alloc);
-    vars.push(name(alloc, b"t")?)?;
-    vars.push(name(alloc, b"s")?)?;
+    vars.push(Name::of(alloc, b"t")?)?;
+    vars.push(Name::of(alloc, b"s")?)?;
     let reads = Pred::State {
         var: 1,
         index: at(alloc, 0)?,
@@ -60,7 +41,7 @@ fn second_first(rt: &impl Abort, alloc: Global) -> Result<Groups, Fail> {
         op: Op::Add(1),
     });
     let program = Program {
-        fields: ports(alloc)?,
+        fields: Fields::ports(alloc)?,
         vars: Names::new(vars),
         body: Pol::Seq(
             Box::new(alloc, Pol::Filter(reads))?,

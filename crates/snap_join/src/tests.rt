@@ -1,4 +1,4 @@
-ghost use Rattle.std.specs.Prelude.{◌≡◌, IfOk};
+ghost use Rattle.std.specs.Prelude.{IfOk};
 ghost use Rattle.snap_arena.specs.Arena.{Grew};
 ghost use Rattle.snap_fdd.specs.Picks.{IsArgument};
 ghost use Rattle.snap_join.specs.Predicates.{IsPredicate};
@@ -12,7 +12,7 @@ use snap_arena::nodes::Nodes;
 use snap_core::lists::{Atoms, Name, Names, Out};
 use snap_core::packet::Packet;
 use snap_core::policy::{Atom, Op, Pol, Pred, Term, Test, Update};
-use snap_core::program::{Field, Fields, Program};
+use snap_core::program::{Fields, Program};
 use snap_core::store::Store;
 use snap_ctx::context::Context;
 use snap_dep::calls::groups;
@@ -27,33 +27,14 @@ use std::alloc::{AllocError, Global};
 use std::process::Abort;
 use std::test::Fail;
 
-fn name(alloc: Global, bytes: &[u8]) -> Result<Name, AllocError>
-    ensures { IfOk result (λ name. name ≡ bytes.now) }
-{
-    Ok(Name::new(Vec::from_slice(alloc, bytes)?))
-}
-
-fn ports(alloc: Global) -> Result<Fields, Fail> {
-    let mut fields = Vec::new(alloc);
-    fields.push(Field {
-        name: name(alloc, b"inport")?,
-        prefix: None,
-    })?;
-    fields.push(Field {
-        name: name(alloc, b"outport")?,
-        prefix: None,
-    })?;
-    Ok(Fields::new(alloc, fields)?)
-}
-
 // So many arrays, each a group of its own.
 fn apart(rt: &impl Abort, alloc: Global, arrays: usize) -> Result<Groups, Fail> {
     let mut vars = Vec::new(alloc);
     for _ in 0..arrays {
-        vars.push(name(alloc, b"v")?)?;
+        vars.push(Name::of(alloc, b"v")?)?;
     }
     let program = Program {
-        fields: ports(alloc)?,
+        fields: Fields::ports(alloc)?,
         vars: Names::new(vars),
         body: Pol::Filter(Pred::Id),
     };

@@ -1,9 +1,7 @@
-ghost use Rattle.std.specs.Prelude.{◌≡◌, IfOk};
-
 use crate::placement::{PlaceFault, Placement};
 use snap_core::lists::{Atoms, Name, Names};
 use snap_core::policy::{Atom, Op, Pol, Pred, Update};
-use snap_core::program::{Field, Fields, Program};
+use snap_core::program::{Fields, Program};
 use snap_dep::calls::groups;
 use std::alloc::Global;
 use std::process::Abort;
@@ -32,32 +30,13 @@ const FAULTS: [(&str, &str); 9] = [
     ("\"a.b\" = \"s1\"", "no array"),
 ];
 
-fn name(alloc: Global, text: &str) -> Result<Name, Fail>
-    ensures { IfOk result (λ name. name ≡ text.now) }
-{
-    Ok(Name::new(Vec::from_slice(alloc, text.as_bytes())?))
-}
-
-fn ports(alloc: Global) -> Result<Fields, Fail> {
-    let mut fields = Vec::new(alloc);
-    fields.push(Field {
-        name: name(alloc, "inport")?,
-        prefix: None,
-    })?;
-    fields.push(Field {
-        name: name(alloc, "outport")?,
-        prefix: None,
-    })?;
-    Ok(Fields::new(alloc, fields)?)
-}
-
 fn program(alloc: Global, arrays: &[&str], body: Pol) -> Result<Program, Fail> {
     let mut names = Vec::new(alloc);
     for array in arrays {
-        names.push(name(alloc, array)?)?;
+        names.push(Name::of(alloc, array.as_bytes())?)?;
     }
     Ok(Program {
-        fields: ports(alloc)?,
+        fields: Fields::ports(alloc)?,
         vars: Names::new(names),
         body,
     })

@@ -1,37 +1,29 @@
-ghost use Rattle.std.specs.Prelude.{◌≡◌, IfOk};
-
 use crate::switch::one_switch;
 use crate::{Line, LineFault, read_line};
 use snap_core::lists::{Atoms, Name, Names};
 use snap_core::policy::{Atom, Op, Pol, Pred, Update};
 use snap_core::program::{Field, Fields, Program};
 use snap_io::{File, MemoryShelf, MemorySink, have_distinct_names};
-use std::alloc::{AllocError, Global};
+use std::alloc::Global;
 use std::test::Fail;
-
-fn name(alloc: Global, bytes: &[u8]) -> Result<Name, AllocError>
-    ensures { IfOk result (λ name. name ≡ bytes.now) }
-{
-    Ok(Name::new(Vec::from_slice(alloc, bytes)?))
-}
 
 // The ports, a plain field `f`, and a field `g` split behind 24 bits.
 fn fields(alloc: Global) -> Result<Fields, Fail> {
     let mut fields = Vec::new(alloc);
     fields.push(Field {
-        name: name(alloc, b"inport")?,
+        name: Name::of(alloc, b"inport")?,
         prefix: None,
     })?;
     fields.push(Field {
-        name: name(alloc, b"outport")?,
+        name: Name::of(alloc, b"outport")?,
         prefix: None,
     })?;
     fields.push(Field {
-        name: name(alloc, b"f")?,
+        name: Name::of(alloc, b"f")?,
         prefix: None,
     })?;
     fields.push(Field {
-        name: name(alloc, b"g")?,
+        name: Name::of(alloc, b"g")?,
         prefix: Some(24),
     })?;
     Ok(Fields::new(alloc, fields)?)
@@ -152,7 +144,7 @@ fn counting(alloc: Global) -> Result<Program, Fail> {
     let choice = Pol::If(second, boxed(alloc, both)?, boxed(alloc, outport(3))?);
     Ok(Program {
         fields: fields(alloc)?,
-        vars: Names::new(vec![in alloc; name(alloc, b"s")?]?),
+        vars: Names::new(vec![in alloc; Name::of(alloc, b"s")?]?),
         body: Pol::Seq(boxed(alloc, count)?, boxed(alloc, choice)?),
     })
 }

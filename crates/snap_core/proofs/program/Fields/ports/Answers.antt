@@ -3,12 +3,9 @@ use Rattle.std.specs.Prelude.{codes}
 use Rattle.std.specs.List.{IsDistinct}
 use Rattle.std.specs.Str.{bytes_eq}
 use Rattle.std.proofs.lemmas.List.Elements.{All-cons, All-nil}
-use Rattle.snap_core.specs.Fields.{IsFields, PrefixFits, names_of, plain_field}
+use Rattle.snap_core.specs.Fields.{IsFields, PrefixFits, names_of, plain_field, the_ports}
 use Rattle.snap_core.specs.declared.program.Field.{Field}
-use Rattle.snap_join.proofs.tests.ports.Goals as goal
-
-abbrev the_ports : List Field
-the_ports = plain_field (codes "inport") ∷ plain_field (codes "outport") ∷ []
+use Rattle.snap_core.proofs.program.Fields.ports.Goals as goal
 
 different : IsDistinct bytes_eq (names_of the_ports)
 unfolding IsDistinct
@@ -24,5 +21,5 @@ are_fields = record {
 
 pub new-requires : goal.new-requires
 new-requires c =
-    let items : c.push-2.new.self.items ≡ the_ports = rw (c.in_ok-push-2.ensures.items, c.in_ok-push.ensures.items, c.new-fields.ensures.items, c.in_ok-name.ensures, c.in_ok-name-2.ensures) refl in
+    let items : c.push-2.new.self.items ≡ the_ports = rw (c.in_ok-push-2.ensures.items, c.in_ok-push.ensures.items, c.new-fields.ensures.items, c.in_ok-plain.ensures, c.in_ok-plain-2.ensures) refl in
     subst IsFields (sym items) are_fields
