@@ -1,6 +1,6 @@
 //! Contexts.
 
-ghost use Rattle.std.specs.Prelude.{◌≡◌, ◌<◌, ◌≤◌, All, IfOk, MatchBool, [], length, slice_index};
+ghost use Rattle.std.specs.Prelude.{◌≡◌, ◌<◌, ◌≤◌, ◌^◌, All, IfOk, MatchBool, [], length, slice_index};
 ghost use Rattle.snap_core.specs.Tests.{TestFits, term_value};
 ghost use Rattle.snap_ctx.specs.Classes.{IsClass, IsTest, class_of, index_of};
 ghost use Rattle.snap_ctx.specs.Meets.{IsMet, NoneMeets, Under, with_fact};
@@ -79,6 +79,7 @@ impl Context {
     /// The facts, in the order in which they were assumed.
     pub fn facts(&self) -> &[Fact]
         ensures facts { result.now ≡ self.now.facts }
+        ensures few { length self.now.facts < 2 ^ 32 }
         ensures met { IsMet (length self.now.classes) self.now.facts }
         ensures tests { All (λ f. IsTest (length self.now.classes) f.test) self.now.facts }
     {
