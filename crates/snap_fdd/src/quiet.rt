@@ -8,7 +8,7 @@ ghost use Rattle.snap_fdd.specs.Diagrams.{diagram};
 ghost use Rattle.snap_fdd.specs.Order.{IsRanked, test_cmp};
 ghost use Rattle.snap_fdd.specs.Picks.{IsDiagram, sizes};
 ghost use Rattle.snap_fdd.specs.Pruned.{IsLive};
-ghost use Rattle.snap_fdd.specs.Quiet.{BeginsElsewhere, IsFine, IsMarked, IsQuiet, SameSubject, StandsBefore};
+ghost use Rattle.snap_fdd.specs.Quiet.{BeginsElsewhere, IsClear, IsFine, IsMarked, IsQuiet, SameSubject, StandsBefore};
 
 use crate::leaf::Leaf;
 use crate::order::compare;
@@ -84,6 +84,7 @@ fn is_quiet(nodes: &Nodes<Leaf>, survey: &Survey, quiet: &[bool], d: u64) -> boo
 
 /// Which of the numbers up to `root` are of quiet diagrams.
 pub fn quiet_ones(nodes: &Nodes<Leaf>, survey: &Survey, root: u64) -> Result<Vec<bool>, NoMemory>
+    requires { IsClear survey.now }
     ensures { IfOk result (λ quiet. IsMarked survey.now nodes.now quiet.items) }
 {
     let mut quiet = Vec::new(nodes.allocator());
