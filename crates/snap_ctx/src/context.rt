@@ -7,7 +7,7 @@ ghost use Rattle.snap_ctx.specs.Meets.{IsMet, NoneMeets, Under, with_fact};
 
 use crate::classes::{class_at, first_classes};
 use crate::close::closed;
-use crate::fact::{Fact, copy_facts};
+use crate::fact::{Fact, Shared, copy_facts};
 use crate::ranges::know_test;
 use snap_core::NoMemory;
 use snap_core::policy::{Term, Test};
@@ -109,11 +109,11 @@ impl Context {
             return Err(NoMemory);
         }
         know_test(test);
+        let alloc = *self.facts.allocator();
         let fact = Fact {
-            test: test.copy()?,
+            test: Shared::copy_of(alloc, test)?,
             yes,
         };
-        let alloc = *self.facts.allocator();
         match closed(alloc, &self.classes, &self.facts, &fact)? {
             None => Ok(Assumed::Impossible),
             Some(classes) => {
@@ -146,7 +146,7 @@ impl Context {
         let _facts = &self.facts;
         know_test(test);
         let passes = Fact {
-            test: test.copy()?,
+            test: Shared::copy_of(*self.facts.allocator(), test)?,
             yes: true,
         };
         if self.refutes(&passes)? {

@@ -109,13 +109,14 @@ fn stands_before(
     requires { IsRanked (length groups.now.ranks) test.now }
     ensures { IfOk result (λ b. IsTrue b → StandsBefore groups.now.ranks survey.now test.now fact.now) }
 {
-    if !survey.is_fine(&fact.test) || !has_rank(groups, &fact.test) {
+    let before = fact.test.test();
+    if !survey.is_fine(before) || !has_rank(groups, before) {
         return Ok(false);
     }
-    if compare(nodes.allocator(), groups, &fact.test, test)? != Ordering::Less {
+    if compare(nodes.allocator(), groups, before, test)? != Ordering::Less {
         return Ok(false);
     }
-    Ok(!fact.yes || !same_subject(&fact.test, test))
+    Ok(!fact.yes || !same_subject(before, test))
 }
 
 // Whether all facts are so.

@@ -88,7 +88,7 @@ fn settle_fact(
         ((is_state fact.now.test ≡ false) × (store.new ≡ store.old))
         (λ s. (is_state fact.now.test ≡ true) × IsSettled ctx.now (At (place_of fact.now packet.now)) s × (arrays_of store.new ≡ put (arrays_of store.old) (place_of fact.now packet.now) s.num))) }
 {
-    let Test::State { var, index, value } = &fact.test else {
+    let Test::State { var, index, value } = fact.test.test() else {
         return Ok(None);
     };
     let index = Index::new(index_on(alloc, index, packet)?);
