@@ -158,3 +158,24 @@ fn readers_tell_what_was_assumed(rt: HostRuntime) -> Result<(), Fail> {
         Assumed::Impossible => Ok(()),
     }
 }
+
+// A component differs from 80 numbers, and another has one.
+fn eighty_numbers(alloc: Global) -> Result<Vec<(Test, bool)>, AllocError> {
+    let mut facts = Vec::new(alloc);
+    for num in 0..80u64 {
+        facts.push(no(value(4, num)))?;
+    }
+    facts.push(yes(value(3, 7)))?;
+    Ok(facts)
+}
+
+#[test]
+fn facts_past_sixty_four_are_kept(rt: HostRuntime) -> Result<(), Fail> {
+    let alloc = rt.alloc();
+    assert_eq!(rt; context(alloc, &eighty_numbers(alloc)?)?.facts().len(), 81);
+    let found = verdict(alloc, eighty_numbers(alloc)?, value(4, 79))?;
+    assert_eq!(rt; found, Verdict::Never);
+    let found = verdict(alloc, eighty_numbers(alloc)?, value(4, 80))?;
+    assert_eq!(rt; found, Verdict::Unsure);
+    Ok(())
+}
