@@ -27,6 +27,9 @@ pub returns-clause-least : goal.returns-clause-least
 returns-clause-least c =
     let none = rw c.in_default.is at c.in_ok-settled.ensures in
     let found = rw c.in-Some-3.is at c.in_ok-settled-3.ensures in
-    inr (none, λ i l. c.loop-num.invariant i (
-        let e : c.in-Some-3.settled.num ≡ 18446744073709551615 = found.1 in
-        let m : 18446744073709551615 ≤ c.loop-num.num = c.loop-num-test.false in omega (arith, l, m, e)))
+    inr (
+      none,
+      λ i l. c.loop-num.invariant i (
+          let e : c.in-Some-3.settled.num ≡ 18446744073709551615 = found.1 in
+          let m : 18446744073709551615 ≤ c.loop-num.num = c.loop-num-test.false in omega (arith, l, m, e)),
+    )
