@@ -306,8 +306,9 @@ fn a_place_is_known_after_sixty_four_tests(rt: HostRuntime) -> Result<(), Fail> 
     let alloc = rt.alloc();
     let groups = second_first(&rt, alloc)?;
     let empty = Context::empty(alloc, 4)?;
-    assert!(rt; test_fits(&groups, &empty, &value(2, 1)));
-    let Assumed::More(ctx) = empty.assume(&value(2, 1), true)? else {
+    let fact = value(2, 1);
+    assert!(rt; test_fits(&groups, &empty, &fact));
+    let Assumed::More(ctx) = empty.assume(&fact, true)? else {
         return Err("impossible")?;
     };
     let mut nodes = Nodes::new(alloc);
