@@ -1,13 +1,13 @@
 //! Contexts.
 
-ghost use Rattle.std.specs.Prelude.{◌≡◌, ◌<◌, ◌≤◌, All, IfOk, MatchBool, [], length, slice_index};
+ghost use Rattle.std.specs.Prelude.{◌≡◌, ◌<◌, ◌≤◌, ◌^◌, All, IfOk, MatchBool, [], length, slice_index};
 ghost use Rattle.snap_core.specs.Tests.{TestFits, term_value};
 ghost use Rattle.snap_ctx.specs.Classes.{IsClass, IsTest, class_of, index_of};
 ghost use Rattle.snap_ctx.specs.Meets.{IsMet, NoneMeets, Under, with_fact};
 
 use crate::classes::{class_at, first_classes};
 use crate::close::closed;
-use crate::fact::{Fact, copy_facts};
+use crate::fact::{Fact, Shared, copy_facts};
 use crate::ranges::know_test;
 use snap_core::NoMemory;
 use snap_core::policy::{Term, Test};
@@ -79,6 +79,7 @@ impl Context {
     /// The facts, in the order in which they were assumed.
     pub fn facts(&self) -> &[Fact]
         ensures facts { result.now ≡ self.now.facts }
+        ensures few { length self.now.facts < 2 ^ 32 }
         ensures met { IsMet (length self.now.classes) self.now.facts }
         ensures tests { All (λ f. IsTest (length self.now.classes) f.test) self.now.facts }
     {
@@ -108,11 +109,11 @@ impl Context {
             return Err(NoMemory);
         }
         know_test(test);
+        let alloc = *self.facts.allocator();
         let fact = Fact {
-            test: test.copy()?,
+            test: Shared::copy_of(alloc, test)?,
             yes,
         };
-        let alloc = *self.facts.allocator();
         match closed(alloc, &self.classes, &self.facts, &fact)? {
             None => Ok(Assumed::Impossible),
             Some(classes) => {
@@ -145,7 +146,7 @@ impl Context {
         let _facts = &self.facts;
         know_test(test);
         let passes = Fact {
-            test: test.copy()?,
+            test: Shared::copy_of(*self.facts.allocator(), test)?,
             yes: true,
         };
         if self.refutes(&passes)? {

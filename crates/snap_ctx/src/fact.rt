@@ -5,11 +5,54 @@ ghost use Rattle.std.specs.Prelude.{◌≡◌, IfOk};
 use snap_core::NoMemory;
 use snap_core::policy::Test;
 use std::alloc::Global;
+use std::marker::Model;
+use std::rc::Rc;
+
+/// A test that its copies share.
+#[derive(Debug, Drop)]
+pub struct Shared {
+    test: Rc<Test>,
+}
+
+impl Model for Shared {
+    ghost use Rattle.snap_core.specs.declared.policy.Test.{Test};
+
+    ghost Value = { Test };
+
+    ghost view = { λ s. s.test.value };
+}
+
+impl Shared {
+    pub fn copy_of(alloc: Global, test: &Test) -> Result<Shared, NoMemory>
+        ensures { IfOk result (λ shared. shared ≡ test.now) }
+    {
+        let copy = test.copy()?;
+        match Rc::new(alloc, copy) {
+            Ok(test) => Ok(Shared { test }),
+            Err(_) => Err(NoMemory),
+        }
+    }
+
+    pub fn test(&self) -> &Test
+        ensures { result.now ≡ self.now }
+    {
+        &self.test
+    }
+
+    /// The same test, in the same memory.
+    pub fn share(&self) -> Result<Shared, NoMemory>
+        ensures { IfOk result (λ shared. shared ≡ self.now) }
+    {
+        Ok(Shared {
+            test: self.test.clone()?,
+        })
+    }
+}
 
 /// A test, and whether it passes.
 #[derive(Debug, Drop)]
 pub struct Fact {
-    pub test: Test,
+    pub test: Shared,
     pub yes: bool,
 }
 
@@ -20,7 +63,7 @@ impl Fact {
         ensures { IfOk result (λ copy. copy ≡ self.now) }
     {
         Ok(Fact {
-            test: self.test.copy()?,
+            test: self.test.share()?,
             yes: self.yes,
         })
     }

@@ -67,7 +67,7 @@ fn look_alone(classes: &[Term], fact: &Fact) -> Result<(), Breach>
     requires test { IsTest (length classes.now) fact.now.test }
     ensures { MatchResult result (λ _. FactRule classes.now fact.now) (IsBreach (MeetsOne fact.now) classes.now) }
 {
-    match sides(&fact.test) {
+    match sides(fact.test.test()) {
         Some((left, right)) => {
             let left = normal_at(classes, left);
             let right = normal_at(classes, right);
@@ -81,7 +81,7 @@ fn look_alone(classes: &[Term], fact: &Fact) -> Result<(), Breach>
 fn says_what_is_held(fact: &Fact) -> bool
     ensures { IsTrue result ↔ ((fact.now.yes ≡ true) × (is_state fact.now.test ≡ true)) }
 {
-    match fact.test {
+    match fact.test.test() {
         Test::State { .. } => fact.yes,
         Test::Value { .. } | Test::Equal { .. } => false,
     }
@@ -97,14 +97,14 @@ fn look_pair(classes: &[Term], first: &Fact, second: &Fact) -> Result<(), Breach
     if !first.yes {
         return Ok(());
     }
-    let Test::State { var, index, value } = &first.test else {
+    let Test::State { var, index, value } = first.test.test() else {
         return Ok(());
     };
     let Test::State {
         var: other_var,
         index: other_index,
         value: other_value,
-    } = &second.test
+    } = second.test.test()
     else {
         return Ok(());
     };

@@ -3,7 +3,6 @@ ghost use Rattle.snap_core.specs.Tests.{TestFits};
 ghost use Rattle.snap_ctx.specs.Classes.{index_of};
 
 use crate::context::{Assumed, Context, Verdict};
-use crate::fact::Fact;
 use snap_core::lists::Atoms;
 use snap_core::policy::{Atom, Term, Test};
 use std::alloc::{AllocError, Global};
@@ -27,12 +26,12 @@ fn fits(test: &Test, comps: u16) -> bool
     }
 }
 
-fn yes(test: Test) -> Fact {
-    Fact { test, yes: true }
+fn yes(test: Test) -> (Test, bool) {
+    (test, true)
 }
 
-fn no(test: Test) -> Fact {
-    Fact { test, yes: false }
+fn no(test: Test) -> (Test, bool) {
+    (test, false)
 }
 
 fn value(comp: u16, num: u64) -> Test {
@@ -64,13 +63,13 @@ fn at_two(alloc: Global, first: u16, second: u16, num: u64) -> Result<Test, Allo
 }
 
 // The context of these facts over five components.
-fn context(alloc: Global, facts: &[Fact]) -> Result<Context, Fail> {
+fn context(alloc: Global, facts: &[(Test, bool)]) -> Result<Context, Fail> {
     let mut ctx = Context::empty(alloc, 5)?;
     for fact in facts {
-        if !fits(&fact.test, ctx.comps()) {
+        if !fits(&fact.0, ctx.comps()) {
             return Err("the test doesn't fit")?;
         }
-        match ctx.assume(&fact.test, fact.yes)? {
+        match ctx.assume(&fact.0, fact.1)? {
             Assumed::More(more) => ctx = more,
             Assumed::Impossible => return Err("impossible")?,
         }
@@ -78,7 +77,7 @@ fn context(alloc: Global, facts: &[Fact]) -> Result<Context, Fail> {
     Ok(ctx)
 }
 
-fn verdict(alloc: Global, facts: Vec<Fact>, test: Test) -> Result<Verdict, Fail> {
+fn verdict(alloc: Global, facts: Vec<(Test, bool)>, test: Test) -> Result<Verdict, Fail> {
     let ctx = context(alloc, &facts)?;
     if !fits(&test, ctx.comps()) {
         return Err("the test doesn't fit")?;
@@ -158,4 +157,25 @@ fn readers_tell_what_was_assumed(rt: HostRuntime) -> Result<(), Fail> {
         Assumed::More(_) => Err("possible")?,
         Assumed::Impossible => Ok(()),
     }
+}
+
+// A component differs from 80 numbers, and another has one.
+fn eighty_numbers(alloc: Global) -> Result<Vec<(Test, bool)>, AllocError> {
+    let mut facts = Vec::new(alloc);
+    for num in 0..80u64 {
+        facts.push(no(value(4, num)))?;
+    }
+    facts.push(yes(value(3, 7)))?;
+    Ok(facts)
+}
+
+#[test]
+fn facts_past_sixty_four_are_kept(rt: HostRuntime) -> Result<(), Fail> {
+    let alloc = rt.alloc();
+    assert_eq!(rt; context(alloc, &eighty_numbers(alloc)?)?.facts().len(), 81);
+    let found = verdict(alloc, eighty_numbers(alloc)?, value(4, 79))?;
+    assert_eq!(rt; found, Verdict::Never);
+    let found = verdict(alloc, eighty_numbers(alloc)?, value(4, 80))?;
+    assert_eq!(rt; found, Verdict::Unsure);
+    Ok(())
 }

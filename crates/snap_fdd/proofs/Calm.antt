@@ -1,9 +1,10 @@
 -- Facts of numbers that don't contradict each other have a model.
-use Rattle.std.proofs.Common.{◌≡◌, ◌≢◌, ◌⊎◌, inl, inr, ℕ, ◌<◌, ◌≤◌, ◌^◌, Bool, true, false, cond, List, [], ◌∷◌, ◌++◌, length, map, Option, Some, None, refl, sym, ap, subst, ◌∙◌, arith}
+use Rattle.std.proofs.Common.{◌≡◌, ◌≢◌, ◌⊎◌, inl, inr, ℕ, ◌<◌, ◌≤◌, ◌^◌, Bool, true, false, cond, List, [], ◌∷◌, ◌++◌, length, map, get_or, Option, Some, None, refl, sym, ap, subst, ◌∙◌, arith}
 use Rattle.std.specs.Prelude.{◌==◌, All, if◌then◌else◌, slice_get, slice_index_or}
 use Rattle.std.specs.List.{AllByRecursion}
 use Rattle.std.specs.List.{range_with_len}
 use Rattle.std.proofs.lemmas.Bool.{eqb-true, eqb-false}
+use Rattle.std.proofs.lemmas.List.{length-map, get_or-map}
 use Rattle.std.proofs.lemmas.List.FromFn.{get_or-map-range_with_len, length-map-range_with_len}
 use Rattle.std.proofs.lemmas.List.Elements.{All-from_recursion, recursion_from_All}
 use Rattle.snap_core.specs.declared.policy.Atom.{Atom}
@@ -18,9 +19,11 @@ use Rattle.snap_ctx.specs.Meets.{IsMet}
 use Rattle.snap_ctx.specs.Classes.{wrap, shift, class_of, normal, atom_class, IsAtom, IsTest, IsClass, Says, FactRule, PairRule, Rules, is_state, left_of, right_of, var_of, index_of}
 use Rattle.snap_ctx.proofs.Model.{model}
 use Rattle.snap_fdd.specs.declared.survey.Seen.{Seen}
-use Rattle.snap_fdd.specs.declared.survey.Seen.TheVariants.{Never, One, Many}
+use Rattle.snap_fdd.specs.declared.survey.Seen.TheVariants.{Few, Many}
 use Rattle.snap_fdd.specs.declared.survey.Survey.{Survey}
-use Rattle.snap_fdd.specs.Quiet.{AtomIsFree, IndexIsFine, IsFine, SameSubject}
+use Rattle.snap_fdd.specs.Quiet.{AtomIsFree, IndexIsFine, IsClear, IsFine, SameSubject}
+use Rattle.snap_fdd.specs.Spots.{IsNumber, AtomsApart, IndicesApart}
+use Rattle.snap_fdd.proofs.Spotted.{BothAsked, ClearAt, clear_at, one_or_apart}
 
 -- ---- members of lists of facts
 abbrev pub Among : Fact → List Fact → Type 0
@@ -46,13 +49,12 @@ from_all P (x ∷ xs) h f (inl e) = subst P (sym e) h.0
 from_all P (x ∷ xs) h f (inr a) = from_all P xs h.1 f a
 
 -- ---- facts that don't contradict each other
-abbrev pub number_of : Test → ℕ
-number_of (Value c n) = n
-number_of (Equal l r p) = 0
-number_of (State v ix (Num n)) = n
-number_of (State v ix (Plus c p)) = 0
+abbrev pub number_of : Test → Term
+number_of (Value c n) = Num n
+number_of (Equal l r p) = Num 0
+number_of (State v ix t) = t
 
-abbrev pub Tells : Bool → ℕ → ℕ → Type 0
+abbrev pub Tells : Bool → Term → Term → Type 0
 Tells true a b = a ≡ b
 Tells false a b = a ≢ b
 
@@ -145,13 +147,13 @@ wrapped : (n : ℕ) → n < 2 ^ 64 → wrap n 0 ≡ n
 wrapped n l = omega arith
 
 -- what a fact says of its component's class
-value_says : (y : Bool) (c n : ℕ) (o : Option ℕ) → (o ≡ None → y ≡ true → ⊥) → ((m : ℕ) → o ≡ Some m → Tells y m n) → ((m : ℕ) → o ≡ Some m → m < 2 ^ 64) → Says y (shift (class_by o c) 0) (Num n)
-value_says true c n (Some m) none some small = rw (wrapped m (small m refl), some m refl) refl
+value_says : (y : Bool) (c n : ℕ) (o : Option ℕ) → (o ≡ None → y ≡ true → ⊥) → ((m : ℕ) → o ≡ Some m → Tells y (Num m) (Num n)) → ((m : ℕ) → o ≡ Some m → m < 2 ^ 64) → Says y (shift (class_by o c) 0) (Num n)
+value_says true c n (Some m) none some small = rw (wrapped m (small m refl)) (some m refl)
 value_says false c n (Some m) none some small = λ e. some m refl (let w = wrapped m (small m refl) in cc)
 value_says true c n None none some small = absurd (none refl refl)
 value_says false c n None none some small = λ e. absurd (cc)
 
-module _ (comps : ℕ) (s : Survey) (facts : List Fact) (calm : IsCalm comps s facts) where
+module _ (comps : ℕ) (s : Survey) (clear : IsClear s) (facts : List Fact) (calm : IsCalm comps s facts) where
   -- a given number has 64 bits, and each fact on the component agrees with it
   given_small : (c n : ℕ) → number_at facts c ≡ Some n → n < 2 ^ 64
   given_small c n e =
@@ -159,7 +161,7 @@ module _ (comps : ℕ) (s : Survey) (facts : List Fact) (calm : IsCalm comps s f
       let t : IsTest comps (Value c n) = subst (IsTest comps) w.test (calm.tests w.fact w.among) in
       t.1
 
-  agrees : (f : Fact) (c n o : ℕ) → number_at facts c ≡ Some n → Among f facts → f.test ≡ Value c o → Tells f.yes n o
+  agrees : (f : Fact) (c n o : ℕ) → number_at facts c ≡ Some n → Among f facts → f.test ≡ Value c o → Tells f.yes (Num n) (Num o)
   agrees f c n o e a t =
       let w = said facts c n e in
       let same : SameSubject w.fact.test f.test = rw (w.test, t) refl in
@@ -208,43 +210,79 @@ module _ (comps : ℕ) (s : Survey) (facts : List Fact) (calm : IsCalm comps s f
       atom_apart (Comp c) (Number o) ax ay fx fy e = absurd (let k = free_class c ax fx in cc)
       atom_apart (Comp c) (Comp d) ax ay fx fy e = (let k = free_class c ax fx in let l = free_class d ay fy in let h : c ≡ d = cc in ap Comp h)
 
+  -- atoms that are apart have different classes
+  free_apart : (c d : ℕ) → c < comps → d < comps → c ≢ d → has s.values c ≡ false → class_of (classes_by facts comps) c ≡ class_of (classes_by facts comps) d → ⊥
+  free_apart c d l m differ free e = by (number_at facts d) refl
+    where
+      same : Plus c 0 ≡ class_by (number_at facts d) d
+      same = sym (free_class c l free) ∙ (e ∙ class_at facts comps d (Plus d 0) m)
+
+      by : (o : Option ℕ) → number_at facts d ≡ o → ⊥
+      by None h = (let k : Plus c 0 ≡ Plus d 0 = same ∙ ap (λ (o : Option ℕ). class_by o d) h in differ (cc))
+      by (Some n) h = (let k : Plus c 0 ≡ Num n = same ∙ ap (λ (o : Option ℕ). class_by o d) h in absurd (cc))
+
+  atoms_differ : (x y : Atom) → IsAtom comps x → IsAtom comps y → AtomsApart s.values x y → atom_class (classes_by facts comps) x ≡ atom_class (classes_by facts comps) y → ⊥
+  atoms_differ (Number n) (Number o) ax ay p e = p (cc)
+  atoms_differ (Number n) (Comp d) ax ay p e = absurd (let k = free_class d ay p in cc)
+  atoms_differ (Comp c) (Number o) ax ay p e = absurd (let k = free_class c ax p in cc)
+  atoms_differ (Comp c) (Comp d) ax ay p e = elim p.1 [
+    | inl f ↦ free_apart c d ax ay p.0 f e
+    | inr f ↦ free_apart d c ay ax (λ h. p.0 (sym h)) f (sym e)
+  ]
+
+  indices_differ : (ix iy : List Atom) → All (IsAtom comps) ix → All (IsAtom comps) iy → IndicesApart s.values ix iy
+      → map (atom_class (classes_by facts comps)) ix ≡ map (atom_class (classes_by facts comps)) iy → ⊥
+  indices_differ ix iy ax ay (inl h) e =
+      h (sym (length-map ix (atom_class (classes_by facts comps))) ∙ (ap length e ∙ length-map iy (atom_class (classes_by facts comps))))
+  indices_differ ix iy ax ay (inr h) e =
+      atoms_differ (get_or ix h.0 (Number 0)) (get_or iy h.0 (Number 0)) (ax h.0 (Number 0) h.1) (ay h.0 (Number 0) h.2) h.3
+      (sym (get_or-map (atom_class (classes_by facts comps)) ix h.0 (Number 0) (Num 0) h.1)
+      ∙ (ap (λ (xs : List Term). get_or xs h.0 (Num 0)) e ∙ get_or-map (atom_class (classes_by facts comps)) iy h.0 (Number 0) (Num 0) h.2))
+
   -- two places that the classes make one are spelled as one
-  same_spelled : (v : ℕ) (ix iy : List Atom) (seen : Option Seen) → IndexIsFine s seen ix → IndexIsFine s seen iy → AllByRecursion (IsAtom comps) ix → AllByRecursion (IsAtom comps) iy
-      → map (atom_class (classes_by facts comps)) ix ≡ map (atom_class (classes_by facts comps)) iy → ix ≡ iy
-  same_spelled v ix iy (Some (One iz)) fx fy ax ay e = fx ∙ sym fy
-  same_spelled v ix iy (Some Many) fx fy ax ay e = atoms_apart ix iy ax ay fx fy e
-  same_spelled v ix iy (Some Never) fx fy ax ay e = absurd fx
-  same_spelled v ix iy None fx fy ax ay e = absurd fx
+  same_spelled : (ix iy : List Atom) (t u : Term) (seen : Option Seen) → ClearAt s.values seen → IndexIsFine s seen ix t → IndexIsFine s seen iy u → All (IsAtom comps) ix → All (IsAtom comps) iy
+      → map (atom_class (classes_by facts comps)) ix ≡ map (atom_class (classes_by facts comps)) iy → (ix ≡ iy) × BothAsked t u
+  same_spelled ix iy t u (Some (Few spots)) c fx fy ax ay e = elim (one_or_apart s.values spots.items ix iy t u c fx fy) [
+    | inl h ↦ h
+    | inr h ↦ absurd (elim h [ inl p ↦ indices_differ ix iy ax ay p e | inr p ↦ indices_differ iy ix ay ax p (sym e) ])
+  ]
+  same_spelled ix iy t u (Some Many) c fx fy ax ay e =
+      (atoms_apart ix iy (recursion_from_All (IsAtom comps) ix ax) (recursion_from_All (IsAtom comps) iy ay) fx.0 fy.0 e, inr (fx.1, fy.1))
+  same_spelled ix iy t u None c fx fy ax ay e = absurd fx
 
   paired : (f g : Fact) → Among f facts → Among g facts → PairRule (classes_by facts comps) f g
   paired f g a b passed same = by f.test g.test refl refl
     where
-      tells : (y : Bool) (n o : ℕ) → Tells y n o → Says y (Num n) (Num o)
-      tells true n o t = ap Num t
-      tells false n o t = λ e. t (cc)
+      numbers : (t u : Term) → IsNumber t → IsNumber u → t ≢ u → normal (classes_by facts comps) t ≢ normal (classes_by facts comps) u
+      numbers (Num n) (Num o) i j h = h
+      numbers (Num n) (Plus d q) i j h = absurd j
+      numbers (Plus c p) u i j h = absurd i
 
-      states : (v w : ℕ) (ix iy : List Atom) (n o : ℕ) → f.test ≡ State v ix (Num n) → g.test ≡ State w iy (Num o) → Says g.yes (Num n) (Num o)
-      states v w ix iy n o ef eg =
-          let tf : IsTest comps (State v ix (Num n)) = subst (IsTest comps) ef (calm.tests f a) in
-          let tg : IsTest comps (State w iy (Num o)) = subst (IsTest comps) eg (calm.tests g b) in
-          let ff : IsFine s (State v ix (Num n)) = subst (IsFine s) ef (calm.fine f a) in
-          let fg : IsFine s (State w iy (Num o)) = subst (IsFine s) eg (calm.fine g b) in
+      tells : (y : Bool) (t u : Term) → BothAsked t u → Tells y t u → Says y (normal (classes_by facts comps) t) (normal (classes_by facts comps) u)
+      tells true t u both h = ap (normal (classes_by facts comps)) h
+      tells false t u (inl e) h = absurd (h e)
+      tells false t u (inr n) h = numbers t u n.0 n.1 h
+
+      states : (v w : ℕ) (ix iy : List Atom) (t u : Term) → f.test ≡ State v ix t → g.test ≡ State w iy u → Says g.yes (normal (classes_by facts comps) t) (normal (classes_by facts comps) u)
+      states v w ix iy t u ef eg =
+          let tf : IsTest comps (State v ix t) = subst (IsTest comps) ef (calm.tests f a) in
+          let tg : IsTest comps (State w iy u) = subst (IsTest comps) eg (calm.tests g b) in
+          let ff : IsFine s (State v ix t) = subst (IsFine s) ef (calm.fine f a) in
+          let fg : IsFine s (State w iy u) = subst (IsFine s) eg (calm.fine g b) in
           let var : v ≡ w = ap var_of (sym ef) ∙ same.var ∙ ap var_of eg in
           let idx : map (atom_class (classes_by facts comps)) ix ≡ map (atom_class (classes_by facts comps)) iy
           = ap (λ (t : Test). map (atom_class (classes_by facts comps)) (index_of t)) (sym ef) ∙ same.index ∙ ap (λ (t : Test). map (atom_class (classes_by facts comps)) (index_of t)) eg in
-          let one : ix ≡ iy = same_spelled v ix iy (slice_get s.arrays.items v) ff.2 (subst (λ (u : ℕ). IndexIsFine s (slice_get s.arrays.items u) iy) (sym var) fg.2) (recursion_from_All (IsAtom comps) ix tf.1) (recursion_from_All (IsAtom comps) iy tg.1) idx in
-          let subject : SameSubject f.test g.test = rw (ef, eg) (var, one) in
-          let t : Tells g.yes (number_of f.test) (number_of g.test) = calm.agree f g a b passed subject in
-          tells g.yes n o (rw (ef, eg) at t)
+          let one : (ix ≡ iy) × BothAsked t u = same_spelled ix iy t u (slice_get s.arrays.items v) (clear_at s v clear) ff.2 (subst (λ (z : ℕ). IndexIsFine s (slice_get s.arrays.items z) iy u) (sym var) fg.2) tf.1 tg.1 idx in
+          let subject : SameSubject f.test g.test = rw (ef, eg) (var, one.0) in
+          let h : Tells g.yes (number_of f.test) (number_of g.test) = calm.agree f g a b passed subject in
+          tells g.yes t u one.1 (rw (ef, eg) at h)
 
       by : (t u : Test) → f.test ≡ t → g.test ≡ u → Says g.yes (normal (classes_by facts comps) (left_of f.test)) (normal (classes_by facts comps) (left_of g.test))
       by (Value c n) u ef eg = absurd (let h : is_state (Value c n) ≡ true = ap is_state (sym ef) ∙ same.first in cc)
       by (Equal l r p) u ef eg = absurd (subst (IsFine s) ef (calm.fine f a))
-      by (State v ix (Plus c p)) u ef eg = absurd (subst (IsFine s) ef (calm.fine f a))
-      by (State v ix (Num n)) (Value c o) ef eg = absurd (let h : is_state (Value c o) ≡ true = ap is_state (sym eg) ∙ same.second in cc)
-      by (State v ix (Num n)) (Equal l r p) ef eg = absurd (subst (IsFine s) eg (calm.fine g b))
-      by (State v ix (Num n)) (State w iy (Plus c p)) ef eg = absurd (subst (IsFine s) eg (calm.fine g b))
-      by (State v ix (Num n)) (State w iy (Num o)) ef eg = rw (ef, eg) (states v w ix iy n o ef eg)
+      by (State v ix t) (Value c o) ef eg = absurd (let h : is_state (Value c o) ≡ true = ap is_state (sym eg) ∙ same.second in cc)
+      by (State v ix t) (Equal l r p) ef eg = absurd (subst (IsFine s) eg (calm.fine g b))
+      by (State v ix t) (State w iy u) ef eg = rw (ef, eg) (states v w ix iy t u ef eg)
 
   class_is : (c : ℕ) → c < comps → IsClass (classes_by facts comps) (class_by (number_at facts c) c)
   class_is c l = by (number_at facts c) refl

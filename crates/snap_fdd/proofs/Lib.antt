@@ -6,5 +6,6 @@ pub mod Picking
 pub mod Cutting
 pub mod Memoed
 pub mod Between
+pub mod Spotted
 pub mod Calm
 pub mod Quieting

@@ -1,7 +1,8 @@
 -- Nothing is dead below calm facts in a quiet diagram.
-use Rattle.std.proofs.Common.{◌≡◌, inl, inr, ℕ, zero, suc, Option, Some, None, ◌+◌, ◌<◌, ◌≤◌, ◌^◌, Bool, true, false, List, [], ◌∷◌, length, refl, sym, ap, subst, ◌∙◌, arith, length-append}
+use Rattle.std.proofs.Common.{◌≡◌, ◌⊎◌, inl, inr, ℕ, zero, suc, Option, Some, None, ◌+◌, ◌<◌, ◌≤◌, ◌^◌, Bool, true, false, List, [], ◌∷◌, length, refl, sym, ap, subst, ◌∙◌, arith, length-append}
 use Rattle.std.specs.declared.cmp.Ordering.TheVariants.{Less}
 use Rattle.snap_core.specs.declared.policy.Atom.{Atom}
+use Rattle.snap_core.specs.declared.policy.Term.{Term}
 use Rattle.snap_core.specs.declared.policy.Term.TheVariants.{Num, Plus}
 use Rattle.snap_core.specs.declared.policy.Test.{Test}
 use Rattle.snap_core.specs.declared.policy.Test.TheVariants.{Value, Equal as Same, State}
@@ -13,11 +14,11 @@ use Rattle.std.proofs.lemmas.List.Elements.{All-from_recursion, recursion_from_A
 use Rattle.snap_core.specs.declared.policy.Atom.TheVariants.{Num as Number, Comp}
 use Rattle.snap_core.specs.Arrays.{Arrays, place_at}
 use Rattle.snap_core.specs.Fits.{AtomFits}
-use Rattle.snap_core.specs.Tests.{passes}
-use Rattle.snap_ctx.specs.Ranges.{AtomInRange}
+use Rattle.snap_core.specs.Tests.{passes, TermFits}
+use Rattle.snap_ctx.specs.Ranges.{AtomInRange, TermInRange}
 use Rattle.snap_core.specs.Listing.{number_in}
 use Rattle.snap_ctx.specs.declared.fact.Fact.{Fact}
-use Rattle.snap_ctx.specs.Classes.{IsAtom, IsTest}
+use Rattle.snap_ctx.specs.Classes.{IsAtom, IsTerm, IsTest}
 use Rattle.snap_ctx.specs.Meets.{Meets, IsMet, IsPacket, with_fact}
 use Rattle.snap_ctx.proofs.Answers.{Meets-parts}
 use Rattle.snap_ctx.specs.View.{View}
@@ -34,17 +35,13 @@ use Rattle.snap_fdd.specs.Diagrams.{Diagram, Only, Asks, diagram, IsNodeOf}
 use Rattle.snap_fdd.specs.Order.{test_cmp, Above, IsOrdered}
 use Rattle.snap_fdd.specs.Picks.{IsDiagram, sizes}
 use Rattle.snap_fdd.specs.Pruned.{Someone, With, IsLive}
-use Rattle.snap_fdd.specs.Quiet.{IsFine, SameSubject, BeginsElsewhere, IsQuiet, IsMarked, StandsBefore, depth}
+use Rattle.snap_fdd.specs.Quiet.{IndexIsFine, IsClear, IsFine, SameSubject, BeginsElsewhere, IsQuiet, IsMarked, StandsBefore, depth}
+use Rattle.snap_fdd.specs.Spots.{IsNumber}
+use Rattle.snap_fdd.proofs.Spotted.{BothAsked, clear_at, same_asked}
 use Rattle.snap_fdd.proofs.Between.{Plain, same_between}
 use Rattle.snap_fdd.proofs.Calm.{Among, among_last, from_all, Tells, number_of, IsCalm, calm_is_met}
 use Rattle.snap_fdd.proofs.Comparing.{less_trans, not_itself}
 use Rattle.snap_fdd.proofs.Shared.{kept, node_of}
-
-fine_plain : (s : Survey) (t : Test) → IsFine s t → Plain t
-fine_plain s (Value c n) f = tt
-fine_plain s (Same l r p) f = f
-fine_plain s (State v ix (Num n)) f = tt
-fine_plain s (State v ix (Plus c p)) f = f
 
 turned : (t u : Test) → SameSubject t u → SameSubject u t
 turned (Value c n) (Value d o) e = sym e
@@ -55,17 +52,33 @@ turned (State v ix x) (Value d o) e = e
 turned (State v ix x) (Same l r p) e = e
 turned (State v ix x) (State w iy y) e = (sym e.0, sym e.1)
 
--- one subject and one number: one test
-one_test : (s : Survey) (t u : Test) → IsFine s t → IsFine s u → SameSubject t u → number_of t ≡ number_of u → t ≡ u
-one_test s (Value c n) (Value d o) ft fu e h = λ i. Value (e i) (h i)
-one_test s (Value c n) (Same l r p) ft fu e h = absurd e
-one_test s (Value c n) (State v ix x) ft fu e h = absurd e
-one_test s (Same l r p) u ft fu e h = absurd e
-one_test s (State v ix (Plus c p)) u ft fu e h = absurd ft
-one_test s (State v ix (Num n)) (Value d o) ft fu e h = absurd e
-one_test s (State v ix (Num n)) (Same l r p) ft fu e h = absurd e
-one_test s (State v ix (Num n)) (State w iy (Plus c p)) ft fu e h = absurd fu
-one_test s (State v ix (Num n)) (State w iy (Num o)) ft fu e h = λ i. State (e.0 i) (e.1 i) (Num (h i))
+-- one subject and one number or term: one test
+one_test : (t u : Test) → SameSubject t u → number_of t ≡ number_of u → t ≡ u
+one_test (Value c n) (Value d o) e h = (let k : n ≡ o = cc in λ i. Value (e i) (k i))
+one_test (Value c n) (Same l r p) e h = absurd e
+one_test (Value c n) (State v ix x) e h = absurd e
+one_test (Same l r p) u e h = absurd e
+one_test (State v ix t) (Value d o) e h = absurd e
+one_test (State v ix t) (Same l r p) e h = absurd e
+one_test (State v ix t) (State w iy u) e h = λ i. State (e.0 i) (e.1 i) (h i)
+
+-- two fine tests of one subject are one, or both are of numbers
+one_or_plain : (s : Survey) → IsClear s → (t u : Test) → IsFine s t → IsFine s u → SameSubject t u → BothAsked (number_of t) (number_of u) × ((number_of t ≡ number_of u) ⊎ (Plain t × Plain u))
+one_or_plain s clear (Value c n) (Value d o) ft fu e = (inr (tt, tt), inr (tt, tt))
+one_or_plain s clear (Value c n) (Same l r p) ft fu e = absurd e
+one_or_plain s clear (Value c n) (State v ix x) ft fu e = absurd e
+one_or_plain s clear (Same l r p) u ft fu e = absurd e
+one_or_plain s clear (State v ix t) (Value d o) ft fu e = absurd e
+one_or_plain s clear (State v ix t) (Same l r p) ft fu e = absurd e
+one_or_plain s clear (State v ix t) (State w iy u) ft fu e = (both, elim both [ inl h ↦ inl h | inr n ↦ inr (plain v ix t n.0, plain w iy u n.1) ])
+  where
+    both : BothAsked t u
+    both = same_asked s (slice_get s.arrays.items v) ix t u (clear_at s v clear) ft.2
+        (subst (λ (iz : List Atom). IndexIsFine s (slice_get s.arrays.items v) iz u) (sym e.1) (subst (λ (z : ℕ). IndexIsFine s (slice_get s.arrays.items z) iy u) (sym e.0) fu.2))
+
+    plain : (v : ℕ) (ix : List Atom) (t : Term) → IsNumber t → Plain (State v ix t)
+    plain v ix (Num n) h = tt
+    plain v ix (Plus c p) h = absurd h
 
 -- the facts are on tests before t, and those that pass are on other subjects
 abbrev pub IsBeforeTest : List ℕ → List Fact → Test → Type 0
@@ -94,15 +107,18 @@ calm_more ranks comps s facts t b calm test fine before = record {
 
     old : (g : Fact) → Among g facts → (y : Bool) → g.yes ≡ y → SameSubject t g.test → Tells y (number_of t) (number_of g.test)
     old g p true e same = absurd ((before g p).1 e (turned t g.test same))
-    old g p false f same = λ e. not_itself ranks g.test t (before g p).0 (sym (one_test s t g.test fine (calm.fine g p) same e))
+    old g p false f same = λ e. not_itself ranks g.test t (before g p).0 (sym (one_test t g.test same e))
 
-before_more : (ranks : List ℕ) (comps : ℕ) (s : Survey) (facts : List Fact) (t : Test) (b : Bool) (d : Diagram) → IsCalm comps s facts → IsFine s t → IsBeforeTest ranks facts t
+before_more : (ranks : List ℕ) (comps : ℕ) (s : Survey) → IsClear s → (facts : List Fact) (t : Test) (b : Bool) (d : Diagram) → IsCalm comps s facts → IsFine s t → IsBeforeTest ranks facts t
     → Above ranks t d → IsQuiet s d → (b ≡ true → BeginsElsewhere t d) → IsBefore ranks (with_fact facts t b) d
-before_more ranks comps s facts t b (Only l) calm fine before above quiet other = tt
-before_more ranks comps s facts t b (Asks u y n) calm fine before above quiet other = λ f a. elim (among_last f facts (record { test = t; yes = b }) a) [
+before_more ranks comps s clear facts t b (Only l) calm fine before above quiet other = tt
+before_more ranks comps s clear facts t b (Asks u y n) calm fine before above quiet other = λ f a. elim (among_last f facts (record { test = t; yes = b }) a) [
   | inl o ↦ (
     less_trans ranks f.test t u (before f o).0 above,
-    λ passed same. (before f o).1 passed (same_between ranks f.test t u (fine_plain s f.test (calm.fine f o)) (fine_plain s u quiet.0) (before f o).0 above same),
+    λ passed same. elim (one_or_plain s clear f.test u (calm.fine f o) quiet.0 same).1 [
+      | inl h ↦ absurd (not_itself ranks f.test u (less_trans ranks f.test t u (before f o).0 above) (one_test f.test u same h))
+      | inr p ↦ (before f o).1 passed (same_between ranks f.test t u p.0 p.1 (before f o).0 above same)
+    ],
   )
   | inr e ↦ rw e (above, other)
 ]
@@ -112,64 +128,78 @@ atoms_are comps [] f r = tt
 atoms_are comps (Number n ∷ ix) f r = (r.0, atoms_are comps ix f.1 r.1)
 atoms_are comps (Comp c ∷ ix) f r = (f.0, atoms_are comps ix f.1 r.1)
 
+term_is : (comps : ℕ) (t : Term) → TermFits comps t → TermInRange t → IsTerm comps t
+term_is comps (Num n) f r = r
+term_is comps (Plus c p) f r = (f, r)
+
 test_is : (sz : Sizes) (s : Survey) (t : Test) → TestIn sz t → IsFine s t → IsTest sz.comps t
 test_is sz s (Value c n) i f = (i.0, f.0)
 test_is sz s (Same l r p) i f = absurd f
-test_is sz s (State v ix (Plus c p)) i f = absurd f
-test_is sz s (State v ix (Num n)) i f = (i.1.few, All-from_recursion (IsAtom sz.comps) ix (atoms_are sz.comps ix i.1.atoms f.1), f.0)
+test_is sz s (State v ix t) i f = (i.1.few, All-from_recursion (IsAtom sz.comps) ix (atoms_are sz.comps ix i.1.atoms f.1), term_is sz.comps t i.2 f.0)
 
 -- those that meet one fact more
 more : (P : Arrays → List ℕ → Type 0) (facts : List Fact) (t : Test) (b : Bool) (comps : ℕ) → ((m : Arrays) (k : List ℕ) → IsPacket comps k → Meets facts m k → P m k)
     → (m : Arrays) (k : List ℕ) → IsPacket comps k → Meets (with_fact facts t b) m k → With P t b m k
 more P facts t b comps covers m k p h = let r = Meets-parts facts t b m k h in (covers m k p r.0, r.1)
 
-someone : (ranks : List ℕ) (sz : Sizes) (s : Survey) (P : Arrays → List ℕ → Type 0) (facts : List Fact) (t : Test) (b : Bool) → sz.comps ≤ 64
+someone : (ranks : List ℕ) (sz : Sizes) (s : Survey) → IsClear s → (P : Arrays → List ℕ → Type 0) (facts : List Fact) (t : Test) (b : Bool) → sz.comps ≤ 64
     → ((m : Arrays) (k : List ℕ) → IsPacket sz.comps k → Meets facts m k → P m k) → IsCalm sz.comps s (with_fact facts t b) → length facts + 1 ≤ 2 ^ 32 → Someone (With P t b)
-someone ranks sz s P facts t b few covers calm short =
+someone ranks sz s clear P facts t b few covers calm short =
     let l = length-append facts (record { test = t; yes = b } ∷ []) in
-    let met = calm_is_met sz.comps s (with_fact facts t b) calm few (omega (arith, l, short)) in
+    let met = calm_is_met sz.comps s clear (with_fact facts t b) calm few (omega (arith, l, short)) in
     record { entries = met.entries; packet = met.packet; store = met.is_store; is = more P facts t b sz.comps covers (number_in met.entries) met.packet met.is_packet met.meets }
 
-pub quiet_live : (ranks : List ℕ) (sz : Sizes) (s : Survey) (P : Arrays → List ℕ → Type 0) (facts : List Fact) (d : Diagram) → sz.comps ≤ 64
+pub quiet_live : (ranks : List ℕ) (sz : Sizes) (s : Survey) → IsClear s → (P : Arrays → List ℕ → Type 0) (facts : List Fact) (d : Diagram) → sz.comps ≤ 64
     → ((m : Arrays) (k : List ℕ) → IsPacket sz.comps k → Meets facts m k → P m k) → IsCalm sz.comps s facts → IsBefore ranks facts d → IsQuiet s d
     → IsOrdered ranks d → IsIn sz d → length facts + depth d ≤ 2 ^ 32 → IsLive P d
-quiet_live ranks sz s P facts (Only l) few covers calm before quiet order bounds short = tt
-quiet_live ranks sz s P facts (Asks t y n) few covers calm before quiet order bounds short =
+quiet_live ranks sz s clear P facts (Only l) few covers calm before quiet order bounds short = tt
+quiet_live ranks sz s clear P facts (Asks t y n) few covers calm before quiet order bounds short =
     let test = test_is sz s t bounds.0 quiet.0 in
     let passed = calm_more ranks sz.comps s facts t true calm test quiet.0 before in
     let failed = calm_more ranks sz.comps s facts t false calm test quiet.0 before in (
-      someone ranks sz s P facts t true few covers passed (omega (arith, short)),
-      someone ranks sz s P facts t false few covers failed (omega (arith, short)),
-      quiet_live ranks sz s (With P t true) (with_fact facts t true) y few (more P facts t true sz.comps covers) passed
-          (before_more ranks sz.comps s facts t true y calm quiet.0 before order.0 quiet.2 (λ e. quiet.1)) quiet.2 order.2 bounds.1 (let l = length-append facts (record { test = t; yes = true } ∷ []) in omega (arith, l, short)),
-      quiet_live ranks sz s (With P t false) (with_fact facts t false) n few (more P facts t false sz.comps covers) failed
-          (before_more ranks sz.comps s facts t false n calm quiet.0 before order.1 quiet.3 (λ e. absurd (cc))) quiet.3 order.3 bounds.2 (let l = length-append facts (record { test = t; yes = false } ∷ []) in omega (arith, l, short)),
+      someone ranks sz s clear P facts t true few covers passed (omega (arith, short)),
+      someone ranks sz s clear P facts t false few covers failed (omega (arith, short)),
+      quiet_live ranks sz s clear (With P t true) (with_fact facts t true) y few (more P facts t true sz.comps covers) passed
+          (before_more ranks sz.comps s clear facts t true y calm quiet.0 before order.0 quiet.2 (λ e. quiet.1)) quiet.2 order.2 bounds.1 (let l = length-append facts (record { test = t; yes = true } ∷ []) in omega (arith, l, short)),
+      quiet_live ranks sz s clear (With P t false) (with_fact facts t false) n few (more P facts t false sz.comps covers) failed
+          (before_more ranks sz.comps s clear facts t false n calm quiet.0 before order.1 quiet.3 (λ e. absurd (cc))) quiet.3 order.3 bounds.2 (let l = length-append facts (record { test = t; yes = false } ∷ []) in omega (arith, l, short)),
     )
 
 -- ---- facts that some store and packet meet
-tells_by : (x n o : ℕ) (y : Bool) → (x == n) ≡ true → (x == o) ≡ y → Tells y n o
-tells_by x n o true p q = sym (eqb-true x n p) ∙ eqb-true x o q
-tells_by x n o false p q = λ e. eqb-false x o q (eqb-true x n p ∙ e)
+tells_by : (x n o : ℕ) (y : Bool) → (x == n) ≡ true → (x == o) ≡ y → Tells y (Num n) (Num o)
+tells_by x n o true p q = ap Num (sym (eqb-true x n p) ∙ eqb-true x o q)
+tells_by x n o false p q = λ e. (let h : n ≡ o = cc in eqb-false x o q (eqb-true x n p ∙ h))
 
-agree_on : (s : Survey) (t u : Test) (y : Bool) (m : Arrays) (k : List ℕ) → IsFine s t → IsFine s u → passes t m k ≡ true → passes u m k ≡ y → SameSubject t u → Tells y (number_of t) (number_of u)
-agree_on s (Value c n) (Value d o) y m k ft fu p q e = tells_by (slice_index k c) n o y p (rw e q)
-agree_on s (Value c n) (Same l r x) y m k ft fu p q e = absurd e
-agree_on s (Value c n) (State v ix x) y m k ft fu p q e = absurd e
-agree_on s (Same l r x) u y m k ft fu p q e = absurd e
-agree_on s (State v ix (Plus c x)) u y m k ft fu p q e = absurd ft
-agree_on s (State v ix (Num n)) (Value d o) y m k ft fu p q e = absurd e
-agree_on s (State v ix (Num n)) (Same l r x) y m k ft fu p q e = absurd e
-agree_on s (State v ix (Num n)) (State w iy (Plus c x)) y m k ft fu p q e = absurd fu
-agree_on s (State v ix (Num n)) (State w iy (Num o)) y m k ft fu p q e = tells_by (m (place_at v ix k)) n o y p (rw (e.0, e.1) q)
+-- a test that passes tells its own answer
+tells_itself : (t u : Test) (y : Bool) (m : Arrays) (k : List ℕ) → t ≡ u → passes t m k ≡ true → passes u m k ≡ y → number_of t ≡ number_of u → Tells y (number_of t) (number_of u)
+tells_itself t u true m k e p q h = h
+tells_itself t u false m k e p q h = absurd (let r : passes u m k ≡ true = ap (λ (t : Test). passes t m k) (sym e) ∙ p in cc)
 
-pub met_calm : (comps : ℕ) (s : Survey) (facts : List Fact) → IsMet comps facts → All (λ f. IsTest comps f.test) facts → AllByRecursion (λ f. IsFine s f.test) facts → IsCalm comps s facts
-met_calm comps s facts met tests fine = record {
+agree_on : (s : Survey) → IsClear s → (t u : Test) (y : Bool) (m : Arrays) (k : List ℕ) → IsFine s t → IsFine s u → passes t m k ≡ true → passes u m k ≡ y → SameSubject t u → Tells y (number_of t) (number_of u)
+agree_on s clear (Value c n) (Value d o) y m k ft fu p q e = tells_by (slice_index k c) n o y p (rw e q)
+agree_on s clear (Value c n) (Same l r x) y m k ft fu p q e = absurd e
+agree_on s clear (Value c n) (State v ix x) y m k ft fu p q e = absurd e
+agree_on s clear (Same l r x) u y m k ft fu p q e = absurd e
+agree_on s clear (State v ix t) (Value d o) y m k ft fu p q e = absurd e
+agree_on s clear (State v ix t) (Same l r x) y m k ft fu p q e = absurd e
+agree_on s clear (State v ix t) (State w iy u) y m k ft fu p q e = elim (one_or_plain s clear (State v ix t) (State w iy u) ft fu e).0 [
+  | inl h ↦ tells_itself (State v ix t) (State w iy u) y m k (one_test (State v ix t) (State w iy u) e h) p q h
+  | inr n ↦ numbers t u n.0 n.1 p q
+]
+  where
+    numbers : (t u : Term) → IsNumber t → IsNumber u → passes (State v ix t) m k ≡ true → passes (State w iy u) m k ≡ y → Tells y t u
+    numbers (Num n) (Num o) i j p q = tells_by (m (place_at v ix k)) n o y p (rw (e.0, e.1) q)
+    numbers (Num n) (Plus c x) i j p q = absurd j
+    numbers (Plus c x) u i j p q = absurd i
+
+pub met_calm : (comps : ℕ) (s : Survey) → IsClear s → (facts : List Fact) → IsMet comps facts → All (λ f. IsTest comps f.test) facts → AllByRecursion (λ f. IsFine s f.test) facts → IsCalm comps s facts
+met_calm comps s clear facts met tests fine = record {
   tests = from_all (λ f. IsTest comps f.test) facts (recursion_from_All (λ (f : Fact). IsTest comps f.test) facts tests);
   fine = from_all (λ f. IsFine s f.test) facts fine;
   agree = λ f g a b passed same.
       let m = number_in met.entries in
       let meets = from_all (λ f. passes f.test m met.packet ≡ f.yes) facts (recursion_from_All (λ (f : Fact). passes f.test m met.packet ≡ f.yes) facts met.meets) in
-      agree_on s f.test g.test g.yes m met.packet (from_all (λ f. IsFine s f.test) facts fine f a) (from_all (λ f. IsFine s f.test) facts fine g b) (meets f a ∙ passed) (meets g b) same;
+      agree_on s clear f.test g.test g.yes m met.packet (from_all (λ f. IsFine s f.test) facts fine f a) (from_all (λ f. IsFine s f.test) facts fine g b) (meets f a ∙ passed) (meets g b) same;
 }
 
 all_fine : (ranks : List ℕ) (s : Survey) (t : Test) (facts : List Fact) → AllByRecursion (StandsBefore ranks s t) facts → AllByRecursion (λ f. IsFine s f.test) facts
@@ -179,6 +209,7 @@ all_fine ranks s t (f ∷ fs) h = (h.0.0, all_fine ranks s t fs h.1)
 -- marks stay
 pub still_marked : (s : Survey) (old new : List (Node Leaf)) (marks : List Bool) → Grew old new → IsMarked s old marks → IsMarked s new marks
 still_marked s old new marks g m = record {
+  clear = m.clear;
   few = (let l = length-append old g.more in let e = ap length g.is in let f = m.few in omega (arith, l, e, f));
   quiet = λ i h q. rw (kept old new i g (let f = m.few in omega (arith, f, h))) (m.quiet i h q);
 }
@@ -199,12 +230,12 @@ depth_under ns a (suc k) d l h = by (λ e f. depth_under ns a k e (omega (arith,
 pub depth_le : (ns : List (Node Leaf)) → IsArena ns → (d : ℕ) → d < length ns → depth (diagram ns d) ≤ d
 depth_le ns a d h = depth_under ns a (d + 1) d (omega arith) h
 
-pub stays_live : (g : Grouping) (s : Survey) (v : View) (t : Test) (y n d : Diagram) → d ≡ Asks t y n → length v.classes ≤ 64 → IsMet (length v.classes) v.facts → All (λ f. IsTest (length v.classes) f.test) v.facts
+pub stays_live : (g : Grouping) (s : Survey) → IsClear s → (v : View) (t : Test) (y n d : Diagram) → d ≡ Asks t y n → length v.classes ≤ 64 → IsMet (length v.classes) v.facts → All (λ f. IsTest (length v.classes) f.test) v.facts
     → AllByRecursion (StandsBefore g.ranks s t) v.facts → IsQuiet s d → IsDiagram g.ranks (sizes g v) d → length v.facts + depth d ≤ 2 ^ 32 → IsLive (Met v) d
-stays_live g s v t y n d e few met tests before quiet diagram short =
+stays_live g s clear v t y n d e few met tests before quiet diagram short =
     let stands = from_all (StandsBefore g.ranks s t) v.facts before in
     let q : IsQuiet s (Asks t y n) = subst (IsQuiet s) e quiet in
     let i : IsDiagram g.ranks (sizes g v) (Asks t y n) = subst (IsDiagram g.ranks (sizes g v)) e diagram in
-    rw e (quiet_live g.ranks (sizes g v) s (Met v) v.facts (Asks t y n) few (λ m k p h. record { packet = p; facts = h })
-    (met_calm (length v.classes) s v.facts met tests (all_fine g.ranks s t v.facts before))
+    rw e (quiet_live g.ranks (sizes g v) s clear (Met v) v.facts (Asks t y n) few (λ m k p h. record { packet = p; facts = h })
+    (met_calm (length v.classes) s clear v.facts met tests (all_fine g.ranks s t v.facts before))
     (λ f a. ((stands f a).1, (stands f a).2)) q i.ordered i.bounds (subst (λ (x : Diagram). length v.facts + depth x ≤ 2 ^ 32) e short))

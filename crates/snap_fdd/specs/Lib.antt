@@ -9,3 +9,4 @@ pub mod Picks
 pub mod Pruned
 pub mod Memoed
 pub mod Quiet
+pub mod Spots

@@ -1,41 +1,48 @@
--- Diagrams in which nothing can be dead: they test components and places for numbers alone, and no place can turn out to be another.
+-- Diagrams in which nothing can be dead: they test components for numbers, and places for numbers or one term, and no place can turn out to be another.
 use Rattle.std.specs.Prelude.{◌≡◌, ℕ, ◌+◌, ◌<◌, ◌≤◌, ◌^◌, max, Bool, true, false, Option, Some, None, List, length, slice_get, slice_index_or}
 use Rattle.std.specs.declared.cmp.Ordering.TheVariants.{Less}
 use Rattle.std.specs.List.{AllByRecursion}
 use Rattle.snap_core.specs.declared.policy.Atom.{Atom}
 use Rattle.snap_core.specs.declared.policy.Atom.TheVariants.{Num as Number, Comp}
-use Rattle.snap_core.specs.declared.policy.Term.TheVariants.{Num, Plus}
+use Rattle.snap_core.specs.declared.policy.Term.{Term}
 use Rattle.snap_core.specs.declared.policy.Test.{Test}
 use Rattle.snap_core.specs.declared.policy.Test.TheVariants.{Value, Equal, State}
 use Rattle.snap_core.specs.Variables.{has}
 use Rattle.snap_ctx.specs.declared.fact.Fact.{Fact}
-use Rattle.snap_ctx.specs.Ranges.{AtomInRange}
+use Rattle.snap_ctx.specs.Ranges.{AtomInRange, TermInRange}
 use Rattle.snap_fdd.specs.declared.survey.Seen.{Seen}
-use Rattle.snap_fdd.specs.declared.survey.Seen.TheVariants.{Never, One, Many}
+use Rattle.snap_fdd.specs.declared.survey.Seen.TheVariants.{Few, Many}
 use Rattle.snap_fdd.specs.declared.survey.Survey.{Survey}
 use Rattle.snap_arena.specs.declared.node.Node.{Node}
 use Rattle.snap_fdd.specs.declared.leaf.Leaf.{Leaf}
 use Rattle.snap_fdd.specs.Diagrams.{Diagram, Only, Asks, diagram}
 use Rattle.snap_fdd.specs.Order.{test_cmp}
+use Rattle.snap_fdd.specs.Spots.{SpotsApart, IsAt, IsNumber}
+
+-- no two places of an array turn out to be one
+abbrev pub SeenClear : ℕ → Seen → Type 0
+SeenClear values (Few spots) = SpotsApart values spots.items
+SeenClear values Many = Unit {0}
+
+abbrev pub IsClear : Survey → Type 0
+IsClear s = AllByRecursion (SeenClear s.values) s.arrays.items
 
 -- an atom that no test of a component's number gives a number
 abbrev pub AtomIsFree : Survey → Atom → Type 0
 AtomIsFree s (Number n) = Unit {0}
 AtomIsFree s (Comp c) = has s.values c ≡ false
 
--- the array is tested at this index alone, or the index has free atoms
-abbrev pub IndexIsFine : Survey → Option Seen → List Atom → Type 0
-IndexIsFine s (Some (One iy)) ix = ix ≡ iy
-IndexIsFine s (Some Many) ix = AllByRecursion (AtomIsFree s) ix
-IndexIsFine s (Some Never) ix = ⊥
-IndexIsFine s None ix = ⊥
+-- one of the places of the array, tested for the term, or an index of free atoms, tested for a number
+abbrev pub IndexIsFine : Survey → Option Seen → List Atom → Term → Type 0
+IndexIsFine s (Some (Few spots)) ix t = IsAt spots.items ix t
+IndexIsFine s (Some Many) ix t = AllByRecursion (AtomIsFree s) ix × IsNumber t
+IndexIsFine s None ix t = ⊥
 
--- a test of a number, as the survey says
+-- a test of a number, or of the one term that its place is tested for
 abbrev pub IsFine : Survey → Test → Type 0
 IsFine s (Value c n) = (n < 2 ^ 64) × (has s.values c ≡ true)
 IsFine s (Equal l r p) = ⊥
-IsFine s (State v ix (Num n)) = (n < 2 ^ 64) × AllByRecursion AtomInRange ix × IndexIsFine s (slice_get s.arrays.items v) ix
-IsFine s (State v ix (Plus c p)) = ⊥
+IsFine s (State v ix t) = TermInRange t × AllByRecursion AtomInRange ix × IndexIsFine s (slice_get s.arrays.items v) ix t
 
 -- tests of one component, or of one place
 abbrev pub SameSubject : Test → Test → Type 0
@@ -58,6 +65,7 @@ StandsBefore ranks s t f = IsFine s f.test × (test_cmp ranks f.test t ≡ Less)
 
 -- marks of quiet diagrams
 pub record IsMarked (s : Survey) (ns : List (Node Leaf)) (marks : List Bool) : Type 0 where
+  pub clear : IsClear s
   pub few : length marks ≤ length ns
   pub quiet : (i : ℕ) → i < length marks → slice_index_or marks i false ≡ true → IsQuiet s (diagram ns i)
 

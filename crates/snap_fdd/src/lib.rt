@@ -10,6 +10,7 @@ pub mod pick;
 pub mod pruning;
 mod quiet;
 pub mod sets;
+mod spots;
 mod subject;
 mod survey;
 #[cfg(test)]

@@ -8,7 +8,7 @@ ghost use Rattle.snap_fdd.specs.Diagrams.{diagram};
 ghost use Rattle.snap_fdd.specs.Order.{IsRanked, test_cmp};
 ghost use Rattle.snap_fdd.specs.Picks.{IsDiagram, sizes};
 ghost use Rattle.snap_fdd.specs.Pruned.{IsLive};
-ghost use Rattle.snap_fdd.specs.Quiet.{BeginsElsewhere, IsFine, IsMarked, IsQuiet, SameSubject, StandsBefore};
+ghost use Rattle.snap_fdd.specs.Quiet.{BeginsElsewhere, IsClear, IsFine, IsMarked, IsQuiet, SameSubject, StandsBefore};
 
 use crate::leaf::Leaf;
 use crate::order::compare;
@@ -84,6 +84,7 @@ fn is_quiet(nodes: &Nodes<Leaf>, survey: &Survey, quiet: &[bool], d: u64) -> boo
 
 /// Which of the numbers up to `root` are of quiet diagrams.
 pub fn quiet_ones(nodes: &Nodes<Leaf>, survey: &Survey, root: u64) -> Result<Vec<bool>, NoMemory>
+    requires { IsClear survey.now }
     ensures { IfOk result (λ quiet. IsMarked survey.now nodes.now quiet.items) }
 {
     let mut quiet = Vec::new(nodes.allocator());
@@ -108,13 +109,14 @@ fn stands_before(
     requires { IsRanked (length groups.now.ranks) test.now }
     ensures { IfOk result (λ b. IsTrue b → StandsBefore groups.now.ranks survey.now test.now fact.now) }
 {
-    if !survey.is_fine(&fact.test) || !has_rank(groups, &fact.test) {
+    let before = fact.test.test();
+    if !survey.is_fine(before) || !has_rank(groups, before) {
         return Ok(false);
     }
-    if compare(nodes.allocator(), groups, &fact.test, test)? != Ordering::Less {
+    if compare(nodes.allocator(), groups, before, test)? != Ordering::Less {
         return Ok(false);
     }
-    Ok(!fact.yes || !same_subject(&fact.test, test))
+    Ok(!fact.yes || !same_subject(before, test))
 }
 
 // Whether all facts are so.

@@ -2,12 +2,13 @@
 
 ghost use Rattle.std.specs.Prelude.{◌≡◌, ◌↔◌, ◌<◌, ◌≤◌, IfOk, IsTrue, length, slice_get};
 ghost use Rattle.std.specs.List.{AllByRecursion};
-ghost use Rattle.snap_ctx.specs.Ranges.{AtomInRange};
-ghost use Rattle.snap_fdd.specs.Quiet.{AtomIsFree, IndexIsFine, IsFine};
+ghost use Rattle.snap_ctx.specs.Ranges.{AtomInRange, TermInRange};
+ghost use Rattle.snap_fdd.specs.Quiet.{AtomIsFree, IndexIsFine, IsClear, IsFine, SeenClear};
+ghost use Rattle.snap_fdd.specs.Spots.{IsNumber};
 
 use crate::leaf::Leaf;
 use crate::sets::is_in;
-use snap_arena::equal::same_index;
+use crate::spots::{Spot, is_at, note_spot, spots_apart};
 use snap_arena::node::Node;
 use snap_arena::nodes::Nodes;
 use snap_core::NoMemory;
@@ -15,20 +16,24 @@ use snap_core::lists::Atoms;
 use snap_core::policy::{Atom, Term, Test};
 use std::alloc::Global;
 
-/// At which indices an array is tested.
+/// At which places an array is tested.
 #[derive(Debug, Drop)]
 pub enum Seen {
-    Never,
-    One(Atoms),
+    /// At these, each for numbers or for one term, and no two turn out to be one.
+    Few(Vec<Spot>),
+    /// At others too.
     Many,
 }
 
-/// The components that are tested for numbers, a bit each, and the indices of each array.
+/// The components that are tested for numbers, a bit each, and the places of each array.
 #[derive(Debug, Drop)]
 pub struct Survey {
     pub values: u64,
     pub arrays: Vec<Seen>,
 }
+
+// The most places that are remembered of an array: they are compared in pairs.
+const MOST_SPOTS: usize = 128;
 
 // Which numbers are reached from `root`.
 fn reached(nodes: &Nodes<Leaf>, root: u64) -> Result<Vec<bool>, NoMemory>
@@ -55,7 +60,7 @@ impl Survey {
     fn new(alloc: Global, arrays: usize) -> Result<Survey, NoMemory> {
         let mut seen = Vec::with_capacity(alloc, arrays)?;
         for _ in 0..arrays {
-            seen.push(Seen::Never)?;
+            seen.push(Seen::Few(Vec::new(alloc)))?;
         }
         Ok(Survey {
             values: 0,
@@ -72,26 +77,21 @@ impl Survey {
                 }
             }
             Test::Equal { .. } => {}
-            Test::State { var, index, .. } => self.note_index(*var as usize, index)?,
+            Test::State { var, index, value } => self.note_place(*var as usize, index, *value)?,
         }
         Ok(())
     }
 
-    fn note_index(&mut self, var: usize, index: &Atoms) -> Result<(), NoMemory> {
+    fn note_place(&mut self, var: usize, index: &Atoms, term: Term) -> Result<(), NoMemory> {
         if var >= self.arrays.len() {
             return Ok(());
         }
-        let seen = match &self.arrays[var] {
-            Seen::Never => Seen::One(index.copy()?),
-            Seen::One(other) => {
-                if same_index(index.list(), other.list()) {
-                    return Ok(());
-                }
-                Seen::Many
-            }
-            Seen::Many => return Ok(()),
+        let Seen::Few(spots) = &mut self.arrays[var] else {
+            return Ok(());
         };
-        self.arrays[var] = seen;
+        if !note_spot(spots, index, term)? || spots.len() > MOST_SPOTS {
+            self.arrays[var] = Seen::Many;
+        }
         Ok(())
     }
 
@@ -110,17 +110,18 @@ impl Survey {
         index.list().iter().all(|atom| self.is_free(*atom))
     }
 
-    fn has_index(&self, var: u16, index: &Atoms) -> bool
-        ensures { IsTrue result → IndexIsFine self.now (slice_get self.now.arrays.items var) index.now }
+    fn has_place(&self, var: u16, index: &Atoms, term: Term) -> bool
+        ensures { IsTrue result → IndexIsFine self.now (slice_get self.now.arrays.items var) index.now term }
     {
         match self.arrays.get(var as usize) {
-            Some(Seen::One(other)) => same_index(index.list(), other.list()),
-            Some(Seen::Many) => self.are_free(index),
-            _ => false,
+            Some(Seen::Few(spots)) => is_at(spots, index, term),
+            Some(Seen::Many) => is_number(term) && self.are_free(index),
+            None => false,
         }
     }
 
-    /// Whether a test is one of numbers at a subject that no other turns out to be.
+    /// Whether a test is of a number or of its place's one term, at a subject that no other turns out
+    /// to be.
     pub fn is_fine(&self, test: &Test) -> bool
         ensures { IsTrue result → IsFine self.now test.now }
     {
@@ -130,17 +131,27 @@ impl Survey {
                 is_in(self.values, *comp)
             }
             Test::Equal { .. } => false,
-            Test::State { var, index, value } => match value {
-                Term::Num(num) => {
-                    let _num = *num;
-                    know_index(index);
-                    self.has_index(*var, index)
-                }
-                Term::Plus { .. } => false,
-            },
+            Test::State { var, index, value } => {
+                know_term(*value);
+                know_index(index);
+                self.has_place(*var, index, *value)
+            }
         }
     }
 }
+
+fn is_number(term: Term) -> bool
+    ensures { IsTrue result → IsNumber term }
+{
+    match term {
+        Term::Num(_) => true,
+        Term::Plus { .. } => false,
+    }
+}
+
+fn know_term(term: Term)
+    ensures { TermInRange term }
+{}
 
 fn know_atom(atom: Atom)
     ensures { AtomInRange atom }
@@ -155,12 +166,41 @@ fn know_index(index: &Atoms)
     }
 }
 
-/// What the tests from a number on are.
+// The places of an array, where no two turn out to be one.
+fn judged(values: u64, seen: Seen) -> Seen
+    ensures { SeenClear values result }
+{
+    match seen {
+        Seen::Few(spots) => {
+            if spots_apart(values, &spots) {
+                Seen::Few(spots)
+            } else {
+                Seen::Many
+            }
+        }
+        Seen::Many => Seen::Many,
+    }
+}
+
+fn all_judged(alloc: Global, values: u64, arrays: Vec<Seen>) -> Result<Vec<Seen>, NoMemory>
+    ensures { IfOk result (λ arrays. AllByRecursion (SeenClear values) arrays.items) }
+{
+    let mut all = Vec::new(alloc);
+    for seen in arrays {
+        all.push(judged(values, seen))?;
+    }
+    Ok(all)
+}
+
+/// What the tests from a number on are. Places of an array that may turn out to be one aren't told
+/// apart.
 pub fn look_over(nodes: &Nodes<Leaf>, arrays: usize, root: u64) -> Result<Survey, NoMemory>
     requires { root < length nodes.now }
+    ensures { IfOk result IsClear }
 {
     let reached = reached(nodes, root)?;
-    let mut survey = Survey::new(nodes.allocator(), arrays)?;
+    let alloc = nodes.allocator();
+    let mut survey = Survey::new(alloc, arrays)?;
     for id in 0..reached.len() {
         if reached[id] {
             if let Node::Ask { test, .. } = nodes.get(id as u64) {
@@ -168,5 +208,9 @@ pub fn look_over(nodes: &Nodes<Leaf>, arrays: usize, root: u64) -> Result<Survey
             }
         }
     }
-    Ok(survey)
+    let arrays = all_judged(alloc, survey.values, survey.arrays)?;
+    Ok(Survey {
+        values: survey.values,
+        arrays,
+    })
 }

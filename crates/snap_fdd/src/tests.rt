@@ -195,3 +195,35 @@ fn a_way_that_no_one_goes_is_cut(rt: HostRuntime) -> Result<(), Fail> {
     assert_eq!(rt; prune(&mut nodes, &groups, &ctx, d)?, no);
     Ok(())
 }
+
+// Whether the first array holds 1 at a component's number or at one of 64 numbers, which are asked first.
+fn sixty_five_places(alloc: Global) -> Result<Vec<Test>, AllocError> {
+    let mut tests = vec![in alloc; state(alloc, 0, 2, Term::Num(1))?]?;
+    for num in 0..64u64 {
+        let index = Atoms::new(vec![in alloc; Atom::Num(63 - num)]?);
+        tests.push(Test::State {
+            var: 0,
+            index,
+            value: Term::Num(1),
+        })?;
+    }
+    Ok(tests)
+}
+
+#[test]
+fn a_place_is_known_after_sixty_four_tests(rt: HostRuntime) -> Result<(), Fail> {
+    let alloc = rt.alloc();
+    let groups = second_first(&rt, alloc)?;
+    let empty = Context::empty(alloc, 4)?;
+    let fact = value(2, 1);
+    assert!(rt; test_fits(&groups, &empty, &fact));
+    let Assumed::More(ctx) = empty.assume(&fact, true)? else {
+        return Err("impossible")?;
+    };
+    let mut nodes = Nodes::new(alloc);
+    let d = chain(&mut nodes, &groups, &ctx, &sixty_five_places(alloc)?)?;
+    assert_eq!(rt; variables(alloc, &nodes, d)?.len(), 65);
+    let pruned = prune(&mut nodes, &groups, &ctx, d)?;
+    assert_eq!(rt; variables(alloc, &nodes, pruned)?.len(), 64);
+    Ok(())
+}

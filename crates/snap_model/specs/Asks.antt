@@ -1,11 +1,11 @@
 -- What is asked of a model: a component, or a place.
-use Rattle.std.specs.Prelude.{◌≡◌, ℕ, ◌^◌, ◌<◌, ◌≤◌, true, List, length, map, slice_index}
+use Rattle.std.specs.Prelude.{◌≡◌, ℕ, ◌^◌, ◌<◌, ◌≤◌, ◌⊎◌, true, List, length, map, slice_index}
 use Rattle.snap_core.specs.declared.policy.Atom.TheVariants.{Num as Number}
 use Rattle.snap_core.specs.declared.policy.Term.TheVariants.{Num}
 use Rattle.snap_core.specs.declared.policy.Test.{Test}
 use Rattle.snap_core.specs.declared.policy.Test.TheVariants.{Value, State}
 use Rattle.snap_core.specs.Arrays.{Arrays}
-use Rattle.snap_ctx.specs.Meets.{with_fact}
+use Rattle.snap_ctx.specs.Meets.{NoneMeets, with_fact}
 use Rattle.snap_ctx.specs.View.{View}
 use Rattle.snap_model.specs.declared.ask.Ask.{Ask}
 use Rattle.snap_model.specs.declared.ask.Ask.TheVariants.{Component, At}
@@ -30,3 +30,11 @@ pub record IsSettled (v : View) (ask : Ask) (s : Settled) : Type 0 where
   pub facts : s.ctx.facts ≡ with_fact v.facts (test_of ask s.num) true
   pub small : s.num < 2 ^ 64
   pub same : length s.ctx.classes ≡ length v.classes
+
+-- no store and packet that meet the context answer so
+abbrev pub IsNever : View → Ask → ℕ → Type 0
+IsNever v ask n = NoneMeets (length v.classes) (with_fact v.facts (test_of ask n) true)
+
+-- the guess, or the least possible answer where the guess is none
+abbrev pub IsGuessOrLeast : View → Ask → ℕ → ℕ → Type 0
+IsGuessOrLeast v ask guess n = (n ≡ guess) ⊎ (IsNever v ask guess × ((i : ℕ) → i < n → IsNever v ask i))

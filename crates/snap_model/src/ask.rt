@@ -1,9 +1,8 @@
 //! Numbers that a model of a context may have.
 
-ghost use Rattle.std.specs.Prelude.{◌≡◌, IfOk, MatchOption, length, map, true};
+ghost use Rattle.std.specs.Prelude.{◌≡◌, IfOk, MatchOption, length, map};
 ghost use Rattle.snap_core.specs.declared.policy.Atom.TheVariants.{Num};
-ghost use Rattle.snap_ctx.specs.Meets.{NoneMeets, with_fact};
-ghost use Rattle.snap_model.specs.Asks.{AskFits, IsSettled, test_of};
+ghost use Rattle.snap_model.specs.Asks.{AskFits, IsGuessOrLeast, IsNever, IsSettled, test_of};
 
 use snap_core::NoMemory;
 use snap_core::lists::Atoms;
@@ -56,7 +55,7 @@ fn test_for(alloc: Global, ask: &Ask, num: u64) -> Result<Test, NoMemory>
 // Whether the answer may be a number.
 fn attempt(alloc: Global, ctx: &Context, ask: &Ask, num: u64) -> Result<Option<Settled>, NoMemory>
     requires { AskFits (length ctx.now.classes) ask.now }
-    ensures { IfOk result (λ o. MatchOption o (NoneMeets (length ctx.now.classes) (with_fact ctx.now.facts (test_of ask.now num) true)) (IsSettled ctx.now ask.now)) }
+    ensures { IfOk result (λ o. MatchOption o (IsNever ctx.now ask.now num) (λ settled. IsSettled ctx.now ask.now settled × (settled.num ≡ num))) }
 {
     let test = test_for(alloc, ask, num)?;
     match ctx.assume(&test, true)? {
@@ -68,7 +67,8 @@ fn attempt(alloc: Global, ctx: &Context, ask: &Ask, num: u64) -> Result<Option<S
 /// A number that the answer may be: the guess, or else the least one.
 pub fn settle(alloc: Global, ctx: &Context, ask: &Ask, guess: u64) -> Result<Settled, NoMemory>
     requires { AskFits (length ctx.now.classes) ask.now }
-    ensures { IfOk result (λ settled. IsSettled ctx.now ask.now settled) }
+    ensures settled { IfOk result (λ settled. IsSettled ctx.now ask.now settled) }
+    ensures least { IfOk result (λ settled. IsGuessOrLeast ctx.now ask.now guess settled.num) }
 {
     let _met = ctx.facts();
     if let Some(settled) = attempt(alloc, ctx, ask, guess)? {

@@ -6,7 +6,6 @@ use crate::example::example;
 use snap_core::lists::Atoms;
 use snap_core::policy::{Atom, Term, Test};
 use snap_ctx::context::{Assumed, Context};
-use snap_ctx::fact::Fact;
 use std::alloc::{AllocError, Global};
 use std::test::Fail;
 
@@ -28,12 +27,12 @@ fn fits(test: &Test, comps: u16) -> bool
     }
 }
 
-fn yes(test: Test) -> Fact {
-    Fact { test, yes: true }
+fn yes(test: Test) -> (Test, bool) {
+    (test, true)
 }
 
-fn no(test: Test) -> Fact {
-    Fact { test, yes: false }
+fn no(test: Test) -> (Test, bool) {
+    (test, false)
 }
 
 fn value(comp: u16, num: u64) -> Test {
@@ -57,23 +56,23 @@ fn at(alloc: Global, atom: Atom, value: Term) -> Result<Test, AllocError> {
 }
 
 // Whether the example of these facts over five components meets them.
-fn is_met(alloc: Global, facts: Vec<Fact>) -> Result<bool, Fail> {
+fn is_met(alloc: Global, facts: Vec<(Test, bool)>) -> Result<bool, Fail> {
     let mut ctx = Context::empty(alloc, 5)?;
     for fact in &facts {
-        if !fits(&fact.test, ctx.comps()) {
+        if !fits(&fact.0, ctx.comps()) {
             return Err("the test doesn't fit")?;
         }
-        match ctx.assume(&fact.test, fact.yes)? {
+        match ctx.assume(&fact.0, fact.1)? {
             Assumed::More(more) => ctx = more,
             Assumed::Impossible => return Err("impossible")?,
         }
     }
     let (store, packet) = example(alloc, &ctx)?;
     for fact in &facts {
-        if packet.comps().len() != 5 || !fits(&fact.test, 5) {
+        if packet.comps().len() != 5 || !fits(&fact.0, 5) {
             return Err("the test doesn't fit")?;
         }
-        if fact.test.passes(alloc, &store, &packet)? != fact.yes {
+        if fact.0.passes(alloc, &store, &packet)? != fact.1 {
             return Ok(false);
         }
     }

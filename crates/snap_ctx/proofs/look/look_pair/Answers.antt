@@ -10,17 +10,19 @@ returns c =
     let f = c.args.first.now in
     let g = c.args.second.now in
     let cl = c.args.classes.now in
+    let one = sym c.test.ensures ∙ c.in-State.is in
+    let two = sym c.test-2.ensures ∙ c.in-State-test.is in
     let same : SamePlace c.args.classes.now c.args.first.now.test c.args.second.now.test = record {
-      first = ap is_state c.in-State.is;
-      second = ap is_state c.in-State-test.is;
-      var = ap var_of c.in-State.is ∙ (omega arith) ∙ sym (ap var_of c.in-State-test.is);
-      index = ap (λ (t : Test). map (atom_class c.args.classes.now) (index_of t)) c.in-State.is
+      first = ap is_state one;
+      second = ap is_state two;
+      var = ap var_of one ∙ (omega arith) ∙ sym (ap var_of two);
+      index = ap (λ (t : Test). map (atom_class c.args.classes.now) (index_of t)) one
           ∙ (rw (← c.list.ensures, ← c.list-else-var-other_var.ensures) (c.same_index.ensures.0 c.if-not-same_index.false))
-          ∙ sym (ap (λ (t : Test). map (atom_class c.args.classes.now) (index_of t)) c.in-State-test.is);
+          ∙ sym (ap (λ (t : Test). map (atom_class c.args.classes.now) (index_of t)) two);
     } in
     let left : c.normal_at-left.result ≡ normal c.args.classes.now (left_of c.args.first.now.test)
-    = c.normal_at-left.ensures ∙ sym (ap (λ (t : Test). normal c.args.classes.now (left_of t)) c.in-State.is) in
+    = c.normal_at-left.ensures ∙ sym (ap (λ (t : Test). normal c.args.classes.now (left_of t)) one) in
     let right : c.normal_at-right.result ≡ normal c.args.classes.now (left_of c.args.second.now.test)
-    = c.normal_at-right.ensures ∙ sym (ap (λ (t : Test). normal c.args.classes.now (left_of t)) c.in-State-test.is) in
+    = c.normal_at-right.ensures ∙ sym (ap (λ (t : Test). normal c.args.classes.now (left_of t)) two) in
     pair_found c.args.classes.now c.args.first.now c.args.second.now c.compare.result c.requires.classes c.requires.first c.requires.second same c.if-not-first.false
     (rw (← left, ← right) c.compare.ensures)

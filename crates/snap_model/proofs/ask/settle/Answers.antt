@@ -1,7 +1,7 @@
 -- One of all numbers is possible.
-use Rattle.std.proofs.Common.{◌≤◌, true, length, arith}
+use Rattle.std.proofs.Common.{◌≡◌, ◌<◌, ◌≤◌, inr, ℕ, true, length, subst, sym, arith}
 use Rattle.snap_ctx.specs.Meets.{NoneMeets, with_fact}
-use Rattle.snap_model.specs.Asks.{test_of}
+use Rattle.snap_model.specs.Asks.{test_of, IsNever}
 use Rattle.snap_model.proofs.Asking.{one_more, some_answer}
 use Rattle.snap_model.proofs.ask.settle.Goals as goal
 
@@ -16,3 +16,20 @@ unreachable-requires c =
     some_answer c.args.ctx.now c.args.ask.now c.requires c.facts-met.ensures.met
     (one_more (λ j. NoneMeets (length c.args.ctx.now.classes) (with_fact c.args.ctx.now.facts (test_of c.args.ask.now j) true)) 18446744073709551615
     (λ j l. c.loop-num.invariant j (let m : 18446744073709551615 ≤ c.loop-num.num = c.loop-num-test.false in omega (arith, l, m))) none)
+
+pub returns-in-Some-2-clause-least : goal.returns-in-Some-2-clause-least
+returns-in-Some-2-clause-least c =
+    let none = rw c.in_default.is at c.in_ok-settled.ensures in
+    let found = rw c.in-Some-2.is at c.in_ok-settled-2.ensures in
+    inr (none, λ i l. c.loop-num.invariant i (subst (λ (n : ℕ). i < n) found.1 l))
+
+pub returns-clause-least : goal.returns-clause-least
+returns-clause-least c =
+    let none = rw c.in_default.is at c.in_ok-settled.ensures in
+    let found = rw c.in-Some-3.is at c.in_ok-settled-3.ensures in
+    inr (
+      none,
+      λ i l. c.loop-num.invariant i (
+          let e : c.in-Some-3.settled.num ≡ 18446744073709551615 = found.1 in
+          let m : 18446744073709551615 ≤ c.loop-num.num = c.loop-num-test.false in omega (arith, l, m, e)),
+    )

@@ -28,8 +28,8 @@ closed-requires-clause-rules c =
 test : (c : After-deref-2) → IsTest (length c.args.self.now.classes) c.args.test.now
 test c = is_test (length c.args.self.now.classes) c.args.test.now c.requires.fits c.requires.short c.know_test.ensures
 
-same_fact : (c : After-deref-2) → (let f : Fact = record { test = c.in_ok-copy.field-0; yes = c.args.yes } in f ≡ record { test = c.args.test.now; yes = c.args.yes })
-same_fact c = ap (λ (t : Test). let f : Fact = record { test = t; yes = c.args.yes } in f) c.in_ok-copy.ensures
+same_fact : (c : After-deref-2) → (let f : Fact = record { test = c.in_ok-copy_of.field-0; yes = c.args.yes } in f ≡ record { test = c.args.test.now; yes = c.args.yes })
+same_fact c = ap (λ (t : Test). let f : Fact = record { test = t; yes = c.args.yes } in f) c.in_ok-copy_of.ensures
 
 pub returns-in-None : goal.returns-in-None
 returns-in-None c =
@@ -42,8 +42,8 @@ returns-in-None c =
 all_facts : (c : In_ok-push-in-Some) → c.push.new.self.items ≡ with_fact c.args.self.now.facts c.args.test.now c.args.yes
 all_facts c =
     c.in_ok-push-in-Some.ensures.items
-    ∙ ap (λ (xs : List Fact). xs ++ record { test = c.in_ok-copy.field-0; yes = c.args.yes } ∷ []) (c.in_ok-facts-in-Some.ensures ∙ c.deref-in-Some.ensures.value ∙ ap (λ (v : View). v.facts) c.self.view_is)
-    ∙ ap (λ (t : Test). with_fact c.args.self.now.facts t c.args.yes) c.in_ok-copy.ensures
+    ∙ ap (λ (xs : List Fact). xs ++ record { test = c.in_ok-copy_of.field-0; yes = c.args.yes } ∷ []) (c.in_ok-facts-in-Some.ensures ∙ c.deref-in-Some.ensures.value ∙ ap (λ (v : View). v.facts) c.self.view_is)
+    ∙ ap (λ (t : Test). with_fact c.args.self.now.facts t c.args.yes) c.in_ok-copy_of.ensures
 
 done : (c : In_ok-push-in-Some) → IsClosed c.args.self.now.facts (record { test = c.args.test.now; yes = c.args.yes }) c.args.self.now.classes c.in-Some.classes.items
 done c =

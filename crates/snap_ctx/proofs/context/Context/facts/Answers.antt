@@ -1,5 +1,5 @@
 -- A context has a model.
-use Rattle.std.proofs.Common.{length, subst}
+use Rattle.std.proofs.Common.{◌<◌, ◌^◌, length, subst}
 use Rattle.std.specs.Prelude.{All}
 use Rattle.snap_ctx.specs.Meets.{IsMet}
 use Rattle.snap_ctx.specs.Classes.{IsTest}
@@ -12,3 +12,6 @@ returns-clause-met c = subst (λ (v : View). IsMet (length v.classes) v.facts) c
 
 pub returns-clause-tests : goal.returns-clause-tests
 returns-clause-tests c = subst (λ (v : View). All (λ f. IsTest (length v.classes) f.test) v.facts) c.self.view_is c.self.invariant.rules.tests
+
+pub returns-clause-few : goal.returns-clause-few
+returns-clause-few c = subst (λ (v : View). length v.facts < 2 ^ 32) c.self.view_is c.self.invariant.many
