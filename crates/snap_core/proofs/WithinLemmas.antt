@@ -1,7 +1,7 @@
 -- Outcomes within a run, one part after another.
 use Rattle.std.proofs.Common.{◌≡◌, ℕ, Option, Some, None, map, refl, sym, ap, subst, ◌∙◌, bit_or}
 use Rattle.std.specs.Prelude.{option_and_then, option_map, unwrap_or}
-use Rattle.std.specs.Int.Bits.{or_zero_l, or_zero_r}
+use Rattle.std.specs.Int.Bits.{or_zero_r}
 use Rattle.snap_core.specs.declared.policy.Pol.{Pol}
 use Rattle.snap_core.specs.declared.run.Logs.{Logs}
 use Rattle.snap_core.specs.Packets.{listed}

@@ -1,6 +1,6 @@
 use Rattle.std.proofs.Common.{◌≡◌, Result, Ok, Err, OnOk, ap, ◌∙◌, Some, cond}
 use Rattle.std.specs.Str.{bytes_eq}
-use Rattle.snap_core.specs.Cells.{cell, beside}
+use Rattle.snap_core.specs.Cells.{cell}
 use Rattle.snap_core.proofs.Beside.{beside-first}
 use Rattle.snap_core.proofs.array.Array.place.Goals as goal
 

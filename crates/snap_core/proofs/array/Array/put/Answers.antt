@@ -1,7 +1,7 @@
-use Rattle.std.proofs.Common.{ap, ◌∙◌, None, Some, cond}
+use Rattle.std.proofs.Common.{ap, ◌∙◌, Some, cond}
 use Rattle.std.proofs.lemmas.Result.{on_ok_weaker, on_err_weaker}
 use Rattle.std.specs.Str.{bytes_eq}
-use Rattle.snap_core.specs.Cells.{cell, beside}
+use Rattle.snap_core.specs.Cells.{cell}
 use Rattle.snap_core.proofs.Beside.{none-from, beside-not_first, beside-first, beside-second, beside-same}
 use Rattle.snap_core.proofs.array.Array.put.Goals as goal
 

@@ -1,7 +1,7 @@
 use Rattle.std.proofs.Common.{ap, sym, ◌∙◌, Some, cond}
 use Rattle.std.specs.Prelude.{◌&&◌}
 use Rattle.std.specs.Str.{bytes_eq}
-use Rattle.snap_core.specs.Cells.{cell, beside}
+use Rattle.snap_core.specs.Cells.{cell}
 use Rattle.snap_core.proofs.Beside.{beside-second_if}
 use Rattle.snap_core.proofs.array.Array.write_crowded.Goals as goal
 

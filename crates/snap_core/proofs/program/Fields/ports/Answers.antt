@@ -1,10 +1,9 @@
-use Rattle.std.proofs.Common.{◌≡◌, List, [], ◌∷◌, refl, sym, subst, arith}
+use Rattle.std.proofs.Common.{◌≡◌, [], ◌∷◌, refl, sym, subst, arith}
 use Rattle.std.specs.Prelude.{codes}
 use Rattle.std.specs.List.{IsDistinct}
 use Rattle.std.specs.Str.{bytes_eq}
 use Rattle.std.proofs.lemmas.List.Elements.{All-cons, All-nil}
 use Rattle.snap_core.specs.Fields.{IsFields, PrefixFits, names_of, plain_field, the_ports}
-use Rattle.snap_core.specs.declared.program.Field.{Field}
 use Rattle.snap_core.proofs.program.Fields.ports.Goals as goal
 
 different : IsDistinct bytes_eq (names_of the_ports)

@@ -1,4 +1,4 @@
-use Rattle.std.proofs.Common.{◌≡◌, ℕ, ap, ◌∙◌, None, Some, cond, rules}
+use Rattle.std.proofs.Common.{ap, ◌∙◌, Some, cond, rules}
 use Rattle.std.specs.Prelude.{is_some}
 use Rattle.std.specs.Str.{bytes_eq}
 use Rattle.snap_core.specs.Cells.{cell}
