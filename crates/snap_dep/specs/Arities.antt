@@ -2,7 +2,6 @@
 use Rattle.std.specs.Prelude.{◌≡◌, ℕ, ◌<◌, ◌≤◌, ◌⊎◌, List, slice_index}
 use Rattle.snap_core.specs.declared.policy.Pol.{Pol}
 use Rattle.snap_core.specs.Programs.{HasArity}
-use Rattle.snap_dep.specs.Dependencies.{Reads, Writes}
 
 -- each index of the policy is as long as told, and so are those of n variables in general: from 1 to 8 atoms
 pub record IsArityIn (p : Pol) (n : ℕ) (arity : ℕ → ℕ) : Type 0 where

@@ -14,8 +14,8 @@ use Rattle.snap_parse.specs.declared.tree.Literal.{Literal}
 use Rattle.snap_parse.specs.declared.tree.Literal.TheVariants as literals
 use Rattle.snap_parse.specs.declared.tree.Value.{Value}
 use Rattle.snap_parse.specs.declared.tree.Value.TheVariants as values
-use Rattle.snap_parse.specs.Tree.{PolicyTree, policy_begin, name_tree, test_tree, set_tree, bare_tree, array_test_tree, array_set_tree, up_tree, down_tree, array_add_tree, array_sub_tree, DeclTree, span_of}
-use Rattle.snap_parse.specs.Machine.{AfterPolicy, the_end, part_of_policy, AfterChoice, end_of_plain, AfterSingle, AfterValue, end_of_value, close_place, single_depth, value_depth, at_decl, at_constant, at_policy, at_sequence, at_choice, at_either, at_single, at_value, past_value, past_single, past_policy, Move, go, stuck, front, on_next, after_single, placed, after_name, literal_of, begin_value, begin_single, begin_either, begin_choice, begin_policy, begin_decl, on_literal, in_constant_value}
+use Rattle.snap_parse.specs.Tree.{PolicyTree, name_tree, test_tree, set_tree, bare_tree, array_test_tree, array_set_tree, up_tree, down_tree, array_add_tree, array_sub_tree, DeclTree, span_of}
+use Rattle.snap_parse.specs.Machine.{the_end, AfterChoice, end_of_plain, AfterSingle, AfterValue, end_of_value, close_place, single_depth, value_depth, at_decl, at_constant, at_policy, at_choice, at_either, at_single, at_value, past_value, past_single, past_policy, Move, go, stuck, front, on_next, after_single, placed, after_name, literal_of, begin_value, begin_single, begin_either, begin_choice, begin_policy, begin_decl, on_literal, in_constant_value}
 use Rattle.snap_parse.specs.declared.tree.Decl.{Decl}
 use Rattle.snap_parse.specs.Tree.{decl_tree}
 use Rattle.snap_parse.specs.declared.fault.ParseFault.{ParseFault}

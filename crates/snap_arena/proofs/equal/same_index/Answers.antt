@@ -1,5 +1,5 @@
 -- Equal atoms, one by one.
-use Rattle.std.proofs.Common.{rules, ◌≡◌, arith}
+use Rattle.std.proofs.Common.{rules}
 use Rattle.std.proofs.lemmas.Slice.Eq.{slice_eq-Decides}
 use Rattle.snap_arena.proofs.equal.same_index.Goals as goal
 

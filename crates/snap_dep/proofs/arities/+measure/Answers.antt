@@ -1,6 +1,5 @@
 -- Part by part.
-use Rattle.std.proofs.Common.{List, ℕ, subst}
-use Rattle.snap_core.specs.declared.policy.Pol.{Pol}
+use Rattle.std.proofs.Common.{subst}
 use Rattle.snap_dep.proofs.Measuring.{Steps, two_parts, choice}
 use Rattle.snap_dep.proofs.arities.+measure.Goals as goal
 

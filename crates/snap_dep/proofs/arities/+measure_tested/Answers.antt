@@ -1,6 +1,5 @@
 -- Part by part.
-use Rattle.std.proofs.Common.{List, ℕ, subst}
-use Rattle.snap_core.specs.declared.policy.Pred.{Pred}
+use Rattle.std.proofs.Common.{subst}
 use Rattle.snap_dep.proofs.Measuring.{PredSteps, two_preds}
 use Rattle.snap_dep.proofs.arities.+measure_tested.Goals as goal
 

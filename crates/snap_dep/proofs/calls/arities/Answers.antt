@@ -1,5 +1,5 @@
 -- From ones.
-use Rattle.std.proofs.Common.{◌≡◌, ◌++◌, List, ℕ, drop, length, take, replicate, subst, sym, rules}
+use Rattle.std.proofs.Common.{◌≡◌, ◌++◌, drop, length, take, replicate, subst, sym, rules}
 use Rattle.std.specs.Prelude.{slice_index}
 use Rattle.snap_core.specs.Fields.{count}
 use Rattle.snap_dep.specs.Arities.{IsArityIn}

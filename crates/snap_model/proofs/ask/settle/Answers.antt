@@ -1,7 +1,7 @@
 -- One of all numbers is possible.
-use Rattle.std.proofs.Common.{◌≡◌, ◌<◌, ◌≤◌, inr, ℕ, true, length, subst, sym, arith}
+use Rattle.std.proofs.Common.{◌≡◌, ◌<◌, ◌≤◌, inr, ℕ, true, length, subst, arith}
 use Rattle.snap_ctx.specs.Meets.{NoneMeets, with_fact}
-use Rattle.snap_model.specs.Asks.{test_of, IsNever}
+use Rattle.snap_model.specs.Asks.{test_of}
 use Rattle.snap_model.proofs.Asking.{one_more, some_answer}
 use Rattle.snap_model.proofs.ask.settle.Goals as goal
 

@@ -1,10 +1,10 @@
 -- The old number, or the list's next.
-use Rattle.std.proofs.Common.{◌≡◌, ◌++◌, ◌∷◌, [], length, Some, None, cond, sym, ap, subst, ◌∙◌, rules, refl}
+use Rattle.std.proofs.Common.{◌≡◌, length, Some, None, cond, sym, ap, ◌∙◌, rules}
 use Rattle.std.specs.Str.{bytes_eq}
 use Rattle.snap_core.specs.Cells.{cell}
 use Rattle.snap_arena.specs.Codes.{node_code}
-use Rattle.snap_arena.specs.Arena.{IsNumbered, IsLower, Grew}
-use Rattle.snap_arena.proofs.Numbered.{at_found, noted_old, noted_new, numbered_more, undone}
+use Rattle.snap_arena.specs.Arena.{IsLower}
+use Rattle.snap_arena.proofs.Numbered.{at_found, noted_old, noted_new, numbered_more}
 use Rattle.snap_arena.proofs.nodes.Nodes.note.Goals as goal
 
 pub returns-in-Some-clause-ok : goal.returns-in-Some-clause-ok
