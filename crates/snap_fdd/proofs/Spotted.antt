@@ -1,11 +1,10 @@
 -- Places that are apart, and what is known of two of them.
-use Rattle.std.proofs.Common.{◌≡◌, ◌⊎◌, inl, inr, ℕ, zero, suc, ◌+◌, ◌<◌, Option, Some, None, List, [], ◌∷◌, ◌++◌, length, get_or, refl, sym, ap, subst, ◌∙◌, arith}
+use Rattle.std.proofs.Common.{◌≡◌, ◌⊎◌, inl, inr, ℕ, zero, suc, ◌<◌, Option, Some, None, List, [], ◌∷◌, ◌++◌, length, get_or, refl, sym, subst, ◌∙◌, arith}
 use Rattle.std.specs.Prelude.{slice_get}
 use Rattle.std.specs.List.{AllByRecursion}
 use Rattle.snap_core.specs.declared.policy.Atom.{Atom}
 use Rattle.snap_core.specs.declared.policy.Atom.TheVariants.{Num as Number, Comp}
 use Rattle.snap_core.specs.declared.policy.Term.{Term}
-use Rattle.snap_core.specs.declared.policy.Term.TheVariants.{Num, Plus}
 use Rattle.snap_ctx.proofs.Each.{Each-append}
 use Rattle.snap_fdd.specs.declared.spots.Asked.{Asked}
 use Rattle.snap_fdd.specs.declared.spots.Asked.TheVariants.{Numbers, Only}
@@ -13,7 +12,7 @@ use Rattle.snap_fdd.specs.declared.spots.Spot.{Spot}
 use Rattle.snap_fdd.specs.declared.survey.Seen.{Seen}
 use Rattle.snap_fdd.specs.declared.survey.Seen.TheVariants.{Few, Many}
 use Rattle.snap_fdd.specs.declared.survey.Survey.{Survey}
-use Rattle.snap_fdd.specs.Quiet.{AtomIsFree, IndexIsFine, SeenClear, IsClear}
+use Rattle.snap_fdd.specs.Quiet.{IndexIsFine, SeenClear, IsClear}
 use Rattle.snap_fdd.specs.Spots.{IsNumber, AskedFor, AtomsApart, IndicesApart, SpotsApart, IsAt}
 
 -- one place more, apart from all

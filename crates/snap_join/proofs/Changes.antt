@@ -13,7 +13,7 @@ use Rattle.snap_core.specs.declared.policy.Update.{Update}
 use Rattle.snap_core.specs.Arrays.{Arrays, same_place, place_at, number_after, update, updates, taken}
 use Rattle.snap_core.specs.Variables.{has, meets}
 use Rattle.snap_core.specs.Packets.{PacketSet, packet_cmp, no_packets, with_packet, with_packets, union}
-use Rattle.snap_core.proofs.PacketSets.{same_packets, contains-with_packet, contains-no_packets, contains-listed, union-with_packets, swapped_out, or-none}
+use Rattle.snap_core.proofs.PacketSets.{same_packets, contains-with_packet, contains-no_packets, contains-listed, union-with_packets}
 use Rattle.snap_core.proofs.Unwritten.{without}
 use Rattle.snap_core.specs.declared.policy.Atom.{Atom}
 use Rattle.snap_fdd.specs.declared.leaf.Leaf.{Leaf}
@@ -105,6 +105,14 @@ apart r w s x e v h =
     let l = bit_at-lt w v in
     let ls = bit_at-lt s v in
     without w v (omega (arith, one, a, o, z, l, ls))
+
+swapped_out : (a b c : Bool) → ((a || b) || c) ≡ (b || (a || c))
+swapped_out true true c = refl
+swapped_out true false c = refl
+swapped_out false b c = refl
+
+or-none : (a b : Bool) → b ≡ false → a ≡ (a || b)
+or-none a b e = or-false a ∙ ap (λ t. a || t) (sym e)
 
 contains-results : (s : PacketSet) (os : List (List (ℕ × Atom))) (k q : List ℕ) → contains_key (results_from s os k) q ≡ (contains_key s q || list_any (eq_by_cmp packet_cmp q) (map (λ o. after_out o k) os))
 contains-results s [] k q = or-none (contains_key s q) false refl

@@ -1,5 +1,5 @@
 -- The spot that was found.
-use Rattle.std.proofs.Common.{◌≡◌, get_or, subst}
+use Rattle.std.proofs.Common.{◌≡◌, subst}
 use Rattle.snap_fdd.specs.declared.spots.Spot.{Spot}
 use Rattle.snap_fdd.specs.Spots.{AskedFor}
 use Rattle.snap_fdd.proofs.Spotted.{at_number}

@@ -1,5 +1,5 @@
 -- One place more.
-use Rattle.std.proofs.Common.{◌≡◌, get_or, take, List, subst, sym}
+use Rattle.std.proofs.Common.{take, subst, sym}
 use Rattle.std.proofs.lemmas.List.{take_more}
 use Rattle.std.specs.List.{AllByRecursion}
 use Rattle.snap_fdd.specs.declared.spots.Spot.{Spot}
