@@ -1,5 +1,6 @@
 -- The outs give one packet or none, or d writes nothing; else the leaf is settled first.
 use Rattle.std.proofs.Common.{◌≡◌, ◌⊎◌, inl, inr, sym, length, ◌≤◌, arith}
+use Rattle.std.proofs.lemmas.Bool.{not-true}
 use Rattle.std.proofs.lemmas.Result.{IfOk-weaker}
 use Rattle.snap_fdd.specs.Bounds.{LeafIn}
 use Rattle.snap_fdd.specs.Diagrams.{diagram}
@@ -30,6 +31,6 @@ returns-then-list-le1-clause-chained c =
     let e = goes_at (diagram c.args.nodes.now c.args.a) c.requires.leaf.0 c.in_ok-go_of.field-0 c.in-Some.go c.requires.leaf.1 c.in_ok-go_of.ensures c.in-Some.is in
     let once : (length c.in-Some.go.outs ≤ 1) ⊎ WritesNothing (diagram c.args.nodes.now c.args.d) = elim c.then-list-le1.branch [
       | then-list-le1-via-then-list-le1 w ↦ inl (rw (sym c.list.ensures) (omega (arith, w.if-list-le1.true)))
-      | then-list-le1-via-else-list-le1+then-not-mark_of w ↦ inr (marked_writes_nothing w.mark_of.result (diagram c.args.nodes.now c.args.d) w.mark_of.ensures (w.if-not-mark_of.true))
+      | then-list-le1-via-else-list-le1+then-not-mark_of w ↦ inr (marked_writes_nothing w.mark_of.result (diagram c.args.nodes.now c.args.d) w.mark_of.ensures (not-true w.mark_of.result.writes w.if-not-mark_of.true))
     ] in
     IfOk-weaker c.spread.result _ _ (λ r s. chained_once c.args.groups.now.ranks c.args.ctx.now c.in-Some.go (diagram c.args.nodes.now c.args.d) (diagram c.args.nodes.now c.args.a) (diagram c.spread.new.nodes r) e once s) c.spread.ensures.spread
