@@ -49,11 +49,11 @@ module _ (p : Pol) (n : ℕ) (tied : TiedIsEquivalence p) (one : HasOneRank p n)
   same_rank order r s ranked x y v l =
       same_place order ranked (r v) (s v) (x.below v l) (y.below v l) (tied.on _ v _ (x.group v l) (tied.back _ _ (y.group v l)))
 
-  same_grouping : (a b : Grouping) → IsGrouping p n a → IsGrouping p n b → a ≡ b
-  same_grouping a b x y =
+  same_groups : (names : List (List ℕ)) (a b : Grouping) → IsGrouping p n a → IsGrouping p n b → groups_text names a ≡ groups_text names b
+  same_groups names a b x y =
       let order = one.unique a.order b.order x.order y.order in
       let ranks = subst (λ o. IsRankIn p n o (rank_of b)) (sym order) y.ranks in
-      ap₂ (λ r o. record { ranks = r; order = o })
+      ap₂ (λ r o. groups_text names (record { ranks = r; order = o; arities = [] }))
       (same_number_lists a.ranks b.ranks (x.count ∙ sym y.count) (λ k l. same_rank a.order (rank_of a) (rank_of b) x.order x.ranks ranks k (subst (λ m. k < m) x.count l)))
       order
 
@@ -61,5 +61,5 @@ pub one_text : ((p : Pol) → TiedIsEquivalence p) → ((p : Pol) (n : ℕ) → 
 one_text tied one p bounded a b x y =
     let n = length p.vars in
     let pairs = same_pairs (Depends p.body) x.pairs y.pairs x.dependencies y.dependencies in
-    let grouping = same_grouping p.body n (tied p.body) (one p.body n (UsesBelow-fits (count p.fields) n p.body bounded.fits)) x.grouping y.grouping x.groups y.groups in
-    x.is ∙ rw (pairs, grouping) (sym y.is)
+    let groups = same_groups p.body n (tied p.body) (one p.body n (UsesBelow-fits (count p.fields) n p.body bounded.fits)) p.vars x.grouping y.grouping x.groups y.groups in
+    x.is ∙ rw (pairs, groups) (sym y.is)

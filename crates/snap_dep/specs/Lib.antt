@@ -1,3 +1,4 @@
+pub mod Arities
 pub mod Dependencies
 pub mod Locality
 pub mod Ranks

@@ -1,5 +1,5 @@
 -- Ways that are met, and ways that are not.
-use Rattle.std.proofs.Common.{◌≡◌, inl, inr, ℕ, Bool, true, false, cond, List, length, refl, sym, ap, subst, ◌∙◌}
+use Rattle.std.proofs.Common.{◌≡◌, inl, inr, ℕ, Bool, true, false, cond, List, length, refl, sym, ap, subst, ◌∙◌, arith}
 use Rattle.std.specs.Prelude.{◌<◌, ◌≢◌, ◌==◌, Result, Ok, Err, IfOk}
 use Rattle.std.proofs.lemmas.Bool.{eqb-false, false_from_ne_true, true_from_ne_false}
 use Rattle.std.proofs.lemmas.Bool.Decides.{Decides-eqb}
@@ -11,6 +11,7 @@ use Rattle.snap_core.specs.Listing.{number_in}
 use Rattle.snap_core.specs.Tests.{TestFits, passes}
 use Rattle.snap_ctx.specs.declared.fact.Fact.{Fact}
 use Rattle.snap_ctx.specs.Meets.{Meets, NoneMeets, IsMet, with_fact}
+use Rattle.snap_dep.specs.Ranks.{Grouping, arity_of}
 use Rattle.snap_ctx.specs.View.{View}
 use Rattle.snap_ctx.proofs.Answers.{Meets-parts, Meets-with_fact}
 use Rattle.snap_arena.specs.declared.node.Node.{Node}
@@ -58,18 +59,18 @@ live_weaker P Q f (Asks t y n) h = (
 )
 
 pub test_fits : (s : Sizes) (t : Test) → TestIn s t → TestFits s.comps t
-test_fits s (Value c n) h = h
-test_fits s (Equal l r p) h = h
+test_fits s (Value c n) h = h.0
+test_fits s (Equal l r p) h = (omega (arith, h.0, h.1), h.1)
 test_fits s (State v ix t) h = (h.1.atoms, h.2)
 
-same_sizes : (ranks : List ℕ) (v w : View) (t : Test) (b : Bool) → IsMore v w t b → sizes ranks w ≡ sizes ranks v
-same_sizes ranks v w t b i = ap (λ (n : ℕ). record { comps = n; vars = length ranks }) i.count
+same_sizes : (g : Grouping) (v w : View) (t : Test) (b : Bool) → IsMore v w t b → sizes g w ≡ sizes g v
+same_sizes g v w t b i = ap (λ (n : ℕ). record { comps = n; vars = length g.ranks; arity = arity_of g }) i.count
 
-pub under_more : (ranks : List ℕ) (v w : View) (t : Test) (b : Bool) (d : Diagram) → IsMore v w t b → IsDiagram ranks (sizes ranks v) d → IsDiagram ranks (sizes ranks w) d
-under_more ranks v w t b d i h = subst (λ (s : Sizes). IsDiagram ranks s d) (sym (same_sizes ranks v w t b i)) h
+pub under_more : (g : Grouping) (v w : View) (t : Test) (b : Bool) (d : Diagram) → IsMore v w t b → IsDiagram g.ranks (sizes g v) d → IsDiagram g.ranks (sizes g w) d
+under_more g v w t b d i h = subst (λ (s : Sizes). IsDiagram g.ranks s d) (sym (same_sizes g v w t b i)) h
 
-pub keeps_of : (ranks : List ℕ) (v w : View) (t : Test) (b : Bool) (d r : Diagram) → IsMore v w t b → IsPruned ranks (sizes ranks w) w d r → IsDiagram ranks (sizes ranks v) r
-keeps_of ranks v w t b d r i h = subst (λ (s : Sizes). IsDiagram ranks s r) (same_sizes ranks v w t b i) h.keeps
+pub keeps_of : (g : Grouping) (v w : View) (t : Test) (b : Bool) (d r : Diagram) → IsMore v w t b → IsPruned g.ranks (sizes g w) w d r → IsDiagram g.ranks (sizes g v) r
+keeps_of g v w t b d r i h = subst (λ (s : Sizes). IsDiagram g.ranks s r) (same_sizes g v w t b i) h.keeps
 
 pub pruned_leaf : (ranks : List ℕ) (s : Sizes) (v : View) (l : Leaf) (d : Diagram) → d ≡ Only l → IsDiagram ranks s d → IsPruned ranks s v d d
 pruned_leaf ranks s v l d e i = record { walks = λ m k h. refl; keeps = i; above = λ low a. a; live = rw e tt }

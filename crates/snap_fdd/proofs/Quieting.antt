@@ -21,6 +21,7 @@ use Rattle.snap_ctx.specs.Classes.{IsAtom, IsTest}
 use Rattle.snap_ctx.specs.Meets.{Meets, IsMet, IsPacket, with_fact}
 use Rattle.snap_ctx.proofs.Answers.{Meets-parts}
 use Rattle.snap_ctx.specs.View.{View}
+use Rattle.snap_dep.specs.Ranks.{Grouping}
 use Rattle.snap_arena.specs.declared.node.Node.{Node}
 use Rattle.snap_arena.specs.declared.node.Node.TheVariants as node
 use Rattle.snap_arena.specs.Arena.{Grew, IsArena}
@@ -112,7 +113,7 @@ atoms_are comps (Number n ∷ ix) f r = (r.0, atoms_are comps ix f.1 r.1)
 atoms_are comps (Comp c ∷ ix) f r = (f.0, atoms_are comps ix f.1 r.1)
 
 test_is : (sz : Sizes) (s : Survey) (t : Test) → TestIn sz t → IsFine s t → IsTest sz.comps t
-test_is sz s (Value c n) i f = (i, f.0)
+test_is sz s (Value c n) i f = (i.0, f.0)
 test_is sz s (Same l r p) i f = absurd f
 test_is sz s (State v ix (Plus c p)) i f = absurd f
 test_is sz s (State v ix (Num n)) i f = (i.1.few, All-from_recursion (IsAtom sz.comps) ix (atoms_are sz.comps ix i.1.atoms f.1), f.0)
@@ -198,12 +199,12 @@ depth_under ns a (suc k) d l h = by (λ e f. depth_under ns a k e (omega (arith,
 pub depth_le : (ns : List (Node Leaf)) → IsArena ns → (d : ℕ) → d < length ns → depth (diagram ns d) ≤ d
 depth_le ns a d h = depth_under ns a (d + 1) d (omega arith) h
 
-pub stays_live : (ranks : List ℕ) (s : Survey) (v : View) (t : Test) (y n d : Diagram) → d ≡ Asks t y n → length v.classes ≤ 64 → IsMet (length v.classes) v.facts → All (λ f. IsTest (length v.classes) f.test) v.facts
-    → AllByRecursion (StandsBefore ranks s t) v.facts → IsQuiet s d → IsDiagram ranks (sizes ranks v) d → length v.facts + depth d ≤ 2 ^ 32 → IsLive (Met v) d
-stays_live ranks s v t y n d e few met tests before quiet diagram short =
-    let stands = from_all (StandsBefore ranks s t) v.facts before in
+pub stays_live : (g : Grouping) (s : Survey) (v : View) (t : Test) (y n d : Diagram) → d ≡ Asks t y n → length v.classes ≤ 64 → IsMet (length v.classes) v.facts → All (λ f. IsTest (length v.classes) f.test) v.facts
+    → AllByRecursion (StandsBefore g.ranks s t) v.facts → IsQuiet s d → IsDiagram g.ranks (sizes g v) d → length v.facts + depth d ≤ 2 ^ 32 → IsLive (Met v) d
+stays_live g s v t y n d e few met tests before quiet diagram short =
+    let stands = from_all (StandsBefore g.ranks s t) v.facts before in
     let q : IsQuiet s (Asks t y n) = subst (IsQuiet s) e quiet in
-    let i : IsDiagram ranks (sizes ranks v) (Asks t y n) = subst (IsDiagram ranks (sizes ranks v)) e diagram in
-    rw e (quiet_live ranks (sizes ranks v) s (Met v) v.facts (Asks t y n) few (λ m k p h. record { packet = p; facts = h })
-    (met_calm (length v.classes) s v.facts met tests (all_fine ranks s t v.facts before))
+    let i : IsDiagram g.ranks (sizes g v) (Asks t y n) = subst (IsDiagram g.ranks (sizes g v)) e diagram in
+    rw e (quiet_live g.ranks (sizes g v) s (Met v) v.facts (Asks t y n) few (λ m k p h. record { packet = p; facts = h })
+    (met_calm (length v.classes) s v.facts met tests (all_fine g.ranks s t v.facts before))
     (λ f a. ((stands f a).1, (stands f a).2)) q i.ordered i.bounds (subst (λ (x : Diagram). length v.facts + depth x ≤ 2 ^ 32) e short))

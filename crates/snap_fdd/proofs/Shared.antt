@@ -10,6 +10,7 @@ use Rattle.snap_arena.specs.declared.node.Node.TheVariants as node
 use Rattle.snap_arena.specs.Arena.{Grew, IsLower}
 use Rattle.snap_fdd.specs.declared.leaf.Leaf.{Leaf}
 use Rattle.snap_fdd.specs.declared.leaf.Leaf.TheVariants.{Race}
+use Rattle.snap_dep.specs.Ranks.{Grouping}
 use Rattle.snap_ctx.specs.View.{View}
 use Rattle.snap_fdd.specs.Diagrams.{Diagram, Only, Asks, made, grown, diagram, IsNodeOf}
 use Rattle.snap_fdd.specs.Bounds.{LeafIn}
@@ -82,8 +83,8 @@ pub new_leaf : (new : List (Node Leaf)) (d : ℕ) (l : Leaf) → slice_get new d
 new_leaf new d l e = node_at [] new d d (node.Leaf l) e (omega arith)
 
 -- an argument stays one
-pub argument_kept : (ranks : List ℕ) (v : View) (old new : List (Node Leaf)) (d : ℕ) → Grew old new → IsArgument ranks v old d → IsArgument ranks v new d
-argument_kept ranks v old new d g a = record { below = still_below old new d g a.below; keeps = rw (kept old new d g a.below) a.keeps }
+pub argument_kept : (g : Grouping) (v : View) (old new : List (Node Leaf)) (d : ℕ) → Grew old new → IsArgument g v old d → IsArgument g v new d
+argument_kept g v old new d more a = record { below = still_below old new d more a.below; keeps = rw (kept old new d more a.below) a.keeps }
 
-pub leaf_argument : (ranks : List ℕ) (v : View) (ns : List (Node Leaf)) (d : ℕ) (l : Leaf) → slice_get ns d ≡ Some (node.Leaf l) → LeafIn (sizes ranks v) l → IsArgument ranks v ns d
-leaf_argument ranks v ns d l e h = record { below = slice_get_within ns d (node.Leaf l) e; keeps = rw (new_leaf ns d l e) (record { ordered = tt; bounds = h }) }
+pub leaf_argument : (g : Grouping) (v : View) (ns : List (Node Leaf)) (d : ℕ) (l : Leaf) → slice_get ns d ≡ Some (node.Leaf l) → LeafIn (sizes g v) l → IsArgument g v ns d
+leaf_argument g v ns d l e h = record { below = slice_get_within ns d (node.Leaf l) e; keeps = rw (new_leaf ns d l e) (record { ordered = tt; bounds = h }) }

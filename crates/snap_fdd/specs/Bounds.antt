@@ -1,34 +1,38 @@
 -- Which components, variables and indices a diagram has.
-use Rattle.std.specs.Prelude.{ℕ, ◌<◌, ◌≤◌, ◌^◌, List, length, All}
+use Rattle.std.specs.Prelude.{◌≡◌, ℕ, ◌<◌, ◌≤◌, ◌^◌, List, length, All}
 use Rattle.snap_core.specs.declared.policy.Atom.{Atom}
 use Rattle.snap_core.specs.declared.policy.Test.{Test}
 use Rattle.snap_core.specs.declared.policy.Test.TheVariants.{Value, Equal, State}
 use Rattle.snap_core.specs.declared.policy.Update.{Update}
 use Rattle.snap_core.specs.Fits.{OpFits, IndexFits}
 use Rattle.snap_core.specs.Tests.{TermFits, OutFits}
+use Rattle.snap_ctx.specs.Ranges.{TermInRange}
 use Rattle.snap_fdd.specs.declared.leaf.Leaf.{Leaf}
 use Rattle.snap_fdd.specs.declared.leaf.Leaf.TheVariants.{Race, Go as Goes}
 use Rattle.snap_fdd.specs.Diagrams.{Diagram, Only, Asks}
 
--- so many components and variables
+-- so many components and variables, and so many atoms in each index of a variable
 pub record Sizes : Type 0 where
   pub comps : ℕ
   pub vars : ℕ
+  pub arity : ℕ → ℕ
 
--- from one to eight atoms
-pub record IsIndex (c : ℕ) (ix : List Atom) : Type 0 where
+-- so many atoms as the variable asks, from one to eight
+pub record IsIndex (s : Sizes) (v : ℕ) (ix : List Atom) : Type 0 where
   pub some : 1 ≤ length ix
   pub few : length ix ≤ 8
-  pub atoms : IndexFits c ix
+  pub long : length ix ≡ s.arity v
+  pub atoms : IndexFits s.comps ix
 
+-- the numbers have 64 bits, and of two components the lower is on the left
 abbrev pub TestIn : Sizes → Test → Type 0
-TestIn s (Value c n) = c < s.comps
-TestIn s (Equal l r p) = (l < s.comps) × (r < s.comps)
-TestIn s (State v ix t) = (v < s.vars) × IsIndex s.comps ix × TermFits s.comps t
+TestIn s (Value c n) = (c < s.comps) × (n < 2 ^ 64)
+TestIn s (Equal l r p) = (l < r) × (r < s.comps) × (p < 2 ^ 64)
+TestIn s (State v ix t) = (v < s.vars) × IsIndex s v ix × TermFits s.comps t × TermInRange t
 
 pub record UpdateIn (s : Sizes) (u : Update) : Type 0 where
   pub var : u.var < s.vars
-  pub index : IsIndex s.comps u.index
+  pub index : IsIndex s u.var u.index
   pub op : OpFits s.comps u.op
 
 -- the logs are sets of the variables

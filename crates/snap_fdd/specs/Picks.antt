@@ -4,6 +4,7 @@ use Rattle.std.specs.declared.cmp.Ordering.TheVariants.{Less}
 use Rattle.snap_core.specs.declared.policy.Test.{Test}
 use Rattle.snap_core.specs.Arrays.{Arrays}
 use Rattle.snap_core.specs.Tests.{passes}
+use Rattle.snap_dep.specs.Ranks.{Grouping, arity_of}
 use Rattle.snap_ctx.specs.View.{View}
 use Rattle.snap_arena.specs.declared.node.Node.{Node}
 use Rattle.snap_fdd.specs.declared.leaf.Leaf.{Leaf}
@@ -54,11 +55,11 @@ pub record IsLower (ranks : List ℕ) (s : Sizes) (t : Test) (d : Diagram) (u : 
   pub is_in : TestIn s u
   pub which : (u ≡ t) ⊎ ((test_cmp ranks u t ≡ Less) × StartsWith u d)
 
--- the sizes that ranks and a context tell
-abbrev pub sizes : List ℕ → View → Sizes
-sizes ranks v = record { comps = length v.classes; vars = length ranks }
+-- the sizes that groups and a context tell
+abbrev pub sizes : Grouping → View → Sizes
+sizes g v = record { comps = length v.classes; vars = length g.ranks; arity = arity_of g }
 
 -- what each call needs of a number, and what it keeps: an ordered diagram within bounds
-pub record IsArgument (ranks : List ℕ) (v : View) (ns : List (Node Leaf)) (d : ℕ) : Type 0 where
+pub record IsArgument (g : Grouping) (v : View) (ns : List (Node Leaf)) (d : ℕ) : Type 0 where
   pub below : d < length ns
-  pub keeps : IsDiagram ranks (sizes ranks v) (diagram ns d)
+  pub keeps : IsDiagram g.ranks (sizes g v) (diagram ns d)

@@ -3,6 +3,7 @@
 ghost use Rattle.std.specs.Prelude.{◌↔◌, ◌<◌, ◌≤◌, ◌^◌, All, IsTrue, length};
 ghost use Rattle.snap_core.specs.Fits.{IndexFits};
 ghost use Rattle.snap_core.specs.Tests.{OutFits, TermFits, PartFits};
+ghost use Rattle.snap_ctx.specs.Ranges.{TermInRange};
 ghost use Rattle.snap_fdd.specs.Bounds.{IsIndex, TestIn, UpdateIn, LeafIn};
 ghost use Rattle.snap_fdd.specs.declared.leaf.Leaf.TheVariants.{Go as Goes};
 ghost use Rattle.snap_fdd.specs.Picks.{sizes};
@@ -19,15 +20,16 @@ fn atoms_fit(index: &Atoms, comps: u16) -> bool
     index.list().iter().all(|atom| atom.fits(comps as usize))
 }
 
-fn index_fits(index: &Atoms, comps: u16) -> bool
-    ensures { IsTrue result ↔ IsIndex comps index.now }
+fn index_fits(groups: &Groups, ctx: &Context, var: u16, index: &Atoms) -> bool
+    requires { var < length groups.now.ranks }
+    ensures { IsTrue result ↔ IsIndex (sizes groups.now ctx.now) var index.now }
 {
     let atoms = index.list().len();
-    1 <= atoms && atoms <= 8 && atoms_fit(index, comps)
+    1 <= atoms && atoms <= 8 && atoms == groups.arity(var) && atoms_fit(index, ctx.comps())
 }
 
 fn term_fits(term: Term, comps: u16) -> bool
-    ensures { IsTrue result ↔ TermFits comps term }
+    ensures { IsTrue result ↔ (TermFits comps term × TermInRange term) }
 {
     match term {
         Term::Num(_) => true,
@@ -47,12 +49,12 @@ fn out_fits(out: &Out, comps: u16) -> bool
     out.parts().iter().all(|part| part_fits(part, comps))
 }
 
-fn update_fits(update: &Update, comps: u16, vars: usize) -> bool
-    ensures { IsTrue result ↔ UpdateIn (record { comps = comps; vars = vars }) update.now }
+fn update_fits(groups: &Groups, ctx: &Context, update: &Update) -> bool
+    ensures { IsTrue result ↔ UpdateIn (sizes groups.now ctx.now) update.now }
 {
-    (update.var as usize) < vars
-        && index_fits(&update.index, comps)
-        && update.op.fits(comps as usize)
+    (update.var as usize) < groups.count()
+        && index_fits(groups, ctx, update.var, &update.index)
+        && update.op.fits(ctx.comps() as usize)
 }
 
 /// Whether each out has components and atoms within bounds.
@@ -62,12 +64,12 @@ pub fn outs_fit(outs: &[Out], comps: u16) -> bool
     outs.iter().all(|out| out_fits(out, comps))
 }
 
-fn updates_fit(updates: &[Update], comps: u16, vars: usize) -> bool
-    ensures { IsTrue result ↔ All (UpdateIn (record { comps = comps; vars = vars })) updates.now }
+fn updates_fit(groups: &Groups, ctx: &Context, updates: &[Update]) -> bool
+    ensures { IsTrue result ↔ All (UpdateIn (sizes groups.now ctx.now)) updates.now }
 {
     updates
         .iter()
-        .all(|update| update_fits(update, comps, vars))
+        .all(|update| update_fits(groups, ctx, update))
 }
 
 fn is_set_of(set: u64, vars: usize) -> bool
@@ -77,41 +79,45 @@ fn is_set_of(set: u64, vars: usize) -> bool
     vars == 64 || set < 1 << vars
 }
 
-fn go_fits(go: &Go, comps: u16, vars: usize) -> bool
-    requires { vars ≤ 64 }
-    ensures { IsTrue result ↔ LeafIn (record { comps = comps; vars = vars }) (Goes go.now) }
+fn go_fits(groups: &Groups, ctx: &Context, go: &Go) -> bool
+    ensures { IsTrue result ↔ LeafIn (sizes groups.now ctx.now) (Goes go.now) }
 {
-    outs_fit(go.outs.list(), comps)
-        && updates_fit(go.ups.list(), comps, vars)
-        && is_set_of(go.reads, vars)
-        && is_set_of(go.writes, vars)
+    outs_fit(go.outs.list(), ctx.comps())
+        && updates_fit(groups, ctx, go.ups.list())
+        && is_set_of(go.reads, groups.count())
+        && is_set_of(go.writes, groups.count())
 }
 
 /// Whether a leaf's components, variables, indices and logs lie within the bounds.
 pub fn leaf_fits(groups: &Groups, ctx: &Context, leaf: &Leaf) -> bool
-    ensures { IsTrue result ↔ LeafIn (sizes groups.now.ranks ctx.now) leaf.now }
+    ensures { IsTrue result ↔ LeafIn (sizes groups.now ctx.now) leaf.now }
 {
     match leaf {
         Leaf::Race => true,
-        Leaf::Go(go) => go_fits(go, ctx.comps(), groups.count()),
+        Leaf::Go(go) => go_fits(groups, ctx, go),
     }
 }
 
-/// Whether a test's components are the context's, its variable is one of the groups', and its index
-/// has from one to eight atoms.
+/// Whether a test's components are the context's, with the lower one left in a test of two, its
+/// variable is one of the groups', and its index has as many atoms as the variable asks, from one to
+/// eight.
 pub fn test_fits(groups: &Groups, ctx: &Context, test: &Test) -> bool
-    ensures { IsTrue result ↔ TestIn (sizes groups.now.ranks ctx.now) test.now }
+    ensures { IsTrue result ↔ TestIn (sizes groups.now ctx.now) test.now }
 {
     let comps = ctx.comps();
     match test {
-        Test::Value { comp, num: _ } => *comp < comps,
-        Test::Equal {
-            left,
-            right,
-            plus: _,
-        } => *left < comps && *right < comps,
+        Test::Value { comp, num } => {
+            let _num = *num;
+            *comp < comps
+        }
+        Test::Equal { left, right, plus } => {
+            let _plus = *plus;
+            *left < *right && *right < comps
+        }
         Test::State { var, index, value } => {
-            (*var as usize) < groups.count() && index_fits(index, comps) && term_fits(*value, comps)
+            (*var as usize) < groups.count()
+                && index_fits(groups, ctx, *var, index)
+                && term_fits(*value, comps)
         }
     }
 }

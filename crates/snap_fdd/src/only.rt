@@ -19,10 +19,10 @@ pub fn only(
     ctx: &Context,
     leaf: Leaf,
 ) -> Result<u64, NoMemory>
-    requires { LeafIn (sizes groups.now.ranks ctx.now) leaf }
+    requires { LeafIn (sizes groups.now ctx.now) leaf }
     ensures grew { Grew nodes.old nodes.new }
     ensures is { IfOk result (λ d. diagram nodes.new d ≡ Only leaf) }
-    ensures diagram { IfOk result (IsArgument groups.now.ranks ctx.now nodes.new) }
+    ensures diagram { IfOk result (IsArgument groups.now ctx.now nodes.new) }
 {
     nodes.leaf(leaf)
 }

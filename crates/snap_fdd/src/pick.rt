@@ -64,9 +64,9 @@ pub fn lower(
     d: u64,
 ) -> Result<Test, NoMemory>
     requires d { d < length nodes.now }
-    requires diagram { IsDiagram groups.now.ranks (sizes groups.now.ranks ctx.now) (diagram nodes.now d) }
-    requires test { TestIn (sizes groups.now.ranks ctx.now) test }
-    ensures { IfOk result (λ u. IsLower groups.now.ranks (sizes groups.now.ranks ctx.now) test (diagram nodes.now d) u) }
+    requires diagram { IsDiagram groups.now.ranks (sizes groups.now ctx.now) (diagram nodes.now d) }
+    requires test { TestIn (sizes groups.now ctx.now) test }
+    ensures { IfOk result (λ u. IsLower groups.now.ranks (sizes groups.now ctx.now) test (diagram nodes.now d) u) }
 {
     match look(nodes, d) {
         Node::Leaf(_) => Ok(test),
@@ -92,10 +92,10 @@ fn least(
 ) -> Result<Test, NoMemory>
     requires a { a < length nodes.now }
     requires b { b < length nodes.now }
-    requires first { IsDiagram groups.now.ranks (sizes groups.now.ranks ctx.now) (diagram nodes.now a) }
-    requires second { IsDiagram groups.now.ranks (sizes groups.now.ranks ctx.now) (diagram nodes.now b) }
-    requires test { TestIn (sizes groups.now.ranks ctx.now) test.now }
-    ensures { IfOk result (λ u. IsLeast groups.now.ranks (sizes groups.now.ranks ctx.now) test.now (diagram nodes.now a) (diagram nodes.now b) u) }
+    requires first { IsDiagram groups.now.ranks (sizes groups.now ctx.now) (diagram nodes.now a) }
+    requires second { IsDiagram groups.now.ranks (sizes groups.now ctx.now) (diagram nodes.now b) }
+    requires test { TestIn (sizes groups.now ctx.now) test.now }
+    ensures { IfOk result (λ u. IsLeast groups.now.ranks (sizes groups.now ctx.now) test.now (diagram nodes.now a) (diagram nodes.now b) u) }
 {
     let copy = test.copy()?;
     let first = lower(nodes, groups, ctx, copy, a)?;
@@ -113,14 +113,14 @@ pub fn ask(
 ) -> Result<u64, NoMemory>
     requires yes { yes < length nodes.old }
     requires no { no < length nodes.old }
-    requires first { IsDiagram groups.now.ranks (sizes groups.now.ranks ctx.now) (diagram nodes.old yes) }
-    requires second { IsDiagram groups.now.ranks (sizes groups.now.ranks ctx.now) (diagram nodes.old no) }
-    requires test { TestIn (sizes groups.now.ranks ctx.now) test }
+    requires first { IsDiagram groups.now.ranks (sizes groups.now ctx.now) (diagram nodes.old yes) }
+    requires second { IsDiagram groups.now.ranks (sizes groups.now ctx.now) (diagram nodes.old no) }
+    requires test { TestIn (sizes groups.now ctx.now) test }
     requires above_yes { Above groups.now.ranks test (diagram nodes.old yes) }
     requires above_no { Above groups.now.ranks test (diagram nodes.old no) }
     ensures grew { Grew nodes.old nodes.new }
     ensures number { IfOk result (λ d. d < length nodes.new) }
-    ensures pick { IfOk result (λ d. IsPick groups.now.ranks (sizes groups.now.ranks ctx.now) Anywhere test (diagram nodes.old yes) (diagram nodes.old no) (diagram nodes.new d)) }
+    ensures pick { IfOk result (λ d. IsPick groups.now.ranks (sizes groups.now ctx.now) Anywhere test (diagram nodes.old yes) (diagram nodes.old no) (diagram nodes.new d)) }
     ensures shape { IfOk result (λ d. IsShaped test (diagram nodes.old yes) (diagram nodes.old no) (diagram nodes.new d)) }
 {
     nodes.node(test, yes, no)
@@ -137,12 +137,12 @@ pub fn pick(
 ) -> Result<u64, NoMemory>
     requires a { a < length nodes.old }
     requires b { b < length nodes.old }
-    requires first { IsDiagram groups.now.ranks (sizes groups.now.ranks ctx.now) (diagram nodes.old a) }
-    requires second { IsDiagram groups.now.ranks (sizes groups.now.ranks ctx.now) (diagram nodes.old b) }
-    requires test { TestIn (sizes groups.now.ranks ctx.now) test.now }
+    requires first { IsDiagram groups.now.ranks (sizes groups.now ctx.now) (diagram nodes.old a) }
+    requires second { IsDiagram groups.now.ranks (sizes groups.now ctx.now) (diagram nodes.old b) }
+    requires test { TestIn (sizes groups.now ctx.now) test.now }
     ensures grew { Grew nodes.old nodes.new }
     ensures number { IfOk result (λ d. d < length nodes.new) }
-    ensures pick { IfOk result (λ d. IsPick groups.now.ranks (sizes groups.now.ranks ctx.now) Anywhere test.now (diagram nodes.old a) (diagram nodes.old b) (diagram nodes.new d)) }
+    ensures pick { IfOk result (λ d. IsPick groups.now.ranks (sizes groups.now ctx.now) Anywhere test.now (diagram nodes.old a) (diagram nodes.old b) (diagram nodes.new d)) }
 {
     let mut memo = Numbers::new(nodes.allocator());
     picked(nodes, groups, ctx, &mut memo, test, a, b)
@@ -161,14 +161,14 @@ fn picked(
 ) -> Result<u64, NoMemory>
     requires a { a < length nodes.old }
     requires b { b < length nodes.old }
-    requires first { IsDiagram groups.now.ranks (sizes groups.now.ranks ctx.now) (diagram nodes.old a) }
-    requires second { IsDiagram groups.now.ranks (sizes groups.now.ranks ctx.now) (diagram nodes.old b) }
-    requires test { TestIn (sizes groups.now.ranks ctx.now) test.now }
-    requires memo { Remembers (PickedFor groups.now.ranks (sizes groups.now.ranks ctx.now) test.now nodes.old) memo.old }
+    requires first { IsDiagram groups.now.ranks (sizes groups.now ctx.now) (diagram nodes.old a) }
+    requires second { IsDiagram groups.now.ranks (sizes groups.now ctx.now) (diagram nodes.old b) }
+    requires test { TestIn (sizes groups.now ctx.now) test.now }
+    requires memo { Remembers (PickedFor groups.now.ranks (sizes groups.now ctx.now) test.now nodes.old) memo.old }
     ensures grew { Grew nodes.old nodes.new }
     ensures number { IfOk result (λ d. d < length nodes.new) }
-    ensures pick { IfOk result (λ d. IsPick groups.now.ranks (sizes groups.now.ranks ctx.now) Anywhere test.now (diagram nodes.old a) (diagram nodes.old b) (diagram nodes.new d)) }
-    ensures memo { OnOk result (Remembers (PickedFor groups.now.ranks (sizes groups.now.ranks ctx.now) test.now nodes.new) memo.new) }
+    ensures pick { IfOk result (λ d. IsPick groups.now.ranks (sizes groups.now ctx.now) Anywhere test.now (diagram nodes.old a) (diagram nodes.old b) (diagram nodes.new d)) }
+    ensures memo { OnOk result (Remembers (PickedFor groups.now.ranks (sizes groups.now ctx.now) test.now nodes.new) memo.new) }
 {
     if let Some(d) = memo.get(&[a, b]) {
         return Ok(d);
@@ -190,14 +190,14 @@ fn picked_anew(
 ) -> Result<u64, NoMemory>
     requires a { a < length nodes.old }
     requires b { b < length nodes.old }
-    requires first { IsDiagram groups.now.ranks (sizes groups.now.ranks ctx.now) (diagram nodes.old a) }
-    requires second { IsDiagram groups.now.ranks (sizes groups.now.ranks ctx.now) (diagram nodes.old b) }
-    requires test { TestIn (sizes groups.now.ranks ctx.now) test.now }
-    requires memo { Remembers (PickedFor groups.now.ranks (sizes groups.now.ranks ctx.now) test.now nodes.old) memo.old }
+    requires first { IsDiagram groups.now.ranks (sizes groups.now ctx.now) (diagram nodes.old a) }
+    requires second { IsDiagram groups.now.ranks (sizes groups.now ctx.now) (diagram nodes.old b) }
+    requires test { TestIn (sizes groups.now ctx.now) test.now }
+    requires memo { Remembers (PickedFor groups.now.ranks (sizes groups.now ctx.now) test.now nodes.old) memo.old }
     ensures grew { Grew nodes.old nodes.new }
     ensures number { IfOk result (λ d. d < length nodes.new) }
-    ensures pick { IfOk result (λ d. IsPick groups.now.ranks (sizes groups.now.ranks ctx.now) Anywhere test.now (diagram nodes.old a) (diagram nodes.old b) (diagram nodes.new d)) }
-    ensures memo { OnOk result (Remembers (PickedFor groups.now.ranks (sizes groups.now.ranks ctx.now) test.now nodes.new) memo.new) }
+    ensures pick { IfOk result (λ d. IsPick groups.now.ranks (sizes groups.now ctx.now) Anywhere test.now (diagram nodes.old a) (diagram nodes.old b) (diagram nodes.new d)) }
+    ensures memo { OnOk result (Remembers (PickedFor groups.now.ranks (sizes groups.now ctx.now) test.now nodes.new) memo.new) }
 {
     let first = least(nodes, groups, ctx, test, a, b)?;
     let ay = side(nodes, a, &first, true);
@@ -227,14 +227,14 @@ fn picked_under(
 ) -> Result<u64, NoMemory>
     requires a { a < length nodes.old }
     requires b { b < length nodes.old }
-    requires first { IsDiagram groups.now.ranks (sizes groups.now.ranks ctx.now) (diagram nodes.old a) }
-    requires second { IsDiagram groups.now.ranks (sizes groups.now.ranks ctx.now) (diagram nodes.old b) }
-    requires test { TestIn (sizes groups.now.ranks ctx.now) test.now }
-    requires memo { Remembers (PickedFor groups.now.ranks (sizes groups.now.ranks ctx.now) test.now nodes.old) memo.old }
+    requires first { IsDiagram groups.now.ranks (sizes groups.now ctx.now) (diagram nodes.old a) }
+    requires second { IsDiagram groups.now.ranks (sizes groups.now ctx.now) (diagram nodes.old b) }
+    requires test { TestIn (sizes groups.now ctx.now) test.now }
+    requires memo { Remembers (PickedFor groups.now.ranks (sizes groups.now ctx.now) test.now nodes.old) memo.old }
     ensures grew { Grew nodes.old nodes.new }
     ensures number { IfOk result (λ d. d < length nodes.new) }
-    ensures pick { IfOk result (λ d. IsPick groups.now.ranks (sizes groups.now.ranks ctx.now) (Where first.now yes) test.now (diagram nodes.old a) (diagram nodes.old b) (diagram nodes.new d)) }
-    ensures memo { OnOk result (Remembers (PickedFor groups.now.ranks (sizes groups.now.ranks ctx.now) test.now nodes.new) memo.new) }
+    ensures pick { IfOk result (λ d. IsPick groups.now.ranks (sizes groups.now ctx.now) (Where first.now yes) test.now (diagram nodes.old a) (diagram nodes.old b) (diagram nodes.new d)) }
+    ensures memo { OnOk result (Remembers (PickedFor groups.now.ranks (sizes groups.now ctx.now) test.now nodes.new) memo.new) }
 {
     match told(first, yes, test) {
         Some(true) => Ok(a),
@@ -253,11 +253,11 @@ pub fn ite(
     yes: u64,
     no: u64,
 ) -> Result<u64, NoMemory>
-    requires yes { IsArgument groups.now.ranks ctx.now nodes.old yes }
-    requires no { IsArgument groups.now.ranks ctx.now nodes.old no }
-    requires test { TestIn (sizes groups.now.ranks ctx.now) test }
+    requires yes { IsArgument groups.now ctx.now nodes.old yes }
+    requires no { IsArgument groups.now ctx.now nodes.old no }
+    requires test { TestIn (sizes groups.now ctx.now) test }
     ensures grew { Grew nodes.old nodes.new }
-    ensures diagram { IfOk result (IsArgument groups.now.ranks ctx.now nodes.new) }
+    ensures diagram { IfOk result (IsArgument groups.now ctx.now nodes.new) }
     ensures walks { IfOk result (λ d. (m : Arrays) (k : List ℕ) → walk (diagram nodes.new d) m k ≡ (if passes test m k then walk (diagram nodes.old yes) m k else walk (diagram nodes.old no) m k)) }
     ensures answer { IfOk result (λ d. Under ctx.now (λ m k. answer nodes.new d m k ≡ (if passes test m k then answer nodes.old yes m k else answer nodes.old no m k))) }
 {

@@ -53,11 +53,11 @@ fn pruned(
     d: u64,
 ) -> Result<u64, NoMemory>
     requires d { d < length nodes.old }
-    requires diagram { IsDiagram groups.now.ranks (sizes groups.now.ranks ctx.now) (diagram nodes.old d) }
+    requires diagram { IsDiagram groups.now.ranks (sizes groups.now ctx.now) (diagram nodes.old d) }
     requires marked { IsMarked survey.now nodes.old quiet.now }
     ensures grew { Grew nodes.old nodes.new }
     ensures number { IfOk result (λ r. r < length nodes.new) }
-    ensures pruned { IfOk result (λ r. IsPruned groups.now.ranks (sizes groups.now.ranks ctx.now) ctx.now (diagram nodes.old d) (diagram nodes.new r)) }
+    ensures pruned { IfOk result (λ r. IsPruned groups.now.ranks (sizes groups.now ctx.now) ctx.now (diagram nodes.old d) (diagram nodes.new r)) }
 {
     if stays(nodes, groups, ctx, survey, quiet, d)? {
         return Ok(d);
@@ -86,9 +86,9 @@ pub fn prune(
     ctx: &Context,
     d: u64,
 ) -> Result<u64, NoMemory>
-    requires { IsArgument groups.now.ranks ctx.now nodes.old d }
+    requires { IsArgument groups.now ctx.now nodes.old d }
     ensures grew { Grew nodes.old nodes.new }
-    ensures diagram { IfOk result (IsArgument groups.now.ranks ctx.now nodes.new) }
+    ensures diagram { IfOk result (IsArgument groups.now ctx.now nodes.new) }
     ensures answer { IfOk result (λ r. Under ctx.now (λ m k. answer nodes.new r m k ≡ answer nodes.old d m k)) }
     ensures live { IfOk result (λ r. IsLive (Met ctx.now) (diagram nodes.new r)) }
 {

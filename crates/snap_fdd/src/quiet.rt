@@ -146,7 +146,7 @@ pub fn stays(
     d: u64,
 ) -> Result<bool, NoMemory>
     requires d { d < length nodes.now }
-    requires diagram { IsDiagram groups.now.ranks (sizes groups.now.ranks ctx.now) (diagram nodes.now d) }
+    requires diagram { IsDiagram groups.now.ranks (sizes groups.now ctx.now) (diagram nodes.now d) }
     requires marked { IsMarked survey.now nodes.now quiet.now }
     ensures { IfOk result (λ b. IsTrue b → IsLive (Met ctx.now) (diagram nodes.now d)) }
 {

@@ -78,7 +78,7 @@ fn second_first(rt: &impl Abort, alloc: Global) -> Result<Groups, Fail> {
 // The leaf that sets `outport`.
 fn mark(nodes: &mut Nodes<Leaf>, groups: &Groups, ctx: &Context, num: u64) -> Result<u64, Fail>
     ensures grew { Grew nodes.old nodes.new }
-    ensures diagram { IfOk result (IsArgument groups.now.ranks ctx.now nodes.new) }
+    ensures diagram { IfOk result (IsArgument groups.now ctx.now nodes.new) }
 {
     let alloc = nodes.allocator();
     let out = Out::new(vec![in alloc; (1, Atom::Num(num))]?);
@@ -101,7 +101,7 @@ fn chain(
     ctx: &Context,
     tests: &[Test],
 ) -> Result<u64, Fail>
-    ensures { IfOk result (IsArgument groups.now.ranks ctx.now nodes.new) }
+    ensures { IfOk result (IsArgument groups.now ctx.now nodes.new) }
 {
     let mut d = mark(nodes, groups, ctx, 0)?;
     for (at, test) in tests.iter().enumerate() {

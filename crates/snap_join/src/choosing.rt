@@ -48,14 +48,14 @@ fn chosen(
     p: u64,
     q: u64,
 ) -> Result<u64, NoMemory>
-    requires x { IsArgument groups.now.ranks ctx.now nodes.old x }
-    requires p { IsArgument groups.now.ranks ctx.now nodes.old p }
-    requires q { IsArgument groups.now.ranks ctx.now nodes.old q }
-    requires memo { Remembers (DecidedFor groups.now.ranks (sizes groups.now.ranks ctx.now) nodes.old) memo.old }
+    requires x { IsArgument groups.now ctx.now nodes.old x }
+    requires p { IsArgument groups.now ctx.now nodes.old p }
+    requires q { IsArgument groups.now ctx.now nodes.old q }
+    requires memo { Remembers (DecidedFor groups.now.ranks (sizes groups.now ctx.now) nodes.old) memo.old }
     ensures grew { Grew nodes.old nodes.new }
     ensures number { IfOk result (λ d. d < length nodes.new) }
-    ensures chosen { IfOk result (λ d. IsChosen groups.now.ranks (sizes groups.now.ranks ctx.now) (diagram nodes.old x) (diagram nodes.old p) (diagram nodes.old q) (diagram nodes.new d)) }
-    ensures memo { OnOk result (Remembers (DecidedFor groups.now.ranks (sizes groups.now.ranks ctx.now) nodes.new) memo.new) }
+    ensures chosen { IfOk result (λ d. IsChosen groups.now.ranks (sizes groups.now ctx.now) (diagram nodes.old x) (diagram nodes.old p) (diagram nodes.old q) (diagram nodes.new d)) }
+    ensures memo { OnOk result (Remembers (DecidedFor groups.now.ranks (sizes groups.now ctx.now) nodes.new) memo.new) }
 {
     if let Some(d) = memo.get(&[x, p, q]) {
         return Ok(d);
@@ -75,14 +75,14 @@ fn chosen_anew(
     p: u64,
     q: u64,
 ) -> Result<u64, NoMemory>
-    requires x { IsArgument groups.now.ranks ctx.now nodes.old x }
-    requires p { IsArgument groups.now.ranks ctx.now nodes.old p }
-    requires q { IsArgument groups.now.ranks ctx.now nodes.old q }
-    requires memo { Remembers (DecidedFor groups.now.ranks (sizes groups.now.ranks ctx.now) nodes.old) memo.old }
+    requires x { IsArgument groups.now ctx.now nodes.old x }
+    requires p { IsArgument groups.now ctx.now nodes.old p }
+    requires q { IsArgument groups.now ctx.now nodes.old q }
+    requires memo { Remembers (DecidedFor groups.now.ranks (sizes groups.now ctx.now) nodes.old) memo.old }
     ensures grew { Grew nodes.old nodes.new }
     ensures number { IfOk result (λ d. d < length nodes.new) }
-    ensures chosen { IfOk result (λ d. IsChosen groups.now.ranks (sizes groups.now.ranks ctx.now) (diagram nodes.old x) (diagram nodes.old p) (diagram nodes.old q) (diagram nodes.new d)) }
-    ensures memo { OnOk result (Remembers (DecidedFor groups.now.ranks (sizes groups.now.ranks ctx.now) nodes.new) memo.new) }
+    ensures chosen { IfOk result (λ d. IsChosen groups.now.ranks (sizes groups.now ctx.now) (diagram nodes.old x) (diagram nodes.old p) (diagram nodes.old q) (diagram nodes.new d)) }
+    ensures memo { OnOk result (Remembers (DecidedFor groups.now.ranks (sizes groups.now ctx.now) nodes.new) memo.new) }
 {
     match part_of(nodes, x)? {
         Part::Whole => {
@@ -110,12 +110,12 @@ pub fn choose(
     p: u64,
     q: u64,
 ) -> Result<u64, NoMemory>
-    requires x { IsArgument groups.now.ranks ctx.now nodes.old x }
+    requires x { IsArgument groups.now ctx.now nodes.old x }
     requires predicate { IsPredicate nodes.old x }
-    requires p { IsArgument groups.now.ranks ctx.now nodes.old p }
-    requires q { IsArgument groups.now.ranks ctx.now nodes.old q }
+    requires p { IsArgument groups.now ctx.now nodes.old p }
+    requires q { IsArgument groups.now ctx.now nodes.old q }
     ensures grew { Grew nodes.old nodes.new }
-    ensures diagram { IfOk result (IsArgument groups.now.ranks ctx.now nodes.new) }
+    ensures diagram { IfOk result (IsArgument groups.now ctx.now nodes.new) }
     ensures answer { IfOk result (λ d. Under ctx.now (λ m k. answer nodes.new d m k ≡ more_reads (reads nodes.old x m k) (if holds nodes.old x m k then answer nodes.old p m k else answer nodes.old q m k))) }
 {
     let mut memo = Numbers::new(nodes.allocator());

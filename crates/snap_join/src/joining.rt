@@ -39,9 +39,9 @@ fn begin(
 ) -> Result<Start, NoMemory>
     requires a { a < length nodes.now }
     requires b { b < length nodes.now }
-    requires first { IsDiagram groups.now.ranks (sizes groups.now.ranks ctx.now) (diagram nodes.now a) }
-    requires second { IsDiagram groups.now.ranks (sizes groups.now.ranks ctx.now) (diagram nodes.now b) }
-    ensures { IfOk result (IsStart how groups.now.ranks (sizes groups.now.ranks ctx.now) (diagram nodes.now a) (diagram nodes.now b)) }
+    requires first { IsDiagram groups.now.ranks (sizes groups.now ctx.now) (diagram nodes.now a) }
+    requires second { IsDiagram groups.now.ranks (sizes groups.now ctx.now) (diagram nodes.now b) }
+    ensures { IfOk result (IsStart how groups.now.ranks (sizes groups.now ctx.now) (diagram nodes.now a) (diagram nodes.now b)) }
 {
     match look(nodes, a) {
         Node::Ask {
@@ -81,11 +81,11 @@ pub fn combine(
 ) -> Result<u64, NoMemory>
     requires a { a < length nodes.old }
     requires b { b < length nodes.old }
-    requires first { IsDiagram groups.now.ranks (sizes groups.now.ranks ctx.now) (diagram nodes.old a) }
-    requires second { IsDiagram groups.now.ranks (sizes groups.now.ranks ctx.now) (diagram nodes.old b) }
+    requires first { IsDiagram groups.now.ranks (sizes groups.now ctx.now) (diagram nodes.old a) }
+    requires second { IsDiagram groups.now.ranks (sizes groups.now ctx.now) (diagram nodes.old b) }
     ensures grew { Grew nodes.old nodes.new }
     ensures number { IfOk result (λ d. d < length nodes.new) }
-    ensures joined { IfOk result (λ d. IsJoined groups.now.ranks (sizes groups.now.ranks ctx.now) how (diagram nodes.old a) (diagram nodes.old b) (diagram nodes.new d)) }
+    ensures joined { IfOk result (λ d. IsJoined groups.now.ranks (sizes groups.now ctx.now) how (diagram nodes.old a) (diagram nodes.old b) (diagram nodes.new d)) }
 {
     let mut memo = Numbers::new(nodes.allocator());
     combined(nodes, groups, ctx, how, &mut memo, a, b)
@@ -104,13 +104,13 @@ fn combined(
 ) -> Result<u64, NoMemory>
     requires a { a < length nodes.old }
     requires b { b < length nodes.old }
-    requires first { IsDiagram groups.now.ranks (sizes groups.now.ranks ctx.now) (diagram nodes.old a) }
-    requires second { IsDiagram groups.now.ranks (sizes groups.now.ranks ctx.now) (diagram nodes.old b) }
-    requires memo { Remembers (CombinedFor groups.now.ranks (sizes groups.now.ranks ctx.now) how nodes.old) memo.old }
+    requires first { IsDiagram groups.now.ranks (sizes groups.now ctx.now) (diagram nodes.old a) }
+    requires second { IsDiagram groups.now.ranks (sizes groups.now ctx.now) (diagram nodes.old b) }
+    requires memo { Remembers (CombinedFor groups.now.ranks (sizes groups.now ctx.now) how nodes.old) memo.old }
     ensures grew { Grew nodes.old nodes.new }
     ensures number { IfOk result (λ d. d < length nodes.new) }
-    ensures joined { IfOk result (λ d. IsJoined groups.now.ranks (sizes groups.now.ranks ctx.now) how (diagram nodes.old a) (diagram nodes.old b) (diagram nodes.new d)) }
-    ensures memo { OnOk result (Remembers (CombinedFor groups.now.ranks (sizes groups.now.ranks ctx.now) how nodes.new) memo.new) }
+    ensures joined { IfOk result (λ d. IsJoined groups.now.ranks (sizes groups.now ctx.now) how (diagram nodes.old a) (diagram nodes.old b) (diagram nodes.new d)) }
+    ensures memo { OnOk result (Remembers (CombinedFor groups.now.ranks (sizes groups.now ctx.now) how nodes.new) memo.new) }
 {
     if let Some(d) = memo.get(&[a, b]) {
         return Ok(d);
@@ -132,13 +132,13 @@ fn combined_anew(
 ) -> Result<u64, NoMemory>
     requires a { a < length nodes.old }
     requires b { b < length nodes.old }
-    requires first { IsDiagram groups.now.ranks (sizes groups.now.ranks ctx.now) (diagram nodes.old a) }
-    requires second { IsDiagram groups.now.ranks (sizes groups.now.ranks ctx.now) (diagram nodes.old b) }
-    requires memo { Remembers (CombinedFor groups.now.ranks (sizes groups.now.ranks ctx.now) how nodes.old) memo.old }
+    requires first { IsDiagram groups.now.ranks (sizes groups.now ctx.now) (diagram nodes.old a) }
+    requires second { IsDiagram groups.now.ranks (sizes groups.now ctx.now) (diagram nodes.old b) }
+    requires memo { Remembers (CombinedFor groups.now.ranks (sizes groups.now ctx.now) how nodes.old) memo.old }
     ensures grew { Grew nodes.old nodes.new }
     ensures number { IfOk result (λ d. d < length nodes.new) }
-    ensures joined { IfOk result (λ d. IsJoined groups.now.ranks (sizes groups.now.ranks ctx.now) how (diagram nodes.old a) (diagram nodes.old b) (diagram nodes.new d)) }
-    ensures memo { OnOk result (Remembers (CombinedFor groups.now.ranks (sizes groups.now.ranks ctx.now) how nodes.new) memo.new) }
+    ensures joined { IfOk result (λ d. IsJoined groups.now.ranks (sizes groups.now ctx.now) how (diagram nodes.old a) (diagram nodes.old b) (diagram nodes.new d)) }
+    ensures memo { OnOk result (Remembers (CombinedFor groups.now.ranks (sizes groups.now ctx.now) how nodes.new) memo.new) }
 {
     match begin(nodes, groups, ctx, how, a, b)? {
         Start::Leaves(leaf) => nodes.leaf(leaf),
@@ -163,10 +163,10 @@ pub fn join(
     a: u64,
     b: u64,
 ) -> Result<u64, NoMemory>
-    requires a { IsArgument groups.now.ranks ctx.now nodes.old a }
-    requires b { IsArgument groups.now.ranks ctx.now nodes.old b }
+    requires a { IsArgument groups.now ctx.now nodes.old a }
+    requires b { IsArgument groups.now ctx.now nodes.old b }
     ensures grew { Grew nodes.old nodes.new }
-    ensures diagram { IfOk result (IsArgument groups.now.ranks ctx.now nodes.new) }
+    ensures diagram { IfOk result (IsArgument groups.now ctx.now nodes.new) }
     ensures answer { IfOk result (λ d. Under ctx.now (λ m k. answer nodes.new d m k ≡ beside (answer nodes.old a m k) (answer nodes.old b m k))) }
 {
     combine(nodes, groups, ctx, How::Beside, a, b)
@@ -180,12 +180,12 @@ pub fn both(
     a: u64,
     b: u64,
 ) -> Result<u64, NoMemory>
-    requires a { IsArgument groups.now.ranks ctx.now nodes.old a }
-    requires b { IsArgument groups.now.ranks ctx.now nodes.old b }
+    requires a { IsArgument groups.now ctx.now nodes.old a }
+    requires b { IsArgument groups.now ctx.now nodes.old b }
     requires first { IsPredicate nodes.old a }
     requires second { IsPredicate nodes.old b }
     ensures grew { Grew nodes.old nodes.new }
-    ensures diagram { IfOk result (IsArgument groups.now.ranks ctx.now nodes.new) }
+    ensures diagram { IfOk result (IsArgument groups.now ctx.now nodes.new) }
     ensures predicate { IfOk result (IsPredicate nodes.new) }
     ensures answer { IfOk result (λ d. Under ctx.now (λ m k. answer nodes.new d m k ≡ test_answer (holds nodes.old a m k && holds nodes.old b m k) (bit_or (reads nodes.old a m k) (reads nodes.old b m k)) k)) }
 {
@@ -200,12 +200,12 @@ pub fn either(
     a: u64,
     b: u64,
 ) -> Result<u64, NoMemory>
-    requires a { IsArgument groups.now.ranks ctx.now nodes.old a }
-    requires b { IsArgument groups.now.ranks ctx.now nodes.old b }
+    requires a { IsArgument groups.now ctx.now nodes.old a }
+    requires b { IsArgument groups.now ctx.now nodes.old b }
     requires first { IsPredicate nodes.old a }
     requires second { IsPredicate nodes.old b }
     ensures grew { Grew nodes.old nodes.new }
-    ensures diagram { IfOk result (IsArgument groups.now.ranks ctx.now nodes.new) }
+    ensures diagram { IfOk result (IsArgument groups.now ctx.now nodes.new) }
     ensures predicate { IfOk result (IsPredicate nodes.new) }
     ensures answer { IfOk result (λ d. Under ctx.now (λ m k. answer nodes.new d m k ≡ test_answer (holds nodes.old a m k || holds nodes.old b m k) (bit_or (reads nodes.old a m k) (reads nodes.old b m k)) k)) }
 {

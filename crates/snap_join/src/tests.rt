@@ -66,7 +66,7 @@ fn apart(rt: &impl Abort, alloc: Global, arrays: usize) -> Result<Groups, Fail> 
 // The leaf that passes the packet.
 fn passes(nodes: &mut Nodes<Leaf>, groups: &Groups, ctx: &Context, reads: u64) -> Result<u64, Fail>
     ensures grew { Grew nodes.old nodes.new }
-    ensures diagram { IfOk result (IsArgument groups.now.ranks ctx.now nodes.new) }
+    ensures diagram { IfOk result (IsArgument groups.now ctx.now nodes.new) }
     ensures predicate { IfOk result (IsPredicate nodes.new) }
 {
     let alloc = nodes.allocator();
@@ -85,10 +85,10 @@ fn passes(nodes: &mut Nodes<Leaf>, groups: &Groups, ctx: &Context, reads: u64) -
 
 // The negation of a predicate.
 fn not(nodes: &mut Nodes<Leaf>, groups: &Groups, ctx: &Context, a: u64) -> Result<u64, Fail>
-    requires a { IsArgument groups.now.ranks ctx.now nodes.old a }
+    requires a { IsArgument groups.now ctx.now nodes.old a }
     requires predicate { IsPredicate nodes.old a }
     ensures grew { Grew nodes.old nodes.new }
-    ensures diagram { IfOk result (IsArgument groups.now.ranks ctx.now nodes.new) }
+    ensures diagram { IfOk result (IsArgument groups.now ctx.now nodes.new) }
     ensures predicate { IfOk result (IsPredicate nodes.new) }
 {
     let d = negate(nodes, a)?;
@@ -104,7 +104,7 @@ fn tested(
     reads: u64,
 ) -> Result<u64, Fail>
     ensures grew { Grew nodes.old nodes.new }
-    ensures diagram { IfOk result (IsArgument groups.now.ranks ctx.now nodes.new) }
+    ensures diagram { IfOk result (IsArgument groups.now ctx.now nodes.new) }
     ensures predicate { IfOk result (IsPredicate nodes.new) }
 {
     let yes = passes(nodes, groups, ctx, reads)?;
@@ -125,7 +125,7 @@ fn leaf_at<'a>(
     store: &Store,
     packet: &Packet,
 ) -> Result<&'a Leaf, Fail>
-    requires { IsArgument groups.now.ranks ctx.now nodes.now d }
+    requires { IsArgument groups.now ctx.now nodes.now d }
 {
     if packet.comps().len() != ctx.comps() as usize {
         return Err("the packet has other components")?;
@@ -148,7 +148,7 @@ fn state(alloc: Global, var: u16, comp: u16) -> Result<Test, AllocError> {
 
 // `v0[srcport] = 1` beside `v0[srcport] <- 1`, where `srcport` is the third component.
 fn clash(nodes: &mut Nodes<Leaf>, groups: &Groups, ctx: &Context) -> Result<u64, Fail>
-    ensures { IfOk result (IsArgument groups.now.ranks ctx.now nodes.new) }
+    ensures { IfOk result (IsArgument groups.now ctx.now nodes.new) }
 {
     let alloc = nodes.allocator();
     let test = state(alloc, 0, 2)?;
@@ -174,7 +174,7 @@ fn clash(nodes: &mut Nodes<Leaf>, groups: &Groups, ctx: &Context) -> Result<u64,
 
 // `inport = 1`, or not.
 fn anything(nodes: &mut Nodes<Leaf>, groups: &Groups, ctx: &Context) -> Result<u64, Fail>
-    ensures { IfOk result (IsArgument groups.now.ranks ctx.now nodes.new) }
+    ensures { IfOk result (IsArgument groups.now ctx.now nodes.new) }
 {
     let yes = tested(nodes, groups, ctx, Test::Value { comp: 0, num: 1 }, 0)?;
     let no = not(nodes, groups, ctx, yes)?;
@@ -281,7 +281,7 @@ fn part(
     number: u16,
 ) -> Result<u64, Fail>
     ensures grew { Grew nodes.old nodes.new }
-    ensures diagram { IfOk result (IsArgument groups.now.ranks ctx.now nodes.new) }
+    ensures diagram { IfOk result (IsArgument groups.now ctx.now nodes.new) }
     ensures predicate { IfOk result (IsPredicate nodes.new) }
 {
     let (first, second, reads) = tests_of(nodes.allocator(), shape, number)?;
@@ -298,7 +298,7 @@ fn any_of(
     shape: Shape,
     count: u16,
 ) -> Result<u64, Fail>
-    ensures { IfOk result (IsArgument groups.now.ranks ctx.now nodes.new) }
+    ensures { IfOk result (IsArgument groups.now ctx.now nodes.new) }
 {
     let mut any = part(nodes, groups, ctx, shape, 0)?;
     for number in 1..count {

@@ -46,7 +46,7 @@ fn predicate(
     pred: &Pred,
 ) -> Result<u64, Fail>
     ensures grew { Grew nodes.old nodes.new }
-    ensures diagram { IfOk result (IsArgument groups.now.ranks ctx.now nodes.new) }
+    ensures diagram { IfOk result (IsArgument groups.now ctx.now nodes.new) }
     ensures predicate { IfOk result (IsPredicate nodes.new) }
 {
     match pred {
@@ -97,7 +97,7 @@ fn leaf(
     writes: u64,
 ) -> Result<u64, Fail>
     ensures grew { Grew nodes.old nodes.new }
-    ensures diagram { IfOk result (IsArgument groups.now.ranks ctx.now nodes.new) }
+    ensures diagram { IfOk result (IsArgument groups.now ctx.now nodes.new) }
 {
     let alloc = nodes.allocator();
     let leaf = Leaf::Go(Go {
@@ -115,7 +115,7 @@ fn leaf(
 // The diagram of a policy with no sequences.
 fn policy(nodes: &mut Nodes<Leaf>, groups: &Groups, ctx: &Context, pol: &Pol) -> Result<u64, Fail>
     ensures grew { Grew nodes.old nodes.new }
-    ensures diagram { IfOk result (IsArgument groups.now.ranks ctx.now nodes.new) }
+    ensures diagram { IfOk result (IsArgument groups.now ctx.now nodes.new) }
 {
     let alloc = nodes.allocator();
     match pol {

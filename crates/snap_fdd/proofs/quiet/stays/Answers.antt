@@ -19,6 +19,6 @@ returns-in-Ask c =
     let count : length c.facts-facts.result.now ≤ 2147483648 = omega (arith, c.if-facts-gt-MOST.false) in
     let short : length c.args.ctx.now.facts + depth (diagram c.args.nodes.now c.args.d) ≤ 2 ^ 32
     = rw (sym c.facts-facts.ensures.facts) (omega (arith, low, count, c.if-d-gt-MOST.false)) in
-    IfOk-weaker c.all_before.result _ _ (λ b h t. stays_live c.args.groups.now.ranks c.args.survey.now c.args.ctx.now c.in-Ask.test _ _ (diagram c.args.nodes.now c.args.d) l.0 few c.facts-facts.ensures.met c.facts-facts.ensures.tests
+    IfOk-weaker c.all_before.result _ _ (λ b h t. stays_live c.args.groups.now c.args.survey.now c.args.ctx.now c.in-Ask.test _ _ (diagram c.args.nodes.now c.args.d) l.0 few c.facts-facts.ensures.met c.facts-facts.ensures.tests
     (subst (λ (fs : List Fact). AllByRecursion (StandsBefore c.args.groups.now.ranks c.args.survey.now c.in-Ask.test) fs) c.facts-facts.ensures.facts (h t))
     (c.requires.marked.quiet c.args.d within marked) c.requires.diagram short) c.all_before.ensures

@@ -3,4 +3,4 @@ use Rattle.snap_fdd.specs.Picks.{IsArgument}
 use Rattle.snap_fdd.proofs.tests.chain.Given as goal
 
 abbrev pub invariant-loop-at : goal.invariant-loop-at
-invariant-loop-at l = IsArgument l.groups.ranks l.ctx l.nodes l.d
+invariant-loop-at l = IsArgument l.groups l.ctx l.nodes l.d

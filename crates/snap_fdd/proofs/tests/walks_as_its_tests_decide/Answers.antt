@@ -4,4 +4,4 @@ use Rattle.snap_fdd.proofs.Walkable.{walkable}
 use Rattle.snap_fdd.proofs.tests.walks_as_its_tests_decide.Goals as goal
 
 pub walk-leaf-requires-clause-bounds : goal.walk-leaf-requires-clause-bounds
-walk-leaf-requires-clause-bounds g c = walkable c.in_ok-groups.groups.ranks c.in_ok-ctx.ctx _ _ _ c.in_ok-d.ensures (search rules)
+walk-leaf-requires-clause-bounds g c = walkable c.in_ok-groups.groups c.in_ok-ctx.ctx _ _ _ c.in_ok-d.ensures (search rules)

@@ -16,10 +16,10 @@ use Rattle.snap_join.proofs.choosing.+chosen.Goals as goal
 pub chosen_anew-chosen-requires-in-Split : goal.chosen_anew-chosen-requires-in-Split
 chosen_anew-chosen-requires-in-Split t c =
     let part = subst (IsPart c.args.nodes.now c.args.x) c.in-Split.is c.in_ok-part_of.ensures in
-    let j = subst (IsDiagram c.args.groups.now.ranks (sizes c.args.groups.now.ranks c.args.ctx.now)) part.0 c.requires.x.keeps in
+    let j = subst (IsDiagram c.args.groups.now.ranks (sizes c.args.groups.now c.args.ctx.now)) part.0 c.requires.x.keeps in
     let g = c.chosen.ensures.grew in
-    let an : IsArgument c.args.groups.now.ranks c.args.ctx.now c.args.nodes.now c.in-Split.no = record { below = omega (arith, part.2, c.requires.x.below); keeps = no_part c.args.groups.now.ranks (sizes c.args.groups.now.ranks c.args.ctx.now) _ _ _ j } in
-    (omega (arith, part.2, c.decreases), (argument_kept c.args.groups.now.ranks c.args.ctx.now c.args.nodes.now c.chosen.new.nodes c.in-Split.no g an, (argument_kept c.args.groups.now.ranks c.args.ctx.now c.args.nodes.now c.chosen.new.nodes c.args.p g c.requires.p, (argument_kept c.args.groups.now.ranks c.args.ctx.now c.args.nodes.now c.chosen.new.nodes c.args.q g c.requires.q, c.in_ok-y-in-Split.ensures.memo))))
+    let an : IsArgument c.args.groups.now c.args.ctx.now c.args.nodes.now c.in-Split.no = record { below = omega (arith, part.2, c.requires.x.below); keeps = no_part c.args.groups.now.ranks (sizes c.args.groups.now c.args.ctx.now) _ _ _ j } in
+    (omega (arith, part.2, c.decreases), (argument_kept c.args.groups.now c.args.ctx.now c.args.nodes.now c.chosen.new.nodes c.in-Split.no g an, (argument_kept c.args.groups.now c.args.ctx.now c.args.nodes.now c.chosen.new.nodes c.args.p g c.requires.p, (argument_kept c.args.groups.now c.args.ctx.now c.args.nodes.now c.chosen.new.nodes c.args.q g c.requires.q, c.in_ok-y-in-Split.ensures.memo))))
 
 pub chosen_anew-pick-requires-clause-first : goal.chosen_anew-pick-requires-clause-first
 chosen_anew-pick-requires-clause-first t c =
@@ -34,19 +34,19 @@ chosen_anew-returns-in_ok-n-in-Split-clause-chosen t c =
     let kp = kept c.args.nodes.now c.chosen.new.nodes c.args.p g c.requires.p.below in
     let kq = kept c.args.nodes.now c.chosen.new.nodes c.args.q g c.requires.q.below in
     let ky = kept c.chosen.new.nodes c.chosen-in-Split.new.nodes c.in_ok-y-in-Split.y c.chosen-in-Split.ensures.grew c.in_ok-y-in-Split.ensures.number in
-    let cn : IsChosen c.args.groups.now.ranks (sizes c.args.groups.now.ranks c.args.ctx.now) (diagram c.args.nodes.now c.in-Split.no) (diagram c.args.nodes.now c.args.p) (diagram c.args.nodes.now c.args.q) (diagram c.chosen-in-Split.new.nodes c.in_ok-n-in-Split.n)
+    let cn : IsChosen c.args.groups.now.ranks (sizes c.args.groups.now c.args.ctx.now) (diagram c.args.nodes.now c.in-Split.no) (diagram c.args.nodes.now c.args.p) (diagram c.args.nodes.now c.args.q) (diagram c.chosen-in-Split.new.nodes c.in_ok-n-in-Split.n)
     = rw (sym kn, sym kp, sym kq) c.in_ok-n-in-Split.ensures.chosen in
-    IfOk-weaker c.pick.result _ _ (λ d k. chosen_both c.args.groups.now.ranks (sizes c.args.groups.now.ranks c.args.ctx.now) c.in-Split.test (diagram c.args.nodes.now c.args.x) (diagram c.args.nodes.now c.in-Split.yes) (diagram c.args.nodes.now c.in-Split.no) (diagram c.args.nodes.now c.args.p) (diagram c.args.nodes.now c.args.q)
+    IfOk-weaker c.pick.result _ _ (λ d k. chosen_both c.args.groups.now.ranks (sizes c.args.groups.now c.args.ctx.now) c.in-Split.test (diagram c.args.nodes.now c.args.x) (diagram c.args.nodes.now c.in-Split.yes) (diagram c.args.nodes.now c.in-Split.no) (diagram c.args.nodes.now c.args.p) (diagram c.args.nodes.now c.args.q)
     (diagram c.chosen.new.nodes c.in_ok-y-in-Split.y) (diagram c.chosen-in-Split.new.nodes c.in_ok-n-in-Split.n) (diagram c.pick.new.nodes d) part.0 c.in_ok-y-in-Split.ensures.chosen cn (rw (sym ky) k)) c.pick.ensures.pick
 
 pub chosen_anew-returns-then-leaf_passes-clause-memo : goal.chosen_anew-returns-then-leaf_passes-clause-memo
-chosen_anew-returns-then-leaf_passes-clause-memo t c = IfOk-weaker c.combine.result _ _ (λ d n. decided_memo c.args.groups.now.ranks (sizes c.args.groups.now.ranks c.args.ctx.now) c.args.nodes.now c.combine.new.nodes c.args.memo.now c.combine.ensures.grew c.requires.memo) c.combine.ensures.number
+chosen_anew-returns-then-leaf_passes-clause-memo t c = IfOk-weaker c.combine.result _ _ (λ d n. decided_memo c.args.groups.now.ranks (sizes c.args.groups.now c.args.ctx.now) c.args.nodes.now c.combine.new.nodes c.args.memo.now c.combine.ensures.grew c.requires.memo) c.combine.ensures.number
 
 pub chosen_anew-returns-else-leaf_passes-clause-memo : goal.chosen_anew-returns-else-leaf_passes-clause-memo
-chosen_anew-returns-else-leaf_passes-clause-memo t c = IfOk-weaker c.combine-else-leaf_passes.result _ _ (λ d n. decided_memo c.args.groups.now.ranks (sizes c.args.groups.now.ranks c.args.ctx.now) c.args.nodes.now c.combine-else-leaf_passes.new.nodes c.args.memo.now c.combine-else-leaf_passes.ensures.grew c.requires.memo) c.combine-else-leaf_passes.ensures.number
+chosen_anew-returns-else-leaf_passes-clause-memo t c = IfOk-weaker c.combine-else-leaf_passes.result _ _ (λ d n. decided_memo c.args.groups.now.ranks (sizes c.args.groups.now c.args.ctx.now) c.args.nodes.now c.combine-else-leaf_passes.new.nodes c.args.memo.now c.combine-else-leaf_passes.ensures.grew c.requires.memo) c.combine-else-leaf_passes.ensures.number
 
 pub chosen_anew-returns-in_ok-n-in-Split-clause-memo : goal.chosen_anew-returns-in_ok-n-in-Split-clause-memo
-chosen_anew-returns-in_ok-n-in-Split-clause-memo t c = IfOk-weaker c.pick.result _ _ (λ d n. decided_memo c.args.groups.now.ranks (sizes c.args.groups.now.ranks c.args.ctx.now) c.chosen-in-Split.new.nodes c.pick.new.nodes c.chosen-in-Split.new.memo c.pick.ensures.grew c.in_ok-n-in-Split.ensures.memo) c.pick.ensures.number
+chosen_anew-returns-in_ok-n-in-Split-clause-memo t c = IfOk-weaker c.pick.result _ _ (λ d n. decided_memo c.args.groups.now.ranks (sizes c.args.groups.now c.args.ctx.now) c.chosen-in-Split.new.nodes c.pick.new.nodes c.chosen-in-Split.new.memo c.pick.ensures.grew c.in_ok-n-in-Split.ensures.memo) c.pick.ensures.number
 
 pub chosen-returns-in-Some-clause-number : goal.chosen-returns-in-Some-clause-number
 chosen-returns-in-Some-clause-number t c = (c.requires.memo (c.args.x ∷ c.args.p ∷ c.args.q ∷ []) c.in-Some.d (sym c.in-Some.ensures)).number
@@ -56,6 +56,6 @@ chosen-returns-in-Some-clause-chosen t c = (c.requires.memo (c.args.x ∷ c.args
 
 pub chosen-returns-clause-memo : goal.chosen-returns-clause-memo
 chosen-returns-clause-memo t c =
-    remembers_more (DecidedFor c.args.groups.now.ranks (sizes c.args.groups.now.ranks c.args.ctx.now) c.chosen_anew.new.nodes) c.chosen_anew.new.memo c.put.new.self c.in_ok-vec.field-0.items c.in_ok-d.d c.in_ok-d.ensures.memo
-    (rw c.in_ok-vec.ensures.items (decided_now c.args.groups.now.ranks (sizes c.args.groups.now.ranks c.args.ctx.now) c.args.nodes.now c.chosen_anew.new.nodes c.args.x c.args.p c.args.q c.in_ok-d.d c.chosen_anew.ensures.grew c.requires.x.below c.requires.p.below c.requires.q.below c.in_ok-d.ensures.number c.in_ok-d.ensures.chosen))
+    remembers_more (DecidedFor c.args.groups.now.ranks (sizes c.args.groups.now c.args.ctx.now) c.chosen_anew.new.nodes) c.chosen_anew.new.memo c.put.new.self c.in_ok-vec.field-0.items c.in_ok-d.d c.in_ok-d.ensures.memo
+    (rw c.in_ok-vec.ensures.items (decided_now c.args.groups.now.ranks (sizes c.args.groups.now c.args.ctx.now) c.args.nodes.now c.chosen_anew.new.nodes c.args.x c.args.p c.args.q c.in_ok-d.d c.chosen_anew.ensures.grew c.requires.x.below c.requires.p.below c.requires.q.below c.in_ok-d.ensures.number c.in_ok-d.ensures.chosen))
     c.in_ok-put.ensures.ok

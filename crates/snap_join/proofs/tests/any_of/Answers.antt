@@ -4,7 +4,7 @@ use Rattle.snap_join.proofs.Known.{predicate_kept}
 use Rattle.snap_join.proofs.tests.any_of.Goals as goal
 
 pub either-requires-clause-a : goal.either-requires-clause-a
-either-requires-clause-a c = argument_kept c.args.groups.now.ranks c.args.ctx.now c.loop-number.nodes c.part-in-loop-number.new.nodes c.loop-number.any c.part-in-loop-number.ensures.grew c.loop-number.invariant.0
+either-requires-clause-a c = argument_kept c.args.groups.now c.args.ctx.now c.loop-number.nodes c.part-in-loop-number.new.nodes c.loop-number.any c.part-in-loop-number.ensures.grew c.loop-number.invariant.0
 
 pub either-requires-clause-first : goal.either-requires-clause-first
 either-requires-clause-first c = predicate_kept c.loop-number.nodes c.part-in-loop-number.new.nodes c.loop-number.any c.part-in-loop-number.ensures.grew c.loop-number.invariant.0.below c.loop-number.invariant.1

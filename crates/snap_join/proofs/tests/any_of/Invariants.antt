@@ -4,4 +4,4 @@ use Rattle.snap_join.specs.Predicates.{IsPredicate}
 use Rattle.snap_join.proofs.tests.any_of.Given as goal
 
 abbrev pub invariant-loop-number : goal.invariant-loop-number
-invariant-loop-number l = IsArgument l.groups.ranks l.ctx l.nodes l.any × IsPredicate l.nodes l.any
+invariant-loop-number l = IsArgument l.groups l.ctx l.nodes l.any × IsPredicate l.nodes l.any

@@ -4,7 +4,7 @@ use Rattle.snap_join.proofs.Known.{predicate_kept, predicate_asked}
 use Rattle.snap_join.proofs.tests.tested.Goals as goal
 
 pub ite-requires-clause-yes : goal.ite-requires-clause-yes
-ite-requires-clause-yes c = argument_kept c.args.groups.now.ranks c.args.ctx.now c.passes.new.nodes c.not.new.nodes c.in_ok-yes.yes c.not.ensures.grew c.in_ok-yes.ensures.diagram
+ite-requires-clause-yes c = argument_kept c.args.groups.now c.args.ctx.now c.passes.new.nodes c.not.new.nodes c.in_ok-yes.yes c.not.ensures.grew c.in_ok-yes.ensures.diagram
 
 pub returns-clause-predicate : goal.returns-clause-predicate
 returns-clause-predicate c =
