@@ -6,6 +6,7 @@ use Rattle.std.specs.FinMap.Entries.{by_order}
 use Rattle.std.specs.declared.cmp.Ordering.{Ordering}
 use Rattle.std.specs.declared.cmp.Ordering.TheVariants.{Less, Equal, Greater}
 use Rattle.std.proofs.lemmas.Bool.{cond-true, cond-false}
+use Rattle.snap_dep.specs.Ranks.{Grouping}
 use Rattle.snap_core.specs.declared.policy.Atom.{Atom}
 use Rattle.snap_core.specs.declared.policy.Test.{Test}
 use Rattle.snap_core.specs.declared.policy.Update.{Update}
@@ -92,14 +93,14 @@ yes_walk t y n d m k e is = rw e (sym (cond-true (passes t m k) (walk y m k) (wa
 no_walk : (t : Test) (y n d : Diagram) (m : Arrays) (k : List ℕ) → d ≡ Asks t y n → passes t m k ≡ false → walk n m k ≡ walk d m k
 no_walk t y n d m k e is = rw e (sym (cond-false (passes t m k) (walk y m k) (walk n m k) is))
 
-module _ (ranks : List ℕ) (v : View) (ns : List (Node Leaf)) (mk : Mark) (a d : ℕ) (t : Test) where
+module _ (groups : Grouping) (v : View) (ns : List (Node Leaf)) (mk : Mark) (a d : ℕ) (t : Test) where
   -- the second asks it
-  pub second_asks : (y n : ℕ) (p q : Pair) → IsMarkedBy mk (diagram ns a) → TestMissed mk t → IsDiagram ranks (sizes ranks v) (diagram ns d)
+  pub second_asks : (y n : ℕ) (p q : Pair) → IsMarkedBy mk (diagram ns a) → TestMissed mk t → IsDiagram groups.ranks (sizes groups v) (diagram ns d)
       → (diagram ns d ≡ Asks t (diagram ns y) (diagram ns n)) × (y < d) × (n < d) → p.second ≡ y → q.second ≡ n → p.first ≤ a → q.first ≤ a
-      → IsSide ranks (sizes ranks v) t true (diagram ns a) (diagram ns p.first) → IsSide ranks (sizes ranks v) t false (diagram ns a) (diagram ns q.first)
-      → IsAskedFirst ranks v ns a d t p q
+      → IsSide groups.ranks (sizes groups v) t true (diagram ns a) (diagram ns p.first) → IsSide groups.ranks (sizes groups v) t false (diagram ns a) (diagram ns q.first)
+      → IsAskedFirst groups v ns a d t p q
   second_asks y n p q marked miss keeps part ep eq lp lq sp sq =
-      let j = subst (IsDiagram ranks (sizes ranks v)) part.0 keeps in
+      let j = subst (IsDiagram groups.ranks (sizes groups v)) part.0 keeps in
       record {
         bounds = j.bounds.0;
         yes = record {
@@ -107,7 +108,7 @@ module _ (ranks : List ℕ) (v : View) (ns : List (Node Leaf)) (mk : Mark) (a d 
           second = rw ep (omega (arith, part.1));
           falls = rw ep (omega (arith, part.1, lp));
           keeps_first = sp.keeps;
-          keeps_second = rw ep (yes_part ranks (sizes ranks v) t (diagram ns y) (diagram ns n) j);
+          keeps_second = rw ep (yes_part groups.ranks (sizes groups v) t (diagram ns y) (diagram ns n) j);
           same = same_where mk t true (diagram ns a) (diagram ns p.first) (diagram ns d) (diagram ns p.second) marked sp.walks
               (λ l m k h is. leaf_then mk t true l (diagram ns d) (diagram ns p.second) m k h miss is (λ o r w. rw ep (yes_walk t (diagram ns y) (diagram ns n) (diagram ns d) o r part.0 w)));
         };
@@ -116,26 +117,26 @@ module _ (ranks : List ℕ) (v : View) (ns : List (Node Leaf)) (mk : Mark) (a d 
           second = rw eq (omega (arith, part.2));
           falls = rw eq (omega (arith, part.2, lq));
           keeps_first = sq.keeps;
-          keeps_second = rw eq (no_part ranks (sizes ranks v) t (diagram ns y) (diagram ns n) j);
+          keeps_second = rw eq (no_part groups.ranks (sizes groups v) t (diagram ns y) (diagram ns n) j);
           same = same_where mk t false (diagram ns a) (diagram ns q.first) (diagram ns d) (diagram ns q.second) marked sq.walks
               (λ l m k h is. leaf_then mk t false l (diagram ns d) (diagram ns q.second) m k h miss is (λ o r w. rw eq (no_walk t (diagram ns y) (diagram ns n) (diagram ns d) o r part.0 w)));
         };
       }
 
   -- the first asks it
-  pub first_asks : (y n : ℕ) (p q : Pair) → IsMarkedBy mk (diagram ns a) → IsDiagram ranks (sizes ranks v) (diagram ns a)
+  pub first_asks : (y n : ℕ) (p q : Pair) → IsMarkedBy mk (diagram ns a) → IsDiagram groups.ranks (sizes groups v) (diagram ns a)
       → (diagram ns a ≡ Asks t (diagram ns y) (diagram ns n)) × (y < a) × (n < a) → p.first ≡ y → q.first ≡ n → p.second ≤ d → q.second ≤ d
-      → IsAlong ranks (sizes ranks v) mk t true (diagram ns d) (diagram ns p.second) → IsAlong ranks (sizes ranks v) mk t false (diagram ns d) (diagram ns q.second)
-      → IsAskedFirst ranks v ns a d t p q
+      → IsAlong groups.ranks (sizes groups v) mk t true (diagram ns d) (diagram ns p.second) → IsAlong groups.ranks (sizes groups v) mk t false (diagram ns d) (diagram ns q.second)
+      → IsAskedFirst groups v ns a d t p q
   first_asks y n p q marked keeps part ep eq lp lq ap aq =
-      let j = subst (IsDiagram ranks (sizes ranks v)) part.0 keeps in
+      let j = subst (IsDiagram groups.ranks (sizes groups v)) part.0 keeps in
       record {
         bounds = j.bounds.0;
         yes = record {
           first = rw ep (omega (arith, part.1));
           second = lp;
           falls = rw ep (omega (arith, part.1, lp));
-          keeps_first = rw ep (yes_part ranks (sizes ranks v) t (diagram ns y) (diagram ns n) j);
+          keeps_first = rw ep (yes_part groups.ranks (sizes groups v) t (diagram ns y) (diagram ns n) j);
           keeps_second = ap.keeps;
           same = same_where mk t true (diagram ns a) (diagram ns p.first) (diagram ns d) (diagram ns p.second) marked (λ o r w. rw ep (yes_walk t (diagram ns y) (diagram ns n) (diagram ns a) o r part.0 w)) ap.same;
         };
@@ -143,15 +144,15 @@ module _ (ranks : List ℕ) (v : View) (ns : List (Node Leaf)) (mk : Mark) (a d 
           first = rw eq (omega (arith, part.2));
           second = lq;
           falls = rw eq (omega (arith, part.2, lq));
-          keeps_first = rw eq (no_part ranks (sizes ranks v) t (diagram ns y) (diagram ns n) j);
+          keeps_first = rw eq (no_part groups.ranks (sizes groups v) t (diagram ns y) (diagram ns n) j);
           keeps_second = aq.keeps;
           same = same_where mk t false (diagram ns a) (diagram ns q.first) (diagram ns d) (diagram ns q.second) marked (λ o r w. rw eq (no_walk t (diagram ns y) (diagram ns n) (diagram ns a) o r part.0 w)) aq.same;
         };
       }
 
-pub chained_asked : (ranks : List ℕ) (v : View) (t : Test) (a d ay dy an dn ry rn r : Diagram) → SameWhere t true a d ay dy → SameWhere t false a d an dn → IsChained ranks v dy ay ry → IsChained ranks v dn an rn
-    → ((m : Arrays) (k : List ℕ) → walk r m k ≡ cond (passes t m k) (walk ry m k) (walk rn m k)) → IsDiagram ranks (sizes ranks v) r → IsChained ranks v d a r
-chained_asked ranks v t a d ay dy an dn ry rn r sy sn cy cn w keeps = record {
+pub chained_asked : (groups : Grouping) (v : View) (t : Test) (a d ay dy an dn ry rn r : Diagram) → SameWhere t true a d ay dy → SameWhere t false a d an dn → IsChained groups v dy ay ry → IsChained groups v dn an rn
+    → ((m : Arrays) (k : List ℕ) → walk r m k ≡ cond (passes t m k) (walk ry m k) (walk rn m k)) → IsDiagram groups.ranks (sizes groups v) r → IsChained groups v d a r
+chained_asked groups v t a d ay dy an dn ry rn r sy sn cy cn w keeps = record {
   chained = λ m k met small.
       let Goal : Bool → Type 0 = λ b. passes t m k ≡ b → outcome_of (answer_of (cond b (walk ry m k) (walk rn m k)) k) m ≡ in_sequence (outcome_at a m k) (outcome_at d) in
       let by : (b : Bool) → Goal b = λ b. elim b as Goal [ true ↦ λ is. cy.chained m k met small ∙ sy m k is | false ↦ λ is. cn.chained m k met small ∙ sn m k is ] in
@@ -160,8 +161,8 @@ chained_asked ranks v t a d ay dy an dn ry rn r sy sn cy cn w keeps = record {
 }
 
 -- ---- what is left are arguments
-pub left_first : (ranks : List ℕ) (v : View) (ns : List (Node Leaf)) (t : Test) (given : Bool) (a d : ℕ) (p : Pair) → a < length ns → IsLeft ranks v ns t given a d p → IsArgument ranks v ns p.first
-left_first ranks v ns t given a d p h i = record { below = let l = i.first in omega (arith, l, h); keeps = i.keeps_first }
+pub left_first : (groups : Grouping) (v : View) (ns : List (Node Leaf)) (t : Test) (given : Bool) (a d : ℕ) (p : Pair) → a < length ns → IsLeft groups v ns t given a d p → IsArgument groups v ns p.first
+left_first groups v ns t given a d p h i = record { below = let l = i.first in omega (arith, l, h); keeps = i.keeps_first }
 
-pub left_second : (ranks : List ℕ) (v : View) (ns : List (Node Leaf)) (t : Test) (given : Bool) (a d : ℕ) (p : Pair) → d < length ns → IsLeft ranks v ns t given a d p → IsArgument ranks v ns p.second
-left_second ranks v ns t given a d p h i = record { below = let l = i.second in omega (arith, l, h); keeps = i.keeps_second }
+pub left_second : (groups : Grouping) (v : View) (ns : List (Node Leaf)) (t : Test) (given : Bool) (a d : ℕ) (p : Pair) → d < length ns → IsLeft groups v ns t given a d p → IsArgument groups v ns p.second
+left_second groups v ns t given a d p h i = record { below = let l = i.second in omega (arith, l, h); keeps = i.keeps_second }

@@ -1,5 +1,6 @@
 -- Two diagrams gone down together, one to come after the other.
 use Rattle.std.specs.Prelude.{◌≡◌, ℕ, ◌+◌, ◌<◌, ◌≤◌, Bool, true, false, List}
+use Rattle.snap_dep.specs.Ranks.{Grouping}
 use Rattle.snap_core.specs.declared.policy.Test.{Test}
 use Rattle.snap_core.specs.Arrays.{Arrays}
 use Rattle.snap_core.specs.Tests.{passes}
@@ -28,20 +29,20 @@ pub record IsAlong (ranks : List ℕ) (s : Sizes) (mk : Mark) (t : Test) (given 
   pub same : (l : Leaf) (m : Arrays) (k : List ℕ) → LeafMarked mk l → passes t m k ≡ given → in_sequence (outcome_of (answer_of l k) m) (outcome_at r) ≡ in_sequence (outcome_of (answer_of l k) m) (outcome_at d)
 
 -- what is left of two diagrams where a test gives an answer
-pub record IsLeft (ranks : List ℕ) (v : View) (ns : List (Node Leaf)) (t : Test) (given : Bool) (a d : ℕ) (p : Pair) : Type 0 where
+pub record IsLeft (groups : Grouping) (v : View) (ns : List (Node Leaf)) (t : Test) (given : Bool) (a d : ℕ) (p : Pair) : Type 0 where
   pub first : p.first ≤ a
   pub second : p.second ≤ d
   pub falls : p.first + p.second < a + d
-  pub keeps_first : IsDiagram ranks (sizes ranks v) (diagram ns p.first)
-  pub keeps_second : IsDiagram ranks (sizes ranks v) (diagram ns p.second)
+  pub keeps_first : IsDiagram groups.ranks (sizes groups v) (diagram ns p.first)
+  pub keeps_second : IsDiagram groups.ranks (sizes groups v) (diagram ns p.second)
   pub same : SameWhere t given (diagram ns a) (diagram ns d) (diagram ns p.first) (diagram ns p.second)
 
 -- the first is a leaf, or a test is asked before both
-pub record IsAskedFirst (ranks : List ℕ) (v : View) (ns : List (Node Leaf)) (a d : ℕ) (t : Test) (y n : Pair) : Type 0 where
-  pub bounds : TestIn (sizes ranks v) t
-  pub yes : IsLeft ranks v ns t true a d y
-  pub no : IsLeft ranks v ns t false a d n
+pub record IsAskedFirst (groups : Grouping) (v : View) (ns : List (Node Leaf)) (a d : ℕ) (t : Test) (y n : Pair) : Type 0 where
+  pub bounds : TestIn (sizes groups v) t
+  pub yes : IsLeft groups v ns t true a d y
+  pub no : IsLeft groups v ns t false a d n
 
-abbrev pub IsTurn : List ℕ → View → List (Node Leaf) → ℕ → ℕ → Turn → Type 0
-IsTurn ranks v ns a d Whole = (l : Leaf) × (diagram ns a ≡ Only l)
-IsTurn ranks v ns a d (Asked t y n) = IsAskedFirst ranks v ns a d t y n
+abbrev pub IsTurn : Grouping → View → List (Node Leaf) → ℕ → ℕ → Turn → Type 0
+IsTurn groups v ns a d Whole = (l : Leaf) × (diagram ns a ≡ Only l)
+IsTurn groups v ns a d (Asked t y n) = IsAskedFirst groups v ns a d t y n

@@ -41,15 +41,15 @@ fn all_after(
     so_far: u64,
     d: u64,
 ) -> Result<u64, NoMemory>
-    requires so_far { IsArgument groups.now.ranks ctx.now nodes.old so_far }
-    requires d { IsArgument groups.now.ranks ctx.now nodes.old d }
-    requires outs { All (OutFits (sizes groups.now.ranks ctx.now).comps) outs.now }
-    requires ups { All (UpdateIn (sizes groups.now.ranks ctx.now)) ups.now }
+    requires so_far { IsArgument groups.now ctx.now nodes.old so_far }
+    requires d { IsArgument groups.now ctx.now nodes.old d }
+    requires outs { All (OutFits (sizes groups.now ctx.now).comps) outs.now }
+    requires ups { All (UpdateIn (sizes groups.now ctx.now)) ups.now }
     requires marks { d < length marks.now }
     requires marked { AreMarked nodes.old marks.now }
     ensures grew { Grew nodes.old nodes.new }
     ensures number { IfOk result (λ r. r < length nodes.new) }
-    ensures run { IfOk result (λ r. IsRun groups.now.ranks ctx.now outs.now ups.now (diagram nodes.old d) (diagram nodes.old so_far) (diagram nodes.new r)) }
+    ensures run { IfOk result (λ r. IsRun groups.now ctx.now outs.now ups.now (diagram nodes.old d) (diagram nodes.old so_far) (diagram nodes.new r)) }
 {
     match outs.split_first() {
         None => Ok(so_far),
@@ -88,13 +88,13 @@ fn prefixed(
     go: &Go,
     d: u64,
 ) -> Result<u64, NoMemory>
-    requires d { IsArgument groups.now.ranks ctx.now nodes.old d }
-    requires go { LeafIn (sizes groups.now.ranks ctx.now) (Goes go.now) }
-    requires memo { Remembers (PrefixedFor groups.now.ranks ctx.now go.now nodes.old) memo.old }
+    requires d { IsArgument groups.now ctx.now nodes.old d }
+    requires go { LeafIn (sizes groups.now ctx.now) (Goes go.now) }
+    requires memo { Remembers (PrefixedFor groups.now ctx.now go.now nodes.old) memo.old }
     ensures grew { Grew nodes.old nodes.new }
     ensures number { IfOk result (λ r. r < length nodes.new) }
-    ensures prefixed { IfOk result (λ r. IsPrefixed groups.now.ranks ctx.now go.now (diagram nodes.old d) (diagram nodes.new r)) }
-    ensures memo { OnOk result (Remembers (PrefixedFor groups.now.ranks ctx.now go.now nodes.new) memo.new) }
+    ensures prefixed { IfOk result (λ r. IsPrefixed groups.now ctx.now go.now (diagram nodes.old d) (diagram nodes.new r)) }
+    ensures memo { OnOk result (Remembers (PrefixedFor groups.now ctx.now go.now nodes.new) memo.new) }
 {
     if let Some(r) = memo.get(&[d]) {
         return Ok(r);
@@ -113,13 +113,13 @@ fn prefixed_anew(
     go: &Go,
     d: u64,
 ) -> Result<u64, NoMemory>
-    requires d { IsArgument groups.now.ranks ctx.now nodes.old d }
-    requires go { LeafIn (sizes groups.now.ranks ctx.now) (Goes go.now) }
-    requires memo { Remembers (PrefixedFor groups.now.ranks ctx.now go.now nodes.old) memo.old }
+    requires d { IsArgument groups.now ctx.now nodes.old d }
+    requires go { LeafIn (sizes groups.now ctx.now) (Goes go.now) }
+    requires memo { Remembers (PrefixedFor groups.now ctx.now go.now nodes.old) memo.old }
     ensures grew { Grew nodes.old nodes.new }
     ensures number { IfOk result (λ r. r < length nodes.new) }
-    ensures prefixed { IfOk result (λ r. IsPrefixed groups.now.ranks ctx.now go.now (diagram nodes.old d) (diagram nodes.new r)) }
-    ensures memo { OnOk result (Remembers (PrefixedFor groups.now.ranks ctx.now go.now nodes.new) memo.new) }
+    ensures prefixed { IfOk result (λ r. IsPrefixed groups.now ctx.now go.now (diagram nodes.old d) (diagram nodes.new r)) }
+    ensures memo { OnOk result (Remembers (PrefixedFor groups.now ctx.now go.now nodes.new) memo.new) }
 {
     match part_of(nodes, d)? {
         Part::Whole => match go_of(nodes, d)? {
@@ -146,13 +146,13 @@ pub fn spread(
     go: &Go,
     d: u64,
 ) -> Result<u64, NoMemory>
-    requires d { IsArgument groups.now.ranks ctx.now nodes.old d }
-    requires go { LeafIn (sizes groups.now.ranks ctx.now) (Goes go.now) }
+    requires d { IsArgument groups.now ctx.now nodes.old d }
+    requires go { LeafIn (sizes groups.now ctx.now) (Goes go.now) }
     requires marks { d < length marks.now }
     requires marked { AreMarked nodes.old marks.now }
     ensures grew { Grew nodes.old nodes.new }
     ensures number { IfOk result (λ r. r < length nodes.new) }
-    ensures spread { IfOk result (λ r. IsSpread groups.now.ranks ctx.now go.now (diagram nodes.old d) (diagram nodes.new r)) }
+    ensures spread { IfOk result (λ r. IsSpread groups.now ctx.now go.now (diagram nodes.old d) (diagram nodes.new r)) }
 {
     let alloc = nodes.allocator();
     let nothing = Leaf::Go(Go {
@@ -176,13 +176,13 @@ pub fn spread_on(
     a: u64,
     d: u64,
 ) -> Result<u64, NoMemory>
-    requires a { IsArgument groups.now.ranks ctx.now nodes.old a }
-    requires d { IsArgument groups.now.ranks ctx.now nodes.old d }
+    requires a { IsArgument groups.now ctx.now nodes.old a }
+    requires d { IsArgument groups.now ctx.now nodes.old d }
     requires marks { d < length marks.now }
     requires marked { AreMarked nodes.old marks.now }
     ensures grew { Grew nodes.old nodes.new }
     ensures number { IfOk result (λ r. r < length nodes.new) }
-    ensures sequel { IfOk result (λ r. IsSequel groups.now.ranks ctx.now (diagram nodes.old d) (diagram nodes.old a) (diagram nodes.new r)) }
+    ensures sequel { IfOk result (λ r. IsSequel groups.now ctx.now (diagram nodes.old d) (diagram nodes.old a) (diagram nodes.new r)) }
 {
     match part_of(nodes, a)? {
         Part::Whole => match go_of(nodes, a)? {

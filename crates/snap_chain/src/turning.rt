@@ -58,11 +58,11 @@ fn asked_by_second(
     a: u64,
     d: u64,
 ) -> Result<Option<Turn>, NoMemory>
-    requires a { IsArgument groups.now.ranks ctx.now nodes.now a }
-    requires d { IsArgument groups.now.ranks ctx.now nodes.now d }
-    requires test { TestIn (sizes groups.now.ranks ctx.now) test.now }
+    requires a { IsArgument groups.now ctx.now nodes.now a }
+    requires d { IsArgument groups.now ctx.now nodes.now d }
+    requires test { TestIn (sizes groups.now ctx.now) test.now }
     requires mark { IsMarkedBy mark (diagram nodes.now a) }
-    ensures { IfOk result (λ o. MatchOption o ⊤ (IsTurn groups.now.ranks ctx.now nodes.now a d)) }
+    ensures { IfOk result (λ o. MatchOption o ⊤ (IsTurn groups.now ctx.now nodes.now a d)) }
 {
     match part_of(nodes, d)? {
         Part::Whole => Ok(None),
@@ -103,11 +103,11 @@ pub fn next_turn(
     a: u64,
     d: u64,
 ) -> Result<Turn, NoMemory>
-    requires a { IsArgument groups.now.ranks ctx.now nodes.now a }
-    requires d { IsArgument groups.now.ranks ctx.now nodes.now d }
+    requires a { IsArgument groups.now ctx.now nodes.now a }
+    requires d { IsArgument groups.now ctx.now nodes.now d }
     requires marks { a < length marks.now }
     requires marked { AreMarked nodes.now marks.now }
-    ensures { IfOk result (IsTurn groups.now.ranks ctx.now nodes.now a d) }
+    ensures { IfOk result (IsTurn groups.now ctx.now nodes.now a d) }
 {
     match part_of(nodes, a)? {
         Part::Whole => Ok(Turn::Whole),
