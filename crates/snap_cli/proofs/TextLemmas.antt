@@ -1,5 +1,5 @@
 -- A program has but one text.
-use Rattle.std.proofs.Common.{◌≡◌, ℕ, ◌<◌, ◌≤◌, ◌⊎◌, inl, inr, List, length, take, sym, subst, ap₂, ◌∙◌, arith}
+use Rattle.std.proofs.Common.{◌≡◌, ℕ, ◌<◌, ◌≤◌, ◌⊎◌, inl, inr, List, [], length, take, sym, subst, ap₂, ◌∙◌, arith}
 use Rattle.std.specs.Prelude.{slice_index}
 use Rattle.std.proofs.lemmas.Bool.{cases_eq, cases_lt}
 use Rattle.std.proofs.lemmas.Grind.{same_number_lists}
@@ -9,7 +9,7 @@ use Rattle.snap_dep.specs.Dependencies.{Depends, Tied, TiedIsEquivalence, UsesBe
 use Rattle.snap_dep.specs.Ranks.{Grouping, HasOneRank, IsGrouping, IsNext, IsRank, IsRankIn, rank_of}
 use Rattle.snap_dep.specs.Relations.{IsBefore, Lists}
 use Rattle.snap_dep.proofs.Below.{UsesBelow-fits}
-use Rattle.snap_cli.specs.Deps.{HasOneText}
+use Rattle.snap_cli.specs.Deps.{HasOneText, groups_text}
 use Rattle.snap_cli.proofs.Rising.{same_rising}
 
 one_way : (a b : ℕ × ℕ) → IsBefore a b → IsBefore b a → ⊥

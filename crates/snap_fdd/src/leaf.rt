@@ -35,6 +35,12 @@ impl Outs {
     {
         &self.outs
     }
+
+    pub fn copy(&self, alloc: Global) -> Result<Outs, NoMemory>
+        ensures { IfOk result (λ copy. copy ≡ self.now) }
+    {
+        Ok(Outs::new(copy_outs(alloc, &self.outs)?))
+    }
 }
 
 /// Updates, done in order.
@@ -64,6 +70,32 @@ impl Updates {
     {
         &self.updates
     }
+
+    pub fn copy(&self, alloc: Global) -> Result<Updates, NoMemory>
+        ensures { IfOk result (λ copy. copy ≡ self.now) }
+    {
+        Ok(Updates::new(copy_updates(alloc, &self.updates)?))
+    }
+}
+
+fn copy_outs(alloc: Global, outs: &[Out]) -> Result<Vec<Out>, NoMemory>
+    ensures { IfOk result (λ copies. copies.items ≡ outs.now) }
+{
+    let mut copies = Vec::new(alloc);
+    for out in outs {
+        copies.push(out.copy()?)?;
+    }
+    Ok(copies)
+}
+
+fn copy_updates(alloc: Global, updates: &[Update]) -> Result<Vec<Update>, NoMemory>
+    ensures { IfOk result (λ copies. copies.items ≡ updates.now) }
+{
+    let mut copies = Vec::new(alloc);
+    for update in updates {
+        copies.push(update.copy()?)?;
+    }
+    Ok(copies)
 }
 
 /// What a leaf does: its ways out, its updates, and the variables read and written, a bit each.
@@ -81,4 +113,28 @@ pub enum Leaf {
     /// Two parts race.
     Race,
     Go(Go),
+}
+
+impl Go {
+    pub fn copy(&self, alloc: Global) -> Result<Go, NoMemory>
+        ensures { IfOk result (λ copy. copy ≡ self.now) }
+    {
+        Ok(Go {
+            outs: self.outs.copy(alloc)?,
+            ups: self.ups.copy(alloc)?,
+            reads: self.reads,
+            writes: self.writes,
+        })
+    }
+}
+
+impl Leaf {
+    pub fn copy(&self, alloc: Global) -> Result<Leaf, NoMemory>
+        ensures { IfOk result (λ copy. copy ≡ self.now) }
+    {
+        match self {
+            Leaf::Race => Ok(Leaf::Race),
+            Leaf::Go(go) => Ok(Leaf::Go(go.copy(alloc)?)),
+        }
+    }
 }
