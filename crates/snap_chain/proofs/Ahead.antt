@@ -70,9 +70,9 @@ leaf_then mk t given Race d e m k h miss is same = refl
 leaf_then mk t given (Goes g) d e m k h miss is same =
     let m1 : Arrays = updates m g.ups k in
     ap (λ (os : List (Option Meaning)). option_map (logged g.reads g.writes) (all_together m1 os))
-        (map_same (λ q. passes t m1 q ≡ given) (λ q. outcome_at e m1 q) (λ q. outcome_at d m1 q) (listed (results g.outs k))
-        (λ q p. ap (λ (l : Leaf). outcome_of (answer_of l q) m1) (same m1 q p))
-        (each_of_results (λ q. passes t m1 q ≡ given) k g.outs (outs_missed mk t given g.ups m k g.outs miss h.0 h.1 is)))
+    (map_same (λ q. passes t m1 q ≡ given) (λ q. outcome_at e m1 q) (λ q. outcome_at d m1 q) (listed (results g.outs k))
+    (λ q p. ap (λ (l : Leaf). outcome_of (answer_of l q) m1) (same m1 q p))
+    (each_of_results (λ q. passes t m1 q ≡ given) k g.outs (outs_missed mk t given g.ups m k g.outs miss h.0 h.1 is)))
 
 pub along_missed : (ranks : List ℕ) (s : Sizes) (mk : Mark) (t : Test) (given : Bool) (d r : Diagram) → TestMissed mk t → IsSide ranks s t given d r → IsAlong ranks s mk t given d r
 along_missed ranks s mk t given d r miss side = record { keeps = side.keeps; same = λ l m k h is. leaf_then mk t given l d r m k h miss is side.walks }

@@ -14,8 +14,8 @@ ghost use Rattle.snap_chain.specs.Marks.{AreMarked};
 ghost use Rattle.snap_chain.specs.Spread.{behind_leaf, IsRun, IsPrefixed, IsSpread, IsSequel};
 
 use crate::late::after_marked;
-use crate::marks::{Mark};
-use crate::settling::{copy_outs, copy_updates, go_of};
+use crate::marks::Mark;
+use crate::settling::go_of;
 use snap_arena::nodes::Nodes;
 use snap_arena::numbers::Numbers;
 use snap_core::NoMemory;
@@ -61,17 +61,26 @@ fn all_after(
     }
 }
 
+fn copy_updates(alloc: Global, updates: &[Update]) -> Result<Vec<Update>, NoMemory>
+    ensures { IfOk result (λ copy. copy.items ≡ updates.now) }
+{
+    let mut copy = Vec::with_capacity(alloc, updates.len())?;
+    for update in updates {
+        copy.push(update.copy()?)?;
+    }
+    Ok(copy)
+}
+
 // A leaf behind the updates and logs of another.
 fn leaf_behind(alloc: Global, go: &Go, later: &Go) -> Result<Leaf, NoMemory>
     ensures { IfOk result (λ l. l ≡ behind_leaf go.now (Goes later.now)) }
 {
-    let outs = copy_outs(alloc, later.outs.list())?;
     let mut ups = copy_updates(alloc, go.ups.list())?;
     for update in later.ups.list() {
         ups.push(update.copy()?)?;
     }
     Ok(Leaf::Go(Go {
-        outs: Outs::new(outs),
+        outs: later.outs.copy(alloc)?,
         ups: Updates::new(ups),
         reads: go.reads | later.reads,
         writes: go.writes | later.writes,
@@ -162,7 +171,16 @@ pub fn spread(
         writes: 0,
     });
     let so_far = only(nodes, groups, ctx, nothing)?;
-    let all = all_after(nodes, groups, ctx, marks, go.outs.list(), go.ups.list(), so_far, d)?;
+    let all = all_after(
+        nodes,
+        groups,
+        ctx,
+        marks,
+        go.outs.list(),
+        go.ups.list(),
+        so_far,
+        d,
+    )?;
     let mut memo = Numbers::new(alloc);
     prefixed(nodes, groups, ctx, &mut memo, go, all)
 }

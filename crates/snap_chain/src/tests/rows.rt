@@ -6,6 +6,7 @@ ghost use Rattle.snap_fdd.specs.Picks.{IsArgument};
 
 use super::{apart, asked, at, change, go_at, passes, set};
 use crate::chaining::chain;
+use crate::late::after;
 use snap_arena::nodes::Nodes;
 use snap_core::lists::Out;
 use snap_core::outs::after_all;
@@ -148,5 +149,46 @@ fn a_test_sees_the_updates_before_it(rt: HostRuntime) -> Result<(), Fail> {
     assert!(rt; one.comps() == [7, 2, 8, 5].as_slice());
     assert_eq!(rt; store.get(0, &[7]), 1);
     assert_eq!(rt; store.get(0, &[8]), 5);
+    Ok(())
+}
+
+// `inport <- 1` or `inport <- 2` by whether `outport` is 9, behind `outport <- srcport`.
+fn behind_an_out(nodes: &mut Nodes<Leaf>, groups: &Groups, ctx: &Context) -> Result<u64, Fail>
+    ensures diagram { IfOk result (IsArgument groups.now ctx.now nodes.new) }
+{
+    let one = set(nodes, groups, ctx, 0, Atom::Num(1))?;
+    let two = set(nodes, groups, ctx, 0, Atom::Num(2))?;
+    let d = asked(
+        nodes,
+        groups,
+        ctx,
+        Test::Value { comp: 1, num: 9 },
+        one,
+        two,
+    )?;
+    let alloc = nodes.allocator();
+    let outs = vec![in alloc; Out::new(vec![in alloc; (1, Atom::Comp(2))]?)]?;
+    if !outs_fit(&outs, ctx.comps()) {
+        return Err("the out doesn't fit")?;
+    }
+    Ok(after(nodes, groups, ctx, &outs[0], &[], d)?)
+}
+
+#[test]
+fn a_test_behind_an_out_asks_what_it_sets(rt: HostRuntime) -> Result<(), Fail> {
+    let alloc = rt.alloc();
+    let groups = apart(&rt, alloc, 1)?;
+    let ctx = Context::empty(alloc, 3)?;
+    let mut nodes = Nodes::new(alloc);
+    let d = behind_an_out(&mut nodes, &groups, &ctx)?;
+    let mut store = Store::new(alloc);
+    let packet = Packet::new(vec![in alloc; 4, 5, 9]?);
+    let go = go_at(&nodes, &groups, &ctx, d, &store, &packet)?;
+    let one = one_packet(alloc, go, &mut store, &packet)?;
+    assert!(rt; one.comps() == [1, 9, 9].as_slice());
+    let packet = Packet::new(vec![in alloc; 4, 9, 5]?);
+    let go = go_at(&nodes, &groups, &ctx, d, &store, &packet)?;
+    let one = one_packet(alloc, go, &mut store, &packet)?;
+    assert!(rt; one.comps() == [2, 5, 5].as_slice());
     Ok(())
 }

@@ -24,7 +24,7 @@ returns-in_ok-settled-in-Some-clause-chained c =
     let e = goes_at (diagram c.args.nodes.now c.args.a) c.requires.leaf.0 c.in_ok-go_of.field-0 c.in-Some.go c.requires.leaf.1 c.in_ok-go_of.ensures c.in-Some.is in
     let kd = kept c.args.nodes.now c.settle.new.nodes c.args.d c.settle.ensures.grew c.requires.d.below in
     IfOk-weaker c.spread_on.result _ _ (λ r s. chained_leaf c.args.groups.now c.args.ctx.now c.in-Some.go (diagram c.args.nodes.now c.args.d) (diagram c.args.nodes.now c.args.a) (diagram c.settle.new.nodes c.in_ok-settled-in-Some.settled) (diagram c.spread_on.new.nodes r) e
-        c.in_ok-settled-in-Some.ensures.answer c.in_ok-settled-in-Some.ensures.settled (rw (sym kd) s)) c.spread_on.ensures.sequel
+    c.in_ok-settled-in-Some.ensures.answer c.in_ok-settled-in-Some.ensures.settled (rw (sym kd) s)) c.spread_on.ensures.sequel
 
 pub returns-then-list-le1-clause-chained : goal.returns-then-list-le1-clause-chained
 returns-then-list-le1-clause-chained c =
