@@ -4,7 +4,7 @@ ghost use Rattle.snap_core.specs.Tests.{OutFits};
 ghost use Rattle.snap_arena.specs.Arena.{Grew};
 ghost use Rattle.snap_fdd.specs.Picks.{IsArgument};
 
-use super::{apart, asked, at, change, go_at, passes, set};
+use super::{apart, at, change, choice, go_at, passes, set};
 use crate::chaining::chain;
 use crate::late::after;
 use snap_arena::nodes::Nodes;
@@ -108,13 +108,22 @@ fn copies_that_differ_race(rt: HostRuntime) -> Result<(), Fail> {
     Ok(())
 }
 
+// `s[srcport] <- dstport; s[inport]++`
+fn two_updates(nodes: &mut Nodes<Leaf>, groups: &Groups, ctx: &Context) -> Result<u64, Fail>
+    ensures grew { Grew nodes.old nodes.new }
+    ensures diagram { IfOk result (IsArgument groups.now ctx.now nodes.new) }
+{
+    let puts = change(nodes, groups, ctx, 0, 2, Op::Put(Atom::Comp(3)))?;
+    let adds = change(nodes, groups, ctx, 0, 0, Op::Add(1))?;
+    Ok(chain(nodes, groups, ctx, puts, adds)?)
+}
+
 // `s[srcport] <- dstport; s[inport]++; if s[srcport] = 0 then outport <- 1 else outport <- 2`
 fn tested_behind_updates(
     nodes: &mut Nodes<Leaf>,
     groups: &Groups,
     ctx: &Context,
 ) -> Result<u64, Fail>
-    ensures grew { Grew nodes.old nodes.new }
     ensures diagram { IfOk result (IsArgument groups.now ctx.now nodes.new) }
 {
     let test = Test::State {
@@ -122,13 +131,9 @@ fn tested_behind_updates(
         index: at(nodes.allocator(), 2)?,
         value: Term::Num(0),
     };
-    let one = set(nodes, groups, ctx, 1, Atom::Num(1))?;
-    let two = set(nodes, groups, ctx, 1, Atom::Num(2))?;
-    let last = asked(nodes, groups, ctx, test, one, two)?;
-    let puts = change(nodes, groups, ctx, 0, 2, Op::Put(Atom::Comp(3)))?;
-    let adds = change(nodes, groups, ctx, 0, 0, Op::Add(1))?;
-    let updates = chain(nodes, groups, ctx, puts, adds)?;
-    Ok(chain(nodes, groups, ctx, updates, last)?)
+    let first = two_updates(nodes, groups, ctx)?;
+    let second = choice(nodes, groups, ctx, test)?;
+    Ok(chain(nodes, groups, ctx, first, second)?)
 }
 
 #[test]
@@ -152,20 +157,11 @@ fn a_test_sees_the_updates_before_it(rt: HostRuntime) -> Result<(), Fail> {
     Ok(())
 }
 
-// `inport <- 1` or `inport <- 2` by whether `outport` is 9, behind `outport <- srcport`.
+// `if outport = 9 then outport <- 1 else outport <- 2`, behind `outport <- srcport`.
 fn behind_an_out(nodes: &mut Nodes<Leaf>, groups: &Groups, ctx: &Context) -> Result<u64, Fail>
     ensures diagram { IfOk result (IsArgument groups.now ctx.now nodes.new) }
 {
-    let one = set(nodes, groups, ctx, 0, Atom::Num(1))?;
-    let two = set(nodes, groups, ctx, 0, Atom::Num(2))?;
-    let d = asked(
-        nodes,
-        groups,
-        ctx,
-        Test::Value { comp: 1, num: 9 },
-        one,
-        two,
-    )?;
+    let d = choice(nodes, groups, ctx, Test::Value { comp: 1, num: 9 })?;
     let alloc = nodes.allocator();
     let outs = vec![in alloc; Out::new(vec![in alloc; (1, Atom::Comp(2))]?)]?;
     if !outs_fit(&outs, ctx.comps()) {
@@ -185,10 +181,10 @@ fn a_test_behind_an_out_asks_what_it_sets(rt: HostRuntime) -> Result<(), Fail> {
     let packet = Packet::new(vec![in alloc; 4, 5, 9]?);
     let go = go_at(&nodes, &groups, &ctx, d, &store, &packet)?;
     let one = one_packet(alloc, go, &mut store, &packet)?;
-    assert!(rt; one.comps() == [1, 9, 9].as_slice());
+    assert!(rt; one.comps() == [4, 1, 9].as_slice());
     let packet = Packet::new(vec![in alloc; 4, 9, 5]?);
     let go = go_at(&nodes, &groups, &ctx, d, &store, &packet)?;
     let one = one_packet(alloc, go, &mut store, &packet)?;
-    assert!(rt; one.comps() == [2, 5, 5].as_slice());
+    assert!(rt; one.comps() == [4, 2, 5].as_slice());
     Ok(())
 }
