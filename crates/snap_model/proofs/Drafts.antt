@@ -1,6 +1,6 @@
 -- A draft from fact to fact, and what it is in the end.
 use Rattle.std.proofs.Common.{◌≡◌, ℕ, ◌^◌, ◌<◌, ⊎_elim, true, false, cond, Bool, List, [], ◌∷◌, ◌++◌, length, get_or, refl, sym, ap, subst, ◌∙◌, Some, arith}
-use Rattle.std.specs.Prelude.{◌==◌, All}
+use Rattle.std.specs.Prelude.{◌==◌, ◌≤◌, All}
 use Rattle.std.proofs.lemmas.Bool.{cases_Bool, cond-true}
 use Rattle.std.proofs.lemmas.Grind.{same_number_lists}
 use Rattle.std.proofs.lemmas.List.Elements.{All-push}
@@ -21,7 +21,8 @@ use Rattle.snap_model.specs.declared.ask.Ask.TheVariants.{At}
 use Rattle.snap_model.specs.declared.ask.Settled.{Settled}
 use Rattle.snap_model.specs.declared.example.Draft.{Draft}
 use Rattle.snap_model.specs.Asks.{IsSettled}
-use Rattle.snap_model.specs.Models.{current, Forces, IsDraft, Knows, Settles, place_of, FactBelow, IsZeroFrom}
+use Rattle.snap_core.specs.Inputs.{IsZeroFrom}
+use Rattle.snap_model.specs.Models.{current, Forces, IsDraft, Knows, Settles, place_of, FactBelow}
 use Rattle.snap_model.proofs.Settling.{settled_new, run_kept, fact_kept}
 
 IsStore-put : (m n : Arrays) (p : Place) (x : ℕ) → IsStore m → x < 2 ^ 64 → n ≡ put m p x → IsStore n

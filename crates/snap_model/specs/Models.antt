@@ -2,6 +2,7 @@
 use Rattle.std.specs.Prelude.{◌≡◌, ℕ, ◌<◌, ◌≤◌, Bool, true, List, length, slice_index, All, Option, Some, None}
 use Rattle.std.specs.List.{AllByRecursion}
 use Rattle.snap_core.specs.declared.place.Place.{Place}
+use Rattle.snap_core.specs.Inputs.{IsZeroFrom}
 use Rattle.snap_core.specs.Arrays.{Arrays, place_at}
 use Rattle.snap_core.specs.Cells.{arrays_of}
 use Rattle.snap_ctx.specs.declared.fact.Fact.{Fact}
@@ -56,10 +57,6 @@ Knows v e f = ForcesFact (current v e.grown) e.packet (arrays_of e.store) f
 -- a fact on a place is on a variable below n
 abbrev pub FactBelow : ℕ → Fact → Type 0
 FactBelow n f = is_state f.test ≡ true → var_of f.test < n
-
--- 0 at each place of a variable from n on
-abbrev pub IsZeroFrom : ℕ → Arrays → Type 0
-IsZeroFrom n m = (q : Place) → n ≤ q.var → m q ≡ 0
 
 -- the places of those of the facts that have the answer are settled, and what was settled stays so
 pub record Settles (v : View) (yes : Bool) (facts : List Fact) (old new : Draft) : Type 0 where

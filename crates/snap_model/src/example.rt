@@ -31,7 +31,8 @@ pub struct Draft {
     pub grown: Option<Context>,
 }
 
-ghost use Rattle.snap_model.specs.Models.{current, place_of, FactBelow, IsDraft, IsRun, IsZeroFrom, Settles};
+ghost use Rattle.snap_core.specs.Inputs.{IsZeroFrom};
+ghost use Rattle.snap_model.specs.Models.{current, place_of, FactBelow, IsDraft, IsRun, Settles};
 
 // A context, or what it grew to.
 fn current<'a>(ctx: &'a Context, grown: &'a Option<Context>) -> &'a Context
