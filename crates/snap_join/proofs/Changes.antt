@@ -5,7 +5,6 @@ use Rattle.std.specs.Int.{bit_at}
 use Rattle.std.specs.List.{list_any}
 use Rattle.std.specs.Ordering.{eq_by_cmp}
 use Rattle.std.specs.FinMap.{contains_key}
-use Rattle.std.proofs.Math.Bool.{or-false}
 use Rattle.std.proofs.lemmas.Bool.{eqb-true, ne_eqb, and_left, cond-true, cond-false, and_parts, false≢true}
 use Rattle.std.proofs.lemmas.Nat.Bits.{bit_at_or, bit_at_and, bit_at-lt, bit_at-zero}
 use Rattle.std.proofs.lemmas.List.{map-append}
@@ -112,11 +111,12 @@ swapped_out true true c = refl
 swapped_out true false c = refl
 swapped_out false b c = refl
 
-or-none : (a b : Bool) → b ≡ false → a ≡ (a || b)
-or-none a b e = or-false a ∙ ap (λ t. a || t) (sym e)
+or-none : (a : Bool) → a ≡ (a || false)
+or-none true = refl
+or-none false = refl
 
 contains-results : (s : PacketSet) (os : List (List (ℕ × Atom))) (k q : List ℕ) → contains_key (results_from s os k) q ≡ (contains_key s q || list_any (eq_by_cmp packet_cmp q) (map (λ o. after_out o k) os))
-contains-results s [] k q = or-none (contains_key s q) false refl
+contains-results s [] k q = or-none (contains_key s q)
 contains-results s (o ∷ os) k q =
     contains-results (with_packet s (after_out o k)) os k q
     ∙ ap (λ b. b || list_any (eq_by_cmp packet_cmp q) (map (λ o. after_out o k) os)) (contains-with_packet s (after_out o k) q)

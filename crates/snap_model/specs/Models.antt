@@ -1,5 +1,5 @@
 -- How a context grows until all its models agree on the packet and on the places of its facts.
-use Rattle.std.specs.Prelude.{◌≡◌, ℕ, ◌<◌, ◌≤◌, Bool, true, List, length, slice_index, All, Option, Some, None}
+use Rattle.std.specs.Prelude.{◌≡◌, ℕ, ◌<◌, Bool, true, List, length, slice_index, All, Option, Some, None}
 use Rattle.std.specs.List.{AllByRecursion}
 use Rattle.snap_core.specs.declared.place.Place.{Place}
 use Rattle.snap_core.specs.Inputs.{IsZeroFrom}
