@@ -11,10 +11,11 @@ use Rattle.snap_core.specs.declared.policy.Atom.{Atom}
 use Rattle.snap_core.specs.declared.policy.Test.{Test}
 use Rattle.snap_core.specs.declared.policy.Update.{Update}
 use Rattle.snap_core.specs.Arrays.{Arrays, updates}
-use Rattle.snap_core.specs.Packets.{PacketSet, packet_cmp, listed, set_of, inserted, IsRising}
+use Rattle.snap_core.specs.Packets.{PacketSet, packet_cmp, listed, set_of, IsRising}
 use Rattle.snap_core.specs.Tests.{after_out, results_from, results, passes}
 use Rattle.snap_core.specs.Meaning.{Meaning, logged, all_together}
-use Rattle.snap_core.proofs.Inserted.{listed-set_of, set_of-none, rising_inserted, set_of-inserted}
+use Rattle.snap_core.proofs.Rising.{listed-set_of}
+use Rattle.snap_chain.proofs.Inserted.{inserted, set_of-none, rising_inserted, set_of-inserted}
 use Rattle.snap_ctx.specs.View.{View}
 use Rattle.snap_fdd.specs.declared.leaf.Leaf.{Leaf}
 use Rattle.snap_fdd.specs.declared.leaf.Leaf.TheVariants.{Race, Go as Goes}

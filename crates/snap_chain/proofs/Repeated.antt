@@ -8,10 +8,11 @@ use Rattle.std.specs.declared.cmp.Ordering.TheVariants.{Less, Equal, Greater}
 use Rattle.std.proofs.lemmas.Map.Lookups.{exact_bytes}
 use Rattle.snap_core.specs.declared.policy.Atom.{Atom}
 use Rattle.snap_core.specs.Arrays.{Arrays}
-use Rattle.snap_core.specs.Packets.{PacketSet, packet_cmp, listed, set_of, inserted, IsRising}
+use Rattle.snap_core.specs.Packets.{PacketSet, packet_cmp, listed, set_of, IsRising}
 use Rattle.snap_core.specs.Tests.{after_out, results_from, results}
 use Rattle.snap_core.specs.Meaning.{Meaning, beside, all_together}
-use Rattle.snap_core.proofs.Inserted.{listed-set_of, set_of-none, rising_inserted, set_of-inserted}
+use Rattle.snap_core.proofs.Rising.{listed-set_of}
+use Rattle.snap_chain.proofs.Inserted.{inserted, set_of-none, rising_inserted, set_of-inserted}
 use Rattle.snap_chain.specs.Sequence.{AreDifferent}
 use Rattle.snap_chain.specs.Spread.{besides, nothing}
 use Rattle.snap_chain.proofs.Folding.{besides_front, all_together-is}

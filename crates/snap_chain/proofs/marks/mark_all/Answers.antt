@@ -1,5 +1,5 @@
 -- One mark more.
-use Rattle.std.proofs.Common.{sym, ◌∙◌, ◌<◌, arith, length, subst}
+use Rattle.std.proofs.Common.{sym, arith, subst}
 use Rattle.snap_fdd.specs.Diagrams.{diagram}
 use Rattle.snap_chain.specs.Marks.{IsMarkedBy}
 use Rattle.std.proofs.lemmas.List.{length_push}
