@@ -1,5 +1,6 @@
 -- How a context grows until all its models agree on the packet and on the places of its facts.
-use Rattle.std.specs.Prelude.{◌≡◌, ℕ, ◌<◌, Bool, true, List, length, slice_index, All, Option, Some, None}
+use Rattle.std.specs.Prelude.{◌≡◌, ℕ, ◌<◌, ◌≤◌, Bool, true, List, length, slice_index, All, Option, Some, None}
+use Rattle.std.specs.List.{AllByRecursion}
 use Rattle.snap_core.specs.declared.place.Place.{Place}
 use Rattle.snap_core.specs.Arrays.{Arrays, place_at}
 use Rattle.snap_core.specs.Cells.{arrays_of}
@@ -52,8 +53,17 @@ pub record IsDraft (v : View) (e : Draft) : Type 0 where
 abbrev pub Knows : View → Draft → Fact → Type 0
 Knows v e f = ForcesFact (current v e.grown) e.packet (arrays_of e.store) f
 
+-- a fact on a place is on a variable below n
+abbrev pub FactBelow : ℕ → Fact → Type 0
+FactBelow n f = is_state f.test ≡ true → var_of f.test < n
+
+-- 0 at each place of a variable from n on
+abbrev pub IsZeroFrom : ℕ → Arrays → Type 0
+IsZeroFrom n m = (q : Place) → n ≤ q.var → m q ≡ 0
+
 -- the places of those of the facts that have the answer are settled, and what was settled stays so
 pub record Settles (v : View) (yes : Bool) (facts : List Fact) (old new : Draft) : Type 0 where
   pub draft : IsDraft v new
   pub places : All (λ f. f.yes ≡ yes → Knows v new f) facts
   pub kept : (f : Fact) → Knows v old f → Knows v new f
+  pub only : (n : ℕ) → AllByRecursion (FactBelow n) facts → IsZeroFrom n (arrays_of old.store) → IsZeroFrom n (arrays_of new.store)

@@ -1,6 +1,8 @@
 //! Examples of contexts.
 
-ghost use Rattle.std.specs.Prelude.{◌≡◌, ◌<◌, IfOk, MatchOption, false, length};
+ghost use Rattle.std.specs.Prelude.{◌≡◌, ◌<◌, ℕ, IfOk, MatchOption, true, false, length};
+ghost use Rattle.std.specs.List.{AllByRecursion};
+ghost use Rattle.snap_core.specs.declared.place.Place.{Place};
 ghost use Rattle.snap_core.specs.Arrays.{put};
 ghost use Rattle.snap_core.specs.Cells.{arrays_of};
 ghost use Rattle.snap_ctx.specs.Classes.{IsTest, is_state};
@@ -29,7 +31,7 @@ pub struct Draft {
     pub grown: Option<Context>,
 }
 
-ghost use Rattle.snap_model.specs.Models.{current, place_of, IsDraft, IsRun, Settles};
+ghost use Rattle.snap_model.specs.Models.{current, place_of, FactBelow, IsDraft, IsRun, IsZeroFrom, Settles};
 
 // A context, or what it grew to.
 fn current<'a>(ctx: &'a Context, grown: &'a Option<Context>) -> &'a Context
@@ -55,7 +57,8 @@ fn settle_component(alloc: Global, ctx: &Context, comp: u16) -> Result<Settled, 
 
 // Settles the packet, with an empty store.
 fn settle_packet(alloc: Global, ctx: &Context) -> Result<Draft, NoMemory>
-    ensures { IfOk result (IsDraft ctx.now) }
+    ensures draft { IfOk result (IsDraft ctx.now) }
+    ensures empty { IfOk result (λ e. (q : Place) → arrays_of e.store q ≡ 0) }
 {
     let mut comps = Vec::new(alloc);
     let mut grown: Option<Context> = None;
@@ -83,7 +86,7 @@ fn settle_fact(
     requires test { IsTest (length packet.now) fact.now.test }
     ensures { IfOk result (λ o. MatchOption o
         ((is_state fact.now.test ≡ false) × (store.new ≡ store.old))
-        (λ s. IsSettled ctx.now (At (place_of fact.now packet.now)) s × (arrays_of store.new ≡ put (arrays_of store.old) (place_of fact.now packet.now) s.num))) }
+        (λ s. (is_state fact.now.test ≡ true) × IsSettled ctx.now (At (place_of fact.now packet.now)) s × (arrays_of store.new ≡ put (arrays_of store.old) (place_of fact.now packet.now) s.num))) }
 {
     let Test::State { var, index, value } = &fact.test else {
         return Ok(None);
@@ -136,6 +139,7 @@ pub fn example(alloc: Global, ctx: &Context) -> Result<(Store, Packet), NoMemory
     ensures facts { IfOk result (λ e. Meets ctx.now.facts (arrays_of e.0) e.1) }
     ensures store { IfOk result (λ e. IsStore (arrays_of e.0)) }
     ensures packet { IfOk result (λ e. IsPacket (length ctx.now.classes) e.1) }
+    ensures only { IfOk result (λ e. (n : ℕ) → AllByRecursion (FactBelow n) ctx.now.facts → IsZeroFrom n (arrays_of e.0)) }
 {
     let draft = settle_packet(alloc, ctx)?;
     // What a fact denies may be what another says, so these come first.

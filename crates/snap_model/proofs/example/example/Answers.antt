@@ -23,3 +23,6 @@ returns-clause-packet c =
 
 pub returns-clause-store : goal.returns-clause-store
 returns-clause-store c = c.in_ok-draft-3.ensures.draft.small
+
+pub returns-clause-only : goal.returns-clause-only
+returns-clause-only c = λ n a. c.in_ok-draft-3.ensures.only n a (c.in_ok-draft-2.ensures.only n a (λ q l. c.in_ok-draft.ensures.empty q))

@@ -1,5 +1,6 @@
 -- One component more.
 use Rattle.std.proofs.Common.{◌≡◌, ◌+◌, ℕ, ◌++◌, ◌∷◌, [], length, sym, subst, ap, ◌∙◌, arith, length-append, List}
+use Rattle.snap_core.specs.Arrays.{Arrays}
 use Rattle.snap_ctx.specs.Meets.{IsStore}
 use Rattle.snap_ctx.specs.View.{View}
 use Rattle.snap_model.specs.declared.ask.Ask.TheVariants.{Component}
@@ -22,8 +23,11 @@ loop-comp-preserved c =
           omega (arith, l, m)),
     )
 
-pub returns : goal.returns
-returns c =
+pub returns-clause-empty : goal.returns-clause-empty
+returns-clause-empty c = λ q. ap (λ (m : Arrays). m q) c.new-2.ensures
+
+pub returns-clause-draft : goal.returns-clause-draft
+returns-clause-draft c =
     let h = c.loop-comp.invariant in
     let end : c.loop-comp.comp ≡ length c.args.ctx.now.classes = omega (arith, c.loop-comp-test.false, c.loop-comp.auto.comp-end, c.comps-comp-end.ensures) in
     record {

@@ -37,11 +37,11 @@ loop-fact-preserved-then-fact-yes c =
     (λ e. absurd (differ c.fact-item.result.yes c.args.yes c.if-fact-yes.true e)) c.loop-fact.invariant)
 
 -- the place settled
-settled : (c : After-settle_fact) (s : Settled) → IsSettled c.current-known.result.now (At (place_of c.fact-item.result c.loop-fact.draft.packet)) s
+settled : (c : After-settle_fact) (s : Settled) → is_state c.fact-item.result.test ≡ true → IsSettled c.current-known.result.now (At (place_of c.fact-item.result c.loop-fact.draft.packet)) s
     → arrays_of c.settle_fact.new.store ≡ put (arrays_of c.loop-fact.draft.store) (place_of c.fact-item.result c.loop-fact.draft.packet) s.num
     → Settles c.args.ctx.now c.args.yes (take c.loop-fact.fact-index c.args.ctx.now.facts ++ c.fact-item.result ∷ []) c.args.draft (record { packet = c.loop-fact.draft.packet; store = c.settle_fact.new.store; grown = Some s.ctx })
-settled c s h written =
-    settles_more c.args.ctx.now c.args.yes (take c.loop-fact.fact-index c.args.ctx.now.facts) c.args.draft c.loop-fact.draft c.fact-item.result s c.settle_fact.new.store
+settled c s st h written =
+    settles_more c.args.ctx.now c.args.yes (take c.loop-fact.fact-index c.args.ctx.now.facts) c.args.draft c.loop-fact.draft c.fact-item.result s c.settle_fact.new.store st
     (subst (λ (v : View). IsSettled v (At (place_of c.fact-item.result c.loop-fact.draft.packet)) s) c.current-known.ensures h) written c.loop-fact.invariant
 
 pub loop-fact-preserved : goal.loop-fact-preserved
@@ -51,10 +51,10 @@ loop-fact-preserved c =
     elim c.match-branch-2.branch [
       | in-Some+in-Some-1 w ↦
           let h = rw w.in-Some.is at c.in_ok-settled.ensures in
-          rw (w.draft-is, whole) (settled d w.in-Some.settled h.0 h.1)
+          rw (w.draft-is, whole) (settled d w.in-Some.settled h.0 h.1 h.2)
       | in-Some+in-None-1 w ↦
           let h = rw w.in-Some.is at c.in_ok-settled.ensures in
-          rw (w.draft-is, whole) (settled d w.in-Some.settled h.0 h.1)
+          rw (w.draft-is, whole) (settled d w.in-Some.settled h.0 h.1 h.2)
       | in_default w ↦
           let off = rw w.in_default.is at c.in_ok-settled.ensures in
           rw (w.draft-is, off.1, whole)

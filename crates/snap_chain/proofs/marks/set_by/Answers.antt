@@ -1,0 +1,6 @@
+-- One part more.
+use Rattle.snap_chain.proofs.Marked.{part_more}
+use Rattle.snap_chain.proofs.marks.set_by.Goals as goal
+
+pub loop-part-preserved : goal.loop-part-preserved
+loop-part-preserved c = part_more c.loop-part.set c.bit-set.result c.parts-part-items.result.now c.loop-part.part-index _ c.loop-part-test.true c.loop-part.invariant c.bit-set.ensures

@@ -1,0 +1,76 @@
+-- What a diagram's leaves set, update and write, and which arrays it tests, as marks tell.
+use Rattle.std.specs.Prelude.{◌≡◌, ℕ, ◌<◌, ◌≤◌, false, true, List, length, bit_or, ◌||◌, slice_index_or}
+use Rattle.std.specs.List.{AllByRecursion}
+use Rattle.snap_core.specs.declared.policy.Atom.{Atom}
+use Rattle.snap_core.specs.declared.policy.Atom.TheVariants.{Num as Number, Comp}
+use Rattle.snap_core.specs.declared.policy.Term.{Term}
+use Rattle.snap_core.specs.declared.policy.Term.TheVariants.{Num, Plus}
+use Rattle.snap_core.specs.declared.policy.Test.{Test}
+use Rattle.snap_core.specs.declared.policy.Test.TheVariants.{Value, Equal, State}
+use Rattle.snap_core.specs.declared.policy.Update.{Update}
+use Rattle.snap_core.specs.Variables.{has}
+use Rattle.snap_arena.specs.declared.node.Node.{Node}
+use Rattle.snap_fdd.specs.declared.leaf.Leaf.{Leaf}
+use Rattle.snap_fdd.specs.declared.leaf.Leaf.TheVariants.{Race, Go as Goes}
+use Rattle.snap_fdd.specs.Diagrams.{Diagram, Only, Asks, diagram}
+use Rattle.snap_chain.specs.declared.marks.Mark.{Mark}
+
+-- the number is in a set, as far as one of 64 bits can tell, and isn't
+abbrev pub IsAmong : ℕ → ℕ → Type 0
+IsAmong set n = n < 64 → has set n ≡ true
+
+abbrev pub IsMissed : ℕ → ℕ → Type 0
+IsMissed set n = (n < 64) × (has set n ≡ false)
+
+abbrev pub SetsAmong : ℕ → List (ℕ × Atom) → Type 0
+SetsAmong set o = AllByRecursion (λ (p : ℕ × Atom). IsAmong set p.0) o
+
+abbrev pub UpdatesAmong : ℕ → List Update → Type 0
+UpdatesAmong set us = AllByRecursion (λ (u : Update). IsAmong set u.var) us
+
+-- the leaf sets and updates no more than is marked, and logs no write where none is marked
+abbrev pub LeafMarked : Mark → Leaf → Type 0
+LeafMarked k Race = Unit {0}
+LeafMarked k (Goes g) = AllByRecursion (SetsAmong k.sets) g.outs × UpdatesAmong k.updates g.ups × (k.writes ≡ false → g.writes ≡ 0)
+
+abbrev pub TestMarked : Mark → Test → Type 0
+TestMarked k (Value c n) = Unit {0}
+TestMarked k (Equal l r p) = Unit {0}
+TestMarked k (State v ix t) = IsAmong k.tests v
+
+-- no leaf and no test of the diagram does more than is marked
+abbrev pub IsMarkedBy : Mark → Diagram → Type 0
+IsMarkedBy k (Only l) = LeafMarked k l
+IsMarkedBy k (Asks t y n) = TestMarked k t × IsMarkedBy k y × IsMarkedBy k n
+
+-- each number's diagram by its mark
+pub record AreMarked (ns : List (Node Leaf)) (marks : List Mark) : Type 0 where
+  pub few : length marks ≤ length ns
+  pub marked : (i : ℕ) (e : Mark) → i < length marks → IsMarkedBy (slice_index_or marks i e) (diagram ns i)
+
+-- what either of two marks says
+abbrev pub either_mark : Mark → Mark → Mark
+either_mark a b = record { sets = bit_or a.sets b.sets; updates = bit_or a.updates b.updates; tests = bit_or a.tests b.tests; writes = a.writes || b.writes }
+
+-- a test of nothing that the marked leaves set or update
+abbrev pub AtomMissed : Mark → Atom → Type 0
+AtomMissed k (Number n) = Unit {0}
+AtomMissed k (Comp c) = IsMissed k.sets c
+
+abbrev pub TermMissed : Mark → Term → Type 0
+TermMissed k (Num n) = Unit {0}
+TermMissed k (Plus c p) = IsMissed k.sets c
+
+abbrev pub TestMissed : Mark → Test → Type 0
+TestMissed k (Value c n) = IsMissed k.sets c
+TestMissed k (Equal l r p) = IsMissed k.sets l × IsMissed k.sets r
+TestMissed k (State v ix t) = IsMissed k.updates v × AllByRecursion (AtomMissed k) ix × TermMissed k t
+
+-- no leaf logs a write
+abbrev pub LeafWritesNothing : Leaf → Type 0
+LeafWritesNothing Race = Unit {0}
+LeafWritesNothing (Goes g) = g.writes ≡ 0
+
+abbrev pub WritesNothing : Diagram → Type 0
+WritesNothing (Only l) = LeafWritesNothing l
+WritesNothing (Asks t y n) = WritesNothing y × WritesNothing n

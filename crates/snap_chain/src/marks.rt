@@ -1,0 +1,207 @@
+//! What a diagram's leaves set and update: a look before one part comes after another, so that what isn't touched is
+//! left as it is.
+
+ghost use Rattle.std.specs.Prelude.{◌≡◌, ◌+◌, ◌<◌, ◌≤◌, ℕ, false, IfOk, IsTrue, length};
+ghost use Rattle.std.specs.List.{AllByRecursion};
+ghost use Rattle.snap_core.specs.Variables.{has};
+ghost use Rattle.snap_core.specs.declared.policy.Update.{Update};
+ghost use Rattle.snap_fdd.specs.Diagrams.{diagram};
+ghost use Rattle.snap_chain.specs.Marks.{either_mark, AreMarked, AtomMissed, IsAmong, IsMarkedBy, IsMissed, LeafMarked, SetsAmong, TermMissed, TestMarked, TestMissed, UpdatesAmong};
+
+use snap_arena::node::Node;
+use snap_arena::nodes::Nodes;
+use snap_core::NoMemory;
+use snap_core::lists::{Atoms, Out};
+use snap_core::policy::{Atom, Term, Test, Update};
+use snap_fdd::leaf::Leaf;
+use snap_fdd::pick::look;
+use snap_fdd::sets::is_in;
+
+/// The components that a diagram's leaves set, the variables that they update and those that the diagram tests, a bit
+/// each, and whether a leaf logs a write.
+#[derive(Clone, Copy, Debug)]
+pub struct Mark {
+    pub sets: u64,
+    pub updates: u64,
+    pub tests: u64,
+    pub writes: bool,
+}
+
+// The set of one number.
+fn bit(number: u16) -> u64
+    ensures { IsAmong result number }
+{
+    if number < 64 { 1 << number } else { 0 }
+}
+
+// Whether a set of 64 bits tells that a number isn't in it.
+fn misses(set: u64, number: u16) -> bool
+    ensures { IsTrue result → IsMissed set number }
+{
+    number < 64 && !is_in(set, number)
+}
+
+fn misses_atom(mark: Mark, atom: Atom) -> bool
+    ensures { IsTrue result → AtomMissed mark atom }
+{
+    match atom {
+        Atom::Num(_) => true,
+        Atom::Comp(comp) => misses(mark.sets, comp),
+    }
+}
+
+fn misses_term(mark: Mark, term: Term) -> bool
+    ensures { IsTrue result → TermMissed mark term }
+{
+    match term {
+        Term::Num(_) => true,
+        Term::Plus { comp, plus: _ } => misses(mark.sets, comp),
+    }
+}
+
+fn misses_index(mark: Mark, index: &Atoms) -> bool
+    ensures { IsTrue result → AllByRecursion (AtomMissed mark) index.now }
+{
+    index.list().iter().all(|atom| misses_atom(mark, *atom))
+}
+
+/// Whether the leaves leave as it is what a test asks.
+pub fn misses_test(mark: Mark, test: &Test) -> bool
+    ensures { IsTrue result → TestMissed mark test.now }
+{
+    match test {
+        Test::Value { comp, num: _ } => misses(mark.sets, *comp),
+        Test::Equal {
+            left,
+            right,
+            plus: _,
+        } => misses(mark.sets, *left) && misses(mark.sets, *right),
+        Test::State { var, index, value } => {
+            misses(mark.updates, *var) && misses_index(mark, index) && misses_term(mark, *value)
+        }
+    }
+}
+
+/// Whether a diagram tests none of the arrays that updates change.
+pub fn misses_updates(mark: Mark, updates: &[Update]) -> bool
+    ensures { IsTrue result → AllByRecursion (λ (u : Update). IsMissed mark.tests u.var) updates.now }
+{
+    updates.iter().all(|update| misses(mark.tests, update.var))
+}
+
+fn either(a: Mark, b: Mark) -> Mark
+    ensures { result ≡ either_mark a b }
+{
+    Mark {
+        sets: a.sets | b.sets,
+        updates: a.updates | b.updates,
+        tests: a.tests | b.tests,
+        writes: a.writes || b.writes,
+    }
+}
+
+// The components that an out sets.
+fn set_by(out: &Out) -> u64
+    ensures { SetsAmong result out.now }
+{
+    let mut set = 0;
+    for part in out.parts() {
+        set |= bit(part.0);
+    }
+    set
+}
+
+fn set_by_all(outs: &[Out]) -> u64
+    ensures { AllByRecursion (SetsAmong result) outs.now }
+{
+    let mut set = 0;
+    for out in outs {
+        set |= set_by(out);
+    }
+    set
+}
+
+// The variables that updates change.
+fn updated_by(updates: &[Update]) -> u64
+    ensures { UpdatesAmong result updates.now }
+{
+    let mut set = 0;
+    for update in updates {
+        set |= bit(update.var);
+    }
+    set
+}
+
+fn leaf_mark(leaf: &Leaf) -> Mark
+    ensures { LeafMarked result leaf.now }
+{
+    match leaf {
+        Leaf::Race => Mark {
+            sets: 0,
+            updates: 0,
+            tests: 0,
+            writes: false,
+        },
+        Leaf::Go(go) => Mark {
+            sets: set_by_all(go.outs.list()),
+            updates: updated_by(go.ups.list()),
+            tests: 0,
+            writes: go.writes != 0,
+        },
+    }
+}
+
+fn test_mark(test: &Test) -> Mark
+    ensures { TestMarked result test.now }
+{
+    let tests = match test {
+        Test::State { var, .. } => bit(*var),
+        _ => 0,
+    };
+    Mark {
+        sets: 0,
+        updates: 0,
+        tests,
+        writes: false,
+    }
+}
+
+/// The mark of a number.
+pub fn mark_of(nodes: &Nodes<Leaf>, marks: &[Mark], d: u64) -> Mark
+    requires d { d < length marks.now }
+    requires marked { AreMarked nodes.now marks.now }
+    ensures { IsMarkedBy result (diagram nodes.now d) }
+{
+    marks[d as usize]
+}
+
+// The mark of the number after those that are marked.
+fn next_mark(nodes: &Nodes<Leaf>, marks: &[Mark], d: u64) -> Mark
+    requires d { d < length nodes.now }
+    requires marks { d ≤ length marks.now }
+    requires marked { AreMarked nodes.now marks.now }
+    ensures { IsMarkedBy result (diagram nodes.now d) }
+{
+    match look(nodes, d) {
+        Node::Leaf(leaf) => leaf_mark(leaf),
+        Node::Ask { test, yes, no } => {
+            let ways = either(mark_of(nodes, marks, *yes), mark_of(nodes, marks, *no));
+            either(test_mark(test), ways)
+        }
+    }
+}
+
+/// The marks of the numbers up to `root`.
+pub fn mark_all(nodes: &Nodes<Leaf>, root: u64) -> Result<Vec<Mark>, NoMemory>
+    requires { root < length nodes.now }
+    ensures count { IfOk result (λ marks. length marks.items ≡ root + 1) }
+    ensures marked { IfOk result (λ marks. AreMarked nodes.now marks.items) }
+{
+    let _count = nodes.count();
+    let mut marks = Vec::new(nodes.allocator());
+    for id in 0..root + 1 {
+        let next = next_mark(nodes, &marks, id);
+        marks.push(next)?;
+    }
+    Ok(marks)
+}

@@ -1,0 +1,216 @@
+//! A leaf, and then a diagram from each packet that it gives.
+
+ghost use Rattle.std.specs.Prelude.{◌≡◌, ◌<◌, ℕ, length, All, IfOk, OnOk};
+ghost use Rattle.snap_core.specs.Tests.{OutFits};
+ghost use Rattle.snap_arena.specs.Arena.{Grew};
+ghost use Rattle.snap_arena.specs.Memos.{Remembers};
+ghost use Rattle.snap_fdd.specs.Bounds.{LeafIn, UpdateIn};
+ghost use Rattle.snap_fdd.specs.Diagrams.{diagram, Only};
+ghost use Rattle.snap_fdd.specs.declared.leaf.Leaf.{Leaf};
+ghost use Rattle.snap_fdd.specs.declared.leaf.Leaf.TheVariants.{Go as Goes};
+ghost use Rattle.snap_fdd.specs.Picks.{IsArgument, sizes};
+ghost use Rattle.snap_chain.specs.Memoed.{PrefixedFor};
+ghost use Rattle.snap_chain.specs.Marks.{AreMarked};
+ghost use Rattle.snap_chain.specs.Spread.{behind_leaf, IsRun, IsPrefixed, IsSpread, IsSequel};
+
+use crate::late::after_marked;
+use crate::marks::Mark;
+use crate::settling::go_of;
+use snap_arena::nodes::Nodes;
+use snap_arena::numbers::Numbers;
+use snap_core::NoMemory;
+use snap_core::lists::Out;
+use snap_core::policy::Update;
+use snap_ctx::context::Context;
+use snap_dep::groups::Groups;
+use snap_fdd::leaf::{Go, Leaf, Outs, Updates};
+use snap_fdd::only::only;
+use snap_fdd::pick::ite;
+use snap_fdd::pruning::{Part, part_of};
+use snap_join::joining::join;
+use std::alloc::Global;
+
+// A diagram behind each out and the updates, beside what is done so far.
+fn all_after(
+    nodes: &mut Nodes<Leaf>,
+    groups: &Groups,
+    ctx: &Context,
+    marks: &[Mark],
+    outs: &[Out],
+    ups: &[Update],
+    so_far: u64,
+    d: u64,
+) -> Result<u64, NoMemory>
+    requires so_far { IsArgument groups.now ctx.now nodes.old so_far }
+    requires d { IsArgument groups.now ctx.now nodes.old d }
+    requires outs { All (OutFits (sizes groups.now ctx.now).comps) outs.now }
+    requires ups { All (UpdateIn (sizes groups.now ctx.now)) ups.now }
+    requires marks { d < length marks.now }
+    requires marked { AreMarked nodes.old marks.now }
+    ensures grew { Grew nodes.old nodes.new }
+    ensures number { IfOk result (λ r. r < length nodes.new) }
+    ensures run { IfOk result (λ r. IsRun groups.now ctx.now outs.now ups.now (diagram nodes.old d) (diagram nodes.old so_far) (diagram nodes.new r)) }
+{
+    match outs.split_first() {
+        None => Ok(so_far),
+        Some((first, more)) => {
+            let one = after_marked(nodes, groups, ctx, marks, first, ups, d)?;
+            let both = join(nodes, groups, ctx, so_far, one)?;
+            all_after(nodes, groups, ctx, marks, more, ups, both, d)
+        }
+    }
+}
+
+fn copy_updates(alloc: Global, updates: &[Update]) -> Result<Vec<Update>, NoMemory>
+    ensures { IfOk result (λ copy. copy.items ≡ updates.now) }
+{
+    let mut copy = Vec::with_capacity(alloc, updates.len())?;
+    for update in updates {
+        copy.push(update.copy()?)?;
+    }
+    Ok(copy)
+}
+
+// A leaf behind the updates and logs of another.
+fn leaf_behind(alloc: Global, go: &Go, later: &Go) -> Result<Leaf, NoMemory>
+    ensures { IfOk result (λ l. l ≡ behind_leaf go.now (Goes later.now)) }
+{
+    let mut ups = copy_updates(alloc, go.ups.list())?;
+    for update in later.ups.list() {
+        ups.push(update.copy()?)?;
+    }
+    Ok(Leaf::Go(Go {
+        outs: later.outs.copy(alloc)?,
+        ups: Updates::new(ups),
+        reads: go.reads | later.reads,
+        writes: go.writes | later.writes,
+    }))
+}
+
+// Each leaf behind the updates and logs of another, which may be remembered.
+#[cycle(prefixed)]
+fn prefixed(
+    nodes: &mut Nodes<Leaf>,
+    groups: &Groups,
+    ctx: &Context,
+    memo: &mut Numbers,
+    go: &Go,
+    d: u64,
+) -> Result<u64, NoMemory>
+    requires d { IsArgument groups.now ctx.now nodes.old d }
+    requires go { LeafIn (sizes groups.now ctx.now) (Goes go.now) }
+    requires memo { Remembers (PrefixedFor groups.now ctx.now go.now nodes.old) memo.old }
+    ensures grew { Grew nodes.old nodes.new }
+    ensures number { IfOk result (λ r. r < length nodes.new) }
+    ensures prefixed { IfOk result (λ r. IsPrefixed groups.now ctx.now go.now (diagram nodes.old d) (diagram nodes.new r)) }
+    ensures memo { OnOk result (Remembers (PrefixedFor groups.now ctx.now go.now nodes.new) memo.new) }
+{
+    if let Some(r) = memo.get(&[d]) {
+        return Ok(r);
+    }
+    let r = prefixed_anew(nodes, groups, ctx, memo, go, d)?;
+    memo.put(vec![in nodes.allocator(); d]?, r)?;
+    Ok(r)
+}
+
+#[cycle(prefixed)]
+fn prefixed_anew(
+    nodes: &mut Nodes<Leaf>,
+    groups: &Groups,
+    ctx: &Context,
+    memo: &mut Numbers,
+    go: &Go,
+    d: u64,
+) -> Result<u64, NoMemory>
+    requires d { IsArgument groups.now ctx.now nodes.old d }
+    requires go { LeafIn (sizes groups.now ctx.now) (Goes go.now) }
+    requires memo { Remembers (PrefixedFor groups.now ctx.now go.now nodes.old) memo.old }
+    ensures grew { Grew nodes.old nodes.new }
+    ensures number { IfOk result (λ r. r < length nodes.new) }
+    ensures prefixed { IfOk result (λ r. IsPrefixed groups.now ctx.now go.now (diagram nodes.old d) (diagram nodes.new r)) }
+    ensures memo { OnOk result (Remembers (PrefixedFor groups.now ctx.now go.now nodes.new) memo.new) }
+{
+    match part_of(nodes, d)? {
+        Part::Whole => match go_of(nodes, d)? {
+            None => Ok(d),
+            Some(later) => {
+                let leaf = leaf_behind(nodes.allocator(), go, &later)?;
+                only(nodes, groups, ctx, leaf)
+            }
+        },
+        Part::Split { test, yes, no } => {
+            let y = prefixed(nodes, groups, ctx, memo, go, yes)?;
+            let n = prefixed(nodes, groups, ctx, memo, go, no)?;
+            ite(nodes, groups, ctx, test, y, n)
+        }
+    }
+}
+
+/// A leaf, and then a diagram, where the outs give different packets or the diagram writes nothing.
+pub fn spread(
+    nodes: &mut Nodes<Leaf>,
+    groups: &Groups,
+    ctx: &Context,
+    marks: &[Mark],
+    go: &Go,
+    d: u64,
+) -> Result<u64, NoMemory>
+    requires d { IsArgument groups.now ctx.now nodes.old d }
+    requires go { LeafIn (sizes groups.now ctx.now) (Goes go.now) }
+    requires marks { d < length marks.now }
+    requires marked { AreMarked nodes.old marks.now }
+    ensures grew { Grew nodes.old nodes.new }
+    ensures number { IfOk result (λ r. r < length nodes.new) }
+    ensures spread { IfOk result (λ r. IsSpread groups.now ctx.now go.now (diagram nodes.old d) (diagram nodes.new r)) }
+{
+    let alloc = nodes.allocator();
+    let nothing = Leaf::Go(Go {
+        outs: Outs::new(Vec::new(alloc)),
+        ups: Updates::new(Vec::new(alloc)),
+        reads: 0,
+        writes: 0,
+    });
+    let so_far = only(nodes, groups, ctx, nothing)?;
+    let all = all_after(
+        nodes,
+        groups,
+        ctx,
+        marks,
+        go.outs.list(),
+        go.ups.list(),
+        so_far,
+        d,
+    )?;
+    let mut memo = Numbers::new(alloc);
+    prefixed(nodes, groups, ctx, &mut memo, go, all)
+}
+
+/// A diagram whose leaves are settled, and then another.
+pub fn spread_on(
+    nodes: &mut Nodes<Leaf>,
+    groups: &Groups,
+    ctx: &Context,
+    marks: &[Mark],
+    a: u64,
+    d: u64,
+) -> Result<u64, NoMemory>
+    requires a { IsArgument groups.now ctx.now nodes.old a }
+    requires d { IsArgument groups.now ctx.now nodes.old d }
+    requires marks { d < length marks.now }
+    requires marked { AreMarked nodes.old marks.now }
+    ensures grew { Grew nodes.old nodes.new }
+    ensures number { IfOk result (λ r. r < length nodes.new) }
+    ensures sequel { IfOk result (λ r. IsSequel groups.now ctx.now (diagram nodes.old d) (diagram nodes.old a) (diagram nodes.new r)) }
+{
+    match part_of(nodes, a)? {
+        Part::Whole => match go_of(nodes, a)? {
+            None => Ok(a),
+            Some(go) => spread(nodes, groups, ctx, marks, &go, d),
+        },
+        Part::Split { test, yes, no } => {
+            let y = spread_on(nodes, groups, ctx, marks, yes, d)?;
+            let n = spread_on(nodes, groups, ctx, marks, no, d)?;
+            ite(nodes, groups, ctx, test, y, n)
+        }
+    }
+}
