@@ -1,3 +1,5 @@
+pub mod CheckLemmas
+pub mod CheckOnce
 pub mod DepsLemmas
 pub mod DepsOnce
 pub mod ObsLemmas
