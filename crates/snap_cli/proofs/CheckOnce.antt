@@ -1,6 +1,7 @@
 -- `check` deserves one ending and one text, but that each pair on which a program races may be told.
-use Rattle.std.proofs.Common.{◌≡◌, ℕ, List, Ok, Err, refl, sym, ◌∙◌, ap, subst, inl, inr}
+use Rattle.std.proofs.Common.{◌≡◌, ◌≤◌, ◌⊎◌, ℕ, List, length, Ok, Err, refl, sym, ◌∙◌, ap, subst, inl, inr}
 use Rattle.snap_core.specs.declared.program.Program.{Program}
+use Rattle.snap_core.specs.declared.place.Place.{Place}
 use Rattle.snap_core.specs.Arrays.{Arrays}
 use Rattle.snap_core.specs.Fields.{count}
 use Rattle.snap_ctx.specs.Meets.{IsPacket}
@@ -8,15 +9,36 @@ use Rattle.snap_build.specs.Whole.{IsRaceOf}
 use Rattle.snap_io.specs.Files.{Files, file_of}
 use Rattle.snap_names.specs.Declarations.{core_program}
 use Rattle.snap_cli.specs.declared.refusal.Refusal.TheVariants.{Race}
-use Rattle.snap_cli.specs.Check.{EndsCheck, EndsJudged, IsCheckText, IsJudgedText, NeverRaces}
+use Rattle.snap_cli.specs.Check.{EndsCheck, EndsJudged, IsCheckText, IsJudgedText, NeverRaces, Races}
 use Rattle.snap_cli.specs.Laws.{IsSameEnding, SpellsOneProgram}
-use Rattle.snap_cli.specs.Refusals.{Ending}
-use Rattle.snap_cli.proofs.SameCore.{same_eval, same_fields}
+use Rattle.snap_cli.specs.Refusals.{Ending, status_of}
+use Rattle.snap_cli.proofs.SameCore.{same_eval, same_fields, same_names}
 
 -- two programs with one core program: where the one never races, the other doesn't
+same_never : (p q : Program) → core_program p ≡ core_program q → NeverRaces p → NeverRaces q
+same_never p q same never m k store packet none =
+    never m k store (subst (λ fields. IsPacket (count fields) k) (sym (same_fields p q same)) packet) (same_eval p q same m k ∙ none)
+
 never_both : (p q : Program) → core_program p ≡ core_program q → NeverRaces p → (m : Arrays) (k : List ℕ) → IsRaceOf q m k → ⊥
-never_both p q same never m k race =
-    never m k race.of.store (subst (λ fields. IsPacket (count fields) k) (sym (same_fields p q same)) race.of.packet) (same_eval p q same m k ∙ race.none)
+never_both p q same never m k race = same_never p q same never m k race.of.store race.of.packet race.none
+
+-- and where the one races, the other does
+same_race : (p q : Program) → core_program p ≡ core_program q → (m : Arrays) (k : List ℕ) → IsRaceOf p m k → IsRaceOf q m k
+same_race p q same m k race = record {
+  of = record {
+    packet = subst (λ fields. IsPacket (count fields) k) (same_fields p q same) race.of.packet;
+    store = race.of.store;
+    only = subst (λ vars. (at : Place) → length vars ≤ at.var → m at ≡ 0) (same_names p q same) race.of.only;
+  };
+  none = sym (same_eval p q same m k) ∙ race.none;
+}
+
+-- the status of a program that was read
+pub judged_status : (p q : Program) → core_program p ≡ core_program q → (e : Ending) → EndsJudged p e
+    → ((status_of e ≡ 0) × NeverRaces q) ⊎ ((status_of e ≡ 10) × Races q)
+judged_status p q same (Ok u) h = inl (refl, same_never p q same h)
+judged_status p q same (Err (Race text)) h = inr (refl, (h.0, h.1, same_race p q same h.0 h.1 h.2))
+judged_status p q same (Err e) h = absurd h
 
 judged_once : (p q : Program) → core_program p ≡ core_program q → (a b : Ending) → EndsJudged p a → EndsJudged q b → IsSameEnding a b
 judged_once p q same (Ok u) (Ok v) h k = inl refl

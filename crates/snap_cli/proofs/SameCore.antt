@@ -88,7 +88,7 @@ module _ (p q : Program) (same : core_program p ≡ core_program q) where
   pub same_fields : p.fields ≡ q.fields
   same_fields = ap (λ (c : CoreProgram). c.fields) same
 
-  same_names : p.vars ≡ q.vars
+  pub same_names : p.vars ≡ q.vars
   same_names = ap (λ (c : CoreProgram). c.vars) same
 
   pub same_eval : (m : Arrays) (k : List ℕ) → eval p.body m k ≡ eval q.body m k
