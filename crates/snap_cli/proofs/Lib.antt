@@ -8,6 +8,7 @@ pub mod OneTable
 pub mod OneTopology
 pub mod Parts
 pub mod ProgramOnce
+pub mod RaceText
 pub mod Refused
 pub mod Rising
 pub mod RoutesLemmas

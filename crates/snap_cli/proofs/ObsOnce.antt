@@ -54,7 +54,7 @@ module _ (lists : HasOneListing) (p : Program) where
       from : (t : Bool) → ltb a b ≡ t → (u : Bool) → ltb b a ≡ u → a ≡ b
       from true e u f = absurd (not_before packets made cut a b h k (ltb-true a b e))
       from false e true f = absurd (not_before packets cut made b a k h (ltb-true b a f))
-      from false e false f = omega (ltb-false a b e, ltb-false b a f)
+      from false e false f = omega (arith, ltb-false a b e, ltb-false b a f)
 
   pub reports_once : (file : List ℕ) (e f : RunEnding) (a b : List ℕ) → IsReport p file e a → IsReport p file f b → (e ≡ f) × (a ≡ b)
   reports_once file e f a b (inl h) (inl k) =
