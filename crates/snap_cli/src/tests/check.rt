@@ -124,7 +124,11 @@ fn evaluation_is_undefined_on_a_race(rt: HostRuntime) -> Result<(), Fail> {
     let alloc = rt.alloc();
     let packet = race_of(&rt, alloc, b"array s; (id + outport <- 2); s[inport]++")?;
     assert!(rt; packet.comps().get(1) != Some(&2));
-    let packet = race_of(&rt, alloc, b"field f; array s; (id + outport <- f); s[inport]++")?;
+    let packet = race_of(
+        &rt,
+        alloc,
+        b"field f; array s; (id + outport <- f); s[inport]++",
+    )?;
     assert!(rt; packet.comps().get(1) != packet.comps().get(2));
     Ok(())
 }
