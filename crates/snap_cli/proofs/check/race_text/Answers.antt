@@ -1,4 +1,4 @@
-use Rattle.std.proofs.Common.{◌≡◌, ◌++◌, ap, ◌∙◌, map}
+use Rattle.std.proofs.Common.{◌++◌, ap, ◌∙◌, codes, map}
 use Rattle.std.specs.List.{flat_map}
 use Rattle.snap_core.specs.Listing.{entry_of}
 use Rattle.snap_trace.specs.Reports.{listed_line}
@@ -13,5 +13,5 @@ returns c =
       map entry_of listed,
       c.in_ok-listed.ensures,
       race-put c.args.program.now listed c.args.packet.now front c.put_arrays.new.out.items c.extend_from_slice-2.new.self.items c.put_fields.new.out.items
-          c.in_ok-extend_from_slice.ensures.items lines c.in_ok-extend_from_slice-2.ensures.items c.in_ok-put_fields.ensures,
+          (c.in_ok-extend_from_slice.ensures.items ∙ ap (λ l. l ++ codes "snapc: race\n") c.new-text.ensures.items) lines c.in_ok-extend_from_slice-2.ensures.items c.in_ok-put_fields.ensures,
     )
