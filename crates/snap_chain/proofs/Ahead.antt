@@ -1,5 +1,5 @@
 -- Tests that a leaf misses, asked before it.
-use Rattle.std.proofs.Common.{◌≡◌, ℕ, ◌+◌, ◌<◌, ◌≤◌, arith, length, Bool, true, false, cond, List, [], ◌∷◌, Option, refl, sym, ap, subst, ◌∙◌}
+use Rattle.std.proofs.Common.{◌≡◌, ℕ, ◌<◌, ◌≤◌, arith, length, Bool, true, false, cond, List, [], ◌∷◌, Option, refl, sym, ap, subst, ◌∙◌}
 use Rattle.std.specs.Prelude.{map, option_map}
 use Rattle.std.specs.List.{AllByRecursion}
 use Rattle.std.specs.FinMap.Entries.{by_order}
@@ -20,7 +20,7 @@ use Rattle.snap_ctx.specs.View.{View}
 use Rattle.snap_fdd.specs.declared.leaf.Leaf.{Leaf}
 use Rattle.snap_fdd.specs.declared.leaf.Leaf.TheVariants.{Race, Go as Goes}
 use Rattle.snap_arena.specs.declared.node.Node.{Node}
-use Rattle.snap_fdd.specs.Bounds.{Sizes, TestIn}
+use Rattle.snap_fdd.specs.Bounds.{Sizes}
 use Rattle.snap_fdd.specs.Diagrams.{Diagram, Asks, walk, diagram}
 use Rattle.snap_fdd.specs.Leaves.{answer_of, outcome_of}
 use Rattle.snap_fdd.specs.Picks.{IsArgument, IsDiagram, IsSide, sizes}

@@ -1,5 +1,5 @@
 -- What marks say of diagrams.
-use Rattle.std.proofs.Common.{◌≡◌, ◌⊎◌, inl, inr, ℕ, ◌+◌, ◌%◌, ◌<◌, ◌≤◌, ◌^◌, Bool, true, false, cond, ◌||◌, List, [], ◌∷◌, ◌++◌, length, take, get_or, refl, sym, ap, subst, ◌∙◌, arith, bit_or, length-append}
+use Rattle.std.proofs.Common.{◌≡◌, inl, inr, ℕ, ◌+◌, ◌%◌, ◌<◌, ◌^◌, Bool, true, false, cond, ◌||◌, List, [], ◌∷◌, ◌++◌, length, take, get_or, refl, sym, ap, subst, ◌∙◌, arith, bit_or, length-append}
 use Rattle.std.specs.Prelude.{slice_index, slice_index_or, slice_set, map, ◌==◌}
 use Rattle.std.specs.List.{AllByRecursion}
 use Rattle.std.proofs.lemmas.Bool.{or_parts, cases_eq, both_ways, ne_eqb, eq-eqb}
@@ -11,7 +11,7 @@ use Rattle.snap_core.specs.declared.policy.Term.TheVariants.{Num, Plus}
 use Rattle.snap_core.specs.declared.policy.Test.{Test}
 use Rattle.snap_core.specs.declared.policy.Test.TheVariants.{Value, Equal, State}
 use Rattle.snap_core.specs.declared.policy.Update.{Update}
-use Rattle.snap_core.specs.Arrays.{Arrays, updates, place_at, value_of}
+use Rattle.snap_core.specs.Arrays.{Arrays, updates, value_of}
 use Rattle.snap_core.specs.Variables.{has}
 use Rattle.snap_core.specs.Tests.{after_out, with_parts, passes, term_value}
 use Rattle.snap_ctx.proofs.Each.{Each-append, Each-weaker}
@@ -21,7 +21,7 @@ use Rattle.snap_arena.specs.Arena.{Grew}
 use Rattle.snap_fdd.specs.declared.leaf.Leaf.{Leaf}
 use Rattle.snap_fdd.specs.declared.leaf.Leaf.TheVariants.{Race, Go as Goes}
 use Rattle.snap_fdd.specs.Diagrams.{Diagram, Only, Asks, walk, diagram}
-use Rattle.snap_fdd.proofs.Shared.{kept, still_below}
+use Rattle.snap_fdd.proofs.Shared.{kept}
 use Rattle.snap_chain.specs.declared.marks.Mark.{Mark}
 use Rattle.snap_chain.specs.Marks.{either_mark, AreMarked, AtomMissed, IsAmong, IsMarkedBy, IsMissed, LeafMarked, LeafWritesNothing, SetsAmong, TermMissed, TestMarked, TestMissed, UpdatesAmong, WritesNothing}
 use Rattle.snap_chain.specs.Untouched.{changes, tests_updated, IsUntouched}

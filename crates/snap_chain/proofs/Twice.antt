@@ -1,6 +1,5 @@
 -- An outcome that writes nothing, taken twice beside others.
-use Rattle.std.proofs.Common.{◌≡◌, ℕ, Bool, true, false, cond, ◌||◌, Option, Some, None, refl, sym, ap, ◌∙◌, bit_and, bit_or}
-use Rattle.std.specs.Prelude.{not, nat_eq}
+use Rattle.std.proofs.Common.{◌≡◌, ℕ, Bool, true, false, cond, ◌||◌, Option, Some, None, refl, sym, ap, ◌∙◌, bit_or}
 use Rattle.std.specs.FinMap.{contains_key}
 use Rattle.std.specs.Int.Bits.{or_self}
 use Rattle.snap_core.specs.Variables.{has, meets}

@@ -1,3 +1,5 @@
+pub mod CheckLemmas
+pub mod CheckOnce
 pub mod DepsLemmas
 pub mod DepsOnce
 pub mod ObsLemmas
@@ -6,6 +8,7 @@ pub mod OneTable
 pub mod OneTopology
 pub mod Parts
 pub mod ProgramOnce
+pub mod RaceText
 pub mod Refused
 pub mod Rising
 pub mod RoutesLemmas

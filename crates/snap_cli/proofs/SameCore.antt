@@ -85,13 +85,13 @@ by_core (Atomic' _ p) m k = by_core p m k
 
 -- two programs with one core program
 module _ (p q : Program) (same : core_program p ≡ core_program q) where
-  same_fields : p.fields ≡ q.fields
+  pub same_fields : p.fields ≡ q.fields
   same_fields = ap (λ (c : CoreProgram). c.fields) same
 
-  same_names : p.vars ≡ q.vars
+  pub same_names : p.vars ≡ q.vars
   same_names = ap (λ (c : CoreProgram). c.vars) same
 
-  same_eval : (m : Arrays) (k : List ℕ) → eval p.body m k ≡ eval q.body m k
+  pub same_eval : (m : Arrays) (k : List ℕ) → eval p.body m k ≡ eval q.body m k
   same_eval m k = by_core p.body m k ∙ (ap (λ (c : CoreProgram). core_eval c.body m k) same ∙ sym (by_core q.body m k))
 
   same_switch : (packets : List (List ℕ)) (m : Arrays) → one_big_switch p.body m packets ≡ one_big_switch q.body m packets

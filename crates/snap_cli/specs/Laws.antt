@@ -3,11 +3,13 @@ use Rattle.std.specs.Prelude.{◌≡◌, ◌⊎◌, ℕ, List, Result, Ok, Err, 
 use Rattle.std.specs.declared.option.Option.{Option}
 use Rattle.std.specs.Io.KnownBytes.{Appends}
 use Rattle.snap_core.specs.declared.program.Program.{Program}
-use Rattle.snap_io.specs.Files.{Files}
+use Rattle.snap_io.specs.Files.{Files, file_of}
 use Rattle.snap_names.specs.Declarations.{core_program}
-use Rattle.snap_words.specs.Commands.{Command, command_of}
+use Rattle.snap_words.specs.Commands.{Command, check, command_of}
 use Rattle.snap_cli.specs.declared.refusal.Refusal.{Refusal}
+use Rattle.snap_cli.specs.declared.refusal.Refusal.TheVariants.{Race}
 use Rattle.snap_cli.specs.Answers.{Answers}
+use Rattle.snap_cli.specs.Check.{NeverRaces, Races}
 use Rattle.snap_cli.specs.Deserved.{Ends, IsText, Tells}
 use Rattle.snap_cli.specs.ProgramOf.{ProgramOf}
 use Rattle.snap_cli.specs.Refusals.{Ending, status_of, message_of}
@@ -22,18 +24,27 @@ IsSame a b = ⊥
 abbrev pub SpellsOneProgram : Type 0
 SpellsOneProgram = (text : List ℕ) (a b : Result Program Refusal) → ProgramOf text a → ProgramOf text b → IsSame a b
 
--- A command deserves one ending at most,
+-- the ending tells a race
+abbrev pub IsRace : Ending → Type 0
+IsRace (Err (Race text)) = Unit {0}
+IsRace ending = ⊥
+
+-- One ending. Races of one program may be told by different stores and packets.
+abbrev pub IsSameEnding : Ending → Ending → Type 0
+IsSameEnding a b = (a ≡ b) ⊎ (IsRace a × IsRace b)
+
+-- A command deserves one ending at most, but that each store and packet on which a program races may be told,
 abbrev pub DeservesOneEnding : Type 0
-DeservesOneEnding = (files : Files) (command : Command) (a b : Ending) → Ends files command a → Ends files command b → a ≡ b
+DeservesOneEnding = (files : Files) (command : Command) (a b : Ending) → Ends files command a → Ends files command b → IsSameEnding a b
 
 -- and one text.
 abbrev pub DeservesOneText : Type 0
 DeservesOneText = (files : Files) (command : Command) (a b : List ℕ) → IsText files command a → IsText files command b → a ≡ b
 
--- the command deserves this ending and this text, and no others
+-- the command deserves this ending and this text, and no others, but for a race that another store and packet tell
 pub record IsDue (files : Files) (command : Command) (ending : Ending) (text : List ℕ) : Type 0 where
   pub ends : Ends files command ending
-  pub no_other_ending : (e : Ending) → Ends files command e → e ≡ ending
+  pub no_other_ending : (e : Ending) → Ends files command e → IsSameEnding e ending
   pub has_text : IsText files command text
   pub no_other_text : (t : List ℕ) → IsText files command t → t ≡ text
 
@@ -54,3 +65,12 @@ AnswersExactly = (words : List (List ℕ)) (files : Files) (command : Command) (
     (out_before out_now : ℕ) (out_old out_new : Option (List ℕ)) (err_before err_now : ℕ) (err_old err_new : Option (List ℕ))
     → command_of words ≡ Some command → Answers words (Some files) status shelf_before shelf_now out_before out_now out_old out_new err_before err_now err_old err_new
     → IsFailure status ⊎ ((ending : Ending) × (text : List ℕ) × IsDue files command ending text × IsExact ending text status out_old out_new err_before err_now err_old err_new)
+
+-- Where no device failed and memory was there, `check` of a program answers 0 just where its evaluation is undefined on no
+-- store and packet, and 10 just where it is on some.
+abbrev pub ChecksExactly : Type 0
+ChecksExactly = (words : List (List ℕ)) (files : Files) (program : List ℕ) (p : Program) (status : ℕ) (shelf_before shelf_now : List ℕ → ℕ)
+    (out_before out_now : ℕ) (out_old out_new : Option (List ℕ)) (err_before err_now : ℕ) (err_old err_new : Option (List ℕ))
+    → command_of words ≡ Some (check program) → ProgramOf (file_of files program) (Ok p)
+    → Answers words (Some files) status shelf_before shelf_now out_before out_now out_old out_new err_before err_now err_old err_new
+    → IsFailure status ⊎ (((status ≡ 0) × NeverRaces p) ⊎ ((status ≡ 10) × Races p))

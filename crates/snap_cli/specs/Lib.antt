@@ -1,5 +1,6 @@
 pub mod Answers
 pub mod Causes
+pub mod Check
 pub mod Deps
 pub mod Deserved
 pub mod Laws

@@ -4,7 +4,7 @@ use Rattle.std.specs.List.{concat}
 use Rattle.snap_core.specs.declared.program.Which.{Which}
 use Rattle.snap_core.specs.declared.program.Which.TheVariants as which
 use Rattle.snap_cli.specs.declared.refusal.Refusal.{Refusal}
-use Rattle.snap_cli.specs.declared.refusal.Refusal.TheVariants.{Usage, Read, Write, Syntax, Naming, Limit, Topology, Unreachable, Packets, NoMemory, Undefined}
+use Rattle.snap_cli.specs.declared.refusal.Refusal.TheVariants.{Usage, Read, Write, Syntax, Naming, Limit, Topology, Unreachable, Race, Packets, NoMemory, Undefined}
 use Rattle.snap_cli.specs.declared.refusal.SyntaxFault.{SyntaxFault}
 use Rattle.snap_cli.specs.declared.refusal.SyntaxFault.TheVariants.{BadByte, BadNumber, UnexpectedToken, TooDeep}
 use Rattle.snap_cli.specs.declared.refusal.NamingFault.{NamingFault}
@@ -27,6 +27,7 @@ status_of (Err (Naming fault spot)) = 5
 status_of (Err (Limit which count)) = 6
 status_of (Err (Topology fault)) = 7
 status_of (Err (Unreachable switches a b)) = 8
+status_of (Err (Race text)) = 10
 status_of (Err (Packets line)) = 12
 status_of (Err NoMemory) = 14
 status_of (Err (Undefined packet)) = 15
@@ -42,6 +43,8 @@ which_text which.Weight = codes "weight"
 which_text which.Switches = codes "switches"
 which_text which.Links = codes "links"
 which_text which.Ports = codes "ports"
+which_text which.Demands = codes "demands"
+which_text which.Changes = codes "changes"
 
 abbrev pub syntax_text : SyntaxFault → List ℕ
 syntax_text BadByte = codes "bad byte"
@@ -99,6 +102,7 @@ message_of (Err (Naming fault spot)) = message_at spot (naming_text fault)
 message_of (Err (Limit which count)) = message_of_limit which count
 message_of (Err (Topology fault)) = message_of_topology fault
 message_of (Err (Unreachable switches a b)) = message_apart switches a b
+message_of (Err (Race text)) = text.items
 message_of (Err (Packets line)) = message_with (codes "packets: line") line
 message_of (Err NoMemory) = message_text (codes "out of memory")
 message_of (Err (Undefined packet)) = message_with (codes "undefined: packet") packet

@@ -1,6 +1,6 @@
 //! Laws of what words and files deserve, each the contract of a call that does nothing but name the laws below it.
 
-ghost use Rattle.snap_cli.specs.Laws.{AnswersExactly, DeservesOneEnding, DeservesOneText, SpellsOneProgram};
+ghost use Rattle.snap_cli.specs.Laws.{AnswersExactly, ChecksExactly, DeservesOneEnding, DeservesOneText, SpellsOneProgram};
 
 use crate::deps::has_one_text;
 use snap_core::laws::has_one_listing;
@@ -15,7 +15,8 @@ pub fn spells_one_program()
     yields_once();
 }
 
-/// A command deserves one ending at most on its files, and one text.
+/// A command deserves one ending at most on its files, but that any store and packet on which a program races may be told,
+/// and one text.
 pub fn deserves_once()
     ensures ending { DeservesOneEnding }
     ensures text { DeservesOneText }
@@ -31,4 +32,13 @@ pub fn answers_exactly()
     ensures { AnswersExactly }
 {
     deserves_once();
+}
+
+/// Where no device failed and memory was there, `check` of a program answers 0 just where evaluation is undefined on no
+/// store and packet, and 10 just where it is on some.
+pub fn checks_exactly()
+    ensures { ChecksExactly }
+{
+    spells_one_program();
+    answers_exactly();
 }

@@ -1,6 +1,7 @@
 //! All that the program does, over any shelf and sinks.
 #![tactic(auto)]
 
+pub mod check;
 pub mod deps;
 pub mod laws;
 pub mod obs;

@@ -1,7 +1,7 @@
 //! The program of a file.
 
 ghost use Rattle.std.specs.Prelude.{◌≡◌, ◌≤◌, ℕ, List, IfOk, IfSome, IsErrOf, length};
-ghost use Rattle.snap_core.specs.Programs.{IsBounded};
+ghost use Rattle.snap_core.specs.Programs.{IsBounded, IsInForm};
 ghost use Rattle.snap_io.specs.Causes.{NoneFell, Rose};
 ghost use Rattle.snap_io.specs.Files.{file_of};
 ghost use Rattle.snap_cli.specs.Causes.{IsRead, IsReadOf};
@@ -28,6 +28,7 @@ pub(crate) fn load_program<'a, S: Shelf>(
 ) -> Result<Program, Refusal<'a>>
     ensures gives { IfSome (S.files shelf.old) (λ files. GivesProgram name.entry.now (file_of files name.entry.now) result) }
     ensures bounded { IfOk result IsBounded }
+    ensures form { IfOk result IsInForm }
     ensures read { (file : List ℕ) → IsReadOf file result → Rose (S.faults shelf.old file) (S.faults shelf.new file) }
     ensures not_write { IsErrOf result Refusal.Write → ⊥ }
     ensures not_usage { IsErrOf result Refusal.Usage → ⊥ }
@@ -68,6 +69,7 @@ pub(crate) fn read_program<'a>(alloc: Global, text: &[u8]) -> Result<Program, Re
     requires { length text.now ≤ 262144 }
     ensures gives { SpellsProgram text.now result }
     ensures bounded { IfOk result IsBounded }
+    ensures form { IfOk result IsInForm }
     ensures not_read { IsRead result → ⊥ }
     ensures not_write { IsErrOf result Refusal.Write → ⊥ }
     ensures not_usage { IsErrOf result Refusal.Usage → ⊥ }

@@ -12,7 +12,7 @@ use itoa::Buffer;
 use snap_core::NoMemory;
 use snap_core::lists::{Name, Names};
 use snap_core::program::Which;
-use snap_io::{Sink, WriteFailed, write_pieces};
+use snap_io::{Sink, WriteFailed, write_pieces, write_whole};
 
 /// Why a text has no tree.
 #[derive(Clone, Copy, Debug, PartialEq, Eq)]
@@ -76,6 +76,9 @@ pub enum Refusal<'a> {
 
     /// No walk joins two of these switches, those with the numbers `a` and `b`.
     Unreachable { switches: Names, a: u16, b: u16 },
+
+    /// Two parts of the program race. This is the whole message, which tells a store and a packet on which they do.
+    Race { text: Vec<u8> },
 
     /// This line of the packets file isn't in form, or too long.
     Packets { line: u64 },
@@ -246,13 +249,14 @@ impl Refusal<'_> {
             Refusal::Limit { .. } => 6,
             Refusal::Topology { .. } => 7,
             Refusal::Unreachable { .. } => 8,
+            Refusal::Race { .. } => 10,
             Refusal::Packets { .. } => 12,
             Refusal::NoMemory => 14,
             Refusal::Undefined { .. } => 15,
         }
     }
 
-    /// Writes the message, one line. It takes no memory.
+    /// Writes the message, one line, or a race's lines. It takes no memory.
     pub fn tell<E: Sink>(&self, err: &mut E) -> Result<(), WriteFailed>
         ensures ok { OnOk result (Appends (E.taken err.old) (E.taken err.new) (message_of (Err self.now))) }
         ensures err { OnErr result (AppendsPart (E.taken err.old) (E.taken err.new) (message_of (Err self.now))) }
@@ -267,6 +271,7 @@ impl Refusal<'_> {
             Refusal::Limit { which, count } => tell_limit(err, *which, *count),
             Refusal::Topology { fault } => tell_topology(err, fault),
             Refusal::Unreachable { switches, a, b } => tell_apart(err, switches, *a, *b),
+            Refusal::Race { text } => write_whole(err, text),
             Refusal::Packets { line } => tell_number(err, b"packets: line", *line),
             Refusal::NoMemory => tell_text(err, b"out of memory"),
             Refusal::Undefined { packet } => tell_number(err, b"undefined: packet", *packet),

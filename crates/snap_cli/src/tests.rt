@@ -1,4 +1,5 @@
 mod calls;
+mod check;
 mod deps;
 mod obs;
 mod routes;

@@ -4,7 +4,8 @@ ghost use Rattle.std.specs.Prelude.{◌≡◌, ◌<◌, ◌≤◌, ◌+◌, ◌+
 ghost use Rattle.snap_core.specs.Fields.{PrefixFits, count, width};
 ghost use Rattle.snap_core.specs.Packets.{AllLong};
 ghost use Rattle.snap_core.specs.Runs.{set_in};
-ghost use Rattle.snap_trace.specs.Reports.{address_text, all_lines, block, field_text, out_line, split_text, value_text};
+ghost use Rattle.snap_trace.specs.Reports.{address_text, all_lines, block, field_text, fields_text, index_text, listed_line, out_line, split_text, value_text};
+ghost use Rattle.std.specs.List.{flat_map};
 
 use itoa::Buffer;
 use snap_core::NoMemory;
@@ -12,6 +13,7 @@ use snap_core::copies::Copies;
 use snap_core::lists::Names;
 use snap_core::packet::Packet;
 use snap_core::packets::Packets;
+use snap_core::place::Listed;
 use snap_core::program::{Field, Fields};
 use std::alloc::Global;
 
@@ -99,13 +101,12 @@ fn put_field(out: &mut Vec<u8>, field: &Field, comp: u16, packet: &Packet) -> Re
     put_value(out, field.prefix, comp, packet)
 }
 
-// Puts the line of a packet that goes out.
+/// Puts all fields of a packet in order of declaration, each as ` NAME=VALUE`, and the end of their line.
 #[inline(never)]
-fn put_out(out: &mut Vec<u8>, fields: &Fields, packet: &Packet) -> Result<(), NoMemory>
+pub fn put_fields(out: &mut Vec<u8>, fields: &Fields, packet: &Packet) -> Result<(), NoMemory>
     requires { length packet.now ≡ count fields.now }
-    ensures { OnOk result (out.new.items ≡ out.old.items ++ out_line fields.now packet.now) }
+    ensures { OnOk result (out.new.items ≡ out.old.items ++ (fields_text 0 fields.now packet.now ++ codes "\n")) }
 {
-    out.extend_from_slice(b"out")?;
     let mut comp = 0u16;
     for field in fields.list() {
         put_field(out, field, comp, packet)?;
@@ -113,6 +114,15 @@ fn put_out(out: &mut Vec<u8>, fields: &Fields, packet: &Packet) -> Result<(), No
     }
     out.push(b'\n')?;
     Ok(())
+}
+
+// Puts the line of a packet that goes out.
+fn put_out(out: &mut Vec<u8>, fields: &Fields, packet: &Packet) -> Result<(), NoMemory>
+    requires { length packet.now ≡ count fields.now }
+    ensures { OnOk result (out.new.items ≡ out.old.items ++ out_line fields.now packet.now) }
+{
+    out.extend_from_slice(b"out")?;
+    put_fields(out, fields, packet)
 }
 
 // Puts the first line of the block of the packet with this number.
@@ -169,6 +179,40 @@ pub(crate) fn put_copies(
             put_block(out, fields, number, &packets)
         }
     }
+}
+
+// Puts the numbers of an index.
+fn put_index(out: &mut Vec<u8>, index: &[u64]) -> Result<(), NoMemory>
+    ensures { OnOk result (out.new.items ≡ out.old.items ++ index_text index.now) }
+{
+    for number in index {
+        out.push(b' ')?;
+        put_number(out, *number)?;
+    }
+    Ok(())
+}
+
+// Puts the line of a place that isn't 0.
+fn put_listed(out: &mut Vec<u8>, names: &Names, entry: &Listed<'_>) -> Result<(), NoMemory>
+    ensures { OnOk result (out.new.items ≡ out.old.items ++ listed_line names.now entry.now) }
+{
+    out.extend_from_slice(b"array ")?;
+    out.extend_from_slice(name_at(names, entry.var))?;
+    put_index(out, entry.index)?;
+    out.extend_from_slice(b" = ")?;
+    put_number(out, entry.value)?;
+    out.push(b'\n')?;
+    Ok(())
+}
+
+/// Puts the lines of places that aren't 0, one each.
+pub fn put_arrays(out: &mut Vec<u8>, names: &Names, entries: &[Listed<'_>]) -> Result<(), NoMemory>
+    ensures { OnOk result (out.new.items ≡ out.old.items ++ flat_map (listed_line names.now) entries.now) }
+{
+    for entry in entries {
+        put_listed(out, names, entry)?;
+    }
+    Ok(())
 }
 
 /// The name of an array, or nothing where no array has this number.

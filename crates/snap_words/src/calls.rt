@@ -3,7 +3,7 @@
 ghost use Rattle.std.specs.Prelude.{◌≡◌, IfErr, IfOk, IsTrue, None, Some, false, option_map};
 ghost use Rattle.std.specs.List.{list_all};
 ghost use Rattle.std.specs.Str.{is_utf8};
-ghost use Rattle.snap_words.specs.Commands.{command_for, command_of, deps, names_alone, obs, routes, with_one, with_two};
+ghost use Rattle.snap_words.specs.Commands.{check, command_for, command_of, deps, names_alone, obs, routes, with_one, with_two};
 ghost use Rattle.snap_words.specs.Said.{are_among, bytes_of, is_among, lent, said, shown};
 
 use crate::command::Command;
@@ -64,6 +64,7 @@ fn command_for<'a>(words: &'a [Vec<u8>], first: &str, told: &Told) -> Option<Com
     match first {
         "obs" => obs(words, names),
         "deps" => deps(words, names),
+        "check" => check(words, names),
         "routes" => routes(words, names),
         _ => None,
     }
@@ -99,6 +100,18 @@ fn deps<'a>(words: &'a [Vec<u8>], names: &[&str]) -> Option<Command<'a>>
 {
     match names {
         [program] => Some(Command::Deps {
+            program: word(words, program),
+        }),
+        _ => None,
+    }
+}
+
+fn check<'a>(words: &'a [Vec<u8>], names: &[&str]) -> Option<Command<'a>>
+    requires { IsTrue (are_among (bytes_of words.now) (lent names.now)) }
+    ensures { option_map shown result ≡ with_one check (lent names.now) }
+{
+    match names {
+        [program] => Some(Command::Check {
             program: word(words, program),
         }),
         _ => None,

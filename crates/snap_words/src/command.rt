@@ -12,6 +12,10 @@ pub enum Command<'a> {
     Deps {
         program: &'a [u8],
     },
+    /// Whether the parts of a program race on some store and packet.
+    Check {
+        program: &'a [u8],
+    },
     /// The distances and next hops of a topology.
     Routes {
         topology: &'a [u8],

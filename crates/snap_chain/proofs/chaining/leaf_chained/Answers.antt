@@ -1,15 +1,12 @@
 -- The outs give one packet or none, or d writes nothing; else the leaf is settled first.
-use Rattle.std.proofs.Common.{◌≡◌, ◌⊎◌, inl, inr, sym, length, ◌≤◌, arith}
+use Rattle.std.proofs.Common.{◌⊎◌, inl, inr, sym, length, ◌≤◌, arith}
 use Rattle.std.proofs.lemmas.Bool.{not-true}
 use Rattle.std.proofs.lemmas.Result.{IfOk-weaker}
-use Rattle.snap_fdd.specs.Bounds.{LeafIn}
 use Rattle.snap_fdd.specs.Diagrams.{diagram}
-use Rattle.snap_fdd.specs.declared.leaf.Leaf.TheVariants.{Go as Goes}
-use Rattle.snap_fdd.specs.Picks.{sizes}
 use Rattle.snap_fdd.proofs.Shared.{kept, argument_kept}
 use Rattle.snap_chain.specs.Marks.{WritesNothing}
 use Rattle.snap_chain.proofs.Marked.{marked_kept, marked_writes_nothing}
-use Rattle.snap_chain.proofs.Sequel.{chained_leaf, chained_once, goes_at, goes_fits}
+use Rattle.snap_chain.proofs.Sequel.{chained_leaf, chained_once, goes_at}
 use Rattle.snap_chain.proofs.chaining.leaf_chained.Goals.{then-list-le1-via-then-list-le1, then-list-le1-via-else-list-le1+then-not-mark_of}
 use Rattle.snap_chain.proofs.chaining.leaf_chained.Goals as goal
 

@@ -1,0 +1,69 @@
+-- `check` deserves one ending and one text, but that each pair on which a program races may be told.
+use Rattle.std.proofs.Common.{◌≡◌, ◌≤◌, ◌⊎◌, ℕ, List, length, Ok, Err, refl, sym, ◌∙◌, ap, subst, inl, inr}
+use Rattle.snap_core.specs.declared.program.Program.{Program}
+use Rattle.snap_core.specs.declared.place.Place.{Place}
+use Rattle.snap_core.specs.Arrays.{Arrays}
+use Rattle.snap_core.specs.Fields.{count}
+use Rattle.snap_ctx.specs.Meets.{IsPacket}
+use Rattle.snap_build.specs.Whole.{IsRaceOf}
+use Rattle.snap_io.specs.Files.{Files, file_of}
+use Rattle.snap_names.specs.Declarations.{core_program}
+use Rattle.snap_cli.specs.declared.refusal.Refusal.TheVariants.{Race}
+use Rattle.snap_cli.specs.Check.{EndsCheck, EndsJudged, IsCheckText, IsJudgedText, NeverRaces, Races}
+use Rattle.snap_cli.specs.Laws.{IsSameEnding, SpellsOneProgram}
+use Rattle.snap_cli.specs.Refusals.{Ending, status_of}
+use Rattle.snap_cli.proofs.SameCore.{same_eval, same_fields, same_names}
+
+-- two programs with one core program: where the one never races, the other doesn't
+same_never : (p q : Program) → core_program p ≡ core_program q → NeverRaces p → NeverRaces q
+same_never p q same never m k store packet none =
+    never m k store (subst (λ fields. IsPacket (count fields) k) (sym (same_fields p q same)) packet) (same_eval p q same m k ∙ none)
+
+never_both : (p q : Program) → core_program p ≡ core_program q → NeverRaces p → (m : Arrays) (k : List ℕ) → IsRaceOf q m k → ⊥
+never_both p q same never m k race = same_never p q same never m k race.of.store race.of.packet race.none
+
+-- and where the one races, the other does
+same_race : (p q : Program) → core_program p ≡ core_program q → (m : Arrays) (k : List ℕ) → IsRaceOf p m k → IsRaceOf q m k
+same_race p q same m k race = record {
+  of = record {
+    packet = subst (λ fields. IsPacket (count fields) k) (same_fields p q same) race.of.packet;
+    store = race.of.store;
+    only = subst (λ vars. (at : Place) → length vars ≤ at.var → m at ≡ 0) (same_names p q same) race.of.only;
+  };
+  none = sym (same_eval p q same m k) ∙ race.none;
+}
+
+-- the status of a program that was read
+pub judged_status : (p q : Program) → core_program p ≡ core_program q → (e : Ending) → EndsJudged p e
+    → ((status_of e ≡ 0) × NeverRaces q) ⊎ ((status_of e ≡ 10) × Races q)
+judged_status p q same (Ok u) h = inl (refl, same_never p q same h)
+judged_status p q same (Err (Race text)) h = inr (refl, (h.0, h.1, same_race p q same h.0 h.1 h.2))
+judged_status p q same (Err e) h = absurd h
+
+judged_once : (p q : Program) → core_program p ≡ core_program q → (a b : Ending) → EndsJudged p a → EndsJudged q b → IsSameEnding a b
+judged_once p q same (Ok u) (Ok v) h k = inl refl
+judged_once p q same (Ok u) (Err (Race text)) h k = absurd (never_both p q same h k.0 k.1 k.2)
+judged_once p q same (Err (Race text)) (Ok v) h k = absurd (never_both q p (sym same) k h.0 h.1 h.2)
+judged_once p q same (Err (Race text)) (Err (Race other)) h k = inr (tt, tt)
+judged_once p q same (Ok u) (Err e) h k = absurd k
+judged_once p q same (Err (Race text)) (Err e) h k = absurd k
+judged_once p q same (Err e) b h k = absurd h
+
+text_judged_once : (p q : Program) → core_program p ≡ core_program q → (a b : List ℕ) → IsJudgedText p a → IsJudgedText q b → a ≡ b
+text_judged_once p q same a b (inl h) (inl k) = h.1 ∙ sym k.1
+text_judged_once p q same a b (inr h) (inr k) = h.1 ∙ sym k.1
+text_judged_once p q same a b (inl h) (inr k) = absurd (never_both p q same h.0 k.0.0 k.0.1 k.0.2)
+text_judged_once p q same a b (inr h) (inl k) = absurd (never_both q p (sym same) k.0 h.0.0 h.0.1 h.0.2)
+
+module _ (spells : SpellsOneProgram) (files : Files) (program : List ℕ) where
+  pub ends_check_once : (a b : Ending) → EndsCheck files program a → EndsCheck files program b → IsSameEnding a b
+  ends_check_once a b (inl h) (inl k) = inl (h.2 ∙ (ap (λ e. Err e) (spells (file_of files program) (Err h.0) (Err k.0) h.1 k.1) ∙ sym k.2))
+  ends_check_once a b (inl h) (inr k) = absurd (spells (file_of files program) (Err h.0) (Ok k.0) h.1 k.1)
+  ends_check_once a b (inr h) (inl k) = absurd (spells (file_of files program) (Ok h.0) (Err k.0) h.1 k.1)
+  ends_check_once a b (inr h) (inr k) = judged_once h.0 k.0 (spells (file_of files program) (Ok h.0) (Ok k.0) h.1 k.1) a b h.2 k.2
+
+  pub check_text_once : (a b : List ℕ) → IsCheckText files program a → IsCheckText files program b → a ≡ b
+  check_text_once a b (inl h) (inl k) = h.2 ∙ sym k.2
+  check_text_once a b (inl h) (inr k) = absurd (spells (file_of files program) (Err h.0) (Ok k.0) h.1 k.1)
+  check_text_once a b (inr h) (inl k) = absurd (spells (file_of files program) (Ok h.0) (Err k.0) h.1 k.1)
+  check_text_once a b (inr h) (inr k) = text_judged_once h.0 k.0 (spells (file_of files program) (Ok h.0) (Ok k.0) h.1 k.1) a b h.2 k.2
