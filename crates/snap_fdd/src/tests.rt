@@ -8,6 +8,7 @@ use crate::only::only;
 use crate::pick::ite;
 use crate::pruning::prune;
 use crate::walking::walk;
+use snap_arena::node::Node;
 use snap_arena::nodes::Nodes;
 use snap_core::lists::{Atoms, Name, Names, Out};
 use snap_core::packet::Packet;
@@ -194,6 +195,27 @@ fn a_way_that_no_one_goes_is_cut(rt: HostRuntime) -> Result<(), Fail> {
     assert!(rt; d > yes);
     assert_eq!(rt; prune(&mut nodes, &groups, &ctx, d)?, no);
     Ok(())
+}
+
+// The variables tested where every test fails.
+fn variables(alloc: Global, nodes: &Nodes<Leaf>, root: u64) -> Result<Vec<u16>, Fail> {
+    let mut vars = Vec::new(alloc);
+    let mut d = root;
+    for _ in 0..nodes.count() {
+        if d >= nodes.count() {
+            return Err("no such node")?;
+        }
+        match nodes.get(d) {
+            Node::Leaf(_) => return Ok(vars),
+            Node::Ask { test, no, .. } => {
+                if let Test::State { var, .. } = test {
+                    vars.push(*var)?;
+                }
+                d = *no;
+            }
+        }
+    }
+    Ok(vars)
 }
 
 // Whether the first array holds 1 at a component's number or at one of 64 numbers, which are asked first.
