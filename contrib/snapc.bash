@@ -10,17 +10,18 @@ _snapc() {
     for word in "${COMP_WORDS[@]:2:COMP_CWORD-2}"; do
         if [ "$word" = -- ]; then dashes=1; else files=$((files + 1)); fi
     done
-    case ${COMP_WORDS[1]}:$files in
-    obs:0 | deps:0 | check:0) only='!*.snap' ;;
-    routes:0) only='!*.toml' ;;
-    obs:1) ;;
-    *) return ;;
-    esac
+    # `--` may stand once.
     case $current in
     -*)
         [ "$dashes" -eq 1 ] || COMPREPLY=(--)
         return
         ;;
+    esac
+    case ${COMP_WORDS[1]}:$files in
+    obs:0 | deps:0 | check:0) only='!*.snap' ;;
+    routes:0) only='!*.toml' ;;
+    obs:1) ;;
+    *) return ;;
     esac
     local IFS=$'\n'
     compopt -o filenames 2> /dev/null

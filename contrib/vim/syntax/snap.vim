@@ -3,13 +3,15 @@ if exists("b:current_syntax")
   finish
 endif
 
-" A name may have `-` and `.` within.
-syn iskeyword @,48-57,_,-,.
-syn keyword snapDeclaration field array const let
-syn keyword snapConditional if then else
-syn keyword snapPolicy id drop atomic
-syn keyword snapBoolean True False
-syn match snapPort /\<\%(inport\|outport\)\>/
+" A name may have `-` and `.` within, so a word before one of these is no keyword. Of two matches that begin at one
+" place the later line wins.
+syn iskeyword @,48-57,_
+syn match snapName /\<\h\w*\%([.-]\w\+\)*/
+syn match snapDeclaration /\<\%(field\|array\|const\|let\)\>\%([.-]\w\)\@!/
+syn match snapConditional /\<\%(if\|then\|else\)\>\%([.-]\w\)\@!/
+syn match snapPolicy /\<\%(id\|drop\|atomic\)\>\%([.-]\w\)\@!/
+syn match snapBoolean /\<\%(True\|False\)\>\%([.-]\w\)\@!/
+syn match snapPort /\<\%(inport\|outport\)\>\%([.-]\w\)\@!/
 syn match snapNumber /\<\d\+\>/
 syn match snapAddress /\<\d\{1,3}\%(\.\d\{1,3}\)\{3}\>/
 syn match snapOperator /++\|--\|+=\|-=\|<-\|[=!&|+]/
