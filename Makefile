@@ -23,16 +23,22 @@ run: bin/snapc
 try:
 	cd crates/snapc && rt try -- obs $(CURDIR)/$(PROGRAM) $(CURDIR)/$(PACKETS)
 
-# All proofs, tests and must-fail edits, and then the examples with the built program.
+# All proofs, tests and must-fail edits, the examples with the built program, and that man page, completions and docs agree.
 test:
 	rt ci
 	mkdir -p bin
 	install -m 755 crates/snapc/out/snapc bin/snapc
 	examples/check bin/snapc
+	contrib/check
 
+# The program, its man page and the completions of bash and zsh.
 install: bin/snapc
-	mkdir -p $(PREFIX)/bin
+	mkdir -p $(PREFIX)/bin $(PREFIX)/share/man/man1
+	mkdir -p $(PREFIX)/share/bash-completion/completions $(PREFIX)/share/zsh/site-functions
 	install -m 755 bin/snapc $(PREFIX)/bin/snapc
+	install -m 644 contrib/snapc.1 $(PREFIX)/share/man/man1/snapc.1
+	install -m 644 contrib/snapc.bash $(PREFIX)/share/bash-completion/completions/snapc
+	install -m 644 contrib/_snapc $(PREFIX)/share/zsh/site-functions/_snapc
 
 clean:
 	rm -rf bin crates/*/out

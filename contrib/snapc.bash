@@ -1,0 +1,32 @@
+# Completion of snapc's words for bash.
+_snapc() {
+    local commands="obs deps check routes"
+    local current=${COMP_WORDS[COMP_CWORD]} files=0 dashes=0 word only=
+    COMPREPLY=()
+    if [ "$COMP_CWORD" -eq 1 ]; then
+        COMPREPLY=($(compgen -W "$commands" -- "$current"))
+        return
+    fi
+    for word in "${COMP_WORDS[@]:2:COMP_CWORD-2}"; do
+        if [ "$word" = -- ]; then dashes=1; else files=$((files + 1)); fi
+    done
+    # `--` may stand once.
+    case $current in
+    -*)
+        [ "$dashes" -eq 1 ] || COMPREPLY=(--)
+        return
+        ;;
+    esac
+    case ${COMP_WORDS[1]}:$files in
+    obs:0 | deps:0 | check:0) only='!*.snap' ;;
+    routes:0) only='!*.toml' ;;
+    obs:1) ;;
+    *) return ;;
+    esac
+    local IFS=$'\n'
+    compopt -o filenames 2> /dev/null
+    # Files of the usual name and folders; where there are none, any file.
+    [ -n "$only" ] && COMPREPLY=($(compgen -f -X "$only" -- "$current"; compgen -d -- "$current"))
+    [ "${#COMPREPLY[@]}" -gt 0 ] || COMPREPLY=($(compgen -f -- "$current"))
+}
+complete -F _snapc snapc
