@@ -39,5 +39,5 @@ are_fields = record {
 
 pub new-requires : goal.new-requires
 new-requires c =
-    let items : c.push-4.new.self.items ≡ the_fields = rw (c.in_ok-push-4.ensures.items, c.in_ok-push-3.ensures.items, c.in_ok-push-2.ensures.items, c.in_ok-push.ensures.items, c.new-fields.ensures.items, c.in_ok-name.ensures, c.in_ok-name-2.ensures, c.in_ok-name-3.ensures, c.in_ok-name-4.ensures) refl in
+    let items : c.push-4.new.self.items ≡ the_fields = rw (c.in_ok-push-4.ensures.items, c.in_ok-push-3.ensures.items, c.in_ok-push-2.ensures.items, c.in_ok-push.ensures.items, c.new-fields.ensures.items, c.in_ok-of.ensures, c.in_ok-of-2.ensures, c.in_ok-of-3.ensures, c.in_ok-of-4.ensures) refl in
     subst IsFields (sym items) are_fields
