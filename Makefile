@@ -11,7 +11,7 @@ all: bin/snapc
 
 bin/snapc: crates.txt $(shell find crates -name out -prune -o \( -name '*.rt' -o -name '*.antt' \) -print)
 	tools/prove $(JOBS) snapc
-	cd crates/snapc && rt run -- obs ../../$(PROGRAM) ../../$(PACKETS) > out/run.log 2> out/prove.log || { cat out/prove.log; false; }
+	cd crates/snapc && mkdir -p out && rt run -- obs ../../$(PROGRAM) ../../$(PACKETS) > out/run.log 2> out/prove.log || { cat out/prove.log; false; }
 	mkdir -p bin
 	install -m 755 crates/snapc/out/snapc bin/snapc
 
