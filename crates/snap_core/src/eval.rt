@@ -1,9 +1,10 @@
 //! Evaluation.
 
-ghost use Rattle.std.specs.Prelude.{◌≡◌, ◌<◌, ◌≤◌, ◌^◌, IfOk, IfErr, [], ◌∷◌, if◌then◌else◌, option_and_then, option_map, true, false, None, Some, Err, map, length, All};
+ghost use Rattle.std.specs.Prelude.{◌≡◌, ◌<◌, ◌≤◌, ◌^◌, IfOk, IfErr, [], ◌∷◌, if◌then◌else◌, option_and_then, option_map, true, false, None, Some, Err, map, max, length, bit_or, All};
 ghost use Rattle.snap_core.specs.Arrays.{Arrays, place_at};
 ghost use Rattle.snap_core.specs.Cells.{arrays_of};
 ghost use Rattle.snap_core.specs.Fits.{AtomFits, IndexFits, PredFits, PolFits, UpdateFits, VarsBelow};
+ghost use Rattle.snap_core.specs.declared.policy.Pol.{size-Pol};
 ghost use Rattle.snap_core.specs.declared.policy.Pol.TheVariants.{Filter, Set, Change};
 ghost use Rattle.snap_core.specs.Meaning.{truth, vars_of, eval, all_together, logged};
 ghost use Rattle.snap_core.specs.declared.run.Logs.{Logs as LogsData};
@@ -86,7 +87,10 @@ fn pass(
         Pol::Change(update) => change(update, store, packet, logs),
         Pol::Par(left, right) => both(alloc, left, right, store, packet, logs),
         Pol::Seq(first, second) => in_turn(alloc, first, second, store, packet, logs),
-        Pol::If(test, yes, no) => choice(alloc, test, yes, no, store, packet, logs),
+        Pol::If(test, yes, no) => {
+            let branch = last_branch(alloc, test, yes, no, store, packet, logs)?;
+            pass(alloc, branch, store, packet, logs)
+        }
         Pol::Atomic(part) => pass(alloc, part, store, packet, logs),
     }
 }
@@ -153,33 +157,51 @@ fn in_turn(
     each(alloc, second, store, packet, logs, flow)
 }
 
-// One of two policies.
-#[inline(never)]
-#[cycle(eval)]
-fn choice(
+// The branch at the end of a chain of choices, as `if .. else if .. else` makes it.
+fn last_branch<'a>(
     alloc: Global,
     test: &Pred,
-    yes: &Pol,
-    no: &Pol,
-    store: &mut Store,
-    packet: &mut Packet,
+    yes: &'a Pol,
+    no: &'a Pol,
+    store: &Store,
+    packet: &Packet,
     logs: &mut Logs,
-) -> Result<Flow, EvalFault>
-    requires test { PredFits (length packet.old) 64 test.now }
-    requires yes { PolFits (length packet.old) 64 yes.now }
-    requires no { PolFits (length packet.old) 64 no.now }
-    ensures ok { IfOk result (λ f. within logs.old (chosen test.now (eval yes.now (arrays_of store.old) packet.old) (eval no.now (arrays_of store.old) packet.old) (arrays_of store.old) packet.old) ≡ Some (flown (arrays_of store.new) f packet.new logs.new)) }
-    ensures undefined { result ≡ Err EvalFault.Undefined → chosen test.now (eval yes.now (arrays_of store.old) packet.old) (eval no.now (arrays_of store.old) packet.old) (arrays_of store.old) packet.old ≡ None }
-    ensures lengths { IfOk result (λ f. AllLong (length packet.old) (set_after f packet.new)) }
-    ensures length { length packet.new ≡ length packet.old }
+) -> Result<&'a Pol, NoMemory>
+    requires test { PredFits (length packet.now) 64 test.now }
+    requires yes { PolFits (length packet.now) 64 yes.now }
+    requires no { PolFits (length packet.now) 64 no.now }
+    ensures fits { IfOk result (λ p. PolFits (length packet.now) 64 p.now) }
+    ensures same { IfOk result (λ p. within logs.old (chosen test.now (eval yes.now (arrays_of store.now) packet.now) (eval no.now (arrays_of store.now) packet.now) (arrays_of store.now) packet.now) ≡ within logs.new (eval p.now (arrays_of store.now) packet.now)) }
+    ensures inner { IfOk result (λ p. size-Pol p.now ≤ max (size-Pol yes.now) (size-Pol no.now)) }
+{
+    let mut pol = picked_branch(alloc, test, yes, no, store, packet, logs)?;
+    while let Pol::If(test, yes, no) = pol {
+        pol = picked_branch(alloc, test, yes, no, store, packet, logs)?;
+    }
+    Ok(pol)
+}
+
+// The branch that a test picks. What the test reads is logged.
+fn picked_branch<'a>(
+    alloc: Global,
+    test: &Pred,
+    yes: &'a Pol,
+    no: &'a Pol,
+    store: &Store,
+    packet: &Packet,
+    logs: &mut Logs,
+) -> Result<&'a Pol, NoMemory>
+    requires { PredFits (length packet.now) 64 test.now }
+    ensures picked { IfOk result (λ p. p.now ≡ (if truth test.now (arrays_of store.now) packet.now then yes.now else no.now)) }
+    ensures reads { logs.new.reads ≡ bit_or logs.old.reads (vars_of test.now) }
+    ensures writes { logs.new.writes ≡ logs.old.writes }
 {
     logs.reads |= read_by(test);
-    let pol = if holds(alloc, test, store, packet)? {
-        yes
+    if holds(alloc, test, store, packet)? {
+        Ok(yes)
     } else {
-        no
-    };
-    pass(alloc, pol, store, packet, logs)
+        Ok(no)
+    }
 }
 
 // A policy on each packet that another gave, side by side.
