@@ -31,7 +31,7 @@ behind-none zero (part ∷ parts) = refl
 behind-none (suc k) [] = refl
 behind-none (suc k) (part ∷ parts) = behind-none k parts
 
-parts_by-some : (p : ℕ → Bool) (text : List ℕ) → 0 < length (parts_by p text)
+pub parts_by-some : (p : ℕ → Bool) (text : List ℕ) → 0 < length (parts_by p text)
 parts_by-some p [] = omega arith
 parts_by-some p (b ∷ bs) =
     elim (p b) as (λ t. 0 < length (cond t ([] ∷ parts_by p bs) (onto_first b (parts_by p bs)))) [

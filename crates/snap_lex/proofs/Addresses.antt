@@ -13,7 +13,7 @@ digit_no_dot b x y = no (sym x ∙ ap is_digit y)
     no : true ≡ false → ⊥
     no e = cc
 
-abbrev NoDot : List ℕ → Type 0
+abbrev pub NoDot : List ℕ → Type 0
 NoDot [] = Unit {0}
 NoDot (b ∷ bs) = (b ≢ 46) × NoDot bs
 
@@ -25,7 +25,7 @@ right_of : (a b : Bool) → (a && b) ≡ true → b ≡ true
 right_of true b e = e
 right_of false b e = absurd (cc)
 
-group_no_dot : (g : List ℕ) → is_group g ≡ true → NoDot g
+pub group_no_dot : (g : List ℕ) → is_group g ≡ true → NoDot g
 group_no_dot [] h = tt
 group_no_dot (a ∷ []) h = (digit_no_dot a h, tt)
 group_no_dot (a ∷ b ∷ []) h = (digit_no_dot a (left_of _ _ h), (digit_no_dot b (right_of (is_digit a) _ h), tt))

@@ -19,3 +19,4 @@ pub mod Nodes
 pub mod Declaring
 pub mod Resolving
 pub mod DeclaredFields
+pub mod Addresses

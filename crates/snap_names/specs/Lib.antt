@@ -5,3 +5,4 @@ pub mod Declarations
 pub mod Parts
 pub mod Scopes
 pub mod Texts
+pub mod Laws

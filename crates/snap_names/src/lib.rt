@@ -11,6 +11,7 @@ ghost use Rattle.snap_names.specs.declared.fault.NameFault.TheVariants.{NoMemory
 mod copies;
 mod declarations;
 pub mod fault;
+pub mod laws;
 mod leaves;
 mod limits;
 mod parts;
