@@ -6,4 +6,7 @@ pub mod Rows
 pub mod Shapes
 pub mod Checked
 pub mod Turns
+mod Faults
+mod ToldRows
+mod Settled
 pub mod Walk

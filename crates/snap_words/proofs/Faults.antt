@@ -1,0 +1,58 @@
+-- What `clap` finds wrong in words, one word after the other.
+use Rattle.std.proofs.Common.{◌≡◌, ◌∙◌, refl, sym, ap, Bool, true, false, List, [], ◌∷◌, Option, fold}
+use Rattle.std.proofs.Math.Bool.{or-true}
+use Rattle.clap.specs.Words.{Row, Text}
+use Rattle.clap.specs.Kinds.{Kinds, or_else}
+use Rattle.clap.specs.Faults.{check_fault, defaults_fault, settle_fault, turn_fault, walk_fault}
+use Rattle.clap.specs.Walk.{Held, Walk, finished, has_row, settled, walked}
+use Rattle.clap.specs.declared.error.kind.ErrorKind.{ErrorKind}
+use Rattle.clap.specs.declared.error.kind.ErrorKind.TheVariants.{InvalidValue}
+use Rattle.clap.proofs.OnLiterals.{clap_on_literals}
+use Rattle.snap_words.proofs.Turns.{done, held, hops_id, settles, top, waits}
+
+or_else-nil : (k : Kinds) → or_else k [] ≡ k
+or_else-nil [] = refl
+or_else-nil (k ∷ ks) = refl
+
+pub first_nil : (a b : Kinds) → or_else a b ≡ [] → a ≡ []
+first_nil [] b e = refl
+first_nil (k ∷ ks) b e = absurd (cc)
+
+or_else-assoc : (a b c : Kinds) → or_else (or_else a b) c ≡ or_else a (or_else b c)
+or_else-assoc [] b c = refl
+or_else-assoc (k ∷ ks) b c = refl
+
+abbrev ending : Held → Kinds
+ending end = or_else (settle_fault top.rules false end) (or_else (defaults_fault (settled top.rules end).rows top.rules) (check_fault top (finished top.rules end) false))
+
+abbrev pub fault : Walk → List Text → Kinds
+fault w words = or_else (walk_fault top [] w words) (ending (fold (walked top.rules []) w words).held)
+
+abbrev pub final : Walk → List Text → List Row
+final w words = finished top.rules (fold (walked top.rules []) w words).held
+
+pub fault-more : (w : Walk) (x : Text) (xs : List Text) → fault w (x ∷ xs) ≡ or_else (turn_fault top [] w x) (fault (walked top.rules [] w x) xs)
+unfolding walk_fault
+fault-more w x xs = or_else-assoc (turn_fault top [] w x) (walk_fault top [] (walked top.rules [] w x) xs) _
+
+pub fault-none : (w : Walk) → fault w [] ≡ ending w.held
+unfolding walk_fault
+fault-none w = refl
+
+defaults-by : (rows : List Row) (b : Bool) → has_row hops_id rows ≡ b → defaults_fault rows top.rules ≡ []
+unfolding clap_on_literals
+defaults-by rows true has = simp (has, or-true) refl
+defaults-by rows false has = simp (has, or-true) refl
+
+pub ends : (r : List Row) (q : Option (Text × List Text)) → ending (held r q) ≡ settles r q
+ends r q = ap (λ k. or_else (settles r q) (or_else k [])) (defaults-by (done r q) _ refl) ∙ or_else-nil (settles r q)
+
+pub waits-ends : (r : List Row) (t : Bool) → ending (waits r t).held ≡ InvalidValue ∷ []
+unfolding clap_on_literals
+waits-ends r t = refl
+
+pub turn_nil : (w : Walk) (x : Text) (xs : List Text) → fault w (x ∷ xs) ≡ [] → turn_fault top [] w x ≡ []
+turn_nil w x xs none = first_nil _ _ (sym (fault-more w x xs) ∙ none)
+
+pub fails : (w : Walk) (x : Text) (xs : List Text) (k : ErrorKind) → turn_fault top [] w x ≡ k ∷ [] → fault w (x ∷ xs) ≡ [] → ⊥
+fails w x xs k is none = let e : k ∷ [] ≡ [] = sym is ∙ turn_nil w x xs none in cc
