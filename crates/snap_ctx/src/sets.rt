@@ -1,0 +1,11 @@
+//! Sets of variables and components, a bit each.
+
+ghost use Rattle.std.specs.Prelude.{◌≡◌};
+ghost use Rattle.snap_core.specs.Variables.{has};
+
+/// Whether a set has a number. No set has one from 64 on.
+pub fn is_in(set: u64, number: u16) -> bool
+    ensures { result ≡ has set number }
+{
+    number < 64 && (set >> number) & 1 == 1
+}
