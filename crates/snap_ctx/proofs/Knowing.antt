@@ -18,7 +18,7 @@ use Rattle.snap_core.specs.Variables.{has}
 use Rattle.snap_ctx.specs.declared.fact.Fact.{Fact}
 use Rattle.snap_ctx.specs.Meets.{Meets, IsPacket, IsMet}
 use Rattle.snap_ctx.specs.Classes.{wrap, shift, class_of, normal, atom_class, IsTerm, IsAtom, IsTest, IsClass, Fits, is_state, var_of, index_of, left_of, right_of, Says, SamePlace, FactRule, PairRule, Rules}
-use Rattle.snap_ctx.specs.Known.{AtomOver, TermOver, TestOver, Normal, Differ, Held, within, are_within, outside, are_outside, is_number, are_numbers, spot, tied, loose, apart_of, held_of, known, with_some, all_known, normals_key, classes_key, IsRooted, IsAtSpot, IsSettled, IsKnown}
+use Rattle.snap_ctx.specs.Known.{IsAmong, AtomOver, TermOver, TestOver, Normal, Differ, Held, within, are_within, outside, are_outside, is_number, are_numbers, spot, tied, loose, apart_of, held_of, known, with_some, all_known, normals_key, classes_key, IsRooted, IsAtSpot, IsSettled, IsKnown}
 use Rattle.snap_ctx.specs.View.{View, IsContext}
 use Rattle.snap_ctx.proofs.Algebra.{normal-value}
 use Rattle.snap_ctx.proofs.Keys.{same_normals, same_classes}
@@ -244,7 +244,8 @@ module _ (w : View) (comps arrays : ℕ) (key : List ℕ) (is : IsKnown w comps 
   over_atom (Number n) h o = refl
   over_atom (Comp c) h o =
       let small : slice_index k c < 2 ^ 64 = p.1 c 0 (rw p.0 h) in
-      class_of-pinned is.roots k w.classes c h ∙ (pinned_within is.roots k (class_of w.classes c) (is.classes c h o) ∙ ap Num (fits c h o ∙ wrap_zero (slice_index k c) small))
+      let in' : has comps c ≡ true = o (let f = ctx.few in omega (arith, h, f)) in
+      class_of-pinned is.roots k w.classes c h ∙ (pinned_within is.roots k (class_of w.classes c) (is.classes c h in') ∙ ap Num (fits c h in' ∙ wrap_zero (slice_index k c) small))
 
   over_index : (ix : List Atom) → AllByRecursion (IsAtom (length w.classes)) ix → AllByRecursion (AtomOver comps) ix → map (atom_class new) ix ≡ map Num (map (λ z. value_of z k) ix)
   over_index [] h o = refl
@@ -264,7 +265,7 @@ module _ (w : View) (comps arrays : ℕ) (key : List ℕ) (is : IsKnown w comps 
   over_right (Equal l r q) h o st = over_term (Plus r q) (h.1, h.2) o.1
   over_right (State v ix t) h o st = absurd (cc)
 
-  over_array : (t : Test) → TestOver comps arrays t → is_state t ≡ true → has arrays (var_of t) ≡ true
+  over_array : (t : Test) → TestOver comps arrays t → is_state t ≡ true → IsAmong arrays (var_of t)
   over_array (Value c n) o st = absurd (cc)
   over_array (Equal l r q) o st = absurd (cc)
   over_array (State v ix t) o st = o.0
@@ -278,7 +279,7 @@ module _ (w : View) (comps arrays : ℕ) (key : List ℕ) (is : IsKnown w comps 
   over_solid f test o h st = record {
     numbers = map (λ z. value_of z k) (index_of f.test);
     number = term_value (left_of f.test) k;
-    free = elim (cases_Bool (has is.settled (var_of f.test))) [ inl se ↦ absurd (both_ways _ (is.calm (var_of f.test) se).0 (over_array f.test o st)) | inr fr ↦ fr ];
+    free = elim (cases_Bool (has is.settled (var_of f.test))) [ inl se ↦ let q = is.calm (var_of f.test) se in absurd (both_ways _ q.1 (over_array f.test o st q.0)) | inr fr ↦ fr ];
     index = over_index (index_of f.test) (recursion_from_All (IsAtom (length w.classes)) (index_of f.test) (index-atoms (length w.classes) f.test test)) (over_atoms f.test o);
     term = over_left f.test test o;
     holds = sym (passes-state m k f.test st) ∙ h;
@@ -295,11 +296,11 @@ module _ (w : View) (comps arrays : ℕ) (key : List ℕ) (is : IsKnown w comps 
 
   sorted : (i : ℕ) (d : Fact) → i < length w.facts → is_state (get_or w.facts i d).test ≡ true → Sort w.classes new is.settled m (get_or w.facts i d)
   sorted i d l st = sort_of (get_or w.facts i d) (ctx.rules.tests i d l) (is.facts i d l) (facts_said i d l)
-      (λ se so. ((is.calm (var_of (get_or w.facts i d).test) se).1.all i d l so refl).1) st
+      (λ se so. ((is.calm (var_of (get_or w.facts i d).test) se).2.all i d l so refl).1) st
 
   beside : (i : ℕ) (d : Fact) (j : ℕ) (e : Fact) → i < length w.facts → j < length w.facts → Beside w.classes new is.settled m (get_or w.facts i d) (get_or w.facts j e)
   beside i d j e l n = λ se sf sg var.
-      let c = (is.calm (var_of (get_or w.facts i d).test) se).1 in
+      let c = (is.calm (var_of (get_or w.facts i d).test) se).2 in
       (c.all i d l sf refl).0 ∙ sym (c.all j e n sg (sym var)).0
 
   module _ (path : List Fact) (tests : All (λ f. IsTest (length w.classes) f.test) path) (over : All (λ f. TestOver comps arrays f.test) path) (met : Meets path m k) where

@@ -13,19 +13,23 @@ use Rattle.snap_ctx.specs.Classes.{class_of, normal, atom_class, is_state, var_o
 use Rattle.snap_ctx.specs.View.{View}
 
 -- ---- tests about components and arrays
+-- the number is in a set, as far as one of 64 bits can tell
+abbrev pub IsAmong : ℕ → ℕ → Type 0
+IsAmong set n = n < 64 → has set n ≡ true
+
 abbrev pub AtomOver : ℕ → Atom → Type 0
 AtomOver comps (Number n) = Unit {0}
-AtomOver comps (Comp c) = has comps c ≡ true
+AtomOver comps (Comp c) = IsAmong comps c
 
 abbrev pub TermOver : ℕ → Term → Type 0
 TermOver comps (Num n) = Unit {0}
-TermOver comps (Plus c p) = has comps c ≡ true
+TermOver comps (Plus c p) = IsAmong comps c
 
 -- a test about no components and arrays but those of two sets
 abbrev pub TestOver : ℕ → ℕ → Test → Type 0
-TestOver comps arrays (Value c n) = has comps c ≡ true
-TestOver comps arrays (Equal l r p) = (has comps l ≡ true) × (has comps r ≡ true)
-TestOver comps arrays (State v ix t) = (has arrays v ≡ true) × AllByRecursion (AtomOver comps) ix × TermOver comps t
+TestOver comps arrays (Value c n) = IsAmong comps c
+TestOver comps arrays (Equal l r p) = IsAmong comps l × IsAmong comps r
+TestOver comps arrays (State v ix t) = IsAmong arrays v × AllByRecursion (AtomOver comps) ix × TermOver comps t
 
 -- ---- facts by the classes
 -- two terms that differ, or what a place holds or doesn't
@@ -140,5 +144,5 @@ pub record IsKnown (v : View) (comps arrays : ℕ) (key : List ℕ) : Type 0 whe
   pub settled : ℕ
   pub classes : (c : ℕ) → c < length v.classes → has comps c ≡ true → within roots (class_of v.classes c) ≡ true
   pub facts : All (IsRooted v.classes roots settled) v.facts
-  pub calm : (a : ℕ) → has settled a ≡ true → (has arrays a ≡ false) × IsSettled v.classes v.facts a
+  pub calm : (a : ℕ) → has settled a ≡ true → (a < 64) × (has arrays a ≡ false) × IsSettled v.classes v.facts a
   pub is : key ≡ classes_key comps 0 v.classes ++ normals_key (all_known v.classes roots settled v.facts)

@@ -87,7 +87,7 @@ fn with_array(set: u64, var: u16) -> u64
 /// The arrays outside of a set of which the facts speak of one place, and of numbers.
 pub(crate) fn settled(classes: &[Term], arrays: u64, facts: &[Fact]) -> u64
     requires { All (λ f. IsTest (length classes.now) f.test) facts.now }
-    ensures { (a : ℕ) → has result a ≡ true → (has arrays a ≡ false) × IsSettled classes.now facts.now a }
+    ensures { (a : ℕ) → has result a ≡ true → (a < 64) × (has arrays a ≡ false) × IsSettled classes.now facts.now a }
 {
     let present = arrays_of(facts);
     let mut set = 0u64;
