@@ -8,7 +8,7 @@ pub mod fact;
 mod known;
 pub mod laws;
 mod look;
-mod ranges;
+pub mod ranges;
 mod rooted;
 pub mod sets;
 mod settled;

@@ -10,7 +10,7 @@ use snap_core::NoMemory;
 use snap_core::lists::Out;
 use snap_core::policy::Update;
 use snap_fdd::leaf::{Go, Leaf, Outs, Updates};
-use snap_fdd::sets::is_in;
+use snap_ctx::sets::is_in;
 use std::alloc::Global;
 
 /// How two leaves are combined.
