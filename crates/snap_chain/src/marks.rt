@@ -6,7 +6,7 @@ ghost use Rattle.std.specs.List.{AllByRecursion};
 ghost use Rattle.snap_core.specs.Variables.{has};
 ghost use Rattle.snap_core.specs.declared.policy.Update.{Update};
 ghost use Rattle.snap_fdd.specs.Diagrams.{diagram};
-ghost use Rattle.snap_chain.specs.Marks.{either_mark, AreMarked, AtomMissed, IsAmong, IsMarkedBy, IsMissed, LeafMarked, SetsAmong, TermMissed, TestMarked, TestMissed, UpdatesAmong};
+ghost use Rattle.snap_chain.specs.Marks.{either_mark, AreMarked, AtomMissed, IsMarkedBy, IsMissed, LeafMarked, SetsAmong, TermMissed, TestMarked, TestMissed, UpdatesAmong};
 
 use snap_arena::node::Node;
 use snap_arena::nodes::Nodes;
