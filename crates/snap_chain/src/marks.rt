@@ -17,7 +17,6 @@ use snap_ctx::sets::{bit, is_in};
 use snap_fdd::leaf::Leaf;
 use snap_fdd::pick::look;
 
-
 /// The components that a diagram's leaves set, the variables that they update and those that the diagram tests, a bit
 /// each, and whether a leaf logs a write.
 #[derive(Clone, Copy, Debug)]

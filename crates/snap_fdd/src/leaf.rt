@@ -88,7 +88,8 @@ fn copy_outs(alloc: Global, outs: &[Out]) -> Result<Vec<Out>, NoMemory>
     Ok(copies)
 }
 
-fn copy_updates(alloc: Global, updates: &[Update]) -> Result<Vec<Update>, NoMemory>
+/// The same updates.
+pub fn copy_updates(alloc: Global, updates: &[Update]) -> Result<Vec<Update>, NoMemory>
     ensures { IfOk result (λ copies. copies.items ≡ updates.now) }
 {
     let mut copies = Vec::new(alloc);
