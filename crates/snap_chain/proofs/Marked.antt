@@ -15,28 +15,20 @@ use Rattle.snap_core.specs.Arrays.{Arrays, updates, value_of}
 use Rattle.snap_core.specs.Variables.{has}
 use Rattle.snap_core.specs.Tests.{after_out, with_parts, passes, term_value}
 use Rattle.snap_ctx.proofs.Each.{Each-append, Each-weaker}
-use Rattle.snap_dep.proofs.Sets.{in_or, has-pow_same}
+use Rattle.snap_ctx.specs.Known.{IsAmong}
 use Rattle.snap_arena.specs.declared.node.Node.{Node}
 use Rattle.snap_arena.specs.Arena.{Grew}
 use Rattle.snap_fdd.specs.declared.leaf.Leaf.{Leaf}
 use Rattle.snap_fdd.specs.declared.leaf.Leaf.TheVariants.{Race, Go as Goes}
 use Rattle.snap_fdd.specs.Diagrams.{Diagram, Only, Asks, walk, diagram}
 use Rattle.snap_fdd.proofs.Shared.{kept}
+use Rattle.snap_fdd.proofs.Testing.{among_left, among_right}
 use Rattle.snap_chain.specs.declared.marks.Mark.{Mark}
-use Rattle.snap_chain.specs.Marks.{either_mark, AreMarked, AtomMissed, IsAmong, IsMarkedBy, IsMissed, LeafMarked, LeafWritesNothing, SetsAmong, TermMissed, TestMarked, TestMissed, UpdatesAmong, WritesNothing}
+use Rattle.snap_chain.specs.Marks.{either_mark, AreMarked, AtomMissed, IsMarkedBy, IsMissed, LeafMarked, LeafWritesNothing, SetsAmong, TermMissed, TestMarked, TestMissed, UpdatesAmong, WritesNothing}
 use Rattle.snap_chain.specs.Untouched.{changes, tests_updated, IsUntouched}
 use Rattle.snap_chain.proofs.Staying.{unchanged}
 
 -- ---- sets
-pub among_left : (a b n : ℕ) → IsAmong a n → IsAmong (bit_or a b) n
-among_left a b n h = λ l. (in_or a b n).1 (inl (h l))
-
-pub among_right : (a b n : ℕ) → IsAmong b n → IsAmong (bit_or a b) n
-among_right a b n h = λ l. (in_or a b n).1 (inr (h l))
-
-pub among_pow : (n : ℕ) → IsAmong (2 ^ n) n
-among_pow n = λ l. has-pow_same n
-
 missed_apart : (set n v : ℕ) → IsAmong set n → IsMissed set v → (n == v) ≡ false
 missed_apart set n v h k = ne_eqb n v (λ e. both_ways _ k.1 (subst (λ (x : ℕ). has set x ≡ true) e (h (rw e k.0))))
 

@@ -9,16 +9,14 @@ use Rattle.snap_core.specs.declared.policy.Test.{Test}
 use Rattle.snap_core.specs.declared.policy.Test.TheVariants.{Value, Equal, State}
 use Rattle.snap_core.specs.declared.policy.Update.{Update}
 use Rattle.snap_core.specs.Variables.{has}
+use Rattle.snap_ctx.specs.Known.{IsAmong}
 use Rattle.snap_arena.specs.declared.node.Node.{Node}
 use Rattle.snap_fdd.specs.declared.leaf.Leaf.{Leaf}
 use Rattle.snap_fdd.specs.declared.leaf.Leaf.TheVariants.{Race, Go as Goes}
 use Rattle.snap_fdd.specs.Diagrams.{Diagram, Only, Asks, diagram}
 use Rattle.snap_chain.specs.declared.marks.Mark.{Mark}
 
--- the number is in a set, as far as one of 64 bits can tell, and isn't
-abbrev pub IsAmong : ℕ → ℕ → Type 0
-IsAmong set n = n < 64 → has set n ≡ true
-
+-- a set of 64 bits tells that the number isn't in it
 abbrev pub IsMissed : ℕ → ℕ → Type 0
 IsMissed set n = (n < 64) × (has set n ≡ false)
 

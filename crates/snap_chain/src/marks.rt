@@ -6,16 +6,16 @@ ghost use Rattle.std.specs.List.{AllByRecursion};
 ghost use Rattle.snap_core.specs.Variables.{has};
 ghost use Rattle.snap_core.specs.declared.policy.Update.{Update};
 ghost use Rattle.snap_fdd.specs.Diagrams.{diagram};
-ghost use Rattle.snap_chain.specs.Marks.{either_mark, AreMarked, AtomMissed, IsAmong, IsMarkedBy, IsMissed, LeafMarked, SetsAmong, TermMissed, TestMarked, TestMissed, UpdatesAmong};
+ghost use Rattle.snap_chain.specs.Marks.{either_mark, AreMarked, AtomMissed, IsMarkedBy, IsMissed, LeafMarked, SetsAmong, TermMissed, TestMarked, TestMissed, UpdatesAmong};
 
 use snap_arena::node::Node;
 use snap_arena::nodes::Nodes;
 use snap_core::NoMemory;
 use snap_core::lists::{Atoms, Out};
 use snap_core::policy::{Atom, Term, Test, Update};
+use snap_ctx::sets::{bit, is_in};
 use snap_fdd::leaf::Leaf;
 use snap_fdd::pick::look;
-use snap_fdd::sets::is_in;
 
 /// The components that a diagram's leaves set, the variables that they update and those that the diagram tests, a bit
 /// each, and whether a leaf logs a write.
@@ -25,13 +25,6 @@ pub struct Mark {
     pub updates: u64,
     pub tests: u64,
     pub writes: bool,
-}
-
-// The set of one number.
-fn bit(number: u16) -> u64
-    ensures { IsAmong result number }
-{
-    if number < 64 { 1 << number } else { 0 }
 }
 
 // Whether a set of 64 bits tells that a number isn't in it.

@@ -23,7 +23,7 @@ use snap_core::lists::Out;
 use snap_core::policy::Update;
 use snap_ctx::context::Context;
 use snap_dep::groups::Groups;
-use snap_fdd::leaf::{Go, Leaf, Outs, Updates};
+use snap_fdd::leaf::{Go, Leaf, Outs, Updates, copy_updates};
 use snap_fdd::only::only;
 use snap_fdd::pick::ite;
 use snap_fdd::pruning::{Part, part_of};
@@ -59,16 +59,6 @@ fn all_after(
             all_after(nodes, groups, ctx, marks, more, ups, both, d)
         }
     }
-}
-
-fn copy_updates(alloc: Global, updates: &[Update]) -> Result<Vec<Update>, NoMemory>
-    ensures { IfOk result (λ copy. copy.items ≡ updates.now) }
-{
-    let mut copy = Vec::with_capacity(alloc, updates.len())?;
-    for update in updates {
-        copy.push(update.copy()?)?;
-    }
-    Ok(copy)
 }
 
 // A leaf behind the updates and logs of another.

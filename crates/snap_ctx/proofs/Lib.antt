@@ -7,9 +7,12 @@ pub mod Finite
 pub mod Fitting
 pub mod Fresh
 pub mod Indices
+pub mod Keys
+pub mod Knowing
 pub mod Merging
 pub mod Model
 pub mod Numbered
+pub mod Pinned
 pub mod Places
 pub mod Roots
 pub mod Sound

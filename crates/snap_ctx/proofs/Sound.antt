@@ -29,7 +29,7 @@ atom_class-value cl k (Comp c) p f h =
     let lt : slice_index k c < 2 ^ 64 = p.1 c 0 (rw p.0 h) in
     sym (f c h ∙ wrap_zero (slice_index k c) lt)
 
-index-values : (cl : List Term) (k : List ℕ) (ix : List Atom) → IsPacket (length cl) k → Fits cl k → AllByRecursion (IsAtom (length cl)) ix → map (λ a. value_of a k) ix ≡ map (λ t. term_value t k) (map (atom_class cl) ix)
+pub index-values : (cl : List Term) (k : List ℕ) (ix : List Atom) → IsPacket (length cl) k → Fits cl k → AllByRecursion (IsAtom (length cl)) ix → map (λ a. value_of a k) ix ≡ map (λ t. term_value t k) (map (atom_class cl) ix)
 index-values cl k [] p f h = refl
 index-values cl k (a ∷ ix) p f h =
     let x : value_of a k ≡ term_value (atom_class cl a) k = atom_class-value cl k a p f h.0 in
@@ -53,7 +53,7 @@ says_normal : (cl : List Term) (k : List ℕ) (a b : Term) (y : Bool) → Fits c
 says_normal cl k a b y fits ha hb e = rw (normal-value k cl a fits ha, normal-value k cl b fits hb) e
 
 -- a value or equal fact says whether its two terms are equal
-passes-alone : (comps : ℕ) (m : Arrays) (k : List ℕ) (t : Test) → IsPacket comps k → IsTest comps t → is_state t ≡ false → passes t m k ≡ (term_value (left_of t) k == term_value (right_of t) k)
+pub passes-alone : (comps : ℕ) (m : Arrays) (k : List ℕ) (t : Test) → IsPacket comps k → IsTest comps t → is_state t ≡ false → passes t m k ≡ (term_value (left_of t) k == term_value (right_of t) k)
 passes-alone comps m k (Value c n) p h st =
     let lt : slice_index k c < 2 ^ 64 = p.1 c 0 (rw p.0 h.0) in
     ap (λ x. x == n) (sym (wrap_zero (slice_index k c) lt))
@@ -62,7 +62,7 @@ passes-alone comps m k (Equal l r q) p h st =
     ap (λ x. x == wrap (slice_index k r) q) (sym (wrap_zero (slice_index k l) lt))
 passes-alone comps m k (State v ix u) p h st = absurd (cc)
 
-alone_says : (cl : List Term) (f : Fact) (m : Arrays) (k : List ℕ) → IsTest (length cl) f.test → is_state f.test ≡ false → IsPacket (length cl) k → MeetsOne f m k → Fits cl k → (term_value (normal cl (left_of f.test)) k == term_value (normal cl (right_of f.test)) k) ≡ f.yes
+pub alone_says : (cl : List Term) (f : Fact) (m : Arrays) (k : List ℕ) → IsTest (length cl) f.test → is_state f.test ≡ false → IsPacket (length cl) k → MeetsOne f m k → Fits cl k → (term_value (normal cl (left_of f.test)) k == term_value (normal cl (right_of f.test)) k) ≡ f.yes
 alone_says cl f m k h st p meets fits =
     says_normal cl k (left_of f.test) (right_of f.test) f.yes fits (left-term (length cl) f.test h) (right-term (length cl) f.test h)
     (sym (passes-alone (length cl) m k f.test p h st) ∙ meets)

@@ -1,6 +1,7 @@
 pub mod Answers
 pub mod Classes
 pub mod Closing
+pub mod Known
 pub mod Meets
 pub mod Ranges
 pub mod View

@@ -38,7 +38,7 @@ pub(crate) fn normal_at(classes: &[Term], term: Term) -> Term
     }
 }
 
-fn atom_at(classes: &[Term], atom: Atom) -> Term
+pub(crate) fn atom_at(classes: &[Term], atom: Atom) -> Term
     requires { IsAtom (length classes.now) atom }
     ensures { result ≡ atom_class classes.now atom }
 {

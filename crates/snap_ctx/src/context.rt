@@ -1,13 +1,16 @@
 //! Contexts.
 
-ghost use Rattle.std.specs.Prelude.{◌≡◌, ◌<◌, ◌≤◌, ◌^◌, All, IfOk, MatchBool, [], length, slice_index};
+ghost use Rattle.std.specs.Prelude.{◌≡◌, ◌<◌, ◌≤◌, ◌^◌, ℕ, All, IfOk, IfSome, List, MatchBool, [], ◌∷◌, length, slice_index};
 ghost use Rattle.snap_core.specs.Tests.{TestFits, term_value};
 ghost use Rattle.snap_ctx.specs.Classes.{IsClass, IsTest, class_of, index_of};
+ghost use Rattle.snap_ctx.specs.Known.{IsKnown};
 ghost use Rattle.snap_ctx.specs.Meets.{IsMet, NoneMeets, Under, with_fact};
+ghost use Rattle.snap_ctx.specs.View.{IsContext};
 
 use crate::classes::{class_at, first_classes};
 use crate::close::closed;
 use crate::fact::{Fact, Shared, copy_facts};
+use crate::known::known;
 use crate::ranges::know_test;
 use snap_core::NoMemory;
 use snap_core::policy::{Term, Test};
@@ -134,6 +137,23 @@ impl Context {
             None => Ok(true),
             Some(_) => Ok(false),
         }
+    }
+
+    /// What is known about the components and arrays of two sets, behind a label. Beside contexts of which
+    /// the same is known, the same facts about these are met (`laws::known_alike`). None where facts about
+    /// these can't be told apart from others.
+    pub fn known(&self, label: u64, comps: u64, arrays: u64) -> Result<Option<Vec<u64>>, NoMemory>
+        ensures known { IfOk result (λ o. IfSome o (λ key. (q : List ℕ) × (key.items ≡ label ∷ q) × IsKnown self.now comps arrays q)) }
+        ensures context { IsContext self.now }
+    {
+        known(
+            *self.facts.allocator(),
+            &self.classes,
+            &self.facts,
+            label,
+            comps,
+            arrays,
+        )
     }
 
     /// Whether all, none or some of the stores and packets that meet the facts pass the test.

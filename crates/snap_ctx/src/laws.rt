@@ -1,13 +1,15 @@
 //! Laws of contexts.
 
-ghost use Rattle.std.specs.Prelude.{◌≡◌, ◌≤◌, ◌^◌, ◌↔◌, ◌⊎◌, Bool, List, length, true, false, ℕ};
+ghost use Rattle.std.specs.Prelude.{◌≡◌, ◌≤◌, ◌^◌, ◌↔◌, ◌⊎◌, ◌++◌, All, Bool, List, length, true, false, ℕ};
 ghost use Rattle.snap_core.specs.declared.policy.Term.{Term};
 ghost use Rattle.snap_core.specs.declared.policy.Test.{Test};
 ghost use Rattle.snap_core.specs.Arrays.{Arrays};
 ghost use Rattle.snap_core.specs.Tests.{passes};
 ghost use Rattle.snap_ctx.specs.declared.fact.Fact.{Fact};
-ghost use Rattle.snap_ctx.specs.Classes.{Rules};
-ghost use Rattle.snap_ctx.specs.Meets.{IsMet, Meets, with_fact};
+ghost use Rattle.snap_ctx.specs.Classes.{IsTest, Rules};
+ghost use Rattle.snap_ctx.specs.Known.{IsKnown, TestOver};
+ghost use Rattle.snap_ctx.specs.Meets.{IsMet, IsPacket, Meets, with_fact};
+ghost use Rattle.snap_ctx.specs.View.{IsContext, View};
 
 /// Facts and classes that break no rule have a model.
 pub fn kept_rules_have_a_model()
@@ -23,4 +25,14 @@ pub fn meets_one_more()
 /// holds under the facts.
 pub fn meets_an_answer()
     ensures { (facts : List Fact) (t : Test) (m : Arrays) (k : List ℕ) → Meets facts m k → Meets (with_fact facts t true) m k ⊎ Meets (with_fact facts t false) m k }
+{}
+
+/// Beside contexts of which the same is known about some components and arrays, the same facts about
+/// these are met.
+pub fn known_alike()
+    ensures { (v w : View) (comps arrays : ℕ) (key : List ℕ) → IsContext v → IsContext w → length v.classes ≡ length w.classes
+        → IsKnown v comps arrays key → IsKnown w comps arrays key
+        → (m : Arrays) (k : List ℕ) → IsPacket (length v.classes) k → Meets v.facts m k
+        → (path : List Fact) → All (λ f. IsTest (length w.classes) f.test) path → All (λ f. TestOver comps arrays f.test) path → Meets path m k
+        → length (w.facts ++ path) ≤ 2 ^ 32 → IsMet (length w.classes) (w.facts ++ path) }
 {}

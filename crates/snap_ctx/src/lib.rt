@@ -5,9 +5,13 @@ mod classes;
 mod close;
 pub mod context;
 pub mod fact;
+mod known;
 pub mod laws;
 mod look;
-mod ranges;
+pub mod ranges;
+mod rooted;
+pub mod sets;
+mod settled;
 mod terms;
 #[cfg(test)]
 mod tests;

@@ -12,8 +12,8 @@ fn know_term(term: Term)
     ensures { TermInRange term }
 {}
 
-// Each number of a test has 64 bits: reading it tells.
-pub(crate) fn know_test(test: &Test)
+/// Each number of a test has 64 bits: reading it tells.
+pub fn know_test(test: &Test)
     ensures { TestInRange test.now }
 {
     match test {

@@ -179,3 +179,23 @@ fn facts_past_sixty_four_are_kept(rt: HostRuntime) -> Result<(), Fail> {
     assert_eq!(rt; found, Verdict::Unsure);
     Ok(())
 }
+
+// What is known about the third component, behind 9.
+fn known_of_third(ctx: &Context) -> Result<Vec<u64>, Fail> {
+    match ctx.known(9, 4, 0)? {
+        Some(key) => Ok(key),
+        None => Err("the facts fall apart")?,
+    }
+}
+
+#[test]
+fn facts_on_others_are_not_known(rt: HostRuntime) -> Result<(), Fail> {
+    let alloc = rt.alloc();
+    let bare = known_of_third(&context(alloc, &Vec::new(alloc))?)?;
+    let others = vec![in alloc; no(equal(2, 3, 1)), yes(value(4, 7)), no(value(3, 7))]?;
+    assert_eq!(rt; known_of_third(&context(alloc, &others)?)?, bare);
+    let own = vec![in alloc; no(value(2, 7))]?;
+    assert!(rt; known_of_third(&context(alloc, &own)?)? != bare);
+    assert_eq!(rt; bare.first().copied(), Some(9));
+    Ok(())
+}

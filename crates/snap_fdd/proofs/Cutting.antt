@@ -24,6 +24,7 @@ use Rattle.snap_fdd.specs.Order.{test_cmp, Above}
 use Rattle.snap_fdd.specs.Bounds.{Sizes, TestIn}
 use Rattle.snap_fdd.specs.Picks.{IsDiagram, Where, Anywhere, IsPick, sizes}
 use Rattle.snap_fdd.specs.Pruned.{Someone, With, IsLive, IsPruned, IsShaped}
+use Rattle.snap_fdd.specs.Tested.{TestsOver}
 use Rattle.snap_fdd.proofs.Comparing.{above_trans}
 use Rattle.snap_fdd.proofs.Shared.{new_ask}
 
@@ -63,7 +64,7 @@ test_fits s (Value c n) h = h.0
 test_fits s (Equal l r p) h = (omega (arith, h.0, h.1), h.1)
 test_fits s (State v ix t) h = (h.1.atoms, h.2)
 
-same_sizes : (g : Grouping) (v w : View) (t : Test) (b : Bool) → IsMore v w t b → sizes g w ≡ sizes g v
+pub same_sizes : (g : Grouping) (v w : View) (t : Test) (b : Bool) → IsMore v w t b → sizes g w ≡ sizes g v
 same_sizes g v w t b i = ap (λ (n : ℕ). record { comps = n; vars = length g.ranks; arity = arity_of g }) i.count
 
 pub under_more : (g : Grouping) (v w : View) (t : Test) (b : Bool) (d : Diagram) → IsMore v w t b → IsDiagram g.ranks (sizes g v) d → IsDiagram g.ranks (sizes g w) d
@@ -72,8 +73,12 @@ under_more g v w t b d i h = subst (λ (s : Sizes). IsDiagram g.ranks s d) (sym 
 pub keeps_of : (g : Grouping) (v w : View) (t : Test) (b : Bool) (d r : Diagram) → IsMore v w t b → IsPruned g.ranks (sizes g w) w d r → IsDiagram g.ranks (sizes g v) r
 keeps_of g v w t b d r i h = subst (λ (s : Sizes). IsDiagram g.ranks s r) (same_sizes g v w t b i) h.keeps
 
+-- what is live stays
+pub pruned_same : (ranks : List ℕ) (s : Sizes) (v : View) (d : Diagram) → IsDiagram ranks s d → IsLive (Met v) d → IsPruned ranks s v d d
+pruned_same ranks s v d i live = record { walks = λ m k h. refl; keeps = i; above = λ low a. a; live = live; tests = λ q o. o; short = omega arith }
+
 pub pruned_leaf : (ranks : List ℕ) (s : Sizes) (v : View) (l : Leaf) (d : Diagram) → d ≡ Only l → IsDiagram ranks s d → IsPruned ranks s v d d
-pruned_leaf ranks s v l d e i = record { walks = λ m k h. refl; keeps = i; above = λ low a. a; live = rw e tt }
+pruned_leaf ranks s v l d e i = pruned_same ranks s v d i (rw e tt)
 
 pub pruned_no : (ranks : List ℕ) (s : Sizes) (v : View) (t : Test) (y n d r : Diagram) → d ≡ Asks t y n → IsDiagram ranks s d → NoneMeets (length v.classes) (with_fact v.facts t true)
     → IsPruned ranks s v n r → IsPruned ranks s v d r
@@ -82,6 +87,8 @@ pruned_no ranks s v t y n d r e i none p = record {
   keeps = p.keeps;
   above = λ low a. p.above low (above_trans ranks low t n (subst (Above ranks low) e a) (subst (IsDiagram ranks s) e i).ordered.1);
   live = p.live;
+  tests = λ q o. p.tests q (subst (TestsOver q) e o).3;
+  short = rw e (let h = p.short in omega (arith, h));
 }
 
 pub pruned_yes : (ranks : List ℕ) (s : Sizes) (v : View) (t : Test) (y n d r : Diagram) → d ≡ Asks t y n → IsDiagram ranks s d → NoneMeets (length v.classes) (with_fact v.facts t false)
@@ -91,6 +98,8 @@ pruned_yes ranks s v t y n d r e i none p = record {
   keeps = p.keeps;
   above = λ low a. p.above low (above_trans ranks low t y (subst (Above ranks low) e a) (subst (IsDiagram ranks s) e i).ordered.0);
   live = p.live;
+  tests = λ q o. p.tests q (subst (TestsOver q) e o).2;
+  short = rw e (let h = p.short in omega (arith, h));
 }
 
 pub pruned_both : (ranks : List ℕ) (s : Sizes) (s1 s2 : Sizes) (v w x : View) (t : Test) (y n d ry rn r : Diagram) → d ≡ Asks t y n → IsDiagram ranks s d
@@ -109,6 +118,8 @@ pruned_both ranks s s1 s2 v w x t y n d ry rn r e i my mn py pn p shape = record
     | inl f ↦ rw f (someone v w t true my, someone v x t false mn, live_weaker (Met w) (With (Met v) t true) (met_less v w t true my) ry py.live, live_weaker (Met x) (With (Met v) t false) (met_less v x t false mn) rn pn.live)
     | inr f ↦ rw f.0 (live_weaker (Met w) (Met v) (λ m k h. (met_less v w t true my m k h).0) ry py.live)
   ];
+  tests = λ q o. (let u = subst (TestsOver q) e o in elim shape [ inl f ↦ rw f (u.0, u.1, py.tests q u.2, pn.tests q u.3) | inr f ↦ rw f.0 (py.tests q u.2) ]);
+  short = (let hy = py.short in let hn = pn.short in elim shape [ inl f ↦ rw (f, e) (omega (arith, hy, hn)) | inr f ↦ rw (f.0, e) (omega (arith, hy)) ]);
 }
 
 pub ask_shape : {E : Type 0} (t : Test) (old new : List (Node Leaf)) (y n : ℕ) (r : Result ℕ E) → Grew old new → y < length old → n < length old

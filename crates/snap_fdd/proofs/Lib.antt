@@ -9,3 +9,5 @@ pub mod Between
 pub mod Spotted
 pub mod Calm
 pub mod Quieting
+pub mod Testing
+pub mod Alike

@@ -31,11 +31,11 @@ use Rattle.snap_fdd.specs.declared.leaf.Leaf.TheVariants.{Race}
 use Rattle.snap_fdd.specs.declared.survey.Survey.{Survey}
 use Rattle.snap_fdd.specs.Bounds.{Sizes, IsIn, TestIn}
 use Rattle.snap_fdd.specs.Contexts.{Met}
-use Rattle.snap_fdd.specs.Diagrams.{Diagram, Only, Asks, diagram, IsNodeOf}
+use Rattle.snap_fdd.specs.Diagrams.{Diagram, Only, Asks, diagram, depth, IsNodeOf}
 use Rattle.snap_fdd.specs.Order.{test_cmp, Above, IsOrdered}
 use Rattle.snap_fdd.specs.Picks.{IsDiagram, sizes}
 use Rattle.snap_fdd.specs.Pruned.{Someone, With, IsLive}
-use Rattle.snap_fdd.specs.Quiet.{IndexIsFine, IsClear, IsFine, SameSubject, BeginsElsewhere, IsQuiet, IsMarked, StandsBefore, depth}
+use Rattle.snap_fdd.specs.Quiet.{IndexIsFine, IsClear, IsFine, SameSubject, BeginsElsewhere, IsQuiet, IsMarked, StandsBefore}
 use Rattle.snap_fdd.specs.Spots.{IsNumber}
 use Rattle.snap_fdd.proofs.Spotted.{BothAsked, clear_at, same_asked}
 use Rattle.snap_fdd.proofs.Between.{Plain, same_between}

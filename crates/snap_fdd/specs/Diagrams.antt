@@ -1,5 +1,5 @@
 -- The diagram that a number stands for, and the leaf to which it walks.
-use Rattle.std.specs.Prelude.{◌≡◌, ℕ, ◌<◌, List, [], ◌∷◌, ◌++◌, slice_index_or, if◌then◌else◌, Option}
+use Rattle.std.specs.Prelude.{◌≡◌, ℕ, ◌+◌, ◌<◌, max, List, [], ◌∷◌, ◌++◌, slice_index_or, if◌then◌else◌, Option}
 use Rattle.snap_core.specs.declared.policy.Test.{Test}
 use Rattle.snap_core.specs.Arrays.{Arrays}
 use Rattle.snap_core.specs.Tests.{passes}
@@ -40,3 +40,8 @@ answer ns d m k = answer_of (walk (diagram ns d) m k) k
 abbrev pub IsNodeOf : List (Node Leaf) → ℕ → Node Leaf → Type 0
 IsNodeOf ns d (node.Leaf l) = diagram ns d ≡ Only l
 IsNodeOf ns d (node.Ask t y n) = (diagram ns d ≡ Asks t (diagram ns y) (diagram ns n)) × (y < d) × (n < d)
+
+-- the length of the longest path
+abbrev pub depth : Diagram → ℕ
+depth (Only l) = 0
+depth (Asks t y n) = 1 + max (depth y) (depth n)

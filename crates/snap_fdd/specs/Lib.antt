@@ -7,6 +7,7 @@ pub mod Contexts
 pub mod Subjects
 pub mod Picks
 pub mod Pruned
-pub mod Memoed
 pub mod Quiet
 pub mod Spots
+pub mod Tested
+pub mod Memoed

@@ -1,5 +1,5 @@
 -- Diagrams in which each way of each test is met.
-use Rattle.std.specs.Prelude.{◌≡◌, ◌⊎◌, ◌<◌, ℕ, Bool, true, false, List}
+use Rattle.std.specs.Prelude.{◌≡◌, ◌⊎◌, ◌<◌, ◌≤◌, ℕ, Bool, true, false, List}
 use Rattle.snap_core.specs.declared.policy.Test.{Test}
 use Rattle.snap_core.specs.declared.place.Entry.{Entry}
 use Rattle.snap_core.specs.Arrays.{Arrays}
@@ -11,10 +11,12 @@ use Rattle.snap_fdd.specs.declared.leaf.Leaf.{Leaf}
 use Rattle.snap_fdd.specs.declared.pruning.Part.{Part}
 use Rattle.snap_fdd.specs.declared.pruning.Part.TheVariants.{Whole, Split}
 use Rattle.snap_fdd.specs.Contexts.{Met, Under}
-use Rattle.snap_fdd.specs.Diagrams.{Diagram, Only, Asks, walk, diagram}
+use Rattle.snap_fdd.specs.Diagrams.{Diagram, Only, Asks, walk, depth, diagram}
 use Rattle.snap_fdd.specs.Order.{Above}
 use Rattle.snap_fdd.specs.Bounds.{Sizes}
 use Rattle.snap_fdd.specs.Picks.{IsDiagram, Where}
+use Rattle.snap_fdd.specs.declared.tested.Tested.{Tested}
+use Rattle.snap_fdd.specs.Tested.{TestsOver}
 
 -- some finite store and some packet are of a set of them
 pub record Someone (P : Arrays → List ℕ → Type 0) : Type 0 where
@@ -32,12 +34,14 @@ abbrev pub IsLive : (Arrays → List ℕ → Type 0) → Diagram → Type 0
 IsLive P (Only l) = Unit {0}
 IsLive P (Asks t y n) = Someone (With P t true) × Someone (With P t false) × IsLive (With P t true) y × IsLive (With P t false) n
 
--- r is d, without the ways that no store and packet that meet the context go
+-- r is d, with no test more, without the ways that no store and packet that meet the context go
 pub record IsPruned (ranks : List ℕ) (s : Sizes) (v : View) (d r : Diagram) : Type 0 where
   pub walks : Under v (λ m k. walk r m k ≡ walk d m k)
   pub keeps : IsDiagram ranks s r
   pub above : (low : Test) → Above ranks low d → Above ranks low r
   pub live : IsLive (Met v) r
+  pub tests : (e : Tested) → TestsOver e d → TestsOver e r
+  pub short : depth r ≤ depth d
 
 -- the diagram of a test with two ways, which is that of both where they are one
 abbrev pub IsShaped : Test → Diagram → Diagram → Diagram → Type 0

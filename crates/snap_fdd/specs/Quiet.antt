@@ -1,5 +1,5 @@
 -- Diagrams in which nothing can be dead: they test components for numbers, and places for numbers or one term, and no place can turn out to be another.
-use Rattle.std.specs.Prelude.{◌≡◌, ℕ, ◌+◌, ◌<◌, ◌≤◌, ◌^◌, max, Bool, true, false, Option, Some, None, List, length, slice_get, slice_index_or}
+use Rattle.std.specs.Prelude.{◌≡◌, ℕ, ◌<◌, ◌≤◌, ◌^◌, Bool, true, false, Option, Some, None, List, length, slice_get, slice_index_or}
 use Rattle.std.specs.declared.cmp.Ordering.TheVariants.{Less}
 use Rattle.std.specs.List.{AllByRecursion}
 use Rattle.snap_core.specs.declared.policy.Atom.{Atom}
@@ -68,8 +68,3 @@ pub record IsMarked (s : Survey) (ns : List (Node Leaf)) (marks : List Bool) : T
   pub clear : IsClear s
   pub few : length marks ≤ length ns
   pub quiet : (i : ℕ) → i < length marks → slice_index_or marks i false ≡ true → IsQuiet s (diagram ns i)
-
--- the length of the longest path
-abbrev pub depth : Diagram → ℕ
-depth (Only l) = 0
-depth (Asks t y n) = 1 + max (depth y) (depth n)

@@ -78,20 +78,22 @@ impl Updates {
     }
 }
 
-fn copy_outs(alloc: Global, outs: &[Out]) -> Result<Vec<Out>, NoMemory>
+/// The same outs.
+pub fn copy_outs(alloc: Global, outs: &[Out]) -> Result<Vec<Out>, NoMemory>
     ensures { IfOk result (λ copies. copies.items ≡ outs.now) }
 {
-    let mut copies = Vec::new(alloc);
+    let mut copies = Vec::with_capacity(alloc, outs.len())?;
     for out in outs {
         copies.push(out.copy()?)?;
     }
     Ok(copies)
 }
 
-fn copy_updates(alloc: Global, updates: &[Update]) -> Result<Vec<Update>, NoMemory>
+/// The same updates.
+pub fn copy_updates(alloc: Global, updates: &[Update]) -> Result<Vec<Update>, NoMemory>
     ensures { IfOk result (λ copies. copies.items ≡ updates.now) }
 {
-    let mut copies = Vec::new(alloc);
+    let mut copies = Vec::with_capacity(alloc, updates.len())?;
     for update in updates {
         copies.push(update.copy()?)?;
     }

@@ -9,10 +9,10 @@ pub mod order;
 pub mod pick;
 pub mod pruning;
 mod quiet;
-pub mod sets;
 mod spots;
 mod subject;
 mod survey;
+mod tested;
 #[cfg(test)]
 mod tests;
 pub mod walking;

@@ -1,19 +1,22 @@
 //! Diagrams without the ways that a context rules out.
 
-ghost use Rattle.std.specs.Prelude.{◌≡◌, ◌<◌, length, IfOk};
+ghost use Rattle.std.specs.Prelude.{◌≡◌, ◌<◌, ◌∷◌, ℕ, IfOk, IfSome, List, OnOk, length};
 ghost use Rattle.snap_arena.specs.Arena.{Grew};
 ghost use Rattle.snap_fdd.specs.Contexts.{Met, Under};
 ghost use Rattle.snap_fdd.specs.Diagrams.{diagram, answer};
 ghost use Rattle.snap_fdd.specs.Picks.{IsDiagram, sizes, IsArgument};
 ghost use Rattle.snap_fdd.specs.Pruned.{IsPruned, IsLive, IsPart};
-ghost use Rattle.snap_fdd.specs.Quiet.{IsMarked};
+ghost use Rattle.snap_fdd.specs.Memoed.{IsKeyFor, IsPlan, PrunedFor};
+ghost use Rattle.snap_arena.specs.Memos.{Remembers};
 
 use crate::leaf::Leaf;
 use crate::pick::{ask, look};
 use crate::quiet::{quiet_ones, stays};
-use crate::survey::{Survey, look_over};
+use crate::survey::{Survey, joins, look_over};
+use crate::tested::{Tested, mark_at, mark_tests};
 use snap_arena::node::Node;
 use snap_arena::nodes::Nodes;
+use snap_arena::numbers::Numbers;
 use snap_core::NoMemory;
 use snap_core::policy::Test;
 use snap_ctx::context::{Assumed, Context};
@@ -44,33 +47,103 @@ pub fn part_of(nodes: &Nodes<Leaf>, d: u64) -> Result<Part, NoMemory>
     }
 }
 
+/// What is looked up before pruning: what is tested at all, which numbers are of quiet diagrams, what
+/// each number's diagram tests, and which numbers are reached by several ways.
+#[derive(Debug, Drop)]
+pub struct Plan {
+    pub survey: Survey,
+    pub quiet: Vec<bool>,
+    pub tested: Vec<Tested>,
+    pub joins: Vec<bool>,
+}
+
+// Facts and nodes for which the model of a context is known to hold twice as many.
+const MOST_FACTS: u64 = 2_147_483_648;
+
+const MOST_NODES: u64 = 1_073_741_824;
+
+// What is known about what a diagram tests, with its number, where several ways lead to it.
+fn memo_key(
+    nodes: &Nodes<Leaf>,
+    ctx: &Context,
+    plan: &Plan,
+    d: u64,
+) -> Result<Option<Vec<u64>>, NoMemory>
+    requires d { d < length nodes.now }
+    requires plan { IsPlan plan.now nodes.now }
+    ensures { IfOk result (λ o. IfSome o (λ key. (q : List ℕ) × (key.items ≡ d ∷ q) × IsKeyFor plan.now.tested.items nodes.now ctx.now d q)) }
+{
+    let _arena = nodes.count();
+    if plan.joins.get(d as usize) != Some(&true) {
+        return Ok(None);
+    }
+    if d >= plan.tested.len() as u64 || d > MOST_NODES || ctx.facts().len() as u64 > MOST_FACTS {
+        return Ok(None);
+    }
+    let mark = mark_at(nodes, &plan.tested, d);
+    ctx.known(d, mark.comps, mark.arrays)
+}
+
+// A diagram pruned, which may be remembered.
+#[cycle(pruned)]
 fn pruned(
     nodes: &mut Nodes<Leaf>,
     groups: &Groups,
     ctx: &Context,
-    survey: &Survey,
-    quiet: &[bool],
+    plan: &Plan,
+    memo: &mut Numbers,
     d: u64,
 ) -> Result<u64, NoMemory>
     requires d { d < length nodes.old }
     requires diagram { IsDiagram groups.now.ranks (sizes groups.now ctx.now) (diagram nodes.old d) }
-    requires marked { IsMarked survey.now nodes.old quiet.now }
+    requires plan { IsPlan plan.now nodes.old }
+    requires memo { Remembers (PrunedFor groups.now.ranks (sizes groups.now ctx.now) plan.now.tested.items nodes.old) memo.old }
     ensures grew { Grew nodes.old nodes.new }
     ensures number { IfOk result (λ r. r < length nodes.new) }
     ensures pruned { IfOk result (λ r. IsPruned groups.now.ranks (sizes groups.now ctx.now) ctx.now (diagram nodes.old d) (diagram nodes.new r)) }
+    ensures memo { OnOk result (Remembers (PrunedFor groups.now.ranks (sizes groups.now ctx.now) plan.now.tested.items nodes.new) memo.new) }
 {
-    if stays(nodes, groups, ctx, survey, quiet, d)? {
+    if stays(nodes, groups, ctx, &plan.survey, &plan.quiet, d)? {
         return Ok(d);
     }
+    let Some(key) = memo_key(nodes, ctx, plan, d)? else {
+        return pruned_anew(nodes, groups, ctx, plan, memo, d);
+    };
+    if let Some(r) = memo.get(&key) {
+        return Ok(r);
+    }
+    let r = pruned_anew(nodes, groups, ctx, plan, memo, d)?;
+    memo.put(key, r)?;
+    Ok(r)
+}
+
+#[cycle(pruned)]
+fn pruned_anew(
+    nodes: &mut Nodes<Leaf>,
+    groups: &Groups,
+    ctx: &Context,
+    plan: &Plan,
+    memo: &mut Numbers,
+    d: u64,
+) -> Result<u64, NoMemory>
+    requires d { d < length nodes.old }
+    requires diagram { IsDiagram groups.now.ranks (sizes groups.now ctx.now) (diagram nodes.old d) }
+    requires plan { IsPlan plan.now nodes.old }
+    requires memo { Remembers (PrunedFor groups.now.ranks (sizes groups.now ctx.now) plan.now.tested.items nodes.old) memo.old }
+    ensures grew { Grew nodes.old nodes.new }
+    ensures number { IfOk result (λ r. r < length nodes.new) }
+    ensures pruned { IfOk result (λ r. IsPruned groups.now.ranks (sizes groups.now ctx.now) ctx.now (diagram nodes.old d) (diagram nodes.new r)) }
+    ensures memo { OnOk result (Remembers (PrunedFor groups.now.ranks (sizes groups.now ctx.now) plan.now.tested.items nodes.new) memo.new) }
+{
     match part_of(nodes, d)? {
         Part::Whole => Ok(d),
         Part::Split { test, yes, no } => match ctx.assume(&test, true)? {
-            Assumed::Impossible => pruned(nodes, groups, ctx, survey, quiet, no),
+            Assumed::Impossible => pruned(nodes, groups, ctx, plan, memo, no),
             Assumed::More(yes_ctx) => match ctx.assume(&test, false)? {
-                Assumed::Impossible => pruned(nodes, groups, ctx, survey, quiet, yes),
+                Assumed::Impossible => pruned(nodes, groups, ctx, plan, memo, yes),
                 Assumed::More(no_ctx) => {
-                    let y = pruned(nodes, groups, &yes_ctx, survey, quiet, yes)?;
-                    let n = pruned(nodes, groups, &no_ctx, survey, quiet, no)?;
+                    let y = pruned(nodes, groups, &yes_ctx, plan, memo, yes)?;
+                    let n = pruned(nodes, groups, &no_ctx, plan, memo, no)?;
                     ask(nodes, groups, ctx, test, y, n)
                 }
             },
@@ -94,5 +167,17 @@ pub fn prune(
 {
     let survey = look_over(nodes, groups.count(), d)?;
     let quiet = quiet_ones(nodes, &survey, d)?;
-    pruned(nodes, groups, ctx, &survey, &quiet, d)
+    if stays(nodes, groups, ctx, &survey, &quiet, d)? {
+        return Ok(d);
+    }
+    let tested = mark_tests(nodes, d)?;
+    let joins = joins(nodes, d)?;
+    let plan = Plan {
+        survey,
+        quiet,
+        tested,
+        joins,
+    };
+    let mut memo = Numbers::new(nodes.allocator());
+    pruned(nodes, groups, ctx, &plan, &mut memo, d)
 }

@@ -3,11 +3,11 @@
 ghost use Rattle.std.specs.Prelude.{◌≡◌, ◌↔◌, IsTrue, MatchOption};
 ghost use Rattle.std.specs.List.{AllByRecursion};
 
-use crate::sets::is_in;
 use snap_arena::equal::same_index;
 use snap_core::NoMemory;
 use snap_core::lists::Atoms;
 use snap_core::policy::{Atom, Term};
+use snap_ctx::sets::is_in;
 
 /// What a place is tested for.
 #[derive(Clone, Copy, Debug, PartialEq, Eq)]

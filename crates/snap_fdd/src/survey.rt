@@ -7,13 +7,13 @@ ghost use Rattle.snap_fdd.specs.Quiet.{AtomIsFree, IndexIsFine, IsClear, IsFine,
 ghost use Rattle.snap_fdd.specs.Spots.{IsNumber};
 
 use crate::leaf::Leaf;
-use crate::sets::is_in;
 use crate::spots::{Spot, is_at, note_spot, spots_apart};
 use snap_arena::node::Node;
 use snap_arena::nodes::Nodes;
 use snap_core::NoMemory;
 use snap_core::lists::Atoms;
 use snap_core::policy::{Atom, Term, Test};
+use snap_ctx::sets::is_in;
 use std::alloc::Global;
 
 /// At which places an array is tested.
@@ -53,6 +53,37 @@ fn reached(nodes: &Nodes<Leaf>, root: u64) -> Result<Vec<bool>, NoMemory>
         }
     }
     Ok(reached)
+}
+
+// Marks a number that is met, and one that is met again.
+fn meet(once: &mut [bool], again: &mut [bool], id: usize)
+    ensures { (length once.new ≡ length once.old) × (length again.new ≡ length again.old) }
+{
+    if id < once.len() && id < again.len() {
+        if once[id] {
+            again[id] = true;
+        }
+        once[id] = true;
+    }
+}
+
+/// Which numbers are ways of several tests that are reached from `root`.
+pub fn joins(nodes: &Nodes<Leaf>, root: u64) -> Result<Vec<bool>, NoMemory>
+    requires { root < length nodes.now }
+{
+    let reached = reached(nodes, root)?;
+    let mut once = vec![in nodes.allocator(); false; reached.len()]?;
+    let mut again = vec![in nodes.allocator(); false; reached.len()]?;
+    for id in 0..reached.len() {
+        if reached[id] {
+            if let Node::Ask { yes, no, .. } = nodes.get(id as u64) {
+                for way in [*yes, *no] {
+                    meet(&mut once, &mut again, way as usize);
+                }
+            }
+        }
+    }
+    Ok(again)
 }
 
 impl Survey {

@@ -9,8 +9,8 @@ ghost use Rattle.snap_join.specs.Joined.{only, beside_leaf, both_leaf, either_le
 use snap_core::NoMemory;
 use snap_core::lists::Out;
 use snap_core::policy::Update;
+use snap_ctx::sets::is_in;
 use snap_fdd::leaf::{Go, Leaf, Outs, Updates};
-use snap_fdd::sets::is_in;
 use std::alloc::Global;
 
 /// How two leaves are combined.
@@ -74,36 +74,28 @@ fn go_beside(alloc: Global, a: &Go, b: &Go) -> Result<Leaf, NoMemory>
     }))
 }
 
-fn copy_outs(alloc: Global, outs: &[Out]) -> Result<Outs, NoMemory>
-    ensures { IfOk result (λ o. o ≡ outs.now) }
-{
-    let mut copy = Vec::new(alloc);
-    push_outs(&mut copy, outs)?;
-    Ok(Outs::new(copy))
-}
-
-fn outs_of_both(alloc: Global, a: &[Out], b: &[Out]) -> Result<Outs, NoMemory>
+fn outs_of_both(alloc: Global, a: &Outs, b: &Outs) -> Result<Outs, NoMemory>
     ensures { IfOk result (λ o. o ≡ both_outs a.now b.now) }
 {
-    if a.is_empty() {
-        return copy_outs(alloc, a);
+    if a.list().is_empty() {
+        return a.copy(alloc);
     }
-    copy_outs(alloc, b)
+    b.copy(alloc)
 }
 
-fn outs_of_either(alloc: Global, a: &[Out], b: &[Out]) -> Result<Outs, NoMemory>
+fn outs_of_either(alloc: Global, a: &Outs, b: &Outs) -> Result<Outs, NoMemory>
     ensures { IfOk result (λ o. o ≡ either_outs a.now b.now) }
 {
-    if a.is_empty() {
-        return copy_outs(alloc, b);
+    if a.list().is_empty() {
+        return b.copy(alloc);
     }
-    copy_outs(alloc, a)
+    a.copy(alloc)
 }
 
 fn go_both(alloc: Global, a: &Go, b: &Go) -> Result<Leaf, NoMemory>
     ensures { IfOk result (λ l. l ≡ both_leaf (Goes a.now) (Goes b.now)) }
 {
-    let outs = outs_of_both(alloc, a.outs.list(), b.outs.list())?;
+    let outs = outs_of_both(alloc, &a.outs, &b.outs)?;
     Ok(Leaf::Go(Go {
         outs,
         ups: Updates::new(Vec::new(alloc)),
@@ -115,7 +107,7 @@ fn go_both(alloc: Global, a: &Go, b: &Go) -> Result<Leaf, NoMemory>
 fn go_either(alloc: Global, a: &Go, b: &Go) -> Result<Leaf, NoMemory>
     ensures { IfOk result (λ l. l ≡ either_leaf (Goes a.now) (Goes b.now)) }
 {
-    let outs = outs_of_either(alloc, a.outs.list(), b.outs.list())?;
+    let outs = outs_of_either(alloc, &a.outs, &b.outs)?;
     Ok(Leaf::Go(Go {
         outs,
         ups: Updates::new(Vec::new(alloc)),
@@ -124,21 +116,11 @@ fn go_either(alloc: Global, a: &Go, b: &Go) -> Result<Leaf, NoMemory>
     }))
 }
 
-fn copy_updates(alloc: Global, updates: &[Update]) -> Result<Updates, NoMemory>
-    ensures { IfOk result (λ u. u ≡ updates.now) }
-{
-    let mut copies = Vec::new(alloc);
-    for update in updates {
-        copies.push(update.copy()?)?;
-    }
-    Ok(Updates::new(copies))
-}
-
 fn go_logged(alloc: Global, a: &Go, b: &Go) -> Result<Leaf, NoMemory>
     ensures { IfOk result (λ l. l ≡ logged_leaf (Goes a.now) (Goes b.now)) }
 {
-    let outs = copy_outs(alloc, b.outs.list())?;
-    let ups = copy_updates(alloc, b.ups.list())?;
+    let outs = b.outs.copy(alloc)?;
+    let ups = b.ups.copy(alloc)?;
     Ok(Leaf::Go(Go {
         outs,
         ups,

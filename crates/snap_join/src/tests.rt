@@ -205,13 +205,14 @@ fn a_clash_races_and_a_test_or_its_negation_passes(rt: HostRuntime) -> Result<()
 }
 
 // What is tested: pairs of places of one array, or of an array each, numbers of one field, and
-// pairs of fields far apart.
+// pairs of fields far apart; or two numbers of fields, and pairs of places that these fields index.
 #[derive(Clone, Copy)]
 enum Shape {
     OneArray,
     Arrays,
     Numbers,
     FarApart,
+    MayMeet,
 }
 
 // The two tests of a part, and what they read.
@@ -235,6 +236,22 @@ fn tests_of(alloc: Global, shape: Shape, number: u16) -> Result<(Test, Test, u64
                 Test::Value { comp: 2, num },
                 0,
             ))
+        }
+        Shape::MayMeet if number < 2 => Ok((
+            Test::Value {
+                comp: first,
+                num: 7,
+            },
+            Test::Value {
+                comp: first,
+                num: 7,
+            },
+            0,
+        )),
+        Shape::MayMeet => {
+            let place = first.wrapping_sub(4);
+            let next = place.wrapping_add(1);
+            Ok((state(alloc, 0, place)?, state(alloc, 0, next)?, 1))
         }
         Shape::FarApart => {
             let later = number.wrapping_add(12);
@@ -338,5 +355,6 @@ fn disjunctions_have_few_nodes(rt: HostRuntime) -> Result<(), Fail> {
     assert_eq!(rt; nodes_of(&rt, alloc, Shape::Arrays, 24, 48, 24)?, 50);
     assert_eq!(rt; nodes_of(&rt, alloc, Shape::Numbers, 500, 4, 1)?, 502);
     assert_eq!(rt; nodes_of(&rt, alloc, Shape::FarApart, 12, 24, 1)?, 8192);
+    assert_eq!(rt; nodes_of(&rt, alloc, Shape::MayMeet, 26, 48, 1)?, 52);
     Ok(())
 }

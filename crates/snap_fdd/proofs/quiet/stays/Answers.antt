@@ -4,8 +4,8 @@ use Rattle.std.specs.Prelude.{slice_index_or}
 use Rattle.std.specs.List.{AllByRecursion}
 use Rattle.std.proofs.lemmas.Result.{IfOk-weaker}
 use Rattle.snap_ctx.specs.declared.fact.Fact.{Fact}
-use Rattle.snap_fdd.specs.Diagrams.{diagram, IsNodeOf}
-use Rattle.snap_fdd.specs.Quiet.{StandsBefore, depth}
+use Rattle.snap_fdd.specs.Diagrams.{diagram, depth, IsNodeOf}
+use Rattle.snap_fdd.specs.Quiet.{StandsBefore}
 use Rattle.snap_fdd.proofs.Quieting.{depth_le, stays_live}
 use Rattle.snap_fdd.proofs.quiet.stays.Goals as goal
 

@@ -2,7 +2,7 @@
 use Rattle.std.proofs.Common.{rules, arith}
 use Rattle.std.proofs.lemmas.Nat.Bits.{bit_at_above}
 use Rattle.snap_core.proofs.Unwritten.{without}
-use Rattle.snap_fdd.proofs.sets.is_in.Goals as goal
+use Rattle.snap_ctx.proofs.sets.is_in.Goals as goal
 
 pub returns-else-number-lt64 : goal.returns-else-number-lt64
 returns-else-number-lt64 c =

@@ -1,0 +1,22 @@
+-- The updates in order do the same.
+use Rattle.std.proofs.Common.{List, subst, sym}
+use Rattle.std.specs.Prelude.{All}
+use Rattle.std.proofs.lemmas.List.Sorted.{All-permutation}
+use Rattle.std.proofs.lemmas.Result.{IfOk-weaker}
+use Rattle.snap_core.specs.declared.policy.Update.{Update}
+use Rattle.snap_fdd.specs.Bounds.{UpdateIn}
+use Rattle.snap_fdd.specs.Diagrams.{diagram}
+use Rattle.snap_fdd.specs.Picks.{sizes}
+use Rattle.snap_chain.specs.Late.{IsLate}
+use Rattle.snap_chain.proofs.Adding.{late_same}
+use Rattle.snap_chain.proofs.late.after_marked.Goals as goal
+
+pub later-requires-clause-ups : goal.later-requires-clause-ups
+later-requires-clause-ups c =
+    subst (λ (us : List Update). All (UpdateIn (sizes c.args.groups.now c.args.ctx.now)) us) (sym c.deref.ensures.value)
+    (All-permutation (UpdateIn (sizes c.args.groups.now c.args.ctx.now)) c.args.ups.now c.in_ok-ups.ups.items c.in_ok-ups.ensures.permuted c.requires.ups)
+
+pub returns-clause-late : goal.returns-clause-late
+returns-clause-late c =
+    IfOk-weaker c.later.result _ _ (λ r l. late_same c.args.groups.now c.args.ctx.now c.args.out.now c.args.ups.now c.in_ok-ups.ups.items (diagram c.args.nodes.now c.args.d) (diagram c.later.new.nodes r) c.in_ok-ups.ensures.same
+    (subst (λ (us : List Update). IsLate c.args.groups.now c.args.ctx.now c.args.out.now us (diagram c.args.nodes.now c.args.d) (diagram c.later.new.nodes r)) c.deref.ensures.value l)) c.later.ensures.late

@@ -1,0 +1,55 @@
+//! Additions in the order in which their tests come: what is added first and what last makes no difference.
+
+ghost use Rattle.std.specs.Prelude.{◌≡◌, ℕ, IfOk, IsTrue, List};
+ghost use Rattle.std.specs.List.{AllByRecursion};
+ghost use Rattle.std.specs.List.Sorted.{IsPermutation};
+ghost use Rattle.snap_core.specs.Arrays.{Arrays, updates};
+ghost use Rattle.snap_ctx.specs.Meets.{IsStore};
+ghost use Rattle.snap_chain.specs.Additions.{Adds};
+
+use snap_core::NoMemory;
+use snap_core::policy::{Atom, Op, Update};
+use snap_fdd::leaf::copy_updates;
+use std::alloc::Global;
+use std::cmp::Ordering;
+
+fn adds(update: &Update) -> bool
+    ensures { IsTrue result → Adds update.now }
+{
+    match update.op {
+        Op::Put(_) => false,
+        Op::Add(_) => true,
+    }
+}
+
+fn all_add(ups: &[Update]) -> bool
+    ensures { IsTrue result → AllByRecursion Adds ups.now }
+{
+    ups.iter().all(|update| adds(update))
+}
+
+// What an index begins with: numbers come before components.
+fn begins(update: &Update) -> (u32, u64) {
+    match update.index.list().first() {
+        None => (0, 0),
+        Some(Atom::Num(num)) => (0, *num),
+        Some(Atom::Comp(comp)) => (1, *comp as u64),
+    }
+}
+
+fn falling(a: &Update, b: &Update) -> Ordering {
+    begins(b).cmp(&begins(a))
+}
+
+/// Updates that do the same. Where all are additions, those whose places are tested first come last: a
+/// test behind them asks about the last one first, and so makes few nodes.
+pub(crate) fn ordered(alloc: Global, ups: &[Update]) -> Result<Vec<Update>, NoMemory>
+    ensures same { IfOk result (λ o. (m : Arrays) (k : List ℕ) → IsStore m → updates m o.items k ≡ updates m ups.now k) }
+    ensures permuted { IfOk result (λ o. IsPermutation ups.now o.items) }
+{
+    let mut ordered = copy_updates(alloc, ups)?;
+    if all_add(ups) {
+        ordered.sort_by(|a, b| falling(a, b))?;
+    }
+    Ok(ordered)
+}

@@ -1,0 +1,188 @@
+//! What a context knows about some components and arrays, as a list of numbers.
+
+ghost use Rattle.std.specs.Prelude.{◌≡◌, ◌≤◌, ◌∷◌, ◌++◌, ℕ, All, IfOk, IfSome, List, OnOk, length, map};
+ghost use Rattle.snap_ctx.specs.Classes.{atom_class, normal, IsAtom, IsTerm, IsTest};
+ghost use Rattle.snap_ctx.specs.Known.{all_known, apart_of, classes_key, held_of, known, normals_key, some_key, spot_key, term_key, IsKnown};
+
+use crate::classes::{atom_at, class_at, normal_at};
+use crate::fact::Fact;
+use crate::rooted::{is_tied, rooted, term_within};
+use crate::sets::is_in;
+use crate::settled::settled;
+use snap_core::NoMemory;
+use snap_core::policy::{Atom, Term, Test};
+use std::alloc::Global;
+
+// Adds the numbers of a class.
+fn push_term(key: &mut Vec<u64>, term: Term) -> Result<(), NoMemory>
+    ensures { OnOk result (key.new.items ≡ key.old.items ++ term_key term) }
+{
+    match term {
+        Term::Num(num) => {
+            key.push(0)?;
+            key.push(num)?;
+        }
+        Term::Plus { comp, plus } => {
+            key.push(1)?;
+            key.push(comp as u64)?;
+            key.push(plus)?;
+        }
+    }
+    Ok(())
+}
+
+// Adds the numbers of an index's classes.
+fn push_spot(key: &mut Vec<u64>, classes: &[Term], index: &[Atom]) -> Result<(), NoMemory>
+    requires { All (IsAtom (length classes.now)) index.now }
+    ensures { OnOk result (key.new.items ≡ key.old.items ++ spot_key (map (atom_class classes.now) index.now)) }
+{
+    for atom in index {
+        push_term(key, atom_at(classes, *atom))?;
+    }
+    key.push(2)?;
+    Ok(())
+}
+
+// Adds what a place holds or doesn't, where its roots are in the set.
+fn push_held(
+    key: &mut Vec<u64>,
+    classes: &[Term],
+    roots: u64,
+    var: u16,
+    index: &[Atom],
+    value: Term,
+    yes: bool,
+) -> Result<(), NoMemory>
+    requires index { All (IsAtom (length classes.now)) index.now }
+    requires value { IsTerm (length classes.now) value }
+    ensures { OnOk result (key.new.items ≡ key.old.items ++ some_key (held_of roots var (map (atom_class classes.now) index.now) (normal classes.now value) yes)) }
+{
+    if is_tied(classes, roots, index, value) {
+        key.push(1)?;
+        key.push(var as u64)?;
+        key.push(yes as u64)?;
+        push_spot(key, classes, index)?;
+        push_term(key, normal_at(classes, value))?;
+    }
+    Ok(())
+}
+
+// Adds two classes that differ, where their roots are in the set. The classes tell those that don't.
+fn push_apart(
+    key: &mut Vec<u64>,
+    roots: u64,
+    left: Term,
+    right: Term,
+    yes: bool,
+) -> Result<(), NoMemory>
+    ensures { OnOk result (key.new.items ≡ key.old.items ++ some_key (apart_of roots yes left right)) }
+{
+    if !yes && term_within(roots, left) && term_within(roots, right) {
+        key.push(0)?;
+        push_term(key, left)?;
+        push_term(key, right)?;
+    }
+    Ok(())
+}
+
+fn push_fact(
+    key: &mut Vec<u64>,
+    classes: &[Term],
+    roots: u64,
+    settled: u64,
+    fact: &Fact,
+) -> Result<(), NoMemory>
+    requires { IsTest (length classes.now) fact.now.test }
+    ensures { OnOk result (key.new.items ≡ key.old.items ++ some_key (known classes.now roots settled fact.now.test fact.now.yes)) }
+{
+    match fact.test.test() {
+        Test::State { var, index, value } => {
+            if is_in(settled, *var) {
+                return Ok(());
+            }
+            push_held(key, classes, roots, *var, index.list(), *value, fact.yes)
+        }
+        Test::Value { comp, num } => {
+            let left = normal_at(
+                classes,
+                Term::Plus {
+                    comp: *comp,
+                    plus: 0,
+                },
+            );
+            push_apart(key, roots, left, Term::Num(*num), fact.yes)
+        }
+        Test::Equal { left, right, plus } => {
+            let first = normal_at(
+                classes,
+                Term::Plus {
+                    comp: *left,
+                    plus: 0,
+                },
+            );
+            let second = normal_at(
+                classes,
+                Term::Plus {
+                    comp: *right,
+                    plus: *plus,
+                },
+            );
+            push_apart(key, roots, first, second, fact.yes)
+        }
+    }
+}
+
+// Adds the facts whose roots are in a set, by the classes, without those on settled arrays.
+fn push_facts(
+    key: &mut Vec<u64>,
+    classes: &[Term],
+    roots: u64,
+    settled: u64,
+    facts: &[Fact],
+) -> Result<(), NoMemory>
+    requires { All (λ f. IsTest (length classes.now) f.test) facts.now }
+    ensures { OnOk result (key.new.items ≡ key.old.items ++ normals_key (all_known classes.now roots settled facts.now)) }
+{
+    for fact in facts {
+        push_fact(key, classes, roots, settled, fact)?;
+    }
+    Ok(())
+}
+
+// Adds the classes of the components of a set.
+fn push_classes(key: &mut Vec<u64>, classes: &[Term], comps: u64) -> Result<(), NoMemory>
+    requires { length classes.now ≤ 64 }
+    ensures { OnOk result (key.new.items ≡ key.old.items ++ classes_key comps 0 classes.now) }
+{
+    for comp in 0..classes.len() as u16 {
+        if is_in(comps, comp) {
+            push_term(key, class_at(classes, comp))?;
+        }
+    }
+    Ok(())
+}
+
+/// The label, and behind it what classes and facts tell about the components and arrays of two sets.
+/// None where no set of roots was found by which the facts fall apart.
+pub(crate) fn known(
+    alloc: Global,
+    classes: &[Term],
+    facts: &[Fact],
+    label: u64,
+    comps: u64,
+    arrays: u64,
+) -> Result<Option<Vec<u64>>, NoMemory>
+    requires few { length classes.now ≤ 64 }
+    requires tests { All (λ f. IsTest (length classes.now) f.test) facts.now }
+    ensures { IfOk result (λ o. IfSome o (λ key. (q : List ℕ) × (key.items ≡ label ∷ q) × IsKnown (record { facts = facts.now; classes = classes.now }) comps arrays q)) }
+{
+    let settled = settled(classes, arrays, facts);
+    let Some(roots) = rooted(classes, comps, settled, facts) else {
+        return Ok(None);
+    };
+    let mut key = Vec::new(alloc);
+    key.push(label)?;
+    push_classes(&mut key, classes, comps)?;
+    push_facts(&mut key, classes, roots, settled, facts)?;
+    Ok(Some(key))
+}

@@ -1,0 +1,10 @@
+-- A test, and what stands on its ways.
+use Rattle.std.proofs.Common.{subst}
+use Rattle.snap_fdd.specs.Diagrams.{IsNodeOf, diagram}
+use Rattle.snap_fdd.proofs.Testing.{over_asks}
+use Rattle.snap_fdd.proofs.tested.next_tested.Goals as goal
+
+pub returns-in-Ask : goal.returns-in-Ask
+returns-in-Ask c =
+    let l = subst (IsNodeOf c.args.nodes.now c.args.d) c.in-Ask.is c.look.ensures in
+    rw (c.either.ensures, c.either-ways.ensures) (over_asks c.test_tested.result c.mark_at.result c.mark_at-in-Ask.result c.in-Ask.test (diagram c.args.nodes.now c.in-Ask.yes) (diagram c.args.nodes.now c.in-Ask.no) (diagram c.args.nodes.now c.args.d) l.0 c.test_tested.ensures.over c.test_tested.ensures.range c.mark_at.ensures.over c.mark_at-in-Ask.ensures.over)
