@@ -1,0 +1,15 @@
+pub mod Rows
+pub mod Ports
+pub mod Ways
+pub mod Stages
+pub mod Own
+pub mod Visited
+pub mod Later
+pub mod Seen
+pub mod Plans
+pub mod Arrives
+pub mod Spots
+pub mod Firsts
+pub mod Marking
+pub mod Short
+pub mod Falls

@@ -1,0 +1,160 @@
+//! Looking up rows, hops, ports and ranks.
+
+ghost use Rattle.std.specs.Prelude.{◌≡◌, ◌==◌, Some, map, option_map, IfSome, is_some, ◌<◌, All};
+ghost use Rattle.std.specs.List.{list_any};
+ghost use Rattle.snap_core.specs.declared.ports.PortAt.{PortAt};
+ghost use Rattle.snap_rows.specs.declared.tables.ArrayAt.{ArrayAt};
+ghost use Rattle.snap_rows.specs.declared.tables.Row.{Row};
+ghost use Rattle.snap_rows.specs.Form.{IsRowInForm, IsInForm, array_count, switch_count};
+ghost use Rattle.snap_rows.specs.Rules.{IsValid};
+ghost use Rattle.snap_rows.specs.Entries.{row_in, row_at, hop_in, next, port_in, port_at, rank_in, rank_at, rank_of, ranks, ranks_in, var_of, owner_of};
+
+use crate::tables::{ArrayAt, Hop, Row, RowAt};
+use crate::valid::Valid;
+use snap_core::policy::Test;
+use snap_core::ports::PortAt;
+
+impl Valid {
+    /// The row of a switch and number.
+    pub(crate) fn row(&self, at: u16, number: u64) -> Option<&Row>
+        ensures row { option_map (λ r. r.now) result ≡ row_at self.now at number }
+        ensures form { IfSome result (λ r. IsRowInForm self.now r.now) }
+        ensures valid { IsValid self.now }
+        ensures all_form { IsInForm self.now }
+    {
+        row(self.tables().rows.items(), at, number)
+    }
+
+    /// The next hop of a switch towards another.
+    pub(crate) fn next(&self, at: u16, target: u16) -> u16
+        ensures { result ≡ next self.now at target }
+    {
+        next(self.tables().hops.items(), at, target)
+    }
+
+    /// The switch of a port.
+    pub fn port_at(&self, port: u64) -> Option<u16>
+        ensures { result ≡ port_at self.now port }
+    {
+        port_at(self.tables().ports.items(), port)
+    }
+
+    /// The switch of an array.
+    pub fn owner_of(&self, var: u16) -> u16
+        requires { var < array_count self.now }
+        ensures owner { owner_of self.now var ≡ Some result }
+        ensures below { result < switch_count self.now }
+    {
+        let tables = self.tables();
+        tables.arrays.items()[var as usize].at
+    }
+
+    /// The rank of a state test's array.
+    pub(crate) fn rank_of(&self, test: &Test) -> u16
+        ensures { result ≡ rank_of self.now (var_of test.now) }
+    {
+        match test {
+            Test::State { var, .. } => self.rank(*var),
+            Test::Value { .. } => self.rank(0),
+            Test::Equal { .. } => self.rank(0),
+        }
+    }
+
+    /// The rank of an array.
+    pub(crate) fn rank(&self, var: u16) -> u16
+        ensures { result ≡ rank_of self.now var }
+    {
+        match self.tables().arrays.items().get(var as usize) {
+            Some(array) => array.rank,
+            None => 0,
+        }
+    }
+
+    /// The number of ranks.
+    pub(crate) fn ranks(&self) -> u16
+        ensures { result ≡ ranks self.now }
+    {
+        ranks(self.tables().arrays.items())
+    }
+
+    /// The owner of a rank.
+    pub(crate) fn rank_at(&self, rank: u16) -> Option<u16>
+        ensures { result ≡ rank_at self.now rank }
+    {
+        rank_at(self.tables().arrays.items(), rank)
+    }
+}
+
+pub(crate) fn row(rows: &[RowAt], at: u16, number: u64) -> Option<&Row>
+    ensures { option_map (λ r. r.now) result ≡ row_in rows.now at number }
+{
+    for row in rows {
+        if row.at == at && row.number == number {
+            return Some(&row.row);
+        }
+    }
+    None
+}
+
+/// The next hop of a switch towards another.
+pub(crate) fn next(hops: &[Hop], at: u16, target: u16) -> u16
+    ensures { result ≡ hop_in hops.now at target }
+{
+    for hop in hops {
+        if hop.from == at && hop.target == target {
+            return hop.next;
+        }
+    }
+    at
+}
+
+/// The switch of a port.
+fn port_at(ports: &[PortAt], port: u64) -> Option<u16>
+    ensures { result ≡ port_in ports.now port }
+{
+    for entry in ports {
+        if entry.port as u64 == port {
+            return Some(entry.at);
+        }
+    }
+    None
+}
+
+/// The owner of a rank.
+fn rank_at(arrays: &[ArrayAt], rank: u16) -> Option<u16>
+    ensures { result ≡ rank_in arrays.now rank }
+{
+    for array in arrays {
+        if array.rank == rank {
+            return Some(array.at);
+        }
+    }
+    None
+}
+
+/// The port of this number.
+pub(crate) fn port_of(ports: &[PortAt], number: u64) -> Option<u32>
+    ensures some { is_some result ≡ list_any (λ port. port == number) (map (λ (p : PortAt). p.port) ports.now) }
+    ensures same { IfSome result (λ port. port ≡ number) }
+{
+    for entry in ports {
+        if entry.port as u64 == number {
+            return Some(entry.port);
+        }
+    }
+    None
+}
+
+// The number of ranks.
+pub(crate) fn ranks(arrays: &[ArrayAt]) -> u16
+    requires { All (λ (a : ArrayAt). a.rank < 64) arrays.now }
+    ensures { result ≡ ranks_in arrays.now }
+{
+    let mut most = 0;
+    for array in arrays {
+        if most < array.rank + 1 {
+            most = array.rank + 1;
+        }
+    }
+    most
+}
