@@ -1,11 +1,10 @@
 -- A forwarded head is at home where it goes.
-use Rattle.std.proofs.Common.{◌≡◌, ◌≢◌, ℕ, zero, suc, add-one, ◌+◌, ◌<◌, ◌≤◌, Bool, true, false, List, [], ◌∷◌, ◌++◌, map, drop, Option, Some, None, length, refl, sym, ap, subst, ◌∙◌, arith, inl, inr, ⊎_elim, ◌⊎◌}
+use Rattle.std.proofs.Common.{◌≡◌, ◌≢◌, ℕ, zero, suc, add-one, ◌+◌, ◌<◌, Bool, true, false, List, [], ◌∷◌, ◌++◌, map, drop, Option, Some, None, length, refl, sym, ap, subst, ◌∙◌, arith}
 use Rattle.std.specs.Prelude.{slice_get, ◌==◌, ◌&&◌, if◌then◌else◌, slice_index, slice_set, IfSome, IsSome, is_some, Contains}
 use Rattle.std.specs.List.{All, filter}
 use Rattle.std.proofs.lemmas.Bool.{eqb-true, eq-eqb, false≢true}
-use Rattle.std.proofs.lemmas.List.Elements.{All-append, All-contains_itself, All-cons}
+use Rattle.std.proofs.lemmas.List.Elements.{All-contains_itself, All-cons}
 use Rattle.std.proofs.lemmas.Option.{slice_get_within, slice_get-get_or}
-use Rattle.snap_core.specs.declared.policy.Update.{Update}
 use Rattle.snap_core.specs.Arrays.{Arrays, value_of}
 use Rattle.snap_core.specs.Switch.{goes_out}
 use Rattle.snap_core.specs.Packets.{PacketSet, AllLong, listed, no_packets, with_packet}
@@ -21,14 +20,14 @@ use Rattle.snap_rows.specs.declared.tables.Spot.TheVariants as spot
 use Rattle.snap_rows.specs.declared.tables.Stage.{Stage as Turn}
 use Rattle.snap_rows.specs.declared.tables.Tables.{Tables}
 use Rattle.snap_rows.specs.declared.head.Head.{Head}
-use Rattle.snap_rows.specs.declared.head.Head.TheVariants.{Walk, Stage as AtStage, Out, Visit}
+use Rattle.snap_rows.specs.declared.head.Head.TheVariants.{Walk, Stage as AtStage, Visit}
 use Rattle.snap_rows.specs.declared.head.Action.{Action}
-use Rattle.snap_rows.specs.Entries.{Parts, row_at, node_of, next, rank_at, ranks, hop_in, port_at, port_numbers}
-use Rattle.snap_rows.specs.Form.{IsInForm, IsRowInForm, IsTurnInForm, IsHopInForm, IsArrayInForm, switch_count}
+use Rattle.snap_rows.specs.Entries.{Parts, row_at, node_of, next, rank_at, hop_in, port_numbers}
+use Rattle.snap_rows.specs.Form.{IsInForm, IsTurnInForm, IsHopInForm, IsArrayInForm, switch_count}
 use Rattle.snap_rows.specs.Ways.{Way, here, on, Route, end, leg}
 use Rattle.snap_rows.specs.Rules.{IsValid, HopKeeps, IsStateRow}
-use Rattle.snap_rows.specs.Handles.{Handles, Visits, asks, goes, forks, begins, passes_on, goes_on, completes, enters, enters_last, seeks, visits, concludes, delivers, carries, is_field, side, sent, forked}
-use Rattle.snap_rows.specs.Home.{AtHome, IsStageAtHome, IsVisitAtHome, IsVisited}
+use Rattle.snap_rows.specs.Handles.{Handles, asks, goes, forks, begins, passes_on, goes_on, completes, enters, enters_last, seeks, visits, concludes, delivers, carries, is_field, sent, forked}
+use Rattle.snap_rows.specs.Home.{AtHome, IsStageAtHome}
 use Rattle.snap_rows.specs.Steps.{Arrives, IsSent}
 use Rattle.snap_rows.proofs.Rows.{row_keeps, row_form, All-get, some_injective, nodes}
 use Rattle.snap_rows.proofs.Ways.{side_goes}

@@ -1,5 +1,5 @@
 -- What plans do.
-use Rattle.std.proofs.Common.{◌≡◌, ◌≢◌, ℕ, ◌+◌, ◌<◌, ◌≤◌, Bool, true, false, List, [], ◌∷◌, Option, Some, length, refl, sym, ap, subst, ◌∙◌, arith}
+use Rattle.std.proofs.Common.{◌≡◌, ◌≢◌, ℕ, ◌+◌, ◌<◌, ◌≤◌, Bool, false, List, [], Some, length, sym, subst, ◌∙◌, arith}
 use Rattle.std.specs.Prelude.{slice_get, ◌==◌}
 use Rattle.std.specs.List.{All}
 use Rattle.std.proofs.lemmas.Bool.{false≢true}
@@ -10,7 +10,7 @@ use Rattle.snap_core.specs.Arrays.{Arrays, updates}
 use Rattle.snap_core.specs.Fits.{UpdateReads}
 use Rattle.snap_core.specs.Tests.{OutFits}
 use Rattle.snap_rows.specs.declared.head.Head.{Head}
-use Rattle.snap_rows.specs.declared.head.Head.TheVariants.{Walk, Stage as AtStage, Visit}
+use Rattle.snap_rows.specs.declared.head.Head.TheVariants.{Stage as AtStage}
 use Rattle.snap_rows.specs.declared.head.Action.{Action}
 use Rattle.snap_rows.specs.declared.head.Action.TheVariants.{Forward}
 use Rattle.snap_rows.specs.declared.plan.Plan.{Plan}
@@ -19,7 +19,7 @@ use Rattle.snap_rows.specs.declared.tables.Row.TheVariants.{Field, State, Go, Le
 use Rattle.snap_rows.specs.declared.tables.Stage.{Stage as Turn}
 use Rattle.snap_rows.specs.declared.tables.Tables.{Tables}
 use Rattle.snap_rows.specs.Entries.{Parts, row_at, rank_of, next}
-use Rattle.snap_rows.specs.Form.{IsInForm, IsRowInForm, IsUpdateInForm, comps, array_count}
+use Rattle.snap_rows.specs.Form.{IsInForm, IsRowInForm, IsUpdateInForm, comps}
 use Rattle.snap_rows.specs.Handles.{Handles, Follows, arrives, follows, is_test, forked, passes_on, goes_on, completes, Visits}
 use Rattle.snap_rows.specs.Steps.{Does, HasLast, IsGoOrLeaf, AppendsVisit}
 use Rattle.snap_rows.specs.Rules.{IsValid}

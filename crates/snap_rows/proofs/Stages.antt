@@ -1,9 +1,9 @@
 -- The stages of a leaf.
-use Rattle.std.proofs.Common.{◌≡◌, ◌≢◌, ℕ, zero, suc, add-one, ◌+◌, ◌<◌, ◌≤◌, List, [], ◌∷◌, Option, Some, None, map, length, get_or, refl, sym, ap, subst, ◌∙◌, arith}
-use Rattle.std.specs.Prelude.{slice_get, IsSome, option_map}
+use Rattle.std.proofs.Common.{◌≡◌, ◌≢◌, ℕ, zero, suc, add-one, ◌+◌, ◌<◌, List, [], ◌∷◌, Option, Some, length, get_or, refl, sym, ap, subst, ◌∙◌, arith}
+use Rattle.std.specs.Prelude.{slice_get, IsSome}
 use Rattle.std.specs.List.{All}
 use Rattle.std.proofs.lemmas.Bool.{false≢true}
-use Rattle.std.proofs.lemmas.Option.{slice_get-get_or, slice_get-map}
+use Rattle.std.proofs.lemmas.Option.{slice_get-get_or}
 use Rattle.std.proofs.lemmas.List.Elements.{All-weaker}
 use Rattle.snap_core.specs.declared.policy.Update.{Update}
 use Rattle.snap_core.specs.Fits.{UpdateReads}
@@ -12,7 +12,7 @@ use Rattle.snap_rows.specs.declared.tables.Stage.{Stage}
 use Rattle.snap_rows.specs.declared.tables.Tables.{Tables}
 use Rattle.snap_rows.specs.declared.tables.Stage.{Stage as Turn}
 use Rattle.snap_rows.specs.Entries.{Parts}
-use Rattle.snap_rows.specs.Form.{IsInForm, IsTurnInForm, IsUpdateInForm, IsPartsInForm, AreOutsInForm, Alternate, AlternateFrom, comps, array_count}
+use Rattle.snap_rows.specs.Form.{IsInForm, IsTurnInForm, IsUpdateInForm, IsPartsInForm, AreOutsInForm, Alternate, AlternateFrom, comps}
 use Rattle.snap_core.specs.Arrays.{Arrays}
 use Rattle.snap_rows.specs.declared.head.Head.TheVariants.{Walk, Stage as AtStage}
 use Rattle.snap_rows.specs.declared.tables.Row.TheVariants.{Leaf}

@@ -1,6 +1,6 @@
 -- Tables in form: what their text can spell, within the limits.
-use Rattle.std.specs.Prelude.{◌≡◌, ◌≢◌, ◌⊎◌, ◌↔◌, ℕ, ◌+◌, ◌<◌, ◌≤◌, Bool, true, false, ◌&&◌, ◌||◌, ◌==◌, nat_lt, Option, Some, None, List, [], ◌∷◌, map, length, is_some, if◌then◌else◌, IsTrue, Contains}
-use Rattle.std.specs.List.{All, IsDistinct, list_all}
+use Rattle.std.specs.Prelude.{◌≡◌, ◌≢◌, ◌⊎◌, ℕ, ◌<◌, ◌≤◌, List, [], ◌∷◌, map, length, IsTrue, Contains}
+use Rattle.std.specs.List.{All, IsDistinct}
 use Rattle.std.specs.Str.{bytes_eq}
 use Rattle.std.specs.List.Sorted.{IsStrictlySortedBy, IsNonDecreasing}
 use Rattle.std.specs.Ordering.{nat_cmp, ordering_then}
@@ -18,7 +18,7 @@ use Rattle.snap_core.specs.declared.policy.Op.TheVariants.{Put, Add}
 use Rattle.snap_core.specs.Fields.{IsFields, count}
 use Rattle.snap_core.specs.Names.{IsName, is_switch_name}
 use Rattle.snap_core.specs.Fits.{UpdateFits}
-use Rattle.snap_core.specs.Tests.{TestFits, PartFits, OutFits, IsRisingOut}
+use Rattle.snap_core.specs.Tests.{TestFits, OutFits, IsRisingOut}
 use Rattle.snap_rows.specs.declared.tables.ArrayAt.{ArrayAt}
 use Rattle.snap_rows.specs.declared.tables.Hop.{Hop}
 use Rattle.snap_rows.specs.declared.tables.RowAt.{RowAt}

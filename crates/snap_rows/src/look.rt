@@ -1,7 +1,7 @@
 //! Looking up rows, hops, ports and ranks.
 
-ghost use Rattle.std.specs.Prelude.{◌≡◌, ◌==◌, Some, map, option_map, IfSome, is_some, ◌<◌, All};
-ghost use Rattle.std.specs.List.{list_any};
+ghost use Rattle.std.specs.Prelude.{◌≡◌, Some, map, length, slice_index, option_map, IfSome, is_some, ◌<◌, All};
+ghost use Rattle.snap_core.specs.Switch.{goes_out};
 ghost use Rattle.snap_core.specs.declared.ports.PortAt.{PortAt};
 ghost use Rattle.snap_rows.specs.declared.tables.ArrayAt.{ArrayAt};
 ghost use Rattle.snap_rows.specs.declared.tables.Row.{Row};
@@ -11,6 +11,7 @@ ghost use Rattle.snap_rows.specs.Entries.{row_in, row_at, hop_in, next, port_in,
 
 use crate::tables::{ArrayAt, Hop, Row, RowAt};
 use crate::valid::Valid;
+use snap_core::packet::Packet;
 use snap_core::policy::Test;
 use snap_core::ports::PortAt;
 
@@ -132,9 +133,9 @@ fn rank_at(arrays: &[ArrayAt], rank: u16) -> Option<u16>
     None
 }
 
-/// The port of this number.
-pub(crate) fn port_of(ports: &[PortAt], number: u64) -> Option<u32>
-    ensures some { is_some result ≡ list_any (λ port. port == number) (map (λ (p : PortAt). p.port) ports.now) }
+// The port of this number.
+fn port_of(ports: &[PortAt], number: u64) -> Option<u32>
+    ensures some { is_some result ≡ is_some (port_in ports.now number) }
     ensures same { IfSome result (λ port. port ≡ number) }
 {
     for entry in ports {
@@ -143,6 +144,15 @@ pub(crate) fn port_of(ports: &[PortAt], number: u64) -> Option<u32>
         }
     }
     None
+}
+
+/// The port that a packet's `outport` names.
+pub(crate) fn out_port(ports: &[PortAt], packet: &Packet) -> Option<u32>
+    requires { 1 < length packet.now }
+    ensures some { is_some result ≡ goes_out (map (λ (p : PortAt). p.port) ports.now) packet.now }
+    ensures same { IfSome result (λ port. port ≡ slice_index packet.now 1) }
+{
+    port_of(ports, packet.get(1))
 }
 
 // The number of ranks.

@@ -1,20 +1,13 @@
-use Rattle.std.proofs.Common.{rules, ◌≡◌, ◌≢◌, ◌<◌, ◌≤◌, ◌+◌, ◌++◌, ℕ, List, Some, length, refl, sym, ap, subst, ◌∙◌, arith}
-use Rattle.std.specs.Prelude.{IfOk, unwrap_or, filter, ◌==◌}
-use Rattle.std.specs.List.{AllByRecursion}
+use Rattle.std.proofs.Common.{◌≡◌, ◌≢◌, ◌<◌, ◌+◌, length, sym, ap, subst, ◌∙◌, arith}
 use Rattle.std.proofs.lemmas.Result.{IfOk-weaker}
-use Rattle.snap_core.specs.declared.policy.Update.{Update}
-use Rattle.snap_core.specs.Arrays.{Arrays, updates}
+use Rattle.snap_core.specs.Arrays.{updates}
 use Rattle.snap_core.specs.Cells.{arrays_of}
 use Rattle.snap_rows.specs.declared.head.Head.TheVariants.{Visit}
-use Rattle.snap_rows.specs.declared.head.Action.{Action}
-use Rattle.snap_rows.specs.declared.tables.Row.{Row}
-use Rattle.snap_rows.specs.Entries.{row_at, rank_at, rank_of, ranks, next}
-use Rattle.snap_rows.specs.Home.{IsVisited, IsVisitAtHome}
-use Rattle.snap_rows.specs.Steps.{HasLast}
+use Rattle.snap_rows.specs.Entries.{ranks, next}
 use Rattle.snap_rows.specs.declared.head.Action.TheVariants.{Forward}
-use Rattle.snap_rows.specs.Handles.{Handles, Visits, forked, seeks, visits, concludes}
+use Rattle.snap_rows.specs.Handles.{Handles, seeks}
 use Rattle.snap_rows.proofs.Seen.{last_here, after_visit, ends_here, goes_there}
-use Rattle.snap_rows.proofs.Later.{rank_small, below_up, below_filter}
+use Rattle.snap_rows.proofs.Later.{rank_small}
 use Rattle.std.specs.List.{All}
 use Rattle.snap_core.specs.Fits.{UpdateReads}
 use Rattle.snap_rows.specs.declared.plan.Plan.{Plan}

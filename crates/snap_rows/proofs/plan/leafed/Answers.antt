@@ -1,11 +1,9 @@
-use Rattle.std.proofs.Common.{rules, ◌≡◌, ◌<◌, ◌≤◌, ℕ, List, [], ◌∷◌, Some, length, sym, ap, subst, ◌∙◌, arith}
-use Rattle.std.specs.Prelude.{IfOk, ◌≢◌}
+use Rattle.std.proofs.Common.{◌<◌, length, ◌∙◌, arith}
 use Rattle.std.proofs.lemmas.Result.{IfOk-weaker}
 use Rattle.snap_core.specs.Arrays.{Arrays, updates}
 use Rattle.snap_rows.specs.declared.head.Head.TheVariants.{Walk, Stage as AtStage}
-use Rattle.snap_rows.specs.declared.head.Action.{Action}
 use Rattle.snap_rows.specs.declared.plan.Plan.{Plan}
-use Rattle.snap_rows.specs.Handles.{Handles, forked}
+use Rattle.snap_rows.specs.Handles.{forked}
 use Rattle.snap_rows.specs.Steps.{Does}
 use Rattle.snap_rows.proofs.Stages.{forks_bare, begins_some}
 use Rattle.snap_rows.proofs.Plans.{bare_does, leaf_outs_fit}

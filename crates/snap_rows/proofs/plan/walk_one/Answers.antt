@@ -1,19 +1,11 @@
-use Rattle.std.proofs.Common.{rules, ◌≡◌, ℕ, List, Some, sym, ap, subst, ◌∙◌}
-use Rattle.std.specs.Prelude.{IfOk}
 use Rattle.std.proofs.lemmas.Result.{IfOk-weaker}
 use Rattle.snap_core.specs.Arrays.{Arrays, updates}
 use Rattle.snap_core.specs.Cells.{arrays_of}
 use Rattle.snap_rows.specs.declared.head.Head.TheVariants.{Walk}
-use Rattle.snap_rows.specs.declared.head.Action.{Action}
-use Rattle.snap_rows.specs.declared.head.Action.TheVariants.{Forward}
 use Rattle.snap_rows.specs.declared.plan.Plan.{Plan}
-use Rattle.snap_rows.specs.declared.tables.Row.TheVariants.{Go}
-use Rattle.snap_rows.specs.Entries.{row_at}
-use Rattle.snap_rows.specs.Handles.{Handles, goes}
 use Rattle.snap_rows.specs.Steps.{Does}
-use Rattle.snap_rows.proofs.Ways.{found_row}
 use Rattle.snap_rows.proofs.Stages.{asked}
-use Rattle.snap_rows.proofs.Plans.{bare_does, end_one}
+use Rattle.snap_rows.proofs.Plans.{end_one}
 use Rattle.snap_rows.proofs.plan.walk_one.Goals as goal
 
 pub decided-requires-clause-row : goal.decided-requires-clause-row

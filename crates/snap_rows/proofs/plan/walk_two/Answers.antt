@@ -1,12 +1,10 @@
-use Rattle.std.proofs.Common.{rules, ◌≡◌, ◌≢◌, ℕ, List, Some, sym, ap, subst, ◌∙◌}
-use Rattle.std.specs.Prelude.{IfOk}
+use Rattle.std.proofs.Common.{◌≢◌, sym, ◌∙◌}
 use Rattle.std.proofs.lemmas.Result.{IfOk-weaker}
-use Rattle.snap_core.specs.Arrays.{Arrays, updates}
 use Rattle.snap_core.specs.Cells.{arrays_of}
 use Rattle.snap_rows.specs.declared.head.Head.TheVariants.{Walk, Visit}
 use Rattle.snap_rows.specs.declared.plan.Plan.{Plan}
 use Rattle.snap_rows.specs.Entries.{ranks}
-use Rattle.snap_rows.specs.Handles.{Handles, Follows, is_field, forked, enters, enters_last}
+use Rattle.snap_rows.specs.Handles.{is_field, forked, enters, enters_last}
 use Rattle.snap_rows.specs.Steps.{Does}
 use Rattle.snap_rows.proofs.Later.{enter_home, enter_last}
 use Rattle.snap_rows.proofs.Plans.{bare_does, way_end}
