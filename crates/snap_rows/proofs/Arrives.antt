@@ -215,6 +215,7 @@ sent_arrive t k (l ∷ ks) all = by (goes_out (port_numbers t) l) refl (sent_arr
   where
     out : List (List ℕ)
     out = filter (goes_out (port_numbers t)) ks
+
     by : (b : Bool) → goes_out (port_numbers t) l ≡ b → All (IsSent t k) (map sent out) → All (IsSent t k) (map sent (if b then l ∷ out else out))
     by true e rest = All-cons (IsSent t k) _ (map sent out) (record { port = sym (port_is_found t.ports (slice_index l 1)) ∙ e; long = all 0 l (let n = length ks in omega arith) }) rest
     by false e rest = rest
