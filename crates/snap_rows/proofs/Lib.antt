@@ -1,4 +1,6 @@
+pub mod Search
 pub mod Rows
+pub mod Places
 pub mod Ports
 pub mod Ways
 pub mod Stages
@@ -8,6 +10,7 @@ pub mod Later
 pub mod Seen
 pub mod Plans
 pub mod Arrives
+pub mod Leading
 pub mod Spots
 pub mod Firsts
 pub mod Marking
