@@ -65,7 +65,7 @@ route_to t loops form w below (s ∷ ss) all =
     (way.0 ++ route.0, leg way.1 route.1)
 
 -- a row of a leaf's number elsewhere is that leaf
-same_leaf : (t : Tables) → IsValid t → IsInForm t → t.version ≡ 1 → (w x n : ℕ) (ss : List Turn) (os : List Parts) → row_at t w n ≡ Some (Leaf ss os) → IsSome (row_at t x n) → row_at t x n ≡ Some (Leaf ss os)
+pub same_leaf : (t : Tables) → IsValid t → IsInForm t → t.version ≡ 1 → (w x n : ℕ) (ss : List Turn) (os : List Parts) → row_at t w n ≡ Some (Leaf ss os) → IsSome (row_at t x n) → row_at t x n ≡ Some (Leaf ss os)
 same_leaf t valid form one w x n ss os row some = by (row_at t x n) refl some
   where
     node : node_of t n ≡ Some (Leaf ss os)
@@ -100,7 +100,7 @@ same_leaf t valid form one w x n ss os row some = by (row_at t x n) refl some
     by None e some = absurd (false≢true (sym (ap (λ (o : Option Row). is_some o) e) ∙ some))
     by (Some b) e some = found b e
 
-drop_get : {X : Type 0} (xs : List X) (i : ℕ) (x : X) → slice_get xs i ≡ Some x → drop i xs ≡ x ∷ drop (suc i) xs
+pub drop_get : {X : Type 0} (xs : List X) (i : ℕ) (x : X) → slice_get xs i ≡ Some x → drop i xs ≡ x ∷ drop (suc i) xs
 drop_get [] i x e = absurd (false≢true (ap (λ o. is_some o) e))
 drop_get (y ∷ ys) zero x e = ap (λ z. z ∷ ys) (some_injective _ _ e)
 drop_get (y ∷ ys) (suc i) x e = drop_get ys i x e
@@ -154,7 +154,7 @@ stage_passes t valid form one w n i s ss os row is away home =
     }
 
 -- the next stage is at home where this one is done
-stage_next : (t : Tables) (w n i : ℕ) (s : Turn) (ss : List Turn) (os : List Parts) → row_at t w n ≡ Some (Leaf ss os) → slice_get ss i ≡ Some s → s.at ≡ w → i + 1 < length ss → IsStageAtHome t w n i → IsStageAtHome t w n (i + 1)
+pub stage_next : (t : Tables) (w n i : ℕ) (s : Turn) (ss : List Turn) (os : List Parts) → row_at t w n ≡ Some (Leaf ss os) → slice_get ss i ≡ Some s → s.at ≡ w → i + 1 < length ss → IsStageAtHome t w n i → IsStageAtHome t w n (i + 1)
 stage_next t w n i s ss os row is stands more home =
     let same : Leaf home.stages home.outs ≡ Leaf ss os = some_injective _ _ (sym home.row ∙ row) in
     let stages : home.stages ≡ ss = cc in
@@ -171,7 +171,7 @@ stage_next t w n i s ss os row is stands more home =
     }
 
 -- the first stage of a leaf is at home
-stage_first : (t : Tables) → IsValid t → IsInForm t → t.version ≡ 1 → (w n : ℕ) (s : Turn) (ss : List Turn) (os : List Parts) → w < switch_count t → row_at t w n ≡ Some (Leaf (s ∷ ss) os) → IsStageAtHome t w n 0
+pub stage_first : (t : Tables) → IsValid t → IsInForm t → t.version ≡ 1 → (w n : ℕ) (s : Turn) (ss : List Turn) (os : List Parts) → w < switch_count t → row_at t w n ≡ Some (Leaf (s ∷ ss) os) → IsStageAtHome t w n 0
 stage_first t valid form one w n s ss os below row =
     let route = route_to t (valid Loop) form w below (s ∷ ss) (row_form t form w n (Leaf (s ∷ ss) os) row).2 in
     record {

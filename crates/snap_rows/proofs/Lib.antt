@@ -16,3 +16,5 @@ pub mod Firsts
 pub mod Marking
 pub mod Short
 pub mod Falls
+pub mod Alone
+pub mod Growing
