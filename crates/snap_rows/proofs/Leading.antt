@@ -12,7 +12,7 @@ use Rattle.snap_rows.specs.declared.tables.Stage.{Stage as Turn}
 use Rattle.snap_rows.specs.declared.tables.Tables.{Tables}
 use Rattle.snap_rows.specs.Entries.{row_at, next, rank_at}
 use Rattle.snap_rows.specs.Form.{IsInForm, switch_count}
-use Rattle.snap_rows.specs.Leads.{IsNumberAfter, LeadsOver, AreLedOver, HaveRows}
+use Rattle.snap_rows.specs.Leads.{IsNumberAfter, LeadsOver, AreLedOver}
 use Rattle.snap_rows.specs.Rules.{IsFirstSpot}
 use Rattle.snap_rows.specs.Ways.{Way, here, on, Route, end, leg, OwnsBelow, LeadsTo}
 use Rattle.snap_rows.proofs.Arrives.{All-in}
@@ -96,25 +96,25 @@ go_over t w to x = (λ e. (0, omega arith, sym e), λ c. only c.0 c.1 c.2)
 pub nothing_over : (x : ℕ) → ⊥ ↔ Contains [] x
 nothing_over x = (λ no. absurd no, λ c. absurd (let h : c.0 < 0 = c.1 in omega arith))
 
--- ---- what has rows
-pub split_rows : (t : Tables) (w n : ℕ) (b : Row) → HaveRows t w n b → ((k : ℕ) → IsNumberAfter b k → IsSome (row_at t w k)) × ((x : ℕ) → LeadsOver t w b x → IsSome (row_at t x n))
-split_rows t w n (Field test y z) all = (λ k side. all w k (refl, side), λ x no. absurd no)
-split_rows t w n (State test y z) all = (λ k side. all w k (inl (refl, side)), λ x over. all x n (inr (over.0, refl, over.1)))
-split_rows t w n (Go to) all = (λ k no. absurd no, λ x is. all x n (is, refl))
-split_rows t w n (Leaf ss os) all = (λ k no. absurd no, λ x over. all x n (refl, over))
-split_rows t w n Stop all = (λ k no. absurd no, λ x over. all x n (subst (λ q. rank_at t q ≡ Some x) (let h : over.0 < 1 = over.1 in let first : over.0 ≡ 0 = omega arith in first) over.2, refl))
-split_rows t w n (Last us os) all = (λ k no. absurd no, λ x over. all x n (refl, over))
+-- ---- the leads of a row, parted
+pub split_leads : (t : Tables) (w n : ℕ) (b : Row) (P : ℕ → ℕ → Type 0) → ((x k : ℕ) → LeadsTo t w n b x k → P x k) → ((k : ℕ) → IsNumberAfter b k → P w k) × ((x : ℕ) → LeadsOver t w b x → P x n)
+split_leads t w n (Field test y z) P all = (λ k side. all w k (refl, side), λ x no. absurd no)
+split_leads t w n (State test y z) P all = (λ k side. all w k (inl (refl, side)), λ x over. all x n (inr (over.0, refl, over.1)))
+split_leads t w n (Go to) P all = (λ k no. absurd no, λ x is. all x n (is, refl))
+split_leads t w n (Leaf ss os) P all = (λ k no. absurd no, λ x over. all x n (refl, over))
+split_leads t w n Stop P all = (λ k no. absurd no, λ x over. all x n (subst (λ q. rank_at t q ≡ Some x) (let h : over.0 < 1 = over.1 in let first : over.0 ≡ 0 = omega arith in first) over.2, refl))
+split_leads t w n (Last us os) P all = (λ k no. absurd no, λ x over. all x n (refl, over))
 
-pub join_rows : (t : Tables) (w n : ℕ) (b : Row) → ((k : ℕ) → IsNumberAfter b k → IsSome (row_at t w k)) → ((x : ℕ) → LeadsOver t w b x → IsSome (row_at t x n)) → HaveRows t w n b
-join_rows t w n (Field test y z) own over x k l = subst (λ v. IsSome (row_at t v k)) (sym l.0) (own k l.1)
-join_rows t w n (State test y z) own over x k l = ⊎_elim
-    (λ side. subst (λ v. IsSome (row_at t v k)) (sym side.0) (own k side.1))
-    (λ there. subst (λ i. IsSome (row_at t x i)) (sym there.1) (over x (there.0, there.2)))
+pub join_leads : (t : Tables) (w n : ℕ) (b : Row) (P : ℕ → ℕ → Type 0) → ((k : ℕ) → IsNumberAfter b k → P w k) → ((x : ℕ) → LeadsOver t w b x → P x n) → (x k : ℕ) → LeadsTo t w n b x k → P x k
+join_leads t w n (Field test y z) P own over x k l = subst (λ v. P v k) (sym l.0) (own k l.1)
+join_leads t w n (State test y z) P own over x k l = ⊎_elim
+    (λ side. subst (λ v. P v k) (sym side.0) (own k side.1))
+    (λ there. subst (λ i. P x i) (sym there.1) (over x (there.0, there.2)))
     l
-join_rows t w n (Go to) own over x k l = subst (λ i. IsSome (row_at t x i)) (sym l.1) (over x l.0)
-join_rows t w n (Leaf ss os) own over x k l = subst (λ i. IsSome (row_at t x i)) (sym l.0) (over x l.1)
-join_rows t w n Stop own over x k l = subst (λ i. IsSome (row_at t x i)) (sym l.1) (over x (0, omega arith, l.0))
-join_rows t w n (Last us os) own over x k l = subst (λ i. IsSome (row_at t x i)) (sym l.0) (over x l.1)
+join_leads t w n (Go to) P own over x k l = subst (λ i. P x i) (sym l.1) (over x l.0)
+join_leads t w n (Leaf ss os) P own over x k l = subst (λ i. P x i) (sym l.0) (over x l.1)
+join_leads t w n Stop P own over x k l = subst (λ i. P x i) (sym l.1) (over x (0, omega arith, l.0))
+join_leads t w n (Last us os) P own over x k l = subst (λ i. P x i) (sym l.0) (over x l.1)
 
 -- what holds of each member of a list that has exactly what passes L
 pub each_over : (L : ℕ → Type 0) (P : ℕ → Type 0) (xs : List ℕ) → ((x : ℕ) → L x ↔ Contains xs x) → All P xs ↔ ((x : ℕ) → L x → P x)

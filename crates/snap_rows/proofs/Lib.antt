@@ -14,6 +14,7 @@ pub mod Leading
 pub mod Spots
 pub mod Firsts
 pub mod Marking
+pub mod Following
 pub mod Short
 pub mod Falls
 pub mod Alone

@@ -3,7 +3,7 @@ use Rattle.std.specs.Prelude.{IsSome}
 use Rattle.std.specs.List.{All}
 use Rattle.snap_rows.specs.Entries.{row_at}
 use Rattle.snap_rows.specs.Leads.{IsNumberAfter, LeadsOver}
-use Rattle.snap_rows.proofs.Leading.{split_rows, join_rows, each_over}
+use Rattle.snap_rows.proofs.Leading.{split_leads, join_leads, each_over}
 use Rattle.snap_rows.proofs.rules.missing.leads_have_rows.Goals as goal
 
 pub returns : goal.returns
@@ -15,6 +15,6 @@ returns c =
     let own : (k : ℕ) → IsNumberAfter b k → IsSome (row_at t w k) = search rules in
     let each = each_over (LeadsOver t w b) (λ x. IsSome (row_at t x n)) c.in_ok-over.over.items c.in_ok-over.ensures in
     let are : c.deref.result.now ≡ c.in_ok-over.over.items = c.deref.ensures.value in (
-      λ yes. join_rows t w n b own (each.0 (subst (All (λ x. IsSome (row_at t x n))) are (c.all_have_rows.ensures.0 yes))),
-      λ have. c.all_have_rows.ensures.1 (subst (All (λ x. IsSome (row_at t x n))) (sym are) (each.1 (split_rows t w n b have).1)),
+      λ yes. join_leads t w n b (λ x k. IsSome (row_at t x k)) own (each.0 (subst (All (λ x. IsSome (row_at t x n))) are (c.all_have_rows.ensures.0 yes))),
+      λ have. c.all_have_rows.ensures.1 (subst (All (λ x. IsSome (row_at t x n))) (sym are) (each.1 (split_leads t w n b (λ x k. IsSome (row_at t x k)) have).1)),
     )
