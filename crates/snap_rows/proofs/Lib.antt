@@ -12,6 +12,11 @@ pub mod Spots
 pub mod Firsts
 pub mod Marking
 pub mod Short
+pub mod Bounded
 pub mod Falls
+pub mod FallsOne
 pub mod Alone
 pub mod Growing
+pub mod Able
+pub mod OneWay
+pub mod Ending
