@@ -1,16 +1,16 @@
 -- From greater numbers to a smaller one: where its chains stand, and whether they are lone.
-use Rattle.std.proofs.Common.{◌≡◌, ◌≢◌, ℕ, zero, suc, add-one, ◌+◌, ◌<◌, ◌≤◌, Bool, true, false, List, [], ◌∷◌, map, drop, length, Option, Some, None, refl, sym, ap, ap₂, subst, ◌∙◌, arith, inl, inr, ⊎_elim, ◌⊎◌}
-use Rattle.std.specs.Prelude.{◌==◌, ◌&&◌, if◌then◌else◌, slice_get, IfSome, IsSome, is_some, option_map, nat_eq, cond, MatchOption, unwrap_or}
+use Rattle.std.proofs.Common.{◌≡◌, ◌≢◌, ℕ, suc, add-one, ◌+◌, ◌<◌, ◌≤◌, Bool, true, false, List, [], ◌∷◌, drop, length, Option, Some, None, refl, sym, ap, ap₂, subst, ◌∙◌, arith, inl, ⊎_elim}
+use Rattle.std.specs.Prelude.{◌==◌, ◌&&◌, if◌then◌else◌, slice_get, IfSome, IsSome, is_some, option_map, MatchOption, unwrap_or}
 use Rattle.std.specs.BTreeMap.{BTreeMap, btree_map_len, get, Updates, IsUpperBound}
 use Rattle.std.specs.Map.{lookup}
-use Rattle.std.specs.Ordering.{nat_cmp, is_lt, is_eq}
+use Rattle.std.specs.Ordering.{nat_cmp, is_eq}
 use Rattle.std.proofs.lemmas.Bool.Decides.{nat_tests}
-use Rattle.std.proofs.lemmas.Bool.{false≢true, cases_eq, eqb-true, eq-eqb, ne_eqb}
+use Rattle.std.proofs.lemmas.Bool.{false≢true, cases_eq, eq-eqb, ne_eqb}
 use Rattle.std.proofs.lemmas.Map.Keys.{ge_from_not_lt}
 use Rattle.snap_core.specs.declared.policy.Test.{Test}
 use Rattle.snap_core.specs.declared.policy.Test.TheVariants.{Value, Equal, State as StateTest}
 use Rattle.snap_rows.specs.declared.rules.alone.Standing.{Standing}
-use Rattle.snap_rows.specs.declared.rules.alone.Standing.TheVariants.{Nowhere, At, Apart}
+use Rattle.snap_rows.specs.declared.rules.alone.Standing.TheVariants.{Nowhere, Apart}
 use Rattle.snap_rows.specs.declared.tables.ArrayAt.{ArrayAt}
 use Rattle.snap_rows.specs.declared.tables.RowAt.{RowAt}
 use Rattle.snap_rows.specs.declared.tables.Rule.{Rule}
@@ -20,14 +20,14 @@ use Rattle.snap_rows.specs.declared.tables.Tables.{Tables}
 use Rattle.snap_rows.specs.declared.tables.Row.{Row}
 use Rattle.snap_rows.specs.declared.tables.Row.TheVariants.{Field, State, Go, Leaf, Stop, Last}
 use Rattle.snap_rows.specs.Entries.{row_at, node_in, node_of, owner_of, var_of, is_node}
-use Rattle.snap_rows.specs.Form.{IsInForm, IsRowInForm, IsStateTest, array_count}
+use Rattle.snap_rows.specs.Form.{IsInForm, IsRowInForm, IsStateTest}
 use Rattle.snap_rows.specs.Rules.{IsValid, RowKeeps, IsKind1, IsStateRow}
 use Rattle.snap_rows.specs.Ways.{LeadsTo, Reached, port, lead}
 use Rattle.snap_rows.specs.Lone.{Chain, field, state, leaf, IsLoneFrom}
-use Rattle.snap_rows.specs.Standing.{StandsAt, AreSo, beside, beside_owner, both, of_stages, of_node, standing_in, Splits, Facts, IsNodeFrom, AreNodesFrom, IsGrown}
+use Rattle.snap_rows.specs.Standing.{StandsAt, AreSo, beside_owner, both, of_stages, of_node, standing_in, Splits, Facts, IsNodeFrom, AreNodesFrom, IsGrown}
 use Rattle.snap_rows.proofs.Arrives.{drop_get}
 use Rattle.snap_rows.proofs.Own.{past}
-use Rattle.snap_rows.proofs.Rows.{row_keeps, row_form, some_injective, NodeEntry, node_entry, nodes}
+use Rattle.snap_rows.proofs.Rows.{row_keeps, row_form, node_entry, nodes}
 use Rattle.snap_rows.proofs.Alone.{field_so, state_so, leaf_so, lone_from_so, field_lone, not_apart, state_share, leaf_share, lone_after}
 
 pub not_two : (t : Tables) → t.version ≡ 1 → t.version ≡ 2 → ⊥

@@ -16,6 +16,11 @@ pub mod Firsts
 pub mod Marking
 pub mod Following
 pub mod Short
+pub mod Bounded
 pub mod Falls
+pub mod FallsOne
 pub mod Alone
 pub mod Growing
+pub mod Able
+pub mod OneWay
+pub mod Ending

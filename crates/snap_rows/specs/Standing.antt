@@ -1,5 +1,5 @@
 -- What is known of the switches at which chains from a number stand.
-use Rattle.std.specs.Prelude.{◌≡◌, ◌≢◌, ℕ, Bool, true, false, ◌==◌, Option, Some, None, List, [], ◌∷◌, Contains, slice_get, drop, unwrap_or, if◌then◌else◌, MatchOption}
+use Rattle.std.specs.Prelude.{◌≡◌, ◌≢◌, ℕ, ◌==◌, Option, Some, None, List, [], ◌∷◌, Contains, slice_get, drop, unwrap_or, if◌then◌else◌, MatchOption}
 use Rattle.std.specs.BTreeMap.{BTreeMap, get}
 use Rattle.std.specs.Ordering.{nat_cmp}
 use Rattle.snap_rows.specs.declared.rules.alone.Standing.{Standing}
@@ -7,7 +7,7 @@ use Rattle.snap_rows.specs.declared.rules.alone.Standing.TheVariants.{Nowhere, A
 use Rattle.snap_rows.specs.declared.tables.RowAt.{RowAt}
 use Rattle.snap_rows.specs.declared.tables.Tables.{Tables}
 use Rattle.snap_rows.specs.declared.tables.Row.{Row}
-use Rattle.snap_rows.specs.declared.tables.Row.TheVariants.{Field, State, Go, Leaf, Stop, Last}
+use Rattle.snap_rows.specs.declared.tables.Row.TheVariants.{Field, State, Leaf}
 use Rattle.snap_rows.specs.declared.tables.Stage.{Stage as Turn}
 use Rattle.snap_rows.specs.Entries.{node_in, node_of, owner_of, var_of}
 use Rattle.snap_rows.specs.Rules.{IsFieldRow}
