@@ -21,6 +21,7 @@ pub mod Falls
 pub mod FallsOne
 pub mod Alone
 pub mod Growing
+pub mod Nodes
 pub mod Able
 pub mod OneWay
 pub mod Ending
