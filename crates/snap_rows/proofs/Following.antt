@@ -1,16 +1,14 @@
 -- Following leads from the ports.
-use Rattle.std.proofs.Common.{◌≡◌, ◌≢◌, ℕ, zero, suc, ◌+◌, ◌<◌, ◌≤◌, Bool, true, false, not, List, [], ◌∷◌, ◌++◌, map, length, get_or, Option, Some, None, refl, sym, ap, subst, ◌∙◌, arith, inl, inr, ⊎_elim, ◌⊎◌}
-use Rattle.std.specs.Prelude.{◌↔◌, Contains, slice_get, IsSome, IfSome, OnOk, Result, Ok, Err, cond}
+use Rattle.std.proofs.Common.{◌≡◌, ◌≢◌, ℕ, zero, suc, ◌+◌, ◌<◌, Bool, true, false, not, List, [], ◌∷◌, ◌++◌, length, get_or, Some, None, refl, sym, ap, subst, ◌∙◌, arith, inl, inr, ⊎_elim, ◌⊎◌}
+use Rattle.std.specs.Prelude.{Contains, slice_get, IsSome, IfSome, OnOk, Result, Ok, Err, cond}
 use Rattle.std.specs.List.{All}
 use Rattle.std.proofs.Math.ListN.{set}
 use Rattle.std.proofs.lemmas.Bool.{false≢true, cases_lt}
 use Rattle.std.proofs.lemmas.List.{append_assoc, get_or_default, get_or-set_same, get_or-set_other, length-set, length-append}
-use Rattle.std.proofs.lemmas.List.Elements.{Contains-append_left, Contains-append_right, Contains-append_cases, Contains-push, Contains-push_cases, All-weaker, All-contains_itself}
+use Rattle.std.proofs.lemmas.List.Elements.{Contains-append_left, Contains-append_right, Contains-append_cases, Contains-push, Contains-push_cases}
 use Rattle.std.proofs.lemmas.List.Sums.{sum_by-set}
 use Rattle.std.proofs.lemmas.Option.{slice_get-get_or}
 use Rattle.snap_core.specs.declared.ports.PortAt.{PortAt}
-use Rattle.snap_rows.specs.declared.tables.Row.{Row}
-use Rattle.snap_rows.specs.declared.tables.Row.TheVariants.{Field, State, Go, Leaf, Stop, Last}
 use Rattle.snap_rows.specs.declared.tables.RowAt.{RowAt}
 use Rattle.snap_rows.specs.declared.tables.Rule.TheVariants.{Missing}
 use Rattle.snap_rows.specs.declared.tables.Spot.TheVariants as spot
@@ -18,12 +16,12 @@ use Rattle.snap_rows.specs.declared.tables.Tables.{Tables}
 use Rattle.snap_rows.specs.Entries.{row_at}
 use Rattle.snap_rows.specs.Following.{IsMarked, AreLeadsMarked, ArePortsMarked, IsFollowed, Grows, AreMarked}
 use Rattle.snap_rows.specs.Form.{IsInForm}
-use Rattle.snap_rows.specs.Leads.{IsNumberAfter, LeadsOver, AreLedOver, HaveRows}
+use Rattle.snap_rows.specs.Leads.{IsNumberAfter, AreLedOver, HaveRows}
 use Rattle.snap_rows.specs.Places.{IsRowPlace}
 use Rattle.snap_rows.specs.Reach.{falses}
 use Rattle.snap_rows.specs.Rules.{IsFirstSpot, PortKeeps, RowKeeps}
 use Rattle.snap_rows.specs.Ways.{LeadsTo, Reached, port, lead}
-use Rattle.snap_rows.proofs.Leading.{split_leads, join_leads}
+use Rattle.snap_rows.proofs.Leading.{join_leads}
 use Rattle.snap_rows.proofs.Marking.{set_true}
 use Rattle.snap_rows.proofs.Places.{row_here}
 use Rattle.snap_rows.proofs.Rows.{some_injective}

@@ -1,19 +1,17 @@
 -- Where rows lead.
-use Rattle.std.proofs.Common.{◌≡◌, ◌≢◌, ℕ, suc, add-one, ◌+◌, ◌<◌, List, [], ◌∷◌, ◌++◌, map, drop, Option, Some, None, length, get_or, refl, sym, ap, subst, ◌∙◌, arith, inl, inr, ⊎_elim, ◌⊎◌}
-use Rattle.std.specs.Prelude.{◌↔◌, Contains, IsSome, IsTrue}
+use Rattle.std.proofs.Common.{◌≡◌, ◌≢◌, ℕ, suc, ◌+◌, ◌<◌, List, [], ◌∷◌, ◌++◌, map, drop, Some, length, get_or, refl, sym, ap, subst, ◌∙◌, arith, inl, inr, ⊎_elim, ◌⊎◌}
+use Rattle.std.specs.Prelude.{◌↔◌, Contains}
 use Rattle.std.specs.List.{All}
 use Rattle.std.proofs.lemmas.Bool.{cases_lt}
 use Rattle.std.proofs.lemmas.List.{append_assoc, at_drop_more}
 use Rattle.std.proofs.lemmas.List.Elements.{All-contains_itself}
 use Rattle.snap_rows.specs.declared.tables.Row.{Row}
 use Rattle.snap_rows.specs.declared.tables.Row.TheVariants.{Field, State, Go, Leaf, Stop, Last}
-use Rattle.snap_rows.specs.declared.tables.Rule.TheVariants.{Loop}
 use Rattle.snap_rows.specs.declared.tables.Stage.{Stage as Turn}
 use Rattle.snap_rows.specs.declared.tables.Tables.{Tables}
-use Rattle.snap_rows.specs.Entries.{row_at, next, rank_at}
-use Rattle.snap_rows.specs.Form.{IsInForm, switch_count}
+use Rattle.snap_rows.specs.Entries.{next, rank_at}
+use Rattle.snap_rows.specs.Form.{switch_count}
 use Rattle.snap_rows.specs.Leads.{IsNumberAfter, LeadsOver, AreLedOver}
-use Rattle.snap_rows.specs.Rules.{IsFirstSpot}
 use Rattle.snap_rows.specs.Ways.{Way, here, on, Route, end, leg, OwnsBelow, LeadsTo}
 use Rattle.snap_rows.proofs.Arrives.{All-in}
 

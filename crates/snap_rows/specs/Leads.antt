@@ -1,14 +1,11 @@
 -- The leads of a row, parted into those at its own switch and those of its own number.
-use Rattle.std.specs.Prelude.{◌≡◌, ◌≢◌, ◌⊎◌, ◌↔◌, ℕ, suc, ◌<◌, true, Option, Some, List, map, length, Contains, slice_get, get_or, IsSome}
-use Rattle.std.specs.List.{All}
-use Rattle.snap_rows.specs.declared.tables.RowAt.{RowAt}
+use Rattle.std.specs.Prelude.{◌≡◌, ◌⊎◌, ◌↔◌, ℕ, suc, List, map, Contains, IsSome}
 use Rattle.snap_rows.specs.declared.tables.Tables.{Tables}
 use Rattle.snap_rows.specs.declared.tables.Row.{Row}
 use Rattle.snap_rows.specs.declared.tables.Row.TheVariants.{Field, State, Go, Leaf, Stop, Last}
 use Rattle.snap_rows.specs.declared.tables.Stage.{Stage as Turn}
 use Rattle.snap_rows.specs.Entries.{row_at, next, rank_of, ranks, var_of}
-use Rattle.snap_rows.specs.Form.{switch_count}
-use Rattle.snap_rows.specs.Ways.{Way, Route, OwnsBelow, LeadsTo, Reached}
+use Rattle.snap_rows.specs.Ways.{Route, OwnsBelow, LeadsTo}
 
 -- a test row leads to this number at its own switch
 abbrev pub IsNumberAfter : Row → ℕ → Type 0

@@ -1,5 +1,4 @@
-use Rattle.std.proofs.Common.{◌≡◌, ◌+◌, ◌<◌, ◌≤◌, ℕ, [], length, append-nil, refl, sym, ap, subst, ◌∙◌, arith}
-use Rattle.snap_core.specs.declared.lists.Name.{Name}
+use Rattle.std.proofs.Common.{◌≡◌, ◌+◌, ◌<◌, ◌≤◌, [], length, append-nil, refl, sym, ap, subst, ◌∙◌, arith}
 use Rattle.snap_rows.specs.Entries.{next, hop_in}
 use Rattle.snap_rows.specs.Form.{switch_count}
 use Rattle.snap_rows.specs.Ways.{Way, here}

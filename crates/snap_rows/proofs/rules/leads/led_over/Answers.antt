@@ -1,4 +1,4 @@
-use Rattle.std.proofs.Common.{rules, ◌≡◌, ℕ, Vec, Global, ap, sym, subst, ◌∙◌, map}
+use Rattle.std.proofs.Common.{ℕ, Vec, Global, ap, sym, subst, ◌∙◌, map}
 use Rattle.std.specs.Prelude.{◌↔◌, Contains, IfOk}
 use Rattle.std.proofs.lemmas.Result.{IfOk-weaker}
 use Rattle.snap_rows.specs.declared.tables.Row.{Row}

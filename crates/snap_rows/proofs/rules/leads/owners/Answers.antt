@@ -1,4 +1,4 @@
-use Rattle.std.proofs.Common.{◌≡◌, [], List, ℕ, sym, subst, arith}
+use Rattle.std.proofs.Common.{◌≡◌, List, ℕ, sym, subst, arith}
 use Rattle.std.specs.Prelude.{◌↔◌, Contains}
 use Rattle.snap_rows.specs.Ways.{OwnsBelow}
 use Rattle.snap_rows.proofs.Leading.{no_owners, more_owners}

@@ -1,5 +1,5 @@
-use Rattle.std.proofs.Common.{rules, ◌≡◌, ℕ, suc, add-one, ◌+◌, Vec, Global, ap, sym, subst, ◌∙◌}
-use Rattle.std.specs.Prelude.{◌↔◌, Contains, IfOk}
+use Rattle.std.proofs.Common.{◌≡◌, ℕ, suc, add-one, ◌+◌, Vec, Global, ap, sym, subst, ◌∙◌}
+use Rattle.std.specs.Prelude.{◌↔◌, Contains}
 use Rattle.std.proofs.lemmas.Result.{IfOk-weaker}
 use Rattle.snap_rows.specs.Entries.{rank_of, var_of}
 use Rattle.snap_rows.specs.Ways.{OwnsBelow}

@@ -1,7 +1,7 @@
-use Rattle.std.proofs.Common.{rules, ◌≡◌, ◌<◌, ℕ, List, [], ◌++◌, map, drop, length, append-nil, ap, sym, subst, ◌∙◌}
+use Rattle.std.proofs.Common.{◌≡◌, [], map, drop, append-nil, ap, sym, subst}
 use Rattle.std.proofs.lemmas.List.{drop_all}
 use Rattle.snap_rows.specs.declared.tables.Stage.{Stage}
-use Rattle.snap_rows.specs.Form.{IsTurnInForm, switch_count}
+use Rattle.snap_rows.specs.Form.{IsTurnInForm}
 use Rattle.snap_rows.specs.Ways.{Route, end}
 use Rattle.snap_rows.proofs.Leading.{next_stage}
 use Rattle.snap_rows.proofs.Rows.{All-get}

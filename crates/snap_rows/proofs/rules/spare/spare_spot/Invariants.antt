@@ -1,4 +1,4 @@
-use Rattle.std.proofs.Common.{◌≡◌, ℕ, ◌<◌}
+use Rattle.std.proofs.Common.{ℕ, ◌<◌}
 use Rattle.snap_rows.specs.Rules.{Keeps}
 use Rattle.snap_rows.specs.declared.tables.Rule.TheVariants.{Spare}
 use Rattle.snap_rows.specs.declared.tables.Spot.TheVariants as spot

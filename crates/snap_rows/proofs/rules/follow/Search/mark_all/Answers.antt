@@ -1,4 +1,4 @@
-use Rattle.std.proofs.Common.{ℕ, ◌<◌, get_or}
+use Rattle.std.proofs.Common.{get_or}
 use Rattle.snap_rows.specs.Following.{IsMarked}
 use Rattle.snap_rows.proofs.Following.{grows_twice, marked_more, more_hold}
 use Rattle.snap_rows.proofs.rules.follow.Search.mark_all.Goals as goal

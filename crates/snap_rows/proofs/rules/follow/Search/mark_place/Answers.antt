@@ -1,4 +1,4 @@
-use Rattle.std.proofs.Common.{rules, ◌≡◌, ◌<◌, false, true, length, get_or, ◌++◌, [], ◌∷◌, List, ℕ, sym, subst, arith}
+use Rattle.std.proofs.Common.{◌≡◌, ◌<◌, false, true, length, get_or, List, ℕ, sym, subst, arith}
 use Rattle.std.proofs.Math.ListN.{set}
 use Rattle.std.proofs.lemmas.Grind.{common_steps}
 use Rattle.snap_rows.specs.Following.{Grows}
