@@ -20,3 +20,4 @@ pub mod Growing
 pub mod Able
 pub mod OneWay
 pub mod Ending
+pub mod Lighter
