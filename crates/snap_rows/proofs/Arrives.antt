@@ -25,7 +25,7 @@ use Rattle.snap_rows.specs.declared.head.Action.{Action}
 use Rattle.snap_rows.specs.Entries.{Parts, row_at, node_of, next, rank_at, hop_in, port_numbers}
 use Rattle.snap_rows.specs.Form.{IsInForm, IsTurnInForm, IsHopInForm, IsArrayInForm, switch_count}
 use Rattle.snap_rows.specs.Ways.{Way, here, on, Route, end, leg}
-use Rattle.snap_rows.specs.Rules.{IsValid, HopKeeps, IsStateRow}
+use Rattle.snap_rows.specs.Rules.{IsValid, HopKeeps, IsStateRow, IsFirstSpot}
 use Rattle.snap_rows.specs.Handles.{Handles, asks, goes, forks, begins, passes_on, goes_on, completes, enters, enters_last, seeks, visits, concludes, delivers, carries, is_field, sent, forked}
 use Rattle.snap_rows.specs.Home.{AtHome, IsStageAtHome}
 use Rattle.snap_rows.specs.Steps.{Arrives, IsSent}
@@ -37,31 +37,31 @@ use Rattle.snap_rows.proofs.Later.{next_home, enter_home}
 use Rattle.snap_rows.proofs.Plans.{way_end}
 
 -- a member of a list that satisfies P
-All-in : {X : Type 0} (P : X → Type 0) (xs : List X) (x : X) → All P xs → Contains xs x → P x
+pub All-in : {X : Type 0} (P : X → Type 0) (xs : List X) (x : X) → All P xs → Contains xs x → P x
 All-in P xs x all is = subst P is.2 (all is.0 x is.1)
 
-hop_keeps : (t : Tables) → IsValid t → (h : Hop) → Contains t.hops h → HopKeeps t Loop h
-hop_keeps t valid h is = subst (λ o. IfSome o (HopKeeps t Loop)) (slice_get-get_or t.hops is.0 h is.1 ∙ ap Some is.2) (valid Loop (spot.Hop is.0))
+hop_keeps : (t : Tables) → IsFirstSpot t Loop None → (h : Hop) → Contains t.hops h → HopKeeps t Loop h
+hop_keeps t loops h is = subst (λ o. IfSome o (HopKeeps t Loop)) (slice_get-get_or t.hops is.0 h is.1 ∙ ap Some is.2) (loops (spot.Hop is.0))
 
 -- next hops lead from each switch to each switch
-pub way_to : (t : Tables) → IsValid t → IsInForm t → (w x : ℕ) → w < switch_count t → x < switch_count t → (ws : List ℕ) × Way t x w ws
-way_to t valid form w x below below' = by (w == x) refl
+pub way_to : (t : Tables) → IsFirstSpot t Loop None → IsInForm t → (w x : ℕ) → w < switch_count t → x < switch_count t → (ws : List ℕ) × Way t x w ws
+way_to t loops form w x below below' = by (w == x) refl
   where
     by : (b : Bool) → (w == x) ≡ b → (ws : List ℕ) × Way t x w ws
     by true e = ([], subst (λ v. Way t x v []) (sym (eqb-true w x e)) here)
     by false e =
         let other : w ≢ x = λ same. false≢true (sym e ∙ eq-eqb w x same) in
         let h = form.all_hops w x below below' other in
-        let way = hop_keeps t valid h.0 h.1 in
+        let way = hop_keeps t loops h.0 h.1 in
         (way.0, subst (λ v. Way t v w way.0) h.3 (subst (λ v. Way t h.0.target v way.0) h.2 way.1))
 
-pub route_to : (t : Tables) → IsValid t → IsInForm t → (w : ℕ) → w < switch_count t → (ss : List Turn) → All (IsTurnInForm t) ss → (ws : List ℕ) × Route t w (map (λ (s : Turn). s.at) ss) ws
-route_to t valid form w below [] all = ([], end)
-route_to t valid form w below (s ∷ ss) all =
+pub route_to : (t : Tables) → IsFirstSpot t Loop None → IsInForm t → (w : ℕ) → w < switch_count t → (ss : List Turn) → All (IsTurnInForm t) ss → (ws : List ℕ) × Route t w (map (λ (s : Turn). s.at) ss) ws
+route_to t loops form w below [] all = ([], end)
+route_to t loops form w below (s ∷ ss) all =
     let first : IsTurnInForm t s = all 0 s (let n = length ss in omega arith) in
     let rest : All (IsTurnInForm t) ss = λ i d within. all (suc i) d (let h : i < length ss = within in omega arith) in
-    let way = way_to t valid form w s.at below first.at in
-    let route = route_to t valid form s.at first.at ss rest in
+    let way = way_to t loops form w s.at below first.at in
+    let route = route_to t loops form s.at first.at ss rest in
     (way.0 ++ route.0, leg way.1 route.1)
 
 -- a row of a leaf's number elsewhere is that leaf
@@ -173,7 +173,7 @@ stage_next t w n i s ss os row is stands more home =
 -- the first stage of a leaf is at home
 pub stage_first : (t : Tables) → IsValid t → IsInForm t → t.version ≡ 1 → (w n : ℕ) (s : Turn) (ss : List Turn) (os : List Parts) → w < switch_count t → row_at t w n ≡ Some (Leaf (s ∷ ss) os) → IsStageAtHome t w n 0
 stage_first t valid form one w n s ss os below row =
-    let route = route_to t valid form w below (s ∷ ss) (row_form t form w n (Leaf (s ∷ ss) os) row).2 in
+    let route = route_to t (valid Loop) form w below (s ∷ ss) (row_form t form w n (Leaf (s ∷ ss) os) row).2 in
     record {
       stages = s ∷ ss;
       outs = os;

@@ -7,7 +7,7 @@ use Rattle.std.proofs.lemmas.List.Elements.{All-push, All-append, All-take, All-
 use Rattle.snap_core.specs.Arrays.{Arrays}
 use Rattle.snap_core.specs.declared.ports.PortAt.{PortAt}
 use Rattle.snap_rows.specs.declared.tables.Tables.{Tables}
-use Rattle.snap_rows.specs.declared.tables.Rule.TheVariants.{Missing}
+use Rattle.snap_rows.specs.declared.tables.Rule.TheVariants.{Loop, Missing}
 use Rattle.snap_rows.specs.declared.tables.Spot.TheVariants as spot
 use Rattle.snap_rows.specs.declared.head.Head.{Head}
 use Rattle.snap_rows.specs.declared.head.Head.TheVariants.{Walk, Out}
@@ -61,7 +61,7 @@ distance_is t form w x ws low way = hops_is t x w ws way (switch_count t) (let h
 
 pub far_short : (t : Tables) → IsValid t → IsInForm t → (w x : ℕ) → w < switch_count t → x < switch_count t → distance t w x ≤ longest t
 far_short t valid form w x low low' =
-    let way = way_to t valid form w x low low' in
+    let way = way_to t (valid Loop) form w x low low' in
     let e : distance t w x ≡ length way.0 = distance_is t form w x way.0 low way.1 in
     let h : length way.0 < switch_count t = short t form x w way.0 low way.1 in
     omega arith
@@ -75,7 +75,7 @@ nearer_way t form w x ws low away (on {ws = vs} other way) =
 
 -- a next hop is one hop nearer
 pub nearer : (t : Tables) → IsValid t → IsInForm t → (w x : ℕ) → w < switch_count t → x < switch_count t → x ≢ w → distance t (next t w x) x + 1 ≡ distance t w x
-nearer t valid form w x low low' away = let way = way_to t valid form w x low low' in nearer_way t form w x way.0 low away way.1
+nearer t valid form w x low low' away = let way = way_to t (valid Loop) form w x low low' in nearer_way t form w x way.0 low away way.1
 
 -- ---- what is left after a step: less by one at a forward, and no more at a fork
 abbrev pub Falls : Tables → ℕ → ℕ → Action → Type 0

@@ -13,18 +13,18 @@ use Rattle.snap_rows.specs.declared.head.Sent.{Sent}
 use Rattle.snap_rows.specs.Entries.{port_at, next}
 use Rattle.snap_rows.specs.Form.{IsInForm, switch_count}
 use Rattle.snap_rows.specs.Rules.{IsValid}
+use Rattle.snap_rows.specs.declared.tables.Rule.TheVariants.{Loop}
 use Rattle.snap_rows.specs.Ways.{Way, here, on}
 use Rattle.snap_rows.specs.Home.{AtHome}
 use Rattle.snap_rows.specs.Steps.{Arrives}
 use Rattle.snap_rows.specs.Handles.{Handles, delivers, carries}
 use Rattle.snap_rows.specs.Network.{Copy, Net, Event, Inject, Step, Happening, inject, step, injected, stepped, moved, happening, RunsCalmly, rests, injects, steps, packets_of, StepsFirst, IsPlainRun, start}
-use Rattle.snap_rows.specs.Bound.{left, most_hops, HopsAreBounded}
+use Rattle.snap_rows.specs.Bound.{left, most_hops}
 use Rattle.snap_rows.specs.Progress.{CanBeInjected, PlainRunsEnd}
 use Rattle.snap_rows.proofs.Able.{able}
 use Rattle.snap_rows.proofs.Arrives.{way_to, arrives}
-use Rattle.snap_rows.proofs.Bounded.{Falls, Measures, port_below, port_home, bounded}
-use Rattle.snap_rows.proofs.Falls.{measures as measures_two}
-use Rattle.snap_rows.proofs.FallsOne.{measures as measures_one}
+use Rattle.snap_rows.proofs.Bounded.{Falls, Measures, port_below, port_home}
+use Rattle.snap_rows.proofs.Measured.{measures}
 
 -- from a state the plain schedule of these packets comes to its end
 record Ends (t : Tables) (ks : List (ℕ × List ℕ)) (s : Net) : Type 0 where
@@ -78,7 +78,7 @@ out_ends t valid form ks c out rest then' = by (port_at t out.port) refl out.has
   where
     by : (o : Option ℕ) → port_at t out.port ≡ o → IsSome o → EndsFrom t ks (c ∷ rest)
     by None e some = absurd (false≢true some)
-    by (Some x) e some = let way = way_to t valid form c.at x out.at (port_below t form out.port x e) in way_ends t ks out.port x c.at way.0 way.1 e c refl out.head rest then'
+    by (Some x) e some = let way = way_to t (valid Loop) form c.at x out.at (port_below t form out.port x e) in way_ends t ks out.port x c.at way.0 way.1 e c refl out.head rest then'
 
 outs_end : (t : Tables) → IsValid t → IsInForm t → (ks : List (ℕ × List ℕ)) (cs : List Copy) → All (IsOut t) cs → (rest : List Copy) → EndsFrom t ks rest → EndsFrom t ks (cs ++ rest)
 outs_end t valid form ks [] all rest then' = then'
@@ -141,11 +141,5 @@ plain_run t valid form measures m ks all =
     let r = plain_ends t valid form measures ks all (start t m) refl in
     (r.events, r.last, r.happened, record { packets = r.packets; first = r.first; run = r.run; ended = r.ended })
 
-pub measures : (t : Tables) → IsValid t → IsInForm t → Measures t
-measures t valid form = ⊎_elim (λ one. measures_one t valid form one) (λ two. measures_two t valid form two) form.version
-
 pub plain_runs_end : PlainRunsEnd
 plain_runs_end t valid form = plain_run t valid form (measures t valid form)
-
-pub hops_are_bounded : HopsAreBounded
-hops_are_bounded t valid form = bounded t valid form (measures t valid form)

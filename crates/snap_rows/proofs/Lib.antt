@@ -1,4 +1,6 @@
+pub mod Search
 pub mod Rows
+pub mod Places
 pub mod Ports
 pub mod Ways
 pub mod Stages
@@ -8,13 +10,16 @@ pub mod Later
 pub mod Seen
 pub mod Plans
 pub mod Arrives
+pub mod Leading
 pub mod Spots
 pub mod Firsts
 pub mod Marking
+pub mod Following
 pub mod Short
 pub mod Bounded
 pub mod Falls
 pub mod FallsOne
+pub mod Measured
 pub mod Alone
 pub mod Growing
 pub mod Able

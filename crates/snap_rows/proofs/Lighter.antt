@@ -33,7 +33,7 @@ use Rattle.snap_rows.specs.Weight.{outs_of, most_outs, most_outs_in, is_out, wei
 use Rattle.snap_rows.proofs.Rows.{entry_of, All-get, some_injective}
 use Rattle.snap_rows.proofs.Arrives.{arrives, drop_get}
 use Rattle.snap_rows.proofs.Bounded.{Falls, port_short, carry_falls}
-use Rattle.snap_rows.proofs.Ending.{measures}
+use Rattle.snap_rows.proofs.Measured.{measures}
 
 -- ---- a fork makes no more copies than its leaf has outs
 listed_long : (s : PacketSet) → length (listed s) ≡ len s

@@ -1,11 +1,14 @@
 //! Looking up rows, hops, ports and ranks.
 
-ghost use Rattle.std.specs.Prelude.{◌≡◌, Some, map, length, slice_index, option_map, IfSome, is_some, ◌<◌, All};
+ghost use Rattle.std.specs.Prelude.{◌≡◌, ◌↔◌, IsTrue, Some, map, length, slice_index, option_map, IfSome, IfNone, is_some, ◌<◌, All, true, false, None};
+ghost use Rattle.std.specs.List.Sorted.{IsStrictlySortedBy, IsPartitionPoint};
 ghost use Rattle.snap_core.specs.Switch.{goes_out};
 ghost use Rattle.snap_core.specs.declared.ports.PortAt.{PortAt};
 ghost use Rattle.snap_rows.specs.declared.tables.ArrayAt.{ArrayAt};
 ghost use Rattle.snap_rows.specs.declared.tables.Row.{Row};
-ghost use Rattle.snap_rows.specs.Form.{IsRowInForm, IsInForm, array_count, switch_count};
+ghost use Rattle.snap_rows.specs.declared.tables.RowAt.{RowAt};
+ghost use Rattle.snap_rows.specs.Form.{IsRowInForm, IsInForm, row_cmp, array_count, switch_count};
+ghost use Rattle.snap_rows.specs.Places.{is_before, IsRowPlace};
 ghost use Rattle.snap_rows.specs.Rules.{IsValid};
 ghost use Rattle.snap_rows.specs.Entries.{row_in, row_at, hop_in, next, port_in, port_at, rank_in, rank_at, rank_of, ranks, ranks_in, var_of, owner_of};
 
@@ -86,15 +89,54 @@ impl Valid {
     }
 }
 
+// Whether a row stands before that of a switch and number.
+fn row_is_before(entry: &RowAt, at: u16, number: u64) -> bool
+    ensures { result ≡ is_before (λ (r : RowAt). r.at) (λ (r : RowAt). r.number) at number entry.now }
+{
+    entry.at < at || (entry.at == at && entry.number < number)
+}
+
+// How many rows stand before that of a switch and number.
+fn rows_before(rows: &[RowAt], at: u16, number: u64) -> usize
+    requires { IsStrictlySortedBy row_cmp rows.now }
+    ensures { IsPartitionPoint (λ (r : RowAt). is_before (λ (r : RowAt). r.at) (λ (r : RowAt). r.number) at number r ≡ true) (λ (r : RowAt). is_before (λ (r : RowAt). r.at) (λ (r : RowAt). r.number) at number r ≡ false) rows.now result }
+{
+    rows.partition_point(|entry| row_is_before(entry, at, number))
+}
+
+// Whether the row of a switch and number stands at a place.
+fn stands_at(rows: &[RowAt], place: usize, at: u16, number: u64) -> bool
+    ensures { IsTrue result ↔ IsRowPlace rows.now at number place }
+{
+    match rows.get(place) {
+        Some(entry) => entry.at == at && entry.number == number,
+        None => false,
+    }
+}
+
+/// The place of the row of a switch and number.
+pub(crate) fn row_place(rows: &[RowAt], at: u16, number: u64) -> Option<usize>
+    requires { IsStrictlySortedBy row_cmp rows.now }
+    ensures some { IfSome result (IsRowPlace rows.now at number) }
+    ensures none { IfNone result (row_in rows.now at number ≡ None) }
+{
+    let place = rows_before(rows, at, number);
+    if stands_at(rows, place, at, number) {
+        Some(place)
+    } else {
+        None
+    }
+}
+
+/// The row of a switch and number.
 pub(crate) fn row(rows: &[RowAt], at: u16, number: u64) -> Option<&Row>
+    requires { IsStrictlySortedBy row_cmp rows.now }
     ensures { option_map (λ r. r.now) result ≡ row_in rows.now at number }
 {
-    for row in rows {
-        if row.at == at && row.number == number {
-            return Some(&row.row);
-        }
+    match row_place(rows, at, number) {
+        Some(place) => Some(&rows[place].row),
+        None => None,
     }
-    None
 }
 
 /// The next hop of a switch towards another.
@@ -122,7 +164,7 @@ fn port_at(ports: &[PortAt], port: u64) -> Option<u16>
 }
 
 /// The owner of a rank.
-fn rank_at(arrays: &[ArrayAt], rank: u16) -> Option<u16>
+pub(crate) fn rank_at(arrays: &[ArrayAt], rank: u16) -> Option<u16>
     ensures { result ≡ rank_in arrays.now rank }
 {
     for array in arrays {
