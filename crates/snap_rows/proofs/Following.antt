@@ -101,9 +101,9 @@ not_left t marks left i r is leads f = record {
   sound = f.sound;
   closed = λ j s there m. ⊎_elim
       (λ c. ⊎_elim
-          (λ one. let same : i ≡ j = only one in inr (subst (AreLeadsMarked t marks) (some_injective _ _ (sym is ∙ ap (slice_get t.rows) same ∙ there)) leads))
-          (λ other. inl other)
-          (Contains-append_cases (i ∷ []) left j c))
+      (λ one. let same : i ≡ j = only one in inr (subst (AreLeadsMarked t marks) (some_injective _ _ (sym is ∙ ap (slice_get t.rows) same ∙ there)) leads))
+      (λ other. inl other)
+      (Contains-append_cases (i ∷ []) left j c))
       (λ done. inr done)
       (f.closed j s there m);
   marked = λ j c. f.marked j (Contains-append_right (i ∷ []) left j c);

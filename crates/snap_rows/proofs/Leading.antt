@@ -78,7 +78,7 @@ pub next_stage : (t : Tables) (at w : ℕ) (s : Turn) (ss : List Turn) (i : ℕ)
     → (vs : List ℕ) → Route t s.at (map (λ (s : Turn). s.at) (drop (i + 1) ss)) vs → Route t at (map (λ (s : Turn). s.at) ss) (way' ++ vs)
 next_stage t at w s ss i way ws way' within is there items goes vs rest =
     let cut : map (λ (s : Turn). s.at) (drop i ss) ≡ s.at ∷ map (λ (s : Turn). s.at) (drop (i + 1) ss) =
-        at_drop_more (map (λ (s : Turn). s.at)) ss i s within ∙ ap (λ (y : Turn). y.at ∷ map (λ (s : Turn). s.at) (drop (i + 1) ss)) (sym is) in
+    at_drop_more (map (λ (s : Turn). s.at)) ss i s within ∙ ap (λ (y : Turn). y.at ∷ map (λ (s : Turn). s.at) (drop (i + 1) ss)) (sym is) in
     let route : Route t w (map (λ (s : Turn). s.at) (drop i ss)) (ws ++ vs) = subst (λ l. Route t w l (ws ++ vs)) (sym cut) (leg there rest) in
     subst (Route t at (map (λ (s : Turn). s.at) ss)) (sym (ap (λ l. l ++ vs) items ∙ append_assoc way ws vs)) (goes (ws ++ vs) route)
 

@@ -22,6 +22,7 @@ pub mod FallsOne
 pub mod Measured
 pub mod Alone
 pub mod Growing
+pub mod Nodes
 pub mod Able
 pub mod OneWay
 pub mod Ending

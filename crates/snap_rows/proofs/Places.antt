@@ -1,13 +1,15 @@
--- The place of a row among rows that rise.
-use Rattle.std.proofs.Common.{◌≡◌, ℕ, suc, zero, Bool, true, false, List, [], ◌∷◌, Option, Some, None, refl, sym, ap, subst, ◌∙◌}
-use Rattle.std.specs.Prelude.{slice_get, ◌==◌, ◌&&◌, if◌then◌else◌}
+-- The places of rows, next hops and links among entries that rise.
+use Rattle.std.proofs.Common.{◌≡◌, ℕ, suc, zero, ◌⊎◌, inl, inr, ⊎_elim, Bool, true, false, List, [], ◌∷◌, Option, Some, None, refl, sym, ap, subst, ◌∙◌}
+use Rattle.std.specs.Prelude.{slice_get, Contains, ◌==◌, ◌&&◌, if◌then◌else◌}
 use Rattle.std.specs.List.Sorted.{IsStrictlySortedBy, IsPartitionPoint}
-use Rattle.std.proofs.lemmas.Bool.{eq-eqb, false≢true}
+use Rattle.std.proofs.lemmas.Bool.{eq-eqb, eqb-true, false≢true}
+use Rattle.snap_rows.specs.declared.tables.Hop.{Hop}
 use Rattle.snap_rows.specs.declared.tables.Row.{Row}
 use Rattle.snap_rows.specs.declared.tables.RowAt.{RowAt}
-use Rattle.snap_rows.specs.Entries.{row_in}
-use Rattle.snap_rows.specs.Form.{row_cmp}
-use Rattle.snap_rows.specs.Places.{is_before, IsRowPlace}
+use Rattle.snap_rows.specs.Entries.{row_in, hop_in}
+use Rattle.snap_rows.specs.Form.{row_cmp, hop_cmp, link_cmp}
+use Rattle.snap_rows.specs.Places.{is_before, IsRowPlace, hop_said}
+use Rattle.std.proofs.lemmas.Option.{slice_get-get_or, slice_get_within, get_or_from_slice_get}
 use Rattle.snap_rows.proofs.Rows.{entry_of, some_injective}
 use Rattle.snap_rows.proofs.Search.{one_place, found_there}
 
@@ -53,3 +55,82 @@ pub placed_row : (rs : List RowAt) → IsStrictlySortedBy row_cmp rs → (w n i 
 placed_row rs rise w n i r place is =
     let same : r ≡ place.0 = some_injective _ _ (sym is ∙ place.1) in
     sym (row_here rs rise w n i r is (ap (λ (x : RowAt). x.at) same ∙ place.2) (ap (λ (x : RowAt). x.number) same ∙ place.3))
+
+-- ---- next hops
+-- the entry of w and x
+record HopEntry (hs : List Hop) (w x : ℕ) : Type 0 where
+  place : ℕ
+  hop : Hop
+  is : slice_get hs place ≡ Some hop
+  from : hop.from ≡ w
+  target : hop.target ≡ x
+  next : hop_in hs w x ≡ hop.next
+
+-- there is no entry of w and x
+abbrev IsAbsent : List Hop → ℕ → ℕ → Type 0
+IsAbsent hs w x = (i : ℕ) (h : Hop) → slice_get hs i ≡ Some h → h.from ≡ w → h.target ≡ x → ⊥
+
+hop_entry : (hs : List Hop) (w x : ℕ) → HopEntry hs w x ⊎ ((hop_in hs w x ≡ w) × IsAbsent hs w x)
+hop_entry [] w x = inr (refl, λ i h is from target. false≢true (ap (λ (o : Option Hop). elim o [ None ↦ false | Some y ↦ true ]) is))
+hop_entry (g ∷ hs) w x = by (g.from == w) (g.target == x) refl refl (hop_entry hs w x)
+  where
+    rest : (hop_in (g ∷ hs) w x ≡ hop_in hs w x) → ((g.from ≡ w) → (g.target ≡ x) → ⊥)
+        → HopEntry hs w x ⊎ ((hop_in hs w x ≡ w) × IsAbsent hs w x)
+        → HopEntry (g ∷ hs) w x ⊎ ((hop_in (g ∷ hs) w x ≡ w) × IsAbsent (g ∷ hs) w x)
+    rest e other found = ⊎_elim
+        (λ r. inl (record { place = suc r.place; hop = r.hop; is = r.is; from = r.from; target = r.target; next = e ∙ r.next }))
+        (λ r. inr (e ∙ r.0, absent r.1))
+        found
+      where
+        absent : IsAbsent hs w x → IsAbsent (g ∷ hs) w x
+        absent never zero h is from target = let same : g ≡ h = some_injective _ _ is in other (ap (λ (y : Hop). y.from) same ∙ from) (ap (λ (y : Hop). y.target) same ∙ target)
+        absent never (suc i) h is from target = never i h is from target
+
+    by : (a b : Bool) → (g.from == w) ≡ a → (g.target == x) ≡ b → HopEntry hs w x ⊎ ((hop_in hs w x ≡ w) × IsAbsent hs w x)
+        → HopEntry (g ∷ hs) w x ⊎ ((hop_in (g ∷ hs) w x ≡ w) × IsAbsent (g ∷ hs) w x)
+    by true true p q found = inl (record {
+      place = 0;
+      hop = g;
+      is = refl;
+      from = eqb-true g.from w p;
+      target = eqb-true g.target x q;
+      next = ap (λ b. if b && (g.target == x) then g.next else hop_in hs w x) p ∙ ap (λ b. if b then g.next else hop_in hs w x) q;
+    })
+    by true false p q found = rest (ap (λ b. if b && (g.target == x) then g.next else hop_in hs w x) p ∙ ap (λ b. if b then g.next else hop_in hs w x) q) (λ from target. false≢true (sym q ∙ eq-eqb g.target x target)) found
+    by false b p q found = rest (ap (λ b. if b && (g.target == x) then g.next else hop_in hs w x) p) (λ from target. false≢true (sym p ∙ eq-eqb g.from w from)) found
+
+-- the entry where a search ends says the next hop
+pub hop_there : (hs : List Hop) → IsStrictlySortedBy hop_cmp hs → (w x i : ℕ)
+    → IsPartitionPoint (λ (h : Hop). is_before (λ (h : Hop). h.from) (λ (h : Hop). h.target) w x h ≡ true) (λ (h : Hop). is_before (λ (h : Hop). h.from) (λ (h : Hop). h.target) w x h ≡ false) hs i
+    → hop_in hs w x ≡ hop_said (slice_get hs i) w x
+hop_there hs rise w x i point = ⊎_elim here elsewhere (hop_entry hs w x)
+  where
+    here : HopEntry hs w x → hop_in hs w x ≡ hop_said (slice_get hs i) w x
+    here r =
+        let same : r.place ≡ i = found_there (λ (h : Hop). h.from) (λ (h : Hop). h.target) hs rise w x i r.place r.hop point r.is r.from r.target in
+        let said : hop_said (Some r.hop) w x ≡ r.hop.next = ap (λ b. if b && (r.hop.target == x) then r.hop.next else w) (eq-eqb r.hop.from w r.from) ∙ ap (λ b. if b then r.hop.next else w) (eq-eqb r.hop.target x r.target) in
+        r.next ∙ sym said ∙ ap (λ o. hop_said o w x) (sym r.is ∙ ap (slice_get hs) same)
+
+    by : (h : Hop) (a b : Bool) → (h.from == w) ≡ a → (h.target == x) ≡ b → (h.from ≡ w → h.target ≡ x → ⊥) → (if a && b then h.next else w) ≡ w
+    by h true true p q never = absurd (never (eqb-true h.from w p) (eqb-true h.target x q))
+    by h true false p q never = refl
+    by h false b p q never = refl
+
+    elsewhere : (hop_in hs w x ≡ w) × IsAbsent hs w x → hop_in hs w x ≡ hop_said (slice_get hs i) w x
+    elsewhere r = r.0 ∙ sym (said (slice_get hs i) refl)
+      where
+        said : (o : Option Hop) → slice_get hs i ≡ o → hop_said (slice_get hs i) w x ≡ w
+        said None e = ap (λ o. hop_said o w x) e
+        said (Some h) e = ap (λ o. hop_said o w x) e ∙ by h (h.from == w) (h.target == x) refl refl (r.1 i h e)
+
+-- ---- links
+pub link_there : (ls : List (ℕ × ℕ)) → IsStrictlySortedBy link_cmp ls → (a b i : ℕ)
+    → IsPartitionPoint (λ (l : ℕ × ℕ). is_before (λ (l : ℕ × ℕ). l.0) (λ (l : ℕ × ℕ). l.1) a b l ≡ true) (λ (l : ℕ × ℕ). is_before (λ (l : ℕ × ℕ). l.0) (λ (l : ℕ × ℕ). l.1) a b l ≡ false) ls i
+    → Contains ls (a, b) → slice_get ls i ≡ Some (a, b)
+link_there ls rise a b i point c =
+    let is : slice_get ls c.0 ≡ Some (a, b) = slice_get-get_or ls c.0 (a, b) c.1 ∙ ap Some c.2 in
+    let same : c.0 ≡ i = found_there (λ (l : ℕ × ℕ). l.0) (λ (l : ℕ × ℕ). l.1) ls rise a b i c.0 (a, b) point is refl refl in
+    sym (ap (slice_get ls) same) ∙ is
+
+pub link_here : (ls : List (ℕ × ℕ)) (a b i : ℕ) → slice_get ls i ≡ Some (a, b) → Contains ls (a, b)
+link_here ls a b i is = (i, slice_get_within ls i (a, b) is, get_or_from_slice_get ls i (a, b) (a, b) is)

@@ -33,9 +33,9 @@ module _ {X : Type 0} (f g : X → ℕ) (xs : List X) (rises : Rising f g xs) wh
   found_there a b i j x point is first second = ⊎_elim
       (λ lt. absurd (not_before _ _ a b first second (subst (λ y. is_before f g a b y ≡ true) there (point.0 j x (omega arith) lt))))
       (λ ge. ⊎_elim
-          (λ lt. absurd (false≢true (sym (point.1 i x (omega arith) (let h : j < length xs = within in omega arith)) ∙ between lt)))
-          (λ le. omega arith)
-          (cases_lt i j))
+      (λ lt. absurd (false≢true (sym (point.1 i x (omega arith) (let h : j < length xs = within in omega arith)) ∙ between lt)))
+      (λ le. omega arith)
+      (cases_lt i j))
       (cases_lt j i)
     where
       within : j < length xs

@@ -1,5 +1,5 @@
 -- What is known of the switches at which chains from a number stand.
-use Rattle.std.specs.Prelude.{◌≡◌, ◌≢◌, ℕ, ◌==◌, Option, Some, None, List, [], ◌∷◌, Contains, slice_get, drop, unwrap_or, if◌then◌else◌, MatchOption}
+use Rattle.std.specs.Prelude.{◌≡◌, ◌≢◌, ◌↔◌, ℕ, ◌<◌, ◌==◌, Option, Some, None, List, [], ◌∷◌, Contains, slice_get, drop, unwrap_or, if◌then◌else◌, MatchOption}
 use Rattle.std.specs.BTreeMap.{BTreeMap, get}
 use Rattle.std.specs.Ordering.{nat_cmp}
 use Rattle.snap_rows.specs.declared.rules.alone.Standing.{Standing}
@@ -72,6 +72,10 @@ pub record IsNodeFrom (t : Tables) (k n i : ℕ) : Type 0 where
 -- where the nodes of numbers stand among the rows from k on
 abbrev pub AreNodesFrom : Tables → ℕ → BTreeMap ℕ ℕ → Type 0
 AreNodesFrom t k m = (n : ℕ) → MatchOption (get nat_cmp m n) (node_in (drop k t.rows) n ≡ None) (IsNodeFrom t k n)
+
+-- the numbers that have field rows among the first k
+abbrev pub AreFieldsTo : Tables → ℕ → BTreeMap ℕ ℕ → Type 0
+AreFieldsTo t k m = (n : ℕ) → (get nat_cmp m n ≡ None) ↔ ((i : ℕ) (r : RowAt) → i < k → slice_get t.rows i ≡ Some r → r.number ≡ n → ¬ IsFieldRow r.row)
 
 abbrev pub standing_in : BTreeMap ℕ Standing → ℕ → Standing
 standing_in known n = unwrap_or (get nat_cmp known n) Nowhere

@@ -1,18 +1,19 @@
 //! Looking up rows, hops, ports and ranks.
 
-ghost use Rattle.std.specs.Prelude.{◌≡◌, ◌↔◌, IsTrue, Some, map, length, slice_index, option_map, IfSome, IfNone, is_some, ◌<◌, All, true, false, None};
+ghost use Rattle.std.specs.Prelude.{◌≡◌, ◌↔◌, IsTrue, Some, map, length, slice_index, option_map, IfSome, IfNone, is_some, slice_get, ◌<◌, All, true, false, None};
 ghost use Rattle.std.specs.List.Sorted.{IsStrictlySortedBy, IsPartitionPoint};
 ghost use Rattle.snap_core.specs.Switch.{goes_out};
 ghost use Rattle.snap_core.specs.declared.ports.PortAt.{PortAt};
 ghost use Rattle.snap_rows.specs.declared.tables.ArrayAt.{ArrayAt};
 ghost use Rattle.snap_rows.specs.declared.tables.Row.{Row};
 ghost use Rattle.snap_rows.specs.declared.tables.RowAt.{RowAt};
-ghost use Rattle.snap_rows.specs.Form.{IsRowInForm, IsInForm, row_cmp, array_count, switch_count};
-ghost use Rattle.snap_rows.specs.Places.{is_before, IsRowPlace};
+ghost use Rattle.snap_rows.specs.declared.tables.Hop.{Hop};
+ghost use Rattle.snap_rows.specs.Form.{IsRowInForm, IsInForm, row_cmp, hop_cmp, array_count, switch_count};
+ghost use Rattle.snap_rows.specs.Places.{is_before, IsRowPlace, hop_said};
 ghost use Rattle.snap_rows.specs.Rules.{IsValid};
 ghost use Rattle.snap_rows.specs.Entries.{row_in, row_at, hop_in, next, port_in, port_at, rank_in, rank_at, rank_of, ranks, ranks_in, var_of, owner_of};
 
-use crate::tables::{ArrayAt, Hop, Row, RowAt};
+use crate::tables::{ArrayAt, Hop, Row, RowAt, Tables};
 use crate::valid::Valid;
 use snap_core::packet::Packet;
 use snap_core::policy::Test;
@@ -57,21 +58,14 @@ impl Valid {
     pub(crate) fn rank_of(&self, test: &Test) -> u16
         ensures { result ≡ rank_of self.now (var_of test.now) }
     {
-        match test {
-            Test::State { var, .. } => self.rank(*var),
-            Test::Value { .. } => self.rank(0),
-            Test::Equal { .. } => self.rank(0),
-        }
+        rank_of_test(self.tables(), test)
     }
 
     /// The rank of an array.
     pub(crate) fn rank(&self, var: u16) -> u16
         ensures { result ≡ rank_of self.now var }
     {
-        match self.tables().arrays.items().get(var as usize) {
-            Some(array) => array.rank,
-            None => 0,
-        }
+        rank(self.tables(), var)
     }
 
     /// The number of ranks.
@@ -86,6 +80,27 @@ impl Valid {
         ensures { result ≡ rank_at self.now rank }
     {
         rank_at(self.tables().arrays.items(), rank)
+    }
+}
+
+// The rank of an array.
+fn rank(tables: &Tables, var: u16) -> u16
+    ensures { result ≡ rank_of tables.now var }
+{
+    match tables.arrays.items().get(var as usize) {
+        Some(array) => array.rank,
+        None => 0,
+    }
+}
+
+/// The rank of a state test's array.
+pub(crate) fn rank_of_test(tables: &Tables, test: &Test) -> u16
+    ensures { result ≡ rank_of tables.now (var_of test.now) }
+{
+    match test {
+        Test::State { var, .. } => rank(tables, *var),
+        Test::Value { .. } => rank(tables, 0),
+        Test::Equal { .. } => rank(tables, 0),
     }
 }
 
@@ -139,16 +154,43 @@ pub(crate) fn row(rows: &[RowAt], at: u16, number: u64) -> Option<&Row>
     }
 }
 
+// Whether a next hop stands before that of a switch towards another.
+fn hop_is_before(hop: &Hop, at: u16, target: u16) -> bool
+    ensures { result ≡ is_before (λ (h : Hop). h.from) (λ (h : Hop). h.target) at target hop.now }
+{
+    hop.from < at || (hop.from == at && hop.target < target)
+}
+
+// How many next hops stand before that of a switch towards another.
+fn hops_before(hops: &[Hop], at: u16, target: u16) -> usize
+    requires { IsStrictlySortedBy hop_cmp hops.now }
+    ensures { IsPartitionPoint (λ (h : Hop). is_before (λ (h : Hop). h.from) (λ (h : Hop). h.target) at target h ≡ true) (λ (h : Hop). is_before (λ (h : Hop). h.from) (λ (h : Hop). h.target) at target h ≡ false) hops.now result }
+{
+    hops.partition_point(|hop| hop_is_before(hop, at, target))
+}
+
+// The next hop that an entry says.
+fn hop_said(hops: &[Hop], place: usize, at: u16, target: u16) -> u16
+    ensures { result ≡ hop_said (slice_get hops.now place) at target }
+{
+    match hops.get(place) {
+        Some(hop) => {
+            if hop.from == at && hop.target == target {
+                hop.next
+            } else {
+                at
+            }
+        }
+        None => at,
+    }
+}
+
 /// The next hop of a switch towards another.
 pub(crate) fn next(hops: &[Hop], at: u16, target: u16) -> u16
+    requires { IsStrictlySortedBy hop_cmp hops.now }
     ensures { result ≡ hop_in hops.now at target }
 {
-    for hop in hops {
-        if hop.from == at && hop.target == target {
-            return hop.next;
-        }
-    }
-    at
+    hop_said(hops, hops_before(hops, at, target), at, target)
 }
 
 /// The switch of a port.

@@ -32,11 +32,17 @@ pub struct Stage {
 /// What a switch does with a number.
 #[derive(Debug, Drop)]
 pub enum Row {
+    /// A test of fields: on with the number `yes` or `no`.
     Field { test: Test, yes: u64, no: u64 },
+    /// A test of an array at this switch: on with the number `yes` or `no`.
     State { test: Test, yes: u64, no: u64 },
+    /// The number is decided at another switch. Version 1.
     Go { to: u16 },
+    /// The end: the updates of the stages, each at its switch, and then the outs. Version 1.
     Leaf { stages: Stages, outs: Outs },
+    /// The number isn't decided here. Version 2.
     Stop,
+    /// The end: updates by rising rank, and then the outs. Version 2.
     Last { ups: Updates, outs: Outs },
 }
 
@@ -48,9 +54,10 @@ pub struct RowAt {
     pub row: Row,
 }
 
-/// The tables of all switches.
+/// The tables of all switches. A switch's number is its position in `switches`.
 #[derive(Debug, Drop)]
 pub struct Tables {
+    /// 1, where a number is decided at one switch; or 2, where each rank of arrays is visited once.
     pub version: u8,
     pub fields: Fields,
     pub switches: Names,
@@ -61,16 +68,24 @@ pub struct Tables {
     pub rows: Rows,
 }
 
-/// A rule of tables.
+/// A rule of tables, in the order in which they are told.
 #[derive(Clone, Copy, Debug, PartialEq, Eq)]
 pub enum Rule {
+    /// Each next hop is a neighbour.
     Link,
+    /// From each switch the next hops towards a target reach it.
     Loop,
+    /// Rows of one number are equal, or say where it is decided; in version 2 they stand where it is due.
     Kind,
+    /// Arrays stand where they are asked and updated; in version 2 a rank stands at one switch, and none is left out.
     Owner,
+    /// Yes and no are above their row's number.
     Rise,
+    /// After a state row comes no field row and none of lesser rank. Version 2 alone.
     Order,
+    /// Each pair of switch and number to which a port or row leads has a row.
     Missing,
+    /// To each row a chain of leads comes from a port.
     Spare,
 }
 
@@ -86,6 +101,8 @@ pub enum Spot {
 /// Why tables are not valid.
 #[derive(Clone, Copy, Debug, PartialEq, Eq)]
 pub enum Refused {
+    /// The first broken rule, at the first entry that breaks it.
     Broken { rule: Rule, spot: Spot },
+    /// There wasn't memory for the work.
     NoMemory,
 }

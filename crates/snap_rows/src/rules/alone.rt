@@ -5,10 +5,10 @@ ghost use Rattle.snap_rows.specs.Entries.{owner_of, var_of};
 ghost use Rattle.snap_rows.specs.Form.{IsInForm};
 ghost use Rattle.snap_rows.specs.Lone.{IsLone};
 ghost use Rattle.snap_rows.specs.Rules.{IsValid};
-ghost use Rattle.snap_rows.specs.Standing.{beside, beside_owner, both, of_stages, of_node, standing_in, Splits, AreNodesFrom};
+ghost use Rattle.snap_rows.specs.Standing.{beside, beside_owner, both, of_stages, of_node, standing_in, Splits};
 
 use crate::rules::kind::is_field;
-use crate::rules::order::is_node;
+use crate::rules::nodes::nodes;
 use crate::tables::{Row, RowAt, Stage, Tables};
 use snap_core::NoMemory;
 use snap_core::policy::Test;
@@ -118,21 +118,6 @@ fn splits(node: &Row, standing: Standing) -> bool
         Standing::Nowhere => false,
         Standing::At(_) => false,
     }
-}
-
-// The place among the rows of each number's node.
-fn nodes(alloc: Global, tables: &Tables) -> Result<BTreeMap<u64, usize>, NoMemory>
-    ensures { IfOk result (AreNodesFrom tables.now 0) }
-{
-    let rows = tables.rows.items();
-    let mut nodes = BTreeMap::new(alloc);
-    for turn in 0..rows.len() {
-        let at = rows.len() - turn - 1;
-        if is_node(&rows[at].row) {
-            nodes.insert(rows[at].number, at)?;
-        }
-    }
-    Ok(nodes)
 }
 
 /// Whether tables of version 1 are lone. The answer is no at the first row that stands apart from what comes after

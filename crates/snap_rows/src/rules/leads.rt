@@ -10,8 +10,7 @@ ghost use Rattle.snap_rows.specs.Leads.{IsNumberAfter, AreLedOver};
 ghost use Rattle.snap_rows.specs.Rules.{IsFirstSpot};
 ghost use Rattle.snap_rows.specs.Ways.{Way, Route, OwnsBelow};
 
-use crate::look::{next, rank_at, ranks, row};
-use crate::rules::order::rank_of_test;
+use crate::look::{next, rank_at, rank_of_test, ranks, row};
 use crate::tables::{Row, Stage, Tables};
 use snap_core::NoMemory;
 use snap_core::policy::Test;
@@ -99,12 +98,7 @@ fn add_way(tables: &Tables, from: u16, target: u16, way: &mut Vec<u16>) -> Resul
 }
 
 // The switches after one on the way to the switches of stages, one after another.
-fn route(
-    alloc: Global,
-    tables: &Tables,
-    at: u16,
-    stages: &[Stage],
-) -> Result<Vec<u16>, NoMemory>
+fn route(alloc: Global, tables: &Tables, at: u16, stages: &[Stage]) -> Result<Vec<u16>, NoMemory>
     requires form { IsInForm tables.now }
     requires loops { IsFirstSpot tables.now Rule.Loop None }
     requires at { at < switch_count tables.now }

@@ -1,6 +1,6 @@
 use Rattle.std.proofs.Common.{◌≡◌, ◌-◌, length}
 use Rattle.snap_rows.specs.Standing.{AreNodesFrom}
-use Rattle.snap_rows.proofs.rules.alone.nodes.Given as goal
+use Rattle.snap_rows.proofs.rules.nodes.nodes.Given as goal
 
 abbrev pub invariant-loop-turn : goal.invariant-loop-turn
 invariant-loop-turn l = record {

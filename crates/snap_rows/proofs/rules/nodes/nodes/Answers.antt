@@ -6,8 +6,8 @@ use Rattle.snap_rows.specs.Entries.{is_node}
 use Rattle.snap_rows.specs.Standing.{AreNodesFrom}
 use Rattle.snap_rows.proofs.Growing.{nodes_same, nodes_more}
 use Rattle.snap_rows.proofs.Rows.{some_injective}
-use Rattle.snap_rows.proofs.rules.alone.nodes.Goals.{then-is_node+in_ok-insert, else-is_node}
-use Rattle.snap_rows.proofs.rules.alone.nodes.Goals as goal
+use Rattle.snap_rows.proofs.rules.nodes.nodes.Goals.{then-is_node+in_ok-insert, else-is_node}
+use Rattle.snap_rows.proofs.rules.nodes.nodes.Goals as goal
 
 pub loop-turn-preserved : goal.loop-turn-preserved
 loop-turn-preserved c =
