@@ -147,7 +147,7 @@ visited t valid form two w k m r n b row at =
     record {
       number = f.0;
       ups = filter (λ (u : Update). rank_of t u.var == r) last.0;
-      visit = record { leaf = g.0; ups = last.0; outs = last.1; number = f.1; walk = g.1; row = last.2; updates = refl };
+      visit = record { leaf = g.0; ups = last.0; outs = last.1; number = f.1; walk = g.1; row = last.2; updates = refl {a = filter (λ (u : Update). rank_of t u.var == r) last.0} };
       body = end.0;
       row = end.1;
       at = end.2;

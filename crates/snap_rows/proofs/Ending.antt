@@ -6,7 +6,6 @@ use Rattle.std.proofs.lemmas.Bool.{false≢true}
 use Rattle.std.proofs.lemmas.List.Elements.{All-nil, All-cons, All-head, All-tail, All-map}
 use Rattle.snap_core.specs.Arrays.{Arrays}
 use Rattle.snap_rows.specs.declared.tables.Tables.{Tables}
-use Rattle.snap_rows.specs.declared.head.Head.{Head}
 use Rattle.snap_rows.specs.declared.head.Head.TheVariants.{Walk, Out}
 use Rattle.snap_rows.specs.declared.head.Action.{Action}
 use Rattle.snap_rows.specs.declared.head.Action.TheVariants.{Forward, Deliver, Fork}
@@ -20,15 +19,12 @@ use Rattle.snap_rows.specs.Home.{AtHome}
 use Rattle.snap_rows.specs.Steps.{Arrives}
 use Rattle.snap_rows.specs.Handles.{Handles, delivers, carries}
 use Rattle.snap_rows.specs.Network.{Copy, Net, Event, Inject, Step, Happening, inject, step, injected, stepped, moved, happening, RunsCalmly, rests, injects, steps, packets_of, StepsFirst, IsPlainRun, start}
-use Rattle.snap_rows.specs.Bound.{FallsBy}
+use Rattle.snap_rows.specs.Bound.{left, most_hops}
 use Rattle.snap_rows.specs.Progress.{CanBeInjected, PlainRunsEnd}
 use Rattle.snap_rows.proofs.Able.{able}
 use Rattle.snap_rows.proofs.Arrives.{way_to, arrives}
-use Rattle.snap_rows.proofs.Bounded.{Measures, port_below, port_home}
-use Rattle.snap_rows.proofs.Falls.{measures as measures_two}
-use Rattle.snap_rows.proofs.FallsOne.{measures as measures_one}
-use Rattle.snap_rows.specs.Bound.{Left2, most_hops}
-use Rattle.snap_rows.specs.BoundOne.{Left1, most_hops_one}
+use Rattle.snap_rows.proofs.Bounded.{Falls, Measures, port_below, port_home}
+use Rattle.snap_rows.proofs.Measured.{measures}
 
 -- from a state the plain schedule of these packets comes to its end
 record Ends (t : Tables) (ks : List (ℕ × List ℕ)) (s : Net) : Type 0 where
@@ -89,39 +85,37 @@ outs_end t valid form ks [] all rest then' = then'
 outs_end t valid form ks (c ∷ cs) all rest then' = out_ends t valid form ks c (All-head (IsOut t) c cs all) (cs ++ rest) (outs_end t valid form ks cs (All-tail (IsOut t) c cs all) rest then')
 
 -- ---- any copy at home
-record IsNear (t : Tables) (R : ℕ → Head → ℕ → Type 0) (c : Copy) (most : ℕ) : Type 0 where
+record IsNear (t : Tables) (c : Copy) (most : ℕ) : Type 0 where
   pub at : c.at < switch_count t
   pub home : AtHome t c.at c.head
-  pub left : ℕ
-  pub is : R c.at c.head left
-  pub few : left ≤ most
+  pub few : left t c.at c.head ≤ most
 
-one_turn : (t : Tables) (R : ℕ → Head → ℕ → Type 0) (bound : ℕ) → IsValid t → IsInForm t → Measures t R bound → (ks : List (ℕ × List ℕ)) (rest : List Copy) → EndsFrom t ks rest → (most : ℕ)
-    → ((c : Copy) (b : ℕ) → b + 1 ≤ most → IsNear t R c b → EndsFrom t ks (c ∷ rest)) → (c : Copy) → IsNear t R c most → EndsFrom t ks (c ∷ rest)
-one_turn t R bound valid form measures ks rest then' most later c near s is =
+one_turn : (t : Tables) → IsValid t → IsInForm t → Measures t → (ks : List (ℕ × List ℕ)) (rest : List Copy) → EndsFrom t ks rest → (most : ℕ)
+    → ((c : Copy) (b : ℕ) → b + 1 ≤ most → IsNear t c b → EndsFrom t ks (c ∷ rest)) → (c : Copy) → IsNear t c most → EndsFrom t ks (c ∷ rest)
+one_turn t valid form measures ks rest then' most later c near s is =
     let m = s.stores c.at in
     let a = able t valid form c.at c.packet m c.head near.home in
-    by a.0 a.1 a.2 (arrives t valid form c.at near.at c.packet m c.head a.0 a.1 near.home a.2) (measures.falls c.at near.at c.packet m c.head a.0 a.1 near.home a.2 near.left near.is)
+    by a.0 a.1 a.2 (arrives t valid form c.at near.at c.packet m c.head a.0 a.1 near.home a.2) (measures.falls c.at near.at c.packet m c.head a.0 a.1 near.home a.2)
   where
-    by : (m' : Arrays) (a : Action) → Handles t c.at c.packet (s.stores c.at) c.head m' a → Arrives t c.packet a → FallsBy R c.at near.left a → Ends t ks s
+    by : (m' : Arrays) (a : Action) → Handles t c.at c.packet (s.stores c.at) c.head m' a → Arrives t c.packet a → Falls t c.at (left t c.at c.head) a → Ends t ks s
     by m' (Forward to head) handles arr f = step_first t ks s c rest m' (Forward to head) is handles
-        (later _ f.0 (let h : f.0 + 1 ≤ near.left = f.2 in let g = near.few in omega arith) (record { at = arr.0; home = arr.1; left = f.0; is = f.1; few = omega arith }))
+        (later _ (left t to head) (let h : left t to head + 1 ≤ left t c.at c.head = f in let g = near.few in omega arith) (record { at = arr.0; home = arr.1; few = omega arith }))
     by m' (Deliver port) handles arr f = step_first t ks s c rest m' (Deliver port) is handles then'
     by m' (Fork copies lost) handles arr f = step_first t ks s c rest m' (Fork copies lost) is handles
         (outs_end t valid form ks (moved c (Fork copies lost))
         (All-map (IsOut t) (λ (x : Sent). record c { head = Out x.port; packet = x.packet; steps = c.steps + 1 }) copies (λ i d within. record { at = near.at; port = _; head = refl; has = (arr i d within).port }))
         rest then')
 
-copy_ends : (t : Tables) (R : ℕ → Head → ℕ → Type 0) (bound : ℕ) → IsValid t → IsInForm t → Measures t R bound → (ks : List (ℕ × List ℕ)) (rest : List Copy) → EndsFrom t ks rest → (most : ℕ) (c : Copy) → IsNear t R c most → EndsFrom t ks (c ∷ rest)
-copy_ends t R bound valid form measures ks rest then' zero c near = one_turn t R bound valid form measures ks rest then' zero (λ c' b less near'. absurd (let h : b + 1 ≤ 0 = less in omega arith)) c near
-copy_ends t R bound valid form measures ks rest then' (suc most) c near = one_turn t R bound valid form measures ks rest then' (suc most)
-    (λ c' b less near'. copy_ends t R bound valid form measures ks rest then' most c' (record { at = near'.at; home = near'.home; left = near'.left; is = near'.is; few = (let h : b + 1 ≤ suc most = less in let g = near'.few in omega arith) }))
+copy_ends : (t : Tables) → IsValid t → IsInForm t → Measures t → (ks : List (ℕ × List ℕ)) (rest : List Copy) → EndsFrom t ks rest → (most : ℕ) (c : Copy) → IsNear t c most → EndsFrom t ks (c ∷ rest)
+copy_ends t valid form measures ks rest then' zero c near = one_turn t valid form measures ks rest then' zero (λ c' b less near'. absurd (let h : b + 1 ≤ 0 = less in omega arith)) c near
+copy_ends t valid form measures ks rest then' (suc most) c near = one_turn t valid form measures ks rest then' (suc most)
+    (λ c' b less near'. copy_ends t valid form measures ks rest then' most c' (record { at = near'.at; home = near'.home; few = (let h : b + 1 ≤ suc most = less in let g = near'.few in omega arith) }))
     c near
 
 -- ---- all packets
-plain_ends : (t : Tables) (R : ℕ → Head → ℕ → Type 0) (bound : ℕ) → IsValid t → IsInForm t → Measures t R bound → (ks : List (ℕ × List ℕ)) → All (CanBeInjected t) ks → EndsFrom t ks []
-plain_ends t R bound valid form measures [] all s is = record { events = []; last = s; happened = []; run = rests; packets = refl; first = All-nil StepsFirst; ended = is }
-plain_ends t R bound valid form measures (p ∷ ks) all s is = by (port_at t p.0) refl can.port (plain_ends t R bound valid form measures ks (All-tail (CanBeInjected t) p ks all))
+plain_ends : (t : Tables) → IsValid t → IsInForm t → Measures t → (ks : List (ℕ × List ℕ)) → All (CanBeInjected t) ks → EndsFrom t ks []
+plain_ends t valid form measures [] all s is = record { events = []; last = s; happened = []; run = rests; packets = refl; first = All-nil StepsFirst; ended = is }
+plain_ends t valid form measures (p ∷ ks) all s is = by (port_at t p.0) refl can.port (plain_ends t valid form measures ks (All-tail (CanBeInjected t) p ks all))
   where
     can : CanBeInjected t p
     can = All-head (CanBeInjected t) p ks all
@@ -129,10 +123,9 @@ plain_ends t R bound valid form measures (p ∷ ks) all s is = by (port_at t p.0
     by : (o : Option ℕ) → port_at t p.0 ≡ o → IsSome o → EndsFrom t ks [] → Ends t (p ∷ ks) s
     by None e some rest = absurd (false≢true some)
     by (Some w) e some rest =
-        let b = measures.starts p.0 w e in
         let c : Copy = record { number = s.injected; at = w; head = Walk 0; packet = p.1; hops = 0; steps = 0 } in
-        let near : IsNear t R c b.0 = record { at = port_below t form p.0 w e; home = port_home t valid p.0 w e; left = b.0; is = b.1; few = omega arith } in
-        let r = copy_ends t R bound valid form measures ks [] rest b.0 c near (injected s w p.0 p.1) (ap (λ (cs : List Copy). cs ++ c ∷ []) is) in
+        let near : IsNear t c (most_hops t) = record { at = port_below t form p.0 w e; home = port_home t valid p.0 w e; few = measures.starts p.0 w e } in
+        let r = copy_ends t valid form measures ks [] rest (most_hops t) c near (injected s w p.0 p.1) (ap (λ (cs : List Copy). cs ++ c ∷ []) is) in
         record {
           events = Inject p.0 p.1 ∷ r.events;
           last = r.last;
@@ -143,13 +136,10 @@ plain_ends t R bound valid form measures (p ∷ ks) all s is = by (port_at t p.0
           ended = r.ended;
         }
 
-plain_run : (t : Tables) (R : ℕ → Head → ℕ → Type 0) (bound : ℕ) → IsValid t → IsInForm t → Measures t R bound → (m : Arrays) (ks : List (ℕ × List ℕ)) → All (CanBeInjected t) ks → (es : List Event) × (s : Net) × (hs : List Happening) × IsPlainRun t m ks es s hs
-plain_run t R bound valid form measures m ks all =
-    let r = plain_ends t R bound valid form measures ks all (start t m) refl in
+plain_run : (t : Tables) → IsValid t → IsInForm t → Measures t → (m : Arrays) (ks : List (ℕ × List ℕ)) → All (CanBeInjected t) ks → (es : List Event) × (s : Net) × (hs : List Happening) × IsPlainRun t m ks es s hs
+plain_run t valid form measures m ks all =
+    let r = plain_ends t valid form measures ks all (start t m) refl in
     (r.events, r.last, r.happened, record { packets = r.packets; first = r.first; run = r.run; ended = r.ended })
 
 pub plain_runs_end : PlainRunsEnd
-plain_runs_end t valid form = ⊎_elim
-    (λ one. plain_run t (Left1 t) (most_hops_one t) valid form (measures_one t valid form one))
-    (λ two. plain_run t (Left2 t) (most_hops t) valid form (measures_two t valid form two))
-    form.version
+plain_runs_end t valid form = plain_run t valid form (measures t valid form)

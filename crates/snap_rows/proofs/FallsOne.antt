@@ -1,7 +1,7 @@
 -- What is left of a copy's way falls with each step of version 1.
 use Rattle.std.proofs.Common.{◌≡◌, ◌≢◌, ℕ, zero, suc, ◌+◌, ◌-◌, ◌*◌, ◌<◌, ◌≤◌, Bool, true, false, cond, List, [], ◌∷◌, Option, Some, None, length, refl, sym, ap, subst, ◌∙◌, arith, inl, inr, ⊎_elim, ◌⊎◌}
-use Rattle.std.specs.Prelude.{slice_get, IsSome, IfSome, is_some, ◌&&◌, nat_lt, count_by}
-use Rattle.std.proofs.lemmas.Bool.{false≢true, ltb-true, lt-ltb, le-ltb, and_parts, and_from, and_right}
+use Rattle.std.specs.Prelude.{slice_get, get_or, IsSome, IfSome, is_some, option_map, ◌&&◌, nat_lt, count_by, if◌then◌else◌}
+use Rattle.std.proofs.lemmas.Bool.{false≢true, ltb-true, lt-ltb, le-ltb, eq-eqb, and_parts, and_from, and_right}
 use Rattle.std.proofs.lemmas.Option.{slice_get-get_or}
 use Rattle.std.proofs.lemmas.List.Sums.{sum_by-cons}
 use Rattle.std.proofs.Math.Nat.{suc-mul, mul-le-mul_right}
@@ -9,25 +9,24 @@ use Rattle.snap_core.specs.declared.policy.Test.{Test}
 use Rattle.snap_core.specs.Arrays.{Arrays}
 use Rattle.snap_rows.specs.declared.tables.RowAt.{RowAt}
 use Rattle.snap_rows.specs.declared.tables.Tables.{Tables}
-use Rattle.snap_rows.specs.declared.tables.Rule.TheVariants.{Kind, Owner, Missing}
+use Rattle.snap_rows.specs.declared.tables.Rule.TheVariants.{Kind, Owner}
 use Rattle.snap_rows.specs.declared.tables.Row.{Row}
 use Rattle.snap_rows.specs.declared.tables.Row.TheVariants.{Field, State, Go, Leaf, Stop, Last}
 use Rattle.snap_rows.specs.declared.tables.Stage.{Stage as Turn}
 use Rattle.snap_rows.specs.declared.head.Head.{Head}
-use Rattle.snap_rows.specs.declared.head.Head.TheVariants.{Walk, Stage as AtStage, Out}
+use Rattle.snap_rows.specs.declared.head.Head.TheVariants.{Walk, Stage as AtStage}
 use Rattle.snap_rows.specs.declared.head.Action.{Action}
-use Rattle.snap_rows.specs.Entries.{Parts, row_at, node_of, owner_of, port_at, next, var_of}
+use Rattle.snap_rows.specs.Entries.{Parts, row_at, node_of, owner_of, port_at, next, ranks, var_of}
 use Rattle.snap_rows.specs.Form.{IsInForm, IsTurnInForm, switch_count}
 use Rattle.snap_rows.specs.Rules.{IsValid, IsStateRow}
 use Rattle.snap_rows.specs.Home.{AtHome}
 use Rattle.snap_rows.specs.Handles.{Handles, asks, goes, forks, begins, passes_on, goes_on, completes, enters, enters_last, seeks, visits, concludes, delivers, carries}
-use Rattle.snap_rows.specs.Bound.{longest, IsFar, FallsBy}
-use Rattle.snap_rows.specs.BoundOne.{is_state, states, states_above, stages_of, most_stages, most_stages_in, IsFromDecision, Left1, most_hops_one, HopsAreBounded1}
+use Rattle.snap_rows.specs.Bound.{distance, longest, is_state, states, states_above, stages_of, most_stages, most_stages_in, to_switch, to_decision, from_stage, left, most_hops}
 use Rattle.snap_rows.proofs.Rows.{row_keeps, row_form, entry_of, All-get, some_injective}
 use Rattle.snap_rows.proofs.Ways.{side_goes}
 use Rattle.snap_rows.proofs.Growing.{not_two}
 use Rattle.snap_rows.proofs.Arrives.{same_leaf, arrives, stage_first, stage_next}
-use Rattle.snap_rows.proofs.Bounded.{Measures, port_home, port_below, far_to, nearer, wider, fork_falls, bounded}
+use Rattle.snap_rows.proofs.Bounded.{Falls, Measures, port_below, port_home, far_short, nearer, wider, fork_falls, carry_falls}
 use Rattle.snap_rows.proofs.Falls.{visit_bound, conclude_bound}
 
 -- ---- counts
@@ -128,27 +127,33 @@ above_some t x y d =
 
 -- ---- the way to the decision of a number
 record Decision (t : Tables) (w n : ℕ) (o : Option Row) : Type 0 where
-  pub far : ℕ
-  pub is : IsFromDecision t w o far
-  pub short : far ≤ longest t
-  pub some : (far ≡ 0) ⊎ ((x : ℕ) × Decided t n x)
+  pub short : to_decision t w o ≤ longest t
+  pub some : (to_decision t w o ≡ 0) ⊎ ((x : ℕ) × Decided t n x)
 
 decision : (t : Tables) → IsValid t → IsInForm t → t.version ≡ 1 → (w n : ℕ) → w < switch_count t → IsSome (row_at t w n) → Decision t w n (row_at t w n)
 decision t valid form one w n low some = by (row_at t w n) refl some
   where
-    here : (o : Option Row) → IsFromDecision t w o 0 → Decision t w n o
-    here o is = record { far = 0; is = is; short = (let l = longest t in omega arith); some = inl refl }
+    here : (o : Option Row) → to_decision t w o ≡ 0 → Decision t w n o
+    here o none = record { short = (let l = longest t in omega arith); some = inl none }
 
     by : (o : Option Row) → row_at t w n ≡ o → IsSome o → Decision t w n o
     by None e some = absurd (false≢true some)
-    by (Some (Go x)) e some =
-        let far = far_to t valid form w x low (row_form t form w n (Go x) e).1 in
-        record { far = far.0; is = far.1; short = far.2; some = inr (x, (decided t valid one w n x e).1) }
+    by (Some (Go x)) e some = record { short = far_short t valid form w x low (row_form t form w n (Go x) e).1; some = inr (x, (decided t valid one w n x e).1) }
     by (Some (Field test y z)) e some = here (Some (Field test y z)) refl
     by (Some (State test y z)) e some = here (Some (State test y z)) refl
     by (Some (Leaf ss os)) e some = here (Some (Leaf ss os)) refl
     by (Some Stop) e some = here (Some Stop) refl
     by (Some (Last us os)) e some = here (Some (Last us os)) refl
+
+-- a number that is decided at x is no farther from its decision than from x
+decided_near : (t : Tables) → IsValid t → t.version ≡ 1 → (w n x : ℕ) → Decided t n x → (o : Option Row) → row_at t w n ≡ o → to_decision t w o ≤ distance t w x
+decided_near t valid one w n x there (Some (Go y)) e = let same : y ≡ x = one_decision t n y x (decided t valid one w n y e).1 there in subst (λ y. distance t w y ≤ distance t w x) (sym same) (omega arith)
+decided_near t valid one w n x there None e = omega arith
+decided_near t valid one w n x there (Some (Field test y z)) e = omega arith
+decided_near t valid one w n x there (Some (State test y z)) e = omega arith
+decided_near t valid one w n x there (Some (Leaf ss os)) e = omega arith
+decided_near t valid one w n x there (Some Stop) e = omega arith
+decided_near t valid one w n x there (Some (Last us os)) e = omega arith
 
 -- ---- the stages of a leaf
 stages_in : (rs : List RowAt) (i : ℕ) (r : RowAt) → slice_get rs i ≡ Some r → stages_of r.row ≤ most_stages_in rs
@@ -162,8 +167,8 @@ few_stages t w n ss os row =
     subst (λ (b : Row). stages_of b ≤ most_stages t) i.body (stages_in t.rows i.place i.entry i.is)
 
 -- ---- sums
-walk_bound : (z l d d' b s s' : ℕ) → d' ≤ l → s' ≤ s → (d' ≡ 0) ⊎ (s' + 1 ≤ s) → b ≡ d + (s + z + 1) * l → d' + (s' + z + 1) * l ≤ b
-walk_bound z l d d' b s s' short less some e = ⊎_elim
+walk_bound : (z l d d' s s' : ℕ) → d' ≤ l → s' ≤ s → (d' ≡ 0) ⊎ (s' + 1 ≤ s) → d' + (s' + z + 1) * l ≤ d + (s + z + 1) * l
+walk_bound z l d d' s s' short less some = ⊎_elim
     (λ none. let p : (s' + z + 1) * l ≤ (s + z + 1) * l = mul-le-mul_right l (omega arith) in omega arith)
     (λ more.
     let p : suc (s' + z + 1) * l ≤ (s + z + 1) * l = mul-le-mul_right l (omega arith) in
@@ -171,120 +176,97 @@ walk_bound z l d d' b s s' short less some e = ⊎_elim
     omega arith)
     some
 
-leaf_bound : (z l d b s : ℕ) → b ≡ d + (s + z + 1) * l → l ≤ b
-leaf_bound z l d b s e =
+leaf_bound : (z l d s : ℕ) → l ≤ d + (s + z + 1) * l
+leaf_bound z l d s =
     let p : (s + z + 1) * l ≡ (s + z) * l + l = ap (λ n. n * l) (let q : s + z + 1 ≡ suc (s + z) = omega arith in q) ∙ suc-mul (s + z) l in
     omega arith
 
-begin_bound : (z l d d' b s c : ℕ) → d' ≤ l → c ≤ z → b ≡ d + (s + z + 1) * l → d' + (c - 0) * l ≤ b
-begin_bound z l d d' b s c short few e =
+begin_bound : (z l d d' s c : ℕ) → d' ≤ l → c ≤ z → d' + (c - 0) * l ≤ d + (s + z + 1) * l
+begin_bound z l d d' s c short few =
     let p : suc c * l ≤ (s + z + 1) * l = mul-le-mul_right l (omega arith) in
     let q : suc c * l ≡ c * l + l = suc-mul c l in
     let r : (c - 0) * l ≡ c * l = ap (λ n. n * l) (let r : c - 0 ≡ c = omega arith in r) in
     omega arith
 
--- ---- steps
-out_left : (t : Tables) (w p x d : ℕ) → port_at t p ≡ Some x → IsFar t w x d → Left1 t w (Out p) d
-out_left t w p x d at far = (x, at, far)
+-- ---- heads
+walk_left : (t : Tables) → t.version ≡ 1 → (w n : ℕ) → left t w (Walk n) ≡ to_decision t w (row_at t w n) + (states_above t n + most_stages t + 1) * longest t
+walk_left t one w n = ap (λ b. if b then to_decision t w (row_at t w n) + (states_above t n + most_stages t + 1) * longest t else (ranks t + 1) * longest t) (eq-eqb t.version 1 one)
 
-same_way : (t : Tables) (w n x d : ℕ) → row_at t w n ≡ Some (Go x) → IsFromDecision t w (row_at t w n) d → IsFar t w x d
-same_way t w n x d row is = subst (λ o. IsFromDecision t w o d) row is
-
--- where a number that is decided elsewhere is one hop nearer to that
-gone_left : (t : Tables) → IsValid t → IsInForm t → t.version ≡ 1 → (w n x c : ℕ) → Decided t n x → IsFar t w x c → IsSome (row_at t w n) → (d : ℕ) × IsFromDecision t w (row_at t w n) d × (d ≤ c)
-gone_left t valid form one w n x c there far some = by (row_at t w n) refl some
-  where
-    by : (o : Option Row) → row_at t w n ≡ o → IsSome o → (d : ℕ) × IsFromDecision t w o d × (d ≤ c)
-    by None e some = absurd (false≢true some)
-    by (Some (Go y)) e some = (c, subst (λ v. IsFar t w v c) (one_decision t n x y there (decided t valid one w n y e).1) far, omega arith)
-    by (Some (Field test y z)) e some = (0, refl, omega arith)
-    by (Some (State test y z)) e some = (0, refl, omega arith)
-    by (Some (Leaf ss os)) e some = (0, refl, omega arith)
-    by (Some Stop) e some = (0, refl, omega arith)
-    by (Some (Last us os)) e some = (0, refl, omega arith)
+stage_left : (t : Tables) (w n i : ℕ) (s : Turn) (ss : List Turn) (os : List Parts) → row_at t w n ≡ Some (Leaf ss os) → slice_get ss i ≡ Some s → left t w (AtStage n i) ≡ distance t w s.at + (length ss - i) * longest t
+stage_left t w n i s ss os row is =
+    ap (λ o. from_stage t w o i) row ∙ ap (λ (o : Option Turn). to_switch t w (option_map (λ (s : Turn). s.at) o) + (length ss - i) * longest t) is
 
 turn_below : (t : Tables) → IsInForm t → (w n i : ℕ) (s : Turn) (ss : List Turn) (os : List Parts) → row_at t w n ≡ Some (Leaf ss os) → slice_get ss i ≡ Some s → s.at < switch_count t
 turn_below t form w n i s ss os row is = (All-get (IsTurnInForm t) ss i s (row_form t form w n (Leaf ss os) row).2 is).at
 
--- a stage's left with the leaf and stage that stand there
-record StageLeft (t : Tables) (w n i : ℕ) (s : Turn) (ss : List Turn) (b : ℕ) : Type 0 where
-  pub far : ℕ
-  pub is : IsFar t w s.at far
-  pub sum : b ≡ far + (length ss - i) * longest t
-
-stage_left : (t : Tables) (w n i b : ℕ) (s : Turn) (ss : List Turn) (os : List Parts) → row_at t w n ≡ Some (Leaf ss os) → slice_get ss i ≡ Some s → Left1 t w (AtStage n i) b → StageLeft t w n i s ss b
-stage_left t w n i b s ss os row is left =
-    let same : Leaf left.0 left.1 ≡ Leaf ss os = some_injective _ _ (sym left.4 ∙ row) in
-    let stages : left.0 ≡ ss = cc in
-    let turn : left.2 ≡ s = some_injective _ _ (sym left.5 ∙ ap (λ ss. slice_get ss i) stages ∙ is) in
-    record {
-      far = left.3;
-      is = subst (λ (s : Turn). IsFar t w s.at left.3) turn left.6;
-      sum = subst (λ (ss : List Turn). b ≡ left.3 + (length ss - i) * longest t) stages left.7;
-    }
-
-falls : (t : Tables) → IsValid t → IsInForm t → t.version ≡ 1 → (w : ℕ) → w < switch_count t → (k : List ℕ) (m : Arrays) (h : Head) (m' : Arrays) (a : Action) → AtHome t w h → Handles t w k m h m' a → (b : ℕ) → Left1 t w h b → FallsBy (Left1 t) w b a
-falls t valid form one w low k m h m' a home (asks {n = n} {x = x} {b = body} one' row to f) b left =
+-- ---- steps
+falls : (t : Tables) → IsValid t → IsInForm t → t.version ≡ 1 → (w : ℕ) → w < switch_count t → (k : List ℕ) (m : Arrays) (h : Head) (m' : Arrays) (a : Action) → AtHome t w h → Handles t w k m h m' a → Falls t w (left t w h) a
+falls t valid form one w low k m h m' a home (asks {n = n} {x = x} {b = body} one' row to f) =
     let side = subst (λ o. IfSome o (λ y. (n < y) × IsSome (row_at t w y))) to (side_goes t valid w n body row m k) in
     let d = decision t valid form one w x low side.1 in
     let z = most_stages t in
-    let c = d.far + (states_above t x + z + 1) * longest t in
-    let more = above_more n x side.0 in
-    let less : states_above t x ≤ states_above t n = count_le (λ r. is_state r.row && nat_lt x r.number) (λ r. is_state r.row && nat_lt n r.number) t.rows more in
-    let some = ⊎_elim {C = (d.far ≡ 0) ⊎ (states_above t x + 1 ≤ states_above t n)} (λ none. inl none) (λ there. inr (above_less t n x there.0 side.0 there.1)) d.some in
-    wider (Left1 t) w c b a (walk_bound z (longest t) left.0 d.far b (states_above t n) (states_above t x) d.short less some left.2)
-    (falls t valid form one w low k m (Walk x) m' a side.1 f c (d.far, d.is, refl))
-falls t valid form one w low k m h m' a home (goes {n = n} {x = x} row) b left =
+    let less : states_above t x ≤ states_above t n = count_le (λ r. is_state r.row && nat_lt x r.number) (λ r. is_state r.row && nat_lt n r.number) t.rows (above_more n x side.0) in
+    let some = ⊎_elim {C = (to_decision t w (row_at t w x) ≡ 0) ⊎ (states_above t x + 1 ≤ states_above t n)} (λ none. inl none) (λ there. inr (above_less t n x there.0 side.0 there.1)) d.some in
+    let le = walk_bound z (longest t) (to_decision t w (row_at t w n)) (to_decision t w (row_at t w x)) (states_above t n) (states_above t x) d.short less some in
+    wider t w (left t w (Walk x)) (left t w (Walk n)) a (subst (λ b. b ≤ left t w (Walk n)) (sym (walk_left t one w x)) (subst (λ c. to_decision t w (row_at t w x) + (states_above t x + z + 1) * longest t ≤ c) (sym (walk_left t one w n)) le))
+    (falls t valid form one w low k m (Walk x) m' a side.1 f)
+falls t valid form one w low k m h m' a home (goes {n = n} {x = x} row) =
     let there = decided t valid one w n x row in
-    let near = nearer t w x left.0 (same_way t w n x left.0 row left.1) there.0 in
-    let some = row_keeps t valid Missing w n (Go x) row (next t w x) n (refl, refl) in
-    let d = gone_left t valid form one (next t w x) n x near.0 there.1 near.1 some in
+    let v = next t w x in
     let p = (states_above t n + most_stages t + 1) * longest t in
-    (d.0 + p, (d.0, d.1, refl), (let e : near.0 + 1 ≡ left.0 = near.2 in let h : d.0 ≤ near.0 = d.2 in let s : b ≡ left.0 + p = left.2 in omega arith))
-falls t valid form one w low k m h m' a home (forks {n = n} {os = os} row) b left = fork_falls t valid form (Left1 t) (out_left t) w b os k low (leaf_bound (most_stages t) (longest t) left.0 b (states_above t n) left.2)
-falls t valid form one w low k m h m' a home (begins {n = n} {s = s} {ss = ss} {os = os} row f) b left =
-    let far = far_to t valid form w s.at low (turn_below t form w n 0 s (s ∷ ss) os row refl) in
-    let c = far.0 + (length (s ∷ ss) - 0) * longest t in
-    wider (Left1 t) w c b a (begin_bound (most_stages t) (longest t) left.0 far.0 b (states_above t n) (length (s ∷ ss)) far.2 (few_stages t w n (s ∷ ss) os row) left.2)
-    (falls t valid form one w low k m (AtStage n 0) m' a (one, stage_first t valid form one w n s ss os low row) f c (s ∷ ss, os, s, far.0, row, refl, far.1, refl))
-falls t valid form one w low k m h m' a home (passes_on {n = n} {i = i} {s = s} {ss = ss} {os = os} row is away) b left =
-    let l = stage_left t w n i b s ss os row is left in
-    let near = nearer t w s.at l.far l.is away in
-    let there = arrives t valid form w low k m (AtStage n i) m a home (passes_on row is away) in
-    let row' = same_leaf t valid form one w (next t w s.at) n ss os row (ap (λ (o : Option Row). is_some o) there.1.1.row) in
+    let near = nearer t valid form w x low (row_form t form w n (Go x) row).1 there.0 in
+    let d : to_decision t v (row_at t v n) ≤ distance t v x = decided_near t valid one v n x there.1 (row_at t v n) refl in
+    let c : to_decision t w (row_at t w n) ≡ distance t w x = ap (to_decision t w) row in
+    let e : left t w (Walk n) ≡ to_decision t w (row_at t w n) + p = walk_left t one w n in
+    let f : left t v (Walk n) ≡ to_decision t v (row_at t v n) + p = walk_left t one v n in
+    omega arith
+falls t valid form one w low k m h m' a home (forks {n = n} {os = os} row) =
+    subst (λ b. Falls t w b a) (sym (walk_left t one w n)) (fork_falls t valid form w _ os k low (leaf_bound (most_stages t) (longest t) (to_decision t w (row_at t w n)) (states_above t n)))
+falls t valid form one w low k m h m' a home (begins {n = n} {s = s} {ss = ss} {os = os} row f) =
+    let short = far_short t valid form w s.at low (turn_below t form w n 0 s (s ∷ ss) os row refl) in
+    let le = begin_bound (most_stages t) (longest t) (to_decision t w (row_at t w n)) (distance t w s.at) (states_above t n) (length (s ∷ ss)) short (few_stages t w n (s ∷ ss) os row) in
+    wider t w (left t w (AtStage n 0)) (left t w (Walk n)) a
+    (subst (λ b. b ≤ left t w (Walk n)) (sym (stage_left t w n 0 s (s ∷ ss) os row refl)) (subst (λ c. distance t w s.at + (length (s ∷ ss) - 0) * longest t ≤ c) (sym (walk_left t one w n)) le))
+    (falls t valid form one w low k m (AtStage n 0) m' a (one, stage_first t valid form one w n s ss os low row) f)
+falls t valid form one w low k m h m' a home (passes_on {n = n} {i = i} {s = s} {ss = ss} {os = os} row is away) =
+    let v = next t w s.at in
     let p = (length ss - i) * longest t in
-    (near.0 + p, (ss, os, s, near.0, row', is, near.1, refl), (let e : near.0 + 1 ≡ l.far = near.2 in let s : b ≡ l.far + p = l.sum in omega arith))
-falls t valid form one w low k m h m' a home (goes_on {n = n} {i = i} {s = s} {ss = ss} {os = os} row is stands more f) b left =
-    let l = stage_left t w n i b s ss os row is left in
+    let near = nearer t valid form w s.at low (turn_below t form w n i s ss os row is) away in
+    let there = arrives t valid form w low k m (AtStage n i) m a home (passes_on row is away) in
+    let row' = same_leaf t valid form one w v n ss os row (ap (λ (o : Option Row). is_some o) there.1.1.row) in
+    let e : left t w (AtStage n i) ≡ distance t w s.at + p = stage_left t w n i s ss os row is in
+    let f : left t v (AtStage n i) ≡ distance t v s.at + p = stage_left t v n i s ss os row' is in
+    omega arith
+falls t valid form one w low k m h m' a home (goes_on {n = n} {i = i} {s = s} {ss = ss} {os = os} row is stands more f) =
     let is' = slice_get-get_or ss (i + 1) s more in
-    let far = far_to t valid form w _ low (turn_below t form w n (i + 1) _ ss os row is') in
-    let c = far.0 + (length ss - (i + 1)) * longest t in
-    wider (Left1 t) w c b a (visit_bound (length ss) i (longest t) l.far far.0 b more far.2 l.sum)
-    (falls t valid form one w low k _ (AtStage n (i + 1)) m' a (one, stage_next t w n i s ss os row is stands more home.1) f c (ss, os, _, far.0, row, is', far.1, refl))
-falls t valid form one w low k m h m' a home (completes {n = n} {i = i} {s = s} {ss = ss} {os = os} row is stands last) b left =
-    let l = stage_left t w n i b s ss os row is left in
-    fork_falls t valid form (Left1 t) (out_left t) w b os k low (conclude_bound (length ss) i (longest t) l.far b last l.sum)
-falls t valid form one w low k m h m' a home (enters two some way f) b left = absurd (not_two t one two)
-falls t valid form one w low k m h m' a home (enters_last two none way row) b left = absurd (not_two t one two)
-falls t valid form one w low k m h m' a home (seeks rank away) b left = absurd left
-falls t valid form one w low k m h m' a home (visits rank visit more f) b left = absurd left
-falls t valid form one w low k m h m' a home (concludes rank visit last row) b left = absurd left
-falls t valid form one w low k m h m' a home (delivers at) b left = tt
-falls t valid form one w low k m h m' a home (carries {x = x} at away) b left =
-    let same : left.0 ≡ x = some_injective _ _ (sym left.1 ∙ at) in
-    let near = nearer t w x b (subst (λ y. IsFar t w y b) same left.2) away in
-    (near.0, (x, at, near.1), (let h : near.0 + 1 ≡ b = near.2 in omega arith))
+    let s' = get_or ss (i + 1) s in
+    let short = far_short t valid form w s'.at low (turn_below t form w n (i + 1) s' ss os row is') in
+    let le = visit_bound (length ss) i (longest t) (distance t w s.at) (distance t w s'.at) more short in
+    wider t w (left t w (AtStage n (i + 1))) (left t w (AtStage n i)) a
+    (subst (λ b. b ≤ left t w (AtStage n i)) (sym (stage_left t w n (i + 1) s' ss os row is')) (subst (λ c. distance t w s'.at + (length ss - (i + 1)) * longest t ≤ c) (sym (stage_left t w n i s ss os row is)) le))
+    (falls t valid form one w low k _ (AtStage n (i + 1)) m' a (one, stage_next t w n i s ss os row is stands more home.1) f)
+falls t valid form one w low k m h m' a home (completes {n = n} {i = i} {s = s} {ss = ss} {os = os} row is stands last) =
+    subst (λ b. Falls t w b a) (sym (stage_left t w n i s ss os row is)) (fork_falls t valid form w _ os k low (conclude_bound (length ss) i (longest t) (distance t w s.at) last))
+falls t valid form one w low k m h m' a home (enters two some way f) = absurd (not_two t one two)
+falls t valid form one w low k m h m' a home (enters_last two none way row) = absurd (not_two t one two)
+falls t valid form one w low k m h m' a home (seeks rank away) = absurd (not_two t one home.0)
+falls t valid form one w low k m h m' a home (visits rank visit more f) = absurd (not_two t one home.0)
+falls t valid form one w low k m h m' a home (concludes rank visit last row) = absurd (not_two t one home.0)
+falls t valid form one w low k m h m' a home (delivers at) = tt
+falls t valid form one w low k m h m' a home (carries {p = p} {x = x} at away) = carry_falls t valid form w p x low at away
 
-pub measures : (t : Tables) → IsValid t → IsInForm t → t.version ≡ 1 → Measures t (Left1 t) (most_hops_one t)
+most_one : (t : Tables) → t.version ≡ 1 → most_hops t ≡ 0 + (states t + most_stages t + 1) * longest t
+most_one t one =
+    let e : most_hops t ≡ (states t + most_stages t + 1) * longest t = ap (λ b. (if b then states t + most_stages t + 1 else ranks t + 1) * longest t) (eq-eqb t.version 1 one) in
+    omega arith
+
+pub measures : (t : Tables) → IsValid t → IsInForm t → t.version ≡ 1 → Measures t
 measures t valid form one = record { starts = starts; falls = falls t valid form one }
   where
-    starts : (p w : ℕ) → port_at t p ≡ Some w → (b : ℕ) × Left1 t w (Walk 0) b × (b ≤ most_hops_one t)
+    starts : (p w : ℕ) → port_at t p ≡ Some w → left t w (Walk 0) ≤ most_hops t
     starts p w at =
         let d = decision t valid form one w 0 (port_below t form p w at) (port_home t valid p w at) in
-        let z = most_stages t in
         let less : states_above t 0 ≤ states t = count_le (λ r. is_state r.row && nat_lt 0 r.number) (λ r. is_state r.row) t.rows (above_all 0) in
-        let some = ⊎_elim {C = (d.far ≡ 0) ⊎ (states_above t 0 + 1 ≤ states t)} (λ none. inl none) (λ there. inr (above_some t 0 there.0 there.1)) d.some in
-        (d.far + (states_above t 0 + z + 1) * longest t, (d.far, d.is, refl), walk_bound z (longest t) 0 d.far (most_hops_one t) (states t) (states_above t 0) d.short less some (let e : (states t + z + 1) * longest t ≡ 0 + (states t + z + 1) * longest t = omega arith in e))
-
-pub bounded_one : HopsAreBounded1
-bounded_one t valid form one = bounded t (Left1 t) (most_hops_one t) valid form (measures t valid form one)
+        let some = ⊎_elim {C = (to_decision t w (row_at t w 0) ≡ 0) ⊎ (states_above t 0 + 1 ≤ states t)} (λ none. inl none) (λ there. inr (above_some t 0 there.0 there.1)) d.some in
+        subst (λ b. b ≤ most_hops t) (sym (walk_left t one w 0)) (subst (λ c. to_decision t w (row_at t w 0) + (states_above t 0 + most_stages t + 1) * longest t ≤ c) (sym (most_one t one))
+        (walk_bound (most_stages t) (longest t) 0 (to_decision t w (row_at t w 0)) (states t) (states_above t 0) d.short less some))

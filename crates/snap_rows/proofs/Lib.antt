@@ -19,9 +19,11 @@ pub mod Short
 pub mod Bounded
 pub mod Falls
 pub mod FallsOne
+pub mod Measured
 pub mod Alone
 pub mod Growing
 pub mod Nodes
 pub mod Able
 pub mod OneWay
 pub mod Ending
+pub mod Lighter

@@ -1,12 +1,12 @@
 -- What can be done with valid tables: each step, in one way alone, and each plain schedule to its end.
-use Rattle.std.specs.Prelude.{◌≡◌, ℕ, ◌<◌, List, slice_index, IsSome}
+use Rattle.std.specs.Prelude.{◌≡◌, ℕ, List, slice_index, IsSome}
 use Rattle.std.specs.List.{All}
 use Rattle.snap_core.specs.Arrays.{Arrays}
 use Rattle.snap_rows.specs.declared.tables.Tables.{Tables}
 use Rattle.snap_rows.specs.declared.head.Head.{Head}
 use Rattle.snap_rows.specs.declared.head.Action.{Action}
 use Rattle.snap_rows.specs.Entries.{port_at}
-use Rattle.snap_rows.specs.Form.{IsInForm, switch_count}
+use Rattle.snap_rows.specs.Form.{IsInForm}
 use Rattle.snap_rows.specs.Rules.{IsValid}
 use Rattle.snap_rows.specs.Handles.{Handles}
 use Rattle.snap_rows.specs.Home.{AtHome}
@@ -14,7 +14,7 @@ use Rattle.snap_rows.specs.Network.{Net, Event, Happening, IsPlainRun}
 
 -- a head at home can be handled
 abbrev pub CanBeHandled : Type 0
-CanBeHandled = (t : Tables) → IsValid t → IsInForm t → (w : ℕ) → w < switch_count t → (k : List ℕ) (m : Arrays) (h : Head) → AtHome t w h → (m' : Arrays) × (a : Action) × Handles t w k m h m' a
+CanBeHandled = (t : Tables) → IsValid t → IsInForm t → (w : ℕ) (k : List ℕ) (m : Arrays) (h : Head) → AtHome t w h → (m' : Arrays) × (a : Action) × Handles t w k m h m' a
 
 -- and in one way alone
 abbrev pub IsHandledOneWay : Type 0

@@ -2,4 +2,4 @@ use Rattle.snap_rows.proofs.Able.{able}
 use Rattle.snap_rows.proofs.progress.steps_can_be_made.Goals as goal
 
 pub returns : goal.returns
-returns c = λ t valid form w low. able t valid form w
+returns c = able
