@@ -1,0 +1,187 @@
+//! What updates add to places, counted together.
+
+ghost use Rattle.std.specs.Prelude.{◌≡◌, ◌<◌, ◌||◌, ◌==◌, ℕ, All, IfOk, IfSome, OnOk, List, false, get_or, length};
+ghost use Rattle.snap_core.specs.declared.place.Place.{Place};
+ghost use Rattle.snap_core.specs.Arrays.{place_at};
+ghost use Rattle.snap_core.specs.declared.policy.Op.TheVariants.{Add};
+ghost use Rattle.snap_core.specs.Variables.{has};
+ghost use Rattle.snap_ctx.specs.Classes.{wrap};
+ghost use Rattle.snap_equal.specs.Inputs.{AreOf, IsUpdate};
+ghost use Rattle.snap_equal.specs.Tally.{AddOutside, IsDifference, IsSum, negative, plus, share, total};
+ghost use Rattle.snap_equal.specs.Told.{On};
+
+use crate::places::reads_place;
+use snap_core::NoMemory;
+use snap_core::policy::{Op, Update};
+use snap_ctx::context::Context;
+use snap_fdd::sets::is_in;
+use std::alloc::Global;
+
+// A set with one number more.
+fn with(set: u64, number: u16) -> u64
+    requires { number < 64 }
+    ensures { (v : ℕ) → has result v ≡ (number == v || has set v) }
+{
+    set | 1 << number
+}
+
+/// The set with the variables at which some of the updates puts a number.
+pub(crate) fn with_puts(set: u64, updates: &[Update]) -> u64
+    requires { AreOf 64 updates.now }
+    ensures more { (v : ℕ) → has result v ≡ false → has set v ≡ false }
+    ensures puts { AddOutside result updates.now }
+{
+    let mut vars = set;
+    for update in updates {
+        if let Op::Put(_) = update.op {
+            vars = with(vars, update.var);
+        }
+    }
+    vars
+}
+
+// An addition with so much more, modulo 2^64.
+fn plus(op: Op, more: u64) -> Op
+    ensures { result ≡ plus op more }
+{
+    match op {
+        Op::Put(_) => op,
+        Op::Add(num) => Op::Add(num.wrapping_add(more)),
+    }
+}
+
+// The addition that undoes one.
+fn negative(op: Op) -> Op
+    ensures { result ≡ negative op }
+{
+    match op {
+        Op::Put(_) => op,
+        Op::Add(num) => Op::Add(0u64.wrapping_sub(num)),
+    }
+}
+
+// Which of the sums is at the place of an update, as far as a context tells at once.
+fn position(ctx: &Context, sums: &[Update], update: &Update) -> Option<usize>
+    requires sums { All (IsUpdate (length ctx.now.classes)) sums.now }
+    requires update { IsUpdate (length ctx.now.classes) update.now }
+    ensures below { IfSome result (λ i. i < length sums.now) }
+    ensures place { IfSome result (λ i. On ctx.now (λ m k. place_at (get_or sums.now i update.now).var (get_or sums.now i update.now).index k ≡ place_at update.now.var update.now.index k)) }
+{
+    for (i, sum) in sums.iter().enumerate() {
+        if reads_place(ctx, sum, update) {
+            return Some(i);
+        }
+    }
+    None
+}
+
+// Adds to the sum at the place of an update.
+fn add(
+    ctx: &Context,
+    vars: u16,
+    mixed: u64,
+    sums: &mut Vec<Update>,
+    update: &Update,
+    num: u64,
+) -> Result<(), NoMemory>
+    requires sums { All (IsSum mixed (length ctx.now.classes) vars) sums.old.items }
+    requires update { IsSum mixed (length ctx.now.classes) vars update.now }
+    requires num { update.now.op ≡ Add num }
+    ensures sums { OnOk result (All (IsSum mixed (length ctx.now.classes) vars) sums.new.items) }
+    ensures total { OnOk result (On ctx.now (λ m k. (q : Place) → total sums.new.items k q ≡ wrap (total sums.old.items k q) (share update.now k q))) }
+{
+    match position(ctx, sums, update) {
+        Some(i) => sums[i].op = plus(sums[i].op, num),
+        None => {
+            let index = update.index.copy()?;
+            sums.push(Update {
+                var: update.var,
+                index,
+                op: update.op,
+            })?;
+        }
+    }
+    Ok(())
+}
+
+// Adds what updates add at variables outside a set.
+fn count(
+    ctx: &Context,
+    vars: u16,
+    mixed: u64,
+    sums: &mut Vec<Update>,
+    updates: &[Update],
+) -> Result<(), NoMemory>
+    requires sums { All (IsSum mixed (length ctx.now.classes) vars) sums.old.items }
+    requires updates { All (IsUpdate (length ctx.now.classes)) updates.now }
+    requires vars { AreOf vars updates.now }
+    requires add { AddOutside mixed updates.now }
+    ensures sums { OnOk result (All (IsSum mixed (length ctx.now.classes) vars) sums.new.items) }
+    ensures total { OnOk result (On ctx.now (λ m k. (q : Place) → has mixed q.var ≡ false → total sums.new.items k q ≡ wrap (total sums.old.items k q) (total updates.now k q))) }
+{
+    for update in updates {
+        if let Op::Add(num) = update.op {
+            if !is_in(mixed, update.var) {
+                add(ctx, vars, mixed, sums, update, num)?;
+            }
+        }
+    }
+    Ok(())
+}
+
+// Turns each sum round.
+fn negate(sums: &mut [Update], mixed: u64, comps: u16, vars: u16)
+    requires { All (IsSum mixed comps vars) sums.old }
+    ensures sums { All (IsSum mixed comps vars) sums.new }
+    ensures total { (k : List ℕ) (q : Place) → wrap (total sums.new k q) (total sums.old k q) ≡ 0 }
+{
+    for sum in sums.iter_mut() {
+        sum.op = negative(sum.op);
+    }
+}
+
+// The sums that aren't 0.
+fn nonzero(
+    alloc: Global,
+    sums: Vec<Update>,
+    mixed: u64,
+    comps: u16,
+    vars: u16,
+) -> Result<Vec<Update>, NoMemory>
+    requires { All (IsSum mixed comps vars) sums.items }
+    ensures sums { IfOk result (λ kept. All (IsSum mixed comps vars) kept.items) }
+    ensures total { IfOk result (λ kept. (k : List ℕ) (q : Place) → total kept.items k q ≡ total sums.items k q) }
+{
+    let mut kept = Vec::new(alloc);
+    for sum in sums {
+        if sum.op != Op::Add(0) {
+            kept.push(sum)?;
+        }
+    }
+    Ok(kept)
+}
+
+/// What some updates add beyond others, place by place, at variables outside a set.
+pub(crate) fn difference(
+    alloc: Global,
+    ctx: &Context,
+    vars: u16,
+    mixed: u64,
+    left: &[Update],
+    right: &[Update],
+) -> Result<Vec<Update>, NoMemory>
+    requires left { All (IsUpdate (length ctx.now.classes)) left.now }
+    requires right { All (IsUpdate (length ctx.now.classes)) right.now }
+    requires vars_left { AreOf vars left.now }
+    requires vars_right { AreOf vars right.now }
+    requires add_left { AddOutside mixed left.now }
+    requires add_right { AddOutside mixed right.now }
+    ensures sums { IfOk result (λ sums. All (IsSum mixed (length ctx.now.classes) vars) sums.items) }
+    ensures difference { IfOk result (λ sums. IsDifference ctx.now mixed left.now right.now sums.items) }
+{
+    let mut sums = Vec::new(alloc);
+    count(ctx, vars, mixed, &mut sums, right)?;
+    negate(&mut sums, mixed, ctx.comps(), vars);
+    count(ctx, vars, mixed, &mut sums, left)?;
+    nonzero(alloc, sums, mixed, ctx.comps(), vars)
+}
