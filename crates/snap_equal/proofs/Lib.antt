@@ -1,3 +1,4 @@
+pub mod Temp2
 pub mod Telling
 pub mod Wrapping
 pub mod TermTests
