@@ -23,7 +23,7 @@ use Rattle.snap_equal.specs.declared.comparing.Compared.TheVariants.{Same, Diffe
 use Rattle.snap_equal.specs.declared.stop.Stop.{Stop}
 use Rattle.snap_equal.specs.Inputs.{IsTest, space}
 use Rattle.snap_equal.specs.Leaves.{LeavesDoSame}
-use Rattle.snap_equal.specs.Told.{AreBelow, IsModel, On, Tells, Where, IsStop, IsAnswer, Refutes}
+use Rattle.snap_equal.specs.Told.{AreBelow, IsModel, On, Tells, Where, IsStop, IsAnswer}
 use Rattle.snap_equal.proofs.Telling.{result_as}
 
 -- the facts of a context with one more
@@ -78,3 +78,8 @@ pub leaves_as : (v : View) (vars : ℕ) (r : Result Bool Stop) (g h : Go) → On
 leaves_as v vars r g h packets = result_as v vars (λ m k. updates m g.ups k ≡ updates m h.ups k) (LeavesDoSame (Goes g) (Goes h))
     (λ m k i e. record { stores = e; packets = packets m k i })
     (λ m k i same. same.stores) r
+
+-- what holds on none of them is refuted by any of them
+pub refuted : (v : View) (vars : ℕ) (P : Arrays → List ℕ → Type 0) (c : Compared) → On v (λ m k. P m k → ⊥) → IsAnswer v vars (λ m k. ⊥) c → IsAnswer v vars P c
+refuted v vars P Same never h = λ m k i. absurd (h m k i)
+refuted v vars P (Differ s k) never h = record { model = h.model; only = h.only; fails = never (arrays_of s) k h.model }

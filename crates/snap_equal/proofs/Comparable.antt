@@ -1,6 +1,5 @@
 -- Diagrams within bounds that never race can be compared.
-use Rattle.std.proofs.Common.{◌≡◌, ℕ, ◌≤◌, List, length, subst, arith}
-use Rattle.std.specs.Prelude.{All}
+use Rattle.std.proofs.Common.{◌≡◌, ℕ, List, length, arith}
 use Rattle.std.proofs.lemmas.Bool.{false≢true}
 use Rattle.snap_core.specs.declared.policy.Test.{Test}
 use Rattle.snap_core.specs.declared.policy.Test.TheVariants.{Value, Equal, State}
@@ -28,8 +27,8 @@ update_is s u h = record { index = h.index.atoms; short = h.index.few; op = h.op
 
 comparable : (s : Sizes) (d : Diagram) → IsIn s d → HasNoRace d → IsComparable (space_of s) d
 comparable s (Only Race) h n = n
-comparable s (Only (Goes g)) h n = (h.0, (λ i e l. update_is s _ (h.1 i e l), λ i e l. (h.1 i e l).var))
-comparable s (Asks t y n) h c = (test_is s t h.0, (comparable s y h.1 c.0, comparable s n h.2 c.1))
+comparable s (Only (Goes g)) h n = (h.0, λ i e l. update_is s _ (h.1 i e l), λ i e l. (h.1 i e l).var)
+comparable s (Asks t y n) h c = (test_is s t h.0, comparable s y h.1 c.0, comparable s n h.2 c.1)
 
 pub comparable_under : (v : View) (comps vars : ℕ) (ns : List (Node Leaf)) (d : ℕ) → length v.classes ≡ comps → CanBeCompared comps vars ns d → IsComparable (space v vars) (diagram ns d)
 comparable_under v comps vars ns d e h = rw e (comparable (record { comps = comps; vars = vars; arity = h.arity }) (diagram ns d) h.bounds h.calm)

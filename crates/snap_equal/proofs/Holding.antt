@@ -1,7 +1,8 @@
 -- What a place holds from update to update.
-use Rattle.std.proofs.Common.{◌≡◌, ◌≢◌, ℕ, ◌-◌, ◌^◌, ◌<◌, Bool, true, false, cond, List, [], ◌∷◌, ◌++◌, length, get_or, refl, sym, ap, ◌∙◌, subst, arith}
-use Rattle.std.specs.Prelude.{◌==◌, Result, MatchResult, All}
-use Rattle.std.proofs.lemmas.Bool.{cond-true, cond-false, eqb-true, eq-eqb, true≢false}
+use Rattle.std.proofs.Common.{◌≡◌, ℕ, ◌-◌, ◌^◌, ◌<◌, Bool, true, false, List, [], ◌∷◌, ◌++◌, length, take, ◌+◌, get_or, refl, sym, ap, ◌∙◌, subst, arith}
+use Rattle.std.specs.Prelude.{◌==◌, Result, MatchResult}
+use Rattle.std.proofs.lemmas.List.{take_more}
+use Rattle.std.proofs.lemmas.Bool.{cond-true, cond-false}
 use Rattle.snap_core.specs.declared.place.Place.{Place}
 use Rattle.snap_core.specs.declared.policy.Atom.{Atom}
 use Rattle.snap_core.specs.declared.policy.Op.{Op}
@@ -48,16 +49,20 @@ pub updates-append : (us vs : List Update) (m : Arrays) (k : List ℕ) → updat
 updates-append [] vs m k = refl
 updates-append (u ∷ us) vs m k = updates-append us vs (update m u k) k
 
-hit : (u : Update) (m : Arrays) (k : List ℕ) (p : Place) → place_at u.var u.index k ≡ p → update m u k p ≡ number_after u.op (m p) k
+pub updates_more : (us : List Update) (i : ℕ) (u : Update) (m : Arrays) (k : List ℕ) → i < length us → u ≡ get_or us i u → updates m (take (i + 1) us) k ≡ update (updates m (take i us) k) u k
+updates_more us i u m k l is =
+    ap (λ us. updates m us k) (take_more us i u l ∙ ap (λ x. take i us ++ x ∷ []) (sym is)) ∙ updates-append (take i us) (u ∷ []) m k
+
+pub hit : (u : Update) (m : Arrays) (k : List ℕ) (p : Place) → place_at u.var u.index k ≡ p → update m u k p ≡ number_after u.op (m p) k
 hit u m k p e =
     subst (λ (q : Place). update m u k q ≡ number_after u.op (m q) k) e
     (cond-true (same_place (place_at u.var u.index k) (place_at u.var u.index k)) _ _ (same_place-refl (place_at u.var u.index k)))
 
-not_same : (p q : Place) → (p ≡ q → ⊥) → (b : Bool) → same_place p q ≡ b → same_place p q ≡ false
+pub not_same : (p q : Place) → (p ≡ q → ⊥) → (b : Bool) → same_place p q ≡ b → same_place p q ≡ false
 not_same p q h true e = absurd (h (same_place-true p q e))
 not_same p q h false e = e
 
-missed : (u : Update) (m : Arrays) (k : List ℕ) (p : Place) → same_place (place_at u.var u.index k) p ≡ false → update m u k p ≡ m p
+pub missed : (u : Update) (m : Arrays) (k : List ℕ) (p : Place) → same_place (place_at u.var u.index k) p ≡ false → update m u k p ≡ m p
 missed u m k p e = cond-false (same_place (place_at u.var u.index k) p) _ (m p) e
 
 more-value : (n : ℕ) (h : Held) (x : ℕ) (k : List ℕ) → held_value (more n h) x k ≡ wrap (held_value h x k) n

@@ -1,11 +1,10 @@
-pub mod Temp2
 pub mod Telling
 pub mod Wrapping
 pub mod TermTests
 pub mod Indices
 pub mod Making
 pub mod Holding
-pub mod Stores
+pub mod AllPlaces
 pub mod Adding
 pub mod Differing
 pub mod Answering

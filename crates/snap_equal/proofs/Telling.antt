@@ -1,5 +1,5 @@
 -- From one question to another.
-use Rattle.std.proofs.Common.{◌≡◌, ℕ, ◌<◌, ◌≤◌, ◌+◌, Bool, true, false, List, subst, sym, arith, ⊎_elim}
+use Rattle.std.proofs.Common.{◌≡◌, ℕ, ◌<◌, ◌≤◌, ◌+◌, Bool, true, false, List, subst, arith, ⊎_elim}
 use Rattle.std.specs.Prelude.{Option, Some, None, Result, Ok, Err, MatchOption, MatchResult}
 use Rattle.std.proofs.lemmas.Bool.{cases_lt}
 use Rattle.snap_core.specs.declared.policy.Test.{Test}
@@ -7,7 +7,7 @@ use Rattle.snap_core.specs.Arrays.{Arrays}
 use Rattle.snap_ctx.specs.View.{View}
 use Rattle.snap_equal.specs.declared.stop.Stop.{Stop}
 use Rattle.snap_equal.specs.declared.stop.Stop.TheVariants.{Split, NoMemory}
-use Rattle.snap_equal.specs.Told.{IsModel, On, Tells, IsStop}
+use Rattle.snap_equal.specs.Told.{On, Tells, IsStop}
 
 -- questions that have one answer wherever the context is met
 pub tells_as : (v : View) (P Q : Arrays → List ℕ → Type 0) → On v (λ m k. P m k → Q m k) → On v (λ m k. Q m k → P m k) → (b : Bool) → Tells v P b → Tells v Q b

@@ -1,5 +1,5 @@
 -- Tests that say that two terms are equal.
-use Rattle.std.proofs.Common.{◌≡◌, ℕ, ◌-◌, ◌^◌, ◌<◌, Bool, true, List, length, refl, sym, ap, ◌∙◌, subst, arith}
+use Rattle.std.proofs.Common.{◌≡◌, ℕ, ◌-◌, ◌^◌, ◌<◌, Bool, true, List, length, refl, sym, ◌∙◌, subst, arith}
 use Rattle.std.specs.Prelude.{Result, MatchResult, slice_index}
 use Rattle.snap_core.specs.declared.policy.Atom.{Atom}
 use Rattle.snap_core.specs.declared.policy.Atom.TheVariants.{Num as Number, Comp}
@@ -15,7 +15,7 @@ use Rattle.snap_ctx.specs.Ranges.{TermInRange}
 use Rattle.snap_ctx.specs.View.{View}
 use Rattle.snap_equal.specs.declared.stop.Stop.{Stop}
 use Rattle.snap_equal.specs.Held.{term_of}
-use Rattle.snap_equal.specs.Told.{IsModel, On, Tells, IsStop}
+use Rattle.snap_equal.specs.Told.{Tells, IsStop}
 use Rattle.snap_equal.proofs.Telling.{result_as}
 use Rattle.snap_equal.proofs.Wrapping.{moved, moved_back, component_small}
 

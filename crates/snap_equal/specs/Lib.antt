@@ -5,4 +5,3 @@ pub mod Made
 pub mod Same
 pub mod Tally
 pub mod Told
-pub mod Temp

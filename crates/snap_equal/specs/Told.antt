@@ -1,5 +1,5 @@
 -- What a context tells of questions on a store and a packet.
-use Rattle.std.specs.Prelude.{◌≡◌, ◌≤◌, ℕ, Bool, true, false, List, length}
+use Rattle.std.specs.Prelude.{◌≡◌, ℕ, Bool, true, false, List, length}
 use Rattle.std.specs.List.{AllByRecursion}
 use Rattle.snap_core.specs.Arrays.{Arrays}
 use Rattle.snap_core.specs.Cells.{arrays_of}
@@ -15,7 +15,7 @@ use Rattle.snap_equal.specs.declared.stop.Stop.{Stop}
 use Rattle.snap_equal.specs.declared.stop.Stop.TheVariants.{Split, NoMemory}
 use Rattle.snap_equal.specs.declared.comparing.Compared.{Compared}
 use Rattle.snap_equal.specs.declared.comparing.Compared.TheVariants.{Same, Differ}
-use Rattle.snap_equal.specs.Inputs.{Space, IsTest, space}
+use Rattle.snap_equal.specs.Inputs.{IsTest, space}
 
 -- a store and a packet of 64 bits that meet the facts
 pub record IsModel (v : View) (m : Arrays) (k : List ℕ) : Type 0 where

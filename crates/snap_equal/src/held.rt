@@ -1,6 +1,6 @@
 //! What places hold after updates.
 
-ghost use Rattle.std.specs.Prelude.{◌≡◌, ◌≤◌, All, IfOk, MatchResult, length, take, true};
+ghost use Rattle.std.specs.Prelude.{◌≡◌, ◌<◌, ◌≤◌, ◌↔◌, All, IfOk, IsTrue, MatchResult, length, take, true};
 ghost use Rattle.snap_core.specs.Arrays.{place_at, updates};
 ghost use Rattle.snap_core.specs.Fits.{IndexFits};
 ghost use Rattle.snap_core.specs.Tests.{TermFits, term_value};
@@ -39,6 +39,12 @@ fn changed(held: Held, op: Op) -> Held
     }
 }
 
+fn are_alike(left: Held, right: Held) -> bool
+    ensures { IsTrue result ↔ (left ≡ right) }
+{
+    left == right
+}
+
 // The updates up to the last one that surely puts a number at a place, and what the place holds then. What is before
 // it has no part in what the place holds.
 fn last_put(
@@ -53,10 +59,11 @@ fn last_put(
     ensures held { IfOk result (λ r. IsHeld ctx.now (take r.0 updates.now) var index.now r.1) }
 {
     for i in (0..updates.len()).rev() {
-        let Op::Put(atom) = updates[i].op else {
+        let update = &updates[i];
+        let Op::Put(atom) = update.op else {
             continue;
         };
-        match is_at(ctx, &updates[i], var, index) {
+        match is_at(ctx, update, var, index) {
             Ok(true) => return Ok((i + 1, Held::Is(term_of(atom)))),
             Err(Stop::NoMemory) => return Err(NoMemory),
             _ => {}
@@ -73,8 +80,12 @@ fn held_after(ctx: &Context, updates: &[Update], var: u16, index: &Atoms) -> Res
 {
     let (done, mut held) = last_put(ctx, updates, var, index)?;
     for i in done..updates.len() {
-        let next = changed(held, updates[i].op);
-        if next != held && is_at(ctx, &updates[i], var, index)? {
+        let update = &updates[i];
+        let next = changed(held, update.op);
+        if are_alike(next, held) {
+            continue;
+        }
+        if is_at(ctx, update, var, index)? {
             held = next;
         }
     }

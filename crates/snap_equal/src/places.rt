@@ -1,7 +1,7 @@
 //! Whether places are the same.
 
 ghost use Rattle.std.specs.Prelude.{◌≡◌, ℕ, MatchResult, length, map, true};
-ghost use Rattle.snap_core.specs.Arrays.{number_after, place_at, update, value_of};
+ghost use Rattle.snap_core.specs.Arrays.{Arrays, number_after, place_at, update, value_of};
 ghost use Rattle.snap_core.specs.Fits.{IndexFits, OpFits};
 ghost use Rattle.snap_equal.specs.Inputs.{IsUpdate};
 ghost use Rattle.snap_equal.specs.Told.{IsStop, On, Tells};
@@ -96,7 +96,7 @@ fn reads_op(ctx: &Context, left: Op, right: Op) -> bool
 pub(crate) fn reads_update(ctx: &Context, left: &Update, right: &Update) -> bool
     requires left { IsUpdate (length ctx.now.classes) left.now }
     requires right { IsUpdate (length ctx.now.classes) right.now }
-    ensures { result ≡ true → On ctx.now (λ m k. update m left.now k ≡ update m right.now k) }
+    ensures { result ≡ true → On ctx.now (λ m k. (n : Arrays) → update n left.now k ≡ update n right.now k) }
 {
     reads_place(ctx, left, right) && reads_op(ctx, left.op, right.op)
 }

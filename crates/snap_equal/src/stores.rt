@@ -1,8 +1,9 @@
 //! Whether updates make the same of a store.
 
-ghost use Rattle.std.specs.Prelude.{◌≡◌, ◌≤◌, All, MatchResult, length, take};
+ghost use Rattle.std.specs.Prelude.{◌≡◌, ◌≤◌, None, All, MatchResult, drop, length, take};
 ghost use Rattle.snap_core.specs.Arrays.{updates};
 ghost use Rattle.snap_ctx.specs.Meets.{IsStore};
+ghost use Rattle.snap_equal.specs.Held.{AgreeAlong};
 ghost use Rattle.snap_equal.specs.Inputs.{AreOf, IsUpdate};
 ghost use Rattle.snap_equal.specs.Told.{IsStop, On, Tells};
 
@@ -28,13 +29,31 @@ fn common(ctx: &Context, left: &[Update], right: &[Update]) -> usize
     stays_small();
     let mut count = 0;
     while count < left.len() && count < right.len() {
-        op_is_small(left[count].op);
-        if !reads_update(ctx, &left[count], &right[count]) {
+        let (first, second) = (&left[count], &right[count]);
+        op_is_small(first.op);
+        if !reads_update(ctx, first, second) {
             return count;
         }
         count += 1;
     }
     count
+}
+
+// The updates behind so many.
+fn behind(updates: &[Update], count: usize) -> &[Update]
+    requires { count ≤ length updates.now }
+    ensures { result.now ≡ drop count updates.now }
+{
+    &updates[count..]
+}
+
+// Whether sums add nothing anywhere.
+fn add_nothing(ctx: &Context, vars: u16, sums: &[Update]) -> Result<bool, Stop>
+    requires sums { All (IsUpdate (length ctx.now.classes)) sums.now }
+    requires vars { AreOf vars sums.now }
+    ensures { MatchResult result (Tells ctx.now (λ m k. AgreeAlong None sums.now k (updates m sums.now k) m)) (IsStop ctx.now vars) }
+{
+    same_along(ctx, vars, sums, &[], sums, None)
 }
 
 /// Whether updates make the same of a store. Where behind the common ones a variable is added to alone, what is added is
@@ -54,10 +73,11 @@ pub(crate) fn same_stores(
     ensures { MatchResult result (Tells ctx.now (λ m k. updates m left.now k ≡ updates m right.now k)) (IsStop ctx.now vars) }
 {
     let done = common(ctx, left, right);
-    let (first, second) = (&left[done..], &right[done..]);
+    let first = behind(left, done);
+    let second = behind(right, done);
     let mixed = with_puts(with_puts(0, first), second);
     let sums = difference(alloc, ctx, vars, mixed, first, second)?;
-    if !same_along(ctx, vars, &sums, &[], &sums, None)? {
+    if !add_nothing(ctx, vars, &sums)? {
         return Ok(false);
     }
     if !same_along(ctx, vars, left, right, first, Some(mixed))? {

@@ -1,13 +1,14 @@
 //! What updates add to places, counted together.
 
-ghost use Rattle.std.specs.Prelude.{◌≡◌, ◌<◌, ◌||◌, ◌==◌, ℕ, All, IfOk, IfSome, OnOk, List, false, get_or, length};
+ghost use Rattle.std.specs.Prelude.{◌≡◌, ◌<◌, ◌^◌, ℕ, true, All, IfOk, IfSome, OnOk, List, false, get_or, length};
 ghost use Rattle.snap_core.specs.declared.place.Place.{Place};
 ghost use Rattle.snap_core.specs.Arrays.{place_at};
 ghost use Rattle.snap_core.specs.declared.policy.Op.TheVariants.{Add};
+ghost use Rattle.snap_core.specs.declared.policy.Update.{Update as UpdateData};
 ghost use Rattle.snap_core.specs.Variables.{has};
 ghost use Rattle.snap_ctx.specs.Classes.{wrap};
 ghost use Rattle.snap_equal.specs.Inputs.{AreOf, IsUpdate};
-ghost use Rattle.snap_equal.specs.Tally.{AddOutside, IsDifference, IsSum, negative, plus, share, total};
+ghost use Rattle.snap_equal.specs.Tally.{AddOutside, IsDifference, IsSum, plus, share_of, signed, signed_total, total};
 ghost use Rattle.snap_equal.specs.Told.{On};
 
 use crate::places::reads_place;
@@ -17,12 +18,19 @@ use snap_ctx::context::Context;
 use snap_fdd::sets::is_in;
 use std::alloc::Global;
 
-// A set with one number more.
-fn with(set: u64, number: u16) -> u64
+/// Whether a number is added or taken away.
+#[derive(Clone, Copy, Debug)]
+enum Sign {
+    Plus,
+    Minus,
+}
+
+// The set of one number.
+fn only(number: u16) -> u64
     requires { number < 64 }
-    ensures { (v : ℕ) → has result v ≡ (number == v || has set v) }
+    ensures { result ≡ 2 ^ number }
 {
-    set | 1 << number
+    1 << number
 }
 
 /// The set with the variables at which some of the updates puts a number.
@@ -33,8 +41,9 @@ pub(crate) fn with_puts(set: u64, updates: &[Update]) -> u64
 {
     let mut vars = set;
     for update in updates {
-        if let Op::Put(_) = update.op {
-            vars = with(vars, update.var);
+        match update.op {
+            Op::Put(_) => vars |= only(update.var),
+            Op::Add(_) => {}
         }
     }
     vars
@@ -50,13 +59,13 @@ fn plus(op: Op, more: u64) -> Op
     }
 }
 
-// The addition that undoes one.
-fn negative(op: Op) -> Op
-    ensures { result ≡ negative op }
+// A number with a sign, modulo 2^64.
+fn signed(sign: Sign, num: u64) -> u64
+    ensures { result ≡ signed sign num }
 {
-    match op {
-        Op::Put(_) => op,
-        Op::Add(num) => Op::Add(0u64.wrapping_sub(num)),
+    match sign {
+        Sign::Plus => num,
+        Sign::Minus => 0u64.wrapping_sub(num),
     }
 }
 
@@ -65,17 +74,17 @@ fn position(ctx: &Context, sums: &[Update], update: &Update) -> Option<usize>
     requires sums { All (IsUpdate (length ctx.now.classes)) sums.now }
     requires update { IsUpdate (length ctx.now.classes) update.now }
     ensures below { IfSome result (λ i. i < length sums.now) }
-    ensures place { IfSome result (λ i. On ctx.now (λ m k. place_at (get_or sums.now i update.now).var (get_or sums.now i update.now).index k ≡ place_at update.now.var update.now.index k)) }
+    ensures place { IfSome result (λ i. (d : UpdateData) → On ctx.now (λ m k. place_at (get_or sums.now i d).var (get_or sums.now i d).index k ≡ place_at update.now.var update.now.index k)) }
 {
-    for (i, sum) in sums.iter().enumerate() {
-        if reads_place(ctx, sum, update) {
+    for i in 0..sums.len() {
+        if reads_place(ctx, &sums[i], update) {
             return Some(i);
         }
     }
     None
 }
 
-// Adds to the sum at the place of an update.
+// Adds a number to the sum at the place of an update.
 fn add(
     ctx: &Context,
     vars: u16,
@@ -85,10 +94,11 @@ fn add(
     num: u64,
 ) -> Result<(), NoMemory>
     requires sums { All (IsSum mixed (length ctx.now.classes) vars) sums.old.items }
-    requires update { IsSum mixed (length ctx.now.classes) vars update.now }
-    requires num { update.now.op ≡ Add num }
+    requires update { IsUpdate (length ctx.now.classes) update.now }
+    requires var { update.now.var < vars }
+    requires outside { has mixed update.now.var ≡ false }
     ensures sums { OnOk result (All (IsSum mixed (length ctx.now.classes) vars) sums.new.items) }
-    ensures total { OnOk result (On ctx.now (λ m k. (q : Place) → total sums.new.items k q ≡ wrap (total sums.old.items k q) (share update.now k q))) }
+    ensures total { OnOk result (On ctx.now (λ m k. (q : Place) → total sums.new.items k q ≡ wrap (total sums.old.items k q) (share_of update.now num k q))) }
 {
     match position(ctx, sums, update) {
         Some(i) => sums[i].op = plus(sums[i].op, num),
@@ -97,65 +107,66 @@ fn add(
             sums.push(Update {
                 var: update.var,
                 index,
-                op: update.op,
+                op: Op::Add(num),
             })?;
         }
     }
     Ok(())
 }
 
-// Adds what updates add at variables outside a set.
+// Adds what updates add at variables outside a set, or what they don't.
 fn count(
     ctx: &Context,
     vars: u16,
     mixed: u64,
     sums: &mut Vec<Update>,
     updates: &[Update],
+    sign: Sign,
 ) -> Result<(), NoMemory>
     requires sums { All (IsSum mixed (length ctx.now.classes) vars) sums.old.items }
     requires updates { All (IsUpdate (length ctx.now.classes)) updates.now }
     requires vars { AreOf vars updates.now }
-    requires add { AddOutside mixed updates.now }
     ensures sums { OnOk result (All (IsSum mixed (length ctx.now.classes) vars) sums.new.items) }
-    ensures total { OnOk result (On ctx.now (λ m k. (q : Place) → has mixed q.var ≡ false → total sums.new.items k q ≡ wrap (total sums.old.items k q) (total updates.now k q))) }
+    ensures total { OnOk result (On ctx.now (λ m k. (q : Place) → has mixed q.var ≡ false → total sums.new.items k q ≡ wrap (total sums.old.items k q) (signed_total sign updates.now k q))) }
 {
     for update in updates {
-        if let Op::Add(num) = update.op {
-            if !is_in(mixed, update.var) {
-                add(ctx, vars, mixed, sums, update, num)?;
-            }
+        if is_in(mixed, update.var) {
+            continue;
+        }
+        match update.op {
+            Op::Add(num) => add(ctx, vars, mixed, sums, update, signed(sign, num))?,
+            Op::Put(_) => {}
         }
     }
     Ok(())
 }
 
-// Turns each sum round.
-fn negate(sums: &mut [Update], mixed: u64, comps: u16, vars: u16)
-    requires { All (IsSum mixed comps vars) sums.old }
-    ensures sums { All (IsSum mixed comps vars) sums.new }
-    ensures total { (k : List ℕ) (q : Place) → wrap (total sums.new k q) (total sums.old k q) ≡ 0 }
+// Whether an operation adds 0.
+fn is_nothing(op: Op) -> bool
+    ensures { result ≡ true → op ≡ Add 0 }
 {
-    for sum in sums.iter_mut() {
-        sum.op = negative(sum.op);
+    match op {
+        Op::Put(_) => false,
+        Op::Add(num) => num == 0,
     }
 }
 
 // The sums that aren't 0.
 fn nonzero(
     alloc: Global,
-    sums: Vec<Update>,
+    sums: &[Update],
     mixed: u64,
     comps: u16,
     vars: u16,
 ) -> Result<Vec<Update>, NoMemory>
-    requires { All (IsSum mixed comps vars) sums.items }
+    requires { All (IsSum mixed comps vars) sums.now }
     ensures sums { IfOk result (λ kept. All (IsSum mixed comps vars) kept.items) }
-    ensures total { IfOk result (λ kept. (k : List ℕ) (q : Place) → total kept.items k q ≡ total sums.items k q) }
+    ensures total { IfOk result (λ kept. (k : List ℕ) (q : Place) → total kept.items k q ≡ total sums.now k q) }
 {
     let mut kept = Vec::new(alloc);
     for sum in sums {
-        if sum.op != Op::Add(0) {
-            kept.push(sum)?;
+        if !is_nothing(sum.op) {
+            kept.push(sum.copy()?)?;
         }
     }
     Ok(kept)
@@ -174,14 +185,11 @@ pub(crate) fn difference(
     requires right { All (IsUpdate (length ctx.now.classes)) right.now }
     requires vars_left { AreOf vars left.now }
     requires vars_right { AreOf vars right.now }
-    requires add_left { AddOutside mixed left.now }
-    requires add_right { AddOutside mixed right.now }
     ensures sums { IfOk result (λ sums. All (IsSum mixed (length ctx.now.classes) vars) sums.items) }
     ensures difference { IfOk result (λ sums. IsDifference ctx.now mixed left.now right.now sums.items) }
 {
     let mut sums = Vec::new(alloc);
-    count(ctx, vars, mixed, &mut sums, right)?;
-    negate(&mut sums, mixed, ctx.comps(), vars);
-    count(ctx, vars, mixed, &mut sums, left)?;
-    nonzero(alloc, sums, mixed, ctx.comps(), vars)
+    count(ctx, vars, mixed, &mut sums, left, Sign::Plus)?;
+    count(ctx, vars, mixed, &mut sums, right, Sign::Minus)?;
+    nonzero(alloc, &sums, mixed, ctx.comps(), vars)
 }

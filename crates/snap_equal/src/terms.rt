@@ -1,6 +1,6 @@
 //! Whether terms and atoms have the same number.
 
-ghost use Rattle.std.specs.Prelude.{◌≡◌, MatchResult, length, true};
+ghost use Rattle.std.specs.Prelude.{◌≡◌, ◌↔◌, IsTrue, MatchResult, length, true};
 ghost use Rattle.snap_core.specs.Arrays.{value_of};
 ghost use Rattle.snap_core.specs.Fits.{AtomFits};
 ghost use Rattle.snap_core.specs.Tests.{TermFits, term_value};
@@ -53,6 +53,12 @@ pub(crate) fn read(ctx: &Context, term: Term) -> Term
     }
 }
 
+fn are_spelled_same(left: Term, right: Term) -> bool
+    ensures { IsTrue result ↔ (left ≡ right) }
+{
+    left == right
+}
+
 /// Whether two terms are equal. What the classes of their components tell needs no test.
 pub(crate) fn same_terms(ctx: &Context, left: Term, right: Term) -> Result<bool, Stop>
     requires left { TermFits (length ctx.now.classes) left }
@@ -61,7 +67,7 @@ pub(crate) fn same_terms(ctx: &Context, left: Term, right: Term) -> Result<bool,
 {
     let first = read(ctx, left);
     let second = read(ctx, right);
-    if first == second {
+    if are_spelled_same(first, second) {
         Ok(true)
     } else {
         ask_terms(ctx, first, second)
@@ -123,5 +129,5 @@ pub(crate) fn reads_same(ctx: &Context, left: Atom, right: Atom) -> bool
     requires right { AtomFits (length ctx.now.classes) right }
     ensures { result ≡ true → On ctx.now (λ m k. value_of left k ≡ value_of right k) }
 {
-    read(ctx, term_of(left)) == read(ctx, term_of(right))
+    are_spelled_same(read(ctx, term_of(left)), read(ctx, term_of(right)))
 }

@@ -18,7 +18,9 @@ use std::process::Abort;
 use std::test::Fail;
 
 // The groups of one array of one atom.
-fn one_array(rt: &impl Abort, alloc: Global) -> Result<Groups, Fail> {
+fn one_array(rt: &impl Abort, alloc: Global) -> Result<Groups, Fail>
+    ensures { IfOk result (λ g. length g.ranks ≡ 1) }
+{
     let program = Program {
         fields: Fields::ports(alloc)?,
         vars: Names::new(vec![in alloc; Name::of(alloc, b"s")?]?),
@@ -66,11 +68,17 @@ fn at(alloc: Global, comp: u16, op: Op) -> Result<Update, AllocError> {
 fn exchanged(rt: &impl Abort, alloc: Global, first: Op, second: Op) -> Result<Compared, Fail> {
     let groups = one_array(rt, alloc)?;
     let ctx = Context::empty(alloc, 2)?;
-    let (left, a) = diagram(&groups, &ctx, vec![in alloc; at(alloc, 0, first)?, at(alloc, 1, second)?]?)?;
-    let (right, b) = diagram(&groups, &ctx, vec![in alloc; at(alloc, 1, second)?, at(alloc, 0, first)?]?)?;
-    let vars = groups.count();
-    assert!(rt; vars <= 64);
-    Ok(compare(&left, a, &right, b, ctx.comps(), vars)?)
+    let (left, a) = diagram(
+        &groups,
+        &ctx,
+        vec![in alloc; at(alloc, 0, first)?, at(alloc, 1, second)?]?,
+    )?;
+    let (right, b) = diagram(
+        &groups,
+        &ctx,
+        vec![in alloc; at(alloc, 1, second)?, at(alloc, 0, first)?]?,
+    )?;
+    Ok(compare(&left, a, &right, b, ctx.comps(), 1)?)
 }
 
 #[test]

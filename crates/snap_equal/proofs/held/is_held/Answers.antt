@@ -1,5 +1,5 @@
 -- An offset goes to the other side.
-use Rattle.std.proofs.Common.{◌≡◌, sym}
+use Rattle.std.proofs.Common.{sym}
 use Rattle.snap_equal.proofs.Holding.{held_as}
 use Rattle.snap_equal.proofs.held.is_held.Goals as goal
 

@@ -1,5 +1,5 @@
 -- The packets of the outs so far are made, or a test is open.
-use Rattle.std.proofs.Common.{◌≡◌, ◌<◌, ℕ, [], get_or}
+use Rattle.std.proofs.Common.{◌<◌, ℕ, [], get_or}
 use Rattle.std.specs.Prelude.{MatchOption}
 use Rattle.snap_core.specs.Tests.{after_out}
 use Rattle.snap_equal.specs.Made.{Makes}

@@ -1,7 +1,6 @@
 -- Out by out.
-use Rattle.std.proofs.Common.{◌≡◌, ◌<◌, ℕ, [], List, length, get_or, sym, ap, ◌∙◌, subst, arith}
+use Rattle.std.proofs.Common.{◌≡◌, ◌<◌, ℕ, [], get_or, sym, ap, ◌∙◌, subst, arith}
 use Rattle.std.proofs.lemmas.List.{get_or_default}
-use Rattle.snap_core.specs.declared.policy.Atom.{Atom}
 use Rattle.snap_core.specs.Tests.{after_out}
 use Rattle.snap_equal.specs.Told.{IsStop, On}
 use Rattle.snap_equal.proofs.Telling.{told_true, told_false, open_more, closed_all}

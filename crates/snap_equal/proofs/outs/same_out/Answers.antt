@@ -1,6 +1,5 @@
 -- Component by component.
-use Rattle.std.proofs.Common.{◌≡◌, ◌<◌, ℕ, Bool, length, sym, ◌∙◌, subst, arith}
-use Rattle.snap_core.specs.declared.policy.Atom.{Atom}
+use Rattle.std.proofs.Common.{◌≡◌, ◌<◌, ℕ, Bool, length, sym, subst, arith}
 use Rattle.snap_core.specs.declared.policy.Atom.TheVariants.{Comp}
 use Rattle.snap_core.specs.Arrays.{value_of}
 use Rattle.snap_equal.specs.Made.{atom_in}

@@ -1,5 +1,5 @@
 -- Atom by atom.
-use Rattle.std.proofs.Common.{◌≡◌, ◌<◌, ℕ, get_or, length, subst, arith}
+use Rattle.std.proofs.Common.{◌≡◌, ◌<◌, ℕ, get_or, subst, arith}
 use Rattle.snap_core.specs.declared.policy.Atom.TheVariants.{Num as Number}
 use Rattle.snap_core.specs.Arrays.{value_of}
 use Rattle.snap_equal.specs.Told.{IsStop, On}

@@ -10,7 +10,6 @@ use Rattle.snap_core.specs.Arrays.{Arrays, same_place, place_at, update, updates
 use Rattle.snap_equal.specs.Held.{AgreeAlong}
 use Rattle.snap_equal.specs.Tally.{is_chosen}
 use Rattle.snap_equal.proofs.Holding.{missed, not_same}
-use Rattle.snap_ctx.proofs.Places.{same_place-true}
 
 module _ (k : List ℕ) (q : Place) where
   abbrev Elsewhere : Update → Type 0
