@@ -15,15 +15,15 @@ use Rattle.snap_cli.specs.Refusals.{Ending, status_of}
 use Rattle.snap_cli.proofs.SameCore.{same_eval, same_fields, same_names}
 
 -- two programs with one core program: where the one never races, the other doesn't
-same_never : (p q : Program) → core_program p ≡ core_program q → NeverRaces p → NeverRaces q
+pub same_never : (p q : Program) → core_program p ≡ core_program q → NeverRaces p → NeverRaces q
 same_never p q same never m k store packet none =
     never m k store (subst (λ fields. IsPacket (count fields) k) (sym (same_fields p q same)) packet) (same_eval p q same m k ∙ none)
 
-never_both : (p q : Program) → core_program p ≡ core_program q → NeverRaces p → (m : Arrays) (k : List ℕ) → IsRaceOf q m k → ⊥
+pub never_both : (p q : Program) → core_program p ≡ core_program q → NeverRaces p → (m : Arrays) (k : List ℕ) → IsRaceOf q m k → ⊥
 never_both p q same never m k race = same_never p q same never m k race.of.store race.of.packet race.none
 
 -- and where the one races, the other does
-same_race : (p q : Program) → core_program p ≡ core_program q → (m : Arrays) (k : List ℕ) → IsRaceOf p m k → IsRaceOf q m k
+pub same_race : (p q : Program) → core_program p ≡ core_program q → (m : Arrays) (k : List ℕ) → IsRaceOf p m k → IsRaceOf q m k
 same_race p q same m k race = record {
   of = record {
     packet = subst (λ fields. IsPacket (count fields) k) (same_fields p q same) race.of.packet;
@@ -44,7 +44,7 @@ judged_once : (p q : Program) → core_program p ≡ core_program q → (a b : E
 judged_once p q same (Ok u) (Ok v) h k = inl refl
 judged_once p q same (Ok u) (Err (Race text)) h k = absurd (never_both p q same h k.0 k.1 k.2)
 judged_once p q same (Err (Race text)) (Ok v) h k = absurd (never_both q p (sym same) k h.0 h.1 h.2)
-judged_once p q same (Err (Race text)) (Err (Race other)) h k = inr (tt, tt)
+judged_once p q same (Err (Race text)) (Err (Race other)) h k = inr tt
 judged_once p q same (Ok u) (Err e) h k = absurd k
 judged_once p q same (Err (Race text)) (Err e) h k = absurd k
 judged_once p q same (Err e) b h k = absurd h

@@ -2,13 +2,16 @@ pub mod CheckLemmas
 pub mod CheckOnce
 pub mod DepsLemmas
 pub mod DepsOnce
+pub mod DueStatus
+pub mod EqualLemmas
+pub mod EqualOnce
 pub mod ObsLemmas
 pub mod ObsOnce
 pub mod OneTable
 pub mod OneTopology
+pub mod PairText
 pub mod Parts
 pub mod ProgramOnce
-pub mod RaceText
 pub mod Refused
 pub mod Rising
 pub mod RoutesLemmas

@@ -7,7 +7,7 @@ use Rattle.snap_core.specs.declared.program.Program.{Program}
 use Rattle.snap_io.specs.Files.{Files, file_of}
 use Rattle.snap_words.specs.Commands.{Command}
 use Rattle.snap_cli.specs.declared.refusal.Refusal.{Refusal}
-use Rattle.snap_cli.specs.declared.refusal.Refusal.TheVariants.{Usage, Read, Write, Syntax, Naming, Limit, Topology, Unreachable, Race, Packets, NoMemory, Undefined}
+use Rattle.snap_cli.specs.declared.refusal.Refusal.TheVariants.{Usage, Read, Write, Syntax, Naming, Limit, Topology, Unreachable, Race, Packets, NoMemory, Undefined, Declarations, Differ}
 use Rattle.snap_cli.specs.Deserved.{Ends, IsText, MayPrecede, MayPrecedeRead, Meets}
 use Rattle.snap_cli.specs.ProgramOf.{ProgramOf}
 use Rattle.snap_cli.specs.Steps.{GivesProgram, GivesText, SpellsProgram}
@@ -19,7 +19,7 @@ pub record Refuses (files : Files) (command : Command) (program : List ℕ) : Ty
   pub read : MayPrecedeRead files command program []
   pub memory : MayPrecede files command []
 
-meets-refused : (files : Files) (command : Command) (program : List ℕ) (out : Option (List ℕ)) (e : Refusal) → Refuses files command program
+pub meets-refused : (files : Files) (command : Command) (program : List ℕ) (out : Option (List ℕ)) (e : Refusal) → Refuses files command program
     → GivesProgram program (file_of files program) (Err e) → Meets files command (Err e) out out
 meets-refused files command program out (Read name) r h = ([], subst (λ n. MayPrecedeRead files command n []) (sym h) r.read, (0, Appends-nil out))
 meets-refused files command program out NoMemory r h = ([], r.memory, (0, Appends-nil out))
@@ -30,6 +30,8 @@ meets-refused files command program out (Unreachable switches a b) r h = absurd 
 meets-refused files command program out (Race text) r h = absurd h
 meets-refused files command program out (Packets line) r h = absurd h
 meets-refused files command program out (Undefined packet) r h = absurd h
+meets-refused files command program out Declarations r h = absurd h
+meets-refused files command program out (Differ text) r h = absurd h
 meets-refused files command program out (Syntax fault spot) r h = (r.ends (Syntax fault spot) h, ([], r.text (Syntax fault spot) h, Appends-nil out))
 meets-refused files command program out (Naming fault spot) r h = (r.ends (Naming fault spot) h, ([], r.text (Naming fault spot) h, Appends-nil out))
 meets-refused files command program out (Limit which count) r h = (r.ends (Limit which count) h, ([], r.text (Limit which count) h, Appends-nil out))
@@ -51,6 +53,8 @@ gives-spelled name text (Err (Unreachable switches a b)) h = h
 gives-spelled name text (Err (Race told)) h = h
 gives-spelled name text (Err (Packets line)) h = h
 gives-spelled name text (Err (Undefined packet)) h = h
+gives-spelled name text (Err Declarations) h = h
+gives-spelled name text (Err (Differ text)) h = h
 gives-spelled name text (Err (Syntax fault spot)) h = h
 gives-spelled name text (Err (Naming fault spot)) h = h
 gives-spelled name text (Err (Limit which count)) h = h

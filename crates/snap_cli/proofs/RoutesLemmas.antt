@@ -9,7 +9,7 @@ use Rattle.snap_route.specs.Faults.{IsCause}
 use Rattle.snap_route.specs.Tables.{Table, AreRoutes, IsUnreachable}
 use Rattle.snap_words.specs.Commands.{routes}
 use Rattle.snap_cli.specs.declared.refusal.Refusal.{Refusal}
-use Rattle.snap_cli.specs.declared.refusal.Refusal.TheVariants.{Usage, Read, Write, Syntax, Naming, Limit, Topology as NoTopology, Unreachable, Race, Packets, NoMemory, Undefined}
+use Rattle.snap_cli.specs.declared.refusal.Refusal.TheVariants.{Usage, Read, Write, Syntax, Naming, Limit, Topology as NoTopology, Unreachable, Race, Packets, NoMemory, Undefined, Declarations, Differ}
 use Rattle.snap_cli.specs.Deserved.{Meets}
 use Rattle.snap_cli.specs.Refusals.{Ending}
 use Rattle.snap_cli.specs.Routes.{HasNoRoutes, IsTextOf, routes_text}
@@ -31,6 +31,8 @@ module _ (files : Files) (name : List ℕ) (out : Option (List ℕ)) where
   meets-refused (Race text) h = (h, ([], inl (Race text, h, refl), Appends-nil out))
   meets-refused (Packets line) h = (h, ([], inl (Packets line, h, refl), Appends-nil out))
   meets-refused (Undefined packet) h = (h, ([], inl (Undefined packet, h, refl), Appends-nil out))
+  meets-refused Declarations h = (h, ([], inl (Declarations, h, refl), Appends-nil out))
+  meets-refused (Differ text) h = (h, ([], inl (Differ text, h, refl), Appends-nil out))
 
 module _ (files : Files) (name : List ℕ) (old new : Option (List ℕ)) (t : Topology) (read : TopologyOf (file_of files name) (Ok t)) where
   meets-apart : (e : Ending) → IsApart t e old new → Meets files (routes name) e old new
@@ -56,6 +58,8 @@ module _ (files : Files) (name : List ℕ) (old new : Option (List ℕ)) (t : To
   meets-written table are (Err (Race text)) h = absurd h
   meets-written table are (Err (Packets line)) h = absurd h
   meets-written table are (Err (Undefined packet)) h = absurd h
+  meets-written table are (Err Declarations) h = absurd h
+  meets-written table are (Err (Differ text)) h = absurd h
 
   meets-topology : (e : Ending) → MeetsTopology t e old new → Meets files (routes name) e old new
   meets-topology e (inl h) = meets-written h.0 h.1 e h.2

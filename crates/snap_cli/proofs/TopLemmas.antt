@@ -6,7 +6,7 @@ use Rattle.std.proofs.lemmas.List.{take_all}
 use Rattle.snap_io.specs.Causes.{HasCause}
 use Rattle.snap_io.specs.Sinks.{AppendsPart}
 use Rattle.snap_cli.specs.declared.refusal.Refusal.{Refusal}
-use Rattle.snap_cli.specs.declared.refusal.Refusal.TheVariants.{Usage, Read, Write, Syntax, Naming, Limit, Topology, Unreachable, Race, Packets, NoMemory, Undefined}
+use Rattle.snap_cli.specs.declared.refusal.Refusal.TheVariants.{Usage, Read, Write, Syntax, Naming, Limit, Topology, Unreachable, Race, Packets, NoMemory, Undefined, Declarations, Differ}
 use Rattle.snap_cli.specs.Causes.{HasCauses, IsReadOf}
 use Rattle.snap_cli.specs.Deserved.{Tells}
 use Rattle.snap_cli.specs.Refusals.{Ending, status_of}
@@ -32,6 +32,8 @@ unread (Race text) e = absurd (cc)
 unread (Packets line) e = absurd (cc)
 unread NoMemory e = absurd (cc)
 unread (Undefined packet) e = absurd (cc)
+unread Declarations e = absurd (cc)
+unread (Differ text) e = absurd (cc)
 
 pub read-rose : (before now : List ℕ → ℕ) (out_before out_now : ℕ) (refusal : Refusal) → HasCauses before now out_before out_now (Err refusal) → status_of (Err refusal) ≡ 2
     → (name : List ℕ) × Rose (before name) (now name)

@@ -1,36 +1,23 @@
 -- What `check` deserves on its file.
-use Rattle.std.specs.Prelude.{◌≡◌, ◌≢◌, ◌⊎◌, ℕ, List, [], ◌∷◌, ◌++◌, Ok, Err, None, codes}
+use Rattle.std.specs.Prelude.{◌≡◌, ◌≢◌, ◌⊎◌, ℕ, List, [], Ok, Err, None, codes}
 use Rattle.std.specs.declared.option.Option.{Option}
-use Rattle.std.specs.List.{concat, flat_map}
 use Rattle.std.specs.Io.KnownBytes.{Appends}
-use Rattle.snap_core.specs.declared.place.Entry.{Entry}
-use Rattle.snap_core.specs.declared.program.Field.{Field}
 use Rattle.snap_core.specs.declared.program.Program.{Program}
 use Rattle.snap_core.specs.Arrays.{Arrays}
 use Rattle.snap_core.specs.Fields.{count}
-use Rattle.snap_core.specs.Listing.{IsListing}
 use Rattle.snap_core.specs.Meaning.{eval}
 use Rattle.snap_ctx.specs.Meets.{IsPacket, IsStore}
-use Rattle.snap_build.specs.Whole.{IsRaceOf}
+use Rattle.snap_dep.specs.Ranks.{Grouping}
+use Rattle.snap_arena.specs.declared.node.Node.{Node}
+use Rattle.snap_fdd.specs.declared.leaf.Leaf.{Leaf}
+use Rattle.snap_build.specs.Whole.{IsRaceOf, IsWhole}
 use Rattle.snap_io.specs.Files.{Files, file_of}
 use Rattle.snap_io.specs.Sinks.{AppendsPart}
-use Rattle.snap_trace.specs.Reports.{array_line, fields_text}
 use Rattle.snap_cli.specs.declared.refusal.Refusal.{Refusal}
 use Rattle.snap_cli.specs.declared.refusal.Refusal.TheVariants.{Write, NoMemory, Race}
+use Rattle.snap_cli.specs.Pairs.{TellsPair}
 use Rattle.snap_cli.specs.ProgramOf.{ProgramOf}
 use Rattle.snap_cli.specs.Refusals.{Ending}
-
--- `packet` and all fields of a packet
-abbrev pub packet_line : List Field → List ℕ → List ℕ
-packet_line fields packet = codes "packet" ++ fields_text 0 fields packet ++ codes "\n"
-
--- the message of a race: a line for each place that isn't 0, and the packet
-abbrev pub race_text : Program → List Entry → List ℕ → List ℕ
-race_text p entries packet = concat (codes "snapc: race\n" ∷ flat_map (array_line p.vars) entries ∷ packet_line p.fields packet ∷ [])
-
--- the text tells this store and this packet
-abbrev pub TellsPair : Program → Arrays → List ℕ → (text : List ℕ) → Type 0
-TellsPair p m k text = (entries : List Entry) × IsListing m entries × (text ≡ race_text p entries k)
 
 -- evaluation is undefined on no store and packet
 abbrev pub NeverRaces : Program → Type 0
@@ -42,7 +29,16 @@ Races p = (m : Arrays) × (k : List ℕ) × IsRaceOf p m k
 
 -- the text tells such a store and packet
 abbrev pub TellsRace : Program → (text : List ℕ) → Type 0
-TellsRace p text = (m : Arrays) × (k : List ℕ) × IsRaceOf p m k × TellsPair p m k text
+TellsRace p text = (m : Arrays) × (k : List ℕ) × IsRaceOf p m k × TellsPair (codes "snapc: race\n") p m k text
+
+-- nodes with the diagram of a program, which never races
+abbrev pub HasWhole : Program → List (Node Leaf) → ℕ → Type 0
+HasWhole p ns root = (groups : Grouping) × IsWhole p groups ns root
+
+-- a refusal that tells a race, or memory was short
+abbrev pub IsRaceTold : Program → Refusal → Type 0
+IsRaceTold p (Race text) = TellsRace p text.items
+IsRaceTold p refusal = refusal ≡ NoMemory
 
 -- how a program that was read ends
 abbrev pub EndsJudged : Program → Ending → Type 0

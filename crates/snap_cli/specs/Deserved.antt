@@ -5,10 +5,11 @@ use Rattle.std.specs.Io.KnownBytes.{Appends}
 use Rattle.snap_io.specs.Causes.{Rose}
 use Rattle.snap_io.specs.Files.{Files}
 use Rattle.snap_io.specs.Sinks.{AppendsPart, AppendsSome}
-use Rattle.snap_words.specs.Commands.{Command, check, deps, obs, routes}
+use Rattle.snap_words.specs.Commands.{Command, check, deps, equal, obs, routes}
 use Rattle.snap_cli.specs.declared.refusal.Refusal.TheVariants.{Read, Write, NoMemory}
 use Rattle.snap_cli.specs.Check.{EndsCheck, IsCheckText}
 use Rattle.snap_cli.specs.Deps.{EndsDeps, IsDepsText}
+use Rattle.snap_cli.specs.Equal.{EndsEqual, IsEqualText, MayPrecedeReadEqual}
 use Rattle.snap_cli.specs.Obs.{EndsObs, IsObsText, MayPrecedeObs, MayPrecedeReadObs}
 use Rattle.snap_cli.specs.Refusals.{Ending}
 use Rattle.snap_cli.specs.Routes.{EndsRoutes, IsRoutesText, MayPrecedeRoutes}
@@ -18,6 +19,7 @@ abbrev pub Ends : Files → Command → Ending → Type 0
 Ends files (obs program packets) ending = EndsObs files program packets ending
 Ends files (deps program) ending = EndsDeps files program ending
 Ends files (check program) ending = EndsCheck files program ending
+Ends files (equal left right) ending = EndsEqual files left right ending
 Ends files (routes topology) ending = EndsRoutes files topology ending
 
 -- the text that has gone out then
@@ -25,6 +27,7 @@ abbrev pub IsText : Files → Command → List ℕ → Type 0
 IsText files (obs program packets) text = IsObsText files program packets text
 IsText files (deps program) text = IsDepsText files program text
 IsText files (check program) text = IsCheckText files program text
+IsText files (equal left right) text = IsEqualText files left right text
 IsText files (routes topology) text = IsRoutesText files topology text
 
 -- of this text some first bytes may have gone out where memory is short
@@ -32,6 +35,7 @@ abbrev pub MayPrecede : Files → Command → List ℕ → Type 0
 MayPrecede files (obs program packets) text = MayPrecedeObs files program packets text
 MayPrecede files (deps program) text = text ≡ []
 MayPrecede files (check program) text = text ≡ []
+MayPrecede files (equal left right) text = text ≡ []
 MayPrecede files (routes topology) text = MayPrecedeRoutes files topology text
 
 -- the file with this name is one of the command's, and of this text some first bytes may have gone out where it can't be read
@@ -39,6 +43,7 @@ abbrev pub MayPrecedeRead : Files → Command → (name : List ℕ) → List ℕ
 MayPrecedeRead files (obs program packets) name text = MayPrecedeReadObs files program packets name text
 MayPrecedeRead files (deps program) name text = (name ≡ program) × (text ≡ [])
 MayPrecedeRead files (check program) name text = (name ≡ program) × (text ≡ [])
+MayPrecedeRead files (equal left right) name text = MayPrecedeReadEqual files left right name text
 MayPrecedeRead files (routes topology) name text = (name ≡ topology) × (text ≡ [])
 
 -- The ending is one that the command deserves, and its whole text went out. Or a file of the command couldn't be read,

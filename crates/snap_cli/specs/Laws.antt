@@ -5,12 +5,14 @@ use Rattle.std.specs.Io.KnownBytes.{Appends}
 use Rattle.snap_core.specs.declared.program.Program.{Program}
 use Rattle.snap_io.specs.Files.{Files, file_of}
 use Rattle.snap_names.specs.Declarations.{core_program}
-use Rattle.snap_words.specs.Commands.{Command, check, command_of}
+use Rattle.snap_equal.specs.Same.{MeanSame}
+use Rattle.snap_words.specs.Commands.{Command, check, command_of, equal}
 use Rattle.snap_cli.specs.declared.refusal.Refusal.{Refusal}
-use Rattle.snap_cli.specs.declared.refusal.Refusal.TheVariants.{Race}
+use Rattle.snap_cli.specs.declared.refusal.Refusal.TheVariants.{Race, Differ}
 use Rattle.snap_cli.specs.Answers.{Answers}
 use Rattle.snap_cli.specs.Check.{NeverRaces, Races}
 use Rattle.snap_cli.specs.Deserved.{Ends, IsText, Tells}
+use Rattle.snap_cli.specs.Equal.{AreComparable, Differs}
 use Rattle.snap_cli.specs.ProgramOf.{ProgramOf}
 use Rattle.snap_cli.specs.Refusals.{Ending, status_of, message_of}
 
@@ -24,16 +26,17 @@ IsSame a b = ⊥
 abbrev pub SpellsOneProgram : Type 0
 SpellsOneProgram = (text : List ℕ) (a b : Result Program Refusal) → ProgramOf text a → ProgramOf text b → IsSame a b
 
--- the ending tells a race
-abbrev pub IsRace : Ending → Type 0
-IsRace (Err (Race text)) = Unit {0}
-IsRace ending = ⊥
+-- both endings tell a race, or both tell a difference
+abbrev pub TellAlike : Ending → Ending → Type 0
+TellAlike (Err (Race text)) (Err (Race other)) = Unit {0}
+TellAlike (Err (Differ text)) (Err (Differ other)) = Unit {0}
+TellAlike a b = ⊥
 
--- One ending. Races of one program may be told by different stores and packets.
+-- One ending. A race or a difference may be told by different stores and packets.
 abbrev pub IsSameEnding : Ending → Ending → Type 0
-IsSameEnding a b = (a ≡ b) ⊎ (IsRace a × IsRace b)
+IsSameEnding a b = (a ≡ b) ⊎ TellAlike a b
 
--- A command deserves one ending at most, but that each store and packet on which a program races may be told,
+-- A command deserves one ending at most, but that each store and packet on which a program races or two differ may be told,
 abbrev pub DeservesOneEnding : Type 0
 DeservesOneEnding = (files : Files) (command : Command) (a b : Ending) → Ends files command a → Ends files command b → IsSameEnding a b
 
@@ -41,7 +44,7 @@ DeservesOneEnding = (files : Files) (command : Command) (a b : Ending) → Ends 
 abbrev pub DeservesOneText : Type 0
 DeservesOneText = (files : Files) (command : Command) (a b : List ℕ) → IsText files command a → IsText files command b → a ≡ b
 
--- the command deserves this ending and this text, and no others, but for a race that another store and packet tell
+-- the command deserves this ending and this text, and no others, but for a race or a difference that another store and packet tell
 pub record IsDue (files : Files) (command : Command) (ending : Ending) (text : List ℕ) : Type 0 where
   pub ends : Ends files command ending
   pub no_other_ending : (e : Ending) → Ends files command e → IsSameEnding e ending
@@ -74,3 +77,12 @@ ChecksExactly = (words : List (List ℕ)) (files : Files) (program : List ℕ) (
     → command_of words ≡ Some (check program) → ProgramOf (file_of files program) (Ok p)
     → Answers words (Some files) status shelf_before shelf_now out_before out_now out_old out_new err_before err_now err_old err_new
     → IsFailure status ⊎ (((status ≡ 0) × NeverRaces p) ⊎ ((status ≡ 10) × Races p))
+
+-- Where no device failed and memory was there, `equal` of two programs with equal declarations that never race answers 0
+-- just where they mean the same, and 18 just where they don't on some store and packet.
+abbrev pub EqualsExactly : Type 0
+EqualsExactly = (words : List (List ℕ)) (files : Files) (left right : List ℕ) (p q : Program) (status : ℕ) (shelf_before shelf_now : List ℕ → ℕ)
+    (out_before out_now : ℕ) (out_old out_new : Option (List ℕ)) (err_before err_now : ℕ) (err_old err_new : Option (List ℕ))
+    → command_of words ≡ Some (equal left right) → ProgramOf (file_of files left) (Ok p) → ProgramOf (file_of files right) (Ok q) → AreComparable p q
+    → Answers words (Some files) status shelf_before shelf_now out_before out_now out_old out_new err_before err_now err_old err_new
+    → IsFailure status ⊎ (((status ≡ 0) × MeanSame p q) ⊎ ((status ≡ 18) × Differs p q))

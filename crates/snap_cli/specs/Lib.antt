@@ -3,8 +3,10 @@ pub mod Causes
 pub mod Check
 pub mod Deps
 pub mod Deserved
+pub mod Equal
 pub mod Laws
 pub mod Obs
+pub mod Pairs
 pub mod ProgramOf
 pub mod Refusals
 pub mod Routes

@@ -4,7 +4,7 @@ use Rattle.std.specs.List.{concat}
 use Rattle.snap_core.specs.declared.program.Which.{Which}
 use Rattle.snap_core.specs.declared.program.Which.TheVariants as which
 use Rattle.snap_cli.specs.declared.refusal.Refusal.{Refusal}
-use Rattle.snap_cli.specs.declared.refusal.Refusal.TheVariants.{Usage, Read, Write, Syntax, Naming, Limit, Topology, Unreachable, Race, Packets, NoMemory, Undefined}
+use Rattle.snap_cli.specs.declared.refusal.Refusal.TheVariants.{Usage, Read, Write, Syntax, Naming, Limit, Topology, Unreachable, Race, Packets, NoMemory, Undefined, Declarations, Differ}
 use Rattle.snap_cli.specs.declared.refusal.SyntaxFault.{SyntaxFault}
 use Rattle.snap_cli.specs.declared.refusal.SyntaxFault.TheVariants.{BadByte, BadNumber, UnexpectedToken, TooDeep}
 use Rattle.snap_cli.specs.declared.refusal.NamingFault.{NamingFault}
@@ -31,6 +31,8 @@ status_of (Err (Race text)) = 10
 status_of (Err (Packets line)) = 12
 status_of (Err NoMemory) = 14
 status_of (Err (Undefined packet)) = 15
+status_of (Err Declarations) = 17
+status_of (Err (Differ text)) = 18
 
 abbrev pub which_text : Which → List ℕ
 which_text which.Bytes = codes "bytes"
@@ -103,6 +105,8 @@ message_of (Err (Limit which count)) = message_of_limit which count
 message_of (Err (Topology fault)) = message_of_topology fault
 message_of (Err (Unreachable switches a b)) = message_apart switches a b
 message_of (Err (Race text)) = text.items
+message_of (Err Declarations) = message_text (codes "declarations differ")
+message_of (Err (Differ text)) = text.items
 message_of (Err (Packets line)) = message_with (codes "packets: line") line
 message_of (Err NoMemory) = message_text (codes "out of memory")
 message_of (Err (Undefined packet)) = message_with (codes "undefined: packet") packet

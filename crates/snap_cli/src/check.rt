@@ -1,27 +1,19 @@
 //! The command `check`: whether the parts of a program race on some store and packet.
 
-ghost use Rattle.std.specs.Prelude.{◌≡◌, ◌≤◌, Err, IfOk, IfSome, IsErrOf, codes, length};
-ghost use Rattle.snap_core.specs.Cells.{arrays_of};
-ghost use Rattle.snap_core.specs.Fields.{count};
+ghost use Rattle.std.specs.Prelude.{IfSome, IsErrOf};
 ghost use Rattle.snap_core.specs.Programs.{IsInForm};
 ghost use Rattle.snap_io.specs.Causes.{Rose};
 ghost use Rattle.snap_words.specs.Commands.{check};
-ghost use Rattle.snap_build.specs.Whole.{IsRaceOf};
 ghost use Rattle.snap_cli.specs.Causes.{HasCauses, IsRead};
-ghost use Rattle.snap_cli.specs.Check.{Judges, MeetsCheck, TellsPair};
+ghost use Rattle.snap_cli.specs.Check.{Judges, MeetsCheck};
 ghost use Rattle.snap_cli.specs.Deserved.{Meets};
 
+use crate::diagram::diagram;
 use crate::program::load_program;
 use crate::refusal::Refusal;
-use snap_build::building::{BuildFault, build};
 use snap_build::laws::whole_programs_never_race;
-use snap_core::NoMemory;
-use snap_core::packet::Packet;
 use snap_core::program::Program;
-use snap_core::store::Store;
-use snap_dep::calls::groups;
 use snap_io::{Shelf, Sink, write_whole};
-use snap_trace::report::{put_arrays, put_fields};
 use std::alloc::Global;
 
 /// Writes `ok` where no store and packet make a program's parts race; else the refusal tells such a store and packet.
@@ -64,41 +56,9 @@ fn judge<'a>(alloc: Global, program: &Program) -> Result<(), Refusal<'a>>
     requires { IsInForm program.now }
     ensures { Judges program.now result }
 {
-    let groups = groups(alloc, program)?;
     whole_programs_never_race();
-    match build(alloc, program, &groups) {
+    match diagram(alloc, program) {
         Ok(_) => Ok(()),
-        Err(BuildFault::Race { store, packet }) => Err(race(alloc, program, &store, &packet)),
-        Err(BuildFault::NoMemory) => Err(Refusal::NoMemory),
+        Err(refusal) => Err(refusal),
     }
-}
-
-// The refusal of a program that races on a store and a packet. Its text is made here, before the status is settled.
-fn race<'a>(alloc: Global, program: &Program, store: &Store, packet: &Packet) -> Refusal<'a>
-    requires { IsRaceOf program.now (arrays_of store.now) packet.now }
-    ensures { Judges program.now (Err result) }
-{
-    match race_text(alloc, program, store, packet) {
-        Ok(text) => Refusal::Race { text },
-        Err(_) => Refusal::NoMemory,
-    }
-}
-
-// The message of a race on a store and a packet.
-fn race_text(
-    alloc: Global,
-    program: &Program,
-    store: &Store,
-    packet: &Packet,
-) -> Result<Vec<u8>, NoMemory>
-    requires { length packet.now ≡ count program.now.fields }
-    ensures { IfOk result (λ text. TellsPair program.now (arrays_of store.now) packet.now text.items) }
-{
-    let listed = store.listing()?;
-    let mut text = Vec::new(alloc);
-    text.extend_from_slice(b"snapc: race\n")?;
-    put_arrays(&mut text, &program.vars, &listed)?;
-    text.extend_from_slice(b"packet")?;
-    put_fields(&mut text, &program.fields, packet)?;
-    Ok(text)
 }

@@ -1,6 +1,6 @@
 //! Laws of what words and files deserve, each the contract of a call that does nothing but name the laws below it.
 
-ghost use Rattle.snap_cli.specs.Laws.{AnswersExactly, ChecksExactly, DeservesOneEnding, DeservesOneText, SpellsOneProgram};
+ghost use Rattle.snap_cli.specs.Laws.{AnswersExactly, ChecksExactly, DeservesOneEnding, DeservesOneText, EqualsExactly, SpellsOneProgram};
 
 use crate::deps::has_one_text;
 use snap_core::laws::has_one_listing;
@@ -15,8 +15,8 @@ pub fn spells_one_program()
     yields_once();
 }
 
-/// A command deserves one ending at most on its files, but that any store and packet on which a program races may be told,
-/// and one text.
+/// A command deserves one ending at most on its files, but that any store and packet on which a program races, or two
+/// differ, may be told, and one text.
 pub fn deserves_once()
     ensures ending { DeservesOneEnding }
     ensures text { DeservesOneText }
@@ -38,6 +38,15 @@ pub fn answers_exactly()
 /// store and packet, and 10 just where it is on some.
 pub fn checks_exactly()
     ensures { ChecksExactly }
+{
+    spells_one_program();
+    answers_exactly();
+}
+
+/// Where no device failed and memory was there, `equal` of two programs that are declared alike and never race answers 0
+/// just where they mean the same, and 18 just where they don't on some store and packet.
+pub fn equals_exactly()
+    ensures { EqualsExactly }
 {
     spells_one_program();
     answers_exactly();

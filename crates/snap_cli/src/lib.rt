@@ -3,8 +3,11 @@
 
 pub mod check;
 pub mod deps;
+mod diagram;
+pub mod equal;
 pub mod laws;
 pub mod obs;
+mod pair;
 pub mod program;
 pub mod refusal;
 pub mod routes;

@@ -80,6 +80,12 @@ pub enum Refusal<'a> {
     /// Two parts of the program race. This is the whole message, which tells a store and a packet on which they do.
     Race { text: Vec<u8> },
 
+    /// Two programs differ in their lists of fields or of names of arrays.
+    Declarations,
+
+    /// Two programs don't mean the same. This is the whole message, which tells a store and a packet on which they don't.
+    Differ { text: Vec<u8> },
+
     /// This line of the packets file isn't in form, or too long.
     Packets { line: u64 },
 
@@ -253,10 +259,12 @@ impl Refusal<'_> {
             Refusal::Packets { .. } => 12,
             Refusal::NoMemory => 14,
             Refusal::Undefined { .. } => 15,
+            Refusal::Declarations => 17,
+            Refusal::Differ { .. } => 18,
         }
     }
 
-    /// Writes the message, one line, or a race's lines. It takes no memory.
+    /// Writes the message, one line, or the lines of a race or a difference. It takes no memory.
     pub fn tell<E: Sink>(&self, err: &mut E) -> Result<(), WriteFailed>
         ensures ok { OnOk result (Appends (E.taken err.old) (E.taken err.new) (message_of (Err self.now))) }
         ensures err { OnErr result (AppendsPart (E.taken err.old) (E.taken err.new) (message_of (Err self.now))) }
@@ -272,6 +280,8 @@ impl Refusal<'_> {
             Refusal::Topology { fault } => tell_topology(err, fault),
             Refusal::Unreachable { switches, a, b } => tell_apart(err, switches, *a, *b),
             Refusal::Race { text } => write_whole(err, text),
+            Refusal::Declarations => tell_text(err, b"declarations differ"),
+            Refusal::Differ { text } => write_whole(err, text),
             Refusal::Packets { line } => tell_number(err, b"packets: line", *line),
             Refusal::NoMemory => tell_text(err, b"out of memory"),
             Refusal::Undefined { packet } => tell_number(err, b"undefined: packet", *packet),

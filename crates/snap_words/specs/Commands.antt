@@ -9,6 +9,7 @@ pub data Command : Type 0 where
   obs : Text → Text → Command
   deps : Text → Command
   check : Text → Command
+  equal : Text → Text → Command
   routes : Text → Command
 
 -- the names of a command that has no options
@@ -33,6 +34,7 @@ command_for first t =
     if bytes_eq first (codes "obs") then option_and_then (with_two obs) (names_alone t)
     else if bytes_eq first (codes "deps") then option_and_then (with_one deps) (names_alone t)
     else if bytes_eq first (codes "check") then option_and_then (with_one check) (names_alone t)
+    else if bytes_eq first (codes "equal") then option_and_then (with_two equal) (names_alone t)
     else if bytes_eq first (codes "routes") then option_and_then (with_one routes) (names_alone t)
     else None
 

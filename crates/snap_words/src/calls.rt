@@ -3,7 +3,7 @@
 ghost use Rattle.std.specs.Prelude.{◌≡◌, IfErr, IfOk, IsTrue, None, Some, false, option_map};
 ghost use Rattle.std.specs.List.{list_all};
 ghost use Rattle.std.specs.Str.{is_utf8};
-ghost use Rattle.snap_words.specs.Commands.{check, command_for, command_of, deps, names_alone, obs, routes, with_one, with_two};
+ghost use Rattle.snap_words.specs.Commands.{check, command_for, command_of, deps, equal, names_alone, obs, routes, with_one, with_two};
 ghost use Rattle.snap_words.specs.Said.{are_among, bytes_of, is_among, lent, said, shown};
 
 use crate::command::Command;
@@ -65,6 +65,7 @@ fn command_for<'a>(words: &'a [Vec<u8>], first: &str, told: &Told) -> Option<Com
         "obs" => obs(words, names),
         "deps" => deps(words, names),
         "check" => check(words, names),
+        "equal" => equal(words, names),
         "routes" => routes(words, names),
         _ => None,
     }
@@ -113,6 +114,19 @@ fn check<'a>(words: &'a [Vec<u8>], names: &[&str]) -> Option<Command<'a>>
     match names {
         [program] => Some(Command::Check {
             program: word(words, program),
+        }),
+        _ => None,
+    }
+}
+
+fn equal<'a>(words: &'a [Vec<u8>], names: &[&str]) -> Option<Command<'a>>
+    requires { IsTrue (are_among (bytes_of words.now) (lent names.now)) }
+    ensures { option_map shown result ≡ with_two equal (lent names.now) }
+{
+    match names {
+        [left, right] => Some(Command::Equal {
+            left: word(words, left),
+            right: word(words, right),
         }),
         _ => None,
     }

@@ -16,6 +16,11 @@ pub enum Command<'a> {
     Check {
         program: &'a [u8],
     },
+    /// Whether two programs mean the same.
+    Equal {
+        left: &'a [u8],
+        right: &'a [u8],
+    },
     /// The distances and next hops of a topology.
     Routes {
         topology: &'a [u8],

@@ -1,4 +1,4 @@
--- The text of a race, put together part by part.
+-- The text of a store and a packet, put together part by part.
 use Rattle.std.proofs.Common.{◌≡◌, ℕ, List, [], ◌++◌, map, codes, append-nil, append_assoc, ap, sym, ◌∙◌}
 use Rattle.std.specs.List.{flat_map}
 use Rattle.std.proofs.lemmas.List.Folds.{flat_map-map}
@@ -6,18 +6,15 @@ use Rattle.snap_core.specs.declared.place.Listed.{Listed}
 use Rattle.snap_core.specs.declared.program.Program.{Program}
 use Rattle.snap_core.specs.Listing.{entry_of}
 use Rattle.snap_trace.specs.Reports.{array_line, fields_text, listed_line}
-use Rattle.snap_cli.specs.Check.{packet_line, race_text}
+use Rattle.snap_cli.specs.Pairs.{packet_line, pair_text}
 
-module _ (p : Program) (listed : List Listed) (k : List ℕ) where
-  abbrev Front : List ℕ
-  Front = codes "snapc: race\n"
-
+module _ (Front : List ℕ) (p : Program) (listed : List Listed) (k : List ℕ) where
   abbrev Fields : List ℕ
   Fields = fields_text 0 p.fields k ++ codes "\n"
 
-  pub race-put : (a b c d : List ℕ) → a ≡ Front → b ≡ a ++ flat_map (listed_line p.vars) listed → c ≡ b ++ codes "packet" → d ≡ c ++ Fields
-      → d ≡ race_text p (map entry_of listed) k
-  race-put a b c d first arrays word fields =
+  pub pair-put : (a b c d : List ℕ) → a ≡ Front → b ≡ a ++ flat_map (listed_line p.vars) listed → c ≡ b ++ codes "packet" → d ≡ c ++ Fields
+      → d ≡ pair_text Front p (map entry_of listed) k
+  pair-put a b c d first arrays word fields =
       let lines = flat_map (listed_line p.vars) listed in
       let parts : d ≡ ((Front ++ lines) ++ codes "packet") ++ Fields =
       fields ∙ ap (λ x. x ++ Fields) (word ∙ ap (λ x. x ++ codes "packet") (arrays ∙ ap (λ x. x ++ lines) first)) in

@@ -1,0 +1,149 @@
+//! The command `equal`: whether two programs mean the same.
+
+ghost use Rattle.std.specs.Prelude.{◌≡◌, ◌↔◌, IfSome, IsErrOf, IsTrue};
+ghost use Rattle.snap_core.specs.Cells.{arrays_of};
+ghost use Rattle.snap_core.specs.Programs.{IsInForm};
+ghost use Rattle.snap_io.specs.Causes.{Rose};
+ghost use Rattle.snap_words.specs.Commands.{equal};
+ghost use Rattle.snap_equal.specs.Same.{TellApart};
+ghost use Rattle.snap_cli.specs.Causes.{HasCauses, IsRead};
+ghost use Rattle.snap_cli.specs.Deserved.{Meets};
+ghost use Rattle.snap_cli.specs.Equal.{AreDeclaredAlike, Compares, IsDifferenceTold, MeetsEqual};
+
+use crate::diagram::diagram;
+use crate::pair::pair_text;
+use crate::program::load_program;
+use crate::refusal::Refusal;
+use snap_build::laws::{whole_diagrams_do, whole_programs_never_race};
+use snap_core::lists::Name;
+use snap_core::packet::Packet;
+use snap_core::program::{Field, Program};
+use snap_core::store::Store;
+use snap_equal::comparing::{Compared, compare};
+use snap_io::{Shelf, Sink, write_whole};
+use std::alloc::Global;
+
+/// Writes `equal` where two programs mean the same; else the refusal says that their declarations differ, or tells a store
+/// and a packet on which one of them races or they differ.
+pub(crate) fn report<'a, S: Shelf, O: Sink>(
+    alloc: Global,
+    left: &'a [u8],
+    right: &'a [u8],
+    shelf: &mut S,
+    out: &mut O,
+) -> Result<(), Refusal<'a>>
+    ensures meets { IfSome (S.files shelf.old) (λ files.
+        Meets files (equal left.entry.now right.entry.now) result (O.taken out.old) (O.taken out.new)) }
+    ensures causes { HasCauses (S.faults shelf.old) (S.faults shelf.new) (O.faults out.old) (O.faults out.new) result }
+    ensures not_usage { IsErrOf result Refusal.Usage → ⊥ }
+{
+    match load_program(alloc, shelf, left) {
+        Ok(first) => match load_program(alloc, shelf, right) {
+            Ok(second) => answer(alloc, &first, &second, out),
+            Err(refusal) => Err(refusal),
+        },
+        Err(refusal) => Err(refusal),
+    }
+}
+
+// Writes the answer of two programs that were read.
+fn answer<'a, O: Sink>(
+    alloc: Global,
+    left: &Program,
+    right: &Program,
+    out: &mut O,
+) -> Result<(), Refusal<'a>>
+    requires left { IsInForm left.now }
+    requires right { IsInForm right.now }
+    ensures meets { MeetsEqual left.now right.now result (O.taken out.old) (O.taken out.new) }
+    ensures write { IsErrOf result Refusal.Write → Rose (O.faults out.old) (O.faults out.new) }
+    ensures not_read { IsRead result → ⊥ }
+    ensures not_usage { IsErrOf result Refusal.Usage → ⊥ }
+{
+    match judge(alloc, left, right) {
+        Ok(()) => match write_whole(out, b"equal\n") {
+            Ok(()) => Ok(()),
+            Err(_) => Err(Refusal::Write),
+        },
+        Err(refusal) => Err(refusal),
+    }
+}
+
+// Whether two programs have equal lists of fields and of names of arrays.
+fn are_declared_alike(left: &Program, right: &Program) -> bool
+    ensures { IsTrue result ↔ AreDeclaredAlike left.now right.now }
+{
+    same_fields(left.fields.items(), right.fields.items())
+        && same_names(left.vars.items(), right.vars.items())
+}
+
+fn same_fields(left: &[Field], right: &[Field]) -> bool
+    ensures { IsTrue result ↔ (left.now ≡ right.now) }
+{
+    if left.len() != right.len() {
+        return false;
+    }
+    for i in 0..left.len() {
+        if left[i].prefix != right[i].prefix || left[i].name.bytes() != right[i].name.bytes() {
+            return false;
+        }
+    }
+    true
+}
+
+fn same_names(left: &[Name], right: &[Name]) -> bool
+    ensures { IsTrue result ↔ (left.now ≡ right.now) }
+{
+    if left.len() != right.len() {
+        return false;
+    }
+    for i in 0..left.len() {
+        if left[i].bytes() != right[i].bytes() {
+            return false;
+        }
+    }
+    true
+}
+
+// Whether two programs mean the same.
+fn judge<'a>(alloc: Global, left: &Program, right: &Program) -> Result<(), Refusal<'a>>
+    requires left { IsInForm left.now }
+    requires right { IsInForm right.now }
+    ensures { Compares left.now right.now result }
+{
+    if !are_declared_alike(left, right) {
+        return Err(Refusal::Declarations);
+    }
+    let first = diagram(alloc, left)?;
+    let second = diagram(alloc, right)?;
+    whole_programs_never_race();
+    let (comps, vars) = (left.fields.count(), left.vars.items().len() as u16);
+    match compare(
+        &first.nodes,
+        first.root,
+        &second.nodes,
+        second.root,
+        comps,
+        vars,
+    )? {
+        Compared::Same => Ok(()),
+        Compared::Differ { store, packet } => Err(differ(alloc, left, right, &store, &packet)),
+    }
+}
+
+// The refusal of two programs that differ on a store and a packet. Its text is made here, before the status is settled.
+fn differ<'a>(
+    alloc: Global,
+    left: &Program,
+    right: &Program,
+    store: &Store,
+    packet: &Packet,
+) -> Refusal<'a>
+    requires { TellApart left.now right.now (arrays_of store.now) packet.now }
+    ensures { IsDifferenceTold left.now right.now result }
+{
+    match pair_text(alloc, b"snapc: differ\n", left, store, packet) {
+        Ok(text) => Refusal::Differ { text },
+        Err(_) => Refusal::NoMemory,
+    }
+}

@@ -1,0 +1,11 @@
+pub mod Telling
+pub mod Wrapping
+pub mod TermTests
+pub mod Indices
+pub mod Making
+pub mod Holding
+pub mod AllPlaces
+pub mod Adding
+pub mod Differing
+pub mod Answering
+pub mod Comparable

@@ -1,0 +1,28 @@
+-- When leaves and diagrams do the same.
+use Rattle.std.specs.Prelude.{◌≡◌, ℕ, List, [], ◌∷◌}
+use Rattle.snap_core.specs.Arrays.{Arrays}
+use Rattle.snap_core.specs.Cells.{Cells}
+use Rattle.snap_ctx.specs.Meets.{IsPacket, IsStore}
+use Rattle.snap_arena.specs.declared.node.Node.{Node}
+use Rattle.snap_arena.specs.Memos.{Remembers}
+use Rattle.snap_fdd.specs.declared.leaf.Leaf.{Leaf}
+use Rattle.snap_fdd.specs.Diagrams.{Diagram, diagram, walk}
+use Rattle.snap_fdd.specs.Leaves.{answer_of, outcome_of}
+use Rattle.snap_equal.specs.Same.{SameOutcome}
+
+abbrev pub LeavesDoSame : Leaf → Leaf → Arrays → List ℕ → Type 0
+LeavesDoSame x y m k = SameOutcome (outcome_of (answer_of x k) m) (outcome_of (answer_of y k) m)
+
+abbrev pub DiagramsDoSame : Diagram → Diagram → Arrays → List ℕ → Type 0
+DiagramsDoSame d e m k = LeavesDoSame (walk d m k) (walk e m k) m k
+
+-- they do with every store, and every packet of so many components
+abbrev pub AlwaysDoSame : ℕ → Diagram → Diagram → Type 0
+AlwaysDoSame comps d e = (m : Arrays) (k : List ℕ) → IsStore m → IsPacket comps k → DiagramsDoSame d e m k
+
+-- a 1 for two numbers says that their diagrams always do the same
+abbrev pub PairKnown : ℕ → List (Node Leaf) → List (Node Leaf) → List ℕ → ℕ → Type 0
+PairKnown comps ns os q d = (x y : ℕ) → q ≡ x ∷ y ∷ [] → d ≡ 1 → AlwaysDoSame comps (diagram ns x) (diagram os y)
+
+abbrev pub ArePairsKnown : ℕ → List (Node Leaf) → List (Node Leaf) → Cells → Type 0
+ArePairsKnown comps ns os = Remembers (PairKnown comps ns os)

@@ -1,0 +1,213 @@
+//! The comparison of two diagrams.
+
+ghost use Rattle.std.specs.Prelude.{◌≡◌, ◌<◌, ◌≤◌, [], IfOk, OnOk, length};
+ghost use Rattle.snap_fdd.specs.Diagrams.{diagram};
+ghost use Rattle.snap_equal.specs.Inputs.{IsComparable, IsLeaf, IsTest, space};
+ghost use Rattle.snap_equal.specs.Leaves.{ArePairsKnown, DiagramsDoSame, LeavesDoSame};
+ghost use Rattle.snap_equal.specs.Same.{CanBeCompared, IsCompared};
+ghost use Rattle.snap_equal.specs.Told.{AreBelow, IsAnswer, Where};
+
+use crate::agreeing::agree;
+use crate::leaves::same_leaves;
+use crate::stop::Stop;
+use snap_arena::node::Node;
+use snap_arena::nodes::Nodes;
+use snap_arena::numbers::Numbers;
+use snap_core::NoMemory;
+use snap_core::packet::Packet;
+use snap_core::policy::Test;
+use snap_core::store::Store;
+use snap_ctx::context::{Assumed, Context};
+use snap_fdd::leaf::Leaf;
+use snap_fdd::pick::look;
+use snap_model::example::example;
+use std::alloc::Global;
+
+/// How two diagrams compare.
+#[derive(Drop)]
+pub enum Compared {
+    /// They do the same with every store and packet.
+    Same,
+    /// They don't do the same with these.
+    Differ { store: Store, packet: Packet },
+}
+
+// The most facts that a context holds.
+const MOST_FACTS: usize = 4_294_967_295;
+
+// A store and a packet that meet the context.
+fn differ(alloc: Global, ctx: &Context, vars: u16) -> Result<Compared, NoMemory>
+    requires { AreBelow vars ctx.now }
+    ensures { IfOk result (IsAnswer ctx.now vars (λ m k. ⊥)) }
+{
+    let (store, packet) = example(alloc, ctx)?;
+    Ok(Compared::Differ { store, packet })
+}
+
+// Compares two leaves under a context.
+#[cycle(compare_leaves)]
+fn compare_leaves(
+    alloc: Global,
+    ctx: &Context,
+    vars: u16,
+    left: &Leaf,
+    right: &Leaf,
+) -> Result<Compared, NoMemory>
+    requires few { vars ≤ 64 }
+    requires facts { AreBelow vars ctx.now }
+    requires left { IsLeaf (space ctx.now vars) left.now }
+    requires right { IsLeaf (space ctx.now vars) right.now }
+    ensures { IfOk result (IsAnswer ctx.now vars (LeavesDoSame left.now right.now)) }
+{
+    match same_leaves(alloc, ctx, vars, left, right) {
+        Ok(true) => Ok(Compared::Same),
+        Ok(false) => differ(alloc, ctx, vars),
+        Err(Stop::NoMemory) => Err(NoMemory),
+        Err(Stop::Split(test)) => {
+            let compared = compare_leaves_where(alloc, ctx, vars, &test, true, left, right)?;
+            if let Compared::Differ { .. } = compared {
+                return Ok(compared);
+            }
+            compare_leaves_where(alloc, ctx, vars, &test, false, left, right)
+        }
+    }
+}
+
+// Compares two leaves where a test has an answer. The facts grow, and a context refuses more than so many.
+#[cycle(compare_leaves)]
+fn compare_leaves_where(
+    alloc: Global,
+    ctx: &Context,
+    vars: u16,
+    test: &Test,
+    yes: bool,
+    left: &Leaf,
+    right: &Leaf,
+) -> Result<Compared, NoMemory>
+    requires few { vars ≤ 64 }
+    requires facts { AreBelow vars ctx.now }
+    requires test { IsTest (space ctx.now vars) test.now }
+    requires left { IsLeaf (space ctx.now vars) left.now }
+    requires right { IsLeaf (space ctx.now vars) right.now }
+    ensures { IfOk result (IsAnswer ctx.now vars (Where test.now yes (LeavesDoSame left.now right.now))) }
+{
+    if ctx.facts().len() >= MOST_FACTS {
+        return Err(NoMemory);
+    }
+    match ctx.assume(test, yes)? {
+        Assumed::Impossible => Ok(Compared::Same),
+        Assumed::More(more) => compare_leaves(alloc, &more, vars, left, right),
+    }
+}
+
+// Compares two diagrams under a context. `plain` is the one without facts.
+#[cycle(compare_under)]
+fn compare_under(
+    known: &mut Numbers,
+    plain: &Context,
+    ctx: &Context,
+    vars: u16,
+    left: &Nodes<Leaf>,
+    first: u64,
+    right: &Nodes<Leaf>,
+    second: u64,
+) -> Result<Compared, NoMemory>
+    requires few { vars ≤ 64 }
+    requires plain { plain.now.facts ≡ [] }
+    requires comps { length plain.now.classes ≡ length ctx.now.classes }
+    requires facts { AreBelow vars ctx.now }
+    requires first { first < length left.now }
+    requires second { second < length right.now }
+    requires left { IsComparable (space ctx.now vars) (diagram left.now first) }
+    requires right { IsComparable (space ctx.now vars) (diagram right.now second) }
+    requires known { ArePairsKnown (length ctx.now.classes) left.now right.now known.old }
+    ensures compared { IfOk result (IsAnswer ctx.now vars (DiagramsDoSame (diagram left.now first) (diagram right.now second))) }
+    ensures known { OnOk result (ArePairsKnown (length ctx.now.classes) left.now right.now known.new) }
+{
+    if agree(known, plain, vars, left, first, right, second)? {
+        return Ok(Compared::Same);
+    }
+    match look(left, first) {
+        Node::Ask { test, yes, no } => {
+            let compared = compare_where(
+                known, plain, ctx, vars, test, true, left, *yes, right, second,
+            )?;
+            if let Compared::Differ { .. } = compared {
+                return Ok(compared);
+            }
+            compare_where(
+                known, plain, ctx, vars, test, false, left, *no, right, second,
+            )
+        }
+        Node::Leaf(leaf) => match look(right, second) {
+            Node::Ask { test, yes, no } => {
+                let compared = compare_where(
+                    known, plain, ctx, vars, test, true, left, first, right, *yes,
+                )?;
+                if let Compared::Differ { .. } = compared {
+                    return Ok(compared);
+                }
+                compare_where(
+                    known, plain, ctx, vars, test, false, left, first, right, *no,
+                )
+            }
+            Node::Leaf(other) => compare_leaves(left.allocator(), ctx, vars, leaf, other),
+        },
+    }
+}
+
+// Compares two diagrams where a test has an answer.
+#[cycle(compare_under)]
+fn compare_where(
+    known: &mut Numbers,
+    plain: &Context,
+    ctx: &Context,
+    vars: u16,
+    test: &Test,
+    yes: bool,
+    left: &Nodes<Leaf>,
+    first: u64,
+    right: &Nodes<Leaf>,
+    second: u64,
+) -> Result<Compared, NoMemory>
+    requires few { vars ≤ 64 }
+    requires plain { plain.now.facts ≡ [] }
+    requires comps { length plain.now.classes ≡ length ctx.now.classes }
+    requires facts { AreBelow vars ctx.now }
+    requires test { IsTest (space ctx.now vars) test.now }
+    requires first { first < length left.now }
+    requires second { second < length right.now }
+    requires left { IsComparable (space ctx.now vars) (diagram left.now first) }
+    requires right { IsComparable (space ctx.now vars) (diagram right.now second) }
+    requires known { ArePairsKnown (length ctx.now.classes) left.now right.now known.old }
+    ensures compared { IfOk result (IsAnswer ctx.now vars (Where test.now yes (DiagramsDoSame (diagram left.now first) (diagram right.now second)))) }
+    ensures known { OnOk result (ArePairsKnown (length ctx.now.classes) left.now right.now known.new) }
+{
+    match ctx.assume(test, yes)? {
+        Assumed::Impossible => Ok(Compared::Same),
+        Assumed::More(more) => {
+            compare_under(known, plain, &more, vars, left, first, right, second)
+        }
+    }
+}
+
+/// Whether two diagrams over so many components and variables do the same with every store and packet, or a store and a
+/// packet with which they don't. They may be ordered under different groups.
+pub fn compare(
+    left: &Nodes<Leaf>,
+    first: u64,
+    right: &Nodes<Leaf>,
+    second: u64,
+    comps: u16,
+    vars: u16,
+) -> Result<Compared, NoMemory>
+    requires comps { comps ≤ 64 }
+    requires vars { vars ≤ 64 }
+    requires left { CanBeCompared comps vars left.now first }
+    requires right { CanBeCompared comps vars right.now second }
+    ensures { IfOk result (IsCompared comps vars left.now first right.now second) }
+{
+    let plain = Context::empty(left.allocator(), comps)?;
+    let mut known = Numbers::new(left.allocator());
+    compare_under(&mut known, &plain, &plain, vars, left, first, right, second)
+}

@@ -1,0 +1,40 @@
+//! Whether leaves do the same.
+
+ghost use Rattle.std.specs.Prelude.{◌≡◌, ◌≤◌, MatchResult};
+ghost use Rattle.snap_equal.specs.Inputs.{IsLeaf, space};
+ghost use Rattle.snap_equal.specs.Leaves.{LeavesDoSame};
+ghost use Rattle.snap_equal.specs.Told.{IsStop, Tells};
+
+use crate::outs::same_packets;
+use crate::stop::Stop;
+use crate::stores::same_stores;
+use snap_ctx::context::Context;
+use snap_fdd::leaf::Leaf;
+use std::alloc::Global;
+
+/// Whether two leaves do the same.
+pub(crate) fn same_leaves(
+    alloc: Global,
+    ctx: &Context,
+    vars: u16,
+    left: &Leaf,
+    right: &Leaf,
+) -> Result<bool, Stop>
+    requires few { vars ≤ 64 }
+    requires left { IsLeaf (space ctx.now vars) left.now }
+    requires right { IsLeaf (space ctx.now vars) right.now }
+    ensures { MatchResult result (Tells ctx.now (LeavesDoSame left.now right.now)) (IsStop ctx.now vars) }
+{
+    match left {
+        Leaf::Race => Ok(true),
+        Leaf::Go(first) => match right {
+            Leaf::Race => Ok(true),
+            Leaf::Go(second) => {
+                if !same_packets(ctx, first.outs.list(), second.outs.list())? {
+                    return Ok(false);
+                }
+                same_stores(alloc, ctx, vars, first.ups.list(), second.ups.list())
+            }
+        },
+    }
+}

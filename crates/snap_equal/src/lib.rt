@@ -1,0 +1,15 @@
+//! Whether two programs mean the same, by their diagrams.
+#![tactic(auto)]
+
+mod agreeing;
+pub mod comparing;
+mod held;
+mod leaves;
+mod outs;
+mod places;
+mod stop;
+mod stores;
+mod tally;
+mod terms;
+#[cfg(test)]
+mod tests;

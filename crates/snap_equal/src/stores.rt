@@ -1,0 +1,87 @@
+//! Whether updates make the same of a store.
+
+ghost use Rattle.std.specs.Prelude.{◌≡◌, ◌≤◌, None, All, MatchResult, drop, length, take};
+ghost use Rattle.snap_core.specs.Arrays.{updates};
+ghost use Rattle.snap_ctx.specs.Meets.{IsStore};
+ghost use Rattle.snap_equal.specs.Held.{AgreeAlong};
+ghost use Rattle.snap_equal.specs.Inputs.{AreOf, IsUpdate};
+ghost use Rattle.snap_equal.specs.Told.{IsStop, On, Tells};
+
+use crate::held::same_along;
+use crate::places::reads_update;
+use crate::stop::Stop;
+use crate::tally::{difference, with_puts};
+use snap_core::bits::op_is_small;
+use snap_core::laws::stays_small;
+use snap_core::policy::Update;
+use snap_ctx::context::Context;
+use std::alloc::Global;
+
+// How many updates do the same in both lists from the first on, as far as a context tells at once.
+fn common(ctx: &Context, left: &[Update], right: &[Update]) -> usize
+    requires left { All (IsUpdate (length ctx.now.classes)) left.now }
+    requires right { All (IsUpdate (length ctx.now.classes)) right.now }
+    ensures left { result ≤ length left.now }
+    ensures right { result ≤ length right.now }
+    ensures same { On ctx.now (λ m k. updates m (take result left.now) k ≡ updates m (take result right.now) k) }
+    ensures small { On ctx.now (λ m k. IsStore (updates m (take result left.now) k)) }
+{
+    stays_small();
+    let mut count = 0;
+    while count < left.len() && count < right.len() {
+        let (first, second) = (&left[count], &right[count]);
+        op_is_small(first.op);
+        if !reads_update(ctx, first, second) {
+            return count;
+        }
+        count += 1;
+    }
+    count
+}
+
+// The updates behind so many.
+fn behind(updates: &[Update], count: usize) -> &[Update]
+    requires { count ≤ length updates.now }
+    ensures { result.now ≡ drop count updates.now }
+{
+    &updates[count..]
+}
+
+// Whether sums add nothing anywhere.
+fn add_nothing(ctx: &Context, vars: u16, sums: &[Update]) -> Result<bool, Stop>
+    requires sums { All (IsUpdate (length ctx.now.classes)) sums.now }
+    requires vars { AreOf vars sums.now }
+    ensures { MatchResult result (Tells ctx.now (λ m k. AgreeAlong None sums.now k (updates m sums.now k) m)) (IsStop ctx.now vars) }
+{
+    same_along(ctx, vars, sums, &[], sums, None)
+}
+
+/// Whether updates make the same of a store. Where behind the common ones a variable is added to alone, what is added is
+/// counted together, so that the order of additions needs no test; at other variables the places are looked at one by one.
+pub(crate) fn same_stores(
+    alloc: Global,
+    ctx: &Context,
+    vars: u16,
+    left: &[Update],
+    right: &[Update],
+) -> Result<bool, Stop>
+    requires few { vars ≤ 64 }
+    requires left { All (IsUpdate (length ctx.now.classes)) left.now }
+    requires right { All (IsUpdate (length ctx.now.classes)) right.now }
+    requires vars_left { AreOf vars left.now }
+    requires vars_right { AreOf vars right.now }
+    ensures { MatchResult result (Tells ctx.now (λ m k. updates m left.now k ≡ updates m right.now k)) (IsStop ctx.now vars) }
+{
+    let done = common(ctx, left, right);
+    let first = behind(left, done);
+    let second = behind(right, done);
+    let mixed = with_puts(with_puts(0, first), second);
+    let sums = difference(alloc, ctx, vars, mixed, first, second)?;
+    if !add_nothing(ctx, vars, &sums)? {
+        return Ok(false);
+    }
+    if !same_along(ctx, vars, left, right, first, Some(mixed))? {
+        return Ok(false);
+    }
+    same_along(ctx, vars, left, right, second, Some(mixed))
+}
