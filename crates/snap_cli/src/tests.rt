@@ -1,3 +1,4 @@
+mod built;
 mod calls;
 mod check;
 mod deps;
