@@ -1,5 +1,6 @@
 mod calls;
 mod check;
 mod deps;
+mod equal;
 mod obs;
 mod routes;
