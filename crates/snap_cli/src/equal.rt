@@ -73,7 +73,7 @@ fn answer<'a, O: Sink>(
 fn are_declared_alike(left: &Program, right: &Program) -> bool
     ensures { IsTrue result ↔ AreDeclaredAlike left.now right.now }
 {
-    same_fields(left.fields.items(), right.fields.items())
+    same_fields(left.fields.list(), right.fields.list())
         && same_names(left.vars.items(), right.vars.items())
 }
 
