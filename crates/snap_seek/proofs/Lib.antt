@@ -1,0 +1,9 @@
+pub mod Bests
+pub mod Cheap
+pub mod Costing
+pub mod Filling
+pub mod Near
+pub mod Ported
+pub mod Ranked
+pub mod Staging
+pub mod Tripped
