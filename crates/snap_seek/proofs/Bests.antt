@@ -28,10 +28,9 @@ ahead n y xs ys le rest = ahead-steps n y xs ys (nat_cmp n y) refl le rest
 -- ---- one more choice
 
 module _ (cost : List ℕ → ℕ) (near : ℕ → ℕ) (rest : ℕ → List ℕ → ℕ) (best : ℕ → List ℕ) (c : List ℕ) (cs : List (List ℕ)) (n : ℕ)
-  (parts : (y : ℕ) (ys : List ℕ) → cost (y ∷ ys) ≡ near y + rest y ys)
-  (bests : (y : ℕ) → Contains c y → IsBest (rest y) cs (best y))
-  (cheap : IsCheapest (λ y. near y + rest y (best y)) c n) where
-
+    (parts : (y : ℕ) (ys : List ℕ) → cost (y ∷ ys) ≡ near y + rest y ys)
+    (bests : (y : ℕ) → Contains c y → IsBest (rest y) cs (best y))
+    (cheap : IsCheapest (λ y. near y + rest y (best y)) c n) where
   least-of : (other : List ℕ) → Picks (c ∷ cs) other → cost (n ∷ best n) ≤ cost other
   least-of [] picked = absurd picked
   least-of (y ∷ ys) picked =
@@ -104,8 +103,7 @@ plan-first routes trips c cs n first nexts near costs nears below cheap plan =
     let entry = λ (y : ℕ). sum_by (λ (t : Trip). t.weight * d t.from y) trips in
     let under : (m : ℕ) → Contains c m → m < n = λ m h. All-contains (λ k. k < n) c m below h in
     let same : (m : ℕ) → Contains c m → over near costs m ≡ entry m + cost_from d trips m (path nexts m) = λ m h.
-    let a = nears m (under m h) in let b = plan.cost m (under m h) in omega arith in
-    (
+    let a = nears m (under m h) in let b = plan.cost m (under m h) in omega arith in (
       extend (cost_of d trips) entry (λ y ys. cost_from d trips y ys) (λ y. path nexts y) c cs first (λ y ys. cost_of-first d trips y ys) (λ y h. plan.best y (under y h))
           (cheapest-by (over near costs) (λ y. entry y + cost_from d trips y (path nexts y)) c first same cheap),
       same first cheap.member ∙ sym (cost_of-first d trips first (path nexts first)),

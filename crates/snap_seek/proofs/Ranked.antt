@@ -71,12 +71,11 @@ pub found-long : (g : Grouping) (order : List ℕ) (allowed : List (List ℕ)) (
 found-long g order allowed cost found same best = (Picks-at (choices order allowed) found best.picks).0 ∙ length-map order (λ (v : ℕ). places_of allowed v) ∙ ap (λ (o : List ℕ). length o) same
 
 module _ (g : Grouping) (allowed : List (List ℕ)) (cost : List ℕ → ℕ) (found owners : List ℕ)
-  (is : IsOrdered g)
-  (together : (a b : ℕ) → a < length g.ranks → b < length g.ranks → rank_of g a ≡ rank_of g b → places_of allowed a ≡ places_of allowed b)
-  (best : IsBest cost (choices g.order allowed) found)
-  (count : length owners ≡ length g.ranks)
-  (each : (v : ℕ) → v < length g.ranks → slice_index owners v ≡ slice_index found (rank_of g v)) where
-
+    (is : IsOrdered g)
+    (together : (a b : ℕ) → a < length g.ranks → b < length g.ranks → rank_of g a ≡ rank_of g b → places_of allowed a ≡ places_of allowed b)
+    (best : IsBest cost (choices g.order allowed) found)
+    (count : length owners ≡ length g.ranks)
+    (each : (v : ℕ) → v < length g.ranks → slice_index owners v ≡ slice_index found (rank_of g v)) where
   found-count : length found ≡ length g.order
   found-count = (Picks-at (choices g.order allowed) found best.picks).0 ∙ length-map g.order (λ (v : ℕ). places_of allowed v)
 

@@ -1,8 +1,8 @@
 //! Demands, and why a text is none.
 
 ghost use Rattle.std.specs.Prelude.{◌≡◌, ◌<◌, [], length, slice_index_or};
-ghost use Rattle.snap_seek.specs.declared.demand.DemandFault.TheVariants.{NoMemory};
 
+use snap_core::NoMemory;
 use snap_core::lists::Name;
 use snap_core::program::Which;
 use std::alloc::{AllocError, AllocFailed};
@@ -150,6 +150,8 @@ pub enum DemandFault {
 }
 
 impl From<AllocError> for DemandFault {
+    ghost use Rattle.snap_seek.specs.declared.demand.DemandFault.TheVariants.{NoMemory};
+
     ghost from_gives = { λ _ e. e ≡ NoMemory };
 
     fn from(_: AllocError) -> DemandFault {
@@ -158,9 +160,21 @@ impl From<AllocError> for DemandFault {
 }
 
 impl<T: Drop> From<AllocFailed<T>> for DemandFault {
+    ghost use Rattle.snap_seek.specs.declared.demand.DemandFault.TheVariants.{NoMemory};
+
     ghost from_gives = { λ _ e. e ≡ NoMemory };
 
     fn from(_: AllocFailed<T>) -> DemandFault {
+        DemandFault::NoMemory
+    }
+}
+
+impl From<NoMemory> for DemandFault {
+    ghost use Rattle.snap_seek.specs.declared.demand.DemandFault.TheVariants.{NoMemory};
+
+    ghost from_gives = { λ _ e. e ≡ NoMemory };
+
+    fn from(_: NoMemory) -> DemandFault {
         DemandFault::NoMemory
     }
 }

@@ -3,9 +3,15 @@
 
 pub mod best;
 pub mod demand;
+mod document;
+mod listing;
+mod marks;
 mod plan;
 mod price;
+mod reading;
+mod resolve;
 mod search;
 mod trips;
 
+pub use reading::read_demand;
 pub use search::seek;

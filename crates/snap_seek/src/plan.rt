@@ -69,7 +69,13 @@ pub(crate) fn cheapest(switches: &[u16], near: &[u64], onward: &[u64]) -> u16
 }
 
 /// What it costs to go from a switch to each other, where a unit of distance costs `total`.
-fn legs(alloc: Global, routes: &Routes, at: u16, total: u64, count: u16) -> Result<Vec<u64>, NoMemory>
+fn legs(
+    alloc: Global,
+    routes: &Routes,
+    at: u16,
+    total: u64,
+    count: u16,
+) -> Result<Vec<u64>, NoMemory>
     requires total { total < 2 ^ 48 }
     requires at { at < count }
     requires count { count ≡ switch_count routes.now }
@@ -85,7 +91,14 @@ fn legs(alloc: Global, routes: &Routes, at: u16, total: u64, count: u16) -> Resu
 }
 
 /// The cheapest next switch from each switch.
-fn stage_before(alloc: Global, routes: &Routes, allowed: &[u16], total: u64, onward: &[u64], count: u16) -> Result<Stage, NoMemory>
+fn stage_before(
+    alloc: Global,
+    routes: &Routes,
+    allowed: &[u16],
+    total: u64,
+    onward: &[u64],
+    count: u16,
+) -> Result<Stage, NoMemory>
     requires total { total < 2 ^ 48 }
     requires some { 1 ≤ length allowed.now }
     requires allowed { All (λ m. m < count) allowed.now }

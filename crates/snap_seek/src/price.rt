@@ -54,7 +54,13 @@ fn cost_at(routes: &Routes, end: End, sums: &[u64], switch: u16) -> u64
 }
 
 /// What the trips cost from where they begin to each switch, or from each switch to where they end.
-pub(crate) fn end_costs(alloc: Global, routes: &Routes, trips: &[Trip], end: End, count: u16) -> Result<Vec<u64>, NoMemory>
+pub(crate) fn end_costs(
+    alloc: Global,
+    routes: &Routes,
+    trips: &[Trip],
+    end: End,
+    count: u16,
+) -> Result<Vec<u64>, NoMemory>
     requires few { length trips.now ≤ 2 ^ 16 }
     requires weight { sum_by (λ t. t.weight) trips.now < 2 ^ 48 }
     requires below { All (λ t. end_of end t < count) trips.now }

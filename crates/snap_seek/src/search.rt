@@ -139,7 +139,14 @@ pub fn seek(
     let _vars = groups.count();
     let count = topology.switches.items().len() as u16;
     let trips = trips(alloc, topology.ports.items(), demand.flows.items())?;
-    let found = all_stops(alloc, routes, &trips, groups.order(), &demand.allowed, count)?;
+    let found = all_stops(
+        alloc,
+        routes,
+        &trips,
+        groups.order(),
+        &demand.allowed,
+        count,
+    )?;
     let owners = owners(alloc, groups, &found.switches)?;
     Ok(Best {
         cost: found.cost,
