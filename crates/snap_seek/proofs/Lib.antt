@@ -1,7 +1,10 @@
 pub mod Bests
 pub mod Cheap
 pub mod Costing
+pub mod Demanding
+pub mod Documents
 pub mod Filling
+pub mod Marking
 pub mod Near
 pub mod Ported
 pub mod Ranked

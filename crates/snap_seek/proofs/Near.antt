@@ -1,5 +1,5 @@
 -- A distance is below the number of switches, since each lesser number is a distance too.
-use Rattle.std.proofs.Common.{◌≡◌, ◌∙◌, inl, inr, ℕ, ◌+◌, ◌<◌, ◌≤◌, true, List, [], ◌∷◌, All, Contains, length, map, get_or, eqb, refl, sym, ap, subst, arith, slice_index}
+use Rattle.std.proofs.Common.{◌≡◌, ◌∙◌, inl, inr, ℕ, ◌+◌, ◌<◌, true, List, [], ◌∷◌, All, length, map, get_or, eqb, refl, sym, subst, arith}
 use Rattle.std.specs.List.{list_any, range_with_len}
 use Rattle.std.proofs.lemmas.Bool.{cases_eq, eq-eqb}
 use Rattle.std.proofs.lemmas.List.Elements.{All-contains}
@@ -8,7 +8,7 @@ use Rattle.std.proofs.lemmas.List.FromFn.{get_or-map-range_with_len, length-map-
 use Rattle.std.proofs.lemmas.Map.Steps.{le-length_from_below}
 use Rattle.snap_topo.specs.declared.topology.Topology.{Topology}
 use Rattle.snap_topo.specs.Form.{IsInForm, IsLink}
-use Rattle.snap_route.specs.Tables.{AreRoutes, Table, distance_of, switch_count}
+use Rattle.snap_route.specs.Tables.{AreRoutes, Table, distance_of}
 use Rattle.snap_route.specs.Walks.{IsDistance, IsWalk, Linked}
 use Rattle.snap_seek.specs.Steps.{AreNear}
 

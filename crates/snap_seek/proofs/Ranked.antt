@@ -1,6 +1,5 @@
 -- The order of the groups of a program, and placements by rank.
-use Rattle.std.proofs.Common.{◌≡◌, ◌≢◌, ◌∙◌, inl, inr, ℕ, ◌+◌, ◌<◌, ◌≤◌, true, List, [], ◌∷◌, All, Contains, length, map, take, get_or, eqb, refl, sym, ap, subst, arith, slice_index, slice_index_or}
-use Rattle.std.specs.List.{AllByRecursion, list_any}
+use Rattle.std.proofs.Common.{◌≡◌, ◌≢◌, ◌∙◌, inl, inr, ℕ, ◌<◌, ◌≤◌, List, [], All, Contains, length, get_or, eqb, sym, ap, subst, arith, slice_index, slice_index_or}
 use Rattle.std.specs.Ordering.{nat_cmp}
 use Rattle.std.specs.Cmp.Lexicographic.{slice_cmp}
 use Rattle.std.specs.declared.cmp.Ordering.TheVariants.{Greater}
@@ -72,7 +71,7 @@ found-long g order allowed cost found same best = (Picks-at (choices order allow
 
 module _ (g : Grouping) (allowed : List (List ℕ)) (cost : List ℕ → ℕ) (found owners : List ℕ)
     (is : IsOrdered g)
-    (together : (a b : ℕ) → a < length g.ranks → b < length g.ranks → rank_of g a ≡ rank_of g b → places_of allowed a ≡ places_of allowed b)
+    (together : (a b : ℕ) → a < length g.ranks → b < length g.ranks → rank_of g a ≡ rank_of g b → (at : ℕ) → Contains (places_of allowed a) at → Contains (places_of allowed b) at)
     (best : IsBest cost (choices g.order allowed) found)
     (count : length owners ≡ length g.ranks)
     (each : (v : ℕ) → v < length g.ranks → slice_index owners v ≡ slice_index found (rank_of g v)) where
@@ -96,9 +95,9 @@ module _ (g : Grouping) (allowed : List (List ℕ)) (cost : List ℕ → ℕ) (f
         let inside = is.ranks v lt in
         let group = slice_index g.order r in
         let picked = (Picks-at (choices g.order allowed) found best.picks).1 r (let size = length-map g.order (λ (u : ℕ). places_of allowed u) in omega arith) in
-        let places : slice_index_or (choices g.order allowed) r [] ≡ places_of allowed v =
-        get_or-map (λ (u : ℕ). places_of allowed u) g.order r 0 [] inside ∙ together group v (is.below r inside) lt (is.rank r inside) in
-        subst (λ (x : ℕ). Contains (places_of allowed v) x) (sym (each v lt)) (subst (λ (c : List ℕ). Contains c (slice_index found r)) places picked);
+        let places : slice_index_or (choices g.order allowed) r [] ≡ places_of allowed group = get_or-map (λ (u : ℕ). places_of allowed u) g.order r 0 [] inside in
+        let there = subst (λ (c : List ℕ). Contains c (slice_index found r)) places picked in
+        subst (λ (x : ℕ). Contains (places_of allowed v) x) (sym (each v lt)) (together group v (is.below r inside) lt (is.rank r inside) (slice_index found r) there);
     together = λ a b lt less same. each a lt ∙ ap (λ (r : ℕ). slice_index found r) same ∙ sym (each b less);
   }
 

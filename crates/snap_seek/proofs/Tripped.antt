@@ -1,17 +1,16 @@
 -- The trips of a demand, and the best placement by rank as one by variable.
-use Rattle.std.proofs.Common.{◌≡◌, ◌∙◌, ◌<◌, ℕ, List, All, length, map, refl, sym, ap, subst, slice_index}
+use Rattle.std.proofs.Common.{◌≡◌, ◌∙◌, ◌<◌, ℕ, List, All, length, map, sym, ap, subst, slice_index}
 use Rattle.snap_core.specs.declared.ports.PortAt.{PortAt}
 use Rattle.snap_dep.specs.Ranks.{Grouping, rank_of}
 use Rattle.snap_topo.specs.declared.topology.Topology.{Topology}
-use Rattle.snap_topo.specs.Form.{IsInForm, IsPort}
+use Rattle.snap_topo.specs.Form.{IsInForm}
 use Rattle.snap_route.specs.Tables.{Table, distance_of}
-use Rattle.snap_seek.specs.declared.best.Best.{Best}
 use Rattle.snap_seek.specs.declared.demand.Demand.{Demand}
 use Rattle.snap_seek.specs.declared.demand.Flow.{Flow}
 use Rattle.snap_seek.specs.declared.trips.End.{End}
 use Rattle.snap_seek.specs.declared.trips.Trip.{Trip}
 use Rattle.snap_seek.specs.Costs.{cost_of, trip_of}
-use Rattle.snap_seek.specs.Placements.{AreGroups, IsBestOf, IsDemand, HasPorts, stops}
+use Rattle.snap_seek.specs.Placements.{AreGroups, IsBestOf, IsDemand, HasPorts}
 use Rattle.snap_seek.specs.Steps.{IsBest, choices, end_of}
 use Rattle.snap_seek.proofs.Ported.{trips-below}
 use Rattle.snap_seek.proofs.Ranked.{least-owners, ordered, stops-are}

@@ -1,5 +1,5 @@
 -- What is answered for the text of a demand: its first fault, or the demand.
-use Rattle.std.specs.Prelude.{◌≡◌, ◌≢◌, ◌<◌, ◌↔◌, ◌==◌, ℕ, Bool, true, List, [], ◌∷◌, All, Contains, length, map, find, Option, Some, None, is_none, option_map, unwrap_or, if◌then◌else◌, nat_lt, Result, Ok, Err, MatchResult, slice_index_or}
+use Rattle.std.specs.Prelude.{◌≡◌, ◌≢◌, ◌<◌, ◌↔◌, ◌==◌, ℕ, Bool, true, List, [], ◌∷◌, All, Contains, length, find, Option, Some, None, is_none, option_map, unwrap_or, if◌then◌else◌, nat_lt, Result, Ok, Err, MatchResult, slice_index_or}
 use Rattle.std.specs.List.{flat_map, list_any}
 use Rattle.std.specs.List.Sorted.{IsStrictlySortedBy}
 use Rattle.std.specs.Map.{keys_of, lookup}

@@ -60,4 +60,4 @@ pub record IsDemand (g : Grouping) (topology : Topology) (demand : Demand) : Typ
   pub some : (v : ℕ) → v < length g.ranks → 1 ≤ length (places_of demand.allowed v)
   pub below : (v : ℕ) → v < length g.ranks → All (λ s. s < length topology.switches) (places_of demand.allowed v)
   pub rise : (v : ℕ) → v < length g.ranks → IsStrictlySortedBy nat_cmp (places_of demand.allowed v)
-  pub together : (a b : ℕ) → a < length g.ranks → b < length g.ranks → rank_of g a ≡ rank_of g b → places_of demand.allowed a ≡ places_of demand.allowed b
+  pub together : (a b : ℕ) → a < length g.ranks → b < length g.ranks → rank_of g a ≡ rank_of g b → (at : ℕ) → Contains (places_of demand.allowed a) at → Contains (places_of demand.allowed b) at

@@ -1,5 +1,5 @@
 -- The shape of a demand's document: the flows and the names that it spells, or which part is out of shape.
-use Rattle.std.specs.Prelude.{ℕ, ◌^◌, ℤ, pos, Bool, ◌&&◌, ◌==◌, List, [], codes, Option, Some, None, is_some, if◌then◌else◌, nat_le, nat_lt, Result, Ok, Err}
+use Rattle.std.specs.Prelude.{ℕ, ◌^◌, pos, Bool, ◌&&◌, ◌==◌, List, [], codes, Option, Some, None, is_some, if◌then◌else◌, nat_lt, Result, Ok, Err}
 use Rattle.toml.specs.Data.{Data, integer, array, table, Items, no_items, item, Members, no_members, member, get_member}
 use Rattle.snap_core.specs.Names.{is_name}
 use Rattle.snap_topo.specs.Shape.{member_count, names_in, with_first}

@@ -122,7 +122,7 @@ fn entry_of(alloc: Global, key: &str, value: &Value) -> Result<Option<Entry>, Al
     let Some(places) = places_in(alloc, value)? else {
         return Ok(None);
     };
-    if !is_name(key.as_bytes()) {
+    if !is_name(key) {
         return Ok(None);
     }
     let name = String::from_str(alloc, key)?;

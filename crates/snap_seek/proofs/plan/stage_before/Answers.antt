@@ -1,7 +1,6 @@
-use Rattle.std.proofs.Common.{◌≡◌, ◌∙◌, ◌+◌, ◌*◌, ◌<◌, ℕ, slice_index, arith}
+use Rattle.std.proofs.Common.{◌∙◌, ◌+◌, ◌*◌, ◌<◌, ℕ, slice_index, arith}
 use Rattle.std.proofs.lemmas.List.Elements.{All-contains}
 use Rattle.snap_route.specs.Tables.{distance_of}
-use Rattle.snap_seek.specs.Steps.{IsCheapest}
 use Rattle.snap_seek.proofs.Filling.{Fills-more}
 use Rattle.snap_seek.proofs.Staging.{cheapest-leg, cost-leg, cost-same, stage-of}
 use Rattle.snap_seek.proofs.plan.stage_before.Goals as goal

@@ -1,4 +1,4 @@
-use Rattle.std.proofs.Common.{◌≡◌, ◌+◌, ◌*◌, ◌<◌, ℕ, slice_index}
+use Rattle.std.proofs.Common.{◌≡◌, ◌+◌, ◌*◌, ℕ, slice_index}
 use Rattle.snap_route.specs.Tables.{distance_of}
 use Rattle.snap_seek.specs.Steps.{IsCheapest}
 use Rattle.snap_seek.proofs.Filling.{Fills}

@@ -1,4 +1,4 @@
-use Rattle.std.proofs.Common.{◌≡◌, ◌∙◌, ℕ, List, ap, arith}
+use Rattle.std.proofs.Common.{◌∙◌, ℕ, List, ap, arith}
 use Rattle.snap_seek.specs.Steps.{leg, weighed}
 use Rattle.snap_seek.proofs.Filling.{Fills-more}
 use Rattle.snap_seek.proofs.Staging.{end-small, fits-by}

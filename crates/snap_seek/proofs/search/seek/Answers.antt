@@ -1,4 +1,4 @@
-use Rattle.std.proofs.Common.{◌≡◌, ◌∙◌, ◌<◌, ◌≤◌, ℕ, List, All, ap, length, slice_index, subst, sym, arith}
+use Rattle.std.proofs.Common.{◌∙◌, ◌<◌, ◌≤◌, ℕ, List, All, ap, length, slice_index, subst, sym, arith}
 use Rattle.snap_dep.specs.Ranks.{rank_of}
 use Rattle.snap_route.specs.Tables.{distance_of}
 use Rattle.snap_seek.specs.declared.trips.End.TheVariants.{From, To}
