@@ -7,6 +7,8 @@ pub mod ObsOnce
 pub mod OneTable
 pub mod OneTopology
 pub mod Parts
+pub mod PlaceLemmas
+pub mod PlaceOnce
 pub mod ProgramOnce
 pub mod RaceText
 pub mod Refused

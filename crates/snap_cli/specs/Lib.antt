@@ -5,6 +5,8 @@ pub mod Deps
 pub mod Deserved
 pub mod Laws
 pub mod Obs
+pub mod Place
+pub mod PlaceSteps
 pub mod ProgramOf
 pub mod Refusals
 pub mod Routes

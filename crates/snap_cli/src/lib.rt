@@ -5,6 +5,7 @@ pub mod check;
 pub mod deps;
 pub mod laws;
 pub mod obs;
+pub mod place;
 pub mod program;
 pub mod refusal;
 pub mod routes;

@@ -196,7 +196,7 @@ more-than-none : (xs : List ℕ) → xs ≢ [] → 1 ≤ length xs
 more-than-none [] some = absurd (some refl)
 more-than-none (x ∷ xs) some = omega arith
 
-demand-is : (g : Grouping) (vars : List (List ℕ)) (topology : Topology) (s : Spelled) (demand : Demand) → length g.ranks ≡ length vars → first_fault topology.ports topology.switches vars s ≡ None → IsDemandOf g vars topology.switches s demand → IsDemand g topology demand
+pub demand-is : (g : Grouping) (vars : List (List ℕ)) (topology : Topology) (s : Spelled) (demand : Demand) → length g.ranks ≡ length vars → first_fault topology.ports topology.switches vars s ≡ None → IsDemandOf g vars topology.switches s demand → IsDemand g topology demand
 demand-is g vars topology s demand count none is =
     let first = none-parts (too_many s.flows) _ none in
     let second = none-parts (no_port topology.ports s.flows) _ first.1 in
@@ -217,7 +217,7 @@ demand-is g vars topology s demand count none is =
           ((is.places b (omega arith)).each at).1 (here.0, λ u low tied. here.1 u low (tied ∙ sym same));
     }
 
-ok-none : (g : Grouping) (vars switches : List (List ℕ)) (s : Spelled) (o : Option DemandFault) (demand : Demand) → PlacesThen g vars switches s o (Ok demand) → (o ≡ None) × IsDemandOf g vars switches s demand
+pub ok-none : (g : Grouping) (vars switches : List (List ℕ)) (s : Spelled) (o : Option DemandFault) (demand : Demand) → PlacesThen g vars switches s o (Ok demand) → (o ≡ None) × IsDemandOf g vars switches s demand
 ok-none g vars switches s (Some e) demand h = cc
 ok-none g vars switches s None demand h = (refl, h)
 

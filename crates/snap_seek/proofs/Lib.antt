@@ -6,6 +6,7 @@ pub mod Documents
 pub mod Filling
 pub mod Marking
 pub mod Near
+pub mod Once
 pub mod Ported
 pub mod Ranked
 pub mod Staging

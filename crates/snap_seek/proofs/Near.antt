@@ -12,7 +12,7 @@ use Rattle.snap_route.specs.Tables.{AreRoutes, Table, distance_of}
 use Rattle.snap_route.specs.Walks.{IsDistance, IsWalk, Linked}
 use Rattle.snap_seek.specs.Steps.{AreNear}
 
-same-distance : (step : ℕ → ℕ → Type 0) (a b d e : ℕ) → IsDistance step a b d → IsDistance step a b e → d ≡ e
+pub same-distance : (step : ℕ → ℕ → Type 0) (a b d e : ℕ) → IsDistance step a b d → IsDistance step a b e → d ≡ e
 same-distance step a b d e one other =
     let low = one.least other.walk.0 other.walk.1.1 in let high = other.least one.walk.0 one.walk.1.1 in
     let long = one.walk.1.0 in let wide = other.walk.1.0 in omega arith

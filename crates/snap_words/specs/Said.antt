@@ -5,7 +5,7 @@ use Rattle.std.specs.Str.{bytes_eq}
 use Rattle.std.specs.Borrow.{Bor}
 use Rattle.std.specs.declared.vec.Vec.{Vec}
 use Rattle.std.specs.Global.{Global}
-use Rattle.snap_words.specs.Commands.{Command, check, deps, obs, routes}
+use Rattle.snap_words.specs.Commands.{Command, check, deps, obs, place, routes}
 use Rattle.snap_words.specs.Words.{Text, Told}
 use Rattle.snap_words.specs.declared.command.Command.{Command as Given}
 use Rattle.snap_words.specs.declared.command.Command.TheVariants as given
@@ -36,3 +36,4 @@ shown (given.Obs program packets) = obs program.now packets.now
 shown (given.Deps program) = deps program.now
 shown (given.Check program) = check program.now
 shown (given.Routes topology) = routes topology.now
+shown (given.Place program topology demand) = place program.now topology.now demand.now
