@@ -29,6 +29,7 @@ test:
 	mkdir -p bin
 	install -m 755 crates/snapc/out/snapc bin/snapc
 	examples/check bin/snapc
+	examples/placements bin/snapc
 	contrib/check
 
 # The program, its man page and the completions of bash and zsh.

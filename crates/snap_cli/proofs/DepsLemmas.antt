@@ -3,7 +3,7 @@ use Rattle.std.proofs.Common.{ℕ, List, [], Option, Some, None, IfSome, Ok, Err
 use Rattle.snap_core.specs.declared.program.Program.{Program}
 use Rattle.snap_io.specs.Files.{Files, file_of}
 use Rattle.snap_words.specs.Commands.{deps}
-use Rattle.snap_cli.specs.declared.refusal.Refusal.TheVariants.{Usage, Read, Write, Syntax, Naming, Limit, Topology, Unreachable, Race, Packets, NoMemory, Undefined, Declarations, Differ}
+use Rattle.snap_cli.specs.declared.refusal.Refusal.TheVariants.{Usage, Read, Write, Syntax, Naming, Limit, Topology, Unreachable, Race, Packets, NoMemory, Undefined, Declarations, Differ, Demand}
 use Rattle.snap_cli.specs.Deps.{MeetsText}
 use Rattle.snap_cli.specs.Deserved.{Meets}
 use Rattle.snap_cli.specs.ProgramOf.{ProgramOf}
@@ -25,6 +25,7 @@ meets-text files p program old new (Err (Read name)) h m = absurd m
 meets-text files p program old new (Err (Topology fault)) h m = absurd m
 meets-text files p program old new (Err (Unreachable switches a b)) h m = absurd m
 meets-text files p program old new (Err (Race text)) h m = absurd m
+meets-text files p program old new (Err (Demand fault)) h m = absurd m
 meets-text files p program old new (Err (Packets line)) h m = absurd m
 meets-text files p program old new (Err (Undefined packet)) h m = absurd m
 meets-text files p program old new (Err Declarations) h m = absurd m

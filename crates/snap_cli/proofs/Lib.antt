@@ -11,6 +11,8 @@ pub mod OneTable
 pub mod OneTopology
 pub mod PairText
 pub mod Parts
+pub mod PlaceLemmas
+pub mod PlaceOnce
 pub mod ProgramOnce
 pub mod Refused
 pub mod Rising

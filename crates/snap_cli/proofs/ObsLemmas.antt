@@ -9,7 +9,7 @@ use Rattle.snap_trace.specs.declared.fault.TraceFault.TheVariants as run
 use Rattle.snap_trace.specs.OneSwitch.{WritesReport}
 use Rattle.snap_words.specs.Commands.{obs}
 use Rattle.snap_cli.specs.declared.refusal.Refusal.{Refusal}
-use Rattle.snap_cli.specs.declared.refusal.Refusal.TheVariants.{Usage, Read, Write, Syntax, Naming, Limit, Topology, Unreachable, Race, Packets, NoMemory, Undefined, Declarations, Differ}
+use Rattle.snap_cli.specs.declared.refusal.Refusal.TheVariants.{Usage, Read, Write, Syntax, Naming, Limit, Topology, Unreachable, Race, Packets, NoMemory, Undefined, Declarations, Differ, Demand}
 use Rattle.snap_cli.specs.Deserved.{Meets}
 use Rattle.snap_cli.specs.Obs.{EndsObs, IsObsText, MeetsRun, RunsTo}
 use Rattle.snap_cli.specs.ProgramOf.{ProgramOf}
@@ -42,6 +42,7 @@ meets-run files p q program old new (Err (Limit which count)) h m = whole-run fi
 meets-run files p q program old new (Err (Topology fault)) h m = whole-run files p q program old new (Err (Topology fault)) h m
 meets-run files p q program old new (Err (Unreachable switches a b)) h m = whole-run files p q program old new (Err (Unreachable switches a b)) h m
 meets-run files p q program old new (Err (Race text)) h m = whole-run files p q program old new (Err (Race text)) h m
+meets-run files p q program old new (Err (Demand fault)) h m = whole-run files p q program old new (Err (Demand fault)) h m
 meets-run files p q program old new (Err (Packets line)) h m = whole-run files p q program old new (Err (Packets line)) h m
 meets-run files p q program old new (Err (Undefined packet)) h m = whole-run files p q program old new (Err (Undefined packet)) h m
 meets-run files p q program old new (Err Declarations) h m = whole-run files p q program old new (Err Declarations) h m

@@ -7,7 +7,7 @@ use Rattle.snap_core.specs.declared.program.Program.{Program}
 use Rattle.snap_io.specs.Files.{Files, file_of}
 use Rattle.snap_words.specs.Commands.{Command}
 use Rattle.snap_cli.specs.declared.refusal.Refusal.{Refusal}
-use Rattle.snap_cli.specs.declared.refusal.Refusal.TheVariants.{Usage, Read, Write, Syntax, Naming, Limit, Topology, Unreachable, Race, Packets, NoMemory, Undefined, Declarations, Differ}
+use Rattle.snap_cli.specs.declared.refusal.Refusal.TheVariants.{Usage, Read, Write, Syntax, Naming, Limit, Topology, Unreachable, Race, Packets, NoMemory, Undefined, Declarations, Differ, Demand}
 use Rattle.snap_cli.specs.Deserved.{Ends, IsText, MayPrecede, MayPrecedeRead, Meets}
 use Rattle.snap_cli.specs.ProgramOf.{ProgramOf}
 use Rattle.snap_cli.specs.Steps.{GivesProgram, GivesText, SpellsProgram}
@@ -28,6 +28,7 @@ meets-refused files command program out Write r h = absurd h
 meets-refused files command program out (Topology fault) r h = absurd h
 meets-refused files command program out (Unreachable switches a b) r h = absurd h
 meets-refused files command program out (Race text) r h = absurd h
+meets-refused files command program out (Demand fault) r h = absurd h
 meets-refused files command program out (Packets line) r h = absurd h
 meets-refused files command program out (Undefined packet) r h = absurd h
 meets-refused files command program out Declarations r h = absurd h
@@ -51,6 +52,7 @@ gives-spelled name text (Err Write) h = h
 gives-spelled name text (Err (Topology fault)) h = h
 gives-spelled name text (Err (Unreachable switches a b)) h = h
 gives-spelled name text (Err (Race told)) h = h
+gives-spelled name text (Err (Demand fault)) h = h
 gives-spelled name text (Err (Packets line)) h = h
 gives-spelled name text (Err (Undefined packet)) h = h
 gives-spelled name text (Err Declarations) h = h

@@ -9,7 +9,7 @@ use Rattle.snap_route.specs.Faults.{IsCause}
 use Rattle.snap_route.specs.Tables.{Table, AreRoutes, IsUnreachable}
 use Rattle.snap_words.specs.Commands.{routes}
 use Rattle.snap_cli.specs.declared.refusal.Refusal.{Refusal}
-use Rattle.snap_cli.specs.declared.refusal.Refusal.TheVariants.{Usage, Read, Write, Syntax, Naming, Limit, Topology as NoTopology, Unreachable, Race, Packets, NoMemory, Undefined, Declarations, Differ}
+use Rattle.snap_cli.specs.declared.refusal.Refusal.TheVariants.{Usage, Read, Write, Syntax, Naming, Limit, Topology as NoTopology, Unreachable, Race, Packets, NoMemory, Undefined, Declarations, Differ, Demand}
 use Rattle.snap_cli.specs.Deserved.{Meets}
 use Rattle.snap_cli.specs.Refusals.{Ending}
 use Rattle.snap_cli.specs.Routes.{HasNoRoutes, IsTextOf, routes_text}
@@ -29,6 +29,7 @@ module _ (files : Files) (name : List ℕ) (out : Option (List ℕ)) where
   meets-refused (Limit which count) h = (h, ([], inl (Limit which count, h, refl), Appends-nil out))
   meets-refused (NoTopology fault) h = (h, ([], inl (NoTopology fault, h, refl), Appends-nil out))
   meets-refused (Race text) h = (h, ([], inl (Race text, h, refl), Appends-nil out))
+  meets-refused (Demand fault) h = (h, ([], inl (Demand fault, h, refl), Appends-nil out))
   meets-refused (Packets line) h = (h, ([], inl (Packets line, h, refl), Appends-nil out))
   meets-refused (Undefined packet) h = (h, ([], inl (Undefined packet, h, refl), Appends-nil out))
   meets-refused Declarations h = (h, ([], inl (Declarations, h, refl), Appends-nil out))
@@ -56,6 +57,7 @@ module _ (files : Files) (name : List ℕ) (old new : Option (List ℕ)) (t : To
   meets-written table are (Err (NoTopology fault)) h = absurd h
   meets-written table are (Err (Unreachable switches a b)) h = absurd h
   meets-written table are (Err (Race text)) h = absurd h
+  meets-written table are (Err (Demand fault)) h = absurd h
   meets-written table are (Err (Packets line)) h = absurd h
   meets-written table are (Err (Undefined packet)) h = absurd h
   meets-written table are (Err Declarations) h = absurd h

@@ -13,17 +13,17 @@ use Rattle.snap_cli.proofs.OneTopology.{topology_once}
 
 module _ (file : List ℕ) where
   -- two switches of the file's topology are apart, and are told
-  abbrev TellsPair : Refusal → Type 0
+  abbrev pub TellsPair : Refusal → Type 0
   TellsPair e = (t : Topology) × (a : ℕ) × (b : ℕ) × TopologyOf file (Ok t) × IsUnreachable t a b × (e ≡ Unreachable t.switches a b)
 
-  why : (e : Refusal) → HasNoRoutes file e → TellsPair e ⊎ TopologyOf file (Err e)
+  pub why : (e : Refusal) → HasNoRoutes file e → TellsPair e ⊎ TopologyOf file (Err e)
   why (Unreachable switches a b) h = inl (h.0, a, b, h.1, h.2, ap (λ names. Unreachable names a b) h.3)
   why e h = inr h
 
-  one_topology : (t u : Topology) → TopologyOf file (Ok t) → TopologyOf file (Ok u) → t ≡ u
+  pub one_topology : (t u : Topology) → TopologyOf file (Ok t) → TopologyOf file (Ok u) → t ≡ u
   one_topology t u h k = let e = topology_once file (Ok t) (Ok u) h k in cc
 
-  spelled_well : (t : Topology) (e : Refusal) → TopologyOf file (Ok t) → TopologyOf file (Err e) → ⊥
+  pub spelled_well : (t : Topology) (e : Refusal) → TopologyOf file (Ok t) → TopologyOf file (Err e) → ⊥
   spelled_well t e h k = let same = topology_once file (Ok t) (Err e) h k in absurd (cc)
 
   one_fault : (e f : Refusal) → TopologyOf file (Err e) → TopologyOf file (Err f) → e ≡ f
@@ -35,13 +35,13 @@ module _ (file : List ℕ) where
       let pair = apart_once u a b c d (subst (λ (v : Topology). IsUnreachable v a b) same x) y in
       is ∙ ((λ i. Unreachable (same i).switches (pair.0 i) (pair.1 i)) ∙ sym was)
 
-  refused_once : (e f : Refusal) → TellsPair e ⊎ TopologyOf file (Err e) → TellsPair f ⊎ TopologyOf file (Err f) → e ≡ f
+  pub refused_once : (e f : Refusal) → TellsPair e ⊎ TopologyOf file (Err e) → TellsPair f ⊎ TopologyOf file (Err f) → e ≡ f
   refused_once e f (inl h) (inl k) = same_pair e f h k
   refused_once e f (inl h) (inr k) = absurd (spelled_well h.0 f h.3 k)
   refused_once e f (inr h) (inl k) = absurd (spelled_well k.0 e k.3 h)
   refused_once e f (inr h) (inr k) = one_fault e f h k
 
-  routed_well : (text : List ℕ) (e : Refusal) → IsTextOf file text → TellsPair e ⊎ TopologyOf file (Err e) → ⊥
+  pub routed_well : (text : List ℕ) (e : Refusal) → IsTextOf file text → TellsPair e ⊎ TopologyOf file (Err e) → ⊥
   routed_well text e (t, table, h, r, is) (inl (u, a, b, k, x, was)) = none_apart t table a b r (subst (λ (v : Topology). IsUnreachable v a b) (one_topology u t k h) x)
   routed_well text e (t, table, h, r, is) (inr k) = spelled_well t e h k
 

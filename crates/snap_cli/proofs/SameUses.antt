@@ -131,6 +131,12 @@ module _ (p q : Program) (same : core_program p ≡ core_program q) where
   same_depends : (s t : ℕ) → Depends p.body s t ≡ Depends q.body s t
   same_depends s t = by_depends p.body s t ∙ (ap (λ (c : CoreProgram). core_depends c.body s t) same ∙ sym (by_depends q.body s t))
 
+  -- the groups of the one are those of the other
+  pub grouped : (g : Grouping) → IsGrouping p.body (length p.vars) g → IsGrouping q.body (length q.vars) g
+  grouped g h =
+      subst (λ (vs : List (List ℕ)). IsGrouping q.body (length vs) g) (ap (λ (c : CoreProgram). c.vars) same)
+      (same_grouping p.body q.body (λ s t d. transport (same_depends s t) d) (λ s t d. transport (sym (same_depends s t)) d) (length p.vars) g h)
+
   pub same_text : (text : List ℕ) → IsTextOf p text → IsTextOf q text
   same_text text h =
       let names = ap (λ (c : CoreProgram). c.vars) same in
@@ -141,6 +147,6 @@ module _ (p q : Program) (same : core_program p ≡ core_program q) where
         pairs = h.pairs;
         dependencies = record { rising = h.dependencies.rising; each = λ s t. (λ c. to s t ((each s t).0 c), λ d. (each s t).1 (from s t d)) };
         grouping = h.grouping;
-        groups = subst (λ (vs : List (List ℕ)). IsGrouping q.body (length vs) h.grouping) names (same_grouping p.body q.body to from (length p.vars) h.grouping h.groups);
+        groups = grouped h.grouping h.groups;
         is = h.is ∙ ap (λ (vs : List (List ℕ)). concat (flat_map (dep_line vs) h.pairs ∷ groups_text vs h.grouping ∷ codes "end\n" ∷ [])) names;
       }

@@ -49,13 +49,16 @@ module _ (p : Pol) (n : ℕ) (tied : TiedIsEquivalence p) (one : HasOneRank p n)
   same_rank order r s ranked x y v l =
       same_place order ranked (r v) (s v) (x.below v l) (y.below v l) (tied.on _ v _ (x.group v l) (tied.back _ _ (y.group v l)))
 
-  same_groups : (names : List (List ℕ)) (a b : Grouping) → IsGrouping p n a → IsGrouping p n b → groups_text names a ≡ groups_text names b
-  same_groups names a b x y =
+  -- two groupings tell the same ranks and the same order
+  pub one_grouping : (a b : Grouping) → IsGrouping p n a → IsGrouping p n b → (a.ranks ≡ b.ranks) × (a.order ≡ b.order)
+  one_grouping a b x y =
       let order = one.unique a.order b.order x.order y.order in
       let ranks = subst (λ o. IsRankIn p n o (rank_of b)) (sym order) y.ranks in
-      ap₂ (λ r o. groups_text names (record { ranks = r; order = o; arities = [] }))
-      (same_number_lists a.ranks b.ranks (x.count ∙ sym y.count) (λ k l. same_rank a.order (rank_of a) (rank_of b) x.order x.ranks ranks k (subst (λ m. k < m) x.count l)))
-      order
+      (same_number_lists a.ranks b.ranks (x.count ∙ sym y.count) (λ k l. same_rank a.order (rank_of a) (rank_of b) x.order x.ranks ranks k (subst (λ m. k < m) x.count l)), order)
+
+  same_groups : (names : List (List ℕ)) (a b : Grouping) → IsGrouping p n a → IsGrouping p n b → groups_text names a ≡ groups_text names b
+  same_groups names a b x y =
+      let both = one_grouping a b x y in ap₂ (λ r o. groups_text names (record { ranks = r; order = o; arities = [] })) both.0 both.1
 
 pub one_text : ((p : Pol) → TiedIsEquivalence p) → ((p : Pol) (n : ℕ) → UsesBelow n p → HasOneRank p n) → HasOneText
 one_text tied one p bounded a b x y =

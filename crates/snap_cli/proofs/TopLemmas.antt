@@ -6,7 +6,7 @@ use Rattle.std.proofs.lemmas.List.{take_all}
 use Rattle.snap_io.specs.Causes.{HasCause}
 use Rattle.snap_io.specs.Sinks.{AppendsPart}
 use Rattle.snap_cli.specs.declared.refusal.Refusal.{Refusal}
-use Rattle.snap_cli.specs.declared.refusal.Refusal.TheVariants.{Usage, Read, Write, Syntax, Naming, Limit, Topology, Unreachable, Race, Packets, NoMemory, Undefined, Declarations, Differ}
+use Rattle.snap_cli.specs.declared.refusal.Refusal.TheVariants.{Usage, Read, Write, Syntax, Naming, Limit, Topology, Unreachable, Race, Packets, NoMemory, Undefined, Declarations, Differ, Demand}
 use Rattle.snap_cli.specs.Causes.{HasCauses, IsReadOf}
 use Rattle.snap_cli.specs.Deserved.{Tells}
 use Rattle.snap_cli.specs.Refusals.{Ending, status_of}
@@ -29,6 +29,7 @@ unread (Limit which count) e = absurd (cc)
 unread (Topology fault) e = absurd (cc)
 unread (Unreachable switches a b) e = absurd (cc)
 unread (Race text) e = absurd (cc)
+unread (Demand fault) e = absurd (cc)
 unread (Packets line) e = absurd (cc)
 unread NoMemory e = absurd (cc)
 unread (Undefined packet) e = absurd (cc)

@@ -5,12 +5,13 @@ use Rattle.std.specs.Io.KnownBytes.{Appends}
 use Rattle.snap_io.specs.Causes.{Rose}
 use Rattle.snap_io.specs.Files.{Files}
 use Rattle.snap_io.specs.Sinks.{AppendsPart, AppendsSome}
-use Rattle.snap_words.specs.Commands.{Command, check, deps, equal, obs, routes}
+use Rattle.snap_words.specs.Commands.{Command, check, deps, equal, obs, routes, place}
 use Rattle.snap_cli.specs.declared.refusal.Refusal.TheVariants.{Read, Write, NoMemory}
 use Rattle.snap_cli.specs.Check.{EndsCheck, IsCheckText}
 use Rattle.snap_cli.specs.Deps.{EndsDeps, IsDepsText}
 use Rattle.snap_cli.specs.Equal.{EndsEqual, IsEqualText, MayPrecedeReadEqual}
 use Rattle.snap_cli.specs.Obs.{EndsObs, IsObsText, MayPrecedeObs, MayPrecedeReadObs}
+use Rattle.snap_cli.specs.Place.{EndsPlace, IsOneOf, IsPlaceText}
 use Rattle.snap_cli.specs.Refusals.{Ending}
 use Rattle.snap_cli.specs.Routes.{EndsRoutes, IsRoutesText, MayPrecedeRoutes}
 
@@ -21,6 +22,7 @@ Ends files (deps program) ending = EndsDeps files program ending
 Ends files (check program) ending = EndsCheck files program ending
 Ends files (equal left right) ending = EndsEqual files left right ending
 Ends files (routes topology) ending = EndsRoutes files topology ending
+Ends files (place program topology demand) ending = EndsPlace files program topology demand ending
 
 -- the text that has gone out then
 abbrev pub IsText : Files → Command → List ℕ → Type 0
@@ -29,6 +31,7 @@ IsText files (deps program) text = IsDepsText files program text
 IsText files (check program) text = IsCheckText files program text
 IsText files (equal left right) text = IsEqualText files left right text
 IsText files (routes topology) text = IsRoutesText files topology text
+IsText files (place program topology demand) text = IsPlaceText files program topology demand text
 
 -- of this text some first bytes may have gone out where memory is short
 abbrev pub MayPrecede : Files → Command → List ℕ → Type 0
@@ -37,6 +40,7 @@ MayPrecede files (deps program) text = text ≡ []
 MayPrecede files (check program) text = text ≡ []
 MayPrecede files (equal left right) text = text ≡ []
 MayPrecede files (routes topology) text = MayPrecedeRoutes files topology text
+MayPrecede files (place program topology demand) text = text ≡ []
 
 -- the file with this name is one of the command's, and of this text some first bytes may have gone out where it can't be read
 abbrev pub MayPrecedeRead : Files → Command → (name : List ℕ) → List ℕ → Type 0
@@ -45,6 +49,7 @@ MayPrecedeRead files (deps program) name text = (name ≡ program) × (text ≡ 
 MayPrecedeRead files (check program) name text = (name ≡ program) × (text ≡ [])
 MayPrecedeRead files (equal left right) name text = MayPrecedeReadEqual files left right name text
 MayPrecedeRead files (routes topology) name text = (name ≡ topology) × (text ≡ [])
+MayPrecedeRead files (place program topology demand) name text = IsOneOf program topology demand name × (text ≡ [])
 
 -- The ending is one that the command deserves, and its whole text went out. Or a file of the command couldn't be read,
 -- memory was short or the sink failed, and some first bytes of what may have gone out by then did.

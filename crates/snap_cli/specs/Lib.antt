@@ -7,6 +7,8 @@ pub mod Equal
 pub mod Laws
 pub mod Obs
 pub mod Pairs
+pub mod Place
+pub mod PlaceSteps
 pub mod ProgramOf
 pub mod Refusals
 pub mod Routes

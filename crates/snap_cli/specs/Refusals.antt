@@ -4,11 +4,13 @@ use Rattle.std.specs.List.{concat}
 use Rattle.snap_core.specs.declared.program.Which.{Which}
 use Rattle.snap_core.specs.declared.program.Which.TheVariants as which
 use Rattle.snap_cli.specs.declared.refusal.Refusal.{Refusal}
-use Rattle.snap_cli.specs.declared.refusal.Refusal.TheVariants.{Usage, Read, Write, Syntax, Naming, Limit, Topology, Unreachable, Race, Packets, NoMemory, Undefined, Declarations, Differ}
+use Rattle.snap_cli.specs.declared.refusal.Refusal.TheVariants.{Usage, Read, Write, Syntax, Naming, Limit, Topology, Unreachable, Race, Packets, NoMemory, Undefined, Declarations, Differ, Demand}
 use Rattle.snap_cli.specs.declared.refusal.SyntaxFault.{SyntaxFault}
 use Rattle.snap_cli.specs.declared.refusal.SyntaxFault.TheVariants.{BadByte, BadNumber, UnexpectedToken, TooDeep}
 use Rattle.snap_cli.specs.declared.refusal.NamingFault.{NamingFault}
 use Rattle.snap_cli.specs.declared.refusal.NamingFault.TheVariants.{UnknownName, DeclaredTwice, WrongKind, WrongArity, TooWide, WrongPrefix}
+use Rattle.snap_cli.specs.declared.refusal.NoDemand.{NoDemand}
+use Rattle.snap_cli.specs.declared.refusal.NoDemand.TheVariants as none
 use Rattle.snap_cli.specs.declared.refusal.TopologyFault.{TopologyFault}
 use Rattle.snap_cli.specs.declared.refusal.TopologyFault.TheVariants.{NotToml, Shape, SwitchTwice, UnknownSwitch}
 use Rattle.snap_cli.specs.declared.spot.Spot.{Spot}
@@ -33,6 +35,7 @@ status_of (Err NoMemory) = 14
 status_of (Err (Undefined packet)) = 15
 status_of (Err Declarations) = 17
 status_of (Err (Differ text)) = 18
+status_of (Err (Demand fault)) = 19
 
 abbrev pub which_text : Which → List ℕ
 which_text which.Bytes = codes "bytes"
@@ -93,6 +96,14 @@ name_at names number = unwrap_or (slice_get names number) []
 abbrev pub message_apart : List (List ℕ) → ℕ → ℕ → List ℕ
 message_apart switches a b = concat (codes "snapc: unreachable: " ∷ name_at switches a ∷ codes " " ∷ name_at switches b ∷ codes "\n" ∷ [])
 
+abbrev pub message_of_demand : NoDemand → List ℕ
+message_of_demand none.NotToml = message_text (codes "demand: not TOML")
+message_of_demand (none.Shape rule) = message_with (codes "demand: shape") rule
+message_of_demand (none.NoPort port) = message_with (codes "demand: no port") port
+message_of_demand (none.NoArray name) = message_naming (codes "demand: no array") name
+message_of_demand (none.NoSwitch name) = message_naming (codes "demand: no switch") name
+message_of_demand (none.Nowhere arrays array) = message_naming (codes "demand: nowhere") (name_at arrays array)
+
 -- what is written to the error sink
 abbrev pub message_of : Ending → List ℕ
 message_of (Ok u) = []
@@ -110,3 +121,4 @@ message_of (Err (Differ text)) = text.items
 message_of (Err (Packets line)) = message_with (codes "packets: line") line
 message_of (Err NoMemory) = message_text (codes "out of memory")
 message_of (Err (Undefined packet)) = message_with (codes "undefined: packet") packet
+message_of (Err (Demand fault)) = message_of_demand fault

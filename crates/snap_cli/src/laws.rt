@@ -4,6 +4,7 @@ ghost use Rattle.snap_cli.specs.Laws.{AnswersExactly, ChecksExactly, DeservesOne
 
 use crate::deps::has_one_text;
 use snap_core::laws::has_one_listing;
+use snap_dep::laws::{has_one_rank, tied_is_equivalence};
 use snap_lex::laws::finds_once;
 use snap_parse::laws::yields_once;
 
@@ -24,6 +25,8 @@ pub fn deserves_once()
     spells_one_program();
     has_one_listing();
     has_one_text();
+    tied_is_equivalence();
+    has_one_rank();
 }
 
 /// Where no device failed and memory was there, a call's status, output and message are those of the one ending that

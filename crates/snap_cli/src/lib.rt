@@ -8,6 +8,7 @@ pub mod equal;
 pub mod laws;
 pub mod obs;
 mod pair;
+pub mod place;
 pub mod program;
 pub mod refusal;
 pub mod routes;

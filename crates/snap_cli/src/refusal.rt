@@ -5,7 +5,7 @@ ghost use Rattle.std.specs.Io.KnownBytes.{Appends};
 ghost use Rattle.snap_io.specs.Causes.{HasCause};
 ghost use Rattle.snap_io.specs.Sinks.{AppendsPart};
 ghost use Rattle.snap_cli.specs.declared.refusal.Refusal.TheVariants as refused;
-ghost use Rattle.snap_cli.specs.Refusals.{message_apart, message_at, message_naming, message_of, message_of_limit, message_of_read, message_of_topology, message_text, message_with, name_at, naming_text, status_of, syntax_text, which_text};
+ghost use Rattle.snap_cli.specs.Refusals.{message_apart, message_at, message_naming, message_of, message_of_demand, message_of_limit, message_of_read, message_of_topology, message_text, message_with, name_at, naming_text, status_of, syntax_text, which_text};
 
 use crate::spot::Spot;
 use itoa::Buffer;
@@ -50,6 +50,28 @@ pub enum TopologyFault {
     UnknownSwitch { name: Name },
 }
 
+/// Why a file spells no demand of a program on a topology.
+#[derive(Debug, Drop)]
+pub enum NoDemand {
+    /// The bytes are not UTF-8, or no TOML document.
+    NotToml,
+
+    /// The keys (1), `demand` (2) or `allowed` (3) are out of shape.
+    Shape { rule: u8 },
+
+    /// The topology has no such port.
+    NoPort { port: u32 },
+
+    /// The program has no such array.
+    NoArray { name: Name },
+
+    /// The topology has no such switch.
+    NoSwitch { name: Name },
+
+    /// The group of this one of the program's arrays may stand nowhere.
+    Nowhere { arrays: Names, array: u16 },
+}
+
 /// Why a command ends without its whole output.
 #[derive(Debug, Drop)]
 pub enum Refusal<'a> {
@@ -76,6 +98,9 @@ pub enum Refusal<'a> {
 
     /// No walk joins two of these switches, those with the numbers `a` and `b`.
     Unreachable { switches: Names, a: u16, b: u16 },
+
+    /// The file spells no demand.
+    Demand { fault: NoDemand },
 
     /// Two parts of the program race. This is the whole message, which tells a store and a packet on which they do.
     Race { text: Vec<u8> },
@@ -242,6 +267,24 @@ fn tell_apart<E: Sink>(err: &mut E, switches: &Names, a: u16, b: u16) -> Result<
     write_pieces(err, &[b"snapc: unreachable: ", from, b" ", to, b"\n"])
 }
 
+// Writes why a file spells no demand.
+fn tell_demand<E: Sink>(err: &mut E, fault: &NoDemand) -> Result<(), WriteFailed>
+    ensures ok { OnOk result (Appends (E.taken err.old) (E.taken err.new) (message_of_demand fault.now)) }
+    ensures err { OnErr result (AppendsPart (E.taken err.old) (E.taken err.new) (message_of_demand fault.now)) }
+    ensures cause { HasCause (E.faults err.old) (E.faults err.new) result }
+{
+    match fault {
+        NoDemand::NotToml => tell_text(err, b"demand: not TOML"),
+        NoDemand::Shape { rule } => tell_number(err, b"demand: shape", *rule as u64),
+        NoDemand::NoPort { port } => tell_number(err, b"demand: no port", *port as u64),
+        NoDemand::NoArray { name } => tell_name(err, b"demand: no array", name.bytes()),
+        NoDemand::NoSwitch { name } => tell_name(err, b"demand: no switch", name.bytes()),
+        NoDemand::Nowhere { arrays, array } => {
+            tell_name(err, b"demand: nowhere", name_at(arrays, *array))
+        }
+    }
+}
+
 impl Refusal<'_> {
     pub fn status(&self) -> u8
         ensures { result ≡ status_of (Err self.now) }
@@ -261,6 +304,7 @@ impl Refusal<'_> {
             Refusal::Undefined { .. } => 15,
             Refusal::Declarations => 17,
             Refusal::Differ { .. } => 18,
+            Refusal::Demand { .. } => 19,
         }
     }
 
@@ -285,6 +329,7 @@ impl Refusal<'_> {
             Refusal::Packets { line } => tell_number(err, b"packets: line", *line),
             Refusal::NoMemory => tell_text(err, b"out of memory"),
             Refusal::Undefined { packet } => tell_number(err, b"undefined: packet", *packet),
+            Refusal::Demand { fault } => tell_demand(err, fault),
         }
     }
 }

@@ -55,7 +55,8 @@ fn report_of<'a, O: Sink>(alloc: Global, topology: Topology, out: &mut O) -> Res
     }
 }
 
-fn refusal_of_routes<'a>(switches: Names, fault: RouteFault) -> Refusal<'a>
+/// The refusal of a topology of these switches that has no routes.
+pub(crate) fn refusal_of_routes<'a>(switches: Names, fault: RouteFault) -> Refusal<'a>
     ensures { result ≡ refusal_of_routes switches fault }
 {
     match fault {

@@ -9,7 +9,7 @@ ghost use Rattle.snap_cli.specs.Answers.{Answers, MeetsWords};
 ghost use Rattle.snap_cli.specs.Causes.{HasCauses};
 
 use crate::refusal::Refusal;
-use crate::{check, deps, equal, obs, routes};
+use crate::{check, deps, equal, obs, routes, place};
 use snap_io::{Shelf, Sink};
 use snap_words::calls::command;
 use snap_words::command::Command;
@@ -67,6 +67,13 @@ fn run<'a, S: Shelf, O: Sink>(
         Ok(Command::Check { program }) => check::report(alloc, program, shelf, out),
         Ok(Command::Equal { left, right }) => equal::report(alloc, left, right, shelf, out),
         Ok(Command::Routes { topology }) => routes::report(alloc, topology, shelf, out),
+        Ok(
+            Command::Place {
+                program,
+                topology,
+                demand,
+            },
+        ) => place::report(alloc, program, topology, demand, shelf, out),
         Err(WordsFault::Usage) => Err(Refusal::Usage),
         Err(WordsFault::NoMemory) => Err(Refusal::NoMemory),
     }

@@ -19,6 +19,7 @@ use Rattle.snap_place.specs.Answer.{is_unknown, no_variable, missing, no_switch,
 use Rattle.snap_place.specs.Order.{InByteOrder, IsLeast, TellsLeast, TellsLeastOf}
 use Rattle.snap_place.specs.Shape.{entries_in, entries_of, entry_of}
 use Rattle.snap_topo.specs.Document.{document}
+use Rattle.snap_topo.proofs.TableLemmas.{names-rise}
 
 abbrev Entry : Type 0
 Entry = List ℕ × List ℕ
@@ -41,18 +42,9 @@ entries-keys [] xs is = ap keys_of (sym (same is))
     same e = cc
 entries-keys (e ∷ es) xs is = keys-step (string_bytes e.0) (name_in (view e.1)) (entries_in (members_view es)) xs (names_of es) is (λ ys found. entries-keys es ys found)
 
-all-names : (k : List ℕ) (ks : List (String Global)) → AllByRecursion (λ (y : String Global). slice_cmp nat_cmp k (string_bytes y) ≡ Less) ks → AllByRecursion (λ (y : List ℕ). slice_cmp nat_cmp k y ≡ Less) (map (λ (x : String Global). string_bytes x) ks)
-all-names k [] h = tt
-all-names k (x ∷ ks) h = (h.0, all-names k ks h.1)
-
-sorted-names : (ks : List (String Global)) → IsStrictlySortedBy (λ (a b : String Global). slice_cmp nat_cmp (string_bytes a) (string_bytes b)) ks → IsStrictlySortedBy (slice_cmp nat_cmp) (map (λ (x : String Global). string_bytes x) ks)
-unfolding IsStrictlySortedBy
-sorted-names [] h = tt
-sorted-names (k ∷ ks) h = (all-names (string_bytes k) ks h.0, sorted-names ks h.1)
-
 -- the entries of a table rise in byte order
 pub in-order : (es : List (String Global × Value)) (xs : List (List ℕ × List ℕ)) → IsStrictlySortedBy (λ (a b : String Global). slice_cmp nat_cmp (string_bytes a) (string_bytes b)) (keys_of es) → entries_in (members_view es) ≡ Some xs → InByteOrder xs
-in-order es xs sorted is = subst (λ (ks : List (List ℕ)). IsStrictlySortedBy (slice_cmp nat_cmp) ks) (sym (entries-keys es xs is)) (sorted-names (keys_of es) sorted)
+in-order es xs sorted is = subst (λ (ks : List (List ℕ)). IsStrictlySortedBy (slice_cmp nat_cmp) ks) (sym (entries-keys es xs is)) (names-rise (keys_of es) sorted)
 
 before : (o : Ordering) → o ≡ Less → o ≢ Greater
 before o is = λ e. cc

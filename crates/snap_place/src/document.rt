@@ -9,24 +9,18 @@ ghost use Rattle.snap_place.specs.Texts.{entry_texts, vec_texts};
 
 use crate::placement::PlaceFault;
 use snap_core::names::is_name;
-use snap_topo::document::switch_name;
+use snap_topo::document::{read_document, switch_name};
 use std::alloc::{AllocError, Global};
 use toml::Table;
 
 /// The document that the bytes are.
-pub(crate) fn read_document(alloc: Global, text: &[u8]) -> Result<Table, PlaceFault>
+pub(crate) fn table_of(alloc: Global, text: &[u8]) -> Result<Table, PlaceFault>
     ensures { MatchResult result (λ t. document text.now ≡ Some (table_view t))
         (λ e. e ≢ PlaceFault.NoMemory → (e ≡ PlaceFault.NotToml) × (document text.now ≡ None)) }
 {
-    match toml::table_from_slice(alloc, text) {
-        Ok(table) => Ok(table),
-        Err(e) => {
-            if e.is_memory() {
-                Err(PlaceFault::NoMemory)
-            } else {
-                Err(PlaceFault::NotToml)
-            }
-        }
+    match read_document(alloc, text)? {
+        Some(table) => Ok(table),
+        None => Err(PlaceFault::NotToml),
     }
 }
 

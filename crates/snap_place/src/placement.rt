@@ -1,8 +1,8 @@
 //! A placement, and why a text is none.
 
 ghost use Rattle.std.specs.Prelude.{◌≡◌, ◌<◌, length, slice_index};
-ghost use Rattle.snap_place.specs.declared.placement.PlaceFault.TheVariants.{NoMemory};
 
+use snap_core::NoMemory;
 use snap_core::lists::Name;
 use std::alloc::{AllocError, AllocFailed};
 use std::marker::Model;
@@ -65,6 +65,8 @@ pub enum PlaceFault {
 }
 
 impl From<AllocError> for PlaceFault {
+    ghost use Rattle.snap_place.specs.declared.placement.PlaceFault.TheVariants.{NoMemory};
+
     ghost from_gives = { λ _ e. e ≡ NoMemory };
 
     fn from(_: AllocError) -> PlaceFault {
@@ -73,9 +75,21 @@ impl From<AllocError> for PlaceFault {
 }
 
 impl<T: Drop> From<AllocFailed<T>> for PlaceFault {
+    ghost use Rattle.snap_place.specs.declared.placement.PlaceFault.TheVariants.{NoMemory};
+
     ghost from_gives = { λ _ e. e ≡ NoMemory };
 
     fn from(_: AllocFailed<T>) -> PlaceFault {
+        PlaceFault::NoMemory
+    }
+}
+
+impl From<NoMemory> for PlaceFault {
+    ghost use Rattle.snap_place.specs.declared.placement.PlaceFault.TheVariants.{NoMemory};
+
+    ghost from_gives = { λ _ e. e ≡ NoMemory };
+
+    fn from(_: NoMemory) -> PlaceFault {
         PlaceFault::NoMemory
     }
 }

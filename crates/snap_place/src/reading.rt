@@ -6,7 +6,7 @@ ghost use Rattle.snap_topo.specs.Form.{IsInForm};
 ghost use Rattle.snap_place.specs.Answer.{GivesSwitches, IsAnswer};
 ghost use Rattle.snap_place.specs.Order.{TellsLeast};
 
-use crate::document::{read_document, shaped};
+use crate::document::{shaped, table_of};
 use crate::placement::{PlaceFault, Placement};
 use crate::resolve::resolve;
 use snap_core::program::Program;
@@ -33,7 +33,7 @@ pub fn read(
     ensures switches { IfOk result (GivesSwitches program.now topology.now) }
 {
     let _count = groups.count();
-    let table = read_document(alloc, text)?;
+    let table = table_of(alloc, text)?;
     let entries = shaped(alloc, &table)?;
     let owners = resolve(
         alloc,

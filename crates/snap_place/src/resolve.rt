@@ -1,9 +1,7 @@
 //! The switches of the variables, by number.
 
 ghost use Rattle.std.specs.Prelude.{◌≡◌, ◌≢◌, ◌≤◌, ◌^◌, Err, IfErr, IfOk, IsSomeAnd, MatchOption, MatchResult, None, Ok, OnOk, false, length, true};
-ghost use Rattle.std.specs.List.{list_any};
 ghost use Rattle.std.specs.Option.{option_copied};
-ghost use Rattle.std.specs.Str.{bytes_eq};
 ghost use Rattle.snap_topo.specs.Numbers.{is_switch, number_of};
 ghost use Rattle.snap_place.specs.Answer.{IsAnswerFor, is_at_switch, missing, no_switch, no_variable, owner_at, owners, place_of};
 ghost use Rattle.snap_place.specs.Texts.{entry_texts};
@@ -13,23 +11,13 @@ use crate::placement::PlaceFault;
 use crate::together::together;
 use snap_core::lists::Name;
 use snap_dep::groups::Groups;
+use snap_topo::names::is_among;
 use std::alloc::{AllocError, Global};
 
 fn name_of(alloc: Global, bytes: &[u8]) -> Result<Name, AllocError>
     ensures { IfOk result (λ name. name ≡ bytes.now) }
 {
     Ok(Name::new(Vec::from_slice(alloc, bytes)?))
-}
-
-fn is_among(names: &[Name], name: &[u8]) -> bool
-    ensures { result ≡ list_any (bytes_eq name.now) names.now }
-{
-    for known in names {
-        if name == known.bytes() {
-            return true;
-        }
-    }
-    false
 }
 
 /// Refuses a placed name that is no variable.

@@ -1,5 +1,7 @@
 -- Facts about the view of a table.
 use Rattle.std.proofs.Common.{◌∙◌, refl, ℕ, List, [], ◌∷◌, length, map, fold, string_bytes, Option, Some, None, is_some, option_map, ◌≡◌, sym, ap, arith, String}
+use Rattle.std.specs.List.{AllByRecursion}
+use Rattle.std.specs.List.Sorted.{IsStrictlySortedBy}
 use Rattle.std.specs.Ordering.{nat_cmp, match_ordering}
 use Rattle.std.specs.declared.cmp.Ordering.{Ordering}
 use Rattle.std.specs.declared.cmp.Ordering.TheVariants.{Less, Equal, Greater}
@@ -98,3 +100,15 @@ ports-turn old new left rest key value port text name more is same put =
     ∙ ap (λ ps. option_map (fold put_port ps) (ports_listed (members_view rest))) (port_texts-insert_entry old port name ∙ ap (λ t. put_port (map port_text old) (port, t)) same)
     ∙ sym (ports-step (map port_text old) (port_of (port_number (string_bytes key)) (name_in (view value))) (port, text) (ports_listed (members_view rest)) (sym is))
     ∙ ap (λ es. option_map (fold put_port (map port_text old)) (ports_listed (members_view es))) (sym more)
+
+-- ---- keys in order
+
+all-names : (k : List ℕ) (ks : List (String Global)) → AllByRecursion (λ (y : String Global). slice_cmp nat_cmp k (string_bytes y) ≡ Less) ks → AllByRecursion (λ (y : List ℕ). slice_cmp nat_cmp k y ≡ Less) (map (λ (x : String Global). string_bytes x) ks)
+all-names k [] h = tt
+all-names k (x ∷ ks) h = (h.0, all-names k ks h.1)
+
+-- keys that rise as strings rise as texts
+pub names-rise : (ks : List (String Global)) → IsStrictlySortedBy (λ (a b : String Global). slice_cmp nat_cmp (string_bytes a) (string_bytes b)) ks → IsStrictlySortedBy (slice_cmp nat_cmp) (map (λ (x : String Global). string_bytes x) ks)
+unfolding IsStrictlySortedBy
+names-rise [] h = tt
+names-rise (k ∷ ks) h = (all-names (string_bytes k) ks h.0, names-rise ks h.1)

@@ -12,29 +12,41 @@ ghost use Rattle.snap_topo.specs.Shape.{by_number, has_keys, link_in, links_in, 
 use crate::listing::Listing;
 use crate::names::port_of;
 use crate::topology::TopoFault;
+use snap_core::NoMemory;
 use snap_core::names::is_switch_name;
 use std::alloc::{AllocError, Global};
 use std::collections::BTreeMap;
 use toml::{Table, Value};
 
-/// The document that the bytes are.
-pub(crate) fn read_document(alloc: Global, text: &[u8]) -> Result<Table, TopoFault>
-    ensures { MatchResult result (λ t. document text.now ≡ Some (table_view t))
-        (λ e. e ≢ TopoFault.NoMemory → (e ≡ TopoFault.NotToml) × (document text.now ≡ None)) }
+/// The document that the bytes are, or `None` where they are not UTF-8 or no TOML document.
+pub fn read_document(alloc: Global, text: &[u8]) -> Result<Option<Table>, NoMemory>
+    ensures { IfOk result (λ r. option_map table_view r ≡ document text.now) }
 {
     match toml::table_from_slice(alloc, text) {
-        Ok(table) => Ok(table),
+        Ok(table) => Ok(Some(table)),
         Err(e) => {
             if e.is_memory() {
-                Err(TopoFault::NoMemory)
+                Err(NoMemory)
             } else {
-                Err(TopoFault::NotToml)
+                Ok(None)
             }
         }
     }
 }
 
-fn has_key(table: &Table, key: &str) -> bool
+/// The document that the bytes are.
+pub(crate) fn table_of(alloc: Global, text: &[u8]) -> Result<Table, TopoFault>
+    ensures { MatchResult result (λ t. document text.now ≡ Some (table_view t))
+        (λ e. e ≢ TopoFault.NoMemory → (e ≡ TopoFault.NotToml) × (document text.now ≡ None)) }
+{
+    match read_document(alloc, text)? {
+        Some(table) => Ok(table),
+        None => Err(TopoFault::NotToml),
+    }
+}
+
+/// Whether a table has a key.
+pub fn has_key(table: &Table, key: &str) -> bool
     ensures { result ≡ is_some (get_member key.now (table_view table.now)) }
 {
     table.contains_key(key)
@@ -67,8 +79,8 @@ pub fn switch_name(value: &Value) -> Option<&str>
     }
 }
 
-/// The names of an array of switch names.
-fn names_of(alloc: Global, items: &[Value]) -> Result<Option<Vec<String>>, AllocError>
+/// The names of an array of switch names, or `None` where it is none.
+pub fn names_of(alloc: Global, items: &[Value]) -> Result<Option<Vec<String>>, AllocError>
     ensures { IfOk result (λ r. option_map texts r ≡ names_in (items_view items.now)) }
 {
     let mut names = Vec::new(alloc);

@@ -1,9 +1,11 @@
-//! Numbers of ports.
+//! Names and numbers in documents.
 
 ghost use Rattle.std.specs.Prelude.{◌≡◌};
 ghost use Rattle.snap_topo.specs.Names.{port_number};
+ghost use Rattle.snap_topo.specs.Numbers.{is_switch};
 
 use itoa::Buffer;
+use snap_core::lists::Name;
 
 /// The number from 1 to 4294967295 that a text is in decimal, without a leading zero.
 pub(crate) fn port_of(text: &str) -> Option<u32>
@@ -18,4 +20,16 @@ pub(crate) fn port_of(text: &str) -> Option<u32>
         return None;
     }
     Some(port)
+}
+
+/// Whether a name is one of some names. Goes through all of them: for few names, or few look-ups.
+pub fn is_among(names: &[Name], name: &[u8]) -> bool
+    ensures { result ≡ is_switch names.now name.now }
+{
+    for known in names {
+        if name == known.bytes() {
+            return true;
+        }
+    }
+    false
 }

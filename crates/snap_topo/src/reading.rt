@@ -4,7 +4,7 @@ ghost use Rattle.std.specs.Prelude.{◌≢◌, Err, Ok, IfOk, MatchResult};
 ghost use Rattle.snap_topo.specs.Answer.{IsAnswer};
 ghost use Rattle.snap_topo.specs.Form.{IsInForm};
 
-use crate::document::{listing_of, read_document};
+use crate::document::{listing_of, table_of};
 use crate::resolve::resolve;
 use crate::topology::{TopoFault, Topology};
 use std::alloc::Global;
@@ -19,7 +19,7 @@ pub fn read(alloc: Global, text: &[u8]) -> Result<Topology, TopoFault>
         (λ e. e ≢ TopoFault.NoMemory → IsAnswer text.now (Err e)) }
     ensures form { IfOk result IsInForm }
 {
-    let table = read_document(alloc, text)?;
+    let table = table_of(alloc, text)?;
     let listing = listing_of(alloc, &table)?;
     resolve(alloc, &listing)
 }

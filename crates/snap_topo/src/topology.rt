@@ -1,8 +1,8 @@
 //! A topology, and why a text is none.
 
 ghost use Rattle.std.specs.Prelude.{◌≡◌};
-ghost use Rattle.snap_topo.specs.declared.topology.TopoFault.TheVariants.{NoMemory};
 
+use snap_core::NoMemory;
 use snap_core::lists::{Name, Names};
 use snap_core::ports::{Links, Ports};
 use snap_core::program::Which;
@@ -54,6 +54,8 @@ pub enum TopoFault {
 }
 
 impl From<AllocError> for TopoFault {
+    ghost use Rattle.snap_topo.specs.declared.topology.TopoFault.TheVariants.{NoMemory};
+
     ghost from_gives = { λ _ e. e ≡ NoMemory };
 
     fn from(_: AllocError) -> TopoFault {
@@ -62,9 +64,21 @@ impl From<AllocError> for TopoFault {
 }
 
 impl<T: Drop> From<AllocFailed<T>> for TopoFault {
+    ghost use Rattle.snap_topo.specs.declared.topology.TopoFault.TheVariants.{NoMemory};
+
     ghost from_gives = { λ _ e. e ≡ NoMemory };
 
     fn from(_: AllocFailed<T>) -> TopoFault {
+        TopoFault::NoMemory
+    }
+}
+
+impl From<NoMemory> for TopoFault {
+    ghost use Rattle.snap_topo.specs.declared.topology.TopoFault.TheVariants.{NoMemory};
+
+    ghost from_gives = { λ _ e. e ≡ NoMemory };
+
+    fn from(_: NoMemory) -> TopoFault {
         TopoFault::NoMemory
     }
 }

@@ -11,12 +11,13 @@ pub data Command : Type 0 where
   check : Text → Command
   equal : Text → Text → Command
   routes : Text → Command
+  place : Text → Text → Text → Command
 
 -- the names of a command that has no options
 abbrev pub names_alone : Told → Option (List Text)
 names_alone t = if t.hops || is_some t.schedule then None else Some t.names
 
--- a command of one name, and of two
+-- a command of one name, of two, and of three
 abbrev pub with_one : (Text → Command) → List Text → Option Command
 with_one make [] = None
 with_one make (a ∷ []) = Some (make a)
@@ -28,6 +29,13 @@ with_two make (a ∷ []) = None
 with_two make (a ∷ b ∷ []) = Some (make a b)
 with_two make (a ∷ b ∷ c ∷ more) = None
 
+abbrev pub with_three : (Text → Text → Text → Command) → List Text → Option Command
+with_three make [] = None
+with_three make (a ∷ []) = None
+with_three make (a ∷ b ∷ []) = None
+with_three make (a ∷ b ∷ c ∷ []) = Some (make a b c)
+with_three make (a ∷ b ∷ c ∷ d ∷ more) = None
+
 -- the command of a first word and of what the others say
 abbrev pub command_for : Text → Told → Option Command
 command_for first t =
@@ -36,6 +44,7 @@ command_for first t =
     else if bytes_eq first (codes "check") then option_and_then (with_one check) (names_alone t)
     else if bytes_eq first (codes "equal") then option_and_then (with_two equal) (names_alone t)
     else if bytes_eq first (codes "routes") then option_and_then (with_one routes) (names_alone t)
+    else if bytes_eq first (codes "place") then option_and_then (with_three place) (names_alone t)
     else None
 
 -- the command that texts name

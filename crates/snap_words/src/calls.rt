@@ -3,7 +3,7 @@
 ghost use Rattle.std.specs.Prelude.{◌≡◌, IfErr, IfOk, IsTrue, None, Some, false, option_map};
 ghost use Rattle.std.specs.List.{list_all};
 ghost use Rattle.std.specs.Str.{is_utf8};
-ghost use Rattle.snap_words.specs.Commands.{check, command_for, command_of, deps, equal, names_alone, obs, routes, with_one, with_two};
+ghost use Rattle.snap_words.specs.Commands.{check, command_for, command_of, deps, equal, names_alone, obs, routes, with_one, with_two, place, with_three};
 ghost use Rattle.snap_words.specs.Said.{are_among, bytes_of, is_among, lent, said, shown};
 
 use crate::command::Command;
@@ -67,6 +67,7 @@ fn command_for<'a>(words: &'a [Vec<u8>], first: &str, told: &Told) -> Option<Com
         "check" => check(words, names),
         "equal" => equal(words, names),
         "routes" => routes(words, names),
+        "place" => place(words, names),
         _ => None,
     }
 }
@@ -139,6 +140,20 @@ fn routes<'a>(words: &'a [Vec<u8>], names: &[&str]) -> Option<Command<'a>>
     match names {
         [topology] => Some(Command::Routes {
             topology: word(words, topology),
+        }),
+        _ => None,
+    }
+}
+
+fn place<'a>(words: &'a [Vec<u8>], names: &[&str]) -> Option<Command<'a>>
+    requires { IsTrue (are_among (bytes_of words.now) (lent names.now)) }
+    ensures { option_map shown result ≡ with_three place (lent names.now) }
+{
+    match names {
+        [program, topology, demand] => Some(Command::Place {
+            program: word(words, program),
+            topology: word(words, topology),
+            demand: word(words, demand),
         }),
         _ => None,
     }

@@ -25,4 +25,10 @@ pub enum Command<'a> {
     Routes {
         topology: &'a [u8],
     },
+    /// The placement of least cost: a program, a topology and a demand.
+    Place {
+        program: &'a [u8],
+        topology: &'a [u8],
+        demand: &'a [u8],
+    },
 }

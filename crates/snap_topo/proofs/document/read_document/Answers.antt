@@ -15,7 +15,7 @@ refused_by bytes true e h = h (IsUtf8-from_is_utf8 bytes e)
 refused_by bytes false e h = refl
 
 pub returns-in-Ok : goal.returns-in-Ok
-returns-in-Ok c = of_text _ _ c.in-Ok.ensures.ok.0 c.in-Ok.ensures.ok.1
+returns-in-Ok c = sym (of_text _ _ c.in-Ok.ensures.ok.0 c.in-Ok.ensures.ok.1)
 
 pub returns-else-is_memory : goal.returns-else-is_memory
-returns-else-is_memory c = λ _. (refl, refused_by _ _ refl (c.in-Err.ensures.refused (λ h. absurd (false≢true (sym c.if-is_memory.false ∙ c.is_memory.ensures.1 h)))))
+returns-else-is_memory c = sym (refused_by _ _ refl (c.in-Err.ensures.refused (λ h. absurd (false≢true (sym c.if-is_memory.false ∙ c.is_memory.ensures.1 h)))))

@@ -1,0 +1,219 @@
+-- What `place` did, from what its steps did.
+use Rattle.std.proofs.Common.{◌≡◌, ◌≢◌, ◌⊎◌, ◌<◌, ◌≤◌, ℕ, List, [], Option, Some, None, IfSome, Result, Ok, Err, length, refl, sym, subst, inl, inr}
+use Rattle.std.proofs.KnownBytes.{Appends-nil}
+use Rattle.std.specs.Prelude.{Vec}
+use Rattle.std.specs.Io.KnownBytes.{Appends}
+use Rattle.std.specs.declared.alloc.Global.{Global}
+use Rattle.snap_core.specs.declared.program.Program.{Program}
+use Rattle.snap_core.specs.declared.program.Which.TheVariants.{Bytes}
+use Rattle.snap_dep.specs.Ranks.{Grouping, IsGrouping}
+use Rattle.snap_io.specs.Files.{Files, file_of}
+use Rattle.snap_io.specs.Sinks.{AppendsPart}
+use Rattle.snap_topo.specs.declared.topology.Topology.{Topology}
+use Rattle.snap_route.specs.Tables.{AreRoutes, IsUnreachable, Table}
+use Rattle.snap_route.specs.declared.table.RouteFault.{RouteFault}
+use Rattle.snap_route.specs.declared.table.RouteFault.TheVariants as route
+use Rattle.snap_route.specs.Faults.{IsCause}
+use Rattle.snap_seek.specs.declared.demand.DemandFault.{DemandFault}
+use Rattle.snap_seek.specs.declared.demand.DemandFault.TheVariants as seek
+use Rattle.snap_seek.specs.Answer.{IsAnswer}
+use Rattle.snap_words.specs.Commands.{place}
+use Rattle.snap_cli.specs.declared.place.Network.{Network}
+use Rattle.snap_cli.specs.declared.refusal.Refusal.{Refusal}
+use Rattle.snap_cli.specs.declared.refusal.Refusal.TheVariants.{Usage, Read, Write, Syntax, Naming, Limit, Topology as NoTopology, Unreachable, Demand, Race, Packets, NoMemory, Undefined, Declarations, Differ}
+use Rattle.snap_cli.specs.Deserved.{Meets}
+use Rattle.snap_cli.specs.Place.{HasNoDemand, HasNoPlacement, HasNoPlacementOn, IsOneOf, IsPlaced, IsPlacedOn, IsPlacementOf, SpellsNoDemand, refusal_of_demand}
+use Rattle.snap_cli.specs.PlaceSteps.{GivesDemandText, GivesNetwork, GivesPlacement, IsPlacement, Places, PlacesFor, PlacesOn, RefusesBy}
+use Rattle.snap_cli.specs.ProgramOf.{ProgramOf}
+use Rattle.snap_cli.specs.Routes.{HasNoRoutes}
+use Rattle.snap_cli.specs.RoutesSteps.{GivesTopology, refusal_of_routes}
+use Rattle.snap_cli.specs.Steps.{GivesProgram}
+use Rattle.snap_cli.specs.TopologyOf.{TopologyOf}
+
+-- ---- refusals
+
+-- a refusal for one reason is one for another
+by-map : (reads also : List ℕ → Type 0) (why because : Refusal → Type 0) → ((name : List ℕ) → reads name → also name) → ((e : Refusal) → why e → because e) → (e : Refusal) → RefusesBy reads why e → RefusesBy also because e
+by-map reads also why because f g (Read name) h = f name.now h
+by-map reads also why because f g NoMemory h = tt
+by-map reads also why because f g Usage h = g Usage h
+by-map reads also why because f g Write h = g Write h
+by-map reads also why because f g (Syntax fault spot) h = g (Syntax fault spot) h
+by-map reads also why because f g (Naming fault spot) h = g (Naming fault spot) h
+by-map reads also why because f g (Limit which count) h = g (Limit which count) h
+by-map reads also why because f g (NoTopology fault) h = g (NoTopology fault) h
+by-map reads also why because f g (Unreachable switches a b) h = g (Unreachable switches a b) h
+by-map reads also why because f g (Demand fault) h = g (Demand fault) h
+by-map reads also why because f g (Race text) h = g (Race text) h
+by-map reads also why because f g (Packets line) h = g (Packets line) h
+by-map reads also why because f g (Undefined packet) h = g (Undefined packet) h
+by-map reads also why because f g Declarations h = g Declarations h
+by-map reads also why because f g (Differ text) h = g (Differ text) h
+
+by-program : (name file : List ℕ) (e : Refusal) → GivesProgram name file (Err e) → RefusesBy (λ failed. failed ≡ name) (λ refusal. ProgramOf file (Err refusal)) e
+by-program name file (Read failed) h = h
+by-program name file NoMemory h = tt
+by-program name file Usage h = h
+by-program name file Write h = h
+by-program name file (Syntax fault spot) h = h
+by-program name file (Naming fault spot) h = h
+by-program name file (Limit which count) h = h
+by-program name file (NoTopology fault) h = h
+by-program name file (Unreachable switches a b) h = h
+by-program name file (Demand fault) h = h
+by-program name file (Race text) h = h
+by-program name file (Packets line) h = h
+by-program name file (Undefined packet) h = h
+by-program name file Declarations h = h
+by-program name file (Differ text) h = h
+
+by-topology : (name file : List ℕ) (e : Refusal) → GivesTopology name file (Err e) → RefusesBy (λ failed. failed ≡ name) (HasNoRoutes file) e
+by-topology name file (Read failed) h = h
+by-topology name file NoMemory h = tt
+by-topology name file (Unreachable switches a b) (inl h) = absurd (let e = h.1 in cc)
+by-topology name file (Unreachable switches a b) (inr h) = absurd h.1
+by-topology name file Usage h = h
+by-topology name file Write h = h
+by-topology name file (Syntax fault spot) h = h
+by-topology name file (Naming fault spot) h = h
+by-topology name file (Limit which count) h = h
+by-topology name file (NoTopology fault) h = h
+by-topology name file (Demand fault) h = h
+by-topology name file (Race text) h = h
+by-topology name file (Packets line) h = h
+by-topology name file (Undefined packet) h = h
+by-topology name file Declarations h = h
+by-topology name file (Differ text) h = h
+
+-- ---- a topology and its routes
+
+network-fault : (name file : List ℕ) (t : Topology) (fault : RouteFault) → TopologyOf file (Ok t) → IsCause (IsUnreachable t) fault → GivesNetwork name file (Err (refusal_of_routes t.switches fault))
+network-fault name file t (route.Unreachable a b) read h = (t, read, h, refl)
+network-fault name file t route.NoMemory read h = tt
+
+pub told-network : (told : Option Files) (name : List ℕ) (t : Topology) (table : Table) → IfSome told (λ files. GivesTopology name (file_of files name) (Ok t)) → AreRoutes t table
+    → IfSome told (λ files. GivesNetwork name (file_of files name) (Ok (record { topology = t; routes = table })))
+told-network None name t table h are = tt
+told-network (Some files) name t table h are = (h, are)
+
+pub told-no-topology : (told : Option Files) (name : List ℕ) (e : Refusal) → IfSome told (λ files. GivesTopology name (file_of files name) (Err e)) → IfSome told (λ files. GivesNetwork name (file_of files name) (Err e))
+told-no-topology None name e h = tt
+told-no-topology (Some files) name e h = by-topology name (file_of files name) e h
+
+pub told-no-routes : (told : Option Files) (name : List ℕ) (t : Topology) (fault : RouteFault) (e : Refusal) → e ≡ refusal_of_routes t.switches fault → IfSome told (λ files. GivesTopology name (file_of files name) (Ok t))
+    → IsCause (IsUnreachable t) fault → IfSome told (λ files. GivesNetwork name (file_of files name) (Err e))
+told-no-routes None name t fault e is h cause = tt
+told-no-routes (Some files) name t fault e is h cause =
+    subst (λ x. GivesNetwork name (file_of files name) (Err x)) (sym is) (network-fault name (file_of files name) t fault h cause)
+
+-- ---- a demand
+
+no-demand : (p : Program) (t : Topology) (g : Grouping) (text : List ℕ) (fault : DemandFault) → IsGrouping p.body (length p.vars) g → fault ≢ seek.NoMemory → (fault ≢ seek.NoMemory → IsAnswer p g t text (Err fault))
+    → SpellsNoDemand p t text (refusal_of_demand p.vars fault)
+no-demand p t g text fault groups known h = record { grouping = g; groups = groups; fault = fault; known = known; answer = h known; is = refl }
+
+places-refused : (p : Program) (t : Topology) (table : Table) (g : Grouping) (text : List ℕ) (fault : DemandFault) → IsGrouping p.body (length p.vars) g → (fault ≢ seek.NoMemory → IsAnswer p g t text (Err fault))
+    → Places p t table text (Err (refusal_of_demand p.vars fault))
+places-refused p t table g text seek.NotToml groups h = no-demand p t g text seek.NotToml groups (λ e. cc) h
+places-refused p t table g text (seek.Shape rule) groups h = no-demand p t g text (seek.Shape rule) groups (λ e. cc) h
+places-refused p t table g text (seek.Limit which count) groups h = no-demand p t g text (seek.Limit which count) groups (λ e. cc) h
+places-refused p t table g text (seek.NoPort port) groups h = no-demand p t g text (seek.NoPort port) groups (λ e. cc) h
+places-refused p t table g text (seek.NoVariable name) groups h = no-demand p t g text (seek.NoVariable name) groups (λ e. cc) h
+places-refused p t table g text (seek.NoSwitch name) groups h = no-demand p t g text (seek.NoSwitch name) groups (λ e. cc) h
+places-refused p t table g text (seek.Nowhere array) groups h = no-demand p t g text (seek.Nowhere array) groups (λ e. cc) h
+places-refused p t table g text seek.NoMemory groups h = tt
+
+pub places-told : (p : Program) (t : Topology) (table : Table) (g : Grouping) (text : List ℕ) (fault : DemandFault) (e : Refusal) → IsGrouping p.body (length p.vars) g → (fault ≢ seek.NoMemory → IsAnswer p g t text (Err fault))
+    → e ≡ refusal_of_demand p.vars fault → Places p t table text (Err e)
+places-told p t table g text fault e groups h is = subst (λ x. Places p t table text (Err x)) (sym is) (places-refused p t table g text fault groups h)
+
+-- ---- from step to step
+
+for-placed : (p : Program) (t : Topology) (table : Table) (name file text : List ℕ) (r : Result (Vec ℕ Global) Refusal) → text ≡ file → length file ≤ 1048576 → Places p t table text r → PlacesFor p t table name file r
+for-placed p t table name file text (Ok made) same short h =
+    let is = subst (λ x. IsPlacement p t table x made.items) same h in
+    record { short = short; form = is.form; grouping = is.grouping; groups = is.groups; demand = is.demand; spells = is.spells; best = is.best; is_best = is.is_best; is = is.is }
+for-placed p t table name file text (Err e) same short h =
+    by-map (λ failed. ⊥) (λ failed. failed ≡ name) (SpellsNoDemand p t text) (HasNoDemand p t file) (λ failed no. absurd no) (λ x no. inr (short, subst (λ y. SpellsNoDemand p t y x) same no)) e h
+
+pub told-for : (told : Option Files) (p : Program) (t : Topology) (table : Table) (name : List ℕ) (text : Vec ℕ Global) (seen : List ℕ) (r : Result (Vec ℕ Global) Refusal) → IfSome told (λ files. GivesDemandText name (file_of files name) (Ok text))
+    → seen ≡ text.items → Places p t table seen r → IfSome told (λ files. PlacesFor p t table name (file_of files name) r)
+told-for None p t table name text seen r h same places = tt
+told-for (Some files) p t table name text seen r h same places =
+    for-placed p t table name (file_of files name) text.items r h.0 h.1 (subst (λ x. Places p t table x r) same places)
+
+pub told-unread : (told : Option Files) (p : Program) (t : Topology) (table : Table) (name : List ℕ) (e : Refusal) → IfSome told (λ files. GivesDemandText name (file_of files name) (Err e))
+    → IfSome told (λ files. PlacesFor p t table name (file_of files name) (Err e))
+told-unread None p t table name e h = tt
+told-unread (Some files) p t table name e h =
+    let file = file_of files name in
+    by-map (λ failed. failed ≡ name) (λ failed. failed ≡ name) (λ x. (1048576 < length file) × (x ≡ Limit Bytes 1048577)) (HasNoDemand p t file) (λ failed is. is) (λ x long. inl long) e h
+
+on-placed : (files : Files) (p : Program) (topology demand : List ℕ) (n : Network) (r : Result (Vec ℕ Global) Refusal) → GivesNetwork topology (file_of files topology) (Ok n) → PlacesFor p n.topology n.routes demand (file_of files demand) r
+    → PlacesOn files p topology demand r
+on-placed files p topology demand n (Ok made) h m = (n.topology, n.routes, h.0, h.1, m)
+on-placed files p topology demand n (Err e) h m =
+    by-map (λ failed. failed ≡ demand) (λ failed. (failed ≡ topology) ⊎ (failed ≡ demand)) (HasNoDemand p n.topology (file_of files demand)) (HasNoPlacementOn files p topology demand)
+    (λ failed is. inr is) (λ x no. inr (n.topology, n.routes, h.0, h.1, no)) e m
+
+pub told-on : (told now : Option Files) (p : Program) (topology demand : List ℕ) (n : Network) (r : Result (Vec ℕ Global) Refusal) → now ≡ told → IfSome told (λ files. GivesNetwork topology (file_of files topology) (Ok n))
+    → IfSome now (λ files. PlacesFor p n.topology n.routes demand (file_of files demand) r) → IfSome told (λ files. PlacesOn files p topology demand r)
+told-on None now p topology demand n r same h m = tt
+told-on (Some files) now p topology demand n r same h m =
+    on-placed files p topology demand n r h (subst (λ o. IfSome o (λ files. PlacesFor p n.topology n.routes demand (file_of files demand) r)) same m)
+
+pub told-no-network : (told : Option Files) (p : Program) (topology demand : List ℕ) (e : Refusal) → IfSome told (λ files. GivesNetwork topology (file_of files topology) (Err e)) → IfSome told (λ files. PlacesOn files p topology demand (Err e))
+told-no-network None p topology demand e h = tt
+told-no-network (Some files) p topology demand e h =
+    by-map (λ failed. failed ≡ topology) (λ failed. (failed ≡ topology) ⊎ (failed ≡ demand)) (HasNoRoutes (file_of files topology)) (HasNoPlacementOn files p topology demand) (λ failed is. inl is) (λ x no. inl no) e h
+
+gives-placed : (files : Files) (program topology demand : List ℕ) (p : Program) (r : Result (Vec ℕ Global) Refusal) → ProgramOf (file_of files program) (Ok p) → PlacesOn files p topology demand r → GivesPlacement files program topology demand r
+gives-placed files program topology demand p (Ok made) h m = (p, h, m)
+gives-placed files program topology demand p (Err e) h m =
+    by-map (λ failed. (failed ≡ topology) ⊎ (failed ≡ demand)) (IsOneOf program topology demand) (HasNoPlacementOn files p topology demand) (HasNoPlacement files program topology demand) (λ failed is. inr is) (λ x no. inr (p, h, no)) e m
+
+pub told-placed : (told now : Option Files) (program topology demand : List ℕ) (p : Program) (r : Result (Vec ℕ Global) Refusal) → now ≡ told → IfSome told (λ files. GivesProgram program (file_of files program) (Ok p))
+    → IfSome now (λ files. PlacesOn files p topology demand r) → IfSome told (λ files. GivesPlacement files program topology demand r)
+told-placed None now program topology demand p r same h m = tt
+told-placed (Some files) now program topology demand p r same h m =
+    gives-placed files program topology demand p r h (subst (λ o. IfSome o (λ files. PlacesOn files p topology demand r)) same m)
+
+pub told-no-program : (told : Option Files) (program topology demand : List ℕ) (e : Refusal) → IfSome told (λ files. GivesProgram program (file_of files program) (Err e)) → IfSome told (λ files. GivesPlacement files program topology demand (Err e))
+told-no-program None program topology demand e h = tt
+told-no-program (Some files) program topology demand e h =
+    by-map (λ failed. failed ≡ program) (IsOneOf program topology demand) (λ x. ProgramOf (file_of files program) (Err x)) (HasNoPlacement files program topology demand) (λ failed is. inl is) (λ x no. inl no) e (by-program program (file_of files program) e h)
+
+-- ---- the command
+
+module _ (files : Files) (program topology demand : List ℕ) where
+  meets-refused : (out : Option (List ℕ)) (e : Refusal) → GivesPlacement files program topology demand (Err e) → Meets files (place program topology demand) (Err e) out out
+  meets-refused out (Read name) h = ([], (h, refl), (0, Appends-nil out))
+  meets-refused out NoMemory h = ([], refl, (0, Appends-nil out))
+  meets-refused out Write h = inl ([], refl, (0, Appends-nil out))
+  meets-refused out Usage h = (h, ([], inl (Usage, h, refl), Appends-nil out))
+  meets-refused out (Syntax fault spot) h = (h, ([], inl (Syntax fault spot, h, refl), Appends-nil out))
+  meets-refused out (Naming fault spot) h = (h, ([], inl (Naming fault spot, h, refl), Appends-nil out))
+  meets-refused out (Limit which count) h = (h, ([], inl (Limit which count, h, refl), Appends-nil out))
+  meets-refused out (NoTopology fault) h = (h, ([], inl (NoTopology fault, h, refl), Appends-nil out))
+  meets-refused out (Unreachable switches a b) h = (h, ([], inl (Unreachable switches a b, h, refl), Appends-nil out))
+  meets-refused out (Demand fault) h = (h, ([], inl (Demand fault, h, refl), Appends-nil out))
+  meets-refused out (Race text) h = (h, ([], inl (Race text, h, refl), Appends-nil out))
+  meets-refused out (Packets line) h = (h, ([], inl (Packets line, h, refl), Appends-nil out))
+  meets-refused out (Undefined packet) h = (h, ([], inl (Undefined packet, h, refl), Appends-nil out))
+  meets-refused out Declarations h = (h, ([], inl (Declarations, h, refl), Appends-nil out))
+  meets-refused out (Differ text) h = (h, ([], inl (Differ text, h, refl), Appends-nil out))
+
+pub told-refused : (told : Option Files) (program topology demand : List ℕ) (out : Option (List ℕ)) (e : Refusal) → IfSome told (λ files. GivesPlacement files program topology demand (Err e))
+    → IfSome told (λ files. Meets files (place program topology demand) (Err e) out out)
+told-refused None program topology demand out e h = tt
+told-refused (Some files) program topology demand out e h = meets-refused files program topology demand out e h
+
+pub told-written : (told : Option Files) (program topology demand : List ℕ) (old new : Option (List ℕ)) (text : Vec ℕ Global) (seen : List ℕ) → IfSome told (λ files. GivesPlacement files program topology demand (Ok text))
+    → seen ≡ text.items → Appends old new seen → IfSome told (λ files. Meets files (place program topology demand) (Ok tt) old new)
+told-written None program topology demand old new text seen h same out = tt
+told-written (Some files) program topology demand old new text seen h same out = ((text.items, h), (text.items, inr h, subst (Appends old new) same out))
+
+pub told-cut : (told : Option Files) (program topology demand : List ℕ) (old new : Option (List ℕ)) (text : Vec ℕ Global) (seen : List ℕ) → IfSome told (λ files. GivesPlacement files program topology demand (Ok text))
+    → seen ≡ text.items → AppendsPart old new seen → IfSome told (λ files. Meets files (place program topology demand) (Err Write) old new)
+told-cut None program topology demand old new text seen h same out = tt
+told-cut (Some files) program topology demand old new text seen h same out = inr (text.items, inr h, subst (AppendsPart old new) same out)

@@ -1,0 +1,115 @@
+-- What `place` deserves on its files, and what its text is.
+use Rattle.std.specs.Prelude.{◌≡◌, ◌≢◌, ◌⊎◌, ◌==◌, ◌<◌, ◌≤◌, if◌then◌else◌, ℕ, List, [], ◌∷◌, length, slice_index, codes, decimal, Ok, Err}
+use Rattle.std.specs.List.{concat, flat_map, list_any, range_with_len}
+use Rattle.snap_core.specs.declared.program.Program.{Program}
+use Rattle.snap_core.specs.declared.program.Which.TheVariants.{Bytes}
+use Rattle.snap_dep.specs.Ranks.{Grouping, IsGrouping}
+use Rattle.snap_io.specs.Files.{Files, file_of}
+use Rattle.snap_topo.specs.declared.topology.Topology.{Topology}
+use Rattle.snap_topo.specs.Form.{IsInForm}
+use Rattle.snap_route.specs.Tables.{AreRoutes, Table}
+use Rattle.snap_seek.specs.declared.best.Best.{Best}
+use Rattle.snap_seek.specs.declared.demand.Demand.{Demand}
+use Rattle.snap_seek.specs.declared.demand.DemandFault.{DemandFault}
+use Rattle.snap_seek.specs.declared.demand.DemandFault.TheVariants as seek
+use Rattle.snap_seek.specs.Answer.{IsAnswer}
+use Rattle.snap_seek.specs.Placements.{IsBestOf}
+use Rattle.snap_cli.specs.declared.refusal.NoDemand.TheVariants.{NotToml, Shape, NoPort, NoArray, NoSwitch, Nowhere}
+use Rattle.snap_cli.specs.declared.refusal.Refusal.{Refusal}
+use Rattle.snap_cli.specs.declared.refusal.Refusal.TheVariants as refused
+use Rattle.snap_cli.specs.ProgramOf.{ProgramOf}
+use Rattle.snap_cli.specs.Refusals.{Ending, name_at}
+use Rattle.snap_cli.specs.Routes.{HasNoRoutes}
+use Rattle.snap_cli.specs.TopologyOf.{TopologyOf}
+
+-- an array's name as a key: in quotes where it has a dot
+abbrev pub key_text : List ℕ → List ℕ
+key_text name = if list_any (λ b. b == 46) name then concat (codes "\"" ∷ name ∷ codes "\"" ∷ []) else name
+
+-- `NAME = "SWITCH"`, for an array and a switch with these numbers
+abbrev pub place_line : (arrays switches : List (List ℕ)) → (array owner : ℕ) → List ℕ
+place_line arrays switches array owner = concat (key_text (name_at arrays array) ∷ codes " = \"" ∷ name_at switches owner ∷ codes "\"\n" ∷ [])
+
+abbrev pub owner_line : (arrays switches : List (List ℕ)) → (owners : List ℕ) → (array : ℕ) → List ℕ
+owner_line arrays switches owners array = place_line arrays switches array (slice_index owners array)
+
+-- `# cost N`
+abbrev pub cost_line : ℕ → List ℕ
+cost_line cost = concat (codes "# cost " ∷ decimal cost ∷ codes "\n" ∷ [])
+
+-- the cost, and a line for each array in the order of their numbers
+abbrev pub placement_text : (arrays switches : List (List ℕ)) → Best → List ℕ
+placement_text arrays switches best = concat (cost_line best.cost ∷ flat_map (owner_line arrays switches best.owners) (range_with_len 0 (length arrays)) ∷ [])
+
+-- The text of the placement of least cost, for a topology in form and the demand that a file of at most 1,048,576 bytes spells.
+pub record IsPlacementOf (p : Program) (t : Topology) (table : Table) (file text : List ℕ) : Type 0 where
+  pub short : length file ≤ 1048576
+  pub form : IsInForm t
+  pub grouping : Grouping
+  pub groups : IsGrouping p.body (length p.vars) grouping
+  pub demand : Demand
+  pub spells : IsAnswer p grouping t file (Ok demand)
+  pub best : Best
+  pub is_best : IsBestOf grouping t table demand best
+  pub is : text ≡ placement_text p.vars t.switches best
+
+-- the refusal of a text that spells no demand of a program with these arrays
+abbrev pub refusal_of_demand : List (List ℕ) → DemandFault → Refusal
+refusal_of_demand arrays seek.NotToml = refused.Demand NotToml
+refusal_of_demand arrays (seek.Shape rule) = refused.Demand (Shape rule)
+refusal_of_demand arrays (seek.Limit which count) = refused.Limit which count
+refusal_of_demand arrays (seek.NoPort port) = refused.Demand (NoPort port)
+refusal_of_demand arrays (seek.NoVariable name) = refused.Demand (NoArray name)
+refusal_of_demand arrays (seek.NoSwitch name) = refused.Demand (NoSwitch name)
+refusal_of_demand arrays (seek.Nowhere array) = refused.Demand (Nowhere arrays array)
+refusal_of_demand arrays seek.NoMemory = refused.NoMemory
+
+-- the text spells no demand for this reason
+pub record SpellsNoDemand (p : Program) (t : Topology) (text : List ℕ) (refusal : Refusal) : Type 0 where
+  pub grouping : Grouping
+  pub groups : IsGrouping p.body (length p.vars) grouping
+  pub fault : DemandFault
+  pub known : fault ≢ seek.NoMemory
+  pub answer : IsAnswer p grouping t text (Err fault)
+  pub is : refusal ≡ refusal_of_demand p.vars fault
+
+-- the file spells none, or is too long
+abbrev pub HasNoDemand : Program → Topology → (file : List ℕ) → Refusal → Type 0
+HasNoDemand p t file refusal =
+    ((1048576 < length file) × (refusal ≡ refused.Limit Bytes 1048577))
+    ⊎ ((length file ≤ 1048576) × SpellsNoDemand p t file refusal)
+
+-- a topology was read, but no demand, or not even a topology with routes
+abbrev pub HasNoPlacementOn : Files → Program → (topology demand : List ℕ) → Refusal → Type 0
+HasNoPlacementOn files p topology demand refusal =
+    HasNoRoutes (file_of files topology) refusal
+    ⊎ ((t : Topology) × (table : Table) × TopologyOf (file_of files topology) (Ok t) × AreRoutes t table × HasNoDemand p t (file_of files demand) refusal)
+
+-- a program was read, but nothing behind it, or not even a program
+abbrev pub HasNoPlacement : Files → (program topology demand : List ℕ) → Refusal → Type 0
+HasNoPlacement files program topology demand refusal =
+    ProgramOf (file_of files program) (Err refusal)
+    ⊎ ((p : Program) × ProgramOf (file_of files program) (Ok p) × HasNoPlacementOn files p topology demand refusal)
+
+-- the files spell a topology with routes and a demand, for which this is the text of the best placement
+abbrev pub IsPlacedOn : Files → Program → (topology demand : List ℕ) → List ℕ → Type 0
+IsPlacedOn files p topology demand text =
+    (t : Topology) × (table : Table) × TopologyOf (file_of files topology) (Ok t) × AreRoutes t table × IsPlacementOf p t table (file_of files demand) text
+
+abbrev pub IsPlaced : Files → (program topology demand : List ℕ) → List ℕ → Type 0
+IsPlaced files program topology demand text = (p : Program) × ProgramOf (file_of files program) (Ok p) × IsPlacedOn files p topology demand text
+
+-- how the command ends where no device fails and memory is there
+abbrev pub EndsPlace : Files → (program topology demand : List ℕ) → Ending → Type 0
+EndsPlace files program topology demand (Ok u) = (text : List ℕ) × IsPlaced files program topology demand text
+EndsPlace files program topology demand (Err refusal) = HasNoPlacement files program topology demand refusal
+
+-- the text that has gone out then: nothing where there is no placement
+abbrev pub IsPlaceText : Files → (program topology demand : List ℕ) → List ℕ → Type 0
+IsPlaceText files program topology demand text =
+    ((refusal : Refusal) × HasNoPlacement files program topology demand refusal × (text ≡ []))
+    ⊎ IsPlaced files program topology demand text
+
+-- one of the three names
+abbrev pub IsOneOf : (program topology demand name : List ℕ) → Type 0
+IsOneOf program topology demand name = (name ≡ program) ⊎ ((name ≡ topology) ⊎ (name ≡ demand))

@@ -1,0 +1,308 @@
+//! The command `place`: a placement of least cost.
+
+ghost use Rattle.std.specs.Prelude.{◌≡◌, ◌≢◌, ◌≤◌, ◌++◌, ◌==◌, ℕ, List, Err, IfOk, IfSome, IsErrOf, OnOk, length};
+ghost use Rattle.std.specs.List.{flat_map, list_any, range_with_len};
+ghost use Rattle.snap_core.specs.Programs.{IsInForm};
+ghost use Rattle.snap_dep.specs.Ranks.{IsGrouping};
+ghost use Rattle.snap_io.specs.Causes.{NoneFell, Rose};
+ghost use Rattle.snap_io.specs.Files.{file_of};
+ghost use Rattle.snap_topo.specs.Form.{IsInForm as IsTopology};
+ghost use Rattle.snap_route.specs.Tables.{AreRoutes};
+ghost use Rattle.snap_seek.specs.Placements.{IsBestOf, IsDemand};
+ghost use Rattle.snap_seek.specs.declared.best.Best.{Best};
+ghost use Rattle.snap_words.specs.Commands.{place};
+ghost use Rattle.snap_cli.specs.Causes.{HasCauses, IsRead, IsReadOf};
+ghost use Rattle.snap_cli.specs.Deserved.{Meets};
+ghost use Rattle.snap_cli.specs.Place.{cost_line, key_text, owner_line, place_line, placement_text, refusal_of_demand};
+ghost use Rattle.snap_cli.specs.PlaceSteps.{GivesDemandText, GivesNetwork, GivesPlacement, Places, PlacesFor, PlacesOn};
+
+use crate::program::load_program;
+use crate::refusal::{NoDemand, Refusal, name_at};
+use crate::routes::refusal_of_routes;
+use crate::topology::load_topology;
+use itoa::Buffer;
+use snap_core::NoMemory;
+use snap_core::lists::Names;
+use snap_core::program::{Program, Which};
+use snap_dep::calls::groups;
+use snap_dep::groups::Groups;
+use snap_io::{ReadRefusal, Shelf, Sink, read_whole, write_whole};
+use snap_route::calls::routes;
+use snap_route::table::Routes;
+use snap_seek::demand::{Demand, DemandFault};
+use snap_seek::{read_demand, seek};
+use snap_topo::topology::Topology;
+use std::alloc::Global;
+
+/// The most bytes of a demand's file.
+pub const MOST_DEMAND: u64 = 1_048_576;
+
+/// A topology and its routes.
+#[derive(Debug, Drop)]
+struct Network {
+    topology: Topology,
+    routes: Routes,
+}
+
+/// Writes the placement of least cost for a program, a topology and a demand.
+pub(crate) fn report<'a, S: Shelf, O: Sink>(
+    alloc: Global,
+    program: &'a [u8],
+    topology: &'a [u8],
+    demand: &'a [u8],
+    shelf: &mut S,
+    out: &mut O,
+) -> Result<(), Refusal<'a>>
+    ensures meets { IfSome (S.files shelf.old) (λ files.
+        Meets files (place program.entry.now topology.entry.now demand.entry.now) result (O.taken out.old) (O.taken out.new)) }
+    ensures causes { HasCauses (S.faults shelf.old) (S.faults shelf.new) (O.faults out.old) (O.faults out.new) result }
+    ensures not_usage { IsErrOf result Refusal.Usage → ⊥ }
+{
+    match load_placement(alloc, program, topology, demand, shelf) {
+        Ok(text) => match write_whole(out, &text) {
+            Ok(()) => Ok(()),
+            Err(_) => Err(Refusal::Write),
+        },
+        Err(refusal) => Err(refusal),
+    }
+}
+
+// The text of the placement.
+fn load_placement<'a, S: Shelf>(
+    alloc: Global,
+    program: &'a [u8],
+    topology: &'a [u8],
+    demand: &'a [u8],
+    shelf: &mut S,
+) -> Result<Vec<u8>, Refusal<'a>>
+    ensures gives { IfSome (S.files shelf.old) (λ files. GivesPlacement files program.entry.now topology.entry.now demand.entry.now result) }
+    ensures read { (file : List ℕ) → IsReadOf file result → Rose (S.faults shelf.old file) (S.faults shelf.new file) }
+    ensures not_write { IsErrOf result Refusal.Write → ⊥ }
+    ensures not_usage { IsErrOf result Refusal.Usage → ⊥ }
+{
+    match load_program(alloc, shelf, program) {
+        Ok(program) => placement_on(alloc, program, topology, demand, shelf),
+        Err(refusal) => Err(refusal),
+    }
+}
+
+// The text of the placement of a program that was read.
+fn placement_on<'a, S: Shelf>(
+    alloc: Global,
+    program: Program,
+    topology: &'a [u8],
+    demand: &'a [u8],
+    shelf: &mut S,
+) -> Result<Vec<u8>, Refusal<'a>>
+    requires { IsInForm program }
+    ensures gives { IfSome (S.files shelf.old) (λ files. PlacesOn files program topology.entry.now demand.entry.now result) }
+    ensures read { (file : List ℕ) → IsReadOf file result → Rose (S.faults shelf.old file) (S.faults shelf.new file) }
+    ensures not_write { IsErrOf result Refusal.Write → ⊥ }
+    ensures not_usage { IsErrOf result Refusal.Usage → ⊥ }
+    ensures later { NoneFell (S.faults shelf.old) (S.faults shelf.new) }
+{
+    match load_network(alloc, shelf, topology) {
+        Ok(network) => placement_for(alloc, program, &network, demand, shelf),
+        Err(refusal) => Err(refusal),
+    }
+}
+
+// The text of the placement of a program on a topology.
+fn placement_for<'a, S: Shelf>(
+    alloc: Global,
+    program: Program,
+    network: &Network,
+    demand: &'a [u8],
+    shelf: &mut S,
+) -> Result<Vec<u8>, Refusal<'a>>
+    requires program { IsInForm program }
+    requires topology { IsTopology network.now.topology }
+    requires routes { AreRoutes network.now.topology network.now.routes }
+    ensures gives { IfSome (S.files shelf.old) (λ files. PlacesFor program network.now.topology network.now.routes demand.entry.now (file_of files demand.entry.now) result) }
+    ensures read { (file : List ℕ) → IsReadOf file result → Rose (S.faults shelf.old file) (S.faults shelf.new file) }
+    ensures not_write { IsErrOf result Refusal.Write → ⊥ }
+    ensures not_usage { IsErrOf result Refusal.Usage → ⊥ }
+    ensures later { NoneFell (S.faults shelf.old) (S.faults shelf.new) }
+{
+    match load_text(alloc, shelf, demand) {
+        Ok(text) => placement_of(alloc, program, network, &text),
+        Err(refusal) => Err(refusal),
+    }
+}
+
+// Reads the topology of a file, and its routes.
+fn load_network<'a, S: Shelf>(
+    alloc: Global,
+    shelf: &mut S,
+    name: &'a [u8],
+) -> Result<Network, Refusal<'a>>
+    ensures gives { IfSome (S.files shelf.old) (λ files. GivesNetwork name.entry.now (file_of files name.entry.now) result) }
+    ensures topology { IfOk result (λ n. IsTopology n.topology) }
+    ensures routes { IfOk result (λ n. AreRoutes n.topology n.routes) }
+    ensures read { (file : List ℕ) → IsReadOf file result → Rose (S.faults shelf.old file) (S.faults shelf.new file) }
+    ensures not_write { IsErrOf result Refusal.Write → ⊥ }
+    ensures not_usage { IsErrOf result Refusal.Usage → ⊥ }
+    ensures files { S.files shelf.new ≡ S.files shelf.old }
+    ensures later { NoneFell (S.faults shelf.old) (S.faults shelf.new) }
+{
+    let topology = load_topology(alloc, shelf, name)?;
+    match routes(alloc, &topology) {
+        Ok(routes) => Ok(Network { topology, routes }),
+        Err(fault) => Err(refusal_of_routes(topology.switches, fault)),
+    }
+}
+
+// Reads the text of a demand.
+fn load_text<'a, S: Shelf>(
+    alloc: Global,
+    shelf: &mut S,
+    name: &'a [u8],
+) -> Result<Vec<u8>, Refusal<'a>>
+    ensures gives { IfSome (S.files shelf.old) (λ files. GivesDemandText name.entry.now (file_of files name.entry.now) result) }
+    ensures read { (file : List ℕ) → IsReadOf file result → Rose (S.faults shelf.old file) (S.faults shelf.new file) }
+    ensures not_write { IsErrOf result Refusal.Write → ⊥ }
+    ensures not_usage { IsErrOf result Refusal.Usage → ⊥ }
+    ensures later { NoneFell (S.faults shelf.old) (S.faults shelf.new) }
+{
+    match read_whole(alloc, shelf, name, MOST_DEMAND) {
+        Ok(text) => Ok(text),
+        Err(ReadRefusal::Failed) => Err(Refusal::Read { name }),
+        Err(ReadRefusal::TooLong) => Err(Refusal::Limit {
+            which: Which::Bytes,
+            count: MOST_DEMAND + 1,
+        }),
+        Err(ReadRefusal::NoMemory) => Err(Refusal::NoMemory),
+    }
+}
+
+// The text of the placement for the demand that a text spells.
+fn placement_of<'a>(
+    alloc: Global,
+    program: Program,
+    network: &Network,
+    text: &[u8],
+) -> Result<Vec<u8>, Refusal<'a>>
+    requires program { IsInForm program }
+    requires topology { IsTopology network.now.topology }
+    requires routes { AreRoutes network.now.topology network.now.routes }
+    ensures places { Places program network.now.topology network.now.routes text.now result }
+    ensures not_read { IsRead result → ⊥ }
+    ensures not_write { IsErrOf result Refusal.Write → ⊥ }
+    ensures not_usage { IsErrOf result Refusal.Usage → ⊥ }
+{
+    let groups = groups(alloc, &program)?;
+    match read_demand(alloc, text, &program, &groups, &network.topology) {
+        Ok(demand) => {
+            let text = best_text(alloc, &program, &groups, network, &demand)?;
+            Ok(text)
+        }
+        Err(fault) => Err(refusal_of_demand(program.vars, fault)),
+    }
+}
+
+// The refusal of a text that spells no demand of a program with these arrays.
+fn refusal_of_demand<'a>(arrays: Names, fault: DemandFault) -> Refusal<'a>
+    ensures { result ≡ refusal_of_demand arrays fault }
+{
+    let fault = match fault {
+        DemandFault::NotToml => NoDemand::NotToml,
+        DemandFault::Shape { rule } => NoDemand::Shape { rule },
+        DemandFault::Limit { which, count } => return Refusal::Limit { which, count },
+        DemandFault::NoPort { port } => NoDemand::NoPort { port },
+        DemandFault::NoVariable { name } => NoDemand::NoArray { name },
+        DemandFault::NoSwitch { name } => NoDemand::NoSwitch { name },
+        DemandFault::Nowhere { var } => NoDemand::Nowhere { arrays, array: var },
+        DemandFault::NoMemory => return Refusal::NoMemory,
+    };
+    Refusal::Demand { fault }
+}
+
+// The text of the best placement for a demand.
+fn best_text(
+    alloc: Global,
+    program: &Program,
+    groups: &Groups,
+    network: &Network,
+    demand: &Demand,
+) -> Result<Vec<u8>, NoMemory>
+    requires groups { IsGrouping program.now.body (length program.now.vars) groups.now }
+    requires topology { IsTopology network.now.topology }
+    requires routes { AreRoutes network.now.topology network.now.routes }
+    requires demand { IsDemand groups.now network.now.topology demand.now }
+    ensures { IfOk result (λ text. (best : Best) × IsBestOf groups.now network.now.topology network.now.routes demand.now best × (text.items ≡ placement_text program.now.vars network.now.topology.switches best)) }
+{
+    let best = seek(alloc, groups, &network.topology, &network.routes, demand)?;
+    let mut text = Vec::new(alloc);
+    put_cost(&mut text, best.cost)?;
+    put_places(
+        &mut text,
+        &program.vars,
+        &network.topology.switches,
+        best.owners.items(),
+    )?;
+    Ok(text)
+}
+
+// Puts the line of the cost.
+fn put_cost(text: &mut Vec<u8>, cost: u64) -> Result<(), NoMemory>
+    ensures { OnOk result (text.new.items ≡ text.old.items ++ cost_line cost) }
+{
+    let mut digits = Buffer::new();
+    text.extend_from_slice(b"# cost ")?;
+    text.extend_from_slice(digits.format(cost).as_bytes())?;
+    text.push(b'\n')?;
+    Ok(())
+}
+
+// Puts a line for each array.
+fn put_places(
+    text: &mut Vec<u8>,
+    arrays: &Names,
+    switches: &Names,
+    owners: &[u16],
+) -> Result<(), NoMemory>
+    requires { length owners.now ≤ 64 }
+    ensures { OnOk result (text.new.items ≡ text.old.items ++ flat_map (owner_line arrays.now switches.now owners.now) (range_with_len 0 (length owners.now))) }
+{
+    for array in 0..owners.len() {
+        put_place(text, arrays, switches, array as u16, owners[array])?;
+    }
+    Ok(())
+}
+
+// Puts the line of an array and its switch.
+fn put_place(
+    text: &mut Vec<u8>,
+    arrays: &Names,
+    switches: &Names,
+    array: u16,
+    owner: u16,
+) -> Result<(), NoMemory>
+    ensures { OnOk result (text.new.items ≡ text.old.items ++ place_line arrays.now switches.now array owner) }
+{
+    put_key(text, name_at(arrays, array))?;
+    text.extend_from_slice(b" = \"")?;
+    text.extend_from_slice(name_at(switches, owner))?;
+    text.extend_from_slice(b"\"\n")?;
+    Ok(())
+}
+
+// Puts a name as a key.
+fn put_key(text: &mut Vec<u8>, name: &[u8]) -> Result<(), NoMemory>
+    ensures { OnOk result (text.new.items ≡ text.old.items ++ key_text name.now) }
+{
+    if !has_dot(name) {
+        text.extend_from_slice(name)?;
+        return Ok(());
+    }
+    text.push(b'"')?;
+    text.extend_from_slice(name)?;
+    text.push(b'"')?;
+    Ok(())
+}
+
+fn has_dot(name: &[u8]) -> bool
+    ensures { result ≡ list_any (λ b. b == 46) name.now }
+{
+    name.contains(&b'.')
+}

@@ -1,0 +1,232 @@
+-- What is answered for a listing, and what holds of a demand that is read.
+use Rattle.std.proofs.Common.{◌≡◌, ◌≢◌, ◌∙◌, ◌↔◌, ℕ, ◌<◌, ◌≤◌, Bool, true, false, cond, List, [], ◌∷◌, All, length, find, is_none, IsSome, option_map, Option, Some, None, Result, Ok, Err, IfErr, IfOk, MatchResult, nat_lt, refl, sym, ap, subst, arith, slice_index_or}
+use Rattle.std.specs.List.{AllByRecursion, Contains, flat_map}
+use Rattle.std.specs.List.Sorted.{IsStrictlySortedBy}
+use Rattle.std.specs.Map.{keys_of}
+use Rattle.std.specs.Option.{option_or}
+use Rattle.std.specs.Ordering.{nat_cmp}
+use Rattle.std.specs.Cmp.Lexicographic.{slice_cmp}
+use Rattle.std.proofs.lemmas.Bool.{ltb-false}
+use Rattle.std.proofs.lemmas.List.Elements.{All-contains_itself, All-from_recursion, All-weaker}
+use Rattle.snap_core.specs.declared.ports.PortAt.{PortAt}
+use Rattle.snap_core.specs.declared.program.Which.TheVariants.{Demands}
+use Rattle.snap_dep.specs.Ranks.{Grouping}
+use Rattle.snap_topo.specs.Answer.{is_unknown}
+use Rattle.snap_topo.specs.declared.topology.Topology.{Topology}
+use Rattle.snap_topo.specs.Document.{document}
+use Rattle.snap_seek.specs.declared.demand.Demand.{Demand}
+use Rattle.snap_seek.specs.declared.demand.DemandFault.{DemandFault}
+use Rattle.snap_seek.specs.declared.demand.DemandFault.TheVariants.{NotToml, Shape, Limit, NoPort, NoVariable, NoSwitch, Nowhere, NoMemory}
+use Rattle.snap_seek.specs.declared.demand.Flow.{Flow}
+use Rattle.snap_seek.specs.declared.demand.TheConstants.{MOST_DEMANDS}
+use Rattle.snap_seek.specs.Answer.{GroupMay, IsDemandOf, Lists, PlacesThen, TellsLeast, TellsLeastOf, TellsNowhere, ends, first_fault, may, named, no_port, no_switch, no_variable, too_many}
+use Rattle.snap_seek.specs.Costs.{switch_at}
+use Rattle.snap_seek.specs.Marks.{GroupMarked, mark_at}
+use Rattle.snap_seek.specs.Placements.{HasPorts, IsDemand, places_of}
+use Rattle.snap_seek.specs.Shape.{Spelled, spelled}
+use Rattle.snap_seek.proofs.Documents.{least}
+use Rattle.snap_seek.proofs.Marking.{Lists-by}
+
+abbrev Entries : Type 0
+Entries = List (List ℕ × List (List ℕ))
+
+-- ---- marks stand for where arrays may stand
+
+module _ (g : Grouping) (vars switches : List (List ℕ)) (entries : Entries) (marks : List (List Bool)) (count : length marks ≡ length vars)
+    (each : (v : ℕ) → v < length vars → (at : ℕ) → at < length switches → mark_at marks v at ≡ may switches entries (slice_index_or vars v []) at) where
+  group-may : (v at : ℕ) → at < length switches → GroupMarked g marks v at ↔ GroupMay g vars switches entries v at
+  group-may v at lt = ((λ h u low same. sym (each u low at lt) ∙ h u (omega arith) same), (λ h u low same. each u (omega arith) at lt ∙ h u (omega arith) same))
+
+  tells-nowhere : (e : DemandFault) → TellsNowhere (GroupMarked g marks) (length marks) (length switches) e → TellsNowhere (GroupMay g vars switches entries) (length vars) (length switches) e
+  tells-nowhere (Nowhere v) h = record {
+    below = let low = h.below in omega arith;
+    nowhere = λ at lt there. h.nowhere at lt ((group-may v at lt).1 there);
+    first = λ u lt. let w = h.first u lt in (w.0, w.1, (group-may u w.0 w.1).0 w.2);
+  }
+  tells-nowhere NotToml h = absurd h
+  tells-nowhere (Shape rule) h = absurd h
+  tells-nowhere (Limit which n) h = absurd h
+  tells-nowhere (NoPort port) h = absurd h
+  tells-nowhere (NoVariable name) h = absurd h
+  tells-nowhere (NoSwitch name) h = absurd h
+  tells-nowhere NoMemory h = absurd h
+
+  demand-of : (s : Spelled) (demand : Demand) (places : List (List ℕ)) → entries ≡ s.allowed → demand.flows ≡ s.flows → demand.allowed ≡ places → length places ≡ length marks
+      → ((v : ℕ) → v < length marks → Lists (GroupMarked g marks v) (length switches) (slice_index_or places v [])) → ((v : ℕ) → v < length marks → slice_index_or places v [] ≢ []) → IsDemandOf g vars switches s demand
+  demand-of s demand places all flows allowed long lists some = record {
+    flows = flows;
+    count = ap (λ (l : List (List ℕ)). length l) allowed ∙ long ∙ count;
+    places = λ v lt. subst (λ (es : Entries). Lists (GroupMay g vars switches es v) (length switches) (places_of demand.allowed v)) all
+        (subst (λ (l : List (List ℕ)). Lists (GroupMay g vars switches entries v) (length switches) (places_of l v)) (sym allowed)
+        (Lists-by (GroupMarked g marks v) (GroupMay g vars switches entries v) (length switches) (slice_index_or places v []) (group-may v) (lists v (omega arith))));
+    some = λ v lt. subst (λ (l : List (List ℕ)). places_of l v ≢ []) (sym allowed) (some v (omega arith));
+  }
+
+-- ---- the first fault
+
+pub no-fault : (ports : List PortAt) (switches vars : List (List ℕ)) (s : Spelled) → too_many s.flows ≡ None → no_port ports s.flows ≡ None → no_variable vars s.allowed ≡ None → no_switch switches vars s.allowed ≡ None
+    → first_fault ports switches vars s ≡ None
+no-fault ports switches vars s few known named' there =
+    ap (λ (o : Option DemandFault). option_or o (option_or (no_port ports s.flows) (option_or (no_variable vars s.allowed) (no_switch switches vars s.allowed)))) few
+    ∙ ap (λ (o : Option DemandFault). option_or o (option_or (no_variable vars s.allowed) (no_switch switches vars s.allowed))) known
+    ∙ ap (λ (o : Option DemandFault). option_or o (no_switch switches vars s.allowed)) named' ∙ there
+
+module _ (g : Grouping) (vars switches : List (List ℕ)) (ports : List PortAt) (s : Spelled) (keys : List (List ℕ)) (entries listed : Entries) (marks seen : List (List Bool)) (few-flows port-flows : List Flow)
+    (same : keys ≡ switches) (all : entries ≡ s.allowed) (all' : listed ≡ s.allowed) (marked : seen ≡ marks) (flows : few-flows ≡ s.flows) (flows' : port-flows ≡ s.flows)
+    (few : too_many few-flows ≡ None) (known : no_port ports port-flows ≡ None) (arrays : no_variable vars listed ≡ None) (there : no_switch keys vars entries ≡ None)
+    (count : length marks ≡ length vars) (each : (v : ℕ) → v < length vars → (at : ℕ) → at < length switches → mark_at marks v at ≡ may keys entries (slice_index_or vars v []) at) where
+  none : first_fault ports switches vars s ≡ None
+  none = no-fault ports switches vars s (subst (λ (fs : List Flow). too_many fs ≡ None) flows few) (subst (λ (fs : List Flow). no_port ports fs ≡ None) flows' known)
+      (subst (λ (es : Entries). no_variable vars es ≡ None) all' arrays) (subst (λ (es : Entries). no_switch switches vars es ≡ None) all (subst (λ (ks : List (List ℕ)). no_switch ks vars entries ≡ None) same there))
+
+  each' : (v : ℕ) → v < length vars → (at : ℕ) → at < length switches → mark_at marks v at ≡ may switches entries (slice_index_or vars v []) at
+  each' v lt at less = each v lt at less ∙ ap (λ (ks : List (List ℕ)). may ks entries (slice_index_or vars v []) at) same
+
+  pub nowhere-then : (e : DemandFault) → TellsNowhere (GroupMarked g seen) (length seen) (length switches) e → PlacesThen g vars switches s (first_fault ports switches vars s) (Err e)
+  nowhere-then e h =
+      let here = subst (λ (ms : List (List Bool)). TellsNowhere (GroupMarked g ms) (length ms) (length switches) e) marked h in
+      let told = tells-nowhere g vars switches entries marks count each' e here in
+      subst (λ (o : Option DemandFault). PlacesThen g vars switches s o (Err e)) (sym none)
+      (subst (λ (es : Entries). TellsNowhere (GroupMay g vars switches es) (length vars) (length switches) e) all told)
+
+  pub demand-then : (demand : Demand) (places : List (List ℕ)) → demand.flows ≡ s.flows → demand.allowed ≡ places → length places ≡ length seen
+      → ((v : ℕ) → v < length seen → Lists (GroupMarked g seen v) (length switches) (slice_index_or places v [])) → ((v : ℕ) → v < length seen → slice_index_or places v [] ≢ [])
+      → PlacesThen g vars switches s (first_fault ports switches vars s) (Ok demand)
+  demand-then demand places is allowed long lists some =
+      let long' : length places ≡ length marks = long ∙ ap (λ (ms : List (List Bool)). length ms) marked in
+      let lists' = subst (λ (ms : List (List Bool)). (v : ℕ) → v < length ms → Lists (GroupMarked g ms v) (length switches) (slice_index_or places v [])) marked lists in
+      let some' = subst (λ (ms : List (List Bool)). (v : ℕ) → v < length ms → slice_index_or places v [] ≢ []) marked some in
+      subst (λ (o : Option DemandFault). PlacesThen g vars switches s o (Ok demand)) (sym none) (demand-of g vars switches entries marks count each' s demand places all is allowed long' lists' some')
+
+-- ---- a name that is told is the least
+
+or-later : (o p : Option DemandFault) (e : DemandFault) → option_or o p ≡ Some e → o ≢ Some e → p ≡ Some e
+or-later (Some x) p e is not = absurd (not is)
+or-later None p e is not = is
+
+or-sooner : (o p : Option DemandFault) (e : DemandFault) → option_or o p ≡ Some e → p ≢ Some e → o ≡ Some e
+or-sooner (Some x) p e is not = is
+or-sooner None p e is not = absurd (not is)
+
+limit-test : (b : Bool) (n : ℕ) (name : List ℕ) → cond b (Some (Limit Demands n)) None ≢ Some (NoVariable name)
+limit-test true n name = λ e. cc
+limit-test false n name = λ e. cc
+
+port-named : (o : Option ℕ) (name : List ℕ) → option_map (λ port. NoPort port) o ≢ Some (NoVariable name)
+port-named (Some port) name = λ e. cc
+port-named None name = λ e. cc
+
+switch-named : (o : Option (List ℕ)) (name : List ℕ) → option_map (λ n. NoSwitch n) o ≢ Some (NoVariable name)
+switch-named (Some n) name = λ e. cc
+switch-named None name = λ e. cc
+
+variable-named : (o : Option (List ℕ)) (name : List ℕ) → option_map (λ n. NoVariable n) o ≡ Some (NoVariable name) → o ≡ Some name
+variable-named (Some n) name is = cc
+variable-named None name is = cc
+
+fault-told : (g : Grouping) (vars switches : List (List ℕ)) (s : Spelled) (o : Option DemandFault) (name : List ℕ) → PlacesThen g vars switches s o (Err (NoVariable name)) → o ≡ Some (NoVariable name)
+fault-told g vars switches s (Some e) name is = ap (λ (x : DemandFault). Some x) (sym (inner is))
+  where
+    fault-err : DemandFault → Result Demand DemandFault
+    fault-err x = Err x
+
+    inner : {x y : DemandFault} → fault-err x ≡ fault-err y → x ≡ y
+    inner e = cc
+fault-told g vars switches s None name is = absurd is
+
+told-variable : (ports : List PortAt) (switches vars : List (List ℕ)) (s : Spelled) (name : List ℕ) → first_fault ports switches vars s ≡ Some (NoVariable name) → find (is_unknown vars) (keys_of s.allowed) ≡ Some name
+told-variable ports switches vars s name is =
+    let e = NoVariable name in
+    let second = or-later (too_many s.flows) (option_or (no_port ports s.flows) (option_or (no_variable vars s.allowed) (no_switch switches vars s.allowed))) e is (limit-test (nat_lt MOST_DEMANDS (length s.flows)) (length s.flows) name) in
+    let third = or-later (no_port ports s.flows) (option_or (no_variable vars s.allowed) (no_switch switches vars s.allowed)) e second (port-named (find (λ port. is_none (switch_at ports port)) (flat_map ends s.flows)) name) in
+    let here = or-sooner (no_variable vars s.allowed) (no_switch switches vars s.allowed) e third (switch-named (find (is_unknown switches) (named vars s.allowed)) name) in
+    variable-named (find (is_unknown vars) (keys_of s.allowed)) name here
+
+told-least : (g : Grouping) (vars switches : List (List ℕ)) (ports : List PortAt) (s : Spelled) (e : DemandFault) → IsStrictlySortedBy (slice_cmp nat_cmp) (keys_of s.allowed)
+    → (e ≢ NoMemory → PlacesThen g vars switches s (first_fault ports switches vars s) (Err e)) → TellsLeastOf vars s.allowed e
+told-least g vars switches ports s (NoVariable name) rise is =
+    least (is_unknown vars) (keys_of s.allowed) name rise (told-variable ports switches vars s name (fault-told g vars switches s (first_fault ports switches vars s) name (is (λ e. cc))))
+told-least g vars switches ports s NotToml rise is = tt
+told-least g vars switches ports s (Shape rule) rise is = tt
+told-least g vars switches ports s (Limit which n) rise is = tt
+told-least g vars switches ports s (NoPort port) rise is = tt
+told-least g vars switches ports s (NoSwitch name) rise is = tt
+told-least g vars switches ports s (Nowhere v) rise is = tt
+told-least g vars switches ports s NoMemory rise is = tt
+
+abbrev spelled-ok : Spelled → Result Spelled DemandFault
+spelled-ok s = Ok s
+
+same-ok : {x y : Spelled} → spelled-ok x ≡ spelled-ok y → x ≡ y
+same-ok e = cc
+
+pub least-of : (g : Grouping) (vars names switches : List (List ℕ)) (ports : List PortAt) (s : Spelled) (text : List ℕ) (P : Demand → Type 0) (r : Result Demand DemandFault) → names ≡ vars → spelled (document text) ≡ Ok s → IsStrictlySortedBy (slice_cmp nat_cmp) (keys_of s.allowed)
+    → MatchResult r P (λ e. e ≢ NoMemory → PlacesThen g names switches s (first_fault ports switches names s) (Err e)) → IfErr r (TellsLeast vars text)
+least-of g vars names switches ports s text P (Ok d) same shape rise h = tt
+least-of g vars names switches ports s text P (Err e) same shape rise h = λ other found.
+    let equal : s ≡ other = same-ok (sym shape ∙ found) in
+    subst (λ (x : Spelled). TellsLeastOf vars x.allowed e) equal (subst (λ (ns : List (List ℕ)). TellsLeastOf ns s.allowed e) same (told-least g names switches ports s e rise h))
+
+-- ---- a demand that is read
+
+none-parts : (o p : Option DemandFault) → option_or o p ≡ None → (o ≡ None) × (p ≡ None)
+none-parts (Some x) p is = cc
+none-parts None p is = (refl, is)
+
+few-test : (b : Bool) (n : ℕ) → cond b (Some (Limit Demands n)) None ≡ None → b ≡ false
+few-test true n is = cc
+few-test false n is = refl
+
+none-mapped : (o : Option ℕ) → option_map (λ port. NoPort port) o ≡ None → o ≡ None
+none-mapped (Some port) is = cc
+none-mapped None is = refl
+
+port-step : (o : Option ℕ) (port : ℕ) (rest : Option ℕ) → cond (is_none o) (Some port) rest ≡ None → IsSome o × (rest ≡ None)
+port-step (Some at) port rest is = (refl, is)
+port-step None port rest is = cc
+
+known-flows : (ports : List PortAt) (flows : List Flow) → find (λ port. is_none (switch_at ports port)) (flat_map ends flows) ≡ None → AllByRecursion (HasPorts ports) flows
+known-flows ports [] none = tt
+known-flows ports (f ∷ flows) none =
+    let first = port-step (switch_at ports f.from) f.from (find (λ port. is_none (switch_at ports port)) (f.to ∷ flat_map ends flows)) none in
+    let second = port-step (switch_at ports f.to) f.to (find (λ port. is_none (switch_at ports port)) (flat_map ends flows)) first.1 in
+    ((first.0, second.0), known-flows ports flows second.1)
+
+more-than-none : (xs : List ℕ) → xs ≢ [] → 1 ≤ length xs
+more-than-none [] some = absurd (some refl)
+more-than-none (x ∷ xs) some = omega arith
+
+pub demand-is : (g : Grouping) (vars : List (List ℕ)) (topology : Topology) (s : Spelled) (demand : Demand) → length g.ranks ≡ length vars → first_fault topology.ports topology.switches vars s ≡ None → IsDemandOf g vars topology.switches s demand → IsDemand g topology demand
+demand-is g vars topology s demand count none is =
+    let first = none-parts (too_many s.flows) _ none in
+    let second = none-parts (no_port topology.ports s.flows) _ first.1 in
+    let few = ltb-false MOST_DEMANDS (length s.flows) (few-test (nat_lt MOST_DEMANDS (length s.flows)) (length s.flows) first.0) in
+    let known = All-from_recursion (HasPorts topology.ports) s.flows (known-flows topology.ports s.flows (none-mapped _ second.0)) in
+    let long = ap (λ (fs : List Flow). length fs) is.flows in
+    record {
+      few = omega arith;
+      ports = subst (λ (fs : List Flow). All (HasPorts topology.ports) fs) (sym is.flows) known;
+      count = is.count ∙ sym count;
+      some = λ v lt. more-than-none (places_of demand.allowed v) (is.some v (omega arith));
+      below = λ v lt.
+          let places = places_of demand.allowed v in
+          All-weaker (Contains places) (λ (at : ℕ). at < length topology.switches) (λ at h. (((is.places v (omega arith)).each at).0 h).0) places (All-contains_itself places);
+      rise = λ v lt. (is.places v (omega arith)).rise;
+      together = λ a b lt less same at h.
+          let here = ((is.places a (omega arith)).each at).0 h in
+          ((is.places b (omega arith)).each at).1 (here.0, λ u low tied. here.1 u low (tied ∙ sym same));
+    }
+
+pub ok-none : (g : Grouping) (vars switches : List (List ℕ)) (s : Spelled) (o : Option DemandFault) (demand : Demand) → PlacesThen g vars switches s o (Ok demand) → (o ≡ None) × IsDemandOf g vars switches s demand
+ok-none g vars switches s (Some e) demand h = cc
+ok-none g vars switches s None demand h = (refl, h)
+
+pub demand-read : (g : Grouping) (vars names switches : List (List ℕ)) (topology : Topology) (ports : List PortAt) (s : Spelled) (Q : DemandFault → Type 0) (r : Result Demand DemandFault) → length g.ranks ≡ length vars → names ≡ vars → switches ≡ topology.switches → ports ≡ topology.ports
+    → MatchResult r (λ d. PlacesThen g names switches s (first_fault ports switches names s) (Ok d)) Q → IfOk r (IsDemand g topology)
+demand-read g vars names switches topology ports s Q (Ok d) count same there at h =
+    let a = subst (λ (ns : List (List ℕ)). PlacesThen g ns switches s (first_fault ports switches ns s) (Ok d)) same h in
+    let b = subst (λ (sw : List (List ℕ)). PlacesThen g vars sw s (first_fault ports sw vars s) (Ok d)) there a in
+    let e = subst (λ (ps : List PortAt). PlacesThen g vars topology.switches s (first_fault ps topology.switches vars s) (Ok d)) at b in
+    let parts = ok-none g vars topology.switches s (first_fault topology.ports topology.switches vars s) d e in
+    demand-is g vars topology s d count parts.0 parts.1
+demand-read g vars names switches topology ports s Q (Err e) count same there at h = tt

@@ -1,0 +1,120 @@
+-- Turns of loops over a demand's document.
+use Rattle.std.proofs.Common.{◌≡◌, ◌≢◌, ◌∙◌, ℕ, Bool, true, false, cond, List, [], ◌∷◌, ◌++◌, append-nil, append_assoc, length, map, find, string_bytes, option_map, Option, Some, None, refl, sym, ap, subst, String, Global}
+use Rattle.std.specs.List.{All, AllByRecursion}
+use Rattle.std.specs.List.Sorted.{IsStrictlySortedBy}
+use Rattle.std.specs.Map.{keys_of}
+use Rattle.std.specs.Ordering.{nat_cmp}
+use Rattle.std.specs.Cmp.Lexicographic.{slice_cmp}
+use Rattle.std.specs.declared.cmp.Ordering.{Ordering}
+use Rattle.std.specs.declared.cmp.Ordering.TheVariants.{Less, Equal, Greater}
+use Rattle.std.proofs.lemmas.Cmp.{nat_list_cmp_total, tied_itself}
+use Rattle.std.proofs.lemmas.List.{map-append}
+use Rattle.std.proofs.lemmas.List.Elements.{All-from_recursion}
+use Rattle.toml.specs.declared.value.Value.{Value}
+use Rattle.toml.specs.Data.{Data, Items, string, integer, float, boolean, datetime, array, table, as_array}
+use Rattle.toml.specs.View.{items_view, members_view, view}
+use Rattle.snap_core.specs.Names.{is_name}
+use Rattle.snap_topo.specs.Shape.{with_first}
+use Rattle.snap_topo.proofs.TableLemmas.{names-rise}
+use Rattle.snap_seek.specs.declared.listing.Entry.{Entry}
+use Rattle.snap_seek.specs.Listing.{entry_text, entry_texts}
+use Rattle.snap_seek.specs.Shape.{entries_listed, entry_of, flow_in, places_in}
+
+some-same : {A : Type 0} {x y : A} → Some x ≡ Some y → x ≡ y
+some-same e = cc
+
+-- ---- flows
+
+-- an array of other than three values
+short_flow : (vs : List Value) → (length vs ≡ 3 → ⊥) → None ≡ flow_in (array (items_view vs))
+short_flow [] not = refl
+short_flow (a ∷ []) not = refl
+short_flow (a ∷ (b ∷ [])) not = refl
+short_flow (a ∷ (b ∷ (e ∷ []))) not = absurd (not refl)
+short_flow (a ∷ (b ∷ (e ∷ (f ∷ vs)))) not = refl
+
+pub no_flow : (d : Data) (vs : List Value) → Some (items_view vs) ≡ as_array d → (length vs ≡ 3 → ⊥) → None ≡ flow_in d
+no_flow (array i) vs is not = short_flow vs not ∙ ap (λ (x : Items). flow_in (array x)) (some-same is)
+no_flow (string s) vs is not = cc
+no_flow (integer z) vs is not = cc
+no_flow (float x) vs is not = cc
+no_flow (boolean b) vs is not = cc
+no_flow (datetime t) vs is not = cc
+no_flow (table m) vs is not = cc
+
+-- ---- entries
+
+abbrev Text : Type 0
+Text = List ℕ × List (List ℕ)
+
+step : (before : List Text) (o : Option Text) (x : Text) (rest : Option (List Text)) → Some x ≡ o → option_map (λ r. (before ++ x ∷ []) ++ r) rest ≡ option_map (λ r. before ++ r) (with_first o rest)
+step before (Some y) x None is = refl
+step before (Some y) x (Some xs) is =
+    let same : x ≡ y = cc in ap (λ (l : List Text). Some l) (append_assoc before (x ∷ []) xs ∙ ap (λ (q : Text). before ++ ((q ∷ []) ++ xs)) same)
+step before None x rest is = cc
+
+-- one more entry, before those that are left
+pub entries-turn : (old new : List Entry) (left rest : List (String Global × Value)) (key : String Global) (value : Value) (entry : Entry) → left ≡ (key, value) ∷ rest
+    → Some (entry_text entry) ≡ entry_of (string_bytes key) (places_in (view value)) → new ≡ old ++ entry ∷ []
+    → option_map (λ r. entry_texts new ++ r) (entries_listed (members_view rest)) ≡ option_map (λ r. entry_texts old ++ r) (entries_listed (members_view left))
+entries-turn old new left rest key value entry more is put =
+    let before = entry_texts old in
+    let texts : entry_texts new ≡ before ++ entry_text entry ∷ [] = ap entry_texts put ∙ map-append entry_text old (entry ∷ []) in
+    ap (λ (ts : List Text). option_map (λ r. ts ++ r) (entries_listed (members_view rest))) texts
+    ∙ step before (entry_of (string_bytes key) (places_in (view value))) (entry_text entry) (entries_listed (members_view rest)) is
+    ∙ ap (λ (es : List (String Global × Value)). option_map (λ r. before ++ r) (entries_listed (members_view es))) (sym more)
+
+pub at-end : (so_far : List Text) (left : List (String Global × Value)) (o : Option (List Text)) → left ≡ [] → option_map (λ r. so_far ++ r) (entries_listed (members_view left)) ≡ o → o ≡ Some so_far
+at-end so_far left o none kept =
+    sym (subst (λ (l : List (String Global × Value)). option_map (λ r. so_far ++ r) (entries_listed (members_view l)) ≡ o) none kept) ∙ ap (λ (x : List Text). Some x) (append-nil so_far)
+
+-- the key of an entry
+key-test : (b : Bool) (key : List ℕ) (names : List (List ℕ)) (e : Text) → cond b (Some (key, names)) None ≡ Some e → e.0 ≡ key
+key-test true key names e is = sym (ap (λ (t : Text). t.0) (some-same is))
+key-test false key names e is = cc
+
+entry-key : (key : List ℕ) (o : Option (List (List ℕ))) (e : Text) → entry_of key o ≡ Some e → e.0 ≡ key
+entry-key key (Some names) e is = key-test (is_name key) key names e is
+entry-key key None e is = cc
+
+keys-step : (key : List ℕ) (o : Option Text) (os : Option (List Text)) (xs : List Text) (ks : List (List ℕ)) → with_first o os ≡ Some xs → ((e : Text) → o ≡ Some e → e.0 ≡ key) → ((ys : List Text) → os ≡ Some ys → keys_of ys ≡ ks) → keys_of xs ≡ key ∷ ks
+keys-step key (Some e) (Some ys) xs ks is first rest = ap keys_of (sym (some-same is)) ∙ ap (λ (k : List ℕ). k ∷ keys_of ys) (first e refl) ∙ ap (λ (l : List (List ℕ)). key ∷ l) (rest ys refl)
+keys-step key (Some e) None xs ks is first rest = cc
+keys-step key None os xs ks is first rest = cc
+
+entries-keys : (es : List (String Global × Value)) (xs : List Text) → entries_listed (members_view es) ≡ Some xs → keys_of xs ≡ map (λ (k : String Global). string_bytes k) (keys_of es)
+entries-keys [] xs is = ap keys_of (sym (some-same is))
+entries-keys (e ∷ es) xs is =
+    keys-step (string_bytes e.0) (entry_of (string_bytes e.0) (places_in (view e.1))) (entries_listed (members_view es)) xs (map (λ (k : String Global). string_bytes k) (keys_of es)) is
+    (λ x found. entry-key (string_bytes e.0) (places_in (view e.1)) x found) (λ ys found. entries-keys es ys found)
+
+-- the entries of a table rise in byte order
+pub in-order : (es : List (String Global × Value)) (xs : List Text) → IsStrictlySortedBy (λ (a b : String Global). slice_cmp nat_cmp (string_bytes a) (string_bytes b)) (keys_of es) → entries_listed (members_view es) ≡ Some xs
+    → IsStrictlySortedBy (slice_cmp nat_cmp) (keys_of xs)
+in-order es xs sorted is = subst (λ (ks : List (List ℕ)). IsStrictlySortedBy (slice_cmp nat_cmp) ks) (sym (entries-keys es xs is)) (names-rise (keys_of es) sorted)
+
+-- ---- the least of the names that pass a test
+
+before : (o : Ordering) → o ≡ Less → o ≢ Greater
+before o is = λ e. cc
+
+at-equal : (o : Ordering) → o ≡ Equal → o ≢ Greater
+at-equal o is = λ e. cc
+
+all-after : (p : List ℕ → Bool) (k : List ℕ) (ks : List (List ℕ)) → AllByRecursion (λ (y : List ℕ). slice_cmp nat_cmp k y ≡ Less) ks → AllByRecursion (λ (y : List ℕ). p y ≡ true → slice_cmp nat_cmp k y ≢ Greater) ks
+all-after p k [] h = tt
+all-after p k (y ∷ ks) h = ((λ _. before (slice_cmp nat_cmp k y) h.0), all-after p k ks h.1)
+
+least-step : (p : List ℕ → Bool) (b : Bool) (x : List ℕ) (xs : List (List ℕ)) (k : List ℕ) → p x ≡ b → cond b (Some x) (find p xs) ≡ Some k → AllByRecursion (λ (y : List ℕ). slice_cmp nat_cmp x y ≡ Less) xs
+    → (find p xs ≡ Some k → AllByRecursion (λ (y : List ℕ). p y ≡ true → slice_cmp nat_cmp k y ≢ Greater) xs) → AllByRecursion (λ (y : List ℕ). p y ≡ true → slice_cmp nat_cmp k y ≢ Greater) (x ∷ xs)
+least-step p true x xs k is found after rest = subst (λ (z : List ℕ). AllByRecursion (λ (y : List ℕ). p y ≡ true → slice_cmp nat_cmp z y ≢ Greater) (x ∷ xs)) (some-same found)
+    ((λ _. at-equal (slice_cmp nat_cmp x x) (tied_itself nat_list_cmp_total x)), all-after p x xs after)
+least-step p false x xs k is found after rest = ((λ yes'. cc), rest found)
+
+least-steps : (p : List ℕ → Bool) (ks : List (List ℕ)) (k : List ℕ) → IsStrictlySortedBy (slice_cmp nat_cmp) ks → find p ks ≡ Some k → AllByRecursion (λ (y : List ℕ). p y ≡ true → slice_cmp nat_cmp k y ≢ Greater) ks
+unfolding IsStrictlySortedBy
+least-steps p [] k order found = tt
+least-steps p (x ∷ xs) k order found = least-step p (p x) x xs k refl found order.0 (λ later. least-steps p xs k order.1 later)
+
+pub least : (p : List ℕ → Bool) (ks : List (List ℕ)) (k : List ℕ) → IsStrictlySortedBy (slice_cmp nat_cmp) ks → find p ks ≡ Some k → All (λ (y : List ℕ). p y ≡ true → slice_cmp nat_cmp k y ≢ Greater) ks
+least p ks k order found = All-from_recursion (λ (y : List ℕ). p y ≡ true → slice_cmp nat_cmp k y ≢ Greater) ks (least-steps p ks k order found)

@@ -1,0 +1,13 @@
+pub mod Bests
+pub mod Cheap
+pub mod Costing
+pub mod Demanding
+pub mod Documents
+pub mod Filling
+pub mod Marking
+pub mod Near
+pub mod Once
+pub mod Ported
+pub mod Ranked
+pub mod Staging
+pub mod Tripped

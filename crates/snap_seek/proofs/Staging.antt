@@ -1,0 +1,85 @@
+-- One rank of a plan, and where it begins.
+use Rattle.std.proofs.Common.{◌≡◌, ◌∙◌, ℕ, ◌+◌, ◌*◌, ◌^◌, ◌<◌, ◌≤◌, List, [], All, length, slice_index, sym, ap, subst, arith}
+use Rattle.std.specs.List.{sum_by}
+use Rattle.std.proofs.Math.Nat.{mul-le-mul}
+use Rattle.std.proofs.lemmas.List.Elements.{All-contains, All-nil}
+use Rattle.snap_route.specs.Tables.{Table, distance_of, switch_count}
+use Rattle.snap_seek.specs.declared.trips.End.{End}
+use Rattle.snap_seek.specs.declared.trips.End.TheVariants.{From, To}
+use Rattle.snap_seek.specs.declared.trips.Trip.{Trip}
+use Rattle.snap_seek.specs.Costs.{cost_from}
+use Rattle.snap_seek.specs.Steps.{AreNear, IsCheapest, IsPlan, IsRow, IsStage, end_of, leg, over}
+use Rattle.snap_seek.proofs.Bests.{cheapest-by, none-best}
+use Rattle.snap_seek.proofs.Costing.{cost_from-none, sum_by-within, weight_of}
+use Rattle.snap_seek.proofs.Filling.{Fills}
+
+-- ---- what an end costs
+
+leg-small : (routes : Table) (end : End) (at switch : ℕ) → AreNear routes → at < switch_count routes → switch < switch_count routes → leg routes end at switch ≤ 255
+leg-small routes From at switch near lt less = near at switch lt less
+leg-small routes To at switch near lt less = near switch at less lt
+
+pub end-small : (routes : Table) (end : End) (trips : List Trip) (n switch : ℕ) → AreNear routes → n ≡ switch_count routes → switch < n → All (λ (t : Trip). end_of end t < n) trips → sum_by weight_of trips < 2 ^ 48
+    → sum_by (λ (t : Trip). t.weight * leg routes end (end_of end t) switch) trips ≤ 2 ^ 56
+end-small routes end trips n switch near count lt below light =
+    let all = sum_by-within (λ (t : Trip). end_of end t < n) (λ (t : Trip). t.weight * leg routes end (end_of end t) switch) weight_of 255
+    (λ t low. let small = leg-small routes end (end_of end t) switch near (omega arith) (omega arith) in mul-le-mul (heavy t) small) trips below in
+    omega arith
+  where
+    heavy : (t : Trip) → t.weight ≤ t.weight
+    heavy t = omega arith
+
+-- a number by what it is equal to
+pub fits-by : (a b : ℕ) → a ≡ b → b ≤ 2 ^ 56 → a < 2 ^ 64
+fits-by a b is small = omega arith
+
+-- ---- one stage
+
+pub cheapest-leg : (routes : Table) (total n at next : ℕ) (allowed onward legs seen : List ℕ) → seen ≡ legs → All (λ m. m < n) allowed → ((y : ℕ) → y < n → slice_index legs y ≡ total * distance_of routes at y)
+    → IsCheapest (over seen onward) allowed next → IsCheapest (λ y. total * distance_of routes at y + slice_index onward y) allowed next
+cheapest-leg routes total n at next allowed onward legs seen is below each cheap =
+    cheapest-by (over seen onward) (λ (y : ℕ). total * distance_of routes at y + slice_index onward y) allowed next
+    (λ m h. ap (λ (xs : List ℕ). over xs onward m) is ∙ ap (λ (k : ℕ). k + slice_index onward m) (each m (All-contains (λ k. k < n) allowed m below h))) cheap
+
+pub cost-leg : (routes : Table) (total n at next : ℕ) (onward legs seen : List ℕ) → seen ≡ legs → next < n → ((y : ℕ) → y < n → slice_index legs y ≡ total * distance_of routes at y)
+    → over seen onward next ≡ total * distance_of routes at next + slice_index onward next
+cost-leg routes total n at next onward legs seen is lt each = ap (λ (xs : List ℕ). over xs onward next) is ∙ ap (λ (k : ℕ). k + slice_index onward next) (each next lt)
+
+pub cost-same : (cost : ℕ → ℕ) (allowed : List ℕ) (a b : ℕ) → IsCheapest cost allowed a → IsCheapest cost allowed b → cost a ≡ cost b
+cost-same cost allowed a b one other = let low = one.least b other.member in let high = other.least a one.member in omega arith
+
+pub stage-of : (routes : Table) (total n at : ℕ) (allowed onward nexts made costs : List ℕ) → at ≡ n → made ≡ nexts
+    → Fills (λ (x next : ℕ). IsCheapest (λ y. total * distance_of routes x y + slice_index onward y) allowed next) at nexts
+    → Fills (λ (x cost : ℕ). (m : ℕ) → IsCheapest (λ y. total * distance_of routes x y + slice_index onward y) allowed m → cost ≡ total * distance_of routes x m + slice_index onward m) at costs
+    → IsStage routes total n allowed onward made costs
+stage-of routes total n at allowed onward nexts made costs end is found priced =
+    subst (λ (xs : List ℕ). IsStage routes total n allowed onward xs costs) (sym is) (record {
+      long = found.count ∙ end;
+      count = priced.count ∙ end;
+      cheapest = λ x lt. found.each x (omega arith);
+      cost = λ x lt. priced.each x (omega arith) (slice_index nexts x) (found.each x (omega arith));
+    })
+
+-- a stage costs at most 2^56 more
+pub stage-low : (routes : Table) (total n : ℕ) (allowed onward nexts costs : List ℕ) (left old most : ℕ) → AreNear routes → n ≡ switch_count routes → total < 2 ^ 48 → All (λ m. m < n) allowed → IsStage routes total n allowed onward nexts costs
+    → old ≡ left + 1 → ((x : ℕ) → x < n → slice_index onward x + old * 2 ^ 56 ≤ most) → (x : ℕ) → x < n → slice_index costs x + left * 2 ^ 56 ≤ most
+stage-low routes total n allowed onward nexts costs left old most near count light below stage step low x lt =
+    let next = slice_index nexts x in
+    let inside = All-contains (λ m. m < n) allowed next below (stage.cheapest x lt).member in
+    let small = near x next (omega arith) (omega arith) in
+    let heavy : total ≤ 2 ^ 48 = omega arith in
+    let product = mul-le-mul heavy small in
+    let is = stage.cost x lt in
+    let before = low next inside in
+    omega arith
+
+-- ---- the last rank
+
+pub plan-none : (routes : Table) (trips : List Trip) (n : ℕ) (costs : List ℕ) → length costs ≡ n → ((x : ℕ) → x < n → slice_index costs x ≡ sum_by (λ (t : Trip). t.weight * leg routes To (end_of To t) x) trips)
+    → IsPlan (distance_of routes) trips [] n [] costs
+plan-none routes trips n costs count each = record {
+  count = count;
+  rows = All-nil (IsRow n);
+  best = λ x lt. none-best (cost_from (distance_of routes) trips x);
+  cost = λ x lt. each x lt ∙ sym (cost_from-none (distance_of routes) trips x);
+}

@@ -1,0 +1,113 @@
+-- What is answered for the text of a demand: its first fault, or the demand.
+use Rattle.std.specs.Prelude.{◌≡◌, ◌≢◌, ◌<◌, ◌↔◌, ◌==◌, ℕ, Bool, true, List, [], ◌∷◌, All, Contains, length, find, Option, Some, None, is_none, option_map, unwrap_or, if◌then◌else◌, nat_lt, Result, Ok, Err, MatchResult, slice_index_or}
+use Rattle.std.specs.List.{flat_map, list_any}
+use Rattle.std.specs.List.Sorted.{IsStrictlySortedBy}
+use Rattle.std.specs.Map.{keys_of, lookup}
+use Rattle.std.specs.Option.{option_or}
+use Rattle.std.specs.Ordering.{nat_cmp}
+use Rattle.std.specs.Str.{bytes_eq}
+use Rattle.std.specs.Cmp.Lexicographic.{slice_cmp}
+use Rattle.std.specs.declared.cmp.Ordering.TheVariants.{Greater}
+use Rattle.snap_core.specs.declared.ports.PortAt.{PortAt}
+use Rattle.snap_core.specs.declared.program.Program.{Program}
+use Rattle.snap_core.specs.declared.program.Which.TheVariants.{Demands}
+use Rattle.snap_dep.specs.Ranks.{Grouping, rank_of}
+use Rattle.snap_topo.specs.Answer.{is_unknown}
+use Rattle.snap_topo.specs.declared.topology.Topology.{Topology}
+use Rattle.snap_topo.specs.Document.{document}
+use Rattle.snap_topo.specs.Numbers.{number_of}
+use Rattle.snap_seek.specs.declared.demand.Demand.{Demand}
+use Rattle.snap_seek.specs.declared.demand.DemandFault.{DemandFault}
+use Rattle.snap_seek.specs.declared.demand.DemandFault.TheVariants.{Limit, NoPort, NoVariable, NoSwitch, Nowhere}
+use Rattle.snap_seek.specs.declared.demand.Flow.{Flow}
+use Rattle.snap_seek.specs.declared.demand.TheConstants.{MOST_DEMANDS}
+use Rattle.snap_seek.specs.Costs.{switch_at}
+use Rattle.snap_seek.specs.Placements.{places_of}
+use Rattle.snap_seek.specs.Shape.{Spelled, spelled}
+
+-- more flows than may be
+abbrev pub too_many : List Flow → Option DemandFault
+too_many flows = if nat_lt MOST_DEMANDS (length flows) then Some (Limit Demands (length flows)) else None
+
+abbrev pub ends : Flow → List ℕ
+ends f = f.from ∷ f.to ∷ []
+
+-- the first port, as read, that isn't there
+abbrev pub no_port : List PortAt → List Flow → Option DemandFault
+no_port ports flows = option_map (λ port. NoPort port) (find (λ port. is_none (switch_at ports port)) (flat_map ends flows))
+
+-- the first name, in the order of the entries, that is no array
+abbrev pub no_variable : List (List ℕ) → List (List ℕ × List (List ℕ)) → Option DemandFault
+no_variable vars entries = option_map (λ name. NoVariable name) (find (is_unknown vars) (keys_of entries))
+
+-- the switch names of an array's entry
+abbrev pub entry_for : List (List ℕ × List (List ℕ)) → List ℕ → Option (List (List ℕ))
+entry_for entries name = lookup (bytes_eq name) entries
+
+-- all switch names, by variable and then as read
+abbrev pub named : List (List ℕ) → List (List ℕ × List (List ℕ)) → List (List ℕ)
+named vars entries = flat_map (λ name. unwrap_or (entry_for entries name) []) vars
+
+-- the first of them that is no switch
+abbrev pub no_switch : List (List ℕ) → List (List ℕ) → List (List ℕ × List (List ℕ)) → Option DemandFault
+no_switch switches vars entries = option_map (λ name. NoSwitch name) (find (is_unknown switches) (named vars entries))
+
+-- the first of these faults
+abbrev pub first_fault : List PortAt → List (List ℕ) → List (List ℕ) → Spelled → Option DemandFault
+first_fault ports switches vars s = option_or (too_many s.flows) (option_or (no_port ports s.flows) (option_or (no_variable vars s.allowed) (no_switch switches vars s.allowed)))
+
+-- an array may stand at a switch that its entry names, and anywhere without an entry
+abbrev pub may_by : List (List ℕ) → Option (List (List ℕ)) → ℕ → Bool
+may_by switches None at = true
+may_by switches (Some names) at = list_any (λ name. number_of switches name == at) names
+
+abbrev pub may : List (List ℕ) → List (List ℕ × List (List ℕ)) → List ℕ → ℕ → Bool
+may switches entries name at = may_by switches (entry_for entries name) at
+
+-- so may each array of the variable's group
+abbrev pub GroupMay : Grouping → List (List ℕ) → List (List ℕ) → List (List ℕ × List (List ℕ)) → ℕ → ℕ → Type 0
+GroupMay g vars switches entries v at = (u : ℕ) → u < length vars → rank_of g u ≡ rank_of g v → may switches entries (slice_index_or vars u []) at ≡ true
+
+-- the numbers below n with a property, rising
+pub record Lists (P : ℕ → Type 0) (n : ℕ) (numbers : List ℕ) : Type 0 where
+  pub rise : IsStrictlySortedBy nat_cmp numbers
+  pub each : (at : ℕ) → Contains numbers at ↔ ((at < n) × P at)
+
+-- the demand of what a document spells: its flows, and for each variable the switches at which its group may stand, at least one
+pub record IsDemandOf (g : Grouping) (vars switches : List (List ℕ)) (s : Spelled) (demand : Demand) : Type 0 where
+  pub flows : demand.flows ≡ s.flows
+  pub count : length demand.allowed ≡ length vars
+  pub places : (v : ℕ) → v < length vars → Lists (GroupMay g vars switches s.allowed v) (length switches) (places_of demand.allowed v)
+  pub some : (v : ℕ) → v < length vars → places_of demand.allowed v ≢ []
+
+-- v is the first of n variables that may stand at none of count switches
+pub record IsFirstNowhere (P : ℕ → ℕ → Type 0) (n count v : ℕ) : Type 0 where
+  pub below : v < n
+  pub nowhere : (at : ℕ) → at < count → ¬ (P v at)
+  pub first : (u : ℕ) → u < v → (at : ℕ) × (at < count) × P u at
+
+abbrev pub TellsNowhere : (ℕ → ℕ → Type 0) → ℕ → ℕ → DemandFault → Type 0
+TellsNowhere P n count (Nowhere v) = IsFirstNowhere P n count v
+TellsNowhere P n count _ = ⊥
+
+-- what is answered once the shape is right
+abbrev pub PlacesThen : Grouping → List (List ℕ) → List (List ℕ) → Spelled → Option DemandFault → Result Demand DemandFault → Type 0
+PlacesThen g vars switches s (Some e) r = r ≡ Err e
+PlacesThen g vars switches s None r = MatchResult r (IsDemandOf g vars switches s) (TellsNowhere (GroupMay g vars switches s.allowed) (length vars) (length switches))
+
+abbrev pub SpelledThen : Program → Grouping → Topology → Result Spelled DemandFault → Result Demand DemandFault → Type 0
+SpelledThen program g topology (Ok s) r = PlacesThen g program.vars topology.switches s (first_fault topology.ports topology.switches program.vars s) r
+SpelledThen program g topology (Err e) r = r ≡ Err e
+
+-- the one answer for a text, memory aside
+abbrev pub IsAnswer : Program → Grouping → Topology → List ℕ → Result Demand DemandFault → Type 0
+IsAnswer program g topology text r = SpelledThen program g topology (spelled (document text)) r
+
+-- no unknown name is before the one that is told
+abbrev pub TellsLeastOf : List (List ℕ) → List (List ℕ × List (List ℕ)) → DemandFault → Type 0
+TellsLeastOf vars entries (NoVariable name) = All (λ key. is_unknown vars key ≡ true → slice_cmp nat_cmp name key ≢ Greater) (keys_of entries)
+TellsLeastOf vars entries _ = Unit {0}
+
+-- a name that is told as unknown is the least such name of the text
+abbrev pub TellsLeast : List (List ℕ) → List ℕ → DemandFault → Type 0
+TellsLeast vars text e = (s : Spelled) → spelled (document text) ≡ Ok s → TellsLeastOf vars s.allowed e

@@ -1,0 +1,31 @@
+-- What a placement costs.
+use Rattle.std.specs.Prelude.{ℕ, ◌+◌, ◌*◌, ◌++◌, ◌==◌, List, [], ◌∷◌, Option, Some, None, unwrap_or, if◌then◌else◌}
+use Rattle.std.specs.List.{sum_by}
+use Rattle.snap_core.specs.declared.ports.PortAt.{PortAt}
+use Rattle.snap_seek.specs.declared.demand.Flow.{Flow}
+use Rattle.snap_seek.specs.declared.trips.Trip.{Trip}
+
+-- the length of the way from a switch through those of a list, one after the other
+abbrev pub along : (ℕ → ℕ → ℕ) → ℕ → List ℕ → ℕ
+along d at [] = 0
+along d at (next ∷ rest) = d at next + along d next rest
+
+-- the switch at which a port is
+abbrev pub switch_at : List PortAt → ℕ → Option ℕ
+switch_at [] port = None
+switch_at (p ∷ ps) port = if p.port == port then Some p.at else switch_at ps port
+
+abbrev pub switch_of : List PortAt → ℕ → ℕ
+switch_of ports port = unwrap_or (switch_at ports port) 0
+
+-- a flow between the switches of its ports
+abbrev pub trip_of : List PortAt → Flow → Trip
+trip_of ports f = record { from = switch_of ports f.from; to = switch_of ports f.to; weight = f.weight }
+
+-- what is left of the trips to cost from a switch on, through the switches of a list
+abbrev pub cost_from : (ℕ → ℕ → ℕ) → List Trip → ℕ → List ℕ → ℕ
+cost_from d trips at stops = sum_by (λ (t : Trip). t.weight * along d at (stops ++ t.to ∷ [])) trips
+
+-- weight times length, summed over the trips, each of which goes through the switches of the groups by rank
+abbrev pub cost_of : (ℕ → ℕ → ℕ) → List Trip → List ℕ → ℕ
+cost_of d trips stops = sum_by (λ (t : Trip). t.weight * along d t.from (stops ++ t.to ∷ [])) trips

@@ -1,0 +1,7 @@
+pub mod Answer
+pub mod Costs
+pub mod Listing
+pub mod Marks
+pub mod Placements
+pub mod Shape
+pub mod Steps

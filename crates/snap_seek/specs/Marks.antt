@@ -1,0 +1,11 @@
+-- Where arrays may stand, as marks of switches.
+use Rattle.std.specs.Prelude.{◌≡◌, ◌<◌, ℕ, Bool, true, false, List, [], length, slice_index_or}
+use Rattle.snap_dep.specs.Ranks.{Grouping, rank_of}
+
+-- the mark of a variable at a switch
+abbrev pub mark_at : List (List Bool) → ℕ → ℕ → Bool
+mark_at marks v at = slice_index_or (slice_index_or marks v []) at false
+
+-- each variable of v's group is marked there
+abbrev pub GroupMarked : Grouping → List (List Bool) → ℕ → ℕ → Type 0
+GroupMarked g marks v at = (u : ℕ) → u < length marks → rank_of g u ≡ rank_of g v → mark_at marks u at ≡ true
