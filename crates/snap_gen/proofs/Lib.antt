@@ -1,0 +1,14 @@
+pub mod Nodes
+pub mod Walks
+pub mod Acting
+pub mod Leaving
+pub mod Guides
+pub mod ByMeaning
+pub mod Switching
+pub mod CalmRuns
+pub mod Bounds
+pub mod Far
+pub mod Going
+pub mod Plain
+pub mod LoneRuns
+pub mod Whole

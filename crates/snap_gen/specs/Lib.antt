@@ -1,0 +1,6 @@
+pub mod Agreement
+pub mod Visits
+pub mod Faithful
+pub mod Facts
+pub mod Chains
+pub mod InTurn

@@ -1,0 +1,4 @@
+//! Tables that make the whole network behave as one big switch.
+#![tactic(auto)]
+
+pub mod faithful;
