@@ -12,3 +12,6 @@ pub mod Going
 pub mod Plain
 pub mod LoneRuns
 pub mod Whole
+pub mod Chained
+pub mod ByChain
+pub mod Turning

@@ -60,6 +60,14 @@ switched_first p m k ks o a e f =
     ap (option_and_then (λ (o : Meaning). option_map (λ (r : Switched). record { packets = o.packets ∷ r.packets; arrays = r.arrays }) (one_big_switch p o.arrays ks))) e
     ∙ ap (option_map (λ (r : Switched). record { packets = o.packets ∷ r.packets; arrays = r.arrays })) f
 
+pub only_outcome : (p : Pol) (m : Arrays) (k : List ℕ) (end : Switched) → one_big_switch p m (k ∷ []) ≡ Some end → (o : Meaning) × (eval p m k ≡ Some o) × (o.arrays ≡ end.arrays)
+only_outcome p m k end is = by (eval p m k) refl is
+  where
+    by : (x : Option Meaning) → eval p m k ≡ x → option_and_then (λ (o : Meaning). option_map (λ (r : Switched). record { packets = o.packets ∷ r.packets; arrays = r.arrays }) (one_big_switch p o.arrays [])) x ≡ Some end
+        → (o : Meaning) × (eval p m k ≡ Some o) × (o.arrays ≡ end.arrays)
+    by None e is = absurd (none-some end is)
+    by (Some o) e is = (o, e, ap (λ (x : Switched). x.arrays) (same_Some _ end is))
+
 -- the elements of a list with one more
 pub in_pushed : {A : Type 0} (xs : List A) (x y : A) (i : ℕ) → slice_get (xs ++ x ∷ []) i ≡ Some y → (slice_get xs i ≡ Some y) ⊎ ((i ≡ length xs) × (x ≡ y))
 in_pushed [] x y zero e = inr (refl, same_Some x y e)

@@ -2,3 +2,4 @@
 #![tactic(auto)]
 
 pub mod faithful;
+pub mod in_turn;
