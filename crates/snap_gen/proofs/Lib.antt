@@ -8,8 +8,6 @@ pub mod Switching
 pub mod CalmRuns
 pub mod Bounds
 pub mod Far
-pub mod Going
-pub mod Plain
 pub mod LoneRuns
 pub mod Whole
 pub mod Chained

@@ -28,12 +28,13 @@ use Rattle.snap_rows.specs.Entries.{owner_of, rank_of, ranks, ranks_in}
 use Rattle.snap_rows.specs.Form.{array_count}
 use Rattle.snap_rows.specs.Lone.{IsLone}
 use Rattle.snap_rows.specs.Network.{Net, Happening, packets_of, start, whole}
+use Rattle.snap_rows.proofs.Ending.{plain_runs_end}
 use Rattle.snap_rows.proofs.Rows.{All-get}
 use Rattle.snap_rows.proofs.Own.{past, rank_entry, rank_owner}
 use Rattle.snap_rows.proofs.Later.{rank_owned}
 use Rattle.snap_gen.specs.Agreement.{commits, numbered, in_order}
 use Rattle.snap_gen.specs.Facts.{Facts, FactsMakeFaithful}
-use Rattle.snap_gen.specs.Faithful.{IsStoreOf, IsPacketOf, CanBeInjected, packets_in, AgreesAsInjected, IsDefined, PlainRunsAgree, CalmRunsAgree, LoneRunsAgree, HopsAreBounded}
+use Rattle.snap_gen.specs.Faithful.{IsStoreOf, IsPacketOf, AllCanEnter, packets_in, AgreesAsInjected, IsDefined, PlainRunsAgree, CalmRunsAgree, LoneRunsAgree, HopsAreBounded}
 use Rattle.snap_gen.specs.InTurn.{StandsAt}
 use Rattle.snap_gen.proofs.Nodes.{IsTwo}
 use Rattle.snap_gen.proofs.Acting.{Means}
@@ -43,7 +44,6 @@ use Rattle.snap_gen.proofs.Switching.{KeepsStores, keeps_stores, Ends, ends, pic
 use Rattle.snap_gen.proofs.Bounds.{HasDistances, stays_within, more_within}
 use Rattle.snap_gen.proofs.Far.{far, distances, ranks_few}
 use Rattle.snap_gen.proofs.CalmRuns.{ActedAsOne, calm_runs}
-use Rattle.snap_gen.proofs.Plain.{Finishes, plain}
 use Rattle.snap_gen.proofs.LoneRuns.{AllStandAt, State, all_events, early_in}
 
 -- ---- what the switches hold
@@ -117,7 +117,7 @@ module _ (p : Program) (topology : Topology) (places : List ℕ) (routes : Table
   defined m ks store packets = let e = ending m ks store packets in (e.end, e.is, record { numbers = e.store; only = e.zeros })
 
   -- ---- calm runs
-  packets_fit : (ks : List (ℕ × List ℕ)) → CanBeInjected p t ks → All (IsPacketOf p) (packets_in ks)
+  packets_fit : (ks : List (ℕ × List ℕ)) → AllCanEnter p t ks → All (IsPacketOf p) (packets_in ks)
   packets_fit ks can = All-map (IsPacketOf p) (λ e. e.1) ks (λ i e l. (can i e l).packet)
 
   holds_at_end : (m : Arrays) (ks : List (List ℕ)) (s : Net) (end : Switched) → IsStoreOf p m → All (IsPacketOf p) ks → one_big_switch p.body m ks ≡ Some end → NetHolds t s end.arrays → (q : Place) → whole t s q ≡ end.arrays q
@@ -139,18 +139,14 @@ module _ (p : Program) (topology : Topology) (places : List ℕ) (routes : Table
       }
 
   -- ---- plain runs
-  reach : (d : ℕ) → IsDiameter (Linked topology.links) (length topology.switches) d → HasDistances t (far routes (length topology.switches)) d
-  reach d diameter = distances topology f.in_form routes f.paths t f.shape.form (ap length f.shape.switches) f.shape.hops d diameter
-
   plainly : PlainRunsAgree p t
   plainly m ks store can =
-      let run : Finishes t two (far routes (length topology.switches)) routes.diameter (reach routes.diameter f.paths.diameter) ks (start t m) =
-      plain t two (far routes (length topology.switches)) routes.diameter (reach routes.diameter f.paths.diameter) p ks can (start t m) refl (λ i x l. absurd (omega (arith, l))) in (
-        run.events,
-        run.end,
-        run.happenings,
-        record { packets = run.packets; first = run.first; run = run.run; ended = run.ended },
-        subst (λ x. AgreesAsInjected p t m x run.end run.happenings) run.packets (calmly m run.events run.end run.happenings store (subst (CanBeInjected p t) (sym run.packets) can) run.run run.ended),
+      let run = plain_runs_end t f.shape.valid f.shape.form m ks (λ i e l. (can i e l).injected) in (
+        run.0,
+        run.1,
+        run.2,
+        run.3,
+        subst (λ x. AgreesAsInjected p t m x run.1 run.2) run.3.packets (calmly m run.0 run.1 run.2 store (subst (AllCanEnter p t) (sym run.3.packets) can) run.3.run run.3.ended),
       )
 
   -- ---- lone runs
@@ -200,6 +196,9 @@ module _ (p : Program) (topology : Topology) (places : List ℕ) (routes : Table
       }
 
   -- ---- hops
+  reach : (d : ℕ) → IsDiameter (Linked topology.links) (length topology.switches) d → HasDistances t (far routes (length topology.switches)) d
+  reach d diameter = distances topology f.in_form routes f.paths t f.shape.form (ap length f.shape.switches) f.shape.hops d diameter
+
   few_ranks : (order : List ℕ) → IsRank p.body (length p.vars) order → ranks t ≤ length order
   few_ranks order rank = ranks_few t.arrays (length order)
       (λ i a e.

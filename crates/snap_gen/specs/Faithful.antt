@@ -1,5 +1,5 @@
 -- Tables that make the whole network behave as one big switch.
-use Rattle.std.specs.Prelude.{◌≡◌, ◌≢◌, ℕ, ◌+◌, ◌*◌, ◌<◌, ◌≤◌, Bool, Some, None, List, [], map, length, slice_index}
+use Rattle.std.specs.Prelude.{◌≡◌, ◌≢◌, ℕ, ◌+◌, ◌*◌, ◌<◌, ◌≤◌, Bool, Some, List, [], map, length}
 use Rattle.std.specs.List.{All}
 use Rattle.snap_core.specs.declared.policy.Test.{Test}
 use Rattle.snap_core.specs.declared.program.Program.{Program}
@@ -15,11 +15,12 @@ use Rattle.snap_rows.specs.declared.tables.ArrayAt.{ArrayAt}
 use Rattle.snap_rows.specs.declared.tables.Tables.{Tables}
 use Rattle.snap_rows.specs.declared.tables.Row.{Row}
 use Rattle.snap_rows.specs.declared.tables.Row.TheVariants.{Field, State}
-use Rattle.snap_rows.specs.Entries.{node_of, rank_of, next, port_at}
+use Rattle.snap_rows.specs.Entries.{node_of, rank_of, next}
 use Rattle.snap_rows.specs.Form.{IsInForm}
 use Rattle.snap_rows.specs.Rules.{IsValid}
 use Rattle.snap_rows.specs.Lone.{IsLone}
 use Rattle.snap_rows.specs.Handles.{is_test}
+use Rattle.snap_rows.specs.Progress.{CanBeInjected}
 use Rattle.snap_rows.specs.Network.{Net, Copy, Event, Happening, Crossed, Delivered, Forked, Run, RunsCalmly, IsPlainRun, packets_of, start}
 use Rattle.snap_gen.specs.Agreement.{Agrees, numbered, commits}
 use Rattle.snap_gen.specs.Visits.{Comes}
@@ -32,14 +33,13 @@ pub record IsStoreOf (p : Program) (m : Arrays) : Type 0 where
 abbrev pub IsPacketOf : Program → List ℕ → Type 0
 IsPacketOf p k = IsPacket (count p.fields) k
 
--- the packet is the program's, and names the port, which is one of the tables
+-- the packet is the program's, and can be injected at the port
 pub record CanEnter (p : Program) (t : Tables) (e : ℕ × List ℕ) : Type 0 where
   pub packet : IsPacketOf p e.1
-  pub port : port_at t e.0 ≢ None
-  pub names : slice_index e.1 0 ≡ e.0
+  pub injected : CanBeInjected t e
 
-abbrev pub CanBeInjected : Program → Tables → List (ℕ × List ℕ) → Type 0
-CanBeInjected p t ks = All (CanEnter p t) ks
+abbrev pub AllCanEnter : Program → Tables → List (ℕ × List ℕ) → Type 0
+AllCanEnter p t ks = All (CanEnter p t) ks
 
 -- packets without the ports at which they are injected
 abbrev pub packets_in : List (ℕ × List ℕ) → List (List ℕ)
@@ -71,17 +71,17 @@ IsDefined p = (m : Arrays) (ks : List (List ℕ)) → IsStoreOf p m → All (IsP
 
 -- 3: the plain schedule of every list of packets can be run to its end, and agrees
 abbrev pub PlainRunsAgree : Program → Tables → Type 0
-PlainRunsAgree p t = (m : Arrays) (ks : List (ℕ × List ℕ)) → IsStoreOf p m → CanBeInjected p t ks
+PlainRunsAgree p t = (m : Arrays) (ks : List (ℕ × List ℕ)) → IsStoreOf p m → AllCanEnter p t ks
     → (es : List Event) × (s : Net) × (hs : List Happening) × IsPlainRun t m ks es s hs × AgreesAsInjected p t m ks s hs
 
 -- 4: so does every run to an end in which each packet is injected when none is in flight
 abbrev pub CalmRunsAgree : Program → Tables → Type 0
-CalmRunsAgree p t = (m : Arrays) (es : List Event) (s : Net) (hs : List Happening) → IsStoreOf p m → CanBeInjected p t (packets_of es)
+CalmRunsAgree p t = (m : Arrays) (es : List Event) (s : Net) (hs : List Happening) → IsStoreOf p m → AllCanEnter p t (packets_of es)
     → RunsCalmly t (start t m) es s hs → s.flying ≡ [] → AgreesAsInjected p t m (packets_of es) s hs
 
 -- 5: where all arrays stand at one switch so does every run to an end, in the order of the forks
 abbrev pub LoneRunsAgree : Program → Tables → Type 0
-LoneRunsAgree p t = IsLone t → (m : Arrays) (es : List Event) (s : Net) (hs : List Happening) → IsStoreOf p m → CanBeInjected p t (packets_of es)
+LoneRunsAgree p t = IsLone t → (m : Arrays) (es : List Event) (s : Net) (hs : List Happening) → IsStoreOf p m → AllCanEnter p t (packets_of es)
     → Run t m es s hs → s.flying ≡ [] → Agrees p t m (packets_in (packets_of es)) (commits hs) s hs
 
 -- 6: after every list of events each copy, in flight or delivered, has made at most so many hops, and two more own steps. A happening has the copy before its step
@@ -97,7 +97,7 @@ pub record IsWithin (most : ℕ) (s : Net) (hs : List Happening) : Type 0 where
 -- the bound is (groups + 1) times the diameter
 abbrev pub HopsAreBounded : Program → Topology → Tables → Type 0
 HopsAreBounded p topology t = (order : List ℕ) (d : ℕ) → IsRank p.body (length p.vars) order → IsDiameter (Linked topology.links) (length topology.switches) d
-    → (m : Arrays) (es : List Event) (s : Net) (hs : List Happening) → IsStoreOf p m → CanBeInjected p t (packets_of es) → Run t m es s hs
+    → (m : Arrays) (es : List Event) (s : Net) (hs : List Happening) → IsStoreOf p m → AllCanEnter p t (packets_of es) → Run t m es s hs
     → IsWithin ((length order + 1) * d) s hs
 
 -- 7: some store and packet come from number 0 to this one, and go this way there
