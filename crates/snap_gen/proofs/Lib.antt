@@ -13,3 +13,4 @@ pub mod Whole
 pub mod Chained
 pub mod ByChain
 pub mod Turning
+pub mod OneRow

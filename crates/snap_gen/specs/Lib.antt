@@ -4,3 +4,4 @@ pub mod Faithful
 pub mod Facts
 pub mod Chains
 pub mod InTurn
+pub mod OneRow
