@@ -1,4 +1,5 @@
 pub mod Nodes
+pub mod Owners
 pub mod Walks
 pub mod Acting
 pub mod Leaving
@@ -14,3 +15,4 @@ pub mod Chained
 pub mod ByChain
 pub mod Turning
 pub mod OneRow
+pub mod Planning

@@ -1,5 +1,5 @@
 -- The facts make tables faithful.
-use Rattle.std.proofs.Common.{◌≡◌, ℕ, zero, suc, ◌+◌, ◌*◌, ◌<◌, ◌≤◌, ⊎_elim, false, cond, List, [], ◌∷◌, ◌++◌, length, Option, Some, None, refl, sym, ap, subst, ◌∙◌, arith}
+use Rattle.std.proofs.Common.{◌≡◌, ℕ, ◌+◌, ◌*◌, ◌<◌, ◌≤◌, ⊎_elim, false, cond, List, [], ◌++◌, length, Some, None, refl, sym, ap, subst, ◌∙◌, arith}
 use Rattle.std.specs.Prelude.{slice_get, option_map, unwrap_or, nat_eq}
 use Rattle.std.specs.List.{All}
 use Rattle.std.specs.List.Sorted.{IsPermutation}
@@ -24,19 +24,19 @@ use Rattle.snap_route.specs.Walks.{Linked, IsDiameter}
 use Rattle.snap_route.specs.Tables.{Table}
 use Rattle.snap_rows.specs.declared.tables.ArrayAt.{ArrayAt}
 use Rattle.snap_rows.specs.declared.tables.Tables.{Tables}
-use Rattle.snap_rows.specs.Entries.{owner_of, rank_of, ranks, ranks_in}
+use Rattle.snap_rows.specs.Entries.{owner_of, rank_of, ranks}
 use Rattle.snap_rows.specs.Form.{array_count}
 use Rattle.snap_rows.specs.Lone.{IsLone}
 use Rattle.snap_rows.specs.Network.{Net, Happening, packets_of, start, whole}
 use Rattle.snap_rows.proofs.Ending.{plain_runs_end}
 use Rattle.snap_rows.proofs.Rows.{All-get}
-use Rattle.snap_rows.proofs.Own.{past, rank_entry, rank_owner}
-use Rattle.snap_rows.proofs.Later.{rank_owned}
+use Rattle.snap_rows.proofs.Own.{rank_entry, rank_owner}
 use Rattle.snap_gen.specs.Agreement.{commits, numbered, in_order}
 use Rattle.snap_gen.specs.Facts.{Facts, FactsMakeFaithful}
 use Rattle.snap_gen.specs.Faithful.{IsStoreOf, IsPacketOf, AllCanEnter, packets_in, AgreesAsInjected, IsDefined, PlainRunsAgree, CalmRunsAgree, LoneRunsAgree, HopsAreBounded}
 use Rattle.snap_gen.specs.InTurn.{StandsAt}
 use Rattle.snap_gen.proofs.Nodes.{IsTwo}
+use Rattle.snap_gen.proofs.Owners.{rank_some, var_array}
 use Rattle.snap_gen.proofs.Acting.{Means}
 use Rattle.snap_gen.proofs.Leaving.{came_out}
 use Rattle.snap_gen.proofs.Guides.{NetHolds}
@@ -47,22 +47,11 @@ use Rattle.snap_gen.proofs.CalmRuns.{ActedAsOne, calm_runs}
 use Rattle.snap_gen.proofs.LoneRuns.{AllStandAt, State, all_events, early_in}
 
 -- ---- what the switches hold
-ranks_above : (rs : List ArrayAt) (j : ℕ) (a : ArrayAt) → slice_get rs j ≡ Some a → a.rank < ranks_in rs
-ranks_above [] j a is = absurd (none-some a is)
-ranks_above (x ∷ xs) zero a is = let e : x.rank ≡ a.rank = ap (λ (a : ArrayAt). a.rank) (same_Some x a is) in omega (arith, e)
-ranks_above (x ∷ xs) (suc j) a is = let h = ranks_above xs j a is in omega (arith, h)
-
 module _ (t : Tables) (two : IsTwo t) where
-  ranked : (v : ℕ) → v < array_count t → rank_of t v < ranks t
-  ranked v within = by (slice_get t.arrays v) refl
-    where
-      by : (o : Option ArrayAt) → slice_get t.arrays v ≡ o → rank_of t v < ranks t
-      by None e = absurd (past t.arrays v within e)
-      by (Some a) e = subst (λ x. x < ranks t) (sym (ap (λ (o : Option ArrayAt). unwrap_or (option_map (λ (a : ArrayAt). a.rank) o) 0) e)) (ranks_above t.arrays v a e)
-
   stands : (v : ℕ) → v < array_count t → (w : ℕ) × (owner_of t v ≡ Some w) × StandsAt t w v
   stands v within =
-      let at = rank_owned t two.valid two.version (rank_of t v) (ranked v within) in
+      let a = var_array t v within in
+      let at = rank_some t.arrays v (rank_of t v) a.0 a.1 a.2 in
       (at.0, rank_owner t two.valid two.version v (rank_of t v) at.0 within refl at.1, at.1)
 
   no_owner : (v : ℕ) → array_count t ≤ v → owner_of t v ≡ None

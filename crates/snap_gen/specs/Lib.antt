@@ -5,3 +5,4 @@ pub mod Facts
 pub mod Chains
 pub mod InTurn
 pub mod OneRow
+pub mod Planned

@@ -3,3 +3,4 @@
 
 pub mod faithful;
 pub mod in_turn;
+pub mod planned;
