@@ -58,7 +58,7 @@ module _ (topology : Topology) (form : topo.IsInForm topology) (routes : Table) 
           let least = (paths.distances y b low lb).least ys walk.1 in
           (y, walk.0, omega (arith, e, least))
 
-  next_nearer : (a b x : ℕ) → a < length topology.switches → b < length topology.switches → a ≢ b → IsNext (Linked topology.links) a b x
+  pub next_nearer : (a b x : ℕ) → a < length topology.switches → b < length topology.switches → a ≢ b → IsNext (Linked topology.links) a b x
       → (x < length topology.switches) × (far routes (length topology.switches) x b < far routes (length topology.switches) a b)
   next_nearer a b x la lb apart is =
       let lx = linked_below a x is.neighbour in

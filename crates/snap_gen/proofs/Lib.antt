@@ -16,3 +16,6 @@ pub mod ByChain
 pub mod Turning
 pub mod OneRow
 pub mod Planning
+pub mod Showing
+pub mod Tidying
+pub mod Generating

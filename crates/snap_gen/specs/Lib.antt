@@ -6,3 +6,6 @@ pub mod Chains
 pub mod InTurn
 pub mod OneRow
 pub mod Planned
+pub mod Shown
+pub mod Tidied
+pub mod Generated

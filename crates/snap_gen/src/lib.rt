@@ -2,5 +2,6 @@
 #![tactic(auto)]
 
 pub mod faithful;
+pub mod generated;
 pub mod in_turn;
 pub mod planned;
