@@ -19,3 +19,4 @@ pub mod Planning
 pub mod Showing
 pub mod Tidying
 pub mod Generating
+pub mod Counting

@@ -9,3 +9,4 @@ pub mod Planned
 pub mod Shown
 pub mod Tidied
 pub mod Generated
+pub mod Marked

@@ -4,4 +4,5 @@
 pub mod faithful;
 pub mod generated;
 pub mod in_turn;
+pub mod numbering;
 pub mod planned;
