@@ -6,3 +6,5 @@ pub mod generated;
 pub mod in_turn;
 pub mod numbering;
 pub mod planned;
+#[cfg(test)]
+mod tests;
