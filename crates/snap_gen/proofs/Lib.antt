@@ -20,3 +20,8 @@ pub mod Showing
 pub mod Tidying
 pub mod Generating
 pub mod Counting
+pub mod Ranking
+pub mod Changing
+pub mod Outing
+pub mod Giving
+pub mod Comparing

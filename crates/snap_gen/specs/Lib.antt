@@ -10,3 +10,4 @@ pub mod Shown
 pub mod Tidied
 pub mod Generated
 pub mod Marked
+pub mod Leaves

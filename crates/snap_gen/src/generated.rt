@@ -14,7 +14,7 @@ pub fn shown_tables_are_live()
     ensures { ShownTablesAreLive }
 {}
 
-/// A diagram with tidied leaves, in which tests whose ways become one are left out, keeps its walks, its order, and that it is live.
+/// A diagram with tidied leaves, in which tests whose ways become one are left out, keeps its outcome, its order, and that it is live; its leaves become bare.
 pub fn tidying_is_safe()
     ensures { TidyingIsSafe }
 {}

@@ -4,6 +4,7 @@
 pub mod faithful;
 pub mod generated;
 pub mod in_turn;
+pub mod leaves;
 pub mod numbering;
 pub mod planned;
 #[cfg(test)]
