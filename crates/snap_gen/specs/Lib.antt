@@ -1,0 +1,13 @@
+pub mod Agreement
+pub mod Visits
+pub mod Faithful
+pub mod Facts
+pub mod Chains
+pub mod InTurn
+pub mod OneRow
+pub mod Planned
+pub mod Shown
+pub mod Tidied
+pub mod Generated
+pub mod Marked
+pub mod Leaves
