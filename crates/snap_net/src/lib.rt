@@ -1,0 +1,7 @@
+//! The network: the stores of the switches, and copies of packets in flight.
+#![tactic(auto)]
+
+mod block;
+pub mod flights;
+pub mod flying;
+pub mod head;
