@@ -1,14 +1,14 @@
 -- Edits of a list in blocks.
-use Rattle.std.proofs.Common.{◌≡◌, ℕ, zero, suc, ◌+◌, ◌-◌, ◌<◌, ◌≤◌, List, [], ◌∷◌, ◌++◌, take, drop, length, get_or, refl, sym, ap, subst, ◌∙◌, arith, append_assoc, Option, Some, length-append}
+use Rattle.std.proofs.Common.{◌≡◌, ℕ, zero, suc, ◌+◌, ◌-◌, ◌<◌, ◌≤◌, List, [], ◌∷◌, ◌++◌, take, drop, length, get_or, refl, sym, ap, ◌∙◌, arith, append_assoc, Some, length-append}
 use Rattle.std.specs.Prelude.{slice_get}
 use Rattle.std.proofs.Math.ListN.{set}
 use Rattle.std.proofs.Math.Seq.{take-append-add, drop-append-add}
-use Rattle.std.proofs.lemmas.List.{take-append-le, drop-append-le, take_more, take_at, drop_at, drop_all, set_split, set-get_or, append-nil, get_or_read, length_push, length-take-le, length-drop, drop-drop, nil_from_length}
+use Rattle.std.proofs.lemmas.List.{take-append-le, drop-append-le, take_more, take_at, drop_at, drop_all, set_split, set-get_or, append-nil, get_or_read, length_push, length-take-le, length-drop, nil_from_length}
 use Rattle.std.proofs.lemmas.Option.{get_or_from_slice_get}
 use Rattle.std.specs.List.{insert}
 use Rattle.std.proofs.lemmas.List.Concat.{flat_map-append}
 use Rattle.snap_net.specs.declared.flying.Flying.{Flying}
-use Rattle.snap_net.specs.declared.head.Head.{Head}
+use Rattle.snap_rows.specs.declared.head.Head.{Head}
 use Rattle.snap_net.specs.declared.flights.Spot.{Spot}
 use Rattle.snap_net.specs.Flights.{joined, spliced}
 use Rattle.snap_net.specs.Spots.{IsSpot, number_at}
@@ -37,9 +37,9 @@ splice_inside : (xs b zs ys : List Flying) (p n : ℕ) → p + n ≤ length b �
 splice_inside xs b zs ys p n within =
     ap (λ l. l ++ (ys ++ drop (length xs + p + n) (xs ++ (b ++ zs)))) (take-append-add xs (b ++ zs) p ∙ ap (λ l. xs ++ l) (take-append-le p b zs (omega (arith, within))))
     ∙ ap (λ l. (xs ++ take p b) ++ (ys ++ l)) (
-      ap (λ i. drop i (xs ++ (b ++ zs))) (let e : length xs + p + n ≡ length xs + (p + n) = omega arith in e)
-          ∙ drop-append-add xs (b ++ zs) (p + n)
-          ∙ drop-append-le (p + n) b zs within
+    ap (λ i. drop i (xs ++ (b ++ zs))) (let e : length xs + p + n ≡ length xs + (p + n) = omega arith in e)
+    ∙ drop-append-add xs (b ++ zs) (p + n)
+    ∙ drop-append-le (p + n) b zs within
     )
     ∙ append_assoc xs (take p b) (ys ++ (drop (p + n) b ++ zs))
     ∙ ap (λ l. xs ++ l) (sym (append_assoc (take p b) (ys ++ drop (p + n) b) zs ∙ ap (λ l. take p b ++ l) (append_assoc ys (drop (p + n) b) zs)))
@@ -53,7 +53,7 @@ block_edit bs i p n ys within inside =
     ∙ ap (λ l. spliced l (length (joined (take i bs)) + p) n ys) (sym (joined_at bs i within))
 
 -- ---- elements
-get_skip : (xs ys : List Flying) (p : ℕ) → slice_get (xs ++ ys) (length xs + p) ≡ slice_get ys p
+pub get_skip : (xs ys : List Flying) (p : ℕ) → slice_get (xs ++ ys) (length xs + p) ≡ slice_get ys p
 get_skip [] ys p = ap (slice_get ys) (omega arith)
 get_skip (x ∷ xs) ys p = ap (slice_get (x ∷ (xs ++ ys))) (let e : suc (length xs) + p ≡ suc (length xs + p) = omega arith in e) ∙ get_skip xs ys p
 
@@ -107,10 +107,13 @@ halved bs bs' i x front half within read parts put =
   where
     before : List (List Flying)
     before = take i bs
+
     long : length (take i bs ++ front ∷ []) ≡ i + 1
     long = length_push (take i bs) front ∙ ap (λ n. n + 1) (length-take-le i bs (omega (arith, within)))
+
     whole : set bs i front ≡ (take i bs ++ front ∷ []) ++ drop (suc i) bs
     whole = set_split bs i front within ∙ sym (append_assoc (take i bs) (front ∷ []) (drop (suc i) bs))
+
     cut : insert (set bs i front) (i + 1) half ≡ take i bs ++ (front ∷ half ∷ drop (suc i) bs)
     cut =
         ap (λ l. insert l (i + 1) half) whole
@@ -135,13 +138,15 @@ last_grown bs i x b copy last read put =
   where
     within : i < length bs
     within = omega (arith, last)
+
     none : drop (suc i) bs ≡ []
     none = drop_all (suc i) bs (omega (arith, last))
+
     same : x ≡ get_or bs i []
     same = same_block bs i x within read
 
 -- ---- the length of the list
-found : (xs : List Flying) (k : ℕ) → k < length xs → (c : Flying) × (slice_get xs k ≡ Some c)
+pub found : (xs : List Flying) (k : ℕ) → k < length xs → (c : Flying) × (slice_get xs k ≡ Some c)
 found [] k within = absurd (let h : k < 0 = within in omega arith)
 found (x ∷ xs) zero within = (x, refl)
 found (x ∷ xs) (suc k) within = found xs k (let h : suc k < suc (length xs) = within in omega arith)
@@ -157,16 +162,3 @@ pub sent_length : (xs ys : List Flying) (k : ℕ) (f : Flying → Flying) → k 
 sent_length xs ys k f within becomes =
     let c = found xs k within in
     ap length (becomes c.0 c.1) ∙ one_for_one xs k (f c.0) within
-
-pub cut_more : (xs : List Flying) (from i : ℕ) → from + i < length xs → spliced (spliced xs from i []) from 1 [] ≡ spliced xs from (i + 1) []
-cut_more xs from i within =
-    ap (λ l. l ++ drop (from + 1) (take from xs ++ drop (from + i) xs)) (take_at (take from xs) (drop (from + i) xs) from long)
-    ∙ ap (λ l. take from xs ++ l) (
-      ap (λ n. drop (n + 1) (take from xs ++ drop (from + i) xs)) (sym long)
-          ∙ drop-append-add (take from xs) (drop (from + i) xs) 1
-          ∙ drop-drop 1 (from + i) xs
-          ∙ ap (λ n. drop n xs) (let e : from + i + 1 ≡ from + (i + 1) = omega arith in e)
-    )
-  where
-    long : length (take from xs) ≡ from
-    long = length-take-le from xs (omega (arith, within))

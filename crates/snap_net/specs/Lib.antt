@@ -1,2 +1,4 @@
 pub mod Flights
 pub mod Spots
+pub mod Shown
+pub mod Moves

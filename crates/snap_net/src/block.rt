@@ -5,8 +5,8 @@ ghost use Rattle.snap_net.specs.declared.flying.Flying.{Flying};
 ghost use Rattle.snap_net.specs.Flights.{spliced};
 
 use crate::flying::Flying;
-use crate::head::Head;
 use snap_core::NoMemory;
+use snap_rows::head::Head;
 use std::alloc::Global;
 use std::marker::Model;
 

@@ -7,8 +7,8 @@ ghost use Rattle.snap_net.specs.Spots.{IsSpot, number_at};
 
 use crate::block::Block;
 use crate::flying::Flying;
-use crate::head::Head;
 use snap_core::NoMemory;
+use snap_rows::head::Head;
 use std::alloc::Global;
 use std::marker::Model;
 

@@ -4,4 +4,6 @@
 mod block;
 pub mod flights;
 pub mod flying;
-pub mod head;
+pub mod happened;
+mod moves;
+pub mod net;

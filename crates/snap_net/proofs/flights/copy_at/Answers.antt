@@ -1,4 +1,4 @@
-use Rattle.std.proofs.Common.{◌≡◌, ◌∙◌}
+use Rattle.std.proofs.Common.{◌∙◌}
 use Rattle.snap_net.proofs.Blocks.{at_spot}
 use Rattle.snap_net.proofs.flights.copy_at.Goals as goal
 

@@ -1,4 +1,4 @@
-use Rattle.std.proofs.Common.{◌≡◌, [], ◌∙◌}
+use Rattle.std.proofs.Common.{[], ◌∙◌}
 use Rattle.snap_net.proofs.Blocks.{one_replaced, at_spot}
 use Rattle.snap_net.proofs.flights.remove_at.Goals as goal
 

@@ -1,5 +1,4 @@
-use Rattle.std.proofs.Common.{◌≡◌, [], ◌∷◌, sym, ◌∙◌}
-use Rattle.snap_net.specs.declared.flying.Flying.{Flying}
+use Rattle.std.proofs.Common.{[], ◌∷◌, sym, ◌∙◌}
 use Rattle.snap_net.proofs.Blocks.{one_replaced, at_spot}
 use Rattle.snap_net.proofs.flights.send_at.Goals as goal
 

@@ -1,6 +1,6 @@
-use Rattle.std.proofs.Common.{◌≡◌, ◌+◌, ◌<◌, [], length, ap, ◌∙◌, arith}
+use Rattle.std.proofs.Common.{◌+◌, ◌<◌, [], length, ap, ◌∙◌, arith}
 use Rattle.snap_net.specs.Flights.{spliced}
-use Rattle.snap_net.proofs.Blocks.{cut_more}
+use Rattle.snap_net.proofs.Splices.{cut_more}
 use Rattle.snap_net.proofs.flights.Flights.cut.Goals as goal
 
 pub loop-i-preserved : goal.loop-i-preserved
