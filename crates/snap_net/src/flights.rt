@@ -17,7 +17,7 @@ const MOST: usize = 1024;
 
 /// Copies in flight, seen as a list.
 #[derive(Drop)]
-pub struct Flights {
+pub(crate) struct Flights {
     alloc: Global,
     count: usize,
     blocks: Vec<Block>,
@@ -148,7 +148,7 @@ fn push_at_end(alloc: Global, blocks: &mut Vec<Block>, copy: Flying) -> Result<(
 
 impl Flights {
     /// No copies. Takes no memory.
-    pub fn new(alloc: Global) -> Flights
+    pub(crate) fn new(alloc: Global) -> Flights
         ensures { result ≡ [] }
     {
         Flights {
@@ -159,14 +159,14 @@ impl Flights {
     }
 
     /// How many copies there are. Takes no memory.
-    pub fn count(&self) -> usize
+    pub(crate) fn count(&self) -> usize
         ensures { result ≡ length self.now }
     {
         self.count
     }
 
     /// The copy of this number in the list, counted from 0. Takes no memory.
-    pub fn get(&self, k: usize) -> &Flying
+    pub(crate) fn get(&self, k: usize) -> &Flying
         requires { k < length self.now }
         ensures { slice_get self.now k ≡ Some result.now }
     {
@@ -175,7 +175,7 @@ impl Flights {
     }
 
     /// Puts a copy at the end of the list.
-    pub fn push(&mut self, copy: Flying) -> Result<(), NoMemory>
+    pub(crate) fn push(&mut self, copy: Flying) -> Result<(), NoMemory>
         ensures ok { OnOk result (self.new ≡ self.old ++ copy ∷ []) }
         ensures err { OnErr result (self.new ≡ self.old) }
     {
@@ -186,7 +186,7 @@ impl Flights {
     }
 
     /// Puts a copy right behind copy k.
-    pub fn insert_behind(&mut self, k: usize, copy: Flying) -> Result<(), NoMemory>
+    pub(crate) fn insert_behind(&mut self, k: usize, copy: Flying) -> Result<(), NoMemory>
         requires { k < length self.old }
         ensures ok { OnOk result (self.new ≡ spliced self.old (k + 1) 0 (copy ∷ [])) }
         ensures err { OnErr result (self.new ≡ self.old) }
@@ -199,7 +199,7 @@ impl Flights {
     }
 
     /// Sends copy k to a switch, with a head. Takes no memory.
-    pub fn send(&mut self, k: usize, to: u16, head: Head)
+    pub(crate) fn send(&mut self, k: usize, to: u16, head: Head)
         requires { k < length self.old }
         ensures { (c : Flying) → slice_get self.old k ≡ Some c → self.new ≡ spliced self.old k 1 (record c { at = to; head = head } ∷ []) }
     {
@@ -208,7 +208,7 @@ impl Flights {
     }
 
     /// Takes copy k out of the list. Takes no memory.
-    pub fn remove(&mut self, k: usize) -> Flying
+    pub(crate) fn remove(&mut self, k: usize) -> Flying
         requires { k < length self.old }
         ensures copy { slice_get self.old k ≡ Some result }
         ensures left { self.new ≡ spliced self.old k 1 [] }
@@ -220,7 +220,7 @@ impl Flights {
     }
 
     /// Takes so many copies out of the list, from a place on. Takes no memory.
-    pub fn cut(&mut self, from: usize, count: usize)
+    pub(crate) fn cut(&mut self, from: usize, count: usize)
         requires { from + count ≤ length self.old }
         ensures { self.new ≡ spliced self.old from count [] }
     {

@@ -2,7 +2,7 @@
 #![tactic(auto)]
 
 mod block;
-pub mod flights;
+mod flights;
 pub mod flying;
 pub mod happened;
 mod moves;

@@ -8,7 +8,7 @@ ghost use Rattle.snap_core.specs.Listing.{IsListing};
 ghost use Rattle.snap_rows.specs.Entries.{port_at};
 ghost use Rattle.snap_rows.specs.Form.{comps, array_count};
 ghost use Rattle.snap_rows.specs.Network.{Net as State, start, whole, Inject, Step};
-ghost use Rattle.snap_net.specs.Shown.{Shows, IsDone, Nothing, Tells, TellsMoved, Same, store_of};
+ghost use Rattle.snap_net.specs.Shown.{IsHeld, Shows, IsDone, Nothing, Tells, TellsMoved, Same, store_of};
 ghost use Rattle.snap_net.specs.Moves.{HasStepped, HasMoved, PlanAt};
 ghost use Rattle.snap_net.specs.declared.net.InjectFault.{InjectFault};
 ghost use Rattle.snap_net.specs.declared.net.StepFault.{StepFault};
@@ -87,6 +87,7 @@ impl From<NoMemory> for StepFault {
 /// A network with empty stores and nothing in flight.
 pub fn open_net(alloc: Global, tables: Valid) -> Result<Net, NoMemory>
     ensures tables { IfOk result (λ net. net.tables ≡ tables) }
+    ensures injected { IfOk result (λ net. net.injected ≡ 0) }
     ensures start { IfOk result (λ net. Shows net (start tables zero_arrays)) }
 {
     let stores = empty_stores(alloc, tables.tables().switches.items().len())?;
@@ -114,7 +115,8 @@ fn empty_stores(alloc: Global, count: usize) -> Result<Vec<Store>, NoMemory>
 impl Net {
     /// Lends the tables. Takes no memory.
     pub fn tables(&self) -> &Valid
-        ensures { result.now ≡ self.now.tables }
+        ensures tables { result.now ≡ self.now.tables }
+        ensures held { IsHeld self.now }
     {
         &self.tables
     }
@@ -135,6 +137,7 @@ impl Net {
         requires room { self.old.injected + 1 < 2 ^ 64 }
         ensures done { IfOk result (λ number. (number ≡ self.old.injected) × IsDone self.old (Inject port packet) self.new Nothing) }
         ensures tables { self.new.tables ≡ self.old.tables }
+        ensures count { OnOk result (self.new.injected ≡ self.old.injected + 1) }
         ensures no_port { IfErr result (λ fault. fault ≢ InjectFault.NoMemory → port_at self.old.tables port ≡ None) }
         ensures has_port { IfOk result (λ _. IsSome (port_at self.old.tables port)) }
         ensures refused { OnErr result (self.new ≡ self.old) }
@@ -178,6 +181,7 @@ impl Net {
         ensures stepped { OnOk result ((s : State) → Shows self.old s → HasStepped self.old k plan.action self.new s) }
         ensures moved { IfOk result (HasMoved self.old.flying k plan.action self.new.flying) }
         ensures tables { self.new.tables ≡ self.old.tables }
+        ensures injected { self.new.injected ≡ self.old.injected }
         ensures refused { OnErr result (Same self.old self.new) }
     {
         let moved = carry_out(&mut self.stores, &mut self.flying, k, plan)?;
@@ -189,6 +193,7 @@ impl Net {
     pub fn advance(&mut self, k: usize) -> Result<Moved, StepFault>
         ensures done { IfOk result (λ moved. IsDone self.old (Step k) self.new (TellsMoved moved)) }
         ensures tables { self.new.tables ≡ self.old.tables }
+        ensures injected { self.new.injected ≡ self.old.injected }
         ensures copy { IfErr result (λ fault. fault ≡ StepFault.NoCopy → length self.old.flying ≤ k) }
         ensures has_copy { length self.old.flying ≤ k → IfErr result (λ fault. fault ≡ StepFault.NoCopy) }
         ensures refused { OnErr result (Same self.old self.new) }
@@ -205,6 +210,7 @@ impl Net {
     pub fn step(&mut self, k: usize) -> Result<Happened, StepFault>
         ensures done { IfOk result (λ happened. IsDone self.old (Step k) self.new (Tells happened)) }
         ensures tables { self.new.tables ≡ self.old.tables }
+        ensures injected { self.new.injected ≡ self.old.injected }
         ensures copy { IfErr result (λ fault. fault ≡ StepFault.NoCopy → length self.old.flying ≤ k) }
         ensures has_copy { length self.old.flying ≤ k → IfErr result (λ fault. fault ≡ StepFault.NoCopy) }
         ensures refused { OnErr result (Same self.old self.new) }
