@@ -2,3 +2,4 @@ pub mod Flights
 pub mod Spots
 pub mod Shown
 pub mod Moves
+pub mod Laws

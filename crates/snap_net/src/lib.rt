@@ -5,5 +5,6 @@ mod block;
 mod flights;
 pub mod flying;
 pub mod happened;
+pub mod laws;
 mod moves;
 pub mod net;
