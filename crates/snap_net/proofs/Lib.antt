@@ -1,0 +1,4 @@
+pub mod Blocks
+pub mod Splices
+pub mod Steps
+pub mod Home

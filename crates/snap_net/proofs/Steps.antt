@@ -1,0 +1,262 @@
+-- Steps of the network, on what the program holds.
+use Rattle.std.proofs.Common.{◌≡◌, ℕ, zero, suc, ◌+◌, ◌<◌, ◌≤◌, ◌≢◌, Bool, true, false, List, [], ◌∷◌, ◌++◌, map, take, drop, Option, Some, None, length, refl, sym, ap, subst, ◌∙◌, arith, ⊎_elim}
+use Rattle.std.specs.Prelude.{slice_get, slice_index, ◌==◌, IfSome, IsSome, is_some, option_map, unwrap_or, if◌then◌else◌}
+use Rattle.std.specs.List.{All}
+use Rattle.std.proofs.lemmas.Bool.{false≢true, eqb-true, eq-eqb, cases_lt, lt-ltb, le-ltb}
+use Rattle.std.proofs.lemmas.List.{map-append, take-map, drop-map}
+use Rattle.std.proofs.lemmas.List.Elements.{All-push, All-append, All-take, All-drop, All-map, All-cons, All-nil}
+use Rattle.std.proofs.lemmas.Option.{slice_get-map, slice_get_past}
+use Rattle.snap_core.specs.Arrays.{Arrays, updates, zero_arrays}
+use Rattle.snap_core.specs.Cells.{Kept, arrays_of}
+use Rattle.snap_core.specs.declared.ports.PortAt.{PortAt}
+use Rattle.snap_core.specs.declared.place.Place.{Place}
+use Rattle.snap_rows.specs.declared.plan.Plan.{Plan}
+use Rattle.snap_rows.specs.declared.head.Head.TheVariants.{Walk, Out}
+use Rattle.snap_rows.specs.declared.head.Action.{Action}
+use Rattle.snap_rows.specs.declared.head.Action.TheVariants.{Forward, Deliver, Fork}
+use Rattle.snap_rows.specs.declared.head.Sent.{Sent}
+use Rattle.snap_rows.specs.declared.tables.ArrayAt.{ArrayAt}
+use Rattle.snap_rows.specs.declared.tables.Tables.{Tables}
+use Rattle.snap_rows.specs.declared.tables.Rule.TheVariants.{Missing}
+use Rattle.snap_rows.specs.declared.tables.Spot.TheVariants as spot
+use Rattle.snap_rows.specs.Entries.{port_in, port_at, row_at, owner_of}
+use Rattle.snap_rows.specs.Form.{IsPortInForm, array_count, comps, switch_count}
+use Rattle.snap_rows.specs.Home.{AtHome}
+use Rattle.snap_rows.specs.Handles.{Handles}
+use Rattle.snap_rows.specs.Rules.{PortKeeps}
+use Rattle.snap_rows.specs.Steps.{Arrives}
+use Rattle.snap_rows.specs.Network.{Copy, Net, Inject, inject, injected, step, stepped, moved, happening, whole}
+use Rattle.snap_rows.proofs.Rows.{All-get, some_injective}
+use Rattle.snap_rows.proofs.Arrives.{arrives}
+use Rattle.snap_net.specs.declared.flying.Flying.{Flying}
+use Rattle.snap_net.specs.Shown.{Held, IsHeld, Shows, IsDone, Nothing, SameArrays, store_of, flown, moving, happened}
+use Rattle.snap_net.specs.Moves.{HasStepped, Changed, HasMoved, HasUpdated, flights, copies_in_flight, moved_of, with_frame, Frames, PlanAt, taken}
+use Rattle.snap_net.specs.declared.happened.Happened.TheVariants as shown
+use Rattle.snap_net.specs.declared.happened.Moved.{Moved}
+
+-- ---- stores
+pub more_empty : (xs : List Kept) (x : Kept) → ((w : ℕ) → store_of xs w ≡ zero_arrays) → arrays_of x ≡ zero_arrays → (w : ℕ) → store_of (xs ++ x ∷ []) w ≡ zero_arrays
+more_empty [] x all e zero = e
+more_empty [] x all e (suc w) = all w
+more_empty (y ∷ ys) x all e zero = all 0
+more_empty (y ∷ ys) x all e (suc w) = more_empty ys x (λ v. all (suc v)) e w
+
+-- ---- an injected copy
+record PortEntry (ps : List PortAt) (w : ℕ) : Type 0 where
+  pub place : ℕ
+  pub entry : PortAt
+  pub is : slice_get ps place ≡ Some entry
+  pub at : entry.at ≡ w
+
+port_entry : (ps : List PortAt) (p w : ℕ) → port_in ps p ≡ Some w → PortEntry ps w
+port_entry [] p w e = absurd (false≢true (subst (λ (o : Option ℕ). IsSome o) (sym e) refl))
+port_entry (q ∷ ps) p w e = by (q.port == p) e (port_entry ps p w)
+  where
+    by : (b : Bool) → (if b then Some q.at else port_in ps p) ≡ Some w → (port_in ps p ≡ Some w → PortEntry ps w) → PortEntry (q ∷ ps) w
+    by true h rest = record { place = 0; entry = q; is = refl; at = some_injective _ _ h }
+    by false h rest = let i = rest h in record { place = suc i.place; entry = i.entry; is = i.is; at = i.at }
+
+abbrev pub fresh : ℕ → ℕ → List ℕ → Flying
+fresh number w k = record { number = number; at = w; head = Walk 0; packet = k }
+
+abbrev pub with_fresh : Held → ℕ → List ℕ → Held
+with_fresh v w k = record v { injected = v.injected + 1; flying = v.flying ++ fresh v.injected w k ∷ [] }
+
+pub held_fresh : (v : Held) → IsHeld v → (p w : ℕ) (k : List ℕ) → port_at v.tables p ≡ Some w → length k ≡ comps v.tables → IsHeld (with_fresh v w k)
+held_fresh v held p w k at long =
+    let i = port_entry v.tables.ports p w at in
+    let place : w < switch_count v.tables = subst (λ w. w < switch_count v.tables) i.at (All-get (IsPortInForm v.tables) v.tables.ports i.place i.entry held.form.ports i.is).at in
+    let home : IsSome (row_at v.tables w 0) = subst (λ w. IsSome (row_at v.tables w 0)) i.at (subst (λ o. IfSome o (PortKeeps v.tables Missing)) i.is (held.valid Missing (spot.Port i.place))) in
+    let x = fresh v.injected w k in
+    record {
+      form = held.form;
+      valid = held.valid;
+      stores = held.stores;
+      places = All-push (λ (c : Flying). c.at < switch_count v.tables) v.flying x held.places place;
+      packets = All-push (λ (c : Flying). length c.packet ≡ comps v.tables) v.flying x held.packets long;
+      homes = All-push (λ (c : Flying). AtHome v.tables c.at c.head) v.flying x held.homes home;
+    }
+
+pub done_fresh : (v : Held) (p w : ℕ) (k : List ℕ) → port_at v.tables p ≡ Some w → slice_index k 0 ≡ p → IsDone v (Inject p k) (with_fresh v w k) Nothing
+done_fresh v p w k at first s shows =
+    let c : Copy = record { number = s.injected; at = w; head = Walk 0; packet = k; hops = 0; steps = 0 } in (
+      injected s w p k,
+      [],
+      inject at first,
+      record {
+        stores = shows.stores;
+        injected = ap (λ n. n + 1) shows.injected;
+        flying = map-append flown s.flying (c ∷ []) ∙ ap (λ l. l ++ flown c ∷ []) shows.flying ∙ ap (λ n. v.flying ++ fresh n w k ∷ []) shows.injected;
+      },
+      refl,
+    )
+
+-- ---- a step
+unmapped : (o : Option Copy) (c : Flying) → option_map flown o ≡ Some c → (x : Copy) × (o ≡ Some x) × (flown x ≡ c)
+unmapped None c e = absurd (false≢true (ap (λ (o : Option Flying). is_some o) e))
+unmapped (Some x) c e = (x, refl, some_injective _ _ e)
+
+moved_flights : (c : Copy) (copies : List Sent) → map flown (map (λ (x : Sent). record c { head = Out x.port; packet = x.packet; steps = c.steps + 1 }) copies) ≡ copies_in_flight c.number c.at copies
+moved_flights c [] = refl
+moved_flights c (x ∷ xs) = ap (λ l. record { number = c.number; at = c.at; head = Out x.port; packet = x.packet } ∷ l) (moved_flights c xs)
+
+flown_moved : (c : Copy) (a : Action) → map flown (moved c a) ≡ flights (flown c) a
+flown_moved c (Forward to head) = refl
+flown_moved c (Deliver port) = refl
+flown_moved c (Fork copies lost) = moved_flights c copies
+
+-- what a step leaves
+pub record Left (v new : Held) (k : ℕ) (c : Flying) (m : Arrays) (a : Action) : Type 0 where
+  pub is : slice_get v.flying k ≡ Some c
+  pub tables : new.tables ≡ v.tables
+  pub stores : Changed v.stores new.stores c.at m
+  pub injected : new.injected ≡ v.injected
+  pub flying : new.flying ≡ take k v.flying ++ (flights c a ++ drop (k + 1) v.flying)
+  pub handles : Handles v.tables c.at c.packet (store_of v.stores c.at) c.head m a
+
+stores_shown : (v new : Held) (s : Net) (c : Copy) (m : Arrays) → Shows v s → Changed v.stores new.stores c.at m → (w : ℕ) → (if w == c.at then m else s.stores w) ≡ store_of new.stores w
+stores_shown v new s c m shows changed w = by (w == c.at) refl
+  where
+    by : (b : Bool) → (w == c.at) ≡ b → (if b then m else s.stores w) ≡ store_of new.stores w
+    by true e = sym changed.here ∙ ap (store_of new.stores) (sym (eqb-true w c.at e))
+    by false e = shows.stores w ∙ sym (changed.others w (λ same. false≢true (sym e ∙ eq-eqb w c.at same)))
+
+left_copy : (v new : Held) (k : ℕ) (c : Copy) (m : Arrays) (a : Action) → Left v new k (flown c) m a → (s : Net) → Shows v s → slice_get s.flying k ≡ Some c → HasStepped v k a new s
+left_copy v new k c m a left s shows at = record {
+  state = stepped s k c m a;
+  copy = c;
+  is = left.is;
+  leads = step at (subst (λ m'. Handles v.tables c.at c.packet m' c.head m a) (sym (shows.stores c.at)) left.handles);
+  shows = record {
+    stores = stores_shown v new s c m shows left.stores;
+    injected = shows.injected ∙ sym left.injected;
+    flying =
+        map-append flown (take k s.flying) (moved c a ++ drop (k + 1) s.flying)
+        ∙ ap (λ l. map flown (take k s.flying) ++ l) (map-append flown (moved c a) (drop (k + 1) s.flying))
+        ∙ ap (λ l. map flown (take k s.flying) ++ (l ++ map flown (drop (k + 1) s.flying))) (flown_moved c a)
+        ∙ ap (λ l. l ++ (flights (flown c) a ++ map flown (drop (k + 1) s.flying))) (sym (take-map flown k s.flying))
+        ∙ ap (λ l. take k (map flown s.flying) ++ (flights (flown c) a ++ l)) (sym (drop-map flown (k + 1) s.flying))
+        ∙ ap (λ l. take k l ++ (flights (flown c) a ++ drop (k + 1) l)) shows.flying
+        ∙ sym left.flying;
+  };
+}
+
+pub has_stepped : (v new : Held) (k : ℕ) (c : Flying) (m : Arrays) (a : Action) → Left v new k c m a → (s : Net) → Shows v s → HasStepped v k a new s
+has_stepped v new k c m a left s shows =
+    let x = unmapped (slice_get s.flying k) c (sym (slice_get-map flown s.flying k) ∙ ap (λ l. slice_get l k) shows.flying ∙ left.is) in
+    left_copy v new k x.0 m a (subst (λ c. Left v new k c m a) (sym x.2) left) s shows x.1
+
+-- what becomes of a copy is in its place again
+flights_held : (t : Tables) (c : Flying) (a : Action) → c.at < switch_count t → length c.packet ≡ comps t → Arrives t c.packet a
+    → All (λ (x : Flying). x.at < switch_count t) (flights c a) × All (λ (x : Flying). length x.packet ≡ comps t) (flights c a) × All (λ (x : Flying). AtHome t x.at x.head) (flights c a)
+flights_held t c (Forward to head) below long arrives =
+    (one (λ (x : Flying). x.at < switch_count t) arrives.0, one (λ (x : Flying). length x.packet ≡ comps t) long, one (λ (x : Flying). AtHome t x.at x.head) arrives.1)
+  where
+    here : Flying
+    here = record c { at = to; head = head }
+
+    one : (P : Flying → Type 0) → P here → All P (here ∷ [])
+    one P h = All-cons P here [] h (All-nil P)
+flights_held t c (Deliver port) below long arrives = (All-nil (λ (x : Flying). x.at < switch_count t), All-nil (λ (x : Flying). length x.packet ≡ comps t), All-nil (λ (x : Flying). AtHome t x.at x.head))
+flights_held t c (Fork copies lost) below long arrives =
+    let f : Sent → Flying = λ (x : Sent). record { number = c.number; at = c.at; head = Out x.port; packet = x.packet } in (
+      All-map (λ (x : Flying). x.at < switch_count t) f copies (λ i d within. below),
+      All-map (λ (x : Flying). length x.packet ≡ comps t) f copies (λ i d within. (arrives i d within).long ∙ long),
+      All-map (λ (x : Flying). AtHome t x.at x.head) f copies (λ i d within. (arrives i d within).port),
+    )
+
+three : (P : Flying → Type 0) (k : ℕ) (fl xs : List Flying) → All P fl → All P xs → All P (take k fl ++ (xs ++ drop (k + 1) fl))
+three P k fl xs all some = All-append P (take k fl) (xs ++ drop (k + 1) fl) (All-take P k fl all) (All-append P xs (drop (k + 1) fl) some (All-drop P (k + 1) fl all))
+
+pub held_left : (v new : Held) (k : ℕ) (c : Flying) (m : Arrays) (a : Action) → IsHeld v → Left v new k c m a → IsHeld new
+held_left v new k c m a held left =
+    let t = v.tables in
+    let below : c.at < switch_count t = All-get (λ (c : Flying). c.at < switch_count t) v.flying k c held.places left.is in
+    let long : length c.packet ≡ comps t = All-get (λ (c : Flying). length c.packet ≡ comps t) v.flying k c held.packets left.is in
+    let home : AtHome t c.at c.head = All-get (λ (c : Flying). AtHome t c.at c.head) v.flying k c held.homes left.is in
+    let f = flights_held t c a below long (arrives t held.valid held.form c.at below c.packet (store_of v.stores c.at) c.head m a home left.handles) in
+    subst (λ t'. IsHeld (record new { tables = t' })) (sym left.tables)
+    (subst (λ fl. IsHeld (record new { tables = t; flying = fl })) (sym left.flying) (record {
+      form = held.form;
+      valid = held.valid;
+      stores = left.stores.count ∙ held.stores;
+      places = three (λ (x : Flying). x.at < switch_count t) k v.flying (flights c a) held.places f.0;
+      packets = three (λ (x : Flying). length x.packet ≡ comps t) k v.flying (flights c a) held.packets f.1;
+      homes = three (λ (x : Flying). AtHome t x.at x.head) k v.flying (flights c a) held.homes f.2;
+    }))
+
+-- what a plan that was carried out leaves
+pub carried : (v : Held) (k : ℕ) (c : Flying) (p : Plan) (stores : List Kept) (flying : List Flying) (moved : Moved) → slice_get v.flying k ≡ Some c → PlanAt v k p
+    → HasUpdated v.stores v.flying k p.ups stores → HasMoved v.flying k p.action flying moved
+    → Left v (record v { stores = stores; flying = flying }) k c (updates (store_of v.stores c.at) p.ups c.packet) p.action
+carried v k c p stores flying moved is plan updated moves = record {
+  is = is;
+  tables = refl;
+  injected = refl;
+  stores = updated c is;
+  flying = (moves c is).0;
+  handles = (plan c is).handles;
+}
+
+-- what a plan that was refused leaves
+pub held_same : (v : Held) (stores : List Kept) (flying : List Flying) → IsHeld v → flying ≡ v.flying → SameArrays v.stores stores → IsHeld (record v { stores = stores; flying = flying })
+held_same v stores flying held same arrays = subst (λ fl. IsHeld (record v { stores = stores; flying = fl })) (sym same) (record {
+  form = held.form;
+  valid = held.valid;
+  stores = arrays.count ∙ held.stores;
+  places = held.places;
+  packets = held.packets;
+  homes = held.homes;
+})
+
+-- ---- what is told
+pub moving_of : (c : Copy) (a : Action) → moved_of (flown c) a ≡ moving (happening c a)
+moving_of c (Forward to head) = refl
+moving_of c (Deliver port) = refl
+moving_of c (Fork copies lost) = refl
+
+pub framed_of : (c : Copy) (a : Action) (bytes : List ℕ) → Frames a c.packet bytes → with_frame (moved_of (flown c) a) bytes ≡ happened (happening c a)
+framed_of c (Forward to head) bytes e = ap (shown.Forwarded c.number c.at to) e
+framed_of c (Deliver port) bytes e = refl
+framed_of c (Fork copies lost) bytes e = refl
+
+-- ---- the whole store
+abbrev owned : Held → Place → ℕ
+owned v p = unwrap_or (option_map (λ w. store_of v.stores w p) (owner_of v.tables p.var)) 0
+
+below : (v : Held) (n : ℕ) (p : Place) → p.var < n → taken v n p ≡ owned v p
+below v n p low = ap (λ b. if b then owned v p else 0) (lt-ltb p.var n low)
+
+above : (v : Held) (n : ℕ) (p : Place) → n ≤ p.var → taken v n p ≡ 0
+above v n p high = ap (λ b. if b then owned v p else 0) (le-ltb p.var n high)
+
+pub taken_none : (v : Held) (p : Place) → taken v 0 p ≡ 0
+taken_none v p = above v 0 p (omega arith)
+
+pub taken_more : (v : Held) (n w : ℕ) (m m' other : Arrays) → owner_of v.tables n ≡ Some w → other ≡ store_of v.stores w → ((p : Place) → m p ≡ taken v n p)
+    → ((p : Place) → m' p ≡ (if n == p.var then other p else m p)) → (p : Place) → m' p ≡ taken v (n + 1) p
+taken_more v n w m m' other owner same before after p = after p ∙ by (n == p.var) refl
+  where
+    by : (b : Bool) → (n == p.var) ≡ b → (if b then other p else m p) ≡ taken v (n + 1) p
+    by true e =
+        let is : n ≡ p.var = eqb-true n p.var e in
+        ap (λ (m : Arrays). m p) same
+        ∙ ap (λ (o : Option ℕ). unwrap_or (option_map (λ w. store_of v.stores w p) o) 0) (sym owner ∙ ap (owner_of v.tables) is)
+        ∙ sym (below v (n + 1) p (omega (arith, is)))
+    by false e = before p ∙ ⊎_elim
+        (λ low. below v n p low ∙ sym (below v (n + 1) p (let h : p.var < n = low in omega (arith, h))))
+        (λ high. above v n p high ∙ sym (above v (n + 1) p (let h : n ≤ p.var = high in let other : n ≢ p.var = λ is. false≢true (sym e ∙ eq-eqb n p.var is) in omega (arith, h, other))))
+        (cases_lt p.var n)
+
+whole_of : (v : Held) (s : Net) (p : Place) → Shows v s → owned v p ≡ whole v.tables s p
+whole_of v s p shows = by (owner_of v.tables p.var)
+  where
+    by : (o : Option ℕ) → unwrap_or (option_map (λ w. store_of v.stores w p) o) 0 ≡ unwrap_or (option_map (λ w. s.stores w p) o) 0
+    by None = refl
+    by (Some w) = ap (λ (m : Arrays). m p) (sym (shows.stores w))
+
+pub taken_all : (v : Held) (s : Net) (p : Place) → Shows v s → taken v (array_count v.tables) p ≡ whole v.tables s p
+taken_all v s p shows = ⊎_elim
+    (λ low. below v (array_count v.tables) p low ∙ whole_of v s p shows)
+    (λ high. above v (array_count v.tables) p high ∙ sym (ap (λ (o : Option ℕ). unwrap_or (option_map (λ w. s.stores w p) o) 0) (ap (option_map (λ (a : ArrayAt). a.at)) (slice_get_past v.tables.arrays p.var high))))
+    (cases_lt p.var (array_count v.tables))

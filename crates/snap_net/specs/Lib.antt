@@ -1,0 +1,5 @@
+pub mod Flights
+pub mod Spots
+pub mod Shown
+pub mod Moves
+pub mod Laws

@@ -1,0 +1,83 @@
+-- A network of the program as a state of the network, whose counts of hops and steps it doesn't keep.
+use Rattle.std.specs.Prelude.{◌≡◌, ℕ, ◌<◌, List, [], ◌∷◌, map, length, get_or}
+use Rattle.std.specs.List.{All}
+use Rattle.snap_core.specs.Arrays.{Arrays}
+use Rattle.snap_core.specs.Cells.{Kept, arrays_of}
+use Rattle.snap_rows.specs.declared.tables.Tables.{Tables}
+use Rattle.snap_rows.specs.Form.{IsInForm, comps, switch_count}
+use Rattle.snap_rows.specs.Home.{AtHome}
+use Rattle.snap_rows.specs.Rules.{IsValid}
+use Rattle.snap_rows.specs.Network.{Copy, Net, Happening, Crossed, Delivered, Forked, Event, Leads}
+use Rattle.snap_head.specs.Frames.{frame}
+use Rattle.snap_net.specs.declared.flying.Flying.{Flying}
+use Rattle.snap_net.specs.declared.happened.Happened.{Happened}
+use Rattle.snap_net.specs.declared.happened.Happened.TheVariants as shown
+use Rattle.snap_net.specs.declared.happened.Moved.{Moved}
+use Rattle.snap_net.specs.declared.happened.Moved.TheVariants as bare
+
+-- what a network of the program holds
+pub record Held : Type 0 where
+  pub tables : Tables
+  pub stores : List Kept
+  pub injected : ℕ
+  pub flying : List Flying
+
+-- the tables are valid, and each copy is at home at a switch of theirs
+pub record IsHeld (v : Held) : Type 0 where
+  pub form : IsInForm v.tables
+  pub valid : IsValid v.tables
+  pub stores : length v.stores ≡ switch_count v.tables
+  pub places : All (λ (c : Flying). c.at < switch_count v.tables) v.flying
+  pub packets : All (λ (c : Flying). length c.packet ≡ comps v.tables) v.flying
+  pub homes : All (λ (c : Flying). AtHome v.tables c.at c.head) v.flying
+
+-- the arrays of a switch
+abbrev pub store_of : List Kept → ℕ → Arrays
+store_of stores w = arrays_of (get_or stores w [])
+
+-- a copy without its counts
+abbrev pub flown : Copy → Flying
+flown c = record { number = c.number; at = c.at; head = c.head; packet = c.packet }
+
+-- the network shows this state
+pub record Shows (v : Held) (s : Net) : Type 0 where
+  pub stores : (w : ℕ) → s.stores w ≡ store_of v.stores w
+  pub injected : s.injected ≡ v.injected
+  pub flying : map flown s.flying ≡ v.flying
+
+-- from each state that was shown the event leads to one that is shown now, with happenings of which this holds
+abbrev pub IsDone : Held → Event → Held → (List Happening → Type 0) → Type 0
+IsDone old e new told = (s : Net) → Shows old s → (s' : Net) × (hs : List Happening) × Leads old.tables s e s' hs × Shows new s' × told hs
+
+abbrev pub Nothing : List Happening → Type 0
+Nothing hs = hs ≡ []
+
+-- what is told of a happening
+abbrev pub happened : Happening → Happened
+happened (Crossed c to head) = shown.Forwarded c.number c.at to (frame head c.packet)
+happened (Delivered c port) = shown.Delivered c.number port c.packet
+happened (Forked c copies lost) = shown.Forked c.number copies lost
+
+abbrev pub Tells : Happened → List Happening → Type 0
+Tells h hs = (x : Happening) × (hs ≡ x ∷ []) × (h ≡ happened x)
+
+-- the same without the frame
+abbrev pub moving : Happening → Moved
+moving (Crossed c to head) = bare.Forwarded c.number c.at to
+moving (Delivered c port) = bare.Delivered c.number port c.packet
+moving (Forked c copies lost) = bare.Forked c.number copies lost
+
+abbrev pub TellsMoved : Moved → List Happening → Type 0
+TellsMoved h hs = (x : Happening) × (hs ≡ x ∷ []) × (h ≡ moving x)
+
+-- at each switch the same number at each place
+pub record SameArrays (old new : List Kept) : Type 0 where
+  pub count : length new ≡ length old
+  pub arrays : (w : ℕ) → store_of new w ≡ store_of old w
+
+-- the same network, but for room
+pub record Same (a b : Held) : Type 0 where
+  pub tables : b.tables ≡ a.tables
+  pub stores : SameArrays a.stores b.stores
+  pub injected : b.injected ≡ a.injected
+  pub flying : b.flying ≡ a.flying

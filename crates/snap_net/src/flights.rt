@@ -1,0 +1,231 @@
+//! The list of copies in flight, in blocks: its edits cost about the square root of its length.
+
+ghost use Rattle.std.specs.Prelude.{◌≡◌, ◌<◌, ◌≤◌, ◌+◌, [], ◌∷◌, ◌++◌, Some, IfOk, OnOk, OnErr, length, slice_get};
+ghost use Rattle.snap_net.specs.declared.flying.Flying.{Flying};
+ghost use Rattle.snap_net.specs.Flights.{joined, spliced};
+ghost use Rattle.snap_net.specs.Spots.{IsSpot, number_at};
+
+use crate::block::Block;
+use crate::flying::Flying;
+use snap_core::NoMemory;
+use snap_rows::head::Head;
+use std::alloc::Global;
+use std::marker::Model;
+
+// A block with so many copies is split before one is put behind another.
+const MOST: usize = 1024;
+
+/// Copies in flight, seen as a list.
+#[derive(Drop)]
+pub(crate) struct Flights {
+    alloc: Global,
+    count: usize,
+    blocks: Vec<Block>,
+}
+
+impl Model for Flights {
+    ghost use Rattle.std.specs.Prelude.{◌≡◌, List, length};
+    ghost use Rattle.snap_net.specs.declared.flying.Flying.{Flying};
+
+    ghost Value = { List Flying };
+
+    ghost use Rattle.snap_net.specs.Flights.{joined};
+
+    ghost view = { λ a. joined a.blocks.items };
+
+    ghost invariant = { λ a. a.count ≡ length (joined a.blocks.items) };
+}
+
+// A place in a block.
+#[derive(Clone, Copy, Debug)]
+struct Spot {
+    block: usize,
+    place: usize,
+}
+
+// Where a copy of the list is.
+fn spot_of(blocks: &[Block], k: usize) -> Spot
+    requires { k < length (joined blocks.now) }
+    ensures { IsSpot blocks.now k result }
+{
+    let mut place = k;
+    for i in 0..blocks.len() {
+        let count = blocks[i].count();
+        if place < count {
+            return Spot { block: i, place };
+        }
+        place -= count;
+    }
+    unreachable!()
+}
+
+// The copy at a spot.
+fn copy_at(blocks: &[Block], spot: Spot) -> &Flying
+    requires { IsSpot blocks.now (number_at blocks.now spot) spot }
+    ensures { slice_get (joined blocks.now) (number_at blocks.now spot) ≡ Some result.now }
+{
+    blocks[spot.block].get(spot.place)
+}
+
+// Moves the second half of a block into a block behind it.
+fn split(blocks: &mut Vec<Block>, i: usize) -> Result<(), NoMemory>
+    requires { i < length blocks.old.items }
+    ensures { joined blocks.new.items ≡ joined blocks.old.items }
+{
+    blocks.reserve(1)?;
+    let half = blocks[i].split()?;
+    blocks.insert(i + 1, half).unwrap();
+    Ok(())
+}
+
+// Where a copy of the list is, in a block that has room for another.
+fn roomy_spot(blocks: &mut Vec<Block>, k: usize) -> Result<Spot, NoMemory>
+    requires { k < length (joined blocks.old.items) }
+    ensures same { joined blocks.new.items ≡ joined blocks.old.items }
+    ensures spot { IfOk result (IsSpot blocks.new.items k) }
+{
+    let spot = spot_of(blocks, k);
+    if blocks[spot.block].count() < MOST {
+        return Ok(spot);
+    }
+    split(blocks, spot.block)?;
+    Ok(spot_of(blocks, k))
+}
+
+// Puts a copy behind the one at a spot.
+fn insert_at(blocks: &mut Vec<Block>, spot: Spot, copy: Flying) -> Result<(), NoMemory>
+    requires { IsSpot blocks.old.items (number_at blocks.old.items spot) spot }
+    ensures ok { OnOk result (joined blocks.new.items ≡ spliced (joined blocks.old.items) (number_at blocks.old.items spot + 1) 0 (copy ∷ [])) }
+    ensures err { OnErr result (joined blocks.new.items ≡ joined blocks.old.items) }
+{
+    blocks[spot.block].insert_behind(spot.place, copy)
+}
+
+// Sends the copy at a spot to a switch.
+fn send_at(blocks: &mut Vec<Block>, spot: Spot, to: u16, head: Head)
+    requires { IsSpot blocks.old.items (number_at blocks.old.items spot) spot }
+    ensures { (c : Flying) → slice_get (joined blocks.old.items) (number_at blocks.old.items spot) ≡ Some c → joined blocks.new.items ≡ spliced (joined blocks.old.items) (number_at blocks.old.items spot) 1 (record c { at = to; head = head } ∷ []) }
+{
+    blocks[spot.block].send(spot.place, to, head);
+}
+
+// Takes out the copy at a spot.
+fn remove_at(blocks: &mut Vec<Block>, spot: Spot) -> Flying
+    requires { IsSpot blocks.old.items (number_at blocks.old.items spot) spot }
+    ensures copy { slice_get (joined blocks.old.items) (number_at blocks.old.items spot) ≡ Some result }
+    ensures left { joined blocks.new.items ≡ spliced (joined blocks.old.items) (number_at blocks.old.items spot) 1 [] }
+{
+    let gone = blocks[spot.block].remove(spot.place);
+    drop_empty(blocks, spot.block);
+    gone
+}
+
+// Drops a block that is empty, if it isn't the only one.
+fn drop_empty(blocks: &mut Vec<Block>, i: usize)
+    requires { i < length blocks.old.items }
+    ensures { joined blocks.new.items ≡ joined blocks.old.items }
+{
+    if blocks[i].count() == 0 && blocks.len() > 1 {
+        blocks.remove(i);
+    }
+}
+
+// Puts a copy at the end of the last block, or into a block of its own.
+fn push_at_end(alloc: Global, blocks: &mut Vec<Block>, copy: Flying) -> Result<(), NoMemory>
+    ensures ok { OnOk result (joined blocks.new.items ≡ joined blocks.old.items ++ copy ∷ []) }
+    ensures err { OnErr result (joined blocks.new.items ≡ joined blocks.old.items) }
+{
+    if let Some(last) = blocks.last_mut() {
+        if last.count() < MOST {
+            return last.push(copy);
+        }
+    }
+    let mut block = Block::new(alloc);
+    block.push(copy)?;
+    blocks.push(block)?;
+    Ok(())
+}
+
+impl Flights {
+    /// No copies. Takes no memory.
+    pub(crate) fn new(alloc: Global) -> Flights
+        ensures { result ≡ [] }
+    {
+        Flights {
+            alloc,
+            count: 0,
+            blocks: Vec::new(alloc),
+        }
+    }
+
+    /// How many copies there are. Takes no memory.
+    pub(crate) fn count(&self) -> usize
+        ensures { result ≡ length self.now }
+    {
+        self.count
+    }
+
+    /// The copy of this number in the list, counted from 0. Takes no memory.
+    pub(crate) fn get(&self, k: usize) -> &Flying
+        requires { k < length self.now }
+        ensures { slice_get self.now k ≡ Some result.now }
+    {
+        let spot = spot_of(&self.blocks, k);
+        copy_at(&self.blocks, spot)
+    }
+
+    /// Puts a copy at the end of the list.
+    pub(crate) fn push(&mut self, copy: Flying) -> Result<(), NoMemory>
+        ensures ok { OnOk result (self.new ≡ self.old ++ copy ∷ []) }
+        ensures err { OnErr result (self.new ≡ self.old) }
+    {
+        let count = self.count.checked_add(1).ok_or(NoMemory)?;
+        push_at_end(self.alloc, &mut self.blocks, copy)?;
+        self.count = count;
+        Ok(())
+    }
+
+    /// Puts a copy right behind copy k.
+    pub(crate) fn insert_behind(&mut self, k: usize, copy: Flying) -> Result<(), NoMemory>
+        requires { k < length self.old }
+        ensures ok { OnOk result (self.new ≡ spliced self.old (k + 1) 0 (copy ∷ [])) }
+        ensures err { OnErr result (self.new ≡ self.old) }
+    {
+        let count = self.count.checked_add(1).ok_or(NoMemory)?;
+        let spot = roomy_spot(&mut self.blocks, k)?;
+        insert_at(&mut self.blocks, spot, copy)?;
+        self.count = count;
+        Ok(())
+    }
+
+    /// Sends copy k to a switch, with a head. Takes no memory.
+    pub(crate) fn send(&mut self, k: usize, to: u16, head: Head)
+        requires { k < length self.old }
+        ensures { (c : Flying) → slice_get self.old k ≡ Some c → self.new ≡ spliced self.old k 1 (record c { at = to; head = head } ∷ []) }
+    {
+        let spot = spot_of(&self.blocks, k);
+        send_at(&mut self.blocks, spot, to, head);
+    }
+
+    /// Takes copy k out of the list. Takes no memory.
+    pub(crate) fn remove(&mut self, k: usize) -> Flying
+        requires { k < length self.old }
+        ensures copy { slice_get self.old k ≡ Some result }
+        ensures left { self.new ≡ spliced self.old k 1 [] }
+    {
+        let spot = spot_of(&self.blocks, k);
+        let gone = remove_at(&mut self.blocks, spot);
+        self.count -= 1;
+        gone
+    }
+
+    /// Takes so many copies out of the list, from a place on. Takes no memory.
+    pub(crate) fn cut(&mut self, from: usize, count: usize)
+        requires { from + count ≤ length self.old }
+        ensures { self.new ≡ spliced self.old from count [] }
+    {
+        for i in 0..count {
+            self.remove(from);
+        }
+    }
+}

@@ -1,0 +1,10 @@
+//! The network: the stores of the switches, and copies of packets in flight.
+#![tactic(auto)]
+
+mod block;
+mod flights;
+pub mod flying;
+pub mod happened;
+pub mod laws;
+mod moves;
+pub mod net;

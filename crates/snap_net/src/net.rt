@@ -1,0 +1,256 @@
+//! The network.
+
+ghost use Rattle.std.specs.Prelude.{◌≡◌, ◌≢◌, ◌≤◌, ◌<◌, ◌+◌, ◌^◌, None, ℕ, IfOk, IfErr, OnOk, OnErr, IsSome, length, slice_index};
+ghost use Rattle.snap_core.specs.declared.place.Place.{Place};
+ghost use Rattle.snap_core.specs.Arrays.{zero_arrays};
+ghost use Rattle.snap_core.specs.Cells.{arrays_of};
+ghost use Rattle.snap_core.specs.Listing.{IsListing};
+ghost use Rattle.snap_rows.specs.Entries.{port_at};
+ghost use Rattle.snap_rows.specs.Form.{comps, array_count};
+ghost use Rattle.snap_rows.specs.Network.{Net as State, start, whole, Inject, Step};
+ghost use Rattle.snap_net.specs.Shown.{IsHeld, Shows, IsDone, Nothing, Tells, TellsMoved, Same, store_of};
+ghost use Rattle.snap_net.specs.Moves.{HasStepped, HasMoved, PlanAt};
+ghost use Rattle.snap_net.specs.declared.net.InjectFault.{InjectFault};
+ghost use Rattle.snap_net.specs.declared.net.StepFault.{StepFault};
+
+use crate::flights::Flights;
+use crate::flying::Flying;
+use crate::happened::{Happened, Moved};
+use crate::moves::{carry_out, frame_of, framed};
+use snap_core::NoMemory;
+use snap_core::packet::Packet;
+use snap_core::place::Entry;
+use snap_core::store::Store;
+use snap_rows::head::Head;
+use snap_rows::plan::{Plan, plan_step};
+use snap_rows::valid::Valid;
+use std::alloc::Global;
+use std::marker::Model;
+
+/// Why nothing is injected.
+#[derive(Clone, Copy, Debug, PartialEq, Eq)]
+pub enum InjectFault {
+    /// The tables have no such port.
+    NoPort,
+    NoMemory,
+}
+
+/// Why no step is made.
+#[derive(Clone, Copy, Debug, PartialEq, Eq)]
+pub enum StepFault {
+    /// So many copies aren't in flight.
+    NoCopy,
+    NoMemory,
+}
+
+/// Tables with the stores of their switches and the copies in flight: a state of the network, seen without the counts
+/// of hops and steps that each copy has made.
+#[derive(Drop)]
+pub struct Net {
+    alloc: Global,
+    tables: Valid,
+    stores: Vec<Store>,
+    injected: u64,
+    flying: Flights,
+}
+
+impl Model for Net {
+    ghost use Rattle.snap_net.specs.Shown.{Held, IsHeld};
+
+    ghost Value = { Held };
+
+    ghost view = { λ a. record { tables = a.tables; stores = a.stores.items; injected = a.injected; flying = a.flying } };
+
+    ghost invariant = { λ a. IsHeld (record { tables = a.tables; stores = a.stores.items; injected = a.injected; flying = a.flying }) };
+}
+
+impl From<NoMemory> for InjectFault {
+    ghost use Rattle.snap_net.specs.declared.net.InjectFault.TheVariants.{NoMemory as Wanting};
+
+    ghost from_gives = { λ _ fault. fault ≡ Wanting };
+
+    fn from(_: NoMemory) -> InjectFault {
+        InjectFault::NoMemory
+    }
+}
+
+impl From<NoMemory> for StepFault {
+    ghost use Rattle.snap_net.specs.declared.net.StepFault.TheVariants.{NoMemory as Wanting};
+
+    ghost from_gives = { λ _ fault. fault ≡ Wanting };
+
+    fn from(_: NoMemory) -> StepFault {
+        StepFault::NoMemory
+    }
+}
+
+/// A network with empty stores and nothing in flight.
+pub fn open_net(alloc: Global, tables: Valid) -> Result<Net, NoMemory>
+    ensures tables { IfOk result (λ net. net.tables ≡ tables) }
+    ensures injected { IfOk result (λ net. net.injected ≡ 0) }
+    ensures start { IfOk result (λ net. Shows net (start tables zero_arrays)) }
+{
+    let stores = empty_stores(alloc, tables.tables().switches.items().len())?;
+    Ok(Net {
+        alloc,
+        tables,
+        stores,
+        injected: 0,
+        flying: Flights::new(alloc),
+    })
+}
+
+// So many empty stores.
+fn empty_stores(alloc: Global, count: usize) -> Result<Vec<Store>, NoMemory>
+    ensures count { IfOk result (λ stores. length stores.items ≡ count) }
+    ensures empty { IfOk result (λ stores. (w : ℕ) → store_of stores.items w ≡ zero_arrays) }
+{
+    let mut stores = Vec::with_capacity(alloc, count)?;
+    for i in 0..count {
+        stores.push(Store::new(alloc))?;
+    }
+    Ok(stores)
+}
+
+impl Net {
+    /// Lends the tables. Takes no memory.
+    pub fn tables(&self) -> &Valid
+        ensures tables { result.now ≡ self.now.tables }
+        ensures held { IsHeld self.now }
+    {
+        &self.tables
+    }
+
+    /// The number of copies in flight. Takes no memory.
+    pub fn flying(&self) -> usize
+        ensures shown { (s : State) → Shows self.now s → result ≡ length s.flying }
+        ensures held { result ≡ length self.now.flying }
+    {
+        self.flying.count()
+    }
+
+    /// Adds a copy of a packet, whose `inport` is the port, at that port's switch, and answers the packet's number,
+    /// counted from 0. `NoPort` where the tables have no such port. A refusal leaves the network as it was.
+    pub fn inject(&mut self, port: u32, packet: Packet) -> Result<u64, InjectFault>
+        requires packet { length packet ≡ comps self.old.tables }
+        requires port { slice_index packet 0 ≡ port }
+        requires room { self.old.injected + 1 < 2 ^ 64 }
+        ensures done { IfOk result (λ number. (number ≡ self.old.injected) × IsDone self.old (Inject port packet) self.new Nothing) }
+        ensures tables { self.new.tables ≡ self.old.tables }
+        ensures count { OnOk result (self.new.injected ≡ self.old.injected + 1) }
+        ensures no_port { IfErr result (λ fault. fault ≢ InjectFault.NoMemory → port_at self.old.tables port ≡ None) }
+        ensures has_port { IfOk result (λ _. IsSome (port_at self.old.tables port)) }
+        ensures refused { OnErr result (self.new ≡ self.old) }
+    {
+        let at = match self.tables.port_at(port as u64) {
+            Some(at) => at,
+            None => return Err(InjectFault::NoPort),
+        };
+        let number = self.injected;
+        self.flying.push(Flying {
+            number,
+            at,
+            head: Head::Walk { node: 0 },
+            packet,
+        })?;
+        self.injected = number + 1;
+        Ok(number)
+    }
+
+    // What the step of a copy does.
+    fn plan(&self, k: usize) -> Result<Plan, NoMemory>
+        requires { k < length self.now.flying }
+        ensures { IfOk result (PlanAt self.now k) }
+    {
+        let copy = self.flying.get(k);
+        let store = &self.stores[copy.at as usize];
+        plan_step(
+            self.alloc,
+            &self.tables,
+            copy.at,
+            store,
+            &copy.packet,
+            copy.head,
+        )
+    }
+
+    // Does a plan, all or nothing.
+    fn finish(&mut self, k: usize, plan: Plan) -> Result<Moved, NoMemory>
+        requires k { k < length self.old.flying }
+        requires plan { PlanAt self.old k plan }
+        ensures stepped { OnOk result ((s : State) → Shows self.old s → HasStepped self.old k plan.action self.new s) }
+        ensures moved { IfOk result (HasMoved self.old.flying k plan.action self.new.flying) }
+        ensures tables { self.new.tables ≡ self.old.tables }
+        ensures injected { self.new.injected ≡ self.old.injected }
+        ensures refused { OnErr result (Same self.old self.new) }
+    {
+        let moved = carry_out(&mut self.stores, &mut self.flying, k, plan)?;
+        Ok(moved)
+    }
+
+    /// Makes a step of copy k, counted from 0, without a frame. `NoCopy` where there is no such copy. A refusal leaves
+    /// the network as it was, but for room that its stores took.
+    pub fn advance(&mut self, k: usize) -> Result<Moved, StepFault>
+        ensures done { IfOk result (λ moved. IsDone self.old (Step k) self.new (TellsMoved moved)) }
+        ensures tables { self.new.tables ≡ self.old.tables }
+        ensures injected { self.new.injected ≡ self.old.injected }
+        ensures copy { IfErr result (λ fault. fault ≡ StepFault.NoCopy → length self.old.flying ≤ k) }
+        ensures has_copy { length self.old.flying ≤ k → IfErr result (λ fault. fault ≡ StepFault.NoCopy) }
+        ensures refused { OnErr result (Same self.old self.new) }
+    {
+        if k >= self.flying.count() {
+            return Err(StepFault::NoCopy);
+        }
+        let plan = self.plan(k)?;
+        let moved = self.finish(k, plan)?;
+        Ok(moved)
+    }
+
+    /// The same with the frame that crosses a link.
+    pub fn step(&mut self, k: usize) -> Result<Happened, StepFault>
+        ensures done { IfOk result (λ happened. IsDone self.old (Step k) self.new (Tells happened)) }
+        ensures tables { self.new.tables ≡ self.old.tables }
+        ensures injected { self.new.injected ≡ self.old.injected }
+        ensures copy { IfErr result (λ fault. fault ≡ StepFault.NoCopy → length self.old.flying ≤ k) }
+        ensures has_copy { length self.old.flying ≤ k → IfErr result (λ fault. fault ≡ StepFault.NoCopy) }
+        ensures refused { OnErr result (Same self.old self.new) }
+    {
+        if k >= self.flying.count() {
+            return Err(StepFault::NoCopy);
+        }
+        let plan = self.plan(k)?;
+        let frame = frame_of(self.alloc, &plan.action, &self.flying.get(k).packet)?;
+        let moved = self.finish(k, plan)?;
+        Ok(framed(moved, frame))
+    }
+
+    /// The number at a place of the whole store: each array is taken at its switch. Takes no memory.
+    pub fn array(&self, var: u16, index: &[u64]) -> u64
+        requires { var < array_count self.now.tables }
+        ensures { (s : State) → Shows self.now s → result ≡ whole self.now.tables s (record { var = var; index = index.now }) }
+    {
+        let at = self.tables.owner_of(var);
+        self.stores[at as usize].get(var, index)
+    }
+
+    // A store that has each array as its switch has it.
+    fn whole(&self) -> Result<Store, NoMemory>
+        ensures { IfOk result (λ all. (s : State) → Shows self.now s → (p : Place) → arrays_of all p ≡ whole self.now.tables s p) }
+    {
+        let mut all = Store::new(self.alloc);
+        let count = self.tables.tables().arrays.items().len();
+        for var in 0..count as u16 {
+            let at = self.tables.owner_of(var);
+            all.copy_array(&self.stores[at as usize], var)?;
+        }
+        Ok(all)
+    }
+
+    /// The places of the whole store that don't hold 0, rising by variable and then by index, with their numbers.
+    pub fn entries(&self) -> Result<Vec<Entry>, NoMemory>
+        ensures { IfOk result (λ entries. (s : State) → Shows self.now s → IsListing (whole self.now.tables s) entries.items) }
+    {
+        let whole = self.whole()?;
+        whole.entries()
+    }
+}
