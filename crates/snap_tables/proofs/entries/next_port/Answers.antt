@@ -1,0 +1,10 @@
+use Rattle.std.proofs.Common.{sym, ◌∙◌, arith}
+use Rattle.snap_tables.specs.Drafts.{tables_of}
+use Rattle.snap_tables.proofs.NextLemmas.{port-none, port-some}
+use Rattle.snap_tables.proofs.entries.next_port.Goals as goal
+
+pub returns-in-None : goal.returns-in-None
+returns-in-None c = port-none (tables_of c.args.draft.now) c.args.line.now (omega (arith, c.requires.few_switches)) (sym c.port_of.ensures ∙ c.in-None.is)
+
+pub returns-in-Some : goal.returns-in-Some
+returns-in-Some c = port-some (tables_of c.args.draft.now) c.args.line.now (omega (arith, c.requires.few_switches)) c.in-Some.port (sym c.port_of.ensures ∙ c.in-Some.is)

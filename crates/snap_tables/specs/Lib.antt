@@ -1,0 +1,10 @@
+pub mod Text
+pub mod Print
+pub mod Joins
+pub mod Reading
+pub mod Laws
+pub mod Pieces
+pub mod Rows
+pub mod Entries
+pub mod Lines
+pub mod Drafts

@@ -1,0 +1,19 @@
+//! Entries of tables.
+
+use snap_core::lists::Name;
+use snap_core::ports::PortAt;
+use snap_core::program::Field;
+use snap_rows::tables::{ArrayAt, Hop, RowAt};
+
+/// An entry of tables, which has a line of their text. The names of arrays and switches stand for themselves; a link
+/// joins two switches, the lesser one first.
+#[derive(Debug, Drop)]
+pub enum Item {
+    Field(Field),
+    Switch(Name),
+    Array(ArrayAt),
+    Link((u16, u16)),
+    Port(PortAt),
+    Hop(Hop),
+    Row(RowAt),
+}

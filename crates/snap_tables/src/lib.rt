@@ -1,0 +1,23 @@
+//! The text of tables, written and read.
+#![tactic(auto)]
+
+mod draft;
+mod entries;
+pub mod fault;
+pub mod item;
+pub mod laws;
+mod leaf;
+mod line;
+mod named;
+mod piece;
+mod pieces;
+mod places;
+pub mod print;
+pub mod read;
+mod reader;
+mod row;
+mod rows;
+mod taken;
+#[cfg(test)]
+mod tests;
+mod words;

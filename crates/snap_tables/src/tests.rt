@@ -1,0 +1,227 @@
+use crate::fault::TablesFault;
+use crate::print::{print, print_tables};
+use crate::read::read;
+use snap_core::NoMemory;
+use snap_core::lists::{Atoms, Name, Names, Out};
+use snap_core::policy::{Atom, Op, Term, Test, Update};
+use snap_core::ports::{Links, PortAt, Ports};
+use snap_core::program::{Field, Fields};
+use snap_io::MemorySink;
+use snap_rows::lists::{ArraysAt, Hops, Outs, Rows, Stages, Updates};
+use snap_rows::tables::{ArrayAt, Hop, Row, RowAt, Stage, Tables};
+use std::alloc::Global;
+use std::test::Fail;
+
+fn name(alloc: Global, text: &str) -> Result<Name, NoMemory> {
+    Ok(Name::new(Vec::from_slice(alloc, text.as_bytes())?))
+}
+
+fn field(alloc: Global, text: &str) -> Result<Field, NoMemory> {
+    Ok(Field {
+        name: name(alloc, text)?,
+        prefix: None,
+    })
+}
+
+fn outs(alloc: Global, port: u64) -> Result<Outs, NoMemory> {
+    let out = Out::new(vec![in alloc; (1u16, Atom::Num(port))]?);
+    Ok(Outs::new(vec![in alloc; out]?))
+}
+
+fn first_place(alloc: Global) -> Result<Atoms, NoMemory> {
+    Ok(Atoms::new(vec![in alloc; Atom::Num(0)]?))
+}
+
+fn ups(alloc: Global, var: u16, op: Op) -> Result<Updates, NoMemory> {
+    let update = Update {
+        var,
+        index: first_place(alloc)?,
+        op,
+    };
+    Ok(Updates::new(vec![in alloc; update]?))
+}
+
+fn state(alloc: Global, var: u16, yes: u64, no: u64) -> Result<Row, NoMemory> {
+    let test = Test::State {
+        var,
+        index: first_place(alloc)?,
+        value: Term::Num(0),
+    };
+    Ok(Row::State { test, yes, no })
+}
+
+// Two switches with a link and a port each, and these arrays, hops and rows.
+fn two_switches(
+    alloc: Global,
+    version: u8,
+    arrays: Vec<ArrayAt>,
+    next: u16,
+    rows: Vec<RowAt>,
+) -> Result<Tables, NoMemory> {
+    let fields = Fields::new(
+        alloc,
+        vec![in alloc; field(alloc, "inport")?, field(alloc, "outport")?]?,
+    )?;
+    Ok(Tables {
+        version,
+        fields,
+        switches: Names::new(vec![in alloc; name(alloc, "a")?, name(alloc, "b")?]?),
+        arrays: ArraysAt::new(arrays),
+        links: Links::new(vec![in alloc; (0u16, 1u16)]?),
+        ports: Ports::new(vec![in alloc; PortAt { port: 1, at: 0 }, PortAt { port: 2, at: 1 }]?),
+        hops: Hops::new(vec![in alloc;
+            Hop {
+                from: 0,
+                target: 1,
+                next
+            },
+            Hop {
+                from: 1,
+                target: 0,
+                next: 0
+            },
+        ]?),
+        rows: Rows::new(rows),
+    })
+}
+
+// First come: the first packet goes to port 1, later ones to port 2.
+fn first_come(alloc: Global) -> Result<Tables, NoMemory> {
+    let array = ArrayAt {
+        name: name(alloc, "s")?,
+        at: 1,
+        rank: 0,
+    };
+    let stage = Stage {
+        at: 1,
+        ups: ups(alloc, 0, Op::Put(Atom::Num(1)))?,
+    };
+    let mut rows = Vec::new(alloc);
+    rows.push(RowAt {
+        at: 0,
+        number: 0,
+        row: Row::Go { to: 1 },
+    })?;
+    rows.push(RowAt {
+        at: 1,
+        number: 0,
+        row: state(alloc, 0, 1, 2)?,
+    })?;
+    rows.push(RowAt {
+        at: 1,
+        number: 1,
+        row: Row::Leaf {
+            stages: Stages::new(vec![in alloc; stage]?),
+            outs: outs(alloc, 1)?,
+        },
+    })?;
+    rows.push(RowAt {
+        at: 1,
+        number: 2,
+        row: Row::Leaf {
+            stages: Stages::new(Vec::new(alloc)),
+            outs: outs(alloc, 2)?,
+        },
+    })?;
+    two_switches(alloc, 1, vec![in alloc; array]?, 1, rows)
+}
+
+const FIRST_COME: &[u8] =
+    b"snap-tables 1\nfield inport\nfield outport\nswitch a\nswitch b\narray s 1\nlink 0 1\nport 1 0\nport 2 1\nhop 0 1 1\nhop 1 0 0\nrow 0 0 go 1\nrow 1 0 state 0 [#0] #0 1 2\nrow 1 1 leaf at 1 put 0 [#0] #1 out c1=#1\nrow 1 2 leaf out c1=#2\nend\n";
+
+#[test]
+fn first_come_is_printed(rt: HostRuntime) -> Result<(), Fail> {
+    let alloc = rt.alloc();
+    let tables = first_come(alloc)?;
+    let mut sink = MemorySink::new(alloc, 4096, 1, Vec::new(alloc))?;
+    assert!(rt; print_tables(alloc, &tables, &mut sink).is_ok());
+    assert!(rt; sink.bytes() == FIRST_COME);
+    Ok(())
+}
+
+#[test]
+fn first_come_is_read_back(rt: HostRuntime) -> Result<(), Fail> {
+    let alloc = rt.alloc();
+    let mut sink = MemorySink::new(alloc, 4096, 1, Vec::new(alloc))?;
+    match read(alloc, FIRST_COME) {
+        Ok(tables) => assert!(rt; print(alloc, &tables, &mut sink).is_ok()),
+        Err(_) => assert!(rt; false),
+    }
+    assert!(rt; sink.bytes() == FIRST_COME);
+    Ok(())
+}
+
+// The line that is refused.
+fn bad_line(alloc: Global, text: &[u8]) -> u64 {
+    match read(alloc, text) {
+        Err(TablesFault::Line { line }) => line,
+        _ => 0,
+    }
+}
+
+#[test]
+fn lines_are_refused(rt: HostRuntime) -> Result<(), Fail> {
+    let alloc = rt.alloc();
+    assert_eq!(rt; bad_line(alloc, b"snap-tables 3\n"), 1);
+    assert_eq!(rt;
+        bad_line(alloc, b"snap-tables 1\nfield inport\nfield f\n"),
+        3
+    );
+    assert_eq!(rt;
+        bad_line(
+            alloc,
+            b"snap-tables 1\nfield inport\nfield outport\nswitch  a\n"
+        ),
+        4
+    );
+    assert_eq!(rt;
+        bad_line(
+            alloc,
+            b"snap-tables 1\nfield inport\nfield outport\nswitch a\nend"
+        ),
+        5
+    );
+    assert_eq!(rt;
+        bad_line(
+            alloc,
+            b"snap-tables 1\nfield inport\nfield outport\nswitch a\nswitch a\n"
+        ),
+        5
+    );
+    assert_eq!(rt;
+        bad_line(
+            alloc,
+            b"snap-tables 1\nfield inport\nfield outport\nswitch a\nport 1 0\nlink 0 0\n"
+        ),
+        6
+    );
+    assert_eq!(rt;
+        bad_line(
+            alloc,
+            b"snap-tables 1\nfield inport\nfield outport\nswitch a\nend\nend\n"
+        ),
+        6
+    );
+    assert_eq!(rt;
+        bad_line(
+            alloc,
+            b"snap-tables 1\nfield inport\nfield outport\nswitch a\nrow 0 0 leaf out c1=#00\n"
+        ),
+        5
+    );
+    assert_eq!(rt;
+        bad_line(
+            alloc,
+            b"snap-tables 1\nfield inport\nfield outport\nswitch a\nrow 0 0 leaf out c1=c1\n"
+        ),
+        5
+    );
+    assert_eq!(rt;
+        bad_line(
+            alloc,
+            b"snap-tables 1\nfield inport\nfield outport\nswitch a\nrow 0 0 leaf out c1=#2 out c1=#1\n"
+        ),
+        5
+    );
+    Ok(())
+}
