@@ -20,13 +20,13 @@ module _ (files : Files) (l r : List ℕ) where
   -- the first program was read
   module _ (p : Program) (left : ProgramOf (file_of files l) (Ok p)) where
     equal-refuses-second : Refuses files (equal l r) r
-    equal-refuses-second = record { ends = λ e h. inl (e, inr (p, left, h), refl); text = λ e h. inl (e, inr (p, left, h), refl); read = inr (refl, ((p, left), refl)); memory = refl }
+    equal-refuses-second = record { ends = λ e h. inl (e, inr (p, left, h), refl); text = λ e h. inl (e, inr (p, left, h), refl); read = inr (refl, (p, left), refl); memory = refl }
 
     -- and the second
     module _ (q : Program) (right : ProgramOf (file_of files r) (Ok q)) (old new : Option (List ℕ)) where
       meets-equal : (e : Ending) → MeetsEqual p q e old new → Meets files (equal l r) e old new
-      meets-equal (Ok u) m = (inr (p, q, left, right, (m.0, m.1)), (codes "equal\n", inr (p, q, left, right, inl (m.0, (m.1, refl))), m.2))
-      meets-equal (Err Write) m = inr (codes "equal\n", inr (p, q, left, right, inl (m.0, (m.1, refl))), m.2)
+      meets-equal (Ok u) m = (inr (p, q, left, right, (m.0, m.1)), (codes "equal\n", inr (p, q, left, right, inl (m.0, m.1, refl)), m.2))
+      meets-equal (Err Write) m = inr (codes "equal\n", inr (p, q, left, right, inl (m.0, m.1, refl)), m.2)
       meets-equal (Err NoMemory) m = ([], refl, (0, m))
       meets-equal (Err Declarations) m = (inr (p, q, left, right, m.0), ([], inr (p, q, left, right, inr ((λ calm same. m.0 calm.declared), refl)), m.1))
       meets-equal (Err (Race text)) m = (inr (p, q, left, right, m.0), ([], inr (p, q, left, right, inr ((λ calm same. race_never p q p q refl refl text.items m.0.1 calm), refl)), m.1))

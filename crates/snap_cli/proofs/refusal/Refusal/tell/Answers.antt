@@ -14,3 +14,6 @@ returns-in-Undefined-clause-ok g c = rw c.in-Undefined.is c.tell_number-in-Undef
 
 pub returns-in-Undefined-clause-err : goal.returns-in-Undefined-clause-err
 returns-in-Undefined-clause-err g c = rw c.in-Undefined.is c.tell_number-in-Undefined.ensures.err
+
+pub returns-in-Declarations-clause-err : goal.returns-in-Declarations-clause-err
+returns-in-Declarations-clause-err g c = rw c.in-Declarations.is c.tell_text-in-Declarations.ensures.err
