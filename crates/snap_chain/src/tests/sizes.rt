@@ -132,7 +132,7 @@ fn a_test_behind_24_updates_has_few_nodes(rt: HostRuntime) -> Result<(), Fail> {
     let ctx = Context::empty(alloc, 26)?;
     let mut rising = Nodes::new(alloc);
     let _root = tested_behind_24(&mut rising, &groups, &ctx, Order::Rising)?;
-    assert!(rt; rising.count() < 10 * 24 * 24);
+    assert!(rt; rising.count() < 2 * 24 * 24);
     let mut falling = Nodes::new(alloc);
     let _root = tested_behind_24(&mut falling, &groups, &ctx, Order::Falling)?;
     assert!(rt; falling.count() < 2 * 24 * 24);
