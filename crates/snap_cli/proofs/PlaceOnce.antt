@@ -15,7 +15,7 @@ use Rattle.snap_route.specs.Tables.{AreRoutes, Table}
 use Rattle.snap_seek.specs.declared.demand.Demand.{Demand}
 use Rattle.snap_seek.specs.declared.demand.DemandFault.{DemandFault}
 use Rattle.snap_seek.specs.Answer.{IsAnswer, PlacesThen, SpelledThen, first_fault}
-use Rattle.snap_seek.specs.Placements.{IsBestOf}
+use Rattle.snap_seek.specs.Placements.{AreGroups, IsBestOf}
 use Rattle.snap_seek.specs.Shape.{Spelled, spelled}
 use Rattle.snap_seek.proofs.Once.{answer-apart, answer-once, answer-same, bare, bare-answer, bare-best, bare-ordered, best-once}
 use Rattle.snap_seek.proofs.Ranked.{ordered}
@@ -100,8 +100,8 @@ module _ (tied : (p : Pol) → TiedIsEquivalence p) (one : (p : Pol) (n : ℕ) �
 
   placement-apart : (t : Topology) (table : Table) (file text : List ℕ) (e : Refusal) → IsPlacementOf p t table file text → HasNoDemand p t file e → ⊥
   placement-apart t table file text e h (inl k) = let short = h.short in let long = k.0 in omega arith
-  placement-apart t table file text e h (inr no) =
-      let k = no.1 in
+  placement-apart t table file text e h (inr never) =
+      let k = never.1 in
       let same = same-bare h.grouping k.grouping h.groups k.groups in
       let x = bare-answer p h.grouping t file (Ok h.demand) h.spells in
       let y = subst (λ (g : Grouping). IsAnswer p g t file (Err k.fault)) (sym same) (bare-answer p k.grouping t file (Err k.fault) k.answer) in
@@ -111,7 +111,7 @@ module _ (tied : (p : Pol) → TiedIsEquivalence p) (one : (p : Pol) (n : ℕ) �
   placement-once t x y file a b rx ry h k =
       let g = h.grouping in
       let same = same-bare g k.grouping h.groups k.groups in
-      let groups = (p.body, subst (λ (n : ℕ). IsGrouping p.body n g) (sym h.groups.count) h.groups) in
+      let groups : AreGroups g = (p.body, subst (λ (n : ℕ). IsGrouping p.body n g) (sym h.groups.count) h.groups) in
       let one-answer = bare-answer p g t file (Ok h.demand) h.spells in
       let other = subst (λ (i : Grouping). IsAnswer p i t file (Ok k.demand)) (sym same) (bare-answer p k.grouping t file (Ok k.demand) k.spells) in
       let best = subst (λ (i : Grouping). IsBestOf i t y k.demand k.best) (sym same) (bare-best k.grouping t y k.demand k.best k.is_best) in

@@ -225,6 +225,7 @@ fn best_text(
     network: &Network,
     demand: &Demand,
 ) -> Result<Vec<u8>, NoMemory>
+    requires few { length program.now.vars ≤ 64 }
     requires groups { IsGrouping program.now.body (length program.now.vars) groups.now }
     requires topology { IsTopology network.now.topology }
     requires routes { AreRoutes network.now.topology network.now.routes }

@@ -15,3 +15,6 @@ mod trips;
 
 pub use reading::read_demand;
 pub use search::seek;
+
+#[cfg(test)]
+mod tests;

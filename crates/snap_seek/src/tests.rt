@@ -1,0 +1,113 @@
+use crate::best::Best;
+use crate::demand::DemandFault;
+use snap_core::lists::{Name, Names};
+use snap_core::policy::{Pol, Pred};
+use snap_core::program::{Fields, Program};
+use snap_dep::calls::groups;
+use snap_route::calls::routes;
+use std::alloc::Global;
+use std::process::Abort;
+use std::test::Fail;
+
+const SQUARE: &str = "switches = [\"s1\", \"s2\", \"s3\", \"s4\"]
+links = [[\"s1\", \"s2\"], [\"s1\", \"s3\"], [\"s2\", \"s4\"], [\"s3\", \"s4\"]]
+[ports]
+1 = \"s1\"
+2 = \"s1\"
+3 = \"s2\"
+4 = \"s2\"
+5 = \"s3\"
+6 = \"s4\"
+";
+
+const ARRAYS: [&str; 3] = ["orphan", "susp-client", "blacklist"];
+
+/// A demand, what the best placement costs, and its three switches, where no arrays are tied.
+const BEST: [(&str, u64, [u16; 3]); 6] = [
+    ("demand = []\n[allowed]", 0, [0, 0, 0]),
+    ("demand = [[5, 3, 0]]\n[allowed]", 0, [0, 0, 0]),
+    ("demand = [[5, 3, 2]]\n[allowed]", 4, [0, 0, 0]),
+    (
+        "demand = [[1, 6, 10], [6, 1, 10]]\n[allowed]\nblacklist = [\"s2\"]",
+        40,
+        [1, 1, 1],
+    ),
+    (
+        "demand = [[1, 6, 10], [6, 1, 10]]\n[allowed]\nblacklist = [\"s2\"]\norphan = [\"s4\", \"s1\"]",
+        60,
+        [0, 0, 1],
+    ),
+    (
+        "demand = [[6, 6, 4294967295], [6, 6, 4294967295]]\n[allowed]\nsusp-client = [\"s1\"]",
+        34359738360,
+        [0, 0, 0],
+    ),
+];
+
+/// A demand and the fault that is told for it.
+const FAULTS: [(&str, &str); 8] = [
+    ("demand", "not TOML"),
+    ("demand = []", "shape 1"),
+    ("demand = [[0, 1, 1]]\n[allowed]", "shape 2"),
+    ("demand = []\n[allowed]\norphan = \"s1\"", "shape 3"),
+    ("demand = [[1, 9, 1]]\n[allowed]\nzero = []", "no port 9"),
+    ("demand = []\n[allowed]\nzero = [\"s9\"]", "no array"),
+    ("demand = []\n[allowed]\nblacklist = [\"s9\"]\norphan = []", "no switch"),
+    ("demand = []\n[allowed]\nsusp-client = []", "nowhere 1"),
+];
+
+// What a demand's text is answered with, over the square.
+fn place(rt: &impl Abort, alloc: Global, text: &str) -> Result<Result<Best, DemandFault>, Fail> {
+    let mut names = Vec::new(alloc);
+    for array in ARRAYS.as_slice() {
+        names.push(Name::of(alloc, array.as_bytes())?)?;
+    }
+    let program = Program {
+        fields: Fields::ports(alloc)?,
+        vars: Names::new(names),
+        body: Pol::Filter(Pred::Id),
+    };
+    let vars = program.vars.items().len();
+    assert!(rt; vars <= 64);
+    assert!(rt; program.body.fits(program.fields.count() as usize, vars));
+    let topology = snap_topo::read(alloc, SQUARE.as_bytes())?;
+    let routes = routes(alloc, &topology)?;
+    let groups = groups(alloc, &program)?;
+    match crate::read_demand(alloc, text.as_bytes(), &program, &groups, &topology) {
+        Ok(demand) => {
+            let best = crate::seek(alloc, &groups, &topology, &routes, &demand)?;
+            Ok(Ok(best))
+        }
+        Err(fault) => Ok(Err(fault)),
+    }
+}
+
+#[test]
+fn finds_the_placement_of_least_cost(rt: HostRuntime) -> Result<(), Fail> {
+    let alloc = rt.alloc();
+    for (text, cost, owners) in BEST {
+        match place(&rt, alloc, text)? {
+            Ok(best) => {
+                assert_eq!(rt; best.cost, cost);
+                assert_eq!(rt; best.owners.items(), owners.as_slice());
+            }
+            Err(_fault) => assert!(rt; false, "{text} is refused"),
+        }
+    }
+    Ok(())
+}
+
+#[test]
+fn tells_each_fault(rt: HostRuntime) -> Result<(), Fail> {
+    let alloc = rt.alloc();
+    for (text, told) in FAULTS {
+        match place(&rt, alloc, text)? {
+            Ok(_best) => assert!(rt; false, "{text} is read"),
+            Err(fault) => {
+                let shown = format!(in alloc; "{fault}")?;
+                assert_eq!(rt; shown.as_str(), told);
+            }
+        }
+    }
+    Ok(())
+}
