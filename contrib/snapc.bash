@@ -1,7 +1,6 @@
 # Completion of snapc's words for bash.
 _snapc() {
-    local commands="obs deps check equal routes"
-    local commands="obs deps check routes place"
+    local commands="obs deps check equal routes place"
     local current=${COMP_WORDS[COMP_CWORD]} files=0 dashes=0 word only=
     COMPREPLY=()
     if [ "$COMP_CWORD" -eq 1 ]; then
@@ -19,9 +18,7 @@ _snapc() {
         ;;
     esac
     case ${COMP_WORDS[1]}:$files in
-    obs:0 | deps:0 | check:0 | equal:0 | equal:1) only='!*.snap' ;;
-    routes:0) only='!*.toml' ;;
-    obs:0 | deps:0 | check:0 | place:0) only='!*.snap' ;;
+    obs:0 | deps:0 | check:0 | equal:0 | equal:1 | place:0) only='!*.snap' ;;
     routes:0 | place:1 | place:2) only='!*.toml' ;;
     obs:1) ;;
     *) return ;;
