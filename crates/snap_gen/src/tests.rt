@@ -1,7 +1,14 @@
+use crate::leaves::tidy_of;
 use crate::numbering::number;
 use snap_arena::nodes::Nodes;
-use snap_core::policy::Test;
+use snap_core::lists::{Atoms, Name, Names, Out};
+use snap_core::policy::{Atom, Op, Pol, Pred, Test, Update};
+use snap_core::program::{Fields, Program};
+use snap_dep::calls::groups;
+use snap_dep::groups::Groups;
 use snap_fdd::leaf::{Go, Leaf, Outs, Updates};
+use std::alloc::{AllocError, Global};
+use std::process::Abort;
 use std::test::Fail;
 
 #[test]
@@ -25,5 +32,63 @@ fn numbers_rise_from_the_root(rt: HostRuntime) -> Result<(), Fail> {
     let found = number(alloc, &nodes, 4)?;
     assert!(rt; found.ids.as_slice() == [4, 2, 1, 0].as_slice());
     assert!(rt; found.numbers.as_slice() == [3, 2, 1, 0, 0].as_slice());
+    Ok(())
+}
+
+// The groups of the program `id` over one array.
+fn one_array(rt: &impl Abort, alloc: Global) -> Result<Groups, Fail> {
+    let program = Program {
+        fields: Fields::ports(alloc)?,
+        vars: Names::new(vec![in alloc; Name::of(alloc, b"s")?]?),
+        body: Pol::Filter(Pred::Id),
+    };
+    let count = program.vars.items().len();
+    assert!(rt; count <= 64);
+    assert!(rt; program.body.fits(program.fields.count() as usize, count));
+    Ok(groups(alloc, &program)?)
+}
+
+fn out(alloc: Global, comp: u16, atom: Atom) -> Result<Out, AllocError> {
+    Ok(Out::new(vec![in alloc; (comp, atom)]?))
+}
+
+fn add(alloc: Global, num: u64) -> Result<Update, AllocError> {
+    Ok(Update {
+        var: 0,
+        index: Atoms::new(vec![in alloc; Atom::Comp(0)]?),
+        op: Op::Add(num),
+    })
+}
+
+#[test]
+fn leaves_are_tidied(rt: HostRuntime) -> Result<(), Fail> {
+    let alloc = rt.alloc();
+    let groups = one_array(&rt, alloc)?;
+    let mut outs = Vec::new(alloc);
+    outs.push(out(alloc, 1, Atom::Num(2))?)?;
+    outs.push(out(alloc, 0, Atom::Num(3))?)?;
+    outs.push(out(alloc, 1, Atom::Comp(1))?)?;
+    outs.push(out(alloc, 0, Atom::Num(3))?)?;
+    let mut ups = Vec::new(alloc);
+    ups.push(add(alloc, 0)?)?;
+    ups.push(add(alloc, 1)?)?;
+    let leaf = Leaf::Go(Go {
+        outs: Outs::new(outs),
+        ups: Updates::new(ups),
+        reads: 1,
+        writes: 1,
+    });
+    match tidy_of(alloc, &groups, &leaf)? {
+        Leaf::Race => return Err("a race")?,
+        Leaf::Go(go) => {
+            let outs = go.outs.list();
+            assert!(rt; outs.len() == 3 && outs[0].parts().is_empty());
+            assert!(rt; outs[1].parts() == [(0, Atom::Num(3))].as_slice());
+            assert!(rt; outs[2].parts() == [(1, Atom::Num(2))].as_slice());
+            let ups = go.ups.list();
+            assert!(rt; ups.len() == 1 && ups[0].op == Op::Add(1));
+            assert!(rt; go.reads == 0 && go.writes == 0);
+        }
+    }
     Ok(())
 }
