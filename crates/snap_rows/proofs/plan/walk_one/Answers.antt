@@ -1,0 +1,21 @@
+use Rattle.std.proofs.lemmas.Result.{IfOk-weaker}
+use Rattle.snap_core.specs.Arrays.{Arrays, updates}
+use Rattle.snap_core.specs.Cells.{arrays_of}
+use Rattle.snap_rows.specs.declared.head.Head.TheVariants.{Walk}
+use Rattle.snap_rows.specs.declared.plan.Plan.{Plan}
+use Rattle.snap_rows.specs.Steps.{Does}
+use Rattle.snap_rows.proofs.Stages.{asked}
+use Rattle.snap_rows.proofs.Plans.{end_one}
+use Rattle.snap_rows.proofs.plan.walk_one.Goals as goal
+
+pub decided-requires-clause-row : goal.decided-requires-clause-row
+decided-requires-clause-row c = end_one c.args.tables.now c.tables-known.ensures.form c.requires.version c.args.at c.args.packet.now (arrays_of c.args.store.now) c.args.node c.in_ok-number.number c.in_ok-number.ensures
+
+pub returns : goal.returns
+returns c =
+    let t = c.args.tables.now in
+    let k = c.args.packet.now in
+    let m = arrays_of c.args.store.now in
+    let v = c.in_ok-number.number in
+    IfOk-weaker _ (λ (p : Plan). (m : Arrays) → Does t c.args.at k m (Walk v) p) (λ (p : Plan). Does t c.args.at k m (Walk c.args.node) p)
+    (λ p h. record { handles = asked t c.args.at k m (updates m p.ups k) c.args.node v p.action c.requires.version c.in_ok-number.ensures (h m).handles; reads = (h m).reads }) c.decided.ensures

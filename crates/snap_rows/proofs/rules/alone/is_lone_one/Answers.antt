@@ -1,0 +1,67 @@
+use Rattle.std.proofs.Common.{◌≡◌, ◌<◌, ◌≤◌, Some, List, length, get_or, refl, sym, ap, subst, ◌∙◌, ⊎_elim, arith}
+use Rattle.std.specs.Prelude.{is_some}
+use Rattle.std.specs.BTreeMap.{btree_map_len, Updates}
+use Rattle.std.specs.Ordering.{nat_cmp}
+use Rattle.std.proofs.lemmas.Bool.{false≢true, cases_lt}
+use Rattle.std.proofs.lemmas.Option.{slice_get_within, get_or_from_slice_get}
+use Rattle.snap_rows.specs.declared.rules.alone.Standing.{Standing}
+use Rattle.snap_rows.specs.declared.tables.RowAt.{RowAt}
+use Rattle.snap_rows.specs.Standing.{of_node, standing_in, Splits}
+use Rattle.snap_rows.proofs.Growing.{not_two, grown_none, grown_more, split_found, lone_at_end}
+use Rattle.snap_rows.proofs.rules.alone.is_lone_one.Goals as goal
+
+pub loop-number-init : goal.loop-number-init
+loop-number-init c = grown_none c.args.tables.now c.in_ok-rest.rest c.new-known.result c.in_ok-rest.ensures c.new-known.ensures.empty
+
+pub bounds-items-at : goal.bounds-items-at
+bounds-items-at c =
+    let at = c.loop-number.invariant.nodes c.in-Some.number c.in-Some.at c.in-Some.ensures.value in
+    subst (λ (rows : List RowAt). c.in-Some.at < length rows) (sym c.items.ensures) (slice_get_within c.args.tables.now.rows c.in-Some.at at.entry at.is)
+
+pub offset_bounds-items-at : goal.offset_bounds-items-at
+offset_bounds-items-at c =
+    let i = c.in-Some.at in
+    let items = c.items.result.now in
+    let below : i < length items = bounds-items-at c in
+    let small = c.items.type_inv.1 in
+    omega arith
+
+pub returns-then-splits : goal.returns-then-splits
+returns-then-splits c =
+    let t = c.args.tables.now in
+    let rest = c.loop-number.rest in
+    let known = c.loop-number.known in
+    let n = c.in-Some.number in
+    let i = c.in-Some.at in
+    let r = get_or c.items.result.now i c.index-items-at.result in
+    let at = c.loop-number.invariant.nodes n i c.in-Some.ensures.value in
+    let same : r ≡ at.entry = ap (λ rows. get_or rows i c.index-items-at.result) c.items.ensures ∙ get_or_from_slice_get t.rows i at.entry c.index-items-at.result at.is in
+    let split = subst (λ (r : RowAt). Splits r.row (of_node t (standing_in known) r.row)) same (subst (Splits r.row) c.of_node-standing.ensures (c.splits.ensures.0 c.if-splits.true)) in (
+      λ h. absurd (false≢true h),
+      λ lone. absurd (split_found t c.requires.valid c.requires.form c.requires.version rest known n i c.loop-number.invariant c.in-Some.ensures.greatest at split (lone.0 c.requires.version)),
+    )
+
+pub loop-number-preserved : goal.loop-number-preserved
+loop-number-preserved c =
+    let t = c.args.tables.now in
+    let rest = c.loop-number.rest in
+    let known = c.loop-number.known in
+    let n = c.in-Some.number in
+    let i = c.in-Some.at in
+    let r = get_or c.items.result.now i c.index-items-at.result in
+    let at = c.loop-number.invariant.nodes n i c.in-Some.ensures.value in
+    let same : r ≡ at.entry = ap (λ rows. get_or rows i c.index-items-at.result) c.items.ensures ∙ get_or_from_slice_get t.rows i at.entry c.index-items-at.result at.is in
+    let whole = λ (split : Splits at.entry.row (of_node t (standing_in known) at.entry.row)).
+    false≢true (sym c.if-splits.false ∙ c.splits.ensures.1 (subst (Splits r.row) (sym c.of_node-standing.ensures) (subst (λ (r : RowAt). Splits r.row (of_node t (standing_in known) r.row)) (sym same) split))) in
+    let standing : c.of_node-standing.result ≡ of_node t (standing_in known) at.entry.row = c.of_node-standing.ensures ∙ ap (λ (r : RowAt). of_node t (standing_in known) r.row) same in
+    grown_more t c.requires.valid c.requires.form c.requires.version rest c.pop_last.new.self known c.insert.new.self n i c.loop-number.invariant c.in-Some.ensures.greatest at whole c.in-Some.ensures.updates
+    (subst (λ (s : Standing). Updates nat_cmp known c.insert.new.self n (Some s)) standing c.in_ok-insert.ensures.updates)
+
+pub returns : goal.returns
+returns c =
+    let t = c.args.tables.now in
+    let rest = c.loop-number.rest in
+    let none : btree_map_len rest ≤ 0 = ⊎_elim (λ some. absurd (false≢true (sym (ap (λ o. is_some o) c.in_default.is) ∙ c.pop_last.ensures.variant.1 some))) (λ le. le) (cases_lt 0 (btree_map_len rest)) in (
+      λ h. ((λ one. lone_at_end t rest c.loop-number.known c.loop-number.invariant none), (λ two. absurd (not_two t c.requires.version two))),
+      λ lone. refl,
+    )

@@ -1,0 +1,20 @@
+use Rattle.std.proofs.Common.{rules, ◌≡◌, ℕ, sym, subst}
+use Rattle.std.specs.Prelude.{IsSome}
+use Rattle.std.specs.List.{All}
+use Rattle.snap_rows.specs.Entries.{row_at}
+use Rattle.snap_rows.specs.Leads.{IsNumberAfter, LeadsOver}
+use Rattle.snap_rows.proofs.Leading.{split_leads, join_leads, each_over}
+use Rattle.snap_rows.proofs.rules.missing.leads_have_rows.Goals as goal
+
+pub returns : goal.returns
+returns c =
+    let t = c.args.tables.now in
+    let w = c.args.entry.now.at in
+    let n = c.args.entry.now.number in
+    let b = c.args.entry.now.row in
+    let own : (k : ℕ) → IsNumberAfter b k → IsSome (row_at t w k) = search rules in
+    let each = each_over (LeadsOver t w b) (λ x. IsSome (row_at t x n)) c.in_ok-over.over.items c.in_ok-over.ensures in
+    let are : c.deref.result.now ≡ c.in_ok-over.over.items = c.deref.ensures.value in (
+      λ yes. join_leads t w n b (λ x k. IsSome (row_at t x k)) own (each.0 (subst (All (λ x. IsSome (row_at t x n))) are (c.all_have_rows.ensures.0 yes))),
+      λ have. c.all_have_rows.ensures.1 (subst (All (λ x. IsSome (row_at t x n))) (sym are) (each.1 (split_leads t w n b (λ x k. IsSome (row_at t x k)) have).1)),
+    )

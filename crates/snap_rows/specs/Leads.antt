@@ -1,0 +1,31 @@
+-- The leads of a row, parted into those at its own switch and those of its own number.
+use Rattle.std.specs.Prelude.{◌≡◌, ◌⊎◌, ◌↔◌, ℕ, suc, List, map, Contains, IsSome}
+use Rattle.snap_rows.specs.declared.tables.Tables.{Tables}
+use Rattle.snap_rows.specs.declared.tables.Row.{Row}
+use Rattle.snap_rows.specs.declared.tables.Row.TheVariants.{Field, State, Go, Leaf, Stop, Last}
+use Rattle.snap_rows.specs.declared.tables.Stage.{Stage as Turn}
+use Rattle.snap_rows.specs.Entries.{row_at, next, rank_of, ranks, var_of}
+use Rattle.snap_rows.specs.Ways.{Route, OwnsBelow, LeadsTo}
+
+-- a test row leads to this number at its own switch
+abbrev pub IsNumberAfter : Row → ℕ → Type 0
+IsNumberAfter (Field test y z) k = (k ≡ y) ⊎ (k ≡ z)
+IsNumberAfter (State test y z) k = (k ≡ y) ⊎ (k ≡ z)
+IsNumberAfter _ k = ⊥
+
+-- the row of a number at switch w leads to switch x and the same number
+abbrev pub LeadsOver : Tables → ℕ → Row → ℕ → Type 0
+LeadsOver t w (Field test y z) x = ⊥
+LeadsOver t w (State test y z) x = (t.version ≡ 2) × OwnsBelow t (suc (rank_of t (var_of test))) x
+LeadsOver t w (Go to) x = x ≡ next t w to
+LeadsOver t w (Leaf stages outs) x = (ws : List ℕ) × Route t w (map (λ (s : Turn). s.at) stages) ws × Contains ws x
+LeadsOver t w Stop x = OwnsBelow t 1 x
+LeadsOver t w (Last ups outs) x = OwnsBelow t (ranks t) x
+
+-- the list has exactly the switches to which the row leads with its own number
+abbrev pub AreLedOver : Tables → ℕ → Row → List ℕ → Type 0
+AreLedOver t w b xs = (x : ℕ) → LeadsOver t w b x ↔ Contains xs x
+
+-- each lead of a row has a row
+abbrev pub HaveRows : Tables → ℕ → ℕ → Row → Type 0
+HaveRows t w n b = (x k : ℕ) → LeadsTo t w n b x k → IsSome (row_at t x k)

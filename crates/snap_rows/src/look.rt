@@ -1,0 +1,254 @@
+//! Looking up rows, hops, ports and ranks.
+
+ghost use Rattle.std.specs.Prelude.{◌≡◌, ◌↔◌, IsTrue, Some, map, length, slice_index, option_map, IfSome, IfNone, is_some, slice_get, ◌<◌, All, true, false, None};
+ghost use Rattle.std.specs.List.Sorted.{IsStrictlySortedBy, IsPartitionPoint};
+ghost use Rattle.snap_core.specs.Switch.{goes_out};
+ghost use Rattle.snap_core.specs.declared.ports.PortAt.{PortAt};
+ghost use Rattle.snap_rows.specs.declared.tables.ArrayAt.{ArrayAt};
+ghost use Rattle.snap_rows.specs.declared.tables.Row.{Row};
+ghost use Rattle.snap_rows.specs.declared.tables.RowAt.{RowAt};
+ghost use Rattle.snap_rows.specs.declared.tables.Hop.{Hop};
+ghost use Rattle.snap_rows.specs.Form.{IsRowInForm, IsInForm, row_cmp, hop_cmp, array_count, switch_count};
+ghost use Rattle.snap_rows.specs.Places.{is_before, IsRowPlace, hop_said};
+ghost use Rattle.snap_rows.specs.Rules.{IsValid};
+ghost use Rattle.snap_rows.specs.Entries.{row_in, row_at, hop_in, next, port_in, port_at, rank_in, rank_at, rank_of, ranks, ranks_in, var_of, owner_of};
+
+use crate::tables::{ArrayAt, Hop, Row, RowAt, Tables};
+use crate::valid::Valid;
+use snap_core::packet::Packet;
+use snap_core::policy::Test;
+use snap_core::ports::PortAt;
+
+impl Valid {
+    /// The row of a switch and number.
+    pub(crate) fn row(&self, at: u16, number: u64) -> Option<&Row>
+        ensures row { option_map (λ r. r.now) result ≡ row_at self.now at number }
+        ensures form { IfSome result (λ r. IsRowInForm self.now r.now) }
+        ensures valid { IsValid self.now }
+        ensures all_form { IsInForm self.now }
+    {
+        row(self.tables().rows.items(), at, number)
+    }
+
+    /// The next hop of a switch towards another.
+    pub(crate) fn next(&self, at: u16, target: u16) -> u16
+        ensures { result ≡ next self.now at target }
+    {
+        next(self.tables().hops.items(), at, target)
+    }
+
+    /// The switch of a port.
+    pub fn port_at(&self, port: u64) -> Option<u16>
+        ensures { result ≡ port_at self.now port }
+    {
+        port_at(self.tables().ports.items(), port)
+    }
+
+    /// The switch of an array.
+    pub fn owner_of(&self, var: u16) -> u16
+        requires { var < array_count self.now }
+        ensures owner { owner_of self.now var ≡ Some result }
+        ensures below { result < switch_count self.now }
+    {
+        let tables = self.tables();
+        tables.arrays.items()[var as usize].at
+    }
+
+    /// The rank of a state test's array.
+    pub(crate) fn rank_of(&self, test: &Test) -> u16
+        ensures { result ≡ rank_of self.now (var_of test.now) }
+    {
+        rank_of_test(self.tables(), test)
+    }
+
+    /// The rank of an array.
+    pub(crate) fn rank(&self, var: u16) -> u16
+        ensures { result ≡ rank_of self.now var }
+    {
+        rank(self.tables(), var)
+    }
+
+    /// The number of ranks.
+    pub(crate) fn ranks(&self) -> u16
+        ensures { result ≡ ranks self.now }
+    {
+        ranks(self.tables().arrays.items())
+    }
+
+    /// The owner of a rank.
+    pub(crate) fn rank_at(&self, rank: u16) -> Option<u16>
+        ensures { result ≡ rank_at self.now rank }
+    {
+        rank_at(self.tables().arrays.items(), rank)
+    }
+}
+
+// The rank of an array.
+fn rank(tables: &Tables, var: u16) -> u16
+    ensures { result ≡ rank_of tables.now var }
+{
+    match tables.arrays.items().get(var as usize) {
+        Some(array) => array.rank,
+        None => 0,
+    }
+}
+
+/// The rank of a state test's array.
+pub(crate) fn rank_of_test(tables: &Tables, test: &Test) -> u16
+    ensures { result ≡ rank_of tables.now (var_of test.now) }
+{
+    match test {
+        Test::State { var, .. } => rank(tables, *var),
+        Test::Value { .. } => rank(tables, 0),
+        Test::Equal { .. } => rank(tables, 0),
+    }
+}
+
+// Whether a row stands before that of a switch and number.
+fn row_is_before(entry: &RowAt, at: u16, number: u64) -> bool
+    ensures { result ≡ is_before (λ (r : RowAt). r.at) (λ (r : RowAt). r.number) at number entry.now }
+{
+    entry.at < at || (entry.at == at && entry.number < number)
+}
+
+// How many rows stand before that of a switch and number.
+fn rows_before(rows: &[RowAt], at: u16, number: u64) -> usize
+    requires { IsStrictlySortedBy row_cmp rows.now }
+    ensures { IsPartitionPoint (λ (r : RowAt). is_before (λ (r : RowAt). r.at) (λ (r : RowAt). r.number) at number r ≡ true) (λ (r : RowAt). is_before (λ (r : RowAt). r.at) (λ (r : RowAt). r.number) at number r ≡ false) rows.now result }
+{
+    rows.partition_point(|entry| row_is_before(entry, at, number))
+}
+
+// Whether the row of a switch and number stands at a place.
+fn stands_at(rows: &[RowAt], place: usize, at: u16, number: u64) -> bool
+    ensures { IsTrue result ↔ IsRowPlace rows.now at number place }
+{
+    match rows.get(place) {
+        Some(entry) => entry.at == at && entry.number == number,
+        None => false,
+    }
+}
+
+/// The place of the row of a switch and number.
+pub(crate) fn row_place(rows: &[RowAt], at: u16, number: u64) -> Option<usize>
+    requires { IsStrictlySortedBy row_cmp rows.now }
+    ensures some { IfSome result (IsRowPlace rows.now at number) }
+    ensures none { IfNone result (row_in rows.now at number ≡ None) }
+{
+    let place = rows_before(rows, at, number);
+    if stands_at(rows, place, at, number) {
+        Some(place)
+    } else {
+        None
+    }
+}
+
+/// The row of a switch and number.
+pub(crate) fn row(rows: &[RowAt], at: u16, number: u64) -> Option<&Row>
+    requires { IsStrictlySortedBy row_cmp rows.now }
+    ensures { option_map (λ r. r.now) result ≡ row_in rows.now at number }
+{
+    match row_place(rows, at, number) {
+        Some(place) => Some(&rows[place].row),
+        None => None,
+    }
+}
+
+// Whether a next hop stands before that of a switch towards another.
+fn hop_is_before(hop: &Hop, at: u16, target: u16) -> bool
+    ensures { result ≡ is_before (λ (h : Hop). h.from) (λ (h : Hop). h.target) at target hop.now }
+{
+    hop.from < at || (hop.from == at && hop.target < target)
+}
+
+// How many next hops stand before that of a switch towards another.
+fn hops_before(hops: &[Hop], at: u16, target: u16) -> usize
+    requires { IsStrictlySortedBy hop_cmp hops.now }
+    ensures { IsPartitionPoint (λ (h : Hop). is_before (λ (h : Hop). h.from) (λ (h : Hop). h.target) at target h ≡ true) (λ (h : Hop). is_before (λ (h : Hop). h.from) (λ (h : Hop). h.target) at target h ≡ false) hops.now result }
+{
+    hops.partition_point(|hop| hop_is_before(hop, at, target))
+}
+
+// The next hop that an entry says.
+fn hop_said(hops: &[Hop], place: usize, at: u16, target: u16) -> u16
+    ensures { result ≡ hop_said (slice_get hops.now place) at target }
+{
+    match hops.get(place) {
+        Some(hop) => {
+            if hop.from == at && hop.target == target {
+                hop.next
+            } else {
+                at
+            }
+        }
+        None => at,
+    }
+}
+
+/// The next hop of a switch towards another.
+pub(crate) fn next(hops: &[Hop], at: u16, target: u16) -> u16
+    requires { IsStrictlySortedBy hop_cmp hops.now }
+    ensures { result ≡ hop_in hops.now at target }
+{
+    hop_said(hops, hops_before(hops, at, target), at, target)
+}
+
+/// The switch of a port.
+fn port_at(ports: &[PortAt], port: u64) -> Option<u16>
+    ensures { result ≡ port_in ports.now port }
+{
+    for entry in ports {
+        if entry.port as u64 == port {
+            return Some(entry.at);
+        }
+    }
+    None
+}
+
+/// The owner of a rank.
+pub(crate) fn rank_at(arrays: &[ArrayAt], rank: u16) -> Option<u16>
+    ensures { result ≡ rank_in arrays.now rank }
+{
+    for array in arrays {
+        if array.rank == rank {
+            return Some(array.at);
+        }
+    }
+    None
+}
+
+// The port of this number.
+fn port_of(ports: &[PortAt], number: u64) -> Option<u32>
+    ensures some { is_some result ≡ is_some (port_in ports.now number) }
+    ensures same { IfSome result (λ port. port ≡ number) }
+{
+    for entry in ports {
+        if entry.port as u64 == number {
+            return Some(entry.port);
+        }
+    }
+    None
+}
+
+/// The port that a packet's `outport` names.
+pub(crate) fn out_port(ports: &[PortAt], packet: &Packet) -> Option<u32>
+    requires { 1 < length packet.now }
+    ensures some { is_some result ≡ goes_out (map (λ (p : PortAt). p.port) ports.now) packet.now }
+    ensures same { IfSome result (λ port. port ≡ slice_index packet.now 1) }
+{
+    port_of(ports, packet.get(1))
+}
+
+// The number of ranks.
+pub(crate) fn ranks(arrays: &[ArrayAt]) -> u16
+    requires { All (λ (a : ArrayAt). a.rank < 64) arrays.now }
+    ensures { result ≡ ranks_in arrays.now }
+{
+    let mut most = 0;
+    for array in arrays {
+        if most < array.rank + 1 {
+            most = array.rank + 1;
+        }
+    }
+    most
+}

@@ -1,0 +1,153 @@
+//! Following leads from the ports to all rows that they reach.
+
+ghost use Rattle.std.specs.Prelude.{◌≡◌, ◌⊎◌, ◌<◌, ℕ, None, Some, true, false, IfOk, OnOk, IsSome, Contains, length, get_or, slice_get};
+ghost use Rattle.std.specs.List.{All};
+ghost use Rattle.snap_rows.specs.declared.tables.RowAt.{RowAt};
+ghost use Rattle.snap_rows.specs.declared.tables.Rule.{Rule};
+ghost use Rattle.snap_rows.specs.Entries.{row_at};
+ghost use Rattle.snap_rows.specs.Following.{IsMarked, AreLeadsMarked, ArePortsMarked, IsFollowed, Grows, AreMarked};
+ghost use Rattle.snap_rows.specs.Form.{IsInForm};
+ghost use Rattle.snap_rows.specs.Leads.{IsNumberAfter};
+ghost use Rattle.snap_rows.specs.Rules.{IsFirstSpot};
+ghost use Rattle.snap_rows.specs.Ways.{Reached};
+
+use crate::look::row_place;
+use crate::rules::leads::led_over;
+use crate::rules::loops::unmarked;
+use crate::tables::{Row, RowAt, Tables};
+use snap_core::NoMemory;
+use std::alloc::Global;
+
+/// The rows that are known to be reached, by place, and the places of those whose leads are still to be followed.
+#[derive(Drop)]
+struct Search {
+    marks: Vec<bool>,
+    left: Vec<usize>,
+}
+
+impl Search {
+    // Marks the row of a switch and number.
+    fn mark(&mut self, tables: &Tables, at: u16, number: u64) -> Result<(), NoMemory>
+        requires form { IsInForm tables.now }
+        requires long { length self.old.marks.items ≡ length tables.now.rows }
+        requires row { IsSome (row_at tables.now at number) }
+        requires reached { Reached tables.now at number }
+        ensures grows { OnOk result (Grows tables.now self.old.marks.items self.old.left.items self.new.marks.items self.new.left.items) }
+        ensures marked { OnOk result (IsMarked tables.now self.new.marks.items at number) }
+    {
+        match row_place(tables.rows.items(), at, number) {
+            Some(place) => self.mark_place(tables, place),
+            None => unreachable!(),
+        }
+    }
+
+    // Marks the row at a place.
+    fn mark_place(&mut self, tables: &Tables, place: usize) -> Result<(), NoMemory>
+        requires long { length self.old.marks.items ≡ length tables.now.rows }
+        requires place { place < length tables.now.rows }
+        requires reached { (r : RowAt) → slice_get tables.now.rows place ≡ Some r → Reached tables.now r.at r.number }
+        ensures grows { OnOk result (Grows tables.now self.old.marks.items self.old.left.items self.new.marks.items self.new.left.items) }
+        ensures marked { OnOk result (get_or self.new.marks.items place false ≡ true) }
+    {
+        if !self.marks[place] {
+            self.left.push(place)?;
+            self.marks[place] = true;
+        }
+        Ok(())
+    }
+
+    fn mark_both(&mut self, tables: &Tables, at: u16, yes: u64, no: u64) -> Result<(), NoMemory>
+        requires form { IsInForm tables.now }
+        requires long { length self.old.marks.items ≡ length tables.now.rows }
+        requires rows { (k : ℕ) → (k ≡ yes) ⊎ (k ≡ no) → IsSome (row_at tables.now at k) }
+        requires reached { (k : ℕ) → (k ≡ yes) ⊎ (k ≡ no) → Reached tables.now at k }
+        ensures grows { OnOk result (Grows tables.now self.old.marks.items self.old.left.items self.new.marks.items self.new.left.items) }
+        ensures marked { OnOk result ((k : ℕ) → (k ≡ yes) ⊎ (k ≡ no) → IsMarked tables.now self.new.marks.items at k) }
+    {
+        self.mark(tables, at, yes)?;
+        self.mark(tables, at, no)
+    }
+
+    // Marks the rows of the numbers to which a test row leads.
+    fn mark_numbers(&mut self, tables: &Tables, at: u16, row: &Row) -> Result<(), NoMemory>
+        requires form { IsInForm tables.now }
+        requires long { length self.old.marks.items ≡ length tables.now.rows }
+        requires rows { (k : ℕ) → IsNumberAfter row.now k → IsSome (row_at tables.now at k) }
+        requires reached { (k : ℕ) → IsNumberAfter row.now k → Reached tables.now at k }
+        ensures grows { OnOk result (Grows tables.now self.old.marks.items self.old.left.items self.new.marks.items self.new.left.items) }
+        ensures marked { OnOk result ((k : ℕ) → IsNumberAfter row.now k → IsMarked tables.now self.new.marks.items at k) }
+    {
+        match row {
+            Row::Field { yes, no, .. } => self.mark_both(tables, at, *yes, *no),
+            Row::State { yes, no, .. } => self.mark_both(tables, at, *yes, *no),
+            Row::Go { .. } => Ok(()),
+            Row::Leaf { .. } => Ok(()),
+            Row::Stop => Ok(()),
+            Row::Last { .. } => Ok(()),
+        }
+    }
+
+    // Marks the rows of a number at switches.
+    fn mark_all(&mut self, tables: &Tables, switches: &[u16], number: u64) -> Result<(), NoMemory>
+        requires form { IsInForm tables.now }
+        requires long { length self.old.marks.items ≡ length tables.now.rows }
+        requires rows { All (λ x. IsSome (row_at tables.now x number)) switches.now }
+        requires reached { All (λ x. Reached tables.now x number) switches.now }
+        ensures grows { OnOk result (Grows tables.now self.old.marks.items self.old.left.items self.new.marks.items self.new.left.items) }
+        ensures marked { OnOk result (All (λ x. IsMarked tables.now self.new.marks.items x number) switches.now) }
+    {
+        for at in switches {
+            self.mark(tables, *at, number)?;
+        }
+        Ok(())
+    }
+
+    // Marks the rows to which the row at a place leads.
+    fn follow(&mut self, alloc: Global, tables: &Tables, entry: &RowAt) -> Result<(), NoMemory>
+        requires form { IsInForm tables.now }
+        requires loops { IsFirstSpot tables.now Rule.Loop None }
+        requires missing { IsFirstSpot tables.now Rule.Missing None }
+        requires long { length self.old.marks.items ≡ length tables.now.rows }
+        requires entry { Contains tables.now.rows entry.now }
+        requires reached { Reached tables.now entry.now.at entry.now.number }
+        ensures grows { OnOk result (Grows tables.now self.old.marks.items self.old.left.items self.new.marks.items self.new.left.items) }
+        ensures marked { OnOk result (AreLeadsMarked tables.now self.new.marks.items entry.now) }
+    {
+        self.mark_numbers(tables, entry.at, &entry.row)?;
+        let over = led_over(alloc, tables, entry.at, &entry.row)?;
+        self.mark_all(tables, &over, entry.number)
+    }
+}
+
+// The search that has come to the ports.
+fn from_ports(alloc: Global, tables: &Tables) -> Result<Search, NoMemory>
+    requires form { IsInForm tables.now }
+    requires missing { IsFirstSpot tables.now Rule.Missing None }
+    ensures long { IfOk result (λ search. length search.marks.items ≡ length tables.now.rows) }
+    ensures followed { IfOk result (λ search. IsFollowed tables.now search.marks.items search.left.items) }
+    ensures ports { IfOk result (λ search. ArePortsMarked tables.now search.marks.items) }
+{
+    let mut search = Search {
+        marks: unmarked(alloc, tables.rows.items().len())?,
+        left: Vec::new(alloc),
+    };
+    for port in tables.ports.items() {
+        search.mark(tables, port.at, 0)?;
+    }
+    Ok(search)
+}
+
+/// Marks, by place, exactly the rows that are reached from the ports.
+pub(crate) fn reached_rows(alloc: Global, tables: &Tables) -> Result<Vec<bool>, NoMemory>
+    requires form { IsInForm tables.now }
+    requires loops { IsFirstSpot tables.now Rule.Loop None }
+    requires missing { IsFirstSpot tables.now Rule.Missing None }
+    ensures long { IfOk result (λ marks. length marks.items ≡ length tables.now.rows) }
+    ensures marked { IfOk result (λ marks. AreMarked tables.now marks.items) }
+{
+    let mut search = from_ports(alloc, tables)?;
+    while let Some(place) = search.left.pop() {
+        search.follow(alloc, tables, &tables.rows.items()[place])?;
+    }
+    Ok(search.marks)
+}

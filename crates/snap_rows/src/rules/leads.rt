@@ -1,0 +1,138 @@
+//! Where rows lead: to numbers at their own switch, and to other switches with their own number.
+
+ghost use Rattle.std.specs.Prelude.{◌≡◌, ◌⊎◌, ◌↔◌, ◌++◌, ◌<◌, ℕ, suc, List, [], None, Some, IfOk, OnOk, IsSome, IsTrue, Contains, map};
+ghost use Rattle.std.specs.List.{All};
+ghost use Rattle.snap_rows.specs.declared.tables.Rule.{Rule};
+ghost use Rattle.snap_rows.specs.declared.tables.Stage.{Stage};
+ghost use Rattle.snap_rows.specs.Entries.{row_at, rank_at, rank_of, var_of};
+ghost use Rattle.snap_rows.specs.Form.{IsInForm, IsRowInForm, IsTurnInForm, switch_count};
+ghost use Rattle.snap_rows.specs.Leads.{IsNumberAfter, AreLedOver};
+ghost use Rattle.snap_rows.specs.Rules.{IsFirstSpot};
+ghost use Rattle.snap_rows.specs.Ways.{Way, Route, OwnsBelow};
+
+use crate::look::{next, rank_at, rank_of_test, ranks, row};
+use crate::tables::{Row, Stage, Tables};
+use snap_core::NoMemory;
+use snap_core::policy::Test;
+use std::alloc::Global;
+
+/// Whether a switch has a row of a number.
+pub(crate) fn has_row(tables: &Tables, at: u16, number: u64) -> bool
+    requires { IsInForm tables.now }
+    ensures { IsTrue result ↔ IsSome (row_at tables.now at number) }
+{
+    row(tables.rows.items(), at, number).is_some()
+}
+
+fn has_both(tables: &Tables, at: u16, yes: u64, no: u64) -> bool
+    requires { IsInForm tables.now }
+    ensures { IsTrue result ↔ ((k : ℕ) → (k ≡ yes) ⊎ (k ≡ no) → IsSome (row_at tables.now at k)) }
+{
+    has_row(tables, at, yes) && has_row(tables, at, no)
+}
+
+/// Whether the numbers to which a test row leads have rows at its switch.
+pub(crate) fn numbers_have_rows(tables: &Tables, at: u16, row: &Row) -> bool
+    requires { IsInForm tables.now }
+    ensures { IsTrue result ↔ ((k : ℕ) → IsNumberAfter row.now k → IsSome (row_at tables.now at k)) }
+{
+    match row {
+        Row::Field { yes, no, .. } => has_both(tables, at, *yes, *no),
+        Row::State { yes, no, .. } => has_both(tables, at, *yes, *no),
+        Row::Go { .. } => true,
+        Row::Leaf { .. } => true,
+        Row::Stop => true,
+        Row::Last { .. } => true,
+    }
+}
+
+// Puts the owner of a rank at the end.
+fn add_owner(tables: &Tables, rank: u16, owners: &mut Vec<u16>) -> Result<(), NoMemory>
+    ensures { OnOk result ((x : ℕ) → (Contains owners.old.items x ⊎ (rank_at tables.now rank ≡ Some x)) ↔ Contains owners.new.items x) }
+{
+    if let Some(owner) = rank_at(tables.arrays.items(), rank) {
+        owners.push(owner)?;
+    }
+    Ok(())
+}
+
+// The owners of the ranks below one.
+fn owners(alloc: Global, tables: &Tables, below: u16) -> Result<Vec<u16>, NoMemory>
+    ensures { IfOk result (λ xs. (x : ℕ) → OwnsBelow tables.now below x ↔ Contains xs.items x) }
+{
+    let mut owners = Vec::new(alloc);
+    for rank in 0..below {
+        add_owner(tables, rank, &mut owners)?;
+    }
+    Ok(owners)
+}
+
+// The owners of the ranks up to that of a state test; none in version 1.
+fn owners_up_to(alloc: Global, tables: &Tables, test: &Test) -> Result<Vec<u16>, NoMemory>
+    requires { IsInForm tables.now }
+    ensures { IfOk result (λ xs. (x : ℕ) → ((tables.now.version ≡ 2) × OwnsBelow tables.now (suc (rank_of tables.now (var_of test.now))) x) ↔ Contains xs.items x) }
+{
+    if tables.version != 2 {
+        return Ok(Vec::new(alloc));
+    }
+    owners(alloc, tables, rank_of_test(tables, test) + 1)
+}
+
+// Puts the switches after one on the way to a target at the end.
+fn add_way(tables: &Tables, from: u16, target: u16, way: &mut Vec<u16>) -> Result<(), NoMemory>
+    requires form { IsInForm tables.now }
+    requires loops { IsFirstSpot tables.now Rule.Loop None }
+    requires from { from < switch_count tables.now }
+    requires target { target < switch_count tables.now }
+    ensures { OnOk result ((ws : List ℕ) × Way tables.now target from ws × (way.new.items ≡ way.old.items ++ ws)) }
+{
+    let mut here = from;
+    for step in 0..tables.switches.items().len() {
+        if here == target {
+            return Ok(());
+        }
+        here = next(tables.hops.items(), here, target);
+        way.push(here)?;
+    }
+    unreachable!()
+}
+
+// The switches after one on the way to the switches of stages, one after another.
+fn route(alloc: Global, tables: &Tables, at: u16, stages: &[Stage]) -> Result<Vec<u16>, NoMemory>
+    requires form { IsInForm tables.now }
+    requires loops { IsFirstSpot tables.now Rule.Loop None }
+    requires at { at < switch_count tables.now }
+    requires stages { All (IsTurnInForm tables.now) stages.now }
+    ensures { IfOk result (λ ws. Route tables.now at (map (λ (s : Stage). s.at) stages.now) ws.items) }
+{
+    let mut way = Vec::new(alloc);
+    let mut here = at;
+    for stage in stages {
+        add_way(tables, here, stage.at, &mut way)?;
+        here = stage.at;
+    }
+    Ok(way)
+}
+
+/// The switches to which a row leads with its own number.
+pub(crate) fn led_over(
+    alloc: Global,
+    tables: &Tables,
+    at: u16,
+    row: &Row,
+) -> Result<Vec<u16>, NoMemory>
+    requires form { IsInForm tables.now }
+    requires loops { IsFirstSpot tables.now Rule.Loop None }
+    requires at { at < switch_count tables.now }
+    requires row { IsRowInForm tables.now row.now }
+    ensures { IfOk result (λ xs. AreLedOver tables.now at row.now xs.items) }
+{
+    match row {
+        Row::Field { .. } => Ok(Vec::new(alloc)),
+        Row::State { test, .. } => owners_up_to(alloc, tables, test),
+        Row::Go { to } => Ok(vec![in alloc; next(tables.hops.items(), at, *to)]?),
+        Row::Leaf { stages, .. } => route(alloc, tables, at, stages.items()),
+        Row::Stop => owners(alloc, tables, 1),
+        Row::Last { .. } => owners(alloc, tables, ranks(tables.arrays.items())),
+    }
+}
