@@ -136,11 +136,10 @@ module _ (t : Tables) (b : IsBeginning t) where
   small : length t.switches < 2 ^ 64
   small = omega (arith, b.few_switches)
 
-  Same : Item → Item → Type 0
+  abbrev Same : Item → Item → Type 0
   Same x it = Follows t it → item_body t.version x ≡ item_body t.version it → x ≡ it
 
   body-one : (x : Item) → Follows t x → (it : Item) → letter it ≡ letter x → Same x it
-  unfolding Same
   body-one (item.Field x) f = by-letter (Same (item.Field x)) 102
       (λ y e g same. ap item.Field (some-same x y (sym ((fields-said x (item_body t.version (item.Field x))).1 (refl, f.next.0, f.next.1)) ∙ (fields-said y (item_body t.version (item.Field x))).1 (same, g.next.0, g.next.1))))
       (λ y e. absurd (omega (arith, e))) (λ y e. absurd (omega (arith, e))) (λ y e. absurd (omega (arith, e))) (λ y e. absurd (omega (arith, e))) (λ y e. absurd (omega (arith, e))) (λ y e. absurd (omega (arith, e)))

@@ -114,9 +114,6 @@ part-length ys x zs = omega (arith, length-append ys (x ∷ []), length-append y
 
 -- ---- all sections
 module _ (t : Tables) (b : IsBeginning t) where
-  v : ℕ
-  v = t.version
-
   abbrev fields_to : List Field → Tables
   fields_to fs = record { version = t.version; fields = fs; switches = []; arrays = []; links = []; ports = []; hops = []; rows = [] }
 
@@ -171,9 +168,6 @@ module _ (t : Tables) (b : IsBeginning t) where
   walk-switches = section-walk item.Switch switches_to IsNextSwitch (λ l. l ≡ t.switches) (λ xs x. refl)
       (λ ys x zs w n. (record { order = top (has ys) 2 1 (omega arith); ready = reached 2 (has-2 (whole-has t.switches ys zs x w)); next = n },
         within-none Switches 256 (length (ys ++ (x ∷ []))) (omega (arith, part-length ys x zs, ap length w, b.few_switches)))) t.switches refl b.switches
-
-  up2 : ℕ
-  up2 = cond (has t.switches) 2 1
 
   at2 : cond (has t.switches) 2 1 ≤ 2
   at2 = top (has t.switches) 2 1 (omega arith)
@@ -231,9 +225,6 @@ module _ (t : Tables) (b : IsBeginning t) where
               (walk-join (hops_to []) (map item.Hop t.hops) (map item.Row t.rows) (hops_to t.hops) t walk-hops walk-rows)))))
 
 -- ---- two walks over one text
-end-head : last_line ≡ codes "e" ++ codes "nd\n"
-end-head = refl
-
 pub record Ahead (v : ℕ) (b t : Tables) (rest : List ℕ) : Type 0 where
   pub entry : Item
   pub more : List ℕ
