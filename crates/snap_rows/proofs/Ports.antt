@@ -1,8 +1,14 @@
 -- Ports, and the packets that go to them.
-use Rattle.std.proofs.Common.{◌≡◌, ℕ, ◌+◌, ◌-◌, ◌≤◌, Bool, true, false, not, ◌==◌, List, [], ◌∷◌, map, length, Some, refl, ap, ap₂, ◌∙◌, arith}
-use Rattle.std.specs.Prelude.{◌||◌, if◌then◌else◌, is_some}
+use Rattle.std.proofs.Common.{◌≡◌, ℕ, zero, suc, ◌<◌, get_or, Option, None, sym, subst, ⊎_elim, ◌+◌, ◌-◌, ◌≤◌, Bool, true, false, not, ◌==◌, List, [], ◌∷◌, map, length, Some, refl, ap, ap₂, ◌∙◌, arith}
+use Rattle.std.specs.Prelude.{◌||◌, if◌then◌else◌, is_some, slice_get, option_map, nat_lt}
 use Rattle.std.specs.List.{list_any, filter}
-use Rattle.std.proofs.lemmas.List.{length-map}
+use Rattle.std.specs.List.Sorted.{IsStrictlySortedBy, IsPartitionedBy, IsPartitionPoint}
+use Rattle.std.specs.Ordering.{nat_cmp}
+use Rattle.std.proofs.lemmas.Bool.{eqb-true, eq-eqb, false≢true, cases_lt}
+use Rattle.std.proofs.lemmas.Bool.Decides.{nat_tests}
+use Rattle.std.proofs.lemmas.Map.Keys.{below_from_sorted}
+use Rattle.std.proofs.lemmas.Option.{slice_get_within, get_or_from_slice_get}
+use Rattle.std.proofs.lemmas.List.{length-map, get_or-map}
 use Rattle.std.proofs.lemmas.List.Filters.{length-filter_both}
 use Rattle.snap_core.specs.declared.ports.PortAt.{PortAt}
 use Rattle.snap_core.specs.Packets.{listed}
@@ -13,6 +19,8 @@ use Rattle.snap_rows.specs.declared.head.Action.TheVariants.{Fork}
 use Rattle.snap_rows.specs.declared.head.Sent.{Sent}
 use Rattle.snap_rows.specs.Entries.{Parts, port_in, port_numbers}
 use Rattle.snap_rows.specs.Handles.{sent, forked}
+use Rattle.snap_rows.specs.Places.{port_said}
+use Rattle.snap_rows.proofs.Rows.{some_injective}
 
 -- a number is that of a port where it has a switch
 pub port_is_found : (ps : List PortAt) (n : ℕ) → list_any (λ port. port == n) (map (λ (p : PortAt). p.port) ps) ≡ is_some (port_in ps n)
@@ -23,6 +31,72 @@ port_is_found (p ∷ ps) n = by (p.port == n) (port_is_found ps n)
         → (b || list_any (λ port. port == n) (map (λ (q : PortAt). q.port) ps)) ≡ is_some (if b then Some p.at else port_in ps n)
     by true rest = refl
     by false rest = rest
+
+-- a port's entry
+pub port_entry : (ps : List PortAt) (n w : ℕ) → port_in ps n ≡ Some w → (i : ℕ) × (p : PortAt) × (slice_get ps i ≡ Some p) × (p.port ≡ n) × (p.at ≡ w)
+port_entry [] n w e = absurd (false≢true (ap (λ (o : Option ℕ). is_some o) e))
+port_entry (q ∷ ps) n w e = by (q.port == n) refl e (port_entry ps n w)
+  where
+    by : (b : Bool) → (q.port == n) ≡ b → (if b then Some q.at else port_in ps n) ≡ Some w → (port_in ps n ≡ Some w → (i : ℕ) × (p : PortAt) × (slice_get ps i ≡ Some p) × (p.port ≡ n) × (p.at ≡ w))
+        → (i : ℕ) × (p : PortAt) × (slice_get (q ∷ ps) i ≡ Some p) × (p.port ≡ n) × (p.at ≡ w)
+    by true c h rest = (0, q, refl, eqb-true q.port n c, some_injective _ _ h)
+    by false c h rest = let r = rest h in (suc r.0, r.1, r.2, r.3, r.4)
+
+port_absent : (ps : List PortAt) (n i : ℕ) (p : PortAt) → port_in ps n ≡ None → slice_get ps i ≡ Some p → p.port ≡ n → ⊥
+port_absent [] n i p none is e = false≢true (ap (λ (o : Option PortAt). is_some o) is)
+port_absent (q ∷ ps) n i p none is e = by (q.port == n) refl none i is (λ j. port_absent ps n j p)
+  where
+    by : (b : Bool) → (q.port == n) ≡ b → (if b then Some q.at else port_in ps n) ≡ None → (i : ℕ) → slice_get (q ∷ ps) i ≡ Some p → ((j : ℕ) → port_in ps n ≡ None → slice_get ps j ≡ Some p → p.port ≡ n → ⊥) → ⊥
+    by true c h i is rest = false≢true (sym (ap (λ (o : Option ℕ). is_some o) h))
+    by false c h zero is rest = false≢true (sym c ∙ eq-eqb q.port n (ap (λ (x : PortAt). x.port) (some_injective _ _ is) ∙ e))
+    by false c h (suc j) is rest = rest j h is e
+
+port_below : (ps : List PortAt) → IsStrictlySortedBy nat_cmp (map (λ (p : PortAt). p.port) ps) → (i j : ℕ) (d : PortAt) → i < j → j < length ps → (get_or ps i d).port < (get_or ps j d).port
+port_below ps rise i j d less within =
+    let far : j < length (map (λ (p : PortAt). p.port) ps) = subst (λ n. j < n) (sym (length-map ps (λ (p : PortAt). p.port))) within in
+    let low : i < length ps = omega arith in
+    subst (λ n. n < (get_or ps j d).port) (get_or-map (λ (p : PortAt). p.port) ps i d 0 low)
+    (subst (λ n. get_or (map (λ (p : PortAt). p.port) ps) i 0 < n) (get_or-map (λ (p : PortAt). p.port) ps j d 0 within) (below_from_sorted (map (λ (p : PortAt). p.port) ps) i j 0 rise less far))
+
+pub ports_parted : (ps : List PortAt) → IsStrictlySortedBy nat_cmp (map (λ (p : PortAt). p.port) ps) → (n : ℕ) → IsPartitionedBy (λ (p : PortAt). nat_lt p.port n) ps
+ports_parted ps rise n i j d le within before = ⊎_elim
+    (λ lt. let h = port_below ps rise i j d lt within in grind (arith, nat_tests, h, before))
+    (λ ge. let same : j ≡ i = omega arith in subst (λ k. nat_lt (get_or ps k d).port n ≡ true) same before)
+    (cases_lt i j)
+
+-- a port of the number stands where the search ends
+port_there : (ps : List PortAt) → IsStrictlySortedBy nat_cmp (map (λ (p : PortAt). p.port) ps) → (n i j : ℕ) (p : PortAt) → IsPartitionPoint (λ (p : PortAt). nat_lt p.port n ≡ true) (λ (p : PortAt). nat_lt p.port n ≡ false) ps i → slice_get ps j ≡ Some p → p.port ≡ n → j ≡ i
+port_there ps rise n i j p point is e =
+    let within : j < length ps = slice_get_within ps j p is in
+    let number : (get_or ps j p).port ≡ n = ap (λ (x : PortAt). x.port) (get_or_from_slice_get ps j p p is) ∙ e in
+    ⊎_elim
+    (λ lt. let before = point.0 j p (omega arith) lt in absurd (let no' : ⊥ = grind (arith, nat_tests, number, before) in no'))
+    (λ ge. ⊎_elim
+    (λ lt. let after = point.1 i p (omega arith) (omega arith) in let less = port_below ps rise i j p lt within in absurd (let no' : ⊥ = grind (arith, nat_tests, number, after, less) in no'))
+    (λ le. omega arith)
+    (cases_lt i j))
+    (cases_lt j i)
+
+pub port_said_there : (ps : List PortAt) → IsStrictlySortedBy nat_cmp (map (λ (p : PortAt). p.port) ps) → (n i : ℕ) → IsPartitionPoint (λ (p : PortAt). nat_lt p.port n ≡ true) (λ (p : PortAt). nat_lt p.port n ≡ false) ps i
+    → option_map (λ (p : PortAt). p.at) (port_said (slice_get ps i) n) ≡ port_in ps n
+port_said_there ps rise n i point = by (port_in ps n) refl
+  where
+    other : (o : Option PortAt) → slice_get ps i ≡ o → port_in ps n ≡ None → option_map (λ (p : PortAt). p.at) (port_said o n) ≡ None
+    other None is none = refl
+    other (Some p) is none = case (p.port == n) refl
+      where
+        case : (b : Bool) → (p.port == n) ≡ b → option_map (λ (p : PortAt). p.at) (if b then Some p else None) ≡ None
+        case true c = absurd (port_absent ps n i p none is (eqb-true p.port n c))
+        case false c = refl
+
+    by : (o : Option ℕ) → port_in ps n ≡ o → option_map (λ (p : PortAt). p.at) (port_said (slice_get ps i) n) ≡ port_in ps n
+    by None e = other (slice_get ps i) refl e ∙ sym e
+    by (Some w) e =
+        let r = port_entry ps n w e in
+        let same : r.0 ≡ i = port_there ps rise n i r.0 r.1 point r.2 r.3 in
+        ap (λ o. option_map (λ (p : PortAt). p.at) (port_said o n)) (ap (slice_get ps) (sym same) ∙ r.2)
+        ∙ ap (λ b. option_map (λ (p : PortAt). p.at) (if b then Some r.1 else None)) (eq-eqb r.1.port n r.3)
+        ∙ ap Some r.4 ∙ sym e
 
 -- the packets that don't go to a port are lost
 pub forks_so : (t : Tables) (os : List Parts) (k : List ℕ) (ks : List (List ℕ)) (copies : List Sent) → ks ≡ listed (results os k) → copies ≡ map sent (filter (goes_out (port_numbers t)) ks)

@@ -2,6 +2,7 @@
 use Rattle.std.specs.Prelude.{◌≡◌, ℕ, Bool, ◌&&◌, ◌||◌, ◌==◌, nat_lt, Option, Some, None, List, slice_get, if◌then◌else◌}
 use Rattle.std.specs.Ordering.{nat_cmp, ordering_then}
 use Rattle.std.specs.List.Sorted.{IsStrictlySortedBy}
+use Rattle.snap_core.specs.declared.ports.PortAt.{PortAt}
 use Rattle.snap_rows.specs.declared.tables.Hop.{Hop}
 use Rattle.snap_rows.specs.declared.tables.RowAt.{RowAt}
 
@@ -21,3 +22,8 @@ IsRowPlace rows w n i = (r : RowAt) × (slice_get rows i ≡ Some r) × (r.at �
 abbrev pub hop_said : Option Hop → ℕ → ℕ → ℕ
 hop_said None w x = w
 hop_said (Some h) w x = if (h.from == w) && (h.target == x) then h.next else w
+
+-- the port of number n, if it is this one
+abbrev pub port_said : Option PortAt → ℕ → Option PortAt
+port_said None n = None
+port_said (Some p) n = if p.port == n then Some p else None

@@ -1,7 +1,8 @@
 //! Looking up rows, hops, ports and ranks.
 
-ghost use Rattle.std.specs.Prelude.{◌≡◌, ◌↔◌, IsTrue, Some, map, length, slice_index, option_map, IfSome, IfNone, is_some, slice_get, ◌<◌, All, true, false, None};
+ghost use Rattle.std.specs.Prelude.{◌≡◌, ◌↔◌, IsTrue, Some, map, length, slice_index, option_map, IfSome, IfNone, is_some, slice_get, nat_lt, ◌<◌, All, true, false, None};
 ghost use Rattle.std.specs.List.Sorted.{IsStrictlySortedBy, IsPartitionPoint};
+ghost use Rattle.std.specs.Ordering.{nat_cmp};
 ghost use Rattle.snap_core.specs.Switch.{goes_out};
 ghost use Rattle.snap_core.specs.declared.ports.PortAt.{PortAt};
 ghost use Rattle.snap_rows.specs.declared.tables.ArrayAt.{ArrayAt};
@@ -9,7 +10,7 @@ ghost use Rattle.snap_rows.specs.declared.tables.Row.{Row};
 ghost use Rattle.snap_rows.specs.declared.tables.RowAt.{RowAt};
 ghost use Rattle.snap_rows.specs.declared.tables.Hop.{Hop};
 ghost use Rattle.snap_rows.specs.Form.{IsRowInForm, IsInForm, row_cmp, hop_cmp, array_count, switch_count};
-ghost use Rattle.snap_rows.specs.Places.{is_before, IsRowPlace, hop_said};
+ghost use Rattle.snap_rows.specs.Places.{is_before, IsRowPlace, hop_said, port_said};
 ghost use Rattle.snap_rows.specs.Rules.{IsValid};
 ghost use Rattle.snap_rows.specs.Entries.{row_in, row_at, hop_in, next, port_in, port_at, rank_in, rank_at, rank_of, ranks, ranks_in, var_of, owner_of};
 
@@ -38,10 +39,13 @@ impl Valid {
     }
 
     /// The switch of a port.
-    pub fn port_at(&self, port: u64) -> Option<u16>
-        ensures { result ≡ port_at self.now port }
+    pub fn port_at(&self, number: u64) -> Option<u16>
+        ensures { result ≡ port_at self.now number }
     {
-        port_at(self.tables().ports.items(), port)
+        match port(self.tables().ports.items(), number) {
+            Some(entry) => Some(entry.at),
+            None => None,
+        }
     }
 
     /// The switch of an array.
@@ -193,16 +197,37 @@ pub(crate) fn next(hops: &[Hop], at: u16, target: u16) -> u16
     hop_said(hops, hops_before(hops, at, target), at, target)
 }
 
-/// The switch of a port.
-fn port_at(ports: &[PortAt], port: u64) -> Option<u16>
-    ensures { result ≡ port_in ports.now port }
+// How many ports are less than a number.
+fn ports_before(ports: &[PortAt], number: u64) -> usize
+    requires { IsStrictlySortedBy nat_cmp (map (λ (p : PortAt). p.port) ports.now) }
+    ensures { IsPartitionPoint (λ (p : PortAt). nat_lt p.port number ≡ true) (λ (p : PortAt). nat_lt p.port number ≡ false) ports.now result }
 {
-    for entry in ports {
-        if entry.port as u64 == port {
-            return Some(entry.at);
+    ports.partition_point(|entry| (entry.port as u64) < number)
+}
+
+// The port at a place, if it has this number.
+fn port_said(ports: &[PortAt], place: usize, number: u64) -> Option<PortAt>
+    ensures { result ≡ port_said (slice_get ports.now place) number }
+{
+    match ports.get(place) {
+        Some(entry) => {
+            if entry.port as u64 == number {
+                Some(*entry)
+            } else {
+                None
+            }
         }
+        None => None,
     }
-    None
+}
+
+// The port of a number.
+fn port(ports: &[PortAt], number: u64) -> Option<PortAt>
+    requires { IsStrictlySortedBy nat_cmp (map (λ (p : PortAt). p.port) ports.now) }
+    ensures at { option_map (λ (p : PortAt). p.at) result ≡ port_in ports.now number }
+    ensures number { IfSome result (λ p. p.port ≡ number) }
+{
+    port_said(ports, ports_before(ports, number), number)
 }
 
 /// The owner of a rank.
@@ -217,26 +242,17 @@ pub(crate) fn rank_at(arrays: &[ArrayAt], rank: u16) -> Option<u16>
     None
 }
 
-// The port of this number.
-fn port_of(ports: &[PortAt], number: u64) -> Option<u32>
-    ensures some { is_some result ≡ is_some (port_in ports.now number) }
-    ensures same { IfSome result (λ port. port ≡ number) }
-{
-    for entry in ports {
-        if entry.port as u64 == number {
-            return Some(entry.port);
-        }
-    }
-    None
-}
-
 /// The port that a packet's `outport` names.
 pub(crate) fn out_port(ports: &[PortAt], packet: &Packet) -> Option<u32>
-    requires { 1 < length packet.now }
+    requires ports { IsStrictlySortedBy nat_cmp (map (λ (p : PortAt). p.port) ports.now) }
+    requires packet { 1 < length packet.now }
     ensures some { is_some result ≡ goes_out (map (λ (p : PortAt). p.port) ports.now) packet.now }
     ensures same { IfSome result (λ port. port ≡ slice_index packet.now 1) }
 {
-    port_of(ports, packet.get(1))
+    match port(ports, packet.get(1)) {
+        Some(entry) => Some(entry.port),
+        None => None,
+    }
 }
 
 // The number of ranks.
