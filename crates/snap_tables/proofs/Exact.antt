@@ -34,8 +34,20 @@ version-same a b m n f g e = ⊎_elim
 
 no-entries-begin : (v : ℕ) → (v ≡ 1) ⊎ (v ≡ 2) → IsBeginning (no_entries v)
 no-entries-begin v h = record {
-  version = h; fields = tt; switches = tt; arrays = tt; links = tt; ports = tt; hops = tt; rows = tt; ready = refl;
-  few_comps = omega arith; few_switches = omega arith; few_arrays = omega arith; few_links = omega arith; few_ports = omega arith;
+  version = h;
+  fields = tt;
+  switches = tt;
+  arrays = tt;
+  links = tt;
+  ports = tt;
+  hops = tt;
+  rows = tt;
+  ready = refl;
+  few_comps = omega arith;
+  few_switches = omega arith;
+  few_arrays = omega arith;
+  few_links = omega arith;
+  few_ports = omega arith;
 }
 
 module _ (b t : Tables) (hb : IsBeginning b) (ht : IsBeginning t) (rest : List ℕ) (e : front_text b ++ rest ≡ text t) where
@@ -80,8 +92,8 @@ module _ (t : Tables) (ht : IsBeginning t) (wt : IsWhole t) where
       let e = sym p.begins.split in
       ⊎_elim (λ q. item-no-end p.tables p.begins.beginning p.entry p.rest (codes "nd\n") q.1)
       (λ a.
-        let one = item-one p.tables p.begins.beginning p.entry a.entry p.rest a.more p.follows a.follows (ahead-line p.tables p.begins.beginning rest e a) in
-        none-some (which, n) (sym (ap (λ it. passed (with_item p.tables it) it) one.0 ∙ a.few) ∙ p.passes)) (meets p.tables t p.begins.beginning ht rest e)
+      let one = item-one p.tables p.begins.beginning p.entry a.entry p.rest a.more p.follows a.follows (ahead-line p.tables p.begins.beginning rest e a) in
+      none-some (which, n) (sym (ap (λ it. passed (with_item p.tables it) it) one.0 ∙ a.few) ∙ p.passes)) (meets p.tables t p.begins.beginning ht rest e)
 
 pub reads-each : ReadsEach
 reads-each t (Ok u) ht wt vt r = inl (ap Ok (spells-one u t r.1 r.2 ht wt (sym r.0)))

@@ -58,12 +58,11 @@ module _ {X : Type 0} (make : X → Item) (state : List X → Tables) (IsNext' :
   section-from before [] w all = ap state (sym (append-nil before))
   section-from before (x ∷ xs) w all =
       let n = next before x xs w all.0 in
-      let shift = append_assoc before (x ∷ []) xs in
-      (
+      let shift = append_assoc before (x ∷ []) xs in (
         n.0,
         ap (λ t. passed t (make x)) (puts before x) ∙ n.1,
         subst (λ t. Walk t (map make xs) (state (before ++ (x ∷ xs)))) (sym (puts before x))
-          (subst (λ l. Walk (state (before ++ (x ∷ []))) (map make xs) (state l)) shift (section-from (before ++ (x ∷ [])) xs (subst Within (sym shift) w) all.1)),
+            (subst (λ l. Walk (state (before ++ (x ∷ []))) (map make xs) (state l)) shift (section-from (before ++ (x ∷ [])) xs (subst Within (sym shift) w) all.1)),
       )
 
   section-walk : (xs : List X) → Within xs → AreInTurn IsNext' xs → Walk (state []) (map make xs) (state xs)
@@ -99,7 +98,7 @@ ready-mono t k m h e =
     let q = and_parts (nat_lt m 2 || nat_le 2 (length t.fields)) (nat_lt m 3 || has t.switches) p.0 in
     and_from ((nat_lt k 2 || nat_le 2 (length t.fields)) && (nat_lt k 3 || has t.switches)) (nat_lt k 7 || has_all_hops t)
     (and_from (nat_lt k 2 || nat_le 2 (length t.fields)) (nat_lt k 3 || has t.switches)
-      (fewer (nat_lt m 2) (nat_lt k 2) (lt-mono k m 2 h) (nat_le 2 (length t.fields)) q.0) (fewer (nat_lt m 3) (nat_lt k 3) (lt-mono k m 3 h) (has t.switches) q.1))
+    (fewer (nat_lt m 2) (nat_lt k 2) (lt-mono k m 2 h) (nat_le 2 (length t.fields)) q.0) (fewer (nat_lt m 3) (nat_lt k 3) (lt-mono k m 3 h) (has t.switches) q.1))
     (fewer (nat_lt m 7) (nat_lt k 7) (lt-mono k m 7 h) (has_all_hops t) p.1)
 
 within-none : (which : Which) (most n : ℕ) → n ≤ most → over which most n ≡ None
@@ -161,13 +160,17 @@ module _ (t : Tables) (b : IsBeginning t) where
 
   walk-fields : Walk (fields_to []) (map item.Field t.fields) (fields_to t.fields)
   walk-fields = section-walk item.Field fields_to IsNextField (λ l. l ≡ t.fields) (λ xs x. refl)
-      (λ ys x zs w n. (record { order = omega arith; ready = refl; next = n },
-        within-none Components 64 (count (ys ++ (x ∷ []))) (omega (arith, count-more (ys ++ (x ∷ [])) zs, ap count (append_assoc ys (x ∷ []) zs ∙ w), b.few_comps)))) t.fields refl b.fields
+      (λ ys x zs w n. (
+        record { order = omega arith; ready = refl; next = n },
+        within-none Components 64 (count (ys ++ (x ∷ []))) (omega (arith, count-more (ys ++ (x ∷ [])) zs, ap count (append_assoc ys (x ∷ []) zs ∙ w), b.few_comps)),
+      )) t.fields refl b.fields
 
   walk-switches : Walk (switches_to []) (map item.Switch t.switches) (switches_to t.switches)
   walk-switches = section-walk item.Switch switches_to IsNextSwitch (λ l. l ≡ t.switches) (λ xs x. refl)
-      (λ ys x zs w n. (record { order = top (has ys) 2 1 (omega arith); ready = reached 2 (has-2 (whole-has t.switches ys zs x w)); next = n },
-        within-none Switches 256 (length (ys ++ (x ∷ []))) (omega (arith, part-length ys x zs, ap length w, b.few_switches)))) t.switches refl b.switches
+      (λ ys x zs w n. (
+        record { order = top (has ys) 2 1 (omega arith); ready = reached 2 (has-2 (whole-has t.switches ys zs x w)); next = n },
+        within-none Switches 256 (length (ys ++ (x ∷ []))) (omega (arith, part-length ys x zs, ap length w, b.few_switches)),
+      )) t.switches refl b.switches
 
   at2 : cond (has t.switches) 2 1 ≤ 2
   at2 = top (has t.switches) 2 1 (omega arith)
@@ -189,18 +192,24 @@ module _ (t : Tables) (b : IsBeginning t) where
 
   walk-arrays : Walk (arrays_to []) (map item.Array t.arrays) (arrays_to t.arrays)
   walk-arrays = section-walk item.Array arrays_to (IsNextArray t.version (length t.switches)) (λ l. l ≡ t.arrays) (λ xs x. refl)
-      (λ ys x zs w n. (record { order = at3 (has ys); ready = reached 3 (has-3 (whole-has t.arrays ys zs x w)); next = n },
-        within-none Arrays 64 (length (ys ++ (x ∷ []))) (omega (arith, part-length ys x zs, ap length w, b.few_arrays)))) t.arrays refl b.arrays
+      (λ ys x zs w n. (
+        record { order = at3 (has ys); ready = reached 3 (has-3 (whole-has t.arrays ys zs x w)); next = n },
+        within-none Arrays 64 (length (ys ++ (x ∷ []))) (omega (arith, part-length ys x zs, ap length w, b.few_arrays)),
+      )) t.arrays refl b.arrays
 
   walk-links : Walk (links_to []) (map item.Link t.links) (links_to t.links)
   walk-links = section-walk item.Link links_to (IsNextLink (length t.switches)) (λ l. l ≡ t.links) (λ xs x. refl)
-      (λ ys x zs w n. (record { order = at4 (has ys); ready = reached 4 (has-4 (whole-has t.links ys zs x w)); next = n },
-        within-none Links 4096 (length (ys ++ (x ∷ []))) (omega (arith, part-length ys x zs, ap length w, b.few_links)))) t.links refl b.links
+      (λ ys x zs w n. (
+        record { order = at4 (has ys); ready = reached 4 (has-4 (whole-has t.links ys zs x w)); next = n },
+        within-none Links 4096 (length (ys ++ (x ∷ []))) (omega (arith, part-length ys x zs, ap length w, b.few_links)),
+      )) t.links refl b.links
 
   walk-ports : Walk (ports_to []) (map item.Port t.ports) (ports_to t.ports)
   walk-ports = section-walk item.Port ports_to (IsNextPort (length t.switches)) (λ l. l ≡ t.ports) (λ xs x. refl)
-      (λ ys x zs w n. (record { order = at5 (has ys); ready = reached 5 (has-5 (whole-has t.ports ys zs x w)); next = n },
-        within-none Ports 1024 (length (ys ++ (x ∷ []))) (omega (arith, part-length ys x zs, ap length w, b.few_ports)))) t.ports refl b.ports
+      (λ ys x zs w n. (
+        record { order = at5 (has ys); ready = reached 5 (has-5 (whole-has t.ports ys zs x w)); next = n },
+        within-none Ports 1024 (length (ys ++ (x ∷ []))) (omega (arith, part-length ys x zs, ap length w, b.few_ports)),
+      )) t.ports refl b.ports
 
   walk-hops : Walk (hops_to []) (map item.Hop t.hops) (hops_to t.hops)
   walk-hops = section-walk item.Hop hops_to (IsNextHop (length t.switches)) (λ l. l ≡ t.hops) (λ xs x. refl)
@@ -219,10 +228,10 @@ module _ (t : Tables) (b : IsBeginning t) where
   walk-whole =
       walk-join (no_entries t.version) (map item.Field t.fields) _ (fields_to t.fields) t walk-fields
       (walk-join (switches_to []) (map item.Switch t.switches) _ (switches_to t.switches) t walk-switches
-        (walk-join (arrays_to []) (map item.Array t.arrays) _ (arrays_to t.arrays) t walk-arrays
-          (walk-join (links_to []) (map item.Link t.links) _ (links_to t.links) t walk-links
-            (walk-join (ports_to []) (map item.Port t.ports) _ (ports_to t.ports) t walk-ports
-              (walk-join (hops_to []) (map item.Hop t.hops) (map item.Row t.rows) (hops_to t.hops) t walk-hops walk-rows)))))
+      (walk-join (arrays_to []) (map item.Array t.arrays) _ (arrays_to t.arrays) t walk-arrays
+      (walk-join (links_to []) (map item.Link t.links) _ (links_to t.links) t walk-links
+      (walk-join (ports_to []) (map item.Port t.ports) _ (ports_to t.ports) t walk-ports
+      (walk-join (hops_to []) (map item.Hop t.hops) (map item.Row t.rows) (hops_to t.hops) t walk-hops walk-rows)))))
 
 -- ---- two walks over one text
 pub record Ahead (v : ℕ) (b t : Tables) (rest : List ℕ) : Type 0 where
@@ -238,7 +247,8 @@ pub walks : (s : Tables) → IsBeginning s → (its jts : List Item) (b t : Tabl
 walks s h [] [] b t rest tail w u is e = inl (sym w ∙ u, e)
 walks s h [] (jt ∷ jts) b t rest tail w u is e =
     inr (record {
-      entry = jt; more = lines s.version jts ++ tail;
+      entry = jt;
+      more = lines s.version jts ++ tail;
       follows = subst (λ x. Follows x jt) w u.0;
       few = subst (λ x. passed (with_item x jt) jt ≡ None) w u.1;
       line = e ∙ append_assoc (item_line s.version jt) (lines s.version jts) tail;

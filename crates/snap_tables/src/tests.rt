@@ -3,10 +3,10 @@ use crate::print::{print, print_tables};
 use crate::read::read;
 use snap_core::NoMemory;
 use snap_core::lists::{Atoms, Name, Names, Out};
-use snap_core::policy::{Atom, Op, Term, Test, Update};
 use snap_core::parts::split_at_first;
+use snap_core::policy::{Atom, Op, Term, Test, Update};
 use snap_core::ports::{Links, PortAt, Ports};
-use snap_core::program::{Field, Fields};
+use snap_core::program::Fields;
 use snap_io::MemorySink;
 use snap_rows::lists::{ArraysAt, Hops, Outs, Rows, Stages, Updates};
 use snap_rows::tables::{ArrayAt, Hop, Row, RowAt, Rule, Stage, Tables};
@@ -15,13 +15,6 @@ use std::test::Fail;
 
 fn name(alloc: Global, text: &str) -> Result<Name, NoMemory> {
     Ok(Name::new(Vec::from_slice(alloc, text.as_bytes())?))
-}
-
-fn field(alloc: Global, text: &str) -> Result<Field, NoMemory> {
-    Ok(Field {
-        name: name(alloc, text)?,
-        prefix: None,
-    })
 }
 
 fn outs(alloc: Global, port: u64) -> Result<Outs, NoMemory> {
@@ -59,10 +52,7 @@ fn two_switches(
     next: u16,
     rows: Vec<RowAt>,
 ) -> Result<Tables, NoMemory> {
-    let fields = Fields::new(
-        alloc,
-        vec![in alloc; field(alloc, "inport")?, field(alloc, "outport")?]?,
-    )?;
+    let fields = Fields::ports(alloc)?;
     Ok(Tables {
         version,
         fields,
@@ -260,6 +250,8 @@ fn broken_rules_are_told(rt: HostRuntime) -> Result<(), Fail> {
     assert!(rt; broken(alloc, 6, b"array s 0")? == Some((Rule::Owner, 13)));
     assert!(rt; broken(alloc, 13, b"row 1 0 state 0 [#0] #0 0 2")? == Some((Rule::Rise, 13)));
     assert!(rt; broken(alloc, 12, b"")? == Some((Rule::Missing, 8)));
-    assert!(rt; broken(alloc, 15, b"row 1 2 leaf out c1=#2\nrow 1 3 leaf out")? == Some((Rule::Spare, 16)));
+    assert!(rt;
+        broken(alloc, 15, b"row 1 2 leaf out c1=#2\nrow 1 3 leaf out")? == Some((Rule::Spare, 16))
+    );
     Ok(())
 }
