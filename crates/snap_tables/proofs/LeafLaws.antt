@@ -15,11 +15,11 @@ use Rattle.snap_tables.proofs.NumberLines.{none-left}
 use Rattle.snap_tables.proofs.PieceLemmas.{AreApart, fails-none, false-true, takes-one}
 use Rattle.snap_tables.proofs.PieceLaws.{outs-apart, stages-apart, updates-apart}
 
-outs-no-stage : (os : List Parts) → opens_stage (flat_map out_words os) ≡ false
+pub outs-no-stage : (os : List Parts) → opens_stage (flat_map out_words os) ≡ false
 outs-no-stage [] = refl
 outs-no-stage (o ∷ os) = refl
 
-outs-no-update : (os : List Parts) → begins_update (flat_map out_words os) ≡ false
+pub outs-no-update : (os : List Parts) → begins_update (flat_map out_words os) ≡ false
 outs-no-update [] = refl
 outs-no-update (o ∷ os) = refl
 

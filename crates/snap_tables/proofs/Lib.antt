@@ -22,3 +22,6 @@ pub mod Steps
 pub mod HopTurns
 pub mod Formed
 pub mod ReadLemmas
+pub mod OneItem
+pub mod Walks
+pub mod Exact

@@ -31,7 +31,7 @@ use Rattle.snap_tables.proofs.Shades.{decimal-ink}
 use Rattle.snap_tables.proofs.TestLemmas.{switches-said}
 
 -- an entry by the first byte of its line
-by-letter : (P : Item → Type 0) (n : ℕ) → ((x : Field) → n ≡ 102 → P (item.Field x)) → ((x : List ℕ) → n ≡ 115 → P (item.Switch x)) → ((x : ArrayAt) → n ≡ 97 → P (item.Array x)) → ((x : ℕ × ℕ) → n ≡ 108 → P (item.Link x))
+pub by-letter : (P : Item → Type 0) (n : ℕ) → ((x : Field) → n ≡ 102 → P (item.Field x)) → ((x : List ℕ) → n ≡ 115 → P (item.Switch x)) → ((x : ArrayAt) → n ≡ 97 → P (item.Array x)) → ((x : ℕ × ℕ) → n ≡ 108 → P (item.Link x))
     → ((x : PortAt) → n ≡ 112 → P (item.Port x)) → ((x : Hop) → n ≡ 104 → P (item.Hop x)) → ((x : RowAt) → n ≡ 114 → P (item.Row x)) → (it : Item) → letter it ≡ n → P it
 by-letter P n f s a l p h r (item.Field x) e = f x (sym e)
 by-letter P n f s a l p h r (item.Switch x) e = s x (sym e)
@@ -215,7 +215,7 @@ module _ (v : ℕ) (k : Counts) (ranked : List ArrayAt) (rs : List RowAt) (line 
             ((d.1, m.1, said.1, above), text-of line (codes "row") (decimal at ∷ decimal number ∷ row_words b) words)
 
 -- lines by their first byte
-body-letter : (v : ℕ) (it : Item) → (rest : List ℕ) × (item_body v it ≡ letter it ∷ rest)
+pub body-letter : (v : ℕ) (it : Item) → (rest : List ℕ) × (item_body v it ≡ letter it ∷ rest)
 body-letter v (item.Field x) = (_, refl)
 body-letter v (item.Switch x) = (_, refl)
 body-letter v (item.Array x) = (_, refl)

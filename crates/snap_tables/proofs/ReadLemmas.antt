@@ -12,7 +12,7 @@ use Rattle.snap_rows.specs.declared.tables.Spot.{Spot}
 use Rattle.snap_rows.specs.declared.tables.Spot.TheVariants as spot
 use Rattle.snap_rows.specs.declared.tables.Tables.{Tables}
 use Rattle.snap_rows.specs.Form.{IsInForm}
-use Rattle.snap_rows.specs.Rules.{IsFirstBroken, Keeps}
+use Rattle.snap_rows.specs.Rules.{IsFirstBroken, IsValid, Keeps}
 use Rattle.snap_tables.specs.Joins.{Lacks, join}
 use Rattle.snap_tables.specs.Text.{Words, first_line, last_line, rank_words, row_words, spaced, text}
 use Rattle.snap_tables.specs.Drafts.{ArePlaces, IsFirstSplit, IsItem, IsKept, IsLineFault, IsNoFirst, IsNone, IsPutLine, IsReadTo, first_body, is_last, no_entries, place_of, tables_of}
@@ -46,7 +46,7 @@ parts-line (b ∷ w) more h =
     ap (λ t. cond t ([] ∷ parts_by is_lf (w ++ (10 ∷ more))) (onto_first b (parts_by is_lf (w ++ (10 ∷ more))))) h.0 ∙ ap (onto_first b) (parts-line w more h.1)
 
 module _ (rest body more : List ℕ) (lacks : Lacks 10 body) (same : rest ≡ (body ++ codes "\n") ++ more) where
-  whole-line : parts_by is_lf rest ≡ body ∷ parts_by is_lf more
+  pub whole-line : parts_by is_lf rest ≡ body ∷ parts_by is_lf more
   whole-line = ap (parts_by is_lf) (same ∙ append_assoc body (codes "\n") more) ∙ parts-line body more lacks
 
   pub line-is : (line behind : List ℕ) → parts_by is_lf rest ≡ line ∷ parts_by is_lf behind → line ≡ body
@@ -59,7 +59,7 @@ module _ (rest body more : List ℕ) (lacks : Lacks 10 body) (same : rest ≡ (b
 first-ink : (v : ℕ) → (v ≡ 1) ⊎ (v ≡ 2) → Lacks 10 (first_body v)
 first-ink v h = body-lacks (codes "snap-tables") (decimal v ∷ []) (ink-if (codes "snap-tables") refl) (decimal-ink v (Rattle.std.proofs.Common.⊎_elim (λ e. omega (arith, e)) (λ e. omega (arith, e)) h), tt)
 
-digit-body : (v : ℕ) → v < 10 → codes "snap-tables " ++ ((48 + v) ∷ []) ≡ first_body v
+pub digit-body : (v : ℕ) → v < 10 → codes "snap-tables " ++ ((48 + v) ∷ []) ≡ first_body v
 digit-body v h = ap (λ d. codes "snap-tables" ++ (32 ∷ (d ++ []))) (sym (decimal_digit v h))
 
 pub first-is-one : (line : List ℕ) → bytes_eq line (codes "snap-tables 1") ≡ true → ((◌≡◌ {A = ℕ} 1 1) ⊎ (◌≡◌ {A = ℕ} 1 2)) × (line ≡ first_body 1)
@@ -109,7 +109,7 @@ begins-first bytes rest v s = record {
 
 module _ (t : Tables) (b : IsBeginning t) where
   -- no line of an entry has an LF in it
-  item-lacks : (it : Item) → Follows t it → Lacks 10 (item_body t.version it)
+  pub item-lacks : (it : Item) → Follows t it → Lacks 10 (item_body t.version it)
   item-lacks (item.Field f) fo = body-lacks (codes "field") ((f.name ++ Rattle.snap_tables.specs.Text.prefix_text f.prefix) ∷ []) (ink-if (codes "field") refl) (append-ink f.name (Rattle.snap_tables.specs.Text.prefix_text f.prefix) (name-ink f.name fo.next.0) (prefix-ink f.prefix fo.next.1), tt)
   item-lacks (item.Switch n) fo = body-lacks (codes "switch") (n ∷ []) (ink-if (codes "switch") refl) (switch-ink n fo.next.0, tt)
   item-lacks (item.Array a) fo = body-lacks (codes "array") (a.name ∷ decimal a.at ∷ rank_words t.version a.rank) (ink-if (codes "array") refl) (name-ink a.name fo.next.0, (decimal-ink a.at (omega (arith, fo.next.1, b.few_switches)), rank-ink t.version a.rank fo.next.2))
@@ -234,4 +234,9 @@ pub read-form : (bytes : List ℕ) (d : Draft) → IsReadTo bytes d → IsInForm
 read-form bytes d r = in-form (tables_of d) r.beginning r.whole
 
 pub read-breaks : (bytes : List ℕ) (d : Draft) (p : Places) → IsReadTo bytes d → ArePlaces (tables_of d) p → (rule : Rule) (s : Spot) → IsFirstBroken (tables_of d) rule s → Breaks bytes rule (place_of p s)
-read-breaks bytes d p r are rule s first = record { tables = tables_of d; spot = s; whole = r.text; form = read-form bytes d r; first = first; place = place-line (tables_of d) p are s }
+read-breaks bytes d p r are rule s first = record { tables = tables_of d; spot = s; whole = r.text; beginning = r.beginning; is_whole = r.whole; form = read-form bytes d r; first = first; place = place-line (tables_of d) p are s }
+
+pub read-valid : (bytes : List ℕ) (d : Draft) (t : Tables) → IsReadTo bytes d → t ≡ tables_of d → IsValid t → IsRead bytes (Ok t)
+read-valid bytes d t r same valid =
+    let here : IsRead bytes (Ok (tables_of d)) = (r.text, r.beginning, r.whole, read-form bytes d r, subst IsValid same valid) in
+    subst (λ x. IsRead bytes (Ok x)) (sym same) here

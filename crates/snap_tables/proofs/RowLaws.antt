@@ -109,12 +109,12 @@ module _ (k : Counts) (fits : k.comps < 2 ^ 64) (few : k.arrays < 2 ^ 64) where
       let words = t.0 ∙ ap (λ l. test_words a.0.0 ++ l) (p.1 ∙ ap (λ l. p.0 ∷ l) (q.1 ∙ ap (λ l. q.0 ∷ l) (none-left z.0.1 d.0)) ∙ (λ i. m.0 i ∷ n.0 i ∷ [])) in
       subst (IsRowSaid v k ranked ws) (sym d.1) (tested-row v ranked a.0.0 y.0.0 z.0.0 ws words t.1 m.1 n.1)
 
-  said-test-row : (t : Test) (y z : ℕ) → IsTestOf k.comps k.arrays t → y < 2 ^ 64 → z < 2 ^ 64 → test_row_said k (test_words t ++ (decimal y ∷ decimal z ∷ [])) ≡ Some (tested t y z)
+  pub said-test-row : (t : Test) (y z : ℕ) → IsTestOf k.comps k.arrays t → y < 2 ^ 64 → z < 2 ^ 64 → test_row_said k (test_words t ++ (decimal y ∷ decimal z ∷ [])) ≡ Some (tested t y z)
   said-test-row t y z f fy fz =
       rw (taken-test t (decimal y ∷ decimal z ∷ []) f, word-u64 y fy, word-u64 z fz) refl
 
   -- no other row begins so
-  go-only : (b : Row) → opens_with (codes "go") (row_words b) ≡ true → (x : ℕ) × (b ≡ row.Go x)
+  pub go-only : (b : Row) → opens_with (codes "go") (row_words b) ≡ true → (x : ℕ) × (b ≡ row.Go x)
   go-only (row.Field (Value c n) y z) e = absurd (false-true e)
   go-only (row.Field (Equal a b n) y z) e = absurd (false-true e)
   go-only (row.Field (StateTest v es x) y z) e = absurd (false-true e)
@@ -126,7 +126,7 @@ module _ (k : Counts) (fits : k.comps < 2 ^ 64) (few : k.arrays < 2 ^ 64) where
   go-only row.Stop e = absurd (false-true e)
   go-only (row.Last us os) e = absurd (false-true e)
 
-  stop-only : (b : Row) → opens_with (codes "stop") (row_words b) ≡ true → b ≡ row.Stop
+  pub stop-only : (b : Row) → opens_with (codes "stop") (row_words b) ≡ true → b ≡ row.Stop
   stop-only (row.Field (Value c n) y z) e = absurd (false-true e)
   stop-only (row.Field (Equal a b n) y z) e = absurd (false-true e)
   stop-only (row.Field (StateTest v es x) y z) e = absurd (false-true e)

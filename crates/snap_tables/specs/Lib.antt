@@ -8,3 +8,4 @@ pub mod Rows
 pub mod Entries
 pub mod Lines
 pub mod Drafts
+pub mod Exact

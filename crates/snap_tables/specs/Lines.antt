@@ -162,13 +162,15 @@ pub record Breaks (bytes : List ℕ) (rule : Rule) (line : ℕ) : Type 0 where
   pub tables : Tables
   pub spot : Spot
   pub whole : bytes ≡ text tables
+  pub beginning : IsBeginning tables
+  pub is_whole : IsWhole tables
   pub form : IsInForm tables
   pub first : IsFirstBroken tables rule spot
   pub place : line ≡ line_of tables spot
 
 -- what is read of a text: tables that it spells, which are valid; or the first thing that is wrong
 abbrev pub IsRead : List ℕ → Result Tables TablesFault → Type 0
-IsRead bytes (Ok t) = (bytes ≡ text t) × IsInForm t × IsValid t
+IsRead bytes (Ok t) = (bytes ≡ text t) × IsBeginning t × IsWhole t × IsInForm t × IsValid t
 IsRead bytes (Err (Line l)) = IsBadLine bytes l
 IsRead bytes (Err (Limit which n)) = Passes bytes which n
 IsRead bytes (Err (Broken rule l)) = Breaks bytes rule l

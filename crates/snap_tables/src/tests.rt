@@ -3,24 +3,18 @@ use crate::print::{print, print_tables};
 use crate::read::read;
 use snap_core::NoMemory;
 use snap_core::lists::{Atoms, Name, Names, Out};
+use snap_core::parts::split_at_first;
 use snap_core::policy::{Atom, Op, Term, Test, Update};
 use snap_core::ports::{Links, PortAt, Ports};
-use snap_core::program::{Field, Fields};
+use snap_core::program::Fields;
 use snap_io::MemorySink;
 use snap_rows::lists::{ArraysAt, Hops, Outs, Rows, Stages, Updates};
-use snap_rows::tables::{ArrayAt, Hop, Row, RowAt, Stage, Tables};
+use snap_rows::tables::{ArrayAt, Hop, Row, RowAt, Rule, Stage, Tables};
 use std::alloc::Global;
 use std::test::Fail;
 
 fn name(alloc: Global, text: &str) -> Result<Name, NoMemory> {
     Ok(Name::new(Vec::from_slice(alloc, text.as_bytes())?))
-}
-
-fn field(alloc: Global, text: &str) -> Result<Field, NoMemory> {
-    Ok(Field {
-        name: name(alloc, text)?,
-        prefix: None,
-    })
 }
 
 fn outs(alloc: Global, port: u64) -> Result<Outs, NoMemory> {
@@ -58,10 +52,7 @@ fn two_switches(
     next: u16,
     rows: Vec<RowAt>,
 ) -> Result<Tables, NoMemory> {
-    let fields = Fields::new(
-        alloc,
-        vec![in alloc; field(alloc, "inport")?, field(alloc, "outport")?]?,
-    )?;
+    let fields = Fields::ports(alloc)?;
     Ok(Tables {
         version,
         fields,
@@ -222,6 +213,45 @@ fn lines_are_refused(rt: HostRuntime) -> Result<(), Fail> {
             b"snap-tables 1\nfield inport\nfield outport\nswitch a\nrow 0 0 leaf out c1=#2 out c1=#1\n"
         ),
         5
+    );
+    Ok(())
+}
+
+// First come with one line in place of another, or of nothing where it is empty.
+fn with_line(alloc: Global, number: u64, line: &[u8]) -> Result<Vec<u8>, NoMemory> {
+    let mut text = Vec::new(alloc);
+    let mut rest = FIRST_COME;
+    let mut at = 1u64;
+    while let Some((old, behind)) = split_at_first(rest, b'\n') {
+        text.extend_from_slice(if at == number { line } else { old })?;
+        if at != number || !line.is_empty() {
+            text.push(b'\n')?;
+        }
+        at = at.wrapping_add(1);
+        rest = behind;
+    }
+    Ok(text)
+}
+
+// The rule that first come breaks with one line in place of another, and the line that is told.
+fn broken(alloc: Global, number: u64, line: &[u8]) -> Result<Option<(Rule, u64)>, NoMemory> {
+    let text = with_line(alloc, number, line)?;
+    match read(alloc, &text) {
+        Err(TablesFault::Broken { rule, line }) => Ok(Some((rule, line))),
+        _ => Ok(None),
+    }
+}
+
+#[test]
+fn broken_rules_are_told(rt: HostRuntime) -> Result<(), Fail> {
+    let alloc = rt.alloc();
+    assert!(rt; broken(alloc, 10, b"hop 0 1 0")? == Some((Rule::Link, 10)));
+    assert!(rt; broken(alloc, 12, b"row 0 0 go 0")? == Some((Rule::Kind, 12)));
+    assert!(rt; broken(alloc, 6, b"array s 0")? == Some((Rule::Owner, 13)));
+    assert!(rt; broken(alloc, 13, b"row 1 0 state 0 [#0] #0 0 2")? == Some((Rule::Rise, 13)));
+    assert!(rt; broken(alloc, 12, b"")? == Some((Rule::Missing, 8)));
+    assert!(rt;
+        broken(alloc, 15, b"row 1 2 leaf out c1=#2\nrow 1 3 leaf out")? == Some((Rule::Spare, 16))
     );
     Ok(())
 }

@@ -1,0 +1,5 @@
+use Rattle.snap_tables.proofs.Exact.{reads-each}
+use Rattle.snap_tables.proofs.laws.tables_are_read.Goals as goal
+
+pub returns : goal.returns
+returns c = reads-each
