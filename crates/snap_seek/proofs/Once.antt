@@ -1,8 +1,7 @@
 -- A text has one answer, and a demand one best placement, whatever the groupings and tables of routes that tell the same.
-use Rattle.std.proofs.Common.{◌≡◌, ◌≢◌, ◌∙◌, inl, inr, ℕ, ◌+◌, ◌*◌, ◌<◌, ◌≤◌, List, [], ◌∷◌, ◌++◌, All, Contains, length, map, Option, Some, None, Result, Ok, Err, refl, sym, ap, ap₂, subst, arith, slice_index}
+use Rattle.std.proofs.Common.{◌≡◌, ◌≢◌, ◌∙◌, inl, inr, ℕ, ◌+◌, ◌*◌, ◌<◌, List, [], ◌∷◌, ◌++◌, All, length, map, Option, Some, None, Result, Ok, Err, refl, sym, ap, ap₂, arith, slice_index}
 use Rattle.std.specs.List.{AllByRecursion, sum_by}
 use Rattle.std.specs.Ordering.{nat_cmp, ordering_reverse}
-use Rattle.std.specs.Str.{bytes_eq}
 use Rattle.std.specs.Cmp.Lexicographic.{slice_cmp}
 use Rattle.std.specs.declared.cmp.Ordering.{Ordering}
 use Rattle.std.specs.declared.cmp.Ordering.TheVariants.{Less, Equal, Greater}
@@ -31,7 +30,7 @@ use Rattle.snap_seek.specs.declared.trips.End.TheVariants.{From, To}
 use Rattle.snap_seek.specs.declared.trips.Trip.{Trip}
 use Rattle.snap_seek.specs.Answer.{GroupMay, IsAnswer, IsDemandOf, PlacesThen, SpelledThen, TellsNowhere, first_fault}
 use Rattle.snap_seek.specs.Costs.{along, cost_of, trip_of}
-use Rattle.snap_seek.specs.Placements.{IsAllowed, IsBestOf, IsDemand, IsLeast, cost, places_of, stops}
+use Rattle.snap_seek.specs.Placements.{IsAllowed, IsBestOf, IsDemand, cost, places_of, stops}
 use Rattle.snap_seek.specs.Shape.{Spelled, spelled}
 use Rattle.snap_seek.proofs.Demanding.{demand-is, ok-none}
 use Rattle.snap_seek.proofs.Marking.{Lists-some}
@@ -84,9 +83,9 @@ nowhere-once : (P : ℕ → ℕ → Type 0) (n count : ℕ) (e f : DemandFault) 
 nowhere-once P n count (Nowhere v) (Nowhere u) h k = elim (cases_lt v u) [
   | inl less ↦ (let w = k.first v less in absurd (h.nowhere w.0 w.1 w.2))
   | inr more ↦ elim (cases_eq v u) [
-      | inl same ↦ ap (λ (x : ℕ). Nowhere x) same
-      | inr other ↦ (let w = h.first u (omega arith) in absurd (k.nowhere w.0 w.1 w.2))
-    ]
+    | inl same ↦ ap (λ (x : ℕ). Nowhere x) same
+    | inr other ↦ (let w = h.first u (omega arith) in absurd (k.nowhere w.0 w.1 w.2))
+  ]
 ]
 nowhere-once P n count (Nowhere v) NotToml h k = absurd k
 nowhere-once P n count (Nowhere v) (Shape rule) h k = absurd k

@@ -52,7 +52,10 @@ const FAULTS: [(&str, &str); 8] = [
     ("demand = []\n[allowed]\norphan = \"s1\"", "shape 3"),
     ("demand = [[1, 9, 1]]\n[allowed]\nzero = []", "no port 9"),
     ("demand = []\n[allowed]\nzero = [\"s9\"]", "no array"),
-    ("demand = []\n[allowed]\nblacklist = [\"s9\"]\norphan = []", "no switch"),
+    (
+        "demand = []\n[allowed]\nblacklist = [\"s9\"]\norphan = []",
+        "no switch",
+    ),
     ("demand = []\n[allowed]\nsusp-client = []", "nowhere 1"),
 ];
 
