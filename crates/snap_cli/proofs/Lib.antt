@@ -5,6 +5,7 @@ pub mod DepsOnce
 pub mod DueStatus
 pub mod EqualLemmas
 pub mod EqualOnce
+pub mod EqualPrograms
 pub mod ObsLemmas
 pub mod ObsOnce
 pub mod OneTable

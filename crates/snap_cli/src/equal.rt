@@ -7,6 +7,7 @@ ghost use Rattle.snap_io.specs.Causes.{Rose};
 ghost use Rattle.snap_words.specs.Commands.{equal};
 ghost use Rattle.snap_equal.specs.Same.{TellApart};
 ghost use Rattle.snap_cli.specs.Causes.{HasCauses, IsRead};
+ghost use Rattle.snap_cli.specs.Check.{HasWhole};
 ghost use Rattle.snap_cli.specs.Deserved.{Meets};
 ghost use Rattle.snap_cli.specs.Equal.{AreDeclaredAlike, Compares, IsDifferenceTold, MeetsEqual};
 
@@ -14,7 +15,8 @@ use crate::diagram::diagram;
 use crate::pair::pair_text;
 use crate::program::load_program;
 use crate::refusal::Refusal;
-use snap_build::laws::{whole_diagrams_do, whole_programs_never_race};
+use snap_build::building::Built;
+use snap_build::laws::whole_programs_never_race;
 use snap_core::lists::Name;
 use snap_core::packet::Packet;
 use snap_core::program::{Field, Program};
@@ -84,11 +86,17 @@ fn same_fields(left: &[Field], right: &[Field]) -> bool
         return false;
     }
     for i in 0..left.len() {
-        if left[i].prefix != right[i].prefix || left[i].name.bytes() != right[i].name.bytes() {
+        if !is_same_field(&left[i], &right[i]) {
             return false;
         }
     }
     true
+}
+
+fn is_same_field(left: &Field, right: &Field) -> bool
+    ensures { IsTrue result ↔ (left.now ≡ right.now) }
+{
+    left.prefix == right.prefix && is_same_name(&left.name, &right.name)
 }
 
 fn same_names(left: &[Name], right: &[Name]) -> bool
@@ -98,11 +106,17 @@ fn same_names(left: &[Name], right: &[Name]) -> bool
         return false;
     }
     for i in 0..left.len() {
-        if left[i].bytes() != right[i].bytes() {
+        if !is_same_name(&left[i], &right[i]) {
             return false;
         }
     }
     true
+}
+
+fn is_same_name(left: &Name, right: &Name) -> bool
+    ensures { IsTrue result ↔ (left.now ≡ right.now) }
+{
+    left.bytes() == right.bytes()
 }
 
 // Whether two programs mean the same.
@@ -114,8 +128,47 @@ fn judge<'a>(alloc: Global, left: &Program, right: &Program) -> Result<(), Refus
     if !are_declared_alike(left, right) {
         return Err(Refusal::Declarations);
     }
-    let first = diagram(alloc, left)?;
-    let second = diagram(alloc, right)?;
+    match diagram(alloc, left) {
+        Ok(first) => judge_second(alloc, left, right, &first),
+        Err(refusal) => Err(refusal),
+    }
+}
+
+// The same where the first never races.
+fn judge_second<'a>(
+    alloc: Global,
+    left: &Program,
+    right: &Program,
+    first: &Built,
+) -> Result<(), Refusal<'a>>
+    requires left { IsInForm left.now }
+    requires right { IsInForm right.now }
+    requires alike { AreDeclaredAlike left.now right.now }
+    requires first { HasWhole left.now first.now.nodes first.now.root }
+    ensures { Compares left.now right.now result }
+{
+    whole_programs_never_race();
+    match diagram(alloc, right) {
+        Ok(second) => judge_both(alloc, left, right, first, &second),
+        Err(refusal) => Err(refusal),
+    }
+}
+
+// The same where neither races.
+fn judge_both<'a>(
+    alloc: Global,
+    left: &Program,
+    right: &Program,
+    first: &Built,
+    second: &Built,
+) -> Result<(), Refusal<'a>>
+    requires left { IsInForm left.now }
+    requires right { IsInForm right.now }
+    requires alike { AreDeclaredAlike left.now right.now }
+    requires first { HasWhole left.now first.now.nodes first.now.root }
+    requires second { HasWhole right.now second.now.nodes second.now.root }
+    ensures { Compares left.now right.now result }
+{
     whole_programs_never_race();
     let (comps, vars) = (left.fields.count(), left.vars.items().len() as u16);
     match compare(
@@ -125,9 +178,10 @@ fn judge<'a>(alloc: Global, left: &Program, right: &Program) -> Result<(), Refus
         second.root,
         comps,
         vars,
-    )? {
-        Compared::Same => Ok(()),
-        Compared::Differ { store, packet } => Err(differ(alloc, left, right, &store, &packet)),
+    ) {
+        Ok(Compared::Same) => Ok(()),
+        Ok(Compared::Differ { store, packet }) => Err(differ(alloc, left, right, &store, &packet)),
+        Err(_) => Err(Refusal::NoMemory),
     }
 }
 

@@ -9,7 +9,7 @@ ghost use Rattle.snap_cli.specs.Answers.{Answers, MeetsWords};
 ghost use Rattle.snap_cli.specs.Causes.{HasCauses};
 
 use crate::refusal::Refusal;
-use crate::{check, deps, equal, obs, routes, place};
+use crate::{check, deps, equal, obs, place, routes};
 use snap_io::{Shelf, Sink};
 use snap_words::calls::command;
 use snap_words::command::Command;

@@ -1,0 +1,64 @@
+-- Two programs from the comparison of their diagrams.
+use Rattle.std.proofs.Common.{◌≡◌, ◌<◌, ◌+◌, ℕ, List, [], ◌∷◌, ◌++◌, length, take, get_or, Err, refl, sym, ap, ◌∙◌, subst, inl, inr}
+use Rattle.std.proofs.lemmas.List.{take_more}
+use Rattle.snap_core.specs.declared.program.Program.{Program}
+use Rattle.snap_core.specs.Arrays.{Arrays}
+use Rattle.snap_core.specs.Fields.{count}
+use Rattle.snap_core.specs.Meaning.{Meaning, eval}
+use Rattle.snap_ctx.specs.Meets.{IsPacket, IsStore}
+use Rattle.snap_dep.specs.Ranks.{arity_of}
+use Rattle.snap_arena.specs.declared.node.Node.{Node}
+use Rattle.snap_fdd.specs.declared.leaf.Leaf.{Leaf}
+use Rattle.snap_chain.specs.Late.{outcome}
+use Rattle.snap_equal.specs.Same.{CanBeCompared, DoApart, DoSame, MeanSame, SameOutcome, TellApart}
+use Rattle.snap_cli.specs.declared.refusal.Refusal.{Refusal}
+use Rattle.snap_cli.specs.declared.refusal.Refusal.TheVariants.{Differ, NoMemory, Race}
+use Rattle.snap_cli.specs.Check.{HasWhole, IsRaceTold, NeverRaces}
+use Rattle.snap_cli.specs.Equal.{AreComparable, AreDeclaredAlike, Compares, IsDifferenceTold}
+
+-- one element more
+pub take_both : {X : Type 0} (xs ys : List X) (i : ℕ) (x y : X) → i < length xs → i < length ys → x ≡ get_or xs i x → y ≡ get_or ys i y → x ≡ y → take i xs ≡ take i ys → take (i + 1) xs ≡ take (i + 1) ys
+take_both {X} xs ys i x y lx ly ix iy same before =
+    take_more xs i x lx
+    ∙ ap (λ (z : X). take i xs ++ z ∷ []) (sym ix ∙ same ∙ iy)
+    ∙ ap (λ (zs : List X). zs ++ get_or ys i y ∷ []) before
+    ∙ sym (take_more ys i y ly)
+
+-- the refusal of the second program, or of both
+pub second_told : (p q : Program) → AreDeclaredAlike p q → NeverRaces p → (e : Refusal) → IsRaceTold q e → Compares p q (Err e)
+second_told p q alike never (Race text) h = (alike, inr (never, h))
+second_told p q alike never e h = subst (λ x. Compares p q (Err x)) (sym h) tt
+
+pub first_told : (p q : Program) → AreDeclaredAlike p q → (e : Refusal) → IsRaceTold p e → Compares p q (Err e)
+first_told p q alike (Race text) h = (alike, inl h)
+first_told p q alike e h = subst (λ x. Compares p q (Err x)) (sym h) tt
+
+pub difference_told : (p q : Program) → AreComparable p q → (e : Refusal) → IsDifferenceTold p q e → Compares p q (Err e)
+difference_told p q calm (Differ text) h = (calm, h)
+difference_told p q calm e h = subst (λ x. Compares p q (Err x)) (sym h) tt
+
+pub can_be_compared : (p : Program) (comps vars : ℕ) (ns : List (Node Leaf)) (d : ℕ) → comps ≡ count p.fields → vars ≡ length p.vars → HasWhole p ns d → CanBeCompared comps vars ns d
+can_be_compared p comps vars ns d c v w = rw (c, v) (record { below = w.1.below; arity = arity_of w.0; bounds = w.1.bounds; calm = w.1.calm })
+
+module _ (p q : Program) (ns os : List (Node Leaf)) (d e : ℕ) (alike : AreDeclaredAlike p q) (first : HasWhole p ns d) (second : HasWhole q os e) where
+  packet_of : (k : List ℕ) → IsPacket (count p.fields) k → IsPacket (count q.fields) k
+  packet_of k = subst (λ fields. IsPacket (count fields) k) alike.fields
+
+  evaluated : (m : Arrays) (k : List ℕ) → IsStore m → IsPacket (count p.fields) k → DoSame ns d os e m k → SameOutcome (eval p.body m k) (eval q.body m k)
+  evaluated m k store packet h =
+      subst (λ x. SameOutcome x (eval q.body m k)) (first.1.outcome m k store packet) (subst (SameOutcome (outcome ns d m k)) (second.1.outcome m k store (packet_of k packet)) h)
+
+  back : (m : Arrays) (k : List ℕ) → IsStore m → IsPacket (count p.fields) k → SameOutcome (eval p.body m k) (eval q.body m k) → DoSame ns d os e m k
+  back m k store packet h =
+      subst (λ x. SameOutcome x (outcome os e m k)) (sym (first.1.outcome m k store packet)) (subst (SameOutcome (eval p.body m k)) (sym (second.1.outcome m k store (packet_of k packet))) h)
+
+  pub mean_same : (comps : ℕ) → comps ≡ count p.fields → ((m : Arrays) (k : List ℕ) → IsStore m → IsPacket comps k → DoSame ns d os e m k) → MeanSame p q
+  mean_same comps is h m k store packet = evaluated m k store packet (h m k store (subst (λ n. IsPacket n k) (sym is) packet))
+
+  pub tell_apart : (comps vars : ℕ) (m : Arrays) (k : List ℕ) → comps ≡ count p.fields → vars ≡ length p.vars → DoApart comps vars ns d os e m k → TellApart p q m k
+  tell_apart comps vars m k is are h =
+      let packet : IsPacket (count p.fields) k = subst (λ n. IsPacket n k) is h.packet in
+      record {
+        of = record { packet = packet; store = h.store; only = λ at l. h.only at (rw are l) };
+        differ = λ same. h.differ (back m k h.store packet same);
+      }
