@@ -22,7 +22,7 @@ use Rattle.snap_cli.specs.declared.place.Network.{Network}
 use Rattle.snap_cli.specs.declared.refusal.Refusal.{Refusal}
 use Rattle.snap_cli.specs.declared.refusal.Refusal.TheVariants.{Usage, Read, Write, Syntax, Naming, Limit, Topology as NoTopology, Unreachable, Demand, Race, Packets, NoMemory, Undefined, Declarations, Differ}
 use Rattle.snap_cli.specs.Deserved.{Meets}
-use Rattle.snap_cli.specs.Place.{HasNoDemand, HasNoPlacement, HasNoPlacementOn, IsOneOf, IsPlaced, IsPlacedOn, IsPlacementOf, SpellsNoDemand, refusal_of_demand}
+use Rattle.snap_cli.specs.Place.{HasNoDemand, HasNoPlacement, HasNoPlacementOn, IsOneOf, SpellsNoDemand, refusal_of_demand}
 use Rattle.snap_cli.specs.PlaceSteps.{GivesDemandText, GivesNetwork, GivesPlacement, IsPlacement, Places, PlacesFor, PlacesOn, RefusesBy}
 use Rattle.snap_cli.specs.ProgramOf.{ProgramOf}
 use Rattle.snap_cli.specs.Routes.{HasNoRoutes}

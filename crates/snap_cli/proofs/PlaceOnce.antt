@@ -1,5 +1,5 @@
 -- `place` deserves one ending and one text.
-use Rattle.std.proofs.Common.{◌≡◌, ◌<◌, ◌≤◌, ◌⊎◌, ℕ, List, [], length, Result, Ok, Err, refl, sym, ◌∙◌, ap, ap₂, subst, inl, inr, arith}
+use Rattle.std.proofs.Common.{◌≡◌, ℕ, List, [], length, Result, Ok, Err, refl, sym, ◌∙◌, ap, ap₂, subst, inl, inr, arith}
 use Rattle.snap_core.specs.declared.policy.Pol.{Pol}
 use Rattle.snap_core.specs.declared.program.Program.{Program}
 use Rattle.snap_core.specs.Fields.{count}
@@ -22,10 +22,8 @@ use Rattle.snap_seek.proofs.Ranked.{ordered}
 use Rattle.snap_cli.specs.declared.refusal.Refusal.{Refusal}
 use Rattle.snap_cli.specs.Laws.{SpellsOneProgram}
 use Rattle.snap_cli.specs.Place.{EndsPlace, HasNoDemand, HasNoPlacement, HasNoPlacementOn, IsPlaceText, IsPlaced, IsPlacedOn, IsPlacementOf, SpellsNoDemand, placement_text, refusal_of_demand}
-use Rattle.snap_cli.specs.ProgramOf.{ProgramOf}
 use Rattle.snap_cli.specs.Refusals.{Ending}
-use Rattle.snap_cli.specs.Routes.{HasNoRoutes, routes_text}
-use Rattle.snap_cli.specs.TopologyOf.{TopologyOf}
+use Rattle.snap_cli.specs.Routes.{routes_text}
 use Rattle.snap_cli.proofs.RoutesOnce.{one_topology, refused_once, routed_well, why}
 use Rattle.snap_cli.proofs.SameCore.{same_names}
 use Rattle.snap_cli.proofs.SameUses.{grouped}

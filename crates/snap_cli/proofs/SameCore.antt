@@ -13,7 +13,7 @@ use Rattle.snap_core.specs.Switch.{one_big_switch}
 use Rattle.snap_core.specs.Meaning.{Meaning, eval, truth, vars_of, all_together, logged}
 use Rattle.snap_names.specs.Core.{CoreTest, id_test, drop_test, field_test, state_test, not_test, and_test, or_test, CorePolicy, filter, set, change, par, seq, choice, atomic, core_test, core_policy}
 use Rattle.snap_names.specs.Declarations.{CoreProgram, core_program}
-use Rattle.snap_trace.specs.OneSwitch.{EndsAsRead, IsReport, IsUndefinedAfter, made_text, RunEnding}
+use Rattle.snap_trace.specs.OneSwitch.{EndsAsRead, IsReport, made_text, RunEnding}
 use Rattle.snap_trace.specs.Spelled.{spelled}
 use Rattle.snap_trace.proofs.SwitchLemmas.{behind}
 

@@ -9,7 +9,7 @@ use Rattle.snap_cli.specs.declared.refusal.Refusal.{Refusal}
 use Rattle.snap_cli.specs.declared.refusal.Refusal.TheVariants.{Usage, Read, Write, Syntax, Naming, Limit, Topology, Unreachable, Race, Packets, NoMemory, Undefined, Declarations, Differ, Demand}
 use Rattle.snap_cli.specs.Causes.{HasCauses, IsReadOf}
 use Rattle.snap_cli.specs.Deserved.{Tells}
-use Rattle.snap_cli.specs.Refusals.{Ending, status_of}
+use Rattle.snap_cli.specs.Refusals.{status_of}
 use Rattle.snap_io.specs.Causes.{Rose}
 
 pub tells : {E : Type 0} (before now : ℕ) (old new : Option (List ℕ)) (message : List ℕ) (r : Result (Unit {0}) E)

@@ -1,5 +1,5 @@
 -- When a refusal may say that a device failed.
-use Rattle.std.specs.Prelude.{◌≡◌, ℕ, List, Result, Ok, Err, IsErrOf}
+use Rattle.std.specs.Prelude.{◌≡◌, ℕ, List, Result, Err, IsErrOf}
 use Rattle.snap_io.specs.Causes.{Rose}
 use Rattle.snap_cli.specs.declared.refusal.Refusal.{Refusal}
 use Rattle.snap_cli.specs.declared.refusal.Refusal.TheVariants.{Read, Write}

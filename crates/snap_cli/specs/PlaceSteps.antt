@@ -4,7 +4,7 @@ use Rattle.std.specs.declared.alloc.Global.{Global}
 use Rattle.snap_core.specs.declared.program.Program.{Program}
 use Rattle.snap_core.specs.declared.program.Which.TheVariants.{Bytes}
 use Rattle.snap_dep.specs.Ranks.{Grouping, IsGrouping}
-use Rattle.snap_io.specs.Files.{Files, file_of}
+use Rattle.snap_io.specs.Files.{Files}
 use Rattle.snap_topo.specs.declared.topology.Topology.{Topology}
 use Rattle.snap_topo.specs.Form.{IsInForm}
 use Rattle.snap_route.specs.Tables.{AreRoutes, Table}
