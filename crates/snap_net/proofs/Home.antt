@@ -8,7 +8,7 @@ use Rattle.snap_rows.specs.declared.tables.Tables.{Tables}
 use Rattle.snap_rows.specs.Entries.{owner_of}
 use Rattle.snap_rows.specs.Form.{IsInForm}
 use Rattle.snap_rows.specs.Rules.{IsValid}
-use Rattle.snap_rows.specs.Network.{Net, Event, Happening, Leads, inject, step, stepped, Runs, done, on, start}
+use Rattle.snap_rows.specs.Network.{Net, Event, Happening, Leads, inject, step, Runs, done, on, start}
 use Rattle.snap_rows.proofs.Own.{handles_own}
 use Rattle.snap_net.specs.Laws.{HoldsOwnAlone, ArraysStayHome}
 

@@ -1,4 +1,5 @@
 pub mod Blocks
 pub mod Splices
 pub mod Steps
+pub mod Worked
 pub mod Home

@@ -2,4 +2,5 @@ pub mod Flights
 pub mod Spots
 pub mod Shown
 pub mod Moves
+pub mod Worked
 pub mod Laws

@@ -8,3 +8,5 @@ pub mod happened;
 pub mod laws;
 mod moves;
 pub mod net;
+#[cfg(test)]
+mod tests;
