@@ -2,6 +2,5 @@ mod built;
 mod calls;
 mod check;
 mod deps;
-mod equal;
 mod obs;
 mod routes;
