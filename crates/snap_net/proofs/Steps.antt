@@ -30,7 +30,7 @@ use Rattle.snap_rows.proofs.Rows.{All-get, some_injective}
 use Rattle.snap_rows.proofs.Arrives.{arrives}
 use Rattle.snap_net.specs.declared.flying.Flying.{Flying}
 use Rattle.snap_net.specs.Shown.{Held, IsHeld, Shows, IsDone, Nothing, SameArrays, store_of, flown, moving, happened}
-use Rattle.snap_net.specs.Moves.{HasStepped, Changed, HasMoved, HasUpdated, flights, copies_in_flight, moved_of, with_frame, Frames, PlanAt, taken}
+use Rattle.snap_net.specs.Moves.{CanBeDone, HasStepped, Changed, HasMoved, HasUpdated, flights, copies_in_flight, moved_of, with_frame, Frames, PlanAt, taken}
 use Rattle.snap_net.specs.declared.happened.Happened.TheVariants as shown
 use Rattle.snap_net.specs.declared.happened.Moved.{Moved}
 
@@ -100,7 +100,7 @@ moved_flights : (c : Copy) (copies : List Sent) → map flown (map (λ (x : Sent
 moved_flights c [] = refl
 moved_flights c (x ∷ xs) = ap (λ l. record { number = c.number; at = c.at; head = Out x.port; packet = x.packet } ∷ l) (moved_flights c xs)
 
-flown_moved : (c : Copy) (a : Action) → map flown (moved c a) ≡ flights (flown c) a
+pub flown_moved : (c : Copy) (a : Action) → map flown (moved c a) ≡ flights (flown c) a
 flown_moved c (Forward to head) = refl
 flown_moved c (Deliver port) = refl
 flown_moved c (Fork copies lost) = moved_flights c copies
@@ -112,7 +112,6 @@ pub record Left (v new : Held) (k : ℕ) (c : Flying) (m : Arrays) (a : Action) 
   pub stores : Changed v.stores new.stores c.at m
   pub injected : new.injected ≡ v.injected
   pub flying : new.flying ≡ take k v.flying ++ (flights c a ++ drop (k + 1) v.flying)
-  pub handles : Handles v.tables c.at c.packet (store_of v.stores c.at) c.head m a
 
 stores_shown : (v new : Held) (s : Net) (c : Copy) (m : Arrays) → Shows v s → Changed v.stores new.stores c.at m → (w : ℕ) → (if w == c.at then m else s.stores w) ≡ store_of new.stores w
 stores_shown v new s c m shows changed w = by (w == c.at) refl
@@ -121,30 +120,40 @@ stores_shown v new s c m shows changed w = by (w == c.at) refl
     by true e = sym changed.here ∙ ap (store_of new.stores) (sym (eqb-true w c.at e))
     by false e = shows.stores w ∙ sym (changed.others w (λ same. false≢true (sym e ∙ eq-eqb w c.at same)))
 
-left_copy : (v new : Held) (k : ℕ) (c : Copy) (m : Arrays) (a : Action) → Left v new k (flown c) m a → (s : Net) → Shows v s → slice_get s.flying k ≡ Some c → HasStepped v k a new s
-left_copy v new k c m a left s shows at = record {
+-- with the arrays m at the switch of copy k, and copies xs in its place
+pub shows_replaced : (v new : Held) (s : Net) (k : ℕ) (c : Copy) (m : Arrays) (xs : List Copy) → Shows v s → Changed v.stores new.stores c.at m → new.injected ≡ v.injected
+    → new.flying ≡ take k v.flying ++ (map flown xs ++ drop (k + 1) v.flying)
+    → Shows new (record s { stores = λ w. if w == c.at then m else s.stores w; flying = take k s.flying ++ (xs ++ drop (k + 1) s.flying) })
+shows_replaced v new s k c m xs shows changed injected flying = record {
+  stores = stores_shown v new s c m shows changed;
+  injected = shows.injected ∙ sym injected;
+  flying =
+      map-append flown (take k s.flying) (xs ++ drop (k + 1) s.flying)
+      ∙ ap (λ l. map flown (take k s.flying) ++ l) (map-append flown xs (drop (k + 1) s.flying))
+      ∙ ap (λ l. l ++ (map flown xs ++ map flown (drop (k + 1) s.flying))) (sym (take-map flown k s.flying))
+      ∙ ap (λ l. take k (map flown s.flying) ++ (map flown xs ++ l)) (sym (drop-map flown (k + 1) s.flying))
+      ∙ ap (λ l. take k l ++ (map flown xs ++ drop (k + 1) l)) shows.flying
+      ∙ sym flying;
+}
+
+left_copy : (v new : Held) (k : ℕ) (c : Copy) (m : Arrays) (a : Action) → Left v new k (flown c) m a → Handles v.tables c.at c.packet (store_of v.stores c.at) c.head m a
+    → (s : Net) → Shows v s → slice_get s.flying k ≡ Some c → HasStepped v k a new s
+left_copy v new k c m a left handles s shows at = record {
   state = stepped s k c m a;
   copy = c;
   is = left.is;
-  leads = step at (subst (λ m'. Handles v.tables c.at c.packet m' c.head m a) (sym (shows.stores c.at)) left.handles);
-  shows = record {
-    stores = stores_shown v new s c m shows left.stores;
-    injected = shows.injected ∙ sym left.injected;
-    flying =
-        map-append flown (take k s.flying) (moved c a ++ drop (k + 1) s.flying)
-        ∙ ap (λ l. map flown (take k s.flying) ++ l) (map-append flown (moved c a) (drop (k + 1) s.flying))
-        ∙ ap (λ l. map flown (take k s.flying) ++ (l ++ map flown (drop (k + 1) s.flying))) (flown_moved c a)
-        ∙ ap (λ l. l ++ (flights (flown c) a ++ map flown (drop (k + 1) s.flying))) (sym (take-map flown k s.flying))
-        ∙ ap (λ l. take k (map flown s.flying) ++ (flights (flown c) a ++ l)) (sym (drop-map flown (k + 1) s.flying))
-        ∙ ap (λ l. take k l ++ (flights (flown c) a ++ drop (k + 1) l)) shows.flying
-        ∙ sym left.flying;
-  };
+  leads = step at (subst (λ m'. Handles v.tables c.at c.packet m' c.head m a) (sym (shows.stores c.at)) handles);
+  shows = shows_replaced v new s k c m (moved c a) shows left.stores left.injected (left.flying ∙ ap (λ l. take k v.flying ++ (l ++ drop (k + 1) v.flying)) (sym (flown_moved c a)));
 }
 
-pub has_stepped : (v new : Held) (k : ℕ) (c : Flying) (m : Arrays) (a : Action) → Left v new k c m a → (s : Net) → Shows v s → HasStepped v k a new s
-has_stepped v new k c m a left s shows =
-    let x = unmapped (slice_get s.flying k) c (sym (slice_get-map flown s.flying k) ∙ ap (λ l. slice_get l k) shows.flying ∙ left.is) in
-    left_copy v new k x.0 m a (subst (λ c. Left v new k c m a) (sym x.2) left) s shows x.1
+-- the copy of the state that the network shows
+pub copy_shown : (v : Held) (s : Net) (k : ℕ) (c : Flying) → Shows v s → slice_get v.flying k ≡ Some c → (x : Copy) × (slice_get s.flying k ≡ Some x) × (flown x ≡ c)
+copy_shown v s k c shows is = unmapped (slice_get s.flying k) c (sym (slice_get-map flown s.flying k) ∙ ap (λ l. slice_get l k) shows.flying ∙ is)
+
+pub has_stepped : (v new : Held) (k : ℕ) (c : Flying) (m : Arrays) (a : Action) → Left v new k c m a → Handles v.tables c.at c.packet (store_of v.stores c.at) c.head m a → (s : Net) → Shows v s → HasStepped v k a new s
+has_stepped v new k c m a left handles s shows =
+    let x = copy_shown v s k c shows left.is in
+    left_copy v new k x.0 m a (subst (λ c. Left v new k c m a) (sym x.2) left) (subst (λ (c : Flying). Handles v.tables c.at c.packet (store_of v.stores c.at) c.head m a) (sym x.2) handles) s shows x.1
 
 -- what becomes of a copy is in its place again
 flights_held : (t : Tables) (c : Flying) (a : Action) → c.at < switch_count t → length c.packet ≡ comps t → Arrives t c.packet a
@@ -168,13 +177,12 @@ flights_held t c (Fork copies lost) below long arrives =
 three : (P : Flying → Type 0) (k : ℕ) (fl xs : List Flying) → All P fl → All P xs → All P (take k fl ++ (xs ++ drop (k + 1) fl))
 three P k fl xs all some = All-append P (take k fl) (xs ++ drop (k + 1) fl) (All-take P k fl all) (All-append P xs (drop (k + 1) fl) some (All-drop P (k + 1) fl all))
 
-pub held_left : (v new : Held) (k : ℕ) (c : Flying) (m : Arrays) (a : Action) → IsHeld v → Left v new k c m a → IsHeld new
-held_left v new k c m a held left =
+pub held_left : (v new : Held) (k : ℕ) (c : Flying) (m : Arrays) (a : Action) → IsHeld v → Left v new k c m a → Arrives v.tables c.packet a → IsHeld new
+held_left v new k c m a held left arrives =
     let t = v.tables in
     let below : c.at < switch_count t = All-get (λ (c : Flying). c.at < switch_count t) v.flying k c held.places left.is in
     let long : length c.packet ≡ comps t = All-get (λ (c : Flying). length c.packet ≡ comps t) v.flying k c held.packets left.is in
-    let home : AtHome t c.at c.head = All-get (λ (c : Flying). AtHome t c.at c.head) v.flying k c held.homes left.is in
-    let f = flights_held t c a below long (arrives t held.valid held.form c.at below c.packet (store_of v.stores c.at) c.head m a home left.handles) in
+    let f = flights_held t c a below long arrives in
     subst (λ t'. IsHeld (record new { tables = t' })) (sym left.tables)
     (subst (λ fl. IsHeld (record new { tables = t; flying = fl })) (sym left.flying) (record {
       form = held.form;
@@ -185,18 +193,21 @@ held_left v new k c m a held left =
       homes = three (λ (x : Flying). AtHome t x.at x.head) k v.flying (flights c a) held.homes f.2;
     }))
 
+-- the plan of a step can be done
+pub can_be_done : (v : Held) (k : ℕ) (p : Plan) → IsHeld v → PlanAt v k p → CanBeDone v k p
+can_be_done v k p held plan c is =
+    let t = v.tables in
+    let below : c.at < switch_count t = All-get (λ (c : Flying). c.at < switch_count t) v.flying k c held.places is in
+    let home : AtHome t c.at c.head = All-get (λ (c : Flying). AtHome t c.at c.head) v.flying k c held.homes is in (
+      (plan c is).reads,
+      arrives t held.valid held.form c.at below c.packet (store_of v.stores c.at) c.head (updates (store_of v.stores c.at) p.ups c.packet) p.action home (plan c is).handles,
+    )
+
 -- what a plan that was carried out leaves
-pub carried : (v : Held) (k : ℕ) (c : Flying) (p : Plan) (stores : List Kept) (flying : List Flying) (moved : Moved) → slice_get v.flying k ≡ Some c → PlanAt v k p
-    → HasUpdated v.stores v.flying k p.ups stores → HasMoved v.flying k p.action flying moved
-    → Left v (record v { stores = stores; flying = flying }) k c (updates (store_of v.stores c.at) p.ups c.packet) p.action
-carried v k c p stores flying moved is plan updated moves = record {
-  is = is;
-  tables = refl;
-  injected = refl;
-  stores = updated c is;
-  flying = (moves c is).0;
-  handles = (plan c is).handles;
-}
+pub carried : (v new : Held) (k : ℕ) (c : Flying) (p : Plan) (moved : Moved) → slice_get v.flying k ≡ Some c → new.tables ≡ v.tables → new.injected ≡ v.injected
+    → HasUpdated v.stores v.flying k p.ups new.stores → HasMoved v.flying k p.action new.flying moved
+    → Left v new k c (updates (store_of v.stores c.at) p.ups c.packet) p.action
+carried v new k c p moved is tables injected updated moves = record { is = is; tables = tables; injected = injected; stores = updated c is; flying = (moves c is).0 }
 
 -- what a plan that was refused leaves
 pub held_same : (v : Held) (stores : List Kept) (flying : List Flying) → IsHeld v → flying ≡ v.flying → SameArrays v.stores stores → IsHeld (record v { stores = stores; flying = flying })

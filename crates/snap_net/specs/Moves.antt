@@ -1,15 +1,17 @@
 -- How a step of a copy is made.
 use Rattle.std.specs.Prelude.{◌≡◌, ◌≢◌, ℕ, ◌+◌, Some, List, [], ◌∷◌, ◌++◌, map, length, slice_get, nat_lt, unwrap_or, option_map, if◌then◌else◌}
+use Rattle.std.specs.List.{All}
 use Rattle.snap_core.specs.declared.policy.Update.{Update}
 use Rattle.snap_core.specs.Arrays.{Arrays, updates}
 use Rattle.snap_core.specs.Cells.{Kept}
+use Rattle.snap_core.specs.Fits.{UpdateReads}
 use Rattle.snap_rows.specs.declared.head.Head.TheVariants.{Out}
 use Rattle.snap_rows.specs.declared.head.Action.{Action}
 use Rattle.snap_rows.specs.declared.head.Action.TheVariants.{Forward, Deliver, Fork}
 use Rattle.snap_rows.specs.declared.head.Sent.{Sent}
 use Rattle.snap_rows.specs.declared.plan.Plan.{Plan}
 use Rattle.snap_rows.specs.Entries.{owner_of}
-use Rattle.snap_rows.specs.Steps.{Does}
+use Rattle.snap_rows.specs.Steps.{Does, Arrives}
 use Rattle.snap_rows.specs.Network.{Copy, Net, Step, Leads, happening}
 use Rattle.snap_head.specs.Frames.{frame}
 use Rattle.snap_net.specs.declared.flying.Flying.{Flying}
@@ -57,6 +59,10 @@ HasUpdated old flying k us new = (c : Flying) → slice_get flying k ≡ Some c 
 -- a plan of the step of copy k
 abbrev pub PlanAt : Held → ℕ → Plan → Type 0
 PlanAt v k p = (c : Flying) → slice_get v.flying k ≡ Some c → Does v.tables c.at c.packet (store_of v.stores c.at) c.head p
+
+-- the updates read components that the packet of copy k has, and what becomes of the copy is at home where it goes
+abbrev pub CanBeDone : Held → ℕ → Plan → Type 0
+CanBeDone v k p = (c : Flying) → slice_get v.flying k ≡ Some c → All (UpdateReads (length c.packet)) p.ups × Arrives v.tables c.packet p.action
 
 -- copy k has stepped
 pub record HasStepped (old : Held) (k : ℕ) (a : Action) (new : Held) (s : Net) : Type 0 where

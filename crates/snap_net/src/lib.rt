@@ -6,7 +6,7 @@ mod flights;
 pub mod flying;
 pub mod happened;
 pub mod laws;
-mod moves;
+pub mod moves;
 pub mod net;
 #[cfg(test)]
 mod tests;

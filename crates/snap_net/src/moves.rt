@@ -165,7 +165,7 @@ pub(crate) fn frame_of(alloc: Global, action: &Action, packet: &Packet) -> Resul
 }
 
 /// What moved, with the frame where it crossed a link.
-pub(crate) fn framed(moved: Moved, frame: Frame) -> Happened
+pub fn framed(moved: Moved, frame: Frame) -> Happened
     ensures { result ≡ with_frame moved frame }
 {
     match moved {

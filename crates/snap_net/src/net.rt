@@ -1,15 +1,15 @@
 //! The network.
 
-ghost use Rattle.std.specs.Prelude.{◌≡◌, ◌≢◌, ◌≤◌, ◌<◌, ◌+◌, ◌^◌, None, ℕ, IfOk, IfErr, OnOk, OnErr, IsSome, length, slice_index};
+ghost use Rattle.std.specs.Prelude.{◌≡◌, ◌≢◌, ◌≤◌, ◌<◌, ◌+◌, ◌^◌, None, Some, ℕ, IfOk, IfErr, OnOk, OnErr, IsSome, length, slice_get, slice_index};
 ghost use Rattle.snap_core.specs.declared.place.Place.{Place};
 ghost use Rattle.snap_core.specs.Arrays.{zero_arrays};
 ghost use Rattle.snap_core.specs.Cells.{arrays_of};
 ghost use Rattle.snap_core.specs.Listing.{IsListing};
 ghost use Rattle.snap_rows.specs.Entries.{port_at};
-ghost use Rattle.snap_rows.specs.Form.{comps, array_count};
+ghost use Rattle.snap_rows.specs.Form.{comps, array_count, switch_count};
 ghost use Rattle.snap_rows.specs.Network.{Net as State, start, whole, Inject, Step};
 ghost use Rattle.snap_net.specs.Shown.{IsHeld, Shows, IsDone, Nothing, Tells, TellsMoved, Same, store_of};
-ghost use Rattle.snap_net.specs.Moves.{HasStepped, HasMoved, PlanAt};
+ghost use Rattle.snap_net.specs.Moves.{CanBeDone, HasStepped, HasMoved, HasUpdated, PlanAt};
 ghost use Rattle.snap_net.specs.declared.net.InjectFault.{InjectFault};
 ghost use Rattle.snap_net.specs.declared.net.StepFault.{StepFault};
 
@@ -125,8 +125,33 @@ impl Net {
     pub fn flying(&self) -> usize
         ensures shown { (s : State) → Shows self.now s → result ≡ length s.flying }
         ensures held { result ≡ length self.now.flying }
+        ensures is_held { IsHeld self.now }
     {
         self.flying.count()
+    }
+
+    /// The number of packets that were injected. Takes no memory.
+    pub fn injected(&self) -> u64
+        ensures { result ≡ self.now.injected }
+    {
+        self.injected
+    }
+
+    /// Lends copy k, counted from 0. Takes no memory.
+    pub fn copy(&self, k: usize) -> &Flying
+        requires { k < length self.now.flying }
+        ensures { slice_get self.now.flying k ≡ Some result.now }
+    {
+        self.flying.get(k)
+    }
+
+    /// Lends the store of a switch. Takes no memory.
+    pub fn store(&self, at: u16) -> &Store
+        requires { at < switch_count self.now.tables }
+        ensures { arrays_of result.now ≡ store_of self.now.stores at }
+    {
+        let _known = self.tables();
+        &self.stores[at as usize]
     }
 
     /// Adds a copy of a packet, whose `inport` is the port, at that port's switch, and answers the packet's number,
@@ -174,7 +199,22 @@ impl Net {
         )
     }
 
-    // Does a plan, all or nothing.
+    /// Does a plan for copy k, counted from 0: all of it, or nothing. A refusal leaves the network as it was, but for room
+    /// that its stores took.
+    pub fn carry_out(&mut self, k: usize, plan: Plan) -> Result<Moved, NoMemory>
+        requires k { k < length self.old.flying }
+        requires plan { CanBeDone self.old k plan }
+        ensures updated { OnOk result (HasUpdated self.old.stores self.old.flying k plan.ups self.new.stores) }
+        ensures moved { IfOk result (HasMoved self.old.flying k plan.action self.new.flying) }
+        ensures tables { self.new.tables ≡ self.old.tables }
+        ensures injected { self.new.injected ≡ self.old.injected }
+        ensures refused { OnErr result (Same self.old self.new) }
+    {
+        let moved = carry_out(&mut self.stores, &mut self.flying, k, plan)?;
+        Ok(moved)
+    }
+
+    // Does the plan of a step, all or nothing.
     fn finish(&mut self, k: usize, plan: Plan) -> Result<Moved, NoMemory>
         requires k { k < length self.old.flying }
         requires plan { PlanAt self.old k plan }
@@ -184,7 +224,8 @@ impl Net {
         ensures injected { self.new.injected ≡ self.old.injected }
         ensures refused { OnErr result (Same self.old self.new) }
     {
-        let moved = carry_out(&mut self.stores, &mut self.flying, k, plan)?;
+        let _known = self.tables();
+        let moved = self.carry_out(k, plan)?;
         Ok(moved)
     }
 

@@ -32,7 +32,7 @@ impl Valid {
     }
 
     /// The next hop of a switch towards another.
-    pub(crate) fn next(&self, at: u16, target: u16) -> u16
+    pub fn next(&self, at: u16, target: u16) -> u16
         ensures { result ≡ next self.now at target }
     {
         next(self.tables().hops.items(), at, target)
@@ -73,14 +73,14 @@ impl Valid {
     }
 
     /// The number of ranks.
-    pub(crate) fn ranks(&self) -> u16
+    pub fn ranks(&self) -> u16
         ensures { result ≡ ranks self.now }
     {
         ranks(self.tables().arrays.items())
     }
 
     /// The owner of a rank.
-    pub(crate) fn rank_at(&self, rank: u16) -> Option<u16>
+    pub fn rank_at(&self, rank: u16) -> Option<u16>
         ensures { result ≡ rank_at self.now rank }
     {
         rank_at(self.tables().arrays.items(), rank)

@@ -5,7 +5,6 @@ use Rattle.std.specs.Prelude.{MatchOption}
 use Rattle.std.specs.Io.KnownBytes.{Appends}
 use Rattle.std.proofs.KnownBytes.{Appends-nil, Appends-trans}
 use Rattle.snap_core.specs.declared.program.Program.{Program}
-use Rattle.snap_core.specs.declared.program.Field.{Field}
 use Rattle.snap_core.specs.declared.place.Entry.{Entry}
 use Rattle.snap_core.specs.Arrays.{Arrays, zero_arrays}
 use Rattle.snap_core.specs.Listing.{IsListing}
@@ -17,31 +16,34 @@ use Rattle.snap_trace.specs.declared.fault.TraceFault.{TraceFault}
 use Rattle.snap_trace.specs.declared.fault.TraceFault.TheVariants.{Undefined}
 use Rattle.snap_trace.specs.ByPackets.{AppendsRunText, blocks_from, blocks_of, ending_from, ending_of, IsTailFrom, IsTailOf}
 use Rattle.snap_trace.specs.Reports.{all_lines, block, end_text}
+use Rattle.snap_trace.specs.PacketLines.{Said, said_by}
 use Rattle.snap_trace.specs.Spelled.{ended, refused, Spelled, stops, with_next, after_last, spelled_from}
 use Rattle.snap_trace.specs.Steps.{Waits, Comes, left_at}
 
 -- the lines from one that may come
-spelled_from-next : (fields : List Field) (file : List ℕ) (left line at : ℕ) → 0 < left
-    → spelled_from fields file left line at ≡ with_next fields line (next_in 67108864 65536 file at) (λ behind. spelled_from fields file (left - 1) (line + 1) behind)
+pub spelled_from-next : (said : List ℕ → Said) (file : List ℕ) (left line at : ℕ) → 0 < left
+    → spelled_from said file left line at ≡ with_next said line (next_in 67108864 65536 file at) (λ behind. spelled_from said file (left - 1) (line + 1) behind)
 unfolding spelled_from
-spelled_from-next fields file zero line at some = absurd (omega arith)
-spelled_from-next fields file (suc n) line at some =
+spelled_from-next said file zero line at some = absurd (omega arith)
+spelled_from-next said file (suc n) line at some =
     let less : n ≡ suc n - 1 = omega arith in
-    ap (λ k. with_next fields line (next_in 67108864 65536 file at) (λ behind. spelled_from fields file k (line + 1) behind)) less
+    ap (λ k. with_next said line (next_in 67108864 65536 file at) (λ behind. spelled_from said file k (line + 1) behind)) less
+
+-- behind the last line that may come
+pub spelled_from-last : (said : List ℕ → Said) (file : List ℕ) (left line at : ℕ) → left ≡ 0 → spelled_from said file left line at ≡ after_last (next_in 67108864 65536 file at)
+unfolding spelled_from
+spelled_from-last said file left line at none = ap (λ k. spelled_from said file k line at) none
 
 pub left_at-next : (program : Program) (file : List ℕ) (read at : ℕ) → read < 1000000
-    → left_at program file read at ≡ with_next program.fields (read + 1) (next_in 67108864 65536 file at) (left_at program file (read + 1))
+    → left_at program file read at ≡ with_next (said_by program.fields) (read + 1) (next_in 67108864 65536 file at) (left_at program file (read + 1))
 left_at-next program file read at more =
     let some : 0 < 1000000 - read = omega arith in
     let less : 1000000 - read - 1 ≡ 1000000 - (read + 1) = omega arith in
-    spelled_from-next program.fields file (1000000 - read) (read + 1) at some
-    ∙ ap (λ k. with_next program.fields (read + 1) (next_in 67108864 65536 file at) (λ behind. spelled_from program.fields file k (read + 1 + 1) behind)) less
+    spelled_from-next (said_by program.fields) file (1000000 - read) (read + 1) at some
+    ∙ ap (λ k. with_next (said_by program.fields) (read + 1) (next_in 67108864 65536 file at) (λ behind. spelled_from (said_by program.fields) file k (read + 1 + 1) behind)) less
 
 pub left_at-last : (program : Program) (file : List ℕ) (read at : ℕ) → read ≡ 1000000 → left_at program file read at ≡ after_last (next_in 67108864 65536 file at)
-unfolding spelled_from
-left_at-last program file read at all =
-    let none : 1000000 - read ≡ 0 = omega arith in
-    ap (λ k. spelled_from program.fields file k (read + 1) at) none
+left_at-last program file read at all = spelled_from-last (said_by program.fields) file (1000000 - read) (read + 1) at (omega arith)
 
 -- what waits was written
 pub waits-written : (a b c : Option (List ℕ)) (text waiting : List ℕ) → Waits a b text waiting → Appends b c waiting → Waits a c text []
@@ -73,7 +75,7 @@ waits-part a b c text waiting more v part =
     part_of_pair a c v.front (waiting ++ more) [] (text ++ more) whole part.0 (Appends-trans a b c v.front (take part.0 (waiting ++ more)) v.taken part.1)
 
 -- more text waits
-waits-more : (a b : Option (List ℕ)) (text waiting more now : List ℕ) → now ≡ waiting ++ more → Waits a b text waiting → Waits a b (text ++ more) now
+pub waits-more : (a b : Option (List ℕ)) (text waiting more now : List ℕ) → now ≡ waiting ++ more → Waits a b text waiting → Waits a b (text ++ more) now
 waits-more a b text waiting more now e w = record {
   front = w.front;
   taken = w.taken;

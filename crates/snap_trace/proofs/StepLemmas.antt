@@ -67,7 +67,7 @@ module _ (program : Program) (file : List ℕ) (start now : Option (List ℕ)) (
 
     module _ (text : List ℕ) (next : next_in 67108864 65536 file at ≡ next_line text at') where
       left : left_at program file read at ≡ with_said (read + 1) (said_by program.fields text) (left_at program file (read + 1) at')
-      left = left_at-next program file read at more ∙ ap (λ x. with_next program.fields (read + 1) x (left_at program file (read + 1))) next
+      left = left_at-next program file read at more ∙ ap (λ x. with_next (said_by program.fields) (read + 1) x (left_at program file (read + 1))) next
 
       pub line-taken : Takes program (read + 1) (said_by program.fields text) old new (Ok tt) → ComesTo program file (read + 1) at' start now new
       line-taken t = took (said_by program.fields text) left t
@@ -76,8 +76,8 @@ module _ (program : Program) (file : List ℕ) (start now : Option (List ℕ)) (
       line-refused fault t = refused_line (said_by program.fields text) fault left t
 
   -- what the reader refuses
-  stopped : (next : Next) (fault : TraceFault) → with_next program.fields (read + 1) next (left_at program file (read + 1)) ≡ stops (refused fault) → next_in 67108864 65536 file at ≡ next → left_at program file read at ≡ stops (refused fault)
-  stopped next fault stop is = left_at-next program file read at more ∙ ap (λ x. with_next program.fields (read + 1) x (left_at program file (read + 1))) is ∙ stop
+  stopped : (next : Next) (fault : TraceFault) → with_next (said_by program.fields) (read + 1) next (left_at program file (read + 1)) ≡ stops (refused fault) → next_in 67108864 65536 file at ≡ next → left_at program file read at ≡ stops (refused fault)
+  stopped next fault stop is = left_at-next program file read at more ∙ ap (λ x. with_next (said_by program.fields) (read + 1) x (left_at program file (read + 1))) is ∙ stop
 
   failed-next : Closes program file (Err (refusal_of Failed (read + 1))) start now old.text.items
   failed-next = comes-nothing program file start read at now old.number (arrays_of old.store) old.text.items came
@@ -112,7 +112,7 @@ end-put program file start now then read at old waiting came e (Err (Undefined p
 
 -- no line is left
 pub left_at-none : (program : Program) (file : List ℕ) (read at : ℕ) → read < 1000000 → next_in 67108864 65536 file at ≡ no_line → left_at program file read at ≡ stops ended
-left_at-none program file read at more is = left_at-next program file read at more ∙ ap (λ x. with_next program.fields (read + 1) x (left_at program file (read + 1))) is
+left_at-none program file read at more is = left_at-next program file read at more ∙ ap (λ x. with_next (said_by program.fields) (read + 1) x (left_at program file (read + 1))) is
 
 module _ (program : Program) (file : List ℕ) (start now : Option (List ℕ)) (at : ℕ) (old : Switch) (came : ComesTo program file 1000000 at start now old) where
   last : (next : Next) → next_in 67108864 65536 file at ≡ next → left_at program file 1000000 at ≡ after_last next
@@ -206,3 +206,15 @@ run-end program told told' name name' start now then last read at at' old mid wa
     let on = subst (λ x. ComesOn program (file_of files name) read at' start then mid (Ok x)) none (step start came) in
     end-put program (file_of files name) start then last read at' mid waiting on.0 (left_at-none program (file_of files name) read at' more on.1) ending put)
     came (subst (λ o. IfSome o (Step name)) same (subst (λ n. IfSome told' (Step n)) called steps))
+
+-- where the last line that may come was taken, the look behind it closes the run
+pub run-past : (program : Program) (told told' : Option Files) (name name' : List ℕ) (start now last : Option (List ℕ)) (read at : ℕ) (old : Switch) (waiting : List ℕ) (ending : RunEnding)
+    → read ≡ 1000000 → told' ≡ told → name' ≡ name
+    → IfSome told (λ files. ComesTo program (file_of files name) read at start now old)
+    → IfSome told' (λ files. (from : Option (List ℕ)) → ComesTo program (file_of files name') 1000000 at from now old → Closes program (file_of files name') ending from last waiting)
+    → IfSome told (λ files. Closes program (file_of files name) ending start last waiting)
+run-past program told told' name name' start now last read at old waiting ending all same called came closes =
+    let Look : List ℕ → Files → Type 0 = λ n files. (from : Option (List ℕ)) → ComesTo program (file_of files n) 1000000 at from now old → Closes program (file_of files n) ending from last waiting in
+    where_both_told told (λ files. ComesTo program (file_of files name) read at start now old) (Look name) (λ files. Closes program (file_of files name) ending start last waiting)
+    (λ files came look. look start (subst (λ r. ComesTo program (file_of files name) r at start now old) all came))
+    came (subst (λ o. IfSome o (Look name)) same (subst (λ n. IfSome told' (Look n)) called closes))

@@ -27,11 +27,11 @@ with_said line (inject packet) rest = record { packets = packet ∷ rest.packets
 with_said line bad rest = stops (refused (Packets line))
 
 -- what stands next, as the line of this number
-abbrev pub with_next : List Field → ℕ → Next → (ℕ → Spelled) → Spelled
-with_next fields line (next_line text behind) rest = with_said line (said_by fields text) (rest behind)
-with_next fields line no_line rest = stops ended
-with_next fields line long_line rest = stops (refused (Packets line))
-with_next fields line many_bytes rest = stops (refused (Limit Bytes 67108865))
+abbrev pub with_next : (said : List ℕ → Said) → ℕ → Next → (ℕ → Spelled) → Spelled
+with_next said line (next_line text behind) rest = with_said line (said text) (rest behind)
+with_next said line no_line rest = stops ended
+with_next said line long_line rest = stops (refused (Packets line))
+with_next said line many_bytes rest = stops (refused (Limit Bytes 67108865))
 
 -- where no further line may come
 abbrev pub after_last : Next → Spelled
@@ -40,10 +40,14 @@ after_last next = stops (refused (Limit Lines 1000001))
 
 -- From this place on the file's lines are read, of which the first has this number and `left` may come. A file has
 -- at most 67,108,864 bytes, and a line 65,536.
-unfoldable pub spelled_from : List Field → (file : List ℕ) → (left line at : ℕ) → Spelled
-spelled_from fields file zero line at = after_last (next_in 67108864 65536 file at)
-spelled_from fields file (suc left) line at = with_next fields line (next_in 67108864 65536 file at) (λ behind. spelled_from fields file left (line + 1) behind)
+unfoldable pub spelled_from : (said : List ℕ → Said) → (file : List ℕ) → (left line at : ℕ) → Spelled
+spelled_from said file zero line at = after_last (next_in 67108864 65536 file at)
+spelled_from said file (suc left) line at = with_next said line (next_in 67108864 65536 file at) (λ behind. spelled_from said file left (line + 1) behind)
 
--- what a file of at most 1,000,000 lines spells
+-- what a file of at most 1,000,000 lines spells, where lines say this
+abbrev pub spelled_by : (said : List ℕ → Said) → List ℕ → Spelled
+spelled_by said file = spelled_from said file 1000000 1 0
+
+-- the packets of these fields
 abbrev pub spelled : List Field → List ℕ → Spelled
-spelled fields file = spelled_from fields file 1000000 1 0
+spelled fields file = spelled_by (said_by fields) file

@@ -18,7 +18,7 @@ use Rattle.snap_trace.specs.declared.fault.TraceFault.TheVariants.{Read, Write, 
 use Rattle.snap_trace.specs.declared.switch.Switch.{Switch}
 use Rattle.snap_trace.specs.ByPackets.{AppendsRunText, blocks_from, blocks_of, ending_from, ending_of, IsTailFrom, IsTailOf}
 use Rattle.snap_trace.specs.OneSwitch.{RunEnding}
-use Rattle.snap_trace.specs.PacketLines.{Said, skip, inject, bad}
+use Rattle.snap_trace.specs.PacketLines.{Said, skip, inject, bad, said_by}
 use Rattle.snap_trace.specs.Reports.{all_lines, block, end_text}
 use Rattle.snap_trace.specs.Spelled.{Spelled, spelled_from}
 
@@ -65,7 +65,7 @@ Puts old new waiting more (Err e) now_waiting = AppendsPart old new (waiting ++ 
 
 -- the packets that are left, and why reading stops, where `read` lines are taken, up to the place `at`
 abbrev pub left_at : Program → (file : List ℕ) → (read at : ℕ) → Spelled
-left_at program file read at = spelled_from program.fields file (1000000 - read) (read + 1) at
+left_at program file read at = spelled_from (said_by program.fields) file (1000000 - read) (read + 1) at
 
 -- So far a run has come: `read` lines are taken, up to the place `at`, and the next packet has this number and meets
 -- these arrays.

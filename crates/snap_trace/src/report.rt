@@ -17,8 +17,8 @@ use snap_core::place::Listed;
 use snap_core::program::{Field, Fields};
 use std::alloc::Global;
 
-// Puts a number in digits behind the buffer. Most are short, as the parts of an address.
-fn put_number(out: &mut Vec<u8>, number: u64) -> Result<(), NoMemory>
+/// Puts a number in digits behind the buffer. Most are short, as the parts of an address.
+pub fn put_number(out: &mut Vec<u8>, number: u64) -> Result<(), NoMemory>
     ensures { OnOk result (out.new.items ≡ out.old.items ++ decimal number) }
 {
     if number < 10 {
@@ -116,8 +116,8 @@ pub fn put_fields(out: &mut Vec<u8>, fields: &Fields, packet: &Packet) -> Result
     Ok(())
 }
 
-// Puts the line of a packet that goes out.
-fn put_out(out: &mut Vec<u8>, fields: &Fields, packet: &Packet) -> Result<(), NoMemory>
+/// Puts the line of a packet that goes out.
+pub fn put_out(out: &mut Vec<u8>, fields: &Fields, packet: &Packet) -> Result<(), NoMemory>
     requires { length packet.now ≡ count fields.now }
     ensures { OnOk result (out.new.items ≡ out.old.items ++ out_line fields.now packet.now) }
 {
@@ -125,8 +125,8 @@ fn put_out(out: &mut Vec<u8>, fields: &Fields, packet: &Packet) -> Result<(), No
     put_fields(out, fields, packet)
 }
 
-// Puts the first line of the block of the packet with this number.
-fn put_head(out: &mut Vec<u8>, number: u64) -> Result<(), NoMemory>
+/// Puts the first line of the block of the packet with this number.
+pub fn put_head(out: &mut Vec<u8>, number: u64) -> Result<(), NoMemory>
     ensures { OnOk result (out.new.items ≡ out.old.items ++ (codes "packet " ++ decimal number ++ codes "\n")) }
 {
     out.extend_from_slice(b"packet ")?;
@@ -181,8 +181,8 @@ pub(crate) fn put_copies(
     }
 }
 
-// Puts the numbers of an index.
-fn put_index(out: &mut Vec<u8>, index: &[u64]) -> Result<(), NoMemory>
+/// Puts the numbers of an index.
+pub fn put_index(out: &mut Vec<u8>, index: &[u64]) -> Result<(), NoMemory>
     ensures { OnOk result (out.new.items ≡ out.old.items ++ index_text index.now) }
 {
     for number in index {
@@ -215,8 +215,8 @@ pub fn put_arrays(out: &mut Vec<u8>, names: &Names, entries: &[Listed<'_>]) -> R
     Ok(())
 }
 
-/// The name of an array, or nothing where no array has this number.
-pub(crate) fn name_at(names: &Names, var: u16) -> &[u8]
+/// The name of this number, or nothing where there is none.
+pub fn name_at(names: &Names, var: u16) -> &[u8]
     ensures { result.now ≡ unwrap_or (slice_get names.now var) [] }
 {
     match names.items().get(var as usize) {

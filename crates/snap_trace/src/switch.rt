@@ -276,8 +276,8 @@ impl Switch {
     }
 }
 
-// Whether the run has come to its end, with no device's failure and no want of memory.
-fn is_told(ended: &Result<(), TraceFault>) -> bool
+/// Whether the run has come to its end, with no device's failure and no want of memory.
+pub fn is_told(ended: &Result<(), TraceFault>) -> bool
     ensures { result ≡ is_told ended.now }
 {
     !matches!(
@@ -286,7 +286,8 @@ fn is_told(ended: &Result<(), TraceFault>) -> bool
     )
 }
 
-fn many_lines() -> TraceFault
+/// The refusal of a line behind the last that may come.
+pub fn many_lines() -> TraceFault
     ensures { result ≡ TraceFault.Limit Which.Lines 1000001 }
 {
     TraceFault::Limit {
@@ -295,8 +296,8 @@ fn many_lines() -> TraceFault
     }
 }
 
-// Why no line is given behind the last that may come.
-fn refusal_past_last(fault: LinesFault) -> TraceFault
+/// Why no line is given behind the last that may come.
+pub fn refusal_past_last(fault: LinesFault) -> TraceFault
     ensures { result ≡ refusal_past_last fault }
 {
     match fault {
@@ -306,8 +307,8 @@ fn refusal_past_last(fault: LinesFault) -> TraceFault
     }
 }
 
-// Why the line of this number isn't given.
-fn refusal(fault: LinesFault, line: u64) -> TraceFault
+/// Why the line of this number isn't given.
+pub fn refusal(fault: LinesFault, line: u64) -> TraceFault
     ensures { result ≡ refusal_of fault line }
 {
     match fault {

@@ -17,7 +17,7 @@ use snap_core::place::Listed;
 use snap_io::{Sink, WriteFailed, write_whole};
 
 /// As many bytes wait at least before they are written while more are at hand.
-pub(crate) const PIECE: usize = 65_536;
+pub const PIECE: usize = 65_536;
 
 // Puts bytes behind the text that waits. Where there is no memory for them, both are written.
 fn put<K: Sink>(text: &mut Vec<u8>, sink: &mut K, bytes: &[u8]) -> Result<(), WriteFailed>

@@ -15,7 +15,7 @@ fn is_blank(byte: u8) -> bool
 }
 
 /// A line without the CR at its end.
-pub(crate) fn without_return(line: &[u8]) -> &[u8]
+pub fn without_return(line: &[u8]) -> &[u8]
     ensures { result.now ≡ without_return line.now }
 {
     if ends_with_return(line) {
@@ -35,7 +35,7 @@ fn ends_with_return(line: &[u8]) -> bool
 }
 
 /// The first word of a text, and the text behind it.
-pub(crate) fn next_word(text: &[u8]) -> Option<(&[u8], &[u8])>
+pub fn next_word(text: &[u8]) -> Option<(&[u8], &[u8])>
     ensures word { MatchOption result (words_of text.now ≡ []) (λ pair. words_of text.now ≡ pair.0.now ∷ words_of pair.1.now) }
     ensures shorter { IfSome result (λ pair. length pair.1.now < length text.now) }
 {
