@@ -77,7 +77,7 @@ starts-take [] s h = absurd (omega arith)
 starts-take (f ∷ []) s h = absurd (omega arith)
 starts-take (f ∷ g ∷ fs) s h = (λ i. s.0 i ∷ s.1 i ∷ [])
 
-names-declared : (c : ℕ) (fs : List Field) → map (λ (e : List ℕ × Found). e.0) (declared_from c fs) ≡ all_declared fs
+pub names-declared : (c : ℕ) (fs : List Field) → map (λ (e : List ℕ × Found). e.0) (declared_from c fs) ≡ all_declared fs
 names-declared c [] = refl
 names-declared c (f ∷ fs) = at c f.name f.prefix (declared_from (c + width f.prefix) fs) (names-declared (c + width f.prefix) fs)
   where

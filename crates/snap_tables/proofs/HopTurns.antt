@@ -1,20 +1,21 @@
 -- Next hops that came in turn: they rise, and none is left out.
-use Rattle.std.proofs.Common.{◌≡◌, ◌≢◌, ℕ, zero, suc, ◌+◌, ◌-◌, ◌*◌, ◌<◌, ◌≤◌, Bool, true, false, cond, List, [], ◌∷◌, ◌++◌, Option, Some, None, length, refl, sym, ap, subst, ◌∙◌, arith, add-one, inl, inr}
-use Rattle.std.specs.Prelude.{◌⊎◌, ◌==◌, Contains, nat_lt, slice_get}
+use Rattle.std.proofs.Common.{◌≡◌, ◌≢◌, ℕ, zero, suc, ◌+◌, ◌-◌, ◌*◌, ◌<◌, ◌≤◌, Bool, true, false, cond, List, [], ◌∷◌, ◌++◌, Option, Some, None, length, refl, sym, ap, subst, ◌∙◌, arith, add-one, append_assoc, inl, inr}
+use Rattle.std.specs.Prelude.{◌⊎◌, ◌==◌, ◌||◌, Contains, nat_le, nat_lt, slice_get}
 use Rattle.std.specs.List.{All, AllByRecursion}
 use Rattle.std.specs.List.Sorted.{IsStrictlySortedBy}
 use Rattle.std.specs.Option.{option_map_or}
 use Rattle.std.specs.Ordering.{nat_cmp, ordering_then}
 use Rattle.std.specs.Cmp.{nat_cmp_is}
-use Rattle.std.specs.declared.cmp.Ordering.TheVariants.{Less, Equal}
-use Rattle.std.proofs.lemmas.Bool.{and_parts, cases_lt, cases_order, eqb-false, eqb-true, ltb-false, ltb-true}
+use Rattle.std.specs.declared.cmp.Ordering.TheVariants.{Less, Equal, Greater}
+use Rattle.std.proofs.lemmas.Bool.{and_from, and_parts, cases_lt, cases_order, eq-eqb, eqb-false, eqb-true, le-leb, ltb-false, ltb-true, or_left, or_right}
 use Rattle.std.proofs.lemmas.Nat.{mul-le}
 use Rattle.std.proofs.Math.Nat.{suc-mul}
-use Rattle.std.proofs.lemmas.List.Elements.{Contains-append_left, Contains-push}
+use Rattle.std.proofs.lemmas.List.Elements.{All-contains, All-from_recursion, Contains-append_left, Contains-push}
 use Rattle.snap_rows.specs.declared.tables.Hop.{Hop}
 use Rattle.snap_rows.specs.Form.{hop_cmp}
-use Rattle.snap_tables.specs.Entries.{AreInTurn, IsNextHop, next_pair, pair_from, turn}
+use Rattle.snap_tables.specs.Entries.{AllFrom, AreInTurn, IsNextHop, next_pair, pair_from, turn}
 use Rattle.snap_tables.proofs.PieceLemmas.{all-push}
+use Rattle.snap_tables.proofs.Splits.{all-back, all-front, all-join, all-middle, sorted-before, sorted-behind}
 use Rattle.snap_tables.proofs.Turns.{in-turn}
 
 -- pairs by one number, in their order
@@ -282,3 +283,109 @@ module _ (n : ℕ) (few : n ≤ 256) where
           none : (gs : List Hop) → AreInTurn (IsNextHop n) gs → n ≤ 1 → length gs ≤ 65280
           none [] t w = omega arith
           none (g ∷ gs) t w = absurd (let f = t.0.3 in let d = and_parts (g.from == 0) (g.target == 1) f in let e = eqb-true g.target 1 d.1 in omega (arith, t.0.1, w, e))
+
+-- ---- the other way: next hops that rise and leave no pair out came in turn
+less-lt : (a b : ℕ) → nat_cmp a b ≡ Less → a < b
+less-lt a b e = Rattle.std.proofs.Common.⊎_elim (λ s. absurd (other-less (nat_cmp_is a b Equal s ∙ e)))
+    (λ o. Rattle.std.proofs.Common.⊎_elim (λ l. l) (λ g. absurd (greater-less (nat_cmp_is a b Greater g ∙ e))) o) (cases_order a b)
+  where
+    other-less : Equal ≡ Less → ⊥
+    other-less e = cc
+
+    greater-less : Greater ≡ Less → ⊥
+    greater-less e = cc
+
+less-code : (g h : Hop) → g.target < 65536 → h.target < 65536 → hop_cmp g h ≡ Less → code g.from g.target < code h.from h.target
+unfolding code
+less-code g h gt ht lt = Rattle.std.proofs.Common.⊎_elim
+    (λ e. omega (arith, e, less-lt g.target h.target (ap (λ r. ordering_then r (nat_cmp g.target h.target)) (nat_cmp_is g.from h.from Equal e) ∙ lt)))
+    (λ o. Rattle.std.proofs.Common.⊎_elim (λ l. omega (arith, l, gt))
+    (λ b. absurd (greater-less (ap (λ r. ordering_then r (nat_cmp g.target h.target)) (nat_cmp_is g.from h.from Greater b) ∙ lt))) o) (cases_order g.from h.from)
+  where
+    greater-less : Greater ≡ Less → ⊥
+    greater-less e = cc
+
+below-not : (k : ℕ) (gs : List Hop) → AllByRecursion (λ (g : Hop). code g.from g.target < k) gs → AllByRecursion (λ (g : Hop). code g.from g.target ≢ k) gs
+below-not k [] a = tt
+below-not k (g ∷ gs) a = (λ e. omega (arith, e, a.0), below-not k gs a.1)
+
+module _ (n : ℕ) (few : n ≤ 256) (hs : List Hop) (good : AllByRecursion (IsGood n) hs) (rise : IsStrictlySortedBy hop_cmp hs)
+    (every : (a x : ℕ) → a < n → x < n → a ≢ x → HasPair hs a x) where
+  -- no hop of a list is this pair's
+  none-is : (gs : List Hop) (a x : ℕ) → AllByRecursion (λ (g : Hop). code g.from g.target ≢ code a x) gs → HasPair gs a x → ⊥
+  none-is gs a x all p = All-contains (λ (g : Hop). code g.from g.target ≢ code a x) gs p.0 (All-from_recursion (λ (g : Hop). code g.from g.target ≢ code a x) gs all) p.1 (λ i. code (p.2 i) (p.3 i))
+
+  module _ (ys : List Hop) (h : Hop) (zs : List Hop) (e : hs ≡ ys ++ (h ∷ zs)) (s : SoFar n ys) where
+    all-good : AllByRecursion (IsGood n) (ys ++ (h ∷ zs))
+    all-good = subst (AllByRecursion (IsGood n)) e good
+
+    in-order : IsStrictlySortedBy hop_cmp (ys ++ (h ∷ zs))
+    in-order = subst (IsStrictlySortedBy hop_cmp) e rise
+
+    is-good : IsGood n h
+    is-good = all-middle (IsGood n) ys h zs all-good
+
+    lower : (gs : List Hop) → AllByRecursion (IsGood n) gs → AllByRecursion (λ g. hop_cmp g h ≡ Less) gs → AllByRecursion (λ (g : Hop). code g.from g.target < code h.from h.target) gs
+    lower [] a b = tt
+    lower (g ∷ gs) a b = (less-code g h (omega (arith, a.0.target, few)) (omega (arith, is-good.target, few)) b.0, lower gs a.1 b.1)
+
+    upper : (gs : List Hop) → AllByRecursion (IsGood n) gs → AllByRecursion (λ g. hop_cmp h g ≡ Less) gs → AllByRecursion (λ (g : Hop). code h.from h.target < code g.from g.target) gs
+    upper [] a b = tt
+    upper (g ∷ gs) a b = (less-code h g (omega (arith, is-good.target, few)) (omega (arith, a.0.target, few)) b.0, upper gs a.1 b.1)
+
+    lowers : AllByRecursion (λ (g : Hop). code g.from g.target < code h.from h.target) ys
+    lowers = lower ys (all-front (IsGood n) ys (h ∷ zs) all-good) (sorted-before hop_cmp ys h zs in-order)
+
+    uppers : AllByRecursion (λ (g : Hop). code h.from h.target < code g.from g.target) zs
+    uppers = upper zs (all-back (IsGood n) ys (h ∷ zs) all-good).1 (sorted-behind hop_cmp ys h zs in-order)
+
+    above-not : (k : ℕ) (gs : List Hop) → k < code h.from h.target → AllByRecursion (λ (g : Hop). code h.from h.target < code g.from g.target) gs → AllByRecursion (λ (g : Hop). code g.from g.target ≢ k) gs
+    above-not k [] lt a = tt
+    above-not k (g ∷ gs) lt a = (λ e. omega (arith, e, a.0, lt), above-not k gs lt a.1)
+
+    not-before : code h.from h.target < code (turn n ys).0 (turn n ys).1 → ⊥
+    not-before lt = none-is ys h.from h.target (below-not (code h.from h.target) ys lowers) (s.full h.from h.target is-good.from is-good.target is-good.other lt)
+
+    turn-target : (turn n ys).1 < n
+    turn-target = Rattle.std.proofs.Common.⊎_elim (λ l. l)
+        (λ r. Rattle.std.proofs.Common.⊎_elim (λ z. omega (arith, z, is-good.from)) (λ m. absurd (is-good.other (omega (arith, m, is-good.from, is-good.target)))) r) s.ends
+
+    turn-from : code (turn n ys).0 (turn n ys).1 < code h.from h.target → (turn n ys).0 < n
+    unfolding code
+    turn-from lt = omega (arith, lt, is-good.from, is-good.target, few)
+
+    not-behind : code (turn n ys).0 (turn n ys).1 < code h.from h.target → ⊥
+    not-behind lt = none-is (ys ++ (h ∷ zs)) (turn n ys).0 (turn n ys).1
+        (all-join (λ (g : Hop). code g.from g.target ≢ code (turn n ys).0 (turn n ys).1) ys (h ∷ zs) (below-not (code (turn n ys).0 (turn n ys).1) ys s.below)
+        (λ same. omega (arith, same, lt), above-not (code (turn n ys).0 (turn n ys).1) zs lt uppers))
+        (subst (λ gs. HasPair gs (turn n ys).0 (turn n ys).1) e (every (turn n ys).0 (turn n ys).1 (turn-from lt) turn-target s.apart))
+
+    same-code : code h.from h.target ≡ code (turn n ys).0 (turn n ys).1
+    same-code = Rattle.std.proofs.Common.⊎_elim (λ e. e) (λ o. Rattle.std.proofs.Common.⊎_elim (λ l. absurd (not-before l)) (λ g. absurd (not-behind g)) o) (cases_order (code h.from h.target) (code (turn n ys).0 (turn n ys).1))
+
+    same-from : h.from ≡ (turn n ys).0
+    unfolding code
+    same-from = omega (arith, same-code, is-good.target, turn-target, few)
+
+    same-target : h.target ≡ (turn n ys).1
+    unfolding code
+    same-target = omega (arith, same-code, is-good.target, turn-target, few)
+
+    may-come : IsNextHop n ys h
+    may-come = (is-good.from, is-good.target, is-good.next, and_from (h.from == (turn n ys).0) (h.target == (turn n ys).1) (eq-eqb h.from (turn n ys).0 same-from) (eq-eqb h.target (turn n ys).1 same-target))
+
+  turns-behind : (ys zs : List Hop) → hs ≡ ys ++ zs → SoFar n ys → AllFrom (IsNextHop n) ys zs
+  turns-behind ys [] e s = tt
+  turns-behind ys (h ∷ zs) e s = let k = may-come ys h zs e s in (k, turns-behind (ys ++ (h ∷ [])) zs (e ∙ sym (append_assoc ys (h ∷ []) zs)) (one-more n few ys h s k))
+
+  pub hops-turn : AreInTurn (IsNextHop n) hs
+  hops-turn = turns-behind [] hs refl (none-yet n few)
+
+  -- and no pair is left
+  pub hops-over : (nat_le n (turn n hs).0 || nat_le n (turn n hs).1) ≡ true
+  hops-over =
+      let s = so-far n few hs hops-turn in
+      Rattle.std.proofs.Common.⊎_elim
+      (λ l. Rattle.std.proofs.Common.⊎_elim (λ m. absurd (none-is hs (turn n hs).0 (turn n hs).1 (below-not (code (turn n hs).0 (turn n hs).1) hs s.below) (every (turn n hs).0 (turn n hs).1 l m s.apart)))
+      (λ g. or_right (nat_le n (turn n hs).0) (nat_le n (turn n hs).1) (le-leb n (turn n hs).1 g)) (cases_lt (turn n hs).1 n))
+      (λ g. or_left (nat_le n (turn n hs).0) (nat_le n (turn n hs).1) (le-leb n (turn n hs).0 g)) (cases_lt (turn n hs).0 n)

@@ -19,9 +19,14 @@ pub mod NextLemmas
 pub mod Turns
 pub mod FieldCounts
 pub mod Steps
+pub mod Splits
 pub mod HopTurns
+pub mod RowForms
 pub mod Formed
 pub mod ReadLemmas
 pub mod OneItem
 pub mod Walks
 pub mod Exact
+pub mod OneReading
+pub mod Spelled
+pub mod ReadBack

@@ -1,5 +1,5 @@
 -- A line says one entry, and the words of a row one row.
-use Rattle.std.proofs.Common.{◌≡◌, ◌≢◌, ℕ, ◌+◌, ◌<◌, ◌≤◌, ◌^◌, Bool, true, false, cond, List, [], ◌∷◌, ◌++◌, Option, Some, None, length, refl, sym, ap, subst, ◌∙◌, arith, decimal, append-nil, append_assoc}
+use Rattle.std.proofs.Common.{◌≡◌, ℕ, ◌<◌, ◌^◌, true, false, cond, List, [], ◌∷◌, ◌++◌, Some, length, refl, sym, ap, subst, ◌∙◌, arith, decimal, append-nil}
 use Rattle.std.specs.Prelude.{◌==◌, codes}
 use Rattle.std.specs.List.{flat_map}
 use Rattle.std.proofs.lemmas.Bool.{eqb-true}
@@ -7,11 +7,8 @@ use Rattle.std.proofs.lemmas.Fmt.{decimal_injective}
 use Rattle.snap_core.specs.declared.policy.Test.{Test}
 use Rattle.snap_core.specs.declared.policy.Test.TheVariants.{Value, Equal, State as StateTest}
 use Rattle.snap_core.specs.declared.policy.Update.{Update}
-use Rattle.snap_core.specs.declared.ports.PortAt.{PortAt}
-use Rattle.snap_core.specs.declared.program.Field.{Field}
 use Rattle.snap_core.specs.Parts.{parts_by}
 use Rattle.snap_rows.specs.declared.tables.ArrayAt.{ArrayAt}
-use Rattle.snap_rows.specs.declared.tables.Hop.{Hop}
 use Rattle.snap_rows.specs.declared.tables.RowAt.{RowAt}
 use Rattle.snap_rows.specs.declared.tables.Row.{Row}
 use Rattle.snap_rows.specs.declared.tables.Row.TheVariants as row
@@ -21,7 +18,7 @@ use Rattle.snap_rows.specs.Entries.{Parts}
 use Rattle.snap_tables.specs.Drafts.{letter}
 use Rattle.snap_tables.specs.Laws.{IsUpdateOf}
 use Rattle.snap_tables.specs.Lines.{Follows, IsBeginning, counts_of, item_body, item_line}
-use Rattle.snap_tables.specs.Reading.{array_said, begins_update, field_said, hop_said, is_space, link_said, port_said, switch_said}
+use Rattle.snap_tables.specs.Reading.{begins_update, is_space}
 use Rattle.snap_tables.specs.Rows.{AreOuts, AreStages, AreUpdates, IsOut, IsRowOf, IsStage, never, opens_out, opens_part, opens_stage, opens_with, test_row_said, tested}
 use Rattle.snap_tables.specs.Text.{Words, out_words, row_words, stage_words, test_words, update_words}
 use Rattle.snap_tables.specs.declared.item.Item.{Item}

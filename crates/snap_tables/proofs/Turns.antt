@@ -94,10 +94,10 @@ all-last P [] x h = h.0
 all-last P (z ∷ zs) x h = all-last P zs x h.1
 
 module _ {X : Type 0} (c : X → X → Ordering) (o : IsTotalOrder c) where
-  abbrev less : X → X → Bool
+  abbrev pub less : X → X → Bool
   less a b = is_lt (c a b)
 
-  above-tail : (y z : X) (zs : List X) (x : X) → is_above less (y ∷ z ∷ zs) x ≡ is_above less (z ∷ zs) x
+  pub above-tail : (y z : X) (zs : List X) (x : X) → is_above less (y ∷ z ∷ zs) x ≡ is_above less (z ∷ zs) x
   above-tail y z zs x =
       let a : length (y ∷ z ∷ zs) - 1 ≡ suc (length zs) = omega arith in
       let b : length (z ∷ zs) - 1 ≡ length zs = omega arith in

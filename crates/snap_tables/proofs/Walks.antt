@@ -1,24 +1,22 @@
 -- Beginnings of tables, one entry after another, and what their texts say.
-use Rattle.std.proofs.Common.{◌≡◌, ◌≢◌, ℕ, zero, suc, ◌+◌, ◌-◌, ◌<◌, ◌≤◌, Bool, true, false, cond, List, [], ◌∷◌, ◌++◌, Option, Some, None, length, map, refl, sym, ap, subst, ◌∙◌, arith, append-nil, append_assoc, length-append, inl, inr}
-use Rattle.std.specs.Prelude.{◌⊎◌, ◌&&◌, ◌||◌, codes, nat_le, nat_lt}
-use Rattle.std.proofs.lemmas.Bool.{and_parts, and_from, ltb-true, ltb-false, lt-ltb, le-ltb}
+use Rattle.std.proofs.Common.{◌≡◌, ℕ, ◌≤◌, Bool, true, false, cond, List, [], ◌∷◌, ◌++◌, Option, Some, None, length, map, refl, sym, ap, subst, ◌∙◌, arith, append-nil, append_assoc, length-append, inl, inr}
+use Rattle.std.specs.Prelude.{◌⊎◌, ◌&&◌, ◌||◌, nat_le, nat_lt}
+use Rattle.std.proofs.lemmas.Bool.{and_parts, and_from, ltb-true, lt-ltb, le-ltb}
 use Rattle.snap_core.specs.declared.ports.PortAt.{PortAt}
 use Rattle.snap_core.specs.declared.program.Field.{Field}
 use Rattle.snap_core.specs.declared.program.Which.{Which}
 use Rattle.snap_core.specs.declared.program.Which.TheVariants.{Components, Arrays, Switches, Links, Ports}
-use Rattle.snap_core.specs.Fields.{count, width}
+use Rattle.snap_core.specs.Fields.{count}
 use Rattle.snap_rows.specs.declared.tables.ArrayAt.{ArrayAt}
 use Rattle.snap_rows.specs.declared.tables.Hop.{Hop}
 use Rattle.snap_rows.specs.declared.tables.RowAt.{RowAt}
 use Rattle.snap_rows.specs.declared.tables.Tables.{Tables}
 use Rattle.snap_tables.specs.Drafts.{no_entries}
 use Rattle.snap_tables.specs.Entries.{AllFrom, AreInTurn, IsNextArray, IsNextField, IsNextHop, IsNextLink, IsNextPort, IsNextRow, IsNextSwitch}
-use Rattle.snap_tables.specs.Lines.{Follows, IsBeginning, IsNext, counts_of, front_text, has, has_all_hops, is_ready, item_line, last_section, over, passed, section, with_item}
-use Rattle.snap_tables.specs.Text.{first_line, last_line}
+use Rattle.snap_tables.specs.Lines.{Follows, IsBeginning, counts_of, front_text, has, has_all_hops, is_ready, item_line, last_section, over, passed, with_item}
 use Rattle.snap_tables.specs.declared.item.Item.{Item}
 use Rattle.snap_tables.specs.declared.item.Item.TheVariants as item
-use Rattle.snap_tables.proofs.FieldCounts.{count_push}
-use Rattle.snap_tables.proofs.OneItem.{item-no-end, item-one}
+use Rattle.snap_tables.proofs.OneItem.{item-one}
 use Rattle.snap_tables.proofs.Steps.{beginning-put, front-put}
 
 -- entries put one behind another
@@ -234,31 +232,37 @@ module _ (t : Tables) (b : IsBeginning t) where
       (walk-join (hops_to []) (map item.Hop t.hops) (map item.Row t.rows) (hops_to t.hops) t walk-hops walk-rows)))))
 
 -- ---- two walks over one text
-pub record Ahead (v : ℕ) (b t : Tables) (rest : List ℕ) : Type 0 where
+pub record Ahead (v : ℕ) (b : Tables) (rest : List ℕ) : Type 0 where
   pub entry : Item
   pub more : List ℕ
   pub follows : Follows b entry
   pub few : passed (with_item b entry) entry ≡ None
   pub line : rest ≡ item_line v entry ++ more
 
--- where one walk ends the other is at its end too, or goes on with an entry
-pub walks : (s : Tables) → IsBeginning s → (its jts : List Item) (b t : Tables) (rest tail : List ℕ) → Walk s its b → Walk s jts t → tail ≡ last_line → lines s.version its ++ rest ≡ lines s.version jts ++ tail
-    → ((b ≡ t) × (rest ≡ tail)) ⊎ Ahead s.version b t rest
-walks s h [] [] b t rest tail w u is e = inl (sym w ∙ u, e)
-walks s h [] (jt ∷ jts) b t rest tail w u is e =
-    inr (record {
+-- where one walk ends the other is at its end too, or one of them goes on with an entry
+pub walks : (s : Tables) → IsBeginning s → (its jts : List Item) (b t : Tables) (rest tail : List ℕ) → Walk s its b → Walk s jts t → lines s.version its ++ rest ≡ lines s.version jts ++ tail
+    → ((b ≡ t) × (rest ≡ tail)) ⊎ (Ahead s.version b rest ⊎ Ahead s.version t tail)
+walks s h [] [] b t rest tail w u e = inl (sym w ∙ u, e)
+walks s h [] (jt ∷ jts) b t rest tail w u e =
+    inr (inl (record {
       entry = jt;
       more = lines s.version jts ++ tail;
       follows = subst (λ x. Follows x jt) w u.0;
       few = subst (λ x. passed (with_item x jt) jt ≡ None) w u.1;
       line = e ∙ append_assoc (item_line s.version jt) (lines s.version jts) tail;
-    })
-walks s h (it ∷ its) [] b t rest tail w u is e =
-    absurd (item-no-end s h it (lines s.version its ++ rest) (codes "nd\n") (sym (append_assoc (item_line s.version it) (lines s.version its) rest) ∙ e ∙ is))
-walks s h (it ∷ its) (jt ∷ jts) b t rest tail w u is e =
+    }))
+walks s h (it ∷ its) [] b t rest tail w u e =
+    inr (inr (record {
+      entry = it;
+      more = lines s.version its ++ rest;
+      follows = subst (λ x. Follows x it) u w.0;
+      few = subst (λ x. passed (with_item x it) it ≡ None) u w.1;
+      line = sym e ∙ append_assoc (item_line s.version it) (lines s.version its) rest;
+    }))
+walks s h (it ∷ its) (jt ∷ jts) b t rest tail w u e =
     let both = sym (append_assoc (item_line s.version it) (lines s.version its) rest) ∙ e ∙ append_assoc (item_line s.version jt) (lines s.version jts) tail in
     let one = item-one s h it jt (lines s.version its ++ rest) (lines s.version jts ++ tail) w.0 u.0 both in
     let same : with_item s it ≡ with_item s jt = ap (with_item s) one.0 in
     let version = same-version s it in
-    let next = walks (with_item s it) (beginning-put s h it w.0 w.1) its jts b t rest tail w.2 (subst (λ x. Walk x jts t) (sym same) u.2) is (subst (λ v. lines v its ++ rest ≡ lines v jts ++ tail) (sym version) one.1) in
-    subst (λ v. ((b ≡ t) × (rest ≡ tail)) ⊎ Ahead v b t rest) version next
+    let next = walks (with_item s it) (beginning-put s h it w.0 w.1) its jts b t rest tail w.2 (subst (λ x. Walk x jts t) (sym same) u.2) (subst (λ v. lines v its ++ rest ≡ lines v jts ++ tail) (sym version) one.1) in
+    subst (λ v. ((b ≡ t) × (rest ≡ tail)) ⊎ (Ahead v b rest ⊎ Ahead v t tail)) version next

@@ -8,4 +8,6 @@ pub mod Rows
 pub mod Entries
 pub mod Lines
 pub mod Drafts
+pub mod Ranges
+pub mod ReadBack
 pub mod Exact

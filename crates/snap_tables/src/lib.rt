@@ -13,6 +13,7 @@ mod piece;
 mod pieces;
 mod places;
 pub mod print;
+mod ranges;
 pub mod read;
 mod reader;
 mod row;

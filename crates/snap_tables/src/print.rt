@@ -6,10 +6,12 @@ ghost use Rattle.std.specs.Io.KnownBytes.{Appends};
 ghost use Rattle.snap_io.specs.Causes.{HasCause, Rose};
 ghost use Rattle.snap_io.specs.Sinks.{AppendsPart};
 ghost use Rattle.snap_tables.specs.Print.{Blames, Puts};
+ghost use Rattle.snap_tables.specs.ReadBack.{IsReadBack};
 ghost use Rattle.snap_tables.specs.Text.{array_line, field_line, hop_line, last_line, link_line, port_line, names_text, row_line, rows_text, switch_line, text, ways_text};
 
 use crate::fault::PrintFault;
 use crate::line::{Entry, put_first, put_last};
+use crate::ranges::know_tables;
 use snap_core::NoMemory;
 use snap_io::{Sink, write_whole};
 use snap_rows::tables::Tables;
@@ -204,11 +206,14 @@ pub(crate) fn print_tables<K: Sink>(
 }
 
 /// Writes the text of tables (`docs/FORMATS.md`, "Tables") in pieces of about 64 KiB. `Write` comes only where the sink
-/// failed; after a refusal some first bytes went out, and no others.
+/// failed; after a refusal some first bytes went out, and no others. `read` of the text gives these tables.
 pub fn print<K: Sink>(alloc: Global, tables: &Valid, sink: &mut K) -> Result<(), PrintFault>
     ensures ok { OnOk result (Appends (K.taken sink.old) (K.taken sink.new) (text tables.now)) }
     ensures part { OnErr result (AppendsPart (K.taken sink.old) (K.taken sink.new) (text tables.now)) }
     ensures blames { Blames (K.faults sink.old) (K.faults sink.new) result }
+    ensures back { IsReadBack tables.now }
 {
-    print_tables(alloc, tables.tables(), sink)
+    let tables = tables.tables();
+    know_tables(tables);
+    print_tables(alloc, tables, sink)
 }

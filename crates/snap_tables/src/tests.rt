@@ -10,6 +10,7 @@ use snap_core::program::Fields;
 use snap_io::MemorySink;
 use snap_rows::lists::{ArraysAt, Hops, Outs, Rows, Stages, Updates};
 use snap_rows::tables::{ArrayAt, Hop, Row, RowAt, Rule, Stage, Tables};
+use snap_rows::valid::lone;
 use std::alloc::Global;
 use std::test::Fail;
 
@@ -130,15 +131,30 @@ fn first_come_is_printed(rt: HostRuntime) -> Result<(), Fail> {
     Ok(())
 }
 
-#[test]
-fn first_come_is_read_back(rt: HostRuntime) -> Result<(), Fail> {
-    let alloc = rt.alloc();
+// Two arrays at two switches, in version 2.
+const TWO_OWNERS: &[u8] =
+    b"snap-tables 2\nfield inport\nfield outport\nswitch a\nswitch b\narray s 0 0\narray t 1 1\nlink 0 1\nport 1 0\nport 2 1\nhop 0 1 1\nhop 1 0 0\nrow 0 0 state 0 [#0] #0 1 2\nrow 0 1 state 1 [#0] #0 3 4\nrow 0 2 state 1 [#0] #0 5 6\nrow 0 3 leaf add 0 [#0] 1 out c1=#1\nrow 0 4 leaf add 0 [#0] 1 out c1=#2\nrow 0 5 leaf out c1=#1\nrow 0 6 leaf out c1=#2\nrow 1 0 stop\nrow 1 1 state 1 [#0] #0 3 4\nrow 1 2 state 1 [#0] #0 5 6\nrow 1 3 leaf add 0 [#0] 1 out c1=#1\nrow 1 4 leaf add 0 [#0] 1 out c1=#2\nrow 1 5 leaf out c1=#1\nrow 1 6 leaf out c1=#2\nend\n";
+
+// Whether tables are lone whose text is read, and written as it was.
+fn is_lone(alloc: Global, text: &[u8]) -> Result<Option<bool>, NoMemory> {
     let mut sink = MemorySink::new(alloc, 4096, 1, Vec::new(alloc))?;
-    match read(alloc, FIRST_COME) {
-        Ok(tables) => assert!(rt; print(alloc, &tables, &mut sink).is_ok()),
-        Err(_) => assert!(rt; false),
+    match read(alloc, text) {
+        Ok(tables) => {
+            if print(alloc, &tables, &mut sink).is_ok() && sink.bytes() == text {
+                Ok(Some(lone(&tables)))
+            } else {
+                Ok(None)
+            }
+        }
+        Err(_) => Ok(None),
     }
-    assert!(rt; sink.bytes() == FIRST_COME);
+}
+
+#[test]
+fn tables_are_read_back(rt: HostRuntime) -> Result<(), Fail> {
+    let alloc = rt.alloc();
+    assert!(rt; is_lone(alloc, FIRST_COME)? == Some(true));
+    assert!(rt; is_lone(alloc, TWO_OWNERS)? == Some(false));
     Ok(())
 }
 
@@ -148,6 +164,27 @@ fn bad_line(alloc: Global, text: &[u8]) -> u64 {
         Err(TablesFault::Line { line }) => line,
         _ => 0,
     }
+}
+
+// The line behind the last LF of a text.
+fn last_line(text: &[u8]) -> u64 {
+    let mut line = 1u64;
+    for byte in text {
+        if *byte == b'\n' {
+            line = line.wrapping_add(1);
+        }
+    }
+    line
+}
+
+#[test]
+fn beginnings_are_refused(rt: HostRuntime) -> Result<(), Fail> {
+    let alloc = rt.alloc();
+    for length in 0..FIRST_COME.len() {
+        let text = &FIRST_COME[..length];
+        assert_eq!(rt; bad_line(alloc, text), last_line(text));
+    }
+    Ok(())
 }
 
 #[test]
