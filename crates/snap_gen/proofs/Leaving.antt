@@ -20,7 +20,8 @@ use Rattle.snap_rows.specs.declared.head.Sent.{Sent}
 use Rattle.snap_rows.specs.Entries.{port_numbers}
 use Rattle.snap_rows.specs.Handles.{sent}
 use Rattle.snap_rows.specs.Network.{Net, Copy, Happening, Crossed, Delivered, Forked, moved, happening, stepped}
-use Rattle.snap_gen.specs.Agreement.{deliveries_of, losses_of, sent_of, lost_of, CameOut}
+use Rattle.snap_rows.specs.Happenings.{deliveries_of, losses_of}
+use Rattle.snap_gen.specs.Agreement.{sent_of, lost_of, CameOut}
 use Rattle.snap_gen.proofs.Nodes.{OutDoes, is_delivered, is_carried}
 
 -- ---- happenings one after another

@@ -18,6 +18,7 @@ pub mod OneRow
 pub mod Planning
 pub mod Showing
 pub mod Tidying
+pub mod Imaging
 pub mod Generating
 pub mod Counting
 pub mod Ranking

@@ -26,7 +26,8 @@ use Rattle.snap_rows.specs.Handles.{Handles, seeks, visits, concludes}
 use Rattle.snap_rows.specs.Network as network
 use Rattle.snap_rows.specs.Network.{Net, Copy, Event, Inject, Step, Happening, Crossed, Delivered, Forked, Leads, inject, step, Runs, moved, happening, stepped, injected, packets_of}
 use Rattle.snap_rows.proofs.Later.{rank_is_below}
-use Rattle.snap_gen.specs.Agreement.{sent_of, lost_of, commits, numbered, in_order}
+use Rattle.snap_rows.specs.Happenings.{commits}
+use Rattle.snap_gen.specs.Agreement.{sent_of, lost_of, numbered, in_order}
 use Rattle.snap_gen.specs.Faithful.{packets_in}
 use Rattle.snap_gen.specs.InTurn.{StandsAt}
 use Rattle.snap_gen.proofs.Nodes.{WalkDoes, visits_first, forks_at_once, walk_does, OutDoes, is_delivered, is_carried, out_does}

@@ -31,7 +31,8 @@ use Rattle.snap_rows.specs.Network.{Net, Happening, packets_of, start, whole}
 use Rattle.snap_rows.proofs.Ending.{plain_runs_end}
 use Rattle.snap_rows.proofs.Rows.{All-get}
 use Rattle.snap_rows.proofs.Own.{rank_entry, rank_owner}
-use Rattle.snap_gen.specs.Agreement.{commits, numbered, in_order}
+use Rattle.snap_rows.specs.Happenings.{commits}
+use Rattle.snap_gen.specs.Agreement.{numbered, in_order}
 use Rattle.snap_gen.specs.Facts.{Facts, FactsMakeFaithful}
 use Rattle.snap_gen.specs.Faithful.{IsStoreOf, IsPacketOf, AllCanEnter, packets_in, AgreesAsInjected, IsDefined, PlainRunsAgree, CalmRunsAgree, LoneRunsAgree, HopsAreBounded}
 use Rattle.snap_gen.specs.InTurn.{StandsAt}

@@ -1,5 +1,5 @@
 -- What happened to the packets of a run, and when a run agrees with one big switch.
-use Rattle.std.specs.Prelude.{◌≡◌, ℕ, ◌==◌, Some, List, [], ◌∷◌, map, length, slice_get, slice_index_or, if◌then◌else◌}
+use Rattle.std.specs.Prelude.{◌≡◌, ℕ, Some, List, [], ◌∷◌, map, length, slice_get, slice_index_or}
 use Rattle.std.specs.List.{range_with_len}
 use Rattle.std.specs.List.Sorted.{IsPermutation}
 use Rattle.snap_core.specs.declared.place.Place.{Place}
@@ -11,7 +11,8 @@ use Rattle.snap_rows.specs.declared.tables.Tables.{Tables}
 use Rattle.snap_rows.specs.declared.head.Sent.{Sent}
 use Rattle.snap_rows.specs.Entries.{port_numbers}
 use Rattle.snap_rows.specs.Handles.{sent}
-use Rattle.snap_rows.specs.Network.{Net, Happening, Crossed, Delivered, Forked, whole}
+use Rattle.snap_rows.specs.Happenings.{deliveries_of, losses_of}
+use Rattle.snap_rows.specs.Network.{Net, Happening, whole}
 
 -- the packets of a set that name a port, in rising order, each on its way there
 abbrev pub sent_of : Tables → PacketSet → List Sent
@@ -20,27 +21,6 @@ sent_of t set = map sent (delivered (port_numbers t) set)
 -- the number of the others
 abbrev pub lost_of : Tables → PacketSet → ℕ
 lost_of t set = lost (port_numbers t) set
-
--- the deliveries of packet i, each with its port
-abbrev pub deliveries_of : ℕ → List Happening → List Sent
-deliveries_of i [] = []
-deliveries_of i (Delivered c port ∷ hs) = if c.number == i then (record { port = port; packet = c.packet } ∷ deliveries_of i hs) else deliveries_of i hs
-deliveries_of i (Crossed c to head ∷ hs) = deliveries_of i hs
-deliveries_of i (Forked c copies lost ∷ hs) = deliveries_of i hs
-
--- the lost counts of packet i, one for each fork
-abbrev pub losses_of : ℕ → List Happening → List ℕ
-losses_of i [] = []
-losses_of i (Delivered c port ∷ hs) = losses_of i hs
-losses_of i (Crossed c to head ∷ hs) = losses_of i hs
-losses_of i (Forked c copies lost ∷ hs) = if c.number == i then (lost ∷ losses_of i hs) else losses_of i hs
-
--- the numbers of the packets in the order in which their injected copies forked
-abbrev pub commits : List Happening → List ℕ
-commits [] = []
-commits (Delivered c port ∷ hs) = commits hs
-commits (Crossed c to head ∷ hs) = commits hs
-commits (Forked c copies lost ∷ hs) = c.number ∷ commits hs
 
 -- packet i came out as this set: each packet of it that names a port was delivered there, once, and the number of the others was told, once
 pub record CameOut (t : Tables) (i : ℕ) (set : PacketSet) (hs : List Happening) : Type 0 where

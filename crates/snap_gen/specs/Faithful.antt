@@ -22,7 +22,8 @@ use Rattle.snap_rows.specs.Lone.{IsLone}
 use Rattle.snap_rows.specs.Handles.{is_test}
 use Rattle.snap_rows.specs.Progress.{CanBeInjected}
 use Rattle.snap_rows.specs.Network.{Net, Copy, Event, Happening, Crossed, Delivered, Forked, Run, RunsCalmly, IsPlainRun, packets_of, start}
-use Rattle.snap_gen.specs.Agreement.{Agrees, numbered, commits}
+use Rattle.snap_rows.specs.Happenings.{commits}
+use Rattle.snap_gen.specs.Agreement.{Agrees, numbered}
 use Rattle.snap_gen.specs.Visits.{Comes}
 
 -- a store over the program's variables, and a packet of its components

@@ -8,6 +8,7 @@ pub mod OneRow
 pub mod Planned
 pub mod Shown
 pub mod Tidied
+pub mod Images
 pub mod Generated
 pub mod Marked
 pub mod Leaves

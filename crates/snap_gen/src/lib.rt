@@ -3,6 +3,7 @@
 
 pub mod faithful;
 pub mod generated;
+pub mod images;
 pub mod in_turn;
 pub mod leaves;
 pub mod numbering;

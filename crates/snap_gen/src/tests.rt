@@ -1,5 +1,7 @@
+use crate::images::tidied;
 use crate::leaves::tidy_of;
 use crate::numbering::number;
+use snap_arena::node::Node;
 use snap_arena::nodes::Nodes;
 use snap_core::lists::{Atoms, Name, Names, Out};
 use snap_core::policy::{Atom, Op, Pol, Pred, Test, Update};
@@ -90,5 +92,35 @@ fn leaves_are_tidied(rt: HostRuntime) -> Result<(), Fail> {
             assert!(rt; go.reads == 0 && go.writes == 0);
         }
     }
+    Ok(())
+}
+
+// The leaf that drops, and reads variables or not.
+fn drops(alloc: Global, reads: u64) -> Leaf {
+    Leaf::Go(Go {
+        outs: Outs::new(Vec::new(alloc)),
+        ups: Updates::new(Vec::new(alloc)),
+        reads,
+        writes: 0,
+    })
+}
+
+#[test]
+fn a_test_of_one_tidied_leaf_goes(rt: HostRuntime) -> Result<(), Fail> {
+    let alloc = rt.alloc();
+    let groups = one_array(&rt, alloc)?;
+    let mut nodes = Nodes::new(alloc);
+    let reads = nodes.leaf(drops(alloc, 1))?;
+    let silent = nodes.leaf(drops(alloc, 0))?;
+    let race = nodes.leaf(Leaf::Race)?;
+    assert!(rt; reads == 0 && silent == 1 && race == 2 && nodes.count() == 3);
+    let low = nodes.node(Test::Value { comp: 1, num: 5 }, 0, 1)?;
+    assert!(rt; low == 3 && nodes.count() == 4);
+    let root = nodes.node(Test::Value { comp: 0, num: 7 }, 2, 3)?;
+    assert!(rt; root == 4 && nodes.count() == 5);
+    // The lower test goes, since its leaves differ in what they read alone.
+    let image = tidied(&mut nodes, &groups, 4)?;
+    assert!(rt; image == 5 && nodes.count() == 6);
+    assert!(rt; matches!(nodes.get(5), Node::Ask { yes: 2, no: 1, .. }));
     Ok(())
 }

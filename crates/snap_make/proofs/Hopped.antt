@@ -1,0 +1,47 @@
+-- Next hops by pairs of switches.
+use Rattle.std.proofs.Common.{◌≡◌, ◌≢◌, ℕ, suc, Bool, true, false, cond, List, [], ◌∷◌, map, Some, None, refl, ap, ◌∙◌}
+use Rattle.std.specs.Prelude.{slice_get, nat_eq, unwrap_or, ◌&&◌, option_map}
+use Rattle.std.specs.List.{All}
+use Rattle.std.proofs.lemmas.Bool.{eqb-true, eqb-false, and_parts}
+use Rattle.std.proofs.lemmas.Option.{none-some, same_Some, slice_get-map, slice_get-get_or}
+use Rattle.snap_route.specs.Tables.{Table, next_of}
+use Rattle.snap_rows.specs.declared.tables.Hop.{Hop}
+use Rattle.snap_rows.specs.Entries.{hop_in}
+use Rattle.snap_rows.proofs.Rows.{All-get}
+use Rattle.snap_make.specs.Pairs.{hop_entry, hop_for}
+use Rattle.snap_make.proofs.Entries.{found}
+
+pub unmapped : {X Y : Type 0} (P : Y → Type 0) (f : X → Y) (xs : List X) → All P (map f xs) → All (λ x. P (f x)) xs
+unmapped P f xs h = λ i d l.
+    (let e = slice_get-get_or xs i d l in
+    All-get P (map f xs) i _ h (slice_get-map f xs i ∙ ap (option_map f) e))
+
+pub hop_found : (hs : List Hop) (a b : ℕ) → hop_in hs a b ≡ unwrap_or (found (map hop_entry hs) a b) a
+hop_found [] a b = refl
+hop_found (h ∷ hs) a b = by (nat_eq h.from a && nat_eq h.target b) (hop_found hs a b)
+  where
+    by : (c : Bool) → hop_in hs a b ≡ unwrap_or (found (map hop_entry hs) a b) a → cond c h.next (hop_in hs a b) ≡ unwrap_or (cond c (Some h.next) (found (map hop_entry hs) a b)) a
+    by true r = refl
+    by false r = r
+
+pub record HopAt (hs : List Hop) (a b : ℕ) : Type 0 where
+  pub place : ℕ
+  pub hop : Hop
+  pub is : slice_get hs place ≡ Some hop
+  pub from : hop.from ≡ a
+  pub target : hop.target ≡ b
+
+pub hop_at : (hs : List Hop) (a b x : ℕ) → found (map hop_entry hs) a b ≡ Some x → HopAt hs a b
+hop_at [] a b x e = absurd (none-some x e)
+hop_at (h ∷ hs) a b x e = by (nat_eq h.from a && nat_eq h.target b) refl e (hop_at hs a b x)
+  where
+    by : (c : Bool) → (nat_eq h.from a && nat_eq h.target b) ≡ c → cond c (Some h.next) (found (map hop_entry hs) a b) ≡ Some x → (found (map hop_entry hs) a b ≡ Some x → HopAt hs a b) → HopAt (h ∷ hs) a b
+    by true same f rest = let parts = and_parts (nat_eq h.from a) (nat_eq h.target b) same in record { place = 0; hop = h; is = refl; from = eqb-true h.from a parts.0; target = eqb-true h.target b parts.1 }
+    by false other f rest = let r = rest f in record { place = suc r.place; hop = r.hop; is = r.is; from = r.from; target = r.target }
+
+pub hop_case : (routes : Table) (a b x : ℕ) → hop_for routes a b ≡ Some x → (a ≢ b) × (next_of routes a b ≡ x)
+hop_case routes a b x e = by (nat_eq a b) refl e
+  where
+    by : (c : Bool) → nat_eq a b ≡ c → cond c None (Some (next_of routes a b)) ≡ Some x → (a ≢ b) × (next_of routes a b ≡ x)
+    by true same f = absurd (none-some x f)
+    by false other f = (eqb-false a b other, same_Some _ _ f)

@@ -1,0 +1,12 @@
+pub mod Counts
+pub mod Entries
+pub mod Formed
+pub mod Given
+pub mod Hopped
+pub mod Made
+pub mod Making
+pub mod Marking
+pub mod Names
+pub mod Pushed
+pub mod Standing
+pub mod Whole

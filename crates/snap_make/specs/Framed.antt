@@ -1,0 +1,24 @@
+-- Tables but for their rows.
+use Rattle.std.specs.Prelude.{◌≡◌, ℕ, List, length, map, take}
+use Rattle.snap_core.specs.declared.program.Program.{Program}
+use Rattle.snap_topo.specs.declared.topology.Topology.{Topology}
+use Rattle.snap_route.specs.Tables.{Table}
+use Rattle.snap_rows.specs.declared.tables.ArrayAt.{ArrayAt}
+use Rattle.snap_rows.specs.declared.tables.Tables.{Tables}
+use Rattle.snap_make.specs.Pairs.{at_switches, hop_entry, hop_for}
+
+-- the first n arrays, each with its name, switch and rank
+pub record AreArrays (names : List (List ℕ)) (places ranks : List ℕ) (n : ℕ) (arrays : List ArrayAt) : Type 0 where
+  pub named : map (λ (a : ArrayAt). a.name) arrays ≡ take n names
+  pub placed : map (λ (a : ArrayAt). a.at) arrays ≡ take n places
+  pub ranked : map (λ (a : ArrayAt). a.rank) arrays ≡ take n ranks
+
+-- the lists of a program, its placement and ranks, and a topology with its routes
+pub record IsFrame (p : Program) (t : Topology) (places : List ℕ) (routes : Table) (ranks : List ℕ) (n : Tables) : Type 0 where
+  pub version : n.version ≡ 2
+  pub fields : n.fields ≡ p.fields
+  pub arrays : AreArrays p.vars places ranks (length p.vars) n.arrays
+  pub switches : n.switches ≡ t.switches
+  pub links : n.links ≡ t.links
+  pub ports : n.ports ≡ t.ports
+  pub hops : map hop_entry n.hops ≡ at_switches (hop_for routes) (length t.switches) (length t.switches)

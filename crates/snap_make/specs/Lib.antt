@@ -1,0 +1,5 @@
+pub mod Framed
+pub mod Fronts
+pub mod Known
+pub mod Pairs
+pub mod Sites

@@ -1,0 +1,119 @@
+//! Tables but for their rows.
+
+ghost use Rattle.std.specs.Prelude.{◌≡◌, ◌≤◌, ◌<◌, ◌++◌, IfOk, OnOk, length, map};
+ghost use Rattle.snap_route.specs.Tables.{switch_count};
+ghost use Rattle.snap_make.specs.Framed.{AreArrays, IsFrame};
+ghost use Rattle.snap_make.specs.Pairs.{at_switch, at_switches, hop_entry, hop_for};
+
+use snap_core::NoMemory;
+use snap_core::lists::{Name, Names};
+use snap_core::ports::{Links, Ports};
+use snap_core::program::Program;
+use snap_dep::groups::Groups;
+use snap_place::placement::Placement;
+use snap_route::table::Routes;
+use snap_rows::lists::{ArraysAt, Hops, Rows};
+use snap_rows::tables::{ArrayAt, Hop, Tables};
+use snap_topo::topology::Topology;
+use std::alloc::Global;
+
+fn copy_names(alloc: Global, names: &[Name]) -> Result<Vec<Name>, NoMemory>
+    ensures { IfOk result (λ r. r.items ≡ names.now) }
+{
+    let mut copies = Vec::with_capacity(alloc, names.len())?;
+    for name in names {
+        copies.push(name.copy()?)?;
+    }
+    Ok(copies)
+}
+
+// The arrays of these names, each with its switch and rank.
+fn arrays(
+    alloc: Global,
+    names: &[Name],
+    groups: &Groups,
+    placement: &Placement,
+) -> Result<Vec<ArrayAt>, NoMemory>
+    requires ranks { length groups.now.ranks ≡ length names.now }
+    requires places { length placement.now ≡ length names.now }
+    requires few { length groups.now.order ≤ 64 }
+    ensures { IfOk result (λ r. AreArrays names.now placement.now groups.now.ranks (length names.now) r.items) }
+{
+    let mut arrays = Vec::with_capacity(alloc, groups.count())?;
+    for var in 0..groups.count() {
+        arrays.push(ArrayAt {
+            name: names[var].copy()?,
+            at: placement.owner(var as u16),
+            rank: groups.rank(var as u16) as u16,
+        })?;
+    }
+    Ok(arrays)
+}
+
+// Adds the next hops of a switch.
+fn push_hops(
+    hops: &mut Vec<Hop>,
+    routes: &Routes,
+    from: u16,
+    switches: usize,
+) -> Result<(), NoMemory>
+    requires count { switch_count routes.now ≡ switches }
+    requires few { switches ≤ 256 }
+    requires from { from < switches }
+    ensures { OnOk result (map hop_entry hops.new.items ≡ map hop_entry hops.old.items ++ at_switch (hop_for routes.now from) from switches) }
+{
+    for target in 0..switches {
+        if from as usize != target {
+            hops.push(Hop {
+                from,
+                target: target as u16,
+                next: routes.next(from, target as u16),
+            })?;
+        }
+    }
+    Ok(())
+}
+
+// The next hop from each switch to each other.
+fn hops(alloc: Global, routes: &Routes, switches: usize) -> Result<Vec<Hop>, NoMemory>
+    requires count { switch_count routes.now ≡ switches }
+    requires few { switches ≤ 256 }
+    ensures { IfOk result (λ r. map hop_entry r.items ≡ at_switches (hop_for routes.now) switches switches) }
+{
+    let mut hops = Vec::new(alloc);
+    for from in 0..switches {
+        push_hops(&mut hops, routes, from as u16, switches)?;
+    }
+    Ok(hops)
+}
+
+/// The tables without rows. Refuses for memory alone.
+pub(crate) fn frame(
+    alloc: Global,
+    program: &Program,
+    groups: &Groups,
+    topology: &Topology,
+    placement: &Placement,
+    routes: &Routes,
+) -> Result<Tables, NoMemory>
+    requires ranks { length groups.now.ranks ≡ length program.now.vars }
+    requires places { length placement.now ≡ length program.now.vars }
+    requires few { length groups.now.order ≤ 64 }
+    requires count { switch_count routes.now ≡ length topology.now.switches }
+    requires few_switches { length topology.now.switches ≤ 256 }
+    ensures { IfOk result (IsFrame program.now topology.now placement.now routes.now groups.now.ranks) }
+{
+    let switches = topology.switches.items();
+    let links = Vec::from_slice(alloc, topology.links.items())?;
+    let ports = Vec::from_slice(alloc, topology.ports.items())?;
+    Ok(Tables {
+        version: 2,
+        fields: program.fields.copy()?,
+        switches: Names::new(copy_names(alloc, switches)?),
+        arrays: ArraysAt::new(arrays(alloc, program.vars.items(), groups, placement)?),
+        links: Links::new(links),
+        ports: Ports::new(ports),
+        hops: Hops::new(hops(alloc, routes, switches.len())?),
+        rows: Rows::new(Vec::new(alloc)),
+    })
+}

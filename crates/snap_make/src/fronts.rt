@@ -1,0 +1,49 @@
+//! The numbers to which a packet may come by field rows alone.
+
+ghost use Rattle.std.specs.Prelude.{◌≡◌, IfOk, length, slice_index};
+ghost use Rattle.snap_gen.specs.Generated.{numbered_nodes};
+ghost use Rattle.snap_make.specs.Fronts.{AreMarked, AreWithin, HasWays, IsNumbered, with_fields};
+
+use snap_arena::node::Node;
+use snap_arena::nodes::Nodes;
+use snap_core::NoMemory;
+use snap_core::policy::Test;
+use snap_fdd::leaf::Leaf;
+use snap_gen::numbering::Numbering;
+use std::alloc::Global;
+
+// Marks the ways of a node that tests fields.
+fn mark_ways(marks: &mut Vec<bool>, node: &Node<Leaf>, numbers: &[u64])
+    requires ways { HasWays (length numbers.now) node.now }
+    requires numbers { AreWithin (slice_index numbers.now) (length marks.old.items) node.now }
+    ensures { marks.new.items ≡ with_fields (slice_index numbers.now) node.now marks.old.items }
+{
+    if let Node::Ask { test, yes, no } = node {
+        match test {
+            Test::State { .. } => {}
+            Test::Value { .. } | Test::Equal { .. } => {
+                marks[numbers[*yes as usize] as usize] = true;
+                marks[numbers[*no as usize] as usize] = true;
+            }
+        }
+    }
+}
+
+/// Marks of the root and of the numbers that come next to a test of fields. Takes time in proportion to the numbers.
+/// Refuses for memory alone.
+pub(crate) fn fronts(
+    alloc: Global,
+    nodes: &Nodes<Leaf>,
+    numbering: &Numbering,
+) -> Result<Vec<bool>, NoMemory>
+    requires { IsNumbered nodes.now numbering.now.ids.items numbering.now.numbers.items }
+    ensures { IfOk result (λ r. AreMarked (numbered_nodes nodes.now numbering.now.ids.items (slice_index numbering.now.numbers.items)) (length numbering.now.ids.items) (length numbering.now.ids.items) r.items) }
+{
+    let mut marks = vec![in alloc; false; numbering.ids.len()]?;
+    marks[0] = true;
+    for number in 0..numbering.ids.len() {
+        let node = nodes.get(numbering.ids[number]);
+        mark_ways(&mut marks, node, &numbering.numbers);
+    }
+    Ok(marks)
+}
