@@ -1,0 +1,283 @@
+-- How the run of a schedule goes on.
+use Rattle.std.proofs.Common.{◌≡◌, ◌≢◌, ◌⊎◌, inl, inr, ℕ, zero, suc, ◌+◌, ◌<◌, ◌≤◌, Bool, true, false, List, [], ◌∷◌, ◌++◌, Option, Some, map, get_or, length, reverse, refl, sym, ap, subst, ◌∙◌, arith, append-nil}
+use Rattle.std.specs.Prelude.{◌==◌, is_some, slice_get, slice_index, sum}
+use Rattle.std.specs.List.{All}
+use Rattle.std.proofs.lemmas.Bool.{eqb-true, eq-eqb, false≢true}
+use Rattle.std.proofs.Math.ListN.{set}
+use Rattle.std.proofs.lemmas.List.{length-append, length-set, reverse-append, reverse-reverse}
+use Rattle.std.proofs.lemmas.List.Sorted.{All-permutation, IsPermutation-reverse}
+use Rattle.std.proofs.lemmas.List.Elements.{All-append, All-cons, All-head, All-map, All-nil, All-pop, All-weaker}
+use Rattle.std.proofs.lemmas.Option.{same_Some, slice_get_read}
+use Rattle.snap_core.specs.Arrays.{zero_arrays}
+use Rattle.snap_rows.specs.declared.tables.Tables.{Tables}
+use Rattle.snap_rows.specs.declared.head.Sent.{Sent}
+use Rattle.snap_rows.specs.Form.{comps}
+use Rattle.snap_rows.specs.Happenings.{deliveries_of, losses_of}
+use Rattle.snap_rows.specs.Network.{Copy, Net, Event, Inject, Step, Happening, Crossed, Delivered, Forked, Leads, Runs, done, start}
+use Rattle.snap_net.specs.declared.flying.Flying.{Flying}
+use Rattle.snap_net.specs.declared.happened.Happened.{Happened}
+use Rattle.snap_net.specs.declared.happened.Moved.{Moved}
+use Rattle.snap_net.specs.Shown.{Held, IsDone, IsHeld, Nothing, Shows, Tells, TellsMoved, flown, happened, moving}
+use Rattle.snap_runs.specs.declared.event.Order.{Order}
+use Rattle.snap_runs.specs.declared.event.Order.TheVariants as order
+use Rattle.snap_runs.specs.declared.play.Play.{Play}
+use Rattle.snap_runs.specs.declared.ready.Ready.{Ready}
+use Rattle.snap_runs.specs.declared.tally.Tally.{Tally}
+use Rattle.snap_runs.specs.Playing.{HasDone, HasObeyed, HasStepped, IsLong, IsPlaying, IsReady, NotesIn, Plays, left_in, owner_by, packets_in}
+use Rattle.snap_runs.specs.Reports.{hops_text, packets_delivered}
+use Rattle.snap_runs.specs.Schedules.{CantBeDone, Obeys, Spells, nothing, order_by}
+use Rattle.snap_runs.specs.Tallies.{IsTally, Notes, bared, delivered_by, hop_by, lost_by, number_of}
+use Rattle.snap_runs.proofs.Blocks.{in_pushed}
+use Rattle.snap_runs.proofs.Happenings.{HappenElsewhere, deliveries_of-append, deliveries_of-others, losses_of-append, losses_of-others, hops_text-append, hops_text-others}
+use Rattle.snap_runs.proofs.Settled.{tally-more}
+use Rattle.snap_runs.proofs.Spelling.{spells-inject, spells-skip, spells-step, runs-then}
+use Rattle.snap_runs.proofs.Steps.{held-shown, inject-numbers, shown, step-injected, step-long, step-numbers}
+
+-- ---- tallies
+-- what happens to others is nothing to packet i
+tally_other : (t : Tables) (hops : Bool) (i : ℕ) (hs gs : List Happening) (y : Tally) → HappenElsewhere i gs → IsTally t hops i hs y → IsTally t hops i (hs ++ gs) y
+tally_other t hops i hs gs y other is = record {
+  delivered = is.delivered ∙ ap (map (λ (x : Sent). x.packet)) (sym (deliveries_of-append i hs gs ∙ ap (λ l. deliveries_of i hs ++ l) (deliveries_of-others i gs other) ∙ append-nil (deliveries_of i hs)));
+  lost = is.lost ∙ ap sum (sym (losses_of-append i hs gs ∙ ap (λ l. losses_of i hs ++ l) (losses_of-others i gs other) ∙ append-nil (losses_of i hs)));
+  hops_told = is.hops_told ∙ sym (hops_text-append t hops i hs gs ∙ ap (λ l. hops_text t hops i hs ++ l) (hops_text-others t hops i gs other) ∙ append-nil (hops_text t hops i hs));
+}
+
+-- nothing has happened to packet i
+tally_fresh : (t : Tables) (hops : Bool) (i : ℕ) (hs : List Happening) (y : Tally) → HappenElsewhere i hs → y.delivered.items ≡ [] → y.lost ≡ 0 → y.hops.items ≡ [] → IsTally t hops i hs y
+tally_fresh t hops i hs y other d l h = record {
+  delivered = d ∙ ap (map (λ (x : Sent). x.packet)) (sym (deliveries_of-others i hs other));
+  lost = l ∙ ap sum (sym (losses_of-others i hs other));
+  hops_told = h ∙ sym (hops_text-others t hops i hs other);
+}
+
+elsewhere : (n i : ℕ) (hs : List Happening) → n ≤ i → All (λ h. number_of h < n) hs → HappenElsewhere i hs
+elsewhere n i hs le all = All-weaker (λ h. number_of h < n) (λ h. number_of h ≢ i) (λ h less e. omega (arith, less, e, le)) hs all
+
+-- ---- before the first line
+pub plays-first : (t : Tables) (hops : Bool) (packets : List Ready) (v : Play) → v.net.tables ≡ t → v.hops ≡ hops → Shows v.net (start t zero_arrays) → v.tallies.items ≡ [] → v.waiting.items ≡ reverse packets → All (IsReady t) packets
+    → Plays t hops (packets_in packets) [] v
+plays-first t hops packets v tables same shows none waiting ready = record {
+  tables = tables;
+  hops_same = same;
+  state = start t zero_arrays;
+  happenings = [];
+  obeys = record {
+    events = [];
+    spells = subst (Spells [] (packets_in packets) []) (ap packets_in (sym (ap reverse waiting ∙ reverse-reverse packets))) nothing;
+    run = done;
+  };
+  shows = shows;
+  counted = ap length none;
+  below = All-nil (λ (c : Copy). c.number < 0);
+  before = All-nil (λ h. number_of h < 0);
+  tallied = λ i y is. absurd (false≢true (ap (λ (o : Option Tally). is_some o) (ap (λ l. slice_get l i) (sym none) ∙ is)));
+  long = λ i y is. absurd (false≢true (ap (λ (o : Option Tally). is_some o) (ap (λ l. slice_get l i) (sym none) ∙ is)));
+  ready = subst (All (IsReady t)) (sym waiting) (All-permutation (IsReady t) packets (reverse packets) (IsPermutation-reverse packets) ready);
+}
+
+-- ---- a line that says nothing
+pub plays-skip : (line : List ℕ) (v : Play) → order_by line ≡ Some order.Skip → (t : Tables) (hops : Bool) (ks lines : List (List ℕ)) → Plays t hops ks lines v → Plays t hops ks (lines ++ line ∷ []) v
+plays-skip line v e t hops ks lines p = record {
+  tables = p.tables;
+  hops_same = p.hops_same;
+  state = p.state;
+  happenings = p.happenings;
+  obeys = record { events = p.obeys.events; spells = spells-skip line e p.obeys.spells; run = p.obeys.run };
+  shows = p.shows;
+  counted = p.counted;
+  below = p.below;
+  before = p.before;
+  tallied = p.tallied;
+  long = p.long;
+  ready = p.ready;
+}
+
+-- ---- the next packet is injected
+module _ (old new : Play) (r : Ready) (rest : List Ready) (y : Tally) (stood : old.waiting.items ≡ rest ++ r ∷ []) (left : new.waiting.items ≡ rest) (does : IsDone old.net (Inject r.port r.packet) new.net Nothing)
+    (same : new.net.tables ≡ old.net.tables) (same_hops : new.hops ≡ old.hops) (more : new.tallies.items ≡ old.tallies.items ++ y ∷ []) (d : y.delivered.items ≡ []) (l : y.lost ≡ 0) (h : y.hops.items ≡ []) where
+  next : left_in old ≡ r.packet ∷ left_in new
+  next = ap (λ ws. packets_in (reverse ws)) stood ∙ ap packets_in (reverse-append rest (r ∷ [])) ∙ ap (λ ws. r.packet ∷ packets_in (reverse ws)) (sym left)
+
+  pub plays-inject : HasObeyed order.Inject old new true
+  plays-inject t hops ks lines line e p =
+      let n = p.state.injected in
+      let a = subst (λ t'. (s' : Net) × (hs : List Happening) × Leads t' p.state (Inject r.port r.packet) s' hs × Shows new.net s' × (hs ≡ [])) p.tables (does p.state p.shows) in
+      let numbers = inject-numbers t p.state a.0 r.port r.packet a.1 p.below a.2 in
+      let popped = All-pop (IsReady t) old.waiting.items rest (Some r) stood p.ready in
+      let ran = subst (λ q. Runs t (start t zero_arrays) (p.obeys.events ++ Inject q r.packet ∷ []) a.0 (p.happenings ++ a.1)) (sym popped.1.first) (runs-then t (Inject r.port r.packet) a.0 a.1 p.obeys.run a.2) in
+      record {
+        tables = same ∙ p.tables;
+        hops_same = same_hops ∙ p.hops_same;
+        state = a.0;
+        happenings = p.happenings;
+        obeys = record {
+          events = p.obeys.events ++ Inject (slice_index r.packet 0) r.packet ∷ [];
+          spells = spells-inject line r.packet (left_in new) e next p.obeys.spells;
+          run = subst (Runs t (start t zero_arrays) (p.obeys.events ++ Inject (slice_index r.packet 0) r.packet ∷ []) a.0) (ap (λ hs. p.happenings ++ hs) a.4 ∙ append-nil p.happenings) ran;
+        };
+        shows = a.3;
+        counted = ap length more ∙ length-append old.tallies.items (y ∷ []) ∙ ap (λ m. m + 1) p.counted ∙ sym numbers.1;
+        below = numbers.0;
+        before = All-weaker (λ x. number_of x < n) (λ x. number_of x < a.0.injected) (λ x less. (let g = numbers.1 in omega (arith, less, g))) p.happenings p.before;
+        tallied = λ i z is. tallied i z (in_pushed old.tallies.items y z i (ap (λ ys. slice_get ys i) (sym more) ∙ is));
+        long = λ i z is. long i z (in_pushed old.tallies.items y z i (ap (λ ys. slice_get ys i) (sym more) ∙ is));
+        ready = subst (All (IsReady t)) (sym left) popped.0;
+      }
+    where
+      tallied : (i : ℕ) (z : Tally) → ((i < length old.tallies.items) × (slice_get old.tallies.items i ≡ Some z)) ⊎ ((i ≡ length old.tallies.items) × (y ≡ z)) → IsTally t hops i p.happenings z
+      tallied i z (inl k) = p.tallied i z k.1
+      tallied i z (inr k) = let e' = k.0 in let f = p.counted in subst (IsTally t hops i p.happenings) k.1 (tally_fresh t hops i p.happenings y (elsewhere p.state.injected i p.happenings (omega (arith, e', f)) p.before) d l h)
+
+      long : (i : ℕ) (z : Tally) → ((i < length old.tallies.items) × (slice_get old.tallies.items i ≡ Some z)) ⊎ ((i ≡ length old.tallies.items) × (y ≡ z)) → IsLong (comps t) z
+      long i z (inl k) = p.long i z k.1
+      long i z (inr k) = subst (IsLong (comps t)) k.1 (subst (All (λ x. length x ≡ comps t)) (sym d) (All-nil (λ x. length x ≡ comps t)))
+
+-- ---- a copy makes a step
+module _ (old new : Play) (place : ℕ) (held : IsHeld old.net) (does : HasStepped old.hops place old.net new.net old.tallies.items new.tallies.items) (same : new.net.tables ≡ old.net.tables) (same_hops : new.hops ≡ old.hops) (still : new.waiting.items ≡ old.waiting.items) where
+  pub plays-step : HasObeyed (order.Step place) old new true
+  plays-step t hops ks lines line e p = go (subst (λ t'. (s' : Net) × (x : Happening) × Leads t' p.state (Step place) s' (x ∷ []) × Shows new.net s' × NotesIn t' hops x old.tallies.items new.tallies.items) p.tables
+      (subst (λ b. (s' : Net) × (x : Happening) × Leads old.net.tables p.state (Step place) s' (x ∷ []) × Shows new.net s' × NotesIn old.net.tables b x old.tallies.items new.tallies.items) p.hops_same (does p.state p.shows)))
+    where
+      go : (s' : Net) × (x : Happening) × Leads t p.state (Step place) s' (x ∷ []) × Shows new.net s' × NotesIn t hops x old.tallies.items new.tallies.items → Plays t hops ks (lines ++ line ∷ []) new
+      go a =
+          let n = p.state.injected in
+          let x = a.1 in
+          let notes = a.4 in
+          let inj : a.0.injected ≡ n = step-injected t p.state a.0 place (x ∷ []) a.2 in
+          let numbers = step-numbers (λ m. m < n) t p.state a.0 place (x ∷ []) p.below a.2 in
+          record {
+            tables = same ∙ p.tables;
+            hops_same = same_hops ∙ p.hops_same;
+            state = a.0;
+            happenings = p.happenings ++ x ∷ [];
+            obeys = record {
+              events = p.obeys.events ++ Step place ∷ [];
+              spells = subst (Spells (lines ++ line ∷ []) ks (p.obeys.events ++ Step place ∷ [])) (ap (λ ws. packets_in (reverse ws)) (sym still)) (spells-step line place e p.obeys.spells);
+              run = runs-then t (Step place) a.0 (x ∷ []) p.obeys.run a.2;
+            };
+            shows = a.3;
+            counted = notes.count ∙ p.counted ∙ sym inj;
+            below = subst (λ m. All (λ (c : Copy). c.number < m) a.0.flying) (sym inj) numbers.0;
+            before = subst (λ m. All (λ g. number_of g < m) (p.happenings ++ x ∷ [])) (sym inj) (All-append (λ g. number_of g < n) p.happenings (x ∷ []) p.before numbers.1);
+            tallied = λ i z is. tallied x notes i z is (i == number_of x) refl;
+            long = λ i z is. long a i z is (i == number_of x) refl;
+            ready = subst (All (IsReady t)) (sym still) p.ready;
+          }
+        where
+          tallied : (x : Happening) → NotesIn t hops x old.tallies.items new.tallies.items → (i : ℕ) (z : Tally) → slice_get new.tallies.items i ≡ Some z → (b : Bool) → (i == number_of x) ≡ b → IsTally t hops i (p.happenings ++ x ∷ []) z
+          tallied x notes i z is true f =
+              let at : i ≡ number_of x = eqb-true i (number_of x) f in
+              let what : notes.after ≡ z = same_Some notes.after z (sym notes.here ∙ ap (λ j. slice_get new.tallies.items j) (sym at) ∙ is) in
+              subst (IsTally t hops i (p.happenings ++ x ∷ [])) what (tally-more t hops i p.happenings x notes.before notes.after (sym at) (p.tallied i notes.before (ap (λ j. slice_get old.tallies.items j) at ∙ notes.is)) notes.notes)
+          tallied x notes i z is false f =
+              let other : i ≡ number_of x → ⊥ = λ g. false≢true (sym f ∙ eq-eqb i (number_of x) g) in
+              tally_other t hops i p.happenings (x ∷ []) z (All-cons (λ g. number_of g ≢ i) x [] (λ g. other (sym g)) (All-nil (λ g. number_of g ≢ i))) (p.tallied i z (sym (notes.others i other) ∙ is))
+
+          long : (a : (s' : Net) × (x : Happening) × Leads t p.state (Step place) s' (x ∷ []) × Shows new.net s' × NotesIn t hops x old.tallies.items new.tallies.items) → (i : ℕ) (z : Tally) → slice_get new.tallies.items i ≡ Some z → (b : Bool) → (i == number_of a.1) ≡ b → IsLong (comps t) z
+          long a i z is true f =
+              let notes = a.4 in
+              let at : i ≡ number_of a.1 = eqb-true i (number_of a.1) f in
+              let what : notes.after ≡ z = same_Some notes.after z (sym notes.here ∙ ap (λ j. slice_get new.tallies.items j) (sym at) ∙ is) in
+              let packets = held-shown (λ (c : Flying). length c.packet ≡ comps t) old.net p.state p.shows (subst (λ t'. All (λ (c : Flying). length c.packet ≡ comps t') old.net.flying) p.tables held.packets) in
+              let some = step-long t p.state a.0 place (comps t) (a.1 ∷ []) packets a.2 a.1 refl in
+              subst (IsLong (comps t)) what (subst (All (λ k. length k ≡ comps t)) (sym notes.notes.delivered) (All-append (λ k. length k ≡ comps t) notes.before.delivered.items (delivered_by (moving a.1)) (p.long i notes.before (ap (λ j. slice_get old.tallies.items j) at ∙ notes.is)) some))
+          long a i z is false f =
+              let other : i ≡ number_of a.1 → ⊥ = λ g. false≢true (sym f ∙ eq-eqb i (number_of a.1) g) in
+              p.long i z (sym (a.4.others i other) ∙ is)
+
+-- each copy in flight has a tally
+pub playing-below : (v : Play) → IsPlaying v → All (λ (c : Flying). c.number < length v.tallies.items) v.net.flying
+playing-below v playing =
+    let p = playing.2 in
+    let P : Flying → Type 0 = λ c. c.number < length v.tallies.items in
+    subst (All P) p.shows.flying (All-map P flown p.state.flying (subst (λ n. All (λ (c : Copy). c.number < n) p.state.flying) (sym p.counted) p.below))
+
+-- ---- a step that is noted in its packet's tally
+owner_by-moving : (x : Happening) → owner_by (moving x) ≡ number_of x
+owner_by-moving (Crossed c to head) = refl
+owner_by-moving (Delivered c port) = refl
+owner_by-moving (Forked c copies lost) = refl
+
+bared-happened : (x : Happening) → bared (happened x) ≡ moving x
+bared-happened (Crossed c to head) = refl
+bared-happened (Delivered c port) = refl
+bared-happened (Forked c copies lost) = refl
+
+set-same : (ys : List Tally) (i : ℕ) (y : Tally) → i < length ys → slice_get (set ys i y) i ≡ Some y
+set-same [] i y within = absurd (omega (arith, within))
+set-same (z ∷ zs) zero y within = refl
+set-same (z ∷ zs) (suc i) y within = set-same zs i y (omega (arith, within))
+
+set-other : (ys : List Tally) (i j : ℕ) (y : Tally) → (j ≡ i → ⊥) → slice_get (set ys i y) j ≡ slice_get ys j
+set-other [] i j y other = refl
+set-other (z ∷ zs) zero zero y other = absurd (other refl)
+set-other (z ∷ zs) zero (suc j) y other = refl
+set-other (z ∷ zs) (suc i) zero y other = refl
+set-other (z ∷ zs) (suc i) (suc j) y other = set-other zs i j y (λ e. other (ap suc e))
+
+module _ (ys : List Tally) (owner : ℕ) (y y' : Tally) (within : owner < length ys) (is : y ≡ get_or ys owner y) where
+  notes-in : (t : Tables) (hops : Bool) (x : Happening) → owner ≡ number_of x → Notes t hops x y y' → NotesIn t hops x ys (set ys owner y')
+  notes-in t hops x e notes = record {
+    before = y;
+    after = y';
+    is = subst (λ i. slice_get ys i ≡ Some y) e (slice_get_read ys (length ys) owner y refl within is);
+    notes = notes;
+    count = length-set ys owner y';
+    here = subst (λ i. slice_get (set ys owner y') i ≡ Some y') e (set-same ys owner y' within);
+    others = λ i other. set-other ys owner i y' (λ f. other (f ∙ e));
+  }
+
+  module _ (place : ℕ) (old new : Held) where
+    pub stepped-bare : (m : Moved) → IsDone old (Step place) new (TellsMoved m) → owner ≡ owner_by m → y'.delivered.items ≡ y.delivered.items ++ delivered_by m → y'.lost ≡ y.lost + lost_by m → y'.hops.items ≡ y.hops.items
+        → HasStepped false place old new ys (set ys owner y')
+    stepped-bare m does o d l h s shows =
+        let a = does s shows in
+        let x = a.4.0 in
+        let same : m ≡ moving x = a.4.2 in (
+          a.0,
+          x,
+          subst (Leads old.tables s (Step place) a.0) a.4.1 a.2,
+          a.3,
+          notes-in old.tables false x (o ∙ ap owner_by same ∙ owner_by-moving x) (record {
+            delivered = d ∙ ap (λ n. y.delivered.items ++ delivered_by n) same;
+            lost = l ∙ ap (λ n. y.lost + lost_by n) same;
+            hops_told = h ∙ sym (append-nil y.hops.items);
+          }),
+        )
+
+    pub stepped-shown : (h : Happened) (switches : List (List ℕ)) → switches ≡ old.tables.switches → IsDone old (Step place) new (Tells h) → owner ≡ owner_by (bared h) → y'.delivered.items ≡ y.delivered.items ++ delivered_by (bared h) → y'.lost ≡ y.lost + lost_by (bared h)
+        → y'.hops.items ≡ y.hops.items ++ hop_by switches h → HasStepped true place old new ys (set ys owner y')
+    stepped-shown h switches names does o d l told s shows =
+        let a = does s shows in
+        let x = a.4.0 in
+        let same : bared h ≡ moving x = ap bared a.4.2 ∙ bared-happened x in (
+          a.0,
+          x,
+          subst (Leads old.tables s (Step place) a.0) a.4.1 a.2,
+          a.3,
+          notes-in old.tables true x (o ∙ ap owner_by same ∙ owner_by-moving x) (record {
+            delivered = d ∙ ap (λ n. y.delivered.items ++ delivered_by n) same;
+            lost = l ∙ ap (λ n. y.lost + lost_by n) same;
+            hops_told = told ∙ (λ i. y.hops.items ++ hop_by (names i) (a.4.2 i));
+          }),
+        )
+
+-- the packet whose copy steps has a tally
+module _ (place n : ℕ) (old new : Held) (below : All (λ (c : Flying). c.number < n) old.flying) where
+  step_below : (s' : Net) (hs : List Happening) (x : Happening) → Leads old.tables (shown old).0 (Step place) s' hs → hs ≡ x ∷ [] → number_of x < n
+  step_below s' hs x leads e = All-head (λ h. number_of h < n) x [] (subst (All (λ h. number_of h < n)) e (step-numbers (λ m. m < n) old.tables (shown old).0 s' place hs (held-shown (λ c. c.number < n) old (shown old).0 (shown old).1 below) leads).1)
+
+  pub mover-below : (m : Moved) → IsDone old (Step place) new (TellsMoved m) → owner_by m < n
+  mover-below m does =
+      let a = does (shown old).0 (shown old).1 in
+      subst (λ i. i < n) (sym (ap owner_by a.4.2 ∙ owner_by-moving a.4.0)) (step_below a.0 a.1 a.4.0 a.2 a.4.1)
+
+  pub owner-below : (h : Happened) → IsDone old (Step place) new (Tells h) → owner_by (bared h) < n
+  owner-below h does =
+      let a = does (shown old).0 (shown old).1 in
+      subst (λ i. i < n) (sym (ap owner_by (ap bared a.4.2 ∙ bared-happened a.4.0) ∙ owner_by-moving a.4.0)) (step_below a.0 a.1 a.4.0 a.2 a.4.1)
+
+-- what a line orders was done, or can't be done
+pub obeyed-done : (order : Order) (line : List ℕ) (old new : Play) → order_by line ≡ Some order → (b : Bool) → HasObeyed order old new b → HasDone line old new b
+obeyed-done order line old new e true h = λ t hops ks lines p. h t hops ks lines line e p
+obeyed-done order line old new e false h = λ t hops ks lines p. subst (λ o. CantBeDone o (left_in old) p.state) (sym e) (h t hops ks lines p)

@@ -1,0 +1,111 @@
+-- Copies come to rest step by step.
+use Rattle.std.proofs.Common.{◌≡◌, ℕ, ◌+◌, Bool, true, false, List, [], ◌∷◌, ◌++◌, map, length, refl, sym, ap, subst, ◌∙◌, append-nil}
+use Rattle.std.specs.Prelude.{IsPermutation, if◌then◌else◌}
+use Rattle.std.specs.List.{All}
+use Rattle.std.proofs.lemmas.List.Elements.{All-nil, All-append, All-head, All-push}
+use Rattle.snap_rows.specs.declared.tables.Tables.{Tables}
+use Rattle.snap_rows.specs.declared.head.Sent.{Sent}
+use Rattle.snap_rows.specs.Network.{Copy, Net, Event, Inject, Step, Happening, Leads, RunsCalmly, rests, injects, steps, packets_of, StepsFirst}
+use Rattle.snap_net.specs.Shown.{Held, IsDone, Nothing, Shows, happened, moving}
+use Rattle.snap_trace.specs.Reports.{out_lines}
+use Rattle.snap_runs.specs.declared.tally.Tally.{Tally}
+use Rattle.snap_runs.specs.declared.tracer.Tracer.{Tracer}
+use Rattle.snap_runs.specs.Reports.{IsBlock, hops_text, lost_line, packet_line, packets_delivered}
+use Rattle.snap_runs.specs.Settling.{AreCopiesOf, HappenTo, HasNoted, HasSettled, Settles, Tallies}
+use Rattle.snap_runs.specs.Tallies.{IsBlockText, IsTally, Notes, delivered_by, hop_by, lost_by, number_of}
+use Rattle.snap_runs.specs.Tracing.{HasTaken}
+use Rattle.snap_runs.proofs.Happenings.{hops_text-more, losses_of-more, packets_delivered-more}
+use Rattle.snap_runs.proofs.Runs.{calm-then, packets_of-append}
+use Rattle.snap_runs.proofs.Steps.{inject-alone, rests-shown, step-injected, step-numbers}
+
+-- nothing was noted yet
+pub settled-none : (hops : Bool) (v : Held) (y : Tally) → y.delivered.items ≡ [] → y.lost ≡ 0 → y.hops.items ≡ [] → HasSettled hops v v y
+settled-none hops v y d l h = λ s shows. (
+  s,
+  [],
+  record { events = []; no_packets = refl; first = All-nil StepsFirst; run = rests; injected = refl },
+  shows,
+  λ i all. record { copies = all; happen = All-nil (λ x. number_of x ≡ i); tally = record { delivered = d; lost = l; hops_told = h ∙ none hops i } },
+)
+  where
+    none : (b : Bool) (i : ℕ) → [] ≡ hops_text v.tables b i []
+    none true i = refl
+    none false i = refl
+
+pub tally-more : (t : Tables) (hops : Bool) (i : ℕ) (hs : List Happening) (x : Happening) (y y' : Tally) → number_of x ≡ i → IsTally t hops i hs y → Notes t hops x y y' → IsTally t hops i (hs ++ x ∷ []) y'
+tally-more t hops i hs x y y' e is notes = record {
+  delivered = notes.delivered ∙ ap (λ l. l ++ delivered_by (moving x)) is.delivered ∙ sym (packets_delivered-more i hs x e);
+  lost = notes.lost ∙ ap (λ n. n + lost_by (moving x)) is.lost ∙ sym (losses_of-more i hs x e);
+  hops_told = notes.hops_told ∙ ap (λ l. l ++ (if hops then hop_by t.switches (happened x) else [])) is.hops_told ∙ sym (hops_text-more i t hops hs x e);
+}
+
+module _ (hops : Bool) (old mid new : Held) (y y' : Tally) (same : mid.tables ≡ old.tables) (settled : HasSettled hops old mid y) (noted : HasNoted hops mid new y y') where
+  one_more : (s : Net) (a : Net) (hs : List Happening) → Settles old.tables s a hs → ((i : ℕ) → AreCopiesOf i s.flying → Tallies old.tables hops i a hs y)
+      → (b : Net) (x : Happening) → Leads old.tables a (Step 0) b (x ∷ []) → Shows new b → Notes old.tables hops x y y'
+      → (s' : Net) × (gs : List Happening) × Settles old.tables s s' gs × Shows new s' × ((i : ℕ) → AreCopiesOf i s.flying → Tallies old.tables hops i s' gs y')
+  one_more s a hs settles tallies b x leads shows notes = (
+    b,
+    hs ++ x ∷ [],
+    record {
+      events = settles.events ++ Step 0 ∷ [];
+      no_packets = packets_of-append settles.events (Step 0 ∷ []) ∙ ap (λ l. l ++ []) settles.no_packets;
+      first = All-push StepsFirst settles.events (Step 0) settles.first refl;
+      run = calm-then old.tables b (Step 0 ∷ []) (x ∷ []) settles.run (steps leads rests);
+      injected = step-injected old.tables a b 0 (x ∷ []) leads ∙ settles.injected;
+    },
+    shows,
+    λ i all.
+        let before = tallies i all in
+        let here = step-numbers (λ n. n ≡ i) old.tables a b 0 (x ∷ []) before.copies leads in
+        record {
+          copies = here.0;
+          happen = All-append (λ h. number_of h ≡ i) hs (x ∷ []) before.happen here.1;
+          tally = tally-more old.tables hops i hs x y y' (All-head (λ h. number_of h ≡ i) x [] here.1) before.tally notes;
+        },
+  )
+
+  pub settled-more : HasSettled hops old new y'
+  settled-more s shows =
+      let a = settled s shows in
+      let b = subst (λ t. (s' : Net) × (x : Happening) × Leads t a.0 (Step 0) s' (x ∷ []) × Shows new s' × Notes t hops x y y') same (noted a.0 a.3) in
+      one_more s a.0 a.1 a.2 a.4 b.0 b.1 b.2 b.3 b.4
+
+-- ---- a packet's whole way
+tally_block : (t : Tables) (hops : Bool) (i : ℕ) (hs : List Happening) (y : Tally) (old new : List ℕ) → IsTally t hops i hs y → IsBlockText t.fields (i + 1) y old new → (text : List ℕ) × IsBlock t hops i hs text × (new ≡ old ++ text)
+tally_block t hops i hs y old new is put = (
+  packet_line (i + 1) ++ y.hops.items ++ out_lines t.fields put.outs ++ lost_line y.lost,
+  record {
+    outs = put.outs;
+    rising = put.rising;
+    delivered = subst (IsPermutation put.outs) is.delivered put.delivered;
+    is = λ j. packet_line (i + 1) ++ is.hops_told j ++ out_lines t.fields put.outs ++ lost_line (is.lost j);
+  },
+  put.is,
+)
+
+-- an injection with nothing in flight, after which all has come to rest and the block was put
+pub has-taken : (hops : Bool) (port number : ℕ) (k : List ℕ) (old mid new : Held) (y : Tally) (before after : List ℕ) (last : Tracer) → number ≡ old.injected → mid.tables ≡ old.tables
+    → IsDone old (Inject port k) mid Nothing → HasSettled hops mid new y → new.flying ≡ [] → IsBlockText old.tables.fields (number + 1) y before after
+    → last.net ≡ new → last.text.items ≡ after
+    → (s : Net) → Shows old s → s.flying ≡ [] → HasTaken old.tables hops port k s before last
+has-taken hops port number k old mid new y before after last n same done settled rest put net text s shows none =
+    let a = done s shows in
+    let alone = inject-alone old.tables s a.0 port k a.1 none a.2 in
+    let b = subst (λ t. (s' : Net) × (hs : List Happening) × Settles t a.0 s' hs × Shows new s' × ((i : ℕ) → AreCopiesOf i a.0.flying → Tallies t hops i s' hs y)) same (settled a.0 a.3) in
+    let told = b.4 s.injected alone.0 in
+    let block = tally_block old.tables hops s.injected b.1 y before after told.tally (subst (λ i. IsBlockText old.tables.fields (i + 1) y before after) (n ∙ sym shows.injected) put) in
+    record {
+      events = b.2.events;
+      no_packets = b.2.no_packets;
+      first = b.2.first;
+      state = b.0;
+      happenings = b.1;
+      run = subst (λ l. RunsCalmly old.tables s (Inject port k ∷ b.2.events) b.0 (l ++ b.1)) a.4 (injects none a.2 b.2.run);
+      rests = rests-shown new b.0 b.3 rest;
+      injected = b.2.injected ∙ alone.1;
+      shows = subst (λ v. Shows v b.0) (sym net) b.3;
+      happen = told.happen;
+      text = block.0;
+      block = block.1;
+      put = text ∙ block.2;
+    }

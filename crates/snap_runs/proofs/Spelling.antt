@@ -1,0 +1,32 @@
+-- Events of a schedule, one behind another.
+use Rattle.std.proofs.Common.{◌≡◌, ℕ, List, [], ◌∷◌, ◌++◌, Some, refl, sym, subst, append_assoc, append-nil}
+use Rattle.std.specs.Prelude.{slice_index}
+use Rattle.snap_rows.specs.declared.tables.Tables.{Tables}
+use Rattle.snap_rows.specs.Network.{Net, Event, Inject, Step, Happening, Leads, Runs, done, on}
+use Rattle.snap_runs.specs.declared.event.Order.TheVariants as order
+use Rattle.snap_runs.specs.Schedules.{Spells, nothing, skips, injects, steps, order_by}
+
+pub spells-skip : {lines ks left : List (List ℕ)} {es : List Event} (line : List ℕ) → order_by line ≡ Some order.Skip → Spells lines ks es left → Spells (lines ++ line ∷ []) ks es left
+spells-skip line e nothing = skips e nothing
+spells-skip line e (skips f rest) = skips f (spells-skip line e rest)
+spells-skip line e (injects f rest) = injects f (spells-skip line e rest)
+spells-skip line e (steps f rest) = steps f (spells-skip line e rest)
+
+pub spells-inject : {lines ks whole : List (List ℕ)} {es : List Event} (line k : List ℕ) (left : List (List ℕ)) → order_by line ≡ Some order.Inject → whole ≡ k ∷ left → Spells lines ks es whole
+    → Spells (lines ++ line ∷ []) ks (es ++ Inject (slice_index k 0) k ∷ []) left
+spells-inject line k left e is nothing = subst (λ ks. Spells (line ∷ []) ks (Inject (slice_index k 0) k ∷ []) left) (sym is) (injects e nothing)
+spells-inject line k left e is (skips f rest) = skips f (spells-inject line k left e is rest)
+spells-inject line k left e is (injects f rest) = injects f (spells-inject line k left e is rest)
+spells-inject line k left e is (steps f rest) = steps f (spells-inject line k left e is rest)
+
+pub spells-step : {lines ks left : List (List ℕ)} {es : List Event} (line : List ℕ) (i : ℕ) → order_by line ≡ Some (order.Step i) → Spells lines ks es left → Spells (lines ++ line ∷ []) ks (es ++ Step i ∷ []) left
+spells-step line i e nothing = steps e nothing
+spells-step line i e (skips f rest) = skips f (spells-step line i e rest)
+spells-step line i e (injects f rest) = injects f (spells-step line i e rest)
+spells-step line i e (steps f rest) = steps f (spells-step line i e rest)
+
+-- a run, and one event more
+pub runs-then : (t : Tables) {s s' : Net} {es : List Event} {hs : List Happening} (e : Event) (s'' : Net) (h : List Happening) → Runs t s es s' hs → Leads t s' e s'' h → Runs t s (es ++ e ∷ []) s'' (hs ++ h)
+runs-then t e s'' h (done {s = s}) leads = subst (λ l. Runs t s (e ∷ []) s'' l) (append-nil h) (on leads done)
+runs-then t e s'' h (on {s = s} {e = f} {es = es} {h = g} {hs = hs} first rest) leads =
+    subst (λ l. Runs t s (f ∷ (es ++ e ∷ [])) s'' l) (sym (append_assoc g hs h)) (on first (runs-then t e s'' h rest leads))

@@ -1,0 +1,5 @@
+use Rattle.snap_runs.proofs.OneReport.{blocks_one, reports_one}
+use Rattle.snap_runs.proofs.laws.run_reports_are_one.Goals as goal
+
+pub returns : goal.returns
+returns c = record { reports = reports_one; blocks = blocks_one }

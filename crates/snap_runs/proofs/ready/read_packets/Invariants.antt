@@ -1,0 +1,25 @@
+use Rattle.std.proofs.Common.{◌≡◌, ◌-◌, ◌++◌, IfSome}
+use Rattle.std.specs.List.{All}
+use Rattle.snap_io.specs.Causes.{NoneFell}
+use Rattle.snap_io.specs.Files.{file_of}
+use Rattle.snap_io.specs.LineReaders.{AgreesWith, lines_name}
+use Rattle.snap_runs.specs.Plain.{spelled_for}
+use Rattle.snap_runs.specs.Playing.{IsReady, packets_in}
+use Rattle.snap_runs.specs.Reading.{left_of, said_at}
+use Rattle.snap_runs.proofs.ready.read_packets.Given as goal
+
+abbrev pub invariant-loop-packets : goal.invariant-loop-packets
+invariant-loop-packets g l =
+    let shelf = g.S.Shelf in
+    record {
+      came : IfSome (shelf.files l.fn.shelf) (λ files.
+          spelled_for l.tables (file_of files l.name) ≡ record { packets = packets_in l.packets.items ++ (left_of (said_at l.tables) (file_of files l.name) l.reader).packets; stop = (left_of (said_at l.tables) (file_of files l.name) l.reader).stop });
+      ready : All (IsReady l.tables) l.packets.items;
+      name : lines_name l.reader.lines ≡ l.name;
+      agrees : AgreesWith (shelf.files l.shelf) l.reader.lines;
+      files : shelf.files l.shelf ≡ shelf.files l.fn.shelf;
+      later : NoneFell (shelf.faults l.fn.shelf) (shelf.faults l.shelf);
+    }
+
+abbrev pub decreases-loop-packets : goal.decreases-loop-packets
+decreases-loop-packets g l = 1000000 - l.reader.read

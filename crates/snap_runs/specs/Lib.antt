@@ -1,0 +1,10 @@
+pub mod Reports
+pub mod Plain
+pub mod Hops
+pub mod Laws
+pub mod Tallies
+pub mod Settling
+pub mod Reading
+pub mod Tracing
+pub mod Schedules
+pub mod Playing

@@ -1,0 +1,149 @@
+-- How far the run of a schedule has come.
+use Rattle.std.specs.Prelude.{◌≡◌, ℕ, ◌+◌, ◌<◌, ◌⊎◌, Bool, true, false, List, [], ◌∷◌, ◌++◌, map, length, reverse, slice_get, slice_index, IsSome, Some, Result, Ok, Err}
+use Rattle.std.specs.List.{All, concat}
+use Rattle.snap_core.specs.declared.program.Field.{Field}
+use Rattle.snap_io.specs.declared.read.ReadRefusal.{ReadRefusal}
+use Rattle.snap_io.specs.declared.read.ReadRefusal.TheVariants as refusal
+use Rattle.snap_rows.specs.declared.tables.Tables.{Tables}
+use Rattle.snap_rows.specs.Entries.{port_at}
+use Rattle.snap_rows.specs.Form.{comps}
+use Rattle.snap_rows.specs.Network.{Copy, Net, Happening, Leads, Step}
+use Rattle.snap_net.specs.declared.happened.Happened.{Happened}
+use Rattle.snap_net.specs.declared.happened.Moved.{Moved}
+use Rattle.snap_net.specs.declared.happened.Moved.TheVariants as bare
+use Rattle.snap_net.specs.Shown.{Held, Shows}
+use Rattle.snap_runs.specs.declared.event.Order.{Order}
+use Rattle.snap_runs.specs.declared.event.Order.TheVariants as order
+use Rattle.snap_runs.specs.declared.play.Play.{Play}
+use Rattle.snap_runs.specs.declared.ready.Ready.{Ready}
+use Rattle.snap_runs.specs.declared.schedule.ScheduleFault.{ScheduleFault}
+use Rattle.snap_runs.specs.declared.schedule.ScheduleFault.TheVariants.{Packets, Read, TooLong, Line, Write, NoMemory}
+use Rattle.snap_runs.specs.declared.tally.Tally.{Tally}
+use Rattle.snap_trace.specs.declared.fault.TraceFault.{TraceFault}
+use Rattle.snap_trace.specs.declared.line.Line.{Line as Read_line}
+use Rattle.snap_trace.specs.declared.line.Line.TheVariants as read
+use Rattle.snap_trace.specs.Spelled.{ended}
+use Rattle.snap_runs.specs.Plain.{spelled_for}
+use Rattle.snap_runs.specs.Schedules.{CantBeDone, EndsEarly, Obeys, RefusesPackets, StopsAt, lines_of, order_by}
+use Rattle.snap_runs.specs.Tallies.{IsBlockText, IsTally, Notes, number_of}
+
+-- the number of the packet whose copy steps
+abbrev pub owner_by : Moved → ℕ
+owner_by (bare.Forwarded owner from to) = owner
+owner_by (bare.Delivered owner port k) = owner
+owner_by (bare.Forked owner copies lost) = owner
+
+abbrev pub packets_in : List Ready → List (List ℕ)
+packets_in rs = map (λ (r : Ready). r.packet) rs
+
+-- the packet can be injected at its port
+pub record IsReady (t : Tables) (r : Ready) : Type 0 where
+  pub long : length r.packet ≡ comps t
+  pub first : slice_index r.packet 0 ≡ r.port
+  pub has : IsSome (port_at t r.port)
+
+-- the packets that wait stand with the next one last
+abbrev pub left_in : Play → List (List ℕ)
+left_in v = packets_in (reverse v.waiting.items)
+
+-- the packets that were delivered have so many components
+abbrev pub IsLong : ℕ → Tally → Type 0
+IsLong n y = All (λ k. length k ≡ n) y.delivered.items
+
+-- So many lines of the schedule were done. The network shows the state after the run, and there is a tally of each packet
+-- that was injected.
+pub record Plays (t : Tables) (hops : Bool) (ks lines : List (List ℕ)) (v : Play) : Type 0 where
+  pub tables : v.net.tables ≡ t
+  pub hops_same : v.hops ≡ hops
+  pub state : Net
+  pub happenings : List Happening
+  pub obeys : Obeys t ks lines (left_in v) state happenings
+  pub shows : Shows v.net state
+  pub counted : length v.tallies.items ≡ state.injected
+  pub below : All (λ (c : Copy). c.number < state.injected) state.flying
+  pub before : All (λ h. number_of h < state.injected) happenings
+  pub tallied : (i : ℕ) (y : Tally) → slice_get v.tallies.items i ≡ Some y → IsTally t hops i happenings y
+  pub long : (i : ℕ) (y : Tally) → slice_get v.tallies.items i ≡ Some y → IsLong (comps t) y
+  pub ready : All (IsReady t) v.waiting.items
+
+-- some lines were done
+abbrev pub IsPlaying : Play → Type 0
+IsPlaying v = (ks : List (List ℕ)) × (lines : List (List ℕ)) × Plays v.net.tables v.hops ks lines v
+
+-- a line that orders this was done, or it can't be done
+abbrev pub HasObeyed : Order → (old new : Play) → Bool → Type 0
+HasObeyed order old new true =
+    (t : Tables) (hops : Bool) (ks lines : List (List ℕ)) (line : List ℕ) → order_by line ≡ Some order → Plays t hops ks lines old → Plays t hops ks (lines ++ line ∷ []) new
+HasObeyed order old new false = (t : Tables) (hops : Bool) (ks lines : List (List ℕ)) (p : Plays t hops ks lines old) → CantBeDone (Some order) (left_in old) p.state
+
+-- the same of the line itself
+abbrev pub HasDone : List ℕ → (old new : Play) → Bool → Type 0
+HasDone line old new true = (t : Tables) (hops : Bool) (ks lines : List (List ℕ)) → Plays t hops ks lines old → Plays t hops ks (lines ++ line ∷ []) new
+HasDone line old new false = (t : Tables) (hops : Bool) (ks lines : List (List ℕ)) (p : Plays t hops ks lines old) → CantBeDone (order_by line) (left_in old) p.state
+
+-- copy k has made a step, which was noted in its packet's tally
+pub record NotesIn (t : Tables) (hops : Bool) (x : Happening) (old new : List Tally) : Type 0 where
+  pub before : Tally
+  pub after : Tally
+  pub is : slice_get old (number_of x) ≡ Some before
+  pub notes : Notes t hops x before after
+  pub count : length new ≡ length old
+  pub here : slice_get new (number_of x) ≡ Some after
+  pub others : (i : ℕ) → (i ≡ number_of x → ⊥) → slice_get new i ≡ slice_get old i
+
+abbrev pub HasStepped : Bool → ℕ → (old new : Held) → (before after : List Tally) → Type 0
+HasStepped hops k old new before after = (s : Net) → Shows old s → (s' : Net) × (x : Happening) × Leads old.tables s (Step k) s' (x ∷ []) × Shows new s' × NotesIn old.tables hops x before after
+
+-- no line was done yet
+abbrev pub IsFresh : Play → Type 0
+IsFresh v = (ks : List (List ℕ)) × Plays v.net.tables v.hops ks [] v
+
+-- so many lines were done, and these are left
+pub record SoFar (t : Tables) (hops : Bool) (ks lines : List (List ℕ)) (rest : List ℕ) (number : ℕ) (v : Play) : Type 0 where
+  pub done : List (List ℕ)
+  pub are : lines ≡ done ++ lines_of rest
+  pub is : number ≡ length done
+  pub plays : Plays t hops ks done v
+
+-- a line can't be done, or something is left behind the last
+abbrev pub Stops : Tables → (ks lines : List (List ℕ)) → ScheduleFault → Type 0
+Stops t ks lines (Line number) = StopsAt t ks lines number ⊎ EndsEarly t ks lines number
+Stops t ks lines NoMemory = Unit {0}
+Stops t ks lines (Packets fault) = ⊥
+Stops t ks lines Read = ⊥
+Stops t ks lines TooLong = ⊥
+Stops t ks lines Write = ⊥
+
+-- all lines were done and nothing is left, or not
+abbrev pub HasRun : Tables → (hops : Bool) → (ks lines : List (List ℕ)) → (new : Play) → Result (Unit {0}) ScheduleFault → Type 0
+HasRun t hops ks lines new (Ok u) = Plays t hops ks lines new × (new.waiting.items ≡ []) × (new.net.flying ≡ [])
+HasRun t hops ks lines new (Err fault) = Stops t ks lines fault
+
+-- why the schedule isn't read
+abbrev pub schedule_refusal : ReadRefusal → ScheduleFault
+schedule_refusal refusal.Failed = Read
+schedule_refusal refusal.TooLong = TooLong
+schedule_refusal refusal.NoMemory = NoMemory
+
+-- the blocks of packets were put, one after another, as their tallies tell them
+pub record PutsBlocks (fields : List Field) (ys : List Tally) (before after : List ℕ) : Type 0 where
+  pub each : List (List ℕ)
+  pub as_many : length each ≡ length ys
+  pub blocks : (i : ℕ) (y : Tally) (text : List ℕ) → slice_get ys i ≡ Some y → slice_get each i ≡ Some text → IsBlockText fields (i + 1) y [] text
+  pub is : after ≡ before ++ concat each
+
+-- the blocks of some first tallies were put, and these are left, the next one last
+pub record SoPut (fields : List Field) (ys left : List Tally) (number : ℕ) (before after : List ℕ) : Type 0 where
+  pub done : List Tally
+  pub are : ys ≡ done ++ reverse left
+  pub is : number ≡ length done
+  pub puts : PutsBlocks fields done before after
+
+-- these are the packets of a file that was read to its end
+abbrev pub AreAll : Tables → (file : List ℕ) → List Ready → Type 0
+AreAll t file rs = spelled_for t file ≡ record { packets = packets_in rs; stop = ended }
+
+-- a packet of the line stands behind the others, and its port is one of the tables'
+abbrev pub TakesLine : Tables → Read_line → (before after : List Ready) → Type 0
+TakesLine t read.Skip before after = after ≡ before
+TakesLine t (read.Inject port packet) before after = (after ≡ before ++ record { port = port; packet = packet } ∷ []) × IsSome (port_at t port)

@@ -1,0 +1,133 @@
+-- What a schedule spells, and the run that it tells.
+use Rattle.std.specs.Prelude.{◌≡◌, ◌≢◌, ◌⊎◌, ℕ, ◌+◌, ◌<◌, ◌≤◌, ◌==◌, Bool, true, false, not, ◌||◌, List, [], ◌∷◌, ◌++◌, codes, length, slice_index, if◌then◌else◌, Result, Ok, Err, Some, None, option_map}
+use Rattle.std.specs.declared.option.Option.{Option}
+use Rattle.std.specs.Str.{bytes_eq}
+use Rattle.std.specs.Io.KnownBytes.{Appends}
+use Rattle.snap_core.specs.Arrays.{zero_arrays}
+use Rattle.snap_core.specs.Figures.{number_of}
+use Rattle.snap_core.specs.Parts.{parts_by}
+use Rattle.snap_io.specs.Sinks.{AppendsSome}
+use Rattle.snap_rows.specs.declared.tables.Tables.{Tables}
+use Rattle.snap_rows.specs.Network.{Net, Event, Inject, Step, Happening, Run}
+use Rattle.snap_trace.specs.PacketLines.{is_some_text, without_return, words_of}
+use Rattle.snap_trace.specs.declared.fault.TraceFault.{TraceFault}
+use Rattle.snap_trace.specs.declared.fault.TraceFault.TheVariants as trace
+use Rattle.snap_trace.specs.Spelled.{ended, refused}
+use Rattle.snap_runs.specs.declared.event.Order.{Order}
+use Rattle.snap_runs.specs.declared.event.Order.TheVariants as order
+use Rattle.snap_runs.specs.declared.schedule.ScheduleFault.{ScheduleFault}
+use Rattle.snap_runs.specs.declared.schedule.ScheduleFault.TheVariants.{Packets, Read, TooLong, Line, Write, NoMemory}
+use Rattle.snap_runs.specs.Plain.{spelled_for}
+use Rattle.snap_runs.specs.Reports.{IsRunReport}
+
+-- ---- lines
+-- the parts are lines, but for an empty one at the end
+abbrev pub whole_lines : List (List ℕ) → List (List ℕ)
+whole_lines [] = []
+whole_lines (part ∷ []) = if is_some_text part then part ∷ [] else []
+whole_lines (part ∷ next ∷ parts) = part ∷ whole_lines (next ∷ parts)
+
+-- the lines of a text, each ended by an LF, which the last may lack
+abbrev pub lines_of : List ℕ → List (List ℕ)
+lines_of text = whole_lines (parts_by (λ b. b == 10) text)
+
+-- `step K`, where no word stands behind
+abbrev pub step_order : (word figures : List ℕ) → (more : Bool) → Option Order
+step_order word figures more = if more || not (bytes_eq word (codes "step")) then None else option_map order.Step (number_of figures)
+
+abbrev pub is_some_list : List (List ℕ) → Bool
+is_some_list [] = false
+is_some_list (word ∷ words) = true
+
+abbrev pub order_of_words : List (List ℕ) → Option Order
+order_of_words [] = Some order.Skip
+order_of_words (word ∷ []) = if bytes_eq word (codes "inject") then Some order.Inject else None
+order_of_words (word ∷ figures ∷ words) = step_order word figures (is_some_list words)
+
+-- what a line orders: nothing, where it has no words or its first byte is `#`; `inject`; or `step K`
+abbrev pub order_by : List ℕ → Option Order
+order_by [] = Some order.Skip
+order_by (b ∷ bs) = if b == 35 then Some order.Skip else order_of_words (words_of (without_return (b ∷ bs)))
+
+-- ---- events
+-- the lines spell these events, with these packets, of which some are left
+pub data Spells : List (List ℕ) → (ks : List (List ℕ)) → List Event → (left : List (List ℕ)) → Type 0 where
+  nothing : {ks : List (List ℕ)} → Spells [] ks [] ks
+  skips : {line : List ℕ} {lines ks left : List (List ℕ)} {es : List Event} → order_by line ≡ Some order.Skip → Spells lines ks es left → Spells (line ∷ lines) ks es left
+  injects : {line k : List ℕ} {lines ks left : List (List ℕ)} {es : List Event} → order_by line ≡ Some order.Inject → Spells lines ks es left
+      → Spells (line ∷ lines) (k ∷ ks) (Inject (slice_index k 0) k ∷ es) left
+  steps : {line : List ℕ} {lines ks left : List (List ℕ)} {i : ℕ} {es : List Event} → order_by line ≡ Some (order.Step i) → Spells lines ks es left
+      → Spells (line ∷ lines) ks (Step i ∷ es) left
+
+-- a run from empty arrays does the events of these lines
+pub record Obeys (t : Tables) (ks lines left : List (List ℕ)) (s : Net) (hs : List Happening) : Type 0 where
+  pub events : List Event
+  pub spells : Spells lines ks events left
+  pub run : Run t zero_arrays events s hs
+
+-- what a line orders isn't in form, or can't be done
+abbrev pub CantBeDone : Option Order → (left : List (List ℕ)) → Net → Type 0
+CantBeDone None left s = Unit {0}
+CantBeDone (Some order.Skip) left s = ⊥
+CantBeDone (Some order.Inject) left s = left ≡ []
+CantBeDone (Some (order.Step i)) left s = length s.flying ≤ i
+
+-- the first line that isn't in form or can't be done has this number, counted from 1
+pub record StopsAt (t : Tables) (ks lines : List (List ℕ)) (number : ℕ) : Type 0 where
+  pub before : List (List ℕ)
+  pub line : List ℕ
+  pub behind : List (List ℕ)
+  pub are : lines ≡ before ++ line ∷ behind
+  pub is : number ≡ length before + 1
+  pub left : List (List ℕ)
+  pub state : Net
+  pub happenings : List Happening
+  pub obeys : Obeys t ks before left state happenings
+  pub stuck : CantBeDone (order_by line) left state
+
+-- all lines are done, and a packet or a copy is left: this is the number of the line behind
+pub record EndsEarly (t : Tables) (ks lines : List (List ℕ)) (number : ℕ) : Type 0 where
+  pub is : number ≡ length lines + 1
+  pub left : List (List ℕ)
+  pub state : Net
+  pub happenings : List Happening
+  pub obeys : Obeys t ks lines left state happenings
+  pub some : (left ≢ []) ⊎ (state.flying ≢ [])
+
+-- the report of the run that the lines tell, after which nothing is left
+pub record IsScheduleReport (t : Tables) (hops : Bool) (ks lines : List (List ℕ)) (text : List ℕ) : Type 0 where
+  pub state : Net
+  pub happenings : List Happening
+  pub obeys : Obeys t ks lines [] state happenings
+  pub ended : state.flying ≡ []
+  pub report : IsRunReport t hops (length ks) state happenings text
+
+-- ---- files
+-- the packets file was read to its end
+abbrev pub IsReadWhole : Tables → (file : List ℕ) → Type 0
+IsReadWhole t file = (spelled_for t file).stop ≡ ended
+
+-- the report of a packets file and a schedule
+abbrev pub HasScheduleReport : Tables → (hops : Bool) → (file schedule : List ℕ) → List ℕ → Type 0
+HasScheduleReport t hops file schedule text = IsReadWhole t file × IsScheduleReport t hops (spelled_for t file).packets (lines_of schedule) text
+
+-- why the packets file isn't read to its end
+abbrev pub RefusesPackets : Tables → (file : List ℕ) → TraceFault → Type 0
+RefusesPackets t file trace.Read = Unit {0}
+RefusesPackets t file trace.NoMemory = Unit {0}
+RefusesPackets t file (trace.Limit which count) = (spelled_for t file).stop ≡ refused (trace.Limit which count)
+RefusesPackets t file (trace.Packets line) = (spelled_for t file).stop ≡ refused (trace.Packets line)
+RefusesPackets t file trace.Write = ⊥
+RefusesPackets t file (trace.Undefined packet) = ⊥
+
+-- The whole report went out, or nothing, or some first bytes where the sink failed. The packets file is read to its end
+-- before the schedule, and the schedule before its lines are done.
+abbrev pub WritesSchedule : Tables → (hops : Bool) → (file schedule : List ℕ) → Result (Unit {0}) ScheduleFault → Option (List ℕ) → Option (List ℕ) → Type 0
+WritesSchedule t hops file schedule (Ok u) old new = (text : List ℕ) × HasScheduleReport t hops file schedule text × Appends old new text
+WritesSchedule t hops file schedule (Err Write) old new = AppendsSome (HasScheduleReport t hops file schedule) old new
+WritesSchedule t hops file schedule (Err (Packets fault)) old new = (new ≡ old) × RefusesPackets t file fault
+WritesSchedule t hops file schedule (Err Read) old new = new ≡ old
+WritesSchedule t hops file schedule (Err NoMemory) old new = new ≡ old
+WritesSchedule t hops file schedule (Err TooLong) old new = (new ≡ old) × IsReadWhole t file × (67108864 < length schedule)
+WritesSchedule t hops file schedule (Err (Line line)) old new =
+    (new ≡ old) × IsReadWhole t file × (StopsAt t (spelled_for t file).packets (lines_of schedule) line ⊎ EndsEarly t (spelled_for t file).packets (lines_of schedule) line)

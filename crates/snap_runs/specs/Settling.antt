@@ -1,0 +1,44 @@
+-- How copies in flight come to rest, by steps of the first copy.
+use Rattle.std.specs.Prelude.{◌≡◌, ℕ, ◌<◌, Bool, List, [], ◌∷◌, length, sum_by}
+use Rattle.std.specs.List.{All}
+use Rattle.snap_rows.specs.declared.tables.Tables.{Tables}
+use Rattle.snap_rows.specs.Network.{Copy, Net, Event, Happening, Leads, Step, RunsCalmly, StepsFirst, packets_of}
+use Rattle.snap_rows.specs.Weight.{weight}
+use Rattle.snap_net.specs.declared.flying.Flying.{Flying}
+use Rattle.snap_net.specs.Shown.{Held, Shows}
+use Rattle.snap_runs.specs.declared.tally.Tally.{Tally}
+use Rattle.snap_runs.specs.Tallies.{IsTally, Notes, number_of}
+
+-- the copies are of packet i
+abbrev pub AreCopiesOf : ℕ → List Copy → Type 0
+AreCopiesOf i cs = All (λ (c : Copy). c.number ≡ i) cs
+
+-- all of this happens to packet i
+abbrev pub HappenTo : ℕ → List Happening → Type 0
+HappenTo i hs = All (λ h. number_of h ≡ i) hs
+
+-- steps of the first copy lead from s to s'
+pub record Settles (t : Tables) (s s' : Net) (hs : List Happening) : Type 0 where
+  pub events : List Event
+  pub no_packets : packets_of events ≡ []
+  pub first : All StepsFirst events
+  pub run : RunsCalmly t s events s' hs
+  pub injected : s'.injected ≡ s.injected
+
+-- where all copies are of packet i they stay so, and this is the packet's tally
+pub record Tallies (t : Tables) (hops : Bool) (i : ℕ) (s' : Net) (hs : List Happening) (y : Tally) : Type 0 where
+  pub copies : AreCopiesOf i s'.flying
+  pub happen : HappenTo i hs
+  pub tally : IsTally t hops i hs y
+
+-- From each state that was shown such steps lead to one that is shown now.
+abbrev pub HasSettled : Bool → (old new : Held) → Tally → Type 0
+HasSettled hops old new y = (s : Net) → Shows old s → (s' : Net) × (hs : List Happening) × Settles old.tables s s' hs × Shows new s' × ((i : ℕ) → AreCopiesOf i s.flying → Tallies old.tables hops i s' hs y)
+
+-- the first copy has made a step, which was noted
+abbrev pub HasNoted : Bool → (old new : Held) → (before after : Tally) → Type 0
+HasNoted hops old new before after = (s : Net) → Shows old s → (s' : Net) × (x : Happening) × Leads old.tables s (Step 0) s' (x ∷ []) × Shows new s' × Notes old.tables hops x before after
+
+-- the steps that copies can still make, at most
+abbrev pub steps_left_of : Held → ℕ
+steps_left_of v = sum_by (λ (c : Flying). weight v.tables c.at c.head) v.flying

@@ -1,0 +1,128 @@
+//! A reader of a packets file, line by line.
+
+ghost use Rattle.std.specs.Prelude.{◌≡◌, ◌≤◌, ◌+◌, ℕ, List, IfOk, IfSome, IsErrOf, IsTrue};
+ghost use Rattle.std.specs.declared.option.Option.{Option as Maybe};
+ghost use Rattle.snap_io.specs.LineReaders.{lines_limit, lines_most};
+
+use snap_core::NoMemory;
+use snap_core::program::Fields;
+use snap_io::{Lines, LinesFault, Shelf};
+use snap_trace::switch::{
+    MOST_BYTES, MOST_LINE, MOST_LINES, many_lines, refusal, refusal_past_last,
+};
+use snap_trace::{Line, LineFault, TraceFault, read_line};
+use std::alloc::Global;
+
+/// A reader of a packets file, and how many lines it has given.
+#[derive(Drop)]
+pub(crate) struct PacketLines {
+    lines: Lines,
+    read: u64,
+    ghost limit: { lines_limit lines ≡ 67108864 },
+    ghost most: { lines_most lines ≡ 65536 },
+    ghost few: { read ≤ 1000000 },
+}
+
+impl PacketLines {
+    ghost use Rattle.snap_core.specs.Fields.{count};
+    ghost use Rattle.snap_io.specs.Causes.{NoneFell, Rose};
+    ghost use Rattle.snap_io.specs.Files.{Files, file_of};
+    ghost use Rattle.snap_io.specs.LineReaders.{AgreesWith, lines_given, lines_name};
+    ghost use Rattle.snap_rows.specs.declared.tables.Tables.{Tables};
+    ghost use Rattle.snap_trace.specs.PacketLines.{Said};
+    ghost use Rattle.snap_runs.specs.Reading.{GivesLine, GoesOn, HasLine, ReadsLine, refused_behind};
+
+    /// A reader of the file with this name, before its first line.
+    pub(crate) fn new(alloc: Global, name: &[u8]) -> Result<PacketLines, NoMemory>
+        ensures name { IfOk result (λ reader. lines_name reader.lines ≡ name.now) }
+        ensures given { IfOk result (λ reader. lines_given reader.lines ≡ 0) }
+        ensures read { IfOk result (λ reader. reader.read ≡ 0) }
+        ensures agrees { IfOk result (λ reader. (told : Maybe Files) → AgreesWith told reader.lines) }
+    {
+        let lines = Lines::new(alloc, name, MOST_BYTES, MOST_LINE)?;
+        Ok(PacketLines { lines, read: 0 })
+    }
+
+    /// How many lines were given. Takes no memory.
+    pub(crate) fn read(&self) -> u64
+        ensures read { result ≡ self.now.read }
+        ensures few { result ≤ 1000000 }
+    {
+        self.read
+    }
+
+    /// Whether the next line is at hand, so that no read is made for it.
+    pub(crate) fn whole(&self) -> bool {
+        self.lines.whole()
+    }
+
+    /// The next line, of packets with these fields, or nothing at the file's end.
+    ///
+    /// # Errors
+    ///
+    /// As those of `trace`: `Read`, `Packets`, `Limit` and `NoMemory`.
+    pub(crate) fn next<S: Shelf>(
+        &mut self,
+        alloc: Global,
+        shelf: &mut S,
+        fields: &Fields,
+    ) -> Result<Option<Line>, TraceFault>
+        requires agrees { AgreesWith (S.files shelf.old) self.old.lines }
+        ensures gives { IfSome (S.files shelf.old) (λ files. (t : Tables) → fields.now ≡ t.fields →
+            GivesLine t (file_of files (lines_name self.old.lines)) self.old self.new result) }
+        ensures comps { IfOk result (HasLine (count fields.now)) }
+        ensures goes_on { IfOk result (GoesOn self.old.read self.new.read) }
+        ensures name { lines_name self.new.lines ≡ lines_name self.old.lines }
+        ensures agrees { AgreesWith (S.files shelf.new) self.new.lines }
+        ensures read { IsErrOf result TraceFault.Read → Rose (S.faults shelf.old (lines_name self.old.lines)) (S.faults shelf.new (lines_name self.old.lines)) }
+        ensures not_write { IsErrOf result TraceFault.Write → ⊥ }
+        ensures files { S.files shelf.new ≡ S.files shelf.old }
+        ensures later { NoneFell (S.faults shelf.old) (S.faults shelf.new) }
+    {
+        if !self.next_text(shelf)? {
+            return Ok(None);
+        }
+        match read_line(alloc, fields, self.lines.line()) {
+            Ok(line) => Ok(Some(line)),
+            Err(LineFault::Bad) => Err(TraceFault::Packets { line: self.read }),
+            Err(LineFault::NoMemory) => Err(TraceFault::NoMemory),
+        }
+    }
+
+    // Reads the next line's text. False: there is none.
+    fn next_text<S: Shelf>(&mut self, shelf: &mut S) -> Result<bool, TraceFault>
+        requires agrees { AgreesWith (S.files shelf.old) self.old.lines }
+        ensures reads { IfSome (S.files shelf.old) (λ files. (said : List ℕ → Said) →
+            ReadsLine said (file_of files (lines_name self.old.lines)) self.old self.new result) }
+        ensures more { IfOk result (λ more. IsTrue more → self.new.read ≡ self.old.read + 1) }
+        ensures name { lines_name self.new.lines ≡ lines_name self.old.lines }
+        ensures agrees { AgreesWith (S.files shelf.new) self.new.lines }
+        ensures read { IsErrOf result TraceFault.Read → Rose (S.faults shelf.old (lines_name self.old.lines)) (S.faults shelf.new (lines_name self.old.lines)) }
+        ensures not_write { IsErrOf result TraceFault.Write → ⊥ }
+        ensures files { S.files shelf.new ≡ S.files shelf.old }
+        ensures later { NoneFell (S.faults shelf.old) (S.faults shelf.new) }
+    {
+        match self.lines.next(shelf) {
+            Ok(true) => {
+                if self.read == MOST_LINES {
+                    return Err(many_lines());
+                }
+                self.read += 1;
+                Ok(true)
+            }
+            Ok(false) => Ok(false),
+            Err(fault) => Err(self.refused(fault)),
+        }
+    }
+
+    // Why the next line isn't given.
+    fn refused(&self, fault: LinesFault) -> TraceFault
+        ensures { result ≡ refused_behind self.now.read fault }
+    {
+        if self.read == MOST_LINES {
+            refusal_past_last(fault)
+        } else {
+            refusal(fault, self.read + 1)
+        }
+    }
+}

@@ -1,0 +1,288 @@
+//! A run of the network in the order of a schedule.
+
+ghost use Rattle.std.specs.Prelude.{◌≡◌, ◌≤◌, ◌<◌, ◌+◌, ◌^◌, ◌++◌, ◌∷◌, [], ℕ, List, Bool, Some, true, false, length, reverse, slice_get, IfOk, OnOk, IfSome, MatchOption};
+ghost use Rattle.std.specs.List.{All};
+ghost use Rattle.snap_core.specs.Fields.{count};
+ghost use Rattle.snap_rows.specs.declared.tables.Tables.{Tables};
+ghost use Rattle.snap_runs.specs.Playing.{HasDone, HasObeyed, HasRun, HasStepped, IsFresh, IsLong, IsPlaying, IsReady, Plays, PutsBlocks, owner_by, packets_in};
+ghost use Rattle.snap_net.specs.declared.flying.Flying.{Flying};
+ghost use Rattle.snap_runs.specs.Schedules.{IsScheduleReport, lines_of};
+ghost use Rattle.snap_runs.specs.Tallies.{bared};
+ghost use Rattle.snap_runs.specs.declared.event.Order.TheVariants.{Inject as Injects, Step as Steps};
+
+use crate::event::{Order, next_line, read_order};
+use crate::ready::Ready;
+use crate::schedule::ScheduleFault;
+use crate::tail::put_end;
+use crate::tally::Tally;
+use crate::tracer::fields_of;
+use snap_core::NoMemory;
+use snap_core::lists::Names;
+use snap_core::program::Fields;
+use snap_net::happened::{Happened, Moved};
+use snap_net::net::{Net, open_net};
+use snap_rows::valid::Valid;
+use std::alloc::Global;
+
+/// A network in a run, a tally of each packet that was injected, and the packets that wait, the next one last.
+#[derive(Drop)]
+pub(crate) struct Play {
+    alloc: Global,
+    net: Net,
+    hops: bool,
+    tallies: Vec<Tally>,
+    waiting: Vec<Ready>,
+}
+
+impl Play {
+    /// Before the first line.
+    pub(crate) fn new(
+        alloc: Global,
+        tables: Valid,
+        hops: bool,
+        packets: Vec<Ready>,
+    ) -> Result<Play, NoMemory>
+        requires { All (IsReady tables) packets.items }
+        ensures plays { IfOk result (Plays tables hops (packets_in packets.items) []) }
+        ensures injected { IfOk result (λ play. play.net.injected ≡ 0) }
+    {
+        let net = open_net(alloc, tables)?;
+        let waiting = reversed(packets);
+        Ok(Play {
+            alloc,
+            net,
+            hops,
+            tallies: Vec::new(alloc),
+            waiting,
+        })
+    }
+
+    /// Does the lines of a schedule, one after another. `Line` names the first that isn't in form or can't be done, or the
+    /// one behind the last where a packet or a copy is left.
+    pub(crate) fn run(&mut self, schedule: &[u8]) -> Result<(), ScheduleFault>
+        requires fresh { IsFresh self.old }
+        requires injected { self.old.net.injected ≡ 0 }
+        requires few { length schedule.now ≤ 67108864 }
+        ensures ran { (t : Tables) (hops : Bool) (ks : List (List ℕ)) → Plays t hops ks [] self.old → HasRun t hops ks (lines_of schedule.now) self.new result }
+        ensures injected { OnOk result (self.new.net.injected ≤ 67108864) }
+    {
+        let mut rest = schedule;
+        let mut number = 0u64;
+        while let Some((line, behind)) = next_line(rest) {
+            number += 1;
+            if !self.obey(line)? {
+                return Err(ScheduleFault::Line { line: number });
+            }
+            rest = behind;
+        }
+        if self.left() > 0 {
+            return Err(ScheduleFault::Line { line: number + 1 });
+        }
+        if self.net.flying() > 0 {
+            return Err(ScheduleFault::Line { line: number + 1 });
+        }
+        Ok(())
+    }
+
+    /// The report of a run after which nothing is left.
+    pub(crate) fn report(self) -> Result<Vec<u8>, NoMemory>
+        requires playing { IsPlaying self }
+        requires few { self.net.injected ≤ 67108864 }
+        ensures { IfOk result (λ text. (t : Tables) (hops : Bool) (ks lines : List (List ℕ)) → Plays t hops ks lines self → self.waiting.items ≡ [] → self.net.flying ≡ []
+            → IsScheduleReport t hops ks lines text.items) }
+    {
+        let Play {
+            alloc,
+            net,
+            hops: _,
+            tallies,
+            waiting: _,
+        } = self;
+        let mut out = Vec::new(alloc);
+        put_blocks(&mut out, fields_of(&net), tallies)?;
+        put_end(&mut out, &net)?;
+        Ok(out)
+    }
+
+    // The number of packets that wait.
+    fn left(&self) -> usize
+        ensures { result ≡ length self.now.waiting.items }
+    {
+        self.waiting.len()
+    }
+
+    // Does what a line orders. False: it isn't in form, or can't be done.
+    fn obey(&mut self, line: &[u8]) -> Result<bool, NoMemory>
+        requires playing { IsPlaying self.old }
+        requires room { self.old.net.injected < 2 ^ 63 }
+        ensures done { IfOk result (HasDone line.now self.old self.new) }
+        ensures injected { OnOk result (self.new.net.injected ≤ self.old.net.injected + 1) }
+    {
+        match read_order(line) {
+            None => Ok(false),
+            Some(Order::Skip) => Ok(true),
+            Some(Order::Inject) => self.inject(),
+            Some(Order::Step(place)) => self.step(place),
+        }
+    }
+
+    // Injects the next packet. False: none is left.
+    fn inject(&mut self) -> Result<bool, NoMemory>
+        requires playing { IsPlaying self.old }
+        requires room { self.old.net.injected < 2 ^ 63 }
+        ensures done { IfOk result (HasObeyed Injects self.old self.new) }
+        ensures injected { OnOk result (self.new.net.injected ≤ self.old.net.injected + 1) }
+    {
+        let Some(ready) = next_packet(&mut self.waiting) else {
+            return Ok(false);
+        };
+        match self.net.inject(ready.port, ready.packet) {
+            Ok(_) => {}
+            // The port is one of the tables', so only memory can be short.
+            Err(_) => return Err(NoMemory),
+        }
+        let tally = Tally::new(self.alloc);
+        self.tallies.push(tally)?;
+        Ok(true)
+    }
+
+    // Makes a step of the copy at a place. False: there is no such copy.
+    fn step(&mut self, place: u64) -> Result<bool, NoMemory>
+        requires playing { IsPlaying self.old }
+        ensures done { IfOk result (HasObeyed (Steps place) self.old self.new) }
+        ensures injected { OnOk result (self.new.net.injected ≡ self.old.net.injected) }
+    {
+        let place = place as usize;
+        if place >= self.net.flying() {
+            return Ok(false);
+        }
+        step_at(&mut self.net, place, self.hops, &mut self.tallies)?;
+        Ok(true)
+    }
+}
+
+// Puts the blocks of packets, as their tallies tell them.
+fn put_blocks(out: &mut Vec<u8>, fields: &Fields, tallies: Vec<Tally>) -> Result<(), NoMemory>
+    requires long { (i : ℕ) (y : Tally) → slice_get tallies.items i ≡ Some y → IsLong (count fields.now) y }
+    requires few { length tallies.items ≤ 67108864 }
+    ensures { OnOk result (PutsBlocks fields.now tallies.items out.old.items out.new.items) }
+{
+    let mut tallies = turned(tallies);
+    let mut number = 0u64;
+    while let Some(tally) = next_tally(&mut tallies) {
+        number += 1;
+        tally.put_block(out, fields, number)?;
+    }
+    Ok(())
+}
+
+// Makes a step of the copy at a place, and notes it in its packet's tally. There is such a copy, so only memory can be
+// short.
+fn step_at(
+    net: &mut Net,
+    place: usize,
+    hops: bool,
+    tallies: &mut Vec<Tally>,
+) -> Result<(), NoMemory>
+    requires place { place < length net.old.flying }
+    requires below { All (λ (c : Flying). c.number < length tallies.old.items) net.old.flying }
+    ensures stepped { OnOk result (HasStepped hops place net.old net.new tallies.old.items tallies.new.items) }
+    ensures tables { net.new.tables ≡ net.old.tables }
+    ensures injected { net.new.injected ≡ net.old.injected }
+{
+    if hops {
+        step_shown(net, place, tallies)
+    } else {
+        step_bare(net, place, tallies)
+    }
+}
+
+// The same with the line of the link that the copy crosses.
+fn step_shown(net: &mut Net, place: usize, tallies: &mut Vec<Tally>) -> Result<(), NoMemory>
+    requires below { All (λ (c : Flying). c.number < length tallies.old.items) net.old.flying }
+    ensures stepped { OnOk result (HasStepped true place net.old net.new tallies.old.items tallies.new.items) }
+    ensures tables { net.new.tables ≡ net.old.tables }
+    ensures injected { net.new.injected ≡ net.old.injected }
+{
+    let happened = match net.step(place) {
+        Ok(happened) => happened,
+        Err(_) => return Err(NoMemory),
+    };
+    let owner = owner_of(&happened);
+    let switches = switches_of(net);
+    tallies[owner as usize].note_hop(switches, happened)?;
+    Ok(())
+}
+
+// The same without that line.
+fn step_bare(net: &mut Net, place: usize, tallies: &mut Vec<Tally>) -> Result<(), NoMemory>
+    requires below { All (λ (c : Flying). c.number < length tallies.old.items) net.old.flying }
+    ensures stepped { OnOk result (HasStepped false place net.old net.new tallies.old.items tallies.new.items) }
+    ensures tables { net.new.tables ≡ net.old.tables }
+    ensures injected { net.new.injected ≡ net.old.injected }
+{
+    let moved = match net.advance(place) {
+        Ok(moved) => moved,
+        Err(_) => return Err(NoMemory),
+    };
+    let owner = mover_of(&moved);
+    tallies[owner as usize].note(moved)?;
+    Ok(())
+}
+
+fn switches_of(net: &Net) -> &Names
+    ensures { result.now ≡ net.now.tables.switches }
+{
+    &net.tables().tables().switches
+}
+
+// The packets with the next one last.
+fn reversed(mut packets: Vec<Ready>) -> Vec<Ready>
+    ensures { result.items ≡ reverse packets.items }
+{
+    packets.reverse();
+    packets
+}
+
+// The tallies with the first one last.
+fn turned(mut tallies: Vec<Tally>) -> Vec<Tally>
+    ensures { result.items ≡ reverse tallies.items }
+{
+    tallies.reverse();
+    tallies
+}
+
+fn next_tally(tallies: &mut Vec<Tally>) -> Option<Tally>
+    ensures next { MatchOption result (tallies.old.items ≡ []) (λ tally. tallies.old.items ≡ tallies.new.items ++ tally ∷ []) }
+    ensures fewer { IfSome result (λ _. length tallies.new.items < length tallies.old.items) }
+{
+    tallies.pop()
+}
+
+fn next_packet(waiting: &mut Vec<Ready>) -> Option<Ready>
+    ensures { MatchOption result (waiting.old.items ≡ []) (λ ready. waiting.old.items ≡ waiting.new.items ++ ready ∷ []) }
+{
+    waiting.pop()
+}
+
+// The number of the packet whose copy has made a step.
+fn mover_of(moved: &Moved) -> u64
+    ensures { result ≡ owner_by moved.now }
+{
+    match moved {
+        Moved::Forwarded { owner, .. } => *owner,
+        Moved::Delivered { owner, .. } => *owner,
+        Moved::Forked { owner, .. } => *owner,
+    }
+}
+
+// The same of a step that is told with its frame.
+fn owner_of(happened: &Happened) -> u64
+    ensures { result ≡ owner_by (bared happened.now) }
+{
+    match happened {
+        Happened::Forwarded { owner, .. } => *owner,
+        Happened::Delivered { owner, .. } => *owner,
+        Happened::Forked { owner, .. } => *owner,
+    }
+}

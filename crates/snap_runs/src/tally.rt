@@ -1,0 +1,202 @@
+//! What is noted of one packet while its copies are in flight.
+
+ghost use Rattle.std.specs.Prelude.{◌≡◌, ◌+◌, ◌++◌, [], ◌∷◌, length, IfOk, OnOk};
+ghost use Rattle.std.specs.List.{All};
+ghost use Rattle.std.specs.List.Sorted.{IsPermutation, IsSorted};
+ghost use Rattle.snap_core.specs.Fields.{count};
+ghost use Rattle.snap_core.specs.Packets.{packet_cmp};
+ghost use Rattle.snap_runs.specs.Reports.{lost_line, packet_line};
+ghost use Rattle.snap_trace.specs.Reports.{out_lines};
+ghost use Rattle.snap_runs.specs.Tallies.{bared, delivered_by, hop_by, hop_text, IsBlockText, lost_by};
+
+use snap_core::NoMemory;
+use snap_core::lists::Names;
+use snap_core::packet::Packet;
+use snap_core::program::Fields;
+use snap_net::happened::{Happened, Moved};
+use snap_trace::report::{name_at, put_head, put_number, put_out};
+use std::alloc::Global;
+use std::cmp::Ordering;
+
+/// What has happened to one packet: the packets that were delivered of it, how many were lost, and the lines of the
+/// links that its copies crossed, where they are told.
+#[derive(Drop)]
+pub(crate) struct Tally {
+    alloc: Global,
+    delivered: Vec<Packet>,
+    lost: u64,
+    hops: Vec<u8>,
+}
+
+impl Tally {
+    /// Nothing has happened. Takes no memory.
+    pub(crate) fn new(alloc: Global) -> Tally
+        ensures delivered { result.delivered.items ≡ [] }
+        ensures lost { result.lost ≡ 0 }
+        ensures hops { result.hops.items ≡ [] }
+    {
+        Tally {
+            alloc,
+            delivered: Vec::new(alloc),
+            lost: 0,
+            hops: Vec::new(alloc),
+        }
+    }
+
+    /// Notes a step.
+    pub(crate) fn note(&mut self, moved: Moved) -> Result<(), NoMemory>
+        ensures delivered { OnOk result (self.new.delivered.items ≡ self.old.delivered.items ++ delivered_by moved) }
+        ensures lost { OnOk result (self.new.lost ≡ self.old.lost + lost_by moved) }
+        ensures hops { self.new.hops.items ≡ self.old.hops.items }
+    {
+        match moved {
+            Moved::Forwarded { .. } => Ok(()),
+            Moved::Delivered { packet, .. } => self.deliver(packet),
+            Moved::Forked { lost, .. } => self.lose(lost),
+        }
+    }
+
+    /// Notes a step, with the line of the link that the copy crosses.
+    pub(crate) fn note_hop(&mut self, switches: &Names, happened: Happened) -> Result<(), NoMemory>
+        ensures delivered { OnOk result (self.new.delivered.items ≡ self.old.delivered.items ++ delivered_by (bared happened)) }
+        ensures lost { OnOk result (self.new.lost ≡ self.old.lost + lost_by (bared happened)) }
+        ensures hops { OnOk result (self.new.hops.items ≡ self.old.hops.items ++ hop_by switches.now happened) }
+    {
+        match happened {
+            Happened::Forwarded {
+                from,
+                to,
+                frame,
+                ..
+            } => put_hop(
+                self.alloc,
+                &mut self.hops,
+                switches,
+                from,
+                to,
+                frame.bytes(),
+            ),
+            Happened::Delivered { packet, .. } => self.deliver(packet),
+            Happened::Forked { lost, .. } => self.lose(lost),
+        }
+    }
+
+    fn deliver(&mut self, packet: Packet) -> Result<(), NoMemory>
+        ensures delivered { OnOk result (self.new.delivered.items ≡ self.old.delivered.items ++ packet ∷ []) }
+        ensures lost { self.new.lost ≡ self.old.lost }
+        ensures hops { self.new.hops.items ≡ self.old.hops.items }
+    {
+        self.delivered.push(packet)?;
+        Ok(())
+    }
+
+    // The count of so many packets wouldn't fit memory.
+    fn lose(&mut self, lost: u64) -> Result<(), NoMemory>
+        ensures delivered { self.new.delivered.items ≡ self.old.delivered.items }
+        ensures lost { OnOk result (self.new.lost ≡ self.old.lost + lost) }
+        ensures hops { self.new.hops.items ≡ self.old.hops.items }
+    {
+        self.lost = self.lost.checked_add(lost).ok_or(NoMemory)?;
+        Ok(())
+    }
+
+    /// Puts the block of the packet with this number, counted from 1.
+    pub(crate) fn put_block(
+        self,
+        out: &mut Vec<u8>,
+        fields: &Fields,
+        number: u64,
+    ) -> Result<(), NoMemory>
+        requires { All (λ k. length k ≡ count fields.now) self.delivered.items }
+        ensures { OnOk result (IsBlockText fields.now number self (out.old.items) (out.new.items)) }
+    {
+        let packets = sorted(self.alloc, self.delivered)?;
+        put_lines(out, fields, number, self.hops, packets, self.lost)?;
+        Ok(())
+    }
+}
+
+// Puts the lines of a block, with the packets in this order.
+fn put_lines(
+    out: &mut Vec<u8>,
+    fields: &Fields,
+    number: u64,
+    hops: Vec<u8>,
+    packets: Vec<Packet>,
+    lost: u64,
+) -> Result<(), NoMemory>
+    requires { All (λ k. length k ≡ count fields.now) packets.items }
+    ensures { OnOk result (out.new.items ≡ out.old.items ++ (packet_line number ++ hops.items ++ out_lines fields.now packets.items ++ lost_line lost)) }
+{
+    put_head(out, number)?;
+    out.extend_from_slice(&hops)?;
+    put_outs(out, fields, &packets)?;
+    put_lost(out, lost)
+}
+
+// The packets in rising order.
+fn sorted(alloc: Global, mut packets: Vec<Packet>) -> Result<Vec<Packet>, NoMemory>
+    ensures rising { IfOk result (λ outs. IsSorted packet_cmp outs.items) }
+    ensures same { IfOk result (λ outs. IsPermutation packets.items outs.items) }
+{
+    sort(alloc, packets.as_mut_slice())?;
+    Ok(packets)
+}
+
+fn sort(alloc: Global, packets: &mut [Packet]) -> Result<(), NoMemory>
+    ensures rising { OnOk result (IsSorted packet_cmp packets.new) }
+    ensures same { IsPermutation packets.old packets.new }
+    ensures len { length packets.new ≡ length packets.old }
+{
+    packets.sort_by(alloc, |left, right| compare(left, right))?;
+    Ok(())
+}
+
+fn compare(left: &Packet, right: &Packet) -> Ordering
+    ensures { result ≡ packet_cmp left.now right.now }
+{
+    left.comps().cmp(right.comps())
+}
+
+// Puts the lines of packets that went out.
+fn put_outs(out: &mut Vec<u8>, fields: &Fields, packets: &[Packet]) -> Result<(), NoMemory>
+    requires { All (λ k. length k ≡ count fields.now) packets.now }
+    ensures { OnOk result (out.new.items ≡ out.old.items ++ out_lines fields.now packets.now) }
+{
+    for packet in packets {
+        put_out(out, fields, packet)?;
+    }
+    Ok(())
+}
+
+// Puts the line of the packets that were lost.
+fn put_lost(out: &mut Vec<u8>, lost: u64) -> Result<(), NoMemory>
+    ensures { OnOk result (out.new.items ≡ out.old.items ++ lost_line lost) }
+{
+    out.extend_from_slice(b"lost ")?;
+    put_number(out, lost)?;
+    out.push(b'\n')?;
+    Ok(())
+}
+
+// Puts the line of a link that a copy crosses.
+fn put_hop(
+    alloc: Global,
+    out: &mut Vec<u8>,
+    switches: &Names,
+    from: u16,
+    to: u16,
+    frame: &[u8],
+) -> Result<(), NoMemory>
+    ensures { OnOk result (out.new.items ≡ out.old.items ++ hop_text switches.now from to frame.now) }
+{
+    let digits = hex::encode(alloc, frame)?;
+    out.extend_from_slice(b"hop ")?;
+    out.extend_from_slice(name_at(switches, from))?;
+    out.push(b' ')?;
+    out.extend_from_slice(name_at(switches, to))?;
+    out.push(b' ')?;
+    out.extend_from_slice(digits.as_bytes())?;
+    out.push(b'\n')?;
+    Ok(())
+}

@@ -1,0 +1,205 @@
+//! A network over a file of packets, one after another, by the plain schedule.
+
+ghost use Rattle.std.specs.Prelude.{◌≡◌, ◌≤◌, ◌+◌, ◌<◌, ◌^◌, ◌++◌, ◌⊎◌, [], ℕ, List, Bool, length, slice_index, IfOk, IfSome, IsErrOf, OnOk, OnErr};
+ghost use Rattle.std.specs.declared.option.Option.{Option as Maybe};
+ghost use Rattle.snap_core.specs.Arrays.{zero_arrays};
+ghost use Rattle.snap_io.specs.Causes.{HasCause, NoneFell, Rose};
+ghost use Rattle.snap_io.specs.Files.{file_of};
+ghost use Rattle.snap_io.specs.LineReaders.{AgreesWith, lines_given, lines_name};
+ghost use Rattle.snap_rows.specs.declared.tables.Tables.{Tables};
+ghost use Rattle.snap_rows.specs.Form.{comps};
+ghost use Rattle.snap_rows.specs.Network.{start};
+ghost use Rattle.snap_net.specs.Shown.{Shows};
+ghost use Rattle.snap_trace.specs.Spelled.{Spelled, with_said};
+ghost use Rattle.snap_trace.specs.Steps.{Puts};
+ghost use Rattle.snap_runs.specs.Plain.{WritesTrace, at_ports};
+ghost use Rattle.snap_runs.specs.Reading.{FitsLine, GoesOn, HasLine, left_of, said_at, said_of};
+ghost use Rattle.snap_runs.specs.Tracing.{Closes, Comes, ComesOn, Follows, TakesPacket};
+
+use crate::packets::PacketLines;
+use crate::settle::settle;
+use crate::tail::put_end;
+use snap_core::NoMemory;
+use snap_core::packet::Packet;
+use snap_core::program::Fields;
+use snap_io::{Shelf, Sink, WriteFailed, write_whole};
+use snap_net::net::{InjectFault, Net, open_net};
+use snap_rows::valid::Valid;
+use snap_trace::switch::is_told;
+use snap_trace::tail::PIECE;
+use snap_trace::{Line, TraceFault};
+use std::alloc::Global;
+
+/// A network between two packets, and the text that waits to be written.
+#[derive(Drop)]
+pub(crate) struct Tracer {
+    alloc: Global,
+    net: Net,
+    hops: bool,
+    text: Vec<u8>,
+}
+
+impl Tracer {
+    /// Before the first packet.
+    pub(crate) fn new(alloc: Global, tables: Valid, hops: bool) -> Result<Tracer, NoMemory>
+        ensures tables { IfOk result (λ tracer. tracer.net.tables ≡ tables) }
+        ensures hops { IfOk result (λ tracer. tracer.hops ≡ hops) }
+        ensures injected { IfOk result (λ tracer. tracer.net.injected ≡ 0) }
+        ensures start { IfOk result (λ tracer. Shows tracer.net (start tables zero_arrays)) }
+        ensures text { IfOk result (λ tracer. tracer.text.items ≡ []) }
+    {
+        let net = open_net(alloc, tables)?;
+        Ok(Tracer {
+            alloc,
+            net,
+            hops,
+            text: Vec::new(alloc),
+        })
+    }
+
+    /// Takes the lines of a packets file, one after another, and puts the end of the report where all were taken.
+    pub(crate) fn run<S: Shelf, K: Sink>(
+        &mut self,
+        shelf: &mut S,
+        reader: &mut PacketLines,
+        sink: &mut K,
+    ) -> Result<(), TraceFault>
+        requires start { Shows self.old.net (start self.old.net.tables zero_arrays) }
+        requires injected { self.old.net.injected ≡ 0 }
+        requires text { self.old.text.items ≡ [] }
+        requires given { lines_given reader.old.lines ≡ 0 }
+        requires read { reader.old.read ≡ 0 }
+        requires agrees { AgreesWith (S.files shelf.old) reader.old.lines }
+        ensures closes { IfSome (S.files shelf.old) (λ files.
+            Closes self.old.net.tables self.old.hops (file_of files (lines_name reader.old.lines)) result (K.taken sink.old) (K.taken sink.new) self.new.text.items) }
+        ensures read { IsErrOf result TraceFault.Read → Rose (S.faults shelf.old (lines_name reader.old.lines)) (S.faults shelf.new (lines_name reader.old.lines)) }
+        ensures write { IsErrOf result TraceFault.Write → Rose (K.faults sink.old) (K.faults sink.new) }
+        ensures files { S.files shelf.new ≡ S.files shelf.old }
+        ensures later { NoneFell (S.faults shelf.old) (S.faults shelf.new) }
+        ensures sink_later { K.faults sink.old ≤ K.faults sink.new }
+    {
+        while let Some(line) = self.next_line(shelf, reader, sink)? {
+            self.take_line(line, reader.read())?;
+        }
+        put_end(&mut self.text, &self.net)?;
+        Ok(())
+    }
+
+    // The next line. What waits is written first, where the line has to be read.
+    fn next_line<S: Shelf, K: Sink>(
+        &mut self,
+        shelf: &mut S,
+        reader: &mut PacketLines,
+        sink: &mut K,
+    ) -> Result<Option<Line>, TraceFault>
+        requires agrees { AgreesWith (S.files shelf.old) reader.old.lines }
+        ensures follows { IfSome (S.files shelf.old) (λ files. (t : Tables) (hops : Bool) (start : Maybe (List ℕ)) →
+            Comes t hops (file_of files (lines_name reader.old.lines)) (left_of (said_at t) (file_of files (lines_name reader.old.lines)) reader.old) self.old start (K.taken sink.old) →
+            Follows t hops (file_of files (lines_name reader.old.lines)) reader.new self.new start (K.taken sink.new) result) }
+        ensures fits { IfOk result (HasLine (comps self.old.net.tables)) }
+        ensures goes_on { IfOk result (GoesOn reader.old.read reader.new.read) }
+        ensures net { self.new.net ≡ self.old.net }
+        ensures hops { self.new.hops ≡ self.old.hops }
+        ensures name { lines_name reader.new.lines ≡ lines_name reader.old.lines }
+        ensures agrees { AgreesWith (S.files shelf.new) reader.new.lines }
+        ensures read { IsErrOf result TraceFault.Read → Rose (S.faults shelf.old (lines_name reader.old.lines)) (S.faults shelf.new (lines_name reader.old.lines)) }
+        ensures write { IsErrOf result TraceFault.Write → Rose (K.faults sink.old) (K.faults sink.new) }
+        ensures files { S.files shelf.new ≡ S.files shelf.old }
+        ensures later { NoneFell (S.faults shelf.old) (S.faults shelf.new) }
+        ensures sink_later { K.faults sink.old ≤ K.faults sink.new }
+    {
+        write_before_read(&mut self.text, reader, sink)?;
+        let fields = fields_of(&self.net);
+        reader.next(self.alloc, shelf, fields)
+    }
+
+    // Takes a line of this number.
+    fn take_line(&mut self, line: Line, number: u64) -> Result<(), TraceFault>
+        requires fits { FitsLine (comps self.old.net.tables) line }
+        requires room { self.old.net.injected < 2 ^ 63 }
+        ensures comes { (t : Tables) (hops : Bool) (file : List ℕ) (left : Spelled) (start now : Maybe (List ℕ)) →
+            Comes t hops file (with_said number (at_ports t (said_of line)) left) self.old start now → ComesOn t hops file left self.new start now result }
+        ensures tables { self.new.net.tables ≡ self.old.net.tables }
+        ensures injected { self.new.net.injected ≤ self.old.net.injected + 1 }
+        ensures fault { (IsErrOf result TraceFault.Read ⊎ IsErrOf result TraceFault.Write) → ⊥ }
+    {
+        match line {
+            Line::Skip => Ok(()),
+            Line::Inject { port, packet } => self.take_packet(port, packet, number),
+        }
+    }
+
+    // Injects a packet of the line with this number, lets its copies come to rest, and puts its block behind the text.
+    fn take_packet(&mut self, port: u32, packet: Packet, line: u64) -> Result<(), TraceFault>
+        requires packet { length packet ≡ comps self.old.net.tables }
+        requires port { slice_index packet 0 ≡ port }
+        requires room { self.old.net.injected < 2 ^ 63 }
+        ensures takes { TakesPacket line port packet self.old self.new result }
+        ensures tables { self.new.net.tables ≡ self.old.net.tables }
+        ensures hops { self.new.hops ≡ self.old.hops }
+        ensures injected { self.new.net.injected ≤ self.old.net.injected + 1 }
+    {
+        let number = match self.net.inject(port, packet) {
+            Ok(number) => number,
+            Err(InjectFault::NoPort) => return Err(TraceFault::Packets { line }),
+            Err(InjectFault::NoMemory) => return Err(TraceFault::NoMemory),
+        };
+        let tally = settle(self.alloc, &mut self.net, self.hops)?;
+        let fields = fields_of(&self.net);
+        tally.put_block(&mut self.text, fields, number + 1)?;
+        Ok(())
+    }
+
+    /// Writes what waits, unless a device failed or memory was short.
+    pub(crate) fn close<K: Sink>(
+        &mut self,
+        sink: &mut K,
+        ended: Result<(), TraceFault>,
+    ) -> Result<(), TraceFault>
+        ensures report { (t : Tables) (hops : Bool) (file : List ℕ) (start : Maybe (List ℕ)) →
+            Closes t hops file ended start (K.taken sink.old) self.old.text.items → WritesTrace t hops file result start (K.taken sink.new) }
+        ensures read { IsErrOf result TraceFault.Read → IsErrOf ended TraceFault.Read }
+        ensures write { IsErrOf result TraceFault.Write → IsErrOf ended TraceFault.Write ⊎ Rose (K.faults sink.old) (K.faults sink.new) }
+        ensures later { K.faults sink.old ≤ K.faults sink.new }
+    {
+        if !is_told(&ended) {
+            return ended;
+        }
+        match flush(&mut self.text, sink) {
+            Ok(()) => ended,
+            Err(_) => Err(TraceFault::Write),
+        }
+    }
+}
+
+pub(crate) fn fields_of(net: &Net) -> &Fields
+    ensures { result.now ≡ net.now.tables.fields }
+{
+    &net.tables().tables().fields
+}
+
+// Writes what waits.
+fn flush<K: Sink>(text: &mut Vec<u8>, sink: &mut K) -> Result<(), WriteFailed>
+    ensures puts { Puts (K.taken sink.old) (K.taken sink.new) text.old.items [] result text.new.items }
+    ensures cause { HasCause (K.faults sink.old) (K.faults sink.new) result }
+    ensures none { OnOk result (text.new.items ≡ []) }
+{
+    write_whole(sink, text)?;
+    text.clear();
+    Ok(())
+}
+
+// Writes what waits where a line has to be read, and where much waits.
+fn write_before_read<K: Sink>(
+    text: &mut Vec<u8>,
+    reader: &PacketLines,
+    sink: &mut K,
+) -> Result<(), WriteFailed>
+    ensures puts { Puts (K.taken sink.old) (K.taken sink.new) text.old.items [] result text.new.items }
+    ensures cause { HasCause (K.faults sink.old) (K.faults sink.new) result }
+{
+    if reader.whole() && text.len() < PIECE {
+        return Ok(());
+    }
+    flush(text, sink)
+}
