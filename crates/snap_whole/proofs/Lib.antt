@@ -1,0 +1,4 @@
+pub mod Entered
+pub mod Sets
+pub mod CalmReport
+pub mod Short
