@@ -1,0 +1,95 @@
+-- A network in which each rank handles the packets in the order of their injection.
+use Rattle.std.specs.Prelude.{◌≡◌, ◌≢◌, ℕ, ◌+◌, ◌==◌, Some, List, [], ◌∷◌, ◌++◌, take, drop, length, slice_get, slice_index, if◌then◌else◌}
+use Rattle.std.specs.Int.{to_be_bytes}
+use mir.Syntax.{w64}
+use Rattle.snap_core.specs.Arrays.{Arrays}
+use Rattle.snap_rows.specs.declared.tables.Tables.{Tables}
+use Rattle.snap_rows.specs.declared.head.Head.{Head}
+use Rattle.snap_rows.specs.declared.head.Head.TheVariants.{Walk, Visit}
+use Rattle.snap_rows.specs.declared.head.Action.{Action}
+use Rattle.snap_rows.specs.declared.head.Action.TheVariants.{Forward, Fork}
+use Rattle.snap_rows.specs.Entries.{port_at, rank_at, ranks}
+use Rattle.snap_rows.specs.Handles.{Handles, Follows, is_field}
+use Rattle.snap_rows.specs.Network.{Net, Copy, Event, Inject, Step, Happening, Crossed, Forked, start, injected, moved, happening, stepped}
+use Rattle.snap_head.specs.Frames.{frame}
+use Rattle.snap_gen.specs.InTurn.{Becomes, SentOn, Waiting, Forks, TakesTurns}
+
+-- a state of the network, and the number of packets that each rank has handled
+pub record Ordered : Type 0 where
+  pub net : Net
+  pub handled : ℕ → ℕ
+
+-- what happens to a copy, which is given as it is before its step
+pub data Turn : Type 0 where
+  -- what happens without order
+  Happens : Happening → Turn
+  -- it has made visits, and stays at the switch for its visit of this rank
+  Stays : Copy → ℕ → Turn
+  -- it waits for its visit of this rank
+  Waits : Copy → ℕ → Turn
+
+-- nothing has been injected, and no rank has handled a packet
+abbrev pub begin : Tables → Arrays → Ordered
+begin t m = record { net = start t m; handled = λ r. 0 }
+
+-- the head comes to its visit of rank r at number n: so does a walk, once its field rows are passed
+pub data ComesTo (t : Tables) (w : ℕ) (k : List ℕ) (m : Arrays) : Head → ℕ → ℕ → Type 0 where
+  visit : {r n : ℕ} → ComesTo t w k m (Visit r n) r n
+  walk : {n v : ℕ} → ranks t ≢ 0 → Follows t w k is_field m n v → ComesTo t w k m (Walk n) 0 v
+
+-- the copy is at the owner of rank r for its visit, at number n
+pub record IsBefore (t : Tables) (s : Net) (c : Copy) (r n : ℕ) : Type 0 where
+  pub comes : ComesTo t c.at c.packet (s.stores c.at) c.head r n
+  pub owner : rank_at t r ≡ Some c.at
+
+-- what stands in the place of a copy after its visits
+abbrev pub left_by : Copy → Becomes → List Copy
+left_by c (SentOn to r n) = moved c (Forward to (Visit r n))
+left_by c (Waiting r n) = record c { head = Visit r n; steps = c.steps + 1 } ∷ []
+left_by c (Forks copies lost) = moved c (Fork copies lost)
+
+abbrev pub turn_of : Copy → Becomes → Turn
+turn_of c (SentOn to r n) = Happens (Crossed c to (Visit r n))
+turn_of c (Waiting r n) = Stays c r
+turn_of c (Forks copies lost) = Happens (Forked c (length copies) lost)
+
+-- copy i has made visits, which leave the arrays m at its switch and the numbers h
+abbrev pub visited : Ordered → ℕ → Copy → Arrays → (ℕ → ℕ) → Becomes → Ordered
+visited s i c m h b = record {
+  net = record s.net {
+    stores = λ w. if w == c.at then m else s.net.stores w;
+    flying = take i s.net.flying ++ (left_by c b ++ drop (i + 1) s.net.flying);
+  };
+  handled = h;
+}
+
+-- the event can be done, and leads from s to s'; an injection is no turn
+pub data LeadsInTurn (t : Tables) (s : Ordered) : Event → Ordered → List Turn → Type 0 where
+  injects : {port w : ℕ} {k : List ℕ} → port_at t port ≡ Some w → slice_index k 0 ≡ port → LeadsInTurn t s (Inject port k) (record s { net = injected s.net w port k }) []
+  -- a copy that isn't before a visit steps as it does without order
+  moves : {i : ℕ} {c : Copy} {m : Arrays} {a : Action} → slice_get s.net.flying i ≡ Some c → ((r n : ℕ) → ¬ IsBefore t s.net c r n) → Handles t c.at c.packet (s.net.stores c.at) c.head m a
+      → LeadsInTurn t s (Step i) (record s { net = stepped s.net i c m a }) (Happens (happening c a) ∷ [])
+  -- one before a visit makes it if the rank has handled just the packets before its own, and those after it that are in turn too
+  visits : {i : ℕ} {c : Copy} {r n : ℕ} {m : Arrays} {h : ℕ → ℕ} {b : Becomes} → slice_get s.net.flying i ≡ Some c → IsBefore t s.net c r n → s.handled r ≡ c.number
+      → TakesTurns t c.at c.packet c.number (s.net.stores c.at) s.handled r n m h b → LeadsInTurn t s (Step i) (visited s i c m h b) (turn_of c b ∷ [])
+  -- else it waits, and nothing changes
+  waits : {i : ℕ} {c : Copy} {r n : ℕ} → slice_get s.net.flying i ≡ Some c → IsBefore t s.net c r n → s.handled r ≢ c.number → LeadsInTurn t s (Step i) s (Waits c r ∷ [])
+
+-- the events lead from s to s'
+pub data RunsInTurn (t : Tables) : Ordered → List Event → Ordered → List Turn → Type 0 where
+  done : {s : Ordered} → RunsInTurn t s [] s []
+  on : {s s' s'' : Ordered} {e : Event} {es : List Event} {u us : List Turn} → LeadsInTurn t s e s' u → RunsInTurn t s' es s'' us → RunsInTurn t s (e ∷ es) s'' (u ++ us)
+
+abbrev pub RunInTurn : Tables → Arrays → List Event → Ordered → List Turn → Type 0
+RunInTurn t m es s us = RunsInTurn t (begin t m) es s us
+
+-- what happens without order
+abbrev pub happenings : List Turn → List Happening
+happenings [] = []
+happenings (Happens h ∷ us) = h ∷ happenings us
+happenings (Stays c r ∷ us) = happenings us
+happenings (Waits c r ∷ us) = happenings us
+
+-- the frame that crosses a link: the packet's number, and the frame of the head and the packet
+abbrev pub numbered_frame : ℕ → Head → List ℕ → List ℕ
+numbered_frame i head k = to_be_bytes w64 i ++ frame head k
