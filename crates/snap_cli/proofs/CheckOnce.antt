@@ -8,6 +8,7 @@ use Rattle.snap_ctx.specs.Meets.{IsPacket}
 use Rattle.snap_build.specs.Whole.{IsRaceOf}
 use Rattle.snap_io.specs.Files.{Files, file_of}
 use Rattle.snap_names.specs.Declarations.{core_program}
+use Rattle.snap_cli.specs.declared.refusal.Refusal.{Refusal}
 use Rattle.snap_cli.specs.declared.refusal.Refusal.TheVariants.{Race}
 use Rattle.snap_cli.specs.Check.{EndsCheck, EndsJudged, IsCheckText, IsJudgedText, NeverRaces, Races}
 use Rattle.snap_cli.specs.Laws.{IsSameEnding, SpellsOneProgram}
@@ -40,7 +41,12 @@ judged_status p q same (Ok u) h = inl (refl, same_never p q same h)
 judged_status p q same (Err (Race text)) h = inr (refl, (h.0, h.1, same_race p q same h.0 h.1 h.2))
 judged_status p q same (Err e) h = absurd h
 
-judged_once : (p q : Program) → core_program p ≡ core_program q → (a b : Ending) → EndsJudged p a → EndsJudged q b → IsSameEnding a b
+-- the race that is told of a program that was read
+pub judged_race : (p q : Program) → core_program p ≡ core_program q → (e : Refusal) → EndsJudged p (Err e) → Races q × (status_of (Err e) ≡ 10)
+judged_race p q same (Race text) h = ((h.0, h.1, same_race p q same h.0 h.1 h.2), refl)
+judged_race p q same e h = absurd h
+
+pub judged_once : (p q : Program) → core_program p ≡ core_program q → (a b : Ending) → EndsJudged p a → EndsJudged q b → IsSameEnding a b
 judged_once p q same (Ok u) (Ok v) h k = inl refl
 judged_once p q same (Ok u) (Err (Race text)) h k = absurd (never_both p q same h k.0 k.1 k.2)
 judged_once p q same (Err (Race text)) (Ok v) h k = absurd (never_both q p (sym same) k h.0 h.1 h.2)

@@ -3,7 +3,7 @@ use Rattle.std.proofs.Common.{ℕ, List, [], Option, Some, None, IfSome, Ok, Err
 use Rattle.snap_core.specs.declared.program.Program.{Program}
 use Rattle.snap_io.specs.Files.{Files, file_of}
 use Rattle.snap_words.specs.Commands.{deps}
-use Rattle.snap_cli.specs.declared.refusal.Refusal.TheVariants.{Usage, Read, Write, Syntax, Naming, Limit, Topology, Unreachable, Race, Packets, NoMemory, Undefined, Declarations, Differ, Demand}
+use Rattle.snap_cli.specs.declared.refusal.Refusal.TheVariants.{Write, NoMemory}
 use Rattle.snap_cli.specs.Deps.{MeetsText}
 use Rattle.snap_cli.specs.Deserved.{Meets}
 use Rattle.snap_cli.specs.ProgramOf.{ProgramOf}
@@ -20,19 +20,7 @@ meets-text : (files : Files) (p : List ℕ) (program : Program) (old new : Optio
 meets-text files p program old new (Ok u) h m = (inr (program, h, refl), (m.0, inr (program, h, m.1), m.2))
 meets-text files p program old new (Err Write) h m = inr (m.0, inr (program, h, m.1), m.2)
 meets-text files p program old new (Err NoMemory) h m = ([], refl, (0, m))
-meets-text files p program old new (Err Usage) h m = absurd m
-meets-text files p program old new (Err (Read name)) h m = absurd m
-meets-text files p program old new (Err (Topology fault)) h m = absurd m
-meets-text files p program old new (Err (Unreachable switches a b)) h m = absurd m
-meets-text files p program old new (Err (Race text)) h m = absurd m
-meets-text files p program old new (Err (Demand fault)) h m = absurd m
-meets-text files p program old new (Err (Packets line)) h m = absurd m
-meets-text files p program old new (Err (Undefined packet)) h m = absurd m
-meets-text files p program old new (Err Declarations) h m = absurd m
-meets-text files p program old new (Err (Differ text)) h m = absurd m
-meets-text files p program old new (Err (Syntax fault spot)) h m = absurd m
-meets-text files p program old new (Err (Naming fault spot)) h m = absurd m
-meets-text files p program old new (Err (Limit which count)) h m = absurd m
+meets-text files p program old new (Err e) h m = absurd m
 
 pub deps-text : (told : Option Files) (p : List ℕ) (program : Program) (old new : Option (List ℕ)) (e : Ending) → IfSome told (λ files. GivesProgram p (file_of files p) (Ok program))
     → MeetsText program e old new → IfSome told (λ files. Meets files (deps p) e old new)

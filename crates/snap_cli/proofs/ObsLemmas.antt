@@ -9,7 +9,7 @@ use Rattle.snap_trace.specs.declared.fault.TraceFault.TheVariants as run
 use Rattle.snap_trace.specs.OneSwitch.{WritesReport}
 use Rattle.snap_words.specs.Commands.{obs}
 use Rattle.snap_cli.specs.declared.refusal.Refusal.{Refusal}
-use Rattle.snap_cli.specs.declared.refusal.Refusal.TheVariants.{Usage, Read, Write, Syntax, Naming, Limit, Topology, Unreachable, Race, Packets, NoMemory, Undefined, Declarations, Differ, Demand}
+use Rattle.snap_cli.specs.declared.refusal.Refusal.TheVariants.{Read, Write, NoMemory}
 use Rattle.snap_cli.specs.Deserved.{Meets}
 use Rattle.snap_cli.specs.Obs.{EndsObs, IsObsText, MeetsRun, RunsTo}
 use Rattle.snap_cli.specs.ProgramOf.{ProgramOf}
@@ -35,18 +35,7 @@ meets-run files p q program old new (Err (Read name)) h m = (m.1.0, inr (m.0, (p
 meets-run files p q program old new (Err NoMemory) h m = (m.0, inr (program, h, m.1), m.2)
 meets-run files p q program old new (Err Write) h (inl m) = inl (m.0, inr (program, h, m.1), m.2)
 meets-run files p q program old new (Err Write) h (inr m) = inr (m.0, inr (program, h, m.1), m.2)
-meets-run files p q program old new (Err Usage) h m = whole-run files p q program old new (Err Usage) h m
-meets-run files p q program old new (Err (Syntax fault spot)) h m = whole-run files p q program old new (Err (Syntax fault spot)) h m
-meets-run files p q program old new (Err (Naming fault spot)) h m = whole-run files p q program old new (Err (Naming fault spot)) h m
-meets-run files p q program old new (Err (Limit which count)) h m = whole-run files p q program old new (Err (Limit which count)) h m
-meets-run files p q program old new (Err (Topology fault)) h m = whole-run files p q program old new (Err (Topology fault)) h m
-meets-run files p q program old new (Err (Unreachable switches a b)) h m = whole-run files p q program old new (Err (Unreachable switches a b)) h m
-meets-run files p q program old new (Err (Race text)) h m = whole-run files p q program old new (Err (Race text)) h m
-meets-run files p q program old new (Err (Demand fault)) h m = whole-run files p q program old new (Err (Demand fault)) h m
-meets-run files p q program old new (Err (Packets line)) h m = whole-run files p q program old new (Err (Packets line)) h m
-meets-run files p q program old new (Err (Undefined packet)) h m = whole-run files p q program old new (Err (Undefined packet)) h m
-meets-run files p q program old new (Err Declarations) h m = whole-run files p q program old new (Err Declarations) h m
-meets-run files p q program old new (Err (Differ text)) h m = whole-run files p q program old new (Err (Differ text)) h m
+meets-run files p q program old new (Err e) h m = whole-run files p q program old new (Err e) h m
 
 pub obs-run : (told now : Option Files) (p q : List ℕ) (program : Program) (old new : Option (List ℕ)) (e : Ending) → now ≡ told
     → IfSome told (λ files. GivesProgram p (file_of files p) (Ok program)) → IfSome now (λ files. MeetsRun program q (file_of files q) e old new)

@@ -18,7 +18,7 @@ use Rattle.snap_cli.specs.Refusals.{Ending}
 use Rattle.snap_trace.proofs.SwitchLemmas.{switch-take}
 use Rattle.snap_cli.proofs.SameCore.{same_report}
 
-run_ends_once : (r : RunEnding) (a b : Ending) → IsRunEnding r a → IsRunEnding r b → a ≡ b
+pub run_ends_once : (r : RunEnding) (a b : Ending) → IsRunEnding r a → IsRunEnding r b → a ≡ b
 run_ends_once (Ok u) a b h k = h ∙ sym k
 run_ends_once (Err (run.Limit which count)) a b h k = h ∙ sym k
 run_ends_once (Err (run.Packets line)) a b h k = h ∙ sym k

@@ -5,106 +5,27 @@ use Rattle.std.specs.Prelude.{Vec}
 use Rattle.std.specs.Io.KnownBytes.{Appends}
 use Rattle.std.specs.declared.alloc.Global.{Global}
 use Rattle.snap_core.specs.declared.program.Program.{Program}
-use Rattle.snap_core.specs.declared.program.Which.TheVariants.{Bytes}
 use Rattle.snap_dep.specs.Ranks.{Grouping, IsGrouping}
 use Rattle.snap_io.specs.Files.{Files, file_of}
 use Rattle.snap_io.specs.Sinks.{AppendsPart}
 use Rattle.snap_topo.specs.declared.topology.Topology.{Topology}
-use Rattle.snap_route.specs.Tables.{AreRoutes, IsUnreachable, Table}
-use Rattle.snap_route.specs.declared.table.RouteFault.{RouteFault}
-use Rattle.snap_route.specs.declared.table.RouteFault.TheVariants as route
-use Rattle.snap_route.specs.Faults.{IsCause}
+use Rattle.snap_route.specs.Tables.{Table}
 use Rattle.snap_seek.specs.declared.demand.DemandFault.{DemandFault}
 use Rattle.snap_seek.specs.declared.demand.DemandFault.TheVariants as seek
 use Rattle.snap_seek.specs.Answer.{IsAnswer}
 use Rattle.snap_words.specs.Commands.{place}
-use Rattle.snap_cli.specs.declared.place.Network.{Network}
+use Rattle.snap_cli.specs.declared.network.Network.{Network}
 use Rattle.snap_cli.specs.declared.refusal.Refusal.{Refusal}
-use Rattle.snap_cli.specs.declared.refusal.Refusal.TheVariants.{Usage, Read, Write, Syntax, Naming, Limit, Topology as NoTopology, Unreachable, Demand, Race, Packets, NoMemory, Undefined, Declarations, Differ}
+use Rattle.snap_cli.specs.declared.refusal.Refusal.TheVariants.{Read, Write, NoMemory}
 use Rattle.snap_cli.specs.Deserved.{Meets}
+use Rattle.snap_cli.specs.NetworkSteps.{GivesNetwork}
 use Rattle.snap_cli.specs.Place.{HasNoDemand, HasNoPlacement, HasNoPlacementOn, IsOneOf, SpellsNoDemand, refusal_of_demand}
-use Rattle.snap_cli.specs.PlaceSteps.{GivesDemandText, GivesNetwork, GivesPlacement, IsPlacement, Places, PlacesFor, PlacesOn, RefusesBy}
+use Rattle.snap_cli.specs.PlaceSteps.{GivesPlacement, IsPlacement, Places, PlacesFor, PlacesOn}
 use Rattle.snap_cli.specs.ProgramOf.{ProgramOf}
 use Rattle.snap_cli.specs.Routes.{HasNoRoutes}
-use Rattle.snap_cli.specs.RoutesSteps.{GivesTopology, refusal_of_routes}
 use Rattle.snap_cli.specs.Steps.{GivesProgram}
-use Rattle.snap_cli.specs.TopologyOf.{TopologyOf}
-
--- ---- refusals
-
--- a refusal for one reason is one for another
-by-map : (reads also : List ℕ → Type 0) (why because : Refusal → Type 0) → ((name : List ℕ) → reads name → also name) → ((e : Refusal) → why e → because e) → (e : Refusal) → RefusesBy reads why e → RefusesBy also because e
-by-map reads also why because f g (Read name) h = f name.now h
-by-map reads also why because f g NoMemory h = tt
-by-map reads also why because f g Usage h = g Usage h
-by-map reads also why because f g Write h = g Write h
-by-map reads also why because f g (Syntax fault spot) h = g (Syntax fault spot) h
-by-map reads also why because f g (Naming fault spot) h = g (Naming fault spot) h
-by-map reads also why because f g (Limit which count) h = g (Limit which count) h
-by-map reads also why because f g (NoTopology fault) h = g (NoTopology fault) h
-by-map reads also why because f g (Unreachable switches a b) h = g (Unreachable switches a b) h
-by-map reads also why because f g (Demand fault) h = g (Demand fault) h
-by-map reads also why because f g (Race text) h = g (Race text) h
-by-map reads also why because f g (Packets line) h = g (Packets line) h
-by-map reads also why because f g (Undefined packet) h = g (Undefined packet) h
-by-map reads also why because f g Declarations h = g Declarations h
-by-map reads also why because f g (Differ text) h = g (Differ text) h
-
-by-program : (name file : List ℕ) (e : Refusal) → GivesProgram name file (Err e) → RefusesBy (λ failed. failed ≡ name) (λ refusal. ProgramOf file (Err refusal)) e
-by-program name file (Read failed) h = h
-by-program name file NoMemory h = tt
-by-program name file Usage h = h
-by-program name file Write h = h
-by-program name file (Syntax fault spot) h = h
-by-program name file (Naming fault spot) h = h
-by-program name file (Limit which count) h = h
-by-program name file (NoTopology fault) h = h
-by-program name file (Unreachable switches a b) h = h
-by-program name file (Demand fault) h = h
-by-program name file (Race text) h = h
-by-program name file (Packets line) h = h
-by-program name file (Undefined packet) h = h
-by-program name file Declarations h = h
-by-program name file (Differ text) h = h
-
-by-topology : (name file : List ℕ) (e : Refusal) → GivesTopology name file (Err e) → RefusesBy (λ failed. failed ≡ name) (HasNoRoutes file) e
-by-topology name file (Read failed) h = h
-by-topology name file NoMemory h = tt
-by-topology name file (Unreachable switches a b) (inl h) = absurd (let e = h.1 in cc)
-by-topology name file (Unreachable switches a b) (inr h) = absurd h.1
-by-topology name file Usage h = h
-by-topology name file Write h = h
-by-topology name file (Syntax fault spot) h = h
-by-topology name file (Naming fault spot) h = h
-by-topology name file (Limit which count) h = h
-by-topology name file (NoTopology fault) h = h
-by-topology name file (Demand fault) h = h
-by-topology name file (Race text) h = h
-by-topology name file (Packets line) h = h
-by-topology name file (Undefined packet) h = h
-by-topology name file Declarations h = h
-by-topology name file (Differ text) h = h
-
--- ---- a topology and its routes
-
-network-fault : (name file : List ℕ) (t : Topology) (fault : RouteFault) → TopologyOf file (Ok t) → IsCause (IsUnreachable t) fault → GivesNetwork name file (Err (refusal_of_routes t.switches fault))
-network-fault name file t (route.Unreachable a b) read h = (t, read, h, refl)
-network-fault name file t route.NoMemory read h = tt
-
-pub told-network : (told : Option Files) (name : List ℕ) (t : Topology) (table : Table) → IfSome told (λ files. GivesTopology name (file_of files name) (Ok t)) → AreRoutes t table
-    → IfSome told (λ files. GivesNetwork name (file_of files name) (Ok (record { topology = t; routes = table })))
-told-network None name t table h are = tt
-told-network (Some files) name t table h are = (h, are)
-
-pub told-no-topology : (told : Option Files) (name : List ℕ) (e : Refusal) → IfSome told (λ files. GivesTopology name (file_of files name) (Err e)) → IfSome told (λ files. GivesNetwork name (file_of files name) (Err e))
-told-no-topology None name e h = tt
-told-no-topology (Some files) name e h = by-topology name (file_of files name) e h
-
-pub told-no-routes : (told : Option Files) (name : List ℕ) (t : Topology) (fault : RouteFault) (e : Refusal) → e ≡ refusal_of_routes t.switches fault → IfSome told (λ files. GivesTopology name (file_of files name) (Ok t))
-    → IsCause (IsUnreachable t) fault → IfSome told (λ files. GivesNetwork name (file_of files name) (Err e))
-told-no-routes None name t fault e is h cause = tt
-told-no-routes (Some files) name t fault e is h cause =
-    subst (λ x. GivesNetwork name (file_of files name) (Err x)) (sym is) (network-fault name (file_of files name) t fault h cause)
+use Rattle.snap_cli.specs.Texts.{GivesText, IsTooLong}
+use Rattle.snap_cli.proofs.RefusedBy.{by-map, by-program}
 
 -- ---- a demand
 
@@ -136,18 +57,18 @@ for-placed p t table name file text (Ok made) same short h =
 for-placed p t table name file text (Err e) same short h =
     by-map (λ failed. ⊥) (λ failed. failed ≡ name) (SpellsNoDemand p t text) (HasNoDemand p t file) (λ failed no. absurd no) (λ x no. inr (short, subst (λ y. SpellsNoDemand p t y x) same no)) e h
 
-pub told-for : (told : Option Files) (p : Program) (t : Topology) (table : Table) (name : List ℕ) (text : Vec ℕ Global) (seen : List ℕ) (r : Result (Vec ℕ Global) Refusal) → IfSome told (λ files. GivesDemandText name (file_of files name) (Ok text))
+pub told-for : (told : Option Files) (p : Program) (t : Topology) (table : Table) (name : List ℕ) (text : Vec ℕ Global) (seen : List ℕ) (r : Result (Vec ℕ Global) Refusal) → IfSome told (λ files. GivesText 1048576 name (file_of files name) (Ok text))
     → seen ≡ text.items → Places p t table seen r → IfSome told (λ files. PlacesFor p t table name (file_of files name) r)
 told-for None p t table name text seen r h same places = tt
 told-for (Some files) p t table name text seen r h same places =
     for-placed p t table name (file_of files name) text.items r h.0 h.1 (subst (λ x. Places p t table x r) same places)
 
-pub told-unread : (told : Option Files) (p : Program) (t : Topology) (table : Table) (name : List ℕ) (e : Refusal) → IfSome told (λ files. GivesDemandText name (file_of files name) (Err e))
+pub told-unread : (told : Option Files) (p : Program) (t : Topology) (table : Table) (name : List ℕ) (e : Refusal) → IfSome told (λ files. GivesText 1048576 name (file_of files name) (Err e))
     → IfSome told (λ files. PlacesFor p t table name (file_of files name) (Err e))
 told-unread None p t table name e h = tt
 told-unread (Some files) p t table name e h =
     let file = file_of files name in
-    by-map (λ failed. failed ≡ name) (λ failed. failed ≡ name) (λ x. (1048576 < length file) × (x ≡ Limit Bytes 1048577)) (HasNoDemand p t file) (λ failed is. is) (λ x long. inl long) e h
+    by-map (λ failed. failed ≡ name) (λ failed. failed ≡ name) (IsTooLong 1048576 file) (HasNoDemand p t file) (λ failed is. is) (λ x long. inl long) e h
 
 on-placed : (files : Files) (p : Program) (topology demand : List ℕ) (n : Network) (r : Result (Vec ℕ Global) Refusal) → GivesNetwork topology (file_of files topology) (Ok n) → PlacesFor p n.topology n.routes demand (file_of files demand) r
     → PlacesOn files p topology demand r
@@ -190,18 +111,7 @@ module _ (files : Files) (program topology demand : List ℕ) where
   meets-refused out (Read name) h = ([], (h, refl), (0, Appends-nil out))
   meets-refused out NoMemory h = ([], refl, (0, Appends-nil out))
   meets-refused out Write h = inl ([], refl, (0, Appends-nil out))
-  meets-refused out Usage h = (h, ([], inl (Usage, h, refl), Appends-nil out))
-  meets-refused out (Syntax fault spot) h = (h, ([], inl (Syntax fault spot, h, refl), Appends-nil out))
-  meets-refused out (Naming fault spot) h = (h, ([], inl (Naming fault spot, h, refl), Appends-nil out))
-  meets-refused out (Limit which count) h = (h, ([], inl (Limit which count, h, refl), Appends-nil out))
-  meets-refused out (NoTopology fault) h = (h, ([], inl (NoTopology fault, h, refl), Appends-nil out))
-  meets-refused out (Unreachable switches a b) h = (h, ([], inl (Unreachable switches a b, h, refl), Appends-nil out))
-  meets-refused out (Demand fault) h = (h, ([], inl (Demand fault, h, refl), Appends-nil out))
-  meets-refused out (Race text) h = (h, ([], inl (Race text, h, refl), Appends-nil out))
-  meets-refused out (Packets line) h = (h, ([], inl (Packets line, h, refl), Appends-nil out))
-  meets-refused out (Undefined packet) h = (h, ([], inl (Undefined packet, h, refl), Appends-nil out))
-  meets-refused out Declarations h = (h, ([], inl (Declarations, h, refl), Appends-nil out))
-  meets-refused out (Differ text) h = (h, ([], inl (Differ text, h, refl), Appends-nil out))
+  meets-refused out e h = (h, ([], inl (e, h, refl), Appends-nil out))
 
 pub told-refused : (told : Option Files) (program topology demand : List ℕ) (out : Option (List ℕ)) (e : Refusal) → IfSome told (λ files. GivesPlacement files program topology demand (Err e))
     → IfSome told (λ files. Meets files (place program topology demand) (Err e) out out)

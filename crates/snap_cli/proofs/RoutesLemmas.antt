@@ -9,7 +9,7 @@ use Rattle.snap_route.specs.Faults.{IsCause}
 use Rattle.snap_route.specs.Tables.{Table, AreRoutes, IsUnreachable}
 use Rattle.snap_words.specs.Commands.{routes}
 use Rattle.snap_cli.specs.declared.refusal.Refusal.{Refusal}
-use Rattle.snap_cli.specs.declared.refusal.Refusal.TheVariants.{Usage, Read, Write, Syntax, Naming, Limit, Topology as NoTopology, Unreachable, Race, Packets, NoMemory, Undefined, Declarations, Differ, Demand}
+use Rattle.snap_cli.specs.declared.refusal.Refusal.TheVariants.{Read, Write, Unreachable, NoMemory}
 use Rattle.snap_cli.specs.Deserved.{Meets}
 use Rattle.snap_cli.specs.Refusals.{Ending}
 use Rattle.snap_cli.specs.Routes.{HasNoRoutes, IsTextOf, routes_text}
@@ -23,17 +23,7 @@ module _ (files : Files) (name : List ℕ) (out : Option (List ℕ)) where
   meets-refused Write h = inl ([], inl refl, (0, Appends-nil out))
   meets-refused (Unreachable switches a b) (inl h) = absurd (let e = h.1 in cc)
   meets-refused (Unreachable switches a b) (inr h) = absurd h.1
-  meets-refused Usage h = (h, ([], inl (Usage, h, refl), Appends-nil out))
-  meets-refused (Syntax fault spot) h = (h, ([], inl (Syntax fault spot, h, refl), Appends-nil out))
-  meets-refused (Naming fault spot) h = (h, ([], inl (Naming fault spot, h, refl), Appends-nil out))
-  meets-refused (Limit which count) h = (h, ([], inl (Limit which count, h, refl), Appends-nil out))
-  meets-refused (NoTopology fault) h = (h, ([], inl (NoTopology fault, h, refl), Appends-nil out))
-  meets-refused (Race text) h = (h, ([], inl (Race text, h, refl), Appends-nil out))
-  meets-refused (Demand fault) h = (h, ([], inl (Demand fault, h, refl), Appends-nil out))
-  meets-refused (Packets line) h = (h, ([], inl (Packets line, h, refl), Appends-nil out))
-  meets-refused (Undefined packet) h = (h, ([], inl (Undefined packet, h, refl), Appends-nil out))
-  meets-refused Declarations h = (h, ([], inl (Declarations, h, refl), Appends-nil out))
-  meets-refused (Differ text) h = (h, ([], inl (Differ text, h, refl), Appends-nil out))
+  meets-refused e h = (h, ([], inl (e, h, refl), Appends-nil out))
 
 module _ (files : Files) (name : List ℕ) (old new : Option (List ℕ)) (t : Topology) (read : TopologyOf (file_of files name) (Ok t)) where
   meets-apart : (e : Ending) → IsApart t e old new → Meets files (routes name) e old new
@@ -49,19 +39,7 @@ module _ (files : Files) (name : List ℕ) (old new : Option (List ℕ)) (t : To
       ((text, is), (text, inr is, h))
   meets-written table are (Err Write) h = inr (routes_text t.switches table, inr (t, table, read, are, refl), h)
   meets-written table are (Err NoMemory) h = (routes_text t.switches table, inr (t, table, read, are, refl), h)
-  meets-written table are (Err Usage) h = absurd h
-  meets-written table are (Err (Read failed)) h = absurd h
-  meets-written table are (Err (Syntax fault spot)) h = absurd h
-  meets-written table are (Err (Naming fault spot)) h = absurd h
-  meets-written table are (Err (Limit which count)) h = absurd h
-  meets-written table are (Err (NoTopology fault)) h = absurd h
-  meets-written table are (Err (Unreachable switches a b)) h = absurd h
-  meets-written table are (Err (Race text)) h = absurd h
-  meets-written table are (Err (Demand fault)) h = absurd h
-  meets-written table are (Err (Packets line)) h = absurd h
-  meets-written table are (Err (Undefined packet)) h = absurd h
-  meets-written table are (Err Declarations) h = absurd h
-  meets-written table are (Err (Differ text)) h = absurd h
+  meets-written table are (Err e) h = absurd h
 
   meets-topology : (e : Ending) → MeetsTopology t e old new → Meets files (routes name) e old new
   meets-topology e (inl h) = meets-written h.0 h.1 e h.2

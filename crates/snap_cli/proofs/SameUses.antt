@@ -131,6 +131,10 @@ module _ (p q : Program) (same : core_program p ≡ core_program q) where
   same_depends : (s t : ℕ) → Depends p.body s t ≡ Depends q.body s t
   same_depends s t = by_depends p.body s t ∙ (ap (λ (c : CoreProgram). core_depends c.body s t) same ∙ sym (by_depends q.body s t))
 
+  -- what is tied in the one is tied in the other
+  pub same_tied : (s t : ℕ) → Tied p.body s t → Tied q.body s t
+  same_tied s t h = tie p.body q.body (λ a b d. transport (same_depends a b) d) s t h
+
   -- the groups of the one are those of the other
   pub grouped : (g : Grouping) → IsGrouping p.body (length p.vars) g → IsGrouping q.body (length q.vars) g
   grouped g h =

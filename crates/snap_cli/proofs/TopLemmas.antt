@@ -1,15 +1,20 @@
 -- What the top call did, from what its parts did.
-use Rattle.std.proofs.Common.{◌≡◌, ℕ, List, length, Result, Ok, Err, OnOk, OnErr, refl, sym, subst, inl, inr, arith}
+use Rattle.std.proofs.Common.{◌≡◌, ◌⊎◌, ℕ, List, [], length, Result, Ok, Err, None, Some, IfSome, OnOk, OnErr, refl, sym, subst, inl, inr, arith}
+use Rattle.std.specs.Prelude.{MatchOption}
 use Rattle.std.specs.declared.option.Option.{Option}
 use Rattle.std.specs.Io.KnownBytes.{Appends}
+use Rattle.std.proofs.KnownBytes.{Appends-nil}
 use Rattle.std.proofs.lemmas.List.{take_all}
 use Rattle.snap_io.specs.Causes.{HasCause}
 use Rattle.snap_io.specs.Sinks.{AppendsPart}
 use Rattle.snap_cli.specs.declared.refusal.Refusal.{Refusal}
-use Rattle.snap_cli.specs.declared.refusal.Refusal.TheVariants.{Usage, Read, Write, Syntax, Naming, Limit, Topology, Unreachable, Race, Packets, NoMemory, Undefined, Declarations, Differ, Demand}
+use Rattle.snap_io.specs.Files.{Files}
+use Rattle.snap_words.specs.Commands.{Command, command_of, obs, deps, check, equal, routes, place, compile, trace}
+use Rattle.snap_cli.specs.Answers.{MeetsWords}
+use Rattle.snap_cli.specs.declared.refusal.Refusal.TheVariants.{Read, Usage, NoMemory}
 use Rattle.snap_cli.specs.Causes.{HasCauses, IsReadOf}
-use Rattle.snap_cli.specs.Deserved.{Tells}
-use Rattle.snap_cli.specs.Refusals.{status_of}
+use Rattle.snap_cli.specs.Deserved.{MayPrecede, Meets, Tells}
+use Rattle.snap_cli.specs.Refusals.{Ending, status_of}
 use Rattle.snap_io.specs.Causes.{Rose}
 
 pub tells : {E : Type 0} (before now : ℕ) (old new : Option (List ℕ)) (message : List ℕ) (r : Result (Unit {0}) E)
@@ -20,22 +25,30 @@ tells before now old new message (Err e) ok err cause = record { part = err; who
 
 -- the file of which a status 2 tells
 unread : (refusal : Refusal) → status_of (Err refusal) ≡ 2 → (name : List ℕ) × IsReadOf {X = Unit {0}} name (Err refusal)
-unread Usage e = absurd (cc)
 unread (Read name) e = (name.now, refl)
-unread Write e = absurd (cc)
-unread (Syntax fault spot) e = absurd (cc)
-unread (Naming fault spot) e = absurd (cc)
-unread (Limit which count) e = absurd (cc)
-unread (Topology fault) e = absurd (cc)
-unread (Unreachable switches a b) e = absurd (cc)
-unread (Race text) e = absurd (cc)
-unread (Demand fault) e = absurd (cc)
-unread (Packets line) e = absurd (cc)
-unread NoMemory e = absurd (cc)
-unread (Undefined packet) e = absurd (cc)
-unread Declarations e = absurd (cc)
-unread (Differ text) e = absurd (cc)
+unread refusal e = absurd (cc)
 
 pub read-rose : (before now : List ℕ → ℕ) (out_before out_now : ℕ) (refusal : Refusal) → HasCauses before now out_before out_now (Err refusal) → status_of (Err refusal) ≡ 2
     → (name : List ℕ) × Rose (before name) (now name)
 read-rose before now out_before out_now refusal causes e = let named = unread refusal e in (named.0, causes.read named.0 named.1)
+
+-- nothing may have gone out where memory is short
+nothing_first : (files : Files) (command : Command) → MayPrecede files command []
+nothing_first files (obs program packets) = inl refl
+nothing_first files (deps program) = refl
+nothing_first files (check program) = refl
+nothing_first files (equal left right) = refl
+nothing_first files (routes topology) = inl refl
+nothing_first files (place program topology demand) = refl
+nothing_first files (compile program topology placement) = inl refl
+nothing_first files (trace tables packets hops) = inl refl
+
+meets_any : (files : Files) (out : Option (List ℕ)) (said : Option Command) (ending : Ending) → ending ≡ Err NoMemory
+    → MatchOption said (((ending ≡ Err Usage) ⊎ (ending ≡ Err NoMemory)) × Appends out out []) (λ command. Meets files command ending out out)
+meets_any files out None ending is = (inr is, Appends-nil out)
+meets_any files out (Some command) ending is = subst (λ e. Meets files command e out out) (sym is) ([], nothing_first files command, (0, Appends-nil out))
+
+-- memory was short before the words were read
+pub meets-short : (told : Option Files) (words : List (List ℕ)) (out : Option (List ℕ)) (ending : Ending) → ending ≡ Err NoMemory → IfSome told (λ files. MeetsWords files words ending out out)
+meets-short None words out ending is = tt
+meets-short (Some files) words out ending is = meets_any files out (command_of words) ending is

@@ -5,15 +5,17 @@ use Rattle.std.specs.Io.KnownBytes.{Appends}
 use Rattle.snap_io.specs.Causes.{Rose}
 use Rattle.snap_io.specs.Files.{Files}
 use Rattle.snap_io.specs.Sinks.{AppendsPart, AppendsSome}
-use Rattle.snap_words.specs.Commands.{Command, check, deps, equal, obs, routes, place}
+use Rattle.snap_words.specs.Commands.{Command, check, compile, deps, equal, obs, routes, place, trace}
 use Rattle.snap_cli.specs.declared.refusal.Refusal.TheVariants.{Read, Write, NoMemory}
 use Rattle.snap_cli.specs.Check.{EndsCheck, IsCheckText}
+use Rattle.snap_cli.specs.Compile.{EndsCompile, IsCompileText, IsReached, MayPrecedeCompile}
 use Rattle.snap_cli.specs.Deps.{EndsDeps, IsDepsText}
 use Rattle.snap_cli.specs.Equal.{EndsEqual, IsEqualText, MayPrecedeReadEqual}
 use Rattle.snap_cli.specs.Obs.{EndsObs, IsObsText, MayPrecedeObs, MayPrecedeReadObs}
 use Rattle.snap_cli.specs.Place.{EndsPlace, IsOneOf, IsPlaceText}
 use Rattle.snap_cli.specs.Refusals.{Ending}
 use Rattle.snap_cli.specs.Routes.{EndsRoutes, IsRoutesText, MayPrecedeRoutes}
+use Rattle.snap_cli.specs.Trace.{EndsTrace, IsTraceText, MayPrecedeReadTrace, MayPrecedeTrace}
 
 -- how each command ends on these files where no device fails and memory is there
 abbrev pub Ends : Files → Command → Ending → Type 0
@@ -23,6 +25,8 @@ Ends files (check program) ending = EndsCheck files program ending
 Ends files (equal left right) ending = EndsEqual files left right ending
 Ends files (routes topology) ending = EndsRoutes files topology ending
 Ends files (place program topology demand) ending = EndsPlace files program topology demand ending
+Ends files (compile program topology placement) ending = EndsCompile files program topology placement ending
+Ends files (trace tables packets hops) ending = EndsTrace files tables packets hops ending
 
 -- the text that has gone out then
 abbrev pub IsText : Files → Command → List ℕ → Type 0
@@ -32,6 +36,8 @@ IsText files (check program) text = IsCheckText files program text
 IsText files (equal left right) text = IsEqualText files left right text
 IsText files (routes topology) text = IsRoutesText files topology text
 IsText files (place program topology demand) text = IsPlaceText files program topology demand text
+IsText files (compile program topology placement) text = IsCompileText files program topology placement text
+IsText files (trace tables packets hops) text = IsTraceText files tables packets hops text
 
 -- of this text some first bytes may have gone out where memory is short
 abbrev pub MayPrecede : Files → Command → List ℕ → Type 0
@@ -41,6 +47,8 @@ MayPrecede files (check program) text = text ≡ []
 MayPrecede files (equal left right) text = text ≡ []
 MayPrecede files (routes topology) text = MayPrecedeRoutes files topology text
 MayPrecede files (place program topology demand) text = text ≡ []
+MayPrecede files (compile program topology placement) text = MayPrecedeCompile files program topology placement text
+MayPrecede files (trace tables packets hops) text = MayPrecedeTrace files tables packets hops text
 
 -- the file with this name is one of the command's, and of this text some first bytes may have gone out where it can't be read
 abbrev pub MayPrecedeRead : Files → Command → (name : List ℕ) → List ℕ → Type 0
@@ -50,6 +58,8 @@ MayPrecedeRead files (check program) name text = (name ≡ program) × (text ≡
 MayPrecedeRead files (equal left right) name text = MayPrecedeReadEqual files left right name text
 MayPrecedeRead files (routes topology) name text = (name ≡ topology) × (text ≡ [])
 MayPrecedeRead files (place program topology demand) name text = IsOneOf program topology demand name × (text ≡ [])
+MayPrecedeRead files (compile program topology placement) name text = IsReached files program topology placement name × (text ≡ [])
+MayPrecedeRead files (trace tables packets hops) name text = MayPrecedeReadTrace files tables packets hops name text
 
 -- The ending is one that the command deserves, and its whole text went out. Or a file of the command couldn't be read,
 -- memory was short or the sink failed, and some first bytes of what may have gone out by then did.

@@ -1,20 +1,28 @@
 -- What words and files deserve is one.
-use Rattle.std.specs.Prelude.{◌≡◌, ◌⊎◌, ℕ, List, Result, Ok, Err, Some}
+use Rattle.std.specs.Prelude.{◌≡◌, ◌⊎◌, ℕ, Bool, List, [], Result, Ok, Err, Some}
 use Rattle.std.specs.declared.option.Option.{Option}
 use Rattle.std.specs.Io.KnownBytes.{Appends}
 use Rattle.snap_core.specs.declared.program.Program.{Program}
 use Rattle.snap_io.specs.Files.{Files, file_of}
+use Rattle.snap_topo.specs.declared.topology.Topology.{Topology}
 use Rattle.snap_names.specs.Declarations.{core_program}
 use Rattle.snap_equal.specs.Same.{MeanSame}
-use Rattle.snap_words.specs.Commands.{Command, check, command_of, equal}
+use Rattle.snap_rows.specs.declared.tables.Tables.{Tables}
+use Rattle.snap_trace.specs.declared.fault.TraceFault.{TraceFault}
+use Rattle.snap_trace.specs.Spelled.{Spelled, ended, refused}
+use Rattle.snap_runs.specs.Plain.{ArePlainBlocks, IsPlainReport, spelled_for}
+use Rattle.snap_words.specs.Commands.{Command, check, command_of, compile, equal, trace}
 use Rattle.snap_cli.specs.declared.refusal.Refusal.{Refusal}
 use Rattle.snap_cli.specs.declared.refusal.Refusal.TheVariants.{Race, Differ}
 use Rattle.snap_cli.specs.Answers.{Answers}
 use Rattle.snap_cli.specs.Check.{NeverRaces, Races}
+use Rattle.snap_cli.specs.Compile.{AreSpelled, IsCompiled}
 use Rattle.snap_cli.specs.Deserved.{Ends, IsText, Tells}
 use Rattle.snap_cli.specs.Equal.{AreComparable, Differs}
+use Rattle.snap_cli.specs.Obs.{IsRunEnding}
 use Rattle.snap_cli.specs.ProgramOf.{ProgramOf}
 use Rattle.snap_cli.specs.Refusals.{Ending, status_of, message_of}
+use Rattle.snap_cli.specs.TablesOf.{TablesOf}
 
 -- one program, wherever its parts lie in memory, or one refusal
 abbrev pub IsSame : Result Program Refusal → Result Program Refusal → Type 0
@@ -40,16 +48,26 @@ IsSameEnding a b = (a ≡ b) ⊎ TellAlike a b
 abbrev pub DeservesOneEnding : Type 0
 DeservesOneEnding = (files : Files) (command : Command) (a b : Ending) → Ends files command a → Ends files command b → IsSameEnding a b
 
--- and one text.
-abbrev pub DeservesOneText : Type 0
-DeservesOneText = (files : Files) (command : Command) (a b : List ℕ) → IsText files command a → IsText files command b → a ≡ b
+-- both are texts of tables that are faithful to what the files of `compile` spell
+abbrev pub AreBothCompiled : Files → Command → List ℕ → List ℕ → Type 0
+AreBothCompiled files (compile program topology placement) a b = IsCompiled files program topology placement a × IsCompiled files program topology placement b
+AreBothCompiled files command a b = ⊥
 
--- the command deserves this ending and this text, and no others, but for a race or a difference that another store and packet tell
+-- One text. Of `compile` it is that of any tables that are faithful: not these are determined, but what networks do with them.
+abbrev pub IsSameText : Files → Command → List ℕ → List ℕ → Type 0
+IsSameText files command a b = (a ≡ b) ⊎ AreBothCompiled files command a b
+
+-- and one text, but that each faithful tables may be written.
+abbrev pub DeservesOneText : Type 0
+DeservesOneText = (files : Files) (command : Command) (a b : List ℕ) → IsText files command a → IsText files command b → IsSameText files command a b
+
+-- the command deserves this ending and this text, and no others, but for a race or a difference that another store and packet
+-- tell, and for other tables that are faithful
 pub record IsDue (files : Files) (command : Command) (ending : Ending) (text : List ℕ) : Type 0 where
   pub ends : Ends files command ending
   pub no_other_ending : (e : Ending) → Ends files command e → IsSameEnding e ending
   pub has_text : IsText files command text
-  pub no_other_text : (t : List ℕ) → IsText files command t → t ≡ text
+  pub no_other_text : (t : List ℕ) → IsText files command t → IsSameText files command t text
 
 -- a call's status and message are those of the ending, and the whole text went out
 pub record IsExact (ending : Ending) (text : List ℕ) (status : ℕ) (out_old out_new : Option (List ℕ))
@@ -86,3 +104,32 @@ EqualsExactly = (words : List (List ℕ)) (files : Files) (left right : List ℕ
     → command_of words ≡ Some (equal left right) → ProgramOf (file_of files left) (Ok p) → ProgramOf (file_of files right) (Ok q) → AreComparable p q
     → Answers words (Some files) status shelf_before shelf_now out_before out_now out_old out_new err_before err_now err_old err_new
     → IsFailure status ⊎ (((status ≡ 0) × MeanSame p q) ⊎ ((status ≡ 18) × Differs p q))
+
+-- **Where no device failed and memory was there, `compile` of a program, a topology with routes and a placement answers 0 just
+-- where the program never races, and has then written the text of tables that are faithful to them; and 10 just where it
+-- races, and nothing has gone out.**
+abbrev pub CompilesExactly : Type 0
+CompilesExactly = (words : List (List ℕ)) (files : Files) (program topology placement : List ℕ) (p : Program) (t : Topology) (places : List ℕ) (status : ℕ) (shelf_before shelf_now : List ℕ → ℕ)
+    (out_before out_now : ℕ) (out_old out_new : Option (List ℕ)) (err_before err_now : ℕ) (err_old err_new : Option (List ℕ))
+    → command_of words ≡ Some (compile program topology placement) → AreSpelled files program topology placement p t places
+    → Answers words (Some files) status shelf_before shelf_now out_before out_now out_old out_new err_before err_now err_old err_new
+    → IsFailure status
+    ⊎ (((status ≡ 0) × (Races p → ⊥) × ((text : List ℕ) × IsCompiled files program topology placement text × Appends out_old out_new text))
+    ⊎ ((status ≡ 10) × Races p × Appends out_old out_new []))
+
+-- a packets file was read to its end, and the report of the plain run of its packets went out; or reading stopped at what is
+-- refused so, and the blocks of the packets before it did
+abbrev pub TracesAs : Tables → (hops : Bool) → Spelled → (status : ℕ) → Option (List ℕ) → Option (List ℕ) → Type 0
+TracesAs t hops read status old new =
+    ((status ≡ 0) × (read.stop ≡ ended) × ((text : List ℕ) × IsPlainReport t hops read.packets text × Appends old new text))
+    ⊎ ((fault : TraceFault) × (ending : Ending) × (read.stop ≡ refused fault) × IsRunEnding (Err fault) ending × (status ≡ status_of ending)
+    × ((text : List ℕ) × ArePlainBlocks t hops read.packets text × Appends old new text))
+
+-- **Where no device failed and memory was there, `trace` of tables that a file spells answers 0 just where all lines of the
+-- packets file are in form, and has then written the report of the plain run of its packets.**
+abbrev pub TracesExactly : Type 0
+TracesExactly = (words : List (List ℕ)) (files : Files) (tables packets : List ℕ) (hops : Bool) (t : Tables) (status : ℕ) (shelf_before shelf_now : List ℕ → ℕ)
+    (out_before out_now : ℕ) (out_old out_new : Option (List ℕ)) (err_before err_now : ℕ) (err_old err_new : Option (List ℕ))
+    → command_of words ≡ Some (trace tables packets hops) → TablesOf (file_of files tables) (Ok t)
+    → Answers words (Some files) status shelf_before shelf_now out_before out_now out_old out_new err_before err_now err_old err_new
+    → IsFailure status ⊎ TracesAs t hops (spelled_for t (file_of files packets)) status out_old out_new

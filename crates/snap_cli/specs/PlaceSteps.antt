@@ -1,8 +1,7 @@
 -- What a step of `place` gives.
-use Rattle.std.specs.Prelude.{◌≡◌, ◌⊎◌, ◌<◌, ◌≤◌, ℕ, List, length, Result, Ok, Err, Vec}
+use Rattle.std.specs.Prelude.{◌≡◌, ◌⊎◌, ℕ, List, length, Result, Ok, Err, Vec}
 use Rattle.std.specs.declared.alloc.Global.{Global}
 use Rattle.snap_core.specs.declared.program.Program.{Program}
-use Rattle.snap_core.specs.declared.program.Which.TheVariants.{Bytes}
 use Rattle.snap_dep.specs.Ranks.{Grouping, IsGrouping}
 use Rattle.snap_io.specs.Files.{Files}
 use Rattle.snap_topo.specs.declared.topology.Topology.{Topology}
@@ -12,28 +11,9 @@ use Rattle.snap_seek.specs.declared.best.Best.{Best}
 use Rattle.snap_seek.specs.declared.demand.Demand.{Demand}
 use Rattle.snap_seek.specs.Answer.{IsAnswer}
 use Rattle.snap_seek.specs.Placements.{IsBestOf}
-use Rattle.snap_cli.specs.declared.place.Network.{Network}
 use Rattle.snap_cli.specs.declared.refusal.Refusal.{Refusal}
-use Rattle.snap_cli.specs.declared.refusal.Refusal.TheVariants.{Read, Limit, NoMemory}
 use Rattle.snap_cli.specs.Place.{HasNoDemand, HasNoPlacement, HasNoPlacementOn, IsOneOf, IsPlaced, IsPlacedOn, IsPlacementOf, SpellsNoDemand, placement_text}
-use Rattle.snap_cli.specs.Routes.{HasNoRoutes}
-use Rattle.snap_cli.specs.TopologyOf.{TopologyOf}
-
--- a file of those with `reads` can't be read, or memory was short, or the refusal is one of `why`
-abbrev pub RefusesBy : (reads : List ℕ → Type 0) → (why : Refusal → Type 0) → Refusal → Type 0
-RefusesBy reads why (Read failed) = reads failed.now
-RefusesBy reads why NoMemory = Unit {0}
-RefusesBy reads why refusal = why refusal
-
--- a topology and its routes
-abbrev pub GivesNetwork : (name file : List ℕ) → Result Network Refusal → Type 0
-GivesNetwork name file (Ok n) = TopologyOf file (Ok n.topology) × AreRoutes n.topology n.routes
-GivesNetwork name file (Err e) = RefusesBy (λ failed. failed ≡ name) (HasNoRoutes file) e
-
--- the text of a demand
-abbrev pub GivesDemandText : (name file : List ℕ) → Result (Vec ℕ Global) Refusal → Type 0
-GivesDemandText name file (Ok text) = (text.items ≡ file) × (length file ≤ 1048576)
-GivesDemandText name file (Err e) = RefusesBy (λ failed. failed ≡ name) (λ refusal. (1048576 < length file) × (refusal ≡ Limit Bytes 1048577)) e
+use Rattle.snap_cli.specs.Texts.{RefusesBy}
 
 -- the text of the best placement, for the demand that a text spells
 pub record IsPlacement (p : Program) (t : Topology) (table : Table) (text made : List ℕ) : Type 0 where

@@ -3,14 +3,20 @@ use Rattle.std.specs.Prelude.{ℕ, List, [], ◌∷◌, Ok, Err, Result, codes, 
 use Rattle.std.specs.List.{concat}
 use Rattle.snap_core.specs.declared.program.Which.{Which}
 use Rattle.snap_core.specs.declared.program.Which.TheVariants as which
+use Rattle.snap_rows.specs.declared.tables.Rule.{Rule}
+use Rattle.snap_rows.specs.declared.tables.Rule.TheVariants as rule
 use Rattle.snap_cli.specs.declared.refusal.Refusal.{Refusal}
-use Rattle.snap_cli.specs.declared.refusal.Refusal.TheVariants.{Usage, Read, Write, Syntax, Naming, Limit, Topology, Unreachable, Race, Packets, NoMemory, Undefined, Declarations, Differ, Demand}
+use Rattle.snap_cli.specs.declared.refusal.Refusal.TheVariants.{Usage, Read, Write, Syntax, Naming, Limit, Topology, Unreachable, Race, Packets, NoMemory, Undefined, Declarations, Differ, Demand, Placement, Tables}
 use Rattle.snap_cli.specs.declared.refusal.SyntaxFault.{SyntaxFault}
 use Rattle.snap_cli.specs.declared.refusal.SyntaxFault.TheVariants.{BadByte, BadNumber, UnexpectedToken, TooDeep}
 use Rattle.snap_cli.specs.declared.refusal.NamingFault.{NamingFault}
 use Rattle.snap_cli.specs.declared.refusal.NamingFault.TheVariants.{UnknownName, DeclaredTwice, WrongKind, WrongArity, TooWide, WrongPrefix}
 use Rattle.snap_cli.specs.declared.refusal.NoDemand.{NoDemand}
 use Rattle.snap_cli.specs.declared.refusal.NoDemand.TheVariants as none
+use Rattle.snap_cli.specs.declared.refusal.NoPlacement.{NoPlacement}
+use Rattle.snap_cli.specs.declared.refusal.NoPlacement.TheVariants as nowhere
+use Rattle.snap_cli.specs.declared.refusal.NoTables.{NoTables}
+use Rattle.snap_cli.specs.declared.refusal.NoTables.TheVariants.{Line, Broken}
 use Rattle.snap_cli.specs.declared.refusal.TopologyFault.{TopologyFault}
 use Rattle.snap_cli.specs.declared.refusal.TopologyFault.TheVariants.{NotToml, Shape, SwitchTwice, UnknownSwitch}
 use Rattle.snap_cli.specs.declared.spot.Spot.{Spot}
@@ -36,6 +42,8 @@ status_of (Err (Undefined packet)) = 15
 status_of (Err Declarations) = 17
 status_of (Err (Differ text)) = 18
 status_of (Err (Demand fault)) = 19
+status_of (Err (Placement fault)) = 9
+status_of (Err (Tables fault)) = 11
 
 abbrev pub which_text : Which → List ℕ
 which_text which.Bytes = codes "bytes"
@@ -104,6 +112,37 @@ message_of_demand (none.NoArray name) = message_naming (codes "demand: no array"
 message_of_demand (none.NoSwitch name) = message_naming (codes "demand: no switch") name
 message_of_demand (none.Nowhere arrays array) = message_naming (codes "demand: nowhere") (name_at arrays array)
 
+abbrev pub message_torn : List (List ℕ) → ℕ → ℕ → List ℕ
+message_torn arrays a b = concat (codes "snapc: placement: apart " ∷ name_at arrays a ∷ codes " " ∷ name_at arrays b ∷ codes "\n" ∷ [])
+
+abbrev pub message_of_placement : NoPlacement → List ℕ
+message_of_placement nowhere.NotToml = message_text (codes "placement: not TOML")
+message_of_placement (nowhere.Shape rule) = message_with (codes "placement: shape") rule
+message_of_placement (nowhere.NoArray name) = message_naming (codes "placement: no array") name
+message_of_placement (nowhere.NoPlace arrays array) = message_naming (codes "placement: no place for") (name_at arrays array)
+message_of_placement (nowhere.NoSwitch arrays array) = message_naming (codes "placement: no switch for") (name_at arrays array)
+message_of_placement (nowhere.Apart arrays a b) = message_torn arrays a b
+
+abbrev pub rule_text : Rule → List ℕ
+rule_text rule.Link = codes "link"
+rule_text rule.Loop = codes "loop"
+rule_text rule.Kind = codes "kind"
+rule_text rule.Owner = codes "owner"
+rule_text rule.Rise = codes "rise"
+rule_text rule.Order = codes "order"
+rule_text rule.Missing = codes "missing"
+rule_text rule.Spare = codes "spare"
+
+abbrev pub message_named_rule : (name : List ℕ) → (line : ℕ) → List ℕ
+message_named_rule name line = concat (codes "snapc: tables: rule " ∷ name ∷ codes " line " ∷ decimal line ∷ codes "\n" ∷ [])
+
+abbrev pub message_of_rule : Rule → (line : ℕ) → List ℕ
+message_of_rule broken line = message_named_rule (rule_text broken) line
+
+abbrev pub message_of_tables : NoTables → List ℕ
+message_of_tables (Line line) = message_with (codes "tables: line") line
+message_of_tables (Broken broken line) = message_of_rule broken line
+
 -- what is written to the error sink
 abbrev pub message_of : Ending → List ℕ
 message_of (Ok u) = []
@@ -122,3 +161,5 @@ message_of (Err (Packets line)) = message_with (codes "packets: line") line
 message_of (Err NoMemory) = message_text (codes "out of memory")
 message_of (Err (Undefined packet)) = message_with (codes "undefined: packet") packet
 message_of (Err (Demand fault)) = message_of_demand fault
+message_of (Err (Placement fault)) = message_of_placement fault
+message_of (Err (Tables fault)) = message_of_tables fault

@@ -1,6 +1,5 @@
 -- What a step of `routes` gives.
-use Rattle.std.specs.Prelude.{◌≡◌, ◌⊎◌, ◌≤◌, ℕ, List, [], length, Result, Ok, Err, Vec}
-use Rattle.std.specs.declared.alloc.Global.{Global}
+use Rattle.std.specs.Prelude.{◌≡◌, ◌⊎◌, ℕ, List, [], Result, Ok, Err}
 use Rattle.std.specs.declared.option.Option.{Option}
 use Rattle.std.specs.Io.KnownBytes.{Appends}
 use Rattle.snap_io.specs.Sinks.{AppendsPart}
@@ -22,11 +21,6 @@ abbrev pub GivesTopology : (name file : List ℕ) → Result Topology Refusal �
 GivesTopology name file (Err (refused.Read failed)) = failed.now ≡ name
 GivesTopology name file (Err refused.NoMemory) = Unit {0}
 GivesTopology name file result = TopologyOf file result
-
--- the text of that file, or that it is too long or can't be read, or memory was short
-abbrev pub GivesTopologyText : (name file : List ℕ) → Result (Vec ℕ Global) Refusal → Type 0
-GivesTopologyText name file (Ok text) = (text.items ≡ file) × (length file ≤ 1048576)
-GivesTopologyText name file (Err refusal) = GivesTopology name file (Err refusal)
 
 -- the refusal of a text that spells no topology
 abbrev pub refusal_of_topology : TopoFault → Refusal

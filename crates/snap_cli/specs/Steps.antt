@@ -1,8 +1,6 @@
 -- What a step of a command gives.
 use Rattle.std.specs.Prelude.{◌≡◌, ℕ, List, Result, Ok, Err}
 use Rattle.snap_core.specs.declared.program.Program.{Program}
-use Rattle.std.specs.Prelude.{Vec}
-use Rattle.std.specs.declared.alloc.Global.{Global}
 use Rattle.snap_lex.specs.declared.LexFault.{LexFault}
 use Rattle.snap_lex.specs.declared.LexFault.TheVariants as lex
 use Rattle.snap_parse.specs.declared.fault.ParseFault.{ParseFault}
@@ -18,13 +16,6 @@ use Rattle.snap_cli.specs.Spots.{spot_of}
 use Rattle.snap_cli.specs.declared.refusal.Refusal.{Refusal}
 use Rattle.snap_cli.specs.declared.refusal.Refusal.TheVariants.{Read, Write, Syntax, Naming, Limit, Packets, NoMemory, Undefined}
 use Rattle.snap_cli.specs.ProgramOf.{ProgramOf}
-
--- the text of the file with this name, or that it is too long or can't be read, or memory was short
-abbrev pub GivesText : (name file : List ℕ) → Result (Vec ℕ Global) Refusal → Type 0
-GivesText name file (Ok text) = text.items ≡ file
-GivesText name file (Err (Read failed)) = failed.now ≡ name
-GivesText name file (Err NoMemory) = Unit {0}
-GivesText name file (Err refusal) = ProgramOf file (Err refusal)
 
 -- the program that a text spells, or why it spells none, or memory was short
 abbrev pub SpellsProgram : List ℕ → Result Program Refusal → Type 0

@@ -1,9 +1,12 @@
 //! The diagram of a program that was read.
 
-ghost use Rattle.std.specs.Prelude.{◌≡◌, IfErr, IfOk};
+ghost use Rattle.std.specs.Prelude.{◌≡◌, IfErr, IfOk, length};
 ghost use Rattle.snap_core.specs.Cells.{arrays_of};
+ghost use Rattle.snap_core.specs.Laws.{PutsSmall};
 ghost use Rattle.snap_core.specs.Programs.{IsInForm};
-ghost use Rattle.snap_build.specs.Whole.{IsRaceOf};
+ghost use Rattle.snap_dep.specs.Arities.{IsArityIn};
+ghost use Rattle.snap_dep.specs.Ranks.{IsGrouping, arity_of};
+ghost use Rattle.snap_build.specs.Whole.{IsRaceOf, IsWhole};
 ghost use Rattle.snap_cli.specs.Check.{HasWhole, IsRaceTold};
 
 use crate::pair::pair_text;
@@ -13,6 +16,7 @@ use snap_core::packet::Packet;
 use snap_core::program::Program;
 use snap_core::store::Store;
 use snap_dep::calls::groups;
+use snap_dep::groups::Groups;
 use std::alloc::Global;
 
 /// The diagram of a program, or the refusal that tells a store and a packet on which its parts race. Its text is made
@@ -23,7 +27,23 @@ pub(crate) fn diagram<'a>(alloc: Global, program: &Program) -> Result<Built, Ref
     ensures race { IfErr result (IsRaceTold program.now) }
 {
     let groups = groups(alloc, program)?;
-    match build(alloc, program, &groups) {
+    diagram_of(alloc, program, &groups)
+}
+
+/// The same with the program's groups.
+pub(crate) fn diagram_of<'a>(
+    alloc: Global,
+    program: &Program,
+    groups: &Groups,
+) -> Result<Built, Refusal<'a>>
+    requires form { IsInForm program.now }
+    requires groups { IsGrouping program.now.body (length program.now.vars) groups.now }
+    requires arities { IsArityIn program.now.body (length program.now.vars) (arity_of groups.now) }
+    ensures whole { IfOk result (λ b. IsWhole program.now groups.now b.nodes b.root) }
+    ensures small { IfOk result (λ b. PutsSmall program.now.body) }
+    ensures race { IfErr result (IsRaceTold program.now) }
+{
+    match build(alloc, program, groups) {
         Ok(built) => Ok(built),
         Err(BuildFault::Race { store, packet }) => Err(race(alloc, program, &store, &packet)),
         Err(BuildFault::NoMemory) => Err(Refusal::NoMemory),

@@ -2,10 +2,13 @@
 #![tactic(auto)]
 
 pub mod check;
+pub mod compile;
 pub mod deps;
 mod diagram;
 pub mod equal;
+pub mod headline;
 pub mod laws;
+mod network;
 pub mod obs;
 mod pair;
 pub mod place;
@@ -13,7 +16,10 @@ pub mod program;
 pub mod refusal;
 pub mod routes;
 pub mod spot;
+pub mod tables;
 #[cfg(test)]
 mod tests;
+mod text;
 pub mod top;
 pub mod topology;
+pub mod trace;

@@ -60,8 +60,8 @@ fn report_of<'a, S: Shelf, O: Sink>(
     }
 }
 
-// The refusal of a run over the packets file with this name.
-fn refusal_of_run(packets: &[u8], fault: TraceFault) -> Refusal<'_>
+/// The refusal of a run over the packets file with this name.
+pub(crate) fn refusal_of_run(packets: &[u8], fault: TraceFault) -> Refusal<'_>
     ensures { result ≡ refusal_of_run packets.entry fault }
 {
     match fault {

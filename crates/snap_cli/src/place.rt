@@ -14,35 +14,25 @@ ghost use Rattle.snap_words.specs.Commands.{place};
 ghost use Rattle.snap_cli.specs.Causes.{HasCauses, IsRead, IsReadOf};
 ghost use Rattle.snap_cli.specs.Deserved.{Meets};
 ghost use Rattle.snap_cli.specs.Place.{cost_line, key_text, owner_line, place_line, placement_text, refusal_of_demand};
-ghost use Rattle.snap_cli.specs.PlaceSteps.{GivesDemandText, GivesNetwork, GivesPlacement, Places, PlacesFor, PlacesOn};
+ghost use Rattle.snap_cli.specs.PlaceSteps.{GivesPlacement, Places, PlacesFor, PlacesOn};
 
+use crate::network::{Network, load_network};
 use crate::program::load_program;
 use crate::refusal::{NoDemand, Refusal, name_at};
-use crate::routes::refusal_of_routes;
-use crate::topology::load_topology;
+use crate::text::load_text;
 use itoa::Buffer;
 use snap_core::NoMemory;
 use snap_core::lists::Names;
-use snap_core::program::{Program, Which};
+use snap_core::program::Program;
 use snap_dep::calls::groups;
 use snap_dep::groups::Groups;
-use snap_io::{ReadRefusal, Shelf, Sink, read_whole, write_whole};
-use snap_route::calls::routes;
-use snap_route::table::Routes;
+use snap_io::{Shelf, Sink, write_whole};
 use snap_seek::demand::{Demand, DemandFault};
 use snap_seek::{read_demand, seek};
-use snap_topo::topology::Topology;
 use std::alloc::Global;
 
 /// The most bytes of a demand's file.
 pub const MOST_DEMAND: u64 = 1_048_576;
-
-/// A topology and its routes.
-#[derive(Debug, Drop)]
-struct Network {
-    topology: Topology,
-    routes: Routes,
-}
 
 /// Writes the placement of least cost for a program, a topology and a demand.
 pub(crate) fn report<'a, S: Shelf, O: Sink>(
@@ -124,54 +114,9 @@ fn placement_for<'a, S: Shelf>(
     ensures not_usage { IsErrOf result Refusal.Usage → ⊥ }
     ensures later { NoneFell (S.faults shelf.old) (S.faults shelf.new) }
 {
-    match load_text(alloc, shelf, demand) {
+    match load_text(alloc, shelf, demand, MOST_DEMAND) {
         Ok(text) => placement_of(alloc, program, network, &text),
         Err(refusal) => Err(refusal),
-    }
-}
-
-// Reads the topology of a file, and its routes.
-fn load_network<'a, S: Shelf>(
-    alloc: Global,
-    shelf: &mut S,
-    name: &'a [u8],
-) -> Result<Network, Refusal<'a>>
-    ensures gives { IfSome (S.files shelf.old) (λ files. GivesNetwork name.entry.now (file_of files name.entry.now) result) }
-    ensures topology { IfOk result (λ n. IsTopology n.topology) }
-    ensures routes { IfOk result (λ n. AreRoutes n.topology n.routes) }
-    ensures read { (file : List ℕ) → IsReadOf file result → Rose (S.faults shelf.old file) (S.faults shelf.new file) }
-    ensures not_write { IsErrOf result Refusal.Write → ⊥ }
-    ensures not_usage { IsErrOf result Refusal.Usage → ⊥ }
-    ensures files { S.files shelf.new ≡ S.files shelf.old }
-    ensures later { NoneFell (S.faults shelf.old) (S.faults shelf.new) }
-{
-    let topology = load_topology(alloc, shelf, name)?;
-    match routes(alloc, &topology) {
-        Ok(routes) => Ok(Network { topology, routes }),
-        Err(fault) => Err(refusal_of_routes(topology.switches, fault)),
-    }
-}
-
-// Reads the text of a demand.
-fn load_text<'a, S: Shelf>(
-    alloc: Global,
-    shelf: &mut S,
-    name: &'a [u8],
-) -> Result<Vec<u8>, Refusal<'a>>
-    ensures gives { IfSome (S.files shelf.old) (λ files. GivesDemandText name.entry.now (file_of files name.entry.now) result) }
-    ensures read { (file : List ℕ) → IsReadOf file result → Rose (S.faults shelf.old file) (S.faults shelf.new file) }
-    ensures not_write { IsErrOf result Refusal.Write → ⊥ }
-    ensures not_usage { IsErrOf result Refusal.Usage → ⊥ }
-    ensures later { NoneFell (S.faults shelf.old) (S.faults shelf.new) }
-{
-    match read_whole(alloc, shelf, name, MOST_DEMAND) {
-        Ok(text) => Ok(text),
-        Err(ReadRefusal::Failed) => Err(Refusal::Read { name }),
-        Err(ReadRefusal::TooLong) => Err(Refusal::Limit {
-            which: Which::Bytes,
-            count: MOST_DEMAND + 1,
-        }),
-        Err(ReadRefusal::NoMemory) => Err(Refusal::NoMemory),
     }
 }
 

@@ -6,12 +6,13 @@ ghost use Rattle.snap_io.specs.Causes.{NoneFell, Rose};
 ghost use Rattle.snap_io.specs.Files.{file_of};
 ghost use Rattle.snap_cli.specs.Causes.{IsRead, IsReadOf};
 ghost use Rattle.snap_cli.specs.Spots.{spot_of};
-ghost use Rattle.snap_cli.specs.Steps.{GivesProgram, GivesText, SpellsProgram, refusal_of_names, refusal_of_tokens, refusal_of_tree};
+ghost use Rattle.snap_cli.specs.Steps.{GivesProgram, SpellsProgram, refusal_of_names, refusal_of_tokens, refusal_of_tree};
 
 use crate::refusal::{NamingFault, Refusal, SyntaxFault};
 use crate::spot::spot_at;
-use snap_core::program::{Program, Which};
-use snap_io::{ReadRefusal, Shelf, read_whole};
+use crate::text::load_text;
+use snap_core::program::Program;
+use snap_io::Shelf;
 use snap_lex::{LexFault, tokens};
 use snap_names::{NameFault, resolve};
 use snap_parse::{ParseFault, parse};
@@ -35,32 +36,9 @@ pub(crate) fn load_program<'a, S: Shelf>(
     ensures files { S.files shelf.new ≡ S.files shelf.old }
     ensures later { NoneFell (S.faults shelf.old) (S.faults shelf.new) }
 {
-    let text = load_text(alloc, shelf, name)?;
-    read_program(alloc, &text)
-}
-
-// Reads the text of a program.
-fn load_text<'a, S: Shelf>(
-    alloc: Global,
-    shelf: &mut S,
-    name: &'a [u8],
-) -> Result<Vec<u8>, Refusal<'a>>
-    ensures gives { IfSome (S.files shelf.old) (λ files. GivesText name.entry.now (file_of files name.entry.now) result) }
-    ensures bound { IfOk result (λ text. length text.items ≤ 262144) }
-    ensures read { (file : List ℕ) → IsReadOf file result → Rose (S.faults shelf.old file) (S.faults shelf.new file) }
-    ensures not_write { IsErrOf result Refusal.Write → ⊥ }
-    ensures not_usage { IsErrOf result Refusal.Usage → ⊥ }
-    ensures files { S.files shelf.new ≡ S.files shelf.old }
-    ensures later { NoneFell (S.faults shelf.old) (S.faults shelf.new) }
-{
-    match read_whole(alloc, shelf, name, MOST_PROGRAM) {
-        Ok(text) => Ok(text),
-        Err(ReadRefusal::Failed) => Err(Refusal::Read { name }),
-        Err(ReadRefusal::TooLong) => Err(Refusal::Limit {
-            which: Which::Bytes,
-            count: MOST_PROGRAM + 1,
-        }),
-        Err(ReadRefusal::NoMemory) => Err(Refusal::NoMemory),
+    match load_text(alloc, shelf, name, MOST_PROGRAM) {
+        Ok(text) => read_program(alloc, &text),
+        Err(refusal) => Err(refusal),
     }
 }
 

@@ -5,7 +5,7 @@ ghost use Rattle.std.specs.Io.KnownBytes.{Appends};
 ghost use Rattle.snap_io.specs.Causes.{HasCause};
 ghost use Rattle.snap_io.specs.Sinks.{AppendsPart};
 ghost use Rattle.snap_cli.specs.declared.refusal.Refusal.TheVariants as refused;
-ghost use Rattle.snap_cli.specs.Refusals.{message_apart, message_at, message_naming, message_of, message_of_demand, message_of_limit, message_of_read, message_of_topology, message_text, message_with, name_at, naming_text, status_of, syntax_text, which_text};
+ghost use Rattle.snap_cli.specs.Refusals.{message_apart, message_at, message_named_rule, message_naming, message_of, message_of_demand, message_of_limit, message_of_placement, message_of_read, message_of_rule, message_of_tables, message_of_topology, message_text, message_with, name_at, naming_text, rule_text, status_of, syntax_text, which_text, message_torn};
 
 use crate::spot::Spot;
 use itoa::Buffer;
@@ -13,6 +13,7 @@ use snap_core::NoMemory;
 use snap_core::lists::{Name, Names};
 use snap_core::program::Which;
 use snap_io::{Sink, WriteFailed, write_pieces, write_whole};
+use snap_rows::tables::Rule;
 
 /// Why a text has no tree.
 #[derive(Clone, Copy, Debug, PartialEq, Eq)]
@@ -72,6 +73,38 @@ pub enum NoDemand {
     Nowhere { arrays: Names, array: u16 },
 }
 
+/// Why a file spells no placement of a program on a topology.
+#[derive(Debug, Drop)]
+pub enum NoPlacement {
+    /// The bytes are not UTF-8, or no TOML document.
+    NotToml,
+
+    /// A key isn't spelled like a name of a program (1), or a value is no switch name (2).
+    Shape { rule: u8 },
+
+    /// The program has no such array.
+    NoArray { name: Name },
+
+    /// This one of the program's arrays has no place.
+    NoPlace { arrays: Names, array: u16 },
+
+    /// The place of this one of the program's arrays is no switch.
+    NoSwitch { arrays: Names, array: u16 },
+
+    /// These two of the program's arrays are tied and have places at different switches.
+    Apart { arrays: Names, a: u16, b: u16 },
+}
+
+/// Why a file spells no valid tables. Lines are counted from 1.
+#[derive(Clone, Copy, Debug, PartialEq, Eq)]
+pub enum NoTables {
+    /// This line isn't of its form after the lines before it.
+    Line { line: u64 },
+
+    /// The tables are in form. This is the first of their rules that is broken, and the line at which it is first.
+    Broken { rule: Rule, line: u64 },
+}
+
 /// Why a command ends without its whole output.
 #[derive(Debug, Drop)]
 pub enum Refusal<'a> {
@@ -119,6 +152,12 @@ pub enum Refusal<'a> {
 
     /// Evaluation is undefined first at this packet.
     Undefined { packet: u64 },
+
+    /// The file spells no placement.
+    Placement { fault: NoPlacement },
+
+    /// The file spells no valid tables.
+    Tables { fault: NoTables },
 }
 
 fn which_text(which: Which) -> &'static [u8]
@@ -285,6 +324,87 @@ fn tell_demand<E: Sink>(err: &mut E, fault: &NoDemand) -> Result<(), WriteFailed
     }
 }
 
+// Writes `snapc: placement: apart A B`.
+fn tell_torn<E: Sink>(err: &mut E, arrays: &Names, a: u16, b: u16) -> Result<(), WriteFailed>
+    ensures ok { OnOk result (Appends (E.taken err.old) (E.taken err.new) (message_torn arrays.now a b)) }
+    ensures err { OnErr result (AppendsPart (E.taken err.old) (E.taken err.new) (message_torn arrays.now a b)) }
+    ensures cause { HasCause (E.faults err.old) (E.faults err.new) result }
+{
+    let (from, to) = (name_at(arrays, a), name_at(arrays, b));
+    write_pieces(err, &[b"snapc: placement: apart ", from, b" ", to, b"\n"])
+}
+
+// Writes why a file spells no placement.
+fn tell_placement<E: Sink>(err: &mut E, fault: &NoPlacement) -> Result<(), WriteFailed>
+    ensures ok { OnOk result (Appends (E.taken err.old) (E.taken err.new) (message_of_placement fault.now)) }
+    ensures err { OnErr result (AppendsPart (E.taken err.old) (E.taken err.new) (message_of_placement fault.now)) }
+    ensures cause { HasCause (E.faults err.old) (E.faults err.new) result }
+{
+    match fault {
+        NoPlacement::NotToml => tell_text(err, b"placement: not TOML"),
+        NoPlacement::Shape { rule } => tell_number(err, b"placement: shape", *rule as u64),
+        NoPlacement::NoArray { name } => tell_name(err, b"placement: no array", name.bytes()),
+        NoPlacement::NoPlace { arrays, array } => {
+            tell_name(err, b"placement: no place for", name_at(arrays, *array))
+        }
+        NoPlacement::NoSwitch { arrays, array } => {
+            tell_name(err, b"placement: no switch for", name_at(arrays, *array))
+        }
+        NoPlacement::Apart { arrays, a, b } => tell_torn(err, arrays, *a, *b),
+    }
+}
+
+fn rule_text(rule: Rule) -> &'static [u8]
+    ensures { result.now ≡ rule_text rule }
+{
+    match rule {
+        Rule::Link => b"link",
+        Rule::Loop => b"loop",
+        Rule::Kind => b"kind",
+        Rule::Owner => b"owner",
+        Rule::Rise => b"rise",
+        Rule::Order => b"order",
+        Rule::Missing => b"missing",
+        Rule::Spare => b"spare",
+    }
+}
+
+// Writes `snapc: tables: rule RULE line LINE`, with the rule's name.
+fn tell_named_rule<E: Sink>(err: &mut E, name: &[u8], line: u64) -> Result<(), WriteFailed>
+    ensures ok { OnOk result (Appends (E.taken err.old) (E.taken err.new) (message_named_rule name.now line)) }
+    ensures err { OnErr result (AppendsPart (E.taken err.old) (E.taken err.new) (message_named_rule name.now line)) }
+    ensures cause { HasCause (E.faults err.old) (E.faults err.new) result }
+{
+    let mut digits = Buffer::new();
+    let line = digits.format(line).as_bytes();
+    write_pieces(
+        err,
+        &[b"snapc: tables: rule ", name, b" line ", line, b"\n"],
+    )
+}
+
+// Writes `snapc: tables: rule RULE line LINE`.
+fn tell_rule<E: Sink>(err: &mut E, rule: Rule, line: u64) -> Result<(), WriteFailed>
+    ensures ok { OnOk result (Appends (E.taken err.old) (E.taken err.new) (message_of_rule rule line)) }
+    ensures err { OnErr result (AppendsPart (E.taken err.old) (E.taken err.new) (message_of_rule rule line)) }
+    ensures cause { HasCause (E.faults err.old) (E.faults err.new) result }
+{
+    let name = rule_text(rule);
+    tell_named_rule(err, name, line)
+}
+
+// Writes why a file spells no valid tables.
+fn tell_tables<E: Sink>(err: &mut E, fault: NoTables) -> Result<(), WriteFailed>
+    ensures ok { OnOk result (Appends (E.taken err.old) (E.taken err.new) (message_of_tables fault)) }
+    ensures err { OnErr result (AppendsPart (E.taken err.old) (E.taken err.new) (message_of_tables fault)) }
+    ensures cause { HasCause (E.faults err.old) (E.faults err.new) result }
+{
+    match fault {
+        NoTables::Line { line } => tell_number(err, b"tables: line", line),
+        NoTables::Broken { rule, line } => tell_rule(err, rule, line),
+    }
+}
+
 impl Refusal<'_> {
     pub fn status(&self) -> u8
         ensures { result ≡ status_of (Err self.now) }
@@ -298,7 +418,9 @@ impl Refusal<'_> {
             Refusal::Limit { .. } => 6,
             Refusal::Topology { .. } => 7,
             Refusal::Unreachable { .. } => 8,
+            Refusal::Placement { .. } => 9,
             Refusal::Race { .. } => 10,
+            Refusal::Tables { .. } => 11,
             Refusal::Packets { .. } => 12,
             Refusal::NoMemory => 14,
             Refusal::Undefined { .. } => 15,
@@ -330,6 +452,8 @@ impl Refusal<'_> {
             Refusal::NoMemory => tell_text(err, b"out of memory"),
             Refusal::Undefined { packet } => tell_number(err, b"undefined: packet", *packet),
             Refusal::Demand { fault } => tell_demand(err, fault),
+            Refusal::Placement { fault } => tell_placement(err, fault),
+            Refusal::Tables { fault } => tell_tables(err, *fault),
         }
     }
 }

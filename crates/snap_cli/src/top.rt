@@ -9,7 +9,7 @@ ghost use Rattle.snap_cli.specs.Answers.{Answers, MeetsWords};
 ghost use Rattle.snap_cli.specs.Causes.{HasCauses};
 
 use crate::refusal::Refusal;
-use crate::{check, deps, equal, obs, place, routes};
+use crate::{check, compile, deps, equal, obs, place, routes, trace};
 use snap_io::{Shelf, Sink};
 use snap_words::calls::command;
 use snap_words::command::Command;
@@ -74,6 +74,20 @@ fn run<'a, S: Shelf, O: Sink>(
                 demand,
             },
         ) => place::report(alloc, program, topology, demand, shelf, out),
+        Ok(
+            Command::Compile {
+                program,
+                topology,
+                placement,
+            },
+        ) => compile::report(alloc, program, topology, placement, shelf, out),
+        Ok(
+            Command::Trace {
+                tables,
+                packets,
+                hops,
+            },
+        ) => trace::report(alloc, tables, packets, hops, shelf, out),
         Err(WordsFault::Usage) => Err(Refusal::Usage),
         Err(WordsFault::NoMemory) => Err(Refusal::NoMemory),
     }

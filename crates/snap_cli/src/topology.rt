@@ -1,15 +1,15 @@
 //! The topology of a file.
 
-ghost use Rattle.std.specs.Prelude.{◌≡◌, ◌≤◌, ℕ, List, IfOk, IfSome, IsErrOf, length};
+ghost use Rattle.std.specs.Prelude.{◌≡◌, ℕ, List, IfOk, IfSome, IsErrOf};
 ghost use Rattle.snap_io.specs.Causes.{NoneFell, Rose};
 ghost use Rattle.snap_io.specs.Files.{file_of};
 ghost use Rattle.snap_topo.specs.Form.{IsInForm};
 ghost use Rattle.snap_cli.specs.Causes.{IsReadOf};
-ghost use Rattle.snap_cli.specs.RoutesSteps.{GivesTopology, GivesTopologyText, refusal_of_topology};
+ghost use Rattle.snap_cli.specs.RoutesSteps.{GivesTopology, refusal_of_topology};
 
 use crate::refusal::{Refusal, TopologyFault};
-use snap_core::program::Which;
-use snap_io::{ReadRefusal, Shelf, read_whole};
+use crate::text::load_text;
+use snap_io::Shelf;
 use snap_topo::topology::{TopoFault, Topology};
 use std::alloc::Global;
 
@@ -30,34 +30,12 @@ pub(crate) fn load_topology<'a, S: Shelf>(
     ensures files { S.files shelf.new ≡ S.files shelf.old }
     ensures later { NoneFell (S.faults shelf.old) (S.faults shelf.new) }
 {
-    let text = load_text(alloc, shelf, name)?;
-    match snap_topo::read(alloc, &text) {
-        Ok(topology) => Ok(topology),
-        Err(fault) => Err(refusal_of_topology(fault)),
-    }
-}
-
-// Reads the text of a topology.
-fn load_text<'a, S: Shelf>(
-    alloc: Global,
-    shelf: &mut S,
-    name: &'a [u8],
-) -> Result<Vec<u8>, Refusal<'a>>
-    ensures gives { IfSome (S.files shelf.old) (λ files. GivesTopologyText name.entry.now (file_of files name.entry.now) result) }
-    ensures read { (file : List ℕ) → IsReadOf file result → Rose (S.faults shelf.old file) (S.faults shelf.new file) }
-    ensures not_write { IsErrOf result Refusal.Write → ⊥ }
-    ensures not_usage { IsErrOf result Refusal.Usage → ⊥ }
-    ensures files { S.files shelf.new ≡ S.files shelf.old }
-    ensures later { NoneFell (S.faults shelf.old) (S.faults shelf.new) }
-{
-    match read_whole(alloc, shelf, name, MOST_TOPOLOGY) {
-        Ok(text) => Ok(text),
-        Err(ReadRefusal::Failed) => Err(Refusal::Read { name }),
-        Err(ReadRefusal::TooLong) => Err(Refusal::Limit {
-            which: Which::Bytes,
-            count: MOST_TOPOLOGY + 1,
-        }),
-        Err(ReadRefusal::NoMemory) => Err(Refusal::NoMemory),
+    match load_text(alloc, shelf, name, MOST_TOPOLOGY) {
+        Ok(text) => match snap_topo::read(alloc, &text) {
+            Ok(topology) => Ok(topology),
+            Err(fault) => Err(refusal_of_topology(fault)),
+        },
+        Err(refusal) => Err(refusal),
     }
 }
 

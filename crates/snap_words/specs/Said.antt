@@ -5,7 +5,7 @@ use Rattle.std.specs.Str.{bytes_eq}
 use Rattle.std.specs.Borrow.{Bor}
 use Rattle.std.specs.declared.vec.Vec.{Vec}
 use Rattle.std.specs.Global.{Global}
-use Rattle.snap_words.specs.Commands.{Command, check, deps, equal, obs, routes, place}
+use Rattle.snap_words.specs.Commands.{Command, check, compile, deps, equal, obs, routes, place, trace}
 use Rattle.snap_words.specs.Words.{Text, Told}
 use Rattle.snap_words.specs.declared.command.Command.{Command as Given}
 use Rattle.snap_words.specs.declared.command.Command.TheVariants as given
@@ -38,3 +38,5 @@ shown (given.Check program) = check program.now
 shown (given.Equal left right) = equal left.now right.now
 shown (given.Routes topology) = routes topology.now
 shown (given.Place program topology demand) = place program.now topology.now demand.now
+shown (given.Compile program topology placement) = compile program.now topology.now placement.now
+shown (given.Trace tables packets hops) = trace tables.now packets.now hops

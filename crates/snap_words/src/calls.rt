@@ -3,7 +3,7 @@
 ghost use Rattle.std.specs.Prelude.{◌≡◌, IfErr, IfOk, IsTrue, None, Some, false, option_map};
 ghost use Rattle.std.specs.List.{list_all};
 ghost use Rattle.std.specs.Str.{is_utf8};
-ghost use Rattle.snap_words.specs.Commands.{check, command_for, command_of, deps, equal, names_alone, obs, routes, with_one, with_two, place, with_three};
+ghost use Rattle.snap_words.specs.Commands.{check, command_for, command_of, compile, deps, equal, names_alone, names_with_hops, obs, place, plain_command, routes, trace, with_one, with_three, with_two};
 ghost use Rattle.snap_words.specs.Said.{are_among, bytes_of, is_among, lent, said, shown};
 
 use crate::command::Command;
@@ -55,12 +55,23 @@ fn text(word: &[u8]) -> Result<&str, WordsFault>
     }
 }
 
-/// The command of a first word and of what the others say. The options belong to no command yet.
+/// The command of a first word and of what the others say. `--hops` is of `trace` alone, and no command takes a
+/// schedule.
 fn command_for<'a>(words: &'a [Vec<u8>], first: &str, told: &Told) -> Option<Command<'a>>
     requires { IsTrue (are_among (bytes_of words.now) (said told.now).names) }
     ensures { option_map shown result ≡ command_for first.now (said told.now) }
 {
-    let names = names_alone(told)?;
+    match first {
+        "trace" => trace(words, names_with_hops(told)?, told.hops),
+        _ => plain_command(words, first, names_alone(told)?),
+    }
+}
+
+/// The command of a first word and of the names behind it, of those that have no options.
+fn plain_command<'a>(words: &'a [Vec<u8>], first: &str, names: &[&str]) -> Option<Command<'a>>
+    requires { IsTrue (are_among (bytes_of words.now) (lent names.now)) }
+    ensures { option_map shown result ≡ plain_command first.now (lent names.now) }
+{
     match first {
         "obs" => obs(words, names),
         "deps" => deps(words, names),
@@ -68,6 +79,7 @@ fn command_for<'a>(words: &'a [Vec<u8>], first: &str, told: &Told) -> Option<Com
         "equal" => equal(words, names),
         "routes" => routes(words, names),
         "place" => place(words, names),
+        "compile" => compile(words, names),
         _ => None,
     }
 }
@@ -80,6 +92,16 @@ fn names_alone<'t>(told: &'t Told) -> Option<&'t [&'t str]>
         None
     } else {
         Some(told.names.as_slice())
+    }
+}
+
+/// The names behind a command that may have `--hops`.
+fn names_with_hops<'t>(told: &'t Told) -> Option<&'t [&'t str]>
+    ensures { option_map (λ s. lent s.now) result ≡ names_with_hops (said told.entry.now) }
+{
+    match told.schedule {
+        Some(_) => None,
+        None => Some(told.names.as_slice()),
     }
 }
 
@@ -154,6 +176,34 @@ fn place<'a>(words: &'a [Vec<u8>], names: &[&str]) -> Option<Command<'a>>
             program: word(words, program),
             topology: word(words, topology),
             demand: word(words, demand),
+        }),
+        _ => None,
+    }
+}
+
+fn compile<'a>(words: &'a [Vec<u8>], names: &[&str]) -> Option<Command<'a>>
+    requires { IsTrue (are_among (bytes_of words.now) (lent names.now)) }
+    ensures { option_map shown result ≡ with_three compile (lent names.now) }
+{
+    match names {
+        [program, topology, placement] => Some(Command::Compile {
+            program: word(words, program),
+            topology: word(words, topology),
+            placement: word(words, placement),
+        }),
+        _ => None,
+    }
+}
+
+fn trace<'a>(words: &'a [Vec<u8>], names: &[&str], hops: bool) -> Option<Command<'a>>
+    requires { IsTrue (are_among (bytes_of words.now) (lent names.now)) }
+    ensures { option_map shown result ≡ with_two (λ tables packets. trace tables packets hops) (lent names.now) }
+{
+    match names {
+        [tables, packets] => Some(Command::Trace {
+            tables: word(words, tables),
+            packets: word(words, packets),
+            hops,
         }),
         _ => None,
     }

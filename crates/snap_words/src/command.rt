@@ -31,4 +31,16 @@ pub enum Command<'a> {
         topology: &'a [u8],
         demand: &'a [u8],
     },
+    /// The tables of a program: a program, a topology and a placement.
+    Compile {
+        program: &'a [u8],
+        topology: &'a [u8],
+        placement: &'a [u8],
+    },
+    /// The report of the network that runs tables: tables and packets, and whether each hop is told (`--hops`).
+    Trace {
+        tables: &'a [u8],
+        packets: &'a [u8],
+        hops: bool,
+    },
 }

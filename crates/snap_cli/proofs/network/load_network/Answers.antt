@@ -1,5 +1,5 @@
-use Rattle.snap_cli.proofs.PlaceLemmas.{told-no-routes}
-use Rattle.snap_cli.proofs.place.load_network.Goals as goal
+use Rattle.snap_cli.proofs.NetworkLemmas.{told-no-routes}
+use Rattle.snap_cli.proofs.network.load_network.Goals as goal
 
 pub returns-clause-gives : goal.returns-clause-gives
 returns-clause-gives g c =

@@ -1,0 +1,177 @@
+-- What is compiled and then traced is what one big switch does.
+use Rattle.std.proofs.Common.{◌≡◌, ◌⊎◌, ℕ, Bool, true, false, List, [], length, Some, Ok, Err, refl, sym, ◌∙◌, ap, subst, inl, inr, ⊎_elim, arith}
+use Rattle.std.specs.List.{All}
+use Rattle.std.specs.Io.KnownBytes.{Appends}
+use Rattle.snap_core.specs.declared.program.Program.{Program}
+use Rattle.snap_core.specs.Fields.{count}
+use Rattle.snap_core.specs.Inputs.{IsPacket}
+use Rattle.snap_io.specs.Files.{Files, file_of}
+use Rattle.snap_topo.specs.declared.topology.Topology.{Topology}
+use Rattle.snap_rows.specs.declared.tables.Tables.{Tables}
+use Rattle.snap_gen.specs.Faithful.{Faithful, IsPacketOf}
+use Rattle.snap_trace.specs.declared.fault.TraceFault.{TraceFault}
+use Rattle.snap_trace.specs.declared.fault.TraceFault.TheVariants as run
+use Rattle.snap_trace.specs.Spelled.{Spelled, ended, spelled}
+use Rattle.snap_tables.specs.Text.{text as tables_text}
+use Rattle.snap_tables.specs.Lines.{IsRead}
+use Rattle.snap_tables.specs.ReadBack.{IsReadBack}
+use Rattle.snap_runs.specs.Hops.{HopsAreAdded}
+use Rattle.snap_runs.specs.Laws.{SpelledForIsSpelled, SpelledPacketsFit}
+use Rattle.snap_runs.specs.Plain.{IsPlainReport, spelled_for}
+use Rattle.snap_whole.specs.Laws.{PlainRunsAreShort, PlainRunsReportOneSwitch}
+use Rattle.snap_words.specs.Commands.{Command, compile, trace}
+use Rattle.snap_cli.specs.declared.refusal.Refusal.{Refusal}
+use Rattle.snap_cli.specs.declared.refusal.Refusal.TheVariants.{Usage, Read, Write, Syntax, Naming, Limit, Topology as Network, Unreachable, Race, Packets, NoMemory, Undefined, Declarations, Differ, Demand, Placement, Tables as Unread}
+use Rattle.snap_cli.specs.Compile.{AreSpelled, IsCompiled}
+use Rattle.snap_cli.specs.Deserved.{Ends}
+use Rattle.snap_cli.specs.Headline.{Did, TracesAsOneSwitch, TracesInFewHops}
+use Rattle.snap_cli.specs.Laws.{AnswersExactly, CompilesExactly, IsDue, IsExact, IsFailure, TracesAs, TracesExactly}
+use Rattle.snap_cli.specs.Obs.{IsRunEnding}
+use Rattle.snap_cli.specs.Refusals.{Ending, status_of}
+use Rattle.snap_cli.specs.TablesOf.{TablesOf}
+
+-- ---- status 0
+refused_apart : (e : Refusal) → 0 ≡ status_of (Err e) → ⊥
+refused_apart Usage h = omega (arith, h)
+refused_apart (Read name) h = omega (arith, h)
+refused_apart Write h = omega (arith, h)
+refused_apart (Syntax fault spot) h = omega (arith, h)
+refused_apart (Naming fault spot) h = omega (arith, h)
+refused_apart (Limit which count) h = omega (arith, h)
+refused_apart (Network fault) h = omega (arith, h)
+refused_apart (Unreachable switches a b) h = omega (arith, h)
+refused_apart (Race text) h = omega (arith, h)
+refused_apart (Packets line) h = omega (arith, h)
+refused_apart NoMemory h = omega (arith, h)
+refused_apart (Undefined packet) h = omega (arith, h)
+refused_apart Declarations h = omega (arith, h)
+refused_apart (Differ text) h = omega (arith, h)
+refused_apart (Demand fault) h = omega (arith, h)
+refused_apart (Placement fault) h = omega (arith, h)
+refused_apart (Unread fault) h = omega (arith, h)
+
+ended_well : (e : Ending) → 0 ≡ status_of e → e ≡ Ok tt
+ended_well (Ok u) h = refl
+ended_well (Err e) h = absurd (refused_apart e h)
+
+no_failure : {X : Type 0} → IsFailure 0 ⊎ X → X
+no_failure (inl (inl h)) = absurd (omega (arith, h))
+no_failure (inl (inr (inl h))) = absurd (omega (arith, h))
+no_failure (inl (inr (inr h))) = absurd (omega (arith, h))
+no_failure (inr x) = x
+
+run_apart : (fault : TraceFault) (e : Ending) → IsRunEnding (Err fault) e → 0 ≡ status_of e → ⊥
+run_apart (run.Limit which count) e is h = refused_apart (Limit which count) (h ∙ ap status_of is)
+run_apart (run.Packets line) e is h = refused_apart (Packets line) (h ∙ ap status_of is)
+run_apart (run.Undefined packet) e is h = refused_apart (Undefined packet) (h ∙ ap status_of is)
+run_apart run.Read e is h = is
+run_apart run.Write e is h = is
+run_apart run.NoMemory e is h = is
+
+-- the bytes that a call with status 0 wrote are the text
+module _ (exactly : AnswersExactly) where
+  ends_well : (files : Files) (command : Command) (output : List ℕ) → Did files command output → Ends files command (Ok tt)
+  ends_well files command output d =
+      by (no_failure (exactly d.words files command 0 d.shelf_before d.shelf_now d.out_before d.out_now (Some []) (Some output) d.err_before d.err_now d.err_old d.err_new d.said d.answers))
+    where
+      by : (ending : Ending) × (text : List ℕ) × IsDue files command ending text × IsExact ending text 0 (Some []) (Some output) d.err_before d.err_now d.err_old d.err_new → Ends files command (Ok tt)
+      by (ending, text, due, exact) = subst (Ends files command) (ended_well ending exact.status_is) due.ends
+
+  -- ---- what compile wrote
+  compiled : CompilesExactly → (files : Files) (program topology placement output : List ℕ) → Did files (compile program topology placement) output → IsCompiled files program topology placement output
+  compiled compiles files program topology placement output d =
+      let t = (ends_well files (compile program topology placement) output d).1 in
+      let of = t.1 in
+      by (no_failure (compiles d.words files program topology placement of.0 of.1 of.2 0 d.shelf_before d.shelf_now d.out_before d.out_now (Some []) (Some output) d.err_before d.err_now d.err_old d.err_new d.said of.3 d.answers))
+    where
+      by : {A B C D : Type 0} → (A × B × ((text : List ℕ) × IsCompiled files program topology placement text × Appends (Some []) (Some output) text)) ⊎ (◌≡◌ {A = ℕ} 0 10 × C × D) → IsCompiled files program topology placement output
+      by (inl h) = subst (IsCompiled files program topology placement) (sym h.2.2) h.2.1
+      by (inr h) = absurd (let e = h.0 in omega (arith, e))
+
+  -- ---- what trace wrote
+  read_tables : (later : Files) (tables packets report : List ℕ) (hops : Bool) → Did later (trace tables packets hops) report → (t : Tables) × TablesOf (file_of later tables) (Ok t)
+  read_tables later tables packets report hops d = by (ends_well later (trace tables packets hops) report d)
+    where
+      by : Ends later (trace tables packets hops) (Ok tt) → (t : Tables) × TablesOf (file_of later tables) (Ok t)
+      by (inl h) = absurd (let e = h.2 in cc)
+      by (inr h) = (h.0, h.1)
+
+  module _ (compiles : CompilesExactly) (traces : TracesExactly) (fit : SpelledPacketsFit) (whole : SpelledForIsSpelled) where
+    -- the run of faithful tables that was told
+    record Told (files : Files) (program topology placement packets : List ℕ) (hops : Bool) (report : List ℕ) : Type 0 where
+      p : Program
+      t : Topology
+      places : List ℕ
+      n : Tables
+      spelling : AreSpelled files program topology placement p t places
+      faithful : Faithful p t places n
+      stop : (spelled p.fields packets).stop ≡ ended
+      plain : IsPlainReport n hops (spelled p.fields packets).packets report
+      fits : All (IsPacketOf p) (spelled p.fields packets).packets
+
+    same_tables : (file : List ℕ) (n u : Tables) → IsReadBack n → file ≡ tables_text n → TablesOf file (Ok u) → u ≡ n
+    same_tables file n u back is (inl h) = absurd (let e = h.1 in cc)
+    same_tables file n u back is (inr h) = ⊎_elim (λ e. cc) (λ e. absurd (cc)) (back (Ok u) (subst (λ b. IsRead b (Ok u)) is h.1))
+
+    whole_report : (n : Tables) (hops : Bool) (read : Spelled) (report : List ℕ) → TracesAs n hops read 0 (Some []) (Some report) → (read.stop ≡ ended) × IsPlainReport n hops read.packets report
+    whole_report n hops read report (inl h) = (h.1, subst (IsPlainReport n hops read.packets) (sym h.2.2) h.2.1)
+    whole_report n hops read report (inr h) = absurd (run_apart h.0 h.1 h.3 h.4)
+
+    told : (files later : Files) (program topology placement tables packets : List ℕ) (hops : Bool) (output report : List ℕ)
+        → Did files (compile program topology placement) output → file_of later tables ≡ output → Did later (trace tables packets hops) report
+        → Told files program topology placement (file_of later packets) hops report
+    told files later program topology placement tables packets hops output report c is d =
+        let made = compiled compiles files program topology placement output c in
+        let n : Tables = made.0 in
+        let of = made.1 in
+        let p : Program = of.0 in
+        let file = file_of later packets in
+        let u = read_tables later tables packets report hops d in
+        let same : u.0 ≡ n = same_tables (file_of later tables) n u.0 made.2 (is ∙ made.3) u.1 in
+        let traced = no_failure (traces d.words later tables packets hops n 0 d.shelf_before d.shelf_now d.out_before d.out_now (Some []) (Some report) d.err_before d.err_now d.err_old d.err_new d.said
+        (subst (λ x. TablesOf (file_of later tables) (Ok x)) same u.1) d.answers) in
+        let r = whole_report n hops (spelled_for n file) report traced in
+        let fields : n.fields ≡ p.fields = of.4.shape.fields in
+        let read : spelled_for n file ≡ spelled p.fields file = whole n file r.0 ∙ ap (λ fs. spelled fs file) fields in
+        record {
+          p = p;
+          t = of.1;
+          places = of.2;
+          n = n;
+          spelling = of.3;
+          faithful = of.4;
+          stop = ap (λ (s : Spelled). s.stop) (sym read) ∙ r.0;
+          plain = subst (λ (s : Spelled). IsPlainReport n hops s.packets report) read r.1;
+          fits = subst (λ fs. All (IsPacket (count fs)) (spelled p.fields file).packets) fields (subst (λ (s : Spelled). All (IsPacket (count n.fields)) s.packets) read (fit n file));
+        }
+
+    pub as_one_switch : PlainRunsReportOneSwitch → TracesAsOneSwitch
+    as_one_switch plain files later program topology placement tables packets output report c is d =
+        let x = told files later program topology placement tables packets false output report c is d in (
+          x.p,
+          x.t,
+          record { the_program = x.spelling.the_program; the_topology = x.spelling.the_topology; whole = x.stop },
+          plain x.p x.t x.places x.n x.faithful (spelled x.p.fields (file_of later packets)).packets x.fits report x.plain,
+        )
+
+    pub in_few_hops : HopsAreAdded → PlainRunsReportOneSwitch → PlainRunsAreShort → TracesInFewHops
+    in_few_hops added plain short files later program topology placement tables packets output report c is d =
+        let x = told files later program topology placement tables packets true output report c is d in
+        let ks = (spelled x.p.fields (file_of later packets)).packets in
+        let without = added x.n (length ks) x.plain.end x.plain.happenings report x.plain.report in (
+          x.p,
+          x.t,
+          record { the_program = x.spelling.the_program; the_topology = x.spelling.the_topology; whole = x.stop },
+          record {
+            plain = without.0;
+            one_switch = plain x.p x.t x.places x.n x.faithful ks x.fits without.0 (record { events = x.plain.events; end = x.plain.end; happenings = x.plain.happenings; run = x.plain.run; report = without.1 });
+            added = without.2;
+            tables = x.n;
+            events = x.plain.events;
+            end = x.plain.end;
+            happenings = x.plain.happenings;
+            run = x.plain.run;
+            report = x.plain.report;
+            short = λ order most rank greatest. short x.p x.t x.places x.n x.faithful order most rank greatest ks x.fits x.plain.events x.plain.end x.plain.happenings x.plain.run;
+          },
+        )

@@ -1,0 +1,205 @@
+//! The command `compile`: tables that make the network behave as the program says.
+
+ghost use Rattle.std.specs.Prelude.{◌≡◌, ◌≤◌, ℕ, List, IfOk, IfSome, IsErrOf, length};
+ghost use Rattle.snap_core.specs.Programs.{IsInForm};
+ghost use Rattle.snap_dep.specs.Arities.{IsArityIn};
+ghost use Rattle.snap_dep.specs.Ranks.{IsGrouping, arity_of};
+ghost use Rattle.snap_io.specs.Causes.{NoneFell, Rose};
+ghost use Rattle.snap_io.specs.Files.{file_of};
+ghost use Rattle.snap_place.specs.Answer.{GivesSwitches};
+ghost use Rattle.snap_tables.specs.ReadBack.{IsReadBack};
+ghost use Rattle.snap_topo.specs.Form.{IsInForm as IsTopology};
+ghost use Rattle.snap_route.specs.Tables.{AreRoutes};
+ghost use Rattle.snap_words.specs.Commands.{compile};
+ghost use Rattle.snap_cli.specs.Causes.{HasCauses, IsRead, IsReadOf};
+ghost use Rattle.snap_cli.specs.CompileSteps.{Compiles, CompilesFor, CompilesOn, GivesTables, MakesTables, WritesTables};
+ghost use Rattle.snap_cli.specs.Deserved.{Meets};
+ghost use Rattle.snap_cli.specs.PlacementOf.{refusal_of_placement};
+
+use crate::diagram::diagram_of;
+use crate::network::{Network, load_network};
+use crate::program::load_program;
+use crate::refusal::{NoPlacement, Refusal};
+use crate::text::load_text;
+use snap_core::lists::Names;
+use snap_core::program::Program;
+use snap_dep::calls::groups;
+use snap_dep::groups::Groups;
+use snap_io::{Shelf, Sink};
+use snap_make::tables::tables;
+use snap_place::placement::{PlaceFault, Placement};
+use snap_rows::valid::Valid;
+use snap_tables::fault::PrintFault;
+use snap_tables::print::print;
+use std::alloc::Global;
+
+/// The most bytes of a placement's file.
+pub const MOST_PLACEMENT: u64 = 1_048_576;
+
+/// Writes tables that are faithful to a program, a topology and a placement.
+pub(crate) fn report<'a, S: Shelf, O: Sink>(
+    alloc: Global,
+    program: &'a [u8],
+    topology: &'a [u8],
+    placement: &'a [u8],
+    shelf: &mut S,
+    out: &mut O,
+) -> Result<(), Refusal<'a>>
+    ensures meets { IfSome (S.files shelf.old) (λ files.
+        Meets files (compile program.entry.now topology.entry.now placement.entry.now) result (O.taken out.old) (O.taken out.new)) }
+    ensures causes { HasCauses (S.faults shelf.old) (S.faults shelf.new) (O.faults out.old) (O.faults out.new) result }
+    ensures not_usage { IsErrOf result Refusal.Usage → ⊥ }
+{
+    match load_tables(alloc, program, topology, placement, shelf) {
+        Ok(tables) => write_tables(alloc, &tables, out),
+        Err(refusal) => Err(refusal),
+    }
+}
+
+// Writes the text of tables.
+fn write_tables<'a, O: Sink>(alloc: Global, tables: &Valid, out: &mut O) -> Result<(), Refusal<'a>>
+    ensures writes { WritesTables tables.now result (O.taken out.old) (O.taken out.new) }
+    ensures back { IsReadBack tables.now }
+    ensures write { IsErrOf result Refusal.Write → Rose (O.faults out.old) (O.faults out.new) }
+    ensures not_read { IsRead result → ⊥ }
+    ensures not_usage { IsErrOf result Refusal.Usage → ⊥ }
+{
+    match print(alloc, tables, out) {
+        Ok(()) => Ok(()),
+        Err(PrintFault::Write) => Err(Refusal::Write),
+        Err(PrintFault::NoMemory) => Err(Refusal::NoMemory),
+    }
+}
+
+// The tables for three files.
+fn load_tables<'a, S: Shelf>(
+    alloc: Global,
+    program: &'a [u8],
+    topology: &'a [u8],
+    placement: &'a [u8],
+    shelf: &mut S,
+) -> Result<Valid, Refusal<'a>>
+    ensures gives { IfSome (S.files shelf.old) (λ files. GivesTables files program.entry.now topology.entry.now placement.entry.now result) }
+    ensures read { (file : List ℕ) → IsReadOf file result → Rose (S.faults shelf.old file) (S.faults shelf.new file) }
+    ensures not_write { IsErrOf result Refusal.Write → ⊥ }
+    ensures not_usage { IsErrOf result Refusal.Usage → ⊥ }
+{
+    match load_program(alloc, shelf, program) {
+        Ok(program) => tables_on(alloc, program, topology, placement, shelf),
+        Err(refusal) => Err(refusal),
+    }
+}
+
+// The tables of a program that was read.
+fn tables_on<'a, S: Shelf>(
+    alloc: Global,
+    program: Program,
+    topology: &'a [u8],
+    placement: &'a [u8],
+    shelf: &mut S,
+) -> Result<Valid, Refusal<'a>>
+    requires { IsInForm program }
+    ensures gives { IfSome (S.files shelf.old) (λ files. CompilesOn files program topology.entry.now placement.entry.now result) }
+    ensures read { (file : List ℕ) → IsReadOf file result → Rose (S.faults shelf.old file) (S.faults shelf.new file) }
+    ensures not_write { IsErrOf result Refusal.Write → ⊥ }
+    ensures not_usage { IsErrOf result Refusal.Usage → ⊥ }
+    ensures later { NoneFell (S.faults shelf.old) (S.faults shelf.new) }
+{
+    match load_network(alloc, shelf, topology) {
+        Ok(network) => tables_for(alloc, program, &network, placement, shelf),
+        Err(refusal) => Err(refusal),
+    }
+}
+
+// The tables of a program on a topology.
+fn tables_for<'a, S: Shelf>(
+    alloc: Global,
+    program: Program,
+    network: &Network,
+    placement: &'a [u8],
+    shelf: &mut S,
+) -> Result<Valid, Refusal<'a>>
+    requires program { IsInForm program }
+    requires topology { IsTopology network.now.topology }
+    requires routes { AreRoutes network.now.topology network.now.routes }
+    ensures gives { IfSome (S.files shelf.old) (λ files. CompilesFor program network.now.topology placement.entry.now (file_of files placement.entry.now) result) }
+    ensures read { (file : List ℕ) → IsReadOf file result → Rose (S.faults shelf.old file) (S.faults shelf.new file) }
+    ensures not_write { IsErrOf result Refusal.Write → ⊥ }
+    ensures not_usage { IsErrOf result Refusal.Usage → ⊥ }
+    ensures later { NoneFell (S.faults shelf.old) (S.faults shelf.new) }
+{
+    match load_text(alloc, shelf, placement, MOST_PLACEMENT) {
+        Ok(text) => tables_of(alloc, program, network, &text),
+        Err(refusal) => Err(refusal),
+    }
+}
+
+// The tables of a program on a topology with the placement that a text spells.
+fn tables_of<'a>(
+    alloc: Global,
+    program: Program,
+    network: &Network,
+    text: &[u8],
+) -> Result<Valid, Refusal<'a>>
+    requires program { IsInForm program }
+    requires topology { IsTopology network.now.topology }
+    requires routes { AreRoutes network.now.topology network.now.routes }
+    ensures compiles { Compiles program network.now.topology text.now result }
+    ensures not_read { IsRead result → ⊥ }
+    ensures not_write { IsErrOf result Refusal.Write → ⊥ }
+    ensures not_usage { IsErrOf result Refusal.Usage → ⊥ }
+{
+    let groups = groups(alloc, &program)?;
+    match snap_place::read(alloc, text, &program, &groups, &network.topology) {
+        Ok(placement) => make(alloc, &program, &groups, network, &placement),
+        Err(fault) => Err(refusal_of_placement(program.vars, fault)),
+    }
+}
+
+// The refusal of a text that spells no placement of these arrays.
+fn refusal_of_placement<'a>(arrays: Names, fault: PlaceFault) -> Refusal<'a>
+    ensures { result ≡ refusal_of_placement arrays fault }
+{
+    let fault = match fault {
+        PlaceFault::NotToml => NoPlacement::NotToml,
+        PlaceFault::Shape { rule } => NoPlacement::Shape { rule },
+        PlaceFault::NoVariable { name } => NoPlacement::NoArray { name },
+        PlaceFault::Missing { var } => NoPlacement::NoPlace { arrays, array: var },
+        PlaceFault::NoSwitch { var } => NoPlacement::NoSwitch { arrays, array: var },
+        PlaceFault::Apart { a, b } => NoPlacement::Apart { arrays, a, b },
+        PlaceFault::NoMemory => return Refusal::NoMemory,
+    };
+    Refusal::Placement { fault }
+}
+
+// The tables of a program with these groups.
+fn make<'a>(
+    alloc: Global,
+    program: &Program,
+    groups: &Groups,
+    network: &Network,
+    placement: &Placement,
+) -> Result<Valid, Refusal<'a>>
+    requires program { IsInForm program.now }
+    requires groups { IsGrouping program.now.body (length program.now.vars) groups.now }
+    requires arities { IsArityIn program.now.body (length program.now.vars) (arity_of groups.now) }
+    requires topology { IsTopology network.now.topology }
+    requires routes { AreRoutes network.now.topology network.now.routes }
+    requires placement { GivesSwitches program.now network.now.topology placement.now }
+    ensures makes { MakesTables program.now network.now.topology placement.now result }
+    ensures not_read { IsRead result → ⊥ }
+    ensures not_write { IsErrOf result Refusal.Write → ⊥ }
+    ensures not_usage { IsErrOf result Refusal.Usage → ⊥ }
+{
+    let built = diagram_of(alloc, program, groups)?;
+    let made = tables(
+        alloc,
+        program,
+        built,
+        groups,
+        &network.topology,
+        placement,
+        &network.routes,
+    )?;
+    Ok(made)
+}

@@ -1,0 +1,47 @@
+//! The topology of a file, with its routes.
+
+ghost use Rattle.std.specs.Prelude.{◌≡◌, ℕ, List, IfOk, IfSome, IsErrOf};
+ghost use Rattle.snap_io.specs.Causes.{NoneFell, Rose};
+ghost use Rattle.snap_io.specs.Files.{file_of};
+ghost use Rattle.snap_topo.specs.Form.{IsInForm};
+ghost use Rattle.snap_route.specs.Tables.{AreRoutes};
+ghost use Rattle.snap_cli.specs.Causes.{IsReadOf};
+ghost use Rattle.snap_cli.specs.NetworkSteps.{GivesNetwork};
+
+use crate::refusal::Refusal;
+use crate::routes::refusal_of_routes;
+use crate::topology::load_topology;
+use snap_io::Shelf;
+use snap_route::calls::routes;
+use snap_route::table::Routes;
+use snap_topo::topology::Topology;
+use std::alloc::Global;
+
+/// A topology and its routes.
+#[derive(Debug, Drop)]
+pub(crate) struct Network {
+    pub(crate) topology: Topology,
+    pub(crate) routes: Routes,
+}
+
+/// Reads the topology of a file, and its routes.
+pub(crate) fn load_network<'a, S: Shelf>(
+    alloc: Global,
+    shelf: &mut S,
+    name: &'a [u8],
+) -> Result<Network, Refusal<'a>>
+    ensures gives { IfSome (S.files shelf.old) (λ files. GivesNetwork name.entry.now (file_of files name.entry.now) result) }
+    ensures topology { IfOk result (λ n. IsInForm n.topology) }
+    ensures routes { IfOk result (λ n. AreRoutes n.topology n.routes) }
+    ensures read { (file : List ℕ) → IsReadOf file result → Rose (S.faults shelf.old file) (S.faults shelf.new file) }
+    ensures not_write { IsErrOf result Refusal.Write → ⊥ }
+    ensures not_usage { IsErrOf result Refusal.Usage → ⊥ }
+    ensures files { S.files shelf.new ≡ S.files shelf.old }
+    ensures later { NoneFell (S.faults shelf.old) (S.faults shelf.new) }
+{
+    let topology = load_topology(alloc, shelf, name)?;
+    match routes(alloc, &topology) {
+        Ok(routes) => Ok(Network { topology, routes }),
+        Err(fault) => Err(refusal_of_routes(topology.switches, fault)),
+    }
+}

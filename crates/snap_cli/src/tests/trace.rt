@@ -1,0 +1,113 @@
+use super::calls::{AMPLE, Devices, call, call_over};
+use std::test::Fail;
+
+const WORDS: &[&[u8]] = &[b"trace", b"t", b"k"];
+
+// The first packet goes to port 1, later ones to port 2.
+const FIRST_COME: &[u8] = b"snap-tables 1
+field inport
+field outport
+switch a
+switch b
+array s 1
+link 0 1
+port 1 0
+port 2 1
+hop 0 1 1
+hop 1 0 0
+row 0 0 go 1
+row 1 0 state 0 [#0] #0 1 2
+row 1 1 leaf at 1 put 0 [#0] #1 out c1=#1
+row 1 2 leaf out c1=#2
+end
+";
+
+const FILES: &[(&[u8], &[u8])] = &[(b"t", FIRST_COME), (b"k", b"1\n2\n")];
+
+const FIRST_BLOCK: &[u8] = b"packet 1
+out inport=1 outport=1
+lost 0
+";
+
+const REPORT: &[u8] = b"packet 1
+out inport=1 outport=1
+lost 0
+packet 2
+out inport=2 outport=2
+lost 0
+array s 0 = 1
+end
+";
+
+#[test]
+fn trace_writes_one_report_however_reads_are_cut(rt: HostRuntime) -> Result<(), Fail> {
+    for read_most in [1, 2, 3, 7, 4096] {
+        let devices = Devices { read_most, ..AMPLE };
+        let got = call_over(&rt, rt.alloc(), WORDS, FILES, devices)?;
+        assert_eq!(rt; got.status, 0);
+        assert_eq!(rt; got.out.bytes(), REPORT);
+        assert_eq!(rt; got.err.bytes(), b"".as_slice());
+    }
+    Ok(())
+}
+
+#[test]
+fn trace_refuses_tables_and_packets_at_their_lines(rt: HostRuntime) -> Result<(), Fail> {
+    let short: &[u8] = FIRST_COME.split_at(FIRST_COME.len() - 1).0;
+    let cases: [(&[u8], &[u8], u8, &[u8], &[u8]); 3] = [
+        (short, b"1\n", 11, b"", b"snapc: tables: line 16\n"),
+        (
+            b"snap-tables 1\nfield inport\nfield outport\nswitch a\nport 1 0\nend\n",
+            b"1\n",
+            11,
+            b"",
+            b"snapc: tables: rule missing line 5\n",
+        ),
+        (
+            FIRST_COME,
+            b"1\n9\n",
+            12,
+            FIRST_BLOCK,
+            b"snapc: packets: line 2\n",
+        ),
+    ];
+    for (tables, packets, status, out, err) in cases {
+        let files: &[(&[u8], &[u8])] = &[(b"t", tables), (b"k", packets)];
+        let got = call(&rt, rt.alloc(), WORDS, files)?;
+        assert_eq!(rt; got.status, status);
+        assert_eq!(rt; got.out.bytes(), out);
+        assert_eq!(rt; got.err.bytes(), err);
+    }
+    Ok(())
+}
+
+#[test]
+fn trace_ends_where_a_device_fails(rt: HostRuntime) -> Result<(), Fail> {
+    // The tables take 114 reads of two bytes, and each line of packets one.
+    let second_line = Devices {
+        read_most: 2,
+        read_fails: &[115],
+        ..AMPLE
+    };
+    let tables = Devices {
+        read_fails: &[0],
+        ..AMPLE
+    };
+    let tenth_byte = Devices {
+        write_most: 1,
+        write_fails: &[10],
+        ..AMPLE
+    };
+    let cases: [(Devices, u8, &[u8], &[u8]); 3] = [
+        (second_line, 2, FIRST_BLOCK, b"snapc: cannot read k\n"),
+        (tables, 2, b"", b"snapc: cannot read t\n"),
+        (tenth_byte, 3, b"packet 1\no", b"snapc: cannot write\n"),
+    ];
+    for (devices, status, out, err) in cases {
+        let got = call_over(&rt, rt.alloc(), WORDS, FILES, devices)?;
+        assert_eq!(rt; got.status, status);
+        assert_eq!(rt; got.out.bytes(), out);
+        assert_eq!(rt; got.err.bytes(), err);
+    }
+    Ok(())
+}

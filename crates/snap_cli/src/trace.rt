@@ -1,0 +1,57 @@
+//! The command `trace`: the report of the network that runs tables.
+
+ghost use Rattle.std.specs.Prelude.{◌≡◌, ◌≤◌, IfSome, IsErrOf};
+ghost use Rattle.snap_words.specs.Commands.{trace};
+ghost use Rattle.snap_io.specs.Files.{file_of};
+ghost use Rattle.snap_cli.specs.Causes.{HasCauses};
+ghost use Rattle.snap_cli.specs.Deserved.{Meets};
+ghost use Rattle.snap_cli.specs.TraceSteps.{MeetsTrace};
+
+use crate::obs::refusal_of_run;
+use crate::refusal::Refusal;
+use crate::tables::load_tables;
+use snap_io::{Shelf, Sink};
+use snap_rows::valid::Valid;
+use snap_runs::trace::trace;
+use std::alloc::Global;
+
+/// Writes the report of the network: the tables over the packets file, each packet on its own. With `hops` a line tells
+/// each link that a copy crosses.
+pub(crate) fn report<'a, S: Shelf, O: Sink>(
+    alloc: Global,
+    tables: &'a [u8],
+    packets: &'a [u8],
+    hops: bool,
+    shelf: &mut S,
+    out: &mut O,
+) -> Result<(), Refusal<'a>>
+    ensures meets { IfSome (S.files shelf.old) (λ files.
+        Meets files (trace tables.entry.now packets.entry.now hops) result (O.taken out.old) (O.taken out.new)) }
+    ensures causes { HasCauses (S.faults shelf.old) (S.faults shelf.new) (O.faults out.old) (O.faults out.new) result }
+    ensures not_usage { IsErrOf result Refusal.Usage → ⊥ }
+{
+    match load_tables(alloc, shelf, tables) {
+        Ok(tables) => report_of(alloc, tables, packets, hops, shelf, out),
+        Err(refusal) => Err(refusal),
+    }
+}
+
+// Writes the report of tables that were read.
+fn report_of<'a, S: Shelf, O: Sink>(
+    alloc: Global,
+    tables: Valid,
+    packets: &'a [u8],
+    hops: bool,
+    shelf: &mut S,
+    out: &mut O,
+) -> Result<(), Refusal<'a>>
+    ensures meets { IfSome (S.files shelf.old) (λ files.
+        MeetsTrace tables hops packets.entry (file_of files packets.entry.now) result (O.taken out.old) (O.taken out.new)) }
+    ensures causes { HasCauses (S.faults shelf.old) (S.faults shelf.new) (O.faults out.old) (O.faults out.new) result }
+    ensures not_usage { IsErrOf result Refusal.Usage → ⊥ }
+{
+    match trace(alloc, shelf, packets, tables, hops, out) {
+        Ok(()) => Ok(()),
+        Err(fault) => Err(refusal_of_run(packets, fault)),
+    }
+}
