@@ -30,6 +30,7 @@ test:
 	install -m 755 crates/snapc/out/snapc bin/snapc
 	examples/check bin/snapc
 	examples/placements bin/snapc
+	examples/networks bin/snapc
 	contrib/check
 
 # The program, its man page and the completions of bash and zsh.

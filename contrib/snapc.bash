@@ -1,26 +1,30 @@
 # Completion of snapc's words for bash.
 _snapc() {
-    local commands="obs deps check equal routes place"
-    local current=${COMP_WORDS[COMP_CWORD]} files=0 dashes=0 word only=
+    local commands="obs deps check equal routes compile place trace"
+    local current=${COMP_WORDS[COMP_CWORD]} files=0 dashes=0 hops=0 word only=
     COMPREPLY=()
     if [ "$COMP_CWORD" -eq 1 ]; then
         COMPREPLY=($(compgen -W "$commands" -- "$current"))
         return
     fi
     for word in "${COMP_WORDS[@]:2:COMP_CWORD-2}"; do
-        if [ "$word" = -- ]; then dashes=1; else files=$((files + 1)); fi
+        case $word in --) dashes=1 ;; --hops) hops=1 ;; *) files=$((files + 1)) ;; esac
     done
-    # `--` may stand once.
+    # `--` may stand once, and `--hops` before it behind `trace`.
     case $current in
     -*)
-        [ "$dashes" -eq 1 ] || COMPREPLY=(--)
+        [ "$dashes" -eq 1 ] && return
+        case ${COMP_WORDS[1]}:$hops:$current in
+        trace:0:--h*) COMPREPLY=(--hops) ;;
+        *) COMPREPLY=(--) ;;
+        esac
         return
         ;;
     esac
     case ${COMP_WORDS[1]}:$files in
-    obs:0 | deps:0 | check:0 | equal:0 | equal:1 | place:0) only='!*.snap' ;;
-    routes:0 | place:1 | place:2) only='!*.toml' ;;
-    obs:1) ;;
+    obs:0 | deps:0 | check:0 | equal:0 | equal:1 | compile:0 | place:0) only='!*.snap' ;;
+    routes:0 | compile:1 | compile:2 | place:1 | place:2) only='!*.toml' ;;
+    obs:1 | trace:0 | trace:1) ;;
     *) return ;;
     esac
     local IFS=$'\n'
