@@ -163,10 +163,10 @@ few_hops_made p topology places t f order d rank diameter m es s us o =
     let dist = near t two (Linked topology.links) hops in
     let within = runs_within t two dist d far o.run (All-nil (λ c. CopyWithin t dist d (unstayed c))) in
     let fewer : ranks t ≤ length order = ranks_few t.arrays (length order)
-        (λ i a e.
-        (let many = sym (length-map t.arrays (λ (a : ArrayAt). a.name)) ∙ ap length f.shape.names in
-        let low = (f.shape.ranks order rank).below i (let l = slice_get_within t.arrays i a e in omega (arith, l, many)) in
-        subst (λ x. x < length order) (ap (λ o. unwrap_or (option_map (λ (a : ArrayAt). a.rank) o) 0) e) low)) in
+    (λ i a e.
+    (let many = sym (length-map t.arrays (λ (a : ArrayAt). a.name)) ∙ ap length f.shape.names in
+    let low = (f.shape.ranks order rank).below i (let l = slice_get_within t.arrays i a e in omega (arith, l, many)) in
+    subst (λ x. x < length order) (ap (λ o. unwrap_or (option_map (λ (a : ArrayAt). a.rank) o) 0) e) low)) in
     let more = mul-le (ranks t + 1) d (length order + 1) d (omega (arith, fewer)) (omega arith) in (
       each (λ c. CopyWithin t dist d (unstayed c)) (λ (c : Copy). c.hops ≤ (length order + 1) * d) (λ c i. (let x = few_hops t two dist d far c i in omega (arith, x, more))) s.net.flying within.0,
       each (IsDeliveredWithin ((ranks t + 1) * d)) (IsDeliveredWithin ((length order + 1) * d)) (still_within ((ranks t + 1) * d) ((length order + 1) * d) more) (happenings us) within.1,

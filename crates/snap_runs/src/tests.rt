@@ -50,14 +50,7 @@ fn hops_are_told(rt: HostRuntime) -> Result<(), Fail> {
     let alloc = rt.alloc();
     let mut shelf = packets(alloc, b"1\n2\n")?;
     let mut sink = MemorySink::new(alloc, 4096, 4096, Vec::new(alloc))?;
-    let ended = trace(
-        alloc,
-        &mut shelf,
-        b"q",
-        first_come(alloc)?,
-        true,
-        &mut sink,
-    );
+    let ended = trace(alloc, &mut shelf, b"q", first_come(alloc)?, true, &mut sink);
     assert_eq!(rt; ended, Ok(()));
     let report: &[u8] = b"packet 1\n\
         hop a b 01000000000000000000000000000000010000000000000000\n\

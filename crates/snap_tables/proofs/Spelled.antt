@@ -50,8 +50,8 @@ fields-turn fs h names = turns IsNextField fs (λ ys f zs e. (
   all-at (λ (g : Field). IsName g.name) fs ys f zs e names,
   all-at (λ (g : Field). PrefixFits g.prefix) fs ys f zs e h.prefixes,
   and_from (is_field_at (length ys) f) (are_new (all_declared ys) (declared f.name f.prefix))
-  (field-at ys f zs (subst (λ l. take 2 l ≡ the_ports) e h.ports))
-  (are-new-of (all_declared ys) (declared f.name f.prefix) (all_declared zs) (subst (IsDistinct bytes_eq) (apart ys f zs e) h.different)),
+      (field-at ys f zs (subst (λ l. take 2 l ≡ the_ports) e h.ports))
+      (are-new-of (all_declared ys) (declared f.name f.prefix) (all_declared zs) (subst (IsDistinct bytes_eq) (apart ys f zs e) h.different)),
 ))
   where
     apart : (ys : List Field) (f : Field) (zs : List Field) → fs ≡ ys ++ (f ∷ zs) → names_of fs ≡ all_declared ys ++ (declared f.name f.prefix ++ all_declared zs)
@@ -100,9 +100,12 @@ module _ (t : Tables) (f : IsInForm t) (b : TablesInRange t) where
   ports-turn : AreInTurn (IsNextPort (length t.switches)) t.ports
   ports-turn = turns (IsNextPort (length t.switches)) t.ports (λ ys p zs e.
       let form = all-at (IsPortInForm t) t.ports ys p zs e f.ports in
-      let rise = sorted-unmap (λ (q : PortAt). q.port) t.ports f.ports_rise in
-      (form.some, all-at (λ (q : PortAt). q.port < 2 ^ 32) t.ports ys p zs e b.ports, form.at,
-      sorted-above (λ (q r : PortAt). nat_cmp q.port r.port) (on-total (λ (q : PortAt). q.port) nat_cmp_total) ys p zs (subst (IsStrictlySortedBy (λ (q r : PortAt). nat_cmp q.port r.port)) e rise)))
+      let rise = sorted-unmap (λ (q : PortAt). q.port) t.ports f.ports_rise in (
+        form.some,
+        all-at (λ (q : PortAt). q.port < 2 ^ 32) t.ports ys p zs e b.ports,
+        form.at,
+        sorted-above (λ (q r : PortAt). nat_cmp q.port r.port) (on-total (λ (q : PortAt). q.port) nat_cmp_total) ys p zs (subst (IsStrictlySortedBy (λ (q r : PortAt). nat_cmp q.port r.port)) e rise),
+      ))
 
   rows-turn : AreInTurn (IsNextRow t.version (counts_of t) t.arrays) t.rows
   rows-turn = turns (IsNextRow t.version (counts_of t) t.arrays) t.rows (λ ys r zs e.
