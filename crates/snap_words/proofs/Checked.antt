@@ -1,14 +1,13 @@
--- With our own test of names, what `clap` takes is what the words behind a command say.
-use Rattle.std.proofs.Common.{◌≡◌, ◌∙◌, refl, sym, ap, Bool, true, false, cond, List, [], ◌∷◌, ◌&&◌, Option, Some, None, is_some, option_and_then}
+-- With our own test of names and values, what `clap` takes is what the words behind a command say.
+use Rattle.std.proofs.Common.{◌≡◌, ◌≢◌, ◌∙◌, refl, sym, ap, Bool, true, false, cond, List, [], ◌∷◌, ◌&&◌, Option, Some, None, is_some, option_and_then}
 use Rattle.std.specs.List.{list_all}
 use Rattle.std.proofs.Math.Bool.{and-false}
 use Rattle.std.proofs.lemmas.List.Folds.{list_all-append}
-use Rattle.snap_words.specs.Words.{Text, Told, checked, has_names, is_name, is_name_or_none, tell, with_hops, with_names, with_schedule, word_of, add, Word, end_of_options, hops_option, schedule_option, schedule_file, name_word}
-use Rattle.snap_words.proofs.Cases.{Cases, cases, end_case, file_case, hops_case, name_case, refused_case, schedule_case}
+use Rattle.snap_words.specs.Words.{Flag, Text, Told, Valued, Word, add, changes_option, checked, end_of_options, flag_word, flagged, has_names, has_values, is_name, is_name_or_none, name_word, option_word, schedule_option, tell, value_word, valued, with_flag, with_names, with_value, word_of, workers_option}
+use Rattle.snap_words.proofs.Cases.{Cases, cases, name_case, option_case, refused_case}
 use Rattle.snap_words.proofs.ClapForm.{after, met_of, read}
 
--- ---- a bad name stays
-
+-- ---- a bad name or value stays
 checked_bad : (t : Told) → has_names t ≡ false → checked t ≡ None
 checked_bad t bad = rw bad refl
 
@@ -18,73 +17,120 @@ and_bad true false c h = refl
 and_bad false b c h = refl
 
 bad_more : (t : Told) (ws : List Text) → has_names t ≡ false → has_names (with_names t ws) ≡ false
-bad_more t ws bad = rw (list_all-append is_name t.names ws) (and_bad (list_all is_name t.names) (list_all is_name ws) (is_name_or_none t.schedule) bad)
+bad_more t ws bad = rw (list_all-append is_name t.names ws) (and_bad (list_all is_name t.names) (list_all is_name ws) (has_values t) bad)
 
--- a file for `--schedule` doesn't mend the names
-bad_schedule : (t : Told) (v : Text) (o : Option Text) → t.schedule ≡ o → has_names t ≡ false → (k : Told → Option Told) → ((u : Told) → has_names u ≡ false → option_and_then checked (k u) ≡ None)
-    → option_and_then checked (option_and_then k (cond (is_some o) None (Some (record t { schedule = Some v })))) ≡ None
-bad_schedule t v (Some f) is bad k stays = refl
-bad_schedule t v None is bad k stays = stays (record t { schedule = Some v }) (worse (list_all is_name t.names) (is_name v) (ap (λ o. list_all is_name t.names && is_name_or_none o) (sym is) ∙ bad))
-  where
-    worse : (a b : Bool) → (a && true) ≡ false → (a && b) ≡ false
-    worse true b h = cc
-    worse false b h = refl
+-- one more value doesn't mend the others
+worse-1 : (n b c x : Bool) → (n && ((true && b) && c)) ≡ false → (n && ((x && b) && c)) ≡ false
+worse-1 n b c true h = h
+worse-1 n b c false h = and-false n
 
-bad_hops : (t : Told) (b : Bool) → has_names t ≡ false → (k : Told → Option Told) → ((u : Told) → has_names u ≡ false → option_and_then checked (k u) ≡ None)
-    → option_and_then checked (option_and_then k (cond b None (Some (record t { hops = true })))) ≡ None
-bad_hops t true bad k stays = refl
-bad_hops t false bad k stays = stays (record t { hops = true }) bad
+worse-2 : (n a c x : Bool) → (n && ((a && true) && c)) ≡ false → (n && ((a && x) && c)) ≡ false
+worse-2 n a c true h = h
+worse-2 n a c false h = rw and-false (and-false n)
 
-bad_word : (m : Word) (t : Told) (w : Text) (ws : List Text) → has_names t ≡ false → ((b : Bool) (u : Told) → has_names u ≡ false → option_and_then checked (tell ws b u) ≡ None)
-    → option_and_then checked (add m t w ws (tell ws)) ≡ None
+worse-3 : (n a b x : Bool) → (n && ((a && b) && true)) ≡ false → (n && ((a && b) && x)) ≡ false
+worse-3 n a b true h = h
+worse-3 n a b false h = rw and-false (and-false n)
+
+-- names, and the values of options, are names
+abbrev Fine : Bool → (lines tables count : Option Text) → Bool
+Fine names lines tables count = names && ((is_name_or_none lines && is_name_or_none tables) && is_name_or_none count)
+
+bad_values : (t : Told) (o : Valued) (v : Text) → t.values o ≡ None → has_names t ≡ false → has_names (valued t o v) ≡ false
+bad_values t schedule_option v none bad =
+    worse-1 (list_all is_name t.names) (is_name_or_none (t.values changes_option)) (is_name_or_none (t.values workers_option)) (is_name v)
+    (ap (λ x. Fine (list_all is_name t.names) x (t.values changes_option) (t.values workers_option)) (sym none) ∙ bad)
+bad_values t changes_option v none bad =
+    worse-2 (list_all is_name t.names) (is_name_or_none (t.values schedule_option)) (is_name_or_none (t.values workers_option)) (is_name v)
+    (ap (λ x. Fine (list_all is_name t.names) (t.values schedule_option) x (t.values workers_option)) (sym none) ∙ bad)
+bad_values t workers_option v none bad =
+    worse-3 (list_all is_name t.names) (is_name_or_none (t.values schedule_option)) (is_name_or_none (t.values changes_option)) (is_name v)
+    (ap (λ x. Fine (list_all is_name t.names) (t.values schedule_option) (t.values changes_option) x) (sym none) ∙ bad)
+
+-- a bad value
+spoilt-1 : (n b c x : Bool) → x ≡ false → (n && ((x && b) && c)) ≡ false
+spoilt-1 n b c x bad = rw bad (and-false n)
+
+spoilt-2 : (n a c x : Bool) → x ≡ false → (n && ((a && x) && c)) ≡ false
+spoilt-2 n a c x bad = rw (bad, and-false) (and-false n)
+
+spoilt-3 : (n a b x : Bool) → x ≡ false → (n && ((a && b) && x)) ≡ false
+spoilt-3 n a b x bad = rw (bad, and-false) (and-false n)
+
+bad_at : (t : Told) (o : Valued) (v : Text) → is_name v ≡ false → has_names (valued t o v) ≡ false
+bad_at t schedule_option v bad = spoilt-1 (list_all is_name t.names) (is_name_or_none (t.values changes_option)) (is_name_or_none (t.values workers_option)) (is_name v) bad
+bad_at t changes_option v bad = spoilt-2 (list_all is_name t.names) (is_name_or_none (t.values schedule_option)) (is_name_or_none (t.values workers_option)) (is_name v) bad
+bad_at t workers_option v bad = spoilt-3 (list_all is_name t.names) (is_name_or_none (t.values schedule_option)) (is_name_or_none (t.values changes_option)) (is_name v) bad
+
+-- what goes on so from what is bad comes to nothing
+abbrev Spoils : (Told → Option Told) → Type 0
+Spoils k = (u : Told) → has_names u ≡ false → option_and_then checked (k u) ≡ None
+
+spoils_value : (t : Told) (o : Valued) (v : Text) (was : Option Text) → t.values o ≡ was → has_names t ≡ false → (k : Told → Option Told) → Spoils k
+    → option_and_then checked (option_and_then k (cond (is_some was) None (Some (valued t o v)))) ≡ None
+spoils_value t o v (Some f) is bad k stays = refl
+spoils_value t o v None is bad k stays = stays (valued t o v) (bad_values t o v is bad)
+
+spoils_flag : (t : Told) (f : Flag) (b : Bool) → has_names t ≡ false → (k : Told → Option Told) → Spoils k → option_and_then checked (option_and_then k (cond b None (Some (flagged t f)))) ≡ None
+spoils_flag t f true bad k stays = refl
+spoils_flag t f false bad k stays = stays (flagged t f) bad
+
+bad_word : (m : Word) (t : Told) (w : Text) (ws : List Text) → has_names t ≡ false → ((waits : Option Valued) → Spoils (tell ws waits)) → option_and_then checked (add m t w ws (tell ws)) ≡ None
 bad_word end_of_options t w ws bad stays = checked_bad (with_names t ws) (bad_more t ws bad)
-bad_word hops_option t w ws bad stays = bad_hops t t.hops bad (tell ws false) (stays false)
-bad_word schedule_option t w ws bad stays = stays true t bad
-bad_word (schedule_file f) t w ws bad stays = bad_schedule t f _ refl bad (tell ws false) (stays false)
-bad_word name_word t w ws bad stays = stays false (with_names t (w ∷ [])) (bad_more t (w ∷ []) bad)
+bad_word (flag_word f) t w ws bad stays = spoils_flag t f (t.flags f) bad (tell ws None) (stays None)
+bad_word (option_word o) t w ws bad stays = stays (Some o) t bad
+bad_word (value_word o v) t w ws bad stays = spoils_value t o v _ refl bad (tell ws None) (stays None)
+bad_word name_word t w ws bad stays = stays None (with_names t (w ∷ [])) (bad_more t (w ∷ []) bad)
 
-bad_stays : (ws : List Text) (waits : Bool) (t : Told) → has_names t ≡ false → option_and_then checked (tell ws waits t) ≡ None
-bad_stays [] true t bad = refl
-bad_stays [] false t bad = checked_bad t bad
-bad_stays (w ∷ ws) true t bad = bad_schedule t w _ refl bad (tell ws false) (bad_stays ws false)
-bad_stays (w ∷ ws) false t bad = bad_word (word_of w) t w ws bad (bad_stays ws)
+bad_stays : (ws : List Text) (waits : Option Valued) → Spoils (tell ws waits)
+bad_stays [] None t bad = checked_bad t bad
+bad_stays [] (Some o) t bad = refl
+bad_stays (w ∷ ws) None t bad = bad_word (word_of w) t w ws bad (bad_stays ws)
+bad_stays (w ∷ ws) (Some o) t bad = spoils_value t o w _ refl bad (tell ws None) (bad_stays ws None)
 
 -- ---- word by word
-
 -- the words behind are read alike
 abbrev Alike : List Text → Type 0
-Alike ws = (waits : Bool) (t : Told) → option_and_then checked (tell ws waits t) ≡ option_and_then checked (read ws waits t)
+Alike ws = (waits : Option Valued) (t : Told) → option_and_then checked (tell ws waits t) ≡ option_and_then checked (read ws waits t)
 
-add_bad : (t : Told) (w : Text) (ws : List Text) → is_name w ≡ false → option_and_then checked (tell ws false (with_names t (w ∷ []))) ≡ None
-add_bad t w ws bad =
-    bad_stays ws false (with_names t (w ∷ [])) (rw (list_all-append is_name t.names (w ∷ []), bad) (rw and-false refl))
+add_bad : (t : Told) (w : Text) (ws : List Text) → is_name w ≡ false → option_and_then checked (tell ws None (with_names t (w ∷ []))) ≡ None
+add_bad t w ws bad = bad_stays ws None (with_names t (w ∷ [])) (rw (list_all-append is_name t.names (w ∷ []), bad) (rw and-false refl))
 
-schedule_bad : (t : Told) (w : Text) (ws : List Text) (o : Option Text) → is_name w ≡ false → option_and_then checked (option_and_then (tell ws false) (cond (is_some o) None (Some (record t { schedule = Some w })))) ≡ None
-schedule_bad t w ws (Some f) bad = refl
-schedule_bad t w ws None bad = bad_stays ws false (record t { schedule = Some w }) (rw bad (and-false (list_all is_name t.names)))
+value_bad : (t : Told) (o : Valued) (w : Text) (ws : List Text) (was : Option Text) → is_name w ≡ false → option_and_then checked (option_and_then (tell ws None) (cond (is_some was) None (Some (valued t o w)))) ≡ None
+value_bad t o w ws (Some f) bad = refl
+value_bad t o w ws None bad = bad_stays ws None (valued t o w) (bad_at t o w bad)
 
-maybe : (o : Option Told) (ws : List Text) → Alike ws → option_and_then checked (option_and_then (tell ws false) o) ≡ option_and_then checked (option_and_then (read ws false) o)
+maybe : (o : Option Told) (ws : List Text) → Alike ws → option_and_then checked (option_and_then (tell ws None) o) ≡ option_and_then checked (option_and_then (read ws None) o)
 maybe None ws alike = refl
-maybe (Some t) ws alike = alike false t
+maybe (Some t) ws alike = alike None t
 
-word_alike : (w : Text) (ws : List Text) (t : Told) → Alike ws → Cases w → option_and_then checked (add (word_of w) t w ws (tell ws)) ≡ option_and_then checked (after false (met_of w) t w ws (read ws))
-word_alike w ws t alike (end_case is met bad) = rw (is, met) refl
-word_alike w ws t alike (hops_case is met bad) = rw (is, met) (maybe (with_hops t) ws alike)
-word_alike w ws t alike (schedule_case is met bad) = rw (is, met) (alike true t)
-word_alike w ws t alike (file_case v is met bad) = rw (is, met) (maybe (with_schedule t v) ws alike)
-word_alike w ws t alike (name_case is met) = rw (is, met) (alike false (with_names t (w ∷ [])))
+added_alike : (m : Word) (t : Told) (w : Text) (ws : List Text) → Alike ws → option_and_then checked (add m t w ws (tell ws)) ≡ option_and_then checked (add m t w ws (read ws))
+added_alike end_of_options t w ws alike = refl
+added_alike (flag_word f) t w ws alike = maybe (with_flag t f) ws alike
+added_alike (option_word o) t w ws alike = alike (Some o) t
+added_alike (value_word o v) t w ws alike = maybe (with_value t o v) ws alike
+added_alike name_word t w ws alike = alike None (with_names t (w ∷ []))
+
+word_alike : (w : Text) (ws : List Text) (t : Told) → Alike ws → Cases w → option_and_then checked (add (word_of w) t w ws (tell ws)) ≡ option_and_then checked (after None (met_of w) t w ws (read ws))
+word_alike w ws t alike (name_case is met) = rw (is, met) (alike None (with_names t (w ∷ [])))
+word_alike w ws t alike (option_case m some is met bad) = rw (is, met) (added_alike m t w ws alike)
 word_alike w ws t alike (refused_case is met bad) = rw (is, met) (add_bad t w ws bad)
 
-wait_alike : (w : Text) (ws : List Text) (t : Told) → Alike ws → Cases w → option_and_then checked (option_and_then (tell ws false) (with_schedule t w)) ≡ option_and_then checked (after true (met_of w) t w ws (read ws))
-wait_alike w ws t alike (end_case is met bad) = rw met (schedule_bad t w ws t.schedule bad)
-wait_alike w ws t alike (hops_case is met bad) = rw met (schedule_bad t w ws t.schedule bad)
-wait_alike w ws t alike (schedule_case is met bad) = rw met (schedule_bad t w ws t.schedule bad)
-wait_alike w ws t alike (file_case v is met bad) = rw met (schedule_bad t w ws t.schedule bad)
-wait_alike w ws t alike (name_case is met) = rw met (maybe (with_schedule t w) ws alike)
-wait_alike w ws t alike (refused_case is met bad) = rw met (schedule_bad t w ws t.schedule bad)
+not_taken : (o : Valued) (m : Word) (t : Told) (w : Text) (ws : List Text) (k : Option Valued → Told → Option Told) → m ≢ name_word → after (Some o) (Some m) t w ws k ≡ None
+not_taken o end_of_options t w ws k some = refl
+not_taken o (flag_word f) t w ws k some = refl
+not_taken o (option_word p) t w ws k some = refl
+not_taken o (value_word p v) t w ws k some = refl
+not_taken o name_word t w ws k some = absurd (some refl)
 
-pub tell-read : (ws : List Text) (waits : Bool) (t : Told) → option_and_then checked (tell ws waits t) ≡ option_and_then checked (read ws waits t)
-tell-read [] true t = refl
-tell-read [] false t = refl
-tell-read (w ∷ ws) true t = wait_alike w ws t (tell-read ws) (cases w)
-tell-read (w ∷ ws) false t = word_alike w ws t (tell-read ws) (cases w)
+wait_alike : (o : Valued) (w : Text) (ws : List Text) (t : Told) → Alike ws → Cases w
+    → option_and_then checked (option_and_then (tell ws None) (with_value t o w)) ≡ option_and_then checked (after (Some o) (met_of w) t w ws (read ws))
+wait_alike o w ws t alike (name_case is met) = rw met (maybe (with_value t o w) ws alike)
+wait_alike o w ws t alike (option_case m some is met bad) = rw met (value_bad t o w ws (t.values o) bad ∙ sym (ap (option_and_then checked) (not_taken o m t w ws (read ws) some)))
+wait_alike o w ws t alike (refused_case is met bad) = rw met (value_bad t o w ws (t.values o) bad)
+
+pub tell-read : (ws : List Text) (waits : Option Valued) (t : Told) → option_and_then checked (tell ws waits t) ≡ option_and_then checked (read ws waits t)
+tell-read [] None t = refl
+tell-read [] (Some o) t = refl
+tell-read (w ∷ ws) None t = word_alike w ws t (tell-read ws) (cases w)
+tell-read (w ∷ ws) (Some o) t = wait_alike o w ws t (tell-read ws) (cases w)

@@ -10,7 +10,7 @@ use Rattle.clap.specs.Words.{Row, all_of, fault_of, matches_of, rows_of}
 use Rattle.clap.specs.declared.parser.matches.Found.{Found}
 use Rattle.clap.proofs.WalkLemmas.{first_value-rows, one_text-rows}
 use Rattle.snap_words.specs.Clap.{app}
-use Rattle.snap_words.specs.Words.{Text, Told, checked, has_names, nothing, told_by}
+use Rattle.snap_words.specs.Words.{Flag, Text, Told, Valued, changes_option, checked, flag_text, has_names, hops_flag, nothing, option_text, ordered_flag, schedule_option, told_by, workers_option}
 use Rattle.snap_words.proofs.Checked.{tell-read}
 use Rattle.snap_words.proofs.ClapForm.{Has, read}
 use Rattle.snap_words.proofs.Shapes.{AllText}
@@ -42,41 +42,59 @@ first-one : (o : Option Text) → option_and_then (λ vs. slice_get vs 0) (optio
 first-one None = refl
 first-one (Some v) = refl
 
--- `get_str("schedule")`
-pub schedule_told : (f : Found) (t : Told) → Has (rows_of f) t → first_value f (codes "schedule") ≡ t.schedule
-schedule_told f t has = first_value-rows f (codes "schedule") ∙ first_of-all_of (codes "schedule") (rows_of f)
-    ∙ ap (option_and_then (λ vs. slice_get vs 0)) has.schedule_is ∙ first-one t.schedule
+-- `get_str`
+value_told : (o : Valued) (f : Found) (t : Told) → Has (rows_of f) t → first_value f (option_text o) ≡ t.values o
+value_told o f t has = first_value-rows f (option_text o) ∙ first_of-all_of (option_text o) (rows_of f) ∙ ap (option_and_then (λ vs. slice_get vs 0)) (has.values_are o) ∙ first-one (t.values o)
 
--- `get_flag("hops")`
-flag_told : (o : Option Text) (r b : Bool) → o ≡ Some (cond b (codes "true") (codes "false")) → (o ≡ Some (codes "true") → r ≡ true) → (o ≡ Some (codes "false") → r ≡ false) → r ≡ b
-flag_told o r true is on off = on is
-flag_told o r false is on off = off is
+-- `get_flag` read this text
+abbrev pub TellsFlag : Found → Text → Bool → Type 0
+TellsFlag f name r = (one_text f name ≡ Some (codes "true") → r ≡ true) × (one_text f name ≡ Some (codes "false") → r ≡ false)
 
-pub hops_told : (f : Found) (t : Told) (r : Bool) → Has (rows_of f) t → (one_text f (codes "hops") ≡ Some (codes "true") → r ≡ true) → (one_text f (codes "hops") ≡ Some (codes "false") → r ≡ false) → r ≡ t.hops
-hops_told f t r has on off = flag_told _ r t.hops (one_text-rows f (codes "hops") ∙ has.hops_is) on off
+flag_by : (o : Option Text) (r b : Bool) → o ≡ Some (cond b (codes "true") (codes "false")) → (o ≡ Some (codes "true") → r ≡ true) → (o ≡ Some (codes "false") → r ≡ false) → r ≡ b
+flag_by o r true is on off = on is
+flag_by o r false is on off = off is
+
+flag_told : (g : Flag) (f : Found) (t : Told) (r : Bool) → Has (rows_of f) t → TellsFlag f (flag_text g) r → r ≡ t.flags g
+flag_told g f t r has tells = flag_by _ r (t.flags g) (one_text-rows f (flag_text g) ∙ has.flags_are g) tells.0 tells.1
 
 -- what the words say is what `clap` reads, where the names pass our test
-told_read : (ws : List Text) → told_by ws ≡ option_and_then checked (read ws false nothing)
-told_read ws = tell-read ws false nothing
+told_read : (ws : List Text) → told_by ws ≡ option_and_then checked (read ws None nothing)
+told_read ws = tell-read ws None nothing
 
 pub clap_ok : (ws : List Text) (rows : List Row) → list_all is_utf8 ws ≡ true → fault_of app ws ≡ [] → rows ≡ matches_of app ws → (t : Told) × (told_by ws ≡ checked t) × Has rows t
 clap_ok ws rows text none same =
-    let found = read_ok (read ws false nothing) ws rows (app-form ws (all_text ws text)) none same in
+    let found = read_ok (read ws None nothing) ws rows (app-form ws (all_text ws text)) none same in
     (found.0, told_read ws ∙ ap (option_and_then checked) found.1, found.2)
 
 pub clap_err : (ws : List Text) → list_all is_utf8 ws ≡ true → fault_of app ws ≢ [] → told_by ws ≡ None
-clap_err ws text some = told_read ws ∙ ap (option_and_then checked) (read_err (read ws false nothing) ws (app-form ws (all_text ws text)) some)
+clap_err ws text some = told_read ws ∙ ap (option_and_then checked) (read_err (read ws None nothing) ws (app-form ws (all_text ws text)) some)
 
-same_told : (u t : Told) → u.hops ≡ t.hops → u.schedule ≡ t.schedule → u.names ≡ t.names → u ≡ t
-same_told u t hops schedule names = ap (λ h. record u { hops = h }) hops ∙ ap (λ s. record { hops = t.hops; schedule = s; names = u.names }) schedule ∙ ap (λ ns. record t { names = ns }) names
+same_told : (u t : Told) → ((f : Flag) → u.flags f ≡ t.flags f) → ((o : Valued) → u.values o ≡ t.values o) → u.names ≡ t.names → u ≡ t
+same_told u t flags values names = λ i. record { flags = λ f. flags f i; values = λ o. values o i; names = names i }
+
+-- what the getters read of the matches
+pub record Tells (f : Found) (u : Told) : Type 0 where
+  pub hops : TellsFlag f (codes "hops") (u.flags hops_flag)
+  pub ordered : TellsFlag f (codes "ordered") (u.flags ordered_flag)
+  pub schedule : u.values schedule_option ≡ first_value f (codes "schedule")
+  pub changes : u.values changes_option ≡ first_value f (codes "changes")
+  pub workers : u.values workers_option ≡ first_value f (codes "workers")
+  pub names : u.names ≡ unwrap_or (all_of (codes "name") (rows_of f)) []
+
+flags_are : (f : Found) (u t : Told) → Has (rows_of f) t → Tells f u → (g : Flag) → u.flags g ≡ t.flags g
+flags_are f u t has tells hops_flag = flag_told hops_flag f t (u.flags hops_flag) has tells.hops
+flags_are f u t has tells ordered_flag = flag_told ordered_flag f t (u.flags ordered_flag) has tells.ordered
+
+values_are : (f : Found) (u t : Told) → Has (rows_of f) t → Tells f u → (o : Valued) → u.values o ≡ t.values o
+values_are f u t has tells schedule_option = tells.schedule ∙ value_told schedule_option f t has
+values_are f u t has tells changes_option = tells.changes ∙ value_told changes_option f t has
+values_are f u t has tells workers_option = tells.workers ∙ value_told workers_option f t has
 
 -- what the matches say is what the words say, where the names pass our test
-pub told_from : (ws : List Text) (f : Found) (u : Told) → list_all is_utf8 ws ≡ true → fault_of app ws ≡ [] → rows_of f ≡ matches_of app ws
-    → (one_text f (codes "hops") ≡ Some (codes "true") → u.hops ≡ true) → (one_text f (codes "hops") ≡ Some (codes "false") → u.hops ≡ false)
-    → u.schedule ≡ first_value f (codes "schedule") → u.names ≡ unwrap_or (all_of (codes "name") (rows_of f)) [] → told_by ws ≡ checked u
-told_from ws f u text none same on off schedule names =
+pub told_from : (ws : List Text) (f : Found) (u : Told) → list_all is_utf8 ws ≡ true → fault_of app ws ≡ [] → rows_of f ≡ matches_of app ws → Tells f u → told_by ws ≡ checked u
+told_from ws f u text none same tells =
     let found = clap_ok ws (rows_of f) text none same in
-    found.1 ∙ ap checked (sym (same_told u found.0 (hops_told f found.0 u.hops found.2 on off) (schedule ∙ schedule_told f found.0 found.2) (names ∙ found.2.names_is)))
+    found.1 ∙ ap checked (sym (same_told u found.0 (flags_are f u found.0 found.2 tells) (values_are f u found.0 found.2 tells) (tells.names ∙ found.2.names_is)))
 
 pub checked-true : (u : Told) → has_names u ≡ true → checked u ≡ Some u
 checked-true u fine = rw fine refl

@@ -1,14 +1,16 @@
 -- What `clap` finds wrong in words, one word after the other.
-use Rattle.std.proofs.Common.{◌≡◌, ◌∙◌, refl, sym, ap, Bool, true, false, List, [], ◌∷◌, Option, fold}
+use Rattle.std.proofs.Common.{◌≡◌, ◌∙◌, refl, sym, ap, Bool, true, false, List, [], ◌∷◌, codes, Option, fold}
 use Rattle.std.proofs.Math.Bool.{or-true}
 use Rattle.clap.specs.Words.{Row, Text}
 use Rattle.clap.specs.Kinds.{Kinds, or_else}
 use Rattle.clap.specs.Faults.{check_fault, defaults_fault, settle_fault, turn_fault, walk_fault}
-use Rattle.clap.specs.Walk.{Held, Walk, finished, has_row, settled, walked}
+use Rattle.clap.specs.Walk.{Held, Walk, finished, has_row, reading_by, settled, walked, with_values}
+use Rattle.clap.specs.declared.parser.matches.ValueSource.TheVariants.{DefaultValue}
 use Rattle.clap.specs.declared.error.kind.ErrorKind.{ErrorKind}
 use Rattle.clap.specs.declared.error.kind.ErrorKind.TheVariants.{InvalidValue}
 use Rattle.clap.proofs.OnLiterals.{clap_on_literals}
-use Rattle.snap_words.proofs.Turns.{done, held, hops_id, settles, top, waits}
+use Rattle.snap_words.specs.Words.{Valued, hops_flag, schedule_option, changes_option, workers_option}
+use Rattle.snap_words.proofs.Turns.{done, flag_built, held, settles, top, waits}
 
 or_else-nil : (k : Kinds) → or_else k [] ≡ k
 or_else-nil [] = refl
@@ -39,17 +41,32 @@ pub fault-none : (w : Walk) → fault w [] ≡ ending w.held
 unfolding walk_fault
 fault-none w = refl
 
-defaults-by : (rows : List Row) (b : Bool) → has_row hops_id rows ≡ b → defaults_fault rows top.rules ≡ []
+-- the rows with the first flag's default
+abbrev off : List Row → List Row
+off rows = with_values (codes "hops") (reading_by (flag_built hops_flag)) DefaultValue (codes "false" ∷ []) rows
+
+defaults-there : (rows : List Row) (c : Bool) → has_row (codes "hops") rows ≡ true → has_row (codes "ordered") rows ≡ c → defaults_fault rows top.rules ≡ []
 unfolding clap_on_literals
-defaults-by rows true has = simp (has, or-true) refl
-defaults-by rows false has = simp (has, or-true) refl
+defaults-there rows true hops ordered = simp (hops, ordered, or-true) refl
+defaults-there rows false hops ordered = simp (hops, ordered, or-true) refl
+
+defaults-missing : (rows : List Row) (c : Bool) → has_row (codes "hops") rows ≡ false → has_row (codes "ordered") (off rows) ≡ c → defaults_fault rows top.rules ≡ []
+unfolding clap_on_literals
+defaults-missing rows true hops ordered = simp (hops, ordered, or-true) refl
+defaults-missing rows false hops ordered = simp (hops, ordered, or-true) refl
+
+defaults-by : (rows : List Row) (b : Bool) → has_row (codes "hops") rows ≡ b → defaults_fault rows top.rules ≡ []
+defaults-by rows true hops = defaults-there rows _ hops refl
+defaults-by rows false hops = defaults-missing rows _ hops refl
 
 pub ends : (r : List Row) (q : Option (Text × List Text)) → ending (held r q) ≡ settles r q
 ends r q = ap (λ k. or_else (settles r q) (or_else k [])) (defaults-by (done r q) _ refl) ∙ or_else-nil (settles r q)
 
-pub waits-ends : (r : List Row) (t : Bool) → ending (waits r t).held ≡ InvalidValue ∷ []
+pub waits-ends : (o : Valued) (r : List Row) (t : Bool) → ending (waits o r t).held ≡ InvalidValue ∷ []
 unfolding clap_on_literals
-waits-ends r t = refl
+waits-ends schedule_option r t = refl
+waits-ends changes_option r t = refl
+waits-ends workers_option r t = refl
 
 pub turn_nil : (w : Walk) (x : Text) (xs : List Text) → fault w (x ∷ xs) ≡ [] → turn_fault top [] w x ≡ []
 turn_nil w x xs none = first_nil _ _ (sym (fault-more w x xs) ∙ none)

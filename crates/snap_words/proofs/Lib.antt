@@ -2,9 +2,12 @@ pub mod Among
 pub mod Cases
 pub mod ClapForm
 pub mod ClapTold
+pub mod Counts
+pub mod FewSwitches
 pub mod Rows
 pub mod Shapes
 pub mod Checked
+pub mod Names
 pub mod Turns
 mod Faults
 mod ToldRows

@@ -1,4 +1,4 @@
--- Where `clap` finds nothing wrong, the option that waits for its value is settled.
+-- Where `clap` finds nothing wrong, an option that waits for its value is settled.
 use Rattle.std.proofs.Common.{◌≡◌, ◌∙◌, refl, sym, ap, Bool, true, false, List, [], ◌∷◌, codes, Option, Some, None}
 use Rattle.std.specs.Str.{IsUtf8, bytes_eq}
 use Rattle.clap.specs.Words.{Row, Text}
@@ -8,7 +8,9 @@ use Rattle.clap.specs.Faults.{turn_fault}
 use Rattle.clap.specs.Walk.{walked}
 use Rattle.clap.specs.declared.error.kind.ErrorKind.TheVariants.{UnknownArgument, TooManyValues}
 use Rattle.snap_words.proofs.Shapes.{AllText, first_char, short_text}
-use Rattle.snap_words.proofs.Turns.{at, dashes_moves, dashes_turn, held, hops_id, hops_turn, hops_valued, long_turn, name_turn, schedule_id, settles, short_turn, top, trail_turn, value_turn, wait_turn}
+use Rattle.snap_words.proofs.Turns.{at, dashes_moves, dashes_turn, flag_turn, flag_valued, held, long_turn, name_turn, settles, short_turn, top, trail_turn, value_turn, wait_turn}
+use Rattle.snap_words.specs.Words.{Flag, Valued, flag_text, option_text}
+use Rattle.snap_words.proofs.Names.{Named, a_flag, an_option, named, unknown}
 use Rattle.snap_words.proofs.Faults.{first_nil, fault, fault-more, fault-none, ends, turn_nil}
 
 trails-owe : (ws : List Text) (r : List Row) (q : Option (Text × List Text)) (p : Bool) → fault (at (held r q) p true) ws ≡ [] → settles r q ≡ []
@@ -20,17 +22,22 @@ pub short_by : (r : List Row) (q : Option (Text × List Text)) (p : Bool) (w f :
 short_by r q p w [] single long short text = absurd (text.1 refl)
 short_by r q p w (y ∷ ys) single long short text = let c = first_char y ys _ refl text.0 in short_turn r q w single p y ys c.0 long short c.1
 
-owes-named : (r : List Row) (q : Option (Text × List Text)) (p : Bool) (w name : Text) (v : Option Text) (b c : Bool) → bytes_eq w (codes "--") ≡ false → long_of w ≡ Some (name, v) → bytes_eq hops_id name ≡ b → bytes_eq schedule_id name ≡ c
-    → turn_fault top [] (at (held r q) p false) w ≡ [] → settles r q ≡ []
-owes-named r q p w name None true c single long h s none = first_nil _ _ (first_nil _ _ (sym (hops_turn r q w single p _ name long h refl) ∙ none))
-owes-named r q p w name (Some v) true c single long h s none = absurd (let e : TooManyValues ∷ [] ≡ [] = sym (hops_valued r q w single p name v long h) ∙ none in cc)
-owes-named r q p w name None false true single long h s none = first_nil _ _ (sym (wait_turn r q w single p name long h s) ∙ none)
-owes-named r q p w name (Some v) false true single long h s none = first_nil _ _ (first_nil _ _ (sym (value_turn r q w single p _ name v long h s refl) ∙ none))
-owes-named r q p w name v false false single long h s none = absurd (let e : UnknownArgument ∷ [] ≡ [] = sym (long_turn r q w single p name v long h s) ∙ none in cc)
+owes-flag : (r : List Row) (q : Option (Text × List Text)) (p : Bool) (w : Text) (f : Flag) (v : Option Text) → bytes_eq w (codes "--") ≡ false → long_of w ≡ Some (flag_text f, v) → turn_fault top [] (at (held r q) p false) w ≡ [] → settles r q ≡ []
+owes-flag r q p w f None single long none = first_nil _ _ (first_nil _ _ (sym (flag_turn r q w single f p _ long refl) ∙ none))
+owes-flag r q p w f (Some v) single long none = absurd (let e : TooManyValues ∷ [] ≡ [] = sym (flag_valued r q w single f p v long) ∙ none in cc)
+
+owes-option : (r : List Row) (q : Option (Text × List Text)) (p : Bool) (w : Text) (o : Valued) (v : Option Text) → bytes_eq w (codes "--") ≡ false → long_of w ≡ Some (option_text o, v) → turn_fault top [] (at (held r q) p false) w ≡ [] → settles r q ≡ []
+owes-option r q p w o None single long none = first_nil _ _ (sym (wait_turn r q w single o p long) ∙ none)
+owes-option r q p w o (Some v) single long none = first_nil _ _ (first_nil _ _ (sym (value_turn r q w single o p _ v long refl) ∙ none))
+
+owes-named : (r : List Row) (q : Option (Text × List Text)) (p : Bool) (w name : Text) (v : Option Text) → Named name → bytes_eq w (codes "--") ≡ false → long_of w ≡ Some (name, v) → turn_fault top [] (at (held r q) p false) w ≡ [] → settles r q ≡ []
+owes-named r q p w name v (a_flag f is) single long none = owes-flag r q p w f v single (long ∙ ap (λ n. Some (n, v)) is) none
+owes-named r q p w name v (an_option o is) single long none = owes-option r q p w o v single (long ∙ ap (λ n. Some (n, v)) is) none
+owes-named r q p w name v (unknown u) single long none = absurd (let e : UnknownArgument ∷ [] ≡ [] = sym (long_turn r q w single p name v long u) ∙ none in cc)
 
 owes-word : (r : List Row) (q : Option (Text × List Text)) (p : Bool) (w : Text) (l : Option (Text × Option Text)) (f : Option Text) → IsUtf8 w → bytes_eq w (codes "--") ≡ false → long_of w ≡ l → short_of w ≡ f
     → turn_fault top [] (at (held r q) p false) w ≡ [] → settles r q ≡ []
-owes-word r q p w (Some n) f text single long short none = owes-named r q p w n.0 n.1 _ _ single long refl refl none
+owes-word r q p w (Some n) f text single long short none = owes-named r q p w n.0 n.1 (named n.0) single long none
 owes-word r q p w None (Some f) text single long short none = absurd (let e : UnknownArgument ∷ [] ≡ [] = sym (short_by r q p w f single long short (short_text w f text short)) ∙ none in cc)
 owes-word r q p w None None text single long short none = sym (name_turn r q w single p long short) ∙ none
 

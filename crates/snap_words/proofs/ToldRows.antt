@@ -1,98 +1,218 @@
 -- The rows that `clap` keeps are those of what was told.
 use Rattle.std.proofs.Common.{subst, option_map, unwrap_or, ◌≡◌, ◌∙◌, refl, sym, ap, Bool, true, false, cond, List, [], ◌∷◌, ◌++◌, codes, Option, Some, None, is_some, fold}
+use Rattle.std.specs.Str.{bytes_eq}
+use Rattle.std.proofs.lemmas.Slice.Eq.{bytes_eq-Decides}
 use Rattle.clap.specs.Words.{Row, Text}
 use Rattle.clap.specs.Walk.{all_of, finished, has_row, one_of, reading_by, with_default, with_values}
 use Rattle.clap.specs.declared.parser.matches.ValueSource.TheVariants.{CommandLine, DefaultValue}
-use Rattle.snap_words.specs.Words.{Told, nothing, with_names}
+use Rattle.snap_words.specs.Words.{Flag, Told, Valued, flag_text, flagged, hops_flag, is_same_flag, is_same_option, nothing, option_text, ordered_flag, schedule_option, changes_option, workers_option, valued, with_names}
 use Rattle.snap_words.proofs.ClapForm.{Has}
 use Rattle.snap_words.proofs.Rows.{all_of-other, all_of-same, has_row-all_of, one_of-other, one_of-same, without-absent}
-use Rattle.snap_words.proofs.Turns.{done, held, hops_built, hops_id, hops_used, name_built, name_id, name_used, schedule_built, schedule_id, schedule_used, top}
+use Rattle.snap_words.proofs.Turns.{done, flag_built, flag_used, held, name_built, name_id, name_used, option_built, option_used, top}
 
+-- ---- ids
+flags_apart : (f g : Flag) → bytes_eq (flag_text f) (flag_text g) ≡ is_same_flag f g
+flags_apart hops_flag hops_flag = refl
+flags_apart hops_flag ordered_flag = refl
+flags_apart ordered_flag hops_flag = refl
+flags_apart ordered_flag ordered_flag = refl
+
+options_apart : (o p : Valued) → bytes_eq (option_text o) (option_text p) ≡ is_same_option o p
+options_apart schedule_option schedule_option = refl
+options_apart schedule_option changes_option = refl
+options_apart schedule_option workers_option = refl
+options_apart changes_option schedule_option = refl
+options_apart changes_option changes_option = refl
+options_apart changes_option workers_option = refl
+options_apart workers_option schedule_option = refl
+options_apart workers_option changes_option = refl
+options_apart workers_option workers_option = refl
+
+flag_not_option : (f : Flag) (o : Valued) → bytes_eq (flag_text f) (option_text o) ≡ false
+flag_not_option hops_flag schedule_option = refl
+flag_not_option hops_flag changes_option = refl
+flag_not_option hops_flag workers_option = refl
+flag_not_option ordered_flag schedule_option = refl
+flag_not_option ordered_flag changes_option = refl
+flag_not_option ordered_flag workers_option = refl
+
+option_not_flag : (o : Valued) (f : Flag) → bytes_eq (option_text o) (flag_text f) ≡ false
+option_not_flag schedule_option hops_flag = refl
+option_not_flag schedule_option ordered_flag = refl
+option_not_flag changes_option hops_flag = refl
+option_not_flag changes_option ordered_flag = refl
+option_not_flag workers_option hops_flag = refl
+option_not_flag workers_option ordered_flag = refl
+
+flag_not_name : (f : Flag) → bytes_eq (flag_text f) name_id ≡ false
+flag_not_name hops_flag = refl
+flag_not_name ordered_flag = refl
+
+option_not_name : (o : Valued) → bytes_eq (option_text o) name_id ≡ false
+option_not_name schedule_option = refl
+option_not_name changes_option = refl
+option_not_name workers_option = refl
+
+name_not_flag : (f : Flag) → bytes_eq name_id (flag_text f) ≡ false
+name_not_flag hops_flag = refl
+name_not_flag ordered_flag = refl
+
+name_not_option : (o : Valued) → bytes_eq name_id (option_text o) ≡ false
+name_not_option schedule_option = refl
+name_not_option changes_option = refl
+name_not_option workers_option = refl
+
+itself : (id : Text) → bytes_eq id id ≡ true
+itself id = (bytes_eq-Decides id id).1 refl
+
+same_text : (a b : Text) → bytes_eq a b ≡ true → a ≡ b
+same_text a b is = (bytes_eq-Decides a b).0 is
+
+-- ---- the rows are those of what was told
 -- the text of a flag
 abbrev pub flag : Bool → Option Text
 flag on = cond on (Some (codes "true")) None
 
--- the rows are those of what was told
 pub record Sim (r : List Row) (t : Told) : Type 0 where
-  pub hops_is : one_of hops_id r ≡ flag t.hops
-  pub hops_used_is : is_some (all_of hops_id r) ≡ t.hops
-  pub schedule_is : all_of schedule_id r ≡ option_map (λ v. v ∷ []) t.schedule
+  pub flags_are : (f : Flag) → one_of (flag_text f) r ≡ flag (t.flags f)
+  pub used_are : (f : Flag) → is_some (all_of (flag_text f) r) ≡ t.flags f
+  pub values_are : (o : Valued) → all_of (option_text o) r ≡ option_map (λ v. v ∷ []) (t.values o)
   pub names_is : unwrap_or (all_of name_id r) [] ≡ t.names
 
 no_row : (o : Option (List Text)) → is_some o ≡ false → o ≡ None
 no_row None h = refl
 no_row (Some vs) h = cc
 
-pub sim-hops : (r : List Row) (t : Told) → t.hops ≡ false → Sim r t → Sim (hops_used r) (record t { hops = true })
-sim-hops r t off s =
-    let none : all_of hops_id r ≡ None = no_row (all_of hops_id r) (s.hops_used_is ∙ off) in
-    let same : hops_used r ≡ with_values hops_id (reading_by hops_built) CommandLine (codes "true" ∷ []) r = ap (with_values hops_id (reading_by hops_built) CommandLine (codes "true" ∷ [])) (without-absent hops_id r none) in
-    record {
-      hops_is = ap (one_of hops_id) same ∙ one_of-same hops_id (reading_by hops_built) CommandLine (codes "true") r refl none;
-      hops_used_is = ap (λ x. is_some (all_of hops_id x)) same ∙ ap is_some (all_of-same hops_id (reading_by hops_built) CommandLine (codes "true" ∷ []) r refl);
-      schedule_is = ap (all_of schedule_id) same ∙ all_of-other hops_id schedule_id (reading_by hops_built) CommandLine (codes "true" ∷ []) r refl ∙ s.schedule_is;
-      names_is = ap (λ o. unwrap_or o []) (ap (all_of name_id) same ∙ all_of-other hops_id name_id (reading_by hops_built) CommandLine (codes "true" ∷ []) r refl) ∙ s.names_is;
-    }
+module _ (f : Flag) (r : List Row) (t : Told) (off : t.flags f ≡ false) (s : Sim r t) where
+  abbrev id : Text
+  id = flag_text f
 
-pub sim-schedule : (r : List Row) (t : Told) (v : Text) → t.schedule ≡ None → Sim r t → Sim (schedule_used v r) (record t { schedule = Some v })
-sim-schedule r t v off s =
-    let none : all_of schedule_id r ≡ None = s.schedule_is ∙ ap (option_map (λ v. v ∷ [])) off in
-    let same : schedule_used v r ≡ with_values schedule_id (reading_by schedule_built) CommandLine (v ∷ []) r = ap (with_values schedule_id (reading_by schedule_built) CommandLine (v ∷ [])) (without-absent schedule_id r none) in
-    record {
-      hops_is = ap (one_of hops_id) same ∙ one_of-other schedule_id hops_id (reading_by schedule_built) CommandLine (v ∷ []) r refl ∙ s.hops_is;
-      hops_used_is = ap (λ x. is_some (all_of hops_id x)) same ∙ ap is_some (all_of-other schedule_id hops_id (reading_by schedule_built) CommandLine (v ∷ []) r refl) ∙ s.hops_used_is;
-      schedule_is = ap (all_of schedule_id) same ∙ all_of-same schedule_id (reading_by schedule_built) CommandLine (v ∷ []) r refl ∙ ap (λ o. Some (unwrap_or o [] ++ v ∷ [])) none;
-      names_is = ap (λ o. unwrap_or o []) (ap (all_of name_id) same ∙ all_of-other schedule_id name_id (reading_by schedule_built) CommandLine (v ∷ []) r refl) ∙ s.names_is;
-    }
+  no_flag : all_of id r ≡ None
+  no_flag = no_row (all_of id r) (s.used_are f ∙ off)
+
+  abbrev put : List Row
+  put = with_values id (reading_by (flag_built f)) CommandLine (codes "true" ∷ []) r
+
+  flag_put : flag_used f r ≡ put
+  flag_put = ap (with_values id (reading_by (flag_built f)) CommandLine (codes "true" ∷ [])) (without-absent id r no_flag)
+
+  flag_by : (g : Flag) (b : Bool) → is_same_flag f g ≡ b → one_of (flag_text g) put ≡ flag (cond b true (t.flags g))
+  flag_by g true is = subst (λ x. one_of x put ≡ Some (codes "true")) (same_text id (flag_text g) (flags_apart f g ∙ is)) (one_of-same id (reading_by (flag_built f)) CommandLine (codes "true") r (itself id) no_flag)
+  flag_by g false is = one_of-other id (flag_text g) (reading_by (flag_built f)) CommandLine (codes "true" ∷ []) r (flags_apart f g ∙ is) ∙ s.flags_are g
+
+  used_by : (g : Flag) (b : Bool) → is_same_flag f g ≡ b → is_some (all_of (flag_text g) put) ≡ cond b true (t.flags g)
+  used_by g true is = subst (λ x. is_some (all_of x put) ≡ true) (same_text id (flag_text g) (flags_apart f g ∙ is)) (ap is_some (all_of-same id (reading_by (flag_built f)) CommandLine (codes "true" ∷ []) r (itself id)))
+  used_by g false is = ap is_some (all_of-other id (flag_text g) (reading_by (flag_built f)) CommandLine (codes "true" ∷ []) r (flags_apart f g ∙ is)) ∙ s.used_are g
+
+  pub sim-flag : Sim (flag_used f r) (flagged t f)
+  sim-flag = record {
+    flags_are = λ g. ap (one_of (flag_text g)) flag_put ∙ flag_by g _ refl;
+    used_are = λ g. ap (λ x. is_some (all_of (flag_text g) x)) flag_put ∙ used_by g _ refl;
+    values_are = λ o. ap (all_of (option_text o)) flag_put ∙ all_of-other id (option_text o) (reading_by (flag_built f)) CommandLine (codes "true" ∷ []) r (flag_not_option f o) ∙ s.values_are o;
+    names_is = ap (λ o. unwrap_or o []) (ap (all_of name_id) flag_put ∙ all_of-other id name_id (reading_by (flag_built f)) CommandLine (codes "true" ∷ []) r (flag_not_name f)) ∙ s.names_is;
+  }
+
+module _ (o : Valued) (v : Text) (r : List Row) (t : Told) (off : t.values o ≡ None) (s : Sim r t) where
+  abbrev key : Text
+  key = option_text o
+
+  no_value : all_of key r ≡ None
+  no_value = s.values_are o ∙ ap (option_map (λ v. v ∷ [])) off
+
+  abbrev set : List Row
+  set = with_values key (reading_by (option_built o)) CommandLine (v ∷ []) r
+
+  value_set : option_used o v r ≡ set
+  value_set = ap (with_values key (reading_by (option_built o)) CommandLine (v ∷ [])) (without-absent key r no_value)
+
+  value_by : (p : Valued) (b : Bool) → is_same_option o p ≡ b → all_of (option_text p) set ≡ option_map (λ v. v ∷ []) (cond b (Some v) (t.values p))
+  value_by p true is = subst (λ x. all_of x set ≡ Some (v ∷ [])) (same_text key (option_text p) (options_apart o p ∙ is))
+      (all_of-same key (reading_by (option_built o)) CommandLine (v ∷ []) r (itself key) ∙ ap (λ was. Some (unwrap_or was [] ++ v ∷ [])) no_value)
+  value_by p false is = all_of-other key (option_text p) (reading_by (option_built o)) CommandLine (v ∷ []) r (options_apart o p ∙ is) ∙ s.values_are p
+
+  pub sim-value : Sim (option_used o v r) (valued t o v)
+  sim-value = record {
+    flags_are = λ f. ap (one_of (flag_text f)) value_set ∙ one_of-other key (flag_text f) (reading_by (option_built o)) CommandLine (v ∷ []) r (option_not_flag o f) ∙ s.flags_are f;
+    used_are = λ f. ap (λ x. is_some (all_of (flag_text f) x)) value_set ∙ ap is_some (all_of-other key (flag_text f) (reading_by (option_built o)) CommandLine (v ∷ []) r (option_not_flag o f)) ∙ s.used_are f;
+    values_are = λ p. ap (all_of (option_text p)) value_set ∙ value_by p _ refl;
+    names_is = ap (λ o. unwrap_or o []) (ap (all_of name_id) value_set ∙ all_of-other key name_id (reading_by (option_built o)) CommandLine (v ∷ []) r (option_not_name o)) ∙ s.names_is;
+  }
 
 pub sim-name : (r : List Row) (t : Told) (v : Text) → Sim r t → Sim (name_used v r) (with_names t (v ∷ []))
 sim-name r t v s = record {
-  hops_is = one_of-other name_id hops_id (reading_by name_built) CommandLine (v ∷ []) r refl ∙ s.hops_is;
-  hops_used_is = ap is_some (all_of-other name_id hops_id (reading_by name_built) CommandLine (v ∷ []) r refl) ∙ s.hops_used_is;
-  schedule_is = all_of-other name_id schedule_id (reading_by name_built) CommandLine (v ∷ []) r refl ∙ s.schedule_is;
+  flags_are = λ f. one_of-other name_id (flag_text f) (reading_by name_built) CommandLine (v ∷ []) r (name_not_flag f) ∙ s.flags_are f;
+  used_are = λ f. ap is_some (all_of-other name_id (flag_text f) (reading_by name_built) CommandLine (v ∷ []) r (name_not_flag f)) ∙ s.used_are f;
+  values_are = λ o. all_of-other name_id (option_text o) (reading_by name_built) CommandLine (v ∷ []) r (name_not_option o) ∙ s.values_are o;
   names_is = ap (λ o. unwrap_or o []) (all_of-same name_id (reading_by name_built) CommandLine (v ∷ []) r refl) ∙ ap (λ fs. fs ++ v ∷ []) s.names_is;
 }
 
 pub sim-start : Sim [] nothing
-sim-start = record { hops_is = refl; hops_used_is = refl; schedule_is = refl; names_is = refl }
+sim-start = record { flags_are = λ f. refl; used_are = λ f. refl; values_are = λ o. refl; names_is = refl }
 
-pub hops_there : (r : List Row) (t : Told) (b : Bool) → t.hops ≡ b → Sim r t → has_row hops_id r ≡ b
-hops_there r t b is s = has_row-all_of hops_id r ∙ s.hops_used_is ∙ is
+pub flag_there : (f : Flag) (r : List Row) (t : Told) (b : Bool) → t.flags f ≡ b → Sim r t → has_row (flag_text f) r ≡ b
+flag_there f r t b is s = has_row-all_of (flag_text f) r ∙ s.used_are f ∙ is
 
-pub schedule_there : (r : List Row) (t : Told) (o : Option Text) → t.schedule ≡ o → Sim r t → has_row schedule_id r ≡ is_some o
-schedule_there r t o is s = has_row-all_of schedule_id r ∙ ap is_some (s.schedule_is ∙ ap (option_map (λ v. v ∷ [])) is) ∙ one o
+pub value_there : (o : Valued) (r : List Row) (t : Told) (was : Option Text) → t.values o ≡ was → Sim r t → has_row (option_text o) r ≡ is_some was
+value_there o r t was is s = has_row-all_of (option_text o) r ∙ ap is_some (s.values_are o ∙ ap (option_map (λ v. v ∷ [])) is) ∙ one was
   where
     one : (o : Option Text) → is_some (option_map (λ v. v ∷ []) o) ≡ is_some o
     one None = refl
     one (Some v) = refl
 
+-- ---- defaults
+-- a flag that isn't there is off
+abbrev defaulted : Flag → List Row → List Row
+defaulted f r = with_default r (flag_built f)
+
+module _ (f : Flag) (r : List Row) where
+  here_by : (b : Bool) → one_of (flag_text f) r ≡ flag b → is_some (all_of (flag_text f) r) ≡ b → has_row (flag_text f) r ≡ b → one_of (flag_text f) (defaulted f r) ≡ Some (cond b (codes "true") (codes "false"))
+  here_by true on used there = rw there on
+  here_by false off used missing = rw missing (one_of-same (flag_text f) (reading_by (flag_built f)) DefaultValue (codes "false") r (itself (flag_text f)) (no_row (all_of (flag_text f) r) used))
+
+  here : (b : Bool) → one_of (flag_text f) r ≡ flag b → is_some (all_of (flag_text f) r) ≡ b → one_of (flag_text f) (defaulted f r) ≡ Some (cond b (codes "true") (codes "false"))
+  here b is used = here_by b is used (has_row-all_of (flag_text f) r ∙ used)
+
+  module _ (id : Text) (apart : bytes_eq (flag_text f) id ≡ false) where
+    one_by : (b : Bool) → has_row (flag_text f) r ≡ b → one_of id (defaulted f r) ≡ one_of id r
+    one_by true there = rw there refl
+    one_by false missing = rw missing (one_of-other (flag_text f) id (reading_by (flag_built f)) DefaultValue (codes "false" ∷ []) r apart)
+
+    all_by : (b : Bool) → has_row (flag_text f) r ≡ b → all_of id (defaulted f r) ≡ all_of id r
+    all_by true there = rw there refl
+    all_by false missing = rw missing (all_of-other (flag_text f) id (reading_by (flag_built f)) DefaultValue (codes "false" ∷ []) r apart)
+
+    one_elsewhere : one_of id (defaulted f r) ≡ one_of id r
+    one_elsewhere = one_by _ refl
+
+    all_elsewhere : all_of id (defaulted f r) ≡ all_of id r
+    all_elsewhere = all_by _ refl
+
 unchanged : (b : Bool) (r : List Row) → cond b r r ≡ r
 unchanged true r = refl
 unchanged false r = refl
 
--- only `--hops` has a default
-only_hops : (r : List Row) → fold with_default r top.rules ≡ with_default r hops_built
-only_hops r = unchanged (has_row name_id (with_default (with_default r hops_built) schedule_built)) (with_default (with_default r hops_built) schedule_built)
-    ∙ unchanged (has_row schedule_id (with_default r hops_built)) (with_default r hops_built)
+abbrev both : List Row → List Row
+both r = defaulted ordered_flag (defaulted hops_flag r)
 
-has-by : (r : List Row) (t : Told) (b : Bool) → t.hops ≡ b → Sim r t → Has (with_default r hops_built) t
-has-by r t true on s =
-    let there : has_row hops_id r ≡ true = hops_there r t true on s in
-    let same : with_default r hops_built ≡ r = rw there refl in
-    record {
-      hops_is = ap (one_of hops_id) same ∙ s.hops_is ∙ rw on refl;
-      schedule_is = ap (all_of schedule_id) same ∙ s.schedule_is;
-      names_is = ap (λ x. unwrap_or (all_of name_id x) []) same ∙ s.names_is;
-    }
-has-by r t false off s =
-    let none : all_of hops_id r ≡ None = no_row (all_of hops_id r) (s.hops_used_is ∙ off) in
-    let missing : has_row hops_id r ≡ false = hops_there r t false off s in
-    let same : with_default r hops_built ≡ with_values hops_id (reading_by hops_built) DefaultValue (codes "false" ∷ []) r = rw missing refl in
-    record {
-      hops_is = ap (one_of hops_id) same ∙ one_of-same hops_id (reading_by hops_built) DefaultValue (codes "false") r refl none ∙ rw off refl;
-      schedule_is = ap (all_of schedule_id) same ∙ all_of-other hops_id schedule_id (reading_by hops_built) DefaultValue (codes "false" ∷ []) r refl ∙ s.schedule_is;
-      names_is = ap (λ o. unwrap_or o []) (ap (all_of name_id) same ∙ all_of-other hops_id name_id (reading_by hops_built) DefaultValue (codes "false" ∷ []) r refl) ∙ s.names_is;
-    }
+-- only flags have a default
+only_flags : (r : List Row) → fold with_default r top.rules ≡ both r
+only_flags r = rw (unchanged (has_row (codes "schedule") (both r)) (both r), unchanged (has_row (codes "changes") (both r)) (both r), unchanged (has_row (codes "workers") (both r)) (both r), unchanged (has_row name_id (both r)) (both r)) refl
+
+module _ (r : List Row) (t : Told) (s : Sim r t) where
+  flags_both : (f : Flag) → one_of (flag_text f) (both r) ≡ Some (cond (t.flags f) (codes "true") (codes "false"))
+  flags_both hops_flag = one_elsewhere ordered_flag (defaulted hops_flag r) (flag_text hops_flag) refl ∙ here hops_flag r (t.flags hops_flag) (s.flags_are hops_flag) (s.used_are hops_flag)
+  flags_both ordered_flag = here ordered_flag (defaulted hops_flag r) (t.flags ordered_flag) (one_elsewhere hops_flag r (flag_text ordered_flag) refl ∙ s.flags_are ordered_flag)
+      (ap is_some (all_elsewhere hops_flag r (flag_text ordered_flag) refl) ∙ s.used_are ordered_flag)
+
+  elsewhere : (id : Text) → bytes_eq (flag_text ordered_flag) id ≡ false → bytes_eq (flag_text hops_flag) id ≡ false → all_of id (both r) ≡ all_of id r
+  elsewhere id ordered hops = all_elsewhere ordered_flag (defaulted hops_flag r) id ordered ∙ all_elsewhere hops_flag r id hops
+
+  has-both : Has (both r) t
+  has-both = record {
+    flags_are = flags_both;
+    values_are = λ o. elsewhere (option_text o) (flag_not_option ordered_flag o) (flag_not_option hops_flag o) ∙ s.values_are o;
+    names_is = ap (λ o. unwrap_or o []) (elsewhere name_id refl refl) ∙ s.names_is;
+  }
 
 pub has-final : (r : List Row) (q : Option (Text × List Text)) (t : Told) → Sim (done r q) t → Has (finished top.rules (held r q)) t
-has-final r q t s = let P : List Row → Type 0 = λ x. Has x t in subst P (sym (only_hops (done r q))) (has-by (done r q) t _ refl s)
+has-final r q t s = let P : List Row → Type 0 = λ x. Has x t in subst P (sym (only_flags (done r q))) (has-both (done r q) t s)

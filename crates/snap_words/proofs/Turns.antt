@@ -1,5 +1,5 @@
 -- What `clap` makes of one word, where it stands between two words.
-use Rattle.std.proofs.Common.{◌≡◌, refl, Bool, true, false, cond, not, List, [], ◌∷◌, codes, ℕ, Option, Some, None, slice_get}
+use Rattle.std.proofs.Common.{◌≡◌, refl, Bool, true, false, cond, List, [], ◌∷◌, codes, ℕ, Option, Some, None, slice_get}
 use Rattle.std.specs.Str.{bytes_eq, chars}
 use Rattle.std.specs.Char.{encode_utf8}
 use Rattle.std.proofs.Math.Bool.{and-false}
@@ -13,16 +13,11 @@ use Rattle.clap.specs.Walk.{Held, Walk, Waiting, bundle_met, has_row, idle, opti
 use Rattle.clap.specs.declared.parser.matches.ValueSource.TheVariants.{CommandLine}
 use Rattle.clap.specs.declared.error.kind.ErrorKind.TheVariants.{ArgumentConflict, InvalidValue, UnknownArgument, TooManyValues}
 use Rattle.clap.proofs.OnLiterals.{clap_on_literals}
-use Rattle.snap_words.specs.Clap.{app, name_rule, hops_rule, schedule_rule}
+use Rattle.snap_words.specs.Clap.{app, flag_rule, name_rule, option_rule}
+use Rattle.snap_words.specs.Words.{Flag, Valued, flag_text, hops_flag, ordered_flag, option_text, schedule_option, changes_option, workers_option}
 
 abbrev pub top : Shape
 top = (built app).top
-
-abbrev pub hops_id : Text
-hops_id = codes "hops"
-
-abbrev pub schedule_id : Text
-schedule_id = codes "schedule"
 
 abbrev pub name_id : Text
 name_id = codes "name"
@@ -37,9 +32,9 @@ rest false = idle
 abbrev pub at : Held → Bool → Bool → Walk
 at h p trails = record { held = h; waiting = rest p; position = 1; is_trailing = trails; stopped = None }
 
--- the walk behind `--schedule`
-abbrev pub waits : List Row → Bool → Walk
-waits r trails = record { held = held r (Some (schedule_id, [])); waiting = option schedule_id; position = 1; is_trailing = trails; stopped = None }
+-- the walk behind an option that waits for its value
+abbrev pub waits : Valued → List Row → Bool → Walk
+waits o r trails = record { held = held r (Some (option_text o, [])); waiting = option (option_text o); position = 1; is_trailing = trails; stopped = None }
 
 abbrev pub settles : List Row → Option (Text × List Text) → Kinds
 settles r q = settle_fault top.rules false (held r q)
@@ -48,20 +43,20 @@ settles r q = settle_fault top.rules false (held r q)
 abbrev pub done : List Row → Option (Text × List Text) → List Row
 done r q = (settled top.rules (held r q)).rows
 
-abbrev pub hops_built : Rule
-hops_built = filled hops_rule
+abbrev pub flag_built : Flag → Rule
+flag_built f = filled (flag_rule (flag_text f))
 
-abbrev pub schedule_built : Rule
-schedule_built = filled schedule_rule
+abbrev pub option_built : Valued → Rule
+option_built o = filled (option_rule (option_text o))
 
 abbrev pub name_built : Rule
 name_built = with_index 1 (filled name_rule)
 
-abbrev pub hops_used : List Row → List Row
-hops_used r = with_values hops_id (reading_by hops_built) CommandLine (codes "true" ∷ []) (without hops_id r)
+abbrev pub flag_used : Flag → List Row → List Row
+flag_used f r = with_values (flag_text f) (reading_by (flag_built f)) CommandLine (codes "true" ∷ []) (without (flag_text f) r)
 
-abbrev pub schedule_used : Text → List Row → List Row
-schedule_used v r = with_values schedule_id (reading_by schedule_built) CommandLine (v ∷ []) (without schedule_id r)
+abbrev pub option_used : Valued → Text → List Row → List Row
+option_used o v r = with_values (option_text o) (reading_by (option_built o)) CommandLine (v ∷ []) (without (option_text o) r)
 
 abbrev pub name_used : Text → List Row → List Row
 name_used v r = with_values name_id (reading_by name_built) CommandLine (v ∷ []) r
@@ -69,51 +64,86 @@ name_used v r = with_values name_id (reading_by name_built) CommandLine (v ∷ [
 abbrev pub twice : Bool → Kinds
 twice b = cond b (ArgumentConflict ∷ []) []
 
+-- the name of no option
+pub record IsUnknown (name : Text) : Type 0 where
+  pub no_hops : bytes_eq (codes "hops") name ≡ false
+  pub no_ordered : bytes_eq (codes "ordered") name ≡ false
+  pub no_schedule : bytes_eq (codes "schedule") name ≡ false
+  pub no_changes : bytes_eq (codes "changes") name ≡ false
+  pub no_workers : bytes_eq (codes "workers") name ≡ false
+
 module _ (r : List Row) (q : Option (Text × List Text)) (w : Text) (single : bytes_eq w (codes "--") ≡ false) where
-  pub hops_turn : (p b : Bool) (name : Text) → long_of w ≡ Some (name, None) → bytes_eq hops_id name ≡ true → has_row hops_id (done r q) ≡ b → turn_fault top [] (at (held r q) p false) w ≡ or_else (or_else (settles r q) (twice b)) []
+  pub flag_turn : (f : Flag) (p b : Bool) → long_of w ≡ Some (flag_text f, None) → has_row (flag_text f) (done r q) ≡ b → turn_fault top [] (at (held r q) p false) w ≡ or_else (or_else (settles r q) (twice b)) []
   unfolding clap_on_literals
-  hops_turn true true name long is has = rw (single, long, is, has) refl
-  hops_turn true false name long is has = rw (single, long, is, has) refl
-  hops_turn false true name long is has = rw (single, long, is, has) refl
-  hops_turn false false name long is has = rw (single, long, is, has) refl
+  flag_turn hops_flag true true long has = rw (single, long, has) refl
+  flag_turn hops_flag true false long has = rw (single, long, has) refl
+  flag_turn hops_flag false true long has = rw (single, long, has) refl
+  flag_turn hops_flag false false long has = rw (single, long, has) refl
+  flag_turn ordered_flag true true long has = rw (single, long, has) refl
+  flag_turn ordered_flag true false long has = rw (single, long, has) refl
+  flag_turn ordered_flag false true long has = rw (single, long, has) refl
+  flag_turn ordered_flag false false long has = rw (single, long, has) refl
 
-  pub hops_moves : (p : Bool) (name : Text) → long_of w ≡ Some (name, None) → bytes_eq hops_id name ≡ true → walked top.rules [] (at (held r q) p false) w ≡ at (held (hops_used (done r q)) None) false false
+  pub flag_moves : (f : Flag) (p : Bool) → long_of w ≡ Some (flag_text f, None) → walked top.rules [] (at (held r q) p false) w ≡ at (held (flag_used f (done r q)) None) false false
   unfolding clap_on_literals
-  hops_moves true name long is = rw (single, long, is) refl
-  hops_moves false name long is = rw (single, long, is) refl
+  flag_moves hops_flag true long = rw (single, long) refl
+  flag_moves hops_flag false long = rw (single, long) refl
+  flag_moves ordered_flag true long = rw (single, long) refl
+  flag_moves ordered_flag false long = rw (single, long) refl
 
-  pub hops_valued : (p : Bool) (name v : Text) → long_of w ≡ Some (name, Some v) → bytes_eq hops_id name ≡ true → turn_fault top [] (at (held r q) p false) w ≡ TooManyValues ∷ []
+  pub flag_valued : (f : Flag) (p : Bool) (v : Text) → long_of w ≡ Some (flag_text f, Some v) → turn_fault top [] (at (held r q) p false) w ≡ TooManyValues ∷ []
   unfolding clap_on_literals
-  hops_valued true name v long is = rw (single, long, is) refl
-  hops_valued false name v long is = rw (single, long, is) refl
+  flag_valued hops_flag true v long = rw (single, long) refl
+  flag_valued hops_flag false v long = rw (single, long) refl
+  flag_valued ordered_flag true v long = rw (single, long) refl
+  flag_valued ordered_flag false v long = rw (single, long) refl
 
-  pub wait_turn : (p : Bool) (name : Text) → long_of w ≡ Some (name, None) → bytes_eq hops_id name ≡ false → bytes_eq schedule_id name ≡ true → turn_fault top [] (at (held r q) p false) w ≡ or_else (settles r q) []
+  pub wait_turn : (o : Valued) (p : Bool) → long_of w ≡ Some (option_text o, None) → turn_fault top [] (at (held r q) p false) w ≡ or_else (settles r q) []
   unfolding clap_on_literals
-  wait_turn true name long not is = rw (single, long, not, is) refl
-  wait_turn false name long not is = rw (single, long, not, is) refl
+  wait_turn schedule_option true long = rw (single, long) refl
+  wait_turn schedule_option false long = rw (single, long) refl
+  wait_turn changes_option true long = rw (single, long) refl
+  wait_turn changes_option false long = rw (single, long) refl
+  wait_turn workers_option true long = rw (single, long) refl
+  wait_turn workers_option false long = rw (single, long) refl
 
-  pub wait_moves : (p : Bool) (name : Text) → long_of w ≡ Some (name, None) → bytes_eq hops_id name ≡ false → bytes_eq schedule_id name ≡ true → walked top.rules [] (at (held r q) p false) w ≡ waits (done r q) false
+  pub wait_moves : (o : Valued) (p : Bool) → long_of w ≡ Some (option_text o, None) → walked top.rules [] (at (held r q) p false) w ≡ waits o (done r q) false
   unfolding clap_on_literals
-  wait_moves true name long not is = rw (single, long, not, is) refl
-  wait_moves false name long not is = rw (single, long, not, is) refl
+  wait_moves schedule_option true long = rw (single, long) refl
+  wait_moves schedule_option false long = rw (single, long) refl
+  wait_moves changes_option true long = rw (single, long) refl
+  wait_moves changes_option false long = rw (single, long) refl
+  wait_moves workers_option true long = rw (single, long) refl
+  wait_moves workers_option false long = rw (single, long) refl
 
-  pub value_turn : (p b : Bool) (name v : Text) → long_of w ≡ Some (name, Some v) → bytes_eq hops_id name ≡ false → bytes_eq schedule_id name ≡ true → has_row schedule_id (done r q) ≡ b
-      → turn_fault top [] (at (held r q) p false) w ≡ or_else (or_else (settles r q) (twice b)) []
+  pub value_turn : (o : Valued) (p b : Bool) (v : Text) → long_of w ≡ Some (option_text o, Some v) → has_row (option_text o) (done r q) ≡ b → turn_fault top [] (at (held r q) p false) w ≡ or_else (or_else (settles r q) (twice b)) []
   unfolding clap_on_literals
-  value_turn true true name v long not is has = rw (single, long, not, is, has) refl
-  value_turn true false name v long not is has = rw (single, long, not, is, has) refl
-  value_turn false true name v long not is has = rw (single, long, not, is, has) refl
-  value_turn false false name v long not is has = rw (single, long, not, is, has) refl
+  value_turn schedule_option true true v long has = rw (single, long, has) refl
+  value_turn schedule_option true false v long has = rw (single, long, has) refl
+  value_turn schedule_option false true v long has = rw (single, long, has) refl
+  value_turn schedule_option false false v long has = rw (single, long, has) refl
+  value_turn changes_option true true v long has = rw (single, long, has) refl
+  value_turn changes_option true false v long has = rw (single, long, has) refl
+  value_turn changes_option false true v long has = rw (single, long, has) refl
+  value_turn changes_option false false v long has = rw (single, long, has) refl
+  value_turn workers_option true true v long has = rw (single, long, has) refl
+  value_turn workers_option true false v long has = rw (single, long, has) refl
+  value_turn workers_option false true v long has = rw (single, long, has) refl
+  value_turn workers_option false false v long has = rw (single, long, has) refl
 
-  pub value_moves : (p : Bool) (name v : Text) → long_of w ≡ Some (name, Some v) → bytes_eq hops_id name ≡ false → bytes_eq schedule_id name ≡ true → walked top.rules [] (at (held r q) p false) w ≡ at (held (schedule_used v (done r q)) None) false false
+  pub value_moves : (o : Valued) (p : Bool) (v : Text) → long_of w ≡ Some (option_text o, Some v) → walked top.rules [] (at (held r q) p false) w ≡ at (held (option_used o v (done r q)) None) false false
   unfolding clap_on_literals
-  value_moves true name v long not is = rw (single, long, not, is) refl
-  value_moves false name v long not is = rw (single, long, not, is) refl
+  value_moves schedule_option true v long = rw (single, long) refl
+  value_moves schedule_option false v long = rw (single, long) refl
+  value_moves changes_option true v long = rw (single, long) refl
+  value_moves changes_option false v long = rw (single, long) refl
+  value_moves workers_option true v long = rw (single, long) refl
+  value_moves workers_option false v long = rw (single, long) refl
 
-  pub long_turn : (p : Bool) (name : Text) (v : Option Text) → long_of w ≡ Some (name, v) → bytes_eq hops_id name ≡ false → bytes_eq schedule_id name ≡ false → turn_fault top [] (at (held r q) p false) w ≡ UnknownArgument ∷ []
+  pub long_turn : (p : Bool) (name : Text) (v : Option Text) → long_of w ≡ Some (name, v) → IsUnknown name → turn_fault top [] (at (held r q) p false) w ≡ UnknownArgument ∷ []
   unfolding clap_on_literals
-  long_turn true name v long not nor = rw (single, long, not, nor) refl
-  long_turn false name v long not nor = rw (single, long, not, nor) refl
+  long_turn true name v long u = rw (single, long, u.no_hops, u.no_ordered, u.no_schedule, u.no_changes, u.no_workers) refl
+  long_turn false name v long u = rw (single, long, u.no_hops, u.no_ordered, u.no_schedule, u.no_changes, u.no_workers) refl
 
   pub short_turn : (p : Bool) (y : ℕ) (ys : Text) (c : ℕ) → long_of w ≡ None → short_of w ≡ Some (y ∷ ys) → slice_get (chars (y ∷ ys)) 0 ≡ Some c → turn_fault top [] (at (held r q) p false) w ≡ UnknownArgument ∷ []
   unfolding walked bundle_met encode_utf8 flags_pass walk_passes flags_fault walk_fault defaults_fault
@@ -150,25 +180,6 @@ unfolding clap_on_literals
 dashes_moves r q true w is = rw is refl
 dashes_moves r q false w is = rw is refl
 
--- ---- where `--schedule` waits
-
-pub got_turn : (r : List Row) (w : Text) → bytes_eq w (codes "--") ≡ false → long_of w ≡ None → short_of w ≡ None → turn_fault top [] (waits r false) w ≡ []
-unfolding clap_on_literals
-got_turn r w single long short = rw (single, long, short) refl
-
-pub got_moves : (r : List Row) (w : Text) → bytes_eq w (codes "--") ≡ false → long_of w ≡ None → short_of w ≡ None → walked top.rules [] (waits r false) w ≡ at (held r (Some (schedule_id, w ∷ []))) false false
-unfolding clap_on_literals
-got_moves r w single long short = rw (single, long, short) refl
-
-pub val_settles : (r : List Row) (v : Text) (b : Bool) → has_row schedule_id r ≡ b → settles r (Some (schedule_id, v ∷ [])) ≡ twice b
-unfolding clap_on_literals
-val_settles r v true has = rw has refl
-val_settles r v false has = rw has refl
-
-pub val_done : (r : List Row) (v : Text) → done r (Some (schedule_id, v ∷ [])) ≡ schedule_used v r
-unfolding clap_on_literals
-val_done r v = refl
-
 pub name_settles : (r : List Row) (v : Text) → settles r (Some (name_id, v ∷ [])) ≡ []
 unfolding clap_on_literals
 name_settles r v = refl
@@ -177,41 +188,105 @@ pub name_done : (r : List Row) (v : Text) → done r (Some (name_id, v ∷ [])) 
 unfolding clap_on_literals
 name_done r v = refl
 
--- ---- where `--schedule` waits and gets no value
+-- ---- where an option waits
+module _ (r : List Row) (w : Text) where
+  pub got_turn : (o : Valued) → bytes_eq w (codes "--") ≡ false → long_of w ≡ None → short_of w ≡ None → turn_fault top [] (waits o r false) w ≡ []
+  unfolding clap_on_literals
+  got_turn schedule_option single long short = rw (single, long, short) refl
+  got_turn changes_option single long short = rw (single, long, short) refl
+  got_turn workers_option single long short = rw (single, long, short) refl
 
-pub wait_dashes_turn : (r : List Row) (w : Text) → bytes_eq w (codes "--") ≡ true → turn_fault top [] (waits r false) w ≡ []
-unfolding clap_on_literals
-wait_dashes_turn r w is = rw is refl
+  pub got_moves : (o : Valued) → bytes_eq w (codes "--") ≡ false → long_of w ≡ None → short_of w ≡ None → walked top.rules [] (waits o r false) w ≡ at (held r (Some (option_text o, w ∷ []))) false false
+  unfolding clap_on_literals
+  got_moves schedule_option single long short = rw (single, long, short) refl
+  got_moves changes_option single long short = rw (single, long, short) refl
+  got_moves workers_option single long short = rw (single, long, short) refl
 
-pub wait_dashes_moves : (r : List Row) (w : Text) → bytes_eq w (codes "--") ≡ true → walked top.rules [] (waits r false) w ≡ waits r true
-unfolding clap_on_literals
-wait_dashes_moves r w is = rw is refl
+  pub val_settles : (o : Valued) (b : Bool) → has_row (option_text o) r ≡ b → settles r (Some (option_text o, w ∷ [])) ≡ twice b
+  unfolding clap_on_literals
+  val_settles schedule_option true has = rw has refl
+  val_settles schedule_option false has = rw has refl
+  val_settles changes_option true has = rw has refl
+  val_settles changes_option false has = rw has refl
+  val_settles workers_option true has = rw has refl
+  val_settles workers_option false has = rw has refl
 
-pub wait_trail_turn : (r : List Row) (w : Text) → turn_fault top [] (waits r true) w ≡ InvalidValue ∷ []
-unfolding clap_on_literals
-wait_trail_turn r w = refl
+  pub val_done : (o : Valued) → done r (Some (option_text o, w ∷ [])) ≡ option_used o w r
+  unfolding clap_on_literals
+  val_done schedule_option = refl
+  val_done changes_option = refl
+  val_done workers_option = refl
 
+  pub wait_dashes_turn : (o : Valued) → bytes_eq w (codes "--") ≡ true → turn_fault top [] (waits o r false) w ≡ []
+  unfolding clap_on_literals
+  wait_dashes_turn schedule_option is = rw is refl
+  wait_dashes_turn changes_option is = rw is refl
+  wait_dashes_turn workers_option is = rw is refl
+
+  pub wait_dashes_moves : (o : Valued) → bytes_eq w (codes "--") ≡ true → walked top.rules [] (waits o r false) w ≡ waits o r true
+  unfolding clap_on_literals
+  wait_dashes_moves schedule_option is = rw is refl
+  wait_dashes_moves changes_option is = rw is refl
+  wait_dashes_moves workers_option is = rw is refl
+
+  pub wait_trail_turn : (o : Valued) → turn_fault top [] (waits o r true) w ≡ InvalidValue ∷ []
+  unfolding clap_on_literals
+  wait_trail_turn schedule_option = refl
+  wait_trail_turn changes_option = refl
+  wait_trail_turn workers_option = refl
+
+-- and gets no value
 module _ (r : List Row) (w : Text) (single : bytes_eq w (codes "--") ≡ false) where
-  pub wait_hops : (name : Text) → long_of w ≡ Some (name, None) → bytes_eq hops_id name ≡ true → turn_fault top [] (waits r false) w ≡ InvalidValue ∷ []
+  pub wait_flag : (o : Valued) (f : Flag) → long_of w ≡ Some (flag_text f, None) → turn_fault top [] (waits o r false) w ≡ InvalidValue ∷ []
   unfolding clap_on_literals
-  wait_hops name long is = rw (single, long, is) refl
+  wait_flag schedule_option hops_flag long = rw (single, long) refl
+  wait_flag schedule_option ordered_flag long = rw (single, long) refl
+  wait_flag changes_option hops_flag long = rw (single, long) refl
+  wait_flag changes_option ordered_flag long = rw (single, long) refl
+  wait_flag workers_option hops_flag long = rw (single, long) refl
+  wait_flag workers_option ordered_flag long = rw (single, long) refl
 
-  pub wait_valued : (name v : Text) → long_of w ≡ Some (name, Some v) → bytes_eq hops_id name ≡ true → turn_fault top [] (waits r false) w ≡ TooManyValues ∷ []
+  pub wait_flag_valued : (o : Valued) (f : Flag) (v : Text) → long_of w ≡ Some (flag_text f, Some v) → turn_fault top [] (waits o r false) w ≡ TooManyValues ∷ []
   unfolding clap_on_literals
-  wait_valued name v long is = rw (single, long, is) refl
+  wait_flag_valued schedule_option hops_flag v long = rw (single, long) refl
+  wait_flag_valued schedule_option ordered_flag v long = rw (single, long) refl
+  wait_flag_valued changes_option hops_flag v long = rw (single, long) refl
+  wait_flag_valued changes_option ordered_flag v long = rw (single, long) refl
+  wait_flag_valued workers_option hops_flag v long = rw (single, long) refl
+  wait_flag_valued workers_option ordered_flag v long = rw (single, long) refl
 
-  pub wait_again : (name : Text) → long_of w ≡ Some (name, None) → bytes_eq hops_id name ≡ false → bytes_eq schedule_id name ≡ true → turn_fault top [] (waits r false) w ≡ InvalidValue ∷ []
+  pub wait_option : (o p : Valued) → long_of w ≡ Some (option_text p, None) → turn_fault top [] (waits o r false) w ≡ InvalidValue ∷ []
   unfolding clap_on_literals
-  wait_again name long not is = rw (single, long, not, is) refl
+  wait_option schedule_option schedule_option long = rw (single, long) refl
+  wait_option schedule_option changes_option long = rw (single, long) refl
+  wait_option schedule_option workers_option long = rw (single, long) refl
+  wait_option changes_option schedule_option long = rw (single, long) refl
+  wait_option changes_option changes_option long = rw (single, long) refl
+  wait_option changes_option workers_option long = rw (single, long) refl
+  wait_option workers_option schedule_option long = rw (single, long) refl
+  wait_option workers_option changes_option long = rw (single, long) refl
+  wait_option workers_option workers_option long = rw (single, long) refl
 
-  pub wait_value : (name v : Text) → long_of w ≡ Some (name, Some v) → bytes_eq hops_id name ≡ false → bytes_eq schedule_id name ≡ true → turn_fault top [] (waits r false) w ≡ InvalidValue ∷ []
+  pub wait_option_valued : (o p : Valued) (v : Text) → long_of w ≡ Some (option_text p, Some v) → turn_fault top [] (waits o r false) w ≡ InvalidValue ∷ []
   unfolding clap_on_literals
-  wait_value name v long not is = rw (single, long, not, is) refl
+  wait_option_valued schedule_option schedule_option v long = rw (single, long) refl
+  wait_option_valued schedule_option changes_option v long = rw (single, long) refl
+  wait_option_valued schedule_option workers_option v long = rw (single, long) refl
+  wait_option_valued changes_option schedule_option v long = rw (single, long) refl
+  wait_option_valued changes_option changes_option v long = rw (single, long) refl
+  wait_option_valued changes_option workers_option v long = rw (single, long) refl
+  wait_option_valued workers_option schedule_option v long = rw (single, long) refl
+  wait_option_valued workers_option changes_option v long = rw (single, long) refl
+  wait_option_valued workers_option workers_option v long = rw (single, long) refl
 
-  pub wait_long : (name : Text) (v : Option Text) → long_of w ≡ Some (name, v) → bytes_eq hops_id name ≡ false → bytes_eq schedule_id name ≡ false → turn_fault top [] (waits r false) w ≡ UnknownArgument ∷ []
+  pub wait_long : (o : Valued) (name : Text) (v : Option Text) → long_of w ≡ Some (name, v) → IsUnknown name → turn_fault top [] (waits o r false) w ≡ UnknownArgument ∷ []
   unfolding clap_on_literals
-  wait_long name v long not nor = rw (single, long, not, nor) refl
+  wait_long schedule_option name v long u = rw (single, long, u.no_hops, u.no_ordered, u.no_schedule, u.no_changes, u.no_workers) refl
+  wait_long changes_option name v long u = rw (single, long, u.no_hops, u.no_ordered, u.no_schedule, u.no_changes, u.no_workers) refl
+  wait_long workers_option name v long u = rw (single, long, u.no_hops, u.no_ordered, u.no_schedule, u.no_changes, u.no_workers) refl
 
-  pub wait_short : (y : ℕ) (ys : Text) (c : ℕ) → long_of w ≡ None → short_of w ≡ Some (y ∷ ys) → slice_get (chars (y ∷ ys)) 0 ≡ Some c → turn_fault top [] (waits r false) w ≡ UnknownArgument ∷ []
+  pub wait_short : (o : Valued) (y : ℕ) (ys : Text) (c : ℕ) → long_of w ≡ None → short_of w ≡ Some (y ∷ ys) → slice_get (chars (y ∷ ys)) 0 ≡ Some c → turn_fault top [] (waits o r false) w ≡ UnknownArgument ∷ []
   unfolding walked bundle_met encode_utf8 flags_pass walk_passes flags_fault walk_fault defaults_fault
-  wait_short y ys c long short first = rw (single, long, short, first) refl
+  wait_short schedule_option y ys c long short first = rw (single, long, short, first) refl
+  wait_short changes_option y ys c long short first = rw (single, long, short, first) refl
+  wait_short workers_option y ys c long short first = rw (single, long, short, first) refl

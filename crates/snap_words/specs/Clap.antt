@@ -2,12 +2,13 @@
 use Rattle.std.specs.Prelude.{codes, Some, true}
 use Rattle.clap.specs.Words.{App, Rule, new_app, new_rule, with_rule}
 use Rattle.clap.specs.declared.builder.ArgAction.TheVariants.{Append, Set, SetTrue}
+use Rattle.snap_words.specs.Words.{Text}
 
-abbrev pub hops_rule : Rule
-hops_rule = record (new_rule (codes "hops")) { long = Some (codes "hops"); action = Some SetTrue }
+abbrev pub flag_rule : Text → Rule
+flag_rule name = record (new_rule name) { long = Some name; action = Some SetTrue }
 
-abbrev pub schedule_rule : Rule
-schedule_rule = record (new_rule (codes "schedule")) { long = Some (codes "schedule"); action = Some Set }
+abbrev pub option_rule : Text → Rule
+option_rule name = record (new_rule name) { long = Some name; action = Some Set }
 
 abbrev pub name_rule : Rule
 name_rule = record (new_rule (codes "name")) { action = Some Append }
@@ -16,5 +17,11 @@ name_rule = record (new_rule (codes "name")) { action = Some Append }
 abbrev pub bare : App
 bare = let a = new_app (codes "snapc") in record a { top = record a.top { no_binary_name = true; disable_help_flag = true } }
 
+abbrev pub with_flags : App
+with_flags = with_rule (with_rule bare (flag_rule (codes "hops"))) (flag_rule (codes "ordered"))
+
+abbrev pub with_options : App
+with_options = with_rule (with_rule (with_rule with_flags (option_rule (codes "schedule"))) (option_rule (codes "changes"))) (option_rule (codes "workers"))
+
 abbrev pub app : App
-app = with_rule (with_rule (with_rule bare hops_rule) schedule_rule) name_rule
+app = with_rule with_options name_rule

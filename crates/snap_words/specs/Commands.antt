@@ -1,8 +1,16 @@
 -- The commands, and the words that name one.
-use Rattle.std.specs.Prelude.{◌||◌, Bool, List, [], ◌∷◌, codes, Option, Some, None, if◌then◌else◌, is_some, option_and_then}
+use Rattle.std.specs.Prelude.{ℕ, ◌≤◌, ◌||◌, Bool, false, List, [], ◌∷◌, codes, Option, Some, None, if◌then◌else◌, is_some, option_and_then, option_map}
 use Rattle.std.specs.List.{list_all}
 use Rattle.std.specs.Str.{bytes_eq, is_utf8}
-use Rattle.snap_words.specs.Words.{Text, Told, told_by}
+use Rattle.snap_words.specs.Counts.{count_of}
+use Rattle.snap_words.specs.Words.{Text, Told, hops_flag, ordered_flag, schedule_option, changes_option, workers_option, told_by}
+
+-- in which order `trace` runs packets: one after the other, by the lines of a file, or one after the other between changes of
+-- tables by the lines of a file
+pub data Order : Type 0 where
+  plain : Order
+  schedule : Text → Order
+  changes : Text → Order
 
 -- a command and the files that it names
 pub data Command : Type 0 where
@@ -13,15 +21,16 @@ pub data Command : Type 0 where
   routes : Text → Command
   place : Text → Text → Text → Command
   compile : Text → Text → Text → Command
-  trace : Text → Text → (hops : Bool) → Command
+  trace : Text → Text → (hops : Bool) → Order → Command
+  demo : (switches : ℕ) → Command
+
+-- an option was there
+abbrev pub has_options : Told → Bool
+has_options t = t.flags hops_flag || t.flags ordered_flag || is_some (t.values schedule_option) || is_some (t.values changes_option) || is_some (t.values workers_option)
 
 -- the names of a command that has no options
 abbrev pub names_alone : Told → Option (List Text)
-names_alone t = if t.hops || is_some t.schedule then None else Some t.names
-
--- the names of a command that may have `--hops`
-abbrev pub names_with_hops : Told → Option (List Text)
-names_with_hops t = if is_some t.schedule then None else Some t.names
+names_alone t = if has_options t then None else Some t.names
 
 -- a command of one name, of two, and of three
 abbrev pub with_one : (Text → Command) → List Text → Option Command
@@ -42,6 +51,12 @@ with_three make (a ∷ b ∷ []) = None
 with_three make (a ∷ b ∷ c ∷ []) = Some (make a b c)
 with_three make (a ∷ b ∷ c ∷ d ∷ more) = None
 
+-- `demo` has a number from 1 to 64 in place of names
+abbrev pub demo_for : List Text → Option Command
+demo_for [] = None
+demo_for (a ∷ []) = option_map demo (count_of a)
+demo_for (a ∷ b ∷ more) = None
+
 -- the command of a first word and of the names behind it, of those that have no options
 abbrev pub plain_command : Text → List Text → Option Command
 plain_command first names =
@@ -52,12 +67,26 @@ plain_command first names =
     else if bytes_eq first (codes "routes") then with_one routes names
     else if bytes_eq first (codes "place") then with_three place names
     else if bytes_eq first (codes "compile") then with_three compile names
+    else if bytes_eq first (codes "demo") then demo_for names
     else None
 
--- the command of a first word and of what the others say; `--hops` is of `trace` alone, and no command takes a schedule
+-- the order of a run, where its options go together
+abbrev pub order_by : (ordered : Bool) → (lines tables workers : Option Text) → Option Order
+order_by false None None None = Some plain
+order_by false (Some file) None None = Some (schedule file)
+order_by false None (Some file) None = Some (changes file)
+order_by ordered lines tables workers = None
+
+abbrev pub order_of : Told → Option Order
+order_of t = order_by (t.flags ordered_flag) (t.values schedule_option) (t.values changes_option) (t.values workers_option)
+
+abbrev pub trace_for : Told → Option Command
+trace_for t = option_and_then (λ order. with_two (λ tables packets. trace tables packets (t.flags hops_flag) order) t.names) (order_of t)
+
+-- the command of a first word and of what the others say; options are of `trace` alone
 abbrev pub command_for : Text → Told → Option Command
 command_for first t =
-    if bytes_eq first (codes "trace") then option_and_then (with_two (λ tables packets. trace tables packets t.hops)) (names_with_hops t)
+    if bytes_eq first (codes "trace") then trace_for t
     else option_and_then (plain_command first) (names_alone t)
 
 -- the command that texts name
@@ -68,3 +97,8 @@ command_in (first ∷ words) = option_and_then (command_for first) (told_by word
 -- the command that the words of a command line name; each word is UTF-8
 abbrev pub command_of : List Text → Option Command
 command_of words = if list_all is_utf8 words then command_in words else None
+
+-- a demonstration has from 1 to 64 switches
+abbrev pub HasFew : Command → Type 0
+HasFew (demo switches) = (1 ≤ switches) × (switches ≤ 64)
+HasFew command = Unit {0}

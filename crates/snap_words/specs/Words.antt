@@ -1,86 +1,148 @@
 -- The words behind a command: its options and its names.
-use Rattle.std.specs.Prelude.{ℕ, ◌==◌, ◌&&◌, ◌++◌, Bool, true, false, not, List, [], ◌∷◌, codes, Option, Some, None, if◌then◌else◌, is_some, option_and_then}
-use Rattle.std.specs.List.{list_all}
+use Rattle.std.specs.Prelude.{ℕ, ◌==◌, ◌&&◌, ◌++◌, Bool, true, false, not, List, [], ◌∷◌, codes, Option, Some, None, if◌then◌else◌, is_some, option_and_then, option_map, unwrap_or}
+use Rattle.std.specs.List.{after_first, before_first, list_all, list_any}
+use Rattle.std.specs.Option.{option_or}
 use Rattle.std.specs.Str.{bytes_eq}
 
 abbrev pub Text : Type 0
 Text = List ℕ
 
--- what follows a beginning, if the word has it
-abbrev pub behind : Text → Text → Option Text
-behind [] word = Some word
-behind (p ∷ ps) [] = None
-behind (p ∷ ps) (x ∷ xs) = if x == p then behind ps xs else None
+-- ---- options
+-- those without a value
+pub data Flag : Type 0 where
+  hops_flag : Flag
+  ordered_flag : Flag
 
--- what a word is where no file is waited for: `--`, `--hops`, `--schedule` with its file in the next word,
--- `--schedule=FILE`, or a name, as every other word
+-- those with a value
+pub data Valued : Type 0 where
+  schedule_option : Valued
+  changes_option : Valued
+  workers_option : Valued
+
+abbrev pub flag_text : Flag → Text
+flag_text hops_flag = codes "hops"
+flag_text ordered_flag = codes "ordered"
+
+abbrev pub option_text : Valued → Text
+option_text schedule_option = codes "schedule"
+option_text changes_option = codes "changes"
+option_text workers_option = codes "workers"
+
+-- the option with this name
+abbrev pub flag_named : Text → Option Flag
+flag_named name =
+    if bytes_eq (codes "hops") name then Some hops_flag
+    else if bytes_eq (codes "ordered") name then Some ordered_flag
+    else None
+
+abbrev pub option_named : Text → Option Valued
+option_named name =
+    if bytes_eq (codes "schedule") name then Some schedule_option
+    else if bytes_eq (codes "changes") name then Some changes_option
+    else if bytes_eq (codes "workers") name then Some workers_option
+    else None
+
+abbrev pub is_same_flag : Flag → Flag → Bool
+is_same_flag hops_flag hops_flag = true
+is_same_flag ordered_flag ordered_flag = true
+is_same_flag f g = false
+
+abbrev pub is_same_option : Valued → Valued → Bool
+is_same_option schedule_option schedule_option = true
+is_same_option changes_option changes_option = true
+is_same_option workers_option workers_option = true
+is_same_option o p = false
+
+-- ---- words
+-- what a word is where no value is waited for: `--`, `--FLAG`, `--OPTION` with its value in the next word, `--OPTION=VALUE`,
+-- or a name, as every other word
 pub data Word : Type 0 where
   end_of_options : Word
-  hops_option : Word
-  schedule_option : Word
-  schedule_file : Text → Word
+  flag_word : Flag → Word
+  option_word : Valued → Word
+  value_word : Valued → Text → Word
   name_word : Word
 
-abbrev pub file_or_name : Option Text → Word
-file_or_name (Some file) = schedule_file file
-file_or_name None = name_word
+-- the word that a name, and the value that perhaps stands behind it, say
+abbrev pub option_with : (name : Text) → Option Text → Option Word
+option_with name None = option_or (option_map flag_word (flag_named name)) (option_map option_word (option_named name))
+option_with name (Some value) = option_map (λ o. value_word o value) (option_named name)
+
+-- what stands behind the first `=`
+abbrev pub value_in : Text → Option Text
+value_in text = if list_any (λ x. x == 61) text then Some (after_first (λ x. x == 61) text) else None
+
+abbrev pub behind_dashes : Text → Word
+behind_dashes [] = end_of_options
+behind_dashes (x ∷ xs) = unwrap_or (option_with (before_first (λ x. x == 61) (x ∷ xs)) (value_in (x ∷ xs))) name_word
+
+-- what follows a hyphen
+abbrev pub behind_hyphen : Text → Option Text
+behind_hyphen [] = None
+behind_hyphen (x ∷ xs) = if x == 45 then Some xs else None
 
 abbrev pub word_of : Text → Word
-word_of word = if bytes_eq word (codes "--") then end_of_options
-    else if bytes_eq word (codes "--hops") then hops_option
-    else if bytes_eq word (codes "--schedule") then schedule_option
-    else file_or_name (behind (codes "--schedule=") word)
+word_of word = unwrap_or (option_map behind_dashes (option_and_then behind_hyphen (behind_hyphen word))) name_word
 
--- what words say
+-- ---- what words say
 pub record Told : Type 0 where
-  pub hops : Bool
-  pub schedule : Option Text
+  pub flags : Flag → Bool
+  pub values : Valued → Option Text
   pub names : List Text
 
 abbrev pub nothing : Told
-nothing = record { hops = false; schedule = None; names = [] }
+nothing = record { flags = λ f. false; values = λ o. None; names = [] }
+
+abbrev pub flagged : Told → Flag → Told
+flagged t f = record t { flags = λ g. if is_same_flag f g then true else t.flags g }
+
+abbrev pub valued : Told → Valued → Text → Told
+valued t o value = record t { values = λ p. if is_same_option o p then Some value else t.values p }
 
 -- an option comes at most once
-abbrev pub with_hops : Told → Option Told
-with_hops t = if t.hops then None else Some (record t { hops = true })
+abbrev pub with_flag : Told → Flag → Option Told
+with_flag t f = if t.flags f then None else Some (flagged t f)
 
-abbrev pub with_schedule : Told → Text → Option Told
-with_schedule t file = if is_some t.schedule then None else Some (record t { schedule = Some file })
+abbrev pub with_value : Told → Valued → Text → Option Told
+with_value t o value = if is_some (t.values o) then None else Some (valued t o value)
 
 abbrev pub with_names : Told → List Text → Told
 with_names t names = record t { names = t.names ++ names }
 
--- what a word adds; `next` reads the words behind it. Behind `--` all are names
-abbrev pub add : Word → Told → Text → List Text → (Bool → Told → Option Told) → Option Told
+-- what a word adds; `next` reads the words behind it, where perhaps an option waits for its value. Behind `--` all are names
+abbrev pub add : Word → Told → Text → List Text → (Option Valued → Told → Option Told) → Option Told
 add end_of_options t word words next = Some (with_names t words)
-add hops_option t word words next = option_and_then (next false) (with_hops t)
-add schedule_option t word words next = next true t
-add (schedule_file file) t word words next = option_and_then (next false) (with_schedule t file)
-add name_word t word words next = next false (with_names t (word ∷ []))
+add (flag_word f) t word words next = option_and_then (next None) (with_flag t f)
+add (option_word o) t word words next = next (Some o) t
+add (value_word o value) t word words next = option_and_then (next None) (with_value t o value)
+add name_word t word words next = next None (with_names t (word ∷ []))
 
--- what words say after what was said before; `waits` tells that `--schedule` waits for its file
-abbrev pub tell : List Text → Bool → Told → Option Told
-tell [] waits t = if waits then None else Some t
-tell (word ∷ words) waits t =
-    if waits then option_and_then (tell words false) (with_schedule t word)
-    else add (word_of word) t word words (tell words)
+-- what words say after what was said before; an option may wait for its value
+abbrev pub tell : List Text → (waits : Option Valued) → Told → Option Told
+tell [] None t = Some t
+tell [] (Some o) t = None
+tell (word ∷ words) None t = add (word_of word) t word words (tell words)
+tell (word ∷ words) (Some o) t = option_and_then (tell words None) (with_value t o word)
 
--- a file's name is not empty and does not begin with `-`
+-- a name, and the value of an option, is not empty and does not begin with `-`
 abbrev pub is_name : Text → Bool
 is_name [] = false
 is_name (x ∷ xs) = not (x == 45)
 
 abbrev pub is_name_or_none : Option Text → Bool
 is_name_or_none None = true
-is_name_or_none (Some file) = is_name file
+is_name_or_none (Some value) = is_name value
+
+abbrev pub has_values : Told → Bool
+has_values t = is_name_or_none (t.values schedule_option) && is_name_or_none (t.values changes_option) && is_name_or_none (t.values workers_option)
 
 abbrev pub has_names : Told → Bool
-has_names t = list_all is_name t.names && is_name_or_none t.schedule
+has_names t = list_all is_name t.names && has_values t
 
--- nothing where a name isn't one
+-- nothing where a name or a value isn't one
 abbrev pub checked : Told → Option Told
 checked t = if has_names t then Some t else None
 
 -- what the words behind a command say, where they are of the form
 abbrev pub told_by : List Text → Option Told
-told_by words = option_and_then checked (tell words false nothing)
+told_by words = option_and_then checked (tell words None nothing)

@@ -1,12 +1,13 @@
 //! From the words of a command line to its command.
 
-ghost use Rattle.std.specs.Prelude.{◌≡◌, IfErr, IfOk, IsTrue, None, Some, false, option_map};
-ghost use Rattle.std.specs.List.{list_all};
+ghost use Rattle.std.specs.Prelude.{◌≡◌, ◌==◌, ◌-◌, IfErr, IfOk, IsTrue, None, Some, drop, false, length, option_map};
+ghost use Rattle.std.specs.List.{ends_with, list_all};
 ghost use Rattle.std.specs.Str.{is_utf8};
-ghost use Rattle.snap_words.specs.Commands.{check, command_for, command_of, compile, deps, equal, names_alone, names_with_hops, obs, place, plain_command, routes, trace, with_one, with_three, with_two};
-ghost use Rattle.snap_words.specs.Said.{are_among, bytes_of, is_among, lent, said, shown};
+ghost use Rattle.snap_words.specs.Commands.{check, command_for, command_of, compile, demo_for, deps, equal, has_options, names_alone, obs, order_of, place, plain_command, routes, trace_for, with_one, with_three, with_two};
+ghost use Rattle.snap_words.specs.Said.{are_among, bytes_of, has_values_among, is_among, lent, said, said_among, shown, shown_order};
 
-use crate::command::Command;
+use crate::command::{Command, Order};
+use crate::count::count_of;
 use crate::fault::WordsFault;
 use crate::told::{self, Told};
 use std::alloc::Global;
@@ -55,14 +56,13 @@ fn text(word: &[u8]) -> Result<&str, WordsFault>
     }
 }
 
-/// The command of a first word and of what the others say. `--hops` is of `trace` alone, and no command takes a
-/// schedule.
+/// The command of a first word and of what the others say. Options are of `trace` alone.
 fn command_for<'a>(words: &'a [Vec<u8>], first: &str, told: &Told) -> Option<Command<'a>>
-    requires { IsTrue (are_among (bytes_of words.now) (said told.now).names) }
+    requires { IsTrue (said_among (bytes_of words.now) (said told.now)) }
     ensures { option_map shown result ≡ command_for first.now (said told.now) }
 {
     match first {
-        "trace" => trace(words, names_with_hops(told)?, told.hops),
+        "trace" => trace(words, told),
         _ => plain_command(words, first, names_alone(told)?),
     }
 }
@@ -80,6 +80,7 @@ fn plain_command<'a>(words: &'a [Vec<u8>], first: &str, names: &[&str]) -> Optio
         "routes" => routes(words, names),
         "place" => place(words, names),
         "compile" => compile(words, names),
+        "demo" => demo(names),
         _ => None,
     }
 }
@@ -88,21 +89,22 @@ fn plain_command<'a>(words: &'a [Vec<u8>], first: &str, names: &[&str]) -> Optio
 fn names_alone<'t>(told: &'t Told) -> Option<&'t [&'t str]>
     ensures { option_map (λ s. lent s.now) result ≡ names_alone (said told.entry.now) }
 {
-    if told.hops || told.schedule.is_some() {
+    if has_options(told) {
         None
     } else {
         Some(told.names.as_slice())
     }
 }
 
-/// The names behind a command that may have `--hops`.
-fn names_with_hops<'t>(told: &'t Told) -> Option<&'t [&'t str]>
-    ensures { option_map (λ s. lent s.now) result ≡ names_with_hops (said told.entry.now) }
+/// Whether an option was there.
+fn has_options(told: &Told) -> bool
+    ensures { result ≡ has_options (said told.now) }
 {
-    match told.schedule {
-        Some(_) => None,
-        None => Some(told.names.as_slice()),
-    }
+    told.hops
+        || told.ordered
+        || told.schedule.is_some()
+        || told.changes.is_some()
+        || told.workers.is_some()
 }
 
 fn obs<'a>(words: &'a [Vec<u8>], names: &[&str]) -> Option<Command<'a>>
@@ -195,28 +197,73 @@ fn compile<'a>(words: &'a [Vec<u8>], names: &[&str]) -> Option<Command<'a>>
     }
 }
 
-fn trace<'a>(words: &'a [Vec<u8>], names: &[&str], hops: bool) -> Option<Command<'a>>
-    requires { IsTrue (are_among (bytes_of words.now) (lent names.now)) }
-    ensures { option_map shown result ≡ with_two (λ tables packets. trace tables packets hops) (lent names.now) }
+fn demo<'a>(names: &[&str]) -> Option<Command<'a>>
+    ensures { option_map shown result ≡ demo_for (lent names.now) }
 {
     match names {
-        [tables, packets] => Some(Command::Trace {
-            tables: word(words, tables),
-            packets: word(words, packets),
-            hops,
+        [count] => Some(Command::Demo {
+            switches: count_of(count)?,
         }),
         _ => None,
     }
 }
 
-/// The word that a name was read from: `clap` lends its own texts, and an answer lends the words.
+fn trace<'a>(words: &'a [Vec<u8>], told: &Told) -> Option<Command<'a>>
+    requires { IsTrue (said_among (bytes_of words.now) (said told.now)) }
+    ensures { option_map shown result ≡ trace_for (said told.now) }
+{
+    let order = order(words, told)?;
+    match told.names.as_slice() {
+        [tables, packets] => Some(Command::Trace {
+            tables: word(words, tables),
+            packets: word(words, packets),
+            hops: told.hops,
+            order,
+        }),
+        _ => None,
+    }
+}
+
+/// The order of a run, where its options go together.
+fn order<'a>(words: &'a [Vec<u8>], told: &Told) -> Option<Order<'a>>
+    requires { IsTrue (has_values_among (bytes_of words.now) (said told.now)) }
+    ensures { option_map shown_order result ≡ order_of (said told.now) }
+{
+    match (told.ordered, told.schedule, told.changes, told.workers) {
+        (false, None, None, None) => Some(Order::Plain),
+        (false, Some(file), None, None) => Some(Order::Schedule {
+            file: word(words, file),
+        }),
+        (false, None, Some(file), None) => Some(Order::Changes {
+            file: word(words, file),
+        }),
+        _ => None,
+    }
+}
+
+/// The word, or the end of one, that a name was read from: `clap` lends its own texts, and an answer lends the
+/// words.
 fn word<'a>(words: &'a [Vec<u8>], name: &str) -> &'a [u8]
     requires { IsTrue (is_among (bytes_of words.now) name.now) }
     ensures { result.now ≡ name.now }
 {
-    words
+    let word = words
         .iter()
-        .find(|word| word.as_slice() == name.as_bytes())
-        .unwrap()
-        .as_slice()
+        .find(|word| has_end(word.as_slice(), name))
+        .unwrap();
+    end_of(word.as_slice(), name.len())
+}
+
+/// Whether the word ends with the name.
+fn has_end(word: &[u8], name: &str) -> bool
+    ensures { result ≡ ends_with ◌==◌ word.now name.now }
+{
+    word.ends_with(name.as_bytes())
+}
+
+/// The last bytes of a word, as many as `count` says, or all.
+fn end_of(word: &[u8], count: usize) -> &[u8]
+    ensures { result.now ≡ drop (length word.entry.now - count) word.entry.now }
+{
+    &word[word.len().saturating_sub(count)..]
 }

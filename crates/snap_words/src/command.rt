@@ -1,5 +1,16 @@
 //! The commands, as their words name them.
 
+/// In which order `trace` runs packets. A file's name is text that is not empty and does not begin with `-`.
+#[derive(Clone, Copy, Debug, PartialEq, Eq)]
+pub enum Order<'a> {
+    /// One packet after the other, each to its end.
+    Plain,
+    /// The events of a file, line by line (`--schedule`).
+    Schedule { file: &'a [u8] },
+    /// One packet after the other, between changes of tables by the lines of a file (`--changes`).
+    Changes { file: &'a [u8] },
+}
+
 /// A command and the files that it names. A name is text that is not empty and does not begin with `-`.
 #[derive(Clone, Copy, Debug, PartialEq, Eq)]
 pub enum Command<'a> {
@@ -37,10 +48,16 @@ pub enum Command<'a> {
         topology: &'a [u8],
         placement: &'a [u8],
     },
-    /// The report of the network that runs tables: tables and packets, and whether each hop is told (`--hops`).
+    /// The report of the network that runs tables: tables and packets, whether each hop is told (`--hops`), and
+    /// the order of the run.
     Trace {
         tables: &'a [u8],
         packets: &'a [u8],
         hops: bool,
+        order: Order<'a>,
+    },
+    /// The demonstration with so many switches, from 1 to 64.
+    Demo {
+        switches: u16,
     },
 }

@@ -1,12 +1,12 @@
 //! What the words behind a command say: options and names, read with `clap`.
 
-ghost use Rattle.std.specs.Prelude.{◌≡◌, ◌≢◌, [], IfErr, IfOk, IsTrue, None, Some, codes, option_map, unwrap_or};
+ghost use Rattle.std.specs.Prelude.{◌≡◌, ◌≢◌, [], IfErr, IfOk, IsTrue, None, Some, codes, false, option_map, unwrap_or};
 ghost use Rattle.std.specs.List.{list_all};
 ghost use Rattle.std.specs.Str.{is_utf8};
-ghost use Rattle.clap.specs.Words.{all_of, app_of, fault_of, found_of, kind_of, matches_of, rows_of};
-ghost use Rattle.snap_words.specs.Clap.{app};
+ghost use Rattle.clap.specs.Words.{all_of, app_of, fault_of, found_of, kind_of, matches_of, rows_of, rule_of};
+ghost use Rattle.snap_words.specs.Clap.{app, flag_rule, option_rule, with_flags, with_options};
 ghost use Rattle.snap_words.specs.Said.{lent, said};
-ghost use Rattle.snap_words.specs.Words.{has_names, is_name, is_name_or_none, told_by};
+ghost use Rattle.snap_words.specs.Words.{has_names, has_values, is_name, is_name_or_none, told_by};
 
 use crate::fault::WordsFault;
 use clap::error::ErrorKind;
@@ -18,14 +18,20 @@ use std::alloc::{AllocError, Global};
 pub struct Told<'a> {
     /// `--hops` was there.
     pub hops: bool,
+    /// `--ordered` was there.
+    pub ordered: bool,
     /// The file of `--schedule`.
     pub schedule: Option<&'a str>,
+    /// The file of `--changes`.
+    pub changes: Option<&'a str>,
+    /// The number of `--workers`.
+    pub workers: Option<&'a str>,
     /// The names of files, in their order.
     pub names: Vec<&'a str>,
 }
 
 /// What the words behind a command say. `Usage` where they are not of the form: an option that is
-/// unknown or comes twice, or a name that is empty or begins with `-`.
+/// unknown or comes twice, or a name or a value that is empty or begins with `-`.
 pub fn read<'a>(alloc: Global, words: &'a [&'a str]) -> Result<Told<'a>, WordsFault>
     requires { IsTrue (list_all is_utf8 (lent words.now)) }
     ensures ok { IfOk result (λ t. told_by (lent words.entry.now) ≡ Some (said t)) }
@@ -34,7 +40,10 @@ pub fn read<'a>(alloc: Global, words: &'a [&'a str]) -> Result<Told<'a>, WordsFa
     let matches = matches_of(alloc, words)?;
     let told = Told {
         hops: matches.get_flag("hops"),
+        ordered: matches.get_flag("ordered"),
         schedule: matches.get_str("schedule"),
+        changes: matches.get_str("changes"),
+        workers: matches.get_str("workers"),
         names: names_in(alloc, &matches)?,
     };
     if has_names(&told) {
@@ -56,23 +65,49 @@ fn matches_of<'a>(alloc: Global, words: &'a [&'a str]) -> Result<ArgMatches<'a>,
     }
 }
 
-/// The one flat command for all: `--hops`, `--schedule FILE` and names, in any order.
+/// The one flat command for all: options and names, in any order.
 fn flat<'a>(alloc: Global) -> Result<Command<'a>, AllocError>
     ensures { IfOk result (λ c. app_of c ≡ app) }
 {
-    let hops = Arg::new(alloc, "hops")
-        .long("hops")
-        .action(ArgAction::SetTrue);
-    let schedule = Arg::new(alloc, "schedule")
-        .long("schedule")
-        .action(ArgAction::Set);
     let name = Arg::new(alloc, "name").action(ArgAction::Append);
+    with_options(alloc)?.arg(name)
+}
+
+/// The options alone.
+fn with_options<'a>(alloc: Global) -> Result<Command<'a>, AllocError>
+    ensures { IfOk result (λ c. app_of c ≡ with_options) }
+{
+    with_flags(alloc)?
+        .arg(option(alloc, "schedule"))?
+        .arg(option(alloc, "changes"))?
+        .arg(option(alloc, "workers"))
+}
+
+/// The options that have no value.
+fn with_flags<'a>(alloc: Global) -> Result<Command<'a>, AllocError>
+    ensures { IfOk result (λ c. app_of c ≡ with_flags) }
+{
     Command::new(alloc, "snapc")
         .no_binary_name(true)
         .disable_help_flag(true)
-        .arg(hops)?
-        .arg(schedule)?
-        .arg(name)
+        .arg(flag(alloc, "hops"))?
+        .arg(flag(alloc, "ordered"))
+}
+
+/// An option without a value.
+fn flag<'a>(alloc: Global, name: &'a str) -> Arg<'a>
+    ensures rule { rule_of result ≡ flag_rule name.entry.now }
+    ensures local { result.global ≡ false }
+{
+    Arg::new(alloc, name).long(name).action(ArgAction::SetTrue)
+}
+
+/// An option with a value.
+fn option<'a>(alloc: Global, name: &'a str) -> Arg<'a>
+    ensures rule { rule_of result ≡ option_rule name.entry.now }
+    ensures local { result.global ≡ false }
+{
+    Arg::new(alloc, name).long(name).action(ArgAction::Set)
 }
 
 /// `clap`'s errors are usage, but for want of memory.
@@ -96,11 +131,17 @@ fn names_in<'a>(alloc: Global, matches: &ArgMatches<'a>) -> Result<Vec<&'a str>,
     }
 }
 
-/// Whether all names are names of files. `clap` takes any word behind `--`, and an empty one.
+/// Whether all names and values are. `clap` takes any word behind `--`, and an empty one.
 fn has_names(told: &Told) -> bool
     ensures { result ≡ has_names (said told.now) }
 {
-    all_names(told.names.as_slice()) && is_name_or_none(told.schedule)
+    all_names(told.names.as_slice()) && has_values(told)
+}
+
+fn has_values(told: &Told) -> bool
+    ensures { result ≡ has_values (said told.now) }
+{
+    is_name_or_none(told.schedule) && is_name_or_none(told.changes) && is_name_or_none(told.workers)
 }
 
 fn all_names(names: &[&str]) -> bool
@@ -109,16 +150,16 @@ fn all_names(names: &[&str]) -> bool
     names.iter().all(|name| is_name(name))
 }
 
-fn is_name_or_none(file: Option<&str>) -> bool
-    ensures { result ≡ is_name_or_none (option_map (λ s. s.now) file.entry) }
+fn is_name_or_none(value: Option<&str>) -> bool
+    ensures { result ≡ is_name_or_none (option_map (λ s. s.now) value.entry) }
 {
-    match file {
+    match value {
         Some(name) => is_name(name),
         None => true,
     }
 }
 
-/// Whether a word is a file's name: not empty, and with no `-` in front.
+/// Whether a word is a name or a value: not empty, and with no `-` in front.
 fn is_name(word: &str) -> bool
     ensures { result ≡ is_name word.now }
 {

@@ -1,6 +1,5 @@
-use Rattle.std.proofs.Common.{rules, tests, ◌≡◌, ◌∙◌, ap, sym, refl, Bool, true, false, cond, List, [], ◌∷◌, ◌||◌, Option, Some, None, IsSome, is_some, option_map, map, find}
-use Rattle.std.specs.List.{list_any}
-use Rattle.std.specs.Str.{bytes_eq}
+use Rattle.std.proofs.Common.{rules, tests, ◌≡◌, ◌∙◌, ◌==◌, ap, sym, refl, Bool, true, false, cond, List, [], ◌∷◌, ◌||◌, Option, Some, None, IsSome, is_some, option_map, map, find}
+use Rattle.std.specs.List.{ends_with, list_any}
 use Rattle.std.proofs.lemmas.Iterator.{YieldsList-from_slice}
 use Rattle.std.proofs.lemmas.Iterator.Search.{find_from_yields_List}
 use Rattle.snap_words.proofs.calls.word.Goals as goal
@@ -22,8 +21,8 @@ some_lent : {A B : Type 0} (f : A → B) (o : Option A) → is_some (option_map 
 some_lent f None h = cc
 some_lent f (Some x) h = search rules
 
-pub unwrap-requires : goal.unwrap-requires
-unwrap-requires c =
-    let found = find_from_yields_List (λ w. bytes_eq w.items c.args.name.now) _ _ c.find.result c.find.ensures.ran (YieldsList-from_slice c.args.words.now cc) (λ x b q k. search (rules, tests)) in
-    some_lent _ c.find.result (ap is_some found ∙ is_some-find (λ w. bytes_eq w.items c.args.name.now) c.args.words.now
-    ∙ sym (list_any-map (λ w. bytes_eq w c.args.name.now) (λ w. w.items) c.args.words.now) ∙ c.requires)
+pub unwrap-word-requires : goal.unwrap-word-requires
+unwrap-word-requires c =
+    let found = find_from_yields_List (λ w. ends_with ◌==◌ w.items c.args.name.now) _ _ c.find.result c.find.ensures.ran (YieldsList-from_slice c.args.words.now cc) (λ x b q k. search (rules, tests)) in
+    some_lent _ c.find.result (ap is_some found ∙ is_some-find (λ w. ends_with ◌==◌ w.items c.args.name.now) c.args.words.now
+    ∙ sym (list_any-map (λ w. ends_with ◌==◌ w c.args.name.now) (λ w. w.items) c.args.words.now) ∙ c.requires)

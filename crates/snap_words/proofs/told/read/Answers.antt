@@ -3,7 +3,7 @@ use Rattle.std.proofs.lemmas.Result.{err_from_is_err_and}
 use Rattle.clap.specs.Words.{found_of}
 use Rattle.snap_words.specs.Said.{lent, said}
 use Rattle.snap_words.specs.Words.{Told}
-use Rattle.snap_words.proofs.ClapTold.{checked-false, checked-true, clap_err, told_from}
+use Rattle.snap_words.proofs.ClapTold.{Tells, checked-false, checked-true, clap_err, told_from}
 use Rattle.snap_words.proofs.told.read.Goals as goal
 
 pub returns-in_err-matches-clause-usage : goal.returns-in_err-matches-clause-usage
@@ -13,14 +13,28 @@ returns-in_err-matches-clause-usage c =
 
 pub returns-then-has_names-clause-ok : goal.returns-then-has_names-clause-ok
 returns-then-has_names-clause-ok c =
-    let t : Told = said (record { hops = c.get_flag.result; schedule = c.get_str.result; names = c.in_ok-names_in.field-0 }) in
-    let same = told_from (lent c.args.words.now) (found_of c.in_ok-matches.matches) t c.requires c.in_ok-matches.ensures.ok.0 c.in_ok-matches.ensures.ok.1
-    c.get_flag.ensures.value c.get_flag.ensures.other c.get_str.ensures c.in_ok-names_in.ensures in
+    let t : Told = said (record { hops = c.get_flag.result; ordered = c.get_flag-2.result; schedule = c.get_str.result; changes = c.get_str-2.result; workers = c.get_str-3.result; names = c.in_ok-names_in.field-0 }) in
+    let tells : Tells (found_of c.in_ok-matches.matches) t = record {
+      hops = (c.get_flag.ensures.value, c.get_flag.ensures.other);
+      ordered = (c.get_flag-2.ensures.value, c.get_flag-2.ensures.other);
+      schedule = c.get_str.ensures;
+      changes = c.get_str-2.ensures;
+      workers = c.get_str-3.ensures;
+      names = c.in_ok-names_in.ensures;
+    } in
+    let same = told_from (lent c.args.words.now) (found_of c.in_ok-matches.matches) t c.requires c.in_ok-matches.ensures.ok.0 c.in_ok-matches.ensures.ok.1 tells in
     same ∙ checked-true t (sym c.has_names.ensures ∙ c.if-has_names.true)
 
 pub returns-clause-usage : goal.returns-clause-usage
 returns-clause-usage c = λ usage.
-    let t : Told = said (record { hops = c.get_flag.result; schedule = c.get_str.result; names = c.in_ok-names_in.field-0 }) in
-    let same = told_from (lent c.args.words.now) (found_of c.in_ok-matches.matches) t c.requires c.in_ok-matches.ensures.ok.0 c.in_ok-matches.ensures.ok.1
-    c.get_flag.ensures.value c.get_flag.ensures.other c.get_str.ensures c.in_ok-names_in.ensures in
+    let t : Told = said (record { hops = c.get_flag.result; ordered = c.get_flag-2.result; schedule = c.get_str.result; changes = c.get_str-2.result; workers = c.get_str-3.result; names = c.in_ok-names_in.field-0 }) in
+    let tells : Tells (found_of c.in_ok-matches.matches) t = record {
+      hops = (c.get_flag.ensures.value, c.get_flag.ensures.other);
+      ordered = (c.get_flag-2.ensures.value, c.get_flag-2.ensures.other);
+      schedule = c.get_str.ensures;
+      changes = c.get_str-2.ensures;
+      workers = c.get_str-3.ensures;
+      names = c.in_ok-names_in.ensures;
+    } in
+    let same = told_from (lent c.args.words.now) (found_of c.in_ok-matches.matches) t c.requires c.in_ok-matches.ensures.ok.0 c.in_ok-matches.ensures.ok.1 tells in
     same ∙ checked-false t (sym c.has_names.ensures ∙ c.if-has_names.false)
