@@ -27,3 +27,4 @@ pub mod Able
 pub mod OneWay
 pub mod Ending
 pub mod Lighter
+pub mod Aims

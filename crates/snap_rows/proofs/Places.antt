@@ -123,6 +123,15 @@ hop_there hs rise w x i point = ⊎_elim here elsewhere (hop_entry hs w x)
         said None e = ap (λ o. hop_said o w x) e
         said (Some h) e = ap (λ o. hop_said o w x) e ∙ by h (h.from == w) (h.target == x) refl refl (r.1 i h e)
 
+-- the next hop at a place is that of its switches
+pub hop_here : (hs : List Hop) → IsStrictlySortedBy hop_cmp hs → (w x i : ℕ) (h : Hop) → slice_get hs i ≡ Some h → h.from ≡ w → h.target ≡ x → h.next ≡ hop_in hs w x
+hop_here hs rise w x i h is from target = ⊎_elim
+    (λ r.
+    let same : r.place ≡ i = one_place (λ (h : Hop). h.from) (λ (h : Hop). h.target) hs rise r.place i r.hop h r.is is (r.from ∙ sym from) (r.target ∙ sym target) in
+    ap (λ (h : Hop). h.next) (some_injective _ _ (sym is ∙ ap (slice_get hs) (sym same) ∙ r.is)) ∙ sym r.next)
+    (λ r. absurd (r.1 i h is from target))
+    (hop_entry hs w x)
+
 -- ---- links
 pub link_there : (ls : List (ℕ × ℕ)) → IsStrictlySortedBy link_cmp ls → (a b i : ℕ)
     → IsPartitionPoint (λ (l : ℕ × ℕ). is_before (λ (l : ℕ × ℕ). l.0) (λ (l : ℕ × ℕ). l.1) a b l ≡ true) (λ (l : ℕ × ℕ). is_before (λ (l : ℕ × ℕ). l.0) (λ (l : ℕ × ℕ). l.1) a b l ≡ false) ls i

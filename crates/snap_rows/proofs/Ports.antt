@@ -13,7 +13,8 @@ use Rattle.std.proofs.lemmas.List.Filters.{length-filter_both}
 use Rattle.snap_core.specs.declared.ports.PortAt.{PortAt}
 use Rattle.snap_core.specs.Packets.{listed}
 use Rattle.snap_core.specs.Switch.{goes_out}
-use Rattle.snap_core.specs.Tests.{results}
+use Rattle.snap_core.specs.Tests.{after_out, results}
+use Rattle.snap_core.proofs.EvalLemmas.{listed-one}
 use Rattle.snap_rows.specs.declared.tables.Tables.{Tables}
 use Rattle.snap_rows.specs.declared.head.Action.TheVariants.{Fork}
 use Rattle.snap_rows.specs.declared.head.Sent.{Sent}
@@ -77,6 +78,18 @@ port_there ps rise n i j p point is e =
     (cases_lt i j))
     (cases_lt j i)
 
+-- two ports of one number are one
+one_port : (ps : List PortAt) → IsStrictlySortedBy nat_cmp (map (λ (p : PortAt). p.port) ps) → (i j : ℕ) (p q : PortAt) → slice_get ps i ≡ Some p → slice_get ps j ≡ Some q → p.port ≡ q.port → i ≡ j
+one_port ps rise i j p q is there e =
+    let m : i < length ps = slice_get_within ps i p is in
+    let n : j < length ps = slice_get_within ps j q there in
+    let a : (get_or ps i p).port ≡ p.port = ap (λ (x : PortAt). x.port) (get_or_from_slice_get ps i p p is) in
+    let b : (get_or ps j p).port ≡ q.port = ap (λ (x : PortAt). x.port) (get_or_from_slice_get ps j q p there) in
+    ⊎_elim
+    (λ lt. let less = port_below ps rise i j p lt n in omega arith)
+    (λ ge. ⊎_elim (λ lt. let less = port_below ps rise j i p lt m in omega arith) (λ le. omega arith) (cases_lt j i))
+    (cases_lt i j)
+
 pub port_said_there : (ps : List PortAt) → IsStrictlySortedBy nat_cmp (map (λ (p : PortAt). p.port) ps) → (n i : ℕ) → IsPartitionPoint (λ (p : PortAt). nat_lt p.port n ≡ true) (λ (p : PortAt). nat_lt p.port n ≡ false) ps i
     → option_map (λ (p : PortAt). p.at) (port_said (slice_get ps i) n) ≡ port_in ps n
 port_said_there ps rise n i point = by (port_in ps n) refl
@@ -98,6 +111,25 @@ port_said_there ps rise n i point = by (port_in ps n) refl
         ∙ ap (λ b. option_map (λ (p : PortAt). p.at) (if b then Some r.1 else None)) (eq-eqb r.1.port n r.3)
         ∙ ap Some r.4 ∙ sym e
 
+-- the port at a place is that of its number
+pub port_here : (ps : List PortAt) → IsStrictlySortedBy nat_cmp (map (λ (p : PortAt). p.port) ps) → (n i : ℕ) (p : PortAt) → port_said (slice_get ps i) n ≡ Some p → Some p.at ≡ port_in ps n
+port_here ps rise n i p said = by (slice_get ps i) refl said
+  where
+    one : (q : PortAt) → slice_get ps i ≡ Some q → q.port ≡ n → (o : Option ℕ) → port_in ps n ≡ o → Some q.at ≡ o
+    one q is number None none = absurd (port_absent ps n i q none is number)
+    one q is number (Some w) e =
+        let r = port_entry ps n w e in
+        let same : r.0 ≡ i = one_port ps rise r.0 i r.1 q r.2 is (r.3 ∙ sym number) in
+        ap Some (ap (λ (x : PortAt). x.at) (some_injective _ _ (sym is ∙ ap (slice_get ps) (sym same) ∙ r.2)) ∙ r.4)
+
+    by : (o : Option PortAt) → slice_get ps i ≡ o → port_said o n ≡ Some p → Some p.at ≡ port_in ps n
+    by None is e = absurd (false≢true (ap (λ (o : Option PortAt). is_some o) e))
+    by (Some q) is e = case (q.port == n) refl e
+      where
+        case : (b : Bool) → (q.port == n) ≡ b → (if b then Some q else None) ≡ Some p → Some p.at ≡ port_in ps n
+        case true c f = ap (λ (x : PortAt). Some x.at) (sym (some_injective _ _ f)) ∙ one q is (eqb-true q.port n c) (port_in ps n) refl
+        case false c f = absurd (false≢true (ap (λ (o : Option PortAt). is_some o) f))
+
 -- the packets that don't go to a port are lost
 pub forks_so : (t : Tables) (os : List Parts) (k : List ℕ) (ks : List (List ℕ)) (copies : List Sent) → ks ≡ listed (results os k) → copies ≡ map sent (filter (goes_out (port_numbers t)) ks)
     → (length copies ≤ length ks) × (Fork copies (length ks - length copies) ≡ forked t os k)
@@ -107,3 +139,17 @@ forks_so t os k ks copies are go =
     let both : length (filter out ks) + length (filter (λ l. not (out l)) ks) ≡ length ks = length-filter_both out (λ l. not (out l)) (λ l. refl) ks in
     let rest : length ks - length copies ≡ length (filter (λ l. not (out l)) ks) = omega arith in
     (omega arith, ap₂ Fork (go ∙ ap (λ ls. map sent (filter out ls)) are) (rest ∙ ap (λ ls. length (filter (λ l. not (out l)) ls)) are))
+
+-- what the one packet of an out becomes
+forks_one : (t : Tables) (o : Parts) (k k' : List ℕ) (b : Bool) → k' ≡ after_out o k → goes_out (port_numbers t) k' ≡ b → forked t (o ∷ []) k ≡ Fork (map sent (if b then k' ∷ [] else [])) (length (if not b then k' ∷ [] else []))
+forks_one t o k k' b after goes =
+    let out = goes_out (port_numbers t) in
+    let all : listed (results (o ∷ []) k) ≡ k' ∷ [] = listed-one (after_out o k) ∙ ap (λ l. l ∷ []) (sym after) in
+    ap (λ ls. Fork (map sent (filter out ls)) (length (filter (λ l. not (out l)) ls))) all
+    ∙ ap (λ b. Fork (map sent (if b then k' ∷ [] else [])) (length (if not b then k' ∷ [] else []))) goes
+
+pub fork_sent : (t : Tables) (o : Parts) (k k' : List ℕ) → k' ≡ after_out o k → goes_out (port_numbers t) k' ≡ true → Fork (sent k' ∷ []) 0 ≡ forked t (o ∷ []) k
+fork_sent t o k k' after goes = sym (forks_one t o k k' true after goes)
+
+pub fork_lost : (t : Tables) (o : Parts) (k k' : List ℕ) → k' ≡ after_out o k → goes_out (port_numbers t) k' ≡ false → Fork [] 1 ≡ forked t (o ∷ []) k
+fork_lost t o k k' after goes = sym (forks_one t o k k' false after goes)

@@ -12,8 +12,10 @@ ghost use Rattle.snap_rows.specs.declared.tables.Hop.{Hop};
 ghost use Rattle.snap_rows.specs.Form.{IsRowInForm, IsInForm, row_cmp, hop_cmp, array_count, switch_count};
 ghost use Rattle.snap_rows.specs.Places.{is_before, IsRowPlace, hop_said, port_said};
 ghost use Rattle.snap_rows.specs.Rules.{IsValid};
+ghost use Rattle.snap_rows.specs.Aims.{aim_of};
 ghost use Rattle.snap_rows.specs.Entries.{row_in, row_at, hop_in, next, port_in, port_at, rank_in, rank_at, rank_of, ranks, ranks_in, var_of, owner_of};
 
+use crate::head::Head;
 use crate::tables::{ArrayAt, Hop, Row, RowAt, Tables};
 use crate::valid::Valid;
 use snap_core::packet::Packet;
@@ -28,14 +30,17 @@ impl Valid {
         ensures valid { IsValid self.now }
         ensures all_form { IsInForm self.now }
     {
-        row(self.tables().rows.items(), at, number)
+        let rows = self.tables().rows.items();
+        row_near(rows, self.guesses().place(at, number), at, number)
     }
 
     /// The next hop of a switch towards another.
     pub fn next(&self, at: u16, target: u16) -> u16
         ensures { result ≡ next self.now at target }
     {
-        next(self.tables().hops.items(), at, target)
+        let tables = self.tables();
+        let guess = hop_guess(tables.switches.items().len(), at, target);
+        next_near(tables.hops.items(), guess, at, target)
     }
 
     /// The switch of a port.
@@ -84,6 +89,19 @@ impl Valid {
         ensures { result ≡ rank_at self.now rank }
     {
         rank_at(self.tables().arrays.items(), rank)
+    }
+
+    /// The switch to which a copy with this head goes before anything else is done with it, if its head says one. Takes
+    /// no memory.
+    pub fn aim(&self, head: Head) -> Option<u16>
+        ensures { result ≡ aim_of self.now head }
+    {
+        match head {
+            Head::Out { port } => self.port_at(port as u64),
+            Head::Visit { rank, .. } => self.rank_at(rank),
+            Head::Walk { .. } => None,
+            Head::Stage { .. } => None,
+        }
     }
 }
 
@@ -165,6 +183,18 @@ fn hop_is_before(hop: &Hop, at: u16, target: u16) -> bool
     hop.from < at || (hop.from == at && hop.target < target)
 }
 
+/// The row of a switch and number, which probably stands at a place.
+fn row_near(rows: &[RowAt], guess: usize, at: u16, number: u64) -> Option<&Row>
+    requires { IsStrictlySortedBy row_cmp rows.now }
+    ensures { option_map (λ r. r.now) result ≡ row_in rows.now at number }
+{
+    if stands_at(rows, guess, at, number) {
+        Some(&rows[guess].row)
+    } else {
+        row(rows, at, number)
+    }
+}
+
 // How many next hops stand before that of a switch towards another.
 fn hops_before(hops: &[Hop], at: u16, target: u16) -> usize
     requires { IsStrictlySortedBy hop_cmp hops.now }
@@ -197,6 +227,46 @@ pub(crate) fn next(hops: &[Hop], at: u16, target: u16) -> u16
     hop_said(hops, hops_before(hops, at, target), at, target)
 }
 
+// Where the next hop of a switch towards another stands among so many switches, if each has one towards each other.
+fn hop_guess(switches: usize, at: u16, target: u16) -> usize {
+    let others = switches.saturating_sub(1);
+    let before = (at as usize).saturating_mul(others);
+    let passed = if target < at {
+        target
+    } else {
+        target.saturating_sub(1)
+    };
+    before.saturating_add(passed as usize)
+}
+
+// The next hop of a switch towards another, which probably stands at a place.
+fn next_near(hops: &[Hop], guess: usize, at: u16, target: u16) -> u16
+    requires { IsStrictlySortedBy hop_cmp hops.now }
+    ensures { result ≡ hop_in hops.now at target }
+{
+    match hop_at(hops, guess, at, target) {
+        Some(hop) => hop,
+        None => next(hops, at, target),
+    }
+}
+
+// The next hop of a switch towards another, if its entry stands at a place.
+fn hop_at(hops: &[Hop], place: usize, at: u16, target: u16) -> Option<u16>
+    requires { IsStrictlySortedBy hop_cmp hops.now }
+    ensures { IfSome result (λ next. next ≡ hop_in hops.now at target) }
+{
+    match hops.get(place) {
+        Some(hop) => {
+            if hop.from == at && hop.target == target {
+                Some(hop.next)
+            } else {
+                None
+            }
+        }
+        None => None,
+    }
+}
+
 // How many ports are less than a number.
 fn ports_before(ports: &[PortAt], number: u64) -> usize
     requires { IsStrictlySortedBy nat_cmp (map (λ (p : PortAt). p.port) ports.now) }
@@ -227,7 +297,15 @@ fn port(ports: &[PortAt], number: u64) -> Option<PortAt>
     ensures at { option_map (λ (p : PortAt). p.at) result ≡ port_in ports.now number }
     ensures number { IfSome result (λ p. p.port ≡ number) }
 {
-    port_said(ports, ports_before(ports, number), number)
+    match port_said(ports, port_guess(number), number) {
+        Some(entry) => Some(entry),
+        None => port_said(ports, ports_before(ports, number), number),
+    }
+}
+
+// Where the port of a number stands, if ports are numbered from 1 on.
+fn port_guess(number: u64) -> usize {
+    number.saturating_sub(1) as usize
 }
 
 /// The owner of a rank.

@@ -1,6 +1,6 @@
 //! Visits: what the owner of a rank does for a packet.
 
-ghost use Rattle.std.specs.Prelude.{◌≡◌, ◌++◌, ◌==◌, ℕ, List, Some, IfOk, OnErr, IsSome, All, filter, length};
+ghost use Rattle.std.specs.Prelude.{◌≡◌, ◌++◌, ◌==◌, ℕ, List, Some, IfOk, OnOk, OnErr, IsSome, All, filter, length};
 ghost use Rattle.snap_core.specs.declared.policy.Update.{Update};
 ghost use Rattle.snap_core.specs.Cells.{arrays_of};
 ghost use Rattle.snap_rows.specs.Entries.{Parts, row_at, rank_at, rank_of};
@@ -72,6 +72,19 @@ fn visited(
     Ok((number, mine))
 }
 
+// Puts updates behind others. Where there are no others no memory is taken.
+fn append(ups: &mut Vec<Update>, mut mine: Vec<Update>) -> Result<(), NoMemory>
+    ensures ok { OnOk result (ups.new.items ≡ ups.old.items ++ mine.items) }
+    ensures err { OnErr result (ups.new.items ≡ ups.old.items) }
+{
+    if ups.is_empty() {
+        *ups = mine;
+        return Ok(());
+    }
+    ups.append(&mut mine)?;
+    Ok(())
+}
+
 /// Makes a visit: answers its number and appends its updates.
 pub fn visit(
     alloc: Global,
@@ -89,7 +102,7 @@ pub fn visit(
     ensures visit { IfOk result (λ v. AppendsVisit tables.now at packet.now (arrays_of store.now) rank node v ups.old.items ups.new.items) }
     ensures memory { OnErr result (ups.new.items ≡ ups.old.items) }
 {
-    let (number, mut mine) = visited(alloc, tables, at, store, packet, rank, node)?;
-    ups.append(&mut mine)?;
+    let (number, mine) = visited(alloc, tables, at, store, packet, rank, node)?;
+    append(ups, mine)?;
     Ok(number)
 }
