@@ -3,3 +3,5 @@ pub mod Splices
 pub mod Steps
 pub mod Worked
 pub mod Home
+pub mod Filling
+pub mod Travelling

@@ -4,3 +4,4 @@ pub mod Shown
 pub mod Moves
 pub mod Worked
 pub mod Laws
+pub mod Travels

@@ -7,7 +7,7 @@ use Rattle.snap_rows.specs.declared.tables.Tables.{Tables}
 use Rattle.snap_rows.specs.Form.{IsInForm, comps, switch_count}
 use Rattle.snap_rows.specs.Home.{AtHome}
 use Rattle.snap_rows.specs.Rules.{IsValid}
-use Rattle.snap_rows.specs.Network.{Copy, Net, Happening, Crossed, Delivered, Forked, Event, Leads}
+use Rattle.snap_rows.specs.Network.{Copy, Net, Happening, Crossed, Delivered, Forked, Event, Leads, start}
 use Rattle.snap_head.specs.Frames.{frame}
 use Rattle.snap_net.specs.declared.flying.Flying.{Flying}
 use Rattle.snap_net.specs.declared.happened.Happened.{Happened}
@@ -34,6 +34,10 @@ pub record IsHeld (v : Held) : Type 0 where
 -- the arrays of a switch
 abbrev pub store_of : List Kept → ℕ → Arrays
 store_of stores w = arrays_of (get_or stores w [])
+
+-- each switch holds its own arrays as m has them
+abbrev pub Holds : Tables → List Kept → Arrays → Type 0
+Holds t stores m = (w : ℕ) → (start t m).stores w ≡ store_of stores w
 
 -- a copy without its counts
 abbrev pub flown : Copy → Flying

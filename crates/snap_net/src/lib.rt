@@ -2,6 +2,7 @@
 #![tactic(auto)]
 
 mod block;
+mod fill;
 mod flights;
 pub mod flying;
 pub mod happened;
@@ -10,3 +11,4 @@ pub mod moves;
 pub mod net;
 #[cfg(test)]
 mod tests;
+mod updates;

@@ -1,6 +1,6 @@
 //! What becomes of a copy in a step: all of it, or nothing.
 
-ghost use Rattle.std.specs.Prelude.{◌≡◌, ◌<◌, ◌+◌, Some, IfOk, OnOk, OnErr, length, slice_get, All};
+ghost use Rattle.std.specs.Prelude.{◌≡◌, ◌<◌, ◌+◌, [], ◌∷◌, Some, IfOk, OnOk, OnErr, length, slice_get, All};
 ghost use Rattle.snap_core.specs.Arrays.{updates};
 ghost use Rattle.snap_core.specs.Fits.{UpdateReads};
 ghost use Rattle.snap_rows.specs.declared.head.Action.TheVariants.{Forward, Deliver, Fork};
@@ -12,6 +12,7 @@ ghost use Rattle.snap_net.specs.Moves.{Changed, copies_in_flight, HasMoved, HasU
 use crate::flights::Flights;
 use crate::flying::Flying;
 use crate::happened::{Frame, Happened, Moved};
+use crate::updates::update_all;
 use snap_core::NoMemory;
 use snap_core::packet::Packet;
 use snap_core::policy::Update;
@@ -22,13 +23,18 @@ use snap_rows::plan::Plan;
 use std::alloc::Global;
 
 // Does updates at the switch of a copy.
-fn update_at(stores: &mut Vec<Store>, copy: &Flying, ups: &[Update]) -> Result<(), NoMemory>
+fn update_at(
+    alloc: Global,
+    stores: &mut Vec<Store>,
+    copy: &Flying,
+    ups: &[Update],
+) -> Result<(), NoMemory>
     requires at { copy.now.at < length stores.old.items }
     requires reads { All (UpdateReads (length copy.now.packet)) ups.now }
     ensures ok { OnOk result (Changed stores.old.items stores.new.items copy.now.at (updates (store_of stores.old.items copy.now.at) ups.now copy.now.packet)) }
     ensures err { OnErr result (SameArrays stores.old.items stores.new.items) }
 {
-    stores[copy.at as usize].apply(&copy.packet, ups)
+    update_all(alloc, &mut stores[copy.at as usize], &copy.packet, ups)
 }
 
 // Forwards copy k.
@@ -85,8 +91,38 @@ fn put_copies(
     Ok(())
 }
 
+// Does updates at the switch of copy k, and puts one copy in its place.
+fn turn(
+    alloc: Global,
+    stores: &mut Vec<Store>,
+    flying: &mut Flights,
+    k: usize,
+    ups: &[Update],
+    sent: Sent,
+) -> Result<Flying, NoMemory>
+    requires k { k < length flying.old }
+    requires at { (c : Flying) → slice_get flying.old k ≡ Some c → c.at < length stores.old.items }
+    requires reads { (c : Flying) → slice_get flying.old k ≡ Some c → All (UpdateReads (length c.packet)) ups.now }
+    ensures updated { OnOk result (HasUpdated stores.old.items flying.old k ups.now stores.new.items) }
+    ensures gone { IfOk result (λ gone. (slice_get flying.old k ≡ Some gone) × (flying.new ≡ spliced flying.old k 1 (copies_in_flight gone.number gone.at (sent ∷ [])))) }
+    ensures err { OnErr result ((flying.new ≡ flying.old) × SameArrays stores.old.items stores.new.items) }
+{
+    let from = flying.get(k);
+    let number = from.number;
+    let at = from.at;
+    update_at(alloc, stores, from, ups)?;
+    let copy = Flying {
+        number,
+        at,
+        head: Head::Out { port: sent.port },
+        packet: sent.packet,
+    };
+    Ok(flying.replace(k, copy))
+}
+
 // Does updates at the switch of copy k, and puts copies in its place.
 fn fork(
+    alloc: Global,
     stores: &mut Vec<Store>,
     flying: &mut Flights,
     k: usize,
@@ -106,15 +142,41 @@ fn fork(
     let number = from.number;
     let at = from.at;
     put_copies(flying, k, number, at, copies)?;
-    if let Err(fault) = update_at(stores, flying.get(k), ups) {
+    if let Err(fault) = update_at(alloc, stores, flying.get(k), ups) {
         flying.cut(k + 1, count);
         return Err(fault);
     }
     Ok(flying.remove(k))
 }
 
+// The same, where one copy alone needs no room.
+fn split(
+    alloc: Global,
+    stores: &mut Vec<Store>,
+    flying: &mut Flights,
+    k: usize,
+    ups: &[Update],
+    mut copies: Vec<Sent>,
+) -> Result<Flying, NoMemory>
+    requires k { k < length flying.old }
+    requires at { (c : Flying) → slice_get flying.old k ≡ Some c → c.at < length stores.old.items }
+    requires reads { (c : Flying) → slice_get flying.old k ≡ Some c → All (UpdateReads (length c.packet)) ups.now }
+    ensures updated { OnOk result (HasUpdated stores.old.items flying.old k ups.now stores.new.items) }
+    ensures gone { IfOk result (λ gone. (slice_get flying.old k ≡ Some gone) × (flying.new ≡ spliced flying.old k 1 (copies_in_flight gone.number gone.at copies.items))) }
+    ensures err { OnErr result ((flying.new ≡ flying.old) × SameArrays stores.old.items stores.new.items) }
+{
+    if copies.len() != 1 {
+        return fork(alloc, stores, flying, k, ups, copies);
+    }
+    match copies.pop() {
+        Some(sent) => turn(alloc, stores, flying, k, ups, sent),
+        None => unreachable!(),
+    }
+}
+
 /// Does the plan of copy k's step.
 pub(crate) fn carry_out(
+    alloc: Global,
     stores: &mut Vec<Store>,
     flying: &mut Flights,
     k: usize,
@@ -130,17 +192,17 @@ pub(crate) fn carry_out(
     let Plan { ups, action } = plan;
     match action {
         Action::Forward { to, head } => {
-            update_at(stores, flying.get(k), ups.items())?;
+            update_at(alloc, stores, flying.get(k), ups.items())?;
             Ok(forward(flying, k, to, head))
         }
         Action::Deliver { port } => {
-            update_at(stores, flying.get(k), ups.items())?;
+            update_at(alloc, stores, flying.get(k), ups.items())?;
             Ok(deliver(flying, k, port))
         }
         Action::Fork { copies, lost } => {
             let copies = copies.into_items();
             let count = copies.len() as u64;
-            let gone = fork(stores, flying, k, ups.items(), copies)?;
+            let gone = split(alloc, stores, flying, k, ups.items(), copies)?;
             Ok(Moved::Forked {
                 owner: gone.number,
                 copies: count,

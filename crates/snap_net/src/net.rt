@@ -1,18 +1,22 @@
 //! The network.
 
-ghost use Rattle.std.specs.Prelude.{◌≡◌, ◌≢◌, ◌≤◌, ◌<◌, ◌+◌, ◌^◌, None, Some, ℕ, IfOk, IfErr, OnOk, OnErr, IsSome, length, slice_get, slice_index};
+ghost use Rattle.std.specs.Prelude.{◌≡◌, ◌≢◌, ◌≤◌, ◌<◌, ◌+◌, ◌^◌, None, Some, ℕ, IfOk, IfErr, OnOk, OnErr, IsSome, [], length, slice_get, slice_index, All, ◌∷◌};
 ghost use Rattle.snap_core.specs.declared.place.Place.{Place};
 ghost use Rattle.snap_core.specs.Arrays.{zero_arrays};
 ghost use Rattle.snap_core.specs.Cells.{arrays_of};
-ghost use Rattle.snap_core.specs.Listing.{IsListing};
+ghost use Rattle.snap_core.specs.Listing.{IsListing, number_in};
 ghost use Rattle.snap_rows.specs.Entries.{port_at};
 ghost use Rattle.snap_rows.specs.Form.{comps, array_count, switch_count};
 ghost use Rattle.snap_rows.specs.Network.{Net as State, start, whole, Inject, Step};
+ghost use Rattle.snap_net.specs.declared.flying.Flying.{Flying};
+ghost use Rattle.snap_net.specs.Flights.{spliced};
+ghost use Rattle.snap_net.specs.Travels.{HasTravelled, arrived};
 ghost use Rattle.snap_net.specs.Shown.{IsHeld, Shows, IsDone, Nothing, Tells, TellsMoved, Same, store_of};
 ghost use Rattle.snap_net.specs.Moves.{CanBeDone, HasStepped, HasMoved, HasUpdated, PlanAt};
 ghost use Rattle.snap_net.specs.declared.net.InjectFault.{InjectFault};
 ghost use Rattle.snap_net.specs.declared.net.StepFault.{StepFault};
 
+use crate::fill::filled_stores;
 use crate::flights::Flights;
 use crate::flying::Flying;
 use crate::happened::{Happened, Moved};
@@ -101,7 +105,7 @@ pub fn open_net(alloc: Global, tables: Valid) -> Result<Net, NoMemory>
 }
 
 // So many empty stores.
-fn empty_stores(alloc: Global, count: usize) -> Result<Vec<Store>, NoMemory>
+pub(crate) fn empty_stores(alloc: Global, count: usize) -> Result<Vec<Store>, NoMemory>
     ensures count { IfOk result (λ stores. length stores.items ≡ count) }
     ensures empty { IfOk result (λ stores. (w : ℕ) → store_of stores.items w ≡ zero_arrays) }
 {
@@ -110,6 +114,30 @@ fn empty_stores(alloc: Global, count: usize) -> Result<Vec<Store>, NoMemory>
         stores.push(Store::new(alloc))?;
     }
     Ok(stores)
+}
+
+/// A network with nothing in flight, in which so many packets were injected, and each switch holds its own arrays as the
+/// entries have them. Of two entries of one place the first counts.
+pub fn reopen(
+    alloc: Global,
+    tables: Valid,
+    entries: &[Entry],
+    injected: u64,
+) -> Result<Net, NoMemory>
+    requires { All (λ e. e.place.var < array_count tables) entries.now }
+    ensures tables { IfOk result (λ net. net.tables ≡ tables) }
+    ensures injected { IfOk result (λ net. net.injected ≡ injected) }
+    ensures flying { IfOk result (λ net. net.flying ≡ []) }
+    ensures start { IfOk result (λ net. Shows net (record (start tables (number_in entries.now)) { injected = injected })) }
+{
+    let stores = filled_stores(alloc, &tables, entries)?;
+    Ok(Net {
+        alloc,
+        tables,
+        stores,
+        injected,
+        flying: Flights::new(alloc),
+    })
 }
 
 impl Net {
@@ -210,7 +238,7 @@ impl Net {
         ensures injected { self.new.injected ≡ self.old.injected }
         ensures refused { OnErr result (Same self.old self.new) }
     {
-        let moved = carry_out(&mut self.stores, &mut self.flying, k, plan)?;
+        let moved = carry_out(self.alloc, &mut self.stores, &mut self.flying, k, plan)?;
         Ok(moved)
     }
 
@@ -227,6 +255,21 @@ impl Net {
         let _known = self.tables();
         let moved = self.carry_out(k, plan)?;
         Ok(moved)
+    }
+
+    /// Makes the steps of copy k, counted from 0, that take it to the switch to which its head sends it, and tells nothing of
+    /// them. Each only crosses a link, and next hops lead there from everywhere, so no way is looked up. Takes no memory.
+    pub fn travel(&mut self, k: usize)
+        requires { k < length self.old.flying }
+        ensures travelled { HasTravelled self.old k self.new }
+        ensures arrived { (c : Flying) → slice_get self.old.flying k ≡ Some c → self.new.flying ≡ spliced self.old.flying k 1 (arrived self.old.tables c ∷ []) }
+        ensures tables { self.new.tables ≡ self.old.tables }
+        ensures injected { self.new.injected ≡ self.old.injected }
+    {
+        let traveller = self.flying.get(k);
+        let head = traveller.head;
+        let to = self.tables.aim(head).unwrap_or(traveller.at);
+        self.flying.send(k, to, head);
     }
 
     /// Makes a step of copy k, counted from 0, without a frame. `NoCopy` where there is no such copy. A refusal leaves
