@@ -54,14 +54,18 @@ in_pushed (z ∷ zs) x y (suc i) e = by (in_pushed zs x y i e)
     by (inl h) = let l = h.0 in inl (omega (arith, l), h.1)
     by (inr h) = inr (ap suc h.0, h.1)
 
+-- ---- the packets of two parts of a run
+module _ (n : ℕ) (hs gs : List Happening) (before : All (λ h. number_of h < n) hs) (happen : HappenTo n gs) where
+  -- nothing of the second part happens to a packet of the first
+  pub later-elsewhere : (i : ℕ) → i < n → HappenElsewhere i gs
+  later-elsewhere i less = All-weaker (λ h. number_of h ≡ n) (λ h. number_of h ≢ i) (λ h e f. (let g : n ≡ i = sym e ∙ f in omega (arith, g, less))) gs happen
+
+  -- and nothing of the first to that of the second
+  pub earlier-elsewhere : HappenElsewhere n hs
+  earlier-elsewhere = All-weaker (λ h. number_of h < n) (λ h. number_of h ≢ n) (λ h less e. omega (arith, less, e)) hs before
+
 -- ---- one block more
 module _ (t : Tables) (hops : Bool) (n : ℕ) (hs gs : List Happening) (text block : List ℕ) (before : All (λ h. number_of h < n) hs) (happen : HappenTo n gs) where
-  later : (i : ℕ) → i < n → HappenElsewhere i gs
-  later i less = All-weaker (λ h. number_of h ≡ n) (λ h. number_of h ≢ i) (λ h e f. (let g : n ≡ i = sym e ∙ f in omega (arith, g, less))) gs happen
-
-  earlier : HappenElsewhere n hs
-  earlier = All-weaker (λ h. number_of h < n) (λ h. number_of h ≢ n) (λ h less e. omega (arith, less, e)) hs before
-
   pub blocks-push : AreBlocks t hops n hs text → IsBlock t hops n gs block → AreBlocks t hops (n + 1) (hs ++ gs) (text ++ block)
   blocks-push all one = record {
     each = all.each ++ block ∷ [];
@@ -71,8 +75,8 @@ module _ (t : Tables) (hops : Bool) (n : ℕ) (hs gs : List Happening) (text blo
   }
     where
       by : (i : ℕ) (x : List ℕ) → ((i < length all.each) × (slice_get all.each i ≡ Some x)) ⊎ ((i ≡ length all.each) × (block ≡ x)) → IsBlock t hops i (hs ++ gs) x
-      by i x (inl h) = let l = h.0 in let m = all.as_many in block-front t hops i x hs gs (later i (omega (arith, l, m))) (all.blocks i x h.1)
-      by i x (inr h) = subst (λ j. IsBlock t hops j (hs ++ gs) x) (sym (h.0 ∙ all.as_many)) (subst (IsBlock t hops n (hs ++ gs)) h.1 (block-behind t hops n block hs gs earlier one))
+      by i x (inl h) = let l = h.0 in let m = all.as_many in block-front t hops i x hs gs (later-elsewhere n hs gs before happen i (omega (arith, l, m))) (all.blocks i x h.1)
+      by i x (inr h) = subst (λ j. IsBlock t hops j (hs ++ gs) x) (sym (h.0 ∙ all.as_many)) (subst (IsBlock t hops n (hs ++ gs)) h.1 (block-behind t hops n block hs gs (earlier-elsewhere n hs gs before happen) one))
 
 -- no blocks
 pub blocks-none : (t : Tables) (hops : Bool) → AreBlocks t hops 0 [] []

@@ -1,5 +1,5 @@
 -- How a run ends.
-use Rattle.std.proofs.Common.{◌≡◌, ◌⊎◌, ℕ, Bool, true, false, List, [], ◌++◌, Option, Ok, Err, take, refl, sym, ap, subst, ◌∙◌, inl, inr, append-nil}
+use Rattle.std.proofs.Common.{◌≡◌, ℕ, Bool, true, false, List, [], ◌++◌, Option, Ok, Err, take, refl, sym, ap, subst, ◌∙◌, inr, append-nil}
 use Rattle.std.specs.Prelude.{IfSome}
 use Rattle.std.specs.Io.KnownBytes.{Appends}
 use Rattle.std.proofs.KnownBytes.{Appends-nil, Appends-trans}
@@ -13,21 +13,21 @@ use Rattle.snap_trace.specs.declared.fault.TraceFault.TheVariants.{Read, Write, 
 use Rattle.snap_trace.specs.OneSwitch.{RunEnding}
 use Rattle.snap_trace.specs.Steps.{Waits, is_told}
 use Rattle.snap_trace.proofs.StepLemmas.{where_both_told}
-use Rattle.snap_runs.specs.Plain.{AreTraceBlocks, HasTrace, IsTrace, WritesTrace}
-use Rattle.snap_runs.specs.Tracing.{Closes}
+use Rattle.snap_runs.specs.Plain.{Writes, WritesTrace}
+use Rattle.snap_runs.specs.Tracing.{EndsRun}
 use Rattle.snap_runs.proofs.Blocks.{blocks-none}
 use Rattle.std.proofs.lemmas.List.Elements.{All-nil}
 use Rattle.snap_rows.specs.Network.{StepsFirst}
 
-module _ (t : Tables) (hops : Bool) (file : List ℕ) (old now : Option (List ℕ)) (waiting : List ℕ) where
+module _ (Blocks : List ℕ → Type 0) (Ends : RunEnding → List ℕ → Type 0) (old now : Option (List ℕ)) (waiting : List ℕ) where
   -- what waited was written
-  pub closes-written : (last : Option (List ℕ)) (ending : RunEnding) → is_told ending ≡ true → Closes t hops file ending old now waiting → Appends now last waiting → WritesTrace t hops file ending old last
+  pub closes-written : (last : Option (List ℕ)) (ending : RunEnding) → is_told ending ≡ true → EndsRun Blocks Ends ending old now waiting → Appends now last waiting → Writes Blocks Ends ending old last
   closes-written last ending told closed written = by ending told closed
     where
-      whole : (e : RunEnding) → (text : List ℕ) × IsTrace t hops file e text × Waits old now text waiting → (text : List ℕ) × IsTrace t hops file e text × Appends old last text
+      whole : (e : RunEnding) → (text : List ℕ) × Ends e text × Waits old now text waiting → (text : List ℕ) × Ends e text × Appends old last text
       whole e c = let w = c.2 in (c.0, c.1, subst (Appends old last) (sym w.whole) (Appends-trans old now last w.front waiting w.taken written))
 
-      by : (e : RunEnding) → is_told e ≡ true → Closes t hops file e old now waiting → WritesTrace t hops file e old last
+      by : (e : RunEnding) → is_told e ≡ true → EndsRun Blocks Ends e old now waiting → Writes Blocks Ends e old last
       by (Ok u) told c = whole (Ok u) c
       by (Err Read) told c = absurd (cc)
       by (Err Write) told c = absurd (cc)
@@ -37,16 +37,16 @@ module _ (t : Tables) (hops : Bool) (file : List ℕ) (old now : Option (List �
       by (Err (Undefined packet)) told c = c
 
   -- the sink failed at the end
-  pub closes-failed : (last : Option (List ℕ)) (ending : RunEnding) → is_told ending ≡ true → Closes t hops file ending old now waiting → AppendsPart now last waiting → WritesTrace t hops file (Err Write) old last
+  pub closes-failed : (last : Option (List ℕ)) (ending : RunEnding) → is_told ending ≡ true → EndsRun Blocks Ends ending old now waiting → AppendsPart now last waiting → Writes Blocks Ends (Err Write) old last
   closes-failed last ending told closed part = by ending told closed
     where
-      some : (e : RunEnding) → (text : List ℕ) × IsTrace t hops file e text × Waits old now text waiting → WritesTrace t hops file (Err Write) old last
+      some : (e : RunEnding) → (text : List ℕ) × Ends e text × Waits old now text waiting → Writes Blocks Ends (Err Write) old last
       some e c =
           let w = c.2 in
           let cut : c.0 ≡ w.front ++ (waiting ++ []) = w.whole ∙ ap (λ l. w.front ++ l) (sym (append-nil waiting)) in
           inr (c.0, (e, c.1), part_of_pair old last w.front waiting [] c.0 cut part.0 (Appends-trans old now last w.front (take part.0 waiting) w.taken part.1))
 
-      by : (e : RunEnding) → is_told e ≡ true → Closes t hops file e old now waiting → WritesTrace t hops file (Err Write) old last
+      by : (e : RunEnding) → is_told e ≡ true → EndsRun Blocks Ends e old now waiting → Writes Blocks Ends (Err Write) old last
       by (Ok u) told c = some (Ok u) c
       by (Err Read) told c = absurd (cc)
       by (Err Write) told c = absurd (cc)
@@ -56,7 +56,7 @@ module _ (t : Tables) (hops : Bool) (file : List ℕ) (old now : Option (List �
       by (Err (Undefined packet)) told c = absurd c
 
   -- a device failed before, or memory was short
-  pub closes-short : (ending : RunEnding) → is_told ending ≡ false → Closes t hops file ending old now waiting → WritesTrace t hops file ending old now
+  pub closes-short : (ending : RunEnding) → is_told ending ≡ false → EndsRun Blocks Ends ending old now waiting → Writes Blocks Ends ending old now
   closes-short (Ok u) told c = absurd (cc)
   closes-short (Err Read) told c = c
   closes-short (Err Write) told c = c

@@ -14,7 +14,11 @@ pub mod Coming
 pub mod Closing
 pub mod Orders
 pub mod Spelling
+pub mod OneSchedule
+pub mod CalmSchedule
 pub mod Playing
 pub mod Played
 pub mod Scheduled
 pub mod ReadWhole
+pub mod Changing
+pub mod Passing

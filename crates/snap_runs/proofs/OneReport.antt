@@ -18,7 +18,7 @@ use Rattle.snap_runs.proofs.InOrder.{same_lists, same_packets_in_order}
 same_outs : (xs ys zs : List (List ℕ)) → IsPermutation xs zs → IsPermutation ys zs → IsPermutation xs ys
 same_outs xs ys zs a b = IsPermutation-trans xs zs ys a (IsPermutation-sym ys zs b)
 
-block_one : (t : Tables) (hops : Bool) (i : ℕ) (hs : List Happening) (a b : List ℕ) → IsBlock t hops i hs a → IsBlock t hops i hs b → a ≡ b
+pub block_one : (t : Tables) (hops : Bool) (i : ℕ) (hs : List Happening) (a b : List ℕ) → IsBlock t hops i hs a → IsBlock t hops i hs b → a ≡ b
 block_one t hops i hs a b x y =
     let outs : x.outs ≡ y.outs = same_packets_in_order x.outs y.outs x.rising y.rising (same_outs x.outs y.outs (packets_delivered i hs) x.delivered y.delivered) in
     x.is ∙ ap (λ outs. packet_line (i + 1) ++ hops_text t hops i hs ++ out_lines t.fields outs ++ lost_line (sum (losses_of i hs))) outs ∙ sym y.is

@@ -19,7 +19,7 @@ abbrev DoesAt : Tables → Net → Copy → Arrays → Action → Type 0
 DoesAt t s c m a = Handles t c.at c.packet (s.stores c.at) c.head m a
 
 -- one event leads to one state, with one happening
-leads_one : (t : Tables) → IsInForm t → (s s' : Net) (e e' : Event) (n n' : Net) (h h' : List Happening) → s ≡ s' → e ≡ e' → Leads t s e n h → Leads t s' e' n' h' → (n ≡ n') × (h ≡ h')
+pub leads_one : (t : Tables) → IsInForm t → (s s' : Net) (e e' : Event) (n n' : Net) (h h' : List Happening) → s ≡ s' → e ≡ e' → Leads t s e n h → Leads t s' e' n' h' → (n ≡ n') × (h ≡ h')
 leads_one t form s s' e e' n n' h h' same event (inject {port = port} {w = w} {k = k} own names) (inject {port = port'} {w = w'} {k = k'} own' names') =
     let port_same : port ≡ port' = cc in
     let k_same : k ≡ k' = cc in
@@ -34,16 +34,16 @@ leads_one t form s s' e e' n n' h h' same event (step {i = i} {c = c} {m = m} {a
     let one = one_way t form c.at c.packet (s.stores c.at) c.head m m' a a' does again in
     (λ j. stepped (same j) (number j) (copy j) (one.0 j) (one.1 j), λ j. happening (copy j) (one.1 j) ∷ [])
 
-record Same (es es' : List Event) (s s' : Net) (hs hs' : List Happening) : Type 0 where
-  events : es ≡ es'
-  ends : s ≡ s'
-  happenings : hs ≡ hs'
+pub record Same (es es' : List Event) (s s' : Net) (hs hs' : List Happening) : Type 0 where
+  pub events : es ≡ es'
+  pub ends : s ≡ s'
+  pub happenings : hs ≡ hs'
 
 -- a step needs a copy
 moves : {t : Tables} {s n : Net} {i : ℕ} {h : List Happening} → s.flying ≡ [] → Leads t s (Step i) n h → ⊥
 moves {i = i} none (step {c = c} found does) = none-some c (subst (λ f. slice_get f i ≡ Some c) none found)
 
-runs_one : (t : Tables) → IsInForm t → (s s' n n' : Net) (es es' : List Event) (hs hs' : List Happening) → s ≡ s' → packets_of es ≡ packets_of es' → All StepsFirst es → All StepsFirst es'
+pub runs_one : (t : Tables) → IsInForm t → (s s' n n' : Net) (es es' : List Event) (hs hs' : List Happening) → s ≡ s' → packets_of es ≡ packets_of es' → All StepsFirst es → All StepsFirst es'
     → n.flying ≡ [] → n'.flying ≡ [] → RunsCalmly t s es n hs → RunsCalmly t s' es' n' hs' → Same es es' n n' hs hs'
 runs_one t form s s' n n' es es' hs hs' same packets first first' last last' rests rests = record { events = refl; ends = same; happenings = refl }
 runs_one t form s s' n n' es es' hs hs' same packets first first' last last' rests (injects {port = port} {k = k} {es = es2} calm leads onward) =

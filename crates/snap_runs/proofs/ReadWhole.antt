@@ -1,8 +1,8 @@
 -- The packets of a file, read to its end.
-use Rattle.std.proofs.Common.{◌≡◌, ◌≢◌, ℕ, ◌+◌, Bool, true, false, List, [], ◌∷◌, ◌++◌, Option, Some, None, Ok, Err, map, refl, sym, ap, subst, ◌∙◌, append_assoc, append-nil}
+use Rattle.std.proofs.Common.{◌≡◌, ◌≢◌, ℕ, ◌+◌, ◌≤◌, Bool, true, false, List, [], ◌∷◌, ◌++◌, Option, Some, None, Ok, Err, map, length, refl, sym, ap, subst, ◌∙◌, arith, append_assoc, append-nil}
 use Rattle.std.specs.Prelude.{is_some, slice_index, if◌then◌else◌}
 use Rattle.std.specs.List.{All}
-use Rattle.std.proofs.lemmas.List.{map-append}
+use Rattle.std.proofs.lemmas.List.{length-append, map-append}
 use Rattle.std.proofs.lemmas.List.Elements.{All-push}
 use Rattle.snap_rows.specs.declared.tables.Tables.{Tables}
 use Rattle.snap_rows.specs.Entries.{port_at}
@@ -16,7 +16,7 @@ use Rattle.snap_trace.specs.Spelled.{Spelled, ended, refused, stops, with_said}
 use Rattle.snap_runs.specs.declared.packets.PacketLines.{PacketLines}
 use Rattle.snap_runs.specs.declared.ready.Ready.{Ready}
 use Rattle.snap_runs.specs.Plain.{at_ports, spelled_for}
-use Rattle.snap_runs.specs.Playing.{AreAll, IsReady, TakesLine, packets_in}
+use Rattle.snap_runs.specs.Playing.{AreAll, AreBefore, HasRead, IsReady, TakesLine, packets_in}
 use Rattle.snap_runs.specs.Reading.{FitsLine, GivesLine, left_of, said_at, said_of}
 use Rattle.snap_runs.specs.Schedules.{RefusesPackets}
 
@@ -35,16 +35,16 @@ module _ (t : Tables) (file : List ℕ) where
     pub read-all : left ≡ stops ended → AreAll t file rs
     read-all e = read-as (stops ended) e ∙ ap (λ ks. record { packets = ks; stop = ended }) (append-nil (packets_in rs))
 
-    stopped : (fault : TraceFault) → left ≡ stops (refused fault) → (spelled_for t file).stop ≡ refused fault
-    stopped fault e = ap (λ (s : Spelled). s.stop) (read-as (stops (refused fault)) e)
+    pub read-before : (fault : TraceFault) → left ≡ stops (refused fault) → AreBefore t file rs fault
+    read-before fault e = read-as (stops (refused fault)) e ∙ ap (λ ks. record { packets = ks; stop = refused fault }) (append-nil (packets_in rs))
 
   module _ (rs : List Ready) (old new : PacketLines) (are : AreRead t file rs (left_of (said_at t) file old)) where
     -- reading was refused
-    pub read-refused : (fault : TraceFault) → GivesLine t file old new (Err fault) → RefusesPackets t file fault
+    pub read-refused : (fault : TraceFault) → GivesLine t file old new (Err fault) → HasRead t file rs (Err fault)
     read-refused Read h = tt
     read-refused NoMemory h = tt
-    read-refused (Limit which count) h = stopped rs (left_of (said_at t) file old) are (Limit which count) h
-    read-refused (Packets line) h = stopped rs (left_of (said_at t) file old) are (Packets line) h
+    read-refused (Limit which count) h = read-before rs (left_of (said_at t) file old) are (Limit which count) h
+    read-refused (Packets line) h = read-before rs (left_of (said_at t) file old) are (Packets line) h
     read-refused Write h = h
     read-refused (Undefined packet) h = h
 
@@ -52,15 +52,15 @@ module _ (t : Tables) (file : List ℕ) where
     read-ended h = read-all rs (left_of (said_at t) file old) are h
 
     -- a line names no port
-    pub read-bad : (line : Line) → GivesLine t file old new (Ok (Some line)) → at_ports t (said_of line) ≡ bad → (spelled_for t file).stop ≡ refused (Packets new.read)
-    read-bad line h e = stopped rs (left_of (said_at t) file old) are (Packets new.read) (h ∙ ap (λ s. with_said new.read s (left_of (said_at t) file new)) e)
+    pub read-bad : (line : Line) → GivesLine t file old new (Ok (Some line)) → at_ports t (said_of line) ≡ bad → AreBefore t file rs (Packets new.read)
+    read-bad line h e = read-before rs (left_of (said_at t) file old) are (Packets new.read) (h ∙ ap (λ s. with_said new.read s (left_of (said_at t) file new)) e)
 
     -- a line isn't taken
-    pub read-taken : (line : Line) (number : ℕ) (fault : TraceFault) → number ≡ new.read → (fault ≢ NoMemory → (fault ≡ Packets number) × (at_ports t (said_of line) ≡ bad)) → GivesLine t file old new (Ok (Some line)) → RefusesPackets t file fault
+    pub read-taken : (line : Line) (number : ℕ) (fault : TraceFault) → number ≡ new.read → (fault ≢ NoMemory → (fault ≡ Packets number) × (at_ports t (said_of line) ≡ bad)) → GivesLine t file old new (Ok (Some line)) → HasRead t file rs (Err fault)
     read-taken line number NoMemory n h gives = tt
     read-taken line number (Packets l) n h gives =
         let k = h (λ e. absurd (cc)) in
-        read-bad line gives k.1 ∙ ap refused (ap Packets (sym n) ∙ sym k.0)
+        subst (AreBefore t file rs) (ap Packets (sym n) ∙ sym k.0) (read-bad line gives k.1)
     read-taken line number Read n h gives = let k = h (λ e. absurd (cc)) in let e : Read ≡ Packets number = k.0 in absurd (cc)
     read-taken line number Write n h gives = let k = h (λ e. absurd (cc)) in let e : Write ≡ Packets number = k.0 in absurd (cc)
     read-taken line number (Limit which count) n h gives = let k = h (λ e. absurd (cc)) in let e : Limit which count ≡ Packets number = k.0 in absurd (cc)
@@ -78,9 +78,26 @@ module _ (t : Tables) (file : List ℕ) where
         (read-as rs (left_of (said_at t) file old) are (record { packets = packet ∷ left.packets; stop = left.stop }) next
         ∙ ap (λ ks. record { packets = ks; stop = left.stop }) (sym (append_assoc (packets_in rs) (packet ∷ []) left.packets) ∙ ap (λ ks. ks ++ left.packets) (sym (map-append (λ (x : Ready). x.packet) rs (r ∷ [])))))
 
+-- so the file isn't read to its end
+pub refuses-of : (t : Tables) (file : List ℕ) (rs : List Ready) (fault : TraceFault) → HasRead t file rs (Err fault) → RefusesPackets t file fault
+refuses-of t file rs Read h = tt
+refuses-of t file rs NoMemory h = tt
+refuses-of t file rs (Limit which count) h = ap (λ (s : Spelled). s.stop) h
+refuses-of t file rs (Packets line) h = ap (λ (s : Spelled). s.stop) h
+refuses-of t file rs Write h = h
+refuses-of t file rs (Undefined packet) h = h
+
 -- the packets that were taken can be injected
 pub ready-more : (t : Tables) (line : Line) (rs rs' : List Ready) → FitsLine (comps t) line → TakesLine t line rs rs' → All (IsReady t) rs → All (IsReady t) rs'
 ready-more t Skip rs rs' fits takes all = subst (All (IsReady t)) (sym takes) all
 ready-more t (Inject port packet) rs rs' fits takes all =
     let r : Ready = record { port = port; packet = packet } in
     subst (All (IsReady t)) (sym takes.0) (All-push (IsReady t) rs r all (record { long = fits.0; first = fits.1; has = takes.1 }))
+
+-- a line is one packet at most
+pub taken-few : (t : Tables) (line : Line) (rs rs' : List Ready) (n : ℕ) → TakesLine t line rs rs' → length rs ≤ n → length rs' ≤ n + 1
+taken-few t Skip rs rs' n takes few = let e : length rs' ≡ length rs = ap length takes in omega (arith, e, few)
+taken-few t (Inject port packet) rs rs' n takes few =
+    let r : Ready = record { port = port; packet = packet } in
+    let e : length rs' ≡ length rs + 1 = ap length takes.0 ∙ length-append rs (r ∷ []) in
+    omega (arith, e, few)

@@ -1,5 +1,5 @@
 -- What goes out for a packets file and a schedule.
-use Rattle.std.proofs.Common.{◌≡◌, ◌⊎◌, ℕ, ◌<◌, Bool, List, Option, Ok, Err, refl, sym, ap, subst, ◌∙◌}
+use Rattle.std.proofs.Common.{◌≡◌, ◌⊎◌, ℕ, ◌<◌, ◌≤◌, Bool, List, Option, Ok, Err, refl, sym, ap, subst}
 use Rattle.std.specs.Prelude.{length}
 use Rattle.std.specs.Io.KnownBytes.{Appends}
 use Rattle.snap_io.specs.declared.read.ReadRefusal.{ReadRefusal}
@@ -12,7 +12,7 @@ use Rattle.snap_runs.specs.declared.schedule.ScheduleFault.{ScheduleFault}
 use Rattle.snap_runs.specs.declared.schedule.ScheduleFault.TheVariants.{Packets, Read, TooLong, Line, Write, NoMemory}
 use Rattle.snap_runs.specs.Plain.{spelled_for}
 use Rattle.snap_runs.specs.Playing.{AreAll, Stops, packets_in, schedule_refusal}
-use Rattle.snap_runs.specs.Schedules.{EndsEarly, HasScheduleReport, IsReadWhole, IsScheduleReport, StopsAt, WritesSchedule, lines_of}
+use Rattle.snap_runs.specs.Schedules.{AreBothRead, EndsEarly, HasScheduleReport, IsReadWhole, IsScheduleReport, StopsAt, WritesSchedule, lines_of}
 
 module _ (t : Tables) (hops : Bool) (file schedule : List ℕ) (rs : List Ready) (all : AreAll t file rs) (old : Option (List ℕ)) where
   whole : IsReadWhole t file
@@ -23,15 +23,18 @@ module _ (t : Tables) (hops : Bool) (file schedule : List ℕ) (rs : List Ready)
 
   -- the schedule wasn't read
   pub schedule-refused : (r : ReadRefusal) → (r ≡ refusal.TooLong → 67108864 < length schedule) → WritesSchedule t hops file schedule (Err (schedule_refusal r)) old old
-  schedule-refused refusal.Failed long = refl
+  schedule-refused refusal.Failed long = (refl, whole)
   schedule-refused refusal.TooLong long = (refl, whole, long refl)
   schedule-refused refusal.NoMemory long = refl
 
-  module _ (text : List ℕ) (is : text ≡ schedule) where
+  module _ (text : List ℕ) (few : length text ≤ 67108864) (is : text ≡ schedule) where
+    both : AreBothRead t file schedule
+    both = (whole, subst (λ x. length x ≤ 67108864) is few)
+
     -- a line can't be done, or something is left
     pub schedule-stopped : (e : ScheduleFault) → Stops t (packets_in rs) (lines_of text) e → WritesSchedule t hops file schedule (Err e) old old
     schedule-stopped (Line line) h =
-        (refl, whole, subst (λ ks. StopsAt t ks (lines_of schedule) line ⊎ EndsEarly t ks (lines_of schedule) line) (sym packets) (subst (λ x. StopsAt t (packets_in rs) (lines_of x) line ⊎ EndsEarly t (packets_in rs) (lines_of x) line) is h))
+        (refl, (both, subst (λ ks. StopsAt t ks (lines_of schedule) line ⊎ EndsEarly t ks (lines_of schedule) line) (sym packets) (subst (λ x. StopsAt t (packets_in rs) (lines_of x) line ⊎ EndsEarly t (packets_in rs) (lines_of x) line) is h)))
     schedule-stopped NoMemory h = refl
     schedule-stopped (Packets fault) h = absurd h
     schedule-stopped Read h = absurd h
@@ -40,7 +43,7 @@ module _ (t : Tables) (hops : Bool) (file schedule : List ℕ) (rs : List Ready)
 
     module _ (report : List ℕ) (h : IsScheduleReport t hops (packets_in rs) (lines_of text) report) (now : Option (List ℕ)) where
       has : HasScheduleReport t hops file schedule report
-      has = (whole, subst (λ ks. IsScheduleReport t hops ks (lines_of schedule) report) (sym packets) (subst (λ x. IsScheduleReport t hops (packets_in rs) (lines_of x) report) is h))
+      has = (both, subst (λ ks. IsScheduleReport t hops ks (lines_of schedule) report) (sym packets) (subst (λ x. IsScheduleReport t hops (packets_in rs) (lines_of x) report) is h))
 
       pub schedule-written : Appends old now report → WritesSchedule t hops file schedule (Ok tt) old now
       schedule-written out = (report, has, out)

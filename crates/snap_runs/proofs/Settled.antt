@@ -1,17 +1,15 @@
 -- Copies come to rest step by step.
-use Rattle.std.proofs.Common.{◌≡◌, ℕ, ◌+◌, Bool, true, false, List, [], ◌∷◌, ◌++◌, map, length, refl, sym, ap, subst, ◌∙◌, append-nil}
+use Rattle.std.proofs.Common.{◌≡◌, ℕ, ◌+◌, Bool, true, false, List, [], ◌∷◌, ◌++◌, refl, sym, ap, subst, ◌∙◌, append-nil, arith}
 use Rattle.std.specs.Prelude.{IsPermutation, if◌then◌else◌}
-use Rattle.std.specs.List.{All}
 use Rattle.std.proofs.lemmas.List.Elements.{All-nil, All-append, All-head, All-push}
 use Rattle.snap_rows.specs.declared.tables.Tables.{Tables}
-use Rattle.snap_rows.specs.declared.head.Sent.{Sent}
-use Rattle.snap_rows.specs.Network.{Copy, Net, Event, Inject, Step, Happening, Leads, RunsCalmly, rests, injects, steps, packets_of, StepsFirst}
+use Rattle.snap_rows.specs.Network.{Copy, Net, Inject, Step, Happening, Leads, RunsCalmly, rests, injects, steps, StepsFirst}
 use Rattle.snap_net.specs.Shown.{Held, IsDone, Nothing, Shows, happened, moving}
 use Rattle.snap_trace.specs.Reports.{out_lines}
 use Rattle.snap_runs.specs.declared.tally.Tally.{Tally}
 use Rattle.snap_runs.specs.declared.tracer.Tracer.{Tracer}
-use Rattle.snap_runs.specs.Reports.{IsBlock, hops_text, lost_line, packet_line, packets_delivered}
-use Rattle.snap_runs.specs.Settling.{AreCopiesOf, HappenTo, HasNoted, HasSettled, Settles, Tallies}
+use Rattle.snap_runs.specs.Reports.{IsBlock, hops_text, lost_line, packet_line}
+use Rattle.snap_runs.specs.Settling.{AreCopiesOf, HasNoted, HasSettled, Settles, Tallies}
 use Rattle.snap_runs.specs.Tallies.{IsBlockText, IsTally, Notes, delivered_by, hop_by, lost_by, number_of}
 use Rattle.snap_runs.specs.Tracing.{HasTaken}
 use Rattle.snap_runs.proofs.Happenings.{hops_text-more, losses_of-more, packets_delivered-more}
@@ -39,36 +37,37 @@ tally-more t hops i hs x y y' e is notes = record {
   hops_told = notes.hops_told ∙ ap (λ l. l ++ (if hops then hop_by t.switches (happened x) else [])) is.hops_told ∙ sym (hops_text-more i t hops hs x e);
 }
 
-module _ (hops : Bool) (old mid new : Held) (y y' : Tally) (same : mid.tables ≡ old.tables) (settled : HasSettled hops old mid y) (noted : HasNoted hops mid new y y') where
-  one_more : (s : Net) (a : Net) (hs : List Happening) → Settles old.tables s a hs → ((i : ℕ) → AreCopiesOf i s.flying → Tallies old.tables hops i a hs y)
-      → (b : Net) (x : Happening) → Leads old.tables a (Step 0) b (x ∷ []) → Shows new b → Notes old.tables hops x y y'
-      → (s' : Net) × (gs : List Happening) × Settles old.tables s s' gs × Shows new s' × ((i : ℕ) → AreCopiesOf i s.flying → Tallies old.tables hops i s' gs y')
-  one_more s a hs settles tallies b x leads shows notes = (
-    b,
-    hs ++ x ∷ [],
-    record {
-      events = settles.events ++ Step 0 ∷ [];
-      no_packets = packets_of-append settles.events (Step 0 ∷ []) ∙ ap (λ l. l ++ []) settles.no_packets;
-      first = All-push StepsFirst settles.events (Step 0) settles.first refl;
-      run = calm-then old.tables b (Step 0 ∷ []) (x ∷ []) settles.run (steps leads rests);
-      injected = step-injected old.tables a b 0 (x ∷ []) leads ∙ settles.injected;
-    },
-    shows,
-    λ i all.
-        let before = tallies i all in
-        let here = step-numbers (λ n. n ≡ i) old.tables a b 0 (x ∷ []) before.copies leads in
-        record {
-          copies = here.0;
-          happen = All-append (λ h. number_of h ≡ i) hs (x ∷ []) before.happen here.1;
-          tally = tally-more old.tables hops i hs x y y' (All-head (λ h. number_of h ≡ i) x [] here.1) before.tally notes;
-        },
-  )
+-- steps of the first copy that were noted in a tally lead from s to a
+record Noted (t : Tables) (hops : Bool) (s a : Net) (hs : List Happening) (y : Tally) : Type 0 where
+  settles : Settles t s a hs
+  tallies : (i : ℕ) → AreCopiesOf i s.flying → Tallies t hops i a hs y
 
-  pub settled-more : HasSettled hops old new y'
-  settled-more s shows =
-      let a = settled s shows in
-      let b = subst (λ t. (s' : Net) × (x : Happening) × Leads t a.0 (Step 0) s' (x ∷ []) × Shows new s' × Notes t hops x y y') same (noted a.0 a.3) in
-      one_more s a.0 a.1 a.2 a.4 b.0 b.1 b.2 b.3 b.4
+-- and one more
+one_more : (t : Tables) (hops : Bool) (s a b : Net) (hs : List Happening) (x : Happening) (y y' : Tally) → Noted t hops s a hs y → Leads t a (Step 0) b (x ∷ []) → Notes t hops x y y' → Noted t hops s b (hs ++ x ∷ []) y'
+one_more t hops s a b hs x y y' noted leads notes = record {
+  settles = record {
+    events = noted.settles.events ++ Step 0 ∷ [];
+    no_packets = packets_of-append noted.settles.events (Step 0 ∷ []) ∙ ap (λ l. l ++ []) noted.settles.no_packets;
+    first = All-push StepsFirst noted.settles.events (Step 0) noted.settles.first refl;
+    run = calm-then t b (Step 0 ∷ []) (x ∷ []) noted.settles.run (steps leads rests);
+    injected = step-injected t a b 0 (x ∷ []) leads ∙ noted.settles.injected;
+  };
+  tallies = λ i all.
+      let before = noted.tallies i all in
+      let here = step-numbers (λ n. n ≡ i) t a b 0 (x ∷ []) before.copies leads in
+      record {
+        copies = here.0;
+        happen = All-append (λ h. number_of h ≡ i) hs (x ∷ []) before.happen here.1;
+        tally = tally-more t hops i hs x y y' (All-head (λ h. number_of h ≡ i) x [] here.1) before.tally notes;
+      };
+}
+
+pub settled-more : (hops : Bool) (old mid new : Held) (y y' : Tally) → mid.tables ≡ old.tables → HasSettled hops old mid y → HasNoted hops mid new y y' → HasSettled hops old new y'
+settled-more hops old mid new y y' same settled noted s shows =
+    let a = settled s shows in
+    let b = subst (λ t. (s' : Net) × (x : Happening) × Leads t a.0 (Step 0) s' (x ∷ []) × Shows new s' × Notes t hops x y y') same (noted a.0 a.3) in
+    let c = one_more old.tables hops s a.0 b.0 a.1 b.1 y y' (record { settles = a.2; tallies = a.4 }) b.2 b.4 in
+    (b.0, a.1 ++ b.1 ∷ [], c.settles, b.3, c.tallies)
 
 -- ---- a packet's whole way
 tally_block : (t : Tables) (hops : Bool) (i : ℕ) (hs : List Happening) (y : Tally) (old new : List ℕ) → IsTally t hops i hs y → IsBlockText t.fields (i + 1) y old new → (text : List ℕ) × IsBlock t hops i hs text × (new ≡ old ++ text)

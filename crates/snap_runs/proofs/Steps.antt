@@ -1,6 +1,6 @@
 -- One step of the network.
-use Rattle.std.proofs.Common.{◌≡◌, ℕ, ◌+◌, ◌<◌, Bool, List, [], ◌∷◌, ◌++◌, map, take, drop, Some, length, refl, sym, ap, subst, ◌∙◌, arith, add-one, take-append-drop}
-use Rattle.std.specs.Prelude.{slice_get, sum_by}
+use Rattle.std.proofs.Common.{◌≡◌, ℕ, ◌+◌, ◌<◌, ◌≤◌, Bool, List, [], ◌∷◌, ◌++◌, map, take, drop, Option, Some, None, length, refl, sym, ap, subst, ◌∙◌, arith, add-one, take-append-drop}
+use Rattle.std.specs.Prelude.{slice_get, sum_by, unwrap_or}
 use Rattle.std.specs.List.{All}
 use Rattle.std.proofs.lemmas.List.Elements.{All-nil, All-cons, All-head, All-tail, All-append, All-push, All-take, All-drop, All-map, All-weaker}
 use Rattle.std.proofs.lemmas.List.Sums.{sum_by-append, sum_by-cons}
@@ -12,16 +12,20 @@ use Rattle.snap_rows.specs.declared.head.Sent.{Sent}
 use Rattle.snap_rows.specs.Form.{IsInForm, comps, switch_count}
 use Rattle.snap_rows.specs.Home.{AtHome}
 use Rattle.snap_rows.specs.Rules.{IsValid}
-use Rattle.snap_rows.specs.Network.{Copy, Net, Event, Inject, Step, Happening, Leads, inject, step, happening, moved}
+use Rattle.snap_rows.specs.Network.{Copy, Net, Inject, Step, Happening, Leads, inject, step, happening, moved}
 use Rattle.snap_rows.specs.Weight.{weight, weight_after, steps_left}
+use Rattle.snap_rows.specs.Aims.{aim_of}
+use Rattle.snap_rows.proofs.Aims.{aim_lighter}
 use Rattle.snap_rows.proofs.Arrives.{drop_get}
 use Rattle.snap_rows.proofs.Lighter.{lighter}
 use Rattle.snap_rows.proofs.Rows.{All-get}
 use Rattle.snap_net.specs.declared.flying.Flying.{Flying}
+use Rattle.snap_net.specs.Flights.{spliced}
+use Rattle.snap_net.specs.Travels.{arrived}
 use Rattle.snap_net.specs.Shown.{Held, IsHeld, Shows, flown, moving, store_of}
 use Rattle.snap_runs.specs.declared.tally.Tally.{Tally}
 use Rattle.snap_runs.specs.Settling.{AreCopiesOf, HasNoted, steps_left_of}
-use Rattle.snap_runs.specs.Tallies.{Notes, delivered_by, number_of}
+use Rattle.snap_runs.specs.Tallies.{delivered_by, number_of}
 
 -- ---- numbers of packets
 module _ (P : ℕ → Type 0) where
@@ -127,7 +131,7 @@ moved_weight t c (Deliver port) = refl
 moved_weight t c (Fork copies lost) = sum_map t (λ (x : Sent). record c { head = Out x.port; packet = x.packet; steps = c.steps + 1 }) copies
 
 -- with each step fewer are left, wherever copies are at home
-step_lighter : (t : Tables) → IsValid t → IsInForm t → (s s' : Net) (j : ℕ) (hs : List Happening) → All (λ (c : Copy). c.at < switch_count t) s.flying → All (λ (c : Copy). AtHome t c.at c.head) s.flying → Leads t s (Step j) s' hs → steps_left t s'.flying < steps_left t s.flying
+pub step_lighter : (t : Tables) → IsValid t → IsInForm t → (s s' : Net) (j : ℕ) (hs : List Happening) → All (λ (c : Copy). c.at < switch_count t) s.flying → All (λ (c : Copy). AtHome t c.at c.head) s.flying → Leads t s (Step j) s' hs → steps_left t s'.flying < steps_left t s.flying
 step_lighter t valid form s s' j hs places homes (step {i = i} {c = c} {m = m} {a = a} is handles) =
     let W : Copy → ℕ = λ c. weight t c.at c.head in
     let at = All-get (λ (c : Copy). c.at < switch_count t) s.flying i c places is in
@@ -148,7 +152,7 @@ left_shown t (c ∷ cs) =
     ∙ ap (λ n. weight t c.at c.head + n) (left_shown t cs)
     ∙ sym (sum_by-cons (λ (c : Copy). weight t c.at c.head) c cs)
 
-left_held : (v : Held) (s : Net) → Shows v s → steps_left_of v ≡ steps_left v.tables s.flying
+pub left_held : (v : Held) (s : Net) → Shows v s → steps_left_of v ≡ steps_left v.tables s.flying
 left_held v s shows = ap (sum_by (λ (c : Flying). weight v.tables c.at c.head)) (sym shows.flying) ∙ left_shown v.tables s.flying
 
 pub note-lighter : (hops : Bool) (old new : Held) (y y' : Tally) → new.tables ≡ old.tables → IsHeld old → HasNoted hops old new y y' → steps_left_of new < steps_left_of old
@@ -159,3 +163,23 @@ note-lighter hops old new y y' same held noted =
     let e = left_held old s.0 s.1 in
     let f : steps_left_of new ≡ steps_left old.tables n.0.flying = left_held new n.0 n.3 ∙ ap (λ t. steps_left t n.0.flying) same in
     omega (arith, less, e, f)
+
+-- no more are left once the first copy is where its head sends it
+pub passed-no_heavier : (v new : Held) → ((c : Flying) → slice_get v.flying 0 ≡ Some c → new.flying ≡ spliced v.flying 0 1 (arrived v.tables c ∷ [])) → new.tables ≡ v.tables → 0 < length v.flying → steps_left_of new ≤ steps_left_of v
+passed-no_heavier v new goes same some = by v.flying some goes
+  where
+    W : Flying → ℕ
+    W c = weight v.tables c.at c.head
+
+    lighter_there : (c : Flying) (o : Option ℕ) → aim_of v.tables c.head ≡ o → weight v.tables (unwrap_or o c.at) c.head ≤ W c
+    lighter_there c None e = omega arith
+    lighter_there c (Some x) e = aim_lighter v.tables c.head x c.at e
+
+    by : (cs : List Flying) → 0 < length cs → ((c : Flying) → slice_get cs 0 ≡ Some c → new.flying ≡ spliced cs 0 1 (arrived v.tables c ∷ [])) → steps_left_of new ≤ sum_by W cs
+    by [] low stands = absurd (let z : ⊥ = omega (arith, low) in z)
+    by (c ∷ cs) low stands =
+        let here : steps_left_of new ≡ sum_by W (arrived v.tables c ∷ cs) = ap (λ t. sum_by (λ (c : Flying). weight t c.at c.head) new.flying) same ∙ ap (sum_by W) (stands c refl) in
+        let e : sum_by W (arrived v.tables c ∷ cs) ≡ W (arrived v.tables c) + sum_by W cs = sum_by-cons W (arrived v.tables c) cs in
+        let f : sum_by W (c ∷ cs) ≡ W c + sum_by W cs = sum_by-cons W c cs in
+        let less : W (arrived v.tables c) ≤ W c = lighter_there c (aim_of v.tables c.head) refl in
+        omega (arith, here, e, f, less)

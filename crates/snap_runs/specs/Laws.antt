@@ -1,15 +1,16 @@
 -- Laws of runs over packets, and of their reports.
-use Rattle.std.specs.Prelude.{◌≡◌, ℕ, Bool, List}
+use Rattle.std.specs.Prelude.{◌≡◌, ℕ, Bool, List, []}
 use Rattle.std.specs.List.{All}
-use Rattle.snap_core.specs.Arrays.{Arrays}
+use Rattle.snap_core.specs.Arrays.{Arrays, zero_arrays}
 use Rattle.snap_core.specs.Fields.{count}
 use Rattle.snap_core.specs.Inputs.{IsPacket}
 use Rattle.snap_rows.specs.declared.tables.Tables.{Tables}
 use Rattle.snap_rows.specs.Form.{IsInForm}
-use Rattle.snap_rows.specs.Network.{Event, Happening, IsPlainRun, Net}
+use Rattle.snap_rows.specs.Network.{Event, Happening, IsPlainRun, Net, RunsCalmly, packets_of, start}
 use Rattle.snap_trace.specs.Spelled.{ended, spelled}
-use Rattle.snap_runs.specs.Plain.{ArePlainBlocks, IsPlainReport, spelled_for}
+use Rattle.snap_runs.specs.Plain.{ArePlainBlocks, IsPlainReport, entering, spelled_for}
 use Rattle.snap_runs.specs.Reports.{AreBlocks, IsRunReport}
+use Rattle.snap_runs.specs.Schedules.{IsCalm, IsScheduleReport, Obeys, RefusesLine, Spells}
 
 -- the plain run of packets is one: the same events, the same end and the same happenings
 abbrev pub PlainRunsAreOne : Type 0
@@ -30,6 +31,32 @@ PlainReportsAreOne = (t : Tables) → IsInForm t → (hops : Bool) (ks : List (L
 abbrev pub PlainBlocksAreOne : Type 0
 PlainBlocksAreOne = (t : Tables) → IsInForm t → (hops : Bool) (ks : List (List ℕ)) (a b : List ℕ) → ArePlainBlocks t hops ks a → ArePlainBlocks t hops ks b → a ≡ b
 
+-- ---- schedules
+-- the run that lines tell is one
+abbrev pub ScheduledRunsAreOne : Type 0
+ScheduledRunsAreOne = (t : Tables) → IsInForm t → (ks lines left left' : List (List ℕ)) (s s' : Net) (hs hs' : List Happening)
+    → Obeys t ks lines left s hs → Obeys t ks lines left' s' hs' → (left ≡ left') × (s ≡ s') × (hs ≡ hs')
+
+-- so lines tell one report, or are refused at one line, and not both
+abbrev pub ScheduleReportsAreOne : Type 0
+ScheduleReportsAreOne = (t : Tables) → IsInForm t → (hops : Bool) (ks lines : List (List ℕ)) (a b : List ℕ) → IsScheduleReport t hops ks lines a → IsScheduleReport t hops ks lines b → a ≡ b
+
+abbrev pub RefusedLinesAreOne : Type 0
+RefusedLinesAreOne = (t : Tables) → IsInForm t → (ks lines : List (List ℕ)) (a b : ℕ) → RefusesLine t ks lines a → RefusesLine t ks lines b → a ≡ b
+
+abbrev pub ReportedOrRefused : Type 0
+ReportedOrRefused = (t : Tables) → IsInForm t → (hops : Bool) (ks lines : List (List ℕ)) (text : List ℕ) (number : ℕ) → IsScheduleReport t hops ks lines text → RefusesLine t ks lines number → ⊥
+
+-- the run that a calm schedule tells is calm
+abbrev pub CalmSchedulesRunCalmly : Type 0
+CalmSchedulesRunCalmly = (t : Tables) (ks lines left : List (List ℕ)) (s : Net) (hs : List Happening) → IsCalm t ks lines
+    → (o : Obeys t ks lines left s hs) → RunsCalmly t (start t zero_arrays) o.events s hs
+
+-- lines that inject all packets inject them in their order
+abbrev pub SchedulesKeepOrder : Type 0
+SchedulesKeepOrder = (lines ks : List (List ℕ)) (es : List Event) → Spells lines ks es [] → packets_of es ≡ entering ks
+
+-- ---- files
 -- a packet that a file spells has the tables' components, each of 64 bits
 abbrev pub SpelledPacketsFit : Type 0
 SpelledPacketsFit = (t : Tables) (file : List ℕ) → All (IsPacket (count t.fields)) (spelled_for t file).packets

@@ -8,3 +8,4 @@ pub mod Reading
 pub mod Tracing
 pub mod Schedules
 pub mod Playing
+pub mod Crossings

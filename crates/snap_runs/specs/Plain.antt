@@ -61,9 +61,13 @@ HasTrace t hops file text = (ending : RunEnding) × IsTrace t hops file ending t
 
 -- The run ended as the file deserves, and its whole report went out. Or a device failed or memory was short, and some
 -- first bytes of blocks have gone out; where the sink failed, perhaps of what stands behind them too.
+abbrev pub Writes : (Blocks : List ℕ → Type 0) → (Ends : RunEnding → List ℕ → Type 0) → RunEnding → Option (List ℕ) → Option (List ℕ) → Type 0
+Writes Blocks Ends (Err Read) old new = AppendsSome Blocks old new
+Writes Blocks Ends (Err NoMemory) old new = AppendsSome Blocks old new
+Writes Blocks Ends (Err Write) old new = AppendsSome Blocks old new ⊎ AppendsSome (λ text. (ending : RunEnding) × Ends ending text) old new
+Writes Blocks Ends (Err (Undefined packet)) old new = ⊥
+Writes Blocks Ends ending old new = (text : List ℕ) × Ends ending text × Appends old new text
+
+-- the same of the plain run of tables
 abbrev pub WritesTrace : Tables → (hops : Bool) → (file : List ℕ) → RunEnding → Option (List ℕ) → Option (List ℕ) → Type 0
-WritesTrace t hops file (Err Read) old new = AppendsSome (AreTraceBlocks t hops file) old new
-WritesTrace t hops file (Err NoMemory) old new = AppendsSome (AreTraceBlocks t hops file) old new
-WritesTrace t hops file (Err Write) old new = AppendsSome (AreTraceBlocks t hops file) old new ⊎ AppendsSome (HasTrace t hops file) old new
-WritesTrace t hops file (Err (Undefined packet)) old new = ⊥
-WritesTrace t hops file ending old new = (text : List ℕ) × IsTrace t hops file ending text × Appends old new text
+WritesTrace t hops file ending old new = Writes (AreTraceBlocks t hops file) (IsTrace t hops file) ending old new

@@ -20,9 +20,10 @@ use Rattle.snap_runs.specs.declared.schedule.ScheduleFault.{ScheduleFault}
 use Rattle.snap_runs.specs.declared.schedule.ScheduleFault.TheVariants.{Packets, Read, TooLong, Line, Write, NoMemory}
 use Rattle.snap_runs.specs.declared.tally.Tally.{Tally}
 use Rattle.snap_trace.specs.declared.fault.TraceFault.{TraceFault}
+use Rattle.snap_trace.specs.declared.fault.TraceFault.TheVariants as trace
 use Rattle.snap_trace.specs.declared.line.Line.{Line as Read_line}
 use Rattle.snap_trace.specs.declared.line.Line.TheVariants as read
-use Rattle.snap_trace.specs.Spelled.{ended}
+use Rattle.snap_trace.specs.Spelled.{ended, refused}
 use Rattle.snap_runs.specs.Plain.{spelled_for}
 use Rattle.snap_runs.specs.Schedules.{CantBeDone, EndsEarly, Obeys, RefusesPackets, StopsAt, lines_of, order_by}
 use Rattle.snap_runs.specs.Tallies.{IsBlockText, IsTally, Notes, number_of}
@@ -142,6 +143,20 @@ pub record SoPut (fields : List Field) (ys left : List Tally) (number : ℕ) (be
 -- these are the packets of a file that was read to its end
 abbrev pub AreAll : Tables → (file : List ℕ) → List Ready → Type 0
 AreAll t file rs = spelled_for t file ≡ record { packets = packets_in rs; stop = ended }
+
+-- these are the packets before what stops the file
+abbrev pub AreBefore : Tables → (file : List ℕ) → List Ready → TraceFault → Type 0
+AreBefore t file rs fault = spelled_for t file ≡ record { packets = packets_in rs; stop = refused fault }
+
+-- these packets were read, up to the file's end or to what stops it
+abbrev pub HasRead : Tables → (file : List ℕ) → List Ready → Result (Unit {0}) TraceFault → Type 0
+HasRead t file rs (Ok u) = AreAll t file rs
+HasRead t file rs (Err trace.Read) = Unit {0}
+HasRead t file rs (Err trace.NoMemory) = Unit {0}
+HasRead t file rs (Err (trace.Limit which count)) = AreBefore t file rs (trace.Limit which count)
+HasRead t file rs (Err (trace.Packets line)) = AreBefore t file rs (trace.Packets line)
+HasRead t file rs (Err trace.Write) = ⊥
+HasRead t file rs (Err (trace.Undefined packet)) = ⊥
 
 -- a packet of the line stands behind the others, and its port is one of the tables'
 abbrev pub TakesLine : Tables → Read_line → (before after : List Ready) → Type 0

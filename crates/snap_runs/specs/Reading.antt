@@ -1,8 +1,11 @@
 -- What a reader of packets' lines answers, and what is left of its file.
-use Rattle.std.specs.Prelude.{◌≡◌, ℕ, ◌+◌, ◌-◌, ◌≤◌, ◌==◌, Bool, true, false, List, Result, Ok, Err, Some, None, length, slice_index, if◌then◌else◌}
+use Rattle.std.specs.Prelude.{◌≡◌, ◌⊎◌, ℕ, ◌+◌, ◌-◌, ◌<◌, ◌≤◌, ◌==◌, Bool, true, false, List, Result, Ok, Err, Some, None, length, slice_index, if◌then◌else◌}
 use Rattle.std.specs.declared.option.Option.{Option}
+use Rattle.snap_core.specs.declared.program.Field.{Field}
+use Rattle.snap_core.specs.declared.program.Which.TheVariants.{Bytes}
 use Rattle.snap_io.specs.declared.lines.LinesFault.{LinesFault}
 use Rattle.snap_io.specs.LineReaders.{lines_given, lines_line}
+use Rattle.snap_io.specs.Lines.{Next, next_line, no_line, long_line, many_bytes, next_in}
 use Rattle.snap_rows.specs.declared.tables.Tables.{Tables}
 use Rattle.snap_trace.specs.declared.fault.TraceFault.{TraceFault}
 use Rattle.snap_trace.specs.declared.fault.TraceFault.TheVariants.{Read, Write, Limit, Packets, Undefined, NoMemory}
@@ -10,10 +13,66 @@ use Rattle.snap_trace.specs.declared.line.Line.{Line}
 use Rattle.snap_trace.specs.declared.line.Line.TheVariants.{Skip, Inject}
 use Rattle.snap_trace.specs.PacketLines.{Said, skip, inject, bad, said_by}
 use Rattle.snap_trace.specs.Steps.{refusal_of, refusal_past_last}
-use Rattle.snap_trace.specs.Spelled.{Spelled, stops, ended, refused, spelled_from, with_said}
+use Rattle.snap_trace.specs.Spelled.{Spelled, stops, ended, refused, spelled_from, with_said, after_last}
 use Rattle.snap_runs.specs.declared.packets.PacketLines.{PacketLines}
 use Rattle.snap_runs.specs.Plain.{at_ports}
 
+-- what a line that was given says
+abbrev pub said_of : Line → Said
+said_of Skip = skip
+said_of (Inject port packet) = inject packet
+
+-- ---- what stands next in the file
+-- the line isn't in form, or the file is too long for it
+abbrev pub IsUnfit : (line : ℕ) → Next → TraceFault → Type 0
+IsUnfit line (next_line text behind) fault = ⊥
+IsUnfit line no_line fault = ⊥
+IsUnfit line long_line fault = fault ≡ Packets line
+IsUnfit line many_bytes fault = fault ≡ Limit Bytes 67108865
+
+-- no line may come behind the last, or the next one can't be given
+abbrev pub EndsAt : (read : ℕ) → Next → TraceFault → Type 0
+EndsAt read next fault = ((read ≡ 1000000) × (after_last next ≡ stops (refused fault))) ⊎ ((read < 1000000) × IsUnfit (read + 1) next fault)
+
+-- why the line isn't given that stands next behind `read` lines
+abbrev pub RefusesNext : (read : ℕ) → Next → TraceFault → Type 0
+RefusesNext read next Read = Unit {0}
+RefusesNext read next (Limit which count) = EndsAt read next (Limit which count)
+RefusesNext read next (Packets line) = EndsAt read next (Packets line)
+RefusesNext read next Write = ⊥
+RefusesNext read next (Undefined packet) = ⊥
+RefusesNext read next NoMemory = ⊥
+
+-- the line that stood next was read, or the file's end, or reading has stopped
+abbrev pub ReadsNext : (read : ℕ) → Next → (new : PacketLines) → Result Bool TraceFault → Type 0
+ReadsNext read next new (Ok true) = (read < 1000000) × (next ≡ next_line (lines_line new.lines) (lines_given new.lines))
+ReadsNext read next new (Ok false) = next ≡ no_line
+ReadsNext read next new (Err fault) = RefusesNext read next fault
+
+-- the same of a line that says what is given
+abbrev pub SaysNext : List Field → (read : ℕ) → Next → (new : PacketLines) → Said → Type 0
+SaysNext fields read next new said = (read < 1000000) × ((text : List ℕ) × (next ≡ next_line text (lines_given new.lines)) × (said_by fields text ≡ said))
+
+-- and of a refusal, which a line that isn't in form makes too
+abbrev pub StopsNext : List Field → (read : ℕ) → Next → (new : PacketLines) → TraceFault → Type 0
+StopsNext fields read next new fault = EndsAt read next fault ⊎ ((fault ≡ Packets (read + 1)) × SaysNext fields read next new bad)
+
+-- what is given of these fields
+abbrev pub GivesNext : List Field → (read : ℕ) → Next → (new : PacketLines) → Result (Option Line) TraceFault → Type 0
+GivesNext fields read next new (Ok (Some line)) = SaysNext fields read next new (said_of line)
+GivesNext fields read next new (Ok None) = next ≡ no_line
+GivesNext fields read next new (Err Read) = Unit {0}
+GivesNext fields read next new (Err NoMemory) = Unit {0}
+GivesNext fields read next new (Err (Limit which count)) = StopsNext fields read next new (Limit which count)
+GivesNext fields read next new (Err (Packets line)) = StopsNext fields read next new (Packets line)
+GivesNext fields read next new (Err Write) = ⊥
+GivesNext fields read next new (Err (Undefined packet)) = ⊥
+
+-- what stands next for the reader
+abbrev pub next_for : (file : List ℕ) → PacketLines → Next
+next_for file reader = next_in 67108864 65536 file (lines_given reader.lines)
+
+-- ---- what is left of the file
 -- what a line says at the ports of tables
 abbrev pub said_at : Tables → List ℕ → Said
 said_at t line = at_ports t (said_by t.fields line)
@@ -26,26 +85,7 @@ left_behind said file read at = spelled_from said file (1000000 - read) (read + 
 abbrev pub left_of : (said : List ℕ → Said) → (file : List ℕ) → PacketLines → Spelled
 left_of said file reader = left_behind said file reader.read (lines_given reader.lines)
 
--- why the next line isn't given
-abbrev pub RefusesLine : (said : List ℕ → Said) → (file : List ℕ) → PacketLines → TraceFault → Type 0
-RefusesLine said file old Read = Unit {0}
-RefusesLine said file old (Limit which count) = left_of said file old ≡ stops (refused (Limit which count))
-RefusesLine said file old (Packets line) = left_of said file old ≡ stops (refused (Packets line))
-RefusesLine said file old Write = ⊥
-RefusesLine said file old (Undefined packet) = ⊥
-RefusesLine said file old NoMemory = ⊥
-
--- the next line was read, or the file's end, or reading has stopped
-abbrev pub ReadsLine : (said : List ℕ → Said) → (file : List ℕ) → (old new : PacketLines) → Result Bool TraceFault → Type 0
-ReadsLine said file old new (Ok true) = left_of said file old ≡ with_said new.read (said (lines_line new.lines)) (left_of said file new)
-ReadsLine said file old new (Ok false) = left_of said file old ≡ stops ended
-ReadsLine said file old new (Err fault) = RefusesLine said file old fault
-
-abbrev pub said_of : Line → Said
-said_of Skip = skip
-said_of (Inject port packet) = inject packet
-
--- the same, with what the line says
+-- the next line stands before the others, or none is left, or reading has stopped
 abbrev pub GivesLine : Tables → (file : List ℕ) → (old new : PacketLines) → Result (Option Line) TraceFault → Type 0
 GivesLine t file old new (Ok (Some line)) = left_of (said_at t) file old ≡ with_said new.read (at_ports t (said_of line)) (left_of (said_at t) file new)
 GivesLine t file old new (Ok None) = left_of (said_at t) file old ≡ stops ended

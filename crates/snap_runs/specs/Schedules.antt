@@ -94,6 +94,15 @@ pub record EndsEarly (t : Tables) (ks lines : List (List ℕ)) (number : ℕ) : 
   pub obeys : Obeys t ks lines left state happenings
   pub some : (left ≢ []) ⊎ (state.flying ≢ [])
 
+-- the line with this number can't be done, or all lines are done too early
+abbrev pub RefusesLine : Tables → (ks lines : List (List ℕ)) → (number : ℕ) → Type 0
+RefusesLine t ks lines number = StopsAt t ks lines number ⊎ EndsEarly t ks lines number
+
+-- wherever a line injects a packet, the lines before it leave no copy in flight
+abbrev pub IsCalm : Tables → (ks lines : List (List ℕ)) → Type 0
+IsCalm t ks lines = (before behind : List (List ℕ)) (line : List ℕ) → lines ≡ before ++ line ∷ behind → order_by line ≡ Some order.Inject
+    → (left : List (List ℕ)) (s : Net) (hs : List Happening) → Obeys t ks before left s hs → s.flying ≡ []
+
 -- the report of the run that the lines tell, after which nothing is left
 pub record IsScheduleReport (t : Tables) (hops : Bool) (ks lines : List (List ℕ)) (text : List ℕ) : Type 0 where
   pub state : Net
@@ -107,9 +116,17 @@ pub record IsScheduleReport (t : Tables) (hops : Bool) (ks lines : List (List �
 abbrev pub IsReadWhole : Tables → (file : List ℕ) → Type 0
 IsReadWhole t file = (spelled_for t file).stop ≡ ended
 
+-- the packets file was read to its end, and the schedule has at most so many bytes
+abbrev pub AreBothRead : Tables → (file schedule : List ℕ) → Type 0
+AreBothRead t file schedule = IsReadWhole t file × (length schedule ≤ 67108864)
+
 -- the report of a packets file and a schedule
 abbrev pub HasScheduleReport : Tables → (hops : Bool) → (file schedule : List ℕ) → List ℕ → Type 0
-HasScheduleReport t hops file schedule text = IsReadWhole t file × IsScheduleReport t hops (spelled_for t file).packets (lines_of schedule) text
+HasScheduleReport t hops file schedule text = AreBothRead t file schedule × IsScheduleReport t hops (spelled_for t file).packets (lines_of schedule) text
+
+-- the line of a schedule that is refused
+abbrev pub RefusesScheduleLine : Tables → (file schedule : List ℕ) → (number : ℕ) → Type 0
+RefusesScheduleLine t file schedule number = AreBothRead t file schedule × RefusesLine t (spelled_for t file).packets (lines_of schedule) number
 
 -- why the packets file isn't read to its end
 abbrev pub RefusesPackets : Tables → (file : List ℕ) → TraceFault → Type 0
@@ -126,8 +143,7 @@ abbrev pub WritesSchedule : Tables → (hops : Bool) → (file schedule : List �
 WritesSchedule t hops file schedule (Ok u) old new = (text : List ℕ) × HasScheduleReport t hops file schedule text × Appends old new text
 WritesSchedule t hops file schedule (Err Write) old new = AppendsSome (HasScheduleReport t hops file schedule) old new
 WritesSchedule t hops file schedule (Err (Packets fault)) old new = (new ≡ old) × RefusesPackets t file fault
-WritesSchedule t hops file schedule (Err Read) old new = new ≡ old
+WritesSchedule t hops file schedule (Err Read) old new = (new ≡ old) × IsReadWhole t file
 WritesSchedule t hops file schedule (Err NoMemory) old new = new ≡ old
 WritesSchedule t hops file schedule (Err TooLong) old new = (new ≡ old) × IsReadWhole t file × (67108864 < length schedule)
-WritesSchedule t hops file schedule (Err (Line line)) old new =
-    (new ≡ old) × IsReadWhole t file × (StopsAt t (spelled_for t file).packets (lines_of schedule) line ⊎ EndsEarly t (spelled_for t file).packets (lines_of schedule) line)
+WritesSchedule t hops file schedule (Err (Line line)) old new = (new ≡ old) × RefusesScheduleLine t file schedule line

@@ -1,12 +1,14 @@
 -- How copies in flight come to rest, by steps of the first copy.
-use Rattle.std.specs.Prelude.{◌≡◌, ℕ, ◌<◌, Bool, List, [], ◌∷◌, length, sum_by}
+use Rattle.std.specs.Prelude.{◌≡◌, ℕ, Bool, List, [], ◌∷◌, sum_by}
 use Rattle.std.specs.List.{All}
 use Rattle.snap_rows.specs.declared.tables.Tables.{Tables}
 use Rattle.snap_rows.specs.Network.{Copy, Net, Event, Happening, Leads, Step, RunsCalmly, StepsFirst, packets_of}
 use Rattle.snap_rows.specs.Weight.{weight}
 use Rattle.snap_net.specs.declared.flying.Flying.{Flying}
 use Rattle.snap_net.specs.Shown.{Held, Shows}
+use Rattle.snap_net.specs.Travels.{Travels}
 use Rattle.snap_runs.specs.declared.tally.Tally.{Tally}
+use Rattle.snap_runs.specs.Crossings.{NotesCrossings}
 use Rattle.snap_runs.specs.Tallies.{IsTally, Notes, number_of}
 
 -- the copies are of packet i
@@ -38,6 +40,10 @@ HasSettled hops old new y = (s : Net) → Shows old s → (s' : Net) × (hs : Li
 -- the first copy has made a step, which was noted
 abbrev pub HasNoted : Bool → (old new : Held) → (before after : Tally) → Type 0
 HasNoted hops old new before after = (s : Net) → Shows old s → (s' : Net) × (x : Happening) × Leads old.tables s (Step 0) s' (x ∷ []) × Shows new s' × Notes old.tables hops x before after
+
+-- the first copy has gone on by steps that only cross links, which were noted
+abbrev pub HasPassed : Bool → (old new : Held) → (before after : Tally) → Type 0
+HasPassed hops old new before after = (s : Net) → Shows old s → (s' : Net) × (hs : List Happening) × Travels old.tables 0 s hs s' × Shows new s' × NotesCrossings old.tables hops hs before after
 
 -- the steps that copies can still make, at most
 abbrev pub steps_left_of : Held → ℕ

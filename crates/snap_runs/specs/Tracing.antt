@@ -6,8 +6,8 @@ use Rattle.snap_core.specs.Arrays.{zero_arrays}
 use Rattle.snap_io.specs.Sinks.{AppendsSome}
 use Rattle.snap_rows.specs.declared.tables.Tables.{Tables}
 use Rattle.snap_rows.specs.Entries.{port_at}
-use Rattle.snap_rows.specs.Network.{Net, Event, Inject, Happening, IsPlainRun, RunsCalmly, StepsFirst, packets_of}
-use Rattle.snap_net.specs.Shown.{Held, Shows}
+use Rattle.snap_rows.specs.Network.{Net, Event, Inject, Happening, IsPlainRun, RunsCalmly, StepsFirst, packets_of, start, whole}
+use Rattle.snap_net.specs.Shown.{Shows}
 use Rattle.snap_trace.specs.declared.fault.TraceFault.{TraceFault}
 use Rattle.snap_trace.specs.declared.fault.TraceFault.TheVariants.{Read, Write, Limit, Packets, Undefined, NoMemory}
 use Rattle.snap_trace.specs.declared.line.Line.{Line}
@@ -16,11 +16,15 @@ use Rattle.snap_trace.specs.Spelled.{Spelled, stops, ended, with_said}
 use Rattle.snap_trace.specs.Steps.{Waits}
 use Rattle.snap_runs.specs.declared.packets.PacketLines.{PacketLines}
 use Rattle.snap_runs.specs.declared.tracer.Tracer.{Tracer}
-use Rattle.snap_runs.specs.Plain.{AreTraceBlocks, HasTrace, IsTrace, at_ports, entering, spelled_for}
+use Rattle.snap_runs.specs.Plain.{AreTraceBlocks, IsTrace, at_ports, entering, spelled_for}
 use Rattle.snap_runs.specs.Reading.{left_of, said_at, said_of}
 use Rattle.snap_runs.specs.Reports.{AreBlocks, IsBlock}
 use Rattle.snap_runs.specs.Settling.{HappenTo}
 use Rattle.snap_runs.specs.Tallies.{number_of}
+
+-- other tables come into force: nothing is in flight, the same number was injected, and the whole store is the same
+abbrev pub changed : (to from : Tables) → Net → Net
+changed to from s = record (start to (whole from s)) { injected = s.injected }
 
 -- a packet was injected with nothing in flight, all its copies have come to rest, and its block stands behind the text
 pub record HasTaken (t : Tables) (hops : Bool) (port : ℕ) (k : List ℕ) (s : Net) (before : List ℕ) (new : Tracer) : Type 0 where
@@ -67,14 +71,17 @@ pub record Comes (t : Tables) (hops : Bool) (file : List ℕ) (left : Spelled) (
   pub waits : Waits old now text tracer.text.items
 
 -- The run has ended, and what is left of its text waits. Or a device failed or memory was short.
+abbrev pub EndsRun : (Blocks : List ℕ → Type 0) → (Ends : RunEnding → List ℕ → Type 0) → RunEnding → (old now : Option (List ℕ)) → (waiting : List ℕ) → Type 0
+EndsRun Blocks Ends (Err Read) old now waiting = AppendsSome Blocks old now
+EndsRun Blocks Ends (Err NoMemory) old now waiting = AppendsSome Blocks old now
+EndsRun Blocks Ends (Err Write) old now waiting = AppendsSome Blocks old now ⊎ AppendsSome (λ text. (ending : RunEnding) × Ends ending text) old now
+EndsRun Blocks Ends (Err (Undefined packet)) old now waiting = ⊥
+EndsRun Blocks Ends (Err (Limit which count)) old now waiting = (text : List ℕ) × Ends (Err (Limit which count)) text × Waits old now text waiting
+EndsRun Blocks Ends (Err (Packets line)) old now waiting = (text : List ℕ) × Ends (Err (Packets line)) text × Waits old now text waiting
+EndsRun Blocks Ends (Ok u) old now waiting = (text : List ℕ) × Ends (Ok u) text × Waits old now text waiting
+
 abbrev pub Closes : Tables → (hops : Bool) → (file : List ℕ) → RunEnding → (old now : Option (List ℕ)) → (waiting : List ℕ) → Type 0
-Closes t hops file (Err Read) old now waiting = AppendsSome (AreTraceBlocks t hops file) old now
-Closes t hops file (Err NoMemory) old now waiting = AppendsSome (AreTraceBlocks t hops file) old now
-Closes t hops file (Err Write) old now waiting = AppendsSome (AreTraceBlocks t hops file) old now ⊎ AppendsSome (HasTrace t hops file) old now
-Closes t hops file (Err (Undefined packet)) old now waiting = ⊥
-Closes t hops file (Err (Limit which count)) old now waiting = (text : List ℕ) × IsTrace t hops file (Err (Limit which count)) text × Waits old now text waiting
-Closes t hops file (Err (Packets line)) old now waiting = (text : List ℕ) × IsTrace t hops file (Err (Packets line)) text × Waits old now text waiting
-Closes t hops file (Ok u) old now waiting = (text : List ℕ) × IsTrace t hops file (Ok u) text × Waits old now text waiting
+Closes t hops file ending old now waiting = EndsRun (AreTraceBlocks t hops file) (IsTrace t hops file) ending old now waiting
 
 -- the next line stands before the others, or none is left, or the run has ended
 abbrev pub Follows : Tables → (hops : Bool) → (file : List ℕ) → PacketLines → Tracer → (old now : Option (List ℕ)) → Result (Option Line) TraceFault → Type 0

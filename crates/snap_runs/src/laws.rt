@@ -1,7 +1,7 @@
 //! Laws of runs over packets, and of their reports.
 
 ghost use Rattle.snap_runs.specs.Hops.{HopsAreAdded};
-ghost use Rattle.snap_runs.specs.Laws.{PlainBlocksAreOne, PlainReportsAreOne, PlainRunsAreOne, RunBlocksAreOne, RunReportsAreOne, SpelledForIsSpelled, SpelledPacketsFit};
+ghost use Rattle.snap_runs.specs.Laws.{CalmSchedulesRunCalmly, PlainBlocksAreOne, PlainReportsAreOne, PlainRunsAreOne, RefusedLinesAreOne, ReportedOrRefused, RunBlocksAreOne, RunReportsAreOne, ScheduleReportsAreOne, ScheduledRunsAreOne, SchedulesKeepOrder, SpelledForIsSpelled, SpelledPacketsFit};
 
 /// A run has one report, and its happenings have the same blocks.
 pub fn run_reports_are_one()
@@ -14,6 +14,22 @@ pub fn plain_reports_are_one()
     ensures runs { PlainRunsAreOne }
     ensures reports { PlainReportsAreOne }
     ensures blocks { PlainBlocksAreOne }
+{}
+
+/// Where tables are in form, the run that a schedule's lines tell is one. So lines tell one report, or are refused at one
+/// line, and not both.
+pub fn schedules_run_one_way()
+    ensures runs { ScheduledRunsAreOne }
+    ensures reports { ScheduleReportsAreOne }
+    ensures lines { RefusedLinesAreOne }
+    ensures apart { ReportedOrRefused }
+{}
+
+/// A schedule that injects each packet with no copy in flight tells a calm run; and packets are injected in the order of
+/// their file.
+pub fn calm_schedules_run_calmly()
+    ensures calm { CalmSchedulesRunCalmly }
+    ensures order { SchedulesKeepOrder }
 {}
 
 /// Each packet that a file spells has the tables' components, each of 64 bits; and a file that is read to its end spells the

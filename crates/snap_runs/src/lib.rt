@@ -3,14 +3,14 @@
 
 pub mod event;
 pub mod laws;
-mod packets;
-mod play;
-mod ready;
+pub mod packets;
+pub mod play;
+pub mod ready;
 pub mod schedule;
-mod settle;
-mod tail;
-mod tally;
+pub mod settle;
+pub mod tail;
+pub mod tally;
 #[cfg(test)]
 mod tests;
 pub mod trace;
-mod tracer;
+pub mod tracer;

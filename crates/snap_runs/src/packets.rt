@@ -15,7 +15,7 @@ use std::alloc::Global;
 
 /// A reader of a packets file, and how many lines it has given.
 #[derive(Drop)]
-pub(crate) struct PacketLines {
+pub struct PacketLines {
     lines: Lines,
     read: u64,
     ghost limit: { lines_limit lines ≡ 67108864 },
@@ -29,11 +29,10 @@ impl PacketLines {
     ghost use Rattle.snap_io.specs.Files.{Files, file_of};
     ghost use Rattle.snap_io.specs.LineReaders.{AgreesWith, lines_given, lines_name};
     ghost use Rattle.snap_rows.specs.declared.tables.Tables.{Tables};
-    ghost use Rattle.snap_trace.specs.PacketLines.{Said};
-    ghost use Rattle.snap_runs.specs.Reading.{GivesLine, GoesOn, HasLine, ReadsLine, refused_behind};
+    ghost use Rattle.snap_runs.specs.Reading.{GivesLine, GivesNext, GoesOn, HasLine, ReadsNext, next_for, refused_behind};
 
     /// A reader of the file with this name, before its first line.
-    pub(crate) fn new(alloc: Global, name: &[u8]) -> Result<PacketLines, NoMemory>
+    pub fn new(alloc: Global, name: &[u8]) -> Result<PacketLines, NoMemory>
         ensures name { IfOk result (λ reader. lines_name reader.lines ≡ name.now) }
         ensures given { IfOk result (λ reader. lines_given reader.lines ≡ 0) }
         ensures read { IfOk result (λ reader. reader.read ≡ 0) }
@@ -44,7 +43,7 @@ impl PacketLines {
     }
 
     /// How many lines were given. Takes no memory.
-    pub(crate) fn read(&self) -> u64
+    pub fn read(&self) -> u64
         ensures read { result ≡ self.now.read }
         ensures few { result ≤ 1000000 }
     {
@@ -52,7 +51,7 @@ impl PacketLines {
     }
 
     /// Whether the next line is at hand, so that no read is made for it.
-    pub(crate) fn whole(&self) -> bool {
+    pub fn whole(&self) -> bool {
         self.lines.whole()
     }
 
@@ -61,15 +60,40 @@ impl PacketLines {
     /// # Errors
     ///
     /// As those of `trace`: `Read`, `Packets`, `Limit` and `NoMemory`.
-    pub(crate) fn next<S: Shelf>(
+    pub fn next<S: Shelf>(
         &mut self,
         alloc: Global,
         shelf: &mut S,
         fields: &Fields,
     ) -> Result<Option<Line>, TraceFault>
         requires agrees { AgreesWith (S.files shelf.old) self.old.lines }
+        ensures next { IfSome (S.files shelf.old) (λ files.
+            GivesNext fields.now self.old.read (next_for (file_of files (lines_name self.old.lines)) self.old) self.new result) }
         ensures gives { IfSome (S.files shelf.old) (λ files. (t : Tables) → fields.now ≡ t.fields →
             GivesLine t (file_of files (lines_name self.old.lines)) self.old self.new result) }
+        ensures comps { IfOk result (HasLine (count fields.now)) }
+        ensures goes_on { IfOk result (GoesOn self.old.read self.new.read) }
+        ensures name { lines_name self.new.lines ≡ lines_name self.old.lines }
+        ensures agrees { AgreesWith (S.files shelf.new) self.new.lines }
+        ensures read { IsErrOf result TraceFault.Read → Rose (S.faults shelf.old (lines_name self.old.lines)) (S.faults shelf.new (lines_name self.old.lines)) }
+        ensures not_write { IsErrOf result TraceFault.Write → ⊥ }
+        ensures files { S.files shelf.new ≡ S.files shelf.old }
+        ensures later { NoneFell (S.faults shelf.old) (S.faults shelf.new) }
+    {
+        self.give(alloc, shelf, fields)
+    }
+
+    // Reads the next line, and says what it says.
+    fn give<S: Shelf>(
+        &mut self,
+        alloc: Global,
+        shelf: &mut S,
+        fields: &Fields,
+    ) -> Result<Option<Line>, TraceFault>
+        requires agrees { AgreesWith (S.files shelf.old) self.old.lines }
+        ensures next { IfSome (S.files shelf.old) (λ files.
+            GivesNext fields.now self.old.read (next_for (file_of files (lines_name self.old.lines)) self.old) self.new result) }
+        ensures few { self.old.read ≤ 1000000 }
         ensures comps { IfOk result (HasLine (count fields.now)) }
         ensures goes_on { IfOk result (GoesOn self.old.read self.new.read) }
         ensures name { lines_name self.new.lines ≡ lines_name self.old.lines }
@@ -92,8 +116,8 @@ impl PacketLines {
     // Reads the next line's text. False: there is none.
     fn next_text<S: Shelf>(&mut self, shelf: &mut S) -> Result<bool, TraceFault>
         requires agrees { AgreesWith (S.files shelf.old) self.old.lines }
-        ensures reads { IfSome (S.files shelf.old) (λ files. (said : List ℕ → Said) →
-            ReadsLine said (file_of files (lines_name self.old.lines)) self.old self.new result) }
+        ensures reads { IfSome (S.files shelf.old) (λ files.
+            ReadsNext self.old.read (next_for (file_of files (lines_name self.old.lines)) self.old) self.new result) }
         ensures more { IfOk result (λ more. IsTrue more → self.new.read ≡ self.old.read + 1) }
         ensures name { lines_name self.new.lines ≡ lines_name self.old.lines }
         ensures agrees { AgreesWith (S.files shelf.new) self.new.lines }

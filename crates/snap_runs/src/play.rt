@@ -161,8 +161,8 @@ impl Play {
     }
 }
 
-// Puts the blocks of packets, as their tallies tell them.
-fn put_blocks(out: &mut Vec<u8>, fields: &Fields, tallies: Vec<Tally>) -> Result<(), NoMemory>
+/// Puts the blocks of packets, as their tallies tell them.
+pub fn put_blocks(out: &mut Vec<u8>, fields: &Fields, tallies: Vec<Tally>) -> Result<(), NoMemory>
     requires long { (i : ℕ) (y : Tally) → slice_get tallies.items i ≡ Some y → IsLong (count fields.now) y }
     requires few { length tallies.items ≤ 67108864 }
     ensures { OnOk result (PutsBlocks fields.now tallies.items out.old.items out.new.items) }
@@ -236,8 +236,8 @@ fn switches_of(net: &Net) -> &Names
     &net.tables().tables().switches
 }
 
-// The packets with the next one last.
-fn reversed(mut packets: Vec<Ready>) -> Vec<Ready>
+/// The packets with the next one last.
+pub fn reversed(mut packets: Vec<Ready>) -> Vec<Ready>
     ensures { result.items ≡ reverse packets.items }
 {
     packets.reverse();
@@ -259,7 +259,8 @@ fn next_tally(tallies: &mut Vec<Tally>) -> Option<Tally>
     tallies.pop()
 }
 
-fn next_packet(waiting: &mut Vec<Ready>) -> Option<Ready>
+/// Takes the next packet, which is the last, if there is one.
+pub fn next_packet(waiting: &mut Vec<Ready>) -> Option<Ready>
     ensures { MatchOption result (waiting.old.items ≡ []) (λ ready. waiting.old.items ≡ waiting.new.items ++ ready ∷ []) }
 {
     waiting.pop()
@@ -276,8 +277,8 @@ fn mover_of(moved: &Moved) -> u64
     }
 }
 
-// The same of a step that is told with its frame.
-fn owner_of(happened: &Happened) -> u64
+/// The number of the packet whose copy has made a step that is told with its frame.
+pub fn owner_of(happened: &Happened) -> u64
     ensures { result ≡ owner_by (bared happened.now) }
 {
     match happened {

@@ -1,13 +1,13 @@
 //! Packets that can be injected.
 
-ghost use Rattle.std.specs.Prelude.{◌≡◌, ◌≢◌, ◌++◌, ◌∷◌, [], IfErr, IfOk, IfSome, IsErrOf, MatchResult, OnOk};
+ghost use Rattle.std.specs.Prelude.{◌≡◌, ◌≢◌, ◌≤◌, ◌++◌, ◌∷◌, [], length, IfErr, IfOk, IfSome, IsErrOf, MatchResult, OnErr, OnOk};
 ghost use Rattle.std.specs.List.{All};
 ghost use Rattle.snap_io.specs.Causes.{NoneFell, Rose};
 ghost use Rattle.snap_io.specs.Files.{file_of};
 ghost use Rattle.snap_rows.specs.Form.{comps};
 ghost use Rattle.snap_trace.specs.PacketLines.{bad};
 ghost use Rattle.snap_runs.specs.Plain.{at_ports};
-ghost use Rattle.snap_runs.specs.Playing.{AreAll, IsReady, TakesLine};
+ghost use Rattle.snap_runs.specs.Playing.{AreAll, HasRead, IsReady, TakesLine};
 ghost use Rattle.snap_runs.specs.Reading.{FitsLine, said_of};
 ghost use Rattle.snap_runs.specs.Schedules.{RefusesPackets};
 
@@ -31,7 +31,7 @@ pub struct Ready {
 /// # Errors
 ///
 /// As those of `trace`: `Read`, `Packets`, `Limit` and `NoMemory`.
-pub(crate) fn read_packets<S: Shelf>(
+pub fn read_packets<S: Shelf>(
     alloc: Global,
     shelf: &mut S,
     name: &[u8],
@@ -41,16 +41,42 @@ pub(crate) fn read_packets<S: Shelf>(
         (λ packets. AreAll tables.now (file_of files name.now) packets.items)
         (RefusesPackets tables.now (file_of files name.now))) }
     ensures ready { IfOk result (λ packets. All (IsReady tables.now) packets.items) }
+    ensures not_write { IsErrOf result TraceFault.Write → ⊥ }
+    ensures read { IsErrOf result TraceFault.Read → Rose (S.faults shelf.old name.now) (S.faults shelf.new name.now) }
+    ensures files { S.files shelf.new ≡ S.files shelf.old }
+    ensures later { NoneFell (S.faults shelf.old) (S.faults shelf.new) }
+{
+    let mut packets = Vec::new(alloc);
+    read_until(alloc, shelf, name, tables, &mut packets)?;
+    Ok(packets)
+}
+
+/// Reads the packets of the file with this name, up to its end or to what stops it. Each comes in at a port of the tables.
+///
+/// # Errors
+///
+/// As those of `trace`: `Read`, `Packets`, `Limit` and `NoMemory`. The packets of the lines before are there.
+pub fn read_until<S: Shelf>(
+    alloc: Global,
+    shelf: &mut S,
+    name: &[u8],
+    tables: &Valid,
+    packets: &mut Vec<Ready>,
+) -> Result<(), TraceFault>
+    requires none { packets.old.items ≡ [] }
+    ensures whole { IfSome (S.files shelf.old) (λ files. HasRead tables.now (file_of files name.now) packets.new.items result) }
+    ensures ready { All (IsReady tables.now) packets.new.items }
+    ensures few { length packets.new.items ≤ 1000000 }
+    ensures not_write { IsErrOf result TraceFault.Write → ⊥ }
     ensures read { IsErrOf result TraceFault.Read → Rose (S.faults shelf.old name.now) (S.faults shelf.new name.now) }
     ensures files { S.files shelf.new ≡ S.files shelf.old }
     ensures later { NoneFell (S.faults shelf.old) (S.faults shelf.new) }
 {
     let mut reader = PacketLines::new(alloc, name)?;
-    let mut packets = Vec::new(alloc);
     while let Some(line) = reader.next(alloc, shelf, &tables.tables().fields)? {
-        take_line(tables, &mut packets, line, reader.read())?;
+        take_line(tables, packets, line, reader.read())?;
     }
-    Ok(packets)
+    Ok(())
 }
 
 // Takes a line of this number.
@@ -63,6 +89,7 @@ fn take_line(
     requires { FitsLine (comps tables.now) line }
     ensures ok { OnOk result (TakesLine tables.now line packets.old.items packets.new.items) }
     ensures err { IfErr result (λ fault. fault ≢ TraceFault.NoMemory → (fault ≡ TraceFault.Packets number) × (at_ports tables.now (said_of line) ≡ bad)) }
+    ensures refused { OnErr result (packets.new.items ≡ packets.old.items) }
 {
     let Line::Inject { port, packet } = line else {
         return Ok(());
@@ -75,7 +102,8 @@ fn take_line(
 }
 
 fn put(packets: &mut Vec<Ready>, ready: Ready) -> Result<(), NoMemory>
-    ensures { OnOk result (packets.new.items ≡ packets.old.items ++ ready ∷ []) }
+    ensures ok { OnOk result (packets.new.items ≡ packets.old.items ++ ready ∷ []) }
+    ensures err { OnErr result (packets.new.items ≡ packets.old.items) }
 {
     packets.push(ready)?;
     Ok(())

@@ -85,6 +85,7 @@ pub fn scheduled<S: Shelf, K: Sink>(
 ) -> Result<(), ScheduleFault>
     ensures report { IfSome (S.files shelf.old) (λ files.
         WritesSchedule tables hops (file_of files packets.now) (file_of files schedule.now) result (K.taken sink.old) (K.taken sink.new)) }
+    ensures no_write { IsErrOf result (ScheduleFault.Packets TraceFault.Write) → ⊥ }
     ensures read_packets { IsErrOf result (ScheduleFault.Packets TraceFault.Read) → Rose (S.faults shelf.old packets.now) (S.faults shelf.new packets.now) }
     ensures read { IsErrOf result ScheduleFault.Read → Rose (S.faults shelf.old schedule.now) (S.faults shelf.new schedule.now) }
     ensures write { IsErrOf result ScheduleFault.Write → Rose (K.faults sink.old) (K.faults sink.new) }
@@ -105,8 +106,8 @@ pub fn scheduled<S: Shelf, K: Sink>(
     Ok(())
 }
 
-// Why the schedule isn't read.
-fn refused(refusal: ReadRefusal) -> ScheduleFault
+/// Why the schedule isn't read.
+pub fn refused(refusal: ReadRefusal) -> ScheduleFault
     ensures { result ≡ schedule_refusal refusal }
 {
     match refusal {

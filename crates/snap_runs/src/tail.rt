@@ -12,7 +12,7 @@ use snap_rows::lists::ArraysAt;
 use snap_trace::report::{put_index, put_number};
 
 /// Puts the end of a network's report behind the text.
-pub(crate) fn put_end(out: &mut Vec<u8>, net: &Net) -> Result<(), NoMemory>
+pub fn put_end(out: &mut Vec<u8>, net: &Net) -> Result<(), NoMemory>
     ensures { OnOk result (PutsEnd net.now out.old.items out.new.items) }
 {
     let entries = net.entries()?;

@@ -1,10 +1,13 @@
 //! What is noted of one packet while its copies are in flight.
 
-ghost use Rattle.std.specs.Prelude.{◌≡◌, ◌+◌, ◌++◌, [], ◌∷◌, length, IfOk, OnOk};
+ghost use Rattle.std.specs.Prelude.{◌≡◌, ◌<◌, ◌+◌, ◌++◌, [], ◌∷◌, ℕ, List, true, length, IfOk, OnOk};
 ghost use Rattle.std.specs.List.{All};
 ghost use Rattle.std.specs.List.Sorted.{IsPermutation, IsSorted};
 ghost use Rattle.snap_core.specs.Fields.{count};
 ghost use Rattle.snap_core.specs.Packets.{packet_cmp};
+ghost use Rattle.snap_rows.specs.Form.{switch_count};
+ghost use Rattle.snap_rows.specs.Ways.{Way};
+ghost use Rattle.snap_runs.specs.Crossings.{NotesWay, line_text, way_text};
 ghost use Rattle.snap_runs.specs.Reports.{lost_line, packet_line};
 ghost use Rattle.snap_trace.specs.Reports.{out_lines};
 ghost use Rattle.snap_runs.specs.Tallies.{bared, delivered_by, hop_by, hop_text, IsBlockText, lost_by};
@@ -13,7 +16,10 @@ use snap_core::NoMemory;
 use snap_core::lists::Names;
 use snap_core::packet::Packet;
 use snap_core::program::Fields;
+use snap_head::encode::encode;
+use snap_net::flying::Flying;
 use snap_net::happened::{Happened, Moved};
+use snap_rows::valid::Valid;
 use snap_trace::report::{name_at, put_head, put_number, put_out};
 use std::alloc::Global;
 use std::cmp::Ordering;
@@ -21,7 +27,7 @@ use std::cmp::Ordering;
 /// What has happened to one packet: the packets that were delivered of it, how many were lost, and the lines of the
 /// links that its copies crossed, where they are told.
 #[derive(Drop)]
-pub(crate) struct Tally {
+pub struct Tally {
     alloc: Global,
     delivered: Vec<Packet>,
     lost: u64,
@@ -30,7 +36,7 @@ pub(crate) struct Tally {
 
 impl Tally {
     /// Nothing has happened. Takes no memory.
-    pub(crate) fn new(alloc: Global) -> Tally
+    pub fn new(alloc: Global) -> Tally
         ensures delivered { result.delivered.items ≡ [] }
         ensures lost { result.lost ≡ 0 }
         ensures hops { result.hops.items ≡ [] }
@@ -43,8 +49,22 @@ impl Tally {
         }
     }
 
+    /// The packets that were delivered. Takes no memory.
+    pub fn delivered(&self) -> &[Packet]
+        ensures { result.now ≡ self.now.delivered.items }
+    {
+        &self.delivered
+    }
+
+    /// How many packets were lost. Takes no memory.
+    pub fn lost(&self) -> u64
+        ensures { result ≡ self.now.lost }
+    {
+        self.lost
+    }
+
     /// Notes a step.
-    pub(crate) fn note(&mut self, moved: Moved) -> Result<(), NoMemory>
+    pub fn note(&mut self, moved: Moved) -> Result<(), NoMemory>
         ensures delivered { OnOk result (self.new.delivered.items ≡ self.old.delivered.items ++ delivered_by moved) }
         ensures lost { OnOk result (self.new.lost ≡ self.old.lost + lost_by moved) }
         ensures hops { self.new.hops.items ≡ self.old.hops.items }
@@ -57,7 +77,7 @@ impl Tally {
     }
 
     /// Notes a step, with the line of the link that the copy crosses.
-    pub(crate) fn note_hop(&mut self, switches: &Names, happened: Happened) -> Result<(), NoMemory>
+    pub fn note_hop(&mut self, switches: &Names, happened: Happened) -> Result<(), NoMemory>
         ensures delivered { OnOk result (self.new.delivered.items ≡ self.old.delivered.items ++ delivered_by (bared happened)) }
         ensures lost { OnOk result (self.new.lost ≡ self.old.lost + lost_by (bared happened)) }
         ensures hops { OnOk result (self.new.hops.items ≡ self.old.hops.items ++ hop_by switches.now happened) }
@@ -81,6 +101,23 @@ impl Tally {
         }
     }
 
+    /// Notes the lines of the links that a copy crosses along next hops to where its head sends it. All have one frame.
+    pub(crate) fn note_way(&mut self, tables: &Valid, copy: &Flying) -> Result<(), NoMemory>
+        requires { copy.now.at < switch_count tables.now }
+        ensures delivered { self.new.delivered.items ≡ self.old.delivered.items }
+        ensures lost { self.new.lost ≡ self.old.lost }
+        ensures hops { OnOk result (NotesWay tables.now true copy.now self.old.hops.items self.new.hops.items) }
+    {
+        let _known = tables.tables();
+        let to = tables.aim(copy.head).unwrap_or(copy.at);
+        if to == copy.at {
+            return Ok(());
+        }
+        let frame = encode(self.alloc, copy.head, &copy.packet)?;
+        let digits = hex::encode(self.alloc, &frame)?;
+        put_way(&mut self.hops, tables, copy.at, to, digits.as_bytes())
+    }
+
     fn deliver(&mut self, packet: Packet) -> Result<(), NoMemory>
         ensures delivered { OnOk result (self.new.delivered.items ≡ self.old.delivered.items ++ packet ∷ []) }
         ensures lost { self.new.lost ≡ self.old.lost }
@@ -101,12 +138,7 @@ impl Tally {
     }
 
     /// Puts the block of the packet with this number, counted from 1.
-    pub(crate) fn put_block(
-        self,
-        out: &mut Vec<u8>,
-        fields: &Fields,
-        number: u64,
-    ) -> Result<(), NoMemory>
+    pub fn put_block(self, out: &mut Vec<u8>, fields: &Fields, number: u64) -> Result<(), NoMemory>
         requires { All (λ k. length k ≡ count fields.now) self.delivered.items }
         ensures { OnOk result (IsBlockText fields.now number self (out.old.items) (out.new.items)) }
     {
@@ -191,12 +223,47 @@ fn put_hop(
     ensures { OnOk result (out.new.items ≡ out.old.items ++ hop_text switches.now from to frame.now) }
 {
     let digits = hex::encode(alloc, frame)?;
+    put_line(out, switches, from, to, digits.as_bytes())
+}
+
+// Puts the lines of the links along next hops to a switch, each with these digits.
+fn put_way(
+    out: &mut Vec<u8>,
+    tables: &Valid,
+    from: u16,
+    to: u16,
+    digits: &[u8],
+) -> Result<(), NoMemory>
+    requires from { from < switch_count tables.now }
+    requires to { to < switch_count tables.now }
+    ensures { OnOk result ((ws : List ℕ) → Way tables.now to from ws → out.new.items ≡ out.old.items ++ way_text tables.now.switches digits.now from ws) }
+{
+    let switches = &tables.tables().switches;
+    let mut at = from;
+    while at != to {
+        let next = tables.next(at, to);
+        put_line(out, switches, at, next, digits)?;
+        at = next;
+    }
+    Ok(())
+}
+
+// Puts the line of a link with these digits.
+fn put_line(
+    out: &mut Vec<u8>,
+    switches: &Names,
+    from: u16,
+    to: u16,
+    digits: &[u8],
+) -> Result<(), NoMemory>
+    ensures { OnOk result (out.new.items ≡ out.old.items ++ line_text switches.now digits.now from to) }
+{
     out.extend_from_slice(b"hop ")?;
     out.extend_from_slice(name_at(switches, from))?;
     out.push(b' ')?;
     out.extend_from_slice(name_at(switches, to))?;
     out.push(b' ')?;
-    out.extend_from_slice(digits.as_bytes())?;
+    out.extend_from_slice(digits)?;
     out.push(b'\n')?;
     Ok(())
 }

@@ -7,14 +7,15 @@ ghost use Rattle.snap_io.specs.Causes.{HasCause, NoneFell, Rose};
 ghost use Rattle.snap_io.specs.Files.{file_of};
 ghost use Rattle.snap_io.specs.LineReaders.{AgreesWith, lines_given, lines_name};
 ghost use Rattle.snap_rows.specs.declared.tables.Tables.{Tables};
-ghost use Rattle.snap_rows.specs.Form.{comps};
-ghost use Rattle.snap_rows.specs.Network.{start};
+ghost use Rattle.snap_rows.specs.Form.{array_count, comps};
+ghost use Rattle.snap_rows.specs.Network.{Net as State, start};
 ghost use Rattle.snap_net.specs.Shown.{Shows};
 ghost use Rattle.snap_trace.specs.Spelled.{Spelled, with_said};
 ghost use Rattle.snap_trace.specs.Steps.{Puts};
 ghost use Rattle.snap_runs.specs.Plain.{WritesTrace, at_ports};
 ghost use Rattle.snap_runs.specs.Reading.{FitsLine, GoesOn, HasLine, left_of, said_at, said_of};
-ghost use Rattle.snap_runs.specs.Tracing.{Closes, Comes, ComesOn, Follows, TakesPacket};
+ghost use Rattle.snap_runs.specs.Reports.{PutsEnd};
+ghost use Rattle.snap_runs.specs.Tracing.{Closes, Comes, ComesOn, Follows, TakesPacket, changed};
 
 use crate::packets::PacketLines;
 use crate::settle::settle;
@@ -23,16 +24,16 @@ use snap_core::NoMemory;
 use snap_core::packet::Packet;
 use snap_core::program::Fields;
 use snap_io::{Shelf, Sink, WriteFailed, write_whole};
-use snap_net::net::{InjectFault, Net, open_net};
+use snap_net::net::{InjectFault, Net, open_net, reopen};
 use snap_rows::valid::Valid;
 use snap_trace::switch::is_told;
 use snap_trace::tail::PIECE;
 use snap_trace::{Line, TraceFault};
 use std::alloc::Global;
 
-/// A network between two packets, and the text that waits to be written.
+/// A network between two packets, and the text of its report that waits to be written.
 #[derive(Drop)]
-pub(crate) struct Tracer {
+pub struct Tracer {
     alloc: Global,
     net: Net,
     hops: bool,
@@ -40,8 +41,8 @@ pub(crate) struct Tracer {
 }
 
 impl Tracer {
-    /// Before the first packet.
-    pub(crate) fn new(alloc: Global, tables: Valid, hops: bool) -> Result<Tracer, NoMemory>
+    /// Before the first packet. With `hops` a line of the report tells each link that a copy crosses.
+    pub fn new(alloc: Global, tables: Valid, hops: bool) -> Result<Tracer, NoMemory>
         ensures tables { IfOk result (λ tracer. tracer.net.tables ≡ tables) }
         ensures hops { IfOk result (λ tracer. tracer.hops ≡ hops) }
         ensures injected { IfOk result (λ tracer. tracer.net.injected ≡ 0) }
@@ -113,6 +114,65 @@ impl Tracer {
         reader.next(self.alloc, shelf, fields)
     }
 
+    /// The fields of the tables. Takes no memory.
+    pub fn fields(&self) -> &Fields
+        ensures { result.now ≡ self.now.net.tables.fields }
+    {
+        fields_of(&self.net)
+    }
+
+    /// The number of packets that were taken. Takes no memory.
+    pub fn taken(&self) -> u64
+        ensures { result ≡ self.now.net.injected }
+    {
+        self.net.injected()
+    }
+
+    /// Writes what waits where a line has to be read, and where much waits.
+    pub fn write_before_read<K: Sink>(
+        &mut self,
+        reader: &PacketLines,
+        sink: &mut K,
+    ) -> Result<(), WriteFailed>
+        ensures puts { Puts (K.taken sink.old) (K.taken sink.new) self.old.text.items [] result self.new.text.items }
+        ensures cause { HasCause (K.faults sink.old) (K.faults sink.new) result }
+        ensures net { self.new.net ≡ self.old.net }
+        ensures hops { self.new.hops ≡ self.old.hops }
+    {
+        write_before_read(&mut self.text, reader, sink)
+    }
+
+    /// Writes what waits.
+    pub fn flush<K: Sink>(&mut self, sink: &mut K) -> Result<(), WriteFailed>
+        ensures puts { Puts (K.taken sink.old) (K.taken sink.new) self.old.text.items [] result self.new.text.items }
+        ensures cause { HasCause (K.faults sink.old) (K.faults sink.new) result }
+        ensures none { OnOk result (self.new.text.items ≡ []) }
+    {
+        flush(&mut self.text, sink)
+    }
+
+    /// Puts the end of the report: the places that aren't 0.
+    pub fn put_end(&mut self) -> Result<(), NoMemory>
+        ensures { OnOk result (PutsEnd self.old.net self.old.text.items self.new.text.items) }
+    {
+        put_end(&mut self.text, &self.net)
+    }
+
+    /// Puts these tables in the place of the old ones, with the same number of packets taken and the same whole store.
+    pub fn change(&mut self, tables: Valid) -> Result<(), NoMemory>
+        requires { array_count tables ≡ array_count self.old.net.tables }
+        ensures tables { OnOk result (self.new.net.tables ≡ tables) }
+        ensures changed { OnOk result ((s : State) → Shows self.old.net s → Shows self.new.net (changed tables self.old.net.tables s)) }
+        ensures injected { self.new.net.injected ≡ self.old.net.injected }
+        ensures text { self.new.text.items ≡ self.old.text.items }
+        ensures hops { self.new.hops ≡ self.old.hops }
+    {
+        let entries = self.net.entries()?;
+        let injected = self.net.injected();
+        self.net = reopen(self.alloc, tables, &entries, injected)?;
+        Ok(())
+    }
+
     // Takes a line of this number.
     fn take_line(&mut self, line: Line, number: u64) -> Result<(), TraceFault>
         requires fits { FitsLine (comps self.old.net.tables) line }
@@ -129,8 +189,12 @@ impl Tracer {
         }
     }
 
-    // Injects a packet of the line with this number, lets its copies come to rest, and puts its block behind the text.
-    fn take_packet(&mut self, port: u32, packet: Packet, line: u64) -> Result<(), TraceFault>
+    /// Injects a packet of the line with this number, lets its copies come to rest, and puts its block behind the text.
+    ///
+    /// # Errors
+    ///
+    /// `Packets` with the line where the tables have no such port, and `NoMemory`.
+    pub fn take_packet(&mut self, port: u32, packet: Packet, line: u64) -> Result<(), TraceFault>
         requires packet { length packet ≡ comps self.old.net.tables }
         requires port { slice_index packet 0 ≡ port }
         requires room { self.old.net.injected < 2 ^ 63 }

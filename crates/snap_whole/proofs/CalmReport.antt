@@ -29,14 +29,14 @@ mapped f None y is = absurd (none-some y is)
 mapped f (Some x) y is = (x, refl, same_Some _ y is)
 
 -- one big switch makes a set of each packet
-as_many : (p : Pol) (m : Arrays) (ks : List (List ℕ)) (made : Switched) → one_big_switch p m ks ≡ Some made → length ks ≡ length made.packets
+pub as_many : (p : Pol) (m : Arrays) (ks : List (List ℕ)) (made : Switched) → one_big_switch p m ks ≡ Some made → length ks ≡ length made.packets
 as_many p m [] made e = ap (λ (s : Switched). length s.packets) (same_Some _ made e)
 as_many p m (k ∷ ks) made e =
     option_and_then_some (λ o. option_map (λ (r : Switched). record { packets = o.packets ∷ r.packets; arrays = r.arrays }) (one_big_switch p o.arrays ks)) (eval p m k) made e (λ o eo onward.
     let r = mapped (λ (r : Switched). record { packets = o.packets ∷ r.packets; arrays = r.arrays }) (one_big_switch p o.arrays ks) made onward in
     ap suc (as_many p o.arrays ks r.0 r.1) ∙ ap (λ (s : Switched). length s.packets) r.2)
 
-numbered_at : (n a j : ℕ) → j < n → slice_get (range_with_len a n) j ≡ Some (a + j)
+pub numbered_at : (n a j : ℕ) → j < n → slice_get (range_with_len a n) j ≡ Some (a + j)
 numbered_at zero a j within = absurd (omega arith)
 numbered_at (suc n) a zero within = ap Some (let e : a ≡ a + 0 = omega arith in e)
 numbered_at (suc n) a (suc j) within = numbered_at n (a + 1) j (omega arith) ∙ ap Some (let e : a + 1 + j ≡ a + suc j = omega arith in e)
@@ -63,14 +63,21 @@ agrees-report p topology t fields names ports ks s hs agrees text report =
       is = report.is ∙ (λ i. (report.are.is ∙ all) i ++ end_text (names i) report.entries) ∙ (λ i. blocks (port_lines (fields i) (same_ports i)) 1 sets ++ end_text p.vars report.entries);
     }
 
+-- a calm run of packets of the program agrees with one big switch
+pub calm_agrees : (p : Program) (topology : Topology) (places : List ℕ) (t : Tables) → Faithful p topology places t → (ks : List (List ℕ)) → All (IsPacketOf p) ks
+    → (es : List Event) (s : Net) (hs : List Happening) → packets_of es ≡ entering ks → RunsCalmly t (start t zero_arrays) es s hs → s.flying ≡ []
+    → Agrees p t zero_arrays ks (numbered ks) s hs
+calm_agrees p topology places t faithful ks packets es s hs enter run none =
+    let fits = subst (All (λ (e : ℕ × List ℕ). IsPacketOf p e.1)) (sym enter) (entering-fits p ks packets) in
+    let agrees = faithful.calm_runs zero_arrays es s hs (no_numbers p) (all_enter t p fits (calm_run t run)) run none in
+    let same : Rattle.snap_gen.specs.Faithful.packets_in (packets_of es) ≡ ks = ap Rattle.snap_gen.specs.Faithful.packets_in enter ∙ entering-packets ks in
+    subst (λ l. Agrees p t zero_arrays l (numbered l) s hs) same agrees
+
 pub calm_report : (p : Program) (topology : Topology) (places : List ℕ) (t : Tables) → Faithful p topology places t → (ks : List (List ℕ)) → All (IsPacketOf p) ks
     → (es : List Event) (s : Net) (hs : List Happening) → packets_of es ≡ entering ks → RunsCalmly t (start t zero_arrays) es s hs → s.flying ≡ []
     → (text : List ℕ) → IsRunReport t false (length ks) s hs text → IsSwitchReport p (ports_of topology) ks text
 calm_report p topology places t faithful ks packets es s hs enter run none text report =
-    let fits = subst (All (λ (e : ℕ × List ℕ). IsPacketOf p e.1)) (sym enter) (entering-fits p ks packets) in
-    let agrees = faithful.calm_runs zero_arrays es s hs (no_numbers p) (all_enter t p fits (calm_run t run)) run none in
-    let same : Rattle.snap_gen.specs.Faithful.packets_in (packets_of es) ≡ ks = ap Rattle.snap_gen.specs.Faithful.packets_in enter ∙ entering-packets ks in
-    agrees-report p topology t faithful.shape.fields faithful.shape.names faithful.shape.ports ks s hs (subst (λ l. Agrees p t zero_arrays l (numbered l) s hs) same agrees) text report
+    agrees-report p topology t faithful.shape.fields faithful.shape.names faithful.shape.ports ks s hs (calm_agrees p topology places t faithful ks packets es s hs enter run none) text report
 
 pub plain_report : (p : Program) (topology : Topology) (places : List ℕ) (t : Tables) → Faithful p topology places t → (ks : List (List ℕ)) → All (IsPacketOf p) ks
     → (text : List ℕ) → IsPlainReport t false ks text → IsSwitchReport p (ports_of topology) ks text

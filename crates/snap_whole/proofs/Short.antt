@@ -3,7 +3,7 @@ use Rattle.std.proofs.Common.{◌≡◌, ℕ, ◌+◌, ◌*◌, ◌≤◌, List,
 use Rattle.std.specs.List.{All}
 use Rattle.std.proofs.lemmas.List.Elements.{All-nil, All-cons, All-head, All-tail, All-append}
 use Rattle.snap_core.specs.declared.program.Program.{Program}
-use Rattle.snap_core.specs.Arrays.{zero_arrays}
+use Rattle.snap_core.specs.Arrays.{Arrays, zero_arrays}
 use Rattle.snap_dep.specs.Ranks.{IsRank}
 use Rattle.snap_topo.specs.declared.topology.Topology.{Topology}
 use Rattle.snap_route.specs.Walks.{IsDiameter, Linked}
@@ -12,7 +12,7 @@ use Rattle.snap_rows.specs.declared.head.Action.{Action}
 use Rattle.snap_rows.specs.declared.head.Action.TheVariants.{Forward, Deliver, Fork}
 use Rattle.snap_rows.specs.Network.{Copy, Event, Inject, Step, Happening, IsPlainRun, Leads, inject, step, happening, stepped, Net, Run, Runs, done, on, packets_of}
 use Rattle.snap_rows.proofs.Rows.{All-get}
-use Rattle.snap_gen.specs.Faithful.{Faithful, IsPacketOf, IsWithin}
+use Rattle.snap_gen.specs.Faithful.{Faithful, IsPacketOf, IsStoreOf, IsWithin}
 use Rattle.snap_runs.specs.Plain.{entering}
 use Rattle.snap_whole.specs.Laws.{IsHopWithin}
 use Rattle.snap_whole.proofs.Entered.{IsOfProgram, no_numbers, entering-fits, calm_run, all_enter}
@@ -63,26 +63,32 @@ module _ (most : ℕ) where
       by (Fork copies lost) near = here
 
 module _ (p : Program) (topology : Topology) (places : List ℕ) (t : Tables) (faithful : Faithful p topology places t)
-    (order : List ℕ) (d : ℕ) (rank : IsRank p.body (length p.vars) order) (greatest : IsDiameter (Linked topology.links) (length topology.switches) d) where
+    (order : List ℕ) (d : ℕ) (rank : IsRank p.body (length p.vars) order) (greatest : IsDiameter (Linked topology.links) (length topology.switches) d) (m : Arrays) (store : IsStoreOf p m) where
   abbrev most : ℕ
   most = (length order + 1) * d
 
-  within : (es : List Event) (s : Net) (hs : List Happening) → All (Fits p) es → Run t zero_arrays es s hs → IsWithin most s hs
-  within es s hs fits run = faithful.hop_bound order d rank greatest zero_arrays es s hs (no_numbers p) (all_enter t p (packets_fit p es fits) run) run
+  within : (es : List Event) (s : Net) (hs : List Happening) → All (Fits p) es → Run t m es s hs → IsWithin most s hs
+  within es s hs fits run = faithful.hop_bound order d rank greatest m es s hs store (all_enter t p (packets_fit p es fits) run) run
 
   -- after some events have led here
-  from_here : {s s' : Net} {es : List Event} {hs : List Happening} (first : List Event) (happened : List Happening) → All (Fits p) first → All (Fits p) es → Run t zero_arrays first s happened → Runs t s es s' hs → All (IsHopWithin most) hs
+  from_here : {s s' : Net} {es : List Event} {hs : List Happening} (first : List Event) (happened : List Happening) → All (Fits p) first → All (Fits p) es → Run t m first s happened → Runs t s es s' hs → All (IsHopWithin most) hs
   from_here first happened fits later run done = All-nil (IsHopWithin most)
   from_here first happened fits later run (on {s = s} {s' = s1} {e = e} {es = es} {h = h} {hs = hs} leads onward) =
-      let more : Run t zero_arrays (first ++ e ∷ []) s1 (happened ++ (h ++ [])) = behind run (on leads done) in
+      let more : Run t m (first ++ e ∷ []) s1 (happened ++ (h ++ [])) = behind run (on leads done) in
       let all : All (Fits p) (first ++ e ∷ []) = All-append (Fits p) first (e ∷ []) fits (All-cons (Fits p) e [] (All-head (Fits p) e es later) (All-nil (Fits p))) in
       All-append (IsHopWithin most) h hs
       (one_hop most (within first s happened fits run).flying (within (first ++ e ∷ []) s1 (happened ++ (h ++ [])) all more).flying leads)
       (from_here (first ++ e ∷ []) (happened ++ (h ++ [])) all (All-tail (Fits p) e es later) more onward)
 
+  -- from each store
+  pub short_from : (es : List Event) (s : Net) (hs : List Happening) → All (IsOfProgram p) (packets_of es) → Run t m es s hs → All (IsHopWithin ((length order + 1) * d)) hs
+  short_from es s hs fits run = from_here [] [] (All-nil (Fits p)) (events_fit p es fits) done run
+
+module _ (p : Program) (topology : Topology) (places : List ℕ) (t : Tables) (faithful : Faithful p topology places t)
+    (order : List ℕ) (d : ℕ) (rank : IsRank p.body (length p.vars) order) (greatest : IsDiameter (Linked topology.links) (length topology.switches) d) where
   pub short_runs : (ks : List (List ℕ)) → All (IsPacketOf p) ks → (es : List Event) (s : Net) (hs : List Happening) → packets_of es ≡ entering ks → Run t zero_arrays es s hs → All (IsHopWithin ((length order + 1) * d)) hs
   short_runs ks packets es s hs enter run =
-      from_here [] [] (All-nil (Fits p)) (events_fit p es (subst (All (IsOfProgram p)) (sym enter) (entering-fits p ks packets))) done run
+      short_from p topology places t faithful order d rank greatest zero_arrays (no_numbers p) es s hs (subst (All (IsOfProgram p)) (sym enter) (entering-fits p ks packets)) run
 
   pub short_plain : (ks : List (List ℕ)) → All (IsPacketOf p) ks → (es : List Event) (s : Net) (hs : List Happening) → IsPlainRun t zero_arrays (entering ks) es s hs → All (IsHopWithin ((length order + 1) * d)) hs
   short_plain ks packets es s hs plain = short_runs ks packets es s hs plain.packets (calm_run t plain.run)

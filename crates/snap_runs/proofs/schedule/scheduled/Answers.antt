@@ -18,11 +18,12 @@ returns-in_err-report-clause-report g c =
     let text = c.in-Ok-read_whole.text.items in
     let fault = c.in_err-report.field-0.0 in
     let out = err_from_is_err_and c.from_residual.result c.from_residual.ensures.1 in
+    let few = c.in-Ok-read_whole.ensures.bound in
     let stops = subst (λ x. Stops t (packets_in rs) (lines_of x) fault) c.deref.ensures.value c.in_err-report.ensures in
     where_both_told (g.S.Shelf.files c.args.shelf.now) (λ files. AreAll t (file_of files p) rs) (λ files. text ≡ file_of files s)
     (λ files. WritesSchedule t hops (file_of files p) (file_of files s) c.from_residual.result start start)
     (λ files all is.
     subst (λ r. WritesSchedule t hops (file_of files p) (file_of files s) r start start) (sym out.1)
-    (subst (λ e. WritesSchedule t hops (file_of files p) (file_of files s) (Err e) start start) (sym out.2) (schedule-stopped t hops (file_of files p) (file_of files s) rs all start text is fault stops)))
+    (subst (λ e. WritesSchedule t hops (file_of files p) (file_of files s) (Err e) start start) (sym out.2) (schedule-stopped t hops (file_of files p) (file_of files s) rs all start text few is fault stops)))
     c.in-Ok.ensures.whole
     (subst (λ o. IfSome o (λ files. text ≡ file_of files s)) c.read_packets.ensures.files c.in-Ok-read_whole.ensures.whole)

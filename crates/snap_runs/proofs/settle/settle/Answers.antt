@@ -1,8 +1,9 @@
-use Rattle.std.proofs.Common.{◌≡◌, List, ℕ, length, refl, sym, ap, subst, ◌∙◌}
+use Rattle.std.proofs.Common.{◌≡◌, List, ℕ, length, refl, sym, subst, ◌∙◌, arith}
 use Rattle.std.specs.List.{All}
 use Rattle.std.proofs.lemmas.List.Elements.{All-nil}
 use Rattle.snap_rows.specs.Form.{comps}
 use Rattle.snap_runs.proofs.Settled.{settled-none, settled-more}
+use Rattle.snap_runs.proofs.Passing.{settled-passed}
 use Rattle.snap_runs.proofs.Steps.{note-lighter, note-long}
 use Rattle.snap_runs.proofs.settle.settle.Goals as goal
 
@@ -18,18 +19,27 @@ loop-net-init c =
 
 pub loop-net-preserved : goal.loop-net-preserved
 loop-net-preserved c =
+    let first = c.args.net.now in
     let old = c.loop-net.net in
+    let mid = c.pass_on.new.net in
     let new = c.step_first.new.net in
+    let y = c.loop-net.tally in
+    let y' = c.pass_on.new.tally in
     let i = c.loop-net.invariant in
     let noted = c.in_ok-step_first.ensures.noted in
+    let tables : mid.tables ≡ first.tables = c.pass_on.ensures.tables ∙ i.tables in
+    let long : All (λ k. length k ≡ comps first.tables) y'.delivered.items = subst (All (λ k. length k ≡ comps first.tables)) (sym c.pass_on.ensures.delivered) i.long in
     record {
-      settled = settled-more c.args.hops c.args.net.now old new c.loop-net.tally c.step_first.new.tally i.tables i.settled noted;
-      long = subst (λ t. All (λ k. length k ≡ comps t) c.step_first.new.tally.delivered.items) i.tables
-          (note-long c.args.hops old new c.loop-net.tally c.step_first.new.tally c.flying.ensures.is_held noted
-          (subst (λ t. All (λ k. length k ≡ comps t) c.loop-net.tally.delivered.items) (sym i.tables) i.long));
-      tables = c.step_first.ensures.tables ∙ i.tables;
-      injected = c.step_first.ensures.injected ∙ i.injected;
+      settled = settled-more c.args.hops first mid new y' c.step_first.new.tally tables (settled-passed c.args.hops first old mid y y' i.tables i.settled c.in_ok-pass_on.ensures.passed) noted;
+      long = subst (λ t. All (λ k. length k ≡ comps t) c.step_first.new.tally.delivered.items) tables
+          (note-long c.args.hops mid new y' c.step_first.new.tally c.in_ok-pass_on.ensures.held noted
+          (subst (λ t. All (λ k. length k ≡ comps t) y'.delivered.items) (sym tables) long));
+      tables = c.step_first.ensures.tables ∙ tables;
+      injected = c.step_first.ensures.injected ∙ c.pass_on.ensures.injected ∙ i.injected;
     }
 
 pub loop-net-smaller : goal.loop-net-smaller
-loop-net-smaller c = note-lighter c.args.hops c.loop-net.net c.step_first.new.net c.loop-net.tally c.step_first.new.tally c.step_first.ensures.tables c.flying.ensures.is_held c.in_ok-step_first.ensures.noted
+loop-net-smaller c =
+    let less = note-lighter c.args.hops c.pass_on.new.net c.step_first.new.net c.pass_on.new.tally c.step_first.new.tally c.step_first.ensures.tables c.in_ok-pass_on.ensures.held c.in_ok-step_first.ensures.noted in
+    let no_more = c.in_ok-pass_on.ensures.no_heavier in
+    omega (arith, less, no_more)

@@ -1,5 +1,5 @@
 use Rattle.std.proofs.Common.{◌≡◌, None, Some, Ok, Err, ap, rules, arith, subst, sym, ◌∙◌}
-use Rattle.std.specs.Prelude.{MatchResult}
+use Rattle.std.specs.Prelude.{IfSome}
 use Rattle.std.proofs.lemmas.Result.{err_from_is_err_and}
 use Rattle.snap_core.specs.Fields.{count}
 use Rattle.snap_io.specs.Files.{file_of}
@@ -7,56 +7,57 @@ use Rattle.snap_io.specs.LineReaders.{lines_name}
 use Rattle.snap_rows.specs.declared.tables.Tables.{Tables}
 use Rattle.snap_trace.specs.declared.fault.TraceFault.{TraceFault}
 use Rattle.snap_trace.proofs.StepLemmas.{where_told}
-use Rattle.snap_runs.specs.Playing.{AreAll}
-use Rattle.snap_runs.specs.Reading.{FitsLine, GivesLine, HasLine, left_of, said_at}
-use Rattle.snap_runs.specs.Schedules.{RefusesPackets}
+use Rattle.snap_runs.specs.Playing.{AreAll, HasRead}
+use Rattle.snap_runs.specs.Reading.{FitsLine, GivesLine, GoesOn, HasLine, left_of, said_at}
 use Rattle.snap_runs.proofs.Closing.{told-on}
-use Rattle.snap_runs.proofs.ReadWhole.{AreRead, read-ended, read-more, read-refused, read-taken, ready-more}
-use Rattle.snap_runs.proofs.ready.read_packets.Goals as goal
+use Rattle.snap_runs.proofs.ReadWhole.{AreRead, read-ended, read-more, read-refused, read-taken, ready-more, taken-few}
+use Rattle.snap_runs.proofs.ready.read_until.Goals as goal
 
 pub returns-in_err-line-clause-whole : goal.returns-in_err-line-clause-whole
 returns-in_err-line-clause-whole g c =
     let t = c.args.tables.now in
-    let l = c.loop-packets in
+    let l = c.loop-reader in
     let new = c.next.new.self in
     let fields = ap (λ (x : Tables). x.fields) c.tables.ensures.tables in
     let out = err_from_is_err_and c.from_residual-in_err-line.result c.from_residual-in_err-line.ensures.1 in
     let fault = c.in_err-line.field-0.0 in
     where_told (g.S.Shelf.files c.args.shelf.now) _ _ (λ files refuses.
     let file = file_of files c.args.name.now in
-    subst (λ r. MatchResult r (λ packets. AreAll t file packets.items) (RefusesPackets t file)) (sym out.1) (subst (RefusesPackets t file) (sym out.2) refuses))
+    subst (HasRead t file l.packets.items) (sym out.1) (subst (λ e. HasRead t file l.packets.items (Err e)) (sym out.2) refuses))
     (told-on (g.S.Shelf.files c.args.shelf.now) (g.S.Shelf.files l.shelf) c.args.name.now (lines_name l.reader.lines)
-    (λ file. AreRead t file l.packets.items (left_of (said_at t) file l.reader)) (λ file. RefusesPackets t file fault)
+    (λ file. AreRead t file l.packets.items (left_of (said_at t) file l.reader)) (λ file. HasRead t file l.packets.items (Err fault))
     l.invariant.files l.invariant.name l.invariant.came
     (where_told (g.S.Shelf.files l.shelf) _ _ (λ files gives came. read-refused t (file_of files (lines_name l.reader.lines)) l.packets.items l.reader new came fault (gives t fields)) c.in_err-line.ensures.gives))
 
 pub returns-in_err-take_line-clause-whole : goal.returns-in_err-take_line-clause-whole
 returns-in_err-take_line-clause-whole g c =
     let t = c.args.tables.now in
-    let l = c.loop-packets in
+    let l = c.loop-reader in
     let new = c.next.new.self in
     let fields = ap (λ (x : Tables). x.fields) c.tables.ensures.tables in
     let out = err_from_is_err_and c.from_residual-in_err-take_line.result c.from_residual-in_err-take_line.ensures.1 in
     let fault = c.in_err-take_line.field-0.0 in
     let line = c.in-Some.line in
-    where_told (g.S.Shelf.files c.args.shelf.now) _ _ (λ files refuses.
+    subst (λ rs. IfSome (g.S.Shelf.files c.args.shelf.now) (λ files. HasRead t (file_of files c.args.name.now) rs c.from_residual-in_err-take_line.result)) (sym c.in_err-take_line.ensures.refused)
+    (where_told (g.S.Shelf.files c.args.shelf.now) _ _ (λ files refuses.
     let file = file_of files c.args.name.now in
-    subst (λ r. MatchResult r (λ packets. AreAll t file packets.items) (RefusesPackets t file)) (sym out.1) (subst (RefusesPackets t file) (sym out.2) refuses))
+    subst (HasRead t file l.packets.items) (sym out.1) (subst (λ e. HasRead t file l.packets.items (Err e)) (sym out.2) refuses))
     (told-on (g.S.Shelf.files c.args.shelf.now) (g.S.Shelf.files l.shelf) c.args.name.now (lines_name l.reader.lines)
-    (λ file. AreRead t file l.packets.items (left_of (said_at t) file l.reader)) (λ file. RefusesPackets t file fault)
+    (λ file. AreRead t file l.packets.items (left_of (said_at t) file l.reader)) (λ file. HasRead t file l.packets.items (Err fault))
     l.invariant.files l.invariant.name l.invariant.came
-    (where_told (g.S.Shelf.files l.shelf) _ _ (λ files gives came. (let file = file_of files (lines_name l.reader.lines) in read-taken t file l.packets.items l.reader new came line c.read.result fault c.read.ensures.read c.in_err-take_line.ensures.err (subst (λ o. GivesLine t file l.reader new (Ok o)) c.in-Some.is (gives t fields)))) c.in_ok-line.ensures.gives))
+    (where_told (g.S.Shelf.files l.shelf) _ _ (λ files gives came. (let file = file_of files (lines_name l.reader.lines) in read-taken t file l.packets.items l.reader new came line c.read.result fault c.read.ensures.read c.in_err-take_line.ensures.err (subst (λ o. GivesLine t file l.reader new (Ok o)) c.in-Some.is (gives t fields)))) c.in_ok-line.ensures.gives)))
 
-pub loop-packets-preserved : goal.loop-packets-preserved
-loop-packets-preserved g c =
+pub loop-reader-preserved : goal.loop-reader-preserved
+loop-reader-preserved g c =
     let t = c.args.tables.now in
-    let l = c.loop-packets in
+    let l = c.loop-reader in
     let new = c.next.new.self in
     let fields = ap (λ (x : Tables). x.fields) c.tables.ensures.tables in
     let i = l.invariant in
     let line = c.in-Some.line in
     let items = c.take_line.new.packets.items in
     let fits = subst (λ (x : Tables). FitsLine (count x.fields) line) c.tables.ensures.tables (subst (HasLine (count c.tables.result.now.fields)) c.in-Some.is c.in_ok-line.ensures.comps) in
+    let goes = subst (GoesOn l.reader.read new.read) c.in-Some.is c.in_ok-line.ensures.goes_on in
     record {
       came =
           (told-on (g.S.Shelf.files c.args.shelf.now) (g.S.Shelf.files l.shelf) c.args.name.now (lines_name l.reader.lines)
@@ -64,6 +65,8 @@ loop-packets-preserved g c =
           l.invariant.files l.invariant.name l.invariant.came
           (where_told (g.S.Shelf.files l.shelf) _ _ (λ files gives came. (let file = file_of files (lines_name l.reader.lines) in read-more t file l.packets.items l.reader new came line items fits (subst (λ o. GivesLine t file l.reader new (Ok o)) c.in-Some.is (gives t fields)) c.in_ok-take_line.ensures.ok)) c.in_ok-line.ensures.gives));
       ready = ready-more t line l.packets.items items fits c.in_ok-take_line.ensures.ok i.ready;
+      few = (let more = goes in let m = more.0 in let e = taken-few t line l.packets.items items l.reader.read c.in_ok-take_line.ensures.ok i.few in omega (arith, e, m));
+      bound = goes.1;
       name = c.next.ensures.name ∙ i.name;
       agrees = c.next.ensures.agrees;
       files = c.next.ensures.files ∙ i.files;
@@ -73,7 +76,7 @@ loop-packets-preserved g c =
 pub returns-clause-whole : goal.returns-clause-whole
 returns-clause-whole g c =
     let t = c.args.tables.now in
-    let l = c.loop-packets in
+    let l = c.loop-reader in
     let new = c.next.new.self in
     let fields = ap (λ (x : Tables). x.fields) c.tables.ensures.tables in
     let none : c.in_ok-line.field-0 ≡ None = first_of (cc, search rules) in
