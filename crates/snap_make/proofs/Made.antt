@@ -58,7 +58,8 @@ use Rattle.snap_make.proofs.Entries.{Each, found, row_found, each_at, Planned, a
 use Rattle.snap_make.proofs.Formed.{PartsFormed, GoFormed, IsFormed, formed, formed_in}
 use Rattle.snap_make.proofs.Given.{IsReady}
 use Rattle.snap_make.proofs.Hopped.{unmapped, hop_found, hop_at, hop_case}
-use Rattle.snap_make.proofs.Names.{front, back, distinct_back, field_names}
+use Rattle.snap_place.proofs.Names.{back, distinct_back}
+use Rattle.snap_make.proofs.Names.{front, field_names}
 use Rattle.snap_make.proofs.Standing.{no_field, Stands, stands, front_same, port_low, holder_low}
 use Rattle.snap_make.proofs.Whole.{IsBuilt}
 

@@ -1,27 +1,18 @@
 -- The names of a program's fields and arrays.
 use Rattle.std.proofs.Common.{ℕ, ◌+◌, List, [], ◌∷◌, ◌++◌, map, Option, Some, None, subst}
 use Rattle.std.specs.Prelude.{codes}
-use Rattle.std.specs.List.{All, IsDistinct}
-use Rattle.std.specs.Str.{bytes_eq}
+use Rattle.std.specs.List.{All}
 use Rattle.std.proofs.lemmas.List.{map-append}
 use Rattle.std.proofs.lemmas.List.Elements.{All-nil, All-cons, All-head, All-tail}
 use Rattle.snap_core.specs.declared.program.Field.{Field}
 use Rattle.snap_core.specs.declared.program.Found.{Found}
 use Rattle.snap_core.specs.Fields.{width, declared_at, declared_from}
+use Rattle.snap_place.proofs.Names.{back}
 
 module _ {X : Type 0} (P : X → Type 0) where
   pub front : (xs ys : List X) → All P (xs ++ ys) → All P xs
   front [] ys h = All-nil P
   front (x ∷ xs) ys h = All-cons P x xs (All-head P x (xs ++ ys) h) (front xs ys (All-tail P x (xs ++ ys) h))
-
-  pub back : (xs ys : List X) → All P (xs ++ ys) → All P ys
-  back [] ys h = h
-  back (x ∷ xs) ys h = back xs ys (All-tail P x (xs ++ ys) h)
-
-pub distinct_back : (xs ys : List (List ℕ)) → IsDistinct bytes_eq (xs ++ ys) → IsDistinct bytes_eq ys
-unfolding IsDistinct
-distinct_back [] ys h = h
-distinct_back (x ∷ xs) ys h = distinct_back xs ys h.1
 
 -- what holds of the names that fields declare holds of the fields' own names
 module _ (P : List ℕ → Type 0) where

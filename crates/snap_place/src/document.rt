@@ -5,7 +5,7 @@ ghost use Rattle.toml.specs.View.{table_view};
 ghost use Rattle.snap_topo.specs.Document.{document};
 ghost use Rattle.snap_place.specs.Order.{InByteOrder};
 ghost use Rattle.snap_place.specs.Shape.{entries_in, entries_of, has_names};
-ghost use Rattle.snap_place.specs.Texts.{entry_texts, vec_texts};
+ghost use Rattle.snap_place.specs.Texts.{vec_texts};
 
 use crate::placement::PlaceFault;
 use snap_core::names::is_name;

@@ -23,7 +23,8 @@ impl Model for Placement {
 }
 
 impl Placement {
-    pub(crate) fn new(owners: Vec<u16>) -> Placement
+    /// The switch of each variable, in order. Takes no memory.
+    pub fn new(owners: Vec<u16>) -> Placement
         ensures { result ≡ owners.items }
     {
         Placement { owners }

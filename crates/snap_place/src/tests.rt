@@ -30,14 +30,18 @@ const FAULTS: [(&str, &str); 9] = [
     ("\"a.b\" = \"s1\"", "no array"),
 ];
 
-fn program(alloc: Global, arrays: &[&str], body: Pol) -> Result<Program, Fail> {
+fn names(alloc: Global, texts: &[&str]) -> Result<Names, Fail> {
     let mut names = Vec::new(alloc);
-    for array in arrays {
-        names.push(Name::of(alloc, array.as_bytes())?)?;
+    for text in texts {
+        names.push(Name::of(alloc, text.as_bytes())?)?;
     }
+    Ok(Names::new(names))
+}
+
+fn program(alloc: Global, arrays: &[&str], body: Pol) -> Result<Program, Fail> {
     Ok(Program {
         fields: Fields::ports(alloc)?,
-        vars: Names::new(names),
+        vars: names(alloc, arrays)?,
         body,
     })
 }
@@ -117,5 +121,19 @@ fn tied_arrays_at_two_switches_are_apart(rt: HostRuntime) -> Result<(), Fail> {
             assert_eq!(rt; shown.as_str(), "apart 0 1");
         }
     }
+    Ok(())
+}
+
+#[test]
+fn prints_a_line_for_each_array(rt: HostRuntime) -> Result<(), Fail> {
+    let alloc = rt.alloc();
+    let arrays = names(alloc, ["s", "a.b", "t-1_x"].as_slice())?;
+    let switches = names(alloc, ["one", "2"].as_slice())?;
+    assert!(rt; arrays.items().len() == 3);
+    let text = crate::print(alloc, &arrays, &switches, [1u16, 0, 1].as_slice(), 40)?;
+    assert_eq!(rt;
+        text.as_slice(),
+        b"# cost 40\ns = \"2\"\n\"a.b\" = \"one\"\nt-1_x = \"2\"\n".as_slice()
+    );
     Ok(())
 }

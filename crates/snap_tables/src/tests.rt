@@ -135,6 +135,18 @@ fn first_come_is_printed(rt: HostRuntime) -> Result<(), Fail> {
 const TWO_OWNERS: &[u8] =
     b"snap-tables 2\nfield inport\nfield outport\nswitch a\nswitch b\narray s 0 0\narray t 1 1\nlink 0 1\nport 1 0\nport 2 1\nhop 0 1 1\nhop 1 0 0\nrow 0 0 state 0 [#0] #0 1 2\nrow 0 1 state 1 [#0] #0 3 4\nrow 0 2 state 1 [#0] #0 5 6\nrow 0 3 leaf add 0 [#0] 1 out c1=#1\nrow 0 4 leaf add 0 [#0] 1 out c1=#2\nrow 0 5 leaf out c1=#1\nrow 0 6 leaf out c1=#2\nrow 1 0 stop\nrow 1 1 state 1 [#0] #0 3 4\nrow 1 2 state 1 [#0] #0 5 6\nrow 1 3 leaf add 0 [#0] 1 out c1=#1\nrow 1 4 leaf add 0 [#0] 1 out c1=#2\nrow 1 5 leaf out c1=#1\nrow 1 6 leaf out c1=#2\nend\n";
 
+// The same in version 1.
+const TWO_OWNERS_1: &[u8] =
+    b"snap-tables 1\nfield inport\nfield outport\nswitch a\nswitch b\narray s 0\narray t 1\nlink 0 1\nport 1 0\nport 2 1\nhop 0 1 1\nhop 1 0 0\nrow 0 0 state 0 [#0] #0 1 2\nrow 0 1 go 1\nrow 0 2 go 1\nrow 0 3 leaf at 0 add 0 [#0] 1 out c1=#1\nrow 0 4 leaf at 0 add 0 [#0] 1 out c1=#2\nrow 1 0 go 0\nrow 1 1 state 1 [#0] #0 3 4\nrow 1 2 state 1 [#0] #0 5 6\nrow 1 3 leaf at 0 add 0 [#0] 1 out c1=#1\nrow 1 4 leaf at 0 add 0 [#0] 1 out c1=#2\nrow 1 5 leaf out c1=#1\nrow 1 6 leaf out c1=#2\nend\n";
+
+// First come with its array at the other switch.
+const MOVED: &[u8] =
+    b"snap-tables 1\nfield inport\nfield outport\nswitch a\nswitch b\narray s 0\nlink 0 1\nport 1 0\nport 2 1\nhop 0 1 1\nhop 1 0 0\nrow 0 0 state 0 [#0] #0 1 2\nrow 0 1 leaf at 0 put 0 [#0] #1 out c1=#1\nrow 0 2 leaf out c1=#2\nrow 1 0 go 0\nend\n";
+
+// One leaf, and an array that it leaves alone.
+const CONSTANT_EGRESS: &[u8] =
+    b"snap-tables 2\nfield inport\nfield outport\nfield f\nfield g\nfield h\nswitch a\narray s 0 0\nport 1 0\nport 2 0\nrow 0 0 leaf out c1=#2\nend\n";
+
 // Whether tables are lone whose text is read, and written as it was.
 fn is_lone(alloc: Global, text: &[u8]) -> Result<Option<bool>, NoMemory> {
     let mut sink = MemorySink::new(alloc, 4096, 1, Vec::new(alloc))?;
@@ -155,6 +167,9 @@ fn tables_are_read_back(rt: HostRuntime) -> Result<(), Fail> {
     let alloc = rt.alloc();
     assert!(rt; is_lone(alloc, FIRST_COME)? == Some(true));
     assert!(rt; is_lone(alloc, TWO_OWNERS)? == Some(false));
+    assert!(rt; is_lone(alloc, TWO_OWNERS_1)? == Some(false));
+    assert!(rt; is_lone(alloc, MOVED)? == Some(true));
+    assert!(rt; is_lone(alloc, CONSTANT_EGRESS)? == Some(true));
     Ok(())
 }
 
