@@ -1,0 +1,11 @@
+pub mod Through
+pub mod Reading
+pub mod Settling
+pub mod Coming
+pub mod Shapes
+pub mod Earlier
+pub mod Alone
+pub mod Whole
+pub mod Report
+pub mod Once
+pub mod Lines

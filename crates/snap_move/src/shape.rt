@@ -1,0 +1,60 @@
+//! Whether two tables have one shape.
+
+ghost use Rattle.std.specs.Prelude.{◌≡◌, ◌↔◌, IsTrue};
+ghost use Rattle.snap_runs.specs.Reports.{names_of};
+ghost use Rattle.snap_move.specs.Shapes.{HaveOneShape};
+
+use snap_core::lists::Name;
+use snap_core::program::Field;
+use snap_rows::tables::ArrayAt;
+use snap_rows::valid::Valid;
+
+/// Whether two tables have equal fields and equal names of arrays. Takes no memory.
+pub fn same_shape(a: &Valid, b: &Valid) -> bool
+    ensures { IsTrue result ↔ HaveOneShape a.now b.now }
+{
+    let left = a.tables();
+    let right = b.tables();
+    same_fields(left.fields.list(), right.fields.list())
+        && same_names(left.arrays.items(), right.arrays.items())
+}
+
+fn same_fields(left: &[Field], right: &[Field]) -> bool
+    ensures { IsTrue result ↔ (left.now ≡ right.now) }
+{
+    if left.len() != right.len() {
+        return false;
+    }
+    for i in 0..left.len() {
+        if !is_same_field(&left[i], &right[i]) {
+            return false;
+        }
+    }
+    true
+}
+
+fn is_same_field(left: &Field, right: &Field) -> bool
+    ensures { IsTrue result ↔ (left.now ≡ right.now) }
+{
+    left.prefix == right.prefix && is_same_name(&left.name, &right.name)
+}
+
+fn same_names(left: &[ArrayAt], right: &[ArrayAt]) -> bool
+    ensures { IsTrue result ↔ (names_of left.now ≡ names_of right.now) }
+{
+    if left.len() != right.len() {
+        return false;
+    }
+    for i in 0..left.len() {
+        if !is_same_name(&left[i].name, &right[i].name) {
+            return false;
+        }
+    }
+    true
+}
+
+fn is_same_name(left: &Name, right: &Name) -> bool
+    ensures { IsTrue result ↔ (left.now ≡ right.now) }
+{
+    left.bytes() == right.bytes()
+}
