@@ -1,9 +1,8 @@
 -- Runs in turn over faithful tables: where each packet is, and what the switches hold.
-use Rattle.std.proofs.Common.{◌≡◌, ◌≢◌, ℕ, zero, suc, ◌+◌, ◌<◌, ◌≤◌, ◌⊎◌, inl, inr, ⊎_elim, Bool, true, false, cond, List, [], ◌∷◌, ◌++◌, take, drop, get_or, length, map, Some, refl, sym, ap, subst, ◌∙◌, arith, append_assoc}
+use Rattle.std.proofs.Common.{◌≡◌, ◌≢◌, ℕ, zero, suc, ◌+◌, ◌<◌, ◌≤◌, ◌⊎◌, inl, inr, ⊎_elim, Bool, true, false, cond, List, [], ◌∷◌, ◌++◌, take, drop, get_or, length, Some, refl, sym, ap, subst, ◌∙◌, arith, append_assoc}
 use Rattle.std.specs.Prelude.{slice_get, slice_index, slice_index_or, nat_eq}
-use Rattle.std.specs.List.{All, filter}
 use Rattle.std.proofs.lemmas.Bool.{both_ways, eqb-true, eqb-false, eq-eqb, ne_eqb, cond-true, cond-false, cases_lt}
-use Rattle.std.proofs.lemmas.List.{append-nil, length-append, length-map}
+use Rattle.std.proofs.lemmas.List.{append-nil, length-append}
 use Rattle.std.proofs.lemmas.List.Elements.{All-map, All-take, filter-append}
 use Rattle.std.proofs.lemmas.Option.{none-some, same_Some}
 use Rattle.snap_core.specs.declared.place.Place.{Place}
@@ -20,13 +19,13 @@ use Rattle.snap_rows.specs.declared.tables.Row.TheVariants.{Last}
 use Rattle.snap_rows.specs.declared.head.Action.{Action}
 use Rattle.snap_rows.specs.declared.head.Action.TheVariants.{Forward, Fork}
 use Rattle.snap_rows.specs.declared.head.Head.{Head}
-use Rattle.snap_rows.specs.declared.head.Head.TheVariants.{Walk, Out, Visit}
+use Rattle.snap_rows.specs.declared.head.Head.TheVariants.{Walk, Visit}
 use Rattle.snap_rows.specs.declared.head.Sent.{Sent}
 use Rattle.snap_rows.specs.Entries.{Parts, port_at, rank_at, rank_of, ranks, row_at}
 use Rattle.snap_rows.specs.Handles.{Handles, Follows, is_field, forked}
 use Rattle.snap_rows.specs.Handles as handles
 use Rattle.snap_rows.specs.Happenings.{deliveries_of, losses_of}
-use Rattle.snap_rows.specs.Network.{Net, Copy, Event, Inject, Step, Happening, stepped, injected, moved, happening, packets_of}
+use Rattle.snap_rows.specs.Network.{Net, Copy, Event, Inject, Step, Happening, stepped, injected, happening, packets_of}
 use Rattle.snap_rows.proofs.Rows.{some_injective}
 use Rattle.snap_gen.specs.Agreement.{sent_of, lost_of}
 use Rattle.snap_gen.specs.Chains.{Chain}
@@ -41,7 +40,8 @@ use Rattle.snap_gen.proofs.Switching.{behind, in_pushed, picked_at, switched_mor
 use Rattle.snap_gen.proofs.Turning.{faithful_chains, faithful_stores, faithful_turns}
 use Rattle.snap_order.specs.Ordered.{Ordered, Turn, Happens, Stays, Waits, ComesTo, visit, walk, IsBefore, left_by, turn_of, visited, LeadsInTurn, injects, moves, visits, waits, RunsInTurn, happenings}
 use Rattle.snap_order.specs.Ordered as ordered
-use Rattle.snap_order.proofs.Taking.{Counts, counts, end_of}
+use Rattle.snap_order.specs.Turning.{rank_behind}
+use Rattle.snap_order.proofs.Taking.{Counts, counts}
 
 -- ---- lists
 only_one : {A : Type 0} (xs : List A) (c d : A) (ys : List A) → xs ++ c ∷ ys ≡ d ∷ [] → (xs ≡ []) × (c ≡ d) × (ys ≡ [])
@@ -442,7 +442,7 @@ module _ (p : Program) (topology : Topology) (places : List ℕ) (t : Tables) (f
         mine : TakesTurns t x.at (pick x.number) x.number (s.stores x.at) h r v m h' b
         mine = subst (λ k. TakesTurns t x.at k x.number (s.stores x.at) h r v m h' b) (packet u) takes
 
-        count : Counts t x.at (pick x.number) x.number r (end_of t x.at (pick x.number) x.number b) h h'
+        count : Counts t x.at (pick x.number) x.number r (rank_behind t b) h h'
         count = counts t x.at (pick x.number) x.number mine
 
         to : Comes x.number x.at (s.stores x.at) u.rank r v
@@ -453,7 +453,7 @@ module _ (p : Program) (topology : Topology) (places : List ℕ) (t : Tables) (f
             let c = enters_at x.number number_low in
             faithful_turns p topology places t f before x.number c.0 (pick x.number) o.outcome (after x.number).2 c.1 o.is (λ q. ap (λ (y : Arrays). y q) o.arrays) to.first to.enters x.at r v (s.stores x.at) m h h' b to.chained (st.held x.at) mine
 
-        by : (b : Becomes) → IsOnItsChain t (pick x.number) (before x.number) o.outcome to.first b → Passed h' x.number (end_of t x.at (pick x.number) x.number b)
+        by : (b : Becomes) → IsOnItsChain t (pick x.number) (before x.number) o.outcome to.first b → Passed h' x.number (rank_behind t b)
             → ((w : ℕ) → HoldsInTurn t before w (cond (nat_eq w x.at) m (s.stores w)) h') → ((q : ℕ) → h' q ≤ n)
             → State n (visited (record { net = s; handled = h }) j x m h' b).net h' (hs ++ happenings (turn_of x b ∷ []))
         by (SentOn y q w) chained passed held most =

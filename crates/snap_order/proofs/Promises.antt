@@ -1,5 +1,5 @@
 -- What runs in turn over faithful tables promise: arrays, ends, and who waits.
-use Rattle.std.proofs.Common.{◌≡◌, ◌≢◌, ℕ, zero, suc, ◌+◌, ◌<◌, ◌≤◌, ◌⊎◌, ⊎_elim, Bool, true, false, cond, List, [], ◌∷◌, take, length, Some, refl, sym, ap, subst, ◌∙◌, arith}
+use Rattle.std.proofs.Common.{◌≡◌, ℕ, zero, suc, ◌<◌, ◌≤◌, ⊎_elim, Bool, true, false, cond, List, [], ◌∷◌, take, length, Some, refl, sym, ap, subst, ◌∙◌, arith}
 use Rattle.std.specs.Prelude.{slice_get, nat_eq}
 use Rattle.std.specs.List.{filter}
 use Rattle.std.proofs.lemmas.Bool.{both_ways, eqb-true, cases_lt}
@@ -10,7 +10,6 @@ use Rattle.snap_core.specs.declared.place.Place.{Place}
 use Rattle.snap_core.specs.declared.program.Program.{Program}
 use Rattle.snap_core.specs.Arrays.{Arrays}
 use Rattle.snap_core.specs.Inputs.{IsZeroFrom}
-use Rattle.snap_core.specs.Meaning.{Meaning}
 use Rattle.snap_core.specs.Packets.{PacketSet}
 use Rattle.snap_core.specs.Switch.{Switched, one_big_switch}
 use Rattle.snap_topo.specs.declared.topology.Topology.{Topology}
@@ -31,8 +30,8 @@ use Rattle.snap_gen.proofs.Nodes.{IsTwo}
 use Rattle.snap_gen.proofs.Owners.{ranks_above, var_array}
 use Rattle.snap_gen.proofs.Switching.{number_at, picks_all}
 use Rattle.snap_gen.proofs.Whole.{starts, whole_holds}
-use Rattle.snap_order.specs.Ordered.{Ordered, Turn, Happens, Stays, Waits, ComesTo, IsBefore, turn_of, LeadsInTurn, injects, moves, visits, waits, happenings}
-use Rattle.snap_order.specs.Laws.{Overlaps, IsBehind, HasForked, IsLeast}
+use Rattle.snap_order.specs.Ordered.{Ordered, Turn, Happens, Waits, ComesTo, IsBefore, turn_of, LeadsInTurn, moves, visits, waits, happenings}
+use Rattle.snap_order.specs.Laws.{Overlaps, IsBehind, IsLeast}
 use Rattle.snap_order.proofs.Overlap as overlap
 use Rattle.snap_order.proofs.Overlap.{all_events, comes_early, Passed}
 use Rattle.snap_order.proofs.Taking.{same_rank}

@@ -1,37 +1,31 @@
 -- Turns taken at a switch: which ranks have handled one more packet then, and how that is a step without order.
-use Rattle.std.proofs.Common.{◌≡◌, ◌≢◌, ℕ, ◌+◌, ◌<◌, ◌≤◌, Bool, true, false, List, [], ◌∷◌, Option, Some, None, refl, sym, ap, subst, ◌∙◌, arith}
+use Rattle.std.proofs.Common.{◌≡◌, ◌≢◌, ℕ, ◌+◌, ◌<◌, ◌≤◌, Bool, true, false, List, Option, Some, None, refl, sym, ap, subst, ◌∙◌, arith}
 use Rattle.std.specs.Prelude.{nat_eq}
 use Rattle.std.proofs.lemmas.Bool.{eqb-true, eqb-false, eq-eqb, ne_eqb, cond-true, cond-false}
 use Rattle.std.proofs.lemmas.Option.{none-some, same_Some}
 use Rattle.snap_core.specs.Arrays.{Arrays}
 use Rattle.snap_rows.specs.declared.tables.Tables.{Tables}
 use Rattle.snap_rows.specs.declared.head.Head.{Head}
-use Rattle.snap_rows.specs.declared.head.Head.TheVariants.{Walk, Visit}
+use Rattle.snap_rows.specs.declared.head.Head.TheVariants.{Visit}
 use Rattle.snap_rows.specs.declared.head.Action.{Action}
 use Rattle.snap_rows.specs.declared.head.Action.TheVariants.{Forward, Fork}
 use Rattle.snap_rows.specs.Entries.{rank_at, ranks}
 use Rattle.snap_rows.specs.Home.{IsVisitAtHome}
 use Rattle.snap_rows.specs.Handles as handles
 use Rattle.snap_rows.specs.Handles.{Handles}
-use Rattle.snap_rows.proofs.Later.{rank_is_below}
 use Rattle.snap_gen.specs.InTurn.{Becomes, SentOn, Waiting, Forks, handled_more, TakesTurns, seeks, waits, visits, concludes}
 use Rattle.snap_gen.proofs.Nodes.{IsTwo}
 use Rattle.snap_gen.proofs.Chained.{home_on}
 use Rattle.snap_order.specs.Ordered.{ComesTo, visit, walk}
+use Rattle.snap_order.specs.Turning.{rank_behind}
 
-more_own : (h : ℕ → ℕ) (r q : ℕ) → q ≡ r → handled_more h r q ≡ h q + 1
+pub more_own : (h : ℕ → ℕ) (r q : ℕ) → q ≡ r → handled_more h r q ≡ h q + 1
 more_own h r q e = cond-true _ _ _ (eq-eqb q r e)
 
-more_other : (h : ℕ → ℕ) (r q : ℕ) → q ≢ r → handled_more h r q ≡ h q
+pub more_other : (h : ℕ → ℕ) (r q : ℕ) → q ≢ r → handled_more h r q ≡ h q
 more_other h r q ne = cond-false _ _ _ (ne_eqb q r ne)
 
 module _ (t : Tables) (w : ℕ) (k : List ℕ) (i : ℕ) where
-  -- the rank before which the copy stands then
-  abbrev pub end_of : Becomes → ℕ
-  end_of (SentOn to r n) = r
-  end_of (Waiting r n) = r
-  end_of (Forks copies lost) = ranks t
-
   -- between h and h' the ranks from r on and below e, which the switch owns, have handled packet i
   pub record Counts (r e : ℕ) (h h' : ℕ → ℕ) : Type 0 where
     pub up : r ≤ e
@@ -59,10 +53,10 @@ module _ (t : Tables) (w : ℕ) (k : List ℕ) (i : ℕ) where
           let m = c.mine q (omega (arith, a, ne)) b in
           (m.0, sym (more_other h r q ne) ∙ m.1, m.2)
 
-  pub counts : {s s' : Arrays} {h h' : ℕ → ℕ} {r n : ℕ} {b : Becomes} → TakesTurns t w k i s h r n s' h' b → Counts r (end_of b) h h'
+  pub counts : {s s' : Arrays} {h h' : ℕ → ℕ} {r n : ℕ} {b : Becomes} → TakesTurns t w k i s h r n s' h' b → Counts r (rank_behind t b) h h'
   counts {h = h} {r = r} (seeks own away) = no_count r r h refl
   counts {h = h} {r = r} (waits own early) = no_count r r h refl
-  counts {h = h} {h' = h'} {r = r} {b = b} (visits own turn made more rest) = one_more r (end_of b) h h' own turn (counts rest)
+  counts {h = h} {h' = h'} {r = r} {b = b} (visits own turn made more rest) = one_more r (rank_behind t b) h h' own turn (counts rest)
   counts {h = h} {r = r} (concludes own turn made last row) = one_more r (ranks t) h (handled_more h r) own turn (no_count (r + 1) (ranks t) (handled_more h r) last)
 
   -- what it does without order, unless it stays

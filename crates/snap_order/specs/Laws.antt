@@ -1,5 +1,5 @@
 -- What one big switch is for an ordered network: laws of faithful tables under any overlap.
-use Rattle.std.specs.Prelude.{◌≡◌, ◌↔◌, ℕ, ◌+◌, ◌*◌, ◌<◌, ◌≤◌, Bool, true, false, Some, List, [], ◌∷◌, take, length, slice_get}
+use Rattle.std.specs.Prelude.{◌≡◌, ℕ, ◌+◌, ◌*◌, ◌<◌, ◌≤◌, Some, List, [], ◌∷◌, take, length, slice_get}
 use Rattle.std.specs.List.{All}
 use Rattle.snap_core.specs.declared.place.Place.{Place}
 use Rattle.snap_core.specs.declared.program.Program.{Program}
@@ -9,7 +9,6 @@ use Rattle.snap_dep.specs.Ranks.{IsRank}
 use Rattle.snap_route.specs.Walks.{Linked, IsDiameter}
 use Rattle.snap_topo.specs.declared.topology.Topology.{Topology}
 use Rattle.snap_rows.specs.declared.tables.Tables.{Tables}
-use Rattle.snap_rows.specs.declared.head.Head.{Head}
 use Rattle.snap_rows.specs.declared.head.Head.TheVariants.{Out}
 use Rattle.snap_rows.specs.Entries.{rank_of}
 use Rattle.snap_rows.specs.Network.{Copy, Event, Step, Happening, Crossed, Delivered, Forked, packets_of, whole}

@@ -1,2 +1,12 @@
 pub mod Ordered
 pub mod Laws
+pub mod Turning
+pub mod Shown
+pub mod Reports
+pub mod Runs
+pub mod Playing
+pub mod Obeying
+pub mod Settling
+pub mod OneSwitch
+pub mod OneRun
+pub mod OneSchedule

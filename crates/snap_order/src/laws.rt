@@ -1,6 +1,9 @@
 //! Laws of the ordered network.
 
 ghost use Rattle.snap_order.specs.Laws.{FaithfulKeepsOrder};
+ghost use Rattle.snap_order.specs.OneRun.{PlainBlocksAreOne, PlainReportsAreOne, StepsAreOne};
+ghost use Rattle.snap_order.specs.OneSchedule.{RefusedLinesAreOne, ReportedOrRefused, ScheduleReportsAreOne};
+ghost use Rattle.snap_order.specs.OneSwitch.{PlainRunsInTurnReportOneSwitch, RunsInTurnReportOneSwitch, SchedulesInTurnReportOneSwitch};
 
 /// **Overlap in order.** Over faithful tables, whatever the order of events: each array is as one big switch leaves it after
 /// the packets that its rank has handled; a run to an end agrees with one big switch over the packets in the order of their
@@ -9,4 +12,28 @@ ghost use Rattle.snap_order.specs.Laws.{FaithfulKeepsOrder};
 /// number doesn't wait.
 pub fn faithful_keeps_order()
     ensures { FaithfulKeepsOrder }
+{}
+
+/// **Each run in turn of faithful tables to an end reports exactly what one big switch does** over the packets in the order
+/// of their injection, whatever the order of the events. The plain run in turn is such a run, and so is that of a schedule
+/// that is done to its end.
+pub fn runs_in_turn_report_one_switch()
+    ensures all { RunsInTurnReportOneSwitch }
+    ensures plain { PlainRunsInTurnReportOneSwitch }
+    ensures schedules { SchedulesInTurnReportOneSwitch }
+{}
+
+/// Where tables are in form, an event leads to one state by the same turns. So packets have one report in the plain run in
+/// turn, and the same blocks.
+pub fn plain_reports_are_one()
+    ensures steps { StepsAreOne }
+    ensures reports { PlainReportsAreOne }
+    ensures blocks { PlainBlocksAreOne }
+{}
+
+/// Where tables are in form, a schedule's lines tell one report of a run in turn, or are refused at one line, and not both.
+pub fn schedules_run_one_way()
+    ensures reports { ScheduleReportsAreOne }
+    ensures lines { RefusedLinesAreOne }
+    ensures apart { ReportedOrRefused }
 {}

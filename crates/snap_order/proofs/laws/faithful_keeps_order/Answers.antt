@@ -1,15 +1,5 @@
-use Rattle.snap_order.proofs.Promises.{arrays_in_turn, agrees, waits_behind, behind_waits, least_goes_on}
-use Rattle.snap_order.proofs.Hops.{few_hops_made}
+use Rattle.snap_order.proofs.Keeping.{keeps_order}
 use Rattle.snap_order.proofs.laws.faithful_keeps_order.Goals as goal
 
 pub returns : goal.returns
-returns c p topology places t f = record {
-  arrays = λ m es s us o q. arrays_in_turn p topology places t f m es s us o q;
-  ended = λ m es s us o none. agrees p topology places t f m es s us o none;
-  hops = λ order d rank diameter m es s us o. few_hops_made p topology places t f order d rank diameter m es s us o;
-  waits = λ m es s us o i x s' vs found leads. (
-    behind_waits p topology places t f m es s us o i x found leads,
-    waits_behind p topology places t f m es s us o i x found leads,
-  );
-  least = λ m es s us o i x s' vs found least leads. least_goes_on p topology places t f m es s us o i x found least leads;
-}
+returns c = keeps_order

@@ -1,0 +1,314 @@
+-- How a run in turn goes on.
+use Rattle.std.proofs.Common.{◌≡◌, ◌≢◌, ◌⊎◌, inl, inr, ℕ, ◌+◌, ◌<◌, Bool, true, false, List, [], ◌∷◌, ◌++◌, Option, Some, None, take, drop, length, reverse, refl, sym, ap, subst, ◌∙◌, arith, append-nil}
+use Rattle.std.specs.Prelude.{◌==◌, is_some, slice_get, if◌then◌else◌}
+use Rattle.std.specs.List.{All}
+use Rattle.std.proofs.lemmas.Bool.{eqb-true, eq-eqb, false≢true}
+use Rattle.std.proofs.lemmas.List.{length-append, reverse-append, reverse-reverse}
+use Rattle.std.proofs.lemmas.List.Sorted.{All-permutation, IsPermutation-reverse}
+use Rattle.std.proofs.lemmas.List.Elements.{All-append, All-cons, All-drop, All-head, All-map, All-nil, All-pop, All-push, All-take, All-weaker}
+use Rattle.std.proofs.lemmas.Option.{none-some, same_Some}
+use Rattle.snap_core.specs.Arrays.{zero_arrays}
+use Rattle.snap_rows.specs.declared.head.Action.{Action}
+use Rattle.snap_rows.specs.declared.head.Action.TheVariants.{Forward, Deliver, Fork}
+use Rattle.snap_rows.specs.declared.head.Head.TheVariants.{Out, Visit, Walk}
+use Rattle.snap_rows.specs.declared.head.Sent.{Sent}
+use Rattle.snap_rows.specs.declared.tables.Tables.{Tables}
+use Rattle.snap_rows.specs.Form.{comps}
+use Rattle.snap_rows.specs.Network.{Copy, Inject, Step, Happening, Crossed, Delivered, Forked, happening, moved}
+use Rattle.snap_rows.proofs.Rows.{All-get}
+use Rattle.snap_net.specs.declared.flying.Flying.{Flying}
+use Rattle.snap_net.specs.declared.happened.Happened.{Happened}
+use Rattle.snap_net.specs.Shown.{IsHeld, moving}
+use Rattle.snap_gen.specs.InTurn.{Becomes, SentOn, Waiting, Forks}
+use Rattle.snap_runs.specs.declared.ready.Ready.{Ready}
+use Rattle.snap_runs.specs.declared.tally.Tally.{Tally}
+use Rattle.snap_runs.specs.Playing.{IsLong, IsReady, owner_by, packets_in}
+use Rattle.snap_runs.specs.Tallies.{bared, delivered_by, hop_by, lost_by, number_of}
+use Rattle.snap_runs.proofs.Blocks.{in_pushed}
+use Rattle.snap_runs.proofs.Steps.{held-shown}
+use Rattle.snap_order.specs.declared.play.Play.{Play}
+use Rattle.snap_order.specs.declared.turned.Turned.{Turned}
+use Rattle.snap_order.specs.Ordered.{Ordered, Turn, Happens, Stays, Waits, LeadsInTurn, begin, happenings, injects, left_by, moves, turn_of, visits, waits}
+use Rattle.snap_order.specs.Playing.{HasInjected, HasNoted, HasStepped, IsPlaying, IsTally, NotesTurn, OwnerIsBelow, Plays, left_in}
+use Rattle.snap_order.specs.Shown.{IsDoneInTurn, NoTurn, ShowsInTurn, TellsTurn, happened_in_turn, told_of}
+use Rattle.snap_order.proofs.Overlap.{happenings_more}
+use Rattle.snap_order.proofs.Tallying.{elsewhere, tally_fresh, tally_more, tally_other}
+
+-- ---- before the first event
+pub plays_first : (t : Tables) (hops : Bool) (packets : List Ready) (v : Play) → v.net.net.tables ≡ t → v.hops ≡ hops → ShowsInTurn v.net (begin t zero_arrays) → v.tallies.items ≡ [] → v.waiting.items ≡ reverse packets → All (IsReady t) packets
+    → Plays t hops (begin t zero_arrays) [] v
+plays_first t hops packets v tables same shows none waiting ready = record {
+  tables = tables;
+  hops_same = same;
+  shows = shows;
+  counted = ap length none;
+  below = All-nil (λ (c : Copy). c.number < 0);
+  before = All-nil (λ h. number_of h < 0);
+  tallied = λ i y is. absurd (false≢true (ap (λ (o : Option Tally). is_some o) (ap (λ l. slice_get l i) (sym none) ∙ is)));
+  long = λ i y is. absurd (false≢true (ap (λ (o : Option Tally). is_some o) (ap (λ l. slice_get l i) (sym none) ∙ is)));
+  ready = subst (All (IsReady t)) (sym waiting) (All-permutation (IsReady t) packets (reverse packets) (IsPermutation-reverse packets) ready);
+}
+
+pub left_first : (packets : List Ready) (v : Play) → v.waiting.items ≡ reverse packets → left_in v ≡ packets_in packets
+left_first packets v waiting = ap packets_in (ap reverse waiting ∙ reverse-reverse packets)
+
+-- ---- numbers of packets
+module _ (P : ℕ → Type 0) where
+  moved_numbers : (c : Copy) (a : Action) → P c.number → All (λ (d : Copy). P d.number) (moved c a)
+  moved_numbers c (Forward to head) here = All-cons (λ (d : Copy). P d.number) _ [] here (All-nil (λ (d : Copy). P d.number))
+  moved_numbers c (Deliver port) here = All-nil (λ (d : Copy). P d.number)
+  moved_numbers c (Fork copies lost) here = All-map (λ (d : Copy). P d.number) (λ (x : Sent). record c { head = Out x.port; packet = x.packet; steps = c.steps + 1 }) copies (λ k d within. here)
+
+  left_numbers : (c : Copy) (b : Becomes) → P c.number → All (λ (d : Copy). P d.number) (left_by c b)
+  left_numbers c (SentOn to r n) here = moved_numbers c (Forward to (Visit r n)) here
+  left_numbers c (Waiting r n) here = All-cons (λ (d : Copy). P d.number) _ [] here (All-nil (λ (d : Copy). P d.number))
+  left_numbers c (Forks copies lost) here = moved_numbers c (Fork copies lost) here
+
+  number_of-happening : (c : Copy) (a : Action) → P c.number → P (number_of (happening c a))
+  number_of-happening c (Forward to head) here = here
+  number_of-happening c (Deliver port) here = here
+  number_of-happening c (Fork copies lost) here = here
+
+  -- of what happens in a turn
+  number_of-turn : (c : Copy) (b : Becomes) → P c.number → All (λ h. P (number_of h)) (happenings (turn_of c b ∷ []))
+  number_of-turn c (SentOn to r n) here = All-cons (λ h. P (number_of h)) (Crossed c to (Visit r n)) [] here (All-nil (λ h. P (number_of h)))
+  number_of-turn c (Waiting r n) here = All-nil (λ h. P (number_of h))
+  number_of-turn c (Forks copies lost) here = All-cons (λ h. P (number_of h)) (Forked c (length copies) lost) [] here (All-nil (λ h. P (number_of h)))
+
+  replaced : (cs : List Copy) (k : ℕ) (xs : List Copy) → All (λ (c : Copy). P c.number) cs → All (λ (c : Copy). P c.number) xs → All (λ (c : Copy). P c.number) (take k cs ++ (xs ++ drop (k + 1) cs))
+  replaced cs k xs all some =
+      let Q : Copy → Type 0 = λ c. P c.number in
+      All-append Q (take k cs) (xs ++ drop (k + 1) cs) (All-take Q k cs all) (All-append Q xs (drop (k + 1) cs) some (All-drop Q (k + 1) cs all))
+
+  -- what holds of the numbers of all copies holds of the one to which a step happens, and of those behind it
+  pub step_numbers : {t : Tables} {s s' : Ordered} {j : ℕ} {us : List Turn} → All (λ (c : Copy). P c.number) s.net.flying → LeadsInTurn t s (Step j) s' us → All (λ (c : Copy). P c.number) s'.net.flying × All (λ h. P (number_of h)) (happenings us)
+  step_numbers {s = s} all (moves {i = i} {c = c} {a = a} is none handles) =
+      let here : P c.number = All-get (λ (c : Copy). P c.number) s.net.flying i c all is in
+      (replaced s.net.flying i (moved c a) all (moved_numbers c a here), All-cons (λ h. P (number_of h)) (happening c a) [] (number_of-happening c a here) (All-nil (λ h. P (number_of h))))
+  step_numbers {s = s} all (visits {i = i} {c = c} {b = b} is before turn takes) =
+      let here : P c.number = All-get (λ (c : Copy). P c.number) s.net.flying i c all is in
+      (replaced s.net.flying i (left_by c b) all (left_numbers c b here), number_of-turn c b here)
+  step_numbers all (waits is before early) = (all, All-nil (λ h. P (number_of h)))
+
+pub step_injected : {t : Tables} {s s' : Ordered} {j : ℕ} {us : List Turn} → LeadsInTurn t s (Step j) s' us → s'.net.injected ≡ s.net.injected
+step_injected (moves is none handles) = refl
+step_injected (visits is before turn takes) = refl
+step_injected (waits is before early) = refl
+
+-- an injected copy has the next number
+inject_numbers : {t : Tables} {s s' : Ordered} {port : ℕ} {k : List ℕ} {us : List Turn} → All (λ (c : Copy). c.number < s.net.injected) s.net.flying → LeadsInTurn t s (Inject port k) s' us
+    → All (λ (c : Copy). c.number < s'.net.injected) s'.net.flying × (s'.net.injected ≡ s.net.injected + 1)
+inject_numbers {s = s} {k = k} all (injects {w = w} at first) =
+    let c : Copy = record { number = s.net.injected; at = w; head = Walk 0; packet = k; hops = 0; steps = 0 } in
+    let P : Copy → Type 0 = λ d. d.number < s.net.injected + 1 in
+    (All-push P s.net.flying c (All-weaker (λ (d : Copy). d.number < s.net.injected) P (λ d less. omega (arith, less)) s.net.flying all) (omega arith), refl)
+
+-- ---- lengths of packets
+delivered_long : (n : ℕ) (c : Copy) (a : Action) → length c.packet ≡ n → All (λ k. length k ≡ n) (delivered_by (moving (happening c a)))
+delivered_long n c (Forward to head) long = All-nil (λ k. length k ≡ n)
+delivered_long n c (Deliver port) long = All-cons (λ k. length k ≡ n) c.packet [] long (All-nil (λ k. length k ≡ n))
+delivered_long n c (Fork copies lost) long = All-nil (λ k. length k ≡ n)
+
+-- what happens in a list of one turn
+abbrev happening_in : List Turn → Option Happening
+happening_in (Happens x ∷ us) = Some x
+happening_in _ = None
+
+happens_same : (x y : Happening) → Happens x ∷ [] ≡ Happens y ∷ [] → x ≡ y
+happens_same x y e = same_Some x y (ap happening_in e)
+
+stays_apart : (c : Copy) (r : ℕ) (x : Happening) → Stays c r ∷ [] ≡ Happens x ∷ [] → ⊥
+stays_apart c r x e = none-some x (ap happening_in e)
+
+waits_apart : (c : Copy) (r : ℕ) (x : Happening) → Waits c r ∷ [] ≡ Happens x ∷ [] → ⊥
+waits_apart c r x e = none-some x (ap happening_in e)
+
+turned_long : (n : ℕ) (c : Copy) (b : Becomes) (x : Happening) → turn_of c b ∷ [] ≡ Happens x ∷ [] → All (λ k. length k ≡ n) (delivered_by (moving x))
+turned_long n c (SentOn to r v) x e = subst (λ y. All (λ k. length k ≡ n) (delivered_by (moving y))) (happens_same _ x e) (All-nil (λ k. length k ≡ n))
+turned_long n c (Waiting r v) x e = absurd (stays_apart c r x e)
+turned_long n c (Forks copies lost) x e = subst (λ y. All (λ k. length k ≡ n) (delivered_by (moving y))) (happens_same _ x e) (All-nil (λ k. length k ≡ n))
+
+step_long : {t : Tables} {s s' : Ordered} {j : ℕ} {us : List Turn} (n : ℕ) → All (λ (c : Copy). length c.packet ≡ n) s.net.flying → LeadsInTurn t s (Step j) s' us → (x : Happening) → us ≡ Happens x ∷ [] → All (λ k. length k ≡ n) (delivered_by (moving x))
+step_long {s = s} n all (moves {i = i} {c = c} {a = a} is none handles) x e =
+    subst (λ y. All (λ k. length k ≡ n) (delivered_by (moving y))) (happens_same _ x e) (delivered_long n c a (All-get (λ (c : Copy). length c.packet ≡ n) s.net.flying i c all is))
+step_long n all (visits {c = c} {b = b} is before turn takes) x e = turned_long n c b x e
+step_long n all (waits {c = c} {r = r} is before early) x e = absurd (waits_apart c r x e)
+
+-- ---- the next packet is injected
+module _ (old new : Play) (r : Ready) (rest : List Ready) (y : Tally) (stood : old.waiting.items ≡ rest ++ r ∷ []) (left : new.waiting.items ≡ rest) (does : IsDoneInTurn old.net (Inject r.port r.packet) new.net NoTurn)
+    (same : new.net.net.tables ≡ old.net.net.tables) (same_hops : new.hops ≡ old.hops) (more : new.tallies.items ≡ old.tallies.items ++ y ∷ []) (d : y.delivered.items ≡ []) (l : y.lost ≡ 0) (h : y.hops.items ≡ []) where
+  pub plays_inject : HasInjected old new true
+  plays_inject t hops s us p =
+      let n = s.net.injected in
+      let a = subst (λ t'. (s' : Ordered) × (ts : List Turn) × LeadsInTurn t' s (Inject r.port r.packet) s' ts × ShowsInTurn new.net s' × (ts ≡ [])) p.tables (does s p.shows) in
+      let numbers = inject_numbers p.below a.2 in
+      let popped = All-pop (IsReady t) old.waiting.items rest (Some r) stood p.ready in
+      record {
+        packet = r.packet;
+        next = ap (λ ws. packets_in (reverse ws)) stood ∙ ap packets_in (reverse-append rest (r ∷ [])) ∙ ap (λ ws. r.packet ∷ packets_in (reverse ws)) (sym left);
+        state = a.0;
+        leads = subst (λ q. LeadsInTurn t s (Inject q r.packet) a.0 []) (sym popped.1.first) (subst (LeadsInTurn t s (Inject r.port r.packet) a.0) a.4 a.2);
+        plays = record {
+          tables = same ∙ p.tables;
+          hops_same = same_hops ∙ p.hops_same;
+          shows = a.3;
+          counted = ap length more ∙ length-append old.tallies.items (y ∷ []) ∙ ap (λ m. m + 1) p.counted ∙ sym numbers.1;
+          below = numbers.0;
+          before = All-weaker (λ x. number_of x < n) (λ x. number_of x < a.0.net.injected) (λ x less. (let g = numbers.1 in omega (arith, less, g))) (happenings us) p.before;
+          tallied = λ i z is. tallied i z (in_pushed old.tallies.items y z i (ap (λ ys. slice_get ys i) (sym more) ∙ is));
+          long = λ i z is. long i z (in_pushed old.tallies.items y z i (ap (λ ys. slice_get ys i) (sym more) ∙ is));
+          ready = subst (All (IsReady t)) (sym left) popped.0;
+        };
+      }
+    where
+      tallied : (i : ℕ) (z : Tally) → ((i < length old.tallies.items) × (slice_get old.tallies.items i ≡ Some z)) ⊎ ((i ≡ length old.tallies.items) × (y ≡ z)) → IsTally t hops i (happenings us) z
+      tallied i z (inl k) = p.tallied i z k.1
+      tallied i z (inr k) = let e' = k.0 in let f = p.counted in subst (IsTally t hops i (happenings us)) k.1 (tally_fresh t hops i (happenings us) y (elsewhere s.net.injected i (happenings us) (omega (arith, e', f)) p.before) d l h)
+
+      long : (i : ℕ) (z : Tally) → ((i < length old.tallies.items) × (slice_get old.tallies.items i ≡ Some z)) ⊎ ((i ≡ length old.tallies.items) × (y ≡ z)) → IsLong (comps t) z
+      long i z (inl k) = p.long i z k.1
+      long i z (inr k) = subst (IsLong (comps t)) k.1 (subst (All (λ x. length x ≡ comps t)) (sym d) (All-nil (λ x. length x ≡ comps t)))
+
+-- ---- a copy makes a step
+owner_of-happened : (x : Happening) → owner_by (bared (happened_in_turn x)) ≡ number_of x
+owner_of-happened (Crossed c to head) = refl
+owner_of-happened (Delivered c port) = refl
+owner_of-happened (Forked c copies lost) = refl
+
+bared-happened : (x : Happening) → bared (happened_in_turn x) ≡ moving x
+bared-happened (Crossed c to head) = refl
+bared-happened (Delivered c port) = refl
+bared-happened (Forked c copies lost) = refl
+
+module _ (old new : Play) (place : ℕ) (told : Turned) (held : IsHeld old.net.net) (does : IsDoneInTurn old.net (Step place) new.net (TellsTurn told)) (notes : NotesTurn old.hops old.net.net.tables.switches told old.tallies.items new.tallies.items)
+    (same : new.net.net.tables ≡ old.net.net.tables) (same_hops : new.hops ≡ old.hops) (still : new.waiting.items ≡ old.waiting.items) where
+  module _ (t : Tables) (hops : Bool) (s : Ordered) (us : List Turn) (p : Plays t hops s us old) where
+    abbrev n : ℕ
+    n = s.net.injected
+
+    -- nothing was noted
+    module _ (s' : Ordered) (ts : List Turn) (leads : LeadsInTurn t s (Step place) s' ts) (shows : ShowsInTurn new.net s') (none : happenings ts ≡ []) (kept : new.tallies.items ≡ old.tallies.items) where
+      silent : happenings (us ++ ts) ≡ happenings us
+      silent = happenings_more us ts ∙ ap (λ l. happenings us ++ l) none ∙ append-nil (happenings us)
+
+      plays_silent : Plays t hops s' (us ++ ts) new
+      plays_silent =
+          let inj : s'.net.injected ≡ n = step_injected leads in
+          let numbers = step_numbers (λ m. m < n) p.below leads in
+          record {
+            tables = same ∙ p.tables;
+            hops_same = same_hops ∙ p.hops_same;
+            shows = shows;
+            counted = ap length kept ∙ p.counted ∙ sym inj;
+            below = subst (λ m. All (λ (c : Copy). c.number < m) s'.net.flying) (sym inj) numbers.0;
+            before = subst (λ l. All (λ g. number_of g < s'.net.injected) l) (sym silent) (subst (λ m. All (λ g. number_of g < m) (happenings us)) (sym inj) p.before);
+            tallied = λ i z is. subst (λ l. IsTally t hops i l z) (sym silent) (p.tallied i z (ap (λ ys. slice_get ys i) (sym kept) ∙ is));
+            long = λ i z is. p.long i z (ap (λ ys. slice_get ys i) (sym kept) ∙ is);
+            ready = subst (All (IsReady t)) (sym still) p.ready;
+          }
+
+    -- this was noted
+    module _ (s' : Ordered) (ts : List Turn) (leads : LeadsInTurn t s (Step place) s' ts) (shows : ShowsInTurn new.net s') (x : Happening) (what : ts ≡ Happens x ∷ []) (h : Happened) (is_told : h ≡ happened_in_turn x)
+        (noted : HasNoted hops t.switches h old.tallies.items new.tallies.items) where
+      own : owner_by (bared h) ≡ number_of x
+      own = ap (λ y. owner_by (bared y)) is_told ∙ owner_of-happened x
+
+      moves_so : bared h ≡ moving x
+      moves_so = ap bared is_told ∙ bared-happened x
+
+      louder : happenings (us ++ ts) ≡ happenings us ++ x ∷ []
+      louder = happenings_more us ts ∙ ap (λ l. happenings us ++ happenings l) what
+
+      after_of : (i : ℕ) (z : Tally) → slice_get new.tallies.items i ≡ Some z → i ≡ number_of x → noted.after ≡ z
+      after_of i z is at = same_Some noted.after z (sym noted.here ∙ ap (λ j. slice_get new.tallies.items j) (own ∙ sym at) ∙ is)
+
+      before_of : (i : ℕ) → i ≡ number_of x → slice_get old.tallies.items i ≡ Some noted.before
+      before_of i at = ap (λ j. slice_get old.tallies.items j) (at ∙ sym own) ∙ noted.is
+
+      other_of : (i : ℕ) (z : Tally) → slice_get new.tallies.items i ≡ Some z → i ≢ number_of x → slice_get old.tallies.items i ≡ Some z
+      other_of i z is other = sym (noted.others i (λ e. other (e ∙ own))) ∙ is
+
+      tallied : (i : ℕ) (z : Tally) → slice_get new.tallies.items i ≡ Some z → (b : Bool) → (i == number_of x) ≡ b → IsTally t hops i (happenings us ++ x ∷ []) z
+      tallied i z is true f =
+          let at : i ≡ number_of x = eqb-true i (number_of x) f in
+          subst (IsTally t hops i (happenings us ++ x ∷ [])) (after_of i z is at)
+          (tally_more t hops i (happenings us) x noted.before noted.after (sym at) (p.tallied i noted.before (before_of i at))
+          (noted.delivered ∙ ap (λ m. noted.before.delivered.items ++ delivered_by m) moves_so) (noted.lost ∙ ap (λ m. noted.before.lost + lost_by m) moves_so)
+          (noted.hops_told ∙ ap (λ y. noted.before.hops.items ++ (if hops then hop_by t.switches y else [])) is_told))
+      tallied i z is false f =
+          let other : i ≢ number_of x = λ g. false≢true (sym f ∙ eq-eqb i (number_of x) g) in
+          tally_other t hops i (happenings us) (x ∷ []) z (All-cons (λ g. number_of g ≢ i) x [] (λ g. other (sym g)) (All-nil (λ g. number_of g ≢ i))) (p.tallied i z (other_of i z is other))
+
+      long : (i : ℕ) (z : Tally) → slice_get new.tallies.items i ≡ Some z → (b : Bool) → (i == number_of x) ≡ b → IsLong (comps t) z
+      long i z is true f =
+          let at : i ≡ number_of x = eqb-true i (number_of x) f in
+          let packets = held-shown (λ (c : Flying). length c.packet ≡ comps t) old.net.net s.net p.shows.net (subst (λ t'. All (λ (c : Flying). length c.packet ≡ comps t') old.net.net.flying) p.tables held.packets) in
+          let some = step_long (comps t) packets leads x what in
+          subst (IsLong (comps t)) (after_of i z is at)
+          (subst (All (λ k. length k ≡ comps t)) (sym (noted.delivered ∙ ap (λ m. noted.before.delivered.items ++ delivered_by m) moves_so))
+          (All-append (λ k. length k ≡ comps t) noted.before.delivered.items (delivered_by (moving x)) (p.long i noted.before (before_of i at)) some))
+      long i z is false f = p.long i z (other_of i z is (λ g. false≢true (sym f ∙ eq-eqb i (number_of x) g)))
+
+      plays_noted : Plays t hops s' (us ++ ts) new
+      plays_noted =
+          let inj : s'.net.injected ≡ n = step_injected leads in
+          let numbers = step_numbers (λ m. m < n) p.below leads in
+          record {
+            tables = same ∙ p.tables;
+            hops_same = same_hops ∙ p.hops_same;
+            shows = shows;
+            counted = noted.count ∙ p.counted ∙ sym inj;
+            below = subst (λ m. All (λ (c : Copy). c.number < m) s'.net.flying) (sym inj) numbers.0;
+            before = subst (λ m. All (λ g. number_of g < m) (happenings (us ++ ts))) (sym inj)
+                (subst (All (λ g. number_of g < n)) (sym louder) (All-append (λ g. number_of g < n) (happenings us) (x ∷ []) p.before (subst (All (λ g. number_of g < n)) (ap happenings what) numbers.1)));
+            tallied = λ i z is. subst (λ l. IsTally t hops i l z) (sym louder) (tallied i z is (i == number_of x) refl);
+            long = λ i z is. long i z is (i == number_of x) refl;
+            ready = subst (All (IsReady t)) (sym still) p.ready;
+          }
+
+    on : (s' : Ordered) (ts : List Turn) → LeadsInTurn t s (Step place) s' ts → ShowsInTurn new.net s' → (u : Turn) → ts ≡ u ∷ [] → (x : Turned) → x ≡ told_of u → NotesTurn hops t.switches x old.tallies.items new.tallies.items → Plays t hops s' (us ++ ts) new
+    on s' ts leads shows (Happens x) what y e noted = plays_noted s' ts leads shows x what (happened_in_turn x) refl (subst (λ z. NotesTurn hops t.switches z old.tallies.items new.tallies.items) e noted)
+    on s' ts leads shows (Stays c r) what y e noted = plays_silent s' ts leads shows (ap happenings what) (subst (λ z. NotesTurn hops t.switches z old.tallies.items new.tallies.items) e noted)
+    on s' ts leads shows (Waits c r) what y e noted = plays_silent s' ts leads shows (ap happenings what) (subst (λ z. NotesTurn hops t.switches z old.tallies.items new.tallies.items) e noted)
+
+  pub plays_step : HasStepped place old new true
+  plays_step t hops s us p =
+      let a = subst (λ t'. (s' : Ordered) × (ts : List Turn) × LeadsInTurn t' s (Step place) s' ts × ShowsInTurn new.net s' × TellsTurn told ts) p.tables (does s p.shows) in
+      let u = a.4 in
+      record {
+        left = ap (λ ws. packets_in (reverse ws)) still;
+        state = a.0;
+        turns = a.1;
+        leads = a.2;
+        plays = on t hops s us p a.0 a.1 a.2 a.3 u.0 u.1 told u.2
+            (subst (λ b. NotesTurn b t.switches told old.tallies.items new.tallies.items) p.hops_same (subst (λ (t' : Tables). NotesTurn old.hops t'.switches told old.tallies.items new.tallies.items) p.tables notes));
+      }
+
+-- what was told of has a tally
+pub owner_below : (old new : Play) (place : ℕ) (told : Turned) → IsPlaying old → IsDoneInTurn old.net (Step place) new.net (TellsTurn told) → OwnerIsBelow (length old.tallies.items) told
+owner_below old new place told playing does = by u.0 u.1 told u.2
+  where
+    s : Ordered
+    s = playing.0
+
+    p : Plays old.net.net.tables old.hops playing.0 playing.1 old
+    p = playing.2
+
+    a : (s' : Ordered) × (ts : List Turn) × LeadsInTurn old.net.net.tables s (Step place) s' ts × ShowsInTurn new.net s' × TellsTurn told ts
+    a = does s p.shows
+
+    u : TellsTurn told a.1
+    u = a.4
+
+    numbers : All (λ h. number_of h < s.net.injected) (happenings a.1)
+    numbers = (step_numbers (λ m. m < s.net.injected) p.below a.2).1
+
+    by : (u : Turn) → a.1 ≡ u ∷ [] → (x : Turned) → x ≡ told_of u → OwnerIsBelow (length old.tallies.items) x
+    by (Happens x) what y e =
+        let less : number_of x < s.net.injected = All-head (λ h. number_of h < s.net.injected) x [] (subst (All (λ h. number_of h < s.net.injected)) (ap happenings what) numbers) in
+        subst (OwnerIsBelow (length old.tallies.items)) (sym e) (subst (λ m. m < length old.tallies.items) (sym (owner_of-happened x)) (subst (λ m. number_of x < m) (sym p.counted) less))
+    by (Stays c r) what y e = subst (OwnerIsBelow (length old.tallies.items)) (sym e) tt
+    by (Waits c r) what y e = subst (OwnerIsBelow (length old.tallies.items)) (sym e) tt
+
+pub playing_of : (t : Tables) (hops : Bool) (s : Ordered) (us : List Turn) (v : Play) → Plays t hops s us v → IsPlaying v
+playing_of t hops s us v p = (s, us, subst (λ t'. Plays t' v.hops s us v) (sym p.tables) (subst (λ h. Plays t h s us v) (sym p.hops_same) p))

@@ -1,0 +1,54 @@
+use Rattle.std.proofs.Common.{◌≡◌, ◌<◌, [], None, inl, inr, length, arith, rules, subst}
+use Rattle.std.proofs.lemmas.Option.{MatchOption-at_none}
+use Rattle.snap_runs.specs.Schedules.{lines_of}
+use Rattle.snap_order.specs.Obeying.{HasDone}
+use Rattle.snap_order.proofs.Obeying.{early_flying, early_waiting, lines_playing, so_far_more, stops_at}
+use Rattle.snap_order.proofs.schedule.run.Goals as goal
+
+pub obey-requires-clause-playing : goal.obey-requires-clause-playing
+obey-requires-clause-playing c =
+    let v = c.args.play.now in
+    let f = c.requires.fresh in
+    let s = c.loop-line.invariant.so_far v.net.net.tables v.hops f.0 f.1 in
+    lines_playing v.net.net.tables v.hops f.0 s.done c.loop-line.play s.plays
+
+pub returns-then-not-branch-clause-ran : goal.returns-then-not-branch-clause-ran
+returns-then-not-branch-clause-ran c = λ t hops ks p.
+    let l = c.loop-line in
+    inl (stops_at t hops ks (lines_of c.args.schedule.now) l.rest.now l.number l.play (l.invariant.so_far t hops ks p) c.in-Some.line.now c.in-Some.behind.now c.in-Some.ensures.line c.obey.new.play
+    (subst (HasDone c.in-Some.line.now l.play c.obey.new.play) c.if-not-branch.true c.in_ok-obey.ensures.done))
+
+pub loop-line-preserved : goal.loop-line-preserved
+loop-line-preserved c =
+    let l = c.loop-line in
+    let i = l.invariant in
+    let bound = i.bound in
+    let before = i.injected in
+    let shorter = c.in-Some.ensures.shorter in
+    let more = c.in_ok-obey.ensures.injected in
+    record {
+      so_far = λ t hops ks p. so_far_more t hops ks (lines_of c.args.schedule.now) l.rest.now l.number l.play (i.so_far t hops ks p) c.in-Some.line.now c.in-Some.behind.now c.in-Some.ensures.line c.obey.new.play
+          (subst (HasDone c.in-Some.line.now l.play c.obey.new.play) c.if-not-branch.false c.in_ok-obey.ensures.done);
+      bound = omega (arith, bound, shorter);
+      injected = omega (arith, before, more);
+    }
+
+pub returns-then-left-gt0-clause-ran : goal.returns-then-left-gt0-clause-ran
+returns-then-left-gt0-clause-ran c = λ t hops ks p.
+    let l = c.loop-line in
+    let none : c.next_line.result ≡ None = first_of (cc, search rules) in
+    let end : lines_of l.rest.now ≡ [] = MatchOption-at_none _ _ none c.next_line.ensures.line in
+    let count = c.left.ensures in
+    let test = c.if-left-gt0.true in
+    let some : 0 < length l.play.waiting.items = omega (arith, count, test) in
+    inr (early_waiting t hops ks (lines_of c.args.schedule.now) l.rest.now l.number l.play (l.invariant.so_far t hops ks p) end some)
+
+pub returns-then-flying-gt0-clause-ran : goal.returns-then-flying-gt0-clause-ran
+returns-then-flying-gt0-clause-ran c = λ t hops ks p.
+    let l = c.loop-line in
+    let none : c.next_line.result ≡ None = first_of (cc, search rules) in
+    let end : lines_of l.rest.now ≡ [] = MatchOption-at_none _ _ none c.next_line.ensures.line in
+    let count = c.flying.ensures.count in
+    let test = c.if-flying-gt0.true in
+    let some : 0 < length l.play.net.net.flying = omega (arith, count, test) in
+    inr (early_flying t hops ks (lines_of c.args.schedule.now) l.rest.now l.number l.play (l.invariant.so_far t hops ks p) end some)

@@ -1,0 +1,15 @@
+-- The run in turn that a schedule's lines tell is one.
+use Rattle.std.specs.Prelude.{◌≡◌, ℕ, Bool, List}
+use Rattle.snap_rows.specs.declared.tables.Tables.{Tables}
+use Rattle.snap_rows.specs.Form.{IsInForm}
+use Rattle.snap_order.specs.Runs.{IsScheduleReport, RefusesLine}
+
+-- lines tell one report, or are refused at one line, and not both
+abbrev pub ScheduleReportsAreOne : Type 0
+ScheduleReportsAreOne = (t : Tables) → IsInForm t → (hops : Bool) (ks lines : List (List ℕ)) (a b : List ℕ) → IsScheduleReport t hops ks lines a → IsScheduleReport t hops ks lines b → a ≡ b
+
+abbrev pub RefusedLinesAreOne : Type 0
+RefusedLinesAreOne = (t : Tables) → IsInForm t → (ks lines : List (List ℕ)) (a b : ℕ) → RefusesLine t ks lines a → RefusesLine t ks lines b → a ≡ b
+
+abbrev pub ReportedOrRefused : Type 0
+ReportedOrRefused = (t : Tables) → IsInForm t → (hops : Bool) (ks lines : List (List ℕ)) (text : List ℕ) (number : ℕ) → IsScheduleReport t hops ks lines text → RefusesLine t ks lines number → ⊥

@@ -1,0 +1,189 @@
+//! The ordered network.
+
+ghost use Rattle.std.specs.Prelude.{◌≡◌, ◌≢◌, ◌≤◌, ◌<◌, ◌+◌, ◌^◌, ℕ, List, Some, None, IfOk, IfErr, OnOk, OnErr, IsSome, get_or, length, slice_index};
+ghost use Rattle.snap_core.specs.Arrays.{zero_arrays};
+ghost use Rattle.snap_core.specs.Listing.{IsListing};
+ghost use Rattle.snap_core.specs.declared.program.Program.{Program};
+ghost use Rattle.snap_topo.specs.declared.topology.Topology.{Topology};
+ghost use Rattle.snap_rows.specs.Entries.{port_at, ranks};
+ghost use Rattle.snap_rows.specs.Form.{array_count, comps};
+ghost use Rattle.snap_rows.specs.Network.{Inject, Step, whole};
+ghost use Rattle.snap_net.specs.declared.net.InjectFault.{InjectFault};
+ghost use Rattle.snap_net.specs.declared.net.StepFault.{StepFault};
+ghost use Rattle.snap_net.specs.Shown.{IsHeld};
+ghost use Rattle.snap_gen.specs.Faithful.{Faithful};
+ghost use Rattle.snap_order.specs.Laws.{KeepsOrder};
+ghost use Rattle.snap_order.specs.Ordered.{Ordered, begin};
+ghost use Rattle.snap_order.specs.Shown.{DueAt, IsDoneInTurn, IsOrderedHeld, NoTurn, SameInTurn, ShowsInTurn, TellsTurn};
+
+use crate::acts::{act, due_at, plan_at, turn, turns_at};
+use crate::counts::{count, handled};
+use crate::turned::Turned;
+use crate::turns::Due;
+use snap_core::NoMemory;
+use snap_core::packet::Packet;
+use snap_core::place::Entry;
+use snap_net::net::{InjectFault, Net, StepFault, open_net};
+use snap_rows::valid::Valid;
+use std::alloc::Global;
+use std::marker::Model;
+
+/// A network in which each rank handles the packets in the order of their injection, with how many each has handled: a
+/// state of the ordered network, seen without the counts of hops and steps that each copy has made.
+#[derive(Drop)]
+pub struct OrderedNet {
+    alloc: Global,
+    net: Net,
+    counts: Vec<u64>,
+}
+
+impl Model for OrderedNet {
+    ghost use Rattle.snap_order.specs.Shown.{OrderedHeld, IsOrderedHeld};
+
+    ghost Value = { OrderedHeld };
+
+    ghost view = { λ a. record { net = a.net; counts = a.counts.items } };
+
+    ghost invariant = { λ a. IsOrderedHeld (record { net = a.net; counts = a.counts.items }) };
+}
+
+/// An ordered network of tables of version 2, with empty stores and nothing in flight. What it does over faithful tables,
+/// whatever the order of events, is the law of `laws::faithful_keeps_order`.
+pub fn open_ordered(alloc: Global, tables: Valid) -> Result<OrderedNet, NoMemory>
+    requires version { tables.version ≡ 2 }
+    ensures tables { IfOk result (λ net. net.net.tables ≡ tables) }
+    ensures injected { IfOk result (λ net. net.net.injected ≡ 0) }
+    ensures begin { IfOk result (λ net. ShowsInTurn net (begin tables zero_arrays)) }
+    ensures order { (p : Program) (topology : Topology) (places : List ℕ) → Faithful p topology places tables → KeepsOrder p topology tables }
+{
+    let counts = vec![in alloc; 0u64; tables.ranks() as usize]?;
+    let net = open_net(alloc, tables)?;
+    Ok(OrderedNet { alloc, net, counts })
+}
+
+impl OrderedNet {
+    /// Lends the tables. Takes no memory.
+    pub fn tables(&self) -> &Valid
+        ensures tables { result.now ≡ self.now.net.tables }
+    {
+        self.net.tables()
+    }
+
+    /// Lends the network itself. Takes no memory.
+    pub(crate) fn network(&self) -> &Net
+        ensures { result.now ≡ self.now.net }
+    {
+        &self.net
+    }
+
+    /// The number of copies in flight. Takes no memory.
+    pub fn flying(&self) -> usize
+        ensures shown { (s : Ordered) → ShowsInTurn self.now s → result ≡ length s.net.flying }
+        ensures held { result ≡ length self.now.net.flying }
+        ensures is_held { IsHeld self.now.net }
+        ensures is_ordered { IsOrderedHeld self.now }
+    {
+        self.net.flying()
+    }
+
+    /// The number of packets that a rank has handled. Takes no memory.
+    pub fn handled(&self, rank: u16) -> u64
+        requires { rank < ranks self.now.net.tables }
+        ensures { (s : Ordered) → ShowsInTurn self.now s → result ≡ s.handled rank }
+    {
+        handled(&self.counts, rank)
+    }
+
+    /// The number at a place of the whole store: each array is taken at its switch. Takes no memory.
+    pub fn array(&self, var: u16, index: &[u64]) -> u64
+        requires { var < array_count self.now.net.tables }
+        ensures { (s : Ordered) → ShowsInTurn self.now s → result ≡ whole self.now.net.tables s.net (record { var = var; index = index.now }) }
+    {
+        self.net.array(var, index)
+    }
+
+    /// The places of the whole store that don't hold 0, rising by variable and then by index, with their numbers.
+    pub fn entries(&self) -> Result<Vec<Entry>, NoMemory>
+        ensures { IfOk result (λ entries. (s : Ordered) → ShowsInTurn self.now s → IsListing (whole self.now.net.tables s.net) entries.items) }
+    {
+        self.net.entries()
+    }
+
+    /// Adds a copy of a packet, whose `inport` is the port, at that port's switch, and answers the packet's number,
+    /// counted from 0. `NoPort` where the tables have no such port. A refusal leaves the network as it was.
+    pub fn inject(&mut self, port: u32, packet: Packet) -> Result<u64, InjectFault>
+        requires packet { length packet ≡ comps self.old.net.tables }
+        requires port { slice_index packet 0 ≡ port }
+        requires room { self.old.net.injected + 1 < 2 ^ 64 }
+        ensures done { IfOk result (λ number. (number ≡ self.old.net.injected) × IsDoneInTurn self.old (Inject port packet) self.new NoTurn) }
+        ensures tables { self.new.net.tables ≡ self.old.net.tables }
+        ensures count { OnOk result (self.new.net.injected ≡ self.old.net.injected + 1) }
+        ensures no_port { IfErr result (λ fault. fault ≢ InjectFault.NoMemory → port_at self.old.net.tables port ≡ None) }
+        ensures has_port { IfOk result (λ _. IsSome (port_at self.old.net.tables port)) }
+        ensures refused { OnErr result (self.new ≡ self.old) }
+    {
+        self.net.inject(port, packet)
+    }
+
+    /// Makes a step of copy k, counted from 0. A copy before a visit makes it only where the rank has handled just the
+    /// packets before its own, and then those after it that are in turn too: `Waited` where it can't make the first,
+    /// `Visited` where it can't make a later one at this switch. `NoCopy` where there is no such copy. A refusal leaves the
+    /// network as it was, but for room that its stores took.
+    pub fn step(&mut self, k: usize) -> Result<Turned, StepFault>
+        ensures done { IfOk result (λ turned. IsDoneInTurn self.old (Step k) self.new (TellsTurn turned)) }
+        ensures tables { self.new.net.tables ≡ self.old.net.tables }
+        ensures injected { self.new.net.injected ≡ self.old.net.injected }
+        ensures copy { IfErr result (λ fault. fault ≡ StepFault.NoCopy → length self.old.net.flying ≤ k) }
+        ensures has_copy { length self.old.net.flying ≤ k → IfErr result (λ fault. fault ≡ StepFault.NoCopy) }
+        ensures refused { OnErr result (SameInTurn self.old self.new) }
+    {
+        if k >= self.net.flying() {
+            return Err(StepFault::NoCopy);
+        }
+        let turned = match due_at(&self.net, k) {
+            Some(due) => self.visit(k, due)?,
+            None => self.pass(k)?,
+        };
+        Ok(turned)
+    }
+
+    // Makes a step of copy k, which is before no visit.
+    fn pass(&mut self, k: usize) -> Result<Turned, NoMemory>
+        requires k { k < length self.old.net.flying }
+        requires not_due { DueAt self.old.net k None }
+        ensures done { IfOk result (λ turned. IsDoneInTurn self.old (Step k) self.new (TellsTurn turned)) }
+        ensures tables { self.new.net.tables ≡ self.old.net.tables }
+        ensures injected { self.new.net.injected ≡ self.old.net.injected }
+        ensures refused { OnErr result (SameInTurn self.old self.new) }
+    {
+        let _known = self.net.tables();
+        let plan = plan_at(self.alloc, &self.net, k)?;
+        let happened = act(self.alloc, &mut self.net, k, plan)?;
+        Ok(Turned::Moved(happened))
+    }
+
+    // Makes a step of copy k, which is before a visit.
+    fn visit(&mut self, k: usize, due: Due) -> Result<Turned, NoMemory>
+        requires k { k < length self.old.net.flying }
+        requires due { DueAt self.old.net k (Some due) }
+        ensures done { IfOk result (λ turned. IsDoneInTurn self.old (Step k) self.new (TellsTurn turned)) }
+        ensures tables { self.new.net.tables ≡ self.old.net.tables }
+        ensures injected { self.new.net.injected ≡ self.old.net.injected }
+        ensures refused { OnErr result (SameInTurn self.old self.new) }
+    {
+        let _known = self.net.tables();
+        let owner = self.net.copy(k).number;
+        if handled(&self.counts, due.rank) != owner {
+            return Ok(Turned::Waited {
+                owner,
+                rank: due.rank,
+            });
+        }
+        let number = owner.checked_add(1).ok_or(NoMemory)?;
+        let turns = turns_at(self.alloc, &self.net, k, &self.counts, due)?;
+        let behind = turns.behind;
+        let turned = turn(self.alloc, &mut self.net, k, turns)?;
+        count(&mut self.counts, due.rank, behind, number);
+        Ok(turned)
+    }
+}
