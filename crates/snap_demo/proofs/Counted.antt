@@ -1,0 +1,140 @@
+-- What is counted of a run, packet by packet.
+use Rattle.std.proofs.Common.{◌≡◌, ℕ, zero, suc, ◌+◌, ◌<◌, false, List, [], ◌∷◌, ◌++◌, map, length, Some, refl, sym, ap, subst, ◌∙◌, arith, add-one, append-nil, length-append}
+use Rattle.std.specs.Prelude.{slice_get, slice_index, sum, sum_by}
+use Rattle.std.specs.List.{All, range_with_len}
+use Rattle.std.proofs.lemmas.List.{map-append}
+use Rattle.std.proofs.lemmas.List.Elements.{All-append, All-nil, All-weaker}
+use Rattle.std.proofs.lemmas.List.Sums.{sum_by-cons}
+use Rattle.snap_core.specs.Arrays.{zero_arrays}
+use Rattle.snap_rows.specs.declared.head.Sent.{Sent}
+use Rattle.snap_rows.specs.Happenings.{deliveries_of, losses_of}
+use Rattle.snap_rows.specs.Network.{Event, Happening, Inject, IsPlainRun, Net, injects, rests, start}
+use Rattle.snap_net.specs.Shown.{Held, IsDone, Nothing, Shows}
+use Rattle.snap_runs.specs.declared.tally.Tally.{Tally}
+use Rattle.snap_runs.specs.Plain.{entering}
+use Rattle.snap_runs.specs.Reports.{packets_delivered}
+use Rattle.snap_runs.specs.Settling.{AreCopiesOf, HappenTo, HasSettled, Settles, Tallies}
+use Rattle.snap_runs.specs.Tallies.{number_of}
+use Rattle.snap_runs.proofs.Blocks.{earlier-elsewhere, later-elsewhere}
+use Rattle.snap_runs.proofs.Happenings.{HappenElsewhere, deliveries_of-append, deliveries_of-others, losses_of-append, losses_of-others}
+use Rattle.snap_runs.proofs.Runs.{plain-then}
+use Rattle.snap_runs.proofs.Steps.{inject-alone, rests-shown}
+use Rattle.snap_demo.specs.declared.counts.Counts.{Counts}
+use Rattle.snap_demo.specs.Runs.{HasRun, RunsOn, delivered_of, lost_of}
+
+-- ---- sums over ranges
+module _ (f : ℕ → ℕ) where
+  sum-more : (a n : ℕ) → sum_by f (range_with_len a (suc n)) ≡ sum_by f (range_with_len a n) + f (a + n)
+  sum-more a zero =
+      let e = sum_by-cons f a [] in
+      let h : f a ≡ f (a + 0) = ap f (let i : a ≡ a + 0 = omega arith in i) in
+      omega (arith, e, h)
+  sum-more a (suc n) =
+      let e = sum_by-cons f a (range_with_len (a + 1) (suc n)) in
+      let g = sum_by-cons f a (range_with_len (a + 1) n) in
+      let more = sum-more (a + 1) n in
+      let h : f (a + 1 + n) ≡ f (a + suc n) = ap f (let i : a + 1 + n ≡ a + suc n = omega arith in i) in
+      omega (arith, e, g, more, h)
+
+  sum-same : (g : ℕ → ℕ) (a n : ℕ) → ((i : ℕ) → i < a + n → f i ≡ g i) → sum_by f (range_with_len a n) ≡ sum_by g (range_with_len a n)
+  sum-same g a zero same = refl
+  sum-same g a (suc n) same =
+      sum_by-cons f a (range_with_len (a + 1) n)
+      ∙ (λ i. same a (let l : a < a + suc n = omega arith in l) i + sum-same g (a + 1) n (λ j less. same j (omega arith)) i)
+      ∙ sym (sum_by-cons g a (range_with_len (a + 1) n))
+
+-- what is summed for each number is summed for the element of a list with that number
+pub sum-listed : {X : Type 0} (f : ℕ → ℕ) (g : X → ℕ) (xs : List X) (a : ℕ) → ((j : ℕ) (x : X) → slice_get xs j ≡ Some x → f (a + j) ≡ g x) → sum_by f (range_with_len a (length xs)) ≡ sum_by g xs
+sum-listed f g [] a same = refl
+sum-listed f g (x ∷ xs) a same =
+    sum_by-cons f a (range_with_len (a + 1) (length xs))
+    ∙ (λ i. first i + sum-listed f g xs (a + 1) (λ j y is. others j y is) i)
+    ∙ sym (sum_by-cons g x xs)
+  where
+    first : f a ≡ g x
+    first = ap f (let e : a ≡ a + 0 = omega arith in e) ∙ same 0 x refl
+
+    others : (j : ℕ) (y : _) → slice_get xs j ≡ Some y → f (a + 1 + j) ≡ g y
+    others j y is = ap f (let e : a + 1 + j ≡ a + suc j = omega arith in e) ∙ same (suc j) y is
+
+-- ---- two parts of a run
+module _ (i : ℕ) (hs gs : List Happening) where
+  packets : List Sent → List (List ℕ)
+  packets = map (λ (x : Sent). x.packet)
+
+  delivered-front : HappenElsewhere i gs → packets_delivered i (hs ++ gs) ≡ packets_delivered i hs
+  delivered-front other = ap (map (λ (x : Sent). x.packet)) (deliveries_of-append i hs gs ∙ ap (λ l. deliveries_of i hs ++ l) (deliveries_of-others i gs other) ∙ append-nil (deliveries_of i hs))
+
+  delivered-behind : HappenElsewhere i hs → packets_delivered i (hs ++ gs) ≡ packets_delivered i gs
+  delivered-behind other = ap (map (λ (x : Sent). x.packet)) (deliveries_of-append i hs gs ∙ ap (λ l. l ++ deliveries_of i gs) (deliveries_of-others i hs other))
+
+  losses-front : HappenElsewhere i gs → losses_of i (hs ++ gs) ≡ losses_of i hs
+  losses-front other = losses_of-append i hs gs ∙ ap (λ l. losses_of i hs ++ l) (losses_of-others i gs other) ∙ append-nil (losses_of i hs)
+
+  losses-behind : HappenElsewhere i hs → losses_of i (hs ++ gs) ≡ losses_of i gs
+  losses-behind other = losses_of-append i hs gs ∙ ap (λ l. l ++ losses_of i gs) (losses_of-others i hs other)
+
+module _ (n : ℕ) (hs gs : List Happening) (before : All (λ h. number_of h < n) hs) (happen : HappenTo n gs) where
+  delivered_of-more : delivered_of (n + 1) (hs ++ gs) ≡ delivered_of n hs + length (packets_delivered n gs)
+  delivered_of-more =
+      let f : ℕ → ℕ = λ i. length (packets_delivered i (hs ++ gs)) in
+      ap (λ m. delivered_of m (hs ++ gs)) (add-one n)
+      ∙ sum-more f 0 n
+      ∙ (λ j. sum-same f (λ i. length (packets_delivered i hs)) 0 n (λ i less. ap length (delivered-front i hs gs (later-elsewhere n hs gs before happen i (omega (arith, less))))) j + f (let e : 0 + n ≡ n = omega arith in e j))
+      ∙ ap (λ l. delivered_of n hs + length l) (delivered-behind n hs gs (earlier-elsewhere n hs gs before happen))
+
+  lost_of-more : lost_of (n + 1) (hs ++ gs) ≡ lost_of n hs + sum (losses_of n gs)
+  lost_of-more =
+      let f : ℕ → ℕ = λ i. sum (losses_of i (hs ++ gs)) in
+      ap (λ m. lost_of m (hs ++ gs)) (add-one n)
+      ∙ sum-more f 0 n
+      ∙ (λ j. sum-same f (λ i. sum (losses_of i hs)) 0 n (λ i less. ap sum (losses-front i hs gs (later-elsewhere n hs gs before happen i (omega (arith, less))))) j + f (let e : 0 + n ≡ n = omega arith in e j))
+      ∙ ap (λ l. lost_of n hs + sum l) (losses-behind n hs gs (earlier-elsewhere n hs gs before happen))
+
+-- ---- the run
+-- before the first packet
+pub has_run-none : (v : Held) (c : Counts) → c.delivered ≡ 0 → c.lost ≡ 0 → Shows v (start v.tables zero_arrays) → HasRun [] v c
+has_run-none v c d l shows = record {
+  events = [];
+  state = start v.tables zero_arrays;
+  happenings = [];
+  run = record { packets = refl; first = λ i d within. absurd (let h : i < 0 = within in omega arith); run = rests; ended = refl };
+  shows = shows;
+  injected = refl;
+  before = All-nil (λ h. number_of h < 0);
+  delivered = d;
+  lost = l;
+}
+
+-- a packet is injected, and all its copies come to rest
+module _ (port : ℕ) (k : List ℕ) (old mid new : Held) (y : Tally) (before after : Counts) where
+  pub runs-on : slice_index k 0 ≡ port → mid.tables ≡ old.tables → new.tables ≡ old.tables → IsDone old (Inject port k) mid Nothing → HasSettled false mid new y → new.flying ≡ []
+      → after.delivered ≡ before.delivered + length y.delivered.items → after.lost ≡ before.lost + y.lost → RunsOn k old before new after
+  runs-on first same kept done settled rest delivers loses ks h =
+      let n = length ks in
+      let a = done h.state h.shows in
+      let alone = inject-alone old.tables h.state a.0 port k a.1 h.run.ended a.2 in
+      let b = subst (λ t. (s' : Net) × (hs : List Happening) × Settles t a.0 s' hs × Shows new s' × ((i : ℕ) → AreCopiesOf i a.0.flying → Tallies t false i s' hs y)) same (settled a.0 a.3) in
+      let told = subst (λ i. Tallies old.tables false i b.0 b.1 y) h.injected (b.4 h.state.injected alone.0) in
+      let longer : length (ks ++ k ∷ []) ≡ n + 1 = length-append ks (k ∷ []) in
+      let events = h.events ++ Inject port k ∷ b.2.events in
+      let happenings = h.happenings ++ b.1 in
+      let run : IsPlainRun old.tables zero_arrays (entering ks ++ (port, k) ∷ []) events b.0 happenings =
+      plain-then old.tables zero_arrays (entering ks) h.events h.state h.happenings h.run port k b.2.events b.0 b.1 b.2.no_packets b.2.first
+      (subst (λ l. Rattle.snap_rows.specs.Network.RunsCalmly old.tables h.state (Inject port k ∷ b.2.events) b.0 (l ++ b.1)) a.4 (injects h.run.ended a.2 b.2.run))
+      (rests-shown new b.0 b.3 rest) in
+      let enters : entering ks ++ (port, k) ∷ [] ≡ entering (ks ++ k ∷ []) = ap (λ p. entering ks ++ (p, k) ∷ []) (sym first) ∙ sym (map-append (λ x. (slice_index x 0, x)) ks (k ∷ [])) in
+      record {
+        events = events;
+        state = b.0;
+        happenings = happenings;
+        run = subst (λ t. IsPlainRun t zero_arrays (entering (ks ++ k ∷ [])) events b.0 happenings) (sym kept) (subst (λ l. IsPlainRun old.tables zero_arrays l events b.0 happenings) enters run);
+        shows = b.3;
+        injected = b.2.injected ∙ alone.1 ∙ ap (λ m. m + 1) h.injected ∙ sym longer;
+        before = subst (λ m. All (λ h. number_of h < m) happenings) (sym longer)
+            (All-append (λ h. number_of h < n + 1) h.happenings b.1
+            (All-weaker (λ h. number_of h < n) (λ h. number_of h < n + 1) (λ h less. omega (arith, less)) h.happenings h.before)
+            (All-weaker (λ h. number_of h ≡ n) (λ h. number_of h < n + 1) (λ h is. omega (arith, is)) b.1 told.happen));
+        delivered = delivers ∙ (λ i. h.delivered i + length (told.tally.delivered i)) ∙ sym (delivered_of-more n h.happenings b.1 h.before told.happen) ∙ ap (λ m. delivered_of m happenings) (sym longer);
+        lost = loses ∙ (λ i. h.lost i + told.tally.lost i) ∙ sym (lost_of-more n h.happenings b.1 h.before told.happen) ∙ ap (λ m. lost_of m happenings) (sym longer);
+      }

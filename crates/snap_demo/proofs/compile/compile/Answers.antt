@@ -1,0 +1,16 @@
+use Rattle.std.proofs.Common.{sym, subst}
+use Rattle.snap_place.specs.Answer.{GivesSwitches}
+use Rattle.snap_topo.specs.Form.{IsInForm}
+use Rattle.snap_demo.specs.Row.{stated_topology}
+use Rattle.snap_demo.proofs.Placed.{places_fit}
+use Rattle.snap_demo.proofs.Row.{row_in_form}
+use Rattle.snap_demo.proofs.compile.compile.Goals as goal
+
+pub tables-requires-clause-topology : goal.tables-requires-clause-topology
+tables-requires-clause-topology c = subst IsInForm (sym c.in_ok-topology.ensures) (row_in_form c.args.switches c.requires.some c.requires.few)
+
+pub tables-requires-clause-placement : goal.tables-requires-clause-placement
+tables-requires-clause-placement c =
+    let p = c.args.program.now in
+    subst (λ t. GivesSwitches p t c.in_ok-placement.placement) (sym c.in_ok-topology.ensures)
+    (subst (GivesSwitches p (stated_topology c.args.switches)) (sym c.in_ok-placement.ensures) (places_fit c.args.switches p c.requires.some c.requires.stated c.requires.apart))
