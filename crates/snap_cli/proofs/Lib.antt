@@ -2,6 +2,8 @@ pub mod CheckLemmas
 pub mod CheckOnce
 pub mod CompileLemmas
 pub mod CompileOnce
+pub mod DemoLemmas
+pub mod DemoOnce
 pub mod DepsLemmas
 pub mod DepsOnce
 pub mod DueStatus
@@ -18,6 +20,7 @@ pub mod PairText
 pub mod Parts
 pub mod PlaceLemmas
 pub mod PlaceOnce
+pub mod PlaceSpelled
 pub mod PlacementOnce
 pub mod ProgramOnce
 pub mod Refused
@@ -27,9 +30,16 @@ pub mod RoutesLemmas
 pub mod RoutesOnce
 pub mod Rows
 pub mod SameCore
+pub mod SameFaithful
 pub mod SameUses
+pub mod ScheduleOnce
+pub mod ScheduleTraced
+pub mod SpelledUnder
 pub mod TextLemmas
 pub mod TopLemmas
+pub mod ChangesLemmas
+pub mod ChangesOnce
+pub mod ChangesTraced
 pub mod TraceLemmas
 pub mod TraceOnce
 pub mod Traced

@@ -9,7 +9,7 @@ use Rattle.snap_trace.specs.declared.fault.TraceFault.TheVariants as run
 use Rattle.snap_trace.specs.OneSwitch.{WritesReport}
 use Rattle.snap_words.specs.Commands.{obs}
 use Rattle.snap_cli.specs.declared.refusal.Refusal.{Refusal}
-use Rattle.snap_cli.specs.declared.refusal.Refusal.TheVariants.{Read, Write, NoMemory}
+use Rattle.snap_cli.specs.declared.refusal.Refusal.TheVariants.{Read, ReadChange, Write, NoMemory}
 use Rattle.snap_cli.specs.Deserved.{Meets}
 use Rattle.snap_cli.specs.Obs.{EndsObs, IsObsText, MeetsRun, RunsTo}
 use Rattle.snap_cli.specs.ProgramOf.{ProgramOf}
@@ -32,6 +32,7 @@ meets-run : (files : Files) (p q : List ℕ) (program : Program) (old new : Opti
     → MeetsRun program q (file_of files q) e old new → Meets files (obs p q) e old new
 meets-run files p q program old new (Ok u) h m = whole-run files p q program old new (Ok u) h m
 meets-run files p q program old new (Err (Read name)) h m = (m.1.0, inr (m.0, (program, h, m.1.1)), m.1.2)
+meets-run files p q program old new (Err (ReadChange name)) h m = absurd m
 meets-run files p q program old new (Err NoMemory) h m = (m.0, inr (program, h, m.1), m.2)
 meets-run files p q program old new (Err Write) h (inl m) = inl (m.0, inr (program, h, m.1), m.2)
 meets-run files p q program old new (Err Write) h (inr m) = inr (m.0, inr (program, h, m.1), m.2)

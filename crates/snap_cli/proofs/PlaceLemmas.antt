@@ -16,7 +16,7 @@ use Rattle.snap_seek.specs.Answer.{IsAnswer}
 use Rattle.snap_words.specs.Commands.{place}
 use Rattle.snap_cli.specs.declared.network.Network.{Network}
 use Rattle.snap_cli.specs.declared.refusal.Refusal.{Refusal}
-use Rattle.snap_cli.specs.declared.refusal.Refusal.TheVariants.{Read, Write, NoMemory}
+use Rattle.snap_cli.specs.declared.refusal.Refusal.TheVariants.{Read, ReadChange, Write, NoMemory}
 use Rattle.snap_cli.specs.Deserved.{Meets}
 use Rattle.snap_cli.specs.NetworkSteps.{GivesNetwork}
 use Rattle.snap_cli.specs.Place.{HasNoDemand, HasNoPlacement, HasNoPlacementOn, IsOneOf, SpellsNoDemand, refusal_of_demand}
@@ -109,6 +109,7 @@ told-no-program (Some files) program topology demand e h =
 module _ (files : Files) (program topology demand : List ℕ) where
   meets-refused : (out : Option (List ℕ)) (e : Refusal) → GivesPlacement files program topology demand (Err e) → Meets files (place program topology demand) (Err e) out out
   meets-refused out (Read name) h = ([], (h, refl), (0, Appends-nil out))
+  meets-refused out (ReadChange name) h = ([], (h, refl), (0, Appends-nil out))
   meets-refused out NoMemory h = ([], refl, (0, Appends-nil out))
   meets-refused out Write h = inl ([], refl, (0, Appends-nil out))
   meets-refused out e h = (h, ([], inl (e, h, refl), Appends-nil out))

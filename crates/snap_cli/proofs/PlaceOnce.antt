@@ -12,6 +12,8 @@ use Rattle.snap_names.specs.Declarations.{core_program}
 use Rattle.snap_topo.specs.declared.topology.Topology.{Topology}
 use Rattle.snap_topo.specs.Document.{document}
 use Rattle.snap_route.specs.Tables.{AreRoutes, Table}
+use Rattle.snap_place.specs.Printed.{placement_text}
+use Rattle.snap_seek.specs.declared.best.Best.{Best}
 use Rattle.snap_seek.specs.declared.demand.Demand.{Demand}
 use Rattle.snap_seek.specs.declared.demand.DemandFault.{DemandFault}
 use Rattle.snap_seek.specs.Answer.{IsAnswer, PlacesThen, SpelledThen, first_fault}
@@ -21,7 +23,7 @@ use Rattle.snap_seek.proofs.Once.{answer-apart, answer-once, answer-same, bare, 
 use Rattle.snap_seek.proofs.Ranked.{ordered}
 use Rattle.snap_cli.specs.declared.refusal.Refusal.{Refusal}
 use Rattle.snap_cli.specs.Laws.{SpellsOneProgram}
-use Rattle.snap_cli.specs.Place.{EndsPlace, HasNoDemand, HasNoPlacement, HasNoPlacementOn, IsPlaceText, IsPlaced, IsPlacedOn, IsPlacementOf, SpellsNoDemand, placement_text, refusal_of_demand}
+use Rattle.snap_cli.specs.Place.{EndsPlace, HasNoDemand, HasNoPlacement, HasNoPlacementOn, IsPlaceText, IsPlaced, IsPlacedOn, IsPlacementOf, SpellsNoDemand, refusal_of_demand}
 use Rattle.snap_cli.specs.Refusals.{Ending}
 use Rattle.snap_cli.specs.Routes.{routes_text}
 use Rattle.snap_cli.proofs.RoutesOnce.{one_topology, refused_once, routed_well, why}
@@ -49,7 +51,7 @@ module _ (p q : Program) (same : core_program p ≡ core_program q) where
     spells = answer-by h.grouping t file (Ok h.demand) h.spells;
     best = h.best;
     is_best = h.is_best;
-    is = h.is ∙ ap (λ (vs : List (List ℕ)). placement_text vs t.switches h.best) (same_names p q same);
+    is = h.is ∙ ap (λ (vs : List (List ℕ)). placement_text vs t.switches h.best.owners h.best.cost) (same_names p q same);
   }
 
   spells-none-by : (t : Topology) (text : List ℕ) (e : Refusal) → SpellsNoDemand p t text e → SpellsNoDemand q t text e
@@ -115,7 +117,7 @@ module _ (tied : (p : Pol) → TiedIsEquivalence p) (one : (p : Pol) (n : ℕ) �
       let best = subst (λ (i : Grouping). IsBestOf i t y k.demand k.best) (sym same) (bare-best k.grouping t y k.demand k.best k.is_best) in
       let bests = best-once (bare g) t x y (bare-ordered g (ordered g groups)) h.form rx ry h.demand k.demand h.best k.best (answer-same p (bare g) t file h.demand k.demand h.groups.count one-answer other)
       (bare-best g t x h.demand h.best h.is_best) best in
-      h.is ∙ (ap (placement_text p.vars t.switches) bests ∙ sym k.is)
+      h.is ∙ (ap (λ (b : Best). placement_text p.vars t.switches b.owners b.cost) bests ∙ sym k.is)
 
   module _ (files : Files) (topology demand : List ℕ) where
     pub no-placement-once : (e f : Refusal) → HasNoPlacementOn files p topology demand e → HasNoPlacementOn files p topology demand f → e ≡ f

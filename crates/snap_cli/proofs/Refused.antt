@@ -4,7 +4,7 @@ use Rattle.std.proofs.KnownBytes.{Appends-nil}
 use Rattle.snap_io.specs.Files.{Files, file_of}
 use Rattle.snap_words.specs.Commands.{Command}
 use Rattle.snap_cli.specs.declared.refusal.Refusal.{Refusal}
-use Rattle.snap_cli.specs.declared.refusal.Refusal.TheVariants.{Read, Syntax, Naming, Limit, NoMemory}
+use Rattle.snap_cli.specs.declared.refusal.Refusal.TheVariants.{Read, ReadChange, Syntax, Naming, Limit, NoMemory}
 use Rattle.snap_cli.specs.Deserved.{Ends, IsText, MayPrecede, MayPrecedeRead, Meets}
 use Rattle.snap_cli.specs.ProgramOf.{ProgramOf}
 use Rattle.snap_cli.specs.Steps.{GivesProgram}
@@ -19,6 +19,7 @@ pub record Refuses (files : Files) (command : Command) (program : List ℕ) : Ty
 pub meets-refused : (files : Files) (command : Command) (program : List ℕ) (out : Option (List ℕ)) (e : Refusal) → Refuses files command program
     → GivesProgram program (file_of files program) (Err e) → Meets files command (Err e) out out
 meets-refused files command program out (Read name) r h = ([], subst (λ n. MayPrecedeRead files command n []) (sym h) r.read, (0, Appends-nil out))
+meets-refused files command program out (ReadChange name) r h = ([], subst (λ n. MayPrecedeRead files command n []) (sym h) r.read, (0, Appends-nil out))
 meets-refused files command program out NoMemory r h = ([], r.memory, (0, Appends-nil out))
 meets-refused files command program out (Syntax fault spot) r h = (r.ends (Syntax fault spot) h, ([], r.text (Syntax fault spot) h, Appends-nil out))
 meets-refused files command program out (Naming fault spot) r h = (r.ends (Naming fault spot) h, ([], r.text (Naming fault spot) h, Appends-nil out))

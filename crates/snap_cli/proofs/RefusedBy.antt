@@ -4,7 +4,7 @@ use Rattle.std.proofs.KnownBytes.{Appends-nil}
 use Rattle.snap_io.specs.Files.{Files}
 use Rattle.snap_words.specs.Commands.{Command}
 use Rattle.snap_cli.specs.declared.refusal.Refusal.{Refusal}
-use Rattle.snap_cli.specs.declared.refusal.Refusal.TheVariants.{Read, Write, Unreachable, NoMemory}
+use Rattle.snap_cli.specs.declared.refusal.Refusal.TheVariants.{Read, ReadChange, Write, Unreachable, NoMemory}
 use Rattle.snap_cli.specs.Deserved.{Ends, IsText, MayPrecede, MayPrecedeRead, Meets}
 use Rattle.snap_cli.specs.ProgramOf.{ProgramOf}
 use Rattle.snap_cli.specs.Routes.{HasNoRoutes}
@@ -15,17 +15,20 @@ use Rattle.snap_cli.specs.Texts.{RefusesBy}
 -- a refusal for one reason is one for another
 pub by-map : (reads also : List ℕ → Type 0) (why because : Refusal → Type 0) → ((name : List ℕ) → reads name → also name) → ((e : Refusal) → why e → because e) → (e : Refusal) → RefusesBy reads why e → RefusesBy also because e
 by-map reads also why because f g (Read name) h = f name.now h
+by-map reads also why because f g (ReadChange name) h = f name h
 by-map reads also why because f g NoMemory h = tt
 by-map reads also why because f g e h = g e h
 
 pub by-program : (name file : List ℕ) (e : Refusal) → GivesProgram name file (Err e) → RefusesBy (λ failed. failed ≡ name) (λ refusal. ProgramOf file (Err refusal)) e
 by-program name file (Read failed) h = h
 by-program name file NoMemory h = tt
+by-program name file (ReadChange failed) h = h
 by-program name file e h = h
 
 pub by-topology : (name file : List ℕ) (e : Refusal) → GivesTopology name file (Err e) → RefusesBy (λ failed. failed ≡ name) (HasNoRoutes file) e
 by-topology name file (Read failed) h = h
 by-topology name file NoMemory h = tt
+by-topology name file (ReadChange failed) h = h
 by-topology name file (Unreachable switches a b) (inl h) = absurd (let e = h.1 in cc)
 by-topology name file (Unreachable switches a b) (inr h) = absurd h.1
 by-topology name file e h = h
@@ -34,6 +37,7 @@ by-topology name file e h = h
 pub meets-by : (files : Files) (command : Command) (out : Option (List ℕ)) (e : Refusal) → MayPrecede files command []
     → RefusesBy (λ name. MayPrecedeRead files command name []) (λ x. Ends files command (Err x) × IsText files command []) e → Meets files command (Err e) out out
 meets-by files command out (Read name) memory h = ([], h, (0, Appends-nil out))
+meets-by files command out (ReadChange name) memory h = ([], h, (0, Appends-nil out))
 meets-by files command out NoMemory memory h = ([], memory, (0, Appends-nil out))
 meets-by files command out Write memory h = inl ([], memory, (0, Appends-nil out))
 meets-by files command out e memory h = (h.0, ([], h.1, Appends-nil out))

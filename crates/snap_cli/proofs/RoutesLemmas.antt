@@ -9,7 +9,7 @@ use Rattle.snap_route.specs.Faults.{IsCause}
 use Rattle.snap_route.specs.Tables.{Table, AreRoutes, IsUnreachable}
 use Rattle.snap_words.specs.Commands.{routes}
 use Rattle.snap_cli.specs.declared.refusal.Refusal.{Refusal}
-use Rattle.snap_cli.specs.declared.refusal.Refusal.TheVariants.{Read, Write, Unreachable, NoMemory}
+use Rattle.snap_cli.specs.declared.refusal.Refusal.TheVariants.{Read, ReadChange, Write, Unreachable, NoMemory}
 use Rattle.snap_cli.specs.Deserved.{Meets}
 use Rattle.snap_cli.specs.Refusals.{Ending}
 use Rattle.snap_cli.specs.Routes.{HasNoRoutes, IsTextOf, routes_text}
@@ -19,6 +19,7 @@ use Rattle.snap_cli.specs.TopologyOf.{TopologyOf}
 module _ (files : Files) (name : List ℕ) (out : Option (List ℕ)) where
   meets-refused : (e : Refusal) → GivesTopology name (file_of files name) (Err e) → Meets files (routes name) (Err e) out out
   meets-refused (Read failed) h = ([], (h, refl), (0, Appends-nil out))
+  meets-refused (ReadChange failed) h = ([], (h, refl), (0, Appends-nil out))
   meets-refused NoMemory h = ([], inl refl, (0, Appends-nil out))
   meets-refused Write h = inl ([], inl refl, (0, Appends-nil out))
   meets-refused (Unreachable switches a b) (inl h) = absurd (let e = h.1 in cc)

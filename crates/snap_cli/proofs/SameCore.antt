@@ -94,7 +94,7 @@ module _ (p q : Program) (same : core_program p ≡ core_program q) where
   pub same_eval : (m : Arrays) (k : List ℕ) → eval p.body m k ≡ eval q.body m k
   same_eval m k = by_core p.body m k ∙ (ap (λ (c : CoreProgram). core_eval c.body m k) same ∙ sym (by_core q.body m k))
 
-  same_switch : (packets : List (List ℕ)) (m : Arrays) → one_big_switch p.body m packets ≡ one_big_switch q.body m packets
+  pub same_switch : (packets : List (List ℕ)) (m : Arrays) → one_big_switch p.body m packets ≡ one_big_switch q.body m packets
   same_switch [] m = refl
   same_switch (packet ∷ packets) m = λ i. option_and_then (λ o. option_map (behind o) (same_switch packets o.arrays i)) (same_eval m packet i)
 

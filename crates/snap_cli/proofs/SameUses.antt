@@ -9,7 +9,7 @@ use Rattle.snap_core.specs.declared.policy.Pred.{Pred}
 use Rattle.snap_core.specs.declared.policy.Pred.TheVariants.{Id, Drop, Field, State, Not', And', Or'}
 use Rattle.snap_core.specs.declared.program.Program.{Program}
 use Rattle.snap_dep.specs.Dependencies.{Depends, Reaches, Reads, Tests, Tied, Writes, one, more}
-use Rattle.snap_dep.specs.Ranks.{Grouping, IsGroup, IsGrouping, IsNext, IsReady, Precedes}
+use Rattle.snap_dep.specs.Ranks.{Grouping, IsGroup, IsGrouping, IsNext, IsRank, IsRankIn, IsReady, Precedes, rank_of}
 use Rattle.snap_names.specs.Core.{CoreTest, id_test, drop_test, field_test, state_test, not_test, and_test, or_test, CorePolicy, filter, set, change, par, seq, choice, atomic, core_test, core_policy}
 use Rattle.snap_names.specs.Declarations.{CoreProgram, core_program}
 use Rattle.snap_cli.specs.Deps.{IsTextOf, dep_line, groups_text}
@@ -118,11 +118,17 @@ module _ (p q : Pol) (to : (s t : ℕ) → Depends p s t → Depends q s t) (fro
     least = λ k grouped absent r. h.least k (group q p from to n k grouped) absent (ready q p from to n taken k r);
   }
 
+  same_order : (order : List ℕ) → IsRank p n order → IsRank q n order
+  same_order order h = record { steps = λ i l. next _ _ (h.steps i l); all = λ k grouped. h.all k (group q p from to n k grouped) }
+
+  same_ranks : (order : List ℕ) (rank : ℕ → ℕ) → IsRankIn p n order rank → IsRankIn q n order rank
+  same_ranks order rank h = record { below = h.below; group = λ v l. tie p q to _ v (h.group v l) }
+
   same_grouping : (g : Grouping) → IsGrouping p n g → IsGrouping q n g
   same_grouping g h = record {
     count = h.count;
-    order = record { steps = λ i l. next _ _ (h.order.steps i l); all = λ k grouped. h.order.all k (group q p from to n k grouped) };
-    ranks = record { below = h.ranks.below; group = λ v l. tie p q to _ v (h.ranks.group v l) };
+    order = same_order g.order h.order;
+    ranks = same_ranks g.order (rank_of g) h.ranks;
     tied = λ a b l m. (λ e. tie p q to a b ((h.tied a b l m).0 e), λ t. (h.tied a b l m).1 (tie q p from a b t));
   }
 
@@ -140,6 +146,17 @@ module _ (p q : Program) (same : core_program p ≡ core_program q) where
   grouped g h =
       subst (λ (vs : List (List ℕ)). IsGrouping q.body (length vs) g) (ap (λ (c : CoreProgram). c.vars) same)
       (same_grouping p.body q.body (λ s t d. transport (same_depends s t) d) (λ s t d. transport (sym (same_depends s t)) d) (length p.vars) g h)
+
+  -- so are their ranks
+  pub ranked : (order : List ℕ) → IsRank p.body (length p.vars) order → IsRank q.body (length q.vars) order
+  ranked order h =
+      subst (λ (vs : List (List ℕ)). IsRank q.body (length vs) order) (ap (λ (c : CoreProgram). c.vars) same)
+      (same_order p.body q.body (λ s t d. transport (same_depends s t) d) (λ s t d. transport (sym (same_depends s t)) d) (length p.vars) order h)
+
+  pub ranked_in : (order : List ℕ) (rank : ℕ → ℕ) → IsRankIn p.body (length p.vars) order rank → IsRankIn q.body (length q.vars) order rank
+  ranked_in order rank h =
+      subst (λ (vs : List (List ℕ)). IsRankIn q.body (length vs) order rank) (ap (λ (c : CoreProgram). c.vars) same)
+      (same_ranks p.body q.body (λ s t d. transport (same_depends s t) d) (λ s t d. transport (sym (same_depends s t)) d) (length p.vars) order rank h)
 
   pub same_text : (text : List ℕ) → IsTextOf p text → IsTextOf q text
   same_text text h =

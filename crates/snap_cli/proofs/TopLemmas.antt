@@ -9,9 +9,9 @@ use Rattle.snap_io.specs.Causes.{HasCause}
 use Rattle.snap_io.specs.Sinks.{AppendsPart}
 use Rattle.snap_cli.specs.declared.refusal.Refusal.{Refusal}
 use Rattle.snap_io.specs.Files.{Files}
-use Rattle.snap_words.specs.Commands.{Command, command_of, obs, deps, check, equal, routes, place, compile, trace}
+use Rattle.snap_words.specs.Commands.{Command, command_of, obs, deps, check, equal, routes, place, compile, trace, demo}
 use Rattle.snap_cli.specs.Answers.{MeetsWords}
-use Rattle.snap_cli.specs.declared.refusal.Refusal.TheVariants.{Read, Usage, NoMemory}
+use Rattle.snap_cli.specs.declared.refusal.Refusal.TheVariants.{Read, ReadChange, Usage, NoMemory}
 use Rattle.snap_cli.specs.Causes.{HasCauses, IsReadOf}
 use Rattle.snap_cli.specs.Deserved.{MayPrecede, Meets, Tells}
 use Rattle.snap_cli.specs.Refusals.{Ending, status_of}
@@ -26,6 +26,7 @@ tells before now old new message (Err e) ok err cause = record { part = err; who
 -- the file of which a status 2 tells
 unread : (refusal : Refusal) → status_of (Err refusal) ≡ 2 → (name : List ℕ) × IsReadOf {X = Unit {0}} name (Err refusal)
 unread (Read name) e = (name.now, refl)
+unread (ReadChange name) e = (name, refl)
 unread refusal e = absurd (cc)
 
 pub read-rose : (before now : List ℕ → ℕ) (out_before out_now : ℕ) (refusal : Refusal) → HasCauses before now out_before out_now (Err refusal) → status_of (Err refusal) ≡ 2
@@ -41,7 +42,8 @@ nothing_first files (equal left right) = refl
 nothing_first files (routes topology) = inl refl
 nothing_first files (place program topology demand) = refl
 nothing_first files (compile program topology placement) = inl refl
-nothing_first files (trace tables packets hops) = inl refl
+nothing_first files (trace tables packets hops order) = inl refl
+nothing_first files (demo switches) = refl
 
 meets_any : (files : Files) (out : Option (List ℕ)) (said : Option Command) (ending : Ending) → ending ≡ Err NoMemory
     → MatchOption said (((ending ≡ Err Usage) ⊎ (ending ≡ Err NoMemory)) × Appends out out []) (λ command. Meets files command ending out out)

@@ -19,19 +19,19 @@ use Rattle.snap_runs.specs.Hops.{HopsAreAdded}
 use Rattle.snap_runs.specs.Laws.{SpelledForIsSpelled, SpelledPacketsFit}
 use Rattle.snap_runs.specs.Plain.{IsPlainReport, spelled_for}
 use Rattle.snap_whole.specs.Laws.{PlainRunsAreShort, PlainRunsReportOneSwitch}
-use Rattle.snap_words.specs.Commands.{Command, compile, trace}
+use Rattle.snap_words.specs.Commands.{Command, Order, compile, plain, trace}
 use Rattle.snap_cli.specs.declared.refusal.Refusal.{Refusal}
-use Rattle.snap_cli.specs.declared.refusal.Refusal.TheVariants.{Usage, Read, Write, Syntax, Naming, Limit, Topology as Network, Unreachable, Race, Packets, NoMemory, Undefined, Declarations, Differ, Demand, Placement, Tables as Unread}
-use Rattle.snap_cli.specs.Compile.{AreSpelled, IsCompiled}
+use Rattle.snap_cli.specs.declared.refusal.Refusal.TheVariants.{Usage, Read, Write, Syntax, Naming, Limit, Topology as Network, Unreachable, Race, Packets, NoMemory, Undefined, Declarations, Differ, Demand, Placement, Tables as Unread, Schedule, Changes, ReadChange}
+use Rattle.snap_cli.specs.Compile.{IsCompiled}
 use Rattle.snap_cli.specs.Deserved.{Ends}
-use Rattle.snap_cli.specs.Headline.{Did, TracesAsOneSwitch, TracesInFewHops}
+use Rattle.snap_cli.specs.Headline.{AreGiven, Did, TracesAsOneSwitch, TracesInFewHops}
 use Rattle.snap_cli.specs.Laws.{AnswersExactly, CompilesExactly, IsDue, IsExact, IsFailure, TracesAs, TracesExactly}
 use Rattle.snap_cli.specs.Obs.{IsRunEnding}
 use Rattle.snap_cli.specs.Refusals.{Ending, status_of}
 use Rattle.snap_cli.specs.TablesOf.{TablesOf}
 
 -- ---- status 0
-refused_apart : (e : Refusal) → 0 ≡ status_of (Err e) → ⊥
+pub refused_apart : (e : Refusal) → 0 ≡ status_of (Err e) → ⊥
 refused_apart Usage h = omega (arith, h)
 refused_apart (Read name) h = omega (arith, h)
 refused_apart Write h = omega (arith, h)
@@ -49,24 +49,32 @@ refused_apart (Differ text) h = omega (arith, h)
 refused_apart (Demand fault) h = omega (arith, h)
 refused_apart (Placement fault) h = omega (arith, h)
 refused_apart (Unread fault) h = omega (arith, h)
+refused_apart (Schedule line) h = omega (arith, h)
+refused_apart (Changes line) h = omega (arith, h)
+refused_apart (ReadChange name) h = omega (arith, h)
 
 ended_well : (e : Ending) → 0 ≡ status_of e → e ≡ Ok tt
 ended_well (Ok u) h = refl
 ended_well (Err e) h = absurd (refused_apart e h)
 
-no_failure : {X : Type 0} → IsFailure 0 ⊎ X → X
+pub no_failure : {X : Type 0} → IsFailure 0 ⊎ X → X
 no_failure (inl (inl h)) = absurd (omega (arith, h))
 no_failure (inl (inr (inl h))) = absurd (omega (arith, h))
 no_failure (inl (inr (inr h))) = absurd (omega (arith, h))
 no_failure (inr x) = x
 
-run_apart : (fault : TraceFault) (e : Ending) → IsRunEnding (Err fault) e → 0 ≡ status_of e → ⊥
+pub run_apart : (fault : TraceFault) (e : Ending) → IsRunEnding (Err fault) e → 0 ≡ status_of e → ⊥
 run_apart (run.Limit which count) e is h = refused_apart (Limit which count) (h ∙ ap status_of is)
 run_apart (run.Packets line) e is h = refused_apart (Packets line) (h ∙ ap status_of is)
 run_apart (run.Undefined packet) e is h = refused_apart (Undefined packet) (h ∙ ap status_of is)
 run_apart run.Read e is h = is
 run_apart run.Write e is h = is
 run_apart run.NoMemory e is h = is
+
+-- a text of tables that is read back is no other's
+pub same_tables : (file : List ℕ) (n u : Tables) → IsReadBack n → file ≡ tables_text n → TablesOf file (Ok u) → u ≡ n
+same_tables file n u back is (inl h) = absurd (let e = h.1 in cc)
+same_tables file n u back is (inr h) = ⊎_elim (λ e. cc) (λ e. absurd (cc)) (back (Ok u) (subst (λ b. IsRead b (Ok u)) is h.1))
 
 -- the bytes that a call with status 0 wrote are the text
 module _ (exactly : AnswersExactly) where
@@ -78,7 +86,7 @@ module _ (exactly : AnswersExactly) where
       by (ending, text, due, exact) = subst (Ends files command) (ended_well ending exact.status_is) due.ends
 
   -- ---- what compile wrote
-  compiled : CompilesExactly → (files : Files) (program topology placement output : List ℕ) → Did files (compile program topology placement) output → IsCompiled files program topology placement output
+  pub compiled : CompilesExactly → (files : Files) (program topology placement output : List ℕ) → Did files (compile program topology placement) output → IsCompiled files program topology placement output
   compiled compiles files program topology placement output d =
       let t = (ends_well files (compile program topology placement) output d).1 in
       let of = t.1 in
@@ -88,49 +96,39 @@ module _ (exactly : AnswersExactly) where
       by (inl h) = subst (IsCompiled files program topology placement) (sym h.2.2) h.2.1
       by (inr h) = absurd (let e = h.0 in omega (arith, e))
 
-  -- ---- what trace wrote
-  read_tables : (later : Files) (tables packets report : List ℕ) (hops : Bool) → Did later (trace tables packets hops) report → (t : Tables) × TablesOf (file_of later tables) (Ok t)
-  read_tables later tables packets report hops d = by (ends_well later (trace tables packets hops) report d)
+  -- ---- what trace ran
+  pub read_tables : (later : Files) (tables packets report : List ℕ) (hops : Bool) (order : Order) → Did later (trace tables packets hops order) report → (t : Tables) × TablesOf (file_of later tables) (Ok t)
+  read_tables later tables packets report hops order d = by (ends_well later (trace tables packets hops order) report d)
     where
-      by : Ends later (trace tables packets hops) (Ok tt) → (t : Tables) × TablesOf (file_of later tables) (Ok t)
+      by : Ends later (trace tables packets hops order) (Ok tt) → (t : Tables) × TablesOf (file_of later tables) (Ok t)
       by (inl h) = absurd (let e = h.2 in cc)
       by (inr h) = (h.0, h.1)
 
-  module _ (compiles : CompilesExactly) (traces : TracesExactly) (fit : SpelledPacketsFit) (whole : SpelledForIsSpelled) where
-    -- the run of faithful tables that was told
-    record Told (files : Files) (program topology placement packets : List ℕ) (hops : Bool) (report : List ℕ) : Type 0 where
-      p : Program
-      t : Topology
-      places : List ℕ
-      n : Tables
-      spelling : AreSpelled files program topology placement p t places
-      faithful : Faithful p t places n
-      stop : (spelled p.fields packets).stop ≡ ended
-      plain : IsPlainReport n hops (spelled p.fields packets).packets report
-      fits : All (IsPacketOf p) (spelled p.fields packets).packets
+  module _ (compiles : CompilesExactly) (fit : SpelledPacketsFit) (whole : SpelledForIsSpelled) where
+    -- the run of faithful tables that was told, of which this holds
+    pub record Told (files : Files) (program topology placement packets : List ℕ) (Holds : Tables → List (List ℕ) → Type 0) : Type 0 where
+      pub p : Program
+      pub t : Topology
+      pub places : List ℕ
+      pub n : Tables
+      pub faithful : Faithful p t places n
+      pub given : AreGiven files program topology packets p t
+      pub fits : All (IsPacketOf p) (spelled p.fields packets).packets
+      pub holds : Holds n (spelled p.fields packets).packets
 
-    same_tables : (file : List ℕ) (n u : Tables) → IsReadBack n → file ≡ tables_text n → TablesOf file (Ok u) → u ≡ n
-    same_tables file n u back is (inl h) = absurd (let e = h.1 in cc)
-    same_tables file n u back is (inr h) = ⊎_elim (λ e. cc) (λ e. absurd (cc)) (back (Ok u) (subst (λ b. IsRead b (Ok u)) is h.1))
-
-    whole_report : (n : Tables) (hops : Bool) (read : Spelled) (report : List ℕ) → TracesAs n hops read 0 (Some []) (Some report) → (read.stop ≡ ended) × IsPlainReport n hops read.packets report
-    whole_report n hops read report (inl h) = (h.1, subst (IsPlainReport n hops read.packets) (sym h.2.2) h.2.1)
-    whole_report n hops read report (inr h) = absurd (run_apart h.0 h.1 h.3 h.4)
-
-    told : (files later : Files) (program topology placement tables packets : List ℕ) (hops : Bool) (output report : List ℕ)
-        → Did files (compile program topology placement) output → file_of later tables ≡ output → Did later (trace tables packets hops) report
-        → Told files program topology placement (file_of later packets) hops report
-    told files later program topology placement tables packets hops output report c is d =
+    pub told : (Holds : Tables → List (List ℕ) → Type 0) (files later : Files) (program topology placement tables packets : List ℕ) (hops : Bool) (order : Order) (output report : List ℕ)
+        → Did files (compile program topology placement) output → file_of later tables ≡ output → Did later (trace tables packets hops order) report
+        → ((t : Tables) → TablesOf (file_of later tables) (Ok t) → ((spelled_for t (file_of later packets)).stop ≡ ended) × Holds t (spelled_for t (file_of later packets)).packets)
+        → Told files program topology placement (file_of later packets) Holds
+    told Holds files later program topology placement tables packets hops order output report c is d ran =
         let made = compiled compiles files program topology placement output c in
         let n : Tables = made.0 in
         let of = made.1 in
         let p : Program = of.0 in
         let file = file_of later packets in
-        let u = read_tables later tables packets report hops d in
+        let u = read_tables later tables packets report hops order d in
         let same : u.0 ≡ n = same_tables (file_of later tables) n u.0 made.2 (is ∙ made.3) u.1 in
-        let traced = no_failure (traces d.words later tables packets hops n 0 d.shelf_before d.shelf_now d.out_before d.out_now (Some []) (Some report) d.err_before d.err_now d.err_old d.err_new d.said
-        (subst (λ x. TablesOf (file_of later tables) (Ok x)) same u.1) d.answers) in
-        let r = whole_report n hops (spelled_for n file) report traced in
+        let r = ran n (subst (λ x. TablesOf (file_of later tables) (Ok x)) same u.1) in
         let fields : n.fields ≡ p.fields = of.4.shape.fields in
         let read : spelled_for n file ≡ spelled p.fields file = whole n file r.0 ∙ ap (λ fs. spelled fs file) fields in
         record {
@@ -138,40 +136,48 @@ module _ (exactly : AnswersExactly) where
           t = of.1;
           places = of.2;
           n = n;
-          spelling = of.3;
           faithful = of.4;
-          stop = ap (λ (s : Spelled). s.stop) (sym read) ∙ r.0;
-          plain = subst (λ (s : Spelled). IsPlainReport n hops s.packets report) read r.1;
+          given = record { the_program = of.3.the_program; the_topology = of.3.the_topology; whole = ap (λ (s : Spelled). s.stop) (sym read) ∙ r.0 };
           fits = subst (λ fs. All (IsPacket (count fs)) (spelled p.fields file).packets) fields (subst (λ (s : Spelled). All (IsPacket (count n.fields)) s.packets) read (fit n file));
+          holds = subst (λ (s : Spelled). Holds n s.packets) read r.1;
         }
 
-    pub as_one_switch : PlainRunsReportOneSwitch → TracesAsOneSwitch
-    as_one_switch plain files later program topology placement tables packets output report c is d =
-        let x = told files later program topology placement tables packets false output report c is d in (
-          x.p,
-          x.t,
-          record { the_program = x.spelling.the_program; the_topology = x.spelling.the_topology; whole = x.stop },
-          plain x.p x.t x.places x.n x.faithful (spelled x.p.fields (file_of later packets)).packets x.fits report x.plain,
-        )
+    -- ---- the plain run
+    whole_report : (n : Tables) (hops : Bool) (read : Spelled) (report : List ℕ) → TracesAs n hops read 0 (Some []) (Some report) → (read.stop ≡ ended) × IsPlainReport n hops read.packets report
+    whole_report n hops read report (inl h) = (h.1, subst (IsPlainReport n hops read.packets) (sym h.2.2) h.2.1)
+    whole_report n hops read report (inr h) = absurd (run_apart h.0 h.1 h.3 h.4)
 
-    pub in_few_hops : HopsAreAdded → PlainRunsReportOneSwitch → PlainRunsAreShort → TracesInFewHops
-    in_few_hops added plain short files later program topology placement tables packets output report c is d =
-        let x = told files later program topology placement tables packets true output report c is d in
+    told_plain : TracesExactly → (files later : Files) (program topology placement tables packets : List ℕ) (hops : Bool) (output report : List ℕ)
+        → Did files (compile program topology placement) output → file_of later tables ≡ output → Did later (trace tables packets hops plain) report
+        → Told files program topology placement (file_of later packets) (λ n ks. IsPlainReport n hops ks report)
+    told_plain traces files later program topology placement tables packets hops output report c is d =
+        told (λ n ks. IsPlainReport n hops ks report) files later program topology placement tables packets hops plain output report c is d
+        (λ t read. whole_report t hops (spelled_for t (file_of later packets)) report
+        (no_failure (traces d.words later tables packets hops t 0 d.shelf_before d.shelf_now d.out_before d.out_now (Some []) (Some report) d.err_before d.err_now d.err_old d.err_new d.said read d.answers)))
+
+    pub as_one_switch : TracesExactly → PlainRunsReportOneSwitch → TracesAsOneSwitch
+    as_one_switch traces one files later program topology placement tables packets output report c is d =
+        let x = told_plain traces files later program topology placement tables packets false output report c is d in
+        (x.p, x.t, x.given, one x.p x.t x.places x.n x.faithful (spelled x.p.fields (file_of later packets)).packets x.fits report x.holds)
+
+    pub in_few_hops : TracesExactly → HopsAreAdded → PlainRunsReportOneSwitch → PlainRunsAreShort → TracesInFewHops
+    in_few_hops traces added one short files later program topology placement tables packets output report c is d =
+        let x = told_plain traces files later program topology placement tables packets true output report c is d in
         let ks = (spelled x.p.fields (file_of later packets)).packets in
-        let without = added x.n (length ks) x.plain.end x.plain.happenings report x.plain.report in (
+        let without = added x.n (length ks) x.holds.end x.holds.happenings report x.holds.report in (
           x.p,
           x.t,
-          record { the_program = x.spelling.the_program; the_topology = x.spelling.the_topology; whole = x.stop },
+          x.given,
           record {
             plain = without.0;
-            one_switch = plain x.p x.t x.places x.n x.faithful ks x.fits without.0 (record { events = x.plain.events; end = x.plain.end; happenings = x.plain.happenings; run = x.plain.run; report = without.1 });
+            one_switch = one x.p x.t x.places x.n x.faithful ks x.fits without.0 (record { events = x.holds.events; end = x.holds.end; happenings = x.holds.happenings; run = x.holds.run; report = without.1 });
             added = without.2;
             tables = x.n;
-            events = x.plain.events;
-            end = x.plain.end;
-            happenings = x.plain.happenings;
-            run = x.plain.run;
-            report = x.plain.report;
-            short = λ order most rank greatest. short x.p x.t x.places x.n x.faithful order most rank greatest ks x.fits x.plain.events x.plain.end x.plain.happenings x.plain.run;
+            events = x.holds.events;
+            end = x.holds.end;
+            happenings = x.holds.happenings;
+            run = x.holds.run;
+            report = x.holds.report;
+            short = λ order most rank greatest. short x.p x.t x.places x.n x.faithful order most rank greatest ks x.fits x.holds.events x.holds.end x.holds.happenings x.holds.run;
           },
         )

@@ -9,16 +9,24 @@ use Rattle.snap_dep.specs.Ranks.{IsRank}
 use Rattle.snap_topo.specs.declared.topology.Topology.{Topology}
 use Rattle.snap_route.specs.Walks.{IsDiameter, Linked}
 use Rattle.snap_rows.specs.declared.tables.Tables.{Tables}
+use Rattle.snap_rows.specs.Entries.{port_numbers}
 use Rattle.snap_rows.specs.Network.{Event, Happening, IsPlainRun, Net}
 use Rattle.snap_trace.specs.Spelled.{ended, spelled}
 use Rattle.snap_runs.specs.Hops.{AddsHops}
-use Rattle.snap_runs.specs.Plain.{entering}
+use Rattle.snap_runs.specs.Plain.{entering, spelled_for}
 use Rattle.snap_runs.specs.Reports.{IsRunReport}
+use Rattle.snap_runs.specs.Schedules.{IsCalm, Obeys, lines_of}
 use Rattle.snap_whole.specs.Laws.{IsHopWithin}
 use Rattle.snap_whole.specs.OneSwitch.{IsSwitchReport, ports_of}
-use Rattle.snap_words.specs.Commands.{Command, command_of, compile, trace}
+use Rattle.snap_move.specs.declared.change.Change.{Change}
+use Rattle.snap_move.specs.declared.later.Later.{Later}
+use Rattle.snap_move.specs.Changing.{in_force}
+use Rattle.snap_move.specs.OneSwitch.{IsSwitchReportUnder}
+use Rattle.snap_words.specs.Commands.{Command, changes, command_of, compile, plain, schedule, trace}
 use Rattle.snap_cli.specs.Answers.{Answers}
+use Rattle.snap_cli.specs.Changes.{ChangedTables, ChangesOf}
 use Rattle.snap_cli.specs.ProgramOf.{ProgramOf}
+use Rattle.snap_cli.specs.TablesOf.{TablesOf}
 use Rattle.snap_cli.specs.TopologyOf.{TopologyOf}
 
 -- A call for this command on these files answered 0, and wrote this.
@@ -51,7 +59,7 @@ TellsOneSwitch files program topology packets text =
 abbrev pub TracesAsOneSwitch : Type 0
 TracesAsOneSwitch = (files later : Files) (program topology placement tables packets : List ℕ) (compiled report : List ℕ)
     → Did files (compile program topology placement) compiled
-    → file_of later tables ≡ compiled → Did later (trace tables packets false) report
+    → file_of later tables ≡ compiled → Did later (trace tables packets false plain) report
     → TellsOneSwitch files program topology (file_of later packets) report
 
 -- The text is what one big switch does, but that lines of hops stand behind the first lines of its blocks. They are the hops
@@ -73,5 +81,69 @@ pub record TellsShortHops (p : Program) (t : Topology) (ks : List (List ℕ)) (t
 abbrev pub TracesInFewHops : Type 0
 TracesInFewHops = (files later : Files) (program topology placement tables packets : List ℕ) (compiled report : List ℕ)
     → Did files (compile program topology placement) compiled
-    → file_of later tables ≡ compiled → Did later (trace tables packets true) report
+    → file_of later tables ≡ compiled → Did later (trace tables packets true plain) report
     → (p : Program) × (t : Topology) × AreGiven files program topology (file_of later packets) p t × TellsShortHops p t (spelled p.fields (file_of later packets)).packets report
+
+-- ---- schedules
+-- the schedule is calm for the packets of a file, in the network of the tables of a file
+abbrev pub IsCalmFor : Files → (tables packets lines : List ℕ) → Type 0
+IsCalmFor files tables packets lines = (t : Tables) → TablesOf (file_of files tables) (Ok t) → IsCalm t (spelled_for t (file_of files packets)).packets (lines_of (file_of files lines))
+
+-- **So it is with a schedule that injects each packet with no copy in flight.**
+abbrev pub SchedulesTraceAsOneSwitch : Type 0
+SchedulesTraceAsOneSwitch = (files later : Files) (program topology placement tables packets lines : List ℕ) (compiled report : List ℕ)
+    → Did files (compile program topology placement) compiled
+    → file_of later tables ≡ compiled → IsCalmFor later tables packets lines → Did later (trace tables packets false (schedule lines)) report
+    → TellsOneSwitch files program topology (file_of later packets) report
+
+-- The text is the report, with its hops, of the run of exactly the events that the lines order; and no copy makes more than
+-- (groups + 1) times the greatest distance hops.
+pub record TellsShortSchedule (p : Program) (t : Topology) (ks lines : List (List ℕ)) (text : List ℕ) : Type 0 where
+  pub tables : Tables
+  pub end : Net
+  pub happenings : List Happening
+  pub obeys : Obeys tables ks lines [] end happenings
+  pub report : IsRunReport tables true (length ks) end happenings text
+  pub short : (order : List ℕ) (d : ℕ) → IsRank p.body (length p.vars) order → IsDiameter (Linked t.links) (length t.switches) d
+      → All (IsHopWithin ((length order + 1) * d)) happenings
+
+-- **Whatever a schedule orders, hops are few.**
+abbrev pub SchedulesInFewHops : Type 0
+SchedulesInFewHops = (files later : Files) (program topology placement tables packets lines : List ℕ) (compiled report : List ℕ)
+    → Did files (compile program topology placement) compiled
+    → file_of later tables ≡ compiled → Did later (trace tables packets true (schedule lines)) report
+    → (p : Program) × (t : Topology) × AreGiven files program topology (file_of later packets) p t
+    × TellsShortSchedule p t (spelled p.fields (file_of later packets)).packets (lines_of (file_of later lines)) report
+
+-- ---- changes
+-- A call of `compile`, whose program file holds this source, answered 0 and wrote this.
+pub record IsOutputFor (source output : List ℕ) : Type 0 where
+  pub files : Files
+  pub program : List ℕ
+  pub topology : List ℕ
+  pub placement : List ℕ
+  pub holds : file_of files program ≡ source
+  pub did : Did files (compile program topology placement) output
+
+-- so did one for each file of tables that a changes file names
+abbrev pub AreOutputsFor : (source : List ℕ) → Files → (lines : List ℕ) → Type 0
+AreOutputsFor source later lines = (changes : List Change) → ChangesOf (file_of later lines) (Ok changes) → All (λ (c : Change). IsOutputFor source (file_of later c.name)) changes
+
+-- The files spell tables and those of the changes, and all lines of the packets file are in form. The text is what one big
+-- switch does with all these packets, for the source's program, each at the ports of the tables that are in force then.
+pub record TellsOneSwitchUnder (source : List ℕ) (later : Files) (tables lines packets : List ℕ) (text : List ℕ) : Type 0 where
+  pub p : Program
+  pub the_program : ProgramOf source (Ok p)
+  pub first : Tables
+  pub the_first : TablesOf (file_of later tables) (Ok first)
+  pub others : List Later
+  pub the_others : ChangedTables later first lines (Ok others)
+  pub whole : (spelled p.fields (file_of later packets)).stop ≡ ended
+  pub report : IsSwitchReportUnder p (λ i. port_numbers (in_force first others i)) (spelled p.fields (file_of later packets)).packets text
+
+-- **The first file of tables and those that the changes name are what calls of `compile` wrote for one and the same source, each
+-- for its own topology and placement, and a call of `trace --changes` answered 0. Then what it wrote is what one big switch does.**
+abbrev pub ChangesTraceAsOneSwitch : Type 0
+ChangesTraceAsOneSwitch = (source : List ℕ) (later : Files) (tables packets lines : List ℕ) (report : List ℕ)
+    → IsOutputFor source (file_of later tables) → AreOutputsFor source later lines → Did later (trace tables packets false (changes lines)) report
+    → TellsOneSwitchUnder source later tables lines packets report

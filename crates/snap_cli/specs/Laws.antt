@@ -1,27 +1,32 @@
 -- What words and files deserve is one.
-use Rattle.std.specs.Prelude.{◌≡◌, ◌⊎◌, ℕ, Bool, List, [], Result, Ok, Err, Some}
+use Rattle.std.specs.Prelude.{◌≡◌, ◌⊎◌, ◌≤◌, ℕ, Bool, List, [], length, Result, Ok, Err, Some}
 use Rattle.std.specs.declared.option.Option.{Option}
 use Rattle.std.specs.Io.KnownBytes.{Appends}
 use Rattle.snap_core.specs.declared.program.Program.{Program}
 use Rattle.snap_io.specs.Files.{Files, file_of}
 use Rattle.snap_topo.specs.declared.topology.Topology.{Topology}
+use Rattle.snap_route.specs.Tables.{Table}
 use Rattle.snap_names.specs.Declarations.{core_program}
 use Rattle.snap_equal.specs.Same.{MeanSame}
 use Rattle.snap_rows.specs.declared.tables.Tables.{Tables}
 use Rattle.snap_trace.specs.declared.fault.TraceFault.{TraceFault}
 use Rattle.snap_trace.specs.Spelled.{Spelled, ended, refused}
 use Rattle.snap_runs.specs.Plain.{ArePlainBlocks, IsPlainReport, spelled_for}
-use Rattle.snap_words.specs.Commands.{Command, check, command_of, compile, equal, trace}
+use Rattle.snap_words.specs.Commands.{Command, changes, check, command_of, compile, equal, plain, schedule, trace, demo}
+use Rattle.snap_demo.specs.Summary.{IsSummary}
 use Rattle.snap_cli.specs.declared.refusal.Refusal.{Refusal}
 use Rattle.snap_cli.specs.declared.refusal.Refusal.TheVariants.{Race, Differ}
 use Rattle.snap_cli.specs.Answers.{Answers}
+use Rattle.snap_cli.specs.Changes.{ChangesTo}
 use Rattle.snap_cli.specs.Check.{NeverRaces, Races}
 use Rattle.snap_cli.specs.Compile.{AreSpelled, IsCompiled}
 use Rattle.snap_cli.specs.Deserved.{Ends, IsText, Tells}
 use Rattle.snap_cli.specs.Equal.{AreComparable, Differs}
 use Rattle.snap_cli.specs.Obs.{IsRunEnding}
+use Rattle.snap_cli.specs.Place.{IsPlaced, IsPlacementOf}
 use Rattle.snap_cli.specs.ProgramOf.{ProgramOf}
 use Rattle.snap_cli.specs.Refusals.{Ending, status_of, message_of}
+use Rattle.snap_cli.specs.Schedule.{SchedulesTo}
 use Rattle.snap_cli.specs.TablesOf.{TablesOf}
 
 -- one program, wherever its parts lie in memory, or one refusal
@@ -130,6 +135,48 @@ TracesAs t hops read status old new =
 abbrev pub TracesExactly : Type 0
 TracesExactly = (words : List (List ℕ)) (files : Files) (tables packets : List ℕ) (hops : Bool) (t : Tables) (status : ℕ) (shelf_before shelf_now : List ℕ → ℕ)
     (out_before out_now : ℕ) (out_old out_new : Option (List ℕ)) (err_before err_now : ℕ) (err_old err_new : Option (List ℕ))
-    → command_of words ≡ Some (trace tables packets hops) → TablesOf (file_of files tables) (Ok t)
+    → command_of words ≡ Some (trace tables packets hops plain) → TablesOf (file_of files tables) (Ok t)
     → Answers words (Some files) status shelf_before shelf_now out_before out_now out_old out_new err_before err_now err_old err_new
     → IsFailure status ⊎ TracesAs t hops (spelled_for t (file_of files packets)) status out_old out_new
+
+-- **Where no device failed and memory was there, `trace` of tables that a file spells, in the order of a schedule, answers 0 just
+-- where all lines of the packets file are in form and all lines of the schedule can be done to an end, and has then written the
+-- report of exactly their events. It answers 13 just where a line of the schedule is the first that can't, and nothing has gone out.**
+abbrev pub SchedulesExactly : Type 0
+SchedulesExactly = (words : List (List ℕ)) (files : Files) (tables packets lines : List ℕ) (hops : Bool) (t : Tables) (status : ℕ) (shelf_before shelf_now : List ℕ → ℕ)
+    (out_before out_now : ℕ) (out_old out_new : Option (List ℕ)) (err_before err_now : ℕ) (err_old err_new : Option (List ℕ))
+    → command_of words ≡ Some (trace tables packets hops (schedule lines)) → TablesOf (file_of files tables) (Ok t)
+    → Answers words (Some files) status shelf_before shelf_now out_before out_now out_old out_new err_before err_now err_old err_new
+    → IsFailure status
+    ⊎ ((ending : Ending) × (text : List ℕ) × SchedulesTo t hops (file_of files packets) (file_of files lines) ending text
+    × IsExact ending text status out_old out_new err_before err_now err_old err_new)
+
+-- **Where no device failed and memory was there, `trace` of tables that a file spells, with the changes of a file, answers 0 just
+-- where the changes are in form, each names valid tables of the shape of the first, and all lines of the packets file are in form,
+-- and has then written the report of the run with these changes. Where the changes or their tables are refused nothing has gone
+-- out; at a line of packets that isn't in form the blocks of the packets before it have.**
+abbrev pub ChangesExactly : Type 0
+ChangesExactly = (words : List (List ℕ)) (files : Files) (tables packets lines : List ℕ) (hops : Bool) (t : Tables) (status : ℕ) (shelf_before shelf_now : List ℕ → ℕ)
+    (out_before out_now : ℕ) (out_old out_new : Option (List ℕ)) (err_before err_now : ℕ) (err_old err_new : Option (List ℕ))
+    → command_of words ≡ Some (trace tables packets hops (changes lines)) → TablesOf (file_of files tables) (Ok t)
+    → Answers words (Some files) status shelf_before shelf_now out_before out_now out_old out_new err_before err_now err_old err_new
+    → IsFailure status
+    ⊎ ((ending : Ending) × (text : List ℕ) × ChangesTo files t packets hops lines ending text
+    × IsExact ending text status out_old out_new err_before err_now err_old err_new)
+
+-- **Where no device failed and memory was there, `demo` answers 0, and has written the summary: the counts of one big switch
+-- over the stated program and packets.**
+abbrev pub DemosExactly : Type 0
+DemosExactly = (words : List (List ℕ)) (files : Files) (switches : ℕ) (status : ℕ) (shelf_before shelf_now : List ℕ → ℕ)
+    (out_before out_now : ℕ) (out_old out_new : Option (List ℕ)) (err_before err_now : ℕ) (err_old err_new : Option (List ℕ))
+    → command_of words ≡ Some (demo switches)
+    → Answers words (Some files) status shelf_before shelf_now out_before out_now out_old out_new err_before err_now err_old err_new
+    → IsFailure status ⊎ ((status ≡ 0) × ((text : List ℕ) × IsSummary switches text × Appends out_old out_new text))
+
+-- **Where what `place` writes stands in a file beside the same program and topology, `compile` reads it as the placement that it
+-- is: least in cost. A text of more than 1,048,576 bytes is too long for that, whatever it spells.**
+abbrev pub PlacementsAreSpelled : Type 0
+PlacementsAreSpelled = (files later : Files) (program topology demand placement text : List ℕ)
+    → IsPlaced files program topology demand text → length text ≤ 1048576
+    → file_of later program ≡ file_of files program → file_of later topology ≡ file_of files topology → file_of later placement ≡ text
+    → (p : Program) × (t : Topology) × (table : Table) × (made : IsPlacementOf p t table (file_of files demand) text) × AreSpelled later program topology placement p t made.best.owners

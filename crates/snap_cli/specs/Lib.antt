@@ -3,6 +3,7 @@ pub mod Causes
 pub mod Check
 pub mod Compile
 pub mod CompileSteps
+pub mod Demo
 pub mod Deps
 pub mod Deserved
 pub mod Equal
@@ -17,6 +18,10 @@ pub mod ProgramOf
 pub mod Refusals
 pub mod Routes
 pub mod RoutesSteps
+pub mod Schedule
+pub mod Changes
+pub mod RunSteps
+pub mod ChangesSteps
 pub mod Spots
 pub mod Steps
 pub mod TablesOf

@@ -8,7 +8,7 @@ use Rattle.snap_io.specs.Sinks.{AppendsSome}
 use Rattle.snap_trace.specs.declared.fault.TraceFault.TheVariants as run
 use Rattle.snap_trace.specs.OneSwitch.{AreBlocks, HasReport, IsReport, RunEnding}
 use Rattle.snap_cli.specs.declared.refusal.Refusal.{Refusal}
-use Rattle.snap_cli.specs.declared.refusal.Refusal.TheVariants.{Read, Write, Limit, Packets, NoMemory, Undefined}
+use Rattle.snap_cli.specs.declared.refusal.Refusal.TheVariants.{Read, ReadChange, Write, Limit, Packets, NoMemory, Undefined}
 use Rattle.snap_cli.specs.ProgramOf.{ProgramOf}
 use Rattle.snap_cli.specs.Refusals.{Ending}
 
@@ -55,6 +55,7 @@ MayPrecedeReadObs files program packets name text =
 -- blocks went out, or of the report.
 abbrev pub MeetsRun : Program → (packets file : List ℕ) → Ending → Option (List ℕ) → Option (List ℕ) → Type 0
 MeetsRun p packets file (Err (Read name)) old new = (name.now ≡ packets) × AppendsSome (AreBlocks p file) old new
+MeetsRun p packets file (Err (ReadChange name)) old new = ⊥
 MeetsRun p packets file (Err NoMemory) old new = AppendsSome (AreBlocks p file) old new
 MeetsRun p packets file (Err Write) old new = AppendsSome (AreBlocks p file) old new ⊎ AppendsSome (HasReport p file) old new
 MeetsRun p packets file ending old new = (text : List ℕ) × RunsTo p file ending text × Appends old new text

@@ -1,6 +1,5 @@
--- What `place` deserves on its files, and what its text is.
-use Rattle.std.specs.Prelude.{◌≡◌, ◌≢◌, ◌⊎◌, ◌==◌, ◌<◌, ◌≤◌, if◌then◌else◌, ℕ, List, [], ◌∷◌, length, slice_index, codes, decimal, Ok, Err}
-use Rattle.std.specs.List.{concat, flat_map, list_any, range_with_len}
+-- What `place` deserves on its files.
+use Rattle.std.specs.Prelude.{◌≡◌, ◌≢◌, ◌⊎◌, ◌<◌, ◌≤◌, ℕ, List, [], length, Ok, Err}
 use Rattle.snap_core.specs.declared.program.Program.{Program}
 use Rattle.snap_core.specs.declared.program.Which.TheVariants.{Bytes}
 use Rattle.snap_dep.specs.Ranks.{Grouping, IsGrouping}
@@ -8,6 +7,7 @@ use Rattle.snap_io.specs.Files.{Files, file_of}
 use Rattle.snap_topo.specs.declared.topology.Topology.{Topology}
 use Rattle.snap_topo.specs.Form.{IsInForm}
 use Rattle.snap_route.specs.Tables.{AreRoutes, Table}
+use Rattle.snap_place.specs.Printed.{placement_text}
 use Rattle.snap_seek.specs.declared.best.Best.{Best}
 use Rattle.snap_seek.specs.declared.demand.Demand.{Demand}
 use Rattle.snap_seek.specs.declared.demand.DemandFault.{DemandFault}
@@ -18,28 +18,9 @@ use Rattle.snap_cli.specs.declared.refusal.NoDemand.TheVariants.{NotToml, Shape,
 use Rattle.snap_cli.specs.declared.refusal.Refusal.{Refusal}
 use Rattle.snap_cli.specs.declared.refusal.Refusal.TheVariants as refused
 use Rattle.snap_cli.specs.ProgramOf.{ProgramOf}
-use Rattle.snap_cli.specs.Refusals.{Ending, name_at}
+use Rattle.snap_cli.specs.Refusals.{Ending}
 use Rattle.snap_cli.specs.Routes.{HasNoRoutes}
 use Rattle.snap_cli.specs.TopologyOf.{TopologyOf}
-
--- an array's name as a key: in quotes where it has a dot
-abbrev pub key_text : List ℕ → List ℕ
-key_text name = if list_any (λ b. b == 46) name then concat (codes "\"" ∷ name ∷ codes "\"" ∷ []) else name
-
--- `NAME = "SWITCH"`, for an array and a switch with these numbers
-abbrev pub place_line : (arrays switches : List (List ℕ)) → (array owner : ℕ) → List ℕ
-place_line arrays switches array owner = concat (key_text (name_at arrays array) ∷ codes " = \"" ∷ name_at switches owner ∷ codes "\"\n" ∷ [])
-
-abbrev pub owner_line : (arrays switches : List (List ℕ)) → (owners : List ℕ) → (array : ℕ) → List ℕ
-owner_line arrays switches owners array = place_line arrays switches array (slice_index owners array)
-
--- `# cost N`
-abbrev pub cost_line : ℕ → List ℕ
-cost_line cost = concat (codes "# cost " ∷ decimal cost ∷ codes "\n" ∷ [])
-
--- the cost, and a line for each array in the order of their numbers
-abbrev pub placement_text : (arrays switches : List (List ℕ)) → Best → List ℕ
-placement_text arrays switches best = concat (cost_line best.cost ∷ flat_map (owner_line arrays switches best.owners) (range_with_len 0 (length arrays)) ∷ [])
 
 -- The text of the placement of least cost, for a topology in form and the demand that a file of at most 1,048,576 bytes spells.
 pub record IsPlacementOf (p : Program) (t : Topology) (table : Table) (file text : List ℕ) : Type 0 where
@@ -51,7 +32,7 @@ pub record IsPlacementOf (p : Program) (t : Topology) (table : Table) (file text
   pub spells : IsAnswer p grouping t file (Ok demand)
   pub best : Best
   pub is_best : IsBestOf grouping t table demand best
-  pub is : text ≡ placement_text p.vars t.switches best
+  pub is : text ≡ placement_text p.vars t.switches best.owners best.cost
 
 -- the refusal of a text that spells no demand of a program with these arrays
 abbrev pub refusal_of_demand : List (List ℕ) → DemandFault → Refusal

@@ -6,13 +6,14 @@ use Rattle.snap_dep.specs.Ranks.{Grouping, IsGrouping}
 use Rattle.snap_io.specs.Files.{Files}
 use Rattle.snap_topo.specs.declared.topology.Topology.{Topology}
 use Rattle.snap_topo.specs.Form.{IsInForm}
-use Rattle.snap_route.specs.Tables.{AreRoutes, Table}
+use Rattle.snap_route.specs.Tables.{Table}
+use Rattle.snap_place.specs.Printed.{placement_text}
 use Rattle.snap_seek.specs.declared.best.Best.{Best}
 use Rattle.snap_seek.specs.declared.demand.Demand.{Demand}
 use Rattle.snap_seek.specs.Answer.{IsAnswer}
 use Rattle.snap_seek.specs.Placements.{IsBestOf}
 use Rattle.snap_cli.specs.declared.refusal.Refusal.{Refusal}
-use Rattle.snap_cli.specs.Place.{HasNoDemand, HasNoPlacement, HasNoPlacementOn, IsOneOf, IsPlaced, IsPlacedOn, IsPlacementOf, SpellsNoDemand, placement_text}
+use Rattle.snap_cli.specs.Place.{HasNoDemand, HasNoPlacement, HasNoPlacementOn, IsOneOf, IsPlaced, IsPlacedOn, IsPlacementOf, SpellsNoDemand}
 use Rattle.snap_cli.specs.Texts.{RefusesBy}
 
 -- the text of the best placement, for the demand that a text spells
@@ -24,7 +25,7 @@ pub record IsPlacement (p : Program) (t : Topology) (table : Table) (text made :
   pub spells : IsAnswer p grouping t text (Ok demand)
   pub best : Best
   pub is_best : IsBestOf grouping t table demand best
-  pub is : made ≡ placement_text p.vars t.switches best
+  pub is : made ≡ placement_text p.vars t.switches best.owners best.cost
 
 abbrev pub Places : Program → Topology → Table → (text : List ℕ) → Result (Vec ℕ Global) Refusal → Type 0
 Places p t table text (Ok made) = IsPlacement p t table text made.items

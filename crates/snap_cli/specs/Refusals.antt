@@ -6,7 +6,7 @@ use Rattle.snap_core.specs.declared.program.Which.TheVariants as which
 use Rattle.snap_rows.specs.declared.tables.Rule.{Rule}
 use Rattle.snap_rows.specs.declared.tables.Rule.TheVariants as rule
 use Rattle.snap_cli.specs.declared.refusal.Refusal.{Refusal}
-use Rattle.snap_cli.specs.declared.refusal.Refusal.TheVariants.{Usage, Read, Write, Syntax, Naming, Limit, Topology, Unreachable, Race, Packets, NoMemory, Undefined, Declarations, Differ, Demand, Placement, Tables}
+use Rattle.snap_cli.specs.declared.refusal.Refusal.TheVariants.{Usage, Read, Write, Syntax, Naming, Limit, Topology, Unreachable, Race, Packets, NoMemory, Undefined, Declarations, Differ, Demand, Placement, Tables, Schedule, Changes, ReadChange}
 use Rattle.snap_cli.specs.declared.refusal.SyntaxFault.{SyntaxFault}
 use Rattle.snap_cli.specs.declared.refusal.SyntaxFault.TheVariants.{BadByte, BadNumber, UnexpectedToken, TooDeep}
 use Rattle.snap_cli.specs.declared.refusal.NamingFault.{NamingFault}
@@ -44,6 +44,9 @@ status_of (Err (Differ text)) = 18
 status_of (Err (Demand fault)) = 19
 status_of (Err (Placement fault)) = 9
 status_of (Err (Tables fault)) = 11
+status_of (Err (Schedule line)) = 13
+status_of (Err (Changes line)) = 20
+status_of (Err (ReadChange name)) = 2
 
 abbrev pub which_text : Which → List ℕ
 which_text which.Bytes = codes "bytes"
@@ -163,3 +166,6 @@ message_of (Err (Undefined packet)) = message_with (codes "undefined: packet") p
 message_of (Err (Demand fault)) = message_of_demand fault
 message_of (Err (Placement fault)) = message_of_placement fault
 message_of (Err (Tables fault)) = message_of_tables fault
+message_of (Err (Schedule line)) = message_with (codes "schedule: line") line
+message_of (Err (Changes line)) = message_with (codes "changes: line") line
+message_of (Err (ReadChange name)) = message_of_read name

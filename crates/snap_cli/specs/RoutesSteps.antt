@@ -19,6 +19,7 @@ use Rattle.snap_cli.specs.TopologyOf.{TopologyOf}
 -- the topology that the file with this name spells, or why it spells none, or that it can't be read, or memory was short
 abbrev pub GivesTopology : (name file : List ℕ) → Result Topology Refusal → Type 0
 GivesTopology name file (Err (refused.Read failed)) = failed.now ≡ name
+GivesTopology name file (Err (refused.ReadChange failed)) = failed ≡ name
 GivesTopology name file (Err refused.NoMemory) = Unit {0}
 GivesTopology name file result = TopologyOf file result
 

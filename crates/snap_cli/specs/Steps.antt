@@ -14,7 +14,7 @@ use Rattle.snap_trace.specs.declared.fault.TraceFault.{TraceFault}
 use Rattle.snap_trace.specs.declared.fault.TraceFault.TheVariants as run
 use Rattle.snap_cli.specs.Spots.{spot_of}
 use Rattle.snap_cli.specs.declared.refusal.Refusal.{Refusal}
-use Rattle.snap_cli.specs.declared.refusal.Refusal.TheVariants.{Read, Write, Syntax, Naming, Limit, Packets, NoMemory, Undefined}
+use Rattle.snap_cli.specs.declared.refusal.Refusal.TheVariants.{Read, ReadChange, Write, Syntax, Naming, Limit, Packets, NoMemory, Undefined}
 use Rattle.snap_cli.specs.ProgramOf.{ProgramOf}
 
 -- the program that a text spells, or why it spells none, or memory was short
@@ -25,6 +25,7 @@ SpellsProgram text result = ProgramOf text result
 -- the same of the file with this name, or it can't be read
 abbrev pub GivesProgram : (name file : List ℕ) → Result Program Refusal → Type 0
 GivesProgram name file (Err (Read failed)) = failed.now ≡ name
+GivesProgram name file (Err (ReadChange failed)) = failed ≡ name
 GivesProgram name file result = SpellsProgram file result
 
 -- the refusal of a text that spells no tokens

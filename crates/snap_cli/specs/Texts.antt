@@ -3,11 +3,12 @@ use Rattle.std.specs.Prelude.{◌≡◌, ◌+◌, ◌<◌, ◌≤◌, ℕ, List,
 use Rattle.std.specs.declared.alloc.Global.{Global}
 use Rattle.snap_core.specs.declared.program.Which.TheVariants.{Bytes}
 use Rattle.snap_cli.specs.declared.refusal.Refusal.{Refusal}
-use Rattle.snap_cli.specs.declared.refusal.Refusal.TheVariants.{Read, Limit, NoMemory}
+use Rattle.snap_cli.specs.declared.refusal.Refusal.TheVariants.{Read, ReadChange, Limit, NoMemory}
 
 -- a file of those with `reads` can't be read, or memory was short, or the refusal is one of `why`
 abbrev pub RefusesBy : (reads : List ℕ → Type 0) → (why : Refusal → Type 0) → Refusal → Type 0
 RefusesBy reads why (Read failed) = reads failed.now
+RefusesBy reads why (ReadChange failed) = reads failed
 RefusesBy reads why NoMemory = Unit {0}
 RefusesBy reads why refusal = why refusal
 

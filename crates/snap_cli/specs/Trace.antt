@@ -4,37 +4,67 @@ use Rattle.snap_io.specs.Files.{Files, file_of}
 use Rattle.snap_rows.specs.declared.tables.Tables.{Tables}
 use Rattle.snap_trace.specs.OneSwitch.{RunEnding}
 use Rattle.snap_runs.specs.Plain.{AreTraceBlocks, HasTrace, IsTrace}
+use Rattle.snap_runs.specs.Schedules.{IsReadWhole}
+use Rattle.snap_words.specs.Commands.{Order, plain, schedule, changes}
 use Rattle.snap_cli.specs.declared.refusal.Refusal.{Refusal}
+use Rattle.snap_cli.specs.Changes.{AreBlocksOfChanges, ChangesTo, IsChangesFile, IsChangesText}
 use Rattle.snap_cli.specs.Obs.{IsRunEnding}
 use Rattle.snap_cli.specs.Refusals.{Ending}
+use Rattle.snap_cli.specs.Schedule.{SchedulesTo}
 use Rattle.snap_cli.specs.TablesOf.{TablesOf}
 
--- how the run of the network with these tables over a file ends, and its report
+-- ---- runs of tables
+-- how the plain run of the network with these tables over a file ends, and its report
 abbrev pub TracesTo : Tables → (hops : Bool) → (file : List ℕ) → Ending → List ℕ → Type 0
 TracesTo t hops file ending text = (run : RunEnding) × IsTrace t hops file run text × IsRunEnding run ending
 
+-- the same of a run in this order
+abbrev pub NetworkRunsTo : Files → Tables → (packets : List ℕ) → (hops : Bool) → Order → Ending → List ℕ → Type 0
+NetworkRunsTo files t packets hops plain ending text = TracesTo t hops (file_of files packets) ending text
+NetworkRunsTo files t packets hops (schedule lines) ending text = SchedulesTo t hops (file_of files packets) (file_of files lines) ending text
+NetworkRunsTo files t packets hops (changes lines) ending text = ChangesTo files t packets hops lines ending text
+
+-- its report
+abbrev pub IsRunText : Files → Tables → (packets : List ℕ) → (hops : Bool) → Order → List ℕ → Type 0
+IsRunText files t packets hops plain text = HasTrace t hops (file_of files packets) text
+IsRunText files t packets hops (schedule lines) text = (ending : Ending) × SchedulesTo t hops (file_of files packets) (file_of files lines) ending text
+IsRunText files t packets hops (changes lines) text = IsChangesText files t packets hops lines text
+
+-- what may have gone out before it ends: some first blocks, where packets run one after another
+abbrev pub MayPrecedeRun : Files → Tables → (packets : List ℕ) → (hops : Bool) → Order → List ℕ → Type 0
+MayPrecedeRun files t packets hops plain text = AreTraceBlocks t hops (file_of files packets) text
+MayPrecedeRun files t packets hops (schedule lines) text = text ≡ []
+MayPrecedeRun files t packets hops (changes lines) text = (text ≡ []) ⊎ AreBlocksOfChanges files t packets hops lines text
+
+-- what may have gone out where the run can't read the file with this name: the packets, the schedule once these are read, or a
+-- file of the changes before any packet
+abbrev pub MayPrecedeReadRun : Files → Tables → (packets : List ℕ) → (hops : Bool) → Order → (name : List ℕ) → List ℕ → Type 0
+MayPrecedeReadRun files t packets hops plain name text = (name ≡ packets) × AreTraceBlocks t hops (file_of files packets) text
+MayPrecedeReadRun files t packets hops (schedule lines) name text = ((name ≡ packets) ⊎ ((name ≡ lines) × IsReadWhole t (file_of files packets))) × (text ≡ [])
+MayPrecedeReadRun files t packets hops (changes lines) name text =
+    (IsChangesFile files lines name × (text ≡ [])) ⊎ ((name ≡ packets) × AreBlocksOfChanges files t packets hops lines text)
+
+-- ---- the command
 -- how the command ends where no device fails and memory is there
-abbrev pub EndsTrace : Files → (tables packets : List ℕ) → (hops : Bool) → Ending → Type 0
-EndsTrace files tables packets hops ending =
+abbrev pub EndsTrace : Files → (tables packets : List ℕ) → (hops : Bool) → Order → Ending → Type 0
+EndsTrace files tables packets hops order ending =
     ((refusal : Refusal) × TablesOf (file_of files tables) (Err refusal) × (ending ≡ Err refusal))
-    ⊎ ((t : Tables) × TablesOf (file_of files tables) (Ok t) × ((text : List ℕ) × TracesTo t hops (file_of files packets) ending text))
+    ⊎ ((t : Tables) × TablesOf (file_of files tables) (Ok t) × ((text : List ℕ) × NetworkRunsTo files t packets hops order ending text))
 
 -- the text that has gone out then: nothing before the tables are read, and the report of the network
-abbrev pub IsTraceText : Files → (tables packets : List ℕ) → (hops : Bool) → List ℕ → Type 0
-IsTraceText files tables packets hops text =
+abbrev pub IsTraceText : Files → (tables packets : List ℕ) → (hops : Bool) → Order → List ℕ → Type 0
+IsTraceText files tables packets hops order text =
     ((refusal : Refusal) × TablesOf (file_of files tables) (Err refusal) × (text ≡ []))
-    ⊎ ((t : Tables) × TablesOf (file_of files tables) (Ok t) × HasTrace t hops (file_of files packets) text)
-
--- the blocks of tables that were read, before the packets are all read
-abbrev pub AreTracedBlocks : Files → (tables packets : List ℕ) → (hops : Bool) → List ℕ → Type 0
-AreTracedBlocks files tables packets hops text = (t : Tables) × TablesOf (file_of files tables) (Ok t) × AreTraceBlocks t hops (file_of files packets) text
+    ⊎ ((t : Tables) × TablesOf (file_of files tables) (Ok t) × IsRunText files t packets hops order text)
 
 -- of this text some first bytes may have gone out where memory is short
-abbrev pub MayPrecedeTrace : Files → (tables packets : List ℕ) → (hops : Bool) → List ℕ → Type 0
-MayPrecedeTrace files tables packets hops text = (text ≡ []) ⊎ AreTracedBlocks files tables packets hops text
+abbrev pub MayPrecedeTrace : Files → (tables packets : List ℕ) → (hops : Bool) → Order → List ℕ → Type 0
+MayPrecedeTrace files tables packets hops order text =
+    (text ≡ []) ⊎ ((t : Tables) × TablesOf (file_of files tables) (Ok t) × MayPrecedeRun files t packets hops order text)
 
 -- of this text some first bytes may have gone out where the file with this name can't be read: nothing before the tables
--- are read, and blocks before the packets are
-abbrev pub MayPrecedeReadTrace : Files → (tables packets : List ℕ) → (hops : Bool) → (name : List ℕ) → List ℕ → Type 0
-MayPrecedeReadTrace files tables packets hops name text =
-    ((name ≡ tables) × (text ≡ [])) ⊎ ((name ≡ packets) × AreTracedBlocks files tables packets hops text)
+-- are read, and then what may precede the end of their run
+abbrev pub MayPrecedeReadTrace : Files → (tables packets : List ℕ) → (hops : Bool) → Order → (name : List ℕ) → List ℕ → Type 0
+MayPrecedeReadTrace files tables packets hops order name text =
+    ((name ≡ tables) × (text ≡ []))
+    ⊎ ((t : Tables) × TablesOf (file_of files tables) (Ok t) × MayPrecedeReadRun files t packets hops order name text)

@@ -1,9 +1,13 @@
 //! The headline: what is compiled and then traced is what one big switch does.
 
-ghost use Rattle.snap_cli.specs.Headline.{TracesAsOneSwitch, TracesInFewHops};
+ghost use Rattle.snap_cli.specs.Headline.{ChangesTraceAsOneSwitch, SchedulesInFewHops, SchedulesTraceAsOneSwitch, TracesAsOneSwitch, TracesInFewHops};
 
-use crate::laws::{answers_exactly, compiles_exactly, traces_exactly};
-use snap_runs::laws::{hops_are_added, spelled_packets_fit};
+use crate::laws::{
+    answers_exactly, changes_exactly, compiles_exactly, schedules_exactly, spells_one_program,
+    traces_exactly,
+};
+use snap_move::laws::{changed_runs_report_one_switch, said_changes_rise};
+use snap_runs::laws::{calm_schedules_run_calmly, hops_are_added, spelled_packets_fit};
 use snap_whole::laws::{calm_runs_report_one_switch, runs_are_short};
 
 /// **A call of `compile` answered 0, and a call of `trace` with its output as the file of tables answered 0. Then what the
@@ -22,4 +26,34 @@ pub fn traces_as_one_switch()
     hops_are_added();
     calm_runs_report_one_switch();
     runs_are_short();
+}
+
+/// **So it is with `trace --schedule`, where the schedule is calm:** each packet is injected when no copy is in flight. And
+/// whatever the schedule orders, no copy makes more than (groups + 1) times the greatest distance hops.
+pub fn schedules_trace_as_one_switch()
+    ensures report { SchedulesTraceAsOneSwitch }
+    ensures hops { SchedulesInFewHops }
+{
+    answers_exactly();
+    compiles_exactly();
+    schedules_exactly();
+    spelled_packets_fit();
+    calm_schedules_run_calmly();
+    calm_runs_report_one_switch();
+    runs_are_short();
+}
+
+/// **So it is with `trace --changes`, where the first file of tables and those that the changes name are what calls of
+/// `compile` wrote for one and the same program file,** each for its own topology and placement: what it wrote is what one
+/// big switch does over all packets, each at the ports of the tables that are in force when it comes in.
+pub fn changes_trace_as_one_switch()
+    ensures { ChangesTraceAsOneSwitch }
+{
+    spells_one_program();
+    answers_exactly();
+    compiles_exactly();
+    changes_exactly();
+    spelled_packets_fit();
+    said_changes_rise();
+    changed_runs_report_one_switch();
 }

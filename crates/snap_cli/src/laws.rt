@@ -1,13 +1,15 @@
 //! Laws of what words and files deserve, each the contract of a call that does nothing but name the laws below it.
 
-ghost use Rattle.snap_cli.specs.Laws.{AnswersExactly, ChecksExactly, CompilesExactly, DeservesOneEnding, DeservesOneText, EqualsExactly, SpellsOneProgram, TracesExactly};
+ghost use Rattle.snap_cli.specs.Laws.{AnswersExactly, ChangesExactly, ChecksExactly, CompilesExactly, DemosExactly, DeservesOneEnding, DeservesOneText, EqualsExactly, PlacementsAreSpelled, SchedulesExactly, SpellsOneProgram, TracesExactly};
 
 use crate::deps::has_one_text;
 use snap_core::laws::has_one_listing;
 use snap_dep::laws::{has_one_rank, tied_is_equivalence};
 use snap_lex::laws::finds_once;
+use snap_move::laws::changed_reports_are_one;
 use snap_parse::laws::yields_once;
-use snap_runs::laws::plain_reports_are_one;
+use snap_place::laws::printed_is_read;
+use snap_runs::laws::{plain_reports_are_one, schedules_run_one_way};
 use snap_tables::laws::texts_are_read_one_way;
 
 /// A text spells one program at most, or is refused for one reason at one place, and not both.
@@ -31,6 +33,8 @@ pub fn deserves_once()
     has_one_rank();
     texts_are_read_one_way();
     plain_reports_are_one();
+    schedules_run_one_way();
+    changed_reports_are_one();
 }
 
 /// Where no device failed and memory was there, a call's status, output and message are those of the one ending that
@@ -76,4 +80,41 @@ pub fn traces_exactly()
 {
     texts_are_read_one_way();
     answers_exactly();
+}
+
+/// Where no device failed and memory was there, `trace` of tables that a file spells, in the order of a schedule, answers 0
+/// just where all lines of the packets file are in form and all lines of the schedule can be done to an end, with the report
+/// of exactly their events written. Else nothing is written, and it answers 13 where a line of the schedule is the first
+/// that can't be done, or the schedule ends too early.
+pub fn schedules_exactly()
+    ensures { SchedulesExactly }
+{
+    texts_are_read_one_way();
+    answers_exactly();
+}
+
+/// Where no device failed and memory was there, `trace` of tables that a file spells, with the changes of a file, answers 0
+/// just where the changes are in form, each names valid tables of the shape of the first, and all lines of the packets
+/// file are in form, and has then written the report of the run with these changes. Where the changes or their tables
+/// are refused nothing has gone out; at a line of packets that isn't in form the blocks of the packets before it have.
+pub fn changes_exactly()
+    ensures { ChangesExactly }
+{
+    texts_are_read_one_way();
+    answers_exactly();
+}
+
+/// Where no device failed and memory was there, `demo` answers 0 with the summary written.
+pub fn demos_exactly()
+    ensures { DemosExactly }
+{
+    answers_exactly();
+}
+
+/// Where what `place` writes for a program, a topology and a demand stands in a file beside the same program and topology,
+/// `compile` reads it as that placement, if it is no longer than a placement's file may be.
+pub fn placements_are_spelled()
+    ensures { PlacementsAreSpelled }
+{
+    printed_is_read();
 }

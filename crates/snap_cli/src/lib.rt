@@ -1,8 +1,10 @@
 //! All that the program does, over any shelf and sinks.
 #![tactic(auto)]
 
+mod changes;
 pub mod check;
 pub mod compile;
+pub mod demo;
 pub mod deps;
 mod diagram;
 pub mod equal;
@@ -15,6 +17,7 @@ pub mod place;
 pub mod program;
 pub mod refusal;
 pub mod routes;
+mod schedule;
 pub mod spot;
 pub mod tables;
 #[cfg(test)]

@@ -1,32 +1,32 @@
 //! The command `place`: a placement of least cost.
 
-ghost use Rattle.std.specs.Prelude.{◌≡◌, ◌≢◌, ◌≤◌, ◌++◌, ◌==◌, ℕ, List, Err, IfOk, IfSome, IsErrOf, OnOk, length};
-ghost use Rattle.std.specs.List.{flat_map, list_any, range_with_len};
+ghost use Rattle.std.specs.Prelude.{◌≡◌, ℕ, List, IfOk, IfSome, IsErrOf, length};
 ghost use Rattle.snap_core.specs.Programs.{IsInForm};
 ghost use Rattle.snap_dep.specs.Ranks.{IsGrouping};
 ghost use Rattle.snap_io.specs.Causes.{NoneFell, Rose};
 ghost use Rattle.snap_io.specs.Files.{file_of};
 ghost use Rattle.snap_topo.specs.Form.{IsInForm as IsTopology};
 ghost use Rattle.snap_route.specs.Tables.{AreRoutes};
+ghost use Rattle.snap_place.specs.Printed.{placement_text};
 ghost use Rattle.snap_seek.specs.Placements.{IsBestOf, IsDemand};
 ghost use Rattle.snap_seek.specs.declared.best.Best.{Best};
 ghost use Rattle.snap_words.specs.Commands.{place};
 ghost use Rattle.snap_cli.specs.Causes.{HasCauses, IsRead, IsReadOf};
 ghost use Rattle.snap_cli.specs.Deserved.{Meets};
-ghost use Rattle.snap_cli.specs.Place.{cost_line, key_text, owner_line, place_line, placement_text, refusal_of_demand};
+ghost use Rattle.snap_cli.specs.Place.{refusal_of_demand};
 ghost use Rattle.snap_cli.specs.PlaceSteps.{GivesPlacement, Places, PlacesFor, PlacesOn};
 
 use crate::network::{Network, load_network};
 use crate::program::load_program;
-use crate::refusal::{NoDemand, Refusal, name_at};
+use crate::refusal::{NoDemand, Refusal};
 use crate::text::load_text;
-use itoa::Buffer;
 use snap_core::NoMemory;
 use snap_core::lists::Names;
 use snap_core::program::Program;
 use snap_dep::calls::groups;
 use snap_dep::groups::Groups;
 use snap_io::{Shelf, Sink, write_whole};
+use snap_place::print;
 use snap_seek::demand::{Demand, DemandFault};
 use snap_seek::{read_demand, seek};
 use std::alloc::Global;
@@ -170,85 +170,18 @@ fn best_text(
     network: &Network,
     demand: &Demand,
 ) -> Result<Vec<u8>, NoMemory>
-    requires few { length program.now.vars ≤ 64 }
     requires groups { IsGrouping program.now.body (length program.now.vars) groups.now }
     requires topology { IsTopology network.now.topology }
     requires routes { AreRoutes network.now.topology network.now.routes }
     requires demand { IsDemand groups.now network.now.topology demand.now }
-    ensures { IfOk result (λ text. (best : Best) × IsBestOf groups.now network.now.topology network.now.routes demand.now best × (text.items ≡ placement_text program.now.vars network.now.topology.switches best)) }
+    ensures { IfOk result (λ text. (best : Best) × IsBestOf groups.now network.now.topology network.now.routes demand.now best × (text.items ≡ placement_text program.now.vars network.now.topology.switches best.owners best.cost)) }
 {
     let best = seek(alloc, groups, &network.topology, &network.routes, demand)?;
-    let mut text = Vec::new(alloc);
-    put_cost(&mut text, best.cost)?;
-    put_places(
-        &mut text,
+    print(
+        alloc,
         &program.vars,
         &network.topology.switches,
         best.owners.items(),
-    )?;
-    Ok(text)
-}
-
-// Puts the line of the cost.
-fn put_cost(text: &mut Vec<u8>, cost: u64) -> Result<(), NoMemory>
-    ensures { OnOk result (text.new.items ≡ text.old.items ++ cost_line cost) }
-{
-    let mut digits = Buffer::new();
-    text.extend_from_slice(b"# cost ")?;
-    text.extend_from_slice(digits.format(cost).as_bytes())?;
-    text.push(b'\n')?;
-    Ok(())
-}
-
-// Puts a line for each array.
-fn put_places(
-    text: &mut Vec<u8>,
-    arrays: &Names,
-    switches: &Names,
-    owners: &[u16],
-) -> Result<(), NoMemory>
-    requires { length owners.now ≤ 64 }
-    ensures { OnOk result (text.new.items ≡ text.old.items ++ flat_map (owner_line arrays.now switches.now owners.now) (range_with_len 0 (length owners.now))) }
-{
-    for array in 0..owners.len() {
-        put_place(text, arrays, switches, array as u16, owners[array])?;
-    }
-    Ok(())
-}
-
-// Puts the line of an array and its switch.
-fn put_place(
-    text: &mut Vec<u8>,
-    arrays: &Names,
-    switches: &Names,
-    array: u16,
-    owner: u16,
-) -> Result<(), NoMemory>
-    ensures { OnOk result (text.new.items ≡ text.old.items ++ place_line arrays.now switches.now array owner) }
-{
-    put_key(text, name_at(arrays, array))?;
-    text.extend_from_slice(b" = \"")?;
-    text.extend_from_slice(name_at(switches, owner))?;
-    text.extend_from_slice(b"\"\n")?;
-    Ok(())
-}
-
-// Puts a name as a key.
-fn put_key(text: &mut Vec<u8>, name: &[u8]) -> Result<(), NoMemory>
-    ensures { OnOk result (text.new.items ≡ text.old.items ++ key_text name.now) }
-{
-    if !has_dot(name) {
-        text.extend_from_slice(name)?;
-        return Ok(());
-    }
-    text.push(b'"')?;
-    text.extend_from_slice(name)?;
-    text.push(b'"')?;
-    Ok(())
-}
-
-fn has_dot(name: &[u8]) -> bool
-    ensures { result ≡ list_any (λ b. b == 46) name.now }
-{
-    name.contains(&b'.')
+        best.cost,
+    )
 }

@@ -158,6 +158,15 @@ pub enum Refusal<'a> {
 
     /// The file spells no valid tables.
     Tables { fault: NoTables },
+
+    /// This file, which a changes file names, can't be read.
+    ReadChange { name: Name },
+
+    /// This line of the changes isn't in form, or its tables have another shape than the first.
+    Changes { line: u64 },
+
+    /// This line of the schedule isn't in form or can't be done, or the schedule ends before it too early.
+    Schedule { line: u64 },
 }
 
 fn which_text(which: Which) -> &'static [u8]
@@ -422,6 +431,9 @@ impl Refusal<'_> {
             Refusal::Race { .. } => 10,
             Refusal::Tables { .. } => 11,
             Refusal::Packets { .. } => 12,
+            Refusal::ReadChange { .. } => 2,
+            Refusal::Schedule { .. } => 13,
+            Refusal::Changes { .. } => 20,
             Refusal::NoMemory => 14,
             Refusal::Undefined { .. } => 15,
             Refusal::Declarations => 17,
@@ -454,6 +466,9 @@ impl Refusal<'_> {
             Refusal::Demand { fault } => tell_demand(err, fault),
             Refusal::Placement { fault } => tell_placement(err, fault),
             Refusal::Tables { fault } => tell_tables(err, *fault),
+            Refusal::Schedule { line } => tell_number(err, b"schedule: line", *line),
+            Refusal::Changes { line } => tell_number(err, b"changes: line", *line),
+            Refusal::ReadChange { name } => tell_read(err, name.bytes()),
         }
     }
 }

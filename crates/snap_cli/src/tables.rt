@@ -37,7 +37,7 @@ pub(crate) fn load_tables<'a, S: Shelf>(
 }
 
 // The valid tables that a text spells.
-fn read_tables<'a>(alloc: Global, text: &[u8]) -> Result<Valid, Refusal<'a>>
+pub(crate) fn read_tables<'a>(alloc: Global, text: &[u8]) -> Result<Valid, Refusal<'a>>
     ensures reads { ReadsTables text.now result }
     ensures not_read { IsRead result → ⊥ }
     ensures not_write { IsErrOf result Refusal.Write → ⊥ }

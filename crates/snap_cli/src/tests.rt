@@ -2,6 +2,7 @@ mod built;
 mod calls;
 mod check;
 mod compile;
+mod demo;
 mod deps;
 mod obs;
 mod routes;

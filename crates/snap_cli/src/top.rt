@@ -9,7 +9,7 @@ ghost use Rattle.snap_cli.specs.Answers.{Answers, MeetsWords};
 ghost use Rattle.snap_cli.specs.Causes.{HasCauses};
 
 use crate::refusal::Refusal;
-use crate::{check, compile, deps, equal, obs, place, routes, trace};
+use crate::{check, compile, demo, deps, equal, obs, place, routes, trace};
 use snap_io::{Shelf, Sink};
 use snap_words::calls::command;
 use snap_words::command::Command;
@@ -86,8 +86,10 @@ fn run<'a, S: Shelf, O: Sink>(
                 tables,
                 packets,
                 hops,
+                order,
             },
-        ) => trace::report(alloc, tables, packets, hops, shelf, out),
+        ) => trace::report(alloc, tables, packets, hops, order, shelf, out),
+        Ok(Command::Demo { switches }) => demo::report(alloc, switches, out),
         Err(WordsFault::Usage) => Err(Refusal::Usage),
         Err(WordsFault::NoMemory) => Err(Refusal::NoMemory),
     }

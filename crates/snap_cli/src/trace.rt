@@ -2,41 +2,70 @@
 
 ghost use Rattle.std.specs.Prelude.{◌≡◌, ◌≤◌, IfSome, IsErrOf};
 ghost use Rattle.snap_words.specs.Commands.{trace};
+ghost use Rattle.snap_words.specs.Said.{shown_order};
 ghost use Rattle.snap_io.specs.Files.{file_of};
 ghost use Rattle.snap_cli.specs.Causes.{HasCauses};
 ghost use Rattle.snap_cli.specs.Deserved.{Meets};
-ghost use Rattle.snap_cli.specs.TraceSteps.{MeetsTrace};
+ghost use Rattle.snap_cli.specs.TraceSteps.{MeetsOrder, MeetsTrace};
 
+use crate::changes::report_changed;
 use crate::obs::refusal_of_run;
 use crate::refusal::Refusal;
+use crate::schedule::report_scheduled;
 use crate::tables::load_tables;
 use snap_io::{Shelf, Sink};
 use snap_rows::valid::Valid;
 use snap_runs::trace::trace;
+use snap_words::command::Order;
 use std::alloc::Global;
 
-/// Writes the report of the network: the tables over the packets file, each packet on its own. With `hops` a line tells
-/// each link that a copy crosses.
+/// Writes the report of the network: the tables over the packets file, in this order. With `hops` a line tells each link
+/// that a copy crosses.
 pub(crate) fn report<'a, S: Shelf, O: Sink>(
     alloc: Global,
     tables: &'a [u8],
     packets: &'a [u8],
     hops: bool,
+    order: Order<'a>,
     shelf: &mut S,
     out: &mut O,
 ) -> Result<(), Refusal<'a>>
     ensures meets { IfSome (S.files shelf.old) (λ files.
-        Meets files (trace tables.entry.now packets.entry.now hops) result (O.taken out.old) (O.taken out.new)) }
+        Meets files (trace tables.entry.now packets.entry.now hops (shown_order order.entry)) result (O.taken out.old) (O.taken out.new)) }
     ensures causes { HasCauses (S.faults shelf.old) (S.faults shelf.new) (O.faults out.old) (O.faults out.new) result }
     ensures not_usage { IsErrOf result Refusal.Usage → ⊥ }
 {
     match load_tables(alloc, shelf, tables) {
-        Ok(tables) => report_of(alloc, tables, packets, hops, shelf, out),
+        Ok(tables) => report_in_order(alloc, tables, packets, hops, order, shelf, out),
         Err(refusal) => Err(refusal),
     }
 }
 
-// Writes the report of tables that were read.
+// Writes the report of tables that were read, in this order.
+fn report_in_order<'a, S: Shelf, O: Sink>(
+    alloc: Global,
+    tables: Valid,
+    packets: &'a [u8],
+    hops: bool,
+    order: Order<'a>,
+    shelf: &mut S,
+    out: &mut O,
+) -> Result<(), Refusal<'a>>
+    ensures meets { IfSome (S.files shelf.old) (λ files.
+        MeetsOrder files tables hops packets.entry order.entry result (O.taken out.old) (O.taken out.new)) }
+    ensures causes { HasCauses (S.faults shelf.old) (S.faults shelf.new) (O.faults out.old) (O.faults out.new) result }
+    ensures not_usage { IsErrOf result Refusal.Usage → ⊥ }
+{
+    match order {
+        Order::Plain => report_of(alloc, tables, packets, hops, shelf, out),
+        Order::Schedule { file } => {
+            report_scheduled(alloc, tables, packets, file, hops, shelf, out)
+        }
+        Order::Changes { file } => report_changed(alloc, tables, packets, file, hops, shelf, out),
+    }
+}
+
+// Writes the report of tables that were read, each packet on its own.
 fn report_of<'a, S: Shelf, O: Sink>(
     alloc: Global,
     tables: Valid,

@@ -81,6 +81,46 @@ fn trace_refuses_tables_and_packets_at_their_lines(rt: HostRuntime) -> Result<()
     Ok(())
 }
 
+const LONE: &[u8] = b"inject\ninject\nstep 1\nstep 0\nstep 0\nstep 1\nstep 1\nstep 0\n";
+
+const LATE_FIRST: &[u8] = b"packet 1
+out inport=1 outport=2
+lost 0
+packet 2
+out inport=2 outport=1
+lost 0
+array s 0 = 1
+end
+";
+
+#[test]
+fn trace_does_what_a_schedule_orders(rt: HostRuntime) -> Result<(), Fail> {
+    let cases: [(&[u8], u8, &[u8], &[u8]); 3] = [
+        (LONE, 0, LATE_FIRST, b""),
+        (b"inject\nstep 4\n", 13, b"", b"snapc: schedule: line 2\n"),
+        (b"inject\n", 13, b"", b"snapc: schedule: line 2\n"),
+    ];
+    for (schedule, status, out, err) in cases {
+        let words: &[&[u8]] = &[b"trace", b"--schedule=s", b"t", b"k"];
+        let files: &[(&[u8], &[u8])] = &[(b"t", FIRST_COME), (b"k", b"1\n2\n"), (b"s", schedule)];
+        let got = call(&rt, rt.alloc(), words, files)?;
+        assert_eq!(rt; got.status, status);
+        assert_eq!(rt; got.out.bytes(), out);
+        assert_eq!(rt; got.err.bytes(), err);
+    }
+    Ok(())
+}
+
+#[test]
+fn a_schedule_that_is_absent_is_named(rt: HostRuntime) -> Result<(), Fail> {
+    let words: &[&[u8]] = &[b"trace", b"t", b"k", b"--schedule", b"no-s"];
+    let got = call(&rt, rt.alloc(), words, FILES)?;
+    assert_eq!(rt; got.status, 2);
+    assert_eq!(rt; got.out.bytes(), b"".as_slice());
+    assert_eq!(rt; got.err.bytes(), b"snapc: cannot read no-s\n".as_slice());
+    Ok(())
+}
+
 #[test]
 fn trace_ends_where_a_device_fails(rt: HostRuntime) -> Result<(), Fail> {
     // The tables take 114 reads of two bytes, and each line of packets one.

@@ -3,7 +3,7 @@ use Rattle.std.specs.Option.{MatchOption}
 use Rattle.std.specs.Io.KnownBytes.{Appends}
 use Rattle.snap_io.specs.Files.{Files}
 use Rattle.snap_words.specs.Commands.{Command, command_of}
-use Rattle.snap_cli.specs.declared.refusal.Refusal.TheVariants.{Usage, Read, Write, NoMemory}
+use Rattle.snap_cli.specs.declared.refusal.Refusal.TheVariants.{Usage, Read, ReadChange, Write, NoMemory}
 use Rattle.snap_cli.specs.Answers.{Answers, MeetsWords}
 use Rattle.snap_cli.specs.Deserved.{Ends, IsText, Meets}
 use Rattle.snap_cli.specs.Laws.{DeservesOneEnding, DeservesOneText, IsDue, IsExact, IsFailure}
@@ -17,6 +17,7 @@ IsWhole files command ending old new = Ends files command ending × ((text : Lis
 met : (files : Files) (command : Command) (ending : Ending) (old new : Option (List ℕ)) → Meets files command ending old new
     → IsFailure (status_of ending) ⊎ IsWhole files command ending old new
 met files command (Err (Read name)) old new h = inl (inl refl)
+met files command (Err (ReadChange name)) old new h = inl (inl refl)
 met files command (Err Write) old new h = inl (inr (inl refl))
 met files command (Err NoMemory) old new h = inl (inr (inr refl))
 met files command ending old new h = inr h

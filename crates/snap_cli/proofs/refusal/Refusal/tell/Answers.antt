@@ -17,3 +17,9 @@ returns-in-Undefined-clause-err g c = rw c.in-Undefined.is c.tell_number-in-Unde
 
 pub returns-in-Declarations-clause-err : goal.returns-in-Declarations-clause-err
 returns-in-Declarations-clause-err g c = rw c.in-Declarations.is c.tell_text-in-Declarations.ensures.err
+
+pub returns-in-Schedule-clause-ok : goal.returns-in-Schedule-clause-ok
+returns-in-Schedule-clause-ok g c = rw c.in-Schedule.is c.tell_number-in-Schedule.ensures.ok
+
+pub returns-in-Schedule-clause-err : goal.returns-in-Schedule-clause-err
+returns-in-Schedule-clause-err g c = rw c.in-Schedule.is c.tell_number-in-Schedule.ensures.err

@@ -1,0 +1,219 @@
+-- What `trace --changes` did, from what its steps did.
+use Rattle.std.proofs.Common.{◌≡◌, ◌⊎◌, ◌≢◌, ℕ, ◌+◌, ◌<◌, ◌≤◌, Bool, List, [], ◌∷◌, ◌++◌, Option, Some, None, IfSome, Result, Ok, Err, map, length, take, drop, refl, sym, ap, subst, ◌∙◌, inl, inr, arith, append_assoc, append-nil, add-one, get_or}
+use Rattle.std.proofs.Math.Seq.{drop-cons}
+use Rattle.std.proofs.lemmas.Option.{slice_get-get_or}
+use Rattle.std.specs.Borrow.{Bor}
+use Rattle.std.specs.Prelude.{Vec, slice_get}
+use Rattle.std.specs.Io.KnownBytes.{Appends}
+use Rattle.std.specs.declared.alloc.Global.{Global}
+use Rattle.snap_io.specs.Files.{Files, file_of}
+use Rattle.snap_rows.specs.declared.tables.Tables.{Tables}
+use Rattle.snap_trace.specs.declared.fault.TraceFault.TheVariants as run
+use Rattle.snap_trace.specs.OneSwitch.{RunEnding}
+use Rattle.snap_move.specs.declared.change.Change.{Change}
+use Rattle.snap_move.specs.declared.change.ChangesFault.{ChangesFault}
+use Rattle.snap_move.specs.declared.change.ChangesFault.TheVariants as fault
+use Rattle.snap_move.specs.declared.later.Later.{Later}
+use Rattle.snap_move.specs.Changing.{IsAhead, IsRising}
+use Rattle.snap_move.specs.Files.{IsChangedTrace, WritesChanged}
+use Rattle.snap_move.specs.Lines.{AreRising, IsBehind, changes_of}
+use Rattle.snap_words.specs.Commands.{Command, changes, trace}
+use Rattle.snap_cli.specs.declared.refusal.Refusal.{Refusal}
+use Rattle.snap_cli.specs.declared.refusal.Refusal.TheVariants.{Changes, Limit, NoMemory, Packets}
+use Rattle.snap_cli.specs.Changes.{ChangedTables, ChangesOf, IsChangeFileOf, IsChangesFile, IsLater, LaterOf, RefusesLater, before, refusal_of_changes, said_changes}
+use Rattle.snap_cli.specs.ChangesSteps.{GivesChanges, LoadsChanges, LoadsLater, LoadsLaters, MeetsChanges, MeetsLater, ReadsChanges, afters, afters_of}
+use Rattle.snap_cli.specs.Deserved.{Ends, IsText, MayPrecedeRead, Meets}
+use Rattle.snap_cli.specs.Obs.{IsRunEnding}
+use Rattle.snap_cli.specs.Refusals.{Ending}
+use Rattle.snap_cli.specs.RunSteps.{ending_of_run}
+use Rattle.snap_cli.specs.TablesOf.{TablesOf}
+use Rattle.snap_move.specs.Shapes.{HaveOneShape}
+use Rattle.snap_cli.specs.Texts.{GivesText, IsTooLong, RefusesBy}
+use Rattle.snap_cli.specs.TraceSteps.{LoadsTables}
+use Rattle.snap_cli.proofs.RefusedBy.{by-map, meets-by}
+
+-- ---- the changes file
+read-refused : (text : List ℕ) (e : ChangesFault) → (e ≢ fault.NoMemory → changes_of text ≡ Err e) → ReadsChanges text (Err (refusal_of_changes e))
+read-refused text (fault.Line line) h = ap said_changes (h (λ x. absurd (cc)))
+read-refused text (fault.Limit which count) h = ap said_changes (h (λ x. absurd (cc)))
+read-refused text fault.NoMemory h = tt
+
+pub reads-told : (text : List ℕ) (e : ChangesFault) (r : Refusal) → r ≡ refusal_of_changes e → (e ≢ fault.NoMemory → changes_of text ≡ Err e) → ReadsChanges text (Err r)
+reads-told text e r is h = subst (λ x. ReadsChanges text (Err x)) (sym is) (read-refused text e h)
+
+gives-read : (name file : List ℕ) (r : Result (Vec Change Global) Refusal) → length file ≤ 1048576 → ReadsChanges file r → GivesChanges name file r
+gives-read name file (Ok cs) short h = inr (short, sym (ap said_changes h))
+gives-read name file (Err e) short h =
+    by-map (λ failed. ⊥) (λ failed. failed ≡ name) (λ x. said_changes (changes_of file) ≡ Err x) (λ x. ChangesOf file (Err x)) (λ failed no. absurd no) (λ x is. inr (short, sym is)) e h
+
+pub told-lines : (told : Option Files) (name : List ℕ) (text : Vec ℕ Global) (seen : List ℕ) (r : Result (Vec Change Global) Refusal) → IfSome told (λ files. GivesText 1048576 name (file_of files name) (Ok text))
+    → seen ≡ text.items → ReadsChanges seen r → IfSome told (λ files. GivesChanges name (file_of files name) r)
+told-lines None name text seen r h same reads = tt
+told-lines (Some files) name text seen r h same reads =
+    let file = file_of files name in
+    gives-read name file r h.1 (subst (λ x. ReadsChanges x r) h.0 (subst (λ x. ReadsChanges x r) same reads))
+
+pub told-no_lines : (told : Option Files) (name : List ℕ) (e : Refusal) → IfSome told (λ files. GivesText 1048576 name (file_of files name) (Err e))
+    → IfSome told (λ files. GivesChanges name (file_of files name) (Err e))
+told-no_lines None name e h = tt
+told-no_lines (Some files) name e h =
+    let file = file_of files name in
+    by-map (λ failed. failed ≡ name) (λ failed. failed ≡ name) (IsTooLong 1048576 file) (λ x. ChangesOf file (Err x)) (λ failed is. is) (λ x no. inl (no.0, ap (λ y. Err y) no.1)) e h
+
+-- ---- tables of changes
+before-then : (xs ys : List Later) (r : Result (List Later) Refusal) → before xs (before ys r) ≡ before (xs ++ ys) r
+before-then xs ys (Ok zs) = ap Ok (sym (append_assoc xs ys zs))
+before-then xs ys (Err e) = refl
+
+-- the tables of these changes stand before those of the others
+abbrev pub Extends : Files → Tables → (all others : List Change) → List Later → Type 0
+Extends files first all others ls = (r : Result (List Later) Refusal) → LaterOf files first others r → LaterOf files first all (before ls r)
+
+pub extends-none : (files : Files) (first : Tables) (all : List Change) → Extends files first all all []
+extends-none files first all (Ok ls) h = h
+extends-none files first all (Err e) h = h
+
+pub extends-more : (files : Files) (first : Tables) (all others : List Change) (c : Change) (ls : List Later) (l : Later) → Extends files first all (c ∷ others) ls → IsLater files first c l → Extends files first all others (ls ++ l ∷ [])
+extends-more files first all others c ls l so is r h =
+    subst (LaterOf files first all) (before-then ls (l ∷ []) r) (so (before (l ∷ []) r) (inr (l, is, (r, h, refl))))
+
+pub extends-refused : (files : Files) (first : Tables) (all others : List Change) (c : Change) (ls : List Later) (e : Refusal) → Extends files first all (c ∷ others) ls → RefusesLater files first c e → LaterOf files first all (Err e)
+extends-refused files first all others c ls e so why = so (Err e) (inl (e, why, refl))
+
+-- ---- numbers of packets
+rising-tail : (later : List Later) (cs : List Change) → afters later ≡ afters_of cs → AreRising cs → IsRising later
+rising-tail [] cs same rise = tt
+rising-tail (l ∷ ls) [] same rise = let e : ◌≡◌ {A = List ℕ} (l.after ∷ afters ls) [] = same in absurd (cc)
+rising-tail (l ∷ ls) (c ∷ cs) same rise =
+    let here : l.after ≡ c.after = cc in
+    let others : afters ls ≡ afters_of cs = cc in
+    (ahead ls cs others (subst (λ n. IsBehind n cs) (sym here) rise.0), rising-tail ls cs others rise.1)
+  where
+    ahead : (ls : List Later) (cs : List Change) → afters ls ≡ afters_of cs → IsBehind l.after cs → IsAhead ls l.after
+    ahead [] cs same h = tt
+    ahead (x ∷ xs) [] same h = let e : ◌≡◌ {A = List ℕ} (x.after ∷ afters xs) [] = same in absurd (cc)
+    ahead (x ∷ xs) (y ∷ ys) same h = let e : x.after ≡ y.after = cc in subst (λ n. l.after < n) (sym e) h
+
+pub rising-changes : (later : List Later) (cs : List Change) → afters later ≡ afters_of cs → AreRising cs → IsRising later
+rising-changes later cs same rise = rising-tail later cs same rise
+
+-- ---- the command
+module _ (files : Files) (name : List ℕ) (packets : Bor (List ℕ)) (lines : List ℕ) (hops : Bool) (t : Tables) (spelled : TablesOf (file_of files name) (Ok t)) (old new : Option (List ℕ)) where
+  abbrev command : Command
+  command = trace name packets.now hops (changes lines)
+
+  abbrev file : List ℕ
+  file = file_of files packets.now
+
+  -- nothing went out
+  refused-so : (e : Refusal) → RefusesBy (IsChangesFile files lines) (λ x. ChangedTables files t lines (Err x)) e → new ≡ old → Meets files command (Err e) old new
+  refused-so e by same =
+      subst (λ n. Meets files command (Err e) old n) (sym same)
+      (meets-by files command old e (inl refl)
+      (by-map (IsChangesFile files lines) (λ failed. MayPrecedeRead files command failed []) (λ x. ChangedTables files t lines (Err x)) (λ x. Ends files command (Err x) × IsText files command [])
+      (λ failed is. inr (t, spelled, inl (is, refl)))
+      (λ x no. (inr (t, spelled, ([], inl (x, no, refl, refl))), inr (t, spelled, inl (x, no, refl)))) e by))
+
+  module _ (later : List Later) (loaded : ChangedTables files t lines (Ok later)) where
+    whole-run : (r : RunEnding) (e : Ending) → IsRunEnding r e → (text : List ℕ) × IsChangedTrace t later hops file r text × Appends old new text
+        → Ends files command e × ((text : List ℕ) × IsText files command text × Appends old new text)
+    whole-run r e is m = (inr (t, spelled, (m.0, inr (later, loaded, (r, m.1, is)))), (m.0, inr (t, spelled, inr (later, loaded, (r, m.1))), m.2))
+
+    meets-run : (r : RunEnding) → WritesChanged t later hops file r old new → Meets files command (ending_of_run packets r) old new
+    meets-run (Ok u) m = whole-run (Ok u) (Ok tt) refl m
+    meets-run (Err run.Read) m = (m.0, inr (t, spelled, inr (refl, (later, loaded, m.1))), m.2)
+    meets-run (Err run.NoMemory) m = (m.0, inr (t, spelled, inr (later, loaded, m.1)), m.2)
+    meets-run (Err run.Write) (inl m) = inl (m.0, inr (t, spelled, inr (later, loaded, m.1)), m.2)
+    meets-run (Err run.Write) (inr m) = inr (m.0, inr (t, spelled, inr (later, loaded, m.1)), m.2)
+    meets-run (Err (run.Limit which count)) m = whole-run (Err (run.Limit which count)) (Err (Limit which count)) refl m
+    meets-run (Err (run.Packets line)) m = whole-run (Err (run.Packets line)) (Err (Packets line)) refl m
+    meets-run (Err (run.Undefined packet)) m = absurd m
+
+  pub meets-changes : (e : Ending) → MeetsChanges files t hops packets lines e old new → Meets files command e old new
+  meets-changes e (inl m) = subst (λ x. Meets files command x old new) (sym m.2) (refused-so m.0 m.1 m.3)
+  meets-changes e (inr m) = subst (λ x. Meets files command x old new) (sym m.2.2) (meets-run m.0 m.1 m.2.0 m.2.1)
+
+-- ---- what is told
+pub told-later : (told : Option Files) (t : Tables) (later : List Later) (hops : Bool) (packets : Bor (List ℕ)) (old new : Option (List ℕ)) (r : RunEnding) (e : Ending) → e ≡ ending_of_run packets r
+    → IfSome told (λ files. WritesChanged t later hops (file_of files packets.now) r old new) → IfSome told (λ files. MeetsLater t later hops packets (file_of files packets.now) e old new)
+told-later None t later hops packets old new r e is m = tt
+told-later (Some files) t later hops packets old new r e is m = (r, m, is)
+
+-- the tables were all read, and this is what their run did
+pub told-changes : (told now : Option Files) (t : Tables) (later : Vec Later Global) (hops : Bool) (packets : Bor (List ℕ)) (lines : List ℕ) (old new : Option (List ℕ)) (e : Ending) → now ≡ told
+    → IfSome told (λ files. LoadsChanges files t lines (Ok later)) → IfSome now (λ files. MeetsLater t later.items hops packets (file_of files packets.now) e old new)
+    → IfSome told (λ files. MeetsChanges files t hops packets lines e old new)
+told-changes None now t later hops packets lines old new e same h m = tt
+told-changes (Some files) now t later hops packets lines old new e same h m =
+    inr (later.items, h, subst (λ o. IfSome o (λ files. MeetsLater t later.items hops packets (file_of files packets.now) e old new)) same m)
+
+-- or not
+pub told-unchanged : (told : Option Files) (t : Tables) (hops : Bool) (packets : Bor (List ℕ)) (lines : List ℕ) (out : Option (List ℕ)) (e : Refusal)
+    → IfSome told (λ files. LoadsChanges files t lines (Err e)) → IfSome told (λ files. MeetsChanges files t hops packets lines (Err e) out out)
+told-unchanged None t hops packets lines out e h = tt
+told-unchanged (Some files) t hops packets lines out e h = inl (e, h, refl, refl)
+
+-- the changes were read, and these are their tables
+pub told-loads : (told now : Option Files) (first : Tables) (name : List ℕ) (cs : Vec Change Global) (r : Result (Vec Later Global) Refusal) → now ≡ told
+    → IfSome told (λ files. GivesChanges name (file_of files name) (Ok cs)) → IfSome now (λ files. LoadsLaters files first cs.items r) → IfSome told (λ files. LoadsChanges files first name r)
+told-loads None now first name cs r same h m = tt
+told-loads (Some files) now first name cs r same h m = by r (subst (λ o. IfSome o (λ files. LoadsLaters files first cs.items r)) same m)
+  where
+    by : (r : Result (Vec Later Global) Refusal) → LoadsLaters files first cs.items r → LoadsChanges files first name r
+    by (Ok later) m = inr (cs.items, h, m)
+    by (Err e) m = by-map (IsChangeFileOf cs.items) (IsChangesFile files name) (λ x. LaterOf files first cs.items (Err x)) (λ x. ChangedTables files first name (Err x)) (λ failed is. inr (cs.items, h, is)) (λ x no. inr (cs.items, h, no)) e m
+
+pub told-unloaded_lines : (told : Option Files) (first : Tables) (name : List ℕ) (e : Refusal) → IfSome told (λ files. GivesChanges name (file_of files name) (Err e)) → IfSome told (λ files. LoadsChanges files first name (Err e))
+told-unloaded_lines None first name e h = tt
+told-unloaded_lines (Some files) first name e h =
+    by-map (λ failed. failed ≡ name) (IsChangesFile files name) (λ x. ChangesOf (file_of files name) (Err x)) (λ x. ChangedTables files first name (Err x)) (λ failed is. inl is) (λ x no. inl (x, no, refl)) e h
+
+-- ---- one change
+-- its tables can't be read, or have another shape, or come into force
+pub told-later_unread : (told : Option Files) (first : Tables) (c : Change) (e : Refusal) → IfSome told (λ files. LoadsTables c.name (file_of files c.name) (Err e)) → IfSome told (λ files. LoadsLater files first c (Err e))
+told-later_unread None first c e h = tt
+told-later_unread (Some files) first c e h =
+    by-map (λ failed. failed ≡ c.name) (λ failed. failed ≡ c.name) (λ x. TablesOf (file_of files c.name) (Err x)) (RefusesLater files first c) (λ failed is. is) (λ x no. inl no) e h
+
+pub told-other_shape : (told : Option Files) (first : Tables) (c : Change) (t : Tables) → IfSome told (λ files. LoadsTables c.name (file_of files c.name) (Ok t)) → ¬ HaveOneShape t first → IfSome told (λ files. LoadsLater files first c (Err (Changes c.line)))
+told-other_shape None first c t h other = tt
+told-other_shape (Some files) first c t h other = inr (t, h, other, refl)
+
+pub told-one_later : (told : Option Files) (first : Tables) (c : Change) (t : Tables) → IfSome told (λ files. LoadsTables c.name (file_of files c.name) (Ok t)) → HaveOneShape t first → IfSome told (λ files. LoadsLater files first c (Ok (record { after = c.after; tables = t })))
+told-one_later None first c t h same = tt
+told-one_later (Some files) first c t h same = record { after = refl; spelled = h; shape = same }
+
+-- ---- all changes
+-- one more was read, after which the shelf tells the same files
+pub told-more : (told now : Option Files) (first : Tables) (all : List Change) (i : ℕ) (c : Change) (ls : List Later) (l : Later) → now ≡ told → i < length all → c ≡ get_or all i c
+    → IfSome told (λ files. Extends files first all (drop i all) ls) → IfSome now (λ files. LoadsLater files first c (Ok l)) → IfSome told (λ files. Extends files first all (drop (i + 1) all) (ls ++ l ∷ []))
+told-more None now first all i c ls l same within is h m = tt
+told-more (Some files) now first all i c ls l same within is h m =
+    let rest : drop i all ≡ c ∷ drop (i + 1) all = drop-cons all i c within ∙ (λ j. sym is j ∷ drop (sym (add-one i) j) all) in
+    extends-more files first all (drop (i + 1) all) c ls l (subst (λ cs. Extends files first all cs ls) rest h) (subst (λ o. IfSome o (λ files. LoadsLater files first c (Ok l))) same m)
+
+-- or can't be
+pub told-no_more : (told now : Option Files) (first : Tables) (all : List Change) (i : ℕ) (c : Change) (ls : List Later) (e : Refusal) → now ≡ told → i < length all → c ≡ get_or all i c
+    → IfSome told (λ files. Extends files first all (drop i all) ls) → IfSome now (λ files. LoadsLater files first c (Err e)) → IfSome told (λ files. RefusesBy (IsChangeFileOf all) (λ refusal. LaterOf files first all (Err refusal)) e)
+told-no_more None now first all i c ls e same within is h m = tt
+told-no_more (Some files) now first all i c ls e same within is h m =
+    let rest : drop i all ≡ c ∷ drop (i + 1) all = drop-cons all i c within ∙ (λ j. sym is j ∷ drop (sym (add-one i) j) all) in
+    let so = subst (λ cs. Extends files first all cs ls) rest h in
+    let there : slice_get all i ≡ Some c = slice_get-get_or all i c within ∙ ap Some (sym is) in
+    by-map (λ failed. failed ≡ c.name) (IsChangeFileOf all) (RefusesLater files first c) (λ x. LaterOf files first all (Err x)) (λ failed name. (i, c, there, name)) (λ x no. extends-refused files first all (drop (i + 1) all) c ls x so no) e
+    (subst (λ o. IfSome o (λ files. LoadsLater files first c (Err e))) same m)
+
+-- memory is short
+pub told-short : (told : Option Files) (first : Tables) (all : List Change) → IfSome told (λ files. LoadsLaters files first all (Err NoMemory))
+told-short None first all = tt
+told-short (Some files) first all = tt
+
+-- all were read
+pub told-all : (told : Option Files) (first : Tables) (all others : List Change) (ls : List Later) → others ≡ [] → IfSome told (λ files. Extends files first all others ls) → IfSome told (λ files. LaterOf files first all (Ok ls))
+told-all None first all others ls none h = tt
+told-all (Some files) first all others ls none h =
+    subst (λ (x : List Later). LaterOf files first all (Ok x)) (append-nil ls) (subst (λ cs. Extends files first all cs ls) none h (Ok []) refl)
+
+pub told-none : (told : Option Files) (first : Tables) (all : List Change) → IfSome told (λ files. Extends files first all all [])
+told-none None first all = tt
+told-none (Some files) first all = extends-none files first all

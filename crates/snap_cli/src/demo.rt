@@ -1,0 +1,46 @@
+//! The command `demo`: a program that is compiled and run over packets, and what came of it.
+
+ghost use Rattle.std.specs.Prelude.{◌≤◌, ℕ, List, IsErrOf};
+ghost use Rattle.snap_io.specs.Causes.{Rose};
+ghost use Rattle.snap_io.specs.Files.{Files};
+ghost use Rattle.snap_words.specs.Commands.{demo};
+ghost use Rattle.snap_cli.specs.Causes.{HasCauses, IsRead};
+ghost use Rattle.snap_cli.specs.Demo.{MeetsSummary};
+ghost use Rattle.snap_cli.specs.Deserved.{Meets};
+
+use crate::refusal::Refusal;
+use snap_demo::summary::summary;
+use snap_io::{Sink, write_whole};
+use std::alloc::Global;
+
+/// Writes the summary of the demonstration with so many switches. No file is read.
+pub(crate) fn report<'a, O: Sink>(
+    alloc: Global,
+    switches: u16,
+    out: &mut O,
+) -> Result<(), Refusal<'a>>
+    requires some { 1 ≤ switches }
+    requires few { switches ≤ 64 }
+    ensures meets { (files : Files) → Meets files (demo switches) result (O.taken out.old) (O.taken out.new) }
+    ensures causes { (before now : List ℕ → ℕ) → HasCauses before now (O.faults out.old) (O.faults out.new) result }
+    ensures not_usage { IsErrOf result Refusal.Usage → ⊥ }
+{
+    write_summary(alloc, switches, out)
+}
+
+fn write_summary<'a, O: Sink>(alloc: Global, switches: u16, out: &mut O) -> Result<(), Refusal<'a>>
+    requires some { 1 ≤ switches }
+    requires few { switches ≤ 64 }
+    ensures meets { MeetsSummary switches result (O.taken out.old) (O.taken out.new) }
+    ensures write { IsErrOf result Refusal.Write → Rose (O.faults out.old) (O.faults out.new) }
+    ensures not_read { IsRead result → ⊥ }
+    ensures not_usage { IsErrOf result Refusal.Usage → ⊥ }
+{
+    match summary(alloc, switches) {
+        Ok(text) => match write_whole(out, &text) {
+            Ok(()) => Ok(()),
+            Err(_) => Err(Refusal::Write),
+        },
+        Err(_) => Err(Refusal::NoMemory),
+    }
+}

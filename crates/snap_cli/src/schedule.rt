@@ -1,0 +1,53 @@
+//! `trace --schedule`: the report of the events that a schedule orders.
+
+ghost use Rattle.std.specs.Prelude.{◌≡◌, IfSome, IsErrOf};
+ghost use Rattle.snap_io.specs.Files.{file_of};
+ghost use Rattle.snap_cli.specs.Causes.{HasCauses};
+ghost use Rattle.snap_cli.specs.TraceSteps.{MeetsSchedule, refusal_of_schedule};
+
+use crate::obs::refusal_of_run;
+use crate::refusal::Refusal;
+use snap_core::program::Which;
+use snap_io::{Shelf, Sink};
+use snap_rows::valid::Valid;
+use snap_runs::schedule::{ScheduleFault, scheduled};
+use snap_trace::switch::MOST_BYTES;
+use std::alloc::Global;
+
+/// Writes the report of tables that were read, over the packets file, in the order of the schedule with this name.
+pub(crate) fn report_scheduled<'a, S: Shelf, O: Sink>(
+    alloc: Global,
+    tables: Valid,
+    packets: &'a [u8],
+    lines: &'a [u8],
+    hops: bool,
+    shelf: &mut S,
+    out: &mut O,
+) -> Result<(), Refusal<'a>>
+    ensures meets { IfSome (S.files shelf.old) (λ files. MeetsSchedule tables hops packets.entry lines.entry
+        (file_of files packets.entry.now) (file_of files lines.entry.now) result (O.taken out.old) (O.taken out.new)) }
+    ensures causes { HasCauses (S.faults shelf.old) (S.faults shelf.new) (O.faults out.old) (O.faults out.new) result }
+    ensures not_usage { IsErrOf result Refusal.Usage → ⊥ }
+{
+    match scheduled(alloc, shelf, packets, lines, tables, hops, out) {
+        Ok(()) => Ok(()),
+        Err(fault) => Err(refusal_of_schedule(packets, lines, fault)),
+    }
+}
+
+// The refusal of a run over files with these names.
+fn refusal_of_schedule<'a>(packets: &'a [u8], lines: &'a [u8], fault: ScheduleFault) -> Refusal<'a>
+    ensures { result ≡ refusal_of_schedule packets.entry lines.entry fault }
+{
+    match fault {
+        ScheduleFault::Packets { fault } => refusal_of_run(packets, fault),
+        ScheduleFault::Read => Refusal::Read { name: lines },
+        ScheduleFault::TooLong => Refusal::Limit {
+            which: Which::Bytes,
+            count: MOST_BYTES + 1,
+        },
+        ScheduleFault::Line { line } => Refusal::Schedule { line },
+        ScheduleFault::Write => Refusal::Write,
+        ScheduleFault::NoMemory => Refusal::NoMemory,
+    }
+}
