@@ -31,6 +31,9 @@ test:
 	examples/check bin/snapc
 	examples/placements bin/snapc
 	examples/networks bin/snapc
+	examples/demonstrations bin/snapc
+	examples/hostile bin/snapc
+	examples/refused bin/snapc
 	contrib/check
 
 # The program, its man page and the completions of bash and zsh.
