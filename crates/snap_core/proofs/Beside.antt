@@ -1,11 +1,11 @@
 -- Cells that stand beside others.
 use Rattle.std.proofs.Common.{◌≡◌, ◌≤◌, ℕ, ◌+◌, Bool, true, false, cond, List, [], ◌∷◌, ◌++◌, Option, None, Some, length, refl, sym, ap, subst, ◌∙◌, ⊎_elim, arith}
-use Rattle.std.specs.Prelude.{is_some, unwrap_or, ◌&&◌}
+use Rattle.std.specs.Prelude.{is_some, ◌&&◌}
 use Rattle.std.specs.List.{AllByRecursion, IsDistinct}
 use Rattle.std.specs.Map.{keys_of}
 use Rattle.std.specs.Str.{bytes_eq}
 use Rattle.std.specs.Cmp.Lexicographic.{nat_list_eq_equiv}
-use Rattle.std.proofs.lemmas.Bool.{cases_Bool, cond-true, cond-false, false≢true}
+use Rattle.std.proofs.lemmas.Bool.{cases_Bool, cond-false, false≢true}
 use Rattle.std.proofs.lemmas.List.{length-append}
 use Rattle.snap_core.specs.Cells.{Cells, cell, either, without, beside}
 use Rattle.snap_core.proofs.Entries.{IsDistinct-append}
@@ -89,15 +89,6 @@ beside-same cs fs ds es first second q = cell-beside fs es q ∙ (λ i. either (
 pub beside-second_if : (r : Bool) (ix : List ℕ) (v : ℕ) (cs ds es : Cells) → cell cs ix ≡ None → ((q : List ℕ) → cell es q ≡ cond (r && bytes_eq ix q) (Some v) (cell ds q)) → (q : List ℕ) → cell (beside cs es) q ≡ cond (r && bytes_eq ix q) (Some v) (cell (beside cs ds) q)
 beside-second_if true ix v cs ds es none h q = beside-second ix v cs cs ds es none (λ p. refl) h q
 beside-second_if false ix v cs ds es none h q = beside-same cs cs ds es (λ p. refl) h q
-
--- the number that a cell has is put into it
-pub put-itself : (ix : List ℕ) (old new : List ℕ → Option ℕ) → ((q : List ℕ) → new q ≡ cond (bytes_eq ix q) (Some (unwrap_or (old ix) 0)) (old q)) → (q : List ℕ) → unwrap_or (new q) 0 ≡ unwrap_or (old q) 0
-put-itself ix old new h q =
-    ap (λ o. unwrap_or o 0) (h q)
-    ∙ ⊎_elim
-    (λ same. ap (λ o. unwrap_or o 0) (cond-true (bytes_eq ix q) (Some (unwrap_or (old ix) 0)) (old q) same) ∙ ap (λ l. unwrap_or (old l) 0) (same_key ix q same))
-    (λ other. ap (λ o. unwrap_or o 0) (cond-false (bytes_eq ix q) (Some (unwrap_or (old ix) 0)) (old q) other))
-    (cases_Bool (bytes_eq ix q))
 
 -- ---- how many, and that they differ
 length-without : (cs ds : Cells) → length (without cs ds) ≤ length ds

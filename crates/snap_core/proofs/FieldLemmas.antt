@@ -26,23 +26,6 @@ pub width-bound : (n : Option ℕ) → (1 ≤ width n) × (width n ≤ 2)
 width-bound None = (omega arith, omega arith)
 width-bound (Some n) = (omega arith, omega arith)
 
-lookup-step : (test : List ℕ → Bool) (x : List ℕ × Found) (r : Option Found) → cond (test x.0) (Some x.1) r ≡ None → (test x.0 ≡ false) × (r ≡ None)
-lookup-step test x r h = elim (test x.0) as (λ t. cond t (Some x.1) r ≡ None → (t ≡ false) × (r ≡ None)) [ true ↦ λ e. absurd (let no : Some x.1 ≡ None = e in cc) | false ↦ λ e. (refl, e) ] h
-
-pub lookup-append : (test : List ℕ → Bool) (xs ys : List (List ℕ × Found)) → lookup test xs ≡ None → lookup test (xs ++ ys) ≡ lookup test ys
-lookup-append test [] ys h = refl
-lookup-append test (x ∷ xs) ys h =
-    let parts = lookup-step test x (lookup test xs) h in
-    ap (λ t. cond t (Some x.1) (lookup test (xs ++ ys))) parts.0 ∙ lookup-append test xs ys parts.1
-
-pub lookup-append_found : (test : List ℕ → Bool) (xs ys : List (List ℕ × Found)) (f : Found) → lookup test xs ≡ Some f → lookup test (xs ++ ys) ≡ Some f
-lookup-append_found test [] ys f h = absurd (cc)
-lookup-append_found test (x ∷ xs) ys f h =
-    elim (test x.0) as (λ t. (lookup test xs ≡ Some f → lookup test (xs ++ ys) ≡ Some f) → cond t (Some x.1) (lookup test xs) ≡ Some f → cond t (Some x.1) (lookup test (xs ++ ys)) ≡ Some f) [
-      | true ↦ λ next e. e
-      | false ↦ λ next e. next e
-    ] (lookup-append_found test xs ys f) h
-
 -- the names of one field, and what stands behind them
 found-at : (test : List ℕ → Bool) (c n : ℕ) (name : List ℕ) (prefix : Option ℕ) (rest : List (List ℕ × Found)) → PrefixFits prefix
     → FoundFits (c + (width prefix + n)) (lookup test rest) → FoundFits (c + (width prefix + n)) (lookup test (declared_at c name prefix ++ rest))

@@ -8,7 +8,7 @@ use Rattle.snap_core.specs.declared.policy.Pol.TheVariants.{Filter, Set, Change,
 use Rattle.snap_core.specs.Arrays.{Arrays}
 use Rattle.snap_core.specs.Variables.{has}
 use Rattle.snap_core.specs.Packets.{listed}
-use Rattle.snap_core.specs.Meaning.{Meaning, eval, truth, vars_of, any_clash, merge, all_writes, together, all_defined, all_together, logged}
+use Rattle.snap_core.specs.Meaning.{Meaning, eval, truth, vars_of, any_clash, merge, all_writes, together, all_defined, logged}
 use Rattle.snap_core.proofs.Unwritten.{neither, updated_keeps}
 
 merged_unwritten : (m : Arrays) (os : List Meaning) (q : Place) → has (all_writes os) q.var ≡ false → merge m os q ≡ m q

@@ -31,7 +31,7 @@ split : (a b : Bool) → not (a && b) ≡ (not a || not b)
 split true b = refl
 split false b = refl
 
-meets-or : (z x y : ℕ) → meets z (bit_or x y) ≡ (meets z x || meets z y)
+pub meets-or : (z x y : ℕ) → meets z (bit_or x y) ≡ (meets z x || meets z y)
 meets-or z x y = ap (λ n. not (nat_eq n 0)) (and-or z x y) ∙ ap not (or_is_zero (bit_and z x) (bit_and z y)) ∙ split _ _
 
 meets_flip : (a b : ℕ) → meets a b ≡ meets b a
@@ -65,12 +65,12 @@ regrouped false false false false e f = refl
 clash_parts : (a b : Meaning) → clash a b ≡ (meets a.writes (bit_or b.reads b.writes) || (meets b.writes a.reads || meets b.writes a.writes))
 clash_parts a b = ap (λ t. meets a.writes (bit_or b.reads b.writes) || t) (meets-or b.writes a.reads a.writes)
 
--- what clashes with two outcomes side by side clashes with one of them
 abbrev log : ℕ → ℕ → Meaning
 log r w = record { arrays = λ p. 0; packets = no_packets; reads = r; writes = w }
 
-clash-logs : (o t b : Meaning) → clash (log (bit_or o.reads t.reads) (bit_or o.writes t.writes)) b ≡ (clash o b || clash t b)
-clash-logs o t b =
+-- what clashes with two outcomes side by side clashes with one of them
+pub clash-joined : (o t b : Meaning) → clash (joined o t) b ≡ (clash o b || clash t b)
+clash-joined o t b =
     (λ i. or-meets o.writes t.writes (bit_or b.reads b.writes) i || meets-or b.writes (bit_or o.reads t.reads) (bit_or o.writes t.writes) i)
     ∙ (λ i. (meets o.writes (bit_or b.reads b.writes) || meets t.writes (bit_or b.reads b.writes)) || (meets-or b.writes o.reads t.reads i || meets-or b.writes o.writes t.writes i))
     ∙ regrouped (meets o.writes (bit_or b.reads b.writes)) (meets t.writes (bit_or b.reads b.writes)) (meets b.writes o.reads) (meets b.writes t.reads) (meets b.writes o.writes) (meets b.writes t.writes)
@@ -81,7 +81,7 @@ clash-none b = ap (λ n. not (nat_eq n 0)) (and_comm b.writes 0)
 
 clash-all : (os : List Meaning) (b : Meaning) → clash (log (all_reads os) (all_writes os)) b ≡ list_any (λ o. clash o b) os
 clash-all [] b = clash-none b
-clash-all (o ∷ os) b = clash-logs o (log (all_reads os) (all_writes os)) b ∙ ap (λ t. clash o b || t) (clash-all os b)
+clash-all (o ∷ os) b = clash-joined o (log (all_reads os) (all_writes os)) b ∙ ap (λ t. clash o b || t) (clash-all os b)
 
 list_any_push : (p : Meaning → Bool) (os : List Meaning) (b : Meaning) → list_any p (os ++ b ∷ []) ≡ (list_any p os || p b)
 list_any_push p [] b = or_false (p b)

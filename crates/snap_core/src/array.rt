@@ -1,6 +1,6 @@
 //! One array of a store.
 
-ghost use Rattle.std.specs.Prelude.{◌≡◌, ◌<◌, ◌≤◌, ◌+◌, ◌%◌, ◌^◌, ◌++◌, ◌&&◌, [], List, map, ℕ, OnOk, OnErr, IfOk, None, Some, length, unwrap_or, if◌then◌else◌};
+ghost use Rattle.std.specs.Prelude.{◌≡◌, ◌<◌, ◌≤◌, ◌+◌, ◌%◌, ◌^◌, ◌++◌, ◌&&◌, [], List, map, ℕ, OnOk, OnErr, IfOk, IsOk, IsTrue, None, Some, is_some, length, unwrap_or, if◌then◌else◌};
 ghost use Rattle.std.specs.List.{IsDistinct};
 ghost use Rattle.std.specs.Map.{keys_of};
 ghost use Rattle.std.specs.Str.{bytes_eq};
@@ -69,6 +69,7 @@ impl Array {
     pub(crate) fn put(&mut self, index: &[u64], value: u64) -> Result<(), NoMemory>
         ensures ok { OnOk result ((q : List ℕ) → cell self.new.0 q ≡ (if bytes_eq index.now q then Some value else cell self.old.0 q)) }
         ensures err { OnErr result ((q : List ℕ) → cell self.new.0 q ≡ cell self.old.0 q) }
+        ensures there { IsTrue (is_some (cell self.old.0 index.now)) → IsOk result }
     {
         if self.table.write(index, value) {
             return Ok(());
@@ -91,6 +92,19 @@ impl Array {
             return Ok(());
         }
         self.make(index, value)
+    }
+
+    /// The number in the cell at an index, which is made with 0 where there is none.
+    pub(crate) fn hold(&mut self, index: &[u64]) -> Result<u64, NoMemory>
+        ensures number { IfOk result (λ number. cell self.new.0 index.now ≡ Some number) }
+        ensures numbers { (q : List ℕ) → unwrap_or (cell self.new.0 q) 0 ≡ unwrap_or (cell self.old.0 q) 0 }
+        ensures kept { (q : List ℕ) → IsTrue (is_some (cell self.old.0 q)) → IsTrue (is_some (cell self.new.0 q)) }
+    {
+        if let Some(number) = self.get(index) {
+            return Ok(number);
+        }
+        self.make(index, 0)?;
+        Ok(0)
     }
 
     // Makes a cell at an index that has none.

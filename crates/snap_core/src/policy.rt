@@ -5,6 +5,7 @@ ghost use Rattle.snap_core.specs.Fits.{AtomFits, OpFits, IndexFits, UpdateFits, 
 
 use crate::NoMemory;
 use crate::lists::Atoms;
+use std::alloc::Global;
 
 /// A number, or a component of the packet.
 #[derive(Clone, Copy, Debug, PartialEq, Eq, PartialOrd, Ord)]
@@ -151,6 +152,17 @@ impl Update {
             op: self.op,
         })
     }
+}
+
+/// The same updates.
+pub fn copy_updates(alloc: Global, updates: &[Update]) -> Result<Vec<Update>, NoMemory>
+    ensures { IfOk result (λ copies. copies.items ≡ updates.now) }
+{
+    let mut copies = Vec::with_capacity(alloc, updates.len())?;
+    for update in updates {
+        copies.push(update.copy()?)?;
+    }
+    Ok(copies)
 }
 
 impl Test {

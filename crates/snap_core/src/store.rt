@@ -1,9 +1,10 @@
 //! Stores: the numbers of the state variables.
 
-ghost use Rattle.std.specs.Prelude.{◌≡◌, ◌≤◌, ◌+◌, ◌%◌, ◌^◌, ◌==◌, false, All, ℕ, OnOk, OnErr, IfOk, if◌then◌else◌, map, length, unwrap_or};
+ghost use Rattle.std.specs.Prelude.{◌≡◌, ◌≤◌, ◌+◌, ◌%◌, ◌^◌, ◌==◌, false, All, ℕ, OnOk, OnErr, IfOk, IsTrue, Some, is_some, if◌then◌else◌, map, length, unwrap_or};
 ghost use Rattle.snap_core.specs.declared.place.Place.{Place};
 ghost use Rattle.snap_core.specs.Arrays.{update, updates, put, zero_arrays};
 ghost use Rattle.snap_core.specs.Cells.{cell, arrays_of, overlaid, changed_at, room_at};
+ghost use Rattle.snap_core.specs.CellsKept.{cell_at, HasCellsOf};
 ghost use Rattle.snap_core.specs.Fits.{UpdateReads};
 ghost use Rattle.snap_core.specs.Listing.{IsListing, entry_of};
 
@@ -18,6 +19,9 @@ use crate::policy::{Op, Update};
 use std::alloc::Global;
 use std::collections::BTreeMap;
 use std::marker::Model;
+
+// How many updates are done in place, each in a call of its own.
+const FEW: usize = 16;
 
 /// The numbers of all places, seen by `arrays_of` as the number at each place.
 #[derive(Drop)]
@@ -127,8 +131,61 @@ impl Store {
         ensures ok { OnOk result (arrays_of self.new ≡ updates (arrays_of self.old) changes.now packet.now) }
         ensures err { OnErr result (arrays_of self.new ≡ arrays_of self.old) }
     {
+        if changes.len() <= FEW {
+            return self.apply_few(packet, changes);
+        }
         let done = self.after_updates(packet, changes)?;
         self.apply_changes(done)
+    }
+
+    // Does updates in order, or none: where memory for a later one is refused, the first is undone. Each is done in
+    // place, and the calls are as deep as the updates are many.
+    fn apply_few(&mut self, packet: &Packet, changes: &[Update]) -> Result<(), NoMemory>
+        requires { All (UpdateReads (length packet.now)) changes.now }
+        ensures ok { OnOk result (arrays_of self.new ≡ updates (arrays_of self.old) changes.now packet.now) }
+        ensures err { OnErr result (arrays_of self.new ≡ arrays_of self.old) }
+        ensures kept { HasCellsOf self.old self.new }
+    {
+        let Some((first, rest)) = changes.split_first() else {
+            return Ok(());
+        };
+        let mut numbers = ShortIndex::new(self.alloc);
+        put_index(&mut numbers, &first.index, packet)?;
+        let index = numbers.as_slice();
+        let before = self.hold(first.var, index)?;
+        self.write(first.var, index, first.op.number(before, packet));
+        if let Err(refused) = self.apply_few(packet, rest) {
+            self.write(first.var, index, before);
+            return Err(refused);
+        }
+        Ok(())
+    }
+
+    // The number at a place, which has a cell from now on.
+    fn hold(&mut self, var: u16, index: &[u64]) -> Result<u64, NoMemory>
+        ensures number { IfOk result (λ number. cell_at self.new (record { var = var; index = index.now }) ≡ Some number) }
+        ensures same { arrays_of self.new ≡ arrays_of self.old }
+        ensures kept { HasCellsOf self.old self.new }
+    {
+        if let Some(array) = self.arrays.get_mut(&var) {
+            return array.hold(index);
+        }
+        let mut array = Array::new(self.alloc);
+        let number = array.hold(index)?;
+        self.arrays.insert(var, array)?;
+        Ok(number)
+    }
+
+    // Changes the number at one place that has a cell.
+    fn write(&mut self, var: u16, index: &[u64], value: u64)
+        requires { IsTrue (is_some (cell_at self.old (record { var = var; index = index.now }))) }
+        ensures arrays { arrays_of self.new ≡ put (arrays_of self.old) (record { var = var; index = index.now }) value }
+        ensures kept { HasCellsOf self.old self.new }
+    {
+        if let Some(array) = self.arrays.get_mut(&var) {
+            let put: Result<_, _> = array.put(index, value);
+            put.unwrap();
+        }
     }
 
     // What updates in order change.

@@ -8,9 +8,10 @@ use Rattle.snap_core.specs.declared.place.Place.{Place}
 use Rattle.snap_core.specs.declared.policy.Pol.{Pol}
 use Rattle.snap_core.specs.Arrays.{Arrays}
 use Rattle.snap_core.specs.Meaning.{Meaning, eval}
+use Rattle.snap_core.specs.Inputs.{IsStore}
 use Rattle.snap_dep.specs.Dependencies.{Depends, UsesBelow}
 use Rattle.snap_dep.specs.Ranks.{Precedes, IsGroup, IsRank, IsRankIn}
-use Rattle.snap_dep.specs.Locality.{ActsByRank, AgreeOn, IsClosed, cut, arrays_after, IsStore}
+use Rattle.snap_dep.specs.Locality.{ActsByRank, AgreeOn, IsClosed, cut, arrays_after}
 use Rattle.snap_dep.proofs.Below.{depends_below}
 use Rattle.snap_dep.proofs.Taking.{begun_groups, begun_once}
 use Rattle.snap_dep.proofs.Locals.{settled, IfBoth, SettledAt}

@@ -1,9 +1,9 @@
 -- What a group becomes depends on itself and on the groups before it alone.
-use Rattle.std.specs.Prelude.{◌≡◌, ◌≢◌, ℕ, ◌<◌, ◌≤◌, ◌^◌, Bool, true, nat_le, Option, Some, None, List, length, if◌then◌else◌}
-use Rattle.std.specs.List.{All}
+use Rattle.std.specs.Prelude.{◌≡◌, ◌≢◌, ℕ, ◌≤◌, Bool, true, nat_le, Option, Some, None, List, if◌then◌else◌}
 use Rattle.snap_core.specs.declared.place.Place.{Place}
 use Rattle.snap_core.specs.declared.policy.Pol.{Pol}
 use Rattle.snap_core.specs.Arrays.{Arrays}
+use Rattle.snap_core.specs.Inputs.{IsStore, IsPacket}
 use Rattle.snap_core.specs.Meaning.{Meaning, eval}
 use Rattle.snap_dep.specs.Dependencies.{Depends, UsesBelow}
 use Rattle.snap_dep.specs.Ranks.{IsRank, IsRankIn}
@@ -25,14 +25,6 @@ KeepsAgreement =
 -- m with each variable of a rank above r set to 0
 abbrev pub cut : (ℕ → ℕ) → ℕ → Arrays → Arrays
 cut rank r m q = if nat_le (rank q.var) r then m q else 0
-
--- numbers that fit 64 bits, in a store and in a packet
-abbrev pub IsStore : Arrays → Type 0
-IsStore m = (q : Place) → m q < 2 ^ 64
-
-pub record IsPacket (c : ℕ) (k : List ℕ) : Type 0 where
-  pub long : length k ≡ c
-  pub numbers : All (λ x. x < 2 ^ 64) k
 
 -- evaluation is undefined for no store and packet
 abbrev pub NeverRaces : Pol → ℕ → Type 0

@@ -10,14 +10,14 @@ use Rattle.indexmap.specs.IndexMap.{insert_entry}
 use Rattle.snap_core.specs.declared.program.Field.{Field}
 use Rattle.snap_core.specs.Fields.{count, width}
 use Rattle.snap_names.specs.declared.scope.Sense.{Sense}
-use Rattle.snap_names.specs.declared.scope.Sense.TheVariants.{Plain, Split, Array, Constant, Policy}
+use Rattle.snap_names.specs.declared.scope.Sense.TheVariants.{Plain, Split, Policy}
 use Rattle.snap_names.specs.declared.scope.Body.{Body}
 use Rattle.snap_names.specs.declared.scope.Part.{Part}
 use Rattle.snap_names.specs.declared.scope.Scope.{Scope}
 use Rattle.snap_names.specs.declared.fault.NameFault.{NameFault}
 use Rattle.snap_names.specs.Core.{CorePolicy, nodes}
 use Rattle.snap_names.specs.Senses.{Arities}
-use Rattle.snap_names.specs.Declarations.{Declared, ports, is_known, field_names, field_senses, short, capped, with_field, with_array, with_constant, with_let}
+use Rattle.snap_names.specs.Declarations.{Declared, ports, is_known, field_names, field_senses, short, capped, with_field, with_let}
 use Rattle.snap_names.specs.Parts.{names_in, AreBodies, no_bodies, more_bodies, IsBody, IsPart}
 use Rattle.snap_names.specs.Scopes.{declared_in, IsScope, HasDeclared}
 use Rattle.snap_names.proofs.PartLemmas.{IsPart-later}
@@ -59,12 +59,6 @@ or_left false b h = refl
 pub or_right : (a b : Bool) → (a || b) ≡ false → b ≡ false
 or_right true b h = cc
 or_right false b h = h
-
-pub one_new : (ns n1 : List (List ℕ × Sense)) (name : List ℕ) (s : Sense)
-    → list_any (is_known ns) (field_names name false) ≡ false
-    → (is_known ns name ≡ false → n1 ≡ ns ++ (name, s) ∷ [])
-    → n1 ≡ ns ++ (name, s) ∷ []
-one_new ns n1 name s h f = f (or_left (is_known ns name) false h)
 
 pub three_new : (ns n1 n2 n3 : List (List ℕ × Sense)) (name net host : List ℕ) (s1 s2 s3 : Sense)
     → list_any (is_known ns) (field_names name true) ≡ false
@@ -129,30 +123,6 @@ field_declared old new lets arities name prefix h text ls as_is fs cs ns =
       declares = ap Ok (declared_in-is _ _ _ _ _ new lets arities (sym fs) (sym as_is) refl (sym ns) refl);
     }
 
-pub array_declared : (old new : Scope) (lets : List CorePolicy) (before behind : Arities) (name : List ℕ) → IsScope old lets
-    → new.text.now ≡ old.text.now → new.lets.items ≡ old.lets.items → new.arrays.items ≡ old.arrays.items ++ name ∷ []
-    → new.fields.items ≡ old.fields.items → new.comps ≡ old.comps → behind ≡ before ++ None ∷ []
-    → names_in new.names.entries ≡ names_in old.names.entries ++ (name, Array (length old.arrays.items)) ∷ []
-    → HasDeclared old.text.now (Ok (with_array (declared_in old lets before) name)) new behind
-array_declared old new lets before behind name h text ls ars fs cs ar ns = record {
-  lets = lets;
-  scope = record { bodies = rw ls h.bodies; comps = rw (cs, fs) h.comps };
-  text_is = text;
-  declares = ap Ok (declared_in-is _ _ _ _ _ new lets behind (sym fs) (sym ars) refl (sym ns) (sym ar));
-}
-
-pub constant_declared : (old new : Scope) (lets : List CorePolicy) (arities : Arities) (name : List ℕ) (n : ℕ) (b : Bool) → IsScope old lets
-    → new.text.now ≡ old.text.now → new.lets.items ≡ old.lets.items → new.arrays.items ≡ old.arrays.items
-    → new.fields.items ≡ old.fields.items → new.comps ≡ old.comps
-    → names_in new.names.entries ≡ names_in old.names.entries ++ (name, Constant n b) ∷ []
-    → HasDeclared old.text.now (Ok (with_constant (declared_in old lets arities) name n b)) new arities
-constant_declared old new lets arities name n b h text ls ars fs cs ns = record {
-  lets = lets;
-  scope = record { bodies = rw ls h.bodies; comps = rw (cs, fs) h.comps };
-  text_is = text;
-  declares = ap Ok (declared_in-is _ _ _ _ _ new lets arities (sym fs) (sym ars) refl (sym ns) refl);
-}
-
 pub let_declared : (old new : Scope) (lets : List CorePolicy) (before behind : Arities) (name : List ℕ) (body : Body) (p : CorePolicy) → IsScope old lets → IsBody body p
     → new.text.now ≡ old.text.now → new.lets.items ≡ old.lets.items ++ body ∷ [] → new.arrays.items ≡ old.arrays.items
     → new.fields.items ≡ old.fields.items → new.comps ≡ old.comps
@@ -164,10 +134,6 @@ let_declared old new lets before behind name body p h k text ls ars fs cs ns = r
   text_is = text;
   declares = ap Ok (declared_in-is _ _ _ _ _ new (lets ++ p ∷ []) behind (sym fs) (sym ars) refl (sym (ns ∙ ap (λ i. names_in old.names.entries ++ (name, Policy i) ∷ []) (AreBodies-length _ _ h.bodies))) refl);
 }
-
--- A name that is known is refused.
-pub is_twice : {A : Type 0} (b : Bool) (f g : NameFault) (r : Result A NameFault) → b ≡ true → f ≡ g → (if b then Err g else r) ≡ Err f
-is_twice b f g r h e = rw (h, e) refl
 
 -- A new name's declaration is what is behind the test.
 pub is_new : {A : Type 0} (b : Bool) (g : NameFault) (r s : Result A NameFault) → b ≡ false → r ≡ s → (if b then Err g else r) ≡ s

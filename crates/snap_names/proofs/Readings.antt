@@ -249,12 +249,3 @@ HasRead-leaf r policy old mid new part e same arities count h = record {
 -- the first fault of two
 pub after-refused : {A B : Type 0} (r : Result A NameFault) (g : A → Result B NameFault) (f : NameFault) → r ≡ Err f → after r g ≡ Err f
 after-refused r g f h = ap (λ y. after y g) h
-
-pub after-next : {A B : Type 0} (r : Result A NameFault) (g : A → Result B NameFault) (x : A) (s : Result B NameFault) → r ≡ Ok x → g x ≡ s → after r g ≡ s
-after-next r g x s h k = ap (λ y. after y g) h ∙ k
-
-pub operand-refused : (b : Bool) (f g : NameFault) (r : Reading) → b ≡ true → r ≡ Err g → operand b f r ≡ Err g
-operand-refused b f g r sure h = ap (λ c. operand c f r) sure ∙ ap (λ y. after y (as_test f)) h
-
-pub operand-none : (b : Bool) (f : NameFault) (r : Reading) → b ≡ false → operand b f r ≡ Err f
-operand-none b f r never = ap (λ c. operand c f r) never

@@ -23,11 +23,6 @@ pub record AreDeclared (text : List ℕ) (all rest : List DeclTree) (s : Scope) 
   pub text_is : s.text.now ≡ text
   pub rest_is : declare_all text all ports ≡ declare_all text rest (declared_in s lets arities)
 
-pub AreDeclared-none : (text : List ℕ) (all : List DeclTree) (s : Scope) (arities : Arities) → arities ≡ [] → HasDeclared text (Ok ports) s [] → AreDeclared text all all s arities
-AreDeclared-none text all s arities e h =
-    let p : ports ≡ declared_in s h.lets [] = cc h.declares in
-    record { lets = h.lets; scope = h.scope; text_is = h.text_is; rest_is = rw e (ap (declare_all text all) p) }
-
 pub AreDeclared-more : (text : List ℕ) (all : List DeclTree) (t : DeclTree) (rest : List DeclTree) (s new : Scope) (before behind : Arities)
     → AreDeclared text all (t ∷ rest) s before
     → ((lets : List CorePolicy) → IsScope s lets → HasDeclared s.text.now (declare s.text.now (declared_in s lets before) t) new behind)

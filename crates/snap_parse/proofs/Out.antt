@@ -22,9 +22,6 @@ module _ (limit free : ℕ) where
       Follows limit free (f (Some (record { kind = kind; from = t.from; to = t.to }))) (t ∷ ts) r → Follows limit free (f (Some t)) (t ∷ ts) r
   again f t kind ts r is h = subst (λ x. Follows limit free (f (Some (record { kind = x; from = t.from; to = t.to }))) (t ∷ ts) r) (sym is) h
 
-  nothing_follows : (ts : List Token) (r : SourceTree) → Follows limit free stuck ts r → ⊥
-  nothing_follows ts r h = elim h [ ]
-
   -- behind the parts of a policy
   out_after_policy : (k : AfterPolicy) (p : PolicyTree) (ts : List Token) (r : SourceTree) → Follows limit free (after_policy k p (front ts)) ts r → PolicyGoesOn limit free k p ts r
   out_after_policy (the_end ds) p [] r follows_done = on_end

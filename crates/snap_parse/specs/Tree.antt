@@ -90,14 +90,6 @@ abbrev pub either_at : EitherTree → ℕ
 either_at (either_begin at) = at
 either_at (either_more e b) = either_at e
 
-abbrev pub sequence_at : SequenceTree → ℕ
-sequence_at (sequence_begin at) = at
-sequence_at (sequence_more q c) = sequence_at q
-
-abbrev pub policy_at : PolicyTree → ℕ
-policy_at (policy_begin at) = at
-policy_at (policy_more p s) = policy_at p
-
 abbrev pub span_of : Token → Span
 span_of t = record { from = t.from; to = t.to }
 

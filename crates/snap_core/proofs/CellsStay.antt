@@ -1,0 +1,71 @@
+-- Cells of a store that stay.
+use Rattle.std.proofs.Common.{◌≡◌, ℕ, Bool, true, false, cond, List, [], Option, None, Some, IsTrue, map, refl, sym, ap, subst, ◌∙◌, ⊎_elim}
+use Rattle.std.specs.Prelude.{is_some, nat_eq, unwrap_or}
+use Rattle.std.specs.Str.{bytes_eq}
+use Rattle.std.specs.Ordering.{nat_cmp}
+use Rattle.std.specs.BTreeMap.{BTreeMap, UpdatesBy}
+use Rattle.std.specs.Cmp.Lexicographic.{nat_list_eq_equiv}
+use Rattle.std.proofs.lemmas.Bool.{cases_Bool, cond-true, cond-false, eq-eqb, eqb-true}
+use Rattle.snap_core.specs.declared.place.Place.{Place}
+use Rattle.snap_core.specs.declared.policy.Update.{Update}
+use Rattle.snap_core.specs.Arrays.{Arrays, same_place, put, value_of, place_at, number_after, update}
+use Rattle.snap_core.specs.Cells.{Cells, cell, array_at}
+use Rattle.snap_core.specs.CellsKept.{cell_at, HasCellsOf}
+use Rattle.snap_core.proofs.Places.{same_key, same_place-exact}
+use Rattle.snap_core.proofs.StoreLemmas.{at-updated}
+
+-- a store after one array got cells at the same indices, and maybe at more
+pub cells-kept : (s : ℕ) (m n : BTreeMap ℕ (Cells × ℕ)) (b : Cells × ℕ)
+    → ((q : List ℕ) → IsTrue (is_some (cell (array_at m.entries s).0 q)) → IsTrue (is_some (cell b.0 q)))
+    → UpdatesBy nat_cmp (nat_cmp s) m n (Some b)
+    → HasCellsOf m.entries n.entries
+cells-kept s m n b h u p some =
+    subst (λ a. IsTrue (is_some (cell a.0 p.index))) (sym (at-updated ([], 0) (λ a. cell a.0) s m n (Some b) u p.var)) (same (nat_eq s p.var) refl)
+  where
+    same : (t : Bool) → nat_eq s p.var ≡ t → IsTrue (is_some (cell (cond t b (array_at m.entries p.var)).0 p.index))
+    same true e = h p.index (subst (λ x. IsTrue (is_some (cell (array_at m.entries x).0 p.index))) (sym (eqb-true s p.var e)) some)
+    same false e = some
+
+-- the cells of that array
+pub cell-updated : (s : ℕ) (q : List ℕ) (m n : BTreeMap ℕ (Cells × ℕ)) (b : Cells × ℕ)
+    → UpdatesBy nat_cmp (nat_cmp s) m n (Some b)
+    → cell_at n.entries (record { var = s; index = q }) ≡ cell b.0 q
+cell-updated s q m n b u =
+    ap (λ a. cell a.0 q) (at-updated ([], 0) (λ a. cell a.0) s m n (Some b) u s ∙ ap (λ t. cond t b (array_at m.entries s)) (eq-eqb s s refl))
+
+-- the number that was there is put back
+pub put-back : (m : Arrays) (p : Place) (v : ℕ) → put (put m p v) p (m p) ≡ m
+put-back m p v = λ i q. back q (same_place p q) refl i
+  where
+    back : (q : Place) (t : Bool) → same_place p q ≡ t → cond (same_place p q) (m p) (cond (same_place p q) v (m q)) ≡ m q
+    back q true e = cond-true _ _ _ e ∙ ap m (same_place-exact p q e)
+    back q false e = cond-false _ _ _ e ∙ cond-false _ _ _ e
+
+-- ---- one update, which may be undone
+pub update-done : (m h w : Arrays) (u : Update) (k ix : List ℕ) (v : ℕ)
+    → ix ≡ map (λ e. value_of e k) u.index
+    → h ≡ m
+    → v ≡ h (record { var = u.var; index = ix })
+    → w ≡ put h (record { var = u.var; index = ix }) (number_after u.op v k)
+    → w ≡ update m u k
+update-done m h w u k ix v at same number done =
+    let old : v ≡ m (place_at u.var u.index k) = number ∙ (λ i. same i (record { var = u.var; index = at i })) in
+    done ∙ (λ i. put (same i) (record { var = u.var; index = at i }) (number_after u.op (old i) k))
+
+pub update-undone : (m h w r z : Arrays) (p : Place) (x v : ℕ) → h ≡ m → v ≡ h p → w ≡ put h p x → r ≡ w → z ≡ put r p v → z ≡ m
+update-undone m h w r z p x v same number done kept back = back ∙ (λ i. put ((kept ∙ done) i) p (number i)) ∙ put-back h p x ∙ same
+
+-- ---- cells after one is made with 0
+pub made-here : (ix : List ℕ) (o : Option ℕ) (v : ℕ) → cond (bytes_eq ix ix) (Some v) o ≡ Some v
+made-here ix o v = cond-true _ _ _ (nat_list_eq_equiv.refl ix)
+
+pub made-zero : (cs : Cells) (ix q : List ℕ) → cell cs ix ≡ None → unwrap_or (cond (bytes_eq ix q) (Some 0) (cell cs q)) 0 ≡ unwrap_or (cell cs q) 0
+made-zero cs ix q none = by_same (bytes_eq ix q) refl
+  where
+    by_same : (t : Bool) → bytes_eq ix q ≡ t → unwrap_or (cond t (Some 0) (cell cs q)) 0 ≡ unwrap_or (cell cs q) 0
+    by_same true e = sym (ap (λ o. unwrap_or o 0) (subst (λ k. cell cs k ≡ None) (same_key ix q e) none))
+    by_same false e = refl
+
+pub put-kept : (t : Bool) (v : ℕ) (o : Option ℕ) → IsTrue (is_some o) → IsTrue (is_some (cond t (Some v) o))
+put-kept true v o h = refl
+put-kept false v o h = h

@@ -1,0 +1,6 @@
+-- The updates so far.
+use Rattle.std.proofs.Common.{◌≡◌, take}
+use Rattle.snap_core.proofs.policy.copy_updates.Given as goal
+
+abbrev pub invariant-loop-update : goal.invariant-loop-update
+invariant-loop-update l = l.copies.items ≡ take l.update-index l.updates
