@@ -1,12 +1,11 @@
 //! Nodes.
 
-ghost use Rattle.std.specs.Prelude.{◌≡◌, ◌++◌, IfOk, OnOk, List, ℕ};
+ghost use Rattle.std.specs.Prelude.{◌≡◌, ◌++◌, OnOk, List, ℕ};
 ghost use Rattle.snap_arena.specs.Codes.{node_code};
 
 use crate::codes::push_test;
 use snap_core::NoMemory;
 use snap_core::policy::Test;
-use std::alloc::Global;
 
 /// A test with the numbers of its two ways, or a leaf.
 #[derive(Drop)]
@@ -28,22 +27,21 @@ pub trait Coded {
         ensures { (a b : Self) → code a ≡ code b → a ≡ b };
 }
 
-// A node's numbers.
-pub(crate) fn code_of<L: Coded>(alloc: Global, node: &Node<L>) -> Result<Vec<u64>, NoMemory>
-    ensures { IfOk result (λ code. code.items ≡ node_code L.code node.now) }
+// Makes a list a node's numbers.
+pub(crate) fn put_code<L: Coded>(code: &mut Vec<u64>, node: &Node<L>) -> Result<(), NoMemory>
+    ensures { OnOk result (code.new.items ≡ node_code L.code node.now) }
 {
-    let mut code = Vec::new(alloc);
+    code.clear();
     match node {
         Node::Ask { test, yes, no } => {
             code.push(1)?;
             code.push(*yes)?;
             code.push(*no)?;
-            push_test(&mut code, test)?;
+            push_test(code, test)
         }
         Node::Leaf(leaf) => {
             code.push(0)?;
-            leaf.push_code(&mut code)?;
+            leaf.push_code(code)
         }
     }
-    Ok(code)
 }

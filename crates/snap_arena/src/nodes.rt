@@ -4,7 +4,7 @@ ghost use Rattle.std.specs.Prelude.{◌≡◌, ◌≢◌, ◌<◌, IfOk, OnErr, 
 ghost use Rattle.snap_arena.specs.declared.node.Node.TheVariants.{Ask, Leaf};
 ghost use Rattle.snap_arena.specs.Arena.{IsArena, IsLower, Grew, IsNoted};
 
-use crate::node::{Coded, Node, code_of};
+use crate::node::{Coded, Node, put_code};
 use crate::numbers::Numbers;
 use snap_core::NoMemory;
 use snap_core::policy::Test;
@@ -18,6 +18,8 @@ pub struct Nodes<L: Coded> {
     alloc: Global,
     nodes: Vec<Node<L>>,
     numbers: Numbers,
+    // The code of the node that is looked for, so that a look-up takes no memory.
+    sought: Vec<u64>,
 }
 
 impl<L: Coded> Model for Nodes<L> {
@@ -41,6 +43,7 @@ impl<L: Coded + Drop> Nodes<L> {
             alloc,
             nodes: Vec::new(alloc),
             numbers: Numbers::new(alloc),
+            sought: Vec::new(alloc),
         }
     }
 
@@ -65,6 +68,7 @@ impl<L: Coded + Drop> Nodes<L> {
         ensures both { IfOk result (λ d. yes ≡ no → (d ≡ yes) × (self.new ≡ self.old)) }
         ensures ok { IfOk result (λ d. yes ≢ no → IsNoted self.old (Ask test yes no) self.new d) }
         ensures lower { IfOk result (λ d. yes ≢ no → (yes < d) × (no < d)) }
+        ensures number { IfOk result (λ d. d < length self.new) }
         ensures err { OnErr result (self.new ≡ self.old) }
         ensures grew { Grew self.old self.new }
     {
@@ -102,11 +106,12 @@ impl<L: Coded + Drop> Nodes<L> {
         ensures err { OnErr result (self.new ≡ self.old) }
         ensures grew { Grew self.old self.new }
     {
-        let code = code_of(self.alloc, &node)?;
+        put_code(&mut self.sought, &node)?;
         L::codes_differ();
-        match self.numbers.get(&code) {
+        match self.numbers.get(&self.sought) {
             Some(id) => Ok(id),
             None => {
+                let code = Vec::from_slice(self.alloc, &self.sought)?;
                 let count = self.nodes.len();
                 self.nodes.push(node)?;
                 if let Err(fault) = self.numbers.put(code, count as u64) {

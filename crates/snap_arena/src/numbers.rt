@@ -6,13 +6,15 @@ ghost use Rattle.snap_core.specs.Cells.{cell};
 
 use snap_core::NoMemory;
 use std::alloc::Global;
-use std::collections::BTreeMap;
+use std::collections::HashMap;
 use std::marker::Model;
 
-/// The numbers of nodes by their codes, or by what they were made of.
+/// The numbers of nodes by their codes, or by what they were made of. They are found by a hash. Whoever writes a program
+/// can make hashes meet, we reason (it wasn't measured) of about as many nodes as it has tests, since the numbers of a node's
+/// ways go into its code before its test.
 #[derive(Drop)]
 pub struct Numbers {
-    numbers: BTreeMap<Vec<u64>, u64>,
+    numbers: HashMap<Vec<u64>, u64>,
 }
 
 impl Model for Numbers {
@@ -29,7 +31,7 @@ impl Numbers {
         ensures { result ≡ [] }
     {
         Numbers {
-            numbers: BTreeMap::new(alloc),
+            numbers: HashMap::new(alloc),
         }
     }
 

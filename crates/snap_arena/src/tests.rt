@@ -2,6 +2,7 @@ ghost use Rattle.std.specs.Prelude.{◌≡◌, ◌++◌, List, ℕ, [], ◌∷�
 
 use crate::node::{Coded, Node};
 use crate::nodes::Nodes;
+use crate::numbers::Numbers;
 use snap_core::NoMemory;
 use snap_core::lists::Atoms;
 use snap_core::policy::{Atom, Term, Test};
@@ -51,5 +52,17 @@ fn a_node_stands_once(rt: HostRuntime) -> Result<(), Fail> {
     let leaf = nodes.leaf(Mark { num: 7 })?;
     assert!(rt; way == 3 && leaf == 0 && nodes.count() == 4);
     assert!(rt; matches!(nodes.get(3), Node::Ask { yes: 0, no: 1, .. }));
+    Ok(())
+}
+
+#[test]
+fn a_list_has_the_number_put_last(rt: HostRuntime) -> Result<(), Fail> {
+    let alloc = rt.alloc();
+    let mut numbers = Numbers::new(alloc);
+    numbers.put(vec![in alloc; 1, 2]?, 5)?;
+    numbers.put(vec![in alloc; 1]?, 6)?;
+    numbers.put(vec![in alloc; 1, 2]?, 7)?;
+    assert!(rt; numbers.get(&[1, 2]) == Some(7) && numbers.get(&[1]) == Some(6));
+    assert!(rt; numbers.get(&[2]).is_none());
     Ok(())
 }

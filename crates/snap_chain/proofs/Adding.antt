@@ -1,6 +1,5 @@
 -- Additions in any order do the same.
 use Rattle.std.proofs.Common.{◌≡◌, ℕ, ◌+◌, ◌%◌, ◌<◌, ◌^◌, Bool, true, false, cond, List, [], ◌∷◌, refl, sym, ap, subst, ◌∙◌, arith}
-use Rattle.std.specs.Prelude.{All}
 use Rattle.std.specs.List.{AllByRecursion, sum_by}
 use Rattle.std.specs.List.Sorted.{IsPermutation}
 use Rattle.std.proofs.lemmas.List.Elements.{All-from_recursion, recursion_from_All}
@@ -11,10 +10,10 @@ use Rattle.snap_core.specs.declared.policy.Op.{Op}
 use Rattle.snap_core.specs.declared.policy.Op.TheVariants.{Put, Add}
 use Rattle.snap_core.specs.declared.policy.Update.{Update}
 use Rattle.snap_core.specs.Arrays.{Arrays, number_after, place_at, same_place, update, updates}
-use Rattle.snap_ctx.specs.Meets.{IsStore}
 use Rattle.snap_ctx.proofs.Places.{same_place-true}
 use Rattle.snap_core.specs.declared.policy.Atom.{Atom}
 use Rattle.snap_core.specs.Tests.{after_out}
+use Rattle.snap_core.specs.Inputs.{IsStore}
 use Rattle.snap_ctx.specs.View.{View}
 use Rattle.snap_dep.specs.Ranks.{Grouping}
 use Rattle.snap_fdd.specs.Diagrams.{Diagram, walk}

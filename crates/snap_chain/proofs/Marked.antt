@@ -105,9 +105,6 @@ marked_more ns marks k l h new = record {
   ];
 }
 
-pub marked_none : (ns : List (Node Leaf)) (marks : List Mark) → marks ≡ [] → AreMarked ns marks
-marked_none ns marks e = rw e (record { few = omega arith; marked = λ i k h. absurd (omega arith) })
-
 pub marked_kept : (old new : List (Node Leaf)) (marks : List Mark) → Grew old new → AreMarked old marks → AreMarked new marks
 marked_kept old new marks g h = record {
   few = let l = length-append old g.more in let e = ap length g.is in let f = h.few in omega (arith, l, e, f);

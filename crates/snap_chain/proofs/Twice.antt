@@ -6,8 +6,8 @@ use Rattle.snap_core.specs.Variables.{has, meets}
 use Rattle.snap_core.specs.Packets.{PacketSet, union}
 use Rattle.snap_core.specs.Meaning.{Meaning, clash, joined, beside}
 use Rattle.snap_core.proofs.PacketSets.{same_packets, contains-union}
-use Rattle.snap_core.proofs.Together.{or_assoc}
-use Rattle.snap_chain.proofs.Folding.{clash-joined, or_none}
+use Rattle.snap_core.proofs.Together.{or_assoc, clash-joined}
+use Rattle.snap_chain.proofs.Folding.{or_none}
 
 -- it isn't defined, or writes nothing
 abbrev pub IsIdle : Option Meaning → Type 0

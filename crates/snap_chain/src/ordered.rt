@@ -4,12 +4,11 @@ ghost use Rattle.std.specs.Prelude.{◌≡◌, ℕ, IfOk, IsTrue, List};
 ghost use Rattle.std.specs.List.{AllByRecursion};
 ghost use Rattle.std.specs.List.Sorted.{IsPermutation};
 ghost use Rattle.snap_core.specs.Arrays.{Arrays, updates};
-ghost use Rattle.snap_ctx.specs.Meets.{IsStore};
+ghost use Rattle.snap_core.specs.Inputs.{IsStore};
 ghost use Rattle.snap_chain.specs.Additions.{Adds};
 
 use snap_core::NoMemory;
-use snap_core::policy::{Atom, Op, Update};
-use snap_fdd::leaf::copy_updates;
+use snap_core::policy::{Atom, Op, Update, copy_updates};
 use std::alloc::Global;
 use std::cmp::Ordering;
 

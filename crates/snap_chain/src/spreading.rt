@@ -9,7 +9,7 @@ ghost use Rattle.snap_fdd.specs.Diagrams.{diagram, Only};
 ghost use Rattle.snap_fdd.specs.declared.leaf.Leaf.{Leaf};
 ghost use Rattle.snap_fdd.specs.declared.leaf.Leaf.TheVariants.{Go as Goes};
 ghost use Rattle.snap_fdd.specs.Picks.{IsArgument, sizes};
-ghost use Rattle.snap_chain.specs.Memoed.{PrefixedFor};
+ghost use Rattle.snap_chain.specs.Memoed.{PrefixedFor, IsAskedPrefix};
 ghost use Rattle.snap_chain.specs.Marks.{AreMarked};
 ghost use Rattle.snap_chain.specs.Spread.{behind_leaf, IsRun, IsPrefixed, IsSpread, IsSequel};
 
@@ -20,10 +20,10 @@ use snap_arena::nodes::Nodes;
 use snap_arena::numbers::Numbers;
 use snap_core::NoMemory;
 use snap_core::lists::Out;
-use snap_core::policy::Update;
+use snap_core::policy::{Update, copy_updates};
 use snap_ctx::context::Context;
 use snap_dep::groups::Groups;
-use snap_fdd::leaf::{Go, Leaf, Outs, Updates, copy_updates};
+use snap_fdd::leaf::{Go, Leaf, Outs, Updates};
 use snap_fdd::only::only;
 use snap_fdd::pick::ite;
 use snap_fdd::pruning::{Part, part_of};
@@ -87,9 +87,7 @@ fn prefixed(
     go: &Go,
     d: u64,
 ) -> Result<u64, NoMemory>
-    requires d { IsArgument groups.now ctx.now nodes.old d }
-    requires go { LeafIn (sizes groups.now ctx.now) (Goes go.now) }
-    requires memo { Remembers (PrefixedFor groups.now ctx.now go.now nodes.old) memo.old }
+    requires { IsAskedPrefix groups.now ctx.now go.now nodes.old memo.old d }
     ensures grew { Grew nodes.old nodes.new }
     ensures number { IfOk result (λ r. r < length nodes.new) }
     ensures prefixed { IfOk result (λ r. IsPrefixed groups.now ctx.now go.now (diagram nodes.old d) (diagram nodes.new r)) }
@@ -112,9 +110,7 @@ fn prefixed_anew(
     go: &Go,
     d: u64,
 ) -> Result<u64, NoMemory>
-    requires d { IsArgument groups.now ctx.now nodes.old d }
-    requires go { LeafIn (sizes groups.now ctx.now) (Goes go.now) }
-    requires memo { Remembers (PrefixedFor groups.now ctx.now go.now nodes.old) memo.old }
+    requires { IsAskedPrefix groups.now ctx.now go.now nodes.old memo.old d }
     ensures grew { Grew nodes.old nodes.new }
     ensures number { IfOk result (λ r. r < length nodes.new) }
     ensures prefixed { IfOk result (λ r. IsPrefixed groups.now ctx.now go.now (diagram nodes.old d) (diagram nodes.new r)) }

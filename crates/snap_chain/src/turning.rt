@@ -74,7 +74,7 @@ fn asked_by_second(
             if !misses_test(mark, &other) {
                 return Ok(None);
             }
-            if compare(nodes.allocator(), groups, &other, test)? == Ordering::Greater {
+            if compare(groups, &other, test) == Ordering::Greater {
                 return Ok(None);
             }
             let yes = Pair {

@@ -6,7 +6,7 @@ use Rattle.snap_core.specs.declared.policy.Test.{Test}
 use Rattle.snap_core.specs.Arrays.{Arrays}
 use Rattle.snap_core.specs.Tests.{passes}
 use Rattle.snap_ctx.specs.declared.fact.Fact.{Fact}
-use Rattle.snap_ctx.specs.Meets.{Meets, Under, with_fact}
+use Rattle.snap_ctx.specs.Meets.{Meets, with_fact}
 use Rattle.snap_ctx.proofs.Each.{Each-left, Each-right}
 
 pub Meets-parts : (facts : List Fact) (t : Test) (y : Bool) (m : Arrays) (k : List ℕ) → Meets (with_fact facts t y) m k → Meets facts m k × (passes t m k ≡ y)
@@ -25,7 +25,3 @@ Meets-an_answer facts t m k h =
     (λ (y : passes t m k ≡ true). inl (Meets-with_fact facts t true m k h y))
     (λ (n : passes t m k ≡ false). inr (Meets-with_fact facts t false m k h n))
     (cases_Bool (passes t m k))
-
--- what holds under both answers of a test holds
-pub Under-both_answers : (comps : ℕ) (facts : List Fact) (t : Test) (P : Arrays → List ℕ → Type 0) → Under comps (with_fact facts t true) P → Under comps (with_fact facts t false) P → Under comps facts P
-Under-both_answers comps facts t P yes' no' m k p h = ⊎_elim (λ (y : Meets (with_fact facts t true) m k). yes' m k p y) (λ (n : Meets (with_fact facts t false) m k). no' m k p n) (Meets-an_answer facts t m k h)

@@ -8,8 +8,9 @@ use Rattle.snap_core.specs.declared.policy.Term.{Term}
 use Rattle.snap_core.specs.declared.policy.Term.TheVariants.{Plus}
 use Rattle.snap_core.specs.declared.policy.Test.{Test}
 use Rattle.snap_core.specs.Tests.{passes, term_value}
+use Rattle.snap_core.specs.Inputs.{IsPacket}
 use Rattle.snap_ctx.specs.declared.fact.Fact.{Fact}
-use Rattle.snap_ctx.specs.Meets.{Under, IsPacket, IsMet, NoneMeets, with_fact}
+use Rattle.snap_ctx.specs.Meets.{Under, IsMet, NoneMeets, with_fact}
 use Rattle.snap_ctx.specs.Classes.{class_of, IsTest, IsClass, FactRule, PairRule, Says, Rules, left_of, normal}
 use Rattle.snap_ctx.specs.Closing.{IsClosed, IsBroken, MeetsWith, RulesFor, RulesOf, AllRules}
 use Rattle.snap_ctx.specs.View.{View, IsContext, AreFirst}
@@ -82,7 +83,7 @@ module _ (v : View) (t : Test) (y : Bool) (ctx : IsContext v) where
       few = rw closed.same ctx.few;
       many = rw length-append (omega (arith, room));
       told = λ m k p meets.
-          let q : IsPacket (length v.classes) k = (p.0 ∙ closed.same, p.1) in
+          let q : IsPacket (length v.classes) k = record { long = p.long ∙ closed.same; numbers = p.numbers } in
           let both : MeetsWith (record { test = t; yes = y }) v.facts m k = swapped (Meets-parts v.facts t y m k meets) in
           closed.keeps m k q both (ctx.told m k q both.1);
     }
@@ -95,7 +96,7 @@ pub always_passes : (v : View) (t : Test) → NoneMeets (length v.classes) (with
 always_passes v t none m k p h = true_from_ne_false (passes t m k) (λ y. none m k p (Meets-with_fact v.facts t false m k h y))
 
 pub class_told : (v : View) (c : ℕ) → IsContext v → c < length v.classes → Under (length v.classes) v.facts (λ m k. term_value (class_of v.classes c) k ≡ slice_index k c)
-class_told v c ctx l m k p meets = ctx.told m k p meets c l ∙ wrap_zero (slice_index k c) (p.1 c 0 (rw p.0 l))
+class_told v c ctx l m k p meets = ctx.told m k p meets c l ∙ wrap_zero (slice_index k c) (p.numbers c 0 (rw p.long l))
 
 -- what was found of copies holds of the context
 module _ (v : View) (facts : List Fact) (cl : List Term) (facts_are : facts ≡ v.facts) (classes_are : cl ≡ v.classes) where

@@ -5,8 +5,9 @@ use Rattle.snap_core.specs.declared.place.Entry.{Entry}
 use Rattle.snap_core.specs.declared.place.Place.{Place}
 use Rattle.snap_core.specs.Arrays.{Arrays, same_place}
 use Rattle.snap_core.specs.Listing.{number_in}
+use Rattle.snap_core.specs.Inputs.{IsStore, IsPacket}
 use Rattle.snap_ctx.specs.declared.fact.Fact.{Fact}
-use Rattle.snap_ctx.specs.Meets.{Meets, IsStore, IsPacket, IsMet}
+use Rattle.snap_ctx.specs.Meets.{Meets, IsMet}
 use Rattle.snap_ctx.proofs.Places.{place_of, passes-like, same_place-true, same_place-refl}
 
 -- some arrays, not always a finite store, and a packet that meet the facts

@@ -15,8 +15,9 @@ use Rattle.snap_core.specs.declared.policy.Test.TheVariants.{Value, Equal, State
 use Rattle.snap_core.specs.Arrays.{Arrays, value_of}
 use Rattle.snap_core.specs.Tests.{passes, term_value}
 use Rattle.snap_core.specs.Variables.{has}
+use Rattle.snap_core.specs.Inputs.{IsPacket}
 use Rattle.snap_ctx.specs.declared.fact.Fact.{Fact}
-use Rattle.snap_ctx.specs.Meets.{Meets, IsPacket, IsMet}
+use Rattle.snap_ctx.specs.Meets.{Meets, IsMet}
 use Rattle.snap_ctx.specs.Classes.{wrap, shift, class_of, normal, atom_class, IsTerm, IsAtom, IsTest, IsClass, Fits, is_state, var_of, index_of, left_of, right_of, Says, SamePlace, FactRule, PairRule, Rules}
 use Rattle.snap_ctx.specs.Known.{IsAmong, AtomOver, TermOver, TestOver, Normal, Differ, Held, within, are_within, outside, are_outside, is_number, are_numbers, spot, tied, loose, apart_of, held_of, known, with_some, all_known, normals_key, classes_key, IsRooted, IsAtSpot, IsSettled, IsKnown}
 use Rattle.snap_ctx.specs.View.{View, IsContext}
@@ -243,7 +244,7 @@ module _ (w : View) (comps arrays : ℕ) (key : List ℕ) (is : IsKnown w comps 
   over_atom : (a : Atom) → IsAtom (length w.classes) a → AtomOver comps a → atom_class new a ≡ Num (value_of a k)
   over_atom (Number n) h o = refl
   over_atom (Comp c) h o =
-      let small : slice_index k c < 2 ^ 64 = p.1 c 0 (rw p.0 h) in
+      let small : slice_index k c < 2 ^ 64 = p.numbers c 0 (rw p.long h) in
       let in' : has comps c ≡ true = o (let f = ctx.few in omega (arith, h, f)) in
       class_of-pinned is.roots k w.classes c h ∙ (pinned_within is.roots k (class_of w.classes c) (is.classes c h in') ∙ ap Num (fits c h in' ∙ wrap_zero (slice_index k c) small))
 
@@ -339,6 +340,6 @@ known_alike v w comps arrays key cv cw count kv kw m k p facts path tests over m
     let told = cv.told m k p facts in
     let said : AllByRecursion (SaysSo m k) (all_known v.classes kv.roots kv.settled v.facts)
     = all_said v.classes kv.roots kv.settled m k v.facts (recursion_from_All (λ f. IsTest (length v.classes) f.test) v.facts cv.rules.tests) p told (recursion_from_All (λ f. passes f.test m k ≡ f.yes) v.facts facts) in
-    met_there w comps arrays key kw cw m k (p.0 ∙ count, p.1) (subst (λ (ns : List Normal). AllByRecursion (SaysSo m k) ns) normals said)
+    met_there w comps arrays key kw cw m k (record { long = p.long ∙ count; numbers = p.numbers }) (subst (λ (ns : List Normal). AllByRecursion (SaysSo m k) ns) normals said)
     (λ c l h. ap (λ t. term_value t k) (sym (both.0 c (Plus c 0) (rw count l) (subst (λ (n : ℕ). has comps n ≡ true) (let e : c ≡ 0 + c = omega arith in e) h))) ∙ told c (rw count l))
     path tests over met short

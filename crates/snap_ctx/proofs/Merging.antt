@@ -8,7 +8,7 @@ use Rattle.snap_core.specs.declared.policy.Term.TheVariants.{Num, Plus}
 use Rattle.snap_core.specs.Tests.{term_value}
 use Rattle.snap_ctx.specs.Classes.{wrap, shift, class_of, IsClass, Fits}
 use Rattle.snap_ctx.specs.Closing.{IsOther, replace, put, merged}
-use Rattle.snap_ctx.proofs.Wrap.{wrap_below, wrap_cancel_right}
+use Rattle.snap_ctx.proofs.Wrap.{wrap_below}
 use Rattle.snap_ctx.proofs.Algebra.{class_of-put, Fits-put}
 use Rattle.snap_ctx.proofs.Roots.{classes-put}
 
@@ -131,25 +131,3 @@ merged_fits cl new (Plus r p) (Plus q u) k ha hb e f v =
           rw s at (Fits-put k cl r (Plus q (wrap u (2 ^ 64 - p))) f (solve_sum (slice_index k r) (slice_index k q) p u ha.1 v))
     ]
     in by (r == q) (p == u) e
-
--- where they cannot be made equal, they are nowhere equal
-pub merged_none : (cl : List Term) (a b : Term) (k : List ℕ) → IsClass cl a → IsClass cl b → merged cl a b ≡ None → term_value a k ≡ term_value b k → ⊥
-merged_none cl (Num x) (Num y) k ha hb e v =
-    let by : (t : Bool) → (x == y) ≡ t → cond t (Some cl) None ≡ None → ⊥
-    = λ t. elim t as (λ t. (x == y) ≡ t → cond t (Some cl) None ≡ None → ⊥)
-    [ true ↦ λ w i. cc | false ↦ λ w i. eqb-false x y w v ]
-    in by (x == y) refl e
-merged_none cl (Num x) (Plus q u) k ha hb e v = cc
-merged_none cl (Plus r p) (Num y) k ha hb e v = cc
-merged_none cl (Plus r p) (Plus q u) k ha hb e v =
-    let by : (t w : Bool) → (r == q) ≡ t → (p == u) ≡ w → cond t (cond w (Some cl) None) (Some (put cl r (Plus q (wrap u (2 ^ 64 - p))))) ≡ None → ⊥
-    = λ t w. elim t as (λ t. (r == q) ≡ t → (p == u) ≡ w → cond t (cond w (Some cl) None) (Some (put cl r (Plus q (wrap u (2 ^ 64 - p))))) ≡ None → ⊥) [
-      | true ↦ elim w as (λ w. (r == q) ≡ true → (p == u) ≡ w → cond w (Some cl) None ≡ None → ⊥) [
-        | true ↦ λ z y i. cc
-        | false ↦ λ z y i. let s : r ≡ q = eqb-true r q z in
-            let v' : wrap (slice_index k q) p ≡ wrap (slice_index k q) u = rw s at v in
-            eqb-false p u y (wrap_cancel_right (slice_index k q) p u ha.1 hb.1 v')
-      ]
-      | false ↦ λ z y i. cc
-    ]
-    in by (r == q) (p == u) refl refl e

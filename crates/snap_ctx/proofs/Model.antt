@@ -14,8 +14,9 @@ use Rattle.snap_core.specs.declared.policy.Test.{Test}
 use Rattle.snap_core.specs.declared.policy.Test.TheVariants.{Value, Equal, State}
 use Rattle.snap_core.specs.Arrays.{Arrays, same_place, value_of}
 use Rattle.snap_core.specs.Tests.{passes, term_value}
+use Rattle.snap_core.specs.Inputs.{IsStore, IsPacket}
 use Rattle.snap_ctx.specs.declared.fact.Fact.{Fact}
-use Rattle.snap_ctx.specs.Meets.{IsStore, IsPacket, IsMet}
+use Rattle.snap_ctx.specs.Meets.{IsMet}
 use Rattle.snap_ctx.specs.Classes.{wrap, class_of, normal, atom_class, IsTerm, IsAtom, IsTest, IsClass, is_state, left_of, right_of, index_of, Says, SamePlace, PairRule, Rules}
 use Rattle.snap_ctx.proofs.Wrap.{wrap_below, wrap_zero}
 use Rattle.snap_ctx.proofs.Roots.{left-term, index-atoms}
@@ -102,12 +103,12 @@ says_terms cl k y a b t ha hb s =
 -- a value or equal fact is met
 alone_met : (cl : List Term) (k : List ℕ) (m : Arrays) (t : Test) (y : Bool) → Tells cl k → IsPacket (length cl) k → IsTest (length cl) t → is_state t ≡ false → Says y (normal cl (left_of t)) (normal cl (right_of t)) → passes t m k ≡ y
 alone_met cl k m (Value c n) y t p h st s =
-    let lt : slice_index k c < 2 ^ 64 = p.1 c 0 (rw p.0 h.0) in
+    let lt : slice_index k c < 2 ^ 64 = p.numbers c 0 (rw p.long h.0) in
     let z : wrap (slice_index k c) 0 ≡ slice_index k c = wrap_zero (slice_index k c) lt in
     let e : (wrap (slice_index k c) 0 == n) ≡ y = says_terms cl k y (Plus c 0) (Num n) t (h.0, omega arith) h.1 s in
     rw z at e
 alone_met cl k m (Equal l r q) y t p h st s =
-    let lt : slice_index k l < 2 ^ 64 = p.1 l 0 (rw p.0 h.0) in
+    let lt : slice_index k l < 2 ^ 64 = p.numbers l 0 (rw p.long h.0) in
     let z : wrap (slice_index k l) 0 ≡ slice_index k l = wrap_zero (slice_index k l) lt in
     let e : (wrap (slice_index k l) 0 == wrap (slice_index k r) q) ≡ y = says_terms cl k y (Plus l 0) (Plus r q) t (h.0, omega arith) (h.1, h.2) s in
     rw z at e
@@ -155,7 +156,7 @@ const_model facts cl rules few consts =
     = fresh_number (2 ^ 64) (map (λ (f : Fact). term_value (left_of f.test) (packet_of cl)) facts) (rw length-map (omega (arith, few))) in
     let away : AllByRecursion (λ f. term_value (left_of f.test) (packet_of cl) ≢ found.0) facts = Each-unmap (λ y. y ≢ found.0) (λ f. term_value (left_of f.test) (packet_of cl)) facts found.2 in
     let t : Tells cl (packet_of cl) = tells cl consts in
-    let p : IsPacket (length cl) (packet_of cl) = (length-map cl const_of, small_packet cl rules.classes consts) in
+    let p : IsPacket (length cl) (packet_of cl) = record { long = length-map cl const_of; numbers = small_packet cl rules.classes consts } in
     record {
       arrays = look_up facts (packet_of cl) found.0;
       packet = packet_of cl;

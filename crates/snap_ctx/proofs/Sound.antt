@@ -12,10 +12,10 @@ use Rattle.snap_core.specs.declared.policy.Test.{Test}
 use Rattle.snap_core.specs.declared.policy.Test.TheVariants.{Value, Equal, State}
 use Rattle.snap_core.specs.Arrays.{Arrays, value_of}
 use Rattle.snap_core.specs.Tests.{passes, term_value}
+use Rattle.snap_core.specs.Inputs.{IsPacket}
 use Rattle.snap_ctx.specs.declared.fact.Fact.{Fact}
 use Rattle.snap_ctx.specs.declared.look.Breach.{Breach}
 use Rattle.snap_ctx.specs.declared.look.Breach.TheVariants.{Join, Contradiction}
-use Rattle.snap_ctx.specs.Meets.{IsPacket}
 use Rattle.snap_ctx.specs.Classes.{wrap, shift, class_of, normal, atom_class, IsTerm, IsAtom, IsTest, IsClass, Fits, is_state, left_of, right_of, index_of, Says, SamePlace, PairRule}
 use Rattle.snap_ctx.specs.Closing.{IsBreach, Compares, MeetsOne, MeetsTwo}
 use Rattle.snap_ctx.proofs.Wrap.{wrap_below, wrap_zero}
@@ -26,7 +26,7 @@ use Rattle.snap_ctx.proofs.Places.{place_of, passes-state}
 atom_class-value : (cl : List Term) (k : List ℕ) (a : Atom) → IsPacket (length cl) k → Fits cl k → IsAtom (length cl) a → value_of a k ≡ term_value (atom_class cl a) k
 atom_class-value cl k (Number n) p f h = refl
 atom_class-value cl k (Comp c) p f h =
-    let lt : slice_index k c < 2 ^ 64 = p.1 c 0 (rw p.0 h) in
+    let lt : slice_index k c < 2 ^ 64 = p.numbers c 0 (rw p.long h) in
     sym (f c h ∙ wrap_zero (slice_index k c) lt)
 
 pub index-values : (cl : List Term) (k : List ℕ) (ix : List Atom) → IsPacket (length cl) k → Fits cl k → AllByRecursion (IsAtom (length cl)) ix → map (λ a. value_of a k) ix ≡ map (λ t. term_value t k) (map (atom_class cl) ix)
@@ -55,10 +55,10 @@ says_normal cl k a b y fits ha hb e = rw (normal-value k cl a fits ha, normal-va
 -- a value or equal fact says whether its two terms are equal
 pub passes-alone : (comps : ℕ) (m : Arrays) (k : List ℕ) (t : Test) → IsPacket comps k → IsTest comps t → is_state t ≡ false → passes t m k ≡ (term_value (left_of t) k == term_value (right_of t) k)
 passes-alone comps m k (Value c n) p h st =
-    let lt : slice_index k c < 2 ^ 64 = p.1 c 0 (rw p.0 h.0) in
+    let lt : slice_index k c < 2 ^ 64 = p.numbers c 0 (rw p.long h.0) in
     ap (λ x. x == n) (sym (wrap_zero (slice_index k c) lt))
 passes-alone comps m k (Equal l r q) p h st =
-    let lt : slice_index k l < 2 ^ 64 = p.1 l 0 (rw p.0 h.0) in
+    let lt : slice_index k l < 2 ^ 64 = p.numbers l 0 (rw p.long h.0) in
     ap (λ x. x == wrap (slice_index k r) q) (sym (wrap_zero (slice_index k l) lt))
 passes-alone comps m k (State v ix u) p h st = absurd (cc)
 
@@ -95,12 +95,6 @@ breach_of holds cl a b y (Join c d) ha hb says h = record {
   equal = λ m k p holds fits. rw (h.1, h.2) (eqb-true _ _ (says m k p holds fits ∙ h.0));
 }
 breach_of holds cl a b y Contradiction ha hb says h = λ m k p holds fits. eqb-false _ _ (says m k p holds fits ∙ h.0) (ap (λ t. term_value t k) h.1)
-
-pub alone_breach : (cl : List Term) (f : Fact) (e : Breach) → All (IsClass cl) cl → IsTest (length cl) f.test → is_state f.test ≡ false → Compares (normal cl (left_of f.test)) (normal cl (right_of f.test)) f.yes e → IsBreach (MeetsOne f) cl e
-alone_breach cl f e classes h st =
-    breach_of (MeetsOne f) cl (normal cl (left_of f.test)) (normal cl (right_of f.test)) f.yes e
-    (normal_class cl (left_of f.test) classes (left-term (length cl) f.test h)) (normal_class cl (right_of f.test) classes (right-term (length cl) f.test h))
-    (λ m k p meets fits. alone_says cl f m k h st p meets fits)
 
 pub pair_breach : (cl : List Term) (f g : Fact) (e : Breach) → All (IsClass cl) cl → IsTest (length cl) f.test → IsTest (length cl) g.test → SamePlace cl f.test g.test → f.yes ≡ true → Compares (normal cl (left_of f.test)) (normal cl (left_of g.test)) g.yes e → IsBreach (MeetsTwo f g) cl e
 pair_breach cl f g e classes tf tg same y =

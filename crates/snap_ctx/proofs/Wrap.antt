@@ -1,5 +1,5 @@
 -- Sums of numbers of 64 bits.
-use Rattle.std.proofs.Common.{◌≡◌, ℕ, ◌-◌, ◌^◌, ◌<◌, arith}
+use Rattle.std.proofs.Common.{◌≡◌, ℕ, ◌^◌, ◌<◌, arith}
 use Rattle.snap_ctx.specs.Classes.{wrap}
 
 pub wrap_below : (x y : ℕ) → wrap x y < 2 ^ 64
@@ -16,6 +16,3 @@ wrap_cancel x y p hx hy e = omega arith
 
 pub wrap_cancel_right : (x p q : ℕ) → p < 2 ^ 64 → q < 2 ^ 64 → wrap x p ≡ wrap x q → p ≡ q
 wrap_cancel_right x p q hp hq e = omega arith
-
-pub wrap_back : (n p : ℕ) → n < 2 ^ 64 → p < 2 ^ 64 → wrap (wrap n (2 ^ 64 - p)) p ≡ n
-wrap_back n p hn hp = omega arith

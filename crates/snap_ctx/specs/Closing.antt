@@ -4,10 +4,11 @@ use Rattle.snap_core.specs.declared.policy.Term.{Term}
 use Rattle.snap_core.specs.declared.policy.Term.TheVariants.{Num, Plus}
 use Rattle.snap_core.specs.Arrays.{Arrays}
 use Rattle.snap_core.specs.Tests.{term_value, passes}
+use Rattle.snap_core.specs.Inputs.{IsPacket}
 use Rattle.snap_ctx.specs.declared.fact.Fact.{Fact}
 use Rattle.snap_ctx.specs.declared.look.Breach.{Breach}
 use Rattle.snap_ctx.specs.declared.look.Breach.TheVariants.{Join, Contradiction}
-use Rattle.snap_ctx.specs.Meets.{Meets, IsPacket}
+use Rattle.snap_ctx.specs.Meets.{Meets}
 use Rattle.snap_ctx.specs.Classes.{wrap, shift, IsClass, Fits, FactRule, PairRule}
 
 -- it holds nowhere that the classes fit

@@ -1,23 +1,15 @@
 -- When a store and a packet meet facts.
-use Rattle.std.specs.Prelude.{◌≡◌, ℕ, ◌^◌, ◌<◌, Bool, List, [], ◌∷◌, ◌++◌, length, All}
+use Rattle.std.specs.Prelude.{◌≡◌, ℕ, Bool, List, [], ◌∷◌, ◌++◌, All}
 use Rattle.snap_core.specs.declared.place.Entry.{Entry}
-use Rattle.snap_core.specs.declared.place.Place.{Place}
 use Rattle.snap_core.specs.declared.policy.Test.{Test}
 use Rattle.snap_core.specs.Arrays.{Arrays}
+use Rattle.snap_core.specs.Inputs.{IsStore, IsPacket}
 use Rattle.snap_core.specs.Listing.{number_in}
 use Rattle.snap_core.specs.Tests.{passes}
 use Rattle.snap_ctx.specs.declared.fact.Fact.{Fact}
 
 abbrev pub Meets : List Fact → Arrays → List ℕ → Type 0
 Meets facts m k = All (λ f. passes f.test m k ≡ f.yes) facts
-
--- the number at each place has 64 bits
-abbrev pub IsStore : Arrays → Type 0
-IsStore m = (p : Place) → m p < 2 ^ 64
-
--- so many components, each of 64 bits
-abbrev pub IsPacket : ℕ → List ℕ → Type 0
-IsPacket comps k = (length k ≡ comps) × All (λ n. n < 2 ^ 64) k
 
 -- some finite store and some packet meet the facts
 pub record IsMet (comps : ℕ) (facts : List Fact) : Type 0 where

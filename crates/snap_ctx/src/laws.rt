@@ -5,10 +5,11 @@ ghost use Rattle.snap_core.specs.declared.policy.Term.{Term};
 ghost use Rattle.snap_core.specs.declared.policy.Test.{Test};
 ghost use Rattle.snap_core.specs.Arrays.{Arrays};
 ghost use Rattle.snap_core.specs.Tests.{passes};
+ghost use Rattle.snap_core.specs.Inputs.{IsPacket};
 ghost use Rattle.snap_ctx.specs.declared.fact.Fact.{Fact};
 ghost use Rattle.snap_ctx.specs.Classes.{IsTest, Rules};
 ghost use Rattle.snap_ctx.specs.Known.{IsKnown, TestOver};
-ghost use Rattle.snap_ctx.specs.Meets.{IsMet, IsPacket, Meets, with_fact};
+ghost use Rattle.snap_ctx.specs.Meets.{IsMet, Meets, with_fact};
 ghost use Rattle.snap_ctx.specs.View.{IsContext, View};
 
 /// Facts and classes that break no rule have a model.

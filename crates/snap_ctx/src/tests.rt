@@ -1,30 +1,9 @@
-ghost use Rattle.std.specs.Prelude.{◌≤◌, IsTrue, length};
-ghost use Rattle.snap_core.specs.Tests.{TestFits};
-ghost use Rattle.snap_ctx.specs.Classes.{index_of};
-
 use crate::context::{Assumed, Context, Verdict};
+use crate::fits::fits;
 use snap_core::lists::Atoms;
 use snap_core::policy::{Atom, Term, Test};
 use std::alloc::{AllocError, Global};
 use std::test::Fail;
-
-fn fits(test: &Test, comps: u16) -> bool
-    ensures fits { IsTrue result → TestFits comps test.now }
-    ensures short { IsTrue result → length (index_of test.now) ≤ 8 }
-{
-    match test {
-        Test::Value { comp, .. } => *comp < comps,
-        Test::Equal { left, right, .. } => *left < comps && *right < comps,
-        Test::State { index, value, .. } => {
-            index.list().len() <= 8
-                && index.list().iter().all(|atom| atom.fits(comps as usize))
-                && match value {
-                    Term::Num(_) => true,
-                    Term::Plus { comp, .. } => *comp < comps,
-                }
-        }
-    }
-}
 
 fn yes(test: Test) -> (Test, bool) {
     (test, true)

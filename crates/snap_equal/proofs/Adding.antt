@@ -33,9 +33,6 @@ pub total-append : (us vs : List Update) (k : List ℕ) (q : Place) → total (u
 total-append [] vs k q = sym (wrap_turn 0 (total vs k q) ∙ wrap_zero (total vs k q) (total_small vs k q))
 total-append (u ∷ us) vs k q = ap (wrap (share u k q)) (total-append us vs k q) ∙ sym (wrap_assoc (share u k q) (total us k q) (total vs k q))
 
-pub total-one : (u : Update) (k : List ℕ) (q : Place) → total (u ∷ []) k q ≡ wrap 0 (share u k q)
-total-one u k q = wrap_turn (share u k q) 0
-
 -- ---- updates that add
 module _ (k : List ℕ) (q : Place) where
   step : (u : Update) (m : Arrays) → (u.var ≡ q.var → IsAddition u.op) → m q < 2 ^ 64 → (b : Bool) → same_place (place_at u.var u.index k) q ≡ b → update m u k q ≡ wrap (m q) (share u k q)
@@ -56,15 +53,6 @@ module _ (k : List ℕ) (q : Place) where
       updates-add us (update m u k) adds.1 (rw here (omega arith))
       ∙ ap (λ x. wrap x (total us k q)) here
       ∙ wrap_assoc (m q) (share u k q) (total us k q)
-
-  -- updates of other variables
-  pub updates-other : (us : List Update) (m : Arrays) → AllByRecursion (λ u. u.var ≢ q.var) us → updates m us k q ≡ m q
-  updates-other [] m other = refl
-  updates-other (u ∷ us) m other = updates-other us (update m u k) other.1 ∙ missed u m k q (apart (same_place (place_at u.var u.index k) q) refl)
-    where
-      apart : (b : Bool) → same_place (place_at u.var u.index k) q ≡ b → b ≡ false
-      apart true e = absurd (other.0 (ap (λ (p : Place). p.var) (same_place-true (place_at u.var u.index k) q e)))
-      apart false e = refl
 
 -- ---- one sum changed
 module _ (k : List ℕ) (q : Place) (n : ℕ) where

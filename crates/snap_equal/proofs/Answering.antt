@@ -1,11 +1,10 @@
 -- Answers under a test's two answers, and of leaves.
-use Rattle.std.proofs.Common.{◌≡◌, ℕ, Bool, true, false, List, length, refl, sym, ◌∙◌, subst}
+use Rattle.std.proofs.Common.{◌≡◌, ℕ, Bool, true, false, List, length, sym, ◌∙◌, subst}
 use Rattle.std.specs.Prelude.{Result, MatchResult}
 use Rattle.std.specs.List.{AllByRecursion}
-use Rattle.std.proofs.lemmas.Bool.{cond-true, cond-false}
 use Rattle.snap_core.specs.declared.policy.Test.{Test}
 use Rattle.snap_core.specs.Arrays.{Arrays, updates}
-use Rattle.snap_core.specs.Cells.{Kept, arrays_of}
+use Rattle.snap_core.specs.Cells.{arrays_of}
 use Rattle.snap_core.specs.Tests.{passes, results}
 use Rattle.snap_ctx.specs.declared.context.Assumed.TheVariants.{More}
 use Rattle.snap_ctx.specs.declared.fact.Fact.{Fact}
@@ -16,7 +15,6 @@ use Rattle.snap_ctx.proofs.Answers.{Meets-with_fact, Meets-parts}
 use Rattle.snap_model.specs.Models.{FactBelow}
 use Rattle.snap_fdd.specs.declared.leaf.Go.{Go}
 use Rattle.snap_fdd.specs.declared.leaf.Leaf.TheVariants.{Go as Goes}
-use Rattle.snap_fdd.specs.Diagrams.{Diagram, Asks, walk}
 use Rattle.snap_build.proofs.Racing.{facts_more}
 use Rattle.snap_equal.specs.declared.comparing.Compared.{Compared}
 use Rattle.snap_equal.specs.declared.comparing.Compared.TheVariants.{Same, Differ}
@@ -39,13 +37,13 @@ module _ (v : View) (vars : ℕ) (t : Test) (y : Bool) (P : Arrays → List ℕ 
   pub under_more : (w : View) → IsAssumed v t y (More w) → (c : Compared) → IsAnswer w vars P c → IsAnswer v vars (Where t y P) c
   under_more w a Same h = λ m k i e. h m k (record {
     store = i.store;
-    packet = (i.packet.0 ∙ sym a.1, i.packet.1);
+    packet = record { long = i.packet.long ∙ sym a.1; numbers = i.packet.numbers };
     facts = subst (λ (fs : List Fact). Meets fs m k) (sym a.0) (Meets-with_fact v.facts t y m k i.facts e);
   })
   under_more w a (Differ s k) h =
       let parts : Meets v.facts (arrays_of s) k × (passes t (arrays_of s) k ≡ y) = Meets-parts v.facts t y (arrays_of s) k (subst (λ (fs : List Fact). Meets fs (arrays_of s) k) a.0 h.model.facts) in
       record {
-        model = record { store = h.model.store; packet = (h.model.packet.0 ∙ a.1, h.model.packet.1); facts = parts.0 };
+        model = record { store = h.model.store; packet = record { long = h.model.packet.long ∙ a.1; numbers = h.model.packet.numbers }; facts = parts.0 };
         only = h.only;
         fails = λ f. h.fails (f parts.1);
       }
@@ -57,20 +55,6 @@ module _ (v : View) (vars : ℕ) (t : Test) (P Y N : Arrays → List ℕ → Typ
   one_way : (m : Arrays) (k : List ℕ) → IsModel v m k → Where t true Y m k → Where t false N m k → (b : Bool) → passes t m k ≡ b → P m k
   one_way m k i y n true e = yes_to m k i e (y e)
   one_way m k i y n false e = no_to m k i e (n e)
-
-  pub both_answers : On v (Where t true Y) → (c : Compared) → IsAnswer v vars (Where t false N) c → IsAnswer v vars P c
-  both_answers y Same n = λ m k i. one_way m k i (y m k i) (n m k i) (passes t m k) refl
-  both_answers y (Differ s k) n = record { model = n.model; only = n.only; fails = λ p. n.fails (λ e. no_from (arrays_of s) k n.model e p) }
-
-  pub first_differs : (s : Kept) (k : List ℕ) → IsAnswer v vars (Where t true Y) (Differ s k) → IsAnswer v vars P (Differ s k)
-  first_differs s k h = record { model = h.model; only = h.only; fails = λ p. h.fails (λ e. yes_from (arrays_of s) k h.model e p) }
-
--- the two ways of a test
-pub walk_yes : (t : Test) (y n : Diagram) (m : Arrays) (k : List ℕ) → passes t m k ≡ true → walk (Asks t y n) m k ≡ walk y m k
-walk_yes t y n m k e = cond-true (passes t m k) (walk y m k) (walk n m k) e
-
-pub walk_no : (t : Test) (y n : Diagram) (m : Arrays) (k : List ℕ) → passes t m k ≡ false → walk (Asks t y n) m k ≡ walk n m k
-walk_no t y n m k e = cond-false (passes t m k) (walk y m k) (walk n m k) e
 
 -- ---- leaves
 pub leaves_as : (v : View) (vars : ℕ) (r : Result Bool Stop) (g h : Go) → On v (λ m k. results g.outs k ≡ results h.outs k)

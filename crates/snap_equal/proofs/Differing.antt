@@ -9,8 +9,8 @@ use Rattle.snap_core.specs.declared.place.Place.{Place}
 use Rattle.snap_core.specs.declared.policy.Update.{Update}
 use Rattle.snap_core.specs.Arrays.{Arrays, place_at, updates}
 use Rattle.snap_core.specs.Variables.{has}
+use Rattle.snap_core.specs.Inputs.{IsStore}
 use Rattle.snap_ctx.specs.Classes.{wrap}
-use Rattle.snap_ctx.specs.Meets.{IsStore}
 use Rattle.snap_ctx.specs.View.{View}
 use Rattle.snap_ctx.proofs.Wrap.{wrap_zero, wrap_cancel, wrap_cancel_right}
 use Rattle.snap_equal.specs.Held.{AgreeAlong}

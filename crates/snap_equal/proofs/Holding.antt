@@ -70,7 +70,7 @@ more-value n (Is t) x k = term_value-shift k t n
 more-value n (Old y) x k = sym (wrap_assoc x y n)
 
 changed-value : (comps : ℕ) (h : Held) (op : Op) (x : ℕ) (k : List ℕ) → OpFits comps op → (v : View) (m : Arrays) → length v.classes ≡ comps → IsModel v m k → held_value (changed h op) x k ≡ number_after op (held_value h x k) k
-changed-value comps h (Put a) x k f v m e i = term_of-value comps a k f (i.packet.0 ∙ e, i.packet.1)
+changed-value comps h (Put a) x k f v m e i = term_of-value comps a k f (record { long = i.packet.long ∙ e; numbers = i.packet.numbers })
 changed-value comps h (Add n) x k f v m e i = more-value n h x k
 
 shift-fits : (comps : ℕ) (t : Term) (n : ℕ) → TermFits comps t → TermFits comps (shift t n)

@@ -1,7 +1,6 @@
 -- From one question to another.
-use Rattle.std.proofs.Common.{◌≡◌, ℕ, ◌<◌, ◌≤◌, ◌+◌, Bool, true, false, List, subst, arith, ⊎_elim}
+use Rattle.std.proofs.Common.{◌≡◌, ℕ, ◌<◌, ◌+◌, Bool, true, false, List, subst, arith, below_more}
 use Rattle.std.specs.Prelude.{Option, Some, None, Result, Ok, Err, MatchOption, MatchResult}
-use Rattle.std.proofs.lemmas.Bool.{cases_lt}
 use Rattle.snap_core.specs.declared.policy.Test.{Test}
 use Rattle.snap_core.specs.Arrays.{Arrays}
 use Rattle.snap_ctx.specs.View.{View}
@@ -33,18 +32,14 @@ pub result_of_any : (v : View) (n : ℕ) (P : Arrays → List ℕ → Type 0) (r
 result_of_any v n P (Ok b) h = h
 result_of_any v n P (Err e) h = stop_of_any v n e h
 
--- one index more
-pub one_more : (P : ℕ → Type 0) (n : ℕ) → ((j : ℕ) → j < n → P j) → P n → (j : ℕ) → j < n + 1 → P j
-one_more P n below here j l = ⊎_elim (λ (h : j < n). below j h) (λ (h : n ≤ j). let e : j ≡ n = omega (arith, h, l) in rw e here) (cases_lt j n)
-
 -- one index more, where a test may be open
 pub open_more : (v : View) (s : ℕ) (P : ℕ → Type 0) (n : ℕ) (o : Option Test) → MatchOption o ((j : ℕ) → j < n → P j) (λ t. IsStop v s (Split t)) → P n → MatchOption o ((j : ℕ) → j < n + 1 → P j) (λ t. IsStop v s (Split t))
-open_more v s P n None h here = one_more P n h here
+open_more v s P n None h here = below_more P n h here
 open_more v s P n (Some t) h here = h
 
 pub closed_all : (v : View) (s : ℕ) (A : Type 0) (o : Option Test) → o ≡ None → MatchOption o A (λ t. IsStop v s (Split t)) → A
 closed_all v s A o e h = subst (λ (p : Option Test). MatchOption p A (λ t. IsStop v s (Split t))) e h
 
 pub open_more_at : (v : View) (s : ℕ) (E : Type 0) (P : E → ℕ → Type 0) (n : ℕ) (o : Option Test) → MatchOption o ((e : E) (j : ℕ) → j < n → P e j) (λ t. IsStop v s (Split t)) → ((e : E) → P e n) → MatchOption o ((e : E) (j : ℕ) → j < n + 1 → P e j) (λ t. IsStop v s (Split t))
-open_more_at v s E P n None h here = λ e. one_more (P e) n (h e) (here e)
+open_more_at v s E P n None h here = λ e. below_more (P e) n (h e) (here e)
 open_more_at v s E P n (Some t) h here = h

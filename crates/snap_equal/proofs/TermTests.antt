@@ -9,8 +9,8 @@ use Rattle.snap_core.specs.declared.policy.Test.TheVariants.{Value, Equal}
 use Rattle.snap_core.specs.Arrays.{value_of}
 use Rattle.snap_core.specs.Fits.{AtomFits}
 use Rattle.snap_core.specs.Tests.{TermFits, passes, term_value}
+use Rattle.snap_core.specs.Inputs.{IsPacket}
 use Rattle.snap_ctx.specs.Classes.{wrap}
-use Rattle.snap_ctx.specs.Meets.{IsPacket}
 use Rattle.snap_ctx.specs.Ranges.{TermInRange}
 use Rattle.snap_ctx.specs.View.{View}
 use Rattle.snap_equal.specs.declared.stop.Stop.{Stop}

@@ -2,7 +2,7 @@
 use Rattle.std.specs.Prelude.{◌≡◌, ℕ, List, [], ◌∷◌}
 use Rattle.snap_core.specs.Arrays.{Arrays}
 use Rattle.snap_core.specs.Cells.{Cells}
-use Rattle.snap_ctx.specs.Meets.{IsPacket, IsStore}
+use Rattle.snap_core.specs.Inputs.{IsStore, IsPacket}
 use Rattle.snap_arena.specs.declared.node.Node.{Node}
 use Rattle.snap_arena.specs.Memos.{Remembers}
 use Rattle.snap_fdd.specs.declared.leaf.Leaf.{Leaf}

@@ -4,16 +4,14 @@ use Rattle.snap_core.specs.declared.program.Program.{Program}
 use Rattle.snap_core.specs.Arrays.{Arrays}
 use Rattle.snap_core.specs.Cells.{arrays_of}
 use Rattle.snap_core.specs.Fields.{count}
-use Rattle.snap_core.specs.Inputs.{IsZeroFrom}
+use Rattle.snap_core.specs.Inputs.{IsStore, IsPacket, IsInput}
 use Rattle.snap_core.specs.Meaning.{Meaning, eval}
-use Rattle.snap_ctx.specs.Meets.{IsPacket, IsStore}
 use Rattle.snap_arena.specs.declared.node.Node.{Node}
 use Rattle.snap_fdd.specs.declared.leaf.Leaf.{Leaf}
 use Rattle.snap_fdd.specs.Bounds.{IsIn}
 use Rattle.snap_fdd.specs.Diagrams.{diagram}
 use Rattle.snap_chain.specs.Late.{outcome}
 use Rattle.snap_build.specs.Races.{HasNoRace}
-use Rattle.snap_build.specs.Whole.{IsOf}
 use Rattle.snap_equal.specs.declared.comparing.Compared.{Compared}
 use Rattle.snap_equal.specs.declared.comparing.Compared.TheVariants.{Same, Differ}
 
@@ -35,7 +33,7 @@ MeanSame p q = (m : Arrays) (k : List ℕ) → IsStore m → IsPacket (count p.f
 
 -- a store and a packet of the program p on which the outcomes of p and q are not the same
 pub record TellApart (p q : Program) (m : Arrays) (k : List ℕ) : Type 0 where
-  pub of : IsOf p m k
+  pub of : IsInput (count p.fields) (length p.vars) m k
   pub differ : SameOutcome (eval p.body m k) (eval q.body m k) → ⊥
 
 -- a diagram over so many components and variables in which nothing races
@@ -51,9 +49,7 @@ DoSame ns d os e m k = SameOutcome (outcome ns d m k) (outcome os e m k)
 
 -- a store over so many variables and a packet of so many components with which two diagrams don't do the same
 pub record DoApart (comps vars : ℕ) (ns : List (Node Leaf)) (d : ℕ) (os : List (Node Leaf)) (e : ℕ) (m : Arrays) (k : List ℕ) : Type 0 where
-  pub store : IsStore m
-  pub only : IsZeroFrom vars m
-  pub packet : IsPacket comps k
+  pub of : IsInput comps vars m k
   pub differ : DoSame ns d os e m k → ⊥
 
 -- they do the same with every store and every packet of so many components, or not with this store and this packet

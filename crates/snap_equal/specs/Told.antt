@@ -3,11 +3,11 @@ use Rattle.std.specs.Prelude.{◌≡◌, ℕ, Bool, true, false, List, length}
 use Rattle.std.specs.List.{AllByRecursion}
 use Rattle.snap_core.specs.Arrays.{Arrays}
 use Rattle.snap_core.specs.Cells.{arrays_of}
-use Rattle.snap_core.specs.Inputs.{IsZeroFrom}
+use Rattle.snap_core.specs.Inputs.{IsStore, IsPacket, IsZeroFrom}
 use Rattle.snap_core.specs.Tests.{passes}
 use Rattle.snap_core.specs.declared.policy.Test.{Test}
 use Rattle.snap_ctx.specs.Answers.{IsVerdict}
-use Rattle.snap_ctx.specs.Meets.{IsPacket, IsStore, Meets}
+use Rattle.snap_ctx.specs.Meets.{Meets}
 use Rattle.snap_ctx.specs.View.{View}
 use Rattle.snap_ctx.specs.declared.context.Verdict.TheVariants.{Unsure}
 use Rattle.snap_model.specs.Models.{FactBelow}

@@ -2,7 +2,7 @@
 
 ghost use Rattle.std.specs.Prelude.{◌≡◌, ◌≤◌, None, All, MatchResult, drop, length, take};
 ghost use Rattle.snap_core.specs.Arrays.{updates};
-ghost use Rattle.snap_ctx.specs.Meets.{IsStore};
+ghost use Rattle.snap_core.specs.Inputs.{IsStore};
 ghost use Rattle.snap_equal.specs.Held.{AgreeAlong};
 ghost use Rattle.snap_equal.specs.Inputs.{AreOf, IsUpdate};
 ghost use Rattle.snap_equal.specs.Told.{IsStop, On, Tells};

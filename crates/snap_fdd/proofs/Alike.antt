@@ -11,7 +11,7 @@ use Rattle.snap_core.specs.Tests.{passes}
 use Rattle.snap_ctx.specs.declared.fact.Fact.{Fact}
 use Rattle.snap_ctx.specs.Classes.{IsTest, index_of}
 use Rattle.snap_ctx.specs.Known.{IsKnown, TestOver}
-use Rattle.snap_ctx.specs.Meets.{Meets, IsMet, IsPacket, with_fact}
+use Rattle.snap_ctx.specs.Meets.{Meets, IsMet, with_fact}
 use Rattle.snap_ctx.specs.Ranges.{TestInRange}
 use Rattle.snap_ctx.specs.View.{View, IsContext}
 use Rattle.snap_ctx.proofs.Answers.{Meets-parts, Meets-with_fact}
@@ -19,6 +19,7 @@ use Rattle.snap_ctx.proofs.Each.{Each-left, Each-right}
 use Rattle.snap_ctx.proofs.Fitting.{is_test}
 use Rattle.snap_ctx.proofs.Knowing.{known_alike}
 use Rattle.snap_core.specs.Cells.{Cells}
+use Rattle.snap_core.specs.Inputs.{IsPacket}
 use Rattle.snap_arena.specs.declared.node.Node.{Node}
 use Rattle.snap_arena.specs.Arena.{Grew}
 use Rattle.snap_arena.specs.Memos.{Remembers}

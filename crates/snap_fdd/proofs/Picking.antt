@@ -3,6 +3,8 @@ use Rattle.std.proofs.Common.{◌≡◌, ◌≢◌, ◌⊎◌, inl, inr, ◌+◌
 use Rattle.std.specs.Prelude.{if◌then◌else◌, ◌<◌, ◌==◌, length, Result, Ok, Err, IfOk}
 use Rattle.std.proofs.lemmas.Bool.{eqb-false}
 use Rattle.std.proofs.lemmas.Bool.Decides.{Decides-eqb}
+use Rattle.snap_dep.specs.Ranks.{Grouping}
+use Rattle.snap_ctx.specs.View.{View}
 use Rattle.snap_arena.specs.declared.node.Node.{Node}
 use Rattle.snap_arena.specs.declared.node.Node.TheVariants as node
 use Rattle.snap_arena.specs.Arena.{Grew, IsNoted}
@@ -16,7 +18,7 @@ use Rattle.snap_fdd.specs.Leaves.{answer_of}
 use Rattle.snap_fdd.specs.Diagrams.{Diagram, Only, Asks, walk, diagram}
 use Rattle.snap_fdd.specs.Order.{test_cmp, Above, NotBelow}
 use Rattle.snap_fdd.specs.Bounds.{Sizes, TestIn}
-use Rattle.snap_fdd.specs.Picks.{IsDiagram, Where, Anywhere, IsSide, IsPick, StartsWith, IsLeast, IsLower}
+use Rattle.snap_fdd.specs.Picks.{IsDiagram, Where, Anywhere, IsSide, IsPick, StartsWith, IsLeast, IsLower, sizes, IsArgument}
 use Rattle.snap_fdd.proofs.Comparing.{less_trans, less_if, less_from_greater, not_below_itself, not_below_less, above_trans, above_at}
 
 pub yes_part : (ranks : List ℕ) (s : Sizes) (t : Test) (y n : Diagram) → IsDiagram ranks s (Asks t y n) → IsDiagram ranks s y
@@ -49,6 +51,11 @@ side_no ranks s t b u y n r d told i = record {
   above = λ low a. i.above low (above_trans ranks low u n a d.ordered.1);
   over = λ g. i.above t (above_at ranks t u n g d.ordered.1);
 }
+
+-- a side of an argument is one
+pub side_argument : (g : Grouping) (v : View) (ns : List (Node Leaf)) (t : Test) (b : Bool) (a r : ℕ) → IsArgument g v ns a → r ≤ a
+    → ((ranks : List ℕ) (s : Sizes) → IsDiagram ranks s (diagram ns a) → IsSide ranks s t b (diagram ns a) (diagram ns r)) → IsArgument g v ns r
+side_argument g v ns t b a r i le side = record { below = omega (arith, le, i.below); keeps = (side g.ranks (sizes g v) i.keeps).keeps }
 
 same_ways : (b : Bool) (l : Leaf) → l ≡ (if b then l else l)
 same_ways true l = refl

@@ -17,9 +17,10 @@ use Rattle.snap_core.specs.Fits.{AtomFits}
 use Rattle.snap_core.specs.Tests.{passes, TermFits}
 use Rattle.snap_ctx.specs.Ranges.{AtomInRange, TermInRange}
 use Rattle.snap_core.specs.Listing.{number_in}
+use Rattle.snap_core.specs.Inputs.{IsPacket}
 use Rattle.snap_ctx.specs.declared.fact.Fact.{Fact}
 use Rattle.snap_ctx.specs.Classes.{IsAtom, IsTerm, IsTest}
-use Rattle.snap_ctx.specs.Meets.{Meets, IsMet, IsPacket, with_fact}
+use Rattle.snap_ctx.specs.Meets.{Meets, IsMet, with_fact}
 use Rattle.snap_ctx.proofs.Answers.{Meets-parts}
 use Rattle.snap_ctx.specs.View.{View}
 use Rattle.snap_dep.specs.Ranks.{Grouping}

@@ -1,7 +1,8 @@
 -- What holds on every store and packet that meet a context.
 use Rattle.std.specs.Prelude.{ℕ, List, length}
 use Rattle.snap_core.specs.Arrays.{Arrays}
-use Rattle.snap_ctx.specs.Meets.{Meets, IsPacket}
+use Rattle.snap_core.specs.Inputs.{IsPacket}
+use Rattle.snap_ctx.specs.Meets.{Meets}
 use Rattle.snap_ctx.specs.View.{View}
 
 -- the store and the packet meet the context

@@ -1,13 +1,16 @@
 -- What a memo of one call remembers.
 use Rattle.std.specs.Prelude.{◌≡◌, ℕ, ◌<◌, ◌≤◌, ◌^◌, List, [], ◌∷◌, length, ⊤}
 use Rattle.snap_core.specs.declared.policy.Test.{Test}
+use Rattle.snap_core.specs.Cells.{Cells}
+use Rattle.snap_dep.specs.Ranks.{Grouping}
 use Rattle.snap_ctx.specs.Known.{IsKnown}
 use Rattle.snap_ctx.specs.View.{View, IsContext}
 use Rattle.snap_arena.specs.declared.node.Node.{Node}
+use Rattle.snap_arena.specs.Memos.{Remembers}
 use Rattle.snap_fdd.specs.declared.leaf.Leaf.{Leaf}
 use Rattle.snap_fdd.specs.Diagrams.{depth, diagram}
-use Rattle.snap_fdd.specs.Bounds.{Sizes}
-use Rattle.snap_fdd.specs.Picks.{IsPick, Anywhere}
+use Rattle.snap_fdd.specs.Bounds.{Sizes, TestIn}
+use Rattle.snap_fdd.specs.Picks.{IsPick, Anywhere, IsArgument, sizes}
 use Rattle.snap_fdd.specs.Pruned.{IsPruned}
 use Rattle.snap_fdd.specs.Quiet.{IsMarked}
 use Rattle.snap_fdd.specs.Tested.{AreTested, TestsOver, mark_of}
@@ -25,6 +28,13 @@ pub record IsPicked (ranks : List ℕ) (s : Sizes) (t : Test) (ns : List (Node L
 abbrev pub PickedFor : List ℕ → Sizes → Test → List (Node Leaf) → List ℕ → ℕ → Type 0
 PickedFor ranks s t ns (a ∷ b ∷ []) d = IsPicked ranks s t ns a b d
 PickedFor ranks s t ns q d = ⊤
+
+-- what is asked for a test before two diagrams: all fit, and the memo is the test's
+pub record IsAskedPick (g : Grouping) (v : View) (t : Test) (ns : List (Node Leaf)) (memo : Cells) (a b : ℕ) : Type 0 where
+  pub first : IsArgument g v ns a
+  pub second : IsArgument g v ns b
+  pub test : TestIn (sizes g v) t
+  pub known : Remembers (PickedFor g.ranks (sizes g v) t ns) memo
 
 -- what was looked up of the nodes before pruning
 pub record IsPlan (plan : Plan) (ns : List (Node Leaf)) : Type 0 where
@@ -52,3 +62,9 @@ pub record IsRemembered (ranks : List ℕ) (s : Sizes) (marks : List Tested) (ns
 abbrev pub PrunedFor : List ℕ → Sizes → List Tested → List (Node Leaf) → List ℕ → ℕ → Type 0
 PrunedFor ranks s marks ns [] r = ⊤
 PrunedFor ranks s marks ns (d ∷ key) r = IsRemembered ranks s marks ns d key r
+
+-- what is asked for a diagram pruned: it and the plan fit the nodes, and the memo is the plan's
+pub record IsAskedPruned (g : Grouping) (v : View) (plan : Plan) (ns : List (Node Leaf)) (memo : Cells) (d : ℕ) : Type 0 where
+  pub first : IsArgument g v ns d
+  pub planned : IsPlan plan ns
+  pub known : Remembers (PrunedFor g.ranks (sizes g v) plan.tested.items ns) memo

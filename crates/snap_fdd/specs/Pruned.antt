@@ -4,7 +4,7 @@ use Rattle.snap_core.specs.declared.policy.Test.{Test}
 use Rattle.snap_core.specs.declared.place.Entry.{Entry}
 use Rattle.snap_core.specs.Arrays.{Arrays}
 use Rattle.snap_core.specs.Listing.{number_in}
-use Rattle.snap_ctx.specs.Meets.{IsStore}
+use Rattle.snap_core.specs.Inputs.{IsStore}
 use Rattle.snap_ctx.specs.View.{View}
 use Rattle.snap_arena.specs.declared.node.Node.{Node}
 use Rattle.snap_fdd.specs.declared.leaf.Leaf.{Leaf}

@@ -4,7 +4,8 @@ ghost use Rattle.std.specs.Prelude.{◌≡◌, IfOk};
 
 use snap_core::NoMemory;
 use snap_core::lists::Out;
-use snap_core::policy::Update;
+use snap_core::outs::copy_outs;
+use snap_core::policy::{Update, copy_updates};
 use std::alloc::Global;
 use std::marker::Model;
 
@@ -76,28 +77,6 @@ impl Updates {
     {
         Ok(Updates::new(copy_updates(alloc, &self.updates)?))
     }
-}
-
-/// The same outs.
-pub fn copy_outs(alloc: Global, outs: &[Out]) -> Result<Vec<Out>, NoMemory>
-    ensures { IfOk result (λ copies. copies.items ≡ outs.now) }
-{
-    let mut copies = Vec::with_capacity(alloc, outs.len())?;
-    for out in outs {
-        copies.push(out.copy()?)?;
-    }
-    Ok(copies)
-}
-
-/// The same updates.
-pub fn copy_updates(alloc: Global, updates: &[Update]) -> Result<Vec<Update>, NoMemory>
-    ensures { IfOk result (λ copies. copies.items ≡ updates.now) }
-{
-    let mut copies = Vec::with_capacity(alloc, updates.len())?;
-    for update in updates {
-        copies.push(update.copy()?)?;
-    }
-    Ok(copies)
 }
 
 /// What a leaf does: its ways out, its updates, and the variables read and written, a bit each.

@@ -8,7 +8,7 @@ ghost use Rattle.snap_arena.specs.Memos.{Remembers};
 ghost use Rattle.snap_fdd.specs.Bounds.{Sizes, TestIn};
 ghost use Rattle.snap_fdd.specs.Contexts.{Under};
 ghost use Rattle.snap_fdd.specs.Diagrams.{diagram, walk, answer, IsNodeOf};
-ghost use Rattle.snap_fdd.specs.Memoed.{PickedFor};
+ghost use Rattle.snap_fdd.specs.Memoed.{PickedFor, IsAskedPick};
 ghost use Rattle.snap_fdd.specs.Order.{Above};
 ghost use Rattle.snap_fdd.specs.Picks.{IsDiagram, Where, Anywhere, IsSide, IsPick, StartsWith, IsLeast, IsLower, sizes, IsArgument};
 ghost use Rattle.snap_fdd.specs.Pruned.{IsShaped};
@@ -56,49 +56,45 @@ pub fn side(nodes: &Nodes<Leaf>, d: u64, test: &Test, yes: bool) -> u64
 }
 
 /// The lesser of a test and the first test of a diagram.
-pub fn lower(
-    nodes: &Nodes<Leaf>,
+pub fn lower<'a>(
+    nodes: &'a Nodes<Leaf>,
     groups: &Groups,
     ctx: &Context,
-    test: Test,
+    test: &'a Test,
     d: u64,
-) -> Result<Test, NoMemory>
-    requires d { d < length nodes.now }
-    requires diagram { IsDiagram groups.now.ranks (sizes groups.now ctx.now) (diagram nodes.now d) }
-    requires test { TestIn (sizes groups.now ctx.now) test }
-    ensures { IfOk result (λ u. IsLower groups.now.ranks (sizes groups.now ctx.now) test (diagram nodes.now d) u) }
+) -> &'a Test
+    requires d { IsArgument groups.now ctx.now nodes.now d }
+    requires test { TestIn (sizes groups.now ctx.now) test.now }
+    ensures { IsLower groups.now.ranks (sizes groups.now ctx.now) test.now (diagram nodes.now d) result.now }
 {
     match look(nodes, d) {
-        Node::Leaf(_) => Ok(test),
+        Node::Leaf(_) => test,
         Node::Ask {
             test: other,
             yes: _,
             no: _,
-        } => match compare(nodes.allocator(), groups, &test, other)? {
-            Ordering::Greater => other.copy(),
-            _ => Ok(test),
+        } => match compare(groups, test, other) {
+            Ordering::Greater => other,
+            _ => test,
         },
     }
 }
 
 // The least of a test and the first tests of two diagrams.
-fn least(
-    nodes: &Nodes<Leaf>,
+fn least<'a>(
+    nodes: &'a Nodes<Leaf>,
     groups: &Groups,
     ctx: &Context,
-    test: &Test,
+    test: &'a Test,
     a: u64,
     b: u64,
-) -> Result<Test, NoMemory>
-    requires a { a < length nodes.now }
-    requires b { b < length nodes.now }
-    requires first { IsDiagram groups.now.ranks (sizes groups.now ctx.now) (diagram nodes.now a) }
-    requires second { IsDiagram groups.now.ranks (sizes groups.now ctx.now) (diagram nodes.now b) }
+) -> &'a Test
+    requires a { IsArgument groups.now ctx.now nodes.now a }
+    requires b { IsArgument groups.now ctx.now nodes.now b }
     requires test { TestIn (sizes groups.now ctx.now) test.now }
-    ensures { IfOk result (λ u. IsLeast groups.now.ranks (sizes groups.now ctx.now) test.now (diagram nodes.now a) (diagram nodes.now b) u) }
+    ensures { IsLeast groups.now.ranks (sizes groups.now ctx.now) test.now (diagram nodes.now a) (diagram nodes.now b) result.now }
 {
-    let copy = test.copy()?;
-    let first = lower(nodes, groups, ctx, copy, a)?;
+    let first = lower(nodes, groups, ctx, test, a);
     lower(nodes, groups, ctx, first, b)
 }
 
@@ -111,10 +107,8 @@ pub fn ask(
     yes: u64,
     no: u64,
 ) -> Result<u64, NoMemory>
-    requires yes { yes < length nodes.old }
-    requires no { no < length nodes.old }
-    requires first { IsDiagram groups.now.ranks (sizes groups.now ctx.now) (diagram nodes.old yes) }
-    requires second { IsDiagram groups.now.ranks (sizes groups.now ctx.now) (diagram nodes.old no) }
+    requires yes { IsArgument groups.now ctx.now nodes.old yes }
+    requires no { IsArgument groups.now ctx.now nodes.old no }
     requires test { TestIn (sizes groups.now ctx.now) test }
     requires above_yes { Above groups.now.ranks test (diagram nodes.old yes) }
     requires above_no { Above groups.now.ranks test (diagram nodes.old no) }
@@ -135,10 +129,8 @@ pub fn pick(
     a: u64,
     b: u64,
 ) -> Result<u64, NoMemory>
-    requires a { a < length nodes.old }
-    requires b { b < length nodes.old }
-    requires first { IsDiagram groups.now.ranks (sizes groups.now ctx.now) (diagram nodes.old a) }
-    requires second { IsDiagram groups.now.ranks (sizes groups.now ctx.now) (diagram nodes.old b) }
+    requires a { IsArgument groups.now ctx.now nodes.old a }
+    requires b { IsArgument groups.now ctx.now nodes.old b }
     requires test { TestIn (sizes groups.now ctx.now) test.now }
     ensures grew { Grew nodes.old nodes.new }
     ensures number { IfOk result (λ d. d < length nodes.new) }
@@ -159,12 +151,7 @@ fn picked(
     a: u64,
     b: u64,
 ) -> Result<u64, NoMemory>
-    requires a { a < length nodes.old }
-    requires b { b < length nodes.old }
-    requires first { IsDiagram groups.now.ranks (sizes groups.now ctx.now) (diagram nodes.old a) }
-    requires second { IsDiagram groups.now.ranks (sizes groups.now ctx.now) (diagram nodes.old b) }
-    requires test { TestIn (sizes groups.now ctx.now) test.now }
-    requires memo { Remembers (PickedFor groups.now.ranks (sizes groups.now ctx.now) test.now nodes.old) memo.old }
+    requires { IsAskedPick groups.now ctx.now test.now nodes.old memo.old a b }
     ensures grew { Grew nodes.old nodes.new }
     ensures number { IfOk result (λ d. d < length nodes.new) }
     ensures pick { IfOk result (λ d. IsPick groups.now.ranks (sizes groups.now ctx.now) Anywhere test.now (diagram nodes.old a) (diagram nodes.old b) (diagram nodes.new d)) }
@@ -188,18 +175,13 @@ fn picked_anew(
     a: u64,
     b: u64,
 ) -> Result<u64, NoMemory>
-    requires a { a < length nodes.old }
-    requires b { b < length nodes.old }
-    requires first { IsDiagram groups.now.ranks (sizes groups.now ctx.now) (diagram nodes.old a) }
-    requires second { IsDiagram groups.now.ranks (sizes groups.now ctx.now) (diagram nodes.old b) }
-    requires test { TestIn (sizes groups.now ctx.now) test.now }
-    requires memo { Remembers (PickedFor groups.now.ranks (sizes groups.now ctx.now) test.now nodes.old) memo.old }
+    requires { IsAskedPick groups.now ctx.now test.now nodes.old memo.old a b }
     ensures grew { Grew nodes.old nodes.new }
     ensures number { IfOk result (λ d. d < length nodes.new) }
     ensures pick { IfOk result (λ d. IsPick groups.now.ranks (sizes groups.now ctx.now) Anywhere test.now (diagram nodes.old a) (diagram nodes.old b) (diagram nodes.new d)) }
     ensures memo { OnOk result (Remembers (PickedFor groups.now.ranks (sizes groups.now ctx.now) test.now nodes.new) memo.new) }
 {
-    let first = least(nodes, groups, ctx, test, a, b)?;
+    let first = least(nodes, groups, ctx, test, a, b).copy()?;
     let ay = side(nodes, a, &first, true);
     let bn = side(nodes, b, &first, false);
     if same_test(test, &first) {
@@ -225,12 +207,7 @@ fn picked_under(
     a: u64,
     b: u64,
 ) -> Result<u64, NoMemory>
-    requires a { a < length nodes.old }
-    requires b { b < length nodes.old }
-    requires first { IsDiagram groups.now.ranks (sizes groups.now ctx.now) (diagram nodes.old a) }
-    requires second { IsDiagram groups.now.ranks (sizes groups.now ctx.now) (diagram nodes.old b) }
-    requires test { TestIn (sizes groups.now ctx.now) test.now }
-    requires memo { Remembers (PickedFor groups.now.ranks (sizes groups.now ctx.now) test.now nodes.old) memo.old }
+    requires { IsAskedPick groups.now ctx.now test.now nodes.old memo.old a b }
     ensures grew { Grew nodes.old nodes.new }
     ensures number { IfOk result (λ d. d < length nodes.new) }
     ensures pick { IfOk result (λ d. IsPick groups.now.ranks (sizes groups.now ctx.now) (Where first.now yes) test.now (diagram nodes.old a) (diagram nodes.old b) (diagram nodes.new d)) }

@@ -3,10 +3,10 @@
 ghost use Rattle.std.specs.Prelude.{◌≡◌, ◌<◌, ◌∷◌, ℕ, IfOk, IfSome, List, OnOk, length};
 ghost use Rattle.snap_arena.specs.Arena.{Grew};
 ghost use Rattle.snap_fdd.specs.Contexts.{Met, Under};
-ghost use Rattle.snap_fdd.specs.Diagrams.{diagram, answer};
-ghost use Rattle.snap_fdd.specs.Picks.{IsDiagram, sizes, IsArgument};
+ghost use Rattle.snap_fdd.specs.Diagrams.{diagram, walk, answer};
+ghost use Rattle.snap_fdd.specs.Picks.{sizes, IsArgument};
 ghost use Rattle.snap_fdd.specs.Pruned.{IsPruned, IsLive, IsPart};
-ghost use Rattle.snap_fdd.specs.Memoed.{IsKeyFor, IsPlan, PrunedFor};
+ghost use Rattle.snap_fdd.specs.Memoed.{IsKeyFor, IsPlan, PrunedFor, IsAskedPruned};
 ghost use Rattle.snap_arena.specs.Memos.{Remembers};
 
 use crate::leaf::Leaf;
@@ -94,16 +94,13 @@ fn pruned(
     memo: &mut Numbers,
     d: u64,
 ) -> Result<u64, NoMemory>
-    requires d { d < length nodes.old }
-    requires diagram { IsDiagram groups.now.ranks (sizes groups.now ctx.now) (diagram nodes.old d) }
-    requires plan { IsPlan plan.now nodes.old }
-    requires memo { Remembers (PrunedFor groups.now.ranks (sizes groups.now ctx.now) plan.now.tested.items nodes.old) memo.old }
+    requires { IsAskedPruned groups.now ctx.now plan.now nodes.old memo.old d }
     ensures grew { Grew nodes.old nodes.new }
     ensures number { IfOk result (λ r. r < length nodes.new) }
     ensures pruned { IfOk result (λ r. IsPruned groups.now.ranks (sizes groups.now ctx.now) ctx.now (diagram nodes.old d) (diagram nodes.new r)) }
     ensures memo { OnOk result (Remembers (PrunedFor groups.now.ranks (sizes groups.now ctx.now) plan.now.tested.items nodes.new) memo.new) }
 {
-    if stays(nodes, groups, ctx, &plan.survey, &plan.quiet, d)? {
+    if stays(nodes, groups, ctx, &plan.survey, &plan.quiet, d) {
         return Ok(d);
     }
     let Some(key) = memo_key(nodes, ctx, plan, d)? else {
@@ -126,10 +123,7 @@ fn pruned_anew(
     memo: &mut Numbers,
     d: u64,
 ) -> Result<u64, NoMemory>
-    requires d { d < length nodes.old }
-    requires diagram { IsDiagram groups.now.ranks (sizes groups.now ctx.now) (diagram nodes.old d) }
-    requires plan { IsPlan plan.now nodes.old }
-    requires memo { Remembers (PrunedFor groups.now.ranks (sizes groups.now ctx.now) plan.now.tested.items nodes.old) memo.old }
+    requires { IsAskedPruned groups.now ctx.now plan.now nodes.old memo.old d }
     ensures grew { Grew nodes.old nodes.new }
     ensures number { IfOk result (λ r. r < length nodes.new) }
     ensures pruned { IfOk result (λ r. IsPruned groups.now.ranks (sizes groups.now ctx.now) ctx.now (diagram nodes.old d) (diagram nodes.new r)) }
@@ -151,8 +145,8 @@ fn pruned_anew(
     }
 }
 
-/// The same answer on every store and packet that meet the context, and each way of each test is met
-/// by some that meet the context and the answers before.
+/// The same leaf on every store and packet that meet the context, so the same answer, and each way of
+/// each test is met by some that meet the context and the answers before.
 pub fn prune(
     nodes: &mut Nodes<Leaf>,
     groups: &Groups,
@@ -162,12 +156,13 @@ pub fn prune(
     requires { IsArgument groups.now ctx.now nodes.old d }
     ensures grew { Grew nodes.old nodes.new }
     ensures diagram { IfOk result (IsArgument groups.now ctx.now nodes.new) }
+    ensures walks { IfOk result (λ r. Under ctx.now (λ m k. walk (diagram nodes.new r) m k ≡ walk (diagram nodes.old d) m k)) }
     ensures answer { IfOk result (λ r. Under ctx.now (λ m k. answer nodes.new r m k ≡ answer nodes.old d m k)) }
     ensures live { IfOk result (λ r. IsLive (Met ctx.now) (diagram nodes.new r)) }
 {
     let survey = look_over(nodes, groups.count(), d)?;
     let quiet = quiet_ones(nodes, &survey, d)?;
-    if stays(nodes, groups, ctx, &survey, &quiet, d)? {
+    if stays(nodes, groups, ctx, &survey, &quiet, d) {
         return Ok(d);
     }
     let tested = mark_tests(nodes, d)?;

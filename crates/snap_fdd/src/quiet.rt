@@ -6,7 +6,7 @@ ghost use Rattle.snap_ctx.specs.declared.fact.Fact.{Fact};
 ghost use Rattle.snap_fdd.specs.Contexts.{Met};
 ghost use Rattle.snap_fdd.specs.Diagrams.{diagram};
 ghost use Rattle.snap_fdd.specs.Order.{IsRanked, test_cmp};
-ghost use Rattle.snap_fdd.specs.Picks.{IsDiagram, sizes};
+ghost use Rattle.snap_fdd.specs.Picks.{IsArgument};
 ghost use Rattle.snap_fdd.specs.Pruned.{IsLive};
 ghost use Rattle.snap_fdd.specs.Quiet.{BeginsElsewhere, IsClear, IsFine, IsMarked, IsQuiet, SameSubject, StandsBefore};
 
@@ -99,43 +99,31 @@ pub fn quiet_ones(nodes: &Nodes<Leaf>, survey: &Survey, root: u64) -> Result<Vec
 }
 
 // Whether a fact is fine, on a test before this one, and on another subject if it passes.
-fn stands_before(
-    groups: &Groups,
-    survey: &Survey,
-    fact: &Fact,
-    test: &Test,
-    nodes: &Nodes<Leaf>,
-) -> Result<bool, NoMemory>
+fn stands_before(groups: &Groups, survey: &Survey, fact: &Fact, test: &Test) -> bool
     requires { IsRanked (length groups.now.ranks) test.now }
-    ensures { IfOk result (λ b. IsTrue b → StandsBefore groups.now.ranks survey.now test.now fact.now) }
+    ensures { IsTrue result → StandsBefore groups.now.ranks survey.now test.now fact.now }
 {
     let before = fact.test.test();
     if !survey.is_fine(before) || !has_rank(groups, before) {
-        return Ok(false);
+        return false;
     }
-    if compare(nodes.allocator(), groups, before, test)? != Ordering::Less {
-        return Ok(false);
+    if compare(groups, before, test) != Ordering::Less {
+        return false;
     }
-    Ok(!fact.yes || !same_subject(before, test))
+    !fact.yes || !same_subject(before, test)
 }
 
 // Whether all facts are so.
-fn all_before(
-    groups: &Groups,
-    survey: &Survey,
-    facts: &[Fact],
-    test: &Test,
-    nodes: &Nodes<Leaf>,
-) -> Result<bool, NoMemory>
+fn all_before(groups: &Groups, survey: &Survey, facts: &[Fact], test: &Test) -> bool
     requires { IsRanked (length groups.now.ranks) test.now }
-    ensures { IfOk result (λ b. IsTrue b → AllByRecursion (StandsBefore groups.now.ranks survey.now test.now) facts.now) }
+    ensures { IsTrue result → AllByRecursion (StandsBefore groups.now.ranks survey.now test.now) facts.now }
 {
     for fact in facts {
-        if !stands_before(groups, survey, fact, test, nodes)? {
-            return Ok(false);
+        if !stands_before(groups, survey, fact, test) {
+            return false;
         }
     }
-    Ok(true)
+    true
 }
 
 /// Whether each way of each test of a diagram is met under a context, as far as marks tell.
@@ -146,27 +134,26 @@ pub fn stays(
     survey: &Survey,
     quiet: &[bool],
     d: u64,
-) -> Result<bool, NoMemory>
-    requires d { d < length nodes.now }
-    requires diagram { IsDiagram groups.now.ranks (sizes groups.now ctx.now) (diagram nodes.now d) }
+) -> bool
+    requires d { IsArgument groups.now ctx.now nodes.now d }
     requires marked { IsMarked survey.now nodes.now quiet.now }
-    ensures { IfOk result (λ b. IsTrue b → IsLive (Met ctx.now) (diagram nodes.now d)) }
+    ensures { IsTrue result → IsLive (Met ctx.now) (diagram nodes.now d) }
 {
     let _arena = nodes.count();
     let facts = ctx.facts();
     if d >= quiet.len() as u64 || !quiet[d as usize] {
-        return Ok(false);
+        return false;
     }
     if d > MOST || facts.len() as u64 > MOST || ctx.comps() > 64 {
-        return Ok(false);
+        return false;
     }
     match look(nodes, d) {
-        Node::Leaf(_) => Ok(true),
+        Node::Leaf(_) => true,
         Node::Ask {
             test,
             yes: _,
             no: _,
-        } => all_before(groups, survey, facts, test, nodes),
+        } => all_before(groups, survey, facts, test),
     }
 }
 

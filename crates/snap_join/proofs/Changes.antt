@@ -115,7 +115,7 @@ or-none : (a : Bool) → a ≡ (a || false)
 or-none true = refl
 or-none false = refl
 
-contains-results : (s : PacketSet) (os : List (List (ℕ × Atom))) (k q : List ℕ) → contains_key (results_from s os k) q ≡ (contains_key s q || list_any (eq_by_cmp packet_cmp q) (map (λ o. after_out o k) os))
+pub contains-results : (s : PacketSet) (os : List (List (ℕ × Atom))) (k q : List ℕ) → contains_key (results_from s os k) q ≡ (contains_key s q || list_any (eq_by_cmp packet_cmp q) (map (λ o. after_out o k) os))
 contains-results s [] k q = or-none (contains_key s q)
 contains-results s (o ∷ os) k q =
     contains-results (with_packet s (after_out o k)) os k q

@@ -1,15 +1,9 @@
 -- Predicates turned round.
-use Rattle.std.proofs.Common.{◌≡◌, ◌≢◌, ◌⊎◌, inl, inr, ℕ, ◌<◌, Bool, true, false, not, cond, List, [], ◌∷◌, length, refl, ap, ◌∙◌, arith, pow_pos}
-use Rattle.std.specs.Prelude.{Result, Ok, Err, IfOk, All, ◌==◌}
+use Rattle.std.proofs.Common.{◌≡◌, ◌⊎◌, inl, inr, ℕ, Bool, true, false, not, cond, List, [], ◌∷◌, refl, ap, ◌∙◌, arith, pow_pos}
+use Rattle.std.specs.Prelude.{All}
 use Rattle.std.proofs.lemmas.List.Elements.{All-from_recursion, All-nil}
 use Rattle.snap_core.specs.declared.policy.Test.{Test}
 use Rattle.snap_core.specs.Arrays.{Arrays}
-use Rattle.snap_arena.specs.declared.node.Node.{Node}
-use Rattle.snap_arena.specs.declared.node.Node.TheVariants as node
-use Rattle.snap_arena.specs.Arena.{IsNoted}
-use Rattle.std.proofs.lemmas.Bool.{eqb-false}
-use Rattle.std.proofs.lemmas.Bool.Decides.{Decides-eqb}
-use Rattle.std.proofs.lemmas.Option.{slice_get_within}
 use Rattle.snap_core.specs.declared.policy.Atom.{Atom}
 use Rattle.snap_fdd.specs.declared.leaf.Leaf.{Leaf}
 use Rattle.snap_fdd.specs.declared.leaf.Leaf.TheVariants.{Race, Go as Goes}
@@ -85,14 +79,3 @@ negated_answer d r m k j h =
     let i = negate_is (walk d m k) h in
     let p : IsPredicateLeaf (walk r m k) = rw (j.walks m k) i.0 in
     (p, answer_is (walk r m k) k p ∙ (rw (j.walks m k, i.1, i.2) refl))
-
-pub node_number : {E : Type 0} (t : Test) (old new : List (Node Leaf)) (y n : ℕ) (r : Result ℕ E) → y < length old
-    → IfOk r (λ d. y ≡ n → (d ≡ y) × (new ≡ old)) → IfOk r (λ d. y ≢ n → IsNoted old (node.Ask t y n) new d) → IfOk r (λ d. d < length new)
-node_number t old new y n (Err e) hy both two = tt
-node_number t old new y n (Ok d) hy both two =
-    let Goal : Bool → Type 0 = λ v. (y == n) ≡ v → d < length new in
-    let by : (v : Bool) → Goal v = λ v. elim v as Goal [
-      | true ↦ λ e. (let p = both ((Decides-eqb y n).0 e) in rw (p.0, p.1) hy)
-      | false ↦ λ e. slice_get_within new d (node.Ask t y n) (two (eqb-false y n e)).at
-    ] in
-    by (y == n) refl

@@ -1,9 +1,14 @@
 -- What a memo of one call remembers.
 use Rattle.std.specs.Prelude.{ℕ, ◌<◌, List, [], ◌∷◌, length, ⊤}
+use Rattle.snap_core.specs.Cells.{Cells}
+use Rattle.snap_dep.specs.Ranks.{Grouping}
+use Rattle.snap_ctx.specs.View.{View}
 use Rattle.snap_arena.specs.declared.node.Node.{Node}
+use Rattle.snap_arena.specs.Memos.{Remembers}
 use Rattle.snap_fdd.specs.declared.leaf.Leaf.{Leaf}
 use Rattle.snap_fdd.specs.Diagrams.{diagram}
 use Rattle.snap_fdd.specs.Bounds.{Sizes}
+use Rattle.snap_fdd.specs.Picks.{IsArgument, sizes}
 use Rattle.snap_join.specs.declared.leaves.How.{How}
 use Rattle.snap_join.specs.Joined.{IsJoined}
 use Rattle.snap_join.specs.Predicates.{IsNegated}
@@ -19,6 +24,12 @@ pub record IsCombined (ranks : List ℕ) (s : Sizes) (how : How) (ns : List (Nod
 abbrev pub CombinedFor : List ℕ → Sizes → How → List (Node Leaf) → List ℕ → ℕ → Type 0
 CombinedFor ranks s how ns (a ∷ b ∷ []) d = IsCombined ranks s how ns a b d
 CombinedFor ranks s how ns q d = ⊤
+
+-- what is asked for two diagrams combined: both fit, and the memo is that of this way to combine
+pub record IsAskedJoin (g : Grouping) (v : View) (how : How) (ns : List (Node Leaf)) (memo : Cells) (a b : ℕ) : Type 0 where
+  pub first : IsArgument g v ns a
+  pub second : IsArgument g v ns b
+  pub known : Remembers (CombinedFor g.ranks (sizes g v) how ns) memo
 
 -- the number d is that of a predicate turned round
 pub record IsTurned (ns : List (Node Leaf)) (a d : ℕ) : Type 0 where
@@ -41,3 +52,10 @@ pub record IsDecided (ranks : List ℕ) (s : Sizes) (ns : List (Node Leaf)) (x p
 abbrev pub DecidedFor : List ℕ → Sizes → List (Node Leaf) → List ℕ → ℕ → Type 0
 DecidedFor ranks s ns (x ∷ p ∷ q ∷ []) d = IsDecided ranks s ns x p q d
 DecidedFor ranks s ns k d = ⊤
+
+-- what is asked for a choice: the three diagrams fit, and the memo is that of choices
+pub record IsAskedChoice (g : Grouping) (v : View) (ns : List (Node Leaf)) (memo : Cells) (x p q : ℕ) : Type 0 where
+  pub test : IsArgument g v ns x
+  pub yes : IsArgument g v ns p
+  pub no : IsArgument g v ns q
+  pub known : Remembers (DecidedFor g.ranks (sizes g v) ns) memo

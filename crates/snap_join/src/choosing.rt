@@ -1,15 +1,17 @@
 //! One of two diagrams, by a predicate.
 
-ghost use Rattle.std.specs.Prelude.{◌≡◌, ◌<◌, length, IfOk, OnOk, if◌then◌else◌};
+ghost use Rattle.std.specs.Prelude.{◌≡◌, ◌<◌, ℕ, List, length, IfOk, OnOk, if◌then◌else◌};
 ghost use Rattle.snap_arena.specs.Arena.{Grew};
 ghost use Rattle.snap_arena.specs.Memos.{Remembers};
 ghost use Rattle.snap_fdd.specs.Contexts.{Under};
-ghost use Rattle.snap_fdd.specs.Diagrams.{diagram, answer, Only};
+ghost use Rattle.snap_core.specs.Arrays.{Arrays};
+ghost use Rattle.snap_fdd.specs.Diagrams.{diagram, walk, answer, Only};
 ghost use Rattle.snap_fdd.specs.declared.leaf.Leaf.{Leaf};
 ghost use Rattle.snap_fdd.specs.Picks.{sizes, IsArgument};
 ghost use Rattle.snap_join.specs.Predicates.{IsPredicate, holds, reads, more_reads, passed};
 ghost use Rattle.snap_join.specs.Chosen.{IsChosen};
-ghost use Rattle.snap_join.specs.Memoed.{DecidedFor};
+ghost use Rattle.snap_join.specs.Joined.{logged_leaf};
+ghost use Rattle.snap_join.specs.Memoed.{DecidedFor, IsAskedChoice};
 
 use crate::joining::combine;
 use crate::leaves::How;
@@ -48,10 +50,7 @@ fn chosen(
     p: u64,
     q: u64,
 ) -> Result<u64, NoMemory>
-    requires x { IsArgument groups.now ctx.now nodes.old x }
-    requires p { IsArgument groups.now ctx.now nodes.old p }
-    requires q { IsArgument groups.now ctx.now nodes.old q }
-    requires memo { Remembers (DecidedFor groups.now.ranks (sizes groups.now ctx.now) nodes.old) memo.old }
+    requires { IsAskedChoice groups.now ctx.now nodes.old memo.old x p q }
     ensures grew { Grew nodes.old nodes.new }
     ensures number { IfOk result (λ d. d < length nodes.new) }
     ensures chosen { IfOk result (λ d. IsChosen groups.now.ranks (sizes groups.now ctx.now) (diagram nodes.old x) (diagram nodes.old p) (diagram nodes.old q) (diagram nodes.new d)) }
@@ -75,10 +74,7 @@ fn chosen_anew(
     p: u64,
     q: u64,
 ) -> Result<u64, NoMemory>
-    requires x { IsArgument groups.now ctx.now nodes.old x }
-    requires p { IsArgument groups.now ctx.now nodes.old p }
-    requires q { IsArgument groups.now ctx.now nodes.old q }
-    requires memo { Remembers (DecidedFor groups.now.ranks (sizes groups.now ctx.now) nodes.old) memo.old }
+    requires { IsAskedChoice groups.now ctx.now nodes.old memo.old x p q }
     ensures grew { Grew nodes.old nodes.new }
     ensures number { IfOk result (λ d. d < length nodes.new) }
     ensures chosen { IfOk result (λ d. IsChosen groups.now.ranks (sizes groups.now ctx.now) (diagram nodes.old x) (diagram nodes.old p) (diagram nodes.old q) (diagram nodes.new d)) }
@@ -116,6 +112,7 @@ pub fn choose(
     requires q { IsArgument groups.now ctx.now nodes.old q }
     ensures grew { Grew nodes.old nodes.new }
     ensures diagram { IfOk result (IsArgument groups.now ctx.now nodes.new) }
+    ensures walks { IfOk result (λ d. (m : Arrays) (k : List ℕ) → walk (diagram nodes.new d) m k ≡ logged_leaf (walk (diagram nodes.old x) m k) (if holds nodes.old x m k then walk (diagram nodes.old p) m k else walk (diagram nodes.old q) m k)) }
     ensures answer { IfOk result (λ d. Under ctx.now (λ m k. answer nodes.new d m k ≡ more_reads (reads nodes.old x m k) (if holds nodes.old x m k then answer nodes.old p m k else answer nodes.old q m k))) }
 {
     let mut memo = Numbers::new(nodes.allocator());

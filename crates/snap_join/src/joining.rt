@@ -1,15 +1,16 @@
 //! Two diagrams combined: side by side, and predicates.
 
-ghost use Rattle.std.specs.Prelude.{◌≡◌, ◌<◌, length, IfOk, OnOk, ◌&&◌, ◌||◌, bit_or};
+ghost use Rattle.std.specs.Prelude.{◌≡◌, ◌<◌, ℕ, List, length, IfOk, OnOk, ◌&&◌, ◌||◌, bit_or};
 ghost use Rattle.snap_arena.specs.Arena.{Grew};
 ghost use Rattle.snap_arena.specs.Memos.{Remembers};
 ghost use Rattle.snap_fdd.specs.Contexts.{Under};
-ghost use Rattle.snap_fdd.specs.Diagrams.{diagram, answer};
-ghost use Rattle.snap_fdd.specs.Picks.{IsDiagram, sizes, IsArgument};
+ghost use Rattle.snap_core.specs.Arrays.{Arrays};
+ghost use Rattle.snap_fdd.specs.Diagrams.{diagram, walk, answer};
+ghost use Rattle.snap_fdd.specs.Picks.{sizes, IsArgument};
 ghost use Rattle.snap_join.specs.Beside.{beside};
 ghost use Rattle.snap_join.specs.Predicates.{IsPredicate, holds, reads, test_answer};
-ghost use Rattle.snap_join.specs.Joined.{IsJoined, IsStart};
-ghost use Rattle.snap_join.specs.Memoed.{CombinedFor};
+ghost use Rattle.snap_join.specs.Joined.{IsJoined, IsStart, beside_leaf, both_leaf, either_leaf};
+ghost use Rattle.snap_join.specs.Memoed.{CombinedFor, IsAskedJoin};
 
 use crate::leaves::{How, combine_leaves};
 use snap_arena::node::Node;
@@ -37,10 +38,8 @@ fn begin(
     a: u64,
     b: u64,
 ) -> Result<Start, NoMemory>
-    requires a { a < length nodes.now }
-    requires b { b < length nodes.now }
-    requires first { IsDiagram groups.now.ranks (sizes groups.now ctx.now) (diagram nodes.now a) }
-    requires second { IsDiagram groups.now.ranks (sizes groups.now ctx.now) (diagram nodes.now b) }
+    requires a { IsArgument groups.now ctx.now nodes.now a }
+    requires b { IsArgument groups.now ctx.now nodes.now b }
     ensures { IfOk result (IsStart how groups.now.ranks (sizes groups.now ctx.now) (diagram nodes.now a) (diagram nodes.now b)) }
 {
     match look(nodes, a) {
@@ -49,8 +48,7 @@ fn begin(
             yes: _,
             no: _,
         } => {
-            let copy = test.copy()?;
-            let first = lower(nodes, groups, ctx, copy, b)?;
+            let first = lower(nodes, groups, ctx, test, b).copy()?;
             Ok(Start::First(first))
         }
         Node::Leaf(left) => match look(nodes, b) {
@@ -79,10 +77,8 @@ pub fn combine(
     a: u64,
     b: u64,
 ) -> Result<u64, NoMemory>
-    requires a { a < length nodes.old }
-    requires b { b < length nodes.old }
-    requires first { IsDiagram groups.now.ranks (sizes groups.now ctx.now) (diagram nodes.old a) }
-    requires second { IsDiagram groups.now.ranks (sizes groups.now ctx.now) (diagram nodes.old b) }
+    requires a { IsArgument groups.now ctx.now nodes.old a }
+    requires b { IsArgument groups.now ctx.now nodes.old b }
     ensures grew { Grew nodes.old nodes.new }
     ensures number { IfOk result (λ d. d < length nodes.new) }
     ensures joined { IfOk result (λ d. IsJoined groups.now.ranks (sizes groups.now ctx.now) how (diagram nodes.old a) (diagram nodes.old b) (diagram nodes.new d)) }
@@ -102,11 +98,7 @@ fn combined(
     a: u64,
     b: u64,
 ) -> Result<u64, NoMemory>
-    requires a { a < length nodes.old }
-    requires b { b < length nodes.old }
-    requires first { IsDiagram groups.now.ranks (sizes groups.now ctx.now) (diagram nodes.old a) }
-    requires second { IsDiagram groups.now.ranks (sizes groups.now ctx.now) (diagram nodes.old b) }
-    requires memo { Remembers (CombinedFor groups.now.ranks (sizes groups.now ctx.now) how nodes.old) memo.old }
+    requires { IsAskedJoin groups.now ctx.now how nodes.old memo.old a b }
     ensures grew { Grew nodes.old nodes.new }
     ensures number { IfOk result (λ d. d < length nodes.new) }
     ensures joined { IfOk result (λ d. IsJoined groups.now.ranks (sizes groups.now ctx.now) how (diagram nodes.old a) (diagram nodes.old b) (diagram nodes.new d)) }
@@ -130,11 +122,7 @@ fn combined_anew(
     a: u64,
     b: u64,
 ) -> Result<u64, NoMemory>
-    requires a { a < length nodes.old }
-    requires b { b < length nodes.old }
-    requires first { IsDiagram groups.now.ranks (sizes groups.now ctx.now) (diagram nodes.old a) }
-    requires second { IsDiagram groups.now.ranks (sizes groups.now ctx.now) (diagram nodes.old b) }
-    requires memo { Remembers (CombinedFor groups.now.ranks (sizes groups.now ctx.now) how nodes.old) memo.old }
+    requires { IsAskedJoin groups.now ctx.now how nodes.old memo.old a b }
     ensures grew { Grew nodes.old nodes.new }
     ensures number { IfOk result (λ d. d < length nodes.new) }
     ensures joined { IfOk result (λ d. IsJoined groups.now.ranks (sizes groups.now ctx.now) how (diagram nodes.old a) (diagram nodes.old b) (diagram nodes.new d)) }
@@ -167,6 +155,7 @@ pub fn join(
     requires b { IsArgument groups.now ctx.now nodes.old b }
     ensures grew { Grew nodes.old nodes.new }
     ensures diagram { IfOk result (IsArgument groups.now ctx.now nodes.new) }
+    ensures walks { IfOk result (λ d. (m : Arrays) (k : List ℕ) → walk (diagram nodes.new d) m k ≡ beside_leaf (walk (diagram nodes.old a) m k) (walk (diagram nodes.old b) m k)) }
     ensures answer { IfOk result (λ d. Under ctx.now (λ m k. answer nodes.new d m k ≡ beside (answer nodes.old a m k) (answer nodes.old b m k))) }
 {
     combine(nodes, groups, ctx, How::Beside, a, b)
@@ -187,6 +176,7 @@ pub fn both(
     ensures grew { Grew nodes.old nodes.new }
     ensures diagram { IfOk result (IsArgument groups.now ctx.now nodes.new) }
     ensures predicate { IfOk result (IsPredicate nodes.new) }
+    ensures walks { IfOk result (λ d. (m : Arrays) (k : List ℕ) → walk (diagram nodes.new d) m k ≡ both_leaf (walk (diagram nodes.old a) m k) (walk (diagram nodes.old b) m k)) }
     ensures answer { IfOk result (λ d. Under ctx.now (λ m k. answer nodes.new d m k ≡ test_answer (holds nodes.old a m k && holds nodes.old b m k) (bit_or (reads nodes.old a m k) (reads nodes.old b m k)) k)) }
 {
     combine(nodes, groups, ctx, How::AndBoth, a, b)
@@ -207,6 +197,7 @@ pub fn either(
     ensures grew { Grew nodes.old nodes.new }
     ensures diagram { IfOk result (IsArgument groups.now ctx.now nodes.new) }
     ensures predicate { IfOk result (IsPredicate nodes.new) }
+    ensures walks { IfOk result (λ d. (m : Arrays) (k : List ℕ) → walk (diagram nodes.new d) m k ≡ either_leaf (walk (diagram nodes.old a) m k) (walk (diagram nodes.old b) m k)) }
     ensures answer { IfOk result (λ d. Under ctx.now (λ m k. answer nodes.new d m k ≡ test_answer (holds nodes.old a m k || holds nodes.old b m k) (bit_or (reads nodes.old a m k) (reads nodes.old b m k)) k)) }
 {
     combine(nodes, groups, ctx, How::OrEither, a, b)

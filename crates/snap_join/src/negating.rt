@@ -5,7 +5,7 @@ ghost use Rattle.snap_core.specs.Arrays.{Arrays};
 ghost use Rattle.snap_arena.specs.Arena.{Grew};
 ghost use Rattle.snap_arena.specs.Memos.{Remembers};
 ghost use Rattle.snap_fdd.specs.Bounds.{Sizes};
-ghost use Rattle.snap_fdd.specs.Diagrams.{diagram, answer, Only};
+ghost use Rattle.snap_fdd.specs.Diagrams.{diagram, walk, answer, Only};
 ghost use Rattle.snap_fdd.specs.declared.leaf.Leaf.{Leaf};
 ghost use Rattle.snap_fdd.specs.Picks.{IsDiagram};
 ghost use Rattle.snap_join.specs.Predicates.{IsPredicate, holds, reads, test_answer, negate_leaf, IsNegated};
@@ -78,6 +78,7 @@ pub fn negate(nodes: &mut Nodes<Leaf>, a: u64) -> Result<u64, NoMemory>
     ensures number { IfOk result (λ d. d < length nodes.new) }
     ensures diagram { IfOk result (λ d. (ranks : List ℕ) (s : Sizes) → IsDiagram ranks s (diagram nodes.old a) → IsDiagram ranks s (diagram nodes.new d)) }
     ensures predicate { IfOk result (IsPredicate nodes.new) }
+    ensures walks { IfOk result (λ d. (m : Arrays) (k : List ℕ) → walk (diagram nodes.new d) m k ≡ negate_leaf (walk (diagram nodes.old a) m k)) }
     ensures answer { IfOk result (λ d. (m : Arrays) (k : List ℕ) → answer nodes.new d m k ≡ test_answer (not (holds nodes.old a m k)) (reads nodes.old a m k) k) }
 {
     let mut memo = Numbers::new(nodes.allocator());

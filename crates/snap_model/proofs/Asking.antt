@@ -1,8 +1,8 @@
 -- What a model answers is no impossible answer.
-use Rattle.std.proofs.Common.{◌≡◌, ℕ, ◌+◌, ◌^◌, ◌<◌, ◌≤◌, ⊎_elim, true, List, [], ◌∷◌, length, map, refl, ap, ◌∙◌, arith}
+use Rattle.std.proofs.Common.{◌≡◌, ℕ, ◌^◌, ◌<◌, ◌≤◌, true, List, [], ◌∷◌, length, map, refl, ap, ◌∙◌, arith}
 use Rattle.std.specs.Prelude.{◌==◌}
 use Rattle.std.specs.List.{AllByRecursion}
-use Rattle.std.proofs.lemmas.Bool.{eq-eqb, cases_lt}
+use Rattle.std.proofs.lemmas.Bool.{eq-eqb}
 use Rattle.std.proofs.lemmas.List.{length-map}
 use Rattle.snap_core.specs.declared.place.Place.{Place}
 use Rattle.snap_core.specs.declared.policy.Atom.TheVariants.{Num as Number}
@@ -10,7 +10,8 @@ use Rattle.snap_core.specs.Arrays.{Arrays, value_of}
 use Rattle.snap_core.specs.Fits.{AtomFits}
 use Rattle.snap_core.specs.Listing.{number_in}
 use Rattle.snap_core.specs.Tests.{passes, TestFits}
-use Rattle.snap_ctx.specs.Meets.{IsStore, IsPacket, IsMet, NoneMeets, with_fact}
+use Rattle.snap_core.specs.Inputs.{IsStore, IsPacket}
+use Rattle.snap_ctx.specs.Meets.{IsMet, NoneMeets, with_fact}
 use Rattle.snap_ctx.specs.Classes.{index_of}
 use Rattle.snap_ctx.specs.View.{View}
 use Rattle.snap_ctx.proofs.Answers.{Meets-with_fact}
@@ -40,7 +41,7 @@ passes-ask m k (Component c) n = refl
 passes-ask m k (At p) n = ap (λ xs. let q : Place = record { var = p.var; index = xs } in m q == n) (num_values k p.index)
 
 answer_small : (comps : ℕ) (m : Arrays) (k : List ℕ) (ask : Ask) → AskFits comps ask → IsStore m → IsPacket comps k → answer_of ask m k < 2 ^ 64
-answer_small comps m k (Component c) o s p = p.1 c 0 (rw p.0 o)
+answer_small comps m k (Component c) o s p = p.numbers c 0 (rw p.long o)
 answer_small comps m k (At q) o s p = s q
 
 -- a context that is met has an answer that is possible
@@ -51,7 +52,3 @@ some_answer v ask o met none =
     (number_in met.entries) met.packet met.is_packet
     (Meets-with_fact v.facts (test_of ask (answer_of ask (number_in met.entries) met.packet)) true (number_in met.entries) met.packet met.meets
     (passes-ask (number_in met.entries) met.packet ask (answer_of ask (number_in met.entries) met.packet) ∙ eq-eqb _ _ refl))
-
--- one candidate more is refused
-pub one_more : (P : ℕ → Type 0) (n : ℕ) → ((j : ℕ) → j < n → P j) → P n → (j : ℕ) → j < n + 1 → P j
-one_more P n below here j l = ⊎_elim (λ (h : j < n). below j h) (λ (h : n ≤ j). let e : j ≡ n = omega (arith, h, l) in rw e here) (cases_lt j n)

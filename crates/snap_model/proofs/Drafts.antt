@@ -12,7 +12,7 @@ use Rattle.snap_core.specs.Cells.{Kept, arrays_of}
 use Rattle.snap_core.specs.Listing.{number_in}
 use Rattle.snap_core.specs.Tests.{passes, term_value}
 use Rattle.snap_ctx.specs.declared.fact.Fact.{Fact}
-use Rattle.snap_ctx.specs.Meets.{Meets, IsStore, IsPacket, IsMet}
+use Rattle.snap_ctx.specs.Meets.{Meets, IsMet}
 use Rattle.snap_ctx.specs.Classes.{is_state, var_of, index_of}
 use Rattle.snap_ctx.specs.View.{View}
 use Rattle.std.specs.List.{AllByRecursion}
@@ -21,7 +21,7 @@ use Rattle.snap_model.specs.declared.ask.Ask.TheVariants.{At}
 use Rattle.snap_model.specs.declared.ask.Settled.{Settled}
 use Rattle.snap_model.specs.declared.example.Draft.{Draft}
 use Rattle.snap_model.specs.Asks.{IsSettled}
-use Rattle.snap_core.specs.Inputs.{IsZeroFrom}
+use Rattle.snap_core.specs.Inputs.{IsStore, IsPacket, IsZeroFrom}
 use Rattle.snap_model.specs.Models.{current, Forces, IsDraft, Knows, Settles, place_of, FactBelow}
 use Rattle.snap_model.proofs.Settling.{settled_new, run_kept, fact_kept}
 
@@ -41,10 +41,6 @@ zero_put n m w p x low e z q l = subst (λ (a : Arrays). a q ≡ 0) (sym e) (by 
     by : (b : Bool) → same_place p q ≡ b → cond b x (m q) ≡ 0
     by true f = (let v : p.var ≡ q.var = ap (λ (r : Place). r.var) (same_place-true p q f) in absurd (omega (arith, v, low, l)))
     by false f = z q l
-
--- no fact so far
-pub settles_none : (v : View) (y : Bool) (d : Draft) → IsDraft v d → Settles v y [] d d
-settles_none v y d h = record { draft = h; places = λ i e l. absurd (omega arith); kept = λ f k. k; only = λ n a z. z }
 
 -- a fact with the other answer, or not on a place
 pub settles_skip : (v : View) (y : Bool) (facts : List Fact) (old d : Draft) (f : Fact) → (f.yes ≡ y → Knows v d f) → Settles v y facts old d → Settles v y (facts ++ f ∷ []) old d
@@ -80,11 +76,11 @@ passes-where_state m n k (State v ix u) h = ap (λ x. x == term_value u k) (h re
 module _ (v : View) (d : Draft) (draft : IsDraft v d) (met : IsMet (length (current v d.grown).classes) (current v d.grown).facts) where
   same_packet : met.packet ≡ d.packet
   same_packet =
-      let size : length met.packet ≡ length d.packet = met.is_packet.0 ∙ (draft.run.extends.same ∙ sym draft.whole) in
+      let size : length met.packet ≡ length d.packet = met.is_packet.long ∙ (draft.run.extends.same ∙ sym draft.whole) in
       same_number_lists met.packet d.packet size (λ c l. draft.run.forces c (rw size at l) (number_in met.entries) met.packet met.is_packet met.meets)
 
   pub draft_packet : IsPacket (length v.classes) d.packet
-  draft_packet = subst (λ (k : List ℕ). IsPacket (length v.classes) k) same_packet (met.is_packet.0 ∙ draft.run.extends.same, met.is_packet.1)
+  draft_packet = subst (λ (k : List ℕ). IsPacket (length v.classes) k) same_packet (record { long = met.is_packet.long ∙ draft.run.extends.same; numbers = met.is_packet.numbers })
 
   pub draft_meets : ((i : ℕ) (e : Fact) → i < length v.facts → Knows v d (get_or v.facts i e)) → Meets v.facts (arrays_of d.store) d.packet
   draft_meets known i e l =

@@ -26,7 +26,7 @@ module _ (w : View) (ask : Ask) (s : Settled) (settled : IsSettled w ask s) wher
   settled_new m k p h = eqb-true _ _ (sym (passes-ask m k ask s.num) ∙ (parts m k h).1)
 
   pub settled_old : (a : Ask) (x : ℕ) → Forces w a x → Forces s.ctx a x
-  settled_old a x f m k p h = f m k (p.0 ∙ settled.same, p.1) (parts m k h).0
+  settled_old a x f m k p h = f m k (record { long = p.long ∙ settled.same; numbers = p.numbers }) (parts m k h).0
 
   settled_extends : (v : View) → Extends v w → Extends v s.ctx
   settled_extends v e = record { same = settled.same ∙ e.same; meets = λ m k h. e.meets m k (parts m k h).0 }

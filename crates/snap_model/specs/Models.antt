@@ -2,11 +2,11 @@
 use Rattle.std.specs.Prelude.{◌≡◌, ℕ, ◌<◌, Bool, true, List, length, slice_index, All, Option, Some, None}
 use Rattle.std.specs.List.{AllByRecursion}
 use Rattle.snap_core.specs.declared.place.Place.{Place}
-use Rattle.snap_core.specs.Inputs.{IsZeroFrom}
+use Rattle.snap_core.specs.Inputs.{IsStore, IsZeroFrom}
 use Rattle.snap_core.specs.Arrays.{Arrays, place_at}
 use Rattle.snap_core.specs.Cells.{arrays_of}
 use Rattle.snap_ctx.specs.declared.fact.Fact.{Fact}
-use Rattle.snap_ctx.specs.Meets.{Meets, Under, IsStore}
+use Rattle.snap_ctx.specs.Meets.{Meets, Under}
 use Rattle.snap_ctx.specs.Classes.{is_state, var_of, index_of}
 use Rattle.snap_ctx.specs.View.{View}
 use Rattle.snap_model.specs.declared.ask.Ask.{Ask}

@@ -6,7 +6,7 @@ ghost use Rattle.snap_core.specs.declared.place.Place.{Place};
 ghost use Rattle.snap_core.specs.Arrays.{put};
 ghost use Rattle.snap_core.specs.Cells.{arrays_of};
 ghost use Rattle.snap_ctx.specs.Classes.{IsTest, is_state};
-ghost use Rattle.snap_ctx.specs.Meets.{IsMet, IsPacket, IsStore, Meets};
+ghost use Rattle.snap_ctx.specs.Meets.{IsMet, Meets};
 ghost use Rattle.snap_model.specs.declared.ask.Ask.TheVariants.{Component, At};
 ghost use Rattle.snap_model.specs.Asks.{IsSettled};
 
@@ -31,7 +31,7 @@ pub struct Draft {
     pub grown: Option<Context>,
 }
 
-ghost use Rattle.snap_core.specs.Inputs.{IsZeroFrom};
+ghost use Rattle.snap_core.specs.Inputs.{IsStore, IsPacket, IsZeroFrom};
 ghost use Rattle.snap_model.specs.Models.{current, place_of, FactBelow, IsDraft, IsRun, Settles};
 
 // A context, or what it grew to.

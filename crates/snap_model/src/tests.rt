@@ -1,39 +1,10 @@
-ghost use Rattle.std.specs.Prelude.{◌≤◌, IsTrue, length};
-ghost use Rattle.snap_core.specs.Tests.{TestFits};
-ghost use Rattle.snap_ctx.specs.Classes.{index_of};
-
 use crate::example::example;
 use snap_core::lists::Atoms;
 use snap_core::policy::{Atom, Term, Test};
 use snap_ctx::context::{Assumed, Context};
+use snap_ctx::fits::fits;
 use std::alloc::{AllocError, Global};
 use std::test::Fail;
-
-fn fits(test: &Test, comps: u16) -> bool
-    ensures fits { IsTrue result → TestFits comps test.now }
-    ensures short { IsTrue result → length (index_of test.now) ≤ 8 }
-{
-    match test {
-        Test::Value { comp, .. } => *comp < comps,
-        Test::Equal { left, right, .. } => *left < comps && *right < comps,
-        Test::State { index, value, .. } => {
-            index.list().len() <= 8
-                && index.list().iter().all(|atom| atom.fits(comps as usize))
-                && match value {
-                    Term::Num(_) => true,
-                    Term::Plus { comp, .. } => *comp < comps,
-                }
-        }
-    }
-}
-
-fn yes(test: Test) -> (Test, bool) {
-    (test, true)
-}
-
-fn no(test: Test) -> (Test, bool) {
-    (test, false)
-}
 
 fn value(comp: u16, num: u64) -> Test {
     Test::Value { comp, num }
@@ -84,25 +55,25 @@ fn examples_meet_their_facts(rt: HostRuntime) -> Result<(), Fail> {
     let alloc = rt.alloc();
     let (two, three, zero) = (Atom::Comp(2), Atom::Comp(3), Atom::Num(0));
     let facts = vec![in alloc;
-        yes(value(3, 1)),
-        yes(value(4, 2)),
-        yes(at(alloc, two, plain(3))?),
+        (value(3, 1), true),
+        (value(4, 2), true),
+        (at(alloc, two, plain(3))?, true),
     ]?;
     assert!(rt; is_met(alloc, facts)?);
-    let facts = vec![in alloc; yes(equal(2, 3, 1)), yes(value(2, 0))]?;
+    let facts = vec![in alloc; (equal(2, 3, 1), true), (value(2, 0), true)]?;
     assert!(rt; is_met(alloc, facts)?);
     let facts = vec![in alloc;
-        yes(at(alloc, two, Term::Num(0))?),
-        yes(at(alloc, three, Term::Num(1))?),
+        (at(alloc, two, Term::Num(0))?, true),
+        (at(alloc, three, Term::Num(1))?, true),
     ]?;
     assert!(rt; is_met(alloc, facts)?);
-    let facts = vec![in alloc; yes(at(alloc, two, Term::Num(0))?)]?;
+    let facts = vec![in alloc; (at(alloc, two, Term::Num(0))?, true)]?;
     assert!(rt; is_met(alloc, facts)?);
-    let facts = vec![in alloc; yes(at(alloc, two, plain(4))?), yes(equal(2, 3, 0))]?;
+    let facts = vec![in alloc; (at(alloc, two, plain(4))?, true), (equal(2, 3, 0), true)]?;
     assert!(rt; is_met(alloc, facts)?);
     let facts = vec![in alloc;
-        no(at(alloc, zero, Term::Num(0))?),
-        no(at(alloc, zero, Term::Num(1))?),
+        (at(alloc, zero, Term::Num(0))?, false),
+        (at(alloc, zero, Term::Num(1))?, false),
     ]?;
     assert!(rt; is_met(alloc, facts)?);
     Ok(())
@@ -114,10 +85,10 @@ fn great_numbers_are_found_at_once(rt: HostRuntime) -> Result<(), Fail> {
     let alloc = rt.alloc();
     let great = Term::Num(18446744073709551615);
     let facts = vec![in alloc;
-        no(at(alloc, Atom::Comp(2), Term::Num(0))?),
-        yes(equal(2, 3, 1)),
-        yes(value(4, 9223372036854775808)),
-        yes(at(alloc, Atom::Comp(2), great)?),
+        (at(alloc, Atom::Comp(2), Term::Num(0))?, false),
+        (equal(2, 3, 1), true),
+        (value(4, 9223372036854775808), true),
+        (at(alloc, Atom::Comp(2), great)?, true),
     ]?;
     assert!(rt; is_met(alloc, facts)?);
     Ok(())

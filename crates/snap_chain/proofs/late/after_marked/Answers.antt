@@ -4,6 +4,7 @@ use Rattle.std.specs.Prelude.{All}
 use Rattle.std.proofs.lemmas.List.Sorted.{All-permutation}
 use Rattle.std.proofs.lemmas.Result.{IfOk-weaker}
 use Rattle.snap_core.specs.declared.policy.Update.{Update}
+use Rattle.snap_arena.proofs.Remembering.{remembers_none}
 use Rattle.snap_fdd.specs.Bounds.{UpdateIn}
 use Rattle.snap_fdd.specs.Diagrams.{diagram}
 use Rattle.snap_fdd.specs.Picks.{sizes}
@@ -11,10 +12,16 @@ use Rattle.snap_chain.specs.Late.{IsLate}
 use Rattle.snap_chain.proofs.Adding.{late_same}
 use Rattle.snap_chain.proofs.late.after_marked.Goals as goal
 
-pub later-requires-clause-ups : goal.later-requires-clause-ups
-later-requires-clause-ups c =
-    subst (λ (us : List Update). All (UpdateIn (sizes c.args.groups.now c.args.ctx.now)) us) (sym c.deref.ensures.value)
-    (All-permutation (UpdateIn (sizes c.args.groups.now c.args.ctx.now)) c.args.ups.now c.in_ok-ups.ups.items c.in_ok-ups.ensures.permuted c.requires.ups)
+pub later-requires : goal.later-requires
+later-requires c = record {
+  first = c.requires.d;
+  fits = c.requires.out;
+  updates = subst (λ (us : List Update). All (UpdateIn (sizes c.args.groups.now c.args.ctx.now)) us) (sym c.deref.ensures.value)
+      (All-permutation (UpdateIn (sizes c.args.groups.now c.args.ctx.now)) c.args.ups.now c.in_ok-ups.ups.items c.in_ok-ups.ensures.permuted c.requires.ups);
+  within = c.requires.marks;
+  marked = c.requires.marked;
+  known = rw c.new-memo.ensures (remembers_none _);
+}
 
 pub returns-clause-late : goal.returns-clause-late
 returns-clause-late c =

@@ -1,5 +1,5 @@
 -- Additions do the same in any order.
-use Rattle.std.proofs.Common.{◌≡◌, List, refl, subst}
+use Rattle.std.proofs.Common.{List, refl, subst}
 use Rattle.std.specs.List.Sorted.{IsPermutation}
 use Rattle.snap_core.specs.declared.policy.Update.{Update}
 use Rattle.snap_chain.proofs.Adding.{same_total}

@@ -1,6 +1,6 @@
 -- Each turn follows from the facts, and has fewer roots.
 use Rattle.std.proofs.Common.{◌≡◌, length, Some, sym, ◌∙◌}
-use Rattle.snap_ctx.specs.Meets.{IsPacket}
+use Rattle.snap_core.specs.Inputs.{IsPacket}
 use Rattle.snap_ctx.specs.Closing.{merged, IsJoin, MeetsWith}
 use Rattle.snap_ctx.proofs.Merging.{merged_some, merged_fits, Improves}
 use Rattle.snap_ctx.proofs.close.close.Goals as goal
@@ -28,7 +28,7 @@ closing-preserved c =
     let d = (goal.at.closing-preserved c).Else-not-merge in (
       (better d).classes,
       (λ m k p meets fits.
-          let q : IsPacket (length c.closing.classes) k = (p.0 ∙ sym c.closing.auto.classes, p.1) in
+          let q : IsPacket (length c.closing.classes) k = record { long = p.long ∙ sym c.closing.auto.classes; numbers = p.numbers } in
           merged_fits c.closing.classes c.merge.new.classes c.in-Join.left c.in-Join.right k (join d).left (join d).right (some d)
           (c.closing.invariant.1 m k p meets fits) ((join d).equal m k q meets (c.closing.invariant.1 m k p meets fits))),
       c.look-found.ensures,

@@ -17,7 +17,7 @@ pub returns-in-Ok-false : goal.returns-in-Ok-false
 returns-in-Ok-false c = λ m k i e.
     told_false c.args.ctx.now (λ m k. value_of (atom_in (Comp c.loop-comp.comp) c.args.left.now c.loop-comp.comp) k ≡ value_of (atom_in (Comp c.loop-comp.comp) c.args.right.now c.loop-comp.comp) k)
     c.in-Ok-false.field-0 c.in-Ok-false.field-0-test (told (goal.at.returns-in-Ok-false c).After-same_atoms c.in-Ok-false.field-0 c.in-Ok-false.ensures) m k i
-    (component_after c.args.left.now c.args.right.now k c.loop-comp.comp (let n : length k ≡ length c.args.ctx.now.classes = i.packet.0 in omega (arith, n, c.loop-comp-test.true, c.comps-comps.ensures)) e)
+    (component_after c.args.left.now c.args.right.now k c.loop-comp.comp (let n : length k ≡ length c.args.ctx.now.classes = i.packet.long in omega (arith, n, c.loop-comp-test.true, c.comps-comps.ensures)) e)
 
 pub loop-comp-preserved : goal.loop-comp-preserved
 loop-comp-preserved c =
@@ -33,4 +33,4 @@ loop-comp-preserved c =
 pub returns-in-None : goal.returns-in-None
 returns-in-None c = λ m k i. same_after c.args.left.now c.args.right.now k (λ j l.
     closed_all c.args.ctx.now 0 ((j : ℕ) → j < c.loop-comp.comp → On c.args.ctx.now (λ m k. value_of (atom_in (Comp j) c.args.left.now j) k ≡ value_of (atom_in (Comp j) c.args.right.now j) k)) c.loop-comp.open c.in-None.is c.loop-comp.invariant
-    j (let n : length k ≡ length c.args.ctx.now.classes = i.packet.0 in omega (arith, n, l, c.comps-comps.ensures, c.loop-comp-test.false)) m k i)
+    j (let n : length k ≡ length c.args.ctx.now.classes = i.packet.long in omega (arith, n, l, c.comps-comps.ensures, c.loop-comp-test.false)) m k i)

@@ -1,14 +1,13 @@
 -- Atom by atom.
-use Rattle.std.proofs.Common.{◌≡◌, get_or, arith}
+use Rattle.std.proofs.Common.{◌≡◌, get_or, arith, below_more}
 use Rattle.snap_core.specs.declared.policy.Atom.TheVariants.{Num as Number}
 use Rattle.snap_core.specs.Arrays.{value_of}
 use Rattle.snap_equal.specs.Told.{On}
 use Rattle.snap_equal.proofs.Indices.{same_numbers}
-use Rattle.snap_equal.proofs.Telling.{one_more}
 use Rattle.snap_equal.proofs.places.reads_index.Goals as goal
 
 pub loop-i-preserved : goal.loop-i-preserved
-loop-i-preserved c = one_more (λ j. On c.args.ctx.now (λ m k. value_of (get_or c.args.left.now j (Number 0)) k ≡ value_of (get_or c.args.right.now j (Number 0)) k)) c.loop-i.i c.loop-i.invariant
+loop-i-preserved c = below_more (λ j. On c.args.ctx.now (λ m k. value_of (get_or c.args.left.now j (Number 0)) k ≡ value_of (get_or c.args.right.now j (Number 0)) k)) c.loop-i.i c.loop-i.invariant
     (c.reads_same.ensures c.if-not-reads_same.false)
 
 pub returns : goal.returns

@@ -2,7 +2,7 @@
 use Rattle.std.proofs.Common.{ℕ, length, take, sym, ap, ◌∙◌, subst, arith}
 use Rattle.snap_core.specs.declared.policy.Update.{Update}
 use Rattle.snap_core.specs.Arrays.{Arrays, update, updates}
-use Rattle.snap_ctx.specs.Meets.{IsStore}
+use Rattle.snap_core.specs.Inputs.{IsStore}
 use Rattle.snap_equal.proofs.Holding.{updates_more}
 use Rattle.snap_equal.proofs.Wrapping.{update_small}
 use Rattle.snap_equal.proofs.stores.common.Goals as goal

@@ -1,7 +1,7 @@
 -- The updates so far do the same.
 use Rattle.std.proofs.Common.{◌≡◌, ◌≤◌, ◌-◌, length, take}
 use Rattle.snap_core.specs.Arrays.{updates}
-use Rattle.snap_ctx.specs.Meets.{IsStore}
+use Rattle.snap_core.specs.Inputs.{IsStore}
 use Rattle.snap_equal.specs.Told.{On}
 use Rattle.snap_equal.proofs.stores.common.Given as goal
 

@@ -1,5 +1,5 @@
 -- The leaf is within bounds and doesn't race.
-use Rattle.std.proofs.Common.{◌≡◌, ◌<◌, true, false, length, sym, ◌∙◌, arith}
+use Rattle.std.proofs.Common.{◌<◌, false, length, sym, ◌∙◌, arith}
 use Rattle.std.proofs.lemmas.List.{get_or_default}
 use Rattle.snap_dep.specs.Ranks.{arity_of}
 use Rattle.snap_equal.proofs.tests.diagram.Goals as goal

@@ -1,6 +1,5 @@
 -- The diagram's test is the lesser.
 use Rattle.std.proofs.Common.{subst, rules}
-use Rattle.std.proofs.lemmas.Result.{IfOk-weaker}
 use Rattle.snap_fdd.specs.Diagrams.{IsNodeOf}
 use Rattle.snap_fdd.proofs.Picking.{lower_first}
 use Rattle.snap_fdd.proofs.pick.lower.Goals as goal
@@ -8,4 +7,4 @@ use Rattle.snap_fdd.proofs.pick.lower.Goals as goal
 pub returns-in-Greater : goal.returns-in-Greater
 returns-in-Greater c =
     let l = subst (IsNodeOf c.args.nodes.now c.args.d) c.in-Ask.is c.look.ensures in
-    IfOk-weaker c.copy.result _ _ (λ u e. rw e (lower_first c.args.groups.now.ranks _ c.args.test _ _ _ _ l.0 c.requires.diagram (search rules))) c.copy.ensures
+    lower_first c.args.groups.now.ranks _ c.args.test.now _ _ _ _ l.0 c.requires.d.keeps (search rules)

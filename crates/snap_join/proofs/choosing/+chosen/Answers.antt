@@ -16,23 +16,24 @@ use Rattle.snap_join.proofs.choosing.+chosen.Goals as goal
 pub chosen_anew-chosen-requires-in-Split : goal.chosen_anew-chosen-requires-in-Split
 chosen_anew-chosen-requires-in-Split t c =
     let part = subst (IsPart c.args.nodes.now c.args.x) c.in-Split.is c.in_ok-part_of.ensures in
-    let j = subst (IsDiagram c.args.groups.now.ranks (sizes c.args.groups.now c.args.ctx.now)) part.0 c.requires.x.keeps in
+    let j = subst (IsDiagram c.args.groups.now.ranks (sizes c.args.groups.now c.args.ctx.now)) part.0 c.requires.test.keeps in
     let g = c.chosen.ensures.grew in
-    let an : IsArgument c.args.groups.now c.args.ctx.now c.args.nodes.now c.in-Split.no = record { below = omega (arith, part.2, c.requires.x.below); keeps = no_part c.args.groups.now.ranks (sizes c.args.groups.now c.args.ctx.now) _ _ _ j } in
-    (omega (arith, part.2, c.decreases), (argument_kept c.args.groups.now c.args.ctx.now c.args.nodes.now c.chosen.new.nodes c.in-Split.no g an, (argument_kept c.args.groups.now c.args.ctx.now c.args.nodes.now c.chosen.new.nodes c.args.p g c.requires.p, (argument_kept c.args.groups.now c.args.ctx.now c.args.nodes.now c.chosen.new.nodes c.args.q g c.requires.q, c.in_ok-y-in-Split.ensures.memo))))
+    let an : IsArgument c.args.groups.now c.args.ctx.now c.args.nodes.now c.in-Split.no = record { below = omega (arith, part.2, c.requires.test.below); keeps = no_part c.args.groups.now.ranks (sizes c.args.groups.now c.args.ctx.now) _ _ _ j } in
+    let keep = argument_kept c.args.groups.now c.args.ctx.now c.args.nodes.now c.chosen.new.nodes in
+    (omega (arith, part.2, c.decreases), record { test = keep c.in-Split.no g an; yes = keep c.args.p g c.requires.yes; no = keep c.args.q g c.requires.no; known = c.in_ok-y-in-Split.ensures.memo })
 
-pub chosen_anew-pick-requires-clause-first : goal.chosen_anew-pick-requires-clause-first
-chosen_anew-pick-requires-clause-first t c =
-    rw (kept c.chosen.new.nodes c.chosen-in-Split.new.nodes c.in_ok-y-in-Split.y c.chosen-in-Split.ensures.grew c.in_ok-y-in-Split.ensures.number) c.in_ok-y-in-Split.ensures.chosen.keeps
+pub chosen_anew-pick-requires-clause-a : goal.chosen_anew-pick-requires-clause-a
+chosen_anew-pick-requires-clause-a t c =
+    argument_kept c.args.groups.now c.args.ctx.now c.chosen.new.nodes c.chosen-in-Split.new.nodes c.in_ok-y-in-Split.y c.chosen-in-Split.ensures.grew (record { below = c.in_ok-y-in-Split.ensures.number; keeps = c.in_ok-y-in-Split.ensures.chosen.keeps })
 
 pub chosen_anew-returns-in_ok-n-in-Split-clause-chosen : goal.chosen_anew-returns-in_ok-n-in-Split-clause-chosen
 chosen_anew-returns-in_ok-n-in-Split-clause-chosen t c =
     let part = subst (IsPart c.args.nodes.now c.args.x) c.in-Split.is c.in_ok-part_of.ensures in
     let g = c.chosen.ensures.grew in
-    let hn : c.in-Split.no < length c.args.nodes.now = omega (arith, part.2, c.requires.x.below) in
+    let hn : c.in-Split.no < length c.args.nodes.now = omega (arith, part.2, c.requires.test.below) in
     let kn = kept c.args.nodes.now c.chosen.new.nodes c.in-Split.no g hn in
-    let kp = kept c.args.nodes.now c.chosen.new.nodes c.args.p g c.requires.p.below in
-    let kq = kept c.args.nodes.now c.chosen.new.nodes c.args.q g c.requires.q.below in
+    let kp = kept c.args.nodes.now c.chosen.new.nodes c.args.p g c.requires.yes.below in
+    let kq = kept c.args.nodes.now c.chosen.new.nodes c.args.q g c.requires.no.below in
     let ky = kept c.chosen.new.nodes c.chosen-in-Split.new.nodes c.in_ok-y-in-Split.y c.chosen-in-Split.ensures.grew c.in_ok-y-in-Split.ensures.number in
     let cn : IsChosen c.args.groups.now.ranks (sizes c.args.groups.now c.args.ctx.now) (diagram c.args.nodes.now c.in-Split.no) (diagram c.args.nodes.now c.args.p) (diagram c.args.nodes.now c.args.q) (diagram c.chosen-in-Split.new.nodes c.in_ok-n-in-Split.n)
     = rw (sym kn, sym kp, sym kq) c.in_ok-n-in-Split.ensures.chosen in
@@ -40,22 +41,22 @@ chosen_anew-returns-in_ok-n-in-Split-clause-chosen t c =
     (diagram c.chosen.new.nodes c.in_ok-y-in-Split.y) (diagram c.chosen-in-Split.new.nodes c.in_ok-n-in-Split.n) (diagram c.pick.new.nodes d) part.0 c.in_ok-y-in-Split.ensures.chosen cn (rw (sym ky) k)) c.pick.ensures.pick
 
 pub chosen_anew-returns-then-leaf_passes-clause-memo : goal.chosen_anew-returns-then-leaf_passes-clause-memo
-chosen_anew-returns-then-leaf_passes-clause-memo t c = IfOk-weaker c.combine.result _ _ (λ d n. decided_memo c.args.groups.now.ranks (sizes c.args.groups.now c.args.ctx.now) c.args.nodes.now c.combine.new.nodes c.args.memo.now c.combine.ensures.grew c.requires.memo) c.combine.ensures.number
+chosen_anew-returns-then-leaf_passes-clause-memo t c = IfOk-weaker c.combine.result _ _ (λ d n. decided_memo c.args.groups.now.ranks (sizes c.args.groups.now c.args.ctx.now) c.args.nodes.now c.combine.new.nodes c.args.memo.now c.combine.ensures.grew c.requires.known) c.combine.ensures.number
 
 pub chosen_anew-returns-else-leaf_passes-clause-memo : goal.chosen_anew-returns-else-leaf_passes-clause-memo
-chosen_anew-returns-else-leaf_passes-clause-memo t c = IfOk-weaker c.combine-else-leaf_passes.result _ _ (λ d n. decided_memo c.args.groups.now.ranks (sizes c.args.groups.now c.args.ctx.now) c.args.nodes.now c.combine-else-leaf_passes.new.nodes c.args.memo.now c.combine-else-leaf_passes.ensures.grew c.requires.memo) c.combine-else-leaf_passes.ensures.number
+chosen_anew-returns-else-leaf_passes-clause-memo t c = IfOk-weaker c.combine-else-leaf_passes.result _ _ (λ d n. decided_memo c.args.groups.now.ranks (sizes c.args.groups.now c.args.ctx.now) c.args.nodes.now c.combine-else-leaf_passes.new.nodes c.args.memo.now c.combine-else-leaf_passes.ensures.grew c.requires.known) c.combine-else-leaf_passes.ensures.number
 
 pub chosen_anew-returns-in_ok-n-in-Split-clause-memo : goal.chosen_anew-returns-in_ok-n-in-Split-clause-memo
 chosen_anew-returns-in_ok-n-in-Split-clause-memo t c = IfOk-weaker c.pick.result _ _ (λ d n. decided_memo c.args.groups.now.ranks (sizes c.args.groups.now c.args.ctx.now) c.chosen-in-Split.new.nodes c.pick.new.nodes c.chosen-in-Split.new.memo c.pick.ensures.grew c.in_ok-n-in-Split.ensures.memo) c.pick.ensures.number
 
 pub chosen-returns-in-Some-clause-number : goal.chosen-returns-in-Some-clause-number
-chosen-returns-in-Some-clause-number t c = (c.requires.memo (c.args.x ∷ c.args.p ∷ c.args.q ∷ []) c.in-Some.d (sym c.in-Some.ensures)).number
+chosen-returns-in-Some-clause-number t c = (c.requires.known (c.args.x ∷ c.args.p ∷ c.args.q ∷ []) c.in-Some.d (sym c.in-Some.ensures)).number
 
 pub chosen-returns-in-Some-clause-chosen : goal.chosen-returns-in-Some-clause-chosen
-chosen-returns-in-Some-clause-chosen t c = (c.requires.memo (c.args.x ∷ c.args.p ∷ c.args.q ∷ []) c.in-Some.d (sym c.in-Some.ensures)).chosen
+chosen-returns-in-Some-clause-chosen t c = (c.requires.known (c.args.x ∷ c.args.p ∷ c.args.q ∷ []) c.in-Some.d (sym c.in-Some.ensures)).chosen
 
 pub chosen-returns-clause-memo : goal.chosen-returns-clause-memo
 chosen-returns-clause-memo t c =
     remembers_more (DecidedFor c.args.groups.now.ranks (sizes c.args.groups.now c.args.ctx.now) c.chosen_anew.new.nodes) c.chosen_anew.new.memo c.put.new.self c.in_ok-vec.field-0.items c.in_ok-d.d c.in_ok-d.ensures.memo
-    (rw c.in_ok-vec.ensures.items (decided_now c.args.groups.now.ranks (sizes c.args.groups.now c.args.ctx.now) c.args.nodes.now c.chosen_anew.new.nodes c.args.x c.args.p c.args.q c.in_ok-d.d c.chosen_anew.ensures.grew c.requires.x.below c.requires.p.below c.requires.q.below c.in_ok-d.ensures.number c.in_ok-d.ensures.chosen))
+    (rw c.in_ok-vec.ensures.items (decided_now c.args.groups.now.ranks (sizes c.args.groups.now c.args.ctx.now) c.args.nodes.now c.chosen_anew.new.nodes c.args.x c.args.p c.args.q c.in_ok-d.d c.chosen_anew.ensures.grew c.requires.test.below c.requires.yes.below c.requires.no.below c.in_ok-d.ensures.number c.in_ok-d.ensures.chosen))
     c.in_ok-put.ensures.ok

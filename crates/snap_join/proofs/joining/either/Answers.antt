@@ -9,3 +9,6 @@ returns-clause-predicate c = IfOk-weaker c.combine.result _ _ (λ d j. λ m k. (
 
 pub returns-clause-answer : goal.returns-clause-answer
 returns-clause-answer c = IfOk-weaker c.combine.result _ _ (λ d j. λ m k met. (either_joined c.args.groups.now.ranks _ (diagram c.args.nodes.now c.args.a) (diagram c.args.nodes.now c.args.b) (diagram c.combine.new.nodes d) j c.requires.first c.requires.second m k).1) c.combine.ensures.joined
+
+pub returns-clause-walks : goal.returns-clause-walks
+returns-clause-walks c = IfOk-weaker c.combine.result _ _ (λ d j. j.walks) c.combine.ensures.joined

@@ -9,18 +9,13 @@ use Rattle.snap_arena.proofs.Remembering.{remembers_more}
 use Rattle.snap_join.specs.Predicates.{IsNegated}
 use Rattle.snap_join.specs.Memoed.{TurnedFor}
 use Rattle.snap_join.proofs.Memoed.{turned_memo, turned_now}
-use Rattle.snap_join.proofs.Turning.{negated_leaf, negated_both, node_number}
+use Rattle.snap_join.proofs.Turning.{negated_leaf, negated_both}
 use Rattle.snap_join.proofs.negating.+negated.Goals as goal
 
 pub negated_anew-returns-in_ok-leaf-in-Whole-clause-negated : goal.negated_anew-returns-in_ok-leaf-in-Whole-clause-negated
 negated_anew-returns-in_ok-leaf-in-Whole-clause-negated t c =
     let part = subst (IsPart c.args.nodes.now c.args.a) c.in-Whole.is c.in_ok-part_of.ensures in
     IfOk-weaker c.leaf.result _ _ (λ d n. negated_leaf (diagram c.args.nodes.now c.args.a) (diagram c.leaf.new.self d) part.0 c.in_ok-leaf-in-Whole.leaf part.1 (c.in_ok-leaf-in-Whole.ensures part.0 part.1) (new_leaf c.leaf.new.self d c.in_ok-leaf-in-Whole.leaf n.at)) c.leaf.ensures.ok
-
-pub negated_anew-returns-in_ok-n-in-Split-clause-number : goal.negated_anew-returns-in_ok-n-in-Split-clause-number
-negated_anew-returns-in_ok-n-in-Split-clause-number t c =
-    node_number c.in-Split.test c.negated-in-Split.new.nodes c.node.new.self c.in_ok-y-in-Split.y c.in_ok-n-in-Split.n c.node.result
-    (still_below _ _ _ c.negated-in-Split.ensures.grew c.in_ok-y-in-Split.ensures.number) c.node.ensures.both c.node.ensures.ok
 
 pub negated_anew-returns-in_ok-n-in-Split-clause-negated : goal.negated_anew-returns-in_ok-n-in-Split-clause-negated
 negated_anew-returns-in_ok-n-in-Split-clause-negated t c =

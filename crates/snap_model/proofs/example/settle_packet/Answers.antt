@@ -1,7 +1,7 @@
 -- One component more.
 use Rattle.std.proofs.Common.{◌≡◌, ◌+◌, ℕ, ◌++◌, ◌∷◌, [], length, sym, subst, ap, ◌∙◌, arith, length-append, List}
 use Rattle.snap_core.specs.Arrays.{Arrays}
-use Rattle.snap_ctx.specs.Meets.{IsStore}
+use Rattle.snap_core.specs.Inputs.{IsStore}
 use Rattle.snap_ctx.specs.View.{View}
 use Rattle.snap_model.specs.declared.ask.Ask.TheVariants.{Component}
 use Rattle.snap_model.specs.Asks.{IsSettled}

@@ -1,6 +1,0 @@
--- The outs so far.
-use Rattle.std.proofs.Common.{◌≡◌, take}
-use Rattle.snap_fdd.proofs.leaf.copy_outs.Given as goal
-
-abbrev pub invariant-loop-out : goal.invariant-loop-out
-invariant-loop-out l = l.copies.items ≡ take l.out-index l.outs

@@ -1,6 +1,0 @@
--- The updates so far.
-use Rattle.std.proofs.Common.{◌≡◌, take}
-use Rattle.snap_fdd.proofs.leaf.copy_updates.Given as goal
-
-abbrev pub invariant-loop-update : goal.invariant-loop-update
-invariant-loop-update l = l.copies.items ≡ take l.update-index l.updates
