@@ -79,18 +79,7 @@ named vars entries name (Some e) found order is =
     inner e = cc
 named vars entries name None found order is = absurd is
 
--- what is told of an unknown name is the least
-pub tells-least : (vars : List (List ℕ)) (entries : List (List ℕ × List ℕ)) (e : PlaceFault) → InByteOrder entries → (e ≢ NoMemory → IsSomeAnd (no_variable vars entries) (λ entry. e ≡ NoVariable entry.0)) → TellsLeastOf vars entries e
-tells-least vars entries (NoVariable name) order is = named vars entries name (no_variable vars entries) refl order (is (λ e. cc))
-tells-least vars entries NotToml order is = tt
-tells-least vars entries (Shape rule) order is = tt
-tells-least vars entries (Missing var) order is = tt
-tells-least vars entries (NoSwitch var) order is = tt
-tells-least vars entries (Apart a b) order is = tt
-tells-least vars entries NoMemory order is = tt
-
 -- ---- at each exit
-
 pub least-not-toml : (vars : List (List ℕ)) (text : List ℕ) (e : PlaceFault) (X : Type 0) → (e ≢ NoMemory → (e ≡ NotToml) × X) → TellsLeast vars text e
 least-not-toml vars text (NoVariable name) X is = let same : NoVariable name ≡ NotToml = (is (λ e. cc)).0 in cc
 least-not-toml vars text NotToml X is = λ entries found. tt

@@ -14,36 +14,11 @@ abbrev Answer : Type 0
 Answer = Result (List ℕ) PlaceFault
 
 -- ---- the stages
-
 pub told-variable : (T : ℕ → ℕ → Type 0) (vars switches : List (List ℕ)) (entries : List (List ℕ × List ℕ)) (o : Option (List ℕ × List ℕ)) (e : PlaceFault) → IsSomeAnd o (λ entry. e ≡ NoVariable entry.0) → VariableThen T vars switches entries o (Err e)
 told-variable T vars switches entries (Some entry) e is = ap Err is
 told-variable T vars switches entries None e is = absurd is
 
-told-missing : (T : ℕ → ℕ → Type 0) (vars switches : List (List ℕ)) (entries : List (List ℕ × List ℕ)) (o : Option ℕ) (e : PlaceFault) → IsSomeAnd o (λ var. e ≡ Missing var) → MissingThen T vars switches entries o (Err e)
-told-missing T vars switches entries (Some var) e is = ap Err is
-told-missing T vars switches entries None e is = absurd is
-
-told-switch : (T : ℕ → ℕ → Type 0) (owned : List ℕ) (o : Option ℕ) (e : PlaceFault) → IsSomeAnd o (λ var. e ≡ NoSwitch var) → SwitchThen T owned o (Err e)
-told-switch T owned (Some var) e is = ap Err is
-told-switch T owned None e is = absurd is
-
-pub after-variables : (T : ℕ → ℕ → Type 0) (vars switches : List (List ℕ)) (entries : List (List ℕ × List ℕ)) (r : Answer) → no_variable vars entries ≡ None → MissingThen T vars switches entries (missing vars entries) r → IsAnswerFor T vars switches entries r
-after-variables T vars switches entries r known h = subst (λ (o : Option (List ℕ × List ℕ)). VariableThen T vars switches entries o r) (sym known) h
-
-pub after-missing : (T : ℕ → ℕ → Type 0) (vars switches : List (List ℕ)) (entries : List (List ℕ × List ℕ)) (r : Answer) → no_variable vars entries ≡ None → missing vars entries ≡ None → SwitchThen T (owners vars switches entries) (no_switch vars switches entries) r → IsAnswerFor T vars switches entries r
-after-missing T vars switches entries r known placed h = after-variables T vars switches entries r known (subst (λ (o : Option ℕ). MissingThen T vars switches entries o r) (sym placed) h)
-
-pub after-switches : (T : ℕ → ℕ → Type 0) (vars switches : List (List ℕ)) (entries : List (List ℕ × List ℕ)) (r : Answer) → no_variable vars entries ≡ None → missing vars entries ≡ None → no_switch vars switches entries ≡ None → OwnersThen T (owners vars switches entries) r → IsAnswerFor T vars switches entries r
-after-switches T vars switches entries r known placed found h = after-missing T vars switches entries r known placed (subst (λ (o : Option ℕ). SwitchThen T (owners vars switches entries) o r) (sym found) h)
-
-pub answer-missing : (T : ℕ → ℕ → Type 0) (vars switches : List (List ℕ)) (entries : List (List ℕ × List ℕ)) (e : PlaceFault) → no_variable vars entries ≡ None → IsSomeAnd (missing vars entries) (λ var. e ≡ Missing var) → IsAnswerFor T vars switches entries (Err e)
-answer-missing T vars switches entries e known is = after-variables T vars switches entries (Err e) known (told-missing T vars switches entries (missing vars entries) e is)
-
-pub answer-switch : (T : ℕ → ℕ → Type 0) (vars switches : List (List ℕ)) (entries : List (List ℕ × List ℕ)) (e : PlaceFault) → no_variable vars entries ≡ None → missing vars entries ≡ None → IsSomeAnd (no_switch vars switches entries) (λ var. e ≡ NoSwitch var) → IsAnswerFor T vars switches entries (Err e)
-answer-switch T vars switches entries e known placed is = after-missing T vars switches entries (Err e) known placed (told-switch T (owners vars switches entries) (no_switch vars switches entries) e is)
-
 -- ---- pairs
-
 pub first-apart : (T : ℕ → ℕ → Type 0) (owned : List ℕ) (a b : ℕ) → ((c : ℕ) → c < a → IsTogetherWith T owned c) → IsFirstTorn T owned a b → IsFirstApart T owned a b
 first-apart T owned a b before torn = record {
   lesser = torn.lesser;
@@ -78,7 +53,6 @@ tells-by T U owned same (NoSwitch var) is = absurd is
 tells-by T U owned same NoMemory is = absurd is
 
 -- ---- by another relation
-
 owners-by : (T U : ℕ → ℕ → Type 0) (owned : List ℕ) (r : Answer) → ((a b : ℕ) → a < length owned → b < length owned → T a b ↔ U a b) → OwnersThen T owned r → OwnersThen U owned r
 owners-by T U owned (Ok p) same is = (is.0, together-by T U owned same is.1)
 owners-by T U owned (Err e) same is = tells-by T U owned same e is
@@ -104,7 +78,6 @@ pub answer-by : (T U : ℕ → ℕ → Type 0) (vars switches : List (List ℕ))
 answer-by T U vars switches entries r same is = variable-by T U vars switches entries (no_variable vars entries) r same is
 
 -- ---- owners are switches
-
 at-step : (b : Bool) (i : ℕ) (o : Option ℕ) → cond b (Some i) o ≡ None → (b ≡ false) × (o ≡ None)
 at-step true i o is = cc
 at-step false i o is = (refl, is)
@@ -149,7 +122,6 @@ pub placed-from : (T : ℕ → ℕ → Type 0) (vars switches : List (List ℕ))
 placed-from T vars switches entries p is = placed-variable T vars switches entries p (no_variable vars entries) is
 
 -- ---- the whole
-
 pub read-answer : (T U : ℕ → ℕ → Type 0) (vars switches names places : List (List ℕ)) (entries listed : List (List ℕ × List ℕ)) (o : Result (List (List ℕ × List ℕ)) PlaceFault) (r : Answer) → names ≡ vars → places ≡ switches → listed ≡ entries → o ≡ Ok entries
     → ((a b : ℕ) → a < length vars → b < length vars → T a b ↔ U a b) → IsAnswerFor T names places listed r → ShapeThen U vars switches o r
 read-answer T U vars switches names places entries listed o r same also texts shape tied is =

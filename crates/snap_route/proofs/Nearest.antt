@@ -18,9 +18,6 @@ pub record IsBestOf (all some distances : List ℕ) (n : ℕ) : Type 0 where
   pub nearest : (m : ℕ) → Contains some m → slice_index distances n ≤ slice_index distances m
   pub least : (m : ℕ) → Contains some m → slice_index distances m ≡ slice_index distances n → n ≤ m
 
-pub IsBestOf-none : (all distances : List ℕ) (n : ℕ) → Contains all n → IsBestOf all [] distances n
-IsBestOf-none all distances n here = record { member = here; nearest = λ m h. absurd (Contains-nil m h); least = λ m h e. absurd (Contains-nil m h) }
-
 -- what the test says of two distances
 closer : (x y a b : ℕ) (t : Bool) → (nat_lt x y || ((x == y) && nat_lt a b)) ≡ t → (t ≡ true) → (x ≤ y) × (x ≡ y → a < b)
 closer x y a b t is yes' = (grind (arith, nat_tests), λ e. grind (arith, nat_tests))
@@ -57,7 +54,6 @@ IsBestOf-further all distances i n new lt is same best =
     })
 
 -- ---- the greatest distance
-
 pub greatest-more : (ds : List ℕ) (i most new : ℕ) → i < length ds → new ≡ max most (get_or ds i 0) → (most ≡ 0) ⊎ Contains ds most → ((d : ℕ) → Contains (take i ds) d → d ≤ most)
     → ((new ≡ 0) ⊎ Contains ds new) × ((d : ℕ) → Contains (take (i + 1) ds) d → d ≤ new)
 greatest-more ds i most new lt is reached bound =
@@ -93,7 +89,6 @@ pub take-all : {X : Type 0} (xs : List X) (i : ℕ) → length xs ≤ i → take
 take-all xs i all = grind (arith, common_steps)
 
 -- ---- next hops
-
 pub nearest-of : (o : Option ℕ) (ns distances : List ℕ) (target : ℕ) → MatchOption o (ns ≡ []) (IsNearest ns distances) → (m : ℕ) → Contains ns m → IsNearest ns distances (unwrap_or o target)
 nearest-of (Some n) ns distances target is m h = is
 nearest-of None ns distances target is m h = absurd (Contains-nil m (subst (λ (xs : List ℕ). Contains xs m) is h))

@@ -8,18 +8,7 @@ use Rattle.snap_route.specs.Graphs.{IsGraph, neighbours_of}
 use Rattle.std.proofs.lemmas.List.Sums.{sum_by-set}
 use Rattle.std.proofs.lemmas.List.Elements.{All-weaker, All-contains_itself, Contains-append_left, Contains-append_right, Contains-append_cases}
 use Rattle.snap_route.specs.Search.{distance_in, unreached, Reaches}
-use Rattle.snap_route.proofs.Joined.{Contains-one, Contains-only, Contains-nil}
-
-pub Reaches-none : (d : ℕ) (ds : List (Option ℕ)) (level : List ℕ) → Reaches [] d ds ds level level
-Reaches-none d ds level = record {
-  count = refl;
-  kept = λ v k is. is;
-  fresh = λ v k is. inl is;
-  reached = λ v h. absurd (Contains-nil v h);
-  held = λ v h. h;
-  added = λ v h. inl h;
-  fewer = refl;
-}
+use Rattle.snap_route.proofs.Joined.{Contains-one, Contains-only}
 
 some_if : (o p : Option ℕ) → ((k : ℕ) → o ≡ Some k → p ≡ Some k) → IsSome o → IsSome p
 some_if (Some k) p kept is = ap is_some (kept k refl)

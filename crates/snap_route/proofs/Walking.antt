@@ -60,15 +60,10 @@ apart-by step other by back n m a b same is = record {
 }
 
 -- ---- what is settled
-
 known-at : (ks : List ℕ) (rest : List (Option ℕ)) (w : ℕ) → w < length ks → distance_in (map (λ (d : ℕ). Some d) ks ++ rest) w ≡ Some (slice_index ks w)
 known-at [] rest w lt = absurd (omega arith)
 known-at (k ∷ ks) rest zero lt = refl
 known-at (k ∷ ks) rest (suc w) lt = known-at ks rest w (omega arith)
-
-unknown-at : (o : Option ℕ) → ((d : ℕ) → o ≡ Some d → ⊥) → o ≡ None
-unknown-at (Some d) no' = absurd (no' d refl)
-unknown-at None no' = refl
 
 pub first-unreached : (ks : List ℕ) (rest ds : List (Option ℕ)) (v : ℕ) → length ks ≡ v → map (λ (d : ℕ). Some d) ks ++ rest ≡ ds → v < length ds → distance_in ds v ≡ None → IsFirstUnreached ds v
 first-unreached ks rest ds v count all lt none = record {
@@ -114,7 +109,6 @@ first-away graph target v ds settles first =
     }
 
 -- ---- the first pair apart
-
 pub toward-walk : (graph : List (List ℕ)) (target : ℕ) (row : Row) (v : ℕ) → IsToward graph target row → v < length graph → HasWalk (Adjacent graph) v target
 toward-walk graph target row v toward lt = distance-walk (Adjacent graph) v target (slice_index row.distances v) (toward.distances.each v lt)
 
@@ -138,7 +132,6 @@ first-apart graph rows target v g lt before away =
     }
 
 -- ---- one more row
-
 pub rows-more : (graph : List (List ℕ)) (rows new : List Row) (n : ℕ) (row : Row) → length rows ≡ n → new ≡ rows ++ row ∷ [] → ((b : ℕ) → b < n → IsToward graph b (row_in rows b)) → IsToward graph n row → (b : ℕ) → b < n + 1 → IsToward graph b (row_in new b)
 rows-more graph rows new n row count is before now b lt =
     elim (cases_eq b n) [
@@ -150,7 +143,6 @@ rows-more graph rows new n row count is before now b lt =
     ]
 
 -- ---- causes
-
 pub away-cause : (graph : List (List ℕ)) (target : ℕ) (ds : List (Option ℕ)) (e : RouteFault) → Settles graph target ds → IsCause (λ a b. (a ≡ target) × IsFirstUnreached ds b) e → IsCause (λ a b. (a ≡ target) × IsFirstAway graph target b) e
 away-cause graph target ds (Unreachable a b) settles is = (is.0, first-away graph target b ds settles is.1)
 away-cause graph target ds NoMemory settles is = tt
@@ -165,7 +157,6 @@ link-cause step other by back n m (Unreachable a b) same is = apart-by step othe
 link-cause step other by back n m NoMemory same is = tt
 
 -- ---- the whole
-
 -- the lists of neighbours of a topology in form
 pub record AreNeighbours (t : Topology) (graph : List (List ℕ)) : Type 0 where
   pub count : length graph ≡ length t.switches

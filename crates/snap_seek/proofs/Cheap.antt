@@ -5,7 +5,7 @@ use Rattle.std.proofs.lemmas.Bool.Decides.{nat_tests}
 use Rattle.std.proofs.lemmas.List.{take_more}
 use Rattle.std.proofs.lemmas.Grind.{common_steps}
 use Rattle.std.proofs.lemmas.List.Elements.{Contains-push_cases, Contains-get_or}
-use Rattle.snap_seek.specs.Steps.{IsCheapest, is_cheaper, over}
+use Rattle.snap_seek.specs.Steps.{is_cheaper, over}
 
 -- the cheapest of some switches, which is itself among all
 pub record IsBestSo (cost : ℕ → ℕ) (all some : List ℕ) (n : ℕ) : Type 0 where
@@ -15,9 +15,6 @@ pub record IsBestSo (cost : ℕ → ℕ) (all some : List ℕ) (n : ℕ) : Type 
 
 none-below : (y : ℕ) → Contains [] y → ⊥
 none-below y h = omega (arith, h.1)
-
-pub IsBestSo-none : (cost : ℕ → ℕ) (all : List ℕ) (n : ℕ) → Contains all n → IsBestSo cost all [] n
-IsBestSo-none cost all n here = record { member = here; least = λ m h. absurd (none-below m h); first = λ m h e. absurd (none-below m h) }
 
 -- what the test says of two costs
 cheaper : (x y a b : ℕ) (t : Bool) → (nat_lt x y || ((x == y) && nat_lt a b)) ≡ t → t ≡ true → (x ≤ y) × (x ≡ y → a < b)
@@ -60,12 +57,3 @@ IsBestSo-dearer near onward all i n new lt is same best =
 
 take-all : (xs : List ℕ) (i : ℕ) → length xs ≤ i → take i xs ≡ xs
 take-all xs i all = grind (arith, common_steps)
-
-pub IsCheapest-all : (cost : ℕ → ℕ) (all : List ℕ) (i n : ℕ) → length all ≤ i → IsBestSo cost all (take i all) n → IsCheapest cost all n
-IsCheapest-all cost all i n long best =
-    let same = take-all all i long in
-    record {
-      member = best.member;
-      least = λ m h. best.least m (subst (λ (xs : List ℕ). Contains xs m) (sym same) h);
-      first = λ m h e. best.first m (subst (λ (xs : List ℕ). Contains xs m) (sym same) h) e;
-    }

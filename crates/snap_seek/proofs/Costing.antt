@@ -1,7 +1,7 @@
 -- Sums of weights times lengths.
 use Rattle.std.proofs.Common.{◌≡◌, ◌∙◌, ℕ, zero, suc, ◌+◌, ◌*◌, ◌<◌, ◌≤◌, List, [], ◌∷◌, ◌++◌, length, get_or, set, take, replicate, refl, sym, ap, arith}
 use Rattle.std.specs.List.{All, AllByRecursion, sum_by}
-use Rattle.std.proofs.Math.Nat.{mul-add, add-mul, mul-le-mul}
+use Rattle.std.proofs.Math.Nat.{mul-add, add-mul}
 use Rattle.std.proofs.lemmas.List.Elements.{recursion_from_All}
 use Rattle.std.proofs.lemmas.List.Sums.{sum_by-cons, sum_by_more}
 use Rattle.snap_seek.specs.declared.trips.Trip.{Trip}
@@ -42,7 +42,6 @@ pub sum_by-within : {X : Type 0} (P : X → Type 0) (f w : X → ℕ) (k : ℕ) 
 sum_by-within P f w k each xs all = sum_by-within-steps P f w k each xs (recursion_from_All P xs all)
 
 -- ---- costs
-
 abbrev pub weight_of : Trip → ℕ
 weight_of t = t.weight
 
@@ -61,11 +60,7 @@ alone w n = ap (λ (k : ℕ). w * k) (omega arith)
 pub cost_from-none : (d : ℕ → ℕ → ℕ) (trips : List Trip) (x : ℕ) → cost_from d trips x [] ≡ sum_by (λ (t : Trip). t.weight * d x t.to) trips
 cost_from-none d trips x = sum_by-same _ (λ (t : Trip). t.weight * d x t.to) (λ t. alone t.weight (d x t.to)) trips
 
-pub cost_of-none : (d : ℕ → ℕ → ℕ) (trips : List Trip) → cost_of d trips [] ≡ sum_by (λ (t : Trip). t.weight * d t.from t.to) trips
-cost_of-none d trips = sum_by-same _ (λ (t : Trip). t.weight * d t.from t.to) (λ t. alone t.weight (d t.from t.to)) trips
-
 -- ---- weights by place
-
 pub weighed-none : (f : ℕ → ℕ) (at n : ℕ) → weighed f at (replicate n 0) ≡ 0
 weighed-none f at zero = refl
 weighed-none f at (suc n) = let rest = weighed-none f (at + 1) n in omega arith
@@ -78,10 +73,6 @@ weighed-set f at (x ∷ ws) zero w lt =
 weighed-set f at (x ∷ ws) (suc i) w lt =
     let rest = weighed-set f (at + 1) ws i w (omega arith) in
     let here : w * f (at + suc i) ≡ w * f (at + 1 + i) = ap (λ (k : ℕ). w * f k) (omega arith) in omega arith
-
--- a product of a small weight and a small distance
-pub product-small : (a b m n : ℕ) → a ≤ m → b ≤ n → a * b ≤ m * n
-product-small a b m n low near = mul-le-mul low near
 
 abbrev pub no_trip : Trip
 no_trip = record { from = 0; to = 0; weight = 0 }

@@ -1,14 +1,11 @@
 -- A list that grows by one element at a time, each with what holds at its index.
-use Rattle.std.proofs.Common.{◌≡◌, ◌∙◌, inl, inr, ℕ, ◌+◌, ◌<◌, List, [], ◌∷◌, ◌++◌, length, get_or, sym, ap, subst, refl, arith, slice_index}
+use Rattle.std.proofs.Common.{◌≡◌, ◌∙◌, inl, inr, ℕ, ◌+◌, ◌<◌, List, [], ◌∷◌, ◌++◌, length, get_or, sym, ap, subst, arith, slice_index}
 use Rattle.std.proofs.lemmas.Bool.{cases_eq}
 use Rattle.std.proofs.lemmas.List.{get_or_append_left, get_or_push, length_push}
 
 pub record Fills (P : ℕ → ℕ → Type 0) (n : ℕ) (xs : List ℕ) : Type 0 where
   pub count : length xs ≡ n
   pub each : (i : ℕ) → i < n → P i (slice_index xs i)
-
-pub Fills-none : (P : ℕ → ℕ → Type 0) → Fills P 0 []
-Fills-none P = record { count = refl; each = λ i lt. absurd (omega arith) }
 
 pub Fills-more : (P : ℕ → ℕ → Type 0) (n x : ℕ) (xs ys : List ℕ) → ys ≡ xs ++ x ∷ [] → P n x → Fills P n xs → Fills P (n + 1) ys
 Fills-more P n x xs ys is here before =

@@ -42,15 +42,6 @@ array_switches (boolean b) i n is some = cc
 array_switches (datetime t) i n is some = cc
 array_switches (table m) i n is some = cc
 
-pub no_array : (d : Data) → None ≡ as_array d → None ≡ switches_in (Some d)
-no_array (array i) is = cc
-no_array (string s) is = refl
-no_array (integer z) is = refl
-no_array (float x) is = refl
-no_array (boolean b) is = refl
-no_array (datetime t) is = refl
-no_array (table m) is = refl
-
 -- an array of other than two values
 short_link : (vs : List Value) → (length vs ≡ 2 → ⊥) → None ≡ link_in (array (items_view vs))
 short_link [] not = refl
@@ -71,7 +62,6 @@ no_link (datetime t) vs is not = cc
 no_link (table m) vs is not = cc
 
 -- ---- ports
-
 placed : (o : Ordering) (e : ℕ × String Global) (es : List (ℕ × String Global)) (k : ℕ) (v : String Global) → map port_text (insert_entry nat_cmp es k v) ≡ insert_entry nat_cmp (map port_text es) k (string_bytes v)
     → map port_text (match_ordering o ((k, v) ∷ e ∷ es) ((e.0, v) ∷ es) (e ∷ insert_entry nat_cmp es k v))
     ≡ match_ordering o ((k, string_bytes v) ∷ port_text e ∷ map port_text es) ((e.0, string_bytes v) ∷ map port_text es) (port_text e ∷ insert_entry nat_cmp (map port_text es) k (string_bytes v))
@@ -102,7 +92,6 @@ ports-turn old new left rest key value port text name more is same put =
     ∙ ap (λ es. option_map (fold put_port (map port_text old)) (ports_listed (members_view es))) (sym more)
 
 -- ---- keys in order
-
 all-names : (k : List ℕ) (ks : List (String Global)) → AllByRecursion (λ (y : String Global). slice_cmp nat_cmp k (string_bytes y) ≡ Less) ks → AllByRecursion (λ (y : List ℕ). slice_cmp nat_cmp k y ≡ Less) (map (λ (x : String Global). string_bytes x) ks)
 all-names k [] h = tt
 all-names k (x ∷ ks) h = (h.0, all-names k ks h.1)
