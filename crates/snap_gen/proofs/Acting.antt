@@ -10,7 +10,6 @@ use Rattle.snap_core.specs.Fits.{PolFits}
 use Rattle.snap_core.specs.Inputs.{IsStore, IsPacket}
 use Rattle.snap_core.specs.Meaning.{Meaning, eval}
 use Rattle.snap_dep.specs.Ranks.{IsRank, IsRankIn}
-use Rattle.snap_dep.specs.Locality as dep
 use Rattle.snap_dep.specs.Locality.{AgreeOn, NeverRaces, cut, arrays_after}
 use Rattle.snap_dep.proofs.ByRank.{acts, cut_store}
 use Rattle.snap_dep.proofs.Below.{UsesBelow-fits}
@@ -32,10 +31,6 @@ pub record Means (p : Pol) (c n : ℕ) (order : List ℕ) (t : Tables) : Type 0 
   pub ranks : IsRankIn p n order (rank_of t)
   pub meaning : HasMeaning p c t
   pub two : IsTwo t
-
--- snap_dep has a definition of its own for packets
-pub packet_of : {c : ℕ} {k : List ℕ} → IsPacket c k → dep.IsPacket c k
-packet_of p = record { long = p.long; numbers = p.numbers }
 
 -- the walk on m comes to n after all its tests of fields and of ranks below r
 pub record IsAt (t : Tables) (k : List ℕ) (m : Arrays) (r n : ℕ) : Type 0 where
@@ -83,8 +78,8 @@ visit_acts p c n order t means m s k store packet w r i v us at agree visit =
       };
       own = λ q e.
           through m q (updates s us k q) (updates ct visit.ups k q) (eval p m k) (eval p ct k)
-          (acts p c n (UsesBelow-fits c n p means.fits) means.never order (rank_of t) means.rank means.ranks m k store (packet_of packet) r q (omega (arith, e)))
-          (means.never ct k (cut_store (rank_of t) r m store) (packet_of packet))
+          (acts p c n (UsesBelow-fits c n p means.fits) means.never order (rank_of t) means.rank means.ranks m k store packet r q (omega (arith, e)))
+          (means.never ct k (cut_store (rank_of t) r m store) packet)
           (λ o is. (means.meaning ct k (cut_store (rank_of t) r m store) packet visit.leaf visit.ups visit.outs whole (own_node t two w visit.leaf (Last visit.ups visit.outs) visit.row refl) o is).1 q)
           (ap (λ l. updates s l k q) visit.updates ∙ rank_updates t k r visit.ups s ct level q e);
       others = λ q ne. ap (λ l. updates s l k q) visit.updates ∙ rank_keeps t k r visit.ups s q ne;

@@ -16,7 +16,7 @@ use Rattle.snap_rows.specs.declared.head.Head.TheVariants.{Walk}
 use Rattle.snap_rows.specs.Network.{Net, Event, Inject, Step, Happening, Leads, RunsCalmly, rests, injects, steps, inject, step, happening, packets_of}
 use Rattle.snap_gen.specs.Agreement.{CameOut}
 use Rattle.snap_gen.specs.Faithful.{packets_in}
-use Rattle.snap_gen.proofs.Acting.{Means, packet_of}
+use Rattle.snap_gen.proofs.Acting.{Means}
 use Rattle.snap_gen.proofs.Leaving.{IsQuiet, quiet_more, happens_elsewhere, came_still}
 use Rattle.snap_gen.proofs.Guides.{NetHolds, Journey, walking, journey_on, numbers, Ended, ended}
 use Rattle.snap_gen.proofs.ByMeaning.{by_meaning}
@@ -83,7 +83,7 @@ module _ (p : Pol) (c n : ℕ) (order : List ℕ) (t : Tables) (means : Means p 
 
   begin : (ks : List (List ℕ)) (s s' : Net) (hs h : List Happening) (port : ℕ) (k : List ℕ) → IsPacket c k → Idle ks s hs → Leads t s (Inject port k) s' h → Busy (ks ++ k ∷ []) s' (hs ++ h)
   begin ks s s' hs h port k packet i (inject {w = w} own names) =
-      let o = some_eval p i.answer.arrays k (means.never i.answer.arrays k i.past.store (packet_of packet)) in
+      let o = some_eval p i.answer.arrays k (means.never i.answer.arrays k i.past.store packet) in
       let same : hs ++ [] ≡ hs = append-nil hs in
       record {
         before = ks;

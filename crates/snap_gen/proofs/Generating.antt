@@ -36,11 +36,12 @@ use Rattle.snap_rows.specs.Form.{switch_count, array_count, IsHopInForm}
 use Rattle.snap_rows.specs.Rules.{IsValid, MayFollow}
 use Rattle.snap_rows.proofs.Rows.{All-get}
 use Rattle.snap_rows.proofs.Own.{rank_entry}
-use Rattle.snap_gen.proofs.Owners.{rank_some, var_array}
+use Rattle.snap_rows.proofs.Later.{var_array}
+use Rattle.snap_gen.proofs.Owners.{rank_some}
 use Rattle.snap_gen.specs.Faithful.{HasShape}
 use Rattle.snap_gen.specs.Planned.{IsWay, IsNodeKind, IsFront, AreNodes, ArePlaced, AreHops}
 use Rattle.snap_gen.specs.Shown as shown
-use Rattle.snap_gen.specs.Shown.{row_of, Leads, yes_way, no_way, IsNumbering, IsOf, Shows, IsOutcomeOf, IsInputOf, HasBareLeaves}
+use Rattle.snap_gen.specs.Shown.{row_of, Leads, yes_way, no_way, IsNumbering, IsOf, Shows}
 use Rattle.snap_gen.specs.Generated.{numbered_nodes, AreInputs, IsBareDiagram, IsWritten, WrittenIsFaithful}
 use Rattle.snap_gen.proofs.Planning.{planned_is_valid, node_back, all_shown}
 use Rattle.snap_gen.proofs.Showing.{shown_mean, shown_live}

@@ -1,6 +1,6 @@
 -- Images are given from the leaves up.
 use Rattle.std.proofs.Common.{◌≡◌, ◌≢◌, ℕ, zero, suc, ◌<◌, ◌≤◌, inl, inr, Bool, true, false, List, [], ◌∷◌, ◌++◌, length, Some, refl, sym, ap, subst, ◌∙◌, arith, append_assoc, append-nil}
-use Rattle.std.specs.Prelude.{Result, Ok, Err, IfOk, slice_get, slice_index, slice_set, nat_eq}
+use Rattle.std.specs.Prelude.{slice_get, slice_index, slice_set, nat_eq}
 use Rattle.std.proofs.lemmas.Bool.{eqb-true, eqb-false}
 use Rattle.std.proofs.lemmas.List.{get_or-set_same, get_or-set_other, length-set}
 use Rattle.std.proofs.lemmas.Option.{same_Some, slice_get_within}
@@ -8,7 +8,7 @@ use Rattle.snap_core.specs.declared.policy.Test.{Test}
 use Rattle.snap_dep.specs.Ranks.{Grouping}
 use Rattle.snap_arena.specs.declared.node.Node.{Node}
 use Rattle.snap_arena.specs.declared.node.Node.TheVariants as node
-use Rattle.snap_arena.specs.Arena.{Grew, IsNoted}
+use Rattle.snap_arena.specs.Arena.{Grew}
 use Rattle.snap_fdd.specs.declared.leaf.Leaf.{Leaf}
 use Rattle.snap_fdd.specs.Diagrams.{Diagram, Only, Asks, diagram}
 use Rattle.snap_fdd.specs.Pruned.{IsShaped}
@@ -26,15 +26,6 @@ pub tidies_ask : (ranks : List ℕ) (n : ℕ) (t : Test) (d y z a b r : Diagram)
 tidies_ask ranks n t d y z a b r e hy hz (inl f) = subst (λ d. Tidies ranks n d r) (sym e) (subst (λ r. Tidies ranks n (Asks t y z) r) (sym f) (test hy hz))
 tidies_ask ranks n t d y z a b r e hy hz (inr f) =
     subst (λ d. Tidies ranks n d r) (sym e) (subst (λ r. Tidies ranks n (Asks t y z) r) (sym f.0) (merged hy (subst (λ x. Tidies ranks n z x) (sym f.1) hz)))
-
-pub asked_below : {E : Type 0} (t : Test) (old new : List (Node Leaf)) (y n : ℕ) (r : Result ℕ E) → y < length old
-    → IfOk r (λ d. y ≡ n → (d ≡ y) × (new ≡ old)) → IfOk r (λ d. y ≢ n → IsNoted old (node.Ask t y n) new d) → IfOk r (λ d. d < length new)
-asked_below t old new y n (Err e) hy both two = tt
-asked_below t old new y n (Ok d) hy both two = by (nat_eq y n) refl
-  where
-    by : (v : Bool) → nat_eq y n ≡ v → d < length new
-    by true e = let p = both (eqb-true y n e) in rw (p.0, p.1) hy
-    by false e = slice_get_within new d (node.Ask t y n) (two (eqb-false y n e)).at
 
 -- nodes that grew
 grew_more : (a b c : List (Node Leaf)) → Grew a b → Grew b c → Grew a c

@@ -31,7 +31,7 @@ use Rattle.snap_gen.specs.Agreement.{sent_of, lost_of, numbered, in_order}
 use Rattle.snap_gen.specs.Faithful.{packets_in}
 use Rattle.snap_gen.specs.InTurn.{StandsAt}
 use Rattle.snap_gen.proofs.Nodes.{WalkDoes, visits_first, forks_at_once, walk_does, OutDoes, is_delivered, is_carried, out_does}
-use Rattle.snap_gen.proofs.Acting.{Means, packet_of, IsAt}
+use Rattle.snap_gen.proofs.Acting.{Means, IsAt}
 use Rattle.snap_gen.proofs.Leaving.{copies_of, IsLeaving, IsQuiet, quiet_still, quiet_more, Leaving, leaving_still, Same, split_off, split_up, front, back, copies_own, copies_moved, others_same, own_leaves, leaves_on, leaving_on, leaving_begins}
 use Rattle.snap_gen.proofs.Guides.{Holds, NetHolds, holds_after, same_store, Goes, sends, forks, visit_goes}
 use Rattle.snap_gen.proofs.ByMeaning.{entered, IsMixed, by_meaning, ends}
@@ -42,7 +42,7 @@ abbrev pub AllStandAt : Tables → ℕ → Type 0
 AllStandAt t w = (r x : ℕ) → rank_at t r ≡ Some x → x ≡ w
 
 -- ---- lists
-only_one : {A : Type 0} (xs : List A) (c d : A) (ys : List A) → xs ++ c ∷ ys ≡ d ∷ [] → (xs ≡ []) × (c ≡ d) × (ys ≡ [])
+pub only_one : {A : Type 0} (xs : List A) (c d : A) (ys : List A) → xs ++ c ∷ ys ≡ d ∷ [] → (xs ≡ []) × (c ≡ d) × (ys ≡ [])
 only_one [] c d ys e = (refl, same_Some c d (ap (λ l. slice_get l 0) e), ap (drop 1) e)
 only_one (x ∷ xs) c d ys e = absurd (let n : suc (length (xs ++ c ∷ ys)) ≡ 1 = ap length e in let m = length-append xs (c ∷ ys) in omega (arith, n, m))
 
@@ -388,7 +388,7 @@ module _ (p : Pol) (c n : ℕ) (order : List ℕ) (t : Tables) (means : Means p 
         let early : IsEarly (pick x.number) x.head = subst (λ (y : Copy). IsEarly (pick x.number) y.head) (sym one.1) w.early in
         let packet : x.packet ≡ pick x.number = ap (λ (y : Copy). y.packet) one.1 ∙ w.packet in
         let fit = packets x.number below in
-        let o = some_eval p st.end.arrays (pick x.number) (means.never st.end.arrays (pick x.number) st.store (packet_of fit)) in
+        let o = some_eval p st.end.arrays (pick x.number) (means.never st.end.arrays (pick x.number) st.store fit) in
         early_step w early packet one.0 one.2 o.0 o.1
         (early_does x.at (pick x.number) st.end.arrays o.0 st.store fit o.1 x.head (s.stores x.at) m a early (st.held x.at) (subst (λ k. Handles t x.at k (s.stores x.at) x.head m a) packet does))
     goes_on {a = a} does (inr l) = out_step l (out_does (subst (λ y. Handles t x.at x.packet (s.stores x.at) y m a) (own_leaves s x j found l) does))

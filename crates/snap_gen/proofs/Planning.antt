@@ -1,6 +1,6 @@
 -- Planned tables are valid.
 use Rattle.std.proofs.Common.{◌≡◌, ◌≢◌, ℕ, zero, suc, ◌+◌, ◌-◌, ◌<◌, ◌≤◌, ◌⊎◌, inl, inr, ⊎_elim, Bool, true, false, ◌&&◌, cond, List, [], ◌∷◌, get_or, Option, Some, None, refl, sym, ap, subst, ◌∙◌, arith}
-use Rattle.std.specs.Prelude.{slice_get, nat_eq, nat_le, IfSome, IsSome, is_some, option_map, Contains, ◌||◌}
+use Rattle.std.specs.Prelude.{slice_get, nat_eq, nat_le, IfSome, IsSome, option_map, Contains, ◌||◌}
 use Rattle.std.specs.List.{All, list_any}
 use Rattle.std.proofs.lemmas.List.Elements.{All-take}
 use Rattle.std.proofs.lemmas.Bool.{eqb-true, eqb-false, eq-eqb, le-leb, leb-true, and_parts, cond-true, both_ways, false≢true}
@@ -18,12 +18,13 @@ use Rattle.snap_rows.specs.declared.tables.Row.{Row}
 use Rattle.snap_rows.specs.declared.tables.Row.TheVariants.{Field, State, Go, Leaf, Stop, Last}
 use Rattle.snap_rows.specs.Entries.{row_at, row_in, node_of, node_in, next, owner_of, rank_of, rank_at, ranks, var_of, is_node}
 use Rattle.snap_rows.specs.Form.{switch_count}
-use Rattle.snap_rows.specs.Ways.{Way, LeadsTo, OwnsBelow, IsSide, Reached, port, lead}
+use Rattle.snap_rows.specs.Ways.{Way, LeadsTo, Reached, port, lead}
 use Rattle.snap_rows.specs.Ways as ways
 use Rattle.snap_rows.specs.Rules.{IsValid, RowKeeps, HopKeeps, PortKeeps, ArrayKeeps, IsKind2, IsDue, HoldsUpTo, Rises, IsInOrder, MayFollow, IsFieldRow, IsLinked}
 use Rattle.snap_rows.proofs.Rows.{node_entry}
 use Rattle.snap_rows.proofs.Own.{rank_entry}
-use Rattle.snap_gen.proofs.Owners.{var_array, ranks_above}
+use Rattle.snap_rows.proofs.Later.{var_array}
+use Rattle.snap_gen.proofs.Owners.{ranks_above}
 use Rattle.snap_gen.specs.Planned.{has_port, has_ports, holds, row_for, IsWay, IsNodeKind, IsFront, AreNodes, ArePlaced, AreHops, ArePlanned, PlannedIsValid}
 
 -- ---- lists
@@ -115,8 +116,6 @@ module _ (t : Tables) (nodes : ℕ → Option Row) (front : ℕ → Bool) (two :
       (s.1.port, (s.0, slice_get_within t.ports s.0 s.1 s.2, get_or_from_slice_get t.ports s.0 s.1 _ s.2 ∙ (λ i. record { port = s.1.port; at = same i })))
 
   -- ---- rows that there are
-  leaf_due : ℕ → Bool
-  leaf_due w = cond (nat_eq (ranks t) 0) (has_port t w) (has_ports t && holds t w (ranks t))
 
   field_row : (w n y z : ℕ) (test : Test) → nodes n ≡ Some (Field test y z) → has_port t w ≡ true → row_at t w n ≡ Some (Field test y z)
   field_row w n y z test node at = plan.rows w n ∙ ap (row_for t w (front n)) node ∙ cond-true _ _ _ at

@@ -1,5 +1,5 @@
 -- Tables that show a diagram mean what it means, and are live and reduced where it is live.
-use Rattle.std.proofs.Common.{◌≡◌, ◌≢◌, ℕ, Bool, true, false, cond, List, [], Some, None, refl, sym, ap, subst, ◌∙◌}
+use Rattle.std.proofs.Common.{◌≡◌, ◌≢◌, ℕ, Bool, true, false, cond, List, [], length, Some, None, refl, sym, ap, subst, ◌∙◌}
 use Rattle.std.specs.Prelude.{slice_get}
 use Rattle.std.proofs.lemmas.Option.{none-some, same_Some}
 use Rattle.snap_core.specs.declared.place.Place.{Place}
@@ -9,6 +9,7 @@ use Rattle.snap_core.specs.declared.policy.Update.{Update}
 use Rattle.snap_core.specs.declared.program.Program.{Program}
 use Rattle.snap_core.specs.Arrays.{Arrays, updates}
 use Rattle.snap_core.specs.Fields.{count}
+use Rattle.snap_core.specs.Inputs.{IsInput}
 use Rattle.snap_core.specs.Listing.{number_in}
 use Rattle.snap_core.specs.Meaning.{Meaning}
 use Rattle.snap_core.specs.Tests.{passes, results}
@@ -29,7 +30,7 @@ use Rattle.snap_gen.specs.Facts.{HasMeaning}
 use Rattle.snap_gen.specs.Faithful.{IsMet, IsUsed}
 use Rattle.snap_gen.specs.Visits.{Comes, here, on}
 use Rattle.snap_gen.specs.Shown as shown
-use Rattle.snap_gen.specs.Shown.{row_of, Leads, yes_way, no_way, IsNumbering, IsOf, Shows, LeafGives, IsOutcomeOf, ShownTablesMean, IsInputOf, IsBare, HasBareLeaves, ShownTablesAreLive}
+use Rattle.snap_gen.specs.Shown.{row_of, Leads, yes_way, no_way, IsNumbering, IsOf, Shows, LeafGives, IsOutcomeOf, ShownTablesMean, IsBare, HasBareLeaves, ShownTablesAreLive}
 use Rattle.snap_gen.proofs.Walks.{joined}
 
 -- of a larger set a diagram is live too
@@ -156,7 +157,7 @@ module _ (p : Program) (ns : List (Node Leaf)) (top : ℕ) (ids : List ℕ) (num
   -- ---- live
   -- the inputs that come to a number
   abbrev Coming : ℕ → Arrays → List ℕ → Type 0
-  Coming i m k = IsInputOf p m k × Comes t k is_test m 0 i
+  Coming i m k = IsInput (count p.fields) (length p.vars) m k × Comes t k is_test m 0 i
 
   module _ (j : ℕ) (c : Row) (some : node_of t j ≡ Some c) where
     is_row : (i d : ℕ) (n : Node Leaf) → slice_get ids i ≡ Some d → slice_get ns d ≡ Some n → node_of t i ≡ Some (row_of number n)
@@ -180,12 +181,12 @@ module _ (p : Program) (ns : List (Node Leaf)) (top : ℕ) (ids : List ℕ) (num
         by true e' = ap (λ x. Some (number x)) (sym e')
         by false e' = ap (λ x. Some (number x)) (sym e')
 
-    reaches : IsLive (IsInputOf p) (diagram ns top) → HasBareLeaves (diagram ns top) → {d : ℕ} → Leads ns top d → Reaches d
+    reaches : IsLive (IsInput (count p.fields) (length p.vars)) (diagram ns top) → HasBareLeaves (diagram ns top) → {d : ℕ} → Leads ns top d → Reaches d
     reaches live bare shown.here =
         let zero_is = num.own 0 top num.first in
         record {
           at = subst (λ i. slice_get ids i ≡ Some top) (sym zero_is) num.first;
-          live = subst (λ i. IsLive (Coming i) (diagram ns top)) (sym zero_is) (live_more (IsInputOf p) (Coming 0) (λ m k input. (input, here)) (diagram ns top) live);
+          live = subst (λ i. IsLive (Coming i) (diagram ns top)) (sym zero_is) (live_more (IsInput (count p.fields) (length p.vars)) (Coming 0) (λ m k input. (input, here)) (diagram ns top) live);
           bare = bare;
         }
     reaches live bare (yes_way {d = d} {y = y} {z = z} {t = test} chain is) =
@@ -225,7 +226,7 @@ module _ (p : Program) (ns : List (Node Leaf)) (top : ℕ) (ids : List ℕ) (num
   leaf_used i Race = tt
   leaf_used i (Goes g) = tt
 
-  module _ (live : IsLive (IsInputOf p) (diagram ns top)) (bare : HasBareLeaves (diagram ns top)) where
+  module _ (live : IsLive (IsInput (count p.fields) (length p.vars)) (diagram ns top)) (bare : HasBareLeaves (diagram ns top)) where
     here_live : (i : ℕ) (b : Row) → node_of t i ≡ Some b → (o : IsOf ns ids number i b) → IsLive (Coming i) (diagram ns o.id) × HasBareLeaves (diagram ns o.id)
     here_live i b some o =
         let c = reaches i b some live bare (num.reached i o.id o.at) in

@@ -19,7 +19,6 @@ use Rattle.snap_dep.proofs.Below.{writes_below}
 use Rattle.snap_dep.proofs.Locals as locals
 use Rattle.snap_dep.proofs.Locals.{Untouched, untouched}
 use Rattle.snap_gen.specs.Agreement.{in_order, numbered}
-use Rattle.snap_gen.proofs.Acting.{packet_of}
 
 -- ---- one more packet
 abbrev in_front : Meaning → Switched → Switched
@@ -110,7 +109,7 @@ pub ends : (p : Pol) (c n : ℕ) → UsesBelow n p → KeepsStores p c → Never
 ends p c n uses keeps never [] m store zeros all = record { end = record { packets = []; arrays = m }; is = refl; store = store; zeros = zeros }
 ends p c n uses keeps never (k ∷ ks) m store zeros all =
     let packet = All-head (IsPacket c) k ks all in
-    let o = some_eval p m k (never m k store (packet_of packet)) in
+    let o = some_eval p m k (never m k store packet) in
     let r = ends p c n uses keeps never ks o.0.arrays (keeps m k o.0 store packet o.1) (keeps_zeros p n uses m k o.0 o.1 zeros) (All-tail (IsPacket c) k ks all) in
     record { end = in_front o.0 r.end; is = switched_first p m k ks o.0 r.end o.1 r.is; store = r.store; zeros = r.zeros }
 

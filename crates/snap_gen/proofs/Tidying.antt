@@ -1,8 +1,10 @@
 -- What a tidied diagram keeps.
-use Rattle.std.proofs.Common.{ℕ, ◌<◌, ◌^◌, Bool, true, false, cond, List}
+use Rattle.std.proofs.Common.{ℕ, ◌<◌, ◌^◌, Bool, true, false, cond, List, length}
 use Rattle.std.proofs.lemmas.List.Elements.{recursion_from_All}
 use Rattle.snap_core.specs.declared.policy.Test.{Test}
 use Rattle.snap_core.specs.Arrays.{Arrays}
+use Rattle.snap_core.specs.Fields.{count}
+use Rattle.snap_core.specs.Inputs.{IsInput}
 use Rattle.snap_core.specs.Tests.{passes}
 use Rattle.snap_fdd.specs.declared.leaf.Leaf.{Leaf}
 use Rattle.snap_fdd.specs.Diagrams.{Diagram, Only, Asks, walk}
@@ -11,7 +13,7 @@ use Rattle.snap_fdd.specs.Pruned.{With, IsLive}
 use Rattle.snap_fdd.proofs.Comparing.{above_trans}
 use Rattle.snap_gen.proofs.Showing.{live_more}
 use Rattle.snap_gen.specs.Leaves.{IsTidy}
-use Rattle.snap_gen.specs.Shown.{IsInputOf, HasBareLeaves}
+use Rattle.snap_gen.specs.Shown.{HasBareLeaves}
 use Rattle.snap_gen.proofs.Giving.{gives, becomes_bare}
 use Rattle.snap_gen.specs.Tidied.{Tidies, leaf, test, merged, IsLeafOf, HasLeavesOf, TidyingIsSafe}
 
@@ -64,6 +66,6 @@ tidying_keeps ranks n d r h = record {
       gives ranks n (walk d m k) (walk r m k) m k o (walks ranks n m k h) (walks_to ranks n d m k all) store (recursion_from_All (λ x. x < 2 ^ 64) k packet.numbers) (outcome m k o store packet e);
   order = λ list o. order ranks n list h o;
   above = λ list low o a. above ranks n list low h o a;
-  live = λ p l. live ranks n (IsInputOf p) h l;
+  live = λ p l. live ranks n (IsInput (count p.fields) (length p.vars)) h l;
   bare = λ all. bare ranks n h all;
 }

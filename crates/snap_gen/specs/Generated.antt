@@ -2,6 +2,7 @@
 use Rattle.std.specs.Prelude.{◌≡◌, ◌≢◌, ℕ, ◌<◌, Bool, true, Option, Some, List, length, map, slice_get, slice_index, option_map, option_and_then}
 use Rattle.snap_core.specs.declared.program.Program.{Program}
 use Rattle.snap_core.specs.Fields.{count}
+use Rattle.snap_core.specs.Inputs.{IsInput}
 use Rattle.snap_core.specs.Fits.{PolFits}
 use Rattle.snap_core.specs.Laws.{PutsSmall}
 use Rattle.snap_dep.specs.Locality.{NeverRaces}
@@ -24,7 +25,7 @@ use Rattle.snap_rows.specs.Entries.{next}
 use Rattle.snap_rows.specs.Form.{IsInForm}
 use Rattle.snap_gen.specs.Faithful.{Faithful}
 use Rattle.snap_gen.specs.Planned.{IsFront, ArePlanned}
-use Rattle.snap_gen.specs.Shown.{row_of, IsNumbering, IsOutcomeOf, IsInputOf, HasBareLeaves}
+use Rattle.snap_gen.specs.Shown.{row_of, IsNumbering, IsOutcomeOf, HasBareLeaves}
 
 -- the nodes by their numbers
 abbrev pub numbered_nodes : List (Node Leaf) → List ℕ → (ℕ → ℕ) → ℕ → Option Row
@@ -48,7 +49,7 @@ pub record IsBareDiagram (p : Program) (ranks : List ℕ) (ns : List (Node Leaf)
   pub arity : ℕ → ℕ
   pub bounds : IsIn (record { comps = count p.fields; vars = length p.vars; arity = arity }) (diagram ns root)
   pub outcome : IsOutcomeOf p (diagram ns root)
-  pub live : IsLive (IsInputOf p) (diagram ns root)
+  pub live : IsLive (IsInput (count p.fields) (length p.vars)) (diagram ns root)
   pub bare : HasBareLeaves (diagram ns root)
 
 -- what is written of them: the lists, a hop for each pair, and the planned rows

@@ -73,10 +73,6 @@ abbrev pub ShownTablesMean : Type 0
 ShownTablesMean = (p : Program) (ns : List (Node Leaf)) (root : ℕ) (ids : List ℕ) (number : ℕ → ℕ) (t : Tables) → IsArena ns → IsNumbering ns root ids number → Shows ns ids number t
     → IsOutcomeOf p (diagram ns root) → HasMeaning p.body (count p.fields) t
 
--- a store and a packet of the program
-abbrev pub IsInputOf : Program → Arrays → List ℕ → Type 0
-IsInputOf p m k = IsInput (count p.fields) (length p.vars) m k
-
 -- no race, and no logs
 abbrev pub IsBare : Leaf → Type 0
 IsBare Race = ⊥
@@ -89,4 +85,4 @@ HasBareLeaves (Asks t y n) = HasBareLeaves y × HasBareLeaves n
 -- tables that show a live diagram with bare leaves are live and reduced
 abbrev pub ShownTablesAreLive : Type 0
 ShownTablesAreLive = (p : Program) (ns : List (Node Leaf)) (root : ℕ) (ids : List ℕ) (number : ℕ → ℕ) (t : Tables) → IsArena ns → IsNumbering ns root ids number → Shows ns ids number t
-    → IsLive (IsInputOf p) (diagram ns root) → HasBareLeaves (diagram ns root) → IsLiveAndReduced p t
+    → IsLive (IsInput (count p.fields) (length p.vars)) (diagram ns root) → HasBareLeaves (diagram ns root) → IsLiveAndReduced p t

@@ -1,10 +1,12 @@
 -- A diagram with its leaves tidied, in which a test whose ways become one is left out.
-use Rattle.std.specs.Prelude.{ℕ, ◌<◌, List, All, slice_index}
+use Rattle.std.specs.Prelude.{ℕ, ◌<◌, List, All, length, slice_index}
 use Rattle.snap_core.specs.Tests.{IsRisingOut}
 use Rattle.snap_core.specs.declared.policy.Update.{Update}
 use Rattle.snap_core.specs.declared.policy.Test.{Test}
 use Rattle.snap_core.specs.declared.program.Program.{Program}
 use Rattle.snap_core.specs.Arrays.{Arrays}
+use Rattle.snap_core.specs.Fields.{count}
+use Rattle.snap_core.specs.Inputs.{IsInput}
 use Rattle.snap_core.specs.Laws.{OpIsSmall}
 use Rattle.snap_fdd.specs.declared.leaf.Leaf.{Leaf}
 use Rattle.snap_fdd.specs.declared.leaf.Leaf.TheVariants.{Race, Go as Goes}
@@ -12,7 +14,7 @@ use Rattle.snap_fdd.specs.Diagrams.{Diagram, Only, Asks, walk}
 use Rattle.snap_fdd.specs.Order.{Above, IsOrdered}
 use Rattle.snap_fdd.specs.Pruned.{IsLive}
 use Rattle.snap_gen.specs.Leaves.{IsTidy}
-use Rattle.snap_gen.specs.Shown.{IsOutcomeOf, IsInputOf, HasBareLeaves}
+use Rattle.snap_gen.specs.Shown.{IsOutcomeOf, HasBareLeaves}
 
 -- over ranks below n
 pub data Tidies (ranks : List ℕ) (n : ℕ) : Diagram → Diagram → Type 0 where
@@ -35,7 +37,7 @@ pub record TidyingKeeps (ranks : List ℕ) (n : ℕ) (d r : Diagram) : Type 0 wh
   pub outcome : (p : Program) → HasLeavesOf ranks n d → IsOutcomeOf p d → IsOutcomeOf p r
   pub order : (list : List ℕ) → IsOrdered list d → IsOrdered list r
   pub above : (list : List ℕ) (low : Test) → IsOrdered list d → Above list low d → Above list low r
-  pub live : (p : Program) → IsLive (IsInputOf p) d → IsLive (IsInputOf p) r
+  pub live : (p : Program) → IsLive (IsInput (count p.fields) (length p.vars)) d → IsLive (IsInput (count p.fields) (length p.vars)) r
   pub bare : HasLeavesOf ranks n d → HasBareLeaves r
 
 abbrev pub TidyingIsSafe : Type 0

@@ -8,5 +8,6 @@ pub mod Making
 pub mod Marking
 pub mod Names
 pub mod Pushed
+pub mod Sharing
 pub mod Standing
 pub mod Whole

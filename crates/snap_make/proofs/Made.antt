@@ -1,5 +1,5 @@
 -- Tables with the planned rows of a tidied diagram are faithful.
-use Rattle.std.proofs.Common.{◌≡◌, ◌≢◌, ℕ, ◌<◌, ◌≤◌, ◌⊎◌, inl, inr, ⊎_elim, Bool, true, false, not, List, [], ◌∷◌, ◌++◌, map, length, Option, Some, None, refl, sym, ap, subst, ◌∙◌, arith, ◌&&◌}
+use Rattle.std.proofs.Common.{◌≡◌, ◌≢◌, ℕ, ◌<◌, ◌≤◌, inl, inr, ⊎_elim, Bool, true, false, not, List, [], ◌∷◌, ◌++◌, map, length, Option, Some, None, refl, sym, ap, subst, ◌∙◌, arith, ◌&&◌}
 use Rattle.std.specs.Prelude.{slice_get, slice_index, slice_index_or, nat_eq, option_map, unwrap_or, Contains, IsTrue}
 use Rattle.std.specs.List.{All, IsDistinct}
 use Rattle.std.specs.List.Sorted.{IsStrictlySortedBy, IsNonDecreasing, IsNonDecreasingBy}
@@ -36,7 +36,7 @@ use Rattle.snap_rows.specs.declared.tables.RowAt.{RowAt}
 use Rattle.snap_rows.specs.declared.tables.Tables.{Tables}
 use Rattle.snap_rows.specs.declared.tables.Row.{Row}
 use Rattle.snap_rows.specs.declared.tables.Row.TheVariants.{Field, State, Go, Leaf as StageLeaf, Stop, Last}
-use Rattle.snap_rows.specs.Entries.{Parts, row_at, rank_of, ranks, next}
+use Rattle.snap_rows.specs.Entries.{Parts, row_at, rank_of, next}
 use Rattle.snap_rows.specs.Form.{IsInForm, IsRowInForm, IsRowAtInForm, IsOpInForm, IsUpdateInForm, IsPartsInForm, IsArrayInForm, IsPortInForm, IsLinkInForm, IsHopInForm, comps, switch_count, array_count, row_cmp, hop_cmp, link_cmp}
 use Rattle.snap_rows.specs.Handles.{is_field}
 use Rattle.snap_rows.specs.Rules.{IsFieldRow}

@@ -8,7 +8,6 @@ use Rattle.snap_core.specs.declared.policy.Test.{Test}
 use Rattle.snap_core.specs.declared.policy.Test.TheVariants.{Value, Equal, State as StateTest}
 use Rattle.snap_arena.specs.declared.node.Node.{Node}
 use Rattle.snap_arena.specs.declared.node.Node.TheVariants as node
-use Rattle.snap_arena.specs.Arena.{IsLower}
 use Rattle.snap_fdd.specs.declared.leaf.Leaf.{Leaf}
 use Rattle.snap_fdd.specs.declared.leaf.Leaf.TheVariants.{Race, Go as Goes}
 use Rattle.snap_rows.specs.declared.tables.Row.{Row}
@@ -16,7 +15,7 @@ use Rattle.snap_rows.specs.declared.tables.Row.TheVariants.{Field, State, Last}
 use Rattle.snap_rows.specs.Handles.{is_field}
 use Rattle.snap_gen.specs.Shown.{row_of}
 use Rattle.snap_gen.specs.Generated.{numbered_nodes}
-use Rattle.snap_make.specs.Fronts.{IsNumbered, HasWays, AreWithin, with_fields, IsBehind, AreMarked}
+use Rattle.snap_make.specs.Fronts.{IsNumbered, AreWithin, with_fields, IsBehind, AreMarked}
 
 abbrev yes_in : Row → ℕ
 yes_in (Field t y z) = y
@@ -31,24 +30,12 @@ module _ (ns : List (Node Leaf)) (ids numbers : List ℕ) (num : IsNumbered ns i
   pub node_is : numbered_nodes ns ids (slice_index numbers) i ≡ Some (row_of (slice_index numbers) n)
   node_is = ap (option_and_then (λ d. option_map (row_of (slice_index numbers)) (slice_get ns d))) at ∙ ap (option_map (row_of (slice_index numbers))) is
 
-  ways_of : (n : Node Leaf) → IsLower id n → HasWays (length numbers) n
-  ways_of (node.Leaf l) low = tt
-  ways_of (node.Ask t y z) low =
-      let a = low.0 in let b = low.1 in let c = num.numbering.nodes i id at in let w = num.wide in
-      (omega (arith, a, c, w), omega (arith, b, c, w))
-
-  pub has_ways : IsLower id n → HasWays (length numbers) n
-  has_ways low = ways_of n low
-
   within_of : (n : Node Leaf) → slice_get ns id ≡ Some n → AreWithin (slice_index numbers) (length ids) n
   within_of (node.Leaf l) is = tt
   within_of (node.Ask t y z) is = (slice_get_within ids _ y (num.numbering.yes_side i id y z t at is).1, slice_get_within ids _ z (num.numbering.no_side i id y z t at is).1)
 
   pub are_within : AreWithin (slice_index numbers) (length ids) n
   are_within = within_of n is
-
-pub some_number : (ns : List (Node Leaf)) (ids numbers : List ℕ) → IsNumbered ns ids numbers → 0 < length ids
-some_number ns ids numbers num = slice_get_within ids 0 num.root num.numbering.first
 
 -- ---- marks
 module _ (nodes : ℕ → Option Row) (b many : ℕ) (marks : List Bool) (m : AreMarked nodes b many marks) where

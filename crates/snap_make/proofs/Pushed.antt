@@ -7,26 +7,25 @@ use Rattle.std.proofs.lemmas.List.{map-append}
 use Rattle.snap_core.specs.declared.ports.PortAt.{PortAt}
 use Rattle.snap_rows.specs.declared.tables.Row.{Row}
 use Rattle.snap_rows.specs.declared.tables.Row.TheVariants.{Field, State, Go, Leaf as StageLeaf, Stop, Last}
-use Rattle.snap_rows.specs.declared.tables.RowAt.{RowAt}
 use Rattle.snap_rows.specs.declared.tables.Tables.{Tables}
 use Rattle.snap_rows.specs.Entries.{rank_of, ranks, var_of}
 use Rattle.snap_gen.specs.Planned.{has_port, stop_at, row_for}
 use Rattle.snap_make.specs.declared.sites.Site.{Site}
-use Rattle.snap_make.specs.Pairs.{Entry, row_entry, one_entry, at_switch}
+use Rattle.snap_make.specs.Pairs.{Entry, one_entry, at_switch}
 use Rattle.snap_make.specs.Sites.{IsSite, is_within, is_visited, has_leaves}
 
-module _ (rows old : List RowAt) (g : ℕ → Option Row) (w n : ℕ) (so_far : map row_entry rows ≡ map row_entry old ++ at_switch g w n) where
-  one_later : (es : List (Entry Row)) → one_entry w n (g n) ≡ es → map row_entry rows ++ es ≡ map row_entry old ++ at_switch g w (n + 1)
-  one_later es e = (λ i. so_far i ++ sym e i) ∙ append_assoc (map row_entry old) (at_switch g w n) (one_entry w n (g n)) ∙ ap (λ k. map row_entry old ++ at_switch g w k) one_more
+module _ {Y : Type 0} (f : Y → Entry Row) (rows old : List Y) (g : ℕ → Option Row) (w n : ℕ) (so_far : map f rows ≡ map f old ++ at_switch g w n) where
+  one_later : (es : List (Entry Row)) → one_entry w n (g n) ≡ es → map f rows ++ es ≡ map f old ++ at_switch g w (n + 1)
+  one_later es e = (λ i. so_far i ++ sym e i) ∙ append_assoc (map f old) (at_switch g w n) (one_entry w n (g n)) ∙ ap (λ k. map f old ++ at_switch g w k) one_more
     where
       one_more : suc n ≡ n + 1
       one_more = omega arith
 
-  pub with_row : (r : RowAt) → r.at ≡ w → r.number ≡ n → g n ≡ Some r.row → map row_entry (rows ++ r ∷ []) ≡ map row_entry old ++ at_switch g w (n + 1)
-  with_row r at number is = map-append row_entry rows (r ∷ []) ∙ one_later (row_entry r ∷ []) (ap (one_entry w n) is ∙ (λ i. (sym at i, sym number i, r.row) ∷ []))
+  pub with_row : (r : Y) (b : Row) → f r ≡ (w, n, b) → g n ≡ Some b → map f (rows ++ r ∷ []) ≡ map f old ++ at_switch g w (n + 1)
+  with_row r b e is = map-append f rows (r ∷ []) ∙ one_later (f r ∷ []) (ap (one_entry w n) is ∙ (λ i. sym e i ∷ []))
 
-  pub without_row : g n ≡ None → map row_entry rows ≡ map row_entry old ++ at_switch g w (n + 1)
-  without_row is = sym (append-nil (map row_entry rows)) ∙ one_later [] (ap (one_entry w n) is)
+  pub without_row : g n ≡ None → map f rows ≡ map f old ++ at_switch g w (n + 1)
+  without_row is = sym (append-nil (map f rows)) ∙ one_later [] (ap (one_entry w n) is)
 
 pub some_port : (ps : List PortAt) → list_any (λ (p : PortAt). true) ps ≡ not (nat_eq (length ps) 0)
 some_port [] = refl

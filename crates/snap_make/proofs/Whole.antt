@@ -6,6 +6,7 @@ use Rattle.std.proofs.lemmas.Option.{none-some, same_Some}
 use Rattle.snap_core.specs.declared.program.Program.{Program}
 use Rattle.snap_core.specs.Arrays.{Arrays}
 use Rattle.snap_core.specs.Fields.{count}
+use Rattle.snap_core.specs.Inputs.{IsInput}
 use Rattle.snap_core.specs.Meaning.{Meaning}
 use Rattle.snap_core.specs.Tests.{passes}
 use Rattle.snap_dep.specs.Locality.{NeverRaces}
@@ -22,11 +23,10 @@ use Rattle.snap_fdd.specs.Order.{IsOrdered}
 use Rattle.snap_fdd.specs.Pruned.{IsLive}
 use Rattle.snap_fdd.proofs.Shared as shared
 use Rattle.snap_build.specs.Races.{IsGoing, HasNoRace}
-use Rattle.snap_build.specs.Whole.{IsWhole, IsOf, sizes_of}
+use Rattle.snap_build.specs.Whole.{IsWhole, sizes_of}
 use Rattle.snap_rows.proofs.Own.{past}
-use Rattle.snap_gen.specs.Shown.{IsOutcomeOf, IsInputOf, LeafGives}
+use Rattle.snap_gen.specs.Shown.{IsOutcomeOf, LeafGives}
 use Rattle.snap_gen.specs.Tidied.{HasLeavesOf}
-use Rattle.snap_gen.proofs.Showing.{live_more}
 use Rattle.snap_make.specs.Known.{LeafKnown, IsKnown}
 
 -- ---- leaves are known
@@ -82,19 +82,19 @@ pub record IsBuilt (p : Program) (g : Grouping) (d : Diagram) : Type 0 where
   pub ordered : IsOrdered g.ranks d
   pub bounds : IsIn (sizes_of p g) d
   pub outcome : IsOutcomeOf p d
-  pub live : IsLive (IsInputOf p) d
+  pub live : IsLive (IsInput (count p.fields) (length p.vars)) d
   pub leaves : HasLeavesOf g.ranks (length g.order) d
 
 module _ (p : Program) (g : Grouping) (ns : List (Node Leaf)) (root : ℕ) (whole : IsWhole p g ns root) where
   pub never_races : NeverRaces p.body (count p.fields)
   never_races m k store packet none =
-      some_outcome (walk (diagram ns root) m k) m k (going (diagram ns root) whole.calm m k) (whole.outcome m k store (packet.long, packet.numbers) ∙ none)
+      some_outcome (walk (diagram ns root) m k) m k (going (diagram ns root) whole.calm m k) (whole.outcome m k store packet ∙ none)
 
   pub built : length g.ranks ≡ length p.vars → All (λ r. r < length g.order) g.ranks → LeavesKnown (diagram ns root) → IsBuilt p g (diagram ns root)
   built many below known = record {
     ordered = whole.ordered;
     bounds = whole.bounds;
-    outcome = λ m k o store packet e. gives (walk (diagram ns root) m k) m k o (whole.outcome m k store (packet.long, packet.numbers) ∙ e);
-    live = live_more (IsOf p) (IsInputOf p) (λ m k h. record { store = h.store; only = h.only; packet = record { long = h.packet.0; numbers = h.packet.1 } }) (diagram ns root) whole.live;
+    outcome = λ m k o store packet e. gives (walk (diagram ns root) m k) m k o (whole.outcome m k store packet ∙ e);
+    live = whole.live;
     leaves = leaves_of (sizes_of p g) g.ranks (length g.order) many below (diagram ns root) whole.bounds known whole.calm;
   }

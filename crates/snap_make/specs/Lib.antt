@@ -3,3 +3,4 @@ pub mod Fronts
 pub mod Known
 pub mod Pairs
 pub mod Sites
+pub mod Shares

@@ -1,9 +1,10 @@
 //! Tables of a program's diagram.
 #![tactic(auto)]
 
+mod bodies;
 mod frame;
 mod fronts;
 mod known;
-mod rows;
+mod shares;
 mod sites;
 pub mod tables;

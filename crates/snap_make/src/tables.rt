@@ -10,10 +10,11 @@ ghost use Rattle.snap_place.specs.Answer.{GivesSwitches};
 ghost use Rattle.snap_route.specs.Tables.{AreRoutes};
 ghost use Rattle.snap_topo.specs.Form.{IsInForm};
 
+use crate::bodies::bodies;
 use crate::frame::frame;
 use crate::fronts::fronts;
 use crate::known::know_nodes;
-use crate::rows::rows;
+use crate::shares::shares;
 use snap_build::building::Built;
 use snap_core::NoMemory;
 use snap_core::program::Program;
@@ -22,9 +23,9 @@ use snap_gen::images::tidied;
 use snap_gen::numbering::number;
 use snap_place::placement::Placement;
 use snap_route::table::Routes;
-use snap_rows::calls::proved_valid;
-use snap_rows::lists::Rows;
 use snap_rows::valid::Valid;
+use snap_tables::shared::SharedTables;
+use snap_tables::shared_rows::unshared;
 use snap_topo::topology::Topology;
 use std::alloc::Global;
 
@@ -32,10 +33,39 @@ use std::alloc::Global;
 /// of the program's arrays (`docs/MEANING.md`, "Faithful tables").
 ///
 /// The nodes below the root are numbered from 0 at the root, rising along each way. Refuses for memory alone.
-pub fn tables(
+pub fn shared_tables(
     alloc: Global,
     program: &Program,
     mut built: Built,
+    groups: &Groups,
+    topology: &Topology,
+    placement: &Placement,
+    routes: &Routes,
+) -> Result<SharedTables, NoMemory>
+    requires form { IsProgramInForm program.now }
+    requires small { PutsSmall program.now.body }
+    requires groups { IsGrouping program.now.body (length program.now.vars) groups.now }
+    requires whole { IsWhole program.now groups.now built.nodes built.root }
+    requires topology { IsInForm topology.now }
+    requires routes { AreRoutes topology.now routes.now }
+    requires placement { GivesSwitches program.now topology.now placement.now }
+    ensures { IfOk result (Faithful program.now topology.now placement.now) }
+{
+    know_nodes(&built.nodes);
+    let root = tidied(&mut built.nodes, groups, built.root)?;
+    let numbering = number(alloc, &built.nodes, root)?;
+    let frame = frame(alloc, program, groups, topology, placement, routes)?;
+    let fronts = fronts(alloc, &built.nodes, &numbering)?;
+    let bodies = bodies(alloc, &built.nodes, &numbering)?;
+    let shares = shares(alloc, &frame, &bodies, &fronts)?;
+    Ok(SharedTables::new(frame, bodies, shares))
+}
+
+/// The same, each row with a body of its own, so that packets can be traced.
+pub fn tables(
+    alloc: Global,
+    program: &Program,
+    built: Built,
     groups: &Groups,
     topology: &Topology,
     placement: &Placement,
@@ -50,12 +80,6 @@ pub fn tables(
     requires placement { GivesSwitches program.now topology.now placement.now }
     ensures { IfOk result (Faithful program.now topology.now placement.now) }
 {
-    know_nodes(&built.nodes);
-    let root = tidied(&mut built.nodes, groups, built.root)?;
-    let numbering = number(alloc, &built.nodes, root)?;
-    let mut tables = frame(alloc, program, groups, topology, placement, routes)?;
-    let fronts = fronts(alloc, &built.nodes, &numbering)?;
-    let rows = rows(alloc, &tables, &built.nodes, &numbering, &fronts)?;
-    tables.rows = Rows::new(rows);
-    proved_valid(alloc, tables)
+    let shared = shared_tables(alloc, program, built, groups, topology, placement, routes)?;
+    unshared(alloc, shared)
 }

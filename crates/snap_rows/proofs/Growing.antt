@@ -6,6 +6,7 @@ use Rattle.std.specs.Map.{lookup}
 use Rattle.std.specs.Ordering.{nat_cmp, is_eq}
 use Rattle.std.proofs.lemmas.Bool.Decides.{nat_tests}
 use Rattle.std.proofs.lemmas.Bool.{false≢true, cases_eq, eq-eqb, ne_eqb}
+use Rattle.std.proofs.lemmas.List.{drop_all}
 use Rattle.std.proofs.lemmas.Map.Keys.{ge_from_not_lt}
 use Rattle.snap_core.specs.declared.policy.Test.{Test}
 use Rattle.snap_core.specs.declared.policy.Test.TheVariants.{Value, Equal, State as StateTest}
@@ -182,11 +183,14 @@ match_weaker (Some x) A A' B B' f g h = g x h
 node_before : (t : Tables) (k n : ℕ) (r : RowAt) → slice_get t.rows k ≡ Some r → node_in (drop k t.rows) n ≡ (if (r.number == n) && is_node r.row then Some r.row else node_in (drop (k + 1) t.rows) n)
 node_before t k n r is = ap (λ rs. node_in rs n) (drop_get t.rows k r is ∙ ap (λ j. r ∷ drop j t.rows) (sym (add-one k)))
 
-before_same : (t : Tables) (k n : ℕ) (m : BTreeMap ℕ ℕ) → node_in (drop k t.rows) n ≡ node_in (drop (k + 1) t.rows) n → MatchOption (get nat_cmp m n) (node_in (drop (k + 1) t.rows) n ≡ None) (IsNodeFrom t (k + 1) n)
-    → MatchOption (get nat_cmp m n) (node_in (drop k t.rows) n ≡ None) (IsNodeFrom t k n)
-before_same t k n m same = match_weaker (get nat_cmp m n) _ _ _ _ (λ e. same ∙ e) (λ i h. record { entry = h.entry; is = h.is; number = h.number; node = same ∙ h.node })
+before_same : (t : Tables) (k n : ℕ) (at : ℕ → Option ℕ) → node_in (drop k t.rows) n ≡ node_in (drop (k + 1) t.rows) n → MatchOption (at n) (node_in (drop (k + 1) t.rows) n ≡ None) (IsNodeFrom t (k + 1) n)
+    → MatchOption (at n) (node_in (drop k t.rows) n ≡ None) (IsNodeFrom t k n)
+before_same t k n at same = match_weaker (at n) _ _ _ _ (λ e. same ∙ e) (λ i h. record { entry = h.entry; is = h.is; number = h.number; node = same ∙ h.node })
 
-pub nodes_same : (t : Tables) (k : ℕ) (r : RowAt) (m : BTreeMap ℕ ℕ) → slice_get t.rows k ≡ Some r → is_node r.row ≡ false → AreNodesFrom t (k + 1) m → AreNodesFrom t k m
+pub nodes_none : (t : Tables) (m : ℕ → Option ℕ) → ((n : ℕ) → m n ≡ None) → AreNodesFrom t (length t.rows) m
+nodes_none t m none n = subst (λ o. MatchOption o (node_in (drop (length t.rows) t.rows) n ≡ None) (IsNodeFrom t (length t.rows) n)) (sym (none n)) (ap (λ rs. node_in rs n) (drop_all (length t.rows) t.rows (omega arith)))
+
+pub nodes_same : (t : Tables) (k : ℕ) (r : RowAt) (m : ℕ → Option ℕ) → slice_get t.rows k ≡ Some r → is_node r.row ≡ false → AreNodesFrom t (k + 1) m → AreNodesFrom t k m
 nodes_same t k r m is other before n = before_same t k n m (node_before t k n r is ∙ by (r.number == n) (is_node r.row) other) (before n)
   where
     by : (s c : Bool) → c ≡ false → (if s && c then Some r.row else node_in (drop (k + 1) t.rows) n) ≡ node_in (drop (k + 1) t.rows) n
@@ -194,8 +198,8 @@ nodes_same t k r m is other before n = before_same t k n m (node_before t k n r 
     by true false e = refl
     by false c e = refl
 
-pub nodes_more : (t : Tables) (k : ℕ) (r : RowAt) (m m' : BTreeMap ℕ ℕ) → slice_get t.rows k ≡ Some r → is_node r.row ≡ true → AreNodesFrom t (k + 1) m → Updates nat_cmp m m' r.number (Some k) → AreNodesFrom t k m'
-nodes_more t k r m m' is node before ups n = ⊎_elim here there (cases_eq r.number n)
+pub nodes_more : (t : Tables) (k : ℕ) (r : RowAt) (m m' : ℕ → Option ℕ) → slice_get t.rows k ≡ Some r → is_node r.row ≡ true → AreNodesFrom t (k + 1) m → m' r.number ≡ Some k → ((n : ℕ) → r.number ≢ n → m' n ≡ m n) → AreNodesFrom t k m'
+nodes_more t k r m m' is node before put others n = ⊎_elim here there (cases_eq r.number n)
   where
     shape : (s : Bool) → (r.number == n) ≡ s → node_in (drop k t.rows) n ≡ (if s then Some r.row else node_in (drop (k + 1) t.rows) n)
     shape s e = node_before t k n r is ∙ ap₂ (λ (a b : Bool). if a && b then Some r.row else node_in (drop (k + 1) t.rows) n) e node ∙ by s
@@ -204,15 +208,15 @@ nodes_more t k r m m' is node before ups n = ⊎_elim here there (cases_eq r.num
         by true = refl
         by false = refl
 
-    here : r.number ≡ n → MatchOption (get nat_cmp m' n) (node_in (drop k t.rows) n ≡ None) (IsNodeFrom t k n)
+    here : r.number ≡ n → MatchOption (m' n) (node_in (drop k t.rows) n ≡ None) (IsNodeFrom t k n)
     here e =
-        let at : get nat_cmp m' n ≡ Some k = subst (λ n. get nat_cmp m' n ≡ Some k) e ups.1 in
+        let at : m' n ≡ Some k = subst (λ n. m' n ≡ Some k) e put in
         subst (λ o. MatchOption o (node_in (drop k t.rows) n ≡ None) (IsNodeFrom t k n)) (sym at)
         (record { entry = r; is = is; number = e; node = shape true (eq-eqb r.number n e) })
 
-    there : r.number ≢ n → MatchOption (get nat_cmp m' n) (node_in (drop k t.rows) n ≡ None) (IsNodeFrom t k n)
+    there : r.number ≢ n → MatchOption (m' n) (node_in (drop k t.rows) n ≡ None) (IsNodeFrom t k n)
     there other =
-        subst (λ o. MatchOption o (node_in (drop k t.rows) n ≡ None) (IsNodeFrom t k n)) (sym (ups.2 n (apart r.number n other)))
+        subst (λ o. MatchOption o (node_in (drop k t.rows) n ≡ None) (IsNodeFrom t k n)) (sym (others n other))
         (before_same t k n m (shape false (ne_eqb r.number n other)) (before n))
 
 -- ---- one turn
@@ -261,7 +265,7 @@ no_chain t n ws none (field node way c) = false≢true (ap (λ (o : Option Row).
 no_chain t n ws none (state node own way c) = false≢true (ap (λ (o : Option Row). is_some o) (sym none ∙ node))
 no_chain t n ws none (leaf node) = false≢true (ap (λ (o : Option Row). is_some o) (sym none ∙ node))
 
-pub grown_none : (t : Tables) (rest : BTreeMap ℕ ℕ) (known : BTreeMap ℕ Standing) → AreNodesFrom t 0 rest → known.entries ≡ [] → IsGrown t rest known
+pub grown_none : (t : Tables) (rest : BTreeMap ℕ ℕ) (known : BTreeMap ℕ Standing) → AreNodesFrom t 0 (get nat_cmp rest) → known.entries ≡ [] → IsGrown t rest known
 grown_none t rest known nodes empty = record {
   nodes = λ n i e. subst (λ o. MatchOption o (node_of t n ≡ None) (IsNodeFrom t 0 n)) e (nodes n);
   facts = λ n e.

@@ -164,7 +164,7 @@ sum_map t f (x ∷ xs) =
     ∙ ap (λ n. weight t (f x).at (f x).head + n) (sum_map t f xs)
     ∙ sym (sum_by-cons (λ (x : Sent). weight t (f x).at (f x).head) x xs)
 
-moved_weight : (t : Tables) (c : Copy) (a : Action) → steps_left t (moved c a) ≡ weight_after t c.at a
+pub moved_weight : (t : Tables) (c : Copy) (a : Action) → steps_left t (moved c a) ≡ weight_after t c.at a
 moved_weight t c (Forward to head) =
     let d : Copy = record c { at = to; head = head; hops = c.hops + 1; steps = c.steps + 1 } in
     let e : steps_left t (moved c (Forward to head)) ≡ weight t to head + 0 = sum_by-cons (λ (c : Copy). weight t c.at c.head) d [] in

@@ -19,7 +19,7 @@ use Rattle.snap_rows.proofs.Rows.{row_form, some_injective}
 use Rattle.snap_rows.proofs.Growing.{not_two}
 
 -- ---- ways along rows
-follows_one : (t : Tables) (w : ℕ) (k : List ℕ) (p : Row → Bool) (m : Arrays) (n n' v v' : ℕ) → n ≡ n' → Follows t w k p m n v → Follows t w k p m n' v' → v ≡ v'
+pub follows_one : (t : Tables) (w : ℕ) (k : List ℕ) (p : Row → Bool) (m : Arrays) (n n' v v' : ℕ) → n ≡ n' → Follows t w k p m n v → Follows t w k p m n' v' → v ≡ v'
 follows_one t w k p m n n' v v' e (arrives row test) (arrives row' test') = e
 follows_one t w k p m n n' v v' e (arrives {b = b} row test) (follows {b = b'} row' test' to f) =
     let same : b ≡ b' = some_injective _ _ (sym row ∙ ap (row_at t w) e ∙ row') in absurd (false≢true (sym test ∙ ap p same ∙ test'))
@@ -29,7 +29,7 @@ follows_one t w k p m n n' v v' e (follows {x = x} {b = b} row test to f) (follo
     let same : b ≡ b' = some_injective _ _ (sym row ∙ ap (row_at t w) e ∙ row') in
     follows_one t w k p m x x' v v' (some_injective _ _ (sym to ∙ ap (λ b. side b m k) same ∙ to')) f f'
 
-visits_one : (t : Tables) (w : ℕ) (k : List ℕ) (m : Arrays) (r n v v' : ℕ) (us us' : List Update) → Visits t w k m r n v us → Visits t w k m r n v' us' → (v ≡ v') × (us ≡ us')
+pub visits_one : (t : Tables) (w : ℕ) (k : List ℕ) (m : Arrays) (r n v v' : ℕ) (us us' : List Update) → Visits t w k m r n v us → Visits t w k m r n v' us' → (v ≡ v') × (us ≡ us')
 visits_one t w k m r n v v' us us' x y =
     let number : v ≡ v' = follows_one t w k _ m n n v v' refl x.number y.number in
     let leaf : x.leaf ≡ y.leaf = follows_one t w k _ _ v v' x.leaf y.leaf number x.walk y.walk in

@@ -1,7 +1,8 @@
 -- What is known of the switches at which chains from a number stand.
-use Rattle.std.specs.Prelude.{◌≡◌, ◌≢◌, ◌↔◌, ℕ, ◌<◌, ◌==◌, Option, Some, None, List, [], ◌∷◌, Contains, slice_get, drop, unwrap_or, if◌then◌else◌, MatchOption}
+use Rattle.std.specs.Prelude.{◌≡◌, ◌≢◌, ◌↔◌, ℕ, ◌<◌, ◌==◌, Option, Some, None, List, [], ◌∷◌, Contains, slice_get, get_or, length, drop, nat_lt, unwrap_or, if◌then◌else◌, MatchOption}
 use Rattle.std.specs.BTreeMap.{BTreeMap, get}
 use Rattle.std.specs.Ordering.{nat_cmp}
+use Rattle.snap_rows.specs.declared.rules.nodes.Numbered.{Numbered}
 use Rattle.snap_rows.specs.declared.rules.alone.Standing.{Standing}
 use Rattle.snap_rows.specs.declared.rules.alone.Standing.TheVariants.{Nowhere, At, Apart}
 use Rattle.snap_rows.specs.declared.tables.RowAt.{RowAt}
@@ -62,6 +63,10 @@ pub record Facts (t : Tables) (n : ℕ) (s : Standing) : Type 0 where
   pub so : AreSo (StandsAt t n) s
   pub chain : (b : Row) → node_of t n ≡ Some b → (ws : List ℕ) × Chain t n ws
 
+-- the place that is known of a number
+abbrev pub place_in : Numbered → ℕ → Option ℕ
+place_in m n = if nat_lt n (length m.low.items) then get_or m.low.items n None else get nat_cmp m.high n
+
 -- the number's node among the rows from k on is the row of place i
 pub record IsNodeFrom (t : Tables) (k n i : ℕ) : Type 0 where
   pub entry : RowAt
@@ -70,12 +75,12 @@ pub record IsNodeFrom (t : Tables) (k n i : ℕ) : Type 0 where
   pub node : node_in (drop k t.rows) n ≡ Some entry.row
 
 -- where the nodes of numbers stand among the rows from k on
-abbrev pub AreNodesFrom : Tables → ℕ → BTreeMap ℕ ℕ → Type 0
-AreNodesFrom t k m = (n : ℕ) → MatchOption (get nat_cmp m n) (node_in (drop k t.rows) n ≡ None) (IsNodeFrom t k n)
+abbrev pub AreNodesFrom : Tables → ℕ → (ℕ → Option ℕ) → Type 0
+AreNodesFrom t k at = (n : ℕ) → MatchOption (at n) (node_in (drop k t.rows) n ≡ None) (IsNodeFrom t k n)
 
 -- the numbers that have field rows among the first k
-abbrev pub AreFieldsTo : Tables → ℕ → BTreeMap ℕ ℕ → Type 0
-AreFieldsTo t k m = (n : ℕ) → (get nat_cmp m n ≡ None) ↔ ((i : ℕ) (r : RowAt) → i < k → slice_get t.rows i ≡ Some r → r.number ≡ n → ¬ IsFieldRow r.row)
+abbrev pub AreFieldsTo : Tables → ℕ → (ℕ → Option ℕ) → Type 0
+AreFieldsTo t k at = (n : ℕ) → (at n ≡ None) ↔ ((i : ℕ) (r : RowAt) → i < k → slice_get t.rows i ≡ Some r → r.number ≡ n → ¬ IsFieldRow r.row)
 
 abbrev pub standing_in : BTreeMap ℕ Standing → ℕ → Standing
 standing_in known n = unwrap_or (get nat_cmp known n) Nowhere

@@ -29,7 +29,7 @@ impl Guesses {
     pub(crate) fn of(alloc: Global, rows: &[RowAt]) -> Result<Guesses, NoMemory> {
         let mut guesses = Guesses {
             starts: Vec::new(alloc),
-            places: Vec::new(alloc),
+            places: Vec::with_capacity(alloc, rows.len())?,
         };
         for (place, row) in rows.iter().enumerate() {
             guesses.add(row, place)?;
@@ -38,6 +38,7 @@ impl Guesses {
     }
 
     /// Where the row of a switch and number probably stands.
+    #[inline(always)]
     pub(crate) fn place(&self, at: u16, number: u64) -> usize {
         match self.guess(at, number) {
             Some(guess) => self.places.get(guess).copied().unwrap_or(0),
@@ -70,7 +71,11 @@ impl Guesses {
 
     // Puts a place where a guess stands.
     fn put(&mut self, guess: usize, place: usize) -> Result<(), NoMemory> {
-        if self.places.len() <= guess {
+        if self.places.len() == guess {
+            self.places.push(place)?;
+            return Ok(());
+        }
+        if self.places.len() < guess {
             self.places.resize(guess.saturating_add(1), place)?;
         }
         if let Some(held) = self.places.get_mut(guess) {

@@ -31,16 +31,14 @@ impl Valid {
         ensures all_form { IsInForm self.now }
     {
         let rows = self.tables().rows.items();
-        row_near(rows, self.guesses().place(at, number), at, number)
+        row(rows, self.guesses().place(at, number), at, number)
     }
 
     /// The next hop of a switch towards another.
     pub fn next(&self, at: u16, target: u16) -> u16
         ensures { result ≡ next self.now at target }
     {
-        let tables = self.tables();
-        let guess = hop_guess(tables.switches.items().len(), at, target);
-        next_near(tables.hops.items(), guess, at, target)
+        next(self.tables(), at, target)
     }
 
     /// The switch of a port.
@@ -151,8 +149,8 @@ fn stands_at(rows: &[RowAt], place: usize, at: u16, number: u64) -> bool
     }
 }
 
-/// The place of the row of a switch and number.
-pub(crate) fn row_place(rows: &[RowAt], at: u16, number: u64) -> Option<usize>
+// The place of the row of a switch and number, by a search.
+fn searched_row(rows: &[RowAt], at: u16, number: u64) -> Option<usize>
     requires { IsStrictlySortedBy row_cmp rows.now }
     ensures some { IfSome result (IsRowPlace rows.now at number) }
     ensures none { IfNone result (row_in rows.now at number ≡ None) }
@@ -165,12 +163,55 @@ pub(crate) fn row_place(rows: &[RowAt], at: u16, number: u64) -> Option<usize>
     }
 }
 
-/// The row of a switch and number.
-pub(crate) fn row(rows: &[RowAt], at: u16, number: u64) -> Option<&Row>
+/// The place of the row of a switch and number, which is probably this one.
+pub(crate) fn row_place(rows: &[RowAt], guess: usize, at: u16, number: u64) -> Option<usize>
+    requires { IsStrictlySortedBy row_cmp rows.now }
+    ensures some { IfSome result (IsRowPlace rows.now at number) }
+    ensures none { IfNone result (row_in rows.now at number ≡ None) }
+{
+    if stands_at(rows, guess, at, number) {
+        Some(guess)
+    } else {
+        searched_row(rows, at, number)
+    }
+}
+
+/// The row of a switch and number, which probably stands at this place.
+#[inline(always)]
+pub(crate) fn row(rows: &[RowAt], guess: usize, at: u16, number: u64) -> Option<&Row>
     requires { IsStrictlySortedBy row_cmp rows.now }
     ensures { option_map (λ r. r.now) result ≡ row_in rows.now at number }
 {
-    match row_place(rows, at, number) {
+    match row_said(rows, guess, at, number) {
+        Some(row) => Some(row),
+        None => row_by_search(rows, at, number),
+    }
+}
+
+// The row of a switch and number, if it stands at a place.
+fn row_said(rows: &[RowAt], place: usize, at: u16, number: u64) -> Option<&Row>
+    requires { IsStrictlySortedBy row_cmp rows.now }
+    ensures { IfSome result (λ r. row_in rows.now at number ≡ Some r.now) }
+{
+    match rows.get(place) {
+        Some(entry) => {
+            if entry.at == at && entry.number == number {
+                Some(&entry.row)
+            } else {
+                None
+            }
+        }
+        None => None,
+    }
+}
+
+// The row of a switch and number, by a search.
+#[inline(never)]
+fn row_by_search(rows: &[RowAt], at: u16, number: u64) -> Option<&Row>
+    requires { IsStrictlySortedBy row_cmp rows.now }
+    ensures { option_map (λ r. r.now) result ≡ row_in rows.now at number }
+{
+    match searched_row(rows, at, number) {
         Some(place) => Some(&rows[place].row),
         None => None,
     }
@@ -181,18 +222,6 @@ fn hop_is_before(hop: &Hop, at: u16, target: u16) -> bool
     ensures { result ≡ is_before (λ (h : Hop). h.from) (λ (h : Hop). h.target) at target hop.now }
 {
     hop.from < at || (hop.from == at && hop.target < target)
-}
-
-/// The row of a switch and number, which probably stands at a place.
-fn row_near(rows: &[RowAt], guess: usize, at: u16, number: u64) -> Option<&Row>
-    requires { IsStrictlySortedBy row_cmp rows.now }
-    ensures { option_map (λ r. r.now) result ≡ row_in rows.now at number }
-{
-    if stands_at(rows, guess, at, number) {
-        Some(&rows[guess].row)
-    } else {
-        row(rows, at, number)
-    }
 }
 
 // How many next hops stand before that of a switch towards another.
@@ -219,8 +248,8 @@ fn hop_said(hops: &[Hop], place: usize, at: u16, target: u16) -> u16
     }
 }
 
-/// The next hop of a switch towards another.
-pub(crate) fn next(hops: &[Hop], at: u16, target: u16) -> u16
+// The next hop of a switch towards another, by a search.
+fn searched_hop(hops: &[Hop], at: u16, target: u16) -> u16
     requires { IsStrictlySortedBy hop_cmp hops.now }
     ensures { result ≡ hop_in hops.now at target }
 {
@@ -246,7 +275,7 @@ fn next_near(hops: &[Hop], guess: usize, at: u16, target: u16) -> u16
 {
     match hop_at(hops, guess, at, target) {
         Some(hop) => hop,
-        None => next(hops, at, target),
+        None => searched_hop(hops, at, target),
     }
 }
 
@@ -265,6 +294,15 @@ fn hop_at(hops: &[Hop], place: usize, at: u16, target: u16) -> Option<u16>
         }
         None => None,
     }
+}
+
+/// The next hop of a switch towards another.
+pub(crate) fn next(tables: &Tables, at: u16, target: u16) -> u16
+    requires { IsInForm tables.now }
+    ensures { result ≡ next tables.now at target }
+{
+    let guess = hop_guess(tables.switches.items().len(), at, target);
+    next_near(tables.hops.items(), guess, at, target)
 }
 
 // How many ports are less than a number.

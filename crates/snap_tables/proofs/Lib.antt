@@ -30,3 +30,6 @@ pub mod Exact
 pub mod OneReading
 pub mod Spelled
 pub mod ReadBack
+pub mod Scanning
+pub mod SharedLines
+pub mod Digits

@@ -15,7 +15,7 @@ use Rattle.snap_rows.specs.Form.{IsInForm}
 use Rattle.snap_rows.specs.Rules.{IsFirstBroken, IsValid, Keeps}
 use Rattle.snap_tables.specs.Joins.{Lacks, join}
 use Rattle.snap_tables.specs.Text.{Words, first_line, last_line, rank_words, row_words, spaced, text}
-use Rattle.snap_tables.specs.Drafts.{ArePlaces, IsFirstSplit, IsItem, IsKept, IsLineFault, IsNoFirst, IsNone, IsPutLine, IsReadTo, first_body, is_last, no_entries, place_of, tables_of}
+use Rattle.snap_tables.specs.Drafts.{ArePlaces, IsFirstSplit, IsItem, IsKept, IsLineFault, IsNoFirst, IsNone, IsPutLine, IsReadTo, first_body, is_last, place_of, tables_of}
 use Rattle.snap_tables.specs.Lines.{Begins, Breaks, Follows, IsBadLine, at_first, behind_beginning, behind_last, IsBeginning, IsRead, IsWhole, Passes, counts_of, front_text, is_ready, item_body, item_line, line_of, lines_of, passed, with_item}
 use Rattle.snap_tables.specs.declared.draft.Draft.{Draft}
 use Rattle.snap_tables.specs.declared.fault.TablesFault.{TablesFault}
@@ -84,28 +84,6 @@ first-split bytes line behind v e short h is = (h, split-text bytes line behind 
 
 pub no-line-first : (bytes : List ℕ) → IsNoFirst bytes → IsBadLine bytes 1
 no-line-first bytes none = at_first none
-
--- the beginning
-pub begins-first : (bytes rest : List ℕ) (v : ℕ) → IsFirstSplit bytes v rest → Begins bytes (no_entries v) rest
-begins-first bytes rest v s = record {
-  beginning = record {
-    version = s.0;
-    fields = tt;
-    switches = tt;
-    arrays = tt;
-    links = tt;
-    ports = tt;
-    hops = tt;
-    rows = tt;
-    ready = refl;
-    few_comps = omega arith;
-    few_switches = omega arith;
-    few_arrays = omega arith;
-    few_links = omega arith;
-    few_ports = omega arith;
-  };
-  split = s.1 ∙ ap (λ l. l ++ rest) (sym (append-nil (first_line v)));
-}
 
 module _ (t : Tables) (b : IsBeginning t) where
   -- no line of an entry has an LF in it

@@ -115,9 +115,6 @@ Lacks-atom comps s (Comp c) fits hash letter out less = (ne_eqb 99 s (λ e. lett
 
 -- parts of outs
 
-both_text : ℕ → Atom → List ℕ
-both_text c a = decimal c ++ (61 ∷ atom_word a)
-
 changed : (c : ℕ) (a : Atom) (p : ℕ × Atom) → changes c a ≡ Some p → (p ≡ (c, a)) × (a ≢ Comp c)
 changed c (Num n) p e = (cc, λ e. cc)
 changed c (Comp d) p e = at (c == d) refl e

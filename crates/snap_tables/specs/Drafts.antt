@@ -55,6 +55,10 @@ letter (item.Port p) = 112
 letter (item.Hop h) = 104
 letter (item.Row r) = 114
 
+-- a line's first byte
+abbrev pub IsLed : ℕ → List ℕ → Type 0
+IsLed n line = (rest : List ℕ) × (line ≡ n ∷ rest)
+
 -- the line is that of an entry that follows, or of none with this first byte, or of none at all
 abbrev pub IsItem : Tables → List ℕ → Item → Type 0
 IsItem t line it = Follows t it × (line ≡ item_body t.version it)

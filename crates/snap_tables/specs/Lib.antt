@@ -11,3 +11,6 @@ pub mod Drafts
 pub mod Ranges
 pub mod ReadBack
 pub mod Exact
+pub mod Scan
+pub mod Shared
+pub mod RowParts

@@ -268,6 +268,26 @@ impl Draft {
         Ok(over(Which::Components, 64, u64::from(self.comps)))
     }
 
+    /// Puts a next hop.
+    #[inline(always)]
+    pub(crate) fn put_hop(&mut self, hop: Hop) -> Result<(), NoMemory>
+        requires { IsKept self.old }
+        ensures { OnOk result (IsPut self.old (item.Hop hop) None self.new) }
+    {
+        self.hops.push(hop)?;
+        Ok(())
+    }
+
+    /// Puts a row.
+    #[inline(always)]
+    pub(crate) fn put_row(&mut self, row: RowAt) -> Result<(), NoMemory>
+        requires { IsKept self.old }
+        ensures { OnOk result (IsPut self.old (item.Row row) None self.new) }
+    {
+        self.rows.push(row)?;
+        Ok(())
+    }
+
     /// Puts an entry behind those of its section, and says the count that it passes, if it passes one.
     pub(crate) fn put(
         &mut self,
@@ -296,11 +316,11 @@ impl Draft {
                 Ok(over(Which::Ports, 1_024, self.ports.len() as u64))
             }
             Item::Hop(hop) => {
-                self.hops.push(hop)?;
+                self.put_hop(hop)?;
                 Ok(None)
             }
             Item::Row(row) => {
-                self.rows.push(row)?;
+                self.put_row(row)?;
                 Ok(None)
             }
         }

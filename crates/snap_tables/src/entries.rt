@@ -2,7 +2,8 @@
 
 ghost use Rattle.std.specs.Prelude.{◌≡◌, ◌≢◌, Some, None, length, IfOk, MatchOption};
 ghost use Rattle.snap_core.specs.Parts.{parts_by};
-ghost use Rattle.snap_tables.specs.Drafts.{IsItem, IsKept, IsNoRowLine, IsNone, IsNoneBy, IsRowLine, is_above_at, may_come, tables_of};
+ghost use Rattle.snap_tables.specs.Drafts.{IsItem, IsKept, IsNoRowLine, IsNoneBy, IsRowLine, is_above_at, may_come, tables_of};
+ghost use Rattle.snap_tables.specs.declared.item.Item.TheVariants as item;
 ghost use Rattle.snap_tables.specs.Entries.{array_fits, field_fits, hop_fits, is_above, is_field_at, is_new, is_plain_field, kept, link_fits, link_less, port_less};
 ghost use Rattle.snap_tables.specs.Reading.{array_said, field_said, hop_said, is_space, link_said, port_said, switch_said};
 
@@ -11,8 +12,7 @@ use crate::item::Item;
 use crate::named::{array_said, field_said, switch_said};
 use crate::piece::Counts;
 use crate::row::row_of;
-use crate::rows::take_u64;
-use crate::taken::{hop_said, link_said, opened, port_said, take_below};
+use crate::taken::{hop_said, link_said, opened, port_said, take_below, take_u64};
 use snap_core::NoMemory;
 use snap_core::lists::Name;
 use snap_core::ports::PortAt;
@@ -245,14 +245,12 @@ fn hop_of(draft: &Draft, line: &[u8]) -> Option<Hop>
     }
 }
 
-fn next_hop(draft: &Draft, line: &[u8]) -> Option<Item>
+/// The next hop that a line says, if it is of its form after the lines before it.
+pub(crate) fn next_hop(draft: &Draft, line: &[u8]) -> Option<Hop>
     requires { IsKept draft.now }
-    ensures { MatchOption result (IsNoneBy 104 (tables_of draft.now) line.now) (IsItem (tables_of draft.now) line.now) }
+    ensures { MatchOption result (IsNoneBy 104 (tables_of draft.now) line.now) (λ hop. IsItem (tables_of draft.now) line.now (item.Hop hop)) }
 {
-    match hop_of(draft, line) {
-        None => None,
-        Some(hop) => Some(Item::Hop(hop)),
-    }
+    hop_of(draft, line)
 }
 
 // Whether a row of this switch and number stands behind these rows.
@@ -292,56 +290,49 @@ fn row_line(
     }
 }
 
-fn next_row(alloc: Global, draft: &Draft, line: &[u8]) -> Result<Option<Item>, NoMemory>
+/// The row that a line says, if it is of its form after the lines before it.
+pub(crate) fn next_row(alloc: Global, draft: &Draft, line: &[u8]) -> Result<Option<RowAt>, NoMemory>
     requires { IsKept draft.now }
-    ensures { IfOk result (λ said. MatchOption said (IsNoneBy 114 (tables_of draft.now) line.now) (IsItem (tables_of draft.now) line.now)) }
+    ensures { IfOk result (λ said. MatchOption said (IsNoneBy 114 (tables_of draft.now) line.now) (λ row. IsItem (tables_of draft.now) line.now (item.Row row))) }
 {
     if !draft.may_come(7) {
         return Ok(None);
     }
-    match row_line(alloc, draft, draft.counts(), line)? {
-        None => Ok(None),
-        Some(row) => Ok(Some(Item::Row(row))),
-    }
+    row_line(alloc, draft, draft.counts(), line)
 }
 
-// The entry of the sections behind the arrays, by the first byte of its line.
-fn next_listed(
+// The link or port that a line says.
+fn next_listed(draft: &Draft, first: u8, line: &[u8]) -> Option<Item>
+    requires kept { IsKept draft.now }
+    requires field { first ≢ 102 }
+    requires switch { first ≢ 115 }
+    requires array { first ≢ 97 }
+    requires hop { first ≢ 104 }
+    requires row { first ≢ 114 }
+    ensures { MatchOption result (IsNoneBy first (tables_of draft.now) line.now) (IsItem (tables_of draft.now) line.now) }
+{
+    if first == b'l' {
+        return next_link(draft, line);
+    }
+    if first == b'p' {
+        return next_port(draft, line);
+    }
+    None
+}
+
+/// The entry that a line with this first byte says, if it is of its form after the lines before it. Next hops and rows,
+/// which are many, have functions of their own.
+pub(crate) fn next_item(
     alloc: Global,
     draft: &Draft,
     first: u8,
     line: &[u8],
 ) -> Result<Option<Item>, NoMemory>
     requires kept { IsKept draft.now }
-    requires field { first ≢ 102 }
-    requires switch { first ≢ 115 }
-    requires array { first ≢ 97 }
+    requires hop { first ≢ 104 }
+    requires row { first ≢ 114 }
     ensures { IfOk result (λ said. MatchOption said (IsNoneBy first (tables_of draft.now) line.now) (IsItem (tables_of draft.now) line.now)) }
 {
-    if first == b'l' {
-        return Ok(next_link(draft, line));
-    }
-    if first == b'p' {
-        return Ok(next_port(draft, line));
-    }
-    if first == b'h' {
-        return Ok(next_hop(draft, line));
-    }
-    if first == b'r' {
-        return next_row(alloc, draft, line);
-    }
-    Ok(None)
-}
-
-/// The entry that a line says, if it is of its form after the lines before it.
-pub(crate) fn next_item(alloc: Global, draft: &Draft, line: &[u8]) -> Result<Option<Item>, NoMemory>
-    requires { IsKept draft.now }
-    ensures { IfOk result (λ said. MatchOption said (IsNone (tables_of draft.now) line.now) (IsItem (tables_of draft.now) line.now)) }
-{
-    let Some((first, _)) = line.split_first() else {
-        return Ok(None);
-    };
-    let first = *first;
     if first == b'f' {
         return next_field(alloc, draft, line);
     }
@@ -351,5 +342,5 @@ pub(crate) fn next_item(alloc: Global, draft: &Draft, line: &[u8]) -> Result<Opt
     if first == b'a' {
         return next_array(alloc, draft, line);
     }
-    next_listed(alloc, draft, first, line)
+    Ok(next_listed(draft, first, line))
 }

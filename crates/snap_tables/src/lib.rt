@@ -13,11 +13,16 @@ mod piece;
 mod pieces;
 mod places;
 pub mod print;
+pub mod print_shared;
 mod ranges;
 pub mod read;
 mod reader;
 mod row;
+mod row_parts;
 mod rows;
+mod scan;
+pub mod shared;
+pub mod shared_rows;
 mod taken;
 #[cfg(test)]
 mod tests;

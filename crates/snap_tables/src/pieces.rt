@@ -23,10 +23,7 @@ use std::cmp::Ordering;
 pub(crate) fn begins_with(keyword: &[u8], rest: Option<&[u8]>) -> bool
     ensures { result ≡ opens_with keyword.now (words_left rest.entry) }
 {
-    match next_word(rest) {
-        None => false,
-        Some((word, _)) => word == keyword,
-    }
+    opened(keyword, rest).is_some()
 }
 
 fn is_part_word(word: &[u8]) -> bool

@@ -10,7 +10,7 @@ use snap_core::policy::{Atom, Op, Term, Test, Update};
 use snap_core::ports::PortAt;
 use snap_rows::tables::{Row, RowAt, Stage, Tables};
 
-fn know_number(number: u64)
+pub(crate) fn know_number(number: u64)
     ensures { number < 2 ^ 64 }
 {}
 
@@ -101,7 +101,7 @@ fn know_ways(test: &Test, yes: u64, no: u64)
     know_test(test);
 }
 
-fn know_row(row: &Row)
+pub(crate) fn know_row(row: &Row)
     ensures { RowInRange row.now }
 {
     match row {
@@ -129,7 +129,7 @@ fn know_rows(rows: &[RowAt])
     }
 }
 
-fn know_ports(ports: &[PortAt])
+pub(crate) fn know_ports(ports: &[PortAt])
     ensures { All (λ (p : PortAt). p.port < 2 ^ 32) ports.now }
 {
     for port in ports {

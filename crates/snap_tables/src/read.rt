@@ -1,26 +1,19 @@
 //! The text of tables, read.
 
 ghost use Rattle.std.specs.Prelude.{◌≡◌, ◌≢◌, ◌⊎◌, ◌+◌, ◌^◌, ◌<◌, ◌≤◌, [], Err, ℕ, IfOk, IfErr, MatchOption, MatchResult};
-ghost use Rattle.std.specs.Str.{bytes_eq};
-ghost use Rattle.snap_tables.specs.Drafts.{IsFirstSplit, IsKept, IsLineFault, IsNoFirst, IsPutLine, IsReadTo, first_body, is_last, tables_of};
+ghost use Rattle.snap_tables.specs.Drafts.{IsFirstSplit, IsKept, IsLed, IsLineFault, IsNoFirst, IsPutLine, IsReadTo, first_body, is_last, tables_of};
 ghost use Rattle.snap_tables.specs.Lines.{IsRead};
 ghost use Rattle.snap_tables.specs.declared.fault.TablesFault.TheVariants as fault;
 
 use crate::draft::Draft;
-use crate::entries::next_item;
+use crate::entries::{next_hop, next_item, next_row};
 use crate::fault::TablesFault;
 use crate::places::{Places, line_of};
-use snap_core::parts::split_at_first;
+use crate::scan::{is_text, split_line};
 use snap_rows::calls::valid;
 use snap_rows::tables::Refused;
 use snap_rows::valid::Valid;
 use std::alloc::Global;
-
-fn is_text(line: &[u8], text: &[u8]) -> bool
-    ensures { result ≡ bytes_eq line.now text.now }
-{
-    line == text
-}
 
 // The version that the first line says.
 fn version_of(line: &[u8]) -> Option<u8>
@@ -39,7 +32,7 @@ fn version_of(line: &[u8]) -> Option<u8>
 fn first_said(text: &[u8]) -> Option<(u8, &[u8])>
     ensures { MatchOption result (IsNoFirst text.now) (λ pair. IsFirstSplit text.now pair.0 pair.1.now) }
 {
-    match split_at_first(text, b'\n') {
+    match split_line(text) {
         None => None,
         Some((line, behind)) => match version_of(line) {
             None => None,
@@ -48,18 +41,71 @@ fn first_said(text: &[u8]) -> Option<(u8, &[u8])>
     }
 }
 
-// Takes a line: puts the entry that it says.
-fn take_line(alloc: Global, draft: &mut Draft, number: u64, line: &[u8]) -> Result<(), TablesFault>
+// Takes the line of a next hop.
+fn take_hop(draft: &mut Draft, number: u64, line: &[u8]) -> Result<(), TablesFault>
     requires kept { IsKept draft.old }
+    requires first { IsLed 104 line.now }
     ensures { MatchResult result (λ _. IsPutLine draft.old line.now draft.new) (IsLineFault draft.old number line.now) }
 {
-    let Some(item) = next_item(alloc, draft, line)? else {
+    let Some(hop) = next_hop(draft, line) else {
+        return Err(TablesFault::Line { line: number });
+    };
+    draft.put_hop(hop)?;
+    Ok(())
+}
+
+// Takes the line of a row.
+fn take_row(alloc: Global, draft: &mut Draft, number: u64, line: &[u8]) -> Result<(), TablesFault>
+    requires kept { IsKept draft.old }
+    requires first { IsLed 114 line.now }
+    ensures { MatchResult result (λ _. IsPutLine draft.old line.now draft.new) (IsLineFault draft.old number line.now) }
+{
+    let Some(row) = next_row(alloc, draft, line)? else {
+        return Err(TablesFault::Line { line: number });
+    };
+    draft.put_row(row)?;
+    Ok(())
+}
+
+// Takes a line with this first byte that says none of these.
+fn take_other(
+    alloc: Global,
+    draft: &mut Draft,
+    number: u64,
+    first: u8,
+    line: &[u8],
+) -> Result<(), TablesFault>
+    requires kept { IsKept draft.old }
+    requires hop { first ≢ 104 }
+    requires row { first ≢ 114 }
+    requires first { IsLed first line.now }
+    ensures { MatchResult result (λ _. IsPutLine draft.old line.now draft.new) (IsLineFault draft.old number line.now) }
+{
+    let Some(item) = next_item(alloc, draft, first, line)? else {
         return Err(TablesFault::Line { line: number });
     };
     match draft.put(alloc, item)? {
         None => Ok(()),
         Some((which, count)) => Err(TablesFault::Limit { which, count }),
     }
+}
+
+// Takes a line: puts the entry that it says.
+fn take_line(alloc: Global, draft: &mut Draft, number: u64, line: &[u8]) -> Result<(), TablesFault>
+    requires kept { IsKept draft.old }
+    ensures { MatchResult result (λ _. IsPutLine draft.old line.now draft.new) (IsLineFault draft.old number line.now) }
+{
+    let Some((first, _)) = line.split_first() else {
+        return Err(TablesFault::Line { line: number });
+    };
+    let first = *first;
+    if first == b'h' {
+        return take_hop(draft, number, line);
+    }
+    if first == b'r' {
+        return take_row(alloc, draft, number, line);
+    }
+    take_other(alloc, draft, number, first, line)
 }
 
 // Whether a line is the last one, where it may come.
@@ -93,7 +139,7 @@ fn read_lines(alloc: Global, text: &[u8]) -> Result<Draft, TablesFault>
     let mut draft = Draft::new(alloc, version);
     let mut number = 1;
     let mut rest = first;
-    while let Some((line, behind)) = split_at_first(rest, b'\n') {
+    while let Some((line, behind)) = split_line(rest) {
         if is_last(&draft, line) {
             return ended(draft, number + 2, behind);
         }

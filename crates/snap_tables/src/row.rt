@@ -8,8 +8,9 @@ use crate::leaf::{outs_said, take_ranked, take_stages};
 use crate::piece::Counts;
 use crate::pieces::begins_with;
 use crate::reader::next_word;
-use crate::rows::{take_equal, take_state, take_u64, take_value};
-use crate::taken::{no_words, opened, take_below};
+use crate::rows::{take_equal, take_state, take_value};
+use crate::scan::is_text;
+use crate::taken::{no_words, opened, take_below, take_u64};
 use snap_core::NoMemory;
 use snap_core::policy::Test;
 use snap_rows::tables::{ArrayAt, Row};
@@ -26,11 +27,11 @@ fn take_test<'a>(
     let Some((word, behind)) = next_word(rest) else {
         return Ok(None);
     };
-    if word == b"value".as_slice() {
+    if is_text(word, b"value") {
         Ok(take_value(counts.comps, behind))
-    } else if word == b"equal".as_slice() {
+    } else if is_text(word, b"equal") {
         Ok(take_equal(counts.comps, behind))
-    } else if word == b"state".as_slice() {
+    } else if is_text(word, b"state") {
         take_state(alloc, counts.comps, counts.arrays, behind)
     } else {
         Ok(None)

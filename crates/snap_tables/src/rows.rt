@@ -3,8 +3,9 @@
 ghost use Rattle.std.specs.Prelude.{◌≡◌, ◌-◌, ◌^◌, Some, None, IfOk, MatchOption};
 ghost use Rattle.snap_tables.specs.Reading.{begins_update, atom_said, below_said, by_taken, equal_taken, index_said, number_said, op_said, state_taken, taken, term_said, u64_said, update_taken, value_taken, words_left};
 
-use crate::reader::{atom_said, index_said, next_word, term_said, u64_said};
-use crate::taken::take_below;
+use crate::reader::{atom_said, index_said, next_word, term_said};
+use crate::scan::is_text;
+use crate::taken::{take_below, take_u64};
 use snap_core::NoMemory;
 use snap_core::lists::Atoms;
 use snap_core::policy::{Atom, Op, Term, Test, Update};
@@ -13,9 +14,9 @@ use std::alloc::Global;
 fn op_said(word: &[u8]) -> Option<bool>
     ensures { result ≡ op_said word.now }
 {
-    if word == b"put".as_slice() {
+    if is_text(word, b"put") {
         Some(true)
-    } else if word == b"add".as_slice() {
+    } else if is_text(word, b"add") {
         Some(false)
     } else {
         None
@@ -29,17 +30,6 @@ fn take_op<'a>(rest: Option<&'a [u8]>) -> Option<(bool, Option<&'a [u8]>)>
     match op_said(word) {
         None => None,
         Some(is_put) => Some((is_put, behind)),
-    }
-}
-
-/// A number of 64 bits.
-pub(crate) fn take_u64<'a>(rest: Option<&'a [u8]>) -> Option<(u64, Option<&'a [u8]>)>
-    ensures { MatchOption result (taken u64_said (words_left rest.entry) ≡ None) (λ pair. taken u64_said (words_left rest.entry) ≡ Some (pair.0, words_left pair.1)) }
-{
-    let (word, behind) = next_word(rest)?;
-    match u64_said(word) {
-        None => None,
-        Some(number) => Some((number, behind)),
     }
 }
 

@@ -1,15 +1,16 @@
-use crate::fault::TablesFault;
-use crate::print::{print, print_tables};
+use crate::fault::{PrintFault, TablesFault};
+use crate::print::{print, print_rows, print_tables};
 use crate::read::read;
+use crate::row_parts::RowParts;
+use crate::shared::{RowShare, Share};
 use snap_core::NoMemory;
 use snap_core::lists::{Atoms, Name, Names, Out};
-use snap_core::parts::split_at_first;
 use snap_core::policy::{Atom, Op, Term, Test, Update};
 use snap_core::ports::{Links, PortAt, Ports};
 use snap_core::program::Fields;
 use snap_io::MemorySink;
 use snap_rows::lists::{ArraysAt, Hops, Outs, Rows, Stages, Updates};
-use snap_rows::tables::{ArrayAt, Hop, Row, RowAt, Rule, Stage, Tables};
+use snap_rows::tables::{ArrayAt, Hop, Row, RowAt, Stage, Tables};
 use snap_rows::valid::lone;
 use std::alloc::Global;
 use std::test::Fail;
@@ -131,9 +132,69 @@ fn first_come_is_printed(rt: HostRuntime) -> Result<(), Fail> {
     Ok(())
 }
 
+#[test]
+fn a_refused_write_leaves_the_bytes_before_it(rt: HostRuntime) -> Result<(), Fail> {
+    let alloc = rt.alloc();
+    let tables = first_come(alloc)?;
+    let mut sink = MemorySink::new(alloc, 4096, 1, vec![in alloc; 10u64]?)?;
+    assert!(rt;
+        matches!(
+            print_tables(alloc, &tables, &mut sink),
+            Err(PrintFault::Write)
+        )
+    );
+    assert!(rt; sink.bytes() == b"snap-table".as_slice());
+    Ok(())
+}
+
 // Two arrays at two switches, in version 2.
 const TWO_OWNERS: &[u8] =
     b"snap-tables 2\nfield inport\nfield outport\nswitch a\nswitch b\narray s 0 0\narray t 1 1\nlink 0 1\nport 1 0\nport 2 1\nhop 0 1 1\nhop 1 0 0\nrow 0 0 state 0 [#0] #0 1 2\nrow 0 1 state 1 [#0] #0 3 4\nrow 0 2 state 1 [#0] #0 5 6\nrow 0 3 leaf add 0 [#0] 1 out c1=#1\nrow 0 4 leaf add 0 [#0] 1 out c1=#2\nrow 0 5 leaf out c1=#1\nrow 0 6 leaf out c1=#2\nrow 1 0 stop\nrow 1 1 state 1 [#0] #0 3 4\nrow 1 2 state 1 [#0] #0 5 6\nrow 1 3 leaf add 0 [#0] 1 out c1=#1\nrow 1 4 leaf add 0 [#0] 1 out c1=#2\nrow 1 5 leaf out c1=#1\nrow 1 6 leaf out c1=#2\nend\n";
+
+fn last(ups: Updates, outs: Outs) -> Row {
+    Row::Last { ups, outs }
+}
+
+// Its frame, and the bodies of its numbers.
+fn two_owners(alloc: Global) -> Result<(Tables, Vec<Row>), NoMemory> {
+    let mut arrays = Vec::new(alloc);
+    for at in 0u16..2 {
+        arrays.push(ArrayAt {
+            name: name(alloc, if at == 0 { "s" } else { "t" })?,
+            at,
+            rank: at,
+        })?;
+    }
+    let mut bodies = Vec::new(alloc);
+    bodies.push(state(alloc, 0, 1, 2)?)?;
+    bodies.push(state(alloc, 1, 3, 4)?)?;
+    bodies.push(state(alloc, 1, 5, 6)?)?;
+    bodies.push(last(ups(alloc, 0, Op::Add(1))?, outs(alloc, 1)?))?;
+    bodies.push(last(ups(alloc, 0, Op::Add(1))?, outs(alloc, 2)?))?;
+    bodies.push(last(Updates::new(Vec::new(alloc)), outs(alloc, 1)?))?;
+    bodies.push(last(Updates::new(Vec::new(alloc)), outs(alloc, 2)?))?;
+    let frame = two_switches(alloc, 2, arrays, 1, Vec::new(alloc))?;
+    Ok((frame, bodies))
+}
+
+#[test]
+fn rows_that_share_bodies_are_printed(rt: HostRuntime) -> Result<(), Fail> {
+    let alloc = rt.alloc();
+    let (frame, bodies) = two_owners(alloc)?;
+    let mut shares = Vec::new(alloc);
+    for at in 0u16..2 {
+        for number in 0u64..7 {
+            let stops = at == 1 && number == 0;
+            let share = if stops { Share::Stop } else { Share::Body };
+            shares.push(RowShare { at, number, share })?;
+        }
+    }
+    let parts = RowParts::of(alloc, 2, &bodies)?;
+    let mut sink = MemorySink::new(alloc, 4096, 100, Vec::new(alloc))?;
+    assert!(rt; print_rows(alloc, &frame, &parts, &shares, &mut sink).is_ok());
+    assert!(rt; sink.bytes() == TWO_OWNERS);
+    Ok(())
+}
 
 // The same in version 1.
 const TWO_OWNERS_1: &[u8] =
@@ -199,111 +260,5 @@ fn beginnings_are_refused(rt: HostRuntime) -> Result<(), Fail> {
         let text = &FIRST_COME[..length];
         assert_eq!(rt; bad_line(alloc, text), last_line(text));
     }
-    Ok(())
-}
-
-#[test]
-fn lines_are_refused(rt: HostRuntime) -> Result<(), Fail> {
-    let alloc = rt.alloc();
-    assert_eq!(rt; bad_line(alloc, b"snap-tables 3\n"), 1);
-    assert_eq!(rt;
-        bad_line(alloc, b"snap-tables 1\nfield inport\nfield f\n"),
-        3
-    );
-    assert_eq!(rt;
-        bad_line(
-            alloc,
-            b"snap-tables 1\nfield inport\nfield outport\nswitch  a\n"
-        ),
-        4
-    );
-    assert_eq!(rt;
-        bad_line(
-            alloc,
-            b"snap-tables 1\nfield inport\nfield outport\nswitch a\nend"
-        ),
-        5
-    );
-    assert_eq!(rt;
-        bad_line(
-            alloc,
-            b"snap-tables 1\nfield inport\nfield outport\nswitch a\nswitch a\n"
-        ),
-        5
-    );
-    assert_eq!(rt;
-        bad_line(
-            alloc,
-            b"snap-tables 1\nfield inport\nfield outport\nswitch a\nport 1 0\nlink 0 0\n"
-        ),
-        6
-    );
-    assert_eq!(rt;
-        bad_line(
-            alloc,
-            b"snap-tables 1\nfield inport\nfield outport\nswitch a\nend\nend\n"
-        ),
-        6
-    );
-    assert_eq!(rt;
-        bad_line(
-            alloc,
-            b"snap-tables 1\nfield inport\nfield outport\nswitch a\nrow 0 0 leaf out c1=#00\n"
-        ),
-        5
-    );
-    assert_eq!(rt;
-        bad_line(
-            alloc,
-            b"snap-tables 1\nfield inport\nfield outport\nswitch a\nrow 0 0 leaf out c1=c1\n"
-        ),
-        5
-    );
-    assert_eq!(rt;
-        bad_line(
-            alloc,
-            b"snap-tables 1\nfield inport\nfield outport\nswitch a\nrow 0 0 leaf out c1=#2 out c1=#1\n"
-        ),
-        5
-    );
-    Ok(())
-}
-
-// First come with one line in place of another, or of nothing where it is empty.
-fn with_line(alloc: Global, number: u64, line: &[u8]) -> Result<Vec<u8>, NoMemory> {
-    let mut text = Vec::new(alloc);
-    let mut rest = FIRST_COME;
-    let mut at = 1u64;
-    while let Some((old, behind)) = split_at_first(rest, b'\n') {
-        text.extend_from_slice(if at == number { line } else { old })?;
-        if at != number || !line.is_empty() {
-            text.push(b'\n')?;
-        }
-        at = at.wrapping_add(1);
-        rest = behind;
-    }
-    Ok(text)
-}
-
-// The rule that first come breaks with one line in place of another, and the line that is told.
-fn broken(alloc: Global, number: u64, line: &[u8]) -> Result<Option<(Rule, u64)>, NoMemory> {
-    let text = with_line(alloc, number, line)?;
-    match read(alloc, &text) {
-        Err(TablesFault::Broken { rule, line }) => Ok(Some((rule, line))),
-        _ => Ok(None),
-    }
-}
-
-#[test]
-fn broken_rules_are_told(rt: HostRuntime) -> Result<(), Fail> {
-    let alloc = rt.alloc();
-    assert!(rt; broken(alloc, 10, b"hop 0 1 0")? == Some((Rule::Link, 10)));
-    assert!(rt; broken(alloc, 12, b"row 0 0 go 0")? == Some((Rule::Kind, 12)));
-    assert!(rt; broken(alloc, 6, b"array s 0")? == Some((Rule::Owner, 13)));
-    assert!(rt; broken(alloc, 13, b"row 1 0 state 0 [#0] #0 0 2")? == Some((Rule::Rise, 13)));
-    assert!(rt; broken(alloc, 12, b"")? == Some((Rule::Missing, 8)));
-    assert!(rt;
-        broken(alloc, 15, b"row 1 2 leaf out c1=#2\nrow 1 3 leaf out")? == Some((Rule::Spare, 16))
-    );
     Ok(())
 }

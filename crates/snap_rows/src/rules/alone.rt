@@ -128,7 +128,8 @@ pub(crate) fn is_lone_one(alloc: Global, tables: &Tables) -> Result<bool, NoMemo
     requires version { tables.now.version ≡ 1 }
     ensures { IfOk result (λ lone. IsTrue lone ↔ IsLone tables.now) }
 {
-    let mut rest = nodes(alloc, tables)?;
+    let nodes = nodes(alloc, tables, 0)?;
+    let mut rest = nodes.into_map();
     let mut known = BTreeMap::new(alloc);
     while let Some((number, at)) = rest.pop_last() {
         let node = &tables.rows.items()[at].row;

@@ -11,6 +11,7 @@ ghost use Rattle.snap_rows.specs.Leads.{IsNumberAfter};
 ghost use Rattle.snap_rows.specs.Rules.{IsFirstSpot};
 ghost use Rattle.snap_rows.specs.Ways.{Reached};
 
+use crate::guesses::Guesses;
 use crate::look::row_place;
 use crate::rules::leads::led_over;
 use crate::rules::loops::unmarked;
@@ -27,7 +28,13 @@ struct Search {
 
 impl Search {
     // Marks the row of a switch and number.
-    fn mark(&mut self, tables: &Tables, at: u16, number: u64) -> Result<(), NoMemory>
+    fn mark(
+        &mut self,
+        tables: &Tables,
+        guesses: &Guesses,
+        at: u16,
+        number: u64,
+    ) -> Result<(), NoMemory>
         requires form { IsInForm tables.now }
         requires long { length self.old.marks.items ≡ length tables.now.rows }
         requires row { IsSome (row_at tables.now at number) }
@@ -35,7 +42,8 @@ impl Search {
         ensures grows { OnOk result (Grows tables.now self.old.marks.items self.old.left.items self.new.marks.items self.new.left.items) }
         ensures marked { OnOk result (IsMarked tables.now self.new.marks.items at number) }
     {
-        match row_place(tables.rows.items(), at, number) {
+        let guess = guesses.place(at, number);
+        match row_place(tables.rows.items(), guess, at, number) {
             Some(place) => self.mark_place(tables, place),
             None => unreachable!(),
         }
@@ -56,7 +64,14 @@ impl Search {
         Ok(())
     }
 
-    fn mark_both(&mut self, tables: &Tables, at: u16, yes: u64, no: u64) -> Result<(), NoMemory>
+    fn mark_both(
+        &mut self,
+        tables: &Tables,
+        guesses: &Guesses,
+        at: u16,
+        yes: u64,
+        no: u64,
+    ) -> Result<(), NoMemory>
         requires form { IsInForm tables.now }
         requires long { length self.old.marks.items ≡ length tables.now.rows }
         requires rows { (k : ℕ) → (k ≡ yes) ⊎ (k ≡ no) → IsSome (row_at tables.now at k) }
@@ -64,12 +79,18 @@ impl Search {
         ensures grows { OnOk result (Grows tables.now self.old.marks.items self.old.left.items self.new.marks.items self.new.left.items) }
         ensures marked { OnOk result ((k : ℕ) → (k ≡ yes) ⊎ (k ≡ no) → IsMarked tables.now self.new.marks.items at k) }
     {
-        self.mark(tables, at, yes)?;
-        self.mark(tables, at, no)
+        self.mark(tables, guesses, at, yes)?;
+        self.mark(tables, guesses, at, no)
     }
 
     // Marks the rows of the numbers to which a test row leads.
-    fn mark_numbers(&mut self, tables: &Tables, at: u16, row: &Row) -> Result<(), NoMemory>
+    fn mark_numbers(
+        &mut self,
+        tables: &Tables,
+        guesses: &Guesses,
+        at: u16,
+        row: &Row,
+    ) -> Result<(), NoMemory>
         requires form { IsInForm tables.now }
         requires long { length self.old.marks.items ≡ length tables.now.rows }
         requires rows { (k : ℕ) → IsNumberAfter row.now k → IsSome (row_at tables.now at k) }
@@ -78,8 +99,8 @@ impl Search {
         ensures marked { OnOk result ((k : ℕ) → IsNumberAfter row.now k → IsMarked tables.now self.new.marks.items at k) }
     {
         match row {
-            Row::Field { yes, no, .. } => self.mark_both(tables, at, *yes, *no),
-            Row::State { yes, no, .. } => self.mark_both(tables, at, *yes, *no),
+            Row::Field { yes, no, .. } => self.mark_both(tables, guesses, at, *yes, *no),
+            Row::State { yes, no, .. } => self.mark_both(tables, guesses, at, *yes, *no),
             Row::Go { .. } => Ok(()),
             Row::Leaf { .. } => Ok(()),
             Row::Stop => Ok(()),
@@ -88,7 +109,13 @@ impl Search {
     }
 
     // Marks the rows of a number at switches.
-    fn mark_all(&mut self, tables: &Tables, switches: &[u16], number: u64) -> Result<(), NoMemory>
+    fn mark_all(
+        &mut self,
+        tables: &Tables,
+        guesses: &Guesses,
+        switches: &[u16],
+        number: u64,
+    ) -> Result<(), NoMemory>
         requires form { IsInForm tables.now }
         requires long { length self.old.marks.items ≡ length tables.now.rows }
         requires rows { All (λ x. IsSome (row_at tables.now x number)) switches.now }
@@ -97,13 +124,19 @@ impl Search {
         ensures marked { OnOk result (All (λ x. IsMarked tables.now self.new.marks.items x number) switches.now) }
     {
         for at in switches {
-            self.mark(tables, *at, number)?;
+            self.mark(tables, guesses, *at, number)?;
         }
         Ok(())
     }
 
-    // Marks the rows to which the row at a place leads.
-    fn follow(&mut self, alloc: Global, tables: &Tables, entry: &RowAt) -> Result<(), NoMemory>
+    // Marks the rows to which the row at a place leads. The list is room for the switches that it leads over.
+    fn follow(
+        &mut self,
+        tables: &Tables,
+        guesses: &Guesses,
+        entry: &RowAt,
+        over: &mut Vec<u16>,
+    ) -> Result<(), NoMemory>
         requires form { IsInForm tables.now }
         requires loops { IsFirstSpot tables.now Rule.Loop None }
         requires missing { IsFirstSpot tables.now Rule.Missing None }
@@ -113,14 +146,14 @@ impl Search {
         ensures grows { OnOk result (Grows tables.now self.old.marks.items self.old.left.items self.new.marks.items self.new.left.items) }
         ensures marked { OnOk result (AreLeadsMarked tables.now self.new.marks.items entry.now) }
     {
-        self.mark_numbers(tables, entry.at, &entry.row)?;
-        let over = led_over(alloc, tables, entry.at, &entry.row)?;
-        self.mark_all(tables, &over, entry.number)
+        self.mark_numbers(tables, guesses, entry.at, &entry.row)?;
+        led_over(tables, entry.at, &entry.row, over)?;
+        self.mark_all(tables, guesses, over, entry.number)
     }
 }
 
 // The search that has come to the ports.
-fn from_ports(alloc: Global, tables: &Tables) -> Result<Search, NoMemory>
+fn from_ports(alloc: Global, tables: &Tables, guesses: &Guesses) -> Result<Search, NoMemory>
     requires form { IsInForm tables.now }
     requires missing { IsFirstSpot tables.now Rule.Missing None }
     ensures long { IfOk result (λ search. length search.marks.items ≡ length tables.now.rows) }
@@ -132,22 +165,27 @@ fn from_ports(alloc: Global, tables: &Tables) -> Result<Search, NoMemory>
         left: Vec::new(alloc),
     };
     for port in tables.ports.items() {
-        search.mark(tables, port.at, 0)?;
+        search.mark(tables, guesses, port.at, 0)?;
     }
     Ok(search)
 }
 
 /// Marks, by place, exactly the rows that are reached from the ports.
-pub(crate) fn reached_rows(alloc: Global, tables: &Tables) -> Result<Vec<bool>, NoMemory>
+pub(crate) fn reached_rows(
+    alloc: Global,
+    tables: &Tables,
+    guesses: &Guesses,
+) -> Result<Vec<bool>, NoMemory>
     requires form { IsInForm tables.now }
     requires loops { IsFirstSpot tables.now Rule.Loop None }
     requires missing { IsFirstSpot tables.now Rule.Missing None }
     ensures long { IfOk result (λ marks. length marks.items ≡ length tables.now.rows) }
     ensures marked { IfOk result (λ marks. AreMarked tables.now marks.items) }
 {
-    let mut search = from_ports(alloc, tables)?;
+    let mut search = from_ports(alloc, tables, guesses)?;
+    let mut over = Vec::new(alloc);
     while let Some(place) = search.left.pop() {
-        search.follow(alloc, tables, &tables.rows.items()[place])?;
+        search.follow(tables, guesses, &tables.rows.items()[place], &mut over)?;
     }
     Ok(search.marks)
 }

@@ -1,6 +1,6 @@
 //! Where rows lead: to numbers at their own switch, and to other switches with their own number.
 
-ghost use Rattle.std.specs.Prelude.{◌≡◌, ◌⊎◌, ◌↔◌, ◌++◌, ◌<◌, ℕ, suc, List, [], None, Some, IfOk, OnOk, IsSome, IsTrue, Contains, map};
+ghost use Rattle.std.specs.Prelude.{◌≡◌, ◌⊎◌, ◌↔◌, ◌++◌, ◌<◌, ℕ, suc, List, [], ◌∷◌, None, Some, OnOk, IsSome, IsTrue, Contains, map};
 ghost use Rattle.std.specs.List.{All};
 ghost use Rattle.snap_rows.specs.declared.tables.Rule.{Rule};
 ghost use Rattle.snap_rows.specs.declared.tables.Stage.{Stage};
@@ -10,35 +10,36 @@ ghost use Rattle.snap_rows.specs.Leads.{IsNumberAfter, AreLedOver};
 ghost use Rattle.snap_rows.specs.Rules.{IsFirstSpot};
 ghost use Rattle.snap_rows.specs.Ways.{Way, Route, OwnsBelow};
 
+use crate::guesses::Guesses;
 use crate::look::{next, rank_at, rank_of_test, ranks, row};
 use crate::tables::{Row, Stage, Tables};
 use snap_core::NoMemory;
 use snap_core::policy::Test;
-use std::alloc::Global;
 
 /// Whether a switch has a row of a number.
-pub(crate) fn has_row(tables: &Tables, at: u16, number: u64) -> bool
+pub(crate) fn has_row(tables: &Tables, guesses: &Guesses, at: u16, number: u64) -> bool
     requires { IsInForm tables.now }
     ensures { IsTrue result ↔ IsSome (row_at tables.now at number) }
 {
-    row(tables.rows.items(), at, number).is_some()
+    let guess = guesses.place(at, number);
+    row(tables.rows.items(), guess, at, number).is_some()
 }
 
-fn has_both(tables: &Tables, at: u16, yes: u64, no: u64) -> bool
+fn has_both(tables: &Tables, guesses: &Guesses, at: u16, yes: u64, no: u64) -> bool
     requires { IsInForm tables.now }
     ensures { IsTrue result ↔ ((k : ℕ) → (k ≡ yes) ⊎ (k ≡ no) → IsSome (row_at tables.now at k)) }
 {
-    has_row(tables, at, yes) && has_row(tables, at, no)
+    has_row(tables, guesses, at, yes) && has_row(tables, guesses, at, no)
 }
 
 /// Whether the numbers to which a test row leads have rows at its switch.
-pub(crate) fn numbers_have_rows(tables: &Tables, at: u16, row: &Row) -> bool
+pub(crate) fn numbers_have_rows(tables: &Tables, guesses: &Guesses, at: u16, row: &Row) -> bool
     requires { IsInForm tables.now }
     ensures { IsTrue result ↔ ((k : ℕ) → IsNumberAfter row.now k → IsSome (row_at tables.now at k)) }
 {
     match row {
-        Row::Field { yes, no, .. } => has_both(tables, at, *yes, *no),
-        Row::State { yes, no, .. } => has_both(tables, at, *yes, *no),
+        Row::Field { yes, no, .. } => has_both(tables, guesses, at, *yes, *no),
+        Row::State { yes, no, .. } => has_both(tables, guesses, at, *yes, *no),
         Row::Go { .. } => true,
         Row::Leaf { .. } => true,
         Row::Stop => true,
@@ -56,26 +57,28 @@ fn add_owner(tables: &Tables, rank: u16, owners: &mut Vec<u16>) -> Result<(), No
     Ok(())
 }
 
-// The owners of the ranks below one.
-fn owners(alloc: Global, tables: &Tables, below: u16) -> Result<Vec<u16>, NoMemory>
-    ensures { IfOk result (λ xs. (x : ℕ) → OwnsBelow tables.now below x ↔ Contains xs.items x) }
+// The owners of the ranks below one, in place of what the list held.
+fn owners(tables: &Tables, below: u16, owners: &mut Vec<u16>) -> Result<(), NoMemory>
+    ensures { OnOk result ((x : ℕ) → OwnsBelow tables.now below x ↔ Contains owners.new.items x) }
 {
-    let mut owners = Vec::new(alloc);
+    owners.clear();
     for rank in 0..below {
-        add_owner(tables, rank, &mut owners)?;
+        add_owner(tables, rank, owners)?;
     }
-    Ok(owners)
+    Ok(())
 }
 
-// The owners of the ranks up to that of a state test; none in version 1.
-fn owners_up_to(alloc: Global, tables: &Tables, test: &Test) -> Result<Vec<u16>, NoMemory>
+// The owners of the ranks up to that of a state test, in place of what the list held; none in version 1.
+fn owners_up_to(tables: &Tables, test: &Test, over: &mut Vec<u16>) -> Result<(), NoMemory>
     requires { IsInForm tables.now }
-    ensures { IfOk result (λ xs. (x : ℕ) → ((tables.now.version ≡ 2) × OwnsBelow tables.now (suc (rank_of tables.now (var_of test.now))) x) ↔ Contains xs.items x) }
+    ensures { OnOk result ((x : ℕ) → ((tables.now.version ≡ 2) × OwnsBelow tables.now (suc (rank_of tables.now (var_of test.now))) x) ↔ Contains over.new.items x) }
 {
     if tables.version != 2 {
-        return Ok(Vec::new(alloc));
+        over.clear();
+        return Ok(());
     }
-    owners(alloc, tables, rank_of_test(tables, test) + 1)
+    owners(tables, rank_of_test(tables, test) + 1, over)?;
+    Ok(())
 }
 
 // Puts the switches after one on the way to a target at the end.
@@ -91,48 +94,61 @@ fn add_way(tables: &Tables, from: u16, target: u16, way: &mut Vec<u16>) -> Resul
         if here == target {
             return Ok(());
         }
-        here = next(tables.hops.items(), here, target);
+        here = next(tables, here, target);
         way.push(here)?;
     }
     unreachable!()
 }
 
-// The switches after one on the way to the switches of stages, one after another.
-fn route(alloc: Global, tables: &Tables, at: u16, stages: &[Stage]) -> Result<Vec<u16>, NoMemory>
+// The switches after one on the way to the switches of stages, one after another, in place of what the list held.
+fn route(tables: &Tables, at: u16, stages: &[Stage], way: &mut Vec<u16>) -> Result<(), NoMemory>
     requires form { IsInForm tables.now }
     requires loops { IsFirstSpot tables.now Rule.Loop None }
     requires at { at < switch_count tables.now }
     requires stages { All (IsTurnInForm tables.now) stages.now }
-    ensures { IfOk result (λ ws. Route tables.now at (map (λ (s : Stage). s.at) stages.now) ws.items) }
+    ensures { OnOk result (Route tables.now at (map (λ (s : Stage). s.at) stages.now) way.new.items) }
 {
-    let mut way = Vec::new(alloc);
+    way.clear();
     let mut here = at;
     for stage in stages {
-        add_way(tables, here, stage.at, &mut way)?;
+        add_way(tables, here, stage.at, way)?;
         here = stage.at;
     }
-    Ok(way)
+    Ok(())
 }
 
-/// The switches to which a row leads with its own number.
+// One switch alone, in place of what the list held.
+fn one_over(at: u16, over: &mut Vec<u16>) -> Result<(), NoMemory>
+    ensures { OnOk result (over.new.items ≡ at ∷ []) }
+{
+    over.clear();
+    over.push(at)?;
+    Ok(())
+}
+
+/// The switches to which a row leads with its own number, in place of what the list held: where it has room for them,
+/// this takes no memory.
 pub(crate) fn led_over(
-    alloc: Global,
     tables: &Tables,
     at: u16,
     row: &Row,
-) -> Result<Vec<u16>, NoMemory>
+    over: &mut Vec<u16>,
+) -> Result<(), NoMemory>
     requires form { IsInForm tables.now }
     requires loops { IsFirstSpot tables.now Rule.Loop None }
     requires at { at < switch_count tables.now }
     requires row { IsRowInForm tables.now row.now }
-    ensures { IfOk result (λ xs. AreLedOver tables.now at row.now xs.items) }
+    ensures { OnOk result (AreLedOver tables.now at row.now over.new.items) }
 {
     match row {
-        Row::Field { .. } => Ok(Vec::new(alloc)),
-        Row::State { test, .. } => owners_up_to(alloc, tables, test),
-        Row::Go { to } => Ok(vec![in alloc; next(tables.hops.items(), at, *to)]?),
-        Row::Leaf { stages, .. } => route(alloc, tables, at, stages.items()),
-        Row::Stop => owners(alloc, tables, 1),
-        Row::Last { .. } => owners(alloc, tables, ranks(tables.arrays.items())),
+        Row::Field { .. } => {
+            over.clear();
+            Ok(())
+        }
+        Row::State { test, .. } => owners_up_to(tables, test, over),
+        Row::Go { to } => one_over(next(tables, at, *to), over),
+        Row::Leaf { stages, .. } => route(tables, at, stages.items(), over),
+        Row::Stop => owners(tables, 1, over),
+        Row::Last { .. } => owners(tables, ranks(tables.arrays.items()), over),
     }
 }

@@ -9,42 +9,50 @@ ghost use Rattle.snap_rows.specs.Form.{IsInForm, IsRowInForm, switch_count};
 ghost use Rattle.snap_rows.specs.Leads.{HaveRows};
 ghost use Rattle.snap_rows.specs.Rules.{Keeps, IsFirstSpot};
 
+use crate::guesses::Guesses;
 use crate::rules::leads::{has_row, led_over, numbers_have_rows};
 use crate::tables::{RowAt, Spot, Tables};
 use snap_core::NoMemory;
 use std::alloc::Global;
 
 // Whether a number has a row at each of these switches.
-fn all_have_rows(tables: &Tables, switches: &[u16], number: u64) -> bool
+fn all_have_rows(tables: &Tables, guesses: &Guesses, switches: &[u16], number: u64) -> bool
     requires { IsInForm tables.now }
     ensures { IsTrue result ↔ All (λ x. IsSome (row_at tables.now x number)) switches.now }
 {
-    switches.iter().all(|at| has_row(tables, *at, number))
+    switches
+        .iter()
+        .all(|at| has_row(tables, guesses, *at, number))
 }
 
-// Whether each pair to which a row leads has a row.
-fn leads_have_rows(alloc: Global, tables: &Tables, entry: &RowAt) -> Result<bool, NoMemory>
+// Whether each pair to which a row leads has a row. The list is room for the switches that it leads over.
+fn leads_have_rows(
+    tables: &Tables,
+    guesses: &Guesses,
+    entry: &RowAt,
+    over: &mut Vec<u16>,
+) -> Result<bool, NoMemory>
     requires form { IsInForm tables.now }
     requires loops { IsFirstSpot tables.now Rule.Loop None }
     requires at { entry.now.at < switch_count tables.now }
     requires row { IsRowInForm tables.now entry.now.row }
     ensures { IfOk result (λ all. IsTrue all ↔ HaveRows tables.now entry.now.at entry.now.number entry.now.row) }
 {
-    if !numbers_have_rows(tables, entry.at, &entry.row) {
+    if !numbers_have_rows(tables, guesses, entry.at, &entry.row) {
         return Ok(false);
     }
-    let over = led_over(alloc, tables, entry.at, &entry.row)?;
-    Ok(all_have_rows(tables, &over, entry.number))
+    led_over(tables, entry.at, &entry.row, over)?;
+    Ok(all_have_rows(tables, guesses, over, entry.number))
 }
 
 // The first port at whose switch number 0 has no row.
-fn port_spot(tables: &Tables) -> Option<Spot>
+fn port_spot(tables: &Tables, guesses: &Guesses) -> Option<Spot>
     requires { IsInForm tables.now }
     ensures some { IfSome result (λ s. IsFirstSpot tables.now Rule.Missing (Some s)) }
     ensures none { IfNone result ((i : ℕ) → Keeps tables.now Rule.Missing (Spot.Port i)) }
 {
     for (at, port) in tables.ports.items().iter().enumerate() {
-        if !has_row(tables, port.at, 0) {
+        if !has_row(tables, guesses, port.at, 0) {
             return Some(Spot::Port(at as u32));
         }
     }
@@ -52,14 +60,15 @@ fn port_spot(tables: &Tables) -> Option<Spot>
 }
 
 // The first row that leads to a pair without a row, where all ports have theirs.
-fn row_spot(alloc: Global, tables: &Tables) -> Result<Option<Spot>, NoMemory>
+fn row_spot(alloc: Global, tables: &Tables, guesses: &Guesses) -> Result<Option<Spot>, NoMemory>
     requires form { IsInForm tables.now }
     requires loops { IsFirstSpot tables.now Rule.Loop None }
     requires ports { (i : ℕ) → Keeps tables.now Rule.Missing (Spot.Port i) }
     ensures { IfOk result (IsFirstSpot tables.now Rule.Missing) }
 {
+    let mut over = Vec::new(alloc);
     for (at, entry) in tables.rows.items().iter().enumerate() {
-        if !leads_have_rows(alloc, tables, entry)? {
+        if !leads_have_rows(tables, guesses, entry, &mut over)? {
             return Ok(Some(Spot::Row(at as u64)));
         }
     }
@@ -67,13 +76,17 @@ fn row_spot(alloc: Global, tables: &Tables) -> Result<Option<Spot>, NoMemory>
 }
 
 /// The first port or row that leads to a pair without a row. Next hops lead to their targets.
-pub(crate) fn missing_spot(alloc: Global, tables: &Tables) -> Result<Option<Spot>, NoMemory>
+pub(crate) fn missing_spot(
+    alloc: Global,
+    tables: &Tables,
+    guesses: &Guesses,
+) -> Result<Option<Spot>, NoMemory>
     requires form { IsInForm tables.now }
     requires loops { IsFirstSpot tables.now Rule.Loop None }
     ensures { IfOk result (IsFirstSpot tables.now Rule.Missing) }
 {
-    match port_spot(tables) {
+    match port_spot(tables, guesses) {
         Some(spot) => Ok(Some(spot)),
-        None => row_spot(alloc, tables),
+        None => row_spot(alloc, tables, guesses),
     }
 }

@@ -6,7 +6,7 @@ use Rattle.snap_fdd.specs.Diagrams.{Asks, diagram, IsNodeOf}
 use Rattle.snap_fdd.proofs.Cutting.{ask_shape}
 use Rattle.snap_fdd.proofs.Shared.{new_leaf, node_of}
 use Rattle.snap_gen.specs.Tidied.{Tidies}
-use Rattle.snap_gen.proofs.Imaging.{tidies_leaf, tidies_ask, asked_below}
+use Rattle.snap_gen.proofs.Imaging.{tidies_leaf, tidies_ask}
 use Rattle.snap_gen.proofs.images.image_of.Goals as goal
 
 pub image_at-y-requires : goal.image_at-y-requires
@@ -22,12 +22,6 @@ returns-in_ok-tidy-in-Leaf-clause-tidied c =
     let groups = c.args.groups.now in
     let is = subst (IsNodeOf old c.args.id) c.in-Leaf.is (node_of old c.args.id c.get.result.now c.get.ensures.at c.get.ensures.lower) in
     IfOk-weaker c.leaf.result _ _ (λ d noted. tidies_leaf groups.ranks (length groups.order) (diagram old c.args.id) (diagram new d) c.in-Leaf.leaf c.in_ok-tidy-in-Leaf.tidy is (new_leaf new d c.in_ok-tidy-in-Leaf.tidy noted.at) c.in_ok-tidy-in-Leaf.ensures) c.leaf.ensures.ok
-
-pub returns-in_ok-copy-in-Ask-clause-number : goal.returns-in_ok-copy-in-Ask-clause-number
-returns-in_ok-copy-in-Ask-clause-number c =
-    let ways = c.requires.ways c.in-Ask.yes c.in-Ask.no c.in-Ask.test (c.get.ensures.at ∙ ap Some c.in-Ask.is) in
-    let low : c.image_at-y.result < length c.args.nodes.now = subst (λ d. d < length c.args.nodes.now) (sym c.image_at-y.ensures) ways.0.below in
-    asked_below c.in_ok-copy-in-Ask.copy c.args.nodes.now c.node.new.self c.image_at-y.result c.image_at-n.result c.node.result low c.node.ensures.both c.node.ensures.ok
 
 pub returns-in_ok-copy-in-Ask-clause-tidied : goal.returns-in_ok-copy-in-Ask-clause-tidied
 returns-in_ok-copy-in-Ask-clause-tidied c =

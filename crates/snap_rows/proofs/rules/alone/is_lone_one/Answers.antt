@@ -1,17 +1,21 @@
-use Rattle.std.proofs.Common.{◌≡◌, ◌<◌, ◌≤◌, Some, List, length, get_or, refl, sym, ap, subst, ◌∙◌, ⊎_elim, arith}
-use Rattle.std.specs.Prelude.{is_some}
-use Rattle.std.specs.BTreeMap.{btree_map_len, Updates}
+use Rattle.std.proofs.Common.{◌≡◌, ◌<◌, ◌≤◌, Some, None, List, length, get_or, refl, sym, ap, subst, ◌∙◌, ⊎_elim, arith}
+use Rattle.std.specs.Prelude.{is_some, MatchOption}
+use Rattle.std.specs.BTreeMap.{btree_map_len, get, Updates}
 use Rattle.std.specs.Ordering.{nat_cmp}
 use Rattle.std.proofs.lemmas.Bool.{false≢true, cases_lt}
 use Rattle.std.proofs.lemmas.Option.{slice_get_within, get_or_from_slice_get}
 use Rattle.snap_rows.specs.declared.rules.alone.Standing.{Standing}
 use Rattle.snap_rows.specs.declared.tables.RowAt.{RowAt}
-use Rattle.snap_rows.specs.Standing.{of_node, standing_in, Splits}
+use Rattle.snap_rows.specs.Standing.{of_node, standing_in, Splits, AreNodesFrom, IsNodeFrom}
+use Rattle.snap_rows.specs.Entries.{node_of}
 use Rattle.snap_rows.proofs.Growing.{not_two, grown_none, grown_more, split_found, lone_at_end}
 use Rattle.snap_rows.proofs.rules.alone.is_lone_one.Goals as goal
 
 pub loop-number-init : goal.loop-number-init
-loop-number-init c = grown_none c.args.tables.now c.in_ok-rest.rest c.new-known.result c.in_ok-rest.ensures c.new-known.ensures.empty
+loop-number-init c =
+    let t = c.args.tables.now in
+    let nodes : AreNodesFrom t 0 (get nat_cmp c.into_map-rest.result) = λ n. subst (λ o. MatchOption o (node_of t n ≡ None) (IsNodeFrom t 0 n)) (sym (c.into_map-rest.ensures n)) (c.in_ok-nodes.ensures.nodes n) in
+    grown_none t c.into_map-rest.result c.new-known.result nodes c.new-known.ensures.empty
 
 pub bounds-items-at : goal.bounds-items-at
 bounds-items-at c =

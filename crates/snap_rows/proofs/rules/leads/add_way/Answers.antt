@@ -1,5 +1,5 @@
-use Rattle.std.proofs.Common.{◌≡◌, ◌+◌, ◌<◌, ◌≤◌, [], length, append-nil, refl, sym, ap, subst, ◌∙◌, arith}
-use Rattle.snap_rows.specs.Entries.{next, hop_in}
+use Rattle.std.proofs.Common.{◌≡◌, ◌+◌, ◌<◌, ◌≤◌, [], length, append-nil, refl, sym, subst, ◌∙◌, arith}
+use Rattle.snap_rows.specs.Entries.{next}
 use Rattle.snap_rows.specs.Form.{switch_count}
 use Rattle.snap_rows.specs.Ways.{Way, here}
 use Rattle.snap_rows.proofs.Arrives.{next_below, way_to}
@@ -26,7 +26,7 @@ loop-step-preserved c =
     let t = c.args.tables.now in
     let x = c.args.target in
     let w = c.loop-step.here in
-    let to : c.next-here.result ≡ next t w x = c.next-here.ensures ∙ ap (λ hs. hop_in hs w x) c.items.ensures in
+    let to : c.next-here.result ≡ next t w x = c.next-here.ensures in
     record {
       low = subst (λ v. v < switch_count t) (sym to) (next_below t c.requires.form w x c.loop-step.invariant.low);
       items = next_comes t x c.args.from w c.next-here.result c.args.way.now.items c.loop-step.way.items c.push.new.self.items c.if-here-target.false to c.in_ok-push.ensures.items c.loop-step.invariant.items;

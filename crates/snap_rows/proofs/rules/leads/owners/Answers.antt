@@ -5,7 +5,7 @@ use Rattle.snap_rows.proofs.Leading.{no_owners, more_owners}
 use Rattle.snap_rows.proofs.rules.leads.owners.Goals as goal
 
 pub loop-rank-init : goal.loop-rank-init
-loop-rank-init c = subst (λ (xs : List ℕ). (x : ℕ) → OwnsBelow c.args.tables.now 0 x ↔ Contains xs x) (sym c.new-owners.ensures.items) (no_owners c.args.tables.now)
+loop-rank-init c = subst (λ (xs : List ℕ). (x : ℕ) → OwnsBelow c.args.tables.now 0 x ↔ Contains xs x) (sym c.clear.ensures.items) (no_owners c.args.tables.now)
 
 pub loop-rank-preserved : goal.loop-rank-preserved
 loop-rank-preserved c = more_owners c.args.tables.now c.loop-rank.rank c.loop-rank.owners.items c.add_owner.new.owners.items c.loop-rank.invariant c.in_ok-add_owner.ensures

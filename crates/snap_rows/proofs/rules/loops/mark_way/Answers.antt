@@ -1,8 +1,8 @@
-use Rattle.std.proofs.Common.{◌≡◌, ◌≢◌, ◌<◌, false, true, inr, ⊎_elim, length, get_or, sym, ap, subst, ◌∙◌, arith}
+use Rattle.std.proofs.Common.{◌≡◌, ◌≢◌, ◌<◌, false, true, inr, ⊎_elim, length, get_or, sym, subst, ◌∙◌, arith}
 use Rattle.std.proofs.lemmas.List.{length-set, get_or-set_same}
 use Rattle.std.proofs.lemmas.Grind.{common_steps}
 use Rattle.std.proofs.Math.ListN.{set}
-use Rattle.snap_rows.specs.Entries.{next, hop_in}
+use Rattle.snap_rows.specs.Entries.{next}
 use Rattle.snap_rows.specs.Form.{switch_count}
 use Rattle.snap_rows.specs.Reach.{Reaches}
 use Rattle.snap_rows.proofs.Arrives.{next_below}
@@ -19,7 +19,7 @@ loop-marks-preserved c =
     let within : w < length marks = let h = c.loop-marks.invariant.low in let long = c.loop-marks.invariant.long in omega arith in
     let none : get_or marks w false ≡ false = grind (arith, common_steps) in
     let away : w ≢ x = not_target t x marks w c.loop-marks.invariant.marks none in
-    let to : c.next-here.result ≡ next t w x = c.next-here.ensures ∙ ap (λ hs. hop_in hs w x) c.items.ensures in
+    let to : c.next-here.result ≡ next t w x = c.next-here.ensures in
     record {
       low = subst (λ v. v < switch_count t) (sym to) (next_below t c.requires.form w x c.loop-marks.invariant.low);
       long = length-set marks w true ∙ c.loop-marks.invariant.long;

@@ -1,7 +1,7 @@
-use Rattle.std.proofs.Common.{◌≡◌, ◌≢◌, ◌+◌, ◌<◌, ◌≤◌, false, length, get_or, sym, ap, subst, ◌∙◌, arith}
+use Rattle.std.proofs.Common.{◌≡◌, ◌≢◌, ◌+◌, ◌<◌, ◌≤◌, false, length, get_or, sym, subst, arith}
 use Rattle.std.proofs.lemmas.Bool.{false≢true}
 use Rattle.std.proofs.lemmas.Grind.{common_steps}
-use Rattle.snap_rows.specs.Entries.{next, hop_in}
+use Rattle.snap_rows.specs.Entries.{next}
 use Rattle.snap_rows.specs.Form.{switch_count}
 use Rattle.snap_rows.specs.Reach.{Reaches}
 use Rattle.snap_rows.proofs.Arrives.{next_below}
@@ -27,7 +27,7 @@ loop-step-preserved c =
     let w = c.loop-step.here in
     let none : get_or c.args.marks.now w false ≡ false = grind (arith, common_steps) in
     let away : w ≢ x = not_target t x c.args.marks.now w c.requires.marks none in
-    let to : c.next-here.result ≡ next t w x = c.next-here.ensures ∙ ap (λ hs. hop_in hs w x) c.items.ensures in
+    let to : c.next-here.result ≡ next t w x = c.next-here.ensures in
     record {
       low = subst (λ v. v < switch_count t) (sym to) (next_below t c.requires.form w x c.loop-step.invariant.low);
       back = λ r. c.loop-step.invariant.back (one_way t x w (subst (Reaches t x) to r));

@@ -13,8 +13,9 @@ returns c =
     let n = c.args.entry.now.number in
     let b = c.args.entry.now.row in
     let own : (k : ℕ) → IsNumberAfter b k → IsSome (row_at t w k) = search rules in
-    let each = each_over (LeadsOver t w b) (λ x. IsSome (row_at t x n)) c.in_ok-over.over.items c.in_ok-over.ensures in
-    let are : c.deref.result.now ≡ c.in_ok-over.over.items = c.deref.ensures.value in (
+    let over = c.led_over.new.over.items in
+    let each = each_over (LeadsOver t w b) (λ x. IsSome (row_at t x n)) over c.in_ok-led_over.ensures in
+    let are : c.deref.result.now ≡ over = c.deref.ensures.value in (
       λ yes. join_leads t w n b (λ x k. IsSome (row_at t x k)) own (each.0 (subst (All (λ x. IsSome (row_at t x n))) are (c.all_have_rows.ensures.0 yes))),
       λ have. c.all_have_rows.ensures.1 (subst (All (λ x. IsSome (row_at t x n))) (sym are) (each.1 (split_leads t w n b (λ x k. IsSome (row_at t x k)) have).1)),
     )

@@ -1,9 +1,10 @@
 use Rattle.std.proofs.Common.{◌≡◌, ◌-◌, length}
-use Rattle.snap_rows.specs.Standing.{AreNodesFrom}
+use Rattle.snap_rows.specs.Standing.{AreNodesFrom, place_in}
 use Rattle.snap_rows.proofs.rules.nodes.nodes.Given as goal
 
 abbrev pub invariant-loop-turn : goal.invariant-loop-turn
 invariant-loop-turn l = record {
   items : l.rows ≡ l.tables.rows;
-  nodes : AreNodesFrom l.tables (length l.rows - l.turn) l.nodes;
+  low : length l.nodes.low.items ≡ l.below;
+  nodes : AreNodesFrom l.tables (length l.rows - l.turn) (place_in l.nodes);
 }

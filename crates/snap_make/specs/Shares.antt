@@ -1,0 +1,29 @@
+-- The rows of switches, as they share the bodies of their numbers.
+use Rattle.std.specs.Prelude.{ℕ, Bool, false, Option, List, slice_get, slice_index, slice_index_or, unwrap_or}
+use Rattle.snap_arena.specs.declared.node.Node.{Node}
+use Rattle.snap_fdd.specs.declared.leaf.Leaf.{Leaf}
+use Rattle.snap_rows.specs.declared.tables.Row.{Row}
+use Rattle.snap_rows.specs.declared.tables.Row.TheVariants as row
+use Rattle.snap_rows.specs.declared.tables.Tables.{Tables}
+use Rattle.snap_tables.specs.Shared.{row_shared}
+use Rattle.snap_tables.specs.declared.shared.RowShare.{RowShare}
+use Rattle.snap_tables.specs.declared.shared.Share.{Share}
+use Rattle.snap_tables.specs.declared.shared.Share.TheVariants as share
+use Rattle.snap_gen.specs.Generated.{numbered_nodes}
+use Rattle.snap_gen.specs.Planned.{row_for}
+use Rattle.snap_make.specs.Pairs.{Entry, row_entry}
+
+-- the row of a number's node
+abbrev pub body_of : List (Node Leaf) → List ℕ → List ℕ → ℕ → Row
+body_of ns ids numbers i = unwrap_or (numbered_nodes ns ids (slice_index numbers) i) row.Stop
+
+abbrev pub as_row : Row → Share → Row
+as_row b share.Body = b
+as_row b share.Stop = row.Stop
+
+abbrev pub share_entry : List Row → RowShare → Entry Row
+share_entry bodies s = row_entry (row_shared bodies s)
+
+-- the row of a switch and number
+abbrev pub shown : Tables → List Row → List Bool → ℕ → ℕ → Option Row
+shown t bodies marks w n = row_for t w (slice_index_or marks n false) (slice_get bodies n)

@@ -1,0 +1,161 @@
+//! Parts of the lines of rows that share their bodies: each is made once.
+
+ghost use Rattle.std.specs.Prelude.{◌≡◌, ◌<◌, ◌++◌, [], IfOk, OnOk, length, map, slice_index_or};
+ghost use Rattle.std.specs.List.{range_with_len};
+ghost use Rattle.snap_tables.specs.RowParts.{blank, chosen, ending_of, ending_text, front_text, shared_line};
+
+use crate::line::Entry;
+use crate::shared::{RowShare, Share};
+use crate::words::{put_number, put_row};
+use snap_core::NoMemory;
+use snap_rows::tables::Row;
+use std::alloc::Global;
+use std::marker::Model;
+
+/// Part of a line.
+#[derive(Drop)]
+pub(crate) struct Text {
+    bytes: Vec<u8>,
+}
+
+impl Model for Text {
+    ghost use Rattle.std.specs.Prelude.{List, ℕ};
+
+    ghost Value = { List ℕ };
+
+    ghost view = { λ a. a.bytes.items };
+}
+
+/// What stands in the lines of a number behind their switch: with its body, and where it isn't decided.
+#[derive(Drop)]
+pub(crate) struct Ending {
+    pub body: Text,
+    pub stop: Text,
+}
+
+/// The fronts of lines by their switch, up to their number, and the endings by that.
+#[derive(Drop)]
+pub(crate) struct RowParts {
+    pub fronts: Vec<Text>,
+    pub endings: Vec<Ending>,
+}
+
+fn front(alloc: Global, at: usize) -> Result<Text, NoMemory>
+    ensures { IfOk result (λ text. text ≡ front_text at) }
+{
+    let mut bytes = Vec::new(alloc);
+    bytes.extend_from_slice(b"row")?;
+    put_number(&mut bytes, at as u64)?;
+    Ok(Text { bytes })
+}
+
+fn fronts(alloc: Global, switches: usize) -> Result<Vec<Text>, NoMemory>
+    ensures { IfOk result (λ r. r.items ≡ map front_text (range_with_len 0 switches)) }
+{
+    let mut fronts = Vec::with_capacity(alloc, switches)?;
+    for at in 0..switches {
+        let text = front(alloc, at)?;
+        fronts.push(text)?;
+    }
+    Ok(fronts)
+}
+
+// The words of a number and a row, and the end of their line.
+fn ending_with(alloc: Global, number: u64, row: &Row) -> Result<Text, NoMemory>
+    ensures { IfOk result (λ text. text ≡ ending_text number row.now) }
+{
+    let mut bytes = Vec::new(alloc);
+    put_number(&mut bytes, number)?;
+    put_row(&mut bytes, row)?;
+    bytes.push(b'\n')?;
+    Ok(Text { bytes })
+}
+
+fn endings_of(alloc: Global, bodies: &[Row], number: usize) -> Result<Ending, NoMemory>
+    requires { number < length bodies.now }
+    ensures { IfOk result (λ ending. ending ≡ ending_of bodies.now number) }
+{
+    let body = ending_with(alloc, number as u64, &bodies[number])?;
+    let stop = ending_with(alloc, number as u64, &Row::Stop)?;
+    Ok(Ending { body, stop })
+}
+
+fn endings(alloc: Global, bodies: &[Row]) -> Result<Vec<Ending>, NoMemory>
+    ensures { IfOk result (λ r. r.items ≡ map (ending_of bodies.now) (range_with_len 0 (length bodies.now))) }
+{
+    let mut endings = Vec::with_capacity(alloc, bodies.len())?;
+    for number in 0..bodies.len() {
+        let ending = endings_of(alloc, bodies, number)?;
+        endings.push(ending)?;
+    }
+    Ok(endings)
+}
+
+// Puts a line up to its number.
+fn put_front(out: &mut Vec<u8>, fronts: &[Text], at: u16) -> Result<(), NoMemory>
+    ensures { OnOk result (out.new.items ≡ out.old.items ++ slice_index_or fronts.now at []) }
+{
+    match fronts.get(at as usize) {
+        Some(text) => {
+            out.extend_from_slice(&text.bytes)?;
+            Ok(())
+        }
+        None => Ok(()),
+    }
+}
+
+fn put_chosen(out: &mut Vec<u8>, ending: &Ending, share: Share) -> Result<(), NoMemory>
+    ensures { OnOk result (out.new.items ≡ out.old.items ++ chosen ending.now share) }
+{
+    match share {
+        Share::Body => out.extend_from_slice(&ending.body.bytes)?,
+        Share::Stop => out.extend_from_slice(&ending.stop.bytes)?,
+    }
+    Ok(())
+}
+
+// Puts the rest of a line.
+fn put_ending(
+    out: &mut Vec<u8>,
+    endings: &[Ending],
+    number: u64,
+    share: Share,
+) -> Result<(), NoMemory>
+    ensures { OnOk result (out.new.items ≡ out.old.items ++ chosen (slice_index_or endings.now number blank) share) }
+{
+    match endings.get(number as usize) {
+        Some(ending) => put_chosen(out, ending, share),
+        None => Ok(()),
+    }
+}
+
+impl Entry for RowShare {
+    ghost entry_line = { λ version parts s. shared_line parts s };
+
+    fn put_line(&self, out: &mut Vec<u8>, version: u8, parts: &RowParts) -> Result<(), NoMemory>
+        ensures { OnOk result (out.new.items ≡ out.old.items ++ shared_line parts.now self.now) }
+    {
+        put_front(out, &parts.fronts, self.at)?;
+        put_ending(out, &parts.endings, self.number, self.share)
+    }
+}
+
+impl RowParts {
+    /// No parts, for rows with bodies of their own. Takes no memory.
+    pub(crate) fn none(alloc: Global) -> RowParts {
+        RowParts {
+            fronts: Vec::new(alloc),
+            endings: Vec::new(alloc),
+        }
+    }
+
+    /// The parts of the lines of so many switches and these bodies.
+    pub(crate) fn of(alloc: Global, switches: usize, bodies: &[Row]) -> Result<RowParts, NoMemory>
+        ensures fronts { IfOk result (λ r. r.fronts.items ≡ map front_text (range_with_len 0 switches)) }
+        ensures endings { IfOk result (λ r. r.endings.items ≡ map (ending_of bodies.now) (range_with_len 0 (length bodies.now))) }
+    {
+        let fronts = fronts(alloc, switches)?;
+        let endings = endings(alloc, bodies)?;
+        Ok(RowParts { fronts, endings })
+    }
+}
