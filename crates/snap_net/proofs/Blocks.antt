@@ -3,7 +3,7 @@ use Rattle.std.proofs.Common.{◌≡◌, ℕ, zero, suc, ◌+◌, ◌-◌, ◌<�
 use Rattle.std.specs.Prelude.{slice_get}
 use Rattle.std.proofs.Math.ListN.{set}
 use Rattle.std.proofs.Math.Seq.{take-append-add, drop-append-add}
-use Rattle.std.proofs.lemmas.List.{take-append-le, drop-append-le, take_more, take_at, drop_at, drop_all, set_split, set-get_or, append-nil, get_or_read, length_push, length-take-le, length-drop, nil_from_length}
+use Rattle.std.proofs.lemmas.List.{take-append-le, drop-append-le, take_at, drop_at, drop_all, set_split, set-get_or, append-nil, get_or_read, length_push, length-take-le, length-drop, nil_from_length}
 use Rattle.std.proofs.lemmas.Option.{get_or_from_slice_get}
 use Rattle.std.specs.List.{insert}
 use Rattle.std.proofs.lemmas.List.Concat.{flat_map-append}
@@ -22,15 +22,6 @@ joined-set bs i b within = ap joined (set_split bs i b within) ∙ joined-append
 
 pub joined_at : (bs : List (List Flying)) (i : ℕ) → i < length bs → joined bs ≡ joined (take i bs) ++ (get_or bs i [] ++ joined (drop (suc i) bs))
 joined_at bs i within = ap joined (sym (set-get_or bs i [])) ∙ joined-set bs i (get_or bs i []) within
-
-pub joined_more : (bs : List (List Flying)) (i : ℕ) → i < length bs → length (joined (take (i + 1) bs)) ≡ length (joined (take i bs)) + length (get_or bs i [])
-joined_more bs i within =
-    ap (λ l. length (joined l)) (take_more bs i [] within)
-    ∙ ap length (joined-append (take i bs) (get_or bs i [] ∷ []) ∙ ap (λ l. joined (take i bs) ++ l) (append-nil (get_or bs i [])))
-    ∙ length-append (joined (take i bs)) (get_or bs i [])
-
-pub joined_push : (bs : List (List Flying)) (b : List Flying) → joined (bs ++ b ∷ []) ≡ joined bs ++ b
-joined_push bs b = joined-append bs (b ∷ []) ∙ ap (λ l. joined bs ++ l) (append-nil b)
 
 -- an edit within the middle of three lists
 splice_inside : (xs b zs ys : List Flying) (p n : ℕ) → p + n ≤ length b → spliced (xs ++ (b ++ zs)) (length xs + p) n ys ≡ xs ++ (spliced b p n ys ++ zs)

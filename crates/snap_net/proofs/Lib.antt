@@ -5,3 +5,4 @@ pub mod Worked
 pub mod Home
 pub mod Filling
 pub mod Travelling
+pub mod Listings

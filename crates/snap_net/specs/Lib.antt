@@ -5,3 +5,5 @@ pub mod Moves
 pub mod Worked
 pub mod Laws
 pub mod Travels
+pub mod Listings
+pub mod Parts

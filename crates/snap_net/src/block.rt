@@ -103,4 +103,12 @@ impl Block {
         let copies = self.copies.split_off(self.copies.len() / 2)?;
         Ok(Block { copies })
     }
+
+    /// Hands out the copies. Takes no memory.
+    pub(crate) fn into_copies(self) -> Vec<Flying>
+        ensures { result.items ≡ self }
+    {
+        let Block { copies } = self;
+        copies
+    }
 }

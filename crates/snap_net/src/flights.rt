@@ -10,6 +10,7 @@ use crate::flying::Flying;
 use snap_core::NoMemory;
 use snap_rows::head::Head;
 use std::alloc::Global;
+use std::collections::VecDeque;
 use std::marker::Model;
 
 // A block with so many copies is split before one is put behind another.
@@ -246,5 +247,35 @@ impl Flights {
         for i in 0..count {
             self.remove(from);
         }
+    }
+
+    /// Hands out the copies, in the order of the list.
+    pub(crate) fn into_copies(self) -> Result<Vec<Flying>, NoMemory>
+        ensures { IfOk result (λ copies. copies.items ≡ self) }
+    {
+        let Flights {
+            alloc,
+            count,
+            blocks,
+        } = self;
+        let mut copies = Vec::with_capacity(alloc, count)?;
+        let mut rest = VecDeque::from(blocks);
+        while let Some(block) = rest.pop_front() {
+            let mut part = block.into_copies();
+            copies.append(&mut part)?;
+        }
+        Ok(copies)
+    }
+
+    /// The list of these copies.
+    pub(crate) fn from_copies(alloc: Global, copies: Vec<Flying>) -> Result<Flights, NoMemory>
+        ensures { IfOk result (λ flights. flights ≡ copies.items) }
+    {
+        let mut flights = Flights::new(alloc);
+        let mut rest = VecDeque::from(copies);
+        while let Some(copy) = rest.pop_front() {
+            flights.push(copy)?;
+        }
+        Ok(flights)
     }
 }

@@ -7,8 +7,10 @@ mod flights;
 pub mod flying;
 pub mod happened;
 pub mod laws;
+mod listing;
 pub mod moves;
 pub mod net;
+pub mod parts;
 #[cfg(test)]
 mod tests;
 mod updates;

@@ -1,10 +1,9 @@
 //! The network.
 
-ghost use Rattle.std.specs.Prelude.{◌≡◌, ◌≢◌, ◌≤◌, ◌<◌, ◌+◌, ◌^◌, None, Some, ℕ, IfOk, IfErr, OnOk, OnErr, IsSome, [], length, slice_get, slice_index, All, ◌∷◌};
-ghost use Rattle.snap_core.specs.declared.place.Place.{Place};
+ghost use Rattle.std.specs.Prelude.{◌≡◌, ◌≢◌, ◌≤◌, ◌<◌, ◌+◌, ◌^◌, None, Some, ℕ, IfOk, IfErr, OnOk, OnErr, IsSome, [], length, map, slice_get, slice_index, All, ◌∷◌};
 ghost use Rattle.snap_core.specs.Arrays.{zero_arrays};
 ghost use Rattle.snap_core.specs.Cells.{arrays_of};
-ghost use Rattle.snap_core.specs.Listing.{IsListing, number_in};
+ghost use Rattle.snap_core.specs.Listing.{IsListing, entry_of, number_in};
 ghost use Rattle.snap_rows.specs.Entries.{port_at};
 ghost use Rattle.snap_rows.specs.Form.{comps, array_count, switch_count};
 ghost use Rattle.snap_rows.specs.Network.{Net as State, start, whole, Inject, Step};
@@ -12,6 +11,7 @@ ghost use Rattle.snap_net.specs.declared.flying.Flying.{Flying};
 ghost use Rattle.snap_net.specs.Flights.{spliced};
 ghost use Rattle.snap_net.specs.Travels.{HasTravelled, arrived};
 ghost use Rattle.snap_net.specs.Shown.{IsHeld, Shows, IsDone, Nothing, Tells, TellsMoved, Same, store_of};
+ghost use Rattle.snap_net.specs.Parts.{held_of};
 ghost use Rattle.snap_net.specs.Moves.{CanBeDone, HasStepped, HasMoved, HasUpdated, PlanAt};
 ghost use Rattle.snap_net.specs.declared.net.InjectFault.{InjectFault};
 ghost use Rattle.snap_net.specs.declared.net.StepFault.{StepFault};
@@ -20,10 +20,12 @@ use crate::fill::filled_stores;
 use crate::flights::Flights;
 use crate::flying::Flying;
 use crate::happened::{Happened, Moved};
+use crate::listing::{append, listing_at, listings, of_array, total};
 use crate::moves::{carry_out, frame_of, framed};
+use crate::parts::Parts;
 use snap_core::NoMemory;
 use snap_core::packet::Packet;
-use snap_core::place::Entry;
+use snap_core::place::{Entry, Listed};
 use snap_core::store::Store;
 use snap_rows::head::Head;
 use snap_rows::plan::{Plan, plan_step};
@@ -104,8 +106,8 @@ pub fn open_net(alloc: Global, tables: Valid) -> Result<Net, NoMemory>
     })
 }
 
-// So many empty stores.
-pub(crate) fn empty_stores(alloc: Global, count: usize) -> Result<Vec<Store>, NoMemory>
+/// So many empty stores.
+pub fn empty_stores(alloc: Global, count: usize) -> Result<Vec<Store>, NoMemory>
     ensures count { IfOk result (λ stores. length stores.items ≡ count) }
     ensures empty { IfOk result (λ stores. (w : ℕ) → store_of stores.items w ≡ zero_arrays) }
 {
@@ -317,24 +319,73 @@ impl Net {
         self.stores[at as usize].get(var, index)
     }
 
-    // A store that has each array as its switch has it.
-    fn whole(&self) -> Result<Store, NoMemory>
-        ensures { IfOk result (λ all. (s : State) → Shows self.now s → (p : Place) → arrays_of all p ≡ whole self.now.tables s p) }
+    /// The places of the whole store that don't hold 0, rising by variable and then by index, with their numbers. Each array
+    /// is listed at its switch.
+    pub fn listing(&self) -> Result<Vec<Listed<'_>>, NoMemory>
+        ensures { IfOk result (λ listed. (s : State) → Shows self.now s → IsListing (whole self.now.tables s) (map entry_of listed.items)) }
     {
-        let mut all = Store::new(self.alloc);
+        let stores = listings(self.alloc, &self.stores)?;
+        let mut all = Vec::with_capacity(self.alloc, total(&stores))?;
         let count = self.tables.tables().arrays.items().len();
         for var in 0..count as u16 {
             let at = self.tables.owner_of(var);
-            all.copy_array(&self.stores[at as usize], var)?;
+            append(&mut all, of_array(listing_at(&stores, at as usize), var))?;
         }
         Ok(all)
     }
 
-    /// The places of the whole store that don't hold 0, rising by variable and then by index, with their numbers.
+    /// The same with indices of their own.
     pub fn entries(&self) -> Result<Vec<Entry>, NoMemory>
         ensures { IfOk result (λ entries. (s : State) → Shows self.now s → IsListing (whole self.now.tables s) entries.items) }
     {
-        let whole = self.whole()?;
-        whole.entries()
+        let listed = self.listing()?;
+        let mut entries = Vec::with_capacity(self.alloc, listed.len())?;
+        for each in &listed {
+            entries.push(each.entry(self.alloc)?)?;
+        }
+        Ok(entries)
+    }
+
+    /// Takes the network apart.
+    pub fn into_parts(self) -> Result<Parts, NoMemory>
+        ensures held { IsHeld self }
+        ensures parts { IfOk result (λ parts. held_of parts ≡ self) }
+    {
+        let _known = self.tables();
+        let Net {
+            alloc: _,
+            tables,
+            stores,
+            injected: packets,
+            flying,
+        } = self;
+        let flying = flying.into_copies()?;
+        Ok(Parts {
+            tables,
+            stores,
+            injected: packets,
+            flying,
+        })
+    }
+
+    /// Puts a network together.
+    pub fn from_parts(alloc: Global, parts: Parts) -> Result<Net, NoMemory>
+        requires { IsHeld (held_of parts) }
+        ensures { IfOk result (λ net. net ≡ held_of parts) }
+    {
+        let Parts {
+            tables,
+            stores,
+            injected: packets,
+            flying,
+        } = parts;
+        let flying = Flights::from_copies(alloc, flying)?;
+        Ok(Net {
+            alloc,
+            tables,
+            stores,
+            injected: packets,
+            flying,
+        })
     }
 }
