@@ -8,8 +8,9 @@ use Rattle.std.proofs.lemmas.List.Sums.{sum_by-cons}
 use Rattle.snap_core.specs.Arrays.{zero_arrays}
 use Rattle.snap_rows.specs.declared.head.Sent.{Sent}
 use Rattle.snap_rows.specs.Happenings.{deliveries_of, losses_of}
-use Rattle.snap_rows.specs.Network.{Event, Happening, Inject, IsPlainRun, Net, injects, rests, start}
+use Rattle.snap_rows.specs.Network.{Happening, Inject, IsPlainRun, Net, injects, rests, start}
 use Rattle.snap_net.specs.Shown.{Held, IsDone, Nothing, Shows}
+use Rattle.snap_runs.specs.declared.frames.Frames.TheVariants.{Plain}
 use Rattle.snap_runs.specs.declared.tally.Tally.{Tally}
 use Rattle.snap_runs.specs.Plain.{entering}
 use Rattle.snap_runs.specs.Reports.{packets_delivered}
@@ -108,14 +109,14 @@ has_run-none v c d l shows = record {
 
 -- a packet is injected, and all its copies come to rest
 module _ (port : ℕ) (k : List ℕ) (old mid new : Held) (y : Tally) (before after : Counts) where
-  pub runs-on : slice_index k 0 ≡ port → mid.tables ≡ old.tables → new.tables ≡ old.tables → IsDone old (Inject port k) mid Nothing → HasSettled false mid new y → new.flying ≡ []
+  pub runs-on : slice_index k 0 ≡ port → mid.tables ≡ old.tables → new.tables ≡ old.tables → IsDone old (Inject port k) mid Nothing → HasSettled Plain false mid new y → new.flying ≡ []
       → after.delivered ≡ before.delivered + length y.delivered.items → after.lost ≡ before.lost + y.lost → RunsOn k old before new after
   runs-on first same kept done settled rest delivers loses ks h =
       let n = length ks in
       let a = done h.state h.shows in
       let alone = inject-alone old.tables h.state a.0 port k a.1 h.run.ended a.2 in
-      let b = subst (λ t. (s' : Net) × (hs : List Happening) × Settles t a.0 s' hs × Shows new s' × ((i : ℕ) → AreCopiesOf i a.0.flying → Tallies t false i s' hs y)) same (settled a.0 a.3) in
-      let told = subst (λ i. Tallies old.tables false i b.0 b.1 y) h.injected (b.4 h.state.injected alone.0) in
+      let b = subst (λ t. (s' : Net) × (hs : List Happening) × Settles t a.0 s' hs × Shows new s' × ((i : ℕ) → AreCopiesOf i a.0.flying → Tallies Plain t false i s' hs y)) same (settled a.0 a.3) in
+      let told = subst (λ i. Tallies Plain old.tables false i b.0 b.1 y) h.injected (b.4 h.state.injected alone.0) in
       let longer : length (ks ++ k ∷ []) ≡ n + 1 = length-append ks (k ∷ []) in
       let events = h.events ++ Inject port k ∷ b.2.events in
       let happenings = h.happenings ++ b.1 in

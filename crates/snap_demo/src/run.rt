@@ -15,6 +15,7 @@ use crate::packets::{PACKETS, packet_of, port_of};
 use snap_core::NoMemory;
 use snap_core::packet::Packet;
 use snap_net::net::{InjectFault, Net};
+use snap_runs::frames::Frames;
 use snap_runs::settle::settle;
 use std::alloc::Global;
 
@@ -57,7 +58,7 @@ fn run_packet(
     ensures injected { OnOk result (net.new.injected ≡ net.old.injected + 1) }
 {
     enter(net, port, packet)?;
-    let tally = settle(alloc, net, false)?;
+    let tally = settle(alloc, net, false, Frames::Plain)?;
     counts.add(&tally)?;
     Ok(())
 }

@@ -3,6 +3,7 @@ use Rattle.std.proofs.Common.{◌≡◌, ℕ, ◌+◌, Bool, true, false, List, 
 use Rattle.std.specs.Prelude.{is_some, slice_index, if◌then◌else◌}
 use Rattle.std.proofs.KnownBytes.{Appends-nil, Appends-trans}
 use Rattle.std.proofs.lemmas.List.{take-append-le}
+use Rattle.std.proofs.Math.Seq.{take-length}
 use Rattle.snap_core.specs.Arrays.{zero_arrays}
 use Rattle.snap_io.specs.Sinks.{AppendsPart, AppendsSome}
 use Rattle.snap_io.proofs.SinksLemmas.{part_of_pair}
@@ -19,6 +20,7 @@ use Rattle.snap_trace.specs.Reports.{end_text}
 use Rattle.snap_trace.specs.Spelled.{Spelled, Stop, stops, ended, refused, with_said}
 use Rattle.snap_trace.specs.Steps.{Puts, Waits}
 use Rattle.snap_trace.proofs.RunLemmas.{waits-more, waits-same, waits-then}
+use Rattle.snap_runs.specs.declared.frames.Frames.TheVariants.{Plain}
 use Rattle.snap_runs.specs.declared.packets.PacketLines.{PacketLines}
 use Rattle.snap_runs.specs.declared.tracer.Tracer.{Tracer}
 use Rattle.snap_runs.specs.Reports.{PutsEnd, array_names}
@@ -45,10 +47,11 @@ stands-first m shows = record {
   force = λ i within. refl;
 }
 
-pub comes-first : (first : Tables) (later : List Later) (hops : Bool) (file : List ℕ) (m : Mover) (now : Option (List ℕ)) → m.tracer.hops ≡ hops → Stands first later [] [] m → m.tracer.text.items ≡ []
+pub comes-first : (first : Tables) (later : List Later) (hops : Bool) (file : List ℕ) (m : Mover) (now : Option (List ℕ)) → m.tracer.hops ≡ hops → m.tracer.frames ≡ Plain → Stands first later [] [] m → m.tracer.text.items ≡ []
     → (left : Spelled) → spelled_under first later file ≡ left → Comes first later hops file left m now now
-comes-first first later hops file m now same stands none left is = record {
+comes-first first later hops file m now same kind stands none left is = record {
   hops_same = same;
+  frames_same = kind;
   packets = [];
   turns = [];
   stands = stands;
@@ -75,11 +78,7 @@ module _ (first : Tables) (later : List Later) (hops : Bool) (file : List ℕ) (
   are-blocks = (length c.packets, subst (λ ks. AreChangedBlocks first later hops ks c.text) (sym these) blocks)
     where
       these : take (length c.packets) (spelled_under first later file).packets ≡ c.packets
-      these = ap (λ (s : Spelled). take (length c.packets) s.packets) c.spelled ∙ take-append-le (length c.packets) c.packets left.packets (omega arith) ∙ take-all c.packets
-        where
-          take-all : (ks : List (List ℕ)) → take (length ks) ks ≡ ks
-          take-all [] = refl
-          take-all (k ∷ ks) = ap (λ l. k ∷ l) (take-all ks)
+      these = ap (λ (s : Spelled). take (length c.packets) s.packets) c.spelled ∙ take-append-le (length c.packets) c.packets left.packets (omega arith) ∙ take-length c.packets
 
   -- some first bytes of the blocks went out, and some of what waits
   pub comes-part : (last : Option (List ℕ)) → AppendsPart now last m.tracer.text.items → AppendsSome (AreChangedTraceBlocks first later hops file) old last
@@ -93,10 +92,11 @@ module _ (first : Tables) (later : List Later) (hops : Bool) (file : List ℕ) (
   comes-nothing = comes-part now (0, Appends-nil now)
 
   -- the same run, where some of what waits was written
-  pub comes-written : (m' : Mover) (last : Option (List ℕ)) → m'.tracer.net ≡ m.tracer.net → m'.later.items ≡ m.later.items → m'.tracer.hops ≡ m.tracer.hops → Puts {E = ℕ} now last m.tracer.text.items [] (Ok tt) m'.tracer.text.items
+  pub comes-written : (m' : Mover) (last : Option (List ℕ)) → m'.tracer.net ≡ m.tracer.net → m'.later.items ≡ m.later.items → m'.tracer.hops ≡ m.tracer.hops → m'.tracer.frames ≡ m.tracer.frames → Puts {E = ℕ} now last m.tracer.text.items [] (Ok tt) m'.tracer.text.items
       → Comes first later hops file left m' old last
-  comes-written m' last net changes same puts = record {
+  comes-written m' last net changes same kind puts = record {
     hops_same = same ∙ c.hops_same;
+    frames_same = kind ∙ c.frames_same;
     packets = c.packets;
     turns = c.turns;
     stands = stands-as first later c.packets c.turns m m' net changes c.stands;
@@ -111,9 +111,10 @@ module _ (first : Tables) (later : List Later) (hops : Bool) (file : List ℕ) (
   comes-as left' e = subst (λ l. Comes first later hops file l m old now) e c
 
   -- the same run, where a change was made that was due
-  pub comes-settled : (m' : Mover) → HasSettled m m' → m'.tracer.hops ≡ m.tracer.hops → m'.tracer.text.items ≡ m.tracer.text.items → Comes first later hops file left m' old now
-  comes-settled m' settled same text = record {
+  pub comes-settled : (m' : Mover) → HasSettled m m' → m'.tracer.hops ≡ m.tracer.hops → m'.tracer.frames ≡ m.tracer.frames → m'.tracer.text.items ≡ m.tracer.text.items → Comes first later hops file left m' old now
+  comes-settled m' settled same kind text = record {
     hops_same = same ∙ c.hops_same;
+    frames_same = kind ∙ c.frames_same;
     packets = c.packets;
     turns = c.turns;
     stands = settled first later c.packets c.turns c.stands;
@@ -153,12 +154,13 @@ module _ (first : Tables) (later : List Later) (hops : Bool) (file : List ℕ) (
       (c.text ++ end, subst (λ (s : Spelled). EndsAsRead first later hops s.packets s.stop (Ok tt) (c.text ++ end)) (sym (all ended e)) (refl, report), waits-more old now c.text m.tracer.text.items end waiting h.2 c.waits)
 
   -- a packet was taken
-  pub comes-packet : (k : List ℕ) (rest : Spelled) (m' : Mover) → IsSettled m → m'.later.items ≡ m.later.items → left ≡ record { packets = k ∷ rest.packets; stop = rest.stop } → m'.tracer.net.tables ≡ m.tracer.net.tables → m'.tracer.hops ≡ m.tracer.hops
-      → HasTaken m.tracer.net.tables hops (slice_index k 0) k c.stands.state m.tracer.text.items m'.tracer → Comes first later hops file rest m' old now
-  comes-packet k rest m' settled changes e tables same taken =
+  pub comes-packet : (k : List ℕ) (rest : Spelled) (m' : Mover) → IsSettled m → m'.later.items ≡ m.later.items → left ≡ record { packets = k ∷ rest.packets; stop = rest.stop } → m'.tracer.net.tables ≡ m.tracer.net.tables → m'.tracer.hops ≡ m.tracer.hops → m'.tracer.frames ≡ m.tracer.frames
+      → HasTaken Plain m.tracer.net.tables hops (slice_index k 0) k c.stands.state m.tracer.text.items m'.tracer → Comes first later hops file rest m' old now
+  comes-packet k rest m' settled changes e tables same kind taken =
       let turn : Turn = record { tables = m.tracer.net.tables; happenings = taken.happenings } in
       record {
         hops_same = same ∙ c.hops_same;
+        frames_same = kind ∙ c.frames_same;
         packets = c.packets ++ k ∷ [];
         turns = c.turns ++ turn ∷ [];
         stands = stands-taken m m' changes tables settled hops k m.tracer.text.items first later c.packets c.turns c.stands taken;
@@ -200,13 +202,14 @@ module _ (number port : ℕ) (k : List ℕ) (m : Mover) (at : slice_index k 0 �
       ap (λ x. with_said number (says x) (rest (counted (says x) m.tracer.net.injected))) same
 
   -- the packet has gone through
-  pub took : (m' : Mover) → m'.later.items ≡ m.later.items → m'.tracer.net.tables ≡ m.tracer.net.tables → m'.tracer.hops ≡ m.tracer.hops → TakesPacket number port k m.tracer m'.tracer (Ok tt) → Comes first later hops file (rest m'.tracer.net.injected) m' old now
-  took m' changes tables same takes =
-      let taken = subst (λ p. HasTaken m.tracer.net.tables m.tracer.hops p k c.stands.state m.tracer.text.items m'.tracer) (sym at) (takes.1 c.stands.state c.stands.shows c.stands.rests) in
+  pub took : (m' : Mover) → m'.later.items ≡ m.later.items → m'.tracer.net.tables ≡ m.tracer.net.tables → m'.tracer.hops ≡ m.tracer.hops → m'.tracer.frames ≡ m.tracer.frames → TakesPacket number port k m.tracer m'.tracer (Ok tt) → Comes first later hops file (rest m'.tracer.net.injected) m' old now
+  took m' changes tables same kind takes =
+      let taken = subst (λ p. HasTaken m.tracer.frames m.tracer.net.tables m.tracer.hops p k c.stands.state m.tracer.text.items m'.tracer) (sym at) (takes.1 c.stands.state c.stands.shows c.stands.rests) in
       let more : m.tracer.net.injected + 1 ≡ m'.tracer.net.injected = ap (λ n. n + 1) (sym c.stands.shows.injected) ∙ sym taken.injected ∙ taken.shows.injected in
       comes-packet first later hops file _ m old now c k (rest m'.tracer.net.injected) m' settled changes
-      (left_by true takes.0 ∙ ap (λ n. with_said number (inject k) (rest n)) more) tables same
-      (subst (λ h. HasTaken m.tracer.net.tables h (slice_index k 0) k c.stands.state m.tracer.text.items m'.tracer) c.hops_same taken)
+      (left_by true takes.0 ∙ ap (λ n. with_said number (inject k) (rest n)) more) tables same kind
+      (subst (λ h. HasTaken Plain m.tracer.net.tables h (slice_index k 0) k c.stands.state m.tracer.text.items m'.tracer) c.hops_same
+      (subst (λ f. HasTaken f m.tracer.net.tables m.tracer.hops (slice_index k 0) k c.stands.state m.tracer.text.items m'.tracer) c.frames_same taken))
 
   -- or not
   pub stuck : (v : Tracer) (fault : TraceFault) → TakesPacket number port k m.tracer v (Err fault) → Closes first later hops file (Err fault) old now v.text.items

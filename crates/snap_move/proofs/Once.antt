@@ -8,6 +8,7 @@ use Rattle.snap_rows.specs.declared.tables.Tables.{Tables}
 use Rattle.snap_rows.specs.Form.{IsInForm}
 use Rattle.snap_rows.specs.Network.{Net, Event, Inject, Happening, StepsFirst, start, whole}
 use Rattle.snap_trace.specs.Reports.{end_text}
+use Rattle.snap_runs.specs.declared.frames.Frames.TheVariants.{Plain}
 use Rattle.snap_runs.specs.Reports.{array_names}
 use Rattle.snap_runs.specs.Tracing.{changed}
 use Rattle.snap_runs.proofs.OneReport.{block_one, listings_one}
@@ -69,7 +70,7 @@ module _ (end' : Tables) (left' : List Later) (last' : Net) where
 blocks_one : (hops : Bool) (i : ℕ) (turns : List Turn) (a b : List ℕ) → AreBlocksFrom hops i turns a → AreBlocksFrom hops i turns b → a ≡ b
 blocks_one hops i [] a b x y = x ∙ sym y
 blocks_one hops i (t ∷ ts) a b x y =
-    let here = block_one t.tables hops i t.happenings x.0 y.0 x.2 y.2 in
+    let here = block_one Plain t.tables hops i t.happenings x.0 y.0 x.2 y.2 in
     let others = blocks_one hops (i + 1) ts x.1 y.1 x.3 y.3 in
     x.4 ∙ (λ j. here j ++ others j) ∙ sym y.4
 

@@ -10,6 +10,7 @@ use Rattle.snap_rows.specs.declared.tables.Tables.{Tables}
 use Rattle.snap_rows.specs.Form.{array_count}
 use Rattle.snap_rows.specs.Network.{Net, start}
 use Rattle.snap_net.specs.Shown.{Held, Shows}
+use Rattle.snap_runs.specs.declared.frames.Frames.TheVariants.{Plain}
 use Rattle.snap_runs.specs.Tracing.{HasTaken, changed}
 use Rattle.snap_move.specs.declared.later.Later.{Later}
 use Rattle.snap_move.specs.declared.mover.Mover.{Mover}
@@ -104,9 +105,6 @@ module _ (old new : Mover) (l : Later) (is : old.later.items ≡ new.later.items
       from = from-ahead (left_in new) new.tracer.net.injected l.after (let h = at in omega (arith, h)) rising.0;
     }
 
-    pub settled-changed : IsSettled new
-    settled-changed = subst (IsAhead (left_in new)) at rising.0
-
     pub stands-changed : ((s : Net) → Shows old.tracer.net s → Shows new.tracer.net (changed l.tables old.tracer.net.tables s)) → HasSettled old new
     stands-changed shown first later packets turns stands =
         let t = old.tracer.net.tables in
@@ -133,15 +131,8 @@ module _ (old new : Mover) (l : Later) (is : old.later.items ≡ new.later.items
 
 -- ---- a packet
 module _ (old new : Mover) (later_same : new.later.items ≡ old.later.items) (tables : new.tracer.net.tables ≡ old.tracer.net.tables) (settled : IsSettled old) where
-  pub keeps-taken : new.tracer.net.injected ≤ old.tracer.net.injected + 1 → Keeps old → Keeps new
-  keeps-taken few keeps = record {
-    shapes = subst (λ t. HaveShapeOf t (left_in new)) (sym tables) (subst (HaveShapeOf old.tracer.net.tables) (sym (ap reverse later_same)) keeps.shapes);
-    rising = subst IsRising (sym (ap reverse later_same)) keeps.rising;
-    from = subst (λ ls. IsFrom ls new.tracer.net.injected) (sym (ap reverse later_same)) (from-ahead (left_in old) new.tracer.net.injected old.tracer.net.injected few settled);
-  }
-
   pub stands-taken : (hops : Bool) (k : List ℕ) (before : List ℕ) (first : Tables) (later : List Later) (packets : List (List ℕ)) (turns : List Turn) (stands : Stands first later packets turns old)
-      → (taken : HasTaken old.tracer.net.tables hops (slice_index k 0) k stands.state before new.tracer)
+      → (taken : HasTaken Plain old.tracer.net.tables hops (slice_index k 0) k stands.state before new.tracer)
       → Stands first later (packets ++ k ∷ []) (turns ++ record { tables = old.tracer.net.tables; happenings = taken.happenings } ∷ []) new
   stands-taken hops k before first later packets turns stands taken =
       let t = old.tracer.net.tables in

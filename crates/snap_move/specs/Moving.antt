@@ -12,6 +12,7 @@ use Rattle.snap_trace.specs.OneSwitch.{RunEnding}
 use Rattle.snap_trace.specs.Spelled.{Spelled, stops, ended, with_said}
 use Rattle.snap_trace.specs.Steps.{Waits}
 use Rattle.snap_io.specs.LineReaders.{lines_given}
+use Rattle.snap_runs.specs.declared.frames.Frames.TheVariants.{Plain}
 use Rattle.snap_runs.specs.declared.packets.PacketLines.{PacketLines}
 use Rattle.snap_runs.specs.Plain.{at_ports}
 use Rattle.snap_runs.specs.Reading.{said_of}
@@ -97,6 +98,7 @@ left_for first later file before reader = left_under first later file before rea
 -- So far the run over a file has come, and this is left. Of the blocks of the packets the last part waits to be written.
 pub record Comes (first : Tables) (later : List Later) (hops : Bool) (file : List ℕ) (left : Spelled) (m : Mover) (old now : Option (List ℕ)) : Type 0 where
   pub hops_same : m.tracer.hops ≡ hops
+  pub frames_same : m.tracer.frames ≡ Plain
   pub packets : List (List ℕ)
   pub turns : List Turn
   pub stands : Stands first later packets turns m

@@ -19,6 +19,7 @@ use crate::later::Later;
 use snap_core::NoMemory;
 use snap_io::{Shelf, Sink};
 use snap_rows::valid::Valid;
+use snap_runs::frames::Frames;
 use snap_runs::packets::PacketLines;
 use snap_runs::tracer::Tracer;
 use snap_trace::switch::is_told;
@@ -44,11 +45,12 @@ impl Mover {
         ensures later { IfOk result (λ mover. left_in mover ≡ later.items) }
         ensures tables { IfOk result (λ mover. mover.tracer.net.tables ≡ first) }
         ensures hops { IfOk result (λ mover. mover.tracer.hops ≡ hops) }
+        ensures frames { IfOk result (λ mover. mover.tracer.frames ≡ Frames.Plain) }
         ensures injected { IfOk result (λ mover. mover.tracer.net.injected ≡ 0) }
         ensures start { IfOk result (λ mover. Shows mover.tracer.net (start first zero_arrays)) }
         ensures text { IfOk result (λ mover. mover.tracer.text.items ≡ []) }
     {
-        let tracer = Tracer::new(alloc, first, hops)?;
+        let tracer = Tracer::new(alloc, first, hops, Frames::Plain)?;
         later.reverse();
         Ok(Mover {
             alloc,
@@ -68,6 +70,7 @@ impl Mover {
         requires keeps { Keeps self.old }
         requires injected { self.old.tracer.net.injected ≡ 0 }
         requires text { self.old.tracer.text.items ≡ [] }
+        requires frames { self.old.tracer.frames ≡ Frames.Plain }
         requires given { lines_given reader.old.lines ≡ 0 }
         requires read { reader.old.read ≡ 0 }
         requires agrees { AgreesWith (S.files shelf.old) reader.old.lines }
@@ -146,6 +149,7 @@ impl Mover {
         ensures injected { self.new.tracer.net.injected ≡ self.old.tracer.net.injected }
         ensures text { self.new.tracer.text.items ≡ self.old.tracer.text.items }
         ensures hops { self.new.tracer.hops ≡ self.old.tracer.hops }
+        ensures frames { self.new.tracer.frames ≡ self.old.tracer.frames }
     {
         match next_due(&mut self.later, self.tracer.taken()) {
             Some(next) => self.tracer.change(next.tables),

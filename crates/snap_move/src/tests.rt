@@ -1,4 +1,4 @@
-use crate::change::{ChangesFault, read_changes};
+use crate::change::read_changes;
 use crate::later::Later;
 use crate::shape::same_shape;
 use crate::trace::trace_changes;
@@ -107,28 +107,5 @@ fn lines_say_changes(rt: HostRuntime) -> Result<(), Fail> {
     assert_eq!(rt; changes[1].after, 7);
     assert_eq!(rt; changes[1].line, 4);
     assert_eq!(rt; changes[1].name.bytes(), b"y".as_slice());
-    Ok(())
-}
-
-#[test]
-fn the_first_bad_line_is_told(rt: HostRuntime) -> Result<(), Fail> {
-    let alloc = rt.alloc();
-    let cases: [(&[u8], u64); 9] = [
-        (b"after 1 x\nafter 1 y\n", 2),
-        (b"after 1000001 x\n", 1),
-        (b"after 1 -x\n", 1),
-        (b"after 1 x y\n", 1),
-        (b"after 1\n", 1),
-        (b"before 1 x\n", 1),
-        (b"after -1 x\n", 1),
-        (b"after 1 a\rb\n", 1),
-        (b" # x\n", 1),
-    ];
-    for (text, line) in cases {
-        match read_changes(alloc, text) {
-            Err(fault) => assert_eq!(rt; fault, ChangesFault::Line { line }),
-            Ok(_) => assert_eq!(rt; line, 0),
-        }
-    }
     Ok(())
 }

@@ -11,14 +11,15 @@ use Rattle.snap_rows.specs.Happenings.{deliveries_of, losses_of}
 use Rattle.snap_rows.specs.Network.{Happening}
 use Rattle.std.proofs.lemmas.Option.{same_Some}
 use Rattle.snap_trace.specs.Reports.{out_lines}
-use Rattle.snap_runs.specs.Reports.{AreBlocks, IsBlock, hops_text, lost_line, packet_line}
+use Rattle.snap_runs.specs.declared.frames.Frames.{Frames}
+use Rattle.snap_runs.specs.Reports.{AreBlocksBy, IsBlockBy, hops_text, lost_line, packet_line}
 use Rattle.snap_runs.specs.Settling.{HappenTo}
 use Rattle.snap_runs.specs.Tallies.{number_of}
 use Rattle.snap_runs.proofs.Happenings.{HappenElsewhere, deliveries_of-append, deliveries_of-others, losses_of-append, losses_of-others, hops_text-append, hops_text-others}
 
-module _ (t : Tables) (hops : Bool) (i : ℕ) (text : List ℕ) where
+module _ (f : Frames) (t : Tables) (hops : Bool) (i : ℕ) (text : List ℕ) where
   -- the block tells of packet i alone
-  block-same : (hs gs : List Happening) → deliveries_of i hs ≡ deliveries_of i gs → losses_of i hs ≡ losses_of i gs → hops_text t hops i hs ≡ hops_text t hops i gs → IsBlock t hops i gs text → IsBlock t hops i hs text
+  block-same : (hs gs : List Happening) → deliveries_of i hs ≡ deliveries_of i gs → losses_of i hs ≡ losses_of i gs → hops_text f t hops i hs ≡ hops_text f t hops i gs → IsBlockBy f t hops i gs text → IsBlockBy f t hops i hs text
   block-same hs gs d l h b = record {
     outs = b.outs;
     rising = b.rising;
@@ -26,17 +27,17 @@ module _ (t : Tables) (hops : Bool) (i : ℕ) (text : List ℕ) where
     is = b.is ∙ (λ j. packet_line (i + 1) ++ sym h j ++ out_lines t.fields b.outs ++ lost_line (sum (sym l j)));
   }
 
-  block-front : (hs gs : List Happening) → HappenElsewhere i gs → IsBlock t hops i hs text → IsBlock t hops i (hs ++ gs) text
+  block-front : (hs gs : List Happening) → HappenElsewhere i gs → IsBlockBy f t hops i hs text → IsBlockBy f t hops i (hs ++ gs) text
   block-front hs gs other = block-same (hs ++ gs) hs
       (deliveries_of-append i hs gs ∙ ap (λ l. deliveries_of i hs ++ l) (deliveries_of-others i gs other) ∙ append-nil (deliveries_of i hs))
       (losses_of-append i hs gs ∙ ap (λ l. losses_of i hs ++ l) (losses_of-others i gs other) ∙ append-nil (losses_of i hs))
-      (hops_text-append t hops i hs gs ∙ ap (λ l. hops_text t hops i hs ++ l) (hops_text-others t hops i gs other) ∙ append-nil (hops_text t hops i hs))
+      (hops_text-append f t hops i hs gs ∙ ap (λ l. hops_text f t hops i hs ++ l) (hops_text-others f t hops i gs other) ∙ append-nil (hops_text f t hops i hs))
 
-  block-behind : (hs gs : List Happening) → HappenElsewhere i hs → IsBlock t hops i gs text → IsBlock t hops i (hs ++ gs) text
+  block-behind : (hs gs : List Happening) → HappenElsewhere i hs → IsBlockBy f t hops i gs text → IsBlockBy f t hops i (hs ++ gs) text
   block-behind hs gs other = block-same (hs ++ gs) gs
       (deliveries_of-append i hs gs ∙ ap (λ l. l ++ deliveries_of i gs) (deliveries_of-others i hs other))
       (losses_of-append i hs gs ∙ ap (λ l. l ++ losses_of i gs) (losses_of-others i hs other))
-      (hops_text-append t hops i hs gs ∙ ap (λ l. l ++ hops_text t hops i gs) (hops_text-others t hops i hs other))
+      (hops_text-append f t hops i hs gs ∙ ap (λ l. l ++ hops_text f t hops i gs) (hops_text-others f t hops i hs other))
 
 -- ---- lists
 pub concat-push : (xs : List (List ℕ)) (x : List ℕ) → concat (xs ++ x ∷ []) ≡ concat xs ++ x
@@ -65,8 +66,8 @@ module _ (n : ℕ) (hs gs : List Happening) (before : All (λ h. number_of h < n
   earlier-elsewhere = All-weaker (λ h. number_of h < n) (λ h. number_of h ≢ n) (λ h less e. omega (arith, less, e)) hs before
 
 -- ---- one block more
-module _ (t : Tables) (hops : Bool) (n : ℕ) (hs gs : List Happening) (text block : List ℕ) (before : All (λ h. number_of h < n) hs) (happen : HappenTo n gs) where
-  pub blocks-push : AreBlocks t hops n hs text → IsBlock t hops n gs block → AreBlocks t hops (n + 1) (hs ++ gs) (text ++ block)
+module _ (f : Frames) (t : Tables) (hops : Bool) (n : ℕ) (hs gs : List Happening) (text block : List ℕ) (before : All (λ h. number_of h < n) hs) (happen : HappenTo n gs) where
+  pub blocks-push : AreBlocksBy f t hops n hs text → IsBlockBy f t hops n gs block → AreBlocksBy f t hops (n + 1) (hs ++ gs) (text ++ block)
   blocks-push all one = record {
     each = all.each ++ block ∷ [];
     as_many = length-append all.each (block ∷ []) ∙ ap (λ m. m + 1) all.as_many;
@@ -74,10 +75,10 @@ module _ (t : Tables) (hops : Bool) (n : ℕ) (hs gs : List Happening) (text blo
     is = ap (λ l. l ++ block) all.is ∙ sym (concat-push all.each block);
   }
     where
-      by : (i : ℕ) (x : List ℕ) → ((i < length all.each) × (slice_get all.each i ≡ Some x)) ⊎ ((i ≡ length all.each) × (block ≡ x)) → IsBlock t hops i (hs ++ gs) x
-      by i x (inl h) = let l = h.0 in let m = all.as_many in block-front t hops i x hs gs (later-elsewhere n hs gs before happen i (omega (arith, l, m))) (all.blocks i x h.1)
-      by i x (inr h) = subst (λ j. IsBlock t hops j (hs ++ gs) x) (sym (h.0 ∙ all.as_many)) (subst (IsBlock t hops n (hs ++ gs)) h.1 (block-behind t hops n block hs gs (earlier-elsewhere n hs gs before happen) one))
+      by : (i : ℕ) (x : List ℕ) → ((i < length all.each) × (slice_get all.each i ≡ Some x)) ⊎ ((i ≡ length all.each) × (block ≡ x)) → IsBlockBy f t hops i (hs ++ gs) x
+      by i x (inl h) = let l = h.0 in let m = all.as_many in block-front f t hops i x hs gs (later-elsewhere n hs gs before happen i (omega (arith, l, m))) (all.blocks i x h.1)
+      by i x (inr h) = subst (λ j. IsBlockBy f t hops j (hs ++ gs) x) (sym (h.0 ∙ all.as_many)) (subst (IsBlockBy f t hops n (hs ++ gs)) h.1 (block-behind f t hops n block hs gs (earlier-elsewhere n hs gs before happen) one))
 
 -- no blocks
-pub blocks-none : (t : Tables) (hops : Bool) → AreBlocks t hops 0 [] []
-blocks-none t hops = record { each = []; as_many = refl; blocks = λ i x is. absurd (false≢true (ap (λ (o : Option (List ℕ)). is_some o) is)); is = refl }
+pub blocks-none : (f : Frames) (t : Tables) (hops : Bool) → AreBlocksBy f t hops 0 [] []
+blocks-none f t hops = record { each = []; as_many = refl; blocks = λ i x is. absurd (false≢true (ap (λ (o : Option (List ℕ)). is_some o) is)); is = refl }

@@ -1,7 +1,6 @@
 -- How a run ends.
-use Rattle.std.proofs.Common.{◌≡◌, ℕ, Bool, true, false, List, [], ◌++◌, Option, Ok, Err, take, refl, sym, ap, subst, ◌∙◌, inr, append-nil}
+use Rattle.std.proofs.Common.{◌≡◌, ℕ, Bool, true, List, [], ◌++◌, Option, Ok, Err, take, refl, sym, ap, subst, ◌∙◌, inr, append-nil}
 use Rattle.std.specs.Prelude.{IfSome}
-use Rattle.std.specs.Io.KnownBytes.{Appends}
 use Rattle.std.proofs.KnownBytes.{Appends-nil, Appends-trans}
 use Rattle.snap_core.specs.Arrays.{zero_arrays}
 use Rattle.snap_io.specs.Files.{Files, file_of}
@@ -13,29 +12,14 @@ use Rattle.snap_trace.specs.declared.fault.TraceFault.TheVariants.{Read, Write, 
 use Rattle.snap_trace.specs.OneSwitch.{RunEnding}
 use Rattle.snap_trace.specs.Steps.{Waits, is_told}
 use Rattle.snap_trace.proofs.StepLemmas.{where_both_told}
-use Rattle.snap_runs.specs.Plain.{Writes, WritesTrace}
+use Rattle.snap_runs.specs.declared.frames.Frames.{Frames}
+use Rattle.snap_runs.specs.Plain.{Writes, WritesTraceBy}
 use Rattle.snap_runs.specs.Tracing.{EndsRun}
 use Rattle.snap_runs.proofs.Blocks.{blocks-none}
 use Rattle.std.proofs.lemmas.List.Elements.{All-nil}
 use Rattle.snap_rows.specs.Network.{StepsFirst}
 
 module _ (Blocks : List ℕ → Type 0) (Ends : RunEnding → List ℕ → Type 0) (old now : Option (List ℕ)) (waiting : List ℕ) where
-  -- what waited was written
-  pub closes-written : (last : Option (List ℕ)) (ending : RunEnding) → is_told ending ≡ true → EndsRun Blocks Ends ending old now waiting → Appends now last waiting → Writes Blocks Ends ending old last
-  closes-written last ending told closed written = by ending told closed
-    where
-      whole : (e : RunEnding) → (text : List ℕ) × Ends e text × Waits old now text waiting → (text : List ℕ) × Ends e text × Appends old last text
-      whole e c = let w = c.2 in (c.0, c.1, subst (Appends old last) (sym w.whole) (Appends-trans old now last w.front waiting w.taken written))
-
-      by : (e : RunEnding) → is_told e ≡ true → EndsRun Blocks Ends e old now waiting → Writes Blocks Ends e old last
-      by (Ok u) told c = whole (Ok u) c
-      by (Err Read) told c = absurd (cc)
-      by (Err Write) told c = absurd (cc)
-      by (Err NoMemory) told c = absurd (cc)
-      by (Err (Limit which count)) told c = whole (Err (Limit which count)) c
-      by (Err (Packets line)) told c = whole (Err (Packets line)) c
-      by (Err (Undefined packet)) told c = c
-
   -- the sink failed at the end
   pub closes-failed : (last : Option (List ℕ)) (ending : RunEnding) → is_told ending ≡ true → EndsRun Blocks Ends ending old now waiting → AppendsPart now last waiting → Writes Blocks Ends (Err Write) old last
   closes-failed last ending told closed part = by ending told closed
@@ -55,16 +39,6 @@ module _ (Blocks : List ℕ → Type 0) (Ends : RunEnding → List ℕ → Type 
       by (Err (Packets line)) told c = some (Err (Packets line)) c
       by (Err (Undefined packet)) told c = absurd c
 
-  -- a device failed before, or memory was short
-  pub closes-short : (ending : RunEnding) → is_told ending ≡ false → EndsRun Blocks Ends ending old now waiting → Writes Blocks Ends ending old now
-  closes-short (Ok u) told c = absurd (cc)
-  closes-short (Err Read) told c = c
-  closes-short (Err Write) told c = c
-  closes-short (Err NoMemory) told c = c
-  closes-short (Err (Limit which count)) told c = absurd (cc)
-  closes-short (Err (Packets line)) told c = absurd (cc)
-  closes-short (Err (Undefined packet)) told c = absurd c
-
 -- what a step makes of each file that a shelf tells, where it tells the same files as before
 pub told-on : (told told' : Option Files) (name name' : List ℕ) (P Q : List ℕ → Type 0) → told' ≡ told → name' ≡ name → IfSome told (λ files. P (file_of files name))
     → IfSome told' (λ files. P (file_of files name') → Q (file_of files name')) → IfSome told (λ files. Q (file_of files name))
@@ -73,8 +47,8 @@ told-on told told' name name' P Q same called came steps =
     (subst (λ o. IfSome o (λ files. P (file_of files name) → Q (file_of files name))) same (subst (λ n. IfSome told' (λ files. P (file_of files n) → Q (file_of files n))) called steps))
 
 -- where memory is short before anything is read, nothing is written
-pub writes-nothing : (t : Tables) (hops : Bool) (file : List ℕ) (out : Option (List ℕ)) → WritesTrace t hops file (Err NoMemory) out out
-writes-nothing t hops file out = (
+pub writes-nothing : (f : Frames) (t : Tables) (hops : Bool) (file : List ℕ) (out : Option (List ℕ)) → WritesTraceBy f t hops file (Err NoMemory) out out
+writes-nothing f t hops file out = (
   [],
   (
     0,
@@ -83,7 +57,7 @@ writes-nothing t hops file out = (
       end = start t zero_arrays;
       happenings = [];
       run = record { packets = refl; first = All-nil StepsFirst; run = rests; ended = refl };
-      blocks = blocks-none t hops;
+      blocks = blocks-none f t hops;
     },
   ),
   (0, Appends-nil out),

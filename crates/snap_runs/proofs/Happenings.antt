@@ -11,8 +11,9 @@ use Rattle.snap_rows.specs.declared.head.Sent.{Sent}
 use Rattle.snap_rows.specs.Happenings.{deliveries_of, losses_of}
 use Rattle.snap_rows.specs.Network.{Happening, Crossed, Delivered, Forked}
 use Rattle.snap_net.specs.Shown.{happened, moving}
+use Rattle.snap_runs.specs.declared.frames.Frames.{Frames}
 use Rattle.snap_runs.specs.Reports.{hop_line, hop_lines, hops_text, packets_delivered}
-use Rattle.snap_runs.specs.Tallies.{delivered_by, hop_by, lost_by, number_of}
+use Rattle.snap_runs.specs.Tallies.{delivered_by, hop_told, lost_by, number_of}
 
 pub deliveries_of-append : (i : ℕ) (hs gs : List Happening) → deliveries_of i (hs ++ gs) ≡ deliveries_of i hs ++ deliveries_of i gs
 deliveries_of-append i [] gs = refl
@@ -35,20 +36,20 @@ losses_of-append i (Forked c copies lost ∷ hs) gs = by (c.number == i) (losses
     by true e = ap (λ l. lost ∷ l) e
     by false e = e
 
-hop_lines-append : (t : Tables) (i : ℕ) (hs gs : List Happening) → hop_lines t i (hs ++ gs) ≡ hop_lines t i hs ++ hop_lines t i gs
-hop_lines-append t i [] gs = refl
-hop_lines-append t i (Delivered c port ∷ hs) gs = hop_lines-append t i hs gs
-hop_lines-append t i (Crossed c to head ∷ hs) gs = by (c.number == i) (hop_lines-append t i hs gs)
+hop_lines-append : (f : Frames) (t : Tables) (i : ℕ) (hs gs : List Happening) → hop_lines f t i (hs ++ gs) ≡ hop_lines f t i hs ++ hop_lines f t i gs
+hop_lines-append f t i [] gs = refl
+hop_lines-append f t i (Delivered c port ∷ hs) gs = hop_lines-append f t i hs gs
+hop_lines-append f t i (Crossed c to head ∷ hs) gs = by (c.number == i) (hop_lines-append f t i hs gs)
   where
-    by : (b : Bool) → hop_lines t i (hs ++ gs) ≡ hop_lines t i hs ++ hop_lines t i gs
-        → (if b then hop_line t c to head ++ hop_lines t i (hs ++ gs) else hop_lines t i (hs ++ gs)) ≡ (if b then hop_line t c to head ++ hop_lines t i hs else hop_lines t i hs) ++ hop_lines t i gs
-    by true e = ap (λ l. hop_line t c to head ++ l) e ∙ sym (append_assoc (hop_line t c to head) (hop_lines t i hs) (hop_lines t i gs))
+    by : (b : Bool) → hop_lines f t i (hs ++ gs) ≡ hop_lines f t i hs ++ hop_lines f t i gs
+        → (if b then hop_line f t c to head ++ hop_lines f t i (hs ++ gs) else hop_lines f t i (hs ++ gs)) ≡ (if b then hop_line f t c to head ++ hop_lines f t i hs else hop_lines f t i hs) ++ hop_lines f t i gs
+    by true e = ap (λ l. hop_line f t c to head ++ l) e ∙ sym (append_assoc (hop_line f t c to head) (hop_lines f t i hs) (hop_lines f t i gs))
     by false e = e
-hop_lines-append t i (Forked c copies lost ∷ hs) gs = hop_lines-append t i hs gs
+hop_lines-append f t i (Forked c copies lost ∷ hs) gs = hop_lines-append f t i hs gs
 
-pub hops_text-append : (t : Tables) (hops : Bool) (i : ℕ) (hs gs : List Happening) → hops_text t hops i (hs ++ gs) ≡ hops_text t hops i hs ++ hops_text t hops i gs
-hops_text-append t true i hs gs = hop_lines-append t i hs gs
-hops_text-append t false i hs gs = refl
+pub hops_text-append : (f : Frames) (t : Tables) (hops : Bool) (i : ℕ) (hs gs : List Happening) → hops_text f t hops i (hs ++ gs) ≡ hops_text f t hops i hs ++ hops_text f t hops i gs
+hops_text-append f t true i hs gs = hop_lines-append f t i hs gs
+hops_text-append f t false i hs gs = refl
 
 -- ---- what happens to others is nothing to packet i
 abbrev pub HappenElsewhere : ℕ → List Happening → Type 0
@@ -70,17 +71,17 @@ losses_of-others i (Forked c copies lost ∷ hs) all =
     ap (λ b. if b then (lost ∷ losses_of i hs) else losses_of i hs) (ne_eqb c.number i (All-head (λ h. number_of h ≢ i) (Forked c copies lost) hs all))
     ∙ losses_of-others i hs (All-tail (λ h. number_of h ≢ i) (Forked c copies lost) hs all)
 
-hop_lines-others : (t : Tables) (i : ℕ) (hs : List Happening) → HappenElsewhere i hs → hop_lines t i hs ≡ []
-hop_lines-others t i [] all = refl
-hop_lines-others t i (Delivered c port ∷ hs) all = hop_lines-others t i hs (All-tail (λ h. number_of h ≢ i) (Delivered c port) hs all)
-hop_lines-others t i (Crossed c to head ∷ hs) all =
-    ap (λ b. if b then hop_line t c to head ++ hop_lines t i hs else hop_lines t i hs) (ne_eqb c.number i (All-head (λ h. number_of h ≢ i) (Crossed c to head) hs all))
-    ∙ hop_lines-others t i hs (All-tail (λ h. number_of h ≢ i) (Crossed c to head) hs all)
-hop_lines-others t i (Forked c copies lost ∷ hs) all = hop_lines-others t i hs (All-tail (λ h. number_of h ≢ i) (Forked c copies lost) hs all)
+hop_lines-others : (f : Frames) (t : Tables) (i : ℕ) (hs : List Happening) → HappenElsewhere i hs → hop_lines f t i hs ≡ []
+hop_lines-others f t i [] all = refl
+hop_lines-others f t i (Delivered c port ∷ hs) all = hop_lines-others f t i hs (All-tail (λ h. number_of h ≢ i) (Delivered c port) hs all)
+hop_lines-others f t i (Crossed c to head ∷ hs) all =
+    ap (λ b. if b then hop_line f t c to head ++ hop_lines f t i hs else hop_lines f t i hs) (ne_eqb c.number i (All-head (λ h. number_of h ≢ i) (Crossed c to head) hs all))
+    ∙ hop_lines-others f t i hs (All-tail (λ h. number_of h ≢ i) (Crossed c to head) hs all)
+hop_lines-others f t i (Forked c copies lost ∷ hs) all = hop_lines-others f t i hs (All-tail (λ h. number_of h ≢ i) (Forked c copies lost) hs all)
 
-pub hops_text-others : (t : Tables) (hops : Bool) (i : ℕ) (hs : List Happening) → HappenElsewhere i hs → hops_text t hops i hs ≡ []
-hops_text-others t true i hs all = hop_lines-others t i hs all
-hops_text-others t false i hs all = refl
+pub hops_text-others : (f : Frames) (t : Tables) (hops : Bool) (i : ℕ) (hs : List Happening) → HappenElsewhere i hs → hops_text f t hops i hs ≡ []
+hops_text-others f t true i hs all = hop_lines-others f t i hs all
+hops_text-others f t false i hs all = refl
 
 -- ---- one more step
 module _ (i : ℕ) where
@@ -109,11 +110,11 @@ module _ (i : ℕ) where
       ∙ sum_by-append (λ n. n) (losses_of i hs) (losses_of i (x ∷ []))
       ∙ ap (λ n. sum (losses_of i hs) + n) (lost_one x e)
 
-  hop_one : (t : Tables) (x : Happening) → number_of x ≡ i → hop_lines t i (x ∷ []) ≡ hop_by t.switches (happened x)
-  hop_one t (Delivered c port) e = refl
-  hop_one t (Crossed c to head) e = ap (λ b. if b then hop_line t c to head ++ [] else []) (eq-eqb c.number i e) ∙ append-nil (hop_line t c to head)
-  hop_one t (Forked c copies lost) e = refl
+  hop_one : (f : Frames) (t : Tables) (x : Happening) → number_of x ≡ i → hop_lines f t i (x ∷ []) ≡ hop_told f t.switches (happened x)
+  hop_one f t (Delivered c port) e = refl
+  hop_one f t (Crossed c to head) e = ap (λ b. if b then hop_line f t c to head ++ [] else []) (eq-eqb c.number i e) ∙ append-nil (hop_line f t c to head)
+  hop_one f t (Forked c copies lost) e = refl
 
-  pub hops_text-more : (t : Tables) (hops : Bool) (hs : List Happening) (x : Happening) → number_of x ≡ i → hops_text t hops i (hs ++ x ∷ []) ≡ hops_text t hops i hs ++ (if hops then hop_by t.switches (happened x) else [])
-  hops_text-more t true hs x e = hop_lines-append t i hs (x ∷ []) ∙ ap (λ l. hop_lines t i hs ++ l) (hop_one t x e)
-  hops_text-more t false hs x e = refl
+  pub hops_text-more : (f : Frames) (t : Tables) (hops : Bool) (hs : List Happening) (x : Happening) → number_of x ≡ i → hops_text f t hops i (hs ++ x ∷ []) ≡ hops_text f t hops i hs ++ (if hops then hop_told f t.switches (happened x) else [])
+  hops_text-more f t true hs x e = hop_lines-append f t i hs (x ∷ []) ∙ ap (λ l. hop_lines f t i hs ++ l) (hop_one f t x e)
+  hops_text-more f t false hs x e = refl

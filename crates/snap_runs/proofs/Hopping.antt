@@ -12,6 +12,7 @@ use Rattle.snap_rows.specs.Network.{Copy, Happening, Crossed, Delivered, Forked,
 use Rattle.snap_rows.proofs.Rows.{some_injective}
 use Rattle.snap_head.specs.Frames.{frame}
 use Rattle.snap_trace.specs.Reports.{out_lines, end_text}
+use Rattle.snap_runs.specs.declared.frames.Frames.TheVariants.{Plain}
 use Rattle.snap_runs.specs.Hops.{IsHopLine, AreHopLines, AddsHops, end, block}
 use Rattle.snap_runs.specs.Reports.{IsBlock, IsRunReport, array_names, hop_line, hop_lines, lost_line, packet_line, switch_name}
 
@@ -19,19 +20,19 @@ use Rattle.snap_runs.specs.Reports.{IsBlock, IsRunReport, array_names, hop_line,
 five : (a b c d e : List ℕ) → codes "hop " ++ (a ++ (b ++ (c ++ (d ++ (e ++ codes "\n"))))) ≡ codes "hop " ++ (a ++ (b ++ (c ++ (d ++ e)))) ++ codes "\n"
 five a b c d e = simp append_assoc
 
-is_hop_line : (t : Tables) (c : Copy) (to : ℕ) (head : Head) → IsHopLine (hop_line t c to head)
+is_hop_line : (t : Tables) (c : Copy) (to : ℕ) (head : Head) → IsHopLine (hop_line Plain t c to head)
 is_hop_line t c to head =
     (switch_name t c.at ++ (codes " " ++ (switch_name t to ++ (codes " " ++ encode_lower (frame head c.packet)))), five (switch_name t c.at) (codes " ") (switch_name t to) (codes " ") (encode_lower (frame head c.packet)))
 
 more_lines : (line text : List ℕ) → IsHopLine line → AreHopLines text → AreHopLines (line ++ text)
 more_lines line text is are = (line ∷ are.0, All-cons IsHopLine line are.0 is are.1, ap (λ l. line ++ l) are.2)
 
-are_hop_lines : (t : Tables) (i : ℕ) (hs : List Happening) → AreHopLines (hop_lines t i hs)
+are_hop_lines : (t : Tables) (i : ℕ) (hs : List Happening) → AreHopLines (hop_lines Plain t i hs)
 are_hop_lines t i [] = ([], All-nil IsHopLine, refl)
 are_hop_lines t i (Crossed c to head ∷ hs) = by (eqb c.number i) (are_hop_lines t i hs)
   where
-    by : (mine : Bool) → AreHopLines (hop_lines t i hs) → AreHopLines (cond mine (hop_line t c to head ++ hop_lines t i hs) (hop_lines t i hs))
-    by true are = more_lines (hop_line t c to head) (hop_lines t i hs) (is_hop_line t c to head) are
+    by : (mine : Bool) → AreHopLines (hop_lines Plain t i hs) → AreHopLines (cond mine (hop_line Plain t c to head ++ hop_lines Plain t i hs) (hop_lines Plain t i hs))
+    by true are = more_lines (hop_line Plain t c to head) (hop_lines Plain t i hs) (is_hop_line t c to head) are
     by false are = are
 are_hop_lines t i (Delivered c port ∷ hs) = are_hop_lines t i hs
 are_hop_lines t i (Forked c copies lost ∷ hs) = are_hop_lines t i hs
@@ -64,9 +65,9 @@ module _ (t : Tables) (hs : List Happening) where
       let outs = out_lines t.fields b.outs in
       let lost = lost_line (sum (losses_of i hs)) in
       subst (λ x. AddsHops ((plain_block i text b ++ plain) ++ last) ((x ++ told) ++ last)) (sym b.is)
-      (subst (λ x. AddsHops x ((packet_line (i + 1) ++ hop_lines t i hs ++ outs ++ lost ++ told) ++ last)) (sym (plain_parts (packet_line (i + 1)) outs lost plain last))
-      (subst (λ x. AddsHops (packet_line (i + 1) ++ (outs ++ lost) ++ (plain ++ last)) x) (sym (told_parts (packet_line (i + 1)) (hop_lines t i hs) outs lost told last))
-      (block (i + 1) (hop_lines t i hs) (outs ++ lost) (plain ++ last) (told ++ last) (are_hop_lines t i hs) adds)))
+      (subst (λ x. AddsHops x ((packet_line (i + 1) ++ hop_lines Plain t i hs ++ outs ++ lost ++ told) ++ last)) (sym (plain_parts (packet_line (i + 1)) outs lost plain last))
+      (subst (λ x. AddsHops (packet_line (i + 1) ++ (outs ++ lost) ++ (plain ++ last)) x) (sym (told_parts (packet_line (i + 1)) (hop_lines Plain t i hs) outs lost told last))
+      (block (i + 1) (hop_lines Plain t i hs) (outs ++ lost) (plain ++ last) (told ++ last) (are_hop_lines t i hs) adds)))
 
   first_more : (i : ℕ) (text : List ℕ) (b : IsBlock t true (i + 0) hs text) (others : List (List ℕ)) → ((j : ℕ) (x : List ℕ) → slice_get others j ≡ Some x → IsBlock t false (i + 1 + j) hs x)
       → (j : ℕ) (x : List ℕ) → slice_get (plain_block (i + 0) text b ∷ others) j ≡ Some x → IsBlock t false (i + j) hs x

@@ -7,6 +7,7 @@ use Rattle.snap_core.specs.Arrays.{zero_arrays}
 use Rattle.snap_rows.specs.declared.tables.Tables.{Tables}
 use Rattle.snap_rows.specs.Form.{IsInForm}
 use Rattle.snap_rows.specs.Network.{Net, Event, Inject, Step, Happening, step, Runs, done, on, start}
+use Rattle.snap_runs.specs.declared.frames.Frames.TheVariants.{Plain}
 use Rattle.snap_runs.specs.declared.event.Order.{Order}
 use Rattle.snap_runs.specs.declared.event.Order.TheVariants as order
 use Rattle.snap_runs.specs.Reports.{IsRunReport}
@@ -19,7 +20,7 @@ orders_same : (l l' : List ℕ) (a b : Order) → order_by l ≡ Some a → orde
 orders_same l l' a b e f same = sym e ∙ ap order_by same ∙ f
 
 -- lines spell events in one way
-spells_one : {lines lines' ks ks' left left' : List (List ℕ)} {es es' : List Event} → Spells lines ks es left → Spells lines' ks' es' left' → lines ≡ lines' → ks ≡ ks' → (es ≡ es') × (left ≡ left')
+pub spells_one : {lines lines' ks ks' left left' : List (List ℕ)} {es es' : List Event} → Spells lines ks es left → Spells lines' ks' es' left' → lines ≡ lines' → ks ≡ ks' → (es ≡ es') × (left ≡ left')
 spells_one nothing nothing same packets = (refl, packets)
 spells_one nothing (skips f m) same packets = absurd (cc)
 spells_one nothing (injects f m) same packets = absurd (cc)
@@ -61,7 +62,7 @@ obeys_one t form ks lines left left' s s' hs hs' a b =
     (told.1, ran.0, ran.1)
 
 -- ---- a run of more lines has done each of the first ones
-spells-cut : (before rest : List (List ℕ)) {ks left : List (List ℕ)} {es : List Event} → Spells (before ++ rest) ks es left
+pub spells-cut : (before rest : List (List ℕ)) {ks left : List (List ℕ)} {es : List Event} → Spells (before ++ rest) ks es left
     → (fs gs : List Event) × (mid : List (List ℕ)) × Spells before ks fs mid × Spells rest mid gs left × (es ≡ fs ++ gs)
 spells-cut [] rest {ks = ks} {es = es} n = ([], es, ks, nothing, n, refl)
 spells-cut (line ∷ before) rest (skips e n) = let r = spells-cut before rest n in (r.0, r.1, r.2, skips e r.3, r.4, r.5)
@@ -91,7 +92,7 @@ stuck_stays t form ks before rest line left mid s m hs gs all first cant =
 -- ---- the line that is refused
 -- two places in a list are one, or the one stands behind the other
 module _ {X : Type 0} where
-  abbrev Sides : (a : List X) → X → (b : List X) → X → Type 0
+  abbrev pub Sides : (a : List X) → X → (b : List X) → X → Type 0
   Sides a x b y = (length a ≡ length b) ⊎ (((r : List X) × (b ≡ a ++ x ∷ r)) ⊎ ((r : List X) × (a ≡ b ++ y ∷ r)))
 
   sides-cons : (c d x y : X) (a b : List X) → c ≡ d → Sides a x b y → Sides (c ∷ a) x (d ∷ b) y
@@ -99,7 +100,7 @@ module _ {X : Type 0} where
   sides-cons c d x y a b same (inr (inl (r, e))) = inr (inl (r, λ i. sym same i ∷ e i))
   sides-cons c d x y a b same (inr (inr (r, e))) = inr (inr (r, λ i. same i ∷ e i))
 
-  sides : (a : List X) (x : X) (xs b : List X) (y : X) (ys : List X) → a ++ x ∷ xs ≡ b ++ y ∷ ys → Sides a x b y
+  pub sides : (a : List X) (x : X) (xs b : List X) (y : X) (ys : List X) → a ++ x ∷ xs ≡ b ++ y ∷ ys → Sides a x b y
   sides [] x xs [] y ys e = inl refl
   sides [] x xs (d ∷ b) y ys e = let first : d ≡ x = cc in inr (inl (b, λ i. first i ∷ b))
   sides (c ∷ a) x xs [] y ys e = let first : c ≡ y = cc in inr (inr (a, λ i. first i ∷ a))
@@ -133,7 +134,7 @@ module _ (t : Tables) (form : IsInForm t) (ks lines : List (List ℕ)) where
   one_report : (hops : Bool) (a b : List ℕ) → IsScheduleReport t hops ks lines a → IsScheduleReport t hops ks lines b → a ≡ b
   one_report hops a b x y =
       let one = obeys_one t form ks lines [] [] x.state y.state x.happenings y.happenings x.obeys y.obeys in
-      reports_one t hops (length ks) x.state x.happenings a b x.report
+      reports_one Plain t hops (length ks) x.state x.happenings a b x.report
       (subst (λ hs. IsRunReport t hops (length ks) x.state hs b) (sym one.2) (subst (λ s. IsRunReport t hops (length ks) s y.happenings b) (sym one.1) y.report))
 
 pub refused_one : (t : Tables) → IsInForm t → (ks lines : List (List ℕ)) (a b : ℕ) → RefusesLine t ks lines a → RefusesLine t ks lines b → a ≡ b

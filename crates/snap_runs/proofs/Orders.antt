@@ -1,8 +1,7 @@
 -- Lines of a schedule, and what they order.
-use Rattle.std.proofs.Common.{◌≡◌, ◌≢◌, ℕ, Bool, true, false, List, [], ◌∷◌, refl, sym, ap, ◌∙◌}
+use Rattle.std.proofs.Common.{◌≡◌, ◌≢◌, ℕ, Bool, true, false, List, [], ◌∷◌, refl, ap, ◌∙◌}
 use Rattle.std.specs.Prelude.{◌==◌, if◌then◌else◌}
 use Rattle.snap_core.specs.Parts.{onto_first, parts_by}
-use Rattle.snap_trace.specs.PacketLines.{is_some_text}
 use Rattle.snap_runs.specs.Schedules.{lines_of, whole_lines}
 
 -- there is always a part
@@ -22,14 +21,3 @@ lines-cons line (part ∷ parts) some = refl
 -- a line, and the text behind it
 pub lines-more : (text line behind : List ℕ) → parts_by (λ b. b == 10) text ≡ line ∷ parts_by (λ b. b == 10) behind → lines_of text ≡ line ∷ lines_of behind
 lines-more text line behind e = ap whole_lines e ∙ lines-cons line (parts_by (λ b. b == 10) behind) (parts-some (λ b. b == 10) behind)
-
--- a line that doesn't end with an LF
-pub lines-last : (text : List ℕ) → text ≢ [] → parts_by (λ b. b == 10) text ≡ text ∷ [] → lines_of text ≡ text ∷ []
-lines-last text some e = ap whole_lines e ∙ by text some
-  where
-    by : (t : List ℕ) → t ≢ [] → (if is_some_text t then t ∷ [] else []) ≡ t ∷ []
-    by [] some = absurd (some refl)
-    by (b ∷ bs) some = refl
-
-pub lines-none : (text : List ℕ) → text ≡ [] → lines_of text ≡ []
-lines-none text e = ap lines_of e

@@ -1,9 +1,10 @@
 -- The first copy goes on its way, and the lines of the links that it crosses are put.
-use Rattle.std.proofs.Common.{◌≡◌, ◌≢◌, ℕ, ◌+◌, ◌<◌, Bool, true, false, List, [], ◌∷◌, ◌++◌, map, Option, Some, None, length, refl, sym, ap, ap₂, subst, ◌∙◌, append-nil}
+use Rattle.std.proofs.Common.{◌≡◌, ◌≢◌, ℕ, ◌+◌, ◌<◌, Bool, true, false, List, [], ◌∷◌, ◌++◌, map, take, drop, Option, Some, None, length, refl, sym, ap, ap₂, subst, ◌∙◌, append-nil}
 use Rattle.std.specs.Prelude.{◌==◌, slice_get, sum, unwrap_or, if◌then◌else◌}
 use Rattle.std.specs.List.{All}
 use Rattle.hex.specs.Hex.{encode_lower}
 use Rattle.std.proofs.lemmas.Bool.{eq-eqb}
+use Rattle.std.proofs.lemmas.Option.{none-some, same_Some}
 use Rattle.std.proofs.lemmas.List.Elements.{All-nil, All-cons, All-append, All-head, All-tail}
 use Rattle.snap_rows.specs.declared.tables.Tables.{Tables}
 use Rattle.snap_rows.specs.declared.head.Head.{Head}
@@ -12,15 +13,18 @@ use Rattle.snap_rows.specs.Aims.{aim_of}
 use Rattle.snap_rows.specs.Entries.{next}
 use Rattle.snap_rows.specs.Form.{IsInForm, switch_count}
 use Rattle.snap_rows.specs.Happenings.{deliveries_of, losses_of}
-use Rattle.snap_rows.specs.Network.{Copy, Net, Happening, Crossed, Step, rests, steps, StepsFirst, packets_of}
+use Rattle.snap_rows.specs.declared.head.Action.{Action}
+use Rattle.snap_rows.specs.declared.head.Action.TheVariants.{Forward, Deliver, Fork}
+use Rattle.snap_rows.specs.Network.{Copy, Net, Happening, Crossed, Leads, Step, happening, moved, rests, step, steps, StepsFirst, packets_of}
 use Rattle.snap_rows.specs.Ways.{Way, here, on}
 use Rattle.snap_head.specs.Frames.{frame}
 use Rattle.snap_net.specs.declared.flying.Flying.{Flying}
-use Rattle.snap_net.specs.Shown.{Held, Shows}
+use Rattle.snap_net.specs.Shown.{Held, Shows, flown}
 use Rattle.snap_net.specs.Travels.{Crosses, ends, goes, Travels, stays, crosses, HasTravelled, arrived}
+use Rattle.snap_runs.specs.declared.frames.Frames.{Frames}
 use Rattle.snap_runs.specs.declared.tally.Tally.{Tally}
 use Rattle.snap_runs.specs.Crossings.{NotesCrossings, NotesWay, crossing_lines, line_text, way_text}
-use Rattle.snap_runs.specs.Reports.{hop_line, hop_lines, hops_text}
+use Rattle.snap_runs.specs.Reports.{hop_line, hop_lines, hops_text, lead_of}
 use Rattle.snap_runs.specs.Settling.{AreCopiesOf, HappenTo, HasPassed, HasSettled, Settles, Tallies}
 use Rattle.snap_runs.specs.Tallies.{IsTally, number_of}
 use Rattle.snap_rows.proofs.Aims.{aim_below}
@@ -45,22 +49,24 @@ arrives_below t form c low = by (aim_of t c.head) refl
     by (Some x) e = aim_below t form c.head x e
 
 -- a copy that is there has no way
-pub notes-none : (t : Tables) (c : Flying) (text : List ℕ) → (arrived t c).at ≡ c.at → NotesWay t true c text text
-notes-none t c text there ws way = sym (append-nil text) ∙ ap (λ l. text ++ way_text t.switches (encode_lower (frame c.head c.packet)) c.at l) (sym (way_ends t (arrived t c).at c.at ws (sym there) way))
+pub notes-none : (f : Frames) (t : Tables) (c : Flying) (text : List ℕ) → (arrived t c).at ≡ c.at → NotesWay f t true c text text
+notes-none f t c text there ws way = sym (append-nil text) ∙ ap (λ l. text ++ way_text t.switches (encode_lower (lead_of f c.number ++ frame c.head c.packet)) c.at l) (sym (way_ends t (arrived t c).at c.at ws (sym there) way))
 
-pub notes-way : (t : Tables) (c : Flying) (to : ℕ) (digits before after : List ℕ) → to ≡ (arrived t c).at → digits ≡ encode_lower (frame c.head c.packet)
-    → ((ws : List ℕ) → Way t to c.at ws → after ≡ before ++ way_text t.switches digits c.at ws) → NotesWay t true c before after
-notes-way t c to digits before after there are put ws way =
+pub notes-way : (f : Frames) (t : Tables) (c : Flying) (to : ℕ) (digits before after : List ℕ) → to ≡ (arrived t c).at → digits ≡ encode_lower (lead_of f c.number ++ frame c.head c.packet)
+    → ((ws : List ℕ) → Way t to c.at ws → after ≡ before ++ way_text t.switches digits c.at ws) → NotesWay f t true c before after
+notes-way f t c to digits before after there are put ws way =
     put ws (subst (λ x. Way t x c.at ws) (sym there) way)
     ∙ ap (λ d. before ++ way_text t.switches d c.at ws) are
 
--- the lines of a way are those of the crossings along it
-crosses_lines : (switches : List (List ℕ)) (h : Head) (p : List ℕ) (w : ℕ) (ws : List ℕ) (hs : List Happening) → Crosses h p w ws hs → way_text switches (encode_lower (frame h p)) w ws ≡ crossing_lines switches hs
-crosses_lines switches h p w ws hs ends = refl
-crosses_lines switches h p w ws hs (goes {v = v} {vs = vs} {hs = gs} {c = c} at packet rest) =
+-- the lines of a way are those of the crossings along it, which are of one packet
+crosses_lines : (f : Frames) (switches : List (List ℕ)) (i : ℕ) (h : Head) (p : List ℕ) (w : ℕ) (ws : List ℕ) (hs : List Happening) → HappenTo i hs → Crosses h p w ws hs
+    → way_text switches (encode_lower (lead_of f i ++ frame h p)) w ws ≡ crossing_lines f switches hs
+crosses_lines f switches i h p w ws hs own ends = refl
+crosses_lines f switches i h p w ws hs own (goes {v = v} {vs = vs} {hs = gs} {c = c} at packet rest) =
+    let mine : c.number ≡ i = All-head (λ x. number_of x ≡ i) (Crossed c v h) gs own in
     ap₂ (λ a b. a ++ b)
-    (ap (λ u. line_text switches (encode_lower (frame h p)) u v) (sym at) ∙ ap (λ q. line_text switches (encode_lower (frame h q)) c.at v) (sym packet))
-    (crosses_lines switches h p v vs gs rest)
+    (λ z. line_text switches (encode_lower (lead_of f (sym mine z) ++ frame h (sym packet z))) (sym at z) v)
+    (crosses_lines f switches i h p v vs gs (All-tail (λ x. number_of x ≡ i) (Crossed c v h) gs own) rest)
 
 -- ---- crossings
 travels_settle : (t : Tables) (a b : Net) (gs : List Happening) → Travels t 0 a gs b → Settles t a b gs
@@ -95,31 +101,31 @@ travels_quiet : (t : Tables) (i : ℕ) (a b : Net) (gs : List Happening) → Tra
 travels_quiet t i a b gs stays = (refl, refl)
 travels_quiet t i a b gs (crosses {s' = m} {hs = hs} leads rest) = travels_quiet t i m b hs rest
 
-travels_lines : (t : Tables) (i : ℕ) (a b : Net) (gs : List Happening) → Travels t 0 a gs b → HappenTo i gs → hop_lines t i gs ≡ crossing_lines t.switches gs
-travels_lines t i a b gs stays all = refl
-travels_lines t i a b gs (crosses {s' = m} {c = c} {to = to} {h = h} {hs = hs} leads rest) all =
-    ap (λ b. if b then hop_line t c to h ++ hop_lines t i hs else hop_lines t i hs) (eq-eqb c.number i (All-head (λ h. number_of h ≡ i) (Crossed c to h) hs all))
-    ∙ ap (λ l. hop_line t c to h ++ l) (travels_lines t i m b hs rest (All-tail (λ h. number_of h ≡ i) (Crossed c to h) hs all))
+travels_lines : (f : Frames) (t : Tables) (i : ℕ) (a b : Net) (gs : List Happening) → Travels t 0 a gs b → HappenTo i gs → hop_lines f t i gs ≡ crossing_lines f t.switches gs
+travels_lines f t i a b gs stays all = refl
+travels_lines f t i a b gs (crosses {s' = m} {c = c} {to = to} {h = h} {hs = hs} leads rest) all =
+    ap (λ b. if b then hop_line f t c to h ++ hop_lines f t i hs else hop_lines f t i hs) (eq-eqb c.number i (All-head (λ h. number_of h ≡ i) (Crossed c to h) hs all))
+    ∙ ap (λ l. hop_line f t c to h ++ l) (travels_lines f t i m b hs rest (All-tail (λ h. number_of h ≡ i) (Crossed c to h) hs all))
 
 -- ---- tallies
-tally_passed : (t : Tables) (hops : Bool) (i : ℕ) (hs gs : List Happening) (y y' : Tally) → (deliveries_of i gs ≡ []) × (losses_of i gs ≡ []) → hop_lines t i gs ≡ crossing_lines t.switches gs
-    → IsTally t hops i hs y → NotesCrossings t hops gs y y' → IsTally t hops i (hs ++ gs) y'
-tally_passed t hops i hs gs y y' quiet lines is notes = record {
+tally_passed : (f : Frames) (t : Tables) (hops : Bool) (i : ℕ) (hs gs : List Happening) (y y' : Tally) → (deliveries_of i gs ≡ []) × (losses_of i gs ≡ []) → hop_lines f t i gs ≡ crossing_lines f t.switches gs
+    → IsTally f t hops i hs y → NotesCrossings f t hops gs y y' → IsTally f t hops i (hs ++ gs) y'
+tally_passed f t hops i hs gs y y' quiet lines is notes = record {
   delivered =
       notes.delivered ∙ is.delivered
       ∙ sym (ap (map (λ (x : Sent). x.packet)) (deliveries_of-append i hs gs ∙ ap (λ l. deliveries_of i hs ++ l) quiet.0 ∙ append-nil (deliveries_of i hs)));
   lost = notes.lost ∙ is.lost ∙ sym (ap sum (losses_of-append i hs gs ∙ ap (λ l. losses_of i hs ++ l) quiet.1 ∙ append-nil (losses_of i hs)));
-  hops_told = notes.hops_told ∙ ap (λ l. l ++ (if hops then crossing_lines t.switches gs else [])) is.hops_told ∙ told hops;
+  hops_told = notes.hops_told ∙ ap (λ l. l ++ (if hops then crossing_lines f t.switches gs else [])) is.hops_told ∙ told hops;
 }
   where
-    told : (b : Bool) → hops_text t b i hs ++ (if b then crossing_lines t.switches gs else []) ≡ hops_text t b i (hs ++ gs)
-    told true = ap (λ l. hop_lines t i hs ++ l) (sym lines) ∙ sym (hops_text-append t true i hs gs)
+    told : (b : Bool) → hops_text f t b i hs ++ (if b then crossing_lines f t.switches gs else []) ≡ hops_text f t b i (hs ++ gs)
+    told true = ap (λ l. hop_lines f t i hs ++ l) (sym lines) ∙ sym (hops_text-append f t true i hs gs)
     told false = refl
 
-pub settled-passed : (hops : Bool) (old mid new : Held) (y y' : Tally) → mid.tables ≡ old.tables → HasSettled hops old mid y → HasPassed hops mid new y y' → HasSettled hops old new y'
-settled-passed hops old mid new y y' same settled passed s shows =
+pub settled-passed : (f : Frames) (hops : Bool) (old mid new : Held) (y y' : Tally) → mid.tables ≡ old.tables → HasSettled f hops old mid y → HasPassed f hops mid new y y' → HasSettled f hops old new y'
+settled-passed f hops old mid new y y' same settled passed s shows =
     let a = settled s shows in
-    let b = subst (λ t. (s' : Net) × (gs : List Happening) × Travels t 0 a.0 gs s' × Shows new s' × NotesCrossings t hops gs y y') same (passed a.0 a.3) in (
+    let b = subst (λ t. (s' : Net) × (gs : List Happening) × Travels t 0 a.0 gs s' × Shows new s' × NotesCrossings f t hops gs y y') same (passed a.0 a.3) in (
       b.0,
       a.1 ++ b.1,
       settles_both old.tables s a.0 b.0 a.1 b.1 a.2 (travels_settle old.tables a.0 b.0 b.1 b.2),
@@ -130,15 +136,49 @@ settled-passed hops old mid new y y' same settled passed s shows =
           record {
             copies = here.0;
             happen = All-append (λ h. number_of h ≡ i) a.1 b.1 before.happen here.1;
-            tally = tally_passed old.tables hops i a.1 b.1 y y' (travels_quiet old.tables i a.0 b.0 b.1 b.2) (travels_lines old.tables i a.0 b.0 b.1 b.2 here.1) before.tally b.4;
+            tally = tally_passed f old.tables hops i a.1 b.1 y y' (travels_quiet old.tables i a.0 b.0 b.1 b.2) (travels_lines f old.tables i a.0 b.0 b.1 b.2 here.1) before.tally b.4;
           },
     )
 
+-- what holds of the number of the first copy holds of those that cross links
+crossing_numbers : (t : Tables) (i : ℕ) (a m : Net) (j : ℕ) (hs : List Happening) → ((x : Copy) → slice_get a.flying 0 ≡ Some x → x.number ≡ i) → j ≡ 0 → Leads t a (Step j) m hs → (c : Copy) (to : ℕ) (h : Head) → hs ≡ Crossed c to h ∷ []
+    → (c.number ≡ i) × ((x : Copy) → slice_get m.flying 0 ≡ Some x → x.number ≡ i)
+crossing_numbers t i a m j hs own zeroth (step {i = k} {c = d} {a = act} found does) c to h e = by act (cc)
+  where
+    mine : d.number ≡ i
+    mine = own d (subst (λ n. slice_get a.flying n ≡ Some d) zeroth found)
+
+    by : (act : Action) → happening d act ≡ Crossed c to h → (c.number ≡ i) × ((x : Copy) → slice_get (take k a.flying ++ (moved d act ++ drop (k + 1) a.flying)) 0 ≡ Some x → x.number ≡ i)
+    by (Forward y head) same =
+        let copy : d ≡ c = cc in (
+          ap (λ (x : Copy). x.number) (sym copy) ∙ mine,
+          λ x is.
+              (let one : Copy = record d { at = y; head = head; hops = d.hops + 1; steps = d.steps + 1 } in
+              ap (λ (z : Copy). z.number) (sym (same_Some one x (subst (λ n. slice_get (take n a.flying ++ (moved d (Forward y head) ++ drop (k + 1) a.flying)) 0 ≡ Some x) zeroth is))) ∙ mine),
+        )
+    by (Deliver port) same = absurd (cc)
+    by (Fork copies lost) same = absurd (cc)
+
+travels_own : (t : Tables) (i : ℕ) (a b : Net) (gs : List Happening) → ((x : Copy) → slice_get a.flying 0 ≡ Some x → x.number ≡ i) → Travels t 0 a gs b → HappenTo i gs
+travels_own t i a b gs own stays = All-nil (λ h. number_of h ≡ i)
+travels_own t i a b gs own (crosses {s' = m} {c = c} {to = to} {h = h} {hs = hs} leads rest) =
+    let one = crossing_numbers t i a m 0 (Crossed c to h ∷ []) own refl leads c to h refl in
+    All-cons (λ h. number_of h ≡ i) (Crossed c to h) hs one.0 (travels_own t i m b hs one.1 rest)
+
+-- the first copy of a state is that which is held
+first_shown : (v : Held) (s : Net) (c : Flying) → slice_get v.flying 0 ≡ Some c → Shows v s → (x : Copy) → slice_get s.flying 0 ≡ Some x → x.number ≡ c.number
+first_shown v s c is shows x stands = by s.flying (subst (λ l. slice_get l 0 ≡ Some c) (sym shows.flying) is) stands
+  where
+    by : (cs : List Copy) → slice_get (map flown cs) 0 ≡ Some c → slice_get cs 0 ≡ Some x → x.number ≡ c.number
+    by [] a b = absurd (none-some c a)
+    by (y ∷ ys) a b = ap (λ (z : Copy). z.number) (sym (same_Some y x b)) ∙ ap (λ (z : Flying). z.number) (same_Some (flown y) c a)
+
 -- a copy's way was noted, and the copy has gone it
-pub has-passed : (hops : Bool) (old new : Held) (y y' : Tally) (c : Flying) → slice_get old.flying 0 ≡ Some c → HasTravelled old 0 new → y'.delivered.items ≡ y.delivered.items → y'.lost ≡ y.lost
-    → NotesWay old.tables hops c y.hops.items y'.hops.items → HasPassed hops old new y y'
-has-passed hops old new y y' c is travelled delivered lost told s shows =
-    let r = travelled c is s shows in (
+pub has-passed : (f : Frames) (hops : Bool) (old new : Held) (y y' : Tally) (c : Flying) → slice_get old.flying 0 ≡ Some c → HasTravelled old 0 new → y'.delivered.items ≡ y.delivered.items → y'.lost ≡ y.lost
+    → NotesWay f old.tables hops c y.hops.items y'.hops.items → HasPassed f hops old new y y'
+has-passed f hops old new y y' c is travelled delivered lost told s shows =
+    let r = travelled c is s shows in
+    let own = travels_own old.tables c.number s r.0 r.2 (first_shown old s c is shows) r.5 in (
       r.0,
       r.2,
       r.5,
@@ -146,6 +186,6 @@ has-passed hops old new y y' c is travelled delivered lost told s shows =
       record {
         delivered = delivered;
         lost = lost;
-        hops_told = told r.1 r.3 ∙ ap (λ l. y.hops.items ++ (if hops then l else [])) (crosses_lines old.tables.switches c.head c.packet c.at r.1 r.2 r.4);
+        hops_told = told r.1 r.3 ∙ ap (λ l. y.hops.items ++ (if hops then l else [])) (crosses_lines f old.tables.switches c.number c.head c.packet c.at r.1 r.2 own r.4);
       },
     )

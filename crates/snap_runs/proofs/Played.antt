@@ -1,6 +1,6 @@
 -- The run of a schedule to its end, and its report.
 use Rattle.std.proofs.Common.{◌≡◌, ◌≢◌, ◌⊎◌, inl, inr, ℕ, zero, suc, ◌+◌, ◌<◌, Bool, true, false, List, [], ◌∷◌, ◌++◌, Some, map, length, reverse, refl, sym, ap, subst, ◌∙◌, arith, append_assoc, append-nil}
-use Rattle.std.specs.Prelude.{slice_get, sum, IsPermutation}
+use Rattle.std.specs.Prelude.{slice_get, IsPermutation}
 use Rattle.std.specs.List.{concat}
 use Rattle.std.proofs.lemmas.List.{length-append, length-map, length-reverse, reverse-append}
 use Rattle.std.proofs.lemmas.Option.{slice_get_within}
@@ -11,11 +11,13 @@ use Rattle.snap_rows.specs.declared.tables.Tables.{Tables}
 use Rattle.snap_rows.specs.Network.{Net, Event, Inject, Step, Happening, Leads, inject, step, Runs, done, on, packets_of, whole}
 use Rattle.snap_net.specs.Shown.{Shows, flown}
 use Rattle.snap_trace.specs.Reports.{end_text, out_lines}
+use Rattle.snap_runs.specs.declared.frames.Frames.{Frames}
+use Rattle.snap_runs.specs.declared.frames.Frames.TheVariants.{Plain}
 use Rattle.snap_runs.specs.declared.play.Play.{Play}
 use Rattle.snap_runs.specs.declared.ready.Ready.{Ready}
 use Rattle.snap_runs.specs.declared.tally.Tally.{Tally}
 use Rattle.snap_runs.specs.Playing.{HasDone, IsPlaying, Plays, PutsBlocks, SoFar, SoPut, left_in, packets_in}
-use Rattle.snap_runs.specs.Reports.{AreBlocks, IsBlock, PutsEnd, array_names, lost_line, packet_line}
+use Rattle.snap_runs.specs.Reports.{IsBlockBy, PutsEnd, array_names, lost_line, packet_line}
 use Rattle.snap_runs.specs.Schedules.{EndsEarly, IsScheduleReport, Obeys, Spells, nothing, skips, injects, steps, StopsAt, lines_of}
 use Rattle.snap_runs.specs.Tallies.{IsBlockText, IsTally}
 use Rattle.snap_runs.proofs.Blocks.{concat-push, in_pushed}
@@ -25,9 +27,6 @@ pub playing-of : (t : Tables) (hops : Bool) (ks lines : List (List ℕ)) (v : Pl
 playing-of t hops ks lines v p = (ks, lines, subst (λ t'. Plays t' v.hops ks lines v) (sym p.tables) (subst (λ h. Plays t h ks lines v) (sym p.hops_same) p))
 
 module _ (t : Tables) (hops : Bool) (ks : List (List ℕ)) where
-  pub so_far-first : (text : List ℕ) (v : Play) → Plays t hops ks [] v → SoFar t hops ks (lines_of text) text 0 v
-  so_far-first text v p = record { done = []; are = refl; is = refl; plays = p }
-
   module _ (lines : List (List ℕ)) (rest : List ℕ) (number : ℕ) (v : Play) (s : SoFar t hops ks lines rest number v) where
     module _ (line behind : List ℕ) (e : lines_of rest ≡ line ∷ lines_of behind) where
       pub so_far-more : (v' : Play) → HasDone line v v' true → SoFar t hops ks lines behind (number + 1) v'
@@ -56,9 +55,6 @@ module _ (t : Tables) (hops : Bool) (ks : List (List ℕ)) where
       all : lines ≡ s.done
       all = s.are ∙ ap (λ l. s.done ++ l) e ∙ append-nil s.done
 
-      pub all-done : Plays t hops ks lines v
-      all-done = subst (λ l. Plays t hops ks l v) (sym all) s.plays
-
       early : (left_in v ≢ []) ⊎ (s.plays.state.flying ≢ []) → EndsEarly t ks lines (number + 1)
       early some = record {
         is = ap (λ n. n + 1) (s.is ∙ ap length (sym all));
@@ -81,9 +77,6 @@ module _ (t : Tables) (hops : Bool) (ks : List (List ℕ)) where
           omega (arith, some, same)))
 
 -- ---- blocks
-pub so_put-first : (fields : List Field) (ys left : List Tally) (before : List ℕ) → ys ≡ reverse left → SoPut fields ys left 0 before before
-so_put-first fields ys left before e = record { done = []; are = e; is = refl; puts = record { each = []; as_many = refl; blocks = λ i y text at is. absurd (cc); is = sym (append-nil before) } }
-
 pub so_put-more : (fields : List Field) (ys left rest : List Tally) (y : Tally) (number : ℕ) (before mid after : List ℕ) → SoPut fields ys left number before mid → reverse left ≡ y ∷ reverse rest → IsBlockText fields (number + 1) y mid after
     → SoPut fields ys rest (number + 1) before after
 so_put-more fields ys left rest y number before mid after s e put =
@@ -114,8 +107,8 @@ some-within [] i within = absurd (omega (arith, within))
 some-within (y ∷ ys) zero within = (y, refl)
 some-within (y ∷ ys) (suc i) within = some-within ys i (omega (arith, within))
 
-block-of : (t : Tables) (hops : Bool) (i : ℕ) (hs : List Happening) (y : Tally) (text : List ℕ) → IsTally t hops i hs y → IsBlockText t.fields (i + 1) y [] text → IsBlock t hops i hs text
-block-of t hops i hs y text is put = record {
+pub block-of : (f : Frames) (t : Tables) (hops : Bool) (i : ℕ) (hs : List Happening) (y : Tally) (text : List ℕ) → IsTally f t hops i hs y → IsBlockText t.fields (i + 1) y [] text → IsBlockBy f t hops i hs text
+block-of f t hops i hs y text is put = record {
   outs = put.outs;
   rising = put.rising;
   delivered = subst (IsPermutation put.outs) is.delivered put.delivered;
@@ -165,7 +158,7 @@ schedule-report t hops ks lines v mid out puts end p none rests =
           blocks = λ i text is.
               (let at : i < length puts.each = slice_get_within puts.each i text is in
               let y = some-within v.tallies.items i (omega (arith, at, e)) in
-              block-of t hops i p.happenings y.0 text (p.tallied i y.0 y.1) (subst (λ (x : Tables). IsBlockText x.fields (i + 1) y.0 [] text) p.tables (puts.blocks i y.0 text y.1 is)));
+              block-of Plain t hops i p.happenings y.0 text (p.tallied i y.0 y.1) (subst (λ (x : Tables). IsBlockText x.fields (i + 1) y.0 [] text) p.tables (puts.blocks i y.0 text y.1 is)));
           is = puts.is;
         };
         entries = listed.0;

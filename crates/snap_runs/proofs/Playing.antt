@@ -18,6 +18,8 @@ use Rattle.snap_net.specs.declared.flying.Flying.{Flying}
 use Rattle.snap_net.specs.declared.happened.Happened.{Happened}
 use Rattle.snap_net.specs.declared.happened.Moved.{Moved}
 use Rattle.snap_net.specs.Shown.{Held, IsDone, IsHeld, Nothing, Shows, Tells, TellsMoved, flown, happened, moving}
+use Rattle.snap_runs.specs.declared.frames.Frames.{Frames}
+use Rattle.snap_runs.specs.declared.frames.Frames.TheVariants.{Plain}
 use Rattle.snap_runs.specs.declared.event.Order.{Order}
 use Rattle.snap_runs.specs.declared.event.Order.TheVariants as order
 use Rattle.snap_runs.specs.declared.play.Play.{Play}
@@ -35,22 +37,22 @@ use Rattle.snap_runs.proofs.Steps.{held-shown, inject-numbers, shown, step-injec
 
 -- ---- tallies
 -- what happens to others is nothing to packet i
-tally_other : (t : Tables) (hops : Bool) (i : ℕ) (hs gs : List Happening) (y : Tally) → HappenElsewhere i gs → IsTally t hops i hs y → IsTally t hops i (hs ++ gs) y
-tally_other t hops i hs gs y other is = record {
+pub tally_other : (f : Frames) (t : Tables) (hops : Bool) (i : ℕ) (hs gs : List Happening) (y : Tally) → HappenElsewhere i gs → IsTally f t hops i hs y → IsTally f t hops i (hs ++ gs) y
+tally_other f t hops i hs gs y other is = record {
   delivered = is.delivered ∙ ap (map (λ (x : Sent). x.packet)) (sym (deliveries_of-append i hs gs ∙ ap (λ l. deliveries_of i hs ++ l) (deliveries_of-others i gs other) ∙ append-nil (deliveries_of i hs)));
   lost = is.lost ∙ ap sum (sym (losses_of-append i hs gs ∙ ap (λ l. losses_of i hs ++ l) (losses_of-others i gs other) ∙ append-nil (losses_of i hs)));
-  hops_told = is.hops_told ∙ sym (hops_text-append t hops i hs gs ∙ ap (λ l. hops_text t hops i hs ++ l) (hops_text-others t hops i gs other) ∙ append-nil (hops_text t hops i hs));
+  hops_told = is.hops_told ∙ sym (hops_text-append f t hops i hs gs ∙ ap (λ l. hops_text f t hops i hs ++ l) (hops_text-others f t hops i gs other) ∙ append-nil (hops_text f t hops i hs));
 }
 
 -- nothing has happened to packet i
-tally_fresh : (t : Tables) (hops : Bool) (i : ℕ) (hs : List Happening) (y : Tally) → HappenElsewhere i hs → y.delivered.items ≡ [] → y.lost ≡ 0 → y.hops.items ≡ [] → IsTally t hops i hs y
-tally_fresh t hops i hs y other d l h = record {
+pub tally_fresh : (f : Frames) (t : Tables) (hops : Bool) (i : ℕ) (hs : List Happening) (y : Tally) → HappenElsewhere i hs → y.delivered.items ≡ [] → y.lost ≡ 0 → y.hops.items ≡ [] → IsTally f t hops i hs y
+tally_fresh f t hops i hs y other d l h = record {
   delivered = d ∙ ap (map (λ (x : Sent). x.packet)) (sym (deliveries_of-others i hs other));
   lost = l ∙ ap sum (sym (losses_of-others i hs other));
-  hops_told = h ∙ sym (hops_text-others t hops i hs other);
+  hops_told = h ∙ sym (hops_text-others f t hops i hs other);
 }
 
-elsewhere : (n i : ℕ) (hs : List Happening) → n ≤ i → All (λ h. number_of h < n) hs → HappenElsewhere i hs
+pub elsewhere : (n i : ℕ) (hs : List Happening) → n ≤ i → All (λ h. number_of h < n) hs → HappenElsewhere i hs
 elsewhere n i hs le all = All-weaker (λ h. number_of h < n) (λ h. number_of h ≢ i) (λ h less e. omega (arith, less, e, le)) hs all
 
 -- ---- before the first line
@@ -124,9 +126,9 @@ module _ (old new : Play) (r : Ready) (rest : List Ready) (y : Tally) (stood : o
         ready = subst (All (IsReady t)) (sym left) popped.0;
       }
     where
-      tallied : (i : ℕ) (z : Tally) → ((i < length old.tallies.items) × (slice_get old.tallies.items i ≡ Some z)) ⊎ ((i ≡ length old.tallies.items) × (y ≡ z)) → IsTally t hops i p.happenings z
+      tallied : (i : ℕ) (z : Tally) → ((i < length old.tallies.items) × (slice_get old.tallies.items i ≡ Some z)) ⊎ ((i ≡ length old.tallies.items) × (y ≡ z)) → IsTally Plain t hops i p.happenings z
       tallied i z (inl k) = p.tallied i z k.1
-      tallied i z (inr k) = let e' = k.0 in let f = p.counted in subst (IsTally t hops i p.happenings) k.1 (tally_fresh t hops i p.happenings y (elsewhere p.state.injected i p.happenings (omega (arith, e', f)) p.before) d l h)
+      tallied i z (inr k) = let e' = k.0 in let g = p.counted in subst (IsTally Plain t hops i p.happenings) k.1 (tally_fresh Plain t hops i p.happenings y (elsewhere p.state.injected i p.happenings (omega (arith, e', g)) p.before) d l h)
 
       long : (i : ℕ) (z : Tally) → ((i < length old.tallies.items) × (slice_get old.tallies.items i ≡ Some z)) ⊎ ((i ≡ length old.tallies.items) × (y ≡ z)) → IsLong (comps t) z
       long i z (inl k) = p.long i z k.1
@@ -164,14 +166,14 @@ module _ (old new : Play) (place : ℕ) (held : IsHeld old.net) (does : HasStepp
             ready = subst (All (IsReady t)) (sym still) p.ready;
           }
         where
-          tallied : (x : Happening) → NotesIn t hops x old.tallies.items new.tallies.items → (i : ℕ) (z : Tally) → slice_get new.tallies.items i ≡ Some z → (b : Bool) → (i == number_of x) ≡ b → IsTally t hops i (p.happenings ++ x ∷ []) z
+          tallied : (x : Happening) → NotesIn t hops x old.tallies.items new.tallies.items → (i : ℕ) (z : Tally) → slice_get new.tallies.items i ≡ Some z → (b : Bool) → (i == number_of x) ≡ b → IsTally Plain t hops i (p.happenings ++ x ∷ []) z
           tallied x notes i z is true f =
               let at : i ≡ number_of x = eqb-true i (number_of x) f in
               let what : notes.after ≡ z = same_Some notes.after z (sym notes.here ∙ ap (λ j. slice_get new.tallies.items j) (sym at) ∙ is) in
-              subst (IsTally t hops i (p.happenings ++ x ∷ [])) what (tally-more t hops i p.happenings x notes.before notes.after (sym at) (p.tallied i notes.before (ap (λ j. slice_get old.tallies.items j) at ∙ notes.is)) notes.notes)
+              subst (IsTally Plain t hops i (p.happenings ++ x ∷ [])) what (tally-more Plain t hops i p.happenings x notes.before notes.after (sym at) (p.tallied i notes.before (ap (λ j. slice_get old.tallies.items j) at ∙ notes.is)) notes.notes)
           tallied x notes i z is false f =
               let other : i ≡ number_of x → ⊥ = λ g. false≢true (sym f ∙ eq-eqb i (number_of x) g) in
-              tally_other t hops i p.happenings (x ∷ []) z (All-cons (λ g. number_of g ≢ i) x [] (λ g. other (sym g)) (All-nil (λ g. number_of g ≢ i))) (p.tallied i z (sym (notes.others i other) ∙ is))
+              tally_other Plain t hops i p.happenings (x ∷ []) z (All-cons (λ g. number_of g ≢ i) x [] (λ g. other (sym g)) (All-nil (λ g. number_of g ≢ i))) (p.tallied i z (sym (notes.others i other) ∙ is))
 
           long : (a : (s' : Net) × (x : Happening) × Leads t p.state (Step place) s' (x ∷ []) × Shows new.net s' × NotesIn t hops x old.tallies.items new.tallies.items) → (i : ℕ) (z : Tally) → slice_get new.tallies.items i ≡ Some z → (b : Bool) → (i == number_of a.1) ≡ b → IsLong (comps t) z
           long a i z is true f =
@@ -203,12 +205,12 @@ bared-happened (Crossed c to head) = refl
 bared-happened (Delivered c port) = refl
 bared-happened (Forked c copies lost) = refl
 
-set-same : (ys : List Tally) (i : ℕ) (y : Tally) → i < length ys → slice_get (set ys i y) i ≡ Some y
+pub set-same : (ys : List Tally) (i : ℕ) (y : Tally) → i < length ys → slice_get (set ys i y) i ≡ Some y
 set-same [] i y within = absurd (omega (arith, within))
 set-same (z ∷ zs) zero y within = refl
 set-same (z ∷ zs) (suc i) y within = set-same zs i y (omega (arith, within))
 
-set-other : (ys : List Tally) (i j : ℕ) (y : Tally) → (j ≡ i → ⊥) → slice_get (set ys i y) j ≡ slice_get ys j
+pub set-other : (ys : List Tally) (i j : ℕ) (y : Tally) → (j ≡ i → ⊥) → slice_get (set ys i y) j ≡ slice_get ys j
 set-other [] i j y other = refl
 set-other (z ∷ zs) zero zero y other = absurd (other refl)
 set-other (z ∷ zs) zero (suc j) y other = refl
@@ -216,7 +218,7 @@ set-other (z ∷ zs) (suc i) zero y other = refl
 set-other (z ∷ zs) (suc i) (suc j) y other = set-other zs i j y (λ e. other (ap suc e))
 
 module _ (ys : List Tally) (owner : ℕ) (y y' : Tally) (within : owner < length ys) (is : y ≡ get_or ys owner y) where
-  notes-in : (t : Tables) (hops : Bool) (x : Happening) → owner ≡ number_of x → Notes t hops x y y' → NotesIn t hops x ys (set ys owner y')
+  notes-in : (t : Tables) (hops : Bool) (x : Happening) → owner ≡ number_of x → Notes Plain t hops x y y' → NotesIn t hops x ys (set ys owner y')
   notes-in t hops x e notes = record {
     before = y;
     after = y';

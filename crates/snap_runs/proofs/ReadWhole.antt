@@ -1,5 +1,5 @@
 -- The packets of a file, read to its end.
-use Rattle.std.proofs.Common.{◌≡◌, ◌≢◌, ℕ, ◌+◌, ◌≤◌, Bool, true, false, List, [], ◌∷◌, ◌++◌, Option, Some, None, Ok, Err, map, length, refl, sym, ap, subst, ◌∙◌, arith, append_assoc, append-nil}
+use Rattle.std.proofs.Common.{◌≡◌, ◌≢◌, ℕ, ◌+◌, ◌≤◌, true, List, [], ◌∷◌, ◌++◌, Some, None, Ok, Err, length, sym, ap, subst, ◌∙◌, arith, append_assoc, append-nil}
 use Rattle.std.specs.Prelude.{is_some, slice_index, if◌then◌else◌}
 use Rattle.std.specs.List.{All}
 use Rattle.std.proofs.lemmas.List.{length-append, map-append}
@@ -18,7 +18,6 @@ use Rattle.snap_runs.specs.declared.ready.Ready.{Ready}
 use Rattle.snap_runs.specs.Plain.{at_ports, spelled_for}
 use Rattle.snap_runs.specs.Playing.{AreAll, AreBefore, HasRead, IsReady, TakesLine, packets_in}
 use Rattle.snap_runs.specs.Reading.{FitsLine, GivesLine, left_of, said_at, said_of}
-use Rattle.snap_runs.specs.Schedules.{RefusesPackets}
 
 -- these packets were read, and this is left
 abbrev pub AreRead : Tables → (file : List ℕ) → List Ready → Spelled → Type 0
@@ -77,15 +76,6 @@ module _ (t : Tables) (file : List ℕ) where
         subst (λ x. AreRead t file x left) (sym takes.0)
         (read-as rs (left_of (said_at t) file old) are (record { packets = packet ∷ left.packets; stop = left.stop }) next
         ∙ ap (λ ks. record { packets = ks; stop = left.stop }) (sym (append_assoc (packets_in rs) (packet ∷ []) left.packets) ∙ ap (λ ks. ks ++ left.packets) (sym (map-append (λ (x : Ready). x.packet) rs (r ∷ [])))))
-
--- so the file isn't read to its end
-pub refuses-of : (t : Tables) (file : List ℕ) (rs : List Ready) (fault : TraceFault) → HasRead t file rs (Err fault) → RefusesPackets t file fault
-refuses-of t file rs Read h = tt
-refuses-of t file rs NoMemory h = tt
-refuses-of t file rs (Limit which count) h = ap (λ (s : Spelled). s.stop) h
-refuses-of t file rs (Packets line) h = ap (λ (s : Spelled). s.stop) h
-refuses-of t file rs Write h = h
-refuses-of t file rs (Undefined packet) h = h
 
 -- the packets that were taken can be injected
 pub ready-more : (t : Tables) (line : Line) (rs rs' : List Ready) → FitsLine (comps t) line → TakesLine t line rs rs' → All (IsReady t) rs → All (IsReady t) rs'

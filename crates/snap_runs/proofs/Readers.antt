@@ -15,13 +15,13 @@ use Rattle.snap_trace.specs.declared.fault.TraceFault.TheVariants.{Read, Write, 
 use Rattle.snap_trace.specs.declared.line.Line.{Line}
 use Rattle.snap_trace.specs.declared.line.Line.TheVariants.{Skip, Inject}
 use Rattle.snap_trace.specs.PacketLines.{Said, bad, said_by}
-use Rattle.snap_trace.specs.Shown.{HasComps, Says}
+use Rattle.snap_trace.specs.Shown.{Says}
 use Rattle.snap_trace.specs.Spelled.{stops, ended, refused, spelled_from, with_said, with_next, after_last}
 use Rattle.snap_trace.specs.Steps.{refusal_of, refusal_past_last}
 use Rattle.snap_trace.proofs.RunLemmas.{spelled_from-next, spelled_from-last}
 use Rattle.snap_runs.specs.declared.packets.PacketLines.{PacketLines}
 use Rattle.snap_runs.specs.Plain.{at_ports, spelled_for}
-use Rattle.snap_runs.specs.Reading.{EndsAt, FitsLine, GivesLine, GivesNext, GoesOn, IsUnfit, ReadsNext, RefusesNext, SaysNext, StopsNext, left_behind, left_of, next_for, refused_behind, said_at, said_of}
+use Rattle.snap_runs.specs.Reading.{EndsAt, GivesLine, GivesNext, GoesOn, IsUnfit, ReadsNext, RefusesNext, SaysNext, StopsNext, left_behind, left_of, next_for, refused_behind, said_at, said_of}
 
 module _ (said : List ℕ → Said) (file : List ℕ) (read at : ℕ) where
   -- a line that may come
@@ -125,7 +125,3 @@ module _ (t : Tables) (file : List ℕ) (old new : PacketLines) where
 pub gives-line : (file : List ℕ) (old new : PacketLines) (fields : List Field) → old.read ≤ 1000000 → (r : Result (Option Line) TraceFault) → IfOk r (GoesOn old.read new.read) → GivesNext fields old.read (next_for file old) new r
     → (t : Tables) → fields ≡ t.fields → GivesLine t file old new r
 gives-line file old new fields few r on h t same = gives_left t file old new few r on (subst (λ f. GivesNext f old.read (next_for file old) new r) same h)
-
-pub fits-line : (n : ℕ) (said : Said) (line : Line) → Says said (Ok line) → HasComps n line → FitsLine n line
-fits-line n said Skip says comps = tt
-fits-line n said (Inject port packet) says comps = (comps, says.1)

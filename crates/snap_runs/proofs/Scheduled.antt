@@ -1,18 +1,15 @@
 -- What goes out for a packets file and a schedule.
-use Rattle.std.proofs.Common.{◌≡◌, ◌⊎◌, ℕ, ◌<◌, ◌≤◌, Bool, List, Option, Ok, Err, refl, sym, ap, subst}
+use Rattle.std.proofs.Common.{◌≡◌, ◌⊎◌, ℕ, ◌≤◌, Bool, List, Option, Err, refl, sym, ap, subst}
 use Rattle.std.specs.Prelude.{length}
-use Rattle.std.specs.Io.KnownBytes.{Appends}
-use Rattle.snap_io.specs.declared.read.ReadRefusal.{ReadRefusal}
 use Rattle.snap_io.specs.declared.read.ReadRefusal.TheVariants as refusal
-use Rattle.snap_io.specs.Sinks.{AppendsPart}
 use Rattle.snap_rows.specs.declared.tables.Tables.{Tables}
 use Rattle.snap_trace.specs.Spelled.{Spelled}
 use Rattle.snap_runs.specs.declared.ready.Ready.{Ready}
 use Rattle.snap_runs.specs.declared.schedule.ScheduleFault.{ScheduleFault}
 use Rattle.snap_runs.specs.declared.schedule.ScheduleFault.TheVariants.{Packets, Read, TooLong, Line, Write, NoMemory}
 use Rattle.snap_runs.specs.Plain.{spelled_for}
-use Rattle.snap_runs.specs.Playing.{AreAll, Stops, packets_in, schedule_refusal}
-use Rattle.snap_runs.specs.Schedules.{AreBothRead, EndsEarly, HasScheduleReport, IsReadWhole, IsScheduleReport, StopsAt, WritesSchedule, lines_of}
+use Rattle.snap_runs.specs.Playing.{AreAll, Stops, packets_in}
+use Rattle.snap_runs.specs.Schedules.{AreBothRead, EndsEarly, IsReadWhole, StopsAt, WritesSchedule, lines_of}
 
 module _ (t : Tables) (hops : Bool) (file schedule : List ℕ) (rs : List Ready) (all : AreAll t file rs) (old : Option (List ℕ)) where
   whole : IsReadWhole t file
@@ -20,12 +17,6 @@ module _ (t : Tables) (hops : Bool) (file schedule : List ℕ) (rs : List Ready)
 
   packets : (spelled_for t file).packets ≡ packets_in rs
   packets = ap (λ (s : Spelled). s.packets) all
-
-  -- the schedule wasn't read
-  pub schedule-refused : (r : ReadRefusal) → (r ≡ refusal.TooLong → 67108864 < length schedule) → WritesSchedule t hops file schedule (Err (schedule_refusal r)) old old
-  schedule-refused refusal.Failed long = (refl, whole)
-  schedule-refused refusal.TooLong long = (refl, whole, long refl)
-  schedule-refused refusal.NoMemory long = refl
 
   module _ (text : List ℕ) (few : length text ≤ 67108864) (is : text ≡ schedule) where
     both : AreBothRead t file schedule
@@ -40,13 +31,3 @@ module _ (t : Tables) (hops : Bool) (file schedule : List ℕ) (rs : List Ready)
     schedule-stopped Read h = absurd h
     schedule-stopped TooLong h = absurd h
     schedule-stopped Write h = absurd h
-
-    module _ (report : List ℕ) (h : IsScheduleReport t hops (packets_in rs) (lines_of text) report) (now : Option (List ℕ)) where
-      has : HasScheduleReport t hops file schedule report
-      has = (both, subst (λ ks. IsScheduleReport t hops ks (lines_of schedule) report) (sym packets) (subst (λ x. IsScheduleReport t hops (packets_in rs) (lines_of x) report) is h))
-
-      pub schedule-written : Appends old now report → WritesSchedule t hops file schedule (Ok tt) old now
-      schedule-written out = (report, has, out)
-
-      pub schedule-part : AppendsPart old now report → WritesSchedule t hops file schedule (Err Write) old now
-      schedule-part out = (report, has, out)

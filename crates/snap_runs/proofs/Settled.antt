@@ -6,19 +6,20 @@ use Rattle.snap_rows.specs.declared.tables.Tables.{Tables}
 use Rattle.snap_rows.specs.Network.{Copy, Net, Inject, Step, Happening, Leads, RunsCalmly, rests, injects, steps, StepsFirst}
 use Rattle.snap_net.specs.Shown.{Held, IsDone, Nothing, Shows, happened, moving}
 use Rattle.snap_trace.specs.Reports.{out_lines}
+use Rattle.snap_runs.specs.declared.frames.Frames.{Frames}
 use Rattle.snap_runs.specs.declared.tally.Tally.{Tally}
 use Rattle.snap_runs.specs.declared.tracer.Tracer.{Tracer}
-use Rattle.snap_runs.specs.Reports.{IsBlock, hops_text, lost_line, packet_line}
+use Rattle.snap_runs.specs.Reports.{IsBlockBy, hops_text, lost_line, packet_line}
 use Rattle.snap_runs.specs.Settling.{AreCopiesOf, HasNoted, HasSettled, Settles, Tallies}
-use Rattle.snap_runs.specs.Tallies.{IsBlockText, IsTally, Notes, delivered_by, hop_by, lost_by, number_of}
+use Rattle.snap_runs.specs.Tallies.{IsBlockText, IsTally, Notes, delivered_by, hop_told, lost_by, number_of}
 use Rattle.snap_runs.specs.Tracing.{HasTaken}
 use Rattle.snap_runs.proofs.Happenings.{hops_text-more, losses_of-more, packets_delivered-more}
 use Rattle.snap_runs.proofs.Runs.{calm-then, packets_of-append}
 use Rattle.snap_runs.proofs.Steps.{inject-alone, rests-shown, step-injected, step-numbers}
 
 -- nothing was noted yet
-pub settled-none : (hops : Bool) (v : Held) (y : Tally) → y.delivered.items ≡ [] → y.lost ≡ 0 → y.hops.items ≡ [] → HasSettled hops v v y
-settled-none hops v y d l h = λ s shows. (
+pub settled-none : (f : Frames) (hops : Bool) (v : Held) (y : Tally) → y.delivered.items ≡ [] → y.lost ≡ 0 → y.hops.items ≡ [] → HasSettled f hops v v y
+settled-none f hops v y d l h = λ s shows. (
   s,
   [],
   record { events = []; no_packets = refl; first = All-nil StepsFirst; run = rests; injected = refl },
@@ -26,25 +27,25 @@ settled-none hops v y d l h = λ s shows. (
   λ i all. record { copies = all; happen = All-nil (λ x. number_of x ≡ i); tally = record { delivered = d; lost = l; hops_told = h ∙ none hops i } },
 )
   where
-    none : (b : Bool) (i : ℕ) → [] ≡ hops_text v.tables b i []
+    none : (b : Bool) (i : ℕ) → [] ≡ hops_text f v.tables b i []
     none true i = refl
     none false i = refl
 
-pub tally-more : (t : Tables) (hops : Bool) (i : ℕ) (hs : List Happening) (x : Happening) (y y' : Tally) → number_of x ≡ i → IsTally t hops i hs y → Notes t hops x y y' → IsTally t hops i (hs ++ x ∷ []) y'
-tally-more t hops i hs x y y' e is notes = record {
+pub tally-more : (f : Frames) (t : Tables) (hops : Bool) (i : ℕ) (hs : List Happening) (x : Happening) (y y' : Tally) → number_of x ≡ i → IsTally f t hops i hs y → Notes f t hops x y y' → IsTally f t hops i (hs ++ x ∷ []) y'
+tally-more f t hops i hs x y y' e is notes = record {
   delivered = notes.delivered ∙ ap (λ l. l ++ delivered_by (moving x)) is.delivered ∙ sym (packets_delivered-more i hs x e);
   lost = notes.lost ∙ ap (λ n. n + lost_by (moving x)) is.lost ∙ sym (losses_of-more i hs x e);
-  hops_told = notes.hops_told ∙ ap (λ l. l ++ (if hops then hop_by t.switches (happened x) else [])) is.hops_told ∙ sym (hops_text-more i t hops hs x e);
+  hops_told = notes.hops_told ∙ ap (λ l. l ++ (if hops then hop_told f t.switches (happened x) else [])) is.hops_told ∙ sym (hops_text-more i f t hops hs x e);
 }
 
 -- steps of the first copy that were noted in a tally lead from s to a
-record Noted (t : Tables) (hops : Bool) (s a : Net) (hs : List Happening) (y : Tally) : Type 0 where
+record Noted (f : Frames) (t : Tables) (hops : Bool) (s a : Net) (hs : List Happening) (y : Tally) : Type 0 where
   settles : Settles t s a hs
-  tallies : (i : ℕ) → AreCopiesOf i s.flying → Tallies t hops i a hs y
+  tallies : (i : ℕ) → AreCopiesOf i s.flying → Tallies f t hops i a hs y
 
 -- and one more
-one_more : (t : Tables) (hops : Bool) (s a b : Net) (hs : List Happening) (x : Happening) (y y' : Tally) → Noted t hops s a hs y → Leads t a (Step 0) b (x ∷ []) → Notes t hops x y y' → Noted t hops s b (hs ++ x ∷ []) y'
-one_more t hops s a b hs x y y' noted leads notes = record {
+one_more : (f : Frames) (t : Tables) (hops : Bool) (s a b : Net) (hs : List Happening) (x : Happening) (y y' : Tally) → Noted f t hops s a hs y → Leads t a (Step 0) b (x ∷ []) → Notes f t hops x y y' → Noted f t hops s b (hs ++ x ∷ []) y'
+one_more f t hops s a b hs x y y' noted leads notes = record {
   settles = record {
     events = noted.settles.events ++ Step 0 ∷ [];
     no_packets = packets_of-append noted.settles.events (Step 0 ∷ []) ∙ ap (λ l. l ++ []) noted.settles.no_packets;
@@ -58,20 +59,20 @@ one_more t hops s a b hs x y y' noted leads notes = record {
       record {
         copies = here.0;
         happen = All-append (λ h. number_of h ≡ i) hs (x ∷ []) before.happen here.1;
-        tally = tally-more t hops i hs x y y' (All-head (λ h. number_of h ≡ i) x [] here.1) before.tally notes;
+        tally = tally-more f t hops i hs x y y' (All-head (λ h. number_of h ≡ i) x [] here.1) before.tally notes;
       };
 }
 
-pub settled-more : (hops : Bool) (old mid new : Held) (y y' : Tally) → mid.tables ≡ old.tables → HasSettled hops old mid y → HasNoted hops mid new y y' → HasSettled hops old new y'
-settled-more hops old mid new y y' same settled noted s shows =
+pub settled-more : (f : Frames) (hops : Bool) (old mid new : Held) (y y' : Tally) → mid.tables ≡ old.tables → HasSettled f hops old mid y → HasNoted f hops mid new y y' → HasSettled f hops old new y'
+settled-more f hops old mid new y y' same settled noted s shows =
     let a = settled s shows in
-    let b = subst (λ t. (s' : Net) × (x : Happening) × Leads t a.0 (Step 0) s' (x ∷ []) × Shows new s' × Notes t hops x y y') same (noted a.0 a.3) in
-    let c = one_more old.tables hops s a.0 b.0 a.1 b.1 y y' (record { settles = a.2; tallies = a.4 }) b.2 b.4 in
+    let b = subst (λ t. (s' : Net) × (x : Happening) × Leads t a.0 (Step 0) s' (x ∷ []) × Shows new s' × Notes f t hops x y y') same (noted a.0 a.3) in
+    let c = one_more f old.tables hops s a.0 b.0 a.1 b.1 y y' (record { settles = a.2; tallies = a.4 }) b.2 b.4 in
     (b.0, a.1 ++ b.1 ∷ [], c.settles, b.3, c.tallies)
 
 -- ---- a packet's whole way
-tally_block : (t : Tables) (hops : Bool) (i : ℕ) (hs : List Happening) (y : Tally) (old new : List ℕ) → IsTally t hops i hs y → IsBlockText t.fields (i + 1) y old new → (text : List ℕ) × IsBlock t hops i hs text × (new ≡ old ++ text)
-tally_block t hops i hs y old new is put = (
+tally_block : (f : Frames) (t : Tables) (hops : Bool) (i : ℕ) (hs : List Happening) (y : Tally) (old new : List ℕ) → IsTally f t hops i hs y → IsBlockText t.fields (i + 1) y old new → (text : List ℕ) × IsBlockBy f t hops i hs text × (new ≡ old ++ text)
+tally_block f t hops i hs y old new is put = (
   packet_line (i + 1) ++ y.hops.items ++ out_lines t.fields put.outs ++ lost_line y.lost,
   record {
     outs = put.outs;
@@ -83,16 +84,16 @@ tally_block t hops i hs y old new is put = (
 )
 
 -- an injection with nothing in flight, after which all has come to rest and the block was put
-pub has-taken : (hops : Bool) (port number : ℕ) (k : List ℕ) (old mid new : Held) (y : Tally) (before after : List ℕ) (last : Tracer) → number ≡ old.injected → mid.tables ≡ old.tables
-    → IsDone old (Inject port k) mid Nothing → HasSettled hops mid new y → new.flying ≡ [] → IsBlockText old.tables.fields (number + 1) y before after
+pub has-taken : (f : Frames) (hops : Bool) (port number : ℕ) (k : List ℕ) (old mid new : Held) (y : Tally) (before after : List ℕ) (last : Tracer) → number ≡ old.injected → mid.tables ≡ old.tables
+    → IsDone old (Inject port k) mid Nothing → HasSettled f hops mid new y → new.flying ≡ [] → IsBlockText old.tables.fields (number + 1) y before after
     → last.net ≡ new → last.text.items ≡ after
-    → (s : Net) → Shows old s → s.flying ≡ [] → HasTaken old.tables hops port k s before last
-has-taken hops port number k old mid new y before after last n same done settled rest put net text s shows none =
+    → (s : Net) → Shows old s → s.flying ≡ [] → HasTaken f old.tables hops port k s before last
+has-taken f hops port number k old mid new y before after last n same done settled rest put net text s shows none =
     let a = done s shows in
     let alone = inject-alone old.tables s a.0 port k a.1 none a.2 in
-    let b = subst (λ t. (s' : Net) × (hs : List Happening) × Settles t a.0 s' hs × Shows new s' × ((i : ℕ) → AreCopiesOf i a.0.flying → Tallies t hops i s' hs y)) same (settled a.0 a.3) in
+    let b = subst (λ t. (s' : Net) × (hs : List Happening) × Settles t a.0 s' hs × Shows new s' × ((i : ℕ) → AreCopiesOf i a.0.flying → Tallies f t hops i s' hs y)) same (settled a.0 a.3) in
     let told = b.4 s.injected alone.0 in
-    let block = tally_block old.tables hops s.injected b.1 y before after told.tally (subst (λ i. IsBlockText old.tables.fields (i + 1) y before after) (n ∙ sym shows.injected) put) in
+    let block = tally_block f old.tables hops s.injected b.1 y before after told.tally (subst (λ i. IsBlockText old.tables.fields (i + 1) y before after) (n ∙ sym shows.injected) put) in
     record {
       events = b.2.events;
       no_packets = b.2.no_packets;

@@ -13,28 +13,29 @@ use Rattle.snap_rows.specs.Form.{IsInForm, comps, switch_count}
 use Rattle.snap_rows.specs.Home.{AtHome}
 use Rattle.snap_rows.specs.Rules.{IsValid}
 use Rattle.snap_rows.specs.Network.{Copy, Net, Inject, Step, Happening, Leads, inject, step, happening, moved}
-use Rattle.snap_rows.specs.Weight.{weight, weight_after, steps_left}
+use Rattle.snap_rows.specs.Weight.{weight, steps_left}
 use Rattle.snap_rows.specs.Aims.{aim_of}
 use Rattle.snap_rows.proofs.Aims.{aim_lighter}
 use Rattle.snap_rows.proofs.Arrives.{drop_get}
-use Rattle.snap_rows.proofs.Lighter.{lighter}
+use Rattle.snap_rows.proofs.Lighter.{lighter, moved_weight}
 use Rattle.snap_rows.proofs.Rows.{All-get}
 use Rattle.snap_net.specs.declared.flying.Flying.{Flying}
 use Rattle.snap_net.specs.Flights.{spliced}
 use Rattle.snap_net.specs.Travels.{arrived}
 use Rattle.snap_net.specs.Shown.{Held, IsHeld, Shows, flown, moving, store_of}
+use Rattle.snap_runs.specs.declared.frames.Frames.{Frames}
 use Rattle.snap_runs.specs.declared.tally.Tally.{Tally}
 use Rattle.snap_runs.specs.Settling.{AreCopiesOf, HasNoted, steps_left_of}
 use Rattle.snap_runs.specs.Tallies.{delivered_by, number_of}
 
 -- ---- numbers of packets
 module _ (P : ℕ → Type 0) where
-  moved_numbers : (c : Copy) (a : Action) → P c.number → All (λ (d : Copy). P d.number) (moved c a)
+  pub moved_numbers : (c : Copy) (a : Action) → P c.number → All (λ (d : Copy). P d.number) (moved c a)
   moved_numbers c (Forward to head) here = All-cons (λ (d : Copy). P d.number) _ [] here (All-nil (λ (d : Copy). P d.number))
   moved_numbers c (Deliver port) here = All-nil (λ (d : Copy). P d.number)
   moved_numbers c (Fork copies lost) here = All-map (λ (d : Copy). P d.number) (λ (x : Sent). record c { head = Out x.port; packet = x.packet; steps = c.steps + 1 }) copies (λ k d within. here)
 
-  number_of-happening : (c : Copy) (a : Action) → P c.number → P (number_of (happening c a))
+  pub number_of-happening : (c : Copy) (a : Action) → P c.number → P (number_of (happening c a))
   number_of-happening c (Forward to head) here = here
   number_of-happening c (Deliver port) here = here
   number_of-happening c (Fork copies lost) here = here
@@ -95,7 +96,7 @@ rests-shown v s shows none = by s.flying (shows.flying ∙ none)
     by (c ∷ cs) e = absurd (cc)
 
 -- ---- lengths of packets
-delivered_long : (n : ℕ) (c : Copy) (a : Action) → length c.packet ≡ n → All (λ k. length k ≡ n) (delivered_by (moving (happening c a)))
+pub delivered_long : (n : ℕ) (c : Copy) (a : Action) → length c.packet ≡ n → All (λ k. length k ≡ n) (delivered_by (moving (happening c a)))
 delivered_long n c (Forward to head) long = All-nil (λ k. length k ≡ n)
 delivered_long n c (Deliver port) long = All-cons (λ k. length k ≡ n) c.packet [] long (All-nil (λ k. length k ≡ n))
 delivered_long n c (Fork copies lost) long = All-nil (λ k. length k ≡ n)
@@ -106,8 +107,8 @@ step-long t s s' j n hs all (step {i = k} {c = c} {m = m} {a = a} is handles) x 
     subst (λ y. All (λ k. length k ≡ n) (delivered_by (moving y))) same (delivered_long n c a (All-get (λ (c : Copy). length c.packet ≡ n) s.flying k c all is))
 
 -- the packets that were noted stay as long as the tables' packets
-pub note-long : (hops : Bool) (old new : Held) (y y' : Tally) → IsHeld old → HasNoted hops old new y y' → All (λ k. length k ≡ comps old.tables) y.delivered.items → All (λ k. length k ≡ comps old.tables) y'.delivered.items
-note-long hops old new y y' held noted all =
+pub note-long : (f : Frames) (hops : Bool) (old new : Held) (y y' : Tally) → IsHeld old → HasNoted f hops old new y y' → All (λ k. length k ≡ comps old.tables) y.delivered.items → All (λ k. length k ≡ comps old.tables) y'.delivered.items
+note-long f hops old new y y' held noted all =
     let P : List ℕ → Type 0 = λ k. length k ≡ comps old.tables in
     let s = shown old in
     let n = noted s.0 s.1 in
@@ -115,21 +116,6 @@ note-long hops old new y y' held noted all =
     subst (All P) (sym n.4.delivered) (All-append P y.delivered.items (delivered_by (moving n.1)) all some)
 
 -- ---- steps that are left
-sum_map : (t : Tables) (f : Sent → Copy) (xs : List Sent) → steps_left t (map f xs) ≡ sum_by (λ (x : Sent). weight t (f x).at (f x).head) xs
-sum_map t f [] = refl
-sum_map t f (x ∷ xs) =
-    sum_by-cons (λ (c : Copy). weight t c.at c.head) (f x) (map f xs)
-    ∙ ap (λ n. weight t (f x).at (f x).head + n) (sum_map t f xs)
-    ∙ sym (sum_by-cons (λ (x : Sent). weight t (f x).at (f x).head) x xs)
-
-moved_weight : (t : Tables) (c : Copy) (a : Action) → steps_left t (moved c a) ≡ weight_after t c.at a
-moved_weight t c (Forward to head) =
-    let d : Copy = record c { at = to; head = head; hops = c.hops + 1; steps = c.steps + 1 } in
-    let e : steps_left t (moved c (Forward to head)) ≡ weight t to head + 0 = sum_by-cons (λ (c : Copy). weight t c.at c.head) d [] in
-    omega arith
-moved_weight t c (Deliver port) = refl
-moved_weight t c (Fork copies lost) = sum_map t (λ (x : Sent). record c { head = Out x.port; packet = x.packet; steps = c.steps + 1 }) copies
-
 -- with each step fewer are left, wherever copies are at home
 pub step_lighter : (t : Tables) → IsValid t → IsInForm t → (s s' : Net) (j : ℕ) (hs : List Happening) → All (λ (c : Copy). c.at < switch_count t) s.flying → All (λ (c : Copy). AtHome t c.at c.head) s.flying → Leads t s (Step j) s' hs → steps_left t s'.flying < steps_left t s.flying
 step_lighter t valid form s s' j hs places homes (step {i = i} {c = c} {m = m} {a = a} is handles) =
@@ -155,8 +141,8 @@ left_shown t (c ∷ cs) =
 pub left_held : (v : Held) (s : Net) → Shows v s → steps_left_of v ≡ steps_left v.tables s.flying
 left_held v s shows = ap (sum_by (λ (c : Flying). weight v.tables c.at c.head)) (sym shows.flying) ∙ left_shown v.tables s.flying
 
-pub note-lighter : (hops : Bool) (old new : Held) (y y' : Tally) → new.tables ≡ old.tables → IsHeld old → HasNoted hops old new y y' → steps_left_of new < steps_left_of old
-note-lighter hops old new y y' same held noted =
+pub note-lighter : (f : Frames) (hops : Bool) (old new : Held) (y y' : Tally) → new.tables ≡ old.tables → IsHeld old → HasNoted f hops old new y y' → steps_left_of new < steps_left_of old
+note-lighter f hops old new y y' same held noted =
     let s = shown old in
     let n = noted s.0 s.1 in
     let less = step_lighter old.tables held.valid held.form s.0 n.0 0 (n.1 ∷ []) (held-shown (λ c. c.at < switch_count old.tables) old s.0 s.1 held.places) (held-shown (λ c. AtHome old.tables c.at c.head) old s.0 s.1 held.homes) n.2 in

@@ -9,8 +9,10 @@ use Rattle.snap_head.specs.Frames.{frame}
 use Rattle.snap_net.specs.declared.flying.Flying.{Flying}
 use Rattle.snap_net.specs.Shown.{happened}
 use Rattle.snap_net.specs.Travels.{arrived}
+use Rattle.snap_runs.specs.declared.frames.Frames.{Frames}
 use Rattle.snap_runs.specs.declared.tally.Tally.{Tally}
-use Rattle.snap_runs.specs.Tallies.{hop_by, name_in}
+use Rattle.snap_runs.specs.Reports.{lead_of}
+use Rattle.snap_runs.specs.Tallies.{hop_told, name_in}
 
 -- `hop FROM TO DIGITS`
 abbrev pub line_text : List (List ℕ) → (digits : List ℕ) → (from to : ℕ) → List ℕ
@@ -22,16 +24,16 @@ way_text switches digits w [] = []
 way_text switches digits w (v ∷ vs) = line_text switches digits w v ++ way_text switches digits v vs
 
 -- the lines of crossings
-abbrev pub crossing_lines : List (List ℕ) → List Happening → List ℕ
-crossing_lines switches [] = []
-crossing_lines switches (x ∷ hs) = hop_by switches (happened x) ++ crossing_lines switches hs
+abbrev pub crossing_lines : Frames → List (List ℕ) → List Happening → List ℕ
+crossing_lines f switches [] = []
+crossing_lines f switches (x ∷ hs) = hop_told f switches (happened x) ++ crossing_lines f switches hs
 
 -- crossings were noted, with their lines where hops are told
-pub record NotesCrossings (t : Tables) (hops : Bool) (hs : List Happening) (old new : Tally) : Type 0 where
+pub record NotesCrossings (f : Frames) (t : Tables) (hops : Bool) (hs : List Happening) (old new : Tally) : Type 0 where
   pub delivered : new.delivered.items ≡ old.delivered.items
   pub lost : new.lost ≡ old.lost
-  pub hops_told : new.hops.items ≡ old.hops.items ++ (if hops then crossing_lines t.switches hs else [])
+  pub hops_told : new.hops.items ≡ old.hops.items ++ (if hops then crossing_lines f t.switches hs else [])
 
 -- the lines of a copy's way along next hops to where its head sends it were put, where hops are told
-abbrev pub NotesWay : Tables → Bool → Flying → (before after : List ℕ) → Type 0
-NotesWay t hops c before after = (ws : List ℕ) → Way t (arrived t c).at c.at ws → after ≡ before ++ (if hops then way_text t.switches (encode_lower (frame c.head c.packet)) c.at ws else [])
+abbrev pub NotesWay : Frames → Tables → Bool → Flying → (before after : List ℕ) → Type 0
+NotesWay f t hops c before after = (ws : List ℕ) → Way t (arrived t c).at c.at ws → after ≡ before ++ (if hops then way_text t.switches (encode_lower (lead_of f c.number ++ frame c.head c.packet)) c.at ws else [])

@@ -13,6 +13,7 @@ use Rattle.snap_net.specs.declared.happened.Moved.{Moved}
 use Rattle.snap_net.specs.declared.happened.Moved.TheVariants as bare
 use Rattle.snap_net.specs.Shown.{Held, Shows}
 use Rattle.snap_runs.specs.declared.event.Order.{Order}
+use Rattle.snap_runs.specs.declared.frames.Frames.TheVariants.{Plain}
 use Rattle.snap_runs.specs.declared.event.Order.TheVariants as order
 use Rattle.snap_runs.specs.declared.play.Play.{Play}
 use Rattle.snap_runs.specs.declared.ready.Ready.{Ready}
@@ -63,7 +64,7 @@ pub record Plays (t : Tables) (hops : Bool) (ks lines : List (List ℕ)) (v : Pl
   pub counted : length v.tallies.items ≡ state.injected
   pub below : All (λ (c : Copy). c.number < state.injected) state.flying
   pub before : All (λ h. number_of h < state.injected) happenings
-  pub tallied : (i : ℕ) (y : Tally) → slice_get v.tallies.items i ≡ Some y → IsTally t hops i happenings y
+  pub tallied : (i : ℕ) (y : Tally) → slice_get v.tallies.items i ≡ Some y → IsTally Plain t hops i happenings y
   pub long : (i : ℕ) (y : Tally) → slice_get v.tallies.items i ≡ Some y → IsLong (comps t) y
   pub ready : All (IsReady t) v.waiting.items
 
@@ -87,7 +88,7 @@ pub record NotesIn (t : Tables) (hops : Bool) (x : Happening) (old new : List Ta
   pub before : Tally
   pub after : Tally
   pub is : slice_get old (number_of x) ≡ Some before
-  pub notes : Notes t hops x before after
+  pub notes : Notes Plain t hops x before after
   pub count : length new ≡ length old
   pub here : slice_get new (number_of x) ≡ Some after
   pub others : (i : ℕ) → (i ≡ number_of x → ⊥) → slice_get new i ≡ slice_get old i

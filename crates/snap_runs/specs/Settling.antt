@@ -7,6 +7,7 @@ use Rattle.snap_rows.specs.Weight.{weight}
 use Rattle.snap_net.specs.declared.flying.Flying.{Flying}
 use Rattle.snap_net.specs.Shown.{Held, Shows}
 use Rattle.snap_net.specs.Travels.{Travels}
+use Rattle.snap_runs.specs.declared.frames.Frames.{Frames}
 use Rattle.snap_runs.specs.declared.tally.Tally.{Tally}
 use Rattle.snap_runs.specs.Crossings.{NotesCrossings}
 use Rattle.snap_runs.specs.Tallies.{IsTally, Notes, number_of}
@@ -28,22 +29,22 @@ pub record Settles (t : Tables) (s s' : Net) (hs : List Happening) : Type 0 wher
   pub injected : s'.injected ≡ s.injected
 
 -- where all copies are of packet i they stay so, and this is the packet's tally
-pub record Tallies (t : Tables) (hops : Bool) (i : ℕ) (s' : Net) (hs : List Happening) (y : Tally) : Type 0 where
+pub record Tallies (f : Frames) (t : Tables) (hops : Bool) (i : ℕ) (s' : Net) (hs : List Happening) (y : Tally) : Type 0 where
   pub copies : AreCopiesOf i s'.flying
   pub happen : HappenTo i hs
-  pub tally : IsTally t hops i hs y
+  pub tally : IsTally f t hops i hs y
 
 -- From each state that was shown such steps lead to one that is shown now.
-abbrev pub HasSettled : Bool → (old new : Held) → Tally → Type 0
-HasSettled hops old new y = (s : Net) → Shows old s → (s' : Net) × (hs : List Happening) × Settles old.tables s s' hs × Shows new s' × ((i : ℕ) → AreCopiesOf i s.flying → Tallies old.tables hops i s' hs y)
+abbrev pub HasSettled : Frames → Bool → (old new : Held) → Tally → Type 0
+HasSettled f hops old new y = (s : Net) → Shows old s → (s' : Net) × (hs : List Happening) × Settles old.tables s s' hs × Shows new s' × ((i : ℕ) → AreCopiesOf i s.flying → Tallies f old.tables hops i s' hs y)
 
 -- the first copy has made a step, which was noted
-abbrev pub HasNoted : Bool → (old new : Held) → (before after : Tally) → Type 0
-HasNoted hops old new before after = (s : Net) → Shows old s → (s' : Net) × (x : Happening) × Leads old.tables s (Step 0) s' (x ∷ []) × Shows new s' × Notes old.tables hops x before after
+abbrev pub HasNoted : Frames → Bool → (old new : Held) → (before after : Tally) → Type 0
+HasNoted f hops old new before after = (s : Net) → Shows old s → (s' : Net) × (x : Happening) × Leads old.tables s (Step 0) s' (x ∷ []) × Shows new s' × Notes f old.tables hops x before after
 
 -- the first copy has gone on by steps that only cross links, which were noted
-abbrev pub HasPassed : Bool → (old new : Held) → (before after : Tally) → Type 0
-HasPassed hops old new before after = (s : Net) → Shows old s → (s' : Net) × (hs : List Happening) × Travels old.tables 0 s hs s' × Shows new s' × NotesCrossings old.tables hops hs before after
+abbrev pub HasPassed : Frames → Bool → (old new : Held) → (before after : Tally) → Type 0
+HasPassed f hops old new before after = (s : Net) → Shows old s → (s' : Net) × (hs : List Happening) × Travels old.tables 0 s hs s' × Shows new s' × NotesCrossings f old.tables hops hs before after
 
 -- the steps that copies can still make, at most
 abbrev pub steps_left_of : Held → ℕ

@@ -12,9 +12,11 @@ use Rattle.snap_net.specs.declared.happened.Happened.TheVariants as shown
 use Rattle.snap_net.specs.declared.happened.Moved.{Moved}
 use Rattle.snap_net.specs.declared.happened.Moved.TheVariants as bare
 use Rattle.snap_net.specs.Shown.{happened, moving}
+use Rattle.snap_runs.specs.declared.frames.Frames.{Frames}
+use Rattle.snap_runs.specs.declared.frames.Frames.TheVariants.{Plain}
 use Rattle.snap_runs.specs.declared.tally.Tally.{Tally}
 use Rattle.snap_trace.specs.Reports.{out_lines}
-use Rattle.snap_runs.specs.Reports.{hops_text, lost_line, packet_line, packets_delivered}
+use Rattle.snap_runs.specs.Reports.{hops_text, lead_of, lost_line, packet_line, packets_delivered}
 
 -- the packets that a step delivers
 abbrev pub delivered_by : Moved → List (List ℕ)
@@ -42,10 +44,14 @@ abbrev pub hop_text : List (List ℕ) → (from to : ℕ) → (frame : List ℕ)
 hop_text switches from to frame = concat (codes "hop " ∷ name_in switches from ∷ codes " " ∷ name_in switches to ∷ codes " " ∷ encode_lower frame ∷ codes "\n" ∷ [])
 
 -- the line of the link that the copy crosses, if it crosses one
+abbrev pub hop_told : Frames → List (List ℕ) → Happened → List ℕ
+hop_told f switches (shown.Forwarded owner from to frame) = hop_text switches from to (lead_of f owner ++ frame)
+hop_told f switches (shown.Delivered owner port k) = []
+hop_told f switches (shown.Forked owner copies lost) = []
+
+-- the same with its frame as it is
 abbrev pub hop_by : List (List ℕ) → Happened → List ℕ
-hop_by switches (shown.Forwarded owner from to frame) = hop_text switches from to frame
-hop_by switches (shown.Delivered owner port k) = []
-hop_by switches (shown.Forked owner copies lost) = []
+hop_by switches h = hop_told Plain switches h
 
 -- the packet whose copy steps
 abbrev pub number_of : Happening → ℕ
@@ -54,16 +60,16 @@ number_of (Delivered c port) = c.number
 number_of (Forked c copies lost) = c.number
 
 -- what a step tells was noted, with its line where hops are told
-pub record Notes (t : Tables) (hops : Bool) (x : Happening) (old new : Tally) : Type 0 where
+pub record Notes (f : Frames) (t : Tables) (hops : Bool) (x : Happening) (old new : Tally) : Type 0 where
   pub delivered : new.delivered.items ≡ old.delivered.items ++ delivered_by (moving x)
   pub lost : new.lost ≡ old.lost + lost_by (moving x)
-  pub hops_told : new.hops.items ≡ old.hops.items ++ (if hops then hop_by t.switches (happened x) else [])
+  pub hops_told : new.hops.items ≡ old.hops.items ++ (if hops then hop_told f t.switches (happened x) else [])
 
 -- the tally tells what happened to packet i
-pub record IsTally (t : Tables) (hops : Bool) (i : ℕ) (hs : List Happening) (y : Tally) : Type 0 where
+pub record IsTally (f : Frames) (t : Tables) (hops : Bool) (i : ℕ) (hs : List Happening) (y : Tally) : Type 0 where
   pub delivered : y.delivered.items ≡ packets_delivered i hs
   pub lost : y.lost ≡ sum (losses_of i hs)
-  pub hops_told : y.hops.items ≡ hops_text t hops i hs
+  pub hops_told : y.hops.items ≡ hops_text f t hops i hs
 
 -- the block of the packet with this number was put, with the packets that were delivered in rising order
 pub record IsBlockText (fields : List Field) (number : ℕ) (y : Tally) (old new : List ℕ) : Type 0 where

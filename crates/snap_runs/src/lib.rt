@@ -2,6 +2,7 @@
 #![tactic(auto)]
 
 pub mod event;
+pub mod frames;
 pub mod laws;
 pub mod packets;
 pub mod play;

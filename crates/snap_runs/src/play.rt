@@ -11,6 +11,7 @@ ghost use Rattle.snap_runs.specs.Tallies.{bared};
 ghost use Rattle.snap_runs.specs.declared.event.Order.TheVariants.{Inject as Injects, Step as Steps};
 
 use crate::event::{Order, next_line, read_order};
+use crate::frames::Frames;
 use crate::ready::Ready;
 use crate::schedule::ScheduleFault;
 use crate::tail::put_end;
@@ -210,7 +211,7 @@ fn step_shown(net: &mut Net, place: usize, tallies: &mut Vec<Tally>) -> Result<(
     };
     let owner = owner_of(&happened);
     let switches = switches_of(net);
-    tallies[owner as usize].note_hop(switches, happened)?;
+    tallies[owner as usize].note_hop(Frames::Plain, switches, happened)?;
     Ok(())
 }
 

@@ -41,6 +41,7 @@ pub fn read_packets<S: Shelf>(
         (λ packets. AreAll tables.now (file_of files name.now) packets.items)
         (RefusesPackets tables.now (file_of files name.now))) }
     ensures ready { IfOk result (λ packets. All (IsReady tables.now) packets.items) }
+    ensures few { IfOk result (λ packets. length packets.items ≤ 1000000) }
     ensures not_write { IsErrOf result TraceFault.Write → ⊥ }
     ensures read { IsErrOf result TraceFault.Read → Rose (S.faults shelf.old name.now) (S.faults shelf.new name.now) }
     ensures files { S.files shelf.new ≡ S.files shelf.old }
@@ -51,12 +52,8 @@ pub fn read_packets<S: Shelf>(
     Ok(packets)
 }
 
-/// Reads the packets of the file with this name, up to its end or to what stops it. Each comes in at a port of the tables.
-///
-/// # Errors
-///
-/// As those of `trace`: `Read`, `Packets`, `Limit` and `NoMemory`. The packets of the lines before are there.
-pub fn read_until<S: Shelf>(
+// Reads the packets of the file with this name, up to its end or to what stops it; the packets of the lines before are there.
+fn read_until<S: Shelf>(
     alloc: Global,
     shelf: &mut S,
     name: &[u8],

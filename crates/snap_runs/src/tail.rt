@@ -1,12 +1,12 @@
 //! The end of a report: the places that aren't 0.
 
-ghost use Rattle.std.specs.Prelude.{◌≡◌, ◌++◌, [], slice_get, unwrap_or, OnOk};
+ghost use Rattle.std.specs.Prelude.{◌≡◌, ◌++◌, [], codes, slice_get, unwrap_or, OnOk};
 ghost use Rattle.std.specs.List.{flat_map};
-ghost use Rattle.snap_trace.specs.Reports.{array_line};
+ghost use Rattle.snap_trace.specs.Reports.{listed_line};
 ghost use Rattle.snap_runs.specs.Reports.{PutsEnd, names_of};
 
 use snap_core::NoMemory;
-use snap_core::place::Entry;
+use snap_core::place::Listed;
 use snap_net::net::Net;
 use snap_rows::lists::ArraysAt;
 use snap_trace::report::{put_index, put_number};
@@ -15,16 +15,28 @@ use snap_trace::report::{put_index, put_number};
 pub fn put_end(out: &mut Vec<u8>, net: &Net) -> Result<(), NoMemory>
     ensures { OnOk result (PutsEnd net.now out.old.items out.new.items) }
 {
-    let entries = net.entries()?;
-    let arrays = &net.tables().tables().arrays;
-    put_entries(out, arrays, &entries)?;
+    let entries = net.listing()?;
+    put_rest(out, arrays_of(net), &entries)
+}
+
+fn arrays_of(net: &Net) -> &ArraysAt
+    ensures { result.now ≡ net.now.tables.arrays }
+{
+    &net.tables().tables().arrays
+}
+
+// Puts the lines of places that aren't 0, and the last line.
+fn put_rest(out: &mut Vec<u8>, arrays: &ArraysAt, entries: &[Listed<'_>]) -> Result<(), NoMemory>
+    ensures { OnOk result (out.new.items ≡ out.old.items ++ (flat_map (listed_line (names_of arrays.now)) entries.now ++ codes "end\n")) }
+{
+    put_entries(out, arrays, entries)?;
     out.extend_from_slice(b"end\n")?;
     Ok(())
 }
 
 // Puts the lines of places that aren't 0.
-fn put_entries(out: &mut Vec<u8>, arrays: &ArraysAt, entries: &[Entry]) -> Result<(), NoMemory>
-    ensures { OnOk result (out.new.items ≡ out.old.items ++ flat_map (array_line (names_of arrays.now)) entries.now) }
+fn put_entries(out: &mut Vec<u8>, arrays: &ArraysAt, entries: &[Listed<'_>]) -> Result<(), NoMemory>
+    ensures { OnOk result (out.new.items ≡ out.old.items ++ flat_map (listed_line (names_of arrays.now)) entries.now) }
 {
     for entry in entries {
         put_entry(out, arrays, entry)?;
@@ -33,12 +45,12 @@ fn put_entries(out: &mut Vec<u8>, arrays: &ArraysAt, entries: &[Entry]) -> Resul
 }
 
 // Puts the line of a place that isn't 0.
-fn put_entry(out: &mut Vec<u8>, arrays: &ArraysAt, entry: &Entry) -> Result<(), NoMemory>
-    ensures { OnOk result (out.new.items ≡ out.old.items ++ array_line (names_of arrays.now) entry.now) }
+fn put_entry(out: &mut Vec<u8>, arrays: &ArraysAt, entry: &Listed<'_>) -> Result<(), NoMemory>
+    ensures { OnOk result (out.new.items ≡ out.old.items ++ listed_line (names_of arrays.now) entry.now) }
 {
     out.extend_from_slice(b"array ")?;
-    out.extend_from_slice(array_name(arrays, entry.place.var))?;
-    put_index(out, entry.place.index.list())?;
+    out.extend_from_slice(array_name(arrays, entry.var))?;
+    put_index(out, entry.index)?;
     out.extend_from_slice(b" = ")?;
     put_number(out, entry.value)?;
     out.push(b'\n')?;

@@ -1,17 +1,19 @@
 //! What is noted of one packet while its copies are in flight.
 
-ghost use Rattle.std.specs.Prelude.{◌≡◌, ◌<◌, ◌+◌, ◌++◌, [], ◌∷◌, ℕ, List, true, length, IfOk, OnOk};
+ghost use Rattle.std.specs.Prelude.{◌≡◌, ◌<◌, ◌+◌, ◌++◌, [], ◌∷◌, ℕ, List, true, length, string_bytes, IfOk, OnOk};
 ghost use Rattle.std.specs.List.{All};
 ghost use Rattle.std.specs.List.Sorted.{IsPermutation, IsSorted};
+ghost use Rattle.hex.specs.Hex.{encode_lower};
 ghost use Rattle.snap_core.specs.Fields.{count};
 ghost use Rattle.snap_core.specs.Packets.{packet_cmp};
 ghost use Rattle.snap_rows.specs.Form.{switch_count};
 ghost use Rattle.snap_rows.specs.Ways.{Way};
 ghost use Rattle.snap_runs.specs.Crossings.{NotesWay, line_text, way_text};
-ghost use Rattle.snap_runs.specs.Reports.{lost_line, packet_line};
+ghost use Rattle.snap_runs.specs.Reports.{lead_of, lost_line, packet_line};
 ghost use Rattle.snap_trace.specs.Reports.{out_lines};
-ghost use Rattle.snap_runs.specs.Tallies.{bared, delivered_by, hop_by, hop_text, IsBlockText, lost_by};
+ghost use Rattle.snap_runs.specs.Tallies.{bared, delivered_by, hop_text, hop_told, IsBlockText, lost_by};
 
+use crate::frames::{Frames, put_lead};
 use snap_core::NoMemory;
 use snap_core::lists::Names;
 use snap_core::packet::Packet;
@@ -77,36 +79,42 @@ impl Tally {
     }
 
     /// Notes a step, with the line of the link that the copy crosses.
-    pub fn note_hop(&mut self, switches: &Names, happened: Happened) -> Result<(), NoMemory>
+    pub fn note_hop(
+        &mut self,
+        frames: Frames,
+        switches: &Names,
+        happened: Happened,
+    ) -> Result<(), NoMemory>
         ensures delivered { OnOk result (self.new.delivered.items ≡ self.old.delivered.items ++ delivered_by (bared happened)) }
         ensures lost { OnOk result (self.new.lost ≡ self.old.lost + lost_by (bared happened)) }
-        ensures hops { OnOk result (self.new.hops.items ≡ self.old.hops.items ++ hop_by switches.now happened) }
+        ensures hops { OnOk result (self.new.hops.items ≡ self.old.hops.items ++ hop_told frames switches.now happened) }
     {
         match happened {
             Happened::Forwarded {
+                owner,
                 from,
                 to,
                 frame,
-                ..
-            } => put_hop(
-                self.alloc,
-                &mut self.hops,
-                switches,
-                from,
-                to,
-                frame.bytes(),
-            ),
+            } => {
+                let digits = digits_of(self.alloc, frames, owner, frame.bytes())?;
+                put_line(&mut self.hops, switches, from, to, digits.as_bytes())
+            }
             Happened::Delivered { packet, .. } => self.deliver(packet),
             Happened::Forked { lost, .. } => self.lose(lost),
         }
     }
 
     /// Notes the lines of the links that a copy crosses along next hops to where its head sends it. All have one frame.
-    pub(crate) fn note_way(&mut self, tables: &Valid, copy: &Flying) -> Result<(), NoMemory>
+    pub(crate) fn note_way(
+        &mut self,
+        frames: Frames,
+        tables: &Valid,
+        copy: &Flying,
+    ) -> Result<(), NoMemory>
         requires { copy.now.at < switch_count tables.now }
         ensures delivered { self.new.delivered.items ≡ self.old.delivered.items }
         ensures lost { self.new.lost ≡ self.old.lost }
-        ensures hops { OnOk result (NotesWay tables.now true copy.now self.old.hops.items self.new.hops.items) }
+        ensures hops { OnOk result (NotesWay frames tables.now true copy.now self.old.hops.items self.new.hops.items) }
     {
         let _known = tables.tables();
         let to = tables.aim(copy.head).unwrap_or(copy.at);
@@ -114,7 +122,7 @@ impl Tally {
             return Ok(());
         }
         let frame = encode(self.alloc, copy.head, &copy.packet)?;
-        let digits = hex::encode(self.alloc, &frame)?;
+        let digits = digits_of(self.alloc, frames, copy.number, &frame)?;
         put_way(&mut self.hops, tables, copy.at, to, digits.as_bytes())
     }
 
@@ -211,19 +219,15 @@ fn put_lost(out: &mut Vec<u8>, lost: u64) -> Result<(), NoMemory>
     Ok(())
 }
 
-// Puts the line of a link that a copy crosses.
-fn put_hop(
-    alloc: Global,
-    out: &mut Vec<u8>,
-    switches: &Names,
-    from: u16,
-    to: u16,
-    frame: &[u8],
-) -> Result<(), NoMemory>
-    ensures { OnOk result (out.new.items ≡ out.old.items ++ hop_text switches.now from to frame.now) }
+// The digits of a frame of the packet with this number, with what is told before it.
+fn digits_of(alloc: Global, frames: Frames, number: u64, frame: &[u8]) -> Result<String, NoMemory>
+    ensures { IfOk result (λ digits. string_bytes digits ≡ encode_lower (lead_of frames number ++ frame.now)) }
 {
-    let digits = hex::encode(alloc, frame)?;
-    put_line(out, switches, from, to, digits.as_bytes())
+    let mut bytes = Vec::new(alloc);
+    put_lead(&mut bytes, frames, number)?;
+    bytes.extend_from_slice(frame)?;
+    let digits = hex::encode(alloc, &bytes)?;
+    Ok(digits)
 }
 
 // Puts the lines of the links along next hops to a switch, each with these digits.

@@ -3,8 +3,9 @@
 ghost use Rattle.std.specs.Prelude.{◌≡◌, ◌≤◌, IfSome, IsErrOf};
 ghost use Rattle.snap_io.specs.Causes.{NoneFell, Rose};
 ghost use Rattle.snap_io.specs.Files.{file_of};
-ghost use Rattle.snap_runs.specs.Plain.{WritesTrace};
+ghost use Rattle.snap_runs.specs.Plain.{WritesTrace, WritesTraceBy};
 
+use crate::frames::Frames;
 use crate::packets::PacketLines;
 use crate::tracer::Tracer;
 use snap_io::{Shelf, Sink};
@@ -38,8 +39,33 @@ pub fn trace<S: Shelf, K: Sink>(
     ensures later { NoneFell (S.faults shelf.old) (S.faults shelf.new) }
     ensures sink_later { K.faults sink.old ≤ K.faults sink.new }
 {
+    trace_by(alloc, shelf, packets, tables, hops, Frames::Plain, sink)
+}
+
+/// The same, with frames of this kind in the lines of hops.
+///
+/// # Errors
+///
+/// As those of `trace`.
+pub fn trace_by<S: Shelf, K: Sink>(
+    alloc: Global,
+    shelf: &mut S,
+    packets: &[u8],
+    tables: Valid,
+    hops: bool,
+    frames: Frames,
+    sink: &mut K,
+) -> Result<(), TraceFault>
+    ensures report { IfSome (S.files shelf.old) (λ files.
+        WritesTraceBy frames tables hops (file_of files packets.now) result (K.taken sink.old) (K.taken sink.new)) }
+    ensures read { IsErrOf result TraceFault.Read → Rose (S.faults shelf.old packets.now) (S.faults shelf.new packets.now) }
+    ensures write { IsErrOf result TraceFault.Write → Rose (K.faults sink.old) (K.faults sink.new) }
+    ensures files { S.files shelf.new ≡ S.files shelf.old }
+    ensures later { NoneFell (S.faults shelf.old) (S.faults shelf.new) }
+    ensures sink_later { K.faults sink.old ≤ K.faults sink.new }
+{
     let mut reader = PacketLines::new(alloc, packets)?;
-    let mut tracer = Tracer::new(alloc, tables, hops)?;
+    let mut tracer = Tracer::new(alloc, tables, hops, frames)?;
     let ended = tracer.run(shelf, &mut reader, sink);
     tracer.close(sink, ended)
 }

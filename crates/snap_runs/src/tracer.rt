@@ -12,11 +12,13 @@ ghost use Rattle.snap_rows.specs.Network.{Net as State, start};
 ghost use Rattle.snap_net.specs.Shown.{Shows};
 ghost use Rattle.snap_trace.specs.Spelled.{Spelled, with_said};
 ghost use Rattle.snap_trace.specs.Steps.{Puts};
-ghost use Rattle.snap_runs.specs.Plain.{WritesTrace, at_ports};
+ghost use Rattle.snap_runs.specs.declared.frames.Frames.{Frames as Kind};
+ghost use Rattle.snap_runs.specs.Plain.{WritesTraceBy, at_ports};
 ghost use Rattle.snap_runs.specs.Reading.{FitsLine, GoesOn, HasLine, left_of, said_at, said_of};
 ghost use Rattle.snap_runs.specs.Reports.{PutsEnd};
 ghost use Rattle.snap_runs.specs.Tracing.{Closes, Comes, ComesOn, Follows, TakesPacket, changed};
 
+use crate::frames::Frames;
 use crate::packets::PacketLines;
 use crate::settle::settle;
 use crate::tail::put_end;
@@ -37,14 +39,17 @@ pub struct Tracer {
     alloc: Global,
     net: Net,
     hops: bool,
+    frames: Frames,
     text: Vec<u8>,
 }
 
 impl Tracer {
-    /// Before the first packet. With `hops` a line of the report tells each link that a copy crosses.
-    pub fn new(alloc: Global, tables: Valid, hops: bool) -> Result<Tracer, NoMemory>
+    /// Before the first packet. With `hops` a line of the report tells each link that a copy crosses, by a frame of this
+    /// kind.
+    pub fn new(alloc: Global, tables: Valid, hops: bool, frames: Frames) -> Result<Tracer, NoMemory>
         ensures tables { IfOk result (λ tracer. tracer.net.tables ≡ tables) }
         ensures hops { IfOk result (λ tracer. tracer.hops ≡ hops) }
+        ensures frames { IfOk result (λ tracer. tracer.frames ≡ frames) }
         ensures injected { IfOk result (λ tracer. tracer.net.injected ≡ 0) }
         ensures start { IfOk result (λ tracer. Shows tracer.net (start tables zero_arrays)) }
         ensures text { IfOk result (λ tracer. tracer.text.items ≡ []) }
@@ -54,6 +59,7 @@ impl Tracer {
             alloc,
             net,
             hops,
+            frames,
             text: Vec::new(alloc),
         })
     }
@@ -72,7 +78,7 @@ impl Tracer {
         requires read { reader.old.read ≡ 0 }
         requires agrees { AgreesWith (S.files shelf.old) reader.old.lines }
         ensures closes { IfSome (S.files shelf.old) (λ files.
-            Closes self.old.net.tables self.old.hops (file_of files (lines_name reader.old.lines)) result (K.taken sink.old) (K.taken sink.new) self.new.text.items) }
+            Closes self.old.frames self.old.net.tables self.old.hops (file_of files (lines_name reader.old.lines)) result (K.taken sink.old) (K.taken sink.new) self.new.text.items) }
         ensures read { IsErrOf result TraceFault.Read → Rose (S.faults shelf.old (lines_name reader.old.lines)) (S.faults shelf.new (lines_name reader.old.lines)) }
         ensures write { IsErrOf result TraceFault.Write → Rose (K.faults sink.old) (K.faults sink.new) }
         ensures files { S.files shelf.new ≡ S.files shelf.old }
@@ -94,13 +100,14 @@ impl Tracer {
         sink: &mut K,
     ) -> Result<Option<Line>, TraceFault>
         requires agrees { AgreesWith (S.files shelf.old) reader.old.lines }
-        ensures follows { IfSome (S.files shelf.old) (λ files. (t : Tables) (hops : Bool) (start : Maybe (List ℕ)) →
-            Comes t hops (file_of files (lines_name reader.old.lines)) (left_of (said_at t) (file_of files (lines_name reader.old.lines)) reader.old) self.old start (K.taken sink.old) →
-            Follows t hops (file_of files (lines_name reader.old.lines)) reader.new self.new start (K.taken sink.new) result) }
+        ensures follows { IfSome (S.files shelf.old) (λ files. (f : Kind) (t : Tables) (hops : Bool) (start : Maybe (List ℕ)) →
+            Comes f t hops (file_of files (lines_name reader.old.lines)) (left_of (said_at t) (file_of files (lines_name reader.old.lines)) reader.old) self.old start (K.taken sink.old) →
+            Follows f t hops (file_of files (lines_name reader.old.lines)) reader.new self.new start (K.taken sink.new) result) }
         ensures fits { IfOk result (HasLine (comps self.old.net.tables)) }
         ensures goes_on { IfOk result (GoesOn reader.old.read reader.new.read) }
         ensures net { self.new.net ≡ self.old.net }
         ensures hops { self.new.hops ≡ self.old.hops }
+        ensures frames { self.new.frames ≡ self.old.frames }
         ensures name { lines_name reader.new.lines ≡ lines_name reader.old.lines }
         ensures agrees { AgreesWith (S.files shelf.new) reader.new.lines }
         ensures read { IsErrOf result TraceFault.Read → Rose (S.faults shelf.old (lines_name reader.old.lines)) (S.faults shelf.new (lines_name reader.old.lines)) }
@@ -138,6 +145,7 @@ impl Tracer {
         ensures cause { HasCause (K.faults sink.old) (K.faults sink.new) result }
         ensures net { self.new.net ≡ self.old.net }
         ensures hops { self.new.hops ≡ self.old.hops }
+        ensures frames { self.new.frames ≡ self.old.frames }
     {
         write_before_read(&mut self.text, reader, sink)
     }
@@ -166,6 +174,7 @@ impl Tracer {
         ensures injected { self.new.net.injected ≡ self.old.net.injected }
         ensures text { self.new.text.items ≡ self.old.text.items }
         ensures hops { self.new.hops ≡ self.old.hops }
+        ensures frames { self.new.frames ≡ self.old.frames }
     {
         let entries = self.net.entries()?;
         let injected = self.net.injected();
@@ -177,8 +186,8 @@ impl Tracer {
     fn take_line(&mut self, line: Line, number: u64) -> Result<(), TraceFault>
         requires fits { FitsLine (comps self.old.net.tables) line }
         requires room { self.old.net.injected < 2 ^ 63 }
-        ensures comes { (t : Tables) (hops : Bool) (file : List ℕ) (left : Spelled) (start now : Maybe (List ℕ)) →
-            Comes t hops file (with_said number (at_ports t (said_of line)) left) self.old start now → ComesOn t hops file left self.new start now result }
+        ensures comes { (f : Kind) (t : Tables) (hops : Bool) (file : List ℕ) (left : Spelled) (start now : Maybe (List ℕ)) →
+            Comes f t hops file (with_said number (at_ports t (said_of line)) left) self.old start now → ComesOn f t hops file left self.new start now result }
         ensures tables { self.new.net.tables ≡ self.old.net.tables }
         ensures injected { self.new.net.injected ≤ self.old.net.injected + 1 }
         ensures fault { (IsErrOf result TraceFault.Read ⊎ IsErrOf result TraceFault.Write) → ⊥ }
@@ -201,6 +210,7 @@ impl Tracer {
         ensures takes { TakesPacket line port packet self.old self.new result }
         ensures tables { self.new.net.tables ≡ self.old.net.tables }
         ensures hops { self.new.hops ≡ self.old.hops }
+        ensures frames { self.new.frames ≡ self.old.frames }
         ensures injected { self.new.net.injected ≤ self.old.net.injected + 1 }
     {
         let number = match self.net.inject(port, packet) {
@@ -208,7 +218,7 @@ impl Tracer {
             Err(InjectFault::NoPort) => return Err(TraceFault::Packets { line }),
             Err(InjectFault::NoMemory) => return Err(TraceFault::NoMemory),
         };
-        let tally = settle(self.alloc, &mut self.net, self.hops)?;
+        let tally = settle(self.alloc, &mut self.net, self.hops, self.frames)?;
         let fields = fields_of(&self.net);
         tally.put_block(&mut self.text, fields, number + 1)?;
         Ok(())
@@ -220,8 +230,8 @@ impl Tracer {
         sink: &mut K,
         ended: Result<(), TraceFault>,
     ) -> Result<(), TraceFault>
-        ensures report { (t : Tables) (hops : Bool) (file : List ℕ) (start : Maybe (List ℕ)) →
-            Closes t hops file ended start (K.taken sink.old) self.old.text.items → WritesTrace t hops file result start (K.taken sink.new) }
+        ensures report { (f : Kind) (t : Tables) (hops : Bool) (file : List ℕ) (start : Maybe (List ℕ)) →
+            Closes f t hops file ended start (K.taken sink.old) self.old.text.items → WritesTraceBy f t hops file result start (K.taken sink.new) }
         ensures read { IsErrOf result TraceFault.Read → IsErrOf ended TraceFault.Read }
         ensures write { IsErrOf result TraceFault.Write → IsErrOf ended TraceFault.Write ⊎ Rose (K.faults sink.old) (K.faults sink.new) }
         ensures later { K.faults sink.old ≤ K.faults sink.new }

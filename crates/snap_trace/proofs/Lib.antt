@@ -6,3 +6,4 @@ pub mod SwitchLemmas
 pub mod TailLemmas
 pub mod DigitLemmas
 pub mod EqualsLemmas
+pub mod GuessLemmas

@@ -1,5 +1,5 @@
 -- A run packet by packet is one big switch.
-use Rattle.std.proofs.Common.{◌≡◌, ◌⊎◌, ℕ, ◌+◌, zero, suc, List, [], ◌∷◌, ◌++◌, take, Option, Some, None, Ok, Err, refl, sym, ap, subst, ◌∙◌, inl, inr, arith, append_assoc, append-nil}
+use Rattle.std.proofs.Common.{◌≡◌, ◌⊎◌, ℕ, ◌+◌, zero, suc, List, [], ◌∷◌, ◌++◌, take, Option, Some, None, Ok, Err, refl, sym, ap, subst, ◌∙◌, inl, inr, arith, append_assoc}
 use Rattle.std.specs.Prelude.{MatchOption, option_and_then, option_map}
 use Rattle.std.specs.Option.{option_map_or}
 use Rattle.snap_core.specs.declared.policy.Pol.{Pol}
@@ -11,7 +11,7 @@ use Rattle.snap_core.specs.Meaning.{Meaning, eval}
 use Rattle.snap_core.specs.Switch.{Switched, one_big_switch}
 use Rattle.snap_trace.specs.declared.fault.TraceFault.TheVariants.{Undefined}
 use Rattle.snap_trace.specs.ByPackets.{blocks_from, blocks_of, ending_from, ending_of, IsTailFrom, IsTailOf}
-use Rattle.snap_trace.specs.OneSwitch.{AreBlocks, EndsAsRead, RunEnding, IsReport, IsUndefinedAfter}
+use Rattle.snap_trace.specs.OneSwitch.{AreBlocks, EndsAsRead, RunEnding, IsReport}
 use Rattle.snap_trace.specs.Reports.{all_lines, block, blocks, end_text}
 use Rattle.snap_trace.specs.Spelled.{Stop, ended, refused, spelled}
 

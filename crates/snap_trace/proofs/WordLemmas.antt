@@ -104,10 +104,3 @@ words_of-last text h e =
     whole : (text : List ℕ) → BeginsWord text → is_some_text text ≡ true
     whole [] h = absurd h
     whole (b ∷ bs) h = refl
-
-pub length-word : (text : List ℕ) (n : ℕ) → BeginsWord text → position is_blank text ≡ Some n → 0 < n
-length-word text n h e = positive text n h (position-Some is_blank text n 0 e).1
-
-pub length-some : (text : List ℕ) → BeginsWord text → 0 < length text
-length-some [] h = absurd h
-length-some (b ∷ bs) h = omega arith

@@ -1,5 +1,6 @@
 pub mod ByPackets
 pub mod Drafts
+pub mod Guesses
 pub mod OneSwitch
 pub mod PacketLines
 pub mod Reports

@@ -1,5 +1,6 @@
 //! A packet while the words of its line are read.
 
+use crate::guess::Guess;
 use crate::line::LineFault;
 use crate::words::{next_word, plain_value, split_value};
 use snap_core::NoMemory;
@@ -20,6 +21,7 @@ impl Draft {
     ghost use Rattle.snap_core.specs.Fields.{FoundFits, count, found};
     ghost use Rattle.snap_core.specs.Parts.{parts_by};
     ghost use Rattle.snap_trace.specs.Drafts.{draft_of};
+    ghost use Rattle.snap_trace.specs.Guesses.{StandsAt};
     ghost use Rattle.snap_trace.specs.PacketLines.{draft_at_first, with_number, with_value, with_word, with_words, words_of};
     ghost use Rattle.snap_trace.specs.declared.line.LineFault.TheVariants.{Bad};
 
@@ -43,27 +45,30 @@ impl Draft {
             (λ e. (e ≡ Bad) × (with_words fields.now (words_of text.now) (draft_of self.old) ≡ None)) }
     {
         let mut rest = text;
+        let mut guess = Guess::first(fields);
         while let Some((word, behind)) = next_word(rest) {
-            self.set_word(fields, word)?;
+            self.set_word(fields, &mut guess, word)?;
             rest = behind;
         }
         Ok(())
     }
 
     // Names what one word `NAME=VALUE` sets.
-    fn set_word(&mut self, fields: &Fields, word: &[u8]) -> Result<(), LineFault>
+    fn set_word(&mut self, fields: &Fields, guess: &mut Guess, word: &[u8]) -> Result<(), LineFault>
+        requires stands { StandsAt fields.now guess.old }
         requires comps { vec_len self.old.numbers ≡ count fields.now }
         requires few { vec_len self.old.numbers ≤ 64 }
         ensures same { vec_len self.new.numbers ≡ vec_len self.old.numbers }
         ensures set { MatchResult result
             (λ _. with_word fields.now word.now (draft_of self.old) ≡ Some (draft_of self.new))
             (λ e. (e ≡ Bad) × (with_word fields.now word.now (draft_of self.old) ≡ None)) }
+        ensures stands { StandsAt fields.now guess.new }
     {
         let Some((name, value)) = split_at_first(word, b'=') else {
             return Err(LineFault::Bad);
         };
         // A value with another `=` in it is no number and no address, and is refused as such.
-        self.set_value(fields.find(name), value)
+        self.set_value(guess.find(fields, name), value)
     }
 
     // Sets what a name stands for to what stands behind it.

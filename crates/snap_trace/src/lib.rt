@@ -4,8 +4,9 @@
 //! their counters on the stack.
 #![tactic(auto)]
 
-pub mod draft;
+mod draft;
 pub mod fault;
+mod guess;
 pub mod line;
 pub mod report;
 pub mod switch;

@@ -1,5 +1,5 @@
 use crate::switch::one_switch;
-use crate::{Line, LineFault, read_line};
+use crate::{Line, read_line};
 use snap_core::lists::{Atoms, Name, Names};
 use snap_core::policy::{Atom, Op, Pol, Pred, Update};
 use snap_core::program::{Field, Fields, Program};
@@ -57,58 +57,6 @@ fn lines_say_their_packets(rt: HostRuntime) -> Result<(), Fail> {
             }
             _ => assert!(rt; false, "no packet"),
         }
-    }
-    Ok(())
-}
-
-#[test]
-fn lines_say_nothing_or_are_refused(rt: HostRuntime) -> Result<(), Fail> {
-    let alloc = rt.alloc();
-    let fields = fields(alloc)?;
-    let skipped: [&[u8]; 5] = [b"", b"\r", b" \t", b"# 1 f=2", b"#"];
-    for line in skipped {
-        assert!(rt; matches!(read_line(alloc, &fields, line), Ok(Line::Skip)));
-    }
-    let refused: [&[u8]; 36] = [
-        b"x",
-        b"0",
-        b"4294967296",
-        b"+1",
-        b"-1",
-        b"1.0.0.1",
-        b"1\r\r",
-        b"\r1",
-        b" # 1",
-        b"1 2",
-        b"1 f",
-        b"1 f=",
-        b"1 =3",
-        b"1 f = 3",
-        b"1 f=1=2",
-        b"1 f=+3",
-        b"1 f=-3",
-        b"1 f=18446744073709551616",
-        b"1 f=1:2",
-        b"1 f=10.0.6",
-        b"1 f=10.0.6.256",
-        b"1 f=10.0.6.0001",
-        b"1 f=10.0.6.1.2",
-        b"1 g=3",
-        b"1 g=:2",
-        b"1 g=1:",
-        b"1 g=1:2:3",
-        b"1 g=10.0.6.1:2",
-        b"1 g=1:18446744073709551616",
-        b"1 h=1",
-        b"1 F=1",
-        b"1 f=1 f=1",
-        b"1 inport=1",
-        b"1 g=7:1 g.net=7",
-        b"1 g.host=1 g=10.0.6.1",
-        b"1 f.net=1",
-    ];
-    for line in refused {
-        assert!(rt; matches!(read_line(alloc, &fields, line), Err(LineFault::Bad)));
     }
     Ok(())
 }

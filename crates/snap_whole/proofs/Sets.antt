@@ -22,6 +22,7 @@ use Rattle.snap_rows.specs.Happenings.{deliveries_of, losses_of}
 use Rattle.snap_rows.specs.Network.{Happening}
 use Rattle.snap_gen.specs.Agreement.{CameOut}
 use Rattle.snap_trace.specs.Reports.{block, blocks, out_lines}
+use Rattle.snap_runs.specs.declared.frames.Frames.TheVariants.{Plain}
 use Rattle.snap_runs.specs.Reports.{IsBlock, packet_line, hops_text, lost_line, packets_delivered}
 use Rattle.snap_runs.proofs.InOrder.{same_packets_in_order}
 use Rattle.snap_whole.specs.OneSwitch.{port_lines}
@@ -65,7 +66,7 @@ one_block t i set hs text came is =
     let outs : is.outs ≡ delivered (port_numbers t) set =
     same_packets_in_order is.outs (delivered (port_numbers t) set) is.rising (delivered-rising (port_numbers t) set) (IsPermutation-trans is.outs (packets_delivered i hs) (delivered (port_numbers t) set) is.delivered there) in
     let loss : sum (losses_of i hs) ≡ lost (port_numbers t) set = ap sum came.loss ∙ omega arith in
-    is.is ∙ (λ j. packet_line (i + 1) ++ hops_text t false i hs ++ out_lines t.fields (outs j) ++ lost_line (loss j))
+    is.is ∙ (λ j. packet_line (i + 1) ++ hops_text Plain t false i hs ++ out_lines t.fields (outs j) ++ lost_line (loss j))
     ∙ append_assoc (packet_line (i + 1) ++ []) (out_lines t.fields (delivered (port_numbers t) set)) (lost_line (lost (port_numbers t) set))
     ∙ ap (λ l. l ++ port_lines t.fields (port_numbers t) set) (append-nil (packet_line (i + 1)))
 

@@ -23,7 +23,7 @@ behind done more = more
 behind {t = t} {s = s} {s'' = s''} {es' = es'} {hs' = hs'} (on {e = e} {es = es} {h = h} {hs = hs} leads onward) more =
     subst (λ x. Runs t s (e ∷ (es ++ es')) s'' x) (sym (append_assoc h hs hs')) (on leads (behind onward more))
 
-last_part : {X : Type 0} (P : X → Type 0) (xs ys : List X) → All P (xs ++ ys) → All P ys
+pub last_part : {X : Type 0} (P : X → Type 0) (xs ys : List X) → All P (xs ++ ys) → All P ys
 last_part P [] ys all = all
 last_part P (x ∷ xs) ys all = last_part P xs ys (All-tail P x (xs ++ ys) all)
 

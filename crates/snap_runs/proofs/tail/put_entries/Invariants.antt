@@ -1,8 +1,8 @@
 use Rattle.std.proofs.Common.{◌≡◌, ◌++◌, take}
 use Rattle.std.specs.List.{flat_map}
-use Rattle.snap_trace.specs.Reports.{array_line}
+use Rattle.snap_trace.specs.Reports.{listed_line}
 use Rattle.snap_runs.specs.Reports.{names_of}
 use Rattle.snap_runs.proofs.tail.put_entries.Given as goal
 
 abbrev pub invariant-loop-entry : goal.invariant-loop-entry
-invariant-loop-entry l = l.out.items ≡ l.initial.out.items ++ flat_map (array_line (names_of l.arrays)) (take l.entry-index l.entries)
+invariant-loop-entry l = l.out.items ≡ l.initial.out.items ++ flat_map (listed_line (names_of l.arrays)) (take l.entry-index l.entries)

@@ -39,7 +39,7 @@ returns-clause-follows g c =
     let fields = c.fields.ensures ∙ ap (λ (n : Held). n.tables.fields) c.write_before_read.ensures.net ∙ came.stands.shape.fields in
     follows first later hops file reader reader' m' start now
     (subst (λ n. Comes first later hops file (left_for first later file n reader) m' start now) (sym (ap (λ (n : Held). n.injected) c.write_before_read.ensures.net))
-    (comes-written first later hops file (left_for first later file m.tracer.net.injected reader) m start before came m' now c.write_before_read.ensures.net refl c.write_before_read.ensures.hops c.in_ok-write_before_read.ensures.puts))
+    (comes-written first later hops file (left_for first later file m.tracer.net.injected reader) m start before came m' now c.write_before_read.ensures.net refl c.write_before_read.ensures.hops c.write_before_read.ensures.frames c.in_ok-write_before_read.ensures.puts))
     c.next.result (leaves_by first later file m'.tracer.net.injected reader reader' reader.few c.next.result c.next.ensures.goes_on
     (subst (λ (f : List Field). GivesNext f reader.read (next_for file reader) reader' c.next.result) fields gives)))
     c.next.ensures.next

@@ -28,8 +28,8 @@ loop-line-init g c =
           let file = file_of files (lines_name reader.lines) in
           let left = left_for first later file m'.tracer.net.injected reader in
           comes-settled first later m.tracer.hops file left m now now
-          (comes-first first later m.tracer.hops file m now refl (stands-first m c.requires.start) c.requires.text left (left-first first later file reader m'.tracer.net.injected (same ∙ none) c.requires.read c.requires.given))
-          m' c.in_ok-settle.ensures.stands c.settle.ensures.hops c.settle.ensures.text);
+          (comes-first first later m.tracer.hops file m now refl c.requires.frames (stands-first m c.requires.start) c.requires.text left (left-first first later file reader m'.tracer.net.injected (same ∙ none) c.requires.read c.requires.given))
+          m' c.in_ok-settle.ensures.stands c.settle.ensures.hops c.settle.ensures.frames c.settle.ensures.text);
       keeps = c.in_ok-settle.ensures.keeps;
       settled = c.in_ok-settle.ensures.settled;
       injected = omega (arith, none, same);

@@ -26,7 +26,7 @@ returns-in_err-settle-in-Inject-clause-comes c = λ first later hops file rest s
     let fits = subst (FitsLine (comps m.tracer.net.tables)) c.in-Inject.is c.requires.fits in
     let came' = subst (λ l. Comes first later hops file (with_line first later c.args.number m.tracer.net.injected l rest) m start now) c.in-Inject.is came in
     let m1 : Mover = record m { tracer = c.take_packet.new.self } in
-    let gone = took c.args.number c.in-Inject.port k m fits.1 c.requires.settled first later hops file rest start now came' m1 refl c.take_packet.ensures.tables c.take_packet.ensures.hops c.in_ok-take_packet-in-Inject.ensures.takes in
+    let gone = took c.args.number c.in-Inject.port k m fits.1 c.requires.settled first later hops file rest start now came' m1 refl c.take_packet.ensures.tables c.take_packet.ensures.hops c.take_packet.ensures.frames c.in_ok-take_packet-in-Inject.ensures.takes in
     let out = err_from_is_err_and c.from_residual-in_err-settle-in-Inject.result c.from_residual-in_err-settle-in-Inject.ensures.1 in
     subst (ComesOn first later hops file rest c.settle.new.self start now) (sym out.1)
     (subst (λ e. ComesOn first later hops file rest c.settle.new.self start now (Err e)) (sym out.2)
@@ -40,8 +40,8 @@ returns-in_ok-settle-in-Inject-clause-comes c = λ first later hops file rest st
     let came' = subst (λ l. Comes first later hops file (with_line first later c.args.number m.tracer.net.injected l rest) m start now) c.in-Inject.is came in
     let m1 : Mover = record m { tracer = c.take_packet.new.self } in
     let m2 = c.settle.new.self in
-    let gone = took c.args.number c.in-Inject.port k m fits.1 c.requires.settled first later hops file rest start now came' m1 refl c.take_packet.ensures.tables c.take_packet.ensures.hops c.in_ok-take_packet-in-Inject.ensures.takes in
+    let gone = took c.args.number c.in-Inject.port k m fits.1 c.requires.settled first later hops file rest start now came' m1 refl c.take_packet.ensures.tables c.take_packet.ensures.hops c.take_packet.ensures.frames c.in_ok-take_packet-in-Inject.ensures.takes in
     let left = rest m1.tracer.net.injected in
     comes-as first later hops file left m2 start now
-    (comes-settled first later hops file left m1 start now gone m2 c.in_ok-settle-in-Inject.ensures.stands c.settle.ensures.hops c.settle.ensures.text)
+    (comes-settled first later hops file left m1 start now gone m2 c.in_ok-settle-in-Inject.ensures.stands c.settle.ensures.hops c.settle.ensures.frames c.settle.ensures.text)
     (rest m2.tracer.net.injected) (ap rest (sym c.settle.ensures.injected))

@@ -12,7 +12,7 @@ invariant-loop-line g l =
     let sink = g.K.Sink in
     let t = l.fn.self.net.tables in
     record {
-      comes : IfSome (shelf.files l.fn.shelf) (λ files. Comes t l.fn.self.hops (file_of files (lines_name l.fn.reader.lines)) (left_of (said_at t) (file_of files (lines_name l.fn.reader.lines)) l.reader) l.self (sink.taken l.fn.sink) (sink.taken l.sink));
+      comes : IfSome (shelf.files l.fn.shelf) (λ files. Comes l.fn.self.frames t l.fn.self.hops (file_of files (lines_name l.fn.reader.lines)) (left_of (said_at t) (file_of files (lines_name l.fn.reader.lines)) l.reader) l.self (sink.taken l.fn.sink) (sink.taken l.sink));
       injected : l.self.net.injected ≤ l.reader.read;
       tables : l.self.net.tables ≡ t;
       name : lines_name l.reader.lines ≡ lines_name l.fn.reader.lines;

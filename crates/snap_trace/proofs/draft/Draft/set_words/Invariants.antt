@@ -1,6 +1,7 @@
 use Rattle.std.proofs.Common.{◌≡◌, length, vec_len}
 use Rattle.snap_core.specs.Fields.{count}
 use Rattle.snap_trace.specs.Drafts.{draft_of}
+use Rattle.snap_trace.specs.Guesses.{StandsAt}
 use Rattle.snap_trace.specs.PacketLines.{with_words, words_of}
 use Rattle.snap_trace.proofs.draft.Draft.set_words.Given as goal
 
@@ -8,6 +9,7 @@ use Rattle.snap_trace.proofs.draft.Draft.set_words.Given as goal
 abbrev pub invariant-loop-word : goal.invariant-loop-word
 invariant-loop-word l = record {
   words : with_words l.fields (words_of l.rest) (draft_of l.self) ≡ with_words l.fields (words_of l.fn.text) (draft_of l.fn.self);
+  stands : StandsAt l.fields l.guess;
   comps : vec_len l.self.numbers ≡ count l.fields;
 }
 

@@ -2,11 +2,11 @@ use Rattle.std.proofs.Common.{Err, subst, sym}
 use Rattle.std.proofs.lemmas.Result.{err_from_is_err_and}
 use Rattle.snap_io.specs.Files.{file_of}
 use Rattle.snap_io.specs.LineReaders.{lines_name}
-use Rattle.snap_runs.specs.Plain.{WritesTrace}
+use Rattle.snap_runs.specs.Plain.{WritesTraceBy}
 use Rattle.snap_runs.specs.Tracing.{Closes}
 use Rattle.snap_trace.proofs.StepLemmas.{where_told, whatever_told}
 use Rattle.snap_runs.proofs.Closing.{writes-nothing}
-use Rattle.snap_runs.proofs.trace.trace.Goals as goal
+use Rattle.snap_runs.proofs.trace.trace_by.Goals as goal
 
 pub returns-in_err-reader-clause-report : goal.returns-in_err-reader-clause-report
 returns-in_err-reader-clause-report g c =
@@ -14,8 +14,8 @@ returns-in_err-reader-clause-report g c =
     whatever_told (g.S.Shelf.files c.args.shelf.now) _ (λ files.
     let file = file_of files c.args.packets.now in
     let start = g.K.Sink.taken c.args.sink.now in
-    subst (λ r. WritesTrace c.args.tables c.args.hops file r start start) (sym out.1)
-    (subst (λ e. WritesTrace c.args.tables c.args.hops file (Err e) start start) (sym out.2) (writes-nothing c.args.tables c.args.hops file start)))
+    subst (λ r. WritesTraceBy c.args.frames c.args.tables c.args.hops file r start start) (sym out.1)
+    (subst (λ e. WritesTraceBy c.args.frames c.args.tables c.args.hops file (Err e) start start) (sym out.2) (writes-nothing c.args.frames c.args.tables c.args.hops file start)))
 
 pub returns-in_err-tracer-clause-report : goal.returns-in_err-tracer-clause-report
 returns-in_err-tracer-clause-report g c =
@@ -23,13 +23,14 @@ returns-in_err-tracer-clause-report g c =
     whatever_told (g.S.Shelf.files c.args.shelf.now) _ (λ files.
     let file = file_of files c.args.packets.now in
     let start = g.K.Sink.taken c.args.sink.now in
-    subst (λ r. WritesTrace c.args.tables c.args.hops file r start start) (sym out.1)
-    (subst (λ e. WritesTrace c.args.tables c.args.hops file (Err e) start start) (sym out.2) (writes-nothing c.args.tables c.args.hops file start)))
+    subst (λ r. WritesTraceBy c.args.frames c.args.tables c.args.hops file r start start) (sym out.1)
+    (subst (λ e. WritesTraceBy c.args.frames c.args.tables c.args.hops file (Err e) start start) (sym out.2) (writes-nothing c.args.frames c.args.tables c.args.hops file start)))
 
 pub returns-clause-report : goal.returns-clause-report
 returns-clause-report g c =
     let t = c.args.tables in
     let hops = c.args.hops in
+    let f = c.args.frames in
     let v = c.in_ok-tracer.tracer in
     let name = lines_name c.in_ok-reader.reader.lines in
     let start = g.K.Sink.taken c.args.sink.now in
@@ -37,8 +38,9 @@ returns-clause-report g c =
     let now = g.K.Sink.taken c.run-ended.new.sink in
     let text = c.run-ended.new.self.text.items in
     where_told (g.S.Shelf.files c.args.shelf.now) _ _ (λ files closes.
-    c.close.ensures.report t hops (file_of files c.args.packets.now) start
-    (subst (λ n. Closes t hops (file_of files n) ended start now text) c.in_ok-reader.ensures.name
-    (subst (λ h. Closes t h (file_of files name) ended start now text) c.in_ok-tracer.ensures.hops
-    (subst (λ x. Closes x v.hops (file_of files name) ended start now text) c.in_ok-tracer.ensures.tables closes))))
+    c.close.ensures.report f t hops (file_of files c.args.packets.now) start
+    (subst (λ n. Closes f t hops (file_of files n) ended start now text) c.in_ok-reader.ensures.name
+    (subst (λ h. Closes f t h (file_of files name) ended start now text) c.in_ok-tracer.ensures.hops
+    (subst (λ k. Closes k t v.hops (file_of files name) ended start now text) c.in_ok-tracer.ensures.frames
+    (subst (λ x. Closes v.frames x v.hops (file_of files name) ended start now text) c.in_ok-tracer.ensures.tables closes)))))
     c.run-ended.ensures.closes
