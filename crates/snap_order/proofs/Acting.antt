@@ -52,7 +52,7 @@ pub acted : (old new : Held) (k : ℕ) (us : List Update) (a : Action) (moved : 
     → (c : Flying) → slice_get old.flying k ≡ Some c → HasActed old k c us a new
 acted old new k us a moved updated moves tables injected c is = record { stores = updated c is; flying = (moves c is).0; tables = tables; injected = injected }
 
-framed_so : (c : Flying) (a : Action) (bytes : List ℕ) → FramesInTurn c a bytes → with_frame (moved_of c a) bytes ≡ told_by c a
+pub framed_so : (c : Flying) (a : Action) (bytes : List ℕ) → FramesInTurn c a bytes → with_frame (moved_of c a) bytes ≡ told_by c a
 framed_so c (Forward to head) bytes e = ap (λ l. with_frame (moved_of c (Forward to head)) l) e
 framed_so c (Deliver port) bytes e = refl
 framed_so c (Fork copies lost) bytes e = refl

@@ -32,17 +32,17 @@ done_injected v new port k done same s shows =
     (record s { net = d.0 }, [], injects_so {s = s} d.2, record { net = d.3; handled = λ r. shows.handled r ∙ ap (λ l. get_or l r 0) (sym same) }, refl)
 
 -- ---- a step
-told_happening : (x : Copy) (a : Action) → told_by (flown x) a ≡ happened_in_turn (happening x a)
+pub told_happening : (x : Copy) (a : Action) → told_by (flown x) a ≡ happened_in_turn (happening x a)
 told_happening x (Forward to head) = refl
 told_happening x (Deliver port) = refl
 told_happening x (Fork copies lost) = refl
 
-flown_left : (x : Copy) (b : Becomes) → map flown (left_by x b) ≡ flights (flown x) (action_by x.at (outcome_of b))
+pub flown_left : (x : Copy) (b : Becomes) → map flown (left_by x b) ≡ flights (flown x) (action_by x.at (outcome_of b))
 flown_left x (SentOn to r n) = refl
 flown_left x (Waiting r n) = refl
 flown_left x (Forks copies lost) = flown_moved x (Fork copies lost)
 
-told_turn : (x : Copy) (b : Becomes) → told_outcome (flown x) (outcome_of b) ≡ told_of (turn_of x b)
+pub told_turn : (x : Copy) (b : Becomes) → told_outcome (flown x) (outcome_of b) ≡ told_of (turn_of x b)
 told_turn x (SentOn to r n) = refl
 told_turn x (Waiting r n) = refl
 told_turn x (Forks copies lost) = refl

@@ -84,9 +84,6 @@ done_step line place old new e false none = λ t hops ks lines p. subst (λ o. C
 
 -- ---- lines
 module _ (t : Tables) (hops : Bool) (ks : List (List ℕ)) where
-  pub so_far_first : (text : List ℕ) (v : Play) → PlaysLines t hops ks [] v → SoFar t hops ks (lines_of text) text 0 v
-  so_far_first text v p = record { done = []; are = refl; is = refl; plays = p }
-
   module _ (lines : List (List ℕ)) (rest : List ℕ) (number : ℕ) (v : Play) (s : SoFar t hops ks lines rest number v) where
     module _ (line behind : List ℕ) (e : lines_of rest ≡ line ∷ lines_of behind) where
       pub so_far_more : (v' : Play) → HasDone line v v' true → SoFar t hops ks lines behind (number + 1) v'

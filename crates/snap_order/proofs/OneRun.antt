@@ -1,28 +1,24 @@
 -- The plain run in turn of packets is one, and has one report.
-use Rattle.std.proofs.Common.{◌≡◌, ℕ, ◌+◌, Bool, List, [], ◌∷◌, ◌++◌, Some, IsPermutation, length, sum, refl, sym, ap, subst, ◌∙◌}
+use Rattle.std.proofs.Common.{◌≡◌, ℕ, ◌+◌, List, [], ◌∷◌, ◌++◌, Some, length, refl, sym, ap, subst, ◌∙◌}
 use Rattle.std.specs.Prelude.{slice_get}
-use Rattle.std.specs.List.{All, concat}
+use Rattle.std.specs.List.{All}
 use Rattle.std.proofs.lemmas.List.Elements.{All-head, All-tail}
-use Rattle.std.proofs.lemmas.List.Sorted.{IsPermutation-sym, IsPermutation-trans}
 use Rattle.std.proofs.lemmas.Option.{none-some}
 use Rattle.snap_core.specs.Arrays.{Arrays, zero_arrays}
 use Rattle.snap_rows.specs.declared.tables.Tables.{Tables}
 use Rattle.snap_rows.specs.Form.{IsInForm}
 use Rattle.snap_rows.specs.Handles.{Handles}
-use Rattle.snap_rows.specs.Happenings.{losses_of}
-use Rattle.snap_rows.specs.Network.{Copy, Net, Event, Inject, Step, Happening, StepsFirst, happening, injected, packets_of, stepped}
+use Rattle.snap_rows.specs.Network.{Copy, Event, Inject, Step, StepsFirst, happening, injected, packets_of, stepped}
 use Rattle.snap_rows.proofs.OneWay.{one_way}
 use Rattle.snap_rows.proofs.Rows.{some_injective}
-use Rattle.snap_trace.specs.Reports.{end_text, out_lines}
 use Rattle.snap_gen.specs.InTurn.{TakesTurns}
+use Rattle.snap_runs.specs.declared.frames.Frames.TheVariants.{Numbered}
 use Rattle.snap_runs.specs.Plain.{entering}
-use Rattle.snap_runs.specs.Reports.{array_names, lost_line, packet_line, packets_delivered}
-use Rattle.snap_runs.proofs.InOrder.{same_lists, same_packets_in_order}
-use Rattle.snap_runs.proofs.OneReport.{listings_one}
+use Rattle.snap_runs.proofs.OneReport.{blocks_one, reports_one}
 use Rattle.snap_order.specs.OneRun.{PlainBlocksAreOne, PlainReportsAreOne, StepsAreOne}
 use Rattle.snap_order.specs.Ordered.{Ordered, Turn, Happens, Waits, IsBefore, LeadsInTurn, begin, happenings, injects, moves, turn_of, visited, visits, waits}
-use Rattle.snap_order.specs.Reports.{AreBlocks, IsBlock, IsRunReport, hops_text}
-use Rattle.snap_order.specs.Runs.{ArePlainBlocks, IsPlainReport, IsPlainRun, RunsCalmlyInTurn}
+use Rattle.snap_order.specs.Reports.{AreBlocks, IsRunReport}
+use Rattle.snap_order.specs.Runs.{IsPlainRun, RunsCalmlyInTurn}
 use Rattle.snap_order.specs.Runs as runs
 use Rattle.snap_order.proofs.OneTurn.{comes_one, turns_one}
 use Rattle.snap_order.proofs.Taking.{same_rank}
@@ -109,32 +105,13 @@ plain_one : (t : Tables) → IsInForm t → (m : Arrays) (ks : List (ℕ × List
 plain_one t form m ks es es' s s' us us' a b = runs_one t form (begin t m) (begin t m) s s' es es' us us' refl (a.packets ∙ sym b.packets) a.first b.first a.ended b.ended a.run b.run
 
 -- ---- reports
-same_outs : (xs ys zs : List (List ℕ)) → IsPermutation xs zs → IsPermutation ys zs → IsPermutation xs ys
-same_outs xs ys zs a b = IsPermutation-trans xs zs ys a (IsPermutation-sym ys zs b)
-
-block_one : (t : Tables) (hops : Bool) (i : ℕ) (hs : List Happening) (a b : List ℕ) → IsBlock t hops i hs a → IsBlock t hops i hs b → a ≡ b
-block_one t hops i hs a b x y =
-    let outs : x.outs ≡ y.outs = same_packets_in_order x.outs y.outs x.rising y.rising (same_outs x.outs y.outs (packets_delivered i hs) x.delivered y.delivered) in
-    x.is ∙ ap (λ outs. packet_line (i + 1) ++ hops_text t hops i hs ++ out_lines t.fields outs ++ lost_line (sum (losses_of i hs))) outs ∙ sym y.is
-
-pub blocks_one : (t : Tables) (hops : Bool) (count : ℕ) (hs : List Happening) (a b : List ℕ) → AreBlocks t hops count hs a → AreBlocks t hops count hs b → a ≡ b
-blocks_one t hops count hs a b x y =
-    let each : x.each ≡ y.each = same_lists x.each y.each (x.as_many ∙ sym y.as_many) (λ i v w p q. block_one t hops i hs v w (x.blocks i v p) (y.blocks i w q)) in
-    x.is ∙ ap concat each ∙ sym y.is
-
-pub reports_one : (t : Tables) (hops : Bool) (count : ℕ) (s : Net) (hs : List Happening) (a b : List ℕ) → IsRunReport t hops count s hs a → IsRunReport t hops count s hs b → a ≡ b
-reports_one t hops count s hs a b x y =
-    let blocks : x.blocks ≡ y.blocks = blocks_one t hops count hs x.blocks y.blocks x.are y.are in
-    let entries : x.entries ≡ y.entries = listings_one _ x.entries y.entries x.listed y.listed in
-    x.is ∙ (λ i. blocks i ++ end_text (array_names t) (entries i)) ∙ sym y.is
-
 pub plain_reports_one : PlainReportsAreOne
 plain_reports_one t form hops ks a b x y =
     let one = plain_one t form zero_arrays (entering ks) x.events y.events x.end y.end x.turns y.turns x.run y.run in
-    reports_one t hops (length ks) x.end.net (happenings x.turns) a b x.report
+    reports_one Numbered t hops (length ks) x.end.net (happenings x.turns) a b x.report
     (subst (λ us. IsRunReport t hops (length ks) x.end.net (happenings us) b) (sym one.turns) (subst (λ (s : Ordered). IsRunReport t hops (length ks) s.net (happenings y.turns) b) (sym one.ends) y.report))
 
 pub plain_blocks_one : PlainBlocksAreOne
 plain_blocks_one t form hops ks a b x y =
     let one = plain_one t form zero_arrays (entering ks) x.events y.events x.end y.end x.turns y.turns x.run y.run in
-    blocks_one t hops (length ks) (happenings x.turns) a b x.blocks (subst (λ us. AreBlocks t hops (length ks) (happenings us) b) (sym one.turns) y.blocks)
+    blocks_one Numbered t hops (length ks) (happenings x.turns) a b x.blocks (subst (λ us. AreBlocks t hops (length ks) (happenings us) b) (sym one.turns) y.blocks)

@@ -1,51 +1,25 @@
 -- The run in turn that a schedule's lines tell is one.
-use Rattle.std.proofs.Common.{◌≡◌, ◌⊎◌, ⊎_elim, ℕ, suc, ◌+◌, ◌<◌, ◌≤◌, Bool, List, [], ◌∷◌, ◌++◌, Some, length, refl, sym, ap, subst, ◌∙◌, inl, inr, arith}
-use Rattle.std.specs.Prelude.{slice_index}
+use Rattle.std.proofs.Common.{◌≡◌, ⊎_elim, ℕ, ◌+◌, ◌<◌, ◌≤◌, Bool, List, [], ◌∷◌, ◌++◌, length, refl, sym, ap, subst, ◌∙◌, inl, inr, arith}
 use Rattle.std.specs.declared.option.Option.{Option}
 use Rattle.std.proofs.lemmas.Option.{slice_get_within}
 use Rattle.snap_core.specs.Arrays.{zero_arrays}
 use Rattle.snap_rows.specs.declared.tables.Tables.{Tables}
 use Rattle.snap_rows.specs.Form.{IsInForm}
-use Rattle.snap_rows.specs.Network.{Event, Inject, Step}
+use Rattle.snap_rows.specs.Network.{Event, Step}
 use Rattle.snap_runs.specs.declared.event.Order.{Order}
 use Rattle.snap_runs.specs.declared.event.Order.TheVariants as order
-use Rattle.snap_runs.specs.Schedules.{CantBeDone, Spells, nothing, skips, injects, steps, order_by}
+use Rattle.snap_runs.specs.Schedules.{CantBeDone, Spells, skips, injects, steps, order_by}
+use Rattle.snap_runs.proofs.OneSchedule.{Sides, sides, spells-cut, spells_one}
 use Rattle.snap_order.specs.OneSchedule.{RefusedLinesAreOne, ReportedOrRefused, ScheduleReportsAreOne}
 use Rattle.snap_order.specs.Ordered.{Ordered, LeadsInTurn, RunsInTurn, Turn, begin, happenings}
 use Rattle.snap_order.specs.Ordered as ordered
 use Rattle.snap_order.specs.Reports.{IsRunReport}
 use Rattle.snap_order.specs.Runs.{IsScheduleReport, Obeys, RefusesLine, StopsAt}
-use Rattle.snap_order.proofs.OneRun.{leads_one, reports_one}
+use Rattle.snap_runs.specs.declared.frames.Frames.TheVariants.{Numbered}
+use Rattle.snap_runs.proofs.OneReport.{reports_one}
+use Rattle.snap_order.proofs.OneRun.{leads_one}
 
 -- ---- events
-orders_same : (l l' : List ℕ) (a b : Order) → order_by l ≡ Some a → order_by l' ≡ Some b → l ≡ l' → Some a ≡ Some b
-orders_same l l' a b e f same = sym e ∙ ap order_by same ∙ f
-
--- lines spell events in one way
-spells_one : {lines lines' ks ks' left left' : List (List ℕ)} {es es' : List Event} → Spells lines ks es left → Spells lines' ks' es' left' → lines ≡ lines' → ks ≡ ks' → (es ≡ es') × (left ≡ left')
-spells_one nothing nothing same packets = (refl, packets)
-spells_one nothing (skips f m) same packets = absurd (cc)
-spells_one nothing (injects f m) same packets = absurd (cc)
-spells_one nothing (steps f m) same packets = absurd (cc)
-spells_one (skips e n) nothing same packets = absurd (cc)
-spells_one (skips e n) (skips f m) same packets = spells_one n m (cc) packets
-spells_one (skips {line = l} e n) (injects {line = l'} f m) same packets = absurd (let apart = orders_same l l' order.Skip order.Inject e f (cc) in cc)
-spells_one (skips {line = l} e n) (steps {line = l'} {i = j} f m) same packets = absurd (let apart = orders_same l l' order.Skip (order.Step j) e f (cc) in cc)
-spells_one (injects e n) nothing same packets = absurd (cc)
-spells_one (injects {line = l} e n) (skips {line = l'} f m) same packets = absurd (let apart = orders_same l l' order.Inject order.Skip e f (cc) in cc)
-spells_one (injects {k = k} e n) (injects {k = k'} f m) same packets =
-    let more = spells_one n m (cc) (cc) in
-    let first : k ≡ k' = cc in
-    ((λ i. Inject (slice_index (first i) 0) (first i) ∷ more.0 i), more.1)
-spells_one (injects {line = l} e n) (steps {line = l'} {i = j} f m) same packets = absurd (let apart = orders_same l l' order.Inject (order.Step j) e f (cc) in cc)
-spells_one (steps e n) nothing same packets = absurd (cc)
-spells_one (steps {line = l} {i = i} e n) (skips {line = l'} f m) same packets = absurd (let apart = orders_same l l' (order.Step i) order.Skip e f (cc) in cc)
-spells_one (steps {line = l} {i = i} e n) (injects {line = l'} f m) same packets = absurd (let apart = orders_same l l' (order.Step i) order.Inject e f (cc) in cc)
-spells_one (steps {line = l} {i = i} e n) (steps {line = l'} {i = j} f m) same packets =
-    let more = spells_one n m (cc) packets in
-    let place : i ≡ j = (let both = orders_same l l' (order.Step i) (order.Step j) e f (cc) in cc) in
-    ((λ x. Step (place x) ∷ more.0 x), more.1)
-
 -- events lead to one state, with one list of turns
 runs_one : (t : Tables) → IsInForm t → {s n n' : Ordered} {es : List Event} {us us' : List Turn} → RunsInTurn t s es n us → RunsInTurn t s es n' us' → (n ≡ n') × (us ≡ us')
 runs_one t form ordered.done ordered.done = (refl, refl)
@@ -62,13 +36,6 @@ obeys_one t form ks lines left left' s s' us us' a b =
     (told.1, ran.0, ran.1)
 
 -- ---- a run of more lines has done each of the first ones
-spells-cut : (before rest : List (List ℕ)) {ks left : List (List ℕ)} {es : List Event} → Spells (before ++ rest) ks es left
-    → (fs gs : List Event) × (mid : List (List ℕ)) × Spells before ks fs mid × Spells rest mid gs left × (es ≡ fs ++ gs)
-spells-cut [] rest {ks = ks} {es = es} n = ([], es, ks, nothing, n, refl)
-spells-cut (line ∷ before) rest (skips e n) = let r = spells-cut before rest n in (r.0, r.1, r.2, skips e r.3, r.4, r.5)
-spells-cut (line ∷ before) rest (injects {k = k} e n) = let r = spells-cut before rest n in (Inject (slice_index k 0) k ∷ r.0, r.1, r.2, injects e r.3, r.4, ap (λ l. Inject (slice_index k 0) k ∷ l) r.5)
-spells-cut (line ∷ before) rest (steps {i = i} e n) = let r = spells-cut before rest n in (Step i ∷ r.0, r.1, r.2, steps e r.3, r.4, ap (λ l. Step i ∷ l) r.5)
-
 runs-cut : (t : Tables) (fs gs : List Event) {s n : Ordered} {hs : List Turn} → RunsInTurn t s (fs ++ gs) n hs → (m : Ordered) × (hs1 hs2 : List Turn) × RunsInTurn t s fs m hs1 × RunsInTurn t m gs n hs2
 runs-cut t [] gs {s = s} {hs = hs} r = (s, [], hs, ordered.done, r)
 runs-cut t (f ∷ fs) gs (ordered.on {u = h} leads more) = let r = runs-cut t fs gs more in (r.0, h ++ r.1, r.2, ordered.on leads r.3, r.4)
@@ -96,22 +63,6 @@ stuck_stays t form ks before rest line left mid s m hs gs all first cant =
     was_done told.4 ran.4 (subst (λ (x : Ordered). CantBeDone (order_by line) told.2 x.net) one.1 (subst (λ x. CantBeDone (order_by line) x m.net) one.0 cant))
 
 -- ---- the line that is refused
--- two places in a list are one, or the one stands behind the other
-module _ {X : Type 0} where
-  abbrev Sides : (a : List X) → X → (b : List X) → X → Type 0
-  Sides a x b y = (length a ≡ length b) ⊎ (((r : List X) × (b ≡ a ++ x ∷ r)) ⊎ ((r : List X) × (a ≡ b ++ y ∷ r)))
-
-  sides-cons : (c d x y : X) (a b : List X) → c ≡ d → Sides a x b y → Sides (c ∷ a) x (d ∷ b) y
-  sides-cons c d x y a b same (inl e) = inl (ap suc e)
-  sides-cons c d x y a b same (inr (inl (r, e))) = inr (inl (r, λ i. sym same i ∷ e i))
-  sides-cons c d x y a b same (inr (inr (r, e))) = inr (inr (r, λ i. same i ∷ e i))
-
-  sides : (a : List X) (x : X) (xs b : List X) (y : X) (ys : List X) → a ++ x ∷ xs ≡ b ++ y ∷ ys → Sides a x b y
-  sides [] x xs [] y ys e = inl refl
-  sides [] x xs (d ∷ b) y ys e = let first : d ≡ x = cc in inr (inl (b, λ i. first i ∷ b))
-  sides (c ∷ a) x xs [] y ys e = let first : c ≡ y = cc in inr (inr (a, λ i. first i ∷ a))
-  sides (c ∷ a) x xs (d ∷ b) y ys e = sides-cons c d x y a b (cc) (sides a x xs b y ys (cc))
-
 module _ (t : Tables) (form : IsInForm t) (ks lines : List (List ℕ)) where
   -- no run goes on behind a line that can't be done
   no_further : (n : ℕ) (a : StopsAt t ks lines n) (left : List (List ℕ)) (s : Ordered) (hs : List Turn) → Obeys t ks lines left s hs → ⊥
@@ -140,7 +91,7 @@ module _ (t : Tables) (form : IsInForm t) (ks lines : List (List ℕ)) where
   one_report : (hops : Bool) (a b : List ℕ) → IsScheduleReport t hops ks lines a → IsScheduleReport t hops ks lines b → a ≡ b
   one_report hops a b x y =
       let one = obeys_one t form ks lines [] [] x.state y.state x.turns y.turns x.obeys y.obeys in
-      reports_one t hops (length ks) x.state.net (happenings x.turns) a b x.report
+      reports_one Numbered t hops (length ks) x.state.net (happenings x.turns) a b x.report
       (subst (λ us. IsRunReport t hops (length ks) x.state.net (happenings us) b) (sym one.2) (subst (λ (s : Ordered). IsRunReport t hops (length ks) s.net (happenings y.turns) b) (sym one.1) y.report))
 
 pub refused_lines_one : RefusedLinesAreOne

@@ -28,11 +28,12 @@ use Rattle.snap_order.specs.Reports.{IsBlock, IsRunReport}
 use Rattle.snap_order.specs.Runs.{IsPlainReport, IsScheduleReport, RunsCalmlyInTurn}
 use Rattle.snap_order.specs.Runs as runs
 use Rattle.snap_order.proofs.Keeping.{keeps_order}
-use Rattle.snap_order.specs.OneSwitch.{PlainRunsInTurnReportOneSwitch, RunsInTurnReportOneSwitch, SchedulesInTurnReportOneSwitch}
+use Rattle.snap_order.specs.OneSwitch.{PlainRunsInTurnReportOneSwitch, RunsByRoundsReportOneSwitch, RunsInTurnReportOneSwitch, SchedulesInTurnReportOneSwitch}
 use Rattle.snap_whole.specs.OneSwitch.{IsSwitchReport, port_lines, ports_of}
 use Rattle.snap_whole.proofs.CalmReport.{as_many, numbered_at}
 use Rattle.snap_whole.proofs.Entered.{IsOfProgram, entering-fits, entering-packets, no_numbers}
 use Rattle.snap_whole.proofs.Sets.{all_blocks, one_block}
+use Rattle.snap_order.proofs.Rounds.{by_rounds_runs}
 
 -- ---- packets that come in
 module _ (t : Tables) where
@@ -44,10 +45,10 @@ module _ (t : Tables) where
   all_injected ordered.done = All-nil (CanBeInjected t)
   all_injected (ordered.on {e = e} {es = es} leads onward) = in_by e es leads (all_injected onward)
 
-  all_enter : (p : Program) {s s' : Ordered} {es : List Event} {us : List Turn} → All (IsOfProgram p) (packets_of es) → RunsInTurn t s es s' us → AllCanEnter p t (packets_of es)
+  pub all_enter : (p : Program) {s s' : Ordered} {es : List Event} {us : List Turn} → All (IsOfProgram p) (packets_of es) → RunsInTurn t s es s' us → AllCanEnter p t (packets_of es)
   all_enter p packets run = λ i e within. record { packet = packets i e within; injected = all_injected run i e within }
 
-  calm_run : {s s' : Ordered} {es : List Event} {us : List Turn} → RunsCalmlyInTurn t s es s' us → RunsInTurn t s es s' us
+  pub calm_run : {s s' : Ordered} {es : List Event} {us : List Turn} → RunsCalmlyInTurn t s es s' us → RunsInTurn t s es s' us
   calm_run runs.rests = ordered.done
   calm_run (runs.injects none leads onward) = ordered.on leads (calm_run onward)
   calm_run (runs.steps leads onward) = ordered.on leads (calm_run onward)
@@ -108,3 +109,8 @@ plain_turns_report p topology places t f ks packets text r = turns_report p topo
 pub schedule_turns_report : SchedulesInTurnReportOneSwitch
 schedule_turns_report p topology places t f ks packets lines text r =
     turns_report p topology places t f ks packets r.obeys.events r.state r.turns (sym (append-nil (packets_of r.obeys.events)) ∙ spelled_packets r.obeys.spells) r.obeys.run r.ended text r.report
+
+pub rounds_report : RunsByRoundsReportOneSwitch
+rounds_report p topology places t f ks packets text r =
+    let run = by_rounds_runs t r.run in
+    turns_report p topology places t f ks packets r.events r.end r.turns run.1 run.0 run.2 text r.report

@@ -1,40 +1,18 @@
 -- A turn is taken in one way alone.
-use Rattle.std.proofs.Common.{◌≡◌, ℕ, Bool, List, refl, sym, ap, subst, ◌∙◌, arith, filter}
-use Rattle.std.specs.Prelude.{◌==◌}
-use Rattle.std.proofs.lemmas.Bool.{false≢true}
-use Rattle.snap_core.specs.declared.policy.Update.{Update}
+use Rattle.std.proofs.Common.{◌≡◌, ℕ, List, refl, sym, ap, subst, ◌∙◌, arith}
 use Rattle.snap_core.specs.Arrays.{Arrays, updates}
 use Rattle.snap_rows.specs.declared.head.Head.{Head}
-use Rattle.snap_rows.specs.declared.tables.Row.{Row}
 use Rattle.snap_rows.specs.declared.tables.Row.TheVariants.{Last}
 use Rattle.snap_rows.specs.declared.tables.Tables.{Tables}
-use Rattle.snap_rows.specs.Entries.{Parts, next, rank_of, row_at}
-use Rattle.snap_rows.specs.Handles.{Follows, Visits, arrives, follows, side}
+use Rattle.snap_rows.specs.Entries.{Parts, next, row_at}
 use Rattle.snap_rows.proofs.Rows.{some_injective}
+use Rattle.snap_rows.proofs.OneWay.{follows_one, visits_one}
 use Rattle.snap_core.specs.Tests.{results}
 use Rattle.snap_gen.specs.Agreement.{lost_of, sent_of}
 use Rattle.snap_gen.specs.InTurn.{Becomes, Forks, SentOn, TakesTurns, concludes, seeks, visits, waits}
 use Rattle.snap_order.specs.Ordered.{ComesTo, visit, walk}
 
 -- ---- ways along rows
-follows_one : (t : Tables) (w : ℕ) (k : List ℕ) (p : Row → Bool) (m : Arrays) (n n' v v' : ℕ) → n ≡ n' → Follows t w k p m n v → Follows t w k p m n' v' → v ≡ v'
-follows_one t w k p m n n' v v' e (arrives row test) (arrives row' test') = e
-follows_one t w k p m n n' v v' e (arrives {b = b} row test) (follows {b = b'} row' test' to f) =
-    let same : b ≡ b' = some_injective _ _ (sym row ∙ ap (row_at t w) e ∙ row') in absurd (false≢true (sym test ∙ ap p same ∙ test'))
-follows_one t w k p m n n' v v' e (follows {b = b} row test to f) (arrives {b = b'} row' test') =
-    let same : b' ≡ b = some_injective _ _ (sym row' ∙ ap (row_at t w) (sym e) ∙ row) in absurd (false≢true (sym test' ∙ ap p same ∙ test))
-follows_one t w k p m n n' v v' e (follows {x = x} {b = b} row test to f) (follows {x = x'} {b = b'} row' test' to' f') =
-    let same : b ≡ b' = some_injective _ _ (sym row ∙ ap (row_at t w) e ∙ row') in
-    follows_one t w k p m x x' v v' (some_injective _ _ (sym to ∙ ap (λ b. side b m k) same ∙ to')) f f'
-
-visits_one : (t : Tables) (w : ℕ) (k : List ℕ) (m : Arrays) (r n v v' : ℕ) (us us' : List Update) → Visits t w k m r n v us → Visits t w k m r n v' us' → (v ≡ v') × (us ≡ us')
-visits_one t w k m r n v v' us us' x y =
-    let number : v ≡ v' = follows_one t w k _ m n n v v' refl x.number y.number in
-    let leaf : x.leaf ≡ y.leaf = follows_one t w k _ _ v v' x.leaf y.leaf number x.walk y.walk in
-    let same : Last x.ups x.outs ≡ Last y.ups y.outs = some_injective _ _ (sym x.row ∙ ap (row_at t w) leaf ∙ y.row) in
-    let ups : x.ups ≡ y.ups = cc in
-    (number, x.updates ∙ ap (filter (λ (u : Update). rank_of t u.var == r)) ups ∙ sym y.updates)
-
 -- a head comes to a visit at one number
 pub comes_one : (t : Tables) (w : ℕ) (k : List ℕ) (m : Arrays) {head : Head} {r q n v : ℕ} → ComesTo t w k m head r n → ComesTo t w k m head q v → n ≡ v
 comes_one t w k m visit visit = refl

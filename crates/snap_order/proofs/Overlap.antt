@@ -34,20 +34,16 @@ use Rattle.snap_gen.specs.InTurn.{StandsAt, Becomes, SentOn, Waiting, Forks, Tak
 use Rattle.snap_gen.specs.Visits.{Enters, Chained, begun}
 use Rattle.snap_gen.proofs.Chained.{enters_one, fields_alike}
 use Rattle.snap_gen.proofs.Leaving.{IsQuiet, Leaving, Same, copies_of, copies_own, copies_moved, front, back, leaving_begins, leaving_on, leaving_still, others_same, own_leaves, quiet_more, quiet_still, split_up}
-use Rattle.snap_gen.proofs.LoneRuns.{is_early}
+use Rattle.snap_gen.proofs.LoneRuns.{is_early, only_one}
 use Rattle.snap_gen.proofs.Nodes.{IsTwo, WalkDoes, visits_first, forks_at_once, walk_does, OutDoes, is_delivered, is_carried, out_does}
 use Rattle.snap_gen.proofs.Switching.{behind, in_pushed, picked_at, switched_more}
 use Rattle.snap_gen.proofs.Turning.{faithful_chains, faithful_stores, faithful_turns}
-use Rattle.snap_order.specs.Ordered.{Ordered, Turn, Happens, Stays, Waits, ComesTo, visit, walk, IsBefore, left_by, turn_of, visited, LeadsInTurn, injects, moves, visits, waits, RunsInTurn, happenings}
+use Rattle.snap_order.specs.Ordered.{Ordered, Turn, Happens, Stays, Waits, ComesTo, visit, walk, IsBefore, turn_of, visited, LeadsInTurn, injects, moves, visits, waits, RunsInTurn, happenings}
 use Rattle.snap_order.specs.Ordered as ordered
 use Rattle.snap_order.specs.Turning.{rank_behind}
 use Rattle.snap_order.proofs.Taking.{Counts, counts}
 
 -- ---- lists
-only_one : {A : Type 0} (xs : List A) (c d : A) (ys : List A) → xs ++ c ∷ ys ≡ d ∷ [] → (xs ≡ []) × (c ≡ d) × (ys ≡ [])
-only_one [] c d ys e = (refl, same_Some c d (ap (λ l. slice_get l 0) e), ap (drop 1) e)
-only_one (x ∷ xs) c d ys e = absurd (let n : suc (length (xs ++ c ∷ ys)) ≡ 1 = ap length e in let m = length-append xs (c ∷ ys) in omega (arith, n, m))
-
 not_none : {A : Type 0} (xs : List A) (c : A) (ys : List A) → xs ++ c ∷ ys ≡ [] → ⊥
 not_none [] c ys e = none-some c (ap (λ l. slice_get l 0) (sym e))
 not_none (x ∷ xs) c ys e = none-some x (ap (λ l. slice_get l 0) (sym e))

@@ -1,12 +1,11 @@
 -- How a run in turn goes on.
-use Rattle.std.proofs.Common.{◌≡◌, ◌≢◌, ◌⊎◌, inl, inr, ℕ, ◌+◌, ◌<◌, Bool, true, false, List, [], ◌∷◌, ◌++◌, Option, Some, None, take, drop, length, reverse, refl, sym, ap, subst, ◌∙◌, arith, append-nil}
-use Rattle.std.specs.Prelude.{◌==◌, is_some, slice_get, if◌then◌else◌}
+use Rattle.std.proofs.Common.{◌≡◌, ◌⊎◌, inl, inr, ℕ, ◌+◌, ◌<◌, Bool, true, false, List, [], ◌∷◌, ◌++◌, Option, Some, take, drop, length, reverse, refl, sym, ap, subst, ◌∙◌, arith}
+use Rattle.std.specs.Prelude.{is_some, slice_get}
 use Rattle.std.specs.List.{All}
-use Rattle.std.proofs.lemmas.Bool.{eqb-true, eq-eqb, false≢true}
-use Rattle.std.proofs.lemmas.List.{length-append, reverse-append, reverse-reverse}
+use Rattle.std.proofs.lemmas.Bool.{false≢true}
+use Rattle.std.proofs.lemmas.List.{length-append, length-map, length-reverse, reverse-append, reverse-reverse}
 use Rattle.std.proofs.lemmas.List.Sorted.{All-permutation, IsPermutation-reverse}
 use Rattle.std.proofs.lemmas.List.Elements.{All-append, All-cons, All-drop, All-head, All-map, All-nil, All-pop, All-push, All-take, All-weaker}
-use Rattle.std.proofs.lemmas.Option.{none-some, same_Some}
 use Rattle.snap_core.specs.Arrays.{zero_arrays}
 use Rattle.snap_rows.specs.declared.head.Action.{Action}
 use Rattle.snap_rows.specs.declared.head.Action.TheVariants.{Forward, Deliver, Fork}
@@ -14,25 +13,25 @@ use Rattle.snap_rows.specs.declared.head.Head.TheVariants.{Out, Visit, Walk}
 use Rattle.snap_rows.specs.declared.head.Sent.{Sent}
 use Rattle.snap_rows.specs.declared.tables.Tables.{Tables}
 use Rattle.snap_rows.specs.Form.{comps}
-use Rattle.snap_rows.specs.Network.{Copy, Inject, Step, Happening, Crossed, Delivered, Forked, happening, moved}
+use Rattle.snap_rows.specs.Network.{Copy, Inject, Step, Crossed, Forked, happening, moved}
 use Rattle.snap_rows.proofs.Rows.{All-get}
 use Rattle.snap_net.specs.declared.flying.Flying.{Flying}
-use Rattle.snap_net.specs.declared.happened.Happened.{Happened}
-use Rattle.snap_net.specs.Shown.{IsHeld, moving}
+use Rattle.snap_net.specs.Shown.{IsHeld}
 use Rattle.snap_gen.specs.InTurn.{Becomes, SentOn, Waiting, Forks}
+use Rattle.snap_runs.specs.declared.frames.Frames.TheVariants.{Numbered}
 use Rattle.snap_runs.specs.declared.ready.Ready.{Ready}
 use Rattle.snap_runs.specs.declared.tally.Tally.{Tally}
-use Rattle.snap_runs.specs.Playing.{IsLong, IsReady, owner_by, packets_in}
-use Rattle.snap_runs.specs.Tallies.{bared, delivered_by, hop_by, lost_by, number_of}
+use Rattle.snap_runs.specs.Playing.{IsLong, IsReady, packets_in}
+use Rattle.snap_runs.specs.Tallies.{number_of}
 use Rattle.snap_runs.proofs.Blocks.{in_pushed}
 use Rattle.snap_runs.proofs.Steps.{held-shown}
+use Rattle.snap_runs.proofs.Playing.{elsewhere, tally_fresh}
 use Rattle.snap_order.specs.declared.play.Play.{Play}
 use Rattle.snap_order.specs.declared.turned.Turned.{Turned}
 use Rattle.snap_order.specs.Ordered.{Ordered, Turn, Happens, Stays, Waits, LeadsInTurn, begin, happenings, injects, left_by, moves, turn_of, visits, waits}
-use Rattle.snap_order.specs.Playing.{HasInjected, HasNoted, HasStepped, IsPlaying, IsTally, NotesTurn, OwnerIsBelow, Plays, left_in}
-use Rattle.snap_order.specs.Shown.{IsDoneInTurn, NoTurn, ShowsInTurn, TellsTurn, happened_in_turn, told_of}
-use Rattle.snap_order.proofs.Overlap.{happenings_more}
-use Rattle.snap_order.proofs.Tallying.{elsewhere, tally_fresh, tally_more, tally_other}
+use Rattle.snap_order.specs.Playing.{HasInjected, HasStepped, IsPlaying, IsTally, NotesTurn, OwnerIsBelow, Plays, left_in}
+use Rattle.snap_order.specs.Shown.{IsDoneInTurn, NoTurn, ShowsInTurn, TellsTurn, told_of}
+use Rattle.snap_order.proofs.Tallied.{Tallied, owner_of-happened, step_long, tallied_turn}
 
 -- ---- before the first event
 pub plays_first : (t : Tables) (hops : Bool) (packets : List Ready) (v : Play) → v.net.net.tables ≡ t → v.hops ≡ hops → ShowsInTurn v.net (begin t zero_arrays) → v.tallies.items ≡ [] → v.waiting.items ≡ reverse packets → All (IsReady t) packets
@@ -103,37 +102,6 @@ inject_numbers {s = s} {k = k} all (injects {w = w} at first) =
     let P : Copy → Type 0 = λ d. d.number < s.net.injected + 1 in
     (All-push P s.net.flying c (All-weaker (λ (d : Copy). d.number < s.net.injected) P (λ d less. omega (arith, less)) s.net.flying all) (omega arith), refl)
 
--- ---- lengths of packets
-delivered_long : (n : ℕ) (c : Copy) (a : Action) → length c.packet ≡ n → All (λ k. length k ≡ n) (delivered_by (moving (happening c a)))
-delivered_long n c (Forward to head) long = All-nil (λ k. length k ≡ n)
-delivered_long n c (Deliver port) long = All-cons (λ k. length k ≡ n) c.packet [] long (All-nil (λ k. length k ≡ n))
-delivered_long n c (Fork copies lost) long = All-nil (λ k. length k ≡ n)
-
--- what happens in a list of one turn
-abbrev happening_in : List Turn → Option Happening
-happening_in (Happens x ∷ us) = Some x
-happening_in _ = None
-
-happens_same : (x y : Happening) → Happens x ∷ [] ≡ Happens y ∷ [] → x ≡ y
-happens_same x y e = same_Some x y (ap happening_in e)
-
-stays_apart : (c : Copy) (r : ℕ) (x : Happening) → Stays c r ∷ [] ≡ Happens x ∷ [] → ⊥
-stays_apart c r x e = none-some x (ap happening_in e)
-
-waits_apart : (c : Copy) (r : ℕ) (x : Happening) → Waits c r ∷ [] ≡ Happens x ∷ [] → ⊥
-waits_apart c r x e = none-some x (ap happening_in e)
-
-turned_long : (n : ℕ) (c : Copy) (b : Becomes) (x : Happening) → turn_of c b ∷ [] ≡ Happens x ∷ [] → All (λ k. length k ≡ n) (delivered_by (moving x))
-turned_long n c (SentOn to r v) x e = subst (λ y. All (λ k. length k ≡ n) (delivered_by (moving y))) (happens_same _ x e) (All-nil (λ k. length k ≡ n))
-turned_long n c (Waiting r v) x e = absurd (stays_apart c r x e)
-turned_long n c (Forks copies lost) x e = subst (λ y. All (λ k. length k ≡ n) (delivered_by (moving y))) (happens_same _ x e) (All-nil (λ k. length k ≡ n))
-
-step_long : {t : Tables} {s s' : Ordered} {j : ℕ} {us : List Turn} (n : ℕ) → All (λ (c : Copy). length c.packet ≡ n) s.net.flying → LeadsInTurn t s (Step j) s' us → (x : Happening) → us ≡ Happens x ∷ [] → All (λ k. length k ≡ n) (delivered_by (moving x))
-step_long {s = s} n all (moves {i = i} {c = c} {a = a} is none handles) x e =
-    subst (λ y. All (λ k. length k ≡ n) (delivered_by (moving y))) (happens_same _ x e) (delivered_long n c a (All-get (λ (c : Copy). length c.packet ≡ n) s.net.flying i c all is))
-step_long n all (visits {c = c} {b = b} is before turn takes) x e = turned_long n c b x e
-step_long n all (waits {c = c} {r = r} is before early) x e = absurd (waits_apart c r x e)
-
 -- ---- the next packet is injected
 module _ (old new : Play) (r : Ready) (rest : List Ready) (y : Tally) (stood : old.waiting.items ≡ rest ++ r ∷ []) (left : new.waiting.items ≡ rest) (does : IsDoneInTurn old.net (Inject r.port r.packet) new.net NoTurn)
     (same : new.net.net.tables ≡ old.net.net.tables) (same_hops : new.hops ≡ old.hops) (more : new.tallies.items ≡ old.tallies.items ++ y ∷ []) (d : y.delivered.items ≡ []) (l : y.lost ≡ 0) (h : y.hops.items ≡ []) where
@@ -163,113 +131,41 @@ module _ (old new : Play) (r : Ready) (rest : List Ready) (y : Tally) (stood : o
     where
       tallied : (i : ℕ) (z : Tally) → ((i < length old.tallies.items) × (slice_get old.tallies.items i ≡ Some z)) ⊎ ((i ≡ length old.tallies.items) × (y ≡ z)) → IsTally t hops i (happenings us) z
       tallied i z (inl k) = p.tallied i z k.1
-      tallied i z (inr k) = let e' = k.0 in let f = p.counted in subst (IsTally t hops i (happenings us)) k.1 (tally_fresh t hops i (happenings us) y (elsewhere s.net.injected i (happenings us) (omega (arith, e', f)) p.before) d l h)
+      tallied i z (inr k) = let e' = k.0 in let f = p.counted in subst (IsTally t hops i (happenings us)) k.1 (tally_fresh Numbered t hops i (happenings us) y (elsewhere s.net.injected i (happenings us) (omega (arith, e', f)) p.before) d l h)
 
       long : (i : ℕ) (z : Tally) → ((i < length old.tallies.items) × (slice_get old.tallies.items i ≡ Some z)) ⊎ ((i ≡ length old.tallies.items) × (y ≡ z)) → IsLong (comps t) z
       long i z (inl k) = p.long i z k.1
       long i z (inr k) = subst (IsLong (comps t)) k.1 (subst (All (λ x. length x ≡ comps t)) (sym d) (All-nil (λ x. length x ≡ comps t)))
 
 -- ---- a copy makes a step
-owner_of-happened : (x : Happening) → owner_by (bared (happened_in_turn x)) ≡ number_of x
-owner_of-happened (Crossed c to head) = refl
-owner_of-happened (Delivered c port) = refl
-owner_of-happened (Forked c copies lost) = refl
-
-bared-happened : (x : Happening) → bared (happened_in_turn x) ≡ moving x
-bared-happened (Crossed c to head) = refl
-bared-happened (Delivered c port) = refl
-bared-happened (Forked c copies lost) = refl
-
 module _ (old new : Play) (place : ℕ) (told : Turned) (held : IsHeld old.net.net) (does : IsDoneInTurn old.net (Step place) new.net (TellsTurn told)) (notes : NotesTurn old.hops old.net.net.tables.switches told old.tallies.items new.tallies.items)
     (same : new.net.net.tables ≡ old.net.net.tables) (same_hops : new.hops ≡ old.hops) (still : new.waiting.items ≡ old.waiting.items) where
   module _ (t : Tables) (hops : Bool) (s : Ordered) (us : List Turn) (p : Plays t hops s us old) where
     abbrev n : ℕ
     n = s.net.injected
 
-    -- nothing was noted
-    module _ (s' : Ordered) (ts : List Turn) (leads : LeadsInTurn t s (Step place) s' ts) (shows : ShowsInTurn new.net s') (none : happenings ts ≡ []) (kept : new.tallies.items ≡ old.tallies.items) where
-      silent : happenings (us ++ ts) ≡ happenings us
-      silent = happenings_more us ts ∙ ap (λ l. happenings us ++ l) none ∙ append-nil (happenings us)
+    tallied_now : Tallied t hops n us old.tallies.items
+    tallied_now = record { counted = p.counted; before = p.before; tallied = p.tallied; long = p.long }
 
-      plays_silent : Plays t hops s' (us ++ ts) new
-      plays_silent =
-          let inj : s'.net.injected ≡ n = step_injected leads in
-          let numbers = step_numbers (λ m. m < n) p.below leads in
-          record {
-            tables = same ∙ p.tables;
-            hops_same = same_hops ∙ p.hops_same;
-            shows = shows;
-            counted = ap length kept ∙ p.counted ∙ sym inj;
-            below = subst (λ m. All (λ (c : Copy). c.number < m) s'.net.flying) (sym inj) numbers.0;
-            before = subst (λ l. All (λ g. number_of g < s'.net.injected) l) (sym silent) (subst (λ m. All (λ g. number_of g < m) (happenings us)) (sym inj) p.before);
-            tallied = λ i z is. subst (λ l. IsTally t hops i l z) (sym silent) (p.tallied i z (ap (λ ys. slice_get ys i) (sym kept) ∙ is));
-            long = λ i z is. p.long i z (ap (λ ys. slice_get ys i) (sym kept) ∙ is);
-            ready = subst (All (IsReady t)) (sym still) p.ready;
-          }
-
-    -- this was noted
-    module _ (s' : Ordered) (ts : List Turn) (leads : LeadsInTurn t s (Step place) s' ts) (shows : ShowsInTurn new.net s') (x : Happening) (what : ts ≡ Happens x ∷ []) (h : Happened) (is_told : h ≡ happened_in_turn x)
-        (noted : HasNoted hops t.switches h old.tallies.items new.tallies.items) where
-      own : owner_by (bared h) ≡ number_of x
-      own = ap (λ y. owner_by (bared y)) is_told ∙ owner_of-happened x
-
-      moves_so : bared h ≡ moving x
-      moves_so = ap bared is_told ∙ bared-happened x
-
-      louder : happenings (us ++ ts) ≡ happenings us ++ x ∷ []
-      louder = happenings_more us ts ∙ ap (λ l. happenings us ++ happenings l) what
-
-      after_of : (i : ℕ) (z : Tally) → slice_get new.tallies.items i ≡ Some z → i ≡ number_of x → noted.after ≡ z
-      after_of i z is at = same_Some noted.after z (sym noted.here ∙ ap (λ j. slice_get new.tallies.items j) (own ∙ sym at) ∙ is)
-
-      before_of : (i : ℕ) → i ≡ number_of x → slice_get old.tallies.items i ≡ Some noted.before
-      before_of i at = ap (λ j. slice_get old.tallies.items j) (at ∙ sym own) ∙ noted.is
-
-      other_of : (i : ℕ) (z : Tally) → slice_get new.tallies.items i ≡ Some z → i ≢ number_of x → slice_get old.tallies.items i ≡ Some z
-      other_of i z is other = sym (noted.others i (λ e. other (e ∙ own))) ∙ is
-
-      tallied : (i : ℕ) (z : Tally) → slice_get new.tallies.items i ≡ Some z → (b : Bool) → (i == number_of x) ≡ b → IsTally t hops i (happenings us ++ x ∷ []) z
-      tallied i z is true f =
-          let at : i ≡ number_of x = eqb-true i (number_of x) f in
-          subst (IsTally t hops i (happenings us ++ x ∷ [])) (after_of i z is at)
-          (tally_more t hops i (happenings us) x noted.before noted.after (sym at) (p.tallied i noted.before (before_of i at))
-          (noted.delivered ∙ ap (λ m. noted.before.delivered.items ++ delivered_by m) moves_so) (noted.lost ∙ ap (λ m. noted.before.lost + lost_by m) moves_so)
-          (noted.hops_told ∙ ap (λ y. noted.before.hops.items ++ (if hops then hop_by t.switches y else [])) is_told))
-      tallied i z is false f =
-          let other : i ≢ number_of x = λ g. false≢true (sym f ∙ eq-eqb i (number_of x) g) in
-          tally_other t hops i (happenings us) (x ∷ []) z (All-cons (λ g. number_of g ≢ i) x [] (λ g. other (sym g)) (All-nil (λ g. number_of g ≢ i))) (p.tallied i z (other_of i z is other))
-
-      long : (i : ℕ) (z : Tally) → slice_get new.tallies.items i ≡ Some z → (b : Bool) → (i == number_of x) ≡ b → IsLong (comps t) z
-      long i z is true f =
-          let at : i ≡ number_of x = eqb-true i (number_of x) f in
-          let packets = held-shown (λ (c : Flying). length c.packet ≡ comps t) old.net.net s.net p.shows.net (subst (λ t'. All (λ (c : Flying). length c.packet ≡ comps t') old.net.net.flying) p.tables held.packets) in
-          let some = step_long (comps t) packets leads x what in
-          subst (IsLong (comps t)) (after_of i z is at)
-          (subst (All (λ k. length k ≡ comps t)) (sym (noted.delivered ∙ ap (λ m. noted.before.delivered.items ++ delivered_by m) moves_so))
-          (All-append (λ k. length k ≡ comps t) noted.before.delivered.items (delivered_by (moving x)) (p.long i noted.before (before_of i at)) some))
-      long i z is false f = p.long i z (other_of i z is (λ g. false≢true (sym f ∙ eq-eqb i (number_of x) g)))
-
-      plays_noted : Plays t hops s' (us ++ ts) new
-      plays_noted =
-          let inj : s'.net.injected ≡ n = step_injected leads in
-          let numbers = step_numbers (λ m. m < n) p.below leads in
-          record {
-            tables = same ∙ p.tables;
-            hops_same = same_hops ∙ p.hops_same;
-            shows = shows;
-            counted = noted.count ∙ p.counted ∙ sym inj;
-            below = subst (λ m. All (λ (c : Copy). c.number < m) s'.net.flying) (sym inj) numbers.0;
-            before = subst (λ m. All (λ g. number_of g < m) (happenings (us ++ ts))) (sym inj)
-                (subst (All (λ g. number_of g < n)) (sym louder) (All-append (λ g. number_of g < n) (happenings us) (x ∷ []) p.before (subst (All (λ g. number_of g < n)) (ap happenings what) numbers.1)));
-            tallied = λ i z is. subst (λ l. IsTally t hops i l z) (sym louder) (tallied i z is (i == number_of x) refl);
-            long = λ i z is. long i z is (i == number_of x) refl;
-            ready = subst (All (IsReady t)) (sym still) p.ready;
-          }
+    packets : All (λ (c : Copy). length c.packet ≡ comps t) s.net.flying
+    packets = held-shown (λ (c : Flying). length c.packet ≡ comps t) old.net.net s.net p.shows.net (subst (λ t'. All (λ (c : Flying). length c.packet ≡ comps t') old.net.net.flying) p.tables held.packets)
 
     on : (s' : Ordered) (ts : List Turn) → LeadsInTurn t s (Step place) s' ts → ShowsInTurn new.net s' → (u : Turn) → ts ≡ u ∷ [] → (x : Turned) → x ≡ told_of u → NotesTurn hops t.switches x old.tallies.items new.tallies.items → Plays t hops s' (us ++ ts) new
-    on s' ts leads shows (Happens x) what y e noted = plays_noted s' ts leads shows x what (happened_in_turn x) refl (subst (λ z. NotesTurn hops t.switches z old.tallies.items new.tallies.items) e noted)
-    on s' ts leads shows (Stays c r) what y e noted = plays_silent s' ts leads shows (ap happenings what) (subst (λ z. NotesTurn hops t.switches z old.tallies.items new.tallies.items) e noted)
-    on s' ts leads shows (Waits c r) what y e noted = plays_silent s' ts leads shows (ap happenings what) (subst (λ z. NotesTurn hops t.switches z old.tallies.items new.tallies.items) e noted)
+    on s' ts leads shows u what x is noted =
+        let inj : s'.net.injected ≡ n = step_injected leads in
+        let numbers = step_numbers (λ m. m < n) p.below leads in
+        let y = tallied_turn t hops n us old.tallies.items new.tallies.items tallied_now ts u what x is noted numbers.1 (step_long (comps t) packets leads) in
+        record {
+          tables = same ∙ p.tables;
+          hops_same = same_hops ∙ p.hops_same;
+          shows = shows;
+          counted = y.counted ∙ sym inj;
+          below = subst (λ m. All (λ (c : Copy). c.number < m) s'.net.flying) (sym inj) numbers.0;
+          before = subst (λ m. All (λ g. number_of g < m) (happenings (us ++ ts))) (sym inj) y.before;
+          tallied = y.tallied;
+          long = y.long;
+          ready = subst (All (IsReady t)) (sym still) p.ready;
+        }
 
   pub plays_step : HasStepped place old new true
   plays_step t hops s us p =
@@ -312,3 +208,11 @@ owner_below old new place told playing does = by u.0 u.1 told u.2
 
 pub playing_of : (t : Tables) (hops : Bool) (s : Ordered) (us : List Turn) (v : Play) → Plays t hops s us v → IsPlaying v
 playing_of t hops s us v p = (s, us, subst (λ t'. Plays t' v.hops s us v) (sym p.tables) (subst (λ h. Plays t h s us v) (sym p.hops_same) p))
+
+-- ---- packets that wait
+pub left_count : (v : Play) → length (left_in v) ≡ length v.waiting.items
+left_count v = length-map (reverse v.waiting.items) (λ (r : Ready). r.packet) ∙ length-reverse v.waiting.items
+
+pub inject_made : (old new : Play) → (0 < length (left_in old)) → (b : Bool) → HasInjected old new b → HasInjected old new true
+inject_made old new some true does = does
+inject_made old new some false none = λ t hops s us p. absurd (let e = ap length none in omega (arith, e, some))

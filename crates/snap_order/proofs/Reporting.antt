@@ -8,15 +8,16 @@ use Rattle.snap_rows.specs.declared.tables.Tables.{Tables}
 use Rattle.snap_rows.specs.Network.{Net, whole}
 use Rattle.snap_net.specs.Shown.{Shows}
 use Rattle.snap_trace.specs.Reports.{end_text}
+use Rattle.snap_runs.specs.declared.frames.Frames.TheVariants.{Numbered}
 use Rattle.snap_runs.specs.declared.tally.Tally.{Tally}
 use Rattle.snap_runs.specs.Playing.{PutsBlocks}
 use Rattle.snap_runs.specs.Reports.{PutsEnd, array_names}
 use Rattle.snap_runs.specs.Tallies.{IsBlockText}
+use Rattle.snap_runs.proofs.Played.{block-of}
 use Rattle.snap_order.specs.declared.play.Play.{Play}
 use Rattle.snap_order.specs.Ordered.{Ordered, Turn, happenings}
 use Rattle.snap_order.specs.Playing.{Plays}
 use Rattle.snap_order.specs.Reports.{AreBlocks, IsRunReport}
-use Rattle.snap_order.proofs.Tallying.{block_of}
 
 some_within : (ys : List Tally) (i : ℕ) → i < length ys → (y : Tally) × (slice_get ys i ≡ Some y)
 some_within [] i within = absurd (omega (arith, within))
@@ -32,7 +33,7 @@ module _ (t : Tables) (hops : Bool) (s : Ordered) (us : List Turn) (v : Play) (p
         (let at : i < length puts.each = slice_get_within puts.each i text is in
         let e = puts.as_many in
         let y = some_within v.tallies.items i (omega (arith, at, e)) in
-        block_of t hops i (happenings us) y.0 text (p.tallied i y.0 y.1) (subst (λ (x : Tables). IsBlockText x.fields (i + 1) y.0 [] text) p.tables (puts.blocks i y.0 text y.1 is)));
+        block-of Numbered t hops i (happenings us) y.0 text (p.tallied i y.0 y.1) (subst (λ (x : Tables). IsBlockText x.fields (i + 1) y.0 [] text) p.tables (puts.blocks i y.0 text y.1 is)));
     is = puts.is;
   }
 

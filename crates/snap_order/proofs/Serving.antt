@@ -24,7 +24,7 @@ use Rattle.snap_gen.proofs.LoneRuns.{is_early}
 use Rattle.snap_gen.proofs.Nodes.{IsTwo, WalkDoes, visits_first, forks_at_once, walk_does, OutDoes, is_delivered, is_carried, out_does}
 use Rattle.snap_order.specs.Laws.{HasForked}
 use Rattle.snap_order.specs.Ordered.{Ordered, Turn, ComesTo, visit, walk, IsBefore, LeadsInTurn, injects, moves, visits, waits, happenings, visited, turn_of}
-use Rattle.snap_order.specs.Settling.{IsRested, Serves, StandsBefore, comes, leaves}
+use Rattle.snap_order.specs.Serving.{IsRested, Serves, StandsBefore, comes, leaves}
 use Rattle.snap_order.specs.Turning.{rank_behind}
 use Rattle.snap_order.proofs.Overlap.{comes_early}
 use Rattle.snap_order.proofs.Taking.{Counts, counts, turn_handles}
@@ -47,12 +47,12 @@ replaced_forked : (cs : List Copy) (j : ℕ) (xs : List Copy) → All HasForked 
 replaced_forked cs j xs all some = All-append HasForked (take j cs) (xs ++ drop (j + 1) cs) (All-take HasForked j cs all) (All-append HasForked xs (drop (j + 1) cs) some (All-drop HasForked (j + 1) cs all))
 
 -- a head of a copy that has forked comes to no visit
-forked_late : {t : Tables} {w : ℕ} {k : List ℕ} {m : Arrays} {q n : ℕ} (c : Copy) → HasForked c → ComesTo t w k m c.head q n → ⊥
+pub forked_late : {t : Tables} {w : ℕ} {k : List ℕ} {m : Arrays} {q n : ℕ} (c : Copy) → HasForked c → ComesTo t w k m c.head q n → ⊥
 forked_late c forked to = both_ways _ (ap is_early forked.1) (comes_early to)
 
 module _ (t : Tables) (two : IsTwo t) (i : ℕ) where
   -- what a copy that is before no visit does
-  data Passes (r : ℕ) (m : Arrays) : Arrays → Action → Type 0 where
+  pub data Passes (r : ℕ) (m : Arrays) : Arrays → Action → Type 0 where
     sent_on : {y v : ℕ} → Passes r m m (Forward y (Visit r v))
     split_up : {m' : Arrays} {copies : List Sent} {lost : ℕ} → ranks t ≡ 0 → Passes r m m' (Fork copies lost)
 
@@ -65,7 +65,7 @@ module _ (t : Tables) (two : IsTwo t) (i : ℕ) where
   passes_walk none (visits_first {v = v} some follow rest) = passes_visit (none 0 v (walk some follow)) rest
   passes_walk none (forks_at_once no_ranks follow row) = split_up no_ranks
 
-  passes : {w : ℕ} {k : List ℕ} {m m' : Arrays} {a : Action} (head : Head) (r : ℕ) → StandsBefore head r → ((q v : ℕ) → ComesTo t w k m head q v → rank_at t q ≡ Some w → ⊥) → Handles t w k m head m' a → Passes r m m' a
+  pub passes : {w : ℕ} {k : List ℕ} {m m' : Arrays} {a : Action} (head : Head) (r : ℕ) → StandsBefore head r → ((q v : ℕ) → ComesTo t w k m head q v → rank_at t q ≡ Some w → ⊥) → Handles t w k m head m' a → Passes r m m' a
   passes {m = m} {m' = m'} {a = a} (Walk n) r stands none does = subst (λ q. Passes q m m' a) (sym stands) (passes_walk none (walk_does t two does))
   passes {m = m} {m' = m'} {a = a} (Visit q n) r stands none does = subst (λ q. Passes q m m' a) (sym stands) (passes_visit (none q n visit) does)
   passes (Stage n x) r stands none does = absurd stands

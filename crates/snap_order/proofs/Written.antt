@@ -1,26 +1,25 @@
 -- What goes out of runs in turn.
-use Rattle.std.proofs.Common.{◌≡◌, ◌⊎◌, ℕ, ◌<◌, ◌≤◌, Bool, true, List, Option, Ok, Err, refl, sym, ap, subst}
-use Rattle.std.specs.Prelude.{is_ok, length}
-use Rattle.std.proofs.lemmas.Bool.{false≢true}
-use Rattle.std.specs.Io.KnownBytes.{Appends}
-use Rattle.snap_io.specs.declared.read.ReadRefusal.{ReadRefusal}
-use Rattle.snap_io.specs.declared.read.ReadRefusal.TheVariants as refusal
-use Rattle.snap_io.specs.Sinks.{AppendsPart}
+use Rattle.std.proofs.Common.{◌≡◌, ◌⊎◌, ℕ, ◌≤◌, Bool, List, Option, Ok, Err, inl, inr, refl, sym, ap, subst}
+use Rattle.std.specs.Prelude.{length, take}
+use Rattle.snap_core.specs.Arrays.{zero_arrays}
 use Rattle.snap_rows.specs.declared.tables.Tables.{Tables}
-use Rattle.snap_trace.specs.declared.fault.TraceFault.{TraceFault}
+use Rattle.snap_rows.specs.Form.{IsInForm}
+use Rattle.snap_rows.specs.Rules.{IsValid}
 use Rattle.snap_trace.specs.declared.fault.TraceFault.TheVariants as trace
 use Rattle.snap_trace.specs.OneSwitch.{RunEnding}
-use Rattle.snap_trace.specs.Spelled.{Spelled}
-use Rattle.snap_trace.specs.Steps.{is_told}
+use Rattle.snap_trace.specs.Spelled.{Spelled, Stop, ended, refused}
+use Rattle.snap_runs.specs.declared.frames.Frames.TheVariants.{Numbered}
 use Rattle.snap_runs.specs.declared.ready.Ready.{Ready}
 use Rattle.snap_runs.specs.declared.schedule.ScheduleFault.{ScheduleFault}
 use Rattle.snap_runs.specs.declared.schedule.ScheduleFault.TheVariants.{Packets, Read, TooLong, Line, Write, NoMemory}
-use Rattle.snap_runs.specs.Plain.{spelled_for}
-use Rattle.snap_runs.specs.Playing.{AreAll, AreBefore, HasRead, packets_in, schedule_refusal}
+use Rattle.snap_runs.specs.Plain.{ArePlainBlocksBy, AreTraceBlocksBy, EndsAsReadBy, IsPlainReportBy, IsTraceBy, Writes, WritesTraceBy, entering, spelled_for}
+use Rattle.snap_runs.specs.Playing.{AreAll, packets_in}
 use Rattle.snap_runs.specs.Schedules.{AreBothRead, IsReadWhole, lines_of}
 use Rattle.snap_order.specs.Obeying.{Stops}
-use Rattle.snap_order.specs.Runs.{ArePlainBlocks, EndsAsRead, EndsEarly, HasScheduleReport, IsScheduleReport, IsTrace, StopsAt, WritesSchedule, WritesTrace}
-use Rattle.snap_order.specs.Settling.{IsPlainText}
+use Rattle.snap_order.specs.Ordered.{happenings}
+use Rattle.snap_order.specs.Reports.{AreBlocks, IsRunReport}
+use Rattle.snap_order.specs.Runs.{ArePlainBlocks, AreTraceBlocks, EndsAsRead, EndsEarly, IsPlainReport, IsTrace, StopsAt, WritesSchedule, WritesTrace}
+use Rattle.snap_order.proofs.PlainTurns.{plain_turns}
 
 module _ (t : Tables) (hops : Bool) (file schedule : List ℕ) (rs : List Ready) (all : AreAll t file rs) (old : Option (List ℕ)) where
   whole : IsReadWhole t file
@@ -28,12 +27,6 @@ module _ (t : Tables) (hops : Bool) (file schedule : List ℕ) (rs : List Ready)
 
   packets : (spelled_for t file).packets ≡ packets_in rs
   packets = ap (λ (s : Spelled). s.packets) all
-
-  -- the schedule wasn't read
-  pub schedule-refused : (r : ReadRefusal) → (r ≡ refusal.TooLong → 67108864 < length schedule) → WritesSchedule t hops file schedule (Err (schedule_refusal r)) old old
-  schedule-refused refusal.Failed long = (refl, whole)
-  schedule-refused refusal.TooLong long = (refl, whole, long refl)
-  schedule-refused refusal.NoMemory long = refl
 
   module _ (text : List ℕ) (few : length text ≤ 67108864) (is : text ≡ schedule) where
     both : AreBothRead t file schedule
@@ -49,35 +42,43 @@ module _ (t : Tables) (hops : Bool) (file schedule : List ℕ) (rs : List Ready)
     schedule-stopped TooLong h = absurd h
     schedule-stopped Write h = absurd h
 
-    module _ (report : List ℕ) (h : IsScheduleReport t hops (packets_in rs) (lines_of text) report) (now : Option (List ℕ)) where
-      has : HasScheduleReport t hops file schedule report
-      has = (both, subst (λ ks. IsScheduleReport t hops ks (lines_of schedule) report) (sym packets) (subst (λ x. IsScheduleReport t hops (packets_in rs) (lines_of x) report) is h))
-
-      pub schedule-written : Appends old now report → WritesSchedule t hops file schedule (Ok tt) old now
-      schedule-written out = (report, has, out)
-
-      pub schedule-part : AppendsPart old now report → WritesSchedule t hops file schedule (Err Write) old now
-      schedule-part out = (report, has, out)
-
 -- ---- the plain run
-module _ (t : Tables) (hops : Bool) (file : List ℕ) (rs : List Ready) (text : List ℕ) where
-  stopped : (fault : TraceFault) → AreBefore t file rs fault → ArePlainBlocks t hops (packets_in rs) text → IsTrace t hops file (Err fault) text
-  stopped fault before blocks = subst (λ (s : Spelled). EndsAsRead t hops s.packets s.stop (Err fault) text) (sym before) (refl, blocks)
+-- what is written where other blocks and ends are told
+written_as : (Blocks Others : List ℕ → Type 0) (Ends Ended : RunEnding → List ℕ → Type 0) → ((text : List ℕ) → Blocks text → Others text) → ((ending : RunEnding) (text : List ℕ) → Ends ending text → Ended ending text)
+    → (ending : RunEnding) (old new : Option (List ℕ)) → Writes Blocks Ends ending old new → Writes Others Ended ending old new
+written_as Blocks Others Ends Ended blocks ends (Err trace.Read) old new w = (w.0, blocks w.0 w.1, w.2)
+written_as Blocks Others Ends Ended blocks ends (Err trace.NoMemory) old new w = (w.0, blocks w.0 w.1, w.2)
+written_as Blocks Others Ends Ended blocks ends (Err trace.Write) old new (inl w) = inl (w.0, blocks w.0 w.1, w.2)
+written_as Blocks Others Ends Ended blocks ends (Err trace.Write) old new (inr w) = inr (w.0, (w.1.0, ends w.1.0 w.0 w.1.1), w.2)
+written_as Blocks Others Ends Ended blocks ends (Err (trace.Undefined packet)) old new w = absurd w
+written_as Blocks Others Ends Ended blocks ends (Err (trace.Limit which count)) old new w = (w.0, ends (Err (trace.Limit which count)) w.0 w.1, w.2)
+written_as Blocks Others Ends Ended blocks ends (Err (trace.Packets line)) old new w = (w.0, ends (Err (trace.Packets line)) w.0 w.1, w.2)
+written_as Blocks Others Ends Ended blocks ends (Ok u) old new w = (w.0, ends (Ok u) w.0 w.1, w.2)
 
-  pub trace_text : (ending : RunEnding) → HasRead t file rs ending → is_told ending ≡ true → IsPlainText t hops (packets_in rs) (is_ok ending) text → IsTrace t hops file ending text
-  trace_text (Ok u) read told plain = subst (λ (s : Spelled). EndsAsRead t hops s.packets s.stop (Ok u) text) (sym read) (refl, plain)
-  trace_text (Err (trace.Limit which count)) read told plain = stopped (trace.Limit which count) read plain
-  trace_text (Err (trace.Packets line)) read told plain = stopped (trace.Packets line) read plain
-  trace_text (Err trace.Read) read told plain = absurd (false≢true told)
-  trace_text (Err trace.NoMemory) read told plain = absurd (false≢true told)
-  trace_text (Err trace.Write) read told plain = absurd read
-  trace_text (Err (trace.Undefined packet)) read told plain = absurd read
+-- the plain run is one in turn, with the same report
+module _ (t : Tables) (form : IsInForm t) (valid : IsValid t) (version : t.version ≡ 2) (hops : Bool) where
+  blocks_in_turn : (ks : List (List ℕ)) (text : List ℕ) → ArePlainBlocksBy Numbered t hops ks text → ArePlainBlocks t hops ks text
+  blocks_in_turn ks text b =
+      let x = plain_turns t form valid version zero_arrays (entering ks) b.events b.end b.happenings b.run in
+      record { events = b.events; end = x.end; turns = x.turns; run = x.run; blocks = subst (λ hs. AreBlocks t hops (length ks) hs text) (sym x.told) b.blocks }
 
-  pub trace_written : (old now : Option (List ℕ)) (ending : RunEnding) → HasRead t file rs ending → is_told ending ≡ true → IsTrace t hops file ending text → Appends old now text → WritesTrace t hops file ending old now
-  trace_written old now (Ok u) read told is out = (text, is, out)
-  trace_written old now (Err (trace.Limit which count)) read told is out = (text, is, out)
-  trace_written old now (Err (trace.Packets line)) read told is out = (text, is, out)
-  trace_written old now (Err trace.Read) read told is out = absurd (false≢true told)
-  trace_written old now (Err trace.NoMemory) read told is out = absurd (false≢true told)
-  trace_written old now (Err trace.Write) read told is out = absurd read
-  trace_written old now (Err (trace.Undefined packet)) read told is out = absurd read
+  report_in_turn : (ks : List (List ℕ)) (text : List ℕ) → IsPlainReportBy Numbered t hops ks text → IsPlainReport t hops ks text
+  report_in_turn ks text r =
+      let x = plain_turns t form valid version zero_arrays (entering ks) r.events r.end r.happenings r.run in
+      record {
+        events = r.events;
+        end = x.end;
+        turns = x.turns;
+        run = x.run;
+        report = subst (λ s. IsRunReport t hops (length ks) s (happenings x.turns) text) (sym x.net) (subst (λ hs. IsRunReport t hops (length ks) r.end hs text) (sym x.told) r.report);
+      }
+
+  ends_in_turn : (ks : List (List ℕ)) (stop : Stop) (ending : RunEnding) (text : List ℕ) → EndsAsReadBy Numbered t hops ks stop ending text → EndsAsRead t hops ks stop ending text
+  ends_in_turn ks ended ending text e = (e.0, report_in_turn ks text e.1)
+  ends_in_turn ks (refused fault) ending text e = (e.0, blocks_in_turn ks text e.1)
+
+  pub trace_in_turn : (file : List ℕ) (ending : RunEnding) (old new : Option (List ℕ)) → WritesTraceBy Numbered t hops file ending old new → WritesTrace t hops file ending old new
+  trace_in_turn file ending old new w =
+      let read = spelled_for t file in
+      written_as (AreTraceBlocksBy Numbered t hops file) (AreTraceBlocks t hops file) (IsTraceBy Numbered t hops file) (IsTrace t hops file)
+      (λ text b. (b.0, blocks_in_turn (take b.0 read.packets) text b.1)) (λ e text x. ends_in_turn read.packets read.stop e text x) ending old new w

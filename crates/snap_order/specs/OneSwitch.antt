@@ -10,6 +10,7 @@ use Rattle.snap_gen.specs.Faithful.{Faithful, IsPacketOf}
 use Rattle.snap_runs.specs.Plain.{entering}
 use Rattle.snap_order.specs.Ordered.{Ordered, RunInTurn, Turn, happenings}
 use Rattle.snap_order.specs.Reports.{IsRunReport}
+use Rattle.snap_order.specs.Rounds.{IsRoundReport}
 use Rattle.snap_order.specs.Runs.{IsPlainReport, IsScheduleReport}
 use Rattle.snap_whole.specs.OneSwitch.{IsSwitchReport, ports_of}
 
@@ -30,3 +31,8 @@ PlainRunsInTurnReportOneSwitch = (p : Program) (topology : Topology) (places : L
 abbrev pub SchedulesInTurnReportOneSwitch : Type 0
 SchedulesInTurnReportOneSwitch = (p : Program) (topology : Topology) (places : List ℕ) (t : Tables) → Faithful p topology places t
     → (ks : List (List ℕ)) → All (IsPacketOf p) ks → (lines : List (List ℕ)) (text : List ℕ) → IsScheduleReport t false ks lines text → IsSwitchReport p (ports_of topology) ks text
+
+-- and the run by rounds
+abbrev pub RunsByRoundsReportOneSwitch : Type 0
+RunsByRoundsReportOneSwitch = (p : Program) (topology : Topology) (places : List ℕ) (t : Tables) → Faithful p topology places t
+    → (ks : List (List ℕ)) → All (IsPacketOf p) ks → (text : List ℕ) → IsRoundReport t false ks text → IsSwitchReport p (ports_of topology) ks text

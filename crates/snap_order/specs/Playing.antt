@@ -1,20 +1,18 @@
 -- How far a run in turn has come.
-use Rattle.std.specs.Prelude.{◌≡◌, ℕ, ◌+◌, ◌<◌, ◌≤◌, Bool, true, false, List, [], ◌∷◌, ◌++◌, length, reverse, slice_get, slice_index, sum, Some, if◌then◌else◌}
+use Rattle.std.specs.Prelude.{◌≡◌, ℕ, ◌+◌, ◌<◌, ◌≤◌, Bool, true, false, List, [], ◌∷◌, ◌++◌, length, reverse, slice_get, slice_index, Some, if◌then◌else◌}
 use Rattle.std.specs.List.{All}
 use Rattle.snap_rows.specs.declared.tables.Tables.{Tables}
 use Rattle.snap_rows.specs.Form.{comps}
-use Rattle.snap_rows.specs.Happenings.{losses_of}
 use Rattle.snap_rows.specs.Network.{Copy, Happening, Inject, Step}
 use Rattle.snap_net.specs.declared.happened.Happened.{Happened}
+use Rattle.snap_runs.specs.declared.frames.Frames.TheVariants.{Numbered}
 use Rattle.snap_runs.specs.declared.tally.Tally.{Tally}
 use Rattle.snap_runs.specs.Playing.{IsLong, IsReady, owner_by, packets_in}
-use Rattle.snap_runs.specs.Reports.{packets_delivered}
-use Rattle.snap_runs.specs.Tallies.{bared, delivered_by, hop_by, lost_by, number_of}
+use Rattle.snap_runs.specs.Tallies.{IsTally as IsTallyBy, bared, delivered_by, hop_by, lost_by, number_of}
 use Rattle.snap_order.specs.declared.play.Play.{Play}
 use Rattle.snap_order.specs.declared.turned.Turned.{Turned}
 use Rattle.snap_order.specs.declared.turned.Turned.TheVariants.{Moved, Visited, Waited}
 use Rattle.snap_order.specs.Ordered.{Ordered, Turn, LeadsInTurn, happenings}
-use Rattle.snap_order.specs.Reports.{hops_text}
 use Rattle.snap_order.specs.Shown.{ShowsInTurn}
 
 -- the packets that wait stand with the next one last
@@ -22,10 +20,8 @@ abbrev pub left_in : Play → List (List ℕ)
 left_in v = packets_in (reverse v.waiting.items)
 
 -- the tally tells what happened to packet i
-pub record IsTally (t : Tables) (hops : Bool) (i : ℕ) (hs : List Happening) (y : Tally) : Type 0 where
-  pub delivered : y.delivered.items ≡ packets_delivered i hs
-  pub lost : y.lost ≡ sum (losses_of i hs)
-  pub hops_told : y.hops.items ≡ hops_text t hops i hs
+abbrev pub IsTally : Tables → (hops : Bool) → (i : ℕ) → List Happening → Tally → Type 0
+IsTally t hops i hs y = IsTallyBy Numbered t hops i hs y
 
 -- The network shows the state after these turns, and there is a tally of each packet that was injected.
 pub record Plays (t : Tables) (hops : Bool) (s : Ordered) (us : List Turn) (v : Play) : Type 0 where

@@ -1,5 +1,5 @@
 -- Runs in turn over a packets file: by the plain schedule, and in the order of a schedule's lines.
-use Rattle.std.specs.Prelude.{◌≡◌, ◌≢◌, ◌⊎◌, ℕ, ◌+◌, ◌<◌, Bool, List, [], ◌∷◌, ◌++◌, length, Result, Ok, Err}
+use Rattle.std.specs.Prelude.{◌≡◌, ◌≢◌, ◌⊎◌, ℕ, ◌+◌, ◌<◌, Bool, List, [], ◌∷◌, ◌++◌, length, take, Result, Ok, Err}
 use Rattle.std.specs.declared.option.Option.{Option}
 use Rattle.std.specs.List.{All}
 use Rattle.std.specs.Io.KnownBytes.{Appends}
@@ -7,12 +7,11 @@ use Rattle.snap_core.specs.Arrays.{Arrays, zero_arrays}
 use Rattle.snap_io.specs.Sinks.{AppendsSome}
 use Rattle.snap_rows.specs.declared.tables.Tables.{Tables}
 use Rattle.snap_rows.specs.Network.{Event, Inject, Step, StepsFirst, packets_of}
-use Rattle.snap_trace.specs.declared.fault.TraceFault.TheVariants as trace
 use Rattle.snap_trace.specs.OneSwitch.{RunEnding}
-use Rattle.snap_trace.specs.Spelled.{Stop, ended, refused}
+use Rattle.snap_trace.specs.Spelled.{Stop}
 use Rattle.snap_runs.specs.declared.schedule.ScheduleFault.{ScheduleFault}
 use Rattle.snap_runs.specs.declared.schedule.ScheduleFault.TheVariants.{Packets, Read, TooLong, Line, Write, NoMemory}
-use Rattle.snap_runs.specs.Plain.{entering, spelled_for}
+use Rattle.snap_runs.specs.Plain.{EndsAs, Writes, entering, spelled_for}
 use Rattle.snap_runs.specs.Schedules.{AreBothRead, CantBeDone, IsReadWhole, RefusesPackets, Spells, lines_of, order_by}
 use Rattle.snap_order.specs.Ordered.{Ordered, Turn, LeadsInTurn, RunInTurn, begin, happenings}
 use Rattle.snap_order.specs.Reports.{AreBlocks, IsRunReport}
@@ -49,26 +48,24 @@ pub record ArePlainBlocks (t : Tables) (hops : Bool) (ks : List (List ℕ)) (tex
   pub run : IsPlainRun t zero_arrays (entering ks) events end turns
   pub blocks : AreBlocks t hops (length ks) (happenings turns) text
 
--- The run of the packets that were read ends as reading did; where that came to the file's end, with its whole report.
+-- the run of the packets that were read ends as reading did
 abbrev pub EndsAsRead : Tables → (hops : Bool) → List (List ℕ) → Stop → RunEnding → List ℕ → Type 0
-EndsAsRead t hops ks ended ending text = (ending ≡ Ok tt) × IsPlainReport t hops ks text
-EndsAsRead t hops ks (refused fault) ending text = (ending ≡ Err fault) × ArePlainBlocks t hops ks text
+EndsAsRead t hops ks stop ending text = EndsAs (ArePlainBlocks t hops) (IsPlainReport t hops) ks stop ending text
 
 -- how a run over a file ends, and what is reported
 abbrev pub IsTrace : Tables → (hops : Bool) → (file : List ℕ) → RunEnding → List ℕ → Type 0
 IsTrace t hops file ending text = EndsAsRead t hops (spelled_for t file).packets (spelled_for t file).stop ending text
 
+-- the blocks of some first packets that the file spells
+abbrev pub AreTraceBlocks : Tables → (hops : Bool) → (file : List ℕ) → List ℕ → Type 0
+AreTraceBlocks t hops file text = (count : ℕ) × ArePlainBlocks t hops (take count (spelled_for t file).packets) text
+
 abbrev pub HasTrace : Tables → (hops : Bool) → (file : List ℕ) → List ℕ → Type 0
 HasTrace t hops file text = (ending : RunEnding) × IsTrace t hops file ending text
 
--- The run ended as the file deserves, and its whole report went out; or some first bytes of it where the sink failed, and
--- nothing where a read failed or memory was short.
+-- the run ended as the file deserves, or a device failed or memory was short
 abbrev pub WritesTrace : Tables → (hops : Bool) → (file : List ℕ) → RunEnding → Option (List ℕ) → Option (List ℕ) → Type 0
-WritesTrace t hops file (Err trace.Read) old new = new ≡ old
-WritesTrace t hops file (Err trace.NoMemory) old new = new ≡ old
-WritesTrace t hops file (Err trace.Write) old new = AppendsSome (HasTrace t hops file) old new
-WritesTrace t hops file (Err (trace.Undefined packet)) old new = ⊥
-WritesTrace t hops file ending old new = (text : List ℕ) × IsTrace t hops file ending text × Appends old new text
+WritesTrace t hops file ending old new = Writes (AreTraceBlocks t hops file) (IsTrace t hops file) ending old new
 
 -- ---- schedules
 -- a run from empty arrays does the events of these lines

@@ -67,8 +67,8 @@ pub(crate) fn turns_at(
     )
 }
 
-// The frame that crosses a link: the packet's number, and the frame of the head and the packet.
-fn frame_of(alloc: Global, action: &Action, copy: &Flying) -> Result<Frame, NoMemory>
+/// The frame that crosses a link: the packet's number, and the frame of the head and the packet.
+pub(crate) fn frame_of(alloc: Global, action: &Action, copy: &Flying) -> Result<Frame, NoMemory>
     ensures { IfOk result (FramesInTurn copy.now action.now) }
 {
     let mut bytes = Vec::new(alloc);

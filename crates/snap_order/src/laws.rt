@@ -1,9 +1,13 @@
 //! Laws of the ordered network.
 
+ghost use Rattle.snap_order.specs.Hands.{SharesMakeARound};
 ghost use Rattle.snap_order.specs.Laws.{FaithfulKeepsOrder};
+ghost use Rattle.snap_order.specs.OneRounds.{RoundReportsAreOne, RoundsRunToEnds};
 ghost use Rattle.snap_order.specs.OneRun.{PlainBlocksAreOne, PlainReportsAreOne, StepsAreOne};
 ghost use Rattle.snap_order.specs.OneSchedule.{RefusedLinesAreOne, ReportedOrRefused, ScheduleReportsAreOne};
-ghost use Rattle.snap_order.specs.OneSwitch.{PlainRunsInTurnReportOneSwitch, RunsInTurnReportOneSwitch, SchedulesInTurnReportOneSwitch};
+ghost use Rattle.snap_order.specs.OneSwitch.{PlainRunsInTurnReportOneSwitch, RunsByRoundsReportOneSwitch, RunsInTurnReportOneSwitch, SchedulesInTurnReportOneSwitch};
+ghost use Rattle.snap_order.specs.PlainTurns.{PlainRunsTakeTurns};
+ghost use Rattle.snap_order.specs.ShortTurns.{PlainRunsInTurnAreShort, RunsInTurnAreShort};
 
 /// **Overlap in order.** Over faithful tables, whatever the order of events: each array is as one big switch leaves it after
 /// the packets that its rank has handled; a run to an end agrees with one big switch over the packets in the order of their
@@ -15,12 +19,19 @@ pub fn faithful_keeps_order()
 {}
 
 /// **Each run in turn of faithful tables to an end reports exactly what one big switch does** over the packets in the order
-/// of their injection, whatever the order of the events. The plain run in turn is such a run, and so is that of a schedule
-/// that is done to its end.
+/// of their injection, whatever the order of the events. The plain run in turn is such a run, and so are that of a schedule
+/// that is done to its end and that by rounds.
 pub fn runs_in_turn_report_one_switch()
     ensures all { RunsInTurnReportOneSwitch }
     ensures plain { PlainRunsInTurnReportOneSwitch }
     ensures schedules { SchedulesInTurnReportOneSwitch }
+    ensures rounds { RunsByRoundsReportOneSwitch }
+{}
+
+/// **In a plain run nobody waits**: over valid tables of version 2 the plain run of the network is one in turn, step by step,
+/// with the same stores and copies, and the same happens.
+pub fn plain_runs_take_turns()
+    ensures { PlainRunsTakeTurns }
 {}
 
 /// Where tables are in form, an event leads to one state by the same turns. So packets have one report in the plain run in
@@ -36,4 +47,23 @@ pub fn schedules_run_one_way()
     ensures reports { ScheduleReportsAreOne }
     ensures lines { RefusedLinesAreOne }
     ensures apart { ReportedOrRefused }
+{}
+
+/// **Each copy of a run in turn makes at most (groups + 1) times the diameter hops**, whatever the order of the events.
+pub fn runs_in_turn_are_short()
+    ensures all { RunsInTurnAreShort }
+    ensures plain { PlainRunsInTurnAreShort }
+{}
+
+/// Where tables are in form, packets have one report by rounds. The run by rounds is a run in turn of these packets to an
+/// end.
+pub fn rounds_run_one_way()
+    ensures reports { RoundReportsAreOne }
+    ensures runs { RoundsRunToEnds }
+{}
+
+/// Steps at the switches of different workers commute: what each worker makes of the copies at its own switches, put in the
+/// order of the copies, is a round.
+pub fn shares_make_a_round()
+    ensures { SharesMakeARound }
 {}

@@ -3,12 +3,23 @@
 
 mod acts;
 mod counts;
+mod deal;
+pub mod gate;
+mod hand;
+mod job;
 pub mod laws;
+mod lent;
 pub mod net;
 mod play;
+pub mod round;
 pub mod schedule;
+mod team;
 #[cfg(test)]
 mod tests;
 pub mod trace;
 pub mod turned;
 mod turns;
+mod weave;
+#[cfg(test)]
+mod worker_tests;
+pub mod workers;

@@ -10,6 +10,7 @@ ghost use Rattle.snap_rows.specs.Form.{array_count, comps};
 ghost use Rattle.snap_rows.specs.Network.{Inject, Step, whole};
 ghost use Rattle.snap_net.specs.declared.net.InjectFault.{InjectFault};
 ghost use Rattle.snap_net.specs.declared.net.StepFault.{StepFault};
+ghost use Rattle.snap_net.specs.Parts.{held_of};
 ghost use Rattle.snap_net.specs.Shown.{IsHeld};
 ghost use Rattle.snap_gen.specs.Faithful.{Faithful};
 ghost use Rattle.snap_order.specs.Laws.{KeepsOrder};
@@ -24,6 +25,7 @@ use snap_core::NoMemory;
 use snap_core::packet::Packet;
 use snap_core::place::Entry;
 use snap_net::net::{InjectFault, Net, StepFault, open_net};
+use snap_net::parts::Parts;
 use snap_rows::valid::Valid;
 use std::alloc::Global;
 use std::marker::Model;
@@ -61,6 +63,25 @@ pub fn open_ordered(alloc: Global, tables: Valid) -> Result<OrderedNet, NoMemory
     Ok(OrderedNet { alloc, net, counts })
 }
 
+/// What an ordered network holds, in parts.
+#[derive(Drop)]
+pub(crate) struct OrderedParts {
+    pub parts: Parts,
+    pub counts: Vec<u64>,
+}
+
+/// Puts an ordered network together.
+pub(crate) fn from_parts(alloc: Global, parts: OrderedParts) -> Result<OrderedNet, NoMemory>
+    requires held { IsHeld (held_of parts.parts) }
+    requires ordered { IsOrderedHeld (record { net = held_of parts.parts; counts = parts.counts.items }) }
+    ensures net { IfOk result (λ net. net.net ≡ held_of parts.parts) }
+    ensures counts { IfOk result (λ net. net.counts ≡ parts.counts.items) }
+{
+    let OrderedParts { parts, counts } = parts;
+    let net = Net::from_parts(alloc, parts)?;
+    Ok(OrderedNet { alloc, net, counts })
+}
+
 impl OrderedNet {
     /// Lends the tables. Takes no memory.
     pub fn tables(&self) -> &Valid
@@ -74,6 +95,11 @@ impl OrderedNet {
         ensures { result.now ≡ self.now.net }
     {
         &self.net
+    }
+
+    /// The allocator.
+    pub(crate) fn alloc(&self) -> Global {
+        self.alloc
     }
 
     /// The number of copies in flight. Takes no memory.
@@ -185,5 +211,19 @@ impl OrderedNet {
         let turned = turn(self.alloc, &mut self.net, k, turns)?;
         count(&mut self.counts, due.rank, behind, number);
         Ok(turned)
+    }
+
+    /// Takes the network apart.
+    pub(crate) fn into_parts(self) -> Result<OrderedParts, NoMemory>
+        ensures net { IfOk result (λ parts. held_of parts.parts ≡ self.net) }
+        ensures counts { IfOk result (λ parts. parts.counts.items ≡ self.counts) }
+    {
+        let OrderedNet {
+            alloc: _,
+            net,
+            counts,
+        } = self;
+        let parts = net.into_parts()?;
+        Ok(OrderedParts { parts, counts })
     }
 }

@@ -9,20 +9,26 @@ ghost use Rattle.snap_runs.specs.Playing.{IsReady, packets_in, owner_by};
 ghost use Rattle.snap_runs.specs.Tallies.{bared};
 ghost use Rattle.snap_order.specs.Ordered.{Ordered, Turn, begin, happenings};
 ghost use Rattle.snap_order.specs.Playing.{HasInjected, HasStepped, HasNoted, IsPlaying, NotesTurn, OwnerIsBelow, Plays, left_in};
+ghost use Rattle.snap_order.specs.Rounding.{HasRounded, NoteTurns};
 ghost use Rattle.snap_order.specs.Shown.{IsOrderedHeld};
-ghost use Rattle.snap_order.specs.Reports.{AreBlocks, IsRunReport};
+ghost use Rattle.snap_order.specs.Reports.{IsRunReport};
 
+use crate::gate::Gate;
 use crate::net::{OrderedNet, open_ordered};
+use crate::round::{Rounded, round};
 use crate::turned::Turned;
 use snap_core::NoMemory;
 use snap_core::lists::Names;
 use snap_net::happened::{Happened, Moved};
 use snap_rows::valid::Valid;
+use snap_runs::frames::Frames;
 use snap_runs::play::{next_packet, owner_of, put_blocks, reversed};
 use snap_runs::ready::Ready;
 use snap_runs::tail::put_end;
 use snap_runs::tally::Tally;
 use std::alloc::Global;
+use std::collections::VecDeque;
+use std::thread::Threads;
 
 /// An ordered network in a run, a tally of each packet that was injected, and the packets that wait, the next one last.
 #[derive(Drop)]
@@ -115,6 +121,41 @@ impl Play {
         Ok(true)
     }
 
+    /// Makes the round of this number, by so many workers.
+    pub(crate) fn round<R: Threads + Sync, G: Gate>(
+        self,
+        rt: &R,
+        number: u64,
+        workers: u16,
+        gate: &G,
+    ) -> Result<Play, NoMemory>
+        requires playing { IsPlaying self }
+        requires workers { (1 ≤ workers) × (workers ≤ 64) }
+        ensures rounded { IfOk result (HasRounded self) }
+        ensures count { IfOk result (λ new. new.net.net.injected ≡ self.net.net.injected) }
+    {
+        let Play {
+            alloc,
+            net,
+            hops,
+            tallies,
+            waiting,
+        } = self;
+        let _known = net.flying();
+        let mut tallies = tallies;
+        let rounded = round(rt, net, number, workers, gate)?;
+        let Rounded { net, done } = rounded;
+        let switches = &net.tables().tables().switches;
+        note_turns(&mut tallies, hops, switches, done)?;
+        Ok(Play {
+            alloc,
+            net,
+            hops,
+            tallies,
+            waiting,
+        })
+    }
+
     /// The report of the run.
     pub(crate) fn report(self) -> Result<Vec<u8>, NoMemory>
         requires playing { IsPlaying self }
@@ -133,24 +174,23 @@ impl Play {
         put_end(&mut out, net.network())?;
         Ok(out)
     }
+}
 
-    /// The blocks of the packets that were injected.
-    pub(crate) fn blocks(self) -> Result<Vec<u8>, NoMemory>
-        requires playing { IsPlaying self }
-        requires few { self.net.net.injected ≤ 67108864 }
-        ensures { IfOk result (λ text. (t : Tables) (hops : Bool) (s : Ordered) (us : List Turn) → Plays t hops s us self → AreBlocks t hops s.net.injected (happenings us) text.items) }
-    {
-        let Play {
-            alloc,
-            net,
-            hops: _,
-            tallies,
-            waiting: _,
-        } = self;
-        let mut out = Vec::new(alloc);
-        put_blocks(&mut out, &net.tables().tables().fields, tallies)?;
-        Ok(out)
+// Notes what steps tell, one after another.
+fn note_turns(
+    tallies: &mut Vec<Tally>,
+    hops: bool,
+    switches: &Names,
+    done: Vec<Turned>,
+) -> Result<(), NoMemory>
+    requires { All (OwnerIsBelow (length tallies.old.items)) done.items }
+    ensures { OnOk result (NoteTurns hops switches.now done.items tallies.old.items tallies.new.items) }
+{
+    let mut left = VecDeque::from(done);
+    while let Some(turned) = left.pop_front() {
+        note_turn(tallies, hops, switches, turned)?;
     }
+    Ok(())
 }
 
 // Notes what a step tells in the tally of the packet whose copy moved.
@@ -183,7 +223,7 @@ fn note(
     let owner = owner_of(&happened);
     let tally = &mut tallies[owner as usize];
     if hops {
-        tally.note_hop(switches, happened)
+        tally.note_hop(Frames::Plain, switches, happened)
     } else {
         tally.note(bare(happened))
     }

@@ -41,15 +41,15 @@ pub fn schedule_ordered<S: Shelf, K: Sink>(
     sink: &mut K,
 ) -> Result<(), ScheduleFault>
     requires version { tables.version ≡ 2 }
+    ensures files { S.files shelf.new ≡ S.files shelf.old }
+    ensures later { NoneFell (S.faults shelf.old) (S.faults shelf.new) }
+    ensures sink_later { K.faults sink.old ≤ K.faults sink.new }
     ensures report { IfSome (S.files shelf.old) (λ files.
         WritesSchedule tables hops (file_of files packets.now) (file_of files schedule.now) result (K.taken sink.old) (K.taken sink.new)) }
     ensures no_write { IsErrOf result (ScheduleFault.Packets TraceFault.Write) → ⊥ }
     ensures read_packets { IsErrOf result (ScheduleFault.Packets TraceFault.Read) → Rose (S.faults shelf.old packets.now) (S.faults shelf.new packets.now) }
     ensures read { IsErrOf result ScheduleFault.Read → Rose (S.faults shelf.old schedule.now) (S.faults shelf.new schedule.now) }
     ensures write { IsErrOf result ScheduleFault.Write → Rose (K.faults sink.old) (K.faults sink.new) }
-    ensures files { S.files shelf.new ≡ S.files shelf.old }
-    ensures later { NoneFell (S.faults shelf.old) (S.faults shelf.new) }
-    ensures sink_later { K.faults sink.old ≤ K.faults sink.new }
 {
     let ready = match read_packets(alloc, shelf, packets, &tables) {
         Ok(ready) => ready,

@@ -42,7 +42,7 @@ const TWO_OWNERS: &[u8] = b"snap-tables 2\n\
     row 1 6 leaf out c1=#2\n\
     end\n";
 
-fn two_owners(alloc: Global) -> Result<Valid, NoMemory>
+pub(crate) fn two_owners(alloc: Global) -> Result<Valid, NoMemory>
     ensures { IfOk result (λ tables. tables.version ≡ 2) }
 {
     match read(alloc, TWO_OWNERS) {
@@ -58,7 +58,11 @@ fn two_owners(alloc: Global) -> Result<Valid, NoMemory>
 }
 
 // A shelf with a file of packets and a schedule.
-fn shelf(alloc: Global, packets: &[u8], schedule: &[u8]) -> Result<MemoryShelf, NoMemory> {
+pub(crate) fn shelf(
+    alloc: Global,
+    packets: &[u8],
+    schedule: &[u8],
+) -> Result<MemoryShelf, NoMemory> {
     let packets = File {
         name: b"q".to_vec(alloc)?,
         bytes: packets.to_vec(alloc)?,

@@ -1,0 +1,183 @@
+-- How a run by rounds goes on, and its report.
+use Rattle.std.proofs.Common.{◌≡◌, ◌≢◌, ℕ, suc, ◌+◌, ◌<◌, Bool, true, List, [], ◌∷◌, ◌++◌, Some, length, map, reverse, refl, sym, ap, subst, ◌∙◌, arith, append-nil, append_assoc}
+use Rattle.std.specs.Prelude.{slice_get, slice_index}
+use Rattle.std.specs.List.{All}
+use Rattle.std.proofs.lemmas.Option.{none-some}
+use Rattle.snap_core.specs.Arrays.{zero_arrays}
+use Rattle.snap_rows.specs.declared.tables.Tables.{Tables}
+use Rattle.snap_rows.specs.Network.{Copy, Event, Inject}
+use Rattle.snap_net.specs.Shown.{IsHeld}
+use Rattle.snap_net.proofs.Blocks.{found}
+use Rattle.snap_net.proofs.Steps.{copy_shown}
+use Rattle.snap_gen.proofs.Nodes.{IsTwo}
+use Rattle.snap_runs.specs.Plain.{entering}
+use Rattle.snap_runs.specs.Playing.{IsReady, packets_in}
+use Rattle.snap_runs.specs.Tallies.{number_of}
+use Rattle.snap_runs.proofs.Steps.{rests-shown}
+use Rattle.snap_order.specs.declared.play.Play.{Play}
+use Rattle.snap_order.specs.declared.turned.Turned.{Turned}
+use Rattle.snap_order.specs.Ordered.{Ordered, Turn, begin, happenings}
+use Rattle.snap_order.specs.Playing.{HasInjected, IsPlaying, OwnerIsBelow, Plays, left_in}
+use Rattle.snap_order.specs.Reports.{IsRunReport}
+use Rattle.snap_order.specs.Rounding.{HasRounded, IsPaced, IsRoundDone, NoteTurns, PlaysRounds, toil}
+use Rattle.snap_order.specs.Rounds.{GoesByRounds, injects, goes_on, rests, IsRound, IsRoundReport}
+use Rattle.snap_order.specs.Shown.{IsOrderedHeld, OrderedHeld, ShowsInTurn, told_of}
+use Rattle.snap_order.proofs.Placed.{Placed, placed_shown}
+use Rattle.snap_order.proofs.Rounds.{injects_one, round_injected, round_numbers, tallied_round, told_below}
+use Rattle.snap_order.proofs.Standing.{inject_pace, pace_first}
+use Rattle.snap_order.proofs.Toiling.{round_falls, round_pace, toil_of, toil_shown}
+
+-- ---- a round
+two_held : (v : OrderedHeld) → IsHeld v.net → IsOrderedHeld v → IsTwo v.net.tables
+two_held v held ordered = record { form = held.form; valid = held.valid; version = ordered.version }
+
+module _ (old : Play) (now : OrderedHeld) (told : List Turned) (does : IsRoundDone old.net now told) where
+  -- the round of a state that was shown, over the tables at hand
+  round_of : (t : Tables) (hops : Bool) (s : Ordered) (us : List Turn) → Plays t hops s us old → (s' : Ordered) × (es : List Event) × (ts : List Turn) × IsRound t s es s' ts × ShowsInTurn now s' × (told ≡ map told_of ts)
+  round_of t hops s us p = subst (λ t'. (s' : Ordered) × (es : List Event) × (ts : List Turn) × IsRound t' s es s' ts × ShowsInTurn now s' × (told ≡ map told_of ts)) p.tables (does s p.shows)
+
+  -- what was told of has a tally
+  pub told_all : IsPlaying old → All (OwnerIsBelow (length old.tallies.items)) told
+  told_all playing =
+      let p = playing.2 in
+      let a = round_of old.net.net.tables old.hops playing.0 playing.1 p in
+      let numbers = round_numbers playing.0.net.injected p.below a.3 in
+      subst (λ n. All (OwnerIsBelow n) told) (sym p.counted) (subst (All (OwnerIsBelow playing.0.net.injected)) (sym a.5) (told_below playing.0.net.injected a.2 numbers.1))
+
+  module _ (new : Play) (is : new.net ≡ now) (held : IsHeld old.net.net) (ordered : IsOrderedHeld old.net) (notes : NoteTurns old.hops old.net.net.tables.switches told old.tallies.items new.tallies.items)
+      (same : now.net.tables ≡ old.net.net.tables) (same_hops : new.hops ≡ old.hops) (still : new.waiting.items ≡ old.waiting.items) where
+    pub plays_round : HasRounded old new
+    plays_round t hops s us p =
+        let a = round_of t hops s us p in
+        let n = s.net.injected in
+        let two = subst IsTwo p.tables (two_held old.net held ordered) in
+        let placed = subst (λ t'. All (Placed t') s.net.flying) p.tables (placed_shown old.net.net s.net held p.shows.net) in
+        let numbers = round_numbers n p.below a.3 in
+        let inj : a.0.net.injected ≡ n = round_injected a.3 in
+        let noted = subst (λ l. NoteTurns hops t.switches l old.tallies.items new.tallies.items) a.5
+        (subst (λ b. NoteTurns b t.switches told old.tallies.items new.tallies.items) p.hops_same (subst (λ (t' : Tables). NoteTurns old.hops t'.switches told old.tallies.items new.tallies.items) p.tables notes)) in
+        let y = tallied_round t two hops n us old.tallies.items new.tallies.items a.3 p.below placed (record { counted = p.counted; before = p.before; tallied = p.tallied; long = p.long }) noted in
+        record {
+          left = ap (λ ws. packets_in (reverse ws)) still;
+          state = a.0;
+          events = a.1;
+          turns = a.2;
+          round = a.3;
+          plays = record {
+            tables = ap (λ (v : OrderedHeld). v.net.tables) is ∙ same ∙ p.tables;
+            hops_same = same_hops ∙ p.hops_same;
+            shows = subst (λ v. ShowsInTurn v a.0) (sym is) a.4;
+            counted = y.counted ∙ sym inj;
+            below = subst (λ m. All (λ (c : Copy). c.number < m) a.0.net.flying) (sym inj) numbers.0;
+            before = subst (λ m. All (λ g. number_of g < m) (happenings (us ++ a.2))) (sym inj) y.before;
+            tallied = y.tallied;
+            long = y.long;
+            ready = subst (All (IsReady t)) (sym still) p.ready;
+          };
+        }
+
+-- ---- the schedule of rounds
+pub rounds_first : (t : Tables) (hops : Bool) (ks : List (List ℕ)) (v : Play) → Plays t hops (begin t zero_arrays) [] v → left_in v ≡ ks → PlaysRounds t hops ks v
+rounds_first t hops ks v plays left = record {
+  events = [];
+  state = begin t zero_arrays;
+  turns = [];
+  plays = plays;
+  pace = pace_first t (begin t zero_arrays) refl refl (λ q. refl);
+  injected = (let e : length (left_in v) ≡ length ks = ap length left in omega (arith, e));
+  on = λ es end us rest. subst (λ l. GoesByRounds t (entering l) (begin t zero_arrays) es end us) left rest;
+}
+
+pub paced_of : (t : Tables) (hops : Bool) (ks : List (List ℕ)) (v : Play) → PlaysRounds t hops ks v → IsPaced v
+paced_of t hops ks v p = (ks, subst (λ t'. PlaysRounds t' v.hops ks v) (sym p.plays.tables) (subst (λ h. PlaysRounds t h ks v) (sym p.plays.hops_same) p))
+
+module _ (old mid : Play) (held : IsHeld mid.net.net) (ordered : IsOrderedHeld mid.net) where
+  two_of : (t : Tables) → mid.net.net.tables ≡ t → IsTwo t
+  two_of t same = subst IsTwo same (two_held mid.net held ordered)
+
+  placed_of : (t : Tables) (hops : Bool) (s : Ordered) (us : List Turn) → Plays t hops s us mid → All (Placed t) s.net.flying
+  placed_of t hops s us p = subst (λ t'. All (Placed t') s.net.flying) p.tables (placed_shown mid.net.net s.net held p.shows.net)
+
+  -- a packet is injected, and then a round is made
+  pub rounds_more : (new : Play) → HasInjected old mid true → HasRounded mid new → (t : Tables) (hops : Bool) (ks : List (List ℕ)) → PlaysRounds t hops ks old → PlaysRounds t hops ks new
+  rounds_more new injected rounded t hops ks p =
+      let a = injected t hops p.state p.turns p.plays in
+      let b = rounded t hops a.state p.turns a.plays in
+      let e = Inject (slice_index a.packet 0) a.packet in
+      let left : left_in old ≡ a.packet ∷ left_in new = a.next ∙ ap (λ l. a.packet ∷ l) (sym b.left) in
+      record {
+        events = p.events ++ (e ∷ b.events);
+        state = b.state;
+        turns = p.turns ++ b.turns;
+        plays = b.plays;
+        pace = round_pace t (two_of t a.plays.tables) b.round (placed_of t hops a.state p.turns a.plays) (inject_pace a.leads p.pace);
+        injected = (let x = round_injected b.round in let y = injects_one a.leads in let z = ap length left in let w = p.injected in omega (arith, x, y, z, w));
+        on = λ es end us rest.
+            subst (λ l. GoesByRounds t (entering ks) (begin t zero_arrays) l end ((p.turns ++ b.turns) ++ us)) (sym (append_assoc p.events (e ∷ b.events) es))
+            (subst (GoesByRounds t (entering ks) (begin t zero_arrays) (p.events ++ (e ∷ (b.events ++ es))) end) (sym (append_assoc p.turns b.turns us))
+            (p.on (e ∷ (b.events ++ es)) end (b.turns ++ us) (subst (λ l. GoesByRounds t (entering l) p.state (e ∷ (b.events ++ es)) end (b.turns ++ us)) (sym left) (injects a.leads b.round rest))));
+      }
+
+-- one packet fewer waits
+pub one_fewer : (old mid new : Play) → HasInjected old mid true → HasRounded mid new → (t : Tables) (hops : Bool) (ks : List (List ℕ)) → PlaysRounds t hops ks old → length (left_in old) ≡ suc (length (left_in new))
+one_fewer old mid new injected rounded t hops ks p =
+    let a = injected t hops p.state p.turns p.plays in
+    let b = rounded t hops a.state p.turns a.plays in
+    ap length a.next ∙ ap (λ l. suc (length l)) (sym b.left)
+
+-- a round is made with no packet left
+module _ (old new : Play) (held : IsHeld old.net.net) (ordered : IsOrderedHeld old.net) (rounded : HasRounded old new) (none : left_in old ≡ []) (some : 0 < length old.net.net.flying) where
+  first_copy : (s : Ordered) → ShowsInTurn old.net s → (c : Copy) × (slice_get s.net.flying 0 ≡ Some c)
+  first_copy s shows = let f = found old.net.net.flying 0 some in let x = copy_shown old.net.net s.net 0 f.0 shows.net f.1 in (x.0, x.1)
+
+  pub rounds_on : (t : Tables) (hops : Bool) (ks : List (List ℕ)) → PlaysRounds t hops ks old → PlaysRounds t hops ks new
+  rounds_on t hops ks p =
+      let b = rounded t hops p.state p.turns p.plays in
+      let c = first_copy p.state p.plays.shows in
+      let flies : p.state.net.flying ≢ [] = λ e. none-some c.0 (ap (λ l. slice_get l 0) (sym e) ∙ c.1) in
+      let left : left_in new ≡ [] = b.left ∙ none in
+      record {
+        events = p.events ++ b.events;
+        state = b.state;
+        turns = p.turns ++ b.turns;
+        plays = b.plays;
+        pace = round_pace t (two_of old old held ordered t p.plays.tables) b.round (placed_of old old held ordered t hops p.state p.turns p.plays) p.pace;
+        injected = ap (λ m. m + length (left_in new)) (round_injected b.round) ∙ ap (λ l. p.state.net.injected + length l) b.left ∙ p.injected;
+        on = λ es end us rest.
+            subst (λ l. GoesByRounds t (entering ks) (begin t zero_arrays) l end ((p.turns ++ b.turns) ++ us)) (sym (append_assoc p.events b.events es))
+            (subst (GoesByRounds t (entering ks) (begin t zero_arrays) (p.events ++ (b.events ++ es)) end) (sym (append_assoc p.turns b.turns us))
+            (p.on (b.events ++ es) end (b.turns ++ us) (subst (λ l. GoesByRounds t (entering l) p.state (b.events ++ es) end (b.turns ++ us)) (sym none)
+            (goes_on flies b.round (subst (λ l. GoesByRounds t (entering l) b.state es end us) left rest)))));
+      }
+
+  -- and fewer steps are left
+  pub rounds_fall : IsPaced old → toil new.net.net.tables new.net.net.flying < toil old.net.net.tables old.net.net.flying
+  rounds_fall paced =
+      let t = old.net.net.tables in
+      let p = paced.1 in
+      let b = rounded t old.hops p.state p.turns p.plays in
+      let c = first_copy p.state p.plays.shows in
+      let less = round_falls t (two_held old.net held ordered) b.round (placed_of old old held ordered t old.hops p.state p.turns p.plays) p.pace c.0 c.1 in
+      let e : toil t old.net.net.flying ≡ toil_of t p.state.net.flying = ap (toil t) (sym p.plays.shows.net.flying) ∙ toil_shown t p.state.net.flying in
+      let f : toil new.net.net.tables new.net.net.flying ≡ toil_of t b.state.net.flying = ap (λ t'. toil t' new.net.net.flying) b.plays.tables ∙ ap (toil t) (sym b.plays.shows.net.flying) ∙ toil_shown t b.state.net.flying in
+      omega (arith, less, e, f)
+
+-- ---- the report
+pub round_report : (t : Tables) (hops : Bool) (ks : List (List ℕ)) (v : Play) (text : List ℕ) (p : PlaysRounds t hops ks v) → left_in v ≡ [] → v.net.net.flying ≡ [] → IsRunReport t hops p.state.net.injected p.state.net (happenings p.turns) text
+    → IsRoundReport t hops ks text
+round_report t hops ks v text p left rested report = record {
+  events = p.events;
+  end = p.state;
+  turns = p.turns;
+  run =
+      (let run = p.on [] p.state [] (subst (λ l. GoesByRounds t (entering l) p.state [] p.state []) (sym left) (rests ended)) in
+      subst (λ l. GoesByRounds t (entering ks) (begin t zero_arrays) l p.state p.turns) (append-nil p.events)
+      (subst (GoesByRounds t (entering ks) (begin t zero_arrays) (p.events ++ []) p.state) (append-nil p.turns) run));
+  report = subst (λ n. IsRunReport t hops n p.state.net (happenings p.turns) text) count report;
+}
+  where
+    ended : p.state.net.flying ≡ []
+    ended = rests-shown v.net.net p.state.net p.plays.shows.net rested
+
+    count : p.state.net.injected ≡ length ks
+    count = (let a = p.injected in let b : length (left_in v) ≡ 0 = ap length left in omega (arith, a, b))

@@ -1,0 +1,33 @@
+use Rattle.std.proofs.Common.{◌≡◌, ℕ, get_or, length, refl, sym, ap, subst, ◌∙◌, arith}
+use Rattle.snap_net.specs.Shown.{Held}
+use Rattle.snap_order.specs.Dealing.{AreDealt, AreExchanged, ArePlaces}
+use Rattle.snap_order.proofs.lent.lend.Goals as goal
+
+pub exchange-requires-clause-jobs : goal.exchange-requires-clause-jobs
+exchange-requires-clause-jobs c = c.in_ok-jobs.ensures.count
+
+pub exchange-requires-clause-places : goal.exchange-requires-clause-places
+exchange-requires-clause-places c =
+    let end = c.len.ensures in
+    let many : c.len.result ≡ length c.in_ok-taken.taken.parts.stores.items = omega (arith, end) in
+    λ j d low. subst (λ (n : ℕ). ArePlaces c.args.workers j n (length (get_or c.in_ok-jobs.jobs.items j d).stores.items)) many (c.in_ok-jobs.ensures.each j d low).places
+
+pub returns : goal.returns
+returns c =
+    let p = c.in_ok-taken.taken in
+    let e = c.in_ok-taken.ensures.net in
+    let k = c.in_ok-taken.ensures.counts in
+    let jobs = c.in_ok-jobs.jobs.items in
+    let w = c.args.workers in
+    let end = c.len.ensures in
+    let many : c.len.result ≡ length p.parts.stores.items = omega (arith, end) in
+    record {
+      held = c.flying-known.ensures.is_held;
+      ordered = c.flying-known.ensures.is_ordered;
+      tables = ap (λ (h : Held). h.tables) (sym e);
+      injected = ap (λ (h : Held). h.injected) (sym e);
+      counts = sym k;
+      jobs = jobs;
+      dealt = subst (λ (h : Held). AreDealt w (length h.stores) h.flying jobs) e (subst (λ (n : ℕ). AreDealt w n p.parts.flying.items jobs) many c.in_ok-jobs.ensures);
+      lent = subst (λ (h : Held). AreExchanged w (length h.stores) h.stores jobs c.exchange.new.stores.items c.exchange.new.jobs.items) e c.exchange.ensures.exchanged;
+    }

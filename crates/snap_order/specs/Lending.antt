@@ -1,0 +1,28 @@
+-- A network whose stores and copies are with its workers.
+use Rattle.std.specs.Prelude.{◌≡◌, ℕ, ◌<◌, false, List, get_or, length}
+use Rattle.std.specs.List.{AllZip}
+use Rattle.snap_core.specs.Cells.{Kept}
+use Rattle.snap_rows.specs.declared.tables.Tables.{Tables}
+use Rattle.snap_net.specs.Shown.{IsHeld}
+use Rattle.snap_order.specs.declared.job.Job.{Job}
+use Rattle.snap_order.specs.Dealing.{AreDealt, AreExchanged}
+use Rattle.snap_order.specs.Jobs.{HasWorked}
+use Rattle.snap_order.specs.Shown.{IsOrderedHeld, OrderedHeld}
+
+-- the jobs have the copies of an ordered network and the stores of its switches, and here are the stores that jobs had
+pub record IsLent (workers : ℕ) (v : OrderedHeld) (t : Tables) (packets : ℕ) (numbers : List ℕ) (left : List Kept) (given : List Job) : Type 0 where
+  pub held : IsHeld v.net
+  pub ordered : IsOrderedHeld v
+  pub tables : v.net.tables ≡ t
+  pub injected : v.net.injected ≡ packets
+  pub counts : v.counts ≡ numbers
+  pub jobs : List Job
+  pub dealt : AreDealt workers (length v.net.stores) v.net.flying jobs
+  pub lent : AreExchanged workers (length v.net.stores) v.net.stores jobs left given
+
+-- and they have done their work
+pub record IsWorked (workers : ℕ) (v : OrderedHeld) (t : Tables) (packets : ℕ) (numbers : List ℕ) (left : List Kept) (given : List Job) : Type 0 where
+  pub before : List Job
+  pub begun : IsLent workers v t packets numbers left before
+  pub worked : AllZip (HasWorked t numbers) before given
+  pub enough : (j : ℕ) (d : Job) → j < length given → (get_or given j d).is_short ≡ false
