@@ -1,5 +1,5 @@
 -- When a text is a number from 1 to 64.
-use Rattle.std.proofs.Common.{arith, ◌≡◌, ◌≢◌, ◌∙◌, ◌≤◌, ◌<◌, ◌+◌, refl, sym, ap, Bool, true, false, cond, ℕ, zero, suc, Option, Some, None, decimal, find, IfSome, subst}
+use Rattle.std.proofs.Common.{arith, ◌≡◌, ◌≢◌, ◌∙◌, ◌≤◌, ◌<◌, ◌+◌, refl, sym, ap, Bool, true, false, cond, ℕ, zero, suc, Option, Some, None, decimal, find}
 use Rattle.std.specs.List.{range_with_len}
 use Rattle.std.specs.Str.{bytes_eq}
 use Rattle.std.proofs.lemmas.Fmt.{decimal_injective}
@@ -24,23 +24,6 @@ module _ (p : ℕ → Bool) where
   find_some a zero n least most at one = absurd (omega arith)
   find_some a (suc k) n least most at one = some_by (p a) a k n _ refl least most one
       (λ more. find_some (a + 1) k n (omega arith) (omega arith) at (λ m below is. one m (omega arith) is)) at
-
-  within_by : (b : Bool) (a k : ℕ) (o : Option ℕ) → IfSome o (λ n. (a + 1 ≤ n) × (n < a + suc k)) → IfSome (cond b (Some a) o) (λ n. (a ≤ n) × (n < a + suc k))
-  within_by true a k o later = (omega arith, omega arith)
-  within_by false a k None later = tt
-  within_by false a k (Some n) later = let l = later.0 in (omega (arith, l), later.1)
-
-  find_within : (a k : ℕ) → IfSome (find p (range_with_len a k)) (λ n. (a ≤ n) × (n < a + k))
-  find_within a zero = tt
-  find_within a (suc k) = within_by (p a) a k _ (let e : a + 1 + k ≡ a + suc k = omega arith in subst (λ m. IfSome (find p (range_with_len (a + 1) k)) (λ n. (a + 1 ≤ n) × (n < m))) e (find_within (a + 1) k))
-
-pub count_of-few : (text : Text) → IfSome (count_of text) (λ n. (1 ≤ n) × (n ≤ 64))
-unfolding count_of
-count_of-few text = below (find (λ m. bytes_eq (decimal m) text) (range_with_len 1 64)) (find_within (λ m. bytes_eq (decimal m) text) 1 64)
-  where
-    below : (o : Option ℕ) → IfSome o (λ n. (1 ≤ n) × (n < 1 + 64)) → IfSome o (λ n. (1 ≤ n) × (n ≤ 64))
-    below None h = tt
-    below (Some n) h = let l = h.1 in (h.0, omega (arith, l))
 
 pub count_of-decimal : (text : Text) (n : ℕ) → 1 ≤ n → n ≤ 64 → text ≡ decimal n → count_of text ≡ Some n
 unfolding count_of

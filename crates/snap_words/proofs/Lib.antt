@@ -3,7 +3,6 @@ pub mod Cases
 pub mod ClapForm
 pub mod ClapTold
 pub mod Counts
-pub mod FewSwitches
 pub mod Rows
 pub mod Shapes
 pub mod Checked

@@ -1,16 +1,19 @@
 -- The commands, and the words that name one.
-use Rattle.std.specs.Prelude.{ℕ, ◌≤◌, ◌||◌, Bool, false, List, [], ◌∷◌, codes, Option, Some, None, if◌then◌else◌, is_some, option_and_then, option_map}
+use Rattle.std.specs.Prelude.{ℕ, ◌||◌, Bool, true, false, List, [], ◌∷◌, codes, Option, Some, None, if◌then◌else◌, is_some, option_and_then, option_map}
 use Rattle.std.specs.List.{list_all}
 use Rattle.std.specs.Str.{bytes_eq, is_utf8}
 use Rattle.snap_words.specs.Counts.{count_of}
 use Rattle.snap_words.specs.Words.{Text, Told, hops_flag, ordered_flag, schedule_option, changes_option, workers_option, told_by}
 
 -- in which order `trace` runs packets: one after the other, by the lines of a file, or one after the other between changes of
--- tables by the lines of a file
+-- tables by the lines of a file; or each rank's packets in their turn, one after the other, by the lines of a file, or by rounds that
+-- so many workers make
 pub data Order : Type 0 where
   plain : Order
   schedule : Text → Order
   changes : Text → Order
+  in_turn : (lines : Option Text) → Order
+  rounds : (workers : ℕ) → Order
 
 -- a command and the files that it names
 pub data Command : Type 0 where
@@ -75,6 +78,8 @@ abbrev pub order_by : (ordered : Bool) → (lines tables workers : Option Text) 
 order_by false None None None = Some plain
 order_by false (Some file) None None = Some (schedule file)
 order_by false None (Some file) None = Some (changes file)
+order_by true lines None None = Some (in_turn lines)
+order_by true None None (Some count) = option_map rounds (count_of count)
 order_by ordered lines tables workers = None
 
 abbrev pub order_of : Told → Option Order
@@ -97,8 +102,3 @@ command_in (first ∷ words) = option_and_then (command_for first) (told_by word
 -- the command that the words of a command line name; each word is UTF-8
 abbrev pub command_of : List Text → Option Command
 command_of words = if list_all is_utf8 words then command_in words else None
-
--- a demonstration has from 1 to 64 switches
-abbrev pub HasFew : Command → Type 0
-HasFew (demo switches) = (1 ≤ switches) × (switches ≤ 64)
-HasFew command = Unit {0}

@@ -4,7 +4,7 @@ use Rattle.std.specs.List.{ends_with, list_all, list_any}
 use Rattle.std.specs.Borrow.{Bor}
 use Rattle.std.specs.declared.vec.Vec.{Vec}
 use Rattle.std.specs.Global.{Global}
-use Rattle.snap_words.specs.Commands.{Command, Order, plain, schedule, changes, check, compile, demo, deps, equal, obs, routes, place, trace}
+use Rattle.snap_words.specs.Commands.{Command, Order, plain, schedule, changes, in_turn, rounds, check, compile, demo, deps, equal, obs, routes, place, trace}
 use Rattle.snap_words.specs.Words.{Flag, Text, Told, Valued, hops_flag, ordered_flag, schedule_option, changes_option, workers_option}
 use Rattle.snap_words.specs.declared.command.Command.{Command as Given}
 use Rattle.snap_words.specs.declared.command.Command.TheVariants as given
@@ -56,6 +56,8 @@ abbrev pub shown_order : GivenOrder → Order
 shown_order given_order.Plain = plain
 shown_order (given_order.Schedule file) = schedule file.now
 shown_order (given_order.Changes file) = changes file.now
+shown_order (given_order.InTurn lines) = in_turn (option_map (λ s. s.now) lines)
+shown_order (given_order.Rounds workers) = rounds workers.value
 
 -- the command that an answer gives
 abbrev pub shown : Given → Command
@@ -67,4 +69,4 @@ shown (given.Routes topology) = routes topology.now
 shown (given.Place program topology demand) = place program.now topology.now demand.now
 shown (given.Compile program topology placement) = compile program.now topology.now placement.now
 shown (given.Trace tables packets hops order) = trace tables.now packets.now hops (shown_order order)
-shown (given.Demo switches) = demo switches
+shown (given.Demo switches) = demo switches.value

@@ -3,7 +3,8 @@
 ghost use Rattle.std.specs.Prelude.{◌≡◌, ◌==◌, ◌-◌, IfErr, IfOk, IsTrue, None, Some, drop, false, length, option_map};
 ghost use Rattle.std.specs.List.{ends_with, list_all};
 ghost use Rattle.std.specs.Str.{is_utf8};
-ghost use Rattle.snap_words.specs.Commands.{check, command_for, command_of, compile, demo_for, deps, equal, has_options, names_alone, obs, order_of, place, plain_command, routes, trace_for, with_one, with_three, with_two};
+ghost use Rattle.snap_words.specs.Commands.{check, command_for, command_of, compile, demo_for, deps, equal, has_options, names_alone, obs, order_of, place, plain_command, rounds, routes, trace_for, with_one, with_three, with_two};
+ghost use Rattle.snap_words.specs.Counts.{count_of};
 ghost use Rattle.snap_words.specs.Said.{are_among, bytes_of, has_values_among, is_among, lent, said, said_among, shown, shown_order};
 
 use crate::command::{Command, Order};
@@ -237,8 +238,22 @@ fn order<'a>(words: &'a [Vec<u8>], told: &Told) -> Option<Order<'a>>
         (false, None, Some(file), None) => Some(Order::Changes {
             file: word(words, file),
         }),
+        (true, None, None, None) => Some(Order::InTurn { schedule: None }),
+        (true, Some(file), None, None) => Some(Order::InTurn {
+            schedule: Some(word(words, file)),
+        }),
+        (true, None, None, Some(count)) => rounds(count),
         _ => None,
     }
+}
+
+/// Rounds that so many workers make.
+fn rounds<'a>(count: &str) -> Option<Order<'a>>
+    ensures { option_map shown_order result ≡ option_map rounds (count_of count.now) }
+{
+    Some(Order::Rounds {
+        workers: count_of(count)?,
+    })
 }
 
 /// The word, or the end of one, that a name was read from: `clap` lends its own texts, and an answer lends the

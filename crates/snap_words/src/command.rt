@@ -1,5 +1,7 @@
 //! The commands, as their words name them.
 
+use crate::count::Count;
+
 /// In which order `trace` runs packets. A file's name is text that is not empty and does not begin with `-`.
 #[derive(Clone, Copy, Debug, PartialEq, Eq)]
 pub enum Order<'a> {
@@ -9,6 +11,10 @@ pub enum Order<'a> {
     Schedule { file: &'a [u8] },
     /// One packet after the other, between changes of tables by the lines of a file (`--changes`).
     Changes { file: &'a [u8] },
+    /// Each rank's packets in their turn (`--ordered`): one packet after the other, or the events of a file (`--schedule`).
+    InTurn { schedule: Option<&'a [u8]> },
+    /// The same by rounds, in which so many workers make the steps (`--ordered` with `--workers`).
+    Rounds { workers: Count },
 }
 
 /// A command and the files that it names. A name is text that is not empty and does not begin with `-`.
@@ -56,8 +62,8 @@ pub enum Command<'a> {
         hops: bool,
         order: Order<'a>,
     },
-    /// The demonstration with so many switches, from 1 to 64.
+    /// The demonstration with so many switches.
     Demo {
-        switches: u16,
+        switches: Count,
     },
 }

@@ -1,21 +1,30 @@
 //! Numbers from 1 to 64 in words.
 
-ghost use Rattle.std.specs.Prelude.{◌≡◌};
+ghost use Rattle.std.specs.Prelude.{◌≡◌, ◌≤◌, option_map};
 ghost use Rattle.snap_words.specs.Counts.{count_of};
 
 use itoa::Buffer;
 
+/// A number from 1 to 64: of switches, or of workers.
+#[derive(Clone, Copy, Debug, PartialEq, Eq)]
+pub struct Count {
+    /// The number.
+    pub value: u16,
+    ghost some: { 1 ≤ value },
+    ghost few: { value ≤ 64 },
+}
+
 /// The number from 1 to 64 that a text is in decimal, without a sign or a leading zero.
-pub(crate) fn count_of(text: &str) -> Option<u16>
-    ensures { result ≡ count_of text.now }
+pub(crate) fn count_of(text: &str) -> Option<Count>
+    ensures { option_map (λ c. c.value) result ≡ count_of text.now }
 {
-    let Ok(count) = text.parse::<u16>() else {
+    let Ok(value) = text.parse::<u16>() else {
         return None;
     };
     let mut buffer = Buffer::new();
-    let printed = buffer.format(count);
-    if count == 0 || count > 64 || printed != text {
+    let printed = buffer.format(value);
+    if value == 0 || value > 64 || printed != text {
         return None;
     }
-    Some(count)
+    Some(Count { value })
 }

@@ -6,6 +6,6 @@
 
 pub mod calls;
 pub mod command;
-mod count;
+pub mod count;
 pub mod fault;
 mod told;
