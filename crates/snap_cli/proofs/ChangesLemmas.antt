@@ -1,5 +1,5 @@
 -- What `trace --changes` did, from what its steps did.
-use Rattle.std.proofs.Common.{◌≡◌, ◌⊎◌, ◌≢◌, ℕ, ◌+◌, ◌<◌, ◌≤◌, Bool, List, [], ◌∷◌, ◌++◌, Option, Some, None, IfSome, Result, Ok, Err, map, length, take, drop, refl, sym, ap, subst, ◌∙◌, inl, inr, arith, append_assoc, append-nil, add-one, get_or}
+use Rattle.std.proofs.Common.{◌≡◌, ◌≢◌, ℕ, ◌+◌, ◌<◌, ◌≤◌, Bool, List, [], ◌∷◌, ◌++◌, Option, Some, None, IfSome, Result, Ok, Err, length, drop, refl, sym, ap, subst, ◌∙◌, inl, inr, append_assoc, append-nil, add-one, get_or}
 use Rattle.std.proofs.Math.Seq.{drop-cons}
 use Rattle.std.proofs.lemmas.Option.{slice_get-get_or}
 use Rattle.std.specs.Borrow.{Bor}
@@ -19,7 +19,7 @@ use Rattle.snap_move.specs.Files.{IsChangedTrace, WritesChanged}
 use Rattle.snap_move.specs.Lines.{AreRising, IsBehind, changes_of}
 use Rattle.snap_words.specs.Commands.{Command, changes, trace}
 use Rattle.snap_cli.specs.declared.refusal.Refusal.{Refusal}
-use Rattle.snap_cli.specs.declared.refusal.Refusal.TheVariants.{Changes, Limit, NoMemory, Packets}
+use Rattle.snap_cli.specs.declared.refusal.Refusal.TheVariants.{Limit, NoMemory, Packets}
 use Rattle.snap_cli.specs.Changes.{ChangedTables, ChangesOf, IsChangeFileOf, IsChangesFile, IsLater, LaterOf, RefusesLater, before, refusal_of_changes, said_changes}
 use Rattle.snap_cli.specs.ChangesSteps.{GivesChanges, LoadsChanges, LoadsLater, LoadsLaters, MeetsChanges, MeetsLater, ReadsChanges, afters, afters_of}
 use Rattle.snap_cli.specs.Deserved.{Ends, IsText, MayPrecedeRead, Meets}
@@ -147,38 +147,7 @@ told-changes None now t later hops packets lines old new e same h m = tt
 told-changes (Some files) now t later hops packets lines old new e same h m =
     inr (later.items, h, subst (λ o. IfSome o (λ files. MeetsLater t later.items hops packets (file_of files packets.now) e old new)) same m)
 
--- or not
-pub told-unchanged : (told : Option Files) (t : Tables) (hops : Bool) (packets : Bor (List ℕ)) (lines : List ℕ) (out : Option (List ℕ)) (e : Refusal)
-    → IfSome told (λ files. LoadsChanges files t lines (Err e)) → IfSome told (λ files. MeetsChanges files t hops packets lines (Err e) out out)
-told-unchanged None t hops packets lines out e h = tt
-told-unchanged (Some files) t hops packets lines out e h = inl (e, h, refl, refl)
-
--- the changes were read, and these are their tables
-pub told-loads : (told now : Option Files) (first : Tables) (name : List ℕ) (cs : Vec Change Global) (r : Result (Vec Later Global) Refusal) → now ≡ told
-    → IfSome told (λ files. GivesChanges name (file_of files name) (Ok cs)) → IfSome now (λ files. LoadsLaters files first cs.items r) → IfSome told (λ files. LoadsChanges files first name r)
-told-loads None now first name cs r same h m = tt
-told-loads (Some files) now first name cs r same h m = by r (subst (λ o. IfSome o (λ files. LoadsLaters files first cs.items r)) same m)
-  where
-    by : (r : Result (Vec Later Global) Refusal) → LoadsLaters files first cs.items r → LoadsChanges files first name r
-    by (Ok later) m = inr (cs.items, h, m)
-    by (Err e) m = by-map (IsChangeFileOf cs.items) (IsChangesFile files name) (λ x. LaterOf files first cs.items (Err x)) (λ x. ChangedTables files first name (Err x)) (λ failed is. inr (cs.items, h, is)) (λ x no. inr (cs.items, h, no)) e m
-
-pub told-unloaded_lines : (told : Option Files) (first : Tables) (name : List ℕ) (e : Refusal) → IfSome told (λ files. GivesChanges name (file_of files name) (Err e)) → IfSome told (λ files. LoadsChanges files first name (Err e))
-told-unloaded_lines None first name e h = tt
-told-unloaded_lines (Some files) first name e h =
-    by-map (λ failed. failed ≡ name) (IsChangesFile files name) (λ x. ChangesOf (file_of files name) (Err x)) (λ x. ChangedTables files first name (Err x)) (λ failed is. inl is) (λ x no. inl (x, no, refl)) e h
-
 -- ---- one change
--- its tables can't be read, or have another shape, or come into force
-pub told-later_unread : (told : Option Files) (first : Tables) (c : Change) (e : Refusal) → IfSome told (λ files. LoadsTables c.name (file_of files c.name) (Err e)) → IfSome told (λ files. LoadsLater files first c (Err e))
-told-later_unread None first c e h = tt
-told-later_unread (Some files) first c e h =
-    by-map (λ failed. failed ≡ c.name) (λ failed. failed ≡ c.name) (λ x. TablesOf (file_of files c.name) (Err x)) (RefusesLater files first c) (λ failed is. is) (λ x no. inl no) e h
-
-pub told-other_shape : (told : Option Files) (first : Tables) (c : Change) (t : Tables) → IfSome told (λ files. LoadsTables c.name (file_of files c.name) (Ok t)) → ¬ HaveOneShape t first → IfSome told (λ files. LoadsLater files first c (Err (Changes c.line)))
-told-other_shape None first c t h other = tt
-told-other_shape (Some files) first c t h other = inr (t, h, other, refl)
-
 pub told-one_later : (told : Option Files) (first : Tables) (c : Change) (t : Tables) → IfSome told (λ files. LoadsTables c.name (file_of files c.name) (Ok t)) → HaveOneShape t first → IfSome told (λ files. LoadsLater files first c (Ok (record { after = c.after; tables = t })))
 told-one_later None first c t h same = tt
 told-one_later (Some files) first c t h same = record { after = refl; spelled = h; shape = same }

@@ -4,7 +4,7 @@ use Rattle.snap_core.specs.declared.program.Program.{Program}
 use Rattle.snap_core.specs.declared.place.Place.{Place}
 use Rattle.snap_core.specs.Arrays.{Arrays}
 use Rattle.snap_core.specs.Fields.{count}
-use Rattle.snap_ctx.specs.Meets.{IsPacket}
+use Rattle.snap_core.specs.Inputs.{IsPacket}
 use Rattle.snap_build.specs.Whole.{IsRaceOf}
 use Rattle.snap_io.specs.Files.{Files, file_of}
 use Rattle.snap_names.specs.Declarations.{core_program}

@@ -27,7 +27,7 @@ use Rattle.snap_cli.proofs.RoutesOnce.{one_topology, refused_once, routed_well, 
 -- where one big switch is always defined, no pair is a race
 never_races : (p : Program) → IsDefined p → (m : Arrays) (k : List ℕ) → IsRaceOf p m k → ⊥
 never_races p defined m k race =
-    let packet : IsPacketOf p k = record { long = race.of.packet.0; numbers = race.of.packet.1 } in
+    let packet : IsPacketOf p k = race.of.packet in
     let end = defined m (k ∷ []) (record { numbers = race.of.store; only = race.of.only }) (All-cons (IsPacketOf p) k [] packet (All-nil (IsPacketOf p))) in
     let some = rw race.none at end.1 in
     absurd (cc)

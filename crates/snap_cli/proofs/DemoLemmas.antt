@@ -1,8 +1,7 @@
 -- What `demo` did, from what its steps did.
-use Rattle.std.proofs.Common.{◌≡◌, ℕ, ◌≤◌, List, [], Option, Some, None, IfSome, Ok, Err, refl, subst, inr}
+use Rattle.std.proofs.Common.{ℕ, List, [], Option, Ok, Err, refl, inr}
 use Rattle.snap_io.specs.Files.{Files}
-use Rattle.snap_words.specs.Commands.{HasFew, command_of, demo}
-use Rattle.snap_words.proofs.FewSwitches.{command_of-few}
+use Rattle.snap_words.specs.Commands.{demo}
 use Rattle.snap_cli.specs.declared.refusal.Refusal.TheVariants.{Write, NoMemory}
 use Rattle.snap_cli.specs.Demo.{MeetsSummary}
 use Rattle.snap_cli.specs.Deserved.{Meets}
@@ -13,7 +12,3 @@ meets-summary files switches old new (Ok u) m = (refl, (m.0, m.1, m.2))
 meets-summary files switches old new (Err Write) m = inr (m.0, m.1, m.2)
 meets-summary files switches old new (Err NoMemory) m = ([], refl, (0, m))
 meets-summary files switches old new (Err e) m = absurd m
-
--- the words name from 1 to 64 switches
-pub few-switches : (words : List (List ℕ)) (switches : ℕ) → command_of words ≡ Some (demo switches) → (1 ≤ switches) × (switches ≤ 64)
-few-switches words switches is = subst (λ o. IfSome o HasFew) is (command_of-few words)

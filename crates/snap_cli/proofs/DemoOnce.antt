@@ -1,5 +1,5 @@
 -- `demo` deserves one text.
-use Rattle.std.proofs.Common.{◌≡◌, ℕ, List, Some, length, sym, subst, ◌∙◌}
+use Rattle.std.proofs.Common.{◌≡◌, ℕ, List, length, sym, subst, ◌∙◌}
 use Rattle.std.proofs.lemmas.Option.{same_Some}
 use Rattle.snap_core.specs.Arrays.{zero_arrays}
 use Rattle.snap_core.specs.Listing.{HasOneListing, IsListing}

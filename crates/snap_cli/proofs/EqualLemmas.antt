@@ -6,7 +6,7 @@ use Rattle.snap_words.specs.Commands.{equal}
 use Rattle.snap_cli.specs.declared.refusal.Refusal.{Refusal}
 use Rattle.snap_cli.specs.declared.refusal.Refusal.TheVariants.{Write, NoMemory, Race, Declarations, Differ}
 use Rattle.snap_cli.specs.Deserved.{Meets}
-use Rattle.snap_cli.specs.Equal.{EndsCompared, MeetsEqual}
+use Rattle.snap_cli.specs.Equal.{MeetsEqual}
 use Rattle.snap_cli.specs.ProgramOf.{ProgramOf}
 use Rattle.snap_cli.specs.Refusals.{Ending}
 use Rattle.snap_cli.specs.Steps.{GivesProgram}

@@ -5,13 +5,12 @@ use Rattle.snap_core.specs.declared.place.Place.{Place}
 use Rattle.snap_core.specs.Arrays.{Arrays}
 use Rattle.snap_core.specs.Fields.{count}
 use Rattle.snap_core.specs.Meaning.{eval}
-use Rattle.snap_ctx.specs.Meets.{IsPacket, IsStore}
+use Rattle.snap_core.specs.Inputs.{IsPacket}
 use Rattle.snap_equal.specs.Same.{MeanSame, SameOutcome, TellApart}
 use Rattle.snap_io.specs.Files.{Files, file_of}
 use Rattle.snap_names.specs.Declarations.{core_program}
 use Rattle.snap_cli.specs.declared.refusal.Refusal.{Refusal}
 use Rattle.snap_cli.specs.declared.refusal.Refusal.TheVariants.{Declarations, Differ, Race}
-use Rattle.snap_cli.specs.Check.{TellsRace}
 use Rattle.snap_cli.specs.Equal.{AreComparable, AreDeclaredAlike, Differs, EndsCompared, EndsEqual, IsComparedText, IsEqualText, IsFirstRefusal, TellsOneRace}
 use Rattle.snap_cli.specs.Laws.{IsSameEnding, SpellsOneProgram}
 use Rattle.snap_cli.specs.ProgramOf.{ProgramOf}

@@ -1,18 +1,18 @@
 -- Two programs from the comparison of their diagrams.
-use Rattle.std.proofs.Common.{◌≡◌, ◌<◌, ◌+◌, ℕ, List, [], ◌∷◌, ◌++◌, length, take, get_or, Err, refl, sym, ap, ◌∙◌, subst, inl, inr}
+use Rattle.std.proofs.Common.{◌≡◌, ◌<◌, ◌+◌, ℕ, List, [], ◌∷◌, ◌++◌, length, take, get_or, Err, sym, ap, ◌∙◌, subst, inl, inr}
 use Rattle.std.proofs.lemmas.List.{take_more}
 use Rattle.snap_core.specs.declared.program.Program.{Program}
 use Rattle.snap_core.specs.Arrays.{Arrays}
 use Rattle.snap_core.specs.Fields.{count}
-use Rattle.snap_core.specs.Meaning.{Meaning, eval}
-use Rattle.snap_ctx.specs.Meets.{IsPacket, IsStore}
+use Rattle.snap_core.specs.Meaning.{eval}
+use Rattle.snap_core.specs.Inputs.{IsStore, IsPacket}
 use Rattle.snap_dep.specs.Ranks.{arity_of}
 use Rattle.snap_arena.specs.declared.node.Node.{Node}
 use Rattle.snap_fdd.specs.declared.leaf.Leaf.{Leaf}
 use Rattle.snap_chain.specs.Late.{outcome}
 use Rattle.snap_equal.specs.Same.{CanBeCompared, DoApart, DoSame, MeanSame, SameOutcome, TellApart}
 use Rattle.snap_cli.specs.declared.refusal.Refusal.{Refusal}
-use Rattle.snap_cli.specs.declared.refusal.Refusal.TheVariants.{Differ, NoMemory, Race}
+use Rattle.snap_cli.specs.declared.refusal.Refusal.TheVariants.{Differ, Race}
 use Rattle.snap_cli.specs.Check.{HasWhole, IsRaceTold, NeverRaces}
 use Rattle.snap_cli.specs.Equal.{AreComparable, AreDeclaredAlike, Compares, IsDifferenceTold}
 
@@ -57,8 +57,8 @@ module _ (p q : Program) (ns os : List (Node Leaf)) (d e : ℕ) (alike : AreDecl
 
   pub tell_apart : (comps vars : ℕ) (m : Arrays) (k : List ℕ) → comps ≡ count p.fields → vars ≡ length p.vars → DoApart comps vars ns d os e m k → TellApart p q m k
   tell_apart comps vars m k is are h =
-      let packet : IsPacket (count p.fields) k = subst (λ n. IsPacket n k) is h.packet in
+      let packet : IsPacket (count p.fields) k = subst (λ n. IsPacket n k) is h.of.packet in
       record {
-        of = record { packet = packet; store = h.store; only = λ at l. h.only at (rw are l) };
-        differ = λ same. h.differ (back m k h.store packet same);
+        of = record { store = h.of.store; only = λ at l. h.of.only at (rw are l); packet = packet };
+        differ = λ same. h.differ (back m k h.of.store packet same);
       }

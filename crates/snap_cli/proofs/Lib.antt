@@ -10,6 +10,9 @@ pub mod DueStatus
 pub mod EqualLemmas
 pub mod EqualOnce
 pub mod EqualPrograms
+pub mod InTurnLemmas
+pub mod InTurnOnce
+pub mod InTurnTraced
 pub mod NetworkLemmas
 pub mod ObsLemmas
 pub mod ObsOnce
@@ -26,12 +29,16 @@ pub mod ProgramOnce
 pub mod Refused
 pub mod RefusedBy
 pub mod Rising
+pub mod RoundsLemmas
+pub mod RoundsOnce
+pub mod RoundsTraced
 pub mod RoutesLemmas
 pub mod RoutesOnce
 pub mod Rows
 pub mod SameCore
 pub mod SameFaithful
 pub mod SameUses
+pub mod ScheduleLemmas
 pub mod ScheduleOnce
 pub mod ScheduleTraced
 pub mod SpelledUnder

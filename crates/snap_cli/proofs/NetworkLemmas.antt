@@ -2,29 +2,18 @@
 use Rattle.std.proofs.Common.{◌≡◌, ℕ, List, Option, Some, None, IfSome, Ok, Err, refl, sym, subst}
 use Rattle.snap_io.specs.Files.{Files, file_of}
 use Rattle.snap_topo.specs.declared.topology.Topology.{Topology}
-use Rattle.snap_route.specs.Tables.{AreRoutes, IsUnreachable, Table}
+use Rattle.snap_route.specs.Tables.{IsUnreachable}
 use Rattle.snap_route.specs.declared.table.RouteFault.{RouteFault}
 use Rattle.snap_route.specs.declared.table.RouteFault.TheVariants as route
 use Rattle.snap_route.specs.Faults.{IsCause}
-use Rattle.snap_cli.specs.declared.network.Network.{Network}
 use Rattle.snap_cli.specs.declared.refusal.Refusal.{Refusal}
 use Rattle.snap_cli.specs.NetworkSteps.{GivesNetwork}
 use Rattle.snap_cli.specs.RoutesSteps.{GivesTopology, refusal_of_routes}
 use Rattle.snap_cli.specs.TopologyOf.{TopologyOf}
-use Rattle.snap_cli.proofs.RefusedBy.{by-topology}
 
 network-fault : (name file : List ℕ) (t : Topology) (fault : RouteFault) → TopologyOf file (Ok t) → IsCause (IsUnreachable t) fault → GivesNetwork name file (Err (refusal_of_routes t.switches fault))
 network-fault name file t (route.Unreachable a b) read h = (t, read, h, refl)
 network-fault name file t route.NoMemory read h = tt
-
-pub told-network : (told : Option Files) (name : List ℕ) (t : Topology) (table : Table) → IfSome told (λ files. GivesTopology name (file_of files name) (Ok t)) → AreRoutes t table
-    → IfSome told (λ files. GivesNetwork name (file_of files name) (Ok (record { topology = t; routes = table })))
-told-network None name t table h are = tt
-told-network (Some files) name t table h are = (h, are)
-
-pub told-no-topology : (told : Option Files) (name : List ℕ) (e : Refusal) → IfSome told (λ files. GivesTopology name (file_of files name) (Err e)) → IfSome told (λ files. GivesNetwork name (file_of files name) (Err e))
-told-no-topology None name e h = tt
-told-no-topology (Some files) name e h = by-topology name (file_of files name) e h
 
 pub told-no-routes : (told : Option Files) (name : List ℕ) (t : Topology) (fault : RouteFault) (e : Refusal) → e ≡ refusal_of_routes t.switches fault → IfSome told (λ files. GivesTopology name (file_of files name) (Ok t))
     → IsCause (IsUnreachable t) fault → IfSome told (λ files. GivesNetwork name (file_of files name) (Err e))

@@ -1,55 +1,29 @@
 -- What `place` did, from what its steps did.
-use Rattle.std.proofs.Common.{◌≡◌, ◌≢◌, ◌⊎◌, ◌<◌, ◌≤◌, ℕ, List, [], Option, Some, None, IfSome, Result, Ok, Err, length, refl, sym, subst, inl, inr}
+use Rattle.std.proofs.Common.{◌≡◌, ◌⊎◌, ◌≤◌, ℕ, List, [], Option, Some, None, IfSome, Result, Ok, Err, length, refl, subst, inl, inr}
 use Rattle.std.proofs.KnownBytes.{Appends-nil}
 use Rattle.std.specs.Prelude.{Vec}
 use Rattle.std.specs.Io.KnownBytes.{Appends}
 use Rattle.std.specs.declared.alloc.Global.{Global}
 use Rattle.snap_core.specs.declared.program.Program.{Program}
-use Rattle.snap_dep.specs.Ranks.{Grouping, IsGrouping}
 use Rattle.snap_io.specs.Files.{Files, file_of}
 use Rattle.snap_io.specs.Sinks.{AppendsPart}
 use Rattle.snap_topo.specs.declared.topology.Topology.{Topology}
 use Rattle.snap_route.specs.Tables.{Table}
-use Rattle.snap_seek.specs.declared.demand.DemandFault.{DemandFault}
 use Rattle.snap_seek.specs.declared.demand.DemandFault.TheVariants as seek
-use Rattle.snap_seek.specs.Answer.{IsAnswer}
 use Rattle.snap_words.specs.Commands.{place}
 use Rattle.snap_cli.specs.declared.network.Network.{Network}
 use Rattle.snap_cli.specs.declared.refusal.Refusal.{Refusal}
 use Rattle.snap_cli.specs.declared.refusal.Refusal.TheVariants.{Read, ReadChange, Write, NoMemory}
 use Rattle.snap_cli.specs.Deserved.{Meets}
 use Rattle.snap_cli.specs.NetworkSteps.{GivesNetwork}
-use Rattle.snap_cli.specs.Place.{HasNoDemand, HasNoPlacement, HasNoPlacementOn, IsOneOf, SpellsNoDemand, refusal_of_demand}
+use Rattle.snap_cli.specs.Place.{HasNoDemand, HasNoPlacement, HasNoPlacementOn, IsOneOf, SpellsNoDemand}
 use Rattle.snap_cli.specs.PlaceSteps.{GivesPlacement, IsPlacement, Places, PlacesFor, PlacesOn}
 use Rattle.snap_cli.specs.ProgramOf.{ProgramOf}
-use Rattle.snap_cli.specs.Routes.{HasNoRoutes}
 use Rattle.snap_cli.specs.Steps.{GivesProgram}
-use Rattle.snap_cli.specs.Texts.{GivesText, IsTooLong}
+use Rattle.snap_cli.specs.Texts.{GivesText}
 use Rattle.snap_cli.proofs.RefusedBy.{by-map, by-program}
 
--- ---- a demand
-
-no-demand : (p : Program) (t : Topology) (g : Grouping) (text : List ℕ) (fault : DemandFault) → IsGrouping p.body (length p.vars) g → fault ≢ seek.NoMemory → (fault ≢ seek.NoMemory → IsAnswer p g t text (Err fault))
-    → SpellsNoDemand p t text (refusal_of_demand p.vars fault)
-no-demand p t g text fault groups known h = record { grouping = g; groups = groups; fault = fault; known = known; answer = h known; is = refl }
-
-places-refused : (p : Program) (t : Topology) (table : Table) (g : Grouping) (text : List ℕ) (fault : DemandFault) → IsGrouping p.body (length p.vars) g → (fault ≢ seek.NoMemory → IsAnswer p g t text (Err fault))
-    → Places p t table text (Err (refusal_of_demand p.vars fault))
-places-refused p t table g text seek.NotToml groups h = no-demand p t g text seek.NotToml groups (λ e. cc) h
-places-refused p t table g text (seek.Shape rule) groups h = no-demand p t g text (seek.Shape rule) groups (λ e. cc) h
-places-refused p t table g text (seek.Limit which count) groups h = no-demand p t g text (seek.Limit which count) groups (λ e. cc) h
-places-refused p t table g text (seek.NoPort port) groups h = no-demand p t g text (seek.NoPort port) groups (λ e. cc) h
-places-refused p t table g text (seek.NoVariable name) groups h = no-demand p t g text (seek.NoVariable name) groups (λ e. cc) h
-places-refused p t table g text (seek.NoSwitch name) groups h = no-demand p t g text (seek.NoSwitch name) groups (λ e. cc) h
-places-refused p t table g text (seek.Nowhere array) groups h = no-demand p t g text (seek.Nowhere array) groups (λ e. cc) h
-places-refused p t table g text seek.NoMemory groups h = tt
-
-pub places-told : (p : Program) (t : Topology) (table : Table) (g : Grouping) (text : List ℕ) (fault : DemandFault) (e : Refusal) → IsGrouping p.body (length p.vars) g → (fault ≢ seek.NoMemory → IsAnswer p g t text (Err fault))
-    → e ≡ refusal_of_demand p.vars fault → Places p t table text (Err e)
-places-told p t table g text fault e groups h is = subst (λ x. Places p t table text (Err x)) (sym is) (places-refused p t table g text fault groups h)
-
 -- ---- from step to step
-
 for-placed : (p : Program) (t : Topology) (table : Table) (name file text : List ℕ) (r : Result (Vec ℕ Global) Refusal) → text ≡ file → length file ≤ 1048576 → Places p t table text r → PlacesFor p t table name file r
 for-placed p t table name file text (Ok made) same short h =
     let is = subst (λ x. IsPlacement p t table x made.items) same h in
@@ -63,13 +37,6 @@ told-for None p t table name text seen r h same places = tt
 told-for (Some files) p t table name text seen r h same places =
     for-placed p t table name (file_of files name) text.items r h.0 h.1 (subst (λ x. Places p t table x r) same places)
 
-pub told-unread : (told : Option Files) (p : Program) (t : Topology) (table : Table) (name : List ℕ) (e : Refusal) → IfSome told (λ files. GivesText 1048576 name (file_of files name) (Err e))
-    → IfSome told (λ files. PlacesFor p t table name (file_of files name) (Err e))
-told-unread None p t table name e h = tt
-told-unread (Some files) p t table name e h =
-    let file = file_of files name in
-    by-map (λ failed. failed ≡ name) (λ failed. failed ≡ name) (IsTooLong 1048576 file) (HasNoDemand p t file) (λ failed is. is) (λ x long. inl long) e h
-
 on-placed : (files : Files) (p : Program) (topology demand : List ℕ) (n : Network) (r : Result (Vec ℕ Global) Refusal) → GivesNetwork topology (file_of files topology) (Ok n) → PlacesFor p n.topology n.routes demand (file_of files demand) r
     → PlacesOn files p topology demand r
 on-placed files p topology demand n (Ok made) h m = (n.topology, n.routes, h.0, h.1, m)
@@ -82,11 +49,6 @@ pub told-on : (told now : Option Files) (p : Program) (topology demand : List �
 told-on None now p topology demand n r same h m = tt
 told-on (Some files) now p topology demand n r same h m =
     on-placed files p topology demand n r h (subst (λ o. IfSome o (λ files. PlacesFor p n.topology n.routes demand (file_of files demand) r)) same m)
-
-pub told-no-network : (told : Option Files) (p : Program) (topology demand : List ℕ) (e : Refusal) → IfSome told (λ files. GivesNetwork topology (file_of files topology) (Err e)) → IfSome told (λ files. PlacesOn files p topology demand (Err e))
-told-no-network None p topology demand e h = tt
-told-no-network (Some files) p topology demand e h =
-    by-map (λ failed. failed ≡ topology) (λ failed. (failed ≡ topology) ⊎ (failed ≡ demand)) (HasNoRoutes (file_of files topology)) (HasNoPlacementOn files p topology demand) (λ failed is. inl is) (λ x no. inl no) e h
 
 gives-placed : (files : Files) (program topology demand : List ℕ) (p : Program) (r : Result (Vec ℕ Global) Refusal) → ProgramOf (file_of files program) (Ok p) → PlacesOn files p topology demand r → GivesPlacement files program topology demand r
 gives-placed files program topology demand p (Ok made) h m = (p, h, m)
@@ -105,7 +67,6 @@ told-no-program (Some files) program topology demand e h =
     by-map (λ failed. failed ≡ program) (IsOneOf program topology demand) (λ x. ProgramOf (file_of files program) (Err x)) (HasNoPlacement files program topology demand) (λ failed is. inl is) (λ x no. inl no) e (by-program program (file_of files program) e h)
 
 -- ---- the command
-
 module _ (files : Files) (program topology demand : List ℕ) where
   meets-refused : (out : Option (List ℕ)) (e : Refusal) → GivesPlacement files program topology demand (Err e) → Meets files (place program topology demand) (Err e) out out
   meets-refused out (Read name) h = ([], (h, refl), (0, Appends-nil out))

@@ -1,14 +1,12 @@
 -- Refusals and what explains them.
-use Rattle.std.proofs.Common.{◌≡◌, ℕ, List, [], Option, Err, inl, inr}
+use Rattle.std.proofs.Common.{◌≡◌, ℕ, List, [], Option, Err, inl}
 use Rattle.std.proofs.KnownBytes.{Appends-nil}
 use Rattle.snap_io.specs.Files.{Files}
 use Rattle.snap_words.specs.Commands.{Command}
 use Rattle.snap_cli.specs.declared.refusal.Refusal.{Refusal}
-use Rattle.snap_cli.specs.declared.refusal.Refusal.TheVariants.{Read, ReadChange, Write, Unreachable, NoMemory}
+use Rattle.snap_cli.specs.declared.refusal.Refusal.TheVariants.{Read, ReadChange, Write, NoMemory}
 use Rattle.snap_cli.specs.Deserved.{Ends, IsText, MayPrecede, MayPrecedeRead, Meets}
 use Rattle.snap_cli.specs.ProgramOf.{ProgramOf}
-use Rattle.snap_cli.specs.Routes.{HasNoRoutes}
-use Rattle.snap_cli.specs.RoutesSteps.{GivesTopology}
 use Rattle.snap_cli.specs.Steps.{GivesProgram}
 use Rattle.snap_cli.specs.Texts.{RefusesBy}
 
@@ -24,14 +22,6 @@ by-program name file (Read failed) h = h
 by-program name file NoMemory h = tt
 by-program name file (ReadChange failed) h = h
 by-program name file e h = h
-
-pub by-topology : (name file : List ℕ) (e : Refusal) → GivesTopology name file (Err e) → RefusesBy (λ failed. failed ≡ name) (HasNoRoutes file) e
-by-topology name file (Read failed) h = h
-by-topology name file NoMemory h = tt
-by-topology name file (ReadChange failed) h = h
-by-topology name file (Unreachable switches a b) (inl h) = absurd (let e = h.1 in cc)
-by-topology name file (Unreachable switches a b) (inr h) = absurd h.1
-by-topology name file e h = h
 
 -- what a command did that was refused before anything went out
 pub meets-by : (files : Files) (command : Command) (out : Option (List ℕ)) (e : Refusal) → MayPrecede files command []

@@ -6,45 +6,67 @@ use Rattle.snap_trace.specs.declared.fault.TraceFault.{TraceFault}
 use Rattle.snap_trace.specs.Spelled.{ended, refused}
 use Rattle.snap_runs.specs.Laws.{RefusedLinesAreOne, ReportedOrRefused, ScheduleReportsAreOne}
 use Rattle.snap_runs.specs.Plain.{spelled_for}
-use Rattle.snap_runs.specs.Schedules.{HasScheduleReport, IsReadWhole, lines_of}
+use Rattle.snap_runs.specs.Schedules.{AreBothRead, HasScheduleReport, IsReadWhole, RefusesScheduleLine, lines_of}
 use Rattle.snap_cli.specs.declared.refusal.Refusal.TheVariants.{Schedule}
 use Rattle.snap_cli.specs.Obs.{IsRunEnding}
 use Rattle.snap_cli.specs.Refusals.{Ending}
-use Rattle.snap_cli.specs.Schedule.{SchedulesTo, StopsAtLength, StopsAtLine, StopsAtPackets}
+use Rattle.snap_cli.specs.Schedule.{EndsBySchedule, SchedulesTo, StopsAtLength, StopsAtLine, StopsAtPackets}
 use Rattle.snap_cli.proofs.ObsOnce.{run_ends_once}
 
-module _ (t : Tables) (form : IsInForm t) (hops : Bool) (file text : List ℕ) where
-  whole_or_not : (fault : TraceFault) → (spelled_for t file).stop ≡ refused fault → IsReadWhole t file → ⊥
+-- the files have one report, or one line that is refused, and not both
+pub record IsOne (t : Tables) (file text : List ℕ) (Reports : List ℕ → Type 0) (Refuses : ℕ → Type 0) : Type 0 where
+  pub whole : (report : List ℕ) → Reports report → AreBothRead t file text
+  pub read : (line : ℕ) → Refuses line → AreBothRead t file text
+  pub report : (a b : List ℕ) → Reports a → Reports b → a ≡ b
+  pub line : (a b : ℕ) → Refuses a → Refuses b → a ≡ b
+  pub apart : (report : List ℕ) (line : ℕ) → Reports report → Refuses line → ⊥
+
+-- a packets file is read to its end or refused, once
+module _ (t : Tables) (file : List ℕ) where
+  pub whole_or_not : (fault : TraceFault) → (spelled_for t file).stop ≡ refused fault → IsReadWhole t file → ⊥
   whole_or_not fault stops whole = let apart : refused fault ≡ ended = sym stops ∙ whole in cc
 
-  packets_once : (a b : Ending) → StopsAtPackets t file a → StopsAtPackets t file b → a ≡ b
+  pub packets_once : (a b : Ending) → StopsAtPackets t file a → StopsAtPackets t file b → a ≡ b
   packets_once a b h k =
       let same : h.0 ≡ k.0 = (let e : refused h.0 ≡ refused k.0 = sym h.1 ∙ k.1 in cc) in
       run_ends_once (Err k.0) a b (subst (λ fault. IsRunEnding (Err fault) a) same h.2) k.2
 
-  abbrev Refuses : Ending → Type 0
-  Refuses e = StopsAtPackets t file e ⊎ (StopsAtLength t file text e ⊎ StopsAtLine t file text e)
+module _ (t : Tables) (file text : List ℕ) (Reports : List ℕ → Type 0) (Refuses : ℕ → Type 0) (one : IsOne t file text Reports Refuses) where
+  abbrev Refused : Ending → Type 0
+  Refused e = StopsAtPackets t file e ⊎ (StopsAtLength t file text e ⊎ StopsAtLine Refuses e)
 
-  module _ (lines : RefusedLinesAreOne) where
-    refuses_once : (a b : Ending) → Refuses a → Refuses b → a ≡ b
-    refuses_once a b (inl h) (inl k) = packets_once a b h k
-    refuses_once a b (inl h) (inr (inl k)) = absurd (whole_or_not h.0 h.1 k.0)
-    refuses_once a b (inl h) (inr (inr k)) = absurd (whole_or_not h.0 h.1 k.1.0.0)
-    refuses_once a b (inr (inl h)) (inl k) = absurd (whole_or_not k.0 k.1 h.0)
-    refuses_once a b (inr (inl h)) (inr (inl k)) = h.2 ∙ sym k.2
-    refuses_once a b (inr (inl h)) (inr (inr k)) = absurd (let long = h.1 in let few = k.1.0.1 in omega (arith, long, few))
-    refuses_once a b (inr (inr h)) (inl k) = absurd (whole_or_not k.0 k.1 h.1.0.0)
-    refuses_once a b (inr (inr h)) (inr (inl k)) = absurd (let long = k.1 in let few = h.1.0.1 in omega (arith, long, few))
-    refuses_once a b (inr (inr h)) (inr (inr k)) = h.2 ∙ (ap (λ line. Err (Schedule line)) (lines t form (spelled_for t file).packets (lines_of text) h.0 k.0 h.1.1 k.1.1) ∙ sym k.2)
+  refused_once : (a b : Ending) → Refused a → Refused b → a ≡ b
+  refused_once a b (inl h) (inl k) = packets_once t file a b h k
+  refused_once a b (inl h) (inr (inl k)) = absurd (whole_or_not t file h.0 h.1 k.0)
+  refused_once a b (inl h) (inr (inr k)) = absurd (whole_or_not t file h.0 h.1 (one.read k.0 k.1).0)
+  refused_once a b (inr (inl h)) (inl k) = absurd (whole_or_not t file k.0 k.1 h.0)
+  refused_once a b (inr (inl h)) (inr (inl k)) = h.2 ∙ sym k.2
+  refused_once a b (inr (inl h)) (inr (inr k)) = absurd (let long = h.1 in let few = (one.read k.0 k.1).1 in omega (arith, long, few))
+  refused_once a b (inr (inr h)) (inl k) = absurd (whole_or_not t file k.0 k.1 (one.read h.0 h.1).0)
+  refused_once a b (inr (inr h)) (inr (inl k)) = absurd (let long = k.1 in let few = (one.read h.0 h.1).1 in omega (arith, long, few))
+  refused_once a b (inr (inr h)) (inr (inr k)) = h.2 ∙ (ap (λ line. Err (Schedule line)) (one.line h.0 k.0 h.1 k.1) ∙ sym k.2)
 
-  reported_apart : ReportedOrRefused → (report : List ℕ) (e : Ending) → HasScheduleReport t hops file text report → Refuses e → ⊥
-  reported_apart apart report e h (inl k) = whole_or_not k.0 k.1 h.0.0
-  reported_apart apart report e h (inr (inl k)) = let long = k.1 in let few = h.0.1 in omega (arith, long, few)
-  reported_apart apart report e h (inr (inr k)) = apart t form hops (spelled_for t file).packets (lines_of text) report k.0 h.1 k.1.1
+  reported_apart : (report : List ℕ) (e : Ending) → Reports report → Refused e → ⊥
+  reported_apart report e h (inl k) = whole_or_not t file k.0 k.1 (one.whole report h).0
+  reported_apart report e h (inr (inl k)) = let long = k.1 in let few = (one.whole report h).1 in omega (arith, long, few)
+  reported_apart report e h (inr (inr k)) = one.apart report k.0 h k.1
 
-  module _ (reports : ScheduleReportsAreOne) (lines : RefusedLinesAreOne) (apart : ReportedOrRefused) where
-    pub schedules_once : (e f : Ending) (a b : List ℕ) → SchedulesTo t hops file text e a → SchedulesTo t hops file text f b → (e ≡ f) × (a ≡ b)
-    schedules_once e f a b (inl h) (inl k) = (h.0 ∙ sym k.0, reports t form hops (spelled_for t file).packets (lines_of text) a b h.1.1 k.1.1)
-    schedules_once e f a b (inl h) (inr k) = absurd (reported_apart apart a f h.1 k.1)
-    schedules_once e f a b (inr h) (inl k) = absurd (reported_apart apart b e k.1 h.1)
-    schedules_once e f a b (inr h) (inr k) = (refuses_once lines e f h.1 k.1, h.0 ∙ sym k.0)
+  pub ends_by_schedule_once : (e f : Ending) (a b : List ℕ) → EndsBySchedule t file text Reports Refuses e a → EndsBySchedule t file text Reports Refuses f b → (e ≡ f) × (a ≡ b)
+  ends_by_schedule_once e f a b (inl h) (inl k) = (h.0 ∙ sym k.0, one.report a b h.1 k.1)
+  ends_by_schedule_once e f a b (inl h) (inr k) = absurd (reported_apart a f h.1 k.1)
+  ends_by_schedule_once e f a b (inr h) (inl k) = absurd (reported_apart b e k.1 h.1)
+  ends_by_schedule_once e f a b (inr h) (inr k) = (refused_once e f h.1 k.1, h.0 ∙ sym k.0)
+
+-- of a run without turns
+module _ (t : Tables) (form : IsInForm t) (hops : Bool) (file text : List ℕ) (reports : ScheduleReportsAreOne) (lines : RefusedLinesAreOne) (apart : ReportedOrRefused) where
+  schedule_is_one : IsOne t file text (HasScheduleReport t hops file text) (RefusesScheduleLine t file text)
+  schedule_is_one = record {
+    whole = λ report h. h.0;
+    read = λ line h. h.0;
+    report = λ a b h k. reports t form hops (spelled_for t file).packets (lines_of text) a b h.1 k.1;
+    line = λ a b h k. lines t form (spelled_for t file).packets (lines_of text) a b h.1 k.1;
+    apart = λ report line h k. apart t form hops (spelled_for t file).packets (lines_of text) report line h.1 k.1;
+  }
+
+  pub schedules_once : (e f : Ending) (a b : List ℕ) → SchedulesTo t hops file text e a → SchedulesTo t hops file text f b → (e ≡ f) × (a ≡ b)
+  schedules_once e f a b h k = ends_by_schedule_once t file text (HasScheduleReport t hops file text) (RefusesScheduleLine t file text) schedule_is_one e f a b h k

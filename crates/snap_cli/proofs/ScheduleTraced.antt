@@ -5,7 +5,7 @@ use Rattle.snap_rows.specs.declared.tables.Tables.{Tables}
 use Rattle.snap_trace.specs.Spelled.{ended, spelled}
 use Rattle.snap_runs.specs.Laws.{CalmSchedulesRunCalmly, SchedulesKeepOrder, SpelledForIsSpelled, SpelledPacketsFit}
 use Rattle.snap_runs.specs.Plain.{spelled_for}
-use Rattle.snap_runs.specs.Schedules.{IsCalm, IsScheduleReport, lines_of}
+use Rattle.snap_runs.specs.Schedules.{HasScheduleReport, IsCalm, IsScheduleReport, RefusesScheduleLine, lines_of}
 use Rattle.snap_whole.specs.Laws.{CalmRunsReportOneSwitch, RunsAreShort}
 use Rattle.snap_words.specs.Commands.{schedule, trace}
 use Rattle.snap_cli.specs.declared.refusal.Refusal.TheVariants.{Limit, Schedule}
@@ -13,18 +13,22 @@ use Rattle.snap_core.specs.declared.program.Which.TheVariants.{Bytes}
 use Rattle.snap_cli.specs.Headline.{Did, SchedulesInFewHops, SchedulesTraceAsOneSwitch}
 use Rattle.snap_cli.specs.Laws.{AnswersExactly, CompilesExactly, SchedulesExactly}
 use Rattle.snap_cli.specs.Refusals.{Ending, status_of}
-use Rattle.snap_cli.specs.Schedule.{SchedulesTo}
+use Rattle.snap_cli.specs.Schedule.{EndsBySchedule, SchedulesTo}
 use Rattle.snap_cli.specs.TablesOf.{TablesOf}
 use Rattle.snap_cli.proofs.Traced.{no_failure, refused_apart, run_apart, told}
 
 -- a schedule's run that ended with status 0 has a report
+pub reported_by : (t : Tables) (file lines : List ℕ) (Reports : List ℕ → Type 0) (Refuses : ℕ → Type 0) (ending : Ending) (text : List ℕ) → EndsBySchedule t file lines Reports Refuses ending text → 0 ≡ status_of ending → Reports text
+reported_by t file lines Reports Refuses ending text (inl h) well = h.1
+reported_by t file lines Reports Refuses ending text (inr (none, inl h)) well = absurd (run_apart h.0 ending h.2 well)
+reported_by t file lines Reports Refuses ending text (inr (none, inr (inl h))) well = absurd (refused_apart (Limit Bytes 67108865) (well ∙ ap status_of h.2))
+reported_by t file lines Reports Refuses ending text (inr (none, inr (inr h))) well = absurd (refused_apart (Schedule h.0) (well ∙ ap status_of h.2))
+
 reported : (t : Tables) (hops : Bool) (file lines report text : List ℕ) (ending : Ending) → SchedulesTo t hops file lines ending text → 0 ≡ status_of ending → report ≡ text
     → ((spelled_for t file).stop ≡ ended) × IsScheduleReport t hops (spelled_for t file).packets (lines_of lines) report
-reported t hops file lines report text ending (inl h) well out =
-    (h.1.0.0, subst (IsScheduleReport t hops (spelled_for t file).packets (lines_of lines)) (sym out) h.1.1)
-reported t hops file lines report text ending (inr (none, inl h)) well out = absurd (run_apart h.0 ending h.2 well)
-reported t hops file lines report text ending (inr (none, inr (inl h))) well out = absurd (refused_apart (Limit Bytes 67108865) (well ∙ ap status_of h.2))
-reported t hops file lines report text ending (inr (none, inr (inr h))) well out = absurd (refused_apart (Schedule h.0) (well ∙ ap status_of h.2))
+reported t hops file lines report text ending h well out =
+    let r = reported_by t file lines (HasScheduleReport t hops file lines) (RefusesScheduleLine t file lines) ending text h well in
+    (r.0.0, subst (IsScheduleReport t hops (spelled_for t file).packets (lines_of lines)) (sym out) r.1)
 
 module _ (exactly : AnswersExactly) (compiles : CompilesExactly) (schedules : SchedulesExactly) (fit : SpelledPacketsFit) (whole : SpelledForIsSpelled) where
   abbrev Reports : (lines : List ℕ) → (hops : Bool) → (report : List ℕ) → Tables → List (List ℕ) → Type 0

@@ -1,14 +1,10 @@
 -- What `trace` did, from what its steps did.
 use Rattle.std.proofs.Common.{◌≡◌, ◌≤◌, ℕ, Bool, List, [], Option, Some, None, IfSome, Result, Ok, Err, length, refl, sym, ap, subst, inl, inr}
 use Rattle.std.specs.Borrow.{Bor}
-use Rattle.std.specs.Prelude.{IsErrOf, Vec}
+use Rattle.std.specs.Prelude.{Vec}
 use Rattle.std.specs.Io.KnownBytes.{Appends}
 use Rattle.std.specs.declared.alloc.Global.{Global}
-use Rattle.std.proofs.KnownBytes.{Appends-nil}
-use Rattle.snap_core.specs.declared.program.Which.TheVariants.{Bytes}
-use Rattle.snap_io.specs.Causes.{Rose}
 use Rattle.snap_io.specs.Files.{Files, file_of}
-use Rattle.snap_io.specs.Sinks.{AppendsSome}
 use Rattle.snap_rows.specs.declared.tables.Tables.{Tables}
 use Rattle.snap_tables.specs.Lines.{IsRead}
 use Rattle.snap_tables.specs.declared.fault.TablesFault.{TablesFault}
@@ -16,9 +12,8 @@ use Rattle.snap_tables.specs.declared.fault.TablesFault.TheVariants as tables
 use Rattle.snap_trace.specs.declared.fault.TraceFault.{TraceFault}
 use Rattle.snap_trace.specs.declared.fault.TraceFault.TheVariants as run
 use Rattle.snap_trace.specs.OneSwitch.{RunEnding}
-use Rattle.snap_trace.specs.Spelled.{refused}
-use Rattle.snap_runs.specs.Plain.{IsTrace, WritesTrace, spelled_for}
-use Rattle.snap_runs.specs.Schedules.{RefusesPackets, WritesSchedule}
+use Rattle.snap_runs.specs.Plain.{IsTrace, WritesTrace}
+use Rattle.snap_runs.specs.Schedules.{HasScheduleReport, RefusesScheduleLine, WritesSchedule}
 use Rattle.snap_runs.specs.declared.schedule.ScheduleFault.{ScheduleFault}
 use Rattle.snap_runs.specs.declared.schedule.ScheduleFault.TheVariants as order
 use Rattle.snap_words.specs.declared.command.Order.{Order as Given}
@@ -26,20 +21,20 @@ use Rattle.snap_words.specs.declared.command.Order.TheVariants as given
 use Rattle.snap_words.specs.Commands.{Command, Order, plain, schedule, trace}
 use Rattle.snap_words.specs.Said.{shown_order}
 use Rattle.snap_cli.specs.declared.refusal.Refusal.{Refusal}
-use Rattle.snap_cli.specs.declared.refusal.Refusal.TheVariants.{Limit, Packets, Schedule}
-use Rattle.snap_cli.specs.Causes.{HasCauses}
-use Rattle.snap_cli.specs.Deserved.{Ends, IsText, MayPrecede, MayPrecedeRead, Meets}
+use Rattle.snap_cli.specs.declared.refusal.Refusal.TheVariants.{Limit, Packets}
+use Rattle.snap_cli.specs.Deserved.{Ends, IsText, MayPrecedeRead, Meets}
 use Rattle.snap_cli.specs.Obs.{IsRunEnding}
 use Rattle.snap_cli.specs.Refusals.{Ending}
-use Rattle.snap_cli.specs.Schedule.{SchedulesTo}
-use Rattle.snap_cli.specs.RunSteps.{ending_of_run}
-use Rattle.snap_cli.specs.Steps.{refusal_of_run}
+use Rattle.snap_cli.specs.RunSteps.{ending_of_run, ending_of_schedule}
 use Rattle.snap_cli.specs.TablesOf.{SpellsTables, TablesOf}
 use Rattle.snap_cli.specs.Texts.{GivesText, IsTooLong}
 use Rattle.snap_cli.specs.Trace.{EndsTrace, IsTraceText}
-use Rattle.snap_cli.specs.TraceSteps.{LoadsTables, MeetsOrder, MeetsSchedule, MeetsTrace, ReadsTables, ending_of_schedule, refusal_of_schedule, refusal_of_tables}
+use Rattle.snap_cli.specs.TraceSteps.{LoadsTables, MeetsOrder, MeetsSchedule, MeetsTrace, ReadsTables, refusal_of_tables}
 use Rattle.snap_cli.proofs.ChangesLemmas.{meets-changes}
+use Rattle.snap_cli.proofs.InTurnLemmas.{meets-in_turn}
+use Rattle.snap_cli.proofs.RoundsLemmas.{meets-by_rounds}
 use Rattle.snap_cli.proofs.RefusedBy.{by-map, meets-by}
+use Rattle.snap_cli.proofs.ScheduleLemmas.{EndsSo, line_refused, lines_too_long, lines_unread, memory_short, packets_refused, part_went, whole_went}
 
 -- ---- the tables of a file
 
@@ -100,34 +95,27 @@ module _ (files : Files) (name : List ℕ) (packets lines : Bor (List ℕ)) (hop
   abbrev command : Command
   command = trace name packets.now hops (schedule lines.now)
 
-  nothing_more : new ≡ old → Appends old new []
-  nothing_more same = subst (λ x. Appends old x []) (sym same) (Appends-nil old)
+  abbrev Reports : List ℕ → Type 0
+  Reports = HasScheduleReport t hops file text
 
-  part_of_nothing : (P : List ℕ → Type 0) → P [] → new ≡ old → AppendsSome P old new
-  part_of_nothing P h same = ([], h, (0, nothing_more same))
+  abbrev Refuses : ℕ → Type 0
+  Refuses = RefusesScheduleLine t file text
 
-  ends_so : (e : Ending) (out : List ℕ) → SchedulesTo t hops file text e out → Appends old new out → Ends files command e × ((text : List ℕ) × IsText files command text × Appends old new text)
-  ends_so e out h m = (inr (t, spelled, (out, h)), (out, inr (t, spelled, (e, h)), m))
-
-  stops_at : (fault : TraceFault) (e : Ending) → new ≡ old → (spelled_for t file).stop ≡ refused fault → IsRunEnding (Err fault) e → Ends files command e × ((text : List ℕ) × IsText files command text × Appends old new text)
-  stops_at fault e same stop is = ends_so e [] (inr (refl, inl (fault, stop, is))) (nothing_more same)
-
-  meets-packets : (fault : TraceFault) → new ≡ old → RefusesPackets t file fault → Meets files command (Err (refusal_of_run packets fault)) old new
-  meets-packets run.Read same m = part_of_nothing (MayPrecedeRead files command packets.now) (inr (t, spelled, (inl refl, refl))) same
-  meets-packets run.NoMemory same m = part_of_nothing (MayPrecede files command) (inl refl) same
-  meets-packets (run.Limit which count) same m = stops_at (run.Limit which count) (Err (Limit which count)) same m refl
-  meets-packets (run.Packets line) same m = stops_at (run.Packets line) (Err (Packets line)) same m refl
-  meets-packets run.Write same m = absurd m
-  meets-packets (run.Undefined packet) same m = absurd m
+  so : EndsSo files command packets.now lines.now t Reports Refuses
+  so = record {
+    ends = λ e out h. (inr (t, spelled, (out, h)), inr (t, spelled, (e, h)));
+    memory = inl refl;
+    read = λ failed is. inr (t, spelled, (is, refl));
+  }
 
   meets-schedule : (r : Result (Unit {0}) ScheduleFault) → WritesSchedule t hops file text r old new → Meets files command (ending_of_schedule packets lines r) old new
-  meets-schedule (Ok u) m = ends_so (Ok tt) m.0 (inl (refl, m.1)) m.2
-  meets-schedule (Err (order.Packets fault)) m = meets-packets fault m.0 m.1
-  meets-schedule (Err order.Read) m = part_of_nothing (MayPrecedeRead files command lines.now) (inr (t, spelled, (inr (refl, m.1), refl))) m.0
-  meets-schedule (Err order.TooLong) m = ends_so (Err (Limit Bytes 67108865)) [] (inr (refl, inr (inl (m.1, m.2, refl)))) (nothing_more m.0)
-  meets-schedule (Err (order.Line line)) m = ends_so (Err (Schedule line)) [] (inr (refl, inr (inr (line, m.1, refl)))) (nothing_more m.0)
-  meets-schedule (Err order.Write) m = inr (m.0, inr (t, spelled, (Ok tt, inl (refl, m.1))), m.2)
-  meets-schedule (Err order.NoMemory) m = part_of_nothing (MayPrecede files command) (inl refl) m
+  meets-schedule (Ok u) m = whole_went files command packets lines t Reports Refuses so old new m.0 m.1 m.2
+  meets-schedule (Err (order.Packets fault)) m = packets_refused files command packets lines t Reports Refuses so old new fault m.0 m.1
+  meets-schedule (Err order.Read) m = lines_unread files command packets lines t Reports Refuses so old new m.0 m.1
+  meets-schedule (Err order.TooLong) m = lines_too_long files command packets lines t Reports Refuses so old new m.0 m.1 m.2
+  meets-schedule (Err (order.Line line)) m = line_refused files command packets lines t Reports Refuses so old new line m.0 m.1
+  meets-schedule (Err order.Write) m = part_went files command packets lines t Reports Refuses so old new m
+  meets-schedule (Err order.NoMemory) m = memory_short files command packets lines t Reports Refuses so old new m
 
 meets-order : (files : Files) (name : List ℕ) (packets : Bor (List ℕ)) (hops : Bool) (o : Given) (t : Tables) → TablesOf (file_of files name) (Ok t) → (old new : Option (List ℕ)) (e : Ending)
     → MeetsOrder files t hops packets o e old new → Meets files (trace name packets.now hops (shown_order o)) e old new
@@ -136,6 +124,8 @@ meets-order files name packets hops given.Plain t spelled old new e m =
 meets-order files name packets hops (given.Schedule lines) t spelled old new e m =
     subst (λ x. Meets files (trace name packets.now hops (schedule lines.now)) x old new) (sym m.2) (meets-schedule files name packets lines hops t spelled old new m.0 m.1)
 meets-order files name packets hops (given.Changes lines) t spelled old new e m = meets-changes files name packets lines.now hops t spelled old new e m
+meets-order files name packets hops (given.InTurn lines) t spelled old new e m = meets-in_turn files name packets hops t spelled old new lines e m
+meets-order files name packets hops (given.Rounds workers) t spelled old new e m = meets-by_rounds files name packets hops workers.value t spelled old new e m
 
 pub trace-run : (told now : Option Files) (name : List ℕ) (packets : Bor (List ℕ)) (hops : Bool) (o : Given) (t : Tables) (old new : Option (List ℕ)) (e : Ending) → now ≡ told
     → IfSome told (λ files. LoadsTables name (file_of files name) (Ok t)) → IfSome now (λ files. MeetsOrder files t hops packets o e old new)
@@ -164,22 +154,3 @@ pub told-schedule : (told : Option Files) (t : Tables) (hops : Bool) (packets li
     → IfSome told (λ files. MeetsSchedule t hops packets lines (file_of files packets.now) (file_of files lines.now) e old new)
 told-schedule None t hops packets lines old new r e is m = tt
 told-schedule (Some files) t hops packets lines old new r e is m = (r, m, is)
-
--- why a device's refusal of a schedule's run is told
-module _ (shelf_before shelf_now : List ℕ → ℕ) (out_before out_now : ℕ) (packets lines : Bor (List ℕ)) where
-  pub because : (fault : ScheduleFault) → (IsErrOf {T = Unit {0}} (Err fault) (order.Packets run.Write) → ⊥)
-      → (IsErrOf {T = Unit {0}} (Err fault) (order.Packets run.Read) → Rose (shelf_before packets.now) (shelf_now packets.now))
-      → (IsErrOf {T = Unit {0}} (Err fault) order.Read → Rose (shelf_before lines.now) (shelf_now lines.now))
-      → (IsErrOf {T = Unit {0}} (Err fault) order.Write → Rose out_before out_now)
-      → HasCauses shelf_before shelf_now out_before out_now (Err (refusal_of_schedule packets lines fault))
-  because (order.Packets run.Read) never of_packets of_lines of_out = record { read = λ name is. subst (λ n. Rose (shelf_before n) (shelf_now n)) is (of_packets refl); write = λ e. absurd (cc) }
-  because (order.Packets run.Write) never of_packets of_lines of_out = absurd (never refl)
-  because (order.Packets (run.Limit which count)) never of_packets of_lines of_out = record { read = λ name is. absurd is; write = λ e. absurd (cc) }
-  because (order.Packets (run.Packets line)) never of_packets of_lines of_out = record { read = λ name is. absurd is; write = λ e. absurd (cc) }
-  because (order.Packets (run.Undefined packet)) never of_packets of_lines of_out = record { read = λ name is. absurd is; write = λ e. absurd (cc) }
-  because (order.Packets run.NoMemory) never of_packets of_lines of_out = record { read = λ name is. absurd is; write = λ e. absurd (cc) }
-  because order.Read never of_packets of_lines of_out = record { read = λ name is. subst (λ n. Rose (shelf_before n) (shelf_now n)) is (of_lines refl); write = λ e. absurd (cc) }
-  because order.TooLong never of_packets of_lines of_out = record { read = λ name is. absurd is; write = λ e. absurd (cc) }
-  because (order.Line line) never of_packets of_lines of_out = record { read = λ name is. absurd is; write = λ e. absurd (cc) }
-  because order.Write never of_packets of_lines of_out = record { read = λ name is. absurd is; write = λ e. of_out refl }
-  because order.NoMemory never of_packets of_lines of_out = record { read = λ name is. absurd is; write = λ e. absurd (cc) }

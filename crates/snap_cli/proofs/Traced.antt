@@ -21,7 +21,7 @@ use Rattle.snap_runs.specs.Plain.{IsPlainReport, spelled_for}
 use Rattle.snap_whole.specs.Laws.{PlainRunsAreShort, PlainRunsReportOneSwitch}
 use Rattle.snap_words.specs.Commands.{Command, Order, compile, plain, trace}
 use Rattle.snap_cli.specs.declared.refusal.Refusal.{Refusal}
-use Rattle.snap_cli.specs.declared.refusal.Refusal.TheVariants.{Usage, Read, Write, Syntax, Naming, Limit, Topology as Network, Unreachable, Race, Packets, NoMemory, Undefined, Declarations, Differ, Demand, Placement, Tables as Unread, Schedule, Changes, ReadChange}
+use Rattle.snap_cli.specs.declared.refusal.Refusal.TheVariants.{Usage, Read, Write, Syntax, Naming, Limit, Topology as Network, Unreachable, Race, Packets, NoMemory, Undefined, Declarations, Differ, Demand, Placement, Tables as Unread, Schedule, Changes, ReadChange, VersionOne}
 use Rattle.snap_cli.specs.Compile.{IsCompiled}
 use Rattle.snap_cli.specs.Deserved.{Ends}
 use Rattle.snap_cli.specs.Headline.{AreGiven, Did, TracesAsOneSwitch, TracesInFewHops}
@@ -52,6 +52,7 @@ refused_apart (Unread fault) h = omega (arith, h)
 refused_apart (Schedule line) h = omega (arith, h)
 refused_apart (Changes line) h = omega (arith, h)
 refused_apart (ReadChange name) h = omega (arith, h)
+refused_apart VersionOne h = omega (arith, h)
 
 ended_well : (e : Ending) → 0 ≡ status_of e → e ≡ Ok tt
 ended_well (Ok u) h = refl
@@ -143,7 +144,7 @@ module _ (exactly : AnswersExactly) where
         }
 
     -- ---- the plain run
-    whole_report : (n : Tables) (hops : Bool) (read : Spelled) (report : List ℕ) → TracesAs n hops read 0 (Some []) (Some report) → (read.stop ≡ ended) × IsPlainReport n hops read.packets report
+    pub whole_report : (n : Tables) (hops : Bool) (read : Spelled) (report : List ℕ) → TracesAs n hops read 0 (Some []) (Some report) → (read.stop ≡ ended) × IsPlainReport n hops read.packets report
     whole_report n hops read report (inl h) = (h.1, subst (IsPlainReport n hops read.packets) (sym h.2.2) h.2.1)
     whole_report n hops read report (inr h) = absurd (run_apart h.0 h.1 h.3 h.4)
 

@@ -6,7 +6,7 @@ use Rattle.snap_core.specs.declared.program.Program.{Program}
 use Rattle.snap_core.specs.Arrays.{Arrays}
 use Rattle.snap_core.specs.Fields.{count}
 use Rattle.snap_core.specs.Meaning.{eval}
-use Rattle.snap_ctx.specs.Meets.{IsPacket, IsStore}
+use Rattle.snap_core.specs.Inputs.{IsStore, IsPacket}
 use Rattle.snap_dep.specs.Ranks.{Grouping}
 use Rattle.snap_arena.specs.declared.node.Node.{Node}
 use Rattle.snap_fdd.specs.declared.leaf.Leaf.{Leaf}

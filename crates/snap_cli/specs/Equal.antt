@@ -9,7 +9,7 @@ use Rattle.snap_io.specs.Files.{Files, file_of}
 use Rattle.snap_io.specs.Sinks.{AppendsPart}
 use Rattle.snap_cli.specs.declared.refusal.Refusal.{Refusal}
 use Rattle.snap_cli.specs.declared.refusal.Refusal.TheVariants.{Write, NoMemory, Race, Declarations, Differ}
-use Rattle.snap_cli.specs.Check.{NeverRaces, Races, TellsRace}
+use Rattle.snap_cli.specs.Check.{NeverRaces, TellsRace}
 use Rattle.snap_cli.specs.Pairs.{TellsPair}
 use Rattle.snap_cli.specs.ProgramOf.{ProgramOf}
 use Rattle.snap_cli.specs.Refusals.{Ending}

@@ -1,5 +1,5 @@
 -- **What is compiled and then traced is what one big switch does.**
-use Rattle.std.specs.Prelude.{◌≡◌, ℕ, ◌+◌, ◌*◌, true, false, List, [], length, Ok, Some}
+use Rattle.std.specs.Prelude.{◌≡◌, ℕ, ◌+◌, ◌*◌, Bool, true, false, List, [], length, Ok, Some, None, option_map}
 use Rattle.std.specs.List.{All}
 use Rattle.std.specs.declared.option.Option.{Option}
 use Rattle.snap_core.specs.declared.program.Program.{Program}
@@ -22,7 +22,12 @@ use Rattle.snap_move.specs.declared.change.Change.{Change}
 use Rattle.snap_move.specs.declared.later.Later.{Later}
 use Rattle.snap_move.specs.Changing.{in_force}
 use Rattle.snap_move.specs.OneSwitch.{IsSwitchReportUnder}
-use Rattle.snap_words.specs.Commands.{Command, changes, command_of, compile, plain, schedule, trace}
+use Rattle.snap_order.specs.Ordered.{Ordered, Turn}
+use Rattle.snap_order.specs.Ordered as turning
+use Rattle.snap_order.specs.Reports as turn_reports
+use Rattle.snap_order.specs.Rounds.{GoesByRounds}
+use Rattle.snap_order.specs.Runs as turn_runs
+use Rattle.snap_words.specs.Commands.{Command, changes, command_of, compile, in_turn, plain, rounds, schedule, trace}
 use Rattle.snap_cli.specs.Answers.{Answers}
 use Rattle.snap_cli.specs.Changes.{ChangedTables, ChangesOf}
 use Rattle.snap_cli.specs.ProgramOf.{ProgramOf}
@@ -147,3 +152,82 @@ abbrev pub ChangesTraceAsOneSwitch : Type 0
 ChangesTraceAsOneSwitch = (source : List ℕ) (later : Files) (tables packets lines : List ℕ) (report : List ℕ)
     → IsOutputFor source (file_of later tables) → AreOutputsFor source later lines → Did later (trace tables packets false (changes lines)) report
     → TellsOneSwitchUnder source later tables lines packets report
+
+-- ---- turns
+-- **So it is with `--ordered`, in the order of each schedule that can be done to an end, whatever packets overlap.**
+abbrev pub TurnsTraceAsOneSwitch : Type 0
+TurnsTraceAsOneSwitch = (files later : Files) (program topology placement tables packets : List ℕ) (lines : Option (List ℕ)) (compiled report : List ℕ)
+    → Did files (compile program topology placement) compiled
+    → file_of later tables ≡ compiled → Did later (trace tables packets false (in_turn lines)) report
+    → TellsOneSwitch files program topology (file_of later packets) report
+
+-- **What it writes is, byte for byte, what `trace` of the same tables and packets writes without `--ordered`, one packet after the other.**
+abbrev pub TurnsTraceAsPlain : Type 0
+TurnsTraceAsPlain = (files later : Files) (program topology placement tables packets : List ℕ) (lines : Option (List ℕ)) (compiled report other : List ℕ)
+    → Did files (compile program topology placement) compiled
+    → file_of later tables ≡ compiled → Did later (trace tables packets false (in_turn lines)) report → Did later (trace tables packets false plain) other
+    → report ≡ other
+
+-- the run in turn of packets: one after the other, or of exactly the events that lines order, to an end
+abbrev pub IsRunInTurn : Tables → List (List ℕ) → Option (List (List ℕ)) → Ordered → List Turn → Type 0
+IsRunInTurn t ks None end us = (es : List Event) × turn_runs.IsPlainRun t zero_arrays (entering ks) es end us
+IsRunInTurn t ks (Some lines) end us = turn_runs.Obeys t ks lines [] end us × (end.net.flying ≡ [])
+
+-- The text is the report, with its hops, of that run; and no copy makes more than (groups + 1) times the greatest distance hops.
+pub record TellsShortTurns (p : Program) (t : Topology) (ks : List (List ℕ)) (lines : Option (List (List ℕ))) (text : List ℕ) : Type 0 where
+  pub tables : Tables
+  pub end : Ordered
+  pub turns : List Turn
+  pub run : IsRunInTurn tables ks lines end turns
+  pub report : turn_reports.IsRunReport tables true (length ks) end.net (turning.happenings turns) text
+  pub short : (order : List ℕ) (d : ℕ) → IsRank p.body (length p.vars) order → IsDiameter (Linked t.links) (length t.switches) d
+      → All (IsHopWithin ((length order + 1) * d)) (turning.happenings turns)
+
+-- **With `--hops` it tells the hops of that run, which are few.**
+abbrev pub TurnsInFewHops : Type 0
+TurnsInFewHops = (files later : Files) (program topology placement tables packets : List ℕ) (lines : Option (List ℕ)) (compiled report : List ℕ)
+    → Did files (compile program topology placement) compiled
+    → file_of later tables ≡ compiled → Did later (trace tables packets true (in_turn lines)) report
+    → (p : Program) × (t : Topology) × AreGiven files program topology (file_of later packets) p t
+    × TellsShortTurns p t (spelled p.fields (file_of later packets)).packets (option_map (λ name. lines_of (file_of later name)) lines) report
+
+-- ---- rounds
+-- **So it is with `--ordered --workers`, for every number of workers.**
+abbrev pub RoundsTraceAsOneSwitch : Type 0
+RoundsTraceAsOneSwitch = (files later : Files) (program topology placement tables packets : List ℕ) (workers : ℕ) (compiled report : List ℕ)
+    → Did files (compile program topology placement) compiled
+    → file_of later tables ≡ compiled → Did later (trace tables packets false (rounds workers)) report
+    → TellsOneSwitch files program topology (file_of later packets) report
+
+-- **What it writes is, byte for byte, what `trace` of the same tables and packets writes without `--ordered`, one packet after the other.**
+abbrev pub RoundsTraceAsPlain : Type 0
+RoundsTraceAsPlain = (files later : Files) (program topology placement tables packets : List ℕ) (workers : ℕ) (compiled report other : List ℕ)
+    → Did files (compile program topology placement) compiled
+    → file_of later tables ≡ compiled → Did later (trace tables packets false (rounds workers)) report → Did later (trace tables packets false plain) other
+    → report ≡ other
+
+-- **With hops too, and whatever the tables, different numbers of workers write the same.**
+abbrev pub RoundsTraceAlike : Type 0
+RoundsTraceAlike = (later : Files) (tables packets : List ℕ) (hops : Bool) (workers others : ℕ) (report other : List ℕ)
+    → Did later (trace tables packets hops (rounds workers)) report → Did later (trace tables packets hops (rounds others)) other
+    → report ≡ other
+
+-- The text is the report, with its hops, of the run of packets by rounds; and no copy makes more than (groups + 1) times the greatest
+-- distance hops.
+pub record TellsShortRounds (p : Program) (t : Topology) (ks : List (List ℕ)) (text : List ℕ) : Type 0 where
+  pub tables : Tables
+  pub events : List Event
+  pub end : Ordered
+  pub turns : List Turn
+  pub run : GoesByRounds tables (entering ks) (turning.begin tables zero_arrays) events end turns
+  pub report : turn_reports.IsRunReport tables true (length ks) end.net (turning.happenings turns) text
+  pub short : (order : List ℕ) (d : ℕ) → IsRank p.body (length p.vars) order → IsDiameter (Linked t.links) (length t.switches) d
+      → All (IsHopWithin ((length order + 1) * d)) (turning.happenings turns)
+
+-- **With `--hops` it tells the hops of that run, which are few.**
+abbrev pub RoundsInFewHops : Type 0
+RoundsInFewHops = (files later : Files) (program topology placement tables packets : List ℕ) (workers : ℕ) (compiled report : List ℕ)
+    → Did files (compile program topology placement) compiled
+    → file_of later tables ≡ compiled → Did later (trace tables packets true (rounds workers)) report
+    → (p : Program) × (t : Topology) × AreGiven files program topology (file_of later packets) p t
+    × TellsShortRounds p t (spelled p.fields (file_of later packets)).packets report

@@ -12,7 +12,7 @@ use Rattle.snap_rows.specs.declared.tables.Tables.{Tables}
 use Rattle.snap_trace.specs.declared.fault.TraceFault.{TraceFault}
 use Rattle.snap_trace.specs.Spelled.{Spelled, ended, refused}
 use Rattle.snap_runs.specs.Plain.{ArePlainBlocks, IsPlainReport, spelled_for}
-use Rattle.snap_words.specs.Commands.{Command, changes, check, command_of, compile, equal, plain, schedule, trace, demo}
+use Rattle.snap_words.specs.Commands.{Command, changes, check, command_of, compile, equal, in_turn, plain, rounds, schedule, trace, demo}
 use Rattle.snap_demo.specs.Summary.{IsSummary}
 use Rattle.snap_cli.specs.declared.refusal.Refusal.{Refusal}
 use Rattle.snap_cli.specs.declared.refusal.Refusal.TheVariants.{Race, Differ}
@@ -22,10 +22,12 @@ use Rattle.snap_cli.specs.Check.{NeverRaces, Races}
 use Rattle.snap_cli.specs.Compile.{AreSpelled, IsCompiled}
 use Rattle.snap_cli.specs.Deserved.{Ends, IsText, Tells}
 use Rattle.snap_cli.specs.Equal.{AreComparable, Differs}
+use Rattle.snap_cli.specs.InTurn.{RunsInTurnTo}
 use Rattle.snap_cli.specs.Obs.{IsRunEnding}
 use Rattle.snap_cli.specs.Place.{IsPlaced, IsPlacementOf}
 use Rattle.snap_cli.specs.ProgramOf.{ProgramOf}
 use Rattle.snap_cli.specs.Refusals.{Ending, status_of, message_of}
+use Rattle.snap_cli.specs.Rounds.{RunsByRoundsTo}
 use Rattle.snap_cli.specs.Schedule.{SchedulesTo}
 use Rattle.snap_cli.specs.TablesOf.{TablesOf}
 
@@ -162,6 +164,30 @@ ChangesExactly = (words : List (List ℕ)) (files : Files) (tables packets lines
     → Answers words (Some files) status shelf_before shelf_now out_before out_now out_old out_new err_before err_now err_old err_new
     → IsFailure status
     ⊎ ((ending : Ending) × (text : List ℕ) × ChangesTo files t packets hops lines ending text
+    × IsExact ending text status out_old out_new err_before err_now err_old err_new)
+
+-- **Where no device failed and memory was there, `trace --ordered` of tables that a file spells answers 16 just where they are of
+-- version 1, and nothing has gone out; and else 0 just where all lines of the packets file are in form and all lines of the schedule,
+-- if there is one, can be done to an end, and has then written the report of that run in turn.**
+abbrev pub TurnsExactly : Type 0
+TurnsExactly = (words : List (List ℕ)) (files : Files) (tables packets : List ℕ) (lines : Option (List ℕ)) (hops : Bool) (t : Tables) (status : ℕ) (shelf_before shelf_now : List ℕ → ℕ)
+    (out_before out_now : ℕ) (out_old out_new : Option (List ℕ)) (err_before err_now : ℕ) (err_old err_new : Option (List ℕ))
+    → command_of words ≡ Some (trace tables packets hops (in_turn lines)) → TablesOf (file_of files tables) (Ok t)
+    → Answers words (Some files) status shelf_before shelf_now out_before out_now out_old out_new err_before err_now err_old err_new
+    → IsFailure status
+    ⊎ ((ending : Ending) × (text : List ℕ) × RunsInTurnTo files t packets hops lines ending text
+    × IsExact ending text status out_old out_new err_before err_now err_old err_new)
+
+-- **Where no device failed and memory was there, `trace --ordered --workers` of tables that a file spells answers 16 just where they
+-- are of version 1, and else 0 just where all lines of the packets file are in form, and has then written the report of the run by
+-- rounds. Where it answers something else nothing has gone out. So it is for every number of workers.**
+abbrev pub RoundsExactly : Type 0
+RoundsExactly = (words : List (List ℕ)) (files : Files) (tables packets : List ℕ) (workers : ℕ) (hops : Bool) (t : Tables) (status : ℕ) (shelf_before shelf_now : List ℕ → ℕ)
+    (out_before out_now : ℕ) (out_old out_new : Option (List ℕ)) (err_before err_now : ℕ) (err_old err_new : Option (List ℕ))
+    → command_of words ≡ Some (trace tables packets hops (rounds workers)) → TablesOf (file_of files tables) (Ok t)
+    → Answers words (Some files) status shelf_before shelf_now out_before out_now out_old out_new err_before err_now err_old err_new
+    → IsFailure status
+    ⊎ ((ending : Ending) × (text : List ℕ) × RunsByRoundsTo files t packets hops ending text
     × IsExact ending text status out_old out_new err_before err_now err_old err_new)
 
 -- **Where no device failed and memory was there, `demo` answers 0, and has written the summary: the counts of one big switch

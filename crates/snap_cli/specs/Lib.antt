@@ -7,6 +7,10 @@ pub mod Demo
 pub mod Deps
 pub mod Deserved
 pub mod Equal
+pub mod InTurn
+pub mod InTurnSteps
+pub mod Rounds
+pub mod RoundsSteps
 pub mod Laws
 pub mod NetworkSteps
 pub mod Obs

@@ -6,7 +6,7 @@ use Rattle.snap_core.specs.declared.program.Which.TheVariants as which
 use Rattle.snap_rows.specs.declared.tables.Rule.{Rule}
 use Rattle.snap_rows.specs.declared.tables.Rule.TheVariants as rule
 use Rattle.snap_cli.specs.declared.refusal.Refusal.{Refusal}
-use Rattle.snap_cli.specs.declared.refusal.Refusal.TheVariants.{Usage, Read, Write, Syntax, Naming, Limit, Topology, Unreachable, Race, Packets, NoMemory, Undefined, Declarations, Differ, Demand, Placement, Tables, Schedule, Changes, ReadChange}
+use Rattle.snap_cli.specs.declared.refusal.Refusal.TheVariants.{Usage, Read, Write, Syntax, Naming, Limit, Topology, Unreachable, Race, Packets, NoMemory, Undefined, Declarations, Differ, Demand, Placement, Tables, Schedule, Changes, ReadChange, VersionOne}
 use Rattle.snap_cli.specs.declared.refusal.SyntaxFault.{SyntaxFault}
 use Rattle.snap_cli.specs.declared.refusal.SyntaxFault.TheVariants.{BadByte, BadNumber, UnexpectedToken, TooDeep}
 use Rattle.snap_cli.specs.declared.refusal.NamingFault.{NamingFault}
@@ -47,6 +47,7 @@ status_of (Err (Tables fault)) = 11
 status_of (Err (Schedule line)) = 13
 status_of (Err (Changes line)) = 20
 status_of (Err (ReadChange name)) = 2
+status_of (Err VersionOne) = 16
 
 abbrev pub which_text : Which → List ℕ
 which_text which.Bytes = codes "bytes"
@@ -169,3 +170,4 @@ message_of (Err (Tables fault)) = message_of_tables fault
 message_of (Err (Schedule line)) = message_with (codes "schedule: line") line
 message_of (Err (Changes line)) = message_with (codes "changes: line") line
 message_of (Err (ReadChange name)) = message_of_read name
+message_of (Err VersionOne) = message_text (codes "tables: version 1")

@@ -19,12 +19,19 @@ abbrev pub StopsAtLength : Tables → (file schedule : List ℕ) → Ending → 
 StopsAtLength t file schedule ending = IsReadWhole t file × (67108864 < length schedule) × (ending ≡ Err (Limit Bytes 67108865))
 
 -- a line of the schedule isn't in form or can't be done, or it ends too early
-abbrev pub StopsAtLine : Tables → (file schedule : List ℕ) → Ending → Type 0
-StopsAtLine t file schedule ending = (line : ℕ) × RefusesScheduleLine t file schedule line × (ending ≡ Err (Schedule line))
+abbrev pub StopsAtLine : (Refuses : ℕ → Type 0) → Ending → Type 0
+StopsAtLine Refuses ending = (line : ℕ) × Refuses line × (ending ≡ Err (Schedule line))
 
--- The report of exactly the events that the schedule orders goes out, or nothing where one of the files is refused. The packets
--- file comes first.
+-- A report goes out, or nothing where one of the files is refused. The packets file comes first.
+abbrev pub EndsBySchedule : Tables → (file schedule : List ℕ) → (Reports : List ℕ → Type 0) → (Refuses : ℕ → Type 0) → Ending → List ℕ → Type 0
+EndsBySchedule t file schedule Reports Refuses ending text =
+    ((ending ≡ Ok tt) × Reports text)
+    ⊎ ((text ≡ []) × (StopsAtPackets t file ending ⊎ (StopsAtLength t file schedule ending ⊎ StopsAtLine Refuses ending)))
+
+-- it is that of exactly the events that the schedule orders
 abbrev pub SchedulesTo : Tables → (hops : Bool) → (file schedule : List ℕ) → Ending → List ℕ → Type 0
-SchedulesTo t hops file schedule ending text =
-    ((ending ≡ Ok tt) × HasScheduleReport t hops file schedule text)
-    ⊎ ((text ≡ []) × (StopsAtPackets t file ending ⊎ (StopsAtLength t file schedule ending ⊎ StopsAtLine t file schedule ending)))
+SchedulesTo t hops file schedule ending text = EndsBySchedule t file schedule (HasScheduleReport t hops file schedule) (RefusesScheduleLine t file schedule) ending text
+
+-- the packets file, or the schedule once that was read
+abbrev pub IsOfSchedule : Tables → (file packets lines name : List ℕ) → Type 0
+IsOfSchedule t file packets lines name = (name ≡ packets) ⊎ ((name ≡ lines) × IsReadWhole t file)

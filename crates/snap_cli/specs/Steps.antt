@@ -1,5 +1,5 @@
 -- What a step of a command gives.
-use Rattle.std.specs.Prelude.{◌≡◌, ℕ, List, Result, Ok, Err}
+use Rattle.std.specs.Prelude.{◌≡◌, ℕ, List, Result, Err}
 use Rattle.snap_core.specs.declared.program.Program.{Program}
 use Rattle.snap_lex.specs.declared.LexFault.{LexFault}
 use Rattle.snap_lex.specs.declared.LexFault.TheVariants as lex

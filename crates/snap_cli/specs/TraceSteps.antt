@@ -2,7 +2,6 @@
 use Rattle.std.specs.Prelude.{◌≡◌, ℕ, Bool, List, Result, Ok, Err}
 use Rattle.std.specs.Borrow.{Bor}
 use Rattle.std.specs.declared.option.Option.{Option}
-use Rattle.snap_core.specs.declared.program.Which.TheVariants.{Bytes}
 use Rattle.snap_io.specs.Files.{Files, file_of}
 use Rattle.snap_rows.specs.declared.tables.Tables.{Tables}
 use Rattle.snap_tables.specs.Lines.{IsRead}
@@ -12,7 +11,6 @@ use Rattle.snap_trace.specs.OneSwitch.{RunEnding}
 use Rattle.snap_runs.specs.Plain.{WritesTrace}
 use Rattle.snap_runs.specs.Schedules.{WritesSchedule}
 use Rattle.snap_runs.specs.declared.schedule.ScheduleFault.{ScheduleFault}
-use Rattle.snap_runs.specs.declared.schedule.ScheduleFault.TheVariants as schedule
 use Rattle.snap_words.specs.declared.command.Order.{Order}
 use Rattle.snap_words.specs.declared.command.Order.TheVariants as order
 use Rattle.snap_cli.specs.declared.refusal.NoTables.TheVariants.{Line, Broken}
@@ -20,8 +18,9 @@ use Rattle.snap_cli.specs.declared.refusal.Refusal.{Refusal}
 use Rattle.snap_cli.specs.declared.refusal.Refusal.TheVariants as refused
 use Rattle.snap_cli.specs.Refusals.{Ending}
 use Rattle.snap_cli.specs.ChangesSteps.{MeetsChanges}
-use Rattle.snap_cli.specs.RunSteps.{ending_of_run}
-use Rattle.snap_cli.specs.Steps.{refusal_of_run}
+use Rattle.snap_cli.specs.InTurnSteps.{MeetsInTurn}
+use Rattle.snap_cli.specs.RoundsSteps.{MeetsByRounds}
+use Rattle.snap_cli.specs.RunSteps.{ending_of_run, ending_of_schedule}
 use Rattle.snap_cli.specs.TablesOf.{SpellsTables, TablesOf}
 use Rattle.snap_cli.specs.Texts.{RefusesBy}
 
@@ -47,19 +46,6 @@ abbrev pub MeetsTrace : Tables → (hops : Bool) → (packets : Bor (List ℕ)) 
 MeetsTrace t hops packets file ending old new = (run : RunEnding) × WritesTrace t hops file run old new × (ending ≡ ending_of_run packets run)
 
 -- ---- schedules
--- the refusal of a run over files with these names
-abbrev pub refusal_of_schedule : (packets lines : Bor (List ℕ)) → ScheduleFault → Refusal
-refusal_of_schedule packets lines (schedule.Packets fault) = refusal_of_run packets fault
-refusal_of_schedule packets lines schedule.Read = refused.Read lines
-refusal_of_schedule packets lines schedule.TooLong = refused.Limit Bytes 67108865
-refusal_of_schedule packets lines (schedule.Line line) = refused.Schedule line
-refusal_of_schedule packets lines schedule.Write = refused.Write
-refusal_of_schedule packets lines schedule.NoMemory = refused.NoMemory
-
-abbrev pub ending_of_schedule : (packets lines : Bor (List ℕ)) → Result (Unit {0}) ScheduleFault → Ending
-ending_of_schedule packets lines (Ok u) = Ok tt
-ending_of_schedule packets lines (Err fault) = Err (refusal_of_schedule packets lines fault)
-
 -- what the run of a schedule with this name did
 abbrev pub MeetsSchedule : Tables → (hops : Bool) → (packets lines : Bor (List ℕ)) → (file text : List ℕ) → Ending → Option (List ℕ) → Option (List ℕ) → Type 0
 MeetsSchedule t hops packets lines file text ending old new =
@@ -70,3 +56,5 @@ abbrev pub MeetsOrder : Files → Tables → (hops : Bool) → (packets : Bor (L
 MeetsOrder files t hops packets order.Plain ending old new = MeetsTrace t hops packets (file_of files packets.now) ending old new
 MeetsOrder files t hops packets (order.Schedule lines) ending old new = MeetsSchedule t hops packets lines (file_of files packets.now) (file_of files lines.now) ending old new
 MeetsOrder files t hops packets (order.Changes lines) ending old new = MeetsChanges files t hops packets lines.now ending old new
+MeetsOrder files t hops packets (order.InTurn lines) ending old new = MeetsInTurn files t hops packets lines ending old new
+MeetsOrder files t hops packets (order.Rounds workers) ending old new = MeetsByRounds files t hops packets ending old new

@@ -26,11 +26,11 @@ use snap_core::program::Program;
 use snap_dep::calls::groups;
 use snap_dep::groups::Groups;
 use snap_io::{Shelf, Sink};
-use snap_make::tables::tables;
+use snap_make::tables::shared_tables;
 use snap_place::placement::{PlaceFault, Placement};
-use snap_rows::valid::Valid;
 use snap_tables::fault::PrintFault;
-use snap_tables::print::print;
+use snap_tables::print_shared::print_shared;
+use snap_tables::shared::SharedTables;
 use std::alloc::Global;
 
 /// The most bytes of a placement's file.
@@ -57,14 +57,18 @@ pub(crate) fn report<'a, S: Shelf, O: Sink>(
 }
 
 // Writes the text of tables.
-fn write_tables<'a, O: Sink>(alloc: Global, tables: &Valid, out: &mut O) -> Result<(), Refusal<'a>>
+fn write_tables<'a, O: Sink>(
+    alloc: Global,
+    tables: &SharedTables,
+    out: &mut O,
+) -> Result<(), Refusal<'a>>
     ensures writes { WritesTables tables.now result (O.taken out.old) (O.taken out.new) }
     ensures back { IsReadBack tables.now }
     ensures write { IsErrOf result Refusal.Write → Rose (O.faults out.old) (O.faults out.new) }
     ensures not_read { IsRead result → ⊥ }
     ensures not_usage { IsErrOf result Refusal.Usage → ⊥ }
 {
-    match print(alloc, tables, out) {
+    match print_shared(alloc, tables, out) {
         Ok(()) => Ok(()),
         Err(PrintFault::Write) => Err(Refusal::Write),
         Err(PrintFault::NoMemory) => Err(Refusal::NoMemory),
@@ -78,7 +82,7 @@ fn load_tables<'a, S: Shelf>(
     topology: &'a [u8],
     placement: &'a [u8],
     shelf: &mut S,
-) -> Result<Valid, Refusal<'a>>
+) -> Result<SharedTables, Refusal<'a>>
     ensures gives { IfSome (S.files shelf.old) (λ files. GivesTables files program.entry.now topology.entry.now placement.entry.now result) }
     ensures read { (file : List ℕ) → IsReadOf file result → Rose (S.faults shelf.old file) (S.faults shelf.new file) }
     ensures not_write { IsErrOf result Refusal.Write → ⊥ }
@@ -97,7 +101,7 @@ fn tables_on<'a, S: Shelf>(
     topology: &'a [u8],
     placement: &'a [u8],
     shelf: &mut S,
-) -> Result<Valid, Refusal<'a>>
+) -> Result<SharedTables, Refusal<'a>>
     requires { IsInForm program }
     ensures gives { IfSome (S.files shelf.old) (λ files. CompilesOn files program topology.entry.now placement.entry.now result) }
     ensures read { (file : List ℕ) → IsReadOf file result → Rose (S.faults shelf.old file) (S.faults shelf.new file) }
@@ -118,7 +122,7 @@ fn tables_for<'a, S: Shelf>(
     network: &Network,
     placement: &'a [u8],
     shelf: &mut S,
-) -> Result<Valid, Refusal<'a>>
+) -> Result<SharedTables, Refusal<'a>>
     requires program { IsInForm program }
     requires topology { IsTopology network.now.topology }
     requires routes { AreRoutes network.now.topology network.now.routes }
@@ -140,7 +144,7 @@ fn tables_of<'a>(
     program: Program,
     network: &Network,
     text: &[u8],
-) -> Result<Valid, Refusal<'a>>
+) -> Result<SharedTables, Refusal<'a>>
     requires program { IsInForm program }
     requires topology { IsTopology network.now.topology }
     requires routes { AreRoutes network.now.topology network.now.routes }
@@ -179,7 +183,7 @@ fn make<'a>(
     groups: &Groups,
     network: &Network,
     placement: &Placement,
-) -> Result<Valid, Refusal<'a>>
+) -> Result<SharedTables, Refusal<'a>>
     requires program { IsInForm program.now }
     requires groups { IsGrouping program.now.body (length program.now.vars) groups.now }
     requires arities { IsArityIn program.now.body (length program.now.vars) (arity_of groups.now) }
@@ -192,7 +196,7 @@ fn make<'a>(
     ensures not_usage { IsErrOf result Refusal.Usage → ⊥ }
 {
     let built = diagram_of(alloc, program, groups)?;
-    let made = tables(
+    let made = shared_tables(
         alloc,
         program,
         built,

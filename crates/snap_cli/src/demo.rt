@@ -11,21 +11,20 @@ ghost use Rattle.snap_cli.specs.Deserved.{Meets};
 use crate::refusal::Refusal;
 use snap_demo::summary::summary;
 use snap_io::{Sink, write_whole};
+use snap_words::count::Count;
 use std::alloc::Global;
 
 /// Writes the summary of the demonstration with so many switches. No file is read.
 pub(crate) fn report<'a, O: Sink>(
     alloc: Global,
-    switches: u16,
+    switches: Count,
     out: &mut O,
 ) -> Result<(), Refusal<'a>>
-    requires some { 1 ≤ switches }
-    requires few { switches ≤ 64 }
-    ensures meets { (files : Files) → Meets files (demo switches) result (O.taken out.old) (O.taken out.new) }
+    ensures meets { (files : Files) → Meets files (demo switches.value) result (O.taken out.old) (O.taken out.new) }
     ensures causes { (before now : List ℕ → ℕ) → HasCauses before now (O.faults out.old) (O.faults out.new) result }
     ensures not_usage { IsErrOf result Refusal.Usage → ⊥ }
 {
-    write_summary(alloc, switches, out)
+    write_summary(alloc, switches.value, out)
 }
 
 fn write_summary<'a, O: Sink>(alloc: Global, switches: u16, out: &mut O) -> Result<(), Refusal<'a>>

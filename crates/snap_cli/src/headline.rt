@@ -1,12 +1,16 @@
 //! The headline: what is compiled and then traced is what one big switch does.
 
-ghost use Rattle.snap_cli.specs.Headline.{ChangesTraceAsOneSwitch, SchedulesInFewHops, SchedulesTraceAsOneSwitch, TracesAsOneSwitch, TracesInFewHops};
+ghost use Rattle.snap_cli.specs.Headline.{ChangesTraceAsOneSwitch, RoundsInFewHops, RoundsTraceAlike, RoundsTraceAsOneSwitch, RoundsTraceAsPlain, SchedulesInFewHops, SchedulesTraceAsOneSwitch, TracesAsOneSwitch, TracesInFewHops, TurnsInFewHops, TurnsTraceAsOneSwitch, TurnsTraceAsPlain};
 
 use crate::laws::{
-    answers_exactly, changes_exactly, compiles_exactly, schedules_exactly, spells_one_program,
-    traces_exactly,
+    answers_exactly, changes_exactly, compiles_exactly, rounds_exactly, schedules_exactly,
+    spells_one_program, traces_exactly, turns_exactly,
 };
+use snap_core::laws::has_one_listing;
 use snap_move::laws::{changed_runs_report_one_switch, said_changes_rise};
+use snap_order::laws::{
+    rounds_run_one_way, runs_in_turn_are_short, runs_in_turn_report_one_switch,
+};
 use snap_runs::laws::{calm_schedules_run_calmly, hops_are_added, spelled_packets_fit};
 use snap_whole::laws::{calm_runs_report_one_switch, runs_are_short};
 
@@ -56,4 +60,45 @@ pub fn changes_trace_as_one_switch()
     spelled_packets_fit();
     said_changes_rise();
     changed_runs_report_one_switch();
+}
+
+/// **So it is with `trace --ordered`, whatever packets overlap:** in the order of each schedule that can be done to an end, and
+/// without a schedule. What it wrote is, byte for byte, what `trace` without `--ordered` writes, one packet after the other; and
+/// with `--hops` no copy makes more than (groups + 1) times the greatest distance.
+pub fn turns_trace_as_one_switch()
+    ensures report { TurnsTraceAsOneSwitch }
+    ensures plain { TurnsTraceAsPlain }
+    ensures hops { TurnsInFewHops }
+{
+    answers_exactly();
+    compiles_exactly();
+    traces_exactly();
+    turns_exactly();
+    has_one_listing();
+    spelled_packets_fit();
+    calm_schedules_run_calmly();
+    calm_runs_report_one_switch();
+    runs_in_turn_report_one_switch();
+    runs_in_turn_are_short();
+}
+
+/// **So it is with `trace --ordered --workers`, for every number of workers:** what it wrote is, byte for byte, what `trace`
+/// without `--ordered` writes, one packet after the other; and with `--hops` no copy makes more than (groups + 1) times the
+/// greatest distance. Different numbers of workers write the same, with hops too, and whatever the tables.
+pub fn rounds_trace_as_one_switch()
+    ensures report { RoundsTraceAsOneSwitch }
+    ensures plain { RoundsTraceAsPlain }
+    ensures alike { RoundsTraceAlike }
+    ensures hops { RoundsInFewHops }
+{
+    answers_exactly();
+    compiles_exactly();
+    traces_exactly();
+    rounds_exactly();
+    has_one_listing();
+    spelled_packets_fit();
+    rounds_run_one_way();
+    calm_runs_report_one_switch();
+    runs_in_turn_report_one_switch();
+    runs_in_turn_are_short();
 }

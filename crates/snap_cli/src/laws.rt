@@ -1,12 +1,13 @@
 //! Laws of what words and files deserve, each the contract of a call that does nothing but name the laws below it.
 
-ghost use Rattle.snap_cli.specs.Laws.{AnswersExactly, ChangesExactly, ChecksExactly, CompilesExactly, DemosExactly, DeservesOneEnding, DeservesOneText, EqualsExactly, PlacementsAreSpelled, SchedulesExactly, SpellsOneProgram, TracesExactly};
+ghost use Rattle.snap_cli.specs.Laws.{AnswersExactly, ChangesExactly, ChecksExactly, CompilesExactly, DemosExactly, DeservesOneEnding, DeservesOneText, EqualsExactly, PlacementsAreSpelled, RoundsExactly, SchedulesExactly, SpellsOneProgram, TracesExactly, TurnsExactly};
 
 use crate::deps::has_one_text;
 use snap_core::laws::has_one_listing;
 use snap_dep::laws::{has_one_rank, tied_is_equivalence};
 use snap_lex::laws::finds_once;
 use snap_move::laws::changed_reports_are_one;
+use snap_order::laws as turns;
 use snap_parse::laws::yields_once;
 use snap_place::laws::printed_is_read;
 use snap_runs::laws::{plain_reports_are_one, schedules_run_one_way};
@@ -35,6 +36,9 @@ pub fn deserves_once()
     plain_reports_are_one();
     schedules_run_one_way();
     changed_reports_are_one();
+    turns::plain_reports_are_one();
+    turns::schedules_run_one_way();
+    turns::rounds_run_one_way();
 }
 
 /// Where no device failed and memory was there, a call's status, output and message are those of the one ending that
@@ -99,6 +103,26 @@ pub fn schedules_exactly()
 /// are refused nothing has gone out; at a line of packets that isn't in form the blocks of the packets before it have.
 pub fn changes_exactly()
     ensures { ChangesExactly }
+{
+    texts_are_read_one_way();
+    answers_exactly();
+}
+
+/// Where no device failed and memory was there, `trace --ordered` of tables that a file spells answers 16 just where they are
+/// of version 1, with nothing written; and else 0 just where all lines of the packets file are in form and all lines of the
+/// schedule, if there is one, can be done to an end, with the report of that run in turn written.
+pub fn turns_exactly()
+    ensures { TurnsExactly }
+{
+    texts_are_read_one_way();
+    answers_exactly();
+}
+
+/// Where no device failed and memory was there, `trace --ordered --workers` of tables that a file spells answers 16 just where
+/// they are of version 1, and else 0 just where all lines of the packets file are in form, with the report of the run by
+/// rounds written. Where it answers something else nothing is written. So it is for every number of workers.
+pub fn rounds_exactly()
+    ensures { RoundsExactly }
 {
     texts_are_read_one_way();
     answers_exactly();

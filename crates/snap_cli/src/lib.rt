@@ -2,21 +2,23 @@
 #![tactic(auto)]
 
 mod changes;
-pub mod check;
+mod check;
 pub mod compile;
-pub mod demo;
+mod demo;
 pub mod deps;
 mod diagram;
-pub mod equal;
+mod equal;
 pub mod headline;
+mod in_turn;
 pub mod laws;
 mod network;
-pub mod obs;
+mod obs;
 mod pair;
 pub mod place;
 pub mod program;
 pub mod refusal;
-pub mod routes;
+mod rounds;
+mod routes;
 mod schedule;
 pub mod spot;
 pub mod tables;
@@ -25,4 +27,4 @@ mod tests;
 mod text;
 pub mod top;
 pub mod topology;
-pub mod trace;
+mod trace;

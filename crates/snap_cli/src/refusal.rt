@@ -167,6 +167,9 @@ pub enum Refusal<'a> {
 
     /// This line of the schedule isn't in form or can't be done, or the schedule ends before it too early.
     Schedule { line: u64 },
+
+    /// The tables are of version 1, in which packets take no turns.
+    VersionOne,
 }
 
 fn which_text(which: Which) -> &'static [u8]
@@ -436,6 +439,7 @@ impl Refusal<'_> {
             Refusal::Changes { .. } => 20,
             Refusal::NoMemory => 14,
             Refusal::Undefined { .. } => 15,
+            Refusal::VersionOne => 16,
             Refusal::Declarations => 17,
             Refusal::Differ { .. } => 18,
             Refusal::Demand { .. } => 19,
@@ -469,6 +473,7 @@ impl Refusal<'_> {
             Refusal::Schedule { line } => tell_number(err, b"schedule: line", *line),
             Refusal::Changes { line } => tell_number(err, b"changes: line", *line),
             Refusal::ReadChange { name } => tell_read(err, name.bytes()),
+            Refusal::VersionOne => tell_text(err, b"tables: version 1"),
         }
     }
 }

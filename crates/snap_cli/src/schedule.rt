@@ -3,7 +3,8 @@
 ghost use Rattle.std.specs.Prelude.{◌≡◌, IfSome, IsErrOf};
 ghost use Rattle.snap_io.specs.Files.{file_of};
 ghost use Rattle.snap_cli.specs.Causes.{HasCauses};
-ghost use Rattle.snap_cli.specs.TraceSteps.{MeetsSchedule, refusal_of_schedule};
+ghost use Rattle.snap_cli.specs.RunSteps.{refusal_of_schedule};
+ghost use Rattle.snap_cli.specs.TraceSteps.{MeetsSchedule};
 
 use crate::obs::refusal_of_run;
 use crate::refusal::Refusal;
@@ -35,8 +36,12 @@ pub(crate) fn report_scheduled<'a, S: Shelf, O: Sink>(
     }
 }
 
-// The refusal of a run over files with these names.
-fn refusal_of_schedule<'a>(packets: &'a [u8], lines: &'a [u8], fault: ScheduleFault) -> Refusal<'a>
+/// The refusal of a run over files with these names.
+pub(crate) fn refusal_of_schedule<'a>(
+    packets: &'a [u8],
+    lines: &'a [u8],
+    fault: ScheduleFault,
+) -> Refusal<'a>
     ensures { result ≡ refusal_of_schedule packets.entry lines.entry fault }
 {
     match fault {

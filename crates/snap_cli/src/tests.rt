@@ -4,6 +4,7 @@ mod check;
 mod compile;
 mod demo;
 mod deps;
+mod in_turn;
 mod obs;
 mod routes;
 mod trace;

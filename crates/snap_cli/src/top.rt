@@ -15,10 +15,13 @@ use snap_words::calls::command;
 use snap_words::command::Command;
 use snap_words::fault::WordsFault;
 use std::alloc::Global;
+use std::thread::Threads;
 
 /// Does what the words ask, with the files of the shelf: it writes the output to `out`, and a refusal's message to
-/// `err`, and answers the status (`README.md` lists them). A fault of `err` changes neither status nor output.
-pub fn snap<S: Shelf, O: Sink, E: Sink>(
+/// `err`, and answers the status (`README.md` lists them). A fault of `err` changes neither status nor output. Threads of
+/// `rt` are started for the workers of `trace` alone, and joined before the call returns.
+pub fn snap<R: Threads + Sync, S: Shelf, O: Sink, E: Sink>(
+    rt: &R,
     alloc: Global,
     words: &[Vec<u8>],
     shelf: &mut S,
@@ -37,7 +40,7 @@ pub fn snap<S: Shelf, O: Sink, E: Sink>(
     ensures read { result ≡ 2 → (name : List ℕ) × Rose (S.faults shelf.old name) (S.faults shelf.new name) }
     ensures write { result ≡ 3 → Rose (O.faults out.old) (O.faults out.new) }
 {
-    let ending = run(alloc, words, shelf, out);
+    let ending = run(rt, alloc, words, shelf, out);
     match ending {
         Ok(()) => 0,
         Err(refusal) => {
@@ -48,7 +51,8 @@ pub fn snap<S: Shelf, O: Sink, E: Sink>(
 }
 
 // The commands, each by its words.
-fn run<'a, S: Shelf, O: Sink>(
+fn run<'a, R: Threads + Sync, S: Shelf, O: Sink>(
+    rt: &R,
     alloc: Global,
     words: &'a [Vec<u8>],
     shelf: &mut S,
@@ -88,7 +92,7 @@ fn run<'a, S: Shelf, O: Sink>(
                 hops,
                 order,
             },
-        ) => trace::report(alloc, tables, packets, hops, order, shelf, out),
+        ) => trace::report(rt, alloc, tables, packets, hops, order, shelf, out),
         Ok(Command::Demo { switches }) => demo::report(alloc, switches, out),
         Err(WordsFault::Usage) => Err(Refusal::Usage),
         Err(WordsFault::NoMemory) => Err(Refusal::NoMemory),

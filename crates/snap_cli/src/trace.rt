@@ -9,8 +9,10 @@ ghost use Rattle.snap_cli.specs.Deserved.{Meets};
 ghost use Rattle.snap_cli.specs.TraceSteps.{MeetsOrder, MeetsTrace};
 
 use crate::changes::report_changed;
+use crate::in_turn::report_in_turn;
 use crate::obs::refusal_of_run;
 use crate::refusal::Refusal;
+use crate::rounds::report_by_rounds;
 use crate::schedule::report_scheduled;
 use crate::tables::load_tables;
 use snap_io::{Shelf, Sink};
@@ -18,10 +20,12 @@ use snap_rows::valid::Valid;
 use snap_runs::trace::trace;
 use snap_words::command::Order;
 use std::alloc::Global;
+use std::thread::Threads;
 
 /// Writes the report of the network: the tables over the packets file, in this order. With `hops` a line tells each link
 /// that a copy crosses.
-pub(crate) fn report<'a, S: Shelf, O: Sink>(
+pub(crate) fn report<'a, R: Threads + Sync, S: Shelf, O: Sink>(
+    rt: &R,
     alloc: Global,
     tables: &'a [u8],
     packets: &'a [u8],
@@ -36,13 +40,14 @@ pub(crate) fn report<'a, S: Shelf, O: Sink>(
     ensures not_usage { IsErrOf result Refusal.Usage → ⊥ }
 {
     match load_tables(alloc, shelf, tables) {
-        Ok(tables) => report_in_order(alloc, tables, packets, hops, order, shelf, out),
+        Ok(tables) => report_in_order(rt, alloc, tables, packets, hops, order, shelf, out),
         Err(refusal) => Err(refusal),
     }
 }
 
 // Writes the report of tables that were read, in this order.
-fn report_in_order<'a, S: Shelf, O: Sink>(
+fn report_in_order<'a, R: Threads + Sync, S: Shelf, O: Sink>(
+    rt: &R,
     alloc: Global,
     tables: Valid,
     packets: &'a [u8],
@@ -62,6 +67,12 @@ fn report_in_order<'a, S: Shelf, O: Sink>(
             report_scheduled(alloc, tables, packets, file, hops, shelf, out)
         }
         Order::Changes { file } => report_changed(alloc, tables, packets, file, hops, shelf, out),
+        Order::InTurn { schedule } => {
+            report_in_turn(alloc, tables, packets, schedule, hops, shelf, out)
+        }
+        Order::Rounds { workers } => {
+            report_by_rounds(rt, alloc, tables, packets, workers, hops, shelf, out)
+        }
     }
 }
 

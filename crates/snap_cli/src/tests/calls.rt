@@ -3,6 +3,7 @@ use snap_io::{File, MemoryShelf, MemorySink, have_distinct_names};
 use std::alloc::Global;
 use std::process::Abort;
 use std::test::Fail;
+use std::thread::Threads;
 
 // What a call answered and wrote.
 #[derive(Drop)]
@@ -33,7 +34,7 @@ pub(crate) const AMPLE: Devices<'static> = Devices {
 
 // Calls `snap` with these files, names with contents.
 pub(crate) fn call(
-    rt: &impl Abort,
+    rt: &(impl Abort + Threads + Sync),
     alloc: Global,
     words: &[&[u8]],
     files: &[(&[u8], &[u8])],
@@ -43,7 +44,7 @@ pub(crate) fn call(
 
 // The same over devices that may fail.
 pub(crate) fn call_over(
-    rt: &impl Abort,
+    rt: &(impl Abort + Threads + Sync),
     alloc: Global,
     words: &[&[u8]],
     files: &[(&[u8], &[u8])],
@@ -54,7 +55,7 @@ pub(crate) fn call_over(
     let fails = devices.write_fails.to_vec(alloc)?;
     let mut out = MemorySink::new(alloc, 4096, devices.write_most.max(1), fails)?;
     let mut err = MemorySink::new(alloc, devices.err_room, 256, Vec::new(alloc))?;
-    let status = snap(alloc, &words, &mut shelf, &mut out, &mut err);
+    let status = snap(rt, alloc, &words, &mut shelf, &mut out, &mut err);
     Ok(Called { status, out, err })
 }
 

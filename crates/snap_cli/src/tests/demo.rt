@@ -12,16 +12,6 @@ end
 ";
 
 #[test]
-fn demo_writes_its_summary(rt: HostRuntime) -> Result<(), Fail> {
-    let words: &[&[u8]] = &[b"demo", b"3"];
-    let got = call(&rt, rt.alloc(), words, &[])?;
-    assert_eq!(rt; got.status, 0);
-    assert_eq!(rt; got.out.bytes(), SUMMARY);
-    assert_eq!(rt; got.err.bytes(), b"".as_slice());
-    Ok(())
-}
-
-#[test]
 fn demo_tells_a_failed_write(rt: HostRuntime) -> Result<(), Fail> {
     let words: &[&[u8]] = &[b"demo", b"3"];
     let devices = Devices {

@@ -1,7 +1,6 @@
 use super::calls::{call, shelf_of, spelled};
 use crate::top::snap;
 use snap_io::MemorySink;
-use std::alloc::Global;
 use std::test::Fail;
 
 const TUNNEL: &[u8] = b"
@@ -84,61 +83,6 @@ fn deps_answers_by_its_words_and_files(rt: HostRuntime) -> Result<(), Fail> {
     Ok(())
 }
 
-// The two digits of a number below 100.
-fn put_digits(text: &mut Vec<u8>, number: u8) -> Result<(), Fail> {
-    text.push(b'0' + number / 10 % 10)?;
-    text.push(b'0' + number % 10)?;
-    Ok(())
-}
-
-// A program of this many arrays, `v00` and so on, each of which leads to the one before it.
-fn chain(alloc: Global, count: u8) -> Result<Vec<u8>, Fail> {
-    let mut text = Vec::new(alloc);
-    for array in 0..count {
-        text.extend_from_slice(b"array v")?;
-        put_digits(&mut text, array)?;
-        text.push(b';')?;
-    }
-    for array in 1..count {
-        text.extend_from_slice(b"if inport = ")?;
-        put_digits(&mut text, array)?;
-        text.extend_from_slice(b" then if v")?;
-        put_digits(&mut text, array)?;
-        text.extend_from_slice(b"[inport] then v")?;
-        put_digits(&mut text, array - 1)?;
-        text.extend_from_slice(b"[inport]++ else id else ")?;
-    }
-    text.extend_from_slice(b"id")?;
-    Ok(text)
-}
-
-#[test]
-fn sixty_four_arrays_in_one_chain(rt: HostRuntime) -> Result<(), Fail> {
-    let alloc = rt.alloc();
-    let mut want = Vec::new(alloc);
-    for array in 1..64 {
-        want.extend_from_slice(b"dep v")?;
-        put_digits(&mut want, array)?;
-        want.extend_from_slice(b" v")?;
-        put_digits(&mut want, array - 1)?;
-        want.push(b'\n')?;
-    }
-    for rank in 0..64 {
-        want.extend_from_slice(b"group v")?;
-        put_digits(&mut want, 63 - rank)?;
-        want.push(b'\n')?;
-    }
-    want.extend_from_slice(b"end\n")?;
-    let words: &[&[u8]] = &[b"deps", b"p"];
-    let got = call(&rt, alloc, words, &[(b"p", &chain(alloc, 64)?)])?;
-    assert_eq!(rt; got.status, 0);
-    assert_eq!(rt; got.out.bytes(), want.as_slice());
-    let more = call(&rt, alloc, words, &[(b"p", &chain(alloc, 65)?)])?;
-    assert_eq!(rt; more.status, 6);
-    assert_eq!(rt; more.err.bytes(), b"snapc: limit: arrays 65\n".as_slice());
-    Ok(())
-}
-
 #[test]
 fn deps_stops_where_the_output_does(rt: HostRuntime) -> Result<(), Fail> {
     let alloc = rt.alloc();
@@ -146,7 +90,7 @@ fn deps_stops_where_the_output_does(rt: HostRuntime) -> Result<(), Fail> {
     let mut shelf = shelf_of(&rt, alloc, &[(b"p", b"array s; outport <- 1")])?;
     let mut out = MemorySink::new(alloc, 7, 2, Vec::new(alloc))?;
     let mut err = MemorySink::new(alloc, 256, 256, Vec::new(alloc))?;
-    let status = snap(alloc, &words, &mut shelf, &mut out, &mut err);
+    let status = snap(&rt, alloc, &words, &mut shelf, &mut out, &mut err);
     assert_eq!(rt; status, 3);
     assert_eq!(rt; out.bytes(), b"group s".as_slice());
     assert_eq!(rt; err.bytes(), b"snapc: cannot write\n".as_slice());

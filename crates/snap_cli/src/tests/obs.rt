@@ -1,5 +1,4 @@
 use super::calls::{AMPLE, Devices, call, call_over};
-use std::alloc::Global;
 use std::test::Fail;
 
 #[test]
@@ -118,56 +117,6 @@ fn obs_answers_by_its_words_and_files(rt: HostRuntime) -> Result<(), Fail> {
     ];
     for (words, program, packets, status, out, err) in cases {
         let got = call(&rt, rt.alloc(), words, &[(b"p", program), (b"q", packets)])?;
-        assert_eq!(rt; got.status, status);
-        assert_eq!(rt; got.out.bytes(), out);
-        assert_eq!(rt; got.err.bytes(), err);
-    }
-    Ok(())
-}
-
-// `if inport = 1 then ` as often as this, then `id`, and ` else drop` as often.
-fn nested(alloc: Global, depth: usize) -> Result<Vec<u8>, Fail> {
-    let mut text = Vec::new(alloc);
-    for _ in 0..depth {
-        text.extend_from_slice(b"if inport = 1 then ")?;
-    }
-    text.extend_from_slice(b"id")?;
-    for _ in 0..depth {
-        text.extend_from_slice(b" else drop")?;
-    }
-    Ok(text)
-}
-
-// One more test than this in a sequence. The weight of `n` tests is 2 to the power of `n`.
-fn sequence(alloc: Global, more: usize) -> Result<Vec<u8>, Fail> {
-    let mut text = b"inport = 1".to_vec(alloc)?;
-    for _ in 0..more {
-        text.extend_from_slice(b"; inport = 1")?;
-    }
-    Ok(text)
-}
-
-#[test]
-fn obs_takes_programs_up_to_a_depth_and_a_weight(rt: HostRuntime) -> Result<(), Fail> {
-    let alloc = rt.alloc();
-    let cases: [(Vec<u8>, u8, &[u8], &[u8]); 4] = [
-        (nested(alloc, 128)?, 0, b"end\n", b""),
-        (nested(alloc, 129)?, 4, b"", b"snapc: 1:2433: too deep\n"),
-        (sequence(alloc, 23)?, 0, b"end\n", b""),
-        (
-            sequence(alloc, 24)?,
-            6,
-            b"",
-            b"snapc: limit: weight 33554432\n",
-        ),
-    ];
-    for (program, status, out, err) in cases {
-        let got = call(
-            &rt,
-            alloc,
-            &[b"obs", b"p", b"q"],
-            &[(b"p", &program), (b"q", b"")],
-        )?;
         assert_eq!(rt; got.status, status);
         assert_eq!(rt; got.out.bytes(), out);
         assert_eq!(rt; got.err.bytes(), err);

@@ -1,5 +1,4 @@
 use super::calls::{AMPLE, Devices, call, call_over};
-use std::alloc::Global;
 use std::test::Fail;
 
 const WORDS: &[&[u8]] = &[b"routes", b"t"];
@@ -76,29 +75,6 @@ fn routes_answers_by_its_file(rt: HostRuntime) -> Result<(), Fail> {
     ];
     for (file, status, out, err) in cases {
         let got = call(&rt, rt.alloc(), WORDS, &[(b"t", file)])?;
-        assert_eq!(rt; got.status, status);
-        assert_eq!(rt; got.out.bytes(), out);
-        assert_eq!(rt; got.err.bytes(), err);
-    }
-    Ok(())
-}
-
-// A topology of one switch, in a file of this many bytes.
-fn padded(alloc: Global, size: usize) -> Result<Vec<u8>, Fail> {
-    let mut file = b"switches = [\"a\"]\nlinks = []\nports = {}\n".to_vec(alloc)?;
-    file.resize(size, b'\n')?;
-    Ok(file)
-}
-
-#[test]
-fn a_topology_may_have_1048576_bytes(rt: HostRuntime) -> Result<(), Fail> {
-    let cases: [(usize, u8, &[u8], &[u8]); 2] = [
-        (1_048_576, 0, b"diameter 0\nend\n", b""),
-        (1_048_577, 6, b"", b"snapc: limit: bytes 1048577\n"),
-    ];
-    for (size, status, out, err) in cases {
-        let file = padded(rt.alloc(), size)?;
-        let got = call(&rt, rt.alloc(), WORDS, &[(b"t", &file)])?;
         assert_eq!(rt; got.status, status);
         assert_eq!(rt; got.out.bytes(), out);
         assert_eq!(rt; got.err.bytes(), err);

@@ -51,36 +51,6 @@ fn trace_writes_one_report_however_reads_are_cut(rt: HostRuntime) -> Result<(), 
     Ok(())
 }
 
-#[test]
-fn trace_refuses_tables_and_packets_at_their_lines(rt: HostRuntime) -> Result<(), Fail> {
-    let short: &[u8] = FIRST_COME.split_at(FIRST_COME.len() - 1).0;
-    let cases: [(&[u8], &[u8], u8, &[u8], &[u8]); 3] = [
-        (short, b"1\n", 11, b"", b"snapc: tables: line 16\n"),
-        (
-            b"snap-tables 1\nfield inport\nfield outport\nswitch a\nport 1 0\nend\n",
-            b"1\n",
-            11,
-            b"",
-            b"snapc: tables: rule missing line 5\n",
-        ),
-        (
-            FIRST_COME,
-            b"1\n9\n",
-            12,
-            FIRST_BLOCK,
-            b"snapc: packets: line 2\n",
-        ),
-    ];
-    for (tables, packets, status, out, err) in cases {
-        let files: &[(&[u8], &[u8])] = &[(b"t", tables), (b"k", packets)];
-        let got = call(&rt, rt.alloc(), WORDS, files)?;
-        assert_eq!(rt; got.status, status);
-        assert_eq!(rt; got.out.bytes(), out);
-        assert_eq!(rt; got.err.bytes(), err);
-    }
-    Ok(())
-}
-
 const LONE: &[u8] = b"inject\ninject\nstep 1\nstep 0\nstep 0\nstep 1\nstep 1\nstep 0\n";
 
 const LATE_FIRST: &[u8] = b"packet 1
@@ -108,16 +78,6 @@ fn trace_does_what_a_schedule_orders(rt: HostRuntime) -> Result<(), Fail> {
         assert_eq!(rt; got.out.bytes(), out);
         assert_eq!(rt; got.err.bytes(), err);
     }
-    Ok(())
-}
-
-#[test]
-fn a_schedule_that_is_absent_is_named(rt: HostRuntime) -> Result<(), Fail> {
-    let words: &[&[u8]] = &[b"trace", b"t", b"k", b"--schedule", b"no-s"];
-    let got = call(&rt, rt.alloc(), words, FILES)?;
-    assert_eq!(rt; got.status, 2);
-    assert_eq!(rt; got.out.bytes(), b"".as_slice());
-    assert_eq!(rt; got.err.bytes(), b"snapc: cannot read no-s\n".as_slice());
     Ok(())
 }
 

@@ -2,4 +2,4 @@ use Rattle.snap_cli.proofs.DemoLemmas.{meets-summary}
 use Rattle.snap_cli.proofs.demo.report.Goals as goal
 
 pub returns-clause-meets : goal.returns-clause-meets
-returns-clause-meets g c = λ files. meets-summary files c.args.switches _ _ c.write_summary.result c.write_summary.ensures.meets
+returns-clause-meets g c = λ files. meets-summary files c.args.switches.value _ _ c.write_summary.result c.write_summary.ensures.meets

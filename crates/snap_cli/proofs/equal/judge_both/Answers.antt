@@ -1,6 +1,5 @@
 -- The diagrams tell of the programs.
-use Rattle.std.proofs.Common.{◌≡◌, List, length, ap, ◌∙◌, subst}
-use Rattle.snap_core.specs.declared.program.Program.{Program}
+use Rattle.std.proofs.Common.{length, ap, ◌∙◌, subst}
 use Rattle.snap_core.specs.Cells.{arrays_of}
 use Rattle.snap_core.specs.Fields.{count}
 use Rattle.snap_equal.specs.Same.{IsCompared}

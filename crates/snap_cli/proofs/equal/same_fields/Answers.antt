@@ -1,5 +1,5 @@
 -- One field more.
-use Rattle.std.proofs.Common.{◌≡◌, ◌<◌, length, arith}
+use Rattle.std.proofs.Common.{arith}
 use Rattle.snap_cli.proofs.EqualPrograms.{take_both}
 use Rattle.snap_cli.proofs.equal.same_fields.Goals as goal
 

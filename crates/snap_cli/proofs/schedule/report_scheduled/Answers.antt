@@ -1,6 +1,7 @@
 use Rattle.std.proofs.Common.{Ok, Err, refl, sym, ap, subst}
 use Rattle.snap_cli.specs.Causes.{HasCauses}
-use Rattle.snap_cli.proofs.TraceLemmas.{because, told-schedule}
+use Rattle.snap_cli.proofs.ScheduleLemmas.{because}
+use Rattle.snap_cli.proofs.TraceLemmas.{told-schedule}
 use Rattle.snap_cli.proofs.schedule.report_scheduled.Goals as goal
 
 pub returns-in-Ok-clause-meets : goal.returns-in-Ok-clause-meets

@@ -23,3 +23,6 @@ returns-in-Schedule-clause-ok g c = rw c.in-Schedule.is c.tell_number-in-Schedul
 
 pub returns-in-Schedule-clause-err : goal.returns-in-Schedule-clause-err
 returns-in-Schedule-clause-err g c = rw c.in-Schedule.is c.tell_number-in-Schedule.ensures.err
+
+pub returns-in-VersionOne-clause-err : goal.returns-in-VersionOne-clause-err
+returns-in-VersionOne-clause-err g c = rw c.in-VersionOne.is c.tell_text-in-VersionOne.ensures.err

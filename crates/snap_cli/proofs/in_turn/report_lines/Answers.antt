@@ -1,0 +1,20 @@
+use Rattle.std.proofs.Common.{Ok, Err, refl, sym, ap, subst}
+use Rattle.snap_cli.specs.Causes.{HasCauses}
+use Rattle.snap_cli.proofs.InTurnLemmas.{told-lines}
+use Rattle.snap_cli.proofs.ScheduleLemmas.{because}
+use Rattle.snap_cli.proofs.in_turn.report_lines.Goals as goal
+
+pub returns-in-Ok-clause-meets : goal.returns-in-Ok-clause-meets
+returns-in-Ok-clause-meets g c =
+    told-lines (g.S.Shelf.files c.args.shelf.now) c.args.tables c.args.hops c.args.packets c.args.lines (g.O.Sink.taken c.args.out.now) (g.O.Sink.taken c.schedule_ordered.new.sink) (Ok tt) (Ok tt) refl c.in-Ok.ensures.report
+
+pub returns-in-Err-clause-meets : goal.returns-in-Err-clause-meets
+returns-in-Err-clause-meets g c =
+    told-lines (g.S.Shelf.files c.args.shelf.now) c.args.tables c.args.hops c.args.packets c.args.lines (g.O.Sink.taken c.args.out.now) (g.O.Sink.taken c.schedule_ordered.new.sink) (Err c.in-Err.fault) (Err c.refusal_of_schedule.result)
+    (ap (λ e. Err e) c.refusal_of_schedule.ensures) c.in-Err.ensures.report
+
+pub returns-in-Err-clause-causes : goal.returns-in-Err-clause-causes
+returns-in-Err-clause-causes g c =
+    subst (λ e. HasCauses (g.S.Shelf.faults c.args.shelf.now) (g.S.Shelf.faults c.schedule_ordered.new.shelf) (g.O.Sink.faults c.args.out.now) (g.O.Sink.faults c.schedule_ordered.new.sink) (Err e)) (sym c.refusal_of_schedule.ensures)
+    (because (g.S.Shelf.faults c.args.shelf.now) (g.S.Shelf.faults c.schedule_ordered.new.shelf) (g.O.Sink.faults c.args.out.now) (g.O.Sink.faults c.schedule_ordered.new.sink) c.args.packets c.args.lines c.in-Err.fault
+    c.in-Err.ensures.no_write c.in-Err.ensures.read_packets c.in-Err.ensures.read c.in-Err.ensures.write)

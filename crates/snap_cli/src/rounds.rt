@@ -1,0 +1,73 @@
+//! `trace --ordered --workers`: the report of a run by rounds, in which several workers make the steps.
+
+ghost use Rattle.std.specs.Prelude.{◌≡◌, IfSome, IsErrOf};
+ghost use Rattle.snap_cli.specs.Causes.{HasCauses};
+ghost use Rattle.snap_cli.specs.RoundsSteps.{MeetsByRounds, MeetsRounds};
+
+use crate::in_turn::has_turns;
+use crate::obs::refusal_of_run;
+use crate::refusal::Refusal;
+use snap_io::{Shelf, Sink};
+use snap_order::gate::NoGate;
+use snap_order::workers::trace_workers;
+use snap_rows::valid::Valid;
+use snap_words::count::Count;
+use std::alloc::Global;
+use std::thread::Threads;
+
+/// Writes the report of tables that were read, over the packets file, by rounds that so many workers make. `VersionOne`
+/// where the tables are of that version.
+pub(crate) fn report_by_rounds<'a, R: Threads + Sync, S: Shelf, O: Sink>(
+    rt: &R,
+    alloc: Global,
+    tables: Valid,
+    packets: &'a [u8],
+    workers: Count,
+    hops: bool,
+    shelf: &mut S,
+    out: &mut O,
+) -> Result<(), Refusal<'a>>
+    ensures meets { IfSome (S.files shelf.old) (λ files.
+        MeetsByRounds files tables hops packets.entry result (O.taken out.old) (O.taken out.new)) }
+    ensures causes { HasCauses (S.faults shelf.old) (S.faults shelf.new) (O.faults out.old) (O.faults out.new) result }
+    ensures not_usage { IsErrOf result Refusal.Usage → ⊥ }
+{
+    if has_turns(&tables) {
+        report_rounds(rt, alloc, tables, packets, workers, hops, shelf, out)
+    } else {
+        Err(Refusal::VersionOne)
+    }
+}
+
+// Writes the report of tables of version 2.
+fn report_rounds<'a, R: Threads + Sync, S: Shelf, O: Sink>(
+    rt: &R,
+    alloc: Global,
+    tables: Valid,
+    packets: &'a [u8],
+    workers: Count,
+    hops: bool,
+    shelf: &mut S,
+    out: &mut O,
+) -> Result<(), Refusal<'a>>
+    requires version { tables.version ≡ 2 }
+    ensures meets { IfSome (S.files shelf.old) (λ files.
+        MeetsRounds files tables hops packets.entry result (O.taken out.old) (O.taken out.new)) }
+    ensures causes { HasCauses (S.faults shelf.old) (S.faults shelf.new) (O.faults out.old) (O.faults out.new) result }
+    ensures not_usage { IsErrOf result Refusal.Usage → ⊥ }
+{
+    match trace_workers(
+        rt,
+        alloc,
+        shelf,
+        packets,
+        tables,
+        hops,
+        workers.value,
+        &NoGate,
+        out,
+    ) {
+        Ok(()) => Ok(()),
+        Err(fault) => Err(refusal_of_run(packets, fault)),
+    }
+}
