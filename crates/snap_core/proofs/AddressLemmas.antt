@@ -1,12 +1,11 @@
 -- An address that is read a byte after the other is the one of its four parts.
-use Rattle.std.proofs.Common.{◌≡◌, ℕ, ◌+◌, ◌-◌, ◌*◌, ◌^◌, ◌<◌, ◌≤◌, ◌&&◌, zero, suc, Bool, true, false, cond, eqb, Option, Some, None, List, [], ◌∷◌, length, refl, sym, ap, ◌∙◌, arith, zero-add}
+use Rattle.std.proofs.Common.{◌≡◌, ℕ, ◌+◌, ◌-◌, ◌*◌, ◌<◌, ◌&&◌, zero, suc, Bool, true, false, cond, eqb, Option, Some, None, List, [], ◌∷◌, length, refl, sym, ap, ◌∙◌, arith, zero-add}
 use Rattle.std.specs.Prelude.{nat_le, nat_lt, option_and_then}
 use Rattle.std.specs.Char.{is_ascii_digit}
 use Rattle.std.proofs.lemmas.Bool.Decides.{nat_tests}
-use Rattle.snap_core.specs.declared.figures.Reading.{Reading}
 use Rattle.snap_core.specs.Figures.{address_behind, address_of, address_of_parts, number_up_to, octet_of}
 use Rattle.snap_core.specs.Parts.{onto_first, parts_by}
-use Rattle.snap_core.specs.AddressSteps.{reading_at_first, is_octet, number_so_far, with_digit, with_dot, address_at_end, address_left}
+use Rattle.snap_core.specs.AddressSteps.{Reading, reading_at_first, is_octet, number_so_far, with_digit, with_dot, address_at_end, address_left}
 
 -- a part, behind digits that were read
 abbrev octet_from : ℕ → ℕ → List ℕ → Option ℕ
@@ -140,10 +139,3 @@ four (a ∷ b ∷ c ∷ d ∷ more ∷ parts) = refl
 
 pub address_left-first : (text : List ℕ) → address_left reading_at_first text ≡ address_of text
 address_left-first text = left-parts text 3 reading_at_first refl ∙ four (parts_by (λ b. eqb b 46) text)
-
-pub bytes_to : (n : ℕ) → n ≤ 3 → 256 ^ n ≤ 2 ^ 24
-bytes_to zero h = omega arith
-bytes_to (suc zero) h = omega arith
-bytes_to (suc (suc zero)) h = omega arith
-bytes_to (suc (suc (suc zero))) h = omega arith
-bytes_to (suc (suc (suc (suc n)))) h = absurd (omega arith)

@@ -9,7 +9,8 @@ use Rattle.std.proofs.lemmas.Bool.{cases_Bool, cond-true, cond-false, eq-eqb, eq
 use Rattle.snap_core.specs.declared.place.Place.{Place}
 use Rattle.snap_core.specs.declared.policy.Update.{Update}
 use Rattle.snap_core.specs.Arrays.{Arrays, same_place, put, value_of, place_at, number_after, update}
-use Rattle.snap_core.specs.Cells.{Cells, cell, array_at}
+use Rattle.snap_core.specs.declared.write.Write.{Write}
+use Rattle.snap_core.specs.Cells.{Cells, cell, array_at, written}
 use Rattle.snap_core.specs.CellsKept.{cell_at, HasCellsOf}
 use Rattle.snap_core.proofs.Places.{same_key, same_place-exact}
 use Rattle.snap_core.proofs.StoreLemmas.{at-updated}
@@ -42,30 +43,15 @@ put-back m p v = λ i q. back q (same_place p q) refl i
     back q false e = cond-false _ _ _ e ∙ cond-false _ _ _ e
 
 -- ---- one update, which may be undone
-pub update-done : (m h w : Arrays) (u : Update) (k ix : List ℕ) (v : ℕ)
+pub update-done : (m n : Arrays) (u : Update) (k ix : List ℕ) (w : Write)
     → ix ≡ map (λ e. value_of e k) u.index
-    → h ≡ m
-    → v ≡ h (record { var = u.var; index = ix })
-    → w ≡ put h (record { var = u.var; index = ix }) (number_after u.op v k)
-    → w ≡ update m u k
-update-done m h w u k ix v at same number done =
-    let old : v ≡ m (place_at u.var u.index k) = number ∙ (λ i. same i (record { var = u.var; index = at i })) in
-    done ∙ (λ i. put (same i) (record { var = u.var; index = at i }) (number_after u.op (old i) k))
+    → ((old : ℕ) → written w old ≡ number_after u.op old k)
+    → n ≡ put m (record { var = u.var; index = ix }) (written w (m (record { var = u.var; index = ix })))
+    → n ≡ update m u k
+update-done m n u k ix w at number done =
+    done
+    ∙ (λ i. put m (record { var = u.var; index = at i }) (written w (m (record { var = u.var; index = at i }))))
+    ∙ ap (put m (place_at u.var u.index k)) (number (m (place_at u.var u.index k)))
 
-pub update-undone : (m h w r z : Arrays) (p : Place) (x v : ℕ) → h ≡ m → v ≡ h p → w ≡ put h p x → r ≡ w → z ≡ put r p v → z ≡ m
-update-undone m h w r z p x v same number done kept back = back ∙ (λ i. put ((kept ∙ done) i) p (number i)) ∙ put-back h p x ∙ same
-
--- ---- cells after one is made with 0
-pub made-here : (ix : List ℕ) (o : Option ℕ) (v : ℕ) → cond (bytes_eq ix ix) (Some v) o ≡ Some v
-made-here ix o v = cond-true _ _ _ (nat_list_eq_equiv.refl ix)
-
-pub made-zero : (cs : Cells) (ix q : List ℕ) → cell cs ix ≡ None → unwrap_or (cond (bytes_eq ix q) (Some 0) (cell cs q)) 0 ≡ unwrap_or (cell cs q) 0
-made-zero cs ix q none = by_same (bytes_eq ix q) refl
-  where
-    by_same : (t : Bool) → bytes_eq ix q ≡ t → unwrap_or (cond t (Some 0) (cell cs q)) 0 ≡ unwrap_or (cell cs q) 0
-    by_same true e = sym (ap (λ o. unwrap_or o 0) (subst (λ k. cell cs k ≡ None) (same_key ix q e) none))
-    by_same false e = refl
-
-pub put-kept : (t : Bool) (v : ℕ) (o : Option ℕ) → IsTrue (is_some o) → IsTrue (is_some (cond t (Some v) o))
-put-kept true v o h = refl
-put-kept false v o h = h
+pub update-undone : (m n r z : Arrays) (p : Place) (x v : ℕ) → v ≡ m p → n ≡ put m p x → r ≡ n → z ≡ put r p v → z ≡ m
+update-undone m n r z p x v number done kept back = back ∙ (λ i. put ((kept ∙ done) i) p (number i)) ∙ put-back m p x

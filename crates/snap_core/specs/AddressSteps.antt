@@ -1,8 +1,15 @@
 -- An address, read a byte after the other.
-use Rattle.std.specs.Prelude.{ℕ, ◌+◌, ◌-◌, ◌*◌, ◌^◌, ◌<◌, ◌≤◌, Bool, ◌&&◌, ◌==◌, nat_le, nat_lt, if◌then◌else◌, List, [], ◌∷◌, Some, None, option_and_then}
+use Rattle.std.specs.Prelude.{◌≡◌, ℕ, ◌+◌, ◌-◌, ◌*◌, ◌<◌, Bool, false, ◌&&◌, ◌==◌, nat_le, nat_lt, if◌then◌else◌, List, [], ◌∷◌, Some, None, option_and_then}
 use Rattle.std.specs.Char.{is_ascii_digit}
 use Rattle.std.specs.declared.option.Option.{Option}
-use Rattle.snap_core.specs.declared.figures.Reading.{Reading}
+
+-- An address as far as it is read: the number of the parts before the last dot, the part behind it, how many digits that
+-- one has, and how many dots there were.
+pub record Reading : Type 0 where
+  pub front : ℕ
+  pub part : ℕ
+  pub digits : ℕ
+  pub dots : ℕ
 
 -- nothing is read
 abbrev pub reading_at_first : Reading
@@ -35,9 +42,34 @@ abbrev pub address_left : Reading → List ℕ → Option ℕ
 address_left r [] = address_at_end r
 address_left r (b ∷ bs) = option_and_then (λ r. address_left r bs) (with_byte r b)
 
--- at most three digits and three dots, and numbers of as many digits and bytes
-pub record ReadingFits (r : Reading) : Type 0 where
-  pub digits : r.digits ≤ 3
-  pub dots : r.dots ≤ 3
-  pub part : r.part < 10 ^ r.digits
-  pub front : r.front < 256 ^ r.dots
+-- a part begins behind so many dots
+abbrev pub part_begins : (front dots : ℕ) → Reading
+part_begins front dots = record { front = front; part = 0; digits = 0; dots = dots }
+
+-- the address, where this text is left behind a whole part: a dot or the end has to come
+abbrev pub address_behind_part : (front dots : ℕ) → List ℕ → Option ℕ
+address_behind_part front dots [] = if dots == 3 then Some front else None
+address_behind_part front dots (b ∷ bs) = if b == 46 && nat_lt dots 3 then address_left (part_begins front (dots + 1)) bs else None
+
+abbrev pub BeginsNoDigit : List ℕ → Type 0
+BeginsNoDigit [] = Unit {0}
+BeginsNoDigit (b ∷ bs) = is_ascii_digit b ≡ false
+
+abbrev pub BeginsNoDot : List ℕ → Type 0
+BeginsNoDot [] = Unit {0}
+BeginsNoDot (b ∷ bs) = (b == 46) ≡ false
+
+-- no part is at the front of this text
+pub record IsNoOctet (text : List ℕ) : Type 0 where
+  pub none : (front dots : ℕ) → address_left (part_begins front dots) text ≡ None
+
+-- a part of this number is at the front of this text, before the rest
+pub record IsOctetFront (text : List ℕ) (n : ℕ) (rest : List ℕ) : Type 0 where
+  pub left : (front dots : ℕ) → address_left (part_begins front dots) text ≡ address_behind_part (front * 256 + n) dots rest
+
+-- the same of a part and the dot behind it
+pub record IsNoPart (text : List ℕ) : Type 0 where
+  pub none : (front dots : ℕ) → dots < 3 → address_left (part_begins front dots) text ≡ None
+
+pub record IsPartFront (text : List ℕ) (n : ℕ) (rest : List ℕ) : Type 0 where
+  pub left : (front dots : ℕ) → dots < 3 → address_left (part_begins front dots) text ≡ address_left (part_begins (front * 256 + n) (dots + 1)) rest

@@ -1,16 +1,17 @@
 //! One array of a store.
 
-ghost use Rattle.std.specs.Prelude.{◌≡◌, ◌<◌, ◌≤◌, ◌+◌, ◌%◌, ◌^◌, ◌++◌, ◌&&◌, [], List, map, ℕ, OnOk, OnErr, IfOk, IsOk, IsTrue, None, Some, is_some, length, unwrap_or, if◌then◌else◌};
+ghost use Rattle.std.specs.Prelude.{◌≡◌, ◌<◌, ◌≤◌, ◌+◌, ◌++◌, ◌&&◌, [], List, map, ℕ, OnOk, OnErr, IfOk, IsOk, IsTrue, None, Some, is_some, length, unwrap_or, if◌then◌else◌};
 ghost use Rattle.std.specs.List.{IsDistinct};
 ghost use Rattle.std.specs.Map.{keys_of};
 ghost use Rattle.std.specs.Str.{bytes_eq};
-ghost use Rattle.snap_core.specs.Cells.{cell, either, without};
+ghost use Rattle.snap_core.specs.Cells.{cell, either, without, written};
 ghost use Rattle.snap_core.specs.Listing.{entries_of, entry_of};
 
 use crate::NoMemory;
 use crate::patch::Patch;
 use crate::place::Listed;
 use crate::table::Table;
+use crate::write::Write;
 use std::alloc::Global;
 use std::marker::Model;
 
@@ -65,45 +66,20 @@ impl Array {
         })
     }
 
-    /// Puts a number into the cell at an index, which is made where there is none.
-    pub(crate) fn put(&mut self, index: &[u64], value: u64) -> Result<(), NoMemory>
-        ensures ok { OnOk result ((q : List ℕ) → cell self.new.0 q ≡ (if bytes_eq index.now q then Some value else cell self.old.0 q)) }
+    /// Writes to the cell at an index, and answers what it held; a cell that is made held 0.
+    pub(crate) fn write(&mut self, index: &[u64], write: Write) -> Result<u64, NoMemory>
+        ensures before { IfOk result (λ before. before ≡ unwrap_or (cell self.old.0 index.now) 0) }
+        ensures ok { OnOk result ((q : List ℕ) → cell self.new.0 q ≡ (if bytes_eq index.now q then Some (written write (unwrap_or (cell self.old.0 index.now) 0)) else cell self.old.0 q)) }
         ensures err { OnErr result ((q : List ℕ) → cell self.new.0 q ≡ cell self.old.0 q) }
         ensures there { IsTrue (is_some (cell self.old.0 index.now)) → IsOk result }
     {
-        if self.table.write(index, value) {
-            return Ok(());
+        if let Some(before) = self.table.write(index, write) {
+            return Ok(before);
         }
-        if self.crowded.write(index, value) {
-            return Ok(());
+        if let Some(before) = self.crowded.write(index, write) {
+            return Ok(before);
         }
-        self.make(index, value)
-    }
-
-    /// Adds to the number in the cell at an index, modulo 2^64; a cell that is made holds 0 before.
-    pub(crate) fn add(&mut self, index: &[u64], value: u64) -> Result<(), NoMemory>
-        ensures ok { OnOk result ((q : List ℕ) → cell self.new.0 q ≡ (if bytes_eq index.now q then Some ((unwrap_or (cell self.old.0 index.now) 0 + value) % 2 ^ 64) else cell self.old.0 q)) }
-        ensures err { OnErr result ((q : List ℕ) → cell self.new.0 q ≡ cell self.old.0 q) }
-    {
-        if self.table.raise(index, value) {
-            return Ok(());
-        }
-        if self.crowded.raise(index, value) {
-            return Ok(());
-        }
-        self.make(index, value)
-    }
-
-    /// The number in the cell at an index, which is made with 0 where there is none.
-    pub(crate) fn hold(&mut self, index: &[u64]) -> Result<u64, NoMemory>
-        ensures number { IfOk result (λ number. cell self.new.0 index.now ≡ Some number) }
-        ensures numbers { (q : List ℕ) → unwrap_or (cell self.new.0 q) 0 ≡ unwrap_or (cell self.old.0 q) 0 }
-        ensures kept { (q : List ℕ) → IsTrue (is_some (cell self.old.0 q)) → IsTrue (is_some (cell self.new.0 q)) }
-    {
-        if let Some(number) = self.get(index) {
-            return Ok(number);
-        }
-        self.make(index, 0)?;
+        self.make(index, write.number(0))?;
         Ok(0)
     }
 
@@ -115,10 +91,11 @@ impl Array {
     {
         let key = Vec::from_slice(self.alloc, index)?;
         self.table.spread()?;
-        if self.table.is_crowded(index) {
+        let group = self.table.group(index);
+        if self.table.is_crowded(group) {
             self.crowded.put(key, value)
         } else {
-            self.table.put(key, value)
+            self.table.put(group, key, value)
         }
     }
 
@@ -129,7 +106,7 @@ impl Array {
     {
         for index in patch.cells().keys() {
             let number = self.get(index).unwrap_or(0);
-            self.put(index, number)?;
+            self.write(index, Write::Number(number))?;
         }
         self.table.reserve(patch.len())
     }
@@ -153,7 +130,8 @@ impl Array {
         if self.write_crowded(&index, value) {
             return;
         }
-        let put: Result<_, _> = self.table.put(index, value);
+        let group = self.table.group(&index);
+        let put: Result<_, _> = self.table.put(group, index, value);
         put.unwrap();
     }
 
@@ -164,7 +142,7 @@ impl Array {
     {
         match self.table.get(index) {
             Some(_) => false,
-            None => self.crowded.write(index, value),
+            None => self.crowded.write(index, Write::Number(value)).is_some(),
         }
     }
 

@@ -1,6 +1,7 @@
 //! Numbers and addresses, as texts spell them in decimal digits. Leading zeros are read.
 
-ghost use Rattle.std.specs.Prelude.{◌≡◌, ◌≤◌, IfSome};
+ghost use Rattle.std.specs.Prelude.{◌≡◌, ◌≤◌, ◌+◌, ◌∷◌, IfSome, MatchOption};
+ghost use Rattle.snap_core.specs.AddressSteps.{BeginsNoDigit, BeginsNoDot, IsNoOctet, IsNoPart, IsOctetFront, IsPartFront};
 ghost use Rattle.snap_core.specs.Figures.{address_of, number_of, number_up_to};
 
 /// The number that a text spells in digits, if it has 64 bits.
@@ -12,111 +13,77 @@ pub fn number(text: &[u8]) -> Option<u64>
 
 /// The number of the address that a text spells, as `10.0.6.1`: four numbers of one to three digits, each at most
 /// 255, of which the first stands for the highest byte.
+// Inlined into one large function, it would keep its numbers on the stack.
+#[inline(never)]
 pub fn address(text: &[u8]) -> Option<u32>
     ensures { result ≡ address_of text.now }
 {
-    let mut reading = Reading::new();
-    for byte in text {
-        reading = reading.with(*byte)?;
+    let (first, rest) = part(text)?;
+    let (second, rest) = part(rest)?;
+    let (third, rest) = part(rest)?;
+    let (fourth, rest) = octet(rest)?;
+    if rest.is_empty() {
+        Some(((first * 256 + second) * 256 + third) * 256 + fourth)
+    } else {
+        None
     }
-    reading.address()
 }
 
-// An address as far as it is read: the number of the parts before the last dot, the part behind it, how many digits
-// that one has, and how many dots there were.
-#[derive(Clone, Copy)]
-struct Reading {
-    front: u32,
-    part: u32,
-    digits: u8,
-    dots: u8,
+// A part of an address at the front of a text, and the text behind its dot.
+#[inline(always)]
+fn part(text: &[u8]) -> Option<(u32, &[u8])>
+    ensures read { MatchOption result (IsNoPart text.now) (λ pair. IsPartFront text.now pair.0 pair.1.now) }
+    ensures small { IfSome result (λ pair. pair.0 ≤ 255) }
+{
+    let (number, rest) = octet(text)?;
+    let behind = behind_dot(rest)?;
+    Some((number, behind))
 }
 
-impl Reading {
-    ghost use Rattle.snap_core.specs.AddressSteps.{ReadingFits, address_at_end, is_octet, number_so_far, reading_at_first, with_byte, with_digit, with_dot};
-
-    fn new() -> Reading
-        ensures first { result ≡ reading_at_first }
-        ensures fits { ReadingFits result }
-    {
-        Reading {
-            front: 0,
-            part: 0,
-            digits: 0,
-            dots: 0,
-        }
+// The number that up to three digits at the front of a text spell, if it is at most 255, and the text behind them. A
+// fourth digit is left to the caller, who expects a dot or the end there.
+#[inline(always)]
+fn octet(text: &[u8]) -> Option<(u32, &[u8])>
+    ensures read { MatchOption result (IsNoOctet text.now) (λ pair. IsOctetFront text.now pair.0 pair.1.now) }
+    ensures small { IfSome result (λ pair. pair.0 ≤ 255) }
+{
+    let (first, rest) = digit(text)?;
+    let Some((second, rest)) = digit(rest) else {
+        return Some((first, rest));
+    };
+    let front = first * 10 + second;
+    let Some((third, rest)) = digit(rest) else {
+        return Some((front, rest));
+    };
+    let whole = front * 10 + third;
+    if whole <= 255 {
+        Some((whole, rest))
+    } else {
+        None
     }
+}
 
-    // One byte more, where an address may go on with it.
-    fn with(self, byte: u8) -> Option<Reading>
-        requires { ReadingFits self }
-        ensures with { result ≡ with_byte self byte }
-        ensures fits { IfSome result ReadingFits }
-    {
-        if byte == b'.' {
-            self.with_dot()
-        } else {
-            self.with_digit(byte)
-        }
+// The digit at the front of a text, and the text behind it.
+#[inline(always)]
+fn digit(text: &[u8]) -> Option<(u32, &[u8])>
+    ensures digit { MatchOption result (BeginsNoDigit text.now) (λ pair. text.now ≡ (48 + pair.0) ∷ pair.1.now) }
+    ensures small { IfSome result (λ pair. pair.0 ≤ 9) }
+{
+    let (byte, rest) = text.split_first()?;
+    if byte.is_ascii_digit() {
+        Some((u32::from(*byte - b'0'), rest))
+    } else {
+        None
     }
+}
 
-    fn with_digit(self, byte: u8) -> Option<Reading>
-        requires { ReadingFits self }
-        ensures with { result ≡ with_digit self byte }
-        ensures fits { IfSome result ReadingFits }
-    {
-        if !byte.is_ascii_digit() || self.digits >= 3 {
-            return None;
-        }
-        Some(Reading {
-            front: self.front,
-            part: self.part * 10 + u32::from(byte - b'0'),
-            digits: self.digits + 1,
-            dots: self.dots,
-        })
-    }
-
-    fn with_dot(self) -> Option<Reading>
-        requires { ReadingFits self }
-        ensures with { result ≡ with_dot self }
-        ensures fits { IfSome result ReadingFits }
-    {
-        if !self.is_octet() || self.dots >= 3 {
-            return None;
-        }
-        Some(Reading {
-            front: self.number_so_far(),
-            part: 0,
-            digits: 0,
-            dots: self.dots + 1,
-        })
-    }
-
-    // The address, where the text ends here.
-    fn address(self) -> Option<u32>
-        requires { ReadingFits self }
-        ensures { result ≡ address_at_end self }
-    {
-        if self.is_octet() && self.dots == 3 {
-            Some(self.number_so_far())
-        } else {
-            None
-        }
-    }
-
-    fn is_octet(self) -> bool
-        ensures { result ≡ is_octet self }
-    {
-        self.digits >= 1 && self.part <= 255
-    }
-
-    fn number_so_far(self) -> u32
-        requires front { ReadingFits self }
-        requires part { self.part ≤ 255 }
-        ensures { result ≡ number_so_far self }
-    {
-        self.front * 256 + self.part
-    }
+// The text behind a dot at its front.
+#[inline(always)]
+fn behind_dot(text: &[u8]) -> Option<&[u8]>
+    ensures { MatchOption result (BeginsNoDot text.now) (λ rest. text.now ≡ 46 ∷ rest.now) }
+{
+    let (byte, rest) = text.split_first()?;
+    if *byte == b'.' { Some(rest) } else { None }
 }
 
 /// The number that a text spells in digits, if it is at most `most`.

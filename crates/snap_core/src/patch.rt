@@ -1,10 +1,11 @@
 //! Changes of one array.
 
-ghost use Rattle.std.specs.Prelude.{◌≡◌, ◌<◌, ◌+◌, ◌%◌, ◌^◌, ◌&&◌, [], List, ℕ, OnOk, OnErr, IfOk, Some, length, is_some, unwrap_or, if◌then◌else◌};
+ghost use Rattle.std.specs.Prelude.{◌≡◌, ◌<◌, ◌^◌, ◌&&◌, [], List, ℕ, OnOk, OnErr, IfOk, Some, length, is_some, unwrap_or, if◌then◌else◌};
 ghost use Rattle.std.specs.Str.{bytes_eq};
-ghost use Rattle.snap_core.specs.Cells.{cell, cells_of};
+ghost use Rattle.snap_core.specs.Cells.{cell, cells_of, written};
 
 use crate::NoMemory;
+use crate::write::Write;
 use std::alloc::Global;
 use std::collections::BTreeMap;
 use std::marker::Model;
@@ -48,28 +49,15 @@ impl Patch {
         Ok(())
     }
 
-    /// Puts a number into the cell at an index, if there is one, and says whether there is.
-    pub(crate) fn write(&mut self, index: &[u64], value: u64) -> bool
-        ensures found { result ≡ is_some (cell self.old index.now) }
-        ensures cells { (q : List ℕ) → cell self.new q ≡ (if result && bytes_eq index.now q then Some value else cell self.old q) }
+    /// Writes to the cell at an index, if there is one, and answers what it held.
+    pub(crate) fn write(&mut self, index: &[u64], write: Write) -> Option<u64>
+        ensures before { result ≡ cell self.old index.now }
+        ensures cells { (q : List ℕ) → cell self.new q ≡ (if is_some result && bytes_eq index.now q then Some (written write (unwrap_or result 0)) else cell self.old q) }
     {
-        if let Some(cell) = self.cells.get_mut(index) {
-            *cell = value;
-            return true;
-        }
-        false
-    }
-
-    /// Adds to the number in the cell at an index, modulo 2^64, if there is one, and says whether there is.
-    pub(crate) fn raise(&mut self, index: &[u64], value: u64) -> bool
-        ensures found { result ≡ is_some (cell self.old index.now) }
-        ensures cells { (q : List ℕ) → cell self.new q ≡ (if result && bytes_eq index.now q then Some ((unwrap_or (cell self.old index.now) 0 + value) % 2 ^ 64) else cell self.old q) }
-    {
-        if let Some(cell) = self.cells.get_mut(index) {
-            *cell = cell.wrapping_add(value);
-            return true;
-        }
-        false
+        let cell = self.cells.get_mut(index)?;
+        let before = *cell;
+        *cell = write.number(before);
+        Some(before)
     }
 
     pub(crate) fn copy(&self) -> Result<Patch, NoMemory>

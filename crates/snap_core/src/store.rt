@@ -1,9 +1,9 @@
 //! Stores: the numbers of the state variables.
 
-ghost use Rattle.std.specs.Prelude.{◌≡◌, ◌≤◌, ◌+◌, ◌%◌, ◌^◌, ◌==◌, false, All, ℕ, OnOk, OnErr, IfOk, IsTrue, Some, is_some, if◌then◌else◌, map, length, unwrap_or};
+ghost use Rattle.std.specs.Prelude.{◌≡◌, ◌≤◌, ◌+◌, ◌%◌, ◌^◌, ◌==◌, false, All, ℕ, OnOk, OnErr, IfOk, IsOk, IsTrue, is_some, if◌then◌else◌, map, length, unwrap_or};
 ghost use Rattle.snap_core.specs.declared.place.Place.{Place};
 ghost use Rattle.snap_core.specs.Arrays.{update, updates, put, zero_arrays};
-ghost use Rattle.snap_core.specs.Cells.{cell, arrays_of, overlaid, changed_at, room_at};
+ghost use Rattle.snap_core.specs.Cells.{cell, arrays_of, overlaid, changed_at, room_at, written};
 ghost use Rattle.snap_core.specs.CellsKept.{cell_at, HasCellsOf};
 ghost use Rattle.snap_core.specs.Fits.{UpdateReads};
 ghost use Rattle.snap_core.specs.Listing.{IsListing, entry_of};
@@ -15,7 +15,8 @@ use crate::changes::Changes;
 use crate::packet::Packet;
 use crate::patch::Patch;
 use crate::place::{Entry, Listed};
-use crate::policy::{Op, Update};
+use crate::policy::Update;
+use crate::write::Write;
 use std::alloc::Global;
 use std::collections::BTreeMap;
 use std::marker::Model;
@@ -63,12 +64,7 @@ impl Store {
         ensures ok { OnOk result (arrays_of self.new ≡ put (arrays_of self.old) (record { var = var; index = index.now }) value) }
         ensures err { OnErr result (arrays_of self.new ≡ arrays_of self.old) }
     {
-        if let Some(array) = self.arrays.get_mut(&var) {
-            return array.put(index, value);
-        }
-        let mut array = Array::new(self.alloc);
-        array.put(index, value)?;
-        self.arrays.insert(var, array)?;
+        self.write(var, index, Write::Number(value))?;
         Ok(())
     }
 
@@ -102,13 +98,36 @@ impl Store {
         ensures ok { OnOk result (let p : Place = record { var = var; index = index.now } in arrays_of self.new ≡ put (arrays_of self.old) p ((arrays_of self.old p + value) % 2 ^ 64)) }
         ensures err { OnErr result (arrays_of self.new ≡ arrays_of self.old) }
     {
+        self.write(var, index, Write::More(value))?;
+        Ok(())
+    }
+
+    // Writes to the cell at a place, which is made where there is none, and answers what the place held.
+    fn write(&mut self, var: u16, index: &[u64], write: Write) -> Result<u64, NoMemory>
+        ensures before { IfOk result (λ before. before ≡ arrays_of self.old (record { var = var; index = index.now })) }
+        ensures ok { OnOk result (let p : Place = record { var = var; index = index.now } in arrays_of self.new ≡ put (arrays_of self.old) p (written write (arrays_of self.old p))) }
+        ensures cell { OnOk result (IsTrue (is_some (cell_at self.new (record { var = var; index = index.now })))) }
+        ensures err { OnErr result (arrays_of self.new ≡ arrays_of self.old) }
+        ensures kept { HasCellsOf self.old self.new }
+        ensures there { IsTrue (is_some (cell_at self.old (record { var = var; index = index.now }))) → IsOk result }
+    {
         if let Some(array) = self.arrays.get_mut(&var) {
-            return array.add(index, value);
+            return array.write(index, write);
         }
         let mut array = Array::new(self.alloc);
-        array.add(index, value)?;
+        let before = array.write(index, write)?;
         self.arrays.insert(var, array)?;
-        Ok(())
+        Ok(before)
+    }
+
+    // Puts back the number that a place held, which has a cell.
+    fn put_back(&mut self, var: u16, index: &[u64], value: u64)
+        requires { IsTrue (is_some (cell_at self.old (record { var = var; index = index.now }))) }
+        ensures arrays { arrays_of self.new ≡ put (arrays_of self.old) (record { var = var; index = index.now }) value }
+        ensures kept { HasCellsOf self.old self.new }
+    {
+        let put: Result<_, _> = self.write(var, index, Write::Number(value));
+        put.unwrap();
     }
 
     /// Does one update.
@@ -118,11 +137,9 @@ impl Store {
     {
         let mut numbers = ShortIndex::new(self.alloc);
         put_index(&mut numbers, &change.index, packet)?;
-        let index = numbers.as_slice();
-        match change.op {
-            Op::Put(atom) => self.put(change.var, index, atom.value(packet)),
-            Op::Add(plus) => self.add(change.var, index, plus),
-        }
+        let written = change.op.write(packet);
+        self.write(change.var, numbers.as_slice(), written)?;
+        Ok(())
     }
 
     /// Does all updates in order, or none.
@@ -152,40 +169,12 @@ impl Store {
         let mut numbers = ShortIndex::new(self.alloc);
         put_index(&mut numbers, &first.index, packet)?;
         let index = numbers.as_slice();
-        let before = self.hold(first.var, index)?;
-        self.write(first.var, index, first.op.number(before, packet));
+        let before = self.write(first.var, index, first.op.write(packet))?;
         if let Err(refused) = self.apply_few(packet, rest) {
-            self.write(first.var, index, before);
+            self.put_back(first.var, index, before);
             return Err(refused);
         }
         Ok(())
-    }
-
-    // The number at a place, which has a cell from now on.
-    fn hold(&mut self, var: u16, index: &[u64]) -> Result<u64, NoMemory>
-        ensures number { IfOk result (λ number. cell_at self.new (record { var = var; index = index.now }) ≡ Some number) }
-        ensures same { arrays_of self.new ≡ arrays_of self.old }
-        ensures kept { HasCellsOf self.old self.new }
-    {
-        if let Some(array) = self.arrays.get_mut(&var) {
-            return array.hold(index);
-        }
-        let mut array = Array::new(self.alloc);
-        let number = array.hold(index)?;
-        self.arrays.insert(var, array)?;
-        Ok(number)
-    }
-
-    // Changes the number at one place that has a cell.
-    fn write(&mut self, var: u16, index: &[u64], value: u64)
-        requires { IsTrue (is_some (cell_at self.old (record { var = var; index = index.now }))) }
-        ensures arrays { arrays_of self.new ≡ put (arrays_of self.old) (record { var = var; index = index.now }) value }
-        ensures kept { HasCellsOf self.old self.new }
-    {
-        if let Some(array) = self.arrays.get_mut(&var) {
-            let put: Result<_, _> = array.put(index, value);
-            put.unwrap();
-        }
     }
 
     // What updates in order change.

@@ -1,14 +1,15 @@
 //! Cells found by a hash of their index.
 
-ghost use Rattle.std.specs.Prelude.{◌≡◌, ◌<◌, ◌≤◌, ◌+◌, ◌%◌, ◌^◌, ◌++◌, ◌&&◌, [], List, map, ℕ, OnOk, OnErr, IfOk, IsOk, None, Some, length, is_some, unwrap_or, if◌then◌else◌};
+ghost use Rattle.std.specs.Prelude.{◌≡◌, ◌<◌, ◌≤◌, ◌+◌, ◌^◌, ◌++◌, ◌&&◌, [], List, map, ℕ, OnOk, OnErr, IfOk, IsOk, None, Some, length, is_some, unwrap_or, if◌then◌else◌};
 ghost use Rattle.std.specs.List.{IsDistinct};
 ghost use Rattle.std.specs.Map.{keys_of};
 ghost use Rattle.std.specs.Str.{bytes_eq};
-ghost use Rattle.snap_core.specs.Cells.{cell};
+ghost use Rattle.snap_core.specs.Cells.{cell, written};
 ghost use Rattle.snap_core.specs.Listing.{entries_of, entry_of};
 
 use crate::NoMemory;
 use crate::place::Listed;
+use crate::write::Write;
 use std::alloc::Global;
 use std::collections::HashMap;
 use std::hash::BuildHasher;
@@ -74,38 +75,24 @@ impl Table {
         })
     }
 
-    /// Puts a number into the cell at an index, if there is one, and says whether there is.
-    pub(crate) fn write(&mut self, index: &[u64], value: u64) -> bool
-        ensures found { result ≡ is_some (cell self.old.0 index.now) }
-        ensures cells { (q : List ℕ) → cell self.new.0 q ≡ (if result && bytes_eq index.now q then Some value else cell self.old.0 q) }
+    /// Writes to the cell at an index, if there is one, and answers what it held.
+    pub(crate) fn write(&mut self, index: &[u64], write: Write) -> Option<u64>
+        ensures before { result ≡ cell self.old.0 index.now }
+        ensures cells { (q : List ℕ) → cell self.new.0 q ≡ (if is_some result && bytes_eq index.now q then Some (written write (unwrap_or result 0)) else cell self.old.0 q) }
     {
-        if let Some(cell) = self.cells.get_mut(index) {
-            *cell = value;
-            return true;
-        }
-        false
+        let cell = self.cells.get_mut(index)?;
+        let before = *cell;
+        *cell = write.number(before);
+        Some(before)
     }
 
-    /// Adds to the number in the cell at an index, modulo 2^64, if there is one, and says whether there is.
-    pub(crate) fn raise(&mut self, index: &[u64], value: u64) -> bool
-        ensures found { result ≡ is_some (cell self.old.0 index.now) }
-        ensures cells { (q : List ℕ) → cell self.new.0 q ≡ (if result && bytes_eq index.now q then Some ((unwrap_or (cell self.old.0 index.now) 0 + value) % 2 ^ 64) else cell self.old.0 q) }
-    {
-        if let Some(cell) = self.cells.get_mut(index) {
-            *cell = cell.wrapping_add(value);
-            return true;
-        }
-        false
-    }
-
-    /// Puts a number into the cell at an index, which is made where there is none.
-    pub(crate) fn put(&mut self, index: Vec<u64>, value: u64) -> Result<(), NoMemory>
+    /// Puts a number into the cell at an index of this group; the cell is made where there is none.
+    pub(crate) fn put(&mut self, group: usize, index: Vec<u64>, value: u64) -> Result<(), NoMemory>
         ensures ok { OnOk result ((q : List ℕ) → cell self.new.0 q ≡ (if bytes_eq index.items q then Some value else cell self.old.0 q)) }
         ensures err { OnErr result (self.new.0 ≡ self.old.0) }
         ensures room { 0 < self.old.1 → IsOk result }
         ensures kept { self.old.1 ≤ self.new.1 + 1 }
     {
-        let group = group(&self.cells, self.loads.len(), &index);
         let before = self.cells.insert(index, value)?;
         if before.is_none() {
             count(&mut self.loads, group);
@@ -145,9 +132,14 @@ impl Table {
         Ok(())
     }
 
-    /// Whether a new cell at this index belongs elsewhere, since as many keys as a group has lanes begin at its group.
-    pub(crate) fn is_crowded(&self, index: &[u64]) -> bool {
-        match self.loads.get(group(&self.cells, self.loads.len(), index)) {
+    /// The group that an index begins at.
+    pub(crate) fn group(&self, index: &[u64]) -> usize {
+        group(&self.cells, self.loads.len(), index)
+    }
+
+    /// Whether a new cell of this group belongs elsewhere, since as many keys as the group has lanes begin there.
+    pub(crate) fn is_crowded(&self, group: usize) -> bool {
+        match self.loads.get(group) {
             Some(load) => *load >= LANES,
             None => false,
         }
