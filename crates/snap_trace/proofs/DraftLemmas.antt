@@ -7,7 +7,8 @@ use Rattle.snap_core.specs.declared.program.Found.{Found}
 use Rattle.snap_core.specs.declared.program.Found.TheVariants.{Plain, Split}
 use Rattle.snap_core.specs.Fields.{found}
 use Rattle.snap_core.specs.Parts.{onto_first, parts_by}
-use Rattle.snap_trace.specs.PacketLines.{Draft, with_number, with_parts, with_value}
+use Rattle.snap_trace.specs.Cuts.{IsCutOf, IsFirstCut, with_cut}
+use Rattle.snap_trace.specs.PacketLines.{Draft, with_number, with_parts, with_value, with_word, with_words, words_of}
 use Rattle.snap_trace.proofs.EqualsLemmas.{is_equals, has_equals, plain_value-equals, split_value-equals}
 
 abbrev are_many : List (List ℕ) → Bool
@@ -58,9 +59,19 @@ with_value-equals (Some (Split net host prefix)) value draft e =
     ap (λ n. option_and_then (λ (pair : ℕ × ℕ). option_and_then (with_number host pair.1) (with_number net pair.0 draft)) n) (split_value-equals prefix value e)
 
 -- A word is cut at its first `=`: no value has another.
-pub with_parts-value : (fields : List Field) (name value : List ℕ) (draft : Draft) → with_parts fields (name ∷ parts_by (λ b. eqb b 61) value) draft ≡ with_value (found fields name) value draft
+with_parts-value : (fields : List Field) (name value : List ℕ) (draft : Draft) → with_parts fields (name ∷ parts_by (λ b. eqb b 61) value) draft ≡ with_value (found fields name) value draft
 with_parts-value fields name value draft =
     elim (has_equals value) as (λ t. has_equals value ≡ t → with_parts fields (name ∷ parts_by is_equals value) draft ≡ with_value (found fields name) value draft) [
       | true ↦ λ e. with_parts-many fields name (parts_by is_equals value) draft (are_many-any is_equals value ∙ e) ∙ sym (with_value-equals (found fields name) value draft e)
       | false ↦ λ e. ap (λ parts. with_parts fields (name ∷ parts) draft) (one_part is_equals value e)
     ] refl
+
+with_word-cut : (fields : List Field) (word : List ℕ) (cut : Option (List ℕ × List ℕ)) (draft : Draft) → IsCutOf word cut → with_word fields word draft ≡ with_cut fields cut draft
+with_word-cut fields word None draft e = ap (λ parts. with_parts fields parts draft) e
+with_word-cut fields word (Some cut) draft e = ap (λ parts. with_parts fields parts draft) e ∙ with_parts-value fields cut.0 cut.1 draft
+
+-- the words of a text, of which the first is cut
+pub with_words-cut : (fields : List Field) (text : List ℕ) (cut : Option (List ℕ × List ℕ)) (behind : List ℕ) (draft : Draft) → IsFirstCut text cut behind
+    → with_words fields (words_of text) draft ≡ option_and_then (with_words fields (words_of behind)) (with_cut fields cut draft)
+with_words-cut fields text cut behind draft first =
+    ap (λ words. with_words fields words draft) first.words ∙ ap (option_and_then (with_words fields (words_of behind))) (with_word-cut fields first.word cut draft first.parts)

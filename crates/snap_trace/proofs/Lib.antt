@@ -7,3 +7,5 @@ pub mod TailLemmas
 pub mod DigitLemmas
 pub mod EqualsLemmas
 pub mod GuessLemmas
+pub mod SplitLemmas
+pub mod CutLemmas

@@ -1,5 +1,5 @@
 -- The words of a text, from its front.
-use Rattle.std.proofs.Common.{◌≡◌, ℕ, ◌+◌, ◌-◌, ◌<◌, ◌≤◌, zero, suc, Bool, true, false, not, cond, None, Some, List, [], ◌∷◌, length, take, drop, get_or, refl, sym, ap, ◌∙◌, arith, add-one, length-drop}
+use Rattle.std.proofs.Common.{◌≡◌, ℕ, ◌-◌, ◌<◌, ◌≤◌, zero, suc, Bool, true, false, not, cond, None, Some, List, [], ◌∷◌, length, take, drop, get_or, refl, sym, ap, ◌∙◌, arith, length-drop}
 use Rattle.std.specs.Prelude.{filter, position, nat_lt}
 use Rattle.std.specs.List.{position_or_len}
 use Rattle.std.proofs.lemmas.List.Sums.{prefix_len_passes}
@@ -7,7 +7,6 @@ use Rattle.std.proofs.lemmas.Bool.Decides.{nat_tests}
 use Rattle.std.proofs.lemmas.List.{take_all, drop_all, at_drop_more}
 use Rattle.std.proofs.lemmas.List.Quantifiers.{position-Some}
 use Rattle.snap_core.specs.Parts.{onto_first, parts_by}
-use Rattle.snap_core.proofs.PartLemmas.{parts_by-first, parts_by-none}
 use Rattle.snap_trace.specs.PacketLines.{is_blank, is_inked, is_some_text, words_of, BeginsWord, both_numbers}
 
 -- three parts or more are no two numbers
@@ -20,7 +19,7 @@ both_numbers-many p a b (x ∷ xs) =
     ]
 
 -- a blank at the front is no part of a word
-words_of-blank : (b : ℕ) (bs : List ℕ) → is_blank b ≡ true → words_of (b ∷ bs) ≡ words_of bs
+pub words_of-blank : (b : ℕ) (bs : List ℕ) → is_blank b ≡ true → words_of (b ∷ bs) ≡ words_of bs
 words_of-blank b bs e = ap (λ t. filter is_some_text (cond t ([] ∷ parts_by is_blank bs) (onto_first b (parts_by is_blank bs)))) e
 
 blank_of : (b : ℕ) → is_inked b ≡ false → is_blank b ≡ true
@@ -50,7 +49,7 @@ position-None p xs e k within =
     fails (p (get_or xs k 0)) (prefix_len_passes (λ x. not (p x)) xs k 0 before)
 
 -- the rest of a slice from n on, as a program's `&text[n..]` is seen
-back : (text : List ℕ) (n : ℕ) → take (length text - n) (drop n text) ≡ drop n text
+pub back : (text : List ℕ) (n : ℕ) → take (length text - n) (drop n text) ≡ drop n text
 back text n = take_all (length text - n) (drop n text) (omega (arith, length-drop n text))
 
 -- behind the blanks at the front
@@ -72,35 +71,3 @@ BeginsWord-inked text n e =
     let rest = take (length text - n) (drop n text) in
     let first : get_or rest 0 0 ≡ get_or text n 0 = ap (λ l. get_or l 0 0) (back text n) ∙ at_drop_more (λ l. get_or l 0 0) text n 0 at.0 in
     begins rest (omega (arith, ap length (back text n), length-drop n text, at.0)) (ap is_inked first ∙ at.1)
-
-some_text : (text : List ℕ) (n : ℕ) → 0 < n → BeginsWord text → is_some_text (take n text) ≡ true
-some_text [] n some h = absurd h
-some_text (b ∷ bs) zero some h = absurd (omega arith)
-some_text (b ∷ bs) (suc n) some h = refl
-
-with_front : (front : List ℕ) (parts : List (List ℕ)) → is_some_text front ≡ true → filter is_some_text (front ∷ parts) ≡ front ∷ filter is_some_text parts
-with_front front parts e = ap (λ t. cond t (front ∷ filter is_some_text parts) (filter is_some_text parts)) e
-
--- the first byte of a word is no blank, so it has one byte at least
-positive : (text : List ℕ) (n : ℕ) → BeginsWord text → is_blank (get_or text n 0) ≡ true → 0 < n
-positive [] n h e = absurd h
-positive (b ∷ bs) zero h e = let no = h in absurd (cc)
-positive (b ∷ bs) (suc n) h e = omega arith
-
--- the word up to the first blank
-pub words_of-word : (text : List ℕ) (n : ℕ) → BeginsWord text → position is_blank text ≡ Some n → words_of text ≡ take n text ∷ words_of (take (length text - n) (drop n text))
-words_of-word text n h e =
-    let at = position-Some is_blank text n 0 e in
-    let some : 0 < n = positive text n h at.1 in
-    ap (filter is_some_text) (parts_by-first is_blank text n at.0 at.2 at.1)
-    ∙ with_front (take n text) (parts_by is_blank (drop (suc n) text)) (some_text text n some h)
-    ∙ ap (λ l. take n text ∷ l) (sym (ap words_of (back text n) ∙ at_drop_more words_of text n 0 at.0 ∙ words_of-blank (get_or text n 0) (drop (n + 1) text) at.1 ∙ ap (λ k. words_of (drop k text)) (add-one n)))
-
--- a word that goes on to the end
-pub words_of-last : (text : List ℕ) → BeginsWord text → position is_blank text ≡ None → words_of text ≡ text ∷ words_of []
-words_of-last text h e =
-    ap (filter is_some_text) (parts_by-none is_blank text (position-None is_blank text e)) ∙ with_front text [] (whole text h)
-  where
-    whole : (text : List ℕ) → BeginsWord text → is_some_text text ≡ true
-    whole [] h = absurd h
-    whole (b ∷ bs) h = refl

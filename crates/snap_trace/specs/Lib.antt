@@ -1,4 +1,5 @@
 pub mod ByPackets
+pub mod Cuts
 pub mod Drafts
 pub mod Guesses
 pub mod OneSwitch

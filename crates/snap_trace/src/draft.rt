@@ -2,10 +2,9 @@
 
 use crate::guess::Guess;
 use crate::line::LineFault;
-use crate::words::{next_word, plain_value, split_value};
+use crate::words::{next_cut, plain_value, split_value};
 use snap_core::NoMemory;
 use snap_core::packet::Packet;
-use snap_core::parts::split_at_first;
 use snap_core::program::{Fields, Found};
 use std::alloc::Global;
 
@@ -17,12 +16,12 @@ pub(crate) struct Draft {
 }
 
 impl Draft {
-    ghost use Rattle.std.specs.Prelude.{◌≡◌, ◌<◌, ◌≤◌, length, IfOk, MatchResult, slice_set, vec_len, Some, None};
+    ghost use Rattle.std.specs.Prelude.{◌≡◌, ◌<◌, ◌≤◌, length, IfOk, MatchResult, slice_set, vec_len, option_map, Some, None};
     ghost use Rattle.snap_core.specs.Fields.{FoundFits, count, found};
-    ghost use Rattle.snap_core.specs.Parts.{parts_by};
+    ghost use Rattle.snap_trace.specs.Cuts.{with_cut};
     ghost use Rattle.snap_trace.specs.Drafts.{draft_of};
     ghost use Rattle.snap_trace.specs.Guesses.{StandsAt};
-    ghost use Rattle.snap_trace.specs.PacketLines.{draft_at_first, with_number, with_value, with_word, with_words, words_of};
+    ghost use Rattle.snap_trace.specs.PacketLines.{draft_at_first, with_number, with_value, with_words, words_of};
     ghost use Rattle.snap_trace.specs.declared.line.LineFault.TheVariants.{Bad};
 
     /// A packet before a word has named anything. `inport` counts as named.
@@ -46,25 +45,30 @@ impl Draft {
     {
         let mut rest = text;
         let mut guess = Guess::first(fields);
-        while let Some((word, behind)) = next_word(rest) {
-            self.set_word(fields, &mut guess, word)?;
+        while let Some((cut, behind)) = next_cut(rest) {
+            self.set_cut(fields, &mut guess, cut)?;
             rest = behind;
         }
         Ok(())
     }
 
-    // Names what one word `NAME=VALUE` sets.
-    fn set_word(&mut self, fields: &Fields, guess: &mut Guess, word: &[u8]) -> Result<(), LineFault>
+    // Names what one word `NAME=VALUE` sets, which is cut at its first `=`.
+    fn set_cut(
+        &mut self,
+        fields: &Fields,
+        guess: &mut Guess,
+        cut: Option<(&[u8], &[u8])>,
+    ) -> Result<(), LineFault>
         requires stands { StandsAt fields.now guess.old }
         requires comps { vec_len self.old.numbers ≡ count fields.now }
         requires few { vec_len self.old.numbers ≤ 64 }
         ensures same { vec_len self.new.numbers ≡ vec_len self.old.numbers }
         ensures set { MatchResult result
-            (λ _. with_word fields.now word.now (draft_of self.old) ≡ Some (draft_of self.new))
-            (λ e. (e ≡ Bad) × (with_word fields.now word.now (draft_of self.old) ≡ None)) }
+            (λ _. with_cut fields.now (option_map (λ c. (c.0.now, c.1.now)) cut.entry) (draft_of self.old) ≡ Some (draft_of self.new))
+            (λ e. (e ≡ Bad) × (with_cut fields.now (option_map (λ c. (c.0.now, c.1.now)) cut.entry) (draft_of self.old) ≡ None)) }
         ensures stands { StandsAt fields.now guess.new }
     {
-        let Some((name, value)) = split_at_first(word, b'=') else {
+        let Some((name, value)) = cut else {
             return Err(LineFault::Bad);
         };
         // A value with another `=` in it is no number and no address, and is refused as such.

@@ -1,6 +1,6 @@
 //! A guess which field a word names: most lines name fields in the order of their declaration.
 
-ghost use Rattle.std.specs.Prelude.{◌≡◌, ◌+◌, ◌<◌, ◌^◌, Some, IfSome};
+ghost use Rattle.std.specs.Prelude.{◌≡◌, ◌+◌, ◌<◌, ◌^◌, length, Some, IfSome};
 ghost use Rattle.std.specs.Str.{bytes_eq};
 ghost use Rattle.snap_core.specs.Fields.{FoundFits, count, found};
 ghost use Rattle.snap_trace.specs.Guesses.{StandsAt, whole_of};
@@ -20,10 +20,24 @@ fn is_named(field: &Field, name: &[u8]) -> bool
 {
     let own = field.name.bytes();
     if name.len() == own.len() {
-        name == own
+        are_same(name, own)
     } else {
         false
     }
+}
+
+// Whether two texts are the same. Names are short, and for these a loop costs less than the comparison of slices.
+#[inline(never)]
+fn are_same(a: &[u8], b: &[u8]) -> bool
+    requires { length a.now ≡ length b.now }
+    ensures { result ≡ bytes_eq a.now b.now }
+{
+    for at in 0..a.len() {
+        if a[at] != b[at] {
+            return false;
+        }
+    }
+    true
 }
 
 // What the name of a field stands for, whose components begin at `comp`.

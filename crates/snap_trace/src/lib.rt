@@ -6,6 +6,7 @@
 
 mod draft;
 pub mod fault;
+mod front;
 mod guess;
 pub mod line;
 pub mod report;

@@ -1,12 +1,15 @@
 //! The texts of a report, put behind one another in a buffer.
 
-ghost use Rattle.std.specs.Prelude.{◌≡◌, ◌<◌, ◌≤◌, ◌+◌, ◌++◌, [], codes, decimal, length, slice_get, unwrap_or, OnOk};
+ghost use Rattle.std.specs.Prelude.{◌≡◌, ◌<◌, ◌≤◌, ◌+◌, ◌++◌, [], codes, decimal, drop, length, slice_get, unwrap_or, OnOk};
 ghost use Rattle.snap_core.specs.Fields.{PrefixFits, count, width};
 ghost use Rattle.snap_core.specs.Packets.{AllLong};
 ghost use Rattle.snap_core.specs.Runs.{set_in};
-ghost use Rattle.snap_trace.specs.Reports.{address_text, all_lines, block, field_text, fields_text, index_text, listed_line, out_line, split_text, value_text};
+ghost use Rattle.snap_trace.specs.Reports.{all_lines, block, field_text, fields_text, index_text, listed_line, out_line, split_text, value_text};
 ghost use Rattle.std.specs.List.{flat_map};
 
+use crate::front::{
+    digit, put_address_before, put_byte_before, put_bytes_before, put_number_before,
+};
 use itoa::Buffer;
 use snap_core::NoMemory;
 use snap_core::copies::Copies;
@@ -35,57 +38,77 @@ pub fn put_number(out: &mut Vec<u8>, number: u64) -> Result<(), NoMemory>
     Ok(())
 }
 
-fn digit(number: u64) -> u8
-    requires { number < 10 }
-    ensures { result ≡ 48 + number }
+// Puts a number at the end of a buffer, and returns where it begins.
+#[inline(always)]
+fn put_number_last(buffer: &mut [u8; 64], number: u64) -> usize
+    ensures begin { result ≤ 64 }
+    ensures short { 64 ≤ result + 20 }
+    ensures text { drop result buffer.new ≡ decimal number }
 {
-    b'0' + number as u8
+    put_number_before(buffer, 64, number)
 }
 
-// Puts an address behind the buffer.
-fn put_address(out: &mut Vec<u8>, address: u64) -> Result<(), NoMemory>
-    ensures { OnOk result (out.new.items ≡ out.old.items ++ address_text address) }
+// Puts `NET:HOST` at the end of a buffer, and returns where it begins.
+fn put_pair_last(buffer: &mut [u8; 64], net: u64, host: u64) -> usize
+    ensures begin { result ≤ 64 }
+    ensures short { 64 ≤ result + 41 }
+    ensures text { drop result buffer.new ≡ decimal net ++ codes ":" ++ decimal host }
 {
-    put_number(out, address >> 24)?;
-    out.push(b'.')?;
-    put_number(out, (address >> 16) % 256)?;
-    out.push(b'.')?;
-    put_number(out, (address >> 8) % 256)?;
-    out.push(b'.')?;
-    put_number(out, address % 256)
+    let begin = put_number_last(buffer, host);
+    let begin = put_byte_before(buffer, begin, b':');
+    put_number_before(buffer, begin, net)
 }
 
-// Puts the value of a field split behind this prefix.
-fn put_split(out: &mut Vec<u8>, prefix: u8, net: u64, host: u64) -> Result<(), NoMemory>
+// Puts the value of a field split behind this prefix at the end of a buffer, and returns where it begins.
+fn put_split_last(buffer: &mut [u8; 64], prefix: u8, net: u64, host: u64) -> usize
     requires { prefix ≤ 31 }
-    ensures { OnOk result (out.new.items ≡ out.old.items ++ split_text prefix net host) }
+    ensures begin { result ≤ 64 }
+    ensures short { 64 ≤ result + 41 }
+    ensures text { drop result buffer.new ≡ split_text prefix net host }
 {
     let hosts = 1u64 << (32 - prefix);
     if net < 1u64 << prefix && host < hosts {
-        put_address(out, net * hosts + host)
+        put_address_before(buffer, 64, (net * hosts + host) as u32)
     } else {
-        put_number(out, net)?;
-        out.push(b':')?;
-        put_number(out, host)
+        put_pair_last(buffer, net, host)
     }
 }
 
-// Puts the value of a field whose components begin at `comp`.
-fn put_value(
-    out: &mut Vec<u8>,
-    prefix: Option<u8>,
-    comp: u16,
-    packet: &Packet,
-) -> Result<(), NoMemory>
+// Puts the value of a field whose components begin at `comp` at the end of a buffer, and returns where it begins.
+fn put_value_last(buffer: &mut [u8; 64], prefix: Option<u8>, comp: u16, packet: &Packet) -> usize
     requires comps { comp + width prefix ≤ length packet.now }
     requires few { length packet.now ≤ 64 }
     requires prefix { PrefixFits prefix }
-    ensures { OnOk result (out.new.items ≡ out.old.items ++ value_text prefix comp packet.now) }
+    ensures begin { result ≤ 64 }
+    ensures short { 64 ≤ result + 41 }
+    ensures text { drop result buffer.new ≡ value_text prefix comp packet.now }
 {
     match prefix {
-        None => put_number(out, packet.get(comp)),
-        Some(prefix) => put_split(out, prefix, packet.get(comp), packet.get(comp + 1)),
+        None => put_number_last(buffer, packet.get(comp)),
+        Some(prefix) => put_split_last(buffer, prefix, packet.get(comp), packet.get(comp + 1)),
     }
+}
+
+// Puts ` NAME` and what a buffer has from `at` on.
+fn put_named(
+    out: &mut Vec<u8>,
+    name: &[u8],
+    buffer: &mut [u8; 64],
+    at: usize,
+) -> Result<(), NoMemory>
+    requires { at ≤ 64 }
+    ensures { OnOk result (out.new.items ≡ out.old.items ++ (codes " " ++ name.now ++ drop at buffer.old)) }
+{
+    if name.len() < at {
+        let begin = put_bytes_before(buffer, at, name);
+        let begin = put_byte_before(buffer, begin, b' ');
+        out.extend_from_slice(&buffer[begin..])?;
+    } else {
+        out.push(b' ')?;
+        out.extend_from_slice(name)?;
+        out.extend_from_slice(&buffer[at..])?;
+    }
+    Ok(())
 }
 
 // Puts ` NAME=VALUE` of one field.
@@ -95,10 +118,10 @@ fn put_field(out: &mut Vec<u8>, field: &Field, comp: u16, packet: &Packet) -> Re
     requires prefix { PrefixFits field.now.prefix }
     ensures { OnOk result (out.new.items ≡ out.old.items ++ field_text field.now comp packet.now) }
 {
-    out.push(b' ')?;
-    out.extend_from_slice(field.name.bytes())?;
-    out.push(b'=')?;
-    put_value(out, field.prefix, comp, packet)
+    let mut buffer = [0u8; 64];
+    let value = put_value_last(&mut buffer, field.prefix, comp, packet);
+    let equals = put_byte_before(&mut buffer, value, b'=');
+    put_named(out, field.name.bytes(), &mut buffer, equals)
 }
 
 /// Puts all fields of a packet in order of declaration, each as ` NAME=VALUE`, and the end of their line.
@@ -129,9 +152,11 @@ pub fn put_out(out: &mut Vec<u8>, fields: &Fields, packet: &Packet) -> Result<()
 pub fn put_head(out: &mut Vec<u8>, number: u64) -> Result<(), NoMemory>
     ensures { OnOk result (out.new.items ≡ out.old.items ++ (codes "packet " ++ decimal number ++ codes "\n")) }
 {
-    out.extend_from_slice(b"packet ")?;
-    put_number(out, number)?;
-    out.push(b'\n')?;
+    let mut buffer = [0u8; 64];
+    let begin = put_byte_before(&mut buffer, 64, b'\n');
+    let begin = put_number_before(&mut buffer, begin, number);
+    let begin = put_bytes_before(&mut buffer, begin, b"packet ");
+    out.extend_from_slice(&buffer[begin..])?;
     Ok(())
 }
 
@@ -186,9 +211,19 @@ pub fn put_index(out: &mut Vec<u8>, index: &[u64]) -> Result<(), NoMemory>
     ensures { OnOk result (out.new.items ≡ out.old.items ++ index_text index.now) }
 {
     for number in index {
-        out.push(b' ')?;
-        put_number(out, *number)?;
+        put_spaced(out, *number)?;
     }
+    Ok(())
+}
+
+// Puts a number in digits behind a space.
+fn put_spaced(out: &mut Vec<u8>, number: u64) -> Result<(), NoMemory>
+    ensures { OnOk result (out.new.items ≡ out.old.items ++ (codes " " ++ decimal number)) }
+{
+    let mut buffer = [0u8; 64];
+    let begin = put_number_last(&mut buffer, number);
+    let begin = put_byte_before(&mut buffer, begin, b' ');
+    out.extend_from_slice(&buffer[begin..])?;
     Ok(())
 }
 

@@ -1,16 +1,20 @@
 //! The words of a line, and the values that they spell.
 
-ghost use Rattle.std.specs.Prelude.{◌≡◌, ◌==◌, ◌<◌, ◌≤◌, [], ◌∷◌, length, IfSome, MatchOption, position};
+ghost use Rattle.std.specs.Prelude.{◌≡◌, ◌==◌, ◌+◌, ◌<◌, ◌≤◌, [], ◌∷◌, length, IfSome, MatchOption, option_map, position};
 ghost use Rattle.snap_trace.specs.PacketLines.{BeginsWord, both_numbers, ends_with_return, is_blank, is_inked, plain_value, split_value, without_return, words_of};
 ghost use Rattle.snap_core.specs.Parts.{parts_by};
+ghost use Rattle.snap_trace.specs.Cuts.{IsFirstCut, IsUntilBlank, is_mark};
 
 use snap_core::figures::{address, number};
 use snap_core::parts::split_at_first;
 
-/// Whether a byte divides words: a space or a tab.
+/// Whether a byte divides words: a space or a tab. Most bytes are passed over by the first test.
 fn is_blank(byte: u8) -> bool
     ensures { result ≡ is_blank byte }
 {
+    if byte > b' ' {
+        return false;
+    }
     byte == b' ' || byte == b'\t'
 }
 
@@ -51,10 +55,66 @@ fn split_word(text: &[u8]) -> (&[u8], &[u8])
     ensures word { words_of text.now ≡ result.0.now ∷ words_of result.1.now }
     ensures shorter { length result.1.now < length text.now }
 {
+    until_blank(text)
+}
+
+/// The first word of a text, cut at its first `=` where it has one, and the text behind the word.
+pub(crate) fn next_cut(text: &[u8]) -> Option<(Option<(&[u8], &[u8])>, &[u8])>
+    ensures cut { MatchOption result (words_of text.now ≡ [])
+        (λ pair. IsFirstCut text.now (option_map (λ c. (c.0.now, c.1.now)) pair.0) pair.1.now) }
+    ensures shorter { IfSome result (λ pair. length pair.1.now < length text.now) }
+{
+    match first_inked(text) {
+        Some(begin) => Some(cut_word(&text[begin..])),
+        None => None,
+    }
+}
+
+// The word at the front of a text that begins with one, cut at its first `=` where it has one, and the text behind it.
+// A byte is looked at once: up to the `=` and then up to the word's end.
+fn cut_word(text: &[u8]) -> (Option<(&[u8], &[u8])>, &[u8])
+    requires { BeginsWord text.now }
+    ensures cut { IsFirstCut text.now (option_map (λ c. (c.0.now, c.1.now)) result.0) result.1.now }
+    ensures shorter { length result.1.now < length text.now }
+{
+    match first_mark(text) {
+        Some(at) if text[at] == b'=' => {
+            let (value, behind) = until_blank(&text[at + 1..]);
+            (Some((&text[..at], value)), behind)
+        }
+        _ => {
+            let (word, behind) = split_word(text);
+            (split_at_first(word, b'='), behind)
+        }
+    }
+}
+
+// A text up to its first blank, and the text behind.
+fn until_blank(text: &[u8]) -> (&[u8], &[u8])
+    ensures until { IsUntilBlank text.now result.0.now result.1.now }
+    ensures lengths { length result.0.now + length result.1.now ≡ length text.now }
+{
     match first_blank(text) {
         Some(end) => (&text[..end], &text[end..]),
         None => (text, &[]),
     }
+}
+
+// The first byte that ends a name. Most bytes are passed over by the first test.
+#[inline(never)]
+fn first_mark(text: &[u8]) -> Option<usize>
+    ensures { result ≡ position is_mark text.now }
+{
+    text.iter().position(|byte| is_mark(*byte))
+}
+
+fn is_mark(byte: u8) -> bool
+    ensures { result ≡ is_mark byte }
+{
+    if byte > b'=' {
+        return false;
+    }
+    byte == b'=' || is_blank(byte)
 }
 
 #[inline(never)]

@@ -1,9 +1,9 @@
-use Rattle.std.proofs.Common.{sym}
-use Rattle.snap_trace.proofs.WordLemmas.{words_of-word, words_of-last}
+use Rattle.std.proofs.Common.{arith}
+use Rattle.snap_trace.proofs.CutLemmas.{begins-length, begins-word}
 use Rattle.snap_trace.proofs.words.split_word.Goals as goal
 
-pub returns-in-Some-clause-word : goal.returns-in-Some-clause-word
-returns-in-Some-clause-word c = words_of-word c.args.text.now c.in-Some.end c.requires (sym c.in-Some.ensures)
+pub returns-clause-word : goal.returns-clause-word
+returns-clause-word c = begins-word c.args.text.now c.until_blank.result.0.now c.until_blank.result.1.now c.requires c.until_blank.ensures.until
 
-pub returns-in-None-clause-word : goal.returns-in-None-clause-word
-returns-in-None-clause-word c = words_of-last c.args.text.now c.requires (sym c.in-None.ensures)
+pub returns-clause-shorter : goal.returns-clause-shorter
+returns-clause-shorter c = omega (arith, c.until_blank.ensures.lengths, begins-length c.args.text.now c.until_blank.result.0.now c.until_blank.result.1.now c.requires c.until_blank.ensures.until)

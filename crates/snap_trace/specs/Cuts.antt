@@ -1,0 +1,34 @@
+-- The first word of a text, cut at its first `=`.
+use Rattle.std.specs.Prelude.{◌≡◌, ℕ, ◌==◌, ◌||◌, Bool, List, [], ◌∷◌, filter, Option, None, Some}
+use Rattle.snap_core.specs.declared.program.Field.{Field}
+use Rattle.snap_core.specs.Fields.{found}
+use Rattle.snap_core.specs.Parts.{parts_by}
+use Rattle.snap_trace.specs.PacketLines.{Draft, is_blank, is_some_text, with_value, words_of}
+
+abbrev pub is_equals : ℕ → Bool
+is_equals b = b == 61
+
+-- what ends a name: `=`, or the word's end
+abbrev pub is_mark : ℕ → Bool
+is_mark b = is_equals b || is_blank b
+
+-- what stands before the first `=` of a word and behind it, where it has one
+abbrev pub IsCutOf : (word : List ℕ) → Option (List ℕ × List ℕ) → Type 0
+IsCutOf word None = parts_by is_equals word ≡ word ∷ []
+IsCutOf word (Some cut) = parts_by is_equals word ≡ cut.0 ∷ parts_by is_equals cut.1
+
+pub record IsFirstCut (text : List ℕ) (cut : Option (List ℕ × List ℕ)) (behind : List ℕ) : Type 0 where
+  pub word : List ℕ
+  pub words : words_of text ≡ word ∷ words_of behind
+  pub parts : IsCutOf word cut
+
+-- the text up to its first blank, and the text behind
+pub record IsUntilBlank (text value behind : List ℕ) : Type 0 where
+  pub more : List (List ℕ)
+  pub parts : parts_by is_blank text ≡ value ∷ more
+  pub words : filter is_some_text more ≡ words_of behind
+
+-- the draft with a word that is cut so: no value has another `=`
+abbrev pub with_cut : List Field → Option (List ℕ × List ℕ) → Draft → Option Draft
+with_cut fields None draft = None
+with_cut fields (Some cut) draft = with_value (found fields cut.0) cut.1 draft
