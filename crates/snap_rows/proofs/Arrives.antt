@@ -184,10 +184,6 @@ stage_first t valid form one w n s ss os below row =
       rows = λ i d within. row_keeps t valid Missing w n (Leaf (s ∷ ss) os) row _ n (refl, (route.0, route.1, All-contains_itself route.0 i d within));
     }
 
-home_row : (t : Tables) (w : ℕ) (o : Option Row) (y : ℕ) → IfSome o (λ (b : Row). IsSome (row_at t w y)) → IsSome o → IsSome (row_at t w y)
-home_row t w None y h s = absurd (false≢true s)
-home_row t w (Some b) y h s = h
-
 -- a next hop is a switch
 pub next_below : (t : Tables) → IsInForm t → (w x : ℕ) → w < switch_count t → next t w x < switch_count t
 next_below t form w x below = hops t.hops form.hops

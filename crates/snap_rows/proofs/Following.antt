@@ -17,7 +17,6 @@ use Rattle.snap_rows.specs.Entries.{row_at}
 use Rattle.snap_rows.specs.Following.{IsMarked, AreLeadsMarked, ArePortsMarked, IsFollowed, Grows, AreMarked}
 use Rattle.snap_rows.specs.Form.{IsInForm}
 use Rattle.snap_rows.specs.Leads.{IsNumberAfter, AreLedOver, HaveRows}
-use Rattle.snap_rows.specs.Places.{IsRowPlace}
 use Rattle.snap_rows.specs.Reach.{falses}
 use Rattle.snap_rows.specs.Rules.{IsFirstSpot, PortKeeps, RowKeeps}
 use Rattle.snap_rows.specs.Ways.{LeadsTo, Reached, port, lead}
@@ -33,9 +32,6 @@ same_or_other i j = ⊎_elim (λ lt. inr (omega arith)) (λ ge. ⊎_elim (λ lt.
 -- ---- marks grow
 pub marked_more : (t : Tables) (marks marks' : List Bool) (x k : ℕ) → ((i : ℕ) → get_or marks i false ≡ true → get_or marks' i false ≡ true) → IsMarked t marks x k → IsMarked t marks' x k
 marked_more t marks marks' x k kept m = (m.0, m.1, kept m.0 m.2)
-
-pub grows_not : (t : Tables) (marks : List Bool) (left : List ℕ) → Grows t marks left marks left
-grows_not t marks left = record { long = refl; kept = λ i e. e; followed = λ more f. f; count = refl }
 
 pub grows_twice : (t : Tables) (marks marks' marks'' : List Bool) (left left' left'' : List ℕ) → Grows t marks left marks' left' → Grows t marks' left' marks'' left'' → Grows t marks left marks'' left''
 grows_twice t marks marks' marks'' left left' left'' a b = record {
@@ -87,10 +83,6 @@ grows_one t marks left i within none reached = record {
 }
 
 -- ---- the row at a place
-pub reached_place : (t : Tables) (w n i : ℕ) → IsRowPlace t.rows w n i → Reached t w n → (r : RowAt) → slice_get t.rows i ≡ Some r → Reached t r.at r.number
-reached_place t w n i place reached r is =
-    let same : place.0 ≡ r = some_injective _ _ (sym place.1 ∙ is) in
-    subst (λ (x : RowAt). Reached t x.at x.number) same (subst (λ v. Reached t v place.0.number) (sym place.2) (subst (λ k. Reached t w k) (sym place.3) reached))
 
 -- ---- the leads of one row
 -- its leads are marked, so it isn't left

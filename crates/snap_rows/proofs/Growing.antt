@@ -6,7 +6,6 @@ use Rattle.std.specs.Map.{lookup}
 use Rattle.std.specs.Ordering.{nat_cmp, is_eq}
 use Rattle.std.proofs.lemmas.Bool.Decides.{nat_tests}
 use Rattle.std.proofs.lemmas.Bool.{false≢true, cases_eq, eq-eqb, ne_eqb}
-use Rattle.std.proofs.lemmas.List.{drop_all}
 use Rattle.std.proofs.lemmas.Map.Keys.{ge_from_not_lt}
 use Rattle.snap_core.specs.declared.policy.Test.{Test}
 use Rattle.snap_core.specs.declared.policy.Test.TheVariants.{Value, Equal, State as StateTest}
@@ -186,9 +185,6 @@ node_before t k n r is = ap (λ rs. node_in rs n) (drop_get t.rows k r is ∙ ap
 before_same : (t : Tables) (k n : ℕ) (at : ℕ → Option ℕ) → node_in (drop k t.rows) n ≡ node_in (drop (k + 1) t.rows) n → MatchOption (at n) (node_in (drop (k + 1) t.rows) n ≡ None) (IsNodeFrom t (k + 1) n)
     → MatchOption (at n) (node_in (drop k t.rows) n ≡ None) (IsNodeFrom t k n)
 before_same t k n at same = match_weaker (at n) _ _ _ _ (λ e. same ∙ e) (λ i h. record { entry = h.entry; is = h.is; number = h.number; node = same ∙ h.node })
-
-pub nodes_none : (t : Tables) (m : ℕ → Option ℕ) → ((n : ℕ) → m n ≡ None) → AreNodesFrom t (length t.rows) m
-nodes_none t m none n = subst (λ o. MatchOption o (node_in (drop (length t.rows) t.rows) n ≡ None) (IsNodeFrom t (length t.rows) n)) (sym (none n)) (ap (λ rs. node_in rs n) (drop_all (length t.rows) t.rows (omega arith)))
 
 pub nodes_same : (t : Tables) (k : ℕ) (r : RowAt) (m : ℕ → Option ℕ) → slice_get t.rows k ≡ Some r → is_node r.row ≡ false → AreNodesFrom t (k + 1) m → AreNodesFrom t k m
 nodes_same t k r m is other before n = before_same t k n m (node_before t k n r is ∙ by (r.number == n) (is_node r.row) other) (before n)

@@ -91,9 +91,6 @@ go_over t w to x = (λ e. (0, omega arith, sym e), λ c. only c.0 c.1 c.2)
     only : (i : ℕ) → i < 1 → get_or (next t w to ∷ []) i x ≡ x → x ≡ next t w to
     only i low e = let first : i ≡ 0 = omega arith in sym (subst (λ j. get_or (next t w to ∷ []) j x ≡ x) first e)
 
-pub nothing_over : (x : ℕ) → ⊥ ↔ Contains [] x
-nothing_over x = (λ no. absurd no, λ c. absurd (let h : c.0 < 0 = c.1 in omega arith))
-
 -- ---- the leads of a row, parted
 pub split_leads : (t : Tables) (w n : ℕ) (b : Row) (P : ℕ → ℕ → Type 0) → ((x k : ℕ) → LeadsTo t w n b x k → P x k) → ((k : ℕ) → IsNumberAfter b k → P w k) × ((x : ℕ) → LeadsOver t w b x → P x n)
 split_leads t w n (Field test y z) P all = (λ k side. all w k (refl, side), λ x no. absurd no)

@@ -58,6 +58,10 @@ IsGoOrLeaf (Some (Go x)) = Unit {0}
 IsGoOrLeaf (Some (Leaf ss os)) = Unit {0}
 IsGoOrLeaf _ = ⊥
 
+-- a leaf of version 2
+abbrev pub IsLast : Row → Type 0
+IsLast b = (us : List Update) × (os : List Parts) × (b ≡ Last us os)
+
 -- the number has a row at w that is a leaf of version 2
 abbrev pub HasLast : Tables → ℕ → ℕ → Type 0
 HasLast t w n = (us : List Update) × (os : List Parts) × (row_at t w n ≡ Some (Last us os))

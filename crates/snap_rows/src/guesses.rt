@@ -9,18 +9,12 @@ const SPREAD: usize = 4;
 
 const FEW: usize = 256;
 
-// The first number of a switch that has a row, and where its guess stands.
-#[derive(Clone, Copy, Debug)]
-struct Start {
-    number: u64,
-    guess: usize,
-}
-
 /// For each switch the places of its rows, by number. A guess may be wrong: whoever makes it looks there, and where the
 /// row isn't there, searches. So numbers that lie far apart take no more memory than rows do.
 #[derive(Drop)]
 pub(crate) struct Guesses {
-    starts: Vec<Start>,
+    // What lies between a number at a switch and where its guess stands.
+    shifts: Vec<u64>,
     places: Vec<usize>,
 }
 
@@ -28,7 +22,7 @@ impl Guesses {
     /// The guesses for rows that rise by switch and number.
     pub(crate) fn of(alloc: Global, rows: &[RowAt]) -> Result<Guesses, NoMemory> {
         let mut guesses = Guesses {
-            starts: Vec::new(alloc),
+            shifts: Vec::new(alloc),
             places: Vec::with_capacity(alloc, rows.len())?,
         };
         for (place, row) in rows.iter().enumerate() {
@@ -38,35 +32,34 @@ impl Guesses {
     }
 
     /// Where the row of a switch and number probably stands.
-    #[inline(always)]
     pub(crate) fn place(&self, at: u16, number: u64) -> usize {
-        match self.guess(at, number) {
-            Some(guess) => self.places.get(guess).copied().unwrap_or(0),
-            None => 0,
-        }
+        self.near(self.shift(at), number)
     }
 
-    // Where the guess for a switch and number stands.
-    fn guess(&self, at: u16, number: u64) -> Option<usize> {
-        let start = self.starts.get(at as usize)?;
-        let above = number.checked_sub(start.number)?;
-        start.guess.checked_add(above as usize)
+    /// The shift of a switch, by which its rows are found.
+    #[inline(always)]
+    pub(crate) fn shift(&self, at: u16) -> u64 {
+        self.shifts.get(at as usize).copied().unwrap_or(0)
+    }
+
+    /// Where the row of a number probably stands at the switch of this shift.
+    #[inline(always)]
+    pub(crate) fn near(&self, shift: u64, number: u64) -> usize {
+        let guess = number.wrapping_add(shift) as usize;
+        self.places.get(guess).copied().unwrap_or(0)
     }
 
     // Adds a row that stands behind those that were added.
     fn add(&mut self, row: &RowAt, place: usize) -> Result<(), NoMemory> {
-        let start = Start {
-            number: row.number,
-            guess: self.places.len(),
-        };
-        if self.starts.len() <= row.at as usize {
-            self.starts.resize(row.at as usize + 1, start)?;
+        if self.shifts.len() <= row.at as usize {
+            let shift = (self.places.len() as u64).wrapping_sub(row.number);
+            self.shifts.resize(row.at as usize + 1, shift)?;
         }
-        let most = place.saturating_mul(SPREAD).saturating_add(FEW);
-        match self.guess(row.at, row.number) {
-            Some(guess) if guess < most => self.put(guess, place),
-            _ => Ok(()),
+        let guess = row.number.wrapping_add(self.shift(row.at)) as usize;
+        if guess < place.saturating_mul(SPREAD).saturating_add(FEW) {
+            return self.put(guess, place);
         }
+        Ok(())
     }
 
     // Puts a place where a guess stands.

@@ -1,6 +1,6 @@
 //! Looking up rows, hops, ports and ranks.
 
-ghost use Rattle.std.specs.Prelude.{◌≡◌, ◌↔◌, IsTrue, Some, map, length, slice_index, option_map, IfSome, IfNone, is_some, slice_get, nat_lt, ◌<◌, All, true, false, None};
+ghost use Rattle.std.specs.Prelude.{◌≡◌, ◌↔◌, IsTrue, Some, map, length, slice_index, option_map, IfSome, IfNone, IsSome, is_some, slice_get, nat_lt, ◌<◌, All, true, false, None};
 ghost use Rattle.std.specs.List.Sorted.{IsStrictlySortedBy, IsPartitionPoint};
 ghost use Rattle.std.specs.Ordering.{nat_cmp};
 ghost use Rattle.snap_core.specs.Switch.{goes_out};
@@ -13,7 +13,7 @@ ghost use Rattle.snap_rows.specs.Form.{IsRowInForm, IsInForm, row_cmp, hop_cmp, 
 ghost use Rattle.snap_rows.specs.Places.{is_before, IsRowPlace, hop_said, port_said};
 ghost use Rattle.snap_rows.specs.Rules.{IsValid};
 ghost use Rattle.snap_rows.specs.Aims.{aim_of};
-ghost use Rattle.snap_rows.specs.Entries.{row_in, row_at, hop_in, next, port_in, port_at, rank_in, rank_at, rank_of, ranks, ranks_in, var_of, owner_of};
+ghost use Rattle.snap_rows.specs.Entries.{row_in, row_at, hop_in, next, port_in, port_at, rank_in, rank_at, rank_of, ranks_in, var_of, owner_of};
 
 use crate::head::Head;
 use crate::tables::{ArrayAt, Hop, Row, RowAt, Tables};
@@ -30,8 +30,38 @@ impl Valid {
         ensures valid { IsValid self.now }
         ensures all_form { IsInForm self.now }
     {
+        self.row_near(self.shift(at), at, number)
+    }
+
+    /// The shift of a switch, by which its rows are found.
+    #[inline(always)]
+    pub(crate) fn shift(&self, at: u16) -> u64 {
+        self.guesses().shift(at)
+    }
+
+    // The row of a switch and number, by the shift of the switch.
+    #[inline(always)]
+    fn row_near(&self, shift: u64, at: u16, number: u64) -> Option<&Row>
+        ensures row { option_map (λ r. r.now) result ≡ row_at self.now at number }
+        ensures form { IfSome result (λ r. IsRowInForm self.now r.now) }
+        ensures valid { IsValid self.now }
+        ensures all_form { IsInForm self.now }
+    {
         let rows = self.tables().rows.items();
-        row(rows, self.guesses().place(at, number), at, number)
+        row(rows, self.guesses().near(shift, number), at, number)
+    }
+
+    /// The row of a switch and number that have one, by the shift of the switch.
+    #[inline(always)]
+    pub(crate) fn row_there(&self, shift: u64, at: u16, number: u64) -> &Row
+        requires { IsSome (row_at self.now at number) }
+        ensures row { row_at self.now at number ≡ Some result.now }
+        ensures form { IsRowInForm self.now result.now }
+    {
+        match self.row_near(shift, at, number) {
+            Some(row) => row,
+            None => unreachable!(),
+        }
     }
 
     /// The next hop of a switch towards another.
@@ -73,13 +103,6 @@ impl Valid {
         ensures { result ≡ rank_of self.now var }
     {
         rank(self.tables(), var)
-    }
-
-    /// The number of ranks.
-    pub fn ranks(&self) -> u16
-        ensures { result ≡ ranks self.now }
-    {
-        ranks(self.tables().arrays.items())
     }
 
     /// The owner of a rank.
@@ -189,6 +212,7 @@ pub(crate) fn row(rows: &[RowAt], guess: usize, at: u16, number: u64) -> Option<
 }
 
 // The row of a switch and number, if it stands at a place.
+#[inline(always)]
 fn row_said(rows: &[RowAt], place: usize, at: u16, number: u64) -> Option<&Row>
     requires { IsStrictlySortedBy row_cmp rows.now }
     ensures { IfSome result (λ r. row_in rows.now at number ≡ Some r.now) }

@@ -1,19 +1,14 @@
 //! What one step does, worked out before anything is changed.
 
-ghost use Rattle.std.specs.Prelude.{◌≡◌, ◌≢◌, ◌<◌, ℕ, List, [], IfOk, IsSome, Some, length, All};
-ghost use Rattle.std.specs.List.{AllByRecursion};
-ghost use Rattle.snap_core.specs.declared.place.Place.{Place};
-ghost use Rattle.snap_core.specs.declared.policy.Update.{Update};
-ghost use Rattle.snap_core.specs.Arrays.{Arrays, updates};
+ghost use Rattle.std.specs.Prelude.{◌≡◌, ◌<◌, ℕ, List, [], IfOk, IsSome, Some, length};
+ghost use Rattle.snap_core.specs.Arrays.{Arrays};
 ghost use Rattle.snap_core.specs.Cells.{arrays_of};
-ghost use Rattle.snap_core.specs.Fits.{UpdateReads};
 ghost use Rattle.snap_rows.specs.declared.tables.Row.TheVariants.{Leaf};
-ghost use Rattle.snap_rows.specs.Entries.{row_at, rank_of, owner_of};
+ghost use Rattle.snap_rows.specs.Entries.{row_at, rank_at};
 ghost use Rattle.snap_rows.specs.Form.{IsInForm, comps, switch_count};
 ghost use Rattle.snap_rows.specs.Handles.{Handles};
 ghost use Rattle.snap_rows.specs.Home.{AtHome};
-ghost use Rattle.snap_rows.specs.Rules.{IsValid};
-ghost use Rattle.snap_rows.specs.Steps.{HasLast, IsGoOrLeaf, ForksAt, Does};
+ghost use Rattle.snap_rows.specs.Steps.{IsGoOrLeaf, Does};
 
 use crate::fork::{fork, fork_by};
 use crate::head::{Action, Head};
@@ -224,56 +219,20 @@ fn decided(
     }
 }
 
-// What is done from a visit on: the updates of all visits of the step behind those before, and what becomes of the
-// copy. All visits read the store as it was, since none reads what one of lesser rank changes.
-fn visits(
-    alloc: Global,
-    tables: &Valid,
-    at: u16,
-    store: &Store,
-    packet: &Packet,
-    rank: u16,
-    node: u64,
-    before: Vec<Update>,
-) -> Result<Plan, NoMemory>
-    requires version { tables.now.version ≡ 2 }
-    requires packet { length packet.now ≡ comps tables.now }
-    requires home { AtHome tables.now at (Head.Visit rank node) }
-    requires form { IsInForm tables.now }
-    requires valid { IsValid tables.now }
-    requires below { AllByRecursion (λ (u : Update). rank_of tables.now u.var < rank) before.items }
-    requires reads { All (UpdateReads (length packet.now)) before.items }
-    ensures does { IfOk result (λ p. Handles tables.now at packet.now (updates (arrays_of store.now) before.items packet.now) (Head.Visit rank node) (updates (arrays_of store.now) p.ups packet.now) p.action) }
-    ensures reads { IfOk result (λ p. All (UpdateReads (length packet.now)) p.ups) }
+// The switch of a rank that has one.
+fn owner_of_rank(tables: &Valid, rank: u16) -> u16
+    requires { IsSome (rank_at tables.now rank) }
+    ensures { rank_at tables.now rank ≡ Some result }
 {
-    let owner = match tables.rank_at(rank) {
+    match tables.rank_at(rank) {
         Some(owner) => owner,
         None => unreachable!(),
-    };
-    if owner != at {
-        let to = tables.next(at, owner);
-        return Ok(Plan {
-            ups: Updates::new(before),
-            action: Action::Forward {
-                to,
-                head: Head::Visit { rank, node },
-            },
-        });
     }
-    let mut ups = before;
-    let number = visit(alloc, tables, at, store, packet, rank, node, &mut ups)?;
-    if rank + 1 == tables.ranks() {
-        let action = fork(alloc, tables, at, packet, number)?;
-        return Ok(Plan {
-            ups: Updates::new(ups),
-            action,
-        });
-    }
-    visits(alloc, tables, at, store, packet, rank + 1, number, ups)
 }
 
-// A copy before a visit.
-fn at_visit(
+// What is done from a visit on: the updates of all visits of the step, and what becomes of the copy. All visits read the
+// store as it was, since none reads what one of lesser rank changes.
+fn visits(
     alloc: Global,
     tables: &Valid,
     at: u16,
@@ -287,8 +246,33 @@ fn at_visit(
     ensures { IfOk result (Does tables.now at packet.now (arrays_of store.now) (Head.Visit rank node)) }
 {
     let _known = tables.tables();
-    let none = Vec::new(alloc);
-    visits(alloc, tables, at, store, packet, rank, node, none)
+    let mut ups = Vec::new(alloc);
+    let mut due = rank;
+    let mut number = node;
+    let mut owner = owner_of_rank(tables, rank);
+    while owner == at {
+        number = visit(alloc, tables, at, store, packet, due, number, &mut ups)?;
+        due += 1;
+        if due == tables.ranks() {
+            let action = fork(alloc, tables, at, packet, number)?;
+            return Ok(Plan {
+                ups: Updates::new(ups),
+                action,
+            });
+        }
+        owner = owner_of_rank(tables, due);
+    }
+    let action = Action::Forward {
+        to: tables.next(at, owner),
+        head: Head::Visit {
+            rank: due,
+            node: number,
+        },
+    };
+    Ok(Plan {
+        ups: Updates::new(ups),
+        action,
+    })
 }
 
 // A walk in version 2.
@@ -311,11 +295,12 @@ fn walk_two(
         let action = fork(alloc, tables, at, packet, number)?;
         return Ok(bare(alloc, action));
     }
-    at_visit(alloc, tables, at, store, packet, 0, number)
+    visits(alloc, tables, at, store, packet, 0, number)
 }
 
 /// What one step does, by a store that stays as it is. All memory that the step wants is taken here, but that of the
 /// updates themselves.
+#[inline(always)]
 pub fn plan_step(
     alloc: Global,
     tables: &Valid,
@@ -339,6 +324,6 @@ pub fn plan_step(
         }
         Head::Stage { leaf, stage } => at_stage(alloc, tables, at, packet, leaf, stage),
         Head::Out { port } => Ok(bare(alloc, to_port(tables, at, port))),
-        Head::Visit { rank, node } => at_visit(alloc, tables, at, store, packet, rank, node),
+        Head::Visit { rank, node } => visits(alloc, tables, at, store, packet, rank, node),
     }
 }

@@ -1,13 +1,12 @@
 //! Visits: what the owner of a rank does for a packet.
 
-ghost use Rattle.std.specs.Prelude.{◌≡◌, ◌++◌, ◌==◌, ℕ, List, Some, IfOk, OnOk, OnErr, IsSome, All, filter, length};
+ghost use Rattle.std.specs.Prelude.{◌≡◌, ◌++◌, ◌==◌, ◌∷◌, [], List, Some, IfOk, OnOk, OnErr, filter, length};
 ghost use Rattle.snap_core.specs.declared.policy.Update.{Update};
 ghost use Rattle.snap_core.specs.Cells.{arrays_of};
-ghost use Rattle.snap_rows.specs.Entries.{Parts, row_at, rank_at, rank_of};
+ghost use Rattle.snap_rows.specs.Entries.{Parts, rank_at, rank_of};
 ghost use Rattle.snap_rows.specs.Form.{comps};
-ghost use Rattle.snap_rows.specs.Handles.{Visits};
 ghost use Rattle.snap_rows.specs.Home.{AtHome};
-ghost use Rattle.snap_rows.specs.Steps.{AppendsVisit, HasLast, IsVisitedAt};
+ghost use Rattle.snap_rows.specs.Steps.{AppendsVisit, IsLast, IsVisitedAt};
 ghost use Rattle.snap_rows.specs.declared.tables.Row.TheVariants.{Last};
 
 use crate::head::Head;
@@ -20,37 +19,51 @@ use snap_core::policy::Update;
 use snap_core::store::Store;
 use std::alloc::Global;
 
-// The updates of arrays of one rank.
-fn of_rank(
-    alloc: Global,
-    tables: &Valid,
-    ups: &[Update],
-    rank: u16,
-) -> Result<Vec<Update>, NoMemory>
-    ensures { IfOk result (λ mine. mine.items ≡ filter (λ (u : Update). rank_of tables.now u.var == rank) ups.now) }
+// Puts a copy of an update behind others.
+fn push_copy(ups: &mut Vec<Update>, update: &Update) -> Result<(), NoMemory>
+    ensures ok { OnOk result (ups.new.items ≡ ups.old.items ++ update.now ∷ []) }
+    ensures err { OnErr result (ups.new.items ≡ ups.old.items) }
 {
-    let mut mine = Vec::new(alloc);
-    for update in ups {
+    let copy = update.copy()?;
+    ups.push(copy)?;
+    Ok(())
+}
+
+// Puts copies of a leaf's updates of arrays of one rank behind others.
+fn push_ranked(
+    tables: &Valid,
+    leaf: &[Update],
+    rank: u16,
+    ups: &mut Vec<Update>,
+) -> Result<(), NoMemory>
+    ensures ok { OnOk result (ups.new.items ≡ ups.old.items ++ filter (λ (u : Update). rank_of tables.now u.var == rank) leaf.now) }
+    ensures err { OnErr result (ups.new.items ≡ ups.old.items) }
+{
+    let before = ups.len();
+    for update in leaf {
         if tables.rank(update.var) == rank {
-            mine.push(update.copy()?)?;
+            if let Err(fault) = push_copy(ups, update) {
+                ups.truncate(before);
+                return Err(fault);
+            }
         }
     }
-    Ok(mine)
+    Ok(())
 }
 
 // The updates of a leaf.
-fn last_updates(tables: &Valid, at: u16, leaf: u64) -> &[Update]
-    requires { HasLast tables.now at leaf }
-    ensures { (os : List Parts) × (row_at tables.now at leaf ≡ Some (Last result.now os)) }
+fn last_updates(leaf: &Row) -> &[Update]
+    requires { IsLast leaf.now }
+    ensures { (os : List Parts) × (leaf.now ≡ Last result.now os) }
 {
-    match tables.row(at, leaf) {
-        Some(Row::Last { ups, outs: _ }) => ups.items(),
+    match leaf {
+        Row::Last { ups, outs: _ } => ups.items(),
         _ => unreachable!(),
     }
 }
 
-// The visit's number and its updates.
-fn visited(
+// Makes a visit at a number from which the rank can be visited.
+fn visit_from(
     alloc: Global,
     tables: &Valid,
     at: u16,
@@ -58,31 +71,19 @@ fn visited(
     packet: &Packet,
     rank: u16,
     node: u64,
-) -> Result<(u64, Vec<Update>), NoMemory>
+    ups: &mut Vec<Update>,
+) -> Result<u64, NoMemory>
     requires version { tables.now.version ≡ 2 }
     requires packet { length packet.now ≡ comps tables.now }
     requires home { IsVisitedAt tables.now at rank node }
-    ensures { IfOk result (λ r. Visits tables.now at packet.now (arrays_of store.now) rank node r.0 r.1.items) }
+    ensures visit { IfOk result (λ v. AppendsVisit tables.now at packet.now (arrays_of store.now) rank node v ups.old.items ups.new.items) }
+    ensures memory { OnErr result (ups.new.items ≡ ups.old.items) }
 {
     let _known = tables.tables();
-    let number = walk_ranked(alloc, tables, at, store, packet, rank, node)?;
-    let leaf = walk_cut(alloc, tables, at, store, packet, rank, number)?;
-    let ups = last_updates(tables, at, leaf);
-    let mine = of_rank(alloc, tables, ups, rank)?;
-    Ok((number, mine))
-}
-
-// Puts updates behind others. Where there are no others no memory is taken.
-fn append(ups: &mut Vec<Update>, mut mine: Vec<Update>) -> Result<(), NoMemory>
-    ensures ok { OnOk result (ups.new.items ≡ ups.old.items ++ mine.items) }
-    ensures err { OnErr result (ups.new.items ≡ ups.old.items) }
-{
-    if ups.is_empty() {
-        *ups = mine;
-        return Ok(());
-    }
-    ups.append(&mut mine)?;
-    Ok(())
+    let (number, row) = walk_ranked(alloc, tables, at, store, packet, rank, node)?;
+    let (_, leaf) = walk_cut(alloc, tables, at, store, packet, rank, number, row)?;
+    push_ranked(tables, last_updates(leaf), rank, ups)?;
+    Ok(number)
 }
 
 /// Makes a visit: answers its number and appends its updates.
@@ -102,7 +103,5 @@ pub fn visit(
     ensures visit { IfOk result (λ v. AppendsVisit tables.now at packet.now (arrays_of store.now) rank node v ups.old.items ups.new.items) }
     ensures memory { OnErr result (ups.new.items ≡ ups.old.items) }
 {
-    let (number, mine) = visited(alloc, tables, at, store, packet, rank, node)?;
-    append(ups, mine)?;
-    Ok(number)
+    visit_from(alloc, tables, at, store, packet, rank, node, ups)
 }

@@ -25,8 +25,8 @@ returns-then-ranks-eq0 c =
     bare_does t c.args.at k m (Walk c.args.node) c.bare.result (forked t f.1 k) c.bare.ensures.ups (c.bare.ensures.action ∙ f.3)
     (enters_last c.requires.version (sym c.ranks.ensures ∙ c.if-ranks-eq0.true) (c.enter-number.ensures m) f.2)
 
-pub at_visit-requires-clause-home : goal.at_visit-requires-clause-home
-at_visit-requires-clause-home c =
+pub visits-requires-clause-home : goal.visits-requires-clause-home
+visits-requires-clause-home c =
     let t = c.args.tables.now in
     let e = way_end t c.args.at c.args.packet.now is_field (arrays_of c.args.store.now) c.args.node c.enter-number.result (c.enter-number.ensures (arrays_of c.args.store.now)) in
     let some : ranks t ≢ 0 = λ e. c.if-ranks-eq0.false (c.ranks.ensures ∙ e) in
@@ -40,4 +40,4 @@ returns c =
     let v = c.enter-number.result in
     let some : ranks t ≢ 0 = λ e. c.if-ranks-eq0.false (c.ranks.ensures ∙ e) in
     IfOk-weaker _ (λ (p : Plan). Does t c.args.at k m (Visit 0 v) p) (λ (p : Plan). Does t c.args.at k m (Walk c.args.node) p)
-    (λ p h. record { handles = enters c.requires.version some (c.enter-number.ensures m) h.handles; reads = h.reads }) c.at_visit.ensures
+    (λ p h. record { handles = enters c.requires.version some (c.enter-number.ensures m) h.handles; reads = h.reads }) c.visits.ensures
