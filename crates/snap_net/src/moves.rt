@@ -37,6 +37,27 @@ fn update_at(
     update_all(alloc, &mut stores[copy.at as usize], &copy.packet, ups)
 }
 
+// Does updates at the switch of copy k, which isn't looked up for none.
+#[inline(always)]
+fn update_for(
+    alloc: Global,
+    stores: &mut Vec<Store>,
+    flying: &Flights,
+    k: usize,
+    ups: &[Update],
+) -> Result<(), NoMemory>
+    requires k { k < length flying.now }
+    requires at { (c : Flying) → slice_get flying.now k ≡ Some c → c.at < length stores.old.items }
+    requires reads { (c : Flying) → slice_get flying.now k ≡ Some c → All (UpdateReads (length c.packet)) ups.now }
+    ensures ok { OnOk result (HasUpdated stores.old.items flying.now k ups.now stores.new.items) }
+    ensures err { OnErr result (SameArrays stores.old.items stores.new.items) }
+{
+    if ups.is_empty() {
+        return Ok(());
+    }
+    update_at(alloc, stores, flying.get(k), ups)
+}
+
 // Forwards copy k.
 fn forward(flying: &mut Flights, k: usize, to: u16, head: Head) -> Moved
     requires { k < length flying.old }
@@ -121,6 +142,7 @@ fn turn(
 }
 
 // Does updates at the switch of copy k, and puts copies in its place.
+#[inline(never)]
 fn fork(
     alloc: Global,
     stores: &mut Vec<Store>,
@@ -175,6 +197,7 @@ fn split(
 }
 
 /// Does the plan of copy k's step.
+#[inline(always)]
 pub(crate) fn carry_out(
     alloc: Global,
     stores: &mut Vec<Store>,
@@ -192,11 +215,11 @@ pub(crate) fn carry_out(
     let Plan { ups, action } = plan;
     match action {
         Action::Forward { to, head } => {
-            update_at(alloc, stores, flying.get(k), ups.items())?;
+            update_for(alloc, stores, flying, k, ups.items())?;
             Ok(forward(flying, k, to, head))
         }
         Action::Deliver { port } => {
-            update_at(alloc, stores, flying.get(k), ups.items())?;
+            update_for(alloc, stores, flying, k, ups.items())?;
             Ok(deliver(flying, k, port))
         }
         Action::Fork { copies, lost } => {

@@ -213,6 +213,7 @@ impl Net {
     }
 
     // What the step of a copy does.
+    #[inline(always)]
     fn plan(&self, k: usize) -> Result<Plan, NoMemory>
         requires { k < length self.now.flying }
         ensures { IfOk result (PlanAt self.now k) }
@@ -231,6 +232,7 @@ impl Net {
 
     /// Does a plan for copy k, counted from 0: all of it, or nothing. A refusal leaves the network as it was, but for room
     /// that its stores took.
+    #[inline(always)]
     pub fn carry_out(&mut self, k: usize, plan: Plan) -> Result<Moved, NoMemory>
         requires k { k < length self.old.flying }
         requires plan { CanBeDone self.old k plan }
@@ -245,6 +247,7 @@ impl Net {
     }
 
     // Does the plan of a step, all or nothing.
+    #[inline(always)]
     fn finish(&mut self, k: usize, plan: Plan) -> Result<Moved, NoMemory>
         requires k { k < length self.old.flying }
         requires plan { PlanAt self.old k plan }
