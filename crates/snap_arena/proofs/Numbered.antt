@@ -9,7 +9,7 @@ use Rattle.std.proofs.lemmas.Slice.Eq.{bytes_eq-Decides}
 use Rattle.snap_core.specs.Cells.{Cells, cell}
 use Rattle.snap_arena.specs.declared.node.Node.{Node}
 use Rattle.snap_arena.specs.Codes.{node_code}
-use Rattle.snap_arena.specs.Arena.{IsArena, IsLower, IsNoted, IsNumbered, StandsAt}
+use Rattle.snap_arena.specs.Arena.{IsLower, IsNoted, IsNumbered, StandsAt}
 use Rattle.snap_arena.proofs.Injective.{same_node}
 
 at_left : {X : Type 0} (xs ys : List X) (i : ℕ) (x : X) → slice_get xs i ≡ Some x → slice_get (xs ++ ys) i ≡ Some x
@@ -31,13 +31,6 @@ old_or_last (z ∷ xs) y (suc i) x e = elim (old_or_last xs y i x e) [ inl f ↦
 -- the last one taken away again
 pub undone : {X : Type 0} (xs ys zs : List X) (x : X) (k : ℕ) → ys ≡ xs ++ x ∷ [] → k ≡ length xs → zs ≡ take k ys → zs ≡ xs
 undone xs ys zs x k e l t = t ∙ (λ i. take (l i) (e i)) ∙ take-append_seam xs (x ∷ [])
-
--- a node stands at one number
-pub one_number : {L : Type 0} (code : L → List ℕ) (ns : List (Node L)) (numbers : Cells) → IsNumbered code ns numbers → (d e : ℕ) (n : Node L) → slice_get ns d ≡ Some n → slice_get ns e ≡ Some n → d ≡ e
-one_number code ns numbers i d e n at also = let a = i.all d n at in let b = i.all e n also in cc
-
-pub is_arena : {L : Type 0} (code : L → List ℕ) (ns : List (Node L)) (numbers : Cells) → IsNumbered code ns numbers → IsArena ns
-is_arena code ns numbers i = record { lower = i.lower; once = one_number code ns numbers i }
 
 -- a number found by its code is the node's
 pub at_found : {L : Type 0} (code : L → List ℕ) → ((a b : L) → code a ≡ code b → a ≡ b) → (ns : List (Node L)) (numbers : Cells) → IsNumbered code ns numbers

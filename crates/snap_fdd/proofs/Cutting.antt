@@ -73,13 +73,6 @@ under_more g v w t b d i h = subst (λ (s : Sizes). IsDiagram g.ranks s d) (sym 
 pub keeps_of : (g : Grouping) (v w : View) (t : Test) (b : Bool) (d r : Diagram) → IsMore v w t b → IsPruned g.ranks (sizes g w) w d r → IsDiagram g.ranks (sizes g v) r
 keeps_of g v w t b d r i h = subst (λ (s : Sizes). IsDiagram g.ranks s r) (same_sizes g v w t b i) h.keeps
 
--- what is live stays
-pub pruned_same : (ranks : List ℕ) (s : Sizes) (v : View) (d : Diagram) → IsDiagram ranks s d → IsLive (Met v) d → IsPruned ranks s v d d
-pruned_same ranks s v d i live = record { walks = λ m k h. refl; keeps = i; above = λ low a. a; live = live; tests = λ q o. o; short = omega arith }
-
-pub pruned_leaf : (ranks : List ℕ) (s : Sizes) (v : View) (l : Leaf) (d : Diagram) → d ≡ Only l → IsDiagram ranks s d → IsPruned ranks s v d d
-pruned_leaf ranks s v l d e i = pruned_same ranks s v d i (rw e tt)
-
 pub pruned_no : (ranks : List ℕ) (s : Sizes) (v : View) (t : Test) (y n d r : Diagram) → d ≡ Asks t y n → IsDiagram ranks s d → NoneMeets (length v.classes) (with_fact v.facts t true)
     → IsPruned ranks s v n r → IsPruned ranks s v d r
 pruned_no ranks s v t y n d r e i none p = record {

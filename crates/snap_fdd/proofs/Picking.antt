@@ -27,9 +27,6 @@ yes_part ranks s t y n d = record { ordered = d.ordered.2; bounds = d.bounds.1 }
 pub no_part : (ranks : List ℕ) (s : Sizes) (t : Test) (y n : Diagram) → IsDiagram ranks s (Asks t y n) → IsDiagram ranks s n
 no_part ranks s t y n d = record { ordered = d.ordered.3; bounds = d.bounds.2 }
 
-pub side_leaf : (ranks : List ℕ) (s : Sizes) (t : Test) (b : Bool) (l : Leaf) → IsDiagram ranks s (Only l) → IsSide ranks s t b (Only l) (Only l)
-side_leaf ranks s t b l d = record { walks = λ m k w. refl; keeps = d; above = λ low a. a; over = λ n. tt }
-
 -- the other test isn't told
 pub side_here : (ranks : List ℕ) (s : Sizes) (t : Test) (b : Bool) (u : Test) (y n : Diagram) → IsDiagram ranks s (Asks u y n) → t ≢ u → IsSide ranks s t b (Asks u y n) (Asks u y n)
 side_here ranks s t b u y n d differ = record { walks = λ m k w. refl; keeps = d; above = λ low a. a; over = λ g. less_if ranks t u g differ }
@@ -111,9 +108,6 @@ picked_later ranks s On t u a b ay an b1 bn ry rn r less starts na nb say san sb
       (above_trans ranks low u ry lu (py.above u less (say.over na) (sby.over nb)))
       (above_trans ranks low u rn lu (pn.above u less (san.over na) (sbn.over nb)));
 }
-
-pub pick_on : (ranks : List ℕ) (s : Sizes) (On : Arrays → List ℕ → Type 0) (t : Test) (a b r : Diagram) → IsPick ranks s Anywhere t a b r → IsPick ranks s On t a b r
-pick_on ranks s On t a b r p = record { walks = λ m k o. p.walks m k tt; keeps = p.keeps; above = p.above }
 
 pub lower_first : (ranks : List ℕ) (s : Sizes) (t u : Test) (y n d : Diagram) → d ≡ Asks u y n → IsDiagram ranks s d → test_cmp ranks t u ≡ Greater → IsLower ranks s t d u
 lower_first ranks s t u y n d e i g = rw e (record {

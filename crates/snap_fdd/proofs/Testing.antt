@@ -1,5 +1,5 @@
 -- What marks of tests say of diagrams.
-use Rattle.std.proofs.Common.{◌≡◌, inl, inr, ℕ, ◌+◌, ◌<◌, List, [], ◌∷◌, ◌++◌, length, take, get_or, refl, sym, ap, ◌∙◌, arith, bit_or, length-append}
+use Rattle.std.proofs.Common.{◌≡◌, inl, inr, ℕ, ◌+◌, ◌<◌, List, [], ◌∷◌, ◌++◌, length, take, get_or, sym, ap, arith, bit_or, length-append}
 use Rattle.std.specs.List.{AllByRecursion}
 use Rattle.std.proofs.lemmas.Bool.{cases_eq}
 use Rattle.std.proofs.lemmas.List.{take_more, get_or_append_left, get_or_push}
@@ -88,9 +88,6 @@ tested_more ns marks e l h new = record {
     | inr other ↦ (let n = length-append marks (e ∷ []) in let low : i < length marks = omega (arith, hi, n, other) in rw (get_or_append_left marks (e ∷ []) (record { comps = 0; arrays = 0 }) i low) (h.tested i low))
   ];
 }
-
-pub tested_none : (ns : List (Node Leaf)) (marks : List Tested) → marks ≡ [] → AreTested ns marks
-tested_none ns marks e = rw e (record { few = omega arith; tested = λ i h. absurd (omega arith) })
 
 pub tested_kept : (old new : List (Node Leaf)) (marks : List Tested) → Grew old new → AreTested old marks → AreTested new marks
 tested_kept old new marks g h = record {

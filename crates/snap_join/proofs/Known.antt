@@ -7,15 +7,12 @@ use Rattle.snap_core.specs.Tests.{passes}
 use Rattle.snap_arena.specs.declared.node.Node.{Node}
 use Rattle.snap_arena.specs.Arena.{Grew}
 use Rattle.snap_fdd.specs.declared.leaf.Leaf.{Leaf}
-use Rattle.snap_fdd.specs.Diagrams.{Only, diagram, walk}
+use Rattle.snap_fdd.specs.Diagrams.{diagram, walk}
 use Rattle.snap_fdd.proofs.Shared.{kept}
 use Rattle.snap_join.specs.Predicates.{IsPredicateLeaf, IsPredicate}
 
 pub predicate_kept : (old new : List (Node Leaf)) (d : ℕ) → Grew old new → d < length old → IsPredicate old d → IsPredicate new d
 predicate_kept old new d g h p m k = subst (λ x. IsPredicateLeaf (walk x m k)) (sym (kept old new d g h)) (p m k)
-
-pub predicate_leaf : (ns : List (Node Leaf)) (d : ℕ) (l : Leaf) → diagram ns d ≡ Only l → IsPredicateLeaf l → IsPredicate ns d
-predicate_leaf ns d l e h m k = subst (λ x. IsPredicateLeaf (walk x m k)) (sym e) h
 
 pub predicate_asked : (old new : List (Node Leaf)) (t : Test) (y n d : ℕ) → IsPredicate old y → IsPredicate old n
     → ((m : Arrays) (k : List ℕ) → walk (diagram new d) m k ≡ (if passes t m k then walk (diagram old y) m k else walk (diagram old n) m k)) → IsPredicate new d

@@ -127,6 +127,31 @@ fn state(alloc: Global, var: u16, comp: u16) -> Result<Test, AllocError> {
     })
 }
 
+// The leaf with these parts of an out and these updates.
+fn leaf(
+    nodes: &mut Nodes<Leaf>,
+    groups: &Groups,
+    ctx: &Context,
+    out: Out,
+    updates: Updates,
+    writes: u64,
+) -> Result<u64, Fail>
+    ensures grew { Grew nodes.old nodes.new }
+    ensures diagram { IfOk result (IsArgument groups.now ctx.now nodes.new) }
+{
+    let alloc = nodes.allocator();
+    let leaf = Leaf::Go(Go {
+        outs: Outs::new(vec![in alloc; out]?),
+        ups: updates,
+        reads: 0,
+        writes,
+    });
+    if !leaf_fits(groups, ctx, &leaf) {
+        return Err("the leaf doesn't fit")?;
+    }
+    Ok(only(nodes, groups, ctx, leaf)?)
+}
+
 // `v0[srcport] = 1` beside `v0[srcport] <- 1`, where `srcport` is the third component.
 fn clash(nodes: &mut Nodes<Leaf>, groups: &Groups, ctx: &Context) -> Result<u64, Fail>
     ensures { IfOk result (IsArgument groups.now ctx.now nodes.new) }
@@ -140,16 +165,8 @@ fn clash(nodes: &mut Nodes<Leaf>, groups: &Groups, ctx: &Context) -> Result<u64,
         op: Op::Put(Atom::Num(1)),
     };
     let out = Out::new(Vec::new(alloc));
-    let leaf = Leaf::Go(Go {
-        outs: Outs::new(vec![in alloc; out]?),
-        ups: Updates::new(vec![in alloc; update]?),
-        reads: 0,
-        writes: 1,
-    });
-    if !leaf_fits(groups, ctx, &leaf) {
-        return Err("the leaf doesn't fit")?;
-    }
-    let written = only(nodes, groups, ctx, leaf)?;
+    let updates = Updates::new(vec![in alloc; update]?);
+    let written = leaf(nodes, groups, ctx, out, updates, 1)?;
     Ok(join(nodes, groups, ctx, read, written)?)
 }
 

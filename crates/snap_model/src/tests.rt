@@ -6,24 +6,24 @@ use snap_ctx::fits::fits;
 use std::alloc::{AllocError, Global};
 use std::test::Fail;
 
-fn value(comp: u16, num: u64) -> Test {
-    Test::Value { comp, num }
+// The facts that a component is a number, that two are equal but for a plus, and that a place of
+// the first array holds a value or doesn't.
+fn is(comp: u16, num: u64) -> (Test, bool) {
+    (Test::Value { comp, num }, true)
 }
 
-fn equal(left: u16, right: u16, plus: u64) -> Test {
-    Test::Equal { left, right, plus }
+fn equal(left: u16, right: u16, plus: u64) -> (Test, bool) {
+    (Test::Equal { left, right, plus }, true)
 }
 
-fn plain(comp: u16) -> Term {
+fn holds(alloc: Global, at: Atom, value: Term, yes: bool) -> Result<(Test, bool), AllocError> {
+    let index = Atoms::new(vec![in alloc; at]?);
+    let var = 0;
+    Ok((Test::State { var, index, value }, yes))
+}
+
+fn as_comp(comp: u16) -> Term {
     Term::Plus { comp, plus: 0 }
-}
-
-fn at(alloc: Global, atom: Atom, value: Term) -> Result<Test, AllocError> {
-    Ok(Test::State {
-        var: 0,
-        index: Atoms::new(vec![in alloc; atom]?),
-        value,
-    })
 }
 
 // Whether the example of these facts over five components meets them.
@@ -54,26 +54,22 @@ fn is_met(alloc: Global, facts: Vec<(Test, bool)>) -> Result<bool, Fail> {
 fn examples_meet_their_facts(rt: HostRuntime) -> Result<(), Fail> {
     let alloc = rt.alloc();
     let (two, three, zero) = (Atom::Comp(2), Atom::Comp(3), Atom::Num(0));
+    let facts = vec![in alloc; is(3, 1), is(4, 2), holds(alloc, two, as_comp(3), true)?]?;
+    assert!(rt; is_met(alloc, facts)?);
+    let facts = vec![in alloc; equal(2, 3, 1), is(2, 0)]?;
+    assert!(rt; is_met(alloc, facts)?);
     let facts = vec![in alloc;
-        (value(3, 1), true),
-        (value(4, 2), true),
-        (at(alloc, two, plain(3))?, true),
+        holds(alloc, two, Term::Num(0), true)?,
+        holds(alloc, three, Term::Num(1), true)?,
     ]?;
     assert!(rt; is_met(alloc, facts)?);
-    let facts = vec![in alloc; (equal(2, 3, 1), true), (value(2, 0), true)]?;
+    let facts = vec![in alloc; holds(alloc, two, Term::Num(0), true)?]?;
+    assert!(rt; is_met(alloc, facts)?);
+    let facts = vec![in alloc; holds(alloc, two, as_comp(4), true)?, equal(2, 3, 0)]?;
     assert!(rt; is_met(alloc, facts)?);
     let facts = vec![in alloc;
-        (at(alloc, two, Term::Num(0))?, true),
-        (at(alloc, three, Term::Num(1))?, true),
-    ]?;
-    assert!(rt; is_met(alloc, facts)?);
-    let facts = vec![in alloc; (at(alloc, two, Term::Num(0))?, true)]?;
-    assert!(rt; is_met(alloc, facts)?);
-    let facts = vec![in alloc; (at(alloc, two, plain(4))?, true), (equal(2, 3, 0), true)]?;
-    assert!(rt; is_met(alloc, facts)?);
-    let facts = vec![in alloc;
-        (at(alloc, zero, Term::Num(0))?, false),
-        (at(alloc, zero, Term::Num(1))?, false),
+        holds(alloc, zero, Term::Num(0), false)?,
+        holds(alloc, zero, Term::Num(1), false)?,
     ]?;
     assert!(rt; is_met(alloc, facts)?);
     Ok(())
@@ -85,10 +81,10 @@ fn great_numbers_are_found_at_once(rt: HostRuntime) -> Result<(), Fail> {
     let alloc = rt.alloc();
     let great = Term::Num(18446744073709551615);
     let facts = vec![in alloc;
-        (at(alloc, Atom::Comp(2), Term::Num(0))?, false),
-        (equal(2, 3, 1), true),
-        (value(4, 9223372036854775808), true),
-        (at(alloc, Atom::Comp(2), great)?, true),
+        holds(alloc, Atom::Comp(2), Term::Num(0), false)?,
+        equal(2, 3, 1),
+        is(4, 9223372036854775808),
+        holds(alloc, Atom::Comp(2), great, true)?,
     ]?;
     assert!(rt; is_met(alloc, facts)?);
     Ok(())

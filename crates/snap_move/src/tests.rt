@@ -52,19 +52,6 @@ fn valid(alloc: Global, text: &[u8]) -> Result<Valid, NoMemory> {
     }
 }
 
-// A shelf with one file of packets.
-fn packets(alloc: Global, lines: &[u8]) -> Result<MemoryShelf, NoMemory> {
-    let file = File {
-        name: b"q".to_vec(alloc)?,
-        bytes: lines.to_vec(alloc)?,
-    };
-    let files = vec![in alloc; file]?;
-    if !have_distinct_names(&files) {
-        return Err(NoMemory);
-    }
-    Ok(MemoryShelf::new(files, Vec::new(alloc)))
-}
-
 #[test]
 fn an_array_is_moved(rt: HostRuntime) -> Result<(), Fail> {
     let alloc = rt.alloc();
@@ -78,7 +65,13 @@ fn an_array_is_moved(rt: HostRuntime) -> Result<(), Fail> {
             tables: moved
         },
     ]?;
-    let mut shelf = packets(alloc, b"1\n2\n1\n")?;
+    let packets = File {
+        name: b"q".to_vec(alloc)?,
+        bytes: b"1\n2\n1\n".to_vec(alloc)?,
+    };
+    let files = vec![in alloc; packets]?;
+    assert!(rt; have_distinct_names(&files));
+    let mut shelf = MemoryShelf::new(files, Vec::new(alloc));
     let mut sink = MemorySink::new(alloc, 4096, 4096, Vec::new(alloc))?;
     let ended = trace_changes(alloc, &mut shelf, b"q", first, later, false, &mut sink);
     assert_eq!(rt; ended, Ok(()));

@@ -187,12 +187,6 @@ module _ (n : ℕ) (few : n ≤ 256) where
   }
 
   module _ (hs : List Hop) (h : Hop) (s : SoFar n hs) (next : IsNextHop n hs h) where
-    p0 : ℕ
-    p0 = (turn n hs).0
-
-    p1 : ℕ
-    p1 = (turn n hs).1
-
     is-from : h.from ≡ (turn n hs).0
     is-from = eqb-true h.from (turn n hs).0 (and_parts (h.from == (turn n hs).0) (h.target == (turn n hs).1) next.3).0
 

@@ -7,7 +7,7 @@ ghost use Rattle.snap_arena.specs.Arena.{Grew};
 ghost use Rattle.snap_fdd.specs.Picks.{IsArgument};
 ghost use Rattle.snap_join.specs.Predicates.{IsPredicate};
 
-use super::{apart, at, leaf_at, not, passes, tested};
+use super::{apart, at, leaf, leaf_at, not, passes, tested};
 use crate::choosing::choose;
 use crate::joining::{both, either, join};
 use snap_arena::nodes::Nodes;
@@ -21,9 +21,8 @@ use snap_core::policy::{Atom, Op, Pol, Pred, Term, Test, Update};
 use snap_core::store::Store;
 use snap_ctx::context::Context;
 use snap_dep::groups::Groups;
-use snap_fdd::bounds::{leaf_fits, outs_fit};
-use snap_fdd::leaf::{Go, Leaf, Outs, Updates};
-use snap_fdd::only::only;
+use snap_fdd::bounds::outs_fit;
+use snap_fdd::leaf::{Go, Leaf, Updates};
 use std::alloc::{AllocError, Global};
 use std::test::Fail;
 
@@ -85,31 +84,6 @@ fn predicate(
             Ok(either(nodes, groups, ctx, left, right)?)
         }
     }
-}
-
-// The leaf with these parts of an out and these updates.
-fn leaf(
-    nodes: &mut Nodes<Leaf>,
-    groups: &Groups,
-    ctx: &Context,
-    out: Out,
-    updates: Updates,
-    writes: u64,
-) -> Result<u64, Fail>
-    ensures grew { Grew nodes.old nodes.new }
-    ensures diagram { IfOk result (IsArgument groups.now ctx.now nodes.new) }
-{
-    let alloc = nodes.allocator();
-    let leaf = Leaf::Go(Go {
-        outs: Outs::new(vec![in alloc; out]?),
-        ups: updates,
-        reads: 0,
-        writes,
-    });
-    if !leaf_fits(groups, ctx, &leaf) {
-        return Err("the leaf doesn't fit")?;
-    }
-    Ok(only(nodes, groups, ctx, leaf)?)
 }
 
 // The diagram of a policy with no sequences.
