@@ -1,33 +1,20 @@
 -- Copies are dealt out and stores exchanged, one after another.
-use Rattle.std.proofs.Common.{◌≡◌, ◌≢◌, ⊎_elim, ℕ, ◌+◌, ◌<◌, ◌≤◌, ◌↔◌, ◌*◌, ◌-◌, ◌/◌, ◌%◌, Bool, true, false, List, [], ◌∷◌, ◌++◌, get_or, length, refl, sym, ap, ap₂, subst, ◌∙◌, arith, append_assoc, append-nil}
+use Rattle.std.proofs.Common.{◌≡◌, ◌≢◌, ⊎_elim, ℕ, ◌+◌, ◌<◌, ◌≤◌, ◌*◌, ◌-◌, ◌/◌, ◌%◌, Bool, true, false, List, [], ◌∷◌, ◌++◌, get_or, length, refl, sym, ap, ap₂, subst, ◌∙◌, arith, append_assoc, append-nil}
 use Rattle.std.specs.Prelude.{nat_eq}
 use Rattle.std.specs.Int.{div_ceil}
 use Rattle.std.proofs.Math.ListN.{set}
 use Rattle.std.proofs.lemmas.Bool.{cases_lt, eqb-false, eqb-true}
 use Rattle.std.proofs.Math.Nat.{add-mul, div-add-mod, mul_comm, mul-le-mul_right}
 use Rattle.std.proofs.lemmas.Grind.{div_ceil_times}
-use Rattle.std.proofs.lemmas.List.{get_or_default, get_or-set_other, get_or-set_same, length-set}
+use Rattle.std.proofs.lemmas.List.{get_or-set_other, get_or-set_same, length-set}
 use Rattle.snap_core.specs.Cells.{Kept}
 use Rattle.snap_net.specs.declared.flying.Flying.{Flying}
 use Rattle.snap_order.specs.declared.job.Job.{Job}
-use Rattle.snap_order.specs.Dealing.{AreDealt, AreExchanged, ArePlaces, IsDealt, SameButCopies, SameButStores, kept_at}
+use Rattle.snap_order.specs.Dealing.{AreDealt, AreExchanged, ArePlaces, SameButCopies, SameButStores, kept_at}
 use Rattle.snap_order.specs.Hands.{share}
 use Rattle.snap_order.proofs.Weaving.{share_other, share_own}
 
--- ---- one job of all
-pub set_related : {X : Type 0} (R : X → X → Type 0) → ((x : X) → R x x) → (xs : List X) (i : ℕ) (x y : X) → i < length xs → x ≡ get_or xs i x → R x y → (j : ℕ) (d : X) → j < length xs → R (get_or xs j d) (get_or (set xs i y) j d)
-set_related R same xs i x y within is r j d low = by (nat_eq j i) refl
-  where
-    by : (b : Bool) → nat_eq j i ≡ b → R (get_or xs j d) (get_or (set xs i y) j d)
-    by true e =
-        let at : j ≡ i = eqb-true j i e in
-        subst (λ (k : ℕ). R (get_or xs k d) (get_or (set xs i y) k d)) (sym at)
-        (subst (λ v. R v (get_or (set xs i y) i d)) (is ∙ get_or_default xs i x d within) (subst (R x) (sym (get_or-set_same xs i y d within)) r))
-    by false e = subst (R (get_or xs j d)) (sym (get_or-set_other xs i j y d (eqb-false j i e))) (same (get_or xs j d))
-
-pub same_copies : (x : Job) → SameButCopies x x
-same_copies x = record { workers = refl; stores = refl; counts = refl; done = refl; is_short = refl }
-
+-- a job has its stores
 pub same_stores : (x : Job) → SameButStores x x
 same_stores x = record { workers = refl; long = refl; counts = refl; copies = refl; done = refl; is_short = refl }
 

@@ -67,10 +67,6 @@ nothing_noted no_notes = refl
 first_noted : {hops : Bool} {switches : List (List ℕ)} {x : Turned} {xs : List Turned} {ys end : List Tally} → NoteTurns hops switches (x ∷ xs) ys end → (zs : List Tally) × NotesTurn hops switches x ys zs × NoteTurns hops switches xs zs end
 first_noted (notes {zs = zs} first rest) = (zs, first, rest)
 
-pub noted_last : {hops : Bool} {switches : List (List ℕ)} (xs : List Turned) (x : Turned) {ys zs end : List Tally} → NoteTurns hops switches xs ys zs → NotesTurn hops switches x zs end → NoteTurns hops switches (xs ++ x ∷ []) ys end
-noted_last [] x no_notes last = notes last no_notes
-noted_last (y ∷ ys) x (notes first rest) last = notes first (noted_last ys x rest last)
-
 -- there are as many tallies as before
 pub same_count : (hops : Bool) (switches : List (List ℕ)) (x : Turned) (ys zs : List Tally) → NotesTurn hops switches x ys zs → length zs ≡ length ys
 same_count hops switches (Moved h) ys zs noted = noted.count

@@ -1,24 +1,13 @@
 -- What goes out of runs by rounds.
-use Rattle.std.proofs.Common.{ℕ, Bool, List, Option, Ok, Err, refl, sym, ap, subst}
+use Rattle.std.proofs.Common.{ℕ, Bool, List, Option, Ok, Err, sym, ap, subst}
 use Rattle.std.specs.Io.KnownBytes.{Appends}
 use Rattle.snap_io.specs.Sinks.{AppendsPart}
 use Rattle.snap_rows.specs.declared.tables.Tables.{Tables}
-use Rattle.snap_trace.specs.declared.fault.TraceFault.{TraceFault}
 use Rattle.snap_trace.specs.declared.fault.TraceFault.TheVariants as trace
 use Rattle.snap_trace.specs.Spelled.{Spelled}
 use Rattle.snap_runs.specs.declared.ready.Ready.{Ready}
 use Rattle.snap_runs.specs.Playing.{AreAll, packets_in}
-use Rattle.snap_runs.specs.Schedules.{RefusesPackets}
 use Rattle.snap_order.specs.Rounds.{HasRoundReport, IsRoundReport, WritesRounds}
-
--- the packets were refused, or memory was short
-pub rounds_refused : (t : Tables) (hops : Bool) (file : List ℕ) (fault : TraceFault) (old : Option (List ℕ)) → RefusesPackets t file fault → WritesRounds t hops file (Err fault) old old
-rounds_refused t hops file trace.Read old r = (refl, r)
-rounds_refused t hops file trace.NoMemory old r = (refl, r)
-rounds_refused t hops file (trace.Limit which count) old r = (refl, r)
-rounds_refused t hops file (trace.Packets line) old r = (refl, r)
-rounds_refused t hops file trace.Write old r = absurd r
-rounds_refused t hops file (trace.Undefined packet) old r = (refl, r)
 
 module _ (t : Tables) (hops : Bool) (file : List ℕ) (rs : List Ready) (all : AreAll t file rs) (text : List ℕ) (report : IsRoundReport t hops (packets_in rs) text) (old now : Option (List ℕ)) where
   has : HasRoundReport t hops file text

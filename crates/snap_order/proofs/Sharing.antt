@@ -1,5 +1,5 @@
 -- A round that workers make is one.
-use Rattle.std.proofs.Common.{◌≡◌, ◌≢◌, ⊎_elim, ℕ, zero, suc, ◌+◌, ◌<◌, ◌≤◌, ◌/◌, ◌%◌, Bool, true, false, Option, Some, None, List, [], ◌∷◌, ◌++◌, drop, get_or, length, map, take, refl, sym, ap, subst, ◌∙◌, arith}
+use Rattle.std.proofs.Common.{◌≡◌, ⊎_elim, ℕ, ◌+◌, ◌<◌, ◌≤◌, ◌/◌, ◌%◌, Bool, true, false, Option, Some, None, List, [], ◌∷◌, ◌++◌, get_or, length, map, take, refl, sym, ap, subst, ◌∙◌, arith}
 use Rattle.std.specs.Prelude.{nat_eq, slice_get}
 use Rattle.std.specs.List.{All, AllZip, flat_map}
 use Rattle.std.proofs.Math.ListN.{get_or-eq_default}
@@ -7,7 +7,7 @@ use Rattle.std.proofs.Math.Nat.{mod-lt}
 use Rattle.std.proofs.lemmas.Bool.{cases_lt, eqb-false, eqb-true}
 use Rattle.std.proofs.lemmas.List.{map-append, take_all, take_more}
 use Rattle.std.proofs.lemmas.Option.{get_or_from_slice_get, slice_get_within}
-use Rattle.std.proofs.lemmas.List.Elements.{All-append, All-cons, All-from_get_or, All-get_or, All-head, All-nil, All-tail, AllZip-get_or, length_all_zip}
+use Rattle.std.proofs.lemmas.List.Elements.{All-append, All-cons, All-head, All-nil, All-tail, AllZip-get_or, length_all_zip}
 use Rattle.snap_core.specs.Cells.{Kept, arrays_of}
 use Rattle.snap_rows.specs.declared.tables.Tables.{Tables}
 use Rattle.snap_rows.specs.Entries.{rank_at, ranks}
@@ -19,7 +19,6 @@ use Rattle.snap_net.specs.Shown.{Held, IsHeld, store_of}
 use Rattle.snap_order.specs.declared.hand.Stepped.{Stepped}
 use Rattle.snap_order.specs.declared.job.Job.{Job}
 use Rattle.snap_order.specs.declared.lent.Lent.{Lent}
-use Rattle.snap_order.specs.declared.turned.Turned.{Turned}
 use Rattle.snap_order.specs.declared.weave.Web.{Web}
 use Rattle.snap_order.specs.Dealing.{AreDealt, AreExchanged, ArePlaces, kept_at}
 use Rattle.snap_order.specs.Hands.{Agrees, InPlace, IsTwo, Part, WeavesTo, Works, Woven, idles, works, over, next, part_of, share}
@@ -28,7 +27,7 @@ use Rattle.snap_order.specs.Lending.{IsLent, IsWorked}
 use Rattle.snap_order.specs.Ordered.{Ordered}
 use Rattle.snap_order.specs.Rounding.{IsRoundDone}
 use Rattle.snap_order.specs.Rounds.{IsRound}
-use Rattle.snap_order.specs.Shown.{IsOrderedHeld, OrderedHeld, ShowsInTurn, told_of}
+use Rattle.snap_order.specs.Shown.{IsOrderedHeld, OrderedHeld, ShowsInTurn}
 use Rattle.snap_order.specs.Weaving.{AreWoven, HasCounts, queues_of}
 use Rattle.snap_order.proofs.Weaving.{share_other, share_own, weaves}
 use Rattle.snap_order.proofs.Webs.{queue_at}
@@ -286,9 +285,6 @@ module _ {workers : ℕ} {v : OrderedHeld} {t : Tables} {packets : ℕ} {numbers
       let a = lent_many some is.begun in
       let b = worked_many in
       subst (ArePlaces workers j (length left)) (sym (AllZip-get_or (HasWorked t numbers) is.before given j d d is.worked (omega (arith, low, a)) (is.enough j d (omega (arith, low, b)))).long) (lent_room some is.begun j d low)
-
-  pub worked_few : length numbers ≡ ranks t
-  worked_few = lent_few some is.begun
 
   -- and put together again
   module _ (d : Job) (stores : List Kept) (jobs : List Job) (counts : List ℕ) (web : Web) (back : AreExchanged workers (length left) left given stores jobs)

@@ -193,10 +193,6 @@ module _ (t : Tables) (two : IsTwo t) where
     pub is : slice_get s.net.flying k ≡ Some copy
     pub now : (r n : ℕ) → IsBefore t s.net copy r n → s.handled r ≡ copy.number
 
-  pub round_placed : {i : ℕ} {s s' : Ordered} {es : List Event} {us : List Turn} → TakesFrom t i s es s' us → All (Placed t) s.net.flying → All (Placed t) s'.net.flying
-  round_placed (ends at) all = all
-  round_placed (takes leads next rest) all = round_placed rest (step_placed t two leads all)
-
   no_heavier : {i : ℕ} {s s' : Ordered} {es : List Event} {us : List Turn} → TakesFrom t i s es s' us → All (Placed t) s.net.flying → toil_of t s'.net.flying ≤ toil_of t s.net.flying
   no_heavier (ends at) all = omega arith
   no_heavier (takes leads next rest) all =
