@@ -1,5 +1,5 @@
 -- Rows that share their bodies are the planned ones.
-use Rattle.std.proofs.Common.{◌≡◌, ℕ, ◌<◌, ⊎_elim, Bool, true, false, cond, List, [], ◌∷◌, map, length, get_or, Option, Some, None, refl, sym, ap, subst, ◌∙◌, arith}
+use Rattle.std.proofs.Common.{◌≡◌, ℕ, ◌<◌, ⊎_elim, Bool, false, List, [], ◌∷◌, map, length, get_or, Option, Some, None, refl, sym, ap, subst, ◌∙◌, arith}
 use Rattle.std.specs.Prelude.{slice_get, slice_index, slice_index_or, option_map, option_and_then, unwrap_or}
 use Rattle.std.specs.List.{All, range_with_len}
 use Rattle.std.proofs.lemmas.Bool.{cases_lt}
@@ -26,11 +26,6 @@ use Rattle.snap_make.proofs.Entries.{Planned, all_planned, each_at, Each}
 use Rattle.snap_make.proofs.Marking.{node_is}
 
 -- ---- what stands in a row
-pub share_row : (b : Row) (due stop : Bool) → option_map (as_row b) (cond due (Some share.Body) (cond stop (Some share.Stop) None)) ≡ cond due (Some b) (cond stop (Some row.Stop) None)
-share_row b true stop = refl
-share_row b false true = refl
-share_row b false false = refl
-
 pub as_row_said : (bodies : List Row) (n : ℕ) (b : Row) (s : Share) → b ≡ slice_index_or bodies n row.Stop → as_row b s ≡ row_said bodies n s
 as_row_said bodies n b share.Body e = e
 as_row_said bodies n b share.Stop e = refl
