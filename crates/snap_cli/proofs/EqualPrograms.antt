@@ -1,6 +1,5 @@
 -- Two programs from the comparison of their diagrams.
 use Rattle.std.proofs.Common.{◌≡◌, ◌<◌, ◌+◌, ℕ, List, [], ◌∷◌, ◌++◌, length, take, get_or, Err, sym, ap, ◌∙◌, subst, inl, inr}
-use Rattle.std.proofs.lemmas.List.{take_more}
 use Rattle.snap_core.specs.declared.program.Program.{Program}
 use Rattle.snap_core.specs.Arrays.{Arrays}
 use Rattle.snap_core.specs.Fields.{count}
@@ -15,14 +14,6 @@ use Rattle.snap_cli.specs.declared.refusal.Refusal.{Refusal}
 use Rattle.snap_cli.specs.declared.refusal.Refusal.TheVariants.{Differ, Race}
 use Rattle.snap_cli.specs.Check.{HasWhole, IsRaceTold, NeverRaces}
 use Rattle.snap_cli.specs.Equal.{AreComparable, AreDeclaredAlike, Compares, IsDifferenceTold}
-
--- one element more
-pub take_both : {X : Type 0} (xs ys : List X) (i : ℕ) (x y : X) → i < length xs → i < length ys → x ≡ get_or xs i x → y ≡ get_or ys i y → x ≡ y → take i xs ≡ take i ys → take (i + 1) xs ≡ take (i + 1) ys
-take_both {X} xs ys i x y lx ly ix iy same before =
-    take_more xs i x lx
-    ∙ ap (λ (z : X). take i xs ++ z ∷ []) (sym ix ∙ same ∙ iy)
-    ∙ ap (λ (zs : List X). zs ++ get_or ys i y ∷ []) before
-    ∙ sym (take_more ys i y ly)
 
 -- the refusal of the second program, or of both
 pub second_told : (p q : Program) → AreDeclaredAlike p q → NeverRaces p → (e : Refusal) → IsRaceTold q e → Compares p q (Err e)

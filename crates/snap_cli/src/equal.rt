@@ -17,9 +17,9 @@ use crate::program::load_program;
 use crate::refusal::Refusal;
 use snap_build::building::Built;
 use snap_build::laws::whole_programs_never_race;
-use snap_core::lists::Name;
+use snap_core::alike::{same_fields, same_names};
 use snap_core::packet::Packet;
-use snap_core::program::{Field, Program};
+use snap_core::program::Program;
 use snap_core::store::Store;
 use snap_equal::comparing::{Compared, compare};
 use snap_io::{Shelf, Sink, write_whole};
@@ -77,46 +77,6 @@ fn are_declared_alike(left: &Program, right: &Program) -> bool
 {
     same_fields(left.fields.list(), right.fields.list())
         && same_names(left.vars.items(), right.vars.items())
-}
-
-fn same_fields(left: &[Field], right: &[Field]) -> bool
-    ensures { IsTrue result ↔ (left.now ≡ right.now) }
-{
-    if left.len() != right.len() {
-        return false;
-    }
-    for i in 0..left.len() {
-        if !is_same_field(&left[i], &right[i]) {
-            return false;
-        }
-    }
-    true
-}
-
-fn is_same_field(left: &Field, right: &Field) -> bool
-    ensures { IsTrue result ↔ (left.now ≡ right.now) }
-{
-    left.prefix == right.prefix && is_same_name(&left.name, &right.name)
-}
-
-fn same_names(left: &[Name], right: &[Name]) -> bool
-    ensures { IsTrue result ↔ (left.now ≡ right.now) }
-{
-    if left.len() != right.len() {
-        return false;
-    }
-    for i in 0..left.len() {
-        if !is_same_name(&left[i], &right[i]) {
-            return false;
-        }
-    }
-    true
-}
-
-fn is_same_name(left: &Name, right: &Name) -> bool
-    ensures { IsTrue result ↔ (left.now ≡ right.now) }
-{
-    left.bytes() == right.bytes()
 }
 
 // Whether two programs mean the same.

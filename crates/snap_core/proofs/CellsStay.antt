@@ -1,18 +1,16 @@
 -- Cells of a store that stay.
-use Rattle.std.proofs.Common.{◌≡◌, ℕ, Bool, true, false, cond, List, [], Option, None, Some, IsTrue, map, refl, sym, ap, subst, ◌∙◌, ⊎_elim}
-use Rattle.std.specs.Prelude.{is_some, nat_eq, unwrap_or}
-use Rattle.std.specs.Str.{bytes_eq}
+use Rattle.std.proofs.Common.{◌≡◌, ℕ, Bool, true, false, cond, List, [], Some, IsTrue, map, refl, sym, ap, subst, ◌∙◌}
+use Rattle.std.specs.Prelude.{is_some, nat_eq}
 use Rattle.std.specs.Ordering.{nat_cmp}
 use Rattle.std.specs.BTreeMap.{BTreeMap, UpdatesBy}
-use Rattle.std.specs.Cmp.Lexicographic.{nat_list_eq_equiv}
-use Rattle.std.proofs.lemmas.Bool.{cases_Bool, cond-true, cond-false, eq-eqb, eqb-true}
+use Rattle.std.proofs.lemmas.Bool.{cond-true, cond-false, eq-eqb, eqb-true}
 use Rattle.snap_core.specs.declared.place.Place.{Place}
 use Rattle.snap_core.specs.declared.policy.Update.{Update}
 use Rattle.snap_core.specs.Arrays.{Arrays, same_place, put, value_of, place_at, number_after, update}
 use Rattle.snap_core.specs.declared.write.Write.{Write}
 use Rattle.snap_core.specs.Cells.{Cells, cell, array_at, written}
 use Rattle.snap_core.specs.CellsKept.{cell_at, HasCellsOf}
-use Rattle.snap_core.proofs.Places.{same_key, same_place-exact}
+use Rattle.snap_core.proofs.Places.{same_place-exact}
 use Rattle.snap_core.proofs.StoreLemmas.{at-updated}
 
 -- a store after one array got cells at the same indices, and maybe at more

@@ -1,6 +1,6 @@
 //! Listed places: how they are made, compared and copied.
 
-ghost use Rattle.std.specs.Prelude.{◌≡◌, IfOk};
+ghost use Rattle.std.specs.Prelude.{◌≡◌, IfOk, slice_index};
 ghost use Rattle.std.specs.Cmp.Lexicographic.{slice_cmp};
 ghost use Rattle.std.specs.Ordering.{nat_cmp};
 ghost use Rattle.snap_core.specs.Listing.{entry_of, listed_cmp};
@@ -11,19 +11,27 @@ use crate::place::{Entry, Listed, Place};
 use std::alloc::Global;
 use std::cmp::Ordering;
 
+// The number at a place, or 0.
+fn number_or_zero(index: &[u64], place: usize) -> u64
+    ensures { result ≡ slice_index index.now place }
+{
+    match index.get(place) {
+        Some(number) => *number,
+        None => 0,
+    }
+}
+
 impl<'a> Listed<'a> {
     pub(crate) fn new(var: u16, index: &'a [u64], value: u64) -> Listed<'a>
         ensures { entry_of result ≡ record { place = record { var = var; index = index.now }; value = value } }
     {
-        let first = match index.first() {
-            Some(first) => *first,
-            None => 0,
-        };
         Listed {
             var,
             index,
             value,
-            first,
+            first: number_or_zero(index, 0),
+            second: number_or_zero(index, 1),
+            third: number_or_zero(index, 2),
         }
     }
 }
@@ -57,6 +65,29 @@ impl Listed<'_> {
         ensures { result ≡ slice_cmp nat_cmp self.now.index.now other.now.index.now }
     {
         match self.first.cmp(&other.first) {
+            Ordering::Equal => self.compare_behind(other),
+            order => order,
+        }
+    }
+
+    // The same where the first numbers agree.
+    fn compare_behind(&self, other: &Listed<'_>) -> Ordering
+        requires { self.now.first ≡ other.now.first }
+        ensures { result ≡ slice_cmp nat_cmp self.now.index.now other.now.index.now }
+    {
+        match self.second.cmp(&other.second) {
+            Ordering::Equal => self.compare_last(other),
+            order => order,
+        }
+    }
+
+    // The same where the first two numbers agree.
+    fn compare_last(&self, other: &Listed<'_>) -> Ordering
+        requires first { self.now.first ≡ other.now.first }
+        requires second { self.now.second ≡ other.now.second }
+        ensures { result ≡ slice_cmp nat_cmp self.now.index.now other.now.index.now }
+    {
+        match self.third.cmp(&other.third) {
             Ordering::Equal => self.index.cmp(other.index),
             order => order,
         }

@@ -130,10 +130,11 @@ impl Store {
         put.unwrap();
     }
 
-    /// Does one update.
-    pub(crate) fn update(&mut self, packet: &Packet, change: &Update) -> Result<(), NoMemory>
+    /// Does one update, or nothing.
+    pub fn update(&mut self, packet: &Packet, change: &Update) -> Result<(), NoMemory>
         requires { UpdateReads (length packet.now) change.now }
-        ensures { OnOk result (arrays_of self.new ≡ update (arrays_of self.old) change.now packet.now) }
+        ensures ok { OnOk result (arrays_of self.new ≡ update (arrays_of self.old) change.now packet.now) }
+        ensures err { OnErr result (arrays_of self.new ≡ arrays_of self.old) }
     {
         let mut numbers = ShortIndex::new(self.alloc);
         put_index(&mut numbers, &change.index, packet)?;

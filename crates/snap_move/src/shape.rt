@@ -4,8 +4,7 @@ ghost use Rattle.std.specs.Prelude.{◌≡◌, ◌↔◌, IsTrue};
 ghost use Rattle.snap_runs.specs.Reports.{names_of};
 ghost use Rattle.snap_move.specs.Shapes.{HaveOneShape};
 
-use snap_core::lists::Name;
-use snap_core::program::Field;
+use snap_core::alike::{is_same_name, same_fields};
 use snap_rows::tables::ArrayAt;
 use snap_rows::valid::Valid;
 
@@ -17,26 +16,6 @@ pub fn same_shape(a: &Valid, b: &Valid) -> bool
     let right = b.tables();
     same_fields(left.fields.list(), right.fields.list())
         && same_names(left.arrays.items(), right.arrays.items())
-}
-
-fn same_fields(left: &[Field], right: &[Field]) -> bool
-    ensures { IsTrue result ↔ (left.now ≡ right.now) }
-{
-    if left.len() != right.len() {
-        return false;
-    }
-    for i in 0..left.len() {
-        if !is_same_field(&left[i], &right[i]) {
-            return false;
-        }
-    }
-    true
-}
-
-fn is_same_field(left: &Field, right: &Field) -> bool
-    ensures { IsTrue result ↔ (left.now ≡ right.now) }
-{
-    left.prefix == right.prefix && is_same_name(&left.name, &right.name)
 }
 
 fn same_names(left: &[ArrayAt], right: &[ArrayAt]) -> bool
@@ -51,10 +30,4 @@ fn same_names(left: &[ArrayAt], right: &[ArrayAt]) -> bool
         }
     }
     true
-}
-
-fn is_same_name(left: &Name, right: &Name) -> bool
-    ensures { IsTrue result ↔ (left.now ≡ right.now) }
-{
-    left.bytes() == right.bytes()
 }

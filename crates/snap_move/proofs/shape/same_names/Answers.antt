@@ -4,7 +4,8 @@ use Rattle.std.proofs.lemmas.Bool.{false≢true}
 use Rattle.std.proofs.lemmas.List.{get_or_default, length-map}
 use Rattle.snap_rows.specs.declared.tables.ArrayAt.{ArrayAt}
 use Rattle.snap_runs.specs.Reports.{names_of}
-use Rattle.snap_move.proofs.Shapes.{name_of, take_both}
+use Rattle.snap_core.proofs.AlikeLemmas.{take_both}
+use Rattle.snap_move.proofs.Shapes.{name_of}
 use Rattle.snap_move.proofs.shape.same_names.Goals as goal
 
 pub loop-i-preserved : goal.loop-i-preserved

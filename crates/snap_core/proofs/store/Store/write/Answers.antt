@@ -1,10 +1,10 @@
 use Rattle.std.proofs.Common.{ap, sym, ◌∙◌, [], Some, cond, rules}
 use Rattle.std.specs.Prelude.{unwrap_or}
 use Rattle.std.specs.Str.{bytes_eq}
-use Rattle.std.proofs.lemmas.Result.{on_ok_weaker, on_err_weaker}
+use Rattle.std.proofs.lemmas.Result.{on_ok_weaker}
 use Rattle.snap_core.specs.Cells.{cell, array_at, arrays_of, written}
 use Rattle.snap_core.specs.Arrays.{put}
-use Rattle.snap_core.proofs.StoreLemmas.{arrays-updated, arrays-kept}
+use Rattle.snap_core.proofs.StoreLemmas.{arrays-updated}
 use Rattle.snap_core.proofs.store.Store.write.Goals as goal
 
 pub returns-in-Some-clause-ok : goal.returns-in-Some-clause-ok

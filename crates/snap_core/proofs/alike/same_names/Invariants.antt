@@ -1,6 +1,6 @@
--- The fields so far are equal.
+-- The names so far are equal.
 use Rattle.std.proofs.Common.{◌≡◌, take}
-use Rattle.snap_move.proofs.shape.same_fields.Given as goal
+use Rattle.snap_core.proofs.alike.same_names.Given as goal
 
 abbrev pub invariant-loop-i : goal.invariant-loop-i
 invariant-loop-i l = take l.i l.left ≡ take l.i l.right

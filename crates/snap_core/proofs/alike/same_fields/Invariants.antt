@@ -1,6 +1,6 @@
--- The names so far are equal.
+-- The fields so far are equal.
 use Rattle.std.proofs.Common.{◌≡◌, take}
-use Rattle.snap_cli.proofs.equal.same_names.Given as goal
+use Rattle.snap_core.proofs.alike.same_fields.Given as goal
 
 abbrev pub invariant-loop-i : goal.invariant-loop-i
 invariant-loop-i l = take l.i l.left ≡ take l.i l.right

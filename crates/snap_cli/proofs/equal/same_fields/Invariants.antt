@@ -1,6 +1,0 @@
--- The fields so far are equal.
-use Rattle.std.proofs.Common.{◌≡◌, take}
-use Rattle.snap_cli.proofs.equal.same_fields.Given as goal
-
-abbrev pub invariant-loop-i : goal.invariant-loop-i
-invariant-loop-i l = take l.i l.left ≡ take l.i l.right
