@@ -9,7 +9,7 @@ use snap_core::NoMemory;
 use snap_core::place::Listed;
 use snap_net::net::Net;
 use snap_rows::lists::ArraysAt;
-use snap_trace::report::{put_index, put_number};
+use snap_trace::report::put_place;
 
 /// Puts the end of a network's report behind the text.
 pub fn put_end(out: &mut Vec<u8>, net: &Net) -> Result<(), NoMemory>
@@ -48,13 +48,7 @@ fn put_entries(out: &mut Vec<u8>, arrays: &ArraysAt, entries: &[Listed<'_>]) -> 
 fn put_entry(out: &mut Vec<u8>, arrays: &ArraysAt, entry: &Listed<'_>) -> Result<(), NoMemory>
     ensures { OnOk result (out.new.items ≡ out.old.items ++ listed_line (names_of arrays.now) entry.now) }
 {
-    out.extend_from_slice(b"array ")?;
-    out.extend_from_slice(array_name(arrays, entry.var))?;
-    put_index(out, entry.index)?;
-    out.extend_from_slice(b" = ")?;
-    put_number(out, entry.value)?;
-    out.push(b'\n')?;
-    Ok(())
+    put_place(out, array_name(arrays, entry.var), entry.index, entry.value)
 }
 
 // The name of an array, or nothing where no array has this number.

@@ -1,6 +1,6 @@
 //! What is noted of one packet while its copies are in flight.
 
-ghost use Rattle.std.specs.Prelude.{◌≡◌, ◌<◌, ◌+◌, ◌++◌, [], ◌∷◌, ℕ, List, true, length, string_bytes, IfOk, OnOk};
+ghost use Rattle.std.specs.Prelude.{◌≡◌, ◌<◌, ◌≤◌, ◌+◌, ◌++◌, [], ◌∷◌, ℕ, List, true, drop, length, string_bytes, IfOk, IfSome, OnOk};
 ghost use Rattle.std.specs.List.{All};
 ghost use Rattle.std.specs.List.Sorted.{IsPermutation, IsSorted};
 ghost use Rattle.hex.specs.Hex.{encode_lower};
@@ -22,7 +22,10 @@ use snap_head::encode::encode;
 use snap_net::flying::Flying;
 use snap_net::happened::{Happened, Moved};
 use snap_rows::valid::Valid;
-use snap_trace::report::{name_at, put_head, put_number, put_out};
+use snap_trace::front::{put_byte_before, put_bytes_before, put_number_before};
+use snap_trace::report::{
+    name_at, put_head, put_head_before, put_number, put_out, put_outs_before,
+};
 use std::alloc::Global;
 use std::cmp::Ordering;
 
@@ -156,7 +159,7 @@ impl Tally {
     }
 }
 
-// Puts the lines of a block, with the packets in this order.
+// Puts the lines of a block, with the packets in this order: mostly all at once.
 fn put_lines(
     out: &mut Vec<u8>,
     fields: &Fields,
@@ -168,10 +171,87 @@ fn put_lines(
     requires { All (λ k. length k ≡ count fields.now) packets.items }
     ensures { OnOk result (out.new.items ≡ out.old.items ++ (packet_line number ++ hops.items ++ out_lines fields.now packets.items ++ lost_line lost)) }
 {
+    let mut buffer = [0u8; 256];
+    match put_rest_before(&mut buffer, 256, fields, &packets, lost) {
+        Some(begin) => put_behind_hops(out, number, &hops, &mut buffer, begin),
+        None => put_long(out, fields, number, &hops, &packets, lost),
+    }
+}
+
+// Puts the lines of a block, whatever their length.
+#[inline(never)]
+fn put_long(
+    out: &mut Vec<u8>,
+    fields: &Fields,
+    number: u64,
+    hops: &[u8],
+    packets: &[Packet],
+    lost: u64,
+) -> Result<(), NoMemory>
+    requires { All (λ k. length k ≡ count fields.now) packets.now }
+    ensures { OnOk result (out.new.items ≡ out.old.items ++ (packet_line number ++ hops.now ++ out_lines fields.now packets.now ++ lost_line lost)) }
+{
     put_head(out, number)?;
-    out.extend_from_slice(&hops)?;
-    put_outs(out, fields, &packets)?;
+    out.extend_from_slice(hops)?;
+    put_outs(out, fields, packets)?;
     put_lost(out, lost)
+}
+
+// Puts the lines of a block, of which the buffer has those behind the hops from `begin` on.
+#[inline(always)]
+fn put_behind_hops(
+    out: &mut Vec<u8>,
+    number: u64,
+    hops: &[u8],
+    buffer: &mut [u8; 256],
+    begin: usize,
+) -> Result<(), NoMemory>
+    requires { begin ≤ 256 }
+    ensures { OnOk result (out.new.items ≡ out.old.items ++ (packet_line number ++ hops.now ++ drop begin buffer.old)) }
+{
+    if hops.is_empty() && begin >= 28 {
+        let begin = put_head_before(buffer, begin, number);
+        out.extend_from_slice(&buffer[begin..])?;
+    } else {
+        put_head(out, number)?;
+        out.extend_from_slice(hops)?;
+        out.extend_from_slice(&buffer[begin..])?;
+    }
+    Ok(())
+}
+
+// Puts the lines of a block behind its hops before the text that begins at `end`, and returns where the text begins then,
+// if there is room.
+#[inline(always)]
+fn put_rest_before(
+    buffer: &mut [u8; 256],
+    end: usize,
+    fields: &Fields,
+    packets: &[Packet],
+    lost: u64,
+) -> Option<usize>
+    requires long { All (λ k. length k ≡ count fields.now) packets.now }
+    requires within { end ≤ 256 }
+    requires room { 26 ≤ end }
+    ensures begin { IfSome result (λ begin. begin ≤ end) }
+    ensures text { IfSome result (λ begin. drop begin buffer.new ≡ out_lines fields.now packets.now ++ lost_line lost ++ drop end buffer.old) }
+{
+    let begin = put_lost_before(buffer, end, lost);
+    put_outs_before(buffer, begin, fields, packets)
+}
+
+// Puts the line of the packets that were lost before the text that begins at `end`, and returns where the text begins
+// then.
+#[inline(always)]
+fn put_lost_before(buffer: &mut [u8; 256], end: usize, lost: u64) -> usize
+    requires within { end ≤ 256 }
+    requires room { 26 ≤ end }
+    ensures begin { result ≤ end }
+    ensures text { drop result buffer.new ≡ lost_line lost ++ drop end buffer.old }
+{
+    let begin = put_byte_before(buffer, end, b'\n');
+    let begin = put_number_before(buffer, begin, lost);
+    put_bytes_before(buffer, begin, b"lost ")
 }
 
 // The packets in rising order.
@@ -188,6 +268,9 @@ fn sort(alloc: Global, packets: &mut [Packet]) -> Result<(), NoMemory>
     ensures same { IsPermutation packets.old packets.new }
     ensures len { length packets.new ≡ length packets.old }
 {
+    if packets.len() < 2 {
+        return Ok(());
+    }
     packets.sort_by(alloc, |left, right| compare(left, right))?;
     Ok(())
 }

@@ -1,25 +1,33 @@
 -- A text's first word, cut at its first `=`.
-use Rattle.std.proofs.Common.{◌≡◌, ℕ, ◌+◌, ◌-◌, ◌<◌, ◌||◌, zero, suc, Bool, true, false, cond, Option, None, Some, List, [], ◌∷◌, ◌++◌, length, take, drop, get_or, refl, sym, ap, ◌∙◌, arith, add-one}
+use Rattle.std.proofs.Common.{◌≡◌, ℕ, ◌+◌, ◌-◌, ◌<◌, ◌||◌, ◌≤◌, zero, suc, Bool, true, false, cond, None, Some, List, [], ◌∷◌, ◌++◌, length, take, drop, get_or, refl, sym, ap, subst, ◌∙◌, arith, add-one, length-take}
 use Rattle.std.specs.Prelude.{filter, position}
-use Rattle.std.proofs.lemmas.List.{at_drop_more}
+use Rattle.std.proofs.lemmas.List.{get_or-take, take_all}
 use Rattle.std.proofs.lemmas.List.Quantifiers.{position-Some}
 use Rattle.snap_core.specs.Parts.{onto_first, parts_by}
 use Rattle.snap_core.proofs.PartLemmas.{parts_by-first, parts_by-none}
-use Rattle.snap_trace.specs.Cuts.{IsFirstCut, IsUntilBlank, is_equals, is_mark}
-use Rattle.snap_trace.specs.PacketLines.{BeginsWord, is_blank, is_inked, is_some_text, words_of}
-use Rattle.snap_trace.proofs.WordLemmas.{position-None, back, words_of-blank, words_of-inked}
+use Rattle.snap_trace.specs.Cuts.{HasNoName, IsFirstCut, IsNameFront, IsUntilBlank, is_equals, is_mark}
+use Rattle.snap_trace.specs.PacketLines.{BeginsWord, is_blank, is_some_text, words_of}
+use Rattle.snap_trace.proofs.WordLemmas.{position-None, back}
 
-pub until-blank : (text : List ℕ) (n : ℕ) → position is_blank text ≡ Some n → IsUntilBlank text (take n text) (take (length text - n) (drop n text))
-until-blank text n e =
-    let at = position-Some is_blank text n 0 e in
+-- the first blank stands at n
+until-at : (text : List ℕ) (n : ℕ) → n < length text → ((k : ℕ) → k < n → is_blank (get_or text k 0) ≡ false) → is_blank (get_or text n 0) ≡ true
+    → IsUntilBlank text (take n text) (take (length text - (n + 1)) (drop (n + 1) text))
+until-at text n lt before here =
     record {
       more = parts_by is_blank (drop (suc n) text);
-      parts = parts_by-first is_blank text n at.0 at.2 at.1;
-      words = sym (ap words_of (back text n) ∙ at_drop_more words_of text n 0 at.0 ∙ words_of-blank (get_or text n 0) (drop (n + 1) text) at.1 ∙ ap (λ k. words_of (drop k text)) (add-one n));
+      parts = parts_by-first is_blank text n lt before here;
+      words = sym (ap words_of (back text (n + 1)) ∙ ap (λ k. words_of (drop k text)) (add-one n));
     }
 
+-- there is none
+until-none : (text : List ℕ) → ((k : ℕ) → k < length text → is_blank (get_or text k 0) ≡ false) → IsUntilBlank text text []
+until-none text none = record { more = []; parts = parts_by-none is_blank text none; words = refl }
+
+pub until-blank : (text : List ℕ) (n : ℕ) → position is_blank text ≡ Some n → IsUntilBlank text (take n text) (take (length text - (n + 1)) (drop (n + 1) text))
+until-blank text n e = let at = position-Some is_blank text n 0 e in until-at text n at.0 at.2 at.1
+
 pub until-end : (text : List ℕ) → position is_blank text ≡ None → IsUntilBlank text text []
-until-end text e = record { more = []; parts = parts_by-none is_blank text (position-None is_blank text e); words = refl }
+until-end text e = until-none text (position-None is_blank text e)
 
 with_front : (front : List ℕ) (parts : List (List ℕ)) → is_some_text front ≡ true → filter is_some_text (front ∷ parts) ≡ front ∷ filter is_some_text parts
 with_front front parts e = ap (λ t. cond t (front ∷ filter is_some_text parts) (filter is_some_text parts)) e
@@ -73,12 +81,10 @@ some_front [] i value lt = absurd (omega arith)
 some_front (b ∷ bs) i value lt = refl
 
 -- the first mark is a `=`, and behind it the value goes on to a blank
-pub cut-first : (text : List ℕ) (i : ℕ) → position is_mark text ≡ Some i → get_or text i 0 ≡ 61 → (value behind : List ℕ)
+cut-first : (text : List ℕ) (i : ℕ) → i < length text → ((k : ℕ) → k < i → is_mark (get_or text k 0) ≡ false) → get_or text i 0 ≡ 61 → (value behind : List ℕ)
     → IsUntilBlank (take (length text - (i + 1)) (drop (i + 1) text)) value behind → IsFirstCut text (Some (take i text, value)) behind
-cut-first text i e equals value behind until =
-    let at = position-Some is_mark text i 0 e in
-    let lt : i < length text = at.0 in
-    let before = λ (k : ℕ) (l : k < i). neither (is_equals (get_or text k 0)) (is_blank (get_or text k 0)) (at.2 k l) in
+cut-first text i lt none equals value behind until =
+    let before = λ (k : ℕ) (l : k < i). neither (is_equals (get_or text k 0)) (is_blank (get_or text k 0)) (none k l) in
     let rest : take (length text - (i + 1)) (drop (i + 1) text) ≡ drop (suc i) text = back text (i + 1) ∙ ap (λ k. drop k text) (add-one i) in
     let word = take (suc i) text ++ value in
     record {
@@ -88,7 +94,46 @@ cut-first text i e equals value behind until =
       parts = cut-at is_equals text i lt (λ k l. (before k l).0) (ap is_equals equals) value;
     }
 
--- behind the blanks at the front
-pub cut-inked : (text : List ℕ) (n : ℕ) → position is_inked text ≡ Some n → (cut : Option (List ℕ × List ℕ)) (behind : List ℕ)
-    → IsFirstCut (take (length text - n) (drop n text)) cut behind → IsFirstCut text cut behind
-cut-inked text n e cut behind first = record { word = first.word; words = words_of-inked text n e ∙ first.words; parts = first.parts }
+pub name-front : (text : List ℕ) (i : ℕ) → i < length text → ((k : ℕ) → k < i → is_mark (get_or text k 0) ≡ false) → get_or text i 0 ≡ 61
+    → IsNameFront text (take i text) (take (length text - (i + 1)) (drop (i + 1) text))
+name-front text i lt none equals = record { cut = cut-first text i lt none equals }
+
+pub name-first : (text : List ℕ) (i : ℕ) → position is_mark text ≡ Some i → get_or text i 0 ≡ 61 → IsNameFront text (take i text) (take (length text - (i + 1)) (drop (i + 1) text))
+name-first text i e equals = let at = position-Some is_mark text i 0 e in name-front text i at.0 at.2 equals
+
+-- a name that stands at the front, and `=` behind it
+pub name-same : (text name : List ℕ) → length name < length text → take (length name) text ≡ take (length name) name
+    → ((k : ℕ) → k < length name → is_mark (get_or text k 0) ≡ false) → get_or text (length name) 0 ≡ 61
+    → IsNameFront text name (take (length text - (length name + 1)) (drop (length name + 1) text))
+name-same text name lt same none equals =
+    let whole : take (length name) text ≡ name = same ∙ take_all (length name) name (omega arith) in
+    subst (λ n. IsNameFront text n (take (length text - (length name + 1)) (drop (length name + 1) text))) whole (name-front text (length name) lt none equals)
+
+other : (a b : Bool) → (a || b) ≡ true → a ≡ false → b ≡ true
+other true b e f = absurd (cc)
+other false b e f = e
+
+-- no mark stands in the first word, or the first is a blank
+pub no_name-none : (text : List ℕ) → BeginsWord text → position is_mark text ≡ None → HasNoName text
+no_name-none text h e =
+    let before = λ (k : ℕ) (l : k < length text). neither (is_equals (get_or text k 0)) (is_blank (get_or text k 0)) (position-None is_mark text e k l) in
+    record {
+      behind = [];
+      cut = record { word = text; words = begins-word text text [] h (until-none text (λ k l. (before k l).1)); parts = parts_by-none is_equals text (λ k l. (before k l).0) };
+    }
+
+pub no_name-blank : (text : List ℕ) (i : ℕ) → BeginsWord text → position is_mark text ≡ Some i → is_equals (get_or text i 0) ≡ false → HasNoName text
+no_name-blank text i h e differs =
+    let at = position-Some is_mark text i 0 e in
+    let before = λ (k : ℕ) (l : k < i). neither (is_equals (get_or text k 0)) (is_blank (get_or text k 0)) (at.2 k l) in
+    let blank = other (is_equals (get_or text i 0)) (is_blank (get_or text i 0)) at.1 differs in
+    let short : length (take i text) ≤ i = omega (arith, length-take i text) in
+    let behind = take (length text - (i + 1)) (drop (i + 1) text) in
+    record {
+      behind = behind;
+      cut = record {
+        word = take i text;
+        words = begins-word text (take i text) behind h (until-at text i at.0 (λ k l. (before k l).1) blank);
+        parts = parts_by-none is_equals (take i text) (λ k l. let near : k < i = omega (arith, short, l) in ap is_equals (get_or-take i text k 0 near) ∙ (before k near).0);
+      };
+    }

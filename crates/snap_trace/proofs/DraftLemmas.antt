@@ -1,14 +1,19 @@
 -- Drafts, one word more.
-use Rattle.std.proofs.Common.{◌≡◌, ℕ, ◌||◌, Bool, true, false, cond, eqb, Option, None, Some, List, [], ◌∷◌, refl, sym, ap, ◌∙◌}
-use Rattle.std.specs.Prelude.{option_and_then}
+use Rattle.std.proofs.Common.{◌≡◌, ℕ, ◌+◌, ◌-◌, ◌||◌, Bool, true, false, cond, eqb, Bor, Option, None, Some, List, [], ◌∷◌, length, take, drop, refl, sym, ap, ◌∙◌}
+use Rattle.std.specs.Prelude.{MatchResult, Result, Ok, Err, option_and_then, position}
 use Rattle.std.specs.List.{list_any}
 use Rattle.snap_core.specs.declared.program.Field.{Field}
 use Rattle.snap_core.specs.declared.program.Found.{Found}
 use Rattle.snap_core.specs.declared.program.Found.TheVariants.{Plain, Split}
 use Rattle.snap_core.specs.Fields.{found}
 use Rattle.snap_core.specs.Parts.{onto_first, parts_by}
-use Rattle.snap_trace.specs.Cuts.{IsCutOf, IsFirstCut, with_cut}
-use Rattle.snap_trace.specs.PacketLines.{Draft, with_number, with_parts, with_value, with_word, with_words, words_of}
+use Rattle.snap_trace.specs.declared.line.LineFault.{LineFault}
+use Rattle.snap_trace.specs.declared.line.LineFault.TheVariants.{Bad}
+use Rattle.snap_trace.specs.Cuts.{HasNoName, IsCutOf, IsFirstCut, IsNameFront, IsUntilBlank, with_cut}
+use Rattle.snap_trace.specs.Drafts.{IsNotSet, IsSet}
+use Rattle.snap_trace.specs.Guesses.{Sets, SetsNothing}
+use Rattle.snap_trace.specs.PacketLines.{Draft, is_blank, with_number, with_parts, with_value, with_word, with_words, words_of}
+use Rattle.snap_trace.proofs.CutLemmas.{until-blank, until-end}
 use Rattle.snap_trace.proofs.EqualsLemmas.{is_equals, has_equals, plain_value-equals, split_value-equals}
 
 abbrev are_many : List (List ℕ) → Bool
@@ -75,3 +80,35 @@ pub with_words-cut : (fields : List Field) (text : List ℕ) (cut : Option (List
     → with_words fields (words_of text) draft ≡ option_and_then (with_words fields (words_of behind)) (with_cut fields cut draft)
 with_words-cut fields text cut behind draft first =
     ap (λ words. with_words fields words draft) first.words ∙ ap (option_and_then (with_words fields (words_of behind))) (with_word-cut fields first.word cut draft first.parts)
+
+-- what a word makes whose name stands for something, and one whose name doesn't
+pub sets-named : (fields : List Field) (text name rest : List ℕ) (what : Found) → IsNameFront text name rest → found fields name ≡ Some what → Sets fields text what rest
+sets-named fields text name rest what front named = record {
+  set = λ value behind draft until. with_words-cut fields text (Some (name, value)) behind draft (front.cut value behind until)
+      ∙ ap (λ f. option_and_then (with_words fields (words_of behind)) (with_value f value draft)) named;
+}
+
+pub sets_nothing-unnamed : (fields : List Field) (text : List ℕ) → HasNoName text → SetsNothing fields text
+sets_nothing-unnamed fields text h = record { none = λ draft. with_words-cut fields text None h.behind draft h.cut }
+
+pub sets_nothing-unknown : (fields : List Field) (text name rest : List ℕ) → IsNameFront text name rest → found fields name ≡ None → SetsNothing fields text
+sets_nothing-unknown fields text name rest front unknown =
+    elim (position is_blank rest) as (λ p. position is_blank rest ≡ p → SetsNothing fields text) [
+      | None ↦ λ e. before rest [] (until-end rest e)
+      | Some n ↦ λ e. before (take n rest) (take (length rest - (n + 1)) (drop (n + 1) rest)) (until-blank rest n e)
+    ] refl
+  where
+    before : (value behind : List ℕ) → IsUntilBlank rest value behind → SetsNothing fields text
+    before value behind until = record {
+      none = λ draft. with_words-cut fields text (Some (name, value)) behind draft (front.cut value behind until)
+          ∙ ap (λ f. option_and_then (with_words fields (words_of behind)) (with_value f value draft)) unknown;
+    }
+
+-- what a word makes, where its value was read
+pub words-either : (fields : List Field) (text rest : List ℕ) (what : Found) (old new : Draft) → Sets fields text what rest
+    → (result : Result (Bor (List ℕ)) LineFault) → MatchResult result (λ behind. IsSet what rest behind.now old new) (λ e. (e ≡ Bad) × IsNotSet what rest old)
+    → MatchResult result (λ behind. with_words fields (words_of text) old ≡ with_words fields (words_of behind.now) new) (λ e. (e ≡ Bad) × (with_words fields (words_of text) old ≡ None))
+words-either fields text rest what old new sets (Ok behind) is =
+    sets.set is.value behind.now old is.until ∙ ap (option_and_then (with_words fields (words_of behind.now))) is.set
+words-either fields text rest what old new sets (Err e) is =
+    (is.0, sets.set is.1.value is.1.behind old is.1.until ∙ ap (option_and_then (with_words fields (words_of is.1.behind))) is.1.set)

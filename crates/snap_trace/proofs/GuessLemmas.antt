@@ -1,14 +1,12 @@
 -- What the name of a field stands for, found by the field's place.
-use Rattle.std.proofs.Common.{◌≡◌, ℕ, zero, suc, ◌+◌, ◌<◌, true, List, [], ◌∷◌, Option, None, Some, length, drop, get_or, refl, sym, ap, subst, ◌∙◌, arith, add-one, zero-add}
+use Rattle.std.proofs.Common.{◌≡◌, ℕ, zero, suc, ◌+◌, ◌<◌, List, [], ◌∷◌, Option, None, Some, length, drop, get_or, refl, sym, ap, subst, ◌∙◌, arith, add-one, zero-add, codes}
 use Rattle.std.proofs.Math.Seq.{drop-cons}
 use Rattle.std.specs.List.{Contains}
-use Rattle.std.specs.Str.{bytes_eq}
 use Rattle.std.proofs.lemmas.List.Elements.{Contains-append_left, Contains-append_right}
 use Rattle.std.specs.Cmp.Lexicographic.{nat_list_eq_equiv}
 use Rattle.std.proofs.lemmas.Map.Views.{lookup-from_Contains}
-use Rattle.std.proofs.lemmas.Slice.Eq.{bytes_eq-Decides}
 use Rattle.snap_core.specs.declared.program.Field.{Field}
-use Rattle.snap_core.specs.Fields.{IsFields, count, width, declared_at, declared_from, found}
+use Rattle.snap_core.specs.Fields.{IsFields, count, width, declared_at, declared_from, found, plain_field}
 use Rattle.snap_trace.specs.Guesses.{whole_of}
 
 -- the components of the field at a place, and those behind it
@@ -50,11 +48,22 @@ stands_behind fs list i comp w f same h is e before =
     omega (arith, wide, next, before)
 
 -- what the name of a field stands for, as the list of fields lends it
-pub found_there : (fs list : List Field) (i comp : ℕ) (f : Field) (name : List ℕ) → IsFields fs → list ≡ fs → i < length list → f ≡ get_or list i f
-    → comp + count (drop i fs) ≡ count fs → bytes_eq name f.name ≡ true → found fs name ≡ Some (whole_of comp f.prefix)
-found_there fs list i comp f name fields same h is before e =
+pub found_there : (fs list : List Field) (i comp : ℕ) (f : Field) → IsFields fs → list ≡ fs → i < length list → f ≡ get_or list i f
+    → comp + count (drop i fs) ≡ count fs → found fs f.name ≡ Some (whole_of comp f.prefix)
+found_there fs list i comp f fields same h is before =
     let there : i < length fs = subst (λ (l : List Field). i < length l) same h in
     let own : f ≡ get_or fs i f = is ∙ ap (λ l. get_or l i f) same in
-    let named : name ≡ f.name = (bytes_eq-Decides name f.name).0 e in
-    found_at fs i f comp name fields there before (named ∙ ap (λ (g : Field). g.name) own)
+    found_at fs i f comp f.name fields there before (ap (λ (g : Field). g.name) own)
     ∙ ap (λ (g : Field). Some (whole_of comp g.prefix)) (sym own)
+
+-- behind the ports
+pub behind_ports : (fs : List Field) → IsFields fs → 2 + count (drop 2 fs) ≡ count fs
+behind_ports [] fields = absurd (let e = fields.ports in cc)
+behind_ports (f ∷ []) fields = absurd (let e = fields.ports in cc)
+behind_ports (f ∷ g ∷ fs) fields =
+    let e = fields.ports in
+    let first : f ≡ plain_field (codes "inport") = cc in
+    let second : g ≡ plain_field (codes "outport") = cc in
+    let one : width f.prefix ≡ 1 = ap (λ (h : Field). width h.prefix) first in
+    let other : width g.prefix ≡ 1 = ap (λ (h : Field). width h.prefix) second in
+    omega (arith, one, other)

@@ -1,3 +1,4 @@
+pub mod AheadLemmas
 pub mod DraftLemmas
 pub mod WordLemmas
 pub mod RunLemmas
@@ -9,3 +10,4 @@ pub mod EqualsLemmas
 pub mod GuessLemmas
 pub mod SplitLemmas
 pub mod CutLemmas
+pub mod FieldLemmas

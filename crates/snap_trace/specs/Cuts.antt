@@ -28,6 +28,15 @@ pub record IsUntilBlank (text value behind : List ℕ) : Type 0 where
   pub parts : parts_by is_blank text ≡ value ∷ more
   pub words : filter is_some_text more ≡ words_of behind
 
+-- a word at the front of a text begins with a name and `=`, and this text stands behind: its value goes on to a blank
+pub record IsNameFront (text name rest : List ℕ) : Type 0 where
+  pub cut : (value behind : List ℕ) → IsUntilBlank rest value behind → IsFirstCut text (Some (name, value)) behind
+
+-- the first word of a text has no `=`
+pub record HasNoName (text : List ℕ) : Type 0 where
+  pub behind : List ℕ
+  pub cut : IsFirstCut text None behind
+
 -- the draft with a word that is cut so: no value has another `=`
 abbrev pub with_cut : List Field → Option (List ℕ × List ℕ) → Draft → Option Draft
 with_cut fields None draft = None

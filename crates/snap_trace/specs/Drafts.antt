@@ -1,6 +1,22 @@
--- A draft of the program as a draft of the definitions.
+-- A draft of the program as a draft of the definitions, and what a value makes of it.
+use Rattle.std.specs.Prelude.{◌≡◌, ℕ, List, Some, None}
+use Rattle.snap_core.specs.declared.program.Found.{Found}
 use Rattle.snap_trace.specs.declared.draft.Draft.{Draft as Kept}
-use Rattle.snap_trace.specs.PacketLines.{Draft}
+use Rattle.snap_trace.specs.Cuts.{IsUntilBlank}
+use Rattle.snap_trace.specs.PacketLines.{Draft, with_value}
 
 abbrev pub draft_of : Kept → Draft
 draft_of kept = record { numbers = kept.numbers.items; named = kept.named }
+
+-- the value at the front of a text, up to a blank, makes the new draft of the old
+pub record IsSet (found : Found) (text behind : List ℕ) (old new : Draft) : Type 0 where
+  pub value : List ℕ
+  pub until : IsUntilBlank text value behind
+  pub set : with_value (Some found) value old ≡ Some new
+
+-- it makes none
+pub record IsNotSet (found : Found) (text : List ℕ) (old : Draft) : Type 0 where
+  pub value : List ℕ
+  pub behind : List ℕ
+  pub until : IsUntilBlank text value behind
+  pub set : with_value (Some found) value old ≡ None

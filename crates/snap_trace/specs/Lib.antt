@@ -1,3 +1,4 @@
+pub mod Ahead
 pub mod ByPackets
 pub mod Cuts
 pub mod Drafts

@@ -58,9 +58,13 @@ blocks shown number (set ∷ sets) = block shown number set ++ blocks shown (num
 abbrev pub index_text : List ℕ → List ℕ
 index_text index = flat_map (λ n. codes " " ++ decimal n) index
 
+-- the line of a place of the array with this name
+abbrev pub place_line : (name : List ℕ) → (index : List ℕ) → (value : ℕ) → List ℕ
+place_line name index value = concat (codes "array " ∷ name ∷ index_text index ∷ codes " = " ∷ decimal value ∷ codes "\n" ∷ [])
+
 -- a line for a place that isn't 0
 abbrev pub array_line : List (List ℕ) → Entry → List ℕ
-array_line names e = concat (codes "array " ∷ unwrap_or (slice_get names e.place.var) [] ∷ index_text e.place.index ∷ codes " = " ∷ decimal e.value ∷ codes "\n" ∷ [])
+array_line names e = place_line (unwrap_or (slice_get names e.place.var) []) e.place.index e.value
 
 abbrev pub listed_line : List (List ℕ) → Listed → List ℕ
 listed_line names l = array_line names (entry_of l)

@@ -1,8 +1,9 @@
 //! A packet while the words of its line are read.
 
+use crate::ahead::split_front;
 use crate::guess::Guess;
 use crate::line::LineFault;
-use crate::words::{next_cut, plain_value, split_value};
+use crate::words::{behind_blanks, plain_value, until_blank};
 use snap_core::NoMemory;
 use snap_core::packet::Packet;
 use snap_core::program::{Fields, Found};
@@ -16,12 +17,11 @@ pub(crate) struct Draft {
 }
 
 impl Draft {
-    ghost use Rattle.std.specs.Prelude.{◌≡◌, ◌<◌, ◌≤◌, length, IfOk, MatchResult, slice_set, vec_len, option_map, Some, None};
-    ghost use Rattle.snap_core.specs.Fields.{FoundFits, count, found};
-    ghost use Rattle.snap_trace.specs.Cuts.{with_cut};
-    ghost use Rattle.snap_trace.specs.Drafts.{draft_of};
+    ghost use Rattle.std.specs.Prelude.{◌≡◌, ◌<◌, ◌≤◌, length, IfOk, MatchResult, slice_set, vec_len, Some, None};
+    ghost use Rattle.snap_core.specs.Fields.{FoundFits, count};
+    ghost use Rattle.snap_trace.specs.Drafts.{IsNotSet, IsSet, draft_of};
     ghost use Rattle.snap_trace.specs.Guesses.{StandsAt};
-    ghost use Rattle.snap_trace.specs.PacketLines.{draft_at_first, with_number, with_value, with_words, words_of};
+    ghost use Rattle.snap_trace.specs.PacketLines.{BeginsWord, draft_at_first, with_number, with_words, words_of};
     ghost use Rattle.snap_trace.specs.declared.line.LineFault.TheVariants.{Bad};
 
     /// A packet before a word has named anything. `inport` counts as named.
@@ -45,59 +45,65 @@ impl Draft {
     {
         let mut rest = text;
         let mut guess = Guess::first(fields);
-        while let Some((cut, behind)) = next_cut(rest) {
-            self.set_cut(fields, &mut guess, cut)?;
-            rest = behind;
+        while let Some(front) = behind_blanks(rest) {
+            rest = self.set_word(fields, &mut guess, front)?;
         }
         Ok(())
     }
 
-    // Names what one word `NAME=VALUE` sets, which is cut at its first `=`.
-    fn set_cut(
+    // Names what the word at the front of a text sets, and returns the text behind the word.
+    fn set_word<'a>(
         &mut self,
         fields: &Fields,
         guess: &mut Guess,
-        cut: Option<(&[u8], &[u8])>,
-    ) -> Result<(), LineFault>
+        text: &'a [u8],
+    ) -> Result<&'a [u8], LineFault>
+        requires begins { BeginsWord text.now }
         requires stands { StandsAt fields.now guess.old }
         requires comps { vec_len self.old.numbers ≡ count fields.now }
         requires few { vec_len self.old.numbers ≤ 64 }
         ensures same { vec_len self.new.numbers ≡ vec_len self.old.numbers }
         ensures set { MatchResult result
-            (λ _. with_cut fields.now (option_map (λ c. (c.0.now, c.1.now)) cut.entry) (draft_of self.old) ≡ Some (draft_of self.new))
-            (λ e. (e ≡ Bad) × (with_cut fields.now (option_map (λ c. (c.0.now, c.1.now)) cut.entry) (draft_of self.old) ≡ None)) }
+            (λ behind. with_words fields.now (words_of text.now) (draft_of self.old) ≡ with_words fields.now (words_of behind.now) (draft_of self.new))
+            (λ e. (e ≡ Bad) × (with_words fields.now (words_of text.now) (draft_of self.old) ≡ None)) }
         ensures stands { StandsAt fields.now guess.new }
+        ensures shorter { IfOk result (λ behind. length behind.now < length text.now) }
     {
-        let Some((name, value)) = cut else {
-            return Err(LineFault::Bad);
-        };
-        // A value with another `=` in it is no number and no address, and is refused as such.
-        self.set_value(guess.find(fields, name), value)
+        match guess.find(fields, text) {
+            // A value with another `=` in it is no number and no address, and is refused as such.
+            Some((found, value)) => self.set_value(found, value),
+            None => Err(LineFault::Bad),
+        }
     }
 
-    // Sets what a name stands for to what stands behind it.
-    #[inline(never)]
-    fn set_value(&mut self, found: Option<Found>, value: &[u8]) -> Result<(), LineFault>
-        requires fits { FoundFits (vec_len self.old.numbers) found }
+    // Sets what a name stands for to the value at the front of a text, and returns the text behind the value.
+    fn set_value<'a>(&mut self, found: Found, text: &'a [u8]) -> Result<&'a [u8], LineFault>
+        requires fits { FoundFits (vec_len self.old.numbers) (Some found) }
         requires few { vec_len self.old.numbers ≤ 64 }
         ensures same { vec_len self.new.numbers ≡ vec_len self.old.numbers }
         ensures set { MatchResult result
-            (λ _. with_value found value.now (draft_of self.old) ≡ Some (draft_of self.new))
-            (λ e. (e ≡ Bad) × (with_value found value.now (draft_of self.old) ≡ None)) }
+            (λ behind. IsSet found text.now behind.now (draft_of self.old) (draft_of self.new))
+            (λ e. (e ≡ Bad) × IsNotSet found text.now (draft_of self.old)) }
+        ensures shorter { IfOk result (λ behind. length behind.now ≤ length text.now) }
     {
         match found {
-            None => Err(LineFault::Bad),
-            Some(Found::Plain(comp)) => match plain_value(value) {
-                Some(number) => self.set_number(comp, number),
-                None => Err(LineFault::Bad),
-            },
-            Some(Found::Split { net, host, prefix }) => match split_value(prefix, value) {
-                Some((of_net, of_host)) => {
-                    self.set_number(net, of_net)?;
-                    self.set_number(host, of_host)
-                }
-                None => Err(LineFault::Bad),
-            },
+            Found::Plain(comp) => {
+                let (value, behind) = until_blank(text);
+                let Some(number) = plain_value(value) else {
+                    return Err(LineFault::Bad);
+                };
+                self.set_number(comp, number)?;
+                Ok(behind)
+            }
+            Found::Split { net, host, prefix } => {
+                let (numbers, behind) = split_front(prefix, text);
+                let Some((of_net, of_host)) = numbers else {
+                    return Err(LineFault::Bad);
+                };
+                self.set_number(net, of_net)?;
+                self.set_number(host, of_host)?;
+                Ok(behind)
+            }
         }
     }
 

@@ -1,5 +1,5 @@
-//! Short texts that grow at their front, at the end of a buffer on the stack: what a vector takes at once costs less
-//! than its parts, each of which asks for room.
+//! Texts of a line or a few that grow at their front, at the end of a buffer on the stack: what a vector takes at once
+//! costs less than its parts, each of which asks for room.
 
 ghost use Rattle.std.specs.Prelude.{◌≡◌, ◌<◌, ◌≤◌, ◌+◌, ◌++◌, ◌∷◌, decimal, drop, length};
 ghost use Rattle.snap_trace.specs.Reports.{address_text};
@@ -16,8 +16,8 @@ pub(crate) fn digit(number: u64) -> u8
 
 /// Puts a byte before the text that begins at `end`, and returns where the text begins then.
 #[inline(always)]
-pub(crate) fn put_byte_before(buffer: &mut [u8; 64], end: usize, byte: u8) -> usize
-    requires within { end ≤ 64 }
+pub fn put_byte_before(buffer: &mut [u8; 256], end: usize, byte: u8) -> usize
+    requires within { end ≤ 256 }
     requires room { 0 < end }
     ensures begin { result + 1 ≡ end }
     ensures text { drop result buffer.new ≡ byte ∷ drop end buffer.old }
@@ -29,8 +29,8 @@ pub(crate) fn put_byte_before(buffer: &mut [u8; 64], end: usize, byte: u8) -> us
 
 /// Puts bytes before the text that begins at `end`, and returns where the text begins then.
 #[inline(always)]
-pub(crate) fn put_bytes_before(buffer: &mut [u8; 64], end: usize, bytes: &[u8]) -> usize
-    requires within { end ≤ 64 }
+pub fn put_bytes_before(buffer: &mut [u8; 256], end: usize, bytes: &[u8]) -> usize
+    requires within { end ≤ 256 }
     requires room { length bytes.now ≤ end }
     ensures begin { result + length bytes.now ≡ end }
     ensures text { drop result buffer.new ≡ bytes.now ++ drop end buffer.old }
@@ -40,9 +40,26 @@ pub(crate) fn put_bytes_before(buffer: &mut [u8; 64], end: usize, bytes: &[u8]) 
     begin
 }
 
-/// Puts a number in digits before the text that begins at `end`, and returns where the text begins then.
-pub(crate) fn put_number_before(buffer: &mut [u8; 64], end: usize, number: u64) -> usize
-    requires within { end ≤ 64 }
+/// Puts a number in digits, twenty at most, before the text that begins at `end`, and returns where the text begins then.
+#[inline(always)]
+pub fn put_number_before(buffer: &mut [u8; 256], end: usize, number: u64) -> usize
+    requires within { end ≤ 256 }
+    requires room { 20 ≤ end }
+    ensures begin { result ≤ end }
+    ensures short { end ≤ result + 20 }
+    ensures text { drop result buffer.new ≡ decimal number ++ drop end buffer.old }
+{
+    if number < 100_000 {
+        put_digits_before(buffer, end, number)
+    } else {
+        put_long_before(buffer, end, number)
+    }
+}
+
+// Puts a number of many digits before the text that begins at `end`, and returns where the text begins then.
+#[inline(never)]
+fn put_long_before(buffer: &mut [u8; 256], end: usize, number: u64) -> usize
+    requires within { end ≤ 256 }
     requires room { length (decimal number) ≤ end }
     ensures begin { result + length (decimal number) ≡ end }
     ensures text { drop result buffer.new ≡ decimal number ++ drop end buffer.old }
@@ -53,8 +70,9 @@ pub(crate) fn put_number_before(buffer: &mut [u8; 64], end: usize, number: u64) 
 
 // Puts the digits of a number before the text that begins at `end`, one after another, and returns where the text begins
 // then. For numbers of few digits that is the shortest way.
-fn put_digits_before(buffer: &mut [u8; 64], end: usize, number: u64) -> usize
-    requires within { end ≤ 64 }
+#[inline(always)]
+fn put_digits_before(buffer: &mut [u8; 256], end: usize, number: u64) -> usize
+    requires within { end ≤ 256 }
     requires room { length (decimal number) ≤ end }
     ensures begin { result + length (decimal number) ≡ end }
     ensures text { drop result buffer.new ≡ decimal number ++ drop end buffer.old }
@@ -68,22 +86,33 @@ fn put_digits_before(buffer: &mut [u8; 64], end: usize, number: u64) -> usize
     put_byte_before(buffer, begin, digit(left))
 }
 
-// Puts a number of one byte in digits before the text that begins at `end`, and returns where the text begins then.
+// Puts a number of one byte in digits before the text that begins at `end`, and returns where the text begins then. With
+// no loop, since most have one digit or two.
 #[inline(always)]
-fn put_octet_before(buffer: &mut [u8; 64], end: usize, octet: u64) -> usize
+fn put_octet_before(buffer: &mut [u8; 256], end: usize, octet: u64) -> usize
     requires octet { octet < 256 }
-    requires within { end ≤ 64 }
+    requires within { end ≤ 256 }
     requires room { 3 ≤ end }
     ensures begin { result ≤ end }
     ensures short { end ≤ result + 3 }
     ensures text { drop result buffer.new ≡ decimal octet ++ drop end buffer.old }
 {
-    put_digits_before(buffer, end, octet)
+    if octet < 10 {
+        put_byte_before(buffer, end, digit(octet))
+    } else if octet < 100 {
+        let begin = put_byte_before(buffer, end, digit(octet % 10));
+        put_byte_before(buffer, begin, digit(octet / 10))
+    } else {
+        let front = octet / 10;
+        let begin = put_byte_before(buffer, end, digit(octet % 10));
+        let begin = put_byte_before(buffer, begin, digit(front % 10));
+        put_byte_before(buffer, begin, digit(front / 10))
+    }
 }
 
 /// Puts an address before the text that begins at `end`, and returns where the text begins then.
-pub(crate) fn put_address_before(buffer: &mut [u8; 64], end: usize, address: u32) -> usize
-    requires within { end ≤ 64 }
+pub(crate) fn put_address_before(buffer: &mut [u8; 256], end: usize, address: u32) -> usize
+    requires within { end ≤ 256 }
     requires room { 15 ≤ end }
     ensures begin { result ≤ end }
     ensures short { end ≤ result + 15 }

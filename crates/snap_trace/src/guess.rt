@@ -1,10 +1,12 @@
 //! A guess which field a word names: most lines name fields in the order of their declaration.
 
-ghost use Rattle.std.specs.Prelude.{◌≡◌, ◌+◌, ◌<◌, ◌^◌, length, Some, IfSome};
-ghost use Rattle.std.specs.Str.{bytes_eq};
-ghost use Rattle.snap_core.specs.Fields.{FoundFits, count, found};
-ghost use Rattle.snap_trace.specs.Guesses.{StandsAt, whole_of};
+ghost use Rattle.std.specs.Prelude.{◌≡◌, ◌+◌, ◌<◌, ◌^◌, length, Some, IfSome, MatchOption};
+ghost use Rattle.snap_core.specs.Fields.{FoundFits, count};
+ghost use Rattle.snap_trace.specs.Cuts.{IsNameFront};
+ghost use Rattle.snap_trace.specs.Guesses.{Sets, SetsNothing, StandsAt, whole_of};
+ghost use Rattle.snap_trace.specs.PacketLines.{BeginsWord};
 
+use crate::words::{is_mark, split_name};
 use snap_core::program::{Field, Fields, Found};
 
 /// A place in the list of fields, and the first component of the field that stands there.
@@ -14,30 +16,25 @@ pub(crate) struct Guess {
     comp: u16,
 }
 
-// Whether a field has this name. Most names are of another length, which is seen without a call.
-fn is_named(field: &Field, name: &[u8]) -> bool
-    ensures { result ≡ bytes_eq name.now field.now.name }
+// The text behind a name and `=` at the front of a text. Each byte is looked at once.
+fn behind_name<'a>(text: &'a [u8], name: &[u8]) -> Option<&'a [u8]>
+    ensures front { IfSome result (λ rest. IsNameFront text.now name.now rest.now) }
+    ensures shorter { IfSome result (λ rest. length rest.now < length text.now) }
 {
-    let own = field.name.bytes();
-    if name.len() == own.len() {
-        are_same(name, own)
-    } else {
-        false
+    let end = name.len();
+    if text.len() <= end {
+        return None;
     }
-}
-
-// Whether two texts are the same. Names are short, and for these a loop costs less than the comparison of slices.
-#[inline(never)]
-fn are_same(a: &[u8], b: &[u8]) -> bool
-    requires { length a.now ≡ length b.now }
-    ensures { result ≡ bytes_eq a.now b.now }
-{
-    for at in 0..a.len() {
-        if a[at] != b[at] {
-            return false;
+    for at in 0..end {
+        if text[at] != name[at] || is_mark(text[at]) {
+            return None;
         }
     }
-    true
+    if text[end] == b'=' {
+        Some(&text[end + 1..])
+    } else {
+        None
+    }
 }
 
 // What the name of a field stands for, whose components begin at `comp`.
@@ -56,33 +53,40 @@ fn whole(field: &Field, comp: u16) -> Found
 }
 
 impl Guess {
-    /// The first field.
+    /// The first field behind the ports, which lines don't name.
     pub(crate) fn first(fields: &Fields) -> Guess
         ensures { StandsAt fields.now result }
     {
-        Guess { place: 0, comp: 0 }
-    }
-
-    /// What a name stands for. Where a field at the guess or behind it has the name, the guess stands behind that field
-    /// from then on.
-    pub(crate) fn find(&mut self, fields: &Fields, name: &[u8]) -> Option<Found>
-        requires { StandsAt fields.now self.old }
-        ensures stands { StandsAt fields.now self.new }
-        ensures found { result ≡ found fields.now name.now }
-        ensures fits { FoundFits (count fields.now) result }
-    {
-        match self.find_ahead(fields, name) {
-            Some(found) => Some(found),
-            None => fields.find(name),
+        let ports = &fields.list()[..2];
+        Guess {
+            place: ports.len(),
+            comp: 2,
         }
     }
 
-    // What a name stands for, if a field at the guess or behind it has the name.
-    fn find_ahead(&mut self, fields: &Fields, name: &[u8]) -> Option<Found>
+    /// What the name stands for that the word at the front of a text begins with, and the text behind the name and `=`.
+    /// Where a field at the guess or behind it has the name, the guess stands behind that field from then on.
+    pub(crate) fn find<'a>(&mut self, fields: &Fields, text: &'a [u8]) -> Option<(Found, &'a [u8])>
+        requires stands { StandsAt fields.now self.old }
+        requires begins { BeginsWord text.now }
+        ensures stands { StandsAt fields.now self.new }
+        ensures found { MatchOption result (SetsNothing fields.now text.now) (λ pair. Sets fields.now text.now pair.0 pair.1.now) }
+        ensures fits { IfSome result (λ pair. FoundFits (count fields.now) (Some pair.0)) }
+        ensures shorter { IfSome result (λ pair. length pair.1.now < length text.now) }
+    {
+        match self.find_ahead(fields, text) {
+            Some(found) => Some(found),
+            None => find_anywhere(fields, text),
+        }
+    }
+
+    // The same, if a field at the guess or behind it has the name.
+    fn find_ahead<'a>(&mut self, fields: &Fields, text: &'a [u8]) -> Option<(Found, &'a [u8])>
         requires { StandsAt fields.now self.old }
         ensures stands { StandsAt fields.now self.new }
-        ensures found { IfSome result (λ named. found fields.now name.now ≡ Some named) }
-        ensures fits { IfSome result (λ named. FoundFits (count fields.now) (Some named)) }
+        ensures found { IfSome result (λ pair. Sets fields.now text.now pair.0 pair.1.now) }
+        ensures fits { IfSome result (λ pair. FoundFits (count fields.now) (Some pair.0)) }
+        ensures shorter { IfSome result (λ pair. length pair.1.now < length text.now) }
     {
         let list = fields.list();
         let mut place = self.place;
@@ -92,11 +96,23 @@ impl Guess {
             let begin = comp;
             place += 1;
             comp += field.width();
-            if is_named(field, name) {
+            if let Some(rest) = behind_name(text, field.name.bytes()) {
                 *self = Guess { place, comp };
-                return Some(whole(field, begin));
+                return Some((whole(field, begin), rest));
             }
         }
         None
     }
+}
+
+// The same, of a field or a component wherever it is declared.
+fn find_anywhere<'a>(fields: &Fields, text: &'a [u8]) -> Option<(Found, &'a [u8])>
+    requires { BeginsWord text.now }
+    ensures found { MatchOption result (SetsNothing fields.now text.now) (λ pair. Sets fields.now text.now pair.0 pair.1.now) }
+    ensures fits { IfSome result (λ pair. FoundFits (count fields.now) (Some pair.0)) }
+    ensures shorter { IfSome result (λ pair. length pair.1.now < length text.now) }
+{
+    let (name, rest) = split_name(text)?;
+    let found = fields.find(name)?;
+    Some((found, rest))
 }

@@ -1,11 +1,11 @@
 //! The texts of a report, put behind one another in a buffer.
 
-ghost use Rattle.std.specs.Prelude.{◌≡◌, ◌<◌, ◌≤◌, ◌+◌, ◌++◌, [], codes, decimal, drop, length, slice_get, unwrap_or, OnOk};
+ghost use Rattle.std.specs.Prelude.{◌≡◌, ◌<◌, ◌≤◌, ◌+◌, ◌-◌, ◌++◌, [], codes, decimal, drop, length, slice_get, unwrap_or, IfNone, IfSome, OnOk};
 ghost use Rattle.snap_core.specs.Fields.{PrefixFits, count, width};
 ghost use Rattle.snap_core.specs.Packets.{AllLong};
 ghost use Rattle.snap_core.specs.Runs.{set_in};
-ghost use Rattle.snap_trace.specs.Reports.{all_lines, block, field_text, fields_text, index_text, listed_line, out_line, split_text, value_text};
-ghost use Rattle.std.specs.List.{flat_map};
+ghost use Rattle.snap_trace.specs.Reports.{address_text, all_lines, block, field_text, fields_text, index_text, listed_line, out_line, out_lines, place_line, split_text, value_text};
+ghost use Rattle.std.specs.List.{All, flat_map};
 
 use crate::front::{
     digit, put_address_before, put_byte_before, put_bytes_before, put_number_before,
@@ -19,6 +19,7 @@ use snap_core::packets::Packets;
 use snap_core::place::Listed;
 use snap_core::program::{Field, Fields};
 use std::alloc::Global;
+use std::slice;
 
 /// Puts a number in digits behind the buffer. Most are short, as the parts of an address.
 pub fn put_number(out: &mut Vec<u8>, number: u64) -> Result<(), NoMemory>
@@ -38,77 +39,264 @@ pub fn put_number(out: &mut Vec<u8>, number: u64) -> Result<(), NoMemory>
     Ok(())
 }
 
-// Puts a number at the end of a buffer, and returns where it begins.
-#[inline(always)]
-fn put_number_last(buffer: &mut [u8; 64], number: u64) -> usize
-    ensures begin { result ≤ 64 }
-    ensures short { 64 ≤ result + 20 }
-    ensures text { drop result buffer.new ≡ decimal number }
+// Puts `NET:HOST` before the text that begins at `end`, and returns where the text begins then.
+#[inline(never)]
+fn put_pair_before(buffer: &mut [u8; 256], end: usize, net: u64, host: u64) -> usize
+    requires within { end ≤ 256 }
+    requires room { 41 ≤ end }
+    ensures begin { result ≤ end }
+    ensures short { end ≤ result + 41 }
+    ensures text { drop result buffer.new ≡ decimal net ++ codes ":" ++ decimal host ++ drop end buffer.old }
 {
-    put_number_before(buffer, 64, number)
-}
-
-// Puts `NET:HOST` at the end of a buffer, and returns where it begins.
-fn put_pair_last(buffer: &mut [u8; 64], net: u64, host: u64) -> usize
-    ensures begin { result ≤ 64 }
-    ensures short { 64 ≤ result + 41 }
-    ensures text { drop result buffer.new ≡ decimal net ++ codes ":" ++ decimal host }
-{
-    let begin = put_number_last(buffer, host);
+    let begin = put_number_before(buffer, end, host);
     let begin = put_byte_before(buffer, begin, b':');
     put_number_before(buffer, begin, net)
 }
 
-// Puts the value of a field split behind this prefix at the end of a buffer, and returns where it begins.
-fn put_split_last(buffer: &mut [u8; 64], prefix: u8, net: u64, host: u64) -> usize
+// The address that the two numbers of a field split behind this prefix make, if they fit.
+#[inline(always)]
+fn address_of(prefix: u8, net: u64, host: u64) -> Option<u32>
     requires { prefix ≤ 31 }
-    ensures begin { result ≤ 64 }
-    ensures short { 64 ≤ result + 41 }
-    ensures text { drop result buffer.new ≡ split_text prefix net host }
+    ensures some { IfSome result (λ address. split_text prefix net host ≡ address_text address) }
+    ensures none { IfNone result (split_text prefix net host ≡ decimal net ++ codes ":" ++ decimal host) }
 {
     let hosts = 1u64 << (32 - prefix);
     if net < 1u64 << prefix && host < hosts {
-        put_address_before(buffer, 64, (net * hosts + host) as u32)
+        Some((net * hosts + host) as u32)
     } else {
-        put_pair_last(buffer, net, host)
+        None
     }
 }
 
-// Puts the value of a field whose components begin at `comp` at the end of a buffer, and returns where it begins.
-fn put_value_last(buffer: &mut [u8; 64], prefix: Option<u8>, comp: u16, packet: &Packet) -> usize
+// Puts the value of a field split behind this prefix before the text that begins at `end`, and returns where the text
+// begins then.
+#[inline(always)]
+fn put_split_before(buffer: &mut [u8; 256], end: usize, prefix: u8, net: u64, host: u64) -> usize
+    requires prefix { prefix ≤ 31 }
+    requires within { end ≤ 256 }
+    requires room { 41 ≤ end }
+    ensures begin { result ≤ end }
+    ensures short { end ≤ result + 41 }
+    ensures text { drop result buffer.new ≡ split_text prefix net host ++ drop end buffer.old }
+{
+    match address_of(prefix, net, host) {
+        Some(address) => put_address_before(buffer, end, address),
+        None => put_pair_before(buffer, end, net, host),
+    }
+}
+
+// Puts the value of a field whose components begin at `comp` before the text that begins at `end`, and returns where the
+// text begins then.
+#[inline(always)]
+fn put_value_before(
+    buffer: &mut [u8; 256],
+    end: usize,
+    prefix: Option<u8>,
+    comp: u16,
+    packet: &Packet,
+) -> usize
     requires comps { comp + width prefix ≤ length packet.now }
     requires few { length packet.now ≤ 64 }
     requires prefix { PrefixFits prefix }
-    ensures begin { result ≤ 64 }
-    ensures short { 64 ≤ result + 41 }
-    ensures text { drop result buffer.new ≡ value_text prefix comp packet.now }
+    requires within { end ≤ 256 }
+    requires room { 41 ≤ end }
+    ensures begin { result ≤ end }
+    ensures short { end ≤ result + 41 }
+    ensures text { drop result buffer.new ≡ value_text prefix comp packet.now ++ drop end buffer.old }
 {
     match prefix {
-        None => put_number_last(buffer, packet.get(comp)),
-        Some(prefix) => put_split_last(buffer, prefix, packet.get(comp), packet.get(comp + 1)),
+        None => put_number_before(buffer, end, packet.get(comp)),
+        Some(prefix) => {
+            put_split_before(buffer, end, prefix, packet.get(comp), packet.get(comp + 1))
+        }
     }
 }
 
-// Puts ` NAME` and what a buffer has from `at` on.
-fn put_named(
-    out: &mut Vec<u8>,
-    name: &[u8],
-    buffer: &mut [u8; 64],
-    at: usize,
-) -> Result<(), NoMemory>
-    requires { at ≤ 64 }
-    ensures { OnOk result (out.new.items ≡ out.old.items ++ (codes " " ++ name.now ++ drop at buffer.old)) }
+// Puts ` NAME=VALUE` of one field before the text that begins at `end`, and returns where the text begins then.
+#[inline(always)]
+fn put_field_before(
+    buffer: &mut [u8; 256],
+    end: usize,
+    field: &Field,
+    comp: u16,
+    packet: &Packet,
+) -> usize
+    requires comps { comp + width field.now.prefix ≤ length packet.now }
+    requires few { length packet.now ≤ 64 }
+    requires prefix { PrefixFits field.now.prefix }
+    requires within { end ≤ 256 }
+    requires room { length field.now.name + 43 ≤ end }
+    ensures begin { result ≤ end }
+    ensures text { drop result buffer.new ≡ field_text field.now comp packet.now ++ drop end buffer.old }
 {
-    if name.len() < at {
-        let begin = put_bytes_before(buffer, at, name);
-        let begin = put_byte_before(buffer, begin, b' ');
-        out.extend_from_slice(&buffer[begin..])?;
-    } else {
-        out.push(b' ')?;
-        out.extend_from_slice(name)?;
-        out.extend_from_slice(&buffer[at..])?;
+    let begin = put_value_before(buffer, end, field.prefix, comp, packet);
+    let begin = put_byte_before(buffer, begin, b'=');
+    let begin = put_bytes_before(buffer, begin, field.name.bytes());
+    put_byte_before(buffer, begin, b' ')
+}
+
+// Puts fields of a packet, whose components end before `behind`, before the text that begins at `end`, and returns where
+// the text begins then, if there is room.
+#[inline(never)]
+fn put_fields_before(
+    buffer: &mut [u8; 256],
+    end: usize,
+    fields: &[Field],
+    behind: u16,
+    packet: &Packet,
+) -> Option<usize>
+    requires prefixes { All (λ f. PrefixFits f.prefix) fields.now }
+    requires comps { count fields.now ≤ behind }
+    requires packet { behind ≤ length packet.now }
+    requires few { length packet.now ≤ 64 }
+    requires within { end ≤ 256 }
+    ensures begin { IfSome result (λ begin. begin ≤ end) }
+    ensures text { IfSome result (λ begin. drop begin buffer.new ≡ fields_text (behind - count fields.now) fields.now packet.now ++ drop end buffer.old) }
+{
+    let mut comp = behind;
+    let mut begin = end;
+    for i in (0..fields.len()).rev() {
+        let field = &fields[i];
+        if begin < field.name.bytes().len() + 43 {
+            return None;
+        }
+        comp -= field.width();
+        begin = put_field_before(buffer, begin, field, comp, packet);
     }
-    Ok(())
+    Some(begin)
+}
+
+// Puts all fields of a packet before the text that begins at `end`, and returns where the text begins then, if there is
+// room.
+#[inline(always)]
+fn put_all_before(
+    buffer: &mut [u8; 256],
+    end: usize,
+    fields: &Fields,
+    packet: &Packet,
+) -> Option<usize>
+    requires packet { length packet.now ≡ count fields.now }
+    requires within { end ≤ 256 }
+    ensures begin { IfSome result (λ begin. begin ≤ end) }
+    ensures text { IfSome result (λ begin. drop begin buffer.new ≡ fields_text 0 fields.now packet.now ++ drop end buffer.old) }
+{
+    let list = fields.list();
+    put_fields_before(buffer, end, list, packet.comps().len() as u16, packet)
+}
+
+// Puts the line of a packet that goes out before the text that begins at `end`, and returns where the text begins then,
+// if there is room.
+fn put_out_before(
+    buffer: &mut [u8; 256],
+    end: usize,
+    fields: &Fields,
+    packet: &Packet,
+) -> Option<usize>
+    requires packet { length packet.now ≡ count fields.now }
+    requires within { end ≤ 256 }
+    ensures begin { IfSome result (λ begin. begin ≤ end) }
+    ensures text { IfSome result (λ begin. drop begin buffer.new ≡ out_line fields.now packet.now ++ drop end buffer.old) }
+{
+    if end == 0 {
+        return None;
+    }
+    let begin = put_byte_before(buffer, end, b'\n');
+    let begin = put_all_before(buffer, begin, fields, packet)?;
+    if begin < 3 {
+        return None;
+    }
+    Some(put_bytes_before(buffer, begin, b"out"))
+}
+
+/// Puts the lines of packets that went out before the text that begins at `end`, and returns where the text begins then,
+/// if there is room.
+pub fn put_outs_before(
+    buffer: &mut [u8; 256],
+    end: usize,
+    fields: &Fields,
+    packets: &[Packet],
+) -> Option<usize>
+    requires long { All (λ k. length k ≡ count fields.now) packets.now }
+    requires within { end ≤ 256 }
+    ensures begin { IfSome result (λ begin. begin ≤ end) }
+    ensures text { IfSome result (λ begin. drop begin buffer.new ≡ out_lines fields.now packets.now ++ drop end buffer.old) }
+{
+    let mut begin = end;
+    for i in (0..packets.len()).rev() {
+        begin = put_out_before(buffer, begin, fields, &packets[i])?;
+    }
+    Some(begin)
+}
+
+// Puts an address.
+fn put_address(out: &mut Vec<u8>, address: u32) -> Result<(), NoMemory>
+    ensures { OnOk result (out.new.items ≡ out.old.items ++ address_text address) }
+{
+    let address = u64::from(address);
+    put_number(out, address >> 24)?;
+    out.push(b'.')?;
+    put_number(out, (address >> 16) % 256)?;
+    out.push(b'.')?;
+    put_number(out, (address >> 8) % 256)?;
+    out.push(b'.')?;
+    put_number(out, address % 256)
+}
+
+// Puts `NET:HOST`.
+fn put_pair(out: &mut Vec<u8>, net: u64, host: u64) -> Result<(), NoMemory>
+    ensures { OnOk result (out.new.items ≡ out.old.items ++ (decimal net ++ codes ":" ++ decimal host)) }
+{
+    put_number(out, net)?;
+    out.push(b':')?;
+    put_number(out, host)
+}
+
+// Puts the value of a field split behind this prefix.
+fn put_split(out: &mut Vec<u8>, prefix: u8, net: u64, host: u64) -> Result<(), NoMemory>
+    requires { prefix ≤ 31 }
+    ensures { OnOk result (out.new.items ≡ out.old.items ++ split_text prefix net host) }
+{
+    match address_of(prefix, net, host) {
+        Some(address) => put_address(out, address),
+        None => put_pair(out, net, host),
+    }
+}
+
+// Puts the value of a field whose components begin at `comp`.
+fn put_value(
+    out: &mut Vec<u8>,
+    prefix: Option<u8>,
+    comp: u16,
+    packet: &Packet,
+) -> Result<(), NoMemory>
+    requires comps { comp + width prefix ≤ length packet.now }
+    requires few { length packet.now ≤ 64 }
+    requires prefix { PrefixFits prefix }
+    ensures { OnOk result (out.new.items ≡ out.old.items ++ value_text prefix comp packet.now) }
+{
+    match prefix {
+        None => put_number(out, packet.get(comp)),
+        Some(prefix) => put_split(out, prefix, packet.get(comp), packet.get(comp + 1)),
+    }
+}
+
+// Puts ` NAME=VALUE` of one field, whatever its length.
+#[inline(never)]
+fn put_long_field(
+    out: &mut Vec<u8>,
+    field: &Field,
+    comp: u16,
+    packet: &Packet,
+) -> Result<(), NoMemory>
+    requires comps { comp + width field.now.prefix ≤ length packet.now }
+    requires few { length packet.now ≤ 64 }
+    requires prefix { PrefixFits field.now.prefix }
+    ensures { OnOk result (out.new.items ≡ out.old.items ++ field_text field.now comp packet.now) }
+{
+    out.push(b' ')?;
+    out.extend_from_slice(field.name.bytes())?;
+    out.push(b'=')?;
+    put_value(out, field.prefix, comp, packet)
 }
 
 // Puts ` NAME=VALUE` of one field.
@@ -118,15 +306,17 @@ fn put_field(out: &mut Vec<u8>, field: &Field, comp: u16, packet: &Packet) -> Re
     requires prefix { PrefixFits field.now.prefix }
     ensures { OnOk result (out.new.items ≡ out.old.items ++ field_text field.now comp packet.now) }
 {
-    let mut buffer = [0u8; 64];
-    let value = put_value_last(&mut buffer, field.prefix, comp, packet);
-    let equals = put_byte_before(&mut buffer, value, b'=');
-    put_named(out, field.name.bytes(), &mut buffer, equals)
+    let mut buffer = [0u8; 256];
+    let behind = comp + field.width();
+    match put_fields_before(&mut buffer, 256, slice::from_ref(field), behind, packet) {
+        Some(begin) => put_from(out, &buffer, begin),
+        None => put_long_field(out, field, comp, packet),
+    }
 }
 
-/// Puts all fields of a packet in order of declaration, each as ` NAME=VALUE`, and the end of their line.
+// Puts all fields of a packet one after another, and the end of their line.
 #[inline(never)]
-pub fn put_fields(out: &mut Vec<u8>, fields: &Fields, packet: &Packet) -> Result<(), NoMemory>
+fn put_each_field(out: &mut Vec<u8>, fields: &Fields, packet: &Packet) -> Result<(), NoMemory>
     requires { length packet.now ≡ count fields.now }
     ensures { OnOk result (out.new.items ≡ out.old.items ++ (fields_text 0 fields.now packet.now ++ codes "\n")) }
 {
@@ -139,25 +329,69 @@ pub fn put_fields(out: &mut Vec<u8>, fields: &Fields, packet: &Packet) -> Result
     Ok(())
 }
 
+/// Puts all fields of a packet in order of declaration, each as ` NAME=VALUE`, and the end of their line.
+pub fn put_fields(out: &mut Vec<u8>, fields: &Fields, packet: &Packet) -> Result<(), NoMemory>
+    requires { length packet.now ≡ count fields.now }
+    ensures { OnOk result (out.new.items ≡ out.old.items ++ (fields_text 0 fields.now packet.now ++ codes "\n")) }
+{
+    let mut buffer = [0u8; 256];
+    let end = put_byte_before(&mut buffer, 256, b'\n');
+    match put_all_before(&mut buffer, end, fields, packet) {
+        Some(begin) => put_from(out, &buffer, begin),
+        None => put_each_field(out, fields, packet),
+    }
+}
+
+// Puts what a buffer has from `begin` on.
+fn put_from(out: &mut Vec<u8>, buffer: &[u8; 256], begin: usize) -> Result<(), NoMemory>
+    requires { begin ≤ 256 }
+    ensures { OnOk result (out.new.items ≡ out.old.items ++ drop begin buffer.now) }
+{
+    out.extend_from_slice(&buffer[begin..])?;
+    Ok(())
+}
+
 /// Puts the line of a packet that goes out.
 pub fn put_out(out: &mut Vec<u8>, fields: &Fields, packet: &Packet) -> Result<(), NoMemory>
     requires { length packet.now ≡ count fields.now }
     ensures { OnOk result (out.new.items ≡ out.old.items ++ out_line fields.now packet.now) }
 {
+    let mut buffer = [0u8; 256];
+    match put_out_before(&mut buffer, 256, fields, packet) {
+        Some(begin) => put_from(out, &buffer, begin),
+        None => put_long_out(out, fields, packet),
+    }
+}
+
+// Puts the line of a packet that goes out, whatever its length.
+fn put_long_out(out: &mut Vec<u8>, fields: &Fields, packet: &Packet) -> Result<(), NoMemory>
+    requires { length packet.now ≡ count fields.now }
+    ensures { OnOk result (out.new.items ≡ out.old.items ++ out_line fields.now packet.now) }
+{
     out.extend_from_slice(b"out")?;
-    put_fields(out, fields, packet)
+    put_each_field(out, fields, packet)
+}
+
+/// Puts the first line of the block of the packet with this number before the text that begins at `end`, and returns
+/// where the text begins then.
+pub fn put_head_before(buffer: &mut [u8; 256], end: usize, number: u64) -> usize
+    requires within { end ≤ 256 }
+    requires room { 28 ≤ end }
+    ensures begin { result ≤ end }
+    ensures text { drop result buffer.new ≡ codes "packet " ++ decimal number ++ codes "\n" ++ drop end buffer.old }
+{
+    let begin = put_byte_before(buffer, end, b'\n');
+    let begin = put_number_before(buffer, begin, number);
+    put_bytes_before(buffer, begin, b"packet ")
 }
 
 /// Puts the first line of the block of the packet with this number.
 pub fn put_head(out: &mut Vec<u8>, number: u64) -> Result<(), NoMemory>
     ensures { OnOk result (out.new.items ≡ out.old.items ++ (codes "packet " ++ decimal number ++ codes "\n")) }
 {
-    let mut buffer = [0u8; 64];
-    let begin = put_byte_before(&mut buffer, 64, b'\n');
-    let begin = put_number_before(&mut buffer, begin, number);
-    let begin = put_bytes_before(&mut buffer, begin, b"packet ");
-    out.extend_from_slice(&buffer[begin..])?;
-    Ok(())
+    let mut buffer = [0u8; 256];
+    let begin = put_head_before(&mut buffer, 256, number);
+    put_from(out, &buffer, begin)
 }
 
 // Puts the block of the packet with this number, which became this set of packets.
@@ -206,38 +440,103 @@ pub(crate) fn put_copies(
     }
 }
 
-/// Puts the numbers of an index.
-pub fn put_index(out: &mut Vec<u8>, index: &[u64]) -> Result<(), NoMemory>
+// Puts the numbers of an index.
+fn put_index(out: &mut Vec<u8>, index: &[u64]) -> Result<(), NoMemory>
     ensures { OnOk result (out.new.items ≡ out.old.items ++ index_text index.now) }
 {
     for number in index {
-        put_spaced(out, *number)?;
+        out.push(b' ')?;
+        put_number(out, *number)?;
     }
     Ok(())
 }
 
-// Puts a number in digits behind a space.
-fn put_spaced(out: &mut Vec<u8>, number: u64) -> Result<(), NoMemory>
-    ensures { OnOk result (out.new.items ≡ out.old.items ++ (codes " " ++ decimal number)) }
+// Puts the numbers of an index before the text that begins at `end`, and returns where the text begins then, if there is
+// room.
+#[inline(always)]
+fn put_index_before(buffer: &mut [u8; 256], end: usize, index: &[u64]) -> Option<usize>
+    requires within { end ≤ 256 }
+    ensures begin { IfSome result (λ begin. begin ≤ end) }
+    ensures text { IfSome result (λ begin. drop begin buffer.new ≡ index_text index.now ++ drop end buffer.old) }
 {
-    let mut buffer = [0u8; 64];
-    let begin = put_number_last(&mut buffer, number);
-    let begin = put_byte_before(&mut buffer, begin, b' ');
-    out.extend_from_slice(&buffer[begin..])?;
+    let mut begin = end;
+    for i in (0..index.len()).rev() {
+        if begin < 21 {
+            return None;
+        }
+        begin = put_number_before(buffer, begin, index[i]);
+        begin = put_byte_before(buffer, begin, b' ');
+    }
+    Some(begin)
+}
+
+// Puts ` = VALUE` and the end of the line before the text that begins at `end`, and returns where the text begins then.
+#[inline(always)]
+fn put_equal_before(buffer: &mut [u8; 256], end: usize, value: u64) -> usize
+    requires within { end ≤ 256 }
+    requires room { 24 ≤ end }
+    ensures begin { result ≤ end }
+    ensures text { drop result buffer.new ≡ codes " = " ++ decimal value ++ codes "\n" ++ drop end buffer.old }
+{
+    let begin = put_byte_before(buffer, end, b'\n');
+    let begin = put_number_before(buffer, begin, value);
+    put_bytes_before(buffer, begin, b" = ")
+}
+
+// Puts the line of a place before the text that begins at `end`, and returns where the text begins then, if there is
+// room.
+#[inline(always)]
+fn put_place_before(
+    buffer: &mut [u8; 256],
+    end: usize,
+    name: &[u8],
+    index: &[u64],
+    value: u64,
+) -> Option<usize>
+    requires within { end ≤ 256 }
+    requires room { 24 ≤ end }
+    ensures begin { IfSome result (λ begin. begin ≤ end) }
+    ensures text { IfSome result (λ begin. drop begin buffer.new ≡ place_line name.now index.now value ++ drop end buffer.old) }
+{
+    let begin = put_equal_before(buffer, end, value);
+    let begin = put_index_before(buffer, begin, index)?;
+    if begin < name.len() + 6 {
+        return None;
+    }
+    let begin = put_bytes_before(buffer, begin, name);
+    Some(put_bytes_before(buffer, begin, b"array "))
+}
+
+// Puts the line of a place, whatever its length.
+#[inline(never)]
+fn put_long_place(out: &mut Vec<u8>, name: &[u8], index: &[u64], value: u64) -> Result<(), NoMemory>
+    ensures { OnOk result (out.new.items ≡ out.old.items ++ place_line name.now index.now value) }
+{
+    out.extend_from_slice(b"array ")?;
+    out.extend_from_slice(name)?;
+    put_index(out, index)?;
+    out.extend_from_slice(b" = ")?;
+    put_number(out, value)?;
+    out.push(b'\n')?;
     Ok(())
+}
+
+/// Puts the line of a place of the array with this name, which holds this value.
+pub fn put_place(out: &mut Vec<u8>, name: &[u8], index: &[u64], value: u64) -> Result<(), NoMemory>
+    ensures { OnOk result (out.new.items ≡ out.old.items ++ place_line name.now index.now value) }
+{
+    let mut buffer = [0u8; 256];
+    match put_place_before(&mut buffer, 256, name, index, value) {
+        Some(begin) => put_from(out, &buffer, begin),
+        None => put_long_place(out, name, index, value),
+    }
 }
 
 // Puts the line of a place that isn't 0.
 fn put_listed(out: &mut Vec<u8>, names: &Names, entry: &Listed<'_>) -> Result<(), NoMemory>
     ensures { OnOk result (out.new.items ≡ out.old.items ++ listed_line names.now entry.now) }
 {
-    out.extend_from_slice(b"array ")?;
-    out.extend_from_slice(name_at(names, entry.var))?;
-    put_index(out, entry.index)?;
-    out.extend_from_slice(b" = ")?;
-    put_number(out, entry.value)?;
-    out.push(b'\n')?;
-    Ok(())
+    put_place(out, name_at(names, entry.var), entry.index, entry.value)
 }
 
 /// Puts the lines of places that aren't 0, one each.

@@ -1,15 +1,15 @@
 //! The words of a line, and the values that they spell.
 
-ghost use Rattle.std.specs.Prelude.{◌≡◌, ◌==◌, ◌+◌, ◌<◌, ◌≤◌, [], ◌∷◌, length, IfSome, MatchOption, option_map, position};
+ghost use Rattle.std.specs.Prelude.{◌≡◌, ◌==◌, ◌+◌, ◌-◌, ◌^◌, ◌/◌, ◌%◌, ◌<◌, ◌≤◌, [], ◌∷◌, length, IfSome, MatchOption, position};
 ghost use Rattle.snap_trace.specs.PacketLines.{BeginsWord, both_numbers, ends_with_return, is_blank, is_inked, plain_value, split_value, without_return, words_of};
 ghost use Rattle.snap_core.specs.Parts.{parts_by};
-ghost use Rattle.snap_trace.specs.Cuts.{IsFirstCut, IsUntilBlank, is_mark};
+ghost use Rattle.snap_trace.specs.Cuts.{HasNoName, IsNameFront, IsUntilBlank, is_mark};
 
 use snap_core::figures::{address, number};
 use snap_core::parts::split_at_first;
 
 /// Whether a byte divides words: a space or a tab. Most bytes are passed over by the first test.
-fn is_blank(byte: u8) -> bool
+pub(crate) fn is_blank(byte: u8) -> bool
     ensures { result ≡ is_blank byte }
 {
     if byte > b' ' {
@@ -43,8 +43,20 @@ pub fn next_word(text: &[u8]) -> Option<(&[u8], &[u8])>
     ensures word { MatchOption result (words_of text.now ≡ []) (λ pair. words_of text.now ≡ pair.0.now ∷ words_of pair.1.now) }
     ensures shorter { IfSome result (λ pair. length pair.1.now < length text.now) }
 {
+    match behind_blanks(text) {
+        Some(front) => Some(split_word(front)),
+        None => None,
+    }
+}
+
+/// A text from its first word on.
+pub(crate) fn behind_blanks(text: &[u8]) -> Option<&[u8]>
+    ensures words { MatchOption result (words_of text.now ≡ []) (λ front. words_of text.now ≡ words_of front.now) }
+    ensures begins { IfSome result (λ front. BeginsWord front.now) }
+    ensures shorter { IfSome result (λ front. length front.now ≤ length text.now) }
+{
     match first_inked(text) {
-        Some(begin) => Some(split_word(&text[begin..])),
+        Some(begin) => Some(&text[begin..]),
         None => None,
     }
 }
@@ -58,57 +70,44 @@ fn split_word(text: &[u8]) -> (&[u8], &[u8])
     until_blank(text)
 }
 
-/// The first word of a text, cut at its first `=` where it has one, and the text behind the word.
-pub(crate) fn next_cut(text: &[u8]) -> Option<(Option<(&[u8], &[u8])>, &[u8])>
-    ensures cut { MatchOption result (words_of text.now ≡ [])
-        (λ pair. IsFirstCut text.now (option_map (λ c. (c.0.now, c.1.now)) pair.0) pair.1.now) }
+/// The name before the first `=` of the word at the front of a text, and the text behind the `=`.
+pub(crate) fn split_name(text: &[u8]) -> Option<(&[u8], &[u8])>
+    requires { BeginsWord text.now }
+    ensures name { MatchOption result (HasNoName text.now) (λ pair. IsNameFront text.now pair.0.now pair.1.now) }
     ensures shorter { IfSome result (λ pair. length pair.1.now < length text.now) }
 {
-    match first_inked(text) {
-        Some(begin) => Some(cut_word(&text[begin..])),
+    match first_mark(text) {
+        Some(at) => {
+            if text[at] == b'=' {
+                Some((&text[..at], &text[at + 1..]))
+            } else {
+                None
+            }
+        }
         None => None,
     }
 }
 
-// The word at the front of a text that begins with one, cut at its first `=` where it has one, and the text behind it.
-// A byte is looked at once: up to the `=` and then up to the word's end.
-fn cut_word(text: &[u8]) -> (Option<(&[u8], &[u8])>, &[u8])
-    requires { BeginsWord text.now }
-    ensures cut { IsFirstCut text.now (option_map (λ c. (c.0.now, c.1.now)) result.0) result.1.now }
-    ensures shorter { length result.1.now < length text.now }
-{
-    match first_mark(text) {
-        Some(at) if text[at] == b'=' => {
-            let (value, behind) = until_blank(&text[at + 1..]);
-            (Some((&text[..at], value)), behind)
-        }
-        _ => {
-            let (word, behind) = split_word(text);
-            (split_at_first(word, b'='), behind)
-        }
-    }
-}
-
-// A text up to its first blank, and the text behind.
-fn until_blank(text: &[u8]) -> (&[u8], &[u8])
+/// A text up to its first blank, and the text behind that.
+pub(crate) fn until_blank(text: &[u8]) -> (&[u8], &[u8])
     ensures until { IsUntilBlank text.now result.0.now result.1.now }
-    ensures lengths { length result.0.now + length result.1.now ≡ length text.now }
+    ensures lengths { length result.0.now + length result.1.now ≤ length text.now }
 {
     match first_blank(text) {
-        Some(end) => (&text[..end], &text[end..]),
+        Some(end) => (&text[..end], &text[end + 1..]),
         None => (text, &[]),
     }
 }
 
-// The first byte that ends a name. Most bytes are passed over by the first test.
-#[inline(never)]
+// The first byte that ends a name.
 fn first_mark(text: &[u8]) -> Option<usize>
     ensures { result ≡ position is_mark text.now }
 {
     text.iter().position(|byte| is_mark(*byte))
 }
 
-fn is_mark(byte: u8) -> bool
+/// Whether a byte ends a name: `=`, or a blank. Most bytes are passed over by the first test.
+pub(crate) fn is_mark(byte: u8) -> bool
     ensures { result ≡ is_mark byte }
 {
     if byte > b'=' {
@@ -117,7 +116,6 @@ fn is_mark(byte: u8) -> bool
     byte == b'=' || is_blank(byte)
 }
 
-#[inline(never)]
 fn first_blank(text: &[u8]) -> Option<usize>
     ensures { result ≡ position is_blank text.now }
 {
@@ -149,13 +147,19 @@ pub(crate) fn split_value(prefix: u8, text: &[u8]) -> Option<(u64, u64)>
     ensures { result ≡ split_value prefix text.now }
 {
     match address(text) {
-        Some(address) => {
-            let host_size = 1u64 << (32 - prefix);
-            let address = u64::from(address);
-            Some((address / host_size, address % host_size))
-        }
+        Some(address) => Some(split_address(prefix, address)),
         None => both_numbers(text),
     }
+}
+
+/// The values of the two components of a field split behind this prefix, of an address.
+pub(crate) fn split_address(prefix: u8, address: u32) -> (u64, u64)
+    requires { prefix ≤ 31 }
+    ensures { result ≡ (address / 2 ^ (32 - prefix), address % 2 ^ (32 - prefix)) }
+{
+    let host_size = 1u64 << (32 - prefix);
+    let address = u64::from(address);
+    (address / host_size, address % host_size)
 }
 
 // `NET:HOST`.

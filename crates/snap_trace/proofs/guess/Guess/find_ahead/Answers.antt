@@ -1,4 +1,6 @@
 use Rattle.std.proofs.Common.{◌∙◌, Some, ap, sym}
+use Rattle.snap_core.specs.Fields.{found}
+use Rattle.snap_trace.proofs.DraftLemmas.{sets-named}
 use Rattle.snap_trace.proofs.GuessLemmas.{found_there, stands_behind}
 use Rattle.snap_trace.proofs.guess.Guess.find_ahead.Goals as goal
 
@@ -8,12 +10,14 @@ loop-place-preserved c = record {
   comps = stands_behind c.args.fields.now c.list-list.result.now c.loop-place.place c.loop-place.comp c.width-comp.result c.index-list-place.result c.list-list.ensures.list c.loop-place-test.true c.index-list-place.is c.width-comp.ensures c.loop-place.invariant.comps;
 }
 
-pub returns-then-is_named-clause-stands : goal.returns-then-is_named-clause-stands
-returns-then-is_named-clause-stands c = record {
+pub returns-in-Some-clause-stands : goal.returns-in-Some-clause-stands
+returns-in-Some-clause-stands c = record {
   comps = stands_behind c.args.fields.now c.list-list.result.now c.loop-place.place c.loop-place.comp c.width-comp.result c.index-list-place.result c.list-list.ensures.list c.loop-place-test.true c.index-list-place.is c.width-comp.ensures c.loop-place.invariant.comps;
 }
 
-pub returns-then-is_named-clause-found : goal.returns-then-is_named-clause-found
-returns-then-is_named-clause-found c =
-    found_there c.args.fields.now c.list-list.result.now c.loop-place.place c.loop-place.comp c.index-list-place.result c.args.name.now c.list-list.ensures.fields c.list-list.ensures.list c.loop-place-test.true c.index-list-place.is c.loop-place.invariant.comps (sym c.is_named.ensures ∙ c.if-is_named.true)
-    ∙ ap Some (sym c.whole.ensures)
+pub returns-in-Some-clause-found : goal.returns-in-Some-clause-found
+returns-in-Some-clause-found c =
+    let fields = c.args.fields.now in
+    let there = found_there fields c.list-list.result.now c.loop-place.place c.loop-place.comp c.index-list-place.result c.list-list.ensures.fields c.list-list.ensures.list c.loop-place-test.true c.index-list-place.is c.loop-place.invariant.comps in
+    sets-named fields c.args.text.now c.bytes.result.now c.in-Some.rest.now c.whole.result c.in-Some.ensures.front
+    (ap (found fields) c.bytes.ensures ∙ there ∙ ap Some (sym c.whole.ensures))

@@ -1,7 +1,7 @@
 use Rattle.std.proofs.Common.{◌≡◌, ◌+◌, ◌++◌, drop}
 use Rattle.snap_core.specs.Fields.{count}
 use Rattle.snap_trace.specs.Reports.{fields_text}
-use Rattle.snap_trace.proofs.report.put_fields.Given as goal
+use Rattle.snap_trace.proofs.report.put_each_field.Given as goal
 
 -- the fields that are left follow what was put
 abbrev pub invariant-loop-field : goal.invariant-loop-field
