@@ -156,7 +156,7 @@ has_stepped v new k c m a left handles s shows =
     left_copy v new k x.0 m a (subst (λ c. Left v new k c m a) (sym x.2) left) (subst (λ (c : Flying). Handles v.tables c.at c.packet (store_of v.stores c.at) c.head m a) (sym x.2) handles) s shows x.1
 
 -- what becomes of a copy is in its place again
-flights_held : (t : Tables) (c : Flying) (a : Action) → c.at < switch_count t → length c.packet ≡ comps t → Arrives t c.packet a
+pub flights_held : (t : Tables) (c : Flying) (a : Action) → c.at < switch_count t → length c.packet ≡ comps t → Arrives t c.packet a
     → All (λ (x : Flying). x.at < switch_count t) (flights c a) × All (λ (x : Flying). length x.packet ≡ comps t) (flights c a) × All (λ (x : Flying). AtHome t x.at x.head) (flights c a)
 flights_held t c (Forward to head) below long arrives =
     (one (λ (x : Flying). x.at < switch_count t) arrives.0, one (λ (x : Flying). length x.packet ≡ comps t) long, one (λ (x : Flying). AtHome t x.at x.head) arrives.1)
@@ -174,7 +174,7 @@ flights_held t c (Fork copies lost) below long arrives =
       All-map (λ (x : Flying). AtHome t x.at x.head) f copies (λ i d within. (arrives i d within).port),
     )
 
-three : (P : Flying → Type 0) (k : ℕ) (fl xs : List Flying) → All P fl → All P xs → All P (take k fl ++ (xs ++ drop (k + 1) fl))
+pub three : (P : Flying → Type 0) (k : ℕ) (fl xs : List Flying) → All P fl → All P xs → All P (take k fl ++ (xs ++ drop (k + 1) fl))
 three P k fl xs all some = All-append P (take k fl) (xs ++ drop (k + 1) fl) (All-take P k fl all) (All-append P xs (drop (k + 1) fl) some (All-drop P (k + 1) fl all))
 
 pub held_left : (v new : Held) (k : ℕ) (c : Flying) (m : Arrays) (a : Action) → IsHeld v → Left v new k c m a → Arrives v.tables c.packet a → IsHeld new

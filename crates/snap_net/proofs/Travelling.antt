@@ -14,6 +14,7 @@ use Rattle.snap_rows.specs.Entries.{next}
 use Rattle.snap_rows.specs.Form.{IsInForm, switch_count}
 use Rattle.snap_rows.specs.Handles.{Handles}
 use Rattle.snap_rows.specs.Home.{AtHome}
+use Rattle.snap_rows.specs.Rules.{IsValid}
 use Rattle.snap_rows.specs.Ways.{Way, here, on}
 use Rattle.snap_rows.specs.Network.{Copy, Net, Happening, Crossed, step, stepped}
 use Rattle.snap_rows.proofs.Aims.{goes_on, aim_below, aim_home}
@@ -116,12 +117,12 @@ module _ (t : Tables) (k x : ℕ) (h : Head) (forwards : (w : ℕ) (p : List ℕ
       )
 
 -- ---- what is held
-arrives_there : (t : Tables) → IsInForm t → (c : Flying) → c.at < switch_count t → AtHome t c.at c.head → ((arrived t c).at < switch_count t) × AtHome t (arrived t c).at c.head
-arrives_there t form c low home = by (aim_of t c.head) refl
+pub aim_there : (t : Tables) → IsInForm t → (w : ℕ) (h : Head) → w < switch_count t → AtHome t w h → (unwrap_or (aim_of t h) w < switch_count t) × AtHome t (unwrap_or (aim_of t h) w) h
+aim_there t form w h low home = by (aim_of t h) refl
   where
-    by : (o : Option ℕ) → aim_of t c.head ≡ o → (unwrap_or o c.at < switch_count t) × AtHome t (unwrap_or o c.at) c.head
+    by : (o : Option ℕ) → aim_of t h ≡ o → (unwrap_or o w < switch_count t) × AtHome t (unwrap_or o w) h
     by None e = (low, home)
-    by (Some x) e = (aim_below t form c.head x e, aim_home t c.head x c.at e home)
+    by (Some x) e = (aim_below t form h x e, aim_home t h x w e home)
 
 abbrev pub travelled_to : Held → ℕ → Flying → Held
 travelled_to v k c = record v { flying = spliced v.flying k 1 (arrived v.tables c ∷ []) }
@@ -138,13 +139,16 @@ held_arrived v held k c is =
       injected = refl;
       flying = refl;
     })
-    (arrives_there t held.form c low home)
+    (aim_there t held.form c.at c.head low home)
 
-pub has_travelled : (v : Held) → IsHeld v → (k : ℕ) (c : Flying) → slice_get v.flying k ≡ Some c → HasTravelled v k (travelled_to v k c)
-has_travelled v held k y there c is s shows = subst (λ (z : Flying). (s' : Net) × (ws : List ℕ) × (hs : List Happening) × Way t (arrived t c).at c.at ws × Crosses c.head c.packet c.at ws hs × Travels t k s hs s' × Shows (travelled_to v k z) s') (same_Some c y (sym is ∙ there)) (by (aim_of t c.head) refl)
+pub has_gone : (v : Held) → IsValid v.tables → IsInForm v.tables → (k : ℕ) (c : Flying) → slice_get v.flying k ≡ Some c → c.at < switch_count v.tables → HasTravelled v k (travelled_to v k c)
+has_gone v valid form k y there within c is s shows = subst (λ (z : Flying). (s' : Net) × (ws : List ℕ) × (hs : List Happening) × Way t (arrived t c).at c.at ws × Crosses c.head c.packet c.at ws hs × Travels t k s hs s' × Shows (travelled_to v k z) s') same (by (aim_of t c.head) refl)
   where
     t : Tables
     t = v.tables
+
+    same : c ≡ y
+    same = same_Some c y (sym is ∙ there)
 
     new : ℕ → Held
     new x = record v { flying = spliced v.flying k 1 (record c { at = x } ∷ []) }
@@ -156,8 +160,8 @@ has_travelled v held k y there c is s shows = subst (λ (z : Flying). (s' : Net)
         → (s' : Net) × (ws : List ℕ) × (hs : List Happening) × Way t (unwrap_or o c.at) c.at ws × Crosses c.head c.packet c.at ws hs × Travels t k s hs s' × Shows (new (unwrap_or o c.at)) s'
     by None e = (s, [], [], here, ends, stays, record { stores = shows.stores; injected = shows.injected; flying = shows.flying ∙ sym (put_same v.flying k c is) ∙ stands c.at })
     by (Some x) e =
-        let low : c.at < switch_count t = All-get (λ (c : Flying). c.at < switch_count t) v.flying k c held.places is in
-        let way = way_to t (held.valid Loop) held.form c.at x low (aim_below t held.form c.head x e) in
+        let low : c.at < switch_count t = subst (λ (z : Flying). z.at < switch_count t) (sym same) within in
+        let way = way_to t (valid Loop) form c.at x low (aim_below t form c.head x e) in
         let z = copy_shown v s k c shows is in
         let went = travel_on t k x c.head (goes_on t c.head x e) c.at way.0 way.1 s z.0 z.1 (ap (λ (z : Flying). z.at) z.2) (ap (λ (z : Flying). z.head) z.2) in (
           went.0,
@@ -176,3 +180,6 @@ has_travelled v held k y there c is s shows = subst (λ (z : Flying). (s' : Net)
                 ∙ stands x;
           },
         )
+
+pub has_travelled : (v : Held) → IsHeld v → (k : ℕ) (c : Flying) → slice_get v.flying k ≡ Some c → HasTravelled v k (travelled_to v k c)
+has_travelled v held k c is = has_gone v held.valid held.form k c is (All-get (λ (c : Flying). c.at < switch_count v.tables) v.flying k c held.places is)

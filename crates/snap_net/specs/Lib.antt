@@ -2,8 +2,8 @@ pub mod Flights
 pub mod Spots
 pub mod Shown
 pub mod Moves
-pub mod Worked
 pub mod Laws
 pub mod Travels
+pub mod Landings
 pub mod Listings
 pub mod Parts

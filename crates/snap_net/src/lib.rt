@@ -6,11 +6,10 @@ mod fill;
 mod flights;
 pub mod flying;
 pub mod happened;
+mod landing;
 pub mod laws;
 mod listing;
 pub mod moves;
 pub mod net;
 pub mod parts;
-#[cfg(test)]
-mod tests;
 mod updates;

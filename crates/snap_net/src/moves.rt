@@ -70,8 +70,8 @@ fn forward(flying: &mut Flights, k: usize, to: u16, head: Head) -> Moved
     Moved::Forwarded { owner, from, to }
 }
 
-// Delivers copy k.
-fn deliver(flying: &mut Flights, k: usize, port: u32) -> Moved
+/// Delivers copy k.
+pub(crate) fn deliver(flying: &mut Flights, k: usize, port: u32) -> Moved
     requires { k < length flying.old }
     ensures { HasMoved flying.old k (Deliver port) flying.new result }
 {
@@ -192,6 +192,58 @@ fn split(
     }
     match copies.pop() {
         Some(sent) => turn(alloc, stores, flying, k, ups, sent),
+        None => unreachable!(),
+    }
+}
+
+// Puts copies at a switch in the place of copy k, which it hands out.
+fn spread_all(
+    flying: &mut Flights,
+    k: usize,
+    at: u16,
+    copies: Vec<Sent>,
+) -> Result<Flying, NoMemory>
+    requires { k < length flying.old }
+    ensures gone { IfOk result (λ gone. (slice_get flying.old k ≡ Some gone) × (flying.new ≡ spliced flying.old k 1 (copies_in_flight gone.number at copies.items))) }
+    ensures err { OnErr result (flying.new ≡ flying.old) }
+{
+    let number = flying.get(k).number;
+    put_copies(flying, k, number, at, copies)?;
+    Ok(flying.remove(k))
+}
+
+// Puts one copy at a switch in the place of copy k, which it hands out.
+fn turn_to(flying: &mut Flights, k: usize, at: u16, sent: Sent) -> Flying
+    requires { k < length flying.old }
+    ensures gone { slice_get flying.old k ≡ Some result }
+    ensures left { flying.new ≡ spliced flying.old k 1 (copies_in_flight result.number at (sent ∷ [])) }
+{
+    let number = flying.get(k).number;
+    let copy = Flying {
+        number,
+        at,
+        head: Head::Out { port: sent.port },
+        packet: sent.packet,
+    };
+    flying.replace(k, copy)
+}
+
+/// Puts copies at a switch in the place of copy k, which it hands out. One copy alone needs no room.
+pub(crate) fn spread(
+    flying: &mut Flights,
+    k: usize,
+    at: u16,
+    mut copies: Vec<Sent>,
+) -> Result<Flying, NoMemory>
+    requires { k < length flying.old }
+    ensures gone { IfOk result (λ gone. (slice_get flying.old k ≡ Some gone) × (flying.new ≡ spliced flying.old k 1 (copies_in_flight gone.number at copies.items))) }
+    ensures err { OnErr result (flying.new ≡ flying.old) }
+{
+    if copies.len() != 1 {
+        return spread_all(flying, k, at, copies);
+    }
+    match copies.pop() {
+        Some(sent) => Ok(turn_to(flying, k, at, sent)),
         None => unreachable!(),
     }
 }

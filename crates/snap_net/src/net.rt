@@ -10,6 +10,7 @@ ghost use Rattle.snap_rows.specs.Network.{Net as State, start, whole, Inject, St
 ghost use Rattle.snap_net.specs.declared.flying.Flying.{Flying};
 ghost use Rattle.snap_net.specs.Flights.{spliced};
 ghost use Rattle.snap_net.specs.Travels.{HasTravelled, arrived};
+ghost use Rattle.snap_net.specs.Landings.{HasLanded, IsLanding};
 ghost use Rattle.snap_net.specs.Shown.{IsHeld, Shows, IsDone, Nothing, Tells, TellsMoved, Same, store_of};
 ghost use Rattle.snap_net.specs.Parts.{held_of};
 ghost use Rattle.snap_net.specs.Moves.{CanBeDone, HasStepped, HasMoved, HasUpdated, PlanAt};
@@ -20,6 +21,7 @@ use crate::fill::filled_stores;
 use crate::flights::Flights;
 use crate::flying::Flying;
 use crate::happened::{Happened, Moved};
+use crate::landing::{fly, put_down};
 use crate::listing::{append, listing_at, listings, of_array, total};
 use crate::moves::{carry_out, frame_of, framed};
 use crate::parts::Parts;
@@ -275,6 +277,21 @@ impl Net {
         let head = traveller.head;
         let to = self.tables.aim(head).unwrap_or(traveller.at);
         self.flying.send(k, to, head);
+    }
+
+    /// Makes the steps of the first copy up to the first that forks or delivers it, and tells that one. Where memory is short
+    /// only the tables and the count of packets are sure to stay: the copy may be half on its way, in the midst of updates.
+    pub fn land(&mut self) -> Result<Moved, NoMemory>
+        requires { 0 < length self.old.flying }
+        ensures landed { IfOk result (HasLanded self.old self.new) }
+        ensures lands { IfOk result IsLanding }
+        ensures tables { self.new.tables ≡ self.old.tables }
+        ensures injected { self.new.injected ≡ self.old.injected }
+    {
+        let copy = self.flying.get(0);
+        let landing = fly(self.alloc, &self.tables, &mut self.stores, copy)?;
+        let moved = put_down(&mut self.flying, landing)?;
+        Ok(moved)
     }
 
     /// Makes a step of copy k, counted from 0, without a frame. `NoCopy` where there is no such copy. A refusal leaves

@@ -25,7 +25,7 @@ use Rattle.snap_runs.specs.declared.frames.Frames.{Frames}
 use Rattle.snap_runs.specs.declared.tally.Tally.{Tally}
 use Rattle.snap_runs.specs.Crossings.{NotesCrossings, NotesWay, crossing_lines, line_text, way_text}
 use Rattle.snap_runs.specs.Reports.{hop_line, hop_lines, hops_text, lead_of}
-use Rattle.snap_runs.specs.Settling.{AreCopiesOf, HappenTo, HasPassed, HasSettled, Settles, Tallies}
+use Rattle.snap_runs.specs.Settling.{AreCopiesOf, HappenTo, HasPassed, Settles, Tallies}
 use Rattle.snap_runs.specs.Tallies.{IsTally, number_of}
 use Rattle.snap_rows.proofs.Aims.{aim_below}
 use Rattle.snap_runs.proofs.Happenings.{deliveries_of-append, losses_of-append, hops_text-append}
@@ -122,23 +122,24 @@ tally_passed f t hops i hs gs y y' quiet lines is notes = record {
     told true = ap (λ l. hop_lines f t i hs ++ l) (sym lines) ∙ sym (hops_text-append f t true i hs gs)
     told false = refl
 
-pub settled-passed : (f : Frames) (hops : Bool) (old mid new : Held) (y y' : Tally) → mid.tables ≡ old.tables → HasSettled f hops old mid y → HasPassed f hops mid new y y' → HasSettled f hops old new y'
-settled-passed f hops old mid new y y' same settled passed s shows =
-    let a = settled s shows in
-    let b = subst (λ t. (s' : Net) × (gs : List Happening) × Travels t 0 a.0 gs s' × Shows new s' × NotesCrossings f t hops gs y y') same (passed a.0 a.3) in (
-      b.0,
-      a.1 ++ b.1,
-      settles_both old.tables s a.0 b.0 a.1 b.1 a.2 (travels_settle old.tables a.0 b.0 b.1 b.2),
-      b.3,
-      λ i all.
-          let before = a.4 i all in
-          let here = travels_numbers old.tables i a.0 b.0 b.1 b.2 before.copies in
-          record {
-            copies = here.0;
-            happen = All-append (λ h. number_of h ≡ i) a.1 b.1 before.happen here.1;
-            tally = tally_passed f old.tables hops i a.1 b.1 y y' (travels_quiet old.tables i a.0 b.0 b.1 b.2) (travels_lines f old.tables i a.0 b.0 b.1 b.2 here.1) before.tally b.4;
-          },
-    )
+-- steps of the first copy that were noted in a tally lead from s to a
+pub record Noted (f : Frames) (t : Tables) (hops : Bool) (s a : Net) (hs : List Happening) (y : Tally) : Type 0 where
+  pub settles : Settles t s a hs
+  pub tallies : (i : ℕ) → AreCopiesOf i s.flying → Tallies f t hops i a hs y
+
+-- and on by crossings
+pub noted-passed : (f : Frames) (t : Tables) (hops : Bool) (s a b : Net) (hs gs : List Happening) (y y' : Tally) → Noted f t hops s a hs y → Travels t 0 a gs b → NotesCrossings f t hops gs y y' → Noted f t hops s b (hs ++ gs) y'
+noted-passed f t hops s a b hs gs y y' noted travels passed = record {
+  settles = settles_both t s a b hs gs noted.settles (travels_settle t a b gs travels);
+  tallies = λ i all.
+      let before = noted.tallies i all in
+      let here = travels_numbers t i a b gs travels before.copies in
+      record {
+        copies = here.0;
+        happen = All-append (λ h. number_of h ≡ i) hs gs before.happen here.1;
+        tally = tally_passed f t hops i hs gs y y' (travels_quiet t i a b gs travels) (travels_lines f t i a b gs travels here.1) before.tally passed;
+      };
+}
 
 -- what holds of the number of the first copy holds of those that cross links
 crossing_numbers : (t : Tables) (i : ℕ) (a m : Net) (j : ℕ) (hs : List Happening) → ((x : Copy) → slice_get a.flying 0 ≡ Some x → x.number ≡ i) → j ≡ 0 → Leads t a (Step j) m hs → (c : Copy) (to : ℕ) (h : Head) → hs ≡ Crossed c to h ∷ []

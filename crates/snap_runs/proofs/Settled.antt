@@ -4,15 +4,18 @@ use Rattle.std.specs.Prelude.{IsPermutation, if◌then◌else◌}
 use Rattle.std.proofs.lemmas.List.Elements.{All-nil, All-append, All-head, All-push}
 use Rattle.snap_rows.specs.declared.tables.Tables.{Tables}
 use Rattle.snap_rows.specs.Network.{Copy, Net, Inject, Step, Happening, Leads, RunsCalmly, rests, injects, steps, StepsFirst}
+use Rattle.snap_net.specs.declared.happened.Moved.{Moved}
+use Rattle.snap_net.specs.Landings.{HasLanded}
 use Rattle.snap_net.specs.Shown.{Held, IsDone, Nothing, Shows, happened, moving}
 use Rattle.snap_trace.specs.Reports.{out_lines}
 use Rattle.snap_runs.specs.declared.frames.Frames.{Frames}
 use Rattle.snap_runs.specs.declared.tally.Tally.{Tally}
 use Rattle.snap_runs.specs.declared.tracer.Tracer.{Tracer}
 use Rattle.snap_runs.specs.Reports.{IsBlockBy, hops_text, lost_line, packet_line}
-use Rattle.snap_runs.specs.Settling.{AreCopiesOf, HasNoted, HasSettled, Settles, Tallies}
+use Rattle.snap_runs.specs.Settling.{AreCopiesOf, Goes, HasGone, HasNoted, HasPassed, HasSettled, Settles, Tallies}
 use Rattle.snap_runs.specs.Tallies.{IsBlockText, IsTally, Notes, delivered_by, hop_told, lost_by, number_of}
 use Rattle.snap_runs.specs.Tracing.{HasTaken}
+use Rattle.snap_runs.proofs.Passing.{Noted, noted-passed}
 use Rattle.snap_runs.proofs.Happenings.{hops_text-more, losses_of-more, packets_delivered-more}
 use Rattle.snap_runs.proofs.Runs.{calm-then, packets_of-append}
 use Rattle.snap_runs.proofs.Steps.{inject-alone, rests-shown, step-injected, step-numbers}
@@ -38,11 +41,6 @@ tally-more f t hops i hs x y y' e is notes = record {
   hops_told = notes.hops_told ∙ ap (λ l. l ++ (if hops then hop_told f t.switches (happened x) else [])) is.hops_told ∙ sym (hops_text-more i f t hops hs x e);
 }
 
--- steps of the first copy that were noted in a tally lead from s to a
-record Noted (f : Frames) (t : Tables) (hops : Bool) (s a : Net) (hs : List Happening) (y : Tally) : Type 0 where
-  settles : Settles t s a hs
-  tallies : (i : ℕ) → AreCopiesOf i s.flying → Tallies f t hops i a hs y
-
 -- and one more
 one_more : (f : Frames) (t : Tables) (hops : Bool) (s a b : Net) (hs : List Happening) (x : Happening) (y y' : Tally) → Noted f t hops s a hs y → Leads t a (Step 0) b (x ∷ []) → Notes f t hops x y y' → Noted f t hops s b (hs ++ x ∷ []) y'
 one_more f t hops s a b hs x y y' noted leads notes = record {
@@ -63,12 +61,44 @@ one_more f t hops s a b hs x y y' noted leads notes = record {
       };
 }
 
-pub settled-more : (f : Frames) (hops : Bool) (old mid new : Held) (y y' : Tally) → mid.tables ≡ old.tables → HasSettled f hops old mid y → HasNoted f hops mid new y y' → HasSettled f hops old new y'
-settled-more f hops old mid new y y' same settled noted s shows =
+pub settled-gone : (f : Frames) (hops : Bool) (old mid new : Held) (y y' : Tally) → mid.tables ≡ old.tables → HasSettled f hops old mid y → HasGone f hops mid new y y' → HasSettled f hops old new y'
+settled-gone f hops old mid new y y' same settled gone s shows =
+    let t = old.tables in
     let a = settled s shows in
-    let b = subst (λ t. (s' : Net) × (x : Happening) × Leads t a.0 (Step 0) s' (x ∷ []) × Shows new s' × Notes f t hops x y y') same (noted a.0 a.3) in
-    let c = one_more f old.tables hops s a.0 b.0 a.1 b.1 y y' (record { settles = a.2; tallies = a.4 }) b.2 b.4 in
-    (b.0, a.1 ++ b.1 ∷ [], c.settles, b.3, c.tallies)
+    let g = subst (λ t. Goes f t hops a.0 new y y') same (gone a.0 a.3) in
+    let b = noted-passed f t hops s a.0 g.there a.1 g.crossings y g.between (record { settles = a.2; tallies = a.4 }) g.travels g.passed in
+    let c = one_more f t hops s g.there g.state (a.1 ++ g.crossings) g.last g.between y' b g.leads g.noted in
+    (g.state, (a.1 ++ g.crossings) ++ g.last ∷ [], c.settles, g.shows, c.tallies)
+
+-- the way of the first copy, and then its step
+pub gone-stepped : (f : Frames) (hops : Bool) (old mid new : Held) (y ym y' : Tally) → mid.tables ≡ old.tables → HasPassed f hops old mid y ym → HasNoted f hops mid new ym y' → HasGone f hops old new y y'
+gone-stepped f hops old mid new y ym y' same passed noted s shows =
+    let a = passed s shows in
+    let b = subst (λ t. (s' : Net) × (x : Happening) × Leads t a.0 (Step 0) s' (x ∷ []) × Shows new s' × Notes f t hops x ym y') same (noted a.0 a.3) in
+    record { there = a.0; crossings = a.1; travels = a.2; between = ym; passed = a.4; state = b.0; last = b.1; leads = b.2; noted = b.4; shows = b.3 }
+
+-- a landing, whose hops aren't told
+pub gone-landed : (f : Frames) (old new : Held) (moved : Moved) (y y' : Tally) → HasLanded old new moved → y'.delivered.items ≡ y.delivered.items ++ delivered_by moved → y'.lost ≡ y.lost + lost_by moved → y'.hops.items ≡ y.hops.items
+    → HasGone f false old new y y'
+gone-landed f old new moved y y' landed delivered lost hops s shows =
+    let a = landed s shows in
+    let told : moved ≡ moving a.3 = a.7 in
+    record {
+      there = a.0;
+      crossings = a.2;
+      travels = a.4;
+      between = y;
+      passed = record { delivered = refl; lost = refl; hops_told = sym (append-nil y.hops.items) };
+      state = a.1;
+      last = a.3;
+      leads = a.5;
+      noted = record {
+        delivered = delivered ∙ ap (λ m. y.delivered.items ++ delivered_by m) told;
+        lost = lost ∙ ap (λ m. y.lost + lost_by m) told;
+        hops_told = hops ∙ sym (append-nil y.hops.items);
+      };
+      shows = a.6;
+    }
 
 -- ---- a packet's whole way
 tally_block : (f : Frames) (t : Tables) (hops : Bool) (i : ℕ) (hs : List Happening) (y : Tally) (old new : List ℕ) → IsTally f t hops i hs y → IsBlockText t.fields (i + 1) y old new → (text : List ℕ) × IsBlockBy f t hops i hs text × (new ≡ old ++ text)

@@ -1,6 +1,6 @@
 -- One step of the network.
-use Rattle.std.proofs.Common.{◌≡◌, ℕ, ◌+◌, ◌<◌, ◌≤◌, Bool, List, [], ◌∷◌, ◌++◌, map, take, drop, Option, Some, None, length, refl, sym, ap, subst, ◌∙◌, arith, add-one, take-append-drop}
-use Rattle.std.specs.Prelude.{slice_get, sum_by, unwrap_or}
+use Rattle.std.proofs.Common.{◌≡◌, ℕ, ◌+◌, ◌<◌, ◌≤◌, Bool, List, [], ◌∷◌, ◌++◌, map, take, drop, length, refl, sym, ap, subst, ◌∙◌, arith, add-one, take-append-drop}
+use Rattle.std.specs.Prelude.{sum_by}
 use Rattle.std.specs.List.{All}
 use Rattle.std.proofs.lemmas.List.Elements.{All-nil, All-cons, All-head, All-tail, All-append, All-push, All-take, All-drop, All-map, All-weaker}
 use Rattle.std.proofs.lemmas.List.Sums.{sum_by-append, sum_by-cons}
@@ -12,20 +12,18 @@ use Rattle.snap_rows.specs.declared.head.Sent.{Sent}
 use Rattle.snap_rows.specs.Form.{IsInForm, comps, switch_count}
 use Rattle.snap_rows.specs.Home.{AtHome}
 use Rattle.snap_rows.specs.Rules.{IsValid}
+use Rattle.snap_rows.specs.Steps.{Arrives}
 use Rattle.snap_rows.specs.Network.{Copy, Net, Inject, Step, Happening, Leads, inject, step, happening, moved}
 use Rattle.snap_rows.specs.Weight.{weight, steps_left}
-use Rattle.snap_rows.specs.Aims.{aim_of}
-use Rattle.snap_rows.proofs.Aims.{aim_lighter}
-use Rattle.snap_rows.proofs.Arrives.{drop_get}
+use Rattle.snap_rows.proofs.Arrives.{arrives, drop_get}
 use Rattle.snap_rows.proofs.Lighter.{lighter, moved_weight}
 use Rattle.snap_rows.proofs.Rows.{All-get}
 use Rattle.snap_net.specs.declared.flying.Flying.{Flying}
-use Rattle.snap_net.specs.Flights.{spliced}
-use Rattle.snap_net.specs.Travels.{arrived}
+use Rattle.snap_net.specs.Travels.{Travels, stays, crosses}
 use Rattle.snap_net.specs.Shown.{Held, IsHeld, Shows, flown, moving, store_of}
 use Rattle.snap_runs.specs.declared.frames.Frames.{Frames}
 use Rattle.snap_runs.specs.declared.tally.Tally.{Tally}
-use Rattle.snap_runs.specs.Settling.{AreCopiesOf, HasNoted, steps_left_of}
+use Rattle.snap_runs.specs.Settling.{AreCopiesOf, HasGone, steps_left_of}
 use Rattle.snap_runs.specs.Tallies.{delivered_by, number_of}
 
 -- ---- numbers of packets
@@ -106,14 +104,31 @@ step-long t s s' j n hs all (step {i = k} {c = c} {m = m} {a = a} is handles) x 
     let same : happening c a ≡ x = cc in
     subst (λ y. All (λ k. length k ≡ n) (delivered_by (moving y))) same (delivered_long n c a (All-get (λ (c : Copy). length c.packet ≡ n) s.flying k c all is))
 
--- the packets that were noted stay as long as the tables' packets
-pub note-long : (f : Frames) (hops : Bool) (old new : Held) (y y' : Tally) → IsHeld old → HasNoted f hops old new y y' → All (λ k. length k ≡ comps old.tables) y.delivered.items → All (λ k. length k ≡ comps old.tables) y'.delivered.items
-note-long f hops old new y y' held noted all =
-    let P : List ℕ → Type 0 = λ k. length k ≡ comps old.tables in
-    let s = shown old in
-    let n = noted s.0 s.1 in
-    let some = step-long old.tables s.0 n.0 0 (comps old.tables) (n.1 ∷ []) (held-shown (λ c. length c.packet ≡ comps old.tables) old s.0 s.1 held.packets) n.2 n.1 refl in
-    subst (All P) (sym n.4.delivered) (All-append P y.delivered.items (delivered_by (moving n.1)) all some)
+-- ---- copies at home
+record IsHome (t : Tables) (c : Copy) : Type 0 where
+  at : c.at < switch_count t
+  home : AtHome t c.at c.head
+  long : length c.packet ≡ comps t
+
+held_home : (v : Held) → IsHeld v → (s : Net) → Shows v s → All (IsHome v.tables) s.flying
+held_home v held s shows =
+    let places = held-shown (λ c. c.at < switch_count v.tables) v s shows held.places in
+    let homes = held-shown (λ c. AtHome v.tables c.at c.head) v s shows held.homes in
+    let packets = held-shown (λ c. length c.packet ≡ comps v.tables) v s shows held.packets in
+    λ i d within. record { at = places i d within; home = homes i d within; long = packets i d within }
+
+moved_home : (t : Tables) (c : Copy) (a : Action) → IsHome t c → Arrives t c.packet a → All (IsHome t) (moved c a)
+moved_home t c (Forward to head) is arrives = All-cons (IsHome t) _ [] (record { at = arrives.0; home = arrives.1; long = is.long }) (All-nil (IsHome t))
+moved_home t c (Deliver port) is arrives = All-nil (IsHome t)
+moved_home t c (Fork copies lost) is arrives =
+    All-map (IsHome t) (λ (x : Sent). record c { head = Out x.port; packet = x.packet; steps = c.steps + 1 }) copies (λ i d within. record { at = is.at; home = (arrives i d within).port; long = (arrives i d within).long ∙ is.long })
+
+step_home : (t : Tables) → IsValid t → IsInForm t → (s s' : Net) (j : ℕ) (hs : List Happening) → All (IsHome t) s.flying → Leads t s (Step j) s' hs → All (IsHome t) s'.flying
+step_home t valid form s s' j hs all (step {i = i} {c = c} {m = m} {a = a} is handles) =
+    let h = All-get (IsHome t) s.flying i c all is in
+    let there = arrives t valid form c.at h.at c.packet (s.stores c.at) c.head m a h.home handles in
+    All-append (IsHome t) (take i s.flying) (moved c a ++ drop (i + 1) s.flying) (All-take (IsHome t) i s.flying all)
+    (All-append (IsHome t) (moved c a) (drop (i + 1) s.flying) (moved_home t c a h there) (All-drop (IsHome t) (i + 1) s.flying all))
 
 -- ---- steps that are left
 -- with each step fewer are left, wherever copies are at home
@@ -141,31 +156,35 @@ left_shown t (c ∷ cs) =
 pub left_held : (v : Held) (s : Net) → Shows v s → steps_left_of v ≡ steps_left v.tables s.flying
 left_held v s shows = ap (sum_by (λ (c : Flying). weight v.tables c.at c.head)) (sym shows.flying) ∙ left_shown v.tables s.flying
 
-pub note-lighter : (f : Frames) (hops : Bool) (old new : Held) (y y' : Tally) → new.tables ≡ old.tables → IsHeld old → HasNoted f hops old new y y' → steps_left_of new < steps_left_of old
-note-lighter f hops old new y y' same held noted =
+home_lighter : (t : Tables) → IsValid t → IsInForm t → (s s' : Net) (j : ℕ) (hs : List Happening) → All (IsHome t) s.flying → Leads t s (Step j) s' hs → steps_left t s'.flying < steps_left t s.flying
+home_lighter t valid form s s' j hs all leads = step_lighter t valid form s s' j hs (λ i d within. (all i d within).at) (λ i d within. (all i d within).home) leads
+
+-- on its way a copy stays at home, and no more steps are left
+travels_home : (t : Tables) → IsValid t → IsInForm t → (a b : Net) (gs : List Happening) → All (IsHome t) a.flying → Travels t 0 a gs b → All (IsHome t) b.flying × (steps_left t b.flying ≤ steps_left t a.flying)
+travels_home t valid form a b gs all stays = (all, omega arith)
+travels_home t valid form a b gs all (crosses {s' = m} {hs = hs} leads rest) =
+    let r = travels_home t valid form m b hs (step_home t valid form a m 0 _ all leads) rest in
+    let less = home_lighter t valid form a m 0 _ all leads in
+    let more = r.1 in
+    (r.0, omega (arith, less, more))
+
+pub gone-lighter : (f : Frames) (hops : Bool) (old new : Held) (y y' : Tally) → new.tables ≡ old.tables → IsHeld old → HasGone f hops old new y y' → steps_left_of new < steps_left_of old
+gone-lighter f hops old new y y' same held gone =
     let s = shown old in
-    let n = noted s.0 s.1 in
-    let less = step_lighter old.tables held.valid held.form s.0 n.0 0 (n.1 ∷ []) (held-shown (λ c. c.at < switch_count old.tables) old s.0 s.1 held.places) (held-shown (λ c. AtHome old.tables c.at c.head) old s.0 s.1 held.homes) n.2 in
+    let g = gone s.0 s.1 in
+    let on = travels_home old.tables held.valid held.form s.0 g.there g.crossings (held_home old held s.0 s.1) g.travels in
+    let more = on.1 in
+    let less = home_lighter old.tables held.valid held.form g.there g.state 0 (g.last ∷ []) on.0 g.leads in
     let e = left_held old s.0 s.1 in
-    let f : steps_left_of new ≡ steps_left old.tables n.0.flying = left_held new n.0 n.3 ∙ ap (λ t. steps_left t n.0.flying) same in
-    omega (arith, less, e, f)
+    let f : steps_left_of new ≡ steps_left old.tables g.state.flying = left_held new g.state g.shows ∙ ap (λ t. steps_left t g.state.flying) same in
+    omega (arith, less, more, e, f)
 
--- no more are left once the first copy is where its head sends it
-pub passed-no_heavier : (v new : Held) → ((c : Flying) → slice_get v.flying 0 ≡ Some c → new.flying ≡ spliced v.flying 0 1 (arrived v.tables c ∷ [])) → new.tables ≡ v.tables → 0 < length v.flying → steps_left_of new ≤ steps_left_of v
-passed-no_heavier v new goes same some = by v.flying some goes
-  where
-    W : Flying → ℕ
-    W c = weight v.tables c.at c.head
-
-    lighter_there : (c : Flying) (o : Option ℕ) → aim_of v.tables c.head ≡ o → weight v.tables (unwrap_or o c.at) c.head ≤ W c
-    lighter_there c None e = omega arith
-    lighter_there c (Some x) e = aim_lighter v.tables c.head x c.at e
-
-    by : (cs : List Flying) → 0 < length cs → ((c : Flying) → slice_get cs 0 ≡ Some c → new.flying ≡ spliced cs 0 1 (arrived v.tables c ∷ [])) → steps_left_of new ≤ sum_by W cs
-    by [] low stands = absurd (let z : ⊥ = omega (arith, low) in z)
-    by (c ∷ cs) low stands =
-        let here : steps_left_of new ≡ sum_by W (arrived v.tables c ∷ cs) = ap (λ t. sum_by (λ (c : Flying). weight t c.at c.head) new.flying) same ∙ ap (sum_by W) (stands c refl) in
-        let e : sum_by W (arrived v.tables c ∷ cs) ≡ W (arrived v.tables c) + sum_by W cs = sum_by-cons W (arrived v.tables c) cs in
-        let f : sum_by W (c ∷ cs) ≡ W c + sum_by W cs = sum_by-cons W c cs in
-        let less : W (arrived v.tables c) ≤ W c = lighter_there c (aim_of v.tables c.head) refl in
-        omega (arith, here, e, f, less)
+-- the packets that were noted stay as long as the tables' packets
+pub gone-long : (f : Frames) (hops : Bool) (old new : Held) (y y' : Tally) → IsHeld old → HasGone f hops old new y y' → All (λ k. length k ≡ comps old.tables) y.delivered.items → All (λ k. length k ≡ comps old.tables) y'.delivered.items
+gone-long f hops old new y y' held gone all =
+    let P : List ℕ → Type 0 = λ k. length k ≡ comps old.tables in
+    let s = shown old in
+    let g = gone s.0 s.1 in
+    let on = travels_home old.tables held.valid held.form s.0 g.there g.crossings (held_home old held s.0 s.1) g.travels in
+    let some = step-long old.tables g.there g.state 0 (comps old.tables) (g.last ∷ []) (λ i d within. (on.0 i d within).long) g.leads g.last refl in
+    subst (All P) (sym (g.noted.delivered ∙ ap (λ l. l ++ delivered_by (moving g.last)) g.passed.delivered)) (All-append P y.delivered.items (delivered_by (moving g.last)) all some)

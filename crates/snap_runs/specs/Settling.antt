@@ -49,3 +49,20 @@ HasPassed f hops old new before after = (s : Net) → Shows old s → (s' : Net)
 -- the steps that copies can still make, at most
 abbrev pub steps_left_of : Held → ℕ
 steps_left_of v = sum_by (λ (c : Flying). weight v.tables c.at c.head) v.flying
+
+-- the first copy has gone on by steps that only cross links and has then made one more, which were noted
+pub record Goes (f : Frames) (t : Tables) (hops : Bool) (s : Net) (new : Held) (before after : Tally) : Type 0 where
+  pub there : Net
+  pub crossings : List Happening
+  pub travels : Travels t 0 s crossings there
+  pub between : Tally
+  pub passed : NotesCrossings f t hops crossings before between
+  pub state : Net
+  pub last : Happening
+  pub leads : Leads t there (Step 0) state (last ∷ [])
+  pub noted : Notes f t hops last between after
+  pub shows : Shows new state
+
+-- from each state that was shown it has
+abbrev pub HasGone : Frames → Bool → (old new : Held) → (before after : Tally) → Type 0
+HasGone f hops old new before after = (s : Net) → Shows old s → Goes f old.tables hops s new before after

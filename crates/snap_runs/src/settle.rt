@@ -1,12 +1,12 @@
 //! Copies in flight come to rest, by steps of the first copy.
 
-ghost use Rattle.std.specs.Prelude.{◌≡◌, ◌<◌, ◌≤◌, [], Some, slice_get, length, IfOk, OnOk};
+ghost use Rattle.std.specs.Prelude.{◌≡◌, ◌<◌, [], true, false, Some, slice_get, length, IfOk, OnOk};
 ghost use Rattle.std.specs.List.{All};
 ghost use Rattle.snap_rows.specs.Form.{comps};
 ghost use Rattle.snap_net.specs.declared.flying.Flying.{Flying};
-ghost use Rattle.snap_net.specs.Shown.{IsHeld};
+ghost use Rattle.snap_runs.specs.declared.frames.Frames.{Frames as Kind};
 ghost use Rattle.snap_runs.specs.Crossings.{NotesWay};
-ghost use Rattle.snap_runs.specs.Settling.{HasNoted, HasPassed, HasSettled, steps_left_of};
+ghost use Rattle.snap_runs.specs.Settling.{HasGone, HasNoted, HasPassed, HasSettled};
 
 use crate::frames::Frames;
 use crate::tally::Tally;
@@ -25,53 +25,78 @@ pub fn settle(alloc: Global, net: &mut Net, hops: bool, frames: Frames) -> Resul
 {
     let mut tally = Tally::new(alloc);
     while net.flying() > 0 {
-        pass_on(net, hops, frames, &mut tally)?;
-        step_first(net, hops, frames, &mut tally)?;
+        go_on(net, hops, frames, &mut tally)?;
     }
     Ok(tally)
 }
 
-// Takes the first copy to the switch to which its head sends it, and notes its way.
-fn pass_on(net: &mut Net, hops: bool, frames: Frames, tally: &mut Tally) -> Result<(), NoMemory>
+// Makes steps of the first copy, and notes them.
+fn go_on(net: &mut Net, hops: bool, frames: Frames, tally: &mut Tally) -> Result<(), NoMemory>
     requires { 0 < length net.old.flying }
-    ensures passed { OnOk result (HasPassed frames hops net.old net.new tally.old tally.new) }
-    ensures no_heavier { OnOk result (steps_left_of net.new ≤ steps_left_of net.old) }
-    ensures held { OnOk result (IsHeld net.new) }
-    ensures delivered { tally.new.delivered.items ≡ tally.old.delivered.items }
+    ensures gone { OnOk result (HasGone frames hops net.old net.new tally.old tally.new) }
     ensures tables { net.new.tables ≡ net.old.tables }
     ensures injected { net.new.injected ≡ net.old.injected }
 {
-    note_way(net, hops, frames, tally)?;
-    net.travel(0);
-    let _known = net.tables();
+    if hops {
+        hop_on(net, frames, tally)
+    } else {
+        land(net, tally)
+    }
+}
+
+// Makes the steps of the first copy up to the first that forks or delivers it, and notes that one.
+fn land(net: &mut Net, tally: &mut Tally) -> Result<(), NoMemory>
+    requires { 0 < length net.old.flying }
+    ensures gone { OnOk result ((frames : Kind) → HasGone frames false net.old net.new tally.old tally.new) }
+    ensures tables { net.new.tables ≡ net.old.tables }
+    ensures injected { net.new.injected ≡ net.old.injected }
+{
+    let moved = net.land()?;
+    tally.note(moved)?;
     Ok(())
 }
 
-// Notes the lines of the links that the first copy crosses on its way, where hops are told.
-fn note_way(net: &Net, hops: bool, frames: Frames, tally: &mut Tally) -> Result<(), NoMemory>
+// Takes the first copy to the switch to which its head sends it and makes a step of it, and notes its hops.
+fn hop_on(net: &mut Net, frames: Frames, tally: &mut Tally) -> Result<(), NoMemory>
+    requires { 0 < length net.old.flying }
+    ensures gone { OnOk result (HasGone frames true net.old net.new tally.old tally.new) }
+    ensures tables { net.new.tables ≡ net.old.tables }
+    ensures injected { net.new.injected ≡ net.old.injected }
+{
+    pass_on(net, frames, tally)?;
+    step_first(net, frames, tally)?;
+    Ok(())
+}
+
+// Takes the first copy to the switch to which its head sends it, and notes its way.
+fn pass_on(net: &mut Net, frames: Frames, tally: &mut Tally) -> Result<(), NoMemory>
+    requires { 0 < length net.old.flying }
+    ensures passed { OnOk result (HasPassed frames true net.old net.new tally.old tally.new) }
+    ensures tables { net.new.tables ≡ net.old.tables }
+    ensures injected { net.new.injected ≡ net.old.injected }
+{
+    note_way(net, frames, tally)?;
+    net.travel(0);
+    Ok(())
+}
+
+// Notes the lines of the links that the first copy crosses on its way.
+fn note_way(net: &Net, frames: Frames, tally: &mut Tally) -> Result<(), NoMemory>
     requires { 0 < length net.now.flying }
     ensures delivered { tally.new.delivered.items ≡ tally.old.delivered.items }
     ensures lost { tally.new.lost ≡ tally.old.lost }
-    ensures hops_told { OnOk result ((c : Flying) → slice_get net.now.flying 0 ≡ Some c → NotesWay frames net.now.tables hops c tally.old.hops.items tally.new.hops.items) }
+    ensures hops_told { OnOk result ((c : Flying) → slice_get net.now.flying 0 ≡ Some c → NotesWay frames net.now.tables true c tally.old.hops.items tally.new.hops.items) }
 {
-    if !hops {
-        return Ok(());
-    }
     let tables = net.tables();
     tally.note_way(frames, tables, net.copy(0))
 }
 
 // Makes a step of the first copy, and notes it. There is such a copy, so only memory can be short.
-fn step_first(net: &mut Net, hops: bool, frames: Frames, tally: &mut Tally) -> Result<(), NoMemory>
-    ensures noted { OnOk result (HasNoted frames hops net.old net.new tally.old tally.new) }
+fn step_first(net: &mut Net, frames: Frames, tally: &mut Tally) -> Result<(), NoMemory>
+    ensures noted { OnOk result (HasNoted frames true net.old net.new tally.old tally.new) }
     ensures tables { net.new.tables ≡ net.old.tables }
     ensures injected { net.new.injected ≡ net.old.injected }
 {
-    if hops {
-        let happened = net.step(0).map_err(|_| NoMemory)?;
-        tally.note_hop(frames, &net.tables().tables().switches, happened)
-    } else {
-        let moved = net.advance(0).map_err(|_| NoMemory)?;
-        tally.note(moved)
-    }
+    let happened = net.step(0).map_err(|_| NoMemory)?;
+    tally.note_hop(frames, &net.tables().tables().switches, happened)
 }
