@@ -6,5 +6,3 @@ pub mod equal;
 pub mod node;
 pub mod nodes;
 pub mod numbers;
-#[cfg(test)]
-mod tests;

@@ -22,8 +22,6 @@ mod routes;
 mod schedule;
 pub mod spot;
 pub mod tables;
-#[cfg(test)]
-mod tests;
 mod text;
 pub mod top;
 pub mod topology;

@@ -14,5 +14,3 @@ mod rooted;
 pub mod sets;
 mod settled;
 mod terms;
-#[cfg(test)]
-mod tests;

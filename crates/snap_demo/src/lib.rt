@@ -9,6 +9,4 @@ mod program;
 mod run;
 mod serial;
 pub mod summary;
-#[cfg(test)]
-mod tests;
 mod text;

@@ -13,6 +13,4 @@ pub mod laws;
 mod order;
 mod pairs;
 mod relation;
-#[cfg(test)]
-mod tests;
 mod uses;

@@ -11,5 +11,3 @@ mod stop;
 mod stores;
 mod tally;
 mod terms;
-#[cfg(test)]
-mod tests;

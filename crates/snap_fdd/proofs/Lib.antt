@@ -1,6 +1,5 @@
 pub mod Differ
 pub mod Shared
-pub mod Walkable
 pub mod Compared
 pub mod Comparing
 pub mod Picking

@@ -13,6 +13,4 @@ mod spots;
 mod subject;
 mod survey;
 mod tested;
-#[cfg(test)]
-mod tests;
 pub mod walking;

@@ -8,5 +8,3 @@ pub mod in_turn;
 pub mod leaves;
 pub mod numbering;
 pub mod planned;
-#[cfg(test)]
-mod tests;

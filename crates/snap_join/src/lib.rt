@@ -5,5 +5,3 @@ pub mod choosing;
 pub mod joining;
 pub mod leaves;
 pub mod negating;
-#[cfg(test)]
-mod tests;

@@ -3,5 +3,3 @@
 
 pub mod ask;
 pub mod example;
-#[cfg(test)]
-mod tests;

@@ -6,6 +6,4 @@ pub mod later;
 pub mod laws;
 mod mover;
 pub mod shape;
-#[cfg(test)]
-mod tests;
 pub mod trace;

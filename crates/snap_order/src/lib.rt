@@ -14,12 +14,8 @@ mod play;
 pub mod round;
 pub mod schedule;
 mod team;
-#[cfg(test)]
-mod tests;
 pub mod trace;
 pub mod turned;
 mod turns;
 mod weave;
-#[cfg(test)]
-mod worker_tests;
 pub mod workers;

@@ -11,6 +11,3 @@ mod together;
 
 pub use printing::print;
 pub use reading::read;
-
-#[cfg(test)]
-mod tests;

@@ -7,5 +7,3 @@ mod hops;
 mod rows;
 mod search;
 pub mod table;
-#[cfg(test)]
-mod tests;

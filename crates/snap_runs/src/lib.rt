@@ -11,7 +11,5 @@ pub mod schedule;
 pub mod settle;
 pub mod tail;
 pub mod tally;
-#[cfg(test)]
-mod tests;
 pub mod trace;
 pub mod tracer;

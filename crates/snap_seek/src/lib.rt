@@ -15,6 +15,3 @@ mod trips;
 
 pub use reading::read_demand;
 pub use search::seek;
-
-#[cfg(test)]
-mod tests;

@@ -24,6 +24,4 @@ mod scan;
 pub mod shared;
 pub mod shared_rows;
 mod taken;
-#[cfg(test)]
-mod tests;
 mod words;

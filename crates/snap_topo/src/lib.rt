@@ -9,6 +9,3 @@ mod resolve;
 pub mod topology;
 
 pub use reading::read;
-
-#[cfg(test)]
-mod tests;

@@ -1,0 +1,2 @@
+pub mod Walkable
+pub mod Asked

@@ -1,0 +1,23 @@
+//! Tests of contexts, and of the diagrams of programs.
+#![tactic(auto)]
+
+#[cfg(test)]
+mod agreement;
+#[cfg(test)]
+mod given;
+#[cfg(test)]
+mod of_arena;
+#[cfg(test)]
+mod of_build;
+#[cfg(test)]
+mod of_chain;
+#[cfg(test)]
+mod of_ctx;
+#[cfg(test)]
+mod of_equal;
+#[cfg(test)]
+mod of_fdd;
+#[cfg(test)]
+mod of_join;
+#[cfg(test)]
+mod of_model;
