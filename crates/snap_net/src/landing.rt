@@ -15,7 +15,7 @@ use crate::moves::{deliver, spread};
 use snap_core::NoMemory;
 use snap_core::packet::Packet;
 use snap_core::store::Store;
-use snap_rows::handle::handle;
+use snap_rows::handle::step;
 use snap_rows::head::{Action, Head};
 use snap_rows::valid::Valid;
 use std::alloc::Global;
@@ -40,9 +40,9 @@ fn arrival(tables: &Valid, at: u16, head: Head) -> u16
     tables.aim(head).unwrap_or(at)
 }
 
-// Makes the step of a copy at a switch.
+/// Makes the step of a copy at a switch.
 #[inline(always)]
-fn step_at(
+pub(crate) fn step_at(
     alloc: Global,
     tables: &Valid,
     stores: &mut Vec<Store>,
@@ -58,7 +58,7 @@ fn step_at(
     ensures home { IfOk result (Arrives tables.now packet.now) }
     ensures count { length stores.new.items ≡ length stores.old.items }
 {
-    handle(alloc, tables, at, &mut stores[at as usize], packet, head)
+    step(alloc, tables, at, &mut stores[at as usize], packet, head)
 }
 
 /// Makes the steps of a copy up to the first that forks or delivers it. The stores change, and where the copy is then

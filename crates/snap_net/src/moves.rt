@@ -248,6 +248,29 @@ pub(crate) fn spread(
     }
 }
 
+/// Puts what becomes of copy k in its place.
+pub(crate) fn move_on(flying: &mut Flights, k: usize, action: Action) -> Result<Moved, NoMemory>
+    requires { k < length flying.old }
+    ensures ok { IfOk result (HasMoved flying.old k action flying.new) }
+    ensures err { OnErr result (flying.new ≡ flying.old) }
+{
+    match action {
+        Action::Forward { to, head } => Ok(forward(flying, k, to, head)),
+        Action::Deliver { port } => Ok(deliver(flying, k, port)),
+        Action::Fork { copies, lost } => {
+            let at = flying.get(k).at;
+            let copies = copies.into_items();
+            let count = copies.len() as u64;
+            let gone = spread(flying, k, at, copies)?;
+            Ok(Moved::Forked {
+                owner: gone.number,
+                copies: count,
+                lost,
+            })
+        }
+    }
+}
+
 /// Does the plan of copy k's step.
 #[inline(always)]
 pub(crate) fn carry_out(

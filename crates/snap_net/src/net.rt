@@ -21,9 +21,9 @@ use crate::fill::filled_stores;
 use crate::flights::Flights;
 use crate::flying::Flying;
 use crate::happened::{Happened, Moved};
-use crate::landing::{fly, put_down};
+use crate::landing::{fly, put_down, step_at};
 use crate::listing::{append, listing_at, listings, of_array, total};
-use crate::moves::{carry_out, frame_of, framed};
+use crate::moves::{carry_out, frame_of, framed, move_on};
 use crate::parts::Parts;
 use snap_core::NoMemory;
 use snap_core::packet::Packet;
@@ -312,7 +312,32 @@ impl Net {
         Ok(moved)
     }
 
-    /// The same with the frame that crosses a link.
+    /// The same with no copies of updates. Where memory is short only the tables and the count of packets are sure to stay:
+    /// the copy may be in the midst of its updates.
+    pub fn advance_in_place(&mut self, k: usize) -> Result<Moved, StepFault>
+        ensures done { IfOk result (λ moved. IsDone self.old (Step k) self.new (TellsMoved moved)) }
+        ensures tables { self.new.tables ≡ self.old.tables }
+        ensures injected { self.new.injected ≡ self.old.injected }
+        ensures copy { IfErr result (λ fault. fault ≡ StepFault.NoCopy → length self.old.flying ≤ k) }
+        ensures has_copy { length self.old.flying ≤ k → IfErr result (λ fault. fault ≡ StepFault.NoCopy) }
+    {
+        if k >= self.flying.count() {
+            return Err(StepFault::NoCopy);
+        }
+        let copy = self.flying.get(k);
+        let action = step_at(
+            self.alloc,
+            &self.tables,
+            &mut self.stores,
+            copy.at,
+            &copy.packet,
+            copy.head,
+        )?;
+        let moved = move_on(&mut self.flying, k, action)?;
+        Ok(moved)
+    }
+
+    /// `advance` with the frame that crosses a link.
     pub fn step(&mut self, k: usize) -> Result<Happened, StepFault>
         ensures done { IfOk result (λ happened. IsDone self.old (Step k) self.new (Tells happened)) }
         ensures tables { self.new.tables ≡ self.old.tables }

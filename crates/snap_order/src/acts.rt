@@ -13,6 +13,7 @@ use snap_net::flying::Flying;
 use snap_net::happened::{Frame, Happened};
 use snap_net::moves::framed;
 use snap_net::net::Net;
+use snap_rows::dues::Dues;
 use snap_rows::head::{Action, Head};
 use snap_rows::plan::{Plan, plan_step};
 use std::alloc::Global;
@@ -52,7 +53,7 @@ pub(crate) fn turns_at(
     let tables = net.tables();
     let copy = net.copy(k);
     let store = net.store(copy.at);
-    let none = Vec::new(alloc);
+    let none = Dues::new(alloc);
     take_turns(
         alloc,
         tables,

@@ -21,6 +21,7 @@ use snap_core::store::Store;
 use snap_net::flying::Flying;
 use snap_net::happened::{Happened, Moved};
 use snap_net::moves::framed;
+use snap_rows::dues::Dues;
 use snap_rows::head::{Action, Head, Sent};
 use snap_rows::lists::Updates;
 use snap_rows::plan::{Plan, plan_step};
@@ -246,7 +247,7 @@ fn visit_here(
         counts,
         due.rank,
         due.node,
-        Vec::new(alloc),
+        Dues::new(alloc),
     )?;
     let behind = turns.behind;
     let stepped = turn_here(alloc, store, copy, turns)?;

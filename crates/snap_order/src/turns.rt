@@ -14,9 +14,9 @@ ghost use Rattle.snap_order.specs.Turning.{IsDue, IsNotDue, MakesTurns};
 use crate::counts::handled;
 use snap_core::NoMemory;
 use snap_core::packet::Packet;
-use snap_core::policy::Update;
 use snap_core::store::Store;
 use snap_net::flying::Flying;
+use snap_rows::dues::Dues;
 use snap_rows::fork::fork;
 use snap_rows::head::{Action, Head};
 use snap_rows::lists::Updates;
@@ -84,11 +84,11 @@ pub(crate) fn visit_due(tables: &Valid, copy: &Flying) -> Option<Due>
     }
 }
 
-/// The visits of packet `number` that are in turn, from one of `rank` on; their updates are put behind those before. All
-/// read the store as it was, since none reads what one of lesser rank changes.
-pub(crate) fn take_turns(
+/// The visits of packet `number` that are in turn, from one of `rank` on; their updates are put behind those before, and all
+/// are copied at the end. They read the store as it was, since none reads what one of lesser rank changes.
+pub(crate) fn take_turns<'a>(
     alloc: Global,
-    tables: &Valid,
+    tables: &'a Valid,
     at: u16,
     store: &Store,
     packet: &Packet,
@@ -96,16 +96,16 @@ pub(crate) fn take_turns(
     counts: &[u64],
     rank: u16,
     node: u64,
-    before: Vec<Update>,
+    before: Dues<'a>,
 ) -> Result<Turns, NoMemory>
     requires version { tables.now.version ≡ 2 }
     requires packet { length packet.now ≡ comps tables.now }
     requires home { AtHome tables.now at (Head.Visit rank node) }
     requires form { IsInForm tables.now }
     requires valid { IsValid tables.now }
-    requires below { AllByRecursion (λ (u : Update). rank_of tables.now u.var < rank) before.items }
-    requires reads { All (UpdateReads (length packet.now)) before.items }
-    ensures { IfOk result (MakesTurns tables.now at packet.now number (arrays_of store.now) counts.now rank node before.items) }
+    requires below { AllByRecursion (λ (u : Update). rank_of tables.now u.var < rank) before }
+    requires reads { All (UpdateReads (length packet.now)) before }
+    ensures { IfOk result (MakesTurns tables.now at packet.now number (arrays_of store.now) counts.now rank node before.entry) }
 {
     let owner = match tables.rank_at(rank) {
         Some(owner) => owner,
@@ -118,14 +118,14 @@ pub(crate) fn take_turns(
             head: Head::Visit { rank, node },
         };
         return Ok(Turns {
-            ups: Updates::new(before),
+            ups: before.copies(alloc)?,
             behind: rank,
             outcome: Outcome::Moves { action },
         });
     }
     if handled(counts, rank) != number {
         return Ok(Turns {
-            ups: Updates::new(before),
+            ups: before.copies(alloc)?,
             behind: rank,
             outcome: Outcome::Stays { rank, node },
         });
@@ -135,7 +135,7 @@ pub(crate) fn take_turns(
     if rank + 1 == tables.ranks() {
         let action = fork(alloc, tables, at, packet, next)?;
         return Ok(Turns {
-            ups: Updates::new(ups),
+            ups: ups.copies(alloc)?,
             behind: rank + 1,
             outcome: Outcome::Moves { action },
         });

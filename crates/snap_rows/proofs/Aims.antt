@@ -8,7 +8,7 @@ use Rattle.snap_rows.specs.declared.head.Head.{Head}
 use Rattle.snap_rows.specs.declared.head.Head.TheVariants.{Walk, Stage, Out, Visit}
 use Rattle.snap_rows.specs.declared.head.Action.TheVariants.{Forward}
 use Rattle.snap_rows.specs.Aims.{aim_of}
-use Rattle.snap_rows.specs.Bound.{distance, hops_within, left, longest, to_switch}
+use Rattle.snap_rows.specs.Bound.{hops_within, left, longest, to_switch}
 use Rattle.snap_rows.specs.Entries.{next, ranks}
 use Rattle.snap_rows.specs.Form.{IsInForm, switch_count}
 use Rattle.snap_rows.specs.Handles.{Handles, carries, seeks}

@@ -28,3 +28,4 @@ pub mod OneWay
 pub mod Ending
 pub mod Lighter
 pub mod Aims
+pub mod Lent

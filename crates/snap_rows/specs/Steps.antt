@@ -69,6 +69,10 @@ HasLast t w n = (us : List Update) × (os : List Parts) × (row_at t w n ≡ Som
 abbrev pub ForksAt : Tables → ℕ → List ℕ → ℕ → Action → Type 0
 ForksAt t w k n a = (us : List Update) × (os : List Parts) × (row_at t w n ≡ Some (Last us os)) × (a ≡ forked t os k)
 
+-- these updates, and what becomes of the copy
+abbrev pub plan_of : List Update → Action → Plan
+plan_of us a = record { ups = us; action = a }
+
 -- what a plan does, by the arrays m of the switch
 pub record Does (t : Tables) (w : ℕ) (k : List ℕ) (m : Arrays) (h : Head) (p : Plan) : Type 0 where
   pub handles : Handles t w k m h (updates m p.ups k) p.action

@@ -1,6 +1,6 @@
 //! What one step does, worked out before anything is changed.
 
-ghost use Rattle.std.specs.Prelude.{◌≡◌, ◌<◌, ℕ, List, [], IfOk, IsSome, Some, length};
+ghost use Rattle.std.specs.Prelude.{◌≡◌, ◌<◌, ◌++◌, ℕ, List, [], IfOk, OnOk, IsSome, Some, length};
 ghost use Rattle.snap_core.specs.Arrays.{Arrays};
 ghost use Rattle.snap_core.specs.Cells.{arrays_of};
 ghost use Rattle.snap_rows.specs.declared.tables.Row.TheVariants.{Leaf};
@@ -8,8 +8,9 @@ ghost use Rattle.snap_rows.specs.Entries.{row_at, rank_at};
 ghost use Rattle.snap_rows.specs.Form.{IsInForm, comps, switch_count};
 ghost use Rattle.snap_rows.specs.Handles.{Handles};
 ghost use Rattle.snap_rows.specs.Home.{AtHome};
-ghost use Rattle.snap_rows.specs.Steps.{IsGoOrLeaf, Does};
+ghost use Rattle.snap_rows.specs.Steps.{IsGoOrLeaf, Does, plan_of};
 
+use crate::dues::Dues;
 use crate::fork::{fork, fork_by};
 use crate::head::{Action, Head};
 use crate::lists::Updates;
@@ -31,27 +32,14 @@ pub struct Plan {
     pub action: Action,
 }
 
-// A plan without updates.
-fn bare(alloc: Global, action: Action) -> Plan
-    ensures ups { result.ups ≡ [] }
-    ensures action { result.action ≡ action }
+// Lends updates behind others.
+fn lend<'a>(lent: &'a [Update], ups: &mut Dues<'a>) -> Result<(), NoMemory>
+    ensures { OnOk result (ups.new ≡ ups.old ++ lent.now) }
 {
-    let none = Vec::new(alloc);
-    Plan {
-        ups: Updates::new(none),
-        action,
+    for update in lent {
+        ups.push(update)?;
     }
-}
-
-// Copies of updates.
-fn copies(alloc: Global, ups: &[Update]) -> Result<Updates, NoMemory>
-    ensures { IfOk result (λ copies. copies ≡ ups.now) }
-{
-    let mut copies = Vec::with_capacity(alloc, ups.len())?;
-    for update in ups {
-        copies.push(update.copy()?)?;
-    }
-    Ok(Updates::new(copies))
+    Ok(())
 }
 
 // A copy on its way to a port.
@@ -75,17 +63,19 @@ fn to_port(tables: &Valid, at: u16, port: u32) -> Action
 }
 
 // A copy at a stage of a leaf.
-fn at_stage(
+fn at_stage<'a>(
     alloc: Global,
-    tables: &Valid,
+    tables: &'a Valid,
     at: u16,
     packet: &Packet,
     leaf: u64,
     stage: u16,
-) -> Result<Plan, NoMemory>
+    ups: &mut Dues<'a>,
+) -> Result<Action, NoMemory>
     requires packet { length packet.now ≡ comps tables.now }
     requires home { AtHome tables.now at (Head.Stage leaf stage) }
-    ensures { IfOk result (λ p. (m : Arrays) → Does tables.now at packet.now m (Head.Stage leaf stage) p) }
+    requires none { ups.old ≡ [] }
+    ensures { IfOk result (λ action. (m : Arrays) → Does tables.now at packet.now m (Head.Stage leaf stage) (plan_of ups.new action)) }
 {
     match tables.row(at, leaf) {
         Some(Row::Leaf { stages, outs }) => staged(
@@ -97,27 +87,30 @@ fn at_stage(
             stage,
             stages.items(),
             outs.items(),
+            ups,
         ),
         _ => unreachable!(),
     }
 }
 
 // A copy at a stage of a leaf with these stages and outs.
-fn staged(
+fn staged<'a>(
     alloc: Global,
-    tables: &Valid,
+    tables: &'a Valid,
     at: u16,
     packet: &Packet,
     leaf: u64,
     stage: u16,
-    stages: &[Stage],
+    stages: &'a [Stage],
     outs: &[Out],
-) -> Result<Plan, NoMemory>
+    ups: &mut Dues<'a>,
+) -> Result<Action, NoMemory>
     requires packet { length packet.now ≡ comps tables.now }
     requires form { IsInForm tables.now }
     requires row { row_at tables.now at leaf ≡ Some (Leaf stages.now outs.now) }
     requires more { stage < length stages.now }
-    ensures { IfOk result (λ p. (m : Arrays) → Does tables.now at packet.now m (Head.Stage leaf stage) p) }
+    requires none { ups.old ≡ [] }
+    ensures { IfOk result (λ action. (m : Arrays) → Does tables.now at packet.now m (Head.Stage leaf stage) (plan_of ups.new action)) }
 {
     let here = &stages[stage as usize];
     if here.at != at {
@@ -125,9 +118,9 @@ fn staged(
             to: tables.next(at, here.at),
             head: Head::Stage { leaf, stage },
         };
-        return Ok(bare(alloc, action));
+        return Ok(action);
     }
-    let ups = copies(alloc, here.ups.items())?;
+    lend(here.ups.items(), ups)?;
     if stage as usize + 1 < stages.len() {
         let then = &stages[stage as usize + 1];
         let action = Action::Forward {
@@ -137,64 +130,68 @@ fn staged(
                 stage: stage + 1,
             },
         };
-        return Ok(Plan { ups, action });
+        return Ok(action);
     }
-    let action = fork_by(alloc, tables, outs, packet)?;
-    Ok(Plan { ups, action })
+    fork_by(alloc, tables, outs, packet)
 }
 
 // A copy that walked to a leaf with these stages and outs.
-fn leafed(
+fn leafed<'a>(
     alloc: Global,
-    tables: &Valid,
+    tables: &'a Valid,
     at: u16,
     packet: &Packet,
     leaf: u64,
-    stages: &[Stage],
+    stages: &'a [Stage],
     outs: &[Out],
-) -> Result<Plan, NoMemory>
+    ups: &mut Dues<'a>,
+) -> Result<Action, NoMemory>
     requires packet { length packet.now ≡ comps tables.now }
     requires form { IsInForm tables.now }
     requires row { row_at tables.now at leaf ≡ Some (Leaf stages.now outs.now) }
-    ensures { IfOk result (λ p. (m : Arrays) → Does tables.now at packet.now m (Head.Walk leaf) p) }
+    requires none { ups.old ≡ [] }
+    ensures { IfOk result (λ action. (m : Arrays) → Does tables.now at packet.now m (Head.Walk leaf) (plan_of ups.new action)) }
 {
     if stages.len() == 0 {
-        let action = fork_by(alloc, tables, outs, packet)?;
-        return Ok(bare(alloc, action));
+        return fork_by(alloc, tables, outs, packet);
     }
-    staged(alloc, tables, at, packet, leaf, 0, stages, outs)
+    staged(alloc, tables, at, packet, leaf, 0, stages, outs, ups)
 }
 
 // A walk in version 1.
-fn walk_one(
+fn walk_one<'a>(
     alloc: Global,
-    tables: &Valid,
+    tables: &'a Valid,
     at: u16,
     store: &Store,
     packet: &Packet,
     node: u64,
-) -> Result<Plan, NoMemory>
+    ups: &mut Dues<'a>,
+) -> Result<Action, NoMemory>
     requires version { tables.now.version ≡ 1 }
     requires packet { length packet.now ≡ comps tables.now }
     requires row { IsSome (row_at tables.now at node) }
-    ensures { IfOk result (Does tables.now at packet.now (arrays_of store.now) (Head.Walk node)) }
+    requires none { ups.old ≡ [] }
+    ensures { IfOk result (λ action. Does tables.now at packet.now (arrays_of store.now) (Head.Walk node) (plan_of ups.new action)) }
 {
     let _known = tables.tables();
     let number = walk(alloc, tables, at, store, packet, node)?;
-    decided(alloc, tables, at, packet, number)
+    decided(alloc, tables, at, packet, number, ups)
 }
 
 // A copy that walked to a number that asks nothing here.
-fn decided(
+fn decided<'a>(
     alloc: Global,
-    tables: &Valid,
+    tables: &'a Valid,
     at: u16,
     packet: &Packet,
     number: u64,
-) -> Result<Plan, NoMemory>
+    ups: &mut Dues<'a>,
+) -> Result<Action, NoMemory>
     requires packet { length packet.now ≡ comps tables.now }
     requires row { IsGoOrLeaf (row_at tables.now at number) }
-    ensures { IfOk result (λ p. (m : Arrays) → Does tables.now at packet.now m (Head.Walk number) p) }
+    requires none { ups.old ≡ [] }
+    ensures { IfOk result (λ action. (m : Arrays) → Does tables.now at packet.now m (Head.Walk number) (plan_of ups.new action)) }
 {
     match tables.row(at, number) {
         Some(Row::Go { to }) => {
@@ -202,7 +199,7 @@ fn decided(
                 to: tables.next(at, *to),
                 head: Head::Walk { node: number },
             };
-            Ok(bare(alloc, action))
+            Ok(action)
         }
         Some(Row::Leaf { stages, outs }) => {
             leafed(
@@ -213,6 +210,7 @@ fn decided(
                 number,
                 stages.items(),
                 outs.items(),
+                ups,
             )
         }
         _ => unreachable!(),
@@ -230,76 +228,101 @@ fn owner_of_rank(tables: &Valid, rank: u16) -> u16
     }
 }
 
-// What is done from a visit on: the updates of all visits of the step, and what becomes of the copy. All visits read the
-// store as it was, since none reads what one of lesser rank changes.
-fn visits(
+// What becomes of a copy from a visit on. The updates of all visits of the step are lent. All visits read the store as it
+// was, since none reads what one of lesser rank changes.
+fn visits<'a>(
     alloc: Global,
-    tables: &Valid,
+    tables: &'a Valid,
     at: u16,
     store: &Store,
     packet: &Packet,
     rank: u16,
     node: u64,
-) -> Result<Plan, NoMemory>
+    ups: &mut Dues<'a>,
+) -> Result<Action, NoMemory>
     requires packet { length packet.now ≡ comps tables.now }
     requires home { AtHome tables.now at (Head.Visit rank node) }
-    ensures { IfOk result (Does tables.now at packet.now (arrays_of store.now) (Head.Visit rank node)) }
+    requires none { ups.old ≡ [] }
+    ensures { IfOk result (λ action. Does tables.now at packet.now (arrays_of store.now) (Head.Visit rank node) (plan_of ups.new action)) }
 {
     let _known = tables.tables();
-    let mut ups = Vec::new(alloc);
     let mut due = rank;
     let mut number = node;
     let mut owner = owner_of_rank(tables, rank);
     while owner == at {
-        number = visit(alloc, tables, at, store, packet, due, number, &mut ups)?;
+        number = visit(alloc, tables, at, store, packet, due, number, ups)?;
         due += 1;
         if due == tables.ranks() {
-            let action = fork(alloc, tables, at, packet, number)?;
-            return Ok(Plan {
-                ups: Updates::new(ups),
-                action,
-            });
+            return fork(alloc, tables, at, packet, number);
         }
         owner = owner_of_rank(tables, due);
     }
-    let action = Action::Forward {
+    Ok(Action::Forward {
         to: tables.next(at, owner),
         head: Head::Visit {
             rank: due,
             node: number,
         },
-    };
-    Ok(Plan {
-        ups: Updates::new(ups),
-        action,
     })
 }
 
 // A walk in version 2.
-fn walk_two(
+fn walk_two<'a>(
     alloc: Global,
-    tables: &Valid,
+    tables: &'a Valid,
     at: u16,
     store: &Store,
     packet: &Packet,
     node: u64,
-) -> Result<Plan, NoMemory>
+    ups: &mut Dues<'a>,
+) -> Result<Action, NoMemory>
     requires version { tables.now.version ≡ 2 }
     requires packet { length packet.now ≡ comps tables.now }
     requires row { IsSome (row_at tables.now at node) }
-    ensures { IfOk result (Does tables.now at packet.now (arrays_of store.now) (Head.Walk node)) }
+    requires none { ups.old ≡ [] }
+    ensures { IfOk result (λ action. Does tables.now at packet.now (arrays_of store.now) (Head.Walk node) (plan_of ups.new action)) }
 {
     let _known = tables.tables();
     let number = enter(tables, at, packet, node);
     if tables.ranks() == 0 {
-        let action = fork(alloc, tables, at, packet, number)?;
-        return Ok(bare(alloc, action));
+        return fork(alloc, tables, at, packet, number);
     }
-    visits(alloc, tables, at, store, packet, 0, number)
+    visits(alloc, tables, at, store, packet, 0, number, ups)
 }
 
-/// What one step does, by a store that stays as it is. All memory that the step wants is taken here, but that of the
-/// updates themselves.
+/// What one step does, by a store that stays as it is: answers what becomes of the copy, and lends the updates to a list
+/// that is empty before. All memory that the step wants is taken here, but that of the updates themselves.
+#[inline(always)]
+pub fn lend_step<'a>(
+    alloc: Global,
+    tables: &'a Valid,
+    at: u16,
+    store: &Store,
+    packet: &Packet,
+    head: Head,
+    ups: &mut Dues<'a>,
+) -> Result<Action, NoMemory>
+    requires at { at < switch_count tables.now }
+    requires packet { length packet.now ≡ comps tables.now }
+    requires home { AtHome tables.now at head }
+    requires none { ups.old ≡ [] }
+    ensures does { IfOk result (λ action. Does tables.now at packet.now (arrays_of store.now) head (plan_of ups.new action)) }
+{
+    match head {
+        Head::Walk { node } => {
+            if tables.tables().version == 1 {
+                walk_one(alloc, tables, at, store, packet, node, ups)
+            } else {
+                walk_two(alloc, tables, at, store, packet, node, ups)
+            }
+        }
+        Head::Stage { leaf, stage } => at_stage(alloc, tables, at, packet, leaf, stage, ups),
+        Head::Out { port } => Ok(to_port(tables, at, port)),
+        Head::Visit { rank, node } => visits(alloc, tables, at, store, packet, rank, node, ups),
+    }
+}
+
+/// The same as a plan, with copies of the updates.
 #[inline(always)]
 pub fn plan_step(
     alloc: Global,
@@ -314,16 +337,8 @@ pub fn plan_step(
     requires home { AtHome tables.now at head }
     ensures does { IfOk result (Does tables.now at packet.now (arrays_of store.now) head) }
 {
-    match head {
-        Head::Walk { node } => {
-            if tables.tables().version == 1 {
-                walk_one(alloc, tables, at, store, packet, node)
-            } else {
-                walk_two(alloc, tables, at, store, packet, node)
-            }
-        }
-        Head::Stage { leaf, stage } => at_stage(alloc, tables, at, packet, leaf, stage),
-        Head::Out { port } => Ok(bare(alloc, to_port(tables, at, port))),
-        Head::Visit { rank, node } => visits(alloc, tables, at, store, packet, rank, node),
-    }
+    let mut ups = Dues::new(alloc);
+    let action = lend_step(alloc, tables, at, store, packet, head, &mut ups)?;
+    let ups = ups.copies(alloc)?;
+    Ok(Plan { ups, action })
 }

@@ -1,6 +1,6 @@
 //! Visits: what the owner of a rank does for a packet.
 
-ghost use Rattle.std.specs.Prelude.{◌≡◌, ◌++◌, ◌==◌, ◌∷◌, [], List, Some, IfOk, OnOk, OnErr, filter, length};
+ghost use Rattle.std.specs.Prelude.{◌≡◌, ◌++◌, ◌==◌, List, Some, IfOk, OnOk, OnErr, filter, length};
 ghost use Rattle.snap_core.specs.declared.policy.Update.{Update};
 ghost use Rattle.snap_core.specs.Cells.{arrays_of};
 ghost use Rattle.snap_rows.specs.Entries.{Parts, rank_at, rank_of};
@@ -9,6 +9,7 @@ ghost use Rattle.snap_rows.specs.Home.{AtHome};
 ghost use Rattle.snap_rows.specs.Steps.{AppendsVisit, IsLast, IsVisitedAt};
 ghost use Rattle.snap_rows.specs.declared.tables.Row.TheVariants.{Last};
 
+use crate::dues::Dues;
 use crate::head::Head;
 use crate::tables::Row;
 use crate::valid::Valid;
@@ -19,30 +20,20 @@ use snap_core::policy::Update;
 use snap_core::store::Store;
 use std::alloc::Global;
 
-// Puts a copy of an update behind others.
-fn push_copy(ups: &mut Vec<Update>, update: &Update) -> Result<(), NoMemory>
-    ensures ok { OnOk result (ups.new.items ≡ ups.old.items ++ update.now ∷ []) }
-    ensures err { OnErr result (ups.new.items ≡ ups.old.items) }
-{
-    let copy = update.copy()?;
-    ups.push(copy)?;
-    Ok(())
-}
-
-// Puts copies of a leaf's updates of arrays of one rank behind others.
-fn push_ranked(
+// Puts a leaf's updates of arrays of one rank behind others.
+fn push_ranked<'a>(
     tables: &Valid,
-    leaf: &[Update],
+    leaf: &'a [Update],
     rank: u16,
-    ups: &mut Vec<Update>,
+    ups: &mut Dues<'a>,
 ) -> Result<(), NoMemory>
-    ensures ok { OnOk result (ups.new.items ≡ ups.old.items ++ filter (λ (u : Update). rank_of tables.now u.var == rank) leaf.now) }
-    ensures err { OnErr result (ups.new.items ≡ ups.old.items) }
+    ensures ok { OnOk result (ups.new ≡ ups.old ++ filter (λ (u : Update). rank_of tables.now u.var == rank) leaf.now) }
+    ensures err { OnErr result (ups.new ≡ ups.old) }
 {
     let before = ups.len();
     for update in leaf {
         if tables.rank(update.var) == rank {
-            if let Err(fault) = push_copy(ups, update) {
+            if let Err(fault) = ups.push(update) {
                 ups.truncate(before);
                 return Err(fault);
             }
@@ -63,21 +54,21 @@ fn last_updates(leaf: &Row) -> &[Update]
 }
 
 // Makes a visit at a number from which the rank can be visited.
-fn visit_from(
+fn visit_from<'a>(
     alloc: Global,
-    tables: &Valid,
+    tables: &'a Valid,
     at: u16,
     store: &Store,
     packet: &Packet,
     rank: u16,
     node: u64,
-    ups: &mut Vec<Update>,
+    ups: &mut Dues<'a>,
 ) -> Result<u64, NoMemory>
     requires version { tables.now.version ≡ 2 }
     requires packet { length packet.now ≡ comps tables.now }
     requires home { IsVisitedAt tables.now at rank node }
-    ensures visit { IfOk result (λ v. AppendsVisit tables.now at packet.now (arrays_of store.now) rank node v ups.old.items ups.new.items) }
-    ensures memory { OnErr result (ups.new.items ≡ ups.old.items) }
+    ensures visit { IfOk result (λ v. AppendsVisit tables.now at packet.now (arrays_of store.now) rank node v ups.old ups.new) }
+    ensures memory { OnErr result (ups.new ≡ ups.old) }
 {
     let _known = tables.tables();
     let (number, row) = walk_ranked(alloc, tables, at, store, packet, rank, node)?;
@@ -86,22 +77,22 @@ fn visit_from(
     Ok(number)
 }
 
-/// Makes a visit: answers its number and appends its updates.
-pub fn visit(
+/// Makes a visit: answers its number and lends its updates, behind those before.
+pub fn visit<'a>(
     alloc: Global,
-    tables: &Valid,
+    tables: &'a Valid,
     at: u16,
     store: &Store,
     packet: &Packet,
     rank: u16,
     node: u64,
-    ups: &mut Vec<Update>,
+    ups: &mut Dues<'a>,
 ) -> Result<u64, NoMemory>
     requires packet { length packet.now ≡ comps tables.now }
     requires owner { rank_at tables.now rank ≡ Some at }
     requires home { AtHome tables.now at (Head.Visit rank node) }
-    ensures visit { IfOk result (λ v. AppendsVisit tables.now at packet.now (arrays_of store.now) rank node v ups.old.items ups.new.items) }
-    ensures memory { OnErr result (ups.new.items ≡ ups.old.items) }
+    ensures visit { IfOk result (λ v. AppendsVisit tables.now at packet.now (arrays_of store.now) rank node v ups.old ups.new) }
+    ensures memory { OnErr result (ups.new ≡ ups.old) }
 {
     visit_from(alloc, tables, at, store, packet, rank, node, ups)
 }

@@ -36,7 +36,7 @@ pub count-requires-clause-order : goal.count-requires-clause-order
 count-requires-clause-order c =
     let x = c.args.copy in
     let d = c.args.due in
-    turns_order c.args.tables.now x.at x.packet x.number (arrays_of c.args.store.now) c.deref-2.result.now d.rank d.node c.new.result.items c.in_ok-turns.turns c.in_ok-turns.ensures
+    turns_order c.args.tables.now x.at x.packet x.number (arrays_of c.args.store.now) c.deref-2.result.now d.rank d.node c.new.result c.in_ok-turns.turns c.in_ok-turns.ensures
 
 pub returns : goal.returns
 returns c =
@@ -51,7 +51,7 @@ returns c =
     let s = c.in_ok-stepped.stepped in
     let two = two_of t c.requires.tables in
     let home = due_home two c.requires.place.home (c.requires.due.comes old) c.requires.due.owner in
-    let made1 = subst (λ b. MakesTurns t x.at x.packet x.number (arrays_of c.args.store.now) c.deref-2.result.now d.rank d.node b o) c.new.ensures.items c.in_ok-turns.ensures in
+    let made1 = subst (λ b. MakesTurns t x.at x.packet x.number (arrays_of c.args.store.now) c.deref-2.result.now d.rank d.node b o) c.new.ensures c.in_ok-turns.ensures in
     let made = subst (λ l. MakesTurns t x.at x.packet x.number (arrays_of c.args.store.now) l d.rank d.node [] o) c.deref-2.ensures.value made1 in
     let now : get_or counts d.rank 0 ≡ x.number = ap (λ l. get_or l d.rank 0) (sym c.deref.ensures.value) ∙ sym c.handled.ensures ∙ c.if-handled-owner.false in
     let more : c.in_ok-number.number ≡ x.number + 1 = grind (arith, common_steps) in

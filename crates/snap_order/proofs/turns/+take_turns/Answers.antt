@@ -12,13 +12,13 @@ use Rattle.snap_order.proofs.turns.+take_turns.Goals as goal
 
 pub returns-then-owner-at : goal.returns-then-owner-at
 returns-then-owner-at z c =
-    turns_seek c.args.tables.now c.args.at c.args.packet.now c.args.number (arrays_of c.args.store.now) c.args.counts.now c.args.rank c.args.node c.args.before.items c.new.result c.next-to.result c.in-Some.owner
-    c.new.ensures (sym c.rank_at.ensures ∙ c.in-Some.is) c.if-owner-at.true c.next-to.ensures c.requires.reads
+    turns_seek c.args.tables.now c.args.at c.args.packet.now c.args.number (arrays_of c.args.store.now) c.args.counts.now c.args.rank c.args.node c.args.before c.in_ok-copies.field-0 c.next-to.result c.in-Some.owner
+    c.in_ok-copies.ensures (sym c.rank_at.ensures ∙ c.in-Some.is) c.if-owner-at.true c.next-to.ensures c.requires.reads
 
 pub returns-then-handled-number : goal.returns-then-handled-number
 returns-then-handled-number z c =
-    turns_stay c.args.tables.now c.args.at c.args.packet.now c.args.number (arrays_of c.args.store.now) c.args.counts.now c.args.rank c.args.node c.args.before.items c.new-then-handled-number.result
-    c.new-then-handled-number.ensures (sym c.rank_at.ensures ∙ c.in-Some.is ∙ ap Some c.if-owner-at.false) (λ e. c.if-handled-number.true (c.handled.ensures ∙ e)) c.requires.reads
+    turns_stay c.args.tables.now c.args.at c.args.packet.now c.args.number (arrays_of c.args.store.now) c.args.counts.now c.args.rank c.args.node c.args.before c.in_ok-copies-2.field-0
+    c.in_ok-copies-2.ensures (sym c.rank_at.ensures ∙ c.in-Some.is ∙ ap Some c.if-owner-at.false) (λ e. c.if-handled-number.true (c.handled.ensures ∙ e)) c.requires.reads
 
 pub overflow_add-rank : goal.overflow_add-rank
 overflow_add-rank z c = let small : c.args.rank < 64 = rank_small c.args.tables.now c.requires.form c.args.rank c.requires.home.1.owner c.requires.home.1.rank in omega arith
@@ -40,9 +40,9 @@ returns-then-rank-ranks z c =
     let m = arrays_of c.args.store.now in
     let home = c.requires.home.1 in
     let owner : home.owner ≡ c.args.at = some_injective _ _ (sym home.rank ∙ sym c.rank_at.ensures ∙ c.in-Some.is) ∙ c.if-owner-at.false in
-    turns_end t c.args.at k c.args.number m c.args.counts.now c.args.rank c.args.node c.args.before.items (record { form = c.requires.form; valid = c.requires.valid; version = c.requires.version }) c.in_ok-next.next c.visit.new.ups.items home owner
-    c.requires.below c.in_ok-next.ensures.visit (sym c.handled.ensures ∙ c.if-handled-number.false) c.new-then-rank-ranks.result c.in_ok-action.action c.new-then-rank-ranks.ensures (c.if-rank-ranks.true ∙ c.ranks.ensures) c.in_ok-action.ensures
-    (append_fits t c.requires.form c.args.at k m c.args.rank c.args.node c.in_ok-next.next c.args.before.items c.visit.new.ups.items c.requires.packet c.requires.reads c.in_ok-next.ensures.visit)
+    turns_end t c.args.at k c.args.number m c.args.counts.now c.args.rank c.args.node c.args.before (record { form = c.requires.form; valid = c.requires.valid; version = c.requires.version }) c.in_ok-next.next c.visit.new.ups home owner
+    c.requires.below c.in_ok-next.ensures.visit (sym c.handled.ensures ∙ c.if-handled-number.false) c.in_ok-copies-3.field-0 c.in_ok-action.action c.in_ok-copies-3.ensures (c.if-rank-ranks.true ∙ c.ranks.ensures) c.in_ok-action.ensures
+    (append_fits t c.requires.form c.args.at k m c.args.rank c.args.node c.in_ok-next.next c.args.before c.visit.new.ups c.requires.packet c.requires.reads c.in_ok-next.ensures.visit)
 
 pub take_turns-requires : goal.take_turns-requires
 take_turns-requires z c =
@@ -53,8 +53,8 @@ take_turns-requires z c =
     let owner : home.owner ≡ c.args.at = some_injective _ _ (sym home.rank ∙ sym c.rank_at.ensures ∙ c.in-Some.is) ∙ c.if-owner-at.false in
     let small : c.args.rank < 64 = rank_small t c.requires.form c.args.rank home.owner home.rank in
     let more : c.args.rank + 1 ≢ ranks t = λ e. c.if-rank-ranks.false (e ∙ sym c.ranks.ensures) in
-    let next = after_visit t c.requires.valid c.requires.form c.requires.version c.args.at k m c.args.rank c.args.node c.in_ok-next.next c.args.before.items c.visit.new.ups.items home owner c.requires.below c.in_ok-next.ensures.visit more in
-    (omega arith, (c.requires.version, (c.requires.packet, ((c.requires.version, next.0), (c.requires.form, (c.requires.valid, (next.1, append_fits t c.requires.form c.args.at k m c.args.rank c.args.node c.in_ok-next.next c.args.before.items c.visit.new.ups.items c.requires.packet c.requires.reads c.in_ok-next.ensures.visit)))))))
+    let next = after_visit t c.requires.valid c.requires.form c.requires.version c.args.at k m c.args.rank c.args.node c.in_ok-next.next c.args.before c.visit.new.ups home owner c.requires.below c.in_ok-next.ensures.visit more in
+    (omega arith, (c.requires.version, (c.requires.packet, ((c.requires.version, next.0), (c.requires.form, (c.requires.valid, (next.1, append_fits t c.requires.form c.args.at k m c.args.rank c.args.node c.in_ok-next.next c.args.before c.visit.new.ups c.requires.packet c.requires.reads c.in_ok-next.ensures.visit)))))))
 
 pub returns : goal.returns
 returns z c =
@@ -64,6 +64,6 @@ returns z c =
     let home = c.requires.home.1 in
     let owner : home.owner ≡ c.args.at = some_injective _ _ (sym home.rank ∙ sym c.rank_at.ensures ∙ c.in-Some.is) ∙ c.if-owner-at.false in
     let more : c.args.rank + 1 ≢ ranks t = λ e. c.if-rank-ranks.false (e ∙ sym c.ranks.ensures) in
-    IfOk-weaker _ (MakesTurns t c.args.at k c.args.number m c.args.counts.now (c.args.rank + 1) c.in_ok-next.next c.visit.new.ups.items) (MakesTurns t c.args.at k c.args.number m c.args.counts.now c.args.rank c.args.node c.args.before.items)
-    (λ o made. turns_go t c.args.at k c.args.number m c.args.counts.now c.args.rank c.args.node c.args.before.items (record { form = c.requires.form; valid = c.requires.valid; version = c.requires.version }) c.in_ok-next.next c.visit.new.ups.items home owner
+    IfOk-weaker _ (MakesTurns t c.args.at k c.args.number m c.args.counts.now (c.args.rank + 1) c.in_ok-next.next c.visit.new.ups) (MakesTurns t c.args.at k c.args.number m c.args.counts.now c.args.rank c.args.node c.args.before)
+    (λ o made. turns_go t c.args.at k c.args.number m c.args.counts.now c.args.rank c.args.node c.args.before (record { form = c.requires.form; valid = c.requires.valid; version = c.requires.version }) c.in_ok-next.next c.visit.new.ups home owner
     c.requires.below c.in_ok-next.ensures.visit (sym c.handled.ensures ∙ c.if-handled-number.false) o more made) c.take_turns.ensures

@@ -1,4 +1,4 @@
-use Rattle.std.proofs.Common.{◌≡◌, ◌≤◌, List, ℕ, [], ◌∷◌, ◌++◌, map, true, false, ap, sym, ◌∙◌, arith}
+use Rattle.std.proofs.Common.{◌≡◌, ◌≤◌, List, [], ◌∷◌, ◌++◌, map, true, false, ap, sym, ◌∙◌, arith}
 use Rattle.snap_core.specs.declared.ports.PortAt.{PortAt}
 use Rattle.snap_core.specs.Switch.{goes_out}
 use Rattle.snap_core.proofs.FieldLemmas.{count-fields}

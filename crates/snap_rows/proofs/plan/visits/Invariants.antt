@@ -15,9 +15,9 @@ abbrev pub invariant-loop-owner : goal.invariant-loop-owner
 invariant-loop-owner l = record {
   home : IsVisitAtHome l.tables l.due l.number;
   owner : rank_at l.tables l.due ≡ Some l.owner;
-  below : AllByRecursion (λ (u : Update). rank_of l.tables u.var < l.due) l.ups.items;
-  reads : All (UpdateReads (length l.packet)) l.ups.items;
-  way : (m : Arrays) (a : Action) → Handles l.tables l.at l.packet (updates (arrays_of l.store) l.ups.items l.packet) (Visit l.due l.number) m a → Handles l.tables l.at l.packet (arrays_of l.store) (Visit l.rank l.node) m a;
+  below : AllByRecursion (λ (u : Update). rank_of l.tables u.var < l.due) l.ups;
+  reads : All (UpdateReads (length l.packet)) l.ups;
+  way : (m : Arrays) (a : Action) → Handles l.tables l.at l.packet (updates (arrays_of l.store) l.ups l.packet) (Visit l.due l.number) m a → Handles l.tables l.at l.packet (arrays_of l.store) (Visit l.rank l.node) m a;
 }
 
 abbrev pub decreases-loop-owner : goal.decreases-loop-owner

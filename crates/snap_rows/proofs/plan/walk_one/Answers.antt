@@ -2,8 +2,7 @@ use Rattle.std.proofs.lemmas.Result.{IfOk-weaker}
 use Rattle.snap_core.specs.Arrays.{Arrays, updates}
 use Rattle.snap_core.specs.Cells.{arrays_of}
 use Rattle.snap_rows.specs.declared.head.Head.TheVariants.{Walk}
-use Rattle.snap_rows.specs.declared.plan.Plan.{Plan}
-use Rattle.snap_rows.specs.Steps.{Does}
+use Rattle.snap_rows.specs.Steps.{Does, plan_of}
 use Rattle.snap_rows.proofs.Stages.{asked}
 use Rattle.snap_rows.proofs.Plans.{end_one}
 use Rattle.snap_rows.proofs.plan.walk_one.Goals as goal
@@ -17,5 +16,6 @@ returns c =
     let k = c.args.packet.now in
     let m = arrays_of c.args.store.now in
     let v = c.in_ok-number.number in
-    IfOk-weaker _ (λ (p : Plan). (m : Arrays) → Does t c.args.at k m (Walk v) p) (λ (p : Plan). Does t c.args.at k m (Walk c.args.node) p)
-    (λ p h. record { handles = asked t c.args.at k m (updates m p.ups k) c.args.node v p.action c.requires.version c.in_ok-number.ensures (h m).handles; reads = (h m).reads }) c.decided.ensures
+    let us = c.decided.new.ups in
+    IfOk-weaker _ (λ a. (m : Arrays) → Does t c.args.at k m (Walk v) (plan_of us a)) (λ a. Does t c.args.at k m (Walk c.args.node) (plan_of us a))
+    (λ a h. record { handles = asked t c.args.at k m (updates m us k) c.args.node v a c.requires.version c.in_ok-number.ensures (h m).handles; reads = (h m).reads }) c.decided.ensures

@@ -6,6 +6,6 @@ use Rattle.snap_rows.proofs.visit.push_ranked.Given as goal
 
 abbrev pub invariant-loop-update : goal.invariant-loop-update
 invariant-loop-update l = record {
-  done : l.ups.items ++ filter (λ (u : Update). rank_of l.tables u.var == l.rank) (drop l.update-index l.leaf) ≡ l.fn.ups.items ++ filter (λ (u : Update). rank_of l.tables u.var == l.rank) l.leaf;
-  front : take l.before l.ups.items ≡ l.fn.ups.items;
+  done : l.ups ++ filter (λ (u : Update). rank_of l.tables u.var == l.rank) (drop l.update-index l.leaf) ≡ l.fn.ups ++ filter (λ (u : Update). rank_of l.tables u.var == l.rank) l.leaf;
+  front : take l.before l.ups ≡ l.fn.ups;
 }
