@@ -22,3 +22,5 @@ pub mod Scheduled
 pub mod ReadWhole
 pub mod Changing
 pub mod Passing
+pub mod LineTexts
+pub mod Crossed

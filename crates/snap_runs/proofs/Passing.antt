@@ -1,7 +1,6 @@
 -- The first copy goes on its way, and the lines of the links that it crosses are put.
-use Rattle.std.proofs.Common.{◌≡◌, ◌≢◌, ℕ, ◌+◌, ◌<◌, Bool, true, false, List, [], ◌∷◌, ◌++◌, map, take, drop, Option, Some, None, length, refl, sym, ap, ap₂, subst, ◌∙◌, append-nil}
-use Rattle.std.specs.Prelude.{◌==◌, slice_get, sum, unwrap_or, if◌then◌else◌}
-use Rattle.std.specs.List.{All}
+use Rattle.std.proofs.Common.{◌≡◌, ◌≢◌, ℕ, ◌+◌, ◌<◌, Bool, true, false, List, [], ◌∷◌, ◌++◌, map, take, drop, Option, Some, None, refl, sym, ap, ap₂, subst, ◌∙◌, append-nil}
+use Rattle.std.specs.Prelude.{slice_get, sum, unwrap_or, if◌then◌else◌}
 use Rattle.hex.specs.Hex.{encode_lower}
 use Rattle.std.proofs.lemmas.Bool.{eq-eqb}
 use Rattle.std.proofs.lemmas.Option.{none-some, same_Some}
@@ -23,7 +22,7 @@ use Rattle.snap_net.specs.Shown.{Held, Shows, flown}
 use Rattle.snap_net.specs.Travels.{Crosses, ends, goes, Travels, stays, crosses, HasTravelled, arrived}
 use Rattle.snap_runs.specs.declared.frames.Frames.{Frames}
 use Rattle.snap_runs.specs.declared.tally.Tally.{Tally}
-use Rattle.snap_runs.specs.Crossings.{NotesCrossings, NotesWay, crossing_lines, line_text, way_text}
+use Rattle.snap_runs.specs.Crossings.{NotesCrossings, NotesWay, crossing_lines, digits_of, line_text, way_text}
 use Rattle.snap_runs.specs.Reports.{hop_line, hop_lines, hops_text, lead_of}
 use Rattle.snap_runs.specs.Settling.{AreCopiesOf, HappenTo, HasPassed, Settles, Tallies}
 use Rattle.snap_runs.specs.Tallies.{IsTally, number_of}
@@ -50,9 +49,9 @@ arrives_below t form c low = by (aim_of t c.head) refl
 
 -- a copy that is there has no way
 pub notes-none : (f : Frames) (t : Tables) (c : Flying) (text : List ℕ) → (arrived t c).at ≡ c.at → NotesWay f t true c text text
-notes-none f t c text there ws way = sym (append-nil text) ∙ ap (λ l. text ++ way_text t.switches (encode_lower (lead_of f c.number ++ frame c.head c.packet)) c.at l) (sym (way_ends t (arrived t c).at c.at ws (sym there) way))
+notes-none f t c text there ws way = sym (append-nil text) ∙ ap (λ l. text ++ way_text t.switches (digits_of f c) c.at l) (sym (way_ends t (arrived t c).at c.at ws (sym there) way))
 
-pub notes-way : (f : Frames) (t : Tables) (c : Flying) (to : ℕ) (digits before after : List ℕ) → to ≡ (arrived t c).at → digits ≡ encode_lower (lead_of f c.number ++ frame c.head c.packet)
+pub notes-way : (f : Frames) (t : Tables) (c : Flying) (to : ℕ) (digits before after : List ℕ) → to ≡ (arrived t c).at → digits ≡ digits_of f c
     → ((ws : List ℕ) → Way t to c.at ws → after ≡ before ++ way_text t.switches digits c.at ws) → NotesWay f t true c before after
 notes-way f t c to digits before after there are put ws way =
     put ws (subst (λ x. Way t x c.at ws) (sym there) way)

@@ -1,16 +1,18 @@
 -- Copies come to rest step by step.
-use Rattle.std.proofs.Common.{◌≡◌, ℕ, ◌+◌, Bool, true, false, List, [], ◌∷◌, ◌++◌, refl, sym, ap, subst, ◌∙◌, append-nil, arith}
+use Rattle.std.proofs.Common.{◌≡◌, ℕ, ◌+◌, Bool, true, false, List, [], ◌∷◌, ◌++◌, refl, sym, ap, subst, ◌∙◌, append-nil}
 use Rattle.std.specs.Prelude.{IsPermutation, if◌then◌else◌}
 use Rattle.std.proofs.lemmas.List.Elements.{All-nil, All-append, All-head, All-push}
 use Rattle.snap_rows.specs.declared.tables.Tables.{Tables}
-use Rattle.snap_rows.specs.Network.{Copy, Net, Inject, Step, Happening, Leads, RunsCalmly, rests, injects, steps, StepsFirst}
+use Rattle.snap_rows.specs.Network.{Net, Inject, Step, Happening, Leads, RunsCalmly, rests, injects, steps, StepsFirst}
 use Rattle.snap_net.specs.declared.happened.Moved.{Moved}
 use Rattle.snap_net.specs.Landings.{HasLanded}
+use Rattle.snap_net.specs.Travels.{Travels, stays}
 use Rattle.snap_net.specs.Shown.{Held, IsDone, Nothing, Shows, happened, moving}
 use Rattle.snap_trace.specs.Reports.{out_lines}
 use Rattle.snap_runs.specs.declared.frames.Frames.{Frames}
 use Rattle.snap_runs.specs.declared.tally.Tally.{Tally}
 use Rattle.snap_runs.specs.declared.tracer.Tracer.{Tracer}
+use Rattle.snap_runs.specs.Crossings.{NotesCrossings}
 use Rattle.snap_runs.specs.Reports.{IsBlockBy, hops_text, lost_line, packet_line}
 use Rattle.snap_runs.specs.Settling.{AreCopiesOf, Goes, HasGone, HasNoted, HasPassed, HasSettled, Settles, Tallies}
 use Rattle.snap_runs.specs.Tallies.{IsBlockText, IsTally, Notes, delivered_by, hop_told, lost_by, number_of}
@@ -67,15 +69,16 @@ settled-gone f hops old mid new y y' same settled gone s shows =
     let a = settled s shows in
     let g = subst (λ t. Goes f t hops a.0 new y y') same (gone a.0 a.3) in
     let b = noted-passed f t hops s a.0 g.there a.1 g.crossings y g.between (record { settles = a.2; tallies = a.4 }) g.travels g.passed in
-    let c = one_more f t hops s g.there g.state (a.1 ++ g.crossings) g.last g.between y' b g.leads g.noted in
-    (g.state, (a.1 ++ g.crossings) ++ g.last ∷ [], c.settles, g.shows, c.tallies)
+    let c = one_more f t hops s g.there g.state (a.1 ++ g.crossings) g.last g.between g.landed b g.leads g.noted in
+    let d = noted-passed f t hops s g.state g.end ((a.1 ++ g.crossings) ++ g.last ∷ []) g.behind g.landed y' c g.onward g.told in
+    (g.end, ((a.1 ++ g.crossings) ++ g.last ∷ []) ++ g.behind, d.settles, g.shows, d.tallies)
 
--- the way of the first copy, and then its step
+-- the way of the first copy, and then its step and what follows
 pub gone-stepped : (f : Frames) (hops : Bool) (old mid new : Held) (y ym y' : Tally) → mid.tables ≡ old.tables → HasPassed f hops old mid y ym → HasNoted f hops mid new ym y' → HasGone f hops old new y y'
 gone-stepped f hops old mid new y ym y' same passed noted s shows =
     let a = passed s shows in
-    let b = subst (λ t. (s' : Net) × (x : Happening) × Leads t a.0 (Step 0) s' (x ∷ []) × Shows new s' × Notes f t hops x ym y') same (noted a.0 a.3) in
-    record { there = a.0; crossings = a.1; travels = a.2; between = ym; passed = a.4; state = b.0; last = b.1; leads = b.2; noted = b.4; shows = b.3 }
+    let b = subst (λ t. (m : Net) × (x : Happening) × Leads t a.0 (Step 0) m (x ∷ []) × (yl : Tally) × Notes f t hops x ym yl × (s' : Net) × (hs : List Happening) × Travels t 0 m hs s' × Shows new s' × NotesCrossings f t hops hs yl y') same (noted a.0 a.3) in
+    record { there = a.0; crossings = a.1; travels = a.2; between = ym; passed = a.4; state = b.0; last = b.1; leads = b.2; landed = b.3; noted = b.4; end = b.5; behind = b.6; onward = b.7; told = b.9; shows = b.8 }
 
 -- a landing, whose hops aren't told
 pub gone-landed : (f : Frames) (old new : Held) (moved : Moved) (y y' : Tally) → HasLanded old new moved → y'.delivered.items ≡ y.delivered.items ++ delivered_by moved → y'.lost ≡ y.lost + lost_by moved → y'.hops.items ≡ y.hops.items
@@ -92,11 +95,16 @@ gone-landed f old new moved y y' landed delivered lost hops s shows =
       state = a.1;
       last = a.3;
       leads = a.5;
+      landed = y';
       noted = record {
         delivered = delivered ∙ ap (λ m. y.delivered.items ++ delivered_by m) told;
         lost = lost ∙ ap (λ m. y.lost + lost_by m) told;
         hops_told = hops ∙ sym (append-nil y.hops.items);
       };
+      end = a.1;
+      behind = [];
+      onward = stays;
+      told = record { delivered = refl; lost = refl; hops_told = sym (append-nil y'.hops.items) };
       shows = a.6;
     }
 

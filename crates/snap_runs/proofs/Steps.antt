@@ -176,8 +176,10 @@ gone-lighter f hops old new y y' same held gone =
     let more = on.1 in
     let less = home_lighter old.tables held.valid held.form g.there g.state 0 (g.last ∷ []) on.0 g.leads in
     let e = left_held old s.0 s.1 in
-    let f : steps_left_of new ≡ steps_left old.tables g.state.flying = left_held new g.state g.shows ∙ ap (λ t. steps_left t g.state.flying) same in
-    omega (arith, less, more, e, f)
+    let beyond = travels_home old.tables held.valid held.form g.state g.end g.behind (step_home old.tables held.valid held.form g.there g.state 0 (g.last ∷ []) on.0 g.leads) g.onward in
+    let further = beyond.1 in
+    let f : steps_left_of new ≡ steps_left old.tables g.end.flying = left_held new g.end g.shows ∙ ap (λ t. steps_left t g.end.flying) same in
+    omega (arith, less, more, further, e, f)
 
 -- the packets that were noted stay as long as the tables' packets
 pub gone-long : (f : Frames) (hops : Bool) (old new : Held) (y y' : Tally) → IsHeld old → HasGone f hops old new y y' → All (λ k. length k ≡ comps old.tables) y.delivered.items → All (λ k. length k ≡ comps old.tables) y'.delivered.items
@@ -187,4 +189,4 @@ gone-long f hops old new y y' held gone all =
     let g = gone s.0 s.1 in
     let on = travels_home old.tables held.valid held.form s.0 g.there g.crossings (held_home old held s.0 s.1) g.travels in
     let some = step-long old.tables g.there g.state 0 (comps old.tables) (g.last ∷ []) (λ i d within. (on.0 i d within).long) g.leads g.last refl in
-    subst (All P) (sym (g.noted.delivered ∙ ap (λ l. l ++ delivered_by (moving g.last)) g.passed.delivered)) (All-append P y.delivered.items (delivered_by (moving g.last)) all some)
+    subst (All P) (sym (g.told.delivered ∙ g.noted.delivered ∙ ap (λ l. l ++ delivered_by (moving g.last)) g.passed.delivered)) (All-append P y.delivered.items (delivered_by (moving g.last)) all some)

@@ -9,3 +9,4 @@ pub mod Tracing
 pub mod Schedules
 pub mod Playing
 pub mod Crossings
+pub mod Links

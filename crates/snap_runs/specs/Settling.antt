@@ -1,5 +1,5 @@
 -- How copies in flight come to rest, by steps of the first copy.
-use Rattle.std.specs.Prelude.{◌≡◌, ℕ, Bool, List, [], ◌∷◌, sum_by}
+use Rattle.std.specs.Prelude.{◌≡◌, ℕ, Bool, true, Some, List, [], ◌∷◌, ◌++◌, slice_get, sum_by}
 use Rattle.std.specs.List.{All}
 use Rattle.snap_rows.specs.declared.tables.Tables.{Tables}
 use Rattle.snap_rows.specs.Network.{Copy, Net, Event, Happening, Leads, Step, RunsCalmly, StepsFirst, packets_of}
@@ -9,7 +9,7 @@ use Rattle.snap_net.specs.Shown.{Held, Shows}
 use Rattle.snap_net.specs.Travels.{Travels}
 use Rattle.snap_runs.specs.declared.frames.Frames.{Frames}
 use Rattle.snap_runs.specs.declared.tally.Tally.{Tally}
-use Rattle.snap_runs.specs.Crossings.{NotesCrossings}
+use Rattle.snap_runs.specs.Crossings.{NotesCrossings, digits_of, line_text}
 use Rattle.snap_runs.specs.Tallies.{IsTally, Notes, number_of}
 
 -- the copies are of packet i
@@ -38,19 +38,25 @@ pub record Tallies (f : Frames) (t : Tables) (hops : Bool) (i : ℕ) (s' : Net) 
 abbrev pub HasSettled : Frames → Bool → (old new : Held) → Tally → Type 0
 HasSettled f hops old new y = (s : Net) → Shows old s → (s' : Net) × (hs : List Happening) × Settles old.tables s s' hs × Shows new s' × ((i : ℕ) → AreCopiesOf i s.flying → Tallies f old.tables hops i s' hs y)
 
--- the first copy has made a step, which was noted
-abbrev pub HasNoted : Frames → Bool → (old new : Held) → (before after : Tally) → Type 0
-HasNoted f hops old new before after = (s : Net) → Shows old s → (s' : Net) × (x : Happening) × Leads old.tables s (Step 0) s' (x ∷ []) × Shows new s' × Notes f old.tables hops x before after
-
 -- the first copy has gone on by steps that only cross links, which were noted
 abbrev pub HasPassed : Frames → Bool → (old new : Held) → (before after : Tally) → Type 0
 HasPassed f hops old new before after = (s : Net) → Shows old s → (s' : Net) × (hs : List Happening) × Travels old.tables 0 s hs s' × Shows new s' × NotesCrossings f old.tables hops hs before after
+
+-- the first copy has crossed a link from w, of which the line is noted now, and has gone on by steps that only cross links, which were noted
+abbrev pub HasCrossed : Frames → (w : ℕ) → (old new : Held) → (before after : Tally) → Type 0
+HasCrossed f w old new before after = (c : Flying) → slice_get old.flying 0 ≡ Some c
+    → (y : Tally) × (y.delivered.items ≡ before.delivered.items) × (y.lost ≡ before.lost) × (y.hops.items ≡ before.hops.items ++ line_text old.tables.switches (digits_of f c) w c.at) × HasPassed f true old new y after
+
+-- the first copy has made a step and has gone on by steps that only cross links, which were noted
+abbrev pub HasNoted : Frames → Bool → (old new : Held) → (before after : Tally) → Type 0
+HasNoted f hops old new before after = (s : Net) → Shows old s
+    → (m : Net) × (x : Happening) × Leads old.tables s (Step 0) m (x ∷ []) × (y : Tally) × Notes f old.tables hops x before y × (s' : Net) × (hs : List Happening) × Travels old.tables 0 m hs s' × Shows new s' × NotesCrossings f old.tables hops hs y after
 
 -- the steps that copies can still make, at most
 abbrev pub steps_left_of : Held → ℕ
 steps_left_of v = sum_by (λ (c : Flying). weight v.tables c.at c.head) v.flying
 
--- the first copy has gone on by steps that only cross links and has then made one more, which were noted
+-- the first copy has gone on by steps that only cross links, has then made one more, and has gone on so again, which were noted
 pub record Goes (f : Frames) (t : Tables) (hops : Bool) (s : Net) (new : Held) (before after : Tally) : Type 0 where
   pub there : Net
   pub crossings : List Happening
@@ -60,8 +66,13 @@ pub record Goes (f : Frames) (t : Tables) (hops : Bool) (s : Net) (new : Held) (
   pub state : Net
   pub last : Happening
   pub leads : Leads t there (Step 0) state (last ∷ [])
-  pub noted : Notes f t hops last between after
-  pub shows : Shows new state
+  pub landed : Tally
+  pub noted : Notes f t hops last between landed
+  pub end : Net
+  pub behind : List Happening
+  pub onward : Travels t 0 state behind end
+  pub told : NotesCrossings f t hops behind landed after
+  pub shows : Shows new end
 
 -- from each state that was shown it has
 abbrev pub HasGone : Frames → Bool → (old new : Held) → (before after : Tally) → Type 0

@@ -1,9 +1,11 @@
 //! Runs of the network over files of packets, and their reports.
 #![tactic(auto)]
 
+mod digits;
 pub mod event;
 pub mod frames;
 pub mod laws;
+mod links;
 pub mod packets;
 pub mod play;
 pub mod ready;

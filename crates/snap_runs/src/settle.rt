@@ -5,12 +5,13 @@ ghost use Rattle.std.specs.List.{All};
 ghost use Rattle.snap_rows.specs.Form.{comps};
 ghost use Rattle.snap_net.specs.declared.flying.Flying.{Flying};
 ghost use Rattle.snap_runs.specs.declared.frames.Frames.{Frames as Kind};
-ghost use Rattle.snap_runs.specs.Crossings.{NotesWay};
-ghost use Rattle.snap_runs.specs.Settling.{HasGone, HasNoted, HasPassed, HasSettled};
+ghost use Rattle.snap_runs.specs.Crossings.{NotesCrossed, NotesWay, left_in};
+ghost use Rattle.snap_runs.specs.Settling.{HasCrossed, HasGone, HasNoted, HasPassed, HasSettled};
 
 use crate::frames::Frames;
 use crate::tally::Tally;
 use snap_core::NoMemory;
+use snap_net::happened::Moved;
 use snap_net::net::Net;
 use std::alloc::Global;
 
@@ -56,7 +57,8 @@ fn land(net: &mut Net, tally: &mut Tally) -> Result<(), NoMemory>
     Ok(())
 }
 
-// Takes the first copy to the switch to which its head sends it and makes a step of it, and notes its hops.
+// Takes the first copy to the switch to which its head sends it, makes a step of it, and takes it on so if it has crossed
+// a link; notes its hops.
 fn hop_on(net: &mut Net, frames: Frames, tally: &mut Tally) -> Result<(), NoMemory>
     requires { 0 < length net.old.flying }
     ensures gone { OnOk result (HasGone frames true net.old net.new tally.old tally.new) }
@@ -91,12 +93,56 @@ fn note_way(net: &Net, frames: Frames, tally: &mut Tally) -> Result<(), NoMemory
     tally.note_way(frames, tables, net.copy(0))
 }
 
-// Makes a step of the first copy, and notes it. There is such a copy, so only memory can be short.
+// Makes a step of the first copy, and takes it to the switch to which its head sends it, if it has crossed a link; notes
+// all that. There is such a copy, so only memory can be short.
 fn step_first(net: &mut Net, frames: Frames, tally: &mut Tally) -> Result<(), NoMemory>
     ensures noted { OnOk result (HasNoted frames true net.old net.new tally.old tally.new) }
     ensures tables { net.new.tables ≡ net.old.tables }
     ensures injected { net.new.injected ≡ net.old.injected }
 {
-    let happened = net.step(0).map_err(|_| NoMemory)?;
-    tally.note_hop(frames, &net.tables().tables().switches, happened)
+    let moved = match net.advance_in_place(0) {
+        Ok(moved) => moved,
+        Err(_) => return Err(NoMemory),
+    };
+    let from = left_by(&moved);
+    tally.note(moved)?;
+    match from {
+        Some(from) => cross_on(net, frames, from, tally),
+        None => Ok(()),
+    }
+}
+
+// The switch that a copy has left in a step, if it has crossed a link.
+fn left_by(moved: &Moved) -> Option<u16>
+    ensures { result ≡ left_in moved.now }
+{
+    match moved {
+        Moved::Forwarded { from, .. } => Some(*from),
+        Moved::Delivered { .. } => None,
+        Moved::Forked { .. } => None,
+    }
+}
+
+// Takes the first copy, which has crossed a link from this switch, to the switch to which its head sends it, and notes all
+// these hops.
+fn cross_on(net: &mut Net, frames: Frames, from: u16, tally: &mut Tally) -> Result<(), NoMemory>
+    requires { 0 < length net.old.flying }
+    ensures crossed { OnOk result (HasCrossed frames from net.old net.new tally.old tally.new) }
+    ensures tables { net.new.tables ≡ net.old.tables }
+    ensures injected { net.new.injected ≡ net.old.injected }
+{
+    note_crossing(net, frames, from, tally)?;
+    net.travel(0);
+    Ok(())
+}
+
+// Notes the lines of the link from this switch that the first copy has crossed, and of those on its way.
+fn note_crossing(net: &Net, frames: Frames, from: u16, tally: &mut Tally) -> Result<(), NoMemory>
+    requires { 0 < length net.now.flying }
+    ensures hops_told { OnOk result ((c : Flying) → slice_get net.now.flying 0 ≡ Some c → NotesCrossed frames net.now.tables from c tally.old tally.new) }
+    ensures delivered { tally.new.delivered.items ≡ tally.old.delivered.items }
+    ensures lost { tally.new.lost ≡ tally.old.lost }
+{
+    let tables = net.tables();
+    tally.note_crossing(frames, tables, from, net.copy(0))
 }

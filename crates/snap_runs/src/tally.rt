@@ -1,24 +1,22 @@
 //! What is noted of one packet while its copies are in flight.
 
-ghost use Rattle.std.specs.Prelude.{◌≡◌, ◌<◌, ◌≤◌, ◌+◌, ◌++◌, [], ◌∷◌, ℕ, List, true, drop, length, string_bytes, IfOk, IfSome, OnOk};
+ghost use Rattle.std.specs.Prelude.{◌≡◌, ◌<◌, ◌≤◌, ◌+◌, ◌++◌, [], ◌∷◌, true, drop, length, IfOk, IfSome, OnOk};
 ghost use Rattle.std.specs.List.{All};
 ghost use Rattle.std.specs.List.Sorted.{IsPermutation, IsSorted};
-ghost use Rattle.hex.specs.Hex.{encode_lower};
 ghost use Rattle.snap_core.specs.Fields.{count};
 ghost use Rattle.snap_core.specs.Packets.{packet_cmp};
 ghost use Rattle.snap_rows.specs.Form.{switch_count};
-ghost use Rattle.snap_rows.specs.Ways.{Way};
-ghost use Rattle.snap_runs.specs.Crossings.{NotesWay, line_text, way_text};
+ghost use Rattle.snap_runs.specs.Crossings.{NotesCrossed, NotesWay};
 ghost use Rattle.snap_runs.specs.Reports.{lead_of, lost_line, packet_line};
 ghost use Rattle.snap_trace.specs.Reports.{out_lines};
 ghost use Rattle.snap_runs.specs.Tallies.{bared, delivered_by, hop_text, hop_told, IsBlockText, lost_by};
 
-use crate::frames::{Frames, put_lead};
+use crate::frames::Frames;
+use crate::links::{Tail, long_tail, put_long_line};
 use snap_core::NoMemory;
 use snap_core::lists::Names;
 use snap_core::packet::Packet;
 use snap_core::program::Fields;
-use snap_head::encode::encode;
 use snap_net::flying::Flying;
 use snap_net::happened::{Happened, Moved};
 use snap_rows::valid::Valid;
@@ -99,8 +97,13 @@ impl Tally {
                 to,
                 frame,
             } => {
-                let digits = digits_of(self.alloc, frames, owner, frame.bytes())?;
-                put_line(&mut self.hops, switches, from, to, digits.as_bytes())
+                let tail = long_tail(self.alloc, frames, owner, frame.bytes())?;
+                put_long_line(
+                    &mut self.hops,
+                    name_at(switches, from),
+                    name_at(switches, to),
+                    &tail,
+                )
             }
             Happened::Delivered { packet, .. } => self.deliver(packet),
             Happened::Forked { lost, .. } => self.lose(lost),
@@ -124,9 +127,46 @@ impl Tally {
         if to == copy.at {
             return Ok(());
         }
-        let frame = encode(self.alloc, copy.head, &copy.packet)?;
-        let digits = digits_of(self.alloc, frames, copy.number, &frame)?;
-        put_way(&mut self.hops, tables, copy.at, to, digits.as_bytes())
+        self.make_room()?;
+        let mut tail = Tail::new(self.alloc);
+        tail.spell(self.alloc, frames, copy)?;
+        tail.put_way(&mut self.hops, tables, copy.at, to)
+    }
+
+    /// Notes the lines of the link from a switch that a copy has crossed, and of those that it crosses behind it along next
+    /// hops to where its head sends it. All have one frame.
+    pub(crate) fn note_crossing(
+        &mut self,
+        frames: Frames,
+        tables: &Valid,
+        from: u16,
+        copy: &Flying,
+    ) -> Result<(), NoMemory>
+        requires { copy.now.at < switch_count tables.now }
+        ensures delivered { self.new.delivered.items ≡ self.old.delivered.items }
+        ensures lost { self.new.lost ≡ self.old.lost }
+        ensures hops { OnOk result (NotesCrossed frames tables.now from copy.now self.old self.new) }
+    {
+        let switches = &tables.tables().switches;
+        let to = tables.aim(copy.head).unwrap_or(copy.at);
+        self.make_room()?;
+        let mut tail = Tail::new(self.alloc);
+        tail.spell(self.alloc, frames, copy)?;
+        tail.put_line(&mut self.hops, switches, from, copy.at)?;
+        tail.put_way(&mut self.hops, tables, copy.at, to)
+    }
+
+    // Takes room for the lines of a few links at once.
+    #[inline(always)]
+    fn make_room(&mut self) -> Result<(), NoMemory>
+        ensures delivered { self.new.delivered.items ≡ self.old.delivered.items }
+        ensures lost { self.new.lost ≡ self.old.lost }
+        ensures hops { self.new.hops.items ≡ self.old.hops.items }
+    {
+        if self.hops.is_empty() {
+            self.hops.reserve(1000)?;
+        }
+        Ok(())
     }
 
     fn deliver(&mut self, packet: Packet) -> Result<(), NoMemory>
@@ -298,59 +338,6 @@ fn put_lost(out: &mut Vec<u8>, lost: u64) -> Result<(), NoMemory>
 {
     out.extend_from_slice(b"lost ")?;
     put_number(out, lost)?;
-    out.push(b'\n')?;
-    Ok(())
-}
-
-// The digits of a frame of the packet with this number, with what is told before it.
-fn digits_of(alloc: Global, frames: Frames, number: u64, frame: &[u8]) -> Result<String, NoMemory>
-    ensures { IfOk result (λ digits. string_bytes digits ≡ encode_lower (lead_of frames number ++ frame.now)) }
-{
-    let mut bytes = Vec::new(alloc);
-    put_lead(&mut bytes, frames, number)?;
-    bytes.extend_from_slice(frame)?;
-    let digits = hex::encode(alloc, &bytes)?;
-    Ok(digits)
-}
-
-// Puts the lines of the links along next hops to a switch, each with these digits.
-fn put_way(
-    out: &mut Vec<u8>,
-    tables: &Valid,
-    from: u16,
-    to: u16,
-    digits: &[u8],
-) -> Result<(), NoMemory>
-    requires from { from < switch_count tables.now }
-    requires to { to < switch_count tables.now }
-    ensures { OnOk result ((ws : List ℕ) → Way tables.now to from ws → out.new.items ≡ out.old.items ++ way_text tables.now.switches digits.now from ws) }
-{
-    let switches = &tables.tables().switches;
-    let mut at = from;
-    while at != to {
-        let next = tables.next(at, to);
-        put_line(out, switches, at, next, digits)?;
-        at = next;
-    }
-    Ok(())
-}
-
-// Puts the line of a link with these digits.
-fn put_line(
-    out: &mut Vec<u8>,
-    switches: &Names,
-    from: u16,
-    to: u16,
-    digits: &[u8],
-) -> Result<(), NoMemory>
-    ensures { OnOk result (out.new.items ≡ out.old.items ++ line_text switches.now digits.now from to) }
-{
-    out.extend_from_slice(b"hop ")?;
-    out.extend_from_slice(name_at(switches, from))?;
-    out.push(b' ')?;
-    out.extend_from_slice(name_at(switches, to))?;
-    out.push(b' ')?;
-    out.extend_from_slice(digits)?;
     out.push(b'\n')?;
     Ok(())
 }

@@ -1,11 +1,9 @@
-use Rattle.std.proofs.Common.{◌≡◌, ◌<◌, ◌++◌, sym, ap, subst, ◌∙◌}
+use Rattle.std.proofs.Common.{◌≡◌, ◌<◌, true, refl, sym, ap, subst, ◌∙◌}
 use Rattle.std.specs.Prelude.{unwrap_or}
-use Rattle.hex.specs.Hex.{encode_lower}
 use Rattle.std.proofs.lemmas.Result.{on_ok_weaker}
-use Rattle.snap_head.specs.Frames.{frame}
 use Rattle.snap_rows.specs.Form.{switch_count}
 use Rattle.snap_net.specs.Travels.{arrived}
-use Rattle.snap_runs.specs.Reports.{lead_of}
+use Rattle.snap_runs.specs.Crossings.{NotesWay, digits_of}
 use Rattle.snap_runs.proofs.Passing.{arrives_below, notes-none, notes-way}
 use Rattle.snap_runs.proofs.tally.Tally.note_way.Goals as goal
 
@@ -28,6 +26,8 @@ returns-clause-hops c =
     let t = c.args.tables.now in
     let copy = c.args.copy.now in
     let to : c.unwrap_or-to.result ≡ (arrived t copy).at = c.unwrap_or-to.ensures ∙ ap (λ o. unwrap_or o copy.at) c.aim.ensures in
-    let digits : c.as_bytes.result.now ≡ encode_lower (lead_of c.args.frames copy.number ++ frame copy.head copy.packet) =
-    c.as_bytes.ensures.value ∙ c.in_ok-digits.ensures ∙ ap (λ l. encode_lower (lead_of c.args.frames copy.number ++ l)) (c.deref.ensures.value ∙ c.in_ok-frame.ensures) in
-    on_ok_weaker c.put_way.result (λ put. notes-way c.args.frames t copy c.unwrap_or-to.result c.as_bytes.result.now c.args.self.now.hops.items c.put_way.new.out.items to digits put) c.put_way.ensures
+    let digits = digits_of c.args.frames copy in
+    let after = c.put_way.new.out.items in
+    on_ok_weaker c.put_way.result
+    (λ put. subst (λ before. NotesWay c.args.frames t true copy before after) c.make_room.ensures.hops (notes-way c.args.frames t copy c.unwrap_or-to.result digits c.make_room.new.self.hops.items after to refl (λ ws way. put digits ws c.in_ok-spell.ensures way)))
+    c.put_way.ensures
