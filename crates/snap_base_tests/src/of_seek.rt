@@ -1,12 +1,8 @@
-use crate::given::{ARRAYS, SQUARE, names};
-use snap_core::policy::{Pol, Pred};
-use snap_core::program::{Fields, Program};
+use crate::given::{ARRAYS, SQUARE, program};
 use snap_dep::calls::groups;
 use snap_route::calls::routes;
 use snap_seek::best::Best;
-use snap_seek::demand::DemandFault;
 use std::alloc::Global;
-use std::process::Abort;
 use std::test::Fail;
 
 /// A demand, what the best placement costs, and its three switches, where no arrays are tied.
@@ -31,39 +27,22 @@ const BEST: [(&str, u64, [u16; 3]); 6] = [
     ),
 ];
 
-// What a demand's text is answered with, over the square.
-fn place(rt: &impl Abort, alloc: Global, text: &str) -> Result<Result<Best, DemandFault>, Fail> {
-    let program = Program {
-        fields: Fields::ports(alloc)?,
-        vars: names(alloc, ARRAYS.as_slice())?,
-        body: Pol::Filter(Pred::Id),
-    };
-    let vars = program.vars.items().len();
-    assert!(rt; vars <= 64);
-    assert!(rt; program.body.fits(program.fields.count() as usize, vars));
+// The best placement in the square.
+fn best(alloc: Global, demand: &str) -> Result<Best, Fail> {
+    let program = program(alloc, ARRAYS)?;
+    let groups = groups(alloc, &program)?;
     let topology = snap_topo::read(alloc, SQUARE.as_bytes())?;
     let routes = routes(alloc, &topology)?;
-    let groups = groups(alloc, &program)?;
-    match snap_seek::read_demand(alloc, text.as_bytes(), &program, &groups, &topology) {
-        Ok(demand) => {
-            let best = snap_seek::seek(alloc, &groups, &topology, &routes, &demand)?;
-            Ok(Ok(best))
-        }
-        Err(fault) => Ok(Err(fault)),
-    }
+    let demand = snap_seek::read_demand(alloc, demand.as_bytes(), &program, &groups, &topology)?;
+    Ok(snap_seek::seek(alloc, &groups, &topology, &routes, &demand)?)
 }
 
 #[test]
 fn finds_the_placement_of_least_cost(rt: HostRuntime) -> Result<(), Fail> {
-    let alloc = rt.alloc();
     for (text, cost, owners) in BEST {
-        match place(&rt, alloc, text)? {
-            Ok(best) => {
-                assert_eq!(rt; best.cost, cost);
-                assert_eq!(rt; best.owners.items(), owners.as_slice());
-            }
-            Err(_fault) => assert!(rt; false, "{text} is refused"),
-        }
+        let best = best(rt.alloc(), text)?;
+        assert_eq!(rt; best.cost, cost, "{text}");
+        assert_eq!(rt; best.owners.items(), owners.as_slice(), "{text}");
     }
     Ok(())
 }

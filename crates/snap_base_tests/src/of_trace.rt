@@ -1,17 +1,25 @@
-use crate::given::{change, choose, fields, holds, names, par, seq, set};
-use snap_core::policy::Op;
-use snap_core::program::Program;
+use crate::given::program;
+use snap_core::packet::Packet;
+use snap_core::program::Fields;
 use snap_io::{File, MemoryShelf, MemorySink, have_distinct_names};
 use snap_trace::switch::one_switch;
 use snap_trace::{Line, read_line};
 use std::alloc::Global;
 use std::test::Fail;
 
+// The port and the components of the packet that a line says.
+fn said(alloc: Global, fields: &Fields, line: &[u8]) -> Result<(u32, Packet), Fail> {
+    match read_line(alloc, fields, line)? {
+        Line::Inject { port, packet } => Ok((port, packet)),
+        Line::Skip => Err("no packet")?,
+    }
+}
+
 #[test]
 fn lines_say_their_packets(rt: HostRuntime) -> Result<(), Fail> {
     let alloc = rt.alloc();
-    let fields = fields(alloc)?;
-    let said: [(&[u8], [u64; 5]); 14] = [
+    let program = program(alloc, "field f; field g/24; id")?;
+    let lines: [(&[u8], [u64; 5]); 14] = [
         (b"1", [1, 0, 0, 0, 0]),
         (b"1\r", [1, 0, 0, 0, 0]),
         (b"4294967295", [4_294_967_295, 0, 0, 0, 0]),
@@ -27,48 +35,41 @@ fn lines_say_their_packets(rt: HostRuntime) -> Result<(), Fail> {
         (b"1 g.host=10.0.6.1", [1, 0, 0, 0, 167_773_697]),
         (b"1 g.host=5 f=1 outport=2", [1, 2, 1, 0, 5]),
     ];
-    for (line, numbers) in said {
-        match read_line(alloc, &fields, line) {
-            Ok(Line::Inject { port, packet }) => {
-                assert_eq!(rt; u64::from(port), numbers[0]);
-                assert_eq!(rt; packet.comps(), numbers.as_slice());
-            }
-            _ => assert!(rt; false, "no packet"),
-        }
+    for (line, numbers) in lines {
+        let (port, packet) = said(alloc, &program.fields, line)?;
+        assert_eq!(rt; u64::from(port), numbers[0]);
+        assert_eq!(rt; packet.comps(), numbers.as_slice());
     }
     Ok(())
 }
 
-// `s[inport]++; if s[inport] = 2 then outport <- 2 + outport <- 1 else outport <- 3`
-fn counting(alloc: Global) -> Result<Program, Fail> {
-    let count = change(alloc, 0, 0, Op::Add(1))?;
-    let both = par(alloc, set(1, 2), set(1, 1))?;
-    let choice = choose(alloc, holds(alloc, 0, 0, 2)?, both, set(1, 3))?;
-    Ok(Program {
-        fields: fields(alloc)?,
-        vars: names(alloc, &["s"])?,
-        body: seq(alloc, count, choice)?,
-    })
+const COUNTING: &str = "field f; field g/24; array s;
+s[inport]++; if s[inport] = 2 then outport <- 2 + outport <- 1 else outport <- 3";
+
+// A shelf with one file.
+fn shelf(alloc: Global, name: &[u8], bytes: &[u8]) -> Result<MemoryShelf, Fail> {
+    let (name, bytes) = (name.to_vec(alloc)?, bytes.to_vec(alloc)?);
+    let files = vec![in alloc; File { name, bytes }]?;
+    if !have_distinct_names(&files) {
+        return Err("two files have one name")?;
+    }
+    Ok(MemoryShelf::new(files, Vec::new(alloc)))
+}
+
+// The report over a packets file.
+fn report(alloc: Global, text: &str, packets: &[u8]) -> Result<MemorySink, Fail> {
+    let program = program(alloc, text)?;
+    let mut shelf = shelf(alloc, b"q", packets)?;
+    let mut sink = MemorySink::new(alloc, 4096, 4096, Vec::new(alloc))?;
+    one_switch(alloc, &mut shelf, b"q", &program, &mut sink)?;
+    Ok(sink)
 }
 
 #[test]
 fn one_switch_writes_its_report(rt: HostRuntime) -> Result<(), Fail> {
-    let alloc = rt.alloc();
-    let program = counting(alloc)?;
-    let arrays = program.vars.items().len();
-    assert!(rt; arrays <= 64);
-    assert!(rt; program.body.fits(program.fields.count() as usize, arrays));
-    let packets = File {
-        name: b"q".to_vec(alloc)?,
-        bytes: b"7 g=10.0.6.1\n# second\n7 f=9\n5 g=7:300".to_vec(alloc)?,
-    };
-    let files = vec![in alloc; packets]?;
-    assert!(rt; have_distinct_names(&files));
-    let mut shelf = MemoryShelf::new(files, Vec::new(alloc));
-    let mut sink = MemorySink::new(alloc, 4096, 4096, Vec::new(alloc))?;
-    let ended = one_switch(alloc, &mut shelf, b"q", &program, &mut sink);
-    assert_eq!(rt; ended, Ok(()));
-    let report: &[u8] = b"packet 1\n\
+    let packets = b"7 g=10.0.6.1\n# second\n7 f=9\n5 g=7:300";
+    let sink = report(rt.alloc(), COUNTING, packets)?;
+    let wanted: &[u8] = b"packet 1\n\
         out inport=7 outport=3 f=0 g=10.0.6.1\n\
         packet 2\n\
         out inport=7 outport=1 f=9 g=0.0.0.0\n\
@@ -78,6 +79,6 @@ fn one_switch_writes_its_report(rt: HostRuntime) -> Result<(), Fail> {
         array s 5 = 1\n\
         array s 7 = 2\n\
         end\n";
-    assert_eq!(rt; sink.bytes(), report);
+    assert_eq!(rt; sink.bytes(), wanted);
     Ok(())
 }

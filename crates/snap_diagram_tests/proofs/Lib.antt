@@ -1,2 +1,1 @@
 pub mod Walkable
-pub mod Asked

@@ -14,8 +14,6 @@ mod of_chain;
 #[cfg(test)]
 mod of_ctx;
 #[cfg(test)]
-mod of_equal;
-#[cfg(test)]
 mod of_fdd;
 #[cfg(test)]
 mod of_join;

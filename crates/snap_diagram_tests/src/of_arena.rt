@@ -33,24 +33,42 @@ fn at(alloc: Global, atom: Atom, num: u64) -> Result<Test, AllocError> {
     })
 }
 
+// Two leaves, and a test before them of an array at a number, and at a component.
+fn nodes(alloc: Global) -> Result<Nodes<Mark>, Fail> {
+    let mut nodes = Nodes::new(alloc);
+    let yes = nodes.leaf(Mark { num: 7 })?;
+    let no = nodes.leaf(Mark { num: 8 })?;
+    nodes.node(at(alloc, Atom::Num(2), 5)?, yes, no)?;
+    nodes.node(at(alloc, Atom::Comp(2), 5)?, yes, no)?;
+    Ok(nodes)
+}
+
+// The number of a test before two nodes.
+fn number(nodes: &mut Nodes<Mark>, at: Test, yes: u64, no: u64) -> Result<u64, Fail> {
+    if yes >= nodes.count() || no >= nodes.count() {
+        return Err("no such node")?;
+    }
+    Ok(nodes.node(at, yes, no)?)
+}
+
 #[test]
 fn a_node_stands_once(rt: HostRuntime) -> Result<(), Fail> {
     let alloc = rt.alloc();
-    let mut nodes = Nodes::new(alloc);
-    let left = nodes.leaf(Mark { num: 7 })?;
-    let right = nodes.leaf(Mark { num: 8 })?;
-    assert!(rt; left == 0 && right == 1 && nodes.count() == 2);
-    // Numbers and components that index are told apart.
-    let first = nodes.node(at(alloc, Atom::Num(2), 5)?, 0, 1)?;
-    assert!(rt; first == 2 && nodes.count() == 3);
-    let second = nodes.node(at(alloc, Atom::Comp(2), 5)?, 0, 1)?;
-    assert!(rt; second == 3 && nodes.count() == 4);
-    // What is there keeps its number, and a test with one way is that way.
-    let again = nodes.node(at(alloc, Atom::Num(2), 5)?, 0, 1)?;
-    assert!(rt; again == 2 && nodes.count() == 4);
-    let way = nodes.node(at(alloc, Atom::Num(2), 6)?, 3, 3)?;
-    let leaf = nodes.leaf(Mark { num: 7 })?;
-    assert!(rt; way == 3 && leaf == 0 && nodes.count() == 4);
+    let mut nodes = nodes(alloc)?;
+    assert_eq!(rt; nodes.count(), 4);
+    assert_eq!(rt; nodes.leaf(Mark { num: 8 })?, 1);
+    assert_eq!(rt; number(&mut nodes, at(alloc, Atom::Num(2), 5)?, 0, 1)?, 2);
+    assert_eq!(rt; number(&mut nodes, at(alloc, Atom::Comp(2), 5)?, 0, 1)?, 3);
+    assert_eq!(rt; nodes.count(), 4);
+    Ok(())
+}
+
+#[test]
+fn a_test_with_one_way_is_that_way(rt: HostRuntime) -> Result<(), Fail> {
+    let alloc = rt.alloc();
+    let mut nodes = nodes(alloc)?;
+    assert_eq!(rt; number(&mut nodes, at(alloc, Atom::Num(2), 6)?, 3, 3)?, 3);
+    assert_eq!(rt; nodes.count(), 4);
     assert!(rt; matches!(nodes.get(3), Node::Ask { yes: 0, no: 1, .. }));
     Ok(())
 }

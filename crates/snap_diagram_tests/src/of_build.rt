@@ -1,48 +1,41 @@
 //! Diagrams of programs beside evaluation.
 
-ghost use Rattle.std.specs.Prelude.{◌≤◌, IfOk, length};
 ghost use Rattle.snap_core.specs.Programs.{IsInForm};
 
 use crate::agreement::agrees;
-use snap_arena::nodes::Nodes;
+use crate::given::{diagram, leaf_at, program};
 use snap_build::building::{BuildFault, build};
-use snap_build::policies::policy;
 use snap_core::NoMemory;
 use snap_core::packet::Packet;
 use snap_core::program::Program;
 use snap_core::store::Store;
-use snap_ctx::context::Context;
 use snap_dep::calls::groups;
 use snap_fdd::leaf::Leaf;
-use snap_fdd::walking::walk;
-use snap_lex::tokens;
-use snap_names::resolve;
-use snap_parse::parse;
 use std::alloc::Global;
 use std::test::Fail;
 
 // What the small programs are made of: tests, assignments and updates.
-const PARTS: [&[u8]; 12] = [
-    b"id",
-    b"drop",
-    b"f = 1",
-    b"s[f] = 1",
-    b"f = 2 | t[g] = f",
-    b"!(s[1] = 2) & g = 1",
-    b"f <- 2",
-    b"f <- g",
-    b"s[f] <- g",
-    b"s[f]++",
-    b"s[1] -= 2",
-    b"t[g] <- 1",
+const PARTS: [&str; 12] = [
+    "id",
+    "drop",
+    "f = 1",
+    "s[f] = 1",
+    "f = 2 | t[g] = f",
+    "!(s[1] = 2) & g = 1",
+    "f <- 2",
+    "f <- g",
+    "s[f] <- g",
+    "s[f]++",
+    "s[1] -= 2",
+    "t[g] <- 1",
 ];
 
 // How two of them make a program: what stands before, between and behind them.
-const FORMS: [(&[u8], &[u8], &[u8]); 4] = [
-    (b"(", b") + (", b")"),
-    (b"(", b"); (", b")"),
-    (b"if s[1] = 1 | f = 2 then (", b") else (", b")"),
-    (b"atomic((", b") + g <- 1); (", b")"),
+const FORMS: [(&str, &str, &str); 4] = [
+    ("(", ") + (", ")"),
+    ("(", "); (", ")"),
+    ("if s[1] = 1 | f = 2 then (", ") else (", ")"),
+    ("atomic((", ") + g <- 1); (", ")"),
 ];
 
 // One of 81 stores and packets: two places of each array, and the fields f and g.
@@ -61,16 +54,10 @@ fn input(alloc: Global, number: u64) -> Result<(Store, Packet), NoMemory> {
 fn agrees_everywhere(alloc: Global, program: &Program) -> Result<bool, Fail>
     requires { IsInForm program.now }
 {
-    let groups = groups(alloc, program)?;
-    let ctx = Context::empty(alloc, program.fields.count())?;
-    let mut nodes = Nodes::new(alloc);
-    let root = policy(&mut nodes, &groups, &ctx, &program.body)?;
+    let d = diagram(alloc, program)?;
     for number in 0..81u64 {
         let (store, packet) = input(alloc, number)?;
-        if packet.comps().len() != ctx.comps() as usize {
-            return Err("the packet has other components")?;
-        }
-        let leaf = walk(&nodes, root, &store, &packet);
+        let leaf = leaf_at(&d, &store, &packet)?;
         if !agrees(alloc, leaf, &program.body, &store, &packet)? {
             return Ok(false);
         }
@@ -92,52 +79,37 @@ fn is_judged(alloc: Global, program: &Program) -> Result<bool, Fail>
     }
 }
 
-// The text of a program of two parts.
-fn text_of(
-    alloc: Global,
-    form: (&[u8], &[u8], &[u8]),
-    left: &[u8],
-    right: &[u8],
-) -> Result<Vec<u8>, Fail> {
-    let mut text = b"field f; field g; array s; array t; ".to_vec(alloc)?;
-    text.extend_from_slice(form.0)?;
-    text.extend_from_slice(left)?;
-    text.extend_from_slice(form.1)?;
-    text.extend_from_slice(right)?;
-    text.extend_from_slice(form.2)?;
-    Ok(text)
-}
-
-// The program that a text spells.
-fn program_of(alloc: Global, text: &[u8]) -> Result<Program, Fail>
-    requires { length text.now ≤ 262144 }
-    ensures { IfOk result IsInForm }
-{
-    let Ok(tokens) = tokens(alloc, text) else {
-        return Err("the tokens aren't read")?;
-    };
-    let Ok(source) = parse(alloc, text, &tokens) else {
-        return Err("the tree isn't read")?;
-    };
-    let Ok(program) = resolve(alloc, text, &source) else {
-        return Err("the names aren't read")?;
-    };
-    Ok(program)
+// Whether all of this is so of the program with this body.
+fn is_right(alloc: Global, body: &str) -> Result<bool, Fail> {
+    let text = format!(in alloc; "field f; field g; array s; array t; {body}")?;
+    let program = program(alloc, text.as_str())?;
+    Ok(agrees_everywhere(alloc, &program)? && is_judged(alloc, &program)?)
 }
 
 #[test]
 fn diagrams_do_what_evaluation_does(rt: HostRuntime) -> Result<(), Fail> {
     let alloc = rt.alloc();
-    for form in FORMS {
+    for (before, between, behind) in FORMS {
         for left in PARTS {
             for right in PARTS {
-                let text = text_of(alloc, form, left, right)?;
-                assert!(rt; text.len() <= 262_144);
-                let program = program_of(alloc, &text)?;
-                assert!(rt; agrees_everywhere(alloc, &program)?);
-                assert!(rt; is_judged(alloc, &program)?);
+                let body = format!(in alloc; "{before}{left}{between}{right}{behind}")?;
+                assert!(rt; is_right(alloc, body.as_str())?, "{body}");
             }
         }
+    }
+    Ok(())
+}
+
+// Two choices, which race where one of them reads what the other writes, and a choice by a predicate of parts.
+const CHOICES: [&str; 2] = [
+    "(if t[f] = 2 then s[g] += 2 else drop) + (if g = 2 then t[f] += 7 else outport <- f)",
+    "if s[g] = 1 & !(t[g] = f) | f = 2 then s[f]++ + outport <- 9 else t[f] = 0",
+];
+
+#[test]
+fn choices_do_what_evaluation_does(rt: HostRuntime) -> Result<(), Fail> {
+    for body in CHOICES {
+        assert!(rt; is_right(rt.alloc(), body)?, "{body}");
     }
     Ok(())
 }

@@ -1,97 +1,139 @@
-ghost use Rattle.std.specs.Prelude.{IfOk};
-ghost use Rattle.snap_arena.specs.Arena.{Grew};
-ghost use Rattle.snap_fdd.specs.Picks.{IsArgument};
-
-mod rows;
-mod sizes;
-
-use crate::given::{at, leaf, leaf_at, set};
-use snap_arena::nodes::Nodes;
-use snap_core::lists::Out;
+use crate::agreement::{outs_fit_packet, updates_fit};
+use crate::given::{diagram, leaf_at, program};
+use snap_core::outs::after_all;
 use snap_core::packet::Packet;
-use snap_core::policy::{Atom, Op, Test, Update};
 use snap_core::store::Store;
-use snap_ctx::context::Context;
-use snap_dep::groups::Groups;
-use snap_fdd::bounds::test_fits;
-use snap_fdd::leaf::{Go, Leaf, Updates};
-use snap_fdd::pick::ite;
+use snap_fdd::leaf::{Go, Leaf};
+use std::alloc::Global;
 use std::test::Fail;
 
-// The leaf that updates an array at a component.
-fn change(
-    nodes: &mut Nodes<Leaf>,
-    groups: &Groups,
-    ctx: &Context,
-    var: u16,
-    comp: u16,
-    op: Op,
-) -> Result<u64, Fail>
-    ensures grew { Grew nodes.old nodes.new }
-    ensures diagram { IfOk result (IsArgument groups.now ctx.now nodes.new) }
-{
-    let alloc = nodes.allocator();
-    let update = Update {
-        var,
-        index: at(alloc, comp)?,
-        op,
+const FORKED: &str = "(id + outport <- 2); s[inport]++";
+
+const TESTED: &str =
+    "s[srcport] <- dstport; s[inport]++; if s[srcport] = 0 then outport <- 1 else outport <- 2";
+
+const BEHIND_AN_OUT: &str =
+    "outport <- srcport; if outport = 9 then outport <- 1 else outport <- 2";
+
+// What comes of a packet: its `outport`, and the numbers at `s[inport]` and at `s[srcport]`.
+type Gives = (u64, u64, u64);
+
+// Bodies, the packet's `inport`, `outport`, `srcport` and `dstport`, and what comes of it, nothing where two parts race.
+const ROWS: [(&str, [u64; 4], Option<Gives>); 7] = [
+    // Equal copies are one, and others race.
+    (
+        "(id + srcport <- 1); s[inport]++",
+        [1, 2, 1, 0],
+        Some((2, 1, 1)),
+    ),
+    (FORKED, [1, 2, 0, 0], Some((2, 1, 0))),
+    (FORKED, [1, 3, 0, 0], None),
+    // A test sees the updates before it, and what outs set.
+    (TESTED, [7, 0, 7, 18446744073709551615], Some((1, 0, 0))),
+    (TESTED, [7, 0, 8, 5], Some((2, 1, 5))),
+    (BEHIND_AN_OUT, [4, 5, 9, 0], Some((1, 0, 0))),
+    (BEHIND_AN_OUT, [4, 9, 5, 0], Some((2, 0, 0))),
+];
+
+// What a leaf makes of the packet with these components.
+fn made(alloc: Global, go: &Go, packet: &Packet, comps: [u64; 4]) -> Result<Gives, Fail> {
+    if !outs_fit_packet(go.outs.list(), packet) || !updates_fit(go.ups.list(), packet) {
+        return Err("the leaf doesn't fit")?;
+    }
+    let mut store = Store::new(alloc);
+    store.apply(packet, go.ups.list())?;
+    let packets = after_all(alloc, go.outs.list(), packet)?;
+    let [one] = packets.list() else {
+        return Err("not one packet")?;
     };
-    let writes = if var < 64 { 1 << var } else { 0 };
-    let updates = Updates::new(vec![in alloc; update]?);
-    leaf(
-        nodes,
-        groups,
-        ctx,
-        Out::new(Vec::new(alloc)),
-        updates,
-        writes,
-    )
+    let outport = one.comps().get(1).copied().unwrap_or(0);
+    Ok((
+        outport,
+        store.get(0, &[comps[0]]),
+        store.get(0, &[comps[2]]),
+    ))
 }
 
-// A test before two diagrams.
-fn asked(
-    nodes: &mut Nodes<Leaf>,
-    groups: &Groups,
-    ctx: &Context,
-    test: Test,
-    yes: u64,
-    no: u64,
-) -> Result<u64, Fail>
-    requires yes { IsArgument groups.now ctx.now nodes.old yes }
-    requires no { IsArgument groups.now ctx.now nodes.old no }
-    ensures grew { Grew nodes.old nodes.new }
-    ensures diagram { IfOk result (IsArgument groups.now ctx.now nodes.new) }
-{
-    if !test_fits(groups, ctx, &test) {
-        return Err("the test doesn't fit")?;
-    }
-    let d = ite(nodes, groups, ctx, test, yes, no)?;
-    Ok(d)
-}
-
-// The leaf that sets `outport` to 1, or to 2, by a test.
-fn choice(nodes: &mut Nodes<Leaf>, groups: &Groups, ctx: &Context, test: Test) -> Result<u64, Fail>
-    ensures grew { Grew nodes.old nodes.new }
-    ensures diagram { IfOk result (IsArgument groups.now ctx.now nodes.new) }
-{
-    let one = set(nodes, groups, ctx, 1, Atom::Num(1))?;
-    let two = set(nodes, groups, ctx, 1, Atom::Num(2))?;
-    asked(nodes, groups, ctx, test, one, two)
-}
-
-// What the leaf does to which a diagram walks, unless two parts race there.
-fn go_at<'a>(
-    nodes: &'a Nodes<Leaf>,
-    groups: &Groups,
-    ctx: &Context,
-    d: u64,
-    store: &Store,
-    packet: &Packet,
-) -> Result<Option<&'a Go>, Fail>
-    requires { IsArgument groups.now ctx.now nodes.now d }
-{
-    match leaf_at(nodes, groups, ctx, d, store, packet)? {
+// What the program with this body makes of it.
+fn gives(alloc: Global, body: &str, comps: [u64; 4]) -> Result<Option<Gives>, Fail> {
+    let text = format!(in alloc; "field srcport; field dstport; array s; {body}")?;
+    let program = program(alloc, text.as_str())?;
+    let d = diagram(alloc, &program)?;
+    let packet = Packet::new(comps.as_slice().to_vec(alloc)?);
+    match leaf_at(&d, &Store::new(alloc), &packet)? {
         Leaf::Race => Ok(None),
-        Leaf::Go(go) => Ok(Some(go)),
+        Leaf::Go(go) => Ok(Some(made(alloc, go, &packet, comps)?)),
     }
+}
+
+#[test]
+fn chains_give_what_was_worked_by_hand(rt: HostRuntime) -> Result<(), Fail> {
+    for (body, comps, wanted) in ROWS {
+        assert_eq!(rt; gives(rt.alloc(), body, comps)?, wanted, "{body}");
+    }
+    Ok(())
+}
+
+// How many nodes are made for the program with this text.
+fn count(alloc: Global, text: &str) -> Result<u64, Fail> {
+    let program = program(alloc, text)?;
+    Ok(diagram(alloc, &program)?.nodes.count())
+}
+
+// Five monitors, and then an egress of 100 prefixes.
+fn monitored_egress(alloc: Global) -> Result<String, Fail> {
+    let mut text = String::from_str(
+        alloc,
+        "field net; array m1; array m2; array m3; array m4; array m5; ",
+    )?;
+    for n in 1..6u64 {
+        let monitor = format!(in alloc; "if inport = {n} then m{n}[outport]++ else id; ")?;
+        text.push_str(monitor.as_str())?;
+    }
+    for n in 1..101u64 {
+        let prefix = format!(in alloc; "if net = {n} then outport <- {n} else ")?;
+        text.push_str(prefix.as_str())?;
+    }
+    text.push_str("id")?;
+    Ok(text)
+}
+
+#[test]
+fn monitors_before_an_egress_have_few_nodes(rt: HostRuntime) -> Result<(), Fail> {
+    let text = monitored_egress(rt.alloc())?;
+    assert!(rt; count(rt.alloc(), text.as_str())? < 10000);
+    Ok(())
+}
+
+// Whether the fields of indices rise, or fall.
+#[derive(Clone, Copy)]
+enum Order {
+    Rising,
+    Falling,
+}
+
+// 24 additions to one array, at a field each, and then a test of the array at another one.
+fn tested_behind_24(alloc: Global, order: Order) -> Result<String, Fail> {
+    let mut text = String::from_str(alloc, "array s; ")?;
+    for n in 0..25u64 {
+        text.push_str(format!(in alloc; "field f{n}; ")?.as_str())?;
+    }
+    for n in 0..24u64 {
+        let at = match order {
+            Order::Rising => n,
+            Order::Falling => 23 - n,
+        };
+        text.push_str(format!(in alloc; "s[f{at}]++; ")?.as_str())?;
+    }
+    text.push_str("if s[f24] = 30 then outport <- 1 else outport <- 2")?;
+    Ok(text)
+}
+
+#[test]
+fn a_test_behind_24_updates_has_few_nodes(rt: HostRuntime) -> Result<(), Fail> {
+    for order in [Order::Rising, Order::Falling] {
+        let text = tested_behind_24(rt.alloc(), order)?;
+        assert!(rt; count(rt.alloc(), text.as_str())? < 2 * 24 * 24);
+    }
+    Ok(())
 }

@@ -1,97 +1,12 @@
-ghost use Rattle.std.specs.Prelude.{IfOk};
-ghost use Rattle.snap_arena.specs.Arena.{Grew};
-ghost use Rattle.snap_fdd.specs.Picks.{IsArgument};
-ghost use Rattle.snap_join.specs.Predicates.{IsPredicate};
-
-mod evaluated;
-
-use crate::given::{apart, at, leaf, leaf_at, passes};
+use crate::given::{diagram, leaf_at, program};
 use snap_arena::node::Node;
 use snap_arena::nodes::Nodes;
-use snap_core::lists::Out;
 use snap_core::packet::Packet;
-use snap_core::policy::{Atom, Op, Term, Test, Update};
 use snap_core::store::Store;
-use snap_ctx::context::Context;
-use snap_dep::groups::Groups;
-use snap_fdd::bounds::test_fits;
-use snap_fdd::leaf::{Go, Leaf, Updates};
-use snap_fdd::pick::ite;
+use snap_fdd::leaf::Leaf;
 use snap_fdd::pruning::prune;
-use snap_join::joining::{both, either, join};
-use snap_join::negating::negate;
-use std::alloc::{AllocError, Global};
-use std::process::Abort;
+use std::alloc::Global;
 use std::test::Fail;
-
-// The negation of a predicate.
-fn not(nodes: &mut Nodes<Leaf>, groups: &Groups, ctx: &Context, a: u64) -> Result<u64, Fail>
-    requires a { IsArgument groups.now ctx.now nodes.old a }
-    requires predicate { IsPredicate nodes.old a }
-    ensures grew { Grew nodes.old nodes.new }
-    ensures diagram { IfOk result (IsArgument groups.now ctx.now nodes.new) }
-    ensures predicate { IfOk result (IsPredicate nodes.new) }
-{
-    let d = negate(nodes, a)?;
-    Ok(d)
-}
-
-// The diagram of a test, which reads the arrays of a set.
-fn tested(
-    nodes: &mut Nodes<Leaf>,
-    groups: &Groups,
-    ctx: &Context,
-    test: Test,
-    reads: u64,
-) -> Result<u64, Fail>
-    ensures grew { Grew nodes.old nodes.new }
-    ensures diagram { IfOk result (IsArgument groups.now ctx.now nodes.new) }
-    ensures predicate { IfOk result (IsPredicate nodes.new) }
-{
-    let yes = passes(nodes, groups, ctx, reads)?;
-    let no = not(nodes, groups, ctx, yes)?;
-    if !test_fits(groups, ctx, &test) {
-        return Err("the test doesn't fit")?;
-    }
-    let d = ite(nodes, groups, ctx, test, yes, no)?;
-    Ok(d)
-}
-
-// Whether an array has 1 at a component's number.
-fn state(alloc: Global, var: u16, comp: u16) -> Result<Test, AllocError> {
-    Ok(Test::State {
-        var,
-        index: at(alloc, comp)?,
-        value: Term::Num(1),
-    })
-}
-
-// `v0[srcport] = 1` beside `v0[srcport] <- 1`, where `srcport` is the third component.
-fn clash(nodes: &mut Nodes<Leaf>, groups: &Groups, ctx: &Context) -> Result<u64, Fail>
-    ensures { IfOk result (IsArgument groups.now ctx.now nodes.new) }
-{
-    let alloc = nodes.allocator();
-    let test = state(alloc, 0, 2)?;
-    let read = tested(nodes, groups, ctx, test, 1)?;
-    let update = Update {
-        var: 0,
-        index: at(alloc, 2)?,
-        op: Op::Put(Atom::Num(1)),
-    };
-    let out = Out::new(Vec::new(alloc));
-    let updates = Updates::new(vec![in alloc; update]?);
-    let written = leaf(nodes, groups, ctx, out, updates, 1)?;
-    Ok(join(nodes, groups, ctx, read, written)?)
-}
-
-// `inport = 1`, or not.
-fn anything(nodes: &mut Nodes<Leaf>, groups: &Groups, ctx: &Context) -> Result<u64, Fail>
-    ensures { IfOk result (IsArgument groups.now ctx.now nodes.new) }
-{
-    let yes = tested(nodes, groups, ctx, Test::Value { comp: 0, num: 1 }, 0)?;
-    let no = not(nodes, groups, ctx, yes)?;
-    Ok(either(nodes, groups, ctx, yes, no)?)
-}
 
 // Whether a leaf passes the packet alone, as it is.
 fn is_pass(leaf: &Leaf) -> bool {
@@ -107,31 +22,35 @@ fn is_pass(leaf: &Leaf) -> bool {
     }
 }
 
+// One of 18 stores and packets with three fields.
+fn input(alloc: Global, number: u64) -> Result<(Store, Packet), Fail> {
+    let mut store = Store::new(alloc);
+    store.put(0, &[5], number % 3)?;
+    let comps = vec![in alloc; number / 9, 1, 4 + number / 3 % 3]?;
+    Ok((store, Packet::new(comps)))
+}
+
+// At how many of them two parts race, and at how many a program passes the packet.
+fn races_and_passes(alloc: Global, body: &str) -> Result<(u64, u64), Fail> {
+    let text = format!(in alloc; "field srcport; array s; {body}")?;
+    let program = program(alloc, text.as_str())?;
+    let d = diagram(alloc, &program)?;
+    let (mut races, mut passes) = (0u64, 0u64);
+    for number in 0..18u64 {
+        let (store, packet) = input(alloc, number)?;
+        let leaf = leaf_at(&d, &store, &packet)?;
+        races = races.wrapping_add(u64::from(matches!(leaf, Leaf::Race)));
+        passes = passes.wrapping_add(u64::from(is_pass(leaf)));
+    }
+    Ok((races, passes))
+}
+
 #[test]
 fn a_clash_races_and_a_test_or_its_negation_passes(rt: HostRuntime) -> Result<(), Fail> {
-    let alloc = rt.alloc();
-    let groups = apart(&rt, alloc, 1)?;
-    let ctx = Context::empty(alloc, 4)?;
-    let mut nodes = Nodes::new(alloc);
-    let pass = anything(&mut nodes, &groups, &ctx)?;
-    for number in 0..18u64 {
-        let mut store = Store::new(alloc);
-        store.put(0, &[5], number % 3)?;
-        let packet = Packet::new(vec![in alloc; number / 9, 1, 4 + number / 3 % 3, 5]?);
-        assert!(rt; is_pass(leaf_at(&nodes, &groups, &ctx, pass, &store, &packet)?));
-    }
-    let race = clash(&mut nodes, &groups, &ctx)?;
-    for number in 0..18u64 {
-        let mut store = Store::new(alloc);
-        store.put(0, &[5], number % 3)?;
-        let packet = Packet::new(vec![in alloc; number / 9, 1, 4 + number / 3 % 3, 5]?);
-        assert!(rt;
-            matches!(
-                leaf_at(&nodes, &groups, &ctx, race, &store, &packet)?,
-                Leaf::Race
-            )
-        );
-    }
+    let clash = "s[srcport] = 1 + s[srcport] <- 1";
+    assert_eq!(rt; races_and_passes(rt.alloc(), clash)?, (18, 0));
+    let anything = "inport = 1 | !(inport = 1)";
+    assert_eq!(rt; races_and_passes(rt.alloc(), anything)?, (0, 18));
     Ok(())
 }
 
@@ -146,95 +65,38 @@ enum Shape {
     MayMeet,
 }
 
-// The two tests of a part, and what they read.
-fn tests_of(alloc: Global, shape: Shape, number: u16) -> Result<(Test, Test, u64), AllocError> {
-    let first = number.wrapping_mul(2);
-    let second = first.wrapping_add(1);
-    match shape {
-        Shape::OneArray => Ok((state(alloc, 0, first)?, state(alloc, 0, second)?, 1)),
-        Shape::Arrays => {
-            let reads = if number < 64 { 1 << number } else { 0 };
-            Ok((
-                state(alloc, number, first)?,
-                state(alloc, number, second)?,
-                reads,
-            ))
-        }
-        Shape::Numbers => {
-            let num = number as u64;
-            Ok((
-                Test::Value { comp: 2, num },
-                Test::Value { comp: 2, num },
-                0,
-            ))
-        }
-        Shape::MayMeet if number < 2 => Ok((
-            Test::Value {
-                comp: first,
-                num: 7,
-            },
-            Test::Value {
-                comp: first,
-                num: 7,
-            },
-            0,
-        )),
+// A part of a disjunction.
+fn part(alloc: Global, shape: Shape, n: u64) -> Result<String, Fail> {
+    let (first, second) = (n.wrapping_mul(2), n.wrapping_mul(2).wrapping_add(1));
+    let part = match shape {
+        Shape::OneArray => format!(in alloc; "s0[f{first}] = 1 & s0[f{second}] = 1")?,
+        Shape::Arrays => format!(in alloc; "s{n}[f{first}] = 1 & s{n}[f{second}] = 1")?,
+        Shape::Numbers => format!(in alloc; "f0 = {n}")?,
+        Shape::FarApart => format!(in alloc; "f{n} = 1 & f{} = 1", n.wrapping_add(12))?,
+        Shape::MayMeet if n < 2 => format!(in alloc; "f{first} = 7")?,
         Shape::MayMeet => {
-            let place = first.wrapping_sub(4);
-            let next = place.wrapping_add(1);
-            Ok((state(alloc, 0, place)?, state(alloc, 0, next)?, 1))
+            let (first, second) = (first.wrapping_sub(4), second.wrapping_sub(4));
+            format!(in alloc; "s0[f{first}] = 1 & s0[f{second}] = 1")?
         }
-        Shape::FarApart => {
-            let later = number.wrapping_add(12);
-            Ok((
-                Test::Value {
-                    comp: number,
-                    num: 1,
-                },
-                Test::Value {
-                    comp: later,
-                    num: 1,
-                },
-                0,
-            ))
-        }
-    }
+    };
+    Ok(part)
 }
 
-// Both tests pass.
-fn part(
-    nodes: &mut Nodes<Leaf>,
-    groups: &Groups,
-    ctx: &Context,
-    shape: Shape,
-    number: u16,
-) -> Result<u64, Fail>
-    ensures grew { Grew nodes.old nodes.new }
-    ensures diagram { IfOk result (IsArgument groups.now ctx.now nodes.new) }
-    ensures predicate { IfOk result (IsPredicate nodes.new) }
-{
-    let (first, second, reads) = tests_of(nodes.allocator(), shape, number)?;
-    let a = tested(nodes, groups, ctx, first, reads)?;
-    let b = tested(nodes, groups, ctx, second, reads)?;
-    Ok(both(nodes, groups, ctx, a, b)?)
-}
-
-// One part or another.
-fn any_of(
-    nodes: &mut Nodes<Leaf>,
-    groups: &Groups,
-    ctx: &Context,
-    shape: Shape,
-    count: u16,
-) -> Result<u64, Fail>
-    ensures { IfOk result (IsArgument groups.now ctx.now nodes.new) }
-{
-    let mut any = part(nodes, groups, ctx, shape, 0)?;
-    for number in 1..count {
-        let more = part(nodes, groups, ctx, shape, number)?;
-        any = either(nodes, groups, ctx, any, more)?;
+// A program that passes where one part or another does.
+fn any_of(alloc: Global, shape: Shape, count: u64) -> Result<String, Fail> {
+    let mut text = String::new(alloc);
+    for n in 0..48u64 {
+        text.push_str(format!(in alloc; "field f{n}; ")?.as_str())?;
     }
-    Ok(any)
+    for n in 0..24u64 {
+        text.push_str(format!(in alloc; "array s{n}; ")?.as_str())?;
+    }
+    text.push_str(part(alloc, shape, 0)?.as_str())?;
+    for n in 1..count {
+        text.push_str(" | ")?;
+        text.push_str(part(alloc, shape, n)?.as_str())?;
+    }
+    Ok(text)
 }
 
 // How many nodes are reached.
@@ -261,31 +123,24 @@ fn count_below(nodes: &Nodes<Leaf>, root: u64) -> Result<usize, Fail> {
     Ok(reached.iter().filter(|it| **it).count())
 }
 
-// The nodes of a disjunction, which pruning leaves as it is.
-fn nodes_of(
-    rt: &impl Abort,
-    alloc: Global,
-    shape: Shape,
-    count: u16,
-    comps: u16,
-    arrays: usize,
-) -> Result<usize, Fail> {
-    let groups = apart(rt, alloc, arrays)?;
-    assert!(rt; comps <= 64);
-    let ctx = Context::empty(alloc, comps)?;
-    let mut nodes = Nodes::new(alloc);
-    let d = any_of(&mut nodes, &groups, &ctx, shape, count)?;
-    assert_eq!(rt; prune(&mut nodes, &groups, &ctx, d)?, d);
-    count_below(&nodes, d)
+// The nodes of a disjunction's diagram, which pruning leaves as it is.
+fn nodes_of(alloc: Global, shape: Shape, count: u64) -> Result<usize, Fail> {
+    let text = any_of(alloc, shape, count)?;
+    let program = program(alloc, text.as_str())?;
+    let mut d = diagram(alloc, &program)?;
+    if prune(&mut d.nodes, &d.groups, &d.ctx, d.root)? != d.root {
+        return Err("pruning changes it")?;
+    }
+    count_below(&d.nodes, d.root)
 }
 
 #[test]
 fn disjunctions_have_few_nodes(rt: HostRuntime) -> Result<(), Fail> {
     let alloc = rt.alloc();
-    assert_eq!(rt; nodes_of(&rt, alloc, Shape::OneArray, 24, 48, 1)?, 50);
-    assert_eq!(rt; nodes_of(&rt, alloc, Shape::Arrays, 24, 48, 24)?, 50);
-    assert_eq!(rt; nodes_of(&rt, alloc, Shape::Numbers, 500, 4, 1)?, 502);
-    assert_eq!(rt; nodes_of(&rt, alloc, Shape::FarApart, 12, 24, 1)?, 8192);
-    assert_eq!(rt; nodes_of(&rt, alloc, Shape::MayMeet, 26, 48, 1)?, 52);
+    assert_eq!(rt; nodes_of(alloc, Shape::OneArray, 24)?, 50);
+    assert_eq!(rt; nodes_of(alloc, Shape::Arrays, 24)?, 50);
+    assert_eq!(rt; nodes_of(alloc, Shape::Numbers, 500)?, 502);
+    assert_eq!(rt; nodes_of(alloc, Shape::FarApart, 12)?, 8192);
+    assert_eq!(rt; nodes_of(alloc, Shape::MayMeet, 26)?, 52);
     Ok(())
 }

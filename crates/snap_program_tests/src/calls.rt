@@ -5,21 +5,23 @@ use std::process::Abort;
 use std::test::Fail;
 use std::thread::Threads;
 
-// What a call answered and wrote.
-#[derive(Drop)]
-pub(crate) struct Called {
+// A call's status, and what it writes.
+#[derive(Clone, Copy)]
+pub(crate) struct Answer<'a> {
     pub(crate) status: u8,
-    pub(crate) out: MemorySink,
-    pub(crate) err: MemorySink,
+    pub(crate) out: &'a [u8],
+    pub(crate) err: &'a [u8],
 }
 
-// How many bytes the shelf and the sink take at most in a call, which of their calls fail, and the room for a message.
+// How many bytes the shelf and the sink take at most in a call, which of their calls fail, and the room for what is
+// written.
 #[derive(Clone, Copy)]
 pub(crate) struct Devices<'a> {
     pub(crate) read_most: usize,
     pub(crate) read_fails: &'a [u64],
     pub(crate) write_most: usize,
     pub(crate) write_fails: &'a [u64],
+    pub(crate) out_room: usize,
     pub(crate) err_room: usize,
 }
 
@@ -29,38 +31,35 @@ pub(crate) const AMPLE: Devices<'static> = Devices {
     read_fails: &[],
     write_most: 4096,
     write_fails: &[],
+    out_room: 4096,
     err_room: 256,
 };
 
-// Calls `snap` with these files, names with contents.
-pub(crate) fn call(
-    rt: &(impl Abort + Threads + Sync),
-    alloc: Global,
-    words: &[&[u8]],
-    files: &[(&[u8], &[u8])],
-) -> Result<Called, Fail> {
-    call_over(rt, alloc, words, files, AMPLE)
-}
-
-// The same over devices that may fail.
-pub(crate) fn call_over(
+// Whether `snap` with these files, names with contents, over these devices answers so.
+pub(crate) fn answers(
     rt: &(impl Abort + Threads + Sync),
     alloc: Global,
     words: &[&[u8]],
     files: &[(&[u8], &[u8])],
     devices: Devices,
-) -> Result<Called, Fail> {
+    answer: Answer,
+) -> Result<bool, Fail> {
     let words = spelled(alloc, words)?;
-    let mut shelf = shelf_over(rt, alloc, files, devices)?;
-    let fails = devices.write_fails.to_vec(alloc)?;
-    let mut out = MemorySink::new(alloc, 4096, devices.write_most.max(1), fails)?;
-    let mut err = MemorySink::new(alloc, devices.err_room, 256, Vec::new(alloc))?;
+    let mut shelf = shelf_over(alloc, files, devices)?;
+    let (mut out, mut err) = sinks(alloc, devices)?;
     let status = snap(rt, alloc, &words, &mut shelf, &mut out, &mut err);
-    Ok(Called { status, out, err })
+    Ok(status == answer.status && out.bytes() == answer.out && err.bytes() == answer.err)
+}
+
+fn sinks(alloc: Global, devices: Devices) -> Result<(MemorySink, MemorySink), Fail> {
+    let fails = devices.write_fails.to_vec(alloc)?;
+    let out = MemorySink::new(alloc, devices.out_room, devices.write_most.max(1), fails)?;
+    let err = MemorySink::new(alloc, devices.err_room, 256, Vec::new(alloc))?;
+    Ok((out, err))
 }
 
 // The words, each owned.
-pub(crate) fn spelled(alloc: Global, words: &[&[u8]]) -> Result<Vec<Vec<u8>>, Fail> {
+fn spelled(alloc: Global, words: &[&[u8]]) -> Result<Vec<Vec<u8>>, Fail> {
     let mut spelled = Vec::new(alloc);
     for word in words {
         spelled.push(word.to_vec(alloc)?)?;
@@ -69,16 +68,7 @@ pub(crate) fn spelled(alloc: Global, words: &[&[u8]]) -> Result<Vec<Vec<u8>>, Fa
 }
 
 // A shelf that holds these files, names with contents.
-pub(crate) fn shelf_of(
-    rt: &impl Abort,
-    alloc: Global,
-    files: &[(&[u8], &[u8])],
-) -> Result<MemoryShelf, Fail> {
-    shelf_over(rt, alloc, files, AMPLE)
-}
-
 fn shelf_over(
-    rt: &impl Abort,
     alloc: Global,
     files: &[(&[u8], &[u8])],
     devices: Devices,
@@ -90,7 +80,9 @@ fn shelf_over(
             bytes: bytes.to_vec(alloc)?,
         })?;
     }
-    assert!(rt; have_distinct_names(&held));
+    if !have_distinct_names(&held) {
+        return Err("two files have one name")?;
+    }
     let fails = devices.read_fails.to_vec(alloc)?;
     Ok(MemoryShelf::limited(held, devices.read_most.max(1), fails))
 }

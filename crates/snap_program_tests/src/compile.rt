@@ -1,4 +1,4 @@
-use crate::calls::{AMPLE, Devices, call, call_over};
+use crate::calls::{AMPLE, Answer, Devices, answers};
 use std::test::Fail;
 
 const WORDS: &[&[u8]] = &[b"compile", b"p", b"t", b"l"];
@@ -31,28 +31,27 @@ const FILES: &[(&[u8], &[u8])] = &[
 
 #[test]
 fn constant_egress_is_one_leaf(rt: HostRuntime) -> Result<(), Fail> {
-    let got = call(&rt, rt.alloc(), WORDS, FILES)?;
-    assert_eq!(rt; got.status, 0);
-    assert_eq!(rt; got.out.bytes(), TABLES);
-    assert_eq!(rt; got.err.bytes(), b"".as_slice());
+    let whole = Answer {
+        status: 0,
+        out: TABLES,
+        err: b"",
+    };
+    assert!(rt; answers(&rt, rt.alloc(), WORDS, FILES, AMPLE, whole)?);
     Ok(())
 }
 
 #[test]
 fn compile_stops_where_a_device_fails(rt: HostRuntime) -> Result<(), Fail> {
-    let alloc = rt.alloc();
-    let absent = call(&rt, alloc, &[b"compile", b"p", b"u", b"l"], FILES)?;
-    assert_eq!(rt; absent.status, 2);
-    assert_eq!(rt; absent.out.bytes(), b"".as_slice());
-    assert_eq!(rt; absent.err.bytes(), b"snapc: cannot read u\n".as_slice());
     let devices = Devices {
         write_most: 1,
         write_fails: &[10],
         ..AMPLE
     };
-    let cut = call_over(&rt, alloc, WORDS, FILES, devices)?;
-    assert_eq!(rt; cut.status, 3);
-    assert_eq!(rt; cut.out.bytes(), b"snap-table".as_slice());
-    assert_eq!(rt; cut.err.bytes(), b"snapc: cannot write\n".as_slice());
+    let cut = Answer {
+        status: 3,
+        out: b"snap-table",
+        err: b"snapc: cannot write\n",
+    };
+    assert!(rt; answers(&rt, rt.alloc(), WORDS, FILES, devices, cut)?);
     Ok(())
 }

@@ -1,132 +1,41 @@
-use crate::calls::{AMPLE, Devices, call, call_over};
+use crate::calls::{AMPLE, Answer, Devices, answers};
 use std::test::Fail;
 
+const WORDS: &[&[u8]] = &[b"obs", b"p", b"q"];
+
+// What is written before a line that isn't in form, and before a packet on which the program is undefined, stays.
+const CUT: [(&[u8], &[u8], Answer<'static>); 2] = [
+    (
+        b"if inport = 1 then outport <- 2 else if inport = 2 then outport <- 1 else drop",
+        b"1\nx\n",
+        Answer {
+            status: 12,
+            out: b"packet 1\nout inport=1 outport=2\n",
+            err: b"snapc: packets: line 2\n",
+        },
+    ),
+    (
+        b"array s; (id + outport <- 2); s[inport]++",
+        b"1 outport=2\n1 outport=3\n",
+        Answer {
+            status: 15,
+            out: b"packet 1\nout inport=1 outport=2\n",
+            err: b"snapc: undefined: packet 2\n",
+        },
+    ),
+];
+
 #[test]
-fn obs_answers_by_its_words_and_files(rt: HostRuntime) -> Result<(), Fail> {
-    let obs: &[&[u8]] = &[b"obs", b"p", b"q"];
-    let absent: &[&[u8]] = &[b"obs", b"p", b"r"];
-    let option: &[&[u8]] = &[b"obs", b"-p", b"q"];
-    let hops: &[&[u8]] = &[b"obs", b"--hops", b"p", b"q"];
-    let schedule: &[&[u8]] = &[b"obs", b"p", b"q", b"--schedule=x"];
-    let two_ports: &[u8] =
-        b"if inport = 1 then outport <- 2 else if inport = 2 then outport <- 1 else drop";
-    let cases: [(&[&[u8]], &[u8], &[u8], u8, &[u8], &[u8]); 16] = [
-        (
-            obs,
-            two_ports,
-            b"1\n2\n3 outport=7\n",
-            0,
-            b"packet 1\nout inport=1 outport=2\npacket 2\nout inport=2 outport=1\npacket 3\nend\n",
-            b"",
-        ),
-        (
-            obs,
-            two_ports,
-            b"1\nx\n",
-            12,
-            b"packet 1\nout inport=1 outport=2\n",
-            b"snapc: packets: line 2\n",
-        ),
-        (
-            obs,
-            b"outport <-",
-            b"",
-            4,
-            b"",
-            b"snapc: 1:11: unexpected token\n",
-        ),
-        (
-            obs,
-            b"outport <- 2",
-            b"1\n",
-            0,
-            b"packet 1\nout inport=1 outport=2\nend\n",
-            b"",
-        ),
-        (
-            obs,
-            b"array s; drop; s[inport]++",
-            b"3\n",
-            0,
-            b"packet 1\nend\n",
-            b"",
-        ),
-        (
-            obs,
-            b"array s; s[inport]++; drop",
-            b"3\n",
-            0,
-            b"packet 1\narray s 3 = 1\nend\n",
-            b"",
-        ),
-        (
-            obs,
-            b"array s; (id + outport <- 2); s[inport]++",
-            b"1 outport=2\n1 outport=3\n",
-            15,
-            b"packet 1\nout inport=1 outport=2\n",
-            b"snapc: undefined: packet 2\n",
-        ),
-        (
-            obs,
-            b"field a; array s; outport <- inport; s[a] += 5; s[a] -= 7",
-            b"3 a=1\n",
-            0,
-            b"packet 1\nout inport=3 outport=3 a=1\narray s 1 = 18446744073709551614\nend\n",
-            b"",
-        ),
-        (
-            obs,
-            b"field f/24; field g/16; f <- g",
-            b"",
-            5,
-            b"",
-            b"snapc: 1:30: wrong kind\n",
-        ),
-        (
-            absent,
-            b"outport <-",
-            b"",
-            4,
-            b"",
-            b"snapc: 1:11: unexpected token\n",
-        ),
-        (
-            absent,
-            b"outport <- 2",
-            b"",
-            2,
-            b"",
-            b"snapc: cannot read r\n",
-        ),
-        (
-            obs,
-            b"field srcport; field dstport; array s; s[srcport] <- dstport; s[inport]++;\n\
-              if s[srcport] = 0 then outport <- 1 else outport <- 2",
-            b"7 srcport=7 dstport=18446744073709551615\n7 srcport=8 dstport=5\n",
-            0,
-            b"packet 1\nout inport=7 outport=1 srcport=7 dstport=18446744073709551615\n\
-              packet 2\nout inport=7 outport=2 srcport=8 dstport=5\n\
-              array s 7 = 1\narray s 8 = 5\nend\n",
-            b"",
-        ),
-        (option, b"outport <- 2", b"", 1, b"", b"snapc: usage\n"),
-        (hops, b"outport <- 2", b"1\n", 1, b"", b"snapc: usage\n"),
-        (schedule, b"outport <- 2", b"1\n", 1, b"", b"snapc: usage\n"),
-        (&[], b"", b"", 1, b"", b"snapc: usage\n"),
-    ];
-    for (words, program, packets, status, out, err) in cases {
-        let got = call(&rt, rt.alloc(), words, &[(b"p", program), (b"q", packets)])?;
-        assert_eq!(rt; got.status, status);
-        assert_eq!(rt; got.out.bytes(), out);
-        assert_eq!(rt; got.err.bytes(), err);
+fn obs_writes_what_comes_before_a_fault(rt: HostRuntime) -> Result<(), Fail> {
+    for (program, packets, answer) in CUT {
+        let files: &[(&[u8], &[u8])] = &[(b"p", program), (b"q", packets)];
+        assert!(rt; answers(&rt, rt.alloc(), WORDS, files, AMPLE, answer)?);
     }
     Ok(())
 }
 
 #[test]
 fn obs_ends_where_a_device_fails(rt: HostRuntime) -> Result<(), Fail> {
-    let alloc = rt.alloc();
     // The program takes seven reads of two bytes, and each line one.
     let second_line = Devices {
         read_most: 2,
@@ -158,12 +67,10 @@ fn obs_ends_where_a_device_fails(rt: HostRuntime) -> Result<(), Fail> {
         (untold, 2, block, b""),
         (unwritten, 3, b"packet 1\no", b""),
     ];
+    let files: &[(&[u8], &[u8])] = &[(b"p", b"outport <- 2"), (b"q", b"1\n2\n")];
     for (devices, status, out, err) in cases {
-        let files: &[(&[u8], &[u8])] = &[(b"p", b"outport <- 2"), (b"q", b"1\n2\n")];
-        let got = call_over(&rt, alloc, &[b"obs", b"p", b"q"], files, devices)?;
-        assert_eq!(rt; got.status, status);
-        assert_eq!(rt; got.out.bytes(), out);
-        assert_eq!(rt; got.err.bytes(), err);
+        let answer = Answer { status, out, err };
+        assert!(rt; answers(&rt, rt.alloc(), WORDS, files, devices, answer)?);
     }
     Ok(())
 }
@@ -243,13 +150,15 @@ end
 
 #[test]
 fn obs_writes_one_report_however_reads_are_cut(rt: HostRuntime) -> Result<(), Fail> {
+    let files: &[(&[u8], &[u8])] = &[(b"p", dns_tunnel()), (b"q", dns_packets())];
+    let whole = Answer {
+        status: 0,
+        out: dns_report(),
+        err: b"",
+    };
     for read_most in [1, 2, 3, 7, 4096] {
-        let files: &[(&[u8], &[u8])] = &[(b"p", dns_tunnel()), (b"q", dns_packets())];
         let devices = Devices { read_most, ..AMPLE };
-        let got = call_over(&rt, rt.alloc(), &[b"obs", b"p", b"q"], files, devices)?;
-        assert_eq!(rt; got.status, 0);
-        assert_eq!(rt; got.out.bytes(), dns_report());
-        assert_eq!(rt; got.err.bytes(), b"".as_slice());
+        assert!(rt; answers(&rt, rt.alloc(), WORDS, files, devices, whole)?);
     }
     Ok(())
 }

@@ -1,4 +1,4 @@
-use crate::calls::{AMPLE, Devices, call, call_over};
+use crate::calls::{AMPLE, Answer, Devices, answers};
 use std::test::Fail;
 
 const WORDS: &[&[u8]] = &[b"routes", b"t"];
@@ -30,78 +30,32 @@ diameter 2
 end
 ";
 
+const FILES: &[(&[u8], &[u8])] = &[(b"t", SQUARE)];
+
 #[test]
-fn routes_answers_by_its_file(rt: HostRuntime) -> Result<(), Fail> {
-    let cases: [(&[u8], u8, &[u8], &[u8]); 9] = [
-        (SQUARE, 0, SQUARE_ROUTES, b""),
-        (
-            b"switches = [\"z\", \"y\"]\nlinks = [[\"y\", \"z\"]]\nports = {}",
-            0,
-            b"route z y 1 y\nroute y z 1 z\ndiameter 1\nend\n",
-            b"",
-        ),
-        (
-            b"switches = [\"a\"]\nlinks = []\nports = {}",
-            0,
-            b"diameter 0\nend\n",
-            b"",
-        ),
-        (
-            b"switches = [\"a\", \"b\", \"c\"]\nlinks = [[\"a\", \"b\"]]\nports = {}",
-            8,
-            b"",
-            b"snapc: unreachable: a c\n",
-        ),
-        (b"switches", 7, b"", b"snapc: topology: not TOML\n"),
-        (
-            b"switches = [\"a\"]\nlinks = []\n[ports]\n01 = \"a\"",
-            7,
-            b"",
-            b"snapc: topology: shape 4\n",
-        ),
-        (
-            b"switches = [\"a\", \"b\", \"b\"]\nlinks = [[\"a\", \"c\"]]\nports = {}",
-            7,
-            b"",
-            b"snapc: topology: switch twice b\n",
-        ),
-        (
-            b"switches = [\"a\", \"b\"]\nlinks = [[\"a\", \"c\"]]\nports = {}",
-            7,
-            b"",
-            b"snapc: topology: unknown switch c\n",
-        ),
-        (b"", 7, b"", b"snapc: topology: shape 1\n"),
-    ];
-    for (file, status, out, err) in cases {
-        let got = call(&rt, rt.alloc(), WORDS, &[(b"t", file)])?;
-        assert_eq!(rt; got.status, status);
-        assert_eq!(rt; got.out.bytes(), out);
-        assert_eq!(rt; got.err.bytes(), err);
-    }
+fn routes_of_a_square_are_written(rt: HostRuntime) -> Result<(), Fail> {
+    let whole = Answer {
+        status: 0,
+        out: SQUARE_ROUTES,
+        err: b"",
+    };
+    assert!(rt; answers(&rt, rt.alloc(), WORDS, FILES, AMPLE, whole)?);
     Ok(())
 }
 
 #[test]
 fn routes_stop_where_a_device_fails(rt: HostRuntime) -> Result<(), Fail> {
-    let alloc = rt.alloc();
-    let files: &[(&[u8], &[u8])] = &[(b"t", SQUARE)];
-    let absent = call(&rt, alloc, &[b"routes", b"u"], files)?;
-    assert_eq!(rt; absent.status, 2);
-    assert_eq!(rt; absent.out.bytes(), b"".as_slice());
-    assert_eq!(rt; absent.err.bytes(), b"snapc: cannot read u\n".as_slice());
     // Each line from s1 has 17 bytes.
     let devices = Devices {
         write_most: 17,
         write_fails: &[2],
         ..AMPLE
     };
-    let cut = call_over(&rt, alloc, WORDS, files, devices)?;
-    assert_eq!(rt; cut.status, 3);
-    assert_eq!(rt;
-        cut.out.bytes(),
-        b"route s1 s2 1 s2\nroute s1 s3 1 s3\n".as_slice()
-    );
-    assert_eq!(rt; cut.err.bytes(), b"snapc: cannot write\n".as_slice());
+    let cut = Answer {
+        status: 3,
+        out: b"route s1 s2 1 s2\nroute s1 s3 1 s3\n",
+        err: b"snapc: cannot write\n",
+    };
+    assert!(rt; answers(&rt, rt.alloc(), WORDS, FILES, devices, cut)?);
     Ok(())
 }

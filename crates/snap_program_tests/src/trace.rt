@@ -1,4 +1,4 @@
-use crate::calls::{AMPLE, Devices, call, call_over};
+use crate::calls::{AMPLE, Answer, Devices, answers};
 use std::test::Fail;
 
 const WORDS: &[&[u8]] = &[b"trace", b"t", b"k"];
@@ -41,12 +41,14 @@ end
 
 #[test]
 fn trace_writes_one_report_however_reads_are_cut(rt: HostRuntime) -> Result<(), Fail> {
+    let whole = Answer {
+        status: 0,
+        out: REPORT,
+        err: b"",
+    };
     for read_most in [1, 2, 3, 7, 4096] {
         let devices = Devices { read_most, ..AMPLE };
-        let got = call_over(&rt, rt.alloc(), WORDS, FILES, devices)?;
-        assert_eq!(rt; got.status, 0);
-        assert_eq!(rt; got.out.bytes(), REPORT);
-        assert_eq!(rt; got.err.bytes(), b"".as_slice());
+        assert!(rt; answers(&rt, rt.alloc(), WORDS, FILES, devices, whole)?);
     }
     Ok(())
 }
@@ -65,19 +67,14 @@ end
 
 #[test]
 fn trace_does_what_a_schedule_orders(rt: HostRuntime) -> Result<(), Fail> {
-    let cases: [(&[u8], u8, &[u8], &[u8]); 3] = [
-        (LONE, 0, LATE_FIRST, b""),
-        (b"inject\nstep 4\n", 13, b"", b"snapc: schedule: line 2\n"),
-        (b"inject\n", 13, b"", b"snapc: schedule: line 2\n"),
-    ];
-    for (schedule, status, out, err) in cases {
-        let words: &[&[u8]] = &[b"trace", b"--schedule=s", b"t", b"k"];
-        let files: &[(&[u8], &[u8])] = &[(b"t", FIRST_COME), (b"k", b"1\n2\n"), (b"s", schedule)];
-        let got = call(&rt, rt.alloc(), words, files)?;
-        assert_eq!(rt; got.status, status);
-        assert_eq!(rt; got.out.bytes(), out);
-        assert_eq!(rt; got.err.bytes(), err);
-    }
+    let words: &[&[u8]] = &[b"trace", b"--schedule=s", b"t", b"k"];
+    let files: &[(&[u8], &[u8])] = &[(b"t", FIRST_COME), (b"k", b"1\n2\n"), (b"s", LONE)];
+    let whole = Answer {
+        status: 0,
+        out: LATE_FIRST,
+        err: b"",
+    };
+    assert!(rt; answers(&rt, rt.alloc(), words, files, AMPLE, whole)?);
     Ok(())
 }
 
@@ -104,10 +101,8 @@ fn trace_ends_where_a_device_fails(rt: HostRuntime) -> Result<(), Fail> {
         (tenth_byte, 3, b"packet 1\no", b"snapc: cannot write\n"),
     ];
     for (devices, status, out, err) in cases {
-        let got = call_over(&rt, rt.alloc(), WORDS, FILES, devices)?;
-        assert_eq!(rt; got.status, status);
-        assert_eq!(rt; got.out.bytes(), out);
-        assert_eq!(rt; got.err.bytes(), err);
+        let answer = Answer { status, out, err };
+        assert!(rt; answers(&rt, rt.alloc(), WORDS, FILES, devices, answer)?);
     }
     Ok(())
 }
