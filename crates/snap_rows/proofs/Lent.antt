@@ -1,12 +1,10 @@
 -- What references to updates lend.
-use Rattle.std.proofs.Common.{◌≡◌, ℕ, ◌+◌, ◌<◌, List, [], ◌∷◌, ◌++◌, length, map, take, drop, get_or, sym, ap, subst, ◌∙◌, arith, Bor}
+use Rattle.std.proofs.Common.{◌≡◌, ℕ, zero, suc, ◌+◌, ◌-◌, ◌<◌, List, [], ◌∷◌, ◌++◌, length, map, take, drop, get_or, refl, sym, ap, subst, ◌∙◌, arith, Bor}
 use Rattle.std.specs.List.{All}
 use Rattle.std.proofs.lemmas.List.{length-map, get_or-map, take_more, drop_more}
-use Rattle.std.proofs.lemmas.List.Elements.{All-get_or}
+use Rattle.std.proofs.lemmas.List.Elements.{All-nil, All-cons, All-head, All-tail, All-get_or}
 use Rattle.snap_core.specs.declared.policy.Update.{Update}
-
-abbrev pub seen : List (Bor Update) → List Update
-seen xs = map (λ u. u.now) xs
+use Rattle.snap_rows.specs.Dues.{seen}
 
 within : (xs : List (Bor Update)) (us : List Update) (i : ℕ) → seen xs ≡ us → i < length xs → i < length us
 within xs us i e lt = let long : length xs ≡ length us = sym (length-map xs (λ u. u.now)) ∙ ap length e in omega arith
@@ -23,3 +21,18 @@ lent_more xs us i x e lt is = take_more us i x.now (within xs us i e lt) ∙ ap 
 
 pub lent_next : (xs : List (Bor Update)) (us : List Update) (i : ℕ) (x : Bor Update) → seen xs ≡ us → i < length xs → x ≡ get_or xs i x → drop i us ≡ x.now ∷ drop (i + 1) us
 lent_next xs us i x e lt is = drop_more us i x.now (within xs us i e lt) ∙ ap (λ u. u ∷ drop (i + 1) us) (lent xs us i x e lt is)
+
+-- ---- lists in two parts
+pub all_front : (P : Update → Type 0) (us vs : List Update) → All P (us ++ vs) → All P us
+all_front P [] vs all = All-nil P
+all_front P (u ∷ us) vs all = All-cons P u us (All-head P u (us ++ vs) all) (all_front P us vs (All-tail P u (us ++ vs) all))
+
+pub all_back : (P : Update → Type 0) (us vs : List Update) → All P (us ++ vs) → All P vs
+all_back P [] vs all = all
+all_back P (u ∷ us) vs all = all_back P us vs (All-tail P u (us ++ vs) all)
+
+pub take_both : (n : ℕ) (us vs : List Update) → take n us ++ take (n - length us) vs ≡ take n (us ++ vs)
+take_both zero [] vs = refl
+take_both zero (u ∷ us) vs = let none : zero - suc (length us) ≡ zero = omega arith in ap (λ i. take i vs) none
+take_both (suc n) [] vs = let same : suc n - zero ≡ suc n = omega arith in ap (λ i. take i vs) same
+take_both (suc n) (u ∷ us) vs = let less : suc n - suc (length us) ≡ n - length us = omega arith in (λ j. u ∷ (take n us ++ take (less j) vs)) ∙ ap (λ l. u ∷ l) (take_both n us vs)
