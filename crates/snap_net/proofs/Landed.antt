@@ -1,29 +1,37 @@
--- A copy goes on by steps that only cross links, until one forks or delivers it.
+-- A copy goes on by steps that only cross links, until one forks or delivers it, and what it is forked into is delivered.
 use Rattle.std.proofs.Common.{◌≡◌, ℕ, ◌<◌, ◌≤◌, List, [], ◌∷◌, ◌++◌, Option, Some, None, length, refl, sym, ap, subst, ◌∙◌, arith}
-use Rattle.std.specs.Prelude.{slice_get, unwrap_or}
+use Rattle.std.specs.Prelude.{IsSome, slice_get, unwrap_or}
+use Rattle.std.specs.List.{All}
+use Rattle.std.proofs.lemmas.Bool.{false≢true}
+use Rattle.std.proofs.lemmas.List.Elements.{All-head, All-nil, All-tail}
 use Rattle.snap_core.specs.Cells.{Kept}
 use Rattle.snap_rows.specs.Aims.{aim_of}
 use Rattle.snap_rows.specs.declared.tables.Tables.{Tables}
 use Rattle.snap_rows.specs.declared.head.Head.{Head}
 use Rattle.snap_rows.specs.declared.head.Action.{Action}
 use Rattle.snap_rows.specs.declared.head.Action.TheVariants.{Forward, Deliver, Fork}
+use Rattle.snap_rows.specs.declared.head.Head.TheVariants.{Out}
+use Rattle.snap_rows.specs.declared.head.Sent.{Sent}
+use Rattle.snap_rows.specs.Entries.{port_at}
+use Rattle.snap_rows.specs.Handles.{delivers}
 use Rattle.snap_rows.specs.Form.{IsInForm, comps, switch_count}
 use Rattle.snap_rows.specs.Home.{AtHome}
 use Rattle.snap_rows.specs.Rules.{IsValid}
-use Rattle.snap_rows.specs.Steps.{Arrives}
+use Rattle.snap_rows.specs.Steps.{Arrives, IsSent}
 use Rattle.snap_rows.specs.Network.{Net, Happening, Crossed, happening}
 use Rattle.snap_rows.specs.Weight.{weight}
 use Rattle.snap_rows.proofs.Aims.{aim_lighter}
 use Rattle.snap_rows.proofs.Lighter.{lighter}
-use Rattle.snap_rows.proofs.Rows.{All-get, some_injective}
+use Rattle.snap_rows.proofs.Rows.{some_injective}
 use Rattle.snap_net.specs.declared.flying.Flying.{Flying}
-use Rattle.snap_net.specs.declared.happened.Moved.{Moved}
+use Rattle.snap_net.specs.declared.happened.Landed.{Landed}
+use Rattle.snap_net.specs.declared.happened.Moved.TheVariants as bare
 use Rattle.snap_net.specs.Flights.{spliced}
-use Rattle.snap_net.specs.Landings.{StepsAt, HasGone, HasLanded, Lands, held as holding}
-use Rattle.snap_net.specs.Moves.{flights, moved_of}
+use Rattle.snap_net.specs.Landings.{StepsAt, Becomes, ComesDown, Delivers, of_none, of_more, HasComeDown, Lands, LandsAt, LandsSomewhere, held as holding}
+use Rattle.snap_net.specs.Moves.{copies_in_flight, flights, moved_of}
 use Rattle.snap_net.specs.Shown.{Held, IsHeld, Shows, moving, store_of}
 use Rattle.snap_net.specs.Travels.{Travels, stays, crosses, arrived}
-use Rattle.snap_net.proofs.Steps.{Left, flights_held, has_stepped, moving_of, three}
+use Rattle.snap_net.proofs.Steps.{Left, has_stepped, moving_of, three}
 use Rattle.snap_net.proofs.Travelling.{has_gone}
 
 -- a copy at switch w with a head
@@ -69,7 +77,7 @@ same_flights c w h (Deliver port) = (refl, refl)
 same_flights c w h (Fork copies lost) = (refl, refl)
 
 -- and at last by one that forks or delivers it
-pub flies_down : (t : Tables) (old new after : List Kept) (c : Flying) (w : ℕ) (h : Head) (a : Action) → Flies t old c new (there c w h) → StepsAt t w c.packet h new after a → (n : ℕ) (rest : List Flying) → Lands t n rest old c after w a
+pub flies_down : (t : Tables) (old new after : List Kept) (c : Flying) (w : ℕ) (h : Head) (a : Action) → Flies t old c new (there c w h) → StepsAt t w c.packet h new after a → (n : ℕ) (rest : List Flying) → LandsAt t n rest old c after w a
 flies_down t old new after c w h a flies steps n rest s shows =
     let d = there c w h in
     let g = flies n rest s shows in
@@ -79,15 +87,33 @@ flies_down t old new after c w h a flies steps n rest s shows =
     let b = has_stepped v v' 0 d steps.arrays a left steps.handles g.0 g.3 in
     let same = same_flights c w h a in
     let told : moved_of d a ≡ moving (happening b.copy a) = ap (λ (x : Flying). moved_of x a) (some_injective _ _ b.is) ∙ moving_of b.copy a in (
-      g.0,
       b.state,
-      g.1,
-      happening b.copy a,
-      g.2,
-      b.leads,
+      record { there = g.0; crossings = g.1; last = happening b.copy a; travels = g.2; leads = b.leads; tells = sym same.1 ∙ told },
       subst (λ fl. Shows (holding t n after (fl ++ rest)) b.state) same.0 b.shows,
-      sym same.1 ∙ told,
     )
+
+-- ---- what a copy is forked into
+-- a copy on its way to a port is delivered there, and no store changes
+flies_out : (t : Tables) → IsValid t → IsInForm t → (stores : List Kept) (number w : ℕ) (x : Sent) → w < switch_count t → IsSome (port_at t x.port) → (n : ℕ) (rest : List Flying) (s : Net) → Shows (holding t n stores (copies_in_flight number w (x ∷ []) ++ rest)) s
+    → (s' : Net) × Lands t s s' (bare.Delivered number x.port x.packet) × Shows (holding t n stores rest) s'
+flies_out t valid form stores number w x low some n rest = by (port_at t x.port) refl some
+  where
+    c : Flying
+    c = record { number = number; at = w; head = Out x.port; packet = x.packet }
+
+    by : (o : Option ℕ) → port_at t x.port ≡ o → IsSome o → LandsAt t n rest stores c stores (unwrap_or o w) (Deliver x.port)
+    by None is there = absurd (false≢true there)
+    by (Some v) is there =
+        let steps : StepsAt t v x.packet (Out x.port) stores stores (Deliver x.port) = record { arrays = store_of stores v; handles = delivers is; changed = record { count = refl; here = refl; others = λ y away. refl } } in
+        flies_down t stores stores stores c v (Out x.port) (Deliver x.port) (flies_there t valid form stores stores c w v (Out x.port) low (sym (ap (λ o. unwrap_or o w) is)) (flies_none t stores c)) steps n rest
+
+flies_all_out : (t : Tables) → IsValid t → IsInForm t → (stores : List Kept) (number w : ℕ) (k : List ℕ) (copies : List Sent) → w < switch_count t → All (IsSent t k) copies
+    → (n : ℕ) (rest : List Flying) (s : Net) → Shows (holding t n stores (copies_in_flight number w copies ++ rest)) s → (s' : Net) × Delivers t number s copies s' × Shows (holding t n stores rest) s'
+flies_all_out t valid form stores number w k [] low sent n rest s shows = (s, of_none, shows)
+flies_all_out t valid form stores number w k (x ∷ xs) low sent n rest s shows =
+    let a = flies_out t valid form stores number w x low (All-head (IsSent t k) x xs sent).port n (copies_in_flight number w xs ++ rest) s shows in
+    let b = flies_all_out t valid form stores number w k xs low (All-tail (IsSent t k) x xs sent) n rest a.0 a.2 in
+    (b.0, of_more a.1 b.1, b.2)
 
 -- ---- each step leaves fewer
 no_heavier : (t : Tables) (w : ℕ) (h : Head) (o : Option ℕ) → aim_of t h ≡ o → weight t (unwrap_or o w) h ≤ weight t w h
@@ -102,30 +128,41 @@ lighter_on t valid form old new w v to k h head is low home steps =
     omega (arith, less, more)
 
 -- ---- what is held
-pub held_landed : (v : Held) (stores : List Kept) (flying : List Flying) (c : Flying) (w : ℕ) (a : Action) → IsHeld v → length stores ≡ length v.stores → slice_get v.flying 0 ≡ Some c → w < switch_count v.tables → Arrives v.tables c.packet a
-    → flying ≡ spliced v.flying 0 1 (flights (record c { at = w }) a) → IsHeld (record v { stores = stores; flying = flying })
-held_landed v stores flying c w a held count is low arrives becomes =
+pub held_landed : (v : Held) (stores : List Kept) (flying : List Flying) → IsHeld v → length stores ≡ length v.stores → flying ≡ spliced v.flying 0 1 [] → IsHeld (record v { stores = stores; flying = flying })
+held_landed v stores flying held count becomes =
     let t = v.tables in
-    let long : length c.packet ≡ comps t = All-get (λ (c : Flying). length c.packet ≡ comps t) v.flying 0 c held.packets is in
-    let xs = flights (record c { at = w }) a in
-    let f = flights_held t (record c { at = w }) a low long arrives in
+    let P : Flying → Type 0 = λ x. x.at < switch_count t in
+    let Q : Flying → Type 0 = λ x. length x.packet ≡ comps t in
+    let R : Flying → Type 0 = λ x. AtHome t x.at x.head in
     subst (λ fl. IsHeld (record v { stores = stores; flying = fl })) (sym becomes) (record {
       form = held.form;
       valid = held.valid;
       stores = count ∙ held.stores;
-      places = three (λ (x : Flying). x.at < switch_count t) 0 v.flying xs held.places f.0;
-      packets = three (λ (x : Flying). length x.packet ≡ comps t) 0 v.flying xs held.packets f.1;
-      homes = three (λ (x : Flying). AtHome t x.at x.head) 0 v.flying xs held.homes f.2;
+      places = three P 0 v.flying [] held.places (All-nil P);
+      packets = three Q 0 v.flying [] held.packets (All-nil Q);
+      homes = three R 0 v.flying [] held.homes (All-nil R);
     })
 
--- what has landed, for a network in which it is the first copy
-pub has_landed : (v : Held) (stores : List Kept) (flying : List Flying) (c : Flying) (w : ℕ) (a : Action) (told : Moved) → slice_get v.flying 0 ≡ Some c
-    → ((n : ℕ) (rest : List Flying) → Lands v.tables n rest v.stores c stores w a) → HasGone v.flying w a flying told → HasLanded v (record v { stores = stores; flying = flying }) told
-has_landed v stores flying c w a told is lands gone = by v.flying is (gone c is).0
+-- what becomes of the copy that has landed before others
+comes_down : (t : Tables) → IsValid t → IsInForm t → (old new : List Kept) (c : Flying) (a : Action) (landed : Landed) → LandsSomewhere t old c new a → Arrives t c.packet a → Becomes c.packet a landed
+    → (n : ℕ) (rest : List Flying) → HasComeDown (holding t n old (c ∷ rest)) (holding t n new rest) landed
+comes_down t valid form old new c (Forward to head) landed lands arrives becomes n rest s shows = absurd becomes
+comes_down t valid form old new c (Deliver port) landed lands arrives becomes n rest s shows =
+    let b = lands.2 n rest s shows in
+    subst (λ l. (s' : Net) × ComesDown t s l s' × Shows (holding t n new rest) s') (sym becomes) (b.0, (c.number, port, b.1), b.2)
+comes_down t valid form old new c (Fork copies lost) landed lands arrives becomes n rest s shows =
+    let b = lands.2 n rest s shows in
+    let d = flies_all_out t valid form new c.number lands.0 c.packet copies lands.1 arrives n rest b.0 b.2 in
+    subst (λ l. (s' : Net) × ComesDown t s l s' × Shows (holding t n new rest) s') (sym becomes) (d.0, (c.number, b.0, b.1, d.1), d.2)
+
+-- the same for a network in which it is the first copy
+pub has_come_down : (v : Held) → IsHeld v → (stores : List Kept) (flying : List Flying) (c : Flying) (a : Action) (landed : Landed) → slice_get v.flying 0 ≡ Some c → LandsSomewhere v.tables v.stores c stores a → Arrives v.tables c.packet a
+    → Becomes c.packet a landed → flying ≡ spliced v.flying 0 1 [] → HasComeDown v (record v { stores = stores; flying = flying }) landed
+has_come_down v held stores flying c a landed is lands arrives becomes left = by v.flying is left
   where
-    by : (fl : List Flying) → slice_get fl 0 ≡ Some c → flying ≡ spliced fl 0 1 (flights (record c { at = w }) a) → HasLanded (record v { flying = fl }) (record v { stores = stores; flying = flying }) told
-    by [] e becomes = absurd (cc)
-    by (x ∷ rest) e becomes =
-        subst (λ y. HasLanded (record v { flying = y ∷ rest }) (record v { stores = stores; flying = flying }) told) (sym (some_injective _ _ e))
-        (subst (λ fl. HasLanded (record v { flying = c ∷ rest }) (record v { stores = stores; flying = fl }) told) (sym becomes)
-        (subst (λ m. HasLanded (record v { flying = c ∷ rest }) (record v { stores = stores; flying = flights (record c { at = w }) a ++ rest }) m) (sym (gone c is).1) (lands v.injected rest)))
+    by : (fl : List Flying) → slice_get fl 0 ≡ Some c → flying ≡ spliced fl 0 1 [] → HasComeDown (record v { flying = fl }) (record v { stores = stores; flying = flying }) landed
+    by [] e rest = absurd (cc)
+    by (x ∷ xs) e rest =
+        subst (λ y. HasComeDown (record v { flying = y ∷ xs }) (record v { stores = stores; flying = flying }) landed) (sym (some_injective _ _ e))
+        (subst (λ fl. HasComeDown (record v { flying = c ∷ xs }) (record v { stores = stores; flying = fl }) landed) (sym rest)
+        (comes_down v.tables held.valid held.form v.stores stores c a landed lands arrives becomes v.injected xs))

@@ -1,17 +1,17 @@
-//! A copy goes on until a step forks or delivers it.
+//! A copy goes on until a step forks or delivers it, and what it was forked into until that is delivered.
 
-ghost use Rattle.std.specs.Prelude.{◌≡◌, ◌<◌, ℕ, List, IfOk, OnErr, length, unwrap_or};
+ghost use Rattle.std.specs.Prelude.{◌≡◌, ◌<◌, [], Some, IfOk, length, slice_get, unwrap_or};
 ghost use Rattle.snap_rows.specs.Aims.{aim_of};
 ghost use Rattle.snap_rows.specs.Form.{comps, switch_count};
 ghost use Rattle.snap_rows.specs.Home.{AtHome};
 ghost use Rattle.snap_rows.specs.Steps.{Arrives};
 ghost use Rattle.snap_net.specs.declared.flying.Flying.{Flying};
-ghost use Rattle.snap_net.specs.Landings.{Ends, HasGone, IsLanding, Lands, StepsAt};
+ghost use Rattle.snap_net.specs.Flights.{spliced};
+ghost use Rattle.snap_net.specs.Landings.{Becomes, Ends, LandsSomewhere, StepsAt};
 
 use crate::flights::Flights;
 use crate::flying::Flying;
-use crate::happened::Moved;
-use crate::moves::{deliver, spread};
+use crate::happened::Landed;
 use snap_core::NoMemory;
 use snap_core::packet::Packet;
 use snap_core::store::Store;
@@ -19,13 +19,6 @@ use snap_rows::handle::step;
 use snap_rows::head::{Action, Head};
 use snap_rows::valid::Valid;
 use std::alloc::Global;
-
-/// The last step of a copy: the switch where it is made, and what becomes of the copy there.
-#[derive(Drop)]
-pub(crate) struct Landing {
-    pub(crate) at: u16,
-    pub(crate) action: Action,
-}
 
 // The switch to which a copy goes by steps that only cross links.
 #[inline(always)]
@@ -61,22 +54,20 @@ pub(crate) fn step_at(
     step(alloc, tables, at, &mut stores[at as usize], packet, head)
 }
 
-/// Makes the steps of a copy up to the first that forks or delivers it. The stores change, and where the copy is then
-/// stands in the answer.
+/// Makes the steps of a copy up to the first that forks or delivers it, and answers what that one does. The stores change.
 pub(crate) fn fly(
     alloc: Global,
     tables: &Valid,
     stores: &mut Vec<Store>,
     copy: &Flying,
-) -> Result<Landing, NoMemory>
+) -> Result<Action, NoMemory>
     requires stores { length stores.old.items ≡ switch_count tables.now }
     requires at { copy.now.at < switch_count tables.now }
     requires packet { length copy.now.packet ≡ comps tables.now }
     requires home { AtHome tables.now copy.now.at copy.now.head }
-    ensures lands { IfOk result (λ landing. (n : ℕ) (rest : List Flying) → Lands tables.now n rest stores.old.items copy.now stores.new.items landing.at landing.action) }
-    ensures ends { IfOk result (λ landing. Ends landing.action) }
-    ensures at { IfOk result (λ landing. landing.at < switch_count tables.now) }
-    ensures home { IfOk result (λ landing. Arrives tables.now copy.now.packet landing.action) }
+    ensures lands { IfOk result (LandsSomewhere tables.now stores.old.items copy.now stores.new.items) }
+    ensures ends { IfOk result Ends }
+    ensures home { IfOk result (Arrives tables.now copy.now.packet) }
     ensures count { length stores.new.items ≡ length stores.old.items }
 {
     let _known = tables.tables();
@@ -90,39 +81,25 @@ pub(crate) fn fly(
                 at = to;
                 head = next;
             }
-            Action::Deliver { port } => {
-                let action = Action::Deliver { port };
-                return Ok(Landing { at, action });
-            }
-            Action::Fork { copies, lost } => {
-                let action = Action::Fork { copies, lost };
-                return Ok(Landing { at, action });
-            }
+            Action::Deliver { port } => return Ok(Action::Deliver { port }),
+            Action::Fork { copies, lost } => return Ok(Action::Fork { copies, lost }),
         }
     }
 }
 
-/// Puts what becomes of the first copy in its place.
-pub(crate) fn put_down(flying: &mut Flights, landing: Landing) -> Result<Moved, NoMemory>
+/// Takes out the first copy, and tells what becomes of it.
+pub(crate) fn put_down(flying: &mut Flights, action: Action) -> Landed
     requires some { 0 < length flying.old }
-    requires ends { Ends landing.action }
-    ensures gone { IfOk result (HasGone flying.old landing.at landing.action flying.new) }
-    ensures lands { IfOk result IsLanding }
-    ensures err { OnErr result (flying.new ≡ flying.old) }
+    requires ends { Ends action }
+    ensures left { flying.new ≡ spliced flying.old 0 1 [] }
+    ensures becomes { (c : Flying) → slice_get flying.old 0 ≡ Some c → Becomes c.packet action result }
 {
-    let Landing { at, action } = landing;
+    let gone = flying.remove(0);
     match action {
         Action::Forward { .. } => unreachable!(),
-        Action::Deliver { port } => Ok(deliver(flying, 0, port)),
-        Action::Fork { copies, lost } => {
-            let copies = copies.into_items();
-            let count = copies.len() as u64;
-            let gone = spread(flying, 0, at, copies)?;
-            Ok(Moved::Forked {
-                owner: gone.number,
-                copies: count,
-                lost,
-            })
-        }
+        Action::Deliver { .. } => Landed::Delivered {
+            packet: gone.packet,
+        },
+        Action::Fork { copies, lost } => Landed::Forked { copies, lost },
     }
 }

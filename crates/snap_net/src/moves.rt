@@ -23,24 +23,18 @@ use snap_rows::plan::Plan;
 use std::alloc::Global;
 
 // Does updates at the switch of a copy.
-fn update_at(
-    alloc: Global,
-    stores: &mut Vec<Store>,
-    copy: &Flying,
-    ups: &[Update],
-) -> Result<(), NoMemory>
+fn update_at(stores: &mut Vec<Store>, copy: &Flying, ups: &[Update]) -> Result<(), NoMemory>
     requires at { copy.now.at < length stores.old.items }
     requires reads { All (UpdateReads (length copy.now.packet)) ups.now }
     ensures ok { OnOk result (Changed stores.old.items stores.new.items copy.now.at (updates (store_of stores.old.items copy.now.at) ups.now copy.now.packet)) }
     ensures err { OnErr result (SameArrays stores.old.items stores.new.items) }
 {
-    update_all(alloc, &mut stores[copy.at as usize], &copy.packet, ups)
+    update_all(&mut stores[copy.at as usize], &copy.packet, ups)
 }
 
 // Does updates at the switch of copy k, which isn't looked up for none.
 #[inline(always)]
 fn update_for(
-    alloc: Global,
     stores: &mut Vec<Store>,
     flying: &Flights,
     k: usize,
@@ -55,7 +49,7 @@ fn update_for(
     if ups.is_empty() {
         return Ok(());
     }
-    update_at(alloc, stores, flying.get(k), ups)
+    update_at(stores, flying.get(k), ups)
 }
 
 // Forwards copy k.
@@ -70,8 +64,8 @@ fn forward(flying: &mut Flights, k: usize, to: u16, head: Head) -> Moved
     Moved::Forwarded { owner, from, to }
 }
 
-/// Delivers copy k.
-pub(crate) fn deliver(flying: &mut Flights, k: usize, port: u32) -> Moved
+// Delivers copy k.
+fn deliver(flying: &mut Flights, k: usize, port: u32) -> Moved
     requires { k < length flying.old }
     ensures { HasMoved flying.old k (Deliver port) flying.new result }
 {
@@ -114,7 +108,6 @@ fn put_copies(
 
 // Does updates at the switch of copy k, and puts one copy in its place.
 fn turn(
-    alloc: Global,
     stores: &mut Vec<Store>,
     flying: &mut Flights,
     k: usize,
@@ -131,7 +124,7 @@ fn turn(
     let from = flying.get(k);
     let number = from.number;
     let at = from.at;
-    update_at(alloc, stores, from, ups)?;
+    update_at(stores, from, ups)?;
     let copy = Flying {
         number,
         at,
@@ -144,7 +137,6 @@ fn turn(
 // Does updates at the switch of copy k, and puts copies in its place.
 #[inline(never)]
 fn fork(
-    alloc: Global,
     stores: &mut Vec<Store>,
     flying: &mut Flights,
     k: usize,
@@ -164,7 +156,7 @@ fn fork(
     let number = from.number;
     let at = from.at;
     put_copies(flying, k, number, at, copies)?;
-    if let Err(fault) = update_at(alloc, stores, flying.get(k), ups) {
+    if let Err(fault) = update_at(stores, flying.get(k), ups) {
         flying.cut(k + 1, count);
         return Err(fault);
     }
@@ -173,7 +165,6 @@ fn fork(
 
 // The same, where one copy alone needs no room.
 fn split(
-    alloc: Global,
     stores: &mut Vec<Store>,
     flying: &mut Flights,
     k: usize,
@@ -188,10 +179,10 @@ fn split(
     ensures err { OnErr result ((flying.new ≡ flying.old) × SameArrays stores.old.items stores.new.items) }
 {
     if copies.len() != 1 {
-        return fork(alloc, stores, flying, k, ups, copies);
+        return fork(stores, flying, k, ups, copies);
     }
     match copies.pop() {
-        Some(sent) => turn(alloc, stores, flying, k, ups, sent),
+        Some(sent) => turn(stores, flying, k, ups, sent),
         None => unreachable!(),
     }
 }
@@ -228,8 +219,8 @@ fn turn_to(flying: &mut Flights, k: usize, at: u16, sent: Sent) -> Flying
     flying.replace(k, copy)
 }
 
-/// Puts copies at a switch in the place of copy k, which it hands out. One copy alone needs no room.
-pub(crate) fn spread(
+// The same, where one copy alone needs no room.
+fn spread(
     flying: &mut Flights,
     k: usize,
     at: u16,
@@ -274,7 +265,6 @@ pub(crate) fn move_on(flying: &mut Flights, k: usize, action: Action) -> Result<
 /// Does the plan of copy k's step.
 #[inline(always)]
 pub(crate) fn carry_out(
-    alloc: Global,
     stores: &mut Vec<Store>,
     flying: &mut Flights,
     k: usize,
@@ -290,17 +280,17 @@ pub(crate) fn carry_out(
     let Plan { ups, action } = plan;
     match action {
         Action::Forward { to, head } => {
-            update_for(alloc, stores, flying, k, ups.items())?;
+            update_for(stores, flying, k, ups.items())?;
             Ok(forward(flying, k, to, head))
         }
         Action::Deliver { port } => {
-            update_for(alloc, stores, flying, k, ups.items())?;
+            update_for(stores, flying, k, ups.items())?;
             Ok(deliver(flying, k, port))
         }
         Action::Fork { copies, lost } => {
             let copies = copies.into_items();
             let count = copies.len() as u64;
-            let gone = split(alloc, stores, flying, k, ups.items(), copies)?;
+            let gone = split(stores, flying, k, ups.items(), copies)?;
             Ok(Moved::Forked {
                 owner: gone.number,
                 copies: count,

@@ -10,7 +10,7 @@ ghost use Rattle.snap_rows.specs.Network.{Net as State, start, whole, Inject, St
 ghost use Rattle.snap_net.specs.declared.flying.Flying.{Flying};
 ghost use Rattle.snap_net.specs.Flights.{spliced};
 ghost use Rattle.snap_net.specs.Travels.{HasTravelled, arrived};
-ghost use Rattle.snap_net.specs.Landings.{HasLanded, IsLanding};
+ghost use Rattle.snap_net.specs.Landings.{HasComeDown};
 ghost use Rattle.snap_net.specs.Shown.{IsHeld, Shows, IsDone, Nothing, Tells, TellsMoved, Same, store_of};
 ghost use Rattle.snap_net.specs.Parts.{held_of};
 ghost use Rattle.snap_net.specs.Moves.{CanBeDone, HasStepped, HasMoved, HasUpdated, PlanAt};
@@ -20,7 +20,7 @@ ghost use Rattle.snap_net.specs.declared.net.StepFault.{StepFault};
 use crate::fill::filled_stores;
 use crate::flights::Flights;
 use crate::flying::Flying;
-use crate::happened::{Happened, Moved};
+use crate::happened::{Happened, Landed, Moved};
 use crate::landing::{fly, put_down, step_at};
 use crate::listing::{append, listing_at, listings, of_array, total};
 use crate::moves::{carry_out, frame_of, framed, move_on};
@@ -244,7 +244,7 @@ impl Net {
         ensures injected { self.new.injected ≡ self.old.injected }
         ensures refused { OnErr result (Same self.old self.new) }
     {
-        let moved = carry_out(self.alloc, &mut self.stores, &mut self.flying, k, plan)?;
+        let moved = carry_out(&mut self.stores, &mut self.flying, k, plan)?;
         Ok(moved)
     }
 
@@ -279,19 +279,19 @@ impl Net {
         self.flying.send(k, to, head);
     }
 
-    /// Makes the steps of the first copy up to the first that forks or delivers it, and tells that one. Where memory is short
-    /// only the tables and the count of packets are sure to stay: the copy may be half on its way, in the midst of updates.
-    pub fn land(&mut self) -> Result<Moved, NoMemory>
+    /// Makes the steps of the first copy up to the first that forks or delivers it, then those of the copies that it was
+    /// forked into, until each of them is delivered, and tells what became of them all. Where memory is short only the tables
+    /// and the count of packets are sure to stay: the copy may be half on its way, in the midst of updates.
+    pub fn land(&mut self) -> Result<Landed, NoMemory>
         requires { 0 < length self.old.flying }
-        ensures landed { IfOk result (HasLanded self.old self.new) }
-        ensures lands { IfOk result IsLanding }
+        ensures down { IfOk result (HasComeDown self.old self.new) }
         ensures tables { self.new.tables ≡ self.old.tables }
         ensures injected { self.new.injected ≡ self.old.injected }
     {
         let copy = self.flying.get(0);
-        let landing = fly(self.alloc, &self.tables, &mut self.stores, copy)?;
-        let moved = put_down(&mut self.flying, landing)?;
-        Ok(moved)
+        let action = fly(self.alloc, &self.tables, &mut self.stores, copy)?;
+        // What it was forked into only crosses links to ports, which changes no store.
+        Ok(put_down(&mut self.flying, action))
     }
 
     /// Makes a step of copy k, counted from 0, without a frame. `NoCopy` where there is no such copy. A refusal leaves

@@ -54,7 +54,7 @@ returns-in-Deliver-clause-lands c =
     let mid = c.loop-action.stores.items in
     let new = c.step_at.new.stores.items in
     let flies = flies_there t c.tables-known.ensures.valid c.tables-known.ensures.form old mid x c.loop-action.at w h i.at c.arrival-at.ensures.aim i.flies in
-    flies_down t old mid new x w h (Deliver c.in-Deliver.port) flies (subst (StepsAt t w x.packet h mid new) c.in-Deliver.is c.in_ok-action.ensures.steps)
+    (w, c.arrival-at.ensures.at, flies_down t old mid new x w h (Deliver c.in-Deliver.port) flies (subst (StepsAt t w x.packet h mid new) c.in-Deliver.is c.in_ok-action.ensures.steps))
 
 pub returns-in-Fork-clause-lands : goal.returns-in-Fork-clause-lands
 returns-in-Fork-clause-lands c =
@@ -67,4 +67,4 @@ returns-in-Fork-clause-lands c =
     let mid = c.loop-action.stores.items in
     let new = c.step_at.new.stores.items in
     let flies = flies_there t c.tables-known.ensures.valid c.tables-known.ensures.form old mid x c.loop-action.at w h i.at c.arrival-at.ensures.aim i.flies in
-    flies_down t old mid new x w h (Fork c.in-Fork.copies c.in-Fork.lost) flies (subst (StepsAt t w x.packet h mid new) c.in-Fork.is c.in_ok-action.ensures.steps)
+    (w, c.arrival-at.ensures.at, flies_down t old mid new x w h (Fork c.in-Fork.copies c.in-Fork.lost) flies (subst (StepsAt t w x.packet h mid new) c.in-Fork.is c.in_ok-action.ensures.steps))

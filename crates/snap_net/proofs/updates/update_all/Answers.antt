@@ -13,6 +13,6 @@ alone (x ∷ y ∷ us) u one first = absurd (let z : ⊥ = omega (arith, one) in
 pub returns-then-changes-eq1-clause-ok : goal.returns-then-changes-eq1-clause-ok
 returns-then-changes-eq1-clause-ok c =
     let us = c.args.changes.now in
-    on_ok_weaker c.update_one.result
+    on_ok_weaker c.update.result
     (λ done. done ∙ ap (λ l. updates (arrays_of c.args.store.now) l c.args.packet.now) (sym (alone us c.index-changes-0.result (search rules) c.index-changes-0.is)))
-    c.update_one.ensures.ok
+    c.update.ensures.ok
