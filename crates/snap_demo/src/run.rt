@@ -17,6 +17,7 @@ use snap_core::packet::Packet;
 use snap_net::net::{InjectFault, Net};
 use snap_runs::frames::Frames;
 use snap_runs::settle::settle;
+use snap_runs::tally::Tally;
 use std::alloc::Global;
 
 /// Runs all packets, and counts what happened to them.
@@ -34,17 +35,24 @@ pub(crate) fn run(alloc: Global, net: &mut Net, switches: u16) -> Result<Counts,
         delivered: 0,
         lost: 0,
     };
+    let mut tally = Tally::new(alloc);
     for number in 0..PACKETS * switches as u64 {
         let packet = packet_of(alloc, switches, number)?;
-        run_packet(alloc, net, &mut counts, port_of(switches, number), packet)?;
+        run_packet(
+            net,
+            &mut tally,
+            &mut counts,
+            port_of(switches, number),
+            packet,
+        )?;
     }
     Ok(counts)
 }
 
 // Injects a packet at its port, lets its copies come to rest, and counts what happened to it.
 fn run_packet(
-    alloc: Global,
     net: &mut Net,
+    tally: &mut Tally,
     counts: &mut Counts,
     port: u32,
     packet: Packet,
@@ -58,8 +66,8 @@ fn run_packet(
     ensures injected { OnOk result (net.new.injected ≡ net.old.injected + 1) }
 {
     enter(net, port, packet)?;
-    let tally = settle(alloc, net, false, Frames::Plain)?;
-    counts.add(&tally)?;
+    settle(net, false, Frames::Plain, tally)?;
+    counts.add(tally)?;
     Ok(())
 }
 

@@ -1,10 +1,10 @@
 -- Runs, one behind another.
-use Rattle.std.proofs.Common.{◌≡◌, ℕ, ◌+◌, List, [], ◌∷◌, ◌++◌, refl, sym, ap, subst, ◌∙◌, append_assoc}
+use Rattle.std.proofs.Common.{◌≡◌, ℕ, List, [], ◌∷◌, ◌++◌, refl, sym, ap, subst, ◌∙◌, append_assoc}
 use Rattle.std.specs.List.{All}
 use Rattle.std.proofs.lemmas.List.Elements.{All-append, All-cons}
 use Rattle.snap_core.specs.Arrays.{Arrays}
 use Rattle.snap_rows.specs.declared.tables.Tables.{Tables}
-use Rattle.snap_rows.specs.Network.{Net, Event, Inject, Step, Happening, RunsCalmly, rests, injects, steps, packets_of, StepsFirst, IsPlainRun, start}
+use Rattle.snap_rows.specs.Network.{Net, Event, Inject, Step, Happening, RunsCalmly, rests, injects, steps, packets_of, StepsFirst, IsPlainRun}
 
 pub packets_of-append : (es fs : List Event) → packets_of (es ++ fs) ≡ packets_of es ++ packets_of fs
 packets_of-append [] fs = refl

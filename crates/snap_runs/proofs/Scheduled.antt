@@ -1,7 +1,6 @@
 -- What goes out for a packets file and a schedule.
 use Rattle.std.proofs.Common.{◌≡◌, ◌⊎◌, ℕ, ◌≤◌, Bool, List, Option, Err, refl, sym, ap, subst}
 use Rattle.std.specs.Prelude.{length}
-use Rattle.snap_io.specs.declared.read.ReadRefusal.TheVariants as refusal
 use Rattle.snap_rows.specs.declared.tables.Tables.{Tables}
 use Rattle.snap_trace.specs.Spelled.{Spelled}
 use Rattle.snap_runs.specs.declared.ready.Ready.{Ready}

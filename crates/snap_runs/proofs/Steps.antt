@@ -23,7 +23,7 @@ use Rattle.snap_net.specs.Travels.{Travels, stays, crosses}
 use Rattle.snap_net.specs.Shown.{Held, IsHeld, Shows, flown, moving, store_of}
 use Rattle.snap_runs.specs.declared.frames.Frames.{Frames}
 use Rattle.snap_runs.specs.declared.tally.Tally.{Tally}
-use Rattle.snap_runs.specs.Settling.{AreCopiesOf, HasGone, steps_left_of}
+use Rattle.snap_runs.specs.Settling.{AreCopiesOf, Goes, GoOn, one_goes, more_go, HasGone, steps_left_of}
 use Rattle.snap_runs.specs.Tallies.{delivered_by, number_of}
 
 -- ---- numbers of packets
@@ -168,25 +168,48 @@ travels_home t valid form a b gs all (crosses {s' = m} {hs = hs} leads rest) =
     let more = r.1 in
     (r.0, omega (arith, less, more))
 
+-- the same for copies that go on, of which each makes a step more
+goes_home : (t : Tables) → IsValid t → IsInForm t → (f : Frames) (hops : Bool) (a b : Net) (y y' : Tally) → All (IsHome t) a.flying → Goes f t hops a b y y' → All (IsHome t) b.flying × (steps_left t b.flying < steps_left t a.flying)
+goes_home t valid form f hops a b y y' all g =
+    let on = travels_home t valid form a g.there g.crossings all g.travels in
+    let beyond = travels_home t valid form g.state b g.behind (step_home t valid form g.there g.state 0 (g.last ∷ []) on.0 g.leads) g.onward in
+    let less = home_lighter t valid form g.there g.state 0 (g.last ∷ []) on.0 g.leads in
+    let more = on.1 in
+    let further = beyond.1 in
+    (beyond.0, omega (arith, less, more, further))
+
+go_lighter : (t : Tables) → IsValid t → IsInForm t → (f : Frames) (hops : Bool) (a b : Net) (y y' : Tally) → All (IsHome t) a.flying → GoOn f t hops a b y y' → steps_left t b.flying < steps_left t a.flying
+go_lighter t valid form f hops a b y y' all (one_goes g) = (goes_home t valid form f hops a b y y' all g).1
+go_lighter t valid form f hops a b y y' all (more_go {m = m} {z = z} g rest) =
+    let first = goes_home t valid form f hops a m y z all g in
+    let less = first.1 in
+    let more = go_lighter t valid form f hops m b z y' first.0 rest in
+    omega (arith, less, more)
+
 pub gone-lighter : (f : Frames) (hops : Bool) (old new : Held) (y y' : Tally) → new.tables ≡ old.tables → IsHeld old → HasGone f hops old new y y' → steps_left_of new < steps_left_of old
 gone-lighter f hops old new y y' same held gone =
     let s = shown old in
     let g = gone s.0 s.1 in
-    let on = travels_home old.tables held.valid held.form s.0 g.there g.crossings (held_home old held s.0 s.1) g.travels in
-    let more = on.1 in
-    let less = home_lighter old.tables held.valid held.form g.there g.state 0 (g.last ∷ []) on.0 g.leads in
+    let less = go_lighter old.tables held.valid held.form f hops s.0 g.0 y y' (held_home old held s.0 s.1) g.1 in
     let e = left_held old s.0 s.1 in
-    let beyond = travels_home old.tables held.valid held.form g.state g.end g.behind (step_home old.tables held.valid held.form g.there g.state 0 (g.last ∷ []) on.0 g.leads) g.onward in
-    let further = beyond.1 in
-    let f : steps_left_of new ≡ steps_left old.tables g.end.flying = left_held new g.end g.shows ∙ ap (λ t. steps_left t g.end.flying) same in
-    omega (arith, less, more, further, e, f)
+    let after : steps_left_of new ≡ steps_left old.tables g.0.flying = left_held new g.0 g.2 ∙ ap (λ t. steps_left t g.0.flying) same in
+    omega (arith, less, e, after)
 
 -- the packets that were noted stay as long as the tables' packets
+module _ (t : Tables) (valid : IsValid t) (form : IsInForm t) (f : Frames) (hops : Bool) where
+  goes_long : (a b : Net) (y y' : Tally) → All (IsHome t) a.flying → Goes f t hops a b y y' → All (λ k. length k ≡ comps t) y.delivered.items → All (λ k. length k ≡ comps t) y'.delivered.items
+  goes_long a b y y' all g long =
+      let P : List ℕ → Type 0 = λ k. length k ≡ comps t in
+      let on = travels_home t valid form a g.there g.crossings all g.travels in
+      let some = step-long t g.there g.state 0 (comps t) (g.last ∷ []) (λ i d within. (on.0 i d within).long) g.leads g.last refl in
+      subst (All P) (sym (g.told.delivered ∙ g.noted.delivered ∙ ap (λ l. l ++ delivered_by (moving g.last)) g.passed.delivered)) (All-append P y.delivered.items (delivered_by (moving g.last)) long some)
+
+  go_long : (a b : Net) (y y' : Tally) → All (IsHome t) a.flying → GoOn f t hops a b y y' → All (λ k. length k ≡ comps t) y.delivered.items → All (λ k. length k ≡ comps t) y'.delivered.items
+  go_long a b y y' all (one_goes g) long = goes_long a b y y' all g long
+  go_long a b y y' all (more_go {m = m} {z = z} g rest) long = go_long m b z y' (goes_home t valid form f hops a m y z all g).0 rest (goes_long a m y z all g long)
+
 pub gone-long : (f : Frames) (hops : Bool) (old new : Held) (y y' : Tally) → IsHeld old → HasGone f hops old new y y' → All (λ k. length k ≡ comps old.tables) y.delivered.items → All (λ k. length k ≡ comps old.tables) y'.delivered.items
-gone-long f hops old new y y' held gone all =
-    let P : List ℕ → Type 0 = λ k. length k ≡ comps old.tables in
+gone-long f hops old new y y' held gone long =
     let s = shown old in
     let g = gone s.0 s.1 in
-    let on = travels_home old.tables held.valid held.form s.0 g.there g.crossings (held_home old held s.0 s.1) g.travels in
-    let some = step-long old.tables g.there g.state 0 (comps old.tables) (g.last ∷ []) (λ i d within. (on.0 i d within).long) g.leads g.last refl in
-    subst (All P) (sym (g.told.delivered ∙ g.noted.delivered ∙ ap (λ l. l ++ delivered_by (moving g.last)) g.passed.delivered)) (All-append P y.delivered.items (delivered_by (moving g.last)) all some)
+    go_long old.tables held.valid held.form f hops s.0 g.0 y y' (held_home old held s.0 s.1) g.1 long

@@ -8,13 +8,11 @@ use Rattle.snap_rows.specs.declared.tables.Tables.{Tables}
 use Rattle.snap_rows.specs.Entries.{port_at}
 use Rattle.snap_rows.specs.Form.{comps}
 use Rattle.snap_rows.specs.Network.{Copy, Net, Happening, Leads, Step}
-use Rattle.snap_net.specs.declared.happened.Happened.{Happened}
 use Rattle.snap_net.specs.declared.happened.Moved.{Moved}
 use Rattle.snap_net.specs.declared.happened.Moved.TheVariants as bare
 use Rattle.snap_net.specs.Shown.{Held, Shows}
 use Rattle.snap_runs.specs.declared.event.Order.{Order}
 use Rattle.snap_runs.specs.declared.frames.Frames.TheVariants.{Plain}
-use Rattle.snap_runs.specs.declared.event.Order.TheVariants as order
 use Rattle.snap_runs.specs.declared.play.Play.{Play}
 use Rattle.snap_runs.specs.declared.ready.Ready.{Ready}
 use Rattle.snap_runs.specs.declared.schedule.ScheduleFault.{ScheduleFault}
@@ -26,7 +24,7 @@ use Rattle.snap_trace.specs.declared.line.Line.{Line as Read_line}
 use Rattle.snap_trace.specs.declared.line.Line.TheVariants as read
 use Rattle.snap_trace.specs.Spelled.{ended, refused}
 use Rattle.snap_runs.specs.Plain.{spelled_for}
-use Rattle.snap_runs.specs.Schedules.{CantBeDone, EndsEarly, Obeys, RefusesPackets, StopsAt, lines_of, order_by}
+use Rattle.snap_runs.specs.Schedules.{CantBeDone, EndsEarly, Obeys, StopsAt, lines_of, order_by}
 use Rattle.snap_runs.specs.Tallies.{IsBlockText, IsTally, Notes, number_of}
 
 -- the number of the packet whose copy steps

@@ -57,7 +57,7 @@ abbrev pub steps_left_of : Held → ℕ
 steps_left_of v = sum_by (λ (c : Flying). weight v.tables c.at c.head) v.flying
 
 -- the first copy has gone on by steps that only cross links, has then made one more, and has gone on so again, which were noted
-pub record Goes (f : Frames) (t : Tables) (hops : Bool) (s : Net) (new : Held) (before after : Tally) : Type 0 where
+pub record Goes (f : Frames) (t : Tables) (hops : Bool) (s s' : Net) (before after : Tally) : Type 0 where
   pub there : Net
   pub crossings : List Happening
   pub travels : Travels t 0 s crossings there
@@ -68,12 +68,15 @@ pub record Goes (f : Frames) (t : Tables) (hops : Bool) (s : Net) (new : Held) (
   pub leads : Leads t there (Step 0) state (last ∷ [])
   pub landed : Tally
   pub noted : Notes f t hops last between landed
-  pub end : Net
   pub behind : List Happening
-  pub onward : Travels t 0 state behind end
+  pub onward : Travels t 0 state behind s'
   pub told : NotesCrossings f t hops behind landed after
-  pub shows : Shows new end
 
--- from each state that was shown it has
+-- so did one copy or more, each while it was the first
+pub data GoOn (f : Frames) (t : Tables) (hops : Bool) : (s s' : Net) → (before after : Tally) → Type 0 where
+  one_goes : {s s' : Net} {y y' : Tally} → Goes f t hops s s' y y' → GoOn f t hops s s' y y'
+  more_go : {s m s' : Net} {y z y' : Tally} → Goes f t hops s m y z → GoOn f t hops m s' z y' → GoOn f t hops s s' y y'
+
+-- from each state that was shown that leads to one that is shown now
 abbrev pub HasGone : Frames → Bool → (old new : Held) → (before after : Tally) → Type 0
-HasGone f hops old new before after = (s : Net) → Shows old s → Goes f old.tables hops s new before after
+HasGone f hops old new before after = (s : Net) → Shows old s → (s' : Net) × GoOn f old.tables hops s s' before after × Shows new s'

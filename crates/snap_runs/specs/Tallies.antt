@@ -1,14 +1,17 @@
 -- What is noted of one packet while its copies are in flight.
-use Rattle.std.specs.Prelude.{◌≡◌, ℕ, ◌+◌, Bool, List, [], ◌∷◌, ◌++◌, codes, sum, slice_get, unwrap_or, IsPermutation, IsSorted, if◌then◌else◌}
+use Rattle.std.specs.Prelude.{◌≡◌, ℕ, ◌+◌, Bool, List, [], ◌∷◌, ◌++◌, map, codes, sum, slice_get, unwrap_or, IsPermutation, IsSorted, if◌then◌else◌}
 use Rattle.std.specs.List.{concat}
 use Rattle.hex.specs.Hex.{encode_lower}
 use Rattle.snap_core.specs.declared.program.Field.{Field}
 use Rattle.snap_core.specs.Packets.{packet_cmp}
 use Rattle.snap_rows.specs.declared.tables.Tables.{Tables}
+use Rattle.snap_rows.specs.declared.head.Sent.{Sent}
 use Rattle.snap_rows.specs.Happenings.{losses_of}
 use Rattle.snap_rows.specs.Network.{Happening, Crossed, Delivered, Forked}
 use Rattle.snap_net.specs.declared.happened.Happened.{Happened}
 use Rattle.snap_net.specs.declared.happened.Happened.TheVariants as shown
+use Rattle.snap_net.specs.declared.happened.Landed.{Landed}
+use Rattle.snap_net.specs.declared.happened.Landed.TheVariants as down
 use Rattle.snap_net.specs.declared.happened.Moved.{Moved}
 use Rattle.snap_net.specs.declared.happened.Moved.TheVariants as bare
 use Rattle.snap_net.specs.Shown.{happened, moving}
@@ -29,6 +32,20 @@ abbrev pub lost_by : Moved → ℕ
 lost_by (bare.Forwarded owner from to) = 0
 lost_by (bare.Delivered owner port k) = 0
 lost_by (bare.Forked owner copies lost) = lost
+
+-- the packets of copies on their way to ports
+abbrev pub packets_sent : List Sent → List (List ℕ)
+packets_sent copies = map (λ (x : Sent). x.packet) copies
+
+-- the packets that were delivered of a copy that landed, and of those that it was forked into
+abbrev pub delivered_in : Landed → List (List ℕ)
+delivered_in (down.Delivered k) = k ∷ []
+delivered_in (down.Forked copies lost) = packets_sent copies
+
+-- how many packets were lost in that
+abbrev pub lost_in : Landed → ℕ
+lost_in (down.Delivered k) = 0
+lost_in (down.Forked copies lost) = lost
 
 -- the step without its frame
 abbrev pub bared : Happened → Moved

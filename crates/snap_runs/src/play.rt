@@ -170,7 +170,7 @@ pub fn put_blocks(out: &mut Vec<u8>, fields: &Fields, tallies: Vec<Tally>) -> Re
 {
     let mut tallies = turned(tallies);
     let mut number = 0u64;
-    while let Some(tally) = next_tally(&mut tallies) {
+    while let Some(mut tally) = next_tally(&mut tallies) {
         number += 1;
         tally.put_block(out, fields, number)?;
     }

@@ -1,6 +1,6 @@
 //! Copies in flight come to rest, by steps of the first copy.
 
-ghost use Rattle.std.specs.Prelude.{◌≡◌, ◌<◌, [], true, false, Some, slice_get, length, IfOk, OnOk};
+ghost use Rattle.std.specs.Prelude.{◌≡◌, ◌<◌, [], true, false, Some, slice_get, length, OnOk};
 ghost use Rattle.std.specs.List.{All};
 ghost use Rattle.snap_rows.specs.Form.{comps};
 ghost use Rattle.snap_net.specs.declared.flying.Flying.{Flying};
@@ -13,22 +13,21 @@ use crate::tally::Tally;
 use snap_core::NoMemory;
 use snap_net::happened::Moved;
 use snap_net::net::Net;
-use std::alloc::Global;
 
-/// Makes steps of the first copy until none is in flight, and tells what happened. With `hops` a line tells each link
-/// that a copy crosses, by a frame of this kind.
-pub fn settle(alloc: Global, net: &mut Net, hops: bool, frames: Frames) -> Result<Tally, NoMemory>
-    ensures settled { IfOk result (HasSettled frames hops net.old net.new) }
-    ensures long { IfOk result (λ tally. All (λ k. length k ≡ comps net.old.tables) tally.delivered.items) }
+/// Makes steps of the first copy until none is in flight, and notes what happened in the place of what the tally held. With
+/// `hops` a line tells each link that a copy crosses, by a frame of this kind.
+pub fn settle(net: &mut Net, hops: bool, frames: Frames, tally: &mut Tally) -> Result<(), NoMemory>
+    ensures settled { OnOk result (HasSettled frames hops net.old net.new tally.new) }
+    ensures long { OnOk result (All (λ k. length k ≡ comps net.old.tables) tally.new.delivered.items) }
     ensures rests { OnOk result (net.new.flying ≡ []) }
     ensures tables { net.new.tables ≡ net.old.tables }
     ensures injected { net.new.injected ≡ net.old.injected }
 {
-    let mut tally = Tally::new(alloc);
+    tally.clear();
     while net.flying() > 0 {
-        go_on(net, hops, frames, &mut tally)?;
+        go_on(net, hops, frames, tally)?;
     }
-    Ok(tally)
+    Ok(())
 }
 
 // Makes steps of the first copy, and notes them.
@@ -45,15 +44,16 @@ fn go_on(net: &mut Net, hops: bool, frames: Frames, tally: &mut Tally) -> Result
     }
 }
 
-// Makes the steps of the first copy up to the first that forks or delivers it, and notes that one.
+// Makes the steps of the first copy up to the first that forks or delivers it, and those of the copies that it was forked
+// into until each is delivered, and notes what became of them.
 fn land(net: &mut Net, tally: &mut Tally) -> Result<(), NoMemory>
     requires { 0 < length net.old.flying }
     ensures gone { OnOk result ((frames : Kind) → HasGone frames false net.old net.new tally.old tally.new) }
     ensures tables { net.new.tables ≡ net.old.tables }
     ensures injected { net.new.injected ≡ net.old.injected }
 {
-    let moved = net.land()?;
-    tally.note(moved)?;
+    let landed = net.land()?;
+    tally.note_landed(landed)?;
     Ok(())
 }
 

@@ -11,6 +11,9 @@ use snap_net::net::Net;
 use snap_rows::lists::ArraysAt;
 use snap_trace::report::put_place;
 
+// For the lines of so many places room is taken together.
+const TOGETHER: usize = 64;
+
 /// Puts the end of a network's report behind the text.
 pub fn put_end(out: &mut Vec<u8>, net: &Net) -> Result<(), NoMemory>
     ensures { OnOk result (PutsEnd net.now out.old.items out.new.items) }
@@ -38,10 +41,39 @@ fn put_rest(out: &mut Vec<u8>, arrays: &ArraysAt, entries: &[Listed<'_>]) -> Res
 fn put_entries(out: &mut Vec<u8>, arrays: &ArraysAt, entries: &[Listed<'_>]) -> Result<(), NoMemory>
     ensures { OnOk result (out.new.items ≡ out.old.items ++ flat_map (listed_line (names_of arrays.now)) entries.now) }
 {
-    for entry in entries {
-        put_entry(out, arrays, entry)?;
+    for i in 0..entries.len() {
+        if i % TOGETHER == 0 {
+            make_room(out, &entries[i..])?;
+        }
+        put_entry(out, arrays, &entries[i])?;
     }
     Ok(())
+}
+
+// Takes room for the lines of the first of these places, about as much as their numbers want. Their order isn't that in
+// which memory holds them: here their numbers are fetched side by side, where each line would wait for its own.
+fn make_room(out: &mut Vec<u8>, entries: &[Listed<'_>]) -> Result<(), NoMemory>
+    ensures { out.new.items ≡ out.old.items }
+{
+    let mut bits = 0;
+    let mut numbers = 0usize;
+    for entry in entries.iter().take(TOGETHER) {
+        bits |= all_bits(entry.index);
+        numbers = numbers.saturating_add(entry.index.len());
+    }
+    let digits = (64 - bits.leading_zeros()) / 3 + 2;
+    out.reserve(numbers.saturating_mul(digits as usize))?;
+    Ok(())
+}
+
+// The bits that some of these numbers have.
+#[inline(always)]
+fn all_bits(numbers: &[u64]) -> u64 {
+    let mut bits = 0;
+    for number in numbers {
+        bits |= *number;
+    }
+    bits
 }
 
 // Puts the line of a place that isn't 0.

@@ -1,6 +1,6 @@
 //! What is noted of one packet while its copies are in flight.
 
-ghost use Rattle.std.specs.Prelude.{◌≡◌, ◌<◌, ◌≤◌, ◌+◌, ◌++◌, [], ◌∷◌, true, drop, length, IfOk, IfSome, OnOk};
+ghost use Rattle.std.specs.Prelude.{◌≡◌, ◌<◌, ◌≤◌, ◌+◌, ◌++◌, [], ◌∷◌, true, drop, length, IfSome, OnOk};
 ghost use Rattle.std.specs.List.{All};
 ghost use Rattle.std.specs.List.Sorted.{IsPermutation, IsSorted};
 ghost use Rattle.snap_core.specs.Fields.{count};
@@ -9,7 +9,7 @@ ghost use Rattle.snap_rows.specs.Form.{switch_count};
 ghost use Rattle.snap_runs.specs.Crossings.{NotesCrossed, NotesWay};
 ghost use Rattle.snap_runs.specs.Reports.{lead_of, lost_line, packet_line};
 ghost use Rattle.snap_trace.specs.Reports.{out_lines};
-ghost use Rattle.snap_runs.specs.Tallies.{bared, delivered_by, hop_text, hop_told, IsBlockText, lost_by};
+ghost use Rattle.snap_runs.specs.Tallies.{bared, delivered_by, delivered_in, hop_text, hop_told, IsBlockText, lost_by, lost_in, packets_sent};
 
 use crate::frames::Frames;
 use crate::links::{Tail, long_tail, put_long_line};
@@ -18,7 +18,8 @@ use snap_core::lists::Names;
 use snap_core::packet::Packet;
 use snap_core::program::Fields;
 use snap_net::flying::Flying;
-use snap_net::happened::{Happened, Moved};
+use snap_net::happened::{Happened, Landed, Moved};
+use snap_rows::head::Sent;
 use snap_rows::valid::Valid;
 use snap_trace::front::{put_byte_before, put_bytes_before, put_number_before};
 use snap_trace::report::{
@@ -66,6 +67,17 @@ impl Tally {
         self.lost
     }
 
+    /// Forgets what was noted, and keeps the room. Takes no memory.
+    pub fn clear(&mut self)
+        ensures delivered { self.new.delivered.items ≡ [] }
+        ensures lost { self.new.lost ≡ 0 }
+        ensures hops { self.new.hops.items ≡ [] }
+    {
+        self.delivered.clear();
+        self.lost = 0;
+        self.hops.clear();
+    }
+
     /// Notes a step.
     pub fn note(&mut self, moved: Moved) -> Result<(), NoMemory>
         ensures delivered { OnOk result (self.new.delivered.items ≡ self.old.delivered.items ++ delivered_by moved) }
@@ -76,6 +88,21 @@ impl Tally {
             Moved::Forwarded { .. } => Ok(()),
             Moved::Delivered { packet, .. } => self.deliver(packet),
             Moved::Forked { lost, .. } => self.lose(lost),
+        }
+    }
+
+    /// Notes what became of a copy, and of those that it was forked into.
+    pub fn note_landed(&mut self, landed: Landed) -> Result<(), NoMemory>
+        ensures delivered { OnOk result (self.new.delivered.items ≡ self.old.delivered.items ++ delivered_in landed) }
+        ensures lost { OnOk result (self.new.lost ≡ self.old.lost + lost_in landed) }
+        ensures hops { self.new.hops.items ≡ self.old.hops.items }
+    {
+        match landed {
+            Landed::Delivered { packet } => self.deliver(packet),
+            Landed::Forked { copies, lost } => {
+                self.lose(lost)?;
+                self.deliver_all(copies.into_items())
+            }
         }
     }
 
@@ -178,6 +205,17 @@ impl Tally {
         Ok(())
     }
 
+    fn deliver_all(&mut self, copies: Vec<Sent>) -> Result<(), NoMemory>
+        ensures delivered { OnOk result (self.new.delivered.items ≡ self.old.delivered.items ++ packets_sent copies.items) }
+        ensures lost { self.new.lost ≡ self.old.lost }
+        ensures hops { self.new.hops.items ≡ self.old.hops.items }
+    {
+        for sent in copies {
+            self.deliver(sent.packet)?;
+        }
+        Ok(())
+    }
+
     // The count of so many packets wouldn't fit memory.
     fn lose(&mut self, lost: u64) -> Result<(), NoMemory>
         ensures delivered { self.new.delivered.items ≡ self.old.delivered.items }
@@ -188,13 +226,29 @@ impl Tally {
         Ok(())
     }
 
-    /// Puts the block of the packet with this number, counted from 1.
-    pub fn put_block(self, out: &mut Vec<u8>, fields: &Fields, number: u64) -> Result<(), NoMemory>
-        requires { All (λ k. length k ≡ count fields.now) self.delivered.items }
-        ensures { OnOk result (IsBlockText fields.now number self (out.old.items) (out.new.items)) }
+    /// Puts the block of the packet with this number, counted from 1. Its packets are sorted for that.
+    pub fn put_block(
+        &mut self,
+        out: &mut Vec<u8>,
+        fields: &Fields,
+        number: u64,
+    ) -> Result<(), NoMemory>
+        requires { All (λ k. length k ≡ count fields.now) self.old.delivered.items }
+        ensures { OnOk result (IsBlockText fields.now number self.old out.old.items out.new.items) }
     {
-        let packets = sorted(self.alloc, self.delivered)?;
-        put_lines(out, fields, number, self.hops, packets, self.lost)?;
+        self.sort_packets()?;
+        put_lines(out, fields, number, &self.hops, &self.delivered, self.lost)?;
+        Ok(())
+    }
+
+    // Puts the packets in rising order.
+    fn sort_packets(&mut self) -> Result<(), NoMemory>
+        ensures rising { OnOk result (IsSorted packet_cmp self.new.delivered.items) }
+        ensures same { IsPermutation self.old.delivered.items self.new.delivered.items }
+        ensures lost { self.new.lost ≡ self.old.lost }
+        ensures hops { self.new.hops.items ≡ self.old.hops.items }
+    {
+        sort(self.alloc, self.delivered.as_mut_slice())?;
         Ok(())
     }
 }
@@ -204,17 +258,17 @@ fn put_lines(
     out: &mut Vec<u8>,
     fields: &Fields,
     number: u64,
-    hops: Vec<u8>,
-    packets: Vec<Packet>,
+    hops: &[u8],
+    packets: &[Packet],
     lost: u64,
 ) -> Result<(), NoMemory>
-    requires { All (λ k. length k ≡ count fields.now) packets.items }
-    ensures { OnOk result (out.new.items ≡ out.old.items ++ (packet_line number ++ hops.items ++ out_lines fields.now packets.items ++ lost_line lost)) }
+    requires { All (λ k. length k ≡ count fields.now) packets.now }
+    ensures { OnOk result (out.new.items ≡ out.old.items ++ (packet_line number ++ hops.now ++ out_lines fields.now packets.now ++ lost_line lost)) }
 {
     let mut buffer = [0u8; 256];
-    match put_rest_before(&mut buffer, 256, fields, &packets, lost) {
-        Some(begin) => put_behind_hops(out, number, &hops, &mut buffer, begin),
-        None => put_long(out, fields, number, &hops, &packets, lost),
+    match put_rest_before(&mut buffer, 256, fields, packets, lost) {
+        Some(begin) => put_behind_hops(out, number, hops, &mut buffer, begin),
+        None => put_long(out, fields, number, hops, packets, lost),
     }
 }
 
@@ -294,15 +348,7 @@ fn put_lost_before(buffer: &mut [u8; 256], end: usize, lost: u64) -> usize
     put_bytes_before(buffer, begin, b"lost ")
 }
 
-// The packets in rising order.
-fn sorted(alloc: Global, mut packets: Vec<Packet>) -> Result<Vec<Packet>, NoMemory>
-    ensures rising { IfOk result (λ outs. IsSorted packet_cmp outs.items) }
-    ensures same { IfOk result (λ outs. IsPermutation packets.items outs.items) }
-{
-    sort(alloc, packets.as_mut_slice())?;
-    Ok(packets)
-}
-
+// Puts packets in rising order.
 fn sort(alloc: Global, packets: &mut [Packet]) -> Result<(), NoMemory>
     ensures rising { OnOk result (IsSorted packet_cmp packets.new) }
     ensures same { IsPermutation packets.old packets.new }

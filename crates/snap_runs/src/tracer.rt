@@ -22,6 +22,7 @@ use crate::frames::Frames;
 use crate::packets::PacketLines;
 use crate::settle::settle;
 use crate::tail::put_end;
+use crate::tally::Tally;
 use snap_core::NoMemory;
 use snap_core::packet::Packet;
 use snap_core::program::Fields;
@@ -33,7 +34,7 @@ use snap_trace::tail::PIECE;
 use snap_trace::{Line, TraceFault};
 use std::alloc::Global;
 
-/// A network between two packets, and the text of its report that waits to be written.
+/// A network between two packets, the text of its report that waits to be written, and room for what happens to a packet.
 #[derive(Drop)]
 pub struct Tracer {
     alloc: Global,
@@ -41,6 +42,7 @@ pub struct Tracer {
     hops: bool,
     frames: Frames,
     text: Vec<u8>,
+    tally: Tally,
 }
 
 impl Tracer {
@@ -61,6 +63,7 @@ impl Tracer {
             hops,
             frames,
             text: Vec::new(alloc),
+            tally: Tally::new(alloc),
         })
     }
 
@@ -218,9 +221,9 @@ impl Tracer {
             Err(InjectFault::NoPort) => return Err(TraceFault::Packets { line }),
             Err(InjectFault::NoMemory) => return Err(TraceFault::NoMemory),
         };
-        let tally = settle(self.alloc, &mut self.net, self.hops, self.frames)?;
+        settle(&mut self.net, self.hops, self.frames, &mut self.tally)?;
         let fields = fields_of(&self.net);
-        tally.put_block(&mut self.text, fields, number + 1)?;
+        self.tally.put_block(&mut self.text, fields, number + 1)?;
         Ok(())
     }
 

@@ -1,4 +1,4 @@
-use Rattle.std.proofs.Common.{◌≡◌, ◌≤◌, ◌+◌, length}
+use Rattle.std.proofs.Common.{◌≡◌, ◌+◌, length}
 use Rattle.snap_runs.specs.Playing.{SoPut}
 use Rattle.snap_runs.proofs.play.put_blocks.Given as goal
 

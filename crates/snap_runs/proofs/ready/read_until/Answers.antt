@@ -1,11 +1,10 @@
-use Rattle.std.proofs.Common.{◌≡◌, None, Some, Ok, Err, ap, rules, arith, subst, sym, ◌∙◌}
+use Rattle.std.proofs.Common.{◌≡◌, None, Ok, Err, ap, rules, arith, subst, sym, ◌∙◌}
 use Rattle.std.specs.Prelude.{IfSome}
 use Rattle.std.proofs.lemmas.Result.{err_from_is_err_and}
 use Rattle.snap_core.specs.Fields.{count}
 use Rattle.snap_io.specs.Files.{file_of}
 use Rattle.snap_io.specs.LineReaders.{lines_name}
 use Rattle.snap_rows.specs.declared.tables.Tables.{Tables}
-use Rattle.snap_trace.specs.declared.fault.TraceFault.{TraceFault}
 use Rattle.snap_trace.proofs.StepLemmas.{where_told}
 use Rattle.snap_runs.specs.Playing.{AreAll, HasRead}
 use Rattle.snap_runs.specs.Reading.{FitsLine, GivesLine, GoesOn, HasLine, left_of, said_at}

@@ -10,8 +10,8 @@ pub loop-frames-init : goal.loop-frames-init
 loop-frames-init c =
     let P : List ℕ → Type 0 = λ k. length k ≡ comps c.args.net.now.tables in
     record {
-      settled = settled-none c.args.frames c.args.hops c.args.net.now c.new-tally.result c.new-tally.ensures.delivered c.new-tally.ensures.lost c.new-tally.ensures.hops;
-      long = subst (All P) (sym c.new-tally.ensures.delivered) (All-nil P);
+      settled = settled-none c.args.frames c.args.hops c.args.net.now c.clear.new.self c.clear.ensures.delivered c.clear.ensures.lost c.clear.ensures.hops;
+      long = subst (All P) (sym c.clear.ensures.delivered) (All-nil P);
       tables = refl;
       injected = refl;
     }

@@ -4,5 +4,5 @@ use Rattle.snap_trace.specs.Reports.{listed_line}
 use Rattle.snap_runs.specs.Reports.{names_of}
 use Rattle.snap_runs.proofs.tail.put_entries.Given as goal
 
-abbrev pub invariant-loop-entry : goal.invariant-loop-entry
-invariant-loop-entry l = l.out.items ≡ l.initial.out.items ++ flat_map (listed_line (names_of l.arrays)) (take l.entry-index l.entries)
+abbrev pub invariant-loop-i : goal.invariant-loop-i
+invariant-loop-i l = l.out.items ≡ l.initial.out.items ++ flat_map (listed_line (names_of l.arrays)) (take l.i l.entries)

@@ -1,4 +1,4 @@
-use Rattle.std.proofs.Common.{◌≡◌, ◌<◌, ◌+◌, [], None, inl, inr, length, arith, rules, subst}
+use Rattle.std.proofs.Common.{◌≡◌, ◌<◌, [], None, inl, inr, length, arith, rules, subst}
 use Rattle.std.proofs.lemmas.Option.{MatchOption-at_none}
 use Rattle.snap_runs.specs.Playing.{HasDone}
 use Rattle.snap_runs.specs.Schedules.{lines_of}

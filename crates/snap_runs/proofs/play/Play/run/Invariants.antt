@@ -1,4 +1,4 @@
-use Rattle.std.proofs.Common.{◌≡◌, ◌≤◌, ◌+◌, Bool, List, ℕ, [], length}
+use Rattle.std.proofs.Common.{◌≤◌, ◌+◌, Bool, List, ℕ, [], length}
 use Rattle.snap_rows.specs.declared.tables.Tables.{Tables}
 use Rattle.snap_runs.specs.Playing.{Plays, SoFar}
 use Rattle.snap_runs.specs.Schedules.{lines_of}

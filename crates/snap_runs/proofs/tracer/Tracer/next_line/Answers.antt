@@ -1,12 +1,11 @@
-use Rattle.std.proofs.Common.{Err, inl, append-nil, ap, refl, sym, subst, ◌∙◌}
+use Rattle.std.proofs.Common.{inl, append-nil, ap, refl, subst, ◌∙◌}
 use Rattle.std.proofs.lemmas.Result.{err_from_is_err_and}
-use Rattle.snap_io.specs.Files.{Files, file_of}
+use Rattle.snap_io.specs.Files.{file_of}
 use Rattle.snap_io.specs.LineReaders.{lines_name}
 use Rattle.snap_io.specs.Sinks.{AppendsPart}
 use Rattle.snap_rows.specs.declared.tables.Tables.{Tables}
 use Rattle.snap_trace.proofs.StepLemmas.{where_told, whatever_told}
 use Rattle.snap_runs.specs.Reading.{left_of, said_at}
-use Rattle.snap_runs.specs.Tracing.{Closes, Follows}
 use Rattle.snap_runs.proofs.Coming.{comes-part, comes-written, follows}
 use Rattle.snap_runs.proofs.tracer.Tracer.next_line.Goals as goal
 

@@ -1,4 +1,4 @@
-use Rattle.std.proofs.Common.{◌≡◌, ℕ, List, Option, None, Ok, Err, rules, refl, sym, subst, arith}
+use Rattle.std.proofs.Common.{◌≡◌, None, Ok, Err, rules, refl, sym, subst, arith}
 use Rattle.std.proofs.lemmas.Result.{err_from_is_err_and}
 use Rattle.snap_io.specs.Files.{file_of}
 use Rattle.snap_io.specs.LineReaders.{lines_name}
