@@ -1,12 +1,17 @@
 //! What several of the tests build.
 
-ghost use Rattle.std.specs.Prelude.{IfOk};
+ghost use Rattle.std.specs.Prelude.{◌≡◌, IfOk, length};
 ghost use Rattle.snap_core.specs.Programs.{IsBounded, IsInForm};
+ghost use Rattle.snap_dep.specs.Ranks.{IsGrouping};
+ghost use Rattle.snap_topo.specs.Form.{IsInForm as IsTopology};
 
 use snap_core::program::Program;
+use snap_dep::calls::groups;
+use snap_dep::groups::Groups;
 use snap_lex::tokens;
 use snap_names::resolve;
 use snap_parse::parse;
+use snap_topo::topology::Topology;
 use std::alloc::Global;
 use std::test::Fail;
 
@@ -22,8 +27,8 @@ links = [[\"s1\", \"s2\"], [\"s1\", \"s3\"], [\"s2\", \"s4\"], [\"s3\", \"s4\"]]
 6 = \"s4\"
 ";
 
-/// Three arrays, of which no two are tied.
-pub(crate) const ARRAYS: &str = "array orphan; array susp-client; array blacklist; id";
+// Three arrays, of which no two are tied.
+const ARRAYS: &str = "array orphan; array susp-client; array blacklist; id";
 
 /// The program that a text spells.
 pub(crate) fn program(alloc: Global, text: &str) -> Result<Program, Fail>
@@ -37,4 +42,31 @@ pub(crate) fn program(alloc: Global, text: &str) -> Result<Program, Fail>
     let tokens = tokens(alloc, text)?;
     let source = parse(alloc, text, &tokens)?;
     Ok(resolve(alloc, text, &source)?)
+}
+
+/// A program's arrays in their groups, and switches for them.
+#[derive(Drop)]
+pub(crate) struct Setting {
+    pub(crate) program: Program,
+    pub(crate) groups: Groups,
+    pub(crate) topology: Topology,
+}
+
+/// Three arrays, of which no two are tied, and the square.
+pub(crate) fn three_arrays(alloc: Global) -> Result<Setting, Fail>
+    ensures groups { IfOk result (λ setting. IsGrouping setting.program.body (length setting.program.vars) setting.groups) }
+    ensures three { IfOk result (λ setting. length setting.program.vars ≡ 3) }
+    ensures form { IfOk result (λ setting. IsTopology setting.topology) }
+{
+    let program = program(alloc, ARRAYS)?;
+    if program.vars.items().len() != 3 {
+        return Err("not three arrays")?;
+    }
+    let groups = groups(alloc, &program)?;
+    let topology = snap_topo::read(alloc, SQUARE.as_bytes())?;
+    Ok(Setting {
+        program,
+        groups,
+        topology,
+    })
 }

@@ -1,5 +1,6 @@
 use crate::given::program;
 use snap_dep::calls::{dependencies, groups};
+use snap_dep::groups::Groups;
 use std::alloc::Global;
 use std::test::Fail;
 
@@ -35,9 +36,13 @@ fn depends(alloc: Global, text: &str) -> Result<Vec<(u16, u16)>, Fail> {
     Ok(dependencies(alloc, &program)?)
 }
 
-fn order(alloc: Global, text: &str) -> Result<Vec<u16>, Fail> {
+fn grouped(alloc: Global, text: &str) -> Result<Groups, Fail> {
     let program = program(alloc, text)?;
-    let groups = groups(alloc, &program)?;
+    Ok(groups(alloc, &program)?)
+}
+
+fn order(alloc: Global, text: &str) -> Result<Vec<u16>, Fail> {
+    let groups = grouped(alloc, text)?;
     Ok(groups.order().to_vec(alloc)?)
 }
 
@@ -53,12 +58,8 @@ fn a_group_comes_after_those_that_lead_to_it(rt: HostRuntime) -> Result<(), Fail
 
 #[test]
 fn updates_in_one_go_are_tied(rt: HostRuntime) -> Result<(), Fail> {
-    let alloc = rt.alloc();
-    let program = program(
-        alloc,
-        "array s; array t; array u; atomic(s[inport]++; u[inport][1]++)",
-    )?;
-    let made = groups(alloc, &program)?;
+    let text = "array s; array t; array u; atomic(s[inport]++; u[inport][1]++)";
+    let made = grouped(rt.alloc(), text)?;
     assert!(rt; made.count() == 3);
     assert!(rt; made.tied(0, 2) && !made.tied(0, 1));
     assert!(rt; made.group(2) == 0 && made.rank(1) == 1 && made.arity(2) == 2);

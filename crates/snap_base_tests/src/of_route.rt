@@ -1,6 +1,10 @@
+ghost use Rattle.std.specs.Prelude.{◌≡◌, IfOk};
+ghost use Rattle.snap_route.specs.Tables.{switch_count};
+
 use crate::given::SQUARE;
 use snap_route::calls::routes;
-use snap_route::table::RouteFault;
+use snap_route::table::{RouteFault, Routes};
+use std::alloc::Global;
 use std::test::Fail;
 
 const PART: &str = "switches = [\"a\", \"b\", \"c\"]\nlinks = [[\"a\", \"b\"]]\n[ports]";
@@ -14,15 +18,34 @@ const WAYS: [(u16, u16, u32, u16); 5] = [
     (0, 1, 1, 1),
 ];
 
+// The routes of the square.
+fn square_routes(alloc: Global) -> Result<Routes, Fail>
+    ensures { IfOk result (λ routes. switch_count routes ≡ 4) }
+{
+    let topology = snap_topo::read(alloc, SQUARE.as_bytes())?;
+    if topology.switches.items().len() != 4 {
+        return Err("not four switches")?;
+    }
+    Ok(routes(alloc, &topology)?)
+}
+
+// The distance of two of four switches and the next hop, where they differ.
+fn way(routes: &Routes, a: u16, b: u16) -> Option<(u32, u16)>
+    requires { switch_count routes.now ≡ 4 }
+{
+    if a < 4 && b < 4 && a != b {
+        Some((routes.distance(a, b), routes.next(a, b)))
+    } else {
+        None
+    }
+}
+
 #[test]
 fn routes_of_a_square(rt: HostRuntime) -> Result<(), Fail> {
-    let topology = snap_topo::read(rt.alloc(), SQUARE.as_bytes())?;
-    let routes = routes(rt.alloc(), &topology)?;
-    let count = topology.switches.items().len() as u16;
+    let routes = square_routes(rt.alloc())?;
     assert_eq!(rt; routes.diameter(), 2);
     for (a, b, distance, next) in WAYS {
-        assert!(rt; a < count && b < count && a != b);
-        assert!(rt; routes.distance(a, b) == distance && routes.next(a, b) == next);
+        assert!(rt; way(&routes, a, b) == Some((distance, next)));
     }
     Ok(())
 }

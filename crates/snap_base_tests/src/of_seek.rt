@@ -1,6 +1,11 @@
-use crate::given::{ARRAYS, SQUARE, program};
-use snap_dep::calls::groups;
+ghost use Rattle.std.specs.Prelude.{length};
+ghost use Rattle.snap_dep.specs.Ranks.{IsGrouping};
+ghost use Rattle.snap_route.specs.Tables.{AreRoutes};
+ghost use Rattle.snap_topo.specs.Form.{IsInForm as IsTopology};
+
+use crate::given::{Setting, three_arrays};
 use snap_route::calls::routes;
+use snap_route::table::Routes;
 use snap_seek::best::Best;
 use std::alloc::Global;
 use std::test::Fail;
@@ -27,14 +32,23 @@ const BEST: [(&str, u64, [u16; 3]); 6] = [
     ),
 ];
 
+// The best placement in the square, by its routes.
+fn best_by(alloc: Global, setting: &Setting, routes: &Routes, demand: &str) -> Result<Best, Fail>
+    requires groups { IsGrouping setting.now.program.body (length setting.now.program.vars) setting.now.groups }
+    requires form { IsTopology setting.now.topology }
+    requires routes { AreRoutes setting.now.topology routes.now }
+{
+    let (groups, topology) = (&setting.groups, &setting.topology);
+    let text = demand.as_bytes();
+    let demand = snap_seek::read_demand(alloc, text, &setting.program, groups, topology)?;
+    Ok(snap_seek::seek(alloc, groups, topology, routes, &demand)?)
+}
+
 // The best placement in the square.
 fn best(alloc: Global, demand: &str) -> Result<Best, Fail> {
-    let program = program(alloc, ARRAYS)?;
-    let groups = groups(alloc, &program)?;
-    let topology = snap_topo::read(alloc, SQUARE.as_bytes())?;
-    let routes = routes(alloc, &topology)?;
-    let demand = snap_seek::read_demand(alloc, demand.as_bytes(), &program, &groups, &topology)?;
-    Ok(snap_seek::seek(alloc, &groups, &topology, &routes, &demand)?)
+    let setting = three_arrays(alloc)?;
+    let routes = routes(alloc, &setting.topology)?;
+    best_by(alloc, &setting, &routes, demand)
 }
 
 #[test]

@@ -1,10 +1,13 @@
+ghost use Rattle.snap_core.specs.Programs.{IsBounded};
+
 use crate::given::program;
 use snap_core::packet::Packet;
-use snap_core::program::Fields;
+use snap_core::program::{Fields, Program};
 use snap_io::{File, MemoryShelf, MemorySink, have_distinct_names};
 use snap_trace::switch::one_switch;
 use snap_trace::{Line, read_line};
 use std::alloc::Global;
+use std::process::Abort;
 use std::test::Fail;
 
 // The port and the components of the packet that a line says.
@@ -15,32 +18,41 @@ fn said(alloc: Global, fields: &Fields, line: &[u8]) -> Result<(u32, Packet), Fa
     }
 }
 
-#[test]
-fn lines_say_their_packets(rt: HostRuntime) -> Result<(), Fail> {
-    let alloc = rt.alloc();
-    let program = program(alloc, "field f; field g/24; id")?;
-    let lines: [(&[u8], [u64; 5]); 14] = [
-        (b"1", [1, 0, 0, 0, 0]),
-        (b"1\r", [1, 0, 0, 0, 0]),
-        (b"4294967295", [4_294_967_295, 0, 0, 0, 0]),
-        (b"007 outport=03", [7, 3, 0, 0, 0]),
-        (b" 2\tf=5  outport=9 \r", [2, 9, 5, 0, 0]),
-        (b"1 f=18446744073709551615", [1, 0, u64::MAX, 0, 0]),
-        (b"1 f=10.0.6.1", [1, 0, 167_773_697, 0, 0]),
-        (b"1 g=10.0.6.1", [1, 0, 0, 655_366, 1]),
-        (b"1 g=255.255.255.255", [1, 0, 0, 16_777_215, 255]),
-        (b"1 g=7:300", [1, 0, 0, 7, 300]),
-        (b"1 g=18446744073709551615:0", [1, 0, 0, u64::MAX, 0]),
-        (b"1 g.net=4 g.host=5", [1, 0, 0, 4, 5]),
-        (b"1 g.host=10.0.6.1", [1, 0, 0, 0, 167_773_697]),
-        (b"1 g.host=5 f=1 outport=2", [1, 2, 1, 0, 5]),
-    ];
-    for (line, numbers) in lines {
-        let (port, packet) = said(alloc, &program.fields, line)?;
-        assert_eq!(rt; u64::from(port), numbers[0]);
-        assert_eq!(rt; packet.comps(), numbers.as_slice());
+// Lines, and the components of the packet that each says, of which the first is its port.
+const LINES: [(&[u8], [u64; 5]); 14] = [
+    (b"1", [1, 0, 0, 0, 0]),
+    (b"1\r", [1, 0, 0, 0, 0]),
+    (b"4294967295", [4_294_967_295, 0, 0, 0, 0]),
+    (b"007 outport=03", [7, 3, 0, 0, 0]),
+    (b" 2\tf=5  outport=9 \r", [2, 9, 5, 0, 0]),
+    (b"1 f=18446744073709551615", [1, 0, u64::MAX, 0, 0]),
+    (b"1 f=10.0.6.1", [1, 0, 167_773_697, 0, 0]),
+    (b"1 g=10.0.6.1", [1, 0, 0, 655_366, 1]),
+    (b"1 g=255.255.255.255", [1, 0, 0, 16_777_215, 255]),
+    (b"1 g=7:300", [1, 0, 0, 7, 300]),
+    (b"1 g=18446744073709551615:0", [1, 0, 0, u64::MAX, 0]),
+    (b"1 g.net=4 g.host=5", [1, 0, 0, 4, 5]),
+    (b"1 g.host=10.0.6.1", [1, 0, 0, 0, 167_773_697]),
+    (b"1 g.host=5 f=1 outport=2", [1, 2, 1, 0, 5]),
+];
+
+// Whether a line says a packet of these components, the first of which is its port.
+fn says(alloc: Global, fields: &Fields, line: &[u8], numbers: [u64; 5]) -> Result<bool, Fail> {
+    let (port, packet) = said(alloc, fields, line)?;
+    Ok(u64::from(port) == numbers[0] && packet.comps() == numbers.as_slice())
+}
+
+fn lines_say(rt: &impl Abort, alloc: Global, fields: &Fields) -> Result<(), Fail> {
+    for (line, numbers) in LINES {
+        assert!(rt; says(alloc, fields, line, numbers)?, "{line:?}");
     }
     Ok(())
+}
+
+#[test]
+fn lines_say_their_packets(rt: HostRuntime) -> Result<(), Fail> {
+    let program = program(rt.alloc(), "field f; field g/24; id")?;
+    lines_say(&rt, rt.alloc(), &program.fields)
 }
 
 const COUNTING: &str = "field f; field g/24; array s;
@@ -56,19 +68,25 @@ fn shelf(alloc: Global, name: &[u8], bytes: &[u8]) -> Result<MemoryShelf, Fail> 
     Ok(MemoryShelf::new(files, Vec::new(alloc)))
 }
 
-// The report over a packets file.
-fn report(alloc: Global, text: &str, packets: &[u8]) -> Result<MemorySink, Fail> {
-    let program = program(alloc, text)?;
+// The report of a program over a packets file.
+fn report_of(alloc: Global, program: &Program, packets: &[u8]) -> Result<Vec<u8>, Fail>
+    requires { IsBounded program.now }
+{
     let mut shelf = shelf(alloc, b"q", packets)?;
     let mut sink = MemorySink::new(alloc, 4096, 4096, Vec::new(alloc))?;
-    one_switch(alloc, &mut shelf, b"q", &program, &mut sink)?;
-    Ok(sink)
+    one_switch(alloc, &mut shelf, b"q", program, &mut sink)?;
+    Ok(sink.bytes().to_vec(alloc)?)
+}
+
+fn report(alloc: Global, text: &str, packets: &[u8]) -> Result<Vec<u8>, Fail> {
+    let program = program(alloc, text)?;
+    report_of(alloc, &program, packets)
 }
 
 #[test]
 fn one_switch_writes_its_report(rt: HostRuntime) -> Result<(), Fail> {
     let packets = b"7 g=10.0.6.1\n# second\n7 f=9\n5 g=7:300";
-    let sink = report(rt.alloc(), COUNTING, packets)?;
+    let written = report(rt.alloc(), COUNTING, packets)?;
     let wanted: &[u8] = b"packet 1\n\
         out inport=7 outport=3 f=0 g=10.0.6.1\n\
         packet 2\n\
@@ -79,6 +97,6 @@ fn one_switch_writes_its_report(rt: HostRuntime) -> Result<(), Fail> {
         array s 5 = 1\n\
         array s 7 = 2\n\
         end\n";
-    assert_eq!(rt; sink.bytes(), wanted);
+    assert_eq!(rt; written.as_slice(), wanted);
     Ok(())
 }

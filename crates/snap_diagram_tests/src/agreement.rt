@@ -4,16 +4,18 @@ ghost use Rattle.std.specs.Prelude.{All, IsTrue, length};
 ghost use Rattle.snap_core.specs.Fits.{UpdateReads};
 ghost use Rattle.snap_core.specs.Tests.{OutFits};
 
+use snap_core::NoMemory;
 use snap_core::eval::eval;
 use snap_core::lists::Out;
 use snap_core::outcome::{EvalFault, Outcome};
 use snap_core::outs::after_all;
 use snap_core::packet::Packet;
 use snap_core::packets::Packets;
+use snap_core::place::Entry;
 use snap_core::policy::{Pol, Update};
 use snap_core::store::Store;
 use snap_fdd::bounds::outs_fit;
-use snap_fdd::leaf::{Go, Leaf};
+use snap_fdd::leaf::Leaf;
 use std::alloc::Global;
 use std::test::Fail;
 
@@ -31,21 +33,31 @@ pub(crate) fn outs_fit_packet(outs: &[Out], packet: &Packet) -> bool
     comps <= 64 && outs_fit(outs, comps as u16)
 }
 
-// Whether two stores list the same entries.
-fn same_entries(left: &Store, right: &Store) -> Result<bool, Fail> {
-    let (left, right) = (left.entries()?, right.entries()?);
+fn same_entries(left: &[Entry], right: &[Entry]) -> bool {
     if left.len() != right.len() {
-        return Ok(false);
+        return false;
     }
     for (a, b) in left.iter().zip(right.iter()) {
         if a.place.var != b.place.var
             || a.place.index.list() != b.place.index.list()
             || a.value != b.value
         {
-            return Ok(false);
+            return false;
         }
     }
-    Ok(true)
+    true
+}
+
+// Whether a store lists these entries.
+fn lists(store: &Store, entries: &[Entry]) -> Result<bool, NoMemory> {
+    let listed = store.entries()?;
+    Ok(same_entries(&listed, entries))
+}
+
+// Whether two stores list the same entries.
+fn same_stores(left: &Store, right: &Store) -> Result<bool, NoMemory> {
+    let listed = right.entries()?;
+    lists(left, &listed)
 }
 
 fn same_packets(left: &Packets, right: &Packets) -> bool {
@@ -60,26 +72,57 @@ fn same_packets(left: &Packets, right: &Packets) -> bool {
     true
 }
 
+// Whether outs make these packets.
+fn makes(alloc: Global, outs: &[Out], packet: &Packet, wanted: &Packets) -> Result<bool, Fail> {
+    if !outs_fit_packet(outs, packet) {
+        return Err("the outs don't fit")?;
+    }
+    let made = after_all(alloc, outs, packet)?;
+    Ok(same_packets(&made, wanted))
+}
+
+// Whether a store is this one behind updates.
+fn becomes(
+    store: &mut Store,
+    updates: &[Update],
+    packet: &Packet,
+    wanted: &Store,
+) -> Result<bool, Fail> {
+    if !updates_fit(updates, packet) {
+        return Err("the updates don't fit")?;
+    }
+    store.apply(packet, updates)?;
+    Ok(same_stores(store, wanted)?)
+}
+
+// Whether a copy of a store is.
+fn leaves(
+    store: &Store,
+    updates: &[Update],
+    packet: &Packet,
+    wanted: &Store,
+) -> Result<bool, Fail> {
+    let mut copy = store.copy()?;
+    becomes(&mut copy, updates, packet, wanted)
+}
+
 // Whether what a leaf does is this outcome.
 fn gives(
     alloc: Global,
-    go: &Go,
+    leaf: &Leaf,
     outcome: &Outcome,
     store: &Store,
     packet: &Packet,
 ) -> Result<bool, Fail> {
-    if !outs_fit_packet(go.outs.list(), packet) || !updates_fit(go.ups.list(), packet) {
-        return Err("the leaf doesn't fit")?;
+    match leaf {
+        Leaf::Race => Ok(false),
+        Leaf::Go(go) => Ok(
+            go.reads == outcome.reads
+                && go.writes == outcome.writes
+                && makes(alloc, go.outs.list(), packet, &outcome.packets)?
+                && leaves(store, go.ups.list(), packet, &outcome.store)?,
+        ),
     }
-    let packets = after_all(alloc, go.outs.list(), packet)?;
-    let mut after = store.copy()?;
-    after.apply(packet, go.ups.list())?;
-    Ok(
-        go.reads == outcome.reads
-            && go.writes == outcome.writes
-            && same_packets(&packets, &outcome.packets)
-            && same_entries(&after, &outcome.store)?,
-    )
 }
 
 /// Whether what a leaf does is what evaluation does, a race exactly where that is undefined.
@@ -96,9 +139,6 @@ pub(crate) fn agrees(
     match eval(alloc, pol, store, packet) {
         Err(EvalFault::NoMemory) => Err("out of memory")?,
         Err(EvalFault::Undefined) => Ok(matches!(leaf, Leaf::Race)),
-        Ok(outcome) => match leaf {
-            Leaf::Race => Ok(false),
-            Leaf::Go(go) => gives(alloc, go, &outcome, store, packet),
-        },
+        Ok(outcome) => gives(alloc, leaf, &outcome, store, packet),
     }
 }

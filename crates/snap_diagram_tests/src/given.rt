@@ -62,6 +62,14 @@ pub(crate) fn diagram(alloc: Global, program: &Program) -> Result<Made, Fail>
     })
 }
 
+/// The diagram of the program that a text spells.
+pub(crate) fn drawn(alloc: Global, text: &str) -> Result<Made, Fail>
+    ensures { IfOk result (λ d. IsArgument d.groups d.ctx d.nodes d.root) }
+{
+    let program = program(alloc, text)?;
+    diagram(alloc, &program)
+}
+
 /// The leaf to which a diagram walks.
 pub(crate) fn leaf_at<'a>(d: &'a Made, store: &Store, packet: &Packet) -> Result<&'a Leaf, Fail>
     requires { IsArgument d.now.groups d.now.ctx d.now.nodes d.now.root }

@@ -7,6 +7,7 @@ use snap_core::NoMemory;
 use snap_core::lists::Atoms;
 use snap_core::policy::{Atom, Term, Test};
 use std::alloc::{AllocError, Global};
+use std::process::Abort;
 use std::test::Fail;
 
 #[derive(Debug, Drop)]
@@ -33,54 +34,66 @@ fn at(alloc: Global, atom: Atom, num: u64) -> Result<Test, AllocError> {
     })
 }
 
-// Two leaves, and a test before them of an array at a number, and at a component.
-fn nodes(alloc: Global) -> Result<Nodes<Mark>, Fail> {
-    let mut nodes = Nodes::new(alloc);
-    let yes = nodes.leaf(Mark { num: 7 })?;
-    let no = nodes.leaf(Mark { num: 8 })?;
-    nodes.node(at(alloc, Atom::Num(2), 5)?, yes, no)?;
-    nodes.node(at(alloc, Atom::Comp(2), 5)?, yes, no)?;
-    Ok(nodes)
-}
-
-// The number of a test before two nodes.
-fn number(nodes: &mut Nodes<Mark>, at: Test, yes: u64, no: u64) -> Result<u64, Fail> {
+// The number of a test of an array at an atom, before two nodes.
+fn number(nodes: &mut Nodes<Mark>, atom: Atom, num: u64, ways: [u64; 2]) -> Result<u64, Fail> {
+    let [yes, no] = ways;
     if yes >= nodes.count() || no >= nodes.count() {
         return Err("no such node")?;
     }
-    Ok(nodes.node(at, yes, no)?)
+    let test = at(nodes.allocator(), atom, num)?;
+    Ok(nodes.node(test, yes, no)?)
 }
 
-#[test]
-fn a_node_stands_once(rt: HostRuntime) -> Result<(), Fail> {
-    let alloc = rt.alloc();
-    let mut nodes = nodes(alloc)?;
+// Two leaves, and a test before them of an array at a number, and at a component.
+fn fill(nodes: &mut Nodes<Mark>) -> Result<(), Fail> {
+    nodes.leaf(Mark { num: 7 })?;
+    nodes.leaf(Mark { num: 8 })?;
+    number(nodes, Atom::Num(2), 5, [0, 1])?;
+    number(nodes, Atom::Comp(2), 5, [0, 1])?;
+    Ok(())
+}
+
+fn stand_once(rt: &impl Abort, nodes: &mut Nodes<Mark>) -> Result<(), Fail> {
+    fill(nodes)?;
     assert_eq!(rt; nodes.count(), 4);
     assert_eq!(rt; nodes.leaf(Mark { num: 8 })?, 1);
-    assert_eq!(rt; number(&mut nodes, at(alloc, Atom::Num(2), 5)?, 0, 1)?, 2);
-    assert_eq!(rt; number(&mut nodes, at(alloc, Atom::Comp(2), 5)?, 0, 1)?, 3);
+    assert_eq!(rt; number(nodes, Atom::Num(2), 5, [0, 1])?, 2);
+    assert_eq!(rt; number(nodes, Atom::Comp(2), 5, [0, 1])?, 3);
     assert_eq!(rt; nodes.count(), 4);
     Ok(())
 }
 
 #[test]
-fn a_test_with_one_way_is_that_way(rt: HostRuntime) -> Result<(), Fail> {
-    let alloc = rt.alloc();
-    let mut nodes = nodes(alloc)?;
-    assert_eq!(rt; number(&mut nodes, at(alloc, Atom::Num(2), 6)?, 3, 3)?, 3);
+fn a_node_stands_once(rt: HostRuntime) -> Result<(), Fail> {
+    let mut nodes = Nodes::new(rt.alloc());
+    stand_once(&rt, &mut nodes)
+}
+
+fn go_one_way(rt: &impl Abort, nodes: &mut Nodes<Mark>) -> Result<(), Fail> {
+    fill(nodes)?;
+    assert_eq!(rt; number(nodes, Atom::Num(2), 6, [3, 3])?, 3);
     assert_eq!(rt; nodes.count(), 4);
     assert!(rt; matches!(nodes.get(3), Node::Ask { yes: 0, no: 1, .. }));
     Ok(())
 }
 
 #[test]
-fn a_list_has_the_number_put_last(rt: HostRuntime) -> Result<(), Fail> {
-    let alloc = rt.alloc();
-    let mut numbers = Numbers::new(alloc);
+fn a_test_with_one_way_is_that_way(rt: HostRuntime) -> Result<(), Fail> {
+    let mut nodes = Nodes::new(rt.alloc());
+    go_one_way(&rt, &mut nodes)
+}
+
+fn have_those_put_last(rt: &impl Abort, alloc: Global, numbers: &mut Numbers) -> Result<(), Fail> {
     numbers.put(vec![in alloc; 1, 2]?, 5)?;
     numbers.put(vec![in alloc; 1]?, 6)?;
     numbers.put(vec![in alloc; 1, 2]?, 7)?;
     assert!(rt; numbers.get(&[1, 2]) == Some(7) && numbers.get(&[1]) == Some(6));
     assert!(rt; numbers.get(&[2]).is_none());
     Ok(())
+}
+
+#[test]
+fn a_list_has_the_number_put_last(rt: HostRuntime) -> Result<(), Fail> {
+    let mut numbers = Numbers::new(rt.alloc());
+    have_those_put_last(&rt, rt.alloc(), &mut numbers)
 }

@@ -1,21 +1,24 @@
 //! Diagrams of programs beside evaluation.
 
 ghost use Rattle.snap_core.specs.Programs.{IsInForm};
+ghost use Rattle.snap_fdd.specs.Picks.{IsArgument};
 
 use crate::agreement::agrees;
-use crate::given::{diagram, leaf_at, program};
+use crate::given::{Made, diagram, leaf_at, program};
 use snap_build::building::{BuildFault, build};
 use snap_core::NoMemory;
 use snap_core::packet::Packet;
+use snap_core::policy::Pol;
 use snap_core::program::Program;
 use snap_core::store::Store;
 use snap_dep::calls::groups;
 use snap_fdd::leaf::Leaf;
 use std::alloc::Global;
+use std::process::Abort;
 use std::test::Fail;
 
 // What the small programs are made of: tests, assignments and updates.
-const PARTS: [&str; 12] = [
+const PARTS: &[&str] = &[
     "id",
     "drop",
     "f = 1",
@@ -31,7 +34,9 @@ const PARTS: [&str; 12] = [
 ];
 
 // How two of them make a program: what stands before, between and behind them.
-const FORMS: [(&str, &str, &str); 4] = [
+type Form = (&'static str, &'static str, &'static str);
+
+const FORMS: &[Form] = &[
     ("(", ") + (", ")"),
     ("(", "); (", ")"),
     ("if s[1] = 1 | f = 2 then (", ") else (", ")"),
@@ -50,19 +55,45 @@ fn input(alloc: Global, number: u64) -> Result<(Store, Packet), NoMemory> {
     Ok((store, Packet::new(comps)))
 }
 
+// Whether a diagram and evaluation agree on a store and a packet.
+fn agrees_on(
+    alloc: Global,
+    d: &Made,
+    pol: &Pol,
+    store: &Store,
+    packet: &Packet,
+) -> Result<bool, Fail>
+    requires { IsArgument d.now.groups d.now.ctx d.now.nodes d.now.root }
+{
+    let leaf = leaf_at(d, store, packet)?;
+    agrees(alloc, leaf, pol, store, packet)
+}
+
+// Whether they agree on this one of the 81.
+fn agrees_at(alloc: Global, d: &Made, pol: &Pol, number: u64) -> Result<bool, Fail>
+    requires { IsArgument d.now.groups d.now.ctx d.now.nodes d.now.root }
+{
+    let (store, packet) = input(alloc, number)?;
+    agrees_on(alloc, d, pol, &store, &packet)
+}
+
+fn agrees_at_each(alloc: Global, d: &Made, pol: &Pol) -> Result<bool, Fail>
+    requires { IsArgument d.now.groups d.now.ctx d.now.nodes d.now.root }
+{
+    for number in 0..81u64 {
+        if !agrees_at(alloc, d, pol, number)? {
+            return Ok(false);
+        }
+    }
+    Ok(true)
+}
+
 // Whether the diagram of a program and evaluation agree on all these stores and packets.
 fn agrees_everywhere(alloc: Global, program: &Program) -> Result<bool, Fail>
     requires { IsInForm program.now }
 {
     let d = diagram(alloc, program)?;
-    for number in 0..81u64 {
-        let (store, packet) = input(alloc, number)?;
-        let leaf = leaf_at(&d, &store, &packet)?;
-        if !agrees(alloc, leaf, &program.body, &store, &packet)? {
-            return Ok(false);
-        }
-    }
-    Ok(true)
+    agrees_at_each(alloc, &d, &program.body)
 }
 
 // Whether a program builds, or else evaluation is undefined on the store and packet that are given.
@@ -79,21 +110,39 @@ fn is_judged(alloc: Global, program: &Program) -> Result<bool, Fail>
     }
 }
 
-// Whether all of this is so of the program with this body.
-fn is_right(alloc: Global, body: &str) -> Result<bool, Fail> {
+// Whether all of this is so of a program.
+fn is_right(alloc: Global, program: &Program) -> Result<bool, Fail>
+    requires { IsInForm program.now }
+{
+    Ok(agrees_everywhere(alloc, program)? && is_judged(alloc, program)?)
+}
+
+// Whether it is so of the program with this body.
+fn is_right_of(alloc: Global, body: &str) -> Result<bool, Fail> {
     let text = format!(in alloc; "field f; field g; array s; array t; {body}")?;
     let program = program(alloc, text.as_str())?;
-    Ok(agrees_everywhere(alloc, &program)? && is_judged(alloc, &program)?)
+    is_right(alloc, &program)
+}
+
+fn judge(rt: &impl Abort, alloc: Global, body: &str) -> Result<(), Fail> {
+    assert!(rt; is_right_of(alloc, body)?, "{body}");
+    Ok(())
+}
+
+// Judges the program that two parts make in a form.
+fn judge_parts(rt: &impl Abort, alloc: Global, form: Form, parts: [&str; 2]) -> Result<(), Fail> {
+    let (before, between, behind) = form;
+    let [left, right] = parts;
+    let body = format!(in alloc; "{before}{left}{between}{right}{behind}")?;
+    judge(rt, alloc, body.as_str())
 }
 
 #[test]
 fn diagrams_do_what_evaluation_does(rt: HostRuntime) -> Result<(), Fail> {
-    let alloc = rt.alloc();
-    for (before, between, behind) in FORMS {
+    for form in FORMS {
         for left in PARTS {
             for right in PARTS {
-                let body = format!(in alloc; "{before}{left}{between}{right}{behind}")?;
-                assert!(rt; is_right(alloc, body.as_str())?, "{body}");
+                judge_parts(&rt, rt.alloc(), *form, [*left, *right])?;
             }
         }
     }
@@ -109,7 +158,7 @@ const CHOICES: [&str; 2] = [
 #[test]
 fn choices_do_what_evaluation_does(rt: HostRuntime) -> Result<(), Fail> {
     for body in CHOICES {
-        assert!(rt; is_right(rt.alloc(), body)?, "{body}");
+        judge(&rt, rt.alloc(), body)?;
     }
     Ok(())
 }

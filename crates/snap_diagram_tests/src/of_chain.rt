@@ -1,5 +1,8 @@
+ghost use Rattle.snap_fdd.specs.Picks.{IsArgument};
+
 use crate::agreement::{outs_fit_packet, updates_fit};
-use crate::given::{diagram, leaf_at, program};
+use crate::given::{Made, drawn, leaf_at};
+use snap_core::lists::Out;
 use snap_core::outs::after_all;
 use snap_core::packet::Packet;
 use snap_core::store::Store;
@@ -19,7 +22,7 @@ const BEHIND_AN_OUT: &str =
 type Gives = (u64, u64, u64);
 
 // Bodies, the packet's `inport`, `outport`, `srcport` and `dstport`, and what comes of it, nothing where two parts race.
-const ROWS: [(&str, [u64; 4], Option<Gives>); 7] = [
+const ROWS: &[(&str, [u64; 4], Option<Gives>)] = &[
     // Equal copies are one, and others race.
     (
         "(id + srcport <- 1); s[inport]++",
@@ -35,49 +38,86 @@ const ROWS: [(&str, [u64; 4], Option<Gives>); 7] = [
     (BEHIND_AN_OUT, [4, 9, 5, 0], Some((2, 0, 0))),
 ];
 
-// What a leaf makes of the packet with these components.
-fn made(alloc: Global, go: &Go, packet: &Packet, comps: [u64; 4]) -> Result<Gives, Fail> {
-    if !outs_fit_packet(go.outs.list(), packet) || !updates_fit(go.ups.list(), packet) {
-        return Err("the leaf doesn't fit")?;
+// The `outport` of the packet that these are.
+fn outport(packets: &[Packet]) -> Result<u64, Fail> {
+    match packets {
+        [one] => Ok(one.comps().get(1).copied().unwrap_or(0)),
+        _ => Err("not one packet")?,
     }
-    let mut store = Store::new(alloc);
+}
+
+// The `outport` that outs give a packet.
+fn sent(alloc: Global, outs: &[Out], packet: &Packet) -> Result<u64, Fail> {
+    if !outs_fit_packet(outs, packet) {
+        return Err("the outs don't fit")?;
+    }
+    let packets = after_all(alloc, outs, packet)?;
+    outport(packets.list())
+}
+
+// What a leaf makes of a store and the packet with these components.
+fn made(
+    alloc: Global,
+    go: &Go,
+    store: &mut Store,
+    packet: &Packet,
+    comps: [u64; 4],
+) -> Result<Gives, Fail> {
+    if !updates_fit(go.ups.list(), packet) {
+        return Err("the updates don't fit")?;
+    }
     store.apply(packet, go.ups.list())?;
-    let packets = after_all(alloc, go.outs.list(), packet)?;
-    let [one] = packets.list() else {
-        return Err("not one packet")?;
-    };
-    let outport = one.comps().get(1).copied().unwrap_or(0);
     Ok((
-        outport,
+        sent(alloc, go.outs.list(), packet)?,
         store.get(0, &[comps[0]]),
         store.get(0, &[comps[2]]),
     ))
 }
 
-// What the program with this body makes of it.
-fn gives(alloc: Global, body: &str, comps: [u64; 4]) -> Result<Option<Gives>, Fail> {
-    let text = format!(in alloc; "field srcport; field dstport; array s; {body}")?;
-    let program = program(alloc, text.as_str())?;
-    let d = diagram(alloc, &program)?;
-    let packet = Packet::new(comps.as_slice().to_vec(alloc)?);
-    match leaf_at(&d, &Store::new(alloc), &packet)? {
+// What the leaf does to which they are led.
+fn led(
+    alloc: Global,
+    d: &Made,
+    store: &mut Store,
+    packet: &Packet,
+    comps: [u64; 4],
+) -> Result<Option<Gives>, Fail>
+    requires { IsArgument d.now.groups d.now.ctx d.now.nodes d.now.root }
+{
+    match leaf_at(d, store, packet)? {
         Leaf::Race => Ok(None),
-        Leaf::Go(go) => Ok(Some(made(alloc, go, &packet, comps)?)),
+        Leaf::Go(go) => Ok(Some(made(alloc, go, store, packet, comps)?)),
     }
+}
+
+// What a diagram makes of the packet before there are numbers.
+fn gives(alloc: Global, d: &Made, comps: [u64; 4]) -> Result<Option<Gives>, Fail>
+    requires { IsArgument d.now.groups d.now.ctx d.now.nodes d.now.root }
+{
+    let packet = Packet::new(comps.as_slice().to_vec(alloc)?);
+    let mut store = Store::new(alloc);
+    led(alloc, d, &mut store, &packet, comps)
+}
+
+// What the program with this body makes of it.
+fn gives_of(alloc: Global, body: &str, comps: [u64; 4]) -> Result<Option<Gives>, Fail> {
+    let text = format!(in alloc; "field srcport; field dstport; array s; {body}")?;
+    let d = drawn(alloc, text.as_str())?;
+    gives(alloc, &d, comps)
 }
 
 #[test]
 fn chains_give_what_was_worked_by_hand(rt: HostRuntime) -> Result<(), Fail> {
     for (body, comps, wanted) in ROWS {
-        assert_eq!(rt; gives(rt.alloc(), body, comps)?, wanted, "{body}");
+        assert_eq!(rt; gives_of(rt.alloc(), *body, *comps)?, *wanted, "{body}");
     }
     Ok(())
 }
 
 // How many nodes are made for the program with this text.
 fn count(alloc: Global, text: &str) -> Result<u64, Fail> {
-    let program = program(alloc, text)?;
-    Ok(diagram(alloc, &program)?.nodes.count())
+    let d = drawn(alloc, text)?;
+    Ok(d.nodes.count())
 }
 
 // Five monitors, and then an egress of 100 prefixes.

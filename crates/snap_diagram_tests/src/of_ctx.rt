@@ -1,12 +1,13 @@
 use crate::given::{AT_THREE, AT_TWO, AT_ZERO, Asks, FOUR, THREE, context, test};
 use snap_core::policy::{Atom, Term};
-use snap_ctx::context::{Assumed, Verdict};
+use snap_ctx::context::{Assumed, Context, Verdict};
 use snap_ctx::fits::fits;
 use std::alloc::{AllocError, Global};
+use std::process::Abort;
 use std::test::Fail;
 
 // Facts, what is asked under them, and the answer.
-const VERDICTS: [(&[(Asks, bool)], Asks, Verdict); 7] = [
+const VERDICTS: &[(&[(Asks, bool)], Asks, Verdict)] = &[
     // Different numbers tell two terms apart.
     (
         &[
@@ -80,9 +81,17 @@ fn verdict(alloc: Global, facts: &[(Asks, bool)], asks: Asks) -> Result<Verdict,
 #[test]
 fn facts_decide_tests(rt: HostRuntime) -> Result<(), Fail> {
     for (facts, asks, wanted) in VERDICTS {
-        assert_eq!(rt; verdict(rt.alloc(), facts, asks)?, wanted);
+        assert_eq!(rt; verdict(rt.alloc(), *facts, *asks)?, *wanted);
     }
     Ok(())
+}
+
+fn tells(rt: &impl Abort, ctx: &Context) {
+    assert_eq!(rt; ctx.comps(), 5);
+    assert_eq!(rt; ctx.facts().len(), 3);
+    assert!(rt; ctx.facts()[0].yes && !ctx.facts()[1].yes);
+    assert_eq!(rt; ctx.class(3), Term::Num(18446744073709551615));
+    assert_eq!(rt; ctx.class(4), FOUR);
 }
 
 #[test]
@@ -93,11 +102,7 @@ fn readers_tell_what_was_assumed(rt: HostRuntime) -> Result<(), Fail> {
         (Asks::Is(2, 0), true),
     ];
     let ctx = context(rt.alloc(), &facts)?;
-    assert_eq!(rt; ctx.comps(), 5);
-    assert_eq!(rt; ctx.facts().len(), 3);
-    assert!(rt; ctx.facts()[0].yes && !ctx.facts()[1].yes);
-    assert_eq!(rt; ctx.class(3), Term::Num(18446744073709551615));
-    assert_eq!(rt; ctx.class(4), FOUR);
+    tells(&rt, &ctx);
     Ok(())
 }
 

@@ -19,6 +19,7 @@ use snap_fdd::only::only;
 use snap_fdd::pick::ite;
 use snap_fdd::pruning::prune;
 use std::alloc::{AllocError, Global};
+use std::process::Abort;
 use std::test::Fail;
 
 // Two arrays, of which the second has the lower rank: the first is written after it was read.
@@ -28,23 +29,54 @@ fn second_first(alloc: Global) -> Result<Groups, Fail> {
 }
 
 // The leaf that sets `outport`.
-fn mark(nodes: &mut Nodes<Leaf>, groups: &Groups, ctx: &Context, num: u64) -> Result<u64, Fail>
-    ensures grew { Grew nodes.old nodes.new }
-    ensures diagram { IfOk result (IsArgument groups.now ctx.now nodes.new) }
-{
-    let alloc = nodes.allocator();
+fn sets(alloc: Global, num: u64) -> Result<Leaf, AllocError> {
     let out = Out::new(vec![in alloc; (1, Atom::Num(num))]?);
-    let leaf = Leaf::Go(Go {
+    Ok(Leaf::Go(Go {
         outs: Outs::new(vec![in alloc; out]?),
         ups: Updates::new(Vec::new(alloc)),
         reads: 0,
         writes: 0,
-    });
-    if !leaf_fits(groups, ctx, &leaf) {
+    }))
+}
+
+// A leaf that fits, alone.
+fn alone(nodes: &mut Nodes<Leaf>, groups: &Groups, ctx: &Context, leaf: &Leaf) -> Result<u64, Fail>
+    ensures grew { Grew nodes.old nodes.new }
+    ensures diagram { IfOk result (IsArgument groups.now ctx.now nodes.new) }
+{
+    if !leaf_fits(groups, ctx, leaf) {
         return Err("the leaf doesn't fit")?;
     }
-    let copy = leaf.copy(alloc)?;
+    let copy = leaf.copy(nodes.allocator())?;
     Ok(only(nodes, groups, ctx, copy)?)
+}
+
+fn mark(nodes: &mut Nodes<Leaf>, groups: &Groups, ctx: &Context, num: u64) -> Result<u64, Fail>
+    ensures grew { Grew nodes.old nodes.new }
+    ensures diagram { IfOk result (IsArgument groups.now ctx.now nodes.new) }
+{
+    let leaf = sets(nodes.allocator(), num)?;
+    alone(nodes, groups, ctx, &leaf)
+}
+
+// A diagram with a test before it, which has a mark of its own where it passes.
+fn behind(
+    nodes: &mut Nodes<Leaf>,
+    groups: &Groups,
+    ctx: &Context,
+    asks: Asks,
+    num: u64,
+    d: u64,
+) -> Result<u64, Fail>
+    requires { IsArgument groups.now ctx.now nodes.old d }
+    ensures { IfOk result (IsArgument groups.now ctx.now nodes.new) }
+{
+    let yes = mark(nodes, groups, ctx, num)?;
+    let test = test(nodes.allocator(), asks)?;
+    if !test_fits(groups, ctx, &test) {
+        return Err("the test doesn't fit")?;
+    }
+    Ok(ite(nodes, groups, ctx, test, yes, d)?)
 }
 
 // Tests, each asked before those in front of it, where it passes with a mark of its own.
@@ -58,12 +90,7 @@ fn chain(
 {
     let mut d = mark(nodes, groups, ctx, 0)?;
     for (at, asks) in tests.iter().enumerate() {
-        let yes = mark(nodes, groups, ctx, at as u64 + 1)?;
-        let test = test(nodes.allocator(), *asks)?;
-        if !test_fits(groups, ctx, &test) {
-            return Err("the test doesn't fit")?;
-        }
-        d = ite(nodes, groups, ctx, test, yes, d)?;
+        d = behind(nodes, groups, ctx, *asks, at as u64 + 1, d)?;
     }
     Ok(d)
 }
@@ -122,14 +149,28 @@ fn led(alloc: Global, d: &Made, second: u64, third: u64) -> Result<Option<u64>, 
     Ok(marked(leaf_at(d, &store, &packet)?))
 }
 
-#[test]
-fn walks_as_its_tests_decide(rt: HostRuntime) -> Result<(), Fail> {
-    let alloc = rt.alloc();
-    let d = asked(alloc, &[], TESTS.as_slice())?;
+fn decides(rt: &impl Abort, alloc: Global, d: &Made) -> Result<(), Fail>
+    requires { IsArgument d.now.groups d.now.ctx d.now.nodes d.now.root }
+{
     // Two components, and the mark of the last test that passes: worked by hand.
     for [second, third, mark] in [[5, 6, 8], [6, 5, 7], [4, 4, 4], [7, 7, 0u64]] {
-        assert_eq!(rt; led(alloc, &d, second, third)?, Some(mark));
+        assert_eq!(rt; led(alloc, d, second, third)?, Some(mark));
     }
+    Ok(())
+}
+
+#[test]
+fn walks_as_its_tests_decide(rt: HostRuntime) -> Result<(), Fail> {
+    let d = asked(rt.alloc(), &[], TESTS.as_slice())?;
+    decides(&rt, rt.alloc(), &d)
+}
+
+fn is_cut(rt: &impl Abort, d: &mut Made) -> Result<(), Fail>
+    requires { IsArgument d.old.groups d.old.ctx d.old.nodes d.old.root }
+{
+    assert!(rt; matches!(d.nodes.get(d.root), Node::Ask { .. }));
+    let pruned = prune(&mut d.nodes, &d.groups, &d.ctx, d.root)?;
+    assert!(rt; matches!(d.nodes.get(pruned), Node::Leaf(leaf) if marked(leaf) == Some(0)));
     Ok(())
 }
 
@@ -141,10 +182,7 @@ fn a_way_that_no_one_goes_is_cut(rt: HostRuntime) -> Result<(), Fail> {
         (Asks::Holds(0, AT_TWO, THREE), true),
     ];
     let mut d = asked(rt.alloc(), &facts, &[Asks::Holds(0, AT_TWO, FOUR)])?;
-    assert!(rt; matches!(d.nodes.get(d.root), Node::Ask { .. }));
-    let pruned = prune(&mut d.nodes, &d.groups, &d.ctx, d.root)?;
-    assert!(rt; matches!(d.nodes.get(pruned), Node::Leaf(leaf) if marked(leaf) == Some(0)));
-    Ok(())
+    is_cut(&rt, &mut d)
 }
 
 // How many arrays are tested where every test fails.
@@ -177,13 +215,24 @@ fn sixty_five_places(alloc: Global) -> Result<Vec<Asks>, AllocError> {
     Ok(tests)
 }
 
-#[test]
-fn a_place_is_known_after_sixty_four_tests(rt: HostRuntime) -> Result<(), Fail> {
-    let alloc = rt.alloc();
+fn asked_where_two_is_one(alloc: Global) -> Result<Made, Fail>
+    ensures { IfOk result (λ d. IsArgument d.groups d.ctx d.nodes d.root) }
+{
     let tests = sixty_five_places(alloc)?;
-    let mut d = asked(alloc, &[(Asks::Is(2, 1), true)], &tests)?;
+    asked(alloc, &[(Asks::Is(2, 1), true)], &tests)
+}
+
+fn last_is_known(rt: &impl Abort, d: &mut Made) -> Result<(), Fail>
+    requires { IsArgument d.old.groups d.old.ctx d.old.nodes d.old.root }
+{
     assert_eq!(rt; failed(&d.nodes, d.root)?, 65);
     let pruned = prune(&mut d.nodes, &d.groups, &d.ctx, d.root)?;
     assert_eq!(rt; failed(&d.nodes, pruned)?, 64);
     Ok(())
+}
+
+#[test]
+fn a_place_is_known_after_sixty_four_tests(rt: HostRuntime) -> Result<(), Fail> {
+    let mut d = asked_where_two_is_one(rt.alloc())?;
+    last_is_known(&rt, &mut d)
 }

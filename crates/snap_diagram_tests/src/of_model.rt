@@ -28,7 +28,7 @@ fn is_met(alloc: Global, facts: &[(Asks, bool)]) -> Result<bool, Fail> {
     Ok(true)
 }
 
-const FACTS: [&[(Asks, bool)]; 7] = [
+const FACTS: &[&[(Asks, bool)]] = &[
     &[
         (Asks::Is(3, 1), true),
         (Asks::Is(4, 2), true),
@@ -62,8 +62,8 @@ const FACTS: [&[(Asks, bool)]; 7] = [
 
 #[test]
 fn examples_meet_their_facts(rt: HostRuntime) -> Result<(), Fail> {
-    for (at, facts) in FACTS.into_iter().enumerate() {
-        assert!(rt; is_met(rt.alloc(), facts)?, "facts {at}");
+    for (at, facts) in FACTS.iter().enumerate() {
+        assert!(rt; is_met(rt.alloc(), *facts)?, "facts {at}");
     }
     Ok(())
 }

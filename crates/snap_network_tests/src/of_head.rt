@@ -2,6 +2,7 @@ use snap_core::packet::Packet;
 use snap_head::decode::{HeadFault, decode};
 use snap_head::encode::encode;
 use snap_rows::head::Head;
+use std::alloc::Global;
 use std::test::Fail;
 
 const WALK: &[u8] = &[
@@ -24,9 +25,21 @@ const VISIT: &[u8] = &[
     4, 0, 1, 0, 0, 0, 0, 0, 0, 0, 2, 0, 0, 0, 0, 0, 0, 0, 1, 0, 0, 0, 0, 0, 0, 0, 0,
 ];
 
+// Whether a frame spells this head and packet.
+fn is_read(alloc: Global, frame: &[u8], head: Head, packet: &Packet) -> Result<bool, HeadFault> {
+    let (back, copy) = decode(alloc, frame, 2)?;
+    Ok(back == head && copy.comps() == packet.comps())
+}
+
+// Whether a head and a packet at port 1 are written as this frame, and read from it.
+fn is_spelled(alloc: Global, head: Head, outport: u64, bytes: &[u8]) -> Result<bool, Fail> {
+    let packet = Packet::new(vec![in alloc; 1u64, outport]?);
+    let frame = encode(alloc, head, &packet)?;
+    Ok(frame.as_slice() == bytes && is_read(alloc, bytes, head, &packet)?)
+}
+
 #[test]
 fn frames_spell_heads_and_packets(rt: HostRuntime) -> Result<(), Fail> {
-    let alloc = rt.alloc();
     let cases = [
         (Head::Walk { node: 0 }, 0u64, WALK),
         (Head::Stage { leaf: 3, stage: 0 }, 0, STAGE),
@@ -34,12 +47,7 @@ fn frames_spell_heads_and_packets(rt: HostRuntime) -> Result<(), Fail> {
         (Head::Visit { rank: 1, node: 2 }, 0, VISIT),
     ];
     for (head, outport, bytes) in cases {
-        let packet = Packet::new(vec![in alloc; 1u64, outport]?);
-        let frame = encode(alloc, head, &packet)?;
-        assert!(rt; frame.as_slice() == bytes, "{head:?}");
-        let (back, copy) = decode(alloc, bytes, 2)?;
-        assert_eq!(rt; back, head);
-        assert!(rt; copy.comps() == packet.comps());
+        assert!(rt; is_spelled(rt.alloc(), head, outport, bytes)?, "{head:?}");
     }
     Ok(())
 }

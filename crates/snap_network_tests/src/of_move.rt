@@ -1,52 +1,84 @@
-use crate::texts::{FIRST_COME, MOVED, shelf, valid};
-use snap_io::MemorySink;
-use snap_move::change::read_changes;
+ghost use Rattle.std.specs.Prelude.{◌≡◌, ◌∷◌, [], IfOk};
+ghost use Rattle.snap_move.specs.Changing.{HaveShapeOf, IsRising};
+
+use crate::texts::{FIRST_COME, MOVED, shelf, sink, valid};
+use snap_core::NoMemory;
+use snap_io::{MemoryShelf, MemorySink};
+use snap_move::change::{Change, read_changes};
 use snap_move::later::Later;
 use snap_move::shape::same_shape;
 use snap_move::trace::trace_changes;
+use snap_rows::valid::Valid;
+use snap_trace::TraceFault;
+use std::alloc::Global;
 use std::test::Fail;
+
+// Tables that come into force behind one packet.
+fn behind_one(alloc: Global, tables: Valid) -> Result<Vec<Later>, NoMemory>
+    ensures { IfOk result (λ later. later.items ≡ record { after = 1; tables = tables } ∷ []) }
+{
+    let mut later = Vec::new(alloc);
+    later.push(Later { after: 1, tables })?;
+    Ok(later)
+}
+
+// The tables with the array at the first switch, which come into force behind one packet.
+fn moved(alloc: Global, first: &Valid) -> Result<Vec<Later>, NoMemory>
+    ensures shapes { IfOk result (λ later. HaveShapeOf first.now later.items) }
+    ensures rising { IfOk result (λ later. IsRising later.items) }
+{
+    let tables = valid(alloc, MOVED)?;
+    if same_shape(&tables, first) {
+        behind_one(alloc, tables)
+    } else {
+        Err(NoMemory)
+    }
+}
+
+// A run over the packets of a shelf while the array moves.
+fn run_over(
+    alloc: Global,
+    shelf: &mut MemoryShelf,
+    sink: &mut MemorySink,
+) -> Result<(), TraceFault> {
+    let first = valid(alloc, FIRST_COME)?;
+    let later = moved(alloc, &first)?;
+    trace_changes(alloc, shelf, b"q", first, later, false, sink)
+}
+
+const MOVED_REPORT: &[u8] = b"packet 1\n\
+    out inport=1 outport=1\n\
+    lost 0\n\
+    packet 2\n\
+    out inport=2 outport=2\n\
+    lost 0\n\
+    packet 3\n\
+    out inport=1 outport=2\n\
+    lost 0\n\
+    array s 0 = 1\n\
+    end\n";
 
 #[test]
 fn an_array_is_moved(rt: HostRuntime) -> Result<(), Fail> {
-    let alloc = rt.alloc();
-    let first = valid(alloc, FIRST_COME)?;
-    let moved = valid(alloc, MOVED)?;
-    let alike = same_shape(&moved, &first);
-    assert!(rt; alike);
-    let later = vec![in alloc;
-        Later {
-            after: 1,
-            tables: moved
-        },
-    ]?;
-    let mut shelf = shelf(alloc, b"1\n2\n1\n", b"")?;
-    let mut sink = MemorySink::new(alloc, 4096, 4096, Vec::new(alloc))?;
-    let ended = trace_changes(alloc, &mut shelf, b"q", first, later, false, &mut sink);
+    let mut sink = sink(rt.alloc())?;
+    let mut shelf = shelf(rt.alloc(), b"1\n2\n1\n", b"")?;
+    let ended = run_over(rt.alloc(), &mut shelf, &mut sink);
     assert_eq!(rt; ended, Ok(()));
-    let report: &[u8] = b"packet 1\n\
-        out inport=1 outport=1\n\
-        lost 0\n\
-        packet 2\n\
-        out inport=2 outport=2\n\
-        lost 0\n\
-        packet 3\n\
-        out inport=1 outport=2\n\
-        lost 0\n\
-        array s 0 = 1\n\
-        end\n";
-    assert_eq!(rt; sink.bytes(), report);
+    assert_eq!(rt; sink.bytes(), MOVED_REPORT);
     Ok(())
+}
+
+// Whether changes are these: behind how many packets, in which line, and of which name.
+fn are(changes: &[Change], wanted: &[(u64, u64, &[u8])]) -> bool {
+    changes.len() == wanted.len()
+        && changes.iter().zip(wanted.iter()).all(|(change, (after, line, name))| {
+            change.after == *after && change.line == *line && change.name.bytes() == *name
+        })
 }
 
 #[test]
 fn lines_say_changes(rt: HostRuntime) -> Result<(), Fail> {
-    let alloc = rt.alloc();
-    let changes = read_changes(alloc, b"# none\nafter 0 x\n \nafter  007\ty\r\n")?;
-    assert_eq!(rt; changes.len(), 2);
-    assert_eq!(rt; changes[0].after, 0);
-    assert_eq!(rt; changes[0].line, 2);
-    assert_eq!(rt; changes[1].after, 7);
-    assert_eq!(rt; changes[1].line, 4);
-    assert_eq!(rt; changes[1].name.bytes(), b"y".as_slice());
+    let changes = read_changes(rt.alloc(), b"# none\nafter 0 x\n \nafter  007\ty\r\n")?;
+    assert!(rt; are(&changes, &[(0, 2, b"x"), (7, 4, b"y")]));
     Ok(())
 }

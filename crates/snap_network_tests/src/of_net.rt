@@ -1,83 +1,48 @@
 //! Runs of worked tables.
 
-ghost use Rattle.std.specs.Prelude.{◌≡◌, ◌+◌, ◌<◌, ◌∷◌, [], IfOk, OnOk};
+ghost use Rattle.std.specs.Prelude.{◌≡◌, ◌<◌, ◌∷◌, [], IfOk, IsTrue};
 ghost use Rattle.snap_rows.specs.Form.{comps};
 
 use crate::texts::{FIRST_COME, THREE_WAYS, TWO_OWNERS_1, valid};
 use snap_core::NoMemory;
 use snap_core::packet::Packet;
+use snap_core::place::Entry;
 use snap_net::happened::{Frame, Happened, Moved};
 use snap_net::net::{InjectFault, Net, StepFault, open_net};
 use std::alloc::Global;
 use std::test::Fail;
 
-/// What is told of a step.
+/// What is told of a step, the packet's number first.
 #[derive(Clone, Copy, Debug, PartialEq, Eq)]
 enum Told {
-    Forwarded {
-        owner: u64,
-        from: u16,
-        to: u16,
-    },
-    Delivered {
-        owner: u64,
-        port: u32,
-        outport: Option<u64>,
-    },
-    Forked {
-        owner: u64,
-        copies: u64,
-        lost: u64,
-    },
+    /// From this switch to that one.
+    Forwarded(u64, u16, u16),
+
+    /// At this port, with this `outport`.
+    Delivered(u64, u32, u64),
+
+    /// Into so many copies, and so many are lost.
+    Forked(u64, u64, u64),
 }
 
 fn summary(moved: &Moved) -> Told {
     match moved {
-        Moved::Forwarded { owner, from, to } => Told::Forwarded {
-            owner: *owner,
-            from: *from,
-            to: *to,
-        },
+        Moved::Forwarded { owner, from, to } => Told::Forwarded(*owner, *from, *to),
         Moved::Delivered {
             owner,
             port,
             packet,
-        } => Told::Delivered {
-            owner: *owner,
-            port: *port,
-            outport: packet.comps().get(1).copied(),
-        },
+        } => Told::Delivered(*owner, *port, outport(packet)),
         Moved::Forked {
             owner,
             copies,
             lost,
-        } => Told::Forked {
-            owner: *owner,
-            copies: *copies,
-            lost: *lost,
-        },
+        } => Told::Forked(*owner, *copies, *lost),
     }
 }
 
-fn forwarded(owner: u64, from: u16, to: u16) -> Told {
-    Told::Forwarded { owner, from, to }
-}
-
-fn forked(owner: u64, copies: u64, lost: u64) -> Told {
-    Told::Forked {
-        owner,
-        copies,
-        lost,
-    }
-}
-
-// A packet that went out at the port that it names.
-fn delivered(owner: u64, port: u32) -> Told {
-    Told::Delivered {
-        owner,
-        port,
-        outport: Some(port as u64),
-    }
+fn outport(packet: &Packet) -> u64 {
+    packet.comps().get(1).copied().unwrap_or(0)
 }
 
 fn packet(alloc: Global, port: u64) -> Result<Packet, NoMemory>
@@ -86,26 +51,24 @@ fn packet(alloc: Global, port: u64) -> Result<Packet, NoMemory>
     Ok(Packet::new(vec![in alloc; port, 0]?))
 }
 
-// A network of the tables of a text, whose packets have two components.
-fn opened(alloc: Global, text: &[u8]) -> Result<Net, Fail>
-    ensures comps { IfOk result (λ net. comps net.tables ≡ 2) }
-    ensures none { IfOk result (λ net. net.injected ≡ 0) }
+// A network of the tables of a text.
+fn opened(alloc: Global, text: &[u8]) -> Result<Net, NoMemory> {
+    open_net(alloc, valid(alloc, text)?)
+}
+
+// Whether packets have two components, and few were injected.
+fn takes_two(net: &Net) -> bool
+    ensures comps { IsTrue result → comps net.now.tables ≡ 2 }
+    ensures few { IsTrue result → net.now.injected < 9 }
 {
-    let tables = valid(alloc, text)?;
-    if tables.tables().fields.count() != 2 {
-        Err(NoMemory)?;
-    }
-    Ok(open_net(alloc, tables)?)
+    net.tables().tables().fields.count() == 2 && net.injected() < 9
 }
 
 // The number of a packet that comes in at a port, if there is that port.
-fn inject(alloc: Global, net: &mut Net, port: u32) -> Result<Option<u64>, Fail>
-    requires comps { comps net.old.tables ≡ 2 }
-    requires few { net.old.injected < 9 }
-    ensures comps { OnOk result (comps net.new.tables ≡ 2) }
-    ensures tables { OnOk result (net.new.tables ≡ net.old.tables) }
-    ensures few { OnOk result (net.new.injected < net.old.injected + 2) }
-{
+fn inject(alloc: Global, net: &mut Net, port: u32) -> Result<Option<u64>, Fail> {
+    if !takes_two(net) {
+        return Err("a packet of two components doesn't fit")?;
+    }
     let packet = packet(alloc, port as u64)?;
     match net.inject(port, packet) {
         Ok(number) => Ok(Some(number)),
@@ -114,38 +77,30 @@ fn inject(alloc: Global, net: &mut Net, port: u32) -> Result<Option<u64>, Fail>
     }
 }
 
+// What is told of a step of copy k.
+fn told_of(net: &mut Net, k: usize) -> Result<Told, StepFault> {
+    let moved = net.advance(k)?;
+    Ok(summary(&moved))
+}
+
 // Steps of these copies, and what is told of them.
 fn steps(alloc: Global, net: &mut Net, copies: &[usize]) -> Result<Vec<Told>, Fail> {
     let mut all = Vec::new(alloc);
     for k in copies {
-        let moved = net.advance(*k)?;
-        all.push(summary(&moved))?;
+        all.push(told_of(net, *k)?)?;
     }
     Ok(all)
 }
 
 // Steps of the first copy until none is in flight.
-fn finish(net: &mut Net) -> Result<(), StepFault>
-    ensures tables { net.new.tables ≡ net.old.tables }
-    ensures injected { net.new.injected ≡ net.old.injected }
-{
-    for i in 0..9 {
+fn finish(net: &mut Net) -> Result<(), StepFault> {
+    for _ in 0..9 {
         if net.flying() == 0 {
             break;
         }
         net.advance(0)?;
     }
     Ok(())
-}
-
-// The entries of the whole store, whose indices have one number each.
-fn entries(alloc: Global, net: &Net) -> Result<Vec<(u16, u64, u64)>, NoMemory> {
-    let mut entries = Vec::new(alloc);
-    for entry in &net.entries()? {
-        let index = entry.place.index.list().first().copied();
-        entries.push((entry.place.var, index.unwrap_or(u64::MAX), entry.value))?;
-    }
-    Ok(entries)
 }
 
 // The number at place 0 of the first array.
@@ -173,16 +128,6 @@ fn gives(net: &mut Net, bytes: &[u8]) -> Result<bool, StepFault> {
     }
 }
 
-// Two packets of two owners, one after the other.
-fn one_after_another(alloc: Global) -> Result<Net, Fail> {
-    let mut net = opened(alloc, TWO_OWNERS_1)?;
-    inject(alloc, &mut net, 1)?;
-    finish(&mut net)?;
-    inject(alloc, &mut net, 1)?;
-    finish(&mut net)?;
-    Ok(net)
-}
-
 const TO_B: &[u8] = &[
     1, 0, 0, 0, 0, 0, 0, 0, 0, 0, 0, 0, 0, 0, 0, 0, 1, 0, 0, 0, 0, 0, 0, 0, 0,
 ];
@@ -191,16 +136,26 @@ const TO_A: &[u8] = &[
     3, 0, 0, 0, 1, 0, 0, 0, 0, 0, 0, 0, 1, 0, 0, 0, 0, 0, 0, 0, 1,
 ];
 
-// The first packet of first come, whether its steps give these frames, and the number that is left.
-fn first_frames(alloc: Global) -> Result<(bool, Option<u64>), Fail> {
-    let mut net = opened(alloc, FIRST_COME)?;
-    inject(alloc, &mut net, 1)?;
-    for bytes in &[TO_B, &[], TO_A, &[]] {
-        if !gives(&mut net, *bytes)? {
-            return Ok((false, None));
+// Whether the steps of the first copy give these frames, one after another.
+fn give(net: &mut Net, frames: &[&[u8]]) -> Result<bool, StepFault> {
+    for bytes in frames {
+        if !gives(net, *bytes)? {
+            return Ok(false);
         }
     }
-    Ok((true, first_number(&net)))
+    Ok(true)
+}
+
+// Whether the steps of a first packet give these frames, and the number that is left then.
+fn framed(alloc: Global, net: &mut Net, frames: &[&[u8]]) -> Result<(bool, Option<u64>), Fail> {
+    inject(alloc, net, 1)?;
+    let are_given = give(net, frames)?;
+    Ok((are_given, first_number(net)))
+}
+
+fn first_frames(alloc: Global) -> Result<(bool, Option<u64>), Fail> {
+    let mut net = opened(alloc, FIRST_COME)?;
+    framed(alloc, &mut net, &[TO_B, &[], TO_A, &[]])
 }
 
 #[test]
@@ -209,39 +164,39 @@ fn a_packet_carries_its_head(rt: HostRuntime) -> Result<(), Fail> {
     Ok(())
 }
 
-// The numbers of packets that come in at three ports, of which the first isn't there.
-fn numbers(alloc: Global) -> Result<[Option<u64>; 3], Fail> {
+// Ports, of which the first isn't there, and the numbers that packets get there.
+const NUMBERS: [(u32, Option<u64>); 3] = [(9, None), (1, Some(0)), (2, Some(1))];
+
+fn numbers_are_given(alloc: Global, net: &mut Net) -> Result<bool, Fail> {
+    for (port, number) in NUMBERS {
+        if inject(alloc, net, port)? != number {
+            return Ok(false);
+        }
+    }
+    Ok(true)
+}
+
+fn are_numbered(alloc: Global) -> Result<bool, Fail> {
     let mut net = opened(alloc, FIRST_COME)?;
-    let none = inject(alloc, &mut net, 9)?;
-    let first = inject(alloc, &mut net, 1)?;
-    let second = inject(alloc, &mut net, 2)?;
-    Ok([none, first, second])
+    numbers_are_given(alloc, &mut net)
 }
 
 #[test]
 fn packets_are_numbered(rt: HostRuntime) -> Result<(), Fail> {
-    assert!(rt; numbers(rt.alloc())? == [None, Some(0), Some(1)]);
+    assert!(rt; are_numbered(rt.alloc())?);
     Ok(())
 }
 
-// A network of these tables after steps of these copies of two packets, and what is told of the steps.
-fn stepped(
-    alloc: Global,
-    text: &[u8],
-    ports: (u32, u32),
-    copies: &[usize],
-) -> Result<(Net, Vec<Told>), Fail> {
-    let mut net = opened(alloc, text)?;
-    inject(alloc, &mut net, ports.0)?;
-    inject(alloc, &mut net, ports.1)?;
-    let told = steps(alloc, &mut net, copies)?;
-    Ok((net, told))
+// Whether a third copy of two can't make a step.
+fn refuses_a_third(alloc: Global, net: &mut Net) -> Result<bool, Fail> {
+    inject(alloc, net, 1)?;
+    inject(alloc, net, 2)?;
+    Ok(net.advance(2).is_err())
 }
 
-// Whether a third copy of two can't make a step.
 fn lacks_a_third(alloc: Global) -> Result<bool, Fail> {
-    let (mut net, _) = stepped(alloc, FIRST_COME, (1, 2), &[])?;
-    Ok(net.advance(2).is_err())
+    let mut net = opened(alloc, FIRST_COME)?;
+    refuses_a_third(alloc, &mut net)
 }
 
 #[test]
@@ -250,54 +205,117 @@ fn copies_that_are_not_there_make_no_step(rt: HostRuntime) -> Result<(), Fail> {
     Ok(())
 }
 
+// The number of an entry that is alone, and at place 0 of the first array.
+fn lone_number(entries: &[Entry]) -> Option<u64> {
+    match entries {
+        [entry] => {
+            if entry.place.var == 0 && entry.place.index.list() == [0].as_slice() {
+                Some(entry.value)
+            } else {
+                None
+            }
+        }
+        _ => None,
+    }
+}
+
+// The number that is left at place 0 of the first array, where nothing is in flight and no other number is left.
+fn left(net: &Net) -> Result<Option<u64>, NoMemory> {
+    if net.flying() > 0 {
+        return Ok(None);
+    }
+    let entries = net.entries()?;
+    Ok(lone_number(&entries))
+}
+
+// What is told of steps, and the number that is left behind them.
+#[derive(Drop)]
+struct Run {
+    told: Vec<Told>,
+    left: Option<u64>,
+}
+
+// Two packets come in at these ports, and these copies make steps.
+fn overlapped(
+    alloc: Global,
+    net: &mut Net,
+    ports: (u32, u32),
+    copies: &[usize],
+) -> Result<Run, Fail> {
+    inject(alloc, net, ports.0)?;
+    inject(alloc, net, ports.1)?;
+    let told = steps(alloc, net, copies)?;
+    Ok(Run {
+        told,
+        left: left(net)?,
+    })
+}
+
+// The same in a network of these tables.
+fn stepped(alloc: Global, text: &[u8], ports: (u32, u32), copies: &[usize]) -> Result<Run, Fail> {
+    let mut net = opened(alloc, text)?;
+    overlapped(alloc, &mut net, ports, copies)
+}
+
+const TURNS: [Told; 6] = [
+    Told::Forked(1, 1, 0),
+    Told::Forwarded(0, 0, 1),
+    Told::Forked(0, 1, 0),
+    Told::Forwarded(1, 1, 0),
+    Told::Delivered(1, 1, 1),
+    Told::Delivered(0, 2, 2),
+];
+
 #[test]
 fn overlapping_packets_take_turns_by_steps(rt: HostRuntime) -> Result<(), Fail> {
-    let expected = [
-        forked(1, 1, 0),
-        forwarded(0, 0, 1),
-        forked(0, 1, 0),
-        forwarded(1, 1, 0),
-        delivered(1, 1),
-        delivered(0, 2),
-    ];
-    let (net, told) = stepped(rt.alloc(), FIRST_COME, (1, 2), &[1, 0, 0, 1, 1, 0])?;
-    assert!(rt; told.as_slice() == expected.as_slice());
-    assert!(rt; is_left(rt.alloc(), &net, 1)?);
+    let run = stepped(rt.alloc(), FIRST_COME, (1, 2), &[1, 0, 0, 1, 1, 0])?;
+    assert!(rt; run.told.as_slice() == TURNS.as_slice());
+    assert!(rt; run.left == Some(1));
     Ok(())
 }
 
-// Whether nothing is in flight, and the first array holds this number at its first place and no other.
-fn is_left(alloc: Global, net: &Net, number: u64) -> Result<bool, NoMemory> {
-    Ok(net.flying() == 0 && entries(alloc, net)?.as_slice() == [(0, 0, number)].as_slice())
-}
+const LAST: [Told; 2] = [Told::Delivered(0, 1, 1), Told::Delivered(1, 1, 1)];
 
 #[test]
 fn two_owners_may_be_seen_in_no_order(rt: HostRuntime) -> Result<(), Fail> {
-    let last = [delivered(0, 1), delivered(1, 1)];
-    let (net, told) = stepped(rt.alloc(), TWO_OWNERS_1, (1, 1), &[0, 1, 0, 1, 0, 1, 0, 0])?;
-    assert!(rt; told.ends_with(&last));
-    assert!(rt; is_left(rt.alloc(), &net, 2)?);
+    let run = stepped(rt.alloc(), TWO_OWNERS_1, (1, 1), &[0, 1, 0, 1, 0, 1, 0, 0])?;
+    assert!(rt; run.told.ends_with(LAST.as_slice()));
+    assert!(rt; run.left == Some(2));
     Ok(())
+}
+
+// The number that is left by packets that come in at these ports, one after another.
+fn passed(alloc: Global, net: &mut Net, ports: &[u32]) -> Result<Option<u64>, Fail> {
+    for port in ports {
+        inject(alloc, net, *port)?;
+        finish(net)?;
+    }
+    Ok(left(net)?)
+}
+
+fn one_after_another(alloc: Global) -> Result<Option<u64>, Fail> {
+    let mut net = opened(alloc, TWO_OWNERS_1)?;
+    passed(alloc, &mut net, &[1, 1])
 }
 
 #[test]
 fn two_owners_are_seen_in_order_one_after_another(rt: HostRuntime) -> Result<(), Fail> {
-    let net = one_after_another(rt.alloc())?;
-    assert!(rt; is_left(rt.alloc(), &net, 1)?);
+    assert!(rt; one_after_another(rt.alloc())? == Some(1));
     Ok(())
 }
 
+const EQUAL_COPIES: [Told; 6] = [
+    Told::Forked(0, 1, 1),
+    Told::Forked(1, 2, 1),
+    Told::Delivered(1, 2, 2),
+    Told::Forwarded(1, 1, 0),
+    Told::Delivered(0, 1, 1),
+    Told::Delivered(1, 1, 1),
+];
+
 #[test]
 fn equal_copies_of_a_fork_are_one(rt: HostRuntime) -> Result<(), Fail> {
-    let expected = [
-        forked(0, 1, 1),
-        forked(1, 2, 1),
-        delivered(1, 2),
-        forwarded(1, 1, 0),
-        delivered(0, 1),
-        delivered(1, 1),
-    ];
-    let (_, told) = stepped(rt.alloc(), THREE_WAYS, (1, 2), &[0, 1, 2, 1, 0, 0])?;
-    assert!(rt; told.as_slice() == expected.as_slice());
+    let run = stepped(rt.alloc(), THREE_WAYS, (1, 2), &[0, 1, 2, 1, 0, 0])?;
+    assert!(rt; run.told.as_slice() == EQUAL_COPIES.as_slice());
     Ok(())
 }

@@ -1,19 +1,29 @@
 use crate::texts::{FIRST_COME, MOVED, TWO_OWNERS, TWO_OWNERS_1, valid};
 use snap_core::NoMemory;
 use snap_io::MemorySink;
-use snap_rows::valid::lone;
+use snap_rows::valid::{Valid, lone};
 use snap_tables::fault::{PrintFault, TablesFault};
 use snap_tables::print::print;
 use snap_tables::read::read;
 use std::alloc::Global;
 use std::test::Fail;
 
+// Why the tables of a text aren't written.
+fn print_fault(
+    alloc: Global,
+    text: &[u8],
+    sink: &mut MemorySink,
+) -> Result<Option<PrintFault>, NoMemory> {
+    let tables = valid(alloc, text)?;
+    Ok(print(alloc, &tables, sink).err())
+}
+
 #[test]
 fn a_refused_write_leaves_the_bytes_before_it(rt: HostRuntime) -> Result<(), Fail> {
     let alloc = rt.alloc();
-    let tables = valid(alloc, FIRST_COME)?;
     let mut sink = MemorySink::new(alloc, 4096, 1, vec![in alloc; 10u64]?)?;
-    assert!(rt; matches!(print(alloc, &tables, &mut sink), Err(PrintFault::Write)));
+    let fault = print_fault(alloc, FIRST_COME, &mut sink)?;
+    assert!(rt; fault == Some(PrintFault::Write));
     assert!(rt; sink.bytes() == b"snap-table".as_slice());
     Ok(())
 }
@@ -22,29 +32,43 @@ fn a_refused_write_leaves_the_bytes_before_it(rt: HostRuntime) -> Result<(), Fai
 const CONSTANT_EGRESS: &[u8] =
     b"snap-tables 2\nfield inport\nfield outport\nfield f\nfield g\nfield h\nswitch a\narray s 0 0\nport 1 0\nport 2 0\nrow 0 0 leaf out c1=#2\nend\n";
 
-// Whether tables are lone whose text is read, and written as it was.
-fn is_lone(alloc: Global, text: &[u8]) -> Result<Option<bool>, NoMemory> {
+// The text of tables.
+fn text_of(alloc: Global, tables: &Valid) -> Result<Vec<u8>, Fail> {
     let mut sink = MemorySink::new(alloc, 4096, 1, Vec::new(alloc))?;
-    match read(alloc, text) {
-        Ok(tables) => {
-            if print(alloc, &tables, &mut sink).is_ok() && sink.bytes() == text {
-                Ok(Some(lone(&tables)))
-            } else {
-                Ok(None)
-            }
-        }
-        Err(_) => Ok(None),
+    print(alloc, tables, &mut sink)?;
+    Ok(sink.bytes().to_vec(alloc)?)
+}
+
+// Whether tables are lone that are written as this text.
+fn lone_as(alloc: Global, tables: &Valid, text: &[u8]) -> Result<Option<bool>, Fail> {
+    let written = text_of(alloc, tables)?;
+    if written.as_slice() == text {
+        Ok(Some(lone(tables)))
+    } else {
+        Ok(None)
     }
 }
 
+// Whether tables are lone whose text is read, and written as it was.
+fn is_lone(alloc: Global, text: &[u8]) -> Result<Option<bool>, Fail> {
+    let tables = valid(alloc, text)?;
+    lone_as(alloc, &tables, text)
+}
+
+// Texts, and whether their tables are lone.
+const LONE: [(&[u8], bool); 5] = [
+    (FIRST_COME, true),
+    (TWO_OWNERS, false),
+    (TWO_OWNERS_1, false),
+    (MOVED, true),
+    (CONSTANT_EGRESS, true),
+];
+
 #[test]
 fn tables_are_read_back(rt: HostRuntime) -> Result<(), Fail> {
-    let alloc = rt.alloc();
-    assert!(rt; is_lone(alloc, FIRST_COME)? == Some(true));
-    assert!(rt; is_lone(alloc, TWO_OWNERS)? == Some(false));
-    assert!(rt; is_lone(alloc, TWO_OWNERS_1)? == Some(false));
-    assert!(rt; is_lone(alloc, MOVED)? == Some(true));
-    assert!(rt; is_lone(alloc, CONSTANT_EGRESS)? == Some(true));
+    for (text, lone) in LONE {
+        assert!(rt; is_lone(rt.alloc(), text)? == Some(lone), "{text:?}");
+    }
     Ok(())
 }
 

@@ -1,7 +1,7 @@
 //! Texts of worked tables of two switches with a port each.
 
 use snap_core::NoMemory;
-use snap_io::{File, MemoryShelf, have_distinct_names};
+use snap_io::{File, MemoryShelf, MemorySink, have_distinct_names};
 use snap_rows::valid::Valid;
 use snap_tables::read::read;
 use std::alloc::Global;
@@ -121,23 +121,29 @@ pub(crate) fn valid(alloc: Global, text: &[u8]) -> Result<Valid, NoMemory> {
     }
 }
 
+fn file(alloc: Global, name: &[u8], bytes: &[u8]) -> Result<File, NoMemory> {
+    Ok(File {
+        name: name.to_vec(alloc)?,
+        bytes: bytes.to_vec(alloc)?,
+    })
+}
+
 /// A shelf with a file `q` of packets and a file `s`, the schedule.
 pub(crate) fn shelf(
     alloc: Global,
     packets: &[u8],
     schedule: &[u8],
 ) -> Result<MemoryShelf, NoMemory> {
-    let packets = File {
-        name: b"q".to_vec(alloc)?,
-        bytes: packets.to_vec(alloc)?,
-    };
-    let schedule = File {
-        name: b"s".to_vec(alloc)?,
-        bytes: schedule.to_vec(alloc)?,
-    };
-    let files = vec![in alloc; packets, schedule]?;
+    let mut files = Vec::new(alloc);
+    files.push(file(alloc, b"q", packets)?)?;
+    files.push(file(alloc, b"s", schedule)?)?;
     if !have_distinct_names(&files) {
         return Err(NoMemory);
     }
     Ok(MemoryShelf::new(files, Vec::new(alloc)))
+}
+
+/// A sink that takes every write.
+pub(crate) fn sink(alloc: Global) -> Result<MemorySink, NoMemory> {
+    MemorySink::new(alloc, 4096, 4096, Vec::new(alloc))
 }

@@ -1,6 +1,6 @@
 use snap_cli::top::snap;
 use snap_io::{File, MemoryShelf, MemorySink, have_distinct_names};
-use std::alloc::Global;
+use std::alloc::{AllocError, Global};
 use std::process::Abort;
 use std::test::Fail;
 use std::thread::Threads;
@@ -36,7 +36,7 @@ pub(crate) const AMPLE: Devices<'static> = Devices {
 };
 
 // Whether `snap` with these files, names with contents, over these devices answers so.
-pub(crate) fn answers(
+fn answers(
     rt: &(impl Abort + Threads + Sync),
     alloc: Global,
     words: &[&[u8]],
@@ -49,6 +49,34 @@ pub(crate) fn answers(
     let (mut out, mut err) = sinks(alloc, devices)?;
     let status = snap(rt, alloc, &words, &mut shelf, &mut out, &mut err);
     Ok(status == answer.status && out.bytes() == answer.out && err.bytes() == answer.err)
+}
+
+// Fails a test where it doesn't.
+pub(crate) fn must_answer(
+    rt: &(impl Abort + Threads + Sync),
+    alloc: Global,
+    words: &[&[u8]],
+    files: &[(&[u8], &[u8])],
+    devices: Devices,
+    answer: Answer,
+) -> Result<(), Fail> {
+    assert!(rt; answers(rt, alloc, words, files, devices, answer)?);
+    Ok(())
+}
+
+// The same however the reads of the files are cut.
+pub(crate) fn must_answer_however_cut(
+    rt: &(impl Abort + Threads + Sync),
+    alloc: Global,
+    words: &[&[u8]],
+    files: &[(&[u8], &[u8])],
+    answer: Answer,
+) -> Result<(), Fail> {
+    for read_most in [1, 2, 3, 7, 4096] {
+        let devices = Devices { read_most, ..AMPLE };
+        must_answer(rt, alloc, words, files, devices, answer)?;
+    }
+    Ok(())
 }
 
 fn sinks(alloc: Global, devices: Devices) -> Result<(MemorySink, MemorySink), Fail> {
@@ -67,22 +95,31 @@ fn spelled(alloc: Global, words: &[&[u8]]) -> Result<Vec<Vec<u8>>, Fail> {
     Ok(spelled)
 }
 
-// A shelf that holds these files, names with contents.
+fn file(alloc: Global, name: &[u8], bytes: &[u8]) -> Result<File, AllocError> {
+    let name = name.to_vec(alloc)?;
+    let bytes = bytes.to_vec(alloc)?;
+    Ok(File { name, bytes })
+}
+
+// These files, names with contents.
+fn held(alloc: Global, files: &[(&[u8], &[u8])]) -> Result<Vec<File>, Fail> {
+    let mut held = Vec::new(alloc);
+    for (name, bytes) in files {
+        held.push(file(alloc, *name, *bytes)?)?;
+    }
+    Ok(held)
+}
+
+// A shelf that holds them.
 fn shelf_over(
     alloc: Global,
     files: &[(&[u8], &[u8])],
     devices: Devices,
 ) -> Result<MemoryShelf, Fail> {
-    let mut held = Vec::new(alloc);
-    for (name, bytes) in files {
-        held.push(File {
-            name: name.to_vec(alloc)?,
-            bytes: bytes.to_vec(alloc)?,
-        })?;
-    }
+    let fails = devices.read_fails.to_vec(alloc)?;
+    let held = held(alloc, files)?;
     if !have_distinct_names(&held) {
         return Err("two files have one name")?;
     }
-    let fails = devices.read_fails.to_vec(alloc)?;
     Ok(MemoryShelf::limited(held, devices.read_most.max(1), fails))
 }

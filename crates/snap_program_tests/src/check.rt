@@ -1,4 +1,4 @@
-use crate::calls::{AMPLE, Answer, Devices, answers};
+use crate::calls::{AMPLE, Answer, Devices, must_answer};
 use std::test::Fail;
 
 const READ_AND_WRITE: &[u8] = b"field srcport; array s; s[srcport] = 1 + s[srcport] <- 1";
@@ -16,6 +16,5 @@ fn a_race_that_cannot_be_told_is_answered(rt: HostRuntime) -> Result<(), Fail> {
         ..AMPLE
     };
     let files: &[(&[u8], &[u8])] = &[(b"p", READ_AND_WRITE)];
-    assert!(rt; answers(&rt, rt.alloc(), &[b"check", b"p"], files, untold, RACE)?);
-    Ok(())
+    must_answer(&rt, rt.alloc(), &[b"check", b"p"], files, untold, RACE)
 }

@@ -1,4 +1,4 @@
-use crate::calls::{AMPLE, Answer, Devices, answers};
+use crate::calls::{AMPLE, Answer, Devices, must_answer};
 use std::test::Fail;
 
 const WORDS: &[&[u8]] = &[b"compile", b"p", b"t", b"l"];
@@ -36,8 +36,7 @@ fn constant_egress_is_one_leaf(rt: HostRuntime) -> Result<(), Fail> {
         out: TABLES,
         err: b"",
     };
-    assert!(rt; answers(&rt, rt.alloc(), WORDS, FILES, AMPLE, whole)?);
-    Ok(())
+    must_answer(&rt, rt.alloc(), WORDS, FILES, AMPLE, whole)
 }
 
 #[test]
@@ -52,6 +51,5 @@ fn compile_stops_where_a_device_fails(rt: HostRuntime) -> Result<(), Fail> {
         out: b"snap-table",
         err: b"snapc: cannot write\n",
     };
-    assert!(rt; answers(&rt, rt.alloc(), WORDS, FILES, devices, cut)?);
-    Ok(())
+    must_answer(&rt, rt.alloc(), WORDS, FILES, devices, cut)
 }

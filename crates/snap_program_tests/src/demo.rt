@@ -1,4 +1,4 @@
-use crate::calls::{AMPLE, Answer, Devices, answers};
+use crate::calls::{AMPLE, Answer, Devices, must_answer};
 use std::test::Fail;
 
 #[test]
@@ -13,6 +13,5 @@ fn demo_tells_a_failed_write(rt: HostRuntime) -> Result<(), Fail> {
         out: b"demo 3\nswitches ",
         err: b"snapc: cannot write\n",
     };
-    assert!(rt; answers(&rt, rt.alloc(), &[b"demo", b"3"], &[], devices, cut)?);
-    Ok(())
+    must_answer(&rt, rt.alloc(), &[b"demo", b"3"], &[], devices, cut)
 }

@@ -1,4 +1,4 @@
-use crate::calls::{AMPLE, Answer, Devices, answers};
+use crate::calls::{AMPLE, Answer, Devices, must_answer};
 use std::test::Fail;
 
 const TUNNEL: &[u8] = b"
@@ -20,7 +20,7 @@ array a; array b; array c;
 + (if c[inport] then a[inport]++ else id)";
 
 // Programs, and what is written of each.
-const WRITTEN: [(&[u8], &[u8]); 6] = [
+const WRITTEN: &[(&[u8], &[u8])] = &[
     (
         TUNNEL,
         b"dep orphan orphan\ndep orphan susp-client\ndep susp-client blacklist\ngroup orphan\ngroup susp-client\ngroup blacklist\nend\n",
@@ -41,13 +41,13 @@ const WRITTEN: [(&[u8], &[u8]); 6] = [
 #[test]
 fn deps_writes_dependencies_and_groups(rt: HostRuntime) -> Result<(), Fail> {
     for (program, out) in WRITTEN {
-        let files: &[(&[u8], &[u8])] = &[(b"p", program)];
+        let files: &[(&[u8], &[u8])] = &[(b"p", *program)];
         let written = Answer {
             status: 0,
-            out,
+            out: *out,
             err: b"",
         };
-        assert!(rt; answers(&rt, rt.alloc(), &[b"deps", b"p"], files, AMPLE, written)?);
+        must_answer(&rt, rt.alloc(), &[b"deps", b"p"], files, AMPLE, written)?;
     }
     Ok(())
 }
@@ -65,6 +65,5 @@ fn deps_stops_where_the_output_does(rt: HostRuntime) -> Result<(), Fail> {
         out: b"group s",
         err: b"snapc: cannot write\n",
     };
-    assert!(rt; answers(&rt, rt.alloc(), &[b"deps", b"p"], files, full, cut)?);
-    Ok(())
+    must_answer(&rt, rt.alloc(), &[b"deps", b"p"], files, full, cut)
 }

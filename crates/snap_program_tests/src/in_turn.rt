@@ -1,4 +1,4 @@
-use crate::calls::{AMPLE, Answer, answers};
+use crate::calls::{AMPLE, Answer, must_answer};
 use std::test::Fail;
 
 // Counts packets at their port's switch.
@@ -34,8 +34,7 @@ fn trace_takes_packets_in_turn(rt: HostRuntime) -> Result<(), Fail> {
     // The first `step` waits for the packet before.
     let waits: &[u8] = b"inject\ninject\nstep 1\nstep 0\nstep 1\nstep 0\nstep 0\n";
     let files: &[(&[u8], &[u8])] = &[(b"t", COUNTED), (b"k", b"1\n1\n"), (b"s", waits)];
-    assert!(rt; answers(&rt, rt.alloc(), words, files, AMPLE, TWO_REPORTED)?);
-    Ok(())
+    must_answer(&rt, rt.alloc(), words, files, AMPLE, TWO_REPORTED)
 }
 
 #[test]
@@ -44,7 +43,7 @@ fn trace_takes_turns_without_a_schedule(rt: HostRuntime) -> Result<(), Fail> {
     let workers: &[&[u8]] = &[b"trace", b"t", b"k", b"--ordered", b"--workers", b"3"];
     let files: &[(&[u8], &[u8])] = &[(b"t", COUNTED), (b"k", b"1\n1\n")];
     for words in [alone, workers] {
-        assert!(rt; answers(&rt, rt.alloc(), words, files, AMPLE, TWO_REPORTED)?);
+        must_answer(&rt, rt.alloc(), words, files, AMPLE, TWO_REPORTED)?;
     }
     Ok(())
 }

@@ -1,10 +1,10 @@
-use crate::calls::{AMPLE, Answer, Devices, answers};
+use crate::calls::{AMPLE, Answer, Devices, must_answer, must_answer_however_cut};
 use std::test::Fail;
 
 const WORDS: &[&[u8]] = &[b"obs", b"p", b"q"];
 
 // What is written before a line that isn't in form, and before a packet on which the program is undefined, stays.
-const CUT: [(&[u8], &[u8], Answer<'static>); 2] = [
+const CUT: &[(&[u8], &[u8], Answer<'static>)] = &[
     (
         b"if inport = 1 then outport <- 2 else if inport = 2 then outport <- 1 else drop",
         b"1\nx\n",
@@ -28,8 +28,8 @@ const CUT: [(&[u8], &[u8], Answer<'static>); 2] = [
 #[test]
 fn obs_writes_what_comes_before_a_fault(rt: HostRuntime) -> Result<(), Fail> {
     for (program, packets, answer) in CUT {
-        let files: &[(&[u8], &[u8])] = &[(b"p", program), (b"q", packets)];
-        assert!(rt; answers(&rt, rt.alloc(), WORDS, files, AMPLE, answer)?);
+        let files: &[(&[u8], &[u8])] = &[(b"p", *program), (b"q", *packets)];
+        must_answer(&rt, rt.alloc(), WORDS, files, AMPLE, *answer)?;
     }
     Ok(())
 }
@@ -70,7 +70,7 @@ fn obs_ends_where_a_device_fails(rt: HostRuntime) -> Result<(), Fail> {
     let files: &[(&[u8], &[u8])] = &[(b"p", b"outport <- 2"), (b"q", b"1\n2\n")];
     for (devices, status, out, err) in cases {
         let answer = Answer { status, out, err };
-        assert!(rt; answers(&rt, rt.alloc(), WORDS, files, devices, answer)?);
+        must_answer(&rt, rt.alloc(), WORDS, files, devices, answer)?;
     }
     Ok(())
 }
@@ -156,9 +156,5 @@ fn obs_writes_one_report_however_reads_are_cut(rt: HostRuntime) -> Result<(), Fa
         out: dns_report(),
         err: b"",
     };
-    for read_most in [1, 2, 3, 7, 4096] {
-        let devices = Devices { read_most, ..AMPLE };
-        assert!(rt; answers(&rt, rt.alloc(), WORDS, files, devices, whole)?);
-    }
-    Ok(())
+    must_answer_however_cut(&rt, rt.alloc(), WORDS, files, whole)
 }

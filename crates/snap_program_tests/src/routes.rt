@@ -1,4 +1,4 @@
-use crate::calls::{AMPLE, Answer, Devices, answers};
+use crate::calls::{AMPLE, Answer, Devices, must_answer};
 use std::test::Fail;
 
 const WORDS: &[&[u8]] = &[b"routes", b"t"];
@@ -39,8 +39,7 @@ fn routes_of_a_square_are_written(rt: HostRuntime) -> Result<(), Fail> {
         out: SQUARE_ROUTES,
         err: b"",
     };
-    assert!(rt; answers(&rt, rt.alloc(), WORDS, FILES, AMPLE, whole)?);
-    Ok(())
+    must_answer(&rt, rt.alloc(), WORDS, FILES, AMPLE, whole)
 }
 
 #[test]
@@ -56,6 +55,5 @@ fn routes_stop_where_a_device_fails(rt: HostRuntime) -> Result<(), Fail> {
         out: b"route s1 s2 1 s2\nroute s1 s3 1 s3\n",
         err: b"snapc: cannot write\n",
     };
-    assert!(rt; answers(&rt, rt.alloc(), WORDS, FILES, devices, cut)?);
-    Ok(())
+    must_answer(&rt, rt.alloc(), WORDS, FILES, devices, cut)
 }

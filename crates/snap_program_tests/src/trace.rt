@@ -1,4 +1,4 @@
-use crate::calls::{AMPLE, Answer, Devices, answers};
+use crate::calls::{AMPLE, Answer, Devices, must_answer, must_answer_however_cut};
 use std::test::Fail;
 
 const WORDS: &[&[u8]] = &[b"trace", b"t", b"k"];
@@ -46,11 +46,7 @@ fn trace_writes_one_report_however_reads_are_cut(rt: HostRuntime) -> Result<(), 
         out: REPORT,
         err: b"",
     };
-    for read_most in [1, 2, 3, 7, 4096] {
-        let devices = Devices { read_most, ..AMPLE };
-        assert!(rt; answers(&rt, rt.alloc(), WORDS, FILES, devices, whole)?);
-    }
-    Ok(())
+    must_answer_however_cut(&rt, rt.alloc(), WORDS, FILES, whole)
 }
 
 const LONE: &[u8] = b"inject\ninject\nstep 1\nstep 0\nstep 0\nstep 1\nstep 1\nstep 0\n";
@@ -74,8 +70,7 @@ fn trace_does_what_a_schedule_orders(rt: HostRuntime) -> Result<(), Fail> {
         out: LATE_FIRST,
         err: b"",
     };
-    assert!(rt; answers(&rt, rt.alloc(), words, files, AMPLE, whole)?);
-    Ok(())
+    must_answer(&rt, rt.alloc(), words, files, AMPLE, whole)
 }
 
 #[test]
@@ -102,7 +97,7 @@ fn trace_ends_where_a_device_fails(rt: HostRuntime) -> Result<(), Fail> {
     ];
     for (devices, status, out, err) in cases {
         let answer = Answer { status, out, err };
-        assert!(rt; answers(&rt, rt.alloc(), WORDS, FILES, devices, answer)?);
+        must_answer(&rt, rt.alloc(), WORDS, FILES, devices, answer)?;
     }
     Ok(())
 }

@@ -51,16 +51,31 @@ fn a_listing_rises_and_leaves_out_zeros(rt: HostRuntime) -> Result<(), Fail> {
     Ok(())
 }
 
+// Texts, and the numbers up to one that they spell.
+const NUMBERS: [(u64, &[u8], Option<u64>); 4] = [
+    (u64::MAX, b"018446744073709551615", Some(u64::MAX)),
+    (u64::MAX, b"18446744073709551616", None),
+    (9, b"9", Some(9)),
+    (9, b"10", None),
+];
+
+// Texts, and the addresses that they spell.
+const ADDRESSES: [(&[u8], Option<u32>); 6] = [
+    (b"10.1.0.255", Some(167837951)),
+    (b"10.1.0.256", None),
+    (b"10.1.0", None),
+    (b"10.1.0.2.5", None),
+    (b"10.1..2", None),
+    (b"10.1.0.0002", None),
+];
+
 #[test]
 fn texts_spell_numbers(rt: HostRuntime) {
-    assert_eq!(rt; number(b"018446744073709551615"), Some(u64::MAX));
-    assert_eq!(rt; number(b"18446744073709551616"), None);
-    assert_eq!(rt; number_up_to(9, b"9"), Some(9));
-    assert_eq!(rt; number_up_to(9, b"10"), None);
-    assert_eq!(rt; address(b"10.1.0.255"), Some(167837951));
-    assert_eq!(rt; address(b"10.1.0.256"), None);
-    assert_eq!(rt; address(b"10.1.0"), None);
-    assert_eq!(rt; address(b"10.1.0.2.5"), None);
-    assert_eq!(rt; address(b"10.1..2"), None);
-    assert_eq!(rt; address(b"10.1.0.0002"), None);
+    for (most, text, wanted) in NUMBERS {
+        assert!(rt; number_up_to(most, text) == wanted, "{text:?}");
+        assert!(rt; most < u64::MAX || number(text) == wanted, "{text:?}");
+    }
+    for (text, wanted) in ADDRESSES {
+        assert!(rt; address(text) == wanted, "{text:?}");
+    }
 }

@@ -2,10 +2,10 @@
 
 ghost use Rattle.std.specs.Prelude.{◌≤◌};
 
-use super::two_owners;
-use crate::texts::shelf;
+use super::{REPORT, two_owners};
+use crate::texts::{shelf, sink};
 use snap_core::NoMemory;
-use snap_io::MemorySink;
+use snap_io::{MemoryShelf, MemorySink};
 use snap_order::gate::{Gate, NoGate};
 use snap_order::workers::trace_workers;
 use snap_trace::TraceFault;
@@ -16,16 +16,6 @@ use std::thread::Threads;
 
 // So many rounds are noted.
 const ROUNDS: usize = 8;
-
-// What one big switch reports of two packets at port 1.
-const REPORT: &[u8] = b"packet 1\n\
-    out inport=1 outport=1\n\
-    lost 0\n\
-    packet 2\n\
-    out inport=1 outport=1\n\
-    lost 0\n\
-    array s 0 = 1\n\
-    end\n";
 
 // How often switches a and b were passed in each round.
 #[derive(Drop)]
@@ -63,30 +53,60 @@ impl Gate for Notes {
     }
 }
 
+// A run by so many workers over the packets of a shelf.
+fn run_over<R: Threads + Sync, G: Gate>(
+    rt: &R,
+    alloc: Global,
+    shelf: &mut MemoryShelf,
+    hops: bool,
+    workers: u16,
+    gate: &G,
+    sink: &mut MemorySink,
+) -> Result<(), TraceFault>
+    requires { (1 ≤ workers) × (workers ≤ 64) }
+{
+    let tables = two_owners(alloc)?;
+    trace_workers(rt, alloc, shelf, b"q", tables, hops, workers, gate, sink)
+}
+
+// What so many workers write of two packets at port 1.
+fn report_into<R: Threads + Sync, G: Gate>(
+    rt: &R,
+    alloc: Global,
+    workers: u16,
+    gate: &G,
+    sink: &mut MemorySink,
+) -> Result<(), TraceFault>
+    requires { (1 ≤ workers) × (workers ≤ 64) }
+{
+    let mut shelf = shelf(alloc, b"1\n1\n", b"")?;
+    run_over(rt, alloc, &mut shelf, false, workers, gate, sink)
+}
+
+// Whether so many workers report two packets at port 1 as one big switch does.
+fn report_alike<R: Threads + Sync, G: Gate>(
+    rt: &R,
+    alloc: Global,
+    workers: u16,
+    gate: &G,
+) -> Result<bool, NoMemory>
+    requires { (1 ≤ workers) × (workers ≤ 64) }
+{
+    let mut sink = sink(alloc)?;
+    let ended = report_into(rt, alloc, workers, gate, &mut sink);
+    Ok(ended == Ok(()) && sink.bytes() == REPORT)
+}
+
 // The first packet goes from a to b, forks there, and comes back; the second one round behind it.
+const PASSED: [[u64; 2]; 7] = [[0, 0], [1, 0], [1, 1], [0, 1], [1, 1], [1, 0], [0, 0]];
+
 #[test]
 fn switches_with_copies_are_passed(rt: HostRuntime) -> Result<(), Fail> {
-    let alloc = rt.alloc();
-    let notes = Notes::new(alloc)?;
-    let mut shelf = shelf(alloc, b"1\n1\n", b"")?;
-    let mut sink = MemorySink::new(alloc, 4096, 4096, Vec::new(alloc))?;
-    let ended = trace_workers(
-        &rt,
-        alloc,
-        &mut shelf,
-        b"q",
-        two_owners(alloc)?,
-        false,
-        2,
-        &notes,
-        &mut sink,
-    );
-    assert_eq!(rt; ended, Ok(()));
-    assert_eq!(rt; sink.bytes(), REPORT);
-    let rows = [[0u64, 0], [1, 0], [1, 1], [0, 1], [1, 1], [1, 0], [0, 0]];
-    for round in 0..rows.len() {
-        assert_eq!(rt; notes.count(round as u64, 0), rows[round][0]);
-        assert_eq!(rt; notes.count(round as u64, 1), rows[round][1]);
+    let notes = Notes::new(rt.alloc())?;
+    assert!(rt; report_alike(&rt, rt.alloc(), 2, &notes)?);
+    for round in 0..PASSED.len() {
+        assert_eq!(rt; notes.count(round as u64, 0), PASSED[round][0]);
+        assert_eq!(rt; notes.count(round as u64, 1), PASSED[round][1]);
     }
     Ok(())
 }
@@ -127,63 +147,21 @@ impl Gate for Meeting {
 // alone at its gate. No clause speaks of that, so no prover refuses it; this test does.
 #[test]
 fn workers_meet(rt: HostRuntime) -> Result<(), Fail> {
-    let alloc = rt.alloc();
     let gate = Meeting {
-        notes: Notes::new(alloc)?,
+        notes: Notes::new(rt.alloc())?,
         missed: AtomicU64::new(0),
     };
-    let mut shelf = shelf(alloc, b"1\n1\n", b"")?;
-    let mut sink = MemorySink::new(alloc, 4096, 4096, Vec::new(alloc))?;
-    let ended = trace_workers(
-        &rt,
-        alloc,
-        &mut shelf,
-        b"q",
-        two_owners(alloc)?,
-        false,
-        2,
-        &gate,
-        &mut sink,
-    );
-    assert_eq!(rt; ended, Ok(()));
-    assert_eq!(rt; sink.bytes(), REPORT);
+    assert!(rt; report_alike(&rt, rt.alloc(), 2, &gate)?);
     assert_eq!(rt; gate.missed.load(Ordering::SeqCst), 0);
     Ok(())
-}
-
-// The report that so many workers make.
-fn report_by<R: Threads + Sync>(rt: &R, alloc: Global, workers: u16) -> Result<Vec<u8>, NoMemory>
-    requires { (1 ≤ workers) × (workers ≤ 64) }
-{
-    let mut shelf = shelf(alloc, b"1\n1\n", b"")?;
-    let mut sink = MemorySink::new(alloc, 4096, 4096, Vec::new(alloc))?;
-    let ended = trace_workers(
-        rt,
-        alloc,
-        &mut shelf,
-        b"q",
-        two_owners(alloc)?,
-        false,
-        workers,
-        &NoGate,
-        &mut sink,
-    );
-    if ended.is_err() {
-        return Err(NoMemory);
-    }
-    Ok(sink.bytes().to_vec(alloc)?)
 }
 
 // However many workers there are.
 #[test]
 fn workers_report_alike(rt: HostRuntime) -> Result<(), Fail> {
-    let alloc = rt.alloc();
-    let by_one = report_by(&rt, alloc, 1)?;
-    assert_eq!(rt; by_one.as_slice(), REPORT);
-    let by_two = report_by(&rt, alloc, 2)?;
-    assert_eq!(rt; by_two.as_slice(), REPORT);
-    let by_many = report_by(&rt, alloc, 64)?;
-    assert_eq!(rt; by_many.as_slice(), REPORT);
+    assert!(rt; report_alike(&rt, rt.alloc(), 1, &NoGate)?);
+    assert!(rt; report_alike(&rt, rt.alloc(), 2, &NoGate)?);
+    assert!(rt; report_alike(&rt, rt.alloc(), 64, &NoGate)?);
     Ok(())
 }
 
@@ -191,19 +169,9 @@ fn workers_report_alike(rt: HostRuntime) -> Result<(), Fail> {
 #[test]
 fn packets_are_read_first(rt: HostRuntime) -> Result<(), Fail> {
     let alloc = rt.alloc();
+    let mut sink = sink(alloc)?;
     let mut shelf = shelf(alloc, b"1\n9\n", b"")?;
-    let mut sink = MemorySink::new(alloc, 4096, 4096, Vec::new(alloc))?;
-    let ended = trace_workers(
-        &rt,
-        alloc,
-        &mut shelf,
-        b"q",
-        two_owners(alloc)?,
-        true,
-        2,
-        &NoGate,
-        &mut sink,
-    );
+    let ended = run_over(&rt, alloc, &mut shelf, true, 2, &NoGate, &mut sink);
     assert_eq!(rt; ended, Err(TraceFault::Packets { line: 2 }));
     assert_eq!(rt; sink.bytes().len(), 0);
     Ok(())
