@@ -49,6 +49,7 @@ impl Block {
     }
 
     /// Puts a copy at the end.
+    #[inline(always)]
     pub(crate) fn push(&mut self, copy: Flying) -> Result<(), NoMemory>
         ensures ok { OnOk result (self.new ≡ self.old ++ copy ∷ []) }
         ensures err { OnErr result (self.new ≡ self.old) }
@@ -87,6 +88,7 @@ impl Block {
     }
 
     /// Takes a copy out.
+    #[inline(always)]
     pub(crate) fn remove(&mut self, place: usize) -> Flying
         requires { place < length self.old }
         ensures copy { slice_get self.old place ≡ Some result }

@@ -120,6 +120,7 @@ fn replace_at(blocks: &mut Vec<Block>, spot: Spot, copy: Flying) -> Flying
 }
 
 // Takes out the copy at a spot.
+#[inline(always)]
 fn remove_at(blocks: &mut Vec<Block>, spot: Spot) -> Flying
     requires { IsSpot blocks.old.items (number_at blocks.old.items spot) spot }
     ensures copy { slice_get (joined blocks.old.items) (number_at blocks.old.items spot) ≡ Some result }
@@ -131,6 +132,7 @@ fn remove_at(blocks: &mut Vec<Block>, spot: Spot) -> Flying
 }
 
 // Drops a block that is empty, if it isn't the only one.
+#[inline(always)]
 fn drop_empty(blocks: &mut Vec<Block>, i: usize)
     requires { i < length blocks.old.items }
     ensures { joined blocks.new.items ≡ joined blocks.old.items }
@@ -141,6 +143,7 @@ fn drop_empty(blocks: &mut Vec<Block>, i: usize)
 }
 
 // Puts a copy at the end of the last block, or into a block of its own.
+#[inline(always)]
 fn push_at_end(alloc: Global, blocks: &mut Vec<Block>, copy: Flying) -> Result<(), NoMemory>
     ensures ok { OnOk result (joined blocks.new.items ≡ joined blocks.old.items ++ copy ∷ []) }
     ensures err { OnErr result (joined blocks.new.items ≡ joined blocks.old.items) }
@@ -185,6 +188,7 @@ impl Flights {
     }
 
     /// Puts a copy at the end of the list.
+    #[inline(always)]
     pub(crate) fn push(&mut self, copy: Flying) -> Result<(), NoMemory>
         ensures ok { OnOk result (self.new ≡ self.old ++ copy ∷ []) }
         ensures err { OnErr result (self.new ≡ self.old) }
@@ -228,6 +232,7 @@ impl Flights {
     }
 
     /// Takes copy k out of the list. Takes no memory.
+    #[inline(always)]
     pub(crate) fn remove(&mut self, k: usize) -> Flying
         requires { k < length self.old }
         ensures copy { slice_get self.old k ≡ Some result }

@@ -187,22 +187,6 @@ fn split(
     }
 }
 
-// Puts copies at a switch in the place of copy k, which it hands out.
-fn spread_all(
-    flying: &mut Flights,
-    k: usize,
-    at: u16,
-    copies: Vec<Sent>,
-) -> Result<Flying, NoMemory>
-    requires { k < length flying.old }
-    ensures gone { IfOk result (λ gone. (slice_get flying.old k ≡ Some gone) × (flying.new ≡ spliced flying.old k 1 (copies_in_flight gone.number at copies.items))) }
-    ensures err { OnErr result (flying.new ≡ flying.old) }
-{
-    let number = flying.get(k).number;
-    put_copies(flying, k, number, at, copies)?;
-    Ok(flying.remove(k))
-}
-
 // Puts one copy at a switch in the place of copy k, which it hands out.
 fn turn_to(flying: &mut Flights, k: usize, at: u16, sent: Sent) -> Flying
     requires { k < length flying.old }
@@ -217,6 +201,22 @@ fn turn_to(flying: &mut Flights, k: usize, at: u16, sent: Sent) -> Flying
         packet: sent.packet,
     };
     flying.replace(k, copy)
+}
+
+// Puts copies at a switch in the place of copy k, which it hands out.
+fn spread_all(
+    flying: &mut Flights,
+    k: usize,
+    at: u16,
+    copies: Vec<Sent>,
+) -> Result<Flying, NoMemory>
+    requires { k < length flying.old }
+    ensures gone { IfOk result (λ gone. (slice_get flying.old k ≡ Some gone) × (flying.new ≡ spliced flying.old k 1 (copies_in_flight gone.number at copies.items))) }
+    ensures err { OnErr result (flying.new ≡ flying.old) }
+{
+    let number = flying.get(k).number;
+    put_copies(flying, k, number, at, copies)?;
+    Ok(flying.remove(k))
 }
 
 // The same, where one copy alone needs no room.

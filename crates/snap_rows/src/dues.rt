@@ -76,6 +76,7 @@ fn copy_rest(lent: &[&Update], copies: &mut Vec<Update>) -> Result<(), NoMemory>
 }
 
 // Does these in order.
+#[inline(always)]
 fn apply_first(first: First<'_>, store: &mut Store, packet: &Packet) -> Result<(), NoMemory>
     requires { All (UpdateReads (length packet.now)) (first_of first) }
     ensures { OnOk result (arrays_of store.new ≡ updates (arrays_of store.old) (first_of first.entry) packet.now) }
@@ -92,6 +93,7 @@ fn apply_first(first: First<'_>, store: &mut Store, packet: &Packet) -> Result<(
 }
 
 // Does updates in order.
+#[inline(never)]
 fn apply_rest(lent: &[&Update], store: &mut Store, packet: &Packet) -> Result<(), NoMemory>
     requires { All (UpdateReads (length packet.now)) (seen lent.now) }
     ensures { OnOk result (arrays_of store.new ≡ updates (arrays_of store.old) (seen lent.now) packet.now) }
@@ -132,6 +134,7 @@ impl<'a> Dues<'a> {
     }
 
     /// Puts one behind the others.
+    #[inline(always)]
     pub fn push(&mut self, update: &'a Update) -> Result<(), NoMemory>
         ensures ok { OnOk result (self.new ≡ self.old ++ update.now ∷ []) }
         ensures err { OnErr result (self.new ≡ self.old) }
@@ -174,6 +177,7 @@ impl<'a> Dues<'a> {
     }
 
     /// Does these in order. A refusal leaves those before it done.
+    #[inline(always)]
     pub fn apply(&self, store: &mut Store, packet: &Packet) -> Result<(), NoMemory>
         requires { All (UpdateReads (length packet.now)) self.now }
         ensures { OnOk result (arrays_of store.new ≡ updates (arrays_of store.old) self.now packet.now) }

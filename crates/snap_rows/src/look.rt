@@ -114,6 +114,7 @@ impl Valid {
 
     /// The switch to which a copy with this head goes before anything else is done with it, if its head says one. Takes
     /// no memory.
+    #[inline(always)]
     pub fn aim(&self, head: Head) -> Option<u16>
         ensures { result ≡ aim_of self.now head }
     {

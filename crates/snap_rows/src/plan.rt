@@ -63,6 +63,7 @@ fn to_port(tables: &Valid, at: u16, port: u32) -> Action
 }
 
 // A copy at a stage of a leaf.
+#[inline(never)]
 fn at_stage<'a>(
     alloc: Global,
     tables: &'a Valid,
@@ -159,6 +160,7 @@ fn leafed<'a>(
 }
 
 // A walk in version 1.
+#[inline(never)]
 fn walk_one<'a>(
     alloc: Global,
     tables: &'a Valid,
@@ -230,6 +232,7 @@ fn owner_of_rank(tables: &Valid, rank: u16) -> u16
 
 // What becomes of a copy from a visit on. The updates of all visits of the step are lent. All visits read the store as it
 // was, since none reads what one of lesser rank changes.
+#[inline(always)]
 fn visits<'a>(
     alloc: Global,
     tables: &'a Valid,
@@ -267,6 +270,7 @@ fn visits<'a>(
 }
 
 // A walk in version 2.
+#[inline(always)]
 fn walk_two<'a>(
     alloc: Global,
     tables: &'a Valid,
@@ -293,7 +297,7 @@ fn walk_two<'a>(
 /// What one step does, by a store that stays as it is: answers what becomes of the copy, and lends the updates to a list
 /// that is empty before. All memory that the step wants is taken here, but that of the updates themselves.
 #[inline(always)]
-pub fn lend_step<'a>(
+pub(crate) fn lend_step<'a>(
     alloc: Global,
     tables: &'a Valid,
     at: u16,

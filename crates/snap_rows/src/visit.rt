@@ -21,6 +21,7 @@ use snap_core::store::Store;
 use std::alloc::Global;
 
 // Puts a leaf's updates of arrays of one rank behind others.
+#[inline(always)]
 fn push_ranked<'a>(
     tables: &Valid,
     leaf: &'a [Update],
@@ -54,6 +55,7 @@ fn last_updates(leaf: &Row) -> &[Update]
 }
 
 // Makes a visit at a number from which the rank can be visited.
+#[inline(always)]
 fn visit_from<'a>(
     alloc: Global,
     tables: &'a Valid,
@@ -78,6 +80,7 @@ fn visit_from<'a>(
 }
 
 /// Makes a visit: answers its number and lends its updates, behind those before.
+#[inline(always)]
 pub fn visit<'a>(
     alloc: Global,
     tables: &'a Valid,

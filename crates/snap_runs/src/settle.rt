@@ -59,6 +59,7 @@ fn land(net: &mut Net, tally: &mut Tally) -> Result<(), NoMemory>
 
 // Takes the first copy to the switch to which its head sends it, makes a step of it, and takes it on so if it has crossed
 // a link; notes its hops.
+#[inline(never)]
 fn hop_on(net: &mut Net, frames: Frames, tally: &mut Tally) -> Result<(), NoMemory>
     requires { 0 < length net.old.flying }
     ensures gone { OnOk result (HasGone frames true net.old net.new tally.old tally.new) }
