@@ -18,7 +18,7 @@ use snap_topo::topology::Topology;
 use std::alloc::Global;
 
 /// A topology and its routes.
-#[derive(Debug, Drop)]
+#[derive(Drop)]
 pub(crate) struct Network {
     pub(crate) topology: Topology,
     pub(crate) routes: Routes,

@@ -16,7 +16,7 @@ use snap_io::{Sink, WriteFailed, write_pieces, write_whole};
 use snap_rows::tables::Rule;
 
 /// Why a text has no tree.
-#[derive(Clone, Copy, Debug, PartialEq, Eq)]
+#[derive(Clone, Copy)]
 pub enum SyntaxFault {
     BadByte,
     BadNumber,
@@ -25,7 +25,7 @@ pub enum SyntaxFault {
 }
 
 /// Which naming rule is broken.
-#[derive(Clone, Copy, Debug, PartialEq, Eq)]
+#[derive(Clone, Copy)]
 pub enum NamingFault {
     UnknownName,
     DeclaredTwice,
@@ -36,7 +36,7 @@ pub enum NamingFault {
 }
 
 /// Why a file spells no topology.
-#[derive(Debug, Drop)]
+#[derive(Drop)]
 pub enum TopologyFault {
     /// The bytes are not UTF-8, or no TOML document.
     NotToml,
@@ -52,7 +52,7 @@ pub enum TopologyFault {
 }
 
 /// Why a file spells no demand of a program on a topology.
-#[derive(Debug, Drop)]
+#[derive(Drop)]
 pub enum NoDemand {
     /// The bytes are not UTF-8, or no TOML document.
     NotToml,
@@ -74,7 +74,7 @@ pub enum NoDemand {
 }
 
 /// Why a file spells no placement of a program on a topology.
-#[derive(Debug, Drop)]
+#[derive(Drop)]
 pub enum NoPlacement {
     /// The bytes are not UTF-8, or no TOML document.
     NotToml,
@@ -96,7 +96,7 @@ pub enum NoPlacement {
 }
 
 /// Why a file spells no valid tables. Lines are counted from 1.
-#[derive(Clone, Copy, Debug, PartialEq, Eq)]
+#[derive(Clone, Copy)]
 pub enum NoTables {
     /// This line isn't of its form after the lines before it.
     Line { line: u64 },
@@ -106,7 +106,7 @@ pub enum NoTables {
 }
 
 /// Why a command ends without its whole output.
-#[derive(Debug, Drop)]
+#[derive(Drop)]
 pub enum Refusal<'a> {
     /// The words are of no command's form.
     Usage,

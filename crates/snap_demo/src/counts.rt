@@ -6,7 +6,7 @@ use snap_core::NoMemory;
 use snap_runs::tally::Tally;
 
 /// How many packets were delivered, and how many were lost.
-#[derive(Clone, Copy, Debug, PartialEq, Eq)]
+#[derive(Clone, Copy)]
 pub(crate) struct Counts {
     pub(crate) delivered: u64,
     pub(crate) lost: u64,

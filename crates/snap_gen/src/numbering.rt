@@ -12,7 +12,7 @@ use snap_fdd::leaf::Leaf;
 use std::alloc::Global;
 
 /// Numbers for the nodes below a root: 0 is the root's, and they rise along each way, since each node of an arena stands behind its ways.
-#[derive(Debug, Drop)]
+#[derive(Drop)]
 pub struct Numbering {
     /// The node of each number.
     pub ids: Vec<u64>,

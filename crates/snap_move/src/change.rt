@@ -21,7 +21,7 @@ pub const MOST_AFTER: u64 = 1_000_000;
 pub const MOST_CHANGES: usize = 16;
 
 /// A change of tables: behind so many packets those of this file come into force. Lines are counted from 1.
-#[derive(Debug, Drop)]
+#[derive(Drop)]
 pub struct Change {
     pub after: u64,
     pub line: u64,

@@ -38,7 +38,7 @@ impl Model for Flights {
 }
 
 // A place in a block.
-#[derive(Clone, Copy, Debug)]
+#[derive(Clone, Copy)]
 struct Spot {
     block: usize,
     place: usize,

@@ -7,7 +7,7 @@ pub trait Gate: Sync {
 }
 
 /// Lets every worker pass.
-#[derive(Clone, Copy, Debug)]
+#[derive(Clone, Copy)]
 pub struct NoGate;
 
 impl Gate for NoGate {

@@ -3,7 +3,7 @@
 use snap_net::happened::Happened;
 
 /// What a step in turn does.
-#[derive(Debug, Drop)]
+#[derive(Drop)]
 pub enum Turned {
     /// The copy moved as one does without order. The frame that crosses a link begins with the packet's number, in eight
     /// bytes.

@@ -26,14 +26,14 @@ use snap_rows::walk::enter;
 use std::alloc::Global;
 
 /// A visit for which a copy is at the owner of the rank.
-#[derive(Clone, Copy, Debug)]
+#[derive(Clone, Copy)]
 pub(crate) struct Due {
     pub rank: u16,
     pub node: u64,
 }
 
 /// What becomes of a copy after visits.
-#[derive(Debug, Drop)]
+#[derive(Drop)]
 pub(crate) enum Outcome {
     Moves { action: Action },
     /// It stays where it is, for its visit of a rank.
@@ -41,7 +41,7 @@ pub(crate) enum Outcome {
 }
 
 /// Visits in turn: their updates, the rank behind the last one, and what becomes of the copy.
-#[derive(Debug, Drop)]
+#[derive(Drop)]
 pub(crate) struct Turns {
     pub ups: Updates,
     pub behind: u16,

@@ -9,7 +9,7 @@ use snap_core::policy::Update;
 use std::marker::Model;
 
 /// Updates, in the order in which they are done.
-#[derive(Debug, Drop)]
+#[derive(Drop)]
 pub struct Updates {
     updates: Vec<Update>,
 }
@@ -40,7 +40,7 @@ impl Updates {
 }
 
 /// The stages of a leaf, in order.
-#[derive(Debug, Drop)]
+#[derive(Drop)]
 pub struct Stages {
     stages: Vec<Stage>,
 }
@@ -71,7 +71,7 @@ impl Stages {
 }
 
 /// The outs of a leaf.
-#[derive(Debug, Drop)]
+#[derive(Drop)]
 pub struct Outs {
     outs: Vec<Out>,
 }
@@ -102,7 +102,7 @@ impl Outs {
 }
 
 /// Arrays, each with its switch. An array's number is its position.
-#[derive(Debug, Drop)]
+#[derive(Drop)]
 pub struct ArraysAt {
     arrays: Vec<ArrayAt>,
 }
@@ -133,7 +133,7 @@ impl ArraysAt {
 }
 
 /// Next hops.
-#[derive(Debug, Drop)]
+#[derive(Drop)]
 pub struct Hops {
     hops: Vec<Hop>,
 }
@@ -164,7 +164,7 @@ impl Hops {
 }
 
 /// Rows of all switches.
-#[derive(Debug, Drop)]
+#[derive(Drop)]
 pub struct Rows {
     rows: Vec<RowAt>,
 }
@@ -195,7 +195,7 @@ impl Rows {
 }
 
 /// Packets on their ways to ports.
-#[derive(Debug, Drop)]
+#[derive(Drop)]
 pub struct Copies {
     copies: Vec<Sent>,
 }

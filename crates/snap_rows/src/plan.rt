@@ -26,7 +26,7 @@ use snap_core::store::Store;
 use std::alloc::Global;
 
 /// What a step does: updates, which are done at once, and what becomes of the copy.
-#[derive(Debug, Drop)]
+#[derive(Drop)]
 pub struct Plan {
     pub ups: Updates,
     pub action: Action,

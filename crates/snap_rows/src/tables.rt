@@ -7,7 +7,7 @@ use snap_core::ports::{Links, Ports};
 use snap_core::program::Fields;
 
 /// An array, its switch, and in version 2 its rank.
-#[derive(Debug, Drop)]
+#[derive(Drop)]
 pub struct ArrayAt {
     pub name: Name,
     pub at: u16,
@@ -15,7 +15,7 @@ pub struct ArrayAt {
 }
 
 /// The next switch on the way from a switch to another.
-#[derive(Clone, Copy, Debug, PartialEq, Eq)]
+#[derive(Clone, Copy)]
 pub struct Hop {
     pub from: u16,
     pub target: u16,
@@ -23,14 +23,14 @@ pub struct Hop {
 }
 
 /// Updates that one switch does.
-#[derive(Debug, Drop)]
+#[derive(Drop)]
 pub struct Stage {
     pub at: u16,
     pub ups: Updates,
 }
 
 /// What a switch does with a number.
-#[derive(Debug, Drop)]
+#[derive(Drop)]
 pub enum Row {
     /// A test of fields: on with the number `yes` or `no`.
     Field { test: Test, yes: u64, no: u64 },
@@ -47,7 +47,7 @@ pub enum Row {
 }
 
 /// A row, its switch and its number.
-#[derive(Debug, Drop)]
+#[derive(Drop)]
 pub struct RowAt {
     pub at: u16,
     pub number: u64,
@@ -55,7 +55,7 @@ pub struct RowAt {
 }
 
 /// The tables of all switches. A switch's number is its position in `switches`.
-#[derive(Debug, Drop)]
+#[derive(Drop)]
 pub struct Tables {
     /// 1, where a number is decided at one switch; or 2, where each rank of arrays is visited once.
     pub version: u8,
@@ -90,7 +90,7 @@ pub enum Rule {
 }
 
 /// An entry of tables, by its position in its list, counted from 0.
-#[derive(Clone, Copy, Debug, PartialEq, Eq)]
+#[derive(Clone, Copy)]
 pub enum Spot {
     Hop(u32),
     Port(u32),
@@ -99,7 +99,7 @@ pub enum Spot {
 }
 
 /// Why tables are not valid.
-#[derive(Clone, Copy, Debug, PartialEq, Eq)]
+#[derive(Clone, Copy)]
 pub enum Refused {
     /// The first broken rule, at the first entry that breaks it.
     Broken { rule: Rule, spot: Spot },

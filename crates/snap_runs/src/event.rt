@@ -8,7 +8,7 @@ use snap_core::parts::split_at_first;
 use snap_trace::words::{next_word, without_return};
 
 /// What a line of a schedule orders.
-#[derive(Clone, Copy, Debug, PartialEq, Eq)]
+#[derive(Clone, Copy)]
 pub enum Order {
     /// Nothing: the line has no words, or begins with `#`.
     Skip,

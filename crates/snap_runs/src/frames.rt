@@ -6,7 +6,7 @@ ghost use Rattle.snap_runs.specs.Reports.{lead_of};
 use snap_core::NoMemory;
 
 /// How the frames of hops are told.
-#[derive(Clone, Copy, Debug, PartialEq, Eq)]
+#[derive(Clone, Copy)]
 pub enum Frames {
     /// As they are.
     Plain,

@@ -20,7 +20,7 @@ use snap_trace::{Line, TraceFault};
 use std::alloc::Global;
 
 /// A packet that can be injected at a port, which is its first component.
-#[derive(Debug, Drop)]
+#[derive(Drop)]
 pub struct Ready {
     pub port: u32,
     pub packet: Packet,

@@ -7,7 +7,7 @@ use snap_rows::tables::{ArrayAt, Hop, RowAt};
 
 /// An entry of tables, which has a line of their text. The names of arrays and switches stand for themselves; a link
 /// joins two switches, the lesser one first.
-#[derive(Debug, Drop)]
+#[derive(Drop)]
 pub enum Item {
     Field(Field),
     Switch(Name),

@@ -11,7 +11,7 @@ use snap_rows::tables::{Row, Tables};
 use std::marker::Model;
 
 /// What stands in a row of shared tables.
-#[derive(Clone, Copy, Debug, PartialEq, Eq)]
+#[derive(Clone, Copy)]
 pub enum Share {
     /// The body of its number.
     Body,
@@ -20,7 +20,7 @@ pub enum Share {
 }
 
 /// A row of shared tables: its switch, its number, and what stands in it.
-#[derive(Clone, Copy, Debug)]
+#[derive(Clone, Copy)]
 pub struct RowShare {
     pub at: u16,
     pub number: u64,
