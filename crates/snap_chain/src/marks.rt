@@ -19,7 +19,7 @@ use snap_fdd::pick::look;
 
 /// The components that a diagram's leaves set, the variables that they update and those that the diagram tests, a bit
 /// each, and whether a leaf logs a write.
-#[derive(Clone, Copy, Debug)]
+#[derive(Clone, Copy)]
 pub struct Mark {
     pub sets: u64,
     pub updates: u64,

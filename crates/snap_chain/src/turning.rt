@@ -20,14 +20,14 @@ use snap_fdd::pruning::{Part, part_of};
 use std::cmp::Ordering;
 
 /// Two diagrams: a first, and one that comes after it.
-#[derive(Clone, Copy, Debug)]
+#[derive(Clone, Copy)]
 pub struct Pair {
     pub first: u64,
     pub second: u64,
 }
 
 /// How a pair goes on: the first is a leaf, or a test is asked before both.
-#[derive(Debug, Drop)]
+#[derive(Drop)]
 pub enum Turn {
     Whole,
     Asked { test: Test, yes: Pair, no: Pair },

@@ -22,7 +22,7 @@ pub enum Term {
 }
 
 /// A test of a diagram.
-#[derive(Debug, Drop)]
+#[derive(Drop)]
 pub enum Test {
     Value { comp: u16, num: u64 },
     Equal { left: u16, right: u16, plus: u64 },
@@ -37,7 +37,7 @@ pub enum Op {
 }
 
 /// An update of the number at one place.
-#[derive(Debug, Drop)]
+#[derive(Drop)]
 pub struct Update {
     pub var: u16,
     pub index: Atoms,
@@ -45,7 +45,7 @@ pub struct Update {
 }
 
 /// A predicate over the store and the packet.
-#[derive(Debug, Drop)]
+#[derive(Drop)]
 pub enum Pred {
     Id,
     Drop,
@@ -57,7 +57,7 @@ pub enum Pred {
 }
 
 /// A policy.
-#[derive(Debug, Drop)]
+#[derive(Drop)]
 pub enum Pol {
     Filter(Pred),
     Set { comp: u16, from: Atom },

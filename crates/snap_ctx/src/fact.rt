@@ -9,7 +9,7 @@ use std::marker::Model;
 use std::rc::Rc;
 
 /// A test that its copies share.
-#[derive(Debug, Drop)]
+#[derive(Drop)]
 pub struct Shared {
     test: Rc<Test>,
 }
@@ -50,7 +50,7 @@ impl Shared {
 }
 
 /// A test, and whether it passes.
-#[derive(Debug, Drop)]
+#[derive(Drop)]
 pub struct Fact {
     pub test: Shared,
     pub yes: bool,

@@ -12,7 +12,7 @@ use crate::terms::same_term;
 use snap_core::policy::{Term, Test};
 
 /// A broken rule: two classes that the facts make equal, or a contradiction.
-#[derive(Clone, Copy, Debug, PartialEq, Eq)]
+#[derive(Clone, Copy)]
 pub enum Breach {
     Join { left: Term, right: Term },
     Contradiction,

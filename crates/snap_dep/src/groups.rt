@@ -8,7 +8,7 @@ use crate::relation::only;
 use std::marker::Model;
 
 /// The groups of a program's variables, in the order of their ranks. A group goes by the least of its variables.
-#[derive(Debug, Drop)]
+#[derive(Drop)]
 pub struct Groups {
     ranks: Vec<usize>,
     order: Vec<u16>,

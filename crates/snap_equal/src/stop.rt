@@ -10,7 +10,7 @@ use snap_core::policy::Test;
 use snap_ctx::context::{Context, Verdict};
 
 /// Why a question has no answer under a context.
-#[derive(Debug, Drop)]
+#[derive(Drop)]
 pub enum Stop {
     /// Some stores and packets that meet the context pass the test, and some don't.
     Split(Test),

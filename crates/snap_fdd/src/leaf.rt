@@ -10,7 +10,7 @@ use std::alloc::Global;
 use std::marker::Model;
 
 /// The ways out of a leaf.
-#[derive(Debug, Drop)]
+#[derive(Drop)]
 pub struct Outs {
     outs: Vec<Out>,
 }
@@ -45,7 +45,7 @@ impl Outs {
 }
 
 /// Updates, done in order.
-#[derive(Debug, Drop)]
+#[derive(Drop)]
 pub struct Updates {
     updates: Vec<Update>,
 }
@@ -80,7 +80,7 @@ impl Updates {
 }
 
 /// What a leaf does: its ways out, its updates, and the variables read and written, a bit each.
-#[derive(Debug, Drop)]
+#[derive(Drop)]
 pub struct Go {
     pub outs: Outs,
     pub ups: Updates,
@@ -89,7 +89,7 @@ pub struct Go {
 }
 
 /// A leaf.
-#[derive(Debug, Drop)]
+#[derive(Drop)]
 pub enum Leaf {
     /// Two parts race.
     Race,

@@ -23,7 +23,7 @@ use snap_ctx::context::{Assumed, Context};
 use snap_dep::groups::Groups;
 
 /// A diagram's test and ways, or nothing where it is a leaf.
-#[derive(Debug, Drop)]
+#[derive(Drop)]
 pub enum Part {
     Whole,
     Split { test: Test, yes: u64, no: u64 },
@@ -49,7 +49,7 @@ pub fn part_of(nodes: &Nodes<Leaf>, d: u64) -> Result<Part, NoMemory>
 
 /// What is looked up before pruning: what is tested at all, which numbers are of quiet diagrams, what
 /// each number's diagram tests, and which numbers are reached by several ways.
-#[derive(Debug, Drop)]
+#[derive(Drop)]
 pub struct Plan {
     pub survey: Survey,
     pub quiet: Vec<bool>,

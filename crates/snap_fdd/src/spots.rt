@@ -10,7 +10,7 @@ use snap_core::policy::{Atom, Term};
 use snap_ctx::sets::is_in;
 
 /// What a place is tested for.
-#[derive(Clone, Copy, Debug, PartialEq, Eq)]
+#[derive(Clone, Copy)]
 pub enum Asked {
     /// Numbers.
     Numbers,
@@ -19,7 +19,7 @@ pub enum Asked {
 }
 
 /// A place, and what it is tested for.
-#[derive(Debug, Drop)]
+#[derive(Drop)]
 pub struct Spot {
     pub index: Atoms,
     pub asked: Asked,

@@ -17,7 +17,7 @@ use snap_ctx::sets::is_in;
 use std::alloc::Global;
 
 /// At which places an array is tested.
-#[derive(Debug, Drop)]
+#[derive(Drop)]
 pub enum Seen {
     /// At these, each for numbers or for one term, and no two turn out to be one.
     Few(Vec<Spot>),
@@ -26,7 +26,7 @@ pub enum Seen {
 }
 
 /// The components that are tested for numbers, a bit each, and the places of each array.
-#[derive(Debug, Drop)]
+#[derive(Drop)]
 pub struct Survey {
     pub values: u64,
     pub arrays: Vec<Seen>,

@@ -18,7 +18,7 @@ use snap_ctx::ranges::know_test;
 use snap_ctx::sets::bit;
 
 /// Components and arrays, a bit each.
-#[derive(Clone, Copy, Debug)]
+#[derive(Clone, Copy)]
 pub struct Tested {
     pub comps: u64,
     pub arrays: u64,

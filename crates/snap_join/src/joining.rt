@@ -24,7 +24,7 @@ use snap_fdd::leaf::Leaf;
 use snap_fdd::pick::{ask, look, lower, side};
 
 /// How two diagrams begin: both are leaves, or a test comes first.
-#[derive(Debug, Drop)]
+#[derive(Drop)]
 pub enum Start {
     Leaves(Leaf),
     First(Test),

@@ -14,7 +14,7 @@ use snap_fdd::leaf::{Go, Leaf, Outs, Updates};
 use std::alloc::Global;
 
 /// How two leaves are combined.
-#[derive(Clone, Copy, Debug)]
+#[derive(Clone, Copy)]
 pub enum How {
     /// Side by side, or a race.
     Beside,

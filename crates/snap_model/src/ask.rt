@@ -12,7 +12,7 @@ use snap_ctx::context::{Assumed, Context};
 use std::alloc::Global;
 
 /// What is asked of a model: a component of its packet, or a place of its store.
-#[derive(Debug, Drop)]
+#[derive(Drop)]
 pub enum Ask {
     Component(u16),
     At(Place),

@@ -86,7 +86,7 @@ fn negated(alloc: Global, policy: Option<Pol>) -> Result<Option<Pol>, NameFault>
 }
 
 /// How predicates are joined.
-#[derive(Clone, Copy, Debug)]
+#[derive(Clone, Copy)]
 pub enum TestJoin {
     /// `&`
     Both,
@@ -95,7 +95,7 @@ pub enum TestJoin {
 }
 
 /// How policies are joined.
-#[derive(Clone, Copy, Debug)]
+#[derive(Clone, Copy)]
 pub enum PolicyJoin {
     /// `+`
     Beside,

@@ -13,7 +13,7 @@ use snap_parse::Span;
 use std::alloc::Global;
 
 /// What a name stands for. Arrays and `let` bodies are numbered in order of declaration.
-#[derive(Clone, Copy, Debug, PartialEq, Eq)]
+#[derive(Clone, Copy)]
 pub enum Sense {
     /// A plain field or a component
     Plain(u16),

@@ -4,14 +4,14 @@
 ghost use Rattle.std.specs.Prelude.{◌≡◌};
 
 /// Where a token's text begins, and where it ends.
-#[derive(Clone, Copy, Debug, PartialEq, Eq)]
+#[derive(Clone, Copy)]
 pub struct Span {
     pub from: u32,
     pub to: u32,
 }
 
 /// A number, an address or a truth value.
-#[derive(Clone, Copy, Debug, PartialEq, Eq)]
+#[derive(Clone, Copy)]
 pub enum Literal {
     Number(Span),
     Address(Span),
@@ -21,7 +21,7 @@ pub enum Literal {
 
 /// What a field or an array is compared with or set to, and what stands in a place: a literal, `address/length` or a
 /// name.
-#[derive(Clone, Copy, Debug, PartialEq, Eq)]
+#[derive(Clone, Copy)]
 pub enum Value {
     Literal(Literal),
     Prefix { address: Span, length: Span },

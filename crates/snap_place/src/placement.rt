@@ -9,7 +9,7 @@ use std::marker::Model;
 use thiserror::Error;
 
 /// The switch of each variable of a program.
-#[derive(Debug, Drop)]
+#[derive(Drop)]
 pub struct Placement {
     owners: Vec<u16>,
 }

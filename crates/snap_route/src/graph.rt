@@ -9,7 +9,7 @@ use std::alloc::Global;
 use std::marker::Model;
 
 /// The neighbours of a switch.
-#[derive(Debug, Drop)]
+#[derive(Drop)]
 pub(crate) struct Neighbours {
     switches: Vec<u16>,
 }

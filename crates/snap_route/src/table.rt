@@ -20,7 +20,7 @@ pub enum RouteFault {
 }
 
 /// The distances and next hops from each switch to one target.
-#[derive(Debug, Drop)]
+#[derive(Drop)]
 pub(crate) struct Toward {
     distances: Vec<u32>,
     nexts: Vec<u16>,
@@ -56,7 +56,7 @@ impl Toward {
 }
 
 /// The routes of a topology. Switches are given by number, below the count of switches.
-#[derive(Debug, Drop)]
+#[derive(Drop)]
 pub struct Routes {
     toward: Vec<Toward>,
     diameter: u32,

@@ -5,7 +5,7 @@ ghost use Rattle.std.specs.Prelude.{◌≡◌};
 use std::marker::Model;
 
 /// The number of each variable's switch.
-#[derive(Debug, Drop)]
+#[derive(Drop)]
 pub struct Owners {
     owners: Vec<u16>,
 }
@@ -35,7 +35,7 @@ impl Owners {
 }
 
 /// A placement and its cost, which is below 2^63.
-#[derive(Debug, Drop)]
+#[derive(Drop)]
 pub struct Best {
     pub cost: u64,
     pub owners: Owners,

@@ -13,7 +13,7 @@ use thiserror::Error;
 pub const MOST_DEMANDS: usize = 65_536;
 
 /// A flow from a port to a port, with its weight.
-#[derive(Clone, Copy, Debug, PartialEq, Eq)]
+#[derive(Clone, Copy)]
 pub struct Flow {
     pub from: u32,
     pub to: u32,
@@ -21,7 +21,7 @@ pub struct Flow {
 }
 
 /// Flows, in the order of a file.
-#[derive(Debug, Drop)]
+#[derive(Drop)]
 pub struct Flows {
     flows: Vec<Flow>,
 }
@@ -52,7 +52,7 @@ impl Flows {
 }
 
 /// Numbers of switches.
-#[derive(Debug, Drop)]
+#[derive(Drop)]
 pub struct Switches {
     numbers: Vec<u16>,
 }
@@ -82,7 +82,7 @@ impl Switches {
 }
 
 /// Switches for each variable of a program.
-#[derive(Debug, Drop)]
+#[derive(Drop)]
 pub struct Allowed {
     places: Vec<Switches>,
 }
@@ -113,7 +113,7 @@ impl Allowed {
 }
 
 /// What is to flow, and where the groups of a program may stand.
-#[derive(Debug, Drop)]
+#[derive(Drop)]
 pub struct Demand {
     pub flows: Flows,
     /// By variable: the numbers of the switches at which its group may stand, rising.

@@ -3,14 +3,14 @@
 use crate::demand::Flow;
 
 /// Switch names at which an array may stand.
-#[derive(Debug, Drop)]
+#[derive(Drop)]
 pub(crate) struct Entry {
     pub(crate) name: String,
     pub(crate) places: Vec<String>,
 }
 
 /// The flows as read, and the entries in byte order of the arrays' names.
-#[derive(Debug, Drop)]
+#[derive(Drop)]
 pub(crate) struct Listing {
     pub(crate) flows: Vec<Flow>,
     pub(crate) allowed: Vec<Entry>,

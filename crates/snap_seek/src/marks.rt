@@ -22,7 +22,7 @@ use std::alloc::Global;
 use std::marker::Model;
 
 /// For each switch whether an array may stand there.
-#[derive(Debug, Drop)]
+#[derive(Drop)]
 pub(crate) struct Marks {
     marks: Vec<bool>,
 }

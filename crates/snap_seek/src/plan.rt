@@ -15,14 +15,14 @@ use snap_route::table::Routes;
 use std::alloc::Global;
 
 /// The next switch from each switch, and what the way on from there costs.
-#[derive(Debug, Drop)]
+#[derive(Drop)]
 pub(crate) struct Stage {
     pub(crate) nexts: Switches,
     pub(crate) costs: Vec<u64>,
 }
 
 /// The next switch from each switch, rank by rank, and what the whole way on costs.
-#[derive(Debug, Drop)]
+#[derive(Drop)]
 pub(crate) struct Plan {
     pub(crate) nexts: Vec<Switches>,
     pub(crate) costs: Vec<u64>,

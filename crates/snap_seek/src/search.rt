@@ -20,7 +20,7 @@ use snap_topo::topology::Topology;
 use std::alloc::Global;
 
 /// The switch of each group, by rank, and what the placement costs.
-#[derive(Debug, Drop)]
+#[derive(Drop)]
 struct Stops {
     cost: u64,
     switches: Vec<u16>,

@@ -14,7 +14,7 @@ use snap_core::ports::PortAt;
 use std::alloc::Global;
 
 /// A flow from a switch to a switch, with its weight.
-#[derive(Clone, Copy, Debug)]
+#[derive(Clone, Copy)]
 pub(crate) struct Trip {
     pub(crate) from: u16,
     pub(crate) to: u16,
@@ -22,7 +22,7 @@ pub(crate) struct Trip {
 }
 
 /// Where a trip begins, or where it ends.
-#[derive(Clone, Copy, Debug)]
+#[derive(Clone, Copy)]
 pub(crate) enum End {
     From,
     To,

@@ -3,7 +3,7 @@
 use std::collections::BTreeMap;
 
 /// The names of the switches, the links as listed, and the ports by rising number.
-#[derive(Debug, Drop)]
+#[derive(Drop)]
 pub(crate) struct Listing {
     pub(crate) switches: Vec<String>,
     pub(crate) links: Vec<(String, String)>,

@@ -22,7 +22,7 @@ pub const MOST_PORTS: usize = 1024;
 ///
 /// What `read` gives is in form: the names are different switch names, each link stands once with the lesser number
 /// first, links and ports rise, all numbers of switches are below the count, and the limits hold.
-#[derive(Debug, Drop)]
+#[derive(Drop)]
 pub struct Topology {
     /// The names of the switches. A switch's number is the position of its name, from 0.
     pub switches: Names,

@@ -10,7 +10,7 @@ use snap_core::program::{Fields, Found};
 use std::alloc::Global;
 
 /// A packet as far as it is read, and the set of components that were named, a bit each.
-#[derive(Debug, Drop)]
+#[derive(Drop)]
 pub(crate) struct Draft {
     numbers: Vec<u64>,
     named: u64,

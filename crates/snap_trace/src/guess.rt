@@ -10,7 +10,7 @@ use crate::words::{is_mark, split_name};
 use snap_core::program::{Field, Fields, Found};
 
 /// A place in the list of fields, and the first component of the field that stands there.
-#[derive(Clone, Copy, Debug)]
+#[derive(Clone, Copy)]
 pub(crate) struct Guess {
     place: usize,
     comp: u16,

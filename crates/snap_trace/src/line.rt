@@ -16,7 +16,7 @@ use std::alloc::Global;
 use thiserror::Error;
 
 /// What a line of a packets file says.
-#[derive(Debug, Drop)]
+#[derive(Drop)]
 pub enum Line {
     /// Nothing: it has no words, or begins with `#`.
     Skip,

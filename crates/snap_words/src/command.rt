@@ -3,7 +3,7 @@
 use crate::count::Count;
 
 /// In which order `trace` runs packets. A file's name is text that is not empty and does not begin with `-`.
-#[derive(Clone, Copy, Debug, PartialEq, Eq)]
+#[derive(Clone, Copy)]
 pub enum Order<'a> {
     /// One packet after the other, each to its end.
     Plain,
@@ -18,7 +18,7 @@ pub enum Order<'a> {
 }
 
 /// A command and the files that it names. A name is text that is not empty and does not begin with `-`.
-#[derive(Clone, Copy, Debug, PartialEq, Eq)]
+#[derive(Clone, Copy)]
 pub enum Command<'a> {
     /// The report of one big switch: a program and its packets.
     Obs {

@@ -6,7 +6,7 @@ ghost use Rattle.snap_words.specs.Counts.{count_of};
 use itoa::Buffer;
 
 /// A number from 1 to 64: of switches, or of workers.
-#[derive(Clone, Copy, Debug, PartialEq, Eq)]
+#[derive(Clone, Copy)]
 pub struct Count {
     /// The number.
     pub value: u16,
