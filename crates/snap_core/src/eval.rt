@@ -13,7 +13,7 @@ ghost use Rattle.snap_core.specs.Packets.{AllLong, listed, no_packets, with_pack
 ghost use Rattle.snap_core.specs.Runs.{after_first, chosen, flown, meaning_with, set_after, set_in, within};
 
 use crate::NoMemory;
-use crate::atoms::{ShortIndex, put_index};
+use crate::atoms::{index_on, short_index};
 use crate::copies::Flow;
 use crate::lists::Atoms;
 use crate::outcome::{EvalFault, Outcome};
@@ -374,9 +374,11 @@ pub(crate) fn number_at(
     requires { IndexFits (length packet.now) index.now }
     ensures { IfOk result (λ number. number ≡ arrays_of store.now (place_at var index.now packet.now)) }
 {
-    let mut numbers = ShortIndex::new(alloc);
-    put_index(&mut numbers, index, packet)?;
-    Ok(store.get(var, numbers.as_slice()))
+    let number = match short_index(index, packet) {
+        Some(index) => store.get(var, index.as_slice()),
+        None => store.get(var, &index_on(alloc, index, packet)?),
+    };
+    Ok(number)
 }
 
 // The variables that stand in a predicate, a bit each.

@@ -10,7 +10,7 @@ ghost use Rattle.snap_core.specs.Listing.{IsListing, entry_of};
 
 use crate::NoMemory;
 use crate::array::Array;
-use crate::atoms::{ShortIndex, put_index};
+use crate::atoms::{index_on, short_index};
 use crate::changes::Changes;
 use crate::packet::Packet;
 use crate::patch::Patch;
@@ -136,10 +136,14 @@ impl Store {
         ensures ok { OnOk result (arrays_of self.new ≡ update (arrays_of self.old) change.now packet.now) }
         ensures err { OnErr result (arrays_of self.new ≡ arrays_of self.old) }
     {
-        let mut numbers = ShortIndex::new(self.alloc);
-        put_index(&mut numbers, &change.index, packet)?;
         let written = change.op.write(packet);
-        self.write(change.var, numbers.as_slice(), written)?;
+        match short_index(&change.index, packet) {
+            Some(index) => self.write(change.var, index.as_slice(), written)?,
+            None => {
+                let index = index_on(self.alloc, &change.index, packet)?;
+                self.write(change.var, &index, written)?
+            }
+        };
         Ok(())
     }
 
@@ -167,8 +171,7 @@ impl Store {
         let Some((first, rest)) = changes.split_first() else {
             return Ok(());
         };
-        let mut numbers = ShortIndex::new(self.alloc);
-        put_index(&mut numbers, &first.index, packet)?;
+        let numbers = index_on(self.alloc, &first.index, packet)?;
         let index = numbers.as_slice();
         let before = self.write(first.var, index, first.op.write(packet))?;
         if let Err(refused) = self.apply_few(packet, rest) {
