@@ -20,3 +20,4 @@ pub mod Declaring
 pub mod Resolving
 pub mod DeclaredFields
 pub mod Addresses
+pub mod Limited

@@ -9,6 +9,7 @@ use snap_core::policy::{Pol, Pred};
 use std::alloc::Global;
 
 /// An equal predicate.
+#[cycle(tests)]
 pub fn copy_test(alloc: Global, test: &Pred) -> Result<Pred, NameFault>
     ensures ok { IfOk result (λ copy. core_test copy ≡ core_test test.now) }
     ensures err { IfErr result (λ f. f ≡ NoMemory) }
@@ -28,28 +29,32 @@ pub fn copy_test(alloc: Global, test: &Pred) -> Result<Pred, NameFault>
                 value: *value,
             })
         }
-        Pred::Not(part) => {
-            let part = copy_test(alloc, part)?;
-            Ok(Pred::Not(Box::new(alloc, part)?))
-        }
+        Pred::Not(part) => Ok(Pred::Not(boxed_test(alloc, part)?)),
         Pred::And(left, right) => {
-            let left = copy_test(alloc, left)?;
-            let right = copy_test(alloc, right)?;
-            let left = Box::new(alloc, left)?;
-            let right = Box::new(alloc, right)?;
+            let left = boxed_test(alloc, left)?;
+            let right = boxed_test(alloc, right)?;
             Ok(Pred::And(left, right))
         }
         Pred::Or(left, right) => {
-            let left = copy_test(alloc, left)?;
-            let right = copy_test(alloc, right)?;
-            let left = Box::new(alloc, left)?;
-            let right = Box::new(alloc, right)?;
+            let left = boxed_test(alloc, left)?;
+            let right = boxed_test(alloc, right)?;
             Ok(Pred::Or(left, right))
         }
     }
 }
 
+// An equal predicate in a box of its own.
+#[cycle(tests)]
+fn boxed_test(alloc: Global, test: &Pred) -> Result<Box<Pred>, NameFault>
+    ensures ok { IfOk result (λ copy. core_test copy.value ≡ core_test test.now) }
+    ensures err { IfErr result (λ f. f ≡ NoMemory) }
+{
+    let copy = copy_test(alloc, test)?;
+    Ok(Box::new(alloc, copy)?)
+}
+
 /// An equal policy.
+#[cycle(policies)]
 pub fn copy_policy(alloc: Global, policy: &Pol) -> Result<Pol, NameFault>
     ensures ok { IfOk result (λ copy. core_policy copy ≡ core_policy policy.now) }
     ensures err { IfErr result (λ f. f ≡ NoMemory) }
@@ -68,30 +73,31 @@ pub fn copy_policy(alloc: Global, policy: &Pol) -> Result<Pol, NameFault>
             Ok(Pol::Change(update))
         }
         Pol::Par(left, right) => {
-            let left = copy_policy(alloc, left)?;
-            let right = copy_policy(alloc, right)?;
-            let left = Box::new(alloc, left)?;
-            let right = Box::new(alloc, right)?;
+            let left = boxed_policy(alloc, left)?;
+            let right = boxed_policy(alloc, right)?;
             Ok(Pol::Par(left, right))
         }
         Pol::Seq(first, second) => {
-            let first = copy_policy(alloc, first)?;
-            let second = copy_policy(alloc, second)?;
-            let first = Box::new(alloc, first)?;
-            let second = Box::new(alloc, second)?;
+            let first = boxed_policy(alloc, first)?;
+            let second = boxed_policy(alloc, second)?;
             Ok(Pol::Seq(first, second))
         }
         Pol::If(test, yes, no) => {
             let test = copy_test(alloc, test)?;
-            let yes = copy_policy(alloc, yes)?;
-            let no = copy_policy(alloc, no)?;
-            let yes = Box::new(alloc, yes)?;
-            let no = Box::new(alloc, no)?;
+            let yes = boxed_policy(alloc, yes)?;
+            let no = boxed_policy(alloc, no)?;
             Ok(Pol::If(test, yes, no))
         }
-        Pol::Atomic(part) => {
-            let part = copy_policy(alloc, part)?;
-            Ok(Pol::Atomic(Box::new(alloc, part)?))
-        }
+        Pol::Atomic(part) => Ok(Pol::Atomic(boxed_policy(alloc, part)?)),
     }
+}
+
+// An equal policy in a box of its own.
+#[cycle(policies)]
+fn boxed_policy(alloc: Global, policy: &Pol) -> Result<Box<Pol>, NameFault>
+    ensures ok { IfOk result (λ copy. core_policy copy.value ≡ core_policy policy.now) }
+    ensures err { IfErr result (λ f. f ≡ NoMemory) }
+{
+    let copy = copy_policy(alloc, policy)?;
+    Ok(Box::new(alloc, copy)?)
 }

@@ -3,7 +3,7 @@
 ghost use Rattle.std.specs.Prelude.{◌≡◌, ◌≢◌, ◌+◌, ◌≤◌, ℕ, Bool, true, Option, option_map, is_some, if◌then◌else◌, IfOk, IfErr, OnOk};
 ghost use Rattle.snap_names.specs.Core.{CoreTest, CorePolicy, is_filter, core_test, core_policy, nodes, filter, not_test, choice, atomic};
 ghost use Rattle.snap_names.specs.Declarations.{capped};
-ghost use Rattle.snap_names.specs.Parts.{IsPart, IsPartOf, filter_of, negated_core, test_join, policy_join, joined_tests, joined_policies, chosen_core};
+ghost use Rattle.snap_names.specs.Parts.{IsPart, IsPartOf, filter_of, negated_core, test_join, policy_join, joined_tests, joined_policies, chosen_policies, chosen_core};
 ghost use Rattle.snap_names.specs.Reading.{joined};
 ghost use Rattle.snap_names.specs.declared.fault.NameFault.TheVariants.{NoMemory};
 
@@ -72,6 +72,28 @@ fn test_of(policy: Option<Pol>) -> Option<Pred>
     }
 }
 
+// The predicate of a filter, in a box of its own.
+fn boxed_test(alloc: Global, policy: Option<Pol>) -> Result<Option<Box<Pred>>, NameFault>
+    ensures ok { IfOk result (λ r. option_map (λ test. core_test test.value) r ≡ filter_of (option_map core_policy policy)) }
+    ensures err { IfErr result (λ f. f ≡ NoMemory) }
+{
+    match test_of(policy) {
+        Some(test) => Ok(Some(Box::new(alloc, test)?)),
+        None => Ok(None),
+    }
+}
+
+// A policy in a box of its own.
+fn boxed(alloc: Global, policy: Option<Pol>) -> Result<Option<Box<Pol>>, NameFault>
+    ensures ok { IfOk result (λ r. option_map (λ policy. core_policy policy.value) r ≡ option_map core_policy policy) }
+    ensures err { IfErr result (λ f. f ≡ NoMemory) }
+{
+    match policy {
+        Some(policy) => Ok(Some(Box::new(alloc, policy)?)),
+        None => Ok(None),
+    }
+}
+
 fn negated(alloc: Global, policy: Option<Pol>) -> Result<Option<Pol>, NameFault>
     ensures ok { IfOk result (λ r. option_map core_policy r ≡ negated_core (option_map core_policy policy)) }
     ensures err { IfErr result (λ f. f ≡ NoMemory) }
@@ -104,25 +126,54 @@ pub enum PolicyJoin {
 }
 
 impl TestJoin {
-    fn of(self, left: Box<Pred>, right: Box<Pred>) -> Pred
-        ensures { core_test result ≡ test_join self (core_test left.value) (core_test right.value) }
+    // Two predicates joined, where both are there and there is room for them.
+    fn of(self, room: bool, left: Option<Box<Pred>>, right: Option<Box<Pred>>) -> Option<Pol>
+        ensures { room ≡ true → option_map core_policy result ≡ joined_tests (test_join self) (option_map (λ test. core_test test.value) left) (option_map (λ test. core_test test.value) right) }
     {
-        match self {
+        if !room {
+            return None;
+        }
+        let left = left?;
+        let right = right?;
+        Some(Pol::Filter(match self {
             TestJoin::Both => Pred::And(left, right),
             TestJoin::Either => Pred::Or(left, right),
-        }
+        }))
     }
 }
 
 impl PolicyJoin {
-    fn of(self, left: Box<Pol>, right: Box<Pol>) -> Pol
-        ensures { core_policy result ≡ policy_join self (core_policy left.value) (core_policy right.value) }
+    // Two policies joined, where both are there and there is room for them.
+    fn of(self, room: bool, left: Option<Box<Pol>>, right: Option<Box<Pol>>) -> Option<Pol>
+        ensures { room ≡ true → option_map core_policy result ≡ joined_policies (policy_join self) (option_map (λ policy. core_policy policy.value) left) (option_map (λ policy. core_policy policy.value) right) }
     {
-        match self {
+        if !room {
+            return None;
+        }
+        let left = left?;
+        let right = right?;
+        Some(match self {
             PolicyJoin::Beside => Pol::Par(left, right),
             PolicyJoin::Behind => Pol::Seq(left, right),
-        }
+        })
     }
+}
+
+// A choice, where all of it is there and there is room for it.
+fn branched(
+    room: bool,
+    test: Option<Pred>,
+    yes: Option<Box<Pol>>,
+    no: Option<Box<Pol>>,
+) -> Option<Pol>
+    ensures { room ≡ true → option_map core_policy result ≡ chosen_policies (option_map core_test test) (option_map (λ policy. core_policy policy.value) yes) (option_map (λ policy. core_policy policy.value) no) }
+{
+    if !room {
+        return None;
+    }
+    let yes = yes?;
+    let no = no?;
+    Some(Pol::If(test?, yes, no))
 }
 
 // Two predicates joined, where there is room for them.
@@ -136,18 +187,9 @@ fn joined_tests(
     ensures ok { IfOk result (λ r. room ≡ true → option_map core_policy r ≡ joined_tests (test_join join) (filter_of (option_map core_policy left)) (filter_of (option_map core_policy right))) }
     ensures err { IfErr result (λ f. f ≡ NoMemory) }
 {
-    if !room {
-        return Ok(None);
-    }
-    let Some(left) = test_of(left) else {
-        return Ok(None);
-    };
-    let Some(right) = test_of(right) else {
-        return Ok(None);
-    };
-    let left = Box::new(alloc, left)?;
-    let right = Box::new(alloc, right)?;
-    Ok(Some(Pol::Filter(join.of(left, right))))
+    let left = boxed_test(alloc, left);
+    let right = boxed_test(alloc, right);
+    Ok(join.of(room, left?, right?))
 }
 
 // Two policies joined, where there is room for them.
@@ -161,20 +203,12 @@ fn joined_policies(
     ensures ok { IfOk result (λ r. room ≡ true → option_map core_policy r ≡ joined_policies (policy_join join) (option_map core_policy left) (option_map core_policy right)) }
     ensures err { IfErr result (λ f. f ≡ NoMemory) }
 {
-    if !room {
-        return Ok(None);
-    }
-    let Some(left) = left else {
-        return Ok(None);
-    };
-    let Some(right) = right else {
-        return Ok(None);
-    };
-    let left = Box::new(alloc, left)?;
-    let right = Box::new(alloc, right)?;
-    Ok(Some(join.of(left, right)))
+    let left = boxed(alloc, left);
+    let right = boxed(alloc, right);
+    Ok(join.of(room, left?, right?))
 }
 
+// A choice, where there is room for it.
 fn chosen(
     alloc: Global,
     room: bool,
@@ -185,34 +219,19 @@ fn chosen(
     ensures ok { IfOk result (λ r. room ≡ true → option_map core_policy r ≡ chosen_core (option_map core_policy test) (option_map core_policy yes) (option_map core_policy no)) }
     ensures err { IfErr result (λ f. f ≡ NoMemory) }
 {
-    if !room {
-        return Ok(None);
-    }
-    let Some(test) = test_of(test) else {
-        return Ok(None);
-    };
-    let Some(yes) = yes else {
-        return Ok(None);
-    };
-    let Some(no) = no else {
-        return Ok(None);
-    };
-    let yes = Box::new(alloc, yes)?;
-    let no = Box::new(alloc, no)?;
-    Ok(Some(Pol::If(test, yes, no)))
+    let yes = boxed(alloc, yes);
+    let no = boxed(alloc, no);
+    let test = test_of(test);
+    Ok(branched(room, test, yes?, no?))
 }
 
+// A policy that is done as a whole.
 fn whole(alloc: Global, policy: Option<Pol>) -> Result<Option<Pol>, NameFault>
     ensures ok { IfOk result (λ r. option_map core_policy r ≡ option_map atomic (option_map core_policy policy)) }
     ensures err { IfErr result (λ f. f ≡ NoMemory) }
 {
-    match policy {
-        Some(policy) => {
-            let policy = Box::new(alloc, policy)?;
-            Ok(Some(Pol::Atomic(policy)))
-        }
-        None => Ok(None),
-    }
+    let policy = boxed(alloc, policy)?;
+    Ok(policy.map(Pol::Atomic))
 }
 
 /// `!part`

@@ -1,0 +1,24 @@
+-- A program of a scope within all limits.
+use Rattle.std.proofs.Common.{◌≡◌, ◌≤◌, ◌∙◌, IfOk, Result, Ok, Err, Some, None, Option, option_map, ap, sym}
+use Rattle.snap_core.specs.declared.program.Program.{Program}
+use Rattle.snap_names.specs.Core.{CorePolicy, core_policy}
+use Rattle.snap_names.specs.Declarations.{CoreProgram, core_program}
+use Rattle.snap_names.specs.Scopes.{IsWithin, Limits}
+use Rattle.snap_names.specs.declared.fault.NameFault.{NameFault}
+use Rattle.snap_names.specs.declared.scope.Part.{Part}
+use Rattle.snap_names.specs.declared.scope.Scope.{Scope}
+use Rattle.snap_names.specs.declared.scope.Tally.{Tally}
+
+abbrev policy_or : CorePolicy → Option CorePolicy → CorePolicy
+policy_or p None = p
+policy_or p (Some q) = q
+
+pub Limits-within : (s : Scope) (tally : Tally) (part : Part) (r : Result Program NameFault) → tally.nodes ≤ 2000 → IsWithin s tally part
+    → IfOk r (λ p. (p.fields ≡ s.fields.items) × (p.vars ≡ s.arrays.items) × (part.policy ≡ Some p.body))
+    → IfOk r (λ p. Limits s tally part (λ x. x ≡ Ok (core_program p)))
+Limits-within s tally part (Err f) few w h = tt
+Limits-within s tally part (Ok p) few w h = λ lets q n is.
+    w lets q n is
+    ∙ ap (λ b. Ok (record { fields = s.fields.items; vars = s.arrays.items; body = b })) (ap (policy_or q) (sym (is.built few) ∙ ap (option_map core_policy) h.2))
+    ∙ ap (λ v. Ok (record { fields = s.fields.items; vars = v; body = core_policy p.body })) (sym h.1)
+    ∙ ap (λ f. Ok (record { fields = f; vars = p.vars; body = core_policy p.body })) (sym h.0)
