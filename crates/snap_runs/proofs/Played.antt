@@ -1,5 +1,5 @@
 -- The run of a schedule to its end, and its report.
-use Rattle.std.proofs.Common.{◌≡◌, ◌≢◌, ◌⊎◌, inl, inr, ℕ, zero, suc, ◌+◌, ◌<◌, Bool, true, false, List, [], ◌∷◌, ◌++◌, Some, map, length, reverse, refl, sym, ap, subst, ◌∙◌, arith, append_assoc, append-nil}
+use Rattle.std.proofs.Common.{◌≡◌, ◌≢◌, ◌⊎◌, inl, inr, ℕ, zero, suc, ◌+◌, ◌<◌, Bool, true, false, List, [], ◌∷◌, ◌++◌, Some, Ok, map, length, reverse, refl, sym, ap, subst, ◌∙◌, arith, append_assoc, append-nil}
 use Rattle.std.specs.Prelude.{slice_get, IsPermutation}
 use Rattle.std.specs.List.{concat}
 use Rattle.std.proofs.lemmas.List.{length-append, length-map, length-reverse, reverse-append}
@@ -16,12 +16,16 @@ use Rattle.snap_runs.specs.declared.frames.Frames.TheVariants.{Plain}
 use Rattle.snap_runs.specs.declared.play.Play.{Play}
 use Rattle.snap_runs.specs.declared.ready.Ready.{Ready}
 use Rattle.snap_runs.specs.declared.tally.Tally.{Tally}
-use Rattle.snap_runs.specs.Playing.{HasDone, IsPlaying, Plays, PutsBlocks, SoFar, SoPut, left_in, packets_in}
+use Rattle.snap_runs.specs.Playing.{HasDone, HasRun, IsPlaying, Plays, PutsBlocks, SoFar, SoPut, left_in, packets_in}
 use Rattle.snap_runs.specs.Reports.{IsBlockBy, PutsEnd, array_names, lost_line, packet_line}
 use Rattle.snap_runs.specs.Schedules.{EndsEarly, IsScheduleReport, Obeys, Spells, nothing, skips, injects, steps, StopsAt, lines_of}
 use Rattle.snap_runs.specs.Tallies.{IsBlockText, IsTally}
 use Rattle.snap_runs.proofs.Blocks.{concat-push, in_pushed}
 use Rattle.snap_runs.proofs.Steps.{rests-shown}
+
+none-in : {A : Type 0} (xs : List A) → length xs ≡ 0 → xs ≡ []
+none-in [] e = refl
+none-in (x ∷ xs) e = absurd (omega (arith, e))
 
 pub playing-of : (t : Tables) (hops : Bool) (ks lines : List (List ℕ)) (v : Play) → Plays t hops ks lines v → IsPlaying v
 playing-of t hops ks lines v p = (ks, lines, subst (λ t'. Plays t' v.hops ks lines v) (sym p.tables) (subst (λ h. Plays t h ks lines v) (sym p.hops_same) p))
@@ -75,6 +79,10 @@ module _ (t : Tables) (hops : Bool) (ks : List (List ℕ)) where
       early-flying some = early (inr (λ none.
           let same : length v.net.flying ≡ 0 = ap length (sym s.plays.shows.flying ∙ ap (map flown) none) in
           omega (arith, some, same)))
+
+      -- nothing is left
+      pub run-through : length v.waiting.items ≡ 0 → length v.net.flying ≡ 0 → HasRun t hops ks lines v (Ok tt)
+      run-through none rests = (subst (λ l. Plays t hops ks l v) (sym all) s.plays, none-in v.waiting.items none, none-in v.net.flying rests)
 
 -- ---- blocks
 pub so_put-more : (fields : List Field) (ys left rest : List Tally) (y : Tally) (number : ℕ) (before mid after : List ℕ) → SoPut fields ys left number before mid → reverse left ≡ y ∷ reverse rest → IsBlockText fields (number + 1) y mid after

@@ -24,7 +24,7 @@ use Rattle.snap_trace.specs.declared.line.Line.{Line as Read_line}
 use Rattle.snap_trace.specs.declared.line.Line.TheVariants as read
 use Rattle.snap_trace.specs.Spelled.{ended, refused}
 use Rattle.snap_runs.specs.Plain.{spelled_for}
-use Rattle.snap_runs.specs.Schedules.{CantBeDone, EndsEarly, Obeys, StopsAt, lines_of, order_by}
+use Rattle.snap_runs.specs.Schedules.{CantBeDone, EndsEarly, IsReadWhole, Obeys, RefusesPackets, RefusesScheduleLine, StopsAt, lines_of, order_by}
 use Rattle.snap_runs.specs.Tallies.{IsBlockText, IsTally, Notes, number_of}
 
 -- the number of the packet whose copy steps
@@ -124,6 +124,15 @@ abbrev pub schedule_refusal : ReadRefusal → ScheduleFault
 schedule_refusal refusal.Failed = Read
 schedule_refusal refusal.TooLong = TooLong
 schedule_refusal refusal.NoMemory = NoMemory
+
+-- why there is no report of a packets file and a schedule
+abbrev pub Refuses : Tables → (file schedule : List ℕ) → ScheduleFault → Type 0
+Refuses t file schedule (Packets fault) = RefusesPackets t file fault
+Refuses t file schedule Read = IsReadWhole t file
+Refuses t file schedule TooLong = IsReadWhole t file × (67108864 < length schedule)
+Refuses t file schedule (Line line) = RefusesScheduleLine t file schedule line
+Refuses t file schedule NoMemory = Unit {0}
+Refuses t file schedule Write = ⊥
 
 -- the blocks of packets were put, one after another, as their tallies tell them
 pub record PutsBlocks (fields : List Field) (ys : List Tally) (before after : List ℕ) : Type 0 where

@@ -1,10 +1,10 @@
 //! A run of the network in the order of a schedule.
 
-ghost use Rattle.std.specs.Prelude.{◌≡◌, ◌≤◌, ◌<◌, ◌+◌, ◌^◌, ◌++◌, ◌∷◌, [], ℕ, List, Bool, Some, true, false, length, reverse, slice_get, IfOk, OnOk, IfSome, MatchOption};
+ghost use Rattle.std.specs.Prelude.{◌≡◌, ◌≤◌, ◌<◌, ◌+◌, ◌^◌, ◌++◌, ◌∷◌, [], ℕ, List, Bool, Some, true, false, length, reverse, slice_get, IfOk, OnOk, IfSome, MatchOption, MatchResult};
 ghost use Rattle.std.specs.List.{All};
 ghost use Rattle.snap_core.specs.Fields.{count};
 ghost use Rattle.snap_rows.specs.declared.tables.Tables.{Tables};
-ghost use Rattle.snap_runs.specs.Playing.{HasDone, HasObeyed, HasRun, HasStepped, IsFresh, IsLong, IsPlaying, IsReady, Plays, PutsBlocks, owner_by, packets_in};
+ghost use Rattle.snap_runs.specs.Playing.{HasDone, HasObeyed, HasRun, HasStepped, IsFresh, IsLong, IsPlaying, IsReady, Plays, PutsBlocks, Stops, owner_by, packets_in};
 ghost use Rattle.snap_net.specs.declared.flying.Flying.{Flying};
 ghost use Rattle.snap_runs.specs.Schedules.{IsScheduleReport, lines_of};
 ghost use Rattle.snap_runs.specs.Tallies.{bared};
@@ -58,9 +58,9 @@ impl Play {
         })
     }
 
-    /// Does the lines of a schedule, one after another. `Line` names the first that isn't in form or can't be done, or the
-    /// one behind the last where a packet or a copy is left.
-    pub(crate) fn run(&mut self, schedule: &[u8]) -> Result<(), ScheduleFault>
+    // Does the lines of a schedule, one after another. `Line` names the first that isn't in form or can't be done, or the
+    // one behind the last where a packet or a copy is left.
+    fn run(&mut self, schedule: &[u8]) -> Result<(), ScheduleFault>
         requires fresh { IsFresh self.old }
         requires injected { self.old.net.injected ≡ 0 }
         requires few { length schedule.now ≤ 67108864 }
@@ -85,23 +85,31 @@ impl Play {
         Ok(())
     }
 
-    /// The report of a run after which nothing is left.
-    pub(crate) fn report(self) -> Result<Vec<u8>, NoMemory>
-        requires playing { IsPlaying self }
-        requires few { self.net.injected ≤ 67108864 }
-        ensures { IfOk result (λ text. (t : Tables) (hops : Bool) (ks lines : List (List ℕ)) → Plays t hops ks lines self → self.waiting.items ≡ [] → self.net.flying ≡ []
+    /// Does the lines of a schedule, and gives the report of their run, after which nothing is left. `Line` is as `run` has it.
+    pub(crate) fn run_out(&mut self, schedule: &[u8]) -> Result<Vec<u8>, ScheduleFault>
+        requires fresh { IsFresh self.old }
+        requires injected { self.old.net.injected ≡ 0 }
+        requires few { length schedule.now ≤ 67108864 }
+        ensures { (t : Tables) (hops : Bool) (ks : List (List ℕ)) → Plays t hops ks [] self.old
+            → MatchResult result (λ text. IsScheduleReport t hops ks (lines_of schedule.now) text.items) (Stops t ks (lines_of schedule.now)) }
+    {
+        match self.run(schedule) {
+            Ok(()) => {}
+            Err(fault) => return Err(fault),
+        }
+        Ok(self.report()?)
+    }
+
+    // The report of a run after which nothing is left. It takes the tallies.
+    fn report(&mut self) -> Result<Vec<u8>, NoMemory>
+        requires playing { IsPlaying self.old }
+        requires few { self.old.net.injected ≤ 67108864 }
+        ensures { IfOk result (λ text. (t : Tables) (hops : Bool) (ks lines : List (List ℕ)) → Plays t hops ks lines self.old → self.old.waiting.items ≡ [] → self.old.net.flying ≡ []
             → IsScheduleReport t hops ks lines text.items) }
     {
-        let Play {
-            alloc,
-            net,
-            hops: _,
-            tallies,
-            waiting: _,
-        } = self;
-        let mut out = Vec::new(alloc);
-        put_blocks(&mut out, fields_of(&net), tallies)?;
-        put_end(&mut out, &net)?;
+        let mut out = Vec::new(self.alloc);
+        put_each(&mut out, fields_of(&self.net), &mut self.tallies)?;
+        put_end(&mut out, &self.net)?;
         Ok(out)
     }
 
@@ -163,14 +171,27 @@ impl Play {
 }
 
 /// Puts the blocks of packets, as their tallies tell them.
-pub fn put_blocks(out: &mut Vec<u8>, fields: &Fields, tallies: Vec<Tally>) -> Result<(), NoMemory>
+pub fn put_blocks(
+    out: &mut Vec<u8>,
+    fields: &Fields,
+    mut tallies: Vec<Tally>,
+) -> Result<(), NoMemory>
     requires long { (i : ℕ) (y : Tally) → slice_get tallies.items i ≡ Some y → IsLong (count fields.now) y }
     requires few { length tallies.items ≤ 67108864 }
     ensures { OnOk result (PutsBlocks fields.now tallies.items out.old.items out.new.items) }
 {
-    let mut tallies = turned(tallies);
+    put_each(out, fields, &mut tallies)
+}
+
+// The same, with the tallies taken out of where they are held.
+fn put_each(out: &mut Vec<u8>, fields: &Fields, tallies: &mut Vec<Tally>) -> Result<(), NoMemory>
+    requires long { (i : ℕ) (y : Tally) → slice_get tallies.old.items i ≡ Some y → IsLong (count fields.now) y }
+    requires few { length tallies.old.items ≤ 67108864 }
+    ensures { OnOk result (PutsBlocks fields.now tallies.old.items out.old.items out.new.items) }
+{
+    turn(tallies);
     let mut number = 0u64;
-    while let Some(mut tally) = next_tally(&mut tallies) {
+    while let Some(mut tally) = next_tally(tallies) {
         number += 1;
         tally.put_block(out, fields, number)?;
     }
@@ -245,12 +266,11 @@ pub fn reversed(mut packets: Vec<Ready>) -> Vec<Ready>
     packets
 }
 
-// The tallies with the first one last.
-fn turned(mut tallies: Vec<Tally>) -> Vec<Tally>
-    ensures { result.items ≡ reverse tallies.items }
+// Turns the tallies, so that the first one stands last.
+fn turn(tallies: &mut Vec<Tally>)
+    ensures { tallies.new.items ≡ reverse tallies.old.items }
 {
     tallies.reverse();
-    tallies
 }
 
 fn next_tally(tallies: &mut Vec<Tally>) -> Option<Tally>

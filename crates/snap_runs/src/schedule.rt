@@ -1,11 +1,11 @@
 //! The run of tables over a packets file, in the order of a schedule.
 
-ghost use Rattle.std.specs.Prelude.{◌≡◌, ◌≤◌, length, IfSome, IsErrOf, MatchResult};
+ghost use Rattle.std.specs.Prelude.{◌≡◌, ◌≤◌, length, IfOk, IfSome, IsErrOf, MatchResult};
 ghost use Rattle.snap_io.specs.Causes.{NoneFell, Rose};
 ghost use Rattle.snap_io.specs.Files.{file_of};
 ghost use Rattle.std.specs.List.{All};
-ghost use Rattle.snap_runs.specs.Playing.{IsReady, Stops, packets_in, schedule_refusal};
-ghost use Rattle.snap_runs.specs.Schedules.{IsScheduleReport, WritesSchedule, lines_of};
+ghost use Rattle.snap_runs.specs.Playing.{AreAll, IsReady, Refuses, Stops, packets_in, schedule_refusal};
+ghost use Rattle.snap_runs.specs.Schedules.{HasScheduleReport, IsScheduleReport, WritesSchedule, lines_of};
 ghost use Rattle.snap_runs.specs.declared.schedule.ScheduleFault.TheVariants as fault;
 
 use crate::play::Play;
@@ -44,6 +44,13 @@ pub enum ScheduleFault {
     /// Memory was refused.
     #[error("out of memory")]
     NoMemory,
+}
+
+// The packets of a run, and the text of the schedule that orders it.
+#[derive(Drop)]
+struct Orders {
+    packets: Vec<Ready>,
+    text: Vec<u8>,
 }
 
 impl From<NoMemory> for ScheduleFault {
@@ -93,17 +100,68 @@ pub fn scheduled<S: Shelf, K: Sink>(
     ensures later { NoneFell (S.faults shelf.old) (S.faults shelf.new) }
     ensures sink_later { K.faults sink.old ≤ K.faults sink.new }
 {
-    let ready = match read_packets(alloc, shelf, packets, &tables) {
-        Ok(ready) => ready,
-        Err(fault) => return Err(ScheduleFault::Packets { fault }),
+    let report = match report_of(alloc, shelf, packets, schedule, tables, hops) {
+        Ok(report) => report,
+        Err(fault) => return Err(fault),
     };
-    let text = match read_whole(alloc, shelf, schedule, MOST_BYTES) {
-        Ok(text) => text,
-        Err(refusal) => return Err(refused(refusal)),
-    };
-    let report = played(alloc, tables, hops, ready, &text)?;
     write_whole(sink, &report)?;
     Ok(())
+}
+
+// The report of the network with these tables, over the packets file and the schedule with these names.
+fn report_of<S: Shelf>(
+    alloc: Global,
+    shelf: &mut S,
+    packets: &[u8],
+    schedule: &[u8],
+    tables: Valid,
+    hops: bool,
+) -> Result<Vec<u8>, ScheduleFault>
+    ensures report { IfSome (S.files shelf.old) (λ files. MatchResult result
+        (λ text. HasScheduleReport tables hops (file_of files packets.now) (file_of files schedule.now) text.items)
+        (Refuses tables (file_of files packets.now) (file_of files schedule.now))) }
+    ensures no_write { IsErrOf result (ScheduleFault.Packets TraceFault.Write) → ⊥ }
+    ensures none_written { IsErrOf result ScheduleFault.Write → ⊥ }
+    ensures read_packets { IsErrOf result (ScheduleFault.Packets TraceFault.Read) → Rose (S.faults shelf.old packets.now) (S.faults shelf.new packets.now) }
+    ensures read { IsErrOf result ScheduleFault.Read → Rose (S.faults shelf.old schedule.now) (S.faults shelf.new schedule.now) }
+    ensures files { S.files shelf.new ≡ S.files shelf.old }
+    ensures later { NoneFell (S.faults shelf.old) (S.faults shelf.new) }
+{
+    let Orders { packets, text } = match read_both(alloc, shelf, packets, schedule, &tables) {
+        Ok(orders) => orders,
+        Err(fault) => return Err(fault),
+    };
+    played(alloc, tables, hops, packets, &text)
+}
+
+// The packets of the file and the text of the schedule with these names, the packets read first.
+fn read_both<S: Shelf>(
+    alloc: Global,
+    shelf: &mut S,
+    packets: &[u8],
+    schedule: &[u8],
+    tables: &Valid,
+) -> Result<Orders, ScheduleFault>
+    ensures both { IfSome (S.files shelf.old) (λ files. MatchResult result
+        (λ orders. AreAll tables.now (file_of files packets.now) orders.packets.items × (orders.text.items ≡ file_of files schedule.now))
+        (Refuses tables.now (file_of files packets.now) (file_of files schedule.now))) }
+    ensures ready { IfOk result (λ orders. All (IsReady tables.now) orders.packets.items) }
+    ensures few { IfOk result (λ orders. length orders.text.items ≤ 67108864) }
+    ensures no_write { IsErrOf result (ScheduleFault.Packets TraceFault.Write) → ⊥ }
+    ensures none_written { IsErrOf result ScheduleFault.Write → ⊥ }
+    ensures read_packets { IsErrOf result (ScheduleFault.Packets TraceFault.Read) → Rose (S.faults shelf.old packets.now) (S.faults shelf.new packets.now) }
+    ensures read { IsErrOf result ScheduleFault.Read → Rose (S.faults shelf.old schedule.now) (S.faults shelf.new schedule.now) }
+    ensures files { S.files shelf.new ≡ S.files shelf.old }
+    ensures later { NoneFell (S.faults shelf.old) (S.faults shelf.new) }
+{
+    let packets = match read_packets(alloc, shelf, packets, tables) {
+        Ok(packets) => packets,
+        Err(fault) => return Err(ScheduleFault::Packets { fault }),
+    };
+    match read_whole(alloc, shelf, schedule, MOST_BYTES) {
+        Ok(text) => Ok(Orders { packets, text }),
+        Err(refusal) => Err(refused(refusal)),
+    }
 }
 
 /// Why the schedule isn't read.
@@ -130,7 +188,5 @@ fn played(
     ensures { MatchResult result (λ text. IsScheduleReport tables hops (packets_in packets.items) (lines_of schedule.now) text.items) (Stops tables (packets_in packets.items) (lines_of schedule.now)) }
 {
     let mut play = Play::new(alloc, tables, hops, packets)?;
-    play.run(schedule)?;
-    let report = play.report()?;
-    Ok(report)
+    play.run_out(schedule)
 }

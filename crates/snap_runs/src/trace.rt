@@ -6,7 +6,6 @@ ghost use Rattle.snap_io.specs.Files.{file_of};
 ghost use Rattle.snap_runs.specs.Plain.{WritesTrace, WritesTraceBy};
 
 use crate::frames::Frames;
-use crate::packets::PacketLines;
 use crate::tracer::Tracer;
 use snap_io::{Shelf, Sink};
 use snap_rows::valid::Valid;
@@ -64,8 +63,6 @@ pub fn trace_by<S: Shelf, K: Sink>(
     ensures later { NoneFell (S.faults shelf.old) (S.faults shelf.new) }
     ensures sink_later { K.faults sink.old ≤ K.faults sink.new }
 {
-    let mut reader = PacketLines::new(alloc, packets)?;
     let mut tracer = Tracer::new(alloc, tables, hops, frames)?;
-    let ended = tracer.run(shelf, &mut reader, sink);
-    tracer.close(sink, ended)
+    tracer.trace(shelf, packets, sink)
 }

@@ -67,8 +67,31 @@ impl Tracer {
         })
     }
 
-    /// Takes the lines of a packets file, one after another, and puts the end of the report where all were taken.
-    pub(crate) fn run<S: Shelf, K: Sink>(
+    /// Takes the lines of the packets file with this name, one after another, and writes the report as it comes.
+    pub(crate) fn trace<S: Shelf, K: Sink>(
+        &mut self,
+        shelf: &mut S,
+        packets: &[u8],
+        sink: &mut K,
+    ) -> Result<(), TraceFault>
+        requires start { Shows self.old.net (start self.old.net.tables zero_arrays) }
+        requires injected { self.old.net.injected ≡ 0 }
+        requires text { self.old.text.items ≡ [] }
+        ensures report { IfSome (S.files shelf.old) (λ files.
+            WritesTraceBy self.old.frames self.old.net.tables self.old.hops (file_of files packets.now) result (K.taken sink.old) (K.taken sink.new)) }
+        ensures read { IsErrOf result TraceFault.Read → Rose (S.faults shelf.old packets.now) (S.faults shelf.new packets.now) }
+        ensures write { IsErrOf result TraceFault.Write → Rose (K.faults sink.old) (K.faults sink.new) }
+        ensures files { S.files shelf.new ≡ S.files shelf.old }
+        ensures later { NoneFell (S.faults shelf.old) (S.faults shelf.new) }
+        ensures sink_later { K.faults sink.old ≤ K.faults sink.new }
+    {
+        let mut reader = PacketLines::new(self.alloc, packets)?;
+        let ended = self.run(shelf, &mut reader, sink);
+        self.close(sink, ended)
+    }
+
+    // Takes the lines of a packets file, one after another, and puts the end of the report where all were taken.
+    fn run<S: Shelf, K: Sink>(
         &mut self,
         shelf: &mut S,
         reader: &mut PacketLines,
@@ -179,9 +202,7 @@ impl Tracer {
         ensures hops { self.new.hops ≡ self.old.hops }
         ensures frames { self.new.frames ≡ self.old.frames }
     {
-        let entries = self.net.entries()?;
-        let injected = self.net.injected();
-        self.net = reopen(self.alloc, tables, &entries, injected)?;
+        self.net = reopened(self.alloc, &self.net, tables)?;
         Ok(())
     }
 
@@ -227,8 +248,8 @@ impl Tracer {
         Ok(())
     }
 
-    /// Writes what waits, unless a device failed or memory was short.
-    pub(crate) fn close<K: Sink>(
+    // Writes what waits, unless a device failed or memory was short.
+    fn close<K: Sink>(
         &mut self,
         sink: &mut K,
         ended: Result<(), TraceFault>,
@@ -247,6 +268,17 @@ impl Tracer {
             Err(_) => Err(TraceFault::Write),
         }
     }
+}
+
+// A network with these tables, and with the same number of packets taken and the same whole store as this one.
+fn reopened(alloc: Global, net: &Net, tables: Valid) -> Result<Net, NoMemory>
+    requires { array_count tables ≡ array_count net.now.tables }
+    ensures tables { IfOk result (λ new. new.tables ≡ tables) }
+    ensures changed { IfOk result (λ new. (s : State) → Shows net.now s → Shows new (changed tables net.now.tables s)) }
+    ensures injected { IfOk result (λ new. new.injected ≡ net.now.injected) }
+{
+    let entries = net.entries()?;
+    reopen(alloc, tables, &entries, net.injected())
 }
 
 pub(crate) fn fields_of(net: &Net) -> &Fields

@@ -1,25 +1,14 @@
 use Rattle.std.proofs.Common.{Err, subst, sym}
 use Rattle.std.proofs.lemmas.Result.{err_from_is_err_and}
 use Rattle.snap_io.specs.Files.{file_of}
-use Rattle.snap_io.specs.LineReaders.{lines_name}
 use Rattle.snap_runs.specs.Plain.{WritesTraceBy}
-use Rattle.snap_runs.specs.Tracing.{Closes}
 use Rattle.snap_trace.proofs.StepLemmas.{where_told, whatever_told}
 use Rattle.snap_runs.proofs.Closing.{writes-nothing}
 use Rattle.snap_runs.proofs.trace.trace_by.Goals as goal
 
-pub returns-in_err-reader-clause-report : goal.returns-in_err-reader-clause-report
-returns-in_err-reader-clause-report g c =
-    let out = err_from_is_err_and c.from_residual.result c.from_residual.ensures.1 in
-    whatever_told (g.S.Shelf.files c.args.shelf.now) _ (λ files.
-    let file = file_of files c.args.packets.now in
-    let start = g.K.Sink.taken c.args.sink.now in
-    subst (λ r. WritesTraceBy c.args.frames c.args.tables c.args.hops file r start start) (sym out.1)
-    (subst (λ e. WritesTraceBy c.args.frames c.args.tables c.args.hops file (Err e) start start) (sym out.2) (writes-nothing c.args.frames c.args.tables c.args.hops file start)))
-
 pub returns-in_err-tracer-clause-report : goal.returns-in_err-tracer-clause-report
 returns-in_err-tracer-clause-report g c =
-    let out = err_from_is_err_and c.from_residual-in_err-tracer.result c.from_residual-in_err-tracer.ensures.1 in
+    let out = err_from_is_err_and c.from_residual.result c.from_residual.ensures.1 in
     whatever_told (g.S.Shelf.files c.args.shelf.now) _ (λ files.
     let file = file_of files c.args.packets.now in
     let start = g.K.Sink.taken c.args.sink.now in
@@ -32,15 +21,12 @@ returns-clause-report g c =
     let hops = c.args.hops in
     let f = c.args.frames in
     let v = c.in_ok-tracer.tracer in
-    let name = lines_name c.in_ok-reader.reader.lines in
     let start = g.K.Sink.taken c.args.sink.now in
-    let ended = c.run-ended.result in
-    let now = g.K.Sink.taken c.run-ended.new.sink in
-    let text = c.run-ended.new.self.text.items in
-    where_told (g.S.Shelf.files c.args.shelf.now) _ _ (λ files closes.
-    c.close.ensures.report f t hops (file_of files c.args.packets.now) start
-    (subst (λ n. Closes f t hops (file_of files n) ended start now text) c.in_ok-reader.ensures.name
-    (subst (λ h. Closes f t h (file_of files name) ended start now text) c.in_ok-tracer.ensures.hops
-    (subst (λ k. Closes k t v.hops (file_of files name) ended start now text) c.in_ok-tracer.ensures.frames
-    (subst (λ x. Closes v.frames x v.hops (file_of files name) ended start now text) c.in_ok-tracer.ensures.tables closes)))))
-    c.run-ended.ensures.closes
+    let ended = c.trace.result in
+    let now = g.K.Sink.taken c.trace.new.sink in
+    where_told (g.S.Shelf.files c.args.shelf.now) _ _ (λ files writes.
+    let file = file_of files c.args.packets.now in
+    subst (λ h. WritesTraceBy f t h file ended start now) c.in_ok-tracer.ensures.hops
+    (subst (λ k. WritesTraceBy k t v.hops file ended start now) c.in_ok-tracer.ensures.frames
+    (subst (λ x. WritesTraceBy v.frames x v.hops file ended start now) c.in_ok-tracer.ensures.tables writes)))
+    c.trace.ensures.report

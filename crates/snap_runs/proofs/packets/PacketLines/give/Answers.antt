@@ -4,7 +4,7 @@ use Rattle.snap_io.specs.Files.{file_of}
 use Rattle.snap_io.specs.LineReaders.{lines_name}
 use Rattle.snap_trace.specs.PacketLines.{said_by}
 use Rattle.snap_trace.specs.Shown.{Says}
-use Rattle.snap_trace.proofs.StepLemmas.{where_told}
+use Rattle.snap_trace.proofs.StepLemmas.{where_told, whatever_told}
 use Rattle.snap_runs.specs.Reading.{GivesNext, ReadsNext, next_for}
 use Rattle.snap_runs.proofs.Readers.{gives-bad, gives-fault, gives-said}
 use Rattle.snap_runs.proofs.packets.PacketLines.give.Goals as goal
@@ -47,3 +47,9 @@ returns-in-Err-Bad-clause-next g c =
     let is = subst (λ e. Says (said_by c.args.fields.now c.line.result.now) (Err e)) c.in-Err-Bad.field-0-is c.in-Err-Bad.ensures.said in
     gives-bad c.args.fields.now v.read next new c.line.result.now c.line.ensures.line (c.in_ok-next_text.ensures.more c.if-not-branch.false) read is)
     c.in_ok-next_text.ensures.reads
+
+pub returns-in-Err-NoMemory-clause-next : goal.returns-in-Err-NoMemory-clause-next
+returns-in-Err-NoMemory-clause-next g c = whatever_told (g.S.Shelf.files c.args.shelf.now) _ (λ files. tt)
+
+pub returns-in-Ok-clause-goes_on : goal.returns-in-Ok-clause-goes_on
+returns-in-Ok-clause-goes_on g c = (c.in_ok-next_text.ensures.more c.if-not-branch.false, c.next_text.new.self.few)

@@ -2,7 +2,7 @@ use Rattle.std.proofs.Common.{◌≡◌, ◌<◌, [], None, inl, inr, length, ar
 use Rattle.std.proofs.lemmas.Option.{MatchOption-at_none}
 use Rattle.snap_runs.specs.Playing.{HasDone}
 use Rattle.snap_runs.specs.Schedules.{lines_of}
-use Rattle.snap_runs.proofs.Played.{early-flying, early-waiting, playing-of, so_far-more, stops-at}
+use Rattle.snap_runs.proofs.Played.{early-flying, early-waiting, playing-of, run-through, so_far-more, stops-at}
 use Rattle.snap_runs.proofs.play.Play.run.Goals as goal
 
 pub obey-requires-clause-playing : goal.obey-requires-clause-playing
@@ -52,3 +52,14 @@ returns-then-flying-gt0-clause-ran c = λ t hops ks p.
     let test = c.if-flying-gt0.true in
     let some : 0 < length l.self.net.flying = omega (arith, count, test) in
     inr (early-flying t hops ks (lines_of c.args.schedule.now) l.rest.now l.number l.self (l.invariant.so_far t hops ks p) end some)
+
+pub returns-clause-ran : goal.returns-clause-ran
+returns-clause-ran c = λ t hops ks p.
+    let l = c.loop-line in
+    let none : c.next_line.result ≡ None = first_of (cc, search rules) in
+    let end : lines_of l.rest.now ≡ [] = MatchOption-at_none _ _ none c.next_line.ensures.line in
+    let count = c.left.ensures in
+    let held = c.flying.ensures.held in
+    let no_packet = c.if-left-gt0.false in
+    let no_copy = c.if-flying-gt0.false in
+    run-through t hops ks (lines_of c.args.schedule.now) l.rest.now l.number l.self (l.invariant.so_far t hops ks p) end (omega (arith, count, no_packet)) (omega (arith, held, no_copy))

@@ -1,6 +1,6 @@
 use Rattle.std.proofs.Common.{◌≡◌, ◌+◌, length}
 use Rattle.snap_runs.specs.Playing.{SoPut}
-use Rattle.snap_runs.proofs.play.put_blocks.Given as goal
+use Rattle.snap_runs.proofs.play.put_each.Given as goal
 
 abbrev pub invariant-loop-tally : goal.invariant-loop-tally
 invariant-loop-tally l = record {
