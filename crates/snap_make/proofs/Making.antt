@@ -28,8 +28,9 @@ use Rattle.snap_make.specs.Framed.{IsFrame}
 use Rattle.snap_make.specs.Fronts.{AreMarked}
 use Rattle.snap_make.specs.Known.{IsKnown}
 use Rattle.snap_make.specs.Pairs.{at_switches, row_entry}
-use Rattle.snap_make.specs.Shares.{body_of, share_entry, shown}
+use Rattle.snap_make.specs.Shares.{AreRows, body_of, share_entry, shown}
 use Rattle.snap_make.specs.Sites.{planned}
+use Rattle.snap_make.specs.Tidy.{IsTidy}
 use Rattle.snap_make.proofs.Given.{IsReady, ranks_below, ready}
 use Rattle.snap_make.proofs.Made.{made_with}
 use Rattle.snap_make.proofs.Sharing.{planned_are}
@@ -59,3 +60,11 @@ module _ (p : Program) (t : Topology) (places : List ℕ) (routes : Table) (g : 
   shared_made known ns root ids numbers marks n bodies shares arena tidies num wide marked frame are shown_are =
       all_made known ns root ids numbers marks n (map (row_shared bodies) shares) arena tidies num marked frame
       (planned_are ns ids numbers (record { root = root; numbering = num; wide = wide }) bodies are n marks (length n.switches) shares shown_are)
+
+-- and so are the rows of a tidied diagram
+pub rows_made : (p : Program) (t : Topology) (places : List ℕ) (routes : Table) (g : Grouping) (ns : List (Node Leaf)) (root : ℕ)
+    → programs.IsInForm p → PutsSmall p.body → IsGrouping p.body (length p.vars) g → topo.IsInForm t → AreRoutes t routes → GivesSwitches p t places → IsTidy p g ns root
+    → (n : Tables) (bodies : List Row) (shares : List RowShare) → IsFrame p t places routes g.ranks n → IsArena ns → AreRows n ns root bodies shares → Faithful p t places (shared n bodies shares)
+rows_made p t places routes g ns root form small groups topology paths switches tidy n bodies shares frame arena rows =
+    shared_made p t places routes g tidy.old tidy.old_root form small groups tidy.whole topology paths switches tidy.known ns root rows.ids rows.numbers rows.shares_are.marks n bodies shares
+    arena tidy.tidies rows.numbering rows.wide rows.shares_are.marked frame rows.bodies_are rows.shares_are.are

@@ -11,8 +11,24 @@ use Rattle.snap_rows.specs.declared.tables.Tables.{Tables}
 use Rattle.snap_rows.specs.Entries.{rank_of, ranks, var_of}
 use Rattle.snap_gen.specs.Planned.{has_port, stop_at, row_for}
 use Rattle.snap_make.specs.declared.sites.Site.{Site}
-use Rattle.snap_make.specs.Pairs.{Entry, one_entry, at_switch}
+use Rattle.snap_make.specs.Pairs.{Entry, one_entry, at_switch, at_switches}
 use Rattle.snap_make.specs.Sites.{IsSite, is_within, is_visited, has_leaves}
+
+-- entries of a switch, and those of one more number
+pub at_switch_more : {X : Type 0} (g : ℕ → Option X) (old before after : List (Entry X)) (w n : ℕ) → before ≡ old ++ at_switch g w n → after ≡ before ++ one_entry w n (g n) → after ≡ old ++ at_switch g w (n + 1)
+at_switch_more g old before after w n so_far pushed =
+    pushed ∙ (λ i. so_far i ++ one_entry w n (g n)) ∙ append_assoc old (at_switch g w n) (one_entry w n (g n)) ∙ ap (λ k. old ++ at_switch g w k) one_more
+  where
+    one_more : suc n ≡ n + 1
+    one_more = omega arith
+
+-- entries of switches, and those of one more switch
+pub at_switches_more : {X : Type 0} (g : ℕ → ℕ → Option X) (before after : List (Entry X)) (at w n : ℕ) → at ≡ w → before ≡ at_switches g w n → after ≡ before ++ at_switch (g at) at n → after ≡ at_switches g (w + 1) n
+at_switches_more g before after at w n same so_far pushed =
+    pushed ∙ (λ i. so_far i ++ at_switch (g (same i)) (same i) n) ∙ ap (λ k. at_switches g k n) one_more
+  where
+    one_more : suc w ≡ w + 1
+    one_more = omega arith
 
 module _ {Y : Type 0} (f : Y → Entry Row) (rows old : List Y) (g : ℕ → Option Row) (w n : ℕ) (so_far : map f rows ≡ map f old ++ at_switch g w n) where
   one_later : (es : List (Entry Row)) → one_entry w n (g n) ≡ es → map f rows ++ es ≡ map f old ++ at_switch g w (n + 1)

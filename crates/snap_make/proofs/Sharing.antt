@@ -20,7 +20,7 @@ use Rattle.snap_gen.specs.Planned.{row_for}
 use Rattle.snap_gen.specs.Shown.{row_of}
 use Rattle.snap_make.specs.Fronts.{IsNumbered}
 use Rattle.snap_make.specs.Pairs.{at_switches, row_entry}
-use Rattle.snap_make.specs.Shares.{as_row, body_of, share_entry, shown}
+use Rattle.snap_make.specs.Shares.{AreRows, as_row, body_of, share_entry, shown}
 use Rattle.snap_make.specs.Sites.{planned}
 use Rattle.snap_make.proofs.Entries.{Planned, all_planned, each_at, Each}
 use Rattle.snap_make.proofs.Marking.{node_is}
@@ -83,3 +83,8 @@ module _ (ns : List (Node Leaf)) (ids numbers : List ℕ) (num : IsNumbered ns i
           (each_at (share_entry bodies) (Planned (shown t bodies marks) (length bodies) many) shares i (get_or shares i d)
           (subst (Each (Planned (shown t bodies marks) (length bodies) many)) (sym shown_are) (all_planned (shown t bodies marks) (length bodies) many))
           (slice_get-get_or shares i d l)).1
+
+-- the numbers of a diagram's rows are those of its bodies
+pub rows_low : (t : Tables) (ns : List (Node Leaf)) (root : ℕ) (bodies : List Row) (shares : List RowShare) → AreRows t ns root bodies shares → All (λ (s : RowShare). s.number < length bodies) shares
+rows_low t ns root bodies shares rows =
+    numbers_low ns rows.ids rows.numbers (record { root = root; numbering = rows.numbering; wide = rows.wide }) bodies rows.bodies_are t rows.shares_are.marks (length t.switches) shares rows.shares_are.are

@@ -4,3 +4,4 @@ pub mod Known
 pub mod Pairs
 pub mod Sites
 pub mod Shares
+pub mod Tidy

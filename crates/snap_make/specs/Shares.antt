@@ -1,5 +1,6 @@
 -- The rows of switches, as they share the bodies of their numbers.
-use Rattle.std.specs.Prelude.{ℕ, Bool, false, Option, List, slice_get, slice_index, slice_index_or, unwrap_or}
+use Rattle.std.specs.Prelude.{◌≡◌, ℕ, Bool, false, Option, List, length, map, slice_get, slice_index, slice_index_or, unwrap_or}
+use Rattle.std.specs.List.{range_with_len}
 use Rattle.snap_arena.specs.declared.node.Node.{Node}
 use Rattle.snap_fdd.specs.declared.leaf.Leaf.{Leaf}
 use Rattle.snap_rows.specs.declared.tables.Row.{Row}
@@ -11,7 +12,9 @@ use Rattle.snap_tables.specs.declared.shared.Share.{Share}
 use Rattle.snap_tables.specs.declared.shared.Share.TheVariants as share
 use Rattle.snap_gen.specs.Generated.{numbered_nodes}
 use Rattle.snap_gen.specs.Planned.{row_for}
-use Rattle.snap_make.specs.Pairs.{Entry, row_entry}
+use Rattle.snap_gen.specs.Shown.{IsNumbering}
+use Rattle.snap_make.specs.Fronts.{AreMarked}
+use Rattle.snap_make.specs.Pairs.{Entry, at_switches, row_entry}
 
 -- the row of a number's node
 abbrev pub body_of : List (Node Leaf) → List ℕ → List ℕ → ℕ → Row
@@ -27,3 +30,18 @@ share_entry bodies s = row_entry (row_shared bodies s)
 -- the row of a switch and number
 abbrev pub shown : Tables → List Row → List Bool → ℕ → ℕ → Option Row
 shown t bodies marks w n = row_for t w (slice_index_or marks n false) (slice_get bodies n)
+
+-- the rows of all switches, for some marks of the numbers to which field rows lead
+pub record AreShares (t : Tables) (ns : List (Node Leaf)) (ids numbers : List ℕ) (bodies : List Row) (shares : List RowShare) : Type 0 where
+  pub marks : List Bool
+  pub marked : AreMarked (numbered_nodes ns ids (slice_index numbers)) (length ids) (length ids) marks
+  pub are : map (share_entry bodies) shares ≡ at_switches (shown t bodies marks) (length t.switches) (length bodies)
+
+-- the bodies and the rows of some numbers of a root's nodes
+pub record AreRows (t : Tables) (ns : List (Node Leaf)) (root : ℕ) (bodies : List Row) (shares : List RowShare) : Type 0 where
+  pub ids : List ℕ
+  pub numbers : List ℕ
+  pub numbering : IsNumbering ns root ids (slice_index numbers)
+  pub wide : length numbers ≡ length ns
+  pub bodies_are : bodies ≡ map (body_of ns ids numbers) (range_with_len 0 (length ids))
+  pub shares_are : AreShares t ns ids numbers bodies shares

@@ -3,12 +3,12 @@
 ghost use Rattle.std.specs.Prelude.{◌≡◌, ◌≤◌, ◌<◌, ◌++◌, IfOk, OnOk, length, map};
 ghost use Rattle.snap_route.specs.Tables.{switch_count};
 ghost use Rattle.snap_make.specs.Framed.{AreArrays, IsFrame};
-ghost use Rattle.snap_make.specs.Pairs.{at_switch, at_switches, hop_entry, hop_for};
+ghost use Rattle.snap_make.specs.Pairs.{at_switch, at_switches, hop_entry, hop_for, one_entry};
 
 use snap_core::NoMemory;
 use snap_core::lists::{Name, Names};
 use snap_core::ports::{Links, Ports};
-use snap_core::program::Program;
+use snap_core::program::{Fields, Program};
 use snap_dep::groups::Groups;
 use snap_place::placement::Placement;
 use snap_route::table::Routes;
@@ -50,6 +50,23 @@ fn arrays(
     Ok(arrays)
 }
 
+// Adds the next hop from a switch towards a target, if that is another switch.
+fn push_hop(hops: &mut Vec<Hop>, routes: &Routes, from: u16, target: usize) -> Result<(), NoMemory>
+    requires from { from < switch_count routes.now }
+    requires target { target < switch_count routes.now }
+    requires few { target < 256 }
+    ensures { OnOk result (map hop_entry hops.new.items ≡ map hop_entry hops.old.items ++ one_entry from target (hop_for routes.now from target)) }
+{
+    if from as usize == target {
+        return Ok(());
+    }
+    Ok(hops.push(Hop {
+        from,
+        target: target as u16,
+        next: routes.next(from, target as u16),
+    })?)
+}
+
 // Adds the next hops of a switch.
 fn push_hops(
     hops: &mut Vec<Hop>,
@@ -63,13 +80,7 @@ fn push_hops(
     ensures { OnOk result (map hop_entry hops.new.items ≡ map hop_entry hops.old.items ++ at_switch (hop_for routes.now from) from switches) }
 {
     for target in 0..switches {
-        if from as usize != target {
-            hops.push(Hop {
-                from,
-                target: target as u16,
-                next: routes.next(from, target as u16),
-            })?;
-        }
+        push_hop(hops, routes, from, target)?;
     }
     Ok(())
 }
@@ -85,6 +96,44 @@ fn hops(alloc: Global, routes: &Routes, switches: usize) -> Result<Vec<Hop>, NoM
         push_hops(&mut hops, routes, from as u16, switches)?;
     }
     Ok(hops)
+}
+
+// The links and ports of a topology.
+fn borders(alloc: Global, topology: &Topology) -> Result<(Links, Ports), NoMemory>
+    ensures { IfOk result (λ r. (r.0 ≡ topology.now.links) × (r.1 ≡ topology.now.ports)) }
+{
+    let links = Links::new(Vec::from_slice(alloc, topology.links.items())?);
+    let ports = Ports::new(Vec::from_slice(alloc, topology.ports.items())?);
+    Ok((links, ports))
+}
+
+// The switches of a topology, and the next hops between them.
+fn switches(alloc: Global, topology: &Topology, routes: &Routes) -> Result<(Names, Hops), NoMemory>
+    requires count { switch_count routes.now ≡ length topology.now.switches }
+    requires few { length topology.now.switches ≤ 256 }
+    ensures { IfOk result (λ r. (r.0 ≡ topology.now.switches) × (map hop_entry r.1 ≡ at_switches (hop_for routes.now) (length topology.now.switches) (length topology.now.switches))) }
+{
+    let items = topology.switches.items();
+    let hops = Hops::new(hops(alloc, routes, items.len())?);
+    let names = Names::new(copy_names(alloc, items)?);
+    Ok((names, hops))
+}
+
+// The fields of a program, and its arrays.
+fn declared(
+    alloc: Global,
+    program: &Program,
+    groups: &Groups,
+    placement: &Placement,
+) -> Result<(Fields, ArraysAt), NoMemory>
+    requires ranks { length groups.now.ranks ≡ length program.now.vars }
+    requires places { length placement.now ≡ length program.now.vars }
+    requires few { length groups.now.order ≤ 64 }
+    ensures { IfOk result (λ r. (r.0 ≡ program.now.fields) × AreArrays program.now.vars placement.now groups.now.ranks (length program.now.vars) r.1) }
+{
+    let fields = program.fields.copy()?;
+    let arrays = ArraysAt::new(arrays(alloc, program.vars.items(), groups, placement)?);
+    Ok((fields, arrays))
 }
 
 /// The tables without rows. Refuses for memory alone.
@@ -103,17 +152,17 @@ pub(crate) fn frame(
     requires few_switches { length topology.now.switches ≤ 256 }
     ensures { IfOk result (IsFrame program.now topology.now placement.now routes.now groups.now.ranks) }
 {
-    let switches = topology.switches.items();
-    let links = Vec::from_slice(alloc, topology.links.items())?;
-    let ports = Vec::from_slice(alloc, topology.ports.items())?;
+    let (links, ports) = borders(alloc, topology)?;
+    let (switches, hops) = switches(alloc, topology, routes)?;
+    let (fields, arrays) = declared(alloc, program, groups, placement)?;
     Ok(Tables {
         version: 2,
-        fields: program.fields.copy()?,
-        switches: Names::new(copy_names(alloc, switches)?),
-        arrays: ArraysAt::new(arrays(alloc, program.vars.items(), groups, placement)?),
-        links: Links::new(links),
-        ports: Ports::new(ports),
-        hops: Hops::new(hops(alloc, routes, switches.len())?),
+        fields,
+        switches,
+        arrays,
+        links,
+        ports,
+        hops,
         rows: Rows::new(Vec::new(alloc)),
     })
 }

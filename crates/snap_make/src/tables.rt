@@ -1,33 +1,100 @@
 //! Tables of a program's diagram.
 
-ghost use Rattle.std.specs.Prelude.{IfOk, length};
+ghost use Rattle.std.specs.Prelude.{◌≡◌, ◌<◌, IfOk, length, map};
+ghost use Rattle.std.specs.List.{range_with_len};
 ghost use Rattle.snap_core.specs.Laws.{PutsSmall};
 ghost use Rattle.snap_core.specs.Programs.{IsInForm as IsProgramInForm};
+ghost use Rattle.snap_arena.specs.Arena.{IsArena};
 ghost use Rattle.snap_build.specs.Whole.{IsWhole};
 ghost use Rattle.snap_dep.specs.Ranks.{IsGrouping};
 ghost use Rattle.snap_gen.specs.Faithful.{Faithful};
 ghost use Rattle.snap_place.specs.Answer.{GivesSwitches};
 ghost use Rattle.snap_route.specs.Tables.{AreRoutes};
 ghost use Rattle.snap_topo.specs.Form.{IsInForm};
+ghost use Rattle.snap_make.specs.Fronts.{IsNumbered};
+ghost use Rattle.snap_make.specs.Shares.{AreRows, AreShares, body_of};
+ghost use Rattle.snap_make.specs.Tidy.{IsTidy};
 
 use crate::bodies::bodies;
 use crate::frame::frame;
 use crate::fronts::fronts;
 use crate::known::know_nodes;
 use crate::shares::shares;
+use snap_arena::nodes::Nodes;
 use snap_build::building::Built;
 use snap_core::NoMemory;
 use snap_core::program::Program;
 use snap_dep::groups::Groups;
+use snap_fdd::leaf::Leaf;
 use snap_gen::images::tidied;
-use snap_gen::numbering::number;
+use snap_gen::numbering::{Numbering, number};
 use snap_place::placement::Placement;
 use snap_route::table::Routes;
+use snap_rows::tables::{Row, Tables};
 use snap_rows::valid::Valid;
-use snap_tables::shared::SharedTables;
+use snap_tables::shared::{RowShare, SharedTables};
 use snap_tables::shared_rows::unshared;
 use snap_topo::topology::Topology;
 use std::alloc::Global;
+
+// The rows of a numbered diagram with these bodies.
+fn numbered_shares(
+    alloc: Global,
+    frame: &Tables,
+    nodes: &Nodes<Leaf>,
+    numbering: &Numbering,
+    bodies: &[Row],
+) -> Result<Vec<RowShare>, NoMemory>
+    requires numbered { IsNumbered nodes.now numbering.now.ids.items numbering.now.numbers.items }
+    requires bodies { bodies.now ≡ map (body_of nodes.now numbering.now.ids.items numbering.now.numbers.items) (range_with_len 0 (length numbering.now.ids.items)) }
+    requires few { length frame.now.switches < 65536 }
+    ensures { IfOk result (λ r. AreShares frame.now nodes.now numbering.now.ids.items numbering.now.numbers.items bodies.now r.items) }
+{
+    let fronts = fronts(alloc, nodes, numbering)?;
+    shares(alloc, frame, bodies, &fronts)
+}
+
+// The bodies of the numbers below a root, and the rows that share them.
+fn rows(
+    alloc: Global,
+    frame: &Tables,
+    nodes: &Nodes<Leaf>,
+    root: u64,
+) -> Result<(Vec<Row>, Vec<RowShare>), NoMemory>
+    requires root { root < length nodes.now }
+    requires few { length frame.now.switches < 65536 }
+    ensures arena { IsArena nodes.now }
+    ensures rows { IfOk result (λ r. AreRows frame.now nodes.now root r.0.items r.1.items) }
+{
+    let numbering = number(alloc, nodes, root)?;
+    let bodies = bodies(alloc, nodes, &numbering)?;
+    let shares = numbered_shares(alloc, frame, nodes, &numbering, &bodies)?;
+    Ok((bodies, shares))
+}
+
+// Tables faithful to a program with this tidied diagram.
+fn tidy_tables(
+    alloc: Global,
+    program: &Program,
+    built: &Built,
+    groups: &Groups,
+    topology: &Topology,
+    placement: &Placement,
+    routes: &Routes,
+) -> Result<SharedTables, NoMemory>
+    requires form { IsProgramInForm program.now }
+    requires small { PutsSmall program.now.body }
+    requires groups { IsGrouping program.now.body (length program.now.vars) groups.now }
+    requires tidy { IsTidy program.now groups.now built.now.nodes built.now.root }
+    requires topology { IsInForm topology.now }
+    requires routes { AreRoutes topology.now routes.now }
+    requires placement { GivesSwitches program.now topology.now placement.now }
+    ensures { IfOk result (Faithful program.now topology.now placement.now) }
+{
+    let frame = frame(alloc, program, groups, topology, placement, routes)?;
+    let (bodies, shares) = rows(alloc, &frame, &built.nodes, built.root)?;
+    Ok(SharedTables::new(frame, bodies, shares))
+}
 
 /// Tables of version 2 that are faithful to a program with this diagram, for a topology with these routes and a placement
 /// of the program's arrays (`docs/MEANING.md`, "Faithful tables").
@@ -52,13 +119,8 @@ pub fn shared_tables(
     ensures { IfOk result (Faithful program.now topology.now placement.now) }
 {
     know_nodes(&built.nodes);
-    let root = tidied(&mut built.nodes, groups, built.root)?;
-    let numbering = number(alloc, &built.nodes, root)?;
-    let frame = frame(alloc, program, groups, topology, placement, routes)?;
-    let fronts = fronts(alloc, &built.nodes, &numbering)?;
-    let bodies = bodies(alloc, &built.nodes, &numbering)?;
-    let shares = shares(alloc, &frame, &bodies, &fronts)?;
-    Ok(SharedTables::new(frame, bodies, shares))
+    built.root = tidied(&mut built.nodes, groups, built.root)?;
+    tidy_tables(alloc, program, &built, groups, topology, placement, routes)
 }
 
 /// The same, each row with a body of its own, so that packets can be traced.

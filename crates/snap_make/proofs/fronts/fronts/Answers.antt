@@ -1,17 +1,10 @@
-use Rattle.std.proofs.Common.{rules, ◌≡◌, ◌+◌, ◌<◌, Some, length, slice_get, slice_index, sym, subst, ap, ◌∙◌}
-use Rattle.std.proofs.lemmas.Option.{slice_get-get_or}
+use Rattle.std.proofs.Common.{rules, ◌≡◌, length, slice_index, subst}
 use Rattle.snap_gen.specs.Generated.{numbered_nodes}
 use Rattle.snap_make.specs.Fronts.{AreMarked}
-use Rattle.snap_make.proofs.Marking.{node_is, are_within, marked_on}
 use Rattle.snap_make.proofs.fronts.fronts.Goals as goal
 
-pub loop-number-preserved : goal.loop-number-preserved
-loop-number-preserved c =
-    let low : c.loop-number.number < length c.args.numbering.now.ids.items = search rules in
-    let at : slice_get c.args.numbering.now.ids.items c.loop-number.number ≡ Some c.index.result.now = slice_get-get_or c.args.numbering.now.ids.items c.loop-number.number c.index.result.now low ∙ ap Some (search rules) in
-    let is = node_is c.args.nodes.now c.args.numbering.now.ids.items c.args.numbering.now.numbers.items c.requires c.loop-number.number c.index.result.now at c.get-node.result.now c.get-node.ensures.at in
-    let within = are_within c.args.nodes.now c.args.numbering.now.ids.items c.args.numbering.now.numbers.items c.requires c.loop-number.number c.index.result.now at c.get-node.result.now c.get-node.ensures.at in
-    let ties : c.deref.result.now ≡ c.args.numbering.now.numbers.items = c.deref.ensures.value in
-    subst (AreMarked (numbered_nodes c.args.nodes.now c.args.numbering.now.ids.items (slice_index c.args.numbering.now.numbers.items)) (c.loop-number.number + 1) (length c.args.numbering.now.ids.items)) (sym c.mark_ways.ensures)
-    (rw ties (marked_on (numbered_nodes c.args.nodes.now c.args.numbering.now.ids.items (slice_index c.args.numbering.now.numbers.items)) c.loop-number.number (length c.args.numbering.now.ids.items) c.loop-number.marks.items c.loop-number.invariant
-    (slice_index c.args.numbering.now.numbers.items) c.get-node.result.now is within))
+pub loop-number-init : goal.loop-number-init
+loop-number-init c =
+    let nodes = numbered_nodes c.args.nodes.now c.args.numbering.now.ids.items (slice_index c.args.numbering.now.numbers.items) in
+    let many : c.len.result ≡ length c.args.numbering.now.ids.items = search rules in
+    subst (λ many. AreMarked nodes 0 many c.in_ok-marks.marks.items) many (c.in_ok-marks.ensures nodes)
