@@ -1,11 +1,12 @@
 -- The best picks, one choice after the other.
-use Rattle.std.proofs.Common.{◌≡◌, ◌≢◌, ◌∙◌, ℕ, zero, suc, ◌+◌, ◌*◌, ◌<◌, ◌≤◌, List, [], ◌∷◌, All, Contains, length, get_or, drop, map, slice_index, slice_index_or, refl, sym, ap, subst, arith}
+use Rattle.std.proofs.Common.{◌≡◌, ◌≢◌, ◌∙◌, ℕ, zero, suc, ◌+◌, ◌*◌, ◌<◌, ◌≤◌, List, [], ◌∷◌, ◌++◌, All, Contains, append_assoc, length, get_or, drop, map, slice_index, slice_index_or, refl, sym, ap, subst, arith}
 use Rattle.std.specs.List.{AllByRecursion, sum_by}
 use Rattle.std.specs.Ordering.{nat_cmp, ordering_then}
 use Rattle.std.specs.Cmp.Lexicographic.{slice_cmp}
 use Rattle.std.specs.declared.cmp.Ordering.{Ordering}
 use Rattle.std.specs.declared.cmp.Ordering.TheVariants.{Less, Equal, Greater}
 use Rattle.std.proofs.lemmas.Cmp.{ranked}
+use Rattle.std.proofs.lemmas.List.{drop_more}
 use Rattle.std.proofs.lemmas.List.Elements.{All-contains, All-cons, All-get_or, recursion_from_All}
 use Rattle.snap_route.specs.Tables.{Table, distance_of}
 use Rattle.snap_seek.specs.declared.trips.Trip.{Trip}
@@ -134,6 +135,23 @@ follows-steps n (row ∷ nexts) at rows lt = (let size = rows.0.count in omega a
 
 pub follows : (n : ℕ) (nexts : List (List ℕ)) (at : ℕ) → All (IsRow n) nexts → at < n → Follows nexts at
 follows n nexts at rows lt = follows-steps n nexts at (recursion_from_All (IsRow n) nexts rows) lt
+
+-- ---- one more switch of a way
+
+row-left : (nexts : List (List ℕ)) (i : ℕ) (row : List ℕ) → i < length nexts → row ≡ get_or nexts i row → drop i nexts ≡ row ∷ drop (i + 1) nexts
+row-left nexts i row lt is = drop_more nexts i row lt ∙ ap (λ (r : List ℕ). r ∷ drop (i + 1) nexts) (sym is)
+
+pub at-left : (nexts : List (List ℕ)) (i at : ℕ) (row : List ℕ) → i < length nexts → row ≡ get_or nexts i row → Follows (drop i nexts) at → at < length row
+at-left nexts i at row lt is rows = (subst (λ (l : List (List ℕ)). Follows l at) (row-left nexts i row lt is) rows).0
+
+pub rows-left : (nexts : List (List ℕ)) (i at next : ℕ) (row : List ℕ) → i < length nexts → row ≡ get_or nexts i row → next ≡ slice_index row at → Follows (drop i nexts) at → Follows (drop (i + 1) nexts) next
+rows-left nexts i at next row lt is here rows = subst (λ (n : ℕ). Follows (drop (i + 1) nexts) n) (sym here) (subst (λ (l : List (List ℕ)). Follows l at) (row-left nexts i row lt is) rows).1
+
+pub way-more : (nexts : List (List ℕ)) (i at next : ℕ) (row way more whole : List ℕ) → i < length nexts → row ≡ get_or nexts i row → next ≡ slice_index row at → more ≡ way ++ next ∷ []
+    → way ++ path (drop i nexts) at ≡ whole → more ++ path (drop (i + 1) nexts) next ≡ whole
+way-more nexts i at next row way more whole lt is here put all =
+    ap (λ (l : List ℕ). l ++ path (drop (i + 1) nexts) next) put ∙ append_assoc way (next ∷ []) (path (drop (i + 1) nexts) next)
+    ∙ ap (λ (m : ℕ). way ++ m ∷ path (drop (i + 1) nexts) m) here ∙ ap (λ (l : List (List ℕ)). way ++ path l at) (sym (row-left nexts i row lt is)) ∙ all
 
 -- the picks are as many as the choices, each one of its choice
 pub Picks-at : (cs : List (List ℕ)) (xs : List ℕ) → Picks cs xs → (length xs ≡ length cs) × ((i : ℕ) → i < length cs → Contains (slice_index_or cs i []) (slice_index xs i))

@@ -1,10 +1,11 @@
 -- What is answered for a listing, and what holds of a demand that is read.
-use Rattle.std.proofs.Common.{◌≡◌, ◌≢◌, ◌∙◌, ◌↔◌, ℕ, ◌<◌, ◌≤◌, Bool, true, false, cond, List, [], ◌∷◌, All, length, find, is_none, IsSome, option_map, Option, Some, None, Result, Ok, Err, IfErr, IfOk, MatchResult, nat_lt, refl, sym, ap, subst, arith, slice_index_or}
+use Rattle.std.proofs.Common.{◌≡◌, ◌≢◌, ◌∙◌, ◌↔◌, ℕ, ◌<◌, ◌≤◌, Bool, true, false, cond, List, [], ◌∷◌, All, length, find, is_none, IsSome, option_map, Option, Some, None, Result, Ok, Err, IfErr, IfOk, MatchResult, Vec, nat_lt, refl, sym, ap, subst, arith, slice_index_or}
 use Rattle.std.specs.List.{AllByRecursion, Contains, flat_map}
 use Rattle.std.specs.List.Sorted.{IsStrictlySortedBy}
 use Rattle.std.specs.Map.{keys_of}
 use Rattle.std.specs.Option.{option_or}
 use Rattle.std.specs.Ordering.{nat_cmp}
+use Rattle.std.specs.declared.alloc.Global.{Global}
 use Rattle.std.specs.Cmp.Lexicographic.{slice_cmp}
 use Rattle.std.proofs.lemmas.Bool.{ltb-false}
 use Rattle.std.proofs.lemmas.List.Elements.{All-contains_itself, All-from_recursion, All-weaker}
@@ -21,6 +22,7 @@ use Rattle.snap_seek.specs.declared.demand.Flow.{Flow}
 use Rattle.snap_seek.specs.declared.demand.TheConstants.{MOST_DEMANDS}
 use Rattle.snap_seek.specs.Answer.{GroupMay, IsDemandOf, Lists, PlacesThen, TellsLeast, TellsLeastOf, TellsNowhere, ends, first_fault, may, named, no_port, no_switch, no_variable, too_many}
 use Rattle.snap_seek.specs.Costs.{switch_at}
+use Rattle.snap_seek.specs.Faults.{ArePlaces, TellsPlaces}
 use Rattle.snap_seek.specs.Marks.{GroupMarked, mark_at}
 use Rattle.snap_seek.specs.Placements.{HasPorts, IsDemand, places_of}
 use Rattle.snap_seek.specs.Shape.{Spelled, spelled}
@@ -51,52 +53,29 @@ module _ (g : Grouping) (vars switches : List (List ℕ)) (entries : Entries) (m
   tells-nowhere (NoSwitch name) h = absurd h
   tells-nowhere NoMemory h = absurd h
 
-  demand-of : (s : Spelled) (demand : Demand) (places : List (List ℕ)) → entries ≡ s.allowed → demand.flows ≡ s.flows → demand.allowed ≡ places → length places ≡ length marks
-      → ((v : ℕ) → v < length marks → Lists (GroupMarked g marks v) (length switches) (slice_index_or places v [])) → ((v : ℕ) → v < length marks → slice_index_or places v [] ≢ []) → IsDemandOf g vars switches s demand
-  demand-of s demand places all flows allowed long lists some = record {
-    flows = flows;
-    count = ap (λ (l : List (List ℕ)). length l) allowed ∙ long ∙ count;
-    places = λ v lt. subst (λ (es : Entries). Lists (GroupMay g vars switches es v) (length switches) (places_of demand.allowed v)) all
-        (subst (λ (l : List (List ℕ)). Lists (GroupMay g vars switches entries v) (length switches) (places_of l v)) (sym allowed)
-        (Lists-by (GroupMarked g marks v) (GroupMay g vars switches entries v) (length switches) (slice_index_or places v []) (group-may v) (lists v (omega arith))));
-    some = λ v lt. subst (λ (l : List (List ℕ)). places_of l v ≢ []) (sym allowed) (some v (omega arith));
+  are-places : (places : List (List ℕ)) → length places ≡ length marks → ((v : ℕ) → v < length marks → Lists (GroupMarked g marks v) (length switches) (slice_index_or places v []))
+      → ((v : ℕ) → v < length marks → slice_index_or places v [] ≢ []) → ArePlaces g vars switches entries places
+  are-places places long lists some = record {
+    count = long ∙ count;
+    each = λ v lt. Lists-by (GroupMarked g marks v) (GroupMay g vars switches entries v) (length switches) (slice_index_or places v []) (group-may v) (lists v (omega arith));
+    some = λ v lt. some v (omega arith);
   }
 
--- ---- the first fault
+  tells-places : (o : Option DemandFault) (e : DemandFault) → o ≡ None → TellsNowhere (GroupMarked g marks) (length marks) (length switches) e → TellsPlaces g vars switches entries o e
+  tells-places o e none h = subst (λ (f : Option DemandFault). TellsPlaces g vars switches entries f e) (sym none) (tells-nowhere e h)
 
-pub no-fault : (ports : List PortAt) (switches vars : List (List ℕ)) (s : Spelled) → too_many s.flows ≡ None → no_port ports s.flows ≡ None → no_variable vars s.allowed ≡ None → no_switch switches vars s.allowed ≡ None
-    → first_fault ports switches vars s ≡ None
-no-fault ports switches vars s few known named' there =
-    ap (λ (o : Option DemandFault). option_or o (option_or (no_port ports s.flows) (option_or (no_variable vars s.allowed) (no_switch switches vars s.allowed)))) few
-    ∙ ap (λ (o : Option DemandFault). option_or o (option_or (no_variable vars s.allowed) (no_switch switches vars s.allowed))) known
-    ∙ ap (λ (o : Option DemandFault). option_or o (no_switch switches vars s.allowed)) named' ∙ there
-
-module _ (g : Grouping) (vars switches : List (List ℕ)) (ports : List PortAt) (s : Spelled) (keys : List (List ℕ)) (entries listed : Entries) (marks seen : List (List Bool)) (few-flows port-flows : List Flow)
-    (same : keys ≡ switches) (all : entries ≡ s.allowed) (all' : listed ≡ s.allowed) (marked : seen ≡ marks) (flows : few-flows ≡ s.flows) (flows' : port-flows ≡ s.flows)
-    (few : too_many few-flows ≡ None) (known : no_port ports port-flows ≡ None) (arrays : no_variable vars listed ≡ None) (there : no_switch keys vars entries ≡ None)
-    (count : length marks ≡ length vars) (each : (v : ℕ) → v < length vars → (at : ℕ) → at < length switches → mark_at marks v at ≡ may keys entries (slice_index_or vars v []) at) where
-  none : first_fault ports switches vars s ≡ None
-  none = no-fault ports switches vars s (subst (λ (fs : List Flow). too_many fs ≡ None) flows few) (subst (λ (fs : List Flow). no_port ports fs ≡ None) flows' known)
-      (subst (λ (es : Entries). no_variable vars es ≡ None) all' arrays) (subst (λ (es : Entries). no_switch switches vars es ≡ None) all (subst (λ (ks : List (List ℕ)). no_switch ks vars entries ≡ None) same there))
-
-  each' : (v : ℕ) → v < length vars → (at : ℕ) → at < length switches → mark_at marks v at ≡ may switches entries (slice_index_or vars v []) at
-  each' v lt at less = each v lt at less ∙ ap (λ (ks : List (List ℕ)). may ks entries (slice_index_or vars v []) at) same
-
-  pub nowhere-then : (e : DemandFault) → TellsNowhere (GroupMarked g seen) (length seen) (length switches) e → PlacesThen g vars switches s (first_fault ports switches vars s) (Err e)
-  nowhere-then e h =
-      let here = subst (λ (ms : List (List Bool)). TellsNowhere (GroupMarked g ms) (length ms) (length switches) e) marked h in
-      let told = tells-nowhere g vars switches entries marks count each' e here in
-      subst (λ (o : Option DemandFault). PlacesThen g vars switches s o (Err e)) (sym none)
-      (subst (λ (es : Entries). TellsNowhere (GroupMay g vars switches es) (length vars) (length switches) e) all told)
-
-  pub demand-then : (demand : Demand) (places : List (List ℕ)) → demand.flows ≡ s.flows → demand.allowed ≡ places → length places ≡ length seen
-      → ((v : ℕ) → v < length seen → Lists (GroupMarked g seen v) (length switches) (slice_index_or places v [])) → ((v : ℕ) → v < length seen → slice_index_or places v [] ≢ [])
-      → PlacesThen g vars switches s (first_fault ports switches vars s) (Ok demand)
-  demand-then demand places is allowed long lists some =
-      let long' : length places ≡ length marks = long ∙ ap (λ (ms : List (List Bool)). length ms) marked in
-      let lists' = subst (λ (ms : List (List Bool)). (v : ℕ) → v < length ms → Lists (GroupMarked g ms v) (length switches) (slice_index_or places v [])) marked lists in
-      let some' = subst (λ (ms : List (List Bool)). (v : ℕ) → v < length ms → slice_index_or places v [] ≢ []) marked some in
-      subst (λ (o : Option DemandFault). PlacesThen g vars switches s o (Ok demand)) (sym none) (demand-of g vars switches entries marks count each' s demand places all is allowed long' lists' some')
+-- what all places are, or what is told, by the marks as they were seen
+pub places-then : (g : Grouping) (vars switches : List (List ℕ)) (entries : Entries) (marks seen : List (List Bool)) → seen ≡ marks → length marks ≡ length vars
+    → ((v : ℕ) → v < length vars → (at : ℕ) → at < length switches → mark_at marks v at ≡ may switches entries (slice_index_or vars v []) at) → no_switch switches vars entries ≡ None
+    → (r : Result (Vec (List ℕ) Global) DemandFault) → IfOk r (λ all. length all.items ≡ length seen) → IfOk r (λ all. (v : ℕ) → v < length seen → Lists (GroupMarked g seen v) (length switches) (slice_index_or all.items v []))
+    → IfOk r (λ all. (v : ℕ) → v < length seen → slice_index_or all.items v [] ≢ []) → IfErr r (λ e. e ≢ NoMemory → TellsNowhere (GroupMarked g seen) (length seen) (length switches) e)
+    → MatchResult r (λ all. (no_switch switches vars entries ≡ None) × ArePlaces g vars switches entries all.items) (λ e. e ≢ NoMemory → TellsPlaces g vars switches entries (no_switch switches vars entries) e)
+places-then g vars switches entries marks seen same count each none (Ok all) long lists some told =
+    let each' = subst (λ (ms : List (List Bool)). (v : ℕ) → v < length vars → (at : ℕ) → at < length switches → mark_at ms v at ≡ may switches entries (slice_index_or vars v []) at) (sym same) each in
+    (none, are-places g vars switches entries seen (ap (λ (ms : List (List Bool)). length ms) same ∙ count) each' all.items long lists some)
+places-then g vars switches entries marks seen same count each none (Err e) long lists some told = λ memory.
+    let each' = subst (λ (ms : List (List Bool)). (v : ℕ) → v < length vars → (at : ℕ) → at < length switches → mark_at ms v at ≡ may switches entries (slice_index_or vars v []) at) (sym same) each in
+    tells-places g vars switches entries seen (ap (λ (ms : List (List Bool)). length ms) same ∙ count) each' (no_switch switches vars entries) e none (told memory)
 
 -- ---- a name that is told is the least
 

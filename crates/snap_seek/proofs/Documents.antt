@@ -1,5 +1,5 @@
 -- Turns of loops over a demand's document.
-use Rattle.std.proofs.Common.{◌≡◌, ◌≢◌, ◌∙◌, ℕ, Bool, true, false, cond, List, [], ◌∷◌, ◌++◌, append-nil, append_assoc, length, map, find, string_bytes, option_map, Option, Some, None, refl, sym, ap, subst, String, Global}
+use Rattle.std.proofs.Common.{◌≡◌, ◌≢◌, ◌∙◌, ℕ, ◌+◌, ◌<◌, get_or, drop, Bool, true, false, cond, List, [], ◌∷◌, ◌++◌, append-nil, append_assoc, length, map, find, string_bytes, option_map, Option, Some, None, refl, sym, ap, subst, String, Global}
 use Rattle.std.specs.List.{All, AllByRecursion}
 use Rattle.std.specs.List.Sorted.{IsStrictlySortedBy}
 use Rattle.std.specs.Map.{keys_of}
@@ -8,7 +8,7 @@ use Rattle.std.specs.Cmp.Lexicographic.{slice_cmp}
 use Rattle.std.specs.declared.cmp.Ordering.{Ordering}
 use Rattle.std.specs.declared.cmp.Ordering.TheVariants.{Less, Equal, Greater}
 use Rattle.std.proofs.lemmas.Cmp.{nat_list_cmp_total, tied_itself}
-use Rattle.std.proofs.lemmas.List.{map-append}
+use Rattle.std.proofs.lemmas.List.{drop_more, map-append}
 use Rattle.std.proofs.lemmas.List.Elements.{All-from_recursion}
 use Rattle.toml.specs.declared.value.Value.{Value}
 use Rattle.toml.specs.Data.{Data, Items, string, integer, float, boolean, datetime, array, table, as_array}
@@ -16,12 +16,20 @@ use Rattle.toml.specs.View.{items_view, members_view, view}
 use Rattle.snap_core.specs.Names.{is_name}
 use Rattle.snap_topo.specs.Shape.{with_first}
 use Rattle.snap_topo.proofs.TableLemmas.{names-rise}
+use Rattle.snap_seek.specs.declared.demand.Flow.{Flow}
 use Rattle.snap_seek.specs.declared.listing.Entry.{Entry}
 use Rattle.snap_seek.specs.Listing.{entry_text, entry_texts}
-use Rattle.snap_seek.specs.Shape.{entries_listed, entry_of, flow_in, places_in}
+use Rattle.snap_seek.specs.Shape.{entries_listed, entry_of, flow_in, flows_listed, places_in}
 
 some-same : {A : Type 0} {x y : A} → Some x ≡ Some y → x ≡ y
 some-same e = cc
+
+-- one more element, before those that are left
+step : {A : Type 0} (before : List A) (o : Option A) (x : A) (rest : Option (List A)) → Some x ≡ o → option_map (λ r. (before ++ x ∷ []) ++ r) rest ≡ option_map (λ r. before ++ r) (with_first o rest)
+step before (Some y) x None is = refl
+step before (Some y) x (Some xs) is =
+    let same : x ≡ y = cc in ap (λ l. Some l) (append_assoc before (x ∷ []) xs ∙ ap (λ q. before ++ ((q ∷ []) ++ xs)) same)
+step before None x rest is = cc
 
 -- ---- flows
 
@@ -42,16 +50,19 @@ no_flow (boolean b) vs is not = cc
 no_flow (datetime t) vs is not = cc
 no_flow (table m) vs is not = cc
 
+-- one more flow, before those that are left
+pub flows-turn : (items : List Value) (i : ℕ) (item : Value) (flow : Flow) (old new : List Flow) (whole : Option (List Flow)) → i < length items → item ≡ get_or items i item → Some flow ≡ flow_in (view item) → new ≡ old ++ flow ∷ []
+    → whole ≡ option_map (λ rest. old ++ rest) (flows_listed (items_view (drop i items))) → whole ≡ option_map (λ rest. new ++ rest) (flows_listed (items_view (drop (i + 1) items)))
+flows-turn items i item flow old new whole lt is one put all =
+    let left : drop i items ≡ item ∷ drop (i + 1) items = drop_more items i item lt ∙ ap (λ (v : Value). v ∷ drop (i + 1) items) (sym is) in
+    let rest = flows_listed (items_view (drop (i + 1) items)) in
+    all ∙ ap (λ (vs : List Value). option_map (λ r. old ++ r) (flows_listed (items_view vs))) left
+    ∙ sym (step old (flow_in (view item)) flow rest one) ∙ ap (λ (fs : List Flow). option_map (λ r. fs ++ r) rest) (sym put)
+
 -- ---- entries
 
 abbrev Text : Type 0
 Text = List ℕ × List (List ℕ)
-
-step : (before : List Text) (o : Option Text) (x : Text) (rest : Option (List Text)) → Some x ≡ o → option_map (λ r. (before ++ x ∷ []) ++ r) rest ≡ option_map (λ r. before ++ r) (with_first o rest)
-step before (Some y) x None is = refl
-step before (Some y) x (Some xs) is =
-    let same : x ≡ y = cc in ap (λ (l : List Text). Some l) (append_assoc before (x ∷ []) xs ∙ ap (λ (q : Text). before ++ ((q ∷ []) ++ xs)) same)
-step before None x rest is = cc
 
 -- one more entry, before those that are left
 pub entries-turn : (old new : List Entry) (left rest : List (String Global × Value)) (key : String Global) (value : Value) (entry : Entry) → left ≡ (key, value) ∷ rest

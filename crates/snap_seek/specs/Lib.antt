@@ -1,5 +1,6 @@
 pub mod Answer
 pub mod Costs
+pub mod Faults
 pub mod Listing
 pub mod Marks
 pub mod Placements

@@ -90,6 +90,32 @@ fn legs(
     Ok(legs)
 }
 
+/// The cheapest next switch from a switch, and what the way on over it costs.
+fn next_from(
+    alloc: Global,
+    routes: &Routes,
+    at: u16,
+    allowed: &[u16],
+    total: u64,
+    onward: &[u64],
+    count: u16,
+) -> Result<(u16, u64), NoMemory>
+    requires total { total < 2 ^ 48 }
+    requires at { at < count }
+    requires some { 1 ≤ length allowed.now }
+    requires allowed { All (λ m. m < count) allowed.now }
+    requires onward { length onward.now ≡ count }
+    requires fits { (x : ℕ) → x < count → slice_index onward.now x ≤ 2 ^ 63 }
+    requires count { count ≡ switch_count routes.now }
+    requires near { AreNear routes.now }
+    ensures next { IfOk result (λ r. IsCheapest (λ y. total * distance_of routes.now at y + slice_index onward.now y) allowed.now r.0) }
+    ensures cost { IfOk result (λ r. r.1 ≡ total * distance_of routes.now at r.0 + slice_index onward.now r.0) }
+{
+    let near = legs(alloc, routes, at, total, count)?;
+    let next = cheapest(allowed, &near, onward);
+    Ok((next, over(&near, onward, next)))
+}
+
 /// The cheapest next switch from each switch.
 fn stage_before(
     alloc: Global,
@@ -111,10 +137,9 @@ fn stage_before(
     let mut nexts = Vec::new(alloc);
     let mut costs = Vec::new(alloc);
     for at in 0..count {
-        let near = legs(alloc, routes, at, total, count)?;
-        let next = cheapest(allowed, &near, onward);
+        let (next, cost) = next_from(alloc, routes, at, allowed, total, onward, count)?;
         nexts.push(next)?;
-        costs.push(over(&near, onward, next))?;
+        costs.push(cost)?;
     }
     Ok(Stage {
         nexts: Switches::new(nexts),

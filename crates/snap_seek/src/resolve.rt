@@ -1,17 +1,21 @@
 //! The demand of a listing, or its first fault.
 
-ghost use Rattle.std.specs.Prelude.{◌≡◌, ◌≢◌, ◌≤◌, ◌^◌, Err, MatchResult, None, Ok, Some, length, map};
+ghost use Rattle.std.specs.Prelude.{◌≡◌, ◌≢◌, ◌<◌, ◌≤◌, ◌^◌, ℕ, Err, IfOk, MatchResult, None, Ok, Option, Some, [], length, map, slice_index_or};
 ghost use Rattle.std.specs.List.{IsDistinct};
 ghost use Rattle.std.specs.List.Sorted.{IsStrictlySortedBy};
 ghost use Rattle.std.specs.Ordering.{nat_cmp};
 ghost use Rattle.std.specs.Str.{bytes_eq};
 ghost use Rattle.snap_core.specs.declared.ports.PortAt.{PortAt};
-ghost use Rattle.snap_seek.specs.Answer.{PlacesThen, first_fault, no_port, no_variable, too_many};
+ghost use Rattle.snap_seek.specs.declared.demand.Demand.{Demand};
+ghost use Rattle.snap_seek.specs.declared.demand.DemandFault.{DemandFault};
+ghost use Rattle.snap_seek.specs.Answer.{PlacesThen, first_fault, may, no_port, no_switch, no_variable, too_many};
+ghost use Rattle.snap_seek.specs.Faults.{ArePlaces, IsKnown, TellsPlaces, fault_before};
 ghost use Rattle.snap_seek.specs.Listing.{entry_texts, spelled_by};
+ghost use Rattle.snap_seek.specs.Marks.{mark_at};
 
-use crate::demand::{Allowed, Demand, DemandFault, Flow, Flows, MOST_DEMANDS};
+use crate::demand::{Allowed, Demand, DemandFault, Flow, Flows, MOST_DEMANDS, Switches};
 use crate::listing::{Entry, Listing};
-use crate::marks::{all_marks, all_places, numbers_of};
+use crate::marks::{Marks, all_marks, all_places, numbers_of};
 use crate::trips::switch_at;
 use snap_core::lists::Name;
 use snap_core::ports::PortAt;
@@ -65,6 +69,81 @@ fn known_names(alloc: Global, vars: &[Name], entries: &[Entry]) -> Result<(), De
     Ok(())
 }
 
+/// Refuses the first fault of flows and entries, switch names aside.
+fn all_known(
+    alloc: Global,
+    flows: &[Flow],
+    entries: &[Entry],
+    vars: &[Name],
+    ports: &[PortAt],
+) -> Result<(), DemandFault>
+    requires { IsStrictlySortedBy nat_cmp (map (λ (p : PortAt). p.port) ports.now) }
+    ensures { MatchResult result (λ _. IsKnown ports.now vars.now flows.now (entry_texts entries.now))
+        (λ e. e ≢ DemandFault.NoMemory → (last : Option DemandFault) → fault_before ports.now vars.now flows.now (entry_texts entries.now) last ≡ Some e) }
+{
+    within_limit(flows)?;
+    known_ports(ports, flows)?;
+    known_names(alloc, vars, entries)
+}
+
+/// Marks where each array may stand, by the entries and the switches' names.
+fn marks_of(
+    alloc: Global,
+    entries: &[Entry],
+    vars: &[Name],
+    switches: &[Name],
+) -> Result<Vec<Marks>, DemandFault>
+    requires { IsDistinct bytes_eq switches.now }
+    ensures count { IfOk result (λ marks. length marks.items ≡ length vars.now) }
+    ensures widths { IfOk result (λ marks. (v : ℕ) → v < length vars.now → length (slice_index_or marks.items v []) ≡ length switches.now) }
+    ensures marks { IfOk result (λ marks. (v : ℕ) → v < length vars.now → (at : ℕ) → at < length switches.now → mark_at marks.items v at ≡ may switches.now (entry_texts entries.now) (slice_index_or vars.now v []) at) }
+    ensures fault { MatchResult result (λ _. no_switch switches.now vars.now (entry_texts entries.now) ≡ None)
+        (λ e. e ≢ DemandFault.NoMemory → no_switch switches.now vars.now (entry_texts entries.now) ≡ Some e) }
+{
+    let numbers = numbers_of(alloc, switches)?;
+    all_marks(alloc, &numbers, entries, vars, switches.len())
+}
+
+/// The switches at which each variable's group may stand, by the entries.
+fn places_of(
+    alloc: Global,
+    entries: &[Entry],
+    vars: &[Name],
+    groups: &Groups,
+    switches: &[Name],
+) -> Result<Vec<Switches>, DemandFault>
+    requires names { IsDistinct bytes_eq switches.now }
+    requires switches { length switches.now ≤ 2 ^ 8 }
+    requires count { length groups.now.ranks ≡ length vars.now }
+    ensures { MatchResult result (λ all. (no_switch switches.now vars.now (entry_texts entries.now) ≡ None) × ArePlaces groups.now vars.now switches.now (entry_texts entries.now) all.items)
+        (λ e. e ≢ DemandFault.NoMemory → TellsPlaces groups.now vars.now switches.now (entry_texts entries.now) (no_switch switches.now vars.now (entry_texts entries.now)) e) }
+{
+    let marks = marks_of(alloc, entries, vars, switches)?;
+    all_places(alloc, groups, &marks, switches.len())
+}
+
+/// The switches at which each variable's group may stand, where a listing has no fault.
+fn places_for(
+    alloc: Global,
+    listing: &Listing,
+    vars: &[Name],
+    groups: &Groups,
+    switches: &[Name],
+    ports: &[PortAt],
+) -> Result<Vec<Switches>, DemandFault>
+    requires rise { IsStrictlySortedBy nat_cmp (map (λ (p : PortAt). p.port) ports.now) }
+    requires names { IsDistinct bytes_eq switches.now }
+    requires switches { length switches.now ≤ 2 ^ 8 }
+    requires count { length groups.now.ranks ≡ length vars.now }
+    ensures { MatchResult result (λ all. (d : Demand) → d.flows ≡ listing.now.flows.items → d.allowed ≡ all.items → PlacesThen groups.now vars.now switches.now (spelled_by listing.now) (first_fault ports.now switches.now vars.now (spelled_by listing.now)) (Ok d))
+        (λ e. e ≢ DemandFault.NoMemory → PlacesThen groups.now vars.now switches.now (spelled_by listing.now) (first_fault ports.now switches.now vars.now (spelled_by listing.now)) (Err e)) }
+{
+    let flows = listing.flows.as_slice();
+    let entries = listing.allowed.as_slice();
+    all_known(alloc, flows, entries, vars, ports)?;
+    places_of(alloc, entries, vars, groups, switches)
+}
+
 /// The demand of a listing, or its first fault.
 pub(crate) fn resolve(
     alloc: Global,
@@ -81,12 +160,7 @@ pub(crate) fn resolve(
     ensures { MatchResult result (λ d. PlacesThen groups.now vars.now switches.now (spelled_by listing) (first_fault ports.now switches.now vars.now (spelled_by listing)) (Ok d))
         (λ e. e ≢ DemandFault.NoMemory → PlacesThen groups.now vars.now switches.now (spelled_by listing) (first_fault ports.now switches.now vars.now (spelled_by listing)) (Err e)) }
 {
-    within_limit(&listing.flows)?;
-    known_ports(ports, &listing.flows)?;
-    known_names(alloc, vars, &listing.allowed)?;
-    let numbers = numbers_of(alloc, switches)?;
-    let marks = all_marks(alloc, &numbers, &listing.allowed, vars, switches.len())?;
-    let places = all_places(alloc, groups, &marks, switches.len())?;
+    let places = places_for(alloc, &listing, vars, groups, switches, ports)?;
     Ok(Demand {
         flows: Flows::new(listing.flows),
         allowed: Allowed::new(places),

@@ -6,11 +6,11 @@ ghost use Rattle.snap_topo.specs.Form.{IsInForm};
 ghost use Rattle.snap_route.specs.Tables.{AreRoutes, distance_of, switch_count};
 ghost use Rattle.snap_seek.specs.Costs.{cost_of};
 ghost use Rattle.snap_seek.specs.Placements.{AreGroups, IsBestOf, IsDemand, places_of};
-ghost use Rattle.snap_seek.specs.Steps.{AreNear, Follows, IsBest, choices, path};
+ghost use Rattle.snap_seek.specs.Steps.{AreNear, Follows, IsBest, choices, over, path};
 
 use crate::best::{Best, Owners};
 use crate::demand::{Allowed, Demand, Switches};
-use crate::plan::{cheapest, over, plan_ways};
+use crate::plan::{Plan, cheapest, over, plan_ways};
 use crate::price::{direct_cost, end_costs};
 use crate::trips::{End, Trip, total_weight, trips};
 use snap_core::NoMemory;
@@ -26,6 +26,14 @@ struct Stops {
     switches: Vec<u16>,
 }
 
+/// The next switch from a switch.
+fn next(stage: &Switches, at: u16) -> u16
+    requires { at < length stage.now }
+    ensures { result ≡ slice_index stage.now at }
+{
+    stage.items()[at as usize]
+}
+
 /// The way from a switch through the next ones.
 fn follow(alloc: Global, first: u16, nexts: &[Switches]) -> Result<Vec<u16>, NoMemory>
     requires { Follows nexts.now first }
@@ -34,10 +42,24 @@ fn follow(alloc: Global, first: u16, nexts: &[Switches]) -> Result<Vec<u16>, NoM
     let mut way = vec![in alloc; first; 1]?;
     let mut at = first;
     for stage in nexts {
-        at = stage.items()[at as usize];
+        at = next(stage, at);
         way.push(at)?;
     }
     Ok(way)
+}
+
+/// The stops of the way from a first switch, with what it costs to go on over that one.
+fn stops_from(alloc: Global, near: &[u64], plan: &Plan, first: u16) -> Result<Stops, NoMemory>
+    requires near { first < length near.now }
+    requires onward { first < length plan.now.costs.items }
+    requires fits { over near.now plan.now.costs.items first < 2 ^ 64 }
+    requires rows { Follows plan.now.nexts.items first }
+    ensures way { IfOk result (λ found. found.switches.items ≡ first ∷ path plan.now.nexts.items first) }
+    ensures cost { IfOk result (λ found. found.cost ≡ over near.now plan.now.costs.items first) }
+{
+    let cost = over(near, &plan.costs, first);
+    let switches = follow(alloc, first, &plan.nexts)?;
+    Ok(Stops { cost, switches })
 }
 
 /// The best switches for the groups, of which there is at least one.
@@ -67,11 +89,7 @@ fn best_stops(
     let near = end_costs(alloc, routes, trips, End::From, count)?;
     let plan = plan_ways(alloc, routes, trips, total, order, allowed, count)?;
     let first = cheapest(allowed.of(order[0]), &near, &plan.costs);
-    let switches = follow(alloc, first, &plan.nexts)?;
-    Ok(Stops {
-        cost: over(&near, &plan.costs, first),
-        switches,
-    })
+    stops_from(alloc, &near, &plan, first)
 }
 
 /// The switch of each variable, where each group has its switch.

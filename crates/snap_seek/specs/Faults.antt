@@ -1,0 +1,29 @@
+-- The faults of a listing, part by part, and the switches of its demand.
+use Rattle.std.specs.Prelude.{◌≡◌, ◌≢◌, ◌<◌, ℕ, List, [], length, Option, Some, None, slice_index_or}
+use Rattle.std.specs.Option.{option_or}
+use Rattle.snap_core.specs.declared.ports.PortAt.{PortAt}
+use Rattle.snap_dep.specs.Ranks.{Grouping}
+use Rattle.snap_seek.specs.declared.demand.DemandFault.{DemandFault}
+use Rattle.snap_seek.specs.declared.demand.Flow.{Flow}
+use Rattle.snap_seek.specs.Answer.{GroupMay, Lists, TellsNowhere, no_port, no_variable, too_many}
+
+-- the first fault of flows and entries, where the last one is that of the switch names
+abbrev pub fault_before : List PortAt → List (List ℕ) → List Flow → List (List ℕ × List (List ℕ)) → Option DemandFault → Option DemandFault
+fault_before ports vars flows entries last = option_or (too_many flows) (option_or (no_port ports flows) (option_or (no_variable vars entries) last))
+
+-- the flows and the names of arrays have no fault
+pub record IsKnown (ports : List PortAt) (vars : List (List ℕ)) (flows : List Flow) (entries : List (List ℕ × List (List ℕ))) : Type 0 where
+  pub few : too_many flows ≡ None
+  pub there : no_port ports flows ≡ None
+  pub names : no_variable vars entries ≡ None
+
+-- for each variable the switches at which its group may stand, at least one
+pub record ArePlaces (g : Grouping) (vars switches : List (List ℕ)) (entries : List (List ℕ × List (List ℕ))) (places : List (List ℕ)) : Type 0 where
+  pub count : length places ≡ length vars
+  pub each : (v : ℕ) → v < length vars → Lists (GroupMay g vars switches entries v) (length switches) (slice_index_or places v [])
+  pub some : (v : ℕ) → v < length vars → slice_index_or places v [] ≢ []
+
+-- what is told where there are no such switches: the fault of the switch names, or else a variable whose group may stand nowhere
+abbrev pub TellsPlaces : Grouping → List (List ℕ) → List (List ℕ) → List (List ℕ × List (List ℕ)) → Option DemandFault → DemandFault → Type 0
+TellsPlaces g vars switches entries (Some fault) e = fault ≡ e
+TellsPlaces g vars switches entries None e = TellsNowhere (GroupMay g vars switches entries) (length vars) (length switches) e
