@@ -3,8 +3,10 @@ use Rattle.std.specs.Prelude.{◌≡◌, ℕ, ◌<◌, false, List, get_or, leng
 use Rattle.std.specs.List.{AllZip}
 use Rattle.snap_core.specs.Cells.{Kept}
 use Rattle.snap_rows.specs.declared.tables.Tables.{Tables}
-use Rattle.snap_net.specs.Shown.{IsHeld}
+use Rattle.snap_net.specs.Shown.{Held, IsHeld}
 use Rattle.snap_order.specs.declared.job.Job.{Job}
+use Rattle.snap_order.specs.declared.lent.Lent.{Lent}
+use Rattle.snap_order.specs.declared.weave.Web.{Web}
 use Rattle.snap_order.specs.Dealing.{AreDealt, AreExchanged}
 use Rattle.snap_order.specs.Jobs.{HasWorked}
 use Rattle.snap_order.specs.Shown.{IsOrderedHeld, OrderedHeld}
@@ -26,3 +28,7 @@ pub record IsWorked (workers : ℕ) (v : OrderedHeld) (t : Tables) (packets : �
   pub begun : IsLent workers v t packets numbers left before
   pub worked : AllZip (HasWorked t numbers) before given
   pub enough : (j : ℕ) (d : Job) → j < length given → (get_or given j d).is_short ≡ false
+
+-- the network that is put together again, once the stores are back and the copies are woven
+abbrev pub held_again : Lent → Web → Held
+held_again lent web = record { tables = lent.tables; stores = lent.stores.items; injected = lent.injected; flying = web.flying.items }

@@ -3,11 +3,12 @@
 ghost use Rattle.std.specs.Prelude.{◌≡◌, ◌<◌, ℕ, IfOk, false, get_or, length, map};
 ghost use Rattle.std.specs.List.{AllZip};
 ghost use Rattle.snap_net.specs.declared.flying.Flying.{Flying};
+ghost use Rattle.snap_net.specs.Shown.{IsHeld};
 ghost use Rattle.snap_order.specs.declared.job.Job.{Job};
 ghost use Rattle.snap_order.specs.Jobs.{AreReady, HasWorked};
-ghost use Rattle.snap_order.specs.Lending.{IsLent, IsWorked};
+ghost use Rattle.snap_order.specs.Lending.{IsLent, IsWorked, held_again};
 ghost use Rattle.snap_order.specs.Rounding.{IsRoundDone};
-ghost use Rattle.snap_order.specs.Shown.{OrderedHeld};
+ghost use Rattle.snap_order.specs.Shown.{IsOrderedHeld, OrderedHeld};
 
 use crate::deal::{deal, exchange};
 use crate::gate::Gate;
@@ -47,17 +48,24 @@ pub(crate) fn lend(alloc: Global, net: OrderedNet, workers: u16) -> Result<Lent,
         injected,
         flying,
     } = parts;
-    let jobs = deal(alloc, workers, stores.len(), flying)?;
-    let mut stores = stores;
-    let mut jobs = jobs;
-    exchange(workers, &mut stores, &mut jobs);
-    Ok(Lent {
-        tables,
-        injected,
-        counts,
-        stores,
-        jobs,
-    })
+    match deal(alloc, workers, stores.len(), flying) {
+        Ok(jobs) => {
+            let mut stores = stores;
+            let mut jobs = jobs;
+            exchange(workers, &mut stores, &mut jobs);
+            Ok(Lent {
+                tables,
+                injected,
+                counts,
+                stores,
+                jobs,
+            })
+        }
+        Err(fault) => {
+            drop(tables);
+            Err(fault)
+        }
+    }
 }
 
 /// Has all jobs done at once.
@@ -76,33 +84,20 @@ pub(crate) fn work_out<R: Threads + Sync, G: Gate>(
     ensures worked { IfOk result (λ done. AllZip (HasWorked lent.tables lent.counts.items) lent.jobs.items done.jobs.items) }
     ensures enough { IfOk result (λ done. (j : ℕ) (d : Job) → j < length done.jobs.items → (get_or done.jobs.items j d).is_short ≡ false) }
 {
-    let Lent {
-        tables,
-        injected,
-        counts,
-        stores,
-        jobs,
-    } = lent;
-    let mut jobs = jobs;
+    let mut lent = lent;
     work_all(
         rt,
         alloc,
-        &tables,
-        &counts,
+        &lent.tables,
+        &lent.counts,
         number,
         gate,
-        jobs.as_mut_slice(),
+        lent.jobs.as_mut_slice(),
     );
-    if is_short(&jobs) {
+    if is_short(&lent.jobs) {
         return Err(NoMemory);
     }
-    Ok(Lent {
-        tables,
-        injected,
-        counts,
-        stores,
-        jobs,
-    })
+    Ok(lent)
 }
 
 /// Puts the network together again, and what the steps gave of the copies that stood at these switches.
@@ -118,6 +113,39 @@ pub(crate) fn settle(
     ensures tables { IfOk result (λ rounded. rounded.net.net.tables ≡ lent.tables) }
     ensures injected { IfOk result (λ rounded. rounded.net.net.injected ≡ lent.injected) }
 {
+    let mut lent = lent;
+    match gather(alloc, &mut lent, workers, switches) {
+        Ok(web) => rejoin(alloc, lent, web),
+        Err(fault) => {
+            drop(lent);
+            Err(fault)
+        }
+    }
+}
+
+// Takes the stores and the counts back from the jobs, and what the steps gave of the copies that stood at these switches:
+// with it the network can be put together, and the round is made.
+fn gather(alloc: Global, lent: &mut Lent, workers: u16, switches: &[u16]) -> Result<Web, NoMemory>
+    requires workers { 0 < workers }
+    requires worked { (v : OrderedHeld) × IsWorked workers v lent.old.tables lent.old.injected lent.old.counts.items lent.old.stores.items lent.old.jobs.items × (map (λ (c : Flying). c.at) v.net.flying ≡ switches.now) }
+    ensures held { IfOk result (λ web. IsHeld (held_again lent.new web)) }
+    ensures ordered { IfOk result (λ web. IsOrderedHeld (record { net = held_again lent.new web; counts = lent.new.counts.items })) }
+    ensures done { IfOk result (λ web. (v : OrderedHeld) → IsWorked workers v lent.old.tables lent.old.injected lent.old.counts.items lent.old.stores.items lent.old.jobs.items → map (λ (c : Flying). c.at) v.net.flying ≡ switches.now → (new : OrderedHeld) → new.net ≡ held_again lent.new web → new.counts ≡ lent.new.counts.items → IsRoundDone v new web.done.items) }
+    ensures tables { lent.new.tables ≡ lent.old.tables }
+    ensures injected { lent.new.injected ≡ lent.old.injected }
+{
+    exchange(workers, &mut lent.stores, &mut lent.jobs);
+    count_all(&lent.tables, workers, &lent.jobs, &mut lent.counts);
+    let web = weave(alloc, workers, switches, &mut lent.jobs)?;
+    Ok(web)
+}
+
+// Puts the network together from what was gathered. The jobs have nothing more of it.
+fn rejoin(alloc: Global, lent: Lent, web: Web) -> Result<Rounded, NoMemory>
+    requires held { IsHeld (held_again lent web) }
+    requires ordered { IsOrderedHeld (record { net = held_again lent web; counts = lent.counts.items }) }
+    ensures { IfOk result (λ rounded. (rounded.net.net ≡ held_again lent web) × (rounded.net.counts ≡ lent.counts.items) × (rounded.done.items ≡ web.done.items)) }
+{
     let Lent {
         tables,
         injected,
@@ -125,12 +153,7 @@ pub(crate) fn settle(
         stores,
         jobs,
     } = lent;
-    let mut stores = stores;
-    let mut jobs = jobs;
-    let mut counts = counts;
-    exchange(workers, &mut stores, &mut jobs);
-    count_all(&tables, workers, &jobs, &mut counts);
-    let web = weave(alloc, workers, switches, &mut jobs)?;
+    drop(jobs);
     let Web { done, flying } = web;
     let parts = Parts {
         tables,

@@ -58,9 +58,25 @@ pub fn open_ordered(alloc: Global, tables: Valid) -> Result<OrderedNet, NoMemory
     ensures begin { IfOk result (λ net. ShowsInTurn net (begin tables zero_arrays)) }
     ensures order { (p : Program) (topology : Topology) (places : List ℕ) → Faithful p topology places tables → KeepsOrder p topology tables }
 {
+    match no_counts(alloc, &tables) {
+        Ok(counts) => {
+            let net = open_net(alloc, tables)?;
+            Ok(OrderedNet { alloc, net, counts })
+        }
+        Err(fault) => {
+            drop(tables);
+            Err(fault)
+        }
+    }
+}
+
+// A count for each rank of the tables, where none has handled a packet.
+fn no_counts(alloc: Global, tables: &Valid) -> Result<Vec<u64>, NoMemory>
+    ensures long { IfOk result (λ counts. length counts.items ≡ ranks tables.now) }
+    ensures none { IfOk result (λ counts. (r : ℕ) → get_or counts.items r 0 ≡ 0) }
+{
     let counts = vec![in alloc; 0u64; tables.ranks() as usize]?;
-    let net = open_net(alloc, tables)?;
-    Ok(OrderedNet { alloc, net, counts })
+    Ok(counts)
 }
 
 /// What an ordered network holds, in parts.

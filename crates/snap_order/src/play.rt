@@ -146,32 +146,31 @@ impl Play {
         let rounded = round(rt, net, number, workers, gate)?;
         let Rounded { net, done } = rounded;
         let switches = &net.tables().tables().switches;
-        note_turns(&mut tallies, hops, switches, done)?;
-        Ok(Play {
-            alloc,
-            net,
-            hops,
-            tallies,
-            waiting,
-        })
+        match note_turns(&mut tallies, hops, switches, done) {
+            Ok(()) => Ok(Play {
+                alloc,
+                net,
+                hops,
+                tallies,
+                waiting,
+            }),
+            Err(fault) => {
+                drop(net);
+                Err(fault)
+            }
+        }
     }
 
-    /// The report of the run.
-    pub(crate) fn report(self) -> Result<Vec<u8>, NoMemory>
-        requires playing { IsPlaying self }
-        requires few { self.net.net.injected ≤ 67108864 }
-        ensures { IfOk result (λ text. (t : Tables) (hops : Bool) (s : Ordered) (us : List Turn) → Plays t hops s us self → IsRunReport t hops s.net.injected s.net (happenings us) text.items) }
+    /// The report of the run. It takes the tallies.
+    pub(crate) fn report(&mut self) -> Result<Vec<u8>, NoMemory>
+        requires playing { IsPlaying self.old }
+        requires few { self.old.net.net.injected ≤ 67108864 }
+        ensures { IfOk result (λ text. (t : Tables) (hops : Bool) (s : Ordered) (us : List Turn) → Plays t hops s us self.old → IsRunReport t hops s.net.injected s.net (happenings us) text.items) }
     {
-        let Play {
-            alloc,
-            net,
-            hops: _,
-            tallies,
-            waiting: _,
-        } = self;
-        let mut out = Vec::new(alloc);
-        put_blocks(&mut out, &net.tables().tables().fields, tallies)?;
-        put_end(&mut out, net.network())?;
+        let tallies = std::mem::replace(&mut self.tallies, Vec::new(self.alloc));
+        let mut out = Vec::new(self.alloc);
+        put_blocks(&mut out, &self.net.tables().tables().fields, tallies)?;
+        put_end(&mut out, self.net.network())?;
         Ok(out)
     }
 }

@@ -40,10 +40,29 @@ pub fn round<R: Threads + Sync, G: Gate>(
     if are_apart(&net, workers) {
         return share_out(rt, net, number, workers, gate);
     }
-    pass_all(switches_of(&net)?, number, gate);
     let mut net = net;
-    let done = step_all(&mut net)?;
-    Ok(Rounded { net, done })
+    match pass_and_step(&mut net, number, gate) {
+        Ok(done) => Ok(Rounded { net, done }),
+        Err(fault) => {
+            drop(net);
+            Err(fault)
+        }
+    }
+}
+
+// Makes a round by this thread alone: it comes to each switch of the copies, and makes their steps.
+fn pass_and_step<G: Gate>(
+    net: &mut OrderedNet,
+    number: u64,
+    gate: &G,
+) -> Result<Vec<Turned>, NoMemory>
+    ensures done { IfOk result (λ done. IsRoundDone net.old net.new done.items) }
+    ensures tables { net.new.net.tables ≡ net.old.net.tables }
+    ensures injected { net.new.net.injected ≡ net.old.net.injected }
+{
+    let switches = switches_of(net)?;
+    pass_all(switches, number, gate);
+    step_all(net)
 }
 
 // Whether copies are at switches of different jobs.
@@ -72,10 +91,17 @@ fn share_out<R: Threads + Sync, G: Gate>(
     ensures injected { IfOk result (λ rounded. rounded.net.net.injected ≡ net.net.injected) }
 {
     let alloc = net.alloc();
-    let switches = switches_of(&net)?;
-    let lent = lend(alloc, net, workers)?;
-    let worked = work_out(rt, alloc, lent, number, gate)?;
-    settle(alloc, worked, workers, &switches)
+    match switches_of(&net) {
+        Ok(switches) => {
+            let lent = lend(alloc, net, workers)?;
+            let worked = work_out(rt, alloc, lent, number, gate)?;
+            settle(alloc, worked, workers, &switches)
+        }
+        Err(fault) => {
+            drop(net);
+            Err(fault)
+        }
+    }
 }
 
 // Makes a step of each copy in flight, in the order of the list.

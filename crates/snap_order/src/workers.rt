@@ -79,7 +79,7 @@ fn worked<R: Threads + Sync, G: Gate>(
 {
     let play = Play::new(alloc, tables, hops, packets)?;
     let begun = begin_all(rt, play, workers, gate)?;
-    let ended = end_all(rt, begun.play, begun.rounds, workers, gate)?;
+    let mut ended = end_all(rt, begun.play, begun.rounds, workers, gate)?;
     ended.report()
 }
 

@@ -1,50 +1,31 @@
-use Rattle.std.proofs.Common.{◌≡◌, ℕ, ◌<◌, List, get_or, length, subst, arith}
-use Rattle.snap_order.specs.declared.job.Job.{Job}
-use Rattle.snap_order.specs.Weaving.{HasCounts}
-use Rattle.snap_order.proofs.Dealing.{some_of}
-use Rattle.snap_order.proofs.Sharing.{held_again, ordered_again, settled, worked_many, worked_room}
+use Rattle.std.proofs.Common.{◌≡◌, map, sym, ap, subst, ◌∙◌}
+use Rattle.std.proofs.lemmas.Result.{IfOk-weaker}
+use Rattle.snap_net.specs.declared.flying.Flying.{Flying}
+use Rattle.snap_net.specs.Shown.{Held}
+use Rattle.snap_order.specs.declared.lent.Lent.{Lent}
+use Rattle.snap_order.specs.declared.round.Rounded.{Rounded}
+use Rattle.snap_order.specs.declared.weave.Web.{Web}
+use Rattle.snap_order.specs.Lending.{IsWorked, held_again}
+use Rattle.snap_order.specs.Rounding.{IsRoundDone}
+use Rattle.snap_order.specs.Shown.{OrderedHeld}
 use Rattle.snap_order.proofs.lent.settle.Goals as goal
 
-pub exchange-requires-clause-jobs : goal.exchange-requires-clause-jobs
-exchange-requires-clause-jobs c = worked_many c.requires.workers c.requires.worked.1
+abbrev Rejoined : Lent → Web → Rounded → Type 0
+Rejoined lent web r = (r.net.net ≡ held_again lent web) × (r.net.counts ≡ lent.counts.items) × (r.done.items ≡ web.done.items)
 
-pub exchange-requires-clause-places : goal.exchange-requires-clause-places
-exchange-requires-clause-places c = worked_room c.requires.workers c.requires.worked.1
-
-pub from_parts-requires-clause-held : goal.from_parts-requires-clause-held
-from_parts-requires-clause-held c =
-    let w = c.args.workers in
+pub returns-in-Ok-clause-done : goal.returns-in-Ok-clause-done
+returns-in-Ok-clause-done c =
     let lent = c.args.lent in
-    let some = c.requires.workers in
-    let is = c.requires.worked.1 in
-    let many = worked_many some is in
-    let d = some_of lent.jobs.items (omega (arith, many, some)) in
-    let counts = c.count_all.new.counts.items in
-    held_again some is d c.exchange.new.stores.items c.exchange.new.jobs.items counts c.in_ok-web.web c.exchange.ensures.exchanged
-    (λ r low. subst (λ (l : List Job). HasCounts lent.tables w l r (get_or lent.counts.items r 0) (get_or counts r 0)) c.deref.ensures.value (c.count_all.ensures.counts r low)) c.count_all.ensures.long
-    (c.in_ok-web.ensures c.requires.worked.0.net.flying c.requires.worked.2)
+    IfOk-weaker c.rejoin.result (Rejoined c.gather.new.lent c.in-Ok.web)
+    (λ (r : Rounded). (v : OrderedHeld) → IsWorked c.args.workers v lent.tables lent.injected lent.counts.items lent.stores.items lent.jobs.items → map (λ (c : Flying). c.at) v.net.flying ≡ c.args.switches.now → IsRoundDone v r.net r.done.items)
+    (λ r h v is e. subst (IsRoundDone v r.net) (sym h.2) (c.in-Ok.ensures.done v is e r.net h.0 h.1)) c.rejoin.ensures
 
-pub from_parts-requires-clause-ordered : goal.from_parts-requires-clause-ordered
-from_parts-requires-clause-ordered c =
-    let w = c.args.workers in
-    let lent = c.args.lent in
-    let some = c.requires.workers in
-    let is = c.requires.worked.1 in
-    let many = worked_many some is in
-    let d = some_of lent.jobs.items (omega (arith, many, some)) in
-    let counts = c.count_all.new.counts.items in
-    ordered_again some is d c.exchange.new.stores.items c.exchange.new.jobs.items counts c.in_ok-web.web c.exchange.ensures.exchanged
-    (λ r low. subst (λ (l : List Job). HasCounts lent.tables w l r (get_or lent.counts.items r 0) (get_or counts r 0)) c.deref.ensures.value (c.count_all.ensures.counts r low)) c.count_all.ensures.long
-    (c.in_ok-web.ensures c.requires.worked.0.net.flying c.requires.worked.2)
+pub returns-in-Ok-clause-tables : goal.returns-in-Ok-clause-tables
+returns-in-Ok-clause-tables c =
+    IfOk-weaker c.rejoin.result (Rejoined c.gather.new.lent c.in-Ok.web) (λ (r : Rounded). r.net.net.tables ≡ c.args.lent.tables)
+    (λ r h. ap (λ (n : Held). n.tables) h.0 ∙ c.gather.ensures.tables) c.rejoin.ensures
 
-pub returns-clause-done : goal.returns-clause-done
-returns-clause-done c = λ v is e.
-    let w = c.args.workers in
-    let lent = c.args.lent in
-    let some = c.requires.workers in
-    let many = worked_many some is in
-    let d = some_of lent.jobs.items (omega (arith, many, some)) in
-    let counts = c.count_all.new.counts.items in
-    settled some is d c.exchange.new.stores.items c.exchange.new.jobs.items counts c.in_ok-web.web c.exchange.ensures.exchanged
-    (λ r low. subst (λ (l : List Job). HasCounts lent.tables w l r (get_or lent.counts.items r 0) (get_or counts r 0)) c.deref.ensures.value (c.count_all.ensures.counts r low)) c.count_all.ensures.long
-    (c.in_ok-web.ensures v.net.flying e) c.in_ok-net.net c.in_ok-net.ensures.net c.in_ok-net.ensures.counts
+pub returns-in-Ok-clause-injected : goal.returns-in-Ok-clause-injected
+returns-in-Ok-clause-injected c =
+    IfOk-weaker c.rejoin.result (Rejoined c.gather.new.lent c.in-Ok.web) (λ (r : Rounded). r.net.net.injected ≡ c.args.lent.injected)
+    (λ r h. ap (λ (n : Held). n.injected) h.0 ∙ c.gather.ensures.injected) c.rejoin.ensures

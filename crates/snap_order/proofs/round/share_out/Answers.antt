@@ -12,31 +12,31 @@ pub work_out-requires : goal.work_out-requires
 work_out-requires g c =
     let low = c.requires.workers.0 in
     let some : 0 < c.args.workers = omega (arith, low) in
-    let ready = lent_ready some c.in_ok-lent.ensures in
+    let ready = lent_ready some c.in_ok-lent-in-Ok.ensures in
     search (rules, ready)
 
 pub settle-requires-clause-worked : goal.settle-requires-clause-worked
 settle-requires-clause-worked g c =
-    let w = c.in_ok-worked.ensures in
-    (c.args.net, works_on c.args.workers c.args.net c.in_ok-lent.lent c.in_ok-worked.worked c.in_ok-lent.ensures w.tables w.injected w.counts w.stores w.worked w.enough, sym c.in_ok-switches.ensures ∙ sym c.deref.ensures.value)
+    let w = c.in_ok-worked-in-Ok.ensures in
+    (c.args.net, works_on c.args.workers c.args.net c.in_ok-lent-in-Ok.lent c.in_ok-worked-in-Ok.worked c.in_ok-lent-in-Ok.ensures w.tables w.injected w.counts w.stores w.worked w.enough, sym c.in-Ok.ensures ∙ sym c.deref.ensures.value)
 
-pub returns-clause-done : goal.returns-clause-done
-returns-clause-done g c =
-    let w = c.in_ok-worked.ensures in
+pub returns-in_ok-worked-in-Ok-clause-done : goal.returns-in_ok-worked-in-Ok-clause-done
+returns-in_ok-worked-in-Ok-clause-done g c =
+    let w = c.in_ok-worked-in-Ok.ensures in
     let v = c.args.net in
-    let d = c.in_ok-worked.worked in
-    let is = works_on c.args.workers v c.in_ok-lent.lent d c.in_ok-lent.ensures w.tables w.injected w.counts w.stores w.worked w.enough in
-    let switches = sym c.in_ok-switches.ensures ∙ sym c.deref.ensures.value in
+    let d = c.in_ok-worked-in-Ok.worked in
+    let is = works_on c.args.workers v c.in_ok-lent-in-Ok.lent d c.in_ok-lent-in-Ok.ensures w.tables w.injected w.counts w.stores w.worked w.enough in
+    let switches = sym c.in-Ok.ensures ∙ sym c.deref.ensures.value in
     IfOk-weaker c.settle.result
     (λ (r : Rounded). (v : OrderedHeld) → IsWorked c.args.workers v d.tables d.injected d.counts.items d.stores.items d.jobs.items → map (λ (c : Flying). c.at) v.net.flying ≡ c.deref.result.now → IsRoundDone v r.net r.done.items)
     (λ (r : Rounded). IsRoundDone v r.net r.done.items) (λ r h. h v is switches) c.settle.ensures.done
 
-pub returns-clause-tables : goal.returns-clause-tables
-returns-clause-tables g c =
-    let t = c.in_ok-worked.ensures.tables ∙ sym c.in_ok-lent.ensures.tables in
-    IfOk-weaker c.settle.result (λ (r : Rounded). r.net.net.tables ≡ c.in_ok-worked.worked.tables) (λ (r : Rounded). r.net.net.tables ≡ c.args.net.net.tables) (λ r h. h ∙ t) c.settle.ensures.tables
+pub returns-in_ok-worked-in-Ok-clause-tables : goal.returns-in_ok-worked-in-Ok-clause-tables
+returns-in_ok-worked-in-Ok-clause-tables g c =
+    let t = c.in_ok-worked-in-Ok.ensures.tables ∙ sym c.in_ok-lent-in-Ok.ensures.tables in
+    IfOk-weaker c.settle.result (λ (r : Rounded). r.net.net.tables ≡ c.in_ok-worked-in-Ok.worked.tables) (λ (r : Rounded). r.net.net.tables ≡ c.args.net.net.tables) (λ r h. h ∙ t) c.settle.ensures.tables
 
-pub returns-clause-injected : goal.returns-clause-injected
-returns-clause-injected g c =
-    let n = c.in_ok-worked.ensures.injected ∙ sym c.in_ok-lent.ensures.injected in
-    IfOk-weaker c.settle.result (λ (r : Rounded). r.net.net.injected ≡ c.in_ok-worked.worked.injected) (λ (r : Rounded). r.net.net.injected ≡ c.args.net.net.injected) (λ r h. h ∙ n) c.settle.ensures.injected
+pub returns-in_ok-worked-in-Ok-clause-injected : goal.returns-in_ok-worked-in-Ok-clause-injected
+returns-in_ok-worked-in-Ok-clause-injected g c =
+    let n = c.in_ok-worked-in-Ok.ensures.injected ∙ sym c.in_ok-lent-in-Ok.ensures.injected in
+    IfOk-weaker c.settle.result (λ (r : Rounded). r.net.net.injected ≡ c.in_ok-worked-in-Ok.worked.injected) (λ (r : Rounded). r.net.net.injected ≡ c.args.net.net.injected) (λ r h. h ∙ n) c.settle.ensures.injected
