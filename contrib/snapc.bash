@@ -7,6 +7,7 @@ _snapc() {
         COMPREPLY=($(compgen -W "$commands" -- "$current"))
         return
     fi
+    # An option and its file are two words, or one with a `=`, which bash gives as three words.
     for word in "${COMP_WORDS[@]:2:COMP_CWORD-2}"; do
         case $last:$word in
         --schedule:= | --changes:= | --workers:=) word=$last ;;
@@ -19,30 +20,33 @@ _snapc() {
         esac
         last=$word
     done
-    # `--` may stand once. Behind `trace` and before it `--hops` may, one of `--schedule`, `--changes` and `--workers`, and `--ordered` but
-    # beside `--changes`.
-    case $current in
-    -*)
-        [ "$dashes" -eq 1 ] && return
-        case ${COMP_WORDS[1]}:$hops:$turns:$runs:$current in
-        trace:0:*:*:--h*) COMPREPLY=(--hops) ;;
-        trace:*:*::--s*) COMPREPLY=(--schedule) ;;
-        trace:*:0::--c*) COMPREPLY=(--changes) ;;
-        trace:*:0::--o* | trace:*:0:--schedule:--o* | trace:*:0:--workers:--o*) COMPREPLY=(--ordered) ;;
-        trace:*:*::--w*) COMPREPLY=(--workers) ;;
-        *) COMPREPLY=(--) ;;
-        esac
-        return
+    local wanted=${COMP_WORDS[1]}:$files
+    case $last in
+    --schedule | --changes | --workers)
+        # Behind such a `=` the word has no letter yet.
+        [[ $current == "=" ]] && current=
+        wanted=$last
         ;;
     esac
-    [[ $last == --workers ]] && COMPREPLY=($(compgen -W "$(echo {1..64})" -- "$current")) && return
-    # The file of a schedule or of changes may have any name.
-    [[ $last == --schedule || $last == --changes ]] && COMPREPLY=($(compgen -f -- "$current")) && return
-    case ${COMP_WORDS[1]}:$files in
+    # `--` may stand once. Behind `trace` and before it `--hops` may, one of `--schedule`, `--changes` and `--workers`, and `--ordered` but
+    # beside `--changes`.
+    if [[ $current == -* && $wanted != -* ]]; then
+        [ "$dashes" -eq 1 ] && return
+        only=--
+        if [[ ${COMP_WORDS[1]} == trace ]]; then
+            [ "$hops" -eq 0 ] && only+=" --hops"
+            [ -z "$runs" ] && only+=" --schedule --workers"
+            [ -z "$runs" ] && [ "$turns" -eq 0 ] && only+=" --changes"
+            [ "$turns" -eq 0 ] && [[ $runs != --changes ]] && only+=" --ordered"
+        fi
+        COMPREPLY=($(compgen -W "$only" -- "$current"))
+        return
+    fi
+    case $wanted in
     obs:0 | deps:0 | check:0 | equal:0 | equal:1 | compile:0 | place:0) only='!*.snap' ;;
     routes:0 | compile:1 | compile:2 | place:1 | place:2) only='!*.toml' ;;
-    obs:1 | trace:0 | trace:1) ;;
-    demo:0)
+    obs:1 | trace:0 | trace:1 | --schedule | --changes) ;;
+    demo:0 | --workers)
         COMPREPLY=($(compgen -W "$(echo {1..64})" -- "$current"))
         return
         ;;
@@ -50,8 +54,8 @@ _snapc() {
     esac
     local IFS=$'\n'
     compopt -o filenames 2> /dev/null
-    # Files of the usual name and folders; where there are none, any file.
-    [ -n "$only" ] && COMPREPLY=($(compgen -f -X "$only" -- "$current"; compgen -d -- "$current"))
+    # Files of the usual name and folders; where there are none, any file. A folder may have such a name too.
+    [ -n "$only" ] && COMPREPLY=($({ compgen -f -X "$only" -- "$current"; compgen -d -- "$current"; } | sort -u))
     [ "${#COMPREPLY[@]}" -gt 0 ] || COMPREPLY=($(compgen -f -- "$current"))
 }
 complete -F _snapc snapc
