@@ -1,29 +1,30 @@
-# snapc: a verified SNAP compiler and simulator. `make run` shows it at work, `make test` proves and tests all of it.
+# snapc: a verified SNAP compiler and simulator. `make help` lists what can be made; each target's line begins with #:.
 PREFIX ?= /usr/local
 JOBS ?= $(shell nproc)
-PROGRAM = examples/first-run/two-ports.snap
-PACKETS = examples/first-run/packets
+SOURCES = crates.txt $(shell find crates -name out -prune -o \( -name '*.rt' -o -name '*.antt' \) ! -path '*_tests/*' -print)
+CODE = $(filter-out %.antt,$(SOURCES))
 
-.PHONY: all run try test install clean
+.PHONY: all run test install install-unproved uninstall clean help
+.DELETE_ON_ERROR:
 
-# The proved program. Crates that don't stand on each other are proved side by side.
+#: make                    proves snapc and builds bin/snapc; JOBS=N: N crates side by side, or else one for each processor
 all: bin/snapc
 
-bin/snapc: crates.txt $(shell find crates -name out -prune -o \( -name '*.rt' -o -name '*.antt' \) -print)
-	tools/prove $(JOBS) snapc
-	cd crates/snapc && mkdir -p out && rt run -- obs ../../$(PROGRAM) ../../$(PACKETS) > out/run.log 2> out/prove.log || { cat out/prove.log; false; }
-	mkdir -p bin
+bin/snapc: $(SOURCES)
+	tools/prove $(JOBS)
 	install -m 755 crates/snapc/out/snapc bin/snapc
 
-# The report of one big switch over a real packets file.
-run: bin/snapc
-	bin/snapc obs $(PROGRAM) $(PACKETS)
+#: make run                in minutes: builds bin/snapc-unproved, compiled and not proved, and shows the main job with it
+# Where a kit doesn't let the program be built so, tools/run has the kit run it.
+run:
+	-@$(MAKE) --no-print-directory bin/snapc-unproved
+	@tools/run bin/snapc-unproved
 
-# The same, compiled and not proved, in about two minutes.
-try:
-	cd crates/snapc && rt try -- obs $(CURDIR)/$(PROGRAM) $(CURDIR)/$(PACKETS)
+bin/snapc-unproved: $(CODE) tools/build-unproved
+	mkdir -p bin
+	tools/build-unproved $@
 
-# All proofs, tests and must-fail edits, the examples with the built program, and that man page, completions and docs agree.
+#: make test               the gate: all proofs, tests and must-fail edits, then the examples and the docs with the program
 test:
 	rt ci
 	mkdir -p bin
@@ -34,16 +35,38 @@ test:
 	examples/demonstrations bin/snapc
 	examples/hostile bin/snapc
 	examples/refused bin/snapc
+	contrib/shown bin/snapc
 	contrib/check
 
-# The program, its man page and the completions of bash and zsh.
-install: bin/snapc
-	mkdir -p $(PREFIX)/bin $(PREFIX)/share/man/man1
-	mkdir -p $(PREFIX)/share/bash-completion/completions $(PREFIX)/share/zsh/site-functions
-	install -m 755 bin/snapc $(PREFIX)/bin/snapc
-	install -m 644 contrib/snapc.1 $(PREFIX)/share/man/man1/snapc.1
-	install -m 644 contrib/snapc.bash $(PREFIX)/share/bash-completion/completions/snapc
-	install -m 644 contrib/_snapc $(PREFIX)/share/zsh/site-functions/_snapc
+# What goes where, and the program first; nothing is built or proved here, so that it may run under sudo.
+SHARE = $(DESTDIR)$(PREFIX)/share
+INSTALLED = $(DESTDIR)$(PREFIX)/bin/snapc $(SHARE)/man/man1/snapc.1 \
+	$(SHARE)/bash-completion/completions/snapc $(SHARE)/zsh/site-functions/_snapc
+define install_it
+	@test -f $(1) || { echo '$(1) is not there: $(2) builds it'; exit 1; }
+	mkdir -p $(dir $(INSTALLED))
+	install -m 755 $(1) $(word 1,$(INSTALLED))
+	install -m 644 contrib/snapc.1 $(word 2,$(INSTALLED))
+	install -m 644 contrib/snapc.bash $(word 3,$(INSTALLED))
+	install -m 644 contrib/_snapc $(word 4,$(INSTALLED))
+endef
 
+#: make install            installs bin/snapc, its man page and completions under PREFIX=/usr/local, and DESTDIR before that
+install:
+	$(call install_it,bin/snapc,make)
+
+#: make install-unproved   the same with bin/snapc-unproved, as snapc
+install-unproved:
+	$(call install_it,bin/snapc-unproved,make run)
+
+#: make uninstall          removes what was installed
+uninstall:
+	rm -f $(INSTALLED)
+
+#: make clean              removes what was built and what is kept of proofs
 clean:
 	rm -rf bin crates/*/out
+
+#: make help               this list
+help:
+	@sed -n 's/^#: //p' Makefile
