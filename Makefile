@@ -65,7 +65,7 @@ uninstall:
 
 #: make clean              removes what was built and what is kept of proofs
 clean:
-	rm -rf bin crates/*/out
+	rm -rf bin out crates/*/out
 
 #: make help               this list
 help:
