@@ -12,6 +12,7 @@ all: bin/snapc
 
 bin/snapc: $(SOURCES)
 	tools/prove $(JOBS)
+	mkdir -p bin
 	install -m 755 crates/snapc/out/snapc bin/snapc
 
 #: make run                in minutes: builds bin/snapc-unproved, compiled and not proved, and shows the main job with it
