@@ -1,5 +1,6 @@
--- What is compiled for one program, and then traced with changes of tables, is what one big switch does.
-use Rattle.std.proofs.Common.{◌≡◌, ℕ, Bool, false, List, [], ◌∷◌, Some, Result, Ok, Err, refl, sym, ◌∙◌, ap, subst, inl, inr}
+-- What is compiled for programs of one shape, and then traced with changes of tables, is what one big switch does whose program changes.
+use Rattle.std.proofs.Common.{◌≡◌, ℕ, Bool, true, false, List, [], ◌∷◌, Some, Result, Ok, Err, refl, sym, ◌∙◌, ap, subst, inl, inr}
+use Rattle.std.specs.Prelude.{nat_le, if◌then◌else◌}
 use Rattle.std.specs.List.{All}
 use Rattle.std.proofs.lemmas.List.Elements.{All-cons, All-head, All-nil, All-tail}
 use Rattle.snap_core.specs.declared.program.Program.{Program}
@@ -14,51 +15,62 @@ use Rattle.snap_runs.specs.Laws.{SpelledPacketsFit}
 use Rattle.snap_move.specs.declared.change.Change.{Change}
 use Rattle.snap_move.specs.declared.change.ChangesFault.{ChangesFault}
 use Rattle.snap_move.specs.declared.later.Later.{Later}
-use Rattle.snap_move.specs.Changing.{IsChangedReport, IsRising}
+use Rattle.snap_move.specs.Changing.{HaveShapeOf, IsChangedReport, IsRising, in_force}
 use Rattle.snap_move.specs.Files.{EndsAsRead, spelled_under}
-use Rattle.snap_move.specs.Laws.{AreFaithful, ChangedRunsReportOneSwitch, IsFaithfulTo, SaidChangesRise}
+use Rattle.snap_move.specs.Laws.{IsFaithfulTo, SaidChangesRise}
 use Rattle.snap_move.specs.Lines.{changes_of}
-use Rattle.snap_words.specs.Commands.{changes}
+use Rattle.snap_move.specs.Shapes.{HaveOneShape}
+use Rattle.snap_words.specs.Commands.{changes, trace}
 use Rattle.snap_cli.specs.declared.refusal.Refusal.{Refusal}
 use Rattle.snap_cli.specs.Changes.{ChangedTables, ChangesOf, ChangesTo, LaterOf, before, said_changes}
 use Rattle.snap_cli.specs.ChangesSteps.{afters, afters_of}
-use Rattle.snap_cli.specs.Headline.{AreOutputsFor, ChangesTraceAsOneSwitch, IsOutputFor}
-use Rattle.snap_cli.specs.Laws.{AnswersExactly, ChangesExactly, CompilesExactly, SpellsOneProgram}
+use Rattle.snap_cli.specs.Headline.{Did, IsOutputFor}
+use Rattle.snap_cli.specs.Laws.{AnswersExactly, ChangesExactly, CompilesExactly}
 use Rattle.snap_cli.specs.Obs.{IsRunEnding}
 use Rattle.snap_cli.specs.ProgramOf.{ProgramOf}
 use Rattle.snap_cli.specs.Refusals.{Ending, status_of}
 use Rattle.snap_cli.specs.TablesOf.{TablesOf}
 use Rattle.snap_cli.proofs.ChangesLemmas.{rising-changes}
-use Rattle.snap_cli.proofs.SameFaithful.{faithful_too}
 use Rattle.snap_cli.proofs.SpelledUnder.{spelled_fit, under_whole}
 use Rattle.snap_cli.proofs.Traced.{compiled, no_failure, read_tables, refused_apart, run_apart, same_tables}
+use Rattle.snap_move.proofs.Settling.{shape-same}
+use Rattle.snap_move.proofs.Report.{force-shape}
+use Rattle.snap_move.specs.Laws.{AreFaithfulTo, UpgradedRunsAreShort, UpgradedRunsReportOneSwitch}
+use Rattle.snap_cli.specs.Headline.{AreGivenUnder, AreOutputsOf, UpgradesInFewHops, UpgradesTraceAsOneSwitch, file_in_force}
 
 -- ---- the tables of the changes
 module _ (files : Files) (first : Tables) where
-  -- their numbers of packets are those of the changes
-  later_afters : (cs : List Change) (r : Result (List Later) Refusal) → LaterOf files first cs r → (ls : List Later) → r ≡ Ok ls → afters ls ≡ afters_of cs
-  later_afters [] r h ls is = let none : ◌≡◌ {A = List Later} ls [] = cc in ap afters none
-  later_afters (c ∷ cs) r (inl h) ls is = absurd (let e = h.2 in cc)
-  later_afters (c ∷ cs) r (inr h) ls is = by h.2.0 (later_afters cs h.2.0 h.2.1) (sym h.2.2 ∙ is)
+  -- all were read, so each of them can come into force
+  pub data AreRead : List Change → List Later → Type 0 where
+    none : AreRead [] []
+    one : {c : Change} {cs : List Change} {l : Later} {ls : List Later} → l.after ≡ c.after → TablesOf (file_of files c.name) (Ok l.tables) → HaveOneShape l.tables first → AreRead cs ls → AreRead (c ∷ cs) (l ∷ ls)
+
+  all_read : (cs : List Change) (r : Result (List Later) Refusal) → LaterOf files first cs r → (ls : List Later) → r ≡ Ok ls → AreRead cs ls
+  all_read [] r h ls is = let e : ◌≡◌ {A = List Later} [] ls = cc in subst (AreRead []) e none
+  all_read (c ∷ cs) r (inl h) ls is = absurd (let e = h.2 in cc)
+  all_read (c ∷ cs) r (inr h) ls is = by h.2.0 (all_read cs h.2.0 h.2.1) (sym h.2.2 ∙ is)
     where
-      by : (o : Result (List Later) Refusal) → ((ms : List Later) → o ≡ Ok ms → afters ms ≡ afters_of cs) → before (h.0 ∷ []) o ≡ Ok ls → afters ls ≡ afters_of (c ∷ cs)
-      by (Ok ms) f e = let same : ls ≡ h.0 ∷ ms = cc in ap afters same ∙ (λ i. h.1.after i ∷ f ms refl i)
+      by : (o : Result (List Later) Refusal) → ((ms : List Later) → o ≡ Ok ms → AreRead cs ms) → before (h.0 ∷ []) o ≡ Ok ls → AreRead (c ∷ cs) ls
+      by (Ok ms) f e = let same : h.0 ∷ ms ≡ ls = cc in subst (AreRead (c ∷ cs)) same (one h.1.after h.1.spelled h.1.shape (f ms refl))
       by (Err x) f e = absurd (cc)
 
-  -- what holds of tables that the files of changes spell holds of theirs
-  module _ (P : Tables → Type 0) (Q : List ℕ → Type 0) (holds : (output : List ℕ) → Q output → (t : Tables) → TablesOf output (Ok t) → P t) where
-    later_all : (cs : List Change) (r : Result (List Later) Refusal) → LaterOf files first cs r → (ls : List Later) → r ≡ Ok ls → All (λ (c : Change). Q (file_of files c.name)) cs → All (λ (l : Later). P l.tables) ls
-    later_all [] r h ls is all = let none : ◌≡◌ {A = List Later} [] ls = cc in subst (All (λ (l : Later). P l.tables)) none (All-nil (λ (l : Later). P l.tables))
-    later_all (c ∷ cs) r (inl h) ls is all = absurd (let e = h.2 in cc)
-    later_all (c ∷ cs) r (inr h) ls is all =
-        by h.2.0 (λ ms e. later_all cs h.2.0 h.2.1 ms e (All-tail (λ (x : Change). Q (file_of files x.name)) c cs all)) (sym h.2.2 ∙ is)
-      where
-        by : (o : Result (List Later) Refusal) → ((ms : List Later) → o ≡ Ok ms → All (λ (l : Later). P l.tables) ms) → before (h.0 ∷ []) o ≡ Ok ls → All (λ (l : Later). P l.tables) ls
-        by (Ok ms) f e =
-            let same : h.0 ∷ ms ≡ ls = cc in
-            let here = holds (file_of files c.name) (All-head (λ (x : Change). Q (file_of files x.name)) c cs all) h.0.tables h.1.spelled in
-            subst (All (λ (l : Later). P l.tables)) same (All-cons (λ (l : Later). P l.tables) h.0 ms here (f ms refl))
-        by (Err x) f e = absurd (cc)
+  read_afters : {cs : List Change} {ls : List Later} → AreRead cs ls → afters ls ≡ afters_of cs
+  read_afters none = refl
+  read_afters (one after is shape rest) = λ i. after i ∷ read_afters rest i
+
+  read_shapes : {cs : List Change} {ls : List Later} → AreRead cs ls → HaveShapeOf first ls
+  read_shapes none = All-nil (λ (x : Later). HaveOneShape x.tables first)
+  read_shapes (one {l = l} {ls = ls} after is shape rest) = All-cons (λ (x : Later). HaveOneShape x.tables first) l ls shape (read_shapes rest)
+
+  -- what holds of each file's tables holds of those in force, and the file in force
+  module _ (Q : List ℕ → Tables → Type 0) (i : ℕ) where
+    read_in_force : {cs : List Change} {ls : List Later} → AreRead cs ls → (P : List ℕ → Type 0) → All (λ (c : Change). P c.name) cs → ((name : List ℕ) → P name → (t : Tables) → TablesOf (file_of files name) (Ok t) → Q name t)
+        → (name : List ℕ) (t : Tables) → Q name t → Q (file_in_force name cs i) (in_force t ls i)
+    read_in_force none P all holds name t here = here
+    read_in_force (one {c = c} {cs = cs} {l = l} {ls = ls} after is shape rest) P all holds name t here =
+        let then_on = read_in_force rest P (All-tail (λ (x : Change). P x.name) c cs all) holds c.name l.tables (holds c.name (All-head (λ (x : Change). P x.name) c cs all) l.tables is) in
+        subst (λ n. Q (if nat_le n i then file_in_force c.name cs i else name) (if nat_le l.after i then in_force l.tables ls i else t)) after
+        (elim (nat_le l.after i) as (λ b. Q (if b then file_in_force c.name cs i else name) (if b then in_force l.tables ls i else t)) [ true ↦ then_on | false ↦ here ])
 
 -- a file says the changes that its lines do
 said_by_lines : (r : Result (List Change) ChangesFault) (cs : List Change) → ◌≡◌ {A = Result (List Change) Refusal} (Ok cs) (said_changes r) → r ≡ Ok cs
@@ -71,9 +83,9 @@ said_changes_of file cs (inr h) = said_by_lines (changes_of file) cs h.1
 
 -- ---- the run
 module _ (files : Files) (first : Tables) (lines : List ℕ) where
-  changed_rise : SaidChangesRise → (ls : List Later) → ChangedTables files first lines (Ok ls) → IsRising ls
-  changed_rise rise ls (inl h) = absurd (let e = h.2 in cc)
-  changed_rise rise ls (inr h) = rising-changes ls h.0 (later_afters files first h.0 (Ok ls) h.2 ls refl) (rise (file_of files lines) h.0 (said_changes_of (file_of files lines) h.0 h.1))
+  changes_read : (ls : List Later) → ChangedTables files first lines (Ok ls) → (cs : List Change) × ChangesOf (file_of files lines) (Ok cs) × AreRead files first cs ls
+  changes_read ls (inl h) = absurd (let e = h.2 in cc)
+  changes_read ls (inr h) = (h.0, h.1, all_read files first h.0 (Ok ls) h.2 ls refl)
 
   module _ (packets : List ℕ) (hops : Bool) (ending : Ending) (text : List ℕ) (well : 0 ≡ status_of ending) where
     -- a run that ended with status 0 read all packets, and has a report
@@ -91,51 +103,75 @@ module _ (files : Files) (first : Tables) (lines : List ℕ) where
         (h.0, h.1, read_whole h.0 h.2.0 read.packets read.stop h.2.1 h.2.2)
 
 -- ---- the whole
-module _ (exactly : AnswersExactly) (compiles : CompilesExactly) (traces : ChangesExactly) (spells : SpellsOneProgram) (source : List ℕ) where
-  -- the source spells a program
-  spelled_program : (output : List ℕ) → IsOutputFor source output → (p : Program) × ProgramOf source (Ok p)
-  spelled_program output o =
-      let of = (compiled exactly compiles o.files o.program o.topology o.placement output o.did).1 in
-      (of.0, subst (λ x. ProgramOf x (Ok of.0)) o.holds of.3.the_program)
+-- a program that the source spells, and to which the tables are faithful
+pub record HasProgram (source : List ℕ) (t : Tables) : Type 0 where
+  pub program : Program
+  pub spelled_so : ProgramOf source (Ok program)
+  pub faithful : IsFaithfulTo program t
 
-  -- tables that are read of an output are faithful to it
-  faithful_output : (p : Program) → ProgramOf source (Ok p) → (output : List ℕ) → IsOutputFor source output → (t : Tables) → TablesOf output (Ok t) → IsFaithfulTo p t
-  faithful_output p is output o t read =
+module _ (exactly : AnswersExactly) (compiles : CompilesExactly) (traces : ChangesExactly) (fit : SpelledPacketsFit) (rise : SaidChangesRise) where
+  output_has : (source output : List ℕ) → IsOutputFor source output → (t : Tables) → TablesOf output (Ok t) → HasProgram source t
+  output_has source output o t read =
       let made = compiled exactly compiles o.files o.program o.topology o.placement output o.did in
       let n : Tables = made.0 in
       let of = made.1 in
       let same : t ≡ n = same_tables output n t made.2 made.3 read in
-      let cores = spells source (Ok of.0) (Ok p) (subst (λ x. ProgramOf x (Ok of.0)) o.holds of.3.the_program) is in
-      record { topology = of.1; places = of.2; faithful = subst (Faithful p of.1 of.2) (sym same) (faithful_too of.0 p cores of.1 of.2 n of.4) }
+      record {
+        program = of.0;
+        spelled_so = subst (λ x. ProgramOf x (Ok of.0)) o.holds of.3.the_program;
+        faithful = record { topology = of.1; places = of.2; faithful = subst (Faithful of.0 of.1 of.2) (sym same) of.4 };
+      }
 
-  all_faithful : (p : Program) → ProgramOf source (Ok p) → (files : Files) (first : Tables) (lines : List ℕ) → AreOutputsFor source files lines → (ls : List Later) → ChangedTables files first lines (Ok ls) → All (λ (l : Later). IsFaithfulTo p l.tables) ls
-  all_faithful p is files first lines outputs ls (inl h) = absurd (let e = h.2 in cc)
-  all_faithful p is files first lines outputs ls (inr h) =
-      later_all files first (IsFaithfulTo p) (IsOutputFor source) (faithful_output p is) h.0 (Ok ls) h.2 ls refl (outputs h.0 h.1)
+  -- what was given to a run, and its report
+  pub record Ran (source : List ℕ → List ℕ) (later : Files) (tables lines packets : List ℕ) (hops : Bool) (report : List ℕ) : Type 0 where
+    pub given : AreGivenUnder source later tables lines packets
+    pub faithful : AreFaithfulTo given.programs given.first given.others
+    pub shapes : HaveShapeOf given.first given.others
+    pub rising : IsRising given.others
+    pub fits : All (IsPacket (count given.first.fields)) (spelled (given.programs 0).fields (file_of later packets)).packets
+    pub told : IsChangedReport given.first given.others hops (spelled (given.programs 0).fields (file_of later packets)).packets report
 
-pub changes_as_one_switch : AnswersExactly → CompilesExactly → ChangesExactly → SpellsOneProgram → SpelledPacketsFit → SaidChangesRise → ChangedRunsReportOneSwitch → ChangesTraceAsOneSwitch
-changes_as_one_switch exactly compiles traces spells fit rise one source later tables packets lines report output outputs d =
-    let is = spelled_program exactly compiles traces spells source (file_of later tables) output in
-    let p : Program = is.0 in
-    let t = read_tables exactly later tables packets report false (changes lines) d in
-    let first : Tables = t.0 in
-    let file = file_of later packets in
-    let r = no_failure (traces d.words later tables packets lines false first 0 d.shelf_before d.shelf_now d.out_before d.out_now (Some []) (Some report) d.err_before d.err_now d.err_old d.err_new d.said t.1 d.answers) in
-    let ran = reported later first lines packets false r.0 r.1 r.3.status_is r.2 in
-    let others : List Later = ran.0 in
-    let at_first = faithful_output exactly compiles traces spells source p is.1 (file_of later tables) output first t.1 in
-    let faithful : AreFaithful p first others = record { at_first = at_first; others = all_faithful exactly compiles traces spells source p is.1 later first lines outputs others ran.1 } in
-    let fields : first.fields ≡ p.fields = at_first.faithful.shape.fields in
-    let read : spelled_under first others file ≡ spelled p.fields file = under_whole first others file ran.2.0 ∙ ap (λ fs. spelled fs file) fields in
-    let fits = subst (λ fs. All (IsPacket (count fs)) (spelled fs file).packets) fields (spelled_fit fit first file) in
-    let told = subst (λ (s : Spelled). IsChangedReport first others false s.packets report) read (subst (IsChangedReport first others false (spelled_under first others file).packets) (sym r.3.out) ran.2.1) in
-    record {
-      p = p;
-      the_program = is.1;
-      first = first;
-      the_first = t.1;
-      others = others;
-      the_others = ran.1;
-      whole = ap (λ (s : Spelled). s.stop) (sym read) ∙ ran.2.0;
-      report = one p first others faithful (changed_rise later first lines rise others ran.1) (spelled p.fields file).packets fits report told;
-    }
+  ran : (source : List ℕ → List ℕ) (later : Files) (tables packets lines : List ℕ) (hops : Bool) (report : List ℕ)
+      → IsOutputFor (source tables) (file_of later tables) → AreOutputsOf source later lines → Did later (trace tables packets hops (changes lines)) report → Ran source later tables lines packets hops report
+  ran source later tables packets lines hops report output outputs d =
+      let t = read_tables exactly later tables packets report hops (changes lines) d in
+      let first : Tables = t.0 in
+      let file = file_of later packets in
+      let r = no_failure (traces d.words later tables packets lines hops first 0 d.shelf_before d.shelf_now d.out_before d.out_now (Some []) (Some report) d.err_before d.err_now d.err_old d.err_new d.said t.1 d.answers) in
+      let end = reported later first lines packets hops r.0 r.1 r.3.status_is r.2 in
+      let others : List Later = end.0 in
+      let read = changes_read later first lines others end.1 in
+      let shapes = read_shapes later first read.2 in
+      let has : (i : ℕ) → HasProgram (source (file_in_force tables read.0 i)) (in_force first others i) = λ i.
+      read_in_force later first (λ name u. HasProgram (source name) u) i read.2 (λ name. IsOutputFor (source name) (file_of later name)) (outputs read.0 read.1)
+          (λ name o u is. output_has (source name) (file_of later name) o u is) tables first (output_has (source tables) (file_of later tables) output first t.1) in
+      let fields : first.fields ≡ (has 0).program.fields = sym (force-shape first first others (shape-same first) shapes 0).fields ∙ (has 0).faithful.faithful.shape.fields in
+      let same : spelled_under first others file ≡ spelled (has 0).program.fields file = under_whole first others file end.2.0 ∙ ap (λ fs. spelled fs file) fields in
+      record {
+        given = record {
+          said = read.0;
+          the_said = read.1;
+          first = first;
+          the_first = t.1;
+          others = others;
+          the_others = end.1;
+          programs = λ i. (has i).program;
+          the_programs = λ i. (has i).spelled_so;
+          whole = ap (λ (s : Spelled). s.stop) (sym same) ∙ end.2.0;
+        };
+        faithful = λ i. (has i).faithful;
+        shapes = shapes;
+        rising = rising-changes others read.0 (read_afters later first read.2) (rise (file_of later lines) read.0 (said_changes_of (file_of later lines) read.0 read.1));
+        fits = subst (λ fs. All (IsPacket (count first.fields)) (spelled fs file).packets) fields (spelled_fit fit first file);
+        told = subst (λ (s : Spelled). IsChangedReport first others hops s.packets report) same (subst (IsChangedReport first others hops (spelled_under first others file).packets) (sym r.3.out) end.2.1);
+      }
+
+  pub upgrades_as_one_switch : UpgradedRunsReportOneSwitch → UpgradesTraceAsOneSwitch
+  upgrades_as_one_switch law source later tables packets lines report output outputs d =
+      let x = ran source later tables packets lines false report output outputs d in
+      (x.given, law x.given.programs x.given.first x.given.others x.faithful x.shapes x.rising (spelled (x.given.programs 0).fields (file_of later packets)).packets x.fits report x.told)
+
+  pub upgrades_in_few_hops : UpgradedRunsAreShort → UpgradesInFewHops
+  upgrades_in_few_hops law source later tables packets lines report output outputs d =
+      let x = ran source later tables packets lines true report output outputs d in
+      (x.given, x.told, law x.given.programs x.given.first x.given.others x.faithful x.shapes x.rising (spelled (x.given.programs 0).fields (file_of later packets)).packets x.fits x.told.end x.told.left x.told.state x.told.turns x.told.run)

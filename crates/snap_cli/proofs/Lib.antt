@@ -36,7 +36,6 @@ pub mod RoutesLemmas
 pub mod RoutesOnce
 pub mod Rows
 pub mod SameCore
-pub mod SameFaithful
 pub mod SameUses
 pub mod ScheduleLemmas
 pub mod ScheduleOnce
@@ -47,6 +46,7 @@ pub mod TopLemmas
 pub mod ChangesLemmas
 pub mod ChangesOnce
 pub mod ChangesTraced
+pub mod OneSource
 pub mod TraceLemmas
 pub mod TraceOnce
 pub mod Traced

@@ -1,5 +1,5 @@
 -- **What is compiled and then traced is what one big switch does.**
-use Rattle.std.specs.Prelude.{◌≡◌, ℕ, ◌+◌, ◌*◌, Bool, true, false, List, [], length, Ok, Some, None, option_map}
+use Rattle.std.specs.Prelude.{◌≡◌, ℕ, ◌+◌, ◌*◌, Bool, true, false, nat_le, if◌then◌else◌, List, [], ◌∷◌, length, Ok, Some, None, option_map}
 use Rattle.std.specs.List.{All}
 use Rattle.std.specs.declared.option.Option.{Option}
 use Rattle.snap_core.specs.declared.program.Program.{Program}
@@ -20,8 +20,9 @@ use Rattle.snap_whole.specs.Laws.{IsHopWithin}
 use Rattle.snap_whole.specs.OneSwitch.{IsSwitchReport, ports_of}
 use Rattle.snap_move.specs.declared.change.Change.{Change}
 use Rattle.snap_move.specs.declared.later.Later.{Later}
-use Rattle.snap_move.specs.Changing.{in_force}
-use Rattle.snap_move.specs.OneSwitch.{IsSwitchReportUnder}
+use Rattle.snap_move.specs.Changing.{IsChangedReport, in_force}
+use Rattle.snap_move.specs.Laws.{AreTurnsShort}
+use Rattle.snap_move.specs.OneSwitch.{IsChangingReport, IsSwitchReportUnder}
 use Rattle.snap_order.specs.Ordered.{Ordered, Turn}
 use Rattle.snap_order.specs.Ordered as turning
 use Rattle.snap_order.specs.Reports as turn_reports
@@ -152,6 +153,57 @@ abbrev pub ChangesTraceAsOneSwitch : Type 0
 ChangesTraceAsOneSwitch = (source : List ℕ) (later : Files) (tables packets lines : List ℕ) (report : List ℕ)
     → IsOutputFor source (file_of later tables) → AreOutputsFor source later lines → Did later (trace tables packets false (changes lines)) report
     → TellsOneSwitchUnder source later tables lines packets report
+
+-- ---- changes of the program
+-- the name of the file whose tables are in force for packet i, counted from 0
+abbrev pub file_in_force : (name : List ℕ) → List Change → ℕ → List ℕ
+file_in_force name [] i = name
+file_in_force name (c ∷ cs) i = if nat_le c.after i then file_in_force c.name cs i else name
+
+-- Each file of tables that a changes file names is what a call of `compile` wrote for the source of its name.
+abbrev pub AreOutputsOf : (source : List ℕ → List ℕ) → Files → (lines : List ℕ) → Type 0
+AreOutputsOf source later lines = (changes : List Change) → ChangesOf (file_of later lines) (Ok changes) → All (λ (c : Change). IsOutputFor (source c.name) (file_of later c.name)) changes
+
+-- What the files spell: the changes, the tables and those of the changes, and for each packet a program, that of the source of
+-- the file in force; and all lines of the packets file are in form.
+pub record AreGivenUnder (source : List ℕ → List ℕ) (later : Files) (tables lines packets : List ℕ) : Type 0 where
+  pub said : List Change
+  pub the_said : ChangesOf (file_of later lines) (Ok said)
+  pub first : Tables
+  pub the_first : TablesOf (file_of later tables) (Ok first)
+  pub others : List Later
+  pub the_others : ChangedTables later first lines (Ok others)
+  pub programs : ℕ → Program
+  pub the_programs : (i : ℕ) → ProgramOf (source (file_in_force tables said i)) (Ok (programs i))
+  pub whole : (spelled (programs 0).fields (file_of later packets)).stop ≡ ended
+
+-- The text is what one big switch does with all these packets whose program changes, each at the ports of the tables that are
+-- in force then.
+abbrev pub TellsChangingSwitch : (source : List ℕ → List ℕ) → Files → (tables lines packets text : List ℕ) → Type 0
+TellsChangingSwitch source later tables lines packets text =
+    (g : AreGivenUnder source later tables lines packets)
+    × IsChangingReport g.programs (λ i. port_numbers (in_force g.first g.others i)) (spelled (g.programs 0).fields (file_of later packets)).packets text
+
+-- **The first file of tables and those that the changes name are what calls of `compile` wrote, each for a source, a topology and
+-- a placement of its own, and a call of `trace --changes` answered 0. Then what it wrote is what one big switch does whose program
+-- changes.** That the programs have the same fields and arrays is no premise: else the call would have answered 20.
+abbrev pub UpgradesTraceAsOneSwitch : Type 0
+UpgradesTraceAsOneSwitch = (source : List ℕ → List ℕ) (later : Files) (tables packets lines : List ℕ) (report : List ℕ)
+    → IsOutputFor (source tables) (file_of later tables) → AreOutputsOf source later lines → Did later (trace tables packets false (changes lines)) report
+    → TellsChangingSwitch source later tables lines packets report
+
+-- **With `--hops` it tells the hops of that run, and no copy makes more than (groups + 1) times the greatest distance, by the
+-- groups of the program and the topology that are in force.**
+abbrev pub TellsShortChanges : (source : List ℕ → List ℕ) → Files → (tables lines packets text : List ℕ) → Type 0
+TellsShortChanges source later tables lines packets text =
+    (g : AreGivenUnder source later tables lines packets)
+    × (r : IsChangedReport g.first g.others true (spelled (g.programs 0).fields (file_of later packets)).packets text)
+    × AreTurnsShort g.programs 0 r.turns
+
+abbrev pub UpgradesInFewHops : Type 0
+UpgradesInFewHops = (source : List ℕ → List ℕ) (later : Files) (tables packets lines : List ℕ) (report : List ℕ)
+    → IsOutputFor (source tables) (file_of later tables) → AreOutputsOf source later lines → Did later (trace tables packets true (changes lines)) report
+    → TellsShortChanges source later tables lines packets report
 
 -- ---- turns
 -- **So it is with `--ordered`, in the order of each schedule that can be done to an end, whatever packets overlap.**

@@ -1,13 +1,13 @@
 //! The headline: what is compiled and then traced is what one big switch does.
 
-ghost use Rattle.snap_cli.specs.Headline.{ChangesTraceAsOneSwitch, RoundsInFewHops, RoundsTraceAlike, RoundsTraceAsOneSwitch, RoundsTraceAsPlain, SchedulesInFewHops, SchedulesTraceAsOneSwitch, TracesAsOneSwitch, TracesInFewHops, TurnsInFewHops, TurnsTraceAsOneSwitch, TurnsTraceAsPlain};
+ghost use Rattle.snap_cli.specs.Headline.{ChangesTraceAsOneSwitch, RoundsInFewHops, RoundsTraceAlike, RoundsTraceAsOneSwitch, RoundsTraceAsPlain, SchedulesInFewHops, SchedulesTraceAsOneSwitch, TracesAsOneSwitch, TracesInFewHops, TurnsInFewHops, TurnsTraceAsOneSwitch, TurnsTraceAsPlain, UpgradesInFewHops, UpgradesTraceAsOneSwitch};
 
 use crate::laws::{
     answers_exactly, changes_exactly, compiles_exactly, rounds_exactly, schedules_exactly,
     spells_one_program, traces_exactly, turns_exactly,
 };
 use snap_core::laws::has_one_listing;
-use snap_move::laws::{changed_runs_report_one_switch, said_changes_rise};
+use snap_move::laws::{said_changes_rise, upgraded_runs_are_short, upgraded_runs_report_one_switch};
 use snap_order::laws::{
     rounds_run_one_way, runs_in_turn_are_short, runs_in_turn_report_one_switch,
 };
@@ -47,6 +47,24 @@ pub fn schedules_trace_as_one_switch()
     runs_are_short();
 }
 
+/// **The first file of tables and those that the changes name are what calls of `compile` wrote, each for a program file, a
+/// topology and a placement of its own, and a call of `trace --changes` answered 0. Then what it wrote is what one big switch
+/// does whose program changes:** each packet is evaluated by the program in force for it, from the arrays that the packets
+/// before left, at the ports of the tables that are in force. With `--hops` no copy makes more than (groups + 1) times the
+/// greatest distance.
+pub fn upgrades_trace_as_one_switch()
+    ensures report { UpgradesTraceAsOneSwitch }
+    ensures hops { UpgradesInFewHops }
+{
+    answers_exactly();
+    compiles_exactly();
+    changes_exactly();
+    spelled_packets_fit();
+    said_changes_rise();
+    upgraded_runs_report_one_switch();
+    upgraded_runs_are_short();
+}
+
 /// **So it is with `trace --changes`, where the first file of tables and those that the changes name are what calls of
 /// `compile` wrote for one and the same program file,** each for its own topology and placement: what it wrote is what one
 /// big switch does over all packets, each at the ports of the tables that are in force when it comes in.
@@ -54,12 +72,7 @@ pub fn changes_trace_as_one_switch()
     ensures { ChangesTraceAsOneSwitch }
 {
     spells_one_program();
-    answers_exactly();
-    compiles_exactly();
-    changes_exactly();
-    spelled_packets_fit();
-    said_changes_rise();
-    changed_runs_report_one_switch();
+    upgrades_trace_as_one_switch();
 }
 
 /// **So it is with `trace --ordered`, whatever packets overlap:** in the order of each schedule that can be done to an end, and

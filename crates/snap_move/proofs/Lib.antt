@@ -5,7 +5,10 @@ pub mod Coming
 pub mod Shapes
 pub mod Earlier
 pub mod Alone
+pub mod Pieces
 pub mod Whole
 pub mod Report
+pub mod OneProgram
 pub mod Once
 pub mod Lines
+pub mod InForce

@@ -1,8 +1,11 @@
 -- Laws of runs with changes, and of those of faithful tables.
-use Rattle.std.specs.Prelude.{◌≡◌, ℕ, ◌+◌, ◌*◌, Bool, false, List, Ok, length}
+use Rattle.std.specs.Prelude.{◌≡◌, ℕ, ◌+◌, ◌*◌, ◌≤◌, ◌<◌, Bool, false, List, [], ◌∷◌, ◌++◌, Ok, length, option_and_then, option_map}
 use Rattle.std.specs.List.{All}
 use Rattle.snap_core.specs.declared.program.Program.{Program}
-use Rattle.snap_core.specs.Arrays.{zero_arrays}
+use Rattle.snap_core.specs.Arrays.{Arrays, zero_arrays}
+use Rattle.snap_core.specs.Fields.{count}
+use Rattle.snap_core.specs.Inputs.{IsPacket}
+use Rattle.snap_core.specs.Switch.{Switched, one_big_switch}
 use Rattle.snap_dep.specs.Ranks.{IsRank}
 use Rattle.snap_route.specs.Walks.{IsDiameter, Linked}
 use Rattle.snap_topo.specs.declared.topology.Topology.{Topology}
@@ -14,9 +17,9 @@ use Rattle.snap_gen.specs.Faithful.{Faithful, IsPacketOf}
 use Rattle.snap_whole.specs.Laws.{IsHopWithin}
 use Rattle.snap_move.specs.declared.change.Change.{Change}
 use Rattle.snap_move.specs.declared.later.Later.{Later}
-use Rattle.snap_move.specs.Changing.{AreChangedBlocks, IsChangedReport, IsRising, RunsThrough, Turn, in_force}
+use Rattle.snap_move.specs.Changing.{AreChangedBlocks, HaveShapeOf, IsChangedReport, IsRising, RunsThrough, Turn, in_force}
 use Rattle.snap_move.specs.Lines.{AreRising, changes_of}
-use Rattle.snap_move.specs.OneSwitch.{IsSwitchReportUnder}
+use Rattle.snap_move.specs.OneSwitch.{IsChangingReport, IsSwitchReportUnder, changing_switch}
 
 -- ---- changes
 -- what a changes file says comes behind rising numbers of packets
@@ -63,3 +66,52 @@ ChangedRunsAreShort = (p : Program) (first : Tables) (later : List Later) → Ar
     → IsRising later → (order : List ℕ) → IsRank p.body (length p.vars) order → (ks : List (List ℕ)) → All (IsPacketOf p) ks
     → (end : Tables) (left : List Later) (s : Net) (turns : List Turn) → RunsThrough end left s first later (start first zero_arrays) ks turns
     → All (IsTurnShort (length order)) turns
+
+-- ---- one big switch whose program changes
+-- while one program is in force it is one big switch of that program
+abbrev pub PieceIsOneSwitch : Type 0
+PieceIsOneSwitch = (programs : ℕ → Program) (p : Program) (i : ℕ) (m : Arrays) (ks : List (List ℕ)) → ((j : ℕ) → i ≤ j → j < i + length ks → programs j ≡ p)
+    → changing_switch programs i m ks ≡ one_big_switch p.body m ks
+
+-- packets behind others begin with the arrays that those left
+abbrev pub then_switched : Switched → Switched → Switched
+then_switched a b = record { packets = a.packets ++ b.packets; arrays = b.arrays }
+
+abbrev pub PiecesFollow : Type 0
+PiecesFollow = (programs : ℕ → Program) (i : ℕ) (m : Arrays) (ks more : List (List ℕ))
+    → changing_switch programs i m (ks ++ more) ≡ option_and_then (λ a. option_map (then_switched a) (changing_switch programs (i + length ks) a.arrays more)) (changing_switch programs i m ks)
+
+-- with one program the report is that of one big switch, and conversely
+abbrev pub OneProgramReportsOneSwitch : Type 0
+OneProgramReportsOneSwitch = (p : Program) (ports : ℕ → List ℕ) (ks : List (List ℕ)) (text : List ℕ) → IsChangingReport (λ i. p) ports ks text → IsSwitchReportUnder p ports ks text
+
+abbrev pub OneSwitchIsReported : Type 0
+OneSwitchIsReported = (p : Program) (ports : ℕ → List ℕ) (ks : List (List ℕ)) (text : List ℕ) → IsSwitchReportUnder p ports ks text → IsChangingReport (λ i. p) ports ks text
+
+-- ---- tables of a program that changes
+-- the tables that are in force for each packet are faithful to the program of its number, for some topology and placement
+abbrev pub AreFaithfulTo : (ℕ → Program) → Tables → List Later → Type 0
+AreFaithfulTo programs first later = (i : ℕ) → IsFaithfulTo (programs i) (in_force first later i)
+
+-- **Where the tables in force are always faithful to the program in force, and have one shape, the run with changes reports
+-- exactly what one big switch does whose program changes,** at the ports that are in force
+abbrev pub UpgradedRunsReportOneSwitch : Type 0
+UpgradedRunsReportOneSwitch = (programs : ℕ → Program) (first : Tables) (later : List Later) → AreFaithfulTo programs first later → HaveShapeOf first later → IsRising later
+    → (ks : List (List ℕ)) → All (IsPacket (count first.fields)) ks → (text : List ℕ) → IsChangedReport first later false ks text
+    → IsChangingReport programs (λ i. port_numbers (in_force first later i)) ks text
+
+-- each copy makes at most (groups + 1) times the diameter, by the groups of the program and the topology that are in force. The
+-- first of the turns has number i
+abbrev pub IsTurnShortFor : Program → Turn → Type 0
+IsTurnShortFor p x = (order : List ℕ) → IsRank p.body (length p.vars) order → IsTurnShort (length order) x
+
+abbrev pub AreTurnsShort : (programs : ℕ → Program) → (i : ℕ) → List Turn → Type 0
+AreTurnsShort programs i [] = Unit {0}
+AreTurnsShort programs i (x ∷ xs) = IsTurnShortFor (programs i) x × AreTurnsShort programs (i + 1) xs
+
+-- **so it does in each such run**
+abbrev pub UpgradedRunsAreShort : Type 0
+UpgradedRunsAreShort = (programs : ℕ → Program) (first : Tables) (later : List Later) → AreFaithfulTo programs first later → HaveShapeOf first later → IsRising later
+    → (ks : List (List ℕ)) → All (IsPacket (count first.fields)) ks
+    → (end : Tables) (left : List Later) (s : Net) (turns : List Turn) → RunsThrough end left s first later (start first zero_arrays) ks turns
+    → AreTurnsShort programs 0 turns

@@ -4,4 +4,5 @@ pub mod Changing
 pub mod Files
 pub mod Moving
 pub mod OneSwitch
+pub mod InForce
 pub mod Laws

@@ -1,6 +1,7 @@
 //! Laws of runs with changes.
 
-ghost use Rattle.snap_move.specs.Laws.{ChangedBlocksAreOne, ChangedReportsAreOne, ChangedRunsAreShort, ChangedRunsReportOneSwitch, SaidChangesRise};
+ghost use Rattle.snap_move.specs.InForce.{TurnsAreInForce};
+ghost use Rattle.snap_move.specs.Laws.{ChangedBlocksAreOne, ChangedReportsAreOne, ChangedRunsAreShort, ChangedRunsReportOneSwitch, OneProgramReportsOneSwitch, OneSwitchIsReported, PieceIsOneSwitch, PiecesFollow, SaidChangesRise, UpgradedRunsAreShort, UpgradedRunsReportOneSwitch};
 
 /// The changes that a changes file says come behind rising numbers of packets.
 pub fn said_changes_rise()
@@ -22,4 +23,31 @@ pub fn changed_runs_report_one_switch()
 /// No copy makes more hops than (groups + 1) times the diameter of the topology that is in force.
 pub fn changed_runs_are_short()
     ensures { ChangedRunsAreShort }
+{}
+
+/// While one program is in force one big switch whose program changes is one big switch of that program, and packets behind
+/// others begin with the arrays that those left.
+pub fn pieces_are_one_switch()
+    ensures piece { PieceIsOneSwitch }
+    ensures follow { PiecesFollow }
+    ensures report { OneProgramReportsOneSwitch }
+    ensures reported { OneSwitchIsReported }
+{}
+
+/// Where the tables in force are always faithful to the program in force, each for a topology and a placement of its own, and
+/// all have the same fields and names of arrays, each run with changes reports exactly what one big switch does whose program
+/// changes, at the ports that are in force when a packet comes in.
+pub fn upgraded_runs_report_one_switch()
+    ensures { UpgradedRunsReportOneSwitch }
+{}
+
+/// No copy makes more hops than (groups + 1) times the diameter of the topology that is in force, by the groups of the program
+/// that is in force.
+pub fn upgraded_runs_are_short()
+    ensures { UpgradedRunsAreShort }
+{}
+
+/// Each packet of a run with changes goes through the tables that are in force for its number.
+pub fn turns_are_in_force()
+    ensures { TurnsAreInForce }
 {}

@@ -1,4 +1,4 @@
-use Rattle.snap_move.proofs.Report.{changed_short}
+use Rattle.snap_move.proofs.OneProgram.{changed_short}
 use Rattle.snap_move.proofs.laws.changed_runs_are_short.Goals as goal
 
 pub returns : goal.returns

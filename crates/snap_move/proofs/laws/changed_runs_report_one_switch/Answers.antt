@@ -1,4 +1,4 @@
-use Rattle.snap_move.proofs.Report.{changed_report}
+use Rattle.snap_move.proofs.OneProgram.{changed_report}
 use Rattle.snap_move.proofs.laws.changed_runs_report_one_switch.Goals as goal
 
 pub returns : goal.returns

@@ -1,0 +1,53 @@
+-- Where all sources are one.
+use Rattle.std.proofs.Common.{◌≡◌, ℕ, ◌+◌, List, [], ◌∷◌, ◌++◌, length, Ok, refl, sym, ◌∙◌}
+use Rattle.std.specs.Prelude.{option_and_then, option_map}
+use Rattle.snap_core.specs.declared.program.Program.{Program}
+use Rattle.snap_core.specs.Arrays.{Arrays, zero_arrays}
+use Rattle.snap_core.specs.Meaning.{Meaning}
+use Rattle.snap_core.specs.Packets.{PacketSet}
+use Rattle.snap_core.specs.Switch.{Switched, one_big_switch}
+use Rattle.snap_io.specs.Files.{file_of}
+use Rattle.snap_names.specs.Declarations.{core_program}
+use Rattle.snap_trace.specs.Reports.{block, end_text}
+use Rattle.snap_trace.specs.Spelled.{spelled}
+use Rattle.snap_whole.specs.OneSwitch.{port_lines}
+use Rattle.snap_move.specs.OneSwitch.{IsSwitchReportUnder, blocks_under}
+use Rattle.snap_cli.specs.Laws.{SpellsOneProgram}
+use Rattle.snap_cli.proofs.SameCore.{same_eval, same_fields, same_names}
+use Rattle.snap_move.specs.OneSwitch.{IsChangingReport, changing_switch}
+use Rattle.snap_cli.specs.Headline.{ChangesTraceAsOneSwitch, UpgradesTraceAsOneSwitch}
+
+module _ (programs : ℕ → Program) (p : Program) (same : (i : ℕ) → core_program (programs i) ≡ core_program p) where
+  one_switch : (i : ℕ) (m : Arrays) (ks : List (List ℕ)) → changing_switch programs i m ks ≡ one_big_switch p.body m ks
+  one_switch i m [] = refl
+  one_switch i m (k ∷ ks) = λ x.
+      option_and_then (λ (o : Meaning). option_map (λ (r : Switched). record { packets = o.packets ∷ r.packets; arrays = r.arrays }) (one_switch (i + 1) o.arrays ks x)) (same_eval (programs i) p (same i) m k x)
+
+  one_blocks : (ports : ℕ → List ℕ) (i : ℕ) (sets : List PacketSet) → blocks_under (λ j. port_lines (programs j).fields (ports j)) i sets ≡ blocks_under (λ j. port_lines p.fields (ports j)) i sets
+  one_blocks ports i [] = refl
+  one_blocks ports i (set ∷ sets) = λ x. block (port_lines (same_fields (programs i) p (same i) x) (ports i)) (i + 1) set ++ one_blocks ports (i + 1) sets x
+
+  one_report : (ports : ℕ → List ℕ) (ks : List (List ℕ)) (text : List ℕ) → IsChangingReport programs ports ks text → IsSwitchReportUnder p ports ks text
+  one_report ports ks text r = record {
+    made = r.made;
+    defined = sym (one_switch 0 zero_arrays ks) ∙ r.defined;
+    entries = r.entries;
+    listed = r.listed;
+    is = r.is ∙ (λ x. one_blocks ports 0 r.made.packets x ++ end_text (same_names (programs (length ks)) p (same (length ks)) x) r.entries);
+  }
+
+pub one_source : SpellsOneProgram → UpgradesTraceAsOneSwitch → ChangesTraceAsOneSwitch
+one_source spells law source later tables packets lines report output outputs d =
+    let told = law (λ name. source) later tables packets lines report output outputs d in
+    let g = told.0 in
+    let p : Program = g.programs 0 in
+    record {
+      p = p;
+      the_program = g.the_programs 0;
+      first = g.first;
+      the_first = g.the_first;
+      others = g.others;
+      the_others = g.the_others;
+      whole = g.whole;
+      report = one_report g.programs p (λ i. spells source (Ok (g.programs i)) (Ok p) (g.the_programs i) (g.the_programs 0)) _ (spelled p.fields (file_of later packets)).packets report told.1;
+    }
