@@ -50,9 +50,9 @@ def options(words, flags=(), valued=()):
 
 
 def read_text(name):
-    """The text of a file, of the standard input for `-`."""
+    """The text of a file."""
     try:
-        if name == "-":
+        if name in ("-", "/dev/stdin"):
             return sys.stdin.buffer.read().decode(BYTES)
         with open(name, "rb") as file:
             return file.read().decode(BYTES)
