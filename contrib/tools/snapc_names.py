@@ -5,8 +5,8 @@ whose name ends like one of an address, for numbers from 1.0.0.0 to 255.255.255.
 """
 import re
 
-from snapc_files import address, dotted
-from snapc_tables import MOST, Equal, Go, Leaf, State, Stop, Value
+from snapc_files import Block, Hop, Place, address, dotted, frame_of
+from snapc_tables import MOST, Equal, Fault, Go, Leaf, State, Stop, Value
 
 LIKE_AN_ADDRESS = re.compile(r"(^|[._-])(src|dst|rdata)$|(ip|addr|address)$", re.I)
 
@@ -24,23 +24,35 @@ class Names:
             elif not one.length and one.name not in numbers and LIKE_AN_ADDRESS.search(one.name):
                 self.least[one.first] = 2 ** 24
         self.shapes = self.shapes_of_indices()
+        # for each number the row of the switches that decide there
+        self.nodes = {number: row for (_, number), row in tables.rows.items() if not isinstance(row, (Go, Stop))}
 
     def shapes_of_indices(self):
-        """For each array the component that each position of its index is always indexed with, where rows agree and say."""
+        """For each array what stands at each position of its index, where all rows that index it agree; constants don't tell."""
         seen = {}
         for row in self.tables.rows.values():
             updates = [update for stage in row.stages for update in stage.updates] if isinstance(row, Leaf) else []
             for use in updates + ([row] if isinstance(row, State) else []):
-                for position, atom in enumerate(use.index):
-                    if atom.component is not None:
-                        seen.setdefault(self.tables.arrays[use.array].name, {}).setdefault(position, set()).add(self.kind(atom.component))
+                shape = seen.setdefault(self.tables.arrays[use.array].name, {})
+                for position, one, atom in self.parts(use.index):
+                    if one:
+                        shape.setdefault(position, set()).add(("address", one.length))
+                        shape.setdefault(position + 1, set()).add(("rest", None))
+                    elif atom.component is not None:
+                        shape.setdefault(position, set()).add(self.kind(atom.component))
         return {name: {at: kinds.pop() for at, kinds in shape.items() if len(kinds) == 1} for name, shape in seen.items()}
 
+    def parts(self, atoms):
+        """An index part by part: its position, and the split field whose two components stand there or None, and its first atom."""
+        at = 0
+        while at < len(atoms):
+            one = self.split.get(atoms[at].component)
+            pair = one if one and at + 1 < len(atoms) and atoms[at + 1].component == one.first + 1 else None
+            yield at, pair, atoms[at]
+            at += 2 if pair else 1
+
     def kind(self, component):
-        """What numbers of this component are: one half of an address with so long a net, or a plain number from which on it's one."""
-        for half in (0, 1):
-            if component - half in self.split:
-                return half, self.split[component - half].length
+        """What numbers of a component are: plain ones, and from which on they are shown as addresses, or None for never."""
         return "plain", self.least.get(component)
 
     def plain(self, number, kind):
@@ -59,15 +71,13 @@ class Names:
         """`ARRAY[I][J]` for the numbers of an index."""
         shape, text, at = self.shapes.get(array, {}), array, 0
         while at < len(index):
-            halves = [shape.get(at), shape.get(at + 1)]
-            length = next((half[1] for want, half in enumerate(halves) if half and half[0] == want), None)
-            fits = all(half is None or half == (want, length) for want, half in enumerate(halves))
-            if length and fits and at + 1 < len(index):
+            kind, length = shape.get(at, ("plain", None))
+            if kind == "address" and at + 1 < len(index):
                 text += f"[{address(index[at], index[at + 1], length)}]"
-                at += 2
-            else:
-                text += f"[{self.plain(index[at], halves[0] or ('plain', None))}]"
                 at += 1
+            else:
+                text += f"[{self.plain(index[at], (kind, length))}]"
+            at += 1
         return text
 
     def atom(self, atom):
@@ -79,13 +89,7 @@ class Names:
         """`ARRAY[f][g]` for the atoms of an index, the two of a split field as one."""
         if all(atom.component is None for atom in atoms):
             return self.place(array, [atom.number for atom in atoms])
-        text, at = array, 0
-        while at < len(atoms):
-            one = self.split.get(atoms[at].component)
-            pair = one and at + 1 < len(atoms) and atoms[at + 1].component == one.first + 1
-            text += f"[{one.name if pair else self.atom(atoms[at])}]"
-            at += 2 if pair else 1
-        return text
+        return array + "".join(f"[{one.name if one else self.atom(atom)}]" for _, one, atom in self.parts(atoms))
 
     def test(self, row):
         """The test of a row, as `src = 10.0.1.0/24`."""
@@ -145,6 +149,44 @@ class Names:
             return f"tests {self.test(row)}"
         return f"leaves it to {self.tables.switches[row.switch]}" if isinstance(row, Go) else "leaves it to others"
 
-    def nodes(self):
-        """For each number the row of the switches that decide there."""
-        return {number: row for (_, number), row in self.tables.rows.items() if not isinstance(row, (Go, Stop))}
+    def hop(self, hop):
+        """A hop with its frame taken apart; None where that isn't one of these tables."""
+        frame = frame_of(hop.frame, self.tables)
+        if frame is None:
+            return None
+        to = {"walk": f"number {frame.number}", "stage": f"stage {frame.stage} of number {frame.number}", "out": f"port {frame.port}",
+              "visit": f"rank {frame.rank}, number {frame.number}"}[frame.kind]
+        node = self.nodes.get(frame.number)
+        does = f" ({self.row(node, frame.rank or frame.stage or 0)})" if node else ""
+        turn = "" if frame.packet is None else f"packet {frame.packet + 1} "
+        return f"hop {hop.source} {hop.target} {turn}to {to}{does}: {self.packet(frame.values)}"
+
+    def result(self, out):
+        """An out of a report; None where its fields aren't those of the tables."""
+        if list(out) != [one.name for one in self.tables.fields]:
+            return None
+        values = [(one, out[one.name]) for one in self.tables.fields]
+        return " ".join(["out"] + [f"{one.name}={value if one.length or not re.fullmatch('[0-9]+', value) else self.plain(int(value), self.kind(one.first))}"
+                                   for one, value in values])
+
+    def line(self, read):
+        """A line of a report, as `snapc_files` has read it; None where it doesn't fit the tables."""
+        if isinstance(read, Block):
+            return f"packet {read.number}"
+        if isinstance(read, Hop):
+            return self.hop(read)
+        if isinstance(read, dict):
+            return self.result(read)
+        if isinstance(read, Place):
+            known = any(array.name == read.array for array in self.tables.arrays)
+            return f"array {self.place(read.array, read.index)} = {read.value}" if known else None
+        return f"lost {read}"
+
+    def report(self, report):
+        """The lines of a report."""
+        lines = []
+        for number, read in report.lines:
+            lines.append(self.line(read))
+            if lines[-1] is None:
+                raise Fault(report.file, number, f"doesn't fit {self.tables.file}")
+        return lines + ["end"]
