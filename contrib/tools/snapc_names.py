@@ -142,11 +142,12 @@ class Names:
         return "; ".join(texts + (outs or ["drop"]))
 
     def row(self, row, since=0):
-        """What a row tests, or does from a rank or stage on."""
+        """What a row tests, with the rank of its array where it is greater than `since`, or does from this rank or stage on."""
         if isinstance(row, Leaf):
             return f"does {self.leaf(row, since)}"
         if isinstance(row, (Value, Equal, State)):
-            return f"tests {self.test(row)}"
+            rank = self.tables.arrays[row.array].rank if isinstance(row, State) else None
+            return f"tests {self.test(row)}" + (f" at rank {rank}" if rank and rank > since else "")
         return f"leaves it to {self.tables.switches[row.switch]}" if isinstance(row, Go) else "leaves it to others"
 
     def hop(self, hop):
