@@ -1,0 +1,106 @@
+"""Captures, as tshark reads them."""
+import os
+import re
+import subprocess
+from dataclasses import dataclass
+from decimal import Decimal, InvalidOperation
+
+from snapc_tool import BYTES, Fault
+
+# Between the values of one display field; tshark writes no such byte within a value.
+BETWEEN = "\x1f"
+
+
+@dataclass
+class Capture:
+    name: str
+    port: str  # the port at which its frames come in; empty where the map says it
+
+
+@dataclass
+class Frame:
+    capture: Capture
+    number: int
+    time: Decimal
+    values: dict   # for each display field its values
+    filters: set   # the display filters that let the frame through, of those in question
+
+
+def said_by(process):
+    """The first line of what tshark says, without what it says of the user."""
+    rows = [row for row in process.stderr.decode(BYTES).split("\n") if row and not row.startswith("Running as user")]
+    return re.sub(r"^tshark: ", "", rows[0]) if rows else f"tshark ended with {process.returncode}"
+
+
+def tshark(capture, only, displays):
+    """The process of a call of tshark for some display fields of the frames that a display filter lets through."""
+    words = ["tshark", "-n", "-r", capture.name]
+    if only:
+        words += ["-Y", only.encode(BYTES)]
+    words += ["-T", "fields", "-E", "separator=/t", "-E", "occurrence=a", "-E", f"aggregator={BETWEEN}"]
+    for display in displays:
+        words += ["-e", display]
+    try:
+        return subprocess.run(words, stdin=subprocess.DEVNULL, stdout=subprocess.PIPE, stderr=subprocess.PIPE)
+    except OSError:
+        raise Fault("tshark", 0, "cannot be run; it comes with Wireshark") from None
+
+
+def rows_of(capture, only, only_place, displays, places):
+    """The rows that tshark writes, as lists of columns. The places are lines of the map, to tell what is wrong there."""
+    process = tshark(capture, only, displays)
+    if process.returncode != 0:
+        said = process.stderr.decode(BYTES)
+        if "aren't valid" in said:
+            unknown = [name for name in displays if re.search(r"^\s+" + re.escape(name) + "$", said, re.MULTILINE)]
+            if unknown and unknown[0] in places:
+                raise Fault(*places[unknown[0]], f"tshark knows no display field {unknown[0]}")
+        if only and "The file " not in said:
+            raise Fault(*only_place, f"no display filter: {said_by(process)}")
+        raise Fault(capture.name, 0, said_by(process))
+    rows = [row.split("\t") for row in process.stdout.decode(BYTES).split("\n") if row]
+    for row in rows:
+        if len(row) != len(displays):
+            raise Fault(capture.name, 0, f"tshark writes {len(row)} columns where {len(displays)} were asked for")
+    return rows
+
+
+def frame_of(capture, displays, row):
+    """A frame, of its row."""
+    values = {display: [value for value in cell.split(BETWEEN) if value] for display, cell in zip(displays, row)}
+    try:
+        number = int(row[0])
+    except ValueError:
+        raise Fault(capture.name, 0, f"tshark writes {row[0]!r} for the number of a frame") from None
+    try:
+        return Frame(capture, number, Decimal(row[1] or 0), values, set())
+    except InvalidOperation:
+        raise Fault(capture.name, 0, f"frame {number}: {row[1]} is no time") from None
+
+
+def filters_of(made, capture):
+    """The display filters that say where values are given, each with its line."""
+    found = {}
+    for name, ways in made.fields.items():
+        if name != "inport" or not capture.port:
+            for way in ways:
+                if way.where:
+                    found.setdefault(way.where, way.line)
+    return found
+
+
+def read_capture(made, capture):
+    """The frames of a capture, with all that a map asks of them."""
+    if not os.path.isfile(capture.name):
+        raise Fault(capture.name, 0, "cannot be read")
+    lines = made.displays()
+    displays = list(dict.fromkeys(["frame.number", "frame.time_epoch", *lines]))
+    places = {display: (made.name, line) for display, line in lines.items()}
+    rows = rows_of(capture, made.only, (made.name, made.only_line), displays, places)
+    frames = [frame_of(capture, displays, row) for row in rows]
+    for where, line in filters_of(made, capture).items():
+        let_through = {row[0] for row in rows_of(capture, where, (made.name, line), ["frame.number"], {})}
+        for frame in frames:
+            if str(frame.number) in let_through:
+                frame.filters.add(where)
+    return frames
