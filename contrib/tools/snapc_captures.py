@@ -22,14 +22,14 @@ class Frame:
     capture: Capture
     number: int
     time: Decimal
-    values: dict   # for each display field its values
+    values: dict   # the values of each display field that the frame has
     filters: set   # the display filters that let the frame through, of those in question
 
 
 def said_by(process):
     """The first line of what tshark says, without what it says of the user."""
     rows = [row for row in process.stderr.decode(BYTES).split("\n") if row and not row.startswith("Running as user")]
-    return re.sub(r"^tshark: ", "", rows[0]) if rows else f"tshark ended with {process.returncode}"
+    return re.sub(r"^tshark: ", "", rows[0]) if rows else f"ended with {process.returncode}"
 
 
 def tshark(capture, only, displays):
@@ -55,9 +55,8 @@ def rows_of(capture, only, only_place, displays, places):
             unknown = [name for name in displays if re.search(r"^\s+" + re.escape(name) + "$", said, re.MULTILINE)]
             if unknown and unknown[0] in places:
                 raise Fault(*places[unknown[0]], f"tshark knows no display field {unknown[0]}")
-        if only and "The file " not in said:
-            raise Fault(*only_place, f"no display filter: {said_by(process)}")
-        raise Fault(capture.name, 0, said_by(process))
+        place = only_place if only and "The file " not in said else (capture.name, 0)
+        raise Fault(*place, f"tshark: {said_by(process)}")
     rows = [row.split("\t") for row in process.stdout.decode(BYTES).split("\n") if row]
     for row in rows:
         if len(row) != len(displays):
@@ -67,7 +66,7 @@ def rows_of(capture, only, only_place, displays, places):
 
 def frame_of(capture, displays, row):
     """A frame, of its row."""
-    values = {display: [value for value in cell.split(BETWEEN) if value] for display, cell in zip(displays, row)}
+    values = {display: [value for value in cell.split(BETWEEN) if value] for display, cell in zip(displays, row) if cell}
     try:
         number = int(row[0])
     except ValueError:
@@ -94,6 +93,7 @@ def read_capture(made, capture):
     if not os.path.isfile(capture.name):
         raise Fault(capture.name, 0, "cannot be read")
     lines = made.displays()
+    # Each once: of one that is asked for twice tshark leaves the first column empty.
     displays = list(dict.fromkeys(["frame.number", "frame.time_epoch", *lines]))
     places = {display: (made.name, line) for display, line in lines.items()}
     rows = rows_of(capture, made.only, (made.name, made.only_line), displays, places)
