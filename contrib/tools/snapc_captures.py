@@ -46,22 +46,28 @@ def tshark(capture, only, displays):
         raise Fault("tshark", 0, "cannot be run; it comes with Wireshark") from None
 
 
-def rows_of(capture, only, only_place, displays, places):
-    """The rows that tshark writes, as lists of columns. The places are lines of the map, to tell what is wrong there."""
+def rows_of(made, capture, only, line, displays):
+    """The rows that tshark writes, as lists of columns. The display filter stands in this line of the map."""
     process = tshark(capture, only, displays)
     if process.returncode != 0:
-        said = process.stderr.decode(BYTES)
-        if "aren't valid" in said:
-            unknown = [name for name in displays if re.search(r"^\s+" + re.escape(name) + "$", said, re.MULTILINE)]
-            if unknown and unknown[0] in places:
-                raise Fault(*places[unknown[0]], f"tshark knows no display field {unknown[0]}")
-        place = only_place if only and "The file " not in said else (capture.name, 0)
-        raise Fault(*place, f"tshark: {said_by(process)}")
+        raise what_is_wrong(made, capture, only, line, process)
     rows = [row.split("\t") for row in process.stdout.decode(BYTES).split("\n") if row]
     for row in rows:
         if len(row) != len(displays):
             raise Fault(capture.name, 0, f"tshark writes {len(row)} columns where {len(displays)} were asked for")
     return rows
+
+
+def what_is_wrong(made, capture, only, line, process):
+    """The fault that tshark tells: a display field or a display filter of the map, or the capture."""
+    said = process.stderr.decode(BYTES)
+    if "aren't valid" in said:
+        for display, place in made.displays().items():
+            if re.search(r"^\s+" + re.escape(display) + "$", said, re.MULTILINE):
+                return Fault(made.name, place, f"tshark knows no display field {display}")
+    if only and "The file " not in said:
+        return Fault(made.name, line, f"tshark: {said_by(process)}")
+    return Fault(capture.name, 0, f"tshark: {said_by(process)}")
 
 
 def frame_of(capture, displays, row):
@@ -92,14 +98,11 @@ def read_capture(made, capture):
     """The frames of a capture, with all that a map asks of them."""
     if not os.path.isfile(capture.name):
         raise Fault(capture.name, 0, "cannot be read")
-    lines = made.displays()
     # Each once: of one that is asked for twice tshark leaves the first column empty.
-    displays = list(dict.fromkeys(["frame.number", "frame.time_epoch", *lines]))
-    places = {display: (made.name, line) for display, line in lines.items()}
-    rows = rows_of(capture, made.only, (made.name, made.only_line), displays, places)
-    frames = [frame_of(capture, displays, row) for row in rows]
+    displays = list(dict.fromkeys(["frame.number", "frame.time_epoch", *made.displays()]))
+    frames = [frame_of(capture, displays, row) for row in rows_of(made, capture, made.only, made.only_line, displays)]
     for where, line in filters_of(made, capture).items():
-        let_through = {row[0] for row in rows_of(capture, where, (made.name, line), ["frame.number"], {})}
+        let_through = {row[0] for row in rows_of(made, capture, where, line, ["frame.number"])}
         for frame in frames:
             if str(frame.number) in let_through:
                 frame.filters.add(where)

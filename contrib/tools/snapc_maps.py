@@ -75,14 +75,14 @@ def add_line(made, line, text):
     def fault(words):
         return Fault(made.name, line, words)
 
-    only = re.fullmatch(r"only[ \t]+([^= \t].*)", text)
+    only = re.fullmatch(r"only[ \t]+([^= \t\0][^\0]*)", text)
     if only:
         if made.only:
             raise fault("a second only")
         made.only, made.only_line = only[1], line
         return
     parts = WAY.fullmatch(text)
-    if not parts:
+    if not parts or "\0" in text:
         raise fault("no line of a map")
     if not NAME.fullmatch(parts["name"]):
         raise fault(f"{parts['name']} is no name of a field")
