@@ -128,9 +128,13 @@ class Report:
 
 
 def read_report(name):
-    """The report of `obs` or `trace`, whole."""
-    report, text = Report(name), read_text(name)
-    lines = text.split("\n")
+    """The report of `obs` or `trace` in a file, whole."""
+    return report_of(read_text(name), name)
+
+
+def report_of(text, name):
+    """The report that a text is; `name` is what faults say it comes from."""
+    report, lines = Report(name), text.split("\n")
     ended = False
     for line, row in enumerate(lines[:-1], 1):
         read = None if ended else report_line(report, line, row.split(" "))

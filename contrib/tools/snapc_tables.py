@@ -65,12 +65,11 @@ class State:
 
 @dataclass
 class Go:
-    """Version 1: this switch decides."""
-    switch: int
+    switch: int  # which decides, in version 1
 
 
 class Stop:
-    """Version 2: another switch decides."""
+    """Another switch decides, in version 2."""
 
 
 @dataclass
@@ -245,6 +244,6 @@ def read_tables(name):
             raise words.fault(f"{kind[:40]} can't stand here")
         stage = ORDER.index(kind)
         read_entry(tables, kind, words)
-    if [field.name for field in tables.fields[:2]] != ["inport", "outport"] or not tables.switches:
+    if [one.name for one in tables.fields[:2]] != ["inport", "outport"] or not tables.switches:
         raise Fault(name, 2, "the fields inport and outport or the switches are missing")
     return tables

@@ -9,7 +9,6 @@ Every file is text with one character for each byte, so that columns count bytes
     3  the output can't be written
 """
 import os
-import subprocess
 import sys
 
 sys.dont_write_bytecode = True
@@ -50,9 +49,9 @@ def options(words, flags=(), valued=()):
 
 
 def read_text(name):
-    """The text of a file, of the standard input for `-`."""
+    """The text of a file."""
     try:
-        if name == "-":
+        if name in ("-", "/dev/stdin"):
             return sys.stdin.buffer.read().decode(BYTES)
         with open(name, "rb") as file:
             return file.read().decode(BYTES)
@@ -62,6 +61,8 @@ def read_text(name):
 
 def snapc(words):
     """What snapc writes on these words; a fault where it doesn't end with 0. $SNAPC names another program than `snapc`."""
+    import subprocess  # takes as long to load as all else together, and most tools don't call snapc
+
     program = os.environ.get("SNAPC", "snapc")
     try:
         done = subprocess.run([program] + list(words), stdin=subprocess.DEVNULL, stdout=subprocess.PIPE, stderr=subprocess.PIPE)
@@ -84,8 +85,11 @@ def write(text):
         return 3
 
 
-def run(doc, body):
-    """Ends the program with the status of a tool: `body(words)` answers its output, or its output and a status."""
+def run(doc, body, usage=1):
+    """Ends the program with the status of a tool: `body(words)` answers its output, or its output and a status.
+
+    `usage` is the status where the words are no call, for tools whose 1 means something else.
+    """
     name, words = os.path.basename(sys.argv[0]), sys.argv[1:]
     if "--help" in words[:1]:
         sys.exit(write(doc))
@@ -96,7 +100,7 @@ def run(doc, body):
         if write(text):
             status, said = 3, "cannot write"
     except Usage:
-        status, said = 1, "usage\n" + doc.split("\n\n")[1].rstrip()
+        status, said = usage, "usage\n" + doc.split("\n\n")[1].rstrip()
     except Fault as fault:
         said = str(fault)
     except RecursionError:
