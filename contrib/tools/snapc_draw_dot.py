@@ -1,6 +1,4 @@
 """What all drawings share: texts in the language of Graphviz, tables of cells, colours, and pictures made by `dot`."""
-import subprocess
-
 from snapc_tool import BYTES, Fault
 
 FONT = "Helvetica,Arial,sans-serif"
@@ -65,6 +63,8 @@ def graph(name, settings, lines):
 
 def picture(text, kind):
     """What `dot` makes of a drawing: the bytes of an SVG or PNG picture, as a text of them."""
+    import subprocess  # as in snapc_tool
+
     try:
         done = subprocess.run(["dot", f"-T{kind}"], input=text.encode(BYTES), stdout=subprocess.PIPE, stderr=subprocess.PIPE)
     except OSError:
