@@ -1,15 +1,15 @@
 """Networks as drawings: switches with their ports and groups, and the links between them.
 
 Where each link leads one link farther from the nearest port or nearer to it, as in a fat tree, switches stand in layers by this
-distance, those with ports below, and their places are told: Graphviz makes a tangle of large ones. All other networks go from left
-to right, by the distance from a switch at an end, and Graphviz places them.
+distance, those with ports below, and their places are told: Graphviz makes a tangle of large ones. All other networks, and rows of
+switches, go from left to right, away from a switch at an end, and Graphviz places them.
 """
 from dataclasses import dataclass, field
 from typing import Dict, List, Tuple
 
 from snapc_draw_dot import LIGHT, PALE, PLAIN, cell, cells, edge, graph, of, quoted
 
-MOST_SWITCHES = 256
+MOST_SWITCHES = 256  # that tables have
 
 
 @dataclass
@@ -36,8 +36,13 @@ def group_text(rank, names):
     return ("" if rank is None else f"rank {rank}: ") + ",\n".join(names)
 
 
+def links_of(pairs):
+    """Links between different switches, each once."""
+    return list(dict.fromkeys(tuple(sorted(pair)) for pair in pairs if pair[0] != pair[1]))
+
+
 def network_of(tables):
-    network = Network(tables.switches, list(dict.fromkeys(link for link in tables.links if link[0] != link[1])), tables.ports)
+    network = Network(tables.switches, links_of(tables.links), tables.ports)
     named = {}
     for array, colour in zip(tables.arrays, colours_of(tables)):
         named.setdefault((array.switch, colour, array.rank), []).append(array.name)
@@ -55,12 +60,17 @@ class Layout:
             self.near[a].append(b)
             self.near[b].append(a)
         self.distance = self.distances(sorted(set(network.ports.values())))
-        is_row = all(len(others) <= 2 for others in self.near) and len(network.links) == len(self.near) - 1
-        self.layers = bool(network.links) and not is_row and all(self.distance[a] != self.distance[b] for a, b in network.links)
+        self.layers = not self.is_row() and any(self.distance) and all(self.distance[a] != self.distance[b] for a, b in network.links)
         self.places = self.in_layers(network) if self.layers else {}
         if not self.layers:
-            ends = range(min(len(self.near), MOST_SWITCHES))
-            self.distance = self.distances([max(ends, key=lambda switch: (max(self.distances([switch])), -switch))])
+            self.distance = self.distances([self.end()])
+
+    def is_row(self):
+        return all(len(others) <= 2 for others in self.near) and sum(map(len, self.near)) == 2 * (len(self.near) - 1)
+
+    def end(self):
+        """The first switch that is farthest away from another."""
+        return max(range(min(len(self.near), MOST_SWITCHES)), key=lambda switch: (max(self.distances([switch])), -switch))
 
     def distances(self, begins):
         """How many links each switch is away from the nearest of these; 0 too where there is no way."""
@@ -130,16 +140,11 @@ def lines_of(network, switch):
     return texts + [group.text for group in network.groups.get(switch, [])]
 
 
-def switch_lines(network, layout):
-    lines, same = [], {}
-    for switch in range(len(network.switches)):
-        groups, texts = network.groups.get(switch, []), lines_of(network, switch)
-        plain = len(texts) - len(groups)
-        rows = [cell(text, bold=at == 0) for at, text in enumerate(texts[:plain])]
-        rows += [cell(group.text, of(LIGHT, group.colour)) for group in groups]
-        lines.append(f"  s{switch} [label={cells(rows)}{layout.place(switch)}];")
-        same.setdefault(layout.distance[switch], []).append(f"s{switch};")
-    return lines + [f"  {{ rank=same; {' '.join(same[distance])} }}" for distance in sorted(same) if not layout.layers]
+def switch_line(network, layout, switch):
+    groups, texts = network.groups.get(switch, []), lines_of(network, switch)
+    rows = [cell(text, bold=at == 0) for at, text in enumerate(texts[:len(texts) - len(groups)])]
+    rows += [cell(group.text, of(LIGHT, group.colour)) for group in groups]
+    return f"  s{switch} [label={cells(rows)}{layout.place(switch)}];"
 
 
 def link_edge(layout, source, target, **settings):
@@ -207,7 +212,7 @@ def passage_lines(network, layout, passages):
 def drawing(network, arrows=(), passages=(), caption=""):
     """The text of a network with arrows."""
     layout, taken = Layout(network), {frozenset((arrow.source, arrow.target)) for arrow in arrows if not arrow.is_dashed}
-    lines = switch_lines(network, layout)
+    lines = [switch_line(network, layout, switch) for switch in range(len(network.switches))]
     lines += [link_edge(layout, a, b, dir="none", color=PALE) for a, b in network.links if frozenset((a, b)) not in taken]
     lines += arrow_lines(layout, arrows) + passage_lines(network, layout, passages)
     settings = layout.settings()

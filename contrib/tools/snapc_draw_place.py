@@ -1,6 +1,6 @@
 """Placements: where the groups of a program stand in a topology, and the order in which packets visit them."""
 from snapc_draw_dot import DARK, of
-from snapc_draw_network import Arrow, Group, Network, drawing, group_text
+from snapc_draw_network import Arrow, Group, Network, drawing, group_text, links_of
 from snapc_files import read_placement, read_topology
 from snapc_tool import Fault, snapc
 
@@ -32,8 +32,8 @@ def places_of(groups, placement, name, numbers):
 def draw_place(program, topology_name, placement_name):
     topology, placement = read_topology(topology_name), read_placement(placement_name)
     numbers = {name: switch for switch, name in reversed(list(enumerate(topology.switches)))}
-    links = dict.fromkeys(tuple(sorted((numbers[a], numbers[b]))) for a, b in topology.links if a != b)
-    network = Network(topology.switches, list(links), {port: numbers[name] for port, name in topology.ports.items()})
+    links = links_of((numbers[a], numbers[b]) for a, b in topology.links)
+    network = Network(topology.switches, links, {port: numbers[name] for port, name in topology.ports.items()})
     groups = groups_of(program)
     places = places_of(groups, placement, placement_name, numbers)
     for rank, (group, switch) in enumerate(zip(groups, places)):
