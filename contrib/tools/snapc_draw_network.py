@@ -93,7 +93,7 @@ class Layout:
             below = {switch: [places[one][0] for one in self.near[switch] if one in places] or [0] for switch in layer}
             layer.sort(key=lambda switch: sum(below[switch]) / len(below[switch]))
             for at, switch in enumerate(layer):
-                places[switch] = (at + 0.5) * whole / len(layer), distance * max(1.6, whole / 8)
+                places[switch] = (at + 0.5) * whole / len(layer), distance * max(1.8, whole / 8)
         return places
 
     def settings(self):
@@ -115,7 +115,7 @@ class Layout:
 
 def width(lines):
     """About how many inches a table of these lines takes, with what is free beside it."""
-    return 0.3 + 0.07 * max(len(line) for text in lines for line in text.split("\n"))
+    return max(1.5, 0.3 + 0.07 * max(len(line) for text in lines for line in text.split("\n")))
 
 
 def ranges(numbers):

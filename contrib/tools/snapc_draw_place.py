@@ -7,7 +7,7 @@ from snapc_tool import Fault, snapc
 
 def groups_of(program):
     """The arrays of each rank, as `snapc deps` tells them."""
-    return [line.split(" ")[1:] for line in snapc(["deps", program]).split("\n") if line.startswith("group ")]
+    return [line.split(" ")[1:] for line in snapc(["deps", "--", program]).split("\n") if line.startswith("group ")]
 
 
 def places_of(groups, placement, name, numbers):
@@ -31,6 +31,8 @@ def places_of(groups, placement, name, numbers):
 
 def draw_place(program, topology_name, placement_name):
     topology, placement = read_topology(topology_name), read_placement(placement_name)
+    if not topology.switches:
+        raise Fault(topology_name, 0, "has no switches")
     numbers = {name: switch for switch, name in reversed(list(enumerate(topology.switches)))}
     links = links_of((numbers[a], numbers[b]) for a, b in topology.links)
     network = Network(topology.switches, links, {port: numbers[name] for port, name in topology.ports.items()})
