@@ -26,7 +26,7 @@ def quoted(text):
 
 def escaped(text):
     """A text between the tags of a table of cells."""
-    for sign, entity in (("&", "&amp;"), ("<", "&lt;"), (">", "&gt;"), ('"', "&quot;"), ("\n", "<BR/>")):
+    for sign, entity in (("\\", "\\\\"), ("&", "&amp;"), ("<", "&lt;"), (">", "&gt;"), ('"', "&quot;"), ("\n", "<BR/>")):
         text = text.replace(sign, entity)
     return printable(text)
 

@@ -7,7 +7,11 @@ from snapc_tool import Fault, snapc
 
 def groups_of(program):
     """The arrays of each rank, as `snapc deps` tells them."""
-    return [line.split(" ")[1:] for line in snapc(["deps", "--", program]).split("\n") if line.startswith("group ")]
+    try:
+        text = snapc(["deps", "--", program])
+    except Fault as fault:
+        raise Fault(program, 0, str(fault)) from None
+    return [line.split(" ")[1:] for line in text.split("\n") if line.startswith("group ")]
 
 
 def places_of(groups, placement, name, numbers):
