@@ -142,11 +142,12 @@ class Names:
         return "; ".join(texts + (outs or ["drop"]))
 
     def row(self, row, since=0):
-        """What a row tests, or does from a rank or stage on."""
+        """What a row tests, with the rank of its array where it is greater than `since`, or does from this rank or stage on."""
         if isinstance(row, Leaf):
             return f"does {self.leaf(row, since)}"
         if isinstance(row, (Value, Equal, State)):
-            return f"tests {self.test(row)}"
+            rank = self.tables.arrays[row.array].rank if isinstance(row, State) else None
+            return f"tests {self.test(row)}" + (f" at rank {rank}" if rank and rank > since else "")
         return f"leaves it to {self.tables.switches[row.switch]}" if isinstance(row, Go) else "leaves it to others"
 
     def hop(self, hop):
@@ -165,9 +166,13 @@ class Names:
         """An out of a report; None where its fields aren't those of the tables."""
         if list(out) != [one.name for one in self.tables.fields]:
             return None
-        values = [(one, out[one.name]) for one in self.tables.fields]
-        return " ".join(["out"] + [f"{one.name}={value if one.length or not re.fullmatch('[0-9]+', value) else self.plain(int(value), self.kind(one.first))}"
-                                   for one, value in values])
+        words = ["out"]
+        for one in self.tables.fields:
+            value = out[one.name]
+            if not one.length and re.fullmatch("[0-9]{1,20}", value):
+                value = self.plain(int(value), self.kind(one.first))
+            words.append(f"{one.name}={value}")
+        return " ".join(words)
 
     def line(self, read):
         """A line of a report, as `snapc_files` has read it; None where it doesn't fit the tables."""

@@ -138,7 +138,7 @@ class Network:
 
     def stages(self, copy, number=None, stage=None):
         number, stage = copy.head[1:] if number is None else (number, stage)
-        leaf = self.row(copy.at, number)
+        leaf = self.leaf(copy.at, number)
         while stage < len(leaf.stages) and leaf.stages[stage].switch == copy.at:
             self.update(leaf.stages[stage].updates, copy.values)
             stage += 1
@@ -183,5 +183,5 @@ class Network:
     def leaf(self, switch, number):
         row = self.row(switch, number)
         if not isinstance(row, Leaf):
-            raise Fault(self.tables.file, self.tables.lines[switch, number], "a packet comes to its end here, and this is no leaf")
+            raise Fault(self.tables.file, self.tables.lines[switch, number], "a packet comes here as to a leaf, and this is none")
         return row

@@ -111,5 +111,6 @@ def run(doc, body, usage=1):
     except KeyboardInterrupt:
         status = 130
     if said is not None:
+        said = "".join(one if one >= " " or one == "\n" else "?" for one in said)
         sys.stderr.buffer.write(f"{name}: {said}\n".encode(BYTES, "replace"))
     sys.exit(status)
