@@ -4,7 +4,7 @@ from typing import List, Optional
 
 from snapc_draw_dot import DARK, INK, PLAIN, of
 from snapc_draw_network import Arrow, Passage, drawing, network_of
-from snapc_files import Block, Hop, frame_of, read_report
+from snapc_files import Block, Hop, frame_of, number_of, read_report
 from snapc_tool import Fault
 
 
@@ -56,7 +56,7 @@ def aims_of(tables, report, packet):
     for count, (line, hop) in enumerate(hops_of(report, packet), 1):
         frame, ends = frame_of(hop.frame, tables), (numbers.get(hop.source), numbers.get(hop.target))
         if frame is None:
-            raise Fault(report.file, line, "the frame is none of these tables")
+            raise Fault(report.file, line, "the frame doesn't fit the tables")
         if frozenset(ends) not in links:
             raise Fault(report.file, line, f"the tables have no link between {hop.source} and {hop.target}")
         first = first or frame.values
@@ -66,8 +66,14 @@ def aims_of(tables, report, packet):
 
 
 def port_of(out, name):
-    """The number of a port field of an `out` line."""
-    return int(out[name]) if out.get(name, "").isdigit() else None
+    """The number in a port field of an `out` line."""
+    return number_of(out[name]) if out.get(name, "").isdigit() else None
+
+
+def caption_of(block, exits):
+    said = [f"out at port {', '.join(map(str, exits))}"] if exits else []
+    said += [f"{block.lost} lost"] if block.lost else []
+    return f"packet {block.number}: {', '.join(said) or 'dropped'}"
 
 
 def way_of(tables, report, packet):
@@ -77,16 +83,15 @@ def way_of(tables, report, packet):
     if block.lost is None:
         raise Fault(report.file, block.line, "is no report of a network")
     aims, first = aims_of(tables, report, packet)
-    exits = [port_of(out, "outport") for out in block.outs]
-    if not set(exits) <= set(tables.ports):
+    found = {port_of(out, "outport") for out in block.outs}
+    if not found <= set(tables.ports):
         raise Fault(report.file, block.line, f"packet {packet} goes out where the tables have no port")
+    exits = sorted(found)
     # A program may change `inport`: it is shown where it leads to the switch where the packet began.
     inport = first[0] if first else port_of(block.outs[0], "inport") if block.outs else None
     begin = aims[0].source if aims else tables.ports[exits[0]] if exits else None
     entry = inport if begin is not None and tables.ports.get(inport) == begin else None
-    said = [f"out at port {', '.join(map(str, sorted(set(exits))))}"] if exits else [] if block.lost else ["dropped"]
-    said += [f"{block.lost} lost"] if block.lost else []
-    return Way(packet, aims, entry, sorted(set(exits)), f"packet {packet}: {', '.join(said)}")
+    return Way(packet, aims, entry, exits, caption_of(block, exits))
 
 
 def arrows_of(way, ink):
