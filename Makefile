@@ -4,7 +4,7 @@ JOBS ?= $(shell nproc)
 SOURCES = crates.txt $(shell find crates -name out -prune -o \( -name '*.rt' -o -name '*.antt' \) ! -path '*_tests/*' -print)
 CODE = $(filter-out %.antt,$(SOURCES))
 
-.PHONY: all run test install install-unproved uninstall clean help
+.PHONY: all run test install install-unproved uninstall pictures clean help
 .DELETE_ON_ERROR:
 
 #: make                    proves snapc and builds bin/snapc; JOBS=N: N crates side by side, or else one for each processor
@@ -36,6 +36,7 @@ test:
 	examples/demonstrations bin/snapc
 	examples/hostile bin/snapc
 	examples/refused bin/snapc
+	contrib/tools/check bin/snapc
 	contrib/shown bin/snapc
 	contrib/check
 
@@ -63,6 +64,10 @@ install-unproved:
 #: make uninstall          removes what was installed
 uninstall:
 	rm -f $(INSTALLED)
+
+#: make pictures           draws the pictures of docs/GALLERY.md anew, with bin/snapc and Graphviz's dot
+pictures:
+	tools/pictures bin/snapc
 
 #: make clean              removes what was built and what is kept of proofs
 clean:

@@ -166,9 +166,13 @@ class Names:
         """An out of a report; None where its fields aren't those of the tables."""
         if list(out) != [one.name for one in self.tables.fields]:
             return None
-        values = [(one, out[one.name]) for one in self.tables.fields]
-        return " ".join(["out"] + [f"{one.name}={value if one.length or not re.fullmatch('[0-9]+', value) else self.plain(int(value), self.kind(one.first))}"
-                                   for one, value in values])
+        words = ["out"]
+        for one in self.tables.fields:
+            value = out[one.name]
+            if not one.length and re.fullmatch("[0-9]{1,20}", value):
+                value = self.plain(int(value), self.kind(one.first))
+            words.append(f"{one.name}={value}")
+        return " ".join(words)
 
     def line(self, read):
         """A line of a report, as `snapc_files` has read it; None where it doesn't fit the tables."""

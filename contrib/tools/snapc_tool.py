@@ -21,6 +21,7 @@ class Fault(Exception):
     def __init__(self, file, line, text):
         shown = os.fsencode(file).decode(BYTES)
         super().__init__(f"{shown}:{line}: {text}" if line else f"{shown}: {text}")
+        self.line = line
 
 
 class Usage(Exception):
@@ -110,5 +111,6 @@ def run(doc, body, usage=1):
     except KeyboardInterrupt:
         status = 130
     if said is not None:
+        said = "".join(one if one >= " " or one == "\n" else "?" for one in said)
         sys.stderr.buffer.write(f"{name}: {said}\n".encode(BYTES, "replace"))
     sys.exit(status)
