@@ -125,12 +125,13 @@ def place_of_packet(found, name):
     """The line of a packet: skipped ones aren't counted."""
     lines = [at for at, line in enumerate(lines_of(name), 1) if line.strip(b" \t") and not line.startswith(b"#")]
     number = int(found["number"])
-    return (lines[number - 1], 1, True) if number <= len(lines) else WHOLE
+    return (lines[number - 1], 1, True) if 0 < number <= len(lines) else WHOLE
 
 
 # A message, what the file is that it is about where it doesn't say so itself, and how its place is found there.
 MESSAGES = [(re.compile(form), kind, place) for form, kind, place in [
-    (r"(?P<line>\d{1,18}):(?P<column>\d{1,18}): (?P<rest>.*)", "program", lambda found, _: (int(found["line"]), int(found["column"]), True)),
+    (r"(?P<line>\d{1,18}):(?P<column>\d{1,18}): (?P<rest>.*)", "program",
+     lambda found, _: (int(found["line"]), int(found["column"]), True)),
     (r"race|differ|declarations differ", "program", lambda *_: WHOLE),
     (r"(?P<kind>tables|packets|schedule|changes): (rule \w+ )?line (?P<line>\d{1,18})", "",
      lambda found, _: (int(found["line"]), 1, True)),
