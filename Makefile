@@ -33,6 +33,7 @@ test:
 	examples/check bin/snapc
 	examples/placements bin/snapc
 	examples/networks bin/snapc
+	examples/upgrades bin/snapc
 	examples/demonstrations bin/snapc
 	examples/hostile bin/snapc
 	examples/refused bin/snapc
