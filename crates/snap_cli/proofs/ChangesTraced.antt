@@ -17,26 +17,25 @@ use Rattle.snap_move.specs.declared.change.ChangesFault.{ChangesFault}
 use Rattle.snap_move.specs.declared.later.Later.{Later}
 use Rattle.snap_move.specs.Changing.{HaveShapeOf, IsChangedReport, IsRising, in_force}
 use Rattle.snap_move.specs.Files.{EndsAsRead, spelled_under}
-use Rattle.snap_move.specs.Laws.{IsFaithfulTo, SaidChangesRise}
+use Rattle.snap_move.specs.Laws.{AreFaithfulTo, IsFaithfulTo, SaidChangesRise, TurnsReportWithoutHops, UpgradedRunsAreShort, UpgradedRunsReportOneSwitch}
 use Rattle.snap_move.specs.Lines.{changes_of}
 use Rattle.snap_move.specs.Shapes.{HaveOneShape}
 use Rattle.snap_words.specs.Commands.{changes, trace}
 use Rattle.snap_cli.specs.declared.refusal.Refusal.{Refusal}
 use Rattle.snap_cli.specs.Changes.{ChangedTables, ChangesOf, ChangesTo, LaterOf, before, said_changes}
 use Rattle.snap_cli.specs.ChangesSteps.{afters, afters_of}
-use Rattle.snap_cli.specs.Headline.{Did, IsOutputFor}
+use Rattle.snap_cli.specs.Headline.{Did}
 use Rattle.snap_cli.specs.Laws.{AnswersExactly, ChangesExactly, CompilesExactly}
 use Rattle.snap_cli.specs.Obs.{IsRunEnding}
 use Rattle.snap_cli.specs.ProgramOf.{ProgramOf}
 use Rattle.snap_cli.specs.Refusals.{Ending, status_of}
 use Rattle.snap_cli.specs.TablesOf.{TablesOf}
+use Rattle.snap_cli.specs.Upgrades.{AreGivenUnder, AreOutputsOf, IsOutputFor, UpgradesTraceAsOneSwitch, file_in_force}
 use Rattle.snap_cli.proofs.ChangesLemmas.{rising-changes}
 use Rattle.snap_cli.proofs.SpelledUnder.{spelled_fit, under_whole}
 use Rattle.snap_cli.proofs.Traced.{compiled, no_failure, read_tables, refused_apart, run_apart, same_tables}
 use Rattle.snap_move.proofs.Settling.{shape-same}
 use Rattle.snap_move.proofs.Report.{force-shape}
-use Rattle.snap_move.specs.Laws.{AreFaithfulTo, UpgradedRunsAreShort, UpgradedRunsReportOneSwitch}
-use Rattle.snap_cli.specs.Headline.{AreGivenUnder, AreOutputsOf, UpgradesInFewHops, UpgradesTraceAsOneSwitch, file_in_force}
 
 -- ---- the tables of the changes
 module _ (files : Files) (first : Tables) where
@@ -144,7 +143,7 @@ module _ (exactly : AnswersExactly) (compiles : CompilesExactly) (traces : Chang
       let shapes = read_shapes later first read.2 in
       let has : (i : ℕ) → HasProgram (source (file_in_force tables read.0 i)) (in_force first others i) = λ i.
       read_in_force later first (λ name u. HasProgram (source name) u) i read.2 (λ name. IsOutputFor (source name) (file_of later name)) (outputs read.0 read.1)
-          (λ name o u is. output_has (source name) (file_of later name) o u is) tables first (output_has (source tables) (file_of later tables) output first t.1) in
+      (λ name o u is. output_has (source name) (file_of later name) o u is) tables first (output_has (source tables) (file_of later tables) output first t.1) in
       let fields : first.fields ≡ (has 0).program.fields = sym (force-shape first first others (shape-same first) shapes 0).fields ∙ (has 0).faithful.faithful.shape.fields in
       let same : spelled_under first others file ≡ spelled (has 0).program.fields file = under_whole first others file end.2.0 ∙ ap (λ fs. spelled fs file) fields in
       record {
@@ -166,12 +165,21 @@ module _ (exactly : AnswersExactly) (compiles : CompilesExactly) (traces : Chang
         told = subst (λ (s : Spelled). IsChangedReport first others hops s.packets report) same (subst (IsChangedReport first others hops (spelled_under first others file).packets) (sym r.3.out) end.2.1);
       }
 
-  pub upgrades_as_one_switch : UpgradedRunsReportOneSwitch → UpgradesTraceAsOneSwitch
-  upgrades_as_one_switch law source later tables packets lines report output outputs d =
-      let x = ran source later tables packets lines false report output outputs d in
-      (x.given, law x.given.programs x.given.first x.given.others x.faithful x.shapes x.rising (spelled (x.given.programs 0).fields (file_of later packets)).packets x.fits report x.told)
-
-  pub upgrades_in_few_hops : UpgradedRunsAreShort → UpgradesInFewHops
-  upgrades_in_few_hops law source later tables packets lines report output outputs d =
-      let x = ran source later tables packets lines true report output outputs d in
-      (x.given, x.told, law x.given.programs x.given.first x.given.others x.faithful x.shapes x.rising (spelled (x.given.programs 0).fields (file_of later packets)).packets x.fits x.told.end x.told.left x.told.state x.told.turns x.told.run)
+  pub upgrades_as_one_switch : TurnsReportWithoutHops → UpgradedRunsReportOneSwitch → UpgradedRunsAreShort → UpgradesTraceAsOneSwitch
+  upgrades_as_one_switch without reports short source later tables packets lines hops report output outputs d =
+      let x = ran source later tables packets lines hops report output outputs d in
+      let g = x.given in
+      let ks = (spelled (g.programs 0).fields (file_of later packets)).packets in
+      let r = x.told.ran in
+      let bare = without r.end r.state r.turns hops report x.told.report in (
+        g,
+        record {
+          run = r;
+          report = x.told.report;
+          plain = bare.0;
+          plain_report = bare.1;
+          same = bare.2;
+          one_switch = reports g.programs g.first g.others x.faithful x.shapes x.rising ks x.fits bare.0 (record { ran = r; report = bare.1 });
+          short = short g.programs g.first g.others x.faithful x.shapes x.rising ks x.fits r.end r.left r.state r.turns r.run;
+        },
+      )

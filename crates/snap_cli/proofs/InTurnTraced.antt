@@ -1,5 +1,5 @@
--- What is compiled and then traced in turn is what one big switch does.
-use Rattle.std.proofs.Common.{◌≡◌, ℕ, Bool, true, false, List, [], ◌++◌, Option, Some, None, Ok, refl, sym, ◌∙◌, ap, subst, inl, inr}
+-- A run in turn that ended with status 0 has a report, which is that of the plain run.
+use Rattle.std.proofs.Common.{◌≡◌, ℕ, Bool, false, List, [], ◌++◌, Option, Some, None, Ok, refl, sym, ◌∙◌, ap, subst, inl, inr}
 use Rattle.std.specs.Prelude.{option_map}
 use Rattle.std.specs.List.{All}
 use Rattle.snap_core.specs.declared.program.Program.{Program}
@@ -12,28 +12,27 @@ use Rattle.snap_gen.specs.Faithful.{Faithful, IsPacketOf}
 use Rattle.snap_trace.specs.OneSwitch.{RunEnding}
 use Rattle.snap_trace.specs.Reports.{blocks, end_text}
 use Rattle.snap_trace.specs.Spelled.{Stop, ended, refused, spelled}
-use Rattle.snap_runs.specs.Laws.{SchedulesKeepOrder, SpelledForIsSpelled, SpelledPacketsFit}
+use Rattle.snap_runs.specs.Laws.{SpelledForIsSpelled, SpelledPacketsFit}
 use Rattle.snap_runs.specs.Plain.{spelled_for}
 use Rattle.snap_runs.specs.Plain as plain_run
 use Rattle.snap_runs.specs.Schedules.{lines_of}
 use Rattle.snap_order.specs.OneSwitch.{PlainRunsInTurnReportOneSwitch, SchedulesInTurnReportOneSwitch}
 use Rattle.snap_order.specs.Runs.{EndsAsRead, HasScheduleReport, IsPlainReport, IsScheduleReport, RefusesScheduleLine}
-use Rattle.snap_order.specs.ShortTurns.{PlainRunsInTurnAreShort, RunsInTurnAreShort}
 use Rattle.snap_whole.specs.Laws.{PlainRunsReportOneSwitch}
 use Rattle.snap_whole.specs.OneSwitch.{IsSwitchReport, port_lines, ports_of}
-use Rattle.snap_words.specs.Commands.{in_turn, plain, trace}
+use Rattle.snap_words.specs.Commands.{in_turn, trace}
 use Rattle.snap_cli.specs.declared.refusal.Refusal.TheVariants.{VersionOne}
-use Rattle.snap_cli.specs.Headline.{Did, TellsShortTurns, TurnsInFewHops, TurnsTraceAsOneSwitch, TurnsTraceAsPlain}
+use Rattle.snap_cli.specs.Headline.{Did, TurnsTraceAsPlain}
 use Rattle.snap_cli.specs.InTurn.{RunsInTurnTo, TurnsTo}
 use Rattle.snap_cli.specs.Laws.{AnswersExactly, CompilesExactly, TracesExactly, TurnsExactly}
 use Rattle.snap_cli.specs.Obs.{IsRunEnding}
 use Rattle.snap_cli.specs.Refusals.{Ending, status_of}
 use Rattle.snap_cli.specs.TablesOf.{TablesOf}
 use Rattle.snap_cli.proofs.ScheduleTraced.{reported_by}
-use Rattle.snap_cli.proofs.Traced.{no_failure, refused_apart, run_apart, told, whole_report}
+use Rattle.snap_cli.proofs.Traced.{no_failure, plain_ran, refused_apart, run_apart, told}
 
 -- the report of the run in turn of packets: one after the other, or in the order of a schedule
-abbrev IsTurnsReport : Tables → (hops : Bool) → (schedule : Option (List ℕ)) → List (List ℕ) → List ℕ → Type 0
+abbrev pub IsTurnsReport : Tables → (hops : Bool) → (schedule : Option (List ℕ)) → List (List ℕ) → List ℕ → Type 0
 IsTurnsReport t hops None ks report = IsPlainReport t hops ks report
 IsTurnsReport t hops (Some schedule) ks report = IsScheduleReport t hops ks (lines_of schedule) report
 
@@ -63,67 +62,26 @@ switch_report_once lists p ports ks a b h k =
     let entries = lists k.made.arrays h.entries k.entries (subst (λ (m : Switched). IsListing m.arrays h.entries) same h.listed) k.listed in
     h.is ∙ (λ i. blocks (port_lines p.fields ports) 1 (same i).packets ++ end_text p.vars (entries i)) ∙ sym k.is
 
-module _ (exactly : AnswersExactly) (compiles : CompilesExactly) (turns : TurnsExactly) (fit : SpelledPacketsFit) (whole : SpelledForIsSpelled) where
-  abbrev Reports : Files → (lines : Option (List ℕ)) → (hops : Bool) → (report : List ℕ) → Tables → List (List ℕ) → Type 0
-  Reports later lines hops report n ks = IsTurnsReport n hops (option_map (file_of later) lines) ks report
+pub in_turn_ran : TurnsExactly → (later : Files) (tables packets : List ℕ) (lines : Option (List ℕ)) (hops : Bool) (report : List ℕ) → Did later (trace tables packets hops (in_turn lines)) report → (t : Tables) → TablesOf (file_of later tables) (Ok t)
+    → ((spelled_for t (file_of later packets)).stop ≡ ended) × IsTurnsReport t hops (option_map (file_of later) lines) (spelled_for t (file_of later packets)).packets report
+in_turn_ran turns later tables packets lines hops report d t read =
+    let r = no_failure (turns d.words later tables packets lines hops t 0 d.shelf_before d.shelf_now d.out_before d.out_now (Some []) (Some report) d.err_before d.err_now d.err_old d.err_new d.said read d.answers) in
+    let ran = in_turn_reported t hops (file_of later packets) r.0 r.3.status_is later packets lines r.1 refl r.2 in
+    (ran.0, subst (IsTurnsReport t hops (option_map (file_of later) lines) (spelled_for t (file_of later packets)).packets) (sym r.3.out) ran.1)
 
-  in_turn_ran : (later : Files) (tables packets : List ℕ) (lines : Option (List ℕ)) (hops : Bool) (report : List ℕ) → Did later (trace tables packets hops (in_turn lines)) report → (t : Tables) → TablesOf (file_of later tables) (Ok t)
-      → ((spelled_for t (file_of later packets)).stop ≡ ended) × Reports later lines hops report t (spelled_for t (file_of later packets)).packets
-  in_turn_ran later tables packets lines hops report d t read =
-      let r = no_failure (turns d.words later tables packets lines hops t 0 d.shelf_before d.shelf_now d.out_before d.out_now (Some []) (Some report) d.err_before d.err_now d.err_old d.err_new d.said read d.answers) in
-      let ran = in_turn_reported t hops (file_of later packets) r.0 r.3.status_is later packets lines r.1 refl r.2 in
-      (ran.0, subst (λ x. Reports later lines hops x t (spelled_for t (file_of later packets)).packets) (sym r.3.out) ran.1)
+-- it is what one big switch does
+module _ (each : PlainRunsInTurnReportOneSwitch) (lined : SchedulesInTurnReportOneSwitch) where
+  turns_one_switch : (p : Program) (topology : Topology) (places : List ℕ) (n : Tables) → Faithful p topology places n → (ks : List (List ℕ)) → All (IsPacketOf p) ks → (schedule : Option (List ℕ)) (report : List ℕ)
+      → IsTurnsReport n false schedule ks report → IsSwitchReport p (ports_of topology) ks report
+  turns_one_switch p topology places n faithful ks fits None report r = each p topology places n faithful ks fits report r
+  turns_one_switch p topology places n faithful ks fits (Some schedule) report r = lined p topology places n faithful ks fits (lines_of schedule) report r
 
-  module _ (each : PlainRunsInTurnReportOneSwitch) (lined : SchedulesInTurnReportOneSwitch) where
-    one_switch : (p : Program) (topology : Topology) (places : List ℕ) (n : Tables) → Faithful p topology places n → (ks : List (List ℕ)) → All (IsPacketOf p) ks → (schedule : Option (List ℕ)) (report : List ℕ)
-        → IsTurnsReport n false schedule ks report → IsSwitchReport p (ports_of topology) ks report
-    one_switch p topology places n faithful ks fits None report r = each p topology places n faithful ks fits report r
-    one_switch p topology places n faithful ks fits (Some schedule) report r = lined p topology places n faithful ks fits (lines_of schedule) report r
-
-    pub turns_as_one_switch : TurnsTraceAsOneSwitch
-    turns_as_one_switch files later program topology placement tables packets lines output report c is d =
-        let x = told exactly compiles fit whole (Reports later lines false report) files later program topology placement tables packets false (in_turn lines) output report c is d
-        (in_turn_ran later tables packets lines false report d) in
-        let ks = (spelled x.p.fields (file_of later packets)).packets in
-        (x.p, x.t, x.given, one_switch x.p x.t x.places x.n x.faithful ks x.fits (option_map (file_of later) lines) report x.holds)
-
-    pub turns_as_plain : TracesExactly → PlainRunsReportOneSwitch → HasOneListing → TurnsTraceAsPlain
-    turns_as_plain traces alone lists files later program topology placement tables packets lines output report other c is d e =
-        let x = told exactly compiles fit whole (λ n ks. Reports later lines false report n ks × plain_run.IsPlainReport n false ks other)
-        files later program topology placement tables packets false (in_turn lines) output report c is d
-        (λ t read.
-        (let ran = in_turn_ran later tables packets lines false report d t read in
-        let plainly = whole_report exactly compiles fit whole t false (spelled_for t (file_of later packets)) other
-        (no_failure (traces e.words later tables packets false t 0 e.shelf_before e.shelf_now e.out_before e.out_now (Some []) (Some other) e.err_before e.err_now e.err_old e.err_new e.said read e.answers)) in
-        (ran.0, (ran.1, plainly.1)))) in
-        let ks = (spelled x.p.fields (file_of later packets)).packets in
-        switch_report_once lists x.p (ports_of x.t) ks report other
-        (one_switch x.p x.t x.places x.n x.faithful ks x.fits (option_map (file_of later) lines) report x.holds.0)
-        (alone x.p x.t x.places x.n x.faithful ks x.fits other x.holds.1)
-
-  module _ (order : SchedulesKeepOrder) (short : RunsInTurnAreShort) (short_each : PlainRunsInTurnAreShort) where
-    tells_short : (later : Files) (p : Program) (topology : Topology) (places : List ℕ) (n : Tables) → Faithful p topology places n → (ks : List (List ℕ)) → All (IsPacketOf p) ks → (lines : Option (List ℕ)) (report : List ℕ)
-        → Reports later lines true report n ks → TellsShortTurns p topology ks (option_map (λ name. lines_of (file_of later name)) lines) report
-    tells_short later p topology places n faithful ks fits None report r = record {
-      tables = n;
-      end = r.end;
-      turns = r.turns;
-      run = (r.events, r.run);
-      report = r.report;
-      short = λ groups most rank greatest. short_each p topology places n faithful groups most rank greatest ks fits r.events r.end r.turns r.run;
-    }
-    tells_short later p topology places n faithful ks fits (Some name) report r = record {
-      tables = n;
-      end = r.state;
-      turns = r.turns;
-      run = (r.obeys, r.ended);
-      report = r.report;
-      short = λ groups most rank greatest. short p topology places n faithful groups most rank greatest ks fits r.obeys.events r.state r.turns (order (lines_of (file_of later name)) ks r.obeys.events r.obeys.spells) r.obeys.run;
-    }
-
-    pub turns_in_few_hops : TurnsInFewHops
-    turns_in_few_hops files later program topology placement tables packets lines output report c is d =
-        let x = told exactly compiles fit whole (Reports later lines true report) files later program topology placement tables packets true (in_turn lines) output report c is d
-        (in_turn_ran later tables packets lines true report d) in
-        let ks = (spelled x.p.fields (file_of later packets)).packets in
-        (x.p, x.t, x.given, tells_short later x.p x.t x.places x.n x.faithful ks x.fits lines report x.holds)
+  pub turns_as_plain : AnswersExactly → CompilesExactly → TurnsExactly → SpelledPacketsFit → SpelledForIsSpelled → TracesExactly → PlainRunsReportOneSwitch → HasOneListing → TurnsTraceAsPlain
+  turns_as_plain exactly compiles turns fit whole traces alone lists files later program topology placement tables packets lines output report other c is d e =
+      let x = told exactly compiles fit whole (λ n ks. IsTurnsReport n false (option_map (file_of later) lines) ks report × plain_run.IsPlainReport n false ks other)
+      files later program topology placement tables packets false (in_turn lines) output report c is d
+      (λ t read. let ran = in_turn_ran turns later tables packets lines false report d t read in (ran.0, (ran.1, (plain_ran traces later tables packets false other e t read).1))) in
+      let ks = (spelled x.p.fields (file_of later packets)).packets in
+      switch_report_once lists x.p (ports_of x.t) ks report other
+      (turns_one_switch x.p x.t x.places x.n x.faithful ks x.fits (option_map (file_of later) lines) report x.holds.0)
+      (alone x.p x.t x.places x.n x.faithful ks x.fits other x.holds.1)

@@ -50,3 +50,6 @@ pub mod OneSource
 pub mod TraceLemmas
 pub mod TraceOnce
 pub mod Traced
+pub mod RunTraced
+pub mod AsOneSwitch
+pub mod LoneTraced

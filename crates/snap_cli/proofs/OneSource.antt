@@ -1,5 +1,5 @@
 -- Where all sources are one.
-use Rattle.std.proofs.Common.{◌≡◌, ℕ, ◌+◌, List, [], ◌∷◌, ◌++◌, length, Ok, refl, sym, ◌∙◌}
+use Rattle.std.proofs.Common.{◌≡◌, ℕ, ◌+◌, List, [], ◌∷◌, ◌++◌, false, length, Ok, refl, sym, subst, ◌∙◌}
 use Rattle.std.specs.Prelude.{option_and_then, option_map}
 use Rattle.snap_core.specs.declared.program.Program.{Program}
 use Rattle.snap_core.specs.Arrays.{Arrays, zero_arrays}
@@ -11,11 +11,13 @@ use Rattle.snap_names.specs.Declarations.{core_program}
 use Rattle.snap_trace.specs.Reports.{block, end_text}
 use Rattle.snap_trace.specs.Spelled.{spelled}
 use Rattle.snap_whole.specs.OneSwitch.{port_lines}
+use Rattle.snap_rows.specs.Entries.{port_numbers}
+use Rattle.snap_move.specs.Changing.{in_force}
 use Rattle.snap_move.specs.OneSwitch.{IsSwitchReportUnder, blocks_under}
 use Rattle.snap_cli.specs.Laws.{SpellsOneProgram}
 use Rattle.snap_cli.proofs.SameCore.{same_eval, same_fields, same_names}
 use Rattle.snap_move.specs.OneSwitch.{IsChangingReport, changing_switch}
-use Rattle.snap_cli.specs.Headline.{ChangesTraceAsOneSwitch, UpgradesTraceAsOneSwitch}
+use Rattle.snap_cli.specs.Upgrades.{ChangesTraceAsOneSwitch, UpgradesTraceAsOneSwitch}
 
 module _ (programs : ℕ → Program) (p : Program) (same : (i : ℕ) → core_program (programs i) ≡ core_program p) where
   one_switch : (i : ℕ) (m : Arrays) (ks : List (List ℕ)) → changing_switch programs i m ks ≡ one_big_switch p.body m ks
@@ -38,7 +40,7 @@ module _ (programs : ℕ → Program) (p : Program) (same : (i : ℕ) → core_p
 
 pub one_source : SpellsOneProgram → UpgradesTraceAsOneSwitch → ChangesTraceAsOneSwitch
 one_source spells law source later tables packets lines report output outputs d =
-    let told = law (λ name. source) later tables packets lines report output outputs d in
+    let told = law (λ name. source) later tables packets lines false report output outputs d in
     let g = told.0 in
     let p : Program = g.programs 0 in
     record {
@@ -49,5 +51,6 @@ one_source spells law source later tables packets lines report output outputs d 
       others = g.others;
       the_others = g.the_others;
       whole = g.whole;
-      report = one_report g.programs p (λ i. spells source (Ok (g.programs i)) (Ok p) (g.the_programs i) (g.the_programs 0)) _ (spelled p.fields (file_of later packets)).packets report told.1;
+      report = one_report g.programs p (λ i. spells source (Ok (g.programs i)) (Ok p) (g.the_programs i) (g.the_programs 0)) _ (spelled p.fields (file_of later packets)).packets report
+          (subst (IsChangingReport g.programs (λ i. port_numbers (in_force g.first g.others i)) (spelled p.fields (file_of later packets)).packets) (told.1.same refl) told.1.one_switch);
     }

@@ -1,5 +1,5 @@
 -- What is compiled and then traced is what one big switch does.
-use Rattle.std.proofs.Common.{◌≡◌, ◌⊎◌, ℕ, Bool, true, false, List, [], length, Some, Ok, Err, refl, sym, ◌∙◌, ap, subst, inl, inr, ⊎_elim, arith}
+use Rattle.std.proofs.Common.{◌≡◌, ◌⊎◌, ℕ, Bool, List, [], Some, Ok, Err, refl, sym, ◌∙◌, ap, subst, inl, inr, ⊎_elim, arith}
 use Rattle.std.specs.List.{All}
 use Rattle.std.specs.Io.KnownBytes.{Appends}
 use Rattle.snap_core.specs.declared.program.Program.{Program}
@@ -15,16 +15,14 @@ use Rattle.snap_trace.specs.Spelled.{Spelled, ended, spelled}
 use Rattle.snap_tables.specs.Text.{text as tables_text}
 use Rattle.snap_tables.specs.Lines.{IsRead}
 use Rattle.snap_tables.specs.ReadBack.{IsReadBack}
-use Rattle.snap_runs.specs.Hops.{HopsAreAdded}
 use Rattle.snap_runs.specs.Laws.{SpelledForIsSpelled, SpelledPacketsFit}
 use Rattle.snap_runs.specs.Plain.{IsPlainReport, spelled_for}
-use Rattle.snap_whole.specs.Laws.{PlainRunsAreShort, PlainRunsReportOneSwitch}
 use Rattle.snap_words.specs.Commands.{Command, Order, compile, plain, trace}
 use Rattle.snap_cli.specs.declared.refusal.Refusal.{Refusal}
 use Rattle.snap_cli.specs.declared.refusal.Refusal.TheVariants.{Usage, Read, Write, Syntax, Naming, Limit, Topology as Network, Unreachable, Race, Packets, NoMemory, Undefined, Declarations, Differ, Demand, Placement, Tables as Unread, Schedule, Changes, ReadChange, VersionOne}
 use Rattle.snap_cli.specs.Compile.{IsCompiled}
 use Rattle.snap_cli.specs.Deserved.{Ends}
-use Rattle.snap_cli.specs.Headline.{AreGiven, Did, TracesAsOneSwitch, TracesInFewHops}
+use Rattle.snap_cli.specs.Headline.{AreGiven, Did}
 use Rattle.snap_cli.specs.Laws.{AnswersExactly, CompilesExactly, IsDue, IsExact, IsFailure, TracesAs, TracesExactly}
 use Rattle.snap_cli.specs.Obs.{IsRunEnding}
 use Rattle.snap_cli.specs.Refusals.{Ending, status_of}
@@ -77,6 +75,17 @@ pub same_tables : (file : List ℕ) (n u : Tables) → IsReadBack n → file ≡
 same_tables file n u back is (inl h) = absurd (let e = h.1 in cc)
 same_tables file n u back is (inr h) = ⊎_elim (λ e. cc) (λ e. absurd (cc)) (back (Ok u) (subst (λ b. IsRead b (Ok u)) is h.1))
 
+-- a plain run that ended with status 0 read all packets, and has a report
+whole_report : (t : Tables) (hops : Bool) (read : Spelled) (report : List ℕ) → TracesAs t hops read 0 (Some []) (Some report) → (read.stop ≡ ended) × IsPlainReport t hops read.packets report
+whole_report t hops read report (inl h) = (h.1, subst (IsPlainReport t hops read.packets) (sym h.2.2) h.2.1)
+whole_report t hops read report (inr h) = absurd (run_apart h.0 h.1 h.3 h.4)
+
+pub plain_ran : TracesExactly → (later : Files) (tables packets : List ℕ) (hops : Bool) (report : List ℕ) → Did later (trace tables packets hops plain) report → (t : Tables) → TablesOf (file_of later tables) (Ok t)
+    → ((spelled_for t (file_of later packets)).stop ≡ ended) × IsPlainReport t hops (spelled_for t (file_of later packets)).packets report
+plain_ran traces later tables packets hops report d t read =
+    whole_report t hops (spelled_for t (file_of later packets)) report
+    (no_failure (traces d.words later tables packets hops t 0 d.shelf_before d.shelf_now d.out_before d.out_now (Some []) (Some report) d.err_before d.err_now d.err_old d.err_new d.said read d.answers))
+
 -- the bytes that a call with status 0 wrote are the text
 module _ (exactly : AnswersExactly) where
   ends_well : (files : Files) (command : Command) (output : List ℕ) → Did files command output → Ends files command (Ok tt)
@@ -107,11 +116,12 @@ module _ (exactly : AnswersExactly) where
 
   module _ (compiles : CompilesExactly) (fit : SpelledPacketsFit) (whole : SpelledForIsSpelled) where
     -- the run of faithful tables that was told, of which this holds
-    pub record Told (files : Files) (program topology placement packets : List ℕ) (Holds : Tables → List (List ℕ) → Type 0) : Type 0 where
+    pub record Told (files : Files) (program topology placement file packets : List ℕ) (Holds : Tables → List (List ℕ) → Type 0) : Type 0 where
       pub p : Program
       pub t : Topology
       pub places : List ℕ
       pub n : Tables
+      pub read : TablesOf file (Ok n)
       pub faithful : Faithful p t places n
       pub given : AreGiven files program topology packets p t
       pub fits : All (IsPacketOf p) (spelled p.fields packets).packets
@@ -120,7 +130,7 @@ module _ (exactly : AnswersExactly) where
     pub told : (Holds : Tables → List (List ℕ) → Type 0) (files later : Files) (program topology placement tables packets : List ℕ) (hops : Bool) (order : Order) (output report : List ℕ)
         → Did files (compile program topology placement) output → file_of later tables ≡ output → Did later (trace tables packets hops order) report
         → ((t : Tables) → TablesOf (file_of later tables) (Ok t) → ((spelled_for t (file_of later packets)).stop ≡ ended) × Holds t (spelled_for t (file_of later packets)).packets)
-        → Told files program topology placement (file_of later packets) Holds
+        → Told files program topology placement (file_of later tables) (file_of later packets) Holds
     told Holds files later program topology placement tables packets hops order output report c is d ran =
         let made = compiled compiles files program topology placement output c in
         let n : Tables = made.0 in
@@ -129,7 +139,8 @@ module _ (exactly : AnswersExactly) where
         let file = file_of later packets in
         let u = read_tables later tables packets report hops order d in
         let same : u.0 ≡ n = same_tables (file_of later tables) n u.0 made.2 (is ∙ made.3) u.1 in
-        let r = ran n (subst (λ x. TablesOf (file_of later tables) (Ok x)) same u.1) in
+        let read_so = subst (λ x. TablesOf (file_of later tables) (Ok x)) same u.1 in
+        let r = ran n read_so in
         let fields : n.fields ≡ p.fields = of.4.shape.fields in
         let read : spelled_for n file ≡ spelled p.fields file = whole n file r.0 ∙ ap (λ fs. spelled fs file) fields in
         record {
@@ -137,48 +148,9 @@ module _ (exactly : AnswersExactly) where
           t = of.1;
           places = of.2;
           n = n;
+          read = read_so;
           faithful = of.4;
           given = record { the_program = of.3.the_program; the_topology = of.3.the_topology; whole = ap (λ (s : Spelled). s.stop) (sym read) ∙ r.0 };
           fits = subst (λ fs. All (IsPacket (count fs)) (spelled p.fields file).packets) fields (subst (λ (s : Spelled). All (IsPacket (count n.fields)) s.packets) read (fit n file));
           holds = subst (λ (s : Spelled). Holds n s.packets) read r.1;
         }
-
-    -- ---- the plain run
-    pub whole_report : (n : Tables) (hops : Bool) (read : Spelled) (report : List ℕ) → TracesAs n hops read 0 (Some []) (Some report) → (read.stop ≡ ended) × IsPlainReport n hops read.packets report
-    whole_report n hops read report (inl h) = (h.1, subst (IsPlainReport n hops read.packets) (sym h.2.2) h.2.1)
-    whole_report n hops read report (inr h) = absurd (run_apart h.0 h.1 h.3 h.4)
-
-    told_plain : TracesExactly → (files later : Files) (program topology placement tables packets : List ℕ) (hops : Bool) (output report : List ℕ)
-        → Did files (compile program topology placement) output → file_of later tables ≡ output → Did later (trace tables packets hops plain) report
-        → Told files program topology placement (file_of later packets) (λ n ks. IsPlainReport n hops ks report)
-    told_plain traces files later program topology placement tables packets hops output report c is d =
-        told (λ n ks. IsPlainReport n hops ks report) files later program topology placement tables packets hops plain output report c is d
-        (λ t read. whole_report t hops (spelled_for t (file_of later packets)) report
-        (no_failure (traces d.words later tables packets hops t 0 d.shelf_before d.shelf_now d.out_before d.out_now (Some []) (Some report) d.err_before d.err_now d.err_old d.err_new d.said read d.answers)))
-
-    pub as_one_switch : TracesExactly → PlainRunsReportOneSwitch → TracesAsOneSwitch
-    as_one_switch traces one files later program topology placement tables packets output report c is d =
-        let x = told_plain traces files later program topology placement tables packets false output report c is d in
-        (x.p, x.t, x.given, one x.p x.t x.places x.n x.faithful (spelled x.p.fields (file_of later packets)).packets x.fits report x.holds)
-
-    pub in_few_hops : TracesExactly → HopsAreAdded → PlainRunsReportOneSwitch → PlainRunsAreShort → TracesInFewHops
-    in_few_hops traces added one short files later program topology placement tables packets output report c is d =
-        let x = told_plain traces files later program topology placement tables packets true output report c is d in
-        let ks = (spelled x.p.fields (file_of later packets)).packets in
-        let without = added x.n (length ks) x.holds.end x.holds.happenings report x.holds.report in (
-          x.p,
-          x.t,
-          x.given,
-          record {
-            plain = without.0;
-            one_switch = one x.p x.t x.places x.n x.faithful ks x.fits without.0 (record { events = x.holds.events; end = x.holds.end; happenings = x.holds.happenings; run = x.holds.run; report = without.1 });
-            added = without.2;
-            tables = x.n;
-            events = x.holds.events;
-            end = x.holds.end;
-            happenings = x.holds.happenings;
-            run = x.holds.run;
-            report = x.holds.report;
-            short = λ order most rank greatest. short x.p x.t x.places x.n x.faithful order most rank greatest ks x.fits x.holds.events x.holds.end x.holds.happenings x.holds.run;
-          },
-        )

@@ -34,3 +34,4 @@ pub mod TopologyOf
 pub mod Trace
 pub mod TraceSteps
 pub mod Headline
+pub mod Upgrades

@@ -1,66 +1,137 @@
 //! The headline: what is compiled and then traced is what one big switch does.
 
-ghost use Rattle.snap_cli.specs.Headline.{ChangesTraceAsOneSwitch, RoundsInFewHops, RoundsTraceAlike, RoundsTraceAsOneSwitch, RoundsTraceAsPlain, SchedulesInFewHops, SchedulesTraceAsOneSwitch, TracesAsOneSwitch, TracesInFewHops, TurnsInFewHops, TurnsTraceAsOneSwitch, TurnsTraceAsPlain, UpgradesInFewHops, UpgradesTraceAsOneSwitch};
+ghost use Rattle.std.specs.Prelude.{List, Option, ℕ};
+ghost use Rattle.snap_words.specs.Commands.{in_turn, plain, rounds, schedule};
+ghost use Rattle.snap_cli.specs.Headline.{LonePlacementsTraceInOrder, LoneTablesTraceInOrder, RoundsTraceAlike, RoundsTraceAsOneSwitch, RoundsTraceAsPlain, SchedulesTraceAsOneSwitch, TracesAsOneSwitch, TracesInOrder, TurnsTraceAsOneSwitch, TurnsTraceAsPlain};
+ghost use Rattle.snap_cli.specs.Upgrades.{ChangesTraceAsOneSwitch, UpgradesTraceAsOneSwitch};
 
 use crate::laws::{
     answers_exactly, changes_exactly, compiles_exactly, rounds_exactly, schedules_exactly,
     spells_one_program, traces_exactly, turns_exactly,
 };
 use snap_core::laws::has_one_listing;
-use snap_move::laws::{said_changes_rise, upgraded_runs_are_short, upgraded_runs_report_one_switch};
+use snap_move::laws::{
+    said_changes_rise, turns_report_without_hops, upgraded_runs_are_short,
+    upgraded_runs_report_one_switch,
+};
 use snap_order::laws::{
     rounds_run_one_way, runs_in_turn_are_short, runs_in_turn_report_one_switch,
 };
-use snap_runs::laws::{calm_schedules_run_calmly, hops_are_added, spelled_packets_fit};
-use snap_whole::laws::{calm_runs_report_one_switch, runs_are_short};
+use snap_runs::laws::{calm_schedules_run_calmly, runs_report_without_hops, spelled_packets_fit};
+use snap_whole::laws::{
+    calm_runs_report_one_switch, lone_runs_report_in_order, orders_have_one_report, runs_are_short,
+};
 
-/// **A call of `compile` answered 0, and a call of `trace` with its output as the file of tables answered 0. Then what the
-/// second wrote is what one big switch does:** for each packet of the packets file its block, with exactly the packets
-/// that one big switch, from empty arrays over the packets so far, delivers at ports of the topology, in rising order, and
-/// the number of the others; and then exactly the places of its arrays. With `--hops` the hops of such a run stand there
-/// too, and no copy makes more than (groups + 1) times the greatest distance.
-pub fn traces_as_one_switch()
-    ensures report { TracesAsOneSwitch }
-    ensures hops { TracesInFewHops }
+/// **A call of `compile` answered 0, and a call of `trace` with its output as the file of tables answered 0, in any order of
+/// events and with hops or without. Then what the second wrote is the report of a run in that order. Without the hops it is what
+/// one big switch does with the packets in the order in which they take effect, and no copy makes more than (groups + 1) times
+/// the greatest distance hops.** They take effect as they come in, one after another, in turn, by rounds, and by a schedule that
+/// is calm; and by any schedule as they fork where all arrays stand at one switch.
+pub fn runs_trace_as_one_switch()
+    ensures each { TracesInOrder plain }
+    ensures schedules { (lines : List ℕ) → TracesInOrder (schedule lines) }
+    ensures turns { (lines : Option (List ℕ)) → TracesInOrder (in_turn lines) }
+    ensures by_rounds { (workers : ℕ) → TracesInOrder (rounds workers) }
 {
     answers_exactly();
     compiles_exactly();
     traces_exactly();
+    schedules_exactly();
+    turns_exactly();
+    rounds_exactly();
     spelled_packets_fit();
-    hops_are_added();
+    runs_report_without_hops();
+    orders_have_one_report();
+    calm_schedules_run_calmly();
     calm_runs_report_one_switch();
+    lone_runs_report_in_order();
     runs_are_short();
+    runs_in_turn_report_one_switch();
+    rounds_run_one_way();
+    runs_in_turn_are_short();
 }
 
-/// **So it is with `trace --schedule`, where the schedule is calm:** each packet is injected when no copy is in flight. And
-/// whatever the schedule orders, no copy makes more than (groups + 1) times the greatest distance hops.
+/// **So `trace` without options writes what one big switch does:** for each packet of the packets file its block, with exactly
+/// the packets that one big switch, from empty arrays over the packets so far, delivers at ports of the topology, in rising order,
+/// and the number of the others; and then exactly the places of its arrays.
+pub fn traces_as_one_switch()
+    ensures { TracesAsOneSwitch }
+{
+    orders_have_one_report();
+    runs_trace_as_one_switch();
+}
+
+/// **So does `trace --schedule`, where the schedule is calm:** each packet is injected when no copy is in flight.
 pub fn schedules_trace_as_one_switch()
-    ensures report { SchedulesTraceAsOneSwitch }
-    ensures hops { SchedulesInFewHops }
+    ensures { SchedulesTraceAsOneSwitch }
+{
+    orders_have_one_report();
+    runs_trace_as_one_switch();
+}
+
+/// **And whatever packets overlap, where all arrays stand at one switch,** it writes what one big switch does with the packets in
+/// the order in which they fork, each block at its packet's number. With `--hops` the hops of that run stand there too.
+pub fn lone_schedules_trace_as_one_switch()
+    ensures placed { LonePlacementsTraceInOrder }
+    ensures tables { LoneTablesTraceInOrder }
 {
     answers_exactly();
     compiles_exactly();
-    schedules_exactly();
+    runs_trace_as_one_switch();
+}
+
+/// **So does `trace --ordered`, whatever packets overlap:** in the order of each schedule that can be done to an end, and
+/// without a schedule. What it wrote is, byte for byte, what `trace` without `--ordered` writes, one packet after the other.
+pub fn turns_trace_as_one_switch()
+    ensures report { TurnsTraceAsOneSwitch }
+    ensures as_plain { TurnsTraceAsPlain }
+{
+    answers_exactly();
+    compiles_exactly();
+    traces_exactly();
+    turns_exactly();
+    has_one_listing();
     spelled_packets_fit();
-    calm_schedules_run_calmly();
     calm_runs_report_one_switch();
-    runs_are_short();
+    runs_in_turn_report_one_switch();
+    orders_have_one_report();
+    runs_trace_as_one_switch();
+}
+
+/// **So does `trace --ordered --workers`, for every number of workers:** what it wrote is, byte for byte, what `trace` without
+/// `--ordered` writes, one packet after the other. Different numbers of workers write the same, with hops too, and whatever the
+/// tables.
+pub fn rounds_trace_as_one_switch()
+    ensures report { RoundsTraceAsOneSwitch }
+    ensures as_plain { RoundsTraceAsPlain }
+    ensures alike { RoundsTraceAlike }
+{
+    answers_exactly();
+    compiles_exactly();
+    traces_exactly();
+    rounds_exactly();
+    has_one_listing();
+    spelled_packets_fit();
+    calm_runs_report_one_switch();
+    runs_in_turn_report_one_switch();
+    orders_have_one_report();
+    runs_trace_as_one_switch();
 }
 
 /// **The first file of tables and those that the changes name are what calls of `compile` wrote, each for a program file, a
-/// topology and a placement of its own, and a call of `trace --changes` answered 0. Then what it wrote is what one big switch
-/// does whose program changes:** each packet is evaluated by the program in force for it, from the arrays that the packets
-/// before left, at the ports of the tables that are in force. With `--hops` no copy makes more than (groups + 1) times the
-/// greatest distance.
+/// topology and a placement of its own, and a call of `trace --changes` answered 0, with hops or without. Then what it wrote is
+/// the report of a run with these changes. Without the hops it is what one big switch does whose program changes:** each packet is
+/// evaluated by the program in force for it, from the arrays that the packets before left, at the ports of the tables that are in
+/// force. And no copy makes more than (groups + 1) times the greatest distance hops.
 pub fn upgrades_trace_as_one_switch()
-    ensures report { UpgradesTraceAsOneSwitch }
-    ensures hops { UpgradesInFewHops }
+    ensures { UpgradesTraceAsOneSwitch }
 {
     answers_exactly();
     compiles_exactly();
     changes_exactly();
     spelled_packets_fit();
     said_changes_rise();
+    turns_report_without_hops();
     upgraded_runs_report_one_switch();
     upgraded_runs_are_short();
 }
@@ -73,45 +144,4 @@ pub fn changes_trace_as_one_switch()
 {
     spells_one_program();
     upgrades_trace_as_one_switch();
-}
-
-/// **So it is with `trace --ordered`, whatever packets overlap:** in the order of each schedule that can be done to an end, and
-/// without a schedule. What it wrote is, byte for byte, what `trace` without `--ordered` writes, one packet after the other; and
-/// with `--hops` no copy makes more than (groups + 1) times the greatest distance.
-pub fn turns_trace_as_one_switch()
-    ensures report { TurnsTraceAsOneSwitch }
-    ensures plain { TurnsTraceAsPlain }
-    ensures hops { TurnsInFewHops }
-{
-    answers_exactly();
-    compiles_exactly();
-    traces_exactly();
-    turns_exactly();
-    has_one_listing();
-    spelled_packets_fit();
-    calm_schedules_run_calmly();
-    calm_runs_report_one_switch();
-    runs_in_turn_report_one_switch();
-    runs_in_turn_are_short();
-}
-
-/// **So it is with `trace --ordered --workers`, for every number of workers:** what it wrote is, byte for byte, what `trace`
-/// without `--ordered` writes, one packet after the other; and with `--hops` no copy makes more than (groups + 1) times the
-/// greatest distance. Different numbers of workers write the same, with hops too, and whatever the tables.
-pub fn rounds_trace_as_one_switch()
-    ensures report { RoundsTraceAsOneSwitch }
-    ensures plain { RoundsTraceAsPlain }
-    ensures alike { RoundsTraceAlike }
-    ensures hops { RoundsInFewHops }
-{
-    answers_exactly();
-    compiles_exactly();
-    traces_exactly();
-    rounds_exactly();
-    has_one_listing();
-    spelled_packets_fit();
-    rounds_run_one_way();
-    calm_runs_report_one_switch();
-    runs_in_turn_report_one_switch();
-    runs_in_turn_are_short();
 }

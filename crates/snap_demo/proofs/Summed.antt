@@ -30,7 +30,8 @@ use Rattle.snap_gen.proofs.Switching.{picks_all}
 use Rattle.snap_runs.specs.Plain.{entering}
 use Rattle.snap_runs.specs.Reports.{packets_delivered}
 use Rattle.snap_whole.specs.OneSwitch.{ports_of}
-use Rattle.snap_whole.proofs.CalmReport.{as_many, calm_agrees, numbered_at}
+use Rattle.snap_whole.proofs.CalmReport.{calm_agrees}
+use Rattle.snap_whole.proofs.Made.{as_many, numbered_at}
 use Rattle.snap_demo.specs.declared.counts.Counts.{Counts}
 use Rattle.snap_demo.specs.Packets.{packet_of, stated_packets}
 use Rattle.snap_demo.specs.Row.{stated_places, stated_topology}

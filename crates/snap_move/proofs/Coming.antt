@@ -139,17 +139,8 @@ module _ (first : Tables) (later : List Later) (hops : Bool) (file : List ℕ) (
       let h = put s.state s.shows in
       let end = end_text (array_names m.tracer.net.tables) h.0 in
       let report : IsChangedReport first later hops c.packets (c.text ++ end) = record {
-        end = m.tracer.net.tables;
-        left = left_in m;
-        state = s.state;
-        turns = c.turns;
-        run = s.run;
-        ahead = subst (IsAhead (left_in m)) (sym s.shows.injected) settled;
-        blocks = c.text;
-        are = c.blocks;
-        entries = h.0;
-        listed = h.1;
-        is = refl;
+        ran = record { end = m.tracer.net.tables; left = left_in m; state = s.state; turns = c.turns; run = s.run; ahead = subst (IsAhead (left_in m)) (sym s.shows.injected) settled };
+        report = record { blocks = c.text; are = c.blocks; entries = h.0; listed = h.1; is = refl };
       } in
       (c.text ++ end, subst (λ (s : Spelled). EndsAsRead first later hops s.packets s.stop (Ok tt) (c.text ++ end)) (sym (all ended e)) (refl, report), waits-more old now c.text m.tracer.text.items end waiting h.2 c.waits)
 

@@ -10,5 +10,6 @@ pub mod Whole
 pub mod Report
 pub mod OneProgram
 pub mod Once
+pub mod WithoutHops
 pub mod Lines
 pub mod InForce

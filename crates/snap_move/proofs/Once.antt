@@ -80,9 +80,13 @@ changed_blocks_one first later form hops ks a b x y =
     blocks_one hops 0 x.turns a b x.blocks (subst (λ turns. AreBlocksFrom hops 0 turns b) (sym one.turns_same) y.blocks)
 
 pub changed_reports_one : ChangedReportsAreOne
-changed_reports_one first later form hops ks a b x y =
+changed_reports_one first later form hops ks a b v w =
+    let x = v.ran in
+    let y = w.ran in
+    let r = v.report in
+    let q = w.report in
     let one = through_one y.end y.left y.state form x.run first later (start first zero_arrays) ks refl refl refl refl y.run in
     let ends = one.ends x.ahead y.ahead in
-    let blocks = blocks_one hops 0 x.turns x.blocks y.blocks x.are (subst (λ turns. AreBlocksFrom hops 0 turns y.blocks) (sym one.turns_same) y.are) in
-    let entries = listings_one (whole x.end x.state) x.entries y.entries x.listed (subst (λ m. IsListing m y.entries) (λ i. whole (sym ends.0 i) (sym ends.1 i)) y.listed) in
-    x.is ∙ (λ i. blocks i ++ end_text (array_names (ends.0 i)) (entries i)) ∙ sym y.is
+    let blocks = blocks_one hops 0 x.turns r.blocks q.blocks r.are (subst (λ turns. AreBlocksFrom hops 0 turns q.blocks) (sym one.turns_same) q.are) in
+    let entries = listings_one (whole x.end x.state) r.entries q.entries r.listed (subst (λ m. IsListing m q.entries) (λ i. whole (sym ends.0 i) (sym ends.1 i)) q.listed) in
+    r.is ∙ (λ i. blocks i ++ end_text (array_names (ends.0 i)) (entries i)) ∙ sym q.is

@@ -81,10 +81,12 @@ abbrev Nothing : Program → Turn → Type 0
 Nothing p turn = Unit {0}
 
 pub upgraded_report : UpgradedRunsReportOneSwitch
-upgraded_report programs first later faithful shapes rising ks packets text r =
-    let x = from_zero programs Nothing (λ p t f m store es fits s hs run n. tt) first later faithful shapes rising ks packets r.end r.left r.state r.turns r.run in
-    let all = blocks_of_sets programs Nothing (in_force first later) 0 r.turns x.made.packets r.blocks r.are x.came in
-    let names : array_names r.end ≡ (programs (length ks)).vars = x.names ∙ sym (force-shape first first later (shape-same first) shapes (length ks)).names ∙ (faithful (length ks)).faithful.shape.names in
+upgraded_report programs first later faithful shapes rising ks packets text told =
+    let run = told.ran in
+    let r = told.report in
+    let x = from_zero programs Nothing (λ p t f m store es fits s hs run n. tt) first later faithful shapes rising ks packets run.end run.left run.state run.turns run.run in
+    let all = blocks_of_sets programs Nothing (in_force first later) 0 run.turns x.made.packets r.blocks r.are x.came in
+    let names : array_names run.end ≡ (programs (length ks)).vars = x.names ∙ sym (force-shape first first later (shape-same first) shapes (length ks)).names ∙ (faithful (length ks)).faithful.shape.names in
     record {
       made = x.made;
       defined = x.switched;

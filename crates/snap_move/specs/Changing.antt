@@ -71,16 +71,24 @@ pub record AreChangedBlocks (first : Tables) (later : List Later) (hops : Bool) 
   pub run : RunsThrough end left state first later (start first zero_arrays) ks turns
   pub blocks : AreBlocksFrom hops 0 turns text
 
--- and this is its report, when no change is due any more: the blocks, and the places that aren't 0
-pub record IsChangedReport (first : Tables) (later : List Later) (hops : Bool) (ks : List (List ℕ)) (text : List ℕ) : Type 0 where
+-- From empty arrays these packets go through, and then no change is due any more.
+pub record ChangedRun (first : Tables) (later : List Later) (ks : List (List ℕ)) : Type 0 where
   pub end : Tables
   pub left : List Later
   pub state : Net
   pub turns : List Turn
   pub run : RunsThrough end left state first later (start first zero_arrays) ks turns
   pub ahead : IsAhead left state.injected
+
+-- The report of turns behind which the network has these tables and this state: the blocks, and the places that aren't 0.
+pub record IsTurnsReport (end : Tables) (state : Net) (turns : List Turn) (hops : Bool) (text : List ℕ) : Type 0 where
   pub blocks : List ℕ
   pub are : AreBlocksFrom hops 0 turns blocks
   pub entries : List Entry
   pub listed : IsListing (whole end state) entries
   pub is : text ≡ blocks ++ end_text (array_names end) entries
+
+-- and this is the report of the run
+pub record IsChangedReport (first : Tables) (later : List Later) (hops : Bool) (ks : List (List ℕ)) (text : List ℕ) : Type 0 where
+  pub ran : ChangedRun first later ks
+  pub report : IsTurnsReport ran.end ran.state ran.turns hops text

@@ -17,7 +17,7 @@ use Rattle.snap_gen.specs.Faithful.{Faithful, IsPacketOf}
 use Rattle.snap_whole.specs.Laws.{IsHopWithin}
 use Rattle.snap_move.specs.declared.change.Change.{Change}
 use Rattle.snap_move.specs.declared.later.Later.{Later}
-use Rattle.snap_move.specs.Changing.{AreChangedBlocks, HaveShapeOf, IsChangedReport, IsRising, RunsThrough, Turn, in_force}
+use Rattle.snap_move.specs.Changing.{AreChangedBlocks, HaveShapeOf, IsChangedReport, IsRising, IsTurnsReport, RunsThrough, Turn, in_force}
 use Rattle.snap_move.specs.Lines.{AreRising, changes_of}
 use Rattle.snap_move.specs.OneSwitch.{IsChangingReport, IsSwitchReportUnder, changing_switch}
 
@@ -36,6 +36,11 @@ ChangedReportsAreOne = (first : Tables) (later : List Later) → AreInForm first
 
 abbrev pub ChangedBlocksAreOne : Type 0
 ChangedBlocksAreOne = (first : Tables) (later : List Later) → AreInForm first later → (hops : Bool) (ks : List (List ℕ)) (a b : List ℕ) → AreChangedBlocks first later hops ks a → AreChangedBlocks first later hops ks b → a ≡ b
+
+-- turns with a report have one without hops, which is the same where none are told
+abbrev pub TurnsReportWithoutHops : Type 0
+TurnsReportWithoutHops = (end : Tables) (s : Net) (turns : List Turn) (hops : Bool) (text : List ℕ) → IsTurnsReport end s turns hops text
+    → (plain : List ℕ) × IsTurnsReport end s turns false plain × (hops ≡ false → plain ≡ text)
 
 -- ---- faithful tables
 -- the tables are faithful to the program, for some topology and placement

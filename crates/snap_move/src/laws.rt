@@ -1,7 +1,7 @@
 //! Laws of runs with changes.
 
 ghost use Rattle.snap_move.specs.InForce.{TurnsAreInForce};
-ghost use Rattle.snap_move.specs.Laws.{ChangedBlocksAreOne, ChangedReportsAreOne, ChangedRunsAreShort, ChangedRunsReportOneSwitch, OneProgramReportsOneSwitch, OneSwitchIsReported, PieceIsOneSwitch, PiecesFollow, SaidChangesRise, UpgradedRunsAreShort, UpgradedRunsReportOneSwitch};
+ghost use Rattle.snap_move.specs.Laws.{ChangedBlocksAreOne, ChangedReportsAreOne, ChangedRunsAreShort, ChangedRunsReportOneSwitch, OneProgramReportsOneSwitch, OneSwitchIsReported, PieceIsOneSwitch, PiecesFollow, SaidChangesRise, TurnsReportWithoutHops, UpgradedRunsAreShort, UpgradedRunsReportOneSwitch};
 
 /// The changes that a changes file says come behind rising numbers of packets.
 pub fn said_changes_rise()
@@ -12,6 +12,11 @@ pub fn said_changes_rise()
 pub fn changed_reports_are_one()
     ensures reports { ChangedReportsAreOne }
     ensures blocks { ChangedBlocksAreOne }
+{}
+
+/// The turns of a run with a report have one without hops.
+pub fn turns_report_without_hops()
+    ensures { TurnsReportWithoutHops }
 {}
 
 /// Where all tables are faithful to one program, each for a topology and a placement of its own, each run with changes

@@ -1,38 +1,29 @@
 -- Runs in turn of faithful tables report what one big switch does.
-use Rattle.std.proofs.Common.{◌≡◌, ℕ, ◌+◌, false, List, ◌∷◌, ◌++◌, map, length, Some, refl, sym, ap, is_some, subst, ◌∙◌, arith, append-nil}
-use Rattle.std.specs.Prelude.{slice_get, slice_index}
-use Rattle.std.specs.List.{All, concat}
-use Rattle.std.proofs.lemmas.Option.{slice_get_within}
+use Rattle.std.proofs.Common.{◌≡◌, ℕ, ◌+◌, false, List, ◌∷◌, ◌++◌, length, refl, sym, ap, is_some, subst, ◌∙◌, append-nil}
+use Rattle.std.specs.Prelude.{slice_index}
+use Rattle.std.specs.List.{All}
 use Rattle.std.proofs.lemmas.List.Elements.{All-nil, All-cons}
-use Rattle.snap_core.specs.declared.ports.PortAt.{PortAt}
 use Rattle.snap_core.specs.declared.program.Program.{Program}
 use Rattle.snap_core.specs.Arrays.{zero_arrays}
-use Rattle.snap_core.specs.Packets.{PacketSet}
-use Rattle.snap_core.specs.Switch.{one_big_switch}
-use Rattle.snap_topo.specs.declared.topology.Topology.{Topology}
 use Rattle.snap_rows.specs.declared.tables.Tables.{Tables}
-use Rattle.snap_rows.specs.Entries.{port_numbers}
 use Rattle.snap_rows.specs.Network.{Net, Event, Inject, Step, Happening, packets_of}
 use Rattle.snap_rows.specs.Progress.{CanBeInjected}
-use Rattle.snap_gen.specs.Agreement.{Agrees, CameOut, numbered}
-use Rattle.snap_gen.specs.Faithful.{Faithful, IsPacketOf, AllCanEnter}
+use Rattle.snap_gen.specs.Agreement.{Agrees, numbered}
+use Rattle.snap_gen.specs.Faithful.{IsPacketOf, AllCanEnter}
 use Rattle.snap_gen.specs.Faithful as faithful
-use Rattle.snap_gen.proofs.Switching.{picks_all}
-use Rattle.snap_trace.specs.Reports.{block, blocks, end_text}
+use Rattle.snap_trace.specs.Reports.{block, blocks}
 use Rattle.snap_runs.specs.Plain.{entering}
 use Rattle.snap_runs.specs.Reports as plain
 use Rattle.snap_runs.specs.Schedules.{Spells, nothing, skips, injects, steps}
-use Rattle.snap_order.specs.Ordered.{Ordered, LeadsInTurn, RunInTurn, RunsInTurn, Turn, happenings}
+use Rattle.snap_order.specs.Ordered.{Ordered, LeadsInTurn, RunsInTurn, Turn, happenings}
 use Rattle.snap_order.specs.Ordered as ordered
 use Rattle.snap_order.specs.Reports.{IsBlock, IsRunReport}
-use Rattle.snap_order.specs.Runs.{IsPlainReport, IsScheduleReport, RunsCalmlyInTurn}
+use Rattle.snap_order.specs.Runs.{RunsCalmlyInTurn}
 use Rattle.snap_order.specs.Runs as runs
 use Rattle.snap_order.proofs.Keeping.{keeps_order}
 use Rattle.snap_order.specs.OneSwitch.{PlainRunsInTurnReportOneSwitch, RunsByRoundsReportOneSwitch, RunsInTurnReportOneSwitch, SchedulesInTurnReportOneSwitch}
-use Rattle.snap_whole.specs.OneSwitch.{IsSwitchReport, port_lines, ports_of}
-use Rattle.snap_whole.proofs.CalmReport.{as_many, numbered_at}
 use Rattle.snap_whole.proofs.Entered.{IsOfProgram, entering-fits, entering-packets, no_numbers}
-use Rattle.snap_whole.proofs.Sets.{all_blocks, one_block}
+use Rattle.snap_whole.proofs.InOrder.{agrees_report}
 use Rattle.snap_order.proofs.Rounds.{by_rounds_runs}
 
 -- ---- packets that come in
@@ -73,34 +64,12 @@ plain_report t count s hs text r = record {
   is = r.is;
 }
 
--- a run that agrees with one big switch, in the order in which the packets came in
-agrees_report : (p : Program) (topology : Topology) (t : Tables) → t.fields ≡ p.fields → plain.array_names t ≡ p.vars → t.ports ≡ topology.ports
-    → (ks : List (List ℕ)) (s : Net) (hs : List Happening) → Agrees p t zero_arrays ks (numbered ks) s hs → (text : List ℕ) → plain.IsRunReport t false (length ks) s hs text → IsSwitchReport p (ports_of topology) ks text
-agrees_report p topology t fields names ports ks s hs agrees text report =
-    let switched : one_big_switch p.body zero_arrays ks ≡ Some agrees.end = ap (one_big_switch p.body zero_arrays) (sym (picks_all ks)) ∙ agrees.switched in
-    let sets = agrees.end.packets in
-    let long : length ks ≡ length sets = as_many p.body zero_arrays ks agrees.end switched in
-    let shown = port_lines t.fields (port_numbers t) in
-    let came : (i : ℕ) (set : PacketSet) → slice_get sets i ≡ Some set → CameOut t i set hs =
-    λ i set is. agrees.packets i i set (numbered_at (length ks) 0 i (let l = slice_get_within sets i set is in omega arith) ∙ ap Some (let e : 0 + i ≡ i = omega arith in e)) is in
-    let all : concat report.are.each ≡ blocks shown 1 sets =
-    all_blocks shown report.are.each sets 1 (report.are.as_many ∙ long)
-    (λ i text set a b. one_block t i set hs text (came i set b) (report.are.blocks i text a) ∙ ap (λ n. block shown n set) (let e : i + 1 ≡ 1 + i = omega arith in e)) in
-    let same_ports : port_numbers t ≡ ports_of topology = ap (map (λ (x : PortAt). x.port)) ports in
-    record {
-      made = agrees.end;
-      defined = switched;
-      entries = report.entries;
-      listed = record { rising = report.listed.rising; nonzero = report.listed.nonzero; numbers = λ q. report.listed.numbers q ∙ agrees.arrays q };
-      is = report.is ∙ (λ i. (report.are.is ∙ all) i ++ end_text (names i) report.entries) ∙ (λ i. blocks (port_lines (fields i) (same_ports i)) 1 sets ++ end_text p.vars report.entries);
-    }
-
 pub turns_report : RunsInTurnReportOneSwitch
 turns_report p topology places t f ks packets es s us enter run none text report =
     let fits = subst (All (λ (e : ℕ × List ℕ). IsPacketOf p e.1)) (sym enter) (entering-fits p ks packets) in
     let agrees = (keeps_order p topology places t f).ended zero_arrays es s us (record { store = no_numbers p; packets = all_enter t p fits run; run = run }) none in
     let same : faithful.packets_in (packets_of es) ≡ ks = ap faithful.packets_in enter ∙ entering-packets ks in
-    agrees_report p topology t f.shape.fields f.shape.names f.shape.ports ks s.net (happenings us) (subst (λ l. Agrees p t zero_arrays l (numbered l) s.net (happenings us)) same agrees) text
+    agrees_report p topology places t f ks s.net (happenings us) (subst (λ l. Agrees p t zero_arrays l (numbered l) s.net (happenings us)) same agrees) text
     (plain_report t (length ks) s.net (happenings us) text report)
 
 pub plain_turns_report : PlainRunsInTurnReportOneSwitch

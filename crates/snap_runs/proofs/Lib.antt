@@ -3,7 +3,8 @@ pub mod OneReport
 pub mod OneRun
 pub mod PlainReport
 pub mod SpelledPackets
-pub mod Hopping
+pub mod Choosing
+pub mod WithoutHops
 pub mod Happenings
 pub mod Blocks
 pub mod Runs

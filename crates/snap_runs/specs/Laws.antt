@@ -1,5 +1,5 @@
 -- Laws of runs over packets, and of their reports.
-use Rattle.std.specs.Prelude.{◌≡◌, ℕ, Bool, List, []}
+use Rattle.std.specs.Prelude.{◌≡◌, ℕ, Bool, false, List, []}
 use Rattle.std.specs.List.{All}
 use Rattle.snap_core.specs.Arrays.{Arrays, zero_arrays}
 use Rattle.snap_core.specs.Fields.{count}
@@ -8,8 +8,9 @@ use Rattle.snap_rows.specs.declared.tables.Tables.{Tables}
 use Rattle.snap_rows.specs.Form.{IsInForm}
 use Rattle.snap_rows.specs.Network.{Event, Happening, IsPlainRun, Net, RunsCalmly, packets_of, start}
 use Rattle.snap_trace.specs.Spelled.{ended, spelled}
+use Rattle.snap_runs.specs.declared.frames.Frames.{Frames}
 use Rattle.snap_runs.specs.Plain.{ArePlainBlocks, IsPlainReport, entering, spelled_for}
-use Rattle.snap_runs.specs.Reports.{AreBlocks, IsRunReport}
+use Rattle.snap_runs.specs.Reports.{AreBlocks, IsRunReport, IsRunReportBy}
 use Rattle.snap_runs.specs.Schedules.{IsCalm, IsScheduleReport, Obeys, RefusesLine, Spells}
 
 -- the plain run of packets is one: the same events, the same end and the same happenings
@@ -23,6 +24,11 @@ RunReportsAreOne = (t : Tables) (hops : Bool) (count : ℕ) (s : Net) (hs : List
 
 abbrev pub RunBlocksAreOne : Type 0
 RunBlocksAreOne = (t : Tables) (hops : Bool) (count : ℕ) (hs : List Happening) (a b : List ℕ) → AreBlocks t hops count hs a → AreBlocks t hops count hs b → a ≡ b
+
+-- and a run with a report has one without hops, which is the same where none are told
+abbrev pub RunsReportWithoutHops : Type 0
+RunsReportWithoutHops = (f : Frames) (t : Tables) (hops : Bool) (count : ℕ) (s : Net) (hs : List Happening) (text : List ℕ) → IsRunReportBy f t hops count s hs text
+    → (plain : List ℕ) × IsRunReportBy f t false count s hs plain × (hops ≡ false → plain ≡ text)
 
 -- so packets have one report, and the same blocks, in the plain run
 abbrev pub PlainReportsAreOne : Type 0

@@ -1,6 +1,5 @@
 pub mod Reports
 pub mod Plain
-pub mod Hops
 pub mod Laws
 pub mod Tallies
 pub mod Settling

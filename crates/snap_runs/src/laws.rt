@@ -1,12 +1,16 @@
 //! Laws of runs over packets, and of their reports.
 
-ghost use Rattle.snap_runs.specs.Hops.{HopsAreAdded};
-ghost use Rattle.snap_runs.specs.Laws.{CalmSchedulesRunCalmly, PlainBlocksAreOne, PlainReportsAreOne, PlainRunsAreOne, RefusedLinesAreOne, ReportedOrRefused, RunBlocksAreOne, RunReportsAreOne, ScheduleReportsAreOne, ScheduledRunsAreOne, SchedulesKeepOrder, SpelledForIsSpelled, SpelledPacketsFit};
+ghost use Rattle.snap_runs.specs.Laws.{CalmSchedulesRunCalmly, PlainBlocksAreOne, PlainReportsAreOne, PlainRunsAreOne, RefusedLinesAreOne, ReportedOrRefused, RunBlocksAreOne, RunReportsAreOne, RunsReportWithoutHops, ScheduleReportsAreOne, ScheduledRunsAreOne, SchedulesKeepOrder, SpelledForIsSpelled, SpelledPacketsFit};
 
 /// A run has one report, and its happenings have the same blocks.
 pub fn run_reports_are_one()
     ensures reports { RunReportsAreOne }
     ensures blocks { RunBlocksAreOne }
+{}
+
+/// A run with a report has one without hops, whichever way the frames of hops are told.
+pub fn runs_report_without_hops()
+    ensures { RunsReportWithoutHops }
 {}
 
 /// The plain run of packets through tables in form is one, and so it has one report and the same blocks.
@@ -37,9 +41,4 @@ pub fn calm_schedules_run_calmly()
 pub fn spelled_packets_fit()
     ensures fit { SpelledPacketsFit }
     ensures whole { SpelledForIsSpelled }
-{}
-
-/// A report with hops is the report without, but that lines of hops stand behind the first lines of its blocks.
-pub fn hops_are_added()
-    ensures { HopsAreAdded }
 {}

@@ -1,2 +1,3 @@
 pub mod OneSwitch
 pub mod Laws
+pub mod InOrder

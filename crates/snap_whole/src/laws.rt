@@ -1,6 +1,9 @@
 //! Laws of runs of faithful tables.
 
+ghost use Rattle.snap_whole.specs.InOrder.{InTurnItIsTheReport, LoneRunsReportInOrder, OrdersHaveOneReport, TheReportIsInTurn};
 ghost use Rattle.snap_whole.specs.Laws.{CalmRunsReportOneSwitch, PlainRunsAreShort, PlainRunsReportOneSwitch, RunsAreShort};
+
+use snap_core::laws::has_one_listing;
 
 /// **Each run of faithful tables to an end, in which each packet comes in when no other is on its way, reports exactly
 /// what one big switch does.** The plain run is such a run.
@@ -8,6 +11,22 @@ pub fn calm_runs_report_one_switch()
     ensures calm { CalmRunsReportOneSwitch }
     ensures plain { PlainRunsReportOneSwitch }
 {}
+
+/// **Where all arrays stand at one switch, each run of faithful tables to an end reports exactly what one big switch does over
+/// the packets in the order in which they fork,** whatever packets overlap.
+pub fn lone_runs_report_in_order()
+    ensures { LoneRunsReportInOrder }
+{}
+
+/// In each order of the packets one big switch has one report, and in the order of their numbers that is its report over the
+/// packets as they stand.
+pub fn orders_have_one_report()
+    ensures one { OrdersHaveOneReport }
+    ensures in_turn { InTurnItIsTheReport }
+    ensures is_in_turn { TheReportIsInTurn }
+{
+    has_one_listing();
+}
 
 /// **Each copy makes at most (groups + 1) times the diameter hops**, whatever the order of the events.
 pub fn runs_are_short()
