@@ -19,6 +19,7 @@ pub mod Place
 pub mod PlaceSteps
 pub mod PlacementOf
 pub mod ProgramOf
+pub mod Reached
 pub mod Refusals
 pub mod Routes
 pub mod RoutesSteps
