@@ -7,7 +7,6 @@ use Rattle.snap_rows.specs.declared.tables.Tables.{Tables}
 use Rattle.snap_rows.specs.Form.{IsInForm}
 use Rattle.snap_rows.specs.Network.{Event, Happening, Net, Runs, Step, on, start, step}
 use Rattle.snap_runs.specs.declared.event.Order.{Order}
-use Rattle.snap_runs.specs.declared.event.Order.TheVariants as order
 use Rattle.snap_runs.specs.Schedules.{CantBeDone, Obeys, RefusesLine, Spells, StopsAt, injects, order_by, skips, steps}
 use Rattle.snap_runs.proofs.OneSchedule.{obeys_one, runs-cut, spells-cut}
 use Rattle.snap_order.specs.Ordered.{LeadsInTurn, Ordered, RunsInTurn, Turn, begin}
