@@ -115,7 +115,7 @@ module _ (spells : SpellsOneProgram) (exactly : AnswersExactly) (compiles : Comp
 -- the command ends as the run of these tables does
 ran : (c : CompileCall) (later : Files) (tables packets : List ℕ) (hops : Bool) (order : Order) (n : Tables) → IsFileOf c (file_of later tables) n → (e : Ending) → EndsTrace later tables packets hops order e
     → TablesOf (file_of later tables) (Ok n) × ((text : List ℕ) × NetworkRunsTo later n packets hops order e text)
-ran c later tables packets hops order n of e (inl (refusal, no, same)) = absurd (let x = of.only (Err refusal) no in cc)
+ran c later tables packets hops order n of e (inl (refusal, why, same)) = absurd (let x = of.only (Err refusal) why in cc)
 ran c later tables packets hops order n of e (inr (u, read, (text, run))) =
     let same : u ≡ n = (let x = of.only (Ok u) read in cc) in
     (subst (λ x. TablesOf (file_of later tables) (Ok x)) same read, (text, subst (λ x. NetworkRunsTo later x packets hops order e text) same run))
@@ -125,21 +125,21 @@ has_port : (ps : List PortAt) (n : ℕ) → Contains (map (λ (x : PortAt). x.po
 has_port ps n there = sym (port_is_found ps n) ∙ list_any_at (λ port. port == n) (map (λ (x : PortAt). x.port) ps) there.0 n there.1 (eq-eqb _ n there.2)
 
 module _ (fields : List Field) (packets : List ℕ) where
-  abbrev read : Spelled
-  read = spelled fields packets
+  abbrev here : List (List ℕ)
+  here = (spelled fields packets).packets
 
   -- tables of these ports, or those in force, take each packet that names one
   taken_whole : (n : Tables) (ports : List PortAt) → n.fields ≡ fields → n.ports ≡ ports → NamePorts fields (λ i. map (λ (x : PortAt). x.port) ports) packets → (spelled_for n packets).stop ≡ ended
   taken_whole n ports same at names =
-      let known : All (IsKnown n.ports) read.packets = λ i d within.
-      let k = get_or read.packets i d in subst (λ ps. IsKnown ps k) (sym at) (has_port ports (slice_index k 0) (names.named i k (slice_get-get_or read.packets i d within))) in
+      let known : All (IsKnown n.ports) here = λ i d within.
+      let k = get_or here i d in subst (λ ps. IsKnown ps k) (sym at) (has_port ports (slice_index k 0) (names.named i k (slice_get-get_or here i d within))) in
       let all : All (IsKnown n.ports) (spelled n.fields packets).packets = subst (λ fs. All (IsKnown n.ports) (spelled fs packets).packets) (sym same) known in
       ap (λ (s : Spelled). s.stop) (spelled_known n (said_by n.fields) packets 1000000 1 0 all) ∙ ap (λ fs. (spelled fs packets).stop) same ∙ names.form
 
   taken_under : (first : Tables) (later : List Later) (ports : ℕ → List PortAt) → first.fields ≡ fields → ((i : ℕ) → (in_force first later i).ports ≡ ports i)
       → NamePorts fields (λ i. map (λ (x : PortAt). x.port) (ports i)) packets → (spelled_under first later packets).stop ≡ ended
   taken_under first later ports same at names =
-      let known : (i : ℕ) (k : List ℕ) → slice_get read.packets i ≡ Some k → IsKnown (in_force first later i).ports k = λ i k is.
+      let known : (i : ℕ) (k : List ℕ) → slice_get here i ≡ Some k → IsKnown (in_force first later i).ports k = λ i k is.
       subst (λ ps. IsKnown ps k) (sym (at i)) (has_port (ports i) (slice_index k 0) (names.named i k is)) in
       let all = subst (λ fs. (i : ℕ) (k : List ℕ) → slice_get (spelled fs packets).packets i ≡ Some k → IsKnown (in_force first later i).ports k) (sym same) known in
       ap (λ (s : Spelled). s.stop) (under_known first later packets all) ∙ ap (λ fs. (spelled fs packets).stop) same ∙ names.form
@@ -175,14 +175,14 @@ module _ (later : Files) (tables packets : List ℕ) (hops : Bool) (n : Tables) 
   turns_well (Some lines) can h =
       let done = can.lead n is in
       schedule_well n file whole ending text (file_of later lines) (turns.HasScheduleReport n hops file (file_of later lines)) (turns.RefusesScheduleLine n file (file_of later lines)) can.short
-      (λ line no. ended_or_refused_in_turn n form ks (lines_of (file_of later lines)) done.0 done.1 done.2 done.3 line no.1) h
+      (λ line stuck. ended_or_refused_in_turn n form ks (lines_of (file_of later lines)) done.0 done.1 done.2 done.3 line stuck.1) h
 
   ran_well : (order : Order) → OrderCanBeDone later tables packets order → NetworkRunsTo later n packets hops order ending text → ending ≡ Ok tt
   ran_well plain can h = ends_well (ArePlainBlocks n hops) (IsPlainReport n hops) ks (spelled_for n file).stop h.0 ending text whole h.1 h.2
   ran_well (schedule lines) can h =
       let done = can.lead n is in
       schedule_well n file whole ending text (file_of later lines) (HasScheduleReport n hops file (file_of later lines)) (RefusesScheduleLine n file (file_of later lines)) can.short
-      (λ line no. ended_or_refused n form ks (lines_of (file_of later lines)) done.0 done.1 done.2 done.3 line no.1) h
+      (λ line stuck. ended_or_refused n form ks (lines_of (file_of later lines)) done.0 done.1 done.2 done.3 line stuck.1) h
   ran_well (changes lines) can h = absurd can
   ran_well (in_turn lines) can (inl h) = absurd (let one = h.0 in omega (arith, one, two))
   ran_well (in_turn lines) can (inr h) = turns_well lines can h.1
@@ -230,7 +230,7 @@ module _ (spells : SpellsOneProgram) (exactly : AnswersExactly) (compiles : Comp
         )
 
     not_refused : (c : Change) → Follows c → (e : Refusal) → RefusesLater later first c e → ⊥
-    not_refused c can e (inl no) = absurd (let x = (written spells exactly compiles (call c.name) (file_of later c.name) can.wrote).1.only (Err e) no in cc)
+    not_refused c can e (inl why) = absurd (let x = (written spells exactly compiles (call c.name) (file_of later c.name) can.wrote).1.only (Err e) why in cc)
     not_refused c can e (inr (t, read, apart, is)) = apart (follows c can t read).0
 
     later_well : (cs : List Change) → All Follows cs → (r : Result (List Later) Refusal) → LaterOf later first cs r → (ls : List Later) × (r ≡ Ok ls) × AreAtPorts call cs ls

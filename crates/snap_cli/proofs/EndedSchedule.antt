@@ -5,16 +5,21 @@ use Rattle.std.proofs.lemmas.Option.{slice_get_within}
 use Rattle.snap_core.specs.Arrays.{zero_arrays}
 use Rattle.snap_rows.specs.declared.tables.Tables.{Tables}
 use Rattle.snap_rows.specs.Form.{IsInForm}
-use Rattle.snap_rows.specs.Network.{Event, Happening, Net, Runs, Step, on, start, step}
+use Rattle.snap_rows.specs.Network.{Event, Happening, Net, Runs, Step, done, on, start, step}
 use Rattle.snap_runs.specs.declared.event.Order.{Order}
 use Rattle.snap_runs.specs.Schedules.{CantBeDone, Obeys, RefusesLine, Spells, StopsAt, injects, order_by, skips, steps}
-use Rattle.snap_runs.proofs.OneSchedule.{obeys_one, runs-cut, spells-cut}
+use Rattle.snap_runs.proofs.OneSchedule.{obeys_one, spells-cut}
 use Rattle.snap_order.specs.Ordered.{LeadsInTurn, Ordered, RunsInTurn, Turn, begin}
 use Rattle.snap_order.specs.Ordered as ordered
 use Rattle.snap_order.specs.Runs as turns
 use Rattle.snap_order.proofs.OneSchedule.{obeys_one as obeys_one_in_turn}
 
 -- ---- without turns
+-- a run of more events has done the first ones
+runs-cut : (t : Tables) (fs gs : List Event) {s n : Net} {hs : List Happening} → Runs t s (fs ++ gs) n hs → (m : Net) × (hs1 hs2 : List Happening) × Runs t s fs m hs1 × Runs t m gs n hs2
+runs-cut t [] gs {s = s} {hs = hs} r = (s, [], hs, done, r)
+runs-cut t (f ∷ fs) gs (on {h = h} leads more) = let r = runs-cut t fs gs more in (r.0, h ++ r.1, r.2, on leads r.3, r.4)
+
 -- what a line orders was done, so it could be
 was_done : {t : Tables} {line : List ℕ} {lines ks left : List (List ℕ)} {es : List Event} {s n : Net} {hs : List Happening} → Spells (line ∷ lines) ks es left → Runs t s es n hs → CantBeDone (order_by line) ks s → ⊥
 was_done {ks = ks} {s = s} (skips e n) ran cant = subst (λ (o : Option Order). CantBeDone o ks s) e cant
