@@ -1,7 +1,9 @@
 -- What `trace --changes` did, from what its steps did.
-use Rattle.std.proofs.Common.{◌≡◌, ◌≢◌, ℕ, ◌+◌, ◌<◌, ◌≤◌, Bool, List, [], ◌∷◌, ◌++◌, Option, Some, None, IfSome, Result, Ok, Err, length, drop, refl, sym, ap, subst, ◌∙◌, inl, inr, append_assoc, append-nil, add-one, get_or}
+use Rattle.std.proofs.Common.{◌≡◌, ◌≢◌, ℕ, ◌+◌, ◌<◌, ◌≤◌, Bool, List, [], ◌∷◌, ◌++◌, Option, Some, None, IfSome, Result, Ok, Err, length, drop, take, refl, sym, ap, subst, ◌∙◌, inl, inr, append_assoc, append-nil, add-one, get_or}
 use Rattle.std.proofs.Math.Seq.{drop-cons}
+use Rattle.std.proofs.lemmas.List.Elements.{All-more, All-nil}
 use Rattle.std.proofs.lemmas.Option.{slice_get-get_or}
+use Rattle.std.specs.List.{All}
 use Rattle.std.specs.Borrow.{Bor}
 use Rattle.std.specs.Prelude.{Vec, slice_get}
 use Rattle.std.specs.Io.KnownBytes.{Appends}
@@ -20,7 +22,7 @@ use Rattle.snap_move.specs.Lines.{AreRising, IsBehind, changes_of}
 use Rattle.snap_words.specs.Commands.{Command, changes, trace}
 use Rattle.snap_cli.specs.declared.refusal.Refusal.{Refusal}
 use Rattle.snap_cli.specs.declared.refusal.Refusal.TheVariants.{Limit, NoMemory, Packets}
-use Rattle.snap_cli.specs.Changes.{ChangedTables, ChangesOf, IsChangeFileOf, IsChangesFile, IsLater, LaterOf, RefusesLater, before, refusal_of_changes, said_changes}
+use Rattle.snap_cli.specs.Changes.{ChangedTables, ChangesOf, HasLater, IsLater, IsReachedByChanges, IsReachedChange, LaterOf, RefusesLater, before, refusal_of_changes, said_changes}
 use Rattle.snap_cli.specs.ChangesSteps.{GivesChanges, LoadsChanges, LoadsLater, LoadsLaters, MeetsChanges, MeetsLater, ReadsChanges, afters, afters_of}
 use Rattle.snap_cli.specs.Deserved.{Ends, IsText, MayPrecedeRead, Meets}
 use Rattle.snap_cli.specs.Obs.{IsRunEnding}
@@ -106,11 +108,11 @@ module _ (files : Files) (name : List ℕ) (packets : Bor (List ℕ)) (lines : L
   file = file_of files packets.now
 
   -- nothing went out
-  refused-so : (e : Refusal) → RefusesBy (IsChangesFile files lines) (λ x. ChangedTables files t lines (Err x)) e → new ≡ old → Meets files command (Err e) old new
+  refused-so : (e : Refusal) → RefusesBy (IsReachedByChanges files t lines) (λ x. ChangedTables files t lines (Err x)) e → new ≡ old → Meets files command (Err e) old new
   refused-so e by same =
       subst (λ n. Meets files command (Err e) old n) (sym same)
       (meets-by files command old e (inl refl)
-      (by-map (IsChangesFile files lines) (λ failed. MayPrecedeRead files command failed []) (λ x. ChangedTables files t lines (Err x)) (λ x. Ends files command (Err x) × IsText files command [])
+      (by-map (IsReachedByChanges files t lines) (λ failed. MayPrecedeRead files command failed []) (λ x. ChangedTables files t lines (Err x)) (λ x. Ends files command (Err x) × IsText files command [])
       (λ failed is. inr (t, spelled, inl (is, refl)))
       (λ x no. (inr (t, spelled, ([], inl (x, no, refl, refl))), inr (t, spelled, inl (x, no, refl)))) e by))
 
@@ -153,24 +155,32 @@ told-one_later None first c t h same = tt
 told-one_later (Some files) first c t h same = record { after = refl; spelled = h; shape = same }
 
 -- ---- all changes
+-- these stand for the first changes, whose files spell them, before those of the others
+abbrev pub Loaded : Files → Tables → (all : List Change) → (i : ℕ) → List Later → Type 0
+Loaded files first all i ls = Extends files first all (drop i all) ls × All (HasLater files first) (take i all)
+
 -- one more was read, after which the shelf tells the same files
 pub told-more : (told now : Option Files) (first : Tables) (all : List Change) (i : ℕ) (c : Change) (ls : List Later) (l : Later) → now ≡ told → i < length all → c ≡ get_or all i c
-    → IfSome told (λ files. Extends files first all (drop i all) ls) → IfSome now (λ files. LoadsLater files first c (Ok l)) → IfSome told (λ files. Extends files first all (drop (i + 1) all) (ls ++ l ∷ []))
+    → IfSome told (λ files. Loaded files first all i ls) → IfSome now (λ files. LoadsLater files first c (Ok l)) → IfSome told (λ files. Loaded files first all (i + 1) (ls ++ l ∷ []))
 told-more None now first all i c ls l same within is h m = tt
 told-more (Some files) now first all i c ls l same within is h m =
     let rest : drop i all ≡ c ∷ drop (i + 1) all = drop-cons all i c within ∙ (λ j. sym is j ∷ drop (sym (add-one i) j) all) in
-    extends-more files first all (drop (i + 1) all) c ls l (subst (λ cs. Extends files first all cs ls) rest h) (subst (λ o. IfSome o (λ files. LoadsLater files first c (Ok l))) same m)
+    let can : IsLater files first c l = subst (λ o. IfSome o (λ files. LoadsLater files first c (Ok l))) same m in (
+      extends-more files first all (drop (i + 1) all) c ls l (subst (λ cs. Extends files first all cs ls) rest h.0) can,
+      All-more (HasLater files first) all i c within h.1 (subst (HasLater files first) is (l, can)),
+    )
 
 -- or can't be
 pub told-no_more : (told now : Option Files) (first : Tables) (all : List Change) (i : ℕ) (c : Change) (ls : List Later) (e : Refusal) → now ≡ told → i < length all → c ≡ get_or all i c
-    → IfSome told (λ files. Extends files first all (drop i all) ls) → IfSome now (λ files. LoadsLater files first c (Err e)) → IfSome told (λ files. RefusesBy (IsChangeFileOf all) (λ refusal. LaterOf files first all (Err refusal)) e)
+    → IfSome told (λ files. Loaded files first all i ls) → IfSome now (λ files. LoadsLater files first c (Err e))
+    → IfSome told (λ files. RefusesBy (IsReachedChange files first all) (λ refusal. LaterOf files first all (Err refusal)) e)
 told-no_more None now first all i c ls e same within is h m = tt
 told-no_more (Some files) now first all i c ls e same within is h m =
     let rest : drop i all ≡ c ∷ drop (i + 1) all = drop-cons all i c within ∙ (λ j. sym is j ∷ drop (sym (add-one i) j) all) in
-    let so = subst (λ cs. Extends files first all cs ls) rest h in
+    let so = subst (λ cs. Extends files first all cs ls) rest h.0 in
     let there : slice_get all i ≡ Some c = slice_get-get_or all i c within ∙ ap Some (sym is) in
-    by-map (λ failed. failed ≡ c.name) (IsChangeFileOf all) (RefusesLater files first c) (λ x. LaterOf files first all (Err x)) (λ failed name. (i, c, there, name)) (λ x no. extends-refused files first all (drop (i + 1) all) c ls x so no) e
-    (subst (λ o. IfSome o (λ files. LoadsLater files first c (Err e))) same m)
+    by-map (λ failed. failed ≡ c.name) (IsReachedChange files first all) (RefusesLater files first c) (λ x. LaterOf files first all (Err x)) (λ failed name. (i, c, there, name, h.1))
+    (λ x no. extends-refused files first all (drop (i + 1) all) c ls x so no) e (subst (λ o. IfSome o (λ files. LoadsLater files first c (Err e))) same m)
 
 -- memory is short
 pub told-short : (told : Option Files) (first : Tables) (all : List Change) → IfSome told (λ files. LoadsLaters files first all (Err NoMemory))
@@ -178,11 +188,11 @@ told-short None first all = tt
 told-short (Some files) first all = tt
 
 -- all were read
-pub told-all : (told : Option Files) (first : Tables) (all others : List Change) (ls : List Later) → others ≡ [] → IfSome told (λ files. Extends files first all others ls) → IfSome told (λ files. LaterOf files first all (Ok ls))
-told-all None first all others ls none h = tt
-told-all (Some files) first all others ls none h =
-    subst (λ (x : List Later). LaterOf files first all (Ok x)) (append-nil ls) (subst (λ cs. Extends files first all cs ls) none h (Ok []) refl)
+pub told-all : (told : Option Files) (first : Tables) (all : List Change) (i : ℕ) (ls : List Later) → drop i all ≡ [] → IfSome told (λ files. Loaded files first all i ls) → IfSome told (λ files. LaterOf files first all (Ok ls))
+told-all None first all i ls none h = tt
+told-all (Some files) first all i ls none h =
+    subst (λ (x : List Later). LaterOf files first all (Ok x)) (append-nil ls) (subst (λ cs. Extends files first all cs ls) none h.0 (Ok []) refl)
 
-pub told-none : (told : Option Files) (first : Tables) (all : List Change) → IfSome told (λ files. Extends files first all all [])
+pub told-none : (told : Option Files) (first : Tables) (all : List Change) → IfSome told (λ files. Loaded files first all 0 [])
 told-none None first all = tt
-told-none (Some files) first all = extends-none files first all
+told-none (Some files) first all = (extends-none files first all, All-nil (HasLater files first))

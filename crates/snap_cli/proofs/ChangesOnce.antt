@@ -23,7 +23,7 @@ use Rattle.snap_cli.proofs.ObsOnce.{run_ends_once}
 use Rattle.snap_cli.proofs.OneTables.{one_fault, one_tables, spelled_form, spelled_well}
 
 -- a file says its changes in one way
-said_once : (file : List ℕ) (a b : Result (List Change) Refusal) → ChangesOf file a → ChangesOf file b → a ≡ b
+pub said_once : (file : List ℕ) (a b : Result (List Change) Refusal) → ChangesOf file a → ChangesOf file b → a ≡ b
 said_once file a b (inl h) (inl k) = h.1 ∙ sym k.1
 said_once file a b (inl h) (inr k) = absurd (let long = h.0 in let short = k.0 in omega (arith, long, short))
 said_once file a b (inr h) (inl k) = absurd (let long = k.0 in let short = h.0 in omega (arith, long, short))

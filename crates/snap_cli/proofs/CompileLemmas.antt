@@ -14,12 +14,13 @@ use Rattle.snap_cli.specs.declared.network.Network.{Network}
 use Rattle.snap_cli.specs.declared.refusal.Refusal.{Refusal}
 use Rattle.snap_cli.specs.declared.refusal.Refusal.TheVariants.{Write, NoMemory}
 use Rattle.snap_cli.specs.Check.{EndsJudged}
-use Rattle.snap_cli.specs.Compile.{AreTables, HasNoTables, HasNoTablesFor, HasNoTablesOn, IsCompiled, IsReached, IsReachedOn}
+use Rattle.snap_cli.specs.Compile.{AreTables, HasNoTables, HasNoTablesFor, HasNoTablesOn, IsCompiled}
 use Rattle.snap_cli.specs.CompileSteps.{Compiles, CompilesFor, CompilesOn, GivesTables, MakesTables, WritesTables}
 use Rattle.snap_cli.specs.Deserved.{Ends, IsText, MayPrecedeRead, Meets}
 use Rattle.snap_cli.specs.NetworkSteps.{GivesNetwork}
 use Rattle.snap_cli.specs.PlacementOf.{SpellsPlacement}
 use Rattle.snap_cli.specs.ProgramOf.{ProgramOf}
+use Rattle.snap_cli.specs.Reached.{IsReached, IsReachedOn}
 use Rattle.snap_cli.specs.Refusals.{Ending}
 use Rattle.snap_cli.specs.Steps.{GivesProgram}
 use Rattle.snap_cli.specs.Texts.{GivesText}

@@ -1,3 +1,4 @@
+pub mod AnsweringLemmas
 pub mod CheckLemmas
 pub mod CheckOnce
 pub mod CompileLemmas
@@ -7,6 +8,7 @@ pub mod DemoOnce
 pub mod DepsLemmas
 pub mod DepsOnce
 pub mod DueStatus
+pub mod EndedSchedule
 pub mod EqualLemmas
 pub mod EqualOnce
 pub mod EqualPrograms

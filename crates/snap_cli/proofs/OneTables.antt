@@ -13,11 +13,11 @@ use Rattle.snap_cli.specs.TablesOf.{SpellsTables, TablesOf}
 use Rattle.snap_cli.specs.TraceSteps.{refusal_of_tables}
 
 -- what is read of a text, as the command tells it
-abbrev told : Result Tables TablesFault → Result Tables Refusal
+abbrev pub told : Result Tables TablesFault → Result Tables Refusal
 told (Ok t) = Ok t
 told (Err fault) = Err (refusal_of_tables fault)
 
-answered : (text : List ℕ) (a : Result Tables Refusal) → SpellsTables text a → (x : Result Tables TablesFault) × IsRead text x × (x ≢ Err tables.NoMemory) × (a ≡ told x)
+pub answered : (text : List ℕ) (a : Result Tables Refusal) → SpellsTables text a → (x : Result Tables TablesFault) × IsRead text x × (x ≢ Err tables.NoMemory) × (a ≡ told x)
 answered text (Ok t) h = (Ok t, h, (λ e. cc), refl)
 answered text (Err (refused.Tables (Line line))) h = (Err (tables.Line line), h, (λ e. cc), refl)
 answered text (Err (refused.Tables (Broken rule line))) h = (Err (tables.Broken rule line), h, (λ e. cc), refl)

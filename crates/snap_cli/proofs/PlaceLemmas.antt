@@ -1,5 +1,5 @@
 -- What `place` did, from what its steps did.
-use Rattle.std.proofs.Common.{◌≡◌, ◌⊎◌, ◌≤◌, ℕ, List, [], Option, Some, None, IfSome, Result, Ok, Err, length, refl, subst, inl, inr}
+use Rattle.std.proofs.Common.{◌≡◌, ◌≤◌, ℕ, List, [], Option, Some, None, IfSome, Result, Ok, Err, length, refl, subst, inl, inr}
 use Rattle.std.proofs.KnownBytes.{Appends-nil}
 use Rattle.std.specs.Prelude.{Vec}
 use Rattle.std.specs.Io.KnownBytes.{Appends}
@@ -16,9 +16,10 @@ use Rattle.snap_cli.specs.declared.refusal.Refusal.{Refusal}
 use Rattle.snap_cli.specs.declared.refusal.Refusal.TheVariants.{Read, ReadChange, Write, NoMemory}
 use Rattle.snap_cli.specs.Deserved.{Meets}
 use Rattle.snap_cli.specs.NetworkSteps.{GivesNetwork}
-use Rattle.snap_cli.specs.Place.{HasNoDemand, HasNoPlacement, HasNoPlacementOn, IsOneOf, SpellsNoDemand}
+use Rattle.snap_cli.specs.Place.{HasNoDemand, HasNoPlacement, HasNoPlacementOn, SpellsNoDemand}
 use Rattle.snap_cli.specs.PlaceSteps.{GivesPlacement, IsPlacement, Places, PlacesFor, PlacesOn}
 use Rattle.snap_cli.specs.ProgramOf.{ProgramOf}
+use Rattle.snap_cli.specs.Reached.{IsReached, IsReachedOn}
 use Rattle.snap_cli.specs.Steps.{GivesProgram}
 use Rattle.snap_cli.specs.Texts.{GivesText}
 use Rattle.snap_cli.proofs.RefusedBy.{by-map, by-program}
@@ -41,8 +42,8 @@ on-placed : (files : Files) (p : Program) (topology demand : List ℕ) (n : Netw
     → PlacesOn files p topology demand r
 on-placed files p topology demand n (Ok made) h m = (n.topology, n.routes, h.0, h.1, m)
 on-placed files p topology demand n (Err e) h m =
-    by-map (λ failed. failed ≡ demand) (λ failed. (failed ≡ topology) ⊎ (failed ≡ demand)) (HasNoDemand p n.topology (file_of files demand)) (HasNoPlacementOn files p topology demand)
-    (λ failed is. inr is) (λ x no. inr (n.topology, n.routes, h.0, h.1, no)) e m
+    by-map (λ failed. failed ≡ demand) (IsReachedOn files topology demand) (HasNoDemand p n.topology (file_of files demand)) (HasNoPlacementOn files p topology demand)
+    (λ failed is. inr (is, (n.topology, n.routes, h.0, h.1))) (λ x no. inr (n.topology, n.routes, h.0, h.1, no)) e m
 
 pub told-on : (told now : Option Files) (p : Program) (topology demand : List ℕ) (n : Network) (r : Result (Vec ℕ Global) Refusal) → now ≡ told → IfSome told (λ files. GivesNetwork topology (file_of files topology) (Ok n))
     → IfSome now (λ files. PlacesFor p n.topology n.routes demand (file_of files demand) r) → IfSome told (λ files. PlacesOn files p topology demand r)
@@ -53,7 +54,7 @@ told-on (Some files) now p topology demand n r same h m =
 gives-placed : (files : Files) (program topology demand : List ℕ) (p : Program) (r : Result (Vec ℕ Global) Refusal) → ProgramOf (file_of files program) (Ok p) → PlacesOn files p topology demand r → GivesPlacement files program topology demand r
 gives-placed files program topology demand p (Ok made) h m = (p, h, m)
 gives-placed files program topology demand p (Err e) h m =
-    by-map (λ failed. (failed ≡ topology) ⊎ (failed ≡ demand)) (IsOneOf program topology demand) (HasNoPlacementOn files p topology demand) (HasNoPlacement files program topology demand) (λ failed is. inr is) (λ x no. inr (p, h, no)) e m
+    by-map (IsReachedOn files topology demand) (IsReached files program topology demand) (HasNoPlacementOn files p topology demand) (HasNoPlacement files program topology demand) (λ failed is. inr ((p, h), is)) (λ x no. inr (p, h, no)) e m
 
 pub told-placed : (told now : Option Files) (program topology demand : List ℕ) (p : Program) (r : Result (Vec ℕ Global) Refusal) → now ≡ told → IfSome told (λ files. GivesProgram program (file_of files program) (Ok p))
     → IfSome now (λ files. PlacesOn files p topology demand r) → IfSome told (λ files. GivesPlacement files program topology demand r)
@@ -64,7 +65,7 @@ told-placed (Some files) now program topology demand p r same h m =
 pub told-no-program : (told : Option Files) (program topology demand : List ℕ) (e : Refusal) → IfSome told (λ files. GivesProgram program (file_of files program) (Err e)) → IfSome told (λ files. GivesPlacement files program topology demand (Err e))
 told-no-program None program topology demand e h = tt
 told-no-program (Some files) program topology demand e h =
-    by-map (λ failed. failed ≡ program) (IsOneOf program topology demand) (λ x. ProgramOf (file_of files program) (Err x)) (HasNoPlacement files program topology demand) (λ failed is. inl is) (λ x no. inl no) e (by-program program (file_of files program) e h)
+    by-map (λ failed. failed ≡ program) (IsReached files program topology demand) (λ x. ProgramOf (file_of files program) (Err x)) (HasNoPlacement files program topology demand) (λ failed is. inl is) (λ x no. inl no) e (by-program program (file_of files program) e h)
 
 -- ---- the command
 module _ (files : Files) (program topology demand : List ℕ) where

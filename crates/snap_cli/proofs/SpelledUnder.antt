@@ -1,6 +1,6 @@
 -- The packets that a file spells are packets of the fields; and tables that change take them all where reading comes to the end.
-use Rattle.std.proofs.Common.{◌≡◌, ℕ, zero, suc, ◌+◌, Bool, true, false, cond, eqb, List, [], ◌∷◌, map, Some, refl, sym, ◌∙◌, subst, is_some}
-use Rattle.std.specs.Prelude.{slice_index}
+use Rattle.std.proofs.Common.{◌≡◌, ℕ, zero, suc, ◌+◌, Bool, true, false, cond, eqb, List, [], ◌∷◌, map, Some, refl, sym, ◌∙◌, subst, arith, is_some}
+use Rattle.std.specs.Prelude.{slice_get, slice_index}
 use Rattle.std.specs.List.{All}
 use Rattle.std.proofs.lemmas.Bool.{eq-eqb}
 use Rattle.std.proofs.lemmas.List.Elements.{All-cons, All-head, All-nil, All-tail, All-weaker}
@@ -21,7 +21,7 @@ use Rattle.snap_move.specs.Files.{counted, spelled_behind, spelled_under, text_o
 
 -- ---- tables with a port for each packet
 -- the packet comes in at a port of these
-abbrev IsKnown : List PortAt → List ℕ → Type 0
+abbrev pub IsKnown : List PortAt → List ℕ → Type 0
 IsKnown ports k = is_some (port_in ports (slice_index k 0)) ≡ true
 
 module _ (t : Tables) (said : List ℕ → Said) where
@@ -42,7 +42,7 @@ module _ (t : Tables) (said : List ℕ → Said) where
   next_known line long_line a b known same = refl
   next_known line many_bytes a b known same = refl
 
-  spelled_known : (file : List ℕ) (left line at : ℕ) → All (IsKnown t.ports) (spelled_from said file left line at).packets → spelled_from at_them file left line at ≡ spelled_from said file left line at
+  pub spelled_known : (file : List ℕ) (left line at : ℕ) → All (IsKnown t.ports) (spelled_from said file left line at).packets → spelled_from at_them file left line at ≡ spelled_from said file left line at
   unfolding spelled_from
   spelled_known file zero line at known = refl
   spelled_known file (suc left) line at known =
@@ -100,3 +100,44 @@ module _ (first : Tables) (later : List Later) (said : List ℕ → Said) where
 
 pub under_whole : (first : Tables) (later : List Later) (file : List ℕ) → (spelled_under first later file).stop ≡ ended → spelled_under first later file ≡ spelled first.fields file
 under_whole first later file whole = behind_whole first later (said_by first.fields) file 1000000 1 0 0 whole
+
+-- ---- tables that change, with a port for each packet
+module _ (first : Tables) (later : List Later) (said : List ℕ → Said) where
+  -- packets, of which the first has this number, come in at ports of the tables in force for them
+  abbrev AreKnown : ℕ → List (List ℕ) → Type 0
+  AreKnown n [] = Unit {0}
+  AreKnown n (k ∷ ks) = IsKnown (in_force first later n).ports k × AreKnown (n + 1) ks
+
+  all_in_force : (n : ℕ) (ks : List (List ℕ)) → ((i j : ℕ) (k : List ℕ) → j ≡ n + i → slice_get ks i ≡ Some k → IsKnown (in_force first later j).ports k) → AreKnown n ks
+  all_in_force n [] known = tt
+  all_in_force n (k ∷ ks) known = (known 0 n k (omega arith) refl, all_in_force (n + 1) ks (λ i j x is there. known (suc i) j x (omega (arith, is)) there))
+
+  said_known_under : (n line : ℕ) (s : Said) (a : ℕ → Spelled) (b : Spelled) → AreKnown n (with_said line s b).packets → ((m : ℕ) → AreKnown m b.packets → a m ≡ b)
+      → with_said line (at_ports (in_force first later n) s) (a (counted (at_ports (in_force first later n) s) n)) ≡ with_said line s b
+  said_known_under n line skip a b known same = same n known
+  said_known_under n line bad a b known same = refl
+  said_known_under n line (inject k) a b known same =
+      let here : is_some (port_at (in_force first later n) (slice_index k 0)) ≡ true = known.0 in
+      let rest = same (n + 1) known.1 in
+      (λ i. with_said line (cond (here i) (inject k) bad) (a (counted (cond (here i) (inject k) bad) n))) ∙ (λ i. record { packets = k ∷ (rest i).packets; stop = (rest i).stop })
+
+  next_known_under : (n line : ℕ) (next : Next) (a : ℕ → ℕ → Spelled) (b : ℕ → Spelled) → AreKnown n (with_next said line next b).packets → ((behind m : ℕ) → AreKnown m (b behind).packets → a behind m ≡ b behind)
+      → with_next (under first later said n) line next (λ behind. a behind (counted (under first later said n (text_of next)) n)) ≡ with_next said line next b
+  next_known_under n line (next_line text behind) a b known same = said_known_under n line (said text) (a behind) (b behind) known (same behind)
+  next_known_under n line no_line a b known same = refl
+  next_known_under n line long_line a b known same = refl
+  next_known_under n line many_bytes a b known same = refl
+
+  behind_known : (file : List ℕ) (left line at n : ℕ) → AreKnown n (spelled_from said file left line at).packets → spelled_behind (under first later said) file left line at n ≡ spelled_from said file left line at
+  unfolding spelled_behind spelled_from
+  behind_known file zero line at n known = refl
+  behind_known file (suc left) line at n known =
+      next_known_under n line (next_in 67108864 65536 file at) (λ behind. spelled_behind (under first later said) file left (line + 1) behind) (λ behind. spelled_from said file left (line + 1) behind) known
+      (λ behind m rest. behind_known file left (line + 1) behind m rest)
+
+pub under_known : (first : Tables) (later : List Later) (file : List ℕ) → ((i : ℕ) (k : List ℕ) → slice_get (spelled first.fields file).packets i ≡ Some k → IsKnown (in_force first later i).ports k)
+    → spelled_under first later file ≡ spelled first.fields file
+under_known first later file known =
+    let said = said_by first.fields in
+    behind_known first later said file 1000000 1 0 0
+    (all_in_force first later said 0 (spelled first.fields file).packets (λ i j k is there. subst (λ x. IsKnown (in_force first later x).ports k) (let e : i ≡ j = omega (arith, is) in e) (known i k there)))

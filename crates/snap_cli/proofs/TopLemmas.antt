@@ -24,7 +24,7 @@ tells before now old new message (Ok u) ok err cause =
 tells before now old new message (Err e) ok err cause = record { part = err; whole = inl cause.failed }
 
 -- the file of which a status 2 tells
-unread : (refusal : Refusal) → status_of (Err refusal) ≡ 2 → (name : List ℕ) × IsReadOf {X = Unit {0}} name (Err refusal)
+pub unread : (refusal : Refusal) → status_of (Err refusal) ≡ 2 → (name : List ℕ) × IsReadOf {X = Unit {0}} name (Err refusal)
 unread (Read name) e = (name.now, refl)
 unread (ReadChange name) e = (name, refl)
 unread refusal e = absurd (cc)

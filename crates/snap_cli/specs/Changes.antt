@@ -1,5 +1,6 @@
 -- The tables of a changes file, and how the run with them ends.
-use Rattle.std.specs.Prelude.{◌≡◌, ◌⊎◌, ℕ, ◌<◌, ◌≤◌, Bool, List, [], ◌∷◌, ◌++◌, length, slice_get, Result, Ok, Err, Some}
+use Rattle.std.specs.Prelude.{◌≡◌, ◌⊎◌, ℕ, ◌<◌, ◌≤◌, Bool, List, [], ◌∷◌, ◌++◌, length, slice_get, take, Result, Ok, Err, Some}
+use Rattle.std.specs.List.{All}
 use Rattle.snap_core.specs.declared.program.Which.TheVariants.{Bytes}
 use Rattle.snap_io.specs.Files.{Files, file_of}
 use Rattle.snap_rows.specs.declared.tables.Tables.{Tables}
@@ -64,13 +65,19 @@ ChangedTables files first lines result =
     ((refusal : Refusal) × ChangesOf (file_of files lines) (Err refusal) × (result ≡ Err refusal))
     ⊎ ((changes : List Change) × ChangesOf (file_of files lines) (Ok changes) × LaterOf files first changes result)
 
--- one of the changes names this file
-abbrev pub IsChangeFileOf : List Change → (name : List ℕ) → Type 0
-IsChangeFileOf changes name = (i : ℕ) × (c : Change) × (slice_get changes i ≡ Some c) × (name ≡ c.name)
+-- the file of a change spells tables that can come into force
+abbrev pub HasLater : Files → Tables → Change → Type 0
+HasLater files first c = (l : Later) × IsLater files first c l
 
--- the changes file, or one that it names
-abbrev pub IsChangesFile : Files → (lines name : List ℕ) → Type 0
-IsChangesFile files lines name = (name ≡ lines) ⊎ ((changes : List Change) × ChangesOf (file_of files lines) (Ok changes) × IsChangeFileOf changes name)
+-- a change names this file, and the files of the changes before it spell such tables
+abbrev pub IsReachedChange : Files → Tables → List Change → (name : List ℕ) → Type 0
+IsReachedChange files first changes name =
+    (i : ℕ) × (c : Change) × (slice_get changes i ≡ Some c) × (name ≡ c.name) × All (HasLater files first) (take i changes)
+
+-- the changes file has this name, or that of a change, where the changes file is in form
+abbrev pub IsReachedByChanges : Files → Tables → (lines name : List ℕ) → Type 0
+IsReachedByChanges files first lines name =
+    (name ≡ lines) ⊎ ((changes : List Change) × ChangesOf (file_of files lines) (Ok changes) × IsReachedChange files first changes name)
 
 -- ---- the run
 -- how the run with the changes of a file ends, and its report

@@ -11,7 +11,7 @@ use Rattle.snap_move.specs.Files.{WritesChanged}
 use Rattle.snap_move.specs.Lines.{changes_of}
 use Rattle.std.specs.Global.{Vec}
 use Rattle.snap_cli.specs.declared.refusal.Refusal.{Refusal}
-use Rattle.snap_cli.specs.Changes.{ChangedTables, ChangesOf, IsChangeFileOf, IsChangesFile, IsLater, LaterOf, RefusesLater, said_changes}
+use Rattle.snap_cli.specs.Changes.{ChangedTables, ChangesOf, IsLater, IsReachedByChanges, IsReachedChange, LaterOf, RefusesLater, said_changes}
 use Rattle.snap_cli.specs.Refusals.{Ending}
 use Rattle.snap_cli.specs.Texts.{RefusesBy}
 use Rattle.snap_cli.specs.RunSteps.{ending_of_run}
@@ -36,12 +36,12 @@ LoadsLater files first c (Err e) = RefusesBy (λ failed. failed ≡ c.name) (Ref
 -- those of changes
 abbrev pub LoadsLaters : Files → Tables → List Change → Result (Vec Later) Refusal → Type 0
 LoadsLaters files first changes (Ok later) = LaterOf files first changes (Ok later.items)
-LoadsLaters files first changes (Err e) = RefusesBy (IsChangeFileOf changes) (λ refusal. LaterOf files first changes (Err refusal)) e
+LoadsLaters files first changes (Err e) = RefusesBy (IsReachedChange files first changes) (λ refusal. LaterOf files first changes (Err refusal)) e
 
 -- those of the changes file with this name
 abbrev pub LoadsChanges : Files → Tables → (name : List ℕ) → Result (Vec Later) Refusal → Type 0
 LoadsChanges files first name (Ok later) = ChangedTables files first name (Ok later.items)
-LoadsChanges files first name (Err e) = RefusesBy (IsChangesFile files name) (λ refusal. ChangedTables files first name (Err refusal)) e
+LoadsChanges files first name (Err e) = RefusesBy (IsReachedByChanges files first name) (λ refusal. ChangedTables files first name (Err refusal)) e
 
 -- the numbers of packets of later tables, and of changes
 abbrev pub afters : List Later → List ℕ
@@ -58,5 +58,5 @@ MeetsLater t later hops packets file ending old new = (run : RunEnding) × Write
 -- what the run with the changes of the file with this name did
 abbrev pub MeetsChanges : Files → Tables → (hops : Bool) → (packets : Bor (List ℕ)) → (lines : List ℕ) → Ending → Option (List ℕ) → Option (List ℕ) → Type 0
 MeetsChanges files t hops packets lines ending old new =
-    ((refusal : Refusal) × RefusesBy (IsChangesFile files lines) (λ r. ChangedTables files t lines (Err r)) refusal × (ending ≡ Err refusal) × (new ≡ old))
+    ((refusal : Refusal) × RefusesBy (IsReachedByChanges files t lines) (λ r. ChangedTables files t lines (Err r)) refusal × (ending ≡ Err refusal) × (new ≡ old))
     ⊎ ((later : List Later) × ChangedTables files t lines (Ok later) × MeetsLater t later hops packets (file_of files packets.now) ending old new)

@@ -64,15 +64,3 @@ IsCompileText files program topology placement text =
 -- of this text some first bytes may have gone out where memory is short
 abbrev pub MayPrecedeCompile : Files → (program topology placement : List ℕ) → List ℕ → Type 0
 MayPrecedeCompile files program topology placement text = (text ≡ []) ⊎ IsCompiled files program topology placement text
-
--- the topology's file has this name, or the placement's, where the topology's spells one with routes
-abbrev pub IsReachedOn : Files → (topology placement name : List ℕ) → Type 0
-IsReachedOn files topology placement name =
-    (name ≡ topology)
-    ⊎ ((name ≡ placement) × ((t : Topology) × (table : Table) × TopologyOf (file_of files topology) (Ok t) × AreRoutes t table))
-
--- the program's file has this name, or one of those, where the program's spells one
-abbrev pub IsReached : Files → (program topology placement name : List ℕ) → Type 0
-IsReached files program topology placement name =
-    (name ≡ program)
-    ⊎ (((p : Program) × ProgramOf (file_of files program) (Ok p)) × IsReachedOn files topology placement name)

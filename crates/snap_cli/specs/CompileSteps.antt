@@ -10,8 +10,9 @@ use Rattle.snap_gen.specs.Faithful.{Faithful}
 use Rattle.snap_tables.specs.Text.{text as tables_text}
 use Rattle.snap_cli.specs.declared.refusal.Refusal.{Refusal}
 use Rattle.snap_cli.specs.Check.{EndsJudged}
-use Rattle.snap_cli.specs.Compile.{AreTables, HasNoTables, HasNoTablesFor, HasNoTablesOn, IsReached, IsReachedOn}
+use Rattle.snap_cli.specs.Compile.{AreTables, HasNoTables, HasNoTablesFor, HasNoTablesOn}
 use Rattle.snap_cli.specs.PlacementOf.{PlacementOf, SpellsPlacement}
+use Rattle.snap_cli.specs.Reached.{IsReached, IsReachedOn}
 use Rattle.snap_cli.specs.Refusals.{Ending}
 use Rattle.snap_cli.specs.RoutesSteps.{Writes}
 use Rattle.snap_cli.specs.Texts.{RefusesBy}

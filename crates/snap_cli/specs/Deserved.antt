@@ -8,12 +8,13 @@ use Rattle.snap_io.specs.Sinks.{AppendsPart, AppendsSome}
 use Rattle.snap_words.specs.Commands.{Command, check, compile, demo, deps, equal, obs, routes, place, trace}
 use Rattle.snap_cli.specs.declared.refusal.Refusal.TheVariants.{Read, ReadChange, Write, NoMemory}
 use Rattle.snap_cli.specs.Check.{EndsCheck, IsCheckText}
-use Rattle.snap_cli.specs.Compile.{EndsCompile, IsCompileText, IsReached, MayPrecedeCompile}
+use Rattle.snap_cli.specs.Compile.{EndsCompile, IsCompileText, MayPrecedeCompile}
 use Rattle.snap_cli.specs.Demo.{EndsDemo, IsDemoText}
 use Rattle.snap_cli.specs.Deps.{EndsDeps, IsDepsText}
 use Rattle.snap_cli.specs.Equal.{EndsEqual, IsEqualText, MayPrecedeReadEqual}
 use Rattle.snap_cli.specs.Obs.{EndsObs, IsObsText, MayPrecedeObs, MayPrecedeReadObs}
-use Rattle.snap_cli.specs.Place.{EndsPlace, IsOneOf, IsPlaceText}
+use Rattle.snap_cli.specs.Place.{EndsPlace, IsPlaceText}
+use Rattle.snap_cli.specs.Reached.{IsReached}
 use Rattle.snap_cli.specs.Refusals.{Ending}
 use Rattle.snap_cli.specs.Routes.{EndsRoutes, IsRoutesText, MayPrecedeRoutes}
 use Rattle.snap_cli.specs.Trace.{EndsTrace, IsTraceText, MayPrecedeReadTrace, MayPrecedeTrace}
@@ -61,7 +62,7 @@ MayPrecedeRead files (deps program) name text = (name ≡ program) × (text ≡ 
 MayPrecedeRead files (check program) name text = (name ≡ program) × (text ≡ [])
 MayPrecedeRead files (equal left right) name text = MayPrecedeReadEqual files left right name text
 MayPrecedeRead files (routes topology) name text = (name ≡ topology) × (text ≡ [])
-MayPrecedeRead files (place program topology demand) name text = IsOneOf program topology demand name × (text ≡ [])
+MayPrecedeRead files (place program topology demand) name text = IsReached files program topology demand name × (text ≡ [])
 MayPrecedeRead files (compile program topology placement) name text = IsReached files program topology placement name × (text ≡ [])
 MayPrecedeRead files (trace tables packets hops order) name text = MayPrecedeReadTrace files tables packets hops order name text
 MayPrecedeRead files (demo switches) name text = ⊥

@@ -1,3 +1,4 @@
+pub mod Answering
 pub mod Answers
 pub mod Causes
 pub mod Check
@@ -19,6 +20,7 @@ pub mod Place
 pub mod PlaceSteps
 pub mod PlacementOf
 pub mod ProgramOf
+pub mod Reached
 pub mod Refusals
 pub mod Routes
 pub mod RoutesSteps

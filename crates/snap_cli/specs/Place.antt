@@ -90,7 +90,3 @@ abbrev pub IsPlaceText : Files → (program topology demand : List ℕ) → List
 IsPlaceText files program topology demand text =
     ((refusal : Refusal) × HasNoPlacement files program topology demand refusal × (text ≡ []))
     ⊎ IsPlaced files program topology demand text
-
--- one of the three names
-abbrev pub IsOneOf : (program topology demand name : List ℕ) → Type 0
-IsOneOf program topology demand name = (name ≡ program) ⊎ ((name ≡ topology) ⊎ (name ≡ demand))

@@ -1,5 +1,5 @@
 -- What a step of `place` gives.
-use Rattle.std.specs.Prelude.{◌≡◌, ◌⊎◌, ℕ, List, length, Result, Ok, Err, Vec}
+use Rattle.std.specs.Prelude.{◌≡◌, ℕ, List, length, Result, Ok, Err, Vec}
 use Rattle.std.specs.declared.alloc.Global.{Global}
 use Rattle.snap_core.specs.declared.program.Program.{Program}
 use Rattle.snap_dep.specs.Ranks.{Grouping, IsGrouping}
@@ -13,7 +13,8 @@ use Rattle.snap_seek.specs.declared.demand.Demand.{Demand}
 use Rattle.snap_seek.specs.Answer.{IsAnswer}
 use Rattle.snap_seek.specs.Placements.{IsBestOf}
 use Rattle.snap_cli.specs.declared.refusal.Refusal.{Refusal}
-use Rattle.snap_cli.specs.Place.{HasNoDemand, HasNoPlacement, HasNoPlacementOn, IsOneOf, IsPlaced, IsPlacedOn, IsPlacementOf, SpellsNoDemand}
+use Rattle.snap_cli.specs.Place.{HasNoDemand, HasNoPlacement, HasNoPlacementOn, IsPlaced, IsPlacedOn, IsPlacementOf, SpellsNoDemand}
+use Rattle.snap_cli.specs.Reached.{IsReached, IsReachedOn}
 use Rattle.snap_cli.specs.Texts.{RefusesBy}
 
 -- the text of the best placement, for the demand that a text spells
@@ -38,8 +39,8 @@ PlacesFor p t table name file (Err e) = RefusesBy (λ failed. failed ≡ name) (
 
 abbrev pub PlacesOn : Files → Program → (topology demand : List ℕ) → Result (Vec ℕ Global) Refusal → Type 0
 PlacesOn files p topology demand (Ok made) = IsPlacedOn files p topology demand made.items
-PlacesOn files p topology demand (Err e) = RefusesBy (λ failed. (failed ≡ topology) ⊎ (failed ≡ demand)) (HasNoPlacementOn files p topology demand) e
+PlacesOn files p topology demand (Err e) = RefusesBy (IsReachedOn files topology demand) (HasNoPlacementOn files p topology demand) e
 
 abbrev pub GivesPlacement : Files → (program topology demand : List ℕ) → Result (Vec ℕ Global) Refusal → Type 0
 GivesPlacement files program topology demand (Ok made) = IsPlaced files program topology demand made.items
-GivesPlacement files program topology demand (Err e) = RefusesBy (IsOneOf program topology demand) (HasNoPlacement files program topology demand) e
+GivesPlacement files program topology demand (Err e) = RefusesBy (IsReached files program topology demand) (HasNoPlacement files program topology demand) e

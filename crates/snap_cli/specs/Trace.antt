@@ -6,7 +6,7 @@ use Rattle.snap_trace.specs.OneSwitch.{RunEnding}
 use Rattle.snap_runs.specs.Plain.{AreTraceBlocks, HasTrace, IsTrace}
 use Rattle.snap_words.specs.Commands.{Order, plain, schedule, changes, in_turn, rounds}
 use Rattle.snap_cli.specs.declared.refusal.Refusal.{Refusal}
-use Rattle.snap_cli.specs.Changes.{AreBlocksOfChanges, ChangesTo, IsChangesFile, IsChangesText}
+use Rattle.snap_cli.specs.Changes.{AreBlocksOfChanges, ChangesTo, IsChangesText, IsReachedByChanges}
 use Rattle.snap_cli.specs.InTurn.{IsInTurnText, MayPrecedeReadTurns, MayPrecedeTurns, RunsInTurnTo}
 use Rattle.snap_cli.specs.Obs.{IsRunEnding}
 use Rattle.snap_cli.specs.Refusals.{Ending}
@@ -49,7 +49,7 @@ abbrev pub MayPrecedeReadRun : Files → Tables → (packets : List ℕ) → (ho
 MayPrecedeReadRun files t packets hops plain name text = (name ≡ packets) × AreTraceBlocks t hops (file_of files packets) text
 MayPrecedeReadRun files t packets hops (schedule lines) name text = IsOfSchedule t (file_of files packets) packets lines name × (text ≡ [])
 MayPrecedeReadRun files t packets hops (changes lines) name text =
-    (IsChangesFile files lines name × (text ≡ [])) ⊎ ((name ≡ packets) × AreBlocksOfChanges files t packets hops lines text)
+    (IsReachedByChanges files t lines name × (text ≡ [])) ⊎ ((name ≡ packets) × AreBlocksOfChanges files t packets hops lines text)
 MayPrecedeReadRun files t packets hops (in_turn lines) name text = (t.version ≡ 2) × MayPrecedeReadTurns files t packets hops lines name text
 MayPrecedeReadRun files t packets hops (rounds workers) name text = (t.version ≡ 2) × (name ≡ packets) × (text ≡ [])
 

@@ -1,5 +1,6 @@
 //! Laws of what words and files deserve, each the contract of a call that does nothing but name the laws below it.
 
+ghost use Rattle.snap_cli.specs.Answering.{ChangesAnswer, TracesAnswer};
 ghost use Rattle.snap_cli.specs.Laws.{AnswersExactly, ChangesExactly, ChecksExactly, CompilesExactly, DemosExactly, DeservesOneEnding, DeservesOneText, EqualsExactly, PlacementsAreSpelled, RoundsExactly, SchedulesExactly, SpellsOneProgram, TracesExactly, TurnsExactly};
 
 use crate::deps::has_one_text;
@@ -126,6 +127,20 @@ pub fn rounds_exactly()
 {
     texts_are_read_one_way();
     answers_exactly();
+}
+
+/// **Where `compile` answered 0, `trace` of its output answers 0 too, or 14 where memory is short, unless a device failed,** if
+/// all lines of the packets file are in form and each packet names a port of the topology: one packet after another, by
+/// rounds, and in the order of each schedule that can be done to an end, in turn or not. With `--changes` so it is where the
+/// changes file is in form, each file of tables that it names is what `compile` wrote for a program declared like the first,
+/// and each packet names a port of the topology that is in force for it.
+pub fn traces_answer()
+    ensures orders { TracesAnswer }
+    ensures changes { ChangesAnswer }
+{
+    spells_one_program();
+    answers_exactly();
+    compiles_exactly();
 }
 
 /// Where no device failed and memory was there, `demo` answers 0 with the summary written.

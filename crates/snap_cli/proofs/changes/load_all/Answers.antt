@@ -7,7 +7,7 @@ use Rattle.std.proofs.lemmas.Result.{err_from_is_err_and}
 use Rattle.snap_move.specs.declared.change.Change.{Change}
 use Rattle.snap_move.specs.declared.later.Later.{Later}
 use Rattle.snap_move.specs.Shapes.{HaveOneShape}
-use Rattle.snap_cli.proofs.ChangesLemmas.{Extends, told-all, told-more, told-no_more, told-none, told-short}
+use Rattle.snap_cli.proofs.ChangesLemmas.{Loaded, told-all, told-more, told-no_more, told-none, told-short}
 use Rattle.snap_cli.specs.ChangesSteps.{LoadsLaters, afters, afters_of}
 use Rattle.snap_cli.proofs.changes.load_all.Goals as goal
 
@@ -21,8 +21,8 @@ loop-change-preserved g c =
     let pushed = c.in_ok-push_later.ensures.pushed in
     let told = g.S.Shelf.files c.args.shelf.now in
     record {
-      extends = subst (λ (ls : List Later). IfSome told (λ files. Extends files c.args.first.now all (drop (i + 1) all) ls)) (sym pushed)
-          (told-more told (g.S.Shelf.files l.shelf) c.args.first.now all i item l.later.items x l.invariant.files c.loop-change-test.true c.change-item.is l.invariant.extends c.in_ok-next.ensures.gives);
+      loaded = subst (λ (ls : List Later). IfSome told (λ files. Loaded files c.args.first.now all (i + 1) ls)) (sym pushed)
+          (told-more told (g.S.Shelf.files l.shelf) c.args.first.now all i item l.later.items x l.invariant.files c.loop-change-test.true c.change-item.is l.invariant.loaded c.in_ok-next.ensures.gives);
       shapes = subst (All (λ (y : Later). HaveOneShape y.tables c.args.first.now)) (sym pushed) (All-push (λ (y : Later). HaveOneShape y.tables c.args.first.now) l.later.items x l.invariant.shapes c.in_ok-next.ensures.shape);
       afters_same = ap afters pushed ∙ map-append (λ (y : Later). y.after) l.later.items (x ∷ []) ∙ (λ j. l.invariant.afters_same j ++ c.in_ok-next.ensures.after j ∷ [])
           ∙ sym (map-append (λ (y : Change). y.after) (take i all) (item ∷ [])) ∙ ap afters_of ((λ j. take i all ++ c.change-item.is j ∷ []) ∙ sym (take_more all i item c.loop-change-test.true));
@@ -36,11 +36,11 @@ returns-in_err-next-clause-gives g c =
     let told = g.S.Shelf.files c.args.shelf.now in
     let all = c.args.changes.now in
     let out = err_from_is_err_and c.from_residual.result c.from_residual.ensures.1 in
-    let gives = told-no_more told (g.S.Shelf.files l.shelf) c.args.first.now all l.change-index c.change-item.result l.later.items c.in_err-next.field-0.0 l.invariant.files c.loop-change-test.true c.change-item.is l.invariant.extends c.in_err-next.ensures.gives in
+    let gives = told-no_more told (g.S.Shelf.files l.shelf) c.args.first.now all l.change-index c.change-item.result l.later.items c.in_err-next.field-0.0 l.invariant.files c.loop-change-test.true c.change-item.is l.invariant.loaded c.in_err-next.ensures.gives in
     subst (λ r. IfSome told (λ files. LoadsLaters files c.args.first.now all r)) (sym out.1)
     (subst (λ e. IfSome told (λ files. LoadsLaters files c.args.first.now all (Err e))) (sym out.2) gives)
 
 pub returns-clause-gives : goal.returns-clause-gives
 returns-clause-gives g c =
     let l = c.loop-change in
-    told-all (g.S.Shelf.files c.args.shelf.now) c.args.first.now c.args.changes.now (drop l.change-index c.args.changes.now) l.later.items (drop_all l.change-index c.args.changes.now c.loop-change-test.false) l.invariant.extends
+    told-all (g.S.Shelf.files c.args.shelf.now) c.args.first.now c.args.changes.now l.change-index l.later.items (drop_all l.change-index c.args.changes.now c.loop-change-test.false) l.invariant.loaded
