@@ -36,7 +36,7 @@ use Rattle.snap_cli.specs.Answering.{AnswersZero, CanFollow, ChangesAnswer, Comp
 use Rattle.snap_cli.specs.Causes.{HasCauses}
 use Rattle.snap_cli.specs.Changes.{ChangedTables, ChangesOf, ChangesTo, LaterOf, RefusesLater, before}
 use Rattle.snap_cli.specs.Deserved.{Ends}
-use Rattle.snap_cli.specs.Headline.{file_in_force}
+use Rattle.snap_cli.specs.Upgrades.{file_in_force}
 use Rattle.snap_cli.specs.InTurn.{TurnsTo}
 use Rattle.snap_cli.specs.Laws.{AnswersExactly, CompilesExactly, IsFailure, SpellsOneProgram}
 use Rattle.snap_cli.specs.Obs.{IsRunEnding}

@@ -20,10 +20,11 @@ use Rattle.snap_words.specs.Commands.{Command, Order, changes, command_of, compi
 use Rattle.snap_cli.specs.Answers.{Answers}
 use Rattle.snap_cli.specs.Changes.{ChangesOf}
 use Rattle.snap_cli.specs.Equal.{AreDeclaredAlike}
-use Rattle.snap_cli.specs.Headline.{Did, file_in_force}
+use Rattle.snap_cli.specs.Headline.{Did}
 use Rattle.snap_cli.specs.ProgramOf.{ProgramOf}
 use Rattle.snap_cli.specs.TablesOf.{TablesOf}
 use Rattle.snap_cli.specs.TopologyOf.{TopologyOf}
+use Rattle.snap_cli.specs.Upgrades.{file_in_force}
 
 -- ---- devices
 -- no file's count of faults rose, nor that of the sink
