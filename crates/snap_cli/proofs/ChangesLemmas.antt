@@ -196,3 +196,17 @@ told-all (Some files) first all i ls none h =
 pub told-none : (told : Option Files) (first : Tables) (all : List Change) → IfSome told (λ files. Loaded files first all 0 [])
 told-none None first all = tt
 told-none (Some files) first all = (extends-none files first all, All-nil (HasLater files first))
+
+-- ---- the changes of a file
+loads-all : (files : Files) (first : Tables) (name : List ℕ) (cs : List Change) (r : Result (Vec Later Global) Refusal) → ChangesOf (file_of files name) (Ok cs) → LoadsLaters files first cs r → LoadsChanges files first name r
+loads-all files first name cs (Ok later) said h = inr (cs, said, h)
+loads-all files first name cs (Err e) said h =
+    by-map (IsReachedChange files first cs) (IsReachedByChanges files first name) (λ x. LaterOf files first cs (Err x)) (λ x. ChangedTables files first name (Err x))
+    (λ failed is. inr (cs, said, is)) (λ x why. inr (cs, said, why)) e h
+
+-- they were read, after which the shelf tells the same files, and their tables were, or can't be
+pub told-tables : (told now : Option Files) (first : Tables) (name : List ℕ) (changes : Vec Change Global) (seen : List Change) (r : Result (Vec Later Global) Refusal) → now ≡ told
+    → IfSome told (λ files. GivesChanges name (file_of files name) (Ok changes)) → seen ≡ changes.items → IfSome now (λ files. LoadsLaters files first seen r) → IfSome told (λ files. LoadsChanges files first name r)
+told-tables None now first name changes seen r same h is m = tt
+told-tables (Some files) now first name changes seen r same h is m =
+    loads-all files first name changes.items r h (subst (λ cs. LoadsLaters files first cs r) is (subst (λ o. IfSome o (λ x. LoadsLaters x first seen r)) same m))
