@@ -6,7 +6,7 @@ import re
 from dataclasses import dataclass, field
 from typing import Dict, List, Optional, Tuple
 
-from snapc_tables import MOST, Fault, Field, Tables, read_tables, read_text  # noqa: F401
+from snapc_tables import MOST, Fault, Field, Tables, read_tables, read_text
 from snapc_toml import read_toml
 
 HEADS = {1: ("walk", 9), 2: ("stage", 11), 3: ("out", 5), 4: ("visit", 11)}  # by their first byte: name, and bytes
