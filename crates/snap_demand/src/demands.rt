@@ -3,30 +3,20 @@
 ghost use Rattle.std.specs.Prelude.{◌≡◌, ◌<◌, ◌+◌, ◌≤◌, ◌==◌, ℕ, IfOk, length, slice_get};
 ghost use Rattle.std.specs.List.{All, list_any};
 ghost use Rattle.snap_core.specs.declared.ports.PortAt.{PortAt};
-ghost use Rattle.snap_rows.specs.Entries.{var_of};
 ghost use Rattle.snap_rows.specs.Form.{switch_count};
 ghost use Rattle.snap_demand.specs.Demands.{AddsToBoth, AreDemanded, AreWaysBelow, GoesAlong, HandsOn, IsSetting, Settles};
 ghost use Rattle.snap_demand.specs.Marks.{IsOnWalk, MarksWalk, has_switch};
 ghost use Rattle.snap_demand.specs.OnDemand.{HasNodes, place_of};
 
+use crate::rows::{place, var_of};
 use crate::switches::Switches;
 use crate::ways::{line, ways};
 use snap_core::NoMemory;
-use snap_core::policy::{Test, Update};
+use snap_core::policy::Update;
 use snap_core::ports::PortAt;
 use snap_route::table::Routes;
 use snap_rows::tables::{Row, Tables};
 use std::alloc::Global;
-
-// The switch of an array; 0 where there is none.
-fn place(tables: &Tables, var: u16) -> u16
-    ensures { result ≡ place_of tables.now var }
-{
-    match tables.arrays.items().get(var as usize) {
-        Some(array) => array.at,
-        None => 0,
-    }
-}
 
 // The number of switches.
 fn count(tables: &Tables) -> u16
@@ -34,16 +24,6 @@ fn count(tables: &Tables) -> u16
     ensures { result ≡ switch_count tables.now }
 {
     tables.switches.items().len() as u16
-}
-
-// The array of a state test.
-fn var_of(test: &Test) -> u16
-    ensures { result ≡ var_of test.now }
-{
-    match test {
-        Test::State { var, .. } => *var,
-        Test::Value { .. } | Test::Equal { .. } => 0,
-    }
 }
 
 // With the switches on the walk from one to the places of updates, one after another.
