@@ -1,0 +1,98 @@
+//! The row of a switch for a number.
+
+ghost use Rattle.std.specs.Prelude.{◌≡◌, ◌<◌, IfOk, length};
+ghost use Rattle.snap_rows.specs.Entries.{var_of};
+ghost use Rattle.snap_gen.specs.Planned.{IsNodeKind};
+ghost use Rattle.snap_demand.specs.OnDemand.{place_of, row_on, stages_of};
+ghost use Rattle.snap_demand.specs.Runs.{IsRun};
+
+use snap_core::NoMemory;
+use snap_core::outs::copy_outs;
+use snap_core::policy::{Test, Update, copy_updates};
+use snap_rows::lists::{Outs, Stages, Updates};
+use snap_rows::tables::{Row, Stage, Tables};
+use std::alloc::Global;
+
+/// The switch of an array; 0 where there is none.
+pub(crate) fn place(tables: &Tables, var: u16) -> u16
+    ensures { result ≡ place_of tables.now var }
+{
+    match tables.arrays.items().get(var as usize) {
+        Some(array) => array.at,
+        None => 0,
+    }
+}
+
+/// The array of a state test.
+pub(crate) fn var_of(test: &Test) -> u16
+    ensures { result ≡ var_of test.now }
+{
+    match test {
+        Test::State { var, .. } => *var,
+        Test::Value { .. } | Test::Equal { .. } => 0,
+    }
+}
+
+// Where the updates end that are at the switch of the one at `start`.
+fn end_of_run(tables: &Tables, ups: &[Update], start: usize) -> usize
+    requires { start < length ups.now }
+    ensures { IsRun (place_of tables.now) ups.now start result }
+{
+    let at = place(tables, ups[start].var);
+    for end in start + 1..ups.len() {
+        let here = place(tables, ups[end].var);
+        if here != at {
+            return end;
+        }
+    }
+    ups.len()
+}
+
+// The stages of updates: neighbours at one switch are one stage.
+fn stages(alloc: Global, tables: &Tables, ups: &[Update]) -> Result<Vec<Stage>, NoMemory>
+    ensures { IfOk result (λ r. r.items ≡ stages_of (place_of tables.now) ups.now) }
+{
+    let mut stages = Vec::new(alloc);
+    let mut start = 0;
+    while start < ups.len() {
+        let end = end_of_run(tables, ups, start);
+        stages.push(Stage {
+            at: place(tables, ups[start].var),
+            ups: Updates::new(copy_updates(alloc, &ups[start..end])?),
+        })?;
+        start = end;
+    }
+    Ok(stages)
+}
+
+/// The row of a switch for a number with this node. Refuses for memory alone.
+pub fn row_on(alloc: Global, tables: &Tables, at: u16, body: &Row) -> Result<Row, NoMemory>
+    requires { IsNodeKind body.now }
+    ensures { IfOk result (λ r. r ≡ row_on (place_of tables.now) at body.now) }
+{
+    match body {
+        Row::Field { test, yes, no } => Ok(Row::Field {
+            test: test.copy()?,
+            yes: *yes,
+            no: *no,
+        }),
+        Row::State { test, yes, no } => {
+            let owner = place(tables, var_of(test));
+            if owner != at {
+                return Ok(Row::Go { to: owner });
+            }
+            Ok(Row::State {
+                test: test.copy()?,
+                yes: *yes,
+                no: *no,
+            })
+        }
+        Row::Last { ups, outs } => Ok(Row::Leaf {
+            stages: Stages::new(stages(alloc, tables, ups.items())?),
+            outs: Outs::new(copy_outs(alloc, outs.items())?),
+        }),
+        Row::Go { .. } => unreachable!(),
+        Row::Leaf { .. } => unreachable!(),
+        Row::Stop => unreachable!(),
+    }
+}
