@@ -205,8 +205,8 @@ loads-all files first name cs (Err e) said h =
     (λ failed is. inr (cs, said, is)) (λ x why. inr (cs, said, why)) e h
 
 -- they were read, after which the shelf tells the same files, and their tables were, or can't be
-pub told-tables : (told now : Option Files) (first : Tables) (name : List ℕ) (changes : Vec Change Global) (seen : List Change) (r : Result (Vec Later Global) Refusal) → now ≡ told
-    → IfSome told (λ files. GivesChanges name (file_of files name) (Ok changes)) → seen ≡ changes.items → IfSome now (λ files. LoadsLaters files first seen r) → IfSome told (λ files. LoadsChanges files first name r)
-told-tables None now first name changes seen r same h is m = tt
-told-tables (Some files) now first name changes seen r same h is m =
-    loads-all files first name changes.items r h (subst (λ cs. LoadsLaters files first cs r) is (subst (λ o. IfSome o (λ x. LoadsLaters x first seen r)) same m))
+pub told-tables : (told now : Option Files) (first : Tables) (name : List ℕ) (cs : Vec Change Global) (seen : List Change) (r : Result (Vec Later Global) Refusal) → now ≡ told
+    → IfSome told (λ files. GivesChanges name (file_of files name) (Ok cs)) → seen ≡ cs.items → IfSome now (λ files. LoadsLaters files first seen r) → IfSome told (λ files. LoadsChanges files first name r)
+told-tables None now first name cs seen r same h is m = tt
+told-tables (Some files) now first name cs seen r same h is m =
+    loads-all files first name cs.items r h (subst (λ x. LoadsLaters files first x r) is (subst (λ o. IfSome o (λ x. LoadsLaters x first seen r)) same m))
