@@ -37,9 +37,8 @@ test:
 	examples/demonstrations bin/snapc
 	examples/hostile bin/snapc
 	examples/refused bin/snapc
-	contrib/tools/check bin/snapc
 	contrib/shown bin/snapc
-	contrib/check
+	SNAPC=bin/snapc contrib/check
 
 # What goes where, and the program first; nothing is built or proved here, so that it may run under sudo.
 SHARE = $(DESTDIR)$(PREFIX)/share
