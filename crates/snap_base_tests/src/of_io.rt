@@ -13,7 +13,8 @@ fn shelf(alloc: Global, most: usize, fails: &[u64]) -> Result<MemoryShelf, Fail>
     if !have_distinct_names(&files) {
         return Err("two files have one name")?;
     }
-    Ok(MemoryShelf::limited(files, most.max(1), fails.to_vec(alloc)?))
+    let fails = fails.to_vec(alloc)?;
+    Ok(MemoryShelf::limited(files, most.max(1), fails)?)
 }
 
 // Puts what the next call gives: a line with an LF behind it, or else a word.

@@ -65,7 +65,7 @@ fn shelf(alloc: Global, name: &[u8], bytes: &[u8]) -> Result<MemoryShelf, Fail> 
     if !have_distinct_names(&files) {
         return Err("two files have one name")?;
     }
-    Ok(MemoryShelf::new(files, Vec::new(alloc)))
+    Ok(MemoryShelf::new(files, Vec::new(alloc))?)
 }
 
 // The report of a program over a packets file.

@@ -140,7 +140,7 @@ pub(crate) fn shelf(
     if !have_distinct_names(&files) {
         return Err(NoMemory);
     }
-    Ok(MemoryShelf::new(files, Vec::new(alloc)))
+    MemoryShelf::new(files, Vec::new(alloc))
 }
 
 /// A sink that takes every write.

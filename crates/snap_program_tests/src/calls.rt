@@ -121,5 +121,5 @@ fn shelf_over(
     if !have_distinct_names(&held) {
         return Err("two files have one name")?;
     }
-    Ok(MemoryShelf::limited(held, devices.read_most.max(1), fails))
+    Ok(MemoryShelf::limited(held, devices.read_most.max(1), fails)?)
 }
