@@ -5,6 +5,7 @@ mod bodies;
 mod frame;
 mod fronts;
 mod known;
+pub mod on_demand;
 mod shares;
 mod sites;
 pub mod tables;
