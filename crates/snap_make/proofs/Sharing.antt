@@ -29,6 +29,7 @@ use Rattle.snap_make.proofs.Marking.{node_is}
 pub as_row_said : (bodies : List Row) (n : ℕ) (b : Row) (s : Share) → b ≡ slice_index_or bodies n row.Stop → as_row b s ≡ row_said bodies n s
 as_row_said bodies n b share.Body e = e
 as_row_said bodies n b share.Stop e = refl
+as_row_said bodies n b (share.Go x) e = refl
 
 entries_twice : (bodies : List Row) (shares : List RowShare) → map row_entry (map (row_shared bodies) shares) ≡ map (share_entry bodies) shares
 entries_twice bodies [] = refl

@@ -2,6 +2,7 @@
 #![tactic(auto)]
 
 mod bodies;
+mod demanded;
 mod frame;
 mod fronts;
 mod known;

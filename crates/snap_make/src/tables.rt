@@ -91,7 +91,7 @@ fn tidy_tables(
     requires placement { GivesSwitches program.now topology.now placement.now }
     ensures { IfOk result (Faithful program.now topology.now placement.now) }
 {
-    let frame = frame(alloc, program, groups, topology, placement, routes)?;
+    let frame = frame(alloc, 2, program, groups, topology, placement, routes)?;
     let (bodies, shares) = rows(alloc, &frame, &built.nodes, built.root)?;
     Ok(SharedTables::new(frame, bodies, shares))
 }
