@@ -27,7 +27,7 @@ use Rattle.snap_tables.specs.declared.shared.Share.TheVariants as share
 use Rattle.snap_gen.specs.Generated.{numbered_nodes}
 use Rattle.snap_demand.specs.declared.switches.Switches.{Switches}
 use Rattle.snap_demand.specs.Demands.{AreDemanded, IsSetting, has_pair}
-use Rattle.snap_demand.specs.Faithful.{FaithfulOf}
+use Rattle.snap_gen.specs.Faithful.{Faithful}
 use Rattle.snap_demand.specs.OnDemand.{place_of, row_on, staged}
 use Rattle.snap_demand.proofs.Reframing.{wanted_with, closed_with}
 use Rattle.snap_demand.proofs.Turning.{ended}
@@ -125,7 +125,7 @@ module _ (p : Program) (t : Topology) (places : List ℕ) (routes : Table) (g : 
         ∙ ap (at_switches (demanded n (map (staged (place_of n)) listed) marks) (length n.switches)) (length-map listed (staged (place_of n)) ∙ listed_many)
         ∙ (λ j. at_switches (λ w i. (demanded_is n marks listed w i ∙ ap (λ o. if has_pair marks w i then option_map (row_on (place_of n) w) o else None) (listed_is i)) j) (length n.switches) (length numbered.ids))
 
-    pub demanded_made : FaithfulOf 1 p t places (shared n bodies shares)
+    pub demanded_made : Faithful p t places (shared n bodies shares)
     demanded_made =
         made_on_demand p t places routes g (diagram tidy.old tidy.old_root) ns root numbered.ids numbered.numbers (has_pair marks) (shared n bodies shares) ready whole arena tidy.tidies numbered.numbering numbered.wide
         (record { version = frame.version; fields = frame.fields; arrays = frame.arrays; switches = frame.switches; links = frame.links; ports = frame.ports; hops = frame.hops })

@@ -26,7 +26,7 @@ use Rattle.snap_gen.specs.Generated.{IsBareDiagram, numbered_nodes}
 use Rattle.snap_demand.specs.Closed.{IsClosed}
 use Rattle.snap_demand.specs.Demands.{IsSetting}
 use Rattle.snap_demand.specs.Derived.{IsWanted, AreMarked}
-use Rattle.snap_demand.specs.Faithful.{FaithfulOf}
+use Rattle.snap_gen.specs.Faithful.{Faithful}
 use Rattle.snap_demand.specs.OnDemand.{row_on, stages_of, place_of, HasNodes, AreOnDemand}
 use Rattle.snap_demand.specs.Written.{RisesFrom, IsWrittenOnDemand}
 use Rattle.snap_demand.proofs.Closed.{closed_is_whole}
@@ -212,5 +212,5 @@ module _ (p : Program) (t : Topology) (places : List ℕ) (routes : Table) (g : 
     rows = are_on_demand;
   }
 
-  pub made_on_demand : FaithfulOf 1 p t places n
+  pub made_on_demand : Faithful p t places n
   made_on_demand = written_on_demand p t places routes g.ranks ns root ids (slice_index numbers) n ready.input bare_diagram num rises is_written

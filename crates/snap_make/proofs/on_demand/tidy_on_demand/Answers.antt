@@ -1,6 +1,6 @@
 use Rattle.std.proofs.Common.{◌≡◌, refl, sym, subst}
 use Rattle.snap_rows.specs.declared.tables.Tables.{Tables}
-use Rattle.snap_demand.specs.Faithful.{FaithfulOf}
+use Rattle.snap_gen.specs.Faithful.{Faithful}
 use Rattle.snap_make.proofs.DemandMaking.{can_be_numbered, demanded_made, numbers_low, setting}
 use Rattle.snap_make.proofs.Given.{few_groups}
 use Rattle.snap_make.proofs.on_demand.tidy_on_demand.Goals as goal
@@ -32,7 +32,7 @@ new-requires c =
 
 pub returns : goal.returns
 returns c =
-    subst (λ (t : Tables). FaithfulOf 1 c.args.program.now c.args.topology.now c.args.placement.now t × (t.version ≡ 1)) (sym c.new.ensures)
+    subst (λ (t : Tables). Faithful c.args.program.now c.args.topology.now c.args.placement.now t × (t.version ≡ 1)) (sym c.new.ensures)
     (demanded_made c.args.program.now c.args.topology.now c.args.placement.now c.args.routes.now c.args.groups.now c.args.built.now.nodes c.args.built.now.root
     c.requires.form c.requires.small c.requires.groups c.requires.topology c.requires.routes c.requires.placement c.requires.tidy c.in_ok-frame.frame c.in_ok-frame.ensures
     c.in_ok-bodies.bodies.items c.in_ok-bodies.shares.items c.in_ok-bodies.ensures.arena c.in_ok-bodies.ensures.rows, c.in_ok-frame.ensures.version)
