@@ -17,11 +17,11 @@ pub record AreArrays (version : ℕ) (names : List (List ℕ)) (places ranks : L
   pub placed : map (λ (a : ArrayAt). a.at) arrays ≡ take n places
   pub ranked : map (λ (a : ArrayAt). a.rank) arrays ≡ map (told version) (take n ranks)
 
--- the lists of a program, its placement and ranks, and a topology with its routes
-pub record IsFrame (version : ℕ) (p : Program) (t : Topology) (places : List ℕ) (routes : Table) (ranks : List ℕ) (n : Tables) : Type 0 where
-  pub version : n.version ≡ version
+-- tables of this version: the lists of a program, its placement and ranks, and a topology with its routes
+pub record IsFrame (number : ℕ) (p : Program) (t : Topology) (places : List ℕ) (routes : Table) (ranks : List ℕ) (n : Tables) : Type 0 where
+  pub version : n.version ≡ number
   pub fields : n.fields ≡ p.fields
-  pub arrays : AreArrays version p.vars places ranks (length p.vars) n.arrays
+  pub arrays : AreArrays number p.vars places ranks (length p.vars) n.arrays
   pub switches : n.switches ≡ t.switches
   pub links : n.links ≡ t.links
   pub ports : n.ports ≡ t.ports
