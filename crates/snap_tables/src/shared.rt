@@ -17,6 +17,8 @@ pub enum Share {
     Body,
     /// The number isn't decided here.
     Stop,
+    /// Packets go on to this switch, where the number is decided.
+    Go { to: u16 },
 }
 
 /// A row of shared tables: its switch, its number, and what stands in it.
