@@ -122,8 +122,7 @@ module _ (without : RunsReportWithoutHops) (in_turn_is : TheReportIsInTurn) wher
       pub turn_traces : TurnsExactly → (lines : Option (List ℕ)) → TracesInOrder (in_turn lines)
       turn_traces turns lines files later program topology placement tables packets on_demand hops output report c is d =
           let x = told exactly compiles fit whole (λ n ks. (n.version ≡ 2) × IsTurnsReport n hops (option_map (file_of later) lines) ks report) files later program topology placement tables packets on_demand hops (in_turn lines) output report c is d
-          (in_turn_ran turns later tables packets lines hops report d) in
-          (
+          (in_turn_ran turns later tables packets lines hops report d) in (
             x.p,
             x.t,
             x.given,
