@@ -166,7 +166,7 @@ fn tables_of<'a>(
 {
     let groups = groups(alloc, &program)?;
     match snap_place::read(alloc, text, &program, &groups, &network.topology) {
-        Ok(placement) => { make(alloc, &program, &groups, network, &placement, on_demand) },
+        Ok(placement) => make(alloc, &program, &groups, network, &placement, on_demand),
         Err(fault) => Err(refusal_of_placement(program.vars, fault)),
     }
 }
