@@ -98,7 +98,7 @@ frames_of (in_turn lines) = Numbered
 frames_of (rounds workers) = Numbered
 
 -- The packets take effect in this order of their numbers: as they come in, one after another or in turn; and by a schedule as they
--- come in where it is calm, and as they fork where all arrays stand at one switch.
+-- come in where it is calm, and as they fork where the tables are lone.
 abbrev pub TakeEffectIn : Files → Order → Tables → List (List ℕ) → List Happening → (numbers : List ℕ) → Type 0
 TakeEffectIn files plain t ks hs numbers = numbers ≡ numbered ks
 TakeEffectIn files (schedule lines) t ks hs numbers = (IsCalm t ks (lines_of (file_of files lines)) × (numbers ≡ numbered ks)) ⊎ (IsLone t × (numbers ≡ commits hs))
@@ -189,12 +189,12 @@ RoundsTraceAlike = (later : Files) (tables packets : List ℕ) (hops : Bool) (wo
     → Did later (trace tables packets hops (rounds workers)) report → Did later (trace tables packets hops (rounds others)) other
     → report ≡ other
 
--- ---- all arrays at one switch
+-- ---- all arrays that a packet meets at one switch
 -- the placement that the files of `compile` spell puts all arrays at one switch
 abbrev pub StandAtOne : Files → (program topology placement : List ℕ) → Type 0
 StandAtOne files program topology placement = (p : Program) (t : Topology) (places : List ℕ) → AreSpelled files program topology placement p t places → (w : ℕ) × All (λ x. x ≡ w) places
 
--- all arrays of the tables of a file stand at one switch
+-- the tables of a file are lone
 abbrev pub AreLone : Files → (tables : List ℕ) → Type 0
 AreLone files tables = (t : Tables) → TablesOf (file_of files tables) (Ok t) → IsLone t
 
