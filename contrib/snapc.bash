@@ -1,7 +1,7 @@
 # Completion of snapc's words for bash.
 _snapc() {
     local commands="obs deps check equal routes compile place trace demo"
-    local current=${COMP_WORDS[COMP_CWORD]} files=0 dashes=0 hops=0 turns=0 runs= word last= only=
+    local current=${COMP_WORDS[COMP_CWORD]} files=0 dashes=0 demand=0 hops=0 turns=0 runs= word last= only=
     COMPREPLY=()
     if [ "$COMP_CWORD" -eq 1 ]; then
         COMPREPLY=($(compgen -W "$commands" -- "$current"))
@@ -13,6 +13,7 @@ _snapc() {
         --schedule:= | --changes:= | --workers:=) word=$last ;;
         --schedule:* | --changes:* | --workers:*) word= ;;
         *:--) dashes=1 ;;
+        *:--on-demand) demand=1 ;;
         *:--hops) hops=1 ;;
         *:--ordered) turns=1 ;;
         *:--schedule | *:--changes | *:--workers) runs=$word ;;
@@ -28,11 +29,12 @@ _snapc() {
         wanted=$last
         ;;
     esac
-    # `--` may stand once. Behind `trace` and before it `--hops` may, one of `--schedule`, `--changes` and `--workers`, and `--ordered` but
-    # beside `--changes`.
+    # `--` may stand once. Behind `compile` and before it `--on-demand` may; behind `trace` `--hops`, one of `--schedule`, `--changes` and
+    # `--workers`, and `--ordered` but beside `--changes`.
     if [[ $current == -* && $wanted != -* ]]; then
         [ "$dashes" -eq 1 ] && return
         only=--
+        [[ ${COMP_WORDS[1]} == compile && $demand -eq 0 ]] && only+=" --on-demand"
         if [[ ${COMP_WORDS[1]} == trace ]]; then
             [ "$hops" -eq 0 ] && only+=" --hops"
             [ -z "$runs" ] && only+=" --schedule --workers"

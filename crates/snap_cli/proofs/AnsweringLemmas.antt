@@ -32,9 +32,10 @@ use Rattle.snap_whole.specs.OneSwitch.{ports_of}
 use Rattle.snap_words.specs.Commands.{Command, Order, changes, in_turn, plain, rounds, schedule, trace}
 use Rattle.snap_cli.specs.declared.refusal.Refusal.{Refusal}
 use Rattle.snap_cli.specs.declared.refusal.Refusal.TheVariants.{Write}
-use Rattle.snap_cli.specs.Answering.{AnswersZero, CanFollow, ChangesAnswer, CompileCall, NamePorts, NoDeviceFailed, OrderCanBeDone, TracesAnswer, Wrote}
+use Rattle.snap_cli.specs.Answering.{AnswersZero, CanFollow, ChangesAnswer, CompileCall, NamePorts, NoDeviceFailed, OrderCanBeDone, TracesAnswer, TurnsCanBeDone, Wrote}
 use Rattle.snap_cli.specs.Causes.{HasCauses}
 use Rattle.snap_cli.specs.Changes.{ChangedTables, ChangesOf, ChangesTo, LaterOf, RefusesLater, before}
+use Rattle.snap_cli.specs.Compile.{version_of}
 use Rattle.snap_cli.specs.Deserved.{Ends}
 use Rattle.snap_cli.specs.Upgrades.{file_in_force}
 use Rattle.snap_cli.specs.InTurn.{TurnsTo}
@@ -88,7 +89,7 @@ only_read n file back is short r (inr spells) =
 record IsFileOf (c : CompileCall) (file : List ℕ) (n : Tables) : Type 0 where
   only : (r : Result Tables Refusal) → TablesOf file r → r ≡ Ok n
   form : IsInForm n
-  version : n.version ≡ 2
+  version : n.version ≡ version_of c.on_demand
   fields : n.fields ≡ c.p.fields
   names : array_names n ≡ c.p.vars
   ports : n.ports ≡ c.t.ports
@@ -96,16 +97,16 @@ record IsFileOf (c : CompileCall) (file : List ℕ) (n : Tables) : Type 0 where
 module _ (spells : SpellsOneProgram) (exactly : AnswersExactly) (compiles : CompilesExactly) where
   written : (c : CompileCall) (file : List ℕ) → Wrote c file → (n : Tables) × IsFileOf c file n
   written c file wrote =
-      let made = compiled exactly compiles c.files c.program c.topology c.placement file wrote.did in
+      let made = compiled exactly compiles c.files c.program c.topology c.placement c.on_demand file wrote.did in
       let of = made.1 in
       let core = spells (file_of c.files c.program) (Ok of.0) (Ok c.p) of.3.the_program c.the_program in
       let topology : of.1 ≡ c.t = (let e = topology_once (file_of c.files c.topology) (Ok of.1) (Ok c.t) of.3.the_topology c.the_topology in cc) in
-      let shape = of.4.shape in (
+      let shape = of.4.0.shape in (
         made.0,
         record {
           only = only_read made.0 file made.2 made.3 wrote.short;
           form = shape.form;
-          version = shape.version;
+          version = of.4.1;
           fields = shape.fields ∙ same_fields of.0 c.p core;
           names = shape.names ∙ same_names of.0 c.p core;
           ports = shape.ports ∙ (λ i. (topology i).ports);
@@ -162,7 +163,11 @@ module _ (n : Tables) (file : List ℕ) (whole : (spelled_for n file).stop ≡ e
   rounds_well hops (inl h) = h.0
   rounds_well hops (inr h) = absurd (let e : refused h.1.0 ≡ ended = sym h.1.1 ∙ whole in cc)
 
-module _ (later : Files) (tables packets : List ℕ) (hops : Bool) (n : Tables) (form : IsInForm n) (two : n.version ≡ 2)
+-- tables without `--on-demand` are of version 2
+in_turn_two : (on_demand : Bool) (version : ℕ) → version ≡ version_of on_demand → on_demand ≡ false → version ≡ 1 → ⊥
+in_turn_two on_demand version is without one = let two : version ≡ 2 = is ∙ ap version_of without in omega (arith, one, two)
+
+module _ (later : Files) (tables packets : List ℕ) (on_demand hops : Bool) (n : Tables) (form : IsInForm n) (version : n.version ≡ version_of on_demand)
     (is : TablesOf (file_of later tables) (Ok n)) (whole : (spelled_for n (file_of later packets)).stop ≡ ended) (ending : Ending) (text : List ℕ) where
   abbrev file : List ℕ
   file = file_of later packets
@@ -170,23 +175,23 @@ module _ (later : Files) (tables packets : List ℕ) (hops : Bool) (n : Tables) 
   abbrev ks : List (List ℕ)
   ks = (spelled_for n file).packets
 
-  turns_well : (lines : Option (List ℕ)) → OrderCanBeDone later tables packets (in_turn lines) → TurnsTo n hops file (option_map (file_of later) lines) ending text → ending ≡ Ok tt
+  turns_well : (lines : Option (List ℕ)) → TurnsCanBeDone later tables packets lines → TurnsTo n hops file (option_map (file_of later) lines) ending text → ending ≡ Ok tt
   turns_well None can h = ends_well (turns.ArePlainBlocks n hops) (turns.IsPlainReport n hops) ks (spelled_for n file).stop h.0 ending text whole h.1 h.2
   turns_well (Some lines) can h =
       let done = can.lead n is in
       schedule_well n file whole ending text (file_of later lines) (turns.HasScheduleReport n hops file (file_of later lines)) (turns.RefusesScheduleLine n file (file_of later lines)) can.short
       (λ line stuck. ended_or_refused_in_turn n form ks (lines_of (file_of later lines)) done.0 done.1 done.2 done.3 line stuck.1) h
 
-  ran_well : (order : Order) → OrderCanBeDone later tables packets order → NetworkRunsTo later n packets hops order ending text → ending ≡ Ok tt
+  ran_well : (order : Order) → OrderCanBeDone on_demand later tables packets order → NetworkRunsTo later n packets hops order ending text → ending ≡ Ok tt
   ran_well plain can h = ends_well (ArePlainBlocks n hops) (IsPlainReport n hops) ks (spelled_for n file).stop h.0 ending text whole h.1 h.2
   ran_well (schedule lines) can h =
       let done = can.lead n is in
       schedule_well n file whole ending text (file_of later lines) (HasScheduleReport n hops file (file_of later lines)) (RefusesScheduleLine n file (file_of later lines)) can.short
       (λ line stuck. ended_or_refused n form ks (lines_of (file_of later lines)) done.0 done.1 done.2 done.3 line stuck.1) h
   ran_well (changes lines) can h = absurd can
-  ran_well (in_turn lines) can (inl h) = absurd (let one = h.0 in omega (arith, one, two))
-  ran_well (in_turn lines) can (inr h) = turns_well lines can h.1
-  ran_well (rounds workers) can (inl h) = absurd (let one = h.0 in omega (arith, one, two))
+  ran_well (in_turn lines) can (inl h) = absurd (in_turn_two on_demand n.version version can.0 h.0)
+  ran_well (in_turn lines) can (inr h) = turns_well lines can.1 h.1
+  ran_well (rounds workers) can (inl h) = absurd (in_turn_two on_demand n.version version can h.0)
   ran_well (rounds workers) can (inr h) = rounds_well n file whole ending text hops h.1
 
 changed_well : (first : Tables) (later : List Later) (hops : Bool) (ks : List (List ℕ)) (stop : Stop) (run : RunEnding) (ending : Ending) (text : List ℕ) → stop ≡ ended → EndsAsRead first later hops ks stop run text → IsRunEnding run ending → ending ≡ Ok tt
@@ -211,7 +216,7 @@ module _ (spells : SpellsOneProgram) (exactly : AnswersExactly) (compiles : Comp
       let n = written spells exactly compiles c (file_of later tables) wrote in
       let whole = taken_whole c.p.fields (file_of later packets) n.0 c.t.ports n.1.fields n.1.ports names in
       answers_zero exactly later (trace tables packets hops order)
-      (λ e ends. let run = ran c later tables packets hops order n.0 n.1 e ends in ran_well later tables packets hops n.0 n.1.form n.1.version run.0 whole e run.1.0 order can run.1.1)
+      (λ e ends. let run = ran c later tables packets hops order n.0 n.1 e ends in ran_well later tables packets c.on_demand hops n.0 n.1.form n.1.version run.0 whole e run.1.0 order can run.1.1)
 
   module _ (call : List ℕ → CompileCall) (later : Files) (tables : List ℕ) (first : Tables) (of : IsFileOf (call tables) (file_of later tables) first) where
     abbrev Follows : Change → Type 0

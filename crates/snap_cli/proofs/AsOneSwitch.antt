@@ -1,5 +1,5 @@
 -- Where no hops are told the text is what one big switch does.
-use Rattle.std.proofs.Common.{ℕ, false, List, Option, refl, subst, inl}
+use Rattle.std.proofs.Common.{ℕ, Bool, false, List, Option, refl, subst, inl}
 use Rattle.snap_core.specs.declared.program.Program.{Program}
 use Rattle.snap_io.specs.Files.{Files, file_of}
 use Rattle.snap_topo.specs.declared.topology.Topology.{Topology}
@@ -12,26 +12,26 @@ use Rattle.snap_cli.specs.Headline.{RoundsTraceAsOneSwitch, SchedulesTraceAsOneS
 
 module _ (in_turn_it_is : InTurnItIsTheReport) where
   -- where packets take effect as they come in
-  as_injected : (files : Files) (order : Order) (file : List ℕ) (p : Program) (t : Topology) (ks : List (List ℕ)) (text : List ℕ) (told : TellsInOrder files order file p t ks false text)
+  as_injected : (files : Files) (order : Order) (file : List ℕ) (p : Program) (t : Topology) (on_demand : Bool) (ks : List (List ℕ)) (text : List ℕ) (told : TellsInOrder files order file p t on_demand ks false text)
       → TakeEffectIn files order told.run.tables ks told.run.happenings (numbered ks) → IsSwitchReport p (ports_of t) ks text
-  as_injected files order file p t ks text told take = subst (IsSwitchReport p (ports_of t) ks) (told.same refl) (in_turn_it_is p (ports_of t) ks told.plain (told.one_switch (numbered ks) take))
+  as_injected files order file p t on_demand ks text told take = subst (IsSwitchReport p (ports_of t) ks) (told.same refl) (in_turn_it_is p (ports_of t) ks told.plain (told.one_switch (numbered ks) take))
 
   pub traced : TracesInOrder plain → TracesAsOneSwitch
-  traced law files later program topology placement tables packets output report c is d =
-      let x = law files later program topology placement tables packets false output report c is d in
-      (x.0, x.1, x.2, as_injected later plain (file_of later tables) x.0 x.1 (spelled x.0.fields (file_of later packets)).packets report x.3 refl)
+  traced law files later program topology placement tables packets on_demand output report c is d =
+      let x = law files later program topology placement tables packets on_demand false output report c is d in
+      (x.0, x.1, x.2, as_injected later plain (file_of later tables) x.0 x.1 on_demand (spelled x.0.fields (file_of later packets)).packets report x.3 refl)
 
   pub scheduled : ((lines : List ℕ) → TracesInOrder (schedule lines)) → SchedulesTraceAsOneSwitch
-  scheduled law files later program topology placement tables packets lines output report c is d =
-      let x = law lines files later program topology placement tables packets false output report c is d in
-      (x.0, x.1, x.2, λ calm. as_injected later (schedule lines) (file_of later tables) x.0 x.1 (spelled x.0.fields (file_of later packets)).packets report x.3 (inl (calm x.3.run.tables x.3.run.read, refl)))
+  scheduled law files later program topology placement tables packets lines on_demand output report c is d =
+      let x = law lines files later program topology placement tables packets on_demand false output report c is d in
+      (x.0, x.1, x.2, λ calm. as_injected later (schedule lines) (file_of later tables) x.0 x.1 on_demand (spelled x.0.fields (file_of later packets)).packets report x.3 (inl (calm x.3.run.tables x.3.run.read, refl)))
 
   pub turned : ((lines : Option (List ℕ)) → TracesInOrder (in_turn lines)) → TurnsTraceAsOneSwitch
-  turned law files later program topology placement tables packets lines output report c is d =
-      let x = law lines files later program topology placement tables packets false output report c is d in
-      (x.0, x.1, x.2, as_injected later (in_turn lines) (file_of later tables) x.0 x.1 (spelled x.0.fields (file_of later packets)).packets report x.3 refl)
+  turned law files later program topology placement tables packets on_demand lines output report c is d =
+      let x = law lines files later program topology placement tables packets on_demand false output report c is d in
+      (x.0, x.1, x.2, as_injected later (in_turn lines) (file_of later tables) x.0 x.1 on_demand (spelled x.0.fields (file_of later packets)).packets report x.3 refl)
 
   pub in_rounds : ((workers : ℕ) → TracesInOrder (rounds workers)) → RoundsTraceAsOneSwitch
-  in_rounds law files later program topology placement tables packets workers output report c is d =
-      let x = law workers files later program topology placement tables packets false output report c is d in
-      (x.0, x.1, x.2, as_injected later (rounds workers) (file_of later tables) x.0 x.1 (spelled x.0.fields (file_of later packets)).packets report x.3 refl)
+  in_rounds law files later program topology placement tables packets on_demand workers output report c is d =
+      let x = law workers files later program topology placement tables packets on_demand false output report c is d in
+      (x.0, x.1, x.2, as_injected later (rounds workers) (file_of later tables) x.0 x.1 on_demand (spelled x.0.fields (file_of later packets)).packets report x.3 refl)

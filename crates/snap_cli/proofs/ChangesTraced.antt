@@ -111,14 +111,14 @@ pub record HasProgram (source : List ℕ) (t : Tables) : Type 0 where
 module _ (exactly : AnswersExactly) (compiles : CompilesExactly) (traces : ChangesExactly) (fit : SpelledPacketsFit) (rise : SaidChangesRise) where
   output_has : (source output : List ℕ) → IsOutputFor source output → (t : Tables) → TablesOf output (Ok t) → HasProgram source t
   output_has source output o t read =
-      let made = compiled exactly compiles o.files o.program o.topology o.placement output o.did in
+      let made = compiled exactly compiles o.files o.program o.topology o.placement o.on_demand output o.did in
       let n : Tables = made.0 in
       let of = made.1 in
       let same : t ≡ n = same_tables output n t made.2 made.3 read in
       record {
         program = of.0;
         spelled_so = subst (λ x. ProgramOf x (Ok of.0)) o.holds of.3.the_program;
-        faithful = record { topology = of.1; places = of.2; faithful = subst (Faithful of.0 of.1 of.2) (sym same) of.4 };
+        faithful = record { topology = of.1; places = of.2; faithful = subst (Faithful of.0 of.1 of.2) (sym same) of.4.0 };
       }
 
   -- what was given to a run, and its report

@@ -1,6 +1,6 @@
 -- `compile` deserves one ending, but that each pair on which the program races may be told, and one text, but that all faithful
 -- tables may be written.
-use Rattle.std.proofs.Common.{◌≡◌, ◌⊎◌, ℕ, List, [], ◌∷◌, Option, Ok, Err, refl, sym, ◌∙◌, ap, subst, inl, inr}
+use Rattle.std.proofs.Common.{◌≡◌, ◌⊎◌, ℕ, Bool, List, [], ◌∷◌, Option, Ok, Err, refl, sym, ◌∙◌, ap, subst, inl, inr}
 use Rattle.std.specs.Io.KnownBytes.{Appends}
 use Rattle.std.proofs.lemmas.List.Elements.{All-nil, All-cons}
 use Rattle.snap_core.specs.declared.program.Program.{Program}
@@ -86,25 +86,25 @@ module _ (p q : Program) (same : core_program p ≡ core_program q) where
 
 -- ---- the command
 
-module _ (spells : SpellsOneProgram) (files : Files) (program topology placement : List ℕ) where
+module _ (spells : SpellsOneProgram) (files : Files) (program topology placement : List ℕ) (on_demand : Bool) where
   refusals-once : (e f : Refusal) → HasNoTables files program topology placement e → HasNoTables files program topology placement f → IsSameEnding (Err e) (Err f)
   refusals-once e f (inl h) (inl k) = inl (ap (λ y. Err y) (spells (file_of files program) (Err e) (Err f) h k))
   refusals-once e f (inl h) (inr (q, k, none)) = absurd (spells (file_of files program) (Err e) (Ok q) h k)
   refusals-once e f (inr (p, h, none)) (inl k) = absurd (spells (file_of files program) (Ok p) (Err f) h k)
   refusals-once e f (inr (p, h, none)) (inr (q, k, never)) = on-once p q (spells (file_of files program) (Ok p) (Ok q) h k) files topology placement e f none never
 
-  compiled-or-not : (text : List ℕ) (e : Refusal) → IsCompiled files program topology placement text → HasNoTables files program topology placement e → ⊥
-  compiled-or-not text e (tables, (p, t, places, is, faithful), back, same) (inl k) = absurd (spells (file_of files program) (Ok p) (Err e) is.the_program k)
-  compiled-or-not text e (tables, (p, t, places, is, faithful), back, same) (inr (q, k, none)) =
-      on-apart p q (spells (file_of files program) (Ok p) (Ok q) is.the_program k) files topology placement t is.has_routes.0 places e is.the_topology is.has_routes.1 is.the_placement faithful.defined none
+  compiled-or-not : (text : List ℕ) (e : Refusal) → IsCompiled files program topology placement on_demand text → HasNoTables files program topology placement e → ⊥
+  compiled-or-not text e (tables, (p, t, places, is, made), back, same) (inl k) = absurd (spells (file_of files program) (Ok p) (Err e) is.the_program k)
+  compiled-or-not text e (tables, (p, t, places, is, made), back, same) (inr (q, k, none)) =
+      on-apart p q (spells (file_of files program) (Ok p) (Ok q) is.the_program k) files topology placement t is.has_routes.0 places e is.the_topology is.has_routes.1 is.the_placement made.0.defined none
 
-  pub ends_compile_once : (a b : Ending) → EndsCompile files program topology placement a → EndsCompile files program topology placement b → IsSameEnding a b
+  pub ends_compile_once : (a b : Ending) → EndsCompile files program topology placement on_demand a → EndsCompile files program topology placement on_demand b → IsSameEnding a b
   ends_compile_once (Ok u) (Ok v) h k = inl refl
   ends_compile_once (Ok u) (Err f) h k = absurd (compiled-or-not h.0 f h.1 k)
   ends_compile_once (Err e) (Ok v) h k = absurd (compiled-or-not k.0 e k.1 h)
   ends_compile_once (Err e) (Err f) h k = refusals-once e f h k
 
-  pub compile_text_once : (a b : List ℕ) → IsCompileText files program topology placement a → IsCompileText files program topology placement b → IsSameText files (compile program topology placement) a b
+  pub compile_text_once : (a b : List ℕ) → IsCompileText files program topology placement on_demand a → IsCompileText files program topology placement on_demand b → IsSameText files (compile program topology placement on_demand) a b
   compile_text_once a b (inl h) (inl k) = inl (h.2 ∙ sym k.2)
   compile_text_once a b (inl h) (inr k) = absurd (compiled-or-not b h.0 k h.1)
   compile_text_once a b (inr h) (inl k) = absurd (compiled-or-not a k.0 h k.1)
@@ -118,21 +118,21 @@ module _ (spells : SpellsOneProgram) (files : Files) (program topology placement
         let same = spells (file_of files program) (Ok p) (Ok q) spelled.the_program k in
         judged_race q p (sym same) e (on-told p q same files topology placement t spelled.has_routes.0 places e spelled.the_topology spelled.has_routes.1 spelled.the_placement none)
 
-    no-race : (text : List ℕ) → IsCompiled files program topology placement text → Races p → ⊥
-    no-race text (tables, (q, u, also, is, faithful), back, same) (m, k, race) =
-        never_races q faithful.defined m k (same_race p q (spells (file_of files program) (Ok p) (Ok q) spelled.the_program is.the_program) m k race)
+    no-race : (text : List ℕ) → IsCompiled files program topology placement on_demand text → Races p → ⊥
+    no-race text (tables, (q, u, also, is, made), back, same) (m, k, race) =
+        never_races q made.0.defined m k (same_race p q (spells (file_of files program) (Ok p) (Ok q) spelled.the_program is.the_program) m k race)
 
     module _ (status : ℕ) (out_old out_new : Option (List ℕ)) (err_before err_now : ℕ) (err_old err_new : Option (List ℕ)) where
       abbrev pub Came : Type 0
       Came =
-          ((status ≡ 0) × (Races p → ⊥) × ((text : List ℕ) × IsCompiled files program topology placement text × Appends out_old out_new text))
+          ((status ≡ 0) × (Races p → ⊥) × ((text : List ℕ) × IsCompiled files program topology placement on_demand text × Appends out_old out_new text))
           ⊎ ((status ≡ 10) × Races p × Appends out_old out_new [])
 
-      with-text : (e : Ending) (text : List ℕ) → EndsCompile files program topology placement e → IsCompileText files program topology placement text → status ≡ status_of e → Appends out_old out_new text → Came
+      with-text : (e : Ending) (text : List ℕ) → EndsCompile files program topology placement on_demand e → IsCompileText files program topology placement on_demand text → status ≡ status_of e → Appends out_old out_new text → Came
       with-text (Ok u) text h (inl k) is out = absurd (compiled-or-not h.0 k.0 h.1 k.1)
       with-text (Ok u) text h (inr k) is out = inl (is, no-race text k, (text, k, out))
       with-text (Err e) text h (inl k) is out = let race = told-race e h in inr (is ∙ race.1, race.0, subst (Appends out_old out_new) k.2 out)
       with-text (Err e) text h (inr k) is out = absurd (compiled-or-not text e k h)
 
-      pub came : (e : Ending) (text : List ℕ) → IsDue files (compile program topology placement) e text → IsExact e text status out_old out_new err_before err_now err_old err_new → Came
+      pub came : (e : Ending) (text : List ℕ) → IsDue files (compile program topology placement on_demand) e text → IsExact e text status out_old out_new err_before err_now err_old err_new → Came
       came e text due exact = with-text e text due.ends due.has_text exact.status_is exact.out

@@ -51,9 +51,9 @@ module _ (t : Tables) (hops : Bool) (file : List ℕ) (ending : Ending) (well : 
       let r = reported_by t file schedule (HasScheduleReport t hops file schedule) (RefusesScheduleLine t file schedule) ending text h well in
       (r.0.0, r.1)
 
-  in_turn_reported : (files : Files) (packets : List ℕ) (lines : Option (List ℕ)) (text : List ℕ) → file_of files packets ≡ file → RunsInTurnTo files t packets hops lines ending text → Reported (option_map (file_of files) lines) text
+  in_turn_reported : (files : Files) (packets : List ℕ) (lines : Option (List ℕ)) (text : List ℕ) → file_of files packets ≡ file → RunsInTurnTo files t packets hops lines ending text → (t.version ≡ 2) × Reported (option_map (file_of files) lines) text
   in_turn_reported files packets lines text is (inl h) = absurd (refused_apart VersionOne (well ∙ ap status_of h.1))
-  in_turn_reported files packets lines text is (inr h) = turns_reported (option_map (file_of files) lines) text (subst (λ f. TurnsTo t hops f (option_map (file_of files) lines) ending text) is h.1)
+  in_turn_reported files packets lines text is (inr h) = (h.0, turns_reported (option_map (file_of files) lines) text (subst (λ f. TurnsTo t hops f (option_map (file_of files) lines) ending text) is h.1))
 
 -- one big switch has one report
 pub switch_report_once : HasOneListing → (p : Program) (ports : List ℕ) (ks : List (List ℕ)) (a b : List ℕ) → IsSwitchReport p ports ks a → IsSwitchReport p ports ks b → a ≡ b
@@ -63,25 +63,25 @@ switch_report_once lists p ports ks a b h k =
     h.is ∙ (λ i. blocks (port_lines p.fields ports) 1 (same i).packets ++ end_text p.vars (entries i)) ∙ sym k.is
 
 pub in_turn_ran : TurnsExactly → (later : Files) (tables packets : List ℕ) (lines : Option (List ℕ)) (hops : Bool) (report : List ℕ) → Did later (trace tables packets hops (in_turn lines)) report → (t : Tables) → TablesOf (file_of later tables) (Ok t)
-    → ((spelled_for t (file_of later packets)).stop ≡ ended) × IsTurnsReport t hops (option_map (file_of later) lines) (spelled_for t (file_of later packets)).packets report
+    → ((spelled_for t (file_of later packets)).stop ≡ ended) × ((t.version ≡ 2) × IsTurnsReport t hops (option_map (file_of later) lines) (spelled_for t (file_of later packets)).packets report)
 in_turn_ran turns later tables packets lines hops report d t read =
     let r = no_failure (turns d.words later tables packets lines hops t 0 d.shelf_before d.shelf_now d.out_before d.out_now (Some []) (Some report) d.err_before d.err_now d.err_old d.err_new d.said read d.answers) in
     let ran = in_turn_reported t hops (file_of later packets) r.0 r.3.status_is later packets lines r.1 refl r.2 in
-    (ran.0, subst (IsTurnsReport t hops (option_map (file_of later) lines) (spelled_for t (file_of later packets)).packets) (sym r.3.out) ran.1)
+    (ran.1.0, (ran.0, subst (IsTurnsReport t hops (option_map (file_of later) lines) (spelled_for t (file_of later packets)).packets) (sym r.3.out) ran.1.1))
 
 -- it is what one big switch does
 module _ (each : PlainRunsInTurnReportOneSwitch) (lined : SchedulesInTurnReportOneSwitch) where
-  turns_one_switch : (p : Program) (topology : Topology) (places : List ℕ) (n : Tables) → Faithful p topology places n → (ks : List (List ℕ)) → All (IsPacketOf p) ks → (schedule : Option (List ℕ)) (report : List ℕ)
+  turns_one_switch : (p : Program) (topology : Topology) (places : List ℕ) (n : Tables) → Faithful p topology places n → n.version ≡ 2 → (ks : List (List ℕ)) → All (IsPacketOf p) ks → (schedule : Option (List ℕ)) (report : List ℕ)
       → IsTurnsReport n false schedule ks report → IsSwitchReport p (ports_of topology) ks report
-  turns_one_switch p topology places n faithful ks fits None report r = each p topology places n faithful ks fits report r
-  turns_one_switch p topology places n faithful ks fits (Some schedule) report r = lined p topology places n faithful ks fits (lines_of schedule) report r
+  turns_one_switch p topology places n faithful two ks fits None report r = each p topology places n faithful two ks fits report r
+  turns_one_switch p topology places n faithful two ks fits (Some schedule) report r = lined p topology places n faithful two ks fits (lines_of schedule) report r
 
   pub turns_as_plain : AnswersExactly → CompilesExactly → TurnsExactly → SpelledPacketsFit → SpelledForIsSpelled → TracesExactly → PlainRunsReportOneSwitch → HasOneListing → TurnsTraceAsPlain
-  turns_as_plain exactly compiles turns fit whole traces alone lists files later program topology placement tables packets lines output report other c is d e =
-      let x = told exactly compiles fit whole (λ n ks. IsTurnsReport n false (option_map (file_of later) lines) ks report × plain_run.IsPlainReport n false ks other)
-      files later program topology placement tables packets false (in_turn lines) output report c is d
+  turns_as_plain exactly compiles turns fit whole traces alone lists files later program topology placement tables packets on_demand lines output report other c is d e =
+      let x = told exactly compiles fit whole (λ n ks. ((n.version ≡ 2) × IsTurnsReport n false (option_map (file_of later) lines) ks report) × plain_run.IsPlainReport n false ks other)
+      files later program topology placement tables packets on_demand false (in_turn lines) output report c is d
       (λ t read. let ran = in_turn_ran turns later tables packets lines false report d t read in (ran.0, (ran.1, (plain_ran traces later tables packets false other e t read).1))) in
       let ks = (spelled x.p.fields (file_of later packets)).packets in
       switch_report_once lists x.p (ports_of x.t) ks report other
-      (turns_one_switch x.p x.t x.places x.n x.faithful ks x.fits (option_map (file_of later) lines) report x.holds.0)
+      (turns_one_switch x.p x.t x.places x.n x.faithful x.holds.0.0 ks x.fits (option_map (file_of later) lines) report x.holds.0.1)
       (alone x.p x.t x.places x.n x.faithful ks x.fits other x.holds.1)

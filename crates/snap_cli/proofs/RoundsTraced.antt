@@ -27,25 +27,27 @@ rounds_reported : (t : Tables) (hops : Bool) (file : List ℕ) (ending : Ending)
 rounds_reported t hops file ending text well (inl h) = h.1
 rounds_reported t hops file ending text well (inr h) = absurd (run_apart h.1.0 ending h.1.2 well)
 
-by_rounds_reported : (files : Files) (t : Tables) (packets : List ℕ) (hops : Bool) (ending : Ending) (text : List ℕ) → 0 ≡ status_of ending → RunsByRoundsTo files t packets hops ending text → HasRoundReport t hops (file_of files packets) text
+by_rounds_reported : (files : Files) (t : Tables) (packets : List ℕ) (hops : Bool) (ending : Ending) (text : List ℕ) → 0 ≡ status_of ending → RunsByRoundsTo files t packets hops ending text → (t.version ≡ 2) × HasRoundReport t hops (file_of files packets) text
 by_rounds_reported files t packets hops ending text well (inl h) = absurd (refused_apart VersionOne (well ∙ ap status_of h.1))
-by_rounds_reported files t packets hops ending text well (inr h) = rounds_reported t hops (file_of files packets) ending text well h.1
+by_rounds_reported files t packets hops ending text well (inr h) = (h.0, rounds_reported t hops (file_of files packets) ending text well h.1)
 
 pub rounds_ran : RoundsExactly → (later : Files) (tables packets : List ℕ) (workers : ℕ) (hops : Bool) (report : List ℕ) → Did later (trace tables packets hops (rounds workers)) report → (t : Tables) → TablesOf (file_of later tables) (Ok t)
-    → ((spelled_for t (file_of later packets)).stop ≡ ended) × IsRoundReport t hops (spelled_for t (file_of later packets)).packets report
+    → ((spelled_for t (file_of later packets)).stop ≡ ended) × ((t.version ≡ 2) × IsRoundReport t hops (spelled_for t (file_of later packets)).packets report)
 rounds_ran by_rounds later tables packets workers hops report d t read =
     let r = no_failure (by_rounds d.words later tables packets workers hops t 0 d.shelf_before d.shelf_now d.out_before d.out_now (Some []) (Some report) d.err_before d.err_now d.err_old d.err_new d.said read d.answers) in
-    subst (HasRoundReport t hops (file_of later packets)) (sym r.3.out) (by_rounds_reported later t packets hops r.0 r.1 r.3.status_is r.2)
+    let ran = by_rounds_reported later t packets hops r.0 r.1 r.3.status_is r.2 in
+    let has = subst (HasRoundReport t hops (file_of later packets)) (sym r.3.out) ran.1 in
+    (has.0, (ran.0, has.1))
 
 -- it is that of the plain run
 pub rounds_as_plain : AnswersExactly → CompilesExactly → RoundsExactly → SpelledPacketsFit → SpelledForIsSpelled → RunsByRoundsReportOneSwitch → TracesExactly → PlainRunsReportOneSwitch → HasOneListing → RoundsTraceAsPlain
-rounds_as_plain exactly compiles by_rounds fit whole one traces alone lists files later program topology placement tables packets workers output report other c is d e =
-    let x = told exactly compiles fit whole (λ n ks. IsRoundReport n false ks report × plain_run.IsPlainReport n false ks other)
-    files later program topology placement tables packets false (rounds workers) output report c is d
+rounds_as_plain exactly compiles by_rounds fit whole one traces alone lists files later program topology placement tables packets on_demand workers output report other c is d e =
+    let x = told exactly compiles fit whole (λ n ks. ((n.version ≡ 2) × IsRoundReport n false ks report) × plain_run.IsPlainReport n false ks other)
+    files later program topology placement tables packets on_demand false (rounds workers) output report c is d
     (λ t read. let r = rounds_ran by_rounds later tables packets workers false report d t read in (r.0, (r.1, (plain_ran traces later tables packets false other e t read).1))) in
     let ks = (spelled x.p.fields (file_of later packets)).packets in
     switch_report_once lists x.p (ports_of x.t) ks report other
-    (one x.p x.t x.places x.n x.faithful ks x.fits report x.holds.0)
+    (one x.p x.t x.places x.n x.faithful x.holds.0.0 ks x.fits report x.holds.0.1)
     (alone x.p x.t x.places x.n x.faithful ks x.fits other x.holds.1)
 
 -- no number of workers stands in what is due

@@ -41,7 +41,7 @@ nothing_first files (check program) = refl
 nothing_first files (equal left right) = refl
 nothing_first files (routes topology) = inl refl
 nothing_first files (place program topology demand) = refl
-nothing_first files (compile program topology placement) = inl refl
+nothing_first files (compile program topology placement on_demand) = inl refl
 nothing_first files (trace tables packets hops order) = inl refl
 nothing_first files (demo switches) = refl
 

@@ -20,7 +20,7 @@ use Rattle.snap_runs.specs.Plain.{IsPlainReport, spelled_for}
 use Rattle.snap_words.specs.Commands.{Command, Order, compile, plain, trace}
 use Rattle.snap_cli.specs.declared.refusal.Refusal.{Refusal}
 use Rattle.snap_cli.specs.declared.refusal.Refusal.TheVariants.{Usage, Read, Write, Syntax, Naming, Limit, Topology as Network, Unreachable, Race, Packets, NoMemory, Undefined, Declarations, Differ, Demand, Placement, Tables as Unread, Schedule, Changes, ReadChange, VersionOne}
-use Rattle.snap_cli.specs.Compile.{IsCompiled}
+use Rattle.snap_cli.specs.Compile.{IsCompiled, version_of}
 use Rattle.snap_cli.specs.Deserved.{Ends}
 use Rattle.snap_cli.specs.Headline.{AreGiven, Did}
 use Rattle.snap_cli.specs.Laws.{AnswersExactly, CompilesExactly, IsDue, IsExact, IsFailure, TracesAs, TracesExactly}
@@ -96,14 +96,14 @@ module _ (exactly : AnswersExactly) where
       by (ending, text, due, exact) = subst (Ends files command) (ended_well ending exact.status_is) due.ends
 
   -- ---- what compile wrote
-  pub compiled : CompilesExactly → (files : Files) (program topology placement output : List ℕ) → Did files (compile program topology placement) output → IsCompiled files program topology placement output
-  compiled compiles files program topology placement output d =
-      let t = (ends_well files (compile program topology placement) output d).1 in
+  pub compiled : CompilesExactly → (files : Files) (program topology placement : List ℕ) (on_demand : Bool) (output : List ℕ) → Did files (compile program topology placement on_demand) output → IsCompiled files program topology placement on_demand output
+  compiled compiles files program topology placement on_demand output d =
+      let t = (ends_well files (compile program topology placement on_demand) output d).1 in
       let of = t.1 in
-      by (no_failure (compiles d.words files program topology placement of.0 of.1 of.2 0 d.shelf_before d.shelf_now d.out_before d.out_now (Some []) (Some output) d.err_before d.err_now d.err_old d.err_new d.said of.3 d.answers))
+      by (no_failure (compiles d.words files program topology placement on_demand of.0 of.1 of.2 0 d.shelf_before d.shelf_now d.out_before d.out_now (Some []) (Some output) d.err_before d.err_now d.err_old d.err_new d.said of.3 d.answers))
     where
-      by : {A B C D : Type 0} → (A × B × ((text : List ℕ) × IsCompiled files program topology placement text × Appends (Some []) (Some output) text)) ⊎ (◌≡◌ {A = ℕ} 0 10 × C × D) → IsCompiled files program topology placement output
-      by (inl h) = subst (IsCompiled files program topology placement) (sym h.2.2) h.2.1
+      by : {A B C D : Type 0} → (A × B × ((text : List ℕ) × IsCompiled files program topology placement on_demand text × Appends (Some []) (Some output) text)) ⊎ (◌≡◌ {A = ℕ} 0 10 × C × D) → IsCompiled files program topology placement on_demand output
+      by (inl h) = subst (IsCompiled files program topology placement on_demand) (sym h.2.2) h.2.1
       by (inr h) = absurd (let e = h.0 in omega (arith, e))
 
   -- ---- what trace ran
@@ -116,23 +116,24 @@ module _ (exactly : AnswersExactly) where
 
   module _ (compiles : CompilesExactly) (fit : SpelledPacketsFit) (whole : SpelledForIsSpelled) where
     -- the run of faithful tables that was told, of which this holds
-    pub record Told (files : Files) (program topology placement file packets : List ℕ) (Holds : Tables → List (List ℕ) → Type 0) : Type 0 where
+    pub record Told (files : Files) (program topology file packets : List ℕ) (on_demand : Bool) (Holds : Tables → List (List ℕ) → Type 0) : Type 0 where
       pub p : Program
       pub t : Topology
       pub places : List ℕ
       pub n : Tables
       pub read : TablesOf file (Ok n)
       pub faithful : Faithful p t places n
+      pub version : n.version ≡ version_of on_demand
       pub given : AreGiven files program topology packets p t
       pub fits : All (IsPacketOf p) (spelled p.fields packets).packets
       pub holds : Holds n (spelled p.fields packets).packets
 
-    pub told : (Holds : Tables → List (List ℕ) → Type 0) (files later : Files) (program topology placement tables packets : List ℕ) (hops : Bool) (order : Order) (output report : List ℕ)
-        → Did files (compile program topology placement) output → file_of later tables ≡ output → Did later (trace tables packets hops order) report
+    pub told : (Holds : Tables → List (List ℕ) → Type 0) (files later : Files) (program topology placement tables packets : List ℕ) (on_demand hops : Bool) (order : Order) (output report : List ℕ)
+        → Did files (compile program topology placement on_demand) output → file_of later tables ≡ output → Did later (trace tables packets hops order) report
         → ((t : Tables) → TablesOf (file_of later tables) (Ok t) → ((spelled_for t (file_of later packets)).stop ≡ ended) × Holds t (spelled_for t (file_of later packets)).packets)
-        → Told files program topology placement (file_of later tables) (file_of later packets) Holds
-    told Holds files later program topology placement tables packets hops order output report c is d ran =
-        let made = compiled compiles files program topology placement output c in
+        → Told files program topology (file_of later tables) (file_of later packets) on_demand Holds
+    told Holds files later program topology placement tables packets on_demand hops order output report c is d ran =
+        let made = compiled compiles files program topology placement on_demand output c in
         let n : Tables = made.0 in
         let of = made.1 in
         let p : Program = of.0 in
@@ -141,7 +142,7 @@ module _ (exactly : AnswersExactly) where
         let same : u.0 ≡ n = same_tables (file_of later tables) n u.0 made.2 (is ∙ made.3) u.1 in
         let read_so = subst (λ x. TablesOf (file_of later tables) (Ok x)) same u.1 in
         let r = ran n read_so in
-        let fields : n.fields ≡ p.fields = of.4.shape.fields in
+        let fields : n.fields ≡ p.fields = of.4.0.shape.fields in
         let read : spelled_for n file ≡ spelled p.fields file = whole n file r.0 ∙ ap (λ fs. spelled fs file) fields in
         record {
           p = p;
@@ -149,7 +150,8 @@ module _ (exactly : AnswersExactly) where
           places = of.2;
           n = n;
           read = read_so;
-          faithful = of.4;
+          faithful = of.4.0;
+          version = of.4.1;
           given = record { the_program = of.3.the_program; the_topology = of.3.the_topology; whole = ap (λ (s : Spelled). s.stop) (sym read) ∙ r.0 };
           fits = subst (λ fs. All (IsPacket (count fs)) (spelled p.fields file).packets) fields (subst (λ (s : Spelled). All (IsPacket (count n.fields)) s.packets) read (fit n file));
           holds = subst (λ (s : Spelled). Holds n s.packets) read r.1;

@@ -1,5 +1,5 @@
 -- **That `trace` of what `compile` wrote answers 0.**
-use Rattle.std.specs.Prelude.{◌≡◌, ◌⊎◌, ◌≤◌, ℕ, Bool, List, [], length, slice_get, slice_index, Ok, Some, None}
+use Rattle.std.specs.Prelude.{◌≡◌, ◌⊎◌, ◌≤◌, ℕ, Bool, false, List, [], length, slice_get, slice_index, Ok, Some, None}
 use Rattle.std.specs.declared.option.Option.{Option}
 use Rattle.std.specs.List.{All, Contains}
 use Rattle.snap_core.specs.declared.program.Field.{Field}
@@ -41,12 +41,14 @@ AnswersZero files command = (words : List (List ℕ)) (status : ℕ) (shelf_befo
     → NoDeviceFailed shelf_before shelf_now out_before out_now → (status ≡ 0) ⊎ (status ≡ 14)
 
 -- ---- what was compiled
--- a call of `compile`: the files that it found, the three that it named, and the program and the topology that these spell
+-- a call of `compile`: the files that it found, the three that it named, whether `--on-demand` was there, and the program and the
+-- topology that the files spell
 pub record CompileCall : Type 0 where
   pub files : Files
   pub program : List ℕ
   pub topology : List ℕ
   pub placement : List ℕ
+  pub on_demand : Bool
   pub p : Program
   pub t : Topology
   pub the_program : ProgramOf (file_of files program) (Ok p)
@@ -54,7 +56,7 @@ pub record CompileCall : Type 0 where
 
 -- it answered 0, and wrote this, of no more bytes than a file of tables may have
 pub record Wrote (c : CompileCall) (output : List ℕ) : Type 0 where
-  pub did : Did c.files (compile c.program c.topology c.placement) output
+  pub did : Did c.files (compile c.program c.topology c.placement c.on_demand) output
   pub short : length output ≤ 67108864
 
 -- ---- packets
@@ -77,21 +79,26 @@ pub record CanBeDone (Lead : Tables → (ks lines : List (List ℕ)) → Type 0)
   pub short : length (file_of files lines) ≤ 67108864
   pub lead : (t : Tables) → TablesOf (file_of files tables) (Ok t) → Lead t (spelled_for t (file_of files packets)).packets (lines_of (file_of files lines))
 
--- the files of the order, if it has some, can be done; those of changes have a law of their own
-abbrev pub OrderCanBeDone : Files → (tables packets : List ℕ) → Order → Type 0
-OrderCanBeDone files tables packets plain = Unit {0}
-OrderCanBeDone files tables packets (schedule lines) = CanBeDone LeadToEnd files tables packets lines
-OrderCanBeDone files tables packets (changes lines) = ⊥
-OrderCanBeDone files tables packets (in_turn None) = Unit {0}
-OrderCanBeDone files tables packets (in_turn (Some lines)) = CanBeDone LeadToEndInTurn files tables packets lines
-OrderCanBeDone files tables packets (rounds workers) = Unit {0}
+-- the schedule of an order in turn, if it has one, can be done
+abbrev pub TurnsCanBeDone : Files → (tables packets : List ℕ) → Option (List ℕ) → Type 0
+TurnsCanBeDone files tables packets None = Unit {0}
+TurnsCanBeDone files tables packets (Some lines) = CanBeDone LeadToEndInTurn files tables packets lines
+
+-- the files of the order, if it has some, can be done with what `compile` wrote. Packets take turns in tables without `--on-demand`
+-- alone. The files of changes have a law of their own
+abbrev pub OrderCanBeDone : (on_demand : Bool) → Files → (tables packets : List ℕ) → Order → Type 0
+OrderCanBeDone on_demand files tables packets plain = Unit {0}
+OrderCanBeDone on_demand files tables packets (schedule lines) = CanBeDone LeadToEnd files tables packets lines
+OrderCanBeDone on_demand files tables packets (changes lines) = ⊥
+OrderCanBeDone on_demand files tables packets (in_turn lines) = (on_demand ≡ false) × TurnsCanBeDone files tables packets lines
+OrderCanBeDone on_demand files tables packets (rounds workers) = on_demand ≡ false
 
 -- **A call of `compile` answered 0. Where all lines of a packets file are in form and each packet names a port of the topology,
 -- `trace` of its output answers 0, in each order that can be done.**
 abbrev pub TracesAnswer : Type 0
 TracesAnswer = (c : CompileCall) (later : Files) (tables packets : List ℕ) → Wrote c (file_of later tables)
     → NamePorts c.p.fields (λ i. ports_of c.t) (file_of later packets)
-    → (order : Order) → OrderCanBeDone later tables packets order → (hops : Bool) → AnswersZero later (trace tables packets hops order)
+    → (order : Order) → OrderCanBeDone c.on_demand later tables packets order → (hops : Bool) → AnswersZero later (trace tables packets hops order)
 
 -- ---- changes
 -- a call whose program is declared like that of the first wrote this

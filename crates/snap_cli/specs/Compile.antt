@@ -1,5 +1,5 @@
 -- What `compile` deserves on its files: the text of tables that are faithful to what these spell.
-use Rattle.std.specs.Prelude.{◌≡◌, ◌⊎◌, ℕ, List, [], Ok, Err}
+use Rattle.std.specs.Prelude.{◌≡◌, ◌⊎◌, ℕ, Bool, true, false, List, [], Ok, Err}
 use Rattle.snap_core.specs.declared.program.Program.{Program}
 use Rattle.snap_io.specs.Files.{Files, file_of}
 use Rattle.snap_topo.specs.declared.topology.Topology.{Topology}
@@ -23,14 +23,24 @@ pub record AreSpelled (files : Files) (program topology placement : List ℕ) (p
   pub has_routes : (table : Table) × AreRoutes t table
   pub the_placement : PlacementOf p t (file_of files placement) (Ok places)
 
--- **the tables are faithful to the program, the topology and the placement that the files spell**
-abbrev pub AreTables : Files → (program topology placement : List ℕ) → Tables → Type 0
-AreTables files program topology placement tables =
-    (p : Program) × (t : Topology) × (places : List ℕ) × AreSpelled files program topology placement p t places × Faithful p t places tables
+-- the version of the tables that are asked for: 2, in which packets can overlap in order; or with `--on-demand` 1, in which each goes
+-- only where its program needs it
+abbrev pub version_of : (on_demand : Bool) → ℕ
+version_of true = 1
+version_of false = 2
+
+-- tables of that version which are faithful
+abbrev pub AreMade : Program → Topology → (places : List ℕ) → (on_demand : Bool) → Tables → Type 0
+AreMade p t places on_demand tables = Faithful p t places tables × (tables.version ≡ version_of on_demand)
+
+-- **the tables are of that version, and faithful to the program, the topology and the placement that the files spell**
+abbrev pub AreTables : Files → (program topology placement : List ℕ) → (on_demand : Bool) → Tables → Type 0
+AreTables files program topology placement on_demand tables =
+    (p : Program) × (t : Topology) × (places : List ℕ) × AreSpelled files program topology placement p t places × AreMade p t places on_demand tables
 
 -- the text of such tables, of which these are read
-abbrev pub IsCompiled : Files → (program topology placement : List ℕ) → List ℕ → Type 0
-IsCompiled files program topology placement text = (tables : Tables) × AreTables files program topology placement tables × IsReadBack tables × (text ≡ tables_text tables)
+abbrev pub IsCompiled : Files → (program topology placement : List ℕ) → (on_demand : Bool) → List ℕ → Type 0
+IsCompiled files program topology placement on_demand text = (tables : Tables) × AreTables files program topology placement on_demand tables × IsReadBack tables × (text ≡ tables_text tables)
 
 -- a topology was read, but no placement; or one was, and the program races, as is told
 abbrev pub HasNoTablesFor : Program → Topology → (file : List ℕ) → Refusal → Type 0
@@ -51,16 +61,16 @@ HasNoTables files program topology placement refusal =
     ⊎ ((p : Program) × ProgramOf (file_of files program) (Ok p) × HasNoTablesOn files p topology placement refusal)
 
 -- how the command ends where no device fails and memory is there
-abbrev pub EndsCompile : Files → (program topology placement : List ℕ) → Ending → Type 0
-EndsCompile files program topology placement (Ok u) = (text : List ℕ) × IsCompiled files program topology placement text
-EndsCompile files program topology placement (Err refusal) = HasNoTables files program topology placement refusal
+abbrev pub EndsCompile : Files → (program topology placement : List ℕ) → (on_demand : Bool) → Ending → Type 0
+EndsCompile files program topology placement on_demand (Ok u) = (text : List ℕ) × IsCompiled files program topology placement on_demand text
+EndsCompile files program topology placement on_demand (Err refusal) = HasNoTables files program topology placement refusal
 
 -- the text that has gone out then: nothing where there are no tables
-abbrev pub IsCompileText : Files → (program topology placement : List ℕ) → List ℕ → Type 0
-IsCompileText files program topology placement text =
+abbrev pub IsCompileText : Files → (program topology placement : List ℕ) → (on_demand : Bool) → List ℕ → Type 0
+IsCompileText files program topology placement on_demand text =
     ((refusal : Refusal) × HasNoTables files program topology placement refusal × (text ≡ []))
-    ⊎ IsCompiled files program topology placement text
+    ⊎ IsCompiled files program topology placement on_demand text
 
 -- of this text some first bytes may have gone out where memory is short
-abbrev pub MayPrecedeCompile : Files → (program topology placement : List ℕ) → List ℕ → Type 0
-MayPrecedeCompile files program topology placement text = (text ≡ []) ⊎ IsCompiled files program topology placement text
+abbrev pub MayPrecedeCompile : Files → (program topology placement : List ℕ) → (on_demand : Bool) → List ℕ → Type 0
+MayPrecedeCompile files program topology placement on_demand text = (text ≡ []) ⊎ IsCompiled files program topology placement on_demand text

@@ -27,7 +27,7 @@ Ends files (check program) ending = EndsCheck files program ending
 Ends files (equal left right) ending = EndsEqual files left right ending
 Ends files (routes topology) ending = EndsRoutes files topology ending
 Ends files (place program topology demand) ending = EndsPlace files program topology demand ending
-Ends files (compile program topology placement) ending = EndsCompile files program topology placement ending
+Ends files (compile program topology placement on_demand) ending = EndsCompile files program topology placement on_demand ending
 Ends files (trace tables packets hops order) ending = EndsTrace files tables packets hops order ending
 Ends files (demo switches) ending = EndsDemo switches ending
 
@@ -39,7 +39,7 @@ IsText files (check program) text = IsCheckText files program text
 IsText files (equal left right) text = IsEqualText files left right text
 IsText files (routes topology) text = IsRoutesText files topology text
 IsText files (place program topology demand) text = IsPlaceText files program topology demand text
-IsText files (compile program topology placement) text = IsCompileText files program topology placement text
+IsText files (compile program topology placement on_demand) text = IsCompileText files program topology placement on_demand text
 IsText files (trace tables packets hops order) text = IsTraceText files tables packets hops order text
 IsText files (demo switches) text = IsDemoText switches text
 
@@ -51,7 +51,7 @@ MayPrecede files (check program) text = text ≡ []
 MayPrecede files (equal left right) text = text ≡ []
 MayPrecede files (routes topology) text = MayPrecedeRoutes files topology text
 MayPrecede files (place program topology demand) text = text ≡ []
-MayPrecede files (compile program topology placement) text = MayPrecedeCompile files program topology placement text
+MayPrecede files (compile program topology placement on_demand) text = MayPrecedeCompile files program topology placement on_demand text
 MayPrecede files (trace tables packets hops order) text = MayPrecedeTrace files tables packets hops order text
 MayPrecede files (demo switches) text = text ≡ []
 
@@ -63,7 +63,7 @@ MayPrecedeRead files (check program) name text = (name ≡ program) × (text ≡
 MayPrecedeRead files (equal left right) name text = MayPrecedeReadEqual files left right name text
 MayPrecedeRead files (routes topology) name text = (name ≡ topology) × (text ≡ [])
 MayPrecedeRead files (place program topology demand) name text = IsReached files program topology demand name × (text ≡ [])
-MayPrecedeRead files (compile program topology placement) name text = IsReached files program topology placement name × (text ≡ [])
+MayPrecedeRead files (compile program topology placement on_demand) name text = IsReached files program topology placement name × (text ≡ [])
 MayPrecedeRead files (trace tables packets hops order) name text = MayPrecedeReadTrace files tables packets hops order name text
 MayPrecedeRead files (demo switches) name text = ⊥
 

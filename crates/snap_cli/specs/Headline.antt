@@ -1,5 +1,5 @@
 -- **What is compiled and then traced is what one big switch does.**
-use Rattle.std.specs.Prelude.{◌≡◌, ◌⊎◌, ℕ, ◌+◌, ◌*◌, Bool, false, List, [], length, Ok, Some, None, option_map}
+use Rattle.std.specs.Prelude.{◌≡◌, ◌⊎◌, ℕ, Bool, false, List, [], length, Ok, Some, None, option_map}
 use Rattle.std.specs.List.{All}
 use Rattle.std.specs.declared.option.Option.{Option}
 use Rattle.snap_core.specs.declared.program.Program.{Program}
@@ -13,6 +13,7 @@ use Rattle.snap_rows.specs.Happenings.{commits}
 use Rattle.snap_rows.specs.Lone.{IsLone}
 use Rattle.snap_rows.specs.Network.{Event, Happening, IsPlainRun, Net}
 use Rattle.snap_gen.specs.Agreement.{numbered}
+use Rattle.snap_gen.specs.Faithful.{most_hops}
 use Rattle.snap_trace.specs.Spelled.{ended, spelled}
 use Rattle.snap_runs.specs.declared.frames.Frames.{Frames}
 use Rattle.snap_runs.specs.declared.frames.Frames.TheVariants.{Plain, Numbered}
@@ -28,7 +29,7 @@ use Rattle.snap_order.specs.Rounds.{GoesByRounds}
 use Rattle.snap_order.specs.Runs as turn_runs
 use Rattle.snap_words.specs.Commands.{Command, Order, changes, command_of, compile, in_turn, plain, rounds, schedule, trace}
 use Rattle.snap_cli.specs.Answers.{Answers}
-use Rattle.snap_cli.specs.Compile.{AreSpelled}
+use Rattle.snap_cli.specs.Compile.{AreSpelled, version_of}
 use Rattle.snap_cli.specs.ProgramOf.{ProgramOf}
 use Rattle.snap_cli.specs.TablesOf.{TablesOf}
 use Rattle.snap_cli.specs.TopologyOf.{TopologyOf}
@@ -97,7 +98,7 @@ frames_of (in_turn lines) = Numbered
 frames_of (rounds workers) = Numbered
 
 -- The packets take effect in this order of their numbers: as they come in, one after another or in turn; and by a schedule as they
--- come in where it is calm, and as they fork where all arrays stand at one switch.
+-- come in where it is calm, and as they fork where the tables are lone.
 abbrev pub TakeEffectIn : Files → Order → Tables → List (List ℕ) → List Happening → (numbers : List ℕ) → Type 0
 TakeEffectIn files plain t ks hs numbers = numbers ≡ numbered ks
 TakeEffectIn files (schedule lines) t ks hs numbers = (IsCalm t ks (lines_of (file_of files lines)) × (numbers ≡ numbered ks)) ⊎ (IsLone t × (numbers ≡ commits hs))
@@ -105,28 +106,28 @@ TakeEffectIn files (changes lines) t ks hs numbers = ⊥
 TakeEffectIn files (in_turn lines) t ks hs numbers = numbers ≡ numbered ks
 TakeEffectIn files (rounds workers) t ks hs numbers = numbers ≡ numbered ks
 
--- no copy makes more than (groups + 1) times the greatest distance hops
-abbrev pub MakesFewHops : Program → Topology → List Happening → Type 0
-MakesFewHops p t hs = (groups : List ℕ) (d : ℕ) → IsRank p.body (length p.vars) groups → IsDiameter (Linked t.links) (length t.switches) d
-    → All (IsHopWithin ((length groups + 1) * d)) hs
+-- no copy makes more than (groups + 1) times the greatest distance hops, or with `--on-demand` (2 groups + 1) times
+abbrev pub MakesFewHops : Program → Topology → (on_demand : Bool) → List Happening → Type 0
+MakesFewHops p t on_demand hs = (groups : List ℕ) (d : ℕ) → IsRank p.body (length p.vars) groups → IsDiameter (Linked t.links) (length t.switches) d
+    → All (IsHopWithin (most_hops (version_of on_demand) (length groups) d)) hs
 
 -- The text tells a run of these packets in this order, over the tables of this file; and one big switch does the same with the packets in
 -- the order in which they take effect.
-abbrev pub TellsInOrder : Files → Order → (file : List ℕ) → Program → Topology → List (List ℕ) → (hops : Bool) → (text : List ℕ) → Type 0
-TellsInOrder files order file p t ks hops text =
+abbrev pub TellsInOrder : Files → Order → (file : List ℕ) → Program → Topology → (on_demand : Bool) → List (List ℕ) → (hops : Bool) → (text : List ℕ) → Type 0
+TellsInOrder files order file p t on_demand ks hops text =
     TellsRun (RunInOrder files order file ks)
     (λ r told. IsRunReportBy (frames_of order) r.tables told (length ks) r.end r.happenings)
     (λ r report. (numbers : List ℕ) → TakeEffectIn files order r.tables ks r.happenings numbers → IsSwitchReportIn p (ports_of t) ks numbers report)
-    (λ r. MakesFewHops p t r.happenings) hops text
+    (λ r. MakesFewHops p t on_demand r.happenings) hops text
 
 -- **A call of `compile` answered 0, and a call of `trace` with its output as the file of tables answered 0, in this order and with
 -- hops or without. Then so it is with what the second wrote.**
 abbrev pub TracesInOrder : Order → Type 0
-TracesInOrder order = (files later : Files) (program topology placement tables packets : List ℕ) (hops : Bool) (compiled report : List ℕ)
-    → Did files (compile program topology placement) compiled
+TracesInOrder order = (files later : Files) (program topology placement tables packets : List ℕ) (on_demand hops : Bool) (compiled report : List ℕ)
+    → Did files (compile program topology placement on_demand) compiled
     → file_of later tables ≡ compiled → Did later (trace tables packets hops order) report
     → (p : Program) × (t : Topology) × AreGiven files program topology (file_of later packets) p t
-    × TellsInOrder later order (file_of later tables) p t (spelled p.fields (file_of later packets)).packets hops report
+    × TellsInOrder later order (file_of later tables) p t on_demand (spelled p.fields (file_of later packets)).packets hops report
 
 -- ---- the report without hops, in each order
 -- what one big switch does with the packets of a file, for the program and at the ports of the topology that the files of `compile` spell
@@ -137,8 +138,8 @@ TellsOneSwitch files program topology packets text =
 -- **A call of `compile` answered 0, and a call of `trace` with its output as the file of tables answered 0. Then what the
 -- second wrote is what one big switch does.**
 abbrev pub TracesAsOneSwitch : Type 0
-TracesAsOneSwitch = (files later : Files) (program topology placement tables packets : List ℕ) (compiled report : List ℕ)
-    → Did files (compile program topology placement) compiled
+TracesAsOneSwitch = (files later : Files) (program topology placement tables packets : List ℕ) (on_demand : Bool) (compiled report : List ℕ)
+    → Did files (compile program topology placement on_demand) compiled
     → file_of later tables ≡ compiled → Did later (trace tables packets false plain) report
     → TellsOneSwitch files program topology (file_of later packets) report
 
@@ -148,37 +149,37 @@ IsCalmFor files tables lines ks = (t : Tables) → TablesOf (file_of files table
 
 -- **So it is with a schedule that injects each packet with no copy in flight.**
 abbrev pub SchedulesTraceAsOneSwitch : Type 0
-SchedulesTraceAsOneSwitch = (files later : Files) (program topology placement tables packets lines : List ℕ) (compiled report : List ℕ)
-    → Did files (compile program topology placement) compiled
+SchedulesTraceAsOneSwitch = (files later : Files) (program topology placement tables packets lines : List ℕ) (on_demand : Bool) (compiled report : List ℕ)
+    → Did files (compile program topology placement on_demand) compiled
     → file_of later tables ≡ compiled → Did later (trace tables packets false (schedule lines)) report
     → (p : Program) × (t : Topology) × AreGiven files program topology (file_of later packets) p t
     × (IsCalmFor later tables lines (spelled p.fields (file_of later packets)).packets → IsSwitchReport p (ports_of t) (spelled p.fields (file_of later packets)).packets report)
 
 -- **So it is with `--ordered`, in the order of each schedule that can be done to an end, whatever packets overlap.**
 abbrev pub TurnsTraceAsOneSwitch : Type 0
-TurnsTraceAsOneSwitch = (files later : Files) (program topology placement tables packets : List ℕ) (lines : Option (List ℕ)) (compiled report : List ℕ)
-    → Did files (compile program topology placement) compiled
+TurnsTraceAsOneSwitch = (files later : Files) (program topology placement tables packets : List ℕ) (on_demand : Bool) (lines : Option (List ℕ)) (compiled report : List ℕ)
+    → Did files (compile program topology placement on_demand) compiled
     → file_of later tables ≡ compiled → Did later (trace tables packets false (in_turn lines)) report
     → TellsOneSwitch files program topology (file_of later packets) report
 
 -- **What it writes is, byte for byte, what `trace` of the same tables and packets writes without `--ordered`, one packet after the other.**
 abbrev pub TurnsTraceAsPlain : Type 0
-TurnsTraceAsPlain = (files later : Files) (program topology placement tables packets : List ℕ) (lines : Option (List ℕ)) (compiled report other : List ℕ)
-    → Did files (compile program topology placement) compiled
+TurnsTraceAsPlain = (files later : Files) (program topology placement tables packets : List ℕ) (on_demand : Bool) (lines : Option (List ℕ)) (compiled report other : List ℕ)
+    → Did files (compile program topology placement on_demand) compiled
     → file_of later tables ≡ compiled → Did later (trace tables packets false (in_turn lines)) report → Did later (trace tables packets false plain) other
     → report ≡ other
 
 -- **So it is with `--ordered --workers`, for every number of workers.**
 abbrev pub RoundsTraceAsOneSwitch : Type 0
-RoundsTraceAsOneSwitch = (files later : Files) (program topology placement tables packets : List ℕ) (workers : ℕ) (compiled report : List ℕ)
-    → Did files (compile program topology placement) compiled
+RoundsTraceAsOneSwitch = (files later : Files) (program topology placement tables packets : List ℕ) (on_demand : Bool) (workers : ℕ) (compiled report : List ℕ)
+    → Did files (compile program topology placement on_demand) compiled
     → file_of later tables ≡ compiled → Did later (trace tables packets false (rounds workers)) report
     → TellsOneSwitch files program topology (file_of later packets) report
 
 -- **What it writes is, byte for byte, what `trace` of the same tables and packets writes without `--ordered`, one packet after the other.**
 abbrev pub RoundsTraceAsPlain : Type 0
-RoundsTraceAsPlain = (files later : Files) (program topology placement tables packets : List ℕ) (workers : ℕ) (compiled report other : List ℕ)
-    → Did files (compile program topology placement) compiled
+RoundsTraceAsPlain = (files later : Files) (program topology placement tables packets : List ℕ) (on_demand : Bool) (workers : ℕ) (compiled report other : List ℕ)
+    → Did files (compile program topology placement on_demand) compiled
     → file_of later tables ≡ compiled → Did later (trace tables packets false (rounds workers)) report → Did later (trace tables packets false plain) other
     → report ≡ other
 
@@ -188,33 +189,33 @@ RoundsTraceAlike = (later : Files) (tables packets : List ℕ) (hops : Bool) (wo
     → Did later (trace tables packets hops (rounds workers)) report → Did later (trace tables packets hops (rounds others)) other
     → report ≡ other
 
--- ---- all arrays at one switch
+-- ---- all arrays that a packet meets at one switch
 -- the placement that the files of `compile` spell puts all arrays at one switch
 abbrev pub StandAtOne : Files → (program topology placement : List ℕ) → Type 0
 StandAtOne files program topology placement = (p : Program) (t : Topology) (places : List ℕ) → AreSpelled files program topology placement p t places → (w : ℕ) × All (λ x. x ≡ w) places
 
--- all arrays of the tables of a file stand at one switch
+-- the tables of a file are lone
 abbrev pub AreLone : Files → (tables : List ℕ) → Type 0
 AreLone files tables = (t : Tables) → TablesOf (file_of files tables) (Ok t) → IsLone t
 
 -- The text tells the run of exactly the events that the lines order; and one big switch does the same with the packets in the order in
 -- which they fork in it.
-abbrev pub TellsForks : Files → Files → (program topology tables packets lines : List ℕ) → (hops : Bool) → (text : List ℕ) → Type 0
-TellsForks files later program topology tables packets lines hops text =
+abbrev pub TellsForks : Files → Files → (program topology tables packets lines : List ℕ) → (on_demand hops : Bool) → (text : List ℕ) → Type 0
+TellsForks files later program topology tables packets lines on_demand hops text =
     (p : Program) × (t : Topology) × AreGiven files program topology (file_of later packets) p t
-    × (told : TellsInOrder later (schedule lines) (file_of later tables) p t (spelled p.fields (file_of later packets)).packets hops text)
+    × (told : TellsInOrder later (schedule lines) (file_of later tables) p t on_demand (spelled p.fields (file_of later packets)).packets hops text)
     × IsSwitchReportIn p (ports_of t) (spelled p.fields (file_of later packets)).packets (commits told.run.happenings) told.plain
 
 -- **Where `compile` answered 0 for a placement that puts all arrays at one switch, so it is with each schedule, whatever packets overlap.**
 abbrev pub LonePlacementsTraceInOrder : Type 0
-LonePlacementsTraceInOrder = (files later : Files) (program topology placement tables packets lines : List ℕ) (hops : Bool) (compiled report : List ℕ)
-    → Did files (compile program topology placement) compiled → StandAtOne files program topology placement
+LonePlacementsTraceInOrder = (files later : Files) (program topology placement tables packets lines : List ℕ) (on_demand hops : Bool) (compiled report : List ℕ)
+    → Did files (compile program topology placement on_demand) compiled → StandAtOne files program topology placement
     → file_of later tables ≡ compiled → Did later (trace tables packets hops (schedule lines)) report
-    → TellsForks files later program topology tables packets lines hops report
+    → TellsForks files later program topology tables packets lines on_demand hops report
 
 -- **So it is where the tables that it reads are such.**
 abbrev pub LoneTablesTraceInOrder : Type 0
-LoneTablesTraceInOrder = (files later : Files) (program topology placement tables packets lines : List ℕ) (hops : Bool) (compiled report : List ℕ)
-    → Did files (compile program topology placement) compiled
+LoneTablesTraceInOrder = (files later : Files) (program topology placement tables packets lines : List ℕ) (on_demand hops : Bool) (compiled report : List ℕ)
+    → Did files (compile program topology placement on_demand) compiled
     → file_of later tables ≡ compiled → AreLone later tables → Did later (trace tables packets hops (schedule lines)) report
-    → TellsForks files later program topology tables packets lines hops report
+    → TellsForks files later program topology tables packets lines on_demand hops report

@@ -55,9 +55,9 @@ IsSameEnding a b = (a ≡ b) ⊎ TellAlike a b
 abbrev pub DeservesOneEnding : Type 0
 DeservesOneEnding = (files : Files) (command : Command) (a b : Ending) → Ends files command a → Ends files command b → IsSameEnding a b
 
--- both are texts of tables that are faithful to what the files of `compile` spell
+-- both are texts of tables of one version that are faithful to what the files of `compile` spell
 abbrev pub AreBothCompiled : Files → Command → List ℕ → List ℕ → Type 0
-AreBothCompiled files (compile program topology placement) a b = IsCompiled files program topology placement a × IsCompiled files program topology placement b
+AreBothCompiled files (compile program topology placement on_demand) a b = IsCompiled files program topology placement on_demand a × IsCompiled files program topology placement on_demand b
 AreBothCompiled files command a b = ⊥
 
 -- One text. Of `compile` it is that of any tables that are faithful: not these are determined, but what networks do with them.
@@ -113,15 +113,15 @@ EqualsExactly = (words : List (List ℕ)) (files : Files) (left right : List ℕ
     → IsFailure status ⊎ (((status ≡ 0) × MeanSame p q) ⊎ ((status ≡ 18) × Differs p q))
 
 -- **Where no device failed and memory was there, `compile` of a program, a topology with routes and a placement answers 0 just
--- where the program never races, and has then written the text of tables that are faithful to them; and 10 just where it
--- races, and nothing has gone out.**
+-- where the program never races, and has then written the text of tables that are faithful to them, of version 2 or with
+-- `--on-demand` of version 1; and 10 just where it races, and nothing has gone out.**
 abbrev pub CompilesExactly : Type 0
-CompilesExactly = (words : List (List ℕ)) (files : Files) (program topology placement : List ℕ) (p : Program) (t : Topology) (places : List ℕ) (status : ℕ) (shelf_before shelf_now : List ℕ → ℕ)
+CompilesExactly = (words : List (List ℕ)) (files : Files) (program topology placement : List ℕ) (on_demand : Bool) (p : Program) (t : Topology) (places : List ℕ) (status : ℕ) (shelf_before shelf_now : List ℕ → ℕ)
     (out_before out_now : ℕ) (out_old out_new : Option (List ℕ)) (err_before err_now : ℕ) (err_old err_new : Option (List ℕ))
-    → command_of words ≡ Some (compile program topology placement) → AreSpelled files program topology placement p t places
+    → command_of words ≡ Some (compile program topology placement on_demand) → AreSpelled files program topology placement p t places
     → Answers words (Some files) status shelf_before shelf_now out_before out_now out_old out_new err_before err_now err_old err_new
     → IsFailure status
-    ⊎ (((status ≡ 0) × (Races p → ⊥) × ((text : List ℕ) × IsCompiled files program topology placement text × Appends out_old out_new text))
+    ⊎ (((status ≡ 0) × (Races p → ⊥) × ((text : List ℕ) × IsCompiled files program topology placement on_demand text × Appends out_old out_new text))
     ⊎ ((status ≡ 10) × Races p × Appends out_old out_new []))
 
 -- a packets file was read to its end, and the report of the plain run of its packets went out; or reading stopped at what is

@@ -18,14 +18,15 @@ use Rattle.snap_cli.specs.Headline.{Did, TellsRun}
 use Rattle.snap_cli.specs.ProgramOf.{ProgramOf}
 use Rattle.snap_cli.specs.TablesOf.{TablesOf}
 
--- A call of `compile`, whose program file holds this source, answered 0 and wrote this.
+-- A call of `compile`, whose program file holds this source, answered 0 and wrote this, with `--on-demand` or without.
 pub record IsOutputFor (source output : List ℕ) : Type 0 where
   pub files : Files
   pub program : List ℕ
   pub topology : List ℕ
   pub placement : List ℕ
+  pub on_demand : Bool
   pub holds : file_of files program ≡ source
-  pub did : Did files (compile program topology placement) output
+  pub did : Did files (compile program topology placement on_demand) output
 
 -- the name of the file whose tables are in force for packet i, counted from 0
 abbrev pub file_in_force : (name : List ℕ) → List Change → ℕ → List ℕ
@@ -50,8 +51,8 @@ pub record AreGivenUnder (source : List ℕ → List ℕ) (later : Files) (table
   pub whole : (spelled (programs 0).fields (file_of later packets)).stop ≡ ended
 
 -- The text tells a run of these packets with these changes; and one big switch whose program changes does the same, each packet at
--- the ports of the tables that are in force then. No copy makes more than (groups + 1) times the greatest distance hops, by the groups of
--- the program and the topology that are in force.
+-- the ports of the tables that are in force then. No copy makes more than (groups + 1) times the greatest distance hops, or where the
+-- tables in force are of version 1 (2 groups + 1) times, by the groups of the program and the topology that are in force.
 abbrev pub TellsChangingSwitch : (source : List ℕ → List ℕ) → Files → (tables lines packets : List ℕ) → (hops : Bool) → (text : List ℕ) → Type 0
 TellsChangingSwitch source later tables lines packets hops text =
     (g : AreGivenUnder source later tables lines packets)

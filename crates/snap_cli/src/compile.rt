@@ -1,6 +1,8 @@
 //! The command `compile`: tables that make the network behave as the program says.
 
 ghost use Rattle.std.specs.Prelude.{◌≡◌, ◌≤◌, ℕ, List, IfOk, IfSome, IsErrOf, length};
+ghost use Rattle.snap_build.specs.Whole.{IsWhole};
+ghost use Rattle.snap_core.specs.Laws.{PutsSmall};
 ghost use Rattle.snap_core.specs.Programs.{IsInForm};
 ghost use Rattle.snap_dep.specs.Arities.{IsArityIn};
 ghost use Rattle.snap_dep.specs.Ranks.{IsGrouping, arity_of};
@@ -12,6 +14,7 @@ ghost use Rattle.snap_topo.specs.Form.{IsInForm as IsTopology};
 ghost use Rattle.snap_route.specs.Tables.{AreRoutes};
 ghost use Rattle.snap_words.specs.Commands.{compile};
 ghost use Rattle.snap_cli.specs.Causes.{HasCauses, IsRead, IsReadOf};
+ghost use Rattle.snap_cli.specs.Compile.{AreMade};
 ghost use Rattle.snap_cli.specs.CompileSteps.{Compiles, CompilesFor, CompilesOn, GivesTables, MakesTables, WritesTables};
 ghost use Rattle.snap_cli.specs.Deserved.{Meets};
 ghost use Rattle.snap_cli.specs.PlacementOf.{refusal_of_placement};
@@ -21,11 +24,14 @@ use crate::network::{Network, load_network};
 use crate::program::load_program;
 use crate::refusal::{NoPlacement, Refusal};
 use crate::text::load_text;
+use snap_build::building::Built;
+use snap_core::NoMemory;
 use snap_core::lists::Names;
 use snap_core::program::Program;
 use snap_dep::calls::groups;
 use snap_dep::groups::Groups;
 use snap_io::{Shelf, Sink};
+use snap_make::on_demand::on_demand as tables_on_demand;
 use snap_make::tables::shared_tables;
 use snap_place::placement::{PlaceFault, Placement};
 use snap_tables::fault::PrintFault;
@@ -36,21 +42,22 @@ use std::alloc::Global;
 /// The most bytes of a placement's file.
 pub const MOST_PLACEMENT: u64 = 1_048_576;
 
-/// Writes tables that are faithful to a program, a topology and a placement.
+/// Writes tables that are faithful to a program, a topology and a placement: of version 2, or on demand of version 1.
 pub(crate) fn report<'a, S: Shelf, O: Sink>(
     alloc: Global,
     program: &'a [u8],
     topology: &'a [u8],
     placement: &'a [u8],
+    on_demand: bool,
     shelf: &mut S,
     out: &mut O,
 ) -> Result<(), Refusal<'a>>
     ensures meets { IfSome (S.files shelf.old) (λ files.
-        Meets files (compile program.entry.now topology.entry.now placement.entry.now) result (O.taken out.old) (O.taken out.new)) }
+        Meets files (compile program.entry.now topology.entry.now placement.entry.now on_demand) result (O.taken out.old) (O.taken out.new)) }
     ensures causes { HasCauses (S.faults shelf.old) (S.faults shelf.new) (O.faults out.old) (O.faults out.new) result }
     ensures not_usage { IsErrOf result Refusal.Usage → ⊥ }
 {
-    match load_tables(alloc, program, topology, placement, shelf) {
+    match load_tables(alloc, program, topology, placement, on_demand, shelf) {
         Ok(tables) => write_tables(alloc, &tables, out),
         Err(refusal) => Err(refusal),
     }
@@ -81,15 +88,16 @@ fn load_tables<'a, S: Shelf>(
     program: &'a [u8],
     topology: &'a [u8],
     placement: &'a [u8],
+    on_demand: bool,
     shelf: &mut S,
 ) -> Result<SharedTables, Refusal<'a>>
-    ensures gives { IfSome (S.files shelf.old) (λ files. GivesTables files program.entry.now topology.entry.now placement.entry.now result) }
+    ensures gives { IfSome (S.files shelf.old) (λ files. GivesTables files program.entry.now topology.entry.now placement.entry.now on_demand result) }
     ensures read { (file : List ℕ) → IsReadOf file result → Rose (S.faults shelf.old file) (S.faults shelf.new file) }
     ensures not_write { IsErrOf result Refusal.Write → ⊥ }
     ensures not_usage { IsErrOf result Refusal.Usage → ⊥ }
 {
     match load_program(alloc, shelf, program) {
-        Ok(program) => tables_on(alloc, program, topology, placement, shelf),
+        Ok(program) => tables_on(alloc, program, topology, placement, on_demand, shelf),
         Err(refusal) => Err(refusal),
     }
 }
@@ -100,17 +108,18 @@ fn tables_on<'a, S: Shelf>(
     program: Program,
     topology: &'a [u8],
     placement: &'a [u8],
+    on_demand: bool,
     shelf: &mut S,
 ) -> Result<SharedTables, Refusal<'a>>
     requires { IsInForm program }
-    ensures gives { IfSome (S.files shelf.old) (λ files. CompilesOn files program topology.entry.now placement.entry.now result) }
+    ensures gives { IfSome (S.files shelf.old) (λ files. CompilesOn files program topology.entry.now placement.entry.now on_demand result) }
     ensures read { (file : List ℕ) → IsReadOf file result → Rose (S.faults shelf.old file) (S.faults shelf.new file) }
     ensures not_write { IsErrOf result Refusal.Write → ⊥ }
     ensures not_usage { IsErrOf result Refusal.Usage → ⊥ }
     ensures later { NoneFell (S.faults shelf.old) (S.faults shelf.new) }
 {
     match load_network(alloc, shelf, topology) {
-        Ok(network) => tables_for(alloc, program, &network, placement, shelf),
+        Ok(network) => tables_for(alloc, program, &network, placement, on_demand, shelf),
         Err(refusal) => Err(refusal),
     }
 }
@@ -121,19 +130,20 @@ fn tables_for<'a, S: Shelf>(
     program: Program,
     network: &Network,
     placement: &'a [u8],
+    on_demand: bool,
     shelf: &mut S,
 ) -> Result<SharedTables, Refusal<'a>>
     requires program { IsInForm program }
     requires topology { IsTopology network.now.topology }
     requires routes { AreRoutes network.now.topology network.now.routes }
-    ensures gives { IfSome (S.files shelf.old) (λ files. CompilesFor program network.now.topology placement.entry.now (file_of files placement.entry.now) result) }
+    ensures gives { IfSome (S.files shelf.old) (λ files. CompilesFor program network.now.topology placement.entry.now (file_of files placement.entry.now) on_demand result) }
     ensures read { (file : List ℕ) → IsReadOf file result → Rose (S.faults shelf.old file) (S.faults shelf.new file) }
     ensures not_write { IsErrOf result Refusal.Write → ⊥ }
     ensures not_usage { IsErrOf result Refusal.Usage → ⊥ }
     ensures later { NoneFell (S.faults shelf.old) (S.faults shelf.new) }
 {
     match load_text(alloc, shelf, placement, MOST_PLACEMENT) {
-        Ok(text) => tables_of(alloc, program, network, &text),
+        Ok(text) => tables_of(alloc, program, network, &text, on_demand),
         Err(refusal) => Err(refusal),
     }
 }
@@ -144,18 +154,19 @@ fn tables_of<'a>(
     program: Program,
     network: &Network,
     text: &[u8],
+    on_demand: bool,
 ) -> Result<SharedTables, Refusal<'a>>
     requires program { IsInForm program }
     requires topology { IsTopology network.now.topology }
     requires routes { AreRoutes network.now.topology network.now.routes }
-    ensures compiles { Compiles program network.now.topology text.now result }
+    ensures compiles { Compiles program network.now.topology text.now on_demand result }
     ensures not_read { IsRead result → ⊥ }
     ensures not_write { IsErrOf result Refusal.Write → ⊥ }
     ensures not_usage { IsErrOf result Refusal.Usage → ⊥ }
 {
     let groups = groups(alloc, &program)?;
     match snap_place::read(alloc, text, &program, &groups, &network.topology) {
-        Ok(placement) => make(alloc, &program, &groups, network, &placement),
+        Ok(placement) => make(alloc, &program, &groups, network, &placement, on_demand),
         Err(fault) => Err(refusal_of_placement(program.vars, fault)),
     }
 }
@@ -183,6 +194,7 @@ fn make<'a>(
     groups: &Groups,
     network: &Network,
     placement: &Placement,
+    on_demand: bool,
 ) -> Result<SharedTables, Refusal<'a>>
     requires program { IsInForm program.now }
     requires groups { IsGrouping program.now.body (length program.now.vars) groups.now }
@@ -190,20 +202,40 @@ fn make<'a>(
     requires topology { IsTopology network.now.topology }
     requires routes { AreRoutes network.now.topology network.now.routes }
     requires placement { GivesSwitches program.now network.now.topology placement.now }
-    ensures makes { MakesTables program.now network.now.topology placement.now result }
+    ensures makes { MakesTables program.now network.now.topology placement.now on_demand result }
     ensures not_read { IsRead result → ⊥ }
     ensures not_write { IsErrOf result Refusal.Write → ⊥ }
     ensures not_usage { IsErrOf result Refusal.Usage → ⊥ }
 {
     let built = diagram_of(alloc, program, groups)?;
-    let made = shared_tables(
-        alloc,
-        program,
-        built,
-        groups,
-        &network.topology,
-        placement,
-        &network.routes,
-    )?;
+    let made = tables_from(alloc, program, built, groups, network, placement, on_demand)?;
     Ok(made)
+}
+
+// The tables of a program with this diagram, of the version that is asked for.
+fn tables_from(
+    alloc: Global,
+    program: &Program,
+    built: Built,
+    groups: &Groups,
+    network: &Network,
+    placement: &Placement,
+    on_demand: bool,
+) -> Result<SharedTables, NoMemory>
+    requires form { IsInForm program.now }
+    requires small { PutsSmall program.now.body }
+    requires groups { IsGrouping program.now.body (length program.now.vars) groups.now }
+    requires whole { IsWhole program.now groups.now built.nodes built.root }
+    requires topology { IsTopology network.now.topology }
+    requires routes { AreRoutes network.now.topology network.now.routes }
+    requires placement { GivesSwitches program.now network.now.topology placement.now }
+    ensures { IfOk result (λ t. AreMade program.now network.now.topology placement.now on_demand t) }
+{
+    let topology = &network.topology;
+    let routes = &network.routes;
+    if on_demand {
+        tables_on_demand(alloc, program, built, groups, topology, placement, routes)
+    } else {
+        shared_tables(alloc, program, built, groups, topology, placement, routes)
+    }
 }

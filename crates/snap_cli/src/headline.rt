@@ -25,8 +25,8 @@ use snap_whole::laws::{
 /// **A call of `compile` answered 0, and a call of `trace` with its output as the file of tables answered 0, in any order of
 /// events and with hops or without. Then what the second wrote is the report of a run in that order. Without the hops it is what
 /// one big switch does with the packets in the order in which they take effect, and no copy makes more than (groups + 1) times
-/// the greatest distance hops.** They take effect as they come in, one after another, in turn, by rounds, and by a schedule that
-/// is calm; and by any schedule as they fork where all arrays stand at one switch.
+/// the greatest distance hops, or where `compile` had `--on-demand` (2 groups + 1) times.** They take effect as they come in, one
+/// after another, in turn, by rounds, and by a schedule that is calm; and by any schedule as they fork where the tables are lone.
 pub fn runs_trace_as_one_switch()
     ensures each { TracesInOrder plain }
     ensures schedules { (lines : List ℕ) → TracesInOrder (schedule lines) }
@@ -69,8 +69,9 @@ pub fn schedules_trace_as_one_switch()
     runs_trace_as_one_switch();
 }
 
-/// **And whatever packets overlap, where all arrays stand at one switch,** it writes what one big switch does with the packets in
-/// the order in which they fork, each block at its packet's number. With `--hops` the hops of that run stand there too.
+/// **And whatever packets overlap, where all arrays stand at one switch,** or on demand those that a packet can meet, it writes
+/// what one big switch does with the packets in the order in which they fork, each block at its packet's number. With `--hops` the
+/// hops of that run stand there too.
 pub fn lone_schedules_trace_as_one_switch()
     ensures placed { LonePlacementsTraceInOrder }
     ensures tables { LoneTablesTraceInOrder }
@@ -119,10 +120,11 @@ pub fn rounds_trace_as_one_switch()
 }
 
 /// **The first file of tables and those that the changes name are what calls of `compile` wrote, each for a program file, a
-/// topology and a placement of its own, and a call of `trace --changes` answered 0, with hops or without. Then what it wrote is
-/// the report of a run with these changes. Without the hops it is what one big switch does whose program changes:** each packet is
-/// evaluated by the program in force for it, from the arrays that the packets before left, at the ports of the tables that are in
-/// force. And no copy makes more than (groups + 1) times the greatest distance hops.
+/// topology and a placement of its own, with `--on-demand` or without, and a call of `trace --changes` answered 0, with hops or
+/// without. Then what it wrote is the report of a run with these changes. Without the hops it is what one big switch does whose
+/// program changes:** each packet is evaluated by the program in force for it, from the arrays that the packets before left, at the
+/// ports of the tables that are in force. And no copy makes more than (groups + 1) times the greatest distance hops, or under tables of version 1 (2 groups + 1)
+/// times.
 pub fn upgrades_trace_as_one_switch()
     ensures { UpgradesTraceAsOneSwitch }
 {

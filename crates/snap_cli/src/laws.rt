@@ -69,7 +69,8 @@ pub fn equals_exactly()
 }
 
 /// Where no device failed and memory was there, `compile` of a program, a topology with routes and a placement answers 0 just
-/// where the program never races, with the text of faithful tables written, and 10 just where it races, with nothing written.
+/// where the program never races, with the text of faithful tables written, of version 2 or with `--on-demand` of version 1, and
+/// 10 just where it races, with nothing written.
 pub fn compiles_exactly()
     ensures { CompilesExactly }
 {
@@ -130,10 +131,10 @@ pub fn rounds_exactly()
 }
 
 /// **Where `compile` answered 0, `trace` of its output answers 0 too, or 14 where memory is short, unless a device failed,** if
-/// all lines of the packets file are in form and each packet names a port of the topology: one packet after another, by
-/// rounds, and in the order of each schedule that can be done to an end, in turn or not. With `--changes` so it is where the
-/// changes file is in form, each file of tables that it names is what `compile` wrote for a program declared like the first,
-/// and each packet names a port of the topology that is in force for it.
+/// all lines of the packets file are in form and each packet names a port of the topology: one packet after another, in the
+/// order of each schedule that can be done to an end, and where `compile` had no `--on-demand` in turn and by rounds too. With
+/// `--changes` so it is, with `--on-demand` or without, where the changes file is in form, each file of tables that it names is
+/// what `compile` wrote for a program declared like the first, and each packet names a port of the topology that is in force for it.
 pub fn traces_answer()
     ensures orders { TracesAnswer }
     ensures changes { ChangesAnswer }

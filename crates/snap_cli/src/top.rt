@@ -83,8 +83,9 @@ fn run<'a, R: Threads + Sync, S: Shelf, O: Sink>(
                 program,
                 topology,
                 placement,
+                on_demand,
             },
-        ) => compile::report(alloc, program, topology, placement, shelf, out),
+        ) => compile::report(alloc, program, topology, placement, on_demand, shelf, out),
         Ok(
             Command::Trace {
                 tables,

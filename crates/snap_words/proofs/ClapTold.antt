@@ -10,7 +10,7 @@ use Rattle.clap.specs.Words.{Row, all_of, fault_of, matches_of, rows_of}
 use Rattle.clap.specs.declared.parser.matches.Found.{Found}
 use Rattle.clap.proofs.WalkLemmas.{first_value-rows, one_text-rows}
 use Rattle.snap_words.specs.Clap.{app}
-use Rattle.snap_words.specs.Words.{Flag, Text, Told, Valued, changes_option, checked, flag_text, has_names, hops_flag, nothing, option_text, ordered_flag, schedule_option, told_by, workers_option}
+use Rattle.snap_words.specs.Words.{Flag, Text, Told, Valued, changes_option, checked, flag_text, has_names, hops_flag, nothing, on_demand_flag, option_text, ordered_flag, schedule_option, told_by, workers_option}
 use Rattle.snap_words.proofs.Checked.{tell-read}
 use Rattle.snap_words.proofs.ClapForm.{Has, read}
 use Rattle.snap_words.proofs.Shapes.{AllText}
@@ -76,6 +76,7 @@ same_told u t flags values names = λ i. record { flags = λ f. flags f i; value
 pub record Tells (f : Found) (u : Told) : Type 0 where
   pub hops : TellsFlag f (codes "hops") (u.flags hops_flag)
   pub ordered : TellsFlag f (codes "ordered") (u.flags ordered_flag)
+  pub on_demand : TellsFlag f (codes "on-demand") (u.flags on_demand_flag)
   pub schedule : u.values schedule_option ≡ first_value f (codes "schedule")
   pub changes : u.values changes_option ≡ first_value f (codes "changes")
   pub workers : u.values workers_option ≡ first_value f (codes "workers")
@@ -84,6 +85,7 @@ pub record Tells (f : Found) (u : Told) : Type 0 where
 flags_are : (f : Found) (u t : Told) → Has (rows_of f) t → Tells f u → (g : Flag) → u.flags g ≡ t.flags g
 flags_are f u t has tells hops_flag = flag_told hops_flag f t (u.flags hops_flag) has tells.hops
 flags_are f u t has tells ordered_flag = flag_told ordered_flag f t (u.flags ordered_flag) has tells.ordered
+flags_are f u t has tells on_demand_flag = flag_told on_demand_flag f t (u.flags on_demand_flag) has tells.on_demand
 
 values_are : (f : Found) (u t : Told) → Has (rows_of f) t → Tells f u → (o : Valued) → u.values o ≡ t.values o
 values_are f u t has tells schedule_option = tells.schedule ∙ value_told schedule_option f t has

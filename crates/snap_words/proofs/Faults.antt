@@ -1,5 +1,5 @@
 -- What `clap` finds wrong in words, one word after the other.
-use Rattle.std.proofs.Common.{◌≡◌, ◌∙◌, refl, sym, ap, Bool, true, false, List, [], ◌∷◌, codes, Option, fold}
+use Rattle.std.proofs.Common.{◌≡◌, ◌∙◌, refl, sym, ap, Bool, true, false, cond, List, [], ◌∷◌, codes, Option, fold}
 use Rattle.std.proofs.Math.Bool.{or-true}
 use Rattle.clap.specs.Words.{Row, Text}
 use Rattle.clap.specs.Kinds.{Kinds, or_else}
@@ -9,7 +9,7 @@ use Rattle.clap.specs.declared.parser.matches.ValueSource.TheVariants.{DefaultVa
 use Rattle.clap.specs.declared.error.kind.ErrorKind.{ErrorKind}
 use Rattle.clap.specs.declared.error.kind.ErrorKind.TheVariants.{InvalidValue}
 use Rattle.clap.proofs.OnLiterals.{clap_on_literals}
-use Rattle.snap_words.specs.Words.{Valued, hops_flag, schedule_option, changes_option, workers_option}
+use Rattle.snap_words.specs.Words.{Flag, Valued, flag_text, hops_flag, on_demand_flag, ordered_flag, schedule_option, changes_option, workers_option}
 use Rattle.snap_words.proofs.Turns.{done, flag_built, held, settles, top, waits}
 
 or_else-nil : (k : Kinds) → or_else k [] ≡ k
@@ -41,26 +41,24 @@ pub fault-none : (w : Walk) → fault w [] ≡ ending w.held
 unfolding walk_fault
 fault-none w = refl
 
--- the rows with the first flag's default
-abbrev off : List Row → List Row
-off rows = with_values (codes "hops") (reading_by (flag_built hops_flag)) DefaultValue (codes "false" ∷ []) rows
+-- the rows with a flag's default, where it isn't there
+abbrev off : Flag → Bool → List Row → List Row
+off f there rows = cond there rows (with_values (flag_text f) (reading_by (flag_built f)) DefaultValue (codes "false" ∷ []) rows)
 
-defaults-there : (rows : List Row) (c : Bool) → has_row (codes "hops") rows ≡ true → has_row (codes "ordered") rows ≡ c → defaults_fault rows top.rules ≡ []
+defaults-by : (rows : List Row) (h o d : Bool) → has_row (codes "hops") rows ≡ h → has_row (codes "ordered") (off hops_flag h rows) ≡ o → has_row (codes "on-demand") (off ordered_flag o (off hops_flag h rows)) ≡ d
+    → defaults_fault rows top.rules ≡ []
 unfolding clap_on_literals
-defaults-there rows true hops ordered = simp (hops, ordered, or-true) refl
-defaults-there rows false hops ordered = simp (hops, ordered, or-true) refl
-
-defaults-missing : (rows : List Row) (c : Bool) → has_row (codes "hops") rows ≡ false → has_row (codes "ordered") (off rows) ≡ c → defaults_fault rows top.rules ≡ []
-unfolding clap_on_literals
-defaults-missing rows true hops ordered = simp (hops, ordered, or-true) refl
-defaults-missing rows false hops ordered = simp (hops, ordered, or-true) refl
-
-defaults-by : (rows : List Row) (b : Bool) → has_row (codes "hops") rows ≡ b → defaults_fault rows top.rules ≡ []
-defaults-by rows true hops = defaults-there rows _ hops refl
-defaults-by rows false hops = defaults-missing rows _ hops refl
+defaults-by rows true true true hops ordered on_demand = simp (hops, ordered, on_demand, or-true) refl
+defaults-by rows true true false hops ordered on_demand = simp (hops, ordered, on_demand, or-true) refl
+defaults-by rows true false true hops ordered on_demand = simp (hops, ordered, on_demand, or-true) refl
+defaults-by rows true false false hops ordered on_demand = simp (hops, ordered, on_demand, or-true) refl
+defaults-by rows false true true hops ordered on_demand = simp (hops, ordered, on_demand, or-true) refl
+defaults-by rows false true false hops ordered on_demand = simp (hops, ordered, on_demand, or-true) refl
+defaults-by rows false false true hops ordered on_demand = simp (hops, ordered, on_demand, or-true) refl
+defaults-by rows false false false hops ordered on_demand = simp (hops, ordered, on_demand, or-true) refl
 
 pub ends : (r : List Row) (q : Option (Text × List Text)) → ending (held r q) ≡ settles r q
-ends r q = ap (λ k. or_else (settles r q) (or_else k [])) (defaults-by (done r q) _ refl) ∙ or_else-nil (settles r q)
+ends r q = ap (λ k. or_else (settles r q) (or_else k [])) (defaults-by (done r q) _ _ _ refl refl refl) ∙ or_else-nil (settles r q)
 
 pub waits-ends : (o : Valued) (r : List Row) (t : Bool) → ending (waits o r t).held ≡ InvalidValue ∷ []
 unfolding clap_on_literals

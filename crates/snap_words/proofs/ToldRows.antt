@@ -5,7 +5,7 @@ use Rattle.std.proofs.lemmas.Slice.Eq.{bytes_eq-Decides}
 use Rattle.clap.specs.Words.{Row, Text}
 use Rattle.clap.specs.Walk.{all_of, finished, has_row, one_of, reading_by, with_default, with_values}
 use Rattle.clap.specs.declared.parser.matches.ValueSource.TheVariants.{CommandLine, DefaultValue}
-use Rattle.snap_words.specs.Words.{Flag, Told, Valued, flag_text, flagged, hops_flag, is_same_flag, is_same_option, nothing, option_text, ordered_flag, schedule_option, changes_option, workers_option, valued, with_names}
+use Rattle.snap_words.specs.Words.{Flag, Told, Valued, flag_text, flagged, hops_flag, is_same_flag, is_same_option, nothing, on_demand_flag, option_text, ordered_flag, schedule_option, changes_option, workers_option, valued, with_names}
 use Rattle.snap_words.proofs.ClapForm.{Has}
 use Rattle.snap_words.proofs.Rows.{all_of-other, all_of-same, has_row-all_of, one_of-other, one_of-same, without-absent}
 use Rattle.snap_words.proofs.Turns.{done, flag_built, flag_used, held, name_built, name_id, name_used, option_built, option_used, top}
@@ -14,8 +14,13 @@ use Rattle.snap_words.proofs.Turns.{done, flag_built, flag_used, held, name_buil
 flags_apart : (f g : Flag) → bytes_eq (flag_text f) (flag_text g) ≡ is_same_flag f g
 flags_apart hops_flag hops_flag = refl
 flags_apart hops_flag ordered_flag = refl
+flags_apart hops_flag on_demand_flag = refl
 flags_apart ordered_flag hops_flag = refl
 flags_apart ordered_flag ordered_flag = refl
+flags_apart ordered_flag on_demand_flag = refl
+flags_apart on_demand_flag hops_flag = refl
+flags_apart on_demand_flag ordered_flag = refl
+flags_apart on_demand_flag on_demand_flag = refl
 
 options_apart : (o p : Valued) → bytes_eq (option_text o) (option_text p) ≡ is_same_option o p
 options_apart schedule_option schedule_option = refl
@@ -35,18 +40,25 @@ flag_not_option hops_flag workers_option = refl
 flag_not_option ordered_flag schedule_option = refl
 flag_not_option ordered_flag changes_option = refl
 flag_not_option ordered_flag workers_option = refl
+flag_not_option on_demand_flag schedule_option = refl
+flag_not_option on_demand_flag changes_option = refl
+flag_not_option on_demand_flag workers_option = refl
 
 option_not_flag : (o : Valued) (f : Flag) → bytes_eq (option_text o) (flag_text f) ≡ false
 option_not_flag schedule_option hops_flag = refl
 option_not_flag schedule_option ordered_flag = refl
+option_not_flag schedule_option on_demand_flag = refl
 option_not_flag changes_option hops_flag = refl
 option_not_flag changes_option ordered_flag = refl
+option_not_flag changes_option on_demand_flag = refl
 option_not_flag workers_option hops_flag = refl
 option_not_flag workers_option ordered_flag = refl
+option_not_flag workers_option on_demand_flag = refl
 
 flag_not_name : (f : Flag) → bytes_eq (flag_text f) name_id ≡ false
 flag_not_name hops_flag = refl
 flag_not_name ordered_flag = refl
+flag_not_name on_demand_flag = refl
 
 option_not_name : (o : Valued) → bytes_eq (option_text o) name_id ≡ false
 option_not_name schedule_option = refl
@@ -56,6 +68,7 @@ option_not_name workers_option = refl
 name_not_flag : (f : Flag) → bytes_eq name_id (flag_text f) ≡ false
 name_not_flag hops_flag = refl
 name_not_flag ordered_flag = refl
+name_not_flag on_demand_flag = refl
 
 name_not_option : (o : Valued) → bytes_eq name_id (option_text o) ≡ false
 name_not_option schedule_option = refl
@@ -191,28 +204,39 @@ unchanged : (b : Bool) (r : List Row) → cond b r r ≡ r
 unchanged true r = refl
 unchanged false r = refl
 
+-- the rows with the defaults of the first two flags, and of all
 abbrev both : List Row → List Row
 both r = defaulted ordered_flag (defaulted hops_flag r)
 
+abbrev whole : List Row → List Row
+whole r = defaulted on_demand_flag (both r)
+
 -- only flags have a default
-only_flags : (r : List Row) → fold with_default r top.rules ≡ both r
-only_flags r = rw (unchanged (has_row (codes "schedule") (both r)) (both r), unchanged (has_row (codes "changes") (both r)) (both r), unchanged (has_row (codes "workers") (both r)) (both r), unchanged (has_row name_id (both r)) (both r)) refl
+only_flags : (r : List Row) → fold with_default r top.rules ≡ whole r
+only_flags r = rw (unchanged (has_row (codes "schedule") (whole r)) (whole r), unchanged (has_row (codes "changes") (whole r)) (whole r), unchanged (has_row (codes "workers") (whole r)) (whole r), unchanged (has_row name_id (whole r)) (whole r)) refl
 
 module _ (r : List Row) (t : Told) (s : Sim r t) where
-  flags_both : (f : Flag) → one_of (flag_text f) (both r) ≡ Some (cond (t.flags f) (codes "true") (codes "false"))
-  flags_both hops_flag = one_elsewhere ordered_flag (defaulted hops_flag r) (flag_text hops_flag) refl ∙ here hops_flag r (t.flags hops_flag) (s.flags_are hops_flag) (s.used_are hops_flag)
-  flags_both ordered_flag = here ordered_flag (defaulted hops_flag r) (t.flags ordered_flag) (one_elsewhere hops_flag r (flag_text ordered_flag) refl ∙ s.flags_are ordered_flag)
-      (ap is_some (all_elsewhere hops_flag r (flag_text ordered_flag) refl) ∙ s.used_are ordered_flag)
+  all_in_both : (id : Text) → bytes_eq (flag_text ordered_flag) id ≡ false → bytes_eq (flag_text hops_flag) id ≡ false → all_of id (both r) ≡ all_of id r
+  all_in_both id ordered hops = all_elsewhere ordered_flag (defaulted hops_flag r) id ordered ∙ all_elsewhere hops_flag r id hops
 
-  elsewhere : (id : Text) → bytes_eq (flag_text ordered_flag) id ≡ false → bytes_eq (flag_text hops_flag) id ≡ false → all_of id (both r) ≡ all_of id r
-  elsewhere id ordered hops = all_elsewhere ordered_flag (defaulted hops_flag r) id ordered ∙ all_elsewhere hops_flag r id hops
+  one_in_both : (id : Text) → bytes_eq (flag_text ordered_flag) id ≡ false → bytes_eq (flag_text hops_flag) id ≡ false → one_of id (both r) ≡ one_of id r
+  one_in_both id ordered hops = one_elsewhere ordered_flag (defaulted hops_flag r) id ordered ∙ one_elsewhere hops_flag r id hops
 
-  has-both : Has (both r) t
-  has-both = record {
-    flags_are = flags_both;
-    values_are = λ o. elsewhere (option_text o) (flag_not_option ordered_flag o) (flag_not_option hops_flag o) ∙ s.values_are o;
-    names_is = ap (λ o. unwrap_or o []) (elsewhere name_id refl refl) ∙ s.names_is;
+  flags_whole : (f : Flag) → one_of (flag_text f) (whole r) ≡ Some (cond (t.flags f) (codes "true") (codes "false"))
+  flags_whole hops_flag = one_elsewhere on_demand_flag (both r) (flag_text hops_flag) refl ∙ one_elsewhere ordered_flag (defaulted hops_flag r) (flag_text hops_flag) refl ∙ here hops_flag r (t.flags hops_flag) (s.flags_are hops_flag) (s.used_are hops_flag)
+  flags_whole ordered_flag = one_elsewhere on_demand_flag (both r) (flag_text ordered_flag) refl
+      ∙ here ordered_flag (defaulted hops_flag r) (t.flags ordered_flag) (one_elsewhere hops_flag r (flag_text ordered_flag) refl ∙ s.flags_are ordered_flag) (ap is_some (all_elsewhere hops_flag r (flag_text ordered_flag) refl) ∙ s.used_are ordered_flag)
+  flags_whole on_demand_flag = here on_demand_flag (both r) (t.flags on_demand_flag) (one_in_both (flag_text on_demand_flag) refl refl ∙ s.flags_are on_demand_flag) (ap is_some (all_in_both (flag_text on_demand_flag) refl refl) ∙ s.used_are on_demand_flag)
+
+  elsewhere : (id : Text) → bytes_eq (flag_text on_demand_flag) id ≡ false → bytes_eq (flag_text ordered_flag) id ≡ false → bytes_eq (flag_text hops_flag) id ≡ false → all_of id (whole r) ≡ all_of id r
+  elsewhere id on_demand ordered hops = all_elsewhere on_demand_flag (both r) id on_demand ∙ all_in_both id ordered hops
+
+  has-whole : Has (whole r) t
+  has-whole = record {
+    flags_are = flags_whole;
+    values_are = λ o. elsewhere (option_text o) (flag_not_option on_demand_flag o) (flag_not_option ordered_flag o) (flag_not_option hops_flag o) ∙ s.values_are o;
+    names_is = ap (λ o. unwrap_or o []) (elsewhere name_id refl refl refl) ∙ s.names_is;
   }
 
 pub has-final : (r : List Row) (q : Option (Text × List Text)) (t : Told) → Sim (done r q) t → Has (finished top.rules (held r q)) t
-has-final r q t s = let P : List Row → Type 0 = λ x. Has x t in subst P (sym (only_flags (done r q))) (has-both (done r q) t s)
+has-final r q t s = let P : List Row → Type 0 = λ x. Has x t in subst P (sym (only_flags (done r q))) (has-whole (done r q) t s)

@@ -14,7 +14,7 @@ use Rattle.clap.specs.declared.parser.matches.ValueSource.TheVariants.{CommandLi
 use Rattle.clap.specs.declared.error.kind.ErrorKind.TheVariants.{ArgumentConflict, InvalidValue, UnknownArgument, TooManyValues}
 use Rattle.clap.proofs.OnLiterals.{clap_on_literals}
 use Rattle.snap_words.specs.Clap.{app, flag_rule, name_rule, option_rule}
-use Rattle.snap_words.specs.Words.{Flag, Valued, flag_text, hops_flag, ordered_flag, option_text, schedule_option, changes_option, workers_option}
+use Rattle.snap_words.specs.Words.{Flag, Valued, flag_text, hops_flag, on_demand_flag, ordered_flag, option_text, schedule_option, changes_option, workers_option}
 
 abbrev pub top : Shape
 top = (built app).top
@@ -68,6 +68,7 @@ twice b = cond b (ArgumentConflict ∷ []) []
 pub record IsUnknown (name : Text) : Type 0 where
   pub no_hops : bytes_eq (codes "hops") name ≡ false
   pub no_ordered : bytes_eq (codes "ordered") name ≡ false
+  pub no_on_demand : bytes_eq (codes "on-demand") name ≡ false
   pub no_schedule : bytes_eq (codes "schedule") name ≡ false
   pub no_changes : bytes_eq (codes "changes") name ≡ false
   pub no_workers : bytes_eq (codes "workers") name ≡ false
@@ -83,6 +84,10 @@ module _ (r : List Row) (q : Option (Text × List Text)) (w : Text) (single : by
   flag_turn ordered_flag true false long has = rw (single, long, has) refl
   flag_turn ordered_flag false true long has = rw (single, long, has) refl
   flag_turn ordered_flag false false long has = rw (single, long, has) refl
+  flag_turn on_demand_flag true true long has = rw (single, long, has) refl
+  flag_turn on_demand_flag true false long has = rw (single, long, has) refl
+  flag_turn on_demand_flag false true long has = rw (single, long, has) refl
+  flag_turn on_demand_flag false false long has = rw (single, long, has) refl
 
   pub flag_moves : (f : Flag) (p : Bool) → long_of w ≡ Some (flag_text f, None) → walked top.rules [] (at (held r q) p false) w ≡ at (held (flag_used f (done r q)) None) false false
   unfolding clap_on_literals
@@ -90,6 +95,8 @@ module _ (r : List Row) (q : Option (Text × List Text)) (w : Text) (single : by
   flag_moves hops_flag false long = rw (single, long) refl
   flag_moves ordered_flag true long = rw (single, long) refl
   flag_moves ordered_flag false long = rw (single, long) refl
+  flag_moves on_demand_flag true long = rw (single, long) refl
+  flag_moves on_demand_flag false long = rw (single, long) refl
 
   pub flag_valued : (f : Flag) (p : Bool) (v : Text) → long_of w ≡ Some (flag_text f, Some v) → turn_fault top [] (at (held r q) p false) w ≡ TooManyValues ∷ []
   unfolding clap_on_literals
@@ -97,6 +104,8 @@ module _ (r : List Row) (q : Option (Text × List Text)) (w : Text) (single : by
   flag_valued hops_flag false v long = rw (single, long) refl
   flag_valued ordered_flag true v long = rw (single, long) refl
   flag_valued ordered_flag false v long = rw (single, long) refl
+  flag_valued on_demand_flag true v long = rw (single, long) refl
+  flag_valued on_demand_flag false v long = rw (single, long) refl
 
   pub wait_turn : (o : Valued) (p : Bool) → long_of w ≡ Some (option_text o, None) → turn_fault top [] (at (held r q) p false) w ≡ or_else (settles r q) []
   unfolding clap_on_literals
@@ -142,8 +151,8 @@ module _ (r : List Row) (q : Option (Text × List Text)) (w : Text) (single : by
 
   pub long_turn : (p : Bool) (name : Text) (v : Option Text) → long_of w ≡ Some (name, v) → IsUnknown name → turn_fault top [] (at (held r q) p false) w ≡ UnknownArgument ∷ []
   unfolding clap_on_literals
-  long_turn true name v long u = rw (single, long, u.no_hops, u.no_ordered, u.no_schedule, u.no_changes, u.no_workers) refl
-  long_turn false name v long u = rw (single, long, u.no_hops, u.no_ordered, u.no_schedule, u.no_changes, u.no_workers) refl
+  long_turn true name v long u = rw (single, long, u.no_hops, u.no_ordered, u.no_on_demand, u.no_schedule, u.no_changes, u.no_workers) refl
+  long_turn false name v long u = rw (single, long, u.no_hops, u.no_ordered, u.no_on_demand, u.no_schedule, u.no_changes, u.no_workers) refl
 
   pub short_turn : (p : Bool) (y : ℕ) (ys : Text) (c : ℕ) → long_of w ≡ None → short_of w ≡ Some (y ∷ ys) → slice_get (chars (y ∷ ys)) 0 ≡ Some c → turn_fault top [] (at (held r q) p false) w ≡ UnknownArgument ∷ []
   unfolding walked bundle_met encode_utf8 flags_pass walk_passes flags_fault walk_fault defaults_fault
@@ -241,19 +250,25 @@ module _ (r : List Row) (w : Text) (single : bytes_eq w (codes "--") ≡ false) 
   unfolding clap_on_literals
   wait_flag schedule_option hops_flag long = rw (single, long) refl
   wait_flag schedule_option ordered_flag long = rw (single, long) refl
+  wait_flag schedule_option on_demand_flag long = rw (single, long) refl
   wait_flag changes_option hops_flag long = rw (single, long) refl
   wait_flag changes_option ordered_flag long = rw (single, long) refl
+  wait_flag changes_option on_demand_flag long = rw (single, long) refl
   wait_flag workers_option hops_flag long = rw (single, long) refl
   wait_flag workers_option ordered_flag long = rw (single, long) refl
+  wait_flag workers_option on_demand_flag long = rw (single, long) refl
 
   pub wait_flag_valued : (o : Valued) (f : Flag) (v : Text) → long_of w ≡ Some (flag_text f, Some v) → turn_fault top [] (waits o r false) w ≡ TooManyValues ∷ []
   unfolding clap_on_literals
   wait_flag_valued schedule_option hops_flag v long = rw (single, long) refl
   wait_flag_valued schedule_option ordered_flag v long = rw (single, long) refl
+  wait_flag_valued schedule_option on_demand_flag v long = rw (single, long) refl
   wait_flag_valued changes_option hops_flag v long = rw (single, long) refl
   wait_flag_valued changes_option ordered_flag v long = rw (single, long) refl
+  wait_flag_valued changes_option on_demand_flag v long = rw (single, long) refl
   wait_flag_valued workers_option hops_flag v long = rw (single, long) refl
   wait_flag_valued workers_option ordered_flag v long = rw (single, long) refl
+  wait_flag_valued workers_option on_demand_flag v long = rw (single, long) refl
 
   pub wait_option : (o p : Valued) → long_of w ≡ Some (option_text p, None) → turn_fault top [] (waits o r false) w ≡ InvalidValue ∷ []
   unfolding clap_on_literals
@@ -281,9 +296,9 @@ module _ (r : List Row) (w : Text) (single : bytes_eq w (codes "--") ≡ false) 
 
   pub wait_long : (o : Valued) (name : Text) (v : Option Text) → long_of w ≡ Some (name, v) → IsUnknown name → turn_fault top [] (waits o r false) w ≡ UnknownArgument ∷ []
   unfolding clap_on_literals
-  wait_long schedule_option name v long u = rw (single, long, u.no_hops, u.no_ordered, u.no_schedule, u.no_changes, u.no_workers) refl
-  wait_long changes_option name v long u = rw (single, long, u.no_hops, u.no_ordered, u.no_schedule, u.no_changes, u.no_workers) refl
-  wait_long workers_option name v long u = rw (single, long, u.no_hops, u.no_ordered, u.no_schedule, u.no_changes, u.no_workers) refl
+  wait_long schedule_option name v long u = rw (single, long, u.no_hops, u.no_ordered, u.no_on_demand, u.no_schedule, u.no_changes, u.no_workers) refl
+  wait_long changes_option name v long u = rw (single, long, u.no_hops, u.no_ordered, u.no_on_demand, u.no_schedule, u.no_changes, u.no_workers) refl
+  wait_long workers_option name v long u = rw (single, long, u.no_hops, u.no_ordered, u.no_on_demand, u.no_schedule, u.no_changes, u.no_workers) refl
 
   pub wait_short : (o : Valued) (y : ℕ) (ys : Text) (c : ℕ) → long_of w ≡ None → short_of w ≡ Some (y ∷ ys) → slice_get (chars (y ∷ ys)) 0 ≡ Some c → turn_fault top [] (waits o r false) w ≡ UnknownArgument ∷ []
   unfolding walked bundle_met encode_utf8 flags_pass walk_passes flags_fault walk_fault defaults_fault

@@ -18,7 +18,7 @@ abbrev pub bare : App
 bare = let a = new_app (codes "snapc") in record a { top = record a.top { no_binary_name = true; disable_help_flag = true } }
 
 abbrev pub with_flags : App
-with_flags = with_rule (with_rule bare (flag_rule (codes "hops"))) (flag_rule (codes "ordered"))
+with_flags = with_rule (with_rule (with_rule bare (flag_rule (codes "hops"))) (flag_rule (codes "ordered"))) (flag_rule (codes "on-demand"))
 
 abbrev pub with_options : App
 with_options = with_rule (with_rule (with_rule with_flags (option_rule (codes "schedule"))) (option_rule (codes "changes"))) (option_rule (codes "workers"))

@@ -3,7 +3,7 @@ use Rattle.std.specs.Prelude.{ℕ, ◌||◌, Bool, true, false, List, [], ◌∷
 use Rattle.std.specs.List.{list_all}
 use Rattle.std.specs.Str.{bytes_eq, is_utf8}
 use Rattle.snap_words.specs.Counts.{count_of}
-use Rattle.snap_words.specs.Words.{Text, Told, hops_flag, ordered_flag, schedule_option, changes_option, workers_option, told_by}
+use Rattle.snap_words.specs.Words.{Text, Told, hops_flag, on_demand_flag, ordered_flag, schedule_option, changes_option, workers_option, told_by}
 
 -- in which order `trace` runs packets: one after the other, by the lines of a file, or one after the other between changes of
 -- tables by the lines of a file; or each rank's packets in their turn, one after the other, by the lines of a file, or by rounds that
@@ -23,13 +23,17 @@ pub data Command : Type 0 where
   equal : Text → Text → Command
   routes : Text → Command
   place : Text → Text → Text → Command
-  compile : Text → Text → Text → Command
+  compile : Text → Text → Text → (on_demand : Bool) → Command
   trace : Text → Text → (hops : Bool) → Order → Command
   demo : (switches : ℕ) → Command
 
+-- an option of `trace` was there
+abbrev pub has_trace_options : Told → Bool
+has_trace_options t = t.flags hops_flag || t.flags ordered_flag || is_some (t.values schedule_option) || is_some (t.values changes_option) || is_some (t.values workers_option)
+
 -- an option was there
 abbrev pub has_options : Told → Bool
-has_options t = t.flags hops_flag || t.flags ordered_flag || is_some (t.values schedule_option) || is_some (t.values changes_option) || is_some (t.values workers_option)
+has_options t = t.flags on_demand_flag || has_trace_options t
 
 -- the names of a command that has no options
 abbrev pub names_alone : Told → Option (List Text)
@@ -69,7 +73,6 @@ plain_command first names =
     else if bytes_eq first (codes "equal") then with_two equal names
     else if bytes_eq first (codes "routes") then with_one routes names
     else if bytes_eq first (codes "place") then with_three place names
-    else if bytes_eq first (codes "compile") then with_three compile names
     else if bytes_eq first (codes "demo") then demo_for names
     else None
 
@@ -86,12 +89,20 @@ abbrev pub order_of : Told → Option Order
 order_of t = order_by (t.flags ordered_flag) (t.values schedule_option) (t.values changes_option) (t.values workers_option)
 
 abbrev pub trace_for : Told → Option Command
-trace_for t = option_and_then (λ order. with_two (λ tables packets. trace tables packets (t.flags hops_flag) order) t.names) (order_of t)
+trace_for t =
+    if t.flags on_demand_flag then None
+    else option_and_then (λ order. with_two (λ tables packets. trace tables packets (t.flags hops_flag) order) t.names) (order_of t)
 
--- the command of a first word and of what the others say; options are of `trace` alone
+abbrev pub compile_for : Told → Option Command
+compile_for t =
+    if has_trace_options t then None
+    else with_three (λ program topology placement. compile program topology placement (t.flags on_demand_flag)) t.names
+
+-- the command of a first word and of what the others say; options are of `trace` and `compile` alone
 abbrev pub command_for : Text → Told → Option Command
 command_for first t =
     if bytes_eq first (codes "trace") then trace_for t
+    else if bytes_eq first (codes "compile") then compile_for t
     else option_and_then (plain_command first) (names_alone t)
 
 -- the command that texts name

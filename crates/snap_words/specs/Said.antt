@@ -5,7 +5,7 @@ use Rattle.std.specs.Borrow.{Bor}
 use Rattle.std.specs.declared.vec.Vec.{Vec}
 use Rattle.std.specs.Global.{Global}
 use Rattle.snap_words.specs.Commands.{Command, Order, plain, schedule, changes, in_turn, rounds, check, compile, demo, deps, equal, obs, routes, place, trace}
-use Rattle.snap_words.specs.Words.{Flag, Text, Told, Valued, hops_flag, ordered_flag, schedule_option, changes_option, workers_option}
+use Rattle.snap_words.specs.Words.{Flag, Text, Told, Valued, hops_flag, on_demand_flag, ordered_flag, schedule_option, changes_option, workers_option}
 use Rattle.snap_words.specs.declared.command.Command.{Command as Given}
 use Rattle.snap_words.specs.declared.command.Command.TheVariants as given
 use Rattle.snap_words.specs.declared.command.Order.{Order as GivenOrder}
@@ -42,6 +42,7 @@ said_among words t = are_among words t.names && has_values_among words t
 abbrev pub flags_of : Taken → Flag → Bool
 flags_of t hops_flag = t.hops
 flags_of t ordered_flag = t.ordered
+flags_of t on_demand_flag = t.on_demand
 
 abbrev pub values_of : Taken → Valued → Option Text
 values_of t schedule_option = option_map (λ s. s.now) t.schedule
@@ -67,6 +68,6 @@ shown (given.Check program) = check program.now
 shown (given.Equal left right) = equal left.now right.now
 shown (given.Routes topology) = routes topology.now
 shown (given.Place program topology demand) = place program.now topology.now demand.now
-shown (given.Compile program topology placement) = compile program.now topology.now placement.now
+shown (given.Compile program topology placement on_demand) = compile program.now topology.now placement.now on_demand
 shown (given.Trace tables packets hops order) = trace tables.now packets.now hops (shown_order order)
 shown (given.Demo switches) = demo switches.value

@@ -12,6 +12,7 @@ Text = List ℕ
 pub data Flag : Type 0 where
   hops_flag : Flag
   ordered_flag : Flag
+  on_demand_flag : Flag
 
 -- those with a value
 pub data Valued : Type 0 where
@@ -22,6 +23,7 @@ pub data Valued : Type 0 where
 abbrev pub flag_text : Flag → Text
 flag_text hops_flag = codes "hops"
 flag_text ordered_flag = codes "ordered"
+flag_text on_demand_flag = codes "on-demand"
 
 abbrev pub option_text : Valued → Text
 option_text schedule_option = codes "schedule"
@@ -33,6 +35,7 @@ abbrev pub flag_named : Text → Option Flag
 flag_named name =
     if bytes_eq (codes "hops") name then Some hops_flag
     else if bytes_eq (codes "ordered") name then Some ordered_flag
+    else if bytes_eq (codes "on-demand") name then Some on_demand_flag
     else None
 
 abbrev pub option_named : Text → Option Valued
@@ -45,6 +48,7 @@ option_named name =
 abbrev pub is_same_flag : Flag → Flag → Bool
 is_same_flag hops_flag hops_flag = true
 is_same_flag ordered_flag ordered_flag = true
+is_same_flag on_demand_flag on_demand_flag = true
 is_same_flag f g = false
 
 abbrev pub is_same_option : Valued → Valued → Bool

@@ -3,7 +3,7 @@
 ghost use Rattle.std.specs.Prelude.{◌≡◌, ◌==◌, ◌-◌, IfErr, IfOk, IsTrue, None, Some, drop, false, length, option_map};
 ghost use Rattle.std.specs.List.{ends_with, list_all};
 ghost use Rattle.std.specs.Str.{is_utf8};
-ghost use Rattle.snap_words.specs.Commands.{check, command_for, command_of, compile, demo_for, deps, equal, has_options, names_alone, obs, order_of, place, plain_command, rounds, routes, trace_for, with_one, with_three, with_two};
+ghost use Rattle.snap_words.specs.Commands.{check, command_for, command_of, compile_for, demo_for, deps, equal, has_options, has_trace_options, names_alone, obs, order_of, place, plain_command, rounds, routes, trace_for, with_one, with_three, with_two};
 ghost use Rattle.snap_words.specs.Counts.{count_of};
 ghost use Rattle.snap_words.specs.Said.{are_among, bytes_of, has_values_among, is_among, lent, said, said_among, shown, shown_order};
 
@@ -57,13 +57,14 @@ fn text(word: &[u8]) -> Result<&str, WordsFault>
     }
 }
 
-/// The command of a first word and of what the others say. Options are of `trace` alone.
+/// The command of a first word and of what the others say. Options are of `trace` and `compile` alone.
 fn command_for<'a>(words: &'a [Vec<u8>], first: &str, told: &Told) -> Option<Command<'a>>
     requires { IsTrue (said_among (bytes_of words.now) (said told.now)) }
     ensures { option_map shown result ≡ command_for first.now (said told.now) }
 {
     match first {
         "trace" => trace(words, told),
+        "compile" => compile(words, told),
         _ => plain_command(words, first, names_alone(told)?),
     }
 }
@@ -80,7 +81,6 @@ fn plain_command<'a>(words: &'a [Vec<u8>], first: &str, names: &[&str]) -> Optio
         "equal" => equal(words, names),
         "routes" => routes(words, names),
         "place" => place(words, names),
-        "compile" => compile(words, names),
         "demo" => demo(names),
         _ => None,
     }
@@ -100,6 +100,13 @@ fn names_alone<'t>(told: &'t Told) -> Option<&'t [&'t str]>
 /// Whether an option was there.
 fn has_options(told: &Told) -> bool
     ensures { result ≡ has_options (said told.now) }
+{
+    told.on_demand || has_trace_options(told)
+}
+
+/// Whether an option of `trace` was there.
+fn has_trace_options(told: &Told) -> bool
+    ensures { result ≡ has_trace_options (said told.now) }
 {
     told.hops
         || told.ordered
@@ -184,20 +191,6 @@ fn place<'a>(words: &'a [Vec<u8>], names: &[&str]) -> Option<Command<'a>>
     }
 }
 
-fn compile<'a>(words: &'a [Vec<u8>], names: &[&str]) -> Option<Command<'a>>
-    requires { IsTrue (are_among (bytes_of words.now) (lent names.now)) }
-    ensures { option_map shown result ≡ with_three compile (lent names.now) }
-{
-    match names {
-        [program, topology, placement] => Some(Command::Compile {
-            program: word(words, program),
-            topology: word(words, topology),
-            placement: word(words, placement),
-        }),
-        _ => None,
-    }
-}
-
 fn demo<'a>(names: &[&str]) -> Option<Command<'a>>
     ensures { option_map shown result ≡ demo_for (lent names.now) }
 {
@@ -209,10 +202,31 @@ fn demo<'a>(names: &[&str]) -> Option<Command<'a>>
     }
 }
 
+fn compile<'a>(words: &'a [Vec<u8>], told: &Told) -> Option<Command<'a>>
+    requires { IsTrue (said_among (bytes_of words.now) (said told.now)) }
+    ensures { option_map shown result ≡ compile_for (said told.now) }
+{
+    if has_trace_options(told) {
+        return None;
+    }
+    match told.names.as_slice() {
+        [program, topology, placement] => Some(Command::Compile {
+            program: word(words, program),
+            topology: word(words, topology),
+            placement: word(words, placement),
+            on_demand: told.on_demand,
+        }),
+        _ => None,
+    }
+}
+
 fn trace<'a>(words: &'a [Vec<u8>], told: &Told) -> Option<Command<'a>>
     requires { IsTrue (said_among (bytes_of words.now) (said told.now)) }
     ensures { option_map shown result ≡ trace_for (said told.now) }
 {
+    if told.on_demand {
+        return None;
+    }
     let order = order(words, told)?;
     match told.names.as_slice() {
         [tables, packets] => Some(Command::Trace {

@@ -48,11 +48,13 @@ pub enum Command<'a> {
         topology: &'a [u8],
         demand: &'a [u8],
     },
-    /// The tables of a program: a program, a topology and a placement.
+    /// The tables of a program: a program, a topology and a placement, and whether a packet goes only where its
+    /// program needs it (`--on-demand`).
     Compile {
         program: &'a [u8],
         topology: &'a [u8],
         placement: &'a [u8],
+        on_demand: bool,
     },
     /// The report of the network that runs tables: tables and packets, whether each hop is told (`--hops`), and
     /// the order of the run.

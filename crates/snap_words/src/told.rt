@@ -20,6 +20,8 @@ pub struct Told<'a> {
     pub hops: bool,
     /// `--ordered` was there.
     pub ordered: bool,
+    /// `--on-demand` was there.
+    pub on_demand: bool,
     /// The file of `--schedule`.
     pub schedule: Option<&'a str>,
     /// The file of `--changes`.
@@ -41,6 +43,7 @@ pub fn read<'a>(alloc: Global, words: &'a [&'a str]) -> Result<Told<'a>, WordsFa
     let told = Told {
         hops: matches.get_flag("hops"),
         ordered: matches.get_flag("ordered"),
+        on_demand: matches.get_flag("on-demand"),
         schedule: matches.get_str("schedule"),
         changes: matches.get_str("changes"),
         workers: matches.get_str("workers"),
@@ -91,7 +94,8 @@ fn with_flags<'a>(alloc: Global) -> Result<Command<'a>, AllocError>
         .no_binary_name(true)
         .disable_help_flag(true)
         .arg(flag(alloc, "hops"))?
-        .arg(flag(alloc, "ordered"))
+        .arg(flag(alloc, "ordered"))?
+        .arg(flag(alloc, "on-demand"))
 }
 
 /// An option without a value.

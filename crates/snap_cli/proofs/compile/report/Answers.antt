@@ -3,9 +3,9 @@ use Rattle.snap_cli.proofs.compile.report.Goals as goal
 
 pub returns-in-Ok-clause-meets : goal.returns-in-Ok-clause-meets
 returns-in-Ok-clause-meets g c =
-    told-written (g.S.Shelf.files c.args.shelf.now) c.args.program.now c.args.topology.now c.args.placement.now (g.O.Sink.taken c.args.out.now) (g.O.Sink.taken c.write_tables.new.out) c.in-Ok.tables c.write_tables.result
+    told-written (g.S.Shelf.files c.args.shelf.now) c.args.program.now c.args.topology.now c.args.placement.now c.args.on_demand (g.O.Sink.taken c.args.out.now) (g.O.Sink.taken c.write_tables.new.out) c.in-Ok.tables c.write_tables.result
     c.in-Ok.ensures.gives c.write_tables.ensures.back c.write_tables.ensures.writes
 
 pub returns-in-Err-clause-meets : goal.returns-in-Err-clause-meets
 returns-in-Err-clause-meets g c =
-    told-refused (g.S.Shelf.files c.args.shelf.now) c.args.program.now c.args.topology.now c.args.placement.now (g.O.Sink.taken c.args.out.now) c.in-Err.refusal c.in-Err.ensures.gives
+    told-refused (g.S.Shelf.files c.args.shelf.now) c.args.program.now c.args.topology.now c.args.placement.now c.args.on_demand (g.O.Sink.taken c.args.out.now) c.in-Err.refusal c.in-Err.ensures.gives

@@ -1,4 +1,4 @@
-use Rattle.std.proofs.Common.{◌⊎◌, ℕ, List, Option, inl, inr}
+use Rattle.std.proofs.Common.{◌⊎◌, ℕ, Bool, List, Option, inl, inr}
 use Rattle.snap_core.specs.declared.program.Program.{Program}
 use Rattle.snap_io.specs.Files.{Files}
 use Rattle.snap_topo.specs.declared.topology.Topology.{Topology}
@@ -9,14 +9,14 @@ use Rattle.snap_cli.specs.Refusals.{Ending}
 use Rattle.snap_cli.proofs.CompileOnce.{Came, came}
 use Rattle.snap_cli.proofs.laws.compiles_exactly.Goals as goal
 
-module _ (spells : SpellsOneProgram) (files : Files) (program topology placement : List ℕ) (p : Program) (t : Topology) (places : List ℕ) (spelled : AreSpelled files program topology placement p t places)
+module _ (spells : SpellsOneProgram) (files : Files) (program topology placement : List ℕ) (on_demand : Bool) (p : Program) (t : Topology) (places : List ℕ) (spelled : AreSpelled files program topology placement p t places)
     (status : ℕ) (out_old out_new : Option (List ℕ)) (err_before err_now : ℕ) (err_old err_new : Option (List ℕ)) where
-  exactly : IsFailure status ⊎ ((ending : Ending) × (text : List ℕ) × IsDue files (compile program topology placement) ending text × IsExact ending text status out_old out_new err_before err_now err_old err_new)
-      → IsFailure status ⊎ Came spells files program topology placement p t places spelled status out_old out_new err_before err_now err_old err_new
+  exactly : IsFailure status ⊎ ((ending : Ending) × (text : List ℕ) × IsDue files (compile program topology placement on_demand) ending text × IsExact ending text status out_old out_new err_before err_now err_old err_new)
+      → IsFailure status ⊎ Came spells files program topology placement on_demand p t places spelled status out_old out_new err_before err_now err_old err_new
   exactly (inl failed) = inl failed
-  exactly (inr (ending, text, due, exact)) = inr (came spells files program topology placement p t places spelled status out_old out_new err_before err_now err_old err_new ending text due exact)
+  exactly (inr (ending, text, due, exact)) = inr (came spells files program topology placement on_demand p t places spelled status out_old out_new err_before err_now err_old err_new ending text due exact)
 
 pub returns : goal.returns
-returns c = λ words files program topology placement p t places status shelf_before shelf_now out_before out_now out_old out_new err_before err_now err_old err_new is spelled a.
-    exactly c.spells_one_program.ensures files program topology placement p t places spelled status out_old out_new err_before err_now err_old err_new
-    (c.answers_exactly.ensures words files (compile program topology placement) status shelf_before shelf_now out_before out_now out_old out_new err_before err_now err_old err_new is a)
+returns c = λ words files program topology placement on_demand p t places status shelf_before shelf_now out_before out_now out_old out_new err_before err_now err_old err_new is spelled a.
+    exactly c.spells_one_program.ensures files program topology placement on_demand p t places spelled status out_old out_new err_before err_now err_old err_new
+    (c.answers_exactly.ensures words files (compile program topology placement on_demand) status shelf_before shelf_now out_before out_now out_old out_new err_before err_now err_old err_new is a)

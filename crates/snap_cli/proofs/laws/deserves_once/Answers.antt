@@ -28,7 +28,7 @@ ends_once spells lists tied ranks runs files (check program) a b h k = ends_chec
 ends_once spells lists tied ranks runs files (equal left right) a b h k = ends_equal_once spells files left right a b h k
 ends_once spells lists tied ranks runs files (routes topology) a b h k = inl (ends_routes_once files topology a b h k)
 ends_once spells lists tied ranks runs files (place program topology demand) a b h k = inl (ends_place_once spells tied ranks files program topology demand a b h k)
-ends_once spells lists tied ranks runs files (compile program topology placement) a b h k = ends_compile_once spells files program topology placement a b h k
+ends_once spells lists tied ranks runs files (compile program topology placement on_demand) a b h k = ends_compile_once spells files program topology placement on_demand a b h k
 ends_once spells lists tied ranks runs files (trace tables packets hops order) a b h k = inl (ends_trace_once runs files tables packets hops order a b h k)
 ends_once spells lists tied ranks runs files (demo switches) a b h k = inl (h ∙ sym k)
 
@@ -39,7 +39,7 @@ text_once spells lists text tied ranks runs files (check program) a b h k = inl 
 text_once spells lists text tied ranks runs files (equal left right) a b h k = inl (equal_text_once spells files left right a b h k)
 text_once spells lists text tied ranks runs files (routes topology) a b h k = inl (routes_text_once files topology a b h k)
 text_once spells lists text tied ranks runs files (place program topology demand) a b h k = inl (place_text_once spells tied ranks files program topology demand a b h k)
-text_once spells lists text tied ranks runs files (compile program topology placement) a b h k = compile_text_once spells files program topology placement a b h k
+text_once spells lists text tied ranks runs files (compile program topology placement on_demand) a b h k = compile_text_once spells files program topology placement on_demand a b h k
 text_once spells lists text tied ranks runs files (trace tables packets hops order) a b h k = inl (trace_text_once runs files tables packets hops order a b h k)
 text_once spells lists text tied ranks runs files (demo switches) a b h k = inl (demo_text_once lists switches a b h k)
 

@@ -13,10 +13,11 @@ returns-in_err-matches-clause-usage c =
 
 pub returns-then-has_names-clause-ok : goal.returns-then-has_names-clause-ok
 returns-then-has_names-clause-ok c =
-    let t : Told = said (record { hops = c.get_flag.result; ordered = c.get_flag-2.result; schedule = c.get_str.result; changes = c.get_str-2.result; workers = c.get_str-3.result; names = c.in_ok-names_in.field-0 }) in
+    let t : Told = said (record { hops = c.get_flag.result; ordered = c.get_flag-2.result; on_demand = c.get_flag-3.result; schedule = c.get_str.result; changes = c.get_str-2.result; workers = c.get_str-3.result; names = c.in_ok-names_in.field-0 }) in
     let tells : Tells (found_of c.in_ok-matches.matches) t = record {
       hops = (c.get_flag.ensures.value, c.get_flag.ensures.other);
       ordered = (c.get_flag-2.ensures.value, c.get_flag-2.ensures.other);
+      on_demand = (c.get_flag-3.ensures.value, c.get_flag-3.ensures.other);
       schedule = c.get_str.ensures;
       changes = c.get_str-2.ensures;
       workers = c.get_str-3.ensures;
@@ -27,10 +28,11 @@ returns-then-has_names-clause-ok c =
 
 pub returns-clause-usage : goal.returns-clause-usage
 returns-clause-usage c = λ usage.
-    let t : Told = said (record { hops = c.get_flag.result; ordered = c.get_flag-2.result; schedule = c.get_str.result; changes = c.get_str-2.result; workers = c.get_str-3.result; names = c.in_ok-names_in.field-0 }) in
+    let t : Told = said (record { hops = c.get_flag.result; ordered = c.get_flag-2.result; on_demand = c.get_flag-3.result; schedule = c.get_str.result; changes = c.get_str-2.result; workers = c.get_str-3.result; names = c.in_ok-names_in.field-0 }) in
     let tells : Tells (found_of c.in_ok-matches.matches) t = record {
       hops = (c.get_flag.ensures.value, c.get_flag.ensures.other);
       ordered = (c.get_flag-2.ensures.value, c.get_flag-2.ensures.other);
+      on_demand = (c.get_flag-3.ensures.value, c.get_flag-3.ensures.other);
       schedule = c.get_str.ensures;
       changes = c.get_str-2.ensures;
       workers = c.get_str-3.ensures;

@@ -13,4 +13,5 @@ returns c =
     ∙ ap (λ (f : Command-F Command). app_of_fields (record f { disable_help_flag = true })) c.no_binary_name.ensures
     ∙ ap (λ (a : App). record a { top = record a.top { no_binary_name = true; disable_help_flag = true } }) c.new.ensures.app in
     let first = c.in_ok-arg.ensures.shape c.flag.ensures.local ∙ ap₂ with_rule bare_is c.flag.ensures.rule in
-    IfOk-weaker c.arg-2.result _ _ (λ m h. h.shape c.flag-2.ensures.local ∙ ap₂ with_rule first c.flag-2.ensures.rule) c.arg-2.ensures
+    let second = c.in_ok-arg-2.ensures.shape c.flag-2.ensures.local ∙ ap₂ with_rule first c.flag-2.ensures.rule in
+    IfOk-weaker c.arg-3.result _ _ (λ m h. h.shape c.flag-3.ensures.local ∙ ap₂ with_rule second c.flag-3.ensures.rule) c.arg-3.ensures
