@@ -1,8 +1,6 @@
 -- From what rows lead to at once to all that they lead to.
-use Rattle.std.proofs.Common.{◌≡◌, ◌≢◌, ℕ, ◌<◌, List, [], ◌∷◌, ◌++◌, map, Option, Some, None, refl, sym, ap, subst, ◌∙◌, arith, inl, inr, ⊎_elim}
-use Rattle.std.specs.Prelude.{◌↔◌, Contains, slice_get, IsSome, IfSome, is_some}
-use Rattle.std.specs.List.{All}
-use Rattle.std.proofs.lemmas.Bool.{false≢true}
+use Rattle.std.proofs.Common.{◌≡◌, ℕ, ◌<◌, List, [], ◌∷◌, ◌++◌, map, Option, Some, None, refl, sym, ap, subst, arith, inl, inr, ⊎_elim}
+use Rattle.std.specs.Prelude.{Contains, slice_get, IsSome, IfSome, is_some}
 use Rattle.std.proofs.lemmas.List.Elements.{All-contains_itself, Contains-append_cases, Contains-push_cases}
 use Rattle.snap_rows.specs.declared.tables.Row.{Row}
 use Rattle.snap_rows.specs.declared.tables.Row.TheVariants.{Field, State, Go, Leaf, Stop, Last}
@@ -17,9 +15,9 @@ use Rattle.snap_rows.specs.Leads.{LeadsOver, LeadsNext, AreLedNext, HoldsNext, H
 use Rattle.snap_rows.specs.Rules.{IsFirstSpot, Keeps}
 use Rattle.snap_rows.specs.Ways.{Way, here, on, Route, end, leg, LeadsTo}
 use Rattle.snap_rows.proofs.Arrives.{same_leaf, passed, route_to}
-use Rattle.snap_rows.proofs.Leading.{join_leads, leaf_over, go_over}
+use Rattle.snap_rows.proofs.Leading.{join_leads, leaf_over}
 use Rattle.snap_rows.proofs.Places.{row_here}
-use Rattle.snap_rows.proofs.Rows.{row_form, some_injective}
+use Rattle.snap_rows.proofs.Rows.{row_form}
 use Rattle.snap_rows.proofs.Spots.{RowAtKeeps}
 
 -- what is led to at once is led to
@@ -30,25 +28,15 @@ next_is_over t loops form w below (Go to) fits x l = l
 next_is_over t loops form w below (Leaf [] os) fits x l = l
 next_is_over t loops form w below (Leaf (s ∷ ss) os) fits x l = ⊎_elim
     (λ away.
-      let route = route_to t loops form w below (s ∷ ss) fits.2 in
-      let first = passed t w s.at (map (λ (s : Turn). s.at) ss) route.0 (Contains route.0) away.0 route.1 (All-contains_itself route.0) in
-      (route.0, route.1, subst (Contains route.0) (sym away.1) first.0))
+    let route = route_to t loops form w below (s ∷ ss) fits.2 in
+    let first = passed t w s.at (map (λ (s : Turn). s.at) ss) route.0 (Contains route.0) away.0 route.1 (All-contains_itself route.0) in
+    (route.0, route.1, subst (Contains route.0) (sym away.1) first.0))
     (λ there. there.1)
     l
 next_is_over t loops form w below Stop fits x l = l
 next_is_over t loops form w below (Last us os) fits x l = l
 
 -- ---- the lists that are made
--- the next hop towards the first stage, where that stands elsewhere
-pub away_next : (t : Tables) (w : ℕ) (ss : List Turn) (os : List Parts) (s : Turn) → slice_get ss 0 ≡ Some s → s.at ≢ w → AreLedNext t w (Leaf ss os) (next t w s.at ∷ [])
-away_next t w [] os s is away x = absurd (false≢true (ap (λ (o : Option Turn). is_some o) is))
-away_next t w (s' ∷ ss) os s is away x =
-    let same : s' ≡ s = some_injective _ _ is in
-    subst (λ (y : Turn). LeadsNext t w (Leaf (y ∷ ss) os) x ↔ Contains (next t w s.at ∷ []) x) (sym same) (
-      λ l. ⊎_elim (λ first. (go_over t w s.at x).0 first.1) (λ there. absurd (away there.0)) l,
-      λ c. inl (away, (go_over t w s.at x).1 c),
-    )
-
 -- the whole route, where the first stage stands at the switch itself
 pub route_next : (t : Tables) (w : ℕ) (ss : List Turn) (os : List Parts) (ws : List ℕ) → ((s : Turn) → slice_get ss 0 ≡ Some s → s.at ≡ w) → Route t w (map (λ (s : Turn). s.at) ss) ws → AreLedNext t w (Leaf ss os) ws
 route_next t w [] os ws first route x = leaf_over t w [] os ws route x

@@ -95,9 +95,28 @@ fn port_spot(tables: &Tables, guesses: &Guesses) -> Option<Spot>
     None
 }
 
-// The first row that leads to a pair without a row, where all ports have theirs. All leads of a row are listed only
-// where a row without one is known to be there.
+// The first row that leads to a pair without a row, where all ports have theirs.
 fn row_spot(alloc: Global, tables: &Tables, guesses: &Guesses) -> Result<Option<Spot>, NoMemory>
+    requires form { IsInForm tables.now }
+    requires loops { IsFirstSpot tables.now Rule.Loop None }
+    requires ports { (i : ℕ) → Keeps tables.now Rule.Missing (Spot.Port i) }
+    ensures { IfOk result (IsFirstSpot tables.now Rule.Missing) }
+{
+    let mut over = Vec::new(alloc);
+    for (at, entry) in tables.rows.items().iter().enumerate() {
+        if !leads_have_rows(tables, guesses, entry, &mut over)? {
+            return Ok(Some(Spot::Row(at as u64)));
+        }
+    }
+    Ok(None)
+}
+
+// The same. All leads of a row are listed only where it is known that one of them has no row.
+fn row_spot_if_any(
+    alloc: Global,
+    tables: &Tables,
+    guesses: &Guesses,
+) -> Result<Option<Spot>, NoMemory>
     requires form { IsInForm tables.now }
     requires loops { IsFirstSpot tables.now Rule.Loop None }
     requires kind { IsFirstSpot tables.now Rule.Kind None }
@@ -107,13 +126,7 @@ fn row_spot(alloc: Global, tables: &Tables, guesses: &Guesses) -> Result<Option<
     if all_next_have_rows(alloc, tables, guesses)? {
         return Ok(None);
     }
-    let mut over = Vec::new(alloc);
-    for (at, entry) in tables.rows.items().iter().enumerate() {
-        if !leads_have_rows(tables, guesses, entry, &mut over)? {
-            return Ok(Some(Spot::Row(at as u64)));
-        }
-    }
-    Ok(None)
+    row_spot(alloc, tables, guesses)
 }
 
 /// The first port or row that leads to a pair without a row. Next hops lead to their targets.
@@ -129,6 +142,6 @@ pub(crate) fn missing_spot(
 {
     match port_spot(tables, guesses) {
         Some(spot) => Ok(Some(spot)),
-        None => row_spot(alloc, tables, guesses),
+        None => row_spot_if_any(alloc, tables, guesses),
     }
 }

@@ -1,4 +1,4 @@
-use Rattle.std.proofs.Common.{rules, ◌≡◌, ◌<◌, ◌≤◌, ℕ, List, length, get_or, ap, sym, subst, ◌∙◌, arith, ⊎_elim}
+use Rattle.std.proofs.Common.{rules, ◌≡◌, ◌<◌, ◌≤◌, List, length, get_or, ap, sym, subst, ◌∙◌, arith, ⊎_elim}
 use Rattle.std.specs.Prelude.{slice_get}
 use Rattle.std.proofs.lemmas.Bool.{cases_lt}
 use Rattle.std.proofs.lemmas.Option.{slice_get_within, get_or_from_slice_get}
@@ -18,9 +18,9 @@ loop-entry-preserved c =
       have = λ i r below at. ⊎_elim
           (λ lt. c.loop-entry.invariant.have i r lt at)
           (λ ge.
-            let same : i ≡ n = omega arith in
-            let here : e ≡ r = is ∙ get_or_from_slice_get t.rows n r e (ap (slice_get t.rows) (sym same) ∙ at) in
-            subst (λ (r : RowAt). HaveNext t r.at r.number r.row) here have)
+          let same : i ≡ n = omega arith in
+          let here : e ≡ r = is ∙ get_or_from_slice_get t.rows n r e (ap (slice_get t.rows) (sym same) ∙ at) in
+          subst (λ (r : RowAt). HaveNext t r.at r.number r.row) here have)
           (cases_lt i n);
     }
 
