@@ -1,5 +1,5 @@
 -- Tables with the planned rows of a tidied diagram are faithful.
-use Rattle.std.proofs.Common.{◌≡◌, ◌≢◌, ℕ, ◌<◌, inl, inr, ⊎_elim, Bool, true, false, not, List, [], ◌∷◌, map, length, Option, Some, None, refl, sym, ap, subst, ◌∙◌, arith, ◌&&◌}
+use Rattle.std.proofs.Common.{◌≡◌, ℕ, ◌<◌, inl, inr, ⊎_elim, Bool, true, false, not, List, [], ◌∷◌, map, length, Option, Some, None, refl, sym, ap, subst, ◌∙◌, arith, ◌&&◌}
 use Rattle.std.specs.Prelude.{slice_get, slice_index, slice_index_or, option_map, unwrap_or}
 use Rattle.std.specs.List.Sorted.{IsStrictlySortedBy, IsNonDecreasing, IsNonDecreasingBy}
 use Rattle.std.proofs.lemmas.Bool.{and_parts, false≢true}
@@ -11,7 +11,6 @@ use Rattle.snap_dep.specs.Ranks.{Grouping}
 use Rattle.snap_topo.specs.declared.topology.Topology.{Topology}
 use Rattle.snap_route.specs.Tables.{Table}
 use Rattle.snap_arena.specs.declared.node.Node.{Node}
-use Rattle.snap_arena.specs.declared.node.Node.TheVariants as node
 use Rattle.snap_arena.specs.Arena.{IsArena}
 use Rattle.snap_fdd.specs.declared.leaf.Leaf.{Leaf}
 use Rattle.snap_fdd.specs.Diagrams.{Diagram, diagram}

@@ -142,13 +142,7 @@ fn declared(
     ensures { IfOk result (λ r. (r.0 ≡ program.now.fields) × AreArrays version program.now.vars placement.now groups.now.ranks (length program.now.vars) r.1) }
 {
     let fields = program.fields.copy()?;
-    let arrays = ArraysAt::new(arrays(
-        alloc,
-        version,
-        program.vars.items(),
-        groups,
-        placement,
-    )?);
+    let arrays = ArraysAt::new(arrays(alloc, version, program.vars.items(), groups, placement)?);
     Ok((fields, arrays))
 }
 

@@ -112,12 +112,7 @@ fn put_front(out: &mut Vec<u8>, fronts: &[Text], at: u16) -> Result<(), NoMemory
     }
 }
 
-fn put_chosen(
-    out: &mut Vec<u8>,
-    ending: &Ending,
-    number: u64,
-    share: Share,
-) -> Result<(), NoMemory>
+fn put_chosen(out: &mut Vec<u8>, ending: &Ending, number: u64, share: Share) -> Result<(), NoMemory>
     ensures { OnOk result (out.new.items ≡ out.old.items ++ chosen number share ending.now) }
 {
     match share {
