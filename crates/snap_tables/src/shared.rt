@@ -21,11 +21,12 @@ pub enum Share {
     Go { to: u16 },
 }
 
-/// A row of shared tables: its switch, its number, and what stands in it.
+/// A row of shared tables: its switch, its number, and what stands in it. The number comes first, since fields lie in
+/// this order: so a row takes 16 bytes.
 #[derive(Clone, Copy)]
 pub struct RowShare {
-    pub at: u16,
     pub number: u64,
+    pub at: u16,
     pub share: Share,
 }
 
