@@ -29,7 +29,7 @@ use Rattle.snap_rows.specs.Rules.{IsValid, HopKeeps, IsStateRow, IsFirstSpot}
 use Rattle.snap_rows.specs.Handles.{Handles, asks, goes, forks, begins, passes_on, goes_on, completes, enters, enters_last, seeks, visits, concludes, delivers, carries, is_field, sent, forked}
 use Rattle.snap_rows.specs.Home.{AtHome, IsStageAtHome}
 use Rattle.snap_rows.specs.Steps.{Arrives, IsSent}
-use Rattle.snap_rows.proofs.Rows.{row_keeps, row_form, All-get, some_injective, nodes}
+use Rattle.snap_rows.proofs.Rows.{row_keeps, rule_keeps, row_form, All-get, some_injective, nodes}
 use Rattle.snap_rows.proofs.Ways.{side_goes}
 use Rattle.snap_rows.proofs.Ports.{port_is_found}
 use Rattle.snap_rows.proofs.Visited.{visit_end}
@@ -65,11 +65,11 @@ route_to t loops form w below (s ∷ ss) all =
     (way.0 ++ route.0, leg way.1 route.1)
 
 -- a row of a leaf's number elsewhere is that leaf
-pub same_leaf : (t : Tables) → IsValid t → IsInForm t → t.version ≡ 1 → (w x n : ℕ) (ss : List Turn) (os : List Parts) → row_at t w n ≡ Some (Leaf ss os) → IsSome (row_at t x n) → row_at t x n ≡ Some (Leaf ss os)
-same_leaf t valid form one w x n ss os row some = by (row_at t x n) refl some
+pub same_leaf : (t : Tables) → IsFirstSpot t Kind None → IsInForm t → t.version ≡ 1 → (w x n : ℕ) (ss : List Turn) (os : List Parts) → row_at t w n ≡ Some (Leaf ss os) → IsSome (row_at t x n) → row_at t x n ≡ Some (Leaf ss os)
+same_leaf t kind form one w x n ss os row some = by (row_at t x n) refl some
   where
     node : node_of t n ≡ Some (Leaf ss os)
-    node = (row_keeps t valid Kind w n (Leaf ss os) row).0 one
+    node = (rule_keeps t Kind kind w n (Leaf ss os) row).0 one
 
     other : (b : Row) → row_at t x n ≡ Some b → node_of t n ≡ Some b → row_at t x n ≡ Some (Leaf ss os)
     other b e is = e ∙ sym is ∙ node
@@ -78,7 +78,7 @@ same_leaf t valid form one w x n ss os row some = by (row_at t x n) refl some
     not_two two = let h : 1 ≡ 2 = sym one ∙ two in omega arith
 
     state_there : (y : ℕ) (b : Row) → row_at t y n ≡ Some b → IsStateRow b → ⊥
-    state_there y (State test u v) e h = leaf_or (some_injective _ _ (sym node ∙ (row_keeps t valid Kind y n (State test u v) e).0 one))
+    state_there y (State test u v) e h = leaf_or (some_injective _ _ (sym node ∙ (rule_keeps t Kind kind y n (State test u v) e).0 one))
       where
         leaf_or : Leaf ss os ≡ State test u v → ⊥
         leaf_or e = cc
@@ -89,10 +89,10 @@ same_leaf t valid form one w x n ss os row some = by (row_at t x n) refl some
     state_there y (Last u v) e h = h
 
     found : (b : Row) → row_at t x n ≡ Some b → row_at t x n ≡ Some (Leaf ss os)
-    found (Field test y z) e = other (Field test y z) e ((row_keeps t valid Kind x n (Field test y z) e).0 one)
-    found (State test y z) e = other (State test y z) e ((row_keeps t valid Kind x n (State test y z) e).0 one)
-    found (Go y) e = let g = (row_keeps t valid Kind x n (Go y) e).0 one in absurd (state_there y g.1.0 g.1.1 g.1.2)
-    found (Leaf us vs) e = other (Leaf us vs) e ((row_keeps t valid Kind x n (Leaf us vs) e).0 one)
+    found (Field test y z) e = other (Field test y z) e ((rule_keeps t Kind kind x n (Field test y z) e).0 one)
+    found (State test y z) e = other (State test y z) e ((rule_keeps t Kind kind x n (State test y z) e).0 one)
+    found (Go y) e = let g = (rule_keeps t Kind kind x n (Go y) e).0 one in absurd (state_there y g.1.0 g.1.1 g.1.2)
+    found (Leaf us vs) e = other (Leaf us vs) e ((rule_keeps t Kind kind x n (Leaf us vs) e).0 one)
     found Stop e = absurd (not_two (row_form t form x n Stop e))
     found (Last us vs) e = absurd (not_two (row_form t form x n (Last us vs) e).0)
 
@@ -133,7 +133,7 @@ passed_from t w x ys xs ws P e away (leg {x = y} {ws = vs} {xs = zs} {vs = us} w
       (f.0 ++ us, leg f.2 (subst (λ l. Route t x l us) rest (subst (λ v. Route t v zs us) first route)), λ i d within. all' (suc i) d (let h : i < length (f.0 ++ us) = within in omega arith)),
     )
 
-passed : (t : Tables) (w x : ℕ) (xs ws : List ℕ) (P : ℕ → Type 0) → x ≢ w → Route t w (x ∷ xs) ws → All P ws → P (next t w x) × ((vs : List ℕ) × Route t (next t w x) (x ∷ xs) vs × All P vs)
+pub passed : (t : Tables) (w x : ℕ) (xs ws : List ℕ) (P : ℕ → Type 0) → x ≢ w → Route t w (x ∷ xs) ws → All P ws → P (next t w x) × ((vs : List ℕ) × Route t (next t w x) (x ∷ xs) vs × All P vs)
 passed t w x xs ws P away route all = passed_from t w x (x ∷ xs) xs ws P refl away route all
 
 -- a stage is at home at the next hop towards it
@@ -147,7 +147,7 @@ stage_passes t valid form one w n i s ss os row is away home =
       stages = ss;
       outs = os;
       ws = p.1.0;
-      row = same_leaf t valid form one w (next t w s.at) n ss os row p.0;
+      row = same_leaf t (valid Kind) form one w (next t w s.at) n ss os row p.0;
       more = slice_get_within ss i s is;
       route = subst (λ ss'. Route t (next t w s.at) (map (λ (s : Turn). s.at) ss') p.1.0) (sym (drop_get ss i s is)) p.1.1;
       rows = p.1.2;

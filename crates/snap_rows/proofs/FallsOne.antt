@@ -233,7 +233,7 @@ falls t valid form one w low k m h m' a home (passes_on {n = n} {i = i} {s = s} 
     let p = (length ss - i) * longest t in
     let near = nearer t valid form w s.at low (turn_below t form w n i s ss os row is) away in
     let there = arrives t valid form w low k m (AtStage n i) m a home (passes_on row is away) in
-    let row' = same_leaf t valid form one w v n ss os row (ap (λ (o : Option Row). is_some o) there.1.1.row) in
+    let row' = same_leaf t (valid Kind) form one w v n ss os row (ap (λ (o : Option Row). is_some o) there.1.1.row) in
     let e : left t w (AtStage n i) ≡ distance t w s.at + p = stage_left t w n i s ss os row is in
     let f : left t v (AtStage n i) ≡ distance t v s.at + p = stage_left t v n i s ss os row' is in
     omega arith

@@ -1,6 +1,6 @@
 -- Following leads from the ports.
-use Rattle.std.proofs.Common.{◌≡◌, ◌≢◌, ℕ, zero, suc, ◌+◌, ◌<◌, Bool, true, false, not, List, [], ◌∷◌, ◌++◌, length, get_or, Some, None, refl, sym, ap, subst, ◌∙◌, arith, inl, inr, ⊎_elim, ◌⊎◌}
-use Rattle.std.specs.Prelude.{Contains, slice_get, IsSome, IfSome, OnOk, Result, Ok, Err, cond}
+use Rattle.std.proofs.Common.{◌≡◌, ◌≢◌, ℕ, zero, suc, ◌+◌, ◌<◌, Bool, true, false, not, List, [], ◌∷◌, ◌++◌, length, get_or, Option, Some, None, refl, sym, ap, subst, ◌∙◌, arith, inl, inr, ⊎_elim, ◌⊎◌}
+use Rattle.std.specs.Prelude.{Contains, slice_get, IsSome, is_some, IfSome, OnOk, Result, Ok, Err, cond}
 use Rattle.std.specs.List.{All}
 use Rattle.std.proofs.Math.ListN.{set}
 use Rattle.std.proofs.lemmas.Bool.{false≢true, cases_lt}
@@ -9,21 +9,22 @@ use Rattle.std.proofs.lemmas.List.Elements.{Contains-append_left, Contains-appen
 use Rattle.std.proofs.lemmas.List.Sums.{sum_by-set}
 use Rattle.std.proofs.lemmas.Option.{slice_get-get_or}
 use Rattle.snap_core.specs.declared.ports.PortAt.{PortAt}
+use Rattle.snap_rows.specs.declared.tables.Row.{Row}
 use Rattle.snap_rows.specs.declared.tables.RowAt.{RowAt}
-use Rattle.snap_rows.specs.declared.tables.Rule.TheVariants.{Missing}
+use Rattle.snap_rows.specs.declared.tables.Rule.TheVariants.{Loop, Kind, Missing}
 use Rattle.snap_rows.specs.declared.tables.Spot.TheVariants as spot
 use Rattle.snap_rows.specs.declared.tables.Tables.{Tables}
 use Rattle.snap_rows.specs.Entries.{row_at}
-use Rattle.snap_rows.specs.Following.{IsMarked, AreLeadsMarked, ArePortsMarked, IsFollowed, Grows, AreMarked}
-use Rattle.snap_rows.specs.Form.{IsInForm}
-use Rattle.snap_rows.specs.Leads.{IsNumberAfter, AreLedOver, HaveRows}
+use Rattle.snap_rows.specs.Following.{IsMarked, IsNextMarked, ArePortsMarked, IsFollowed, Grows, AreMarked}
+use Rattle.snap_rows.specs.Form.{IsInForm, IsRowAtInForm}
+use Rattle.snap_rows.specs.Leads.{IsNumberAfter, LeadsOver, LeadsNext, AreLedNext, HaveRows, HoldsNext}
 use Rattle.snap_rows.specs.Reach.{falses}
 use Rattle.snap_rows.specs.Rules.{IsFirstSpot, PortKeeps, RowKeeps}
 use Rattle.snap_rows.specs.Ways.{LeadsTo, Reached, port, lead}
-use Rattle.snap_rows.proofs.Leading.{join_leads}
 use Rattle.snap_rows.proofs.Marking.{set_true}
+use Rattle.snap_rows.proofs.Nexts.{leads_hold, next_is_over}
 use Rattle.snap_rows.proofs.Places.{row_here}
-use Rattle.snap_rows.proofs.Rows.{some_injective}
+use Rattle.snap_rows.proofs.Rows.{some_injective, All-get}
 use Rattle.snap_rows.proofs.Search.{one_place}
 
 same_or_other : (i j : ℕ) → (i ≡ j) ⊎ (j ≢ i)
@@ -32,6 +33,9 @@ same_or_other i j = ⊎_elim (λ lt. inr (omega arith)) (λ ge. ⊎_elim (λ lt.
 -- ---- marks grow
 pub marked_more : (t : Tables) (marks marks' : List Bool) (x k : ℕ) → ((i : ℕ) → get_or marks i false ≡ true → get_or marks' i false ≡ true) → IsMarked t marks x k → IsMarked t marks' x k
 marked_more t marks marks' x k kept m = (m.0, m.1, kept m.0 m.2)
+
+next_more : (t : Tables) (marks marks' : List Bool) (r : RowAt) → ((i : ℕ) → get_or marks i false ≡ true → get_or marks' i false ≡ true) → IsNextMarked t marks r → IsNextMarked t marks' r
+next_more t marks marks' r kept m = (λ k after. marked_more t marks marks' r.at k kept (m.0 k after), λ x l. marked_more t marks marks' x r.number kept (m.1 x l))
 
 pub grows_twice : (t : Tables) (marks marks' marks'' : List Bool) (left left' left'' : List ℕ) → Grows t marks left marks' left' → Grows t marks' left' marks'' left'' → Grows t marks left marks'' left''
 grows_twice t marks marks' marks'' left left' left'' a b = record {
@@ -59,7 +63,7 @@ follow_one t marks left i within reached f = record {
       (same_or_other i j);
   closed = λ j r is m. ⊎_elim
       (λ same. inl (subst (Contains (left ++ i ∷ [])) same (Contains-push left i)))
-      (λ other. ⊎_elim (λ c. inl (Contains-append_left left (i ∷ []) j c)) (λ leads. inr (λ x k l. marked_more t marks (set marks i true) x k kept (leads x k l))) (f.closed j r is (before j other m)))
+      (λ other. ⊎_elim (λ c. inl (Contains-append_left left (i ∷ []) j c)) (λ leads. inr (next_more t marks (set marks i true) r kept leads)) (f.closed j r is (before j other m)))
       (same_or_other i j);
   marked = λ j c. ⊎_elim (λ old. kept j (f.marked j old)) (λ same. subst (λ k. get_or (set marks i true) k false ≡ true) same (get_or-set_same marks i true false within)) (Contains-push_cases left i j c);
 }
@@ -85,13 +89,13 @@ grows_one t marks left i within none reached = record {
 -- ---- the row at a place
 
 -- ---- the leads of one row
--- its leads are marked, so it isn't left
-pub not_left : (t : Tables) (marks : List Bool) (left : List ℕ) (i : ℕ) (r : RowAt) → slice_get t.rows i ≡ Some r → AreLeadsMarked t marks r → IsFollowed t marks (i ∷ [] ++ left) → IsFollowed t marks left
+-- what it leads to at once is marked, so it isn't left
+pub not_left : (t : Tables) (marks : List Bool) (left : List ℕ) (i : ℕ) (r : RowAt) → slice_get t.rows i ≡ Some r → IsNextMarked t marks r → IsFollowed t marks (i ∷ [] ++ left) → IsFollowed t marks left
 not_left t marks left i r is leads f = record {
   sound = f.sound;
   closed = λ j s there m. ⊎_elim
       (λ c. ⊎_elim
-      (λ one. let same : i ≡ j = only one in inr (subst (AreLeadsMarked t marks) (some_injective _ _ (sym is ∙ ap (slice_get t.rows) same ∙ there)) leads))
+      (λ one. let same : i ≡ j = only one in inr (subst (IsNextMarked t marks) (some_injective _ _ (sym is ∙ ap (slice_get t.rows) same ∙ there)) leads))
       (λ other. inl other)
       (Contains-append_cases (i ∷ []) left j c))
       (λ done. inr done)
@@ -102,10 +106,9 @@ not_left t marks left i r is leads f = record {
     only : {j : ℕ} → Contains (i ∷ []) j → i ≡ j
     only {j} c = ⊎_elim (λ none. absurd (let h : none.0 < 0 = none.1 in omega arith)) (λ same. same) (Contains-push_cases [] i j c)
 
-pub leads_marked : (t : Tables) (marks : List Bool) (r : RowAt) (over : List ℕ) → AreLedOver t r.at r.row over → ((k : ℕ) → IsNumberAfter r.row k → IsMarked t marks r.at k) → All (λ x. IsMarked t marks x r.number) over
-    → AreLeadsMarked t marks r
-leads_marked t marks r over are own all x k l = join_leads t r.at r.number r.row (λ x k. IsMarked t marks x k) own
-    (λ y o. let c = (are y).0 o in subst (λ v. IsMarked t marks v r.number) c.2 (all c.0 y c.1)) x k l
+pub next_marked : (t : Tables) (marks : List Bool) (r : RowAt) (over : List ℕ) → AreLedNext t r.at r.row over → ((k : ℕ) → IsNumberAfter r.row k → IsMarked t marks r.at k) → All (λ x. IsMarked t marks x r.number) over
+    → IsNextMarked t marks r
+next_marked t marks r over are own all = (own, λ y o. let c = (are y).0 o in subst (λ v. IsMarked t marks v r.number) c.2 (all c.0 y c.1))
 
 pub leads_reached : (t : Tables) → IsInForm t → (r : RowAt) (i : ℕ) → slice_get t.rows i ≡ Some r → Reached t r.at r.number → (x k : ℕ) → LeadsTo t r.at r.number r.row x k → Reached t x k
 leads_reached t form r i is reached x k l = lead reached (row_here t.rows form.rows_rise r.at r.number i r is refl refl) l
@@ -139,6 +142,10 @@ pub both_ok : {X Y A B C : Type 0} (r : Result X Y) → (A → B → C) → OnOk
 both_ok (Ok x) f a b = f a b
 both_ok (Err e) f a b = tt
 
+-- what an entry leads to at once it leads to
+pub entry_over : (t : Tables) → IsFirstSpot t Loop None → IsInForm t → (r : RowAt) → Contains t.rows r → (x : ℕ) → LeadsNext t r.at r.row x → LeadsOver t r.at r.row x
+entry_over t loops form r e x l = let fits = All-get (IsRowAtInForm t) t.rows e.0 r form.rows (contained t.rows r e) in next_is_over t loops form r.at fits.at r.row fits.row x l
+
 -- ---- what is left
 pub swapped : (t : Tables) (marks : List Bool) (xs ys : List ℕ) → IsFollowed t marks (xs ++ ys) → IsFollowed t marks (ys ++ xs)
 swapped t marks xs ys f = record {
@@ -163,23 +170,30 @@ left_place t marks left i long f c =
     (omega arith, m)
 
 -- ---- at the end
-all_marked : (t : Tables) → IsInForm t → (marks : List Bool) → IsFollowed t marks [] → ArePortsMarked t marks → (w n : ℕ) → Reached t w n → IsMarked t marks w n
-all_marked t form marks f ports w n (port {p = p} is) = ports (record { port = p; at = w }) is
-all_marked t form marks f ports x k (lead {w = w} {n = n} {b = b} from row l) =
-    let m = all_marked t form marks f ports w n from in
-    let i = m.0 in
-    let place = m.1 in
-    let r = place.0 in
-    let here : row_at t w n ≡ Some r.row = row_here t.rows form.rows_rise w n i r place.1 place.2 place.3 in
-    let body : b ≡ r.row = some_injective _ _ (sym row ∙ here) in
-    let there : LeadsTo t r.at r.number r.row x k = subst (λ v. LeadsTo t v r.number r.row x k) (sym place.2) (subst (λ j. LeadsTo t w j r.row x k) (sym place.3) (subst (λ c. LeadsTo t w n c x k) body l)) in
-    ⊎_elim (λ c. absurd (let h : c.0 < 0 = c.1 in omega arith)) (λ leads. leads x k there) (f.closed i r place.1 m.2)
+marked_row : (t : Tables) → IsInForm t → (marks : List Bool) (w n : ℕ) (m : IsMarked t marks w n) → row_at t w n ≡ Some m.1.0.row
+marked_row t form marks w n m = let place = m.1 in row_here t.rows form.rows_rise w n m.0 place.0 place.1 place.2 place.3
 
-pub are_marked : (t : Tables) → IsInForm t → (marks : List Bool) → IsFollowed t marks [] → ArePortsMarked t marks → AreMarked t marks
-are_marked t form marks f ports i r is = (
+-- where nothing is left, what a marked row leads to at once is marked
+none_left : (t : Tables) → IsInForm t → (marks : List Bool) → IsFollowed t marks [] → (w n : ℕ) (b : Row) → row_at t w n ≡ Some b → IsMarked t marks w n → HoldsNext (IsMarked t marks) t w n b
+none_left t form marks f w n b row m =
+    let r = m.1.0 in
+    let P = IsMarked t marks in
+    let body : r.row ≡ b = some_injective _ _ (sym (marked_row t form marks w n m) ∙ row) in
+    ⊎_elim
+    (λ c. absurd (let h : c.0 < 0 = c.1 in omega arith))
+    (λ leads. subst (λ c. HoldsNext P t w n c) body (subst (λ j. HoldsNext P t w j r.row) m.1.3 (subst (λ v. HoldsNext P t v r.number r.row) m.1.2 leads)))
+    (f.closed m.0 r m.1.1 m.2)
+
+all_marked : (t : Tables) → IsInForm t → IsFirstSpot t Kind None → (marks : List Bool) → IsFollowed t marks [] → ArePortsMarked t marks → (w n : ℕ) → Reached t w n → IsMarked t marks w n
+all_marked t form kind marks f ports w n (port {p = p} is) = ports (record { port = p; at = w }) is
+all_marked t form kind marks f ports x k (lead {w = w} {n = n} {b = b} from row l) =
+    leads_hold t form kind (IsMarked t marks) (λ v j m. ap (λ (o : Option Row). is_some o) (marked_row t form marks v j m)) (none_left t form marks f) w n b row (all_marked t form kind marks f ports w n from) x k l
+
+pub are_marked : (t : Tables) → IsInForm t → IsFirstSpot t Kind None → (marks : List Bool) → IsFollowed t marks [] → ArePortsMarked t marks → AreMarked t marks
+are_marked t form kind marks f ports i r is = (
   λ m. f.sound i r is m,
   λ reached.
-      let m = all_marked t form marks f ports r.at r.number reached in
+      let m = all_marked t form kind marks f ports r.at r.number reached in
       let place = m.1 in
       let same : m.0 ≡ i = one_place (λ (x : RowAt). x.at) (λ (x : RowAt). x.number) t.rows form.rows_rise m.0 i place.0 r place.1 is place.2 place.3 in
       subst (λ j. get_or marks j false ≡ true) same m.2,

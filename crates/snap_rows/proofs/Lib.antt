@@ -11,6 +11,7 @@ pub mod Seen
 pub mod Plans
 pub mod Arrives
 pub mod Leading
+pub mod Nexts
 pub mod Spots
 pub mod Firsts
 pub mod Marking

@@ -5,7 +5,7 @@ ghost use Rattle.std.specs.List.{All};
 ghost use Rattle.snap_rows.specs.declared.tables.RowAt.{RowAt};
 ghost use Rattle.snap_rows.specs.declared.tables.Rule.{Rule};
 ghost use Rattle.snap_rows.specs.Entries.{row_at};
-ghost use Rattle.snap_rows.specs.Following.{IsMarked, AreLeadsMarked, ArePortsMarked, IsFollowed, Grows, AreMarked};
+ghost use Rattle.snap_rows.specs.Following.{IsMarked, IsNextMarked, ArePortsMarked, IsFollowed, Grows, AreMarked};
 ghost use Rattle.snap_rows.specs.Form.{IsInForm};
 ghost use Rattle.snap_rows.specs.Leads.{IsNumberAfter};
 ghost use Rattle.snap_rows.specs.Rules.{IsFirstSpot};
@@ -13,7 +13,7 @@ ghost use Rattle.snap_rows.specs.Ways.{Reached};
 
 use crate::guesses::Guesses;
 use crate::look::row_place;
-use crate::rules::leads::led_over;
+use crate::rules::leads::led_next;
 use crate::rules::loops::unmarked;
 use crate::tables::{Row, RowAt, Tables};
 use snap_core::NoMemory;
@@ -129,7 +129,7 @@ impl Search {
         Ok(())
     }
 
-    // Marks the rows to which the row at a place leads. The list is room for the switches that it leads over.
+    // Marks the rows to which a row leads at once. The list is room for the switches that it leads to.
     fn follow(
         &mut self,
         tables: &Tables,
@@ -144,10 +144,10 @@ impl Search {
         requires entry { Contains tables.now.rows entry.now }
         requires reached { Reached tables.now entry.now.at entry.now.number }
         ensures grows { OnOk result (Grows tables.now self.old.marks.items self.old.left.items self.new.marks.items self.new.left.items) }
-        ensures marked { OnOk result (AreLeadsMarked tables.now self.new.marks.items entry.now) }
+        ensures marked { OnOk result (IsNextMarked tables.now self.new.marks.items entry.now) }
     {
         self.mark_numbers(tables, guesses, entry.at, &entry.row)?;
-        led_over(tables, entry.at, &entry.row, over)?;
+        led_next(tables, entry.at, &entry.row, over)?;
         self.mark_all(tables, guesses, over, entry.number)
     }
 }
@@ -178,6 +178,7 @@ pub(crate) fn reached_rows(
 ) -> Result<Vec<bool>, NoMemory>
     requires form { IsInForm tables.now }
     requires loops { IsFirstSpot tables.now Rule.Loop None }
+    requires kind { IsFirstSpot tables.now Rule.Kind None }
     requires missing { IsFirstSpot tables.now Rule.Missing None }
     ensures long { IfOk result (λ marks. length marks.items ≡ length tables.now.rows) }
     ensures marked { IfOk result (λ marks. AreMarked tables.now marks.items) }

@@ -4,9 +4,10 @@ ghost use Rattle.std.specs.Prelude.{◌≡◌, ◌⊎◌, ◌↔◌, ◌++◌, �
 ghost use Rattle.std.specs.List.{All};
 ghost use Rattle.snap_rows.specs.declared.tables.Rule.{Rule};
 ghost use Rattle.snap_rows.specs.declared.tables.Stage.{Stage};
-ghost use Rattle.snap_rows.specs.Entries.{row_at, rank_at, rank_of, var_of};
+ghost use Rattle.snap_rows.specs.declared.tables.Row.TheVariants.{Leaf};
+ghost use Rattle.snap_rows.specs.Entries.{Parts, row_at, rank_at, rank_of, var_of};
 ghost use Rattle.snap_rows.specs.Form.{IsInForm, IsRowInForm, IsTurnInForm, switch_count};
-ghost use Rattle.snap_rows.specs.Leads.{IsNumberAfter, AreLedOver};
+ghost use Rattle.snap_rows.specs.Leads.{IsNumberAfter, AreLedOver, AreLedNext};
 ghost use Rattle.snap_rows.specs.Rules.{IsFirstSpot};
 ghost use Rattle.snap_rows.specs.Ways.{Way, Route, OwnsBelow};
 
@@ -150,5 +151,48 @@ pub(crate) fn led_over(
         Row::Leaf { stages, .. } => route(tables, at, stages.items(), over),
         Row::Stop => owners(tables, 1, over),
         Row::Last { .. } => owners(tables, ranks(tables.arrays.items()), over),
+    }
+}
+
+// The switches to which a leaf with these stages leads at once, in place of what the list held.
+fn leaf_next(
+    tables: &Tables,
+    at: u16,
+    stages: &[Stage],
+    over: &mut Vec<u16>,
+) -> Result<(), NoMemory>
+    requires form { IsInForm tables.now }
+    requires loops { IsFirstSpot tables.now Rule.Loop None }
+    requires at { at < switch_count tables.now }
+    requires stages { All (IsTurnInForm tables.now) stages.now }
+    ensures { OnOk result ((outs : List Parts) → AreLedNext tables.now at (Leaf stages.now outs) over.new.items) }
+{
+    if stages.len() > 0 && stages[0].at != at {
+        return one_over(next(tables, at, stages[0].at), over);
+    }
+    route(tables, at, stages, over)
+}
+
+/// The switches to which a row leads at once with its own number, in place of what the list held: where it has room for
+/// them, this takes no memory. A way of many stages is listed once for each number, at the switch of its first stage.
+pub(crate) fn led_next(
+    tables: &Tables,
+    at: u16,
+    row: &Row,
+    over: &mut Vec<u16>,
+) -> Result<(), NoMemory>
+    requires form { IsInForm tables.now }
+    requires loops { IsFirstSpot tables.now Rule.Loop None }
+    requires at { at < switch_count tables.now }
+    requires row { IsRowInForm tables.now row.now }
+    ensures { OnOk result (AreLedNext tables.now at row.now over.new.items) }
+{
+    match row {
+        Row::Leaf { stages, .. } => leaf_next(tables, at, stages.items(), over),
+        Row::Field { .. } => led_over(tables, at, row, over),
+        Row::State { .. } => led_over(tables, at, row, over),
+        Row::Go { .. } => led_over(tables, at, row, over),
+        Row::Stop => led_over(tables, at, row, over),
+        Row::Last { .. } => led_over(tables, at, row, over),
     }
 }

@@ -2,15 +2,16 @@
 
 ghost use Rattle.std.specs.Prelude.{◌≡◌, ◌↔◌, ◌<◌, ℕ, None, Some, IfOk, IfSome, IfNone, IsSome, IsTrue};
 ghost use Rattle.std.specs.List.{All};
+ghost use Rattle.snap_rows.specs.declared.tables.Row.{Row};
 ghost use Rattle.snap_rows.specs.declared.tables.Rule.{Rule};
 ghost use Rattle.snap_rows.specs.declared.tables.Spot.{Spot};
 ghost use Rattle.snap_rows.specs.Entries.{row_at};
 ghost use Rattle.snap_rows.specs.Form.{IsInForm, IsRowInForm, switch_count};
-ghost use Rattle.snap_rows.specs.Leads.{HaveRows};
+ghost use Rattle.snap_rows.specs.Leads.{HaveRows, HaveNext};
 ghost use Rattle.snap_rows.specs.Rules.{Keeps, IsFirstSpot};
 
 use crate::guesses::Guesses;
-use crate::rules::leads::{has_row, led_over, numbers_have_rows};
+use crate::rules::leads::{has_row, led_next, led_over, numbers_have_rows};
 use crate::tables::{RowAt, Spot, Tables};
 use snap_core::NoMemory;
 use std::alloc::Global;
@@ -45,6 +46,41 @@ fn leads_have_rows(
     Ok(all_have_rows(tables, guesses, over, entry.number))
 }
 
+// Whether each pair to which a row leads at once has a row. The list is room for the switches that it leads to.
+fn next_have_rows(
+    tables: &Tables,
+    guesses: &Guesses,
+    entry: &RowAt,
+    over: &mut Vec<u16>,
+) -> Result<bool, NoMemory>
+    requires form { IsInForm tables.now }
+    requires loops { IsFirstSpot tables.now Rule.Loop None }
+    requires at { entry.now.at < switch_count tables.now }
+    requires row { IsRowInForm tables.now entry.now.row }
+    ensures { IfOk result (λ all. IsTrue all → HaveNext tables.now entry.now.at entry.now.number entry.now.row) }
+{
+    if !numbers_have_rows(tables, guesses, entry.at, &entry.row) {
+        return Ok(false);
+    }
+    led_next(tables, entry.at, &entry.row, over)?;
+    Ok(all_have_rows(tables, guesses, over, entry.number))
+}
+
+// Whether each pair to which a row leads at once has a row, for all rows. Then each pair to which a row leads has one.
+fn all_next_have_rows(alloc: Global, tables: &Tables, guesses: &Guesses) -> Result<bool, NoMemory>
+    requires form { IsInForm tables.now }
+    requires loops { IsFirstSpot tables.now Rule.Loop None }
+    ensures { IfOk result (λ all. IsTrue all → (w n : ℕ) (b : Row) → row_at tables.now w n ≡ Some b → HaveNext tables.now w n b) }
+{
+    let mut over = Vec::new(alloc);
+    for entry in tables.rows.items() {
+        if !next_have_rows(tables, guesses, entry, &mut over)? {
+            return Ok(false);
+        }
+    }
+    Ok(true)
+}
+
 // The first port at whose switch number 0 has no row.
 fn port_spot(tables: &Tables, guesses: &Guesses) -> Option<Spot>
     requires { IsInForm tables.now }
@@ -75,6 +111,24 @@ fn row_spot(alloc: Global, tables: &Tables, guesses: &Guesses) -> Result<Option<
     Ok(None)
 }
 
+// The same. All leads of a row are listed only where it is known that one of them has no row.
+fn row_spot_if_any(
+    alloc: Global,
+    tables: &Tables,
+    guesses: &Guesses,
+) -> Result<Option<Spot>, NoMemory>
+    requires form { IsInForm tables.now }
+    requires loops { IsFirstSpot tables.now Rule.Loop None }
+    requires kind { IsFirstSpot tables.now Rule.Kind None }
+    requires ports { (i : ℕ) → Keeps tables.now Rule.Missing (Spot.Port i) }
+    ensures { IfOk result (IsFirstSpot tables.now Rule.Missing) }
+{
+    if all_next_have_rows(alloc, tables, guesses)? {
+        return Ok(None);
+    }
+    row_spot(alloc, tables, guesses)
+}
+
 /// The first port or row that leads to a pair without a row. Next hops lead to their targets.
 pub(crate) fn missing_spot(
     alloc: Global,
@@ -83,10 +137,11 @@ pub(crate) fn missing_spot(
 ) -> Result<Option<Spot>, NoMemory>
     requires form { IsInForm tables.now }
     requires loops { IsFirstSpot tables.now Rule.Loop None }
+    requires kind { IsFirstSpot tables.now Rule.Kind None }
     ensures { IfOk result (IsFirstSpot tables.now Rule.Missing) }
 {
     match port_spot(tables, guesses) {
         Some(spot) => Ok(Some(spot)),
-        None => row_spot(alloc, tables, guesses),
+        None => row_spot_if_any(alloc, tables, guesses),
     }
 }

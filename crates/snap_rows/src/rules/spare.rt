@@ -19,6 +19,7 @@ pub(crate) fn spare_spot(
 ) -> Result<Option<Spot>, NoMemory>
     requires form { IsInForm tables.now }
     requires loops { IsFirstSpot tables.now Rule.Loop None }
+    requires kind { IsFirstSpot tables.now Rule.Kind None }
     requires missing { IsFirstSpot tables.now Rule.Missing None }
     ensures { IfOk result (IsFirstSpot tables.now Rule.Spare) }
 {

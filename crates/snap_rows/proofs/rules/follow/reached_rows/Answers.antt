@@ -68,4 +68,4 @@ returns-clause-marked c =
     let left = c.loop-place.search.left in
     let none : left.len ≤ 0 = ⊎_elim (λ some. absurd (false≢true (sym (ap (λ o. is_some o) c.in_default.is) ∙ c.pop.ensures.variant.1 some))) (λ le. le) (cases_lt 0 left.len) in
     let e : left.items ≡ [] = nil_from_length left.items (let long : left.len ≡ length left.items = left.ok.0 in omega arith) in
-    are_marked t c.requires.form marks (subst (IsFollowed t marks) e c.loop-place.invariant.followed) c.loop-place.invariant.ports
+    are_marked t c.requires.form c.requires.kind marks (subst (IsFollowed t marks) e c.loop-place.invariant.followed) c.loop-place.invariant.ports
