@@ -30,7 +30,7 @@ use Rattle.snap_rows.proofs.Bounded.{Falls, Measures, port_below, port_home, far
 use Rattle.snap_rows.proofs.Falls.{visit_bound, conclude_bound}
 
 -- ---- counts
-one_more : (p : RowAt → Bool) (x : RowAt) (xs : List RowAt) → count_by p (x ∷ xs) ≡ cond (p x) 1 0 + count_by p xs
+pub one_more : (p : RowAt → Bool) (x : RowAt) (xs : List RowAt) → count_by p (x ∷ xs) ≡ cond (p x) 1 0 + count_by p xs
 one_more p x xs = sum_by-cons (λ x. cond (p x) 1 0) x xs
 
 more_le : (p q : RowAt → Bool) (x : RowAt) (xs : List RowAt) → cond (p x) 1 0 + count_by p xs ≤ cond (q x) 1 0 + count_by q xs → count_by p (x ∷ xs) ≤ count_by q (x ∷ xs)
@@ -70,7 +70,7 @@ count_lt p q (x ∷ xs) (suc i) r is e f h = more_lt p q x xs (by (p x) (q x) re
     by false false e f le = omega arith
 
 -- ---- the switch that decides a number
-record Decided (t : Tables) (n x : ℕ) : Type 0 where
+pub record Decided (t : Tables) (n x : ℕ) : Type 0 where
   pub test : Test
   pub yes' : ℕ
   pub no' : ℕ
@@ -90,7 +90,7 @@ decided t valid one w n x row = let g = (row_keeps t valid Kind w n (Go x) row).
     by (Last us os) e h = absurd h
 
 -- state rows of a number stand at one switch
-one_decision : (t : Tables) (n x y : ℕ) → Decided t n x → Decided t n y → x ≡ y
+pub one_decision : (t : Tables) (n x y : ℕ) → Decided t n x → Decided t n y → x ≡ y
 one_decision t n x y d e =
     let same : State d.test d.yes' d.no' ≡ State e.test e.yes' e.no' = some_injective _ _ (sym d.node ∙ e.node) in
     let test : d.test ≡ e.test = cc in

@@ -10,6 +10,7 @@ pub mod Later
 pub mod Seen
 pub mod Plans
 pub mod Arrives
+pub mod OwnReads
 pub mod Leading
 pub mod Nexts
 pub mod Spots
@@ -20,6 +21,7 @@ pub mod Short
 pub mod Bounded
 pub mod Falls
 pub mod FallsOne
+pub mod StateNumbers
 pub mod Measured
 pub mod Alone
 pub mod Growing
