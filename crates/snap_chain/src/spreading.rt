@@ -9,7 +9,7 @@ ghost use Rattle.snap_fdd.specs.Diagrams.{diagram, Only};
 ghost use Rattle.snap_fdd.specs.declared.leaf.Leaf.{Leaf};
 ghost use Rattle.snap_fdd.specs.declared.leaf.Leaf.TheVariants.{Go as Goes};
 ghost use Rattle.snap_fdd.specs.Picks.{IsArgument, sizes};
-ghost use Rattle.snap_chain.specs.Memoed.{PrefixedFor, IsAskedPrefix};
+ghost use Rattle.snap_chain.specs.Memoed.{PrefixedFor, IsAskedPrefix, SequelFor, IsAskedSequel};
 ghost use Rattle.snap_chain.specs.Marks.{AreMarked};
 ghost use Rattle.snap_chain.specs.Spread.{behind_leaf, IsRun, IsPrefixed, IsSpread, IsSequel};
 
@@ -171,6 +171,60 @@ pub fn spread(
     prefixed(nodes, groups, ctx, &mut memo, go, all)
 }
 
+// A diagram whose leaves are settled, and then another, which may be remembered.
+#[cycle(followed)]
+fn followed(
+    nodes: &mut Nodes<Leaf>,
+    groups: &Groups,
+    ctx: &Context,
+    marks: &[Mark],
+    memo: &mut Numbers,
+    a: u64,
+    d: u64,
+) -> Result<u64, NoMemory>
+    requires { IsAskedSequel groups.now ctx.now d nodes.old marks.now memo.old a }
+    ensures grew { Grew nodes.old nodes.new }
+    ensures number { IfOk result (λ r. r < length nodes.new) }
+    ensures sequel { IfOk result (λ r. IsSequel groups.now ctx.now (diagram nodes.old d) (diagram nodes.old a) (diagram nodes.new r)) }
+    ensures memo { OnOk result (Remembers (SequelFor groups.now ctx.now d nodes.new) memo.new) }
+{
+    if let Some(r) = memo.get(&[a]) {
+        return Ok(r);
+    }
+    let r = followed_anew(nodes, groups, ctx, marks, memo, a, d)?;
+    memo.put(vec![in nodes.allocator(); a]?, r)?;
+    Ok(r)
+}
+
+#[cycle(followed)]
+fn followed_anew(
+    nodes: &mut Nodes<Leaf>,
+    groups: &Groups,
+    ctx: &Context,
+    marks: &[Mark],
+    memo: &mut Numbers,
+    a: u64,
+    d: u64,
+) -> Result<u64, NoMemory>
+    requires { IsAskedSequel groups.now ctx.now d nodes.old marks.now memo.old a }
+    ensures grew { Grew nodes.old nodes.new }
+    ensures number { IfOk result (λ r. r < length nodes.new) }
+    ensures sequel { IfOk result (λ r. IsSequel groups.now ctx.now (diagram nodes.old d) (diagram nodes.old a) (diagram nodes.new r)) }
+    ensures memo { OnOk result (Remembers (SequelFor groups.now ctx.now d nodes.new) memo.new) }
+{
+    match part_of(nodes, a)? {
+        Part::Whole => match go_of(nodes, a)? {
+            None => Ok(a),
+            Some(go) => spread(nodes, groups, ctx, marks, &go, d),
+        },
+        Part::Split { test, yes, no } => {
+            let y = followed(nodes, groups, ctx, marks, memo, yes, d)?;
+            let n = followed(nodes, groups, ctx, marks, memo, no, d)?;
+            ite(nodes, groups, ctx, test, y, n)
+        }
+    }
+}
+
 /// A diagram whose leaves are settled, and then another.
 pub fn spread_on(
     nodes: &mut Nodes<Leaf>,
@@ -188,15 +242,6 @@ pub fn spread_on(
     ensures number { IfOk result (λ r. r < length nodes.new) }
     ensures sequel { IfOk result (λ r. IsSequel groups.now ctx.now (diagram nodes.old d) (diagram nodes.old a) (diagram nodes.new r)) }
 {
-    match part_of(nodes, a)? {
-        Part::Whole => match go_of(nodes, a)? {
-            None => Ok(a),
-            Some(go) => spread(nodes, groups, ctx, marks, &go, d),
-        },
-        Part::Split { test, yes, no } => {
-            let y = spread_on(nodes, groups, ctx, marks, yes, d)?;
-            let n = spread_on(nodes, groups, ctx, marks, no, d)?;
-            ite(nodes, groups, ctx, test, y, n)
-        }
-    }
+    let mut memo = Numbers::new(nodes.allocator());
+    followed(nodes, groups, ctx, marks, &mut memo, a, d)
 }
