@@ -1,7 +1,7 @@
 -- No out or one, or both halves.
 use Rattle.std.proofs.Common.{◌≡◌, ◌++◌, ◌/◌, sym, ap, arith, length, subst, ◌∙◌, length-drop, take-append-drop}
 use Rattle.std.specs.Prelude.{All}
-use Rattle.std.proofs.lemmas.List.Elements.{All-take, All-drop}
+use Rattle.std.proofs.lemmas.List.Elements.{All-drop}
 use Rattle.snap_fdd.specs.Diagrams.{diagram}
 use Rattle.snap_core.specs.Tests.{OutFits}
 use Rattle.snap_fdd.specs.Picks.{sizes}
