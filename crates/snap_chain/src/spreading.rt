@@ -9,9 +9,9 @@ ghost use Rattle.snap_fdd.specs.Diagrams.{diagram, Only};
 ghost use Rattle.snap_fdd.specs.declared.leaf.Leaf.{Leaf};
 ghost use Rattle.snap_fdd.specs.declared.leaf.Leaf.TheVariants.{Go as Goes};
 ghost use Rattle.snap_fdd.specs.Picks.{IsArgument, sizes};
-ghost use Rattle.snap_chain.specs.Memoed.{PrefixedFor, IsAskedPrefix};
+ghost use Rattle.snap_chain.specs.Memoed.{PrefixedFor, IsAskedPrefix, SequelFor, IsAskedSequel};
 ghost use Rattle.snap_chain.specs.Marks.{AreMarked};
-ghost use Rattle.snap_chain.specs.Spread.{behind_leaf, IsRun, IsPrefixed, IsSpread, IsSequel};
+ghost use Rattle.snap_chain.specs.Spread.{bare_leaf, behind_leaf, IsRun, IsPrefixed, IsSpread, IsSequel};
 
 use crate::late::after_marked;
 use crate::marks::Mark;
@@ -30,7 +30,8 @@ use snap_fdd::pruning::{Part, part_of};
 use snap_join::joining::join;
 use std::alloc::Global;
 
-// A diagram behind each out and the updates, beside what is done so far.
+// A diagram behind each out and the updates, side by side, from a leaf that does nothing. Halves are joined with halves,
+// so each out's packets are copied once for each halving, and calls are no deeper than that.
 fn all_after(
     nodes: &mut Nodes<Leaf>,
     groups: &Groups,
@@ -38,10 +39,11 @@ fn all_after(
     marks: &[Mark],
     outs: &[Out],
     ups: &[Update],
-    so_far: u64,
+    start: u64,
     d: u64,
 ) -> Result<u64, NoMemory>
-    requires so_far { IsArgument groups.now ctx.now nodes.old so_far }
+    requires start { IsArgument groups.now ctx.now nodes.old start }
+    requires bare { diagram nodes.old start ≡ Only bare_leaf }
     requires d { IsArgument groups.now ctx.now nodes.old d }
     requires outs { All (OutFits (sizes groups.now ctx.now).comps) outs.now }
     requires ups { All (UpdateIn (sizes groups.now ctx.now)) ups.now }
@@ -49,16 +51,21 @@ fn all_after(
     requires marked { AreMarked nodes.old marks.now }
     ensures grew { Grew nodes.old nodes.new }
     ensures number { IfOk result (λ r. r < length nodes.new) }
-    ensures run { IfOk result (λ r. IsRun groups.now ctx.now outs.now ups.now (diagram nodes.old d) (diagram nodes.old so_far) (diagram nodes.new r)) }
+    ensures run { IfOk result (λ r. IsRun groups.now ctx.now outs.now ups.now (diagram nodes.old d) (diagram nodes.new r)) }
 {
-    match outs.split_first() {
-        None => Ok(so_far),
-        Some((first, more)) => {
-            let one = after_marked(nodes, groups, ctx, marks, first, ups, d)?;
-            let both = join(nodes, groups, ctx, so_far, one)?;
-            all_after(nodes, groups, ctx, marks, more, ups, both, d)
-        }
+    if outs.len() <= 1 {
+        return match outs.split_first() {
+            None => Ok(start),
+            Some((out, _)) => {
+                let one = after_marked(nodes, groups, ctx, marks, out, ups, d)?;
+                join(nodes, groups, ctx, start, one)
+            }
+        };
     }
+    let (front, back) = outs.split_at(outs.len() / 2);
+    let first = all_after(nodes, groups, ctx, marks, front, ups, start, d)?;
+    let second = all_after(nodes, groups, ctx, marks, back, ups, start, d)?;
+    join(nodes, groups, ctx, first, second)
 }
 
 // A leaf behind the updates and logs of another.
@@ -156,7 +163,7 @@ pub fn spread(
         reads: 0,
         writes: 0,
     });
-    let so_far = only(nodes, groups, ctx, nothing)?;
+    let start = only(nodes, groups, ctx, nothing)?;
     let all = all_after(
         nodes,
         groups,
@@ -164,11 +171,65 @@ pub fn spread(
         marks,
         go.outs.list(),
         go.ups.list(),
-        so_far,
+        start,
         d,
     )?;
     let mut memo = Numbers::new(alloc);
     prefixed(nodes, groups, ctx, &mut memo, go, all)
+}
+
+// A diagram whose leaves are settled, and then another, which may be remembered.
+#[cycle(followed)]
+fn followed(
+    nodes: &mut Nodes<Leaf>,
+    groups: &Groups,
+    ctx: &Context,
+    marks: &[Mark],
+    memo: &mut Numbers,
+    a: u64,
+    d: u64,
+) -> Result<u64, NoMemory>
+    requires { IsAskedSequel groups.now ctx.now d nodes.old marks.now memo.old a }
+    ensures grew { Grew nodes.old nodes.new }
+    ensures number { IfOk result (λ r. r < length nodes.new) }
+    ensures sequel { IfOk result (λ r. IsSequel groups.now ctx.now (diagram nodes.old d) (diagram nodes.old a) (diagram nodes.new r)) }
+    ensures memo { OnOk result (Remembers (SequelFor groups.now ctx.now d nodes.new) memo.new) }
+{
+    if let Some(r) = memo.get(&[a]) {
+        return Ok(r);
+    }
+    let r = followed_anew(nodes, groups, ctx, marks, memo, a, d)?;
+    memo.put(vec![in nodes.allocator(); a]?, r)?;
+    Ok(r)
+}
+
+#[cycle(followed)]
+fn followed_anew(
+    nodes: &mut Nodes<Leaf>,
+    groups: &Groups,
+    ctx: &Context,
+    marks: &[Mark],
+    memo: &mut Numbers,
+    a: u64,
+    d: u64,
+) -> Result<u64, NoMemory>
+    requires { IsAskedSequel groups.now ctx.now d nodes.old marks.now memo.old a }
+    ensures grew { Grew nodes.old nodes.new }
+    ensures number { IfOk result (λ r. r < length nodes.new) }
+    ensures sequel { IfOk result (λ r. IsSequel groups.now ctx.now (diagram nodes.old d) (diagram nodes.old a) (diagram nodes.new r)) }
+    ensures memo { OnOk result (Remembers (SequelFor groups.now ctx.now d nodes.new) memo.new) }
+{
+    match part_of(nodes, a)? {
+        Part::Whole => match go_of(nodes, a)? {
+            None => Ok(a),
+            Some(go) => spread(nodes, groups, ctx, marks, &go, d),
+        },
+        Part::Split { test, yes, no } => {
+            let y = followed(nodes, groups, ctx, marks, memo, yes, d)?;
+            let n = followed(nodes, groups, ctx, marks, memo, no, d)?;
+            ite(nodes, groups, ctx, test, y, n)
+        }
+    }
 }
 
 /// A diagram whose leaves are settled, and then another.
@@ -188,15 +249,6 @@ pub fn spread_on(
     ensures number { IfOk result (λ r. r < length nodes.new) }
     ensures sequel { IfOk result (λ r. IsSequel groups.now ctx.now (diagram nodes.old d) (diagram nodes.old a) (diagram nodes.new r)) }
 {
-    match part_of(nodes, a)? {
-        Part::Whole => match go_of(nodes, a)? {
-            None => Ok(a),
-            Some(go) => spread(nodes, groups, ctx, marks, &go, d),
-        },
-        Part::Split { test, yes, no } => {
-            let y = spread_on(nodes, groups, ctx, marks, yes, d)?;
-            let n = spread_on(nodes, groups, ctx, marks, no, d)?;
-            ite(nodes, groups, ctx, test, y, n)
-        }
-    }
+    let mut memo = Numbers::new(nodes.allocator());
+    followed(nodes, groups, ctx, marks, &mut memo, a, d)
 }

@@ -1,48 +1,62 @@
--- One out, and then the others.
-use Rattle.std.proofs.Common.{sym, arith, ap, length, ◌∙◌, ◌≡◌}
-use Rattle.std.proofs.lemmas.Result.{IfOk-weaker}
+-- No out or one, or both halves.
+use Rattle.std.proofs.Common.{◌≡◌, ◌++◌, ◌/◌, sym, ap, arith, length, subst, ◌∙◌, length-drop, take-append-drop}
+use Rattle.std.specs.Prelude.{All}
+use Rattle.std.proofs.lemmas.List.Elements.{All-drop}
 use Rattle.snap_fdd.specs.Diagrams.{diagram}
+use Rattle.snap_core.specs.Tests.{OutFits}
 use Rattle.snap_fdd.specs.Picks.{sizes}
-use Rattle.snap_fdd.proofs.Shared.{kept, argument_kept, still_below}
-use Rattle.snap_chain.proofs.Settled.{head_fits, tail_fits}
+use Rattle.snap_fdd.proofs.Cutting.{if_ok_both}
+use Rattle.snap_fdd.proofs.Shared.{kept, argument_kept}
+use Rattle.snap_chain.specs.Spread.{IsRun}
+use Rattle.snap_chain.proofs.Settled.{head_fits}
 use Rattle.snap_chain.proofs.Marked.{marked_kept}
-use Rattle.snap_chain.proofs.Sequel.{run_more}
+use Rattle.snap_chain.proofs.Sequel.{only_one, run_one, run_both}
 use Rattle.snap_chain.proofs.spreading.+all_after.Goals as goal
 
 pub after_marked-requires-clause-out : goal.after_marked-requires-clause-out
-after_marked-requires-clause-out t c = head_fits (sizes c.args.groups.now c.args.ctx.now).comps c.args.outs.now c.in-Some.more.now c.in-Some.first.now c.in-Some.ensures.cases.0 c.requires.outs
+after_marked-requires-clause-out t c = head_fits (sizes c.args.groups.now c.args.ctx.now).comps c.args.outs.now c.in-Some.field-0-1.now c.in-Some.out.now c.in-Some.ensures.cases.0 c.requires.outs
 
 pub join-requires-clause-a : goal.join-requires-clause-a
-join-requires-clause-a t c = argument_kept c.args.groups.now c.args.ctx.now c.args.nodes.now c.after_marked.new.nodes c.args.so_far c.after_marked.ensures.grew c.requires.so_far
+join-requires-clause-a t c = argument_kept c.args.groups.now c.args.ctx.now c.args.nodes.now c.after_marked.new.nodes c.args.start c.after_marked.ensures.grew c.requires.start
 
-pub all_after-requires : goal.all_after-requires
-all_after-requires t c =
-    let e = c.in-Some.ensures.cases.0 in
-    let l = ap length e in (
-      omega (arith, l, c.decreases),
+pub returns-in_ok-one-in-Some-clause-run : goal.returns-in_ok-one-in-Some-clause-run
+returns-in_ok-one-in-Some-clause-run t c =
+    let ks = kept c.args.nodes.now c.after_marked.new.nodes c.args.start c.after_marked.ensures.grew c.requires.start.below in
+    let one = only_one c.args.outs.now c.in-Some.field-0-1.now c.in-Some.out.now c.in-Some.ensures.cases.0 (omega (arith, c.if-outs-le1.true)) in
+    if_ok_both c.join.result _ _ _ (λ r a w. run_one c.args.groups.now c.args.ctx.now c.in-Some.out.now c.args.outs.now c.args.ups.now (diagram c.args.nodes.now c.args.d) (diagram c.after_marked.new.nodes c.args.start)
+    (diagram c.after_marked.new.nodes c.in_ok-one-in-Some.one) (diagram c.join.new.nodes r) one (ks ∙ c.requires.bare) c.in_ok-one-in-Some.ensures.late.late (λ m k met small. w m k met) a.keeps) c.join.ensures.diagram c.join.ensures.answer
+
+pub all_after-requires-2 : goal.all_after-requires-2
+all_after-requires-2 t c =
+    let f = ap length c.split_at.ensures.back in
+    let n = length-drop (length c.args.outs.now / 2) c.args.outs.now in
+    let g = c.all_after.ensures.grew in (
+      omega (arith, f, n, c.decreases, c.if-outs-le1.false),
       (
-        c.in_ok-both-in-Some.ensures.diagram,
+        argument_kept c.args.groups.now c.args.ctx.now c.args.nodes.now c.all_after.new.nodes c.args.start g c.requires.start,
         (
-          argument_kept c.args.groups.now c.args.ctx.now c.after_marked.new.nodes c.join.new.nodes c.args.d c.join.ensures.grew (argument_kept c.args.groups.now c.args.ctx.now c.args.nodes.now c.after_marked.new.nodes c.args.d c.after_marked.ensures.grew c.requires.d),
+          kept c.args.nodes.now c.all_after.new.nodes c.args.start g c.requires.start.below ∙ c.requires.bare,
           (
-            tail_fits (sizes c.args.groups.now c.args.ctx.now).comps c.args.outs.now c.in-Some.more.now c.in-Some.first.now e c.requires.outs,
+            argument_kept c.args.groups.now c.args.ctx.now c.args.nodes.now c.all_after.new.nodes c.args.d g c.requires.d,
             (
-              c.requires.ups,
-              (
-                c.requires.marks,
-                marked_kept c.after_marked.new.nodes c.join.new.nodes c.args.marks.now c.join.ensures.grew (marked_kept c.args.nodes.now c.after_marked.new.nodes c.args.marks.now c.after_marked.ensures.grew c.requires.marked),
-              ),
+              subst (All (OutFits (sizes c.args.groups.now c.args.ctx.now).comps)) (sym c.split_at.ensures.back) (All-drop (OutFits (sizes c.args.groups.now c.args.ctx.now).comps) _ c.args.outs.now c.requires.outs),
+              (c.requires.ups, (c.requires.marks, marked_kept c.args.nodes.now c.all_after.new.nodes c.args.marks.now g c.requires.marked)),
             ),
           ),
         ),
       ),
     )
 
-pub returns-in_ok-both-in-Some-clause-run : goal.returns-in_ok-both-in-Some-clause-run
-returns-in_ok-both-in-Some-clause-run t c =
-    let ks = kept c.args.nodes.now c.after_marked.new.nodes c.args.so_far c.after_marked.ensures.grew c.requires.so_far.below in
-    let kd : diagram c.join.new.nodes c.args.d ≡ diagram c.args.nodes.now c.args.d
-    = kept c.after_marked.new.nodes c.join.new.nodes c.args.d c.join.ensures.grew (still_below _ _ _ c.after_marked.ensures.grew c.requires.d.below) ∙ kept c.args.nodes.now c.after_marked.new.nodes c.args.d c.after_marked.ensures.grew c.requires.d.below in
-    let a = rw ks at c.in_ok-both-in-Some.ensures.answer in
-    IfOk-weaker c.all_after.result _ _ (λ r i. run_more c.args.groups.now c.args.ctx.now c.in-Some.first.now c.in-Some.more.now c.args.outs.now c.args.ups.now (diagram c.args.nodes.now c.args.d) (diagram c.args.nodes.now c.args.so_far)
-    (diagram c.after_marked.new.nodes c.in_ok-one-in-Some.one) (diagram c.join.new.nodes c.in_ok-both-in-Some.both) (diagram c.all_after.new.nodes r) c.in-Some.ensures.cases.0 c.in_ok-one-in-Some.ensures.late.late (λ m k met small. a m k met) (rw (sym kd) i)) c.all_after.ensures.run
+pub join-requires-2-clause-a : goal.join-requires-2-clause-a
+join-requires-2-clause-a t c =
+    argument_kept c.args.groups.now c.args.ctx.now c.all_after.new.nodes c.all_after-2.new.nodes c.in_ok-first.first c.all_after-2.ensures.grew (record { below = c.in_ok-first.ensures.number; keeps = c.in_ok-first.ensures.run.keeps })
+
+pub returns-clause-run : goal.returns-clause-run
+returns-clause-run t c =
+    let kd = kept c.args.nodes.now c.all_after.new.nodes c.args.d c.all_after.ensures.grew c.requires.d.below in
+    let kf = kept c.all_after.new.nodes c.all_after-2.new.nodes c.in_ok-first.first c.all_after-2.ensures.grew c.in_ok-first.ensures.number in
+    let first : IsRun c.args.groups.now c.args.ctx.now c.split_at.result.0.now c.args.ups.now (diagram c.args.nodes.now c.args.d) (diagram c.all_after-2.new.nodes c.in_ok-first.first) = rw kf c.in_ok-first.ensures.run in
+    let second : IsRun c.args.groups.now c.args.ctx.now c.split_at.result.1.now c.args.ups.now (diagram c.args.nodes.now c.args.d) (diagram c.all_after-2.new.nodes c.in_ok-second.second) = rw (sym kd) c.in_ok-second.ensures.run in
+    let whole : c.args.outs.now ≡ c.split_at.result.0.now ++ c.split_at.result.1.now = sym ((λ i. c.split_at.ensures.front i ++ c.split_at.ensures.back i) ∙ take-append-drop _ c.args.outs.now) in
+    if_ok_both c.join-2.result _ _ _ (λ r a w. run_both c.args.groups.now c.args.ctx.now c.split_at.result.0.now c.split_at.result.1.now c.args.outs.now c.args.ups.now (diagram c.args.nodes.now c.args.d) (diagram c.all_after-2.new.nodes c.in_ok-first.first)
+    (diagram c.all_after-2.new.nodes c.in_ok-second.second) (diagram c.join-2.new.nodes r) whole first second (λ m k met small. w m k met) a.keeps) c.join-2.ensures.diagram c.join-2.ensures.answer
