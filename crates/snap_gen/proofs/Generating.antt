@@ -309,11 +309,10 @@ module _ (p : Program) (t : Topology) (places : List ℕ) (routes : Table) (rank
   is_made valid = record {
     form = w.form;
     valid = valid;
-    version = w.version;
     fields = w.fields;
     names = w.names;
     owners = w.owners;
-    ranks = λ order rank. (let r = input.ranked order rank in record {
+    ranks = λ two order rank. (let r = input.ranked order rank in record {
       below = λ v l. subst (λ x. x < length order) (same_ranks v) (r.below v l);
       group = λ v l. subst (λ x. Tied p.body (slice_index order x) v) (same_ranks v) (r.group v l);
     });
@@ -341,6 +340,7 @@ written p t places routes ranks_list ns top ids number front n input bare num w 
       in_form = input.in_form;
       paths = input.paths;
       shape = is_made p t places routes ranks_list (numbered_nodes ns ids number) front n input w valid;
+      version = w.version;
       meaning = shown_mean p ns top ids number n bare.arena num shows bare.outcome;
       never = input.never;
       small = input.small;

@@ -120,11 +120,10 @@ shape : HasShape to_one one_switch [] (one_row to_port)
 shape = record {
   form = in_form;
   valid = valid;
-  version = refl;
   fields = refl;
   names = refl;
   owners = refl;
-  ranks = λ order rank. record { below = λ v l. absurd (none_below v l); group = λ v l. absurd (none_below v l) };
+  ranks = λ two order rank. record { below = λ v l. absurd (none_below v l); group = λ v l. absurd (none_below v l) };
   switches = refl;
   links = refl;
   ports = refl;
@@ -199,6 +198,7 @@ one_row_is_faithful = facts_make to_one one_switch [] routes (one_row to_port) (
   in_form = topology_in_form;
   paths = paths;
   shape = shape;
+  version = refl;
   meaning = meaning;
   never = λ m k store packet none. none-some _ (sym none);
   small = omega arith;
@@ -235,7 +235,7 @@ one_sent = ap (λ l. map sent (filter (goes_out (1 ∷ [])) l)) (listed-one (1 �
 
 pub another_leaf_is_not : AnotherLeafIsNot
 another_leaf_is_not f =
-    let c = faithful_chains to_one one_switch [] (one_row []) f zero_arrays 1 shown _ zeros (enters []) refl in
+    let c = faithful_chains to_one one_switch [] (one_row []) f refl zero_arrays 1 shown _ zeros (enters []) refl in
     let same = (c.forks c.at c.last c.ups c.outs c.chained c.leaf).0 in
     let none = ap (λ l. sent_of (one_row []) (results l shown)) (only_outs [] c.at c.last c.ups c.outs c.leaf) in
     let both : [] ≡ sent (1 ∷ 1 ∷ []) ∷ [] = sym nothing_sent ∙ sym none ∙ same ∙ one_sent in

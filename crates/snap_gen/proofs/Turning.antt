@@ -1,4 +1,4 @@
--- From faithful tables alone: the chain of a packet, and steps in turn.
+-- From faithful tables of version 2 alone: the chain of a packet, and steps in turn.
 use Rattle.std.proofs.Common.{◌≡◌, ℕ, zero, ◌+◌, Bool, true, false, cond, List, [], ◌∷◌, length, map, Some, refl, sym, ap, subst, ◌∙◌, arith}
 use Rattle.std.specs.Prelude.{slice_get, slice_index, nat_eq}
 use Rattle.std.specs.List.{filter, list_any}
@@ -93,19 +93,19 @@ same_outs : (us us' : List Update) (os os' : List Parts) → Last us os ≡ Last
 unfolding last_outs
 same_outs us us' os os' e = ap (last_outs []) e
 
-module _ (p : Program) (topology : Topology) (places : List ℕ) (t : Tables) (f : Faithful p topology places t) where
+-- ---- stores
+pub faithful_stores : FaithfulKeepsStores
+faithful_stores p topology places t f m k store packet =
+    let end = f.defined m (k ∷ []) store (All-cons (IsPacketOf p) k [] packet (All-nil (IsPacketOf p))) in
+    let o = only_outcome p.body m k end.0 end.1 in
+    (o.0, o.1, subst (IsStoreOf p) (sym o.2) end.2)
+
+module _ (p : Program) (topology : Topology) (places : List ℕ) (t : Tables) (f : Faithful p topology places t) (version : t.version ≡ 2) where
   two : IsTwo t
-  two = record { form = f.shape.form; valid = f.shape.valid; version = f.shape.version }
+  two = record { form = f.shape.form; valid = f.shape.valid; version = version }
 
   zeros : (m : Arrays) → IsStoreOf p m → IsZeroFrom (array_count t) m
   zeros m store q l = store.only q (let e = sym (length-map t.arrays (λ (a : ArrayAt). a.name)) ∙ ap length f.shape.names in omega (arith, l, e))
-
-  -- ---- stores
-  keeps_stores : (m : Arrays) (k : List ℕ) → IsStoreOf p m → IsPacketOf p k → (o : Meaning) × (eval p.body m k ≡ Some o) × IsStoreOf p o.arrays
-  keeps_stores m k store packet =
-      let end = f.defined m (k ∷ []) store (All-cons (IsPacketOf p) k [] packet (All-nil (IsPacketOf p))) in
-      let o = only_outcome p.body m k end.0 end.1 in
-      (o.0, o.1, subst (IsStoreOf p) (sym o.2) end.2)
 
   only_out : (k : List ℕ) (m : Arrays) (o : Meaning) → eval p.body m k ≡ Some o → one_big_switch p.body m (k ∷ []) ≡ Some (record { packets = o.packets ∷ []; arrays = o.arrays })
   only_out k m o e = switched_first p.body m k [] o (record { packets = []; arrays = o.arrays }) e refl
@@ -194,12 +194,9 @@ module _ (p : Program) (topology : Topology) (places : List ℕ) (t : Tables) (f
         let same = (chain (m i) port k o store can outcome).forks w x ups os (from_first (ranks t) x end) row in
         (held_on r v x s h us c own turn held visit, same, far_stays r v x s h us c own turn held visit)
 
-pub faithful_stores : FaithfulKeepsStores
-faithful_stores p topology places t f m k store packet = keeps_stores p topology places t f m k store packet
-
 pub faithful_chains : FaithfulChains
-faithful_chains p topology places t f m port k o store can outcome = chain p topology places t f m port k o store can outcome
+faithful_chains p topology places t f version m port k o store can outcome = chain p topology places t f version m port k o store can outcome
 
 pub faithful_turns : FaithfulTurnsKeep
-faithful_turns p topology places t f m i port k o store can outcome next first entry w r v s s' h h' b c held takes =
-    take_turns p topology places t f m i port k o store can outcome next first entry w c held takes
+faithful_turns p topology places t f version m i port k o store can outcome next first entry w r v s s' h h' b c held takes =
+    take_turns p topology places t f version m i port k o store can outcome next first entry w c held takes

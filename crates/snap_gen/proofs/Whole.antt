@@ -1,4 +1,4 @@
--- The facts make tables faithful.
+-- The facts make tables of version 2 faithful.
 use Rattle.std.proofs.Common.{◌≡◌, ℕ, ◌+◌, ◌*◌, ◌<◌, ◌≤◌, ⊎_elim, false, cond, List, [], ◌++◌, length, Some, None, refl, sym, ap, subst, ◌∙◌, arith}
 use Rattle.std.specs.Prelude.{slice_get, option_map, unwrap_or, nat_eq}
 use Rattle.std.specs.List.{All}
@@ -35,7 +35,7 @@ use Rattle.snap_rows.specs.Happenings.{commits}
 use Rattle.snap_rows.proofs.Later.{var_array}
 use Rattle.snap_gen.specs.Agreement.{numbered, in_order}
 use Rattle.snap_gen.specs.Facts.{Facts, FactsMakeFaithful}
-use Rattle.snap_gen.specs.Faithful.{IsStoreOf, IsPacketOf, AllCanEnter, packets_in, AgreesAsInjected, IsDefined, PlainRunsAgree, CalmRunsAgree, LoneRunsAgree, HopsAreBounded}
+use Rattle.snap_gen.specs.Faithful.{IsStoreOf, IsPacketOf, AllCanEnter, packets_in, AgreesAsInjected, IsDefined, PlainRunsAgree, CalmRunsAgree, LoneRunsAgree, IsWithin, most_hops, HopsAreBounded}
 use Rattle.snap_gen.specs.InTurn.{StandsAt}
 use Rattle.snap_gen.proofs.Nodes.{IsTwo}
 use Rattle.snap_gen.proofs.Owners.{rank_some}
@@ -78,7 +78,7 @@ module _ (t : Tables) (two : IsTwo t) where
 
 module _ (p : Program) (topology : Topology) (places : List ℕ) (routes : Table) (t : Tables) (f : Facts p topology places routes t) where
   two : IsTwo t
-  two = record { form = f.shape.form; valid = f.shape.valid; version = f.shape.version }
+  two = record { form = f.shape.form; valid = f.shape.valid; version = f.version }
 
   as_many : array_count t ≡ length p.vars
   as_many = sym (length-map t.arrays (λ (a : ArrayAt). a.name)) ∙ ap length f.shape.names
@@ -92,7 +92,7 @@ module _ (p : Program) (topology : Topology) (places : List ℕ) (routes : Table
   means : Means p.body (count p.fields) (length p.vars) order t
   means =
       let rank = (has_one p.body (length p.vars) (UsesBelow-fits (count p.fields) (length p.vars) p.body f.fits)).exists.1 in
-      record { fits = f.fits; never = f.never; rank = rank; ranks = f.shape.ranks order rank; meaning = f.meaning; two = two }
+      record { fits = f.fits; never = f.never; rank = rank; ranks = f.shape.ranks f.version order rank; meaning = f.meaning; two = two }
 
   keeps : KeepsStores p.body (count p.fields)
   keeps = keeps_stores p.body (count p.fields) f.small
@@ -143,7 +143,7 @@ module _ (p : Program) (topology : Topology) (places : List ℕ) (routes : Table
   -- ---- lone runs
   alone_at : IsLone t → (w : ℕ) × AllStandAt t w
   alone_at lone =
-      let one = lone.1 f.shape.version in (
+      let one = lone.1 f.version in (
         one.0,
         λ r x e. (let i = rank_entry t.arrays r x e in sym i.at ∙ All-get (λ (a : ArrayAt). a.at ≡ one.0) t.arrays i.place i.entry one.1 i.is),
       )
@@ -193,14 +193,15 @@ module _ (p : Program) (topology : Topology) (places : List ℕ) (routes : Table
   few_ranks : (order : List ℕ) → IsRank p.body (length p.vars) order → ranks t ≤ length order
   few_ranks order rank = ranks_few t.arrays (length order)
       (λ i a e.
-      (let low = (f.shape.ranks order rank).below i (let l = slice_get_within t.arrays i a e in let c = as_many in omega (arith, l, c)) in
+      (let low = (f.shape.ranks f.version order rank).below i (let l = slice_get_within t.arrays i a e in let c = as_many in omega (arith, l, c)) in
       subst (λ x. x < length order) (ap (λ o. unwrap_or (option_map (λ (a : ArrayAt). a.rank) o) 0) e) low))
 
   bounded : HopsAreBounded p topology t
   bounded groups d rank diameter m es s hs store can run =
       let w = stays_within t two (far routes (length topology.switches)) d (reach d diameter) m es s hs run in
       let few = few_ranks groups rank in
-      more_within ((ranks t + 1) * d) ((length groups + 1) * d) (mul-le (ranks t + 1) d (length groups + 1) d (omega (arith, few)) (omega arith)) s hs w
+      let wide = more_within ((ranks t + 1) * d) ((length groups + 1) * d) (mul-le (ranks t + 1) d (length groups + 1) d (omega (arith, few)) (omega arith)) s hs w in
+      subst (λ v. IsWithin (most_hops v (length groups) d) s hs) (sym f.version) wide
 
 pub facts_make : FactsMakeFaithful
 facts_make p topology places routes t f = record {

@@ -1,4 +1,4 @@
--- What faithful tables do with a packet rank by rank.
+-- What faithful tables do with a packet, and those of version 2 rank by rank.
 use Rattle.std.specs.Prelude.{◌≡◌, ℕ, ◌<◌, Some, List}
 use Rattle.snap_core.specs.declared.place.Place.{Place}
 use Rattle.snap_core.specs.declared.program.Program.{Program}
@@ -35,7 +35,7 @@ pub record Chain (t : Tables) (k : List ℕ) (m : Arrays) (o : Meaning) : Type 0
 
 -- so it is for each packet that can be injected, from each store of the program
 abbrev pub FaithfulChains : Type 0
-FaithfulChains = (p : Program) (topology : Topology) (places : List ℕ) (t : Tables) → Faithful p topology places t
+FaithfulChains = (p : Program) (topology : Topology) (places : List ℕ) (t : Tables) → Faithful p topology places t → t.version ≡ 2
     → (m : Arrays) (port : ℕ) (k : List ℕ) (o : Meaning) → IsStoreOf p m → CanEnter p t (port, k) → eval p.body m k ≡ Some o → Chain t k m o
 
 -- evaluation is defined, and leaves a store of the program

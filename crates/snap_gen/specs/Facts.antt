@@ -1,4 +1,4 @@
--- What makes tables faithful.
+-- What makes tables of version 2 faithful.
 use Rattle.std.specs.Prelude.{◌≡◌, ℕ, Some, List, length}
 use Rattle.snap_core.specs.declared.place.Place.{Place}
 use Rattle.snap_core.specs.declared.policy.Pol.{Pol}
@@ -28,13 +28,14 @@ HasMeaning p comps t = (m : Arrays) (k : List ℕ) → IsStore m → IsPacket co
     → (n : ℕ) (ups : List Update) (outs : List Parts) → Comes t k is_test m 0 n → node_of t n ≡ Some (Last ups outs)
     → (o : Meaning) → eval p m k ≡ Some o → (o.packets ≡ results outs k) × ((q : Place) → o.arrays q ≡ updates m ups k q)
 
--- a program within its bounds, a topology with its routes, and five facts: the tables have the shape for these, they mean the program,
+-- a program within its bounds, a topology with its routes, and five facts: tables of version 2 have the shape for these, they mean the program,
 -- which never races, its numbers have 64 bits, and the tables are live and reduced
 pub record Facts (p : Program) (topology : Topology) (places : List ℕ) (routes : Table) (t : Tables) : Type 0 where
   pub fits : PolFits (count p.fields) (length p.vars) p.body
   pub in_form : IsInForm topology
   pub paths : AreRoutes topology routes
   pub shape : HasShape p topology places t
+  pub version : t.version ≡ 2
   pub meaning : HasMeaning p.body (count p.fields) t
   pub never : NeverRaces p.body (count p.fields)
   pub small : PutsSmall p.body

@@ -1,5 +1,5 @@
 -- Tables that make the whole network behave as one big switch.
-use Rattle.std.specs.Prelude.{◌≡◌, ◌≢◌, ℕ, ◌+◌, ◌*◌, ◌<◌, ◌≤◌, Bool, Some, List, [], map, length}
+use Rattle.std.specs.Prelude.{◌≡◌, ◌≢◌, ℕ, ◌+◌, ◌*◌, ◌<◌, ◌≤◌, ◌==◌, Bool, Some, List, [], map, length, if◌then◌else◌}
 use Rattle.std.specs.List.{All}
 use Rattle.snap_core.specs.declared.policy.Test.{Test}
 use Rattle.snap_core.specs.declared.program.Program.{Program}
@@ -51,15 +51,14 @@ abbrev pub AgreesAsInjected : Program → Tables → Arrays → List (ℕ × Lis
 AgreesAsInjected p t m ks s hs = Agrees p t m (packets_in ks) (numbered (packets_in ks)) s hs
 
 -- ---- the seven parts
--- 1: the tables are valid, of version 2, and those of the program, the topology and the placement; their ranks and next hops are as defined
+-- 1: the tables are valid, and those of the program, the topology and the placement; their next hops are as defined, and in version 2 so are their ranks
 pub record HasShape (p : Program) (topology : Topology) (places : List ℕ) (t : Tables) : Type 0 where
   pub form : IsInForm t
   pub valid : IsValid t
-  pub version : t.version ≡ 2
   pub fields : t.fields ≡ p.fields
   pub names : map (λ (a : ArrayAt). a.name) t.arrays ≡ p.vars
   pub owners : map (λ (a : ArrayAt). a.at) t.arrays ≡ places
-  pub ranks : (order : List ℕ) → IsRank p.body (length p.vars) order → IsRankIn p.body (length p.vars) order (rank_of t)
+  pub ranks : t.version ≡ 2 → (order : List ℕ) → IsRank p.body (length p.vars) order → IsRankIn p.body (length p.vars) order (rank_of t)
   pub switches : t.switches ≡ topology.switches
   pub links : t.links ≡ topology.links
   pub ports : t.ports ≡ topology.ports
@@ -95,11 +94,15 @@ pub record IsWithin (most : ℕ) (s : Net) (hs : List Happening) : Type 0 where
   pub flying : All (λ (c : Copy). (c.hops ≤ most) × (c.steps ≤ most + 2)) s.flying
   pub delivered : All (IsDeliveredWithin most) hs
 
--- the bound is (groups + 1) times the diameter
+-- the bound, for so many groups and this diameter: in version 2 a packet walks to each group's switch and then to its port; in version 1 it may walk to
+-- each group's switch twice, for tests and for a stage
+abbrev pub most_hops : (version groups diameter : ℕ) → ℕ
+most_hops version groups d = if version == 1 then (2 * groups + 1) * d else (groups + 1) * d
+
 abbrev pub HopsAreBounded : Program → Topology → Tables → Type 0
 HopsAreBounded p topology t = (order : List ℕ) (d : ℕ) → IsRank p.body (length p.vars) order → IsDiameter (Linked topology.links) (length topology.switches) d
     → (m : Arrays) (es : List Event) (s : Net) (hs : List Happening) → IsStoreOf p m → AllCanEnter p t (packets_of es) → Run t m es s hs
-    → IsWithin ((length order + 1) * d) s hs
+    → IsWithin (most_hops t.version (length order) d) s hs
 
 -- 7: some store and packet come from number 0 to this one, and go this way there
 pub record IsMet (p : Program) (t : Tables) (n : ℕ) (test : Test) (way : Bool) : Type 0 where

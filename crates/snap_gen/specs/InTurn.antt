@@ -49,10 +49,10 @@ IsOnItsChain t k m o n (SentOn to r v) = Chained t k m n r v
 IsOnItsChain t k m o n (Waiting r v) = Chained t k m n r v
 IsOnItsChain t k m o n (Forks copies number) = (copies ≡ sent_of t o.packets) × (number ≡ lost_of t o.packets)
 
--- one step in turn over faithful tables keeps all this, whatever packets the other ranks have handled
+-- one step in turn over faithful tables of version 2 keeps all this, whatever packets the other ranks have handled
 abbrev pub FaithfulTurnsKeep : Type 0
 FaithfulTurnsKeep =
-    (p : Program) (topology : Topology) (places : List ℕ) (t : Tables) → Faithful p topology places t
+    (p : Program) (topology : Topology) (places : List ℕ) (t : Tables) → Faithful p topology places t → t.version ≡ 2
     → (m : ℕ → Arrays) (i port : ℕ) (k : List ℕ) (o : Meaning) → IsStoreOf p (m i) → CanEnter p t (port, k) → eval p.body (m i) k ≡ Some o → ((q : Place) → o.arrays q ≡ m (i + 1) q)
     → (first : ℕ) → Enters t k (m i) first
     → (w r v : ℕ) (s s' : Arrays) (h h' : ℕ → ℕ) (b : Becomes) → Chained t k (m i) first r v → HoldsInTurn t m w s h → TakesTurns t w k i s h r v s' h' b

@@ -1,4 +1,4 @@
-//! Laws of faithful tables, rank by rank: what runs with overlap stand on.
+//! Laws of faithful tables of version 2, rank by rank: what runs with overlap stand on.
 
 ghost use Rattle.snap_gen.specs.Chains.{ChainsAreAtHome, ChainsAreOne, FaithfulChains, FaithfulKeepsStores, FieldsGoAlike, VisitsAreOne};
 ghost use Rattle.snap_gen.specs.InTurn.{FaithfulTurnsKeep};
@@ -12,8 +12,8 @@ pub fn chains_are_one()
     ensures home { ChainsAreAtHome }
 {}
 
-/// From faithful tables alone: the visits of a packet, each by the arrays of one store at its own rank, end at a leaf and leave each rank
-/// as evaluation does, and the leaf's copies are those of evaluation's packets.
+/// From faithful tables of version 2 alone: the visits of a packet, each by the arrays of one store at its own rank, end at a leaf and
+/// leave each rank as evaluation does, and the leaf's copies are those of evaluation's packets.
 pub fn faithful_chains()
     ensures { FaithfulChains }
 {}
@@ -23,7 +23,7 @@ pub fn faithful_keeps_stores()
     ensures { FaithfulKeepsStores }
 {}
 
-/// From faithful tables alone: a step in turn leaves each array as after the packets that its rank has handled.
+/// From faithful tables of version 2 alone: a step in turn leaves each array as after the packets that its rank has handled.
 pub fn faithful_turns_keep()
     ensures { FaithfulTurnsKeep }
 {}

@@ -1,6 +1,6 @@
 -- Runs with changes of tables that are faithful to the programs in force report what one big switch does whose program changes,
 -- and their copies make few hops.
-use Rattle.std.proofs.Common.{◌≡◌, ℕ, ◌+◌, ◌*◌, Bool, true, false, List, [], ◌∷◌, ◌++◌, length, refl, sym, subst, ◌∙◌, arith, lit<}
+use Rattle.std.proofs.Common.{◌≡◌, ℕ, ◌+◌, Bool, true, false, List, [], ◌∷◌, ◌++◌, length, refl, sym, subst, ◌∙◌, arith, lit<}
 use Rattle.std.specs.Prelude.{nat_le, if◌then◌else◌}
 use Rattle.std.specs.List.{All}
 use Rattle.std.proofs.lemmas.List.Elements.{All-head, All-tail}
@@ -13,6 +13,7 @@ use Rattle.snap_route.specs.Walks.{IsDiameter, Linked}
 use Rattle.snap_rows.specs.declared.tables.Tables.{Tables}
 use Rattle.snap_rows.specs.Entries.{port_numbers}
 use Rattle.snap_rows.specs.Network.{Net, start}
+use Rattle.snap_gen.specs.Faithful.{most_hops}
 use Rattle.snap_runs.specs.Reports.{array_names}
 use Rattle.snap_trace.specs.Reports.{block, end_text}
 use Rattle.snap_whole.specs.OneSwitch.{port_lines}
@@ -98,7 +99,7 @@ upgraded_report programs first later faithful shapes rising ks packets text told
 -- ---- hops
 turns_short : IsOfRuns IsTurnShortFor
 turns_short p t f m store es fits s hs run n order rank d greatest =
-    all_short-later n ((length order + 1) * d) hs
+    all_short-later n (most_hops t.version (length order) d) hs
     (short_from p f.topology f.places t f.faithful order d rank
     (subst (λ links. IsDiameter (Linked links) (length f.topology.switches) d) f.faithful.shape.links (subst (λ l. IsDiameter (Linked t.links) (length l) d) f.faithful.shape.switches greatest)) m store es s hs fits run)
 

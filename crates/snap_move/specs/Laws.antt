@@ -1,5 +1,5 @@
 -- Laws of runs with changes, and of those of faithful tables.
-use Rattle.std.specs.Prelude.{◌≡◌, ℕ, ◌+◌, ◌*◌, ◌≤◌, ◌<◌, Bool, false, List, [], ◌∷◌, ◌++◌, Ok, length, option_and_then, option_map}
+use Rattle.std.specs.Prelude.{◌≡◌, ℕ, ◌+◌, ◌≤◌, ◌<◌, Bool, false, List, [], ◌∷◌, ◌++◌, Ok, length, option_and_then, option_map}
 use Rattle.std.specs.List.{All}
 use Rattle.snap_core.specs.declared.program.Program.{Program}
 use Rattle.snap_core.specs.Arrays.{Arrays, zero_arrays}
@@ -13,7 +13,7 @@ use Rattle.snap_rows.specs.declared.tables.Tables.{Tables}
 use Rattle.snap_rows.specs.Entries.{port_numbers}
 use Rattle.snap_rows.specs.Form.{IsInForm}
 use Rattle.snap_rows.specs.Network.{Net, start}
-use Rattle.snap_gen.specs.Faithful.{Faithful, IsPacketOf}
+use Rattle.snap_gen.specs.Faithful.{Faithful, IsPacketOf, most_hops}
 use Rattle.snap_whole.specs.Laws.{IsHopWithin}
 use Rattle.snap_move.specs.declared.change.Change.{Change}
 use Rattle.snap_move.specs.declared.later.Later.{Later}
@@ -61,9 +61,10 @@ ChangedRunsReportOneSwitch = (p : Program) (first : Tables) (later : List Later)
     → (ks : List (List ℕ)) → All (IsPacketOf p) ks → (text : List ℕ) → IsChangedReport first later false ks text
     → IsSwitchReportUnder p (λ i. port_numbers (in_force first later i)) ks text
 
--- each copy makes at most (groups + 1) times the diameter of the topology that is in force
+-- each copy makes few hops: at most (groups + 1) times the diameter of the topology that is in force, where the tables in force are of version 2, and
+-- (2 groups + 1) times where they are of version 1
 abbrev pub IsTurnShort : (groups : ℕ) → Turn → Type 0
-IsTurnShort groups x = (d : ℕ) → IsDiameter (Linked x.tables.links) (length x.tables.switches) d → All (IsHopWithin ((groups + 1) * d)) x.happenings
+IsTurnShort groups x = (d : ℕ) → IsDiameter (Linked x.tables.links) (length x.tables.switches) d → All (IsHopWithin (most_hops x.tables.version groups d)) x.happenings
 
 -- **so it does in each run with changes of faithful tables**
 abbrev pub ChangedRunsAreShort : Type 0
@@ -105,8 +106,7 @@ UpgradedRunsReportOneSwitch = (programs : ℕ → Program) (first : Tables) (lat
     → (ks : List (List ℕ)) → All (IsPacket (count first.fields)) ks → (text : List ℕ) → IsChangedReport first later false ks text
     → IsChangingReport programs (λ i. port_numbers (in_force first later i)) ks text
 
--- each copy makes at most (groups + 1) times the diameter, by the groups of the program and the topology that are in force. The
--- first of the turns has number i
+-- each copy makes few hops, by the groups of the program, the tables and the topology that are in force. The first of the turns has number i
 abbrev pub IsTurnShortFor : Program → Turn → Type 0
 IsTurnShortFor p x = (order : List ℕ) → IsRank p.body (length p.vars) order → IsTurnShort (length order) x
 

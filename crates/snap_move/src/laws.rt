@@ -25,7 +25,8 @@ pub fn changed_runs_report_one_switch()
     ensures { ChangedRunsReportOneSwitch }
 {}
 
-/// No copy makes more hops than (groups + 1) times the diameter of the topology that is in force.
+/// No copy makes more hops than (groups + 1) times the diameter of the topology that is in force, where the tables in force are
+/// of version 2, and (2 groups + 1) times it where they are of version 1. Changes may mix both.
 pub fn changed_runs_are_short()
     ensures { ChangedRunsAreShort }
 {}
@@ -46,8 +47,8 @@ pub fn upgraded_runs_report_one_switch()
     ensures { UpgradedRunsReportOneSwitch }
 {}
 
-/// No copy makes more hops than (groups + 1) times the diameter of the topology that is in force, by the groups of the program
-/// that is in force.
+/// No copy makes more hops than (groups + 1) times the diameter of the topology that is in force, where the tables in force are
+/// of version 2, and (2 groups + 1) times it where they are of version 1, by the groups of the program that is in force.
 pub fn upgraded_runs_are_short()
     ensures { UpgradedRunsAreShort }
 {}

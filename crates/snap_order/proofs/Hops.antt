@@ -151,11 +151,11 @@ still_within a b le (Delivered c port) i = let x : c.hops ≤ a = i in omega (ar
 still_within a b le (Crossed c x h) i = tt
 still_within a b le (Forked c n x) i = tt
 
-pub few_hops_made : (p : Program) (topology : Topology) (places : List ℕ) (t : Tables) → Faithful p topology places t → (order : List ℕ) (d : ℕ) → IsRank p.body (length p.vars) order → IsDiameter (Linked topology.links) (length topology.switches) d
+pub few_hops_made : (p : Program) (topology : Topology) (places : List ℕ) (t : Tables) → Faithful p topology places t → t.version ≡ 2 → (order : List ℕ) (d : ℕ) → IsRank p.body (length p.vars) order → IsDiameter (Linked topology.links) (length topology.switches) d
     → (m : Arrays) (es : List Event) (s : Ordered) (us : List Turn) → Overlaps p t m es s us
     → All (λ (c : Copy). c.hops ≤ (length order + 1) * d) s.net.flying × All (IsDeliveredWithin ((length order + 1) * d)) (happenings us)
-few_hops_made p topology places t f order d rank diameter m es s us o =
-    let two : IsTwo t = record { form = f.shape.form; valid = f.shape.valid; version = f.shape.version } in
+few_hops_made p topology places t f version order d rank diameter m es s us o =
+    let two : IsTwo t = record { form = f.shape.form; valid = f.shape.valid; version = version } in
     let count : length topology.switches ≡ switch_count t = sym (ap length f.shape.switches) in
     let hops = subst (λ n. (a b : ℕ) → a < n → b < n → a ≢ b → IsNext (Linked topology.links) a b (next t a b)) count f.shape.hops in
     let far = distances t two (Linked topology.links) hops d (subst (λ n. IsDiameter (Linked topology.links) n d) count diameter) in
@@ -164,7 +164,7 @@ few_hops_made p topology places t f order d rank diameter m es s us o =
     let fewer : ranks t ≤ length order = ranks_few t.arrays (length order)
     (λ i a e.
     (let many = sym (length-map t.arrays (λ (a : ArrayAt). a.name)) ∙ ap length f.shape.names in
-    let low = (f.shape.ranks order rank).below i (let l = slice_get_within t.arrays i a e in omega (arith, l, many)) in
+    let low = (f.shape.ranks version order rank).below i (let l = slice_get_within t.arrays i a e in omega (arith, l, many)) in
     subst (λ x. x < length order) (ap (λ o. unwrap_or (option_map (λ (a : ArrayAt). a.rank) o) 0) e) low)) in
     let more = mul-le (ranks t + 1) d (length order + 1) d (omega (arith, fewer)) (omega arith) in (
       each (λ c. CopyWithin t dist d (unstayed c)) (λ (c : Copy). c.hops ≤ (length order + 1) * d) (λ c i. (let x = few_hops t two dist d far c i in omega (arith, x, more))) s.net.flying within.0,

@@ -1,4 +1,4 @@
--- Runs in turn of faithful tables report what one big switch does.
+-- Runs in turn of faithful tables of version 2 report what one big switch does.
 use Rattle.std.proofs.Common.{◌≡◌, ℕ, ◌+◌, false, List, ◌∷◌, ◌++◌, length, refl, sym, ap, is_some, subst, ◌∙◌, append-nil}
 use Rattle.std.specs.Prelude.{slice_index}
 use Rattle.std.specs.List.{All}
@@ -65,21 +65,21 @@ plain_report t count s hs text r = record {
 }
 
 pub turns_report : RunsInTurnReportOneSwitch
-turns_report p topology places t f ks packets es s us enter run none text report =
+turns_report p topology places t f version ks packets es s us enter run none text report =
     let fits = subst (All (λ (e : ℕ × List ℕ). IsPacketOf p e.1)) (sym enter) (entering-fits p ks packets) in
-    let agrees = (keeps_order p topology places t f).ended zero_arrays es s us (record { store = no_numbers p; packets = all_enter t p fits run; run = run }) none in
+    let agrees = (keeps_order p topology places t f version).ended zero_arrays es s us (record { store = no_numbers p; packets = all_enter t p fits run; run = run }) none in
     let same : faithful.packets_in (packets_of es) ≡ ks = ap faithful.packets_in enter ∙ entering-packets ks in
     agrees_report p topology places t f ks s.net (happenings us) (subst (λ l. Agrees p t zero_arrays l (numbered l) s.net (happenings us)) same agrees) text
     (plain_report t (length ks) s.net (happenings us) text report)
 
 pub plain_turns_report : PlainRunsInTurnReportOneSwitch
-plain_turns_report p topology places t f ks packets text r = turns_report p topology places t f ks packets r.events r.end r.turns r.run.packets (calm_run t r.run.run) r.run.ended text r.report
+plain_turns_report p topology places t f version ks packets text r = turns_report p topology places t f version ks packets r.events r.end r.turns r.run.packets (calm_run t r.run.run) r.run.ended text r.report
 
 pub schedule_turns_report : SchedulesInTurnReportOneSwitch
-schedule_turns_report p topology places t f ks packets lines text r =
-    turns_report p topology places t f ks packets r.obeys.events r.state r.turns (sym (append-nil (packets_of r.obeys.events)) ∙ spelled_packets r.obeys.spells) r.obeys.run r.ended text r.report
+schedule_turns_report p topology places t f version ks packets lines text r =
+    turns_report p topology places t f version ks packets r.obeys.events r.state r.turns (sym (append-nil (packets_of r.obeys.events)) ∙ spelled_packets r.obeys.spells) r.obeys.run r.ended text r.report
 
 pub rounds_report : RunsByRoundsReportOneSwitch
-rounds_report p topology places t f ks packets text r =
+rounds_report p topology places t f version ks packets text r =
     let run = by_rounds_runs t r.run in
-    turns_report p topology places t f ks packets r.events r.end r.turns run.1 run.0 run.2 text r.report
+    turns_report p topology places t f version ks packets r.events r.end r.turns run.1 run.0 run.2 text r.report

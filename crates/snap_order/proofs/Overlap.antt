@@ -122,9 +122,9 @@ module _ {t : Tables} {w : ℕ} {k : List ℕ} {x r e : ℕ} {h h' : ℕ → ℕ
   elsewhere : (w' q : ℕ) → w' ≢ w → rank_at t q ≡ Some w' → h' q ≡ h q
   elsewhere w' q ne at = ⊎_elim (λ s. s) (λ m. absurd (ne (some_injective w' w (sym at ∙ m.0)))) (at_rank q)
 
-module _ (p : Program) (topology : Topology) (places : List ℕ) (t : Tables) (f : Faithful p topology places t) (m0 : Arrays) (store0 : IsStoreOf p m0) (ks : List (ℕ × List ℕ)) (can : AllCanEnter p t ks) where
+module _ (p : Program) (topology : Topology) (places : List ℕ) (t : Tables) (f : Faithful p topology places t) (version : t.version ≡ 2) (m0 : Arrays) (store0 : IsStoreOf p m0) (ks : List (ℕ × List ℕ)) (can : AllCanEnter p t ks) where
   two : IsTwo t
-  two = record { form = f.shape.form; valid = f.shape.valid; version = f.shape.version }
+  two = record { form = f.shape.form; valid = f.shape.valid; version = version }
 
   -- ---- one big switch, packet by packet
   abbrev pub all : List (List ℕ)
@@ -184,7 +184,7 @@ module _ (p : Program) (topology : Topology) (places : List ℕ) (t : Tables) (f
       )
 
   chain : (i : ℕ) → i < length all → (o : Meaning) → eval p.body (before i) (pick i) ≡ Some o → Chain t (pick i) (before i) o
-  chain i l o e = let c = enters_at i l in faithful_chains p topology places t f (before i) c.0 (pick i) o (after i).2 c.1 e
+  chain i l o e = let c = enters_at i l in faithful_chains p topology places t f version (before i) c.0 (pick i) o (after i).2 c.1 e
 
   -- ---- where the packets are
   -- where the copy of packet i stands before rank r, and hasn't forked
@@ -447,7 +447,7 @@ module _ (p : Program) (topology : Topology) (places : List ℕ) (t : Tables) (f
         keeps : HoldsInTurn t before x.at m h' × IsOnItsChain t (pick x.number) (before x.number) o.outcome to.first b × ((q : Place) → (StandsAt t x.at q.var → ⊥) → m q ≡ s.stores x.at q)
         keeps =
             let c = enters_at x.number number_low in
-            faithful_turns p topology places t f before x.number c.0 (pick x.number) o.outcome (after x.number).2 c.1 o.is (λ q. ap (λ (y : Arrays). y q) o.arrays) to.first to.enters x.at r v (s.stores x.at) m h h' b to.chained (st.held x.at) mine
+            faithful_turns p topology places t f version before x.number c.0 (pick x.number) o.outcome (after x.number).2 c.1 o.is (λ q. ap (λ (y : Arrays). y q) o.arrays) to.first to.enters x.at r v (s.stores x.at) m h h' b to.chained (st.held x.at) mine
 
         by : (b : Becomes) → IsOnItsChain t (pick x.number) (before x.number) o.outcome to.first b → Passed h' x.number (rank_behind t b)
             → ((w : ℕ) → HoldsInTurn t before w (cond (nat_eq w x.at) m (s.stores w)) h') → ((q : ℕ) → h' q ≤ n)

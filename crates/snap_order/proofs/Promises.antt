@@ -67,21 +67,21 @@ no_wait u c r isnt e = both_ways _ isnt (ap is_waiting (same_Some u (Waits c r) 
 late : {head : Head} → is_early head ≡ true → ((port : ℕ) × (head ≡ Out port)) → ⊥
 late early out = both_ways _ (ap is_early out.1) early
 
-module _ (p : Program) (topology : Topology) (places : List ℕ) (t : Tables) (f : Faithful p topology places t) (m : Arrays) (es : List Event) (s : Ordered) (us : List Turn) (o : Overlaps p t m es s us) where
+module _ (p : Program) (topology : Topology) (places : List ℕ) (t : Tables) (f : Faithful p topology places t) (version : t.version ≡ 2) (m : Arrays) (es : List Event) (s : Ordered) (us : List Turn) (o : Overlaps p t m es s us) where
   two : IsTwo t
-  two = record { form = f.shape.form; valid = f.shape.valid; version = f.shape.version }
+  two = record { form = f.shape.form; valid = f.shape.valid; version = version }
 
   abbrev all : List (List ℕ)
   all = packets_in (packets_of es)
 
   abbrev after : (i : ℕ) → (end : Switched) × (one_big_switch p.body m (take i all) ≡ Some end) × IsStoreOf p end.arrays
-  after i = overlap.after p topology places t f m o.store (packets_of es) o.packets i
+  after i = overlap.after p topology places t f version m o.store (packets_of es) o.packets i
 
   zeros : (i : ℕ) → IsZeroFrom (array_count t) (after i).0.arrays
   zeros i q l = (after i).2.only q (let e = sym (length-map t.arrays (λ (a : ArrayAt). a.name)) ∙ ap length f.shape.names in omega (arith, l, e))
 
   abbrev State : ℕ → Ordered → List Happening → Type 0
-  State n s hs = overlap.State p topology places t f m o.store (packets_of es) o.packets n s.net s.handled hs
+  State n s hs = overlap.State p topology places t f version m o.store (packets_of es) o.packets n s.net s.handled hs
 
   first : State 0 (record { net = start t m; handled = λ r. 0 }) []
   first = record {
@@ -96,7 +96,7 @@ module _ (p : Program) (topology : Topology) (places : List ℕ) (t : Tables) (f
 
   -- where all packets are
   end : State (length all) s (happenings us)
-  end = all_events p topology places t f m o.store (packets_of es) o.packets [] [] refl first o.run
+  end = all_events p topology places t f version m o.store (packets_of es) o.packets [] [] refl first o.run
 
   -- ---- arrays
   arrays : (q : Place) → whole t s.net q ≡ (after (s.handled (rank_of t q.var))).0.arrays q
@@ -107,7 +107,7 @@ module _ (p : Program) (topology : Topology) (places : List ℕ) (t : Tables) (f
 
   -- ---- ends
   module _ (none : s.net.flying ≡ []) where
-    gone : (i : ℕ) → i < length all → overlap.Gone p topology places t f m o.store (packets_of es) o.packets i s.net s.handled (happenings us)
+    gone : (i : ℕ) → i < length all → overlap.Gone p topology places t f version m o.store (packets_of es) o.packets i s.net s.handled (happenings us)
     gone i l = ⊎_elim (λ u. absurd (none-some u.copy (ap (λ l. slice_get l 0) (sym (ap (copies_of i) none) ∙ u.only)))) (λ g. g) (end.each i l)
 
     all_handled : (q : Place) → (after (s.handled (rank_of t q.var))).0.arrays q ≡ (after (length all)).0.arrays q
@@ -123,9 +123,9 @@ module _ (p : Program) (topology : Topology) (places : List ℕ) (t : Tables) (f
 
     came : (i : ℕ) (set : PacketSet) → slice_get (after (length all)).0.packets i ≡ Some set → CameOut t i set (happenings us)
     came i set g =
-        let sets = overlap.sets p topology places t f m o.store (packets_of es) o.packets (length all) (omega arith) in
+        let sets = overlap.sets p topology places t f version m o.store (packets_of es) o.packets (length all) (omega arith) in
         let l : i < length all = (let w = slice_get_within (after (length all)).0.packets i set g in let n = sets.0 in omega (arith, w, n)) in
-        let a = overlap.acted p topology places t f m o.store (packets_of es) o.packets i l in
+        let a = overlap.acted p topology places t f version m o.store (packets_of es) o.packets i l in
         subst (λ x. CameOut t i x (happenings us)) (sym (sets.1 i set g a.outcome a.is)) (came_out none ((gone i l).leaving a.outcome a.is))
 
     pub agrees : AgreesAsInjected p t m (packets_of es) s.net (happenings us)
@@ -140,18 +140,18 @@ module _ (p : Program) (topology : Topology) (places : List ℕ) (t : Tables) (f
   -- ---- who waits
   module _ (i : ℕ) (c : Copy) (found : slice_get s.net.flying i ≡ Some c) where
     below : c.number < length all
-    below = overlap.below p topology places t f m o.store (packets_of es) o.packets (length all) (omega arith) s.net s.handled (happenings us) end c i found
+    below = overlap.below p topology places t f version m o.store (packets_of es) o.packets (length all) (omega arith) s.net s.handled (happenings us) end c i found
 
     -- a rank has handled no more packets than came before a copy that is before its visit
     not_past : (r n : ℕ) → IsBefore t s.net c r n → s.handled r ≤ c.number
     not_past r n at = ⊎_elim
         (λ u.
-        (let stands = overlap.stands p topology places t f m o.store (packets_of es) o.packets (length all) (omega arith) s.net s.handled (happenings us) end c i found u in
-        let packet = overlap.packet p topology places t f m o.store (packets_of es) o.packets (length all) (omega arith) s.net s.handled (happenings us) end c i found u in
-        let to = overlap.comes p topology places t f m o.store (packets_of es) o.packets c.number c.at (s.net.stores c.at) stands (subst (λ k. ComesTo t c.at k (s.net.stores c.at) c.head r n) packet at.comes) in
+        (let stands = overlap.stands p topology places t f version m o.store (packets_of es) o.packets (length all) (omega arith) s.net s.handled (happenings us) end c i found u in
+        let packet = overlap.packet p topology places t f version m o.store (packets_of es) o.packets (length all) (omega arith) s.net s.handled (happenings us) end c i found u in
+        let to = overlap.comes p topology places t f version m o.store (packets_of es) o.packets c.number c.at (s.net.stores c.at) stands (subst (λ k. ComesTo t c.at k (s.net.stores c.at) c.head r n) packet at.comes) in
         u.passed.ahead r (let e = to.rank in omega (arith, e))))
         (λ g.
-        (let a = overlap.acted p topology places t f m o.store (packets_of es) o.packets c.number below in
+        (let a = overlap.acted p topology places t f version m o.store (packets_of es) o.packets c.number below in
         absurd (late (comes_early at.comes) (_, own_leaves s.net c i found ((g.leaving a.outcome a.is).out)))))
         (end.each c.number below)
 
@@ -181,7 +181,7 @@ module _ (p : Program) (topology : Topology) (places : List ℕ) (t : Tables) (f
         (λ u.
         (let k = kept (λ (x : Copy). nat_eq x.number j) s.net.flying u.copy [] u.only in
         let number = eqb-true u.copy.number j k.2 in
-        let more = least k.0 u.copy k.1 (λ out. late (overlap.stands_early p topology places t f m o.store (packets_of es) o.packets j u.copy.at u.copy.head u.rank u.stands) out) in
+        let more = least k.0 u.copy k.1 (λ out. late (overlap.stands_early p topology places t f version m o.store (packets_of es) o.packets j u.copy.at u.copy.head u.rank u.stands) out) in
         let fewer = b.fewer in
         omega (arith, number, more, fewer)))
         (λ g. (let past = g.passed.past b.rank (rank_is_below t b.rank c.at b.before.owner) in omega (arith, past)))

@@ -61,13 +61,13 @@ module _ (most : ℕ) where
       by (Forks copies lost) near = All-cons (IsHopWithin most) _ [] (behind_moved (take i s.net.flying) (drop (i + 1) s.net.flying) c (Fork copies lost) here near) (All-nil (IsHopWithin most))
   one_turn before after (waits found at early) = All-nil (IsHopWithin most)
 
-module _ (p : Program) (topology : Topology) (places : List ℕ) (t : Tables) (faithful : Faithful p topology places t)
+module _ (p : Program) (topology : Topology) (places : List ℕ) (t : Tables) (faithful : Faithful p topology places t) (version : t.version ≡ 2)
     (order : List ℕ) (d : ℕ) (rank : IsRank p.body (length p.vars) order) (greatest : IsDiameter (Linked topology.links) (length topology.switches) d) where
   abbrev most : ℕ
   most = (length order + 1) * d
 
   near : (es : List Event) (s : Ordered) (us : List Turn) → AllCanEnter p t (packets_of es) → RunInTurn t zero_arrays es s us → All (IsNear most) s.net.flying
-  near es s us enter run = ((keeps_order p topology places t faithful).hops order d rank greatest zero_arrays es s us (record { store = no_numbers p; packets = enter; run = run })).0
+  near es s us enter run = ((keeps_order p topology places t faithful version).hops order d rank greatest zero_arrays es s us (record { store = no_numbers p; packets = enter; run = run })).0
 
   -- after some events have led here
   from_here : {s s' : Ordered} {es : List Event} {us : List Turn} (first : List Event) (turned : List Turn) → AllCanEnter p t (packets_of (first ++ es)) → RunInTurn t zero_arrays first s turned → RunsInTurn t s es s' us
@@ -82,10 +82,10 @@ module _ (p : Program) (topology : Topology) (places : List ℕ) (t : Tables) (f
       (from_here (first ++ e ∷ []) (turned ++ u) enters more onward))
 
 pub short_turns : RunsInTurnAreShort
-short_turns p topology places t faithful order d rank greatest ks packets es s us enter run =
+short_turns p topology places t faithful version order d rank greatest ks packets es s us enter run =
     let fits = subst (All (IsOfProgram p)) (sym enter) (entering-fits p ks packets) in
-    from_here p topology places t faithful order d rank greatest [] [] (all_enter t p fits run) ordered.done run
+    from_here p topology places t faithful version order d rank greatest [] [] (all_enter t p fits run) ordered.done run
 
 pub short_plain_turns : PlainRunsInTurnAreShort
-short_plain_turns p topology places t faithful order d rank greatest ks packets es s us plain =
-    short_turns p topology places t faithful order d rank greatest ks packets es s us plain.packets (calm_run t plain.run)
+short_plain_turns p topology places t faithful version order d rank greatest ks packets es s us plain =
+    short_turns p topology places t faithful version order d rank greatest ks packets es s us plain.packets (calm_run t plain.run)

@@ -1,4 +1,4 @@
--- What one big switch is for an ordered network: laws of faithful tables under any overlap.
+-- What one big switch is for an ordered network: laws of faithful tables of version 2 under any overlap.
 use Rattle.std.specs.Prelude.{◌≡◌, ℕ, ◌+◌, ◌*◌, ◌<◌, ◌≤◌, Some, List, [], ◌∷◌, take, length, slice_get}
 use Rattle.std.specs.List.{All}
 use Rattle.snap_core.specs.declared.place.Place.{Place}
@@ -65,7 +65,7 @@ abbrev pub LeastGoesOn : Program → Tables → Type 0
 LeastGoesOn p t = (m : Arrays) (es : List Event) (s : Ordered) (us : List Turn) → Overlaps p t m es s us
     → (i : ℕ) (c : Copy) (s' : Ordered) (vs : List Turn) → slice_get s.net.flying i ≡ Some c → IsLeast s c → LeadsInTurn t s (Step i) s' vs → (r : ℕ) → ¬ (vs ≡ Waits c r ∷ [])
 
--- **overlap in order**: what faithful tables promise
+-- **overlap in order**: what faithful tables of version 2 promise
 pub record KeepsOrder (p : Program) (topology : Topology) (t : Tables) : Type 0 where
   pub arrays : ArraysAreInTurn p t
   pub ended : EndedRunsAgree p t
@@ -74,4 +74,4 @@ pub record KeepsOrder (p : Program) (topology : Topology) (t : Tables) : Type 0 
   pub least : LeastGoesOn p t
 
 abbrev pub FaithfulKeepsOrder : Type 0
-FaithfulKeepsOrder = (p : Program) (topology : Topology) (places : List ℕ) (t : Tables) → Faithful p topology places t → KeepsOrder p topology t
+FaithfulKeepsOrder = (p : Program) (topology : Topology) (places : List ℕ) (t : Tables) → Faithful p topology places t → t.version ≡ 2 → KeepsOrder p topology t

@@ -1,4 +1,4 @@
--- Copies of runs in turn make few hops.
+-- Copies of runs in turn of faithful tables of version 2 make few hops.
 use Rattle.std.specs.Prelude.{◌≡◌, ℕ, ◌+◌, ◌*◌, List, length}
 use Rattle.std.specs.List.{All}
 use Rattle.snap_core.specs.declared.program.Program.{Program}
@@ -16,7 +16,7 @@ use Rattle.snap_whole.specs.Laws.{IsHopWithin}
 
 -- **Each copy of a run in turn makes at most (groups + 1) times the diameter hops**, whatever the order of the events
 abbrev pub RunsInTurnAreShort : Type 0
-RunsInTurnAreShort = (p : Program) (topology : Topology) (places : List ℕ) (t : Tables) → Faithful p topology places t
+RunsInTurnAreShort = (p : Program) (topology : Topology) (places : List ℕ) (t : Tables) → Faithful p topology places t → t.version ≡ 2
     → (order : List ℕ) (d : ℕ) → IsRank p.body (length p.vars) order → IsDiameter (Linked topology.links) (length topology.switches) d
     → (ks : List (List ℕ)) → All (IsPacketOf p) ks
     → (es : List Event) (s : Ordered) (us : List Turn) → packets_of es ≡ entering ks → RunInTurn t zero_arrays es s us
@@ -24,7 +24,7 @@ RunsInTurnAreShort = (p : Program) (topology : Topology) (places : List ℕ) (t 
 
 -- so it does in the plain run in turn
 abbrev pub PlainRunsInTurnAreShort : Type 0
-PlainRunsInTurnAreShort = (p : Program) (topology : Topology) (places : List ℕ) (t : Tables) → Faithful p topology places t
+PlainRunsInTurnAreShort = (p : Program) (topology : Topology) (places : List ℕ) (t : Tables) → Faithful p topology places t → t.version ≡ 2
     → (order : List ℕ) (d : ℕ) → IsRank p.body (length p.vars) order → IsDiameter (Linked topology.links) (length topology.switches) d
     → (ks : List (List ℕ)) → All (IsPacketOf p) ks
     → (es : List Event) (s : Ordered) (us : List Turn) → IsPlainRun t zero_arrays (entering ks) es s us

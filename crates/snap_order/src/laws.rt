@@ -9,7 +9,7 @@ ghost use Rattle.snap_order.specs.OneSwitch.{PlainRunsInTurnReportOneSwitch, Run
 ghost use Rattle.snap_order.specs.PlainTurns.{PlainRunsTakeTurns};
 ghost use Rattle.snap_order.specs.ShortTurns.{PlainRunsInTurnAreShort, RunsInTurnAreShort};
 
-/// **Overlap in order.** Over faithful tables, whatever the order of events: each array is as one big switch leaves it after
+/// **Overlap in order.** Over faithful tables of version 2, whatever the order of events: each array is as one big switch leaves it after
 /// the packets that its rank has handled; a run to an end agrees with one big switch over the packets in the order of their
 /// injection; a copy makes at most (groups + 1) times the diameter hops; a step waits exactly where the copy is before a
 /// visit of a rank that has handled fewer packets than came before it; and the copy that hasn't forked and has the least
@@ -18,9 +18,9 @@ pub fn faithful_keeps_order()
     ensures { FaithfulKeepsOrder }
 {}
 
-/// **Each run in turn of faithful tables to an end reports exactly what one big switch does** over the packets in the order
-/// of their injection, whatever the order of the events. The plain run in turn is such a run, and so are that of a schedule
-/// that is done to its end and that by rounds.
+/// **Each run in turn of faithful tables of version 2 to an end reports exactly what one big switch does** over the packets in
+/// the order of their injection, whatever the order of the events. The plain run in turn is such a run, and so are that of a
+/// schedule that is done to its end and that by rounds.
 pub fn runs_in_turn_report_one_switch()
     ensures all { RunsInTurnReportOneSwitch }
     ensures plain { PlainRunsInTurnReportOneSwitch }

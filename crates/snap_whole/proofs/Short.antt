@@ -1,5 +1,5 @@
 -- Copies of faithful tables make few hops.
-use Rattle.std.proofs.Common.{◌≡◌, ℕ, ◌+◌, ◌*◌, ◌≤◌, List, [], ◌∷◌, ◌++◌, length, take, drop, sym, subst, append_assoc}
+use Rattle.std.proofs.Common.{◌≡◌, ℕ, ◌+◌, ◌≤◌, List, [], ◌∷◌, ◌++◌, length, take, drop, sym, subst, append_assoc}
 use Rattle.std.specs.List.{All}
 use Rattle.std.proofs.lemmas.List.Elements.{All-nil, All-cons, All-head, All-tail, All-append}
 use Rattle.snap_core.specs.declared.program.Program.{Program}
@@ -12,7 +12,7 @@ use Rattle.snap_rows.specs.declared.head.Action.{Action}
 use Rattle.snap_rows.specs.declared.head.Action.TheVariants.{Forward, Deliver, Fork}
 use Rattle.snap_rows.specs.Network.{Copy, Event, Inject, Step, Happening, IsPlainRun, Leads, inject, step, happening, stepped, Net, Run, Runs, done, on, packets_of}
 use Rattle.snap_rows.proofs.Rows.{All-get}
-use Rattle.snap_gen.specs.Faithful.{Faithful, IsPacketOf, IsStoreOf, IsWithin}
+use Rattle.snap_gen.specs.Faithful.{Faithful, IsPacketOf, IsStoreOf, IsWithin, most_hops}
 use Rattle.snap_runs.specs.Plain.{entering}
 use Rattle.snap_whole.specs.Laws.{IsHopWithin}
 use Rattle.snap_whole.proofs.Entered.{IsOfProgram, no_numbers, entering-fits, calm_run, all_enter}
@@ -65,7 +65,7 @@ module _ (most : ℕ) where
 module _ (p : Program) (topology : Topology) (places : List ℕ) (t : Tables) (faithful : Faithful p topology places t)
     (order : List ℕ) (d : ℕ) (rank : IsRank p.body (length p.vars) order) (greatest : IsDiameter (Linked topology.links) (length topology.switches) d) (m : Arrays) (store : IsStoreOf p m) where
   abbrev most : ℕ
-  most = (length order + 1) * d
+  most = most_hops t.version (length order) d
 
   within : (es : List Event) (s : Net) (hs : List Happening) → All (Fits p) es → Run t m es s hs → IsWithin most s hs
   within es s hs fits run = faithful.hop_bound order d rank greatest m es s hs store (all_enter t p (packets_fit p es fits) run) run
@@ -81,14 +81,14 @@ module _ (p : Program) (topology : Topology) (places : List ℕ) (t : Tables) (f
       (from_here (first ++ e ∷ []) (happened ++ (h ++ [])) all (All-tail (Fits p) e es later) more onward)
 
   -- from each store
-  pub short_from : (es : List Event) (s : Net) (hs : List Happening) → All (IsOfProgram p) (packets_of es) → Run t m es s hs → All (IsHopWithin ((length order + 1) * d)) hs
+  pub short_from : (es : List Event) (s : Net) (hs : List Happening) → All (IsOfProgram p) (packets_of es) → Run t m es s hs → All (IsHopWithin (most_hops t.version (length order) d)) hs
   short_from es s hs fits run = from_here [] [] (All-nil (Fits p)) (events_fit p es fits) done run
 
 module _ (p : Program) (topology : Topology) (places : List ℕ) (t : Tables) (faithful : Faithful p topology places t)
     (order : List ℕ) (d : ℕ) (rank : IsRank p.body (length p.vars) order) (greatest : IsDiameter (Linked topology.links) (length topology.switches) d) where
-  pub short_runs : (ks : List (List ℕ)) → All (IsPacketOf p) ks → (es : List Event) (s : Net) (hs : List Happening) → packets_of es ≡ entering ks → Run t zero_arrays es s hs → All (IsHopWithin ((length order + 1) * d)) hs
+  pub short_runs : (ks : List (List ℕ)) → All (IsPacketOf p) ks → (es : List Event) (s : Net) (hs : List Happening) → packets_of es ≡ entering ks → Run t zero_arrays es s hs → All (IsHopWithin (most_hops t.version (length order) d)) hs
   short_runs ks packets es s hs enter run =
       short_from p topology places t faithful order d rank greatest zero_arrays (no_numbers p) es s hs (subst (All (IsOfProgram p)) (sym enter) (entering-fits p ks packets)) run
 
-  pub short_plain : (ks : List (List ℕ)) → All (IsPacketOf p) ks → (es : List Event) (s : Net) (hs : List Happening) → IsPlainRun t zero_arrays (entering ks) es s hs → All (IsHopWithin ((length order + 1) * d)) hs
+  pub short_plain : (ks : List (List ℕ)) → All (IsPacketOf p) ks → (es : List Event) (s : Net) (hs : List Happening) → IsPlainRun t zero_arrays (entering ks) es s hs → All (IsHopWithin (most_hops t.version (length order) d)) hs
   short_plain ks packets es s hs plain = short_runs ks packets es s hs plain.packets (calm_run t plain.run)

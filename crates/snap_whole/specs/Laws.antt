@@ -1,5 +1,5 @@
 -- Runs of faithful tables report what one big switch does.
-use Rattle.std.specs.Prelude.{◌≡◌, ℕ, ◌+◌, ◌*◌, ◌≤◌, false, List, [], length}
+use Rattle.std.specs.Prelude.{◌≡◌, ℕ, ◌+◌, ◌≤◌, false, List, [], length}
 use Rattle.std.specs.List.{All}
 use Rattle.snap_core.specs.declared.program.Program.{Program}
 use Rattle.snap_core.specs.Arrays.{zero_arrays}
@@ -8,7 +8,7 @@ use Rattle.snap_topo.specs.declared.topology.Topology.{Topology}
 use Rattle.snap_route.specs.Walks.{IsDiameter, Linked}
 use Rattle.snap_rows.specs.declared.tables.Tables.{Tables}
 use Rattle.snap_rows.specs.Network.{Crossed, Delivered, Event, Forked, Happening, IsPlainRun, Net, Run, RunsCalmly, packets_of, start}
-use Rattle.snap_gen.specs.Faithful.{Faithful, IsPacketOf}
+use Rattle.snap_gen.specs.Faithful.{Faithful, IsPacketOf, most_hops}
 use Rattle.snap_runs.specs.Plain.{entering, IsPlainReport}
 use Rattle.snap_runs.specs.Reports.{IsRunReport}
 use Rattle.snap_whole.specs.OneSwitch.{IsSwitchReport, ports_of}
@@ -32,13 +32,14 @@ IsHopWithin most (Crossed c to head) = c.hops + 1 ≤ most
 IsHopWithin most (Delivered c port) = c.hops ≤ most
 IsHopWithin most (Forked c copies lost) = c.hops ≤ most
 
--- **Each copy makes at most (groups + 1) times the diameter hops**, whatever the order of the events
+-- **Each copy makes few hops, whatever the order of the events**: at most (groups + 1) times the diameter over tables of version 2, and (2 groups + 1)
+-- times over those of version 1
 abbrev pub RunsAreShort : Type 0
 RunsAreShort = (p : Program) (topology : Topology) (places : List ℕ) (t : Tables) → Faithful p topology places t
     → (order : List ℕ) (d : ℕ) → IsRank p.body (length p.vars) order → IsDiameter (Linked topology.links) (length topology.switches) d
     → (ks : List (List ℕ)) → All (IsPacketOf p) ks
     → (es : List Event) (s : Net) (hs : List Happening) → packets_of es ≡ entering ks → Run t zero_arrays es s hs
-    → All (IsHopWithin ((length order + 1) * d)) hs
+    → All (IsHopWithin (most_hops t.version (length order) d)) hs
 
 -- so it does in the plain run
 abbrev pub PlainRunsAreShort : Type 0
@@ -46,4 +47,4 @@ PlainRunsAreShort = (p : Program) (topology : Topology) (places : List ℕ) (t :
     → (order : List ℕ) (d : ℕ) → IsRank p.body (length p.vars) order → IsDiameter (Linked topology.links) (length topology.switches) d
     → (ks : List (List ℕ)) → All (IsPacketOf p) ks
     → (es : List Event) (s : Net) (hs : List Happening) → IsPlainRun t zero_arrays (entering ks) es s hs
-    → All (IsHopWithin ((length order + 1) * d)) hs
+    → All (IsHopWithin (most_hops t.version (length order) d)) hs

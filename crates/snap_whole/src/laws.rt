@@ -28,7 +28,8 @@ pub fn orders_have_one_report()
     has_one_listing();
 }
 
-/// **Each copy makes at most (groups + 1) times the diameter hops**, whatever the order of the events.
+/// **Each copy makes few hops, whatever the order of the events**: at most (groups + 1) times the diameter over tables of
+/// version 2, and (2 groups + 1) times over those of version 1.
 pub fn runs_are_short()
     ensures all { RunsAreShort }
     ensures plain { PlainRunsAreShort }
