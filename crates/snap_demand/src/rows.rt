@@ -1,9 +1,9 @@
-//! The row of a switch for a number.
+//! The bodies of numbers in version 1, and where their arrays stand.
 
 ghost use Rattle.std.specs.Prelude.{◌≡◌, ◌<◌, IfOk, length};
 ghost use Rattle.snap_rows.specs.Entries.{var_of};
 ghost use Rattle.snap_gen.specs.Planned.{IsNodeKind};
-ghost use Rattle.snap_demand.specs.OnDemand.{place_of, row_on, stages_of};
+ghost use Rattle.snap_demand.specs.OnDemand.{place_of, staged, stages_of};
 ghost use Rattle.snap_demand.specs.Runs.{IsRun};
 
 use snap_core::NoMemory;
@@ -14,7 +14,7 @@ use snap_rows::tables::{Row, Stage, Tables};
 use std::alloc::Global;
 
 /// The switch of an array; 0 where there is none.
-pub(crate) fn place(tables: &Tables, var: u16) -> u16
+pub fn place(tables: &Tables, var: u16) -> u16
     ensures { result ≡ place_of tables.now var }
 {
     match tables.arrays.items().get(var as usize) {
@@ -23,8 +23,8 @@ pub(crate) fn place(tables: &Tables, var: u16) -> u16
     }
 }
 
-/// The array of a state test.
-pub(crate) fn var_of(test: &Test) -> u16
+/// The array of a state test; 0 for a test of fields.
+pub fn var_of(test: &Test) -> u16
     ensures { result ≡ var_of test.now }
 {
     match test {
@@ -65,28 +65,22 @@ fn stages(alloc: Global, tables: &Tables, ups: &[Update]) -> Result<Vec<Stage>, 
     Ok(stages)
 }
 
-/// The row of a switch for a number with this node. Refuses for memory alone.
-pub fn row_on(alloc: Global, tables: &Tables, at: u16, body: &Row) -> Result<Row, NoMemory>
-    requires { IsNodeKind body.now }
-    ensures { IfOk result (λ r. r ≡ row_on (place_of tables.now) at body.now) }
+/// The body of a number with this node: the updates of a leaf in stages. Refuses for memory alone.
+pub fn staged(alloc: Global, tables: &Tables, node: &Row) -> Result<Row, NoMemory>
+    requires { IsNodeKind node.now }
+    ensures { IfOk result (λ r. r ≡ staged (place_of tables.now) node.now) }
 {
-    match body {
+    match node {
         Row::Field { test, yes, no } => Ok(Row::Field {
             test: test.copy()?,
             yes: *yes,
             no: *no,
         }),
-        Row::State { test, yes, no } => {
-            let owner = place(tables, var_of(test));
-            if owner != at {
-                return Ok(Row::Go { to: owner });
-            }
-            Ok(Row::State {
-                test: test.copy()?,
-                yes: *yes,
-                no: *no,
-            })
-        }
+        Row::State { test, yes, no } => Ok(Row::State {
+            test: test.copy()?,
+            yes: *yes,
+            no: *no,
+        }),
         Row::Last { ups, outs } => Ok(Row::Leaf {
             stages: Stages::new(stages(alloc, tables, ups.items())?),
             outs: Outs::new(copy_outs(alloc, outs.items())?),

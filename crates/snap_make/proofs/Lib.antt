@@ -1,12 +1,17 @@
 pub mod Counts
+pub mod Demanding
+pub mod DemandMaking
+pub mod DemandPushed
 pub mod Entries
 pub mod Formed
+pub mod Framing
 pub mod Given
 pub mod Hopped
 pub mod Made
 pub mod Making
 pub mod Marking
 pub mod Names
+pub mod Noded
 pub mod Pushed
 pub mod Sharing
 pub mod Standing

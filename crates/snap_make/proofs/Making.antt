@@ -44,7 +44,7 @@ module _ (p : Program) (t : Topology) (places : List ℕ) (routes : Table) (g : 
 
   pub all_made : (known : (d : ℕ) (n : Node Leaf) → slice_get old d ≡ Some n → IsKnown n) (ns : List (Node Leaf)) (root : ℕ) (ids numbers : List ℕ) (marks : List Bool) (n : Tables) (r : List RowAt)
       → IsArena ns → Tidies g.ranks (length g.order) (diagram old old_root) (diagram ns root) → IsNumbering ns root ids (slice_index numbers)
-      → AreMarked (numbered_nodes ns ids (slice_index numbers)) (length ids) (length ids) marks → IsFrame p t places routes g.ranks n
+      → AreMarked (numbered_nodes ns ids (slice_index numbers)) (length ids) (length ids) marks → IsFrame 2 p t places routes g.ranks n
       → map row_entry r ≡ at_switches (planned n ns ids numbers marks) (length n.switches) (length ids) → Faithful p t places (record n { rows = r })
   all_made known ns root ids numbers marks n r arena tidies num marked frame rows =
       made_with p t places routes g (diagram old old_root) ns root ids numbers marks n r given
@@ -54,7 +54,7 @@ module _ (p : Program) (t : Topology) (places : List ℕ) (routes : Table) (g : 
   -- so are rows that share the bodies of their numbers
   pub shared_made : (known : (d : ℕ) (n : Node Leaf) → slice_get old d ≡ Some n → IsKnown n) (ns : List (Node Leaf)) (root : ℕ) (ids numbers : List ℕ) (marks : List Bool) (n : Tables) (bodies : List Row) (shares : List RowShare)
       → IsArena ns → Tidies g.ranks (length g.order) (diagram old old_root) (diagram ns root) → IsNumbering ns root ids (slice_index numbers) → length numbers ≡ length ns
-      → AreMarked (numbered_nodes ns ids (slice_index numbers)) (length ids) (length ids) marks → IsFrame p t places routes g.ranks n
+      → AreMarked (numbered_nodes ns ids (slice_index numbers)) (length ids) (length ids) marks → IsFrame 2 p t places routes g.ranks n
       → bodies ≡ map (body_of ns ids numbers) (range_with_len 0 (length ids))
       → map (share_entry bodies) shares ≡ at_switches (shown n bodies marks) (length n.switches) (length bodies) → Faithful p t places (shared n bodies shares)
   shared_made known ns root ids numbers marks n bodies shares arena tidies num wide marked frame are shown_are =
@@ -64,7 +64,7 @@ module _ (p : Program) (t : Topology) (places : List ℕ) (routes : Table) (g : 
 -- and so are the rows of a tidied diagram
 pub rows_made : (p : Program) (t : Topology) (places : List ℕ) (routes : Table) (g : Grouping) (ns : List (Node Leaf)) (root : ℕ)
     → programs.IsInForm p → PutsSmall p.body → IsGrouping p.body (length p.vars) g → topo.IsInForm t → AreRoutes t routes → GivesSwitches p t places → IsTidy p g ns root
-    → (n : Tables) (bodies : List Row) (shares : List RowShare) → IsFrame p t places routes g.ranks n → IsArena ns → AreRows n ns root bodies shares → Faithful p t places (shared n bodies shares)
+    → (n : Tables) (bodies : List Row) (shares : List RowShare) → IsFrame 2 p t places routes g.ranks n → IsArena ns → AreRows n ns root bodies shares → Faithful p t places (shared n bodies shares)
 rows_made p t places routes g ns root form small groups topology paths switches tidy n bodies shares frame arena rows =
     shared_made p t places routes g tidy.old tidy.old_root form small groups tidy.whole topology paths switches tidy.known ns root rows.ids rows.numbers rows.shares_are.marks n bodies shares
     arena tidy.tidies rows.numbering rows.wide rows.shares_are.marked frame rows.bodies_are rows.shares_are.are

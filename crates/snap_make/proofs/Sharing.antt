@@ -29,8 +29,9 @@ use Rattle.snap_make.proofs.Marking.{node_is}
 pub as_row_said : (bodies : List Row) (n : ℕ) (b : Row) (s : Share) → b ≡ slice_index_or bodies n row.Stop → as_row b s ≡ row_said bodies n s
 as_row_said bodies n b share.Body e = e
 as_row_said bodies n b share.Stop e = refl
+as_row_said bodies n b (share.Go x) e = refl
 
-entries_twice : (bodies : List Row) (shares : List RowShare) → map row_entry (map (row_shared bodies) shares) ≡ map (share_entry bodies) shares
+pub entries_twice : (bodies : List Row) (shares : List RowShare) → map row_entry (map (row_shared bodies) shares) ≡ map (share_entry bodies) shares
 entries_twice bodies [] = refl
 entries_twice bodies (s ∷ rest) = λ i. share_entry bodies s ∷ entries_twice bodies rest i
 
@@ -43,7 +44,7 @@ rows_shown n b bodies m marks shares e f h =
 
 -- ---- the bodies of all numbers
 module _ (ns : List (Node Leaf)) (ids numbers : List ℕ) (num : IsNumbered ns ids numbers) where
-  body_is : (n : ℕ) → n < length ids → numbered_nodes ns ids (slice_index numbers) n ≡ Some (body_of ns ids numbers n)
+  pub body_is : (n : ℕ) → n < length ids → numbered_nodes ns ids (slice_index numbers) n ≡ Some (body_of ns ids numbers n)
   body_is n l =
       let at = slice_get-get_or ids n 0 l in
       let id = get_or ids n 0 in
@@ -60,7 +61,7 @@ module _ (ns : List (Node Leaf)) (ids numbers : List ℕ) (num : IsNumbered ns i
     pub as_many : length bodies ≡ length ids
     as_many = ap length are ∙ length-map-range_with_len (body_of ns ids numbers) 0 (length ids)
 
-    numbered_is : (n : ℕ) → slice_get bodies n ≡ numbered_nodes ns ids (slice_index numbers) n
+    pub numbered_is : (n : ℕ) → slice_get bodies n ≡ numbered_nodes ns ids (slice_index numbers) n
     numbered_is n = ⊎_elim
         (λ l.
         (slice_get-get_or bodies n row.Stop (let m = as_many in omega (arith, m, l))

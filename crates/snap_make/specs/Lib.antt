@@ -4,4 +4,5 @@ pub mod Known
 pub mod Pairs
 pub mod Sites
 pub mod Shares
+pub mod Demanded
 pub mod Tidy

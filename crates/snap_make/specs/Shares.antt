@@ -23,6 +23,7 @@ body_of ns ids numbers i = unwrap_or (numbered_nodes ns ids (slice_index numbers
 abbrev pub as_row : Row → Share → Row
 as_row b share.Body = b
 as_row b share.Stop = row.Stop
+as_row b (share.Go x) = row.Go x
 
 abbrev pub share_entry : List Row → RowShare → Entry Row
 share_entry bodies s = row_entry (row_shared bodies s)

@@ -2,7 +2,7 @@
 
 ghost use Rattle.std.specs.Prelude.{◌≡◌, ◌≤◌, ◌<◌, ◌++◌, IfOk, OnOk, length, map};
 ghost use Rattle.snap_route.specs.Tables.{switch_count};
-ghost use Rattle.snap_make.specs.Framed.{AreArrays, IsFrame};
+ghost use Rattle.snap_make.specs.Framed.{AreArrays, IsFrame, told};
 ghost use Rattle.snap_make.specs.Pairs.{at_switch, at_switches, hop_entry, hop_for, one_entry};
 
 use snap_core::NoMemory;
@@ -27,9 +27,18 @@ fn copy_names(alloc: Global, names: &[Name]) -> Result<Vec<Name>, NoMemory>
     Ok(copies)
 }
 
+// The rank that stands in the tables.
+fn told(version: u8, rank: usize) -> u16
+    requires { rank < 65536 }
+    ensures { result ≡ told version rank }
+{
+    if version == 1 { 0 } else { rank as u16 }
+}
+
 // The arrays of these names, each with its switch and rank.
 fn arrays(
     alloc: Global,
+    version: u8,
     names: &[Name],
     groups: &Groups,
     placement: &Placement,
@@ -37,14 +46,14 @@ fn arrays(
     requires ranks { length groups.now.ranks ≡ length names.now }
     requires places { length placement.now ≡ length names.now }
     requires few { length groups.now.order ≤ 64 }
-    ensures { IfOk result (λ r. AreArrays names.now placement.now groups.now.ranks (length names.now) r.items) }
+    ensures { IfOk result (λ r. AreArrays version names.now placement.now groups.now.ranks (length names.now) r.items) }
 {
     let mut arrays = Vec::with_capacity(alloc, groups.count())?;
     for var in 0..groups.count() {
         arrays.push(ArrayAt {
             name: names[var].copy()?,
             at: placement.owner(var as u16),
-            rank: groups.rank(var as u16) as u16,
+            rank: told(version, groups.rank(var as u16)),
         })?;
     }
     Ok(arrays)
@@ -122,6 +131,7 @@ fn switches(alloc: Global, topology: &Topology, routes: &Routes) -> Result<(Name
 // The fields of a program, and its arrays.
 fn declared(
     alloc: Global,
+    version: u8,
     program: &Program,
     groups: &Groups,
     placement: &Placement,
@@ -129,16 +139,17 @@ fn declared(
     requires ranks { length groups.now.ranks ≡ length program.now.vars }
     requires places { length placement.now ≡ length program.now.vars }
     requires few { length groups.now.order ≤ 64 }
-    ensures { IfOk result (λ r. (r.0 ≡ program.now.fields) × AreArrays program.now.vars placement.now groups.now.ranks (length program.now.vars) r.1) }
+    ensures { IfOk result (λ r. (r.0 ≡ program.now.fields) × AreArrays version program.now.vars placement.now groups.now.ranks (length program.now.vars) r.1) }
 {
     let fields = program.fields.copy()?;
-    let arrays = ArraysAt::new(arrays(alloc, program.vars.items(), groups, placement)?);
+    let arrays = ArraysAt::new(arrays(alloc, version, program.vars.items(), groups, placement)?);
     Ok((fields, arrays))
 }
 
-/// The tables without rows. Refuses for memory alone.
+/// The tables of a version without rows. Refuses for memory alone.
 pub(crate) fn frame(
     alloc: Global,
+    version: u8,
     program: &Program,
     groups: &Groups,
     topology: &Topology,
@@ -150,13 +161,13 @@ pub(crate) fn frame(
     requires few { length groups.now.order ≤ 64 }
     requires count { switch_count routes.now ≡ length topology.now.switches }
     requires few_switches { length topology.now.switches ≤ 256 }
-    ensures { IfOk result (IsFrame program.now topology.now placement.now routes.now groups.now.ranks) }
+    ensures { IfOk result (IsFrame version program.now topology.now placement.now routes.now groups.now.ranks) }
 {
     let (links, ports) = borders(alloc, topology)?;
     let (switches, hops) = switches(alloc, topology, routes)?;
-    let (fields, arrays) = declared(alloc, program, groups, placement)?;
+    let (fields, arrays) = declared(alloc, version, program, groups, placement)?;
     Ok(Tables {
-        version: 2,
+        version,
         fields,
         switches,
         arrays,

@@ -11,7 +11,7 @@ ghost use Rattle.snap_make.specs.Sites.{IsSite};
 
 use crate::sites::{Site, is_within, site_at};
 use snap_core::NoMemory;
-use snap_core::policy::Test;
+use snap_demand::rows::var_of;
 use snap_rows::tables::{ArrayAt, Row, Tables};
 use snap_tables::shared::{RowShare, Share};
 use std::alloc::Global;
@@ -22,15 +22,6 @@ fn rank_of(arrays: &[ArrayAt], var: u16) -> usize
     match arrays.get(var as usize) {
         Some(array) => array.rank as usize,
         None => 0,
-    }
-}
-
-fn var_of(test: &Test) -> u16
-    ensures { result ≡ var_of test.now }
-{
-    match test {
-        Test::State { var, .. } => *var,
-        Test::Value { .. } | Test::Equal { .. } => 0,
     }
 }
 

@@ -89,9 +89,9 @@ fn tidy_tables(
     requires topology { IsInForm topology.now }
     requires routes { AreRoutes topology.now routes.now }
     requires placement { GivesSwitches program.now topology.now placement.now }
-    ensures { IfOk result (Faithful program.now topology.now placement.now) }
+    ensures { IfOk result (λ t. Faithful program.now topology.now placement.now t × (t.version ≡ 2)) }
 {
-    let frame = frame(alloc, program, groups, topology, placement, routes)?;
+    let frame = frame(alloc, 2, program, groups, topology, placement, routes)?;
     let (bodies, shares) = rows(alloc, &frame, &built.nodes, built.root)?;
     Ok(SharedTables::new(frame, bodies, shares))
 }
@@ -116,7 +116,7 @@ pub fn shared_tables(
     requires topology { IsInForm topology.now }
     requires routes { AreRoutes topology.now routes.now }
     requires placement { GivesSwitches program.now topology.now placement.now }
-    ensures { IfOk result (Faithful program.now topology.now placement.now) }
+    ensures { IfOk result (λ t. Faithful program.now topology.now placement.now t × (t.version ≡ 2)) }
 {
     know_nodes(&built.nodes);
     built.root = tidied(&mut built.nodes, groups, built.root)?;
@@ -140,7 +140,7 @@ pub fn tables(
     requires topology { IsInForm topology.now }
     requires routes { AreRoutes topology.now routes.now }
     requires placement { GivesSwitches program.now topology.now placement.now }
-    ensures { IfOk result (Faithful program.now topology.now placement.now) }
+    ensures { IfOk result (λ t. Faithful program.now topology.now placement.now t × (t.version ≡ 2)) }
 {
     let shared = shared_tables(alloc, program, built, groups, topology, placement, routes)?;
     unshared(alloc, shared)

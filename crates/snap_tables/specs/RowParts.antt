@@ -1,5 +1,5 @@
 -- Parts of the lines of rows that share their bodies, each made once.
-use Rattle.std.specs.Prelude.{ℕ, List, [], ◌∷◌, ◌++◌, codes, decimal, slice_index_or}
+use Rattle.std.specs.Prelude.{ℕ, List, [], ◌∷◌, ◌++◌, codes, decimal, option_map, slice_get, slice_index_or, unwrap_or}
 use Rattle.snap_rows.specs.declared.tables.Row.{Row}
 use Rattle.snap_rows.specs.declared.tables.Row.TheVariants as row
 use Rattle.snap_tables.specs.Text.{row_words, spaced}
@@ -16,17 +16,20 @@ front_text w = codes "row" ++ spaced (decimal w ∷ [])
 abbrev pub ending_text : (number : ℕ) → Row → List ℕ
 ending_text n b = spaced (decimal n ∷ row_words b) ++ codes "\n"
 
--- both endings of a number's lines
+-- the endings of a number's lines that are made once
 abbrev pub ending_of : List Row → ℕ → Ending
 ending_of bodies n = record { body = ending_text n (slice_index_or bodies n row.Stop); stop = ending_text n row.Stop }
 
-abbrev pub chosen : Ending → Share → List ℕ
-chosen e share.Body = e.body
-chosen e share.Stop = e.stop
+-- what stands behind the switch in a row of a number with these endings
+abbrev pub chosen : ℕ → Share → Ending → List ℕ
+chosen n share.Body e = e.body
+chosen n share.Stop e = e.stop
+chosen n (share.Go x) e = ending_text n (row.Go x)
 
-abbrev pub blank : Ending
-blank = record { body = []; stop = [] }
+-- nothing where the number has no endings
+abbrev pub chosen_at : List Ending → ℕ → Share → List ℕ
+chosen_at endings n s = unwrap_or (option_map (chosen n s) (slice_get endings n)) []
 
 -- the line of a row, of parts by its switch and its number
 abbrev pub shared_line : RowParts → RowShare → List ℕ
-shared_line parts s = slice_index_or parts.fronts.items s.at [] ++ chosen (slice_index_or parts.endings.items s.number blank) s.share
+shared_line parts s = slice_index_or parts.fronts.items s.at [] ++ chosen_at parts.endings.items s.number s.share

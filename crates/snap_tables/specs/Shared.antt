@@ -8,10 +8,11 @@ use Rattle.snap_tables.specs.declared.shared.RowShare.{RowShare}
 use Rattle.snap_tables.specs.declared.shared.Share.{Share}
 use Rattle.snap_tables.specs.declared.shared.Share.TheVariants as share
 
--- the body of a number, or `stop`
+-- the body of a number, `stop`, or `go` to a switch
 abbrev pub row_said : List Row → ℕ → Share → Row
 row_said bodies n share.Body = slice_index_or bodies n row.Stop
 row_said bodies n share.Stop = row.Stop
+row_said bodies n (share.Go x) = row.Go x
 
 abbrev pub row_shared : List Row → RowShare → RowAt
 row_shared bodies s = record { at = s.at; number = s.number; row = row_said bodies s.number s.share }

@@ -2,7 +2,7 @@
 
 ghost use Rattle.std.specs.Prelude.{◌≡◌, ◌<◌, ◌++◌, [], IfOk, OnOk, length, map, slice_index_or};
 ghost use Rattle.std.specs.List.{range_with_len};
-ghost use Rattle.snap_tables.specs.RowParts.{blank, chosen, ending_of, ending_text, front_text, shared_line};
+ghost use Rattle.snap_tables.specs.RowParts.{chosen, chosen_at, ending_of, ending_text, front_text, shared_line};
 
 use crate::line::Entry;
 use crate::shared::{RowShare, Share};
@@ -60,14 +60,22 @@ fn fronts(alloc: Global, switches: usize) -> Result<Vec<Text>, NoMemory>
     Ok(fronts)
 }
 
-// The words of a number and a row, and the end of their line.
+// Puts the words of a number and a row, and the end of their line.
+fn put_words(out: &mut Vec<u8>, number: u64, row: &Row) -> Result<(), NoMemory>
+    ensures { OnOk result (out.new.items ≡ out.old.items ++ ending_text number row.now) }
+{
+    put_number(out, number)?;
+    put_row(out, row)?;
+    out.push(b'\n')?;
+    Ok(())
+}
+
+// These words by themselves.
 fn ending_with(alloc: Global, number: u64, row: &Row) -> Result<Text, NoMemory>
     ensures { IfOk result (λ text. text ≡ ending_text number row.now) }
 {
     let mut bytes = Vec::new(alloc);
-    put_number(&mut bytes, number)?;
-    put_row(&mut bytes, row)?;
-    bytes.push(b'\n')?;
+    put_words(&mut bytes, number, row)?;
     Ok(Text { bytes })
 }
 
@@ -104,12 +112,13 @@ fn put_front(out: &mut Vec<u8>, fronts: &[Text], at: u16) -> Result<(), NoMemory
     }
 }
 
-fn put_chosen(out: &mut Vec<u8>, ending: &Ending, share: Share) -> Result<(), NoMemory>
-    ensures { OnOk result (out.new.items ≡ out.old.items ++ chosen ending.now share) }
+fn put_chosen(out: &mut Vec<u8>, ending: &Ending, number: u64, share: Share) -> Result<(), NoMemory>
+    ensures { OnOk result (out.new.items ≡ out.old.items ++ chosen number share ending.now) }
 {
     match share {
         Share::Body => out.extend_from_slice(&ending.body.bytes)?,
         Share::Stop => out.extend_from_slice(&ending.stop.bytes)?,
+        Share::Go { to } => put_words(out, number, &Row::Go { to })?,
     }
     Ok(())
 }
@@ -121,10 +130,10 @@ fn put_ending(
     number: u64,
     share: Share,
 ) -> Result<(), NoMemory>
-    ensures { OnOk result (out.new.items ≡ out.old.items ++ chosen (slice_index_or endings.now number blank) share) }
+    ensures { OnOk result (out.new.items ≡ out.old.items ++ chosen_at endings.now number share) }
 {
     match endings.get(number as usize) {
-        Some(ending) => put_chosen(out, ending, share),
+        Some(ending) => put_chosen(out, ending, number, share),
         None => Ok(()),
     }
 }

@@ -17,13 +17,16 @@ pub enum Share {
     Body,
     /// The number isn't decided here.
     Stop,
+    /// Packets go on to this switch, where the number is decided.
+    Go { to: u16 },
 }
 
-/// A row of shared tables: its switch, its number, and what stands in it.
+/// A row of shared tables: its switch, its number, and what stands in it. The number comes first, since fields lie in
+/// this order: so a row takes 16 bytes.
 #[derive(Clone, Copy)]
 pub struct RowShare {
-    pub at: u16,
     pub number: u64,
+    pub at: u16,
     pub share: Share,
 }
 

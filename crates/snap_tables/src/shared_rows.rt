@@ -69,6 +69,7 @@ fn said(alloc: Global, bodies: &[Row], share: RowShare) -> Result<Row, NoMemory>
     match share.share {
         Share::Body => copy_row(alloc, &bodies[share.number as usize]),
         Share::Stop => Ok(Row::Stop),
+        Share::Go { to } => Ok(Row::Go { to }),
     }
 }
 

@@ -1,4 +1,5 @@
-use Rattle.std.proofs.Common.{sym, subst}
+use Rattle.std.proofs.Common.{◌≡◌, sym, subst}
+use Rattle.snap_rows.specs.declared.tables.Tables.{Tables}
 use Rattle.snap_gen.specs.Faithful.{Faithful}
 use Rattle.snap_make.proofs.Given.{few_groups}
 use Rattle.snap_make.proofs.Making.{rows_made}
@@ -22,7 +23,9 @@ new-requires c =
 
 pub returns : goal.returns
 returns c =
-    subst (Faithful c.args.program.now c.args.topology.now c.args.placement.now) (sym c.new.ensures)
-    (rows_made c.args.program.now c.args.topology.now c.args.placement.now c.args.routes.now c.args.groups.now c.args.built.now.nodes c.args.built.now.root
-    c.requires.form c.requires.small c.requires.groups c.requires.topology c.requires.routes c.requires.placement c.requires.tidy
-    c.in_ok-frame.frame c.in_ok-bodies.bodies.items c.in_ok-bodies.shares.items c.in_ok-frame.ensures c.in_ok-bodies.ensures.arena c.in_ok-bodies.ensures.rows)
+    subst (λ (t : Tables). Faithful c.args.program.now c.args.topology.now c.args.placement.now t × (t.version ≡ 2)) (sym c.new.ensures) (
+      rows_made c.args.program.now c.args.topology.now c.args.placement.now c.args.routes.now c.args.groups.now c.args.built.now.nodes c.args.built.now.root
+          c.requires.form c.requires.small c.requires.groups c.requires.topology c.requires.routes c.requires.placement c.requires.tidy
+          c.in_ok-frame.frame c.in_ok-bodies.bodies.items c.in_ok-bodies.shares.items c.in_ok-frame.ensures c.in_ok-bodies.ensures.arena c.in_ok-bodies.ensures.rows,
+      c.in_ok-frame.ensures.version,
+    )

@@ -1,0 +1,104 @@
+//! Tables on demand: packets visit only the switches that they need.
+
+ghost use Rattle.std.specs.Prelude.{◌≡◌, ◌<◌, IfOk, length};
+ghost use Rattle.snap_arena.specs.Arena.{IsArena};
+ghost use Rattle.snap_core.specs.Laws.{PutsSmall};
+ghost use Rattle.snap_core.specs.Programs.{IsInForm as IsProgramInForm};
+ghost use Rattle.snap_build.specs.Whole.{IsWhole};
+ghost use Rattle.snap_dep.specs.Ranks.{IsGrouping};
+ghost use Rattle.snap_gen.specs.Faithful.{Faithful};
+ghost use Rattle.snap_place.specs.Answer.{GivesSwitches};
+ghost use Rattle.snap_route.specs.Tables.{AreRoutes};
+ghost use Rattle.snap_topo.specs.Form.{IsInForm};
+ghost use Rattle.snap_demand.specs.Demands.{IsSetting};
+ghost use Rattle.snap_make.specs.Demanded.{AreNumberedRows, CanBeNumbered};
+ghost use Rattle.snap_make.specs.Tidy.{IsTidy};
+
+use crate::bodies::bodies;
+use crate::demanded::demanded_rows;
+use crate::frame::frame;
+use crate::known::know_nodes;
+use snap_arena::nodes::Nodes;
+use snap_build::building::Built;
+use snap_core::NoMemory;
+use snap_core::program::Program;
+use snap_dep::groups::Groups;
+use snap_fdd::leaf::Leaf;
+use snap_gen::images::tidied;
+use snap_gen::numbering::number;
+use snap_place::placement::Placement;
+use snap_route::table::Routes;
+use snap_rows::tables::{Row, Tables};
+use snap_tables::shared::{RowShare, SharedTables};
+use snap_topo::topology::Topology;
+use std::alloc::Global;
+
+// The bodies of the numbers below a root, and the rows that share them.
+fn rows(
+    alloc: Global,
+    frame: &Tables,
+    routes: &Routes,
+    nodes: &Nodes<Leaf>,
+    root: u64,
+) -> Result<(Vec<Row>, Vec<RowShare>), NoMemory>
+    requires root { root < length nodes.now }
+    requires setting { IsSetting frame.now routes.now }
+    requires nodes { CanBeNumbered frame.now nodes.now root }
+    ensures arena { IsArena nodes.now }
+    ensures rows { IfOk result (λ r. AreNumberedRows frame.now nodes.now root r.0.items r.1.items) }
+{
+    let numbering = number(alloc, nodes, root)?;
+    let bodies = bodies(alloc, nodes, &numbering)?;
+    demanded_rows(alloc, frame, routes, &bodies)
+}
+
+// Tables on demand, faithful to a program with this tidied diagram.
+fn tidy_on_demand(
+    alloc: Global,
+    program: &Program,
+    built: &Built,
+    groups: &Groups,
+    topology: &Topology,
+    placement: &Placement,
+    routes: &Routes,
+) -> Result<SharedTables, NoMemory>
+    requires form { IsProgramInForm program.now }
+    requires small { PutsSmall program.now.body }
+    requires groups { IsGrouping program.now.body (length program.now.vars) groups.now }
+    requires tidy { IsTidy program.now groups.now built.now.nodes built.now.root }
+    requires topology { IsInForm topology.now }
+    requires routes { AreRoutes topology.now routes.now }
+    requires placement { GivesSwitches program.now topology.now placement.now }
+    ensures { IfOk result (λ t. Faithful program.now topology.now placement.now t × (t.version ≡ 1)) }
+{
+    let frame = frame(alloc, 1, program, groups, topology, placement, routes)?;
+    let (bodies, shares) = rows(alloc, &frame, routes, &built.nodes, built.root)?;
+    Ok(SharedTables::new(frame, bodies, shares))
+}
+
+/// Tables of version 1 that are faithful to a program with this diagram, for a topology with these routes and a placement
+/// of the program's arrays (`docs/MEANING.md`, "Faithful tables"): a packet goes only where its program needs it.
+///
+/// The nodes below the root are numbered from 0 at the root, rising along each way. Refuses for memory alone.
+pub fn on_demand(
+    alloc: Global,
+    program: &Program,
+    mut built: Built,
+    groups: &Groups,
+    topology: &Topology,
+    placement: &Placement,
+    routes: &Routes,
+) -> Result<SharedTables, NoMemory>
+    requires form { IsProgramInForm program.now }
+    requires small { PutsSmall program.now.body }
+    requires groups { IsGrouping program.now.body (length program.now.vars) groups.now }
+    requires whole { IsWhole program.now groups.now built.nodes built.root }
+    requires topology { IsInForm topology.now }
+    requires routes { AreRoutes topology.now routes.now }
+    requires placement { GivesSwitches program.now topology.now placement.now }
+    ensures { IfOk result (λ t. Faithful program.now topology.now placement.now t × (t.version ≡ 1)) }
+{
+    know_nodes(&built.nodes);
+    built.root = tidied(&mut built.nodes, groups, built.root)?;
+    tidy_on_demand(alloc, program, &built, groups, topology, placement, routes)
+}
