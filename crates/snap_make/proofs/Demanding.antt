@@ -1,8 +1,7 @@
 -- Tables with the rows that are demanded of a tidied diagram are faithful.
 use Rattle.std.proofs.Common.{◌≡◌, ◌≢◌, ℕ, ◌<◌, ◌≤◌, inl, Bool, true, false, cond, List, [], ◌∷◌, map, length, Option, Some, None, refl, sym, ap, subst, ◌∙◌, arith}
-use Rattle.std.specs.Prelude.{slice_get, slice_index, nat_eq, option_map, unwrap_or, if◌then◌else◌}
+use Rattle.std.specs.Prelude.{slice_index, nat_eq, option_map, unwrap_or, if◌then◌else◌}
 use Rattle.std.specs.List.{All}
-use Rattle.std.specs.List.Sorted.{IsStrictlySortedBy}
 use Rattle.std.proofs.lemmas.Option.{none-some, same_Some, slice_get_within, slice_get-map, unwrap_or-slice_get}
 use Rattle.snap_core.specs.declared.policy.Update.{Update}
 use Rattle.snap_core.specs.declared.program.Program.{Program}
@@ -14,12 +13,11 @@ use Rattle.snap_arena.specs.Arena.{IsArena}
 use Rattle.snap_fdd.specs.declared.leaf.Leaf.{Leaf}
 use Rattle.snap_fdd.specs.Diagrams.{Diagram, diagram}
 use Rattle.snap_rows.specs.declared.tables.ArrayAt.{ArrayAt}
-use Rattle.snap_rows.specs.declared.tables.RowAt.{RowAt}
 use Rattle.snap_rows.specs.declared.tables.Tables.{Tables}
 use Rattle.snap_rows.specs.declared.tables.Row.{Row}
 use Rattle.snap_rows.specs.declared.tables.Row.TheVariants.{Field, State, Go, Leaf as StageLeaf, Stop, Last}
-use Rattle.snap_rows.specs.Entries.{Parts, row_at, var_of}
-use Rattle.snap_rows.specs.Form.{IsInForm, IsRowInForm, IsRowAtInForm, IsTurnInForm, IsUpdateInForm, switch_count, row_cmp}
+use Rattle.snap_rows.specs.Entries.{Parts, var_of}
+use Rattle.snap_rows.specs.Form.{IsInForm, IsRowInForm, IsTurnInForm, IsUpdateInForm, switch_count}
 use Rattle.snap_gen.specs.Tidied.{Tidies}
 use Rattle.snap_gen.specs.Shown.{IsNumbering}
 use Rattle.snap_gen.specs.Generated.{IsBareDiagram, numbered_nodes}
@@ -39,9 +37,9 @@ use Rattle.snap_demand.proofs.Written as written
 use Rattle.snap_demand.proofs.Written.{written_on_demand}
 use Rattle.snap_make.specs.Framed.{IsFrame}
 use Rattle.snap_make.specs.Pairs.{row_entry, at_switches}
-use Rattle.snap_make.proofs.Entries.{Each, found, row_found, each_at, Planned, all_planned, found_is, entry_cmp, switches_sorted, unmapped_sorted}
-use Rattle.snap_make.proofs.Framing.{IsFramed, framed, from_get}
+use Rattle.snap_make.proofs.Framing.{IsFramed, framed}
 use Rattle.snap_make.proofs.Given.{IsReady}
+use Rattle.snap_make.proofs.Laid.{once, row_at_is, rows_form, rows_rise}
 use Rattle.snap_make.proofs.Noded.{IsNodeInForm, bare, node_low, node_in_form}
 use Rattle.snap_make.proofs.Sharing.{body_is}
 use Rattle.snap_make.proofs.Whole.{IsBuilt}
@@ -169,17 +167,8 @@ module _ (p : Program) (t : Topology) (places : List ℕ) (routes : Table) (g : 
   plan_form : (w i : ℕ) (b : Row) → plan w i ≡ Some b → IsRowInForm n b
   plan_form w i b e = let r = row_is w i b e in subst (IsRowInForm n) r.is (node_row w i r.body r.node (formed i r.body r.node))
 
-  row_each : (i : ℕ) (r : RowAt) → slice_get n.rows i ≡ Some r → Planned plan (length ids) (switch_count n) (row_entry r)
-  row_each i r e = each_at row_entry (Planned plan (length ids) (switch_count n)) n.rows i r (subst (Each (Planned plan (length ids) (switch_count n))) (sym rows) (all_planned plan (length ids) (switch_count n))) e
-
-  row_at_is : (w i : ℕ) → row_at n w i ≡ plan w i
-  row_at_is w i = row_found n.rows w i ∙ ap (λ l. found l w i) rows ∙ found_is plan (length ids) (switch_count n) plan_low w i
-
-  rows_rise : IsStrictlySortedBy row_cmp n.rows
-  rows_rise = unmapped_sorted row_entry n.rows (subst (IsStrictlySortedBy entry_cmp) (sym rows) (switches_sorted plan (switch_count n) (length ids)))
-
   in_form : IsInForm n
-  in_form = f.form (from_get (IsRowAtInForm n) n.rows (λ i r e. (let x = row_each i r e in record { at = x.0; row = plan_form r.at r.number r.row x.2 }))) rows_rise
+  in_form = f.form (rows_form n plan (length ids) rows plan_form) (rows_rise n plan (length ids) rows)
 
   -- ---- demand
   first_node : nodes 0 ≢ None
@@ -188,8 +177,8 @@ module _ (p : Program) (t : Topology) (places : List ℕ) (routes : Table) (g : 
 
   are_marked : AreMarked n nodes has
   are_marked = record {
-    rows = row_at_is;
-    once = λ i r e. (let x = row_each i r e in row_at_is r.at r.number ∙ x.2);
+    rows = row_at_is n plan (length ids) rows plan_low;
+    once = once n plan (length ids) rows plan_low;
     sound = sound;
     whole = closed_is_whole n nodes has frame.version good closed;
   }

@@ -7,6 +7,7 @@ pub mod Formed
 pub mod Framing
 pub mod Given
 pub mod Hopped
+pub mod Laid
 pub mod Made
 pub mod Making
 pub mod Marking

@@ -1,7 +1,7 @@
 -- Tables with the planned rows of a tidied diagram are faithful.
 use Rattle.std.proofs.Common.{◌≡◌, ℕ, ◌<◌, inl, inr, ⊎_elim, Bool, true, false, not, List, [], ◌∷◌, map, length, Option, Some, None, refl, sym, ap, subst, ◌∙◌, arith, ◌&&◌}
-use Rattle.std.specs.Prelude.{slice_get, slice_index, slice_index_or, option_map, unwrap_or}
-use Rattle.std.specs.List.Sorted.{IsStrictlySortedBy, IsNonDecreasing, IsNonDecreasingBy}
+use Rattle.std.specs.Prelude.{slice_index, slice_index_or, option_map, unwrap_or}
+use Rattle.std.specs.List.Sorted.{IsNonDecreasing, IsNonDecreasingBy}
 use Rattle.std.proofs.lemmas.Bool.{and_parts, false≢true}
 use Rattle.std.proofs.lemmas.Option.{none-some, slice_get-map, slice_get-get_or, get_or_from_slice_get, unwrap_or-slice_get}
 use Rattle.std.proofs.lemmas.List.{length-map}
@@ -19,8 +19,8 @@ use Rattle.snap_rows.specs.declared.tables.RowAt.{RowAt}
 use Rattle.snap_rows.specs.declared.tables.Tables.{Tables}
 use Rattle.snap_rows.specs.declared.tables.Row.{Row}
 use Rattle.snap_rows.specs.declared.tables.Row.TheVariants.{Field, State, Go, Leaf as StageLeaf, Stop, Last}
-use Rattle.snap_rows.specs.Entries.{row_at, rank_of}
-use Rattle.snap_rows.specs.Form.{IsInForm, IsRowInForm, IsRowAtInForm, switch_count, row_cmp}
+use Rattle.snap_rows.specs.Entries.{rank_of}
+use Rattle.snap_rows.specs.Form.{IsInForm, IsRowInForm, switch_count}
 use Rattle.snap_rows.specs.Handles.{is_field}
 use Rattle.snap_rows.specs.Rules.{IsFieldRow}
 use Rattle.snap_gen.specs.Planned.{row_for, IsFront, ArePlanned}
@@ -33,9 +33,9 @@ use Rattle.snap_make.specs.Framed.{IsFrame, told}
 use Rattle.snap_make.specs.Fronts.{AreMarked}
 use Rattle.snap_make.specs.Pairs.{row_entry, at_switches}
 use Rattle.snap_make.specs.Sites.{planned}
-use Rattle.snap_make.proofs.Entries.{Each, found, row_found, each_at, Planned, all_planned, found_is, entry_cmp, switches_sorted, unmapped_sorted}
-use Rattle.snap_make.proofs.Framing.{IsFramed, framed, from_get}
+use Rattle.snap_make.proofs.Framing.{IsFramed, framed}
 use Rattle.snap_make.proofs.Given.{IsReady}
+use Rattle.snap_make.proofs.Laid.{once, row_at_is, rows_form, rows_rise}
 use Rattle.snap_make.proofs.Noded.{IsNodeInForm, bare, node_low, node_in_form}
 use Rattle.snap_make.proofs.Standing.{no_field, Stands, stands, front_same, port_low, holder_low}
 use Rattle.snap_make.proofs.Whole.{IsBuilt}
@@ -124,17 +124,8 @@ module _ (p : Program) (t : Topology) (places : List ℕ) (routes : Table) (g : 
       let r = row_is w i b e in
       ⊎_elim (λ same. subst (IsRowInForm n) (sym same) (row_form i r.body r.node)) (λ stop. subst (IsRowInForm n) (sym stop) frame.version) r.stands.body
 
-  row_each : (i : ℕ) (r : RowAt) → slice_get n.rows i ≡ Some r → Planned plan (length ids) (switch_count n) (row_entry r)
-  row_each i r e = each_at row_entry (Planned plan (length ids) (switch_count n)) n.rows i r (subst (Each (Planned plan (length ids) (switch_count n))) (sym rows) (all_planned plan (length ids) (switch_count n))) e
-
-  row_at_is : (w i : ℕ) → row_at n w i ≡ plan w i
-  row_at_is w i = row_found n.rows w i ∙ ap (λ l. found l w i) rows ∙ found_is plan (length ids) (switch_count n) plan_low w i
-
-  rows_rise : IsStrictlySortedBy row_cmp n.rows
-  rows_rise = unmapped_sorted row_entry n.rows (subst (IsStrictlySortedBy entry_cmp) (sym rows) (switches_sorted plan (switch_count n) (length ids)))
-
   in_form : IsInForm n
-  in_form = facts.form (from_get (IsRowAtInForm n) n.rows (λ i r e. (let x = row_each i r e in record { at = x.0; row = plan_form r.at r.number r.row x.2 }))) rows_rise
+  in_form = facts.form (rows_form n plan (length ids) rows plan_form) (rows_rise n plan (length ids) rows)
 
   -- ---- fronts
   is_front : (i : ℕ) → IsFront nodes i → fronts nodes marks i ≡ true
@@ -173,8 +164,8 @@ module _ (p : Program) (t : Topology) (places : List ℕ) (routes : Table) (g : 
 
   are_planned : ArePlanned n nodes (fronts nodes marks)
   are_planned = record {
-    rows = λ w i. row_at_is w i ∙ front_same n w (slice_index_or marks i false) (nodes i);
-    once = λ i r e. (let x = row_each i r e in row_at_is r.at r.number ∙ x.2);
+    rows = λ w i. row_at_is n plan (length ids) rows plan_low w i ∙ front_same n w (slice_index_or marks i false) (nodes i);
+    once = once n plan (length ids) rows plan_low;
   }
 
   is_written : IsWritten p t places routes g.ranks nodes (fronts nodes marks) n
