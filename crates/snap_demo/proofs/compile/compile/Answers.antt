@@ -1,7 +1,9 @@
 use Rattle.std.proofs.Common.{sym, subst}
+use Rattle.std.proofs.lemmas.Result.{IfOk-weaker}
+use Rattle.snap_gen.specs.Faithful.{Faithful}
 use Rattle.snap_place.specs.Answer.{GivesSwitches}
 use Rattle.snap_topo.specs.Form.{IsInForm}
-use Rattle.snap_demo.specs.Row.{stated_topology}
+use Rattle.snap_demo.specs.Row.{stated_places, stated_topology}
 use Rattle.snap_demo.proofs.Placed.{places_fit}
 use Rattle.snap_demo.proofs.Row.{row_in_form}
 use Rattle.snap_demo.proofs.compile.compile.Goals as goal
@@ -14,3 +16,10 @@ tables-requires-clause-placement c =
     let p = c.args.program.now in
     subst (λ t. GivesSwitches p t c.in_ok-placement.placement) (sym c.in_ok-topology.ensures)
     (subst (GivesSwitches p (stated_topology c.args.switches)) (sym c.in_ok-placement.ensures) (places_fit c.args.switches p c.requires.some c.requires.stated c.requires.apart))
+
+pub returns : goal.returns
+returns c =
+    let p = c.args.program.now in
+    let n = c.args.switches in
+    IfOk-weaker c.tables.result _ (Faithful p (stated_topology n) (stated_places n))
+    (λ t made. subst (λ l. Faithful p (stated_topology n) l t) c.in_ok-placement.ensures (subst (λ y. Faithful p y c.in_ok-placement.placement t) c.in_ok-topology.ensures made.0)) c.tables.ensures
