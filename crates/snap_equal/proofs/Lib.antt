@@ -4,6 +4,7 @@ pub mod TermTests
 pub mod Indices
 pub mod Making
 pub mod Holding
+pub mod Turning
 pub mod AllPlaces
 pub mod Adding
 pub mod Differing

@@ -5,6 +5,7 @@ mod agreeing;
 pub mod comparing;
 mod held;
 mod leaves;
+mod orders;
 mod outs;
 mod places;
 mod stop;
