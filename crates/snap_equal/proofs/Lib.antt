@@ -10,3 +10,6 @@ pub mod Adding
 pub mod Differing
 pub mod Answering
 pub mod Comparable
+pub mod Fitting
+pub mod FactCodes
+pub mod Alike
