@@ -4,8 +4,12 @@ pub mod TermTests
 pub mod Indices
 pub mod Making
 pub mod Holding
+pub mod Turning
 pub mod AllPlaces
 pub mod Adding
 pub mod Differing
 pub mod Answering
 pub mod Comparable
+pub mod Fitting
+pub mod FactCodes
+pub mod Alike

@@ -5,3 +5,4 @@ pub mod Made
 pub mod Same
 pub mod Tally
 pub mod Told
+pub mod Weaker

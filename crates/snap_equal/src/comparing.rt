@@ -1,15 +1,17 @@
 //! The comparison of two diagrams.
 
-ghost use Rattle.std.specs.Prelude.{◌≡◌, ◌<◌, ◌≤◌, [], IfOk, OnOk, length};
+ghost use Rattle.std.specs.Prelude.{◌≡◌, ◌<◌, ◌≤◌, [], IfOk, OnOk, length, true};
 ghost use Rattle.snap_fdd.specs.Diagrams.{diagram};
 ghost use Rattle.snap_equal.specs.Inputs.{IsComparable, IsLeaf, IsTest, space};
-ghost use Rattle.snap_equal.specs.Leaves.{ArePairsKnown, DiagramsDoSame, LeavesDoSame};
+ghost use Rattle.snap_equal.specs.Leaves.{AreRemembered, DiagramsDoSame, LeavesDoSame};
 ghost use Rattle.snap_equal.specs.Same.{CanBeCompared, IsCompared};
-ghost use Rattle.snap_equal.specs.Told.{AreBelow, IsAnswer, Where};
+ghost use Rattle.snap_equal.specs.Told.{AreBelow, IsAnswer, On, Where};
 
 use crate::agreeing::agree;
 use crate::leaves::same_leaves;
+use crate::marks::Marks;
 use crate::stop::Stop;
+use crate::sure::{Memos, Plan, is_joined, same};
 use snap_arena::node::Node;
 use snap_arena::nodes::Nodes;
 use snap_arena::numbers::Numbers;
@@ -100,11 +102,48 @@ fn compare_leaves_where(
     }
 }
 
-// Compares two diagrams under a context. `plain` is the one without facts.
+// Whether two diagrams agree without any test or, where several ways lead to one of them, surely do the same.
+fn are_same(
+    memos: &mut Memos,
+    plan: &Plan,
+    ctx: &Context,
+    vars: u16,
+    left: &Nodes<Leaf>,
+    first: u64,
+    right: &Nodes<Leaf>,
+    second: u64,
+) -> Result<bool, NoMemory>
+    requires few { vars ≤ 64 }
+    requires plain { plan.now.plain.facts ≡ [] }
+    requires comps { length plan.now.plain.classes ≡ length ctx.now.classes }
+    requires first { first < length left.now }
+    requires second { second < length right.now }
+    requires left { IsComparable (space ctx.now vars) (diagram left.now first) }
+    requires right { IsComparable (space ctx.now vars) (diagram right.now second) }
+    requires memos { AreRemembered (length ctx.now.classes) left.now right.now memos.old }
+    ensures same { IfOk result (λ yes. yes ≡ true → On ctx.now (DiagramsDoSame (diagram left.now first) (diagram right.now second))) }
+    ensures memos { OnOk result (AreRemembered (length ctx.now.classes) left.now right.now memos.new) }
+{
+    if is_joined(plan, first, second) {
+        same(memos, plan, ctx, vars, left, first, right, second)
+    } else {
+        agree(
+            &mut memos.agreed,
+            &plan.plain,
+            vars,
+            left,
+            first,
+            right,
+            second,
+        )
+    }
+}
+
+// Compares two diagrams under a context.
 #[cycle(compare_under)]
 fn compare_under(
-    known: &mut Numbers,
-    plain: &Context,
+    memos: &mut Memos,
+    plan: &Plan,
     ctx: &Context,
     vars: u16,
     left: &Nodes<Leaf>,
@@ -113,43 +152,41 @@ fn compare_under(
     second: u64,
 ) -> Result<Compared, NoMemory>
     requires few { vars ≤ 64 }
-    requires plain { plain.now.facts ≡ [] }
-    requires comps { length plain.now.classes ≡ length ctx.now.classes }
+    requires plain { plan.now.plain.facts ≡ [] }
+    requires comps { length plan.now.plain.classes ≡ length ctx.now.classes }
     requires facts { AreBelow vars ctx.now }
     requires first { first < length left.now }
     requires second { second < length right.now }
     requires left { IsComparable (space ctx.now vars) (diagram left.now first) }
     requires right { IsComparable (space ctx.now vars) (diagram right.now second) }
-    requires known { ArePairsKnown (length ctx.now.classes) left.now right.now known.old }
+    requires memos { AreRemembered (length ctx.now.classes) left.now right.now memos.old }
     ensures compared { IfOk result (IsAnswer ctx.now vars (DiagramsDoSame (diagram left.now first) (diagram right.now second))) }
-    ensures known { OnOk result (ArePairsKnown (length ctx.now.classes) left.now right.now known.new) }
+    ensures memos { OnOk result (AreRemembered (length ctx.now.classes) left.now right.now memos.new) }
 {
-    if agree(known, plain, vars, left, first, right, second)? {
+    if are_same(memos, plan, ctx, vars, left, first, right, second)? {
         return Ok(Compared::Same);
     }
     match look(left, first) {
         Node::Ask { test, yes, no } => {
             let compared = compare_where(
-                known, plain, ctx, vars, test, true, left, *yes, right, second,
+                memos, plan, ctx, vars, test, true, left, *yes, right, second,
             )?;
             if let Compared::Differ { .. } = compared {
                 return Ok(compared);
             }
             compare_where(
-                known, plain, ctx, vars, test, false, left, *no, right, second,
+                memos, plan, ctx, vars, test, false, left, *no, right, second,
             )
         }
         Node::Leaf(leaf) => match look(right, second) {
             Node::Ask { test, yes, no } => {
                 let compared = compare_where(
-                    known, plain, ctx, vars, test, true, left, first, right, *yes,
+                    memos, plan, ctx, vars, test, true, left, first, right, *yes,
                 )?;
                 if let Compared::Differ { .. } = compared {
                     return Ok(compared);
                 }
-                compare_where(
-                    known, plain, ctx, vars, test, false, left, first, right, *no,
-                )
+                compare_where(memos, plan, ctx, vars, test, false, left, first, right, *no)
             }
             Node::Leaf(other) => compare_leaves(left.allocator(), ctx, vars, leaf, other),
         },
@@ -159,8 +196,8 @@ fn compare_under(
 // Compares two diagrams where a test has an answer.
 #[cycle(compare_under)]
 fn compare_where(
-    known: &mut Numbers,
-    plain: &Context,
+    memos: &mut Memos,
+    plan: &Plan,
     ctx: &Context,
     vars: u16,
     test: &Test,
@@ -171,22 +208,22 @@ fn compare_where(
     second: u64,
 ) -> Result<Compared, NoMemory>
     requires few { vars ≤ 64 }
-    requires plain { plain.now.facts ≡ [] }
-    requires comps { length plain.now.classes ≡ length ctx.now.classes }
+    requires plain { plan.now.plain.facts ≡ [] }
+    requires comps { length plan.now.plain.classes ≡ length ctx.now.classes }
     requires facts { AreBelow vars ctx.now }
     requires test { IsTest (space ctx.now vars) test.now }
     requires first { first < length left.now }
     requires second { second < length right.now }
     requires left { IsComparable (space ctx.now vars) (diagram left.now first) }
     requires right { IsComparable (space ctx.now vars) (diagram right.now second) }
-    requires known { ArePairsKnown (length ctx.now.classes) left.now right.now known.old }
+    requires memos { AreRemembered (length ctx.now.classes) left.now right.now memos.old }
     ensures compared { IfOk result (IsAnswer ctx.now vars (Where test.now yes (DiagramsDoSame (diagram left.now first) (diagram right.now second)))) }
-    ensures known { OnOk result (ArePairsKnown (length ctx.now.classes) left.now right.now known.new) }
+    ensures memos { OnOk result (AreRemembered (length ctx.now.classes) left.now right.now memos.new) }
 {
     match ctx.assume(test, yes)? {
         Assumed::Impossible => Ok(Compared::Same),
         Assumed::More(more) => {
-            compare_under(known, plain, &more, vars, left, first, right, second)
+            compare_under(memos, plan, &more, vars, left, first, right, second)
         }
     }
 }
@@ -207,7 +244,15 @@ pub fn compare(
     requires right { CanBeCompared comps vars right.now second }
     ensures { IfOk result (IsCompared comps vars left.now first right.now second) }
 {
-    let plain = Context::empty(left.allocator(), comps)?;
-    let mut known = Numbers::new(left.allocator());
-    compare_under(&mut known, &plain, &plain, vars, left, first, right, second)
+    let plan = Plan {
+        plain: Context::empty(left.allocator(), comps)?,
+        left: Marks::new(left, first)?,
+        right: Marks::new(right, second)?,
+    };
+    let ctx = Context::empty(left.allocator(), comps)?;
+    let mut memos = Memos {
+        agreed: Numbers::new(left.allocator()),
+        met: Numbers::new(left.allocator()),
+    };
+    compare_under(&mut memos, &plan, &ctx, vars, left, first, right, second)
 }

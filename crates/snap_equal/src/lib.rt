@@ -4,10 +4,16 @@
 mod agreeing;
 pub mod comparing;
 mod held;
+mod keys;
 mod leaves;
+mod marks;
+mod names;
+mod orders;
 mod outs;
 mod places;
 mod stop;
 mod stores;
+mod sure;
 mod tally;
 mod terms;
+mod weaker;

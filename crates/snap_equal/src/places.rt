@@ -1,13 +1,13 @@
 //! Whether places are the same.
 
-ghost use Rattle.std.specs.Prelude.{◌≡◌, ℕ, MatchResult, length, map, true};
+ghost use Rattle.std.specs.Prelude.{◌≡◌, ◌≢◌, ℕ, MatchResult, length, map, true};
 ghost use Rattle.snap_core.specs.Arrays.{Arrays, number_after, place_at, update, value_of};
 ghost use Rattle.snap_core.specs.Fits.{IndexFits, OpFits};
 ghost use Rattle.snap_equal.specs.Inputs.{IsUpdate};
 ghost use Rattle.snap_equal.specs.Told.{IsStop, On, Tells};
 
 use crate::stop::Stop;
-use crate::terms::{reads_same, same_atoms};
+use crate::terms::{reads_apart, reads_same, same_atoms};
 use snap_core::lists::Atoms;
 use snap_core::policy::{Atom, Op, Update};
 use snap_ctx::context::Context;
@@ -72,6 +72,59 @@ pub(crate) fn reads_place(ctx: &Context, left: &Update, right: &Update) -> bool
     ensures { result ≡ true → On ctx.now (λ m k. place_at left.now.var left.now.index k ≡ place_at right.now.var right.now.index k) }
 {
     left.var == right.var && reads_index(ctx, left.index.list(), right.index.list())
+}
+
+// Whether a context tells at once that two indices differ.
+fn apart_index(ctx: &Context, left: &[Atom], right: &[Atom]) -> bool
+    requires left { IndexFits (length ctx.now.classes) left.now }
+    requires right { IndexFits (length ctx.now.classes) right.now }
+    ensures { result ≡ true → On ctx.now (λ m k. map (λ a. value_of a k) left.now ≢ map (λ a. value_of a k) right.now) }
+{
+    if left.len() != right.len() {
+        return true;
+    }
+    for i in 0..left.len() {
+        if reads_apart(ctx, left[i], right[i]) {
+            return true;
+        }
+    }
+    false
+}
+
+// Whether a context tells at once that two updates are at different places.
+fn apart_places(ctx: &Context, left: &Update, right: &Update) -> bool
+    requires left { IsUpdate (length ctx.now.classes) left.now }
+    requires right { IsUpdate (length ctx.now.classes) right.now }
+    ensures { result ≡ true → On ctx.now (λ m k. place_at left.now.var left.now.index k ≢ place_at right.now.var right.now.index k) }
+{
+    left.var != right.var || apart_index(ctx, left.index.list(), right.index.list())
+}
+
+// Whether a context tells at once that two operations at one place may change places: both add, or put the same number.
+fn ops_commute(ctx: &Context, left: Op, right: Op) -> bool
+    requires left { OpFits (length ctx.now.classes) left }
+    requires right { OpFits (length ctx.now.classes) right }
+    ensures { result ≡ true → On ctx.now (λ m k. (x : ℕ) → number_after right (number_after left x k) k ≡ number_after left (number_after right x k) k) }
+{
+    match left {
+        Op::Put(atom) => match right {
+            Op::Put(other) => reads_same(ctx, atom, other),
+            Op::Add(_) => false,
+        },
+        Op::Add(_) => match right {
+            Op::Put(_) => false,
+            Op::Add(_) => true,
+        },
+    }
+}
+
+/// Whether a context tells at once that two updates do the same in either order.
+pub(crate) fn commute(ctx: &Context, left: &Update, right: &Update) -> bool
+    requires left { IsUpdate (length ctx.now.classes) left.now }
+    requires right { IsUpdate (length ctx.now.classes) right.now }
+    ensures { result ≡ true → On ctx.now (λ m k. (n : Arrays) → update (update n left.now k) right.now k ≡ update (update n right.now k) left.now k) }
+{
+    apart_places(ctx, left, right) || ops_commute(ctx, left.op, right.op)
 }
 
 // Whether a context tells at once that two operations do the same.

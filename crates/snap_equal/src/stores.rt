@@ -1,6 +1,6 @@
 //! Whether updates make the same of a store.
 
-ghost use Rattle.std.specs.Prelude.{◌≡◌, ◌≤◌, None, All, MatchResult, drop, length, take};
+ghost use Rattle.std.specs.Prelude.{◌≡◌, ◌≤◌, None, All, IfOk, MatchResult, drop, length, take, true};
 ghost use Rattle.snap_core.specs.Arrays.{updates};
 ghost use Rattle.snap_core.specs.Inputs.{IsStore};
 ghost use Rattle.snap_equal.specs.Held.{AgreeAlong};
@@ -8,9 +8,11 @@ ghost use Rattle.snap_equal.specs.Inputs.{AreOf, IsUpdate};
 ghost use Rattle.snap_equal.specs.Told.{IsStop, On, Tells};
 
 use crate::held::same_along;
+use crate::orders::unmatched;
 use crate::places::reads_update;
 use crate::stop::Stop;
 use crate::tally::{difference, with_puts};
+use snap_core::NoMemory;
 use snap_core::bits::op_is_small;
 use snap_core::laws::stays_small;
 use snap_core::policy::Update;
@@ -47,6 +49,14 @@ fn behind(updates: &[Update], count: usize) -> &[Update]
     &updates[count..]
 }
 
+// So many updates, from the first on.
+fn before(updates: &[Update], count: usize) -> &[Update]
+    requires { count ≤ length updates.now }
+    ensures { result.now ≡ take count updates.now }
+{
+    &updates[..count]
+}
+
 // Whether sums add nothing anywhere.
 fn add_nothing(ctx: &Context, vars: u16, sums: &[Update]) -> Result<bool, Stop>
     requires sums { All (IsUpdate (length ctx.now.classes)) sums.now }
@@ -56,9 +66,9 @@ fn add_nothing(ctx: &Context, vars: u16, sums: &[Update]) -> Result<bool, Stop>
     same_along(ctx, vars, sums, &[], sums, None)
 }
 
-/// Whether updates make the same of a store. Where behind the common ones a variable is added to alone, what is added is
-/// counted together, so that the order of additions needs no test; at other variables the places are looked at one by one.
-pub(crate) fn same_stores(
+// Whether updates make the same of a store. Where behind the common ones a variable is added to alone, what is added is
+// counted together, so that the order of additions needs no test; at other variables the places are looked at one by one.
+fn same_places(
     alloc: Global,
     ctx: &Context,
     vars: u16,
@@ -84,4 +94,52 @@ pub(crate) fn same_stores(
         return Ok(false);
     }
     same_along(ctx, vars, left, right, second, Some(mixed))
+}
+
+// Whether updates surely make the same of a store: what is left of them without those that both do last does.
+fn surely_same(
+    alloc: Global,
+    ctx: &Context,
+    vars: u16,
+    left: &[Update],
+    right: &[Update],
+) -> Result<bool, NoMemory>
+    requires few { vars ≤ 64 }
+    requires left { All (IsUpdate (length ctx.now.classes)) left.now }
+    requires right { All (IsUpdate (length ctx.now.classes)) right.now }
+    requires vars_left { AreOf vars left.now }
+    requires vars_right { AreOf vars right.now }
+    ensures { IfOk result (λ yes. yes ≡ true → On ctx.now (λ m k. updates m left.now k ≡ updates m right.now k)) }
+{
+    let (count, rest) = unmatched(alloc, ctx, left, right)?;
+    if count == left.len() {
+        return Ok(false);
+    }
+    match same_places(alloc, ctx, vars, before(left, count), &rest) {
+        Ok(yes) => Ok(yes),
+        Err(Stop::Split(_)) => Ok(false),
+        Err(Stop::NoMemory) => Err(NoMemory),
+    }
+}
+
+/// Whether updates make the same of a store. Those that both do last, one by one, are let go before the rest is looked at,
+/// so that an order that makes no difference needs no test.
+pub(crate) fn same_stores(
+    alloc: Global,
+    ctx: &Context,
+    vars: u16,
+    left: &[Update],
+    right: &[Update],
+) -> Result<bool, Stop>
+    requires few { vars ≤ 64 }
+    requires left { All (IsUpdate (length ctx.now.classes)) left.now }
+    requires right { All (IsUpdate (length ctx.now.classes)) right.now }
+    requires vars_left { AreOf vars left.now }
+    requires vars_right { AreOf vars right.now }
+    ensures { MatchResult result (Tells ctx.now (λ m k. updates m left.now k ≡ updates m right.now k)) (IsStop ctx.now vars) }
+{
+    if surely_same(alloc, ctx, vars, left, right)? {
+        return Ok(true);
+    }
+    same_places(alloc, ctx, vars, left, right)
 }

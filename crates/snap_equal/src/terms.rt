@@ -1,6 +1,6 @@
 //! Whether terms and atoms have the same number.
 
-ghost use Rattle.std.specs.Prelude.{◌≡◌, ◌↔◌, IsTrue, MatchResult, length, true};
+ghost use Rattle.std.specs.Prelude.{◌≡◌, ◌≢◌, ◌↔◌, ℕ, IsTrue, List, MatchResult, length, true};
 ghost use Rattle.snap_core.specs.Arrays.{value_of};
 ghost use Rattle.snap_core.specs.Fits.{AtomFits};
 ghost use Rattle.snap_core.specs.Tests.{TermFits, term_value};
@@ -130,4 +130,26 @@ pub(crate) fn reads_same(ctx: &Context, left: Atom, right: Atom) -> bool
     ensures { result ≡ true → On ctx.now (λ m k. value_of left k ≡ value_of right k) }
 {
     are_spelled_same(read(ctx, term_of(left)), read(ctx, term_of(right)))
+}
+
+// Whether two terms are different numbers.
+fn are_other_numbers(left: Term, right: Term) -> bool
+    ensures { result ≡ true → (k : List ℕ) → term_value left k ≢ term_value right k }
+{
+    match left {
+        Term::Num(num) => match right {
+            Term::Num(other) => num != other,
+            Term::Plus { .. } => false,
+        },
+        Term::Plus { .. } => false,
+    }
+}
+
+/// Whether a context tells at once that two atoms differ.
+pub(crate) fn reads_apart(ctx: &Context, left: Atom, right: Atom) -> bool
+    requires left { AtomFits (length ctx.now.classes) left }
+    requires right { AtomFits (length ctx.now.classes) right }
+    ensures { result ≡ true → On ctx.now (λ m k. value_of left k ≢ value_of right k) }
+{
+    are_other_numbers(read(ctx, term_of(left)), read(ctx, term_of(right)))
 }

@@ -9,7 +9,7 @@ use Rattle.snap_equal.proofs.Adding.{outside_wider}
 use Rattle.snap_equal.proofs.AllPlaces.{agree_along}
 use Rattle.snap_equal.proofs.Differing.{equal_stores, equal_sums}
 use Rattle.snap_equal.proofs.Telling.{told_true, told_false, result_as}
-use Rattle.snap_equal.proofs.stores.same_stores.Goals as goal
+use Rattle.snap_equal.proofs.stores.same_places.Goals as goal
 
 pub returns-then-not-branch : goal.returns-then-not-branch
 returns-then-not-branch c = λ m k i e.
