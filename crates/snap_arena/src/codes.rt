@@ -7,7 +7,7 @@ use snap_core::NoMemory;
 use snap_core::lists::Atoms;
 use snap_core::policy::{Atom, Term, Test};
 
-/// Adds the numbers of an atom.
+/// Adds the numbers of an atom. Refuses for memory alone.
 pub fn push_atom(code: &mut Vec<u64>, atom: Atom) -> Result<(), NoMemory>
     ensures { OnOk result (code.new.items ≡ code.old.items ++ atom_code atom) }
 {
@@ -24,7 +24,7 @@ pub fn push_atom(code: &mut Vec<u64>, atom: Atom) -> Result<(), NoMemory>
     Ok(())
 }
 
-/// Adds the numbers of an index.
+/// Adds the numbers of an index. Refuses for memory alone.
 pub fn push_index(code: &mut Vec<u64>, index: &Atoms) -> Result<(), NoMemory>
     ensures { OnOk result (code.new.items ≡ code.old.items ++ index_code index.now) }
 {
@@ -35,7 +35,7 @@ pub fn push_index(code: &mut Vec<u64>, index: &Atoms) -> Result<(), NoMemory>
     Ok(())
 }
 
-/// Adds the numbers of a term.
+/// Adds the numbers of a term. Refuses for memory alone.
 pub fn push_term(code: &mut Vec<u64>, term: Term) -> Result<(), NoMemory>
     ensures { OnOk result (code.new.items ≡ code.old.items ++ term_code term) }
 {
@@ -53,7 +53,7 @@ pub fn push_term(code: &mut Vec<u64>, term: Term) -> Result<(), NoMemory>
     Ok(())
 }
 
-/// Adds the numbers of a test.
+/// Adds the numbers of a test. Refuses for memory alone.
 pub fn push_test(code: &mut Vec<u64>, test: &Test) -> Result<(), NoMemory>
     ensures { OnOk result (code.new.items ≡ code.old.items ++ test_code test.now) }
 {

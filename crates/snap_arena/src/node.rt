@@ -18,7 +18,7 @@ pub enum Node<L> {
 pub trait Coded {
     ghost code: { Self → List ℕ };
 
-    /// Adds the numbers.
+    /// Adds the numbers. Refuses for memory alone.
     fn push_code(&self, out: &mut Vec<u64>) -> Result<(), NoMemory>
         ensures { OnOk result (out.new.items ≡ out.old.items ++ code self.now) };
 

@@ -61,7 +61,7 @@ impl<L: Coded + Drop> Nodes<L> {
     }
 
     /// The number of a test with its two ways: the old one where the node is there, else the list's
-    /// next. Where the ways are one, that way itself.
+    /// next. Where the ways are one, that way itself. Refuses for memory alone.
     pub fn node(&mut self, test: Test, yes: u64, no: u64) -> Result<u64, NoMemory>
         requires yes { yes < length self.old }
         requires no { no < length self.old }
@@ -79,6 +79,7 @@ impl<L: Coded + Drop> Nodes<L> {
     }
 
     /// The number of a leaf: the old one where it is there, else the list's next.
+    /// Refuses for memory alone.
     pub fn leaf(&mut self, leaf: L) -> Result<u64, NoMemory>
         ensures ok { IfOk result (λ d. IsNoted self.old (Leaf leaf) self.new d) }
         ensures number { IfOk result (λ d. d < length self.new) }

@@ -42,7 +42,7 @@ impl Numbers {
         self.numbers.get(code).copied()
     }
 
-    /// Puts the number for a list, and changes no other.
+    /// Puts the number for a list, and changes no other. Refuses for memory alone.
     pub fn put(&mut self, code: Vec<u64>, number: u64) -> Result<(), NoMemory>
         ensures ok { OnOk result ((q : List ℕ) → cell self.new q ≡ (if bytes_eq code.items q then Some number else cell self.old q)) }
         ensures err { OnErr result (self.new ≡ self.old) }

@@ -184,7 +184,7 @@ fn next_mark(nodes: &Nodes<Leaf>, marks: &[Mark], d: u64) -> Mark
     }
 }
 
-/// The marks of the numbers up to `root`.
+/// The marks of the numbers up to `root`, which may have more than is there. Refuses for memory alone.
 pub fn mark_all(nodes: &Nodes<Leaf>, root: u64) -> Result<Vec<Mark>, NoMemory>
     requires { root < length nodes.now }
     ensures count { IfOk result (λ marks. length marks.items ≡ root + 1) }

@@ -140,6 +140,7 @@ fn prefixed_anew(
 }
 
 /// A leaf, and then a diagram, where the outs give different packets or the diagram writes nothing.
+/// Refuses for memory alone.
 pub fn spread(
     nodes: &mut Nodes<Leaf>,
     groups: &Groups,
@@ -232,7 +233,7 @@ fn followed_anew(
     }
 }
 
-/// A diagram whose leaves are settled, and then another.
+/// A diagram whose leaves are settled, and then another. Refuses for memory alone.
 pub fn spread_on(
     nodes: &mut Nodes<Leaf>,
     groups: &Groups,

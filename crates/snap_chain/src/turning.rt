@@ -94,7 +94,7 @@ fn asked_by_second(
     }
 }
 
-/// How a pair goes on.
+/// How a pair goes on. Refuses for memory alone.
 pub fn next_turn(
     nodes: &Nodes<Leaf>,
     groups: &Groups,

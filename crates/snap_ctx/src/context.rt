@@ -60,7 +60,7 @@ const MOST_FACTS: usize = 4_294_967_295;
 impl Context {
     ghost use Rattle.snap_ctx.specs.Answers.{IsAssumed, IsVerdict};
 
-    /// No facts over so many components.
+    /// No facts over so many components. Refuses for memory alone.
     pub fn empty(alloc: Global, comps: u16) -> Result<Context, NoMemory>
         requires { comps ≤ 64 }
         ensures { IfOk result (λ c. (c.facts ≡ []) × (length c.classes ≡ comps)) }
@@ -101,8 +101,8 @@ impl Context {
         class_at(&self.classes, comp)
     }
 
-    /// The context with one fact more: a test, and whether it passes. Past 4294967295 facts a growth
-    /// is refused as for want of memory.
+    /// The context with one fact more: a test, and whether it passes. Refuses for
+    /// memory alone, and past 4294967295 facts a growth as for want of it.
     pub fn assume(&self, test: &Test, yes: bool) -> Result<Assumed, NoMemory>
         requires fits { TestFits (length self.now.classes) test.now }
         requires short { length (index_of test.now) ≤ 8 }
@@ -141,7 +141,8 @@ impl Context {
 
     /// What is known about the components and arrays of two sets, behind a label. Beside contexts of which
     /// the same is known, the same facts about these are met (`laws::known_alike`). None where facts about
-    /// these can't be told apart from others.
+    /// these can't be told apart from others; no clause says where it isn't none, so a caller must do without.
+    /// Refuses for memory alone.
     pub fn known(&self, label: u64, comps: u64, arrays: u64) -> Result<Option<Vec<u64>>, NoMemory>
         ensures known { IfOk result (λ o. IfSome o (λ key. (q : List ℕ) × (key.items ≡ label ∷ q) × IsKnown self.now comps arrays q)) }
         ensures context { IsContext self.now }
@@ -157,6 +158,7 @@ impl Context {
     }
 
     /// Whether all, none or some of the stores and packets that meet the facts pass the test.
+    /// Refuses for memory alone.
     pub fn decide(&self, test: &Test) -> Result<Verdict, NoMemory>
         requires fits { TestFits (length self.now.classes) test.now }
         requires short { length (index_of test.now) ≤ 8 }

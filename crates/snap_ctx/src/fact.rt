@@ -23,6 +23,7 @@ impl Model for Shared {
 }
 
 impl Shared {
+    /// A copy of the test, in memory that copies of this share. Refuses for memory alone.
     pub fn copy_of(alloc: Global, test: &Test) -> Result<Shared, NoMemory>
         ensures { IfOk result (λ shared. shared ≡ test.now) }
     {
@@ -39,7 +40,7 @@ impl Shared {
         &self.test
     }
 
-    /// The same test, in the same memory.
+    /// The same test, in the same memory. Refuses for memory alone.
     pub fn share(&self) -> Result<Shared, NoMemory>
         ensures { IfOk result (λ shared. shared ≡ self.now) }
     {
@@ -59,6 +60,7 @@ pub struct Fact {
 impl Fact {
     ghost use Rattle.snap_ctx.specs.declared.fact.Fact.{Fact};
 
+    /// The same fact. Refuses for memory alone.
     pub fn copy(&self) -> Result<Fact, NoMemory>
         ensures { IfOk result (λ copy. copy ≡ self.now) }
     {

@@ -20,6 +20,7 @@ use snap_core::program::Program;
 use std::alloc::Global;
 
 /// The dependencies of a program, in rising order of the first variable and then of the second.
+/// Refuses for memory alone.
 pub fn dependencies(alloc: Global, program: &Program) -> Result<Vec<(u16, u16)>, NoMemory>
     requires few { length program.now.vars ≤ 64 }
     requires fits { PolFits (count program.now.fields) (length program.now.vars) program.now.body }
@@ -30,6 +31,7 @@ pub fn dependencies(alloc: Global, program: &Program) -> Result<Vec<(u16, u16)>,
 }
 
 /// The groups of a program's variables. A variable that the program doesn't use is a group of its own.
+/// Refuses for memory alone.
 pub fn groups(alloc: Global, program: &Program) -> Result<Groups, NoMemory>
     requires few { length program.now.vars ≤ 64 }
     requires fits { PolFits (count program.now.fields) (length program.now.vars) program.now.body }

@@ -230,6 +230,7 @@ fn compare_where(
 
 /// Whether two diagrams over so many components and variables do the same with every store and packet, or a store and a
 /// packet with which they don't. They may be ordered under different groups.
+/// Refuses for memory alone.
 pub fn compare(
     left: &Nodes<Leaf>,
     first: u64,

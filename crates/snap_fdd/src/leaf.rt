@@ -37,6 +37,7 @@ impl Outs {
         &self.outs
     }
 
+    /// The same outs. Refuses for memory alone.
     pub fn copy(&self, alloc: Global) -> Result<Outs, NoMemory>
         ensures { IfOk result (λ copy. copy ≡ self.now) }
     {
@@ -72,6 +73,7 @@ impl Updates {
         &self.updates
     }
 
+    /// The same updates. Refuses for memory alone.
     pub fn copy(&self, alloc: Global) -> Result<Updates, NoMemory>
         ensures { IfOk result (λ copy. copy ≡ self.now) }
     {
@@ -97,6 +99,7 @@ pub enum Leaf {
 }
 
 impl Go {
+    /// The same outcome. Refuses for memory alone.
     pub fn copy(&self, alloc: Global) -> Result<Go, NoMemory>
         ensures { IfOk result (λ copy. copy ≡ self.now) }
     {
@@ -110,6 +113,7 @@ impl Go {
 }
 
 impl Leaf {
+    /// The same leaf. Refuses for memory alone.
     pub fn copy(&self, alloc: Global) -> Result<Leaf, NoMemory>
         ensures { IfOk result (λ copy. copy ≡ self.now) }
     {

@@ -12,7 +12,7 @@ use snap_core::NoMemory;
 use snap_ctx::context::Context;
 use snap_dep::groups::Groups;
 
-/// The diagram of a leaf.
+/// The diagram of a leaf. Refuses for memory alone.
 pub fn only(
     nodes: &mut Nodes<Leaf>,
     groups: &Groups,

@@ -98,7 +98,7 @@ fn least<'a>(
     lower(nodes, groups, ctx, first, b)
 }
 
-/// A test before two diagrams that begin above it.
+/// A test before two diagrams that begin above it. Refuses for memory alone.
 pub fn ask(
     nodes: &mut Nodes<Leaf>,
     groups: &Groups,
@@ -120,7 +120,7 @@ pub fn ask(
     nodes.node(test, yes, no)
 }
 
-/// A test before two diagrams.
+/// A test before two diagrams. Refuses for memory alone.
 pub fn pick(
     nodes: &mut Nodes<Leaf>,
     groups: &Groups,
@@ -221,7 +221,7 @@ fn picked_under(
 }
 
 /// A test before two diagrams: the answer is that of `yes` where the test passes, and else that of
-/// `no`. This holds everywhere, so under the context too.
+/// `no`. This holds everywhere, so under the context too. Refuses for memory alone.
 pub fn ite(
     nodes: &mut Nodes<Leaf>,
     groups: &Groups,

@@ -29,7 +29,7 @@ pub enum Part {
     Split { test: Test, yes: u64, no: u64 },
 }
 
-/// The first test and its ways.
+/// The first test and its ways. Refuses for memory alone.
 pub fn part_of(nodes: &Nodes<Leaf>, d: u64) -> Result<Part, NoMemory>
     requires { d < length nodes.now }
     ensures { IfOk result (IsPart nodes.now d) }
@@ -146,7 +146,7 @@ fn pruned_anew(
 }
 
 /// The same leaf on every store and packet that meet the context, so the same answer, and each way of
-/// each test is met by some that meet the context and the answers before.
+/// each test is met by some that meet the context and the answers before. Refuses for memory alone.
 pub fn prune(
     nodes: &mut Nodes<Leaf>,
     groups: &Groups,

@@ -82,7 +82,8 @@ fn is_quiet(nodes: &Nodes<Leaf>, survey: &Survey, quiet: &[bool], d: u64) -> boo
     }
 }
 
-/// Which of the numbers up to `root` are of quiet diagrams.
+/// Which of the numbers up to `root` are of quiet diagrams. Those that are marked are; no clause says which are
+/// marked, or that any is. Refuses for memory alone.
 pub fn quiet_ones(nodes: &Nodes<Leaf>, survey: &Survey, root: u64) -> Result<Vec<bool>, NoMemory>
     requires { IsClear survey.now }
     ensures { IfOk result (λ quiet. IsMarked survey.now nodes.now quiet.items) }

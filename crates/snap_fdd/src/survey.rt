@@ -67,7 +67,8 @@ fn meet(once: &mut [bool], again: &mut [bool], id: usize)
     }
 }
 
-/// Which numbers are ways of several tests that are reached from `root`.
+/// Which numbers are ways of several tests that are reached from `root`. No clause says so: it serves for what is
+/// worth remembering, and no answer rests on it. Refuses for memory alone.
 pub fn joins(nodes: &Nodes<Leaf>, root: u64) -> Result<Vec<bool>, NoMemory>
     requires { root < length nodes.now }
 {
@@ -223,8 +224,8 @@ fn all_judged(alloc: Global, values: u64, arrays: Vec<Seen>) -> Result<Vec<Seen>
     Ok(all)
 }
 
-/// What the tests from a number on are. Places of an array that may turn out to be one aren't told
-/// apart.
+/// What the tests from a number on are. Places of an array that may turn out to be one aren't told apart; no clause
+/// says that others are. Refuses for memory alone.
 pub fn look_over(nodes: &Nodes<Leaf>, arrays: usize, root: u64) -> Result<Survey, NoMemory>
     requires { root < length nodes.now }
     ensures { IfOk result IsClear }

@@ -115,7 +115,7 @@ fn next_tested(nodes: &Nodes<Leaf>, marks: &[Tested], d: u64) -> Tested
     }
 }
 
-/// The marks of the numbers up to `root`.
+/// The marks of the numbers up to `root`, which may have more than is tested. Refuses for memory alone.
 pub fn mark_tests(nodes: &Nodes<Leaf>, root: u64) -> Result<Vec<Tested>, NoMemory>
     requires { root < length nodes.now }
     ensures count { IfOk result (λ marks. length marks.items ≡ root + 1) }

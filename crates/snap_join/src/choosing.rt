@@ -97,7 +97,7 @@ fn chosen_anew(
 }
 
 /// One of two diagrams: the answer is that of `p` where the predicate `x` is true, and else that of
-/// `q`, with the reads of the predicate.
+/// `q`, with the reads of the predicate. Refuses for memory alone.
 pub fn choose(
     nodes: &mut Nodes<Leaf>,
     groups: &Groups,

@@ -68,7 +68,7 @@ fn begin(
     }
 }
 
-/// Two diagrams combined leaf by leaf.
+/// Two diagrams combined leaf by leaf. Refuses for memory alone.
 pub fn combine(
     nodes: &mut Nodes<Leaf>,
     groups: &Groups,
@@ -144,6 +144,7 @@ fn combined_anew(
 
 /// Two diagrams side by side: the answer is that of the parallel rule, undefined where one is or
 /// where they clash. Each store is merged by the sets of variables written.
+/// Refuses for memory alone.
 pub fn join(
     nodes: &mut Nodes<Leaf>,
     groups: &Groups,
@@ -161,7 +162,7 @@ pub fn join(
     combine(nodes, groups, ctx, How::Beside, a, b)
 }
 
-/// Two predicates, both of them, with united reads.
+/// Two predicates, both of them, with united reads. Refuses for memory alone.
 pub fn both(
     nodes: &mut Nodes<Leaf>,
     groups: &Groups,
@@ -182,7 +183,7 @@ pub fn both(
     combine(nodes, groups, ctx, How::AndBoth, a, b)
 }
 
-/// Two predicates, one of them or both, with united reads.
+/// Two predicates, one of them or both, with united reads. Refuses for memory alone.
 pub fn either(
     nodes: &mut Nodes<Leaf>,
     groups: &Groups,

@@ -139,7 +139,7 @@ fn turned(alloc: Global, outs: &[Out]) -> Result<Outs, NoMemory>
     Ok(Outs::new(other))
 }
 
-/// A predicate's leaf turned round.
+/// A predicate's leaf turned round. Refuses for memory alone.
 pub fn negate_of(alloc: Global, leaf: &Leaf) -> Result<Leaf, NoMemory>
     ensures { IfOk result (λ l. l ≡ negate_leaf leaf.now) }
 {
@@ -169,7 +169,7 @@ fn combine_gos(alloc: Global, how: How, a: &Go, b: &Go) -> Result<Leaf, NoMemory
     }
 }
 
-/// Two leaves combined.
+/// Two leaves combined. Refuses for memory alone.
 pub fn combine_leaves(alloc: Global, how: How, a: &Leaf, b: &Leaf) -> Result<Leaf, NoMemory>
     ensures { IfOk result (λ l. l ≡ combined how a.now b.now) }
 {

@@ -71,6 +71,7 @@ fn negated_anew(nodes: &mut Nodes<Leaf>, memo: &mut Numbers, a: u64) -> Result<u
 }
 
 /// A predicate's negation, with the same reads. The tests stay, so under any groups the order does.
+/// Refuses for memory alone.
 pub fn negate(nodes: &mut Nodes<Leaf>, a: u64) -> Result<u64, NoMemory>
     requires a { a < length nodes.old }
     requires predicate { IsPredicate nodes.old a }

@@ -120,6 +120,10 @@ impl<T: Drop> From<AllocFailed<T>> for LexFault {
 pub const MAX_TEXT: usize = 262144;
 
 /// The tokens that the text spells, by longest match, with blanks and comments left out.
+///
+/// # Errors
+///
+/// `BadByte` and `BadNumber` exactly where the text's first fault is that, at its place; `NoMemory` for want of memory.
 pub fn tokens(alloc: Global, text: &[u8]) -> Result<Vec<Token>, LexFault>
     requires { length text.now ≤ MAX_TEXT }
     // The text spells the tokens, and no others.

@@ -64,7 +64,7 @@ fn attempt(alloc: Global, ctx: &Context, ask: &Ask, num: u64) -> Result<Option<S
     }
 }
 
-/// A number that the answer may be: the guess, or else the least one.
+/// A number that the answer may be: the guess, or else the least one. Refuses for memory alone.
 pub fn settle(alloc: Global, ctx: &Context, ask: &Ask, guess: u64) -> Result<Settled, NoMemory>
     requires { AskFits (length ctx.now.classes) ask.now }
     ensures settled { IfOk result (λ settled. IsSettled ctx.now ask.now settled) }

@@ -135,7 +135,7 @@ fn know_met(ctx: &Context)
     let _facts = ctx.facts();
 }
 
-/// A store and a packet that meet every fact of the context.
+/// A store and a packet that meet every fact of the context. Refuses for memory alone.
 pub fn example(alloc: Global, ctx: &Context) -> Result<(Store, Packet), NoMemory>
     ensures facts { IfOk result (λ e. Meets ctx.now.facts (arrays_of e.0) e.1) }
     ensures store { IfOk result (λ e. IsStore (arrays_of e.0)) }

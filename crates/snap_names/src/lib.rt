@@ -38,6 +38,10 @@ use std::alloc::Global;
 ///
 /// What is given is bounded: at most 64 arrays, and no component or array beyond those of the program. Where the tree is
 /// the text's, the program is in form: names are names and differ, and each array is indexed in one way.
+///
+/// # Errors
+///
+/// `Limit` at a count, each other fault at its place in the text; `NoMemory` for want of memory.
 pub fn resolve(alloc: Global, text: &[u8], source: &Source) -> Result<Program, NameFault>
     ensures ok { IfOk result (λ p. resolved text.now (source_tree source.now) ≡ Ok (core_program p)) }
     ensures bounded { IfOk result IsBounded }

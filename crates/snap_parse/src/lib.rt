@@ -30,6 +30,11 @@ pub use tree::{
 ///
 /// The depth at a token is the number of `if`, `!`, `(` and `{` that are begun and not ended there. An `if` and a `!`
 /// end with their choice or single.
+///
+/// # Errors
+///
+/// `Unexpected` and `TooDeep` exactly where the first token that fits no tree is refused for that, at its place;
+/// `NoMemory` for want of memory.
 pub fn parse(alloc: Global, text: &[u8], tokens: &[Token]) -> Result<Source, ParseFault>
     requires { length text.now ≤ MAX_TEXT }
     // The tree is derived, and no other is.

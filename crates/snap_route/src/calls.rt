@@ -14,7 +14,8 @@ use std::alloc::Global;
 
 /// The distances, next hops and diameter of a topology in form, as `snap_topo::read` gives it.
 ///
-/// `Unreachable` comes exactly where no walk joins two switches, with the least such pair. Links are used both ways.
+/// `Unreachable` comes exactly where no walk joins two switches, with the least such pair, and `NoMemory` for want of
+/// memory. Links are used both ways.
 pub fn routes(alloc: Global, topology: &Topology) -> Result<Routes, RouteFault>
     requires { IsInForm topology.now }
     ensures routes { IfOk result (AreRoutes topology.now) }

@@ -133,7 +133,7 @@ impl<'a> Dues<'a> {
         }
     }
 
-    /// Puts one behind the others.
+    /// Puts one behind the others. Refuses for memory alone.
     #[inline(always)]
     pub fn push(&mut self, update: &'a Update) -> Result<(), NoMemory>
         ensures ok { OnOk result (self.new ≡ self.old ++ update.now ∷ []) }
@@ -166,7 +166,7 @@ impl<'a> Dues<'a> {
         count(self.first) + self.rest.len()
     }
 
-    /// Copies of these.
+    /// Copies of these. Refuses for memory alone.
     pub fn copies(&self, alloc: Global) -> Result<Updates, NoMemory>
         ensures { IfOk result (λ copies. copies ≡ self.now) }
     {
@@ -176,7 +176,7 @@ impl<'a> Dues<'a> {
         Ok(Updates::new(copies))
     }
 
-    /// Does these in order. A refusal leaves those before it done.
+    /// Does these in order. A refusal, which is for memory alone, leaves those before it done.
     #[inline(always)]
     pub fn apply(&self, store: &mut Store, packet: &Packet) -> Result<(), NoMemory>
         requires { All (UpdateReads (length packet.now)) self.now }

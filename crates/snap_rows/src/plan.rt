@@ -326,7 +326,7 @@ pub(crate) fn lend_step<'a>(
     }
 }
 
-/// The same as a plan, with copies of the updates.
+/// The same as a plan, with copies of the updates. Refuses for memory alone.
 #[inline(always)]
 pub fn plan_step(
     alloc: Global,

@@ -80,6 +80,7 @@ fn visit_from<'a>(
 }
 
 /// Makes a visit: answers its number and lends its updates, behind those before.
+/// Refuses for memory alone.
 #[inline(always)]
 pub fn visit<'a>(
     alloc: Global,

@@ -140,7 +140,7 @@ fn all_stops(
 ///
 /// The groups are those of a program, the routes those of the topology, and the demand is for both, as `read_demand` gives it.
 /// The cost of a placement is the sum over the flows of weight times length, where a flow goes from its first port through the
-/// switches of all groups, by rank, to its second port.
+/// switches of all groups, by rank, to its second port. Refuses for memory alone.
 pub fn seek(
     alloc: Global,
     groups: &Groups,

@@ -252,7 +252,8 @@ pub(crate) fn print_tables<K: Sink>(
 }
 
 /// Writes the text of tables (`docs/FORMATS.md`, "Tables") in pieces of about 64 KiB. `Write` comes only where the sink
-/// failed; after a refusal some first bytes went out, and no others. `read` of the text gives these tables.
+/// failed; `NoMemory` for want of memory; after a refusal some first bytes went out, and no others. `read` of the text gives
+/// these tables.
 pub fn print<K: Sink>(alloc: Global, tables: &Valid, sink: &mut K) -> Result<(), PrintFault>
     ensures ok { OnOk result (Appends (K.taken sink.old) (K.taken sink.new) (text tables.now)) }
     ensures part { OnErr result (AppendsPart (K.taken sink.old) (K.taken sink.new) (text tables.now)) }

@@ -65,8 +65,8 @@ fn print_parts<K: Sink>(
 }
 
 /// Writes the text of tables as `print` does, and makes the words of each body once. Takes time in proportion to that
-/// text, and memory in proportion to the bodies. `Write` comes only where the sink failed; after a refusal some first
-/// bytes went out, and no others. `read` of the text gives these tables.
+/// text, and memory in proportion to the bodies. `Write` comes only where the sink failed; `NoMemory` for want
+/// of memory; after a refusal some first bytes went out, and no others. `read` of the text gives these tables.
 pub fn print_shared<K: Sink>(
     alloc: Global,
     tables: &SharedTables,

@@ -152,7 +152,7 @@ fn read_lines(alloc: Global, text: &[u8]) -> Result<Draft, TablesFault>
 
 /// The valid tables that a text spells, or the first thing that is wrong (`docs/FORMATS.md`, "Tables"). `Line` names the
 /// first line that isn't of its form after the lines before it; `Limit` comes where a line is in form and passes a
-/// count; `Broken` comes where the whole text is in form.
+/// count; `Broken` comes where the whole text is in form; and `NoMemory` for want of memory.
 pub fn read(alloc: Global, text: &[u8]) -> Result<Valid, TablesFault>
     ensures { IsRead text.now result }
 {

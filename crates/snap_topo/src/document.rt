@@ -19,6 +19,7 @@ use std::collections::BTreeMap;
 use toml::{Table, Value};
 
 /// The document that the bytes are, or `None` where they are not UTF-8 or no TOML document.
+/// Refuses for memory alone.
 pub fn read_document(alloc: Global, text: &[u8]) -> Result<Option<Table>, NoMemory>
     ensures { IfOk result (λ r. option_map table_view r ≡ document text.now) }
 {
@@ -67,7 +68,7 @@ fn has_exact_keys(table: &Table) -> bool
         && has_key(table, "switches")
 }
 
-/// The text of a value that is a switch name.
+/// The text of a value that is a switch name. None where it is none.
 pub fn switch_name(value: &Value) -> Option<&str>
     ensures { option_copied result ≡ name_in (view value.now) }
 {
@@ -79,7 +80,7 @@ pub fn switch_name(value: &Value) -> Option<&str>
     }
 }
 
-/// The names of an array of switch names, or `None` where it is none.
+/// The names of an array of switch names, or `None` where it is none. Refuses for memory alone.
 pub fn names_of(alloc: Global, items: &[Value]) -> Result<Option<Vec<String>>, AllocError>
     ensures { IfOk result (λ r. option_map texts r ≡ names_in (items_view items.now)) }
 {

@@ -49,6 +49,10 @@ impl From<NoMemory> for LineFault {
 
 /// What a line says, of packets with these fields (`docs/FORMATS.md`, "Packet lines"). The line has no LF; a CR at its
 /// end is dropped. `Bad` comes exactly where the line isn't in form.
+///
+/// # Errors
+///
+/// `Bad` exactly where the line isn't in form; `NoMemory` for want of memory.
 #[inline(never)]
 pub fn read_line(alloc: Global, fields: &Fields, line: &[u8]) -> Result<Line, LineFault>
     ensures said { Says (said_by fields.now line.now) result }

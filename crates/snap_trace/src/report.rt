@@ -22,6 +22,7 @@ use std::alloc::Global;
 use std::slice;
 
 /// Puts a number in digits behind the buffer. Most are short, as the parts of an address.
+/// Refuses for memory alone.
 pub fn put_number(out: &mut Vec<u8>, number: u64) -> Result<(), NoMemory>
     ensures { OnOk result (out.new.items ≡ out.old.items ++ decimal number) }
 {
@@ -330,6 +331,7 @@ fn put_each_field(out: &mut Vec<u8>, fields: &Fields, packet: &Packet) -> Result
 }
 
 /// Puts all fields of a packet in order of declaration, each as ` NAME=VALUE`, and the end of their line.
+/// Refuses for memory alone.
 pub fn put_fields(out: &mut Vec<u8>, fields: &Fields, packet: &Packet) -> Result<(), NoMemory>
     requires { length packet.now ≡ count fields.now }
     ensures { OnOk result (out.new.items ≡ out.old.items ++ (fields_text 0 fields.now packet.now ++ codes "\n")) }
@@ -351,7 +353,7 @@ fn put_from(out: &mut Vec<u8>, buffer: &[u8; 256], begin: usize) -> Result<(), N
     Ok(())
 }
 
-/// Puts the line of a packet that goes out.
+/// Puts the line of a packet that goes out. Refuses for memory alone.
 pub fn put_out(out: &mut Vec<u8>, fields: &Fields, packet: &Packet) -> Result<(), NoMemory>
     requires { length packet.now ≡ count fields.now }
     ensures { OnOk result (out.new.items ≡ out.old.items ++ out_line fields.now packet.now) }
@@ -385,7 +387,7 @@ pub fn put_head_before(buffer: &mut [u8; 256], end: usize, number: u64) -> usize
     put_bytes_before(buffer, begin, b"packet ")
 }
 
-/// Puts the first line of the block of the packet with this number.
+/// Puts the first line of the block of the packet with this number. Refuses for memory alone.
 pub fn put_head(out: &mut Vec<u8>, number: u64) -> Result<(), NoMemory>
     ensures { OnOk result (out.new.items ≡ out.old.items ++ (codes "packet " ++ decimal number ++ codes "\n")) }
 {
@@ -522,6 +524,7 @@ fn put_long_place(out: &mut Vec<u8>, name: &[u8], index: &[u64], value: u64) -> 
 }
 
 /// Puts the line of a place of the array with this name, which holds this value.
+/// Refuses for memory alone.
 pub fn put_place(out: &mut Vec<u8>, name: &[u8], index: &[u64], value: u64) -> Result<(), NoMemory>
     ensures { OnOk result (out.new.items ≡ out.old.items ++ place_line name.now index.now value) }
 {
@@ -539,7 +542,7 @@ fn put_listed(out: &mut Vec<u8>, names: &Names, entry: &Listed<'_>) -> Result<()
     put_place(out, name_at(names, entry.var), entry.index, entry.value)
 }
 
-/// Puts the lines of places that aren't 0, one each.
+/// Puts the lines of places that aren't 0, one each. Refuses for memory alone.
 pub fn put_arrays(out: &mut Vec<u8>, names: &Names, entries: &[Listed<'_>]) -> Result<(), NoMemory>
     ensures { OnOk result (out.new.items ≡ out.old.items ++ flat_map (listed_line names.now) entries.now) }
 {

@@ -38,7 +38,7 @@ fn ends_with_return(line: &[u8]) -> bool
     }
 }
 
-/// The first word of a text, and the text behind it.
+/// The first word of a text, and the text behind it. None where the text has no word.
 pub fn next_word(text: &[u8]) -> Option<(&[u8], &[u8])>
     ensures word { MatchOption result (words_of text.now ≡ []) (λ pair. words_of text.now ≡ pair.0.now ∷ words_of pair.1.now) }
     ensures shorter { IfSome result (λ pair. length pair.1.now < length text.now) }

@@ -15,6 +15,10 @@ use std::alloc::Global;
 
 /// The command that the words behind the program's name give, with its files' names lent from the
 /// words. `Usage` exactly where they are of no command's form.
+///
+/// # Errors
+///
+/// `Usage` exactly where the words are of no command's form; `NoMemory` for want of memory.
 pub fn command<'a>(alloc: Global, words: &'a [Vec<u8>]) -> Result<Command<'a>, WordsFault>
     ensures ok { IfOk result (λ c. command_of (bytes_of words.entry.now) ≡ Some (shown c)) }
     ensures usage { IfErr result (λ e. e ≡ WordsFault.Usage
