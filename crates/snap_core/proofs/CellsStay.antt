@@ -1,36 +1,12 @@
 -- Cells of a store that stay.
-use Rattle.std.proofs.Common.{◌≡◌, ℕ, Bool, true, false, cond, List, [], Some, IsTrue, map, refl, sym, ap, subst, ◌∙◌}
-use Rattle.std.specs.Prelude.{is_some, nat_eq}
-use Rattle.std.specs.Ordering.{nat_cmp}
-use Rattle.std.specs.BTreeMap.{BTreeMap, UpdatesBy}
-use Rattle.std.proofs.lemmas.Bool.{cond-true, cond-false, eq-eqb, eqb-true}
+use Rattle.std.proofs.Common.{◌≡◌, ℕ, Bool, true, false, cond, List, map, refl, ap, ◌∙◌}
+use Rattle.std.proofs.lemmas.Bool.{cond-true, cond-false}
 use Rattle.snap_core.specs.declared.place.Place.{Place}
 use Rattle.snap_core.specs.declared.policy.Update.{Update}
 use Rattle.snap_core.specs.Arrays.{Arrays, same_place, put, value_of, place_at, number_after, update}
 use Rattle.snap_core.specs.declared.write.Write.{Write}
-use Rattle.snap_core.specs.Cells.{Cells, cell, array_at, written}
-use Rattle.snap_core.specs.CellsKept.{cell_at, HasCellsOf}
+use Rattle.snap_core.specs.Cells.{written}
 use Rattle.snap_core.proofs.Places.{same_place-exact}
-use Rattle.snap_core.proofs.StoreLemmas.{at-updated}
-
--- a store after one array got cells at the same indices, and maybe at more
-pub cells-kept : (s : ℕ) (m n : BTreeMap ℕ (Cells × ℕ)) (b : Cells × ℕ)
-    → ((q : List ℕ) → IsTrue (is_some (cell (array_at m.entries s).0 q)) → IsTrue (is_some (cell b.0 q)))
-    → UpdatesBy nat_cmp (nat_cmp s) m n (Some b)
-    → HasCellsOf m.entries n.entries
-cells-kept s m n b h u p some =
-    subst (λ a. IsTrue (is_some (cell a.0 p.index))) (sym (at-updated ([], 0) (λ a. cell a.0) s m n (Some b) u p.var)) (same (nat_eq s p.var) refl)
-  where
-    same : (t : Bool) → nat_eq s p.var ≡ t → IsTrue (is_some (cell (cond t b (array_at m.entries p.var)).0 p.index))
-    same true e = h p.index (subst (λ x. IsTrue (is_some (cell (array_at m.entries x).0 p.index))) (sym (eqb-true s p.var e)) some)
-    same false e = some
-
--- the cells of that array
-pub cell-updated : (s : ℕ) (q : List ℕ) (m n : BTreeMap ℕ (Cells × ℕ)) (b : Cells × ℕ)
-    → UpdatesBy nat_cmp (nat_cmp s) m n (Some b)
-    → cell_at n.entries (record { var = s; index = q }) ≡ cell b.0 q
-cell-updated s q m n b u =
-    ap (λ a. cell a.0 q) (at-updated ([], 0) (λ a. cell a.0) s m n (Some b) u s ∙ ap (λ t. cond t b (array_at m.entries s)) (eq-eqb s s refl))
 
 -- the number that was there is put back
 pub put-back : (m : Arrays) (p : Place) (v : ℕ) → put (put m p v) p (m p) ≡ m

@@ -1,20 +1,16 @@
 -- The entries of a store's arrays, one array after another.
-use Rattle.std.proofs.Common.{◌≡◌, ◌≢◌, ℕ, Bool, true, false, cond, List, [], ◌∷◌, ◌++◌, Some, map, refl, sym, ap, subst, ◌∙◌, ⊎_elim}
+use Rattle.std.proofs.Common.{◌≡◌, ◌≢◌, ◌<◌, ◌+◌, ℕ, zero, suc, Bool, true, false, cond, List, [], ◌∷◌, ◌++◌, Some, map, refl, sym, ap, subst, ◌∙◌, ⊎_elim, arith}
 use Rattle.std.specs.Prelude.{unwrap_or, nat_eq}
 use Rattle.std.specs.List.{All, AllByRecursion, IsDistinct}
-use Rattle.std.specs.Map.{keys_of, lookup}
-use Rattle.std.specs.BTreeMap.{is_at}
-use Rattle.std.specs.Ordering.{nat_cmp}
+use Rattle.std.specs.Map.{keys_of}
 use Rattle.std.specs.Str.{bytes_eq}
-use Rattle.std.specs.Cmp.{unsigned_tied}
 use Rattle.std.specs.Cmp.Lexicographic.{nat_list_eq_equiv}
-use Rattle.std.proofs.lemmas.Bool.{cases_Bool, eqb-true, eqb-false, eq-eqb}
-use Rattle.std.proofs.lemmas.Cmp.{nat_eq_equiv}
+use Rattle.std.proofs.lemmas.Bool.{cases_Bool, eqb-true, eqb-false, eq-eqb, ne_eqb}
 use Rattle.std.proofs.lemmas.List.Elements.{All-nil, All-cons}
 use Rattle.snap_core.specs.declared.place.Place.{Place}
 use Rattle.snap_core.specs.declared.place.Entry.{Entry}
 use Rattle.snap_core.specs.Arrays.{same_place}
-use Rattle.snap_core.specs.Cells.{Cells, Kept, cell, arrays_of}
+use Rattle.snap_core.specs.Cells.{Cells, Kept, cell, array_at, arrays_of}
 use Rattle.snap_core.specs.Listing.{number_in, entries_of}
 use Rattle.snap_core.proofs.Places.{same_key, same_place-itself, same_place-flips, apart-var, apart-index}
 
@@ -133,67 +129,70 @@ IsDistinct-entries_of s (c ∷ cs) h =
     apart [] h = tt
     apart (k ∷ ks) h = (apart-index s c.0 (record { var = s; index = k }) h.0, apart ks h.1)
 
--- ---- all arrays
-abbrev pub all_entries : Kept → List Entry
-all_entries [] = []
-all_entries (a ∷ m) = entries_of a.0 a.1.0 ++ all_entries m
+-- ---- all arrays, numbered from n on
+abbrev pub all_entries : ℕ → Kept → List Entry
+all_entries n [] = []
+all_entries n (a ∷ m) = entries_of n a.0 ++ all_entries (suc n) m
 
 -- the indices of each array differ
 abbrev pub HaveDistinct : Kept → Type 0
-HaveDistinct m = AllByRecursion (λ a. IsDistinct bytes_eq (keys_of a.1.0)) m
+HaveDistinct m = AllByRecursion (λ a. IsDistinct bytes_eq (keys_of a.0)) m
 
-pub NoZero-all : (m : Kept) → NoZero (all_entries m)
-NoZero-all [] = tt
-NoZero-all (a ∷ m) = both (λ e. e.value ≢ 0) (entries_of a.0 a.1.0) (all_entries m) (NoZero-entries_of a.0 a.1.0) (NoZero-all m)
+pub NoZero-all : (n : ℕ) (m : Kept) → NoZero (all_entries n m)
+NoZero-all n [] = tt
+NoZero-all n (a ∷ m) = both (λ e. e.value ≢ 0) (entries_of n a.0) (all_entries (suc n) m) (NoZero-entries_of n a.0) (NoZero-all (suc n) m)
 
--- no entry has a variable that is none of these
-apart-all : (p : Place) (m : Kept) → AllByRecursion (λ s. nat_eq p.var s ≡ false) (keys_of m) → AllByRecursion (λ q. same_place p q ≡ false) (places (all_entries m))
-apart-all p [] h = tt
-apart-all p (a ∷ m) h =
-    subst (AllByRecursion (λ q. same_place p q ≡ false)) (sym (places-append (entries_of a.0 a.1.0) (all_entries m)))
-    (both (λ q. same_place p q ≡ false) (places (entries_of a.0 a.1.0)) (places (all_entries m)) (places-entries_of (λ q. same_place p q ≡ false) a.0 a.1.0 (others (keys_of a.1.0))) (apart-all p m h.1))
+-- no entry has a variable below the first number
+apart-all : (p : Place) (n : ℕ) (m : Kept) → p.var < n → AllByRecursion (λ q. same_place p q ≡ false) (places (all_entries n m))
+apart-all p n [] h = tt
+apart-all p n (a ∷ m) h =
+    subst (AllByRecursion (λ q. same_place p q ≡ false)) (sym (places-append (entries_of n a.0) (all_entries (suc n) m)))
+    (both (λ q. same_place p q ≡ false) (places (entries_of n a.0)) (places (all_entries (suc n) m)) (places-entries_of (λ q. same_place p q ≡ false) n a.0 (others (keys_of a.0))) (apart-all p (suc n) m (omega (arith, h))))
   where
-    others : (ks : List (List ℕ)) → AllByRecursion (λ k. same_place p (record { var = a.0; index = k }) ≡ false) ks
+    other : nat_eq p.var n ≡ false
+    other = ne_eqb p.var n (λ e. omega (arith, h, e))
+
+    others : (ks : List (List ℕ)) → AllByRecursion (λ k. same_place p (record { var = n; index = k }) ≡ false) ks
     others [] = tt
-    others (k ∷ ks) = (apart-var p.var p.index (record { var = a.0; index = k }) h.0, others ks)
+    others (k ∷ ks) = (apart-var p.var p.index (record { var = n; index = k }) other, others ks)
 
 number-none : (p : Place) (es : List Entry) → AllByRecursion (λ q. same_place p q ≡ false) (places es) → number_in es p ≡ 0
 number-none p [] h = refl
 number-none p (e ∷ es) h = ap (λ t. cond t e.value (number_in es p)) (same_place-flips e.place p ∙ h.0) ∙ number-none p es h.1
 
-pub IsDistinct-all : (m : Kept) → IsDistinct nat_eq (keys_of m) → HaveDistinct m → IsDistinct same_place (places (all_entries m))
+pub IsDistinct-all : (n : ℕ) (m : Kept) → HaveDistinct m → IsDistinct same_place (places (all_entries n m))
 unfolding IsDistinct
-IsDistinct-all [] vars indices = vars
-IsDistinct-all (a ∷ m) vars indices =
-    subst (IsDistinct same_place) (sym (places-append (entries_of a.0 a.1.0) (all_entries m)))
-    (IsDistinct-append same_place (places (entries_of a.0 a.1.0)) (places (all_entries m)) (IsDistinct-entries_of a.0 a.1.0 indices.0) (IsDistinct-all m vars.1 indices.1)
-    (places-entries_of (λ p. AllByRecursion (λ q. same_place p q ≡ false) (places (all_entries m))) a.0 a.1.0 (each (keys_of a.1.0))))
+IsDistinct-all n [] indices = tt
+IsDistinct-all n (a ∷ m) indices =
+    subst (IsDistinct same_place) (sym (places-append (entries_of n a.0) (all_entries (suc n) m)))
+    (IsDistinct-append same_place (places (entries_of n a.0)) (places (all_entries (suc n) m)) (IsDistinct-entries_of n a.0 indices.0) (IsDistinct-all (suc n) m indices.1)
+    (places-entries_of (λ p. AllByRecursion (λ q. same_place p q ≡ false) (places (all_entries (suc n) m))) n a.0 (each (keys_of a.0))))
   where
-    each : (ks : List (List ℕ)) → AllByRecursion (λ k. AllByRecursion (λ q. same_place (record { var = a.0; index = k }) q ≡ false) (places (all_entries m))) ks
+    each : (ks : List (List ℕ)) → AllByRecursion (λ k. AllByRecursion (λ q. same_place (record { var = n; index = k }) q ≡ false) (places (all_entries (suc n) m))) ks
     each [] = tt
-    each (k ∷ ks) = (apart-all (record { var = a.0; index = k }) m vars.0, each ks)
+    each (k ∷ ks) = (apart-all (record { var = n; index = k }) (suc n) m (omega arith), each ks)
 
-pub number-all : (m : Kept) → IsDistinct nat_eq (keys_of m) → HaveDistinct m → (p : Place) → number_in (all_entries m) p ≡ arrays_of m p
-unfolding IsDistinct
-number-all [] vars indices p = refl
-number-all (a ∷ m) vars indices p =
-    let first = entries_of a.0 a.1.0 in
-    ⊎_elim
-    (λ same.
-    let var : p.var ≡ a.0 = eqb-true p.var a.0 same in
-    let none = number-none p (all_entries m) (apart-all p m (subst (λ s. AllByRecursion (λ t. nat_eq s t ≡ false) (keys_of m)) (sym var) vars.0)) in
-    number-first first (all_entries m) p none
-    ∙ ap (λ s. number_in (entries_of s a.1.0) p) (sym var)
-    ∙ number-here p.var a.1.0 p.index indices.0
-    ∙ sym (ap (λ t. found t) (unsigned_tied p.var a.0 ∙ same)))
-    (λ other.
-    number-later first (all_entries m) p (NoZero-entries_of a.0 a.1.0) (number-other a.0 a.1.0 p (nat_eq_equiv.symm a.0 p.var ∙ other))
-    ∙ number-all m vars.1 indices.1 p
-    ∙ sym (ap (λ t. found t) (unsigned_tied p.var a.0 ∙ other)))
-    (cases_Bool (nat_eq p.var a.0))
-  where
-    found : Bool → ℕ
-    found t = unwrap_or (cell (unwrap_or (cond t (Some a.1) (lookup (is_at (nat_cmp p.var)) m)) ([], 0)).0 p.index) 0
+-- the j-th of these arrays
+number-nth : (n j : ℕ) (m : Kept) → HaveDistinct m → (ix : List ℕ) → number_in (all_entries n m) (record { var = n + j; index = ix }) ≡ unwrap_or (cell (array_at m j).0 ix) 0
+number-nth n j [] indices ix = refl
+number-nth n zero (a ∷ m) indices ix =
+    let p : Place = record { var = n + 0; index = ix } in
+    let same : n + 0 ≡ n = omega arith in
+    number-first (entries_of n a.0) (all_entries (suc n) m) p (number-none p (all_entries (suc n) m) (apart-all p (suc n) m (omega arith)))
+    ∙ ap (λ s. number_in (entries_of n a.0) (record { var = s; index = ix })) same
+    ∙ number-here n a.0 ix indices.0
+number-nth n (suc j) (a ∷ m) indices ix =
+    let p : Place = record { var = n + suc j; index = ix } in
+    let next : n + suc j ≡ suc n + j = omega arith in
+    let other : nat_eq n (n + suc j) ≡ false = ne_eqb n (n + suc j) (λ e. omega (arith, e)) in
+    number-later (entries_of n a.0) (all_entries (suc n) m) p (NoZero-entries_of n a.0) (number-other n a.0 p other)
+    ∙ ap (λ s. number_in (all_entries (suc n) m) (record { var = s; index = ix })) next
+    ∙ number-nth (suc n) j m indices.1 ix
+
+pub number-all : (m : Kept) → HaveDistinct m → (p : Place) → number_in (all_entries 0 m) p ≡ arrays_of m p
+number-all m indices p =
+    let same : 0 + p.var ≡ p.var = omega arith in
+    subst (λ s. number_in (all_entries 0 m) (record { var = s; index = p.index }) ≡ unwrap_or (cell (array_at m p.var).0 p.index) 0) same (number-nth 0 p.var m indices p.index)
 
 -- ---- one cell
 pub entries_of-zero : (s : ℕ) (k : List ℕ) (v : ℕ) (cs : Cells) → v ≡ 0 → entries_of s ((k, v) ∷ cs) ≡ entries_of s cs

@@ -4,7 +4,7 @@ use Rattle.std.specs.Prelude.{unwrap_or, slice_index_or}
 use Rattle.std.specs.List.{AllByRecursion, IsDistinct}
 use Rattle.std.specs.List.Sorted.{IsPermutation, IsSorted, IsStrictlySortedBy}
 use Rattle.std.specs.Map.{keys_of, lookup}
-use Rattle.std.specs.Ordering.{ordering_reverse, is_lt, nat_cmp}
+use Rattle.std.specs.Ordering.{ordering_reverse, is_lt}
 use Rattle.std.specs.Cmp.{IsTotalOrder}
 use Rattle.std.specs.declared.cmp.Ordering.{Ordering}
 use Rattle.std.specs.declared.cmp.Ordering.TheVariants.{Less, Equal, Greater}
@@ -18,7 +18,7 @@ use Rattle.snap_core.specs.declared.place.Listed.{Listed}
 use Rattle.snap_core.specs.Arrays.{same_place}
 use Rattle.snap_core.specs.Cells.{Kept, arrays_of}
 use Rattle.snap_core.specs.Listing.{place_cmp, number_in, entry_of, listed_cmp, IsListing}
-use Rattle.snap_core.proofs.CellMerge.{IsDistinct-vars, lookup-reordered, unwrap-cond}
+use Rattle.snap_core.proofs.CellMerge.{lookup-reordered, unwrap-cond}
 use Rattle.snap_core.proofs.Entries.{places, all_entries, HaveDistinct, NoZero-all, All-NoZero, IsDistinct-all, number-all}
 use Rattle.snap_core.proofs.Places.{place_total, place_exact, same_place-exact, same_place-itself, same_place-flips, same_place_equiv}
 
@@ -88,15 +88,15 @@ tied : (a b : Listed) → listed_cmp a b ≡ Equal → same_place (entry_of a).p
 tied a b h = ap (same_place (entry_of a).place) (sym (place_exact (entry_of a).place (entry_of b).place h)) ∙ same_place-itself (entry_of a).place
 
 -- all entries of a store, put in order
-pub IsListing-sorted : (m : Kept) (ls ms : List Listed) → IsStrictlySortedBy nat_cmp (keys_of m) → HaveDistinct m → map entry_of ls ≡ all_entries m → IsPermutation ls ms → IsSorted listed_cmp ms → IsListing (arrays_of m) (map entry_of ms)
-IsListing-sorted m ls ms vars indices all moved sorted =
-    let es = all_entries m in let fs = map entry_of ms in
+pub IsListing-sorted : (m : Kept) (ls ms : List Listed) → HaveDistinct m → map entry_of ls ≡ all_entries 0 m → IsPermutation ls ms → IsSorted listed_cmp ms → IsListing (arrays_of m) (map entry_of ms)
+IsListing-sorted m ls ms indices all moved sorted =
+    let es = all_entries 0 m in let fs = map entry_of ms in
     let reordered : IsPermutation es fs = subst (λ l. IsPermutation l fs) all (IsPermutation-map entry_of ls ms moved) in
-    let distinct : IsDistinct same_place (places es) = IsDistinct-all m (IsDistinct-vars m vars) indices in
+    let distinct : IsDistinct same_place (places es) = IsDistinct-all 0 m indices in
     let apart = IsDistinct-reordered es fs reordered distinct in
     let apart_listed = IsDistinct-unmapped entry_of (λ (e f : Entry). same_place e.place f.place) ms (IsDistinct-unmapped (λ (e : Entry). e.place) same_place fs apart) in
     record {
       rising = sorted-mapped (λ (e : Entry). e.place) place_cmp fs (sorted-mapped entry_of (λ (e f : Entry). place_cmp e.place f.place) ms (rising listed_total (λ a b. same_place (entry_of a).place (entry_of b).place) tied ms sorted apart_listed));
-      nonzero = All-permutation (λ (e : Entry). e.value ≢ 0) es fs reordered (All-NoZero es (NoZero-all m));
-      numbers = λ p. number-reordered es fs reordered distinct p ∙ number-all m (IsDistinct-vars m vars) indices p;
+      nonzero = All-permutation (λ (e : Entry). e.value ≢ 0) es fs reordered (All-NoZero es (NoZero-all 0 m));
+      numbers = λ p. number-reordered es fs reordered distinct p ∙ number-all m indices p;
     }

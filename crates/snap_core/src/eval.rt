@@ -196,12 +196,31 @@ fn picked_branch<'a>(
     ensures reads { logs.new.reads ≡ bit_or logs.old.reads (vars_of test.now) }
     ensures writes { logs.new.writes ≡ logs.old.writes }
 {
-    logs.reads |= read_by(test);
-    if holds(alloc, test, store, packet)? {
+    if tested(alloc, test, store, packet, logs)? {
         Ok(yes)
     } else {
         Ok(no)
     }
+}
+
+// Whether a predicate is true. What it reads is logged.
+fn tested(
+    alloc: Global,
+    pred: &Pred,
+    store: &Store,
+    packet: &Packet,
+    logs: &mut Logs,
+) -> Result<bool, NoMemory>
+    requires { PredFits (length packet.now) 64 pred.now }
+    ensures answer { IfOk result (λ answer. answer ≡ truth pred.now (arrays_of store.now) packet.now) }
+    ensures reads { logs.new.reads ≡ bit_or logs.old.reads (vars_of pred.now) }
+    ensures writes { logs.new.writes ≡ logs.old.writes }
+{
+    if let Pred::Field { comp, num } = pred {
+        return Ok(packet.get(*comp) == *num);
+    }
+    logs.reads |= read_by(pred);
+    holds(alloc, pred, store, packet)
 }
 
 // A policy on each packet that another gave, side by side.
@@ -285,8 +304,7 @@ fn filter(
     ensures memory { IfErr result (λ e. e ≡ EvalFault.NoMemory) }
     ensures lengths { IfOk result (λ f. AllLong (length packet.now) (set_after f packet.now)) }
 {
-    logs.reads |= read_by(pred);
-    if holds(alloc, pred, store, packet)? {
+    if tested(alloc, pred, store, packet, logs)? {
         Ok(Flow::Same)
     } else {
         Ok(Flow::Many(Vec::new(alloc)))

@@ -1,9 +1,9 @@
 //! Stores: the numbers of the state variables.
 
-ghost use Rattle.std.specs.Prelude.{◌≡◌, ◌≤◌, ◌+◌, ◌%◌, ◌^◌, ◌==◌, false, All, ℕ, OnOk, OnErr, IfOk, IsOk, IsTrue, is_some, if◌then◌else◌, map, length, unwrap_or};
+ghost use Rattle.std.specs.Prelude.{◌≡◌, ◌<◌, ◌≤◌, ◌+◌, ◌%◌, ◌^◌, ◌==◌, false, All, ℕ, OnOk, OnErr, IfOk, IsOk, IsTrue, is_some, if◌then◌else◌, map, length, unwrap_or};
 ghost use Rattle.snap_core.specs.declared.place.Place.{Place};
 ghost use Rattle.snap_core.specs.Arrays.{update, updates, put, zero_arrays};
-ghost use Rattle.snap_core.specs.Cells.{cell, arrays_of, overlaid, changed_at, room_at, written};
+ghost use Rattle.snap_core.specs.Cells.{cell, array_at, arrays_of, overlaid, changed_at, room_at, written};
 ghost use Rattle.snap_core.specs.CellsKept.{cell_at, HasCellsOf};
 ghost use Rattle.snap_core.specs.Fits.{UpdateReads};
 ghost use Rattle.snap_core.specs.Listing.{IsListing, entry_of};
@@ -18,7 +18,6 @@ use crate::place::{Entry, Listed};
 use crate::policy::Update;
 use crate::write::Write;
 use std::alloc::Global;
-use std::collections::BTreeMap;
 use std::marker::Model;
 
 // How many updates are done in place, each in a call of its own.
@@ -28,15 +27,19 @@ const FEW: usize = 16;
 #[derive(Drop)]
 pub struct Store {
     alloc: Global,
-    arrays: BTreeMap<u16, Array>,
+    // By number, up to the greatest that was written to: at most 65,536.
+    arrays: Vec<Array>,
 }
 
 impl Model for Store {
+    ghost use Rattle.std.specs.Prelude.{◌≤◌, ◌^◌, length};
     ghost use Rattle.snap_core.specs.Cells.{Kept};
 
     ghost Value = { Kept };
 
-    ghost view = { λ a. a.arrays.entries };
+    ghost view = { λ a. a.arrays.items };
+
+    ghost invariant = { λ a. length a.arrays.items ≤ 2 ^ 16 };
 }
 
 impl Store {
@@ -45,7 +48,7 @@ impl Store {
     {
         Store {
             alloc,
-            arrays: BTreeMap::new(alloc),
+            arrays: Vec::new(alloc),
         }
     }
 
@@ -53,7 +56,7 @@ impl Store {
     pub fn get(&self, var: u16, index: &[u64]) -> u64
         ensures { result ≡ arrays_of self.now (record { var = var; index = index.now }) }
     {
-        match self.arrays.get(&var) {
+        match self.arrays.get(var as usize) {
             Some(array) => array.get(index).unwrap_or(0),
             None => 0,
         }
@@ -71,26 +74,14 @@ impl Store {
     pub fn copy(&self) -> Result<Store, NoMemory>
         ensures { IfOk result (λ copy. arrays_of copy ≡ arrays_of self.now) }
     {
-        let mut copy = Store::new(self.alloc);
-        for var in self.arrays.keys() {
-            copy.copy_array(self, *var)?;
+        let mut arrays = Vec::with_capacity(self.alloc, self.arrays.len())?;
+        for array in &self.arrays {
+            arrays.push(array.copy()?)?;
         }
-        Ok(copy)
-    }
-
-    /// Makes one array as it is in another store.
-    pub fn copy_array(&mut self, other: &Store, var: u16) -> Result<(), NoMemory>
-        ensures { OnOk result ((p : Place) → arrays_of self.new p ≡ (if var == p.var then arrays_of other.now p else arrays_of self.old p)) }
-    {
-        match other.arrays.get(&var) {
-            Some(array) => {
-                self.arrays.insert(var, array.copy()?)?;
-            }
-            None => {
-                self.arrays.remove(&var);
-            }
-        }
-        Ok(())
+        Ok(Store {
+            alloc: self.alloc,
+            arrays,
+        })
     }
 
     /// Adds to the number at one place, modulo 2^64.
@@ -111,13 +102,8 @@ impl Store {
         ensures kept { HasCellsOf self.old self.new }
         ensures there { IsTrue (is_some (cell_at self.old (record { var = var; index = index.now }))) → IsOk result }
     {
-        if let Some(array) = self.arrays.get_mut(&var) {
-            return array.write(index, write);
-        }
-        let mut array = Array::new(self.alloc);
-        let before = array.write(index, write)?;
-        self.arrays.insert(var, array)?;
-        Ok(before)
+        reach(self.alloc, &mut self.arrays, var)?;
+        self.arrays[var as usize].write(index, write)
     }
 
     // Puts back the number that a place held, which has a cell.
@@ -223,15 +209,10 @@ impl Store {
     fn reserve(&mut self, var: u16, patch: &Patch) -> Result<(), NoMemory>
         ensures same { arrays_of self.new ≡ arrays_of self.old }
         ensures room { OnOk result (length patch.now ≤ room_at self.new var) }
-        ensures kept { (s : ℕ) → (var == s) ≡ false → room_at self.new s ≡ room_at self.old s }
+        ensures kept { (s : ℕ) → (var == s) ≡ false → room_at self.old s ≤ room_at self.new s }
     {
-        if let Some(array) = self.arrays.get_mut(&var) {
-            return array.reserve(patch);
-        }
-        let mut array = Array::new(self.alloc);
-        array.reserve(patch)?;
-        self.arrays.insert(var, array)?;
-        Ok(())
+        reach(self.alloc, &mut self.arrays, var)?;
+        self.arrays[var as usize].reserve(patch)
     }
 
     // Puts the numbers of a patch, for which there is room.
@@ -240,7 +221,7 @@ impl Store {
         ensures arrays { (p : Place) → arrays_of self.new p ≡ (if var == p.var then unwrap_or (cell patch p.index) (arrays_of self.old p) else arrays_of self.old p) }
         ensures kept { (s : ℕ) → (var == s) ≡ false → room_at self.new s ≡ room_at self.old s }
     {
-        if let Some(array) = self.arrays.get_mut(&var) {
+        if let Some(array) = self.arrays.get_mut(var as usize) {
             array.take(patch);
         }
     }
@@ -261,13 +242,27 @@ impl Store {
     pub fn listing(&self) -> Result<Vec<Listed<'_>>, NoMemory>
         ensures { IfOk result (λ listed. IsListing (arrays_of self.now) (map entry_of listed.items)) }
     {
-        let lengths = self.arrays.values().map(|array| array.len());
+        let lengths = self.arrays.iter().map(|array| array.len());
         let cells = lengths.fold(0, |sum: usize, length| sum.saturating_add(length));
         let mut listed = Vec::with_capacity(self.alloc, cells)?;
-        for (var, array) in &self.arrays {
-            array.list(*var, &mut listed)?;
+        for var in 0..self.arrays.len() {
+            self.arrays[var].list(var as u16, &mut listed)?;
         }
         listed.sort_unstable_by(|left, right| left.compare(right));
         Ok(listed)
     }
+}
+
+// Makes arrays without cells up to the one of this number.
+fn reach(alloc: Global, arrays: &mut Vec<Array>, var: u16) -> Result<(), NoMemory>
+    ensures within { OnOk result (var < length arrays.new.items) }
+    ensures there { var < length arrays.old.items → IsOk result }
+    ensures most { length arrays.old.items ≤ 2 ^ 16 → length arrays.new.items ≤ 2 ^ 16 }
+    ensures cells { (s : ℕ) → (array_at arrays.new.items s).0 ≡ (array_at arrays.old.items s).0 }
+    ensures room { (s : ℕ) → room_at arrays.old.items s ≤ room_at arrays.new.items s }
+{
+    while arrays.len() <= var as usize {
+        arrays.push(Array::new(alloc))?;
+    }
+    Ok(())
 }
