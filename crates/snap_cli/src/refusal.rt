@@ -447,6 +447,10 @@ impl Refusal<'_> {
     }
 
     /// Writes the message, one line, or the lines of a race or a difference. It takes no memory.
+    ///
+    /// # Errors
+    ///
+    /// `WriteFailed` where the sink failed; some first bytes went out then, and no others.
     pub fn tell<E: Sink>(&self, err: &mut E) -> Result<(), WriteFailed>
         ensures ok { OnOk result (Appends (E.taken err.old) (E.taken err.new) (message_of (Err self.now))) }
         ensures err { OnErr result (AppendsPart (E.taken err.old) (E.taken err.new) (message_of (Err self.now))) }

@@ -123,7 +123,7 @@ pub fn shared_tables(
     tidy_tables(alloc, program, &built, groups, topology, placement, routes)
 }
 
-/// The same, each row with a body of its own, so that packets can be traced.
+/// The same, each row with a body of its own, so that packets can be traced. Refuses for memory alone.
 pub fn tables(
     alloc: Global,
     program: &Program,

@@ -40,6 +40,7 @@ use std::marker::Model;
 pub enum InjectFault {
     /// The tables have no such port.
     NoPort,
+    /// Memory was refused.
     NoMemory,
 }
 
@@ -48,6 +49,7 @@ pub enum InjectFault {
 pub enum StepFault {
     /// So many copies aren't in flight.
     NoCopy,
+    /// Memory was refused.
     NoMemory,
 }
 
@@ -92,7 +94,7 @@ impl From<NoMemory> for StepFault {
     }
 }
 
-/// A network with empty stores and nothing in flight.
+/// A network with empty stores and nothing in flight. Refuses for memory alone.
 pub fn open_net(alloc: Global, tables: Valid) -> Result<Net, NoMemory>
     ensures tables { IfOk result (λ net. net.tables ≡ tables) }
     ensures injected { IfOk result (λ net. net.injected ≡ 0) }
@@ -108,7 +110,7 @@ pub fn open_net(alloc: Global, tables: Valid) -> Result<Net, NoMemory>
     })
 }
 
-/// So many empty stores.
+/// So many empty stores. Refuses for memory alone.
 pub fn empty_stores(alloc: Global, count: usize) -> Result<Vec<Store>, NoMemory>
     ensures count { IfOk result (λ stores. length stores.items ≡ count) }
     ensures empty { IfOk result (λ stores. (w : ℕ) → store_of stores.items w ≡ zero_arrays) }
@@ -121,7 +123,7 @@ pub fn empty_stores(alloc: Global, count: usize) -> Result<Vec<Store>, NoMemory>
 }
 
 /// A network with nothing in flight, in which so many packets were injected, and each switch holds its own arrays as the
-/// entries have them. Of two entries of one place the first counts.
+/// entries have them. Of two entries of one place the first counts. Refuses for memory alone.
 pub fn reopen(
     alloc: Global,
     tables: Valid,
@@ -187,7 +189,11 @@ impl Net {
     }
 
     /// Adds a copy of a packet, whose `inport` is the port, at that port's switch, and answers the packet's number,
-    /// counted from 0. `NoPort` where the tables have no such port. A refusal leaves the network as it was.
+    /// counted from 0. A refusal leaves the network as it was.
+    ///
+    /// # Errors
+    ///
+    /// `NoPort` exactly where the tables have no such port; `NoMemory` for want of memory.
     pub fn inject(&mut self, port: u32, packet: Packet) -> Result<u64, InjectFault>
         requires packet { length packet ≡ comps self.old.tables }
         requires port { slice_index packet 0 ≡ port }
@@ -233,7 +239,7 @@ impl Net {
     }
 
     /// Does a plan for copy k, counted from 0: all of it, or nothing. A refusal leaves the network as it was, but for room
-    /// that its stores took.
+    /// that its stores took. Refuses for memory alone.
     #[inline(always)]
     pub fn carry_out(&mut self, k: usize, plan: Plan) -> Result<Moved, NoMemory>
         requires k { k < length self.old.flying }
@@ -282,6 +288,7 @@ impl Net {
     /// Makes the steps of the first copy up to the first that forks or delivers it, then those of the copies that it was
     /// forked into, until each of them is delivered, and tells what became of them all. Where memory is short only the tables
     /// and the count of packets are sure to stay: the copy may be half on its way, in the midst of updates.
+    /// Refuses for memory alone.
     pub fn land(&mut self) -> Result<Landed, NoMemory>
         requires { 0 < length self.old.flying }
         ensures down { IfOk result (HasComeDown self.old self.new) }
@@ -294,8 +301,12 @@ impl Net {
         Ok(put_down(&mut self.flying, action))
     }
 
-    /// Makes a step of copy k, counted from 0, without a frame. `NoCopy` where there is no such copy. A refusal leaves
-    /// the network as it was, but for room that its stores took.
+    /// Makes a step of copy k, counted from 0, without a frame. A refusal leaves the network as it was, but for
+    /// room that its stores took.
+    ///
+    /// # Errors
+    ///
+    /// `NoCopy` exactly where there is no such copy; `NoMemory` for want of memory.
     pub fn advance(&mut self, k: usize) -> Result<Moved, StepFault>
         ensures done { IfOk result (λ moved. IsDone self.old (Step k) self.new (TellsMoved moved)) }
         ensures tables { self.new.tables ≡ self.old.tables }
@@ -314,6 +325,10 @@ impl Net {
 
     /// The same with no copies of updates. Where memory is short only the tables and the count of packets are sure to stay:
     /// the copy may be in the midst of its updates.
+    ///
+    /// # Errors
+    ///
+    /// As `advance`.
     pub fn advance_in_place(&mut self, k: usize) -> Result<Moved, StepFault>
         ensures done { IfOk result (λ moved. IsDone self.old (Step k) self.new (TellsMoved moved)) }
         ensures tables { self.new.tables ≡ self.old.tables }
@@ -338,6 +353,10 @@ impl Net {
     }
 
     /// `advance` with the frame that crosses a link.
+    ///
+    /// # Errors
+    ///
+    /// As `advance`.
     pub fn step(&mut self, k: usize) -> Result<Happened, StepFault>
         ensures done { IfOk result (λ happened. IsDone self.old (Step k) self.new (Tells happened)) }
         ensures tables { self.new.tables ≡ self.old.tables }
@@ -365,7 +384,7 @@ impl Net {
     }
 
     /// The places of the whole store that don't hold 0, rising by variable and then by index, with their numbers. Each array
-    /// is listed at its switch.
+    /// is listed at its switch. Refuses for memory alone.
     pub fn listing(&self) -> Result<Vec<Listed<'_>>, NoMemory>
         ensures { IfOk result (λ listed. (s : State) → Shows self.now s → IsListing (whole self.now.tables s) (map entry_of listed.items)) }
     {
@@ -379,7 +398,7 @@ impl Net {
         Ok(all)
     }
 
-    /// The same with indices of their own.
+    /// The same with indices of their own. Refuses for memory alone.
     pub fn entries(&self) -> Result<Vec<Entry>, NoMemory>
         ensures { IfOk result (λ entries. (s : State) → Shows self.now s → IsListing (whole self.now.tables s) entries.items) }
     {
@@ -391,7 +410,7 @@ impl Net {
         Ok(entries)
     }
 
-    /// Takes the network apart.
+    /// Takes the network apart. Refuses for memory alone.
     pub fn into_parts(self) -> Result<Parts, NoMemory>
         ensures held { IsHeld self }
         ensures parts { IfOk result (λ parts. held_of parts ≡ self) }
@@ -413,7 +432,7 @@ impl Net {
         })
     }
 
-    /// Puts a network together.
+    /// Puts a network together. Refuses for memory alone.
     pub fn from_parts(alloc: Global, parts: Parts) -> Result<Net, NoMemory>
         requires { IsHeld (held_of parts) }
         ensures { IfOk result (λ net. net ≡ held_of parts) }

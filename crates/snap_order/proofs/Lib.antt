@@ -13,6 +13,8 @@ pub mod Tallied
 pub mod Playing
 pub mod Obeying
 pub mod Serving
+pub mod Standing
+pub mod Able
 pub mod PlainTurns
 pub mod Reporting
 pub mod Written
@@ -21,8 +23,8 @@ pub mod OneTurn
 pub mod OneRun
 pub mod OneSchedule
 pub mod ShortTurns
-pub mod Standing
 pub mod Toiling
+pub mod Going
 pub mod Rounds
 pub mod Rounding
 pub mod Stepping

@@ -1,16 +1,20 @@
 -- The run in turn that a schedule's lines tell is one.
-use Rattle.std.proofs.Common.{◌≡◌, ⊎_elim, ℕ, ◌+◌, ◌<◌, ◌≤◌, Bool, List, [], ◌∷◌, ◌++◌, length, refl, sym, ap, subst, ◌∙◌, inl, inr, arith}
+use Rattle.std.proofs.Common.{◌≡◌, ⊎_elim, ℕ, ◌+◌, ◌<◌, ◌≤◌, Bool, List, [], ◌∷◌, ◌++◌, Ok, Err, length, refl, sym, ap, subst, ◌∙◌, inl, inr, arith}
 use Rattle.std.specs.declared.option.Option.{Option}
 use Rattle.std.proofs.lemmas.Option.{slice_get_within}
 use Rattle.snap_core.specs.Arrays.{zero_arrays}
 use Rattle.snap_rows.specs.declared.tables.Tables.{Tables}
 use Rattle.snap_rows.specs.Form.{IsInForm}
 use Rattle.snap_rows.specs.Network.{Event, Step}
+use Rattle.snap_trace.specs.declared.fault.TraceFault.TheVariants as trace
+use Rattle.snap_trace.specs.Spelled.{ended, refused}
 use Rattle.snap_runs.specs.declared.event.Order.{Order}
 use Rattle.snap_runs.specs.declared.event.Order.TheVariants as order
-use Rattle.snap_runs.specs.Schedules.{CantBeDone, Spells, skips, injects, steps, order_by}
+use Rattle.snap_runs.specs.declared.schedule.ScheduleFault.TheVariants.{Packets, Read, TooLong, Line, Write, NoMemory}
+use Rattle.snap_runs.specs.Plain.{spelled_for}
+use Rattle.snap_runs.specs.Schedules.{CantBeDone, Spells, skips, injects, steps, lines_of, order_by}
 use Rattle.snap_runs.proofs.OneSchedule.{Sides, sides, spells-cut, spells_one}
-use Rattle.snap_order.specs.OneSchedule.{RefusedLinesAreOne, ReportedOrRefused, ScheduleReportsAreOne}
+use Rattle.snap_order.specs.OneSchedule.{RefusedLinesAreOne, RefusedLinesAreTold, ReportedOrRefused, ScheduleReportsAreOne}
 use Rattle.snap_order.specs.Ordered.{Ordered, LeadsInTurn, RunsInTurn, Turn, begin, happenings}
 use Rattle.snap_order.specs.Ordered as ordered
 use Rattle.snap_order.specs.Reports.{IsRunReport}
@@ -102,3 +106,17 @@ reported_or_refused t form hops ks lines text number x y = or_refused t form ks 
 
 pub schedule_reports_one : ScheduleReportsAreOne
 schedule_reports_one t form hops ks lines a b x y = one_report t form ks lines hops a b x y
+
+pub refused_lines_told : RefusedLinesAreTold
+refused_lines_told t form hops file schedule (Ok u) old new w number r = reported_or_refused t form hops (spelled_for t file).packets (lines_of schedule) w.0 number w.1.1 r.1
+refused_lines_told t form hops file schedule (Err Write) old new w number r = reported_or_refused t form hops (spelled_for t file).packets (lines_of schedule) w.0 number w.1.1 r.1
+refused_lines_told t form hops file schedule (Err (Line line)) old new w number r = refused_lines_one t form (spelled_for t file).packets (lines_of schedule) line number w.1.1 r.1
+refused_lines_told t form hops file schedule (Err TooLong) old new w number r = let long = w.2 in let few = r.0.1 in omega (arith, long, few)
+refused_lines_told t form hops file schedule (Err (Packets trace.Read)) old new w number r = inl refl
+refused_lines_told t form hops file schedule (Err (Packets trace.NoMemory)) old new w number r = inr refl
+refused_lines_told t form hops file schedule (Err (Packets (trace.Limit which count))) old new w number r = absurd (let apart : refused (trace.Limit which count) ≡ ended = sym w.1 ∙ r.0.0 in cc)
+refused_lines_told t form hops file schedule (Err (Packets (trace.Packets line))) old new w number r = absurd (let apart : refused (trace.Packets line) ≡ ended = sym w.1 ∙ r.0.0 in cc)
+refused_lines_told t form hops file schedule (Err (Packets trace.Write)) old new w number r = absurd w.1
+refused_lines_told t form hops file schedule (Err (Packets (trace.Undefined packet))) old new w number r = absurd w.1
+refused_lines_told t form hops file schedule (Err Read) old new w number r = tt
+refused_lines_told t form hops file schedule (Err NoMemory) old new w number r = tt

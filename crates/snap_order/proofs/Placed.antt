@@ -1,4 +1,4 @@
--- Copies stay in their places in runs in turn.
+-- Copies stay in their places in runs in turn, and their packets as long as they are.
 use Rattle.std.proofs.Common.{◌≡◌, ℕ, ◌+◌, ◌<◌, List, [], ◌++◌, take, drop, length, refl, ◌∙◌}
 use Rattle.std.specs.List.{All}
 use Rattle.std.proofs.lemmas.List.Elements.{All-append, All-cons, All-drop, All-map, All-nil, All-take}
@@ -11,55 +11,89 @@ use Rattle.snap_rows.specs.declared.tables.Tables.{Tables}
 use Rattle.snap_rows.specs.Form.{comps, switch_count}
 use Rattle.snap_rows.specs.Handles.{Handles}
 use Rattle.snap_rows.specs.Home.{AtHome}
-use Rattle.snap_rows.specs.Network.{Copy, Step, moved}
+use Rattle.snap_rows.specs.Network.{Copy, Inject, Step, moved}
 use Rattle.snap_rows.specs.Steps.{Arrives}
 use Rattle.snap_rows.proofs.Arrives.{arrives}
+use Rattle.snap_rows.proofs.Bounded.{port_below, port_home}
 use Rattle.snap_rows.proofs.Rows.{All-get}
 use Rattle.snap_net.specs.declared.flying.Flying.{Flying}
 use Rattle.snap_net.specs.Shown.{Held, IsHeld, Shows}
 use Rattle.snap_gen.specs.InTurn.{Becomes, SentOn, Waiting, Forks, TakesTurns}
 use Rattle.snap_gen.proofs.Nodes.{IsTwo}
 use Rattle.snap_runs.proofs.Steps.{held-shown}
-use Rattle.snap_order.specs.Ordered.{Ordered, Turn, IsBefore, LeadsInTurn, left_by, moves, visits, waits}
+use Rattle.snap_order.specs.Ordered.{Ordered, Turn, IsBefore, LeadsInTurn, left_by, injects, moves, visits, waits}
 use Rattle.snap_order.proofs.Taking.{stays_at_home, turn_handles}
 use Rattle.snap_order.proofs.Turning.{due_home}
 
 -- a copy is in its place
 pub record Placed (t : Tables) (c : Copy) : Type 0 where
   pub at : c.at < switch_count t
-  pub packet : length c.packet ≡ comps t
   pub home : AtHome t c.at c.head
 
 pub placed_shown : (v : Held) (s : _) → IsHeld v → Shows v s → All (Placed v.tables) s.flying
 placed_shown v s held shows =
     let at = held-shown (λ (c : Flying). c.at < switch_count v.tables) v s shows held.places in
-    let packet = held-shown (λ (c : Flying). length c.packet ≡ comps v.tables) v s shows held.packets in
     let home = held-shown (λ (c : Flying). AtHome v.tables c.at c.head) v s shows held.homes in
-    λ i d l. record { at = at i d l; packet = packet i d l; home = home i d l }
+    λ i d l. record { at = at i d l; home = home i d l }
+
+-- its packet has so many components
+abbrev pub IsLong : ℕ → Copy → Type 0
+IsLong n c = length c.packet ≡ n
+
+pub long_shown : (v : Held) (s : _) → IsHeld v → Shows v s → All (IsLong (comps v.tables)) s.flying
+long_shown v s held shows = held-shown (λ (c : Flying). length c.packet ≡ comps v.tables) v s shows held.packets
+
+-- others in the place of a copy
+replaced : (P : Copy → Type 0) (cs : List Copy) (i : ℕ) (xs : List Copy) → All P cs → All P xs → All P (take i cs ++ (xs ++ drop (i + 1) cs))
+replaced P cs i xs all some = All-append P (take i cs) (xs ++ drop (i + 1) cs) (All-take P i cs all) (All-append P xs (drop (i + 1) cs) some (All-drop P (i + 1) cs all))
 
 module _ (t : Tables) (two : IsTwo t) where
+  arrived : (c : Copy) (s m : Arrays) (a : Action) → Placed t c → Handles t c.at c.packet s c.head m a → Arrives t c.packet a
+  arrived c s m a p does = arrives t two.valid two.form c.at p.at c.packet s c.head m a p.home does
+
+  -- ---- places
   moved_placed : (c : Copy) (a : Action) → Placed t c → Arrives t c.packet a → All (Placed t) (moved c a)
-  moved_placed c (Forward to head) p there = All-cons (Placed t) _ [] (record { at = there.0; packet = p.packet; home = there.1 }) (All-nil (Placed t))
+  moved_placed c (Forward to head) p there = All-cons (Placed t) _ [] (record { at = there.0; home = there.1 }) (All-nil (Placed t))
   moved_placed c (Deliver port) p there = All-nil (Placed t)
   moved_placed c (Fork copies lost) p there =
-      All-map (Placed t) (λ (x : Sent). record c { head = Out x.port; packet = x.packet; steps = c.steps + 1 }) copies
-      (λ j d l. record { at = p.at; packet = (there j d l).long ∙ p.packet; home = (there j d l).port })
+      All-map (Placed t) (λ (x : Sent). record c { head = Out x.port; packet = x.packet; steps = c.steps + 1 }) copies (λ j d l. record { at = p.at; home = (there j d l).port })
 
-  pub acted_placed : (c : Copy) (s m : Arrays) (a : Action) → Placed t c → Handles t c.at c.packet s c.head m a → All (Placed t) (moved c a)
-  acted_placed c s m a p does = moved_placed c a p (arrives t two.valid two.form c.at p.at c.packet s c.head m a p.home does)
+  acted_placed : (c : Copy) (s m : Arrays) (a : Action) → Placed t c → Handles t c.at c.packet s c.head m a → All (Placed t) (moved c a)
+  acted_placed c s m a p does = moved_placed c a p (arrived c s m a p does)
 
-  pub turned_placed : (s : Ordered) (c : Copy) {r n : ℕ} {m : Arrays} {h : ℕ → ℕ} (b : Becomes) → Placed t c → IsBefore t s.net c r n → TakesTurns t c.at c.packet c.number (s.net.stores c.at) s.handled r n m h b → All (Placed t) (left_by c b)
+  turned_placed : (s : Ordered) (c : Copy) {r n : ℕ} {m : Arrays} {h : ℕ → ℕ} (b : Becomes) → Placed t c → IsBefore t s.net c r n → TakesTurns t c.at c.packet c.number (s.net.stores c.at) s.handled r n m h b → All (Placed t) (left_by c b)
   turned_placed s c {m = m} (SentOn y q v) p before takes = acted_placed c (s.net.stores c.at) m (Forward y (Visit q v)) p (turn_handles t c.at c.packet c.number two.version before.comes takes (Forward y (Visit q v)) refl)
   turned_placed s c {m = m} (Forks copies lost) p before takes = acted_placed c (s.net.stores c.at) m (Fork copies lost) p (turn_handles t c.at c.packet c.number two.version before.comes takes (Fork copies lost) refl)
   turned_placed s c (Waiting q v) p before takes =
-      All-cons (Placed t) _ [] (record { at = p.at; packet = p.packet; home = (two.version, stays_at_home t c.at c.packet c.number two (due_home two p.home before.comes before.owner) takes) }) (All-nil (Placed t))
-
-  replaced : (cs : List Copy) (i : ℕ) (xs : List Copy) → All (Placed t) cs → All (Placed t) xs → All (Placed t) (take i cs ++ (xs ++ drop (i + 1) cs))
-  replaced cs i xs all some = All-append (Placed t) (take i cs) (xs ++ drop (i + 1) cs) (All-take (Placed t) i cs all) (All-append (Placed t) xs (drop (i + 1) cs) some (All-drop (Placed t) (i + 1) cs all))
+      All-cons (Placed t) _ [] (record { at = p.at; home = (two.version, stays_at_home t c.at c.packet c.number two (due_home two p.home before.comes before.owner) takes) }) (All-nil (Placed t))
 
   pub step_placed : {s s' : Ordered} {j : ℕ} {us : List Turn} → LeadsInTurn t s (Step j) s' us → All (Placed t) s.net.flying → All (Placed t) s'.net.flying
   step_placed {s = s} (moves {i = i} {c = c} {m = m} {a = a} is none does) all =
-      replaced s.net.flying i (moved c a) all (acted_placed c (s.net.stores c.at) m a (All-get (Placed t) s.net.flying i c all is) does)
+      replaced (Placed t) s.net.flying i (moved c a) all (acted_placed c (s.net.stores c.at) m a (All-get (Placed t) s.net.flying i c all is) does)
   step_placed {s = s} (visits {i = i} {c = c} {b = b} is before turn takes) all =
-      replaced s.net.flying i (left_by c b) all (turned_placed s c b (All-get (Placed t) s.net.flying i c all is) before takes)
+      replaced (Placed t) s.net.flying i (left_by c b) all (turned_placed s c b (All-get (Placed t) s.net.flying i c all is) before takes)
   step_placed (waits is before early) all = all
+
+  pub inject_placed : {s s' : Ordered} {port : ℕ} {k : List ℕ} {us : List Turn} → LeadsInTurn t s (Inject port k) s' us → All (Placed t) s.net.flying → All (Placed t) s'.net.flying
+  inject_placed {s = s} (injects {port = port} {w = w} at first) all =
+      All-append (Placed t) s.net.flying _ all (All-cons (Placed t) _ [] (record { at = port_below t two.form port w at; home = port_home t two.valid port w at }) (All-nil (Placed t)))
+
+  -- ---- packets
+  moved_long : (n : ℕ) (c : Copy) (a : Action) → IsLong n c → Arrives t c.packet a → All (IsLong n) (moved c a)
+  moved_long n c (Forward to head) long there = All-cons (IsLong n) _ [] long (All-nil (IsLong n))
+  moved_long n c (Deliver port) long there = All-nil (IsLong n)
+  moved_long n c (Fork copies lost) long there = All-map (IsLong n) (λ (x : Sent). record c { head = Out x.port; packet = x.packet; steps = c.steps + 1 }) copies (λ j d l. (there j d l).long ∙ long)
+
+  turned_long : (n : ℕ) (s : Ordered) (c : Copy) {r v : ℕ} {m : Arrays} {h : ℕ → ℕ} (b : Becomes) → Placed t c → IsLong n c → IsBefore t s.net c r v → TakesTurns t c.at c.packet c.number (s.net.stores c.at) s.handled r v m h b → All (IsLong n) (left_by c b)
+  turned_long n s c (SentOn y q v) p long before takes = All-cons (IsLong n) _ [] long (All-nil (IsLong n))
+  turned_long n s c (Waiting q v) p long before takes = All-cons (IsLong n) _ [] long (All-nil (IsLong n))
+  turned_long n s c {m = m} (Forks copies lost) p long before takes =
+      moved_long n c (Fork copies lost) long (arrived c (s.net.stores c.at) m (Fork copies lost) p (turn_handles t c.at c.packet c.number two.version before.comes takes (Fork copies lost) refl))
+
+  pub step_keeps_long : {s s' : Ordered} {j : ℕ} {us : List Turn} (n : ℕ) → LeadsInTurn t s (Step j) s' us → All (Placed t) s.net.flying → All (IsLong n) s.net.flying → All (IsLong n) s'.net.flying
+  step_keeps_long {s = s} n (moves {i = i} {c = c} {m = m} {a = a} is none does) all long =
+      replaced (IsLong n) s.net.flying i (moved c a) long
+      (moved_long n c a (All-get (IsLong n) s.net.flying i c long is) (arrived c (s.net.stores c.at) m a (All-get (Placed t) s.net.flying i c all is) does))
+  step_keeps_long {s = s} n (visits {i = i} {c = c} {b = b} is before turn takes) all long =
+      replaced (IsLong n) s.net.flying i (left_by c b) long (turned_long n s c b (All-get (Placed t) s.net.flying i c all is) (All-get (IsLong n) s.net.flying i c long is) before takes)
+  step_keeps_long n (waits is before early) all long = long

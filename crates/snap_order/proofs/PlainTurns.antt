@@ -1,124 +1,29 @@
 -- A plain run is one in turn: each step can be made in turn, and leads where it leads without order.
-use Rattle.std.proofs.Common.{◌≡◌, ◌≢◌, ◌⊎◌, inl, inr, ℕ, ◌+◌, ◌<◌, ◌≤◌, List, [], ◌∷◌, ◌++◌, Some, refl, sym, ap, subst, ◌∙◌, arith}
+use Rattle.std.proofs.Common.{◌≡◌, ◌⊎◌, inl, inr, ℕ, ◌+◌, List, [], ◌++◌, Some, refl, sym, ap, subst, ◌∙◌}
 use Rattle.std.specs.Prelude.{slice_get}
 use Rattle.std.specs.List.{All}
 use Rattle.std.proofs.lemmas.List.Elements.{All-head, All-tail}
-use Rattle.std.proofs.lemmas.Option.{none-some, same_Some}
-use Rattle.snap_core.specs.Arrays.{Arrays}
-use Rattle.snap_core.specs.Tests.{results}
-use Rattle.snap_rows.specs.declared.head.Action.{Action}
-use Rattle.snap_rows.specs.declared.head.Head.{Head}
-use Rattle.snap_rows.specs.declared.head.Head.TheVariants.{Walk, Stage, Out, Visit}
+use Rattle.std.proofs.lemmas.Option.{none-some}
 use Rattle.snap_rows.specs.declared.tables.Tables.{Tables}
-use Rattle.snap_rows.specs.Entries.{next, rank_at, ranks}
-use Rattle.snap_rows.specs.Handles as handles
-use Rattle.snap_rows.specs.Handles.{Handles}
-use Rattle.snap_rows.specs.Network.{Copy, Event, Happening, Inject, Leads, Net, RunsCalmly, Step, StepsFirst, happening, inject, injected, step, stepped}
+use Rattle.snap_rows.specs.Network.{Event, Happening, Inject, Leads, Net, RunsCalmly, Step, StepsFirst, inject, injected, step}
 use Rattle.snap_rows.specs.Network as network
-use Rattle.snap_rows.proofs.Later.{rank_is_below}
-use Rattle.snap_rows.proofs.Rows.{All-get, some_injective}
-use Rattle.snap_gen.specs.Agreement.{lost_of, sent_of}
-use Rattle.snap_gen.specs.InTurn.{Becomes, SentOn, Forks, TakesTurns, handled_more}
-use Rattle.snap_gen.specs.InTurn as turn
-use Rattle.snap_gen.proofs.Nodes.{IsTwo, WalkDoes, visits_first, forks_at_once, walk_does}
+use Rattle.snap_gen.proofs.Nodes.{IsTwo}
 use Rattle.snap_runs.proofs.OneRun.{leads_one}
-use Rattle.snap_order.specs.Laws.{HasForked}
-use Rattle.snap_order.specs.Ordered.{Ordered, Turn, Happens, ComesTo, visit, walk, IsBefore, LeadsInTurn, injects, moves, visits, begin, happenings, turn_of, visited}
+use Rattle.snap_order.specs.Ordered.{Ordered, Turn, LeadsInTurn, injects, begin, happenings}
 use Rattle.snap_order.specs.PlainTurns.{PlainRunsTakeTurns}
+use Rattle.snap_order.specs.Progress.{CanStep}
 use Rattle.snap_order.specs.Runs.{RunsCalmlyInTurn}
 use Rattle.snap_order.specs.Runs as runs
-use Rattle.snap_order.specs.Serving.{IsRested, Serves, StandsBefore, comes, leaves}
+use Rattle.snap_order.specs.Serving.{IsRested, Serves}
+use Rattle.snap_order.proofs.Able.{step_of}
 use Rattle.snap_order.proofs.Overlap.{happenings_more}
 use Rattle.snap_order.proofs.Playing.{step_injected}
-use Rattle.snap_order.proofs.Serving.{forked_late, serves_first, serves_last, serves_step}
-use Rattle.snap_order.proofs.Taking.{more_other}
+use Rattle.snap_order.proofs.Serving.{serves_first, serves_last, serves_step}
 
 module _ (t : Tables) (two : IsTwo t) where
-  -- ---- visits
-  -- visits that a switch makes without order, of ranks that have handled just the packets before, are made in turn
-  record Taken (w : ℕ) (k : List ℕ) (i : ℕ) (m : Arrays) (h : ℕ → ℕ) (r n : ℕ) (m' : Arrays) : Type 0 where
-    numbers : ℕ → ℕ
-    becomes : Becomes
-    takes : TakesTurns t w k i m h r n m' numbers becomes
-
-  takes_turns : {w : ℕ} {k : List ℕ} (i : ℕ) {m m' : Arrays} {r n : ℕ} {a : Action} → Handles t w k m (Visit r n) m' a → (h : ℕ → ℕ) → ((q : ℕ) → r ≤ q → q < ranks t → h q ≡ i) → Taken w k i m h r n m'
-  takes_turns {w = w} i {r = r} {n = n} (handles.seeks {x = x} own away) h due = record { numbers = h; becomes = SentOn (next t w x) r n; takes = turn.seeks own away }
-  takes_turns {w = w} i {r = r} (handles.visits own made more rest) h due =
-      let on = takes_turns i rest (handled_more h r) (λ q above below. more_other h r q (λ e. (omega (arith, above, e))) ∙ due q (omega (arith, above)) below) in
-      record { numbers = on.numbers; becomes = on.becomes; takes = turn.visits own (due r (omega arith) (rank_is_below t r w own)) made more on.takes }
-  takes_turns {w = w} {k = k} i {r = r} (handles.concludes {os = os} own made last row) h due = record {
-    numbers = handled_more h r;
-    becomes = Forks (sent_of t (results os k)) (lost_of t (results os k));
-    takes = turn.concludes own (due r (omega arith) (rank_is_below t r w own)) made last row;
-  }
-
-  -- the switch makes the visit, or sends the copy on before it
-  here_or_away : {w : ℕ} {k : List ℕ} {m m' : Arrays} {r n : ℕ} {a : Action} → Handles t w k m (Visit r n) m' a → (rank_at t r ≡ Some w) ⊎ (rank_at t r ≢ Some w)
-  here_or_away {w = w} (handles.seeks {x = x} own away) = inr (λ mine. away (some_injective x w (sym own ∙ mine)))
-  here_or_away (handles.visits own made more rest) = inl own
-  here_or_away (handles.concludes own made last row) = inl own
-
-  -- a walk goes on with its visit of rank 0, unless there are no ranks
-  walk_goes_on : {w : ℕ} {k : List ℕ} {m m' : Arrays} {n : ℕ} {a : Action} → WalkDoes t w k m n m' a
-      → ((v : ℕ) × (ranks t ≢ 0) × handles.Follows t w k handles.is_field m n v × Handles t w k m (Visit 0 v) m' a) ⊎ (ranks t ≡ 0)
-  walk_goes_on (visits_first {v = v} some follow rest) = inl (v, some, follow, rest)
-  walk_goes_on (forks_at_once none follow row) = inr none
-
   -- ---- one step
-  -- the step in turn of the first copy
-  record Turned (o : Ordered) (j : ℕ) : Type 0 where
-    after : Ordered
-    turns : List Turn
-    leads : LeadsInTurn t o (Step j) after turns
-
-  module _ (o : Ordered) (j : ℕ) (c : Copy) (found : slice_get o.net.flying j ≡ Some c) (m : Arrays) (a : Action) (does : Handles t c.at c.packet (o.net.stores c.at) c.head m a) where
-    apart : ((r n : ℕ) → ¬ IsBefore t o.net c r n) → Turned o j
-    apart none = record { after = record o { net = stepped o.net j c m a }; turns = Happens (happening c a) ∷ []; leads = moves found none does }
-
-    -- at the owner of its rank, or not
-    at_visit : (r n : ℕ) → ComesTo t c.at c.packet (o.net.stores c.at) c.head r n → ((q v : ℕ) → ComesTo t c.at c.packet (o.net.stores c.at) c.head q v → q ≡ r) → Handles t c.at c.packet (o.net.stores c.at) (Visit r n) m a
-        → ((q : ℕ) → r ≤ q → q < ranks t → o.handled q ≡ c.number) → Turned o j
-    at_visit r n to once made due = by (here_or_away made)
-      where
-        by : (rank_at t r ≡ Some c.at) ⊎ (rank_at t r ≢ Some c.at) → Turned o j
-        by (inl own) =
-            let taken = takes_turns c.number made o.handled due in
-            record { after = visited o j c m taken.numbers taken.becomes; turns = turn_of c taken.becomes ∷ []; leads = visits found (record { comes = to; owner = own }) (due r (omega arith) (rank_is_below t r c.at own)) taken.takes }
-        by (inr away) = apart (λ q v before. away (ap (rank_at t) (sym (once q v before.comes)) ∙ before.owner))
-
-    at_walk : (n : ℕ) → c.head ≡ Walk n → ((v : ℕ) × (ranks t ≢ 0) × handles.Follows t c.at c.packet handles.is_field (o.net.stores c.at) n v × Handles t c.at c.packet (o.net.stores c.at) (Visit 0 v) m a) ⊎ (ranks t ≡ 0)
-        → ((q : ℕ) → 0 ≤ q → q < ranks t → o.handled q ≡ c.number) → Turned o j
-    at_walk n is (inl (v, some, follow, rest)) due =
-        at_visit 0 v (subst (λ h. ComesTo t c.at c.packet (o.net.stores c.at) h 0 v) (sym is) (walk some follow)) (λ q x to. from_walk q x (subst (λ h. ComesTo t c.at c.packet (o.net.stores c.at) h q x) is to)) rest due
-      where
-        from_walk : (q x : ℕ) → ComesTo t c.at c.packet (o.net.stores c.at) (Walk n) q x → q ≡ 0
-        from_walk q x (walk some' follow') = refl
-    at_walk n is (inr none) due = apart (λ q v before. no_rank q v (subst (λ h. ComesTo t c.at c.packet (o.net.stores c.at) h q v) is before.comes))
-      where
-        no_rank : (q v : ℕ) → ComesTo t c.at c.packet (o.net.stores c.at) (Walk n) q v → ⊥
-        no_rank q v (walk some follow') = some none
-
-    -- before its next visit
-    at_rank : (head : Head) (r : ℕ) → c.head ≡ head → StandsBefore head r → ((q : ℕ) → r ≤ q → q < ranks t → o.handled q ≡ c.number) → Turned o j
-    at_rank (Walk n) r is stands due = at_walk n is (walk_goes_on (walk_does t two (subst (λ h. Handles t c.at c.packet (o.net.stores c.at) h m a) is does))) (λ q above below. due q (omega (arith, stands)) below)
-    at_rank (Visit q n) r is stands due =
-        at_visit q n (subst (λ h. ComesTo t c.at c.packet (o.net.stores c.at) h q n) (sym is) visit) (λ x v to. from_visit x v (subst (λ h. ComesTo t c.at c.packet (o.net.stores c.at) h x v) is to))
-        (subst (λ h. Handles t c.at c.packet (o.net.stores c.at) h m a) is does) (λ x above below. due x (omega (arith, above, stands)) below)
-      where
-        from_visit : (x v : ℕ) → ComesTo t c.at c.packet (o.net.stores c.at) (Visit q n) x v → x ≡ q
-        from_visit x v visit = refl
-    at_rank (Stage n x) r is stands due = absurd stands
-    at_rank (Out p) r is stands due = absurd stands
-
-    in_turn : (i : ℕ) → j ≡ 0 → Serves t i o → Turned o j
-    in_turn i first (comes {c = d} {r = r} alone number stands low high) =
-        let same : d ≡ c = same_Some d c (ap (λ l. slice_get l 0) (sym alone) ∙ ap (slice_get o.net.flying) (sym first) ∙ found) in
-        let own : c.number ≡ i = ap (λ (x : Copy). x.number) (sym same) ∙ number in
-        at_rank c.head r refl (subst (λ (x : Copy). StandsBefore x.head r) same stands) (λ q above below. high q above below ∙ sym own)
-    in_turn i first (leaves all handled) = apart (λ q v before. forked_late c (All-get HasForked o.net.flying j c all found) before.comes)
-
-  turned : (o : Ordered) (i : ℕ) {s : Net} {j : ℕ} {hs : List Happening} → j ≡ 0 → Leads t o.net (Step j) s hs → Serves t i o → Turned o j
-  turned o i first (step {i = j} {c = c} {m = m} {a = a} found does) serves = in_turn o j c found m a does i first serves
+  step_in_turn : (o : Ordered) {s : Net} {j : ℕ} {hs : List Happening} → Leads t o.net (Step j) s hs → CanStep t o j
+  step_in_turn o (step {i = j} {c = c} {m = m} {a = a} found does) = step_of t two o j c found m a does c.head refl
 
   -- it leads where the step without order does
   record Follows (o : Ordered) (i j : ℕ) (s : Net) (hs : List Happening) : Type 0 where
@@ -131,10 +36,10 @@ module _ (t : Tables) (two : IsTwo t) where
 
   follows : (o : Ordered) (i : ℕ) (s : Net) (j : ℕ) (hs : List Happening) → j ≡ 0 → Leads t o.net (Step j) s hs → Serves t i o → Follows o i j s hs
   follows o i s j hs first leads serves =
-      let x = turned o i first leads serves in
+      let x = step_in_turn o leads in
       let y = serves_step t two i first x.leads serves in
-      let one = leads_one t two.form o.net o.net (Step j) (Step j) x.after.net s (happenings x.turns) hs refl refl y.1 leads in
-      record { after = x.after; turns = x.turns; leads = x.leads; serves = y.0; net = one.0; told = one.1 }
+      let one = leads_one t two.form o.net o.net (Step j) (Step j) x.state.net s (happenings x.turns) hs refl refl y.1 leads in
+      record { after = x.state; turns = x.turns; leads = x.leads; serves = y.0; net = one.0; told = one.1 }
 
   -- ---- runs
   -- nothing is in flight and each rank has handled all packets, or the last packet is alone on its way

@@ -23,7 +23,6 @@ use Rattle.snap_rows.specs.Network.{Copy, Event, Step, Happening, happening, pac
 use Rattle.snap_rows.proofs.Later.{rank_is_below, var_array}
 use Rattle.snap_gen.specs.Agreement.{CameOut, numbered}
 use Rattle.snap_gen.specs.Faithful.{Faithful, IsStoreOf, packets_in, AgreesAsInjected}
-use Rattle.snap_gen.specs.InTurn.{Becomes, SentOn, Waiting, Forks}
 use Rattle.snap_gen.proofs.Leaving.{copies_of, came_out, own_leaves}
 use Rattle.snap_gen.proofs.LoneRuns.{is_early}
 use Rattle.snap_gen.proofs.Nodes.{IsTwo}
@@ -32,6 +31,7 @@ use Rattle.snap_gen.proofs.Switching.{number_at, picks_all}
 use Rattle.snap_gen.proofs.Whole.{starts, whole_holds}
 use Rattle.snap_order.specs.Ordered.{Ordered, Turn, Happens, Waits, ComesTo, IsBefore, turn_of, LeadsInTurn, moves, visits, waits, happenings}
 use Rattle.snap_order.specs.Laws.{Overlaps, IsBehind, IsLeast}
+use Rattle.snap_order.proofs.Able.{no_wait, visits_on}
 use Rattle.snap_order.proofs.Overlap as overlap
 use Rattle.snap_order.proofs.Overlap.{all_events, comes_early}
 use Rattle.snap_order.proofs.Taking.{same_rank}
@@ -50,20 +50,6 @@ kept {A = A} p (x ∷ xs) y ys e = by (p x) refl e (kept p xs y ys)
     by false isnt e rest = let r = rest e in (suc r.0, r.1, r.2)
 
 -- ---- turns
-is_waiting : Turn → Bool
-is_waiting (Waits c r) = true
-is_waiting _ = false
-
-visits_on : (c : Copy) (b : Becomes) → is_waiting (turn_of c b) ≡ false
-unfolding is_waiting
-visits_on c (SentOn to r n) = refl
-visits_on c (Waiting r n) = refl
-visits_on c (Forks copies lost) = refl
-
-no_wait : (u : Turn) (c : Copy) (r : ℕ) → is_waiting u ≡ false → u ∷ [] ≡ Waits c r ∷ [] → ⊥
-unfolding is_waiting
-no_wait u c r isnt e = both_ways _ isnt (ap is_waiting (same_Some u (Waits c r) (ap (λ l. slice_get l 0) e)))
-
 late : {head : Head} → is_early head ≡ true → ((port : ℕ) × (head ≡ Out port)) → ⊥
 late early out = both_ways _ (ap is_early out.1) early
 
@@ -165,7 +151,6 @@ module _ (p : Program) (topology : Topology) (places : List ℕ) (t : Tables) (f
     behind_waits (waits {c = x} {r = r} at before early) b = (r, ap (λ y. Waits y r ∷ []) (same_Some x c (sym at ∙ found)))
 
     pub waits_behind : {s' : Ordered} {vs : List Turn} → LeadsInTurn t s (Step i) s' vs → (r : ℕ) → vs ≡ Waits c r ∷ [] → IsBehind t s c × (s' ≡ s)
-    unfolding is_waiting
     waits_behind (moves {c = x} {a = a} at none does) r e = absurd (no_wait (Happens (happening x a)) c r refl e)
     waits_behind (visits {c = x} {b = b} at before turn takes) r e = absurd (no_wait (turn_of x b) c r (visits_on x b) e)
     waits_behind (waits {c = x} {r = q} {n = n} at before early) r e =

@@ -5,6 +5,7 @@ use Rattle.std.specs.List.{All}
 use Rattle.std.proofs.lemmas.Option.{none-some}
 use Rattle.snap_core.specs.Arrays.{zero_arrays}
 use Rattle.snap_rows.specs.declared.tables.Tables.{Tables}
+use Rattle.snap_rows.specs.Form.{comps}
 use Rattle.snap_rows.specs.Network.{Copy, Event, Inject}
 use Rattle.snap_net.specs.Shown.{IsHeld}
 use Rattle.snap_net.proofs.Blocks.{found}
@@ -22,7 +23,7 @@ use Rattle.snap_order.specs.Reports.{IsRunReport}
 use Rattle.snap_order.specs.Rounding.{HasRounded, IsPaced, IsRoundDone, NoteTurns, PlaysRounds, toil}
 use Rattle.snap_order.specs.Rounds.{GoesByRounds, injects, goes_on, rests, IsRound, IsRoundReport}
 use Rattle.snap_order.specs.Shown.{IsOrderedHeld, OrderedHeld, ShowsInTurn, told_of}
-use Rattle.snap_order.proofs.Placed.{Placed, placed_shown}
+use Rattle.snap_order.proofs.Placed.{IsLong, Placed, long_shown, placed_shown}
 use Rattle.snap_order.proofs.Rounds.{injects_one, round_injected, round_numbers, tallied_round, told_below}
 use Rattle.snap_order.proofs.Standing.{inject_pace, pace_first}
 use Rattle.snap_order.proofs.Toiling.{round_falls, round_pace, toil_of, toil_shown}
@@ -52,11 +53,12 @@ module _ (old : Play) (now : OrderedHeld) (told : List Turned) (does : IsRoundDo
         let n = s.net.injected in
         let two = subst IsTwo p.tables (two_held old.net held ordered) in
         let placed = subst (λ t'. All (Placed t') s.net.flying) p.tables (placed_shown old.net.net s.net held p.shows.net) in
+        let long = subst (λ t'. All (IsLong (comps t')) s.net.flying) p.tables (long_shown old.net.net s.net held p.shows.net) in
         let numbers = round_numbers n p.below a.3 in
         let inj : a.0.net.injected ≡ n = round_injected a.3 in
         let noted = subst (λ l. NoteTurns hops t.switches l old.tallies.items new.tallies.items) a.5
         (subst (λ b. NoteTurns b t.switches told old.tallies.items new.tallies.items) p.hops_same (subst (λ (t' : Tables). NoteTurns old.hops t'.switches told old.tallies.items new.tallies.items) p.tables notes)) in
-        let y = tallied_round t two hops n us old.tallies.items new.tallies.items a.3 p.below placed (record { counted = p.counted; before = p.before; tallied = p.tallied; long = p.long }) noted in
+        let y = tallied_round t two hops n us old.tallies.items new.tallies.items a.3 p.below placed long (record { counted = p.counted; before = p.before; tallied = p.tallied; long = p.long }) noted in
         record {
           left = ap (λ ws. packets_in (reverse ws)) still;
           state = a.0;

@@ -17,7 +17,7 @@ use Rattle.snap_order.specs.Rounding.{NoteTurns, no_notes, notes}
 use Rattle.snap_order.specs.Rounds.{GoesByRounds, rests, injects, goes_on, TakesFrom, ends, takes}
 use Rattle.snap_order.specs.Shown.{told_of}
 use Rattle.snap_order.proofs.Overlap.{happenings_more}
-use Rattle.snap_order.proofs.Placed.{Placed, step_placed}
+use Rattle.snap_order.proofs.Placed.{IsLong, Placed, step_keeps_long, step_placed}
 use Rattle.snap_order.proofs.Playing.{step_injected, step_numbers}
 use Rattle.snap_order.proofs.Tallied.{Tallied, owner_of-happened, step_long, tallied_turn}
 
@@ -74,15 +74,15 @@ same_count hops switches (Visited owner rank) ys zs same = ap length same
 same_count hops switches (Waited owner rank) ys zs same = ap length same
 
 module _ (t : Tables) (two : IsTwo t) (hops : Bool) (n : ℕ) where
-  pub tallied_round : {i : ℕ} {s s' : Ordered} {es : List Event} {ts : List Turn} (us : List Turn) (ys zs : List Tally) → TakesFrom t i s es s' ts → All (λ (c : Copy). c.number < n) s.net.flying → All (Placed t) s.net.flying
+  pub tallied_round : {i : ℕ} {s s' : Ordered} {es : List Event} {ts : List Turn} (us : List Turn) (ys zs : List Tally) → TakesFrom t i s es s' ts → All (λ (c : Copy). c.number < n) s.net.flying → All (Placed t) s.net.flying → All (IsLong (comps t)) s.net.flying
       → Tallied t hops n us ys → NoteTurns hops t.switches (map told_of ts) ys zs → Tallied t hops n (us ++ ts) zs
-  tallied_round us ys zs (ends at) below placed p noted = subst (λ l. Tallied t hops n l zs) (sym (append-nil us)) (subst (Tallied t hops n us) (sym (nothing_noted noted)) p)
-  tallied_round us ys zs (takes {s' = mid} {u = u} {us = ts} leads next rest) below placed p noted =
+  tallied_round us ys zs (ends at) below placed long p noted = subst (λ l. Tallied t hops n l zs) (sym (append-nil us)) (subst (Tallied t hops n us) (sym (nothing_noted noted)) p)
+  tallied_round us ys zs (takes {s' = mid} {u = u} {us = ts} leads next rest) below placed long p noted =
       let one = one_turn leads in
       let first = first_noted (subst (λ l. NoteTurns hops t.switches (map told_of (l ++ ts)) ys zs) one.1 noted) in
       let numbers = step_numbers (λ m. m < n) below leads in
-      let q = tallied_turn t hops n us ys first.0 p u one.0 one.1 (told_of one.0) refl first.1 numbers.1 (step_long (comps t) (λ i d l. (placed i d l).packet) leads) in
-      subst (λ l. Tallied t hops n l zs) (append_assoc us u ts) (tallied_round (us ++ u) first.0 zs rest numbers.0 (step_placed t two leads placed) q first.2)
+      let q = tallied_turn t hops n us ys first.0 p u one.0 one.1 (told_of one.0) refl first.1 numbers.1 (step_long (comps t) long leads) in
+      subst (λ l. Tallied t hops n l zs) (append_assoc us u ts) (tallied_round (us ++ u) first.0 zs rest numbers.0 (step_placed t two leads placed) (step_keeps_long t two (comps t) leads placed long) q first.2)
 
 -- ---- runs by rounds
 runs_then : (t : Tables) {s s' s'' : Ordered} {es fs : List Event} {us vs : List Turn} → RunsInTurn t s es s' us → RunsInTurn t s' fs s'' vs → RunsInTurn t s (es ++ fs) s'' (us ++ vs)

@@ -193,6 +193,14 @@ module _ (t : Tables) (two : IsTwo t) where
     pub is : slice_get s.net.flying k ≡ Some copy
     pub now : (r n : ℕ) → IsBefore t s.net copy r n → s.handled r ≡ copy.number
 
+  pub go_waits : {s s' : Ordered} {k : ℕ} → CanGo s k → IsWaiting s s' k → ⊥
+  go_waits {s = s} go w =
+      let one : w.copy ≡ go.copy = same_Some w.copy go.copy (sym w.is ∙ go.is) in
+      w.early (go.now w.rank w.node (subst (λ c. IsBefore t s.net c w.rank w.node) one w.before) ∙ ap (λ (c : Copy). c.number) (sym one))
+
+  pub step_falls : {s s' : Ordered} {k : ℕ} {us : List Turn} → CanGo s k → LeadsInTurn t s (Step k) s' us → All (Placed t) s.net.flying → toil_of t s'.net.flying < toil_of t s.net.flying
+  step_falls go leads all = ⊎_elim (λ less. less) (λ w. absurd (go_waits go w)) (step_toil leads all)
+
   no_heavier : {i : ℕ} {s s' : Ordered} {es : List Event} {us : List Turn} → TakesFrom t i s es s' us → All (Placed t) s.net.flying → toil_of t s'.net.flying ≤ toil_of t s.net.flying
   no_heavier (ends at) all = omega arith
   no_heavier (takes leads next rest) all =
@@ -214,9 +222,7 @@ module _ (t : Tables) (two : IsTwo t) where
       ⊎_elim
       (λ (lt : i < k). (let more = round_lighter rest (step_placed t two leads all) k (omega (arith, next, long, lt)) (subst (λ x. CanGo x k) (sym w.same) go) in omega (arith, more, same)))
       (λ (ge : k ≤ i).
-      (let at : i ≡ k = omega (arith, ge, le) in
-      let one : w.copy ≡ go.copy = same_Some w.copy go.copy (sym w.is ∙ ap (slice_get s.net.flying) at ∙ go.is) in
-      absurd (w.early (go.now w.rank w.node (subst (λ c. IsBefore t s.net c w.rank w.node) one w.before) ∙ ap (λ (c : Copy). c.number) (sym one)))))
+      (let at : i ≡ k = omega (arith, ge, le) in absurd (go_waits go (subst (IsWaiting s mid) at w))))
       (cases_lt i k)))
       (step_toil leads all)
 
@@ -250,7 +256,7 @@ module _ (t : Tables) (two : IsTwo t) where
         },
       )
 
-  some_goes : (s : Ordered) → KeepsPace t s → (c : Copy) → slice_get s.net.flying 0 ≡ Some c → (k : ℕ) × CanGo s k
+  pub some_goes : (s : Ordered) → KeepsPace t s → (c : Copy) → slice_get s.net.flying 0 ≡ Some c → (k : ℕ) × CanGo s k
   some_goes s pace c is =
       ⊎_elim
       (λ (some : 0 < ranks t). ⊎_elim

@@ -20,3 +20,4 @@ pub mod Jobs
 pub mod Dealing
 pub mod Lending
 pub mod Weaving
+pub mod Progress

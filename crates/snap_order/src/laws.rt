@@ -4,9 +4,10 @@ ghost use Rattle.snap_order.specs.Hands.{SharesMakeARound};
 ghost use Rattle.snap_order.specs.Laws.{FaithfulKeepsOrder};
 ghost use Rattle.snap_order.specs.OneRounds.{RoundReportsAreOne, RoundsRunToEnds};
 ghost use Rattle.snap_order.specs.OneRun.{PlainBlocksAreOne, PlainReportsAreOne, StepsAreOne};
-ghost use Rattle.snap_order.specs.OneSchedule.{RefusedLinesAreOne, ReportedOrRefused, ScheduleReportsAreOne};
+ghost use Rattle.snap_order.specs.OneSchedule.{RefusedLinesAreOne, RefusedLinesAreTold, ReportedOrRefused, ScheduleReportsAreOne};
 ghost use Rattle.snap_order.specs.OneSwitch.{PlainRunsInTurnReportOneSwitch, RunsByRoundsReportOneSwitch, RunsInTurnReportOneSwitch, SchedulesInTurnReportOneSwitch};
 ghost use Rattle.snap_order.specs.PlainTurns.{PlainRunsTakeTurns};
+ghost use Rattle.snap_order.specs.Progress.{RunsInTurnCanEnd, SomeCopyGoesOn, StepsInTurnCanBeMade};
 ghost use Rattle.snap_order.specs.ShortTurns.{PlainRunsInTurnAreShort, RunsInTurnAreShort};
 
 /// **Overlap in order.** Over faithful tables of version 2, whatever the order of events: each array is as one big switch leaves it after
@@ -28,6 +29,15 @@ pub fn runs_in_turn_report_one_switch()
     ensures rounds { RunsByRoundsReportOneSwitch }
 {}
 
+/// **No packet is stuck.** Over valid tables of version 2, whatever was injected and in whatever order: a step of each copy in
+/// flight can be made, which may be that it waits; where copies are in flight, one of them can make a step in which it doesn't
+/// wait; and steps alone lead to a state with none in flight.
+pub fn steps_in_turn_can_be_made()
+    ensures each { StepsInTurnCanBeMade }
+    ensures some { SomeCopyGoesOn }
+    ensures ends { RunsInTurnCanEnd }
+{}
+
 /// **In a plain run nobody waits**: over valid tables of version 2 the plain run of the network is one in turn, step by step,
 /// with the same stores and copies, and the same happens.
 pub fn plain_runs_take_turns()
@@ -42,11 +52,13 @@ pub fn plain_reports_are_one()
     ensures blocks { PlainBlocksAreOne }
 {}
 
-/// Where tables are in form, a schedule's lines tell one report of a run in turn, or are refused at one line, and not both.
+/// Where tables are in form, a schedule's lines tell one report of a run in turn, or are refused at one line, and not both; and
+/// a call that writes their report tells of that line, and of no other.
 pub fn schedules_run_one_way()
     ensures reports { ScheduleReportsAreOne }
     ensures lines { RefusedLinesAreOne }
     ensures apart { ReportedOrRefused }
+    ensures told { RefusedLinesAreTold }
 {}
 
 /// **Each copy of a run in turn makes at most (groups + 1) times the diameter hops**, whatever the order of the events.

@@ -50,7 +50,7 @@ impl Model for OrderedNet {
 }
 
 /// An ordered network of tables of version 2, with empty stores and nothing in flight. What it does over faithful tables,
-/// whatever the order of events, is the law of `laws::faithful_keeps_order`.
+/// whatever the order of events, is the law of `laws::faithful_keeps_order`. Refuses for memory alone.
 pub fn open_ordered(alloc: Global, tables: Valid) -> Result<OrderedNet, NoMemory>
     requires version { tables.version ≡ 2 }
     ensures tables { IfOk result (λ net. net.net.tables ≡ tables) }
@@ -145,6 +145,7 @@ impl OrderedNet {
     }
 
     /// The places of the whole store that don't hold 0, rising by variable and then by index, with their numbers.
+    /// Refuses for memory alone.
     pub fn entries(&self) -> Result<Vec<Entry>, NoMemory>
         ensures { IfOk result (λ entries. (s : Ordered) → ShowsInTurn self.now s → IsListing (whole self.now.net.tables s.net) entries.items) }
     {
@@ -152,7 +153,11 @@ impl OrderedNet {
     }
 
     /// Adds a copy of a packet, whose `inport` is the port, at that port's switch, and answers the packet's number,
-    /// counted from 0. `NoPort` where the tables have no such port. A refusal leaves the network as it was.
+    /// counted from 0. A refusal leaves the network as it was.
+    ///
+    /// # Errors
+    ///
+    /// `NoPort` exactly where the tables have no such port; `NoMemory` for want of memory.
     pub fn inject(&mut self, port: u32, packet: Packet) -> Result<u64, InjectFault>
         requires packet { length packet ≡ comps self.old.net.tables }
         requires port { slice_index packet 0 ≡ port }
@@ -169,8 +174,12 @@ impl OrderedNet {
 
     /// Makes a step of copy k, counted from 0. A copy before a visit makes it only where the rank has handled just the
     /// packets before its own, and then those after it that are in turn too: `Waited` where it can't make the first,
-    /// `Visited` where it can't make a later one at this switch. `NoCopy` where there is no such copy. A refusal leaves the
-    /// network as it was, but for room that its stores took.
+    /// `Visited` where it can't make a later one at this switch. A refusal leaves the network as it was, but for
+    /// room that its stores took.
+    ///
+    /// # Errors
+    ///
+    /// `NoCopy` exactly where there is no such copy; `NoMemory` for want of memory.
     pub fn step(&mut self, k: usize) -> Result<Turned, StepFault>
         ensures done { IfOk result (λ turned. IsDoneInTurn self.old (Step k) self.new (TellsTurn turned)) }
         ensures tables { self.new.net.tables ≡ self.old.net.tables }

@@ -24,7 +24,7 @@ pub struct Rounded {
 ///
 /// The switches whose numbers have the same remainder by `workers` form a job. Jobs run at once, on threads that are joined
 /// before the call returns, and own what their switches hold. A job without copies takes no thread, and where one job has
-/// them all none is started.
+/// them all none is started. Refuses for memory alone.
 pub fn round<R: Threads + Sync, G: Gate>(
     rt: &R,
     net: OrderedNet,

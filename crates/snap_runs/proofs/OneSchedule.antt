@@ -1,5 +1,5 @@
 -- The run that a schedule's lines tell is one.
-use Rattle.std.proofs.Common.{◌≡◌, ◌⊎◌, ⊎_elim, ℕ, suc, ◌+◌, ◌≤◌, Bool, List, [], ◌∷◌, ◌++◌, Some, length, refl, sym, ap, subst, ◌∙◌, inl, inr, arith}
+use Rattle.std.proofs.Common.{◌≡◌, ◌⊎◌, ⊎_elim, ℕ, suc, ◌+◌, ◌≤◌, Bool, List, [], ◌∷◌, ◌++◌, Ok, Err, Some, length, refl, sym, ap, subst, ◌∙◌, inl, inr, arith}
 use Rattle.std.specs.Prelude.{slice_index}
 use Rattle.std.specs.declared.option.Option.{Option}
 use Rattle.std.proofs.lemmas.Option.{slice_get_within}
@@ -7,11 +7,16 @@ use Rattle.snap_core.specs.Arrays.{zero_arrays}
 use Rattle.snap_rows.specs.declared.tables.Tables.{Tables}
 use Rattle.snap_rows.specs.Form.{IsInForm}
 use Rattle.snap_rows.specs.Network.{Net, Event, Inject, Step, Happening, step, Runs, done, on, start}
+use Rattle.snap_trace.specs.declared.fault.TraceFault.TheVariants as trace
+use Rattle.snap_trace.specs.Spelled.{ended, refused}
 use Rattle.snap_runs.specs.declared.frames.Frames.TheVariants.{Plain}
 use Rattle.snap_runs.specs.declared.event.Order.{Order}
 use Rattle.snap_runs.specs.declared.event.Order.TheVariants as order
+use Rattle.snap_runs.specs.declared.schedule.ScheduleFault.TheVariants.{Packets, Read, TooLong, Line, Write, NoMemory}
+use Rattle.snap_runs.specs.Laws.{RefusedLinesAreTold}
+use Rattle.snap_runs.specs.Plain.{spelled_for}
 use Rattle.snap_runs.specs.Reports.{IsRunReport}
-use Rattle.snap_runs.specs.Schedules.{CantBeDone, IsScheduleReport, Obeys, RefusesLine, Spells, StopsAt, nothing, skips, injects, steps, order_by}
+use Rattle.snap_runs.specs.Schedules.{CantBeDone, IsScheduleReport, Obeys, RefusesLine, Spells, StopsAt, nothing, skips, injects, steps, lines_of, order_by}
 use Rattle.snap_runs.proofs.OneReport.{reports_one}
 use Rattle.snap_runs.proofs.OneRun.{leads_one}
 
@@ -145,3 +150,17 @@ reported_or_refused t form hops ks lines text number x y = or_refused t form ks 
 
 pub reported_one : (t : Tables) → IsInForm t → (hops : Bool) (ks lines : List (List ℕ)) (a b : List ℕ) → IsScheduleReport t hops ks lines a → IsScheduleReport t hops ks lines b → a ≡ b
 reported_one t form hops ks lines a b x y = one_report t form ks lines hops a b x y
+
+pub refused_lines_told : RefusedLinesAreTold
+refused_lines_told t form hops file schedule (Ok u) old new w number r = reported_or_refused t form hops (spelled_for t file).packets (lines_of schedule) w.0 number w.1.1 r.1
+refused_lines_told t form hops file schedule (Err Write) old new w number r = reported_or_refused t form hops (spelled_for t file).packets (lines_of schedule) w.0 number w.1.1 r.1
+refused_lines_told t form hops file schedule (Err (Line line)) old new w number r = refused_one t form (spelled_for t file).packets (lines_of schedule) line number w.1.1 r.1
+refused_lines_told t form hops file schedule (Err TooLong) old new w number r = let long = w.2 in let few = r.0.1 in omega (arith, long, few)
+refused_lines_told t form hops file schedule (Err (Packets trace.Read)) old new w number r = inl refl
+refused_lines_told t form hops file schedule (Err (Packets trace.NoMemory)) old new w number r = inr refl
+refused_lines_told t form hops file schedule (Err (Packets (trace.Limit which count))) old new w number r = absurd (let apart : refused (trace.Limit which count) ≡ ended = sym w.1 ∙ r.0.0 in cc)
+refused_lines_told t form hops file schedule (Err (Packets (trace.Packets line))) old new w number r = absurd (let apart : refused (trace.Packets line) ≡ ended = sym w.1 ∙ r.0.0 in cc)
+refused_lines_told t form hops file schedule (Err (Packets trace.Write)) old new w number r = absurd w.1
+refused_lines_told t form hops file schedule (Err (Packets (trace.Undefined packet))) old new w number r = absurd w.1
+refused_lines_told t form hops file schedule (Err Read) old new w number r = tt
+refused_lines_told t form hops file schedule (Err NoMemory) old new w number r = tt

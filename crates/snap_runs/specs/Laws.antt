@@ -1,5 +1,6 @@
 -- Laws of runs over packets, and of their reports.
-use Rattle.std.specs.Prelude.{◌≡◌, ℕ, Bool, false, List, []}
+use Rattle.std.specs.Prelude.{◌≡◌, ℕ, Bool, false, List, [], Result}
+use Rattle.std.specs.declared.option.Option.{Option}
 use Rattle.std.specs.List.{All}
 use Rattle.snap_core.specs.Arrays.{Arrays, zero_arrays}
 use Rattle.snap_core.specs.Fields.{count}
@@ -9,9 +10,10 @@ use Rattle.snap_rows.specs.Form.{IsInForm}
 use Rattle.snap_rows.specs.Network.{Event, Happening, IsPlainRun, Net, RunsCalmly, packets_of, start}
 use Rattle.snap_trace.specs.Spelled.{ended, spelled}
 use Rattle.snap_runs.specs.declared.frames.Frames.{Frames}
+use Rattle.snap_runs.specs.declared.schedule.ScheduleFault.{ScheduleFault}
 use Rattle.snap_runs.specs.Plain.{ArePlainBlocks, IsPlainReport, entering, spelled_for}
 use Rattle.snap_runs.specs.Reports.{AreBlocks, IsRunReport, IsRunReportBy}
-use Rattle.snap_runs.specs.Schedules.{IsCalm, IsScheduleReport, Obeys, RefusesLine, Spells}
+use Rattle.snap_runs.specs.Schedules.{IsCalm, IsScheduleReport, Obeys, RefusesLine, RefusesScheduleLine, Spells, TellsOfLine, WritesSchedule}
 
 -- the plain run of packets is one: the same events, the same end and the same happenings
 abbrev pub PlainRunsAreOne : Type 0
@@ -52,6 +54,11 @@ RefusedLinesAreOne = (t : Tables) → IsInForm t → (ks lines : List (List ℕ)
 
 abbrev pub ReportedOrRefused : Type 0
 ReportedOrRefused = (t : Tables) → IsInForm t → (hops : Bool) (ks lines : List (List ℕ)) (text : List ℕ) (number : ℕ) → IsScheduleReport t hops ks lines text → RefusesLine t ks lines number → ⊥
+
+-- and a call that writes the report of a schedule tells of the line that is refused, and of no other
+abbrev pub RefusedLinesAreTold : Type 0
+RefusedLinesAreTold = (t : Tables) → IsInForm t → (hops : Bool) (file schedule : List ℕ) (result : Result (Unit {0}) ScheduleFault) (old new : Option (List ℕ)) → WritesSchedule t hops file schedule result old new
+    → (number : ℕ) → RefusesScheduleLine t file schedule number → TellsOfLine result number
 
 -- the run that a calm schedule tells is calm
 abbrev pub CalmSchedulesRunCalmly : Type 0

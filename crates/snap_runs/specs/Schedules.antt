@@ -147,3 +147,13 @@ WritesSchedule t hops file schedule (Err Read) old new = (new ≡ old) × IsRead
 WritesSchedule t hops file schedule (Err NoMemory) old new = new ≡ old
 WritesSchedule t hops file schedule (Err TooLong) old new = (new ≡ old) × IsReadWhole t file × (67108864 < length schedule)
 WritesSchedule t hops file schedule (Err (Line line)) old new = (new ≡ old) × RefusesScheduleLine t file schedule line
+
+-- a call tells of this line, unless a device failed or memory was short
+abbrev pub TellsOfLine : Result (Unit {0}) ScheduleFault → ℕ → Type 0
+TellsOfLine (Ok u) number = ⊥
+TellsOfLine (Err (Line line)) number = line ≡ number
+TellsOfLine (Err (Packets fault)) number = (fault ≡ trace.Read) ⊎ (fault ≡ trace.NoMemory)
+TellsOfLine (Err Read) number = Unit {0}
+TellsOfLine (Err NoMemory) number = Unit {0}
+TellsOfLine (Err TooLong) number = ⊥
+TellsOfLine (Err Write) number = ⊥

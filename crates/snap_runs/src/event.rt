@@ -48,7 +48,7 @@ fn step_order(word: &[u8], figures: &[u8], more: bool) -> Option<Order>
     }
 }
 
-/// The first line of a text, and the text behind it.
+/// The first line of a text, and the text behind it. None where no text is left.
 pub fn next_line(text: &[u8]) -> Option<(&[u8], &[u8])>
     ensures line { MatchOption result (lines_of text.now ≡ []) (λ pair. lines_of text.now ≡ pair.0.now ∷ lines_of pair.1.now) }
     ensures shorter { IfSome result (λ pair. length pair.1.now < length text.now) }

@@ -1,6 +1,6 @@
 //! A reader of a packets file, line by line.
 
-ghost use Rattle.std.specs.Prelude.{◌≡◌, ◌≤◌, ◌+◌, ℕ, List, IfOk, IfSome, IsErrOf, IsTrue};
+ghost use Rattle.std.specs.Prelude.{◌≡◌, ◌↔◌, ◌≤◌, ◌+◌, ℕ, List, IfOk, IfSome, IsErrOf, IsTrue};
 ghost use Rattle.std.specs.declared.option.Option.{Option as Maybe};
 ghost use Rattle.snap_io.specs.LineReaders.{lines_limit, lines_most};
 
@@ -27,11 +27,11 @@ impl PacketLines {
     ghost use Rattle.snap_core.specs.Fields.{count};
     ghost use Rattle.snap_io.specs.Causes.{NoneFell, Rose};
     ghost use Rattle.snap_io.specs.Files.{Files, file_of};
-    ghost use Rattle.snap_io.specs.LineReaders.{AgreesWith, lines_given, lines_name};
+    ghost use Rattle.snap_io.specs.LineReaders.{AgreesWith, HoldsLine, lines_given, lines_name};
     ghost use Rattle.snap_rows.specs.declared.tables.Tables.{Tables};
     ghost use Rattle.snap_runs.specs.Reading.{GivesLine, GivesNext, GoesOn, HasLine, ReadsNext, next_for, refused_behind};
 
-    /// A reader of the file with this name, before its first line.
+    /// A reader of the file with this name, before its first line. Refuses for memory alone.
     pub fn new(alloc: Global, name: &[u8]) -> Result<PacketLines, NoMemory>
         ensures name { IfOk result (λ reader. lines_name reader.lines ≡ name.now) }
         ensures given { IfOk result (λ reader. lines_given reader.lines ≡ 0) }
@@ -50,8 +50,10 @@ impl PacketLines {
         self.read
     }
 
-    /// Whether the next line is at hand, so that no read is made for it.
-    pub fn whole(&self) -> bool {
+    /// Whether the bytes read and not yet given hold an LF. Where they do, `next` makes no read.
+    pub fn whole(&self) -> bool
+        ensures { IsTrue result ↔ HoldsLine self.now.lines }
+    {
         self.lines.whole()
     }
 

@@ -170,7 +170,7 @@ impl Play {
     }
 }
 
-/// Puts the blocks of packets, as their tallies tell them.
+/// Puts the blocks of packets, as their tallies tell them. Refuses for memory alone.
 pub fn put_blocks(
     out: &mut Vec<u8>,
     fields: &Fields,

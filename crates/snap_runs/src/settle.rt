@@ -15,7 +15,7 @@ use snap_net::happened::Moved;
 use snap_net::net::Net;
 
 /// Makes steps of the first copy until none is in flight, and notes what happened in the place of what the tally held. With
-/// `hops` a line tells each link that a copy crosses, by a frame of this kind.
+/// `hops` a line tells each link that a copy crosses, by a frame of this kind. Refuses for memory alone.
 pub fn settle(net: &mut Net, hops: bool, frames: Frames, tally: &mut Tally) -> Result<(), NoMemory>
     ensures settled { OnOk result (HasSettled frames hops net.old net.new tally.new) }
     ensures long { OnOk result (All (λ k. length k ≡ comps net.old.tables) tally.new.delivered.items) }

@@ -14,7 +14,7 @@ use snap_trace::report::put_place;
 // For the lines of so many places room is taken together.
 const TOGETHER: usize = 64;
 
-/// Puts the end of a network's report behind the text.
+/// Puts the end of a network's report behind the text. Refuses for memory alone.
 pub fn put_end(out: &mut Vec<u8>, net: &Net) -> Result<(), NoMemory>
     ensures { OnOk result (PutsEnd net.now out.old.items out.new.items) }
 {

@@ -78,7 +78,7 @@ impl Tally {
         self.hops.clear();
     }
 
-    /// Notes a step.
+    /// Notes a step. Refuses for memory alone.
     pub fn note(&mut self, moved: Moved) -> Result<(), NoMemory>
         ensures delivered { OnOk result (self.new.delivered.items ≡ self.old.delivered.items ++ delivered_by moved) }
         ensures lost { OnOk result (self.new.lost ≡ self.old.lost + lost_by moved) }
@@ -91,7 +91,7 @@ impl Tally {
         }
     }
 
-    /// Notes what became of a copy, and of those that it was forked into.
+    /// Notes what became of a copy, and of those that it was forked into. Refuses for memory alone.
     pub fn note_landed(&mut self, landed: Landed) -> Result<(), NoMemory>
         ensures delivered { OnOk result (self.new.delivered.items ≡ self.old.delivered.items ++ delivered_in landed) }
         ensures lost { OnOk result (self.new.lost ≡ self.old.lost + lost_in landed) }
@@ -106,7 +106,7 @@ impl Tally {
         }
     }
 
-    /// Notes a step, with the line of the link that the copy crosses.
+    /// Notes a step, with the line of the link that the copy crosses. Refuses for memory alone.
     pub fn note_hop(
         &mut self,
         frames: Frames,
@@ -227,6 +227,7 @@ impl Tally {
     }
 
     /// Puts the block of the packet with this number, counted from 1. Its packets are sorted for that.
+    /// Refuses for memory alone.
     pub fn put_block(
         &mut self,
         out: &mut Vec<u8>,

@@ -47,7 +47,7 @@ pub struct Tracer {
 
 impl Tracer {
     /// Before the first packet. With `hops` a line of the report tells each link that a copy crosses, by a frame of this
-    /// kind.
+    /// kind. Refuses for memory alone.
     pub fn new(alloc: Global, tables: Valid, hops: bool, frames: Frames) -> Result<Tracer, NoMemory>
         ensures tables { IfOk result (λ tracer. tracer.net.tables ≡ tables) }
         ensures hops { IfOk result (λ tracer. tracer.hops ≡ hops) }
@@ -162,6 +162,10 @@ impl Tracer {
     }
 
     /// Writes what waits where a line has to be read, and where much waits.
+    ///
+    /// # Errors
+    ///
+    /// `WriteFailed` where the sink failed; some first bytes went out then, and no others.
     pub fn write_before_read<K: Sink>(
         &mut self,
         reader: &PacketLines,
@@ -177,6 +181,10 @@ impl Tracer {
     }
 
     /// Writes what waits.
+    ///
+    /// # Errors
+    ///
+    /// As `write_before_read`.
     pub fn flush<K: Sink>(&mut self, sink: &mut K) -> Result<(), WriteFailed>
         ensures puts { Puts (K.taken sink.old) (K.taken sink.new) self.old.text.items [] result self.new.text.items }
         ensures cause { HasCause (K.faults sink.old) (K.faults sink.new) result }
@@ -185,7 +193,7 @@ impl Tracer {
         flush(&mut self.text, sink)
     }
 
-    /// Puts the end of the report: the places that aren't 0.
+    /// Puts the end of the report: the places that aren't 0. Refuses for memory alone.
     pub fn put_end(&mut self) -> Result<(), NoMemory>
         ensures { OnOk result (PutsEnd self.old.net self.old.text.items self.new.text.items) }
     {
@@ -193,6 +201,7 @@ impl Tracer {
     }
 
     /// Puts these tables in the place of the old ones, with the same number of packets taken and the same whole store.
+    /// Refuses for memory alone.
     pub fn change(&mut self, tables: Valid) -> Result<(), NoMemory>
         requires { array_count tables ≡ array_count self.old.net.tables }
         ensures tables { OnOk result (self.new.net.tables ≡ tables) }
