@@ -1,6 +1,6 @@
 //! One of two diagrams, by a predicate.
 
-ghost use Rattle.std.specs.Prelude.{◌≡◌, ◌<◌, ℕ, List, length, IfOk, OnOk, if◌then◌else◌};
+ghost use Rattle.std.specs.Prelude.{◌≡◌, ◌<◌, ℕ, List, length, IfOk, IsTrue, OnOk, if◌then◌else◌};
 ghost use Rattle.snap_arena.specs.Arena.{Grew};
 ghost use Rattle.snap_arena.specs.Memos.{Remembers};
 ghost use Rattle.snap_fdd.specs.Contexts.{Under};
@@ -35,6 +35,20 @@ fn leaf_passes(nodes: &Nodes<Leaf>, x: u64) -> bool
         Node::Leaf(leaf) => match leaf {
             Leaf::Race => false,
             Leaf::Go(go) => !go.outs.list().is_empty(),
+        },
+    }
+}
+
+// Whether a leaf of a predicate reads nothing, so that it adds nothing to what is chosen by it.
+fn reads_nothing(nodes: &Nodes<Leaf>, x: u64) -> bool
+    requires { x < length nodes.now }
+    ensures { IsTrue result → (l : Leaf) → diagram nodes.now x ≡ Only l → (y : Leaf) → logged_leaf l y ≡ y }
+{
+    match look(nodes, x) {
+        Node::Ask { .. } => false,
+        Node::Leaf(leaf) => match leaf {
+            Leaf::Race => false,
+            Leaf::Go(go) => go.reads == 0,
         },
     }
 }
@@ -82,11 +96,12 @@ fn chosen_anew(
 {
     match part_of(nodes, x)? {
         Part::Whole => {
-            if leaf_passes(nodes, x) {
-                combine(nodes, groups, ctx, How::Logged, x, p)
-            } else {
-                combine(nodes, groups, ctx, How::Logged, x, q)
+            let branch = if leaf_passes(nodes, x) { p } else { q };
+            if reads_nothing(nodes, x) {
+                // (to go down the branch here would make chains of choices quadratic)
+                return Ok(branch);
             }
+            combine(nodes, groups, ctx, How::Logged, x, branch)
         }
         Part::Split { test, yes, no } => {
             let y = chosen(nodes, groups, ctx, memo, yes, p, q)?;

@@ -40,11 +40,8 @@ chosen_anew-returns-in_ok-n-in-Split-clause-chosen t c =
     IfOk-weaker c.pick.result _ _ (λ d k. chosen_both c.args.groups.now.ranks (sizes c.args.groups.now c.args.ctx.now) c.in-Split.test (diagram c.args.nodes.now c.args.x) (diagram c.args.nodes.now c.in-Split.yes) (diagram c.args.nodes.now c.in-Split.no) (diagram c.args.nodes.now c.args.p) (diagram c.args.nodes.now c.args.q)
     (diagram c.chosen.new.nodes c.in_ok-y-in-Split.y) (diagram c.chosen-in-Split.new.nodes c.in_ok-n-in-Split.n) (diagram c.pick.new.nodes d) part.0 c.in_ok-y-in-Split.ensures.chosen cn (rw (sym ky) k)) c.pick.ensures.pick
 
-pub chosen_anew-returns-then-leaf_passes-clause-memo : goal.chosen_anew-returns-then-leaf_passes-clause-memo
-chosen_anew-returns-then-leaf_passes-clause-memo t c = IfOk-weaker c.combine.result _ _ (λ d n. decided_memo c.args.groups.now.ranks (sizes c.args.groups.now c.args.ctx.now) c.args.nodes.now c.combine.new.nodes c.args.memo.now c.combine.ensures.grew c.requires.known) c.combine.ensures.number
-
-pub chosen_anew-returns-else-leaf_passes-clause-memo : goal.chosen_anew-returns-else-leaf_passes-clause-memo
-chosen_anew-returns-else-leaf_passes-clause-memo t c = IfOk-weaker c.combine-else-leaf_passes.result _ _ (λ d n. decided_memo c.args.groups.now.ranks (sizes c.args.groups.now c.args.ctx.now) c.args.nodes.now c.combine-else-leaf_passes.new.nodes c.args.memo.now c.combine-else-leaf_passes.ensures.grew c.requires.known) c.combine-else-leaf_passes.ensures.number
+pub chosen_anew-returns-else-reads_nothing-clause-memo : goal.chosen_anew-returns-else-reads_nothing-clause-memo
+chosen_anew-returns-else-reads_nothing-clause-memo t c = IfOk-weaker c.combine.result _ _ (λ d n. decided_memo c.args.groups.now.ranks (sizes c.args.groups.now c.args.ctx.now) c.args.nodes.now c.combine.new.nodes c.args.memo.now c.combine.ensures.grew c.requires.known) c.combine.ensures.number
 
 pub chosen_anew-returns-in_ok-n-in-Split-clause-memo : goal.chosen_anew-returns-in_ok-n-in-Split-clause-memo
 chosen_anew-returns-in_ok-n-in-Split-clause-memo t c = IfOk-weaker c.pick.result _ _ (λ d n. decided_memo c.args.groups.now.ranks (sizes c.args.groups.now c.args.ctx.now) c.chosen-in-Split.new.nodes c.pick.new.nodes c.chosen-in-Split.new.memo c.pick.ensures.grew c.in_ok-n-in-Split.ensures.memo) c.pick.ensures.number
