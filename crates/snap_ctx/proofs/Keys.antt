@@ -37,13 +37,19 @@ same_normal (Differ a b) (Differ c d) r s e =
 same_normal (Differ a b) (Held v ix t y) r s e = absurd (grind arith)
 same_normal (Held v ix t y) (Differ a b) r s e = absurd (grind arith)
 same_normal (Held v ix t y) (Held w iy u z) r s e =
-    let inner : (spot_key ix ++ term_key t) ++ r ≡ (spot_key iy ++ term_key u) ++ s = grind arith in
+    let inner : (spot_key ix ++ (term_key t ++ cond y 1 0 ∷ [])) ++ r ≡ (spot_key iy ++ (term_key u ++ cond z 1 0 ∷ [])) ++ s = grind arith in
     let var : v ≡ w = grind arith in
+    let i = same_spot ix iy ((term_key t ++ cond y 1 0 ∷ []) ++ r) ((term_key u ++ cond z 1 0 ∷ []) ++ s) (sym (append_assoc (spot_key ix) (term_key t ++ cond y 1 0 ∷ []) r) ∙ (inner ∙ append_assoc (spot_key iy) (term_key u ++ cond z 1 0 ∷ []) s)) in
+    let j = same_term t u (cond y 1 0 ∷ r) (cond z 1 0 ∷ s) (sym (append_assoc (term_key t) (cond y 1 0 ∷ []) r) ∙ (i.1 ∙ append_assoc (term_key u) (cond z 1 0 ∷ []) s)) in
+    let k = j.1 in
     let flags : ◌≡◌ {A = ℕ} (cond y 1 0) (cond z 1 0) = grind arith in
     let flag = same_flag y z flags in
-    let i = same_spot ix iy (term_key t ++ r) (term_key u ++ s) (sym (append_assoc (spot_key ix) (term_key t) r) ∙ (inner ∙ append_assoc (spot_key iy) (term_key u) s)) in
-    let j = same_term t u r s i.1 in
-    ((λ l. Held (var l) (i.0 l) (j.0 l) (flag l)), j.1)
+    let rest : r ≡ s = grind arith in
+    ((λ l. Held (var l) (i.0 l) (j.0 l) (flag l)), rest)
+
+-- one list of numbers is of one fact
+pub same_word : (a b : Normal) → normal_key a ≡ normal_key b → a ≡ b
+same_word a b e = (same_normal a b [] [] (ap (λ (xs : List ℕ). xs ++ []) e)).0
 
 pub same_normals : (xs ys : List Normal) → normals_key xs ≡ normals_key ys → xs ≡ ys
 same_normals [] [] e = refl

@@ -3,9 +3,8 @@ use Rattle.std.proofs.Common.{◌≡◌, ◌≢◌, ◌⊎◌, inl, inr, ℕ, �
 use Rattle.std.specs.Prelude.{◌==◌, All, slice_index}
 use Rattle.std.specs.List.{AllByRecursion}
 use Rattle.std.proofs.lemmas.Bool.{eqb-true, eqb-false, cond-true, cond-false, and_parts, cases_Bool, both_ways}
-use Rattle.std.proofs.lemmas.List.{length-map}
-use Rattle.std.proofs.lemmas.List.Elements.{All-append, All-from_recursion, recursion_from_All}
-use Rattle.snap_core.specs.declared.place.Place.{Place}
+use Rattle.std.proofs.lemmas.List.{length-map, get_or_default}
+use Rattle.std.proofs.lemmas.List.Elements.{All-append, All-contains, All-from_recursion, recursion_from_All}
 use Rattle.snap_core.specs.declared.policy.Atom.{Atom}
 use Rattle.snap_core.specs.declared.policy.Atom.TheVariants.{Num as Number, Comp}
 use Rattle.snap_core.specs.declared.policy.Term.{Term}
@@ -18,13 +17,13 @@ use Rattle.snap_core.specs.Variables.{has}
 use Rattle.snap_core.specs.Inputs.{IsPacket}
 use Rattle.snap_ctx.specs.declared.fact.Fact.{Fact}
 use Rattle.snap_ctx.specs.Meets.{Meets, IsMet}
-use Rattle.snap_ctx.specs.Classes.{wrap, shift, class_of, normal, atom_class, IsTerm, IsAtom, IsTest, IsClass, Fits, is_state, var_of, index_of, left_of, right_of, Says, SamePlace, FactRule, PairRule, Rules}
-use Rattle.snap_ctx.specs.Known.{IsAmong, AtomOver, TermOver, TestOver, Normal, Differ, Held, within, are_within, outside, are_outside, is_number, are_numbers, spot, tied, loose, apart_of, held_of, known, with_some, all_known, normals_key, classes_key, IsRooted, IsAtSpot, IsSettled, IsKnown}
+use Rattle.snap_ctx.specs.Classes.{shift, class_of, normal, atom_class, IsTerm, IsAtom, IsTest, Fits, is_state, var_of, index_of, left_of, right_of, Says, SamePlace, FactRule, PairRule, Rules}
+use Rattle.snap_ctx.specs.Known.{IsAmong, AtomOver, TermOver, TestOver, Normal, Differ, Held, within, are_within, outside, are_outside, is_number, are_numbers, spot, tied, loose, apart_of, held_of, known, with_some, all_known, normals_key, AreSame, IsRooted, IsKnown}
 use Rattle.snap_ctx.specs.View.{View, IsContext}
 use Rattle.snap_ctx.proofs.Algebra.{normal-value}
 use Rattle.snap_ctx.proofs.Keys.{same_normals, same_classes}
 use Rattle.snap_ctx.proofs.Model.{model}
-use Rattle.snap_ctx.proofs.Pinned.{pinned, pinned_within, pinned_outside, class_of-pinned, normal-pinned, atom-pinned, index-pinned, index_within, index_outside, all_numbers, classes_pinned, still_apart}
+use Rattle.snap_ctx.proofs.Pinned.{pinned, pinned_within, pinned_outside, class_of-pinned, normal-pinned, index-pinned, index_within, index_outside, all_numbers, classes_pinned, still_apart}
 use Rattle.snap_ctx.proofs.Places.{passes-state}
 use Rattle.snap_ctx.proofs.Roots.{left-term, right-term, index-atoms}
 use Rattle.snap_ctx.proofs.Sound.{index-values, alone_says, passes-alone}
@@ -330,16 +329,23 @@ module _ (w : View) (comps arrays : ℕ) (key : List ℕ) (is : IsKnown w comps 
     met_there : length (w.facts ++ path) ≤ 2 ^ 32 → IsMet (length w.classes) (w.facts ++ path)
     met_there short = subst (λ (n : ℕ). IsMet n (w.facts ++ path)) (length-map w.classes (pinned is.roots k)) (model (w.facts ++ path) new rules (rw length-map ctx.few) short)
 
+-- what holds of each fact of a list holds of each of one with the same facts
+all_same : (P : Normal → Type 0) (ns os : List Normal) → AreSame ns os → AllByRecursion P os → AllByRecursion P ns
+all_same P ns os same h = recursion_from_All P ns (λ i d l. All-contains P os (get_or ns i d) (All-from_recursion P os h) ((same (get_or ns i d)).0 (i, l, get_or_default ns i (get_or ns i d) d l)))
+
 -- the law: beside contexts of which the same is known, the same facts about the components and arrays are met
 pub known_alike : (v w : View) (comps arrays : ℕ) (key : List ℕ) → IsContext v → IsContext w → length v.classes ≡ length w.classes → IsKnown v comps arrays key → IsKnown w comps arrays key
     → (m : Arrays) (k : List ℕ) → IsPacket (length v.classes) k → Meets v.facts m k → (path : List Fact) → All (λ f. IsTest (length w.classes) f.test) path → All (λ f. TestOver comps arrays f.test) path → Meets path m k
     → length (w.facts ++ path) ≤ 2 ^ 32 → IsMet (length w.classes) (w.facts ++ path)
 known_alike v w comps arrays key cv cw count kv kw m k p facts path tests over met short =
-    let both = same_classes comps 0 v.classes w.classes (normals_key (all_known v.classes kv.roots kv.settled v.facts)) (normals_key (all_known w.classes kw.roots kw.settled w.facts)) count (sym kv.is ∙ kw.is) in
-    let normals = same_normals (all_known v.classes kv.roots kv.settled v.facts) (all_known w.classes kw.roots kw.settled w.facts) both.1 in
+    let both = same_classes comps 0 v.classes w.classes (normals_key kv.told) (normals_key kw.told) count (sym kv.is ∙ kw.is) in
+    let normals = same_normals kv.told kw.told both.1 in
     let told = cv.told m k p facts in
-    let said : AllByRecursion (SaysSo m k) (all_known v.classes kv.roots kv.settled v.facts)
+    let all_of_v : AllByRecursion (SaysSo m k) (all_known v.classes kv.roots kv.settled v.facts)
     = all_said v.classes kv.roots kv.settled m k v.facts (recursion_from_All (λ f. IsTest (length v.classes) f.test) v.facts cv.rules.tests) p told (recursion_from_All (λ f. passes f.test m k ≡ f.yes) v.facts facts) in
-    met_there w comps arrays key kw cw m k (record { long = p.long ∙ count; numbers = p.numbers }) (subst (λ (ns : List Normal). AllByRecursion (SaysSo m k) ns) normals said)
+    let of_key : AllByRecursion (SaysSo m k) kw.told = subst (λ (ns : List Normal). AllByRecursion (SaysSo m k) ns) normals (all_same (SaysSo m k) kv.told (all_known v.classes kv.roots kv.settled v.facts) kv.same all_of_v) in
+    let said : AllByRecursion (SaysSo m k) (all_known w.classes kw.roots kw.settled w.facts)
+    = all_same (SaysSo m k) (all_known w.classes kw.roots kw.settled w.facts) kw.told (λ n. ((kw.same n).1, (kw.same n).0)) of_key in
+    met_there w comps arrays key kw cw m k (record { long = p.long ∙ count; numbers = p.numbers }) said
     (λ c l h. ap (λ t. term_value t k) (sym (both.0 c (Plus c 0) (rw count l) (subst (λ (n : ℕ). has comps n ≡ true) (let e : c ≡ 0 + c = omega arith in e) h))) ∙ told c (rw count l))
     path tests over met short

@@ -17,4 +17,5 @@ pub mod Places
 pub mod Roots
 pub mod Sound
 pub mod Tying
+pub mod Words
 pub mod Wrap

@@ -1,6 +1,7 @@
 -- What is known about some components and arrays: the classes of the components, and the facts that bear on them.
-use Rattle.std.specs.Prelude.{◌≡◌, ◌⊎◌, ℕ, ◌+◌, ◌<◌, ◌&&◌, not, Bool, true, false, if◌then◌else◌, List, [], ◌∷◌, ◌++◌, length, map, Option, None, Some, All}
-use Rattle.std.specs.List.{AllByRecursion}
+use Rattle.std.specs.Prelude.{◌≡◌, ◌⊎◌, ◌↔◌, ℕ, ◌+◌, ◌<◌, ◌&&◌, not, Bool, true, false, if◌then◌else◌, List, [], ◌∷◌, ◌++◌, length, map, Option, None, Some, All}
+use Rattle.std.specs.Global.{Vec}
+use Rattle.std.specs.List.{AllByRecursion, Contains}
 use Rattle.snap_core.specs.declared.policy.Atom.{Atom}
 use Rattle.snap_core.specs.declared.policy.Atom.TheVariants.{Num as Number, Comp}
 use Rattle.snap_core.specs.declared.policy.Term.{Term}
@@ -104,7 +105,7 @@ spot_key (t ∷ ts) = term_key t ++ spot_key ts
 
 abbrev pub normal_key : Normal → List ℕ
 normal_key (Differ a b) = 0 ∷ term_key a ++ term_key b
-normal_key (Held v ix t y) = 1 ∷ v ∷ (if y then 1 else 0) ∷ spot_key ix ++ term_key t
+normal_key (Held v ix t y) = 1 ∷ v ∷ spot_key ix ++ (term_key t ++ (if y then 1 else 0) ∷ [])
 
 abbrev pub some_key : Option Normal → List ℕ
 some_key None = []
@@ -113,6 +114,19 @@ some_key (Some n) = normal_key n
 abbrev pub normals_key : List Normal → List ℕ
 normals_key [] = []
 normals_key (n ∷ ns) = normal_key n ++ normals_key ns
+
+-- the words of some fact
+abbrev pub IsWord : Vec ℕ → Type 0
+IsWord w = (n : Normal) × (w.items ≡ normal_key n)
+
+-- words that are those of these facts, in some order, once or more often
+pub record HasWords (ws : List (Vec ℕ)) (ns : List Normal) : Type 0 where
+  pub each : (n : Normal) → Contains ns n → (w : Vec ℕ) × Contains ws w × (w.items ≡ normal_key n)
+  pub only : (w : Vec ℕ) → Contains ws w → (n : Normal) × Contains ns n × (w.items ≡ normal_key n)
+
+-- two lists of facts are one set
+abbrev pub AreSame : List Normal → List Normal → Type 0
+AreSame ns os = (n : Normal) → Contains ns n ↔ Contains os n
 
 -- the classes of the components of a set, from the component i on
 abbrev pub classes_key : ℕ → ℕ → List Term → List ℕ
@@ -145,4 +159,6 @@ pub record IsKnown (v : View) (comps arrays : ℕ) (key : List ℕ) : Type 0 whe
   pub classes : (c : ℕ) → c < length v.classes → has comps c ≡ true → within roots (class_of v.classes c) ≡ true
   pub facts : All (IsRooted v.classes roots settled) v.facts
   pub calm : (a : ℕ) → has settled a ≡ true → (a < 64) × (has arrays a ≡ false) × IsSettled v.classes v.facts a
-  pub is : key ≡ classes_key comps 0 v.classes ++ normals_key (all_known v.classes roots settled v.facts)
+  pub told : List Normal
+  pub same : AreSame told (all_known v.classes roots settled v.facts)
+  pub is : key ≡ classes_key comps 0 v.classes ++ normals_key told

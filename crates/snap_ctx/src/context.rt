@@ -85,6 +85,7 @@ impl Context {
         ensures few { length self.now.facts < 2 ^ 32 }
         ensures met { IsMet (length self.now.classes) self.now.facts }
         ensures tests { All (λ f. IsTest (length self.now.classes) f.test) self.now.facts }
+        ensures context { IsContext self.now }
     {
         &self.facts
     }

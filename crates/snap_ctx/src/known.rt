@@ -1,8 +1,8 @@
 //! What a context knows about some components and arrays, as a list of numbers.
 
-ghost use Rattle.std.specs.Prelude.{◌≡◌, ◌≤◌, ◌∷◌, ◌++◌, ℕ, All, IfOk, IfSome, List, OnOk, length, map};
+ghost use Rattle.std.specs.Prelude.{◌≡◌, ◌≤◌, ◌∷◌, ◌++◌, ℕ, All, IfOk, IfSome, IsTrue, List, OnOk, length, map};
 ghost use Rattle.snap_ctx.specs.Classes.{atom_class, normal, IsAtom, IsTerm, IsTest};
-ghost use Rattle.snap_ctx.specs.Known.{all_known, apart_of, classes_key, held_of, known, normals_key, some_key, spot_key, term_key, IsKnown};
+ghost use Rattle.snap_ctx.specs.Known.{all_known, apart_of, classes_key, held_of, known, normals_key, some_key, spot_key, term_key, HasWords, IsKnown, IsWord, Normal};
 
 use crate::classes::{atom_at, class_at, normal_at};
 use crate::fact::Fact;
@@ -60,9 +60,9 @@ fn push_held(
     if is_tied(classes, roots, index, value) {
         key.push(1)?;
         key.push(var as u64)?;
-        key.push(yes as u64)?;
         push_spot(key, classes, index)?;
         push_term(key, normal_at(classes, value))?;
+        key.push(yes as u64)?;
     }
     Ok(())
 }
@@ -132,19 +132,76 @@ fn push_fact(
     }
 }
 
-// Adds the facts whose roots are in a set, by the classes, without those on settled arrays.
+// Whether the words from the number `next` on come behind those from `last` to `next`, or there are none.
+fn rises(key: &[u64], last: usize, next: usize) -> bool {
+    match (key.get(last..next), key.get(next..)) {
+        (Some(before), Some(behind)) => behind.is_empty() || before < behind,
+        _ => false,
+    }
+}
+
+// Adds the facts whose roots are in a set, by the classes, without those on settled arrays. Whether each
+// came behind the one before.
 fn push_facts(
     key: &mut Vec<u64>,
     classes: &[Term],
     roots: u64,
     settled: u64,
     facts: &[Fact],
-) -> Result<(), NoMemory>
+) -> Result<bool, NoMemory>
     requires { All (λ f. IsTest (length classes.now) f.test) facts.now }
     ensures { OnOk result (key.new.items ≡ key.old.items ++ normals_key (all_known classes.now roots settled facts.now)) }
 {
+    let mut rising = true;
+    let mut last = key.len();
     for fact in facts {
+        let next = key.len();
         push_fact(key, classes, roots, settled, fact)?;
+        rising = rising && rises(key, last, next);
+        if key.len() > next {
+            last = next;
+        }
+    }
+    Ok(rising)
+}
+
+// The words of each fact whose roots are in a set, by the classes, without those on settled arrays.
+fn words_of(
+    alloc: Global,
+    classes: &[Term],
+    roots: u64,
+    settled: u64,
+    facts: &[Fact],
+) -> Result<Vec<Vec<u64>>, NoMemory>
+    requires { All (λ f. IsTest (length classes.now) f.test) facts.now }
+    ensures { IfOk result (λ words. HasWords words.items (all_known classes.now roots settled facts.now)) }
+{
+    let mut words = Vec::new(alloc);
+    for fact in facts {
+        let mut word = Vec::new(alloc);
+        push_fact(&mut word, classes, roots, settled, fact)?;
+        if word.len() > 0 {
+            words.push(word)?;
+        }
+    }
+    Ok(words)
+}
+
+fn same_words(a: &[u64], b: &[u64]) -> bool
+    ensures { IsTrue result → a.now ≡ b.now }
+{
+    a == b
+}
+
+// Adds words, but those that are equal to the ones before.
+fn push_words(key: &mut Vec<u64>, words: &[Vec<u64>]) -> Result<(), NoMemory>
+    requires { All IsWord words.now }
+    ensures { OnOk result ((ns : List Normal) × HasWords words.now ns × (key.new.items ≡ key.old.items ++ normals_key ns)) }
+{
+    for i in 0..words.len() {
+        if i == 0 || !same_words(&words[i], &words[i - 1]) {
+            key.extend_from_slice(&words[i])?;
+        }
     }
     Ok(())
 }
@@ -162,8 +219,25 @@ fn push_classes(key: &mut Vec<u64>, classes: &[Term], comps: u64) -> Result<(), 
     Ok(())
 }
 
-/// The label, and behind it what classes and facts tell about the components and arrays of two sets.
-/// None where no set of roots was found by which the facts fall apart.
+// The label, and the classes of the components of a set.
+fn first_words(
+    alloc: Global,
+    classes: &[Term],
+    label: u64,
+    comps: u64,
+) -> Result<Vec<u64>, NoMemory>
+    requires { length classes.now ≤ 64 }
+    ensures { IfOk result (λ key. key.items ≡ label ∷ classes_key comps 0 classes.now) }
+{
+    let mut key = Vec::new(alloc);
+    key.push(label)?;
+    push_classes(&mut key, classes, comps)?;
+    Ok(key)
+}
+
+/// The label, and behind it what classes and facts tell about the components and arrays of two sets:
+/// the same whatever the order of the facts, and however often each is told. None where no set of roots
+/// was found by which the facts fall apart.
 pub(crate) fn known(
     alloc: Global,
     classes: &[Term],
@@ -180,9 +254,13 @@ pub(crate) fn known(
     let Some(roots) = rooted(classes, comps, settled, facts) else {
         return Ok(None);
     };
-    let mut key = Vec::new(alloc);
-    key.push(label)?;
-    push_classes(&mut key, classes, comps)?;
-    push_facts(&mut key, classes, roots, settled, facts)?;
-    Ok(Some(key))
+    let mut key = first_words(alloc, classes, label, comps)?;
+    if push_facts(&mut key, classes, roots, settled, facts)? {
+        return Ok(Some(key));
+    }
+    let mut words = words_of(alloc, classes, roots, settled, facts)?;
+    words.sort_unstable();
+    let mut sorted = first_words(alloc, classes, label, comps)?;
+    push_words(&mut sorted, &words)?;
+    Ok(Some(sorted))
 }

@@ -30,6 +30,7 @@ use Rattle.snap_fdd.specs.Contexts.{Met}
 use Rattle.snap_fdd.specs.Diagrams.{Diagram, Only, Asks, walk, depth, diagram}
 use Rattle.snap_dep.specs.Ranks.{Grouping}
 use Rattle.snap_fdd.specs.Picks.{IsDiagram, sizes}
+use Rattle.snap_fdd.specs.Places.{ArePlaced}
 use Rattle.snap_fdd.specs.Pruned.{Someone, With, IsLive, IsPruned}
 use Rattle.snap_fdd.specs.Tested.{TestsOver, mark_of}
 use Rattle.snap_fdd.specs.declared.leaf.Leaf.{Leaf}
@@ -40,7 +41,7 @@ use Rattle.snap_fdd.proofs.Quieting.{still_marked}
 use Rattle.snap_fdd.proofs.Shared.{kept, still_below}
 use Rattle.snap_fdd.proofs.Testing.{tested_kept}
 
-test_is : (s : Sizes) (t : Test) → TestIn s t → TestInRange t → IsTest s.comps t
+pub test_is : (s : Sizes) (t : Test) → TestIn s t → TestInRange t → IsTest s.comps t
 test_is s t i r = is_test s.comps t (test_fits s t i) (short t i) r
   where
     short : (t : Test) → TestIn s t → length (index_of t) ≤ 8
@@ -183,8 +184,14 @@ pruned_alike ranks s e key v w d r cv cw lv lw kv kw over diagram fv fw p = reco
         sym on_r ∙ (p.walks n met.packet (record { packet = met.is_packet; facts = facts }) ∙ on_d)
 
 -- ---- what a memo remembers of pruned diagrams
+still_placed : (old new : List (Node Leaf)) (marks : List Bool) → Grew old new → ArePlaced old marks → ArePlaced new marks
+still_placed old new marks g m = record {
+  few = (let l = length-append old g.more in let e = ap length g.is in let f = m.few in omega (arith, l, e, f));
+  places = λ i h q. rw (kept old new i g (let f = m.few in omega (arith, f, h))) (m.places i h q);
+}
+
 pub plan_kept : (plan : Plan) (old new : List (Node Leaf)) → Grew old new → IsPlan plan old → IsPlan plan new
-plan_kept plan old new g p = record { marked = still_marked plan.survey old new plan.quiet.items g p.marked; tested = tested_kept old new plan.tested.items g p.tested }
+plan_kept plan old new g p = record { marked = still_marked plan.survey old new plan.quiet.items g p.marked; placed = still_placed old new plan.places.items g p.placed; tested = tested_kept old new plan.tested.items g p.tested }
 
 key_kept : (marks : List Tested) (old new : List (Node Leaf)) (v : View) (d : ℕ) (key : List ℕ) → Grew old new → d < length old → IsKeyFor marks old v d key → IsKeyFor marks new v d key
 key_kept marks old new v d key g h k = record { context = k.context; few = k.few; low = rw (kept old new d g h) k.low; over = rw (kept old new d g h) k.over; known = k.known }

@@ -8,7 +8,7 @@ use Rattle.std.proofs.lemmas.Map.Lookups.{exact_bytes}
 use Rattle.std.specs.declared.cmp.Ordering.{Ordering}
 use Rattle.std.specs.declared.cmp.Ordering.TheVariants.{Less, Equal, Greater}
 use Rattle.snap_core.specs.declared.policy.Atom.{Atom}
-use Rattle.snap_core.specs.declared.policy.Term.TheVariants.{Num, Plus}
+use Rattle.snap_core.specs.declared.policy.Term.{Term}
 use Rattle.snap_core.specs.declared.policy.Test.{Test}
 use Rattle.snap_core.specs.declared.policy.Test.TheVariants.{Value, Equal as Same, State}
 use Rattle.snap_arena.specs.Codes.{index_code, term_code}
@@ -46,13 +46,6 @@ between (x ∷ p) a b (y ∷ k) lo hi = by (λ l h. between p a b k l h) (nat_cm
     by rest Greater e = absurd (less_is (slice_cmp nat_cmp (p ++ a) k) (sym (ap (λ o. ordering_then o (slice_cmp nat_cmp (p ++ a) k)) e) ∙ lo))
     by rest Equal e = later rest e
 
--- tests of components and places for numbers
-abbrev pub Plain : Test → Type 0
-Plain (Value c n) = Unit {0}
-Plain (Same l r p) = ⊥
-Plain (State v ix (Num n)) = Unit {0}
-Plain (State v ix (Plus c p)) = ⊥
-
 value_between : (ranks : List ℕ) (c n o : ℕ) (t : Test) → test_cmp ranks (Value c n) t ≡ Less → test_cmp ranks t (Value c o) ≡ Less → SameSubject (Value c n) t
 value_between ranks c n o t lo hi = by t (between (0 ∷ c ∷ []) (n ∷ []) (o ∷ []) (key ranks t) lo hi)
   where
@@ -61,10 +54,10 @@ value_between ranks c n o t lo hi = by t (between (0 ∷ c ∷ []) (n ∷ []) (o
     by (Same l r p) i = let e = i.1 in absurd (grind arith)
     by (State v ix u) i = let e = i.1 in absurd (grind arith)
 
-state_between : (ranks : List ℕ) (v : ℕ) (ix : List Atom) (n o : ℕ) (t : Test) → test_cmp ranks (State v ix (Num n)) t ≡ Less → test_cmp ranks t (State v ix (Num o)) ≡ Less → SameSubject (State v ix (Num n)) t
-state_between ranks v ix n o t lo hi = by t (between (2 ∷ slice_index ranks v ∷ v ∷ index_code ix) (term_code (Num n)) (term_code (Num o)) (key ranks t) lo hi)
+state_between : (ranks : List ℕ) (v : ℕ) (ix : List Atom) (x y : Term) (t : Test) → test_cmp ranks (State v ix x) t ≡ Less → test_cmp ranks t (State v ix y) ≡ Less → SameSubject (State v ix x) t
+state_between ranks v ix x y t lo hi = by t (between (2 ∷ slice_index ranks v ∷ v ∷ index_code ix) (term_code x) (term_code y) (key ranks t) lo hi)
   where
-    by : (t : Test) → Begins (2 ∷ slice_index ranks v ∷ v ∷ index_code ix) (key ranks t) → SameSubject (State v ix (Num n)) t
+    by : (t : Test) → Begins (2 ∷ slice_index ranks v ∷ v ∷ index_code ix) (key ranks t) → SameSubject (State v ix x) t
     by (Value d m) i = let e = i.1 in absurd (grind arith)
     by (Same l r p) i = let e = i.1 in absurd (grind arith)
     by (State w iy u) i =
@@ -73,13 +66,11 @@ state_between ranks v ix n o t lo hi = by t (between (2 ∷ slice_index ranks v 
         let s = same_index iy ix (term_code u) i.0 (ap (drop 3) e) in
         (sym var, sym s.0)
 
-pub same_between : (ranks : List ℕ) (f t u : Test) → Plain f → Plain u → test_cmp ranks f t ≡ Less → test_cmp ranks t u ≡ Less → SameSubject f u → SameSubject f t
-same_between ranks (Value c n) t (Value d o) pf pu lo hi s = value_between ranks c n o t lo (rw s hi)
-same_between ranks (Value c n) t (Same l r p) pf pu lo hi s = absurd s
-same_between ranks (Value c n) t (State v ix x) pf pu lo hi s = absurd s
-same_between ranks (Same l r p) t u pf pu lo hi s = absurd pf
-same_between ranks (State v ix (Plus c p)) t u pf pu lo hi s = absurd pf
-same_between ranks (State v ix (Num n)) t (Value d o) pf pu lo hi s = absurd s
-same_between ranks (State v ix (Num n)) t (Same l r p) pf pu lo hi s = absurd s
-same_between ranks (State v ix (Num n)) t (State w iy (Plus c p)) pf pu lo hi s = absurd pu
-same_between ranks (State v ix (Num n)) t (State w iy (Num o)) pf pu lo hi s = state_between ranks v ix n o t lo (rw (s.0, s.1) hi)
+pub same_between : (ranks : List ℕ) (f t u : Test) → test_cmp ranks f t ≡ Less → test_cmp ranks t u ≡ Less → SameSubject f u → SameSubject f t
+same_between ranks (Value c n) t (Value d o) lo hi s = value_between ranks c n o t lo (rw s hi)
+same_between ranks (Value c n) t (Same l r p) lo hi s = absurd s
+same_between ranks (Value c n) t (State v ix x) lo hi s = absurd s
+same_between ranks (Same l r p) t u lo hi s = absurd s
+same_between ranks (State v ix x) t (Value d o) lo hi s = absurd s
+same_between ranks (State v ix x) t (Same l r p) lo hi s = absurd s
+same_between ranks (State v ix x) t (State w iy y) lo hi s = state_between ranks v ix x y t lo (rw (s.0, s.1) hi)

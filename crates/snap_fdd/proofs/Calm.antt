@@ -40,7 +40,7 @@ among_all : (P : Fact → Type 0) (xs : List Fact) → ((f : Fact) → Among f x
 among_all P [] h = tt
 among_all P (x ∷ xs) h = (h x (inl refl), among_all P xs (λ f a. h f (inr a)))
 
-all_among : (P : Fact → Type 0) (xs : List Fact) → ((f : Fact) → Among f xs → P f) → All P xs
+pub all_among : (P : Fact → Type 0) (xs : List Fact) → ((f : Fact) → Among f xs → P f) → All P xs
 all_among P xs h = All-from_recursion P xs (among_all P xs h)
 
 pub from_all : (P : Fact → Type 0) (xs : List Fact) → AllByRecursion P xs → (f : Fact) → Among f xs → P f

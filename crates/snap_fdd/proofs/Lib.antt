@@ -11,3 +11,4 @@ pub mod Calm
 pub mod Quieting
 pub mod Testing
 pub mod Alike
+pub mod Placing

@@ -39,12 +39,12 @@ use Rattle.snap_fdd.specs.Pruned.{Someone, With, IsLive}
 use Rattle.snap_fdd.specs.Quiet.{IndexIsFine, IsClear, IsFine, SameSubject, BeginsElsewhere, IsQuiet, IsMarked, StandsBefore}
 use Rattle.snap_fdd.specs.Spots.{IsNumber}
 use Rattle.snap_fdd.proofs.Spotted.{BothAsked, clear_at, same_asked}
-use Rattle.snap_fdd.proofs.Between.{Plain, same_between}
+use Rattle.snap_fdd.proofs.Between.{same_between}
 use Rattle.snap_fdd.proofs.Calm.{Among, among_last, from_all, Tells, number_of, IsCalm, calm_is_met}
 use Rattle.snap_fdd.proofs.Comparing.{less_trans, not_itself}
 use Rattle.snap_fdd.proofs.Shared.{kept, node_of}
 
-turned : (t u : Test) → SameSubject t u → SameSubject u t
+pub turned : (t u : Test) → SameSubject t u → SameSubject u t
 turned (Value c n) (Value d o) e = sym e
 turned (Value c n) (Same l r p) e = e
 turned (Value c n) (State v ix x) e = e
@@ -54,7 +54,7 @@ turned (State v ix x) (Same l r p) e = e
 turned (State v ix x) (State w iy y) e = (sym e.0, sym e.1)
 
 -- one subject and one number or term: one test
-one_test : (t u : Test) → SameSubject t u → number_of t ≡ number_of u → t ≡ u
+pub one_test : (t u : Test) → SameSubject t u → number_of t ≡ number_of u → t ≡ u
 one_test (Value c n) (Value d o) e h = (let k : n ≡ o = cc in λ i. Value (e i) (k i))
 one_test (Value c n) (Same l r p) e h = absurd e
 one_test (Value c n) (State v ix x) e h = absurd e
@@ -63,23 +63,17 @@ one_test (State v ix t) (Value d o) e h = absurd e
 one_test (State v ix t) (Same l r p) e h = absurd e
 one_test (State v ix t) (State w iy u) e h = λ i. State (e.0 i) (e.1 i) (h i)
 
--- two fine tests of one subject are one, or both are of numbers
-one_or_plain : (s : Survey) → IsClear s → (t u : Test) → IsFine s t → IsFine s u → SameSubject t u → BothAsked (number_of t) (number_of u) × ((number_of t ≡ number_of u) ⊎ (Plain t × Plain u))
-one_or_plain s clear (Value c n) (Value d o) ft fu e = (inr (tt, tt), inr (tt, tt))
-one_or_plain s clear (Value c n) (Same l r p) ft fu e = absurd e
-one_or_plain s clear (Value c n) (State v ix x) ft fu e = absurd e
-one_or_plain s clear (Same l r p) u ft fu e = absurd e
-one_or_plain s clear (State v ix t) (Value d o) ft fu e = absurd e
-one_or_plain s clear (State v ix t) (Same l r p) ft fu e = absurd e
-one_or_plain s clear (State v ix t) (State w iy u) ft fu e = (both, elim both [ inl h ↦ inl h | inr n ↦ inr (plain v ix t n.0, plain w iy u n.1) ])
-  where
-    both : BothAsked t u
-    both = same_asked s (slice_get s.arrays.items v) ix t u (clear_at s v clear) ft.2
-        (subst (λ (iz : List Atom). IndexIsFine s (slice_get s.arrays.items v) iz u) (sym e.1) (subst (λ (z : ℕ). IndexIsFine s (slice_get s.arrays.items z) iy u) (sym e.0) fu.2))
-
-    plain : (v : ℕ) (ix : List Atom) (t : Term) → IsNumber t → Plain (State v ix t)
-    plain v ix (Num n) h = tt
-    plain v ix (Plus c p) h = absurd h
+-- two fine tests of one subject are for one number or term, or both for numbers
+both_asked : (s : Survey) → IsClear s → (t u : Test) → IsFine s t → IsFine s u → SameSubject t u → BothAsked (number_of t) (number_of u)
+both_asked s clear (Value c n) (Value d o) ft fu e = inr (tt, tt)
+both_asked s clear (Value c n) (Same l r p) ft fu e = absurd e
+both_asked s clear (Value c n) (State v ix x) ft fu e = absurd e
+both_asked s clear (Same l r p) u ft fu e = absurd e
+both_asked s clear (State v ix t) (Value d o) ft fu e = absurd e
+both_asked s clear (State v ix t) (Same l r p) ft fu e = absurd e
+both_asked s clear (State v ix t) (State w iy u) ft fu e =
+    same_asked s (slice_get s.arrays.items v) ix t u (clear_at s v clear) ft.2
+    (subst (λ (iz : List Atom). IndexIsFine s (slice_get s.arrays.items v) iz u) (sym e.1) (subst (λ (z : ℕ). IndexIsFine s (slice_get s.arrays.items z) iy u) (sym e.0) fu.2))
 
 -- the facts are on tests before t, and those that pass are on other subjects
 abbrev pub IsBeforeTest : List ℕ → List Fact → Test → Type 0
@@ -110,17 +104,11 @@ calm_more ranks comps s facts t b calm test fine before = record {
     old g p true e same = absurd ((before g p).1 e (turned t g.test same))
     old g p false f same = λ e. not_itself ranks g.test t (before g p).0 (sym (one_test t g.test same e))
 
-before_more : (ranks : List ℕ) (comps : ℕ) (s : Survey) → IsClear s → (facts : List Fact) (t : Test) (b : Bool) (d : Diagram) → IsCalm comps s facts → IsFine s t → IsBeforeTest ranks facts t
-    → Above ranks t d → IsQuiet s d → (b ≡ true → BeginsElsewhere t d) → IsBefore ranks (with_fact facts t b) d
-before_more ranks comps s clear facts t b (Only l) calm fine before above quiet other = tt
-before_more ranks comps s clear facts t b (Asks u y n) calm fine before above quiet other = λ f a. elim (among_last f facts (record { test = t; yes = b }) a) [
-  | inl o ↦ (
-    less_trans ranks f.test t u (before f o).0 above,
-    λ passed same. elim (one_or_plain s clear f.test u (calm.fine f o) quiet.0 same).1 [
-      | inl h ↦ absurd (not_itself ranks f.test u (less_trans ranks f.test t u (before f o).0 above) (one_test f.test u same h))
-      | inr p ↦ (before f o).1 passed (same_between ranks f.test t u p.0 p.1 (before f o).0 above same)
-    ],
-  )
+before_more : (ranks : List ℕ) (facts : List Fact) (t : Test) (b : Bool) (d : Diagram) → IsBeforeTest ranks facts t
+    → Above ranks t d → (b ≡ true → BeginsElsewhere t d) → IsBefore ranks (with_fact facts t b) d
+before_more ranks facts t b (Only l) before above other = tt
+before_more ranks facts t b (Asks u y n) before above other = λ f a. elim (among_last f facts (record { test = t; yes = b }) a) [
+  | inl o ↦ (less_trans ranks f.test t u (before f o).0 above, λ passed same. (before f o).1 passed (same_between ranks f.test t u (before f o).0 above same))
   | inr e ↦ rw e (above, other)
 ]
 
@@ -161,9 +149,9 @@ quiet_live ranks sz s clear P facts (Asks t y n) few covers calm before quiet or
       someone ranks sz s clear P facts t true few covers passed (omega (arith, short)),
       someone ranks sz s clear P facts t false few covers failed (omega (arith, short)),
       quiet_live ranks sz s clear (With P t true) (with_fact facts t true) y few (more P facts t true sz.comps covers) passed
-          (before_more ranks sz.comps s clear facts t true y calm quiet.0 before order.0 quiet.2 (λ e. quiet.1)) quiet.2 order.2 bounds.1 (let l = length-append facts (record { test = t; yes = true } ∷ []) in omega (arith, l, short)),
+          (before_more ranks facts t true y before order.0 (λ e. quiet.1)) quiet.2 order.2 bounds.1 (let l = length-append facts (record { test = t; yes = true } ∷ []) in omega (arith, l, short)),
       quiet_live ranks sz s clear (With P t false) (with_fact facts t false) n few (more P facts t false sz.comps covers) failed
-          (before_more ranks sz.comps s clear facts t false n calm quiet.0 before order.1 quiet.3 (λ e. absurd (cc))) quiet.3 order.3 bounds.2 (let l = length-append facts (record { test = t; yes = false } ∷ []) in omega (arith, l, short)),
+          (before_more ranks facts t false n before order.1 (λ e. absurd (cc))) quiet.3 order.3 bounds.2 (let l = length-append facts (record { test = t; yes = false } ∷ []) in omega (arith, l, short)),
     )
 
 -- ---- facts that some store and packet meet
@@ -183,7 +171,7 @@ agree_on s clear (Value c n) (State v ix x) y m k ft fu p q e = absurd e
 agree_on s clear (Same l r x) u y m k ft fu p q e = absurd e
 agree_on s clear (State v ix t) (Value d o) y m k ft fu p q e = absurd e
 agree_on s clear (State v ix t) (Same l r x) y m k ft fu p q e = absurd e
-agree_on s clear (State v ix t) (State w iy u) y m k ft fu p q e = elim (one_or_plain s clear (State v ix t) (State w iy u) ft fu e).0 [
+agree_on s clear (State v ix t) (State w iy u) y m k ft fu p q e = elim (both_asked s clear (State v ix t) (State w iy u) ft fu e) [
   | inl h ↦ tells_itself (State v ix t) (State w iy u) y m k (one_test (State v ix t) (State w iy u) e h) p q h
   | inr n ↦ numbers t u n.0 n.1 p q
 ]

@@ -8,6 +8,7 @@ pub mod Subjects
 pub mod Picks
 pub mod Pruned
 pub mod Quiet
+pub mod Places
 pub mod Spots
 pub mod Tested
 pub mod Memoed

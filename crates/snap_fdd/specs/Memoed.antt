@@ -11,6 +11,7 @@ use Rattle.snap_fdd.specs.declared.leaf.Leaf.{Leaf}
 use Rattle.snap_fdd.specs.Diagrams.{depth, diagram}
 use Rattle.snap_fdd.specs.Bounds.{Sizes, TestIn}
 use Rattle.snap_fdd.specs.Picks.{IsPick, Anywhere, IsArgument, sizes}
+use Rattle.snap_fdd.specs.Places.{ArePlaced}
 use Rattle.snap_fdd.specs.Pruned.{IsPruned}
 use Rattle.snap_fdd.specs.Quiet.{IsMarked}
 use Rattle.snap_fdd.specs.Tested.{AreTested, TestsOver, mark_of}
@@ -39,6 +40,7 @@ pub record IsAskedPick (g : Grouping) (v : View) (t : Test) (ns : List (Node Lea
 -- what was looked up of the nodes before pruning
 pub record IsPlan (plan : Plan) (ns : List (Node Leaf)) : Type 0 where
   pub marked : IsMarked plan.survey ns plan.quiet.items
+  pub placed : ArePlaced ns plan.places.items
   pub tested : AreTested ns plan.tested.items
 
 -- the numbers tell what a context knows about what a diagram tests

@@ -7,6 +7,7 @@ pub mod leaf;
 pub mod only;
 pub mod order;
 pub mod pick;
+mod places;
 pub mod pruning;
 mod quiet;
 mod spots;

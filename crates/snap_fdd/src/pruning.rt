@@ -1,6 +1,6 @@
 //! Diagrams without the ways that a context rules out.
 
-ghost use Rattle.std.specs.Prelude.{◌≡◌, ◌<◌, ◌∷◌, ℕ, IfOk, IfSome, List, OnOk, length};
+ghost use Rattle.std.specs.Prelude.{◌≡◌, ◌<◌, ◌∷◌, ℕ, IfOk, IfSome, IsTrue, List, OnOk, length};
 ghost use Rattle.snap_arena.specs.Arena.{Grew};
 ghost use Rattle.snap_fdd.specs.Contexts.{Met, Under};
 ghost use Rattle.snap_fdd.specs.Diagrams.{diagram, walk, answer};
@@ -11,6 +11,7 @@ ghost use Rattle.snap_arena.specs.Memos.{Remembers};
 
 use crate::leaf::Leaf;
 use crate::pick::{ask, look};
+use crate::places::{mark_places, stays_free};
 use crate::quiet::{quiet_ones, stays};
 use crate::survey::{Survey, joins, look_over};
 use crate::tested::{Tested, mark_at, mark_tests};
@@ -47,12 +48,14 @@ pub fn part_of(nodes: &Nodes<Leaf>, d: u64) -> Result<Part, NoMemory>
     }
 }
 
-/// What is looked up before pruning: what is tested at all, which numbers are of quiet diagrams, what
-/// each number's diagram tests, and which numbers are reached by several ways.
+/// What is looked up before pruning: what is tested at all, which numbers are of quiet diagrams and
+/// which of such that test places alone, what each number's diagram tests, and which numbers are reached
+/// by several ways.
 #[derive(Drop)]
 pub struct Plan {
     pub survey: Survey,
     pub quiet: Vec<bool>,
+    pub places: Vec<bool>,
     pub tested: Vec<Tested>,
     pub joins: Vec<bool>,
 }
@@ -84,6 +87,16 @@ fn memo_key(
     ctx.known(d, mark.comps, mark.arrays)
 }
 
+// Whether nothing is dead under a context, as far as the plan tells.
+fn is_live(nodes: &Nodes<Leaf>, groups: &Groups, ctx: &Context, plan: &Plan, d: u64) -> bool
+    requires d { IsArgument groups.now ctx.now nodes.now d }
+    requires plan { IsPlan plan.now nodes.now }
+    ensures { IsTrue result → IsLive (Met ctx.now) (diagram nodes.now d) }
+{
+    stays(nodes, groups, ctx, &plan.survey, &plan.quiet, d)
+        || stays_free(nodes, groups, ctx, &plan.places, &plan.tested, d)
+}
+
 // A diagram pruned, which may be remembered.
 #[cycle(pruned)]
 fn pruned(
@@ -100,7 +113,7 @@ fn pruned(
     ensures pruned { IfOk result (λ r. IsPruned groups.now.ranks (sizes groups.now ctx.now) ctx.now (diagram nodes.old d) (diagram nodes.new r)) }
     ensures memo { OnOk result (Remembers (PrunedFor groups.now.ranks (sizes groups.now ctx.now) plan.now.tested.items nodes.new) memo.new) }
 {
-    if stays(nodes, groups, ctx, &plan.survey, &plan.quiet, d) {
+    if is_live(nodes, groups, ctx, plan, d) {
         return Ok(d);
     }
     let Some(key) = memo_key(nodes, ctx, plan, d)? else {
@@ -165,11 +178,13 @@ pub fn prune(
     if stays(nodes, groups, ctx, &survey, &quiet, d) {
         return Ok(d);
     }
+    let places = mark_places(nodes, d)?;
     let tested = mark_tests(nodes, d)?;
     let joins = joins(nodes, d)?;
     let plan = Plan {
         survey,
         quiet,
+        places,
         tested,
         joins,
     };

@@ -7,6 +7,7 @@ ghost use Rattle.snap_fdd.specs.Contexts.{Met};
 ghost use Rattle.snap_fdd.specs.Diagrams.{diagram};
 ghost use Rattle.snap_fdd.specs.Order.{IsRanked, test_cmp};
 ghost use Rattle.snap_fdd.specs.Picks.{IsArgument};
+ghost use Rattle.snap_fdd.specs.Places.{ComesBefore};
 ghost use Rattle.snap_fdd.specs.Pruned.{IsLive};
 ghost use Rattle.snap_fdd.specs.Quiet.{BeginsElsewhere, IsClear, IsFine, IsMarked, IsQuiet, SameSubject, StandsBefore};
 
@@ -50,7 +51,7 @@ fn same_subject(a: &Test, b: &Test) -> bool
 }
 
 // Whether a diagram begins with another subject.
-fn begins_elsewhere(nodes: &Nodes<Leaf>, test: &Test, d: u64) -> bool
+pub(crate) fn begins_elsewhere(nodes: &Nodes<Leaf>, test: &Test, d: u64) -> bool
     requires { d < length nodes.now }
     ensures { IsTrue result → BeginsElsewhere test.now (diagram nodes.now d) }
 {
@@ -99,19 +100,24 @@ pub fn quiet_ones(nodes: &Nodes<Leaf>, survey: &Survey, root: u64) -> Result<Vec
     Ok(quiet)
 }
 
-// Whether a fact is fine, on a test before this one, and on another subject if it passes.
+/// Whether a fact is on a test before this one, and on another subject if it passes.
+pub(crate) fn comes_before(groups: &Groups, fact: &Fact, test: &Test) -> bool
+    requires { IsRanked (length groups.now.ranks) test.now }
+    ensures { IsTrue result → ComesBefore groups.now.ranks test.now fact.now }
+{
+    let before = fact.test.test();
+    if !has_rank(groups, before) || compare(groups, before, test) != Ordering::Less {
+        return false;
+    }
+    !fact.yes || !same_subject(before, test)
+}
+
+// Whether a fact is fine besides.
 fn stands_before(groups: &Groups, survey: &Survey, fact: &Fact, test: &Test) -> bool
     requires { IsRanked (length groups.now.ranks) test.now }
     ensures { IsTrue result → StandsBefore groups.now.ranks survey.now test.now fact.now }
 {
-    let before = fact.test.test();
-    if !survey.is_fine(before) || !has_rank(groups, before) {
-        return false;
-    }
-    if compare(groups, before, test) != Ordering::Less {
-        return false;
-    }
-    !fact.yes || !same_subject(before, test)
+    survey.is_fine(fact.test.test()) && comes_before(groups, fact, test)
 }
 
 // Whether all facts are so.

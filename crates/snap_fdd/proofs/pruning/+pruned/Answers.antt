@@ -120,15 +120,15 @@ told o key d P e h = subst (λ (o : Option (Vec ℕ)). IfSome o (λ key. (q : Li
 pub pruned-returns-in-Some-get-clause-number : goal.pruned-returns-in-Some-get-clause-number
 pruned-returns-in-Some-get-clause-number t c =
     let k = told c.in_ok-key.field-0 c.in-Some.key c.args.d (IsKeyFor c.args.plan.now.tested.items c.args.nodes.now c.args.ctx.now c.args.d) c.in-Some.is c.in_ok-key.ensures in
-    (subst (λ (q : List ℕ). PrunedFor c.args.groups.now.ranks (sizes c.args.groups.now c.args.ctx.now) c.args.plan.now.tested.items c.args.nodes.now q c.in-Some-get.r) (c.deref-2.ensures.value ∙ k.1)
-    (c.requires.known c.deref-2.result.now c.in-Some-get.r (sym c.in-Some-get.ensures))).number
+    (subst (λ (q : List ℕ). PrunedFor c.args.groups.now.ranks (sizes c.args.groups.now c.args.ctx.now) c.args.plan.now.tested.items c.args.nodes.now q c.in-Some-get.r) (c.deref.ensures.value ∙ k.1)
+    (c.requires.known c.deref.result.now c.in-Some-get.r (sym c.in-Some-get.ensures))).number
 
 pub pruned-returns-in-Some-get-clause-pruned : goal.pruned-returns-in-Some-get-clause-pruned
 pruned-returns-in-Some-get-clause-pruned t c =
     let k = told c.in_ok-key.field-0 c.in-Some.key c.args.d (IsKeyFor c.args.plan.now.tested.items c.args.nodes.now c.args.ctx.now c.args.d) c.in-Some.is c.in_ok-key.ensures in
     pruned_before c.args.groups.now.ranks (sizes c.args.groups.now c.args.ctx.now) c.args.plan.now.tested.items c.args.nodes.now c.args.ctx.now c.args.d k.0 c.in-Some-get.r refl c.requires.first.keeps k.2
-    (subst (λ (q : List ℕ). PrunedFor c.args.groups.now.ranks (sizes c.args.groups.now c.args.ctx.now) c.args.plan.now.tested.items c.args.nodes.now q c.in-Some-get.r) (c.deref-2.ensures.value ∙ k.1)
-    (c.requires.known c.deref-2.result.now c.in-Some-get.r (sym c.in-Some-get.ensures)))
+    (subst (λ (q : List ℕ). PrunedFor c.args.groups.now.ranks (sizes c.args.groups.now c.args.ctx.now) c.args.plan.now.tested.items c.args.nodes.now q c.in-Some-get.r) (c.deref.ensures.value ∙ k.1)
+    (c.requires.known c.deref.result.now c.in-Some-get.r (sym c.in-Some-get.ensures)))
 
 pub pruned-returns-clause-memo : goal.pruned-returns-clause-memo
 pruned-returns-clause-memo t c =

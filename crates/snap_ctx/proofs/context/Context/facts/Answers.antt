@@ -3,7 +3,7 @@ use Rattle.std.proofs.Common.{◌<◌, ◌^◌, length, subst}
 use Rattle.std.specs.Prelude.{All}
 use Rattle.snap_ctx.specs.Meets.{IsMet}
 use Rattle.snap_ctx.specs.Classes.{IsTest}
-use Rattle.snap_ctx.specs.View.{View}
+use Rattle.snap_ctx.specs.View.{IsContext, View}
 use Rattle.snap_ctx.proofs.Contexts.{context_met}
 use Rattle.snap_ctx.proofs.context.Context.facts.Goals as goal
 
@@ -15,3 +15,6 @@ returns-clause-tests c = subst (λ (v : View). All (λ f. IsTest (length v.class
 
 pub returns-clause-few : goal.returns-clause-few
 returns-clause-few c = subst (λ (v : View). length v.facts < 2 ^ 32) c.self.view_is c.self.invariant.many
+
+pub returns-clause-context : goal.returns-clause-context
+returns-clause-context c = subst IsContext c.self.view_is c.self.invariant
