@@ -9,6 +9,7 @@ pub mod order;
 pub mod pick;
 pub mod pruning;
 mod quiet;
+pub mod reach;
 mod spots;
 mod subject;
 mod survey;
