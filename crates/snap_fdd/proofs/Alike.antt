@@ -1,6 +1,6 @@
 -- What is pruned under one context is pruned under another of which the same is known about what the diagram tests.
 use Rattle.std.proofs.Common.{◌≡◌, ℕ, suc, ◌+◌, ◌<◌, ◌≤◌, ◌^◌, Bool, true, false, cond, List, [], ◌∷◌, ◌++◌, length, refl, sym, ap, subst, ◌∙◌, arith, append_assoc, length-append}
-use Rattle.std.specs.Prelude.{All, max}
+use Rattle.std.specs.Prelude.{All, IfSome, Option, max}
 use Rattle.std.specs.List.{AllByRecursion}
 use Rattle.std.proofs.lemmas.List.Elements.{All-append, All-from_recursion, recursion_from_All, All-push}
 use Rattle.snap_core.specs.declared.policy.Test.{Test}
@@ -30,16 +30,16 @@ use Rattle.snap_fdd.specs.Contexts.{Met}
 use Rattle.snap_fdd.specs.Diagrams.{Diagram, Only, Asks, walk, depth, diagram}
 use Rattle.snap_dep.specs.Ranks.{Grouping}
 use Rattle.snap_fdd.specs.Picks.{IsDiagram, sizes}
-use Rattle.snap_fdd.specs.Places.{ArePlaced}
 use Rattle.snap_fdd.specs.Pruned.{Someone, With, IsLive, IsPruned}
-use Rattle.snap_fdd.specs.Tested.{TestsOver, mark_of}
+use Rattle.snap_fdd.specs.Places.{AsksPlaces}
+use Rattle.snap_fdd.specs.Quiet.{IsQuiet}
+use Rattle.snap_fdd.specs.Tested.{TestsOver}
 use Rattle.snap_fdd.specs.declared.leaf.Leaf.{Leaf}
 use Rattle.snap_fdd.specs.declared.pruning.Plan.{Plan}
-use Rattle.snap_fdd.specs.Memoed.{IsKeyFor, IsPlan, IsRemembered, PrunedFor}
+use Rattle.snap_fdd.specs.Memoed.{IsKey, IsKeyFor, IsPlan, IsRemembered, PrunedFor}
 use Rattle.snap_fdd.proofs.Cutting.{IsMore, same_sizes, test_fits}
-use Rattle.snap_fdd.proofs.Quieting.{still_marked}
+use Rattle.snap_fdd.proofs.Noted.{noted_kept}
 use Rattle.snap_fdd.proofs.Shared.{kept, still_below}
-use Rattle.snap_fdd.proofs.Testing.{tested_kept}
 
 pub test_is : (s : Sizes) (t : Test) → TestIn s t → TestInRange t → IsTest s.comps t
 test_is s t i r = is_test s.comps t (test_fits s t i) (short t i) r
@@ -184,55 +184,67 @@ pruned_alike ranks s e key v w d r cv cw lv lw kv kw over diagram fv fw p = reco
         sym on_r ∙ (p.walks n met.packet (record { packet = met.is_packet; facts = facts }) ∙ on_d)
 
 -- ---- what a memo remembers of pruned diagrams
-still_placed : (old new : List (Node Leaf)) (marks : List Bool) → Grew old new → ArePlaced old marks → ArePlaced new marks
-still_placed old new marks g m = record {
-  few = (let l = length-append old g.more in let e = ap length g.is in let f = m.few in omega (arith, l, e, f));
-  places = λ i h q. rw (kept old new i g (let f = m.few in omega (arith, f, h))) (m.places i h q);
+pub plan_kept : (plan : Plan) (old new : List (Node Leaf)) → Grew old new → IsPlan plan old → IsPlan plan new
+plan_kept plan old new g p = record {
+  marked = record { clear = p.marked.clear; quiet = noted_kept (λ (b : Bool) (d : Diagram). b ≡ true → IsQuiet plan.survey d) old new plan.reached.ids.items plan.quiet.items g p.marked.quiet };
+  placed = noted_kept (λ (b : Bool) (d : Diagram). b ≡ true → AsksPlaces d) old new plan.reached.ids.items plan.places.items g p.placed;
+  tested = noted_kept (λ (o : Option Tested) (d : Diagram). IfSome o (λ e. TestsOver e d)) old new plan.reached.ids.items plan.tested.items g p.tested;
 }
 
-pub plan_kept : (plan : Plan) (old new : List (Node Leaf)) → Grew old new → IsPlan plan old → IsPlan plan new
-plan_kept plan old new g p = record { marked = still_marked plan.survey old new plan.quiet.items g p.marked; placed = still_placed old new plan.places.items g p.placed; tested = tested_kept old new plan.tested.items g p.tested }
+key_kept : (e : Tested) (old new : List (Node Leaf)) (v : View) (d : ℕ) (key : List ℕ) → Grew old new → d < length old → IsKeyFor e old v d key → IsKeyFor e new v d key
+key_kept e old new v d key g h k = record { context = k.context; few = k.few; low = rw (kept old new d g h) k.low; over = rw (kept old new d g h) k.over; known = k.known }
 
-key_kept : (marks : List Tested) (old new : List (Node Leaf)) (v : View) (d : ℕ) (key : List ℕ) → Grew old new → d < length old → IsKeyFor marks old v d key → IsKeyFor marks new v d key
-key_kept marks old new v d key g h k = record { context = k.context; few = k.few; low = rw (kept old new d g h) k.low; over = rw (kept old new d g h) k.over; known = k.known }
-
-remembered_kept : (ranks : List ℕ) (s : Sizes) (marks : List Tested) (old new : List (Node Leaf)) → Grew old new → (q : List ℕ) (r : ℕ) → PrunedFor ranks s marks old q r → PrunedFor ranks s marks new q r
-remembered_kept ranks s marks old new g [] r p = tt
-remembered_kept ranks s marks old new g (d ∷ key) r p = record {
-  first = still_below old new d g p.first;
+remembered_kept : (ranks : List ℕ) (s : Sizes) (plan : Plan) (old new : List (Node Leaf)) → Grew old new → (q : List ℕ) (r : ℕ) → PrunedFor ranks s plan old q r → PrunedFor ranks s plan new q r
+remembered_kept ranks s plan old new g [] r p = tt
+remembered_kept ranks s plan old new g (place ∷ key) r p = record {
+  id = p.id;
+  tested = p.tested;
+  noted = p.noted;
+  first = still_below old new p.id g p.first;
   number = still_below old new r g p.number;
   view = p.view;
   size = p.size;
-  told = key_kept marks old new p.view d key g p.first p.told;
-  pruned = rw (kept old new d g p.first, kept old new r g p.number) p.pruned;
+  told = key_kept p.tested old new p.view p.id key g p.first p.told;
+  pruned = rw (kept old new p.id g p.first, kept old new r g p.number) p.pruned;
 }
 
-pub pruned_memo_kept : (ranks : List ℕ) (s : Sizes) (marks : List Tested) (old new : List (Node Leaf)) (memo : Cells) → Grew old new → Remembers (PrunedFor ranks s marks old) memo → Remembers (PrunedFor ranks s marks new) memo
-pruned_memo_kept ranks s marks old new memo g = remembers_weaker (PrunedFor ranks s marks old) (PrunedFor ranks s marks new) memo (remembered_kept ranks s marks old new g)
+pub pruned_memo_kept : (ranks : List ℕ) (s : Sizes) (plan : Plan) (old new : List (Node Leaf)) (memo : Cells) → Grew old new → Remembers (PrunedFor ranks s plan old) memo → Remembers (PrunedFor ranks s plan new) memo
+pruned_memo_kept ranks s plan old new memo g = remembers_weaker (PrunedFor ranks s plan old) (PrunedFor ranks s plan new) memo (remembered_kept ranks s plan old new g)
 
 -- it was pruned under a context of which the same is known
-pub pruned_before : (ranks : List ℕ) (s : Sizes) (marks : List Tested) (ns : List (Node Leaf)) (w : View) (d : ℕ) (key : List ℕ) (r : ℕ) → length w.classes ≡ s.comps → IsDiagram ranks s (diagram ns d)
-    → IsKeyFor marks ns w d key → PrunedFor ranks s marks ns (d ∷ key) r → IsPruned ranks s w (diagram ns d) (diagram ns r)
-pruned_before ranks s marks ns w d key r size i k p =
-    let fv = p.told.few in let fw = k.few in let low = k.low in
-    pruned_alike ranks s (mark_of marks d) key p.view w (diagram ns d) (diagram ns r) p.told.context k.context p.size size p.told.known k.known k.over i (omega (arith, fv, low)) (omega (arith, fw, low)) p.pruned
+pub pruned_before : (ranks : List ℕ) (s : Sizes) (plan : Plan) (ns : List (Node Leaf)) (w : View) (d : ℕ) (key : List ℕ) (r : ℕ) → length w.classes ≡ s.comps → IsDiagram ranks s (diagram ns d)
+    → IsKey plan ns w d key → PrunedFor ranks s plan ns key r → (r < length ns) × IsPruned ranks s w (diagram ns d) (diagram ns r)
+pruned_before ranks s plan ns w d key r size i k h =
+    let p : IsRemembered ranks s plan ns k.place k.told r = subst (λ (q : List ℕ). PrunedFor ranks s plan ns q r) k.is h in
+    let kn = k.noted.number in let km = k.noted.mark in let pn = p.noted.number in let pm = p.noted.mark in
+    let number : p.id ≡ d = cc in
+    let tested : p.tested ≡ k.tested = cc in
+    let told : IsKeyFor k.tested ns p.view d k.told = subst (λ (e : Tested). IsKeyFor e ns p.view d k.told) tested (subst (λ (b : ℕ). IsKeyFor p.tested ns p.view b k.told) number p.told) in
+    let fv = told.few in let fw = k.tells.few in let low = k.tells.low in (
+      p.number,
+      pruned_alike ranks s k.tested k.told p.view w (diagram ns d) (diagram ns r) told.context k.tells.context p.size size told.known k.tells.known k.tells.over i (omega (arith, fv, low)) (omega (arith, fw, low))
+          (subst (λ (b : ℕ). IsPruned ranks s p.view (diagram ns b) (diagram ns r)) number p.pruned),
+    )
 
-pub pruned_now : (ranks : List ℕ) (s : Sizes) (marks : List Tested) (old new : List (Node Leaf)) (v : View) (d : ℕ) (key : List ℕ) (r : ℕ) → Grew old new → d < length old → r < length new → length v.classes ≡ s.comps
-    → IsKeyFor marks old v d key → IsPruned ranks s v (diagram old d) (diagram new r) → PrunedFor ranks s marks new (d ∷ key) r
-pruned_now ranks s marks old new v d key r g hd hr size k p = record {
+pub pruned_now : (ranks : List ℕ) (s : Sizes) (plan : Plan) (old new : List (Node Leaf)) (v : View) (d : ℕ) (key : List ℕ) (r : ℕ) → Grew old new → d < length old → r < length new → length v.classes ≡ s.comps
+    → IsKey plan old v d key → IsPruned ranks s v (diagram old d) (diagram new r) → PrunedFor ranks s plan new key r
+pruned_now ranks s plan old new v d key r g hd hr size k p = rw k.is (record {
+  id = d;
+  tested = k.tested;
+  noted = k.noted;
   first = still_below old new d g hd;
   number = hr;
   view = v;
   size = size;
-  told = key_kept marks old new v d key g hd k;
+  told = key_kept k.tested old new v d k.told g hd k.tells;
   pruned = rw (kept old new d g hd) p;
-}
+})
 
 -- contexts with one fact more have as many components
-pub memo_under : (g : Grouping) (marks : List Tested) (ns : List (Node Leaf)) (memo : Cells) (v w : View) (t : Test) (b : Bool) → IsMore v w t b
-    → Remembers (PrunedFor g.ranks (sizes g v) marks ns) memo → Remembers (PrunedFor g.ranks (sizes g w) marks ns) memo
-memo_under g marks ns memo v w t b i h = subst (λ (s : Sizes). Remembers (PrunedFor g.ranks s marks ns) memo) (sym (same_sizes g v w t b i)) h
+pub memo_under : (g : Grouping) (plan : Plan) (ns : List (Node Leaf)) (memo : Cells) (v w : View) (t : Test) (b : Bool) → IsMore v w t b
+    → Remembers (PrunedFor g.ranks (sizes g v) plan ns) memo → Remembers (PrunedFor g.ranks (sizes g w) plan ns) memo
+memo_under g plan ns memo v w t b i h = subst (λ (s : Sizes). Remembers (PrunedFor g.ranks s plan ns) memo) (sym (same_sizes g v w t b i)) h
 
-pub memo_back : (g : Grouping) (marks : List Tested) (ns : List (Node Leaf)) (memo : Cells) (v w : View) (t : Test) (b : Bool) → IsMore v w t b
-    → Remembers (PrunedFor g.ranks (sizes g w) marks ns) memo → Remembers (PrunedFor g.ranks (sizes g v) marks ns) memo
-memo_back g marks ns memo v w t b i h = subst (λ (s : Sizes). Remembers (PrunedFor g.ranks s marks ns) memo) (same_sizes g v w t b i) h
+pub memo_back : (g : Grouping) (plan : Plan) (ns : List (Node Leaf)) (memo : Cells) (v w : View) (t : Test) (b : Bool) → IsMore v w t b
+    → Remembers (PrunedFor g.ranks (sizes g w) plan ns) memo → Remembers (PrunedFor g.ranks (sizes g v) plan ns) memo
+memo_back g plan ns memo v w t b i h = subst (λ (s : Sizes). Remembers (PrunedFor g.ranks s plan ns) memo) (same_sizes g v w t b i) h

@@ -1,5 +1,6 @@
 pub mod Differ
 pub mod Shared
+pub mod Noted
 pub mod Compared
 pub mod Comparing
 pub mod Picking

@@ -195,14 +195,6 @@ all_fine : (ranks : List ℕ) (s : Survey) (t : Test) (facts : List Fact) → Al
 all_fine ranks s t [] h = tt
 all_fine ranks s t (f ∷ fs) h = (h.0.0, all_fine ranks s t fs h.1)
 
--- marks stay
-pub still_marked : (s : Survey) (old new : List (Node Leaf)) (marks : List Bool) → Grew old new → IsMarked s old marks → IsMarked s new marks
-still_marked s old new marks g m = record {
-  clear = m.clear;
-  few = (let l = length-append old g.more in let e = ap length g.is in let f = m.few in omega (arith, l, e, f));
-  quiet = λ i h q. rw (kept old new i g (let f = m.few in omega (arith, f, h))) (m.quiet i h q);
-}
-
 -- ---- the diagram of a number is no deeper than the number
 depth_under : (ns : List (Node Leaf)) → IsArena ns → (k d : ℕ) → d < k → d < length ns → depth (diagram ns d) ≤ d
 depth_under ns a zero d l h = absurd (omega arith)

@@ -18,7 +18,7 @@ use Rattle.snap_arena.specs.Arena.{Grew}
 use Rattle.snap_fdd.specs.declared.leaf.Leaf.{Leaf}
 use Rattle.snap_fdd.specs.declared.tested.Tested.{Tested}
 use Rattle.snap_fdd.specs.Diagrams.{Diagram, Only, Asks, diagram}
-use Rattle.snap_fdd.specs.Tested.{AreTested, TestsOver, either_tested, mark_of}
+use Rattle.snap_fdd.specs.Tested.{TestsOver, either_tested}
 use Rattle.snap_fdd.proofs.Shared.{kept}
 
 pub among_left : (a b n : ℕ) → IsAmong a n → IsAmong (bit_or a b) n
@@ -78,19 +78,3 @@ over_asks s a b t y n d e ht range hy hn = rw e (
   over_right s (either_tested a b) y (over_left a b y hy),
   over_right s (either_tested a b) n (over_right a b n hn),
 )
-
--- ---- the marks so far
-pub tested_more : (ns : List (Node Leaf)) (marks : List Tested) (e : Tested) → length marks < length ns → AreTested ns marks → TestsOver e (diagram ns (length marks)) → AreTested ns (marks ++ e ∷ [])
-tested_more ns marks e l h new = record {
-  few = let n = length-append marks (e ∷ []) in omega (arith, n, l);
-  tested = λ i hi. elim (cases_eq i (length marks)) as (λ x. TestsOver (mark_of (marks ++ e ∷ []) i) (diagram ns i)) [
-    | inl same ↦ rw (get_or_push marks e (record { comps = 0; arrays = 0 }) i (sym same), same) new
-    | inr other ↦ (let n = length-append marks (e ∷ []) in let low : i < length marks = omega (arith, hi, n, other) in rw (get_or_append_left marks (e ∷ []) (record { comps = 0; arrays = 0 }) i low) (h.tested i low))
-  ];
-}
-
-pub tested_kept : (old new : List (Node Leaf)) (marks : List Tested) → Grew old new → AreTested old marks → AreTested new marks
-tested_kept old new marks g h = record {
-  few = let l = length-append old g.more in let e = ap length g.is in let f = h.few in omega (arith, l, e, f);
-  tested = λ i hi. rw (kept old new i g (let f = h.few in omega (arith, f, hi))) (h.tested i hi);
-}

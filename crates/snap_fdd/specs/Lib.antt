@@ -1,6 +1,7 @@
 pub mod Codes
 pub mod Leaves
 pub mod Diagrams
+pub mod Reached
 pub mod Order
 pub mod Bounds
 pub mod Contexts

@@ -1,5 +1,5 @@
 -- What a memo of one call remembers.
-use Rattle.std.specs.Prelude.{◌≡◌, ℕ, ◌<◌, ◌≤◌, ◌^◌, List, [], ◌∷◌, length, ⊤}
+use Rattle.std.specs.Prelude.{◌≡◌, ℕ, ◌<◌, ◌≤◌, ◌^◌, List, [], ◌∷◌, Some, length, slice_get, ⊤}
 use Rattle.snap_core.specs.declared.policy.Test.{Test}
 use Rattle.snap_core.specs.Cells.{Cells}
 use Rattle.snap_dep.specs.Ranks.{Grouping}
@@ -14,7 +14,7 @@ use Rattle.snap_fdd.specs.Picks.{IsPick, Anywhere, IsArgument, sizes}
 use Rattle.snap_fdd.specs.Places.{ArePlaced}
 use Rattle.snap_fdd.specs.Pruned.{IsPruned}
 use Rattle.snap_fdd.specs.Quiet.{IsMarked}
-use Rattle.snap_fdd.specs.Tested.{AreTested, TestsOver, mark_of}
+use Rattle.snap_fdd.specs.Tested.{AreTested, TestsOver}
 use Rattle.snap_fdd.specs.declared.pruning.Plan.{Plan}
 use Rattle.snap_fdd.specs.declared.tested.Tested.{Tested}
 
@@ -39,34 +39,51 @@ pub record IsAskedPick (g : Grouping) (v : View) (t : Test) (ns : List (Node Lea
 
 -- what was looked up of the nodes before pruning
 pub record IsPlan (plan : Plan) (ns : List (Node Leaf)) : Type 0 where
-  pub marked : IsMarked plan.survey ns plan.quiet.items
-  pub placed : ArePlaced ns plan.places.items
-  pub tested : AreTested ns plan.tested.items
+  pub marked : IsMarked plan.survey ns plan.reached.ids.items plan.quiet.items
+  pub placed : ArePlaced ns plan.reached.ids.items plan.places.items
+  pub tested : AreTested ns plan.reached.ids.items plan.tested.items
+
+-- the number's place, and what is noted there of its tests
+pub record IsNotedAt (plan : Plan) (place d : ℕ) (e : Tested) : Type 0 where
+  pub number : slice_get plan.reached.ids.items place ≡ Some d
+  pub mark : slice_get plan.tested.items place ≡ Some (Some e)
 
 -- the numbers tell what a context knows about what a diagram tests
-pub record IsKeyFor (marks : List Tested) (ns : List (Node Leaf)) (v : View) (d : ℕ) (key : List ℕ) : Type 0 where
+pub record IsKeyFor (e : Tested) (ns : List (Node Leaf)) (v : View) (d : ℕ) (key : List ℕ) : Type 0 where
   pub context : IsContext v
   pub few : length v.facts ≤ 2 ^ 31
   pub low : depth (diagram ns d) ≤ 2 ^ 30
-  pub over : TestsOver (mark_of marks d) (diagram ns d)
-  pub known : IsKnown v (mark_of marks d).comps (mark_of marks d).arrays key
+  pub over : TestsOver e (diagram ns d)
+  pub known : IsKnown v e.comps e.arrays key
 
--- the diagram was pruned under a context of which this is known
-pub record IsRemembered (ranks : List ℕ) (s : Sizes) (marks : List Tested) (ns : List (Node Leaf)) (d : ℕ) (key : List ℕ) (r : ℕ) : Type 0 where
-  pub first : d < length ns
+-- a diagram's place, and what a context knows about what it tests
+pub record IsKey (plan : Plan) (ns : List (Node Leaf)) (v : View) (d : ℕ) (key : List ℕ) : Type 0 where
+  pub place : ℕ
+  pub told : List ℕ
+  pub tested : Tested
+  pub is : key ≡ place ∷ told
+  pub noted : IsNotedAt plan place d tested
+  pub tells : IsKeyFor tested ns v d told
+
+-- the diagram of a place was pruned under a context of which this is known
+pub record IsRemembered (ranks : List ℕ) (s : Sizes) (plan : Plan) (ns : List (Node Leaf)) (place : ℕ) (key : List ℕ) (r : ℕ) : Type 0 where
+  pub id : ℕ
+  pub tested : Tested
+  pub noted : IsNotedAt plan place id tested
+  pub first : id < length ns
   pub number : r < length ns
   pub view : View
   pub size : length view.classes ≡ s.comps
-  pub told : IsKeyFor marks ns view d key
-  pub pruned : IsPruned ranks s view (diagram ns d) (diagram ns r)
+  pub told : IsKeyFor tested ns view id key
+  pub pruned : IsPruned ranks s view (diagram ns id) (diagram ns r)
 
--- numbers for diagrams and what is known about their tests
-abbrev pub PrunedFor : List ℕ → Sizes → List Tested → List (Node Leaf) → List ℕ → ℕ → Type 0
-PrunedFor ranks s marks ns [] r = ⊤
-PrunedFor ranks s marks ns (d ∷ key) r = IsRemembered ranks s marks ns d key r
+-- numbers for places and what is known about the tests there
+abbrev pub PrunedFor : List ℕ → Sizes → Plan → List (Node Leaf) → List ℕ → ℕ → Type 0
+PrunedFor ranks s plan ns [] r = ⊤
+PrunedFor ranks s plan ns (place ∷ key) r = IsRemembered ranks s plan ns place key r
 
 -- what is asked for a diagram pruned: it and the plan fit the nodes, and the memo is the plan's
 pub record IsAskedPruned (g : Grouping) (v : View) (plan : Plan) (ns : List (Node Leaf)) (memo : Cells) (d : ℕ) : Type 0 where
   pub first : IsArgument g v ns d
   pub planned : IsPlan plan ns
-  pub known : Remembers (PrunedFor g.ranks (sizes g v) plan.tested.items ns) memo
+  pub known : Remembers (PrunedFor g.ranks (sizes g v) plan ns) memo

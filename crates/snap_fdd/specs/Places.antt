@@ -1,5 +1,5 @@
 -- Diagrams that test places alone, and facts that leave them as they are.
-use Rattle.std.specs.Prelude.{◌≡◌, ℕ, ◌<◌, ◌≤◌, Bool, true, false, List, length, slice_index_or}
+use Rattle.std.specs.Prelude.{◌≡◌, ℕ, Bool, true, List}
 use Rattle.std.specs.declared.cmp.Ordering.TheVariants.{Less}
 use Rattle.std.specs.List.{AllByRecursion}
 use Rattle.snap_core.specs.declared.policy.Atom.{Atom}
@@ -13,19 +13,19 @@ use Rattle.snap_ctx.specs.Classes.{class_of, is_state, var_of}
 use Rattle.snap_ctx.specs.Known.{IsAmong}
 use Rattle.snap_arena.specs.declared.node.Node.{Node}
 use Rattle.snap_fdd.specs.declared.leaf.Leaf.{Leaf}
-use Rattle.snap_fdd.specs.Diagrams.{Diagram, Only, Asks, diagram}
+use Rattle.snap_fdd.specs.Diagrams.{Diagram, Only, Asks}
 use Rattle.snap_fdd.specs.Order.{test_cmp}
 use Rattle.snap_fdd.specs.Quiet.{SameSubject, BeginsElsewhere}
+use Rattle.snap_fdd.specs.Reached.{AreNoted}
 
 -- each test is of a place, and of another one than the test behind it where it passes
 abbrev pub AsksPlaces : Diagram → Type 0
 AsksPlaces (Only l) = Unit {0}
 AsksPlaces (Asks t y n) = (is_state t ≡ true) × BeginsElsewhere t y × AsksPlaces y × AsksPlaces n
 
--- marks of such diagrams
-pub record ArePlaced (ns : List (Node Leaf)) (marks : List Bool) : Type 0 where
-  pub few : length marks ≤ length ns
-  pub places : (i : ℕ) → i < length marks → slice_index_or marks i false ≡ true → AsksPlaces (diagram ns i)
+-- marks of such diagrams, by the places of their numbers
+abbrev pub ArePlaced : List (Node Leaf) → List ℕ → List Bool → Type 0
+ArePlaced = AreNoted (λ b d. b ≡ true → AsksPlaces d)
 
 -- all components are their own classes
 abbrev pub AtomIsOwn : List Term → Atom → Type 0

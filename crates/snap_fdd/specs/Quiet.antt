@@ -1,5 +1,5 @@
 -- Diagrams in which nothing can be dead: they test components for numbers, and places for numbers or one term, and no place can turn out to be another.
-use Rattle.std.specs.Prelude.{◌≡◌, ℕ, ◌<◌, ◌≤◌, ◌^◌, Bool, true, false, Option, Some, None, List, length, slice_get, slice_index_or}
+use Rattle.std.specs.Prelude.{◌≡◌, ℕ, ◌<◌, ◌^◌, Bool, true, false, Option, Some, None, List, slice_get}
 use Rattle.std.specs.declared.cmp.Ordering.TheVariants.{Less}
 use Rattle.std.specs.List.{AllByRecursion}
 use Rattle.snap_core.specs.declared.policy.Atom.{Atom}
@@ -15,8 +15,9 @@ use Rattle.snap_fdd.specs.declared.survey.Seen.TheVariants.{Few, Many}
 use Rattle.snap_fdd.specs.declared.survey.Survey.{Survey}
 use Rattle.snap_arena.specs.declared.node.Node.{Node}
 use Rattle.snap_fdd.specs.declared.leaf.Leaf.{Leaf}
-use Rattle.snap_fdd.specs.Diagrams.{Diagram, Only, Asks, diagram}
+use Rattle.snap_fdd.specs.Diagrams.{Diagram, Only, Asks}
 use Rattle.snap_fdd.specs.Order.{test_cmp}
+use Rattle.snap_fdd.specs.Reached.{AreNoted}
 use Rattle.snap_fdd.specs.Spots.{SpotsApart, IsAt, IsNumber}
 
 -- no two places of an array turn out to be one
@@ -63,8 +64,7 @@ IsQuiet s (Asks t y n) = IsFine s t × BeginsElsewhere t y × IsQuiet s y × IsQ
 abbrev pub StandsBefore : List ℕ → Survey → Test → Fact → Type 0
 StandsBefore ranks s t f = IsFine s f.test × (test_cmp ranks f.test t ≡ Less) × (f.yes ≡ true → ¬ (SameSubject f.test t))
 
--- marks of quiet diagrams
-pub record IsMarked (s : Survey) (ns : List (Node Leaf)) (marks : List Bool) : Type 0 where
+-- marks of quiet diagrams, by the places of their numbers
+pub record IsMarked (s : Survey) (ns : List (Node Leaf)) (ids : List ℕ) (marks : List Bool) : Type 0 where
   pub clear : IsClear s
-  pub few : length marks ≤ length ns
-  pub quiet : (i : ℕ) → i < length marks → slice_index_or marks i false ≡ true → IsQuiet s (diagram ns i)
+  pub quiet : AreNoted (λ b d. b ≡ true → IsQuiet s d) ns ids marks

@@ -10,6 +10,7 @@ pub mod pick;
 mod places;
 pub mod pruning;
 mod quiet;
+pub mod reach;
 mod spots;
 mod subject;
 mod survey;

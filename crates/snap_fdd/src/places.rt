@@ -17,6 +17,7 @@ ghost use Rattle.snap_fdd.specs.Tested.{AreTested};
 use crate::leaf::Leaf;
 use crate::pick::look;
 use crate::quiet::{begins_elsewhere, comes_before};
+use crate::reach::Reached;
 use crate::tested::{Tested, mark_at};
 use snap_arena::node::Node;
 use snap_arena::nodes::Nodes;
@@ -36,17 +37,30 @@ fn is_place(test: &Test) -> bool
     }
 }
 
-// Whether a node's diagram tests places alone, by the marks of those before it.
-fn asks_places(nodes: &Nodes<Leaf>, marks: &[bool], d: u64) -> bool
+// Whether a number is noted as that of a diagram that tests places alone.
+fn is_noted(nodes: &Nodes<Leaf>, reached: &Reached, marks: &[bool], d: u64) -> bool
+    requires { ArePlaced nodes.now reached.now.ids.items marks.now }
+    ensures { IsTrue result → AsksPlaces (diagram nodes.now d) }
+{
+    match reached.place(d) {
+        Some(place) => marks.get(place) == Some(&true),
+        None => false,
+    }
+}
+
+// Whether a node's diagram tests places alone, by its ways.
+fn asks_places(nodes: &Nodes<Leaf>, reached: &Reached, marks: &[bool], d: u64) -> bool
     requires d { d < length nodes.now }
-    requires before { length marks.now ≡ d }
-    requires marks { ArePlaced nodes.now marks.now }
+    requires marks { ArePlaced nodes.now reached.now.ids.items marks.now }
     ensures { IsTrue result → AsksPlaces (diagram nodes.now d) }
 {
     match look(nodes, d) {
         Node::Leaf(_) => true,
         Node::Ask { test, yes, no } => {
-            if !marks[*yes as usize] || !marks[*no as usize] {
+            if !is_noted(nodes, reached, marks, *yes) {
+                return false;
+            }
+            if !is_noted(nodes, reached, marks, *no) {
                 return false;
             }
             is_place(test) && begins_elsewhere(nodes, test, *yes)
@@ -54,17 +68,15 @@ fn asks_places(nodes: &Nodes<Leaf>, marks: &[bool], d: u64) -> bool
     }
 }
 
-/// Which of the numbers up to `root` are of diagrams that test places alone, each of them for no more
-/// once it holds what was asked.
-pub fn mark_places(nodes: &Nodes<Leaf>, root: u64) -> Result<Vec<bool>, NoMemory>
-    ensures { IfOk result (λ marks. ArePlaced nodes.now marks.items) }
+/// Which of the numbers that are reached are of diagrams that test places alone, each of them for no more
+/// once it holds what was asked, by their places. No clause says that any is marked. Refuses for memory alone.
+pub fn mark_places(nodes: &Nodes<Leaf>, reached: &Reached) -> Result<Vec<bool>, NoMemory>
+    requires { All (λ d. d < length nodes.now) reached.now.ids.items }
+    ensures { IfOk result (λ marks. ArePlaced nodes.now reached.now.ids.items marks.items) }
 {
-    let mut marks = Vec::new(nodes.allocator());
-    for d in 0..nodes.count() {
-        if d > root {
-            break;
-        }
-        let next = asks_places(nodes, &marks, d);
+    let mut marks = Vec::with_capacity(nodes.allocator(), reached.ids.len())?;
+    for id in &reached.ids {
+        let next = asks_places(nodes, reached, &marks, *id);
         marks.push(next)?;
     }
     Ok(marks)
@@ -184,24 +196,27 @@ pub fn stays_free(
     nodes: &Nodes<Leaf>,
     groups: &Groups,
     ctx: &Context,
+    reached: &Reached,
     marks: &[bool],
-    tested: &[Tested],
+    tested: &[Option<Tested>],
     d: u64,
 ) -> bool
     requires d { IsArgument groups.now ctx.now nodes.now d }
-    requires placed { ArePlaced nodes.now marks.now }
-    requires tested { AreTested nodes.now tested.now }
+    requires placed { ArePlaced nodes.now reached.now.ids.items marks.now }
+    requires tested { AreTested nodes.now reached.now.ids.items tested.now }
     ensures { IsTrue result → IsLive (Met ctx.now) (diagram nodes.now d) }
 {
     let _arena = nodes.count();
     let facts = ctx.facts();
-    if d >= marks.len() as u64 || !marks[d as usize] || d >= tested.len() as u64 {
+    if !is_noted(nodes, reached, marks, d) {
         return false;
     }
     if d > MOST || facts.len() as u64 > MOST {
         return false;
     }
-    let mark = mark_at(nodes, tested, d);
+    let Some(mark) = mark_at(nodes, reached, tested, d) else {
+        return false;
+    };
     if !are_own(ctx, mark.comps) {
         return false;
     }

@@ -1,20 +1,21 @@
 //! Diagrams without the ways that a context rules out.
 
-ghost use Rattle.std.specs.Prelude.{◌≡◌, ◌<◌, ◌∷◌, ℕ, IfOk, IfSome, IsTrue, List, OnOk, length};
+ghost use Rattle.std.specs.Prelude.{◌≡◌, ◌<◌, IfOk, IfSome, IsTrue, OnOk, length};
 ghost use Rattle.snap_arena.specs.Arena.{Grew};
 ghost use Rattle.snap_fdd.specs.Contexts.{Met, Under};
 ghost use Rattle.snap_fdd.specs.Diagrams.{diagram, walk, answer};
 ghost use Rattle.snap_fdd.specs.Picks.{sizes, IsArgument};
 ghost use Rattle.snap_fdd.specs.Pruned.{IsPruned, IsLive, IsPart};
-ghost use Rattle.snap_fdd.specs.Memoed.{IsKeyFor, IsPlan, PrunedFor, IsAskedPruned};
+ghost use Rattle.snap_fdd.specs.Memoed.{IsKey, IsPlan, PrunedFor, IsAskedPruned};
 ghost use Rattle.snap_arena.specs.Memos.{Remembers};
 
 use crate::leaf::Leaf;
 use crate::pick::{ask, look};
 use crate::places::{mark_places, stays_free};
 use crate::quiet::{quiet_ones, stays};
-use crate::survey::{Survey, joins, look_over};
-use crate::tested::{Tested, mark_at, mark_tests};
+use crate::reach::{Reached, joins, reach_from};
+use crate::survey::{Survey, look_over};
+use crate::tested::{Tested, mark_tests, noted_mark};
 use snap_arena::node::Node;
 use snap_arena::nodes::Nodes;
 use snap_arena::numbers::Numbers;
@@ -48,15 +49,16 @@ pub fn part_of(nodes: &Nodes<Leaf>, d: u64) -> Result<Part, NoMemory>
     }
 }
 
-/// What is looked up before pruning: what is tested at all, which numbers are of quiet diagrams and
-/// which of such that test places alone, what each number's diagram tests, and which numbers are reached
-/// by several ways.
+/// What is looked up before pruning: which numbers are reached, what is tested at all, and by places which
+/// numbers are of quiet diagrams and which of such that test places alone, what each number's diagram tests,
+/// and which are ways of several tests.
 #[derive(Drop)]
 pub struct Plan {
+    pub reached: Reached,
     pub survey: Survey,
     pub quiet: Vec<bool>,
     pub places: Vec<bool>,
-    pub tested: Vec<Tested>,
+    pub tested: Vec<Option<Tested>>,
     pub joins: Vec<bool>,
 }
 
@@ -65,7 +67,7 @@ const MOST_FACTS: u64 = 2_147_483_648;
 
 const MOST_NODES: u64 = 1_073_741_824;
 
-// What is known about what a diagram tests, with its number, where several ways lead to it.
+// What is known about what a diagram tests, behind its place, where several ways lead to it.
 fn memo_key(
     nodes: &Nodes<Leaf>,
     ctx: &Context,
@@ -74,17 +76,22 @@ fn memo_key(
 ) -> Result<Option<Vec<u64>>, NoMemory>
     requires d { d < length nodes.now }
     requires plan { IsPlan plan.now nodes.now }
-    ensures { IfOk result (λ o. IfSome o (λ key. (q : List ℕ) × (key.items ≡ d ∷ q) × IsKeyFor plan.now.tested.items nodes.now ctx.now d q)) }
+    ensures { IfOk result (λ o. IfSome o (λ key. IsKey plan.now nodes.now ctx.now d key.items)) }
 {
     let _arena = nodes.count();
-    if plan.joins.get(d as usize) != Some(&true) {
+    let Some(place) = plan.reached.place(d) else {
+        return Ok(None);
+    };
+    if plan.joins.get(place) != Some(&true) {
         return Ok(None);
     }
-    if d >= plan.tested.len() as u64 || d > MOST_NODES || ctx.facts().len() as u64 > MOST_FACTS {
+    if d > MOST_NODES || ctx.facts().len() as u64 > MOST_FACTS {
         return Ok(None);
     }
-    let mark = mark_at(nodes, &plan.tested, d);
-    ctx.known(d, mark.comps, mark.arrays)
+    match noted_mark(&plan.tested, place) {
+        Some(mark) => ctx.known(place as u64, mark.comps, mark.arrays),
+        None => Ok(None),
+    }
 }
 
 // Whether nothing is dead under a context, as far as the plan tells.
@@ -93,8 +100,23 @@ fn is_live(nodes: &Nodes<Leaf>, groups: &Groups, ctx: &Context, plan: &Plan, d: 
     requires plan { IsPlan plan.now nodes.now }
     ensures { IsTrue result → IsLive (Met ctx.now) (diagram nodes.now d) }
 {
-    stays(nodes, groups, ctx, &plan.survey, &plan.quiet, d)
-        || stays_free(nodes, groups, ctx, &plan.places, &plan.tested, d)
+    stays(
+        nodes,
+        groups,
+        ctx,
+        &plan.survey,
+        &plan.reached,
+        &plan.quiet,
+        d,
+    ) || stays_free(
+        nodes,
+        groups,
+        ctx,
+        &plan.reached,
+        &plan.places,
+        &plan.tested,
+        d,
+    )
 }
 
 // A diagram pruned, which may be remembered.
@@ -111,7 +133,7 @@ fn pruned(
     ensures grew { Grew nodes.old nodes.new }
     ensures number { IfOk result (λ r. r < length nodes.new) }
     ensures pruned { IfOk result (λ r. IsPruned groups.now.ranks (sizes groups.now ctx.now) ctx.now (diagram nodes.old d) (diagram nodes.new r)) }
-    ensures memo { OnOk result (Remembers (PrunedFor groups.now.ranks (sizes groups.now ctx.now) plan.now.tested.items nodes.new) memo.new) }
+    ensures memo { OnOk result (Remembers (PrunedFor groups.now.ranks (sizes groups.now ctx.now) plan.now nodes.new) memo.new) }
 {
     if is_live(nodes, groups, ctx, plan, d) {
         return Ok(d);
@@ -140,7 +162,7 @@ fn pruned_anew(
     ensures grew { Grew nodes.old nodes.new }
     ensures number { IfOk result (λ r. r < length nodes.new) }
     ensures pruned { IfOk result (λ r. IsPruned groups.now.ranks (sizes groups.now ctx.now) ctx.now (diagram nodes.old d) (diagram nodes.new r)) }
-    ensures memo { OnOk result (Remembers (PrunedFor groups.now.ranks (sizes groups.now ctx.now) plan.now.tested.items nodes.new) memo.new) }
+    ensures memo { OnOk result (Remembers (PrunedFor groups.now.ranks (sizes groups.now ctx.now) plan.now nodes.new) memo.new) }
 {
     match part_of(nodes, d)? {
         Part::Whole => Ok(d),
@@ -173,15 +195,17 @@ pub fn prune(
     ensures answer { IfOk result (λ r. Under ctx.now (λ m k. answer nodes.new r m k ≡ answer nodes.old d m k)) }
     ensures live { IfOk result (λ r. IsLive (Met ctx.now) (diagram nodes.new r)) }
 {
-    let survey = look_over(nodes, groups.count(), d)?;
-    let quiet = quiet_ones(nodes, &survey, d)?;
-    if stays(nodes, groups, ctx, &survey, &quiet, d) {
+    let reached = reach_from(nodes, &[d])?;
+    let survey = look_over(nodes, groups.count(), &reached)?;
+    let quiet = quiet_ones(nodes, &survey, &reached)?;
+    if stays(nodes, groups, ctx, &survey, &reached, &quiet, d) {
         return Ok(d);
     }
-    let places = mark_places(nodes, d)?;
-    let tested = mark_tests(nodes, d)?;
-    let joins = joins(nodes, d)?;
+    let places = mark_places(nodes, &reached)?;
+    let tested = mark_tests(nodes, &reached)?;
+    let joins = joins(nodes, &reached)?;
     let plan = Plan {
+        reached,
         survey,
         quiet,
         places,

@@ -1,6 +1,6 @@
 //! Which diagrams nothing can be dead in, whatever comes before them.
 
-ghost use Rattle.std.specs.Prelude.{◌≡◌, ◌↔◌, ◌<◌, ◌≤◌, ℕ, IfOk, IsTrue, length, slice_index, true};
+ghost use Rattle.std.specs.Prelude.{◌≡◌, ◌↔◌, ◌<◌, ◌≤◌, ℕ, All, IfOk, IsTrue, length, true};
 ghost use Rattle.std.specs.List.{AllByRecursion};
 ghost use Rattle.snap_ctx.specs.declared.fact.Fact.{Fact};
 ghost use Rattle.snap_fdd.specs.Contexts.{Met};
@@ -14,6 +14,7 @@ ghost use Rattle.snap_fdd.specs.Quiet.{BeginsElsewhere, IsClear, IsFine, IsMarke
 use crate::leaf::Leaf;
 use crate::order::compare;
 use crate::pick::look;
+use crate::reach::Reached;
 use crate::survey::Survey;
 use snap_arena::equal::same_index;
 use snap_arena::node::Node;
@@ -65,17 +66,30 @@ pub(crate) fn begins_elsewhere(nodes: &Nodes<Leaf>, test: &Test, d: u64) -> bool
     }
 }
 
-// Whether a node is quiet, by those before it.
-fn is_quiet(nodes: &Nodes<Leaf>, survey: &Survey, quiet: &[bool], d: u64) -> bool
+// Whether a number is noted as that of a quiet diagram.
+fn is_noted(nodes: &Nodes<Leaf>, survey: &Survey, reached: &Reached, quiet: &[bool], d: u64) -> bool
+    requires { IsMarked survey.now nodes.now reached.now.ids.items quiet.now }
+    ensures { IsTrue result → IsQuiet survey.now (diagram nodes.now d) }
+{
+    match reached.place(d) {
+        Some(place) => quiet.get(place) == Some(&true),
+        None => false,
+    }
+}
+
+// Whether a node is quiet, by its ways.
+fn is_quiet(nodes: &Nodes<Leaf>, survey: &Survey, reached: &Reached, quiet: &[bool], d: u64) -> bool
     requires d { d < length nodes.now }
-    requires before { length quiet.now ≡ d }
-    requires quiet { IsMarked survey.now nodes.now quiet.now }
+    requires quiet { IsMarked survey.now nodes.now reached.now.ids.items quiet.now }
     ensures { IsTrue result → IsQuiet survey.now (diagram nodes.now d) }
 {
     match look(nodes, d) {
         Node::Leaf(_) => true,
         Node::Ask { test, yes, no } => {
-            if !quiet[*yes as usize] || !quiet[*no as usize] {
+            if !is_noted(nodes, survey, reached, quiet, *yes) {
+                return false;
+            }
+            if !is_noted(nodes, survey, reached, quiet, *no) {
                 return false;
             }
             survey.is_fine(test) && begins_elsewhere(nodes, test, *yes)
@@ -83,18 +97,20 @@ fn is_quiet(nodes: &Nodes<Leaf>, survey: &Survey, quiet: &[bool], d: u64) -> boo
     }
 }
 
-/// Which of the numbers up to `root` are of quiet diagrams. Those that are marked are; no clause says which are
-/// marked, or that any is. Refuses for memory alone.
-pub fn quiet_ones(nodes: &Nodes<Leaf>, survey: &Survey, root: u64) -> Result<Vec<bool>, NoMemory>
-    requires { IsClear survey.now }
-    ensures { IfOk result (λ quiet. IsMarked survey.now nodes.now quiet.items) }
+/// Which of the numbers that are reached are of quiet diagrams, by their places. Those that are marked are; no clause
+/// says which are marked, or that any is. Refuses for memory alone.
+pub fn quiet_ones(
+    nodes: &Nodes<Leaf>,
+    survey: &Survey,
+    reached: &Reached,
+) -> Result<Vec<bool>, NoMemory>
+    requires survey { IsClear survey.now }
+    requires reached { All (λ d. d < length nodes.now) reached.now.ids.items }
+    ensures { IfOk result (λ quiet. IsMarked survey.now nodes.now reached.now.ids.items quiet.items) }
 {
-    let mut quiet = Vec::new(nodes.allocator());
-    for d in 0..nodes.count() {
-        if d > root {
-            break;
-        }
-        let next = is_quiet(nodes, survey, &quiet, d);
+    let mut quiet = Vec::with_capacity(nodes.allocator(), reached.ids.len())?;
+    for id in &reached.ids {
+        let next = is_quiet(nodes, survey, reached, &quiet, *id);
         quiet.push(next)?;
     }
     Ok(quiet)
@@ -139,16 +155,17 @@ pub fn stays(
     groups: &Groups,
     ctx: &Context,
     survey: &Survey,
+    reached: &Reached,
     quiet: &[bool],
     d: u64,
 ) -> bool
     requires d { IsArgument groups.now ctx.now nodes.now d }
-    requires marked { IsMarked survey.now nodes.now quiet.now }
+    requires marked { IsMarked survey.now nodes.now reached.now.ids.items quiet.now }
     ensures { IsTrue result → IsLive (Met ctx.now) (diagram nodes.now d) }
 {
     let _arena = nodes.count();
     let facts = ctx.facts();
-    if d >= quiet.len() as u64 || !quiet[d as usize] {
+    if !is_noted(nodes, survey, reached, quiet, d) {
         return false;
     }
     if d > MOST || facts.len() as u64 > MOST || ctx.comps() > 64 {

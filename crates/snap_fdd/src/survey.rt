@@ -1,12 +1,13 @@
 //! What a diagram tests: a look before pruning, so that what can't be dead is left as it is.
 
-ghost use Rattle.std.specs.Prelude.{◌≡◌, ◌↔◌, ◌<◌, ◌≤◌, IfOk, IsTrue, length, slice_get};
+ghost use Rattle.std.specs.Prelude.{◌≡◌, ◌↔◌, ◌<◌, ◌≤◌, All, IfOk, IsTrue, length, slice_get};
 ghost use Rattle.std.specs.List.{AllByRecursion};
 ghost use Rattle.snap_ctx.specs.Ranges.{AtomInRange, TermInRange};
 ghost use Rattle.snap_fdd.specs.Quiet.{AtomIsFree, IndexIsFine, IsClear, IsFine, SeenClear};
 ghost use Rattle.snap_fdd.specs.Spots.{IsNumber};
 
 use crate::leaf::Leaf;
+use crate::reach::Reached;
 use crate::spots::{Spot, is_at, note_spot, spots_apart};
 use snap_arena::node::Node;
 use snap_arena::nodes::Nodes;
@@ -34,58 +35,6 @@ pub struct Survey {
 
 // The most places that are remembered of an array: they are compared in pairs.
 const MOST_SPOTS: usize = 128;
-
-// Which numbers are reached from `root`.
-fn reached(nodes: &Nodes<Leaf>, root: u64) -> Result<Vec<bool>, NoMemory>
-    requires { root < length nodes.now }
-    ensures { IfOk result (λ reached. length reached.items ≡ length nodes.now) }
-{
-    let count = nodes.count() as usize;
-    let mut reached = vec![in nodes.allocator(); false; count]?;
-    reached[root as usize] = true;
-    for back in 0..count {
-        let id = count - 1 - back;
-        if reached[id] {
-            if let Node::Ask { yes, no, .. } = nodes.get(id as u64) {
-                reached[*yes as usize] = true;
-                reached[*no as usize] = true;
-            }
-        }
-    }
-    Ok(reached)
-}
-
-// Marks a number that is met, and one that is met again.
-fn meet(once: &mut [bool], again: &mut [bool], id: usize)
-    ensures { (length once.new ≡ length once.old) × (length again.new ≡ length again.old) }
-{
-    if id < once.len() && id < again.len() {
-        if once[id] {
-            again[id] = true;
-        }
-        once[id] = true;
-    }
-}
-
-/// Which numbers are ways of several tests that are reached from `root`. No clause says so: it serves for what is
-/// worth remembering, and no answer rests on it. Refuses for memory alone.
-pub fn joins(nodes: &Nodes<Leaf>, root: u64) -> Result<Vec<bool>, NoMemory>
-    requires { root < length nodes.now }
-{
-    let reached = reached(nodes, root)?;
-    let mut once = vec![in nodes.allocator(); false; reached.len()]?;
-    let mut again = vec![in nodes.allocator(); false; reached.len()]?;
-    for id in 0..reached.len() {
-        if reached[id] {
-            if let Node::Ask { yes, no, .. } = nodes.get(id as u64) {
-                for way in [*yes, *no] {
-                    meet(&mut once, &mut again, way as usize);
-                }
-            }
-        }
-    }
-    Ok(again)
-}
 
 impl Survey {
     // Nothing was tested.
@@ -224,20 +173,17 @@ fn all_judged(alloc: Global, values: u64, arrays: Vec<Seen>) -> Result<Vec<Seen>
     Ok(all)
 }
 
-/// What the tests from a number on are. Places of an array that may turn out to be one aren't told apart; no clause
-/// says that others are. Refuses for memory alone.
-pub fn look_over(nodes: &Nodes<Leaf>, arrays: usize, root: u64) -> Result<Survey, NoMemory>
-    requires { root < length nodes.now }
+/// What the tests of the nodes that are reached are. Places of an array that may turn out to be one aren't told
+/// apart; no clause says that others are. Refuses for memory alone.
+pub fn look_over(nodes: &Nodes<Leaf>, arrays: usize, reached: &Reached) -> Result<Survey, NoMemory>
+    requires { All (λ d. d < length nodes.now) reached.now.ids.items }
     ensures { IfOk result IsClear }
 {
-    let reached = reached(nodes, root)?;
     let alloc = nodes.allocator();
     let mut survey = Survey::new(alloc, arrays)?;
-    for id in 0..reached.len() {
-        if reached[id] {
-            if let Node::Ask { test, .. } = nodes.get(id as u64) {
-                survey.note(test)?;
-            }
+    for id in &reached.ids {
+        if let Node::Ask { test, .. } = nodes.get(*id) {
+            survey.note(test)?;
         }
     }
     let arrays = all_judged(alloc, survey.values, survey.arrays)?;

@@ -1,14 +1,15 @@
 //! Which components and arrays a diagram tests: marks of nodes, so that pruning knows which facts matter.
 
-ghost use Rattle.std.specs.Prelude.{◌≡◌, ◌+◌, ◌<◌, ◌≤◌, IfOk, length};
+ghost use Rattle.std.specs.Prelude.{◌≡◌, ◌<◌, All, IfOk, IfSome, Some, length, slice_get};
 ghost use Rattle.std.specs.List.{AllByRecursion};
 ghost use Rattle.snap_ctx.specs.Known.{AtomOver, TermOver, TestOver};
 ghost use Rattle.snap_ctx.specs.Ranges.{TestInRange};
 ghost use Rattle.snap_fdd.specs.Diagrams.{diagram};
-ghost use Rattle.snap_fdd.specs.Tested.{AreTested, TestsOver, either_tested, mark_of};
+ghost use Rattle.snap_fdd.specs.Tested.{AreTested, TestsOver, either_tested};
 
 use crate::leaf::Leaf;
 use crate::pick::look;
+use crate::reach::Reached;
 use snap_arena::node::Node;
 use snap_arena::nodes::Nodes;
 use snap_core::NoMemory;
@@ -86,45 +87,59 @@ fn test_tested(test: &Test) -> Tested
     }
 }
 
-/// The mark of a number, where there is one.
-pub fn mark_at(nodes: &Nodes<Leaf>, marks: &[Tested], d: u64) -> Tested
-    requires d { d < length marks.now }
-    requires marks { AreTested nodes.now marks.now }
-    ensures over { TestsOver result (diagram nodes.now d) }
-    ensures is { result ≡ mark_of marks.now d }
+/// The mark at a place, where there is one.
+pub fn noted_mark(marks: &[Option<Tested>], place: usize) -> Option<Tested>
+    ensures { IfSome result (λ mark. slice_get marks.now place ≡ Some (Some mark)) }
 {
-    marks[d as usize]
+    *marks.get(place)?
 }
 
-// The mark of the number after those that are marked.
-fn next_tested(nodes: &Nodes<Leaf>, marks: &[Tested], d: u64) -> Tested
+/// The mark of a number, where it has one.
+pub(crate) fn mark_at(
+    nodes: &Nodes<Leaf>,
+    reached: &Reached,
+    marks: &[Option<Tested>],
+    d: u64,
+) -> Option<Tested>
+    requires { AreTested nodes.now reached.now.ids.items marks.now }
+    ensures { IfSome result (λ mark. TestsOver mark (diagram nodes.now d)) }
+{
+    *marks.get(reached.place(d)?)?
+}
+
+// The mark of a number, by those of its ways.
+fn next_tested(
+    nodes: &Nodes<Leaf>,
+    reached: &Reached,
+    marks: &[Option<Tested>],
+    d: u64,
+) -> Option<Tested>
     requires d { d < length nodes.now }
-    requires before { d ≤ length marks.now }
-    requires marks { AreTested nodes.now marks.now }
-    ensures { TestsOver result (diagram nodes.now d) }
+    requires marks { AreTested nodes.now reached.now.ids.items marks.now }
+    ensures { IfSome result (λ mark. TestsOver mark (diagram nodes.now d)) }
 {
     match look(nodes, d) {
-        Node::Leaf(_) => Tested {
+        Node::Leaf(_) => Some(Tested {
             comps: 0,
             arrays: 0,
-        },
+        }),
         Node::Ask { test, yes, no } => {
-            let ways = either(mark_at(nodes, marks, *yes), mark_at(nodes, marks, *no));
-            either(test_tested(test), ways)
+            let yes = mark_at(nodes, reached, marks, *yes)?;
+            let no = mark_at(nodes, reached, marks, *no)?;
+            Some(either(test_tested(test), either(yes, no)))
         }
     }
 }
 
-/// The marks of the numbers up to `root`, which may have more than is tested. Refuses for memory alone.
-pub fn mark_tests(nodes: &Nodes<Leaf>, root: u64) -> Result<Vec<Tested>, NoMemory>
-    requires { root < length nodes.now }
-    ensures count { IfOk result (λ marks. length marks.items ≡ root + 1) }
-    ensures marks { IfOk result (λ marks. AreTested nodes.now marks.items) }
+/// The marks of the numbers that are reached, by their places. Each has one, since its ways stand before it; what
+/// is marked may be more than is tested. Refuses for memory alone.
+pub fn mark_tests(nodes: &Nodes<Leaf>, reached: &Reached) -> Result<Vec<Option<Tested>>, NoMemory>
+    requires { All (λ d. d < length nodes.now) reached.now.ids.items }
+    ensures { IfOk result (λ marks. AreTested nodes.now reached.now.ids.items marks.items) }
 {
-    let _count = nodes.count();
-    let mut marks = Vec::new(nodes.allocator());
-    for id in 0..root + 1 {
-        let next = next_tested(nodes, &marks, id);
+    let mut marks = Vec::with_capacity(nodes.allocator(), reached.ids.len())?;
+    for id in &reached.ids {
+        let next = next_tested(nodes, reached, &marks, *id);
         marks.push(next)?;
     }
     Ok(marks)

@@ -3,8 +3,8 @@ use Rattle.std.proofs.Common.{◌≡◌, length}
 use Rattle.snap_fdd.specs.Places.{ArePlaced}
 use Rattle.snap_fdd.proofs.places.mark_places.Given as goal
 
-abbrev pub invariant-loop-d : goal.invariant-loop-d
-invariant-loop-d l = record {
-  count : length l.marks.items ≡ l.d;
-  marked : ArePlaced l.nodes l.marks.items;
+abbrev pub invariant-loop-id : goal.invariant-loop-id
+invariant-loop-id l = record {
+  count : length l.marks.items ≡ l.id-index;
+  marked : ArePlaced l.nodes l.reached.ids.items l.marks.items;
 }

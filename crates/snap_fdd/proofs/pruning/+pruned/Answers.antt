@@ -1,9 +1,9 @@
 -- One way, the other, or both.
-use Rattle.std.proofs.Common.{◌≡◌, ◌<◌, ◌∷◌, ◌∙◌, ℕ, List, Option, Some, refl, sym, subst, arith, length, true, false}
+use Rattle.std.proofs.Common.{◌≡◌, ◌<◌, ℕ, List, Option, refl, sym, subst, arith, length, true, false}
 use Rattle.std.specs.Global.{Vec}
 use Rattle.std.specs.Prelude.{IfSome}
 use Rattle.snap_arena.proofs.Remembering.{remembers_more}
-use Rattle.snap_fdd.specs.Memoed.{IsKeyFor, PrunedFor}
+use Rattle.snap_fdd.specs.Memoed.{IsKey, PrunedFor}
 use Rattle.std.proofs.lemmas.Result.{IfOk-weaker}
 use Rattle.snap_ctx.specs.Answers.{IsAssumed}
 use Rattle.snap_fdd.specs.Diagrams.{diagram}
@@ -31,8 +31,8 @@ pruned_anew-pruned-requires-in-More-2-2 t c =
       record {
         first = record { below = still_below _ _ _ c.pruned-in-More-2.ensures.grew hn; keeps = rw kn under };
         planned = plan_kept c.args.plan.now c.args.nodes.now c.pruned-in-More-2.new.nodes c.pruned-in-More-2.ensures.grew c.requires.planned;
-        known = memo_under c.args.groups.now c.args.plan.now.tested.items c.pruned-in-More-2.new.nodes c.pruned-in-More-2.new.memo c.args.ctx.now c.in-More-2.no_ctx c.in-Split.test false m2
-            (memo_back c.args.groups.now c.args.plan.now.tested.items c.pruned-in-More-2.new.nodes c.pruned-in-More-2.new.memo c.args.ctx.now c.in-More.yes_ctx c.in-Split.test true m1 c.in_ok-y-in-More-2.ensures.memo);
+        known = memo_under c.args.groups.now c.args.plan.now c.pruned-in-More-2.new.nodes c.pruned-in-More-2.new.memo c.args.ctx.now c.in-More-2.no_ctx c.in-Split.test false m2
+            (memo_back c.args.groups.now c.args.plan.now c.pruned-in-More-2.new.nodes c.pruned-in-More-2.new.memo c.args.ctx.now c.in-More.yes_ctx c.in-Split.test true m1 c.in_ok-y-in-More-2.ensures.memo);
       },
     )
 
@@ -49,7 +49,7 @@ pruned_anew-pruned-requires-in-More-2 t c =
           keeps = under_more c.args.groups.now c.args.ctx.now c.in-More.yes_ctx c.in-Split.test true (diagram c.args.nodes.now c.in-Split.yes) m1 (yes_part c.args.groups.now.ranks (sizes c.args.groups.now c.args.ctx.now) _ _ _ j);
         };
         planned = c.requires.planned;
-        known = memo_under c.args.groups.now c.args.plan.now.tested.items c.args.nodes.now c.args.memo.now c.args.ctx.now c.in-More.yes_ctx c.in-Split.test true m1 c.requires.known;
+        known = memo_under c.args.groups.now c.args.plan.now c.args.nodes.now c.args.memo.now c.args.ctx.now c.in-More.yes_ctx c.in-Split.test true m1 c.requires.known;
       },
     )
 
@@ -110,29 +110,26 @@ pub pruned_anew-returns-in_ok-n-in-More-2-clause-memo : goal.pruned_anew-returns
 pruned_anew-returns-in_ok-n-in-More-2-clause-memo t c =
     let a2 = subst (IsAssumed c.args.ctx.now c.in-Split.test false) c.in-More-2.is c.in_ok-assume-in-More.ensures in
     let m2 : IsMore c.args.ctx.now c.in-More-2.no_ctx c.in-Split.test false = record { facts = a2.0; count = a2.1; met = a2.2 } in
-    IfOk-weaker c.ask.result _ _ (λ d p. pruned_memo_kept c.args.groups.now.ranks (sizes c.args.groups.now c.args.ctx.now) c.args.plan.now.tested.items c.pruned-in-More-2-2.new.nodes c.ask.new.nodes c.pruned-in-More-2-2.new.memo c.ask.ensures.grew
-    (memo_back c.args.groups.now c.args.plan.now.tested.items c.pruned-in-More-2-2.new.nodes c.pruned-in-More-2-2.new.memo c.args.ctx.now c.in-More-2.no_ctx c.in-Split.test false m2 c.in_ok-n-in-More-2.ensures.memo)) c.ask.ensures.number
-
--- what is known, as numbers behind the diagram's
-told : (o : Option (Vec ℕ)) (key : Vec ℕ) (d : ℕ) (P : List ℕ → Type 0) → o ≡ Some key → IfSome o (λ key. (q : List ℕ) × (key.items ≡ d ∷ q) × P q) → (q : List ℕ) × (key.items ≡ d ∷ q) × P q
-told o key d P e h = subst (λ (o : Option (Vec ℕ)). IfSome o (λ key. (q : List ℕ) × (key.items ≡ d ∷ q) × P q)) e h
+    IfOk-weaker c.ask.result _ _ (λ d p. pruned_memo_kept c.args.groups.now.ranks (sizes c.args.groups.now c.args.ctx.now) c.args.plan.now c.pruned-in-More-2-2.new.nodes c.ask.new.nodes c.pruned-in-More-2-2.new.memo c.ask.ensures.grew
+    (memo_back c.args.groups.now c.args.plan.now c.pruned-in-More-2-2.new.nodes c.pruned-in-More-2-2.new.memo c.args.ctx.now c.in-More-2.no_ctx c.in-Split.test false m2 c.in_ok-n-in-More-2.ensures.memo)) c.ask.ensures.number
 
 pub pruned-returns-in-Some-get-clause-number : goal.pruned-returns-in-Some-get-clause-number
 pruned-returns-in-Some-get-clause-number t c =
-    let k = told c.in_ok-key.field-0 c.in-Some.key c.args.d (IsKeyFor c.args.plan.now.tested.items c.args.nodes.now c.args.ctx.now c.args.d) c.in-Some.is c.in_ok-key.ensures in
-    (subst (λ (q : List ℕ). PrunedFor c.args.groups.now.ranks (sizes c.args.groups.now c.args.ctx.now) c.args.plan.now.tested.items c.args.nodes.now q c.in-Some-get.r) (c.deref.ensures.value ∙ k.1)
-    (c.requires.known c.deref.result.now c.in-Some-get.r (sym c.in-Some-get.ensures))).number
+    let k = subst (λ (o : Option (Vec ℕ)). IfSome o (λ key. IsKey c.args.plan.now c.args.nodes.now c.args.ctx.now c.args.d key.items)) c.in-Some.is c.in_ok-key.ensures in
+    (pruned_before c.args.groups.now.ranks (sizes c.args.groups.now c.args.ctx.now) c.args.plan.now c.args.nodes.now c.args.ctx.now c.args.d c.in-Some.key.items c.in-Some-get.r refl c.requires.first.keeps k
+    (subst (λ (q : List ℕ). PrunedFor c.args.groups.now.ranks (sizes c.args.groups.now c.args.ctx.now) c.args.plan.now c.args.nodes.now q c.in-Some-get.r) c.deref.ensures.value
+    (c.requires.known c.deref.result.now c.in-Some-get.r (sym c.in-Some-get.ensures)))).0
 
 pub pruned-returns-in-Some-get-clause-pruned : goal.pruned-returns-in-Some-get-clause-pruned
 pruned-returns-in-Some-get-clause-pruned t c =
-    let k = told c.in_ok-key.field-0 c.in-Some.key c.args.d (IsKeyFor c.args.plan.now.tested.items c.args.nodes.now c.args.ctx.now c.args.d) c.in-Some.is c.in_ok-key.ensures in
-    pruned_before c.args.groups.now.ranks (sizes c.args.groups.now c.args.ctx.now) c.args.plan.now.tested.items c.args.nodes.now c.args.ctx.now c.args.d k.0 c.in-Some-get.r refl c.requires.first.keeps k.2
-    (subst (λ (q : List ℕ). PrunedFor c.args.groups.now.ranks (sizes c.args.groups.now c.args.ctx.now) c.args.plan.now.tested.items c.args.nodes.now q c.in-Some-get.r) (c.deref.ensures.value ∙ k.1)
-    (c.requires.known c.deref.result.now c.in-Some-get.r (sym c.in-Some-get.ensures)))
+    let k = subst (λ (o : Option (Vec ℕ)). IfSome o (λ key. IsKey c.args.plan.now c.args.nodes.now c.args.ctx.now c.args.d key.items)) c.in-Some.is c.in_ok-key.ensures in
+    (pruned_before c.args.groups.now.ranks (sizes c.args.groups.now c.args.ctx.now) c.args.plan.now c.args.nodes.now c.args.ctx.now c.args.d c.in-Some.key.items c.in-Some-get.r refl c.requires.first.keeps k
+    (subst (λ (q : List ℕ). PrunedFor c.args.groups.now.ranks (sizes c.args.groups.now c.args.ctx.now) c.args.plan.now c.args.nodes.now q c.in-Some-get.r) c.deref.ensures.value
+    (c.requires.known c.deref.result.now c.in-Some-get.r (sym c.in-Some-get.ensures)))).1
 
 pub pruned-returns-clause-memo : goal.pruned-returns-clause-memo
 pruned-returns-clause-memo t c =
-    let k = told c.in_ok-key.field-0 c.in-Some.key c.args.d (IsKeyFor c.args.plan.now.tested.items c.args.nodes.now c.args.ctx.now c.args.d) c.in-Some.is c.in_ok-key.ensures in
-    remembers_more (PrunedFor c.args.groups.now.ranks (sizes c.args.groups.now c.args.ctx.now) c.args.plan.now.tested.items c.pruned_anew-2.new.nodes) c.pruned_anew-2.new.memo c.put.new.self c.in-Some.key.items c.in_ok-r.r c.in_ok-r.ensures.memo
-    (rw k.1 (pruned_now c.args.groups.now.ranks (sizes c.args.groups.now c.args.ctx.now) c.args.plan.now.tested.items c.args.nodes.now c.pruned_anew-2.new.nodes c.args.ctx.now c.args.d k.0 c.in_ok-r.r c.in_ok-r.ensures.grew c.requires.first.below c.in_ok-r.ensures.number refl k.2 c.in_ok-r.ensures.pruned))
+    let k = subst (λ (o : Option (Vec ℕ)). IfSome o (λ key. IsKey c.args.plan.now c.args.nodes.now c.args.ctx.now c.args.d key.items)) c.in-Some.is c.in_ok-key.ensures in
+    remembers_more (PrunedFor c.args.groups.now.ranks (sizes c.args.groups.now c.args.ctx.now) c.args.plan.now c.pruned_anew-2.new.nodes) c.pruned_anew-2.new.memo c.put.new.self c.in-Some.key.items c.in_ok-r.r c.in_ok-r.ensures.memo
+    (pruned_now c.args.groups.now.ranks (sizes c.args.groups.now c.args.ctx.now) c.args.plan.now c.args.nodes.now c.pruned_anew-2.new.nodes c.args.ctx.now c.args.d c.in-Some.key.items c.in_ok-r.r c.in_ok-r.ensures.grew c.requires.first.below c.in_ok-r.ensures.number refl k c.in_ok-r.ensures.pruned)
     c.in_ok-put.ensures.ok

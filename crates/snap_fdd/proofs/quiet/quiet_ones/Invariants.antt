@@ -3,8 +3,8 @@ use Rattle.std.proofs.Common.{◌≡◌, length}
 use Rattle.snap_fdd.specs.Quiet.{IsMarked}
 use Rattle.snap_fdd.proofs.quiet.quiet_ones.Given as goal
 
-abbrev pub invariant-loop-d : goal.invariant-loop-d
-invariant-loop-d l = record {
-  count : length l.quiet.items ≡ l.d;
-  marked : IsMarked l.survey l.nodes l.quiet.items;
+abbrev pub invariant-loop-id : goal.invariant-loop-id
+invariant-loop-id l = record {
+  count : length l.quiet.items ≡ l.id-index;
+  marked : IsMarked l.survey l.nodes l.reached.ids.items l.quiet.items;
 }

@@ -1,6 +1,5 @@
 -- Quiet below calm facts.
-use Rattle.std.proofs.Common.{◌≡◌, ◌+◌, ◌<◌, ◌≤◌, ◌^◌, List, length, sym, subst, rules, arith, true, false}
-use Rattle.std.specs.Prelude.{slice_index_or}
+use Rattle.std.proofs.Common.{◌+◌, ◌≤◌, ◌^◌, List, length, sym, subst, arith}
 use Rattle.std.specs.List.{AllByRecursion}
 use Rattle.snap_ctx.specs.declared.fact.Fact.{Fact}
 use Rattle.snap_fdd.specs.Diagrams.{diagram, depth, IsNodeOf}
@@ -12,12 +11,10 @@ pub returns-in-Ask : goal.returns-in-Ask
 returns-in-Ask c =
     let l = subst (IsNodeOf c.args.nodes.now c.args.d) c.in-Ask.is c.look.ensures in
     let few : length c.args.ctx.now.classes ≤ 64 = omega (arith, c.comps.ensures, c.if-comps-gt64.false) in
-    let within : c.args.d < length c.args.quiet.now = search rules in
-    let marked : slice_index_or c.args.quiet.now c.args.d false ≡ true = search rules in
     let low = depth_le c.args.nodes.now c.count-arena.ensures.arena c.args.d c.requires.d.below in
     let count : length c.facts-facts.result.now ≤ 2147483648 = omega (arith, c.if-facts-gt-MOST.false) in
     let short : length c.args.ctx.now.facts + depth (diagram c.args.nodes.now c.args.d) ≤ 2 ^ 32
     = rw (sym c.facts-facts.ensures.facts) (omega (arith, low, count, c.if-d-gt-MOST.false)) in
     λ t. stays_live c.args.groups.now c.args.survey.now c.requires.marked.clear c.args.ctx.now c.in-Ask.test _ _ (diagram c.args.nodes.now c.args.d) l.0 few c.facts-facts.ensures.met c.facts-facts.ensures.tests
     (subst (λ (fs : List Fact). AllByRecursion (StandsBefore c.args.groups.now.ranks c.args.survey.now c.in-Ask.test) fs) c.facts-facts.ensures.facts (c.all_before.ensures t))
-    (c.requires.marked.quiet c.args.d within marked) c.requires.d.keeps short
+    (c.is_noted.ensures c.if-not-is_noted.false) c.requires.d.keeps short
