@@ -12,7 +12,7 @@ use snap_core::policy::{Atom, Op, Update, copy_updates};
 use std::alloc::Global;
 use std::cmp::Ordering;
 
-fn adds(update: &Update) -> bool
+pub(crate) fn adds(update: &Update) -> bool
     ensures { IsTrue result → Adds update.now }
 {
     match update.op {

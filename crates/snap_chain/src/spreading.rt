@@ -11,11 +11,12 @@ ghost use Rattle.snap_fdd.specs.declared.leaf.Leaf.TheVariants.{Go as Goes};
 ghost use Rattle.snap_fdd.specs.Picks.{IsArgument, sizes};
 ghost use Rattle.snap_chain.specs.Memoed.{PrefixedFor, IsAskedPrefix, SequelFor, IsAskedSequel};
 ghost use Rattle.snap_chain.specs.Marks.{AreMarked};
-ghost use Rattle.snap_chain.specs.Spread.{bare_leaf, behind_leaf, IsRun, IsPrefixed, IsSpread, IsSequel};
+ghost use Rattle.snap_chain.specs.Spread.{bare_leaf, IsBehindLeaf, IsRun, IsPrefixed, IsSpread, IsSequel};
 
 use crate::late::after_marked;
 use crate::marks::Mark;
 use crate::settling::go_of;
+use crate::summing::push_updates;
 use snap_arena::nodes::Nodes;
 use snap_arena::numbers::Numbers;
 use snap_core::NoMemory;
@@ -70,12 +71,10 @@ fn all_after(
 
 // A leaf behind the updates and logs of another.
 fn leaf_behind(alloc: Global, go: &Go, later: &Go) -> Result<Leaf, NoMemory>
-    ensures { IfOk result (λ l. l ≡ behind_leaf go.now (Goes later.now)) }
+    ensures { IfOk result (IsBehindLeaf go.now later.now) }
 {
     let mut ups = copy_updates(alloc, go.ups.list())?;
-    for update in later.ups.list() {
-        ups.push(update.copy()?)?;
-    }
+    push_updates(&mut ups, later.ups.list())?;
     Ok(Leaf::Go(Go {
         outs: later.outs.copy(alloc)?,
         ups: Updates::new(ups),
