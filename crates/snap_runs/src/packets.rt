@@ -78,6 +78,7 @@ impl PacketLines {
         ensures name { lines_name self.new.lines ≡ lines_name self.old.lines }
         ensures agrees { AgreesWith (S.files shelf.new) self.new.lines }
         ensures read { IsErrOf result TraceFault.Read → Rose (S.faults shelf.old (lines_name self.old.lines)) (S.faults shelf.new (lines_name self.old.lines)) }
+        ensures defined { (packet : ℕ) → IsErrOf result (TraceFault.Undefined packet) → ⊥ }
         ensures not_write { IsErrOf result TraceFault.Write → ⊥ }
         ensures files { S.files shelf.new ≡ S.files shelf.old }
         ensures later { NoneFell (S.faults shelf.old) (S.faults shelf.new) }
@@ -101,6 +102,7 @@ impl PacketLines {
         ensures name { lines_name self.new.lines ≡ lines_name self.old.lines }
         ensures agrees { AgreesWith (S.files shelf.new) self.new.lines }
         ensures read { IsErrOf result TraceFault.Read → Rose (S.faults shelf.old (lines_name self.old.lines)) (S.faults shelf.new (lines_name self.old.lines)) }
+        ensures defined { (packet : ℕ) → IsErrOf result (TraceFault.Undefined packet) → ⊥ }
         ensures not_write { IsErrOf result TraceFault.Write → ⊥ }
         ensures files { S.files shelf.new ≡ S.files shelf.old }
         ensures later { NoneFell (S.faults shelf.old) (S.faults shelf.new) }
@@ -124,6 +126,7 @@ impl PacketLines {
         ensures name { lines_name self.new.lines ≡ lines_name self.old.lines }
         ensures agrees { AgreesWith (S.files shelf.new) self.new.lines }
         ensures read { IsErrOf result TraceFault.Read → Rose (S.faults shelf.old (lines_name self.old.lines)) (S.faults shelf.new (lines_name self.old.lines)) }
+        ensures defined { (packet : ℕ) → IsErrOf result (TraceFault.Undefined packet) → ⊥ }
         ensures not_write { IsErrOf result TraceFault.Write → ⊥ }
         ensures files { S.files shelf.new ≡ S.files shelf.old }
         ensures later { NoneFell (S.faults shelf.old) (S.faults shelf.new) }
