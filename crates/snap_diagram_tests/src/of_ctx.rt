@@ -144,12 +144,17 @@ fn facts_past_sixty_four_are_kept(rt: HostRuntime) -> Result<(), Fail> {
     Ok(())
 }
 
+// What is known about a set of components, behind 9.
+fn known_of(alloc: Global, facts: &[(Asks, bool)], comps: u64) -> Result<Vec<u64>, Fail> {
+    match context(alloc, facts)?.known(9, comps, 0)? {
+        Some(key) => Ok(key),
+        None => Err("nothing is known")?,
+    }
+}
+
 // What is known about the third component, behind 9.
 fn known_of_third(alloc: Global, facts: &[(Asks, bool)]) -> Result<Vec<u64>, Fail> {
-    match context(alloc, facts)?.known(9, 4, 0)? {
-        Some(key) => Ok(key),
-        None => Err("the facts fall apart")?,
-    }
+    known_of(alloc, facts, 4)
 }
 
 #[test]
@@ -164,5 +169,28 @@ fn facts_on_others_are_not_known(rt: HostRuntime) -> Result<(), Fail> {
     assert_eq!(rt; bare.first().copied(), Some(9));
     assert_eq!(rt; known_of_third(alloc, &others)?, bare);
     assert!(rt; known_of_third(alloc, &[(Asks::Is(2, 7), false)])? != bare);
+    Ok(())
+}
+
+// The component of one of the facts, that of the eighty others, and all five components.
+const SETS: &[u64] = &[8, 16, 31];
+
+// The sets about which these facts say something: what is known by them is another thing than by none.
+fn sets_known(alloc: Global, facts: &[(Asks, bool)]) -> Result<Vec<u64>, Fail> {
+    let mut known = Vec::new(alloc);
+    for comps in SETS {
+        if known_of(alloc, facts, *comps)? != known_of(alloc, &[], *comps)? {
+            known.push(*comps)?;
+        }
+    }
+    Ok(known)
+}
+
+#[test]
+fn many_facts_are_known(rt: HostRuntime) -> Result<(), Fail> {
+    let alloc = rt.alloc();
+    let facts = eighty_numbers(alloc)?;
+    assert_eq!(rt; known_of_third(alloc, &facts)?, known_of_third(alloc, &[])?);
+    assert_eq!(rt; sets_known(alloc, &facts)?.len(), 3);
     Ok(())
 }

@@ -14,6 +14,8 @@ mod of_net;
 #[cfg(test)]
 mod of_order;
 #[cfg(test)]
+mod of_rows;
+#[cfg(test)]
 mod of_runs;
 #[cfg(test)]
 mod of_tables;
