@@ -77,6 +77,7 @@ impl Mover {
         ensures closes { IfSome (S.files shelf.old) (λ files.
             Closes self.old.tracer.net.tables (left_in self.old) self.old.tracer.hops (file_of files (lines_name reader.old.lines)) result (K.taken sink.old) (K.taken sink.new) self.new.tracer.text.items) }
         ensures read { IsErrOf result TraceFault.Read → Rose (S.faults shelf.old (lines_name reader.old.lines)) (S.faults shelf.new (lines_name reader.old.lines)) }
+        ensures defined { (packet : ℕ) → IsErrOf result (TraceFault.Undefined packet) → ⊥ }
         ensures write { IsErrOf result TraceFault.Write → Rose (K.faults sink.old) (K.faults sink.new) }
         ensures files { S.files shelf.new ≡ S.files shelf.old }
         ensures later { NoneFell (S.faults shelf.old) (S.faults shelf.new) }
@@ -108,6 +109,7 @@ impl Mover {
         ensures name { lines_name reader.new.lines ≡ lines_name reader.old.lines }
         ensures agrees { AgreesWith (S.files shelf.new) reader.new.lines }
         ensures read { IsErrOf result TraceFault.Read → Rose (S.faults shelf.old (lines_name reader.old.lines)) (S.faults shelf.new (lines_name reader.old.lines)) }
+        ensures defined { (packet : ℕ) → IsErrOf result (TraceFault.Undefined packet) → ⊥ }
         ensures write { IsErrOf result TraceFault.Write → Rose (K.faults sink.old) (K.faults sink.new) }
         ensures files { S.files shelf.new ≡ S.files shelf.old }
         ensures later { NoneFell (S.faults shelf.old) (S.faults shelf.new) }
@@ -129,6 +131,7 @@ impl Mover {
         ensures keeps { OnOk result (Keeps self.new) }
         ensures injected { self.new.tracer.net.injected ≤ self.old.tracer.net.injected + 1 }
         ensures fault { (IsErrOf result TraceFault.Read ⊎ IsErrOf result TraceFault.Write) → ⊥ }
+        ensures defined { (packet : ℕ) → IsErrOf result (TraceFault.Undefined packet) → ⊥ }
     {
         match line {
             Line::Skip => Ok(()),
@@ -166,6 +169,7 @@ impl Mover {
         ensures report { (first : Tables) (later : List Later) (hops : Bool) (file : List ℕ) (start : Maybe (List ℕ)) →
             Closes first later hops file ended start (K.taken sink.old) self.old.tracer.text.items → WritesChanged first later hops file result start (K.taken sink.new) }
         ensures read { IsErrOf result TraceFault.Read → IsErrOf ended TraceFault.Read }
+        ensures defined { (packet : ℕ) → IsErrOf result (TraceFault.Undefined packet) → IsErrOf ended (TraceFault.Undefined packet) }
         ensures write { IsErrOf result TraceFault.Write → IsErrOf ended TraceFault.Write ⊎ Rose (K.faults sink.old) (K.faults sink.new) }
         ensures later { K.faults sink.old ≤ K.faults sink.new }
     {

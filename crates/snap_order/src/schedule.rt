@@ -48,6 +48,7 @@ pub fn schedule_ordered<S: Shelf, K: Sink>(
         WritesSchedule tables hops (file_of files packets.now) (file_of files schedule.now) result (K.taken sink.old) (K.taken sink.new)) }
     ensures no_write { IsErrOf result (ScheduleFault.Packets TraceFault.Write) → ⊥ }
     ensures read_packets { IsErrOf result (ScheduleFault.Packets TraceFault.Read) → Rose (S.faults shelf.old packets.now) (S.faults shelf.new packets.now) }
+    ensures defined { (packet : ℕ) → IsErrOf result (ScheduleFault.Packets (TraceFault.Undefined packet)) → ⊥ }
     ensures read { IsErrOf result ScheduleFault.Read → Rose (S.faults shelf.old schedule.now) (S.faults shelf.new schedule.now) }
     ensures write { IsErrOf result ScheduleFault.Write → Rose (K.faults sink.old) (K.faults sink.new) }
 {

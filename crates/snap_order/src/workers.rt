@@ -50,6 +50,7 @@ pub fn trace_workers<R: Threads + Sync, S: Shelf, K: Sink, G: Gate>(
     ensures report { IfSome (S.files shelf.old) (λ files.
         WritesRounds tables hops (file_of files packets.now) result (K.taken sink.old) (K.taken sink.new)) }
     ensures read { IsErrOf result TraceFault.Read → Rose (S.faults shelf.old packets.now) (S.faults shelf.new packets.now) }
+    ensures defined { (packet : ℕ) → IsErrOf result (TraceFault.Undefined packet) → ⊥ }
     ensures write { IsErrOf result TraceFault.Write → Rose (K.faults sink.old) (K.faults sink.new) }
     ensures files { S.files shelf.new ≡ S.files shelf.old }
     ensures later { NoneFell (S.faults shelf.old) (S.faults shelf.new) }

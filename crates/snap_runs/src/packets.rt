@@ -76,6 +76,7 @@ impl PacketLines {
         ensures name { lines_name self.new.lines ≡ lines_name self.old.lines }
         ensures agrees { AgreesWith (S.files shelf.new) self.new.lines }
         ensures read { IsErrOf result TraceFault.Read → Rose (S.faults shelf.old (lines_name self.old.lines)) (S.faults shelf.new (lines_name self.old.lines)) }
+        ensures defined { (packet : ℕ) → IsErrOf result (TraceFault.Undefined packet) → ⊥ }
         ensures not_write { IsErrOf result TraceFault.Write → ⊥ }
         ensures files { S.files shelf.new ≡ S.files shelf.old }
         ensures later { NoneFell (S.faults shelf.old) (S.faults shelf.new) }
@@ -99,6 +100,7 @@ impl PacketLines {
         ensures name { lines_name self.new.lines ≡ lines_name self.old.lines }
         ensures agrees { AgreesWith (S.files shelf.new) self.new.lines }
         ensures read { IsErrOf result TraceFault.Read → Rose (S.faults shelf.old (lines_name self.old.lines)) (S.faults shelf.new (lines_name self.old.lines)) }
+        ensures defined { (packet : ℕ) → IsErrOf result (TraceFault.Undefined packet) → ⊥ }
         ensures not_write { IsErrOf result TraceFault.Write → ⊥ }
         ensures files { S.files shelf.new ≡ S.files shelf.old }
         ensures later { NoneFell (S.faults shelf.old) (S.faults shelf.new) }
@@ -122,6 +124,7 @@ impl PacketLines {
         ensures name { lines_name self.new.lines ≡ lines_name self.old.lines }
         ensures agrees { AgreesWith (S.files shelf.new) self.new.lines }
         ensures read { IsErrOf result TraceFault.Read → Rose (S.faults shelf.old (lines_name self.old.lines)) (S.faults shelf.new (lines_name self.old.lines)) }
+        ensures defined { (packet : ℕ) → IsErrOf result (TraceFault.Undefined packet) → ⊥ }
         ensures not_write { IsErrOf result TraceFault.Write → ⊥ }
         ensures files { S.files shelf.new ≡ S.files shelf.old }
         ensures later { NoneFell (S.faults shelf.old) (S.faults shelf.new) }

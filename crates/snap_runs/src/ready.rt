@@ -1,6 +1,6 @@
 //! Packets that can be injected.
 
-ghost use Rattle.std.specs.Prelude.{◌≡◌, ◌≢◌, ◌≤◌, ◌++◌, ◌∷◌, [], length, IfErr, IfOk, IfSome, IsErrOf, MatchResult, OnErr, OnOk};
+ghost use Rattle.std.specs.Prelude.{◌≡◌, ◌≢◌, ◌≤◌, ◌++◌, ◌∷◌, ℕ, [], length, IfErr, IfOk, IfSome, IsErrOf, MatchResult, OnErr, OnOk};
 ghost use Rattle.std.specs.List.{All};
 ghost use Rattle.snap_io.specs.Causes.{NoneFell, Rose};
 ghost use Rattle.snap_io.specs.Files.{file_of};
@@ -44,6 +44,7 @@ pub fn read_packets<S: Shelf>(
     ensures few { IfOk result (λ packets. length packets.items ≤ 1000000) }
     ensures not_write { IsErrOf result TraceFault.Write → ⊥ }
     ensures read { IsErrOf result TraceFault.Read → Rose (S.faults shelf.old name.now) (S.faults shelf.new name.now) }
+    ensures defined { (packet : ℕ) → IsErrOf result (TraceFault.Undefined packet) → ⊥ }
     ensures files { S.files shelf.new ≡ S.files shelf.old }
     ensures later { NoneFell (S.faults shelf.old) (S.faults shelf.new) }
 {
@@ -66,6 +67,7 @@ fn read_until<S: Shelf>(
     ensures few { length packets.new.items ≤ 1000000 }
     ensures not_write { IsErrOf result TraceFault.Write → ⊥ }
     ensures read { IsErrOf result TraceFault.Read → Rose (S.faults shelf.old name.now) (S.faults shelf.new name.now) }
+    ensures defined { (packet : ℕ) → IsErrOf result (TraceFault.Undefined packet) → ⊥ }
     ensures files { S.files shelf.new ≡ S.files shelf.old }
     ensures later { NoneFell (S.faults shelf.old) (S.faults shelf.new) }
 {

@@ -1,6 +1,6 @@
 //! The plain run of tables over a packets file.
 
-ghost use Rattle.std.specs.Prelude.{◌≡◌, ◌≤◌, IfSome, IsErrOf};
+ghost use Rattle.std.specs.Prelude.{◌≡◌, ◌≤◌, ℕ, IfSome, IsErrOf};
 ghost use Rattle.snap_io.specs.Causes.{NoneFell, Rose};
 ghost use Rattle.snap_io.specs.Files.{file_of};
 ghost use Rattle.snap_runs.specs.Plain.{WritesTrace, WritesTraceBy};
@@ -33,6 +33,7 @@ pub fn trace<S: Shelf, K: Sink>(
     ensures report { IfSome (S.files shelf.old) (λ files.
         WritesTrace tables hops (file_of files packets.now) result (K.taken sink.old) (K.taken sink.new)) }
     ensures read { IsErrOf result TraceFault.Read → Rose (S.faults shelf.old packets.now) (S.faults shelf.new packets.now) }
+    ensures defined { (packet : ℕ) → IsErrOf result (TraceFault.Undefined packet) → ⊥ }
     ensures write { IsErrOf result TraceFault.Write → Rose (K.faults sink.old) (K.faults sink.new) }
     ensures files { S.files shelf.new ≡ S.files shelf.old }
     ensures later { NoneFell (S.faults shelf.old) (S.faults shelf.new) }
@@ -58,6 +59,7 @@ pub fn trace_by<S: Shelf, K: Sink>(
     ensures report { IfSome (S.files shelf.old) (λ files.
         WritesTraceBy frames tables hops (file_of files packets.now) result (K.taken sink.old) (K.taken sink.new)) }
     ensures read { IsErrOf result TraceFault.Read → Rose (S.faults shelf.old packets.now) (S.faults shelf.new packets.now) }
+    ensures defined { (packet : ℕ) → IsErrOf result (TraceFault.Undefined packet) → ⊥ }
     ensures write { IsErrOf result TraceFault.Write → Rose (K.faults sink.old) (K.faults sink.new) }
     ensures files { S.files shelf.new ≡ S.files shelf.old }
     ensures later { NoneFell (S.faults shelf.old) (S.faults shelf.new) }

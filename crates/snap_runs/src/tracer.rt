@@ -80,6 +80,7 @@ impl Tracer {
         ensures report { IfSome (S.files shelf.old) (λ files.
             WritesTraceBy self.old.frames self.old.net.tables self.old.hops (file_of files packets.now) result (K.taken sink.old) (K.taken sink.new)) }
         ensures read { IsErrOf result TraceFault.Read → Rose (S.faults shelf.old packets.now) (S.faults shelf.new packets.now) }
+        ensures defined { (packet : ℕ) → IsErrOf result (TraceFault.Undefined packet) → ⊥ }
         ensures write { IsErrOf result TraceFault.Write → Rose (K.faults sink.old) (K.faults sink.new) }
         ensures files { S.files shelf.new ≡ S.files shelf.old }
         ensures later { NoneFell (S.faults shelf.old) (S.faults shelf.new) }
@@ -106,6 +107,7 @@ impl Tracer {
         ensures closes { IfSome (S.files shelf.old) (λ files.
             Closes self.old.frames self.old.net.tables self.old.hops (file_of files (lines_name reader.old.lines)) result (K.taken sink.old) (K.taken sink.new) self.new.text.items) }
         ensures read { IsErrOf result TraceFault.Read → Rose (S.faults shelf.old (lines_name reader.old.lines)) (S.faults shelf.new (lines_name reader.old.lines)) }
+        ensures defined { (packet : ℕ) → IsErrOf result (TraceFault.Undefined packet) → ⊥ }
         ensures write { IsErrOf result TraceFault.Write → Rose (K.faults sink.old) (K.faults sink.new) }
         ensures files { S.files shelf.new ≡ S.files shelf.old }
         ensures later { NoneFell (S.faults shelf.old) (S.faults shelf.new) }
@@ -137,6 +139,7 @@ impl Tracer {
         ensures name { lines_name reader.new.lines ≡ lines_name reader.old.lines }
         ensures agrees { AgreesWith (S.files shelf.new) reader.new.lines }
         ensures read { IsErrOf result TraceFault.Read → Rose (S.faults shelf.old (lines_name reader.old.lines)) (S.faults shelf.new (lines_name reader.old.lines)) }
+        ensures defined { (packet : ℕ) → IsErrOf result (TraceFault.Undefined packet) → ⊥ }
         ensures write { IsErrOf result TraceFault.Write → Rose (K.faults sink.old) (K.faults sink.new) }
         ensures files { S.files shelf.new ≡ S.files shelf.old }
         ensures later { NoneFell (S.faults shelf.old) (S.faults shelf.new) }
@@ -215,6 +218,7 @@ impl Tracer {
         ensures tables { self.new.net.tables ≡ self.old.net.tables }
         ensures injected { self.new.net.injected ≤ self.old.net.injected + 1 }
         ensures fault { (IsErrOf result TraceFault.Read ⊎ IsErrOf result TraceFault.Write) → ⊥ }
+        ensures defined { (packet : ℕ) → IsErrOf result (TraceFault.Undefined packet) → ⊥ }
     {
         match line {
             Line::Skip => Ok(()),
@@ -257,6 +261,7 @@ impl Tracer {
         ensures report { (f : Kind) (t : Tables) (hops : Bool) (file : List ℕ) (start : Maybe (List ℕ)) →
             Closes f t hops file ended start (K.taken sink.old) self.old.text.items → WritesTraceBy f t hops file result start (K.taken sink.new) }
         ensures read { IsErrOf result TraceFault.Read → IsErrOf ended TraceFault.Read }
+        ensures defined { (packet : ℕ) → IsErrOf result (TraceFault.Undefined packet) → IsErrOf ended (TraceFault.Undefined packet) }
         ensures write { IsErrOf result TraceFault.Write → IsErrOf ended TraceFault.Write ⊎ Rose (K.faults sink.old) (K.faults sink.new) }
         ensures later { K.faults sink.old ≤ K.faults sink.new }
     {
