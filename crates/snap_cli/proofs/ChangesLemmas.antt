@@ -149,6 +149,12 @@ told-changes None now t later hops packets lines old new e same h m = tt
 told-changes (Some files) now t later hops packets lines old new e same h m =
     inr (later.items, h, subst (λ o. IfSome o (λ files. MeetsLater t later.items hops packets (file_of files packets.now) e old new)) same m)
 
+-- a file of the changes was refused, and nothing went out
+pub told-no_changes : (told : Option Files) (t : Tables) (hops : Bool) (packets : Bor (List ℕ)) (lines : List ℕ) (out : Option (List ℕ)) (e : Refusal)
+    → IfSome told (λ files. LoadsChanges files t lines (Err e)) → IfSome told (λ files. MeetsChanges files t hops packets lines (Err e) out out)
+told-no_changes None t hops packets lines out e h = tt
+told-no_changes (Some files) t hops packets lines out e h = inl (e, h, refl, refl)
+
 -- ---- one change
 pub told-one_later : (told : Option Files) (first : Tables) (c : Change) (t : Tables) → IfSome told (λ files. LoadsTables c.name (file_of files c.name) (Ok t)) → HaveOneShape t first → IfSome told (λ files. LoadsLater files first c (Ok (record { after = c.after; tables = t })))
 told-one_later None first c t h same = tt

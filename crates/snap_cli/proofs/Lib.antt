@@ -43,6 +43,7 @@ pub mod ScheduleLemmas
 pub mod ScheduleOnce
 pub mod ScheduleTraced
 pub mod SpelledUnder
+pub mod StatusLemmas
 pub mod TextLemmas
 pub mod TopLemmas
 pub mod ChangesLemmas

@@ -23,6 +23,10 @@ tells before now old new message (Ok u) ok err cause =
     record { part = (length message, subst (Appends old new) (sym (take_all (length message) message (omega arith))) ok); whole = inr ok }
 tells before now old new message (Err e) ok err cause = record { part = err; whole = inl cause.failed }
 
+-- nothing is told
+pub quiet : (count : ℕ) (taken : Option (List ℕ)) → Tells count count taken taken []
+quiet count taken = record { part = (0, Appends-nil taken); whole = inr (Appends-nil taken) }
+
 -- the file of which a status 2 tells
 pub unread : (refusal : Refusal) → status_of (Err refusal) ≡ 2 → (name : List ℕ) × IsReadOf {X = Unit {0}} name (Err refusal)
 unread (Read name) e = (name.now, refl)
@@ -45,7 +49,7 @@ nothing_first files (compile program topology placement on_demand) = inl refl
 nothing_first files (trace tables packets hops order) = inl refl
 nothing_first files (demo switches) = refl
 
-meets_any : (files : Files) (out : Option (List ℕ)) (said : Option Command) (ending : Ending) → ending ≡ Err NoMemory
+pub meets_any : (files : Files) (out : Option (List ℕ)) (said : Option Command) (ending : Ending) → ending ≡ Err NoMemory
     → MatchOption said (((ending ≡ Err Usage) ⊎ (ending ≡ Err NoMemory)) × Appends out out []) (λ command. Meets files command ending out out)
 meets_any files out None ending is = (inr is, Appends-nil out)
 meets_any files out (Some command) ending is = subst (λ e. Meets files command e out out) (sym is) ([], nothing_first files command, (0, Appends-nil out))

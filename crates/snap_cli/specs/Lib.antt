@@ -29,6 +29,7 @@ pub mod Changes
 pub mod RunSteps
 pub mod ChangesSteps
 pub mod Spots
+pub mod Statuses
 pub mod Steps
 pub mod TablesOf
 pub mod Texts

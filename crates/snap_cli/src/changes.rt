@@ -1,6 +1,6 @@
 //! `trace --changes`: the report of tables that change between packets.
 
-ghost use Rattle.std.specs.Prelude.{◌≡◌, ◌++◌, ◌∷◌, [], ℕ, List, IfErr, IfOk, IfSome, IsErrOf, OnOk};
+ghost use Rattle.std.specs.Prelude.{◌≡◌, ◌≤◌, ◌++◌, ◌∷◌, [], ℕ, List, IfErr, IfOk, IfSome, IsErrOf, OnOk};
 ghost use Rattle.snap_io.specs.Causes.{NoneFell, Rose};
 ghost use Rattle.snap_io.specs.Files.{file_of};
 ghost use Rattle.snap_move.specs.Changing.{HaveShapeOf, IsRising};
@@ -11,6 +11,8 @@ ghost use Rattle.snap_cli.specs.Changes.{refusal_of_changes};
 ghost use Rattle.snap_cli.specs.ChangesSteps.{GivesChanges, LoadsChanges, LoadsLater, LoadsLaters, MeetsChanges, MeetsLater, ReadsChanges, afters, afters_of};
 ghost use Rattle.snap_cli.specs.Texts.{GivesText};
 ghost use Rattle.snap_cli.specs.TraceSteps.{LoadsTables};
+ghost use Rattle.snap_cli.specs.Statuses.{EndsWith, RefusesWith, statuses_of_trace};
+ghost use Rattle.snap_words.specs.Commands.{changes, plain};
 
 use crate::obs::refusal_of_run;
 use crate::refusal::Refusal;
@@ -42,6 +44,10 @@ pub(crate) fn report_changed<'a, S: Shelf, O: Sink>(
     ensures meets { IfSome (S.files shelf.old) (λ files. MeetsChanges files tables hops packets.entry lines.entry.now result (O.taken out.old) (O.taken out.new)) }
     ensures causes { HasCauses (S.faults shelf.old) (S.faults shelf.new) (O.faults out.old) (O.faults out.new) result }
     ensures not_usage { IsErrOf result Refusal.Usage → ⊥ }
+    ensures statuses { EndsWith (statuses_of_trace (changes lines.entry.now)) result }
+    ensures files { S.files shelf.new ≡ S.files shelf.old }
+    ensures later { NoneFell (S.faults shelf.old) (S.faults shelf.new) }
+    ensures out_later { O.faults out.old ≤ O.faults out.new }
 {
     match load_changes(alloc, shelf, &tables, lines) {
         Ok(later) => report_later(alloc, tables, later, packets, hops, shelf, out),
@@ -65,6 +71,10 @@ fn report_later<'a, S: Shelf, O: Sink>(
         MeetsLater tables later.items hops packets.entry (file_of files packets.entry.now) result (O.taken out.old) (O.taken out.new)) }
     ensures causes { HasCauses (S.faults shelf.old) (S.faults shelf.new) (O.faults out.old) (O.faults out.new) result }
     ensures not_usage { IsErrOf result Refusal.Usage → ⊥ }
+    ensures statuses { EndsWith (statuses_of_trace plain) result }
+    ensures files { S.files shelf.new ≡ S.files shelf.old }
+    ensures later { NoneFell (S.faults shelf.old) (S.faults shelf.new) }
+    ensures out_later { O.faults out.old ≤ O.faults out.new }
 {
     match trace_changes(alloc, shelf, packets, tables, later, hops, out) {
         Ok(()) => Ok(()),
@@ -87,6 +97,7 @@ fn load_changes<'a, S: Shelf>(
     ensures not_usage { IsErrOf result Refusal.Usage → ⊥ }
     ensures files { S.files shelf.new ≡ S.files shelf.old }
     ensures later { NoneFell (S.faults shelf.old) (S.faults shelf.new) }
+    ensures statuses { IfErr result (RefusesWith (2 ∷ 6 ∷ 11 ∷ 20 ∷ [])) }
 {
     let changes = match load_lines(alloc, shelf, name) {
         Ok(changes) => changes,
@@ -108,6 +119,7 @@ fn load_lines<'a, S: Shelf>(
     ensures not_usage { IsErrOf result Refusal.Usage → ⊥ }
     ensures files { S.files shelf.new ≡ S.files shelf.old }
     ensures later { NoneFell (S.faults shelf.old) (S.faults shelf.new) }
+    ensures statuses { IfErr result (RefusesWith (2 ∷ 6 ∷ 20 ∷ [])) }
 {
     match load_text(alloc, shelf, name, MOST_CHANGES_BYTES) {
         Ok(text) => read_lines(alloc, &text),
@@ -154,6 +166,7 @@ fn load_all<'a, S: Shelf>(
     ensures not_usage { IsErrOf result Refusal.Usage → ⊥ }
     ensures files { S.files shelf.new ≡ S.files shelf.old }
     ensures later { NoneFell (S.faults shelf.old) (S.faults shelf.new) }
+    ensures statuses { IfErr result (RefusesWith (2 ∷ 6 ∷ 11 ∷ 20 ∷ [])) }
 {
     let mut later = Vec::new(alloc);
     for change in changes {
@@ -189,6 +202,7 @@ fn load_later<'a, S: Shelf>(
     ensures not_usage { IsErrOf result Refusal.Usage → ⊥ }
     ensures files { S.files shelf.new ≡ S.files shelf.old }
     ensures later { NoneFell (S.faults shelf.old) (S.faults shelf.new) }
+    ensures statuses { IfErr result (RefusesWith (2 ∷ 6 ∷ 11 ∷ 20 ∷ [])) }
 {
     let tables = match load_named(alloc, shelf, change) {
         Ok(tables) => tables,
@@ -215,6 +229,7 @@ fn load_named<'a, S: Shelf>(
     ensures not_usage { IsErrOf result Refusal.Usage → ⊥ }
     ensures files { S.files shelf.new ≡ S.files shelf.old }
     ensures later { NoneFell (S.faults shelf.old) (S.faults shelf.new) }
+    ensures statuses { IfErr result (RefusesWith (2 ∷ 6 ∷ 11 ∷ [])) }
 {
     match load_bytes(alloc, shelf, change) {
         Ok(text) => read_tables(alloc, &text),
@@ -234,6 +249,7 @@ fn load_bytes<'a, S: Shelf>(
     ensures not_usage { IsErrOf result Refusal.Usage → ⊥ }
     ensures files { S.files shelf.new ≡ S.files shelf.old }
     ensures later { NoneFell (S.faults shelf.old) (S.faults shelf.new) }
+    ensures statuses { IfErr result (RefusesWith (2 ∷ 6 ∷ [])) }
 {
     match read_whole(alloc, shelf, change.name.bytes(), MOST_TABLES) {
         Ok(text) => Ok(text),

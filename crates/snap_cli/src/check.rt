@@ -1,12 +1,13 @@
 //! The command `check`: whether the parts of a program race on some store and packet.
 
-ghost use Rattle.std.specs.Prelude.{IfSome, IsErrOf};
+ghost use Rattle.std.specs.Prelude.{◌≡◌, ◌≤◌, IfSome, IsErrOf};
 ghost use Rattle.snap_core.specs.Programs.{IsInForm};
-ghost use Rattle.snap_io.specs.Causes.{Rose};
+ghost use Rattle.snap_io.specs.Causes.{NoneFell, Rose};
 ghost use Rattle.snap_words.specs.Commands.{check};
 ghost use Rattle.snap_cli.specs.Causes.{HasCauses, IsRead};
 ghost use Rattle.snap_cli.specs.Check.{Judges, MeetsCheck};
 ghost use Rattle.snap_cli.specs.Deserved.{Meets};
+ghost use Rattle.snap_cli.specs.Statuses.{EndsWith, statuses_of};
 
 use crate::diagram::diagram;
 use crate::program::load_program;
@@ -27,6 +28,10 @@ pub(crate) fn report<'a, S: Shelf, O: Sink>(
         Meets files (check program.entry.now) result (O.taken out.old) (O.taken out.new)) }
     ensures causes { HasCauses (S.faults shelf.old) (S.faults shelf.new) (O.faults out.old) (O.faults out.new) result }
     ensures not_usage { IsErrOf result Refusal.Usage → ⊥ }
+    ensures statuses { EndsWith (statuses_of (check program.entry.now)) result }
+    ensures files { S.files shelf.new ≡ S.files shelf.old }
+    ensures later { NoneFell (S.faults shelf.old) (S.faults shelf.new) }
+    ensures out_later { O.faults out.old ≤ O.faults out.new }
 {
     match load_program(alloc, shelf, program) {
         Ok(program) => answer(alloc, &program, out),
@@ -41,6 +46,7 @@ fn answer<'a, O: Sink>(alloc: Global, program: &Program, out: &mut O) -> Result<
     ensures write { IsErrOf result Refusal.Write → Rose (O.faults out.old) (O.faults out.new) }
     ensures not_read { IsRead result → ⊥ }
     ensures not_usage { IsErrOf result Refusal.Usage → ⊥ }
+    ensures out_later { O.faults out.old ≤ O.faults out.new }
 {
     match judge(alloc, program) {
         Ok(()) => match write_whole(out, b"ok\n") {

@@ -1,6 +1,6 @@
 //! The command `compile`: tables that make the network behave as the program says.
 
-ghost use Rattle.std.specs.Prelude.{◌≡◌, ◌≤◌, ℕ, List, IfOk, IfSome, IsErrOf, length};
+ghost use Rattle.std.specs.Prelude.{◌≡◌, ◌≤◌, ◌∷◌, [], ℕ, List, IfErr, IfOk, IfSome, IsErrOf, length};
 ghost use Rattle.snap_build.specs.Whole.{IsWhole};
 ghost use Rattle.snap_core.specs.Laws.{PutsSmall};
 ghost use Rattle.snap_core.specs.Programs.{IsInForm};
@@ -18,6 +18,7 @@ ghost use Rattle.snap_cli.specs.Compile.{AreMade};
 ghost use Rattle.snap_cli.specs.CompileSteps.{Compiles, CompilesFor, CompilesOn, GivesTables, MakesTables, WritesTables};
 ghost use Rattle.snap_cli.specs.Deserved.{Meets};
 ghost use Rattle.snap_cli.specs.PlacementOf.{refusal_of_placement};
+ghost use Rattle.snap_cli.specs.Statuses.{EndsWith, RefusesWith, statuses_of};
 
 use crate::diagram::diagram_of;
 use crate::network::{Network, load_network};
@@ -56,6 +57,10 @@ pub(crate) fn report<'a, S: Shelf, O: Sink>(
         Meets files (compile program.entry.now topology.entry.now placement.entry.now on_demand) result (O.taken out.old) (O.taken out.new)) }
     ensures causes { HasCauses (S.faults shelf.old) (S.faults shelf.new) (O.faults out.old) (O.faults out.new) result }
     ensures not_usage { IsErrOf result Refusal.Usage → ⊥ }
+    ensures statuses { EndsWith (statuses_of (compile program.entry.now topology.entry.now placement.entry.now on_demand)) result }
+    ensures files { S.files shelf.new ≡ S.files shelf.old }
+    ensures later { NoneFell (S.faults shelf.old) (S.faults shelf.new) }
+    ensures out_later { O.faults out.old ≤ O.faults out.new }
 {
     match load_tables(alloc, program, topology, placement, on_demand, shelf) {
         Ok(tables) => write_tables(alloc, &tables, out),
@@ -74,6 +79,7 @@ fn write_tables<'a, O: Sink>(
     ensures write { IsErrOf result Refusal.Write → Rose (O.faults out.old) (O.faults out.new) }
     ensures not_read { IsRead result → ⊥ }
     ensures not_usage { IsErrOf result Refusal.Usage → ⊥ }
+    ensures out_later { O.faults out.old ≤ O.faults out.new }
 {
     match print_shared(alloc, tables, out) {
         Ok(()) => Ok(()),
@@ -95,6 +101,9 @@ fn load_tables<'a, S: Shelf>(
     ensures read { (file : List ℕ) → IsReadOf file result → Rose (S.faults shelf.old file) (S.faults shelf.new file) }
     ensures not_write { IsErrOf result Refusal.Write → ⊥ }
     ensures not_usage { IsErrOf result Refusal.Usage → ⊥ }
+    ensures statuses { IfErr result (RefusesWith (2 ∷ 4 ∷ 5 ∷ 6 ∷ 7 ∷ 8 ∷ 9 ∷ 10 ∷ [])) }
+    ensures files { S.files shelf.new ≡ S.files shelf.old }
+    ensures later { NoneFell (S.faults shelf.old) (S.faults shelf.new) }
 {
     match load_program(alloc, shelf, program) {
         Ok(program) => tables_on(alloc, program, topology, placement, on_demand, shelf),
@@ -117,6 +126,8 @@ fn tables_on<'a, S: Shelf>(
     ensures not_write { IsErrOf result Refusal.Write → ⊥ }
     ensures not_usage { IsErrOf result Refusal.Usage → ⊥ }
     ensures later { NoneFell (S.faults shelf.old) (S.faults shelf.new) }
+    ensures statuses { IfErr result (RefusesWith (2 ∷ 6 ∷ 7 ∷ 8 ∷ 9 ∷ 10 ∷ [])) }
+    ensures files { S.files shelf.new ≡ S.files shelf.old }
 {
     match load_network(alloc, shelf, topology) {
         Ok(network) => tables_for(alloc, program, &network, placement, on_demand, shelf),
@@ -141,6 +152,8 @@ fn tables_for<'a, S: Shelf>(
     ensures not_write { IsErrOf result Refusal.Write → ⊥ }
     ensures not_usage { IsErrOf result Refusal.Usage → ⊥ }
     ensures later { NoneFell (S.faults shelf.old) (S.faults shelf.new) }
+    ensures statuses { IfErr result (RefusesWith (2 ∷ 6 ∷ 9 ∷ 10 ∷ [])) }
+    ensures files { S.files shelf.new ≡ S.files shelf.old }
 {
     match load_text(alloc, shelf, placement, MOST_PLACEMENT) {
         Ok(text) => tables_of(alloc, program, network, &text, on_demand),

@@ -7,6 +7,7 @@ ghost use Rattle.snap_words.specs.Commands.{demo};
 ghost use Rattle.snap_cli.specs.Causes.{HasCauses, IsRead};
 ghost use Rattle.snap_cli.specs.Demo.{MeetsSummary};
 ghost use Rattle.snap_cli.specs.Deserved.{Meets};
+ghost use Rattle.snap_cli.specs.Statuses.{EndsWith, statuses_of};
 
 use crate::refusal::Refusal;
 use snap_demo::summary::summary;
@@ -23,6 +24,8 @@ pub(crate) fn report<'a, O: Sink>(
     ensures meets { (files : Files) → Meets files (demo switches.value) result (O.taken out.old) (O.taken out.new) }
     ensures causes { (before now : List ℕ → ℕ) → HasCauses before now (O.faults out.old) (O.faults out.new) result }
     ensures not_usage { IsErrOf result Refusal.Usage → ⊥ }
+    ensures statuses { EndsWith (statuses_of (demo switches.value)) result }
+    ensures out_later { O.faults out.old ≤ O.faults out.new }
 {
     write_summary(alloc, switches.value, out)
 }
@@ -34,6 +37,7 @@ fn write_summary<'a, O: Sink>(alloc: Global, switches: u16, out: &mut O) -> Resu
     ensures write { IsErrOf result Refusal.Write → Rose (O.faults out.old) (O.faults out.new) }
     ensures not_read { IsRead result → ⊥ }
     ensures not_usage { IsErrOf result Refusal.Usage → ⊥ }
+    ensures out_later { O.faults out.old ≤ O.faults out.new }
 {
     match summary(alloc, switches) {
         Ok(text) => match write_whole(out, &text) {

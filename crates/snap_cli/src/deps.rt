@@ -3,11 +3,12 @@
 ghost use Rattle.std.specs.Prelude.{◌≡◌, ◌≤◌, ◌++◌, IfOk, IfSome, IsErrOf, OnOk};
 ghost use Rattle.std.specs.List.{flat_map};
 ghost use Rattle.snap_core.specs.Programs.{IsBounded};
-ghost use Rattle.snap_io.specs.Causes.{Rose};
+ghost use Rattle.snap_io.specs.Causes.{NoneFell, Rose};
 ghost use Rattle.snap_words.specs.Commands.{deps};
 ghost use Rattle.snap_cli.specs.Deps.{HasOneText, IsTextOf, MeetsText, dep_line, group_line, groups_text, member_text};
 ghost use Rattle.snap_cli.specs.Causes.{HasCauses, IsRead};
 ghost use Rattle.snap_cli.specs.Deserved.{Meets};
+ghost use Rattle.snap_cli.specs.Statuses.{EndsWith, statuses_of};
 
 use crate::program::load_program;
 use crate::refusal::{Refusal, name_at};
@@ -39,6 +40,10 @@ pub(crate) fn report<'a, S: Shelf, O: Sink>(
         Meets files (deps program.entry.now) result (O.taken out.old) (O.taken out.new)) }
     ensures causes { HasCauses (S.faults shelf.old) (S.faults shelf.new) (O.faults out.old) (O.faults out.new) result }
     ensures not_usage { IsErrOf result Refusal.Usage → ⊥ }
+    ensures statuses { EndsWith (statuses_of (deps program.entry.now)) result }
+    ensures files { S.files shelf.new ≡ S.files shelf.old }
+    ensures later { NoneFell (S.faults shelf.old) (S.faults shelf.new) }
+    ensures out_later { O.faults out.old ≤ O.faults out.new }
 {
     match load_program(alloc, shelf, program) {
         Ok(program) => write_text(alloc, &program, out),
@@ -53,6 +58,7 @@ fn write_text<'a, O: Sink>(alloc: Global, program: &Program, out: &mut O) -> Res
     ensures write { IsErrOf result Refusal.Write → Rose (O.faults out.old) (O.faults out.new) }
     ensures not_read { IsRead result → ⊥ }
     ensures not_usage { IsErrOf result Refusal.Usage → ⊥ }
+    ensures out_later { O.faults out.old ≤ O.faults out.new }
 {
     match text_of(alloc, program) {
         Ok(text) => match write_whole(out, &text) {

@@ -1,15 +1,16 @@
 //! The command `equal`: whether two programs mean the same.
 
-ghost use Rattle.std.specs.Prelude.{◌≡◌, ◌↔◌, IfSome, IsErrOf, IsTrue};
+ghost use Rattle.std.specs.Prelude.{◌≡◌, ◌↔◌, ◌≤◌, IfSome, IsErrOf, IsTrue};
 ghost use Rattle.snap_core.specs.Cells.{arrays_of};
 ghost use Rattle.snap_core.specs.Programs.{IsInForm};
-ghost use Rattle.snap_io.specs.Causes.{Rose};
+ghost use Rattle.snap_io.specs.Causes.{NoneFell, Rose};
 ghost use Rattle.snap_words.specs.Commands.{equal};
 ghost use Rattle.snap_equal.specs.Same.{TellApart};
 ghost use Rattle.snap_cli.specs.Causes.{HasCauses, IsRead};
 ghost use Rattle.snap_cli.specs.Check.{HasWhole};
 ghost use Rattle.snap_cli.specs.Deserved.{Meets};
 ghost use Rattle.snap_cli.specs.Equal.{AreDeclaredAlike, Compares, IsDifferenceTold, MeetsEqual};
+ghost use Rattle.snap_cli.specs.Statuses.{EndsWith, statuses_of};
 
 use crate::diagram::diagram;
 use crate::pair::pair_text;
@@ -38,6 +39,10 @@ pub(crate) fn report<'a, S: Shelf, O: Sink>(
         Meets files (equal left.entry.now right.entry.now) result (O.taken out.old) (O.taken out.new)) }
     ensures causes { HasCauses (S.faults shelf.old) (S.faults shelf.new) (O.faults out.old) (O.faults out.new) result }
     ensures not_usage { IsErrOf result Refusal.Usage → ⊥ }
+    ensures statuses { EndsWith (statuses_of (equal left.entry.now right.entry.now)) result }
+    ensures files { S.files shelf.new ≡ S.files shelf.old }
+    ensures later { NoneFell (S.faults shelf.old) (S.faults shelf.new) }
+    ensures out_later { O.faults out.old ≤ O.faults out.new }
 {
     match load_program(alloc, shelf, left) {
         Ok(first) => match load_program(alloc, shelf, right) {
@@ -61,6 +66,7 @@ fn answer<'a, O: Sink>(
     ensures write { IsErrOf result Refusal.Write → Rose (O.faults out.old) (O.faults out.new) }
     ensures not_read { IsRead result → ⊥ }
     ensures not_usage { IsErrOf result Refusal.Usage → ⊥ }
+    ensures out_later { O.faults out.old ≤ O.faults out.new }
 {
     match judge(alloc, left, right) {
         Ok(()) => match write_whole(out, b"equal\n") {

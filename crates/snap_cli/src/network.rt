@@ -1,12 +1,13 @@
 //! The topology of a file, with its routes.
 
-ghost use Rattle.std.specs.Prelude.{◌≡◌, ℕ, List, IfOk, IfSome, IsErrOf};
+ghost use Rattle.std.specs.Prelude.{◌≡◌, ◌∷◌, [], ℕ, List, IfErr, IfOk, IfSome, IsErrOf};
 ghost use Rattle.snap_io.specs.Causes.{NoneFell, Rose};
 ghost use Rattle.snap_io.specs.Files.{file_of};
 ghost use Rattle.snap_topo.specs.Form.{IsInForm};
 ghost use Rattle.snap_route.specs.Tables.{AreRoutes};
 ghost use Rattle.snap_cli.specs.Causes.{IsReadOf};
 ghost use Rattle.snap_cli.specs.NetworkSteps.{GivesNetwork};
+ghost use Rattle.snap_cli.specs.Statuses.{RefusesWith};
 
 use crate::refusal::Refusal;
 use crate::routes::refusal_of_routes;
@@ -38,6 +39,7 @@ pub(crate) fn load_network<'a, S: Shelf>(
     ensures not_usage { IsErrOf result Refusal.Usage → ⊥ }
     ensures files { S.files shelf.new ≡ S.files shelf.old }
     ensures later { NoneFell (S.faults shelf.old) (S.faults shelf.new) }
+    ensures statuses { IfErr result (RefusesWith (2 ∷ 6 ∷ 7 ∷ 8 ∷ [])) }
 {
     let topology = load_topology(alloc, shelf, name)?;
     match routes(alloc, &topology) {

@@ -1,6 +1,6 @@
 //! The command `obs`: the report of one big switch.
 
-ghost use Rattle.std.specs.Prelude.{◌≡◌, ◌≤◌, IfSome, IsErrOf};
+ghost use Rattle.std.specs.Prelude.{◌≡◌, ◌≤◌, ◌∷◌, [], IfSome, IsErrOf};
 ghost use Rattle.snap_words.specs.Commands.{obs};
 ghost use Rattle.snap_core.specs.Programs.{IsBounded};
 ghost use Rattle.snap_io.specs.Causes.{NoneFell};
@@ -9,6 +9,7 @@ ghost use Rattle.snap_cli.specs.Causes.{HasCauses};
 ghost use Rattle.snap_cli.specs.Deserved.{Meets};
 ghost use Rattle.snap_cli.specs.Obs.{MeetsRun};
 ghost use Rattle.snap_cli.specs.Steps.{refusal_of_run};
+ghost use Rattle.snap_cli.specs.Statuses.{EndsWith, statuses_of};
 
 use crate::program::load_program;
 use crate::refusal::Refusal;
@@ -30,6 +31,10 @@ pub(crate) fn report<'a, S: Shelf, O: Sink>(
         Meets files (obs program.entry.now packets.entry.now) result (O.taken out.old) (O.taken out.new)) }
     ensures causes { HasCauses (S.faults shelf.old) (S.faults shelf.new) (O.faults out.old) (O.faults out.new) result }
     ensures not_usage { IsErrOf result Refusal.Usage → ⊥ }
+    ensures statuses { EndsWith (statuses_of (obs program.entry.now packets.entry.now)) result }
+    ensures files { S.files shelf.new ≡ S.files shelf.old }
+    ensures later { NoneFell (S.faults shelf.old) (S.faults shelf.new) }
+    ensures out_later { O.faults out.old ≤ O.faults out.new }
 {
     match load_program(alloc, shelf, program) {
         Ok(program) => report_of(alloc, &program, packets, shelf, out),
@@ -53,6 +58,7 @@ fn report_of<'a, S: Shelf, O: Sink>(
     ensures files { S.files shelf.new ≡ S.files shelf.old }
     ensures later { NoneFell (S.faults shelf.old) (S.faults shelf.new) }
     ensures out_later { O.faults out.old ≤ O.faults out.new }
+    ensures statuses { EndsWith (2 ∷ 6 ∷ 12 ∷ 15 ∷ []) result }
 {
     match one_switch(alloc, shelf, packets, program, out) {
         Ok(()) => Ok(()),

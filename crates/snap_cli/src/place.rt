@@ -1,6 +1,6 @@
 //! The command `place`: a placement of least cost.
 
-ghost use Rattle.std.specs.Prelude.{◌≡◌, ℕ, List, IfOk, IfSome, IsErrOf, length};
+ghost use Rattle.std.specs.Prelude.{◌≡◌, ◌≤◌, ◌∷◌, [], ℕ, List, IfErr, IfOk, IfSome, IsErrOf, length};
 ghost use Rattle.snap_core.specs.Programs.{IsInForm};
 ghost use Rattle.snap_dep.specs.Ranks.{IsGrouping};
 ghost use Rattle.snap_io.specs.Causes.{NoneFell, Rose};
@@ -15,6 +15,7 @@ ghost use Rattle.snap_cli.specs.Causes.{HasCauses, IsRead, IsReadOf};
 ghost use Rattle.snap_cli.specs.Deserved.{Meets};
 ghost use Rattle.snap_cli.specs.Place.{refusal_of_demand};
 ghost use Rattle.snap_cli.specs.PlaceSteps.{GivesPlacement, Places, PlacesFor, PlacesOn};
+ghost use Rattle.snap_cli.specs.Statuses.{EndsWith, RefusesWith, statuses_of};
 
 use crate::network::{Network, load_network};
 use crate::program::load_program;
@@ -47,6 +48,10 @@ pub(crate) fn report<'a, S: Shelf, O: Sink>(
         Meets files (place program.entry.now topology.entry.now demand.entry.now) result (O.taken out.old) (O.taken out.new)) }
     ensures causes { HasCauses (S.faults shelf.old) (S.faults shelf.new) (O.faults out.old) (O.faults out.new) result }
     ensures not_usage { IsErrOf result Refusal.Usage → ⊥ }
+    ensures statuses { EndsWith (statuses_of (place program.entry.now topology.entry.now demand.entry.now)) result }
+    ensures files { S.files shelf.new ≡ S.files shelf.old }
+    ensures later { NoneFell (S.faults shelf.old) (S.faults shelf.new) }
+    ensures out_later { O.faults out.old ≤ O.faults out.new }
 {
     match load_placement(alloc, program, topology, demand, shelf) {
         Ok(text) => match write_whole(out, &text) {
@@ -69,6 +74,9 @@ fn load_placement<'a, S: Shelf>(
     ensures read { (file : List ℕ) → IsReadOf file result → Rose (S.faults shelf.old file) (S.faults shelf.new file) }
     ensures not_write { IsErrOf result Refusal.Write → ⊥ }
     ensures not_usage { IsErrOf result Refusal.Usage → ⊥ }
+    ensures statuses { IfErr result (RefusesWith (2 ∷ 4 ∷ 5 ∷ 6 ∷ 7 ∷ 8 ∷ 19 ∷ [])) }
+    ensures files { S.files shelf.new ≡ S.files shelf.old }
+    ensures later { NoneFell (S.faults shelf.old) (S.faults shelf.new) }
 {
     match load_program(alloc, shelf, program) {
         Ok(program) => placement_on(alloc, program, topology, demand, shelf),
@@ -90,6 +98,8 @@ fn placement_on<'a, S: Shelf>(
     ensures not_write { IsErrOf result Refusal.Write → ⊥ }
     ensures not_usage { IsErrOf result Refusal.Usage → ⊥ }
     ensures later { NoneFell (S.faults shelf.old) (S.faults shelf.new) }
+    ensures statuses { IfErr result (RefusesWith (2 ∷ 6 ∷ 7 ∷ 8 ∷ 19 ∷ [])) }
+    ensures files { S.files shelf.new ≡ S.files shelf.old }
 {
     match load_network(alloc, shelf, topology) {
         Ok(network) => placement_for(alloc, program, &network, demand, shelf),
@@ -113,6 +123,8 @@ fn placement_for<'a, S: Shelf>(
     ensures not_write { IsErrOf result Refusal.Write → ⊥ }
     ensures not_usage { IsErrOf result Refusal.Usage → ⊥ }
     ensures later { NoneFell (S.faults shelf.old) (S.faults shelf.new) }
+    ensures statuses { IfErr result (RefusesWith (2 ∷ 6 ∷ 19 ∷ [])) }
+    ensures files { S.files shelf.new ≡ S.files shelf.old }
 {
     match load_text(alloc, shelf, demand, MOST_DEMAND) {
         Ok(text) => placement_of(alloc, program, network, &text),

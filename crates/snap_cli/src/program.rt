@@ -1,12 +1,13 @@
 //! The program of a file.
 
-ghost use Rattle.std.specs.Prelude.{◌≡◌, ◌≤◌, ℕ, List, IfOk, IfSome, IsErrOf, length};
+ghost use Rattle.std.specs.Prelude.{◌≡◌, ◌≤◌, ◌∷◌, [], ℕ, List, IfErr, IfOk, IfSome, IsErrOf, length};
 ghost use Rattle.snap_core.specs.Programs.{IsBounded, IsInForm};
 ghost use Rattle.snap_io.specs.Causes.{NoneFell, Rose};
 ghost use Rattle.snap_io.specs.Files.{file_of};
 ghost use Rattle.snap_cli.specs.Causes.{IsRead, IsReadOf};
 ghost use Rattle.snap_cli.specs.Spots.{spot_of};
 ghost use Rattle.snap_cli.specs.Steps.{GivesProgram, SpellsProgram, refusal_of_names, refusal_of_tokens, refusal_of_tree};
+ghost use Rattle.snap_cli.specs.Statuses.{RefusesWith};
 
 use crate::refusal::{NamingFault, Refusal, SyntaxFault};
 use crate::spot::spot_at;
@@ -35,6 +36,7 @@ pub(crate) fn load_program<'a, S: Shelf>(
     ensures not_usage { IsErrOf result Refusal.Usage → ⊥ }
     ensures files { S.files shelf.new ≡ S.files shelf.old }
     ensures later { NoneFell (S.faults shelf.old) (S.faults shelf.new) }
+    ensures statuses { IfErr result (RefusesWith (2 ∷ 4 ∷ 5 ∷ 6 ∷ [])) }
 {
     match load_text(alloc, shelf, name, MOST_PROGRAM) {
         Ok(text) => read_program(alloc, &text),

@@ -1,8 +1,11 @@
 //! `trace --ordered --workers`: the report of a run by rounds, in which several workers make the steps.
 
-ghost use Rattle.std.specs.Prelude.{◌≡◌, IfSome, IsErrOf};
+ghost use Rattle.std.specs.Prelude.{◌≡◌, ◌≤◌, IfSome, IsErrOf};
 ghost use Rattle.snap_cli.specs.Causes.{HasCauses};
 ghost use Rattle.snap_cli.specs.RoundsSteps.{MeetsByRounds, MeetsRounds};
+ghost use Rattle.snap_cli.specs.Statuses.{EndsWith, statuses_of_trace};
+ghost use Rattle.snap_io.specs.Causes.{NoneFell};
+ghost use Rattle.snap_words.specs.Commands.{rounds, plain};
 
 use crate::in_turn::has_turns;
 use crate::obs::refusal_of_run;
@@ -31,6 +34,10 @@ pub(crate) fn report_by_rounds<'a, R: Threads + Sync, S: Shelf, O: Sink>(
         MeetsByRounds files tables hops packets.entry result (O.taken out.old) (O.taken out.new)) }
     ensures causes { HasCauses (S.faults shelf.old) (S.faults shelf.new) (O.faults out.old) (O.faults out.new) result }
     ensures not_usage { IsErrOf result Refusal.Usage → ⊥ }
+    ensures statuses { EndsWith (statuses_of_trace (rounds workers.value)) result }
+    ensures files { S.files shelf.new ≡ S.files shelf.old }
+    ensures later { NoneFell (S.faults shelf.old) (S.faults shelf.new) }
+    ensures out_later { O.faults out.old ≤ O.faults out.new }
 {
     if has_turns(&tables) {
         report_rounds(rt, alloc, tables, packets, workers, hops, shelf, out)
@@ -55,6 +62,10 @@ fn report_rounds<'a, R: Threads + Sync, S: Shelf, O: Sink>(
         MeetsRounds files tables hops packets.entry result (O.taken out.old) (O.taken out.new)) }
     ensures causes { HasCauses (S.faults shelf.old) (S.faults shelf.new) (O.faults out.old) (O.faults out.new) result }
     ensures not_usage { IsErrOf result Refusal.Usage → ⊥ }
+    ensures statuses { EndsWith (statuses_of_trace plain) result }
+    ensures files { S.files shelf.new ≡ S.files shelf.old }
+    ensures later { NoneFell (S.faults shelf.old) (S.faults shelf.new) }
+    ensures out_later { O.faults out.old ≤ O.faults out.new }
 {
     match trace_workers(
         rt,

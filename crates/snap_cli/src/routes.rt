@@ -2,7 +2,7 @@
 
 ghost use Rattle.std.specs.Prelude.{◌≡◌, ◌≢◌, ◌<◌, ◌≤◌, ◌++◌, ◌∷◌, [], IfOk, IfSome, IsErrOf, OnErr, OnOk, length};
 ghost use Rattle.std.specs.Io.KnownBytes.{Appends};
-ghost use Rattle.snap_io.specs.Causes.{HasCause, Rose};
+ghost use Rattle.snap_io.specs.Causes.{HasCause, NoneFell, Rose};
 ghost use Rattle.snap_io.specs.Sinks.{AppendsPart};
 ghost use Rattle.snap_topo.specs.Form.{IsInForm};
 ghost use Rattle.snap_route.specs.Tables.{switch_count};
@@ -11,6 +11,7 @@ ghost use Rattle.snap_cli.specs.Causes.{HasCauses, IsRead};
 ghost use Rattle.snap_cli.specs.Deserved.{Meets};
 ghost use Rattle.snap_cli.specs.Routes.{end_text, line_between, lines_from, route_line, routes_text};
 ghost use Rattle.snap_cli.specs.RoutesSteps.{MeetsTopology, Writes, refusal_of_routes};
+ghost use Rattle.snap_cli.specs.Statuses.{EndsWith, statuses_of};
 
 use crate::refusal::{Refusal, name_at};
 use crate::topology::load_topology;
@@ -34,6 +35,10 @@ pub(crate) fn report<'a, S: Shelf, O: Sink>(
         Meets files (routes name.entry.now) result (O.taken out.old) (O.taken out.new)) }
     ensures causes { HasCauses (S.faults shelf.old) (S.faults shelf.new) (O.faults out.old) (O.faults out.new) result }
     ensures not_usage { IsErrOf result Refusal.Usage → ⊥ }
+    ensures statuses { EndsWith (statuses_of (routes name.entry.now)) result }
+    ensures files { S.files shelf.new ≡ S.files shelf.old }
+    ensures later { NoneFell (S.faults shelf.old) (S.faults shelf.new) }
+    ensures out_later { O.faults out.old ≤ O.faults out.new }
 {
     match load_topology(alloc, shelf, name) {
         Ok(topology) => report_of(alloc, topology, out),
@@ -48,6 +53,7 @@ fn report_of<'a, O: Sink>(alloc: Global, topology: Topology, out: &mut O) -> Res
     ensures write { IsErrOf result Refusal.Write → Rose (O.faults out.old) (O.faults out.new) }
     ensures not_read { IsRead result → ⊥ }
     ensures not_usage { IsErrOf result Refusal.Usage → ⊥ }
+    ensures out_later { O.faults out.old ≤ O.faults out.new }
 {
     match routes(alloc, &topology) {
         Ok(routes) => write_routes(alloc, &topology.switches, &routes, out),
@@ -78,6 +84,7 @@ fn write_routes<'a, O: Sink>(
     ensures write { IsErrOf result Refusal.Write → Rose (O.faults out.old) (O.faults out.new) }
     ensures not_read { IsRead result → ⊥ }
     ensures not_usage { IsErrOf result Refusal.Usage → ⊥ }
+    ensures out_later { O.faults out.old ≤ O.faults out.new }
 {
     for a in 0..switches.items().len() as u16 {
         let lines = lines_from(alloc, switches, routes, a)?;

@@ -1,10 +1,11 @@
 //! The tables of a file.
 
-ghost use Rattle.std.specs.Prelude.{◌≡◌, ◌≤◌, ℕ, List, IfSome, IsErrOf};
+ghost use Rattle.std.specs.Prelude.{◌≡◌, ◌≤◌, ◌∷◌, [], ℕ, List, IfErr, IfSome, IsErrOf};
 ghost use Rattle.snap_io.specs.Causes.{NoneFell, Rose};
 ghost use Rattle.snap_io.specs.Files.{file_of};
 ghost use Rattle.snap_cli.specs.Causes.{IsRead, IsReadOf};
 ghost use Rattle.snap_cli.specs.TraceSteps.{LoadsTables, ReadsTables, refusal_of_tables};
+ghost use Rattle.snap_cli.specs.Statuses.{RefusesWith};
 
 use crate::refusal::{NoTables, Refusal};
 use crate::text::load_text;
@@ -29,6 +30,7 @@ pub(crate) fn load_tables<'a, S: Shelf>(
     ensures not_usage { IsErrOf result Refusal.Usage → ⊥ }
     ensures files { S.files shelf.new ≡ S.files shelf.old }
     ensures later { NoneFell (S.faults shelf.old) (S.faults shelf.new) }
+    ensures statuses { IfErr result (RefusesWith (2 ∷ 6 ∷ 11 ∷ [])) }
 {
     match load_text(alloc, shelf, name, MOST_TABLES) {
         Ok(text) => read_tables(alloc, &text),

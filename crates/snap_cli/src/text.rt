@@ -1,10 +1,11 @@
 //! The text of a file.
 
-ghost use Rattle.std.specs.Prelude.{◌≡◌, ◌<◌, ◌≤◌, ◌^◌, ◌-◌, ℕ, List, IfOk, IfSome, IsErrOf, length};
+ghost use Rattle.std.specs.Prelude.{◌≡◌, ◌<◌, ◌≤◌, ◌-◌, ◌^◌, ◌∷◌, [], ℕ, List, IfErr, IfOk, IfSome, IsErrOf, length};
 ghost use Rattle.snap_io.specs.Causes.{NoneFell, Rose};
 ghost use Rattle.snap_io.specs.Files.{file_of};
 ghost use Rattle.snap_cli.specs.Causes.{IsReadOf};
 ghost use Rattle.snap_cli.specs.Texts.{GivesText};
+ghost use Rattle.snap_cli.specs.Statuses.{RefusesWith};
 
 use crate::refusal::Refusal;
 use snap_core::program::Which;
@@ -26,6 +27,7 @@ pub(crate) fn load_text<'a, S: Shelf>(
     ensures not_usage { IsErrOf result Refusal.Usage → ⊥ }
     ensures files { S.files shelf.new ≡ S.files shelf.old }
     ensures later { NoneFell (S.faults shelf.old) (S.faults shelf.new) }
+    ensures statuses { IfErr result (RefusesWith (2 ∷ 6 ∷ [])) }
 {
     match read_whole(alloc, shelf, name, most) {
         Ok(text) => Ok(text),

@@ -1,12 +1,15 @@
 //! The top call.
 
-ghost use Rattle.std.specs.Prelude.{◌≡◌, ◌⊎◌, ℕ, List, [], None, IfSome, IsErrOf};
+ghost use Rattle.std.specs.Prelude.{◌≡◌, ◌⊎◌, ◌≤◌, ℕ, List, [], None, Some, IfSome, IsErrOf};
 ghost use Rattle.std.specs.Io.KnownBytes.{Appends};
-ghost use Rattle.snap_io.specs.Causes.{Rose};
-ghost use Rattle.snap_words.specs.Commands.{command_of};
+ghost use Rattle.snap_io.specs.Causes.{NoneFell, Rose};
+ghost use Rattle.snap_io.specs.Files.{Files};
+ghost use Rattle.snap_words.specs.Commands.{command_of, demo};
 ghost use Rattle.snap_words.specs.Said.{bytes_of};
 ghost use Rattle.snap_cli.specs.Answers.{Answers, MeetsWords};
 ghost use Rattle.snap_cli.specs.Causes.{HasCauses};
+ghost use Rattle.snap_cli.specs.Refusals.{status_of};
+ghost use Rattle.snap_cli.specs.Statuses.{CanAnswer};
 
 use crate::refusal::Refusal;
 use crate::{check, compile, demo, deps, equal, obs, place, routes, trace};
@@ -33,12 +36,25 @@ pub fn snap<R: Threads + Sync, S: Shelf, O: Sink, E: Sink>(
         (O.faults out.old) (O.faults out.new) (O.taken out.old) (O.taken out.new)
         (E.faults err.old) (E.faults err.new) (E.taken err.old) (E.taken err.new) }
 
+    // `demo` reads no file: what it deserves on any files is so, also where the shelf tells none.
+    ensures demo { (switches : ℕ) → command_of (bytes_of words.now) ≡ Some (demo switches) → (files : Files) →
+        Answers (bytes_of words.now) (Some files) result (S.faults shelf.old) (S.faults shelf.new)
+        (O.faults out.old) (O.faults out.new) (O.taken out.old) (O.taken out.new)
+        (E.faults err.old) (E.faults err.new) (E.taken err.old) (E.taken err.new) }
+
     // These hold for shelves and sinks that tell nothing too.
+    ensures statuses { IfSome (command_of (bytes_of words.now)) (λ command. CanAnswer command result) }
     ensures usage { result ≡ 1 → command_of (bytes_of words.now) ≡ None }
     ensures usage_comes { command_of (bytes_of words.now) ≡ None → (result ≡ 1) ⊎ (result ≡ 14) }
     ensures nothing { result ≡ 1 → Appends (O.taken out.old) (O.taken out.new) [] }
     ensures read { result ≡ 2 → (name : List ℕ) × Rose (S.faults shelf.old name) (S.faults shelf.new name) }
     ensures write { result ≡ 3 → Rose (O.faults out.old) (O.faults out.new) }
+
+    // The shelf's files stay, and no count of faults falls: so a call can be cited beside the next one over the same shelf.
+    ensures files { S.files shelf.new ≡ S.files shelf.old }
+    ensures later { NoneFell (S.faults shelf.old) (S.faults shelf.new) }
+    ensures out_later { O.faults out.old ≤ O.faults out.new }
+    ensures err_later { E.faults err.old ≤ E.faults err.new }
 {
     let ending = run(rt, alloc, words, shelf, out);
     match ending {
@@ -64,6 +80,12 @@ fn run<'a, R: Threads + Sync, S: Shelf, O: Sink>(
     ensures usage_comes { command_of (bytes_of words.entry.now) ≡ None → IsErrOf result Refusal.Usage ⊎ IsErrOf result Refusal.NoMemory }
     ensures nothing { IsErrOf result Refusal.Usage → Appends (O.taken out.old) (O.taken out.new) [] }
     ensures causes { HasCauses (S.faults shelf.old) (S.faults shelf.new) (O.faults out.old) (O.faults out.new) result }
+    ensures statuses { IfSome (command_of (bytes_of words.entry.now)) (λ command. CanAnswer command (status_of result)) }
+    ensures demo { (switches : ℕ) → command_of (bytes_of words.entry.now) ≡ Some (demo switches) → (files : Files) →
+        MeetsWords files (bytes_of words.entry.now) result (O.taken out.old) (O.taken out.new) }
+    ensures files { S.files shelf.new ≡ S.files shelf.old }
+    ensures later { NoneFell (S.faults shelf.old) (S.faults shelf.new) }
+    ensures out_later { O.faults out.old ≤ O.faults out.new }
 {
     match command(alloc, words) {
         Ok(Command::Obs { program, packets }) => obs::report(alloc, program, packets, shelf, out),

@@ -1,11 +1,12 @@
 //! The topology of a file.
 
-ghost use Rattle.std.specs.Prelude.{◌≡◌, ℕ, List, IfOk, IfSome, IsErrOf};
+ghost use Rattle.std.specs.Prelude.{◌≡◌, ◌∷◌, [], ℕ, List, IfErr, IfOk, IfSome, IsErrOf};
 ghost use Rattle.snap_io.specs.Causes.{NoneFell, Rose};
 ghost use Rattle.snap_io.specs.Files.{file_of};
 ghost use Rattle.snap_topo.specs.Form.{IsInForm};
 ghost use Rattle.snap_cli.specs.Causes.{IsReadOf};
 ghost use Rattle.snap_cli.specs.RoutesSteps.{GivesTopology, refusal_of_topology};
+ghost use Rattle.snap_cli.specs.Statuses.{RefusesWith};
 
 use crate::refusal::{Refusal, TopologyFault};
 use crate::text::load_text;
@@ -29,6 +30,7 @@ pub(crate) fn load_topology<'a, S: Shelf>(
     ensures not_usage { IsErrOf result Refusal.Usage → ⊥ }
     ensures files { S.files shelf.new ≡ S.files shelf.old }
     ensures later { NoneFell (S.faults shelf.old) (S.faults shelf.new) }
+    ensures statuses { IfErr result (RefusesWith (2 ∷ 6 ∷ 7 ∷ [])) }
 {
     match load_text(alloc, shelf, name, MOST_TOPOLOGY) {
         Ok(text) => match snap_topo::read(alloc, &text) {

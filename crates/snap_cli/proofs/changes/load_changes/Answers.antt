@@ -1,9 +1,10 @@
-use Rattle.std.proofs.Common.{◌≡◌, List, ap, ◌∙◌}
+use Rattle.std.proofs.Common.{◌≡◌, List, ap, ◌∙◌, [], ◌∷◌, refl}
 use Rattle.std.proofs.lemmas.Result.{IfOk-weaker}
 use Rattle.snap_move.specs.declared.change.Change.{Change}
 use Rattle.snap_move.specs.Changing.{IsRising}
 use Rattle.snap_cli.specs.ChangesSteps.{afters, afters_of}
 use Rattle.snap_cli.proofs.ChangesLemmas.{rising-changes, told-tables}
+use Rattle.snap_cli.proofs.StatusLemmas.{refuses-more}
 use Rattle.snap_cli.proofs.changes.load_changes.Goals as goal
 
 pub returns-clause-gives : goal.returns-clause-gives
@@ -15,3 +16,6 @@ returns-clause-rising g c =
     let cs = c.in-Ok.changes.items in
     IfOk-weaker c.load_all.result (λ later. afters later.items ≡ afters_of c.deref.result.now) (λ later. IsRising later.items)
     (λ later same. rising-changes later.items cs (same ∙ ap (λ (l : List Change). afters_of l) c.deref.ensures.value) c.in-Ok.ensures.rising) c.load_all.ensures.afters
+
+pub returns-in-Err-clause-statuses : goal.returns-in-Err-clause-statuses
+returns-in-Err-clause-statuses g c = refuses-more (2 ∷ 6 ∷ 20 ∷ []) (2 ∷ 6 ∷ 11 ∷ 20 ∷ []) c.in-Err.refusal refl c.in-Err.ensures.statuses

@@ -1,6 +1,8 @@
 use Rattle.snap_words.specs.Commands.{check}
 use Rattle.snap_cli.proofs.CheckLemmas.{check-answer, check-refuses}
 use Rattle.snap_cli.proofs.Refused.{told-refused}
+use Rattle.std.proofs.Common.{[], ◌∷◌, refl}
+use Rattle.snap_cli.proofs.StatusLemmas.{ends-check, ends-refused}
 use Rattle.snap_cli.proofs.check.report.Goals as goal
 
 pub returns-in-Ok-clause-meets : goal.returns-in-Ok-clause-meets
@@ -12,3 +14,9 @@ pub returns-in-Err-clause-meets : goal.returns-in-Err-clause-meets
 returns-in-Err-clause-meets g c =
     let p = c.args.program.now in
     told-refused (g.S.Shelf.files c.args.shelf.now) (check p) p (g.O.Sink.taken c.args.out.now) c.in-Err.refusal (check-refuses p) c.in-Err.ensures.gives
+
+pub returns-in-Ok-clause-statuses : goal.returns-in-Ok-clause-statuses
+returns-in-Ok-clause-statuses g c = ends-check c.in-Ok.program c.answer.result _ _ c.answer.ensures.meets
+
+pub returns-in-Err-clause-statuses : goal.returns-in-Err-clause-statuses
+returns-in-Err-clause-statuses g c = ends-refused (2 ∷ 4 ∷ 5 ∷ 6 ∷ []) (2 ∷ 4 ∷ 5 ∷ 6 ∷ 10 ∷ []) c.in-Err.refusal refl c.in-Err.ensures.statuses

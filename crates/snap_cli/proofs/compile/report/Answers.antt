@@ -1,4 +1,7 @@
 use Rattle.snap_cli.proofs.CompileLemmas.{told-refused, told-written}
+use Rattle.std.proofs.Common.{[], ◌∷◌, refl}
+use Rattle.snap_tables.specs.Text.{text as tables_text}
+use Rattle.snap_cli.proofs.StatusLemmas.{ends-refused, ends-written}
 use Rattle.snap_cli.proofs.compile.report.Goals as goal
 
 pub returns-in-Ok-clause-meets : goal.returns-in-Ok-clause-meets
@@ -9,3 +12,9 @@ returns-in-Ok-clause-meets g c =
 pub returns-in-Err-clause-meets : goal.returns-in-Err-clause-meets
 returns-in-Err-clause-meets g c =
     told-refused (g.S.Shelf.files c.args.shelf.now) c.args.program.now c.args.topology.now c.args.placement.now c.args.on_demand (g.O.Sink.taken c.args.out.now) c.in-Err.refusal c.in-Err.ensures.gives
+
+pub returns-in-Ok-clause-statuses : goal.returns-in-Ok-clause-statuses
+returns-in-Ok-clause-statuses g c = ends-written (tables_text c.in-Ok.tables) (2 ∷ 4 ∷ 5 ∷ 6 ∷ 7 ∷ 8 ∷ 9 ∷ 10 ∷ []) c.write_tables.result _ _ c.write_tables.ensures.writes
+
+pub returns-in-Err-clause-statuses : goal.returns-in-Err-clause-statuses
+returns-in-Err-clause-statuses g c = ends-refused (2 ∷ 4 ∷ 5 ∷ 6 ∷ 7 ∷ 8 ∷ 9 ∷ 10 ∷ []) (2 ∷ 4 ∷ 5 ∷ 6 ∷ 7 ∷ 8 ∷ 9 ∷ 10 ∷ []) c.in-Err.refusal refl c.in-Err.ensures.statuses

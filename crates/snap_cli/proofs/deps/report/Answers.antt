@@ -1,6 +1,8 @@
 use Rattle.snap_words.specs.Commands.{deps}
 use Rattle.snap_cli.proofs.DepsLemmas.{deps-refuses, deps-text}
 use Rattle.snap_cli.proofs.Refused.{told-refused}
+use Rattle.std.proofs.Common.{[], ◌∷◌, refl}
+use Rattle.snap_cli.proofs.StatusLemmas.{ends-refused, ends-text}
 use Rattle.snap_cli.proofs.deps.report.Goals as goal
 
 pub returns-in-Ok-clause-meets : goal.returns-in-Ok-clause-meets
@@ -12,3 +14,9 @@ pub returns-in-Err-clause-meets : goal.returns-in-Err-clause-meets
 returns-in-Err-clause-meets g c =
     let p = c.args.program.now in
     told-refused (g.S.Shelf.files c.args.shelf.now) (deps p) p (g.O.Sink.taken c.args.out.now) c.in-Err.refusal (deps-refuses p) c.in-Err.ensures.gives
+
+pub returns-in-Ok-clause-statuses : goal.returns-in-Ok-clause-statuses
+returns-in-Ok-clause-statuses g c = ends-text c.in-Ok.program c.write_text.result _ _ c.write_text.ensures.meets
+
+pub returns-in-Err-clause-statuses : goal.returns-in-Err-clause-statuses
+returns-in-Err-clause-statuses g c = ends-refused (2 ∷ 4 ∷ 5 ∷ 6 ∷ []) (2 ∷ 4 ∷ 5 ∷ 6 ∷ []) c.in-Err.refusal refl c.in-Err.ensures.statuses

@@ -2,6 +2,9 @@ use Rattle.std.proofs.Common.{Ok, Err, refl, sym, ap, subst}
 use Rattle.snap_cli.specs.Causes.{HasCauses}
 use Rattle.snap_cli.proofs.InTurnLemmas.{told-lines}
 use Rattle.snap_cli.proofs.ScheduleLemmas.{because}
+use Rattle.snap_words.specs.Commands.{schedule}
+use Rattle.snap_cli.specs.Statuses.{EndsWith, statuses_of_trace}
+use Rattle.snap_cli.proofs.StatusLemmas.{of-scheduled}
 use Rattle.snap_cli.proofs.in_turn.report_lines.Goals as goal
 
 pub returns-in-Ok-clause-meets : goal.returns-in-Ok-clause-meets
@@ -18,3 +21,6 @@ returns-in-Err-clause-causes g c =
     subst (λ e. HasCauses (g.S.Shelf.faults c.args.shelf.now) (g.S.Shelf.faults c.schedule_ordered.new.shelf) (g.O.Sink.faults c.args.out.now) (g.O.Sink.faults c.schedule_ordered.new.sink) (Err e)) (sym c.refusal_of_schedule.ensures)
     (because (g.S.Shelf.faults c.args.shelf.now) (g.S.Shelf.faults c.schedule_ordered.new.shelf) (g.O.Sink.faults c.args.out.now) (g.O.Sink.faults c.schedule_ordered.new.sink) c.args.packets c.args.lines c.in-Err.fault
     c.in-Err.ensures.no_write c.in-Err.ensures.read_packets c.in-Err.ensures.read c.in-Err.ensures.write)
+
+pub returns-in-Err-clause-statuses : goal.returns-in-Err-clause-statuses
+returns-in-Err-clause-statuses g c = subst (λ e. EndsWith (statuses_of_trace (schedule c.args.lines.now)) (Err e)) (sym c.refusal_of_schedule.ensures) (of-scheduled c.args.packets c.args.lines c.in-Err.fault c.in-Err.ensures.defined)

@@ -1,4 +1,6 @@
 use Rattle.snap_cli.proofs.PlaceLemmas.{told-cut, told-refused, told-written}
+use Rattle.std.proofs.Common.{[], ◌∷◌, refl}
+use Rattle.snap_cli.proofs.StatusLemmas.{ends-refused}
 use Rattle.snap_cli.proofs.place.report.Goals as goal
 
 pub returns-in-Ok-write_whole-clause-meets : goal.returns-in-Ok-write_whole-clause-meets
@@ -14,3 +16,6 @@ returns-in-Ok-clause-meets g c =
 pub returns-clause-meets : goal.returns-clause-meets
 returns-clause-meets g c =
     told-refused (g.S.Shelf.files c.args.shelf.now) c.args.program.now c.args.topology.now c.args.demand.now (g.O.Sink.taken c.args.out.now) c.in-Err.refusal c.in-Err.ensures.gives
+
+pub returns-clause-statuses : goal.returns-clause-statuses
+returns-clause-statuses g c = ends-refused (2 ∷ 4 ∷ 5 ∷ 6 ∷ 7 ∷ 8 ∷ 19 ∷ []) (2 ∷ 4 ∷ 5 ∷ 6 ∷ 7 ∷ 8 ∷ 19 ∷ []) c.in-Err.refusal refl c.in-Err.ensures.statuses

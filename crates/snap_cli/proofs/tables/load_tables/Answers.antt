@@ -1,4 +1,6 @@
 use Rattle.snap_cli.proofs.TraceLemmas.{told-loaded, told-unloaded}
+use Rattle.std.proofs.Common.{[], ◌∷◌, refl}
+use Rattle.snap_cli.proofs.StatusLemmas.{of-tables, refuses-more}
 use Rattle.snap_cli.proofs.tables.load_tables.Goals as goal
 
 pub returns-in-Ok-clause-gives : goal.returns-in-Ok-clause-gives
@@ -7,3 +9,9 @@ returns-in-Ok-clause-gives g c =
 
 pub returns-in-Err-clause-gives : goal.returns-in-Err-clause-gives
 returns-in-Err-clause-gives g c = told-unloaded (g.S.Shelf.files c.args.shelf.now) c.args.name.now c.in-Err.refusal c.in-Err.ensures.gives
+
+pub returns-in-Ok-clause-statuses : goal.returns-in-Ok-clause-statuses
+returns-in-Ok-clause-statuses g c = of-tables c.deref.result.now c.read_tables.result c.read_tables.ensures.reads
+
+pub returns-in-Err-clause-statuses : goal.returns-in-Err-clause-statuses
+returns-in-Err-clause-statuses g c = refuses-more (2 ∷ 6 ∷ []) (2 ∷ 6 ∷ 11 ∷ []) c.in-Err.refusal refl c.in-Err.ensures.statuses

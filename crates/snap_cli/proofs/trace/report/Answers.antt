@@ -1,5 +1,8 @@
 use Rattle.snap_words.specs.Said.{shown_order}
 use Rattle.snap_cli.proofs.TraceLemmas.{trace-refused, trace-run}
+use Rattle.std.proofs.Common.{[], ◌∷◌, refl}
+use Rattle.snap_cli.specs.Statuses.{statuses_of_trace}
+use Rattle.snap_cli.proofs.StatusLemmas.{ends-refused}
 use Rattle.snap_cli.proofs.trace.report.Goals as goal
 
 pub returns-in-Ok-clause-meets : goal.returns-in-Ok-clause-meets
@@ -10,3 +13,6 @@ returns-in-Ok-clause-meets g c =
 pub returns-in-Err-clause-meets : goal.returns-in-Err-clause-meets
 returns-in-Err-clause-meets g c =
     trace-refused (g.S.Shelf.files c.args.shelf.now) c.args.tables.now c.args.packets.now c.args.hops (shown_order c.args.order) (g.O.Sink.taken c.args.out.now) c.in-Err.refusal c.in-Err.ensures.gives
+
+pub returns-in-Err-clause-statuses : goal.returns-in-Err-clause-statuses
+returns-in-Err-clause-statuses g c = ends-refused (2 ∷ 6 ∷ 11 ∷ []) (statuses_of_trace (shown_order c.args.order)) c.in-Err.refusal refl c.in-Err.ensures.statuses
