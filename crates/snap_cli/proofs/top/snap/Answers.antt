@@ -1,4 +1,7 @@
-use Rattle.std.proofs.Common.{Ok, Err, refl, sym, ◌∙◌}
+use Rattle.std.proofs.Common.{Ok, Err, IfSome, refl, sym, subst, ◌∙◌}
+use Rattle.snap_words.specs.Commands.{command_of}
+use Rattle.snap_words.specs.Said.{bytes_of}
+use Rattle.snap_cli.specs.Statuses.{CanAnswer}
 use Rattle.snap_cli.proofs.TopLemmas.{quiet, read-rose, tells}
 use Rattle.snap_cli.proofs.top.snap.Goals as goal
 
@@ -33,3 +36,7 @@ returns-in-Err-clause-demo g c = λ switches is files. record {
   causes = c.in-Err.ensures.causes;
   err = tells _ _ _ _ _ c.tell.result c.tell.ensures.ok c.tell.ensures.err c.tell.ensures.cause;
 }
+
+pub returns-in-Err-clause-statuses : goal.returns-in-Err-clause-statuses
+returns-in-Err-clause-statuses g c =
+    subst (λ status. IfSome (command_of (bytes_of c.args.words.now)) (λ command. CanAnswer command status)) (sym c.status.ensures) c.in-Err.ensures.statuses
