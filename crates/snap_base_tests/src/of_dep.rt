@@ -62,7 +62,7 @@ fn updates_in_one_go_are_tied(rt: HostRuntime) -> Result<(), Fail> {
     let made = grouped(rt.alloc(), text)?;
     assert!(rt; made.count() == 3);
     assert!(rt; made.tied(0, 2) && !made.tied(0, 1));
-    assert!(rt; made.group(2) == 0 && made.rank(1) == 1 && made.arity(2) == 2);
+    assert!(rt; made.group(2) == 0 && made.rank(1) == 1);
     assert!(rt; made.members(0) == 5);
     Ok(())
 }

@@ -5,7 +5,6 @@ use Rattle.snap_core.specs.Arrays.{Arrays}
 use Rattle.snap_core.specs.Fields.{count}
 use Rattle.snap_core.specs.Meaning.{eval}
 use Rattle.snap_core.specs.Inputs.{IsStore, IsPacket}
-use Rattle.snap_dep.specs.Ranks.{arity_of}
 use Rattle.snap_arena.specs.declared.node.Node.{Node}
 use Rattle.snap_fdd.specs.declared.leaf.Leaf.{Leaf}
 use Rattle.snap_chain.specs.Late.{outcome}
@@ -29,7 +28,7 @@ difference_told p q calm (Differ text) h = (calm, h)
 difference_told p q calm e h = subst (λ x. Compares p q (Err x)) (sym h) tt
 
 pub can_be_compared : (p : Program) (comps vars : ℕ) (ns : List (Node Leaf)) (d : ℕ) → comps ≡ count p.fields → vars ≡ length p.vars → HasWhole p ns d → CanBeCompared comps vars ns d
-can_be_compared p comps vars ns d c v w = rw (c, v) (record { below = w.1.below; arity = arity_of w.0; bounds = w.1.bounds; calm = w.1.calm })
+can_be_compared p comps vars ns d c v w = rw (c, v) (record { below = w.1.below; bounds = w.1.bounds; calm = w.1.calm })
 
 module _ (p q : Program) (ns os : List (Node Leaf)) (d e : ℕ) (alike : AreDeclaredAlike p q) (first : HasWhole p ns d) (second : HasWhole q os e) where
   packet_of : (k : List ℕ) → IsPacket (count p.fields) k → IsPacket (count q.fields) k

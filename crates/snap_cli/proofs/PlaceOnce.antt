@@ -83,7 +83,7 @@ module _ (tied : (p : Pol) → TiedIsEquivalence p) (one : (p : Pol) (n : ℕ) �
   same-bare g h x y =
       let n = length p.vars in
       let both = one_grouping p.body n (tied p.body) (one p.body n (UsesBelow-fits (count p.fields) n p.body bounded.fits)) g h x y in
-      ap₂ (λ (r o : List ℕ). record { ranks = r; order = o; arities = [] }) both.0 both.1
+      ap₂ (λ (r o : List ℕ). record { ranks = r; order = o }) both.0 both.1
 
   spells-none-once : (t : Topology) (text : List ℕ) (e f : Refusal) → SpellsNoDemand p t text e → SpellsNoDemand p t text f → e ≡ f
   spells-none-once t text e f h k =

@@ -58,7 +58,7 @@ module _ (p : Pol) (n : ℕ) (tied : TiedIsEquivalence p) (one : HasOneRank p n)
 
   same_groups : (names : List (List ℕ)) (a b : Grouping) → IsGrouping p n a → IsGrouping p n b → groups_text names a ≡ groups_text names b
   same_groups names a b x y =
-      let both = one_grouping a b x y in ap₂ (λ r o. groups_text names (record { ranks = r; order = o; arities = [] })) both.0 both.1
+      let both = one_grouping a b x y in ap₂ (λ r o. groups_text names (record { ranks = r; order = o })) both.0 both.1
 
 pub one_text : ((p : Pol) → TiedIsEquivalence p) → ((p : Pol) (n : ℕ) → UsesBelow n p → HasOneRank p n) → HasOneText
 one_text tied one p bounded a b x y =

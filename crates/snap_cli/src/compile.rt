@@ -4,8 +4,7 @@ ghost use Rattle.std.specs.Prelude.{◌≡◌, ◌≤◌, ◌∷◌, [], ℕ, Li
 ghost use Rattle.snap_build.specs.Whole.{IsWhole};
 ghost use Rattle.snap_core.specs.Laws.{PutsSmall};
 ghost use Rattle.snap_core.specs.Programs.{IsInForm};
-ghost use Rattle.snap_dep.specs.Arities.{IsArityIn};
-ghost use Rattle.snap_dep.specs.Ranks.{IsGrouping, arity_of};
+ghost use Rattle.snap_dep.specs.Ranks.{IsGrouping};
 ghost use Rattle.snap_io.specs.Causes.{NoneFell, Rose};
 ghost use Rattle.snap_io.specs.Files.{file_of};
 ghost use Rattle.snap_place.specs.Answer.{GivesSwitches};
@@ -211,7 +210,6 @@ fn make<'a>(
 ) -> Result<SharedTables, Refusal<'a>>
     requires program { IsInForm program.now }
     requires groups { IsGrouping program.now.body (length program.now.vars) groups.now }
-    requires arities { IsArityIn program.now.body (length program.now.vars) (arity_of groups.now) }
     requires topology { IsTopology network.now.topology }
     requires routes { AreRoutes network.now.topology network.now.routes }
     requires placement { GivesSwitches program.now network.now.topology placement.now }

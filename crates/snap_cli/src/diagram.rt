@@ -4,8 +4,7 @@ ghost use Rattle.std.specs.Prelude.{◌≡◌, IfErr, IfOk, length};
 ghost use Rattle.snap_core.specs.Cells.{arrays_of};
 ghost use Rattle.snap_core.specs.Laws.{PutsSmall};
 ghost use Rattle.snap_core.specs.Programs.{IsInForm};
-ghost use Rattle.snap_dep.specs.Arities.{IsArityIn};
-ghost use Rattle.snap_dep.specs.Ranks.{IsGrouping, arity_of};
+ghost use Rattle.snap_dep.specs.Ranks.{IsGrouping};
 ghost use Rattle.snap_build.specs.Whole.{IsRaceOf, IsWhole};
 ghost use Rattle.snap_cli.specs.Check.{HasWhole, IsRaceTold};
 
@@ -38,7 +37,6 @@ pub(crate) fn diagram_of<'a>(
 ) -> Result<Built, Refusal<'a>>
     requires form { IsInForm program.now }
     requires groups { IsGrouping program.now.body (length program.now.vars) groups.now }
-    requires arities { IsArityIn program.now.body (length program.now.vars) (arity_of groups.now) }
     ensures whole { IfOk result (λ b. IsWhole program.now groups.now b.nodes b.root) }
     ensures small { IfOk result (λ b. PutsSmall program.now.body) }
     ensures race { IfErr result (IsRaceTold program.now) }

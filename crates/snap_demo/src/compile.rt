@@ -3,9 +3,7 @@
 ghost use Rattle.std.specs.Prelude.{◌≡◌, ◌≤◌, IfOk, length};
 ghost use Rattle.snap_core.specs.Laws.{PutsSmall};
 ghost use Rattle.snap_core.specs.Programs.{IsInForm};
-ghost use Rattle.snap_dep.specs.Arities.{IsArityIn};
 ghost use Rattle.snap_dep.specs.Dependencies.{Tied};
-ghost use Rattle.snap_dep.specs.Ranks.{arity_of};
 ghost use Rattle.snap_build.specs.Whole.{IsWhole};
 ghost use Rattle.snap_gen.specs.Faithful.{Faithful};
 ghost use Rattle.snap_demo.specs.Row.{stated_places, stated_topology};
@@ -48,7 +46,6 @@ fn diagram(alloc: Global, program: &Program, groups: &Groups) -> Result<Built, N
     requires form { IsInForm program.now }
     requires serial { IsSerial program.now.body }
     requires groups { length groups.now.ranks ≡ length program.now.vars }
-    requires arities { IsArityIn program.now.body (length program.now.vars) (arity_of groups.now) }
     ensures whole { IfOk result (λ b. IsWhole program.now groups.now b.nodes b.root) }
     ensures small { IfOk result (λ b. PutsSmall program.now.body) }
 {

@@ -5,7 +5,6 @@ pub mod Chains
 pub mod Choices
 pub mod GroupLemmas
 pub mod Locals
-pub mod Measuring
 pub mod OneRank
 pub mod OrderLemmas
 pub mod PairLemmas

@@ -133,8 +133,8 @@ module _ (p : Pol) (n : ℕ) (order : List ℕ) (rank : ℕ → ℕ) (ranked : I
         (tied_on p a b (slice_index order (rank b)) t (tied_back p (slice_index order (rank b)) b (own.group b lb))))),
   )
 
-pub grouping : (p : Pol) (n : ℕ) (ranks order arities : List ℕ) → length ranks ≡ n → IsRank p n order → IsRankIn p n order (slice_index ranks) → IsGrouping p n (record { ranks = ranks; order = order; arities = arities })
-grouping p n ranks order arities long ranked own = record {
+pub grouping : (p : Pol) (n : ℕ) (ranks order : List ℕ) → length ranks ≡ n → IsRank p n order → IsRankIn p n order (slice_index ranks) → IsGrouping p n (record { ranks = ranks; order = order })
+grouping p n ranks order long ranked own = record {
   count = long;
   order = ranked;
   ranks = own;

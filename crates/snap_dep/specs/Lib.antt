@@ -1,4 +1,3 @@
-pub mod Arities
 pub mod Dependencies
 pub mod Locality
 pub mod Ranks

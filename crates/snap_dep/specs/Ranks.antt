@@ -35,25 +35,19 @@ pub record IsRankIn (p : Pol) (n : ℕ) (order : List ℕ) (rank : ℕ → ℕ) 
   pub below : (v : ℕ) → v < n → rank v < length order
   pub group : (v : ℕ) → v < n → Tied p (slice_index order (rank v)) v
 
--- the rank of each variable, the groups by rank, and the number of atoms of each variable's index
+-- the rank of each variable, and the groups by rank
 pub record Grouping : Type 0 where
   pub ranks : List ℕ
   pub order : List ℕ
-  pub arities : List ℕ
 
 -- the rank of a variable
 abbrev pub rank_of : Grouping → ℕ → ℕ
 rank_of g v = slice_index g.ranks v
 
--- the number of atoms of a variable's index
-abbrev pub arity_of : Grouping → ℕ → ℕ
-arity_of g v = slice_index g.arities v
-
--- each of at most 64 variables has a rank in the order, and a number of atoms
+-- each of at most 64 variables has a rank in the order
 pub record IsRanked (g : Grouping) : Type 0 where
   pub few : length g.ranks ≤ 64
   pub below : All (λ r. r < length g.order) g.ranks
-  pub arities : length g.arities ≡ length g.ranks
 
 -- the groups of a policy with n variables
 pub record IsGrouping (p : Pol) (n : ℕ) (g : Grouping) : Type 0 where

@@ -1,15 +1,12 @@
 //! The dependencies and the groups of a program.
 
-ghost use Rattle.std.specs.Prelude.{◌≡◌, ◌≤◌, IfOk, length, slice_index};
+ghost use Rattle.std.specs.Prelude.{◌≡◌, ◌≤◌, IfOk, length};
 ghost use Rattle.snap_core.specs.Fields.{count};
 ghost use Rattle.snap_core.specs.Fits.{PolFits};
-ghost use Rattle.snap_core.specs.Programs.{HasOneArity};
-ghost use Rattle.snap_dep.specs.Arities.{IsArityIn};
 ghost use Rattle.snap_dep.specs.Dependencies.{Depends, Reaches};
-ghost use Rattle.snap_dep.specs.Ranks.{IsGrouping, arity_of};
+ghost use Rattle.snap_dep.specs.Ranks.{IsGrouping};
 ghost use Rattle.snap_dep.specs.Relations.{IsRelation, Lists};
 
-use crate::arities::measure;
 use crate::groups::Groups;
 use crate::order::{by_rank, ranks};
 use crate::pairs::pairs;
@@ -35,26 +32,12 @@ pub fn dependencies(alloc: Global, program: &Program) -> Result<Vec<(u16, u16)>,
 pub fn groups(alloc: Global, program: &Program) -> Result<Groups, NoMemory>
     requires few { length program.now.vars ≤ 64 }
     requires fits { PolFits (count program.now.fields) (length program.now.vars) program.now.body }
-    ensures grouping { IfOk result (λ made. IsGrouping program.now.body (length program.now.vars) made) }
-    ensures arities { IfOk result (λ made. HasOneArity program.now.body → IsArityIn program.now.body (length program.now.vars) (arity_of made)) }
+    ensures { IfOk result (λ made. IsGrouping program.now.body (length program.now.vars) made) }
 {
     let rows = chained(alloc, program)?;
     let order = by_rank(alloc, &rows)?;
     let ranks = ranks(alloc, &rows, &order)?;
-    let arities = arities(alloc, program)?;
-    Ok(Groups::new(ranks, order, arities))
-}
-
-// The number of atoms of each variable's index, and 1 for a variable that isn't used.
-fn arities(alloc: Global, program: &Program) -> Result<Vec<usize>, NoMemory>
-    requires few { length program.now.vars ≤ 64 }
-    requires fits { PolFits (count program.now.fields) (length program.now.vars) program.now.body }
-    ensures count { IfOk result (λ arities. length arities.items ≡ length program.now.vars) }
-    ensures arities { IfOk result (λ arities. HasOneArity program.now.body → IsArityIn program.now.body (length program.now.vars) (slice_index arities.items)) }
-{
-    let mut arities = vec![in alloc; 1; program.vars.items().len()]?;
-    measure(&program.body, &mut arities);
-    Ok(arities)
+    Ok(Groups::new(ranks, order))
 }
 
 // The dependencies of a program, as a relation.

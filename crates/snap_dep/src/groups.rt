@@ -1,7 +1,7 @@
 //! Groups of tied variables.
 
 ghost use Rattle.std.specs.Prelude.{◌≡◌, ◌==◌, ◌<◌, ◌≤◌, ℕ, All, length, slice_index};
-ghost use Rattle.snap_dep.specs.Ranks.{arity_of, rank_of};
+ghost use Rattle.snap_dep.specs.Ranks.{rank_of};
 ghost use Rattle.snap_dep.specs.Relations.{IsSetOf};
 
 use crate::relation::only;
@@ -12,7 +12,6 @@ use std::marker::Model;
 pub struct Groups {
     ranks: Vec<usize>,
     order: Vec<u16>,
-    arities: Vec<usize>,
 }
 
 impl Model for Groups {
@@ -20,26 +19,21 @@ impl Model for Groups {
 
     ghost Value = { Grouping };
 
-    ghost view = { λ a. record { ranks = a.ranks.items; order = a.order.items; arities = a.arities.items } };
+    ghost view = { λ a. record { ranks = a.ranks.items; order = a.order.items } };
 
-    ghost invariant = { λ a. IsRanked (record { ranks = a.ranks.items; order = a.order.items; arities = a.arities.items }) };
+    ghost invariant = { λ a. IsRanked (record { ranks = a.ranks.items; order = a.order.items }) };
 }
 
 impl Groups {
     ghost use Rattle.snap_dep.specs.Ranks.{IsRanked};
 
-    // The ranks of at most 64 variables, the groups, and the numbers of atoms.
-    pub(crate) fn new(ranks: Vec<usize>, order: Vec<u16>, arities: Vec<usize>) -> Groups
+    // The ranks of at most 64 variables, and the groups.
+    pub(crate) fn new(ranks: Vec<usize>, order: Vec<u16>) -> Groups
         requires few { length ranks.items ≤ 64 }
         requires below { All (λ rank. rank < length order.items) ranks.items }
-        requires arities { length arities.items ≡ length ranks.items }
-        ensures { result ≡ record { ranks = ranks.items; order = order.items; arities = arities.items } }
+        ensures { result ≡ record { ranks = ranks.items; order = order.items } }
     {
-        Groups {
-            ranks,
-            order,
-            arities,
-        }
+        Groups { ranks, order }
     }
 
     /// The number of variables, at most 64.
@@ -64,14 +58,6 @@ impl Groups {
         ensures below { result < length self.now.order }
     {
         self.ranks[var as usize]
-    }
-
-    /// The number of atoms of each index of a variable.
-    pub fn arity(&self, var: u16) -> usize
-        requires { var < length self.now.ranks }
-        ensures { result ≡ arity_of self.now var }
-    {
-        self.arities[var as usize]
     }
 
     /// The group of a variable.

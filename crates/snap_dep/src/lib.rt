@@ -6,7 +6,6 @@
 //! takes the groups one after another: of those whose predecessors are taken, the one with the least variable.
 #![tactic(auto)]
 
-mod arities;
 pub mod calls;
 pub mod groups;
 pub mod laws;

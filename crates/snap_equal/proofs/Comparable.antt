@@ -31,4 +31,4 @@ comparable s (Only (Goes g)) h n = (h.0, λ i e l. update_is s _ (h.1 i e l), λ
 comparable s (Asks t y n) h c = (test_is s t h.0, comparable s y h.1 c.0, comparable s n h.2 c.1)
 
 pub comparable_under : (v : View) (comps vars : ℕ) (ns : List (Node Leaf)) (d : ℕ) → length v.classes ≡ comps → CanBeCompared comps vars ns d → IsComparable (space v vars) (diagram ns d)
-comparable_under v comps vars ns d e h = rw e (comparable (record { comps = comps; vars = vars; arity = h.arity }) (diagram ns d) h.bounds h.calm)
+comparable_under v comps vars ns d e h = rw e (comparable (record { comps = comps; vars = vars }) (diagram ns d) h.bounds h.calm)

@@ -39,8 +39,7 @@ pub record TellApart (p q : Program) (m : Arrays) (k : List ℕ) : Type 0 where
 -- a diagram over so many components and variables in which nothing races
 pub record CanBeCompared (comps vars : ℕ) (ns : List (Node Leaf)) (d : ℕ) : Type 0 where
   pub below : d < length ns
-  pub arity : ℕ → ℕ
-  pub bounds : IsIn (record { comps = comps; vars = vars; arity = arity }) (diagram ns d)
+  pub bounds : IsIn (record { comps = comps; vars = vars }) (diagram ns d)
   pub calm : HasNoRace (diagram ns d)
 
 -- two diagrams do the same with a store and a packet

@@ -11,7 +11,7 @@ use Rattle.snap_core.specs.Listing.{number_in}
 use Rattle.snap_core.specs.Tests.{TestFits, passes}
 use Rattle.snap_ctx.specs.declared.fact.Fact.{Fact}
 use Rattle.snap_ctx.specs.Meets.{Meets, NoneMeets, IsMet, with_fact}
-use Rattle.snap_dep.specs.Ranks.{Grouping, arity_of}
+use Rattle.snap_dep.specs.Ranks.{Grouping}
 use Rattle.snap_ctx.specs.View.{View}
 use Rattle.snap_ctx.proofs.Answers.{Meets-parts, Meets-with_fact}
 use Rattle.snap_arena.specs.declared.node.Node.{Node}
@@ -65,7 +65,7 @@ test_fits s (Equal l r p) h = (omega (arith, h.0, h.1), h.1)
 test_fits s (State v ix t) h = (h.1.atoms, h.2)
 
 pub same_sizes : (g : Grouping) (v w : View) (t : Test) (b : Bool) → IsMore v w t b → sizes g w ≡ sizes g v
-same_sizes g v w t b i = ap (λ (n : ℕ). record { comps = n; vars = length g.ranks; arity = arity_of g }) i.count
+same_sizes g v w t b i = ap (λ (n : ℕ). record { comps = n; vars = length g.ranks }) i.count
 
 pub under_more : (g : Grouping) (v w : View) (t : Test) (b : Bool) (d : Diagram) → IsMore v w t b → IsDiagram g.ranks (sizes g v) d → IsDiagram g.ranks (sizes g w) d
 under_more g v w t b d i h = subst (λ (s : Sizes). IsDiagram g.ranks s d) (sym (same_sizes g v w t b i)) h

@@ -11,28 +11,26 @@ use Rattle.snap_fdd.specs.declared.leaf.Leaf.{Leaf}
 use Rattle.snap_fdd.specs.declared.leaf.Leaf.TheVariants.{Race, Go as Goes}
 use Rattle.snap_fdd.specs.Diagrams.{Diagram, Only, Asks}
 
--- so many components and variables, and so many atoms in each index of a variable
+-- so many components and variables
 pub record Sizes : Type 0 where
   pub comps : ℕ
   pub vars : ℕ
-  pub arity : ℕ → ℕ
 
--- so many atoms as the variable asks, from one to eight
-pub record IsIndex (s : Sizes) (v : ℕ) (ix : List Atom) : Type 0 where
+-- from one to eight atoms, each a number or one of so many components
+pub record IsIndex (comps : ℕ) (ix : List Atom) : Type 0 where
   pub some : 1 ≤ length ix
   pub few : length ix ≤ 8
-  pub long : length ix ≡ s.arity v
-  pub atoms : IndexFits s.comps ix
+  pub atoms : IndexFits comps ix
 
 -- the numbers have 64 bits, and of two components the lower is on the left
 abbrev pub TestIn : Sizes → Test → Type 0
 TestIn s (Value c n) = (c < s.comps) × (n < 2 ^ 64)
 TestIn s (Equal l r p) = (l < r) × (r < s.comps) × (p < 2 ^ 64)
-TestIn s (State v ix t) = (v < s.vars) × IsIndex s v ix × TermFits s.comps t × TermInRange t
+TestIn s (State v ix t) = (v < s.vars) × IsIndex s.comps ix × TermFits s.comps t × TermInRange t
 
 pub record UpdateIn (s : Sizes) (u : Update) : Type 0 where
   pub var : u.var < s.vars
-  pub index : IsIndex s u.var u.index
+  pub index : IsIndex s.comps u.index
   pub op : OpFits s.comps u.op
 
 -- the logs are sets of the variables

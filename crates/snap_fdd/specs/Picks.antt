@@ -4,7 +4,7 @@ use Rattle.std.specs.declared.cmp.Ordering.TheVariants.{Less}
 use Rattle.snap_core.specs.declared.policy.Test.{Test}
 use Rattle.snap_core.specs.Arrays.{Arrays}
 use Rattle.snap_core.specs.Tests.{passes}
-use Rattle.snap_dep.specs.Ranks.{Grouping, arity_of}
+use Rattle.snap_dep.specs.Ranks.{Grouping}
 use Rattle.snap_ctx.specs.View.{View}
 use Rattle.snap_arena.specs.declared.node.Node.{Node}
 use Rattle.snap_fdd.specs.declared.leaf.Leaf.{Leaf}
@@ -57,7 +57,7 @@ pub record IsLower (ranks : List ℕ) (s : Sizes) (t : Test) (d : Diagram) (u : 
 
 -- the sizes that groups and a context tell
 abbrev pub sizes : Grouping → View → Sizes
-sizes g v = record { comps = length v.classes; vars = length g.ranks; arity = arity_of g }
+sizes g v = record { comps = length v.classes; vars = length g.ranks }
 
 -- what each call needs of a number, and what it keeps: an ordered diagram within bounds
 pub record IsArgument (g : Grouping) (v : View) (ns : List (Node Leaf)) (d : ℕ) : Type 0 where

@@ -20,12 +20,11 @@ fn atoms_fit(index: &Atoms, comps: u16) -> bool
     index.list().iter().all(|atom| atom.fits(comps as usize))
 }
 
-fn index_fits(groups: &Groups, ctx: &Context, var: u16, index: &Atoms) -> bool
-    requires { var < length groups.now.ranks }
-    ensures { IsTrue result ↔ IsIndex (sizes groups.now ctx.now) var index.now }
+fn index_fits(index: &Atoms, comps: u16) -> bool
+    ensures { IsTrue result ↔ IsIndex comps index.now }
 {
     let atoms = index.list().len();
-    1 <= atoms && atoms <= 8 && atoms == groups.arity(var) && atoms_fit(index, ctx.comps())
+    1 <= atoms && atoms <= 8 && atoms_fit(index, comps)
 }
 
 fn term_fits(term: Term, comps: u16) -> bool
@@ -53,7 +52,7 @@ fn update_fits(groups: &Groups, ctx: &Context, update: &Update) -> bool
     ensures { IsTrue result ↔ UpdateIn (sizes groups.now ctx.now) update.now }
 {
     (update.var as usize) < groups.count()
-        && index_fits(groups, ctx, update.var, &update.index)
+        && index_fits(&update.index, ctx.comps())
         && update.op.fits(ctx.comps() as usize)
 }
 
@@ -99,8 +98,7 @@ pub fn leaf_fits(groups: &Groups, ctx: &Context, leaf: &Leaf) -> bool
 }
 
 /// Whether a test's components are the context's, with the lower one left in a test of two, its
-/// variable is one of the groups', and its index has as many atoms as the variable asks, from one to
-/// eight.
+/// variable is one of the groups', and its index has from one to eight atoms.
 pub fn test_fits(groups: &Groups, ctx: &Context, test: &Test) -> bool
     ensures { IsTrue result ↔ TestIn (sizes groups.now ctx.now) test.now }
 {
@@ -116,7 +114,7 @@ pub fn test_fits(groups: &Groups, ctx: &Context, test: &Test) -> bool
         }
         Test::State { var, index, value } => {
             (*var as usize) < groups.count()
-                && index_fits(groups, ctx, *var, index)
+                && index_fits(index, comps)
                 && term_fits(*value, comps)
         }
     }

@@ -91,21 +91,21 @@ module _ (p : Program) (ranks_list : List ℕ) (ns : List (Node Leaf)) (top : �
   -- what holds of the diagrams below the root
   pub record Below (x : ℕ) : Type 0 where
     pub ordered : IsOrdered ranks_list (diagram ns x)
-    pub bounds : IsIn (record { comps = count p.fields; vars = length p.vars; arity = d.arity }) (diagram ns x)
+    pub bounds : IsIn (record { comps = count p.fields; vars = length p.vars }) (diagram ns x)
     pub at : slice_get ids (number x) ≡ Some x
 
   below_yes : (x y z : ℕ) (t : Test) → Below x → slice_get ns x ≡ Some (node.Ask t y z) → Below y
   below_yes x y z t b is =
       let e = (shape x (node.Ask t y z) is).0 in
       let o : IsOrdered ranks_list (Asks t (diagram ns y) (diagram ns z)) = subst (IsOrdered ranks_list) e b.ordered in
-      let i : IsIn (record { comps = count p.fields; vars = length p.vars; arity = d.arity }) (Asks t (diagram ns y) (diagram ns z)) = subst (IsIn (record { comps = count p.fields; vars = length p.vars; arity = d.arity })) e b.bounds in
+      let i : IsIn (record { comps = count p.fields; vars = length p.vars }) (Asks t (diagram ns y) (diagram ns z)) = subst (IsIn (record { comps = count p.fields; vars = length p.vars })) e b.bounds in
       record { ordered = o.2; bounds = i.1; at = (num.yes_side (number x) x y z t b.at is).1 }
 
   below_no : (x y z : ℕ) (t : Test) → Below x → slice_get ns x ≡ Some (node.Ask t y z) → Below z
   below_no x y z t b is =
       let e = (shape x (node.Ask t y z) is).0 in
       let o : IsOrdered ranks_list (Asks t (diagram ns y) (diagram ns z)) = subst (IsOrdered ranks_list) e b.ordered in
-      let i : IsIn (record { comps = count p.fields; vars = length p.vars; arity = d.arity }) (Asks t (diagram ns y) (diagram ns z)) = subst (IsIn (record { comps = count p.fields; vars = length p.vars; arity = d.arity })) e b.bounds in
+      let i : IsIn (record { comps = count p.fields; vars = length p.vars }) (Asks t (diagram ns y) (diagram ns z)) = subst (IsIn (record { comps = count p.fields; vars = length p.vars })) e b.bounds in
       record { ordered = o.3; bounds = i.2; at = (num.no_side (number x) x y z t b.at is).1 }
 
   pub below : {x : ℕ} → Leads ns top x → Below x
@@ -185,7 +185,7 @@ module _ (p : Program) (ranks_list : List ℕ) (ns : List (Node Leaf)) (top : �
     var_low : (v : ℕ) (ix : _) (u : _) (i x y z : ℕ) → slice_get ids i ≡ Some x → slice_get ns x ≡ Some (node.Ask (StateTest v ix u) y z) → v < array_count t
     var_low v ix u i x y z at is =
         let b = below (num.reached i x at) in
-        let inside : IsIn (record { comps = count p.fields; vars = length p.vars; arity = d.arity }) (Asks (StateTest v ix u) (diagram ns y) (diagram ns z)) = subst (IsIn (record { comps = count p.fields; vars = length p.vars; arity = d.arity })) (shape x (node.Ask (StateTest v ix u) y z) is).0 b.bounds in
+        let inside : IsIn (record { comps = count p.fields; vars = length p.vars }) (Asks (StateTest v ix u) (diagram ns y) (diagram ns z)) = subst (IsIn (record { comps = count p.fields; vars = length p.vars })) (shape x (node.Ask (StateTest v ix u) y z) is).0 b.bounds in
         let l = inside.0.0 in omega (arith, l, vars)
 
     pub nodes_good : (front : ℕ → Bool) → ((i : ℕ) → IsFront (numbered_nodes ns ids number) i → front i ≡ true) → ((i : ℕ) → front i ≡ true → IsFront (numbered_nodes ns ids number) i) → AreNodes t (numbered_nodes ns ids number) front

@@ -46,8 +46,7 @@ pub record AreInputs (p : Program) (t : Topology) (places : List ℕ) (routes : 
 pub record IsBareDiagram (p : Program) (ranks : List ℕ) (ns : List (Node Leaf)) (root : ℕ) : Type 0 where
   pub arena : IsArena ns
   pub ordered : IsOrdered ranks (diagram ns root)
-  pub arity : ℕ → ℕ
-  pub bounds : IsIn (record { comps = count p.fields; vars = length p.vars; arity = arity }) (diagram ns root)
+  pub bounds : IsIn (record { comps = count p.fields; vars = length p.vars }) (diagram ns root)
   pub outcome : IsOutcomeOf p (diagram ns root)
   pub live : IsLive (IsInput (count p.fields) (length p.vars)) (diagram ns root)
   pub bare : HasBareLeaves (diagram ns root)

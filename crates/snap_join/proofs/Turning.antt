@@ -16,7 +16,7 @@ use Rattle.snap_fdd.specs.Picks.{IsDiagram}
 use Rattle.snap_fdd.specs.Pruned.{IsShaped}
 use Rattle.snap_fdd.proofs.Comparing.{above_trans}
 use Rattle.snap_join.specs.Predicates.{IsPredicateLeaf, any_outs, passed, reads_of, test_answer, turned_outs, negate_leaf, IsNegated}
-use Rattle.snap_join.proofs.Tested.{answer_is}
+use Rattle.snap_join.proofs.Tested.{answer_is, LogsNoWrite}
 
 turned_in : (s : Sizes) (xs : List (List (ℕ × Atom))) → All (OutFits s.comps) (turned_outs xs)
 turned_in s [] = All-from_recursion (OutFits s.comps) ([] ∷ []) (All-nil (PartFits s.comps), tt)
@@ -70,12 +70,12 @@ turned_test : (xs : List (List (ℕ × Atom))) → ((turned_outs xs ≡ []) ⊎ 
 turned_test [] = (inr refl, refl)
 turned_test (x ∷ xs) = (inl refl, refl)
 
-negate_is : (l : Leaf) → IsPredicateLeaf l → IsPredicateLeaf (negate_leaf l) × (passed (negate_leaf l) ≡ not (passed l)) × (reads_of (negate_leaf l) ≡ reads_of l)
+negate_is : (l : Leaf) → IsPredicateLeaf l → IsPredicateLeaf (negate_leaf l) × (passed (negate_leaf l) ≡ not (passed l)) × (reads_of (negate_leaf l) ≡ reads_of l) × LogsNoWrite (negate_leaf l)
 negate_is Race h = absurd h
-negate_is (Goes g) h = let t = turned_test g.outs in ((refl, t.0, refl), t.1, refl)
+negate_is (Goes g) h = let t = turned_test g.outs in ((refl, t.0), t.1, refl, refl)
 
 pub negated_answer : (d r : Diagram) (m : Arrays) (k : List ℕ) → IsNegated d r → IsPredicateLeaf (walk d m k) → IsPredicateLeaf (walk r m k) × (answer_of (walk r m k) k ≡ test_answer (not (passed (walk d m k))) (reads_of (walk d m k)) k)
 negated_answer d r m k j h =
     let i = negate_is (walk d m k) h in
     let p : IsPredicateLeaf (walk r m k) = rw (j.walks m k) i.0 in
-    (p, answer_is (walk r m k) k p ∙ (rw (j.walks m k, i.1, i.2) refl))
+    (p, answer_is (walk r m k) k p (rw (j.walks m k) i.3) ∙ (rw (j.walks m k, i.1, i.2) refl))

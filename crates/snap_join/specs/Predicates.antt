@@ -13,10 +13,10 @@ use Rattle.snap_fdd.specs.Order.{Above}
 use Rattle.snap_fdd.specs.Bounds.{Sizes}
 use Rattle.snap_fdd.specs.Picks.{IsDiagram}
 
--- a leaf that passes the packet as it is, or nothing
+-- a leaf that passes the packet as it is, or nothing, whatever it logs
 abbrev pub IsPredicateLeaf : Leaf → Type 0
 IsPredicateLeaf Race = ⊥
-IsPredicateLeaf (Goes g) = (g.ups ≡ []) × ((g.outs ≡ []) ⊎ (g.outs ≡ [] ∷ [])) × (g.writes ≡ 0)
+IsPredicateLeaf (Goes g) = (g.ups ≡ []) × ((g.outs ≡ []) ⊎ (g.outs ≡ [] ∷ []))
 
 -- each leaf to which it walks is that of a predicate
 abbrev pub IsPredicate : List (Node Leaf) → ℕ → Type 0

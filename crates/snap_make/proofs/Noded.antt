@@ -42,15 +42,14 @@ IsNodeInForm n ranks (row.Last us os) = All (IsUpdateInForm n) us × IsNonDecrea
 IsNodeInForm n ranks b = IsRowInForm n b
 
 module _ (p : Program) (g : Grouping) (d : Diagram) (ns : List (Node Leaf)) (root : ℕ) (built : IsBuilt p g d) (arena : IsArena ns) (tidies : Tidies g.ranks (length g.order) d (diagram ns root)) where
-  root_formed : IsFormed (sizes_of p g) g.ranks (diagram ns root)
-  root_formed = formed (sizes_of p g) g.ranks (length g.order) tidies built.bounds built.leaves
+  root_formed : IsFormed (sizes_of p) g.ranks (diagram ns root)
+  root_formed = formed (sizes_of p) g.ranks (length g.order) tidies built.bounds built.leaves
 
   pub bare : IsBareDiagram p g.ranks ns root
   bare = let keeps = tidying_keeps g.ranks (length g.order) d (diagram ns root) tidies in record {
     arena = arena;
     ordered = keeps.order g.ranks built.ordered;
-    arity = (sizes_of p g).arity;
-    bounds = formed_in (sizes_of p g) g.ranks (diagram ns root) root_formed;
+    bounds = formed_in (sizes_of p) g.ranks (diagram ns root) root_formed;
     outcome = keeps.outcome p built.leaves built.outcome;
     live = keeps.live p built.live;
     bare = keeps.bare built.leaves;
@@ -60,10 +59,10 @@ module _ (p : Program) (g : Grouping) (d : Diagram) (ns : List (Node Leaf)) (roo
     shape_of : (x : ℕ) (b : Node Leaf) → slice_get ns x ≡ Some b → IsNodeOf ns x b
     shape_of x b e = shape p g.ranks ns root ids (slice_index numbers) bare num x b e
 
-    below_formed : {x : ℕ} → Leads ns root x → IsFormed (sizes_of p g) g.ranks (diagram ns x)
+    below_formed : {x : ℕ} → Leads ns root x → IsFormed (sizes_of p) g.ranks (diagram ns x)
     below_formed here = root_formed
-    below_formed (yes_way {d = x} {y = y} {z = z} {t = c} chain is) = (subst (IsFormed (sizes_of p g) g.ranks) (shape_of x (node.Ask c y z) is).0 (below_formed chain)).1
-    below_formed (no_way {d = x} {y = y} {z = z} {t = c} chain is) = (subst (IsFormed (sizes_of p g) g.ranks) (shape_of x (node.Ask c y z) is).0 (below_formed chain)).2
+    below_formed (yes_way {d = x} {y = y} {z = z} {t = c} chain is) = (subst (IsFormed (sizes_of p) g.ranks) (shape_of x (node.Ask c y z) is).0 (below_formed chain)).1
+    below_formed (no_way {d = x} {y = y} {z = z} {t = c} chain is) = (subst (IsFormed (sizes_of p) g.ranks) (shape_of x (node.Ask c y z) is).0 (below_formed chain)).2
 
     -- a number with a node is one of the numbers
     pub node_low : (i : ℕ) (b : Row) → numbered_nodes ns ids (slice_index numbers) i ≡ Some b → i < length ids
@@ -77,7 +76,7 @@ module _ (p : Program) (g : Grouping) (d : Diagram) (ns : List (Node Leaf)) (roo
           by : (x : ℕ) → nat_eq x 0 ≡ false → 1 ≤ x
           by x e = ⊎_elim (λ z. absurd (false≢true (sym e ∙ eq-eqb x 0 (omega (arith, z))))) (λ l. l) (cases_lt x 1)
 
-      update_form : (u : Update) → UpdateIn (sizes_of p g) u → is_still u.op ≡ false → IsUpdateInForm n u
+      update_form : (u : Update) → UpdateIn (sizes_of p) u → is_still u.op ≡ false → IsUpdateInForm n u
       update_form u h moves = record {
         fits = record { var = subst (λ s. u.var < s) (sym as_many) h.var; index = subst (λ c. IndexFits c u.index) (sym fields) h.index.atoms; op = subst (λ c. OpFits c u.op) (sym fields) h.op };
         index = (h.index.some, h.index.few);
@@ -87,22 +86,22 @@ module _ (p : Program) (g : Grouping) (d : Diagram) (ns : List (Node Leaf)) (roo
       parts_form : (o : Parts) → PartsFormed (count p.fields) o → IsPartsInForm n o
       parts_form o h = record { fits = subst (λ c. OutFits c o) (sym fields) h.fits; rising = h.rising; changes = h.changes }
 
-      node_form : (x : ℕ) (b : Node Leaf) → slice_get ns x ≡ Some b → IsFormed (sizes_of p g) g.ranks (diagram ns x) → IsNodeInForm n g.ranks (row_of (slice_index numbers) b)
-      node_form x (node.Leaf Race) e h = absurd (subst (IsFormed (sizes_of p g) g.ranks) (shape_of x (node.Leaf Race) e) h)
+      node_form : (x : ℕ) (b : Node Leaf) → slice_get ns x ≡ Some b → IsFormed (sizes_of p) g.ranks (diagram ns x) → IsNodeInForm n g.ranks (row_of (slice_index numbers) b)
+      node_form x (node.Leaf Race) e h = absurd (subst (IsFormed (sizes_of p) g.ranks) (shape_of x (node.Leaf Race) e) h)
       node_form x (node.Leaf (Goes l)) e h =
-          let f : GoFormed (sizes_of p g) g.ranks l = subst (IsFormed (sizes_of p g) g.ranks) (shape_of x (node.Leaf (Goes l)) e) h in (
+          let f : GoFormed (sizes_of p) g.ranks l = subst (IsFormed (sizes_of p) g.ranks) (shape_of x (node.Leaf (Goes l)) e) h in (
             (λ i d k. update_form _ (f.ups i d k) (f.moves i d k)),
             f.ranks_rise,
             record { each = λ i d k. parts_form _ (f.outs i d k); rising = f.outs_rise },
           )
       node_form x (node.Ask (Value c v) y z) e h =
-          let f = subst (IsFormed (sizes_of p g) g.ranks) (shape_of x (node.Ask (Value c v) y z) e).0 h in (subst (λ s. c < s) (sym fields) f.0.0, tt)
+          let f = subst (IsFormed (sizes_of p) g.ranks) (shape_of x (node.Ask (Value c v) y z) e).0 h in (subst (λ s. c < s) (sym fields) f.0.0, tt)
       node_form x (node.Ask (Equal a b v) y z) e h =
-          let f = subst (IsFormed (sizes_of p g) g.ranks) (shape_of x (node.Ask (Equal a b v) y z) e).0 h in
+          let f = subst (IsFormed (sizes_of p) g.ranks) (shape_of x (node.Ask (Equal a b v) y z) e).0 h in
           let l : a < b = f.0.0 in let r : b < count p.fields = f.0.1 in
           ((subst (λ s. a < s) (sym fields) (omega (arith, l, r)), subst (λ s. b < s) (sym fields) r), l)
       node_form x (node.Ask (StateTest v ix u) y z) e h =
-          let f = subst (IsFormed (sizes_of p g) g.ranks) (shape_of x (node.Ask (StateTest v ix u) y z) e).0 h in
+          let f = subst (IsFormed (sizes_of p) g.ranks) (shape_of x (node.Ask (StateTest v ix u) y z) e).0 h in
           ((subst (λ c. IndexFits c ix) (sym fields) f.0.1.atoms, subst (λ c. TermFits c u) (sym fields) f.0.2), (subst (λ s. v < s) (sym as_many) f.0.0, (f.0.1.some, f.0.1.few)))
 
       -- the node of each number is in form

@@ -80,7 +80,7 @@ leaves_of s ranks n many below (Asks t y z) inside known none =
 -- the diagram of the program, in order and within bounds, live, and with leaves of its groups
 pub record IsBuilt (p : Program) (g : Grouping) (d : Diagram) : Type 0 where
   pub ordered : IsOrdered g.ranks d
-  pub bounds : IsIn (sizes_of p g) d
+  pub bounds : IsIn (sizes_of p) d
   pub outcome : IsOutcomeOf p d
   pub live : IsLive (IsInput (count p.fields) (length p.vars)) d
   pub leaves : HasLeavesOf g.ranks (length g.order) d
@@ -96,5 +96,5 @@ module _ (p : Program) (g : Grouping) (ns : List (Node Leaf)) (root : ℕ) (whol
     bounds = whole.bounds;
     outcome = λ m k o store packet e. gives (walk (diagram ns root) m k) m k o (whole.outcome m k store packet ∙ e);
     live = whole.live;
-    leaves = leaves_of (sizes_of p g) g.ranks (length g.order) many below (diagram ns root) whole.bounds known whole.calm;
+    leaves = leaves_of (sizes_of p) g.ranks (length g.order) many below (diagram ns root) whole.bounds known whole.calm;
   }

@@ -41,7 +41,7 @@ use Rattle.snap_seek.proofs.Ranked.{IsOrdered}
 -- ---- a grouping without its numbers of atoms, which nothing here asks for
 
 abbrev pub bare : Grouping → Grouping
-bare g = record { ranks = g.ranks; order = g.order; arities = [] }
+bare g = record { ranks = g.ranks; order = g.order }
 
 bare-demand : (g : Grouping) (vars switches : List (List ℕ)) (s : Spelled) (d : Demand) → IsDemandOf g vars switches s d → IsDemandOf (bare g) vars switches s d
 bare-demand g vars switches s d is = record { flows = is.flows; count = is.count; places = is.places; some = is.some }

@@ -1,7 +1,11 @@
 use Rattle.std.proofs.Common.{sym, ◌∙◌}
 use Rattle.std.proofs.lemmas.Option.{none-some}
 use Rattle.snap_core.specs.Cells.{arrays_of}
+use Rattle.snap_build.proofs.Wholly.{form_in}
 use Rattle.snap_demo.proofs.compile.diagram.Goals as goal
+
+pub build-requires-clause-body : goal.build-requires-clause-body
+build-requires-clause-body c = form_in c.args.program.now c.requires.form
 
 pub unreachable-requires : goal.unreachable-requires
 unreachable-requires c =

@@ -1,8 +1,10 @@
--- The program's indices are as long as its groups tell.
-use Rattle.std.proofs.Common.{◌∙◌}
-use Rattle.snap_fdd.specs.Picks.{sizes}
-use Rattle.snap_build.proofs.Wholly.{body_in}
+use Rattle.std.proofs.Common.{◌∙◌, subst, sym}
+use Rattle.snap_fdd.specs.Bounds.{Sizes}
+use Rattle.snap_build.specs.Parts.{PolIn}
+use Rattle.snap_build.proofs.Wholly.{form_in}
 use Rattle.snap_diagram_tests.proofs.given.diagram.Goals as goal
 
 pub policy-requires-clause-fits : goal.policy-requires-clause-fits
-policy-requires-clause-fits c = body_in _ _ (sizes c.in_ok-groups.groups c.in_ok-ctx.ctx) c.args.program.now.body (c.in_ok-ctx.ensures.1 ∙ c.count.ensures.count) c.in_ok-groups.ensures.grouping.count c.requires.fits (c.in_ok-groups.ensures.arities c.requires.indices)
+policy-requires-clause-fits c =
+    let comps = c.in_ok-ctx.ensures.1 ∙ c.count.ensures.count in
+    subst (λ (s : Sizes). PolIn s c.args.program.now.body) (λ i. record { comps = sym comps i; vars = sym c.in_ok-groups.ensures.grouping.count i }) (form_in c.args.program.now c.requires)
