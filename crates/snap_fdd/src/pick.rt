@@ -137,7 +137,7 @@ pub fn pick(
     ensures pick { IfOk result (λ d. IsPick groups.now.ranks (sizes groups.now ctx.now) Anywhere test.now (diagram nodes.old a) (diagram nodes.old b) (diagram nodes.new d)) }
 {
     let mut memo = Numbers::new(nodes.allocator());
-    picked(nodes, groups, ctx, &mut memo, test, a, b)
+    picked_anew(nodes, groups, ctx, &mut memo, test, a, b)
 }
 
 // A test before two diagrams, which may be remembered.
