@@ -1,3 +1,4 @@
 pub mod Injective
 pub mod Numbered
+pub mod Paired
 pub mod Remembering

@@ -6,3 +6,4 @@ pub mod equal;
 pub mod node;
 pub mod nodes;
 pub mod numbers;
+pub mod pairs;

@@ -1,9 +1,10 @@
 -- What marks say of diagrams.
-use Rattle.std.proofs.Common.{◌≡◌, inl, inr, ℕ, ◌+◌, ◌%◌, ◌<◌, ◌^◌, Bool, true, false, cond, ◌||◌, List, [], ◌∷◌, ◌++◌, length, take, get_or, refl, sym, ap, subst, ◌∙◌, arith, bit_or, length-append}
-use Rattle.std.specs.Prelude.{slice_index, slice_index_or, slice_set, map, ◌==◌}
+use Rattle.std.proofs.Common.{◌≡◌, ℕ, ◌+◌, ◌-◌, ◌%◌, ◌<◌, ◌^◌, Bool, true, false, cond, ◌||◌, List, [], ◌∷◌, ◌++◌, length, take, get_or, refl, sym, ap, subst, ◌∙◌, arith, bit_or}
+use Rattle.std.specs.Prelude.{slice_index, slice_set, map, ◌==◌}
 use Rattle.std.specs.List.{AllByRecursion}
-use Rattle.std.proofs.lemmas.Bool.{or_parts, cases_eq, both_ways, ne_eqb, eq-eqb}
-use Rattle.std.proofs.lemmas.List.{take_more, get_or_default, get_or_append_left, get_or_push, get_or-set_other}
+use Rattle.std.proofs.lemmas.Bool.{or_parts, both_ways, false≢true, ne_eqb, eq-eqb}
+use Rattle.std.proofs.lemmas.Nat.Bits.{bit_at_ones}
+use Rattle.std.proofs.lemmas.List.{take_more, get_or_default, get_or-set_other}
 use Rattle.snap_core.specs.declared.policy.Atom.{Atom}
 use Rattle.snap_core.specs.declared.policy.Atom.TheVariants.{Num as Number, Comp}
 use Rattle.snap_core.specs.declared.policy.Term.{Term}
@@ -20,10 +21,11 @@ use Rattle.snap_arena.specs.declared.node.Node.{Node}
 use Rattle.snap_arena.specs.Arena.{Grew}
 use Rattle.snap_fdd.specs.declared.leaf.Leaf.{Leaf}
 use Rattle.snap_fdd.specs.declared.leaf.Leaf.TheVariants.{Race, Go as Goes}
-use Rattle.snap_fdd.specs.Diagrams.{Diagram, Only, Asks, walk, diagram}
-use Rattle.snap_fdd.proofs.Shared.{kept}
+use Rattle.snap_fdd.specs.Diagrams.{Diagram, Only, Asks, walk}
+use Rattle.snap_fdd.proofs.Noted.{noted_kept}
 use Rattle.snap_fdd.proofs.Testing.{among_left, among_right}
 use Rattle.snap_chain.specs.declared.marks.Mark.{Mark}
+use Rattle.snap_chain.specs.declared.marks.Marks.{Marks}
 use Rattle.snap_chain.specs.Marks.{either_mark, AreMarked, AtomMissed, IsMarkedBy, IsMissed, LeafMarked, LeafWritesNothing, SetsAmong, TermMissed, TestMarked, TestMissed, UpdatesAmong, WritesNothing}
 use Rattle.snap_chain.specs.Untouched.{changes, tests_updated, IsUntouched}
 use Rattle.snap_chain.proofs.Staying.{unchanged}
@@ -95,21 +97,37 @@ marked_asks s a b t y n d e ht hy hn = rw e (
   marked_right s (either_mark a b) n (marked_right a b n hn),
 )
 
--- ---- the marks so far
-pub marked_more : (ns : List (Node Leaf)) (marks : List Mark) (k : Mark) → length marks < length ns → AreMarked ns marks → IsMarkedBy k (diagram ns (length marks)) → AreMarked ns (marks ++ k ∷ [])
-marked_more ns marks k l h new = record {
-  few = let n = length-append marks (k ∷ []) in omega (arith, n, l);
-  marked = λ i e hi. elim (cases_eq i (length marks)) as (λ x. IsMarkedBy (slice_index_or (marks ++ k ∷ []) i e) (diagram ns i)) [
-    | inl same ↦ rw (get_or_push marks k e i (sym same), same) new
-    | inr other ↦ (let n = length-append marks (k ∷ []) in let low : i < length marks = omega (arith, hi, n, other) in rw (get_or_append_left marks (k ∷ []) e i low) (h.marked i e low))
-  ];
-}
+-- ---- a mark of everything
+has_all : (n : ℕ) → n < 64 → has (2 ^ 64 - 1) n ≡ true
+has_all n h = ap (λ bit. bit == 1) (bit_at_ones 64 n h)
 
-pub marked_kept : (old new : List (Node Leaf)) (marks : List Mark) → Grew old new → AreMarked old marks → AreMarked new marks
-marked_kept old new marks g h = record {
-  few = let l = length-append old g.more in let e = ap length g.is in let f = h.few in omega (arith, l, e, f);
-  marked = λ i e hi. rw (kept old new i g (let f = h.few in omega (arith, f, hi))) (h.marked i e hi);
-}
+each_is : {X : Type 0} (P : X → Type 0) → ((x : X) → P x) → (xs : List X) → AllByRecursion P xs
+each_is P f [] = tt
+each_is P f (x ∷ xs) = (f x, each_is P f xs)
+
+abbrev everything : Mark
+everything = record { sets = 2 ^ 64 - 1; updates = 2 ^ 64 - 1; tests = 2 ^ 64 - 1; writes = true }
+
+leaf_in_everything : (l : Leaf) → LeafMarked everything l
+leaf_in_everything Race = tt
+leaf_in_everything (Goes g) = (
+  each_is (SetsAmong (2 ^ 64 - 1)) (each_is (λ (p : ℕ × Atom). IsAmong (2 ^ 64 - 1) p.0) (λ p. has_all p.0)) g.outs,
+  each_is (λ (u : Update). IsAmong (2 ^ 64 - 1) u.var) (λ u. has_all u.var) g.ups,
+  λ e. absurd (false≢true (sym e)),
+)
+
+test_in_everything : (t : Test) → TestMarked everything t
+test_in_everything (Value c n) = tt
+test_in_everything (Equal l r p) = tt
+test_in_everything (State v ix t) = has_all v
+
+pub in_everything : (d : Diagram) → IsMarkedBy everything d
+in_everything (Only l) = leaf_in_everything l
+in_everything (Asks t y n) = (test_in_everything t, in_everything y, in_everything n)
+
+-- ---- marks stay as nodes come
+pub marked_kept : (old new : List (Node Leaf)) (marks : Marks) → Grew old new → AreMarked old marks → AreMarked new marks
+marked_kept old new marks g h = noted_kept IsMarkedBy old new marks.reached.ids.items marks.noted.items g h
 
 -- ---- what is missed stays
 parts_missed : (set : ℕ) (o : List (ℕ × Atom)) (k r : List ℕ) (c : ℕ) → SetsAmong set o → IsMissed set c → slice_index (with_parts o k r) c ≡ slice_index r c

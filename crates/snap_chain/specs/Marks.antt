@@ -1,5 +1,5 @@
 -- What a diagram's leaves set, update and write, and which arrays it tests, as marks tell.
-use Rattle.std.specs.Prelude.{◌≡◌, ℕ, ◌<◌, ◌≤◌, false, List, length, bit_or, ◌||◌, slice_index_or}
+use Rattle.std.specs.Prelude.{◌≡◌, ℕ, ◌<◌, false, List, bit_or, ◌||◌}
 use Rattle.std.specs.List.{AllByRecursion}
 use Rattle.snap_core.specs.declared.policy.Atom.{Atom}
 use Rattle.snap_core.specs.declared.policy.Atom.TheVariants.{Num as Number, Comp}
@@ -13,8 +13,10 @@ use Rattle.snap_ctx.specs.Known.{IsAmong}
 use Rattle.snap_arena.specs.declared.node.Node.{Node}
 use Rattle.snap_fdd.specs.declared.leaf.Leaf.{Leaf}
 use Rattle.snap_fdd.specs.declared.leaf.Leaf.TheVariants.{Race, Go as Goes}
-use Rattle.snap_fdd.specs.Diagrams.{Diagram, Only, Asks, diagram}
+use Rattle.snap_fdd.specs.Diagrams.{Diagram, Only, Asks}
+use Rattle.snap_fdd.specs.Reached.{AreNoted}
 use Rattle.snap_chain.specs.declared.marks.Mark.{Mark}
+use Rattle.snap_chain.specs.declared.marks.Marks.{Marks}
 
 -- a set of 64 bits tells that the number isn't in it
 abbrev pub IsMissed : ℕ → ℕ → Type 0
@@ -41,10 +43,9 @@ abbrev pub IsMarkedBy : Mark → Diagram → Type 0
 IsMarkedBy k (Only l) = LeafMarked k l
 IsMarkedBy k (Asks t y n) = TestMarked k t × IsMarkedBy k y × IsMarkedBy k n
 
--- each number's diagram by its mark
-pub record AreMarked (ns : List (Node Leaf)) (marks : List Mark) : Type 0 where
-  pub few : length marks ≤ length ns
-  pub marked : (i : ℕ) (e : Mark) → i < length marks → IsMarkedBy (slice_index_or marks i e) (diagram ns i)
+-- each number's diagram by what is noted at its place
+abbrev pub AreMarked : List (Node Leaf) → Marks → Type 0
+AreMarked ns marks = AreNoted IsMarkedBy ns marks.reached.ids.items marks.noted.items
 
 -- what either of two marks says
 abbrev pub either_mark : Mark → Mark → Mark

@@ -1,11 +1,14 @@
 //! What a diagram's leaves set and update: a look before one part comes after another, so that what isn't touched is
 //! left as it is.
 
-ghost use Rattle.std.specs.Prelude.{◌≡◌, ◌+◌, ◌<◌, ◌≤◌, ℕ, false, IfOk, IsTrue, length};
+ghost use Rattle.std.specs.Prelude.{◌≡◌, ◌<◌, ℕ, List, All, false, IfOk, IfSome, IsTrue, length};
 ghost use Rattle.std.specs.List.{AllByRecursion};
 ghost use Rattle.snap_core.specs.Variables.{has};
 ghost use Rattle.snap_core.specs.declared.policy.Update.{Update};
-ghost use Rattle.snap_fdd.specs.Diagrams.{diagram};
+ghost use Rattle.snap_arena.specs.declared.node.Node.{Node};
+ghost use Rattle.snap_fdd.specs.declared.leaf.Leaf.{Leaf};
+ghost use Rattle.snap_fdd.specs.Diagrams.{Diagram, diagram};
+ghost use Rattle.snap_fdd.specs.Reached.{AreNoted};
 ghost use Rattle.snap_chain.specs.Marks.{either_mark, AreMarked, AtomMissed, IsMarkedBy, IsMissed, LeafMarked, SetsAmong, TermMissed, TestMarked, TestMissed, UpdatesAmong};
 
 use snap_arena::node::Node;
@@ -16,6 +19,7 @@ use snap_core::policy::{Atom, Term, Test, Update};
 use snap_ctx::sets::{bit, is_in};
 use snap_fdd::leaf::Leaf;
 use snap_fdd::pick::look;
+use snap_fdd::reach::{Reached, reach_from};
 
 /// The components that a diagram's leaves set, the variables that they update and those that the diagram tests, a bit
 /// each, and whether a leaf logs a write.
@@ -159,42 +163,77 @@ fn test_mark(test: &Test) -> Mark
     }
 }
 
-/// The mark of a number.
-pub fn mark_of(nodes: &Nodes<Leaf>, marks: &[Mark], d: u64) -> Mark
-    requires d { d < length marks.now }
-    requires marked { AreMarked nodes.now marks.now }
-    ensures { IsMarkedBy result (diagram nodes.now d) }
+// The mark that says nothing is missed.
+fn anything() -> Mark
+    ensures { (d : Diagram) → IsMarkedBy result d }
 {
-    marks[d as usize]
+    Mark {
+        sets: u64::MAX,
+        updates: u64::MAX,
+        tests: u64::MAX,
+        writes: true,
+    }
 }
 
-// The mark of the number after those that are marked.
-fn next_mark(nodes: &Nodes<Leaf>, marks: &[Mark], d: u64) -> Mark
+// The mark that is noted for a number, where one is.
+fn noted_mark(reached: &Reached, noted: &[Mark], d: u64) -> Option<Mark>
+    ensures { IfSome result (λ mark. (ns : List (Node Leaf)) → AreNoted IsMarkedBy ns reached.now.ids.items noted.now → IsMarkedBy mark (diagram ns d)) }
+{
+    noted.get(reached.place(d)?).copied()
+}
+
+// The mark of a number, as far as one is noted.
+fn mark_at(reached: &Reached, noted: &[Mark], d: u64) -> Mark
+    ensures { (ns : List (Node Leaf)) → AreNoted IsMarkedBy ns reached.now.ids.items noted.now → IsMarkedBy result (diagram ns d) }
+{
+    match noted_mark(reached, noted, d) {
+        Some(mark) => mark,
+        None => anything(),
+    }
+}
+
+// The mark of a number, by those of its ways.
+fn next_mark(nodes: &Nodes<Leaf>, reached: &Reached, noted: &[Mark], d: u64) -> Mark
     requires d { d < length nodes.now }
-    requires marks { d ≤ length marks.now }
-    requires marked { AreMarked nodes.now marks.now }
+    requires noted { AreNoted IsMarkedBy nodes.now reached.now.ids.items noted.now }
     ensures { IsMarkedBy result (diagram nodes.now d) }
 {
     match look(nodes, d) {
         Node::Leaf(leaf) => leaf_mark(leaf),
         Node::Ask { test, yes, no } => {
-            let ways = either(mark_of(nodes, marks, *yes), mark_of(nodes, marks, *no));
+            let ways = either(mark_at(reached, noted, *yes), mark_at(reached, noted, *no));
             either(test_mark(test), ways)
         }
     }
 }
 
-/// The marks of the numbers up to `root`, which may have more than is there. Refuses for memory alone.
-pub fn mark_all(nodes: &Nodes<Leaf>, root: u64) -> Result<Vec<Mark>, NoMemory>
-    requires { root < length nodes.now }
-    ensures count { IfOk result (λ marks. length marks.items ≡ root + 1) }
-    ensures marked { IfOk result (λ marks. AreMarked nodes.now marks.items) }
-{
-    let _count = nodes.count();
-    let mut marks = Vec::new(nodes.allocator());
-    for id in 0..root + 1 {
-        let next = next_mark(nodes, &marks, id);
-        marks.push(next)?;
+/// Marks of the numbers that are reached from some.
+#[derive(Drop)]
+pub struct Marks {
+    reached: Reached,
+    // By the places of the numbers.
+    noted: Vec<Mark>,
+}
+
+impl Marks {
+    /// The mark of a number. Where it isn't reached, nothing is missed.
+    pub fn of(&self, d: u64) -> Mark
+        ensures { (ns : List (Node Leaf)) → AreMarked ns self.now → IsMarkedBy result (diagram ns d) }
+    {
+        mark_at(&self.reached, &self.noted, d)
     }
-    Ok(marks)
+}
+
+/// The marks of the numbers that are reached from these. Refuses for memory alone.
+pub fn marks_from(nodes: &Nodes<Leaf>, roots: &[u64]) -> Result<Marks, NoMemory>
+    requires { All (λ d. d < length nodes.now) roots.now }
+    ensures { IfOk result (AreMarked nodes.now) }
+{
+    let reached = reach_from(nodes, roots)?;
+    let mut noted = Vec::with_capacity(nodes.allocator(), reached.ids.len())?;
+    for id in &reached.ids {
+        let next = next_mark(nodes, &reached, &noted, *id);
+        noted.push(next)?;
+    }
+    Ok(Marks { reached, noted })
 }

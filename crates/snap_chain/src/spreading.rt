@@ -14,7 +14,7 @@ ghost use Rattle.snap_chain.specs.Marks.{AreMarked};
 ghost use Rattle.snap_chain.specs.Spread.{bare_leaf, IsBehindLeaf, IsRun, IsPrefixed, IsSpread, IsSequel};
 
 use crate::late::after_marked;
-use crate::marks::Mark;
+use crate::marks::Marks;
 use crate::settling::go_of;
 use crate::summing::push_updates;
 use snap_arena::nodes::Nodes;
@@ -37,7 +37,7 @@ fn all_after(
     nodes: &mut Nodes<Leaf>,
     groups: &Groups,
     ctx: &Context,
-    marks: &[Mark],
+    marks: &Marks,
     outs: &[Out],
     ups: &[Update],
     start: u64,
@@ -48,7 +48,6 @@ fn all_after(
     requires d { IsArgument groups.now ctx.now nodes.old d }
     requires outs { All (OutFits (sizes groups.now ctx.now).comps) outs.now }
     requires ups { All (UpdateIn (sizes groups.now ctx.now)) ups.now }
-    requires marks { d < length marks.now }
     requires marked { AreMarked nodes.old marks.now }
     ensures grew { Grew nodes.old nodes.new }
     ensures number { IfOk result (λ r. r < length nodes.new) }
@@ -144,13 +143,12 @@ pub fn spread(
     nodes: &mut Nodes<Leaf>,
     groups: &Groups,
     ctx: &Context,
-    marks: &[Mark],
+    marks: &Marks,
     go: &Go,
     d: u64,
 ) -> Result<u64, NoMemory>
     requires d { IsArgument groups.now ctx.now nodes.old d }
     requires go { LeafIn (sizes groups.now ctx.now) (Goes go.now) }
-    requires marks { d < length marks.now }
     requires marked { AreMarked nodes.old marks.now }
     ensures grew { Grew nodes.old nodes.new }
     ensures number { IfOk result (λ r. r < length nodes.new) }
@@ -184,7 +182,7 @@ fn followed(
     nodes: &mut Nodes<Leaf>,
     groups: &Groups,
     ctx: &Context,
-    marks: &[Mark],
+    marks: &Marks,
     memo: &mut Numbers,
     a: u64,
     d: u64,
@@ -208,7 +206,7 @@ fn followed_anew(
     nodes: &mut Nodes<Leaf>,
     groups: &Groups,
     ctx: &Context,
-    marks: &[Mark],
+    marks: &Marks,
     memo: &mut Numbers,
     a: u64,
     d: u64,
@@ -237,13 +235,12 @@ pub fn spread_on(
     nodes: &mut Nodes<Leaf>,
     groups: &Groups,
     ctx: &Context,
-    marks: &[Mark],
+    marks: &Marks,
     a: u64,
     d: u64,
 ) -> Result<u64, NoMemory>
     requires a { IsArgument groups.now ctx.now nodes.old a }
     requires d { IsArgument groups.now ctx.now nodes.old d }
-    requires marks { d < length marks.now }
     requires marked { AreMarked nodes.old marks.now }
     ensures grew { Grew nodes.old nodes.new }
     ensures number { IfOk result (λ r. r < length nodes.new) }

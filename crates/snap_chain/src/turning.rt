@@ -7,7 +7,7 @@ ghost use Rattle.snap_fdd.specs.Diagrams.{diagram};
 ghost use Rattle.snap_fdd.specs.Picks.{IsArgument, IsDiagram, sizes};
 ghost use Rattle.snap_chain.specs.Marks.{AreMarked, IsMarkedBy};
 
-use crate::marks::{Mark, mark_of, misses_test};
+use crate::marks::{Mark, Marks, misses_test};
 use snap_arena::nodes::Nodes;
 use snap_core::NoMemory;
 use snap_core::policy::Test;
@@ -99,20 +99,19 @@ pub fn next_turn(
     nodes: &Nodes<Leaf>,
     groups: &Groups,
     ctx: &Context,
-    marks: &[Mark],
+    marks: &Marks,
     a: u64,
     d: u64,
 ) -> Result<Turn, NoMemory>
     requires a { IsArgument groups.now ctx.now nodes.now a }
     requires d { IsArgument groups.now ctx.now nodes.now d }
-    requires marks { a < length marks.now }
     requires marked { AreMarked nodes.now marks.now }
     ensures { IfOk result (IsTurn groups.now ctx.now nodes.now a d) }
 {
     match part_of(nodes, a)? {
         Part::Whole => Ok(Turn::Whole),
         Part::Split { test, yes, no } => {
-            let mark = mark_of(nodes, marks, a);
+            let mark = marks.of(a);
             if let Some(turn) = asked_by_second(nodes, groups, ctx, mark, &test, a, d)? {
                 return Ok(turn);
             }

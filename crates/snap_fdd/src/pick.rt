@@ -19,7 +19,7 @@ use crate::subject::told;
 use snap_arena::equal::same_test;
 use snap_arena::node::Node;
 use snap_arena::nodes::Nodes;
-use snap_arena::numbers::Numbers;
+use snap_arena::pairs::Pairs;
 use snap_core::NoMemory;
 use snap_core::policy::Test;
 use snap_ctx::context::Context;
@@ -136,8 +136,8 @@ pub fn pick(
     ensures number { IfOk result (λ d. d < length nodes.new) }
     ensures pick { IfOk result (λ d. IsPick groups.now.ranks (sizes groups.now ctx.now) Anywhere test.now (diagram nodes.old a) (diagram nodes.old b) (diagram nodes.new d)) }
 {
-    let mut memo = Numbers::new(nodes.allocator());
-    picked(nodes, groups, ctx, &mut memo, test, a, b)
+    let mut memo = Pairs::new(nodes.allocator());
+    picked_anew(nodes, groups, ctx, &mut memo, test, a, b)
 }
 
 // A test before two diagrams, which may be remembered.
@@ -146,7 +146,7 @@ fn picked(
     nodes: &mut Nodes<Leaf>,
     groups: &Groups,
     ctx: &Context,
-    memo: &mut Numbers,
+    memo: &mut Pairs,
     test: &Test,
     a: u64,
     b: u64,
@@ -157,11 +157,11 @@ fn picked(
     ensures pick { IfOk result (λ d. IsPick groups.now.ranks (sizes groups.now ctx.now) Anywhere test.now (diagram nodes.old a) (diagram nodes.old b) (diagram nodes.new d)) }
     ensures memo { OnOk result (Remembers (PickedFor groups.now.ranks (sizes groups.now ctx.now) test.now nodes.new) memo.new) }
 {
-    if let Some(d) = memo.get(&[a, b]) {
+    if let Some(d) = memo.get(a, b) {
         return Ok(d);
     }
     let d = picked_anew(nodes, groups, ctx, memo, test, a, b)?;
-    memo.put(vec![in nodes.allocator(); a, b]?, d)?;
+    memo.put(a, b, d)?;
     Ok(d)
 }
 
@@ -170,7 +170,7 @@ fn picked_anew(
     nodes: &mut Nodes<Leaf>,
     groups: &Groups,
     ctx: &Context,
-    memo: &mut Numbers,
+    memo: &mut Pairs,
     test: &Test,
     a: u64,
     b: u64,
@@ -200,7 +200,7 @@ fn picked_under(
     nodes: &mut Nodes<Leaf>,
     groups: &Groups,
     ctx: &Context,
-    memo: &mut Numbers,
+    memo: &mut Pairs,
     first: &Test,
     yes: bool,
     test: &Test,

@@ -18,7 +18,6 @@ later-requires c = record {
   fits = c.requires.out;
   updates = subst (λ (us : List Update). All (UpdateIn (sizes c.args.groups.now c.args.ctx.now)) us) (sym c.deref.ensures.value)
       (All-permutation (UpdateIn (sizes c.args.groups.now c.args.ctx.now)) c.args.ups.now c.in_ok-ups.ups.items c.in_ok-ups.ensures.permuted c.requires.ups);
-  within = c.requires.marks;
   marked = c.requires.marked;
   known = rw c.new-memo.ensures (remembers_none _);
 }

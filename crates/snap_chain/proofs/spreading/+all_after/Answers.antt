@@ -40,7 +40,7 @@ all_after-requires-2 t c =
             argument_kept c.args.groups.now c.args.ctx.now c.args.nodes.now c.all_after.new.nodes c.args.d g c.requires.d,
             (
               subst (All (OutFits (sizes c.args.groups.now c.args.ctx.now).comps)) (sym c.split_at.ensures.back) (All-drop (OutFits (sizes c.args.groups.now c.args.ctx.now).comps) _ c.args.outs.now c.requires.outs),
-              (c.requires.ups, (c.requires.marks, marked_kept c.args.nodes.now c.all_after.new.nodes c.args.marks.now g c.requires.marked)),
+              (c.requires.ups, marked_kept c.args.nodes.now c.all_after.new.nodes c.args.marks.now g c.requires.marked),
             ),
           ),
         ),

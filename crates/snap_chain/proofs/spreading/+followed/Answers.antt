@@ -36,7 +36,6 @@ followed_anew-followed-requires-in-Split t c =
       record {
         first = argument_kept c.args.groups.now c.args.ctx.now c.args.nodes.now c.followed.new.nodes c.in-Split.no c.followed.ensures.grew an;
         second = argument_kept c.args.groups.now c.args.ctx.now c.args.nodes.now c.followed.new.nodes c.args.d c.followed.ensures.grew c.requires.second;
-        within = c.requires.within;
         marked = marked_kept c.args.nodes.now c.followed.new.nodes c.args.marks.now c.followed.ensures.grew c.requires.marked;
         known = c.in_ok-y-in-Split.ensures.memo;
       },

@@ -117,6 +117,6 @@ picked-returns-in-Some-clause-pick t c = (c.requires.known (c.args.a ∷ c.args.
 
 pub picked-returns-clause-memo : goal.picked-returns-clause-memo
 picked-returns-clause-memo t c =
-    remembers_more (PickedFor c.args.groups.now.ranks (sizes c.args.groups.now c.args.ctx.now) c.args.test.now c.picked_anew.new.nodes) c.picked_anew.new.memo c.put.new.self c.in_ok-vec.field-0.items c.in_ok-d.d c.in_ok-d.ensures.memo
-    (rw c.in_ok-vec.ensures.items (picked_now c.args.groups.now.ranks (sizes c.args.groups.now c.args.ctx.now) c.args.test.now c.args.nodes.now c.picked_anew.new.nodes c.args.a c.args.b c.in_ok-d.d c.picked_anew.ensures.grew c.requires.first.below c.requires.second.below c.in_ok-d.ensures.number c.in_ok-d.ensures.pick))
+    remembers_more (PickedFor c.args.groups.now.ranks (sizes c.args.groups.now c.args.ctx.now) c.args.test.now c.picked_anew.new.nodes) c.picked_anew.new.memo c.put.new.self (c.args.a ∷ c.args.b ∷ []) c.in_ok-d.d c.in_ok-d.ensures.memo
+    (picked_now c.args.groups.now.ranks (sizes c.args.groups.now c.args.ctx.now) c.args.test.now c.args.nodes.now c.picked_anew.new.nodes c.args.a c.args.b c.in_ok-d.d c.picked_anew.ensures.grew c.requires.first.below c.requires.second.below c.in_ok-d.ensures.number c.in_ok-d.ensures.pick)
     c.in_ok-put.ensures.ok

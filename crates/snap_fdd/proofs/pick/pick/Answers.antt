@@ -2,5 +2,5 @@
 use Rattle.snap_arena.proofs.Remembering.{remembers_none}
 use Rattle.snap_fdd.proofs.pick.pick.Goals as goal
 
-pub picked-requires : goal.picked-requires
-picked-requires c = record { first = c.requires.a; second = c.requires.b; test = c.requires.test; known = rw c.new-memo.ensures (remembers_none _) }
+pub picked_anew-requires : goal.picked_anew-requires
+picked_anew-requires c = record { first = c.requires.a; second = c.requires.b; test = c.requires.test; known = rw c.new-memo.ensures (remembers_none _) }
