@@ -1,3 +1,5 @@
+pub mod Results
+pub mod United
 pub mod Changes
 pub mod Combining
 pub mod Tested
