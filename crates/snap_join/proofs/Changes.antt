@@ -1,24 +1,18 @@
 -- What the updates of two leaves make, one after the other.
-use Rattle.std.proofs.Common.{◌≡◌, ◌≢◌, ℕ, Bool, true, false, cond, not, ◌||◌, List, [], ◌∷◌, ◌++◌, refl, sym, ap, ◌∙◌, arith, bit_or, bit_and, Some, None, map}
+use Rattle.std.proofs.Common.{◌≡◌, ◌≢◌, ℕ, Bool, true, false, cond, not, ◌||◌, List, [], ◌∷◌, ◌++◌, refl, sym, ap, ◌∙◌, arith, bit_or, bit_and, Some, None}
 use Rattle.std.specs.Prelude.{nat_eq, ◌==◌}
 use Rattle.std.specs.Int.{bit_at}
-use Rattle.std.specs.List.{list_any}
-use Rattle.std.specs.Ordering.{eq_by_cmp}
-use Rattle.std.specs.FinMap.{contains_key}
 use Rattle.std.proofs.lemmas.Bool.{eqb-true, ne_eqb, and_left, cond-true, cond-false, and_parts, false≢true}
 use Rattle.std.proofs.lemmas.Nat.Bits.{bit_at_or, bit_at_and, bit_at-lt, bit_at-zero}
-use Rattle.std.proofs.lemmas.List.{map-append}
 use Rattle.snap_core.specs.declared.place.Place.{Place}
 use Rattle.snap_core.specs.declared.policy.Update.{Update}
 use Rattle.snap_core.specs.Arrays.{Arrays, same_place, place_at, number_after, update, updates, taken}
 use Rattle.snap_core.specs.Variables.{has, meets}
-use Rattle.snap_core.specs.Packets.{PacketSet, packet_cmp, no_packets, with_packet, with_packets, union}
-use Rattle.snap_core.proofs.PacketSets.{same_packets, contains-with_packet, contains-no_packets, contains-listed, union-with_packets}
+use Rattle.snap_core.specs.Packets.{union}
 use Rattle.snap_core.proofs.Unwritten.{without}
-use Rattle.snap_core.specs.declared.policy.Atom.{Atom}
 use Rattle.snap_fdd.specs.declared.leaf.Leaf.{Leaf}
 use Rattle.snap_fdd.specs.declared.leaf.Leaf.TheVariants.{Race, Go as Goes}
-use Rattle.snap_core.specs.Tests.{after_out, results_from, results}
+use Rattle.snap_core.specs.Tests.{results}
 use Rattle.snap_fdd.specs.Leaves.{Answer, answer_of}
 use Rattle.snap_join.specs.Beside.{beside, logs_clash, merged}
 use Rattle.snap_join.specs.Joined.{only, beside_leaf}

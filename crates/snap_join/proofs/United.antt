@@ -27,19 +27,16 @@ module _ (k : List ℕ) where
   -- a packet is among those of outs one of which is spelled as its own
   gives : (o : List (ℕ × Atom)) (os : List (List (ℕ × Atom))) → has_code (out_code o) os ≡ true → list_any (eq_by_cmp packet_cmp (after_out o k)) (map (λ p. after_out p k) os) ≡ true
   gives o [] e = e
-  gives o (p ∷ os) e = by (bytes_eq (out_code p) (out_code o)) refl
+  gives o (p ∷ os) e = by (bytes_eq (out_code p) (out_code o)) refl (gives o os)
     where
       more : Bool → Bool
       more b = b || list_any (eq_by_cmp packet_cmp (after_out o k)) (map (λ p. after_out p k) os)
 
-      rest : has_code (out_code o) os ≡ true → more (eq_by_cmp packet_cmp (after_out o k) (after_out p k)) ≡ true
-      rest f = or_more _ _ (gives o os f)
-
-      by : (t : Bool) → bytes_eq (out_code p) (out_code o) ≡ t → more (eq_by_cmp packet_cmp (after_out o k) (after_out p k)) ≡ true
-      by true t =
+      by : (t : Bool) → bytes_eq (out_code p) (out_code o) ≡ t → (has_code (out_code o) os ≡ true → more false ≡ true) → more (eq_by_cmp packet_cmp (after_out o k) (after_out p k)) ≡ true
+      by true t rest =
           let same : p ≡ o = (same_out p o [] [] (ap (λ c. c ++ []) ((bytes_eq-Decides (out_code p) (out_code o)).0 t))).0 in
           ap more (ap (λ q. eq_by_cmp packet_cmp (after_out o k) (after_out q k)) same ∙ ap is_eq (tied_itself nat_list_cmp_total (after_out o k)))
-      by false t = rest (sym (ap (λ b. b || has_code (out_code o) os) t) ∙ e)
+      by false t rest = or_more _ _ (rest (sym (ap (λ b. b || has_code (out_code o) os) t) ∙ e))
 
   with_more : (s : PacketSet) (os : List (List (ℕ × Atom))) (o : List (ℕ × Atom)) → results_from s (os ++ o ∷ []) k ≡ with_packet (results_from s os k) (after_out o k)
   with_more s [] o = refl

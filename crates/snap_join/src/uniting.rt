@@ -10,7 +10,12 @@ use snap_fdd::codes::push_out;
 use std::alloc::Global;
 
 // Adds an out that isn't there yet. The codes of those that are there are known.
-fn add_once(kept: &mut Vec<Out>, codes: &mut Numbers, alloc: Global, out: &Out) -> Result<(), NoMemory>
+fn add_once(
+    kept: &mut Vec<Out>,
+    codes: &mut Numbers,
+    alloc: Global,
+    out: &Out,
+) -> Result<(), NoMemory>
     requires { Knows codes.old kept.old.items }
     ensures kept { OnOk result (kept.new.items ≡ with_out kept.old.items out.now) }
     ensures codes { OnOk result (Knows codes.new kept.new.items) }
@@ -25,7 +30,12 @@ fn add_once(kept: &mut Vec<Out>, codes: &mut Numbers, alloc: Global, out: &Out) 
 }
 
 // Adds those that aren't there yet.
-fn add_all(kept: &mut Vec<Out>, codes: &mut Numbers, alloc: Global, outs: &[Out]) -> Result<(), NoMemory>
+fn add_all(
+    kept: &mut Vec<Out>,
+    codes: &mut Numbers,
+    alloc: Global,
+    outs: &[Out],
+) -> Result<(), NoMemory>
     requires { Knows codes.old kept.old.items }
     ensures kept { OnOk result (kept.new.items ≡ with_outs kept.old.items outs.now) }
     ensures codes { OnOk result (Knows codes.new kept.new.items) }
