@@ -1,3 +1,4 @@
+pub mod Spelled
 pub mod Results
 pub mod United
 pub mod Changes

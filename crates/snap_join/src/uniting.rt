@@ -1,13 +1,20 @@
 //! Outs of two leaves, each once.
 
 ghost use Rattle.std.specs.Prelude.{◌≡◌, [], IfOk, OnOk};
-ghost use Rattle.snap_join.specs.United.{Knows, with_out, with_outs, united};
+ghost use Rattle.std.specs.Bool.{Decides};
+ghost use Rattle.std.specs.Str.{bytes_eq};
+ghost use Rattle.snap_fdd.specs.Codes.{out_code};
+ghost use Rattle.snap_join.specs.United.{Knows, has_code, with_out, with_outs, united};
 
 use snap_arena::numbers::Numbers;
 use snap_core::NoMemory;
 use snap_core::lists::Out;
+use snap_core::policy::Atom;
 use snap_fdd::codes::push_out;
 use std::alloc::Global;
+
+// Up to so many of each, comparing them one by one is cheaper than a map.
+const FEW: usize = 4;
 
 // Adds an out that isn't there yet. The codes of those that are there are known.
 fn add_once(
@@ -46,9 +53,52 @@ fn add_all(
     Ok(())
 }
 
-/// The outs of two leaves, each once: of those that are spelled the same, the first. They are found by a hash.
-/// Refuses for memory alone.
-pub fn unite(alloc: Global, first: &[Out], second: &[Out]) -> Result<Vec<Out>, NoMemory>
+// Whether parts are spelled the same.
+fn same_parts(a: &[(u16, Atom)], b: &[(u16, Atom)]) -> bool
+    ensures { Decides result (a.now ≡ b.now) }
+{
+    a == b
+}
+
+fn same_out(a: &Out, b: &Out) -> bool
+    ensures { result ≡ bytes_eq (out_code a.now) (out_code b.now) }
+{
+    same_parts(a.parts(), b.parts())
+}
+
+fn is_among(outs: &[Out], out: &Out) -> bool
+    ensures { result ≡ has_code (out_code out.now) outs.now }
+{
+    for other in outs {
+        if same_out(other, out) {
+            return true;
+        }
+    }
+    false
+}
+
+// The same as `add_all`, one by one.
+fn add_few(kept: &mut Vec<Out>, outs: &[Out]) -> Result<(), NoMemory>
+    ensures { OnOk result (kept.new.items ≡ with_outs kept.old.items outs.now) }
+{
+    for out in outs {
+        if !is_among(kept, out) {
+            kept.push(out.copy()?)?;
+        }
+    }
+    Ok(())
+}
+
+fn unite_few(alloc: Global, first: &[Out], second: &[Out]) -> Result<Vec<Out>, NoMemory>
+    ensures { IfOk result (λ outs. outs.items ≡ united first.now second.now) }
+{
+    let mut kept = Vec::new(alloc);
+    add_few(&mut kept, first)?;
+    add_few(&mut kept, second)?;
+    Ok(kept)
+}
+
+fn unite_many(alloc: Global, first: &[Out], second: &[Out]) -> Result<Vec<Out>, NoMemory>
     ensures { IfOk result (λ outs. outs.items ≡ united first.now second.now) }
 {
     let mut kept = Vec::new(alloc);
@@ -56,4 +106,15 @@ pub fn unite(alloc: Global, first: &[Out], second: &[Out]) -> Result<Vec<Out>, N
     add_all(&mut kept, &mut codes, alloc, first)?;
     add_all(&mut kept, &mut codes, alloc, second)?;
     Ok(kept)
+}
+
+/// The outs of two leaves, each once: of those that are spelled the same, the first. Many are found by a hash.
+/// Refuses for memory alone.
+pub fn unite(alloc: Global, first: &[Out], second: &[Out]) -> Result<Vec<Out>, NoMemory>
+    ensures { IfOk result (λ outs. outs.items ≡ united first.now second.now) }
+{
+    if first.len() <= FEW && second.len() <= FEW {
+        return unite_few(alloc, first, second);
+    }
+    unite_many(alloc, first, second)
 }
