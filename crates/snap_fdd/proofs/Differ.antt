@@ -23,7 +23,7 @@ same_op (Put a) (Add o) r s e = absurd (grind arith)
 same_op (Add n) (Put b) r s e = absurd (grind arith)
 same_op (Add n) (Add o) r s e = (grind arith, grind arith)
 
-same_out : (xs ys : List (ℕ × Atom)) (r s : List ℕ) → out_code xs ++ r ≡ out_code ys ++ s → (xs ≡ ys) × (r ≡ s)
+pub same_out : (xs ys : List (ℕ × Atom)) (r s : List ℕ) → out_code xs ++ r ≡ out_code ys ++ s → (xs ≡ ys) × (r ≡ s)
 same_out [] [] r s e = (refl, grind arith)
 same_out [] ((d, b) ∷ ys) r s e = absurd (grind arith)
 same_out ((c, a) ∷ xs) [] r s e = absurd (grind arith)

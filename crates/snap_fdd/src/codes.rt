@@ -10,7 +10,8 @@ use snap_core::NoMemory;
 use snap_core::lists::Out;
 use snap_core::policy::{Op, Update};
 
-fn push_out(code: &mut Vec<u64>, out: &Out) -> Result<(), NoMemory>
+/// Adds the numbers of an out. Refuses for memory alone.
+pub fn push_out(code: &mut Vec<u64>, out: &Out) -> Result<(), NoMemory>
     ensures { OnOk result (code.new.items ≡ code.old.items ++ out_code out.now) }
 {
     for (comp, atom) in out.parts() {

@@ -2,7 +2,7 @@
 #![tactic(auto)]
 
 pub mod bounds;
-mod codes;
+pub mod codes;
 pub mod leaf;
 pub mod only;
 pub mod order;

@@ -1,27 +1,24 @@
 -- What the updates of two leaves make, one after the other.
-use Rattle.std.proofs.Common.{◌≡◌, ◌≢◌, ℕ, Bool, true, false, cond, not, ◌||◌, List, [], ◌∷◌, ◌++◌, refl, sym, ap, ◌∙◌, arith, bit_or, bit_and, Some, None, map}
+use Rattle.std.proofs.Common.{◌≡◌, ◌≢◌, ℕ, Bool, true, false, cond, not, ◌||◌, List, [], ◌∷◌, ◌++◌, refl, sym, ap, ◌∙◌, arith, bit_or, bit_and, Some, None}
 use Rattle.std.specs.Prelude.{nat_eq, ◌==◌}
 use Rattle.std.specs.Int.{bit_at}
-use Rattle.std.specs.List.{list_any}
-use Rattle.std.specs.Ordering.{eq_by_cmp}
-use Rattle.std.specs.FinMap.{contains_key}
 use Rattle.std.proofs.lemmas.Bool.{eqb-true, ne_eqb, and_left, cond-true, cond-false, and_parts, false≢true}
 use Rattle.std.proofs.lemmas.Nat.Bits.{bit_at_or, bit_at_and, bit_at-lt, bit_at-zero}
-use Rattle.std.proofs.lemmas.List.{map-append}
 use Rattle.snap_core.specs.declared.place.Place.{Place}
 use Rattle.snap_core.specs.declared.policy.Update.{Update}
 use Rattle.snap_core.specs.Arrays.{Arrays, same_place, place_at, number_after, update, updates, taken}
 use Rattle.snap_core.specs.Variables.{has, meets}
-use Rattle.snap_core.specs.Packets.{PacketSet, packet_cmp, no_packets, with_packet, with_packets, union}
-use Rattle.snap_core.proofs.PacketSets.{same_packets, contains-with_packet, contains-no_packets, contains-listed, union-with_packets}
+use Rattle.snap_core.specs.Packets.{union}
 use Rattle.snap_core.proofs.Unwritten.{without}
-use Rattle.snap_core.specs.declared.policy.Atom.{Atom}
 use Rattle.snap_fdd.specs.declared.leaf.Leaf.{Leaf}
 use Rattle.snap_fdd.specs.declared.leaf.Leaf.TheVariants.{Race, Go as Goes}
-use Rattle.snap_core.specs.Tests.{after_out, results_from, results}
+use Rattle.snap_core.specs.Tests.{results}
 use Rattle.snap_fdd.specs.Leaves.{Answer, answer_of}
 use Rattle.snap_join.specs.Beside.{beside, logs_clash, merged}
 use Rattle.snap_join.specs.Joined.{only, beside_leaf}
+use Rattle.snap_join.specs.United.{united}
+use Rattle.snap_join.proofs.Results.{all_packets}
+use Rattle.snap_join.proofs.United.{results-united}
 
 -- the arrays agree at a variable
 abbrev Agree : ℕ → Arrays → Arrays → Type 0
@@ -106,37 +103,6 @@ apart r w s x e v h =
     let ls = bit_at-lt s v in
     without w v (omega (arith, one, a, o, z, l, ls))
 
-swapped_out : (a b c : Bool) → ((a || b) || c) ≡ (b || (a || c))
-swapped_out true true c = refl
-swapped_out true false c = refl
-swapped_out false b c = refl
-
-or-none : (a : Bool) → a ≡ (a || false)
-or-none true = refl
-or-none false = refl
-
-pub contains-results : (s : PacketSet) (os : List (List (ℕ × Atom))) (k q : List ℕ) → contains_key (results_from s os k) q ≡ (contains_key s q || list_any (eq_by_cmp packet_cmp q) (map (λ o. after_out o k) os))
-contains-results s [] k q = or-none (contains_key s q)
-contains-results s (o ∷ os) k q =
-    contains-results (with_packet s (after_out o k)) os k q
-    ∙ ap (λ b. b || list_any (eq_by_cmp packet_cmp q) (map (λ o. after_out o k) os)) (contains-with_packet s (after_out o k) q)
-    ∙ swapped_out (eq_by_cmp packet_cmp q (after_out o k)) (contains_key s q) (list_any (eq_by_cmp packet_cmp q) (map (λ o. after_out o k) os))
-
-results-is : (os : List (List (ℕ × Atom))) (k : List ℕ) → results os k ≡ with_packets no_packets (map (λ o. after_out o k) os)
-results-is os k = same_packets _ _ (λ q.
-    contains-results no_packets os k q
-    ∙ ap (λ b. b || list_any (eq_by_cmp packet_cmp q) (map (λ o. after_out o k) os)) (contains-no_packets q)
-    ∙ sym (contains-listed (map (λ o. after_out o k) os) q))
-
--- the packets of outs one after another
-pub all_packets : (xs ys : List (List (ℕ × Atom))) (k : List ℕ) → results (xs ++ ys) k ≡ union (results xs k) (results ys k)
-all_packets xs ys k =
-    let f : List (ℕ × Atom) → List ℕ = λ o. after_out o k in
-    results-is (xs ++ ys) k
-    ∙ ap (with_packets no_packets) (map-append f xs ys)
-    ∙ sym (union-with_packets (map f xs) (map f ys))
-    ∙ sym (λ i. union (results-is xs k i) (results-is ys k i))
-
 -- the answer of two leaves side by side
 pub answer_beside : (x y : Leaf) (k : List ℕ) → answer_of (beside_leaf x y) k ≡ beside (answer_of x k) (answer_of y k)
 answer_beside Race y k = refl
@@ -144,7 +110,7 @@ answer_beside (Goes x) Race k = refl
 answer_beside (Goes x) (Goes y) k = by (logs_clash x.reads x.writes y.reads y.writes) refl
   where
     both : Leaf
-    both = Goes (record { outs = x.outs ++ y.outs; ups = only x.writes x.ups ++ only y.writes y.ups; reads = bit_or x.reads y.reads; writes = bit_or x.writes y.writes })
+    both = Goes (record { outs = united x.outs y.outs; ups = only x.writes x.ups ++ only y.writes y.ups; reads = bit_or x.reads y.reads; writes = bit_or x.writes y.writes })
 
     left : Arrays → Arrays
     left m = updates m (only x.writes x.ups ++ only y.writes y.ups) k
@@ -164,4 +130,4 @@ answer_beside (Goes x) (Goes y) k = by (logs_clash x.reads x.writes y.reads y.wr
 
     by : (t : Bool) → logs_clash x.reads x.writes y.reads y.writes ≡ t → answer_of (cond t Race both) k ≡ cond t None (Some answers)
     by true e = refl
-    by false e = λ i. Some (record { packets = all_packets x.outs y.outs k i; reads = bit_or x.reads y.reads; writes = bit_or x.writes y.writes; change = change e i })
+    by false e = λ i. Some (record { packets = (results-united k x.outs y.outs ∙ all_packets x.outs y.outs k) i; reads = bit_or x.reads y.reads; writes = bit_or x.writes y.writes; change = change e i })

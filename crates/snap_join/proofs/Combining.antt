@@ -24,7 +24,9 @@ use Rattle.snap_fdd.proofs.Comparing.{above_trans, not_below_itself}
 use Rattle.snap_fdd.proofs.Picking.{low_below}
 use Rattle.snap_join.specs.declared.leaves.How.{How}
 use Rattle.snap_join.specs.declared.leaves.How.TheVariants.{Beside, AndBoth, OrEither, Logged}
+use Rattle.snap_join.specs.United.{united}
 use Rattle.snap_join.proofs.Changes.{answer_beside}
+use Rattle.snap_join.proofs.United.{all_united}
 use Rattle.snap_join.specs.Joined.{only, both_outs, either_outs, combined, IsJoined, AreLeaves, IsFirst}
 
 less_greater : Less ≡ Greater → ⊥
@@ -42,12 +44,12 @@ beside_in : (s : Sizes) (x y : Go) → LeafIn s (Goes x) → LeafIn s (Goes y) �
 beside_in s x y hx hy = by (logs_clash x.reads x.writes y.reads y.writes)
   where
     both : Leaf
-    both = Goes (record { outs = x.outs ++ y.outs; ups = only x.writes x.ups ++ only y.writes y.ups; reads = bit_or x.reads y.reads; writes = bit_or x.writes y.writes })
+    both = Goes (record { outs = united x.outs y.outs; ups = only x.writes x.ups ++ only y.writes y.ups; reads = bit_or x.reads y.reads; writes = bit_or x.writes y.writes })
 
     by : (t : Bool) → LeafIn s (cond t Race both)
     by true = tt
     by false = (
-      All-append (λ (ps : List (ℕ × Atom)). OutFits s.comps ps) x.outs y.outs hx.0 hy.0,
+      all_united (OutFits s.comps) x.outs y.outs hx.0 hy.0,
       All-append (UpdateIn s) (only x.writes x.ups) (only y.writes y.ups)
           (All-from_recursion (UpdateIn s) (only x.writes x.ups) (all_only (UpdateIn s) x.writes x.ups (recursion_from_All (UpdateIn s) x.ups hx.1)))
           (All-from_recursion (UpdateIn s) (only y.writes y.ups) (all_only (UpdateIn s) y.writes y.ups (recursion_from_All (UpdateIn s) y.ups hy.1))),

@@ -1,3 +1,6 @@
+pub mod Spelled
+pub mod Results
+pub mod United
 pub mod Changes
 pub mod Combining
 pub mod Tested

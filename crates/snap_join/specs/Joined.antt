@@ -9,6 +9,7 @@ use Rattle.snap_fdd.specs.declared.leaf.Go.{Go}
 use Rattle.snap_fdd.specs.declared.leaf.Leaf.{Leaf}
 use Rattle.snap_fdd.specs.declared.leaf.Leaf.TheVariants.{Race, Go as Goes}
 use Rattle.snap_join.specs.Beside.{logs_clash}
+use Rattle.snap_join.specs.United.{united}
 use Rattle.snap_fdd.specs.Diagrams.{Diagram, Only, walk}
 use Rattle.snap_fdd.specs.Order.{Above, NotBelow}
 use Rattle.snap_fdd.specs.Bounds.{Sizes, TestIn}
@@ -29,7 +30,7 @@ beside_leaf Race y = Race
 beside_leaf (Goes x) Race = Race
 beside_leaf (Goes x) (Goes y) =
     if logs_clash x.reads x.writes y.reads y.writes then Race else
-    Goes (record { outs = x.outs ++ y.outs; ups = only x.writes x.ups ++ only y.writes y.ups; reads = bit_or x.reads y.reads; writes = bit_or x.writes y.writes })
+    Goes (record { outs = united x.outs y.outs; ups = only x.writes x.ups ++ only y.writes y.ups; reads = bit_or x.reads y.reads; writes = bit_or x.writes y.writes })
 
 -- a predicate's packets: those of both, or of either
 abbrev pub both_outs : List (List (ℕ × Atom)) → List (List (ℕ × Atom)) → List (List (ℕ × Atom))

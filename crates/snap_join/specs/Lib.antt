@@ -1,4 +1,5 @@
 pub mod Beside
+pub mod United
 pub mod Joined
 pub mod Predicates
 pub mod Chosen

@@ -6,6 +6,7 @@ ghost use Rattle.snap_join.specs.Beside.{logs_clash};
 ghost use Rattle.snap_join.specs.Predicates.{turned_outs, negate_leaf};
 ghost use Rattle.snap_join.specs.Joined.{only, beside_leaf, both_leaf, either_leaf, logged_leaf, combined, both_outs, either_outs};
 
+use crate::uniting::unite;
 use snap_core::NoMemory;
 use snap_core::lists::Out;
 use snap_core::policy::Update;
@@ -24,15 +25,6 @@ pub enum How {
     OrEither,
     /// The second, with the reads of the first.
     Logged,
-}
-
-fn push_outs(to: &mut Vec<Out>, outs: &[Out]) -> Result<(), NoMemory>
-    ensures { OnOk result (to.new.items ≡ to.old.items ++ outs.now) }
-{
-    for out in outs {
-        to.push(out.copy()?)?;
-    }
-    Ok(())
 }
 
 // Adds the updates of the variables of a set.
@@ -60,9 +52,7 @@ fn go_beside(alloc: Global, a: &Go, b: &Go) -> Result<Leaf, NoMemory>
     if clash(a, b) {
         return Ok(Leaf::Race);
     }
-    let mut outs = Vec::new(alloc);
-    push_outs(&mut outs, a.outs.list())?;
-    push_outs(&mut outs, b.outs.list())?;
+    let outs = unite(alloc, a.outs.list(), b.outs.list())?;
     let mut ups = Vec::new(alloc);
     push_updates(&mut ups, a.writes, a.ups.list())?;
     push_updates(&mut ups, b.writes, b.ups.list())?;

@@ -5,3 +5,4 @@ pub mod choosing;
 pub mod joining;
 pub mod leaves;
 pub mod negating;
+pub mod uniting;
