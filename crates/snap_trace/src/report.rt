@@ -413,13 +413,52 @@ fn put_block(
     Ok(())
 }
 
-// Puts the block of the packet with this number, which became this packet alone.
-fn put_one(out: &mut Vec<u8>, fields: &Fields, number: u64, packet: &Packet) -> Result<(), NoMemory>
+// Puts the block of the packet with this number, which became this packet alone, before the text that begins at `end`, and
+// returns where the text begins then, if there is room.
+fn put_one_before(
+    buffer: &mut [u8; 256],
+    end: usize,
+    fields: &Fields,
+    number: u64,
+    packet: &Packet,
+) -> Option<usize>
+    requires packet { length packet.now ≡ count fields.now }
+    requires within { end ≤ 256 }
+    ensures begin { IfSome result (λ begin. begin ≤ end) }
+    ensures text { IfSome result (λ begin. drop begin buffer.new ≡ codes "packet " ++ decimal number ++ codes "\n" ++ out_line fields.now packet.now ++ drop end buffer.old) }
+{
+    let begin = put_out_before(buffer, end, fields, packet)?;
+    if begin < 28 {
+        return None;
+    }
+    Some(put_head_before(buffer, begin, number))
+}
+
+// Puts the block of the packet with this number, which became this packet alone, whatever its length.
+#[inline(never)]
+fn put_long_one(
+    out: &mut Vec<u8>,
+    fields: &Fields,
+    number: u64,
+    packet: &Packet,
+) -> Result<(), NoMemory>
     requires { length packet.now ≡ count fields.now }
     ensures { OnOk result (out.new.items ≡ out.old.items ++ (codes "packet " ++ decimal number ++ codes "\n" ++ out_line fields.now packet.now)) }
 {
     put_head(out, number)?;
     put_out(out, fields, packet)
+}
+
+// Puts the block of the packet with this number, which became this packet alone.
+fn put_one(out: &mut Vec<u8>, fields: &Fields, number: u64, packet: &Packet) -> Result<(), NoMemory>
+    requires { length packet.now ≡ count fields.now }
+    ensures { OnOk result (out.new.items ≡ out.old.items ++ (codes "packet " ++ decimal number ++ codes "\n" ++ out_line fields.now packet.now)) }
+{
+    let mut buffer = [0u8; 256];
+    match put_one_before(&mut buffer, 256, fields, number, packet) {
+        Some(begin) => put_from(out, &buffer, begin),
+        None => put_long_one(out, fields, number, packet),
+    }
 }
 
 /// Puts the block of the packet with this number, which became these packets.
@@ -485,10 +524,10 @@ fn put_equal_before(buffer: &mut [u8; 256], end: usize, value: u64) -> usize
     put_bytes_before(buffer, begin, b" = ")
 }
 
-// Puts the line of a place before the text that begins at `end`, and returns where the text begins then, if there is
-// room.
+/// Puts the line of a place before the text that begins at `end`, and returns where the text begins then, if there is
+/// room.
 #[inline(always)]
-fn put_place_before(
+pub(crate) fn put_place_before(
     buffer: &mut [u8; 256],
     end: usize,
     name: &[u8],

@@ -10,7 +10,7 @@ ghost use Rattle.snap_io.specs.Causes.{HasCause};
 ghost use Rattle.snap_trace.specs.Reports.{end_text, index_text, listed_line};
 ghost use Rattle.snap_trace.specs.Steps.{Puts};
 
-use crate::report::name_at;
+use crate::report::{name_at, put_place_before};
 use itoa::Buffer;
 use snap_core::lists::Names;
 use snap_core::place::Listed;
@@ -71,8 +71,9 @@ fn put_index<K: Sink>(text: &mut Vec<u8>, sink: &mut K, index: &[u64]) -> Result
     Ok(())
 }
 
-// Puts the line of a place that isn't 0.
-fn put_entry<K: Sink>(
+// Puts the line of a place that isn't 0, whatever its length.
+#[inline(never)]
+fn put_long_entry<K: Sink>(
     text: &mut Vec<u8>,
     sink: &mut K,
     names: &Names,
@@ -86,6 +87,24 @@ fn put_entry<K: Sink>(
     put_index(text, sink, entry.index)?;
     put_number(text, sink, b" = ", entry.value)?;
     put(text, sink, b"\n")
+}
+
+// Puts the line of a place that isn't 0.
+fn put_entry<K: Sink>(
+    text: &mut Vec<u8>,
+    sink: &mut K,
+    names: &Names,
+    entry: &Listed<'_>,
+) -> Result<(), WriteFailed>
+    ensures puts { Puts (K.taken sink.old) (K.taken sink.new) text.old.items (listed_line names.now entry.now) result text.new.items }
+    ensures cause { HasCause (K.faults sink.old) (K.faults sink.new) result }
+{
+    let mut buffer = [0u8; 256];
+    let name = name_at(names, entry.var);
+    match put_place_before(&mut buffer, 256, name, entry.index, entry.value) {
+        Some(begin) => put(text, sink, &buffer[begin..]),
+        None => put_long_entry(text, sink, names, entry),
+    }
 }
 
 // Puts the lines of places that aren't 0.

@@ -6,7 +6,7 @@ use Rattle.snap_io.specs.Sinks.{AppendsPart}
 use Rattle.snap_trace.specs.Reports.{index_text}
 use Rattle.snap_trace.specs.Steps.{Waits}
 use Rattle.snap_trace.proofs.TailLemmas.{puts-short, puts-then}
-use Rattle.snap_trace.proofs.tail.put_entry.Goals as goal
+use Rattle.snap_trace.proofs.tail.put_long_entry.Goals as goal
 
 -- the parts of the line behind its first word
 abbrev name_of : List (List ℕ) → Listed → List ℕ
