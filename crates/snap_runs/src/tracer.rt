@@ -262,7 +262,13 @@ impl Tracer {
         ensures bare { IsTrue result → self.now.hops ≡ false }
         ensures rests { IsTrue result → self.now.net.flying ≡ [] }
     {
-        !self.hops && self.net.flying() == 0
+        if self.hops {
+            return false;
+        }
+        if self.net.flying() > 0 {
+            return false;
+        }
+        true
     }
 
     // The same, where no hops are told and nothing is in flight.
