@@ -5,7 +5,7 @@ use Rattle.std.proofs.lemmas.List.Elements.{All-push}
 use Rattle.snap_core.specs.declared.policy.Update.{Update}
 use Rattle.snap_core.specs.Arrays.{updates}
 use Rattle.snap_equal.specs.Inputs.{AreOf, IsUpdate}
-use Rattle.snap_equal.proofs.Overwriting.{IsLost, kept_less, kept_more}
+use Rattle.snap_equal.proofs.Overwriting.{kept_less, kept_more}
 use Rattle.snap_equal.proofs.overwritten.standing.Goals as goal
 use Rattle.snap_equal.proofs.overwritten.standing.Goals.{then-not-is_overwritten+in_ok-copy+in_ok-push, else-not-is_overwritten}
 
@@ -30,7 +30,7 @@ loop-i-preserved c =
         fits = c.loop-i.invariant.fits;
         vars = c.loop-i.invariant.vars;
         same = λ m k i.
-            kept_less k m kept c.args.all.now c.loop-i.i u c.loop-i-test.true c.index-all-i.is ?
+            kept_less k m kept c.args.all.now c.loop-i.i u c.loop-i-test.true c.index-all-i.is (λ n. c.is_overwritten.ensures w.if-not-is_overwritten.false m k i n)
             ∙ c.loop-i.invariant.same m k i;
       })
     ]
