@@ -3,8 +3,10 @@ pub mod Wrapping
 pub mod TermTests
 pub mod Indices
 pub mod Making
+pub mod PacketCodes
 pub mod Holding
 pub mod Turning
+pub mod Overwriting
 pub mod AllPlaces
 pub mod Adding
 pub mod Differing
