@@ -27,7 +27,9 @@ fn add_once(
     ensures kept { OnOk result (kept.new.items ≡ with_out kept.old.items out.now) }
     ensures codes { OnOk result (Knows codes.new kept.new.items) }
 {
-    let mut code = Vec::new(alloc);
+    // Each part takes four numbers, and the end one.
+    let room = out.parts().len().saturating_mul(4).saturating_add(1);
+    let mut code = Vec::with_capacity(alloc, room)?;
     push_out(&mut code, out)?;
     if codes.get(&code).is_none() {
         kept.push(out.copy()?)?;
