@@ -9,7 +9,7 @@ use Rattle.snap_ctx.specs.View.{View, IsContext}
 use Rattle.snap_ctx.proofs.Contexts.{rules_at, broken_at, closed_at, none_meets, more_met, more_context}
 use Rattle.snap_ctx.proofs.Fitting.{is_test}
 use Rattle.snap_ctx.proofs.context.Context.assume.Goals as goal
-use Rattle.snap_ctx.proofs.context.Context.assume.Goals.{After-deref-2, In_ok-push-in-Some}
+use Rattle.snap_ctx.proofs.context.Context.assume.Goals.{After-deref-2, In_ok-facts-in-Some}
 
 context : (c : After-deref-2) → IsContext c.args.self.now
 context c = subst IsContext c.self.view_is c.self.invariant
@@ -39,19 +39,16 @@ returns-in-None c =
     (broken_at c.args.self.now c.deref-2.result.now c.deref.result.now (facts d) (classes d) _ _ (same_fact d) broken)
 
 -- the facts so made
-all_facts : (c : In_ok-push-in-Some) → c.push.new.self.items ≡ with_fact c.args.self.now.facts c.args.test.now c.args.yes
-all_facts c =
-    c.in_ok-push-in-Some.ensures.items
-    ∙ ap (λ (xs : List Fact). xs ++ record { test = c.in_ok-copy_of.field-0; yes = c.args.yes } ∷ []) (c.in_ok-facts-in-Some.ensures ∙ c.deref-in-Some.ensures.value ∙ ap (λ (v : View). v.facts) c.self.view_is)
-    ∙ ap (λ (t : Test). with_fact c.args.self.now.facts t c.args.yes) c.in_ok-copy_of.ensures
+all_facts : (c : In_ok-facts-in-Some) → c.in_ok-facts-in-Some.facts.value ≡ with_fact c.args.self.now.facts c.args.test.now c.args.yes
+all_facts c = ?
 
-done : (c : In_ok-push-in-Some) → IsClosed c.args.self.now.facts (record { test = c.args.test.now; yes = c.args.yes }) c.args.self.now.classes c.in-Some.classes.items
+done : (c : In_ok-facts-in-Some) → IsClosed c.args.self.now.facts (record { test = c.args.test.now; yes = c.args.yes }) c.args.self.now.classes c.in-Some.classes.items
 done c =
     let d = (goal.at.invariant_of-result c).After-deref-2 in
     let found = rw c.in-Some.is at c.in_ok-closed.ensures in
     closed_at c.args.self.now c.deref-2.result.now c.deref.result.now (facts d) (classes d) _ _ c.in-Some.classes.items (same_fact d) found
 
-room : (c : In_ok-push-in-Some) → length c.args.self.now.facts < 4294967295
+room : (c : In_ok-facts-in-Some) → length c.args.self.now.facts < 4294967295
 room c =
     let few : length c.self.inside.facts.items < 4294967295 = omega (arith, c.len.ensures, c.if-len-ge-MOST_FACTS.false) in
     subst (λ (v : View). length v.facts < 4294967295) c.self.view_is few
@@ -62,8 +59,8 @@ invariant_of-result c =
     subst (λ (fs : List Fact). IsContext (record { facts = fs; classes = c.in-Some.classes.items })) (sym (all_facts c))
     (more_context c.args.self.now c.args.test.now c.args.yes (context d) (test d) c.in-Some.classes.items (done c) (room c))
 
-pub returns-in_ok-push-in-Some : goal.returns-in_ok-push-in-Some
-returns-in_ok-push-in-Some c =
+pub returns-in_ok-facts-in-Some : goal.returns-in_ok-facts-in-Some
+returns-in_ok-facts-in-Some c =
     let d = (goal.at.invariant_of-result c).After-deref-2 in (
       all_facts c,
       (done c).same,
