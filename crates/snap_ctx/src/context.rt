@@ -78,10 +78,8 @@ impl Context {
         ensures { IfOk result (λ c. (c.facts ≡ []) × (length c.classes ≡ comps)) }
     {
         let classes = first_classes(alloc, comps)?;
-        Ok(Context {
-            classes,
-            facts: shared(alloc, Facts::none())?,
-        })
+        let facts = shared(alloc, Facts::none())?;
+        Ok(Context { classes, facts })
     }
 
     /// The number of components.
