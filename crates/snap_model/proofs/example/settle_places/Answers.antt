@@ -33,9 +33,12 @@ item c =
 
 pub loop-fact-preserved-then-fact-yes : goal.loop-fact-preserved-then-fact-yes
 loop-fact-preserved-then-fact-yes c =
-    let d = (goal.at.loop-fact-preserved-then-fact-yes c).In-Some in
-    (c.loop-fact.invariant.0 ++ c.in-Some.fact.now ∷ [], item d, settles_skip c.args.ctx.now c.args.yes c.loop-fact.invariant.0 c.args.draft c.loop-fact.draft c.in-Some.fact.now
-    (λ e. absurd (differ c.in-Some.fact.now.yes c.args.yes c.if-fact-yes.true e)) c.loop-fact.invariant.2)
+    let d = (goal.at.loop-fact-preserved-then-fact-yes c).In-Some in (
+      c.loop-fact.invariant.0 ++ c.in-Some.fact.now ∷ [],
+      item d,
+      settles_skip c.args.ctx.now c.args.yes c.loop-fact.invariant.0 c.args.draft c.loop-fact.draft c.in-Some.fact.now
+          (λ e. absurd (differ c.in-Some.fact.now.yes c.args.yes c.if-fact-yes.true e)) c.loop-fact.invariant.2,
+    )
 
 -- the place settled
 settled : (c : After-settle_fact) (s : Settled) → is_state c.in-Some.fact.now.test ≡ true → IsSettled c.current-known.result.now (At (place_of c.in-Some.fact.now c.loop-fact.draft.packet)) s
