@@ -1,7 +1,7 @@
 -- What every context is, from its start and through each assumption.
-use Rattle.std.proofs.Common.{◌≡◌, ℕ, ◌<◌, ◌≤◌, true, false, Bool, List, [], ◌∷◌, ◌++◌, length, get_or, refl, sym, ap, subst, ◌∙◌, arith, length-append}
+use Rattle.std.proofs.Common.{◌≡◌, ℕ, ◌<◌, ◌≤◌, true, false, Bool, List, [], ◌∷◌, length, get_or, refl, sym, ap, subst, ◌∙◌, arith}
 use Rattle.std.specs.Prelude.{All, slice_index}
-use Rattle.std.proofs.lemmas.List.Elements.{All-push, All-weaker, All-nil}
+use Rattle.std.proofs.lemmas.List.Elements.{All-cons, All-weaker, All-nil}
 use Rattle.std.proofs.lemmas.List.{get_or_default}
 use Rattle.std.proofs.lemmas.Bool.{false_from_ne_true, true_from_ne_false}
 use Rattle.snap_core.specs.declared.policy.Term.{Term}
@@ -49,14 +49,14 @@ rules_of v ctx = λ i d l. (ctx.rules.alone i d l, ctx.rules.paired i d l)
 PairRule-self : (cl : List Term) (f : Fact) → PairRule cl f f
 PairRule-self cl f y same = subst (λ y. Says y (normal cl (left_of f.test)) (normal cl (left_of f.test))) (sym y) refl
 
-all_rules : (cl : List Term) (facts : List Fact) (f : Fact) → All (IsClass cl) cl → All (λ g. IsTest (length cl) g.test) facts → IsTest (length cl) f.test → AllRules cl facts f → Rules (facts ++ f ∷ []) cl
+all_rules : (cl : List Term) (facts : List Fact) (f : Fact) → All (IsClass cl) cl → All (λ g. IsTest (length cl) g.test) facts → IsTest (length cl) f.test → AllRules cl facts f → Rules (f ∷ facts) cl
 all_rules cl facts f classes tests test h = record {
-  tests = All-push (λ g. IsTest (length cl) g.test) facts f tests test;
+  tests = All-cons (λ g. IsTest (length cl) g.test) f facts test tests;
   classes = classes;
-  alone = All-push (FactRule cl) facts f (All-weaker (λ g. RulesFor cl g facts) (FactRule cl) (λ g r. r.0) facts h.0) h.1.0.0;
-  paired = All-push (λ g. All (PairRule cl g) (facts ++ f ∷ [])) facts f
-      (λ i d l. All-push (PairRule cl (get_or facts i d)) facts f (h.0 i d l).1 (h.1.1 i d l))
-      (All-push (PairRule cl f) facts f h.1.0.1 (PairRule-self cl f));
+  alone = All-cons (FactRule cl) f facts h.1.0.0 (All-weaker (λ g. RulesFor cl g facts) (FactRule cl) (λ g r. r.0) facts h.0);
+  paired = All-cons (λ g. All (PairRule cl g) (f ∷ facts)) f facts
+      (All-cons (PairRule cl f) f facts (PairRule-self cl f) h.1.0.1)
+      (λ i d l. All-cons (PairRule cl (get_or facts i d)) f facts (h.1.1 i d l) (h.0 i d l).1);
 }
 
 swapped : {A B : Type 0} → A × B → B × A
@@ -75,13 +75,13 @@ module _ (v : View) (t : Test) (y : Bool) (ctx : IsContext v) where
     pub more_met : IsMet (length v.classes) (with_fact v.facts t y)
     more_met =
         subst (λ n. IsMet n (with_fact v.facts t y)) closed.same
-        (model (with_fact v.facts t y) new more_rules (rw closed.same ctx.few) (rw length-append (omega (arith, ctx.many))))
+        (model (with_fact v.facts t y) new more_rules (rw closed.same ctx.few) (omega (arith, ctx.many)))
 
     pub more_context : length v.facts < 4294967295 → IsContext (record { facts = with_fact v.facts t y; classes = new })
     more_context room = record {
       rules = more_rules;
       few = rw closed.same ctx.few;
-      many = rw length-append (omega (arith, room));
+      many = omega (arith, room);
       told = λ m k p meets.
           let q : IsPacket (length v.classes) k = record { long = p.long ∙ closed.same; numbers = p.numbers } in
           let both : MeetsWith (record { test = t; yes = y }) v.facts m k = swapped (Meets-parts v.facts t y m k meets) in

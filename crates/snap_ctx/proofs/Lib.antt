@@ -9,6 +9,7 @@ pub mod Fresh
 pub mod Indices
 pub mod Keys
 pub mod Knowing
+pub mod Last
 pub mod Merging
 pub mod Model
 pub mod Numbered
@@ -17,5 +18,6 @@ pub mod Places
 pub mod Roots
 pub mod Sound
 pub mod Tying
+pub mod Walks
 pub mod Words
 pub mod Wrap

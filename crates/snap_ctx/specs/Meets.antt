@@ -27,6 +27,6 @@ Under comps facts P = (m : Arrays) (k : List ℕ) → IsPacket comps k → Meets
 abbrev pub NoneMeets : ℕ → List Fact → Type 0
 NoneMeets comps facts = Under comps facts (λ m k. ⊥)
 
--- the facts with one more
+-- the facts with a newest one
 abbrev pub with_fact : List Fact → Test → Bool → List Fact
-with_fact facts t y = facts ++ record { test = t; yes = y } ∷ []
+with_fact facts t y = record { test = t; yes = y } ∷ facts

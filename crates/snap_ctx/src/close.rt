@@ -6,6 +6,7 @@ ghost use Rattle.snap_ctx.specs.Closing.{IsBroken, IsClosed, MeetsWith, RulesOf}
 
 use crate::classes::merge;
 use crate::fact::Fact;
+use crate::facts::Facts;
 use crate::look::{Breach, look, look_new};
 use snap_core::NoMemory;
 use snap_core::policy::Term;
@@ -13,7 +14,7 @@ use std::alloc::Global;
 
 // Draws all conclusions of the facts, or finds that they contradict each other. Until two classes
 // are made one, only the new fact can break a rule.
-fn close(classes: &mut [Term], facts: &[Fact], fact: &Fact) -> bool
+fn close(classes: &mut [Term], facts: &Facts, fact: &Fact) -> bool
     requires classes { All (IsClass classes.old) classes.old }
     requires test { IsTest (length classes.old) fact.now.test }
     requires tests { All (λ f. IsTest (length classes.old) f.test) facts.now }
@@ -37,7 +38,7 @@ fn close(classes: &mut [Term], facts: &[Fact], fact: &Fact) -> bool
 pub(crate) fn closed(
     alloc: Global,
     classes: &[Term],
-    facts: &[Fact],
+    facts: &Facts,
     fact: &Fact,
 ) -> Result<Option<Vec<Term>>, NoMemory>
     requires classes { All (IsClass classes.now) classes.now }

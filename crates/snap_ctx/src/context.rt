@@ -9,20 +9,22 @@ ghost use Rattle.snap_ctx.specs.View.{IsContext};
 
 use crate::classes::{class_at, first_classes};
 use crate::close::closed;
-use crate::fact::{Fact, Shared, copy_facts};
+use crate::fact::{Fact, Shared};
+use crate::facts::Facts;
 use crate::known::known;
 use crate::ranges::know_test;
 use snap_core::NoMemory;
 use snap_core::policy::{Term, Test};
 use std::alloc::Global;
 use std::marker::Model;
+use std::rc::Rc;
 
 /// Facts of a store and a packet, which some store and packet meet. Contracts see the facts and the
 /// class of each component. At most 64 components and 4294967295 facts.
 #[derive(Drop)]
 pub struct Context {
     classes: Vec<Term>,
-    facts: Vec<Fact>,
+    facts: Rc<Facts>,
 }
 
 impl Model for Context {
@@ -30,9 +32,9 @@ impl Model for Context {
 
     ghost Value = { View };
 
-    ghost view = { λ c. record { facts = c.facts.items; classes = c.classes.items } };
+    ghost view = { λ c. record { facts = c.facts.value; classes = c.classes.items } };
 
-    ghost invariant = { λ c. IsContext (record { facts = c.facts.items; classes = c.classes.items }) };
+    ghost invariant = { λ c. IsContext (record { facts = c.facts.value; classes = c.classes.items }) };
 }
 
 /// What comes of one fact more.
@@ -57,6 +59,16 @@ pub enum Verdict {
 // The most facts that a context holds.
 const MOST_FACTS: usize = 4_294_967_295;
 
+// Facts that contexts can share. Refuses for memory alone.
+fn shared(alloc: Global, facts: Facts) -> Result<Rc<Facts>, NoMemory>
+    ensures { IfOk result (λ shared. shared.value ≡ facts) }
+{
+    match Rc::new(alloc, facts) {
+        Ok(shared) => Ok(shared),
+        Err(_) => Err(NoMemory),
+    }
+}
+
 impl Context {
     ghost use Rattle.snap_ctx.specs.Answers.{IsAssumed, IsVerdict};
 
@@ -66,10 +78,8 @@ impl Context {
         ensures { IfOk result (λ c. (c.facts ≡ []) × (length c.classes ≡ comps)) }
     {
         let classes = first_classes(alloc, comps)?;
-        Ok(Context {
-            classes,
-            facts: Vec::new(alloc),
-        })
+        let facts = shared(alloc, Facts::none())?;
+        Ok(Context { classes, facts })
     }
 
     /// The number of components.
@@ -79,8 +89,8 @@ impl Context {
         self.classes.len() as u16
     }
 
-    /// The facts, in the order in which they were assumed.
-    pub fn facts(&self) -> &[Fact]
+    /// The facts, newest first.
+    pub fn facts(&self) -> &Facts
         ensures facts { result.now ≡ self.now.facts }
         ensures few { length self.now.facts < 2 ^ 32 }
         ensures met { IsMet (length self.now.classes) self.now.facts }
@@ -113,7 +123,7 @@ impl Context {
             return Err(NoMemory);
         }
         know_test(test);
-        let alloc = *self.facts.allocator();
+        let alloc = *self.classes.allocator();
         let fact = Fact {
             test: Shared::copy_of(alloc, test)?,
             yes,
@@ -121,8 +131,7 @@ impl Context {
         match closed(alloc, &self.classes, &self.facts, &fact)? {
             None => Ok(Assumed::Impossible),
             Some(classes) => {
-                let mut facts = copy_facts(alloc, &self.facts)?;
-                facts.push(fact)?;
+                let facts = shared(alloc, Facts::with(fact, self.facts.clone()?))?;
                 Ok(Assumed::More(Context { classes, facts }))
             }
         }
@@ -133,7 +142,7 @@ impl Context {
         requires fits { IsTest (length self.now.classes) fact.now.test }
         ensures { IfOk result (λ none. MatchBool none (NoneMeets (length self.now.classes) (with_fact self.now.facts fact.now.test fact.now.yes)) (IsMet (length self.now.classes) (with_fact self.now.facts fact.now.test fact.now.yes))) }
     {
-        let alloc = *self.facts.allocator();
+        let alloc = *self.classes.allocator();
         match closed(alloc, &self.classes, &self.facts, fact)? {
             None => Ok(true),
             Some(_) => Ok(false),
@@ -149,7 +158,7 @@ impl Context {
         ensures context { IsContext self.now }
     {
         known(
-            *self.facts.allocator(),
+            *self.classes.allocator(),
             &self.classes,
             &self.facts,
             label,
@@ -169,7 +178,7 @@ impl Context {
         let _facts = &self.facts;
         know_test(test);
         let passes = Fact {
-            test: Shared::copy_of(*self.facts.allocator(), test)?,
+            test: Shared::copy_of(*self.classes.allocator(), test)?,
             yes: true,
         };
         if self.refutes(&passes)? {

@@ -70,13 +70,3 @@ impl Fact {
         })
     }
 }
-
-pub(crate) fn copy_facts(alloc: Global, facts: &[Fact]) -> Result<Vec<Fact>, NoMemory>
-    ensures { IfOk result (λ copies. copies.items ≡ facts.now) }
-{
-    let mut copies = Vec::with_capacity(alloc, facts.len() + 1)?;
-    for fact in facts {
-        copies.push(fact.copy()?)?;
-    }
-    Ok(copies)
-}

@@ -6,6 +6,7 @@ ghost use Rattle.snap_ctx.specs.Known.{all_known, apart_of, classes_key, held_of
 
 use crate::classes::{atom_at, class_at, normal_at};
 use crate::fact::Fact;
+use crate::facts::Facts;
 use crate::rooted::{is_tied, rooted, term_within};
 use crate::sets::is_in;
 use crate::settled::settled;
@@ -132,37 +133,37 @@ fn push_fact(
     }
 }
 
-// Whether the words from the number `next` on come behind those from `last` to `next`, or there are none.
-fn rises(key: &[u64], last: usize, next: usize) -> bool {
+// Whether the words from the number `next` on come before those from `last` to `next`, or there are none.
+fn falls(key: &[u64], last: usize, next: usize) -> bool {
     match (key.get(last..next), key.get(next..)) {
-        (Some(before), Some(behind)) => behind.is_empty() || before < behind,
+        (Some(former), Some(latter)) => latter.is_empty() || latter < former,
         _ => false,
     }
 }
 
 // Adds the facts whose roots are in a set, by the classes, without those on settled arrays. Whether each
-// came behind the one before.
+// comes before the one added before it: the newest fact is mostly the last by its words.
 fn push_facts(
     key: &mut Vec<u64>,
     classes: &[Term],
     roots: u64,
     settled: u64,
-    facts: &[Fact],
+    facts: &Facts,
 ) -> Result<bool, NoMemory>
     requires { All (λ f. IsTest (length classes.now) f.test) facts.now }
     ensures { OnOk result (key.new.items ≡ key.old.items ++ normals_key (all_known classes.now roots settled facts.now)) }
 {
-    let mut rising = true;
+    let mut falling = true;
     let mut last = key.len();
-    for fact in facts {
+    for fact in facts.iter() {
         let next = key.len();
         push_fact(key, classes, roots, settled, fact)?;
-        rising = rising && rises(key, last, next);
+        falling = falling && falls(key, last, next);
         if key.len() > next {
             last = next;
         }
     }
-    Ok(rising)
+    Ok(falling)
 }
 
 // The words of each fact whose roots are in a set, by the classes, without those on settled arrays.
@@ -171,13 +172,13 @@ fn words_of(
     classes: &[Term],
     roots: u64,
     settled: u64,
-    facts: &[Fact],
+    facts: &Facts,
 ) -> Result<Vec<Vec<u64>>, NoMemory>
     requires { All (λ f. IsTest (length classes.now) f.test) facts.now }
     ensures { IfOk result (λ words. HasWords words.items (all_known classes.now roots settled facts.now)) }
 {
     let mut words = Vec::new(alloc);
-    for fact in facts {
+    for fact in facts.iter() {
         let mut word = Vec::new(alloc);
         push_fact(&mut word, classes, roots, settled, fact)?;
         if word.len() > 0 {
@@ -241,7 +242,7 @@ fn first_words(
 pub(crate) fn known(
     alloc: Global,
     classes: &[Term],
-    facts: &[Fact],
+    facts: &Facts,
     label: u64,
     comps: u64,
     arrays: u64,
@@ -259,7 +260,7 @@ pub(crate) fn known(
         return Ok(Some(key));
     }
     let mut words = words_of(alloc, classes, roots, settled, facts)?;
-    words.sort_unstable();
+    words.sort_unstable_by(|former, latter| latter.cmp(former));
     let mut sorted = first_words(alloc, classes, label, comps)?;
     push_words(&mut sorted, &words)?;
     Ok(Some(sorted))

@@ -5,6 +5,7 @@ mod classes;
 mod close;
 pub mod context;
 pub mod fact;
+pub mod facts;
 pub mod fits;
 mod known;
 pub mod laws;

@@ -8,6 +8,7 @@ ghost use Rattle.snap_ctx.specs.Closing.{AllRules, Compares, IsBreach, MeetsOne,
 
 use crate::classes::{normal_at, same_index};
 use crate::fact::Fact;
+use crate::facts::Facts;
 use crate::terms::same_term;
 use snap_core::policy::{Term, Test};
 
@@ -77,14 +78,21 @@ fn look_alone(classes: &[Term], fact: &Fact) -> Result<(), Breach>
     }
 }
 
+// Whether a fact is on a place.
+fn is_on_place(fact: &Fact) -> bool
+    ensures { result ≡ is_state fact.now.test }
+{
+    match fact.test.test() {
+        Test::State { .. } => true,
+        Test::Value { .. } | Test::Equal { .. } => false,
+    }
+}
+
 // Whether a fact says what a place holds.
 fn says_what_is_held(fact: &Fact) -> bool
     ensures { IsTrue result ↔ ((fact.now.yes ≡ true) × (is_state fact.now.test ≡ true)) }
 {
-    match fact.test.test() {
-        Test::State { .. } => fact.yes,
-        Test::Value { .. } | Test::Equal { .. } => false,
-    }
+    fact.yes && is_on_place(fact)
 }
 
 // Where the first fact says what a place holds, the second must agree.
@@ -116,7 +124,7 @@ fn look_pair(classes: &[Term], first: &Fact, second: &Fact) -> Result<(), Breach
     compare(left, right, second.yes)
 }
 
-fn look_one(classes: &[Term], fact: &Fact, facts: &[Fact]) -> Result<(), Breach>
+fn look_one(classes: &[Term], fact: &Fact, facts: &Facts) -> Result<(), Breach>
     requires classes { All (IsClass classes.now) classes.now }
     requires test { IsTest (length classes.now) fact.now.test }
     requires tests { All (λ f. IsTest (length classes.now) f.test) facts.now }
@@ -126,26 +134,26 @@ fn look_one(classes: &[Term], fact: &Fact, facts: &[Fact]) -> Result<(), Breach>
     if !says_what_is_held(fact) {
         return Ok(());
     }
-    for other in facts {
+    for other in facts.iter() {
         look_pair(classes, fact, other)?;
     }
     Ok(())
 }
 
 // Looks at all facts.
-fn look_old(classes: &[Term], facts: &[Fact]) -> Result<(), Breach>
+fn look_old(classes: &[Term], facts: &Facts) -> Result<(), Breach>
     requires classes { All (IsClass classes.now) classes.now }
     requires tests { All (λ f. IsTest (length classes.now) f.test) facts.now }
     ensures { MatchResult result (λ _. RulesOf classes.now facts.now) (IsBreach (Meets facts.now) classes.now) }
 {
-    for fact in facts {
+    for fact in facts.iter() {
         look_one(classes, fact, facts)?;
     }
     Ok(())
 }
 
 // Looks at a new fact, alone and beside facts that keep the rules.
-pub(crate) fn look_new(classes: &[Term], facts: &[Fact], fact: &Fact) -> Result<(), Breach>
+pub(crate) fn look_new(classes: &[Term], facts: &Facts, fact: &Fact) -> Result<(), Breach>
     requires classes { All (IsClass classes.now) classes.now }
     requires test { IsTest (length classes.now) fact.now.test }
     requires tests { All (λ f. IsTest (length classes.now) f.test) facts.now }
@@ -153,14 +161,17 @@ pub(crate) fn look_new(classes: &[Term], facts: &[Fact], fact: &Fact) -> Result<
     ensures { MatchResult result (λ _. AllRules classes.now facts.now fact.now) (IsBreach (MeetsWith fact.now facts.now) classes.now) }
 {
     look_one(classes, fact, facts)?;
-    for other in facts {
+    if !is_on_place(fact) {
+        return Ok(());
+    }
+    for other in facts.iter() {
         look_pair(classes, other, fact)?;
     }
     Ok(())
 }
 
 // Looks at all facts and a new one.
-pub(crate) fn look(classes: &[Term], facts: &[Fact], fact: &Fact) -> Result<(), Breach>
+pub(crate) fn look(classes: &[Term], facts: &Facts, fact: &Fact) -> Result<(), Breach>
     requires classes { All (IsClass classes.now) classes.now }
     requires test { IsTest (length classes.now) fact.now.test }
     requires tests { All (λ f. IsTest (length classes.now) f.test) facts.now }

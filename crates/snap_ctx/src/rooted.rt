@@ -7,6 +7,7 @@ ghost use Rattle.snap_ctx.specs.Known.{are_numbers, are_outside, are_within, is_
 
 use crate::classes::{atom_at, class_at, normal_at};
 use crate::fact::Fact;
+use crate::facts::Facts;
 use crate::sets::is_in;
 use snap_core::policy::{Atom, Term, Test};
 
@@ -107,11 +108,11 @@ fn fact_rooted(classes: &[Term], roots: u64, settled: u64, fact: &Fact) -> bool
     }
 }
 
-fn facts_rooted(classes: &[Term], roots: u64, settled: u64, facts: &[Fact]) -> bool
+fn facts_rooted(classes: &[Term], roots: u64, settled: u64, facts: &Facts) -> bool
     requires { All (λ f. IsTest (length classes.now) f.test) facts.now }
     ensures { IsTrue result → All (IsRooted classes.now roots settled) facts.now }
 {
-    for fact in facts {
+    for fact in facts.iter() {
         if !fact_rooted(classes, roots, settled, fact) {
             return false;
         }
@@ -159,11 +160,11 @@ fn with_roots(classes: &[Term], roots: u64, index: &[Atom], value: Term) -> u64
 }
 
 // The set with the roots of the facts that aren't loose.
-fn widened(classes: &[Term], roots: u64, settled: u64, facts: &[Fact]) -> u64
+fn widened(classes: &[Term], roots: u64, settled: u64, facts: &Facts) -> u64
     requires { All (λ f. IsTest (length classes.now) f.test) facts.now }
 {
     let mut set = roots;
-    for fact in facts {
+    for fact in facts.iter() {
         if let Test::State { var, index, value } = fact.test.test() {
             if !is_in(settled, *var) && !is_loose(classes, set, index.list(), *value) {
                 set = with_roots(classes, set, index.list(), *value);
@@ -188,7 +189,7 @@ fn roots_of(classes: &[Term], comps: u64) -> u64
 
 /// A set with the roots of some components by which the facts fall apart. Each round but the last adds
 /// a root.
-pub(crate) fn rooted(classes: &[Term], comps: u64, settled: u64, facts: &[Fact]) -> Option<u64>
+pub(crate) fn rooted(classes: &[Term], comps: u64, settled: u64, facts: &Facts) -> Option<u64>
     requires few { length classes.now ≤ 64 }
     requires tests { All (λ f. IsTest (length classes.now) f.test) facts.now }
     ensures facts { IfSome result (λ roots. All (IsRooted classes.now roots settled) facts.now) }

@@ -7,6 +7,7 @@ ghost use Rattle.snap_ctx.specs.Known.{IsAtSpot, IsSettled};
 
 use crate::classes::{normal_at, same_index};
 use crate::fact::Fact;
+use crate::facts::Facts;
 use crate::rooted::is_plain;
 use crate::sets::is_in;
 use snap_core::policy::{Atom, Term, Test};
@@ -31,12 +32,12 @@ fn is_at(classes: &[Term], var: u16, index: &[Atom], fact: &Fact) -> bool
     }
 }
 
-fn all_at(classes: &[Term], var: u16, index: &[Atom], facts: &[Fact]) -> bool
+fn all_at(classes: &[Term], var: u16, index: &[Atom], facts: &Facts) -> bool
     requires index { All (IsAtom (length classes.now)) index.now }
     requires tests { All (λ f. IsTest (length classes.now) f.test) facts.now }
     ensures { IsTrue result → All (IsAtSpot classes.now var (map (atom_class classes.now) index.now)) facts.now }
 {
-    for fact in facts {
+    for fact in facts.iter() {
         if !is_at(classes, var, index, fact) {
             return false;
         }
@@ -45,11 +46,11 @@ fn all_at(classes: &[Term], var: u16, index: &[Atom], facts: &[Fact]) -> bool
 }
 
 // Whether the facts on an array, of which there are some, are at the index of the first.
-fn is_settled(classes: &[Term], var: u16, facts: &[Fact]) -> bool
+fn is_settled(classes: &[Term], var: u16, facts: &Facts) -> bool
     requires { All (λ f. IsTest (length classes.now) f.test) facts.now }
     ensures { IsTrue result → IsSettled classes.now facts.now var }
 {
-    for fact in facts {
+    for fact in facts.iter() {
         if let Test::State {
             var: other,
             index,
@@ -65,9 +66,9 @@ fn is_settled(classes: &[Term], var: u16, facts: &[Fact]) -> bool
 }
 
 // The arrays of the facts.
-fn arrays_of(facts: &[Fact]) -> u64 {
+fn arrays_of(facts: &Facts) -> u64 {
     let mut set = 0;
-    for fact in facts {
+    for fact in facts.iter() {
         if let Test::State { var, .. } = fact.test.test() {
             if *var < 64 {
                 set |= 1 << *var;
@@ -85,7 +86,7 @@ fn with_array(set: u64, var: u16) -> u64
 }
 
 /// The arrays outside of a set of which the facts speak of one place, and of numbers.
-pub(crate) fn settled(classes: &[Term], arrays: u64, facts: &[Fact]) -> u64
+pub(crate) fn settled(classes: &[Term], arrays: u64, facts: &Facts) -> u64
     requires { All (λ f. IsTest (length classes.now) f.test) facts.now }
     ensures { (a : ℕ) → has result a ≡ true → (a < 64) × (has arrays a ≡ false) × IsSettled classes.now facts.now a }
 {

@@ -89,7 +89,9 @@ fn facts_decide_tests(rt: HostRuntime) -> Result<(), Fail> {
 fn tells(rt: &impl Abort, ctx: &Context) {
     assert_eq!(rt; ctx.comps(), 5);
     assert_eq!(rt; ctx.facts().len(), 3);
-    assert!(rt; ctx.facts()[0].yes && !ctx.facts()[1].yes);
+    let mut facts = ctx.facts().iter();
+    assert!(rt; facts.next().is_some_and(|fact| fact.yes));
+    assert!(rt; facts.next().is_some_and(|fact| !fact.yes));
     assert_eq!(rt; ctx.class(3), Term::Num(18446744073709551615));
     assert_eq!(rt; ctx.class(4), FOUR);
 }

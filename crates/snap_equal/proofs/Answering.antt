@@ -15,7 +15,6 @@ use Rattle.snap_ctx.proofs.Answers.{Meets-with_fact, Meets-parts}
 use Rattle.snap_model.specs.Models.{FactBelow}
 use Rattle.snap_fdd.specs.declared.leaf.Go.{Go}
 use Rattle.snap_fdd.specs.declared.leaf.Leaf.TheVariants.{Go as Goes}
-use Rattle.snap_build.proofs.Racing.{facts_more}
 use Rattle.snap_equal.specs.declared.comparing.Compared.{Compared}
 use Rattle.snap_equal.specs.declared.comparing.Compared.TheVariants.{Same, Differ}
 use Rattle.snap_equal.specs.declared.stop.Stop.{Stop}
@@ -26,7 +25,7 @@ use Rattle.snap_equal.proofs.Telling.{result_as}
 
 -- the facts of a context with one more
 pub below_more : (n : ℕ) (v w : View) (t : Test) (y : Bool) → IsTest (space v n) t → IsAssumed v t y (More w) → AreBelow n v → AreBelow n w
-below_more n v w t y is a h = subst (AllByRecursion (FactBelow n)) (sym a.0) (facts_more (FactBelow n) v.facts (record { test = t; yes = y }) h is.var)
+below_more n v w t y is a h = subst (AllByRecursion (FactBelow n)) (sym a.0) (is.var, h)
 
 module _ (v : View) (vars : ℕ) (t : Test) (y : Bool) (P : Arrays → List ℕ → Type 0) where
   -- none gives the answer

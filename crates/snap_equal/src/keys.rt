@@ -6,6 +6,7 @@ ghost use Rattle.snap_equal.specs.Weaker.{fact_code, facts_code};
 use snap_arena::codes::push_test;
 use snap_core::NoMemory;
 use snap_ctx::fact::Fact;
+use snap_ctx::facts::Facts;
 use std::alloc::Global;
 
 fn push_fact(code: &mut Vec<u64>, fact: &Fact) -> Result<(), NoMemory>
@@ -15,10 +16,10 @@ fn push_fact(code: &mut Vec<u64>, fact: &Fact) -> Result<(), NoMemory>
     push_test(code, fact.test.test())
 }
 
-fn push_facts(code: &mut Vec<u64>, facts: &[Fact]) -> Result<(), NoMemory>
+fn push_facts(code: &mut Vec<u64>, facts: &Facts) -> Result<(), NoMemory>
     ensures { OnOk result (code.new.items ≡ code.old.items ++ facts_code facts.now) }
 {
-    for fact in facts {
+    for fact in facts.iter() {
         push_fact(code, fact)?;
     }
     Ok(())
@@ -29,7 +30,7 @@ pub(crate) fn pair_key(
     alloc: Global,
     first: u64,
     second: u64,
-    facts: &[Fact],
+    facts: &Facts,
 ) -> Result<Vec<u64>, NoMemory>
     ensures { IfOk result (λ key. key.items ≡ first ∷ second ∷ facts_code facts.now) }
 {

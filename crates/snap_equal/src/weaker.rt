@@ -11,6 +11,7 @@ use snap_core::NoMemory;
 use snap_core::policy::Test;
 use snap_ctx::context::{Assumed, Context};
 use snap_ctx::fact::Fact;
+use snap_ctx::facts::Facts;
 use snap_ctx::sets::is_in;
 use std::alloc::Global;
 
@@ -29,9 +30,9 @@ fn bears(names: Names, test: &Test) -> bool {
 }
 
 // The names with the components of all facts that bear on them.
-fn with_facts(names: Names, facts: &[Fact]) -> Names {
+fn with_facts(names: Names, facts: &Facts) -> Names {
     let mut wider = names;
-    for fact in facts {
+    for fact in facts.iter() {
         let test = fact.test.test();
         if bears(wider, test) {
             wider.comps |= test_names(test).comps;
@@ -41,7 +42,7 @@ fn with_facts(names: Names, facts: &[Fact]) -> Names {
 }
 
 // The names with all that facts tie to them.
-fn tied(names: Names, facts: &[Fact]) -> Names {
+fn tied(names: Names, facts: &Facts) -> Names {
     let mut names = names;
     for _ in 0..64 {
         let wider = with_facts(names, facts);
@@ -53,11 +54,12 @@ fn tied(names: Names, facts: &[Fact]) -> Names {
     names
 }
 
-// How many facts bear on what is named.
-fn kept(names: Names, facts: &[Fact]) -> usize {
+// How many facts bear on what is named, as far as it matters.
+fn kept(names: Names, facts: &Facts) -> usize {
     facts
         .iter()
         .filter(|fact| bears(names, fact.test.test()))
+        .take(MOST_KEPT + 1)
         .count()
 }
 
@@ -87,7 +89,7 @@ pub(crate) fn weaker(
         return Ok(None);
     }
     let mut weak = Context::empty(alloc, ctx.comps())?;
-    for fact in facts {
+    for fact in facts.iter() {
         if bears(names, fact.test.test()) {
             let Some(more) = with_fact(&weak, fact)? else {
                 return Ok(None);

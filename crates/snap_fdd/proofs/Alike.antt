@@ -11,10 +11,10 @@ use Rattle.snap_core.specs.Tests.{passes}
 use Rattle.snap_ctx.specs.declared.fact.Fact.{Fact}
 use Rattle.snap_ctx.specs.Classes.{IsTest, index_of}
 use Rattle.snap_ctx.specs.Known.{IsKnown, TestOver}
-use Rattle.snap_ctx.specs.Meets.{Meets, IsMet, with_fact}
+use Rattle.snap_ctx.specs.Meets.{Meets, IsMet}
 use Rattle.snap_ctx.specs.Ranges.{TestInRange}
 use Rattle.snap_ctx.specs.View.{View, IsContext}
-use Rattle.snap_ctx.proofs.Answers.{Meets-parts, Meets-with_fact}
+use Rattle.snap_ctx.proofs.Last.{with_last, last_parts, Meets-with_last}
 use Rattle.snap_ctx.proofs.Each.{Each-left, Each-right}
 use Rattle.snap_ctx.proofs.Fitting.{is_test}
 use Rattle.snap_ctx.proofs.Knowing.{known_alike}
@@ -95,7 +95,7 @@ module _ (s : Sizes) (e : Tested) (key : List ℕ) (v w : View) (cv : IsContext 
   abbrev IsPath : List Fact → Type 0
   IsPath path = All (λ f. IsTest s.comps f.test) path × All (λ f. TestOver e.comps e.arrays f.test) path
 
-  path_more : (path : List Fact) (t : Test) (b : Bool) → IsTest s.comps t → TestOver e.comps e.arrays t → IsPath path → IsPath (with_fact path t b)
+  path_more : (path : List Fact) (t : Test) (b : Bool) → IsTest s.comps t → TestOver e.comps e.arrays t → IsPath path → IsPath (with_last path t b)
   path_more path t b i o h =
       (All-push (λ f. IsTest s.comps f.test) path (record { test = t; yes = b }) h.0 i, All-push (λ f. TestOver e.comps e.arrays f.test) path (record { test = t; yes = b }) h.1 o)
 
@@ -106,13 +106,13 @@ module _ (s : Sizes) (e : Tested) (key : List ℕ) (v w : View) (cv : IsContext 
 
   someone_beside : (P Q : Arrays → List ℕ → Type 0) (path : List Fact) (t : Test) (b : Bool)
       → ((m : Arrays) (k : List ℕ) → P m k → Met v m k × Meets path m k) → ((m : Arrays) (k : List ℕ) → IsPacket (length w.classes) k → Meets (w.facts ++ path) m k → Q m k)
-      → IsPath (with_fact path t b) → length w.facts + length (with_fact path t b) ≤ 2 ^ 32 → Someone (With P t b) → Someone (With Q t b)
+      → IsPath (with_last path t b) → length w.facts + length (with_last path t b) ≤ 2 ^ 32 → Someone (With P t b) → Someone (With Q t b)
   someone_beside P Q path t b from to p short h =
       let m = number_in h.entries in
       let r = from m h.packet h.is.0 in
-      let met = met_beside m h.packet r.0 (with_fact path t b) p (Meets-with_fact path t b m h.packet r.1 h.is.1) short in
+      let met = met_beside m h.packet r.0 (with_last path t b) p (Meets-with_last path t b m h.packet r.1 h.is.1) short in
       let n = number_in met.entries in
-      let parts = Meets-parts (w.facts ++ path) t b n met.packet (subst (λ (fs : List Fact). Meets fs n met.packet) (sym (append_assoc w.facts path (record { test = t; yes = b } ∷ []))) met.meets) in
+      let parts = last_parts (w.facts ++ path) t b n met.packet (subst (λ (fs : List Fact). Meets fs n met.packet) (sym (append_assoc w.facts path (record { test = t; yes = b } ∷ []))) met.meets) in
       record { entries = met.entries; packet = met.packet; store = met.is_store; is = (to n met.packet met.is_packet parts.0, parts.1) }
 
   live_beside : (P Q : Arrays → List ℕ → Type 0) (path : List Fact) (d : Diagram)
@@ -122,25 +122,25 @@ module _ (s : Sizes) (e : Tested) (key : List ℕ) (v w : View) (cv : IsContext 
   live_beside P Q path (Asks t y n) from to p i o short h = (
     someone_beside P Q path t true from to (longer true) (room true) h.0,
     someone_beside P Q path t false from to (longer false) (room false) h.1,
-    live_beside (With P t true) (With Q t true) (with_fact path t true) y (from_more true) (to_more true) (longer true) i.1 o.2 (let a = added true in omega (arith, a, short)) h.2,
-    live_beside (With P t false) (With Q t false) (with_fact path t false) n (from_more false) (to_more false) (longer false) i.2 o.3 (let a = added false in omega (arith, a, short)) h.3,
+    live_beside (With P t true) (With Q t true) (with_last path t true) y (from_more true) (to_more true) (longer true) i.1 o.2 (let a = added true in omega (arith, a, short)) h.2,
+    live_beside (With P t false) (With Q t false) (with_last path t false) n (from_more false) (to_more false) (longer false) i.2 o.3 (let a = added false in omega (arith, a, short)) h.3,
   )
     where
-      added : (b : Bool) → length (with_fact path t b) ≡ length path + 1
+      added : (b : Bool) → length (with_last path t b) ≡ length path + 1
       added b = length-append path (record { test = t; yes = b } ∷ [])
 
-      longer : (b : Bool) → IsPath (with_fact path t b)
+      longer : (b : Bool) → IsPath (with_last path t b)
       longer b = path_more path t b (test_is s t i.0 o.1) o.0 p
 
-      room : (b : Bool) → length w.facts + length (with_fact path t b) ≤ 2 ^ 32
+      room : (b : Bool) → length w.facts + length (with_last path t b) ≤ 2 ^ 32
       room b = let a = added b in omega (arith, a, short)
 
-      from_more : (b : Bool) (m : Arrays) (k : List ℕ) → With P t b m k → Met v m k × Meets (with_fact path t b) m k
-      from_more b m k q = let r = from m k q.0 in (r.0, Meets-with_fact path t b m k r.1 q.1)
+      from_more : (b : Bool) (m : Arrays) (k : List ℕ) → With P t b m k → Met v m k × Meets (with_last path t b) m k
+      from_more b m k q = let r = from m k q.0 in (r.0, Meets-with_last path t b m k r.1 q.1)
 
-      to_more : (b : Bool) (m : Arrays) (k : List ℕ) → IsPacket (length w.classes) k → Meets (w.facts ++ with_fact path t b) m k → With Q t b m k
+      to_more : (b : Bool) (m : Arrays) (k : List ℕ) → IsPacket (length w.classes) k → Meets (w.facts ++ with_last path t b) m k → With Q t b m k
       to_more b m k q meets =
-          let parts = Meets-parts (w.facts ++ path) t b m k (subst (λ (fs : List Fact). Meets fs m k) (sym (append_assoc w.facts path (record { test = t; yes = b } ∷ []))) meets) in
+          let parts = last_parts (w.facts ++ path) t b m k (subst (λ (fs : List Fact). Meets fs m k) (sym (append_assoc w.facts path (record { test = t; yes = b } ∷ []))) meets) in
           (to m k q parts.0, parts.1)
 
 -- the law

@@ -17,9 +17,9 @@ use Rattle.snap_core.specs.Variables.{has}
 use Rattle.snap_ctx.specs.declared.fact.Fact.{Fact}
 use Rattle.snap_ctx.specs.Classes.{wrap, class_of, normal, atom_class, is_state, var_of, index_of, left_of, IsAtom, IsTerm, IsTest, FactRule, PairRule, Rules, SamePlace, Says}
 use Rattle.snap_ctx.specs.Known.{IsAmong, AtomOver, TermOver}
-use Rattle.snap_ctx.specs.Meets.{Meets, with_fact}
+use Rattle.snap_ctx.specs.Meets.{Meets}
 use Rattle.snap_ctx.specs.View.{View, IsContext}
-use Rattle.snap_ctx.proofs.Answers.{Meets-parts}
+use Rattle.snap_ctx.proofs.Last.{with_last, last_parts}
 use Rattle.snap_ctx.proofs.Model.{model}
 use Rattle.snap_dep.specs.Ranks.{Grouping}
 use Rattle.snap_fdd.specs.declared.tested.Tested.{Tested}
@@ -153,7 +153,7 @@ module _ (ranks : List ℕ) (v : View) (ctx : IsContext v) (arrays : ℕ) where
   itself_agrees t true passed same = refl
   itself_agrees t false passed same = absurd (cc)
 
-  path_more : (path : List Fact) (t : Test) (b : Bool) → IsPath path → IsTest (length v.classes) t → (is_state t ≡ true) × IsAmong arrays (var_of t) → IsOwn v.classes t → Before path t → IsPath (with_fact path t b)
+  path_more : (path : List Fact) (t : Test) (b : Bool) → IsPath path → IsTest (length v.classes) t → (is_state t ≡ true) × IsAmong arrays (var_of t) → IsOwn v.classes t → Before path t → IsPath (with_last path t b)
   path_more path t b h test state own before = record {
     tests = λ f a. elim (among_last f path new a) [ inl o ↦ h.tests f o | inr e ↦ rw e test ];
     state = λ f a. elim (among_last f path new a) [ inl o ↦ h.state f o | inr e ↦ rw e state ];
@@ -167,7 +167,7 @@ module _ (ranks : List ℕ) (v : View) (ctx : IsContext v) (arrays : ℕ) where
       new : Fact
       new = record { test = t; yes = b }
 
-  before_more : (path : List Fact) (t : Test) (b : Bool) (d : Diagram) → Before path t → Above ranks t d → (b ≡ true → BeginsElsewhere t d) → BeforeAll (with_fact path t b) d
+  before_more : (path : List Fact) (t : Test) (b : Bool) (d : Diagram) → Before path t → Above ranks t d → (b ≡ true → BeginsElsewhere t d) → BeforeAll (with_last path t b) d
   before_more path t b (Only l) before above other = tt
   before_more path t b (Asks u y n) before above other = λ f m. elim (matters_last path (record { test = t; yes = b }) f m) [
     | inl o ↦ (less_trans ranks f.test t u (before f o).0 above, λ passed same. (before f o).1 passed (same_between ranks f.test t u (before f o).0 above same))
@@ -196,9 +196,9 @@ module _ (ranks : List ℕ) (v : View) (ctx : IsContext v) (arrays : ℕ) where
     live_path P path (Asks (State w ix t) y n) covers h before asks over order bounds short = (
       someone true,
       someone false,
-      live_path (With P u true) (with_fact path u true) y (more true) (longer true)
+      live_path (With P u true) (with_last path u true) y (more true) (longer true)
           (before_more path u true y before order.0 (λ i. asks.1)) asks.2 over.2 order.2 bounds.1 (let a = added true in omega (arith, a, short)),
-      live_path (With P u false) (with_fact path u false) n (more false) (longer false)
+      live_path (With P u false) (with_last path u false) n (more false) (longer false)
           (before_more path u false n before order.1 (λ i. absurd (cc))) asks.3 over.3 order.3 bounds.2 (let a = added false in omega (arith, a, short)),
     )
       where
@@ -208,22 +208,22 @@ module _ (ranks : List ℕ) (v : View) (ctx : IsContext v) (arrays : ℕ) where
         test : IsTest (length v.classes) (State w ix t)
         test = subst (λ (n : ℕ). IsTest n (State w ix t)) size (test_is sz (State w ix t) bounds.0 over.1)
 
-        longer : (b : Bool) → IsPath (with_fact path u b)
+        longer : (b : Bool) → IsPath (with_last path u b)
         longer b = path_more path u b h test (refl, subst (λ (a : ℕ). IsAmong a w) set over.0.0) (own_atoms ix (recursion_from_All (IsAtom (length v.classes)) ix test.1) over.0.1, own_of_term t test.2 over.0.2) before
 
-        added : (b : Bool) → length (with_fact path u b) ≡ length path + 1
+        added : (b : Bool) → length (with_last path u b) ≡ length path + 1
         added b = length-append path (record { test = u; yes = b } ∷ [])
 
-        more : (b : Bool) (m : Arrays) (k : List ℕ) → IsPacket (length v.classes) k → Meets (v.facts ++ with_fact path u b) m k → With P u b m k
+        more : (b : Bool) (m : Arrays) (k : List ℕ) → IsPacket (length v.classes) k → Meets (v.facts ++ with_last path u b) m k → With P u b m k
         more b m k p meets =
-            let parts = Meets-parts (v.facts ++ path) u b m k (subst (λ (fs : List Fact). Meets fs m k) (sym (append_assoc v.facts path (record { test = u; yes = b } ∷ []))) meets) in
+            let parts = last_parts (v.facts ++ path) u b m k (subst (λ (fs : List Fact). Meets fs m k) (sym (append_assoc v.facts path (record { test = u; yes = b } ∷ []))) meets) in
             (covers m k p parts.0, parts.1)
 
         someone : (b : Bool) → Someone (With P u b)
         someone b =
-            let l = length-append v.facts (with_fact path u b) in
+            let l = length-append v.facts (with_last path u b) in
             let a = added b in
-            let met = model (v.facts ++ with_fact path u b) v.classes (rules (with_fact path u b) (longer b)) ctx.few (omega (arith, l, a, short)) in
+            let met = model (v.facts ++ with_last path u b) v.classes (rules (with_last path u b) (longer b)) ctx.few (omega (arith, l, a, short)) in
             record { entries = met.entries; packet = met.packet; store = met.is_store; is = more b (number_in met.entries) met.packet met.is_packet met.meets }
 
 -- the law

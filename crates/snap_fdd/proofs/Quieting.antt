@@ -20,8 +20,8 @@ use Rattle.snap_core.specs.Listing.{number_in}
 use Rattle.snap_core.specs.Inputs.{IsPacket}
 use Rattle.snap_ctx.specs.declared.fact.Fact.{Fact}
 use Rattle.snap_ctx.specs.Classes.{IsAtom, IsTerm, IsTest}
-use Rattle.snap_ctx.specs.Meets.{Meets, IsMet, with_fact}
-use Rattle.snap_ctx.proofs.Answers.{Meets-parts}
+use Rattle.snap_ctx.specs.Meets.{Meets, IsMet}
+use Rattle.snap_ctx.proofs.Last.{with_last, last_parts}
 use Rattle.snap_ctx.specs.View.{View}
 use Rattle.snap_dep.specs.Ranks.{Grouping}
 use Rattle.snap_arena.specs.declared.node.Node.{Node}
@@ -83,7 +83,7 @@ abbrev pub IsBefore : List ℕ → List Fact → Diagram → Type 0
 IsBefore ranks facts (Only l) = Unit {0}
 IsBefore ranks facts (Asks t y n) = IsBeforeTest ranks facts t
 
-calm_more : (ranks : List ℕ) (comps : ℕ) (s : Survey) (facts : List Fact) (t : Test) (b : Bool) → IsCalm comps s facts → IsTest comps t → IsFine s t → IsBeforeTest ranks facts t → IsCalm comps s (with_fact facts t b)
+calm_more : (ranks : List ℕ) (comps : ℕ) (s : Survey) (facts : List Fact) (t : Test) (b : Bool) → IsCalm comps s facts → IsTest comps t → IsFine s t → IsBeforeTest ranks facts t → IsCalm comps s (with_last facts t b)
 calm_more ranks comps s facts t b calm test fine before = record {
   tests = λ f a. elim (among_last f facts new a) [ inl o ↦ calm.tests f o | inr e ↦ rw e test ];
   fine = λ f a. elim (among_last f facts new a) [ inl o ↦ calm.fine f o | inr e ↦ rw e fine ];
@@ -105,7 +105,7 @@ calm_more ranks comps s facts t b calm test fine before = record {
     old g p false f same = λ e. not_itself ranks g.test t (before g p).0 (sym (one_test t g.test same e))
 
 before_more : (ranks : List ℕ) (facts : List Fact) (t : Test) (b : Bool) (d : Diagram) → IsBeforeTest ranks facts t
-    → Above ranks t d → (b ≡ true → BeginsElsewhere t d) → IsBefore ranks (with_fact facts t b) d
+    → Above ranks t d → (b ≡ true → BeginsElsewhere t d) → IsBefore ranks (with_last facts t b) d
 before_more ranks facts t b (Only l) before above other = tt
 before_more ranks facts t b (Asks u y n) before above other = λ f a. elim (among_last f facts (record { test = t; yes = b }) a) [
   | inl o ↦ (less_trans ranks f.test t u (before f o).0 above, λ passed same. (before f o).1 passed (same_between ranks f.test t u (before f o).0 above same))
@@ -128,14 +128,14 @@ test_is sz s (State v ix t) i f = (i.1.few, All-from_recursion (IsAtom sz.comps)
 
 -- those that meet one fact more
 more : (P : Arrays → List ℕ → Type 0) (facts : List Fact) (t : Test) (b : Bool) (comps : ℕ) → ((m : Arrays) (k : List ℕ) → IsPacket comps k → Meets facts m k → P m k)
-    → (m : Arrays) (k : List ℕ) → IsPacket comps k → Meets (with_fact facts t b) m k → With P t b m k
-more P facts t b comps covers m k p h = let r = Meets-parts facts t b m k h in (covers m k p r.0, r.1)
+    → (m : Arrays) (k : List ℕ) → IsPacket comps k → Meets (with_last facts t b) m k → With P t b m k
+more P facts t b comps covers m k p h = let r = last_parts facts t b m k h in (covers m k p r.0, r.1)
 
 someone : (ranks : List ℕ) (sz : Sizes) (s : Survey) → IsClear s → (P : Arrays → List ℕ → Type 0) (facts : List Fact) (t : Test) (b : Bool) → sz.comps ≤ 64
-    → ((m : Arrays) (k : List ℕ) → IsPacket sz.comps k → Meets facts m k → P m k) → IsCalm sz.comps s (with_fact facts t b) → length facts + 1 ≤ 2 ^ 32 → Someone (With P t b)
+    → ((m : Arrays) (k : List ℕ) → IsPacket sz.comps k → Meets facts m k → P m k) → IsCalm sz.comps s (with_last facts t b) → length facts + 1 ≤ 2 ^ 32 → Someone (With P t b)
 someone ranks sz s clear P facts t b few covers calm short =
     let l = length-append facts (record { test = t; yes = b } ∷ []) in
-    let met = calm_is_met sz.comps s clear (with_fact facts t b) calm few (omega (arith, l, short)) in
+    let met = calm_is_met sz.comps s clear (with_last facts t b) calm few (omega (arith, l, short)) in
     record { entries = met.entries; packet = met.packet; store = met.is_store; is = more P facts t b sz.comps covers (number_in met.entries) met.packet met.is_packet met.meets }
 
 pub quiet_live : (ranks : List ℕ) (sz : Sizes) (s : Survey) → IsClear s → (P : Arrays → List ℕ → Type 0) (facts : List Fact) (d : Diagram) → sz.comps ≤ 64
@@ -148,9 +148,9 @@ quiet_live ranks sz s clear P facts (Asks t y n) few covers calm before quiet or
     let failed = calm_more ranks sz.comps s facts t false calm test quiet.0 before in (
       someone ranks sz s clear P facts t true few covers passed (omega (arith, short)),
       someone ranks sz s clear P facts t false few covers failed (omega (arith, short)),
-      quiet_live ranks sz s clear (With P t true) (with_fact facts t true) y few (more P facts t true sz.comps covers) passed
+      quiet_live ranks sz s clear (With P t true) (with_last facts t true) y few (more P facts t true sz.comps covers) passed
           (before_more ranks facts t true y before order.0 (λ e. quiet.1)) quiet.2 order.2 bounds.1 (let l = length-append facts (record { test = t; yes = true } ∷ []) in omega (arith, l, short)),
-      quiet_live ranks sz s clear (With P t false) (with_fact facts t false) n few (more P facts t false sz.comps covers) failed
+      quiet_live ranks sz s clear (With P t false) (with_last facts t false) n few (more P facts t false sz.comps covers) failed
           (before_more ranks facts t false n before order.1 (λ e. absurd (cc))) quiet.3 order.3 bounds.2 (let l = length-append facts (record { test = t; yes = false } ∷ []) in omega (arith, l, short)),
     )
 

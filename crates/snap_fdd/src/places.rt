@@ -25,6 +25,7 @@ use snap_core::NoMemory;
 use snap_core::policy::{Atom, Term, Test};
 use snap_ctx::context::Context;
 use snap_ctx::fact::Fact;
+use snap_ctx::facts::Facts;
 use snap_ctx::sets::is_in;
 use snap_dep::groups::Groups;
 
@@ -174,12 +175,12 @@ fn stands_aside(groups: &Groups, ctx: &Context, arrays: u64, fact: &Fact, test: 
 }
 
 // Whether all facts do.
-fn all_aside(groups: &Groups, ctx: &Context, arrays: u64, facts: &[Fact], test: &Test) -> bool
+fn all_aside(groups: &Groups, ctx: &Context, arrays: u64, facts: &Facts, test: &Test) -> bool
     requires rank { IsRanked (length groups.now.ranks) test.now }
     requires facts { All (λ f. IsTest (length ctx.now.classes) f.test) facts.now }
     ensures { IsTrue result → AllByRecursion (StandsAside groups.now.ranks ctx.now.classes arrays test.now) facts.now }
 {
-    for fact in facts {
+    for fact in facts.iter() {
         if !stands_aside(groups, ctx, arrays, fact, test) {
             return false;
         }

@@ -23,6 +23,7 @@ use snap_core::NoMemory;
 use snap_core::policy::Test;
 use snap_ctx::context::Context;
 use snap_ctx::fact::Fact;
+use snap_ctx::facts::Facts;
 use snap_dep::groups::Groups;
 use std::cmp::Ordering;
 
@@ -137,11 +138,11 @@ fn stands_before(groups: &Groups, survey: &Survey, fact: &Fact, test: &Test) -> 
 }
 
 // Whether all facts are so.
-fn all_before(groups: &Groups, survey: &Survey, facts: &[Fact], test: &Test) -> bool
+fn all_before(groups: &Groups, survey: &Survey, facts: &Facts, test: &Test) -> bool
     requires { IsRanked (length groups.now.ranks) test.now }
     ensures { IsTrue result → AllByRecursion (StandsBefore groups.now.ranks survey.now test.now) facts.now }
 {
-    for fact in facts {
+    for fact in facts.iter() {
         if !stands_before(groups, survey, fact, test) {
             return false;
         }

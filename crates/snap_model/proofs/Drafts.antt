@@ -3,7 +3,7 @@ use Rattle.std.proofs.Common.{◌≡◌, ℕ, ◌^◌, ◌<◌, ⊎_elim, true, 
 use Rattle.std.specs.Prelude.{◌==◌, All}
 use Rattle.std.proofs.lemmas.Bool.{cases_Bool, cond-true}
 use Rattle.std.proofs.lemmas.Grind.{same_number_lists}
-use Rattle.std.proofs.lemmas.List.Elements.{All-push}
+use Rattle.std.proofs.lemmas.List.Elements.{All-nil, All-push}
 use Rattle.snap_core.specs.declared.place.Place.{Place}
 use Rattle.snap_core.specs.declared.policy.Test.{Test}
 use Rattle.snap_core.specs.declared.policy.Test.TheVariants.{Value, Equal, State}
@@ -41,6 +41,10 @@ zero_put n m w p x low e z q l = subst (λ (a : Arrays). a q ≡ 0) (sym e) (by 
     by : (b : Bool) → same_place p q ≡ b → cond b x (m q) ≡ 0
     by true f = (let v : p.var ≡ q.var = ap (λ (r : Place). r.var) (same_place-true p q f) in absurd (omega (arith, v, low, l)))
     by false f = z q l
+
+-- no facts yet
+pub settles_none : (v : View) (y : Bool) (d : Draft) → IsDraft v d → Settles v y [] d d
+settles_none v y d h = record { draft = h; places = All-nil (λ g. g.yes ≡ y → Knows v d g); kept = λ g k. k; only = λ n a z. z }
 
 -- a fact with the other answer, or not on a place
 pub settles_skip : (v : View) (y : Bool) (facts : List Fact) (old d : Draft) (f : Fact) → (f.yes ≡ y → Knows v d f) → Settles v y facts old d → Settles v y (facts ++ f ∷ []) old d

@@ -116,7 +116,7 @@ fn settle_places(
     requires { IsDraft ctx.now draft }
     ensures { IfOk result (Settles ctx.now yes ctx.now.facts draft) }
 {
-    for fact in ctx.facts() {
+    for fact in ctx.facts().iter() {
         if fact.yes != yes {
             continue;
         }

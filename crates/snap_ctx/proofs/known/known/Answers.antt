@@ -26,16 +26,16 @@ returns-then-branch c =
 pub push_words-requires : goal.push_words-requires
 push_words-requires c =
     let ns = all_known c.args.classes.now c.in-Some.roots c.settled-settled.result c.args.facts.now in
-    let p = c.sort_unstable.ensures.permutation in
-    rw c.deref.ensures.value (each_is_word c.sort_unstable.new.self.items ns (words_sorted c.in_ok-words.words.items c.sort_unstable.new.self.items ns p (IsPermutation-sym _ _ p) c.in_ok-words.ensures))
+    let p = c.sort_unstable_by.ensures.permutation in
+    rw c.deref.ensures.value (each_is_word c.sort_unstable_by.new.self.items ns (words_sorted c.in_ok-words.words.items c.sort_unstable_by.new.self.items ns p (IsPermutation-sym _ _ p) c.in_ok-words.ensures))
 
 pub returns : goal.returns
 returns c =
     let ns = all_known c.args.classes.now c.in-Some.roots c.settled-settled.result c.args.facts.now in
-    let p = c.sort_unstable.ensures.permutation in
-    let sorted : HasWords c.sort_unstable.new.self.items ns = words_sorted c.in_ok-words.words.items c.sort_unstable.new.self.items ns p (IsPermutation-sym _ _ p) c.in_ok-words.ensures in
+    let p = c.sort_unstable_by.ensures.permutation in
+    let sorted : HasWords c.sort_unstable_by.new.self.items ns = words_sorted c.in_ok-words.words.items c.sort_unstable_by.new.self.items ns p (IsPermutation-sym _ _ p) c.in_ok-words.ensures in
     let k = c.in_ok-push_words.ensures in
-    let told : HasWords c.sort_unstable.new.self.items k.0 = subst (λ (ws : List (Vec ℕ)). HasWords ws k.0) c.deref.ensures.value k.1 in (
+    let told : HasWords c.sort_unstable_by.new.self.items k.0 = subst (λ (ws : List (Vec ℕ)). HasWords ws k.0) c.deref.ensures.value k.1 in (
       classes_key c.args.comps 0 c.args.classes.now ++ normals_key k.0,
       k.2 ∙ ap (λ (xs : List ℕ). xs ++ normals_key k.0) c.in_ok-sorted.ensures,
       record {
@@ -45,7 +45,7 @@ returns c =
         facts = c.in-Some.ensures.facts;
         calm = c.settled-settled.ensures;
         told = k.0;
-        same = same_facts c.sort_unstable.new.self.items k.0 ns told sorted;
+        same = same_facts c.sort_unstable_by.new.self.items k.0 ns told sorted;
         is = refl;
       },
     )

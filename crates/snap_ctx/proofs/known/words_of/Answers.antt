@@ -1,28 +1,46 @@
--- One fact more.
-use Rattle.std.proofs.Common.{◌≡◌, ◌+◌, ◌∷◌, [], ◌++◌, take, ap, sym, subst, ◌∙◌, arith}
-use Rattle.std.proofs.lemmas.List.{take_more}
+-- One fact more, with its word or none.
+use Rattle.std.proofs.Common.{◌≡◌, ℕ, ◌<◌, ◌∷◌, [], ◌++◌, List, length, get_or, ap, sym, subst, ◌∙◌, arith, append_assoc}
 use Rattle.snap_ctx.specs.declared.fact.Fact.{Fact}
+use Rattle.snap_ctx.specs.Classes.{IsTest}
 use Rattle.snap_ctx.specs.Known.{all_known, known, some_key, with_some, HasWords}
-use Rattle.snap_ctx.proofs.Words.{all_known-push, no_words, words_more, words_same}
-use Rattle.snap_ctx.proofs.known.words_of.Goals.{then-len-gt0+in_ok-push, else-len-gt0}
+use Rattle.snap_ctx.proofs.Walks.{others_are}
+use Rattle.snap_ctx.proofs.Words.{all_known-push, words_more, words_same}
 use Rattle.snap_ctx.proofs.known.words_of.Goals as goal
+use Rattle.snap_ctx.proofs.known.words_of.Goals.{In_ok-push_fact}
 
-pub loop-fact-init : goal.loop-fact-init
-loop-fact-init c = rw c.new-words.ensures.items no_words
+tests_left : (c : In_ok-push_fact) → (i : ℕ) (d : Fact) → i < length c.next.new.self.left.now → IsTest (length c.args.classes.now) (get_or c.next.new.self.left.now i d).test
+tests_left c = others_are (λ (g : Fact). IsTest (length c.args.classes.now) g.test) c.in-Some.fact.now c.loop-fact.fact-iterator.left.now c.next.new.self.left.now c.in-Some.ensures.steps c.loop-fact.invariant.0
+
+seen : (c : In_ok-push_fact) → (c.loop-fact.invariant.1 ++ c.in-Some.fact.now ∷ []) ++ c.next.new.self.left.now ≡ c.args.facts.now
+seen c =
+    append_assoc c.loop-fact.invariant.1 (c.in-Some.fact.now ∷ []) c.next.new.self.left.now
+    ∙ (ap (λ (xs : List Fact). c.loop-fact.invariant.1 ++ xs) (sym c.in-Some.ensures.steps) ∙ c.loop-fact.invariant.2)
+
+word : (c : In_ok-push_fact) → c.push_fact.new.key.items ≡ some_key (known c.args.classes.now c.args.roots c.args.settled c.in-Some.fact.now.test c.in-Some.fact.now.yes)
+word c = rw c.new-word.ensures.items at c.in_ok-push_fact.ensures
+
+pub loop-fact-preserved-in-Continue-branch-2 : goal.loop-fact-preserved-in-Continue-branch-2
+loop-fact-preserved-in-Continue-branch-2 c =
+    let d = (goal.at.loop-fact-preserved-in-Continue-branch-2 c).In_ok-push_fact in
+    let f : Fact = c.in-Some.fact.now in
+    let o = known c.args.classes.now c.args.roots c.args.settled f.test f.yes in
+    let before = all_known c.args.classes.now c.args.roots c.args.settled c.loop-fact.invariant.1 in (
+      tests_left d,
+      c.loop-fact.invariant.1 ++ f ∷ [],
+      seen d,
+      rw (c.in_ok-push.ensures.items, all_known-push c.args.classes.now c.args.roots c.args.settled c.loop-fact.invariant.1 f)
+          (words_more c.loop-fact.words.items before c.push_fact.new.key o c.loop-fact.invariant.3 (word d) (λ e. absurd (omega (arith, c.len.ensures, c.if-len-gt0.true, e)))),
+    )
 
 pub loop-fact-preserved : goal.loop-fact-preserved
 loop-fact-preserved c =
-    let fs = c.args.facts.now in
-    let i = c.loop-fact.fact-index in
-    let f : Fact = c.fact-item.result in
-    let cl = c.args.classes.now in
-    let o = known cl c.args.roots c.args.settled f.test f.yes in
-    let before = all_known cl c.args.roots c.args.settled (take i fs) in
-    let cut : take (i + 1) fs ≡ take i fs ++ f ∷ [] = take_more fs i f c.loop-fact-test.true ∙ ap (λ (g : Fact). take i fs ++ g ∷ []) (sym c.fact-item.is) in
-    let word : c.push_fact.new.key.items ≡ some_key o = rw c.new-word.ensures.items at c.in_ok-push_fact.ensures in
-    let step : HasWords c.if-len-gt0.words.items (before ++ with_some o [])
-    = elim c.if-len-gt0.branch [
-      | then-len-gt0+in_ok-push w ↦ rw (w.words-is, w.in_ok-push.ensures.items) (words_more c.loop-fact.words.items before c.push_fact.new.key o c.loop-fact.invariant word (λ e. absurd (omega (arith, c.len.ensures, w.if-len-gt0.true, e))))
-      | else-len-gt0 w ↦ rw w.words-is (words_same c.loop-fact.words.items before c.push_fact.new.key.items o c.loop-fact.invariant word (omega (arith, c.len.ensures, w.if-len-gt0.false)))
-    ] in
-    subst (HasWords c.if-len-gt0.words.items) (sym (ap (all_known cl c.args.roots c.args.settled) cut ∙ all_known-push cl c.args.roots c.args.settled (take i fs) f)) step
+    let d = (goal.at.loop-fact-preserved c).In_ok-push_fact in
+    let f : Fact = c.in-Some.fact.now in
+    let o = known c.args.classes.now c.args.roots c.args.settled f.test f.yes in
+    let before = all_known c.args.classes.now c.args.roots c.args.settled c.loop-fact.invariant.1 in (
+      tests_left d,
+      c.loop-fact.invariant.1 ++ f ∷ [],
+      seen d,
+      rw (all_known-push c.args.classes.now c.args.roots c.args.settled c.loop-fact.invariant.1 f)
+          (words_same c.loop-fact.words.items before c.push_fact.new.key.items o c.loop-fact.invariant.3 (word d) (omega (arith, c.len.ensures, c.if-len-gt0.false))),
+    )

@@ -1,25 +1,22 @@
--- One more fact agrees with the new one, and in the end all do.
-use Rattle.std.proofs.Common.{List, subst}
-use Rattle.std.specs.Prelude.{All}
-use Rattle.std.proofs.lemmas.List.{take_all}
-use Rattle.std.proofs.lemmas.List.Elements.{All-more}
+-- One more fact agrees with the new one, and none has to where that is on no place.
+use Rattle.std.proofs.Common.{◌≡◌, ◌∷◌, length}
 use Rattle.snap_ctx.specs.declared.fact.Fact.{Fact}
-use Rattle.snap_ctx.specs.Classes.{PairRule}
+use Rattle.snap_ctx.specs.Classes.{IsTest, PairRule}
+use Rattle.snap_ctx.proofs.Walks.{all_behind, others_are}
 use Rattle.snap_ctx.proofs.look.look_new.Goals as goal
 
 pub loop-other-preserved : goal.loop-other-preserved
-loop-other-preserved c = (
-  c.loop-other.invariant.0,
-  All-more (λ f. PairRule c.args.classes.now f c.args.fact.now) c.args.facts.now c.loop-other.other-index c.other-item.result c.loop-other-test.true
-      c.loop-other.invariant.1
-      (subst (λ f. PairRule c.args.classes.now f c.args.fact.now) c.other-item.is c.in_ok-look_pair.ensures),
-)
+loop-other-preserved c =
+    let f : Fact = c.in-Some.other.now in
+    let left = c.loop-other.other-iterator.left.now in
+    let others = c.next.new.self.left.now in
+    let next : left ≡ f ∷ others = c.in-Some.ensures.steps in (
+      others_are (λ (g : Fact). IsTest (length c.args.classes.now) g.test) f left others next c.loop-other.invariant.0,
+      all_behind (λ (g : Fact). PairRule c.args.classes.now g c.args.fact.now) f left others c.args.facts.now next c.in_ok-look_pair.ensures c.loop-other.invariant.1,
+    )
 
-pub returns : goal.returns
-returns c = (
+pub returns-then-not-is_on_place : goal.returns-then-not-is_on_place
+returns-then-not-is_on_place c = (
   c.requires.rules,
-  (
-    c.loop-other.invariant.0,
-    subst (λ (xs : List Fact). All (λ f. PairRule c.args.classes.now f c.args.fact.now) xs) (take_all c.loop-other.other-index c.args.facts.now c.loop-other-test.false) c.loop-other.invariant.1,
-  ),
+  (c.in_ok-look_one.ensures, λ k d l y same. let no = c.is_on_place.ensures in let on = same.second in let bad = c.if-not-is_on_place.true in absurd (cc)),
 )

@@ -1,17 +1,17 @@
--- One more fact is there, and in the end all are.
-use Rattle.std.proofs.Common.{List, map, subst}
-use Rattle.std.specs.Prelude.{All}
-use Rattle.std.proofs.lemmas.List.{take_all}
-use Rattle.std.proofs.lemmas.List.Elements.{All-more}
+-- One more fact is there.
+use Rattle.std.proofs.Common.{◌≡◌, ◌∷◌, length, map}
 use Rattle.snap_ctx.specs.declared.fact.Fact.{Fact}
-use Rattle.snap_ctx.specs.Classes.{atom_class}
+use Rattle.snap_ctx.specs.Classes.{IsTest, atom_class}
 use Rattle.snap_ctx.specs.Known.{IsAtSpot}
+use Rattle.snap_ctx.proofs.Walks.{all_behind, others_are}
 use Rattle.snap_ctx.proofs.settled.all_at.Goals as goal
 
 pub loop-fact-preserved : goal.loop-fact-preserved
 loop-fact-preserved c =
-    All-more (IsAtSpot c.args.classes.now c.args.var (map (atom_class c.args.classes.now) c.args.index.now)) c.args.facts.now c.loop-fact.fact-index c.fact-item.result c.loop-fact-test.true c.loop-fact.invariant
-    (subst (IsAtSpot c.args.classes.now c.args.var (map (atom_class c.args.classes.now) c.args.index.now)) c.fact-item.is (c.is_at.ensures c.if-not-is_at.false))
-
-pub returns : goal.returns
-returns c = λ _. subst (λ (xs : List Fact). All (IsAtSpot c.args.classes.now c.args.var (map (atom_class c.args.classes.now) c.args.index.now)) xs) (take_all c.loop-fact.fact-index c.args.facts.now c.loop-fact-test.false) c.loop-fact.invariant
+    let f : Fact = c.in-Some.fact.now in
+    let left = c.loop-fact.fact-iterator.left.now in
+    let others = c.next.new.self.left.now in
+    let next : left ≡ f ∷ others = c.in-Some.ensures.steps in (
+      others_are (λ (g : Fact). IsTest (length c.args.classes.now) g.test) f left others next c.loop-fact.invariant.0,
+      all_behind (IsAtSpot c.args.classes.now c.args.var (map (atom_class c.args.classes.now) c.args.index.now)) f left others c.args.facts.now next (c.is_at.ensures c.if-not-is_at.false) c.loop-fact.invariant.1,
+    )

@@ -1,6 +1,8 @@
 -- One fact more.
-use Rattle.std.proofs.Common.{◌≡◌, List, sym, subst}
+use Rattle.std.proofs.Common.{◌≡◌, ℕ, ◌∷◌, List, subst}
 use Rattle.std.specs.Prelude.{IfSome}
+use Rattle.std.proofs.lemmas.List.Elements.{All-head, All-tail}
+use Rattle.snap_core.specs.Arrays.{Arrays}
 use Rattle.snap_core.specs.Tests.{passes}
 use Rattle.snap_ctx.specs.declared.context.Assumed.TheVariants.{More}
 use Rattle.snap_ctx.specs.declared.fact.Fact.{Fact}
@@ -12,11 +14,16 @@ use Rattle.snap_equal.proofs.weaker.weaker.Goals.{then-bears+in_ok-more+in-Some,
 
 pub loop-fact-preserved : goal.loop-fact-preserved
 loop-fact-preserved c =
-    let f : Fact = c.fact-item.result in
-    elim c.if-bears.branch [
-      | then-bears+in_ok-more+in-Some w ↦ rw w.weak-is
-          (weaker_more c.args.ctx.now c.loop-fact.weak w.in-Some.more f.test f.yes c.loop-fact.invariant
-          (subst (λ o. IfSome o (λ x. IsAssumed c.loop-fact.weak f.test f.yes (More x))) w.in-Some.is w.in_ok-more.ensures)
-          (λ m k h. subst (λ (g : Fact). passes g.test m k ≡ g.yes) (sym c.fact-item.is) (subst (λ (fs : List Fact). Meets fs m k) (sym c.facts-facts.ensures.facts) h c.loop-fact.fact-index f c.loop-fact-test.true)))
-      | else-bears w ↦ rw w.weak-is c.loop-fact.invariant
-    ]
+    let f : Fact = c.in-Some.fact.now in
+    let others = c.next.new.self.left.now in
+    let left : (m : Arrays) (k : List ℕ) → Meets c.args.ctx.now.facts m k → Meets (f ∷ others) m k
+    = λ m k h. subst (λ (fs : List Fact). Meets fs m k) c.in-Some.ensures.steps (c.loop-fact.invariant.1 m k h) in (
+      elim c.if-bears.branch [
+        | then-bears+in_ok-more+in-Some w ↦ rw w.weak-is
+            (weaker_more c.args.ctx.now c.loop-fact.weak w.in-Some.more f.test f.yes c.loop-fact.invariant.0
+            (subst (λ o. IfSome o (λ x. IsAssumed c.loop-fact.weak f.test f.yes (More x))) w.in-Some.is w.in_ok-more.ensures)
+            (λ m k h. All-head (λ (g : Fact). passes g.test m k ≡ g.yes) f others (left m k h)))
+        | else-bears w ↦ rw w.weak-is c.loop-fact.invariant.0
+      ],
+      (λ m k h. All-tail (λ (g : Fact). passes g.test m k ≡ g.yes) f others (left m k h)),
+    )

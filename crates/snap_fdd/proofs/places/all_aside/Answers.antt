@@ -1,16 +1,19 @@
 -- One fact more.
-use Rattle.std.proofs.Common.{[], ◌∷◌, get_or, subst, take}
-use Rattle.std.proofs.lemmas.List.{take_more}
-use Rattle.snap_ctx.proofs.Each.{Each-append}
+use Rattle.std.proofs.Common.{◌≡◌, ◌∷◌, List, length, sym, subst}
+use Rattle.std.specs.List.{AllByRecursion}
 use Rattle.snap_ctx.specs.declared.fact.Fact.{Fact}
+use Rattle.snap_ctx.specs.Classes.{IsTest}
+use Rattle.snap_ctx.proofs.Walks.{others_are}
 use Rattle.snap_fdd.specs.Places.{StandsAside}
 use Rattle.snap_fdd.proofs.places.all_aside.Goals as goal
 
 pub loop-fact-preserved : goal.loop-fact-preserved
 loop-fact-preserved c =
-    let fs = c.args.facts.now in
-    let i = c.loop-fact.fact-index in
-    let f : Fact = c.fact-item.result in
-    rw (take_more fs i f c.loop-fact-test.true)
-    (Each-append (StandsAside c.args.groups.now.ranks c.args.ctx.now.classes c.args.arrays c.args.test.now) (take i fs) (get_or fs i f ∷ []) c.loop-fact.invariant
-    (subst (StandsAside c.args.groups.now.ranks c.args.ctx.now.classes c.args.arrays c.args.test.now) c.fact-item.is (c.stands_aside.ensures c.if-not-stands_aside.false), tt))
+    let f : Fact = c.in-Some.fact.now in
+    let left = c.loop-fact.fact-iterator.left.now in
+    let others = c.next.new.self.left.now in
+    let next : left ≡ f ∷ others = c.in-Some.ensures.steps in (
+      others_are (λ (g : Fact). IsTest (length c.args.ctx.now.classes) g.test) f left others next c.loop-fact.invariant.0,
+      (λ rest. c.loop-fact.invariant.1
+          (subst (AllByRecursion (StandsAside c.args.groups.now.ranks c.args.ctx.now.classes c.args.arrays c.args.test.now)) (sym next) (c.stands_aside.ensures c.if-not-stands_aside.false, rest))),
+    )

@@ -1,7 +1,6 @@
 -- Each fact in turn: left, or its place settled.
-use Rattle.std.proofs.Common.{◌≡◌, ◌+◌, ◌<◌, true, false, not, Bool, Some, List, ◌++◌, ◌∷◌, [], length, take, get_or, sym, ap, subst, ◌∙◌}
+use Rattle.std.proofs.Common.{rules, ◌≡◌, true, false, not, Bool, Some, List, ◌++◌, ◌∷◌, [], append_assoc, append-nil, sym, ap, subst, ◌∙◌}
 use Rattle.std.proofs.Math.Bool.{beq}
-use Rattle.std.proofs.lemmas.List.{take_more}
 use Rattle.snap_core.specs.Arrays.{put}
 use Rattle.snap_core.specs.Cells.{arrays_of}
 use Rattle.snap_ctx.specs.declared.fact.Fact.{Fact}
@@ -11,9 +10,9 @@ use Rattle.snap_model.specs.declared.ask.Ask.TheVariants.{At}
 use Rattle.snap_model.specs.declared.ask.Settled.{Settled}
 use Rattle.snap_model.specs.Asks.{IsSettled}
 use Rattle.snap_model.specs.Models.{place_of, Settles}
-use Rattle.snap_model.proofs.Drafts.{settles_skip, settles_more}
+use Rattle.snap_model.proofs.Drafts.{settles_none, settles_skip, settles_more}
 use Rattle.snap_model.proofs.example.settle_places.Goals as goal
-use Rattle.snap_model.proofs.example.settle_places.Goals.{After-fact-item, After-settle_fact, in-Some+in-Some-1, in-Some+in-None-1, in_default}
+use Rattle.snap_model.proofs.example.settle_places.Goals.{In-Some, After-settle_fact}
 
 differ : (a b : Bool) → not (beq a b) ≡ true → a ≡ b → ⊥
 differ true true h e = cc
@@ -21,43 +20,61 @@ differ true false h e = cc
 differ false true h e = cc
 differ false false h e = cc
 
+pub loop-fact-init : goal.loop-fact-init
+loop-fact-init c =
+    let e : c.into_iter-fact-iterator.result.left.now ≡ c.args.ctx.now.facts = search rules in
+    ([], e, settles_none c.args.ctx.now c.args.yes c.args.draft c.requires)
+
 -- the fact is the next one
-item : (c : After-fact-item) → take (c.loop-fact.fact-index + 1) c.args.ctx.now.facts ≡ take c.loop-fact.fact-index c.args.ctx.now.facts ++ c.fact-item.result ∷ []
+item : (c : In-Some) → (c.loop-fact.invariant.0 ++ c.in-Some.fact.now ∷ []) ++ c.next.new.self.left.now ≡ c.args.ctx.now.facts
 item c =
-    let within : c.loop-fact.fact-index < length c.args.ctx.now.facts = subst (λ (xs : List Fact). c.loop-fact.fact-index < length xs) c.facts-fact-items.ensures.facts c.loop-fact-test.true in
-    let is : c.fact-item.result ≡ get_or c.args.ctx.now.facts c.loop-fact.fact-index c.fact-item.result
-    = c.fact-item.is ∙ ap (λ (xs : List Fact). get_or xs c.loop-fact.fact-index c.fact-item.result) c.facts-fact-items.ensures.facts in
-    take_more c.args.ctx.now.facts c.loop-fact.fact-index c.fact-item.result within
-    ∙ ap (λ (f : Fact). take c.loop-fact.fact-index c.args.ctx.now.facts ++ f ∷ []) (sym is)
+    append_assoc c.loop-fact.invariant.0 (c.in-Some.fact.now ∷ []) c.next.new.self.left.now
+    ∙ (ap (λ (xs : List Fact). c.loop-fact.invariant.0 ++ xs) (sym c.in-Some.ensures.steps) ∙ c.loop-fact.invariant.1)
 
 pub loop-fact-preserved-then-fact-yes : goal.loop-fact-preserved-then-fact-yes
 loop-fact-preserved-then-fact-yes c =
-    rw (item (goal.at.loop-fact-preserved-then-fact-yes c).After-fact-item)
-    (settles_skip c.args.ctx.now c.args.yes (take c.loop-fact.fact-index c.args.ctx.now.facts) c.args.draft c.loop-fact.draft c.fact-item.result
-    (λ e. absurd (differ c.fact-item.result.yes c.args.yes c.if-fact-yes.true e)) c.loop-fact.invariant)
+    let d = (goal.at.loop-fact-preserved-then-fact-yes c).In-Some in (
+      c.loop-fact.invariant.0 ++ c.in-Some.fact.now ∷ [],
+      item d,
+      settles_skip c.args.ctx.now c.args.yes c.loop-fact.invariant.0 c.args.draft c.loop-fact.draft c.in-Some.fact.now
+          (λ e. absurd (differ c.in-Some.fact.now.yes c.args.yes c.if-fact-yes.true e)) c.loop-fact.invariant.2,
+    )
 
 -- the place settled
-settled : (c : After-settle_fact) (s : Settled) → is_state c.fact-item.result.test ≡ true → IsSettled c.current-known.result.now (At (place_of c.fact-item.result c.loop-fact.draft.packet)) s
-    → arrays_of c.settle_fact.new.store ≡ put (arrays_of c.loop-fact.draft.store) (place_of c.fact-item.result c.loop-fact.draft.packet) s.num
-    → Settles c.args.ctx.now c.args.yes (take c.loop-fact.fact-index c.args.ctx.now.facts ++ c.fact-item.result ∷ []) c.args.draft (record { packet = c.loop-fact.draft.packet; store = c.settle_fact.new.store; grown = Some s.ctx })
+settled : (c : After-settle_fact) (s : Settled) → is_state c.in-Some.fact.now.test ≡ true → IsSettled c.current-known.result.now (At (place_of c.in-Some.fact.now c.loop-fact.draft.packet)) s
+    → arrays_of c.settle_fact.new.store ≡ put (arrays_of c.loop-fact.draft.store) (place_of c.in-Some.fact.now c.loop-fact.draft.packet) s.num
+    → Settles c.args.ctx.now c.args.yes (c.loop-fact.invariant.0 ++ c.in-Some.fact.now ∷ []) c.args.draft (record { packet = c.loop-fact.draft.packet; store = c.settle_fact.new.store; grown = Some s.ctx })
 settled c s st h written =
-    settles_more c.args.ctx.now c.args.yes (take c.loop-fact.fact-index c.args.ctx.now.facts) c.args.draft c.loop-fact.draft c.fact-item.result s c.settle_fact.new.store st
-    (subst (λ (v : View). IsSettled v (At (place_of c.fact-item.result c.loop-fact.draft.packet)) s) c.current-known.ensures h) written c.loop-fact.invariant
+    settles_more c.args.ctx.now c.args.yes c.loop-fact.invariant.0 c.args.draft c.loop-fact.draft c.in-Some.fact.now s c.settle_fact.new.store st
+    (subst (λ (v : View). IsSettled v (At (place_of c.in-Some.fact.now c.loop-fact.draft.packet)) s) c.current-known.ensures h) written c.loop-fact.invariant.2
+
+pub loop-fact-preserved-in-Some-2 : goal.loop-fact-preserved-in-Some-2
+loop-fact-preserved-in-Some-2 c =
+    let e = (goal.at.loop-fact-preserved-in-Some-2 c).In-Some in
+    let d = (goal.at.loop-fact-preserved-in-Some-2 c).After-settle_fact in
+    let h = rw c.in-Some-2.is at c.in_ok-settled.ensures in
+    (c.loop-fact.invariant.0 ++ c.in-Some.fact.now ∷ [], item e, settled d c.in-Some-2.settled h.0 h.1 h.2)
+
+pub loop-fact-preserved-in-Some-2-2 : goal.loop-fact-preserved-in-Some-2-2
+loop-fact-preserved-in-Some-2-2 c =
+    let e = (goal.at.loop-fact-preserved-in-Some-2-2 c).In-Some in
+    let d = (goal.at.loop-fact-preserved-in-Some-2-2 c).After-settle_fact in
+    let h = rw c.in-Some-2.is at c.in_ok-settled.ensures in
+    (c.loop-fact.invariant.0 ++ c.in-Some.fact.now ∷ [], item e, settled d c.in-Some-2.settled h.0 h.1 h.2)
 
 pub loop-fact-preserved : goal.loop-fact-preserved
 loop-fact-preserved c =
-    let whole = item (goal.at.loop-fact-preserved c).After-fact-item in
-    let d = (goal.at.loop-fact-preserved c).After-settle_fact in
-    elim c.match-branch-2.branch [
-      | in-Some+in-Some-1 w ↦
-          let h = rw w.in-Some.is at c.in_ok-settled.ensures in
-          rw (w.draft-is, whole) (settled d w.in-Some.settled h.0 h.1 h.2)
-      | in-Some+in-None-1 w ↦
-          let h = rw w.in-Some.is at c.in_ok-settled.ensures in
-          rw (w.draft-is, whole) (settled d w.in-Some.settled h.0 h.1 h.2)
-      | in_default w ↦
-          let off = rw w.in_default.is at c.in_ok-settled.ensures in
-          rw (w.draft-is, off.1, whole)
-          (settles_skip c.args.ctx.now c.args.yes (take c.loop-fact.fact-index c.args.ctx.now.facts) c.args.draft c.loop-fact.draft c.fact-item.result
-          (λ _ st. let a : is_state c.fact-item.result.test ≡ false = off.0 in absurd (cc)) c.loop-fact.invariant)
-    ]
+    let e = (goal.at.loop-fact-preserved c).In-Some in
+    let off = rw c.in_default.is at c.in_ok-settled.ensures in (
+      c.loop-fact.invariant.0 ++ c.in-Some.fact.now ∷ [],
+      item e,
+      rw off.1
+          (settles_skip c.args.ctx.now c.args.yes c.loop-fact.invariant.0 c.args.draft c.loop-fact.draft c.in-Some.fact.now
+          (λ _ st. let a : is_state c.in-Some.fact.now.test ≡ false = off.0 in absurd (cc)) c.loop-fact.invariant.2),
+    )
+
+pub returns : goal.returns
+returns c =
+    let all : c.loop-fact.invariant.0 ≡ c.args.ctx.now.facts
+    = sym (append-nil c.loop-fact.invariant.0) ∙ (ap (λ (xs : List Fact). c.loop-fact.invariant.0 ++ xs) (sym c.in-None.ensures.steps.0) ∙ c.loop-fact.invariant.1) in
+    subst (λ (xs : List Fact). Settles c.args.ctx.now c.args.yes xs c.args.draft c.loop-fact.draft) all c.loop-fact.invariant.2

@@ -9,7 +9,7 @@ context : (c : After-deref-2) → IsContext c.args.self.now
 context c = subst IsContext c.self.view_is c.self.invariant
 
 facts : (c : After-deref-2) → c.deref-2.result.now ≡ c.args.self.now.facts
-facts c = c.deref-2.ensures.value ∙ ap (λ (v : View). v.facts) c.self.view_is
+facts c = c.deref-2.ensures ∙ ap (λ (v : View). v.facts) c.self.view_is
 
 classes : (c : After-deref-2) → c.deref.result.now ≡ c.args.self.now.classes
 classes c = c.deref.ensures.value ∙ ap (λ (v : View). v.classes) c.self.view_is

@@ -1,6 +1,0 @@
--- The facts so far are copied.
-use Rattle.std.proofs.Common.{◌≡◌, take}
-use Rattle.snap_ctx.proofs.fact.copy_facts.Given as goal
-
-abbrev pub invariant-loop-fact : goal.invariant-loop-fact
-invariant-loop-fact l = l.copies.items ≡ take l.fact-index l.facts
