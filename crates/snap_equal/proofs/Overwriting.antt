@@ -45,8 +45,8 @@ pub lost : (k : List ℕ) (u w : Update) (us : List Update) (i : ℕ) → i < le
 lost k u w us i l is at same n =
     let p : Place = place_at u.var u.index k in
     let parts : (m : Arrays) → updates m us k ≡ updates (update (updates m (take i us) k) w k) (drop (i + 1) us) k = λ m.
-        ap (λ vs. updates m vs k) (sym (take-append-drop i us)) ∙ updates-append (take i us) (drop i us) m k
-        ∙ ap (λ vs. updates (updates m (take i us) k) vs k) (cut k u us i w l is) in
+    ap (λ vs. updates m vs k) (sym (take-append-drop i us)) ∙ updates-append (take i us) (drop i us) m k
+    ∙ ap (λ vs. updates (updates m (take i us) k) vs k) (cut k u us i w l is) in
     parts (update n u k)
     ∙ ap (λ (x : Arrays). updates x (drop (i + 1) us) k)
     (closed k p w at same (updates (update n u k) (take i us) k) (updates n (take i us) k) (beside_updates k p (take i us) (update n u k) n (λ q off. missed u n k q off)))

@@ -20,7 +20,7 @@ loop-i-preserved c =
           rw w.kept-is (record {
             fits = subst (All P) (sym items) (All-push P kept u c.loop-i.invariant.fits (subst P (sym c.index-all-i.is) (c.requires c.loop-i.i u c.loop-i-test.true)));
             vars = λ vs h. let Q : Update → Type 0 = λ x. x.var < vs in
-            subst (AreOf vs) (sym items) (All-push Q kept u (c.loop-i.invariant.vars vs h) (subst Q (sym c.index-all-i.is) (h c.loop-i.i u c.loop-i-test.true)));
+                subst (AreOf vs) (sym items) (All-push Q kept u (c.loop-i.invariant.vars vs h) (subst Q (sym c.index-all-i.is) (h c.loop-i.i u c.loop-i-test.true)));
             same = λ m k i.
                 ap (λ (us : List Update). updates m (us ++ drop (c.loop-i.i + 1) c.args.all.now) k) items
                 ∙ kept_more k m kept c.args.all.now c.loop-i.i u c.loop-i-test.true c.index-all-i.is
