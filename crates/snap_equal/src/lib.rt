@@ -10,7 +10,6 @@ mod marks;
 mod names;
 mod orders;
 mod outs;
-mod overwritten;
 mod places;
 mod spelling;
 mod stop;
