@@ -54,7 +54,7 @@ field_senses-fit c d v name (Some n) h =
     let host : short (c + 1) < d = short-below (c + 1) d (omega (arith, h)) in
     ((net, host), (net, (host, tt)))
 
-Grows-append : (seen more : Arities) → Grows seen (seen ++ more)
+pub Grows-append : (seen more : Arities) → Grows seen (seen ++ more)
 Grows-append seen more = record { size = omega (arith, length-append seen more); kept = kept seen }
   where
     kept : (xs : Arities) (i n : ℕ) → slice_get xs i ≡ Some (Some n) → slice_get (xs ++ more) i ≡ Some (Some n)

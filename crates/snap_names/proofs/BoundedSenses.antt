@@ -139,7 +139,7 @@ atoms_behind-length e before (x ∷ xs) =
     IfOk-after (λ es. length es ≡ value_width e x) (λ es. length es ≡ length before + (value_width e x + width e xs)) (value_atoms e x) (λ es. atoms_behind e (before ++ es) xs) (value_atoms-length e x)
     (λ es k. IfOk-weaker (atoms_behind e (before ++ es) xs) (λ fs. length fs ≡ length (before ++ es) + width e xs) _ (λ fs l. omega (arith, l, k, length-append before es)) (atoms_behind-length e (before ++ es) xs))
 
-index-length : (e : Words) (xs : List Value) → IfOk (atoms_behind e [] xs) (λ es. length es ≡ width e xs)
+pub index-length : (e : Words) (xs : List Value) → IfOk (atoms_behind e [] xs) (λ es. length es ≡ width e xs)
 index-length e xs = IfOk-weaker (atoms_behind e [] xs) (λ es. length es ≡ 0 + width e xs) _ (λ es h. omega (arith, h)) (atoms_behind-length e [] xs)
 
 width_of-some : (r : Result Sense NameFault) → 1 ≤ width_of r
@@ -160,9 +160,9 @@ width-some e [] h = absurd (omega (arith, h))
 width-some e (x ∷ xs) h = omega (arith, value_width-some e x)
 
 -- the arities behind an array that is indexed with n atoms
-record IsSeen (before behind : Arities) (s n : ℕ) : Type 0 where
-  grows : Grows before behind
-  arity : slice_get behind s ≡ Some (Some n)
+pub record IsSeen (before behind : Arities) (s n : ℕ) : Type 0 where
+  pub grows : Grows before behind
+  pub arity : slice_get behind s ≡ Some (Some n)
 
 slice_get-set : (seen : Arities) (s n : ℕ) → s < length seen → slice_get (slice_set seen s (Some n)) s ≡ Some (Some n)
 slice_get-set [] s n h = absurd (omega (arith, h))
@@ -187,7 +187,7 @@ Grows-set seen s n e = record { size = longer seen s; kept = kept seen s e }
     kept (x ∷ xs) (suc i) e zero m h = h
     kept (x ∷ xs) (suc i) e (suc j) m h = kept xs i e j m h
 
-arity_seen-gives : (before : Arities) (s n at : ℕ) → s < length before → (o : Option (Option ℕ)) → slice_get before s ≡ o → IfOk (arity_seen before s n at o) (λ behind. IsSeen before behind s n)
+pub arity_seen-gives : (before : Arities) (s n at : ℕ) → s < length before → (o : Option (Option ℕ)) → slice_get before s ≡ o → IfOk (arity_seen before s n at o) (λ behind. IsSeen before behind s n)
 arity_seen-gives before s n at h None e = absurd (none_within before s h e)
   where
     none_within : (xs : Arities) (i : ℕ) → i < length xs → slice_get xs i ≡ None → ⊥

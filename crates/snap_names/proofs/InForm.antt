@@ -28,7 +28,7 @@ use Rattle.snap_names.proofs.DeclaredFields.{FieldsStand, declare-stands, ports-
 use Rattle.snap_names.proofs.Placed.{DeclWritten, SourceWritten}
 
 -- the number of atoms that an array was indexed with, from 1 to 8
-abbrev seen_or : Option (Option ℕ) → ℕ
+abbrev pub seen_or : Option (Option ℕ) → ℕ
 seen_or (Some (Some n)) = n
 seen_or _ = 1
 
@@ -38,7 +38,7 @@ arity_in seen s = max 1 (min 8 (seen_or (slice_get seen s)))
 from_1_to_8 : (seen : Arities) (s : ℕ) → (1 ≤ arity_in seen s) × (arity_in seen s ≤ 8)
 from_1_to_8 seen s = (omega arith, omega arith)
 
-greatest-bounds : (seen : Arities) (i n : ℕ) → slice_get seen i ≡ Some (Some n) → n ≤ greatest seen
+pub greatest-bounds : (seen : Arities) (i n : ℕ) → slice_get seen i ≡ Some (Some n) → n ≤ greatest seen
 greatest-bounds [] i n h = cc
 greatest-bounds (None ∷ seen) zero n h = absurd (wrong h)
   where
@@ -119,7 +119,7 @@ program-stands : (text : List ℕ) (s : SourceTree) (p : Program) → resolved t
 program-stands text s p e = subst (λ r. IfOk r (CoreStands (SourceWritten text s))) e (resolved-stands text s)
 
 -- What a tree is read as is bounded.
-IsBounded-resolved : (text : List ℕ) (s : SourceTree) (p : Program) → resolved text s ≡ Ok (core_program p) → IsBounded p
+pub IsBounded-resolved : (text : List ℕ) (s : SourceTree) (p : Program) → resolved text s ≡ Ok (core_program p) → IsBounded p
 IsBounded-resolved text s p e =
     let h : CoreStands (SourceWritten text s) (core_program p) = program-stands text s p e in
     record { few = h.few; fits = PolFits-core_policy (SourceWritten text s) (count p.fields) (length p.vars) h.seen p.body h.fits }

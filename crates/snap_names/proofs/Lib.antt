@@ -21,3 +21,11 @@ pub mod Resolving
 pub mod DeclaredFields
 pub mod Addresses
 pub mod Limited
+pub mod Faultless
+pub mod Filled
+pub mod FaultlessTrees
+pub mod FaultlessDeclared
+pub mod Readable
+pub mod ReadableTrees
+pub mod ReadableDeclared
+pub mod SpelledPrograms

@@ -2,6 +2,7 @@ pub mod Core
 pub mod Senses
 pub mod Reading
 pub mod Declarations
+pub mod Spells
 pub mod Parts
 pub mod Scopes
 pub mod Texts

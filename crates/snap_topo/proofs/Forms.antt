@@ -43,7 +43,7 @@ different-after seen (name ∷ names) apart none =
     subst (λ (ns : List (List ℕ)). IsDistinct bytes_eq ns) (append_assoc seen (name ∷ []) names)
     (different-step seen names name (is_switch seen name) refl apart none (different-after (seen ++ name ∷ []) names))
 
-different : (names : List (List ℕ)) → first_repeat names ≡ None → IsDistinct bytes_eq names
+pub different : (names : List (List ℕ)) → first_repeat names ≡ None → IsDistinct bytes_eq names
 unfolding IsDistinct
 different names none = different-after [] names tt none
 
@@ -229,7 +229,7 @@ find-step : (switches names : List (List ℕ)) (name : List ℕ) (b : Bool) → 
 find-step switches names name true is none = (is, none)
 find-step switches names name false is none = cc
 
-known-names : (switches names : List (List ℕ)) → find (is_unknown switches) names ≡ None → AllByRecursion (Known switches) names
+pub known-names : (switches names : List (List ℕ)) → find (is_unknown switches) names ≡ None → AllByRecursion (Known switches) names
 known-names switches [] none = tt
 known-names switches (name ∷ names) none =
     let parts = find-step switches names name (is_switch switches name) refl none in (parts.0, known-names switches names parts.1)

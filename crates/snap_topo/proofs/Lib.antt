@@ -1,8 +1,10 @@
+pub mod AnsweredTopology
 pub mod Forms
 pub mod NumberLemmas
 pub mod Numerals
 pub mod Pairs
 pub mod Ports
 pub mod Repeats
+pub mod SpelledTopology
 pub mod Stages
 pub mod TableLemmas

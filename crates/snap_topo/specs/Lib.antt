@@ -5,3 +5,4 @@ pub mod Listing
 pub mod Names
 pub mod Numbers
 pub mod Shape
+pub mod Spells
