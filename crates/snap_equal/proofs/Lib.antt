@@ -6,6 +6,7 @@ pub mod Making
 pub mod PacketCodes
 pub mod Holding
 pub mod Turning
+pub mod Overwriting
 pub mod AllPlaces
 pub mod Adding
 pub mod Differing

@@ -42,7 +42,7 @@ abbrev pub GoesBehind : List ℕ → Update → List Update → Type 0
 GoesBehind k u us = (n : Arrays) → updates (update n u k) us k ≡ update (updates n us k) u k
 
 module _ (k : List ℕ) (u : Update) (us : List Update) (i : ℕ) (w : Update) (l : i < length us) (is : w ≡ get_or us i w) where
-  cut : drop i us ≡ w ∷ drop (i + 1) us
+  pub cut : drop i us ≡ w ∷ drop (i + 1) us
   cut = rw add-one (drop-cons us i w l) ∙ ap (λ (x : Update). x ∷ drop (i + 1) us) (sym is)
 
   pub behind_more : ((n : Arrays) → update (update n w k) u k ≡ update (update n u k) w k) → GoesBehind k u (drop (i + 1) us) → GoesBehind k u (drop i us)

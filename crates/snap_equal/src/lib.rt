@@ -10,6 +10,7 @@ mod marks;
 mod names;
 mod orders;
 mod outs;
+mod overwritten;
 mod places;
 mod spelling;
 mod stop;

@@ -9,6 +9,7 @@ ghost use Rattle.snap_equal.specs.Told.{IsStop, On, Tells};
 
 use crate::held::same_along;
 use crate::orders::unmatched;
+use crate::overwritten::standing;
 use crate::places::reads_update;
 use crate::stop::Stop;
 use crate::tally::{difference, with_puts};
@@ -122,9 +123,9 @@ fn surely_same(
     }
 }
 
-/// Whether updates make the same of a store. Those that both do last, one by one, are let go before the rest is looked at,
-/// so that an order that makes no difference needs no test.
-pub(crate) fn same_stores(
+// Whether updates make the same of a store. Those that both do last, one by one, are let go before the rest is looked at,
+// so that an order that makes no difference needs no test.
+fn same_standing(
     alloc: Global,
     ctx: &Context,
     vars: u16,
@@ -142,4 +143,25 @@ pub(crate) fn same_stores(
         return Ok(true);
     }
     same_places(alloc, ctx, vars, left, right)
+}
+
+/// Whether updates make the same of a store. What others overwrite is let go first: beside a put all additions on its
+/// array would be looked at place by place.
+pub(crate) fn same_stores(
+    alloc: Global,
+    ctx: &Context,
+    vars: u16,
+    left: &[Update],
+    right: &[Update],
+) -> Result<bool, Stop>
+    requires few { vars ≤ 64 }
+    requires left { All (IsUpdate (length ctx.now.classes)) left.now }
+    requires right { All (IsUpdate (length ctx.now.classes)) right.now }
+    requires vars_left { AreOf vars left.now }
+    requires vars_right { AreOf vars right.now }
+    ensures { MatchResult result (Tells ctx.now (λ m k. updates m left.now k ≡ updates m right.now k)) (IsStop ctx.now vars) }
+{
+    let first = standing(alloc, ctx, left)?;
+    let second = standing(alloc, ctx, right)?;
+    same_standing(alloc, ctx, vars, &first, &second)
 }
