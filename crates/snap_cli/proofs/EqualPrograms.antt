@@ -7,7 +7,9 @@ use Rattle.snap_core.specs.Meaning.{eval}
 use Rattle.snap_core.specs.Inputs.{IsStore, IsPacket}
 use Rattle.snap_arena.specs.declared.node.Node.{Node}
 use Rattle.snap_fdd.specs.declared.leaf.Leaf.{Leaf}
+use Rattle.snap_fdd.specs.Diagrams.{diagram}
 use Rattle.snap_chain.specs.Late.{outcome}
+use Rattle.snap_equal.proofs.Comparable.{comparable}
 use Rattle.snap_equal.specs.Same.{CanBeCompared, DoApart, DoSame, MeanSame, SameOutcome, TellApart}
 use Rattle.snap_cli.specs.declared.refusal.Refusal.{Refusal}
 use Rattle.snap_cli.specs.declared.refusal.Refusal.TheVariants.{Differ, Race}
@@ -28,7 +30,10 @@ difference_told p q calm (Differ text) h = (calm, h)
 difference_told p q calm e h = subst (λ x. Compares p q (Err x)) (sym h) tt
 
 pub can_be_compared : (p : Program) (comps vars : ℕ) (ns : List (Node Leaf)) (d : ℕ) → comps ≡ count p.fields → vars ≡ length p.vars → HasWhole p ns d → CanBeCompared comps vars ns d
-can_be_compared p comps vars ns d c v w = rw (c, v) (record { below = w.1.below; bounds = w.1.bounds; calm = w.1.calm })
+can_be_compared p comps vars ns d c v w = rw (c, v) (record {
+  below = w.1.below;
+  fits = comparable (record { comps = count p.fields; vars = length p.vars }) (diagram ns d) w.1.bounds w.1.calm;
+})
 
 module _ (p q : Program) (ns os : List (Node Leaf)) (d e : ℕ) (alike : AreDeclaredAlike p q) (first : HasWhole p ns d) (second : HasWhole q os e) where
   packet_of : (k : List ℕ) → IsPacket (count p.fields) k → IsPacket (count q.fields) k

@@ -14,7 +14,7 @@ use Rattle.snap_build.specs.Races.{HasNoRace}
 use Rattle.snap_equal.specs.Inputs.{Space, IsUpdate, IsTest, IsComparable, space}
 use Rattle.snap_equal.specs.Same.{CanBeCompared}
 
-abbrev space_of : Sizes → Space
+abbrev pub space_of : Sizes → Space
 space_of s = record { comps = s.comps; vars = s.vars }
 
 test_is : (s : Sizes) (t : Test) → TestIn s t → IsTest (space_of s) t
@@ -25,10 +25,10 @@ test_is s (State v ix u) h = record { fits = (h.1.atoms, h.2); short = h.1.few; 
 update_is : (s : Sizes) (u : Update) → UpdateIn s u → IsUpdate s.comps u
 update_is s u h = record { index = h.index.atoms; short = h.index.few; op = h.op }
 
-comparable : (s : Sizes) (d : Diagram) → IsIn s d → HasNoRace d → IsComparable (space_of s) d
+pub comparable : (s : Sizes) (d : Diagram) → IsIn s d → HasNoRace d → IsComparable (space_of s) d
 comparable s (Only Race) h n = n
 comparable s (Only (Goes g)) h n = (h.0, λ i e l. update_is s _ (h.1 i e l), λ i e l. (h.1 i e l).var)
 comparable s (Asks t y n) h c = (test_is s t h.0, comparable s y h.1 c.0, comparable s n h.2 c.1)
 
 pub comparable_under : (v : View) (comps vars : ℕ) (ns : List (Node Leaf)) (d : ℕ) → length v.classes ≡ comps → CanBeCompared comps vars ns d → IsComparable (space v vars) (diagram ns d)
-comparable_under v comps vars ns d e h = rw e (comparable (record { comps = comps; vars = vars }) (diagram ns d) h.bounds h.calm)
+comparable_under v comps vars ns d e h = rw e h.fits

@@ -8,10 +8,9 @@ use Rattle.snap_core.specs.Inputs.{IsStore, IsPacket, IsInput}
 use Rattle.snap_core.specs.Meaning.{Meaning, eval}
 use Rattle.snap_arena.specs.declared.node.Node.{Node}
 use Rattle.snap_fdd.specs.declared.leaf.Leaf.{Leaf}
-use Rattle.snap_fdd.specs.Bounds.{IsIn}
 use Rattle.snap_fdd.specs.Diagrams.{diagram}
 use Rattle.snap_chain.specs.Late.{outcome}
-use Rattle.snap_build.specs.Races.{HasNoRace}
+use Rattle.snap_equal.specs.Inputs.{IsComparable}
 use Rattle.snap_equal.specs.declared.comparing.Compared.{Compared}
 use Rattle.snap_equal.specs.declared.comparing.Compared.TheVariants.{Same, Differ}
 
@@ -36,11 +35,10 @@ pub record TellApart (p q : Program) (m : Arrays) (k : List ℕ) : Type 0 where
   pub of : IsInput (count p.fields) (length p.vars) m k
   pub differ : SameOutcome (eval p.body m k) (eval q.body m k) → ⊥
 
--- a diagram over so many components and variables in which nothing races
+-- a diagram over so many components and variables in which nothing races, and whose indices have at most eight atoms
 pub record CanBeCompared (comps vars : ℕ) (ns : List (Node Leaf)) (d : ℕ) : Type 0 where
   pub below : d < length ns
-  pub bounds : IsIn (record { comps = comps; vars = vars }) (diagram ns d)
-  pub calm : HasNoRace (diagram ns d)
+  pub fits : IsComparable (record { comps = comps; vars = vars }) (diagram ns d)
 
 -- two diagrams do the same with a store and a packet
 abbrev pub DoSame : List (Node Leaf) → ℕ → List (Node Leaf) → ℕ → Arrays → List ℕ → Type 0
