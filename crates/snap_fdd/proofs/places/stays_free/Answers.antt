@@ -18,7 +18,7 @@ pub returns-in-Ask : goal.returns-in-Ask
 returns-in-Ask c =
     let l = subst (IsNodeOf c.args.nodes.now c.args.d) c.in-Ask.is c.look.ensures in
     let low = depth_le c.args.nodes.now c.count-arena.ensures.arena c.args.d c.requires.d.below in
-    let count : length c.facts-facts.result.now ≤ 2147483648 = omega (arith, c.if-facts-gt-MOST.false) in
+    let count : length c.facts-facts.result.now ≤ 2147483648 = omega (arith, c.len.ensures, c.if-len-gt-MOST.false) in
     let short : length c.args.ctx.now.facts + depth (diagram c.args.nodes.now c.args.d) ≤ 2 ^ 32
     = rw (sym c.facts-facts.ensures.facts) (omega (arith, low, count, c.if-d-gt-MOST.false)) in
     λ t. places_live c.args.groups.now c.args.ctx.now c.facts-facts.ensures.context c.in-Some.mark c.in-Ask.test _ _ (diagram c.args.nodes.now c.args.d) l.0

@@ -20,7 +20,7 @@ returns-in-Some-noted_mark c =
     let place = c.in-Some.place in
     let mark = c.in-Some-noted_mark.mark in
     let low = depth_le c.args.nodes.now c.count-arena.ensures.arena c.args.d c.requires.d in
-    let count : length c.facts.result.now ≤ 2 ^ 31 = omega (arith, c.if-facts-gt-MOST_FACTS.false) in
+    let count : length c.facts.result.now ≤ 2 ^ 31 = omega (arith, c.len.ensures, c.if-len-gt-MOST_FACTS.false) in
     let at : slice_get c.args.plan.now.tested.items place ≡ Some (Some mark)
     = subst (λ (marks : List (Option Tested)). slice_get marks place ≡ Some (Some mark)) c.deref-2.ensures.value c.in-Some-noted_mark.ensures in
     behind c.known.result (IsKnown c.args.ctx.now mark.comps mark.arrays) (IsKey c.args.plan.now c.args.nodes.now c.args.ctx.now c.args.d) place
