@@ -1,6 +1,6 @@
 -- A copy goes on by steps that only cross links, until one forks or delivers it, and what it is forked into is delivered.
 use Rattle.std.proofs.Common.{◌≡◌, ℕ, ◌<◌, ◌≤◌, List, [], ◌∷◌, ◌++◌, Option, Some, None, length, refl, sym, ap, subst, ◌∙◌, arith}
-use Rattle.std.specs.Prelude.{IsSome, slice_get, unwrap_or}
+use Rattle.std.specs.Prelude.{◌+◌, IsSome, slice_get, slice_index, unwrap_or}
 use Rattle.std.specs.List.{All}
 use Rattle.std.proofs.lemmas.Bool.{false≢true}
 use Rattle.std.proofs.lemmas.List.Elements.{All-head, All-nil, All-tail}
@@ -18,7 +18,7 @@ use Rattle.snap_rows.specs.Form.{IsInForm, comps, switch_count}
 use Rattle.snap_rows.specs.Home.{AtHome}
 use Rattle.snap_rows.specs.Rules.{IsValid}
 use Rattle.snap_rows.specs.Steps.{Arrives, IsSent}
-use Rattle.snap_rows.specs.Network.{Net, Happening, Crossed, happening}
+use Rattle.snap_rows.specs.Network.{Net, Happening, Crossed, Inject, happening}
 use Rattle.snap_rows.specs.Weight.{weight}
 use Rattle.snap_rows.proofs.Aims.{aim_lighter}
 use Rattle.snap_rows.proofs.Lighter.{lighter}
@@ -27,11 +27,11 @@ use Rattle.snap_net.specs.declared.flying.Flying.{Flying}
 use Rattle.snap_net.specs.declared.happened.Landed.{Landed}
 use Rattle.snap_net.specs.declared.happened.Moved.TheVariants as bare
 use Rattle.snap_net.specs.Flights.{spliced}
-use Rattle.snap_net.specs.Landings.{StepsAt, Becomes, ComesDown, Delivers, of_none, of_more, HasComeDown, Lands, LandsAt, LandsSomewhere, held as holding}
+use Rattle.snap_net.specs.Landings.{StepsAt, Becomes, ComesDown, Delivers, of_none, of_more, HasComeDown, HasComeThrough, Lands, LandsAt, LandsSomewhere, held as holding}
 use Rattle.snap_net.specs.Moves.{copies_in_flight, flights, moved_of}
-use Rattle.snap_net.specs.Shown.{Held, IsHeld, Shows, moving, store_of}
+use Rattle.snap_net.specs.Shown.{Held, IsDone, IsHeld, Nothing, Shows, moving, store_of}
 use Rattle.snap_net.specs.Travels.{Travels, stays, crosses, arrived}
-use Rattle.snap_net.proofs.Steps.{Left, has_stepped, moving_of, three}
+use Rattle.snap_net.proofs.Steps.{Left, done_fresh, fresh, has_stepped, held_fresh, moving_of, three, with_fresh}
 use Rattle.snap_net.proofs.Travelling.{has_gone}
 
 -- a copy at switch w with a head
@@ -166,3 +166,19 @@ has_come_down v held stores flying c a landed is lands arrives becomes left = by
         subst (λ y. HasComeDown (record v { flying = y ∷ xs }) (record v { stores = stores; flying = flying }) landed) (sym (some_injective _ _ e))
         (subst (λ fl. HasComeDown (record v { flying = c ∷ xs }) (record v { stores = stores; flying = fl }) landed) (sym rest)
         (comes_down v.tables held.valid held.form v.stores stores c a landed lands arrives becomes v.injected xs))
+
+-- a packet that is injected where nothing is in flight
+pub comes_through : (v : Held) → IsHeld v → v.flying ≡ [] → (p w : ℕ) (k : List ℕ) → port_at v.tables p ≡ Some w → length k ≡ comps v.tables → slice_index k 0 ≡ p → (stores : List Kept) (a : Action) (landed : Landed)
+    → LandsSomewhere v.tables v.stores (fresh v.injected w k) stores a → Arrives v.tables k a → Becomes k a landed → HasComeThrough p k v (record v { stores = stores; injected = v.injected + 1 }) landed
+comes_through v held none p w k at long first stores a landed lands arrives becomes =
+    let c = fresh v.injected w k in
+    let mid : Held = holding v.tables (v.injected + 1) v.stores (c ∷ []) in
+    let same : with_fresh v w k ≡ mid = ap (λ (l : List Flying). record v { injected = v.injected + 1; flying = l ++ c ∷ [] }) none in
+    record {
+      mid = mid;
+      tables = refl;
+      held = subst IsHeld same (held_fresh v held p w k at long);
+      done = subst (λ m. IsDone v (Inject p k) m Nothing) same (done_fresh v p w k at first);
+      down = subst (λ (l : List Flying). HasComeDown mid (record v { stores = stores; injected = v.injected + 1; flying = l }) landed) (sym none)
+          (comes_down v.tables held.valid held.form v.stores stores c a landed lands arrives becomes (v.injected + 1) []);
+    }

@@ -62,19 +62,25 @@ fresh number w k = record { number = number; at = w; head = Walk 0; packet = k }
 abbrev pub with_fresh : Held → ℕ → List ℕ → Held
 with_fresh v w k = record v { injected = v.injected + 1; flying = v.flying ++ fresh v.injected w k ∷ [] }
 
-pub held_fresh : (v : Held) → IsHeld v → (p w : ℕ) (k : List ℕ) → port_at v.tables p ≡ Some w → length k ≡ comps v.tables → IsHeld (with_fresh v w k)
-held_fresh v held p w k at long =
+-- a copy begins its walk at the switch of a port
+pub fresh_home : (v : Held) → IsHeld v → (p w : ℕ) → port_at v.tables p ≡ Some w → (w < switch_count v.tables) × AtHome v.tables w (Walk 0)
+fresh_home v held p w at =
     let i = port_entry v.tables.ports p w at in
     let place : w < switch_count v.tables = subst (λ w. w < switch_count v.tables) i.at (All-get (IsPortInForm v.tables) v.tables.ports i.place i.entry held.form.ports i.is).at in
     let home : IsSome (row_at v.tables w 0) = subst (λ w. IsSome (row_at v.tables w 0)) i.at (subst (λ o. IfSome o (PortKeeps v.tables Missing)) i.is (held.valid Missing (spot.Port i.place))) in
+    (place, home)
+
+pub held_fresh : (v : Held) → IsHeld v → (p w : ℕ) (k : List ℕ) → port_at v.tables p ≡ Some w → length k ≡ comps v.tables → IsHeld (with_fresh v w k)
+held_fresh v held p w k at long =
+    let home = fresh_home v held p w at in
     let x = fresh v.injected w k in
     record {
       form = held.form;
       valid = held.valid;
       stores = held.stores;
-      places = All-push (λ (c : Flying). c.at < switch_count v.tables) v.flying x held.places place;
+      places = All-push (λ (c : Flying). c.at < switch_count v.tables) v.flying x held.places home.0;
       packets = All-push (λ (c : Flying). length c.packet ≡ comps v.tables) v.flying x held.packets long;
-      homes = All-push (λ (c : Flying). AtHome v.tables c.at c.head) v.flying x held.homes home;
+      homes = All-push (λ (c : Flying). AtHome v.tables c.at c.head) v.flying x held.homes home.1;
     }
 
 pub done_fresh : (v : Held) (p w : ℕ) (k : List ℕ) → port_at v.tables p ≡ Some w → slice_index k 0 ≡ p → IsDone v (Inject p k) (with_fresh v w k) Nothing

@@ -9,14 +9,14 @@ use Rattle.snap_rows.specs.declared.head.Action.TheVariants.{Forward, Deliver, F
 use Rattle.snap_rows.specs.declared.head.Sent.{Sent}
 use Rattle.snap_rows.specs.Form.{switch_count}
 use Rattle.snap_rows.specs.Handles.{Handles}
-use Rattle.snap_rows.specs.Network.{Net, Happening, Leads, Step}
+use Rattle.snap_rows.specs.Network.{Net, Happening, Inject, Leads, Step}
 use Rattle.snap_net.specs.declared.flying.Flying.{Flying}
 use Rattle.snap_net.specs.declared.happened.Landed.{Landed}
 use Rattle.snap_net.specs.declared.happened.Landed.TheVariants.{Delivered, Forked}
 use Rattle.snap_net.specs.declared.happened.Moved.{Moved}
 use Rattle.snap_net.specs.declared.happened.Moved.TheVariants as bare
 use Rattle.snap_net.specs.Moves.{Changed, flights, moved_of}
-use Rattle.snap_net.specs.Shown.{Held, Shows, moving, store_of}
+use Rattle.snap_net.specs.Shown.{Held, IsDone, IsHeld, Nothing, Shows, moving, store_of}
 use Rattle.snap_net.specs.Travels.{Travels}
 
 -- switch w makes the step of a copy, which does this
@@ -53,6 +53,14 @@ ComesDown t s (Forked copies lost) s' = (owner : ℕ) × (fork : Net) × Lands t
 -- so it comes down from each state that was shown, and that leads to one that is shown now
 abbrev pub HasComeDown : Held → Held → Landed → Type 0
 HasComeDown old new landed = (s : Net) → Shows old s → (s' : Net) × ComesDown old.tables s landed s' × Shows new s'
+
+-- a packet was injected at a port, and its copy has come down
+pub record HasComeThrough (port : ℕ) (k : List ℕ) (old new : Held) (landed : Landed) : Type 0 where
+  pub mid : Held
+  pub tables : mid.tables ≡ old.tables
+  pub held : IsHeld mid
+  pub done : IsDone old (Inject port k) mid Nothing
+  pub down : HasComeDown mid new landed
 
 -- n packets were injected, and these copies are in flight
 abbrev pub held : Tables → ℕ → List Kept → List Flying → Held

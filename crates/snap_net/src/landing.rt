@@ -87,6 +87,21 @@ pub(crate) fn fly(
     }
 }
 
+/// Tells what becomes of a copy whose last step does this.
+#[inline(always)]
+pub(crate) fn become_of(gone: Flying, action: Action) -> Landed
+    requires { Ends action }
+    ensures { Becomes gone.packet action result }
+{
+    match action {
+        Action::Forward { .. } => unreachable!(),
+        Action::Deliver { .. } => Landed::Delivered {
+            packet: gone.packet,
+        },
+        Action::Fork { copies, lost } => Landed::Forked { copies, lost },
+    }
+}
+
 /// Takes out the first copy, and tells what becomes of it.
 pub(crate) fn put_down(flying: &mut Flights, action: Action) -> Landed
     requires some { 0 < length flying.old }
@@ -95,11 +110,5 @@ pub(crate) fn put_down(flying: &mut Flights, action: Action) -> Landed
     ensures becomes { (c : Flying) → slice_get flying.old 0 ≡ Some c → Becomes c.packet action result }
 {
     let gone = flying.remove(0);
-    match action {
-        Action::Forward { .. } => unreachable!(),
-        Action::Deliver { .. } => Landed::Delivered {
-            packet: gone.packet,
-        },
-        Action::Fork { copies, lost } => Landed::Forked { copies, lost },
-    }
+    become_of(gone, action)
 }

@@ -10,7 +10,7 @@ ghost use Rattle.snap_rows.specs.Network.{Net as State, start, whole, Inject, St
 ghost use Rattle.snap_net.specs.declared.flying.Flying.{Flying};
 ghost use Rattle.snap_net.specs.Flights.{spliced};
 ghost use Rattle.snap_net.specs.Travels.{HasTravelled, arrived};
-ghost use Rattle.snap_net.specs.Landings.{HasComeDown};
+ghost use Rattle.snap_net.specs.Landings.{HasComeDown, HasComeThrough};
 ghost use Rattle.snap_net.specs.Shown.{IsHeld, Shows, IsDone, Nothing, Tells, TellsMoved, Same, store_of};
 ghost use Rattle.snap_net.specs.Parts.{held_of};
 ghost use Rattle.snap_net.specs.Moves.{CanBeDone, HasStepped, HasMoved, HasUpdated, PlanAt};
@@ -21,7 +21,7 @@ use crate::fill::filled_stores;
 use crate::flights::Flights;
 use crate::flying::Flying;
 use crate::happened::{Happened, Landed, Moved};
-use crate::landing::{fly, put_down, step_at};
+use crate::landing::{become_of, fly, put_down, step_at};
 use crate::listing::{append, listing_at, listings, of_array, total};
 use crate::moves::{carry_out, frame_of, framed, move_on};
 use crate::parts::Parts;
@@ -299,6 +299,42 @@ impl Net {
         let action = fly(self.alloc, &self.tables, &mut self.stores, copy)?;
         // What it was forked into only crosses links to ports, which changes no store.
         Ok(put_down(&mut self.flying, action))
+    }
+
+    /// Injects a packet where nothing is in flight, and makes the steps of its copy and of those that it is forked into as
+    /// `land` does, until each is delivered. The copy stands in no list meanwhile. Where memory is short only the tables and
+    /// the count of packets are sure to stay.
+    ///
+    /// # Errors
+    ///
+    /// As `inject`.
+    pub fn inject_and_land(&mut self, port: u32, packet: Packet) -> Result<Landed, InjectFault>
+        requires rests { self.old.flying ≡ [] }
+        requires packet { length packet ≡ comps self.old.tables }
+        requires port { slice_index packet 0 ≡ port }
+        requires room { self.old.injected + 1 < 2 ^ 64 }
+        ensures through { IfOk result (HasComeThrough port packet self.old self.new) }
+        ensures rests { self.new.flying ≡ [] }
+        ensures tables { self.new.tables ≡ self.old.tables }
+        ensures count { OnOk result (self.new.injected ≡ self.old.injected + 1) }
+        ensures same_count { OnErr result (self.new.injected ≡ self.old.injected) }
+        ensures no_port { IfErr result (λ fault. fault ≢ InjectFault.NoMemory → port_at self.old.tables port ≡ None) }
+        ensures has_port { IfOk result (λ _. IsSome (port_at self.old.tables port)) }
+    {
+        let at = match self.tables.port_at(port as u64) {
+            Some(at) => at,
+            None => return Err(InjectFault::NoPort),
+        };
+        let number = self.injected;
+        let copy = Flying {
+            number,
+            at,
+            head: Head::Walk { node: 0 },
+            packet,
+        };
+        let action = fly(self.alloc, &self.tables, &mut self.stores, &copy)?;
+        self.injected = number + 1;
+        Ok(become_of(copy, action))
     }
 
     /// Makes a step of copy k, counted from 0, without a frame. A refusal leaves the network as it was, but for

@@ -1,11 +1,11 @@
 -- How copies in flight come to rest, by steps of the first copy.
-use Rattle.std.specs.Prelude.{◌≡◌, ℕ, Bool, true, Some, List, [], ◌∷◌, ◌++◌, slice_get, sum_by}
+use Rattle.std.specs.Prelude.{◌≡◌, ℕ, Bool, true, false, Some, List, [], ◌∷◌, ◌++◌, slice_get, sum_by}
 use Rattle.std.specs.List.{All}
 use Rattle.snap_rows.specs.declared.tables.Tables.{Tables}
-use Rattle.snap_rows.specs.Network.{Copy, Net, Event, Happening, Leads, Step, RunsCalmly, StepsFirst, packets_of}
+use Rattle.snap_rows.specs.Network.{Copy, Net, Event, Happening, Inject, Leads, Step, RunsCalmly, StepsFirst, packets_of}
 use Rattle.snap_rows.specs.Weight.{weight}
 use Rattle.snap_net.specs.declared.flying.Flying.{Flying}
-use Rattle.snap_net.specs.Shown.{Held, Shows}
+use Rattle.snap_net.specs.Shown.{Held, IsDone, Nothing, Shows}
 use Rattle.snap_net.specs.Travels.{Travels}
 use Rattle.snap_runs.specs.declared.frames.Frames.{Frames}
 use Rattle.snap_runs.specs.declared.tally.Tally.{Tally}
@@ -37,6 +37,10 @@ pub record Tallies (f : Frames) (t : Tables) (hops : Bool) (i : ℕ) (s' : Net) 
 -- From each state that was shown such steps lead to one that is shown now.
 abbrev pub HasSettled : Frames → Bool → (old new : Held) → Tally → Type 0
 HasSettled f hops old new y = (s : Net) → Shows old s → (s' : Net) × (hs : List Happening) × Settles old.tables s s' hs × Shows new s' × ((i : ℕ) → AreCopiesOf i s.flying → Tallies f old.tables hops i s' hs y)
+
+-- a packet was injected, and from there such steps were made, with no lines of links
+abbrev pub HasEntered : (port : ℕ) → List ℕ → (old new : Held) → Tally → Type 0
+HasEntered port k old new y = (mid : Held) × (mid.tables ≡ old.tables) × IsDone old (Inject port k) mid Nothing × ((f : Frames) → HasSettled f false mid new y)
 
 -- the first copy has gone on by steps that only cross links, which were noted
 abbrev pub HasPassed : Frames → Bool → (old new : Held) → (before after : Tally) → Type 0

@@ -1,18 +1,21 @@
 //! Copies in flight come to rest, by steps of the first copy.
 
-ghost use Rattle.std.specs.Prelude.{◌≡◌, ◌<◌, [], true, false, Some, slice_get, length, OnOk};
+ghost use Rattle.std.specs.Prelude.{◌≡◌, ◌≢◌, ◌<◌, ◌≤◌, ◌+◌, ◌^◌, [], None, true, false, IfErr, IsSome, Some, slice_get, slice_index, length, OnOk};
 ghost use Rattle.std.specs.List.{All};
+ghost use Rattle.snap_rows.specs.Entries.{port_at};
 ghost use Rattle.snap_rows.specs.Form.{comps};
 ghost use Rattle.snap_net.specs.declared.flying.Flying.{Flying};
 ghost use Rattle.snap_runs.specs.declared.frames.Frames.{Frames as Kind};
 ghost use Rattle.snap_runs.specs.Crossings.{NotesCrossed, NotesWay, left_in};
-ghost use Rattle.snap_runs.specs.Settling.{HasCrossed, HasGone, HasNoted, HasPassed, HasSettled};
+ghost use Rattle.snap_net.specs.declared.net.InjectFault.{InjectFault};
+ghost use Rattle.snap_runs.specs.Settling.{HasCrossed, HasEntered, HasGone, HasNoted, HasPassed, HasSettled};
 
 use crate::frames::Frames;
 use crate::tally::Tally;
 use snap_core::NoMemory;
+use snap_core::packet::Packet;
 use snap_net::happened::Moved;
-use snap_net::net::Net;
+use snap_net::net::{InjectFault, Net};
 
 /// Makes steps of the first copy until none is in flight, and notes what happened in the place of what the tally held. With
 /// `hops` a line tells each link that a copy crosses, by a frame of this kind. Refuses for memory alone.
@@ -27,6 +30,36 @@ pub fn settle(net: &mut Net, hops: bool, frames: Frames, tally: &mut Tally) -> R
     while net.flying() > 0 {
         go_on(net, hops, frames, tally)?;
     }
+    Ok(())
+}
+
+/// Injects a packet where nothing is in flight, makes steps of its copies until none is left, and notes what happened in the
+/// place of what the tally held, with no lines of links.
+///
+/// # Errors
+///
+/// `NoPort` exactly where the tables have no such port; `NoMemory` for want of memory.
+pub(crate) fn enter(
+    net: &mut Net,
+    port: u32,
+    packet: Packet,
+    tally: &mut Tally,
+) -> Result<(), InjectFault>
+    requires rests { net.old.flying ≡ [] }
+    requires packet { length packet ≡ comps net.old.tables }
+    requires port { slice_index packet 0 ≡ port }
+    requires room { net.old.injected + 1 < 2 ^ 64 }
+    ensures entered { OnOk result (HasEntered port packet net.old net.new tally.new) }
+    ensures long { OnOk result (All (λ k. length k ≡ comps net.old.tables) tally.new.delivered.items) }
+    ensures rests { net.new.flying ≡ [] }
+    ensures tables { net.new.tables ≡ net.old.tables }
+    ensures injected { net.new.injected ≤ net.old.injected + 1 }
+    ensures no_port { IfErr result (λ fault. fault ≢ InjectFault.NoMemory → port_at net.old.tables port ≡ None) }
+    ensures has_port { OnOk result (IsSome (port_at net.old.tables port)) }
+{
+    tally.clear();
+    let landed = net.inject_and_land(port, packet)?;
+    tally.note_landed(landed)?;
     Ok(())
 }
 

@@ -205,7 +205,23 @@ impl Tally {
         Ok(())
     }
 
-    fn deliver_all(&mut self, copies: Vec<Sent>) -> Result<(), NoMemory>
+    // One alone is popped, since a loop over a list that is owned costs more.
+    fn deliver_all(&mut self, mut copies: Vec<Sent>) -> Result<(), NoMemory>
+        ensures delivered { OnOk result (self.new.delivered.items ≡ self.old.delivered.items ++ packets_sent copies.items) }
+        ensures lost { self.new.lost ≡ self.old.lost }
+        ensures hops { self.new.hops.items ≡ self.old.hops.items }
+    {
+        if copies.len() != 1 {
+            return self.deliver_each(copies);
+        }
+        match copies.pop() {
+            Some(sent) => self.deliver(sent.packet),
+            None => unreachable!(),
+        }
+    }
+
+    #[inline(never)]
+    fn deliver_each(&mut self, copies: Vec<Sent>) -> Result<(), NoMemory>
         ensures delivered { OnOk result (self.new.delivered.items ≡ self.old.delivered.items ++ packets_sent copies.items) }
         ensures lost { self.new.lost ≡ self.old.lost }
         ensures hops { self.new.hops.items ≡ self.old.hops.items }

@@ -1,6 +1,6 @@
 //! A network over a file of packets, one after another, by the plain schedule.
 
-ghost use Rattle.std.specs.Prelude.{◌≡◌, ◌≤◌, ◌+◌, ◌<◌, ◌^◌, ◌++◌, ◌⊎◌, [], ℕ, List, Bool, length, slice_index, IfOk, IfSome, IsErrOf, OnOk, OnErr};
+ghost use Rattle.std.specs.Prelude.{◌≡◌, ◌≤◌, ◌+◌, ◌<◌, ◌^◌, ◌++◌, ◌⊎◌, [], ℕ, List, Bool, IsTrue, false, length, slice_index, IfOk, IfSome, IsErrOf, OnOk, OnErr};
 ghost use Rattle.std.specs.declared.option.Option.{Option as Maybe};
 ghost use Rattle.snap_core.specs.Arrays.{zero_arrays};
 ghost use Rattle.snap_io.specs.Causes.{HasCause, NoneFell, Rose};
@@ -20,7 +20,7 @@ ghost use Rattle.snap_runs.specs.Tracing.{Closes, Comes, ComesOn, Follows, Takes
 
 use crate::frames::Frames;
 use crate::packets::PacketLines;
-use crate::settle::settle;
+use crate::settle::{enter, settle};
 use crate::tail::put_end;
 use crate::tally::Tally;
 use snap_core::NoMemory;
@@ -241,6 +241,63 @@ impl Tracer {
     ///
     /// `Packets` with the line where the tables have no such port, and `NoMemory`.
     pub fn take_packet(&mut self, port: u32, packet: Packet, line: u64) -> Result<(), TraceFault>
+        requires packet { length packet ≡ comps self.old.net.tables }
+        requires port { slice_index packet 0 ≡ port }
+        requires room { self.old.net.injected < 2 ^ 63 }
+        ensures takes { TakesPacket line port packet self.old self.new result }
+        ensures tables { self.new.net.tables ≡ self.old.net.tables }
+        ensures hops { self.new.hops ≡ self.old.hops }
+        ensures frames { self.new.frames ≡ self.old.frames }
+        ensures injected { self.new.net.injected ≤ self.old.net.injected + 1 }
+    {
+        if self.is_bare() {
+            self.take_at_once(port, packet, line)
+        } else {
+            self.take_by_steps(port, packet, line)
+        }
+    }
+
+    // Whether no hops are told and nothing is in flight.
+    fn is_bare(&self) -> bool
+        ensures bare { IsTrue result → self.now.hops ≡ false }
+        ensures rests { IsTrue result → self.now.net.flying ≡ [] }
+    {
+        if self.hops {
+            return false;
+        }
+        if self.net.flying() > 0 {
+            return false;
+        }
+        true
+    }
+
+    // The same, where no hops are told and nothing is in flight.
+    fn take_at_once(&mut self, port: u32, packet: Packet, line: u64) -> Result<(), TraceFault>
+        requires packet { length packet ≡ comps self.old.net.tables }
+        requires port { slice_index packet 0 ≡ port }
+        requires room { self.old.net.injected < 2 ^ 63 }
+        requires bare { self.old.hops ≡ false }
+        requires rests { self.old.net.flying ≡ [] }
+        ensures takes { TakesPacket line port packet self.old self.new result }
+        ensures tables { self.new.net.tables ≡ self.old.net.tables }
+        ensures hops { self.new.hops ≡ self.old.hops }
+        ensures frames { self.new.frames ≡ self.old.frames }
+        ensures injected { self.new.net.injected ≤ self.old.net.injected + 1 }
+    {
+        let number = self.net.injected();
+        match enter(&mut self.net, port, packet, &mut self.tally) {
+            Ok(()) => {}
+            Err(InjectFault::NoPort) => return Err(TraceFault::Packets { line }),
+            Err(InjectFault::NoMemory) => return Err(TraceFault::NoMemory),
+        }
+        let fields = fields_of(&self.net);
+        self.tally.put_block(&mut self.text, fields, number + 1)?;
+        Ok(())
+    }
+
+    // The same, step by step.
+    #[inline(never)]
+    fn take_by_steps(&mut self, port: u32, packet: Packet, line: u64) -> Result<(), TraceFault>
         requires packet { length packet ≡ comps self.old.net.tables }
         requires port { slice_index packet 0 ≡ port }
         requires room { self.old.net.injected < 2 ^ 63 }

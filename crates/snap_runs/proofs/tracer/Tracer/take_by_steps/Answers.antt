@@ -2,7 +2,7 @@ use Rattle.std.proofs.Common.{◌+◌, refl, ap, subst, ◌∙◌}
 use Rattle.snap_rows.specs.declared.tables.Tables.{Tables}
 use Rattle.snap_runs.specs.Tallies.{IsBlockText}
 use Rattle.snap_runs.proofs.Settled.{has-taken}
-use Rattle.snap_runs.proofs.tracer.Tracer.take_packet.Goals as goal
+use Rattle.snap_runs.proofs.tracer.Tracer.take_by_steps.Goals as goal
 
 pub returns-clause-takes : goal.returns-clause-takes
 returns-clause-takes c =

@@ -1,7 +1,7 @@
 use Rattle.std.proofs.Common.{◌≡◌, ◌++◌}
 use Rattle.std.specs.Vec.Iter.{into_iter_items}
 use Rattle.snap_runs.specs.Tallies.{packets_sent}
-use Rattle.snap_runs.proofs.tally.Tally.deliver_all.Given as goal
+use Rattle.snap_runs.proofs.tally.Tally.deliver_each.Given as goal
 
 abbrev pub invariant-loop-sent : goal.invariant-loop-sent
 invariant-loop-sent l = record {

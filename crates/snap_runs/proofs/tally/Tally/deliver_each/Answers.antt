@@ -2,7 +2,7 @@ use Rattle.std.proofs.Common.{◌≡◌, [], ◌∷◌, ◌++◌, refl, sym, ap,
 use Rattle.std.proofs.lemmas.List.{nil_from_length}
 use Rattle.std.specs.Vec.Iter.{into_iter_items}
 use Rattle.snap_runs.specs.Tallies.{packets_sent}
-use Rattle.snap_runs.proofs.tally.Tally.deliver_all.Goals as goal
+use Rattle.snap_runs.proofs.tally.Tally.deliver_each.Goals as goal
 
 pub loop-sent-init : goal.loop-sent-init
 loop-sent-init c = record { delivered = ap (λ l. c.args.self.now.delivered.items ++ packets_sent l) c.into_iter-sent-iterator.ensures.into_iter_gives.0; lost = refl; hops = refl }
