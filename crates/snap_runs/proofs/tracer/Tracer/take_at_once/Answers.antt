@@ -1,4 +1,4 @@
-use Rattle.std.proofs.Common.{◌+◌, refl, ap, sym, subst}
+use Rattle.std.proofs.Common.{◌+◌, refl, ap, sym, subst, ◌∙◌}
 use Rattle.snap_rows.specs.declared.tables.Tables.{Tables}
 use Rattle.snap_runs.specs.Settling.{HasSettled}
 use Rattle.snap_runs.specs.Tallies.{IsBlockText}
