@@ -42,6 +42,7 @@ pub mod SameUses
 pub mod ScheduleLemmas
 pub mod ScheduleOnce
 pub mod ScheduleTraced
+pub mod SpelledSources
 pub mod SpelledUnder
 pub mod StatusLemmas
 pub mod TextLemmas

@@ -27,6 +27,7 @@ use Rattle.snap_cli.specs.Laws.{AnswersExactly, CompilesExactly, IsDue, IsExact,
 use Rattle.snap_cli.specs.Obs.{IsRunEnding}
 use Rattle.snap_cli.specs.Refusals.{Ending, status_of}
 use Rattle.snap_cli.specs.TablesOf.{TablesOf}
+use Rattle.snap_cli.proofs.SpelledSources.{SpellsProgram-ProgramOf, SpellsTopology-TopologyOf}
 
 -- ---- status 0
 pub refused_apart : (e : Refusal) → 0 ≡ status_of (Err e) → ⊥
@@ -152,7 +153,7 @@ module _ (exactly : AnswersExactly) where
           read = read_so;
           faithful = of.4.0;
           version = of.4.1;
-          given = record { the_program = of.3.the_program; the_topology = of.3.the_topology; whole = ap (λ (s : Spelled). s.stop) (sym read) ∙ r.0 };
+          given = record { the_program = SpellsProgram-ProgramOf (file_of files program) p of.3.the_program; the_topology = SpellsTopology-TopologyOf (file_of files topology) of.1 of.3.the_topology; whole = ap (λ (s : Spelled). s.stop) (sym read) ∙ r.0 };
           fits = subst (λ fs. All (IsPacket (count fs)) (spelled p.fields file).packets) fields (subst (λ (s : Spelled). All (IsPacket (count n.fields)) s.packets) read (fit n file));
           holds = subst (λ (s : Spelled). Holds n s.packets) read r.1;
         }

@@ -5,8 +5,10 @@ use Rattle.std.specs.declared.option.Option.{Option}
 use Rattle.snap_core.specs.declared.program.Program.{Program}
 use Rattle.snap_core.specs.Arrays.{zero_arrays}
 use Rattle.snap_io.specs.Files.{Files, file_of}
+use Rattle.snap_names.specs.Spells.{SpellsProgram}
 use Rattle.snap_dep.specs.Ranks.{IsRank}
 use Rattle.snap_topo.specs.declared.topology.Topology.{Topology}
+use Rattle.snap_topo.specs.Spells.{SpellsTopology}
 use Rattle.snap_route.specs.Walks.{IsDiameter, Linked}
 use Rattle.snap_rows.specs.declared.tables.Tables.{Tables}
 use Rattle.snap_rows.specs.Happenings.{commits}
@@ -30,9 +32,7 @@ use Rattle.snap_order.specs.Runs as turn_runs
 use Rattle.snap_words.specs.Commands.{Command, Order, changes, command_of, compile, in_turn, plain, rounds, schedule, trace}
 use Rattle.snap_cli.specs.Answers.{Answers}
 use Rattle.snap_cli.specs.Compile.{AreSpelled, version_of}
-use Rattle.snap_cli.specs.ProgramOf.{ProgramOf}
 use Rattle.snap_cli.specs.TablesOf.{TablesOf}
-use Rattle.snap_cli.specs.TopologyOf.{TopologyOf}
 
 -- A call for this command on these files answered 0, and wrote this.
 pub record Did (files : Files) (command : Command) (output : List ℕ) : Type 0 where
@@ -50,8 +50,8 @@ pub record Did (files : Files) (command : Command) (output : List ℕ) : Type 0 
 
 -- The files of `compile` spell this program and this topology, and all lines of a packets file are in form.
 pub record AreGiven (files : Files) (program topology : List ℕ) (packets : List ℕ) (p : Program) (t : Topology) : Type 0 where
-  pub the_program : ProgramOf (file_of files program) (Ok p)
-  pub the_topology : TopologyOf (file_of files topology) (Ok t)
+  pub the_program : SpellsProgram (file_of files program) p
+  pub the_topology : SpellsTopology (file_of files topology) t
   pub whole : (spelled p.fields packets).stop ≡ ended
 
 -- **The text is the report of a run, with hops or without. The report of the same run without hops is what one big switch does; and
