@@ -113,9 +113,7 @@ pub fn test_fits(groups: &Groups, ctx: &Context, test: &Test) -> bool
             *left < *right && *right < comps
         }
         Test::State { var, index, value } => {
-            (*var as usize) < groups.count()
-                && index_fits(index, comps)
-                && term_fits(*value, comps)
+            (*var as usize) < groups.count() && index_fits(index, comps) && term_fits(*value, comps)
         }
     }
 }
