@@ -1,12 +1,14 @@
 -- What words and files deserve is one.
-use Rattle.std.specs.Prelude.{◌≡◌, ◌⊎◌, ◌≤◌, ℕ, Bool, List, [], length, Result, Ok, Err, Some}
+use Rattle.std.specs.Prelude.{◌≡◌, ◌⊎◌, ◌↔◌, ◌≤◌, ℕ, Bool, List, [], length, Result, Ok, Err, Some}
 use Rattle.std.specs.declared.option.Option.{Option}
 use Rattle.std.specs.Io.KnownBytes.{Appends}
 use Rattle.snap_core.specs.declared.program.Program.{Program}
 use Rattle.snap_io.specs.Files.{Files, file_of}
 use Rattle.snap_topo.specs.declared.topology.Topology.{Topology}
+use Rattle.snap_topo.specs.Spells.{SpellsTopology}
 use Rattle.snap_route.specs.Tables.{Table}
 use Rattle.snap_names.specs.Declarations.{core_program}
+use Rattle.snap_names.specs.Spells.{SpellsProgram}
 use Rattle.snap_equal.specs.Same.{MeanSame}
 use Rattle.snap_rows.specs.declared.tables.Tables.{Tables}
 use Rattle.snap_trace.specs.declared.fault.TraceFault.{TraceFault}
@@ -30,6 +32,7 @@ use Rattle.snap_cli.specs.Refusals.{Ending, status_of, message_of}
 use Rattle.snap_cli.specs.Rounds.{RunsByRoundsTo}
 use Rattle.snap_cli.specs.Schedule.{SchedulesTo}
 use Rattle.snap_cli.specs.TablesOf.{TablesOf}
+use Rattle.snap_cli.specs.TopologyOf.{TopologyOf}
 
 -- one program, wherever its parts lie in memory, or one refusal
 abbrev pub IsSame : Result Program Refusal → Result Program Refusal → Type 0
@@ -40,6 +43,11 @@ IsSame a b = ⊥
 -- A text spells one program at most, or is refused for one reason at one place, and not both.
 abbrev pub SpellsOneProgram : Type 0
 SpellsOneProgram = (text : List ℕ) (a b : Result Program Refusal) → ProgramOf text a → ProgramOf text b → IsSame a b
+
+-- A text is read as a program, and as a topology, exactly where it spells them.
+pub record SourcesAreSpelled : Type 0 where
+  pub program : (text : List ℕ) (p : Program) → ProgramOf text (Ok p) ↔ SpellsProgram text p
+  pub topology : (text : List ℕ) (t : Topology) → TopologyOf text (Ok t) ↔ SpellsTopology text t
 
 -- both endings tell a race, or both tell a difference
 abbrev pub TellAlike : Ending → Ending → Type 0

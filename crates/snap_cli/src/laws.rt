@@ -1,7 +1,7 @@
 //! Laws of what words and files deserve, each the contract of a call that does nothing but name the laws below it.
 
 ghost use Rattle.snap_cli.specs.Answering.{ChangesAnswer, TracesAnswer};
-ghost use Rattle.snap_cli.specs.Laws.{AnswersExactly, ChangesExactly, ChecksExactly, CompilesExactly, DemosExactly, DeservesOneEnding, DeservesOneText, EqualsExactly, PlacementsAreSpelled, RoundsExactly, SchedulesExactly, SpellsOneProgram, TracesExactly, TurnsExactly};
+ghost use Rattle.snap_cli.specs.Laws.{AnswersExactly, ChangesExactly, ChecksExactly, CompilesExactly, DemosExactly, DeservesOneEnding, DeservesOneText, EqualsExactly, PlacementsAreSpelled, RoundsExactly, SchedulesExactly, SourcesAreSpelled, SpellsOneProgram, TracesExactly, TurnsExactly};
 
 use crate::deps::has_one_text;
 use snap_core::laws::has_one_listing;
@@ -21,6 +21,11 @@ pub fn spells_one_program()
     finds_once();
     yields_once();
 }
+
+/// A text is read as a program, and as a topology, exactly where it spells them, as the headline says it.
+pub fn sources_are_spelled()
+    ensures { SourcesAreSpelled }
+{}
 
 /// A command deserves one ending at most on its files, but that any store and packet on which a program races, or two
 /// differ, may be told, and one text, but that `compile` may write each faithful tables.
