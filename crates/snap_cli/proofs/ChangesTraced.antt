@@ -136,7 +136,7 @@ module _ (exactly : AnswersExactly) (compiles : CompilesExactly) (traces : Chang
       let t = read_tables exactly later tables packets report hops (changes lines) d in
       let first : Tables = t.0 in
       let file = file_of later packets in
-      let r = no_failure (traces d.words later tables packets lines hops first 0 d.shelf_before d.shelf_now d.out_before d.out_now (Some []) (Some report) d.err_before d.err_now d.err_old d.err_new d.said t.1 d.answers) in
+      let r = no_failure (traces d.0 later tables packets lines hops first 0 d.2.shelf_before d.2.shelf_now d.2.out_before d.2.out_now (Some []) (Some report) d.2.err_before d.2.err_now d.2.err_old d.2.err_new d.1 t.1 d.2.answers) in
       let end = reported later first lines packets hops r.0 r.1 r.3.status_is r.2 in
       let others : List Later = end.0 in
       let read = changes_read later first lines others end.1 in

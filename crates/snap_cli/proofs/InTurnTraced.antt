@@ -65,7 +65,7 @@ switch_report_once lists p ports ks a b h k =
 pub in_turn_ran : TurnsExactly → (later : Files) (tables packets : List ℕ) (lines : Option (List ℕ)) (hops : Bool) (report : List ℕ) → Did later (trace tables packets hops (in_turn lines)) report → (t : Tables) → TablesOf (file_of later tables) (Ok t)
     → ((spelled_for t (file_of later packets)).stop ≡ ended) × ((t.version ≡ 2) × IsTurnsReport t hops (option_map (file_of later) lines) (spelled_for t (file_of later packets)).packets report)
 in_turn_ran turns later tables packets lines hops report d t read =
-    let r = no_failure (turns d.words later tables packets lines hops t 0 d.shelf_before d.shelf_now d.out_before d.out_now (Some []) (Some report) d.err_before d.err_now d.err_old d.err_new d.said read d.answers) in
+    let r = no_failure (turns d.0 later tables packets lines hops t 0 d.2.shelf_before d.2.shelf_now d.2.out_before d.2.out_now (Some []) (Some report) d.2.err_before d.2.err_now d.2.err_old d.2.err_new d.1 read d.2.answers) in
     let ran = in_turn_reported t hops (file_of later packets) r.0 r.3.status_is later packets lines r.1 refl r.2 in
     (ran.1.0, (ran.0, subst (IsTurnsReport t hops (option_map (file_of later) lines) (spelled_for t (file_of later packets)).packets) (sym r.3.out) ran.1.1))
 

@@ -15,6 +15,7 @@ pub mod EqualPrograms
 pub mod InTurnLemmas
 pub mod InTurnOnce
 pub mod InTurnTraced
+pub mod NamedWords
 pub mod NetworkLemmas
 pub mod ObsLemmas
 pub mod ObsOnce

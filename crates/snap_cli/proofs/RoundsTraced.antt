@@ -34,7 +34,7 @@ by_rounds_reported files t packets hops ending text well (inr h) = (h.0, rounds_
 pub rounds_ran : RoundsExactly → (later : Files) (tables packets : List ℕ) (workers : ℕ) (hops : Bool) (report : List ℕ) → Did later (trace tables packets hops (rounds workers)) report → (t : Tables) → TablesOf (file_of later tables) (Ok t)
     → ((spelled_for t (file_of later packets)).stop ≡ ended) × ((t.version ≡ 2) × IsRoundReport t hops (spelled_for t (file_of later packets)).packets report)
 rounds_ran by_rounds later tables packets workers hops report d t read =
-    let r = no_failure (by_rounds d.words later tables packets workers hops t 0 d.shelf_before d.shelf_now d.out_before d.out_now (Some []) (Some report) d.err_before d.err_now d.err_old d.err_new d.said read d.answers) in
+    let r = no_failure (by_rounds d.0 later tables packets workers hops t 0 d.2.shelf_before d.2.shelf_now d.2.out_before d.2.out_now (Some []) (Some report) d.2.err_before d.2.err_now d.2.err_old d.2.err_new d.1 read d.2.answers) in
     let ran = by_rounds_reported later t packets hops r.0 r.1 r.3.status_is r.2 in
     let has = subst (HasRoundReport t hops (file_of later packets)) (sym r.3.out) ran.1 in
     (has.0, (ran.0, has.1))
@@ -53,6 +53,6 @@ rounds_as_plain exactly compiles by_rounds fit whole one traces alone lists file
 -- no number of workers stands in what is due
 pub rounds_alike : AnswersExactly → RoundsTraceAlike
 rounds_alike exactly later tables packets hops workers others report other d e =
-    let r = no_failure (exactly d.words later (trace tables packets hops (rounds workers)) 0 d.shelf_before d.shelf_now d.out_before d.out_now (Some []) (Some report) d.err_before d.err_now d.err_old d.err_new d.said d.answers) in
-    let s = no_failure (exactly e.words later (trace tables packets hops (rounds others)) 0 e.shelf_before e.shelf_now e.out_before e.out_now (Some []) (Some other) e.err_before e.err_now e.err_old e.err_new e.said e.answers) in
+    let r = no_failure (exactly d.0 later (trace tables packets hops (rounds workers)) 0 d.2.shelf_before d.2.shelf_now d.2.out_before d.2.out_now (Some []) (Some report) d.2.err_before d.2.err_now d.2.err_old d.2.err_new d.1 d.2.answers) in
+    let s = no_failure (exactly e.0 later (trace tables packets hops (rounds others)) 0 e.2.shelf_before e.2.shelf_now e.2.out_before e.2.out_now (Some []) (Some other) e.2.err_before e.2.err_now e.2.err_old e.2.err_new e.1 e.2.answers) in
     r.3.out ∙ same_text later tables packets hops (rounds others) r.1 s.1 (s.2.no_other_text r.1 r.2.has_text) ∙ sym s.3.out

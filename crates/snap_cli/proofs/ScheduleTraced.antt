@@ -24,7 +24,7 @@ reported_by t file lines Reports Refuses ending text (inr (none, inr (inr h))) w
 pub scheduled : SchedulesExactly → (later : Files) (tables packets lines : List ℕ) (hops : Bool) (report : List ℕ) → Did later (trace tables packets hops (schedule lines)) report → (t : Tables) → TablesOf (file_of later tables) (Ok t)
     → ((spelled_for t (file_of later packets)).stop ≡ ended) × IsScheduleReport t hops (spelled_for t (file_of later packets)).packets (lines_of (file_of later lines)) report
 scheduled schedules later tables packets lines hops report d t read =
-    let r = no_failure (schedules d.words later tables packets lines hops t 0 d.shelf_before d.shelf_now d.out_before d.out_now (Some []) (Some report) d.err_before d.err_now d.err_old d.err_new d.said read d.answers) in
+    let r = no_failure (schedules d.0 later tables packets lines hops t 0 d.2.shelf_before d.2.shelf_now d.2.out_before d.2.out_now (Some []) (Some report) d.2.err_before d.2.err_now d.2.err_old d.2.err_new d.1 read d.2.answers) in
     let file = file_of later packets in
     let got = reported_by t file (file_of later lines) (HasScheduleReport t hops file (file_of later lines)) (RefusesScheduleLine t file (file_of later lines)) r.0 r.1 r.2 r.3.status_is in
     (got.0.0, subst (IsScheduleReport t hops (spelled_for t file).packets (lines_of (file_of later lines))) (sym r.3.out) got.1)

@@ -85,15 +85,15 @@ pub plain_ran : TracesExactly → (later : Files) (tables packets : List ℕ) (h
     → ((spelled_for t (file_of later packets)).stop ≡ ended) × IsPlainReport t hops (spelled_for t (file_of later packets)).packets report
 plain_ran traces later tables packets hops report d t read =
     whole_report t hops (spelled_for t (file_of later packets)) report
-    (no_failure (traces d.words later tables packets hops t 0 d.shelf_before d.shelf_now d.out_before d.out_now (Some []) (Some report) d.err_before d.err_now d.err_old d.err_new d.said read d.answers))
+    (no_failure (traces d.0 later tables packets hops t 0 d.2.shelf_before d.2.shelf_now d.2.out_before d.2.out_now (Some []) (Some report) d.2.err_before d.2.err_now d.2.err_old d.2.err_new d.1 read d.2.answers))
 
 -- the bytes that a call with status 0 wrote are the text
 module _ (exactly : AnswersExactly) where
   ends_well : (files : Files) (command : Command) (output : List ℕ) → Did files command output → Ends files command (Ok tt)
   ends_well files command output d =
-      by (no_failure (exactly d.words files command 0 d.shelf_before d.shelf_now d.out_before d.out_now (Some []) (Some output) d.err_before d.err_now d.err_old d.err_new d.said d.answers))
+      by (no_failure (exactly d.0 files command 0 d.2.shelf_before d.2.shelf_now d.2.out_before d.2.out_now (Some []) (Some output) d.2.err_before d.2.err_now d.2.err_old d.2.err_new d.1 d.2.answers))
     where
-      by : (ending : Ending) × (text : List ℕ) × IsDue files command ending text × IsExact ending text 0 (Some []) (Some output) d.err_before d.err_now d.err_old d.err_new → Ends files command (Ok tt)
+      by : (ending : Ending) × (text : List ℕ) × IsDue files command ending text × IsExact ending text 0 (Some []) (Some output) d.2.err_before d.2.err_now d.2.err_old d.2.err_new → Ends files command (Ok tt)
       by (ending, text, due, exact) = subst (Ends files command) (ended_well ending exact.status_is) due.ends
 
   -- ---- what compile wrote
@@ -101,7 +101,7 @@ module _ (exactly : AnswersExactly) where
   compiled compiles files program topology placement on_demand output d =
       let t = (ends_well files (compile program topology placement on_demand) output d).1 in
       let of = t.1 in
-      by (no_failure (compiles d.words files program topology placement on_demand of.0 of.1 of.2 0 d.shelf_before d.shelf_now d.out_before d.out_now (Some []) (Some output) d.err_before d.err_now d.err_old d.err_new d.said of.3 d.answers))
+      by (no_failure (compiles d.0 files program topology placement on_demand of.0 of.1 of.2 0 d.2.shelf_before d.2.shelf_now d.2.out_before d.2.out_now (Some []) (Some output) d.2.err_before d.2.err_now d.2.err_old d.2.err_new d.1 of.3 d.2.answers))
     where
       by : {A B C D : Type 0} → (A × B × ((text : List ℕ) × IsCompiled files program topology placement on_demand text × Appends (Some []) (Some output) text)) ⊎ (◌≡◌ {A = ℕ} 0 10 × C × D) → IsCompiled files program topology placement on_demand output
       by (inl h) = subst (IsCompiled files program topology placement on_demand) (sym h.2.2) h.2.1

@@ -1,6 +1,7 @@
 -- **What is compiled and then traced is what one big switch does.**
-use Rattle.std.specs.Prelude.{◌≡◌, ◌⊎◌, ℕ, Bool, false, List, [], length, Ok, Some, None, option_map}
+use Rattle.std.specs.Prelude.{◌≡◌, ◌⊎◌, ℕ, Bool, true, false, List, [], ◌∷◌, length, codes, Ok, Some, None, option_map}
 use Rattle.std.specs.List.{All}
+use Rattle.std.specs.Str.{is_utf8}
 use Rattle.std.specs.declared.option.Option.{Option}
 use Rattle.snap_core.specs.declared.program.Program.{Program}
 use Rattle.snap_core.specs.Arrays.{zero_arrays}
@@ -30,14 +31,13 @@ use Rattle.snap_order.specs.Ordered as turning
 use Rattle.snap_order.specs.Rounds.{GoesByRounds}
 use Rattle.snap_order.specs.Runs as turn_runs
 use Rattle.snap_words.specs.Commands.{Command, Order, changes, command_of, compile, in_turn, plain, rounds, schedule, trace}
+use Rattle.snap_words.specs.Words.{is_name}
 use Rattle.snap_cli.specs.Answers.{Answers}
 use Rattle.snap_cli.specs.Compile.{AreSpelled, version_of}
 use Rattle.snap_cli.specs.TablesOf.{TablesOf}
 
--- A call for this command on these files answered 0, and wrote this.
-pub record Did (files : Files) (command : Command) (output : List ℕ) : Type 0 where
-  pub words : List (List ℕ)
-  pub said : command_of words ≡ Some command
+-- A call of these words on these files answered 0, and wrote this.
+pub record Wrote (files : Files) (words : List (List ℕ)) (output : List ℕ) : Type 0 where
   pub shelf_before : List ℕ → ℕ
   pub shelf_now : List ℕ → ℕ
   pub out_before : ℕ
@@ -47,6 +47,10 @@ pub record Did (files : Files) (command : Command) (output : List ℕ) : Type 0 
   pub err_old : Option (List ℕ)
   pub err_new : Option (List ℕ)
   pub answers : Answers words (Some files) 0 shelf_before shelf_now out_before out_now (Some []) (Some output) err_before err_now err_old err_new
+
+-- some words that name this command did
+abbrev pub Did : Files → Command → List ℕ → Type 0
+Did files command output = (words : List (List ℕ)) × (command_of words ≡ Some command) × Wrote files words output
 
 -- The files of `compile` spell this program and this topology, and all lines of a packets file are in form.
 pub record AreGiven (files : Files) (program topology : List ℕ) (packets : List ℕ) (p : Program) (t : Topology) : Type 0 where
@@ -141,6 +145,26 @@ abbrev pub TracesAsOneSwitch : Type 0
 TracesAsOneSwitch = (files later : Files) (program topology placement tables packets : List ℕ) (on_demand : Bool) (compiled report : List ℕ)
     → Did files (compile program topology placement on_demand) compiled
     → file_of later tables ≡ compiled → Did later (trace tables packets false plain) report
+    → TellsOneSwitch files program topology (file_of later packets) report
+
+-- the words of a call of `compile`, and of one of `trace` without options
+abbrev pub compile_words : (on_demand : Bool) → (program topology placement : List ℕ) → List (List ℕ)
+compile_words false program topology placement = codes "compile" ∷ program ∷ topology ∷ placement ∷ []
+compile_words true program topology placement = codes "compile" ∷ codes "--on-demand" ∷ program ∷ topology ∷ placement ∷ []
+
+abbrev pub trace_words : (tables packets : List ℕ) → List (List ℕ)
+trace_words tables packets = codes "trace" ∷ tables ∷ packets ∷ []
+
+-- a word that can name a file: it is UTF-8 and not empty, and doesn't begin with `-`
+abbrev pub CanName : List ℕ → Type 0
+CanName word = (is_utf8 word ≡ true) × (is_name word ≡ true)
+
+-- **The same by the words of both calls.**
+abbrev pub CallsTraceAsOneSwitch : Type 0
+CallsTraceAsOneSwitch = (files later : Files) (program topology placement tables packets : List ℕ) (on_demand : Bool) (compiled report : List ℕ)
+    → CanName program → CanName topology → CanName placement → CanName tables → CanName packets
+    → Wrote files (compile_words on_demand program topology placement) compiled
+    → file_of later tables ≡ compiled → Wrote later (trace_words tables packets) report
     → TellsOneSwitch files program topology (file_of later packets) report
 
 -- the schedule is calm for these packets, in the network of the tables of a file

@@ -2,7 +2,7 @@
 
 ghost use Rattle.std.specs.Prelude.{List, Option, ℕ};
 ghost use Rattle.snap_words.specs.Commands.{in_turn, plain, rounds, schedule};
-ghost use Rattle.snap_cli.specs.Headline.{LonePlacementsTraceInOrder, LoneTablesTraceInOrder, RoundsTraceAlike, RoundsTraceAsOneSwitch, RoundsTraceAsPlain, SchedulesTraceAsOneSwitch, TracesAsOneSwitch, TracesInOrder, TurnsTraceAsOneSwitch, TurnsTraceAsPlain};
+ghost use Rattle.snap_cli.specs.Headline.{CallsTraceAsOneSwitch, LonePlacementsTraceInOrder, LoneTablesTraceInOrder, RoundsTraceAlike, RoundsTraceAsOneSwitch, RoundsTraceAsPlain, SchedulesTraceAsOneSwitch, TracesAsOneSwitch, TracesInOrder, TurnsTraceAsOneSwitch, TurnsTraceAsPlain};
 ghost use Rattle.snap_cli.specs.Upgrades.{ChangesTraceAsOneSwitch, UpgradesTraceAsOneSwitch};
 
 use crate::laws::{
@@ -59,6 +59,14 @@ pub fn traces_as_one_switch()
 {
     orders_have_one_report();
     runs_trace_as_one_switch();
+}
+
+/// **So it is by the words of both calls**, `compile PROGRAM TOPOLOGY PLACEMENT` with `--on-demand` in front of the names or
+/// without, and `trace TABLES PACKETS`, where each name is a word that can name a file.
+pub fn calls_trace_as_one_switch()
+    ensures { CallsTraceAsOneSwitch }
+{
+    traces_as_one_switch();
 }
 
 /// **So does `trace --schedule`, where the schedule is calm:** each packet is injected when no copy is in flight.
