@@ -224,16 +224,25 @@ impl Marks {
     }
 }
 
+// The marks of the numbers that are reached, by their places.
+fn mark_each(nodes: &Nodes<Leaf>, reached: &Reached) -> Result<Vec<Mark>, NoMemory>
+    requires { All (λ d. d < length nodes.now) reached.now.ids.items }
+    ensures { IfOk result (λ noted. AreNoted IsMarkedBy nodes.now reached.now.ids.items noted.items) }
+{
+    let mut noted = Vec::with_capacity(nodes.allocator(), reached.ids.len())?;
+    for id in &reached.ids {
+        let next = next_mark(nodes, reached, &noted, *id);
+        noted.push(next)?;
+    }
+    Ok(noted)
+}
+
 /// The marks of the numbers that are reached from these. Refuses for memory alone.
 pub fn marks_from(nodes: &Nodes<Leaf>, roots: &[u64]) -> Result<Marks, NoMemory>
     requires { All (λ d. d < length nodes.now) roots.now }
     ensures { IfOk result (AreMarked nodes.now) }
 {
     let reached = reach_from(nodes, roots)?;
-    let mut noted = Vec::with_capacity(nodes.allocator(), reached.ids.len())?;
-    for id in &reached.ids {
-        let next = next_mark(nodes, &reached, &noted, *id);
-        noted.push(next)?;
-    }
+    let noted = mark_each(nodes, &reached)?;
     Ok(Marks { reached, noted })
 }

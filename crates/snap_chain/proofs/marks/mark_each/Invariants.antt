@@ -2,7 +2,7 @@
 use Rattle.std.proofs.Common.{◌≡◌, length}
 use Rattle.snap_fdd.specs.Reached.{AreNoted}
 use Rattle.snap_chain.specs.Marks.{IsMarkedBy}
-use Rattle.snap_chain.proofs.marks.marks_from.Given as goal
+use Rattle.snap_chain.proofs.marks.mark_each.Given as goal
 
 abbrev pub invariant-loop-id : goal.invariant-loop-id
 invariant-loop-id l = record {
