@@ -159,7 +159,8 @@ trace_words tables packets = codes "trace" ∷ tables ∷ packets ∷ []
 abbrev pub CanName : List ℕ → Type 0
 CanName word = (is_utf8 word ≡ true) × (is_name word ≡ true)
 
--- **The same by the words of both calls.**
+-- **By the words of both calls: `compile` answered 0, and `trace` with its output as the file of tables answered 0. Then what the
+-- second wrote is what one big switch does.**
 abbrev pub CallsTraceAsOneSwitch : Type 0
 CallsTraceAsOneSwitch = (files later : Files) (program topology placement tables packets : List ℕ) (on_demand : Bool) (compiled report : List ℕ)
     → CanName program → CanName topology → CanName placement → CanName tables → CanName packets
