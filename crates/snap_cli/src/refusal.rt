@@ -418,6 +418,7 @@ fn tell_tables<E: Sink>(err: &mut E, fault: NoTables) -> Result<(), WriteFailed>
 }
 
 impl Refusal<'_> {
+    /// The exit status, as the table of statuses has it. Takes no memory.
     pub fn status(&self) -> u8
         ensures { result ≡ status_of (Err self.now) }
     {

@@ -13,8 +13,7 @@ pub fn number(text: &[u8]) -> Option<u64>
 
 /// The number of the address that a text spells, as `10.0.6.1`: four numbers of one to three digits, each at most
 /// 255, of which the first stands for the highest byte.
-// Inlined into one large function, it would keep its numbers on the stack.
-#[inline(never)]
+#[inline(never)] // Inlined into one large function, it would keep its numbers on the stack.
 pub fn address(text: &[u8]) -> Option<u32>
     ensures { result ≡ address_of text.now }
 {

@@ -105,6 +105,7 @@ impl Pred {
 }
 
 impl Op {
+    /// Whether each component is below this number. Takes no memory.
     pub fn fits(self, comps: usize) -> bool
         ensures { IsTrue result ↔ OpFits comps self }
     {
@@ -116,6 +117,7 @@ impl Op {
 }
 
 impl Update {
+    /// Whether each component and each variable is below these numbers. Takes no memory.
     pub fn fits(&self, comps: usize, vars: usize) -> bool
         ensures { IsTrue result ↔ UpdateFits comps vars self.now }
     {
@@ -143,6 +145,7 @@ impl Pol {
 }
 
 impl Update {
+    /// The same update. Refuses for memory alone.
     pub fn copy(&self) -> Result<Update, NoMemory>
         ensures { IfOk result (λ copy. copy ≡ self.now) }
     {
@@ -166,6 +169,7 @@ pub fn copy_updates(alloc: Global, updates: &[Update]) -> Result<Vec<Update>, No
 }
 
 impl Test {
+    /// The same test. Refuses for memory alone.
     pub fn copy(&self) -> Result<Test, NoMemory>
         ensures { IfOk result (λ copy. copy ≡ self.now) }
     {

@@ -43,6 +43,7 @@ impl Model for Store {
 }
 
 impl Store {
+    /// Empty arrays: each place holds 0. Takes no memory.
     pub fn new(alloc: Global) -> Store
         ensures { arrays_of result ≡ zero_arrays }
     {
@@ -71,6 +72,7 @@ impl Store {
         Ok(())
     }
 
+    /// A store that holds the same. Refuses for memory alone.
     pub fn copy(&self) -> Result<Store, NoMemory>
         ensures { IfOk result (λ copy. arrays_of copy ≡ arrays_of self.now) }
     {

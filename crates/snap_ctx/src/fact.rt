@@ -34,6 +34,7 @@ impl Shared {
         }
     }
 
+    /// The test. Takes no memory.
     pub fn test(&self) -> &Test
         ensures { result.now ≡ self.now }
     {

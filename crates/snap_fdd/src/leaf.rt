@@ -25,12 +25,14 @@ impl Model for Outs {
 }
 
 impl Outs {
+    /// These outs, in this order.
     pub fn new(outs: Vec<Out>) -> Outs
         ensures { result ≡ outs.items }
     {
         Outs { outs }
     }
 
+    /// The outs, in order. Takes no memory.
     pub fn list(&self) -> &[Out]
         ensures { result.now ≡ self.now }
     {
@@ -61,12 +63,14 @@ impl Model for Updates {
 }
 
 impl Updates {
+    /// These updates, in this order.
     pub fn new(updates: Vec<Update>) -> Updates
         ensures { result ≡ updates.items }
     {
         Updates { updates }
     }
 
+    /// The updates, in order. Takes no memory.
     pub fn list(&self) -> &[Update]
         ensures { result.now ≡ self.now }
     {

@@ -56,7 +56,7 @@ fn behind_group(bytes: &[u8]) -> Option<&[u8]>
 }
 
 // Whether the bytes are an address.
-pub fn is_address(bytes: &[u8]) -> bool
+pub(crate) fn is_address(bytes: &[u8]) -> bool
     ensures { IsTrue result ↔ IsAddress bytes.now }
 {
     has_dots(bytes, 3)

@@ -10,7 +10,7 @@ use crate::bytes::{is_digit, is_figure_part, is_joint, is_letter, is_part};
 use crate::{Key, Kind, LexFault, Sign};
 
 // The bytes behind the first n.
-pub fn behind(bytes: &[u8], n: usize) -> &[u8]
+pub(crate) fn behind(bytes: &[u8], n: usize) -> &[u8]
     requires { n ≤ length bytes.now }
     ensures { result.now ≡ drop n bytes.now }
 {
@@ -18,7 +18,7 @@ pub fn behind(bytes: &[u8], n: usize) -> &[u8]
 }
 
 // How many bytes the word has.
-pub fn word_len(bytes: &[u8]) -> usize
+pub(crate) fn word_len(bytes: &[u8]) -> usize
     requires some { 0 < length bytes.now }
     requires first { is_letter (slice_index bytes.now 0) ≡ true }
     ensures word { IsWord bytes.now result }
@@ -38,7 +38,7 @@ pub fn word_len(bytes: &[u8]) -> usize
 }
 
 // How many bytes the figure has.
-pub fn figure_len(bytes: &[u8]) -> usize
+pub(crate) fn figure_len(bytes: &[u8]) -> usize
     requires some { 0 < length bytes.now }
     requires first { is_digit (slice_index bytes.now 0) ≡ true }
     ensures figure { IsFigure bytes.now result }
@@ -52,7 +52,7 @@ pub fn figure_len(bytes: &[u8]) -> usize
 }
 
 // How many bytes the comment has.
-pub fn comment_len(bytes: &[u8]) -> usize
+pub(crate) fn comment_len(bytes: &[u8]) -> usize
     requires some { 0 < length bytes.now }
     requires first { slice_index bytes.now 0 ≡ 35 }
     ensures { IsComment bytes.now result }
@@ -65,7 +65,7 @@ pub fn comment_len(bytes: &[u8]) -> usize
 }
 
 // The keyword that the word is.
-pub fn key_of(word: &[u8]) -> Option<Key>
+pub(crate) fn key_of(word: &[u8]) -> Option<Key>
     ensures { IsKeyOf word.now result }
 {
     match word {
@@ -86,7 +86,7 @@ pub fn key_of(word: &[u8]) -> Option<Key>
 }
 
 // Whether the first n bytes are digits.
-pub fn are_digits(bytes: &[u8], n: usize) -> bool
+pub(crate) fn are_digits(bytes: &[u8], n: usize) -> bool
     requires { n ≤ length bytes.now }
     ensures { IsTrue result ↔ AreDigits bytes.now n }
 {
@@ -99,7 +99,7 @@ pub fn are_digits(bytes: &[u8], n: usize) -> bool
 }
 
 // The longest sign, and its length.
-pub fn sign_at(bytes: &[u8]) -> Option<(Sign, usize)>
+pub(crate) fn sign_at(bytes: &[u8]) -> Option<(Sign, usize)>
     requires { 0 < length bytes.now }
     ensures { IsSignAt bytes.now result }
 {
@@ -127,7 +127,7 @@ pub fn sign_at(bytes: &[u8]) -> Option<(Sign, usize)>
 }
 
 // The token at the front, and its length.
-pub fn token_at(bytes: &[u8], at: u32) -> Result<(Kind, usize), LexFault>
+pub(crate) fn token_at(bytes: &[u8], at: u32) -> Result<(Kind, usize), LexFault>
     requires some { 0 < length bytes.now }
     requires no_blank { is_blank (slice_index bytes.now 0) ≡ false }
     requires no_comment { slice_index bytes.now 0 ≢ 35 }

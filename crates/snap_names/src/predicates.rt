@@ -27,7 +27,7 @@ impl Scope<'_> {
     /// Whether a tree is a predicate.
     #[cycle(predicates)]
     #[tactic(auto, unfolding(snap_parse::specs::Tree::single_tree, snap_parse::specs::Tree::policy_tree))]
-    pub fn is_predicate(&self, tree: &Single) -> bool
+    pub(crate) fn is_predicate(&self, tree: &Single) -> bool
         ensures { (lets : List CorePolicy) → AreBodies self.now.lets.items lets → result ≡ is_predicate (env_in self.now lets) (single_tree tree.now) }
     {
         match tree {
@@ -50,7 +50,7 @@ impl Scope<'_> {
     }
 
     #[cycle(predicates)]
-    pub fn both_is_predicate(&self, tree: &Both) -> bool
+    pub(crate) fn both_is_predicate(&self, tree: &Both) -> bool
         ensures { (lets : List CorePolicy) → AreBodies self.now.lets.items lets → result ≡ both_is_predicate (env_in self.now lets) (both_tree tree.now) }
     {
         match tree.parts.len() {
@@ -61,7 +61,7 @@ impl Scope<'_> {
     }
 
     #[cycle(predicates)]
-    pub fn either_is_predicate(&self, tree: &Either) -> bool
+    pub(crate) fn either_is_predicate(&self, tree: &Either) -> bool
         ensures { (lets : List CorePolicy) → AreBodies self.now.lets.items lets → result ≡ either_is_predicate (env_in self.now lets) (either_tree tree.now) }
     {
         match tree.parts.len() {
@@ -116,7 +116,7 @@ impl Scope<'_> {
 
     /// The fault at the first token of a tree that is no predicate.
     #[tactic(auto, unfolding(snap_parse::specs::Tree::single_tree))]
-    pub fn single_fault(&self, tree: &Single) -> NameFault
+    pub(crate) fn single_fault(&self, tree: &Single) -> NameFault
         ensures { result ≡ single_fault (words_of self.now) (single_tree tree.now) }
     {
         match tree {
@@ -139,7 +139,7 @@ impl Scope<'_> {
     }
 
     /// The same for operands joined by `&`.
-    pub fn both_fault(&self, tree: &Both) -> NameFault
+    pub(crate) fn both_fault(&self, tree: &Both) -> NameFault
         ensures { result ≡ both_fault (words_of self.now) (both_tree tree.now) }
     {
         if tree.parts.len() == 1 {
@@ -150,7 +150,7 @@ impl Scope<'_> {
     }
 
     /// The same for operands joined by `|`.
-    pub fn either_fault(&self, tree: &Either) -> NameFault
+    pub(crate) fn either_fault(&self, tree: &Either) -> NameFault
         ensures { result ≡ either_fault (words_of self.now) (either_tree tree.now) }
     {
         if tree.parts.len() == 1 {

@@ -14,7 +14,7 @@ use std::alloc::Global;
 pub const MAX_DEPTH: u32 = 128;
 
 // Where the token stands.
-pub fn span(token: Token) -> Span
+pub(crate) fn span(token: Token) -> Span
     ensures { result ≡ span_of token }
 {
     Span {
@@ -24,7 +24,7 @@ pub fn span(token: Token) -> Span
 }
 
 // The depth inside of what the token at `at` begins.
-pub fn deeper(depth: u32, at: u32) -> Result<u32, ParseFault>
+pub(crate) fn deeper(depth: u32, at: u32) -> Result<u32, ParseFault>
     requires { depth ≤ MAX_DEPTH }
     ensures { MatchResult result (λ inner. (inner ≡ depth + 1) × (inner ≤ MAX_DEPTH)) (λ e. (depth ≡ MAX_DEPTH) × (e ≡ ParseFault.TooDeep at)) }
 {
@@ -36,7 +36,7 @@ pub fn deeper(depth: u32, at: u32) -> Result<u32, ParseFault>
 }
 
 // The next token, if it's of this kind, and those behind it.
-pub fn next_if<'a>(tokens: &'a [Token], kind: Kind) -> Option<(Token, &'a [Token])>
+pub(crate) fn next_if<'a>(tokens: &'a [Token], kind: Kind) -> Option<(Token, &'a [Token])>
     ensures { IsNextIf kind tokens.now result }
 {
     let (token, rest) = tokens.split_first()?;
@@ -56,7 +56,7 @@ pub struct Parser {
 
 impl Parser {
     // The next token and those behind it; at the end, that it's unexpected.
-    pub fn next<'a>(&self, tokens: &'a [Token]) -> Result<(Token, &'a [Token]), ParseFault>
+    pub(crate) fn next<'a>(&self, tokens: &'a [Token]) -> Result<(Token, &'a [Token]), ParseFault>
         ensures { MatchResult result (λ x. tokens.now ≡ x.0 ∷ (x.1).now) (λ e. (tokens.now ≡ []) × (e ≡ ParseFault.Unexpected self.now.end)) }
     {
         match tokens.split_first() {
@@ -66,7 +66,7 @@ impl Parser {
     }
 
     // Where the next token begins, or the text ends.
-    pub fn place(&self, tokens: &[Token]) -> u32
+    pub(crate) fn place(&self, tokens: &[Token]) -> u32
         ensures { result ≡ place self.now.end tokens.now }
     {
         match tokens.first() {
@@ -76,7 +76,7 @@ impl Parser {
     }
 
     // The next token, which must be of this kind, and those behind it.
-    pub fn expect<'a>(
+    pub(crate) fn expect<'a>(
         &self,
         tokens: &'a [Token],
         kind: Kind,

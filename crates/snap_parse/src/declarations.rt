@@ -12,7 +12,7 @@ use snap_lex::{Key, Kind, Sign, Token};
 
 impl Parser {
     // Declarations and a policy, and nothing behind it.
-    pub fn program(&self, tokens: &[Token]) -> Result<Source, ParseFault>
+    pub(crate) fn program(&self, tokens: &[Token]) -> Result<Source, ParseFault>
         ensures { Answers result (run MAX_DEPTH self.now.end (at_decl []) tokens.now) }
     {
         let mut decls = Vec::new(self.alloc);

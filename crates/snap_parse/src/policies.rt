@@ -11,7 +11,7 @@ use snap_lex::{Key, Kind, Sign, Token};
 
 impl Parser {
     #[cycle(parser)]
-    pub fn policy<'a>(
+    pub(crate) fn policy<'a>(
         &self,
         tokens: &'a [Token],
         depth: u32,
@@ -194,7 +194,7 @@ impl Parser {
 
     // A policy between the bracket at `at`, which was read before, and the closing one.
     #[cycle(parser)]
-    pub fn enclosed<'a>(
+    pub(crate) fn enclosed<'a>(
         &self,
         at: u32,
         tokens: &'a [Token],

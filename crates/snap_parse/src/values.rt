@@ -26,7 +26,10 @@ fn literal_of(token: Token) -> Option<Literal>
 
 impl Parser {
     // A literal.
-    pub fn literal<'a>(&self, tokens: &'a [Token]) -> Result<(Literal, &'a [Token]), ParseFault>
+    pub(crate) fn literal<'a>(
+        &self,
+        tokens: &'a [Token],
+    ) -> Result<(Literal, &'a [Token]), ParseFault>
         ensures { ReadsLiteral self.now.end tokens.now result }
     {
         let (token, rest) = self.next(tokens)?;
@@ -37,7 +40,7 @@ impl Parser {
     }
 
     // A value.
-    pub fn value<'a>(&self, tokens: &'a [Token]) -> Result<(Value, &'a [Token]), ParseFault>
+    pub(crate) fn value<'a>(&self, tokens: &'a [Token]) -> Result<(Value, &'a [Token]), ParseFault>
         ensures shortens { Shortens tokens.now result }
         ensures reads { ReadsValue MAX_DEPTH self.now.end tokens.now result }
     {
@@ -72,7 +75,10 @@ impl Parser {
     }
 
     // The values in a name's places, from behind the first `[`.
-    pub fn places<'a>(&self, tokens: &'a [Token]) -> Result<(Vec<Value>, &'a [Token]), ParseFault>
+    pub(crate) fn places<'a>(
+        &self,
+        tokens: &'a [Token],
+    ) -> Result<(Vec<Value>, &'a [Token]), ParseFault>
         ensures shortens { KeepsOrShortens tokens.now result }
         ensures reads { ReadsPlaces MAX_DEPTH self.now.end tokens.now result }
     {
