@@ -1,39 +1,27 @@
--- Which program a text spells: the reading of its tree, a case for each form of a part, without faults and their order.
-use Rattle.std.specs.Prelude.{◌≡◌, ℕ, ◌+◌, ◌-◌, ◌%◌, ◌^◌, ◌≤◌, Bool, true, false, List, [], ◌∷◌, ◌++◌, length, codes, slice_get, Option, None, Some}
+-- Which program a tree reads as: a case for each form of a part, without faults and their order.
+use Rattle.std.specs.Prelude.{◌≡◌, ℕ, ◌-◌, ◌%◌, ◌^◌, ◌≤◌, Bool, true, false, List, [], ◌∷◌, ◌++◌, length, slice_get, Option, None, Some}
 use Rattle.std.specs.List.{list_any}
 use Rattle.std.specs.Map.{lookup}
 use Rattle.std.specs.Str.{bytes_eq}
 use Rattle.snap_core.specs.Figures.{number_of, address_of}
-use Rattle.snap_core.specs.Fields.{count, plain_field}
+use Rattle.snap_core.specs.Fields.{count}
 use Rattle.snap_core.specs.declared.policy.Atom.{Atom}
 use Rattle.snap_core.specs.declared.policy.Atom.TheVariants.{Num, Comp}
 use Rattle.snap_core.specs.declared.policy.Op.{Op}
 use Rattle.snap_core.specs.declared.policy.Op.TheVariants.{Put, Add}
-use Rattle.snap_core.specs.declared.program.Field.{Field}
 use Rattle.snap_core.specs.declared.program.Program.{Program}
-use Rattle.snap_lex.specs.declared.Token.{Token}
-use Rattle.snap_lex.specs.Lexemes.{SpellsTokens}
 use Rattle.snap_parse.specs.declared.tree.Span.{Span}
 use Rattle.snap_parse.specs.declared.tree.Literal.{Literal}
 use Rattle.snap_parse.specs.declared.tree.Literal.TheVariants as literals
 use Rattle.snap_parse.specs.declared.tree.Value.{Value}
 use Rattle.snap_parse.specs.declared.tree.Value.TheVariants as values
-use Rattle.snap_parse.specs.Grammar.{DerivesWithin}
 use Rattle.snap_parse.specs.Tree.{PolicyTree, policy_begin, policy_more, SequenceTree, sequence_begin, sequence_more, ChoiceTree, if_tree, plain_tree, EitherTree, either_begin, either_more, BothTree, both_begin, both_more, SingleTree, not_tree, id_tree, drop_tree, group_tree, atomic_tree, name_tree, test_tree, set_tree, bare_tree, array_test_tree, array_set_tree, up_tree, down_tree, array_add_tree, array_sub_tree, DeclTree, field_tree, array_tree, const_tree, let_tree, SourceTree}
 use Rattle.snap_names.specs.declared.scope.Sense.{Sense}
 use Rattle.snap_names.specs.declared.scope.Sense.TheVariants.{Plain, Split, Array, Constant, Policy}
 use Rattle.snap_names.specs.Core.{CorePolicy, id_test, drop_test, field_test, state_test, not_test, and_test, or_test, filter, set, change, par, seq, choice, atomic, core_policy, nodes, weight}
 use Rattle.snap_names.specs.Senses.{word, is_address, net, host, whole_test}
 use Rattle.snap_names.specs.Declarations.{is_known}
-
--- What is declared before a part of a text, each kind in order; and how many atoms each array is indexed with.
-pub record Scope : Type 0 where
-  pub text : List ℕ
-  pub atoms : ℕ → ℕ
-  pub fields : List Field
-  pub arrays : List (List ℕ)
-  pub lets : List CorePolicy
-  pub names : List (List ℕ × Sense)
+use Rattle.snap_names.specs.Spells.{Scope, senses, before_text}
 
 -- the name was declared as this
 abbrev pub Means : Scope → Span → Sense → Type 0
@@ -124,11 +112,6 @@ pub data IsLength (text : List ℕ) : Option Span → Option ℕ → Type 0 wher
   plain : IsLength text None None
   split : {t : Span} {n : ℕ} → number_of (word text t) ≡ Some n → 1 ≤ n → n ≤ 31 → IsLength text (Some t) (Some n)
 
--- what the names of a field stand for, whose components begin at c
-abbrev pub senses : ℕ → List ℕ → Option ℕ → List (List ℕ × Sense)
-senses c name None = (name, Plain c) ∷ []
-senses c name (Some n) = (name, Split c (c + 1) n) ∷ (name ++ codes ".net", Plain c) ∷ (name ++ codes ".host", Plain (c + 1)) ∷ []
-
 -- what a declaration declares, and what its names then stand for
 pub data Declares (e : Scope) : DeclTree → Scope → List (List ℕ × Sense) → Type 0 where
   field : {at : ℕ} {t : Span} {l : Option Span} {n : Option ℕ} → IsLength e.text l n → Declares e (field_tree at t l) (record e { fields = e.fields ++ record { name = word e.text t; prefix = n } ∷ [] }) (senses (count e.fields) (word e.text t) n)
@@ -140,17 +123,6 @@ pub data Declares (e : Scope) : DeclTree → Scope → List (List ℕ × Sense) 
 pub data DeclaresAll : Scope → List DeclTree → Scope → Type 0 where
   no_more : {e : Scope} → DeclaresAll e [] e
   one_more : {e d f : Scope} {t : DeclTree} {ts : List DeclTree} {names : List (List ℕ × Sense)} → Declares e t d names → list_any (λ x. is_known e.names x.0) names ≡ false → DeclaresAll (record d { names = e.names ++ names }) ts f → DeclaresAll e (t ∷ ts) f
-
--- Two plain fields are declared before the text.
-abbrev pub before_text : List ℕ → (ℕ → ℕ) → Scope
-before_text text atoms = record {
-  text = text;
-  atoms = atoms;
-  fields = plain_field (codes "inport") ∷ plain_field (codes "outport") ∷ [];
-  arrays = [];
-  lets = [];
-  names = (codes "inport", Plain 0) ∷ (codes "outport", Plain 1) ∷ [];
-}
 
 -- The tree of a text reads as this program, which passes no limit.
 pub record IsProgramOf (text : List ℕ) (s : SourceTree) (p : Program) : Type 0 where
@@ -165,12 +137,3 @@ pub record IsProgramOf (text : List ℕ) (s : SourceTree) (p : Program) : Type 0
   pub few_arrays : length p.vars ≤ 64
   pub few_nodes : nodes (core_policy p.body) ≤ 2000
   pub light : weight (core_policy p.body) ≤ 16777216
-
--- **The text has at most 262,144 bytes, and spells tokens that derive a tree, no more than 128 deep, which reads as this program.**
-pub record SpellsProgram (text : List ℕ) (p : Program) : Type 0 where
-  pub short : length text ≤ 262144
-  pub tokens : List Token
-  pub spelled : SpellsTokens text tokens
-  pub tree : SourceTree
-  pub derived : DerivesWithin 128 tokens tree
-  pub read : IsProgramOf text tree p

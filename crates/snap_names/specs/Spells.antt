@@ -82,14 +82,14 @@ changes var index op = change (record { var = var; index = index; op = op })
 
 mutual
   -- policy = sequence { "+" sequence }
-  pub data IsPolicy (e : Scope) (d : ℕ) : List Token → CorePolicy → List Token → Type 0 where
-    sequence : {ts rest : List Token} {p : CorePolicy} → IsSequence e d ts p rest → IsPolicy e d ts p rest
-    plus : {t : Token} {ts us rest : List Token} {p q : CorePolicy} → IsPolicy e d ts p (t ∷ us) → IsSign signs.Plus t → IsSequence e d us q rest → IsPolicy e d ts (par p q) rest
+  pub data IsPolicy (e : Scope) : ℕ → List Token → CorePolicy → List Token → Type 0 where
+    sequence : {d : ℕ} {ts rest : List Token} {p : CorePolicy} → IsSequence e d ts p rest → IsPolicy e d ts p rest
+    plus : {d : ℕ} {t : Token} {ts us rest : List Token} {p q : CorePolicy} → IsPolicy e d ts p (t ∷ us) → IsSign signs.Plus t → IsSequence e d us q rest → IsPolicy e d ts (par p q) rest
 
   -- sequence = choice { ";" choice }
-  pub data IsSequence (e : Scope) (d : ℕ) : List Token → CorePolicy → List Token → Type 0 where
-    choose : {ts rest : List Token} {p : CorePolicy} → IsChoice e d ts p rest → IsSequence e d ts p rest
-    semicolon : {t : Token} {ts us rest : List Token} {p q : CorePolicy} → IsSequence e d ts p (t ∷ us) → IsSign signs.Semicolon t → IsChoice e d us q rest → IsSequence e d ts (seq p q) rest
+  pub data IsSequence (e : Scope) : ℕ → List Token → CorePolicy → List Token → Type 0 where
+    choose : {d : ℕ} {ts rest : List Token} {p : CorePolicy} → IsChoice e d ts p rest → IsSequence e d ts p rest
+    semicolon : {d : ℕ} {t : Token} {ts us rest : List Token} {p q : CorePolicy} → IsSequence e d ts p (t ∷ us) → IsSign signs.Semicolon t → IsChoice e d us q rest → IsSequence e d ts (seq p q) rest
 
   -- choice = "if" either "then" policy "else" choice | either
   pub data IsChoice (e : Scope) : ℕ → List Token → CorePolicy → List Token → Type 0 where
@@ -97,14 +97,14 @@ mutual
     no_choice : {d : ℕ} {ts rest : List Token} {p : CorePolicy} → IsEither e d ts p rest → IsChoice e d ts p rest
 
   -- either = both { "|" both }, of predicates where there are more than one
-  pub data IsEither (e : Scope) (d : ℕ) : List Token → CorePolicy → List Token → Type 0 where
-    both : {ts rest : List Token} {p : CorePolicy} → IsBoth e d ts p rest → IsEither e d ts p rest
-    or : {t : Token} {ts us rest : List Token} {x y : CoreTest} → IsEither e d ts (filter x) (t ∷ us) → IsSign signs.Or t → IsBoth e d us (filter y) rest → IsEither e d ts (filter (or_test x y)) rest
+  pub data IsEither (e : Scope) : ℕ → List Token → CorePolicy → List Token → Type 0 where
+    both : {d : ℕ} {ts rest : List Token} {p : CorePolicy} → IsBoth e d ts p rest → IsEither e d ts p rest
+    or : {d : ℕ} {t : Token} {ts us rest : List Token} {x y : CoreTest} → IsEither e d ts (filter x) (t ∷ us) → IsSign signs.Or t → IsBoth e d us (filter y) rest → IsEither e d ts (filter (or_test x y)) rest
 
   -- both = single { "&" single }, likewise
-  pub data IsBoth (e : Scope) (d : ℕ) : List Token → CorePolicy → List Token → Type 0 where
-    single : {ts rest : List Token} {p : CorePolicy} → IsSingle e d ts p rest → IsBoth e d ts p rest
-    and : {t : Token} {ts us rest : List Token} {x y : CoreTest} → IsBoth e d ts (filter x) (t ∷ us) → IsSign signs.And t → IsSingle e d us (filter y) rest → IsBoth e d ts (filter (and_test x y)) rest
+  pub data IsBoth (e : Scope) : ℕ → List Token → CorePolicy → List Token → Type 0 where
+    single : {d : ℕ} {ts rest : List Token} {p : CorePolicy} → IsSingle e d ts p rest → IsBoth e d ts p rest
+    and : {d : ℕ} {t : Token} {ts us rest : List Token} {x y : CoreTest} → IsBoth e d ts (filter x) (t ∷ us) → IsSign signs.And t → IsSingle e d us (filter y) rest → IsBoth e d ts (filter (and_test x y)) rest
 
   -- single = "!" single | "id" | "drop" | "(" policy ")" | "atomic" "(" policy ")" | name
   --     | name "=" value | name "=" address "/" number | name "<-" value | name places | name places "=" value
@@ -149,9 +149,9 @@ pub data Declares (e : Scope) : List Token → Scope → List (List ℕ × Sense
   body_of_let : {t u v w : Token} {ts rest : List Token} {p : CorePolicy} → IsKey keys.Let t → u.kind ≡ kinds.Word → IsSign signs.OpenCurly v → IsPolicy e 127 ts p (w ∷ rest) → IsSign signs.CloseCurly w → Declares e (t ∷ u ∷ v ∷ ts) (record e { lets = e.lets ++ p ∷ [] }) ((bytes_of e.text u, Policy (length e.lets)) ∷ []) rest
 
 -- program = { declaration } policy, each declaration of names that no one before it declares
-pub data IsProgram (e : Scope) : List Token → Scope → CorePolicy → Type 0 where
-  policy : {ts : List Token} {p : CorePolicy} → IsPolicy e 128 ts p [] → IsProgram e ts e p
-  declaration : {d f : Scope} {ts rest : List Token} {names : List (List ℕ × Sense)} {p : CorePolicy} → Declares e ts d names rest → list_any (λ x. is_known e.names x.0) names ≡ false → IsProgram (record d { names = e.names ++ names }) rest f p → IsProgram e ts f p
+pub data IsProgram : Scope → List Token → Scope → CorePolicy → Type 0 where
+  policy : {e : Scope} {ts : List Token} {p : CorePolicy} → IsPolicy e 128 ts p [] → IsProgram e ts e p
+  declaration : {e d f : Scope} {ts rest : List Token} {names : List (List ℕ × Sense)} {p : CorePolicy} → Declares e ts d names rest → list_any (λ x. is_known e.names x.0) names ≡ false → IsProgram (record d { names = e.names ++ names }) rest f p → IsProgram e ts f p
 
 -- Two plain fields are declared before the text.
 abbrev pub before_text : List ℕ → (ℕ → ℕ) → Scope
