@@ -19,6 +19,7 @@ use Rattle.snap_names.specs.Core.{CorePolicy, filter}
 use Rattle.snap_names.specs.Senses.{word, is_address}
 use Rattle.snap_names.specs.Spells.{Scope}
 use Rattle.snap_names.specs.Spells as spells
+use Rattle.snap_names.proofs.SpelledTrees.{deeper}
 use Rattle.snap_names.proofs.TreeReadings as readings
 
 -- ---- values
@@ -28,44 +29,35 @@ literal-grown text t _ _ (spells.address a h) rest = (literals.Address (span_of 
 literal-grown text t _ _ (spells.yes a) rest = (literals.True (span_of t), grammar.true_literal t a, refl, refl)
 literal-grown text t _ _ (spells.no a) rest = (literals.False (span_of t), grammar.false_literal t a, refl, refl)
 
--- the token is a value of which this holds
-abbrev Value-grown : (Value → Type 0) → Token → List Token → Type 0
-Value-grown P t rest = (v : Value) × grammar.IsValue (t ∷ rest) v rest × P v
+-- the token is a value, of which this holds
+abbrev GrowsValue : (Value → Type 0) → Token → List Token → Type 0
+GrowsValue P t rest = (v : Value) × grammar.IsValue (t ∷ rest) v rest × P v
 
-number-grown : (e : Scope) (t : Token) (n : ℕ) (b : Bool) → spells.IsNumber e t n b → (rest : List Token) → Value-grown (λ v. readings.HasAtoms e v (Num n ∷ [])) t rest
+number-grown : (e : Scope) (t : Token) (n : ℕ) (b : Bool) → spells.IsNumber e t n b → (rest : List Token) → GrowsValue (λ v. readings.HasAtoms e v (Num n ∷ [])) t rest
 number-grown e t n b (spells.literal h) rest = let l = literal-grown e.text t n b h rest in (values.Literal l.0, grammar.literal_value l.1, readings.literal l.2)
 number-grown e t n b (spells.constant m) rest = (values.Name (span_of t), grammar.name_value t m.name, readings.constant m.declared)
 
-atoms-grown : (e : Scope) (t : Token) (xs : List Atom) → spells.HasAtoms e t xs → (rest : List Token) → Value-grown (λ v. readings.HasAtoms e v xs) t rest
+atoms-grown : (e : Scope) (t : Token) (xs : List Atom) → spells.HasAtoms e t xs → (rest : List Token) → GrowsValue (λ v. readings.HasAtoms e v xs) t rest
 atoms-grown e t _ (spells.number {n = n} {b = b} h) rest = number-grown e t n b h rest
 atoms-grown e t _ (spells.component m) rest = (values.Name (span_of t), grammar.name_value t m.name, readings.component m.declared)
 atoms-grown e t _ (spells.components m) rest = (values.Name (span_of t), grammar.name_value t m.name, readings.components m.declared)
 
-address-grown : (e : Scope) (t : Token) (x : ℕ) → spells.IsNumber e t x true → (rest : List Token) → Value-grown (λ v. readings.IsAddress e v x) t rest
+address-grown : (e : Scope) (t : Token) (x : ℕ) → spells.IsNumber e t x true → (rest : List Token) → GrowsValue (λ v. readings.IsAddress e v x) t rest
 address-grown e t x (spells.literal (spells.address a h)) rest = (values.Literal (literals.Address (span_of t)), grammar.literal_value (grammar.address_literal t a), readings.address h)
 address-grown e t x (spells.constant m) rest = (values.Name (span_of t), grammar.name_value t m.name, readings.constant_address m.declared)
 
 -- ---- places
-one_place : (e : Scope) (v : Value) (xs : List Atom) → readings.HasAtoms e v xs → readings.HaveAtoms e (v ∷ []) xs
-one_place e v xs h = subst (readings.HaveAtoms e (v ∷ [])) (append-nil xs) (readings.next_place h readings.no_place)
-
-places_rest-grown : (e : Scope) (ts : List Token) (xs : List Atom) (rest : List Token) → spells.HaveAtoms e ts xs rest → (vs : List Value) → (us : List Value) × grammar.IsPlacesRest vs ts (vs ++ us) rest × readings.HaveAtoms e us xs
+places_rest-grown : (e : Scope) (ts : List Token) (xs : List Atom) (rest : List Token) → spells.HaveAtoms e ts xs rest → (vs : List Value) → (v : Value) × (us : List Value) × grammar.IsPlacesRest vs ts (vs ++ v ∷ us) rest × readings.HaveAtoms e (v ∷ us) xs
 places_rest-grown e _ xs rest (spells.last {t = t} {v = v} {u = u} a h b) vs =
     let w = atoms-grown e v xs h (u ∷ rest) in
-    (w.0 ∷ [], grammar.places_more t u a w.1 b grammar.places_end, one_place e w.0 xs w.2)
+    (w.0, [], grammar.places_more t u a w.1 b grammar.places_end, subst (readings.HaveAtoms e (w.0 ∷ [])) (append-nil xs) (readings.next_place w.2 readings.no_place))
 places_rest-grown e _ _ rest (spells.next {t = t} {v = v} {u = u} {ts = ts} {xs = xs} {ys = ys} a h b more) vs =
     let w = atoms-grown e v xs h (u ∷ ts) in
     let r = places_rest-grown e ts ys rest more (vs ++ w.0 ∷ []) in
-    (w.0 ∷ r.0, grammar.places_more t u a w.1 b (subst (λ ws. grammar.IsPlacesRest (vs ++ w.0 ∷ []) ts ws rest) (append_assoc vs (w.0 ∷ []) r.0) r.1), readings.next_place w.2 r.2)
+    (w.0, r.0 ∷ r.1, grammar.places_more t u a w.1 b (subst (λ ws. grammar.IsPlacesRest (vs ++ w.0 ∷ []) ts ws rest) (append_assoc vs (w.0 ∷ []) (r.0 ∷ r.1)) r.2), readings.next_place w.2 r.3)
 
-places-grown : (e : Scope) (ts : List Token) (xs : List Atom) (rest : List Token) → spells.HaveAtoms e ts xs rest → (vs : List Value) × grammar.IsPlaces ts vs rest × readings.HaveAtoms e vs xs
-places-grown e _ xs rest (spells.last {t = t} {v = v} {u = u} a h b) =
-    let w = atoms-grown e v xs h (u ∷ rest) in
-    (w.0 ∷ [], grammar.places t u a w.1 b grammar.places_end, one_place e w.0 xs w.2)
-places-grown e _ _ rest (spells.next {t = t} {v = v} {u = u} {ts = ts} {xs = xs} {ys = ys} a h b more) =
-    let w = atoms-grown e v xs h (u ∷ ts) in
-    let r = places_rest-grown e ts ys rest more (w.0 ∷ []) in
-    (w.0 ∷ r.0, grammar.places t u a w.1 b r.1, readings.next_place w.2 r.2)
+some_places : (ts : List Token) (v : Value) (vs : List Value) (rest : List Token) → grammar.IsPlacesRest [] ts (v ∷ vs) rest → grammar.IsPlaces ts (v ∷ vs) rest
+some_places _ v vs rest (grammar.places_more t u a value b more) = grammar.places t u a value b more
 
 -- ---- a rule's first operand, and more at its end
 policy-one : (k : ℕ) (ts : List Token) (s : SequenceTree) (rest : List Token) → grammar.IsSequence 128 0 k ts s rest → (at : ℕ) × grammar.IsPolicy 128 0 k ts (policy_more (policy_begin at) s) rest
@@ -113,21 +105,18 @@ both-join : (k : ℕ) (ts : List Token) (q : BothTree) (us : List Token) (r : Bo
 both-join k _ _ _ r rest (grammar.both s more) b = grammar.both s (both_rest-join k _ _ _ _ r rest more b)
 
 -- ---- policies, where k parts are open and d more may be
-deeper : (k d : ℕ) → k + suc d ≡ 128 → suc k + d ≡ 128
-deeper k d h = omega (arith, h)
-
 below : (k d n : ℕ) → k + suc d ≡ 128 → 0 ≤ n → k < 128
 below k d n h l = omega (arith, h)
 
--- a part that derives a tree which reads as this
-abbrev Single-grown : Scope → ℕ → List Token → CorePolicy → List Token → Type 0
-Single-grown e k ts p rest = (s : SingleTree) × grammar.IsSingle 128 0 k ts s rest × readings.IsSingle e s p
+-- the tokens before the rest derive a part that reads as this
+abbrev GrowsSingle : Scope → ℕ → List Token → CorePolicy → List Token → Type 0
+GrowsSingle e k ts p rest = (s : SingleTree) × grammar.IsSingle 128 0 k ts s rest × readings.IsSingle e s p
 
 with_place : (e : Scope) (k : ℕ) (ts : List Token) (p : CorePolicy) (rest us : List Token) (var : ℕ) (index : List Atom) → spells.IsPlace e ts var index us
-    → ((t : Token) (ts : List Token) (vs : List Value) → t.kind ≡ kinds.Word → grammar.IsPlaces ts vs us → readings.IsPlace e (span_of t) vs var index → Single-grown e k (t ∷ ts) p rest) → Single-grown e k ts p rest
+    → ((t : Token) (ts : List Token) (vs : List Value) → t.kind ≡ kinds.Word → grammar.IsPlaces ts vs us → readings.IsPlace e (span_of t) vs var index → GrowsSingle e k (t ∷ ts) p rest) → GrowsSingle e k ts p rest
 with_place e k _ p rest us var index (spells.place {t = t} {ts = ts} m h size) f =
-    let r = places-grown e ts index us h in
-    f t ts r.0 m.name r.1 (record { array = m.declared; have = r.2; size = size })
+    let r = places_rest-grown e ts index us h [] in
+    f t ts (r.0 ∷ r.1) m.name (some_places ts r.0 r.1 us r.2) (record { array = m.declared; have = r.3; size = size })
 
 mutual
   policy-grown : (e : Scope) (d : ℕ) (ts : List Token) (p : CorePolicy) (rest : List Token) → spells.IsPolicy e d ts p rest → (k : ℕ) → k + d ≡ 128 → (q : PolicyTree) × grammar.IsPolicy 128 0 k ts q rest × readings.IsPolicy e q p
@@ -179,7 +168,7 @@ mutual
       let r = single-grown e d us (filter y) rest g k sum in
       (both_more l.0 r.0, both-join k ts l.0 (t ∷ us) _ rest l.1 (grammar.both_and t a r.1 grammar.both_end), readings.and l.2 r.2)
 
-  single-grown : (e : Scope) (d : ℕ) (ts : List Token) (p : CorePolicy) (rest : List Token) → spells.IsSingle e d ts p rest → (k : ℕ) → k + d ≡ 128 → Single-grown e k ts p rest
+  single-grown : (e : Scope) (d : ℕ) (ts : List Token) (p : CorePolicy) (rest : List Token) → spells.IsSingle e d ts p rest → (k : ℕ) → k + d ≡ 128 → GrowsSingle e k ts p rest
   single-grown e _ _ _ rest (spells.negation {d = d} {t = t} {ts = ts} {x = x} a h) k sum =
       let r = single-grown e d ts (filter x) rest h (suc k) (deeper k d sum) in
       (not_tree t.from r.0, grammar.not_single t a (below k d _ sum) r.1, readings.negation r.2)

@@ -140,7 +140,7 @@ more_singles e d _ s us ts rest t has before sign own p (readings.single r) = ab
 more_singles e d q s us ts rest t has before sign own _ (readings.and {x = x} {y = y} h k) = spells.and (before (filter x) h) sign (own (filter y) k)
 
 -- ---- policies, where k parts are open and d more may be
-deeper : (k d : ℕ) → k + suc d ≡ 128 → suc k + d ≡ 128
+pub deeper : (k d : ℕ) → k + suc d ≡ 128 → suc k + d ≡ 128
 deeper k d h = omega (arith, h)
 
 full : (k n : ℕ) → (0 ≤ n → k < 128) → k + 0 ≡ 128 → ⊥
