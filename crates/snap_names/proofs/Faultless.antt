@@ -1,4 +1,4 @@
--- What is read without a fault is read as `Spells` says.
+-- What is read without a fault is read as `TreeReadings` says.
 use Rattle.std.proofs.Common.{◌≡◌, ℕ, Bool, true, false, ◌==◌, List, [], ◌∷◌, ◌++◌, Option, None, Some, Ok, Err, IfOk, if◌then◌else◌, refl, sym, ap, ◌∙◌, subst, append_assoc, rules}
 use Rattle.std.proofs.lemmas.Bool.{eqb-true}
 use Rattle.std.proofs.lemmas.Result.{IfOk-weaker}
@@ -18,10 +18,11 @@ use Rattle.snap_names.specs.declared.fault.NameFault.{NameFault}
 use Rattle.snap_names.specs.declared.fault.NameFault.TheVariants.{Unknown, Wide, Kind, Prefix}
 use Rattle.snap_names.specs.Core.{CoreTest, field_test, filter, set, seq}
 use Rattle.snap_names.specs.Senses.{Words, after, or_fault, word, sense_of, literal, address_at, constant, constant_of, field_atom, array_atom, atom_of, address_literal, address_of_sense, split_address, split_of_sense, split_atoms, split_net, net_if, net, whole_test, split_test, test_of_sense, field_equals, set_of_sense, field_gets, value_atoms, atoms_of_sense, atoms_behind, array_of_sense}
-use Rattle.snap_names.specs.Spells.{Scope, Means, number, IsAddress, address, constant_address, HasAtoms, literal as a_literal, constant as a_constant, component, components, HaveAtoms, no_place, next_place, IsSingle, test, test_split, test_net, gets, gets_address, gets_split}
+use Rattle.snap_names.specs.Spells.{Scope}
 use Rattle.snap_names.specs.Reading.{Env}
 use Rattle.snap_names.proofs.BoundedSteps.{IfOk-after}
 use Rattle.snap_parse.specs.Tree.{test_tree, set_tree}
+use Rattle.snap_names.proofs.TreeReadings.{Means, number, IsAddress, address, constant_address, HasAtoms, literal as a_literal, constant as a_constant, component, components, HaveAtoms, no_place, next_place, IsSingle, test, test_split, test_net, gets, gets_address, gets_split}
 
 -- the names of a scope, and the bodies of its `let`s, as the reading with faults has them
 abbrev pub words : Scope → Words

@@ -1,4 +1,4 @@
--- A tree that is read without a fault is of a program as `Spells` says.
+-- A tree that is read without a fault is of a program as `TreeReadings` says.
 use Rattle.std.proofs.Common.{◌≡◌, ℕ, ◌+◌, ◌<◌, ◌≤◌, min, Bool, true, false, List, [], ◌∷◌, ◌++◌, length, slice_get, Option, None, Some, is_some, Result, Ok, Err, IfOk, if◌then◌else◌, ◌&&◌, nat_le, refl, sym, ap, ◌∙◌, subst, arith, le_refl, le_trans, length-append, ◌⊎◌, inl, inr}
 use Rattle.std.proofs.lemmas.Bool.{cases_lt, leb-true}
 use Rattle.std.proofs.lemmas.Result.{IfOk-weaker}
@@ -19,7 +19,7 @@ use Rattle.snap_names.specs.Core.{CorePolicy, nodes, weight}
 use Rattle.snap_names.specs.Senses.{Arities, after, word, number_at, literal, is_address}
 use Rattle.snap_names.specs.Reading.{read_policy}
 use Rattle.snap_names.specs.Declarations.{Declared, ports, env_of, is_known, field_names, short, field_senses, prefix_length, with_field, with_array, with_constant, with_let, declare, declare_all, CoreProgram, core_program, greatest, limited, resolved}
-use Rattle.snap_names.specs.Spells.{Scope, number, IsPolicy, IsLength, plain, split, senses, Declares, field, array, const, body_of_let, DeclaresAll, no_more, one_more, IsProgramOf}
+use Rattle.snap_names.specs.Spells.{Scope, senses}
 use Rattle.snap_names.proofs.BoundedCore.{PolicyFits, Grows, Grows-same, Grows-then}
 use Rattle.snap_names.proofs.BoundedDeclared.{DeclaredFits, declare-fits, ports-fit, env-fits, count-append, Grows-append}
 use Rattle.snap_names.proofs.BoundedReading.{read_policy-fits}
@@ -28,12 +28,13 @@ use Rattle.snap_names.proofs.Faultless.{literal-number, or_fault-is}
 use Rattle.snap_names.proofs.FaultlessTrees.{Agrees, Agrees-before, policy-reads}
 use Rattle.snap_names.proofs.Filled.{HasSequence, PolicyFilled, DeclFilled, SourceFilled}
 use Rattle.snap_names.proofs.InForm.{seen_or, greatest-bounds}
+use Rattle.snap_names.proofs.TreeReadings.{number, IsPolicy, IsLength, plain, split, Declares, field, array, const, body_of_let, DeclaresAll, no_more, one_more, IsProgramOf}
 
 -- what is declared, as a scope
 abbrev pub scope_of : List ℕ → (ℕ → ℕ) → Declared → Scope
 scope_of text atoms d = record { text = text; atoms = atoms; fields = d.fields; arrays = d.arrays; lets = d.lets; names = d.names }
 
--- A policy behind declarations is read as `Spells` says, where they are few.
+-- A policy behind declarations is read as `TreeReadings` says, where they are few.
 abbrev PolicyRead : List ℕ → (ℕ → ℕ) → Declared → PolicyTree → CorePolicy × Arities → Type 0
 PolicyRead text atoms d t x = Grows d.arities x.1 × (length d.arrays ≤ 64 → Agrees atoms x.1 → IsPolicy (scope_of text atoms d) t x.0)
 

@@ -1,4 +1,4 @@
--- A policy that is read without a fault is read as `Spells` says, where each array has as many atoms as were seen.
+-- A policy that is read without a fault is read as `TreeReadings` says, where each array has as many atoms as were seen.
 use Rattle.std.proofs.Common.{◌≡◌, ℕ, ◌-◌, ◌%◌, ◌^◌, ◌<◌, ◌≤◌, min, Bool, true, false, List, [], ◌∷◌, length, slice_get, Option, None, Some, Result, Ok, IfOk, IfSome, refl, sym, ap, ◌∙◌, subst, arith, le_trans, lt_of_lt_of_le}
 use Rattle.std.proofs.lemmas.Result.{IfOk-weaker}
 use Rattle.std.specs.Str.{bytes_eq}
@@ -16,12 +16,13 @@ use Rattle.snap_names.specs.declared.fault.NameFault.TheVariants.{Kind}
 use Rattle.snap_names.specs.Core.{CoreTest, not_test, and_test, or_test, state_test, CorePolicy, filter, set, change, par, seq, choice, atomic}
 use Rattle.snap_names.specs.Senses.{Arities, Place, after, or_fault, word, sense_of, constant, array_atom, field_equals, field_gets, array_of_sense, arity_seen, atoms_behind, width, place_of, place}
 use Rattle.snap_names.specs.Reading.{body_of, named, is_predicate, both_is_predicate, either_is_predicate, single_fault, both_fault, either_fault, Reading, TestReading, as_test, operand, joined, more, whole, whole_test, changed, tested, read_sequences, read_choices, read_choice, read_either, read_boths, read_both, read_singles, read_single, read_policy}
-use Rattle.snap_names.specs.Spells.{Scope, Means, HasAtoms, HaveAtoms, IsPlace, Changes, IsPolicy, sequence, plus, IsSequence, choose, semicolon, IsChoice, if_then, no_choice, IsEither, both, or, IsBoth, single, and, IsSingle, negation, identity, drop, group, undivided, body, is_one, test_array, put, up, down, add, sub}
+use Rattle.snap_names.specs.Spells.{Scope}
 use Rattle.snap_names.proofs.BoundedCore.{Grows, Grows-same, Grows-then}
 use Rattle.snap_names.proofs.BoundedSenses.{SenseFits, NamesFit, IsSeen, arity_seen-gives, index-length}
 use Rattle.snap_names.proofs.BoundedSteps.{AllByRecursion-lookup, IfOk-after, IfOk-both}
 use Rattle.snap_names.proofs.Faultless.{words, env, or_fault-is, sense_of-means, constant-atoms, array_atom-atoms, Behind, atoms_behind-atoms, field_equals-is, field_gets-is, array_of_sense-is}
 use Rattle.snap_names.proofs.Filled.{HasSequence, HasChoice, HasBoth, HasSingle, PolicyFilled, SequenceFilled, ChoiceFilled, EitherFilled, BothFilled, SingleFilled}
+use Rattle.snap_names.proofs.TreeReadings.{Means, HasAtoms, HaveAtoms, IsPlace, Changes, IsPolicy, sequence, plus, IsSequence, choose, semicolon, IsChoice, if_then, no_choice, IsEither, both, or, IsBoth, single, and, IsSingle, negation, identity, drop, group, undivided, body, is_one, test_array, put, up, down, add, sub}
 
 -- each array that was indexed has as many atoms
 abbrev pub Agrees : (ℕ → ℕ) → Arities → Type 0

@@ -21,6 +21,7 @@ pub mod Resolving
 pub mod DeclaredFields
 pub mod Addresses
 pub mod Limited
+pub mod TreeReadings
 pub mod Faultless
 pub mod Filled
 pub mod FaultlessTrees
@@ -28,4 +29,6 @@ pub mod FaultlessDeclared
 pub mod Readable
 pub mod ReadableTrees
 pub mod ReadableDeclared
+pub mod SpelledTrees
+pub mod GrownTrees
 pub mod SpelledPrograms

@@ -1,4 +1,4 @@
--- A value that `Spells` knows is read without a fault.
+-- A value that `TreeReadings` knows is read without a fault.
 use Rattle.std.proofs.Common.{◌≡◌, ℕ, true, ◌==◌, List, [], ◌∷◌, ◌++◌, length, Option, Some, Result, Ok, Err, if◌then◌else◌, refl, sym, ap, ◌∙◌, arith, append_assoc, length-append}
 use Rattle.std.proofs.lemmas.List.{append-nil}
 use Rattle.snap_core.specs.Figures.{number_of, address_of}
@@ -15,8 +15,9 @@ use Rattle.snap_names.specs.declared.fault.NameFault.{NameFault}
 use Rattle.snap_names.specs.declared.fault.NameFault.TheVariants.{Unknown, Wide, Kind, Prefix}
 use Rattle.snap_names.specs.Core.{field_test, set, seq}
 use Rattle.snap_names.specs.Senses.{after, or_fault, word, sense_of, literal, constant, constant_of, field_atom, array_atom, atom_of, address_at, split_address, address_of_sense, split_of_sense, split_atoms, net_if, net, host, whole_test, split_test, test_of_sense, field_equals, set_of_sense, field_gets, value_atoms, atoms_of_sense, atoms_behind, width_of, value_width, width}
-use Rattle.snap_names.specs.Spells.{Scope, Means, number, IsAddress, address, constant_address, HasAtoms, literal as a_literal, constant as a_constant, component, components, HaveAtoms, no_place, next_place}
+use Rattle.snap_names.specs.Spells.{Scope}
 use Rattle.snap_names.proofs.Faultless.{words}
+use Rattle.snap_names.proofs.TreeReadings.{Means, number, IsAddress, address, constant_address, HasAtoms, literal as a_literal, constant as a_constant, component, components, HaveAtoms, no_place, next_place}
 
 -- one step after another that gives something
 pub after-gives : {A B : Type 0} (r : Result A NameFault) (f : A → Result B NameFault) (x : A) → r ≡ Ok x → after r f ≡ f x

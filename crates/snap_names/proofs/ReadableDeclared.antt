@@ -1,4 +1,4 @@
--- A tree of a program that `Spells` knows is read without a fault.
+-- A tree of a program that `TreeReadings` knows is read without a fault.
 use Rattle.std.proofs.Common.{◌≡◌, ℕ, zero, suc, ◌+◌, ◌≤◌, Bool, true, false, List, [], ◌∷◌, ◌++◌, length, slice_get, Option, None, Some, is_some, Result, Ok, Err, IfOk, if◌then◌else◌, ◌&&◌, nat_le, refl, sym, ap, ◌∙◌, subst, arith, le_refl, le_trans, length-append}
 use Rattle.std.proofs.lemmas.Bool.{le-leb, le-ltb}
 use Rattle.std.specs.List.{list_any}
@@ -17,12 +17,13 @@ use Rattle.snap_names.specs.Core.{CorePolicy, core_policy, nodes, weight}
 use Rattle.snap_names.specs.Senses.{Arities, after, or_fault, word, number_at, literal, is_address}
 use Rattle.snap_names.specs.Reading.{read_policy}
 use Rattle.snap_names.specs.Declarations.{Declared, ports, env_of, is_known, field_names, field_senses, prefix_length, with_field, with_array, with_constant, with_let, declare, declare_all, core_program, greatest, capped, within, limited, resolved}
-use Rattle.snap_names.specs.Spells.{Scope, IsLength, plain, split, senses, Declares, field, array, const, body_of_let, DeclaresAll, no_more, one_more, before_text, IsProgramOf}
+use Rattle.snap_names.specs.Spells.{Scope, senses, before_text}
 use Rattle.snap_names.proofs.BoundedDeclared.{DeclaredFits, declare-fits, ports-fit, count-append}
 use Rattle.snap_names.proofs.FaultlessDeclared.{fields-known, senses-short}
 use Rattle.snap_names.proofs.FaultlessTrees.{Agrees}
 use Rattle.snap_names.proofs.Readable.{after-gives, literal-gives}
 use Rattle.snap_names.proofs.ReadableTrees.{Gives, policy-gives}
+use Rattle.snap_names.proofs.TreeReadings.{IsLength, plain, split, Declares, field, array, const, body_of_let, DeclaresAll, no_more, one_more, IsProgramOf}
 
 -- what a scope declares, behind these arities
 abbrev declared_of : Scope → Arities → Declared
