@@ -2,6 +2,7 @@
 use Rattle.std.proofs.Common.{◌≡◌, ◌≢◌, ℕ, zero, suc, ◌+◌, ◌-◌, ◌<◌, ◌≤◌, List, [], ◌∷◌, ◌++◌, length, true, false, ap, sym, ◌∙◌, subst, take, drop, arith, refl, get_or, length-append, length-take}
 use Rattle.std.specs.Prelude.{Bool, ◌&&◌, Option, None, MatchOption, IsTrue, ◌↔◌}
 use Rattle.std.proofs.Math.Seq.{get_or-append_seam}
+use Rattle.std.proofs.lemmas.Bool.{and_parts}
 use Rattle.std.proofs.lemmas.List.{get_or-take}
 use Rattle.snap_lex.specs.Bytes.{is_digit}
 use Rattle.snap_lex.specs.Address.{is_group, HasDots, last_group, next_group, IsAddress}
@@ -17,21 +18,13 @@ abbrev pub NoDot : List ℕ → Type 0
 NoDot [] = Unit {0}
 NoDot (b ∷ bs) = (b ≢ 46) × NoDot bs
 
-left_of : (a b : Bool) → (a && b) ≡ true → a ≡ true
-left_of true b e = refl
-left_of false b e = e
-
-right_of : (a b : Bool) → (a && b) ≡ true → b ≡ true
-right_of true b e = e
-right_of false b e = absurd (cc)
-
 pub group_no_dot : (g : List ℕ) → is_group g ≡ true → NoDot g
 group_no_dot [] h = tt
 group_no_dot (a ∷ []) h = (digit_no_dot a h, tt)
-group_no_dot (a ∷ b ∷ []) h = (digit_no_dot a (left_of _ _ h), (digit_no_dot b (right_of (is_digit a) _ h), tt))
+group_no_dot (a ∷ b ∷ []) h = (digit_no_dot a (and_parts _ _ h).0, (digit_no_dot b (and_parts (is_digit a) _ h).1, tt))
 group_no_dot (a ∷ b ∷ c ∷ []) h =
-    let two = left_of (is_digit a && is_digit b && is_digit c) _ h in
-    (digit_no_dot a (left_of _ _ (left_of (is_digit a && is_digit b) _ two)), (digit_no_dot b (right_of (is_digit a) _ (left_of (is_digit a && is_digit b) _ two)), (digit_no_dot c (right_of (is_digit a && is_digit b) _ two), tt)))
+    let two = (and_parts (is_digit a && is_digit b && is_digit c) _ h).0 in
+    (digit_no_dot a (and_parts _ _ (and_parts (is_digit a && is_digit b) _ two).0).0, (digit_no_dot b (and_parts (is_digit a) _ (and_parts (is_digit a && is_digit b) _ two).0).1, (digit_no_dot c (and_parts (is_digit a && is_digit b) _ two).1, tt)))
 group_no_dot (a ∷ b ∷ c ∷ d ∷ e) h = absurd (cc)
 
 record SameSplit (g h r s : List ℕ) : Type 0 where

@@ -8,11 +8,9 @@ use Rattle.std.proofs.lemmas.List.{take-append-drop}
 use Rattle.std.proofs.lemmas.List.Folds.{list_all-append}
 use Rattle.std.proofs.lemmas.Slice.Eq.{ends_is}
 use Rattle.std.specs.List.{position_or_len}
+use Rattle.std.proofs.lemmas.Option.{same_Some}
 use Rattle.snap_words.specs.Said.{are_among, is_among, is_among_or_none, said_among}
 use Rattle.snap_words.specs.Words.{Flag, Text, Told, Valued, Word, add, behind_dashes, behind_hyphen, changes_option, checked, end_of_options, flag_named, flag_word, flagged, has_names, is_same_option, name_word, nothing, option_named, option_with, option_word, schedule_option, tell, told_by, value_in, value_word, valued, with_names, word_of, workers_option}
-
-same_some : {A : Type 0} {x y : A} → Some x ≡ Some y → x ≡ y
-same_some e = cc
 
 -- ---- a value is the end of its word
 -- the word ends so
@@ -22,7 +20,7 @@ Ending w end = (front : Text) × (w ≡ front ++ end)
 cut_value : (text v : Text) (b : Bool) → cond b (Some (after_first (λ x. x == 61) text)) None ≡ Some v → Ending text v
 cut_value text v true e =
     let count : ℕ = position_or_len (λ x. x == 61) text + 1 in
-    (take count text, sym (take-append-drop count text) ∙ ap (λ end. take count text ++ end) (same_some e))
+    (take count text, sym (take-append-drop count text) ∙ ap (λ end. take count text ++ end) (same_Some _ _ e))
 cut_value text v false e = cc
 
 not_valued : (f : Option Flag) (p : Option Valued) (o : Valued) (v : Text) → unwrap_or (option_or (option_map flag_word f) (option_map option_word p)) name_word ≡ value_word o v → ⊥
@@ -97,20 +95,20 @@ module _ (all : List Text) where
   behind_value ws t u o v false leads one e fits = leads None (valued t o v) u e (fits_value t o v fits one)
 
   behind_word : (m : Word) (w : Text) (ws : List Text) (t u : Told) → word_of w ≡ m → Leads ws → Ends w → AllEnd ws → add m t w ws (tell ws) ≡ Some u → Fits t → Fits u
-  behind_word end_of_options w ws t u is leads one ends e fits = subst Fits (same_some e) (fits_more t ws fits (among_all ws ends))
+  behind_word end_of_options w ws t u is leads one ends e fits = subst Fits (same_Some _ _ e) (fits_more t ws fits (among_all ws ends))
   behind_word (flag_word f) w ws t u is leads one ends e fits = behind_flag ws t u f (t.flags f) leads e fits
   behind_word (option_word o) w ws t u is leads one ends e fits = leads (Some o) t u e fits
   behind_word (value_word o v) w ws t u is leads one ends e fits = let end = value_ends w o v is in behind_value ws t u o v (is_some (t.values o)) leads (one end.0 v end.1) e fits
   behind_word name_word w ws t u is leads one ends e fits = leads None (with_names t (w ∷ [])) u e (fits_more t (w ∷ []) fits (rw (one [] w refl) refl))
 
   tell_among : (ws : List Text) → AllEnd ws → Leads ws
-  tell_among [] ends None t u e fits = subst Fits (same_some e) fits
+  tell_among [] ends None t u e fits = subst Fits (same_Some _ _ e) fits
   tell_among [] ends (Some o) t u e fits = cc
   tell_among (w ∷ ws) ends None t u e fits = behind_word (word_of w) w ws t u refl (tell_among ws ends.1) ends.0 ends.1 e fits
   tell_among (w ∷ ws) ends (Some o) t u e fits = behind_value ws t u o w (is_some (t.values o)) (tell_among ws ends.1) (ends.0 [] w refl) e fits
 
   checked_same : (u t : Told) (b : Bool) → cond b (Some u) None ≡ Some t → u ≡ t
-  checked_same u t true e = same_some e
+  checked_same u t true e = same_Some _ _ e
   checked_same u t false e = cc
 
   told_among : (ws : List Text) (o : Option Told) (t : Told) → AllEnd ws → tell ws None nothing ≡ o → option_and_then checked o ≡ Some t → Fits t

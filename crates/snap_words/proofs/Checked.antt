@@ -8,7 +8,7 @@ use Rattle.snap_words.proofs.Cases.{Cases, cases, name_case, option_case, refuse
 use Rattle.snap_words.proofs.ClapForm.{after, met_of, read}
 
 -- ---- a bad name or value stays
-checked_bad : (t : Told) → has_names t ≡ false → checked t ≡ None
+pub checked_bad : (t : Told) → has_names t ≡ false → checked t ≡ None
 checked_bad t bad = rw bad refl
 
 and_bad : (a b c : Bool) → (a && c) ≡ false → ((a && b) && c) ≡ false

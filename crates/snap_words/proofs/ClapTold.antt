@@ -100,6 +100,3 @@ told_from ws f u text none same tells =
 
 pub checked-true : (u : Told) → has_names u ≡ true → checked u ≡ Some u
 checked-true u fine = rw fine refl
-
-pub checked-false : (u : Told) → has_names u ≡ false → checked u ≡ None
-checked-false u bad = rw bad refl

@@ -4,16 +4,13 @@ use Rattle.std.specs.Str.{IsUtf8, chars}
 use lib.Utf8.{encodes}
 use Rattle.std.proofs.lemmas.Str.{IsCharBoundary-after_ascii, IsUtf8-drop, encodes-chars}
 use Rattle.std.proofs.lemmas.Bool.{eqb-true}
+use Rattle.std.proofs.lemmas.Option.{same_Some}
 use Rattle.clap.specs.Lexer.{short_of, short_of_rest}
 use Rattle.snap_words.specs.Words.{Text}
 
 abbrev pub AllText : List Text → Type 0
 AllText [] = Unit {0}
 AllText (w ∷ ws) = IsUtf8 w × AllText ws
-
-module _ {A : Type 0} where
-  same_some : {x y : A} → Some x ≡ Some y → x ≡ y
-  same_some e = cc
 
 short_one : (b : Bool) (f : Text) → option_and_then short_of_rest (cond b (Some []) None) ≡ Some f → ⊥
 short_one true f e = cc
@@ -29,7 +26,7 @@ short_more x z zs f false c one two text e = absurd (cc)
 short_more x z zs f true true one two text e = absurd (let g : None ≡ Some f = sym (rw two refl) ∙ e in cc)
 short_more x z zs f true false one two text e =
     let g : Some (z ∷ zs) ≡ Some f = sym (rw two refl) ∙ e in
-    (let P : Text → Type 0 = λ t. IsUtf8 t in subst P (same_some g) (after_hyphen x z zs one text), λ none. let h : z ∷ zs ≡ [] = same_some g ∙ none in cc)
+    (let P : Text → Type 0 = λ t. IsUtf8 t in subst P (same_Some _ _ g) (after_hyphen x z zs one text), λ none. let h : z ∷ zs ≡ [] = same_Some _ _ g ∙ none in cc)
 
 pub short_text : (w f : Text) → IsUtf8 w → short_of w ≡ Some f → IsUtf8 f × ((f ≡ []) → ⊥)
 short_text [] f text e = absurd (cc)

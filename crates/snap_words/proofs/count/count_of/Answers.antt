@@ -2,13 +2,10 @@ use Rattle.std.proofs.Common.{◌≡◌, ◌∙◌, decimal, Ok, arith, sym, ap,
 use Rattle.std.proofs.lemmas.Fmt.{parse-decimal}
 use Rattle.std.proofs.lemmas.Slice.Eq.{bytes_eq-Decides}
 use Rattle.std.specs.Str.{bytes_eq}
+use Rattle.std.proofs.lemmas.Bool.{not-false}
 use Rattle.snap_words.proofs.Counts.{count_of-decimal, count_of-none}
 use Rattle.snap_words.proofs.count.count_of.Goals as goal
 use Rattle.snap_words.proofs.count.count_of.Goals.{then-value-eq0-via-then-value-eq0, then-value-eq0-via-else-value-eq0+then-value-gt64, then-value-eq0-via-else-value-eq0+else-value-gt64+then-ne}
-
-not_false : (b : Bool) → not b ≡ false → b ≡ true
-not_false true e = cc
-not_false false e = sym e
 
 pub returns-in_default : goal.returns-in_default
 returns-in_default c = sym (count_of-none c.args.text.now (λ n least most is. c.in_default.not-Ok n (parse-decimal 16 n c.args.text.now _ (omega arith) (omega arith) is c.parse.ensures.value.0)))
@@ -26,6 +23,6 @@ returns-then-value-eq0 c = sym (count_of-none c.args.text.now (λ n least most i
 
 pub returns : goal.returns
 returns c =
-    let equal : bytes_eq c.format-printed.result.now c.args.text.now ≡ true = not_false _ (sym c.ne.ensures ∙ c.if-ne.false) in
+    let equal : bytes_eq c.format-printed.result.now c.args.text.now ≡ true = not-false _ (sym c.ne.ensures ∙ c.if-ne.false) in
     let printed = (bytes_eq-Decides c.format-printed.result.now c.args.text.now).0 equal in
     sym (count_of-decimal c.args.text.now c.in-Ok.value (omega arith) (omega arith) (sym printed ∙ c.format-printed.ensures.text))

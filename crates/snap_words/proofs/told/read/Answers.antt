@@ -3,8 +3,9 @@ use Rattle.std.proofs.lemmas.Result.{err_from_is_err_and}
 use Rattle.clap.specs.Words.{found_of}
 use Rattle.snap_words.specs.Said.{lent, said}
 use Rattle.snap_words.specs.Words.{Told}
-use Rattle.snap_words.proofs.ClapTold.{Tells, checked-false, checked-true, clap_err, told_from}
+use Rattle.snap_words.proofs.ClapTold.{Tells, checked-true, clap_err, told_from}
 use Rattle.snap_words.proofs.told.read.Goals as goal
+use Rattle.snap_words.proofs.Checked.{checked_bad}
 
 pub returns-in_err-matches-clause-usage : goal.returns-in_err-matches-clause-usage
 returns-in_err-matches-clause-usage c =
@@ -39,4 +40,4 @@ returns-clause-usage c = λ usage.
       names = c.in_ok-names_in.ensures;
     } in
     let same = told_from (lent c.args.words.now) (found_of c.in_ok-matches.matches) t c.requires c.in_ok-matches.ensures.ok.0 c.in_ok-matches.ensures.ok.1 tells in
-    same ∙ checked-false t (sym c.has_names.ensures ∙ c.if-has_names.false)
+    same ∙ checked_bad t (sym c.has_names.ensures ∙ c.if-has_names.false)
