@@ -11,10 +11,6 @@ use Rattle.snap_core.specs.Cells.{Cells, cell, either, without, beside}
 use Rattle.snap_core.proofs.Entries.{IsDistinct-append}
 use Rattle.snap_core.proofs.Places.{same_key}
 
-pub none-from : (o : Option ℕ) → false ≡ is_some o → o ≡ None
-none-from None h = refl
-none-from (Some x) h = absurd (false≢true h)
-
 -- ---- the number at an index
 cell-append : (cs ds : Cells) (q : List ℕ) → cell (cs ++ ds) q ≡ either (cell cs q) (cell ds q)
 cell-append [] ds q = refl

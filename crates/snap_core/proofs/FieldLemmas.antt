@@ -1,6 +1,5 @@
 -- The names and the components of fields.
-use Rattle.std.proofs.Common.{suc, zero-add, codes, subst, add_assoc, ◌≡◌, ℕ, ◌+◌, ◌≤◌, ◌<◌, Bool, true, false, ◌&&◌, List, [], ◌∷◌, ◌++◌, Option, None, Some, cond, length, take, drop, get_or, refl, sym, ap, ◌∙◌, arith, add-one}
-use Rattle.std.proofs.Math.Seq.{drop-cons}
+use Rattle.std.proofs.Common.{suc, zero-add, codes, subst, add_assoc, ◌≡◌, ℕ, ◌+◌, ◌≤◌, Bool, true, false, ◌&&◌, List, [], ◌∷◌, ◌++◌, Option, None, Some, cond, length, take, drop, refl, sym, ap, ◌∙◌, arith}
 use Rattle.std.proofs.Math.Bool.{and_assoc}
 use Rattle.std.specs.Prelude.{nat_eq}
 use Rattle.std.specs.Map.{lookup}
@@ -18,9 +17,6 @@ bytes_eq-joined (x ∷ front) back [] h = absurd (omega arith)
 bytes_eq-joined (x ∷ front) back (y ∷ text) h =
     ap (λ b. nat_eq y x && b) (bytes_eq-joined front back text (omega arith))
     ∙ sym (and_assoc (nat_eq y x) (bytes_eq (take (length front) text) front) (bytes_eq (drop (length front) text) back))
-
-cut : (fs : List Field) (i : ℕ) (d : Field) → i < length fs → drop i fs ≡ get_or fs i d ∷ drop (i + 1) fs
-cut fs i d h = rw add-one (drop-cons fs i d h)
 
 pub width-bound : (n : Option ℕ) → (1 ≤ width n) × (width n ≤ 2)
 width-bound None = (omega arith, omega arith)

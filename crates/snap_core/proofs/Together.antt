@@ -10,6 +10,7 @@ use Rattle.snap_core.specs.Arrays.{Arrays, taken}
 use Rattle.snap_core.specs.Variables.{has, meets}
 use Rattle.snap_core.specs.Packets.{union, no_packets}
 use Rattle.snap_core.specs.Meaning.{Meaning, clash, any_clash, merge, all_packets, all_reads, all_writes, together, joined, beside, all_defined, all_together}
+use Rattle.snap_core.proofs.Gathered.{beside_all}
 use Rattle.snap_core.proofs.PacketSets.{union_assoc, union_none, none_union}
 
 -- ---- sets of variables
@@ -140,25 +141,22 @@ writes-push [] b = or_comm b.writes 0
 writes-push (o ∷ os) b = ap (bit_or o.writes) (writes-push os b) ∙ or_assoc o.writes (all_writes os) b.writes
 
 -- ---- one more outcome
-abbrev whole : Arrays → List Meaning → Meaning
-whole m os = record { arrays = merge m os; packets = all_packets os; reads = all_reads os; writes = all_writes os }
-
 push_cases : (m : Arrays) (os : List Meaning) (b : Meaning) (s t : Bool) → any_clash os ≡ s → list_any (λ o. clash o b) os ≡ t → together m (os ++ b ∷ []) ≡ beside (together m os) (Some b)
 push_cases m os b true t e f =
-    ap (λ s. cond s None (Some (whole m (os ++ b ∷ [])))) (any_clash-push os b ∙ ap (λ s. s || list_any (λ o. clash o b) os) e)
-    ∙ sym (ap (λ s. beside (cond s None (Some (whole m os))) (Some b)) e)
+    ap (λ s. cond s None (Some (beside_all m (os ++ b ∷ [])))) (any_clash-push os b ∙ ap (λ s. s || list_any (λ o. clash o b) os) e)
+    ∙ sym (ap (λ s. beside (cond s None (Some (beside_all m os))) (Some b)) e)
 push_cases m os b false true e f =
-    ap (λ s. cond s None (Some (whole m (os ++ b ∷ [])))) (any_clash-push os b ∙ (λ i. e i || f i))
-    ∙ sym (ap (λ s. beside (cond s None (Some (whole m os))) (Some b)) e ∙ ap (λ s. cond s None (Some (joined (whole m os) b))) (clash-all os b ∙ f))
+    ap (λ s. cond s None (Some (beside_all m (os ++ b ∷ [])))) (any_clash-push os b ∙ (λ i. e i || f i))
+    ∙ sym (ap (λ s. beside (cond s None (Some (beside_all m os))) (Some b)) e ∙ ap (λ s. cond s None (Some (joined (beside_all m os) b))) (clash-all os b ∙ f))
 push_cases m os b false false e f =
-    ap (λ s. cond s None (Some (whole m (os ++ b ∷ [])))) (any_clash-push os b ∙ (λ i. e i || f i))
+    ap (λ s. cond s None (Some (beside_all m (os ++ b ∷ [])))) (any_clash-push os b ∙ (λ i. e i || f i))
     ∙ (λ i. Some (record { arrays = merge-push m os b f i; packets = packets-push os b i; reads = reads-push os b i; writes = writes-push os b i }))
-    ∙ sym (ap (λ s. beside (cond s None (Some (whole m os))) (Some b)) e ∙ ap (λ s. cond s None (Some (joined (whole m os) b))) (clash-all os b ∙ f))
+    ∙ sym (ap (λ s. beside (cond s None (Some (beside_all m os))) (Some b)) e ∙ ap (λ s. cond s None (Some (joined (beside_all m os) b))) (clash-all os b ∙ f))
 
 together-push : (m : Arrays) (os : List Meaning) (b : Meaning) → together m (os ++ b ∷ []) ≡ beside (together m os) (Some b)
 together-push m os b = push_cases m os b _ _ refl refl
 
-beside_none : (a : Option Meaning) → beside a None ≡ None
+pub beside_none : (a : Option Meaning) → beside a None ≡ None
 beside_none None = refl
 beside_none (Some x) = refl
 
