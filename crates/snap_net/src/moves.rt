@@ -19,6 +19,7 @@ use snap_core::policy::Update;
 use snap_core::store::Store;
 use snap_head::encode::encode;
 use snap_rows::head::{Action, Head, Sent};
+use snap_rows::lists::{Copies, OneOrMany};
 use snap_rows::plan::Plan;
 use std::alloc::Global;
 
@@ -169,21 +170,18 @@ fn split(
     flying: &mut Flights,
     k: usize,
     ups: &[Update],
-    mut copies: Vec<Sent>,
+    copies: Copies,
 ) -> Result<Flying, NoMemory>
     requires k { k < length flying.old }
     requires at { (c : Flying) → slice_get flying.old k ≡ Some c → c.at < length stores.old.items }
     requires reads { (c : Flying) → slice_get flying.old k ≡ Some c → All (UpdateReads (length c.packet)) ups.now }
     ensures updated { OnOk result (HasUpdated stores.old.items flying.old k ups.now stores.new.items) }
-    ensures gone { IfOk result (λ gone. (slice_get flying.old k ≡ Some gone) × (flying.new ≡ spliced flying.old k 1 (copies_in_flight gone.number gone.at copies.items))) }
+    ensures gone { IfOk result (λ gone. (slice_get flying.old k ≡ Some gone) × (flying.new ≡ spliced flying.old k 1 (copies_in_flight gone.number gone.at copies))) }
     ensures err { OnErr result ((flying.new ≡ flying.old) × SameArrays stores.old.items stores.new.items) }
 {
-    if copies.len() != 1 {
-        return fork(stores, flying, k, ups, copies);
-    }
-    match copies.pop() {
-        Some(sent) => turn(stores, flying, k, ups, sent),
-        None => unreachable!(),
+    match copies.into_one_or_many() {
+        OneOrMany::One(sent) => turn(stores, flying, k, ups, sent),
+        OneOrMany::Many(copies) => fork(stores, flying, k, ups, copies),
     }
 }
 
@@ -220,22 +218,14 @@ fn spread_all(
 }
 
 // The same, where one copy alone needs no room.
-fn spread(
-    flying: &mut Flights,
-    k: usize,
-    at: u16,
-    mut copies: Vec<Sent>,
-) -> Result<Flying, NoMemory>
+fn spread(flying: &mut Flights, k: usize, at: u16, copies: Copies) -> Result<Flying, NoMemory>
     requires { k < length flying.old }
-    ensures gone { IfOk result (λ gone. (slice_get flying.old k ≡ Some gone) × (flying.new ≡ spliced flying.old k 1 (copies_in_flight gone.number at copies.items))) }
+    ensures gone { IfOk result (λ gone. (slice_get flying.old k ≡ Some gone) × (flying.new ≡ spliced flying.old k 1 (copies_in_flight gone.number at copies))) }
     ensures err { OnErr result (flying.new ≡ flying.old) }
 {
-    if copies.len() != 1 {
-        return spread_all(flying, k, at, copies);
-    }
-    match copies.pop() {
-        Some(sent) => Ok(turn_to(flying, k, at, sent)),
-        None => unreachable!(),
+    match copies.into_one_or_many() {
+        OneOrMany::One(sent) => Ok(turn_to(flying, k, at, sent)),
+        OneOrMany::Many(copies) => spread_all(flying, k, at, copies),
     }
 }
 
@@ -250,8 +240,7 @@ pub(crate) fn move_on(flying: &mut Flights, k: usize, action: Action) -> Result<
         Action::Deliver { port } => Ok(deliver(flying, k, port)),
         Action::Fork { copies, lost } => {
             let at = flying.get(k).at;
-            let copies = copies.into_items();
-            let count = copies.len() as u64;
+            let count = copies.count();
             let gone = spread(flying, k, at, copies)?;
             Ok(Moved::Forked {
                 owner: gone.number,
@@ -288,8 +277,7 @@ pub(crate) fn carry_out(
             Ok(deliver(flying, k, port))
         }
         Action::Fork { copies, lost } => {
-            let copies = copies.into_items();
-            let count = copies.len() as u64;
+            let count = copies.count();
             let gone = split(stores, flying, k, ups.items(), copies)?;
             Ok(Moved::Forked {
                 owner: gone.number,

@@ -16,7 +16,7 @@ use std::test::Fail;
 /// What a fork leaves: copies, packets that are lost, and the number at place 0 of the first array.
 #[derive(Clone, Copy, Debug, PartialEq, Eq)]
 struct Outcome {
-    copies: usize,
+    copies: u64,
     lost: u64,
     number: u64,
 }
@@ -24,7 +24,7 @@ struct Outcome {
 fn told(action: &Action, store: &Store) -> Option<Outcome> {
     match action {
         Action::Fork { copies, lost } => Some(Outcome {
-            copies: copies.items().len(),
+            copies: copies.count(),
             lost: *lost,
             number: store.get(0, &[0]),
         }),

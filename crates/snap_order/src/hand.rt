@@ -106,8 +106,8 @@ fn leave(alloc: Global, copy: Flying, action: Action) -> Result<Gone, NoMemory>
             })
         }
         Action::Fork { copies, lost } => {
-            let copies = copies.into_items();
-            let count = copies.len() as u64;
+            let count = copies.count();
+            let copies = copies.into_items(alloc)?;
             let left = forked(alloc, number, at, copies)?;
             let moved = Moved::Forked {
                 owner: number,

@@ -20,6 +20,7 @@ use snap_core::program::Fields;
 use snap_net::flying::Flying;
 use snap_net::happened::{Happened, Landed, Moved};
 use snap_rows::head::Sent;
+use snap_rows::lists::{Copies, OneOrMany};
 use snap_rows::valid::Valid;
 use snap_trace::front::{put_byte_before, put_bytes_before, put_number_before};
 use snap_trace::report::{
@@ -101,7 +102,7 @@ impl Tally {
             Landed::Delivered { packet } => self.deliver(packet),
             Landed::Forked { copies, lost } => {
                 self.lose(lost)?;
-                self.deliver_all(copies.into_items())
+                self.deliver_all(copies)
             }
         }
     }
@@ -205,18 +206,14 @@ impl Tally {
         Ok(())
     }
 
-    // One alone is popped, since a loop over a list that is owned costs more.
-    fn deliver_all(&mut self, mut copies: Vec<Sent>) -> Result<(), NoMemory>
-        ensures delivered { OnOk result (self.new.delivered.items ≡ self.old.delivered.items ++ packets_sent copies.items) }
+    fn deliver_all(&mut self, copies: Copies) -> Result<(), NoMemory>
+        ensures delivered { OnOk result (self.new.delivered.items ≡ self.old.delivered.items ++ packets_sent copies) }
         ensures lost { self.new.lost ≡ self.old.lost }
         ensures hops { self.new.hops.items ≡ self.old.hops.items }
     {
-        if copies.len() != 1 {
-            return self.deliver_each(copies);
-        }
-        match copies.pop() {
-            Some(sent) => self.deliver(sent.packet),
-            None => unreachable!(),
+        match copies.into_one_or_many() {
+            OneOrMany::One(sent) => self.deliver(sent.packet),
+            OneOrMany::Many(copies) => self.deliver_each(copies),
         }
     }
 
