@@ -1,4 +1,4 @@
--- What a memo of one call remembers.
+-- What a memo of one call remembers. Where it goes by one number, the second is 0.
 use Rattle.std.specs.Prelude.{ℕ, ◌<◌, List, [], ◌∷◌, length, ⊤}
 use Rattle.snap_core.specs.Cells.{Cells}
 use Rattle.snap_dep.specs.Ranks.{Grouping}
