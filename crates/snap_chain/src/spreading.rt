@@ -18,7 +18,7 @@ use crate::marks::Marks;
 use crate::settling::go_of;
 use crate::summing::push_updates;
 use snap_arena::nodes::Nodes;
-use snap_arena::numbers::Numbers;
+use snap_arena::pairs::Pairs;
 use snap_core::NoMemory;
 use snap_core::lists::Out;
 use snap_core::policy::{Update, copy_updates};
@@ -88,7 +88,7 @@ fn prefixed(
     nodes: &mut Nodes<Leaf>,
     groups: &Groups,
     ctx: &Context,
-    memo: &mut Numbers,
+    memo: &mut Pairs,
     go: &Go,
     d: u64,
 ) -> Result<u64, NoMemory>
@@ -98,11 +98,11 @@ fn prefixed(
     ensures prefixed { IfOk result (λ r. IsPrefixed groups.now ctx.now go.now (diagram nodes.old d) (diagram nodes.new r)) }
     ensures memo { OnOk result (Remembers (PrefixedFor groups.now ctx.now go.now nodes.new) memo.new) }
 {
-    if let Some(r) = memo.get(&[d]) {
+    if let Some(r) = memo.get(d, 0) {
         return Ok(r);
     }
     let r = prefixed_anew(nodes, groups, ctx, memo, go, d)?;
-    memo.put(vec![in nodes.allocator(); d]?, r)?;
+    memo.put(d, 0, r)?;
     Ok(r)
 }
 
@@ -111,7 +111,7 @@ fn prefixed_anew(
     nodes: &mut Nodes<Leaf>,
     groups: &Groups,
     ctx: &Context,
-    memo: &mut Numbers,
+    memo: &mut Pairs,
     go: &Go,
     d: u64,
 ) -> Result<u64, NoMemory>
@@ -172,7 +172,7 @@ pub fn spread(
         start,
         d,
     )?;
-    let mut memo = Numbers::new(alloc);
+    let mut memo = Pairs::new(alloc);
     prefixed(nodes, groups, ctx, &mut memo, go, all)
 }
 
@@ -183,7 +183,7 @@ fn followed(
     groups: &Groups,
     ctx: &Context,
     marks: &Marks,
-    memo: &mut Numbers,
+    memo: &mut Pairs,
     a: u64,
     d: u64,
 ) -> Result<u64, NoMemory>
@@ -193,11 +193,11 @@ fn followed(
     ensures sequel { IfOk result (λ r. IsSequel groups.now ctx.now (diagram nodes.old d) (diagram nodes.old a) (diagram nodes.new r)) }
     ensures memo { OnOk result (Remembers (SequelFor groups.now ctx.now d nodes.new) memo.new) }
 {
-    if let Some(r) = memo.get(&[a]) {
+    if let Some(r) = memo.get(a, 0) {
         return Ok(r);
     }
     let r = followed_anew(nodes, groups, ctx, marks, memo, a, d)?;
-    memo.put(vec![in nodes.allocator(); a]?, r)?;
+    memo.put(a, 0, r)?;
     Ok(r)
 }
 
@@ -207,7 +207,7 @@ fn followed_anew(
     groups: &Groups,
     ctx: &Context,
     marks: &Marks,
-    memo: &mut Numbers,
+    memo: &mut Pairs,
     a: u64,
     d: u64,
 ) -> Result<u64, NoMemory>
@@ -246,6 +246,6 @@ pub fn spread_on(
     ensures number { IfOk result (λ r. r < length nodes.new) }
     ensures sequel { IfOk result (λ r. IsSequel groups.now ctx.now (diagram nodes.old d) (diagram nodes.old a) (diagram nodes.new r)) }
 {
-    let mut memo = Numbers::new(nodes.allocator());
+    let mut memo = Pairs::new(nodes.allocator());
     followed(nodes, groups, ctx, marks, &mut memo, a, d)
 }

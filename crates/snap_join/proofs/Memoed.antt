@@ -42,38 +42,38 @@ combined_now ranks s how old new a b d g ha hb hd p = record {
 -- ---- predicates turned round
 turned_kept : (old new : List (Node Leaf)) → Grew old new → (q : List ℕ) (d : ℕ) → TurnedFor old q d → TurnedFor new q d
 turned_kept old new g [] d p = tt
-turned_kept old new g (a ∷ []) d p = record {
+turned_kept old new g (a ∷ []) d p = tt
+turned_kept old new g (a ∷ b ∷ []) d p = record {
   first = still_below old new a g p.first;
   number = still_below old new d g p.number;
   negated = rw (kept old new a g p.first, kept old new d g p.number) p.negated;
 }
-turned_kept old new g (a ∷ b ∷ q) d p = tt
+turned_kept old new g (a ∷ b ∷ x ∷ q) d p = tt
 
 pub turned_memo : (old new : List (Node Leaf)) (memo : Cells) → Grew old new → Remembers (TurnedFor old) memo → Remembers (TurnedFor new) memo
 turned_memo old new memo g = remembers_weaker (TurnedFor old) (TurnedFor new) memo (turned_kept old new g)
 
-pub turned_now : (old new : List (Node Leaf)) (a d : ℕ) → Grew old new → a < length old → d < length new → IsNegated (diagram old a) (diagram new d) → TurnedFor new (a ∷ []) d
+pub turned_now : (old new : List (Node Leaf)) (a d : ℕ) → Grew old new → a < length old → d < length new → IsNegated (diagram old a) (diagram new d) → TurnedFor new (a ∷ 0 ∷ []) d
 turned_now old new a d g ha hd p = record { first = still_below old new a g ha; number = hd; negated = rw (kept old new a g ha) p }
 
 -- ---- choices
-decided_kept : (ranks : List ℕ) (s : Sizes) (old new : List (Node Leaf)) → Grew old new → (k : List ℕ) (d : ℕ) → DecidedFor ranks s old k d → DecidedFor ranks s new k d
-decided_kept ranks s old new g [] d i = tt
-decided_kept ranks s old new g (x ∷ []) d i = tt
-decided_kept ranks s old new g (x ∷ p ∷ []) d i = tt
-decided_kept ranks s old new g (x ∷ p ∷ q ∷ []) d i = record {
+decided_kept : (ranks : List ℕ) (s : Sizes) (old new : List (Node Leaf)) (p q : ℕ) → Grew old new → (k : List ℕ) (d : ℕ) → DecidedFor ranks s old p q k d → DecidedFor ranks s new p q k d
+decided_kept ranks s old new p q g [] d i = tt
+decided_kept ranks s old new p q g (x ∷ []) d i = tt
+decided_kept ranks s old new p q g (x ∷ y ∷ []) d i = record {
   test = still_below old new x g i.test;
   yes = still_below old new p g i.yes;
   no = still_below old new q g i.no;
   number = still_below old new d g i.number;
   chosen = rw (kept old new x g i.test, kept old new p g i.yes, kept old new q g i.no, kept old new d g i.number) i.chosen;
 }
-decided_kept ranks s old new g (x ∷ p ∷ q ∷ y ∷ k) d i = tt
+decided_kept ranks s old new p q g (x ∷ y ∷ z ∷ k) d i = tt
 
-pub decided_memo : (ranks : List ℕ) (s : Sizes) (old new : List (Node Leaf)) (memo : Cells) → Grew old new → Remembers (DecidedFor ranks s old) memo → Remembers (DecidedFor ranks s new) memo
-decided_memo ranks s old new memo g = remembers_weaker (DecidedFor ranks s old) (DecidedFor ranks s new) memo (decided_kept ranks s old new g)
+pub decided_memo : (ranks : List ℕ) (s : Sizes) (old new : List (Node Leaf)) (p q : ℕ) (memo : Cells) → Grew old new → Remembers (DecidedFor ranks s old p q) memo → Remembers (DecidedFor ranks s new p q) memo
+decided_memo ranks s old new p q memo g = remembers_weaker (DecidedFor ranks s old p q) (DecidedFor ranks s new p q) memo (decided_kept ranks s old new p q g)
 
 pub decided_now : (ranks : List ℕ) (s : Sizes) (old new : List (Node Leaf)) (x p q d : ℕ) → Grew old new → x < length old → p < length old → q < length old → d < length new
-    → IsChosen ranks s (diagram old x) (diagram old p) (diagram old q) (diagram new d) → DecidedFor ranks s new (x ∷ p ∷ q ∷ []) d
+    → IsChosen ranks s (diagram old x) (diagram old p) (diagram old q) (diagram new d) → DecidedFor ranks s new p q (x ∷ 0 ∷ []) d
 decided_now ranks s old new x p q d g hx hp hq hd i = record {
   test = still_below old new x g hx;
   yes = still_below old new p g hp;

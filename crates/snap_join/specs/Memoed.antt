@@ -1,4 +1,4 @@
--- What a memo of one call remembers.
+-- What a memo of one call remembers. Where it goes by one number, the second is 0.
 use Rattle.std.specs.Prelude.{ℕ, ◌<◌, List, [], ◌∷◌, length, ⊤}
 use Rattle.snap_core.specs.Cells.{Cells}
 use Rattle.snap_dep.specs.Ranks.{Grouping}
@@ -38,7 +38,7 @@ pub record IsTurned (ns : List (Node Leaf)) (a d : ℕ) : Type 0 where
   pub negated : IsNegated (diagram ns a) (diagram ns d)
 
 abbrev pub TurnedFor : List (Node Leaf) → List ℕ → ℕ → Type 0
-TurnedFor ns (a ∷ []) d = IsTurned ns a d
+TurnedFor ns (a ∷ b ∷ []) d = IsTurned ns a d
 TurnedFor ns q d = ⊤
 
 -- the number d is that of the choice between p and q
@@ -49,13 +49,13 @@ pub record IsDecided (ranks : List ℕ) (s : Sizes) (ns : List (Node Leaf)) (x p
   pub number : d < length ns
   pub chosen : IsChosen ranks s (diagram ns x) (diagram ns p) (diagram ns q) (diagram ns d)
 
-abbrev pub DecidedFor : List ℕ → Sizes → List (Node Leaf) → List ℕ → ℕ → Type 0
-DecidedFor ranks s ns (x ∷ p ∷ q ∷ []) d = IsDecided ranks s ns x p q d
-DecidedFor ranks s ns k d = ⊤
+abbrev pub DecidedFor : List ℕ → Sizes → List (Node Leaf) → ℕ → ℕ → List ℕ → ℕ → Type 0
+DecidedFor ranks s ns p q (x ∷ y ∷ []) d = IsDecided ranks s ns x p q d
+DecidedFor ranks s ns p q k d = ⊤
 
--- what is asked for a choice: the three diagrams fit, and the memo is that of choices
+-- what is asked for a choice: the three diagrams fit, and the memo is that of choices between these two
 pub record IsAskedChoice (g : Grouping) (v : View) (ns : List (Node Leaf)) (memo : Cells) (x p q : ℕ) : Type 0 where
   pub test : IsArgument g v ns x
   pub yes : IsArgument g v ns p
   pub no : IsArgument g v ns q
-  pub known : Remembers (DecidedFor g.ranks (sizes g v) ns) memo
+  pub known : Remembers (DecidedFor g.ranks (sizes g v) ns p q) memo

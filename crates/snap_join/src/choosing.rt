@@ -17,7 +17,7 @@ use crate::joining::combine;
 use crate::leaves::How;
 use snap_arena::node::Node;
 use snap_arena::nodes::Nodes;
-use snap_arena::numbers::Numbers;
+use snap_arena::pairs::Pairs;
 use snap_core::NoMemory;
 use snap_ctx::context::Context;
 use snap_dep::groups::Groups;
@@ -59,7 +59,7 @@ fn chosen(
     nodes: &mut Nodes<Leaf>,
     groups: &Groups,
     ctx: &Context,
-    memo: &mut Numbers,
+    memo: &mut Pairs,
     x: u64,
     p: u64,
     q: u64,
@@ -68,13 +68,13 @@ fn chosen(
     ensures grew { Grew nodes.old nodes.new }
     ensures number { IfOk result (λ d. d < length nodes.new) }
     ensures chosen { IfOk result (λ d. IsChosen groups.now.ranks (sizes groups.now ctx.now) (diagram nodes.old x) (diagram nodes.old p) (diagram nodes.old q) (diagram nodes.new d)) }
-    ensures memo { OnOk result (Remembers (DecidedFor groups.now.ranks (sizes groups.now ctx.now) nodes.new) memo.new) }
+    ensures memo { OnOk result (Remembers (DecidedFor groups.now.ranks (sizes groups.now ctx.now) nodes.new p q) memo.new) }
 {
-    if let Some(d) = memo.get(&[x, p, q]) {
+    if let Some(d) = memo.get(x, 0) {
         return Ok(d);
     }
     let d = chosen_anew(nodes, groups, ctx, memo, x, p, q)?;
-    memo.put(vec![in nodes.allocator(); x, p, q]?, d)?;
+    memo.put(x, 0, d)?;
     Ok(d)
 }
 
@@ -83,7 +83,7 @@ fn chosen_anew(
     nodes: &mut Nodes<Leaf>,
     groups: &Groups,
     ctx: &Context,
-    memo: &mut Numbers,
+    memo: &mut Pairs,
     x: u64,
     p: u64,
     q: u64,
@@ -92,7 +92,7 @@ fn chosen_anew(
     ensures grew { Grew nodes.old nodes.new }
     ensures number { IfOk result (λ d. d < length nodes.new) }
     ensures chosen { IfOk result (λ d. IsChosen groups.now.ranks (sizes groups.now ctx.now) (diagram nodes.old x) (diagram nodes.old p) (diagram nodes.old q) (diagram nodes.new d)) }
-    ensures memo { OnOk result (Remembers (DecidedFor groups.now.ranks (sizes groups.now ctx.now) nodes.new) memo.new) }
+    ensures memo { OnOk result (Remembers (DecidedFor groups.now.ranks (sizes groups.now ctx.now) nodes.new p q) memo.new) }
 {
     match part_of(nodes, x)? {
         Part::Whole => {
@@ -130,6 +130,6 @@ pub fn choose(
     ensures walks { IfOk result (λ d. (m : Arrays) (k : List ℕ) → walk (diagram nodes.new d) m k ≡ logged_leaf (walk (diagram nodes.old x) m k) (if holds nodes.old x m k then walk (diagram nodes.old p) m k else walk (diagram nodes.old q) m k)) }
     ensures answer { IfOk result (λ d. Under ctx.now (λ m k. answer nodes.new d m k ≡ more_reads (reads nodes.old x m k) (if holds nodes.old x m k then answer nodes.old p m k else answer nodes.old q m k))) }
 {
-    let mut memo = Numbers::new(nodes.allocator());
+    let mut memo = Pairs::new(nodes.allocator());
     chosen(nodes, groups, ctx, &mut memo, x, p, q)
 }

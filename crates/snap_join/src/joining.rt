@@ -15,7 +15,7 @@ ghost use Rattle.snap_join.specs.Memoed.{CombinedFor, IsAskedJoin};
 use crate::leaves::{How, combine_leaves};
 use snap_arena::node::Node;
 use snap_arena::nodes::Nodes;
-use snap_arena::numbers::Numbers;
+use snap_arena::pairs::Pairs;
 use snap_core::NoMemory;
 use snap_core::policy::Test;
 use snap_ctx::context::Context;
@@ -83,7 +83,7 @@ pub fn combine(
     ensures number { IfOk result (λ d. d < length nodes.new) }
     ensures joined { IfOk result (λ d. IsJoined groups.now.ranks (sizes groups.now ctx.now) how (diagram nodes.old a) (diagram nodes.old b) (diagram nodes.new d)) }
 {
-    let mut memo = Numbers::new(nodes.allocator());
+    let mut memo = Pairs::new(nodes.allocator());
     combined(nodes, groups, ctx, how, &mut memo, a, b)
 }
 
@@ -94,7 +94,7 @@ fn combined(
     groups: &Groups,
     ctx: &Context,
     how: How,
-    memo: &mut Numbers,
+    memo: &mut Pairs,
     a: u64,
     b: u64,
 ) -> Result<u64, NoMemory>
@@ -104,11 +104,11 @@ fn combined(
     ensures joined { IfOk result (λ d. IsJoined groups.now.ranks (sizes groups.now ctx.now) how (diagram nodes.old a) (diagram nodes.old b) (diagram nodes.new d)) }
     ensures memo { OnOk result (Remembers (CombinedFor groups.now.ranks (sizes groups.now ctx.now) how nodes.new) memo.new) }
 {
-    if let Some(d) = memo.get(&[a, b]) {
+    if let Some(d) = memo.get(a, b) {
         return Ok(d);
     }
     let d = combined_anew(nodes, groups, ctx, how, memo, a, b)?;
-    memo.put(vec![in nodes.allocator(); a, b]?, d)?;
+    memo.put(a, b, d)?;
     Ok(d)
 }
 
@@ -118,7 +118,7 @@ fn combined_anew(
     groups: &Groups,
     ctx: &Context,
     how: How,
-    memo: &mut Numbers,
+    memo: &mut Pairs,
     a: u64,
     b: u64,
 ) -> Result<u64, NoMemory>

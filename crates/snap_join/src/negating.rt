@@ -14,7 +14,7 @@ ghost use Rattle.snap_join.specs.Memoed.{TurnedFor};
 use crate::leaves::negate_of;
 use snap_arena::node::Node;
 use snap_arena::nodes::Nodes;
-use snap_arena::numbers::Numbers;
+use snap_arena::pairs::Pairs;
 use snap_core::NoMemory;
 use snap_fdd::leaf::Leaf;
 use snap_fdd::pick::look;
@@ -32,7 +32,7 @@ fn leaf_negated(nodes: &Nodes<Leaf>, a: u64) -> Result<Leaf, NoMemory>
 
 // A predicate turned round, which may be remembered.
 #[cycle(negated)]
-fn negated(nodes: &mut Nodes<Leaf>, memo: &mut Numbers, a: u64) -> Result<u64, NoMemory>
+fn negated(nodes: &mut Nodes<Leaf>, memo: &mut Pairs, a: u64) -> Result<u64, NoMemory>
     requires a { a < length nodes.old }
     requires memo { Remembers (TurnedFor nodes.old) memo.old }
     ensures grew { Grew nodes.old nodes.new }
@@ -40,16 +40,16 @@ fn negated(nodes: &mut Nodes<Leaf>, memo: &mut Numbers, a: u64) -> Result<u64, N
     ensures negated { IfOk result (λ d. IsNegated (diagram nodes.old a) (diagram nodes.new d)) }
     ensures memo { OnOk result (Remembers (TurnedFor nodes.new) memo.new) }
 {
-    if let Some(d) = memo.get(&[a]) {
+    if let Some(d) = memo.get(a, 0) {
         return Ok(d);
     }
     let d = negated_anew(nodes, memo, a)?;
-    memo.put(vec![in nodes.allocator(); a]?, d)?;
+    memo.put(a, 0, d)?;
     Ok(d)
 }
 
 #[cycle(negated)]
-fn negated_anew(nodes: &mut Nodes<Leaf>, memo: &mut Numbers, a: u64) -> Result<u64, NoMemory>
+fn negated_anew(nodes: &mut Nodes<Leaf>, memo: &mut Pairs, a: u64) -> Result<u64, NoMemory>
     requires a { a < length nodes.old }
     requires memo { Remembers (TurnedFor nodes.old) memo.old }
     ensures grew { Grew nodes.old nodes.new }
@@ -82,6 +82,6 @@ pub fn negate(nodes: &mut Nodes<Leaf>, a: u64) -> Result<u64, NoMemory>
     ensures walks { IfOk result (λ d. (m : Arrays) (k : List ℕ) → walk (diagram nodes.new d) m k ≡ negate_leaf (walk (diagram nodes.old a) m k)) }
     ensures answer { IfOk result (λ d. (m : Arrays) (k : List ℕ) → answer nodes.new d m k ≡ test_answer (not (holds nodes.old a m k)) (reads nodes.old a m k) k) }
 {
-    let mut memo = Numbers::new(nodes.allocator());
+    let mut memo = Pairs::new(nodes.allocator());
     negated(nodes, &mut memo, a)
 }

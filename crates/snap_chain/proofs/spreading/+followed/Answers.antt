@@ -16,15 +16,15 @@ use Rattle.snap_chain.proofs.Sequel.{sequel_split}
 use Rattle.snap_chain.proofs.spreading.+followed.Goals as goal
 
 pub followed-returns-in-Some-clause-number : goal.followed-returns-in-Some-clause-number
-followed-returns-in-Some-clause-number t c = (c.requires.known (c.args.a ∷ []) c.in-Some.r (sym c.in-Some.ensures)).number
+followed-returns-in-Some-clause-number t c = (c.requires.known (c.args.a ∷ 0 ∷ []) c.in-Some.r (sym c.in-Some.ensures)).number
 
 pub followed-returns-in-Some-clause-sequel : goal.followed-returns-in-Some-clause-sequel
-followed-returns-in-Some-clause-sequel t c = (c.requires.known (c.args.a ∷ []) c.in-Some.r (sym c.in-Some.ensures)).sequel
+followed-returns-in-Some-clause-sequel t c = (c.requires.known (c.args.a ∷ 0 ∷ []) c.in-Some.r (sym c.in-Some.ensures)).sequel
 
 pub followed-returns-clause-memo : goal.followed-returns-clause-memo
 followed-returns-clause-memo t c =
-    remembers_more (SequelFor c.args.groups.now c.args.ctx.now c.args.d c.followed_anew.new.nodes) c.followed_anew.new.memo c.put.new.self c.in_ok-vec.field-0.items c.in_ok-r.r c.in_ok-r.ensures.memo
-    (rw c.in_ok-vec.ensures.items (sequel_now c.args.groups.now c.args.ctx.now c.args.d c.args.nodes.now c.followed_anew.new.nodes c.followed_anew.ensures.grew c.args.a c.in_ok-r.r c.requires.first.below c.requires.second.below c.in_ok-r.ensures.number c.in_ok-r.ensures.sequel))
+    remembers_more (SequelFor c.args.groups.now c.args.ctx.now c.args.d c.followed_anew.new.nodes) c.followed_anew.new.memo c.put.new.self (c.args.a ∷ 0 ∷ []) c.in_ok-r.r c.in_ok-r.ensures.memo
+    (sequel_now c.args.groups.now c.args.ctx.now c.args.d c.args.nodes.now c.followed_anew.new.nodes c.followed_anew.ensures.grew c.args.a c.in_ok-r.r c.requires.first.below c.requires.second.below c.in_ok-r.ensures.number c.in_ok-r.ensures.sequel)
     c.in_ok-put.ensures.ok
 
 pub followed_anew-followed-requires-in-Split : goal.followed_anew-followed-requires-in-Split

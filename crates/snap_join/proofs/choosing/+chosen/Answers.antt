@@ -41,19 +41,19 @@ chosen_anew-returns-in_ok-n-in-Split-clause-chosen t c =
     (diagram c.chosen.new.nodes c.in_ok-y-in-Split.y) (diagram c.chosen-in-Split.new.nodes c.in_ok-n-in-Split.n) (diagram c.pick.new.nodes d) part.0 c.in_ok-y-in-Split.ensures.chosen cn (rw (sym ky) k)) c.pick.ensures.pick
 
 pub chosen_anew-returns-else-reads_nothing-clause-memo : goal.chosen_anew-returns-else-reads_nothing-clause-memo
-chosen_anew-returns-else-reads_nothing-clause-memo t c = IfOk-weaker c.combine.result _ _ (λ d n. decided_memo c.args.groups.now.ranks (sizes c.args.groups.now c.args.ctx.now) c.args.nodes.now c.combine.new.nodes c.args.memo.now c.combine.ensures.grew c.requires.known) c.combine.ensures.number
+chosen_anew-returns-else-reads_nothing-clause-memo t c = IfOk-weaker c.combine.result _ _ (λ d n. decided_memo c.args.groups.now.ranks (sizes c.args.groups.now c.args.ctx.now) c.args.nodes.now c.combine.new.nodes c.args.p c.args.q c.args.memo.now c.combine.ensures.grew c.requires.known) c.combine.ensures.number
 
 pub chosen_anew-returns-in_ok-n-in-Split-clause-memo : goal.chosen_anew-returns-in_ok-n-in-Split-clause-memo
-chosen_anew-returns-in_ok-n-in-Split-clause-memo t c = IfOk-weaker c.pick.result _ _ (λ d n. decided_memo c.args.groups.now.ranks (sizes c.args.groups.now c.args.ctx.now) c.chosen-in-Split.new.nodes c.pick.new.nodes c.chosen-in-Split.new.memo c.pick.ensures.grew c.in_ok-n-in-Split.ensures.memo) c.pick.ensures.number
+chosen_anew-returns-in_ok-n-in-Split-clause-memo t c = IfOk-weaker c.pick.result _ _ (λ d n. decided_memo c.args.groups.now.ranks (sizes c.args.groups.now c.args.ctx.now) c.chosen-in-Split.new.nodes c.pick.new.nodes c.args.p c.args.q c.chosen-in-Split.new.memo c.pick.ensures.grew c.in_ok-n-in-Split.ensures.memo) c.pick.ensures.number
 
 pub chosen-returns-in-Some-clause-number : goal.chosen-returns-in-Some-clause-number
-chosen-returns-in-Some-clause-number t c = (c.requires.known (c.args.x ∷ c.args.p ∷ c.args.q ∷ []) c.in-Some.d (sym c.in-Some.ensures)).number
+chosen-returns-in-Some-clause-number t c = (c.requires.known (c.args.x ∷ 0 ∷ []) c.in-Some.d (sym c.in-Some.ensures)).number
 
 pub chosen-returns-in-Some-clause-chosen : goal.chosen-returns-in-Some-clause-chosen
-chosen-returns-in-Some-clause-chosen t c = (c.requires.known (c.args.x ∷ c.args.p ∷ c.args.q ∷ []) c.in-Some.d (sym c.in-Some.ensures)).chosen
+chosen-returns-in-Some-clause-chosen t c = (c.requires.known (c.args.x ∷ 0 ∷ []) c.in-Some.d (sym c.in-Some.ensures)).chosen
 
 pub chosen-returns-clause-memo : goal.chosen-returns-clause-memo
 chosen-returns-clause-memo t c =
-    remembers_more (DecidedFor c.args.groups.now.ranks (sizes c.args.groups.now c.args.ctx.now) c.chosen_anew.new.nodes) c.chosen_anew.new.memo c.put.new.self c.in_ok-vec.field-0.items c.in_ok-d.d c.in_ok-d.ensures.memo
-    (rw c.in_ok-vec.ensures.items (decided_now c.args.groups.now.ranks (sizes c.args.groups.now c.args.ctx.now) c.args.nodes.now c.chosen_anew.new.nodes c.args.x c.args.p c.args.q c.in_ok-d.d c.chosen_anew.ensures.grew c.requires.test.below c.requires.yes.below c.requires.no.below c.in_ok-d.ensures.number c.in_ok-d.ensures.chosen))
+    remembers_more (DecidedFor c.args.groups.now.ranks (sizes c.args.groups.now c.args.ctx.now) c.chosen_anew.new.nodes c.args.p c.args.q) c.chosen_anew.new.memo c.put.new.self (c.args.x ∷ 0 ∷ []) c.in_ok-d.d c.in_ok-d.ensures.memo
+    (decided_now c.args.groups.now.ranks (sizes c.args.groups.now c.args.ctx.now) c.args.nodes.now c.chosen_anew.new.nodes c.args.x c.args.p c.args.q c.in_ok-d.d c.chosen_anew.ensures.grew c.requires.test.below c.requires.yes.below c.requires.no.below c.in_ok-d.ensures.number c.in_ok-d.ensures.chosen)
     c.in_ok-put.ensures.ok

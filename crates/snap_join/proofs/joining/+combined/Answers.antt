@@ -86,6 +86,6 @@ combined-returns-in-Some-clause-joined t c = (c.requires.known (c.args.a ∷ c.a
 
 pub combined-returns-clause-memo : goal.combined-returns-clause-memo
 combined-returns-clause-memo t c =
-    remembers_more (CombinedFor c.args.groups.now.ranks (sizes c.args.groups.now c.args.ctx.now) c.args.how c.combined_anew.new.nodes) c.combined_anew.new.memo c.put.new.self c.in_ok-vec.field-0.items c.in_ok-d.d c.in_ok-d.ensures.memo
-    (rw c.in_ok-vec.ensures.items (combined_now c.args.groups.now.ranks (sizes c.args.groups.now c.args.ctx.now) c.args.how c.args.nodes.now c.combined_anew.new.nodes c.args.a c.args.b c.in_ok-d.d c.combined_anew.ensures.grew c.requires.first.below c.requires.second.below c.in_ok-d.ensures.number c.in_ok-d.ensures.joined))
+    remembers_more (CombinedFor c.args.groups.now.ranks (sizes c.args.groups.now c.args.ctx.now) c.args.how c.combined_anew.new.nodes) c.combined_anew.new.memo c.put.new.self (c.args.a ∷ c.args.b ∷ []) c.in_ok-d.d c.in_ok-d.ensures.memo
+    (combined_now c.args.groups.now.ranks (sizes c.args.groups.now c.args.ctx.now) c.args.how c.args.nodes.now c.combined_anew.new.nodes c.args.a c.args.b c.in_ok-d.d c.combined_anew.ensures.grew c.requires.first.below c.requires.second.below c.in_ok-d.ensures.number c.in_ok-d.ensures.joined)
     c.in_ok-put.ensures.ok

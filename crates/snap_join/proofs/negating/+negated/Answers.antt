@@ -37,13 +37,13 @@ pub negated_anew-returns-in_ok-n-in-Split-clause-memo : goal.negated_anew-return
 negated_anew-returns-in_ok-n-in-Split-clause-memo t c = IfOk-weaker c.node.result _ _ (λ d n. turned_memo c.negated-in-Split.new.nodes c.node.new.self c.negated-in-Split.new.memo c.node.ensures.grew c.in_ok-n-in-Split.ensures.memo) c.node.ensures.both
 
 pub negated-returns-in-Some-clause-number : goal.negated-returns-in-Some-clause-number
-negated-returns-in-Some-clause-number t c = (c.requires.memo (c.args.a ∷ []) c.in-Some.d (sym c.in-Some.ensures)).number
+negated-returns-in-Some-clause-number t c = (c.requires.memo (c.args.a ∷ 0 ∷ []) c.in-Some.d (sym c.in-Some.ensures)).number
 
 pub negated-returns-in-Some-clause-negated : goal.negated-returns-in-Some-clause-negated
-negated-returns-in-Some-clause-negated t c = (c.requires.memo (c.args.a ∷ []) c.in-Some.d (sym c.in-Some.ensures)).negated
+negated-returns-in-Some-clause-negated t c = (c.requires.memo (c.args.a ∷ 0 ∷ []) c.in-Some.d (sym c.in-Some.ensures)).negated
 
 pub negated-returns-clause-memo : goal.negated-returns-clause-memo
 negated-returns-clause-memo t c =
-    remembers_more (TurnedFor c.negated_anew.new.nodes) c.negated_anew.new.memo c.put.new.self c.in_ok-vec.field-0.items c.in_ok-d.d c.in_ok-d.ensures.memo
-    (rw c.in_ok-vec.ensures.items (turned_now c.args.nodes.now c.negated_anew.new.nodes c.args.a c.in_ok-d.d c.negated_anew.ensures.grew c.requires.a c.in_ok-d.ensures.number c.in_ok-d.ensures.negated))
+    remembers_more (TurnedFor c.negated_anew.new.nodes) c.negated_anew.new.memo c.put.new.self (c.args.a ∷ 0 ∷ []) c.in_ok-d.d c.in_ok-d.ensures.memo
+    (turned_now c.args.nodes.now c.negated_anew.new.nodes c.args.a c.in_ok-d.d c.negated_anew.ensures.grew c.requires.a c.in_ok-d.ensures.number c.in_ok-d.ensures.negated)
     c.in_ok-put.ensures.ok
