@@ -13,6 +13,7 @@ pub mod InTurnSteps
 pub mod Rounds
 pub mod RoundsSteps
 pub mod Laws
+pub mod Messages
 pub mod NetworkSteps
 pub mod Obs
 pub mod Pairs

@@ -5,7 +5,8 @@ ghost use Rattle.std.specs.Io.KnownBytes.{Appends};
 ghost use Rattle.snap_io.specs.Causes.{HasCause};
 ghost use Rattle.snap_io.specs.Sinks.{AppendsPart};
 ghost use Rattle.snap_cli.specs.declared.refusal.Refusal.TheVariants as refused;
-ghost use Rattle.snap_cli.specs.Refusals.{message_apart, message_at, message_named_rule, message_naming, message_of, message_of_demand, message_of_limit, message_of_placement, message_of_read, message_of_rule, message_of_tables, message_of_topology, message_text, message_with, name_at, naming_text, rule_text, status_of, syntax_text, which_text, message_torn};
+ghost use Rattle.snap_cli.specs.Messages.{bytes_of};
+ghost use Rattle.snap_cli.specs.Refusals.{message_naming, message_of, message_of_demand, message_of_placement, message_of_tables, message_of_topology, message_text, message_with, name_at, naming_text, rule_text, status_of, syntax_text, which_text};
 
 use crate::spot::Spot;
 use itoa::Buffer;
@@ -215,86 +216,119 @@ fn naming_text(fault: NamingFault) -> &'static [u8]
     }
 }
 
-// Writes `snapc: LINE:COL: TEXT`.
-fn tell_at<E: Sink>(err: &mut E, spot: Spot, text: &[u8]) -> Result<(), WriteFailed>
-    ensures ok { OnOk result (Appends (E.taken err.old) (E.taken err.new) (message_at spot text.now)) }
-    ensures err { OnErr result (AppendsPart (E.taken err.old) (E.taken err.new) (message_at spot text.now)) }
+// A message before it is written.
+#[derive(Clone, Copy)]
+enum Message<'m> {
+    // `snapc: TEXT`
+    Text {
+        text: &'m [u8],
+    },
+
+    // `snapc: TEXT NAME`
+    Name {
+        text: &'m [u8],
+        name: &'m [u8],
+    },
+
+    // `snapc: TEXT NUMBER`
+    Number {
+        text: &'m [u8],
+        number: u64,
+    },
+
+    // `snapc: TEXT FROM TO`
+    Names {
+        text: &'m [u8],
+        from: &'m [u8],
+        to: &'m [u8],
+    },
+
+    // `snapc: TEXT NAME`, this between them, and `NUMBER`
+    Counted {
+        text: &'m [u8],
+        name: &'m [u8],
+        between: &'m [u8],
+        number: u64,
+    },
+
+    // `snapc: LINE:COLUMN: TEXT`
+    At {
+        spot: Spot,
+        text: &'m [u8],
+    },
+
+    // All lines.
+    Whole {
+        text: &'m [u8],
+    },
+}
+
+// Writes a message.
+fn write<E: Sink>(err: &mut E, message: Message<'_>) -> Result<(), WriteFailed>
+    ensures ok { OnOk result (Appends (E.taken err.old) (E.taken err.new) (bytes_of message.entry)) }
+    ensures err { OnErr result (AppendsPart (E.taken err.old) (E.taken err.new) (bytes_of message.entry)) }
     ensures cause { HasCause (E.faults err.old) (E.faults err.new) result }
 {
-    let mut lines = Buffer::new();
+    let mut digits = Buffer::new();
     let mut columns = Buffer::new();
-    let line = lines.format(spot.line).as_bytes();
-    let column = columns.format(spot.column).as_bytes();
-    write_pieces(err, &[b"snapc: ", line, b":", column, b": ", text, b"\n"])
+    match message {
+        Message::Text { text } => write_pieces(err, &[b"snapc: ", text, b"\n"]),
+        Message::Name { text, name } => write_pieces(err, &[b"snapc: ", text, b" ", name, b"\n"]),
+        Message::Number { text, number } => {
+            let number = digits.format(number).as_bytes();
+            write_pieces(err, &[b"snapc: ", text, b" ", number, b"\n"])
+        }
+        Message::Names { text, from, to } => {
+            write_pieces(err, &[b"snapc: ", text, b" ", from, b" ", to, b"\n"])
+        }
+        Message::Counted {
+            text,
+            name,
+            between,
+            number,
+        } => {
+            let number = digits.format(number).as_bytes();
+            write_pieces(err, &[b"snapc: ", text, b" ", name, between, number, b"\n"])
+        }
+        Message::At { spot, text } => {
+            let line = digits.format(spot.line).as_bytes();
+            let column = columns.format(spot.column).as_bytes();
+            write_pieces(err, &[b"snapc: ", line, b":", column, b": ", text, b"\n"])
+        }
+        Message::Whole { text } => write_whole(err, text),
+    }
 }
 
-// Writes `snapc: TEXT NUMBER`.
-fn tell_number<E: Sink>(err: &mut E, text: &[u8], number: u64) -> Result<(), WriteFailed>
-    ensures ok { OnOk result (Appends (E.taken err.old) (E.taken err.new) (message_with text.now number)) }
-    ensures err { OnErr result (AppendsPart (E.taken err.old) (E.taken err.new) (message_with text.now number)) }
-    ensures cause { HasCause (E.faults err.old) (E.faults err.new) result }
+// `snapc: TEXT`
+fn text(text: &[u8]) -> Message<'_>
+    ensures { bytes_of result ≡ message_text text.entry.now }
 {
-    let mut digits = Buffer::new();
-    let number = digits.format(number).as_bytes();
-    write_pieces(err, &[b"snapc: ", text, b" ", number, b"\n"])
+    Message::Text { text }
 }
 
-// Writes `snapc: limit: WHICH COUNT`.
-fn tell_limit<E: Sink>(err: &mut E, which: Which, count: u64) -> Result<(), WriteFailed>
-    ensures ok { OnOk result (Appends (E.taken err.old) (E.taken err.new) (message_of_limit which count)) }
-    ensures err { OnErr result (AppendsPart (E.taken err.old) (E.taken err.new) (message_of_limit which count)) }
-    ensures cause { HasCause (E.faults err.old) (E.faults err.new) result }
+// `snapc: TEXT NUMBER`
+fn number(text: &[u8], number: u64) -> Message<'_>
+    ensures { bytes_of result ≡ message_with text.entry.now number }
 {
-    let mut digits = Buffer::new();
-    let count = digits.format(count).as_bytes();
-    write_pieces(
-        err,
-        &[b"snapc: limit: ", which_text(which), b" ", count, b"\n"],
-    )
+    Message::Number { text, number }
 }
 
-// Writes `snapc: TEXT`.
-fn tell_text<E: Sink>(err: &mut E, text: &[u8]) -> Result<(), WriteFailed>
-    ensures ok { OnOk result (Appends (E.taken err.old) (E.taken err.new) (message_text text.now)) }
-    ensures err { OnErr result (AppendsPart (E.taken err.old) (E.taken err.new) (message_text text.now)) }
-    ensures cause { HasCause (E.faults err.old) (E.faults err.new) result }
+// `snapc: TEXT NAME`
+fn named<'m>(text: &'m [u8], name: &'m [u8]) -> Message<'m>
+    ensures { bytes_of result ≡ message_naming text.entry.now name.entry.now }
 {
-    write_pieces(err, &[b"snapc: ", text, b"\n"])
+    Message::Name { text, name }
 }
 
-// Writes `snapc: cannot read NAME`.
-fn tell_read<E: Sink>(err: &mut E, name: &[u8]) -> Result<(), WriteFailed>
-    ensures ok { OnOk result (Appends (E.taken err.old) (E.taken err.new) (message_of_read name.now)) }
-    ensures err { OnErr result (AppendsPart (E.taken err.old) (E.taken err.new) (message_of_read name.now)) }
-    ensures cause { HasCause (E.faults err.old) (E.faults err.new) result }
-{
-    write_pieces(err, &[b"snapc: cannot read ", name, b"\n"])
-}
-
-// Writes `snapc: TEXT NAME`.
-fn tell_name<E: Sink>(err: &mut E, text: &[u8], name: &[u8]) -> Result<(), WriteFailed>
-    ensures ok { OnOk result (Appends (E.taken err.old) (E.taken err.new) (message_naming text.now name.now)) }
-    ensures err { OnErr result (AppendsPart (E.taken err.old) (E.taken err.new) (message_naming text.now name.now)) }
-    ensures cause { HasCause (E.faults err.old) (E.faults err.new) result }
-{
-    write_pieces(err, &[b"snapc: ", text, b" ", name, b"\n"])
-}
-
-// Writes why a file spells no topology.
-fn tell_topology<E: Sink>(err: &mut E, fault: &TopologyFault) -> Result<(), WriteFailed>
-    ensures ok { OnOk result (Appends (E.taken err.old) (E.taken err.new) (message_of_topology fault.now)) }
-    ensures err { OnErr result (AppendsPart (E.taken err.old) (E.taken err.new) (message_of_topology fault.now)) }
-    ensures cause { HasCause (E.faults err.old) (E.faults err.new) result }
+// Why a file spells no topology.
+fn topology_message(fault: &TopologyFault) -> Message<'_>
+    ensures { bytes_of result ≡ message_of_topology fault.now }
 {
     match fault {
-        TopologyFault::NotToml => tell_text(err, b"topology: not TOML"),
-        TopologyFault::Shape { rule } => tell_number(err, b"topology: shape", *rule as u64),
-        TopologyFault::SwitchTwice { name } => {
-            tell_name(err, b"topology: switch twice", name.bytes())
-        }
-        TopologyFault::UnknownSwitch { name } => {
-            tell_name(err, b"topology: unknown switch", name.bytes())
-        }
+        TopologyFault::NotToml => text(b"topology: not TOML"),
+        TopologyFault::Shape { rule } => number(b"topology: shape", *rule as u64),
+        TopologyFault::SwitchTwice { name } => named(b"topology: switch twice", name.bytes()),
+        TopologyFault::UnknownSwitch { name } => named(b"topology: unknown switch", name.bytes()),
     }
 }
 
@@ -308,61 +342,39 @@ pub(crate) fn name_at(names: &Names, number: u16) -> &[u8]
     }
 }
 
-// Writes `snapc: unreachable: A B`.
-fn tell_apart<E: Sink>(err: &mut E, switches: &Names, a: u16, b: u16) -> Result<(), WriteFailed>
-    ensures ok { OnOk result (Appends (E.taken err.old) (E.taken err.new) (message_apart switches.now a b)) }
-    ensures err { OnErr result (AppendsPart (E.taken err.old) (E.taken err.new) (message_apart switches.now a b)) }
-    ensures cause { HasCause (E.faults err.old) (E.faults err.new) result }
-{
-    let (from, to) = (name_at(switches, a), name_at(switches, b));
-    write_pieces(err, &[b"snapc: unreachable: ", from, b" ", to, b"\n"])
-}
-
-// Writes why a file spells no demand.
-fn tell_demand<E: Sink>(err: &mut E, fault: &NoDemand) -> Result<(), WriteFailed>
-    ensures ok { OnOk result (Appends (E.taken err.old) (E.taken err.new) (message_of_demand fault.now)) }
-    ensures err { OnErr result (AppendsPart (E.taken err.old) (E.taken err.new) (message_of_demand fault.now)) }
-    ensures cause { HasCause (E.faults err.old) (E.faults err.new) result }
+// Why a file spells no demand.
+fn demand_message(fault: &NoDemand) -> Message<'_>
+    ensures { bytes_of result ≡ message_of_demand fault.now }
 {
     match fault {
-        NoDemand::NotToml => tell_text(err, b"demand: not TOML"),
-        NoDemand::Shape { rule } => tell_number(err, b"demand: shape", *rule as u64),
-        NoDemand::NoPort { port } => tell_number(err, b"demand: no port", *port as u64),
-        NoDemand::NoArray { name } => tell_name(err, b"demand: no array", name.bytes()),
-        NoDemand::NoSwitch { name } => tell_name(err, b"demand: no switch", name.bytes()),
-        NoDemand::Nowhere { arrays, array } => {
-            tell_name(err, b"demand: nowhere", name_at(arrays, *array))
-        }
+        NoDemand::NotToml => text(b"demand: not TOML"),
+        NoDemand::Shape { rule } => number(b"demand: shape", *rule as u64),
+        NoDemand::NoPort { port } => number(b"demand: no port", *port as u64),
+        NoDemand::NoArray { name } => named(b"demand: no array", name.bytes()),
+        NoDemand::NoSwitch { name } => named(b"demand: no switch", name.bytes()),
+        NoDemand::Nowhere { arrays, array } => named(b"demand: nowhere", name_at(arrays, *array)),
     }
 }
 
-// Writes `snapc: placement: apart A B`.
-fn tell_torn<E: Sink>(err: &mut E, arrays: &Names, a: u16, b: u16) -> Result<(), WriteFailed>
-    ensures ok { OnOk result (Appends (E.taken err.old) (E.taken err.new) (message_torn arrays.now a b)) }
-    ensures err { OnErr result (AppendsPart (E.taken err.old) (E.taken err.new) (message_torn arrays.now a b)) }
-    ensures cause { HasCause (E.faults err.old) (E.faults err.new) result }
-{
-    let (from, to) = (name_at(arrays, a), name_at(arrays, b));
-    write_pieces(err, &[b"snapc: placement: apart ", from, b" ", to, b"\n"])
-}
-
-// Writes why a file spells no placement.
-fn tell_placement<E: Sink>(err: &mut E, fault: &NoPlacement) -> Result<(), WriteFailed>
-    ensures ok { OnOk result (Appends (E.taken err.old) (E.taken err.new) (message_of_placement fault.now)) }
-    ensures err { OnErr result (AppendsPart (E.taken err.old) (E.taken err.new) (message_of_placement fault.now)) }
-    ensures cause { HasCause (E.faults err.old) (E.faults err.new) result }
+// Why a file spells no placement.
+fn placement_message(fault: &NoPlacement) -> Message<'_>
+    ensures { bytes_of result ≡ message_of_placement fault.now }
 {
     match fault {
-        NoPlacement::NotToml => tell_text(err, b"placement: not TOML"),
-        NoPlacement::Shape { rule } => tell_number(err, b"placement: shape", *rule as u64),
-        NoPlacement::NoArray { name } => tell_name(err, b"placement: no array", name.bytes()),
+        NoPlacement::NotToml => text(b"placement: not TOML"),
+        NoPlacement::Shape { rule } => number(b"placement: shape", *rule as u64),
+        NoPlacement::NoArray { name } => named(b"placement: no array", name.bytes()),
         NoPlacement::NoPlace { arrays, array } => {
-            tell_name(err, b"placement: no place for", name_at(arrays, *array))
+            named(b"placement: no place for", name_at(arrays, *array))
         }
         NoPlacement::NoSwitch { arrays, array } => {
-            tell_name(err, b"placement: no switch for", name_at(arrays, *array))
+            named(b"placement: no switch for", name_at(arrays, *array))
         }
-        NoPlacement::Apart { arrays, a, b } => tell_torn(err, arrays, *a, *b),
+        NoPlacement::Apart { arrays, a, b } => Message::Names {
+            text: b"placement: apart",
+            from: name_at(arrays, *a),
+            to: name_at(arrays, *b),
+        },
     }
 }
 
@@ -381,39 +393,18 @@ fn rule_text(rule: Rule) -> &'static [u8]
     }
 }
 
-// Writes `snapc: tables: rule RULE line LINE`, with the rule's name.
-fn tell_named_rule<E: Sink>(err: &mut E, name: &[u8], line: u64) -> Result<(), WriteFailed>
-    ensures ok { OnOk result (Appends (E.taken err.old) (E.taken err.new) (message_named_rule name.now line)) }
-    ensures err { OnErr result (AppendsPart (E.taken err.old) (E.taken err.new) (message_named_rule name.now line)) }
-    ensures cause { HasCause (E.faults err.old) (E.faults err.new) result }
-{
-    let mut digits = Buffer::new();
-    let line = digits.format(line).as_bytes();
-    write_pieces(
-        err,
-        &[b"snapc: tables: rule ", name, b" line ", line, b"\n"],
-    )
-}
-
-// Writes `snapc: tables: rule RULE line LINE`.
-fn tell_rule<E: Sink>(err: &mut E, rule: Rule, line: u64) -> Result<(), WriteFailed>
-    ensures ok { OnOk result (Appends (E.taken err.old) (E.taken err.new) (message_of_rule rule line)) }
-    ensures err { OnErr result (AppendsPart (E.taken err.old) (E.taken err.new) (message_of_rule rule line)) }
-    ensures cause { HasCause (E.faults err.old) (E.faults err.new) result }
-{
-    let name = rule_text(rule);
-    tell_named_rule(err, name, line)
-}
-
-// Writes why a file spells no valid tables.
-fn tell_tables<E: Sink>(err: &mut E, fault: NoTables) -> Result<(), WriteFailed>
-    ensures ok { OnOk result (Appends (E.taken err.old) (E.taken err.new) (message_of_tables fault)) }
-    ensures err { OnErr result (AppendsPart (E.taken err.old) (E.taken err.new) (message_of_tables fault)) }
-    ensures cause { HasCause (E.faults err.old) (E.faults err.new) result }
+// Why a file spells no valid tables.
+fn tables_message(fault: NoTables) -> Message<'static>
+    ensures { bytes_of result ≡ message_of_tables fault }
 {
     match fault {
-        NoTables::Line { line } => tell_number(err, b"tables: line", line),
-        NoTables::Broken { rule, line } => tell_rule(err, rule, line),
+        NoTables::Line { line } => number(b"tables: line", line),
+        NoTables::Broken { rule, line } => Message::Counted {
+            text: b"tables: rule",
+            name: rule_text(rule),
+            between: b" line ",
+            number: line,
+        },
     }
 }
 
@@ -447,6 +438,50 @@ impl Refusal<'_> {
         }
     }
 
+    // The message, before it is written.
+    fn message(&self) -> Message<'_>
+        ensures { bytes_of result ≡ message_of (Err self.now) }
+    {
+        match self {
+            Refusal::Usage => text(b"usage"),
+            Refusal::Read { name } => named(b"cannot read", name),
+            Refusal::Write => text(b"cannot write"),
+            Refusal::Syntax { fault, spot } => Message::At {
+                spot: *spot,
+                text: syntax_text(*fault),
+            },
+            Refusal::Naming { fault, spot } => Message::At {
+                spot: *spot,
+                text: naming_text(*fault),
+            },
+            Refusal::Limit { which, count } => Message::Counted {
+                text: b"limit:",
+                name: which_text(*which),
+                between: b" ",
+                number: *count,
+            },
+            Refusal::Topology { fault } => topology_message(fault),
+            Refusal::Unreachable { switches, a, b } => Message::Names {
+                text: b"unreachable:",
+                from: name_at(switches, *a),
+                to: name_at(switches, *b),
+            },
+            Refusal::Race { text } => Message::Whole { text },
+            Refusal::Declarations => text(b"declarations differ"),
+            Refusal::Differ { text } => Message::Whole { text },
+            Refusal::Packets { line } => number(b"packets: line", *line),
+            Refusal::NoMemory => text(b"out of memory"),
+            Refusal::Undefined { packet } => number(b"undefined: packet", *packet),
+            Refusal::Demand { fault } => demand_message(fault),
+            Refusal::Placement { fault } => placement_message(fault),
+            Refusal::Tables { fault } => tables_message(*fault),
+            Refusal::Schedule { line } => number(b"schedule: line", *line),
+            Refusal::Changes { line } => number(b"changes: line", *line),
+            Refusal::ReadChange { name } => named(b"cannot read", name.bytes()),
+            Refusal::VersionOne => text(b"tables: version 1"),
+        }
+    }
+
     /// Writes the message, one line, or the lines of a race or a difference. It takes no memory.
     ///
     /// # Errors
@@ -457,29 +492,7 @@ impl Refusal<'_> {
         ensures err { OnErr result (AppendsPart (E.taken err.old) (E.taken err.new) (message_of (Err self.now))) }
         ensures cause { HasCause (E.faults err.old) (E.faults err.new) result }
     {
-        match self {
-            Refusal::Usage => tell_text(err, b"usage"),
-            Refusal::Read { name } => tell_read(err, name),
-            Refusal::Write => tell_text(err, b"cannot write"),
-            Refusal::Syntax { fault, spot } => tell_at(err, *spot, syntax_text(*fault)),
-            Refusal::Naming { fault, spot } => tell_at(err, *spot, naming_text(*fault)),
-            Refusal::Limit { which, count } => tell_limit(err, *which, *count),
-            Refusal::Topology { fault } => tell_topology(err, fault),
-            Refusal::Unreachable { switches, a, b } => tell_apart(err, switches, *a, *b),
-            Refusal::Race { text } => write_whole(err, text),
-            Refusal::Declarations => tell_text(err, b"declarations differ"),
-            Refusal::Differ { text } => write_whole(err, text),
-            Refusal::Packets { line } => tell_number(err, b"packets: line", *line),
-            Refusal::NoMemory => tell_text(err, b"out of memory"),
-            Refusal::Undefined { packet } => tell_number(err, b"undefined: packet", *packet),
-            Refusal::Demand { fault } => tell_demand(err, fault),
-            Refusal::Placement { fault } => tell_placement(err, fault),
-            Refusal::Tables { fault } => tell_tables(err, *fault),
-            Refusal::Schedule { line } => tell_number(err, b"schedule: line", *line),
-            Refusal::Changes { line } => tell_number(err, b"changes: line", *line),
-            Refusal::ReadChange { name } => tell_read(err, name.bytes()),
-            Refusal::VersionOne => tell_text(err, b"tables: version 1"),
-        }
+        write(err, self.message())
     }
 }
 
