@@ -1,8 +1,8 @@
 -- What facts about some components and arrays decide beside a context is decided by what the context knows about them.
-use Rattle.std.proofs.Common.{◌≡◌, ◌≢◌, ◌⊎◌, inl, inr, ℕ, ◌+◌, ◌<◌, ◌≤◌, ◌^◌, Bool, true, false, cond, not, ◌&&◌, List, [], ◌∷◌, ◌++◌, length, map, get_or, refl, sym, ap, subst, ◌∙◌, arith, Option, Some, None}
-use Rattle.std.specs.Prelude.{◌==◌, All, slice_index}
+use Rattle.std.proofs.Common.{◌≡◌, ◌≢◌, ◌⊎◌, inl, inr, ℕ, ◌+◌, ◌-◌, ◌<◌, ◌≤◌, ◌^◌, Bool, true, false, cond, not, ◌&&◌, List, [], ◌∷◌, ◌++◌, length, map, get_or, refl, sym, ap, subst, ◌∙◌, arith, Option, Some, None}
+use Rattle.std.specs.Prelude.{◌==◌, nat_lt, All, slice_index}
 use Rattle.std.specs.List.{AllByRecursion}
-use Rattle.std.proofs.lemmas.Bool.{eqb-true, eqb-false, cond-true, cond-false, and_parts, cases_Bool, both_ways}
+use Rattle.std.proofs.lemmas.Bool.{eqb-true, eqb-false, ne_eqb, cond-true, cond-false, and_parts, cases_Bool, both_ways}
 use Rattle.std.proofs.lemmas.List.{length-map, get_or_default}
 use Rattle.std.proofs.lemmas.List.Elements.{All-append, All-contains, All-from_recursion, recursion_from_All}
 use Rattle.snap_core.specs.declared.policy.Atom.{Atom}
@@ -17,17 +17,18 @@ use Rattle.snap_core.specs.Variables.{has}
 use Rattle.snap_core.specs.Inputs.{IsPacket}
 use Rattle.snap_ctx.specs.declared.fact.Fact.{Fact}
 use Rattle.snap_ctx.specs.Meets.{Meets, IsMet}
-use Rattle.snap_ctx.specs.Classes.{shift, class_of, normal, atom_class, IsTerm, IsAtom, IsTest, Fits, is_state, var_of, index_of, left_of, right_of, Says, SamePlace, FactRule, PairRule, Rules}
-use Rattle.snap_ctx.specs.Known.{IsAmong, AtomOver, TermOver, TestOver, Normal, Differ, Held, within, are_within, outside, are_outside, is_number, are_numbers, spot, tied, loose, apart_of, held_of, known, with_some, all_known, normals_key, AreSame, IsRooted, IsKnown}
+use Rattle.snap_ctx.specs.Classes.{wrap, shift, class_of, normal, atom_class, IsTerm, IsAtom, IsTest, IsClass, Fits, is_state, var_of, index_of, left_of, right_of, Says, SamePlace, FactRule, PairRule, Rules}
+use Rattle.snap_ctx.specs.Known.{IsAmong, AtomOver, TermOver, TestOver, Normal, Differ, Held, within, are_within, outside, are_outside, is_number, are_numbers, spot, tied, loose, difference, apart_of, held_of, known, with_some, all_known, normals_key, AreSame, IsRooted, IsKnown}
 use Rattle.snap_ctx.specs.View.{View, IsContext}
 use Rattle.snap_ctx.proofs.Algebra.{normal-value}
 use Rattle.snap_ctx.proofs.Keys.{same_normals, same_classes}
+use Rattle.snap_ctx.proofs.Merging.{solve_num, solve_sum}
 use Rattle.snap_ctx.proofs.Model.{model}
 use Rattle.snap_ctx.proofs.Pinned.{pinned, pinned_within, pinned_outside, class_of-pinned, normal-pinned, index-pinned, index_within, index_outside, all_numbers, classes_pinned, still_apart}
 use Rattle.snap_ctx.proofs.Places.{passes-state}
-use Rattle.snap_ctx.proofs.Roots.{left-term, right-term, index-atoms}
+use Rattle.snap_ctx.proofs.Roots.{normal_term, left-term, right-term, index-atoms}
 use Rattle.snap_ctx.proofs.Sound.{index-values, alone_says, passes-alone}
-use Rattle.snap_ctx.proofs.Wrap.{wrap_zero}
+use Rattle.snap_ctx.proofs.Wrap.{wrap_cancel_right, wrap_zero}
 
 -- ---- what is known holds
 abbrev SaysSo : Arrays → List ℕ → Normal → Type 0
@@ -46,13 +47,45 @@ parts_said : (m : Arrays) (k : List ℕ) (o : Option Normal) (ns : List Normal) 
 parts_said m k None ns h = (tt, h)
 parts_said m k (Some n) ns h = h
 
+undo_num : (x y p : ℕ) → y < 2 ^ 64 → p < 2 ^ 64 → wrap x 0 ≡ wrap y (2 ^ 64 - p) → wrap x p ≡ y
+undo_num x y p hy hp e = omega arith
+
+undo_sum : (x y p q : ℕ) → p < 2 ^ 64 → wrap x 0 ≡ wrap y (wrap q (2 ^ 64 - p)) → wrap x p ≡ wrap y q
+undo_sum x y p q hp e = omega arith
+
+-- two terms differ on a packet where what is told of them does
+difference_said : (m : Arrays) (k : List ℕ) (n : ℕ) (a b : Term) → IsTerm n a → IsTerm n b → (term_value a k == term_value b k) ≡ false → SomeSaysSo m k (difference a b)
+difference_said m k n (Num x) (Num y) ha hb h = tt
+difference_said m k n (Num x) (Plus d q) ha hb h = ne_eqb _ _ (λ e. eqb-false _ _ h (sym (undo_num (slice_index k d) x q ha hb.1 e)))
+difference_said m k n (Plus c p) (Num y) ha hb h = ne_eqb _ _ (λ e. eqb-false _ _ h (undo_num (slice_index k c) y p hb ha.1 e))
+difference_said m k n (Plus c p) (Plus d q) ha hb h = by (c == d) (nat_lt c d)
+  where
+    by : (s t : Bool) → SomeSaysSo m k (cond s None (cond t (Some (Differ (Plus c 0) (Plus d (wrap q (2 ^ 64 - p))))) (Some (Differ (Plus d 0) (Plus c (wrap p (2 ^ 64 - q)))))))
+    by true t = tt
+    by false true = ne_eqb _ _ (λ e. eqb-false _ _ h (undo_sum (slice_index k c) (slice_index k d) p q ha.1 e))
+    by false false = ne_eqb _ _ (λ e. eqb-false _ _ h (sym (undo_sum (slice_index k d) (slice_index k c) q p hb.1 e)))
+
+still_differ : (m : Arrays) (k : List ℕ) (n : ℕ) (a b : Term) → IsTerm n a → IsTerm n b → a ≢ b → SomeSaysSo m k (difference a b) → term_value a k ≢ term_value b k
+still_differ m k n (Num x) (Num y) ha hb ne s e = ne (ap Num e)
+still_differ m k n (Num x) (Plus d q) ha hb ne s e = eqb-false _ _ s (solve_num (slice_index k d) x q hb.1 (sym e))
+still_differ m k n (Plus c p) (Num y) ha hb ne s e = eqb-false _ _ s (solve_num (slice_index k c) y p ha.1 e)
+still_differ m k n (Plus c p) (Plus d q) ha hb ne s e = by (c == d) (nat_lt c d) refl s
+  where
+    by : (u t : Bool) → (c == d) ≡ u → SomeSaysSo m k (cond u None (cond t (Some (Differ (Plus c 0) (Plus d (wrap q (2 ^ 64 - p))))) (Some (Differ (Plus d 0) (Plus c (wrap p (2 ^ 64 - q))))))) → ⊥
+    by true t i h =
+        let same : c ≡ d = eqb-true c d i in
+        let plus : p ≡ q = wrap_cancel_right (slice_index k c) p q ha.1 hb.1 (e ∙ ap (λ (j : ℕ). wrap (slice_index k j) q) (sym same)) in
+        ne (λ j. Plus (same j) (plus j))
+    by false true i h = eqb-false _ _ h (solve_sum (slice_index k c) (slice_index k d) p q ha.1 e)
+    by false false i h = eqb-false _ _ h (solve_sum (slice_index k d) (slice_index k c) q p hb.1 (sym e))
+
 module _ (cl : List Term) (roots settled : ℕ) (m : Arrays) (k : List ℕ) where
-  apart_said : (y : Bool) (a b : Term) → (term_value a k == term_value b k) ≡ y → SomeSaysSo m k (apart_of roots y a b)
-  apart_said true a b h = tt
-  apart_said false a b h = by (within roots a && within roots b)
+  apart_said : (y : Bool) (a b : Term) → IsTerm (length cl) a → IsTerm (length cl) b → (term_value a k == term_value b k) ≡ y → SomeSaysSo m k (apart_of roots y a b)
+  apart_said true a b ha hb h = tt
+  apart_said false a b ha hb h = by (within roots a && within roots b)
     where
-      by : (c : Bool) → SomeSaysSo m k (cond c (Some (Differ a b)) None)
-      by true = h
+      by : (c : Bool) → SomeSaysSo m k (cond c (difference a b) None)
+      by true = difference_said m k (length cl) a b ha hb h
       by false = tt
 
   held_said : (v : ℕ) (ix : List Term) (t : Term) (y : Bool) → (m (record { var = v; index = map (λ u. term_value u k) ix }) == term_value t k) ≡ y → SomeSaysSo m k (held_of roots v ix t y)
@@ -70,8 +103,8 @@ module _ (cl : List Term) (roots settled : ℕ) (m : Arrays) (k : List ℕ) wher
       let u = normal-value k cl (left_of t) fits (left-term (length cl) t test) in
       passes-state m k t st ∙ (λ i. m (record { var = var_of t; index = ix i }) == sym u i)
 
-  known_said : (f : Fact) → IsTest (length cl) f.test → IsPacket (length cl) k → Fits cl k → passes f.test m k ≡ f.yes → SomeSaysSo m k (known cl roots settled f.test f.yes)
-  known_said f test p fits h = by (is_state f.test) refl
+  known_said : (f : Fact) → All (IsClass cl) cl → IsTest (length cl) f.test → IsPacket (length cl) k → Fits cl k → passes f.test m k ≡ f.yes → SomeSaysSo m k (known cl roots settled f.test f.yes)
+  known_said f classes test p fits h = by (is_state f.test) refl
     where
       held : is_state f.test ≡ true → (c : Bool) → SomeSaysSo m k (cond c None (held_of roots (var_of f.test) (spot cl f.test) (normal cl (left_of f.test)) f.yes))
       held st true = tt
@@ -79,11 +112,12 @@ module _ (cl : List Term) (roots settled : ℕ) (m : Arrays) (k : List ℕ) wher
 
       by : (b : Bool) → is_state f.test ≡ b → SomeSaysSo m k (cond b (cond (has settled (var_of f.test)) None (held_of roots (var_of f.test) (spot cl f.test) (normal cl (left_of f.test)) f.yes)) (apart_of roots f.yes (normal cl (left_of f.test)) (normal cl (right_of f.test))))
       by true st = held st (has settled (var_of f.test))
-      by false st = apart_said f.yes (normal cl (left_of f.test)) (normal cl (right_of f.test)) (alone_says cl f m k test st p h fits)
+      by false st = apart_said f.yes (normal cl (left_of f.test)) (normal cl (right_of f.test))
+          (normal_term cl (left_of f.test) classes (left-term (length cl) f.test test)) (normal_term cl (right_of f.test) classes (right-term (length cl) f.test test)) (alone_says cl f m k test st p h fits)
 
-  all_said : (facts : List Fact) → AllByRecursion (λ f. IsTest (length cl) f.test) facts → IsPacket (length cl) k → Fits cl k → AllByRecursion (λ f. passes f.test m k ≡ f.yes) facts → AllByRecursion (SaysSo m k) (all_known cl roots settled facts)
-  all_said [] t p fits h = tt
-  all_said (f ∷ fs) t p fits h = with_said m k (known cl roots settled f.test f.yes) (all_known cl roots settled fs) (known_said f t.0 p fits h.0) (all_said fs t.1 p fits h.1)
+  all_said : (facts : List Fact) → All (IsClass cl) cl → AllByRecursion (λ f. IsTest (length cl) f.test) facts → IsPacket (length cl) k → Fits cl k → AllByRecursion (λ f. passes f.test m k ≡ f.yes) facts → AllByRecursion (SaysSo m k) (all_known cl roots settled facts)
+  all_said [] classes t p fits h = tt
+  all_said (f ∷ fs) classes t p fits h = with_said m k (known cl roots settled f.test f.yes) (all_known cl roots settled fs) (known_said f classes t.0 p fits h.0) (all_said fs classes t.1 p fits h.1)
 
   each_said : (facts : List Fact) → AllByRecursion (SaysSo m k) (all_known cl roots settled facts) → AllByRecursion (λ f. SomeSaysSo m k (known cl roots settled f.test f.yes)) facts
   each_said [] h = tt
@@ -232,12 +266,15 @@ module _ (w : View) (comps arrays : ℕ) (key : List ℕ) (is : IsKnown w comps 
       b : Term
       b = normal w.classes (right_of f.test)
 
-      values : SomeSaysSo m k (apart_of is.roots false a b) → within is.roots a ≡ true → within is.roots b ≡ true → term_value a k ≢ term_value b k
-      values s x y = eqb-false (term_value a k) (term_value b k) (subst (SomeSaysSo m k) (λ i. cond (x i && y i) (Some (Differ a b)) None) s)
+      values : a ≢ b → SomeSaysSo m k (apart_of is.roots false a b) → within is.roots a ≡ true → within is.roots b ≡ true → term_value a k ≢ term_value b k
+      values ne s x y =
+          still_differ m k (length w.classes) a b
+          (normal_term w.classes (left_of f.test) ctx.rules.classes (left-term (length w.classes) f.test test)) (normal_term w.classes (right_of f.test) ctx.rules.classes (right-term (length w.classes) f.test test))
+          ne (subst (SomeSaysSo m k) (λ i. cond (x i && y i) (difference a b) None) s)
 
       by : (y : Bool) → f.yes ≡ y → Says y a b → SomeSaysSo m k (apart_of is.roots y a b) → Says y (pinned is.roots k a) (pinned is.roots k b)
       by true e s h = ap (pinned is.roots k) s
-      by false e s h = still_apart is.roots k a b s (values h)
+      by false e s h = still_apart is.roots k a b s (values s h)
 
   -- facts about the components and arrays
   over_atom : (a : Atom) → IsAtom (length w.classes) a → AtomOver comps a → atom_class new a ≡ Num (value_of a k)
@@ -342,7 +379,7 @@ known_alike v w comps arrays key cv cw count kv kw m k p facts path tests over m
     let normals = same_normals kv.told kw.told both.1 in
     let told = cv.told m k p facts in
     let all_of_v : AllByRecursion (SaysSo m k) (all_known v.classes kv.roots kv.settled v.facts)
-    = all_said v.classes kv.roots kv.settled m k v.facts (recursion_from_All (λ f. IsTest (length v.classes) f.test) v.facts cv.rules.tests) p told (recursion_from_All (λ f. passes f.test m k ≡ f.yes) v.facts facts) in
+    = all_said v.classes kv.roots kv.settled m k v.facts cv.rules.classes (recursion_from_All (λ f. IsTest (length v.classes) f.test) v.facts cv.rules.tests) p told (recursion_from_All (λ f. passes f.test m k ≡ f.yes) v.facts facts) in
     let of_key : AllByRecursion (SaysSo m k) kw.told = subst (λ (ns : List Normal). AllByRecursion (SaysSo m k) ns) normals (all_same (SaysSo m k) kv.told (all_known v.classes kv.roots kv.settled v.facts) kv.same all_of_v) in
     let said : AllByRecursion (SaysSo m k) (all_known w.classes kw.roots kw.settled w.facts)
     = all_same (SaysSo m k) (all_known w.classes kw.roots kw.settled w.facts) kw.told (λ n. ((kw.same n).1, (kw.same n).0)) of_key in

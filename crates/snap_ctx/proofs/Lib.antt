@@ -17,6 +17,8 @@ pub mod Pinned
 pub mod Places
 pub mod Roots
 pub mod Sound
+pub mod Staying
+pub mod Testing
 pub mod Tying
 pub mod Walks
 pub mod Words

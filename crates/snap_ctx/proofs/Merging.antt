@@ -102,10 +102,10 @@ merged_some cl new (Plus r p) (Plus q u) k ha hb ne e =
     ]
     in by (r == q) (p == u) refl refl e
 
-solve_num : (x y p : ℕ) → p < 2 ^ 64 → wrap x p ≡ y → wrap x 0 ≡ wrap y (2 ^ 64 - p)
+pub solve_num : (x y p : ℕ) → p < 2 ^ 64 → wrap x p ≡ y → wrap x 0 ≡ wrap y (2 ^ 64 - p)
 solve_num x y p h e = omega arith
 
-solve_sum : (x y p u : ℕ) → p < 2 ^ 64 → wrap x p ≡ wrap y u → wrap x 0 ≡ wrap y (wrap u (2 ^ 64 - p))
+pub solve_sum : (x y p u : ℕ) → p < 2 ^ 64 → wrap x p ≡ wrap y u → wrap x 0 ≡ wrap y (wrap u (2 ^ 64 - p))
 solve_sum x y p u h e = omega arith
 
 -- the merged classes fit where the two terms are equal

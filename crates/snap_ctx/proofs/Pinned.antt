@@ -1,5 +1,5 @@
 -- Classes whose roots, of a set, have the numbers of a packet.
-use Rattle.std.proofs.Common.{◌≡◌, ◌≢◌, ℕ, ◌<◌, ◌^◌, Bool, true, false, cond, not, ◌&&◌, List, [], ◌∷◌, length, map, get_or, refl, sym, ap, subst, ◌∙◌, arith}
+use Rattle.std.proofs.Common.{◌≡◌, ◌≢◌, ℕ, ◌<◌, Bool, true, false, cond, not, List, [], ◌∷◌, length, map, get_or, refl, sym, ap, ◌∙◌}
 use Rattle.std.specs.Prelude.{All}
 use Rattle.std.specs.List.{AllByRecursion}
 use Rattle.std.proofs.lemmas.Bool.{cond-true, cond-false, and_parts}
@@ -11,7 +11,7 @@ use Rattle.snap_core.specs.declared.policy.Term.TheVariants.{Num, Plus}
 use Rattle.snap_core.specs.Tests.{term_value}
 use Rattle.snap_core.specs.Variables.{has}
 use Rattle.snap_ctx.specs.Classes.{wrap, shift, class_of, normal, atom_class, IsTerm, IsAtom, IsClass}
-use Rattle.snap_ctx.specs.Known.{within, are_within, outside, are_outside, is_number, are_numbers}
+use Rattle.snap_ctx.specs.Known.{within, are_within, outside, are_outside, are_numbers}
 use Rattle.snap_ctx.proofs.Algebra.{term_value-shift}
 use Rattle.snap_ctx.proofs.Wrap.{wrap_below}
 

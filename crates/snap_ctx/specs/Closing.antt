@@ -1,15 +1,17 @@
 -- What a look over facts finds, and what it makes of the classes.
-use Rattle.std.specs.Prelude.{◌≡◌, ◌≢◌, ℕ, ◌-◌, ◌^◌, ◌==◌, Bool, true, false, if◌then◌else◌, List, length, map, All, Option, Some, None}
+use Rattle.std.specs.Prelude.{◌≡◌, ◌≢◌, ℕ, ◌-◌, ◌^◌, ◌<◌, ◌==◌, Bool, true, false, if◌then◌else◌, List, length, map, All, Option, Some, None}
 use Rattle.snap_core.specs.declared.policy.Term.{Term}
 use Rattle.snap_core.specs.declared.policy.Term.TheVariants.{Num, Plus}
 use Rattle.snap_core.specs.Arrays.{Arrays}
+use Rattle.snap_core.specs.declared.policy.Test.{Test}
 use Rattle.snap_core.specs.Tests.{term_value, passes}
+use Rattle.snap_core.specs.Variables.{has}
 use Rattle.snap_core.specs.Inputs.{IsPacket}
 use Rattle.snap_ctx.specs.declared.fact.Fact.{Fact}
 use Rattle.snap_ctx.specs.declared.look.Breach.{Breach}
 use Rattle.snap_ctx.specs.declared.look.Breach.TheVariants.{Join, Contradiction}
 use Rattle.snap_ctx.specs.Meets.{Meets}
-use Rattle.snap_ctx.specs.Classes.{wrap, shift, IsClass, Fits, FactRule, PairRule}
+use Rattle.snap_ctx.specs.Classes.{wrap, shift, class_of, normal, atom_class, left_of, right_of, index_of, IsClass, Fits, FactRule, PairRule}
 
 -- it holds nowhere that the classes fit
 abbrev pub IsBroken : (Arrays → List ℕ → Type 0) → List Term → Type 0
@@ -86,3 +88,13 @@ pub record IsClosed (facts : List Fact) (fact : Fact) (cl new : List Term) : Typ
   pub classes : All (IsClass new) new
   pub rules : AllRules new facts fact
   pub keeps : Keeps (MeetsWith fact facts) cl new
+
+-- the components outside of a set have the classes that they had
+abbrev pub AgreeOutside : ℕ → List Term → List Term → Type 0
+AgreeOutside set first cl = (c : ℕ) → c < length cl → has set c ≡ false → class_of first c ≡ class_of cl c
+
+-- the classes of a test's terms and index are what they were
+pub record Stays (first cl : List Term) (t : Test) : Type 0 where
+  pub left : normal first (left_of t) ≡ normal cl (left_of t)
+  pub right : normal first (right_of t) ≡ normal cl (right_of t)
+  pub index : map (atom_class first) (index_of t) ≡ map (atom_class cl) (index_of t)

@@ -1,5 +1,5 @@
 -- What is known about some components and arrays: the classes of the components, and the facts that bear on them.
-use Rattle.std.specs.Prelude.{◌≡◌, ◌⊎◌, ◌↔◌, ℕ, ◌+◌, ◌<◌, ◌&&◌, not, Bool, true, false, if◌then◌else◌, List, [], ◌∷◌, ◌++◌, length, map, Option, None, Some, All}
+use Rattle.std.specs.Prelude.{◌≡◌, ◌⊎◌, ◌↔◌, ℕ, ◌+◌, ◌-◌, ◌^◌, ◌<◌, ◌==◌, nat_lt, ◌&&◌, not, Bool, true, false, if◌then◌else◌, List, [], ◌∷◌, ◌++◌, length, map, Option, None, Some, All}
 use Rattle.std.specs.Global.{Vec}
 use Rattle.std.specs.List.{AllByRecursion, Contains}
 use Rattle.snap_core.specs.declared.policy.Atom.{Atom}
@@ -10,7 +10,7 @@ use Rattle.snap_core.specs.declared.policy.Test.{Test}
 use Rattle.snap_core.specs.declared.policy.Test.TheVariants.{Value, Equal, State}
 use Rattle.snap_core.specs.Variables.{has}
 use Rattle.snap_ctx.specs.declared.fact.Fact.{Fact}
-use Rattle.snap_ctx.specs.Classes.{class_of, normal, atom_class, is_state, var_of, index_of, left_of, right_of}
+use Rattle.snap_ctx.specs.Classes.{wrap, class_of, normal, atom_class, is_state, var_of, index_of, left_of, right_of}
 use Rattle.snap_ctx.specs.View.{View}
 
 -- ---- tests about components and arrays
@@ -72,9 +72,19 @@ spot cl t = map (atom_class cl) (index_of t)
 abbrev pub tied : ℕ → List Term → Term → Bool
 tied roots ix t = are_within roots ix && within roots t
 
+-- two terms that differ, by one of their components, the lesser of two, and what it differs from, where the terms
+-- alone don't tell that they do
+abbrev pub difference : Term → Term → Option Normal
+difference (Num x) (Num y) = None
+difference (Num x) (Plus d q) = Some (Differ (Plus d 0) (Num (wrap x (2 ^ 64 - q))))
+difference (Plus c p) (Num y) = Some (Differ (Plus c 0) (Num (wrap y (2 ^ 64 - p))))
+difference (Plus c p) (Plus d q) =
+    if c == d then None
+    else (if nat_lt c d then Some (Differ (Plus c 0) (Plus d (wrap q (2 ^ 64 - p)))) else Some (Differ (Plus d 0) (Plus c (wrap p (2 ^ 64 - q)))))
+
 abbrev pub apart_of : ℕ → Bool → Term → Term → Option Normal
 apart_of roots true a b = None
-apart_of roots false a b = if within roots a && within roots b then Some (Differ a b) else None
+apart_of roots false a b = if within roots a && within roots b then difference a b else None
 
 abbrev pub held_of : ℕ → ℕ → List Term → Term → Bool → Option Normal
 held_of roots v ix t y = if tied roots ix t then Some (Held v ix t y) else None

@@ -1,10 +1,11 @@
 //! Classes of components: for each a number, or a root with an offset.
 
-ghost use Rattle.std.specs.Prelude.{◌≡◌, ◌<◌, ◌↔◌, All, IfOk, IsTrue, MatchBool, None, Some, length, map};
+ghost use Rattle.std.specs.Prelude.{◌≡◌, ◌<◌, ◌≤◌, ◌↔◌, All, IfOk, IsTrue, MatchBool, None, Some, length, map};
 ghost use Rattle.snap_ctx.specs.Classes.{atom_class, class_of, normal, IsAtom, IsTerm};
-ghost use Rattle.snap_ctx.specs.Closing.{merged, put};
+ghost use Rattle.snap_ctx.specs.Closing.{merged, put, AgreeOutside};
 ghost use Rattle.snap_ctx.specs.View.{AreFirst};
 
+use crate::sets::bit;
 use crate::terms::{replaced, same_term, shifted};
 use snap_core::NoMemory;
 use snap_core::policy::{Atom, Term};
@@ -46,6 +47,21 @@ pub(crate) fn atom_at(classes: &[Term], atom: Atom) -> Term
         Atom::Num(num) => Term::Num(num),
         Atom::Comp(comp) => class_at(classes, comp),
     }
+}
+
+// The components whose class isn't the same among both.
+pub(crate) fn changed(first: &[Term], classes: &[Term]) -> u64
+    requires few { length classes.now ≤ 64 }
+    requires same { length first.now ≡ length classes.now }
+    ensures { AgreeOutside result first.now classes.now }
+{
+    let mut set = 0;
+    for comp in 0..classes.len() as u16 {
+        if !same_term(class_at(first, comp), class_at(classes, comp)) {
+            set |= bit(comp);
+        }
+    }
+    set
 }
 
 // Whether two indices are of one place, as far as the classes tell.

@@ -1,6 +1,6 @@
 //! Closing classes under facts.
 
-ghost use Rattle.std.specs.Prelude.{◌≡◌, All, IfOk, MatchBool, MatchOption, length};
+ghost use Rattle.std.specs.Prelude.{◌≡◌, ◌≤◌, All, IfOk, MatchBool, MatchOption, length};
 ghost use Rattle.snap_ctx.specs.Classes.{IsClass, IsTest};
 ghost use Rattle.snap_ctx.specs.Closing.{IsBroken, IsClosed, MeetsWith, RulesOf};
 
@@ -13,8 +13,10 @@ use snap_core::policy::Term;
 use std::alloc::Global;
 
 // Draws all conclusions of the facts, or finds that they contradict each other. Until two classes
-// are made one, only the new fact can break a rule.
-fn close(classes: &mut [Term], facts: &Facts, fact: &Fact) -> bool
+// are made one, only the new fact can break a rule, and then facts whose classes changed.
+fn close(first: &[Term], classes: &mut [Term], facts: &Facts, fact: &Fact) -> bool
+    requires first { classes.old ≡ first.now }
+    requires few { length classes.old ≤ 64 }
     requires classes { All (IsClass classes.old) classes.old }
     requires test { IsTest (length classes.old) fact.now.test }
     requires tests { All (λ f. IsTest (length classes.old) f.test) facts.now }
@@ -29,7 +31,7 @@ fn close(classes: &mut [Term], facts: &Facts, fact: &Fact) -> bool
         if !merge(classes, left, right) {
             return false;
         }
-        found = look(classes, facts, fact);
+        found = look(first, classes, facts, fact);
     }
     true
 }
@@ -41,6 +43,7 @@ pub(crate) fn closed(
     facts: &Facts,
     fact: &Fact,
 ) -> Result<Option<Vec<Term>>, NoMemory>
+    requires few { length classes.now ≤ 64 }
     requires classes { All (IsClass classes.now) classes.now }
     requires test { IsTest (length classes.now) fact.now.test }
     requires tests { All (λ f. IsTest (length classes.now) f.test) facts.now }
@@ -48,7 +51,7 @@ pub(crate) fn closed(
     ensures { IfOk result (λ o. MatchOption o (IsBroken (MeetsWith fact.now facts.now) classes.now) (λ new. IsClosed facts.now fact.now classes.now new.items)) }
 {
     let mut new = Vec::from_slice(alloc, classes)?;
-    if close(new.as_mut_slice(), facts, fact) {
+    if close(classes, new.as_mut_slice(), facts, fact) {
         Ok(Some(new))
     } else {
         Ok(None)

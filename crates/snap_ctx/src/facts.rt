@@ -1,9 +1,11 @@
 //! Lists of facts that share what they have in common.
 
-ghost use Rattle.std.specs.Prelude.{◌≡◌, ◌∷◌, ◌<◌, ◌^◌, [], length, MatchOption};
+ghost use Rattle.std.specs.Prelude.{◌≡◌, ◌∷◌, ◌<◌, ◌^◌, [], All, length, MatchOption};
 ghost use Rattle.std.specs.Iterator.{YieldsFirstRef, item_count};
+ghost use Rattle.snap_ctx.specs.Known.{TestOver};
 
 use crate::fact::Fact;
+use crate::tested::{Tested, either, test_tested};
 use std::marker::Model;
 use std::rc::Rc;
 
@@ -12,6 +14,7 @@ use std::rc::Rc;
 #[cycle(facts)]
 pub struct Facts {
     count: usize,
+    tested: Tested,
     link: Link,
 }
 
@@ -23,16 +26,17 @@ enum Link {
 }
 
 impl Model for Facts {
-    ghost use Rattle.std.specs.Prelude.{◌≡◌, List, length};
+    ghost use Rattle.std.specs.Prelude.{◌≡◌, All, List, length};
     ghost use Rattle.snap_ctx.specs.declared.fact.Fact.{Fact};
 
     ghost Value = { List Fact };
 
     ghost use Rattle.snap_ctx.specs.Facts.{facts_of};
+    ghost use Rattle.snap_ctx.specs.Known.{TestOver};
 
     ghost view = { λ facts. facts_of facts.link };
 
-    ghost invariant = { λ facts. facts.count ≡ length (facts_of facts.link) };
+    ghost invariant = { λ facts. (facts.count ≡ length (facts_of facts.link)) × All (λ f. TestOver facts.tested.comps facts.tested.arrays f.test) (facts_of facts.link) };
 
     ghost size = { length };
 
@@ -48,6 +52,10 @@ impl Facts {
     {
         Facts {
             count: 0,
+            tested: Tested {
+                comps: 0,
+                arrays: 0,
+            },
             link: Link::End,
         }
     }
@@ -59,6 +67,7 @@ impl Facts {
     {
         Facts {
             count: before.len() + 1,
+            tested: either(test_tested(fact.test.test()), before.tested()),
             link: Link::More(fact, before),
         }
     }
@@ -68,6 +77,13 @@ impl Facts {
         ensures { result ≡ length self.now }
     {
         self.count
+    }
+
+    /// What the facts are about.
+    pub fn tested(&self) -> Tested
+        ensures { All (λ f. TestOver result.comps result.arrays f.test) self.now }
+    {
+        self.tested
     }
 
     /// The newest fact, and those before it.

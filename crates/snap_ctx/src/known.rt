@@ -2,7 +2,8 @@
 
 ghost use Rattle.std.specs.Prelude.{◌≡◌, ◌≤◌, ◌∷◌, ◌++◌, ℕ, All, IfOk, IfSome, IsTrue, List, OnOk, length, map};
 ghost use Rattle.snap_ctx.specs.Classes.{atom_class, normal, IsAtom, IsTerm, IsTest};
-ghost use Rattle.snap_ctx.specs.Known.{all_known, apart_of, classes_key, held_of, known, normals_key, some_key, spot_key, term_key, HasWords, IsKnown, IsWord, Normal};
+ghost use Rattle.snap_ctx.specs.Known.{all_known, apart_of, classes_key, difference, held_of, known, normal_key, normals_key, some_key, spot_key, term_key, HasWords, IsKnown, IsWord, Normal, Differ};
+ghost use Rattle.snap_core.specs.declared.policy.Term.TheVariants.{Plus};
 
 use crate::classes::{atom_at, class_at, normal_at};
 use crate::fact::Fact;
@@ -13,6 +14,9 @@ use crate::settled::settled;
 use snap_core::NoMemory;
 use snap_core::policy::{Atom, Term, Test};
 use std::alloc::Global;
+
+// Room for most keys.
+const MANY_WORDS: usize = 128;
 
 // Adds the numbers of a class.
 fn push_term(key: &mut Vec<u64>, term: Term) -> Result<(), NoMemory>
@@ -68,6 +72,51 @@ fn push_held(
     Ok(())
 }
 
+// Adds a component, and what it differs from.
+fn push_differ(key: &mut Vec<u64>, comp: u16, other: Term) -> Result<(), NoMemory>
+    ensures { OnOk result (key.new.items ≡ key.old.items ++ normal_key (Differ (Plus comp 0) other)) }
+{
+    key.push(0)?;
+    push_term(key, Term::Plus { comp, plus: 0 })?;
+    push_term(key, other)
+}
+
+// Adds two terms that differ, spelled as one of their components, the lesser of two, and what it differs from.
+// Nothing where the terms alone tell that they do.
+fn push_difference(key: &mut Vec<u64>, left: Term, right: Term) -> Result<(), NoMemory>
+    ensures { OnOk result (key.new.items ≡ key.old.items ++ some_key (difference left right)) }
+{
+    match left {
+        Term::Num(num) => match right {
+            Term::Num(_) => Ok(()),
+            Term::Plus { comp, plus } => push_differ(key, comp, Term::Num(num.wrapping_sub(plus))),
+        },
+        Term::Plus { comp, plus } => match right {
+            Term::Num(num) => push_differ(key, comp, Term::Num(num.wrapping_sub(plus))),
+            Term::Plus {
+                comp: other,
+                plus: more,
+            } => {
+                if comp == other {
+                    return Ok(());
+                }
+                if comp < other {
+                    let to = Term::Plus {
+                        comp: other,
+                        plus: more.wrapping_sub(plus),
+                    };
+                    return push_differ(key, comp, to);
+                }
+                let to = Term::Plus {
+                    comp,
+                    plus: plus.wrapping_sub(more),
+                };
+                push_differ(key, other, to)
+            }
+        },
+    }
+}
+
 // Adds two classes that differ, where their roots are in the set. The classes tell those that don't.
 fn push_apart(
     key: &mut Vec<u64>,
@@ -79,9 +128,7 @@ fn push_apart(
     ensures { OnOk result (key.new.items ≡ key.old.items ++ some_key (apart_of roots yes left right)) }
 {
     if !yes && term_within(roots, left) && term_within(roots, right) {
-        key.push(0)?;
-        push_term(key, left)?;
-        push_term(key, right)?;
+        push_difference(key, left, right)?;
     }
     Ok(())
 }
@@ -230,7 +277,7 @@ fn first_words(
     requires { length classes.now ≤ 64 }
     ensures { IfOk result (λ key. key.items ≡ label ∷ classes_key comps 0 classes.now) }
 {
-    let mut key = Vec::new(alloc);
+    let mut key = Vec::with_capacity(alloc, MANY_WORDS)?;
     key.push(label)?;
     push_classes(&mut key, classes, comps)?;
     Ok(key)

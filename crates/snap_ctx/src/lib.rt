@@ -15,3 +15,4 @@ mod rooted;
 pub mod sets;
 mod settled;
 mod terms;
+pub mod tested;

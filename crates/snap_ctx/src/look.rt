@@ -1,15 +1,16 @@
 //! Which rules facts break beside the classes.
 
-ghost use Rattle.std.specs.Prelude.{◌≡◌, ◌↔◌, true, false, length, All, IsTrue, MatchOption, MatchResult};
+ghost use Rattle.std.specs.Prelude.{◌≡◌, ◌↔◌, ◌≤◌, ◌⊎◌, true, false, length, All, IsTrue, MatchOption, MatchResult};
 ghost use Rattle.snap_core.specs.declared.policy.Term.{Term};
 ghost use Rattle.snap_ctx.specs.Meets.{Meets};
 ghost use Rattle.snap_ctx.specs.Classes.{FactRule, IsClass, IsTest, PairRule, Says, is_state, left_of, right_of};
-ghost use Rattle.snap_ctx.specs.Closing.{AllRules, Compares, IsBreach, MeetsOne, MeetsTwo, MeetsWith, RulesFor, RulesOf};
+ghost use Rattle.snap_ctx.specs.Closing.{AllRules, Compares, IsBreach, MeetsOne, MeetsTwo, MeetsWith, RulesFor, RulesOf, RulesWith, Stays};
 
-use crate::classes::{normal_at, same_index};
+use crate::classes::{changed, normal_at, same_index};
 use crate::fact::Fact;
 use crate::facts::Facts;
 use crate::terms::same_term;
+use crate::tested::{have_common, test_tested};
 use snap_core::policy::{Term, Test};
 
 /// A broken rule: two classes that the facts make equal, or a contradiction.
@@ -140,14 +141,19 @@ fn look_one(classes: &[Term], fact: &Fact, facts: &Facts) -> Result<(), Breach>
     Ok(())
 }
 
-// Looks at all facts.
-fn look_old(classes: &[Term], facts: &Facts) -> Result<(), Breach>
+// Looks at a fact beside itself and facts.
+fn look_beside(classes: &[Term], facts: &Facts, fact: &Fact) -> Result<(), Breach>
     requires classes { All (IsClass classes.now) classes.now }
+    requires test { IsTest (length classes.now) fact.now.test }
     requires tests { All (λ f. IsTest (length classes.now) f.test) facts.now }
-    ensures { MatchResult result (λ _. RulesOf classes.now facts.now) (IsBreach (Meets facts.now) classes.now) }
+    ensures { MatchResult result (λ _. RulesWith classes.now facts.now fact.now) (IsBreach (MeetsWith fact.now facts.now) classes.now) }
 {
-    for fact in facts.iter() {
-        look_one(classes, fact, facts)?;
+    look_one(classes, fact, facts)?;
+    if !is_on_place(fact) {
+        return Ok(());
+    }
+    for other in facts.iter() {
+        look_pair(classes, other, fact)?;
     }
     Ok(())
 }
@@ -160,23 +166,47 @@ pub(crate) fn look_new(classes: &[Term], facts: &Facts, fact: &Fact) -> Result<(
     requires rules { RulesOf classes.now facts.now }
     ensures { MatchResult result (λ _. AllRules classes.now facts.now fact.now) (IsBreach (MeetsWith fact.now facts.now) classes.now) }
 {
-    look_one(classes, fact, facts)?;
-    if !is_on_place(fact) {
-        return Ok(());
-    }
-    for other in facts.iter() {
-        look_pair(classes, other, fact)?;
+    look_beside(classes, facts, fact)
+}
+
+// Looks again at the facts about components whose classes aren't those that they were. The others
+// keep the rules as they did.
+fn look_old(first: &[Term], classes: &[Term], facts: &Facts) -> Result<(), Breach>
+    requires classes { All (IsClass classes.now) classes.now }
+    requires few { length classes.now ≤ 64 }
+    requires same { length first.now ≡ length classes.now }
+    requires tests { All (λ f. IsTest (length classes.now) f.test) facts.now }
+    ensures { MatchResult result (λ _. All (λ f. Stays first.now classes.now f.test ⊎ RulesWith classes.now facts.now f) facts.now) (IsBreach (Meets facts.now) classes.now) }
+{
+    let changed = changed(first, classes);
+    let mut left = facts;
+    'looking: while let Some((fact, before)) = left.newest() {
+        if !have_common(left.tested().comps, changed) {
+            return Ok(());
+        }
+        if have_common(test_tested(fact.test.test()).comps, changed) {
+            look_beside(classes, facts, fact)?;
+        }
+        left = before;
     }
     Ok(())
 }
 
-// Looks at all facts and a new one.
-pub(crate) fn look(classes: &[Term], facts: &Facts, fact: &Fact) -> Result<(), Breach>
+// Looks at facts that kept the rules with the first classes, and a new one.
+pub(crate) fn look(
+    first: &[Term],
+    classes: &[Term],
+    facts: &Facts,
+    fact: &Fact,
+) -> Result<(), Breach>
     requires classes { All (IsClass classes.now) classes.now }
+    requires few { length classes.now ≤ 64 }
+    requires same { length first.now ≡ length classes.now }
     requires test { IsTest (length classes.now) fact.now.test }
     requires tests { All (λ f. IsTest (length classes.now) f.test) facts.now }
+    requires rules { RulesOf first.now facts.now }
     ensures { MatchResult result (λ _. AllRules classes.now facts.now fact.now) (IsBreach (MeetsWith fact.now facts.now) classes.now) }
 {
-    look_old(classes, facts)?;
+    look_old(first, classes, facts)?;
     look_new(classes, facts, fact)
 }

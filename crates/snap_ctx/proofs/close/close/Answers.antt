@@ -1,7 +1,8 @@
 -- Each turn follows from the facts, and has fewer roots.
-use Rattle.std.proofs.Common.{◌≡◌, length, Some, sym, ◌∙◌}
+use Rattle.std.proofs.Common.{◌≡◌, List, length, Some, sym, subst, ◌∙◌}
+use Rattle.snap_core.specs.declared.policy.Term.{Term}
 use Rattle.snap_core.specs.Inputs.{IsPacket}
-use Rattle.snap_ctx.specs.Closing.{merged, IsJoin, MeetsWith}
+use Rattle.snap_ctx.specs.Closing.{merged, RulesOf, IsJoin, MeetsWith}
 use Rattle.snap_ctx.proofs.Merging.{merged_some, merged_fits, Improves}
 use Rattle.snap_ctx.proofs.close.close.Goals as goal
 use Rattle.snap_ctx.proofs.close.close.Goals.{Else-not-merge}
@@ -33,3 +34,6 @@ closing-preserved c =
           (c.closing.invariant.1 m k p meets fits) ((join d).equal m k q meets (c.closing.invariant.1 m k p meets fits))),
       c.look-found.ensures,
     )
+
+pub look-found-requires-clause-rules : goal.look-found-requires-clause-rules
+look-found-requires-clause-rules c = subst (λ (cl : List Term). RulesOf cl c.args.facts.now) c.requires.first c.requires.rules

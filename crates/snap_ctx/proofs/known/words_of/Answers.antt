@@ -1,8 +1,8 @@
 -- One fact more, with its word or none.
-use Rattle.std.proofs.Common.{◌≡◌, ℕ, ◌<◌, ◌∷◌, [], ◌++◌, List, length, get_or, ap, sym, subst, ◌∙◌, arith, append_assoc}
+use Rattle.std.proofs.Common.{◌≡◌, ℕ, ◌<◌, ◌∷◌, [], ◌++◌, List, length, get_or, ap, sym, ◌∙◌, arith, append_assoc}
 use Rattle.snap_ctx.specs.declared.fact.Fact.{Fact}
 use Rattle.snap_ctx.specs.Classes.{IsTest}
-use Rattle.snap_ctx.specs.Known.{all_known, known, some_key, with_some, HasWords}
+use Rattle.snap_ctx.specs.Known.{all_known, known, some_key}
 use Rattle.snap_ctx.proofs.Walks.{others_are}
 use Rattle.snap_ctx.proofs.Words.{all_known-push, words_more, words_same}
 use Rattle.snap_ctx.proofs.known.words_of.Goals as goal

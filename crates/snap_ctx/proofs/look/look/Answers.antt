@@ -3,6 +3,7 @@ use Rattle.std.proofs.Common.{rules, ◌≡◌, Err}
 use Rattle.snap_ctx.specs.Meets.{Meets}
 use Rattle.snap_ctx.specs.Closing.{MeetsWith, IsBreach}
 use Rattle.snap_ctx.proofs.Sound.{IsBreach-weaker}
+use Rattle.snap_ctx.proofs.Staying.{rules-stay}
 use Rattle.snap_ctx.proofs.look.look.Goals as goal
 
 pub returns-in_err-look_old : goal.returns-in_err-look_old
@@ -10,3 +11,6 @@ returns-in_err-look_old c =
     let h : IsBreach (MeetsWith c.args.fact.now c.args.facts.now) c.args.classes.now c.in_err-look_old.field-0.0 = IsBreach-weaker (Meets c.args.facts.now) (MeetsWith c.args.fact.now c.args.facts.now) c.args.classes.now c.in_err-look_old.field-0.0 (λ m k h. h.1) c.in_err-look_old.ensures in
     let e : c.from_residual.result ≡ Err c.in_err-look_old.field-0.0 = search rules in
     rw e h
+
+pub look_new-requires-clause-rules : goal.look_new-requires-clause-rules
+look_new-requires-clause-rules c = rules-stay c.args.first.now c.args.classes.now c.args.facts.now c.requires.rules c.in_ok-look_old.ensures

@@ -1,39 +1,41 @@
--- One more fact agrees with all, or what it breaks, all break.
-use Rattle.std.proofs.Common.{rules, ◌≡◌, ℕ, List, ◌∷◌, length, subst, Err}
-use Rattle.std.proofs.lemmas.List.Elements.{All-head, All-tail}
-use Rattle.snap_core.specs.Arrays.{Arrays}
-use Rattle.snap_core.specs.Tests.{passes}
-use Rattle.snap_ctx.specs.declared.fact.Fact.{Fact}
-use Rattle.snap_ctx.specs.Classes.{IsTest}
-use Rattle.snap_ctx.specs.Closing.{RulesFor, MeetsWith, IsBreach}
+-- One more fact stays or agrees with all, or what it breaks, all break.
+use Rattle.std.proofs.Common.{rules, ◌≡◌, inl, inr, sym, ◌∙◌, Err, get_or}
+use Rattle.snap_ctx.specs.Closing.{MeetsWith, IsBreach}
 use Rattle.snap_ctx.specs.Meets.{Meets}
 use Rattle.snap_ctx.proofs.Sound.{IsBreach-weaker}
-use Rattle.snap_ctx.proofs.Walks.{all_behind, others_are}
+use Rattle.snap_ctx.proofs.Staying.{begin_walk, newest_met, newest_test, next_walk, test-stays}
 use Rattle.snap_ctx.proofs.look.look_old.Goals as goal
-use Rattle.snap_ctx.proofs.look.look_old.Goals.{In-Some}
 
-meets_left : (c : In-Some) (m : Arrays) (k : List ℕ) → Meets c.args.facts.now m k → Meets (c.in-Some.fact.now ∷ c.next.new.self.left.now) m k
-meets_left c m k h = subst (λ (fs : List Fact). Meets fs m k) c.in-Some.ensures.steps (c.loop-fact.invariant.2 m k h)
+pub looking-init : goal.looking-init
+looking-init c = begin_walk c.args.first.now c.args.classes.now c.args.facts.now c.requires.tests
 
-pub loop-fact-preserved : goal.loop-fact-preserved
-loop-fact-preserved c =
-    let f : Fact = c.in-Some.fact.now in
-    let left = c.loop-fact.fact-iterator.left.now in
-    let others = c.next.new.self.left.now in
-    let next : left ≡ f ∷ others = c.in-Some.ensures.steps in
-    let d = (goal.at.loop-fact-preserved c).In-Some in (
-      others_are (λ (g : Fact). IsTest (length c.args.classes.now) g.test) f left others next c.loop-fact.invariant.0,
-      all_behind (λ (g : Fact). RulesFor c.args.classes.now g c.args.facts.now) f left others c.args.facts.now next c.in_ok-look_one.ensures c.loop-fact.invariant.1,
-      (λ m k h. All-tail (λ (g : Fact). passes g.test m k ≡ g.yes) f others (meets_left d m k h)),
-    )
+pub returns-then-not-have_common : goal.returns-then-not-have_common
+returns-then-not-have_common c =
+    c.looking.invariant.all
+    (λ i d l. inl (test-stays c.changed-changed.result c.tested.result.comps c.tested.result.arrays c.args.first.now c.args.classes.now c.requires.few c.changed-changed.ensures (sym c.have_common.ensures ∙ c.if-not-have_common.true)
+    (get_or c.looking.left.now i d).test (c.looking.invariant.tests i d l) (c.tested.ensures i d l)))
 
-pub returns-in_err-look_one : goal.returns-in_err-look_one
-returns-in_err-look_one c =
-    let d = (goal.at.returns-in_err-look_one c).In-Some in
-    let f : Fact = c.in-Some.fact.now in
-    let with : (m : Arrays) (k : List ℕ) → Meets c.args.facts.now m k → MeetsWith f c.args.facts.now m k
-    = λ m k h. (All-head (λ (g : Fact). passes g.test m k ≡ g.yes) f c.next.new.self.left.now (meets_left d m k h), h) in
-    let h : IsBreach (Meets c.args.facts.now) c.args.classes.now c.in_err-look_one.field-0.0
-    = IsBreach-weaker (MeetsWith f c.args.facts.now) (Meets c.args.facts.now) c.args.classes.now c.in_err-look_one.field-0.0 with c.in_err-look_one.ensures in
-    let e : c.from_residual.result ≡ Err c.in_err-look_one.field-0.0 = search rules in
+pub look_beside-requires-clause-test : goal.look_beside-requires-clause-test
+look_beside-requires-clause-test c = newest_test c.args.first.now c.args.classes.now c.args.facts.now c.looking.left.now c.in-Some.before.now c.in-Some.fact.now c.in-Some.ensures c.looking.invariant
+
+pub returns-in_err-look_beside : goal.returns-in_err-look_beside
+returns-in_err-look_beside c =
+    let with = newest_met c.args.first.now c.args.classes.now c.args.facts.now c.looking.left.now c.in-Some.before.now c.in-Some.fact.now c.in-Some.ensures c.looking.invariant in
+    let h : IsBreach (Meets c.args.facts.now) c.args.classes.now c.in_err-look_beside.field-0.0
+    = IsBreach-weaker (MeetsWith c.in-Some.fact.now c.args.facts.now) (Meets c.args.facts.now) c.args.classes.now c.in_err-look_beside.field-0.0 with c.in_err-look_beside.ensures in
+    let e : c.from_residual.result ≡ Err c.in_err-look_beside.field-0.0 = search rules in
     rw e h
+
+pub looking-preserved-in_ok-look_beside : goal.looking-preserved-in_ok-look_beside
+looking-preserved-in_ok-look_beside c =
+    next_walk c.args.first.now c.args.classes.now c.args.facts.now c.looking.left.now c.in-Some.before.now c.in-Some.fact.now c.in-Some.ensures c.looking.invariant (inr c.in_ok-look_beside.ensures)
+
+pub looking-preserved : goal.looking-preserved
+looking-preserved c =
+    let test = newest_test c.args.first.now c.args.classes.now c.args.facts.now c.looking.left.now c.in-Some.before.now c.in-Some.fact.now c.in-Some.ensures c.looking.invariant in
+    next_walk c.args.first.now c.args.classes.now c.args.facts.now c.looking.left.now c.in-Some.before.now c.in-Some.fact.now c.in-Some.ensures c.looking.invariant
+    (inl (test-stays c.changed-changed.result c.test_tested.result.comps c.test_tested.result.arrays c.args.first.now c.args.classes.now c.requires.few c.changed-changed.ensures (sym c.have_common-in-Some.ensures ∙ c.if-have_common.false)
+    c.in-Some.fact.now.test test (rw c.test.ensures at c.test_tested.ensures.over)))
+
+pub returns : goal.returns
+returns c = c.looking.invariant.all (λ i d l. search rules)

@@ -1,5 +1,5 @@
 -- The components so far.
-use Rattle.std.proofs.Common.{◌≡◌, ◌<◌, ℕ, true, length}
+use Rattle.std.proofs.Common.{◌≡◌, ◌<◌, ℕ, true}
 use Rattle.snap_core.specs.Variables.{has}
 use Rattle.snap_ctx.specs.Classes.{class_of}
 use Rattle.snap_ctx.specs.Known.{within}

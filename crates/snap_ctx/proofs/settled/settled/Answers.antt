@@ -1,7 +1,5 @@
 -- One array more, or none.
-use Rattle.std.proofs.Common.{◌≡◌, inl, inr, sym, subst, ◌∙◌, ℕ, true, false}
-use Rattle.snap_core.specs.Variables.{has}
-use Rattle.snap_ctx.specs.Known.{IsSettled}
+use Rattle.std.proofs.Common.{inl, inr, sym, ◌∙◌}
 use Rattle.snap_ctx.proofs.settled.settled.Goals.{then-is_in+then-not-is_in+then-is_settled, else-is_in}
 use Rattle.snap_ctx.proofs.settled.settled.Goals as goal
 

@@ -1,9 +1,8 @@
 -- One bit more.
-use Rattle.std.proofs.Common.{◌≡◌, inl, inr, ℕ, ap, sym, true, ◌∙◌, w64}
+use Rattle.std.proofs.Common.{inl, inr, ℕ, ap, sym, ◌∙◌, w64}
 use Rattle.std.specs.Prelude.{nat_eq}
 use Rattle.std.proofs.lemmas.Bool.{cases_eq}
 use Rattle.std.proofs.lemmas.Nat.Bits.{bit_at_set_other}
-use Rattle.snap_core.specs.Variables.{has}
 use Rattle.snap_ctx.proofs.settled.with_array.Goals as goal
 
 pub returns : goal.returns

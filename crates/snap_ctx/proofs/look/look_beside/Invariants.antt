@@ -1,7 +1,7 @@
 -- If those left agree with the fact, all do.
 use Rattle.std.specs.Prelude.{All, length}
 use Rattle.snap_ctx.specs.Classes.{IsTest, PairRule}
-use Rattle.snap_ctx.proofs.look.look_new.Given as goal
+use Rattle.snap_ctx.proofs.look.look_beside.Given as goal
 
 abbrev pub invariant-loop-other : goal.invariant-loop-other
 invariant-loop-other l =

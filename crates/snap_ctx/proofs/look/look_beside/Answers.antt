@@ -3,7 +3,7 @@ use Rattle.std.proofs.Common.{◌≡◌, ◌∷◌, length}
 use Rattle.snap_ctx.specs.declared.fact.Fact.{Fact}
 use Rattle.snap_ctx.specs.Classes.{IsTest, PairRule}
 use Rattle.snap_ctx.proofs.Walks.{all_behind, others_are}
-use Rattle.snap_ctx.proofs.look.look_new.Goals as goal
+use Rattle.snap_ctx.proofs.look.look_beside.Goals as goal
 
 pub loop-other-preserved : goal.loop-other-preserved
 loop-other-preserved c =
@@ -17,6 +17,6 @@ loop-other-preserved c =
 
 pub returns-then-not-is_on_place : goal.returns-then-not-is_on_place
 returns-then-not-is_on_place c = (
-  c.requires.rules,
-  (c.in_ok-look_one.ensures, λ k d l y same. let no = c.is_on_place.ensures in let on = same.second in let bad = c.if-not-is_on_place.true in absurd (cc)),
+  c.in_ok-look_one.ensures,
+  (λ k d l y same. let no = c.is_on_place.ensures in let on = same.second in let bad = c.if-not-is_on_place.true in absurd (cc)),
 )
