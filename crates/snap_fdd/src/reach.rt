@@ -19,7 +19,7 @@ pub struct Reached {
 }
 
 // How many numbers a page has.
-const PAGE: usize = 512;
+const PAGE: usize = 64;
 
 impl Reached {
     // No numbers.
