@@ -1,7 +1,7 @@
 -- An address of the tokens is the text of a number.
 use Rattle.std.proofs.Common.{◌≡◌, ℕ, ◌+◌, ◌-◌, ◌*◌, ◌<◌, ◌≤◌, zero, suc, cond, eqb, List, [], ◌∷◌, ◌++◌, length, refl, sym, ap, subst, ◌∙◌, inl, inr, arith}
 use Rattle.std.specs.Prelude.{Bool, true, false, ◌&&◌, Option, Some, None, is_some, IsTrue, nat_le, option_and_then, ◌⊎◌, ◌↔◌}
-use Rattle.std.proofs.lemmas.Bool.{eqb-true}
+use Rattle.std.proofs.lemmas.Bool.{eqb-true, and_parts}
 use Rattle.std.proofs.lemmas.Bool.Decides.{nat_tests}
 use Rattle.snap_core.specs.Figures.{address_behind, address_of, address_of_parts, number_up_to, octet_of}
 use Rattle.snap_core.specs.Parts.{onto_first, parts_by}
@@ -9,10 +9,6 @@ use Rattle.snap_core.proofs.AddressLemmas.{parts_by-some}
 use Rattle.snap_lex.specs.Bytes.{is_digit}
 use Rattle.snap_lex.specs.Address.{is_group, HasDots, last_group, next_group, IsAddress}
 use Rattle.snap_lex.proofs.Addresses.{NoDot, group_no_dot}
-
-both : (a b : Bool) → (a && b) ≡ true → (a ≡ true) × (b ≡ true)
-both true b e = (refl, e)
-both false b e = absurd (cc)
 
 -- ---- a part of value at most 255 is a group
 digit-small : (b : ℕ) → is_digit b ≡ true → b - 48 ≤ 9
@@ -143,9 +139,9 @@ groups-some_number (a ∷ []) h = cc
 groups-some_number (a ∷ b ∷ []) h = cc
 groups-some_number (a ∷ b ∷ c ∷ []) h = cc
 groups-some_number (a ∷ b ∷ c ∷ d ∷ []) h =
-    let all = both ((is_group a && is_group b) && is_group c) (is_group d) (sym (four a b c d) ∙ h) in
-    let three = both (is_group a && is_group b) (is_group c) all.0 in
-    let two = both (is_group a) (is_group b) three.0 in
+    let all = and_parts ((is_group a && is_group b) && is_group c) (is_group d) (sym (four a b c d) ∙ h) in
+    let three = and_parts (is_group a && is_group b) (is_group c) all.0 in
+    let two = and_parts (is_group a) (is_group b) three.0 in
     (two.0, (two.1, (three.1, all.1)))
 groups-some_number (a ∷ b ∷ c ∷ d ∷ e ∷ gs) h = cc
 

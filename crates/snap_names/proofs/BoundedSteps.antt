@@ -50,6 +50,10 @@ pub IfOk-unless : {A : Type 0} (P : A → Type 0) (b : Bool) (f : NameFault) (r 
 IfOk-unless P true f r h = tt
 IfOk-unless P false f r h = h
 
+pub IfOk-unless_is : {A : Type 0} (P : A → Type 0) (b : Bool) (f : NameFault) (r : Result A NameFault) → (b ≡ false → IfOk r P) → IfOk (if b then Err f else r) P
+IfOk-unless_is P true f r h = tt
+IfOk-unless_is P false f r h = h refl
+
 -- what is within a limit may use that it is
 pub IfOk-within : {A : Type 0} (P : A → Type 0) (which : Which) (n most : ℕ) (r : Result A NameFault) → (n ≤ most → IfOk r P) → IfOk (within which n most r) P
 IfOk-within P which n most r k = by_test (nat_lt most n) refl

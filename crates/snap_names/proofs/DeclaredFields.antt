@@ -22,7 +22,8 @@ use Rattle.snap_names.proofs.Placed.{DeclWritten}
 use Rattle.snap_names.proofs.NameParts.{IsName-field}
 use Rattle.snap_names.proofs.Declaring.{bytes_eq-apart, or_left, or_right}
 use Rattle.std.specs.Prelude.{nat_le, ◌&&◌, if◌then◌else◌}
-use Rattle.snap_names.proofs.BoundedSteps.{AllByRecursion-append, AllByRecursion-weaker, IfOk-after_any, IfOk-unless}
+use Rattle.std.proofs.lemmas.List.Elements.{All-from_recursion}
+use Rattle.snap_names.proofs.BoundedSteps.{AllByRecursion-append, AllByRecursion-weaker, IfOk-after_any, IfOk-unless, IfOk-unless_is}
 
 abbrev names_from : ℕ → List Field → List (List ℕ)
 names_from c fs = map (λ e. e.0) (declared_from c fs)
@@ -189,10 +190,6 @@ with_array-stands W d name h k w =
 within_31 : (n : ℕ) → (nat_le 1 n && nat_le n 31) ≡ true → PrefixFits (Some n)
 within_31 n h = grind (arith, nat_tests)
 
-unless_step : {A : Type 0} (P : A → Type 0) (b : Bool) (f : NameFault) (r : Result A NameFault) → (b ≡ false → IfOk r P) → IfOk (if b then Err f else r) P
-unless_step P true f r h = tt
-unless_step P false f r h = h refl
-
 named-stands : (W : Type 0) (d e : Declared) (more : List (List ℕ × Sense)) → e.fields ≡ d.fields → e.arrays ≡ d.arrays → e.names ≡ d.names ++ more → FieldsStand W d → FieldsStand W e
 named-stands W d e more fs as_is ns h = record {
   rest = h.rest;
@@ -215,12 +212,12 @@ IfOk-split_after W d name (Ok n) f h k w = IfOk-split W d name (nat_le 1 n && na
 
 pub declare-stands : (W : Type 0) (text : List ℕ) (d : Declared) → FieldsStand W d → (t : DeclTree) → (W → DeclWritten text t) → IfOk (declare text d t) (FieldsStand W)
 declare-stands W text d h (field_tree at t p) w =
-    unless_step (FieldsStand W) (list_any (is_known d.names) (field_names (word text t) (is_some p))) (Twice t.from) _ (λ k. field_step p k)
+    IfOk-unless_is (FieldsStand W) (list_any (is_known d.names) (field_names (word text t) (is_some p))) (Twice t.from) _ (λ k. field_step p k)
   where
     field_step : (q : _) → list_any (is_known d.names) (field_names (word text t) (is_some q)) ≡ false → IfOk (after (prefix_length text q) (λ n. Ok (with_field d (word text t) n))) (FieldsStand W)
     field_step None k = with_field-stands W d (word text t) None h k w tt
     field_step (Some s) k = IfOk-split_after W d (word text t) (number_at text s) (Prefix s.from) h k w
-declare-stands W text d h (array_tree at t) w = unless_step (FieldsStand W) (is_known d.names (word text t)) (Twice t.from) _ (λ k. with_array-stands W d (word text t) h k w)
+declare-stands W text d h (array_tree at t) w = IfOk-unless_is (FieldsStand W) (is_known d.names (word text t)) (Twice t.from) _ (λ k. with_array-stands W d (word text t) h k w)
 declare-stands W text d h (const_tree at t l) w =
     IfOk-unless (FieldsStand W) (is_known d.names (word text t)) (Twice t.from) _
     (IfOk-after_any (FieldsStand W) (literal text l) _ (λ n. named-stands W d (with_constant d (word text t) n (is_address l)) _ refl refl refl h))
@@ -235,15 +232,10 @@ ports-differ = ((refl, tt), (tt, tt))
 pub ports-stand : (W : Type 0) → FieldsStand W ports
 ports-stand W = record { rest = []; first = refl; distinct = ports-differ; known = (refl, (refl, tt)); named = λ q. (refl, (refl, tt)); prefixes = (tt, (tt, tt)) }
 
-pub All-from : {X : Type 0} (P : X → Type 0) (xs : List X) → AllByRecursion P xs → All P xs
-All-from P [] h k d l = absurd (omega arith)
-All-from P (x ∷ xs) h zero d l = h.0
-All-from P (x ∷ xs) h (suc k) d l = All-from P xs h.1 k d (omega arith)
-
 pub IsFields-stand : (W : Type 0) (d : Declared) → FieldsStand W d → count d.fields ≤ 64 → IsFields d.fields
 IsFields-stand W d h few = record {
   ports = rw h.first refl;
   different = IsDistinct-front (names_of d.fields) d.arrays h.distinct;
-  prefixes = All-from (λ f. PrefixFits f.prefix) d.fields h.prefixes;
+  prefixes = All-from_recursion (λ f. PrefixFits f.prefix) d.fields h.prefixes;
   few = few;
 }

@@ -23,7 +23,7 @@ use Rattle.snap_names.specs.Spells.{Scope, senses}
 use Rattle.snap_names.proofs.BoundedCore.{PolicyFits, Grows, Grows-same, Grows-then}
 use Rattle.snap_names.proofs.BoundedDeclared.{DeclaredFits, declare-fits, ports-fit, env-fits, count-append, Grows-append}
 use Rattle.snap_names.proofs.BoundedReading.{read_policy-fits}
-use Rattle.snap_names.proofs.BoundedSteps.{IfOk-after, IfOk-both, IfOk-within}
+use Rattle.snap_names.proofs.BoundedSteps.{IfOk-after, IfOk-both, IfOk-unless_is, IfOk-within}
 use Rattle.snap_names.proofs.Faultless.{literal-number, or_fault-is}
 use Rattle.snap_names.proofs.FaultlessTrees.{Agrees, Agrees-before, policy-reads}
 use Rattle.snap_names.proofs.Filled.{HasSequence, PolicyFilled, DeclFilled, SourceFilled}
@@ -83,10 +83,6 @@ record Step (text : List ℕ) (atoms : ℕ → ℕ) (d : Declared) (t : DeclTree
 
 abbrev Steps : List ℕ → (ℕ → ℕ) → Declared → DeclTree → Declared → Type 0
 Steps text atoms d t f = Later d f × (IsFew atoms f → Step text atoms d t f)
-
-IfOk-unless_is : {A : Type 0} (P : A → Type 0) (b : Bool) (f : NameFault) (r : Result A NameFault) → (b ≡ false → IfOk r P) → IfOk (if b then Err f else r) P
-IfOk-unless_is P true f r h = tt
-IfOk-unless_is P false f r h = h refl
 
 one-known : (names : List (List ℕ × Sense)) (name : List ℕ) (s : Sense) → is_known names name ≡ false → list_any {X = List ℕ × Sense} (λ x. is_known names x.0) ((name, s) ∷ []) ≡ false
 one-known names name s h = rw h refl

@@ -4,6 +4,7 @@ use Rattle.std.proofs.Math.Nat.{le-max_left, le-max_right}
 use Rattle.std.proofs.lemmas.Result.{IfOk-weaker}
 use Rattle.std.specs.List.{AllByRecursion, IsDistinct}
 use Rattle.std.specs.Str.{bytes_eq}
+use Rattle.std.proofs.lemmas.List.Elements.{All-from_recursion}
 use Rattle.snap_core.specs.declared.policy.Atom.{Atom}
 use Rattle.snap_core.specs.declared.policy.Pol.{Pol}
 use Rattle.snap_core.specs.declared.policy.Pol.TheVariants.{Filter, Set, Change, Par', Seq', If', Atomic'}
@@ -24,7 +25,7 @@ use Rattle.snap_names.proofs.BoundedCore.{IsIndexed, TestFits, PolicyFits, PolFi
 use Rattle.snap_names.proofs.BoundedDeclared.{DeclaredFits, declare-fits, ports-fit, env-fits}
 use Rattle.snap_names.proofs.BoundedReading.{read_policy-fits}
 use Rattle.snap_names.proofs.BoundedSteps.{IfOk-after, IfOk-both, IfOk-within}
-use Rattle.snap_names.proofs.DeclaredFields.{FieldsStand, declare-stands, ports-stand, IsFields-stand, All-from}
+use Rattle.snap_names.proofs.DeclaredFields.{FieldsStand, declare-stands, ports-stand, IsFields-stand}
 use Rattle.snap_names.proofs.Placed.{DeclWritten, SourceWritten}
 
 -- the number of atoms that an array was indexed with, from 1 to 8
@@ -130,7 +131,7 @@ IsInForm-resolved text s w p e =
     let h : CoreStands (SourceWritten text s) (core_program p) = program-stands text s p e in
     record {
       fields = h.fields;
-      names = All-from IsName _ (h.named w);
+      names = All-from_recursion IsName _ (h.named w);
       different = h.distinct;
       few = h.few;
       fits = PolFits-core_policy (SourceWritten text s) (count p.fields) (length p.vars) h.seen p.body h.fits;

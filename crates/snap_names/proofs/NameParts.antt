@@ -3,6 +3,7 @@ use Rattle.std.proofs.Common.{◌≡◌, ℕ, Bool, true, false, not, ◌&&◌, 
 use Rattle.std.specs.List.{AllByRecursion, list_any}
 use Rattle.std.specs.Str.{bytes_eq}
 use Rattle.std.proofs.lemmas.Slice.Eq.{bytes_eq-Decides}
+use Rattle.std.proofs.lemmas.Bool.{or_right, and_from, and_parts}
 use Rattle.snap_core.specs.Names.{is_letter, is_plain, is_joint, begins_plain, goes_on, is_word, keywords, is_keyword, IsName}
 use Rattle.snap_names.specs.Declarations.{field_names}
 
@@ -12,29 +13,13 @@ has_dot w = list_any (λ b. b == 46) w
 abbrev NoDots : List (List ℕ) → Type 0
 NoDots ws = AllByRecursion (λ w. has_dot w ≡ false) ws
 
-or_true : (a b : Bool) → b ≡ true → (a || b) ≡ true
-or_true true b h = refl
-or_true false b h = h
-
 or_first : (a b c : Bool) → (a || b) ≡ true → (b ≡ true → c ≡ true) → (a || c) ≡ true
 or_first true b c h k = refl
 or_first false b c h k = k h
 
-and_left : (a b : Bool) → (a && b) ≡ true → a ≡ true
-and_left true b h = refl
-and_left false b h = cc
-
-and_right : (a b : Bool) → (a && b) ≡ true → b ≡ true
-and_right true b h = h
-and_right false b h = cc
-
-pub and_both : (a b : Bool) → a ≡ true → b ≡ true → (a && b) ≡ true
-and_both true b h k = k
-and_both false b h k = h
-
 has_dot-behind : (w more : List ℕ) → has_dot more ≡ true → has_dot (w ++ more) ≡ true
 has_dot-behind [] more h = h
-has_dot-behind (b ∷ w) more h = or_true (b == 46) _ (has_dot-behind w more h)
+has_dot-behind (b ∷ w) more h = or_right (b == 46) _ (has_dot-behind w more h)
 
 -- A word with a dot is none of the words that have no dot.
 dotted : (w : List ℕ) → has_dot w ≡ true → (ks : List (List ℕ)) → NoDots ks → list_any (bytes_eq w) ks ≡ false
@@ -56,16 +41,16 @@ begins-more (b ∷ bs) more h = h
 
 goes_on-more : (bs more : List ℕ) → goes_on bs ≡ true → goes_on more ≡ true → goes_on (bs ++ more) ≡ true
 goes_on-more [] more h k = k
-goes_on-more (b ∷ bs) more h k = and_both _ _
-    (or_first (is_plain b) (is_joint b && begins_plain bs) _ (and_left _ _ h) (λ j. and_both (is_joint b) _ (and_left _ _ j) (begins-more bs more (and_right (is_joint b) _ j))))
-    (goes_on-more bs more (and_right (is_plain b || (is_joint b && begins_plain bs)) _ h) k)
+goes_on-more (b ∷ bs) more h k = and_from _ _
+    (or_first (is_plain b) (is_joint b && begins_plain bs) _ (and_parts _ _ h).0 (λ j. and_from (is_joint b) _ (and_parts _ _ j).0 (begins-more bs more (and_parts (is_joint b) _ j).1)))
+    (goes_on-more bs more (and_parts (is_plain b || (is_joint b && begins_plain bs)) _ h).1 k)
 
 is_word-more : (w more : List ℕ) → is_word w ≡ true → goes_on more ≡ true → is_word (w ++ more) ≡ true
 is_word-more [] more h k = cc
-is_word-more (b ∷ bs) more h k = and_both (is_letter b) _ (and_left _ _ h) (goes_on-more bs more (and_right (is_letter b) _ h) k)
+is_word-more (b ∷ bs) more h k = and_from (is_letter b) _ (and_parts _ _ h).0 (goes_on-more bs more (and_parts (is_letter b) _ h).1 k)
 
 IsName-more : (name more : List ℕ) → IsName name → goes_on more ≡ true → has_dot more ≡ true → IsName (name ++ more)
-IsName-more name more h k dot = and_both _ _ (is_word-more name more (and_left (is_word name) _ h) k) (ap not (no_keyword (name ++ more) (has_dot-behind name more dot)))
+IsName-more name more h k dot = and_from _ _ (is_word-more name more (and_parts (is_word name) _ h).0 k) (ap not (no_keyword (name ++ more) (has_dot-behind name more dot)))
 
 pub IsName-field : (name : List ℕ) (b : Bool) → IsName name → AllByRecursion IsName (field_names name b)
 IsName-field name false h = (h, tt)

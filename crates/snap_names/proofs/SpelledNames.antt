@@ -5,6 +5,7 @@ use Rattle.std.specs.Str.{bytes_eq}
 use Rattle.std.proofs.lemmas.Slice.Eq.{bytes_eq-Decides}
 use Rattle.std.proofs.lemmas.Bool.Decides.{nat_tests}
 use Rattle.std.proofs.lemmas.List.{length-drop, drop-drop}
+use Rattle.std.proofs.lemmas.Bool.{or_right, or_left, and_from}
 use Rattle.snap_core.specs.Names.{is_letter, is_plain, is_joint, begins_plain, goes_on, is_word, keywords, is_keyword, IsName}
 use Rattle.snap_lex.specs.declared.Token.{Token}
 use Rattle.snap_lex.specs.declared.Kind.{Kind}
@@ -15,7 +16,6 @@ use Rattle.snap_lex.specs.Bytes.{is_part}
 use Rattle.snap_lex.specs.Lexemes.{IsWord, IsLexeme, a_name, a_key, a_number, an_address, a_sign, key_text, Spells, spells_nothing, spells_blank, spells_comment, spells_token, SpellsTokens}
 use Rattle.snap_parse.specs.Tree.{span_of}
 use Rattle.snap_names.specs.Senses.{word}
-use Rattle.snap_names.proofs.NameParts.{and_both}
 
 -- a token that is a word spells a name
 abbrev pub IsNamed : List ℕ → Token → Type 0
@@ -25,22 +25,14 @@ IsNamed text t = t.kind ≡ kinds.Word → IsName (word text (span_of t))
 abbrev GoesOn : List ℕ → ℕ → ℕ → Type 0
 GoesOn bytes n i = (is_part (slice_index bytes i) ≡ true) ⊎ ((is_joint (slice_index bytes i) ≡ true) × (i + 1 < n) × (is_part (slice_index bytes (i + 1)) ≡ true))
 
-or_second : (a b : Bool) → b ≡ true → (a || b) ≡ true
-or_second true b h = refl
-or_second false b h = h
-
-or_front : (a b : Bool) → a ≡ true → (a || b) ≡ true
-or_front true b h = refl
-or_front false b h = cc
-
 first_plain : (bs : List ℕ) (n : ℕ) → n ≤ length bs → 1 < suc n → is_part (slice_index bs 0) ≡ true → begins_plain (take n bs) ≡ true
 first_plain bs zero l k h = absurd (omega (arith, k))
 first_plain [] (suc n) l k h = absurd (omega (arith, l))
 first_plain (b ∷ bs) (suc n) l k h = h
 
 first_goes_on : (b : ℕ) (bs : List ℕ) (n : ℕ) → n ≤ length bs → GoesOn (b ∷ bs) (suc n) 0 → (is_plain b || (is_joint b && begins_plain (take n bs))) ≡ true
-first_goes_on b bs n l (inl h) = or_front (is_plain b) _ h
-first_goes_on b bs n l (inr h) = or_second (is_plain b) _ (and_both (is_joint b) _ h.0 (first_plain bs n l h.1 h.2))
+first_goes_on b bs n l (inl h) = or_left (is_plain b) _ h
+first_goes_on b bs n l (inr h) = or_right (is_plain b) _ (and_from (is_joint b) _ h.0 (first_plain bs n l h.1 h.2))
 
 GoesOn-tail : (b : ℕ) (bs : List ℕ) (n i : ℕ) → GoesOn (b ∷ bs) (suc n) (suc i) → GoesOn bs n i
 GoesOn-tail b bs n i (inl h) = inl h
@@ -51,12 +43,12 @@ GoesOn-tail b bs n i (inr h) =
 goes_on-take : (bytes : List ℕ) (n : ℕ) → n ≤ length bytes → ((i : ℕ) → i < n → GoesOn bytes n i) → goes_on (take n bytes) ≡ true
 goes_on-take bytes zero l h = refl
 goes_on-take [] (suc n) l h = absurd (omega (arith, l))
-goes_on-take (b ∷ bs) (suc n) l h = and_both _ _ (first_goes_on b bs n (omega (arith, l)) (h 0 (omega arith))) (goes_on-take bs n (omega (arith, l)) (λ i k. GoesOn-tail b bs n i (h (suc i) (omega (arith, k)))))
+goes_on-take (b ∷ bs) (suc n) l h = and_from _ _ (first_goes_on b bs n (omega (arith, l)) (h 0 (omega arith))) (goes_on-take bs n (omega (arith, l)) (λ i k. GoesOn-tail b bs n i (h (suc i) (omega (arith, k)))))
 
 is_word-take : (bytes : List ℕ) (n : ℕ) → 0 < n → n ≤ length bytes → is_letter (slice_index bytes 0) ≡ true → goes_on (take n bytes) ≡ true → is_word (take n bytes) ≡ true
 is_word-take bytes zero k l h g = absurd (omega (arith, k))
 is_word-take [] (suc n) k l h g = absurd (omega (arith, l))
-is_word-take (b ∷ bs) (suc n) k l h g = and_both (is_letter b) _ h (behind (is_plain b || (is_joint b && begins_plain (take n bs))) _ g)
+is_word-take (b ∷ bs) (suc n) k l h g = and_from (is_letter b) _ h (behind (is_plain b || (is_joint b && begins_plain (take n bs))) _ g)
   where
     behind : (a c : Bool) → (a && c) ≡ true → c ≡ true
     behind true c e = e
@@ -75,7 +67,7 @@ no_keyword w h = apart-list_any w keywords
     (h keys.Field, (h keys.Array, (h keys.Const, (h keys.Let, (h keys.If, (h keys.Then, (h keys.Else, (h keys.Id, (h keys.Drop, (h keys.Atomic, (h keys.True, (h keys.False, tt))))))))))))
 
 IsName-word : (bytes : List ℕ) (n : ℕ) → IsWord bytes n → ((key : Key) → take n bytes ≡ key_text key → ⊥) → IsName (take n bytes)
-IsName-word bytes n w h = and_both _ _ (is_word-take bytes n w.some w.within w.first (goes_on-take bytes n w.within w.parts)) (ap not (no_keyword (take n bytes) h))
+IsName-word bytes n w h = and_from _ _ (is_word-take bytes n w.some w.within w.first (goes_on-take bytes n w.within w.parts)) (ap not (no_keyword (take n bytes) h))
 
 -- a token of n bytes, of which a word has some and all in the text
 record IsSpelledName (bytes : List ℕ) (n : ℕ) : Type 0 where
