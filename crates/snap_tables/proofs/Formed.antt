@@ -1,11 +1,11 @@
 -- A whole beginning is tables in form.
-use Rattle.std.proofs.Common.{◌≡◌, ◌≢◌, ℕ, zero, suc, ◌+◌, ◌-◌, ◌*◌, ◌<◌, ◌≤◌, ◌^◌, Bool, true, false, cond, List, [], ◌∷◌, ◌++◌, Option, Some, None, length, map, take, get_or, refl, sym, ap, subst, ◌∙◌, arith, append-nil, append_assoc, inl, inr}
-use Rattle.std.specs.Prelude.{◌⊎◌, ◌==◌, ◌&&◌, ◌||◌, codes, is_some, nat_le, nat_lt, not, slice_get, Contains}
-use Rattle.std.specs.List.{All, AllByRecursion, IsDistinct, flat_map, list_all, list_any}
+use Rattle.std.proofs.Common.{◌≡◌, ◌≢◌, ℕ, zero, suc, ◌+◌, ◌<◌, ◌≤◌, Bool, true, false, List, [], ◌∷◌, ◌++◌, Option, Some, None, length, map, take, get_or, refl, sym, ap, subst, ◌∙◌, arith, append-nil, append_assoc, inl, inr}
+use Rattle.std.specs.Prelude.{◌⊎◌, ◌==◌, ◌&&◌, ◌||◌, codes, is_some, nat_le, nat_lt, not}
+use Rattle.std.specs.List.{All, AllByRecursion, IsDistinct, list_all, list_any}
 use Rattle.std.specs.List.Sorted.{IsStrictlySortedBy}
 use Rattle.std.specs.Ordering.{nat_cmp}
 use Rattle.std.specs.Str.{bytes_eq}
-use Rattle.std.proofs.lemmas.Bool.{and_from, and_parts, eqb-true, leb-true}
+use Rattle.std.proofs.lemmas.Bool.{and_from, and_parts, eqb-true, leb-true, or_cases}
 use Rattle.std.proofs.lemmas.List.{map-append}
 use Rattle.std.proofs.lemmas.List.Elements.{All-from_recursion}
 use Rattle.std.proofs.lemmas.Slice.Eq.{bytes_eq-Decides}
@@ -21,7 +21,7 @@ use Rattle.snap_core.specs.declared.policy.Update.{Update}
 use Rattle.snap_core.specs.declared.ports.PortAt.{PortAt}
 use Rattle.snap_core.specs.declared.program.Field.{Field}
 use Rattle.snap_core.specs.declared.program.Found.{Found}
-use Rattle.snap_core.specs.Fields.{IsFields, PrefixFits, count, declared_from, names_of, plain_field, the_ports, width}
+use Rattle.snap_core.specs.Fields.{IsFields, PrefixFits, count, declared_from, plain_field, the_ports, width}
 use Rattle.snap_core.specs.Fits.{AtomFits, IndexFits, OpFits}
 use Rattle.snap_core.specs.Names.{IsName, is_switch_name}
 use Rattle.snap_core.specs.Tests.{PartFits, TermFits, TestFits}
@@ -32,9 +32,9 @@ use Rattle.snap_rows.specs.declared.tables.Row.TheVariants as row
 use Rattle.snap_rows.specs.declared.tables.Stage.{Stage as Turn}
 use Rattle.snap_rows.specs.declared.tables.Tables.{Tables}
 use Rattle.snap_rows.specs.Entries.{Parts, rank_of}
-use Rattle.snap_rows.specs.Form.{Alternate, AlternateFrom, AreOutsInForm, IsArrayInForm, IsFieldTest, IsIndexInForm, IsInForm, IsLinkInForm, IsOpInForm, IsPartsInForm, IsPortInForm, IsRowAtInForm, IsRowInForm, IsStateTest, IsTurnInForm, IsUpdateInForm, RanksRise, comps, link_cmp, parts_cmp, row_cmp}
+use Rattle.snap_rows.specs.Form.{Alternate, AlternateFrom, AreOutsInForm, IsArrayInForm, IsFieldTest, IsInForm, IsLinkInForm, IsOpInForm, IsPartsInForm, IsPortInForm, IsRowAtInForm, IsRowInForm, IsStateTest, IsTurnInForm, IsUpdateInForm, RanksRise, comps, link_cmp, parts_cmp, row_cmp}
 use Rattle.snap_tables.specs.Laws.{IsAtom, IsIndex, IsOp, IsPart, IsRank, IsRankIf, IsTerm, IsTestOf, IsUpdateOf}
-use Rattle.snap_tables.specs.Entries.{AreInTurn, IsNextArray, IsNextField, IsNextHop, IsNextLink, IsNextPort, IsNextRow, IsNextSwitch, all_declared, are_new, array_fits, declared, field_fits, is_field_at, is_new, is_plain_field}
+use Rattle.snap_tables.specs.Entries.{AreInTurn, IsNextArray, IsNextField, IsNextLink, IsNextPort, IsNextRow, IsNextSwitch, all_declared, are_new, array_fits, declared, is_field_at, is_new, is_plain_field}
 use Rattle.snap_tables.specs.Lines.{IsBeginning, IsWhole, counts_of, has, has_all_hops}
 use Rattle.snap_tables.specs.Pieces.{is_adjacent}
 use Rattle.snap_tables.specs.Rows.{AreOuts, IsOut, IsRowOf, IsStage, is_field_test, rank_among, rises_from, stands_apart}
@@ -297,10 +297,6 @@ some-has : {X : Type 0} (xs : List X) → has xs ≡ true → 1 ≤ length xs
 some-has [] e = absurd (false-true e)
 some-has (x ∷ xs) e = omega arith
 
-or-either : (a b : Bool) → (a || b) ≡ true → (a ≡ true) ⊎ (b ≡ true)
-or-either true b e = inl refl
-or-either false b e = inr e
-
 module _ (t : Tables) (b : IsBeginning t) (w : IsWhole t) where
   parts : (nat_le 2 (length t.fields) ≡ true) × ((has t.switches && has_all_hops t) ≡ true)
   parts = let k = and_parts (nat_le 2 (length t.fields) && has t.switches) (has_all_hops t) w in let m = and_parts (nat_le 2 (length t.fields)) (has t.switches) k.0 in (m.0, Rattle.std.proofs.lemmas.Bool.and_from (has t.switches) (has_all_hops t) m.1 k.1)
@@ -312,7 +308,7 @@ module _ (t : Tables) (b : IsBeginning t) (w : IsWhole t) where
   over-hops =
       let m = and_parts (has t.switches) (has_all_hops t) parts.1 in
       let p = Rattle.snap_tables.specs.Entries.turn (length t.switches) t.hops in
-      Rattle.std.proofs.Common.⊎_elim (λ e. inl (leb-true (length t.switches) p.0 e)) (λ e. inr (leb-true (length t.switches) p.1 e)) (or-either (nat_le (length t.switches) p.0) (nat_le (length t.switches) p.1) m.1)
+      Rattle.std.proofs.Common.⊎_elim (λ e. inl (leb-true (length t.switches) p.0 e)) (λ e. inr (leb-true (length t.switches) p.1 e)) (or_cases (nat_le (length t.switches) p.0) (nat_le (length t.switches) p.1) m.1)
 
   array-form : (ys : List ArrayAt) (a : ArrayAt) → IsNextArray t.version (length t.switches) ys a → IsArrayInForm t a
   array-form ys a f = record { name = f.0; at = f.1; rank = rank-less t.version a.rank f.2; one = λ e. rank-none t.version a.rank f.2 e }

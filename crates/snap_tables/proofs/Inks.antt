@@ -27,6 +27,7 @@ use Rattle.snap_tables.specs.Rows.{IsOut, IsRowOf, IsStage}
 use Rattle.snap_tables.specs.declared.piece.Counts.{Counts}
 use Rattle.snap_tables.proofs.Joins.{parts-join}
 use Rattle.snap_tables.proofs.Shades.{AreInk, IsInk, append-ink, decimal-ink, ink-all-lack, ink-lacks}
+use Rattle.snap_tables.proofs.Indexes.{Lacks-append}
 
 pub ink-if : (w : List ℕ) → list_all (λ b. nat_le 35 b && nat_lt b 128) w ≡ true → IsInk w
 ink-if [] e = tt
@@ -123,17 +124,13 @@ rank-ink v r f = at (v == 2) f
     at true h = (decimal-ink r (omega (arith, h)), tt)
     at false h = tt
 
-lacks-append : (s : ℕ) (a b : List ℕ) → Lacks s a → Lacks s b → Lacks s (a ++ b)
-lacks-append s [] b la lb = lb
-lacks-append s (x ∷ a) b la lb = (la.0, lacks-append s a b la.1 lb)
-
 lacks-spaced : (ws : Words) → AreInk ws → Lacks 10 (spaced ws)
 lacks-spaced [] h = tt
-lacks-spaced (w ∷ ws) h = (refl, lacks-append 10 w (spaced ws) (ink-lacks 10 (omega arith) w h.0) (lacks-spaced ws h.1))
+lacks-spaced (w ∷ ws) h = (refl, Lacks-append 10 w (spaced ws) (ink-lacks 10 (omega arith) w h.0) (lacks-spaced ws h.1))
 
 -- words of one line
 pub body-lacks : (first : List ℕ) (ws : Words) → IsInk first → AreInk ws → Lacks 10 (first ++ spaced ws)
-body-lacks first ws f h = lacks-append 10 first (spaced ws) (ink-lacks 10 (omega arith) first f) (lacks-spaced ws h)
+body-lacks first ws f h = Lacks-append 10 first (spaced ws) (ink-lacks 10 (omega arith) first f) (lacks-spaced ws h)
 
 pub body-parts : (first : List ℕ) (ws : Words) → IsInk first → AreInk ws → parts_by is_space (first ++ spaced ws) ≡ first ∷ ws
 body-parts first ws f h = parts-join 32 first ws (ink-lacks 32 (omega arith) first f) (ink-all-lack 32 (omega arith) ws h)

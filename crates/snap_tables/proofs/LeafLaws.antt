@@ -1,5 +1,5 @@
 -- What words behind `leaf` say, exactly.
-use Rattle.std.proofs.Common.{◌≡◌, ◌<◌, ◌≤◌, ◌^◌, Bool, true, false, List, [], ◌∷◌, ◌++◌, length, refl, sym, ap, subst, ◌∙◌, append-nil}
+use Rattle.std.proofs.Common.{◌≡◌, ◌<◌, ◌≤◌, ◌^◌, Bool, true, false, List, [], ◌∷◌, length, refl, sym, ap, subst, ◌∙◌, append-nil}
 use Rattle.std.specs.List.{AllByRecursion, flat_map}
 use Rattle.snap_core.specs.declared.policy.Update.{Update}
 use Rattle.snap_rows.specs.declared.tables.ArrayAt.{ArrayAt}
@@ -9,9 +9,8 @@ use Rattle.snap_tables.specs.Text.{Words, out_words, stage_words, update_words}
 use Rattle.snap_tables.specs.Laws.{IsUpdateOf}
 use Rattle.snap_tables.specs.Pieces.{FailsAfter, IsFront, IsNoFront, TakesAll, is_adjacent}
 use Rattle.snap_tables.specs.Reading.{begins_update, no_words}
-use Rattle.snap_tables.specs.Rows.{AreOuts, AreOutsSaid, AreStages, AreStagesTaken, AreUpdates, AreUpdatesTaken, IsNoOuts, IsNoStages, IsNoUpdates, IsOut, IsStage, never, opens_out, opens_part, opens_stage, parts_less, rises_from, stands_apart}
+use Rattle.snap_tables.specs.Rows.{AreOuts, AreStages, AreStagesTaken, AreUpdates, AreUpdatesTaken, IsNoOuts, IsNoStages, IsNoUpdates, IsOut, IsStage, never, opens_out, opens_part, opens_stage, parts_less, rises_from, stands_apart}
 use Rattle.snap_tables.specs.declared.piece.Counts.{Counts}
-use Rattle.snap_tables.proofs.NumberLines.{none-left}
 use Rattle.snap_tables.proofs.PieceLemmas.{AreApart, fails-none, false-true, takes-one}
 use Rattle.snap_tables.proofs.PieceLaws.{outs-apart, stages-apart, updates-apart}
 
@@ -49,10 +48,6 @@ module _ (k : Counts) (fits : k.comps < 2 ^ 64) (few : k.arrays < 2 ^ 64) (ends 
     outs-no bad os f e =
         let one = takes-one out_words (IsOut k) opens_out opens_part (outs-apart k fits few ends) ws left outs takes os [] f.0 refl refl (e ∙ sym (append-nil (flat_map out_words os))) in
         bad (ap (is_adjacent parts_less) one.0 ∙ f.1) (ap no_words one.1)
-
-    pub outs-yes : is_adjacent parts_less outs ≡ true → no_words left ≡ true → AreOutsSaid k ws outs
-    outs-yes rise end =
-        (takes.words ∙ ap (λ l. flat_map out_words outs ++ l) (none-left left end) ∙ append-nil (flat_map out_words outs), (takes.each, rise))
 
   pub stages-fail : FailsAfter stage_words (IsStage k) opens_stage begins_update ws → IsNoStages k ws
   stages-fail = front-fails stage_words (IsStage k) opens_stage begins_update (stages-apart k fits few ends) (AreStages k) (λ xs f. f.0) k outs-no-stage outs-no-update ws

@@ -1,5 +1,5 @@
 -- Which lines say the next entry of a section, exactly.
-use Rattle.std.proofs.Common.{◌≡◌, ◌≢◌, ℕ, ◌<◌, ◌≤◌, ◌^◌, Bool, true, false, List, [], ◌∷◌, ◌++◌, Option, Some, None, length, refl, sym, ap, subst, ◌∙◌, arith, decimal}
+use Rattle.std.proofs.Common.{◌≡◌, ◌≢◌, ℕ, ◌<◌, ◌^◌, Bool, true, false, List, ◌∷◌, Option, Some, None, length, refl, sym, ap, ◌∙◌, arith, decimal}
 use Rattle.std.specs.Prelude.{codes, nat_le}
 use Rattle.std.proofs.lemmas.Bool.{and_parts, and_from, leb-true, le-leb}
 use Rattle.snap_core.specs.declared.ports.PortAt.{PortAt}
@@ -11,7 +11,7 @@ use Rattle.snap_rows.specs.declared.tables.RowAt.{RowAt}
 use Rattle.snap_rows.specs.declared.tables.Row.{Row}
 use Rattle.snap_rows.specs.declared.tables.Tables.{Tables}
 use Rattle.snap_tables.specs.Text.{Words, row_words}
-use Rattle.snap_tables.specs.Drafts.{IsItem, IsNoRowLine, IsNone, IsNoneBy, IsRowLine, is_above_at, letter, may_come}
+use Rattle.snap_tables.specs.Drafts.{IsItem, IsNoRowLine, IsNoneBy, IsRowLine, is_above_at, letter, may_come}
 use Rattle.snap_tables.specs.Entries.{IsNextRow, array_fits, field_fits, hop_fits, is_above, is_new, kept, link_fits, port_less}
 use Rattle.snap_tables.specs.Lines.{Follows, IsNext, counts_of, is_ready, item_body, last_section, section}
 use Rattle.snap_tables.specs.Reading.{array_said, below_said, field_said, hop_said, is_space, link_said, opened, port_said, switch_said, taken, u64_said}
@@ -23,7 +23,7 @@ use Rattle.snap_tables.proofs.ArrayLemmas.{arrays-said}
 use Rattle.snap_tables.proofs.FieldLineLemmas.{fields-said}
 use Rattle.snap_tables.proofs.Inks.{body-parts, ink-if, row-ink}
 use Rattle.snap_tables.proofs.NumberLines.{hops-said, links-said, opened-some, ports-said, taken-some, text-of}
-use Rattle.snap_tables.proofs.PieceLaws.{head-same, none-some, shut, some-same, tail-same}
+use Rattle.snap_tables.proofs.PieceLaws.{head-same, none-some, some-same, tail-same}
 use Rattle.snap_tables.proofs.PieceLemmas.{false-true}
 use Rattle.snap_tables.proofs.Said.{below-said, said-below}
 use Rattle.snap_tables.proofs.RowLaws.{u64-word, word-u64}
@@ -145,11 +145,6 @@ module _ (t : Tables) (line : List ℕ) (small : length t.switches < 2 ^ 64) whe
       let s = (fields-said x line).0 k.said in
       (follows-may t (item.Field x) k.may' (s.1, s.2, k.fits), s.0)
 
-  pub row-never : may_come t 7 ≡ false → IsNoneBy 114 t line
-  unfolding Not
-  row-never never = by-letter Not 114 (λ x e. absurd (omega (arith, e))) (λ x e. absurd (omega (arith, e))) (λ x e. absurd (omega (arith, e))) (λ x e. absurd (omega (arith, e))) (λ x e. absurd (omega (arith, e))) (λ x e. absurd (omega (arith, e)))
-      (λ r e f same. let yes' : false ≡ true = sym never ∙ may-from t (item.Row r) f in cc)
-
   pub row-none : IsNoRowLine t.version (counts_of t) t.arrays t.rows line → IsNoneBy 114 t line
   unfolding Not
   row-none none = by-letter Not 114 (λ x e. absurd (omega (arith, e))) (λ x e. absurd (omega (arith, e))) (λ x e. absurd (omega (arith, e))) (λ x e. absurd (omega (arith, e))) (λ x e. absurd (omega (arith, e))) (λ x e. absurd (omega (arith, e)))
@@ -163,9 +158,6 @@ module _ (v : ℕ) (k : Counts) (ranked : List ArrayAt) (rs : List RowAt) (line 
   row-parts r f e =
       ap (parts_by is_space) e
       ∙ body-parts (codes "row") (decimal r.at ∷ decimal r.number ∷ row_words r.row) (ink-if (codes "row") refl) (decimal-ink r.at (omega (arith, f.0, ends)), (decimal-ink r.number f.1, row-ink k fits few ends v ranked r.row f.2))
-
-  pub rowline-shut : opened (codes "row") (parts_by is_space line) ≡ None → IsNoRowLine v k ranked rs line
-  rowline-shut none r f e = shut (codes "row") (parts_by is_space line) (decimal r.at ∷ decimal r.number ∷ row_words r.row) none (row-parts r f e)
 
   module _ (ws : Words) (open' : opened (codes "row") (parts_by is_space line) ≡ Some ws) where
     behind-row : (r : RowAt) → IsNextRow v k ranked rs r → line ≡ item_body v (item.Row r) → ws ≡ decimal r.at ∷ decimal r.number ∷ row_words r.row
@@ -223,15 +215,3 @@ body-letter v (item.Link x) = (_, refl)
 body-letter v (item.Port x) = (_, refl)
 body-letter v (item.Hop x) = (_, refl)
 body-letter v (item.Row x) = (_, refl)
-
-module _ (t : Tables) (line : List ℕ) where
-  pub none-empty : line ≡ [] → IsNone t line
-  none-empty e it f same = let bad : [] ≡ letter it ∷ (body-letter t.version it).0 = sym e ∙ same ∙ (body-letter t.version it).1 in cc
-
-  pub none-by : (n : ℕ) (rest : List ℕ) → line ≡ n ∷ rest → IsNoneBy n t line → IsNone t line
-  none-by n rest e none it f same =
-      let both : n ∷ rest ≡ letter it ∷ (body-letter t.version it).0 = sym e ∙ same ∙ (body-letter t.version it).1 in
-      none it (sym (head-same n (letter it) rest (body-letter t.version it).0 both)) f same
-
-  pub none-other : (n : ℕ) → n ≢ 102 → n ≢ 115 → n ≢ 97 → n ≢ 108 → n ≢ 112 → n ≢ 104 → n ≢ 114 → IsNoneBy n t line
-  none-other n a b c d e g h = by-letter (λ it. Follows t it → line ≢ item_body t.version it) n (λ x is. absurd (a is)) (λ x is. absurd (b is)) (λ x is. absurd (c is)) (λ x is. absurd (d is)) (λ x is. absurd (e is)) (λ x is. absurd (g is)) (λ x is. absurd (h is))

@@ -9,6 +9,7 @@ use Rattle.snap_rows.specs.declared.tables.Spot.{Spot}
 use Rattle.snap_rows.specs.declared.tables.Spot.TheVariants as spot
 use Rattle.snap_rows.specs.declared.tables.Tables.{Tables}
 use Rattle.snap_rows.specs.Rules.{IsBefore, IsFirstBroken, IsValid, rule_number}
+use Rattle.snap_tables.specs.Drafts.{IsNoFirst}
 use Rattle.snap_tables.specs.Exact.{ReadsEach, ReadsOneWay}
 use Rattle.snap_tables.specs.Lines.{Begins, Follows, IsBadLine, IsBeginning, IsRead, IsWhole, at_first, behind_beginning, behind_last, front_text, item_line, line_of, lines_of, passed, with_item}
 use Rattle.snap_tables.specs.Text.{first_line, last_line, names_text, rows_text, text, ways_text}
@@ -157,12 +158,9 @@ module _ (bytes : List ℕ) (t u : Tables) (r q : List ℕ) (ht : Begins bytes t
       let same = one-beginning in
       stop-once u hu.beginning q a b (subst (λ x. Stop u x a) same.1 (subst (λ x. Stop x r a) same.0 s)) z
 
-abbrev HasNoFirst : List ℕ → Type 0
-HasNoFirst bytes = (v : ℕ) (more : List ℕ) → (v ≡ 1) ⊎ (v ≡ 2) → bytes ≢ first_line v ++ more
-
 -- the first line is none, or reading stops behind a beginning
 abbrev StopsAt : List ℕ → Result Tables TablesFault → Type 0
-StopsAt bytes a = ((a ≡ Err (fault.Line 1)) × HasNoFirst bytes) ⊎ ((t : Tables) × (rest : List ℕ) × Begins bytes t rest × Stop t rest a)
+StopsAt bytes a = ((a ≡ Err (fault.Line 1)) × IsNoFirst bytes) ⊎ ((t : Tables) × (rest : List ℕ) × Begins bytes t rest × Stop t rest a)
 
 bad-line : (bytes : List ℕ) (l : ℕ) → IsBadLine bytes l → StopsAt bytes (Err (fault.Line l))
 bad-line bytes l (at_first none) = inl (refl, none)
@@ -181,7 +179,7 @@ stops bytes (Err (fault.Broken rule l)) h known =
 stops bytes (Err fault.NoMemory) h known = absurd (known refl)
 
 -- a beginning has a first line
-has-first : (bytes : List ℕ) (t : Tables) (rest : List ℕ) → Begins bytes t rest → HasNoFirst bytes → ⊥
+has-first : (bytes : List ℕ) (t : Tables) (rest : List ℕ) → Begins bytes t rest → IsNoFirst bytes → ⊥
 has-first bytes t rest begins none = none t.version ((names_text t ++ (ways_text t ++ rows_text t)) ++ rest) begins.beginning.version (begins.split ∙ append_assoc (first_line t.version) (names_text t ++ (ways_text t ++ rows_text t)) rest)
 
 stops-once : (bytes : List ℕ) (a b : Result Tables TablesFault) → StopsAt bytes a → StopsAt bytes b → a ≡ b

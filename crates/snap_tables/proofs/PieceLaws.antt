@@ -109,13 +109,7 @@ module _ (k : Counts) (fits : k.comps < 2 ^ 64) (few : k.arrays < 2 ^ 64) (ends 
 pub none-some : {A : Type 0} (x : A) → ◌≡◌ {A = Option A} None (Some x) → ⊥
 none-some x e = cc
 
-nil-cons : {A : Type 0} (x : A) (xs : List A) → ◌≡◌ {A = List A} [] (x ∷ xs) → ⊥
-nil-cons x xs e = cc
-
 module _ (comps : ℕ) (fits : comps < 2 ^ 64) where
-  pub part-end : (ws : Words) → ws ≡ [] → IsNoPiece part_words (IsPart comps) never ws
-  part-end ws e x left f q same = nil-cons (part_word x) left (sym e ∙ same)
-
   pub part-none : (ws more : Words) (w : List ℕ) → ws ≡ w ∷ more → part_said comps w ≡ None → IsNoPiece part_words (IsPart comps) never ws
   part-none ws more w e none x left f q same =
       let word = head-same w (part_word x) more left (sym e ∙ same) in
@@ -139,9 +133,6 @@ pub shut : (k : List ℕ) (ws more : Words) → opened k ws ≡ None → ws ≢ 
 shut k ws more none e = none-some more (sym none ∙ ap (opened k) e ∙ some-opened k more)
 
 module _ (k : Counts) (fits : k.comps < 2 ^ 64) (ws : Words) where
-  pub out-shut : opened (codes "out") ws ≡ None → IsNoPiece out_words (IsOut k) opens_part ws
-  out-shut none x left f q same = shut (codes "out") ws (map part_word x ++ left) none same
-
   module _ (behind : Words) (open' : opened (codes "out") ws ≡ Some behind) where
     parts-behind : (x : Parts) (left : Words) → ws ≡ out_words x ++ left → behind ≡ flat_map part_words x ++ left
     parts-behind x left same =
@@ -162,9 +153,6 @@ module _ (k : Counts) (fits : k.comps < 2 ^ 64) (ws : Words) where
           record { words = words; fits = (takes.each, rise); ends = takes.ends; shorter = omega (arith, ap length words, length-append (map part_word parts) left) }
 
 module _ (k : Counts) (fits : k.comps < 2 ^ 64) (few : k.arrays < 2 ^ 64) (ends : k.switches < 2 ^ 64) (ws : Words) where
-  pub stage-shut : opened (codes "at") ws ≡ None → IsNoPiece stage_words (IsStage k) begins_update ws
-  stage-shut none x left f q same = shut (codes "at") ws (decimal x.at ∷ (flat_map update_words x.ups ++ left)) none same
-
   module _ (behind : Words) (open' : opened (codes "at") ws ≡ Some behind) where
     at-behind : (x : Turn) (left : Words) → ws ≡ stage_words x ++ left → behind ≡ decimal x.at ∷ (flat_map update_words x.ups ++ left)
     at-behind x left same = tail-same (codes "at") (codes "at") behind (decimal x.at ∷ (flat_map update_words x.ups ++ left)) (sym (opened-some (codes "at") ws behind open') ∙ same)

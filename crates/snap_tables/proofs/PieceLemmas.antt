@@ -1,17 +1,10 @@
 -- Pieces of a line, one behind another: words are those of one list of pieces.
-use Rattle.std.proofs.Common.{◌≡◌, ◌≢◌, ◌<◌, Bool, true, false, List, [], ◌∷◌, ◌++◌, Option, Some, None, length, refl, sym, ap, subst, ◌∙◌, arith, append_assoc, append-nil}
+use Rattle.std.proofs.Common.{◌≡◌, ◌≢◌, ◌<◌, Bool, true, false, List, [], ◌∷◌, ◌++◌, Option, Some, None, length, refl, sym, ap, ◌∙◌, arith, append_assoc, append-nil}
 use Rattle.std.specs.Prelude.{MatchOption}
 use Rattle.std.specs.List.{AllByRecursion, flat_map}
 use Rattle.std.proofs.lemmas.List.Concat.{flat_map-append}
 use Rattle.snap_tables.specs.Text.{Words}
 use Rattle.snap_tables.specs.Pieces.{FailsAfter, IsPiece, TakesAll}
-
-pub match-none : {A : Type 0} (o : Option A) (P : Type 0) (Q : A → Type 0) → o ≡ None → MatchOption o P Q → P
-match-none None P Q e m = m
-match-none (Some x) P Q e m = absurd (cc)
-
-pub match-some : {A : Type 0} (o : Option A) (P : Type 0) (Q : A → Type 0) (x : A) → o ≡ Some x → MatchOption o P Q → Q x
-match-some o P Q x e m = subst (λ o. MatchOption o P Q) e m
 
 pub option-weaker : {A : Type 0} (o : Option A) {P R : Type 0} {Q S : A → Type 0} → (P → R) → ((x : A) → Q x → S x) → MatchOption o P Q → MatchOption o R S
 option-weaker None f g m = f m

@@ -1,6 +1,6 @@
 -- What words of a line say.
 use Rattle.std.proofs.Common.{◌≡◌, ℕ, zero, suc, ◌^◌, ◌<◌, ◌≤◌, ◌&&◌, Bool, true, false, cond, List, [], ◌∷◌, Option, Some, None, length, get_or, refl, sym, ap, ◌∙◌, arith, eqb, decimal}
-use Rattle.std.proofs.lemmas.Bool.{and_parts, leb-true, le-leb, and_from, eqb-true}
+use Rattle.std.proofs.lemmas.Bool.{and_parts, leb-true, eqb-true}
 use Rattle.std.specs.Prelude.{nat_le, nat_lt, option_and_then}
 use Rattle.std.specs.List.{list_all}
 use Rattle.std.specs.Char.{is_ascii_digit}
@@ -8,6 +8,7 @@ use Rattle.std.proofs.lemmas.Fmt.{decimal-digits_value, first_decimal, decimal_n
 use Rattle.std.proofs.lemmas.Str.Parse.{IsNumeralModel, IsDigitsTest, FoldsDigits, numerals_by_fold, tells_all_ascii_digits}
 use Rattle.snap_core.specs.Figures.{number_up_to, value_after, value_of_digits}
 use Rattle.snap_core.specs.Parts.{parts_by, onto_first}
+use Rattle.snap_core.proofs.FigureLemmas.{number_up_to-digits}
 use Rattle.snap_tables.specs.Text.{Words}
 use Rattle.snap_tables.specs.Reading.{both_said, comp_term_said, plus_said, below_said, declared_said, inner_said, is_close, is_padded, no_words, number_said}
 
@@ -101,12 +102,6 @@ padded-no (d ∷ c ∷ cs) h = elim (eqb d 48) as (λ b. (b ≡ true → ⊥) �
   | false ↦ λ k. refl
 ] (λ e. omega (arith, h (eqb-true d 48 e)))
 
--- digits that are no more than the number
-number_up_to-is : (most : ℕ) (w : List ℕ) → 0 < length w → list_all is_ascii_digit w ≡ true → value_of_digits w ≤ most → number_up_to most w ≡ Some (value_of_digits w)
-number_up_to-is most [] some digits within = absurd (omega arith)
-number_up_to-is most (d ∷ ds) some digits within =
-    ap (λ b. cond b (Some (value_of_digits (d ∷ ds))) None) (and_from (list_all is_ascii_digit (d ∷ ds)) (nat_le (value_of_digits (d ∷ ds)) most) digits (le-leb (value_of_digits (d ∷ ds)) most within))
-
 decimal-unpadded : (n : ℕ) → n < 2 ^ 64 → get_or (decimal n) 0 0 ≡ 48 → length (decimal n) ≡ 1
 decimal-unpadded zero small e = ap length (decimal_digit 0 (omega arith))
 decimal-unpadded (suc n) small e = absurd (omega (arith, first_decimal (suc n) (omega arith) small))
@@ -116,4 +111,4 @@ decimal-said most n small within =
     let less : n < 2 ^ 64 = omega arith in
     let v = digits_value-decimal model n less in
     ap (λ b. cond b None (number_up_to most (decimal n))) (padded-no (decimal n) (decimal-unpadded n less))
-    ∙ number_up_to-is most (decimal n) (decimal_nonempty n less) (digits_decimal model n less) (omega (arith, v)) ∙ ap Some v
+    ∙ number_up_to-digits most (decimal n) (decimal_nonempty n less) (digits_decimal model n less) (omega (arith, v)) ∙ ap Some v

@@ -1,27 +1,24 @@
 -- What the words of rows say, exactly.
-use Rattle.std.proofs.Common.{◌≡◌, ◌≢◌, ℕ, ◌-◌, ◌<◌, ◌^◌, Bool, true, false, cond, List, [], ◌∷◌, ◌++◌, Some, None, refl, sym, ap, subst, ◌∙◌, arith, decimal}
-use Rattle.std.specs.Prelude.{◌==◌, ◌&&◌, codes, option_and_then, option_map}
+use Rattle.std.proofs.Common.{◌≡◌, ℕ, ◌-◌, ◌<◌, ◌^◌, Bool, true, false, cond, List, [], ◌∷◌, ◌++◌, Some, None, refl, sym, ap, subst, ◌∙◌, arith, decimal}
+use Rattle.std.specs.Prelude.{◌==◌, ◌&&◌, codes}
 use Rattle.std.specs.List.{flat_map}
 use Rattle.std.specs.Str.{bytes_eq}
-use Rattle.std.proofs.lemmas.Bool.{and_parts, eq-eqb, eqb-true}
+use Rattle.std.proofs.lemmas.Bool.{and_parts}
 use Rattle.snap_core.specs.declared.policy.Atom.{Atom}
 use Rattle.snap_core.specs.declared.policy.Term.{Term}
 use Rattle.snap_core.specs.declared.policy.Test.{Test}
 use Rattle.snap_core.specs.declared.policy.Test.TheVariants.{Value, Equal, State as StateTest}
-use Rattle.snap_core.specs.declared.policy.Update.{Update}
 use Rattle.snap_rows.specs.declared.tables.ArrayAt.{ArrayAt}
 use Rattle.snap_rows.specs.declared.tables.Row.{Row}
 use Rattle.snap_rows.specs.declared.tables.Row.TheVariants as row
-use Rattle.snap_rows.specs.declared.tables.Stage.{Stage as Turn}
-use Rattle.snap_rows.specs.Entries.{Parts}
 use Rattle.snap_tables.specs.Text.{Words, out_words, row_words, stage_words, test_words, update_words}
 use Rattle.snap_tables.specs.Laws.{IsTestOf}
 use Rattle.snap_tables.specs.Reading.{below_said, equal_taken, index_said, no_words, opened, state_taken, taken, term_said, u64_said, value_taken}
-use Rattle.snap_tables.specs.Rows.{AreOuts, AreOutsSaid, AreStages, AreStagesTaken, AreUpdates, AreUpdatesTaken, IsLastSaid, IsLeafSaid, IsNoLast, IsNoLeaf, IsNoOuts, IsNoRow, IsRowOf, IsRowSaid, go_said, is_field_test, opens_with, stop_said, test_row_said, test_taken, tested}
+use Rattle.snap_tables.specs.Rows.{IsNoRow, IsRowOf, IsRowSaid, go_said, is_field_test, opens_with, test_row_said, test_taken, tested}
 use Rattle.snap_tables.specs.declared.piece.Counts.{Counts}
 use Rattle.snap_tables.proofs.NumberLines.{chosen, none-left, opened-some, taken-some}
 use Rattle.snap_tables.proofs.PieceLemmas.{false-true}
-use Rattle.snap_tables.proofs.PieceLaws.{none-some, opened-word, shut, tail-same}
+use Rattle.snap_tables.proofs.PieceLaws.{none-some, opened-word, shut}
 use Rattle.snap_tables.proofs.Readings.{said-decimal, decimal-said}
 use Rattle.snap_tables.proofs.Said.{below-said, said-below, map-some}
 use Rattle.snap_tables.proofs.Terms.{and-some}
@@ -160,20 +157,6 @@ module _ (k : Counts) (fits : k.comps < 2 ^ 64) (few : k.arrays < 2 ^ 64) where
         let words = opened-some (codes "go") ws a.0 a.1 ∙ ap (λ l. codes "go" ∷ l) (t.1 ∙ ap (λ l. t.0 ∷ l) (none-left x.0.1 p.0) ∙ ap (λ w. w ∷ []) n.0) in
         subst (IsRowSaid v k ranked ws) (sym d.1) (words, (p.1, n.1))
 
-    pub stop-none : opens_with (codes "stop") ws ≡ true → stop_said v ws ≡ None → IsNoRow v k ranked ws
-    stop-none begins none b f e =
-        let p = stop-only b (ap (opens_with (codes "stop")) (sym e) ∙ begins) in
-        let form = subst (IsRowOf v k ranked) p f in
-        let said : stop_said v (row_words row.Stop) ≡ Some row.Stop = rw form refl in
-        none-some row.Stop (sym none ∙ ap (stop_said v) (e ∙ ap row_words p) ∙ said)
-
-    pub stop-row : (b : Row) → stop_said v ws ≡ Some b → IsRowSaid v k ranked ws b
-    stop-row b e =
-        let a = and-some _ (opened (codes "stop") ws) b e in
-        let d = chosen (no_words a.0 && (v == 2)) row.Stop b a.2 in
-        let p = and_parts (no_words a.0) (v == 2) d.0 in
-        subst (IsRowSaid v k ranked ws) (sym d.1) (opened-some (codes "stop") ws a.0 a.1 ∙ ap (λ l. codes "stop" ∷ l) (none-left a.0 p.0), p.1)
-
     pub test-none : opened (codes "leaf") ws ≡ None → opens_with (codes "go") ws ≡ false → opens_with (codes "stop") ws ≡ false → test_row_said k ws ≡ None → IsNoRow v k ranked ws
     test-none leaf go stop none (row.Field t y z) f e =
         none-some (tested t y z) (sym none ∙ ap (test_row_said k) e ∙ said-test-row t y z f.0 f.2 f.3)
@@ -183,55 +166,3 @@ module _ (k : Counts) (fits : k.comps < 2 ^ 64) (few : k.arrays < 2 ^ 64) where
     test-none leaf go stop none (row.Leaf ss os) f e = shut (codes "leaf") ws (flat_map stage_words ss ++ flat_map out_words os) leaf e
     test-none leaf go stop none row.Stop f e = false-true (sym stop ∙ ap (opens_with (codes "stop")) e)
     test-none leaf go stop none (row.Last us os) f e = shut (codes "leaf") ws (flat_map update_words us ++ flat_map out_words os) leaf e
-
--- ---- leaves
-module _ (k : Counts) (ws left : Words) where
-  pub leaf-none : (ss : List Turn) → AreStagesTaken k ws ss left → IsNoOuts k left → IsNoLeaf k ws
-  leaf-none ss front none us os f g e = none os g (front.one us os f g e).1
-
-  pub leaf-yes : (ss : List Turn) (os : List Parts) → AreStagesTaken k ws ss left → AreOutsSaid k left os → IsLeafSaid k ws (row.Leaf ss os)
-  leaf-yes ss os front said = (ss, os, refl, front.words ∙ ap (λ l. flat_map stage_words ss ++ l) said.0, front.fits, said.1)
-
-  module _ (ranked : List ArrayAt) where
-    pub last-none : (us : List Update) → AreUpdatesTaken k ranked ws us left → IsNoOuts k left → IsNoLast k ranked ws
-    last-none us front none vs os f g e = none os g (front.one vs os f g e).1
-
-    pub last-yes : (us : List Update) (os : List Parts) → AreUpdatesTaken k ranked ws us left → AreOutsSaid k left os → IsLastSaid k ranked ws (row.Last us os)
-    last-yes us os front said = (us, os, refl, front.words ∙ ap (λ l. flat_map update_words us ++ l) said.0, front.fits, said.1)
-
--- a row whose words begin with `leaf`
-leaf-only : (ws us : Words) → codes "leaf" ∷ ws ≡ us → opens_with (codes "leaf") us ≡ true
-leaf-only ws us e = ap (opens_with (codes "leaf")) (sym e)
-
-module _ (v : ℕ) (k : Counts) (ranked : List ArrayAt) (ws : Words) where
-  pub no-leaf : ((ss : List Turn) (os : List Parts) → (v == 1) ≡ true → AreStages k ss → AreOuts k os → ws ≢ flat_map stage_words ss ++ flat_map out_words os)
-      → ((us : List Update) (os : List Parts) → (v == 2) ≡ true → AreUpdates k ranked us → AreOuts k os → ws ≢ flat_map update_words us ++ flat_map out_words os)
-      → IsNoRow v k ranked (codes "leaf" ∷ ws)
-  no-leaf one two (row.Field (Value c n) y z) f e = false-true (leaf-only ws (row_words (row.Field (Value c n) y z)) e)
-  no-leaf one two (row.Field (Equal a b n) y z) f e = false-true (leaf-only ws (row_words (row.Field (Equal a b n) y z)) e)
-  no-leaf one two (row.Field (StateTest u es x) y z) f e = false-true (leaf-only ws (row_words (row.Field (StateTest u es x) y z)) e)
-  no-leaf one two (row.State (Value c n) y z) f e = false-true (leaf-only ws (row_words (row.State (Value c n) y z)) e)
-  no-leaf one two (row.State (Equal a b n) y z) f e = false-true (leaf-only ws (row_words (row.State (Equal a b n) y z)) e)
-  no-leaf one two (row.State (StateTest u es x) y z) f e = false-true (leaf-only ws (row_words (row.State (StateTest u es x) y z)) e)
-  no-leaf one two (row.Go x) f e = false-true (leaf-only ws (row_words (row.Go x)) e)
-  no-leaf one two row.Stop f e = false-true (leaf-only ws (row_words row.Stop) e)
-  no-leaf one two (row.Leaf ss os) f e = one ss os f.0 f.1 f.2 (tail-same (codes "leaf") (codes "leaf") ws (flat_map stage_words ss ++ flat_map out_words os) e)
-  no-leaf one two (row.Last us os) f e = two us os f.0 f.1 f.2 (tail-same (codes "leaf") (codes "leaf") ws (flat_map update_words us ++ flat_map out_words os) e)
-
-  clash-versions : (a b : ℕ) → a ≢ b → v ≡ a → (v == b) ≡ true → ⊥
-  clash-versions a b other is e = other (sym is ∙ eqb-true v b e)
-
-  pub leaf-row-none : v ≡ 1 → IsNoLeaf k ws → IsNoRow v k ranked (codes "leaf" ∷ ws)
-  leaf-row-none is none = no-leaf (λ ss os e f g. none ss os f g) (λ us os e f g same. clash-versions 1 2 (λ e. omega (arith, e)) is e)
-
-  pub last-row-none : v ≡ 2 → IsNoLast k ranked ws → IsNoRow v k ranked (codes "leaf" ∷ ws)
-  last-row-none is none = no-leaf (λ ss os e f g same. clash-versions 2 1 (λ e. omega (arith, e)) is e) (λ us os e f g. none us os f g)
-
-  pub other-row-none : v ≢ 1 → v ≢ 2 → IsNoRow v k ranked (codes "leaf" ∷ ws)
-  other-row-none a b = no-leaf (λ ss os e f g same. a (eqb-true v 1 e)) (λ us os e f g same. b (eqb-true v 2 e))
-
-  pub leaf-row : (b : Row) → v ≡ 1 → IsLeafSaid k ws b → IsRowSaid v k ranked (codes "leaf" ∷ ws) b
-  leaf-row b is s = subst (IsRowSaid v k ranked (codes "leaf" ∷ ws)) (sym s.2) (ap (λ l. codes "leaf" ∷ l) s.3, (eq-eqb v 1 is, s.4, s.5))
-
-  pub last-row : (b : Row) → v ≡ 2 → IsLastSaid k ranked ws b → IsRowSaid v k ranked (codes "leaf" ∷ ws) b
-  last-row b is s = subst (IsRowSaid v k ranked (codes "leaf" ∷ ws)) (sym s.2) (ap (λ l. codes "leaf" ∷ l) s.3, (eq-eqb v 2 is, s.4, s.5))

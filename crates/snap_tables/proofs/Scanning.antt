@@ -48,10 +48,6 @@ front_whole text at number past within digits value =
       stops = λ more. absurd (let h : length text < length text = more in omega arith);
     }
 
-pub not_true : (b : Bool) → (b ≡ true → ⊥) → b ≡ false
-not_true true no' = absurd (no' refl)
-not_true false no' = refl
-
 -- ---- a number in front of a blank or the end
 no_blank : (text : List ℕ) (at number : ℕ) → IsNumberFront text at number → (k : ℕ) → k < at → is_space (get_or text k 0) ≡ false
 no_blank text at number front k low = by (is_space (get_or text k 0)) refl

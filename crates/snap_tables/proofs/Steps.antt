@@ -118,15 +118,6 @@ module _ (t : Tables) where
       ap (λ y. concat (first_line t.version ∷ flat_map field_line t.fields ∷ flat_map switch_line t.switches ∷ flat_map (array_line t.version) t.arrays ∷ flat_map link_line t.links ∷ flat_map port_line t.ports ∷ flat_map hop_line t.hops ∷ y ∷ [])) (flat_map-push row_line t.rows x)
       ∙ put-last (first_line t.version ∷ flat_map field_line t.fields ∷ flat_map switch_line t.switches ∷ flat_map (array_line t.version) t.arrays ∷ flat_map link_line t.links ∷ flat_map port_line t.ports ∷ flat_map hop_line t.hops ∷ []) (flat_map row_line t.rows) (row_line x) [] tt
 
-  same-version : (it : Item) → (with_item t it).version ≡ t.version
-  same-version (item.Field x) = refl
-  same-version (item.Switch x) = refl
-  same-version (item.Array x) = refl
-  same-version (item.Link x) = refl
-  same-version (item.Port x) = refl
-  same-version (item.Hop x) = refl
-  same-version (item.Row x) = refl
-
   pub front-put : (it : Item) → last_section t ≤ section it → front_text (with_item t it) ≡ front_text t ++ item_line t.version it
   front-put it h = front-sections (with_item t it) ∙ sections-put it (later t (section it) h) ∙ ap (λ l. l ++ item_line t.version it) (sym (front-sections t))
 

@@ -1,15 +1,15 @@
 -- Lists of entries that came in turn: what holds of each, and of the whole.
 use Rattle.std.proofs.Common.{◌≡◌, ℕ, suc, ◌-◌, Bool, true, false, List, [], ◌∷◌, ◌++◌, length, refl, sym, ap, subst, ◌∙◌, arith, append-nil, append_assoc}
 use Rattle.std.specs.Prelude.{◌||◌, not, slice_get}
-use Rattle.std.specs.List.{All, AllByRecursion, IsDistinct, list_all, list_any}
+use Rattle.std.specs.List.{AllByRecursion, IsDistinct, list_any}
 use Rattle.std.specs.List.Sorted.{IsStrictlySortedBy}
 use Rattle.std.specs.Option.{option_map_or}
-use Rattle.std.specs.Ordering.{is_lt, nat_cmp, ordering_then}
+use Rattle.std.specs.Ordering.{is_lt}
 use Rattle.std.specs.Cmp.{IsTotalOrder}
 use Rattle.std.specs.declared.cmp.Ordering.{Ordering}
 use Rattle.std.specs.declared.cmp.Ordering.TheVariants.{Less, Equal, Greater}
 use Rattle.std.specs.Str.{bytes_eq}
-use Rattle.std.proofs.lemmas.Bool.{and_parts}
+use Rattle.std.proofs.lemmas.Bool.{and_parts, not-true}
 use Rattle.std.proofs.lemmas.Slice.Eq.{bytes_eq-Decides}
 use Rattle.std.proofs.lemmas.Cmp.{lists_total, nat_cmp_total, then_total}
 use Rattle.snap_core.specs.declared.policy.Atom.{Atom}
@@ -126,11 +126,6 @@ module _ {X : Type 0} (c : X → X → Ordering) (o : IsTotalOrder c) where
       let rest = adjacent-sorted (y ∷ ys) k.1 in
       let first = lt-Less (c x y) k.0 in
       ((first, all-trans x y ys first rest.0), rest)
-
--- names that differ
-not-true : (b : Bool) → not b ≡ true → b ≡ false
-not-true false e = refl
-not-true true e = absurd (false-true e)
 
 pub bytes-other : (a b : List ℕ) → bytes_eq a b ≡ false → bytes_eq b a ≡ false
 bytes-other a b e = at (bytes_eq b a) refl

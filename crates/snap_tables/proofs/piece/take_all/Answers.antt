@@ -1,7 +1,8 @@
 use Rattle.std.proofs.Common.{◌≡◌, ◌++◌, sym, subst, ◌∙◌}
 use Rattle.std.specs.List.{AllByRecursion, flat_map}
+use Rattle.std.proofs.lemmas.Option.{MatchOption-at_none, MatchOption-at_some}
 use Rattle.snap_tables.specs.Reading.{words_left}
-use Rattle.snap_tables.proofs.PieceLemmas.{match-none, match-some, pieces-each, pieces-words}
+use Rattle.snap_tables.proofs.PieceLemmas.{pieces-each, pieces-words}
 use Rattle.snap_tables.proofs.piece.take_all.Goals as goal
 
 pub returns-in-None : goal.returns-in-None
@@ -12,15 +13,15 @@ returns-in-None g c =
       words = c.loop-alloc.invariant.words;
       each = c.loop-alloc.invariant.each;
       begins = sym c.begins.ensures ∙ c.loop-alloc-test.true;
-      none = match-none _ _ _ c.in-None.is c.in_ok-take.ensures;
+      none = MatchOption-at_none _ _ c.in-None.is c.in_ok-take.ensures;
     }
 
 pub loop-alloc-smaller : goal.loop-alloc-smaller
-loop-alloc-smaller g c = (match-some _ _ _ _ c.in-Some.is c.in_ok-take.ensures).shorter
+loop-alloc-smaller g c = (MatchOption-at_some _ _ _ c.in-Some.is c.in_ok-take.ensures).shorter
 
 pub loop-alloc-preserved : goal.loop-alloc-preserved
 loop-alloc-preserved g c =
-    let piece = match-some _ _ _ _ c.in-Some.is c.in_ok-take.ensures in
+    let piece = MatchOption-at_some _ _ _ c.in-Some.is c.in_ok-take.ensures in
     let spelled = g.T.Piece.spelled in
     let xs = c.loop-alloc.pieces.items in
     let grown = c.in_ok-push-in-Some.ensures.items in
