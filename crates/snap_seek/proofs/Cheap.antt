@@ -1,9 +1,8 @@
 -- The cheapest of some switches, one after the other.
-use Rattle.std.proofs.Common.{◌≡◌, ◌∙◌, ◌⊎◌, inl, inr, ℕ, ◌+◌, ◌<◌, ◌≤◌, Bool, true, false, ◌==◌, ◌&&◌, ◌||◌, nat_lt, List, [], length, get_or, take, refl, sym, ap, subst, arith}
+use Rattle.std.proofs.Common.{◌≡◌, ◌∙◌, ◌⊎◌, inl, inr, ℕ, ◌+◌, ◌<◌, ◌≤◌, Bool, true, false, ◌==◌, ◌&&◌, ◌||◌, nat_lt, List, length, get_or, take, refl, sym, ap, subst, arith}
 use Rattle.std.specs.List.{Contains}
 use Rattle.std.proofs.lemmas.Bool.Decides.{nat_tests}
 use Rattle.std.proofs.lemmas.List.{take_more}
-use Rattle.std.proofs.lemmas.Grind.{common_steps}
 use Rattle.std.proofs.lemmas.List.Elements.{Contains-push_cases, Contains-get_or}
 use Rattle.snap_seek.specs.Steps.{is_cheaper, over}
 
@@ -12,9 +11,6 @@ pub record IsBestSo (cost : ℕ → ℕ) (all some : List ℕ) (n : ℕ) : Type 
   pub member : Contains all n
   pub least : (m : ℕ) → Contains some m → cost n ≤ cost m
   pub first : (m : ℕ) → Contains some m → cost m ≡ cost n → n ≤ m
-
-none-below : (y : ℕ) → Contains [] y → ⊥
-none-below y h = omega (arith, h.1)
 
 -- what the test says of two costs
 cheaper : (x y a b : ℕ) (t : Bool) → (nat_lt x y || ((x == y) && nat_lt a b)) ≡ t → t ≡ true → (x ≤ y) × (x ≡ y → a < b)
@@ -54,6 +50,3 @@ IsBestSo-dearer near onward all i n new lt is same best =
       least = λ m h. elim (cases m h) [ inl before ↦ best.least m before | inr now ↦ subst (λ (w : ℕ). over near onward n ≤ over near onward w) now low ];
       first = λ m h e. elim (cases m h) [ inl before ↦ best.first m before e | inr now ↦ subst (λ (w : ℕ). n ≤ w) now (said.1 (ap (over near onward) now ∙ e)) ];
     })
-
-take-all : (xs : List ℕ) (i : ℕ) → length xs ≤ i → take i xs ≡ xs
-take-all xs i all = grind (arith, common_steps)

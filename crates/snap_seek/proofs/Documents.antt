@@ -10,6 +10,7 @@ use Rattle.std.specs.declared.cmp.Ordering.TheVariants.{Less, Equal, Greater}
 use Rattle.std.proofs.lemmas.Cmp.{nat_list_cmp_total, tied_itself}
 use Rattle.std.proofs.lemmas.List.{drop_more, map-append}
 use Rattle.std.proofs.lemmas.List.Elements.{All-from_recursion}
+use Rattle.std.proofs.lemmas.Option.{same_Some}
 use Rattle.toml.specs.declared.value.Value.{Value}
 use Rattle.toml.specs.Data.{Data, Items, string, integer, float, boolean, datetime, array, table, as_array}
 use Rattle.toml.specs.View.{items_view, members_view, view}
@@ -20,9 +21,6 @@ use Rattle.snap_seek.specs.declared.demand.Flow.{Flow}
 use Rattle.snap_seek.specs.declared.listing.Entry.{Entry}
 use Rattle.snap_seek.specs.Listing.{entry_text, entry_texts}
 use Rattle.snap_seek.specs.Shape.{entries_listed, entry_of, flow_in, flows_listed, places_in}
-
-some-same : {A : Type 0} {x y : A} → Some x ≡ Some y → x ≡ y
-some-same e = cc
 
 -- one more element, before those that are left
 step : {A : Type 0} (before : List A) (o : Option A) (x : A) (rest : Option (List A)) → Some x ≡ o → option_map (λ r. (before ++ x ∷ []) ++ r) rest ≡ option_map (λ r. before ++ r) (with_first o rest)
@@ -42,7 +40,7 @@ short_flow (a ∷ (b ∷ (e ∷ []))) not = absurd (not refl)
 short_flow (a ∷ (b ∷ (e ∷ (f ∷ vs)))) not = refl
 
 pub no_flow : (d : Data) (vs : List Value) → Some (items_view vs) ≡ as_array d → (length vs ≡ 3 → ⊥) → None ≡ flow_in d
-no_flow (array i) vs is not = short_flow vs not ∙ ap (λ (x : Items). flow_in (array x)) (some-same is)
+no_flow (array i) vs is not = short_flow vs not ∙ ap (λ (x : Items). flow_in (array x)) (same_Some _ _ is)
 no_flow (string s) vs is not = cc
 no_flow (integer z) vs is not = cc
 no_flow (float x) vs is not = cc
@@ -81,7 +79,7 @@ at-end so_far left o none kept =
 
 -- the key of an entry
 key-test : (b : Bool) (key : List ℕ) (names : List (List ℕ)) (e : Text) → cond b (Some (key, names)) None ≡ Some e → e.0 ≡ key
-key-test true key names e is = sym (ap (λ (t : Text). t.0) (some-same is))
+key-test true key names e is = sym (ap (λ (t : Text). t.0) (same_Some _ _ is))
 key-test false key names e is = cc
 
 entry-key : (key : List ℕ) (o : Option (List (List ℕ))) (e : Text) → entry_of key o ≡ Some e → e.0 ≡ key
@@ -89,12 +87,12 @@ entry-key key (Some names) e is = key-test (is_name key) key names e is
 entry-key key None e is = cc
 
 keys-step : (key : List ℕ) (o : Option Text) (os : Option (List Text)) (xs : List Text) (ks : List (List ℕ)) → with_first o os ≡ Some xs → ((e : Text) → o ≡ Some e → e.0 ≡ key) → ((ys : List Text) → os ≡ Some ys → keys_of ys ≡ ks) → keys_of xs ≡ key ∷ ks
-keys-step key (Some e) (Some ys) xs ks is first rest = ap keys_of (sym (some-same is)) ∙ ap (λ (k : List ℕ). k ∷ keys_of ys) (first e refl) ∙ ap (λ (l : List (List ℕ)). key ∷ l) (rest ys refl)
+keys-step key (Some e) (Some ys) xs ks is first rest = ap keys_of (sym (same_Some _ _ is)) ∙ ap (λ (k : List ℕ). k ∷ keys_of ys) (first e refl) ∙ ap (λ (l : List (List ℕ)). key ∷ l) (rest ys refl)
 keys-step key (Some e) None xs ks is first rest = cc
 keys-step key None os xs ks is first rest = cc
 
 entries-keys : (es : List (String Global × Value)) (xs : List Text) → entries_listed (members_view es) ≡ Some xs → keys_of xs ≡ map (λ (k : String Global). string_bytes k) (keys_of es)
-entries-keys [] xs is = ap keys_of (sym (some-same is))
+entries-keys [] xs is = ap keys_of (sym (same_Some _ _ is))
 entries-keys (e ∷ es) xs is =
     keys-step (string_bytes e.0) (entry_of (string_bytes e.0) (places_in (view e.1))) (entries_listed (members_view es)) xs (map (λ (k : String Global). string_bytes k) (keys_of es)) is
     (λ x found. entry-key (string_bytes e.0) (places_in (view e.1)) x found) (λ ys found. entries-keys es ys found)
@@ -118,7 +116,7 @@ all-after p k (y ∷ ks) h = ((λ _. before (slice_cmp nat_cmp k y) h.0), all-af
 
 least-step : (p : List ℕ → Bool) (b : Bool) (x : List ℕ) (xs : List (List ℕ)) (k : List ℕ) → p x ≡ b → cond b (Some x) (find p xs) ≡ Some k → AllByRecursion (λ (y : List ℕ). slice_cmp nat_cmp x y ≡ Less) xs
     → (find p xs ≡ Some k → AllByRecursion (λ (y : List ℕ). p y ≡ true → slice_cmp nat_cmp k y ≢ Greater) xs) → AllByRecursion (λ (y : List ℕ). p y ≡ true → slice_cmp nat_cmp k y ≢ Greater) (x ∷ xs)
-least-step p true x xs k is found after rest = subst (λ (z : List ℕ). AllByRecursion (λ (y : List ℕ). p y ≡ true → slice_cmp nat_cmp z y ≢ Greater) (x ∷ xs)) (some-same found)
+least-step p true x xs k is found after rest = subst (λ (z : List ℕ). AllByRecursion (λ (y : List ℕ). p y ≡ true → slice_cmp nat_cmp z y ≢ Greater) (x ∷ xs)) (same_Some _ _ found)
     ((λ _. at-equal (slice_cmp nat_cmp x x) (tied_itself nat_list_cmp_total x)), all-after p x xs after)
 least-step p false x xs k is found after rest = ((λ yes'. cc), rest found)
 

@@ -7,7 +7,7 @@ use Rattle.std.specs.Ordering.{nat_cmp}
 use Rattle.std.specs.Option.{option_or}
 use Rattle.std.specs.Str.{bytes_eq}
 use Rattle.std.specs.declared.cmp.Ordering.TheVariants.{Less}
-use Rattle.std.proofs.lemmas.Bool.{cases_eq, eq-eqb, eqb-true}
+use Rattle.std.proofs.lemmas.Bool.{cases_eq, eq-eqb, eqb-true, or_from}
 use Rattle.std.proofs.lemmas.Cmp.{nat_list_eq_equiv}
 use Rattle.std.proofs.lemmas.List.{drop_more, get_or-map, get_or-set_other, get_or-set_same, get_or_append_left, get_or_push, length-map, length_push, map-append}
 use Rattle.std.proofs.lemmas.List.Elements.{All-contains_itself, All-weaker, Contains-append_left, Contains-push, Contains-push_cases, recursion_from_All}
@@ -20,6 +20,7 @@ use Rattle.snap_seek.specs.declared.demand.DemandFault.{DemandFault}
 use Rattle.snap_seek.specs.declared.demand.DemandFault.TheVariants.{NoSwitch}
 use Rattle.snap_seek.specs.Answer.{Lists, entry_for, named, no_switch}
 use Rattle.snap_seek.specs.Listing.{key_texts}
+use Rattle.snap_route.proofs.Joined.{Contains-nil}
 
 -- ---- switches by name
 
@@ -52,15 +53,11 @@ middle : {X : Type 0} (P : X → Type 0) (xs : List X) (y : X) (ys : List X) →
 middle P [] y ys all = all.0
 middle P (x ∷ xs) y ys all = middle P xs y ys all.1
 
-either-false : (a b : Bool) → a ≡ false → b ≡ false → (a || b) ≡ false
-either-false true b is other = cc
-either-false false b is other = other
-
 new-name : (seen : List (List ℕ)) (name : List ℕ) (rest : List (List ℕ)) → IsDistinct bytes_eq (seen ++ name ∷ rest) → list_any (bytes_eq name) seen ≡ false
 unfolding IsDistinct
 new-name [] name rest apart = refl
 new-name (x ∷ seen) name rest apart =
-    either-false (bytes_eq name x) (list_any (bytes_eq name) seen) (nat_list_eq_equiv.symm name x ∙ middle (λ (y : List ℕ). bytes_eq x y ≡ false) seen name rest apart.0) (new-name seen name rest apart.1)
+    or_from (bytes_eq name x) (list_any (bytes_eq name) seen) (nat_list_eq_equiv.symm name x ∙ middle (λ (y : List ℕ). bytes_eq x y ≡ false) seen name rest apart.0) (new-name seen name rest apart.1)
 
 put-key : (b : Bool) (keys new : List (Vec ℕ Global)) (owned : Vec ℕ Global) → b ≡ false → new ≡ cond b keys (keys ++ owned ∷ []) → key_texts new ≡ key_texts keys ++ owned.items ∷ []
 put-key b keys new owned absent is =
@@ -121,9 +118,6 @@ Entries = List (List ℕ × List (List ℕ))
 abbrev names_for : Entries → List ℕ → List (List ℕ)
 names_for entries name = unwrap_or (entry_for entries name) []
 
-both : {X Y : Type 0} (f : X → Y) (o p : Option X) → o ≡ None → option_map f (option_or o p) ≡ option_map f p
-both f o p none = ap (λ (q : Option _). option_map f (option_or q p)) none
-
 first-some : (o p : Option (List ℕ)) (e : DemandFault) → option_map (λ name. NoSwitch name) o ≡ Some e → option_map (λ name. NoSwitch name) (option_or o p) ≡ Some e
 first-some (Some x) p e is = is
 first-some None p e is = cc
@@ -161,15 +155,12 @@ unfolding IsStrictlySortedBy
 rise-push [] n rise low = (tt, tt)
 rise-push (x ∷ xs) n rise low = (all-push (λ (y : ℕ). nat_cmp x y ≡ Less) xs n rise.0 (sym (nat_cmp_is x n Less low.0)), rise-push xs n rise.1 low.1)
 
-no-member : {X : Type 0} (y : X) → Contains [] y → ⊥
-no-member y h = omega (arith, h.1)
-
 rise-none : IsStrictlySortedBy nat_cmp []
 unfolding IsStrictlySortedBy
 rise-none = tt
 
 pub Lists-none : (P : ℕ → Type 0) (xs : List ℕ) → xs ≡ [] → Lists P 0 xs
-Lists-none P xs is = subst (λ (l : List ℕ). Lists P 0 l) (sym is) (record { rise = rise-none; each = λ at. ((λ h. absurd (no-member at h)), (λ h. absurd (let low = h.0 in omega arith))) })
+Lists-none P xs is = subst (λ (l : List ℕ). Lists P 0 l) (sym is) (record { rise = rise-none; each = λ at. ((λ h. absurd (Contains-nil at h)), (λ h. absurd (let low = h.0 in omega arith))) })
 
 pub Lists-more : (P : ℕ → Type 0) (n x : ℕ) (xs ys : List ℕ) → ys ≡ xs ++ x ∷ [] → x ≡ n → P n → Lists P n xs → Lists P (n + 1) ys
 Lists-more P n x xs ys is same here before =
@@ -204,7 +195,7 @@ Lists-some P n [] lists some = absurd (some refl)
 Lists-some P n (x ∷ xs) lists some = let h = (lists.each x).0 (0, omega arith, refl) in (x, h.0, h.1)
 
 pub Lists-empty : (P : ℕ → Type 0) (n : ℕ) (xs : List ℕ) → Lists P n xs → xs ≡ [] → (at : ℕ) → at < n → ¬ (P at)
-Lists-empty P n xs lists none at lt h = no-member at (subst (λ (l : List ℕ). Contains l at) none ((lists.each at).1 (lt, h)))
+Lists-empty P n xs lists none at lt h = Contains-nil at (subst (λ (l : List ℕ). Contains l at) none ((lists.each at).1 (lt, h)))
 
 -- the same by another property
 pub Lists-by : (P Q : ℕ → Type 0) (n : ℕ) (xs : List ℕ) → ((at : ℕ) → at < n → P at ↔ Q at) → Lists P n xs → Lists Q n xs

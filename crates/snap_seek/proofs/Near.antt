@@ -10,12 +10,8 @@ use Rattle.snap_topo.specs.declared.topology.Topology.{Topology}
 use Rattle.snap_topo.specs.Form.{IsInForm, IsLink}
 use Rattle.snap_route.specs.Tables.{AreRoutes, Table, distance_of}
 use Rattle.snap_route.specs.Walks.{IsDistance, IsWalk, Linked}
+use Rattle.snap_route.proofs.Walking.{distance-same}
 use Rattle.snap_seek.specs.Steps.{AreNear}
-
-pub same-distance : (step : ℕ → ℕ → Type 0) (a b d e : ℕ) → IsDistance step a b d → IsDistance step a b e → d ≡ e
-same-distance step a b d e one other =
-    let low = one.least other.walk.0 other.walk.1.1 in let high = other.least one.walk.0 one.walk.1.1 in
-    let long = one.walk.1.0 in let wide = other.walk.1.0 in omega arith
 
 linked-below : (n : ℕ) (links : List (ℕ × ℕ)) (a m : ℕ) → All (IsLink n) links → Linked links a m → m < n
 linked-below n links a m all step = elim step [
@@ -47,7 +43,7 @@ near topology t form routes a b lt less =
     let u = reached step n b under walk.0 a low walk.1.1 (subst (λ (j : ℕ). IsDistance step a b j) (sym walk.1.0) dist) q (let e = walk.1.0 in omega arith) in
     let size = length-map-range_with_len (λ (v : ℕ). distance_of t v b) 0 n in
     let is : get_or ds u.0 0 ≡ distance_of t u.0 b = get_or-map-range_with_len (λ (v : ℕ). distance_of t v b) 0 n u.0 u.0 0 u.1.0 (omega arith) in
-    let same : distance_of t u.0 b ≡ q = same-distance step u.0 b (distance_of t u.0 b) q (routes.distances u.0 b u.1.0 high) u.1.1 in
+    let same : distance_of t u.0 b ≡ q = distance-same step u.0 b (distance_of t u.0 b) q (routes.distances u.0 b u.1.0 high) u.1.1 in
     list_any_at (eqb q) ds u.0 0 (let in' = u.1.0 in omega arith) (eq-eqb q (get_or ds u.0 0) (sym (is ∙ same))) in
     let all = le-length_from_below ds (distance_of t a b + 1) there in
     let size = length-map-range_with_len (λ (v : ℕ). distance_of t v b) 0 n in

@@ -21,6 +21,7 @@ use Rattle.snap_topo.specs.Document.{document}
 use Rattle.snap_topo.specs.Form.{IsInForm}
 use Rattle.snap_route.specs.Tables.{AreRoutes, Table, distance_of}
 use Rattle.snap_route.specs.Walks.{Linked}
+use Rattle.snap_route.proofs.Walking.{distance-same}
 use Rattle.snap_seek.specs.declared.best.Best.{Best}
 use Rattle.snap_seek.specs.declared.demand.Demand.{Demand}
 use Rattle.snap_seek.specs.declared.demand.DemandFault.{DemandFault}
@@ -34,7 +35,6 @@ use Rattle.snap_seek.specs.Placements.{IsAllowed, IsBestOf, IsDemand, cost, plac
 use Rattle.snap_seek.specs.Shape.{Spelled, spelled}
 use Rattle.snap_seek.proofs.Demanding.{demand-is, ok-none}
 use Rattle.snap_seek.proofs.Marking.{Lists-some}
-use Rattle.snap_seek.proofs.Near.{same-distance}
 use Rattle.snap_seek.proofs.Ported.{trips-below}
 use Rattle.snap_seek.proofs.Ranked.{IsOrdered}
 
@@ -200,7 +200,7 @@ cost-same d f n trips xs same from to low =
 
 module _ (g : Grouping) (t : Topology) (x y : Table) (ord : IsOrdered g) (form : IsInForm t) (rx : AreRoutes t x) (ry : AreRoutes t y) where
   same_distance : (a b : ℕ) → a < length t.switches → b < length t.switches → distance_of x a b ≡ distance_of y a b
-  same_distance a b la lb = same-distance (Linked t.links) a b (distance_of x a b) (distance_of y a b) (rx.distances a b la lb) (ry.distances a b la lb)
+  same_distance a b la lb = distance-same (Linked t.links) a b (distance_of x a b) (distance_of y a b) (rx.distances a b la lb) (ry.distances a b la lb)
 
   stops-below : (d : Demand) (owners : List ℕ) → IsDemand g t d → IsAllowed g d.allowed owners → All (λ s. s < length t.switches) (stops g owners)
   stops-below d owners is fits = All-map (λ s. s < length t.switches) (λ (v : ℕ). slice_index owners v) g.order

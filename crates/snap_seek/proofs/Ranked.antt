@@ -10,8 +10,8 @@ use Rattle.std.proofs.lemmas.List.Elements.{All-from_get_or, recursion_from_All}
 use Rattle.std.proofs.lemmas.List.Folds.{list_any_at}
 use Rattle.std.proofs.lemmas.Map.Steps.{le-length_from_below}
 use Rattle.snap_core.specs.declared.policy.Pol.{Pol}
-use Rattle.snap_dep.specs.Dependencies.{Tied}
 use Rattle.snap_dep.specs.Ranks.{Grouping, IsGroup, IsGrouping, rank_of}
+use Rattle.snap_dep.proofs.Chains.{tied_back}
 use Rattle.snap_seek.specs.Placements.{AreGroups, IsAllowed, IsLeast, places_of, stops}
 use Rattle.snap_seek.specs.Steps.{IsBest, Picks, choices}
 use Rattle.snap_seek.proofs.Bests.{Picks-at, Picks-map}
@@ -21,9 +21,6 @@ pub record IsOrdered (g : Grouping) : Type 0 where
   pub below : (i : ℕ) → i < length g.order → slice_index g.order i < length g.ranks
   pub rank : (i : ℕ) → i < length g.order → rank_of g (slice_index g.order i) ≡ i
   pub ranks : (v : ℕ) → v < length g.ranks → rank_of g v < length g.order
-
-tied-back : (p : Pol) (a b : ℕ) → Tied p a b → Tied p b a
-tied-back p a b tied = elim tied [ inl same ↦ inl (sym same) | inr both ↦ inr (both.1, both.0) ]
 
 module _ (p : Pol) (g : Grouping) (is : IsGrouping p (length g.ranks) g) where
   group-at : (i : ℕ) → i < length g.order → IsGroup p (length g.ranks) (slice_index g.order i)
@@ -43,7 +40,7 @@ module _ (p : Pol) (g : Grouping) (is : IsGrouping p (length g.ranks) g) where
       let inside = is.ranks.below v here.below in
       let there = group-at r inside in
       let tied = is.ranks.group v here.below in
-      let low = here.least (slice_index g.order r) there.below (tied-back p (slice_index g.order r) v tied) in
+      let low = here.least (slice_index g.order r) there.below (tied_back p (slice_index g.order r) v tied) in
       let high = there.least v here.below tied in
       let same : slice_index g.order r ≡ v = omega arith in
       elim (cases_lt r i) [
