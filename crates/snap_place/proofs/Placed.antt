@@ -1,35 +1,19 @@
 -- What is answered at each stage of a reading, and what it gives.
-use Rattle.std.proofs.Common.{◌≡◌, ◌∙◌, ◌↔◌, inl, inr, ℕ, ◌+◌, ◌<◌, Bool, true, false, not, cond, List, [], ◌∷◌, length, Option, Some, None, Result, Ok, Err, refl, sym, ap, subst, arith, slice_index}
-use Rattle.std.specs.Option.{IsSomeAnd}
+use Rattle.std.proofs.Common.{◌≡◌, ◌↔◌, ℕ, ◌+◌, ◌<◌, Bool, true, false, not, cond, List, [], ◌∷◌, length, Option, Some, None, Result, Ok, Err, refl, sym, subst, arith}
 use Rattle.std.specs.List.{All, position_from}
 use Rattle.std.proofs.lemmas.List.{length-map}
 use Rattle.std.proofs.lemmas.List.Elements.{All-nil, All-cons}
+use Rattle.std.proofs.lemmas.Bool.{not-false}
 use Rattle.snap_topo.proofs.Forms.{number_of-below}
 use Rattle.snap_place.specs.declared.placement.PlaceFault.{PlaceFault}
 use Rattle.snap_place.specs.declared.placement.PlaceFault.TheVariants.{NotToml, Shape, NoVariable, Missing, NoSwitch, Apart, NoMemory}
 use Rattle.snap_place.specs.Answer.{place_of, is_at_switch, owner_at, no_variable, missing, no_switch, owners, OwnersThen, SwitchThen, MissingThen, VariableThen, IsAnswerFor, ShapeThen}
-use Rattle.snap_place.specs.Together.{IsTogether, IsTogetherWith, IsFirstApart, IsFirstTorn, TellsApart}
+use Rattle.snap_place.specs.Together.{IsTogether, IsFirstApart, TellsApart}
 
 abbrev Answer : Type 0
 Answer = Result (List ℕ) PlaceFault
 
--- ---- the stages
-pub told-variable : (T : ℕ → ℕ → Type 0) (vars switches : List (List ℕ)) (entries : List (List ℕ × List ℕ)) (o : Option (List ℕ × List ℕ)) (e : PlaceFault) → IsSomeAnd o (λ entry. e ≡ NoVariable entry.0) → VariableThen T vars switches entries o (Err e)
-told-variable T vars switches entries (Some entry) e is = ap Err is
-told-variable T vars switches entries None e is = absurd is
-
 -- ---- pairs
-pub first-apart : (T : ℕ → ℕ → Type 0) (owned : List ℕ) (a b : ℕ) → ((c : ℕ) → c < a → IsTogetherWith T owned c) → IsFirstTorn T owned a b → IsFirstApart T owned a b
-first-apart T owned a b before torn = record {
-  lesser = torn.lesser;
-  below = torn.below;
-  together = torn.together;
-  apart = torn.apart;
-  first = λ c d lt low earlier tied. elim earlier [
-    | inl smaller ↦ before c smaller d lt low tied
-    | inr here ↦ ap (slice_index owned) here.0 ∙ torn.first d (let same = here.0 in omega arith) here.1 (subst (λ (x : ℕ). T x d) here.0 tied)
-  ];
-}
 
 apart-by : (T U : ℕ → ℕ → Type 0) (owned : List ℕ) → ((a b : ℕ) → a < length owned → b < length owned → T a b ↔ U a b) → (a b : ℕ) → IsFirstApart T owned a b → IsFirstApart U owned a b
 apart-by T U owned same a b is = record {
@@ -81,10 +65,6 @@ answer-by T U vars switches entries r same is = variable-by T U vars switches en
 at-step : (b : Bool) (i : ℕ) (o : Option ℕ) → cond b (Some i) o ≡ None → (b ≡ false) × (o ≡ None)
 at-step true i o is = cc
 at-step false i o is = (refl, is)
-
-not-false : (b : Bool) → not b ≡ false → b ≡ true
-not-false true is = refl
-not-false false is = cc
 
 owner-below : (switches : List (List ℕ)) (o : Option (List ℕ)) → is_at_switch switches o ≡ true → owner_at switches o < length switches
 owner-below switches (Some place) is = number_of-below switches place is
