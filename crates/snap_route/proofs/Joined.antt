@@ -17,11 +17,8 @@ Contains-only x y h = at-only x y h.0 h.1 h.2
 pub Contains-one : {X : Type 0} (x : X) → Contains (x ∷ []) x
 Contains-one x = (0, omega arith, refl)
 
-none-below : {X : Type 0} (y : X) → Contains [] y → ⊥
-none-below y h = omega (arith, h.1)
-
 pub Contains-nil : {X : Type 0} (y : X) → Contains [] y → ⊥
-Contains-nil y h = none-below y h
+Contains-nil y h = omega (arith, h.1)
 
 pub Contains-cons_cases : {X : Type 0} (x : X) (xs : List X) (y : X) → Contains (x ∷ xs) y → (x ≡ y) ⊎ Contains xs y
 Contains-cons_cases x xs y h = elim (Contains-append_cases (x ∷ []) xs y h) [ inl a ↦ inl (Contains-only x y a) | inr b ↦ inr b ]
