@@ -3,7 +3,7 @@ use Rattle.std.proofs.Common.{◌≡◌, ◌≢◌, ℕ, suc, ◌+◌, ◌-◌, 
 use Rattle.std.specs.Prelude.{slice_index}
 use Rattle.std.specs.List.{All, filter}
 use Rattle.std.proofs.lemmas.Bool.{both_ways}
-use Rattle.std.proofs.lemmas.List.Elements.{All-nil, All-cons, All-append, All-take, All-drop, All-map, filter_passes}
+use Rattle.std.proofs.lemmas.List.Elements.{All-nil, All-cons, All-append, All-take, All-drop, All-map, filter_passes, All-weaker}
 use Rattle.std.proofs.Math.Nat.{suc-mul}
 use Rattle.snap_core.specs.Arrays.{Arrays}
 use Rattle.snap_core.specs.Packets.{PacketSet, listed}
@@ -19,7 +19,7 @@ use Rattle.snap_rows.specs.Entries.{next, port_at, port_numbers, rank_at, ranks}
 use Rattle.snap_rows.specs.Form.{switch_count}
 use Rattle.snap_rows.specs.Handles.{Handles, seeks, visits, concludes, delivers, carries, sent}
 use Rattle.snap_rows.specs.Network as network
-use Rattle.snap_rows.specs.Network.{Net, Copy, Event, Happening, Crossed, Delivered, Forked, Leads, Runs, Run, inject, step, moved, happening, start}
+use Rattle.snap_rows.specs.Network.{Net, Copy, Event, Happening, Crossed, Delivered, Forked, Leads, Runs, Run, inject, step, moved, happening}
 use Rattle.snap_rows.proofs.Rows.{some_injective, All-get}
 use Rattle.snap_rows.proofs.Ports.{port_is_found}
 use Rattle.snap_gen.specs.Agreement.{sent_of, lost_of}
@@ -46,22 +46,19 @@ pub record CopyWithin (t : Tables) (dist : ℕ → ℕ → ℕ) (d : ℕ) (c : C
   pub head : HeadWithin t dist d c.at c.hops c.steps c.head
 
 -- ---- the copies of a fork have ports
-abbrev HasPort : Tables → Sent → Type 0
+abbrev pub HasPort : Tables → Sent → Type 0
 HasPort t x = (y : ℕ) × (port_at t x.port ≡ Some y)
 
 a_port : (o : Option ℕ) → is_some o ≡ true → (y : ℕ) × (o ≡ Some y)
 a_port None e = absurd (both_ways _ refl e)
 a_port (Some y) e = (y, refl)
 
-sent_have_ports : (t : Tables) (set : PacketSet) → All (HasPort t) (sent_of t set)
+pub sent_have_ports : (t : Tables) (set : PacketSet) → All (HasPort t) (sent_of t set)
 sent_have_ports t set =
     All-map (HasPort t) sent (delivered (port_numbers t) set)
     (λ i d l.
     (let k = get_or (filter (goes_out (port_numbers t)) (listed set)) i d in
     a_port (port_at t (slice_index k 1)) (sym (port_is_found t.ports (slice_index k 1)) ∙ filter_passes (goes_out (port_numbers t)) (listed set) i d l)))
-
-pub each : {X : Type 0} (P Q : X → Type 0) → ((x : X) → P x → Q x) → (xs : List X) → All P xs → All Q xs
-each P Q f xs all = λ i z l. f _ (all i z l)
 
 module _ (t : Tables) (two : IsTwo t) (dist : ℕ → ℕ → ℕ) (d : ℕ) (far : HasDistances t dist d) where
   -- what a step at switch w does with a copy that has made h hops and st steps
@@ -125,7 +122,7 @@ module _ (t : Tables) (two : IsTwo t) (dist : ℕ → ℕ → ℕ) (d : ℕ) (fa
       let hop = far.next c.at x at (far.ports p x own) (λ y. away (sym y)) in
       only _ (record { at = hop.0; head = (omega (arith, e), (x, own, (let y = hop.1 in omega (arith, room, y)))) })
   moved_within c a at leaves = All-nil Within
-  moved_within c a at (splits set e room) = All-map Within (split_off c) (sent_of t set) (each (HasPort t) (λ x. Within (split_off c x)) (λ x port. forked_copy c at e room x port) (sent_of t set) (sent_have_ports t set))
+  moved_within c a at (splits set e room) = All-map Within (split_off c) (sent_of t set) (All-weaker (HasPort t) (λ x. Within (split_off c x)) (λ x port. forked_copy c at e room x port) (sent_of t set) (sent_have_ports t set))
 
   happens_within : (c : Copy) → Within c → (a : Action) → All (IsDeliveredWithin ((ranks t + 1) * d)) (happening c a ∷ [])
   happens_within c i a = All-cons (IsDeliveredWithin ((ranks t + 1) * d)) (happening c a) [] (by a) (All-nil (IsDeliveredWithin ((ranks t + 1) * d)))
@@ -156,15 +153,15 @@ module _ (t : Tables) (two : IsTwo t) (dist : ℕ → ℕ → ℕ) (d : ℕ) (fa
   pub stays_within : (m : Arrays) (es : List Event) (s : Net) (hs : List Happening) → Run t m es s hs → IsWithin ((ranks t + 1) * d) s hs
   stays_within m es s hs run =
       let all = all_steps run (All-nil Within) in record {
-        flying = each Within (λ c. (c.hops ≤ (ranks t + 1) * d) × (c.steps ≤ (ranks t + 1) * d + 2)) (λ c i. (let f = few c.at c.hops c.steps c.head i.head in (f.0, (let l = f.1 in omega (arith, l))))) s.flying all.0;
+        flying = All-weaker Within (λ c. (c.hops ≤ (ranks t + 1) * d) × (c.steps ≤ (ranks t + 1) * d + 2)) (λ c i. (let f = few c.at c.hops c.steps c.head i.head in (f.0, (let l = f.1 in omega (arith, l))))) s.flying all.0;
         delivered = all.1;
       }
 
 -- a greater bound holds too
 pub more_within : (a b : ℕ) → a ≤ b → (s : Net) (hs : List Happening) → IsWithin a s hs → IsWithin b s hs
 more_within a b l s hs w = record {
-  flying = each (λ (c : Copy). (c.hops ≤ a) × (c.steps ≤ a + 2)) (λ c. (c.hops ≤ b) × (c.steps ≤ b + 2)) (λ c i. (let x = i.0 in omega (arith, x, l), let x = i.1 in omega (arith, x, l))) s.flying w.flying;
-  delivered = each (IsDeliveredWithin a) (IsDeliveredWithin b) more hs w.delivered;
+  flying = All-weaker (λ (c : Copy). (c.hops ≤ a) × (c.steps ≤ a + 2)) (λ c. (c.hops ≤ b) × (c.steps ≤ b + 2)) (λ c i. (let x = i.0 in omega (arith, x, l), let x = i.1 in omega (arith, x, l))) s.flying w.flying;
+  delivered = All-weaker (IsDeliveredWithin a) (IsDeliveredWithin b) more hs w.delivered;
 }
   where
     more : (h : Happening) → IsDeliveredWithin a h → IsDeliveredWithin b h

@@ -1,9 +1,9 @@
 -- Distances of a topology, as next hops of tables see them.
 use Rattle.std.proofs.Common.{◌≡◌, ◌≢◌, ℕ, suc, ◌<◌, ◌≤◌, inl, inr, Bool, true, false, cond, List, [], ◌∷◌, length, Some, refl, sym, ap, subst, ◌∙◌, arith, ◌&&◌}
-use Rattle.std.specs.Prelude.{nat_eq, nat_lt, slice_get, Contains}
+use Rattle.std.specs.Prelude.{nat_eq, nat_lt, slice_get}
 use Rattle.std.specs.List.{All}
 use Rattle.std.proofs.lemmas.Bool.{lt-ltb, ltb-true, cond-true, cond-false, and_parts}
-use Rattle.std.proofs.lemmas.List.Elements.{All-head, All-tail}
+use Rattle.std.proofs.lemmas.List.Elements.{All-head, All-tail, All-contains}
 use Rattle.std.proofs.lemmas.Option.{none-some, same_Some}
 use Rattle.snap_core.specs.declared.ports.PortAt.{PortAt}
 use Rattle.snap_topo.specs.declared.topology.Topology.{Topology}
@@ -21,13 +21,10 @@ use Rattle.snap_gen.proofs.Bounds.{HasDistances}
 pub far : Table → ℕ → ℕ → ℕ → ℕ
 far routes n a b = cond (nat_lt a n && nat_lt b n) (distance_of routes a b) 0
 
-contained : {X : Type 0} (P : X → Type 0) (xs : List X) (x : X) → All P xs → Contains xs x → P x
-contained P xs x all c = subst P c.2 (all c.0 x c.1)
-
 module _ (topology : Topology) (form : topo.IsInForm topology) (routes : Table) (paths : AreRoutes topology routes) where
   linked_below : (a b : ℕ) → Linked topology.links a b → b < length topology.switches
-  linked_below a b (inl c) = (contained (topo.IsLink (length topology.switches)) topology.links (a, b) form.links c).below
-  linked_below a b (inr c) = let l = contained (topo.IsLink (length topology.switches)) topology.links (b, a) form.links c in let x = l.lesser in let y = l.below in omega (arith, x, y)
+  linked_below a b (inl c) = (All-contains (topo.IsLink (length topology.switches)) topology.links (a, b) form.links c).below
+  linked_below a b (inr c) = let l = All-contains (topo.IsLink (length topology.switches)) topology.links (b, a) form.links c in let x = l.lesser in let y = l.below in omega (arith, x, y)
 
   far_is : (a b : ℕ) → a < length topology.switches → b < length topology.switches → far routes (length topology.switches) a b ≡ distance_of routes a b
   unfolding far

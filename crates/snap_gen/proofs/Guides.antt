@@ -113,14 +113,14 @@ same_store t s c a held is_delivered = held c.at
 same_store t s c a held is_carried = held c.at
 
 -- ---- the only copy
-only_one : (c0 c : Copy) (j : ℕ) → slice_get (c0 ∷ []) j ≡ Some c → (j ≡ zero) × (c0 ≡ c)
+pub only_one : (c0 c : Copy) (j : ℕ) → slice_get (c0 ∷ []) j ≡ Some c → (j ≡ zero) × (c0 ≡ c)
 only_one c0 c zero e = (refl, some_injective c0 c e)
 only_one c0 c (suc j) e = absurd (none-some c e)
 
 pub not_both : {A : Type 0} (x : A) (l : List A) → l ≡ x ∷ [] → l ≡ [] → ⊥
 not_both x l e f = none-some x (ap (λ y. slice_get y 0) (sym f ∙ e))
 
-moved_number : (i : ℕ) (c : Copy) (a : Action) → c.number ≡ i → All (λ (x : Copy). x.number ≡ i) (moved c a)
+pub moved_number : (i : ℕ) (c : Copy) (a : Action) → c.number ≡ i → All (λ (x : Copy). x.number ≡ i) (moved c a)
 moved_number i c (Forward to head) e = All-cons (λ (x : Copy). x.number ≡ i) _ [] e (All-nil (λ (x : Copy). x.number ≡ i))
 moved_number i c (Deliver port) e = All-nil (λ (x : Copy). x.number ≡ i)
 moved_number i c (Fork xs l) e = All-map (λ (x : Copy). x.number ≡ i) (split_off c) xs (λ y d l. e)

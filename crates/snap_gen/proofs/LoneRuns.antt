@@ -46,15 +46,15 @@ pub only_one : {A : Type 0} (xs : List A) (c d : A) (ys : List A) → xs ++ c �
 only_one [] c d ys e = (refl, same_Some c d (ap (λ l. slice_get l 0) e), ap (drop 1) e)
 only_one (x ∷ xs) c d ys e = absurd (let n : suc (length (xs ++ c ∷ ys)) ≡ 1 = ap length e in let m = length-append xs (c ∷ ys) in omega (arith, n, m))
 
-range_more : (a n : ℕ) → range_with_len a (suc n) ≡ range_with_len a n ++ (a + n) ∷ []
+pub range_more : (a n : ℕ) → range_with_len a (suc n) ≡ range_with_len a n ++ (a + n) ∷ []
 range_more a zero = ap (λ x. x ∷ []) (omega arith)
 range_more a (suc n) = ap (λ l. a ∷ l) (range_more (a + 1) n ∙ ap (λ x. range_with_len (a + 1) n ++ x ∷ []) (omega arith))
 
-one_longer : {A : Type 0} (xs : List A) (x : A) → length (xs ++ x ∷ []) ≡ suc (length xs)
+pub one_longer : {A : Type 0} (xs : List A) (x : A) → length (xs ++ x ∷ []) ≡ suc (length xs)
 one_longer xs x = length-append xs (x ∷ []) ∙ omega arith
 
 -- one number of the second list goes over to the first
-commits_one : (ds fs bs target : List ℕ) (x : ℕ) → IsPermutation (ds ++ (fs ++ x ∷ bs)) target → IsPermutation ((ds ++ x ∷ []) ++ (fs ++ bs)) target
+pub commits_one : (ds fs bs target : List ℕ) (x : ℕ) → IsPermutation (ds ++ (fs ++ x ∷ bs)) target → IsPermutation ((ds ++ x ∷ []) ++ (fs ++ bs)) target
 commits_one ds fs bs target x perm =
     subst (λ l. IsPermutation l target) (sym (append_assoc ds (x ∷ []) (fs ++ bs)))
     (IsPermutation-trans _ _ _ (IsPermutation-append_right ds (x ∷ (fs ++ bs)) (fs ++ x ∷ bs) (IsPermutation-sym _ _ (IsPermutation-middle fs x bs))) perm)
@@ -68,16 +68,16 @@ is_early _ = true
 abbrev pub early_in : List Copy → List ℕ
 early_in cs = map (λ (c : Copy). c.number) (filter (λ (c : Copy). is_early c.head) cs)
 
-early_more : (xs ys : List Copy) → early_in (xs ++ ys) ≡ early_in xs ++ early_in ys
+pub early_more : (xs ys : List Copy) → early_in (xs ++ ys) ≡ early_in xs ++ early_in ys
 early_more xs ys =
     ap (map (λ (c : Copy). c.number)) (filter-append (λ (c : Copy). is_early c.head) xs ys)
     ∙ map-append (λ (c : Copy). c.number) (filter (λ (c : Copy). is_early c.head) xs) (filter (λ (c : Copy). is_early c.head) ys)
 
-forks_late : (c : Copy) (xs : List Sent) → early_in (map (split_off c) xs) ≡ []
+pub forks_late : (c : Copy) (xs : List Sent) → early_in (map (split_off c) xs) ≡ []
 forks_late c [] = refl
 forks_late c (x ∷ xs) = forks_late c xs
 
-commits_more : (hs gs : List Happening) → commits (hs ++ gs) ≡ commits hs ++ commits gs
+pub commits_more : (hs gs : List Happening) → commits (hs ++ gs) ≡ commits hs ++ commits gs
 commits_more [] gs = refl
 commits_more (Forked c n l ∷ hs) gs = ap (λ x. c.number ∷ x) (commits_more hs gs)
 commits_more (Crossed c x h ∷ hs) gs = commits_more hs gs

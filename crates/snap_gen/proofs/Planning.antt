@@ -5,6 +5,7 @@ use Rattle.std.specs.List.{All, list_any}
 use Rattle.std.proofs.lemmas.List.Elements.{All-take}
 use Rattle.std.proofs.lemmas.Bool.{eqb-true, eqb-false, eq-eqb, le-leb, leb-true, and_parts, cond-true, both_ways, false≢true}
 use Rattle.std.proofs.lemmas.Option.{none-some, same_Some, slice_get_within, slice_get-get_or, get_or_from_slice_get}
+use Rattle.std.proofs.lemmas.Map.Keys.{any_passes_from_place}
 use Rattle.snap_core.specs.declared.ports.PortAt.{PortAt}
 use Rattle.snap_core.specs.declared.policy.Test.{Test}
 use Rattle.snap_rows.specs.declared.tables.ArrayAt.{ArrayAt}
@@ -28,14 +29,6 @@ use Rattle.snap_gen.proofs.Owners.{ranks_above}
 use Rattle.snap_gen.specs.Planned.{has_port, has_ports, holds, row_for, IsWay, IsNodeKind, IsFront, AreNodes, ArePlaced, AreHops, ArePlanned, PlannedIsValid}
 
 -- ---- lists
-any_at : {X : Type 0} (p : X → Bool) (xs : List X) (i : ℕ) (x : X) → slice_get xs i ≡ Some x → p x ≡ true → list_any p xs ≡ true
-any_at p [] i x e h = absurd (none-some x e)
-any_at p (y ∷ xs) zero x e h = ap (λ b. b || list_any p xs) (ap p (same_Some y x e) ∙ h)
-any_at p (y ∷ xs) (suc i) x e h = by (p y) (any_at p xs i x e h)
-  where
-    by : (b : Bool) → list_any p xs ≡ true → (b || list_any p xs) ≡ true
-    by true r = refl
-    by false r = r
 
 some_at : {X : Type 0} (p : X → Bool) (xs : List X) → list_any p xs ≡ true → (i : ℕ) × (x : X) × (slice_get xs i ≡ Some x) × (p x ≡ true)
 some_at p [] e = absurd (false≢true e)
@@ -88,7 +81,7 @@ module _ (t : Tables) (nodes : ℕ → Option Row) (front : ℕ → Bool) (two :
   both_true a b e f = ap (λ x. x && b) e ∙ f
 
   array_holds : (v w q : ℕ) (a : ArrayAt) → slice_get t.arrays v ≡ Some a → a.at ≡ w → a.rank ≤ q → holds t w q ≡ true
-  array_holds v w q a e at l = any_at (λ (a : ArrayAt). nat_eq a.at w && nat_le a.rank q) t.arrays v a e (both_true (nat_eq a.at w) (nat_le a.rank q) (eq-eqb a.at w at) (le-leb a.rank q l))
+  array_holds v w q a e at l = any_passes_from_place (λ (a : ArrayAt). nat_eq a.at w && nat_le a.rank q) t.arrays v a e (both_true (nat_eq a.at w) (nat_le a.rank q) (eq-eqb a.at w at) (le-leb a.rank q l))
 
   rank_holds : (r x q : ℕ) → rank_at t r ≡ Some x → r ≤ q → holds t x q ≡ true
   rank_holds r x q e l = let i = rank_entry t.arrays r x e in array_holds i.place x q i.entry i.is i.at (let f = i.rank in omega (arith, f, l))
@@ -104,10 +97,10 @@ module _ (t : Tables) (nodes : ℕ → Option Row) (front : ℕ → Bool) (two :
   more_holds w r q l e = let h = held w r e in rank_holds h.0 w q h.2 (let a = h.1 in omega (arith, a, l))
 
   ports_any : (w : ℕ) → has_port t w ≡ true → has_ports t ≡ true
-  ports_any w e = let s = some_at (λ (p : PortAt). nat_eq p.at w) t.ports e in any_at (λ (p : PortAt). true) t.ports s.0 s.1 s.2 refl
+  ports_any w e = let s = some_at (λ (p : PortAt). nat_eq p.at w) t.ports e in any_passes_from_place (λ (p : PortAt). true) t.ports s.0 s.1 s.2 refl
 
   a_port : has_ports t ≡ true → (w : ℕ) × (has_port t w ≡ true)
-  a_port e = let s = some_at (λ (p : PortAt). true) t.ports e in (s.1.at, any_at (λ (p : PortAt). nat_eq p.at s.1.at) t.ports s.0 s.1 s.2 (eq-eqb s.1.at s.1.at refl))
+  a_port e = let s = some_at (λ (p : PortAt). true) t.ports e in (s.1.at, any_passes_from_place (λ (p : PortAt). nat_eq p.at s.1.at) t.ports s.0 s.1 s.2 (eq-eqb s.1.at s.1.at refl))
 
   at_port : (w : ℕ) → has_port t w ≡ true → (q : ℕ) × Contains t.ports (record { port = q; at = w })
   at_port w e =
@@ -159,9 +152,6 @@ module _ (t : Tables) (nodes : ℕ → Option Row) (front : ℕ → Bool) (two :
     last : {us : _} {os : _} → nodes n ≡ Some (Last us os) → cond (nat_eq (ranks t) 0) (has_port t w) (has_ports t && holds t w (ranks t)) ≡ true → Plans w n (Last us os)
     stops_state : {test : Test} {y z : ℕ} → nodes n ≡ Some (State test y z) → has_port t w ≡ true → front n ≡ true → holds t w (rank_of t (var_of test)) ≡ false → Plans w n Stop
     stops_last : {us : _} {os : _} → nodes n ≡ Some (Last us os) → has_port t w ≡ true → front n ≡ true → ranks t ≢ 0 → holds t w (ranks t) ≡ false → Plans w n Stop
-
-  no_row : {b : Row} → None ≡ Some b → ⊥
-  no_row {b = b} e = none-some b e
 
   row_is : (w n : ℕ) (b : Row) → row_at t w n ≡ Some b → Plans w n b
   row_is w n b e = by (nodes n) refl (sym (plan.rows w n) ∙ e)
@@ -487,7 +477,7 @@ module _ (t : Tables) (nodes : ℕ → Option Row) (front : ℕ → Bool) (two :
       by Stop is = absurd (good.kinds 0 Stop is)
 
   port_keeps : (rule : Rule) (i : ℕ) (p : PortAt) → slice_get t.ports i ≡ Some p → PortKeeps t rule p
-  port_keeps Missing i p e = root_row p.at (any_at (λ (q : PortAt). nat_eq q.at p.at) t.ports i p e (eq-eqb p.at p.at refl))
+  port_keeps Missing i p e = root_row p.at (any_passes_from_place (λ (q : PortAt). nat_eq q.at p.at) t.ports i p e (eq-eqb p.at p.at refl))
   port_keeps Link i p e = tt
   port_keeps Loop i p e = tt
   port_keeps Kind i p e = tt

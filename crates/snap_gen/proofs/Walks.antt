@@ -45,7 +45,7 @@ field_passes m n k (StateTest s es v) f = absurd f
 abbrev pub GoesSame : Tables → List ℕ → (Row → Bool) → (Row → Bool) → Arrays → Arrays → Type 0
 GoesSame t k p p' m n = (b : Row) → AsksFields b → p b ≡ true → (p' b ≡ true) × (side b m k ≡ side b n k)
 
-same_side : (b c : Bool) (y z : ℕ) → b ≡ c → Some (cond b y z) ≡ Some (cond c y z)
+pub same_side : (b c : Bool) (y z : ℕ) → b ≡ c → Some (cond b y z) ≡ Some (cond c y z)
 same_side b c y z e = ap (λ x. Some (cond x y z)) e
 
 module _ (t : Tables) (k : List ℕ) where
