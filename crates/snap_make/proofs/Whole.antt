@@ -1,5 +1,5 @@
 -- A program's diagram never races, and its leaves are leaves of its groups.
-use Rattle.std.proofs.Common.{◌≡◌, ◌≢◌, ℕ, zero, suc, ◌<◌, Bool, true, false, cond, List, length, Option, Some, None, refl, sym, ap, subst, ◌∙◌, arith}
+use Rattle.std.proofs.Common.{◌≡◌, ◌≢◌, ℕ, zero, suc, ◌<◌, List, length, Option, Some, None, refl, sym, ap, subst, ◌∙◌, arith}
 use Rattle.std.specs.Prelude.{slice_get}
 use Rattle.std.specs.List.{All}
 use Rattle.std.proofs.lemmas.Option.{none-some, same_Some}
@@ -8,7 +8,6 @@ use Rattle.snap_core.specs.Arrays.{Arrays}
 use Rattle.snap_core.specs.Fields.{count}
 use Rattle.snap_core.specs.Inputs.{IsInput}
 use Rattle.snap_core.specs.Meaning.{Meaning}
-use Rattle.snap_core.specs.Tests.{passes}
 use Rattle.snap_dep.specs.Locality.{NeverRaces}
 use Rattle.snap_dep.specs.Ranks.{Grouping}
 use Rattle.snap_arena.specs.declared.node.Node.{Node}
@@ -24,6 +23,7 @@ use Rattle.snap_fdd.specs.Pruned.{IsLive}
 use Rattle.snap_fdd.proofs.Shared as shared
 use Rattle.snap_build.specs.Races.{IsGoing, HasNoRace}
 use Rattle.snap_build.specs.Whole.{IsWhole, sizes_of}
+use Rattle.snap_build.proofs.Racing.{going}
 use Rattle.snap_rows.proofs.Own.{past}
 use Rattle.snap_gen.specs.Shown.{IsOutcomeOf, LeafGives}
 use Rattle.snap_gen.specs.Tidied.{HasLeavesOf}
@@ -53,13 +53,6 @@ module _ (ns : List (Node Leaf)) (arena : IsArena ns) (known : (d : ℕ) (n : No
   leaves_known d low = all_known (suc d) d (omega arith) low
 
 -- ---- no race
-going : (d : Diagram) → HasNoRace d → (m : Arrays) (k : List ℕ) → IsGoing (walk d m k)
-going (Only l) h m k = h
-going (Asks t y n) h m k = either (passes t m k) (walk y m k) (walk n m k) (going y h.0 m k) (going n h.1 m k)
-  where
-    either : (c : Bool) (a b : Leaf) → IsGoing a → IsGoing b → IsGoing (cond c a b)
-    either true a b p q = p
-    either false a b p q = q
 
 some_outcome : (l : Leaf) (m : Arrays) (k : List ℕ) → IsGoing l → outcome_of (answer_of l k) m ≢ None
 some_outcome Race m k h e = h
