@@ -12,8 +12,7 @@ use Rattle.snap_core.specs.declared.policy.Term.TheVariants.{Num, Plus}
 use Rattle.snap_core.specs.declared.policy.Test.{Test}
 use Rattle.snap_core.specs.declared.policy.Test.TheVariants.{Value, Equal, State}
 use Rattle.snap_core.specs.declared.policy.Update.{Update}
-use Rattle.snap_core.specs.Arrays.{Arrays, updates, value_of}
-use Rattle.snap_core.specs.Variables.{has}
+use Rattle.snap_core.specs.Arrays.{Arrays, updates, value_of, has}
 use Rattle.snap_core.specs.Tests.{after_out, with_parts, passes, term_value}
 use Rattle.snap_ctx.proofs.Each.{Each-append, Each-weaker}
 use Rattle.snap_ctx.specs.Known.{IsAmong}

@@ -2,7 +2,7 @@
 use Rattle.std.proofs.Common.{◌≡◌, ℕ, Bool, true, false, cond, ◌||◌, Option, Some, None, refl, sym, ap, ◌∙◌, bit_or}
 use Rattle.std.specs.FinMap.{contains_key}
 use Rattle.std.specs.Int.Bits.{or_self}
-use Rattle.snap_core.specs.Variables.{has, meets}
+use Rattle.snap_core.specs.Arrays.{has, meets}
 use Rattle.snap_core.specs.Packets.{PacketSet, union}
 use Rattle.snap_core.specs.Meaning.{Meaning, clash, joined, beside}
 use Rattle.snap_core.proofs.PacketSets.{same_packets, contains-union}

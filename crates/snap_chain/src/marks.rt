@@ -3,7 +3,7 @@
 
 ghost use Rattle.std.specs.Prelude.{◌≡◌, ◌<◌, ℕ, List, All, false, IfOk, IfSome, IsTrue, length};
 ghost use Rattle.std.specs.List.{AllByRecursion};
-ghost use Rattle.snap_core.specs.Variables.{has};
+ghost use Rattle.snap_core.specs.Arrays.{has};
 ghost use Rattle.snap_core.specs.declared.policy.Update.{Update};
 ghost use Rattle.snap_arena.specs.declared.node.Node.{Node};
 ghost use Rattle.snap_fdd.specs.declared.leaf.Leaf.{Leaf};

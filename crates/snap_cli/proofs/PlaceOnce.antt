@@ -10,7 +10,7 @@ use Rattle.snap_dep.proofs.Below.{UsesBelow-fits}
 use Rattle.snap_io.specs.Files.{Files, file_of}
 use Rattle.snap_names.specs.Declarations.{core_program}
 use Rattle.snap_topo.specs.declared.topology.Topology.{Topology}
-use Rattle.snap_topo.specs.Document.{document}
+use Rattle.snap_topo.specs.Spells.{document}
 use Rattle.snap_route.specs.Tables.{AreRoutes, Table}
 use Rattle.snap_place.specs.Printed.{placement_text}
 use Rattle.snap_seek.specs.declared.best.Best.{Best}

@@ -7,7 +7,7 @@ use Rattle.snap_core.specs.Programs.{IsInForm}
 use Rattle.snap_dep.specs.Ranks.{Grouping, IsGrouping}
 use Rattle.snap_io.specs.Files.{file_of}
 use Rattle.snap_topo.specs.declared.topology.Topology.{Topology}
-use Rattle.snap_topo.specs.Document.{document}
+use Rattle.snap_topo.specs.Spells.{document}
 use Rattle.snap_names.proofs.DerivedTrees.{SourceWritten-text}
 use Rattle.snap_names.proofs.InForm.{IfOk-in_form}
 use Rattle.snap_route.specs.Tables.{Table}

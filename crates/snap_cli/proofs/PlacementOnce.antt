@@ -5,7 +5,7 @@ use Rattle.snap_core.specs.declared.program.Program.{Program}
 use Rattle.snap_dep.specs.Dependencies.{Tied}
 use Rattle.snap_names.specs.Declarations.{core_program}
 use Rattle.snap_topo.specs.declared.topology.Topology.{Topology}
-use Rattle.snap_topo.specs.Document.{document}
+use Rattle.snap_topo.specs.Spells.{document}
 use Rattle.snap_place.specs.declared.placement.PlaceFault.{PlaceFault}
 use Rattle.snap_place.specs.declared.placement.PlaceFault.TheVariants.{Apart}
 use Rattle.snap_place.specs.Answer.{IsAnswer, MissingThen, OwnersThen, ShapeThen, SwitchThen, VariableThen, missing, no_switch, no_variable, owners}

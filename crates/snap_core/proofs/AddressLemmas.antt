@@ -3,8 +3,7 @@ use Rattle.std.proofs.Common.{◌≡◌, ℕ, ◌+◌, ◌-◌, ◌*◌, ◌<◌
 use Rattle.std.specs.Prelude.{nat_le, nat_lt, option_and_then}
 use Rattle.std.specs.Char.{is_ascii_digit}
 use Rattle.std.proofs.lemmas.Bool.Decides.{nat_tests}
-use Rattle.snap_core.specs.Figures.{address_behind, address_of, address_of_parts, number_up_to, octet_of}
-use Rattle.snap_core.specs.Parts.{onto_first, parts_by}
+use Rattle.snap_core.specs.Figures.{address_behind, address_of, address_of_parts, number_up_to, octet_of, onto_first, parts_by}
 use Rattle.snap_core.specs.AddressSteps.{Reading, reading_at_first, is_octet, number_so_far, with_digit, with_dot, address_at_end, address_left}
 
 -- a part, behind digits that were read

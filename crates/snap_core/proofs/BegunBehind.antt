@@ -4,9 +4,8 @@ use Rattle.std.specs.Prelude.{option_and_then, unwrap_or}
 use Rattle.std.proofs.lemmas.Bool.{or_parts, both_ways}
 use Rattle.snap_core.specs.declared.place.Place.{Place}
 use Rattle.snap_core.specs.declared.policy.Pol.{Pol}
-use Rattle.snap_core.specs.Arrays.{Arrays}
+use Rattle.snap_core.specs.Arrays.{Arrays, has, meets}
 use Rattle.snap_core.specs.Laws.{AgreesOn}
-use Rattle.snap_core.specs.Variables.{has, meets}
 use Rattle.snap_core.specs.Packets.{AllLong, union}
 use Rattle.snap_core.specs.Meaning.{Meaning, clash, joined, beside, all_together, eval}
 use Rattle.snap_core.specs.Runs.{after_both, begun_behind}

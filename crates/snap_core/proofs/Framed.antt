@@ -12,9 +12,8 @@ use Rattle.snap_core.specs.declared.policy.Pol.TheVariants.{Filter, Set, Change,
 use Rattle.snap_core.specs.declared.policy.Pred.{Pred}
 use Rattle.snap_core.specs.declared.policy.Pred.TheVariants.{Id, Drop, Field, State, Not', And', Or'}
 use Rattle.snap_core.specs.declared.policy.Update.{Update}
-use Rattle.snap_core.specs.Arrays.{Arrays, same_place, place_at, value_of, number_after, update, taken}
+use Rattle.snap_core.specs.Arrays.{Arrays, same_place, place_at, value_of, number_after, update, taken, has}
 use Rattle.snap_core.specs.Laws.{AgreesOn}
-use Rattle.snap_core.specs.Variables.{has}
 use Rattle.snap_core.specs.Packets.{no_packets, with_packet, listed, union}
 use Rattle.snap_core.specs.Meaning.{Meaning, truth, vars_of, clash, any_clash, merge, all_packets, all_reads, all_writes, together, joined, beside, all_defined, all_together, logged, eval}
 use Rattle.snap_core.proofs.EvalLemmas.{both_together}

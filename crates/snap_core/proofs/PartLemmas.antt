@@ -1,7 +1,7 @@
 -- The parts of a text between separators.
 use Rattle.std.proofs.Common.{◌≡◌, ℕ, ◌+◌, ◌-◌, ◌<◌, zero, suc, Bool, true, false, cond, List, [], ◌∷◌, length, take, drop, get_or, refl, sym, ap, ◌∙◌, arith, add-one, length-drop}
 use Rattle.std.proofs.lemmas.List.{take_all}
-use Rattle.snap_core.specs.Parts.{onto_first, parts_by}
+use Rattle.snap_core.specs.Figures.{onto_first, parts_by}
 
 module _ (p : ℕ → Bool) where
   parts_by-step : (b : ℕ) (bs : List ℕ) (t : Bool) → p b ≡ t → parts_by p (b ∷ bs) ≡ cond t ([] ∷ parts_by p bs) (onto_first b (parts_by p bs))

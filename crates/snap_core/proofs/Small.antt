@@ -17,8 +17,7 @@ use Rattle.snap_core.specs.declared.policy.Op.TheVariants.{Put, Add}
 use Rattle.snap_core.specs.declared.policy.Update.{Update}
 use Rattle.snap_core.specs.declared.policy.Pol.{Pol}
 use Rattle.snap_core.specs.declared.policy.Pol.TheVariants.{Filter, Set, Change, Par', Seq', If', Atomic'}
-use Rattle.snap_core.specs.Arrays.{Arrays, same_place, place_at, value_of, number_after, update}
-use Rattle.snap_core.specs.Variables.{has}
+use Rattle.snap_core.specs.Arrays.{Arrays, same_place, place_at, value_of, number_after, update, has}
 use Rattle.snap_core.specs.Packets.{PacketSet, packet_cmp, no_packets, with_packet, union, listed}
 use Rattle.snap_core.specs.Meaning.{Meaning, eval, truth, vars_of, merge, all_packets}
 use Rattle.snap_core.specs.Laws.{AtomIsSmall, OpIsSmall, PutsSmall, AreSmall, HoldSmall}

@@ -6,8 +6,7 @@ use Rattle.std.specs.Int.{bit_at}
 use Rattle.std.proofs.lemmas.Bool.{eqb-true, eqb-false, eq-eqb, ne_eqb, or_parts, both_ways}
 use Rattle.std.proofs.lemmas.Nat.{and_comm, or_comm, le_or_l, le_or_r}
 use Rattle.std.proofs.lemmas.Nat.Bits.{same_from_bits, bit_at_and, bit_at_or, bit_at-zero}
-use Rattle.snap_core.specs.Arrays.{Arrays, taken}
-use Rattle.snap_core.specs.Variables.{has, meets}
+use Rattle.snap_core.specs.Arrays.{Arrays, taken, has, meets}
 use Rattle.snap_core.specs.Packets.{union, no_packets}
 use Rattle.snap_core.specs.Meaning.{Meaning, clash, any_clash, merge, all_packets, all_reads, all_writes, together, joined, beside, all_defined, all_together}
 use Rattle.snap_core.proofs.Gathered.{beside_all}

@@ -6,8 +6,7 @@ use Rattle.std.proofs.lemmas.Bool.{eqb-false, ne_eqb, and_left, cond-false}
 use Rattle.std.proofs.lemmas.Nat.Bits.{bit_at_or, bit_at-lt, bit_at-pow_same}
 use Rattle.snap_core.specs.declared.place.Place.{Place}
 use Rattle.snap_core.specs.declared.policy.Update.{Update}
-use Rattle.snap_core.specs.Arrays.{Arrays, same_place, place_at, update}
-use Rattle.snap_core.specs.Variables.{has}
+use Rattle.snap_core.specs.Arrays.{Arrays, same_place, place_at, update, has}
 
 pub no_bit : (n v : ℕ) → has n v ≡ false → bit_at n v ≡ 0
 no_bit n v h = let l = bit_at-lt n v in let ne = eqb-false (bit_at n v) 1 h in omega (arith, l, ne)

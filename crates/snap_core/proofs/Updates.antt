@@ -3,8 +3,7 @@ use Rattle.std.proofs.Common.{◌≡◌, ℕ, ◌^◌, Bool, true, false, List, 
 use Rattle.std.proofs.lemmas.Bool.{eqb-true, cond-true, cond-false, and_parts}
 use Rattle.snap_core.specs.declared.place.Place.{Place}
 use Rattle.snap_core.specs.declared.policy.Update.{Update}
-use Rattle.snap_core.specs.Arrays.{Arrays, same_place, place_at, number_after, update, updates}
-use Rattle.snap_core.specs.Variables.{has}
+use Rattle.snap_core.specs.Arrays.{Arrays, same_place, place_at, number_after, update, updates, has}
 use Rattle.snap_core.specs.Laws.{written_by}
 use Rattle.snap_core.proofs.Unwritten.{neither, updated_keeps}
 

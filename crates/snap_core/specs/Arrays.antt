@@ -1,13 +1,20 @@
 -- What the state variables of a program hold: a number at each place.
-use Rattle.std.specs.Prelude.{ℕ, ◌+◌, ◌%◌, ◌^◌, Bool, List, [], ◌∷◌, map, ◌&&◌, ◌==◌, nat_eq, slice_index, if◌then◌else◌}
+use Rattle.std.specs.Prelude.{ℕ, ◌+◌, ◌%◌, ◌^◌, Bool, List, [], ◌∷◌, map, ◌&&◌, ◌==◌, nat_eq, slice_index, if◌then◌else◌, not, bit_and}
+use Rattle.std.specs.Int.{bit_at}
 use lib.Pointwise.{pointwise}
-use Rattle.snap_core.specs.Variables.{has}
 use Rattle.snap_core.specs.declared.place.Place.{Place}
 use Rattle.snap_core.specs.declared.policy.Atom.{Atom}
 use Rattle.snap_core.specs.declared.policy.Atom.TheVariants.{Num, Comp}
 use Rattle.snap_core.specs.declared.policy.Op.{Op}
 use Rattle.snap_core.specs.declared.policy.Op.TheVariants.{Put, Add}
 use Rattle.snap_core.specs.declared.policy.Update.{Update}
+
+abbrev pub has : ℕ → ℕ → Bool
+has w v = bit_at w v == 1
+
+-- whether two sets have a variable in common
+abbrev pub meets : ℕ → ℕ → Bool
+meets a b = not (bit_and a b == 0)
 
 -- the number at each place
 abbrev pub Arrays : Type 0

@@ -1,9 +1,18 @@
 -- Numbers and addresses in decimal digits. Leading zeros are read.
-use Rattle.std.specs.Prelude.{ℕ, ◌+◌, ◌-◌, ◌*◌, ◌^◌, ◌&&◌, ◌==◌, nat_le, if◌then◌else◌, List, [], ◌∷◌, length, Some, None, option_and_then, option_map}
+use Rattle.std.specs.Prelude.{ℕ, ◌+◌, ◌-◌, ◌*◌, ◌^◌, ◌&&◌, ◌==◌, nat_le, if◌then◌else◌, List, [], ◌∷◌, length, Some, None, option_and_then, option_map, Bool}
 use Rattle.std.specs.List.{list_all}
 use Rattle.std.specs.Char.{is_ascii_digit}
 use Rattle.std.specs.declared.option.Option.{Option}
-use Rattle.snap_core.specs.Parts.{parts_by}
+
+-- a byte in front of the parts behind it
+abbrev pub onto_first : ℕ → List (List ℕ) → List (List ℕ)
+onto_first b [] = (b ∷ []) ∷ []
+onto_first b (part ∷ parts) = (b ∷ part) ∷ parts
+
+-- the parts between the bytes that separate, one part more than there are such bytes
+abbrev pub parts_by : (ℕ → Bool) → List ℕ → List (List ℕ)
+parts_by separates [] = [] ∷ []
+parts_by separates (b ∷ bs) = if separates b then [] ∷ parts_by separates bs else onto_first b (parts_by separates bs)
 
 -- what digits are worth behind a number that was read
 abbrev pub value_after : ℕ → List ℕ → ℕ

@@ -5,9 +5,8 @@ use Rattle.snap_core.specs.declared.policy.Pol.{Pol}
 use Rattle.snap_core.specs.declared.policy.Pol.TheVariants.{Filter, Set, Change, Par', Seq', If', Atomic'}
 use Rattle.snap_core.specs.declared.policy.Pred.{Pred}
 use Rattle.snap_core.specs.declared.policy.Pred.TheVariants.{Id, Drop, Field, State, Not', And', Or'}
-use Rattle.snap_core.specs.Arrays.{Arrays, taken, update, place_at, value_of}
+use Rattle.snap_core.specs.Arrays.{Arrays, taken, update, place_at, value_of, has, meets}
 use Rattle.snap_core.specs.Packets.{PacketSet, no_packets, with_packet, listed, union}
-use Rattle.snap_core.specs.Variables.{has, meets}
 
 -- what an evaluation gives: the arrays, the packets, and the variables read and written
 pub record Meaning : Type 0 where

@@ -1,7 +1,7 @@
 //! Texts in parts between separators.
 
 ghost use Rattle.std.specs.Prelude.{◌≡◌, ◌==◌, MatchOption, IfSome, ◌<◌, length, [], ◌∷◌};
-ghost use Rattle.snap_core.specs.Parts.{parts_by};
+ghost use Rattle.snap_core.specs.Figures.{parts_by};
 
 /// The text before the first byte that separates, and the text behind it.
 pub fn split_at_first(text: &[u8], separator: u8) -> Option<(&[u8], &[u8])>

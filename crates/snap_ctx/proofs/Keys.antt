@@ -2,7 +2,7 @@
 use Rattle.std.proofs.Common.{◌≡◌, ℕ, zero, suc, ◌+◌, ◌<◌, Bool, true, false, cond, List, [], ◌∷◌, ◌++◌, length, get_or, refl, sym, ap, subst, ◌∙◌, arith, append_assoc}
 use Rattle.snap_core.specs.declared.policy.Term.{Term}
 use Rattle.snap_core.specs.declared.policy.Term.TheVariants.{Num, Plus}
-use Rattle.snap_core.specs.Variables.{has}
+use Rattle.snap_core.specs.Arrays.{has}
 use Rattle.snap_ctx.specs.Known.{Normal, Differ, Held, term_key, spot_key, normal_key, normals_key, classes_key}
 
 same_term : (a b : Term) (r s : List ℕ) → term_key a ++ r ≡ term_key b ++ s → (a ≡ b) × (r ≡ s)

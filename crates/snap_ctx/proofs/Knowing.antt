@@ -11,9 +11,8 @@ use Rattle.snap_core.specs.declared.policy.Term.{Term}
 use Rattle.snap_core.specs.declared.policy.Term.TheVariants.{Num, Plus}
 use Rattle.snap_core.specs.declared.policy.Test.{Test}
 use Rattle.snap_core.specs.declared.policy.Test.TheVariants.{Value, Equal, State}
-use Rattle.snap_core.specs.Arrays.{Arrays, value_of}
+use Rattle.snap_core.specs.Arrays.{Arrays, value_of, has}
 use Rattle.snap_core.specs.Tests.{passes, term_value}
-use Rattle.snap_core.specs.Variables.{has}
 use Rattle.snap_core.specs.Inputs.{IsPacket}
 use Rattle.snap_ctx.specs.declared.fact.Fact.{Fact}
 use Rattle.snap_ctx.specs.Meets.{Meets, IsMet}

@@ -9,7 +9,7 @@ use Rattle.snap_core.specs.declared.policy.Atom.TheVariants.{Num as Number, Comp
 use Rattle.snap_core.specs.declared.policy.Term.{Term}
 use Rattle.snap_core.specs.declared.policy.Term.TheVariants.{Num, Plus}
 use Rattle.snap_core.specs.Tests.{term_value}
-use Rattle.snap_core.specs.Variables.{has}
+use Rattle.snap_core.specs.Arrays.{has}
 use Rattle.snap_ctx.specs.Classes.{wrap, shift, class_of, normal, atom_class, IsTerm, IsAtom, IsClass}
 use Rattle.snap_ctx.specs.Known.{within, are_within, outside, are_outside, are_numbers}
 use Rattle.snap_ctx.proofs.Algebra.{term_value-shift}

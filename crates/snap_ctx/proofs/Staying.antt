@@ -12,9 +12,8 @@ use Rattle.snap_core.specs.declared.policy.Term.{Term}
 use Rattle.snap_core.specs.declared.policy.Term.TheVariants.{Num, Plus}
 use Rattle.snap_core.specs.declared.policy.Test.{Test}
 use Rattle.snap_core.specs.declared.policy.Test.TheVariants.{Value, Equal, State}
-use Rattle.snap_core.specs.Arrays.{Arrays}
+use Rattle.snap_core.specs.Arrays.{Arrays, has, meets}
 use Rattle.snap_core.specs.Tests.{passes}
-use Rattle.snap_core.specs.Variables.{has, meets}
 use Rattle.snap_ctx.specs.declared.fact.Fact.{Fact}
 use Rattle.snap_ctx.specs.Classes.{shift, class_of, normal, atom_class, IsTerm, IsAtom, IsTest, FactRule, PairRule}
 use Rattle.snap_ctx.specs.Closing.{AgreeOutside, MeetsWith, Stays, RulesOf, RulesWith}

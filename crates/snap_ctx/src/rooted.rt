@@ -1,7 +1,7 @@
 //! Sets of roots by which facts fall apart: a fact has all of its roots in the set, or none and a place of its own.
 
 ghost use Rattle.std.specs.Prelude.{◌≡◌, ◌<◌, ◌≤◌, ℕ, All, IfSome, IsTrue, length, map, true};
-ghost use Rattle.snap_core.specs.Variables.{has};
+ghost use Rattle.snap_core.specs.Arrays.{has};
 ghost use Rattle.snap_ctx.specs.Classes.{atom_class, class_of, normal, IsAtom, IsTerm, IsTest};
 ghost use Rattle.snap_ctx.specs.Known.{are_numbers, are_outside, are_within, is_number, loose, outside, tied, within, IsRooted};
 

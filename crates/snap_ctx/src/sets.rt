@@ -1,7 +1,7 @@
 //! Sets of variables and components, a bit each.
 
 ghost use Rattle.std.specs.Prelude.{◌≡◌};
-ghost use Rattle.snap_core.specs.Variables.{has};
+ghost use Rattle.snap_core.specs.Arrays.{has};
 ghost use Rattle.snap_ctx.specs.Known.{IsAmong};
 
 /// Whether a set has a number. No set has one from 64 on.

@@ -1,7 +1,7 @@
 //! Arrays of which facts speak of one place, and of numbers.
 
 ghost use Rattle.std.specs.Prelude.{◌≡◌, ◌<◌, ◌⊎◌, ℕ, All, IsTrue, length, false, map, true};
-ghost use Rattle.snap_core.specs.Variables.{has};
+ghost use Rattle.snap_core.specs.Arrays.{has};
 ghost use Rattle.snap_ctx.specs.Classes.{atom_class, IsAtom, IsTest};
 ghost use Rattle.snap_ctx.specs.Known.{IsAtSpot, IsSettled};
 

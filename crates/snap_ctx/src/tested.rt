@@ -2,7 +2,7 @@
 
 ghost use Rattle.std.specs.Prelude.{◌≡◌};
 ghost use Rattle.std.specs.List.{AllByRecursion};
-ghost use Rattle.snap_core.specs.Variables.{meets};
+ghost use Rattle.snap_core.specs.Arrays.{meets};
 ghost use Rattle.snap_ctx.specs.Known.{AtomOver, TermOver, TestOver};
 ghost use Rattle.snap_ctx.specs.Ranges.{TestInRange};
 ghost use Rattle.snap_ctx.specs.Tested.{either_tested};

@@ -4,7 +4,7 @@ use Rattle.std.specs.Prelude.{nat_eq, slice_index, ◌||◌}
 use Rattle.std.proofs.lemmas.Bool.{eqb-true, eqb-false, eq-eqb, ne_eqb}
 use Rattle.std.proofs.lemmas.List.{get_or-set_same, get_or-set_other}
 use Rattle.std.proofs.Math.ListN.{get_or-eq_default}
-use Rattle.snap_core.specs.Variables.{has}
+use Rattle.snap_core.specs.Arrays.{has}
 use Rattle.snap_dep.proofs.Sets.{has-or, has-zero, has-pow_same, has-pow_other}
 use Rattle.snap_demand.specs.Marks.{has_switch}
 

@@ -1,7 +1,7 @@
 //! Sets of switches.
 
 ghost use Rattle.std.specs.Prelude.{◌≡◌, ◌<◌, ◌||◌, ◌==◌, ◌^◌, ℕ, false};
-ghost use Rattle.snap_core.specs.Variables.{has};
+ghost use Rattle.snap_core.specs.Arrays.{has};
 ghost use Rattle.snap_demand.specs.Marks.{has_switch};
 
 /// A set of switches, of which there are at most 256: a bit for each.

@@ -18,7 +18,8 @@ use Rattle.snap_core.specs.Names.{is_name_byte, is_switch_name}
 use Rattle.snap_rows.specs.Entries.{port_in}
 use Rattle.snap_route.specs.Tables.{IsUnreachable}
 use Rattle.snap_route.specs.Walks.{IsWalk, Linked}
-use Rattle.snap_topo.specs.Form.{IsInForm, IsLink, IsPort, link_cmp}
+use Rattle.snap_topo.specs.Form.{IsInForm, IsLink, IsPort}
+use Rattle.snap_topo.specs.Spells.{link_cmp}
 use Rattle.snap_demo.specs.Row.{link_of, links, port_of, ports, stated_topology, switch_name, switches}
 use Rattle.snap_demo.proofs.Ranges.{apart, each, rising}
 

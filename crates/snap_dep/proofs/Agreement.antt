@@ -8,8 +8,7 @@ use Rattle.snap_core.specs.declared.policy.Pred.{Pred}
 use Rattle.snap_core.specs.declared.policy.Pred.TheVariants.{Id, Drop, Field, State, Not', And', Or'}
 use Rattle.snap_core.specs.declared.policy.Pol.{Pol}
 use Rattle.snap_core.specs.declared.policy.Pol.TheVariants.{Filter, Set, Change, Par', Seq', If', Atomic'}
-use Rattle.snap_core.specs.Arrays.{Arrays, same_place, place_at, value_of, number_after, update}
-use Rattle.snap_core.specs.Variables.{has, meets}
+use Rattle.snap_core.specs.Arrays.{Arrays, same_place, place_at, value_of, number_after, update, has, meets}
 use Rattle.snap_core.specs.Packets.{with_packet, no_packets, listed, union}
 use Rattle.snap_core.specs.Meaning.{Meaning, eval, truth, vars_of, clash, any_clash, merge, all_packets, all_reads, all_writes, together, all_defined, all_together, logged}
 use Rattle.snap_dep.specs.Dependencies.{Tests, Reads}

@@ -5,8 +5,7 @@ use Rattle.std.proofs.lemmas.Bool.{cond-false, or_from}
 use Rattle.snap_core.specs.declared.place.Place.{Place}
 use Rattle.snap_core.specs.declared.policy.Pol.{Pol}
 use Rattle.snap_core.specs.declared.policy.Pol.TheVariants.{Filter, Set, Change, Par', Seq', If', Atomic'}
-use Rattle.snap_core.specs.Arrays.{Arrays}
-use Rattle.snap_core.specs.Variables.{has}
+use Rattle.snap_core.specs.Arrays.{Arrays, has}
 use Rattle.snap_core.specs.Packets.{listed}
 use Rattle.snap_core.specs.Meaning.{Meaning, eval, truth, vars_of, any_clash, merge, all_writes, together, all_defined, all_together, logged}
 use Rattle.snap_core.proofs.Unwritten.{updated_keeps}

@@ -5,7 +5,7 @@ use Rattle.std.specs.List.{Contains}
 use Rattle.std.proofs.lemmas.Bool.{cases_eq}
 use Rattle.std.proofs.lemmas.List.Elements.{Contains-append_left, Contains-push, Contains-push_cases}
 use Rattle.snap_core.specs.declared.policy.Pol.{Pol}
-use Rattle.snap_core.specs.Variables.{has}
+use Rattle.snap_core.specs.Arrays.{has}
 use Rattle.snap_dep.specs.Dependencies.{Reaches, UsesBelow}
 use Rattle.snap_dep.specs.Ranks.{IsGroup, IsRank}
 use Rattle.snap_dep.specs.Relations.{IsRelation, IsSetOf, IsFree}

@@ -10,7 +10,7 @@ use Rattle.snap_core.specs.declared.policy.Pred.{Pred}
 use Rattle.snap_core.specs.declared.policy.Pred.TheVariants.{Id, Drop, Field, State, Not', And', Or'}
 use Rattle.snap_core.specs.Fits.{VarsBelow}
 use Rattle.snap_core.specs.Meaning.{vars_of}
-use Rattle.snap_core.specs.Variables.{has}
+use Rattle.snap_core.specs.Arrays.{has}
 use Rattle.snap_dep.specs.Dependencies.{Tests}
 use Rattle.snap_dep.specs.Relations.{IsSetOf}
 

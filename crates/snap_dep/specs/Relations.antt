@@ -1,7 +1,7 @@
 -- Relations between variables, as rows of sets: a row for each variable, with those that are related to it.
 use Rattle.std.specs.Prelude.{◌≡◌, ◌≢◌, ◌↔◌, ◌⊎◌, ◌<◌, ℕ, IsTrue, List, slice_index, Contains}
 use Rattle.std.specs.List.{AllPairs}
-use Rattle.snap_core.specs.Variables.{has}
+use Rattle.snap_core.specs.Arrays.{has}
 
 -- the row of t has s
 abbrev pub Relates : List ℕ → ℕ → ℕ → Type 0

@@ -1,7 +1,7 @@
 //! Relations between at most 64 variables: for each variable the set of those that are related to it.
 
 ghost use Rattle.std.specs.Prelude.{◌≡◌, ◌≢◌, ◌^◌, ◌≤◌, ◌<◌, ◌↔◌, ◌⊎◌, ℕ, IsTrue, length};
-ghost use Rattle.snap_core.specs.Variables.{has};
+ghost use Rattle.snap_core.specs.Arrays.{has};
 ghost use Rattle.snap_core.specs.declared.policy.Pol.{Pol};
 ghost use Rattle.snap_dep.specs.Dependencies.{Depends, Reaches, Tied, UsesBelow};
 ghost use Rattle.snap_dep.specs.Relations.{Relates, IsRelation};

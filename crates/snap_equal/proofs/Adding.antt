@@ -8,8 +8,7 @@ use Rattle.snap_core.specs.declared.place.Place.{Place}
 use Rattle.snap_core.specs.declared.policy.Op.{Op}
 use Rattle.snap_core.specs.declared.policy.Op.TheVariants.{Put, Add}
 use Rattle.snap_core.specs.declared.policy.Update.{Update}
-use Rattle.snap_core.specs.Arrays.{Arrays, same_place, place_at, number_after, update, updates}
-use Rattle.snap_core.specs.Variables.{has}
+use Rattle.snap_core.specs.Arrays.{Arrays, same_place, place_at, number_after, update, updates, has}
 use Rattle.snap_core.proofs.Unwritten.{neither}
 use Rattle.snap_dep.proofs.Sets.{has-pow_same}
 use Rattle.snap_ctx.specs.Classes.{wrap}

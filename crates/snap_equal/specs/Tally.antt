@@ -4,8 +4,7 @@ use Rattle.snap_core.specs.declared.place.Place.{Place}
 use Rattle.snap_core.specs.declared.policy.Op.{Op}
 use Rattle.snap_core.specs.declared.policy.Op.TheVariants.{Put, Add}
 use Rattle.snap_core.specs.declared.policy.Update.{Update}
-use Rattle.snap_core.specs.Arrays.{same_place, place_at}
-use Rattle.snap_core.specs.Variables.{has}
+use Rattle.snap_core.specs.Arrays.{same_place, place_at, has}
 use Rattle.snap_ctx.specs.Classes.{wrap}
 use Rattle.snap_ctx.specs.View.{View}
 use Rattle.snap_equal.specs.declared.tally.Sign.{Sign}

@@ -2,10 +2,9 @@
 
 ghost use Rattle.std.specs.Prelude.{◌≡◌, ◌<◌, ◌^◌, ℕ, true, All, IfOk, IfSome, OnOk, List, false, get_or, length};
 ghost use Rattle.snap_core.specs.declared.place.Place.{Place};
-ghost use Rattle.snap_core.specs.Arrays.{place_at};
+ghost use Rattle.snap_core.specs.Arrays.{place_at, has};
 ghost use Rattle.snap_core.specs.declared.policy.Op.TheVariants.{Add};
 ghost use Rattle.snap_core.specs.declared.policy.Update.{Update as UpdateData};
-ghost use Rattle.snap_core.specs.Variables.{has};
 ghost use Rattle.snap_ctx.specs.Classes.{wrap};
 ghost use Rattle.snap_equal.specs.Inputs.{AreOf, IsUpdate};
 ghost use Rattle.snap_equal.specs.Tally.{AddOutside, IsDifference, IsSum, plus, share_of, signed, signed_total, total};

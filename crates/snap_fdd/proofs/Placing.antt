@@ -10,10 +10,9 @@ use Rattle.snap_core.specs.declared.policy.Term.{Term}
 use Rattle.snap_core.specs.declared.policy.Term.TheVariants.{Num, Plus}
 use Rattle.snap_core.specs.declared.policy.Test.{Test}
 use Rattle.snap_core.specs.declared.policy.Test.TheVariants.{Value, Equal, State}
-use Rattle.snap_core.specs.Arrays.{Arrays}
+use Rattle.snap_core.specs.Arrays.{Arrays, has}
 use Rattle.snap_core.specs.Inputs.{IsPacket}
 use Rattle.snap_core.specs.Listing.{number_in}
-use Rattle.snap_core.specs.Variables.{has}
 use Rattle.snap_ctx.specs.declared.fact.Fact.{Fact}
 use Rattle.snap_ctx.specs.Classes.{wrap, class_of, normal, atom_class, is_state, var_of, index_of, left_of, IsAtom, IsTerm, IsTest, FactRule, PairRule, Rules, SamePlace, Says}
 use Rattle.snap_ctx.specs.Known.{IsAmong, AtomOver, TermOver}

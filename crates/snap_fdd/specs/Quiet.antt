@@ -7,7 +7,7 @@ use Rattle.snap_core.specs.declared.policy.Atom.TheVariants.{Num as Number, Comp
 use Rattle.snap_core.specs.declared.policy.Term.{Term}
 use Rattle.snap_core.specs.declared.policy.Test.{Test}
 use Rattle.snap_core.specs.declared.policy.Test.TheVariants.{Value, Equal, State}
-use Rattle.snap_core.specs.Variables.{has}
+use Rattle.snap_core.specs.Arrays.{has}
 use Rattle.snap_ctx.specs.declared.fact.Fact.{Fact}
 use Rattle.snap_ctx.specs.Ranges.{AtomInRange, TermInRange}
 use Rattle.snap_fdd.specs.declared.survey.Seen.{Seen}

@@ -5,7 +5,7 @@ use Rattle.snap_core.specs.declared.policy.Atom.{Atom}
 use Rattle.snap_core.specs.declared.policy.Atom.TheVariants.{Num as Number, Comp}
 use Rattle.snap_core.specs.declared.policy.Term.{Term}
 use Rattle.snap_core.specs.declared.policy.Term.TheVariants.{Num, Plus}
-use Rattle.snap_core.specs.Variables.{has}
+use Rattle.snap_core.specs.Arrays.{has}
 use Rattle.snap_fdd.specs.declared.spots.Asked.{Asked}
 use Rattle.snap_fdd.specs.declared.spots.Asked.TheVariants.{Numbers, Only}
 use Rattle.snap_fdd.specs.declared.spots.Spot.{Spot}

@@ -2,7 +2,7 @@
 
 ghost use Rattle.std.specs.Prelude.{◌≡◌, ◌↔◌, ◌<◌, ◌≤◌, ℕ, All, IfOk, IsTrue, length, true};
 ghost use Rattle.std.specs.List.{AllByRecursion};
-ghost use Rattle.snap_core.specs.Variables.{has};
+ghost use Rattle.snap_core.specs.Arrays.{has};
 ghost use Rattle.snap_core.specs.declared.policy.Term.TheVariants.{Plus};
 ghost use Rattle.snap_ctx.specs.Classes.{class_of, is_state, var_of, IsAtom, IsTerm, IsTest};
 ghost use Rattle.snap_ctx.specs.Known.{IsAmong};

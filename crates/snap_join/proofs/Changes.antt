@@ -6,8 +6,7 @@ use Rattle.std.proofs.lemmas.Bool.{eqb-true, ne_eqb, and_left, cond-true, cond-f
 use Rattle.std.proofs.lemmas.Nat.Bits.{bit_at_or, bit_at_and, bit_at-lt, bit_at-zero}
 use Rattle.snap_core.specs.declared.place.Place.{Place}
 use Rattle.snap_core.specs.declared.policy.Update.{Update}
-use Rattle.snap_core.specs.Arrays.{Arrays, same_place, place_at, number_after, update, updates, taken}
-use Rattle.snap_core.specs.Variables.{has, meets}
+use Rattle.snap_core.specs.Arrays.{Arrays, same_place, place_at, number_after, update, updates, taken, has, meets}
 use Rattle.snap_core.specs.Packets.{union}
 use Rattle.snap_core.proofs.Unwritten.{without}
 use Rattle.snap_fdd.specs.declared.leaf.Leaf.{Leaf}

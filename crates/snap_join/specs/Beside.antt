@@ -1,8 +1,7 @@
 -- Two answers side by side.
 use Rattle.std.specs.Prelude.{ℕ, Bool, ◌||◌, Option, Some, None, bit_or, if◌then◌else◌}
-use Rattle.snap_core.specs.Arrays.{Arrays, taken}
+use Rattle.snap_core.specs.Arrays.{Arrays, taken, meets}
 use Rattle.snap_core.specs.Packets.{union}
-use Rattle.snap_core.specs.Variables.{meets}
 use Rattle.snap_fdd.specs.Leaves.{Answer}
 
 -- the logs of two answers clash: one writes what the other reads or writes

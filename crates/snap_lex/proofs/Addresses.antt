@@ -4,9 +4,7 @@ use Rattle.std.specs.Prelude.{Bool, ◌&&◌, Option, None, MatchOption, IsTrue,
 use Rattle.std.proofs.Math.Seq.{get_or-append_seam}
 use Rattle.std.proofs.lemmas.Bool.{and_parts}
 use Rattle.std.proofs.lemmas.List.{get_or-take}
-use Rattle.snap_lex.specs.Bytes.{is_digit}
-use Rattle.snap_lex.specs.Address.{is_group, HasDots, last_group, next_group, IsAddress}
-use Rattle.snap_lex.specs.Lexemes.{AreDigits}
+use Rattle.snap_lex.specs.Lexemes.{AreDigits, is_group, HasDots, last_group, next_group, IsAddress, is_digit}
 
 digit_no_dot : (b : ℕ) → is_digit b ≡ true → b ≢ 46
 digit_no_dot b x y = no (sym x ∙ ap is_digit y)

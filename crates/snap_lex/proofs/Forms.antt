@@ -4,8 +4,7 @@ use Rattle.std.specs.Prelude.{slice_index, nat_eq}
 use Rattle.std.proofs.lemmas.Bool.Decides.{nat_tests}
 use Rattle.snap_lex.specs.declared.Sign.{Sign}
 use Rattle.snap_lex.specs.declared.Sign.TheVariants as signs
-use Rattle.snap_lex.specs.Bytes.{is_blank, is_letter, is_digit}
-use Rattle.snap_lex.specs.Lexemes.{IsWord, IsFigure, IsSign, HasForm, as_word, as_figure, as_sign, IsLongest, sign_text}
+use Rattle.snap_lex.specs.Lexemes.{IsWord, IsFigure, IsSign, HasForm, as_word, as_figure, as_sign, IsLongest, sign_text, is_blank, is_letter, is_digit}
 
 pub letter_no_digit : (b : ℕ) → is_letter b ≡ true → is_digit b ≡ true → ⊥
 letter_no_digit b x y = grind (arith, nat_tests)

@@ -7,9 +7,7 @@ use Rattle.snap_lex.specs.declared.Key.{Key}
 use Rattle.snap_lex.specs.declared.Key.TheVariants as keys
 use Rattle.snap_lex.specs.declared.Sign.{Sign}
 use Rattle.snap_lex.specs.declared.Sign.TheVariants as signs
-use Rattle.snap_lex.specs.Address.{is_group, HasDots, last_group}
-use Rattle.snap_lex.specs.Bytes.{is_blank, is_digit, is_letter, is_part, is_joint, is_figure_part}
-use Rattle.snap_lex.specs.Lexemes.{IsWord, IsFigure, IsSign, HasForm, as_word, as_figure, as_sign, IsLexeme, a_name, a_key, a_number, an_address, a_sign, IsLongest, AreDigits, key_text, sign_text}
+use Rattle.snap_lex.specs.Lexemes.{IsWord, IsFigure, IsSign, HasForm, as_word, as_figure, as_sign, IsLexeme, a_name, a_key, a_number, an_address, a_sign, IsLongest, AreDigits, key_text, sign_text, is_group, HasDots, last_group, is_blank, is_digit, is_letter, is_part, is_joint, is_figure_part}
 use Rattle.snap_lex.proofs.Addresses.{no_group, other_group, this_group, dots_none, dots_behind, dots_before, dots_never}
 use Rattle.std.proofs.Math.Decide.{map_dec, dec_le, dec_lt, ℕ_discrete}
 use Rattle.snap_lex.proofs.Decided.{both, either, is_true, same_text, all_below, Greatest, greatest, none, find, NoneOf, tried}

@@ -3,8 +3,7 @@ use Rattle.std.proofs.Common.{◌≡◌, ◌≢◌, ℕ, zero, suc, ◌+◌, ◌
 use Rattle.snap_lex.specs.declared.Token.{Token}
 use Rattle.snap_lex.specs.declared.LexFault.{LexFault}
 use Rattle.snap_lex.specs.declared.LexFault.TheVariants.{BadByte, BadNumber}
-use Rattle.snap_lex.specs.Bytes.{is_blank}
-use Rattle.snap_lex.specs.Lexemes.{IsComment, Spells, spells_nothing, spells_blank, spells_comment, spells_token}
+use Rattle.snap_lex.specs.Lexemes.{IsComment, Spells, spells_nothing, spells_blank, spells_comment, spells_token, is_blank}
 use Rattle.snap_lex.specs.Laws.{Finds}
 use Rattle.std.proofs.Math.Decide.{ℕ_discrete}
 use Rattle.snap_lex.proofs.Fronts.{Front, a_token, no_token, front}

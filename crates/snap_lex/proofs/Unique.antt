@@ -10,9 +10,7 @@ use Rattle.snap_lex.specs.declared.Key.{Key}
 use Rattle.snap_lex.specs.declared.Key.TheVariants as keys
 use Rattle.snap_lex.specs.declared.Sign.{Sign}
 use Rattle.snap_lex.specs.declared.Sign.TheVariants as signs
-use Rattle.snap_lex.specs.Bytes.{is_blank, is_letter, is_digit}
-use Rattle.snap_lex.specs.Lexemes.{IsWord, IsFigure, IsSign, HasForm, as_word, as_figure, as_sign, IsLexeme, a_name, a_key, a_number, an_address, a_sign, IsLongest, IsComment, Spells, spells_nothing, spells_blank, spells_comment, spells_token, BeginsNothing, BeginsNoNumber, AreDigits, key_text, sign_text}
-use Rattle.snap_lex.specs.Address.{IsAddress}
+use Rattle.snap_lex.specs.Lexemes.{IsWord, IsFigure, IsSign, HasForm, as_word, as_figure, as_sign, IsLexeme, a_name, a_key, a_number, an_address, a_sign, IsLongest, IsComment, Spells, spells_nothing, spells_blank, spells_comment, spells_token, BeginsNothing, BeginsNoNumber, AreDigits, key_text, sign_text, IsAddress, is_blank, is_letter, is_digit}
 use Rattle.snap_lex.proofs.Addresses.{no_address_of_digits}
 use Rattle.snap_lex.proofs.Forms.{letter_no_digit, sign_no_letter, sign_no_digit, sign_no_blank, sign_no_comment, sign_some, sign_within}
 

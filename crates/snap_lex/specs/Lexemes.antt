@@ -1,5 +1,5 @@
 -- Words, figures and signs, and the token list that a text spells by longest match.
-use Rattle.std.specs.Prelude.{◌≡◌, ◌≢◌, ℕ, ◌+◌, ◌<◌, ◌≤◌, ◌⊎◌, List, [], ◌∷◌, length, slice_index, take, drop, codes, true, false}
+use Rattle.std.specs.Prelude.{◌≡◌, ◌≢◌, ℕ, ◌+◌, ◌<◌, ◌≤◌, ◌⊎◌, List, [], ◌∷◌, length, slice_index, take, drop, codes, true, false, suc, ◌-◌, ◌*◌, ◌++◌, Bool, nat_le, ◌&&◌, nat_eq, ◌||◌}
 use Rattle.snap_lex.specs.declared.Token.{Token}
 use Rattle.snap_lex.specs.declared.Kind.{Kind}
 use Rattle.snap_lex.specs.declared.Kind.TheVariants as kinds
@@ -7,8 +7,44 @@ use Rattle.snap_lex.specs.declared.Key.{Key}
 use Rattle.snap_lex.specs.declared.Key.TheVariants as keys
 use Rattle.snap_lex.specs.declared.Sign.{Sign}
 use Rattle.snap_lex.specs.declared.Sign.TheVariants as signs
-use Rattle.snap_lex.specs.Address.{IsAddress}
-use Rattle.snap_lex.specs.Bytes.{is_blank, is_digit, is_letter, is_part, is_joint, is_figure_part}
+
+-- space, tab, CR, LF
+abbrev pub is_blank : ℕ → Bool
+is_blank b = nat_eq b 32 || nat_eq b 9 || nat_eq b 13 || nat_eq b 10
+
+abbrev pub is_digit : ℕ → Bool
+is_digit b = nat_le 48 b && nat_le b 57
+
+-- a letter or `_`
+abbrev pub is_letter : ℕ → Bool
+is_letter b = (nat_le 65 b && nat_le b 90) || (nat_le 97 b && nat_le b 122) || nat_eq b 95
+
+abbrev pub is_part : ℕ → Bool
+is_part b = is_letter b || is_digit b
+
+-- `.` or `-`
+abbrev pub is_joint : ℕ → Bool
+is_joint b = nat_eq b 46 || nat_eq b 45
+
+abbrev pub is_figure_part : ℕ → Bool
+is_figure_part b = is_part b || nat_eq b 46
+
+abbrev pub digit_of : ℕ → ℕ
+digit_of b = b - 48
+
+abbrev pub is_group : List ℕ → Bool
+is_group (a ∷ []) = is_digit a
+is_group (a ∷ b ∷ []) = is_digit a && is_digit b
+is_group (a ∷ b ∷ c ∷ []) = is_digit a && is_digit b && is_digit c && nat_le (digit_of a * 100 + digit_of b * 10 + digit_of c) 255
+is_group _ = false
+
+-- groups joined by this many dots
+pub data HasDots : ℕ → List ℕ → Type 0 where
+  last_group : (group : List ℕ) → is_group group ≡ true → HasDots 0 group
+  next_group : {n : ℕ} {rest : List ℕ} (group : List ℕ) → is_group group ≡ true → HasDots n rest → HasDots (suc n) (group ++ 46 ∷ rest)
+
+abbrev pub IsAddress : List ℕ → Type 0
+IsAddress text = HasDots 3 text
 
 -- The first n bytes are a word: a letter or `_`, then letters, digits, `_`, and `.` or `-` where one of these follows.
 pub record IsWord (bytes : List ℕ) (n : ℕ) : Type 0 where

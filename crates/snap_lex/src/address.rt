@@ -1,8 +1,7 @@
 // Addresses: four groups of digits, joined by dots.
 
 ghost use Rattle.std.specs.Prelude.{◌≡◌, ◌↔◌, ◌++◌, ◌∷◌, ◌≤◌, ◌<◌, ◌≢◌, slice_index, ℕ, List, IsTrue, MatchOption, true, length};
-ghost use Rattle.snap_lex.specs.Address.{IsAddress, HasDots, is_group, digit_of};
-ghost use Rattle.snap_lex.specs.Bytes.{is_digit};
+ghost use Rattle.snap_lex.specs.Lexemes.{IsAddress, HasDots, is_group, digit_of, is_digit};
 
 use crate::bytes::is_digit;
 

@@ -1,8 +1,7 @@
 // The longest word, figure and comment at the front of some bytes.
 
 ghost use Rattle.std.specs.Prelude.{◌≡◌, ◌≢◌, ◌<◌, ◌≤◌, ◌↔◌, IsTrue, ℕ, true, false, length, slice_index, drop};
-ghost use Rattle.snap_lex.specs.Bytes.{is_blank, is_digit, is_letter};
-ghost use Rattle.snap_lex.specs.Lexemes.{IsWord, IsFigure, IsComment, AreDigits};
+ghost use Rattle.snap_lex.specs.Lexemes.{IsWord, IsFigure, IsComment, AreDigits, is_blank, is_digit, is_letter};
 ghost use Rattle.snap_lex.specs.Scanning.{IsKeyOf, IsSignAt, IsTokenAt};
 
 use crate::address::is_address;

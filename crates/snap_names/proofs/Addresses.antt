@@ -3,11 +3,9 @@ use Rattle.std.proofs.Common.{◌≡◌, ℕ, ◌+◌, ◌-◌, ◌*◌, ◌<◌
 use Rattle.std.specs.Prelude.{Bool, true, false, ◌&&◌, Option, Some, None, is_some, IsTrue, nat_le, option_and_then, ◌⊎◌, ◌↔◌}
 use Rattle.std.proofs.lemmas.Bool.{eqb-true, and_parts}
 use Rattle.std.proofs.lemmas.Bool.Decides.{nat_tests}
-use Rattle.snap_core.specs.Figures.{address_behind, address_of, address_of_parts, number_up_to, octet_of}
-use Rattle.snap_core.specs.Parts.{onto_first, parts_by}
+use Rattle.snap_core.specs.Figures.{address_behind, address_of, address_of_parts, number_up_to, octet_of, onto_first, parts_by}
 use Rattle.snap_core.proofs.AddressLemmas.{parts_by-some}
-use Rattle.snap_lex.specs.Bytes.{is_digit}
-use Rattle.snap_lex.specs.Address.{is_group, HasDots, last_group, next_group, IsAddress}
+use Rattle.snap_lex.specs.Lexemes.{is_group, HasDots, last_group, next_group, IsAddress, is_digit}
 use Rattle.snap_lex.proofs.Addresses.{NoDot, group_no_dot}
 
 -- ---- a part of value at most 255 is a group

@@ -11,7 +11,8 @@ use Rattle.snap_names.specs.declared.fault.NameFault.TheVariants.{Twice}
 use Rattle.snap_names.specs.Core.{CorePolicy}
 use Rattle.snap_names.specs.Senses.{Arities, word, literal, is_address}
 use Rattle.snap_names.specs.Reading.{read_policy}
-use Rattle.snap_names.specs.Declarations.{Declared, ports, env_of, is_known, field_names, short, field_senses, prefix_length, with_field, with_array, with_constant, with_let, declare}
+use Rattle.snap_names.specs.Declarations.{Declared, ports, env_of, field_names, short, field_senses, prefix_length, with_field, with_array, with_constant, with_let, declare}
+use Rattle.snap_names.specs.Spells.{is_known}
 use Rattle.snap_names.proofs.BoundedCore.{PolicyFits, PolicyFits-more, Grows, Grows-same}
 use Rattle.snap_names.proofs.BoundedReading.{EnvFits, read_policy-fits}
 use Rattle.snap_names.proofs.BoundedSenses.{SenseFits, NamesFit}

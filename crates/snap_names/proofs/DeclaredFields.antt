@@ -8,7 +8,8 @@ use Rattle.snap_core.specs.declared.program.Field.{Field}
 use Rattle.snap_core.specs.Fields.{count, width, declared_at, declared_from, names_of, plain_field, PrefixFits, IsFields}
 use Rattle.snap_names.specs.declared.scope.Sense.{Sense}
 use Rattle.snap_names.specs.declared.scope.Sense.TheVariants.{Plain, Split, Array}
-use Rattle.snap_names.specs.Declarations.{Declared, ports, is_known, field_names, with_field}
+use Rattle.snap_names.specs.Declarations.{Declared, ports, field_names, with_field}
+use Rattle.snap_names.specs.Spells.{is_known}
 use Rattle.snap_names.specs.Declarations.{field_senses, prefix_length, short, with_array, with_constant, with_let, declare}
 use Rattle.snap_names.specs.Senses.{after, word, literal, is_address, number_at}
 use Rattle.snap_names.specs.Reading.{read_policy}

@@ -17,7 +17,8 @@ use Rattle.snap_names.specs.declared.scope.Scope.{Scope}
 use Rattle.snap_names.specs.declared.fault.NameFault.{NameFault}
 use Rattle.snap_names.specs.Core.{CorePolicy, nodes}
 use Rattle.snap_names.specs.Senses.{Arities}
-use Rattle.snap_names.specs.Declarations.{Declared, ports, is_known, field_names, field_senses, short, capped, with_field, with_let}
+use Rattle.snap_names.specs.Declarations.{Declared, ports, field_names, field_senses, short, capped, with_field, with_let}
+use Rattle.snap_names.specs.Spells.{is_known}
 use Rattle.snap_names.specs.Parts.{names_in, AreBodies, no_bodies, more_bodies, IsBody, IsPart}
 use Rattle.snap_names.specs.Scopes.{declared_in, IsScope, HasDeclared}
 use Rattle.snap_names.proofs.PartLemmas.{IsPart-later}

@@ -16,8 +16,8 @@ use Rattle.snap_names.specs.declared.scope.Sense.{Sense}
 use Rattle.snap_names.specs.declared.scope.Sense.TheVariants.{Plain, Split, Array, Constant, Policy}
 use Rattle.snap_names.specs.declared.fault.NameFault.{NameFault}
 use Rattle.snap_names.specs.declared.fault.NameFault.TheVariants.{Unknown, Wide, Kind, Prefix}
-use Rattle.snap_names.specs.Core.{CoreTest, field_test, filter, set, seq}
-use Rattle.snap_names.specs.Senses.{Words, after, or_fault, word, sense_of, literal, address_at, constant, constant_of, field_atom, array_atom, atom_of, address_literal, address_of_sense, split_address, split_of_sense, split_atoms, split_net, net_if, net, whole_test, split_test, test_of_sense, field_equals, set_of_sense, field_gets, value_atoms, atoms_of_sense, atoms_behind, array_of_sense}
+use Rattle.snap_names.specs.Core.{CoreTest, field_test, filter, set, seq, net, whole_test}
+use Rattle.snap_names.specs.Senses.{Words, after, or_fault, word, sense_of, literal, address_at, constant, constant_of, field_atom, array_atom, atom_of, address_literal, address_of_sense, split_address, split_of_sense, split_atoms, split_net, net_if, split_test, test_of_sense, field_equals, set_of_sense, field_gets, value_atoms, atoms_of_sense, atoms_behind, array_of_sense}
 use Rattle.snap_names.specs.Spells.{Scope}
 use Rattle.snap_names.specs.Reading.{Env}
 use Rattle.snap_names.proofs.BoundedSteps.{IfOk-after}

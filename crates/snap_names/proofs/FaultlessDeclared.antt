@@ -18,8 +18,8 @@ use Rattle.snap_names.specs.declared.fault.NameFault.TheVariants.{Twice, Prefix,
 use Rattle.snap_names.specs.Core.{CorePolicy, nodes, weight}
 use Rattle.snap_names.specs.Senses.{Arities, after, word, number_at, literal, is_address}
 use Rattle.snap_names.specs.Reading.{read_policy}
-use Rattle.snap_names.specs.Declarations.{Declared, ports, env_of, is_known, field_names, short, field_senses, prefix_length, with_field, with_array, with_constant, with_let, declare, declare_all, CoreProgram, core_program, greatest, limited, resolved}
-use Rattle.snap_names.specs.Spells.{Scope, senses}
+use Rattle.snap_names.specs.Declarations.{Declared, ports, env_of, field_names, short, field_senses, prefix_length, with_field, with_array, with_constant, with_let, declare, declare_all, CoreProgram, core_program, greatest, limited, resolved}
+use Rattle.snap_names.specs.Spells.{Scope, senses, is_known}
 use Rattle.snap_names.proofs.BoundedCore.{PolicyFits, Grows, Grows-same, Grows-then}
 use Rattle.snap_names.proofs.BoundedDeclared.{DeclaredFits, declare-fits, ports-fit, env-fits, count-append, Grows-append}
 use Rattle.snap_names.proofs.BoundedReading.{read_policy-fits}

@@ -13,8 +13,8 @@ use Rattle.snap_names.specs.declared.scope.Sense.{Sense}
 use Rattle.snap_names.specs.declared.scope.Sense.TheVariants.{Plain, Split, Constant}
 use Rattle.snap_names.specs.declared.fault.NameFault.{NameFault}
 use Rattle.snap_names.specs.declared.fault.NameFault.TheVariants.{Unknown, Wide, Kind, Prefix}
-use Rattle.snap_names.specs.Core.{field_test, set, seq}
-use Rattle.snap_names.specs.Senses.{after, or_fault, word, sense_of, literal, constant, constant_of, field_atom, array_atom, atom_of, address_at, split_address, address_of_sense, split_of_sense, split_atoms, net_if, net, host, whole_test, split_test, test_of_sense, field_equals, set_of_sense, field_gets, value_atoms, atoms_of_sense, atoms_behind, width_of, value_width, width}
+use Rattle.snap_names.specs.Core.{field_test, set, seq, net, host, whole_test}
+use Rattle.snap_names.specs.Senses.{after, or_fault, word, sense_of, literal, constant, constant_of, field_atom, array_atom, atom_of, address_at, split_address, address_of_sense, split_of_sense, split_atoms, net_if, split_test, test_of_sense, field_equals, set_of_sense, field_gets, value_atoms, atoms_of_sense, atoms_behind, width_of, value_width, width}
 use Rattle.snap_names.specs.Spells.{Scope}
 use Rattle.snap_names.proofs.Faultless.{words}
 use Rattle.snap_names.proofs.TreeReadings.{Means, number, IsAddress, address, constant_address, HasAtoms, literal as a_literal, constant as a_constant, component, components, HaveAtoms, no_place, next_place}

@@ -16,8 +16,8 @@ use Rattle.snap_names.specs.declared.fault.NameFault.TheVariants.{Twice, Prefix,
 use Rattle.snap_names.specs.Core.{CorePolicy, core_policy, nodes, weight}
 use Rattle.snap_names.specs.Senses.{Arities, after, or_fault, word, number_at, literal, is_address}
 use Rattle.snap_names.specs.Reading.{read_policy}
-use Rattle.snap_names.specs.Declarations.{Declared, ports, env_of, is_known, field_names, field_senses, prefix_length, with_field, with_array, with_constant, with_let, declare, declare_all, core_program, greatest, capped, within, limited, resolved}
-use Rattle.snap_names.specs.Spells.{Scope, senses, before_text}
+use Rattle.snap_names.specs.Declarations.{Declared, ports, env_of, field_names, field_senses, prefix_length, with_field, with_array, with_constant, with_let, declare, declare_all, core_program, greatest, capped, within, limited, resolved}
+use Rattle.snap_names.specs.Spells.{Scope, senses, before_text, is_known}
 use Rattle.snap_names.proofs.BoundedDeclared.{DeclaredFits, declare-fits, ports-fit, count-append}
 use Rattle.snap_names.proofs.FaultlessDeclared.{fields-known, senses-short}
 use Rattle.snap_names.proofs.FaultlessTrees.{Agrees}

@@ -12,8 +12,7 @@ use Rattle.snap_lex.specs.declared.Kind.{Kind}
 use Rattle.snap_lex.specs.declared.Kind.TheVariants as kinds
 use Rattle.snap_lex.specs.declared.Key.{Key}
 use Rattle.snap_lex.specs.declared.Key.TheVariants as keys
-use Rattle.snap_lex.specs.Bytes.{is_part}
-use Rattle.snap_lex.specs.Lexemes.{IsWord, IsLexeme, a_name, a_key, a_number, an_address, a_sign, key_text, Spells, spells_nothing, spells_blank, spells_comment, spells_token, SpellsTokens}
+use Rattle.snap_lex.specs.Lexemes.{IsWord, IsLexeme, a_name, a_key, a_number, an_address, a_sign, key_text, Spells, spells_nothing, spells_blank, spells_comment, spells_token, SpellsTokens, is_part}
 use Rattle.snap_parse.specs.Tree.{span_of}
 use Rattle.snap_names.specs.Senses.{word}
 

@@ -1,11 +1,21 @@
 -- The core language, without where a program lies in memory, and how large its parts are.
-use Rattle.std.specs.Prelude.{ℕ, ◌+◌, ◌*◌, Bool, true, false, List}
+use Rattle.std.specs.Prelude.{ℕ, ◌+◌, ◌*◌, Bool, true, false, List, ◌-◌, ◌/◌, ◌%◌, ◌^◌}
 use Rattle.snap_core.specs.declared.policy.Atom.{Atom}
 use Rattle.snap_core.specs.declared.policy.Update.{Update}
 use Rattle.snap_core.specs.declared.policy.Pol.{Pol}
 use Rattle.snap_core.specs.declared.policy.Pol.TheVariants.{Filter, Set, Change, Par', Seq', If', Atomic'}
 use Rattle.snap_core.specs.declared.policy.Pred.{Pred}
 use Rattle.snap_core.specs.declared.policy.Pred.TheVariants.{Id, Drop, Field, State, Not', And', Or'}
+
+-- An address of 32 bits is the net, its first n bits, and the host, the others.
+abbrev pub net : ℕ → ℕ → ℕ
+net n address = address / 2 ^ (32 - n)
+
+abbrev pub host : ℕ → ℕ → ℕ
+host n address = address % 2 ^ (32 - n)
+
+abbrev pub whole_test : ℕ → ℕ → ℕ → ℕ → CoreTest
+whole_test a b n address = and_test (field_test a (net n address)) (field_test b (host n address))
 
 pub data CoreTest : Type 0 where
   id_test : CoreTest

@@ -1,8 +1,6 @@
 -- What declarations declare, the reading of a whole tree, and its limits.
-use Rattle.std.specs.Prelude.{ℕ, ◌+◌, Bool, true, false, ◌&&◌, nat_le, nat_lt, if◌then◌else◌, List, [], ◌∷◌, ◌++◌, length, min, max, codes, Option, None, Some, is_some, Result, Ok, Err}
+use Rattle.std.specs.Prelude.{ℕ, ◌+◌, Bool, true, false, ◌&&◌, nat_le, nat_lt, if◌then◌else◌, List, ◌∷◌, ◌++◌, length, min, max, codes, Option, None, Some, is_some, Result, Ok, Err}
 use Rattle.std.specs.List.{list_any}
-use Rattle.std.specs.Map.{lookup}
-use Rattle.std.specs.Str.{bytes_eq}
 use Rattle.snap_core.specs.declared.program.Field.{Field}
 use Rattle.snap_core.specs.declared.program.Program.{Program}
 use Rattle.snap_core.specs.declared.program.Which.{Which}
@@ -17,6 +15,7 @@ use Rattle.snap_names.specs.declared.fault.NameFault.TheVariants.{Twice, Prefix,
 use Rattle.snap_names.specs.Core.{CorePolicy, core_policy, nodes, weight}
 use Rattle.snap_names.specs.Senses.{Arities, after, word, number_at, literal, is_address}
 use Rattle.snap_names.specs.Reading.{Env, read_policy}
+use Rattle.snap_names.specs.Spells.{is_known}
 
 -- what has been declared, each kind in order
 pub record Declared : Type 0 where
@@ -38,9 +37,6 @@ ports = record {
 
 abbrev pub env_of : List ℕ → Declared → Env
 env_of text d = record { words = record { text = text; names = d.names }; lets = d.lets }
-
-abbrev pub is_known : List (List ℕ × Sense) → List ℕ → Bool
-is_known names name = is_some (lookup (bytes_eq name) names)
 
 -- the names that a field declares: a split one also those of its components
 abbrev pub field_names : List ℕ → Bool → List (List ℕ)

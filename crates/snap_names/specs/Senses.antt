@@ -1,5 +1,5 @@
 -- What names, literals and values stand for, or the first naming rule that they break.
-use Rattle.std.specs.Prelude.{ℕ, ◌+◌, ◌-◌, ◌/◌, ◌%◌, ◌^◌, Bool, true, false, ◌&&◌, ◌==◌, nat_le, if◌then◌else◌, List, [], ◌∷◌, ◌++◌, length, min, slice_get, slice_set, slice_range, Option, None, Some, Result, Ok, Err}
+use Rattle.std.specs.Prelude.{ℕ, ◌+◌, Bool, true, false, ◌&&◌, ◌==◌, nat_le, if◌then◌else◌, List, ◌∷◌, ◌++◌, length, min, slice_get, slice_set, slice_range, Option, None, Some, Result, Ok, Err}
 use Rattle.std.specs.Map.{lookup}
 use Rattle.std.specs.Str.{bytes_eq}
 use Rattle.snap_core.specs.Figures.{number_of, address_of}
@@ -14,7 +14,7 @@ use Rattle.snap_names.specs.declared.scope.Sense.{Sense}
 use Rattle.snap_names.specs.declared.scope.Sense.TheVariants.{Plain, Split, Array, Constant}
 use Rattle.snap_names.specs.declared.fault.NameFault.{NameFault}
 use Rattle.snap_names.specs.declared.fault.NameFault.TheVariants.{Unknown, Kind, Arity, Wide, Prefix}
-use Rattle.snap_names.specs.Core.{CoreTest, CorePolicy, field_test, and_test, set, seq}
+use Rattle.snap_names.specs.Core.{CoreTest, CorePolicy, field_test, set, seq, host, net, whole_test}
 
 -- the text of a program, and what the names that are declared so far stand for
 pub record Words : Type 0 where
@@ -93,13 +93,6 @@ array_atom e (values.Literal l) = after (literal e.text l) (λ n. Ok (Num n))
 array_atom e (values.Prefix a l) = Err (Prefix a.from)
 array_atom e (values.Name t) = after (sense_of e t) (atom_of t.from)
 
--- An address of 32 bits is the net, its first n bits, and the host, the others.
-abbrev pub net : ℕ → ℕ → ℕ
-net n address = address / 2 ^ (32 - n)
-
-abbrev pub host : ℕ → ℕ → ℕ
-host n address = address % 2 ^ (32 - n)
-
 -- the atoms of an address' net and host
 abbrev pub address_atoms : ℕ → ℕ → Atom × Atom
 address_atoms n address = (Num (net n address), Num (host n address))
@@ -139,9 +132,6 @@ net_if n f address (Some m) = if m == n then after address (λ a. Ok (net n a)) 
 -- the net of a prefix that a split field of n bits is compared with, which has its length
 abbrev pub split_net : Words → ℕ → Span → Span → Result ℕ NameFault
 split_net e n t l = net_if n (Prefix t.from) (address_at e.text t) (number_of (word e.text l))
-
-abbrev pub whole_test : ℕ → ℕ → ℕ → ℕ → CoreTest
-whole_test a b n address = and_test (field_test a (net n address)) (field_test b (host n address))
 
 -- a test of a split field with the components a and b and a net of n bits
 abbrev pub split_test : Words → ℕ → ℕ → ℕ → Value → Result CoreTest NameFault

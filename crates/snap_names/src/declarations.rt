@@ -7,7 +7,8 @@ ghost use Rattle.snap_parse.specs.Tree.{policy_tree, decl_tree, field_tree, arra
 ghost use Rattle.snap_names.specs.Core.{CorePolicy};
 ghost use Rattle.snap_names.specs.Senses.{Arities, word};
 ghost use Rattle.snap_names.specs.Reading.{read_policy};
-ghost use Rattle.snap_names.specs.Declarations.{ports, is_known, field_names, short, field_senses, prefix_length, with_field};
+ghost use Rattle.snap_names.specs.Declarations.{ports, field_names, short, field_senses, prefix_length, with_field};
+ghost use Rattle.snap_names.specs.Spells.{is_known};
 ghost use Rattle.snap_names.specs.Parts.{Reads, names_in};
 ghost use Rattle.snap_names.specs.Scopes.{IsScope, HasDeclared, Declares, declared_in};
 ghost use Rattle.snap_names.specs.declared.fault.NameFault.TheVariants.{NoMemory, Twice};

@@ -3,11 +3,11 @@
 ghost use Rattle.std.specs.Prelude.{◌≡◌, ◌+◌, ◌-◌, ◌%◌, ◌^◌, Ok, Err, true, option_map, IfOk, IfErr, OnOk};
 ghost use Rattle.snap_core.specs.declared.policy.Atom.TheVariants.{Num};
 ghost use Rattle.snap_core.specs.declared.policy.Op.TheVariants.{Put, Add};
-ghost use Rattle.snap_names.specs.Core.{CorePolicy, core_test, core_policy, and_test, field_test, set, seq};
+ghost use Rattle.snap_names.specs.Core.{CorePolicy, core_test, core_policy, and_test, field_test, set, seq, whole_test};
 ghost use Rattle.snap_names.specs.Declarations.{capped};
 ghost use Rattle.snap_names.specs.Parts.{IsPart, IsBody, words_of, Refuses, Reads, ReadsSimple};
 ghost use Rattle.snap_names.specs.Reading.{named, tested, changed};
-ghost use Rattle.snap_names.specs.Senses.{after, whole_test, split_test, field_equals, field_gets, place, constant, array_atom};
+ghost use Rattle.snap_names.specs.Senses.{after, split_test, field_equals, field_gets, place, constant, array_atom};
 ghost use Rattle.snap_names.specs.declared.fault.NameFault.TheVariants.{NoMemory};
 
 use crate::copies::copy_policy;

@@ -2,7 +2,8 @@
 
 ghost use Rattle.std.specs.Prelude.{◌≡◌};
 ghost use Rattle.snap_names.specs.Parts.{words_of};
-ghost use Rattle.snap_names.specs.Senses.{number_at, address_at, literal, is_address, literal_from, constant_of, constant, atom_of, field_atom, array_atom, net, host, address_atoms, address_literal, address_of_sense, split_of_sense, split_atoms, split_address, split_net};
+ghost use Rattle.snap_names.specs.Senses.{number_at, address_at, literal, is_address, literal_from, constant_of, constant, atom_of, field_atom, array_atom, address_atoms, address_literal, address_of_sense, split_of_sense, split_atoms, split_address, split_net};
+ghost use Rattle.snap_names.specs.Core.{net, host};
 
 use crate::fault::NameFault;
 use crate::scope::{Scope, Sense};

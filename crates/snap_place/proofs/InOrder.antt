@@ -18,7 +18,7 @@ use Rattle.snap_place.specs.declared.placement.PlaceFault.TheVariants.{NotToml, 
 use Rattle.snap_place.specs.Answer.{is_unknown, no_variable, missing, no_switch, owners, SwitchThen, MissingThen, VariableThen, IsAnswerFor}
 use Rattle.snap_place.specs.Order.{InByteOrder, IsLeast, TellsLeast, TellsLeastOf}
 use Rattle.snap_place.specs.Shape.{entries_in, entries_of, entry_of}
-use Rattle.snap_topo.specs.Document.{document}
+use Rattle.snap_topo.specs.Spells.{document}
 use Rattle.snap_topo.proofs.TableLemmas.{names-rise}
 
 abbrev Entry : Type 0

@@ -22,8 +22,7 @@ use Rattle.toml.specs.Tables.{close}
 use Rattle.snap_core.specs.Names.{IsName, is_keyword, is_name, is_name_byte, is_switch_name, is_word}
 use Rattle.snap_core.specs.Fields.{names_of}
 use Rattle.snap_dep.specs.Dependencies.{Tied}
-use Rattle.snap_topo.specs.Document.{document}
-use Rattle.snap_topo.specs.Numbers.{is_switch, number_of}
+use Rattle.snap_topo.specs.Spells.{document, is_switch, number_of}
 use Rattle.snap_place.specs.Answer.{ShapeThen, is_at_switch, missing, no_switch, no_variable, owners, place_of}
 use Rattle.snap_place.specs.Laws.{PrintedIsRead}
 use Rattle.snap_place.specs.Printed.{cost_line, key_text, place_line, placement_text, places, switch_at}

@@ -6,8 +6,7 @@ use Rattle.std.specs.Str.{bytes_eq}
 use Rattle.snap_core.specs.declared.program.Program.{Program}
 use Rattle.snap_dep.specs.Dependencies.{Tied}
 use Rattle.snap_topo.specs.declared.topology.Topology.{Topology}
-use Rattle.snap_topo.specs.Document.{document}
-use Rattle.snap_topo.specs.Numbers.{is_switch, number_of}
+use Rattle.snap_topo.specs.Spells.{document, is_switch, number_of}
 use Rattle.snap_place.specs.declared.placement.PlaceFault.{PlaceFault}
 use Rattle.snap_place.specs.declared.placement.PlaceFault.TheVariants.{NoVariable, Missing, NoSwitch}
 use Rattle.snap_place.specs.Shape.{entries_of}

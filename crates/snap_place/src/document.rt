@@ -2,7 +2,7 @@
 
 ghost use Rattle.std.specs.Prelude.{◌≡◌, ◌≢◌, Err, IfOk, IfSome, MatchResult, None, Ok, Some, option_map};
 ghost use Rattle.toml.specs.View.{table_view};
-ghost use Rattle.snap_topo.specs.Document.{document};
+ghost use Rattle.snap_topo.specs.Spells.{document};
 ghost use Rattle.snap_place.specs.Order.{InByteOrder};
 ghost use Rattle.snap_place.specs.Shape.{entries_in, entries_of, has_names};
 ghost use Rattle.snap_place.specs.Texts.{vec_texts};

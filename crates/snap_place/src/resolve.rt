@@ -2,7 +2,7 @@
 
 ghost use Rattle.std.specs.Prelude.{◌≡◌, ◌≢◌, ◌≤◌, ◌^◌, Err, IfErr, IfOk, IsSomeAnd, MatchOption, MatchResult, None, Ok, OnOk, false, length, true};
 ghost use Rattle.std.specs.Option.{option_copied};
-ghost use Rattle.snap_topo.specs.Numbers.{is_switch, number_of};
+ghost use Rattle.snap_topo.specs.Spells.{is_switch, number_of};
 ghost use Rattle.snap_place.specs.Answer.{IsAnswerFor, is_at_switch, missing, no_switch, no_variable, owner_at, owners, place_of};
 ghost use Rattle.snap_place.specs.Texts.{entry_texts};
 ghost use Rattle.snap_place.specs.Together.{TiedBy};

@@ -1,7 +1,7 @@
 -- Lines of a schedule, and what they order.
 use Rattle.std.proofs.Common.{◌≡◌, ◌≢◌, ℕ, Bool, true, false, List, [], ◌∷◌, refl, ap, ◌∙◌}
 use Rattle.std.specs.Prelude.{◌==◌, if◌then◌else◌}
-use Rattle.snap_core.specs.Parts.{onto_first, parts_by}
+use Rattle.snap_core.specs.Figures.{onto_first, parts_by}
 use Rattle.snap_runs.specs.Schedules.{lines_of, whole_lines}
 
 -- there is always a part

@@ -10,14 +10,14 @@ use Rattle.snap_core.specs.Listing.{IsListing}
 use Rattle.snap_rows.specs.declared.tables.Tables.{Tables}
 use Rattle.snap_rows.specs.Network.{Net, Event, Inject, Step, Happening, Leads, inject, step, Runs, done, on, packets_of, whole}
 use Rattle.snap_net.specs.Shown.{Shows, flown}
-use Rattle.snap_trace.specs.Reports.{end_text, out_lines}
+use Rattle.snap_trace.specs.Reports.{end_text, out_lines, lost_line}
 use Rattle.snap_runs.specs.declared.frames.Frames.{Frames}
 use Rattle.snap_runs.specs.declared.frames.Frames.TheVariants.{Plain}
 use Rattle.snap_runs.specs.declared.play.Play.{Play}
 use Rattle.snap_runs.specs.declared.ready.Ready.{Ready}
 use Rattle.snap_runs.specs.declared.tally.Tally.{Tally}
 use Rattle.snap_runs.specs.Playing.{HasDone, HasRun, IsPlaying, Plays, PutsBlocks, SoFar, SoPut, left_in, packets_in}
-use Rattle.snap_runs.specs.Reports.{IsBlockBy, PutsEnd, array_names, lost_line, packet_line}
+use Rattle.snap_runs.specs.Reports.{IsBlockBy, PutsEnd, array_names, packet_line}
 use Rattle.snap_runs.specs.Schedules.{EndsEarly, IsScheduleReport, Obeys, Spells, nothing, skips, injects, steps, StopsAt, lines_of}
 use Rattle.snap_runs.specs.Tallies.{IsBlockText, IsTally}
 use Rattle.snap_runs.proofs.Blocks.{concat-push, in_pushed}

@@ -12,12 +12,12 @@ use Rattle.snap_net.specs.declared.happened.Moved.TheVariants.{Delivered, Forked
 use Rattle.snap_net.specs.Landings.{Delivers, of_none, of_more, HasComeDown, Lands}
 use Rattle.snap_net.specs.Travels.{Travels, stays}
 use Rattle.snap_net.specs.Shown.{Held, IsDone, Nothing, Shows, happened, moving}
-use Rattle.snap_trace.specs.Reports.{out_lines}
+use Rattle.snap_trace.specs.Reports.{out_lines, lost_line}
 use Rattle.snap_runs.specs.declared.frames.Frames.{Frames}
 use Rattle.snap_runs.specs.declared.tally.Tally.{Tally}
 use Rattle.snap_runs.specs.declared.tracer.Tracer.{Tracer}
 use Rattle.snap_runs.specs.Crossings.{NotesCrossings}
-use Rattle.snap_runs.specs.Reports.{IsBlockBy, hops_text, lost_line, packet_line}
+use Rattle.snap_runs.specs.Reports.{IsBlockBy, hops_text, packet_line}
 use Rattle.snap_runs.specs.Settling.{AreCopiesOf, Goes, GoOn, one_goes, more_go, HasGone, HasNoted, HasPassed, HasSettled, Settles, Tallies}
 use Rattle.snap_runs.specs.Tallies.{IsBlockText, IsTally, Notes, delivered_by, delivered_in, hop_told, lost_by, lost_in, number_of, packets_sent}
 use Rattle.snap_runs.specs.Tracing.{HasTaken}

@@ -13,10 +13,9 @@ use Rattle.snap_core.specs.declared.program.Field.{Field}
 use Rattle.snap_core.specs.declared.program.Found.{Found}
 use Rattle.snap_core.specs.declared.program.Found.TheVariants.{Plain, Split}
 use Rattle.snap_core.specs.Fields.{count, found}
-use Rattle.snap_core.specs.Figures.{number_up_to, number_of, octet_of, address_behind, address_of_parts, address_of, value_of_digits}
+use Rattle.snap_core.specs.Figures.{number_up_to, number_of, octet_of, address_behind, address_of_parts, address_of, value_of_digits, parts_by}
 use Rattle.snap_core.specs.Inputs.{IsPacket}
-use Rattle.snap_core.specs.Parts.{parts_by}
-use Rattle.snap_core.specs.Variables.{has}
+use Rattle.snap_core.specs.Arrays.{has}
 use Rattle.snap_io.specs.Lines.{Next, next_line, no_line, long_line, many_bytes, next_in}
 use Rattle.snap_rows.specs.declared.tables.Tables.{Tables}
 use Rattle.snap_rows.specs.Entries.{port_at}

@@ -1,5 +1,5 @@
 -- The report of a run of the network.
-use Rattle.std.specs.Prelude.{◌≡◌, ℕ, ◌+◌, ◌==◌, Bool, Some, List, [], ◌∷◌, ◌++◌, map, length, sum, codes, decimal, slice_get, unwrap_or, IsPermutation, IsSorted, if◌then◌else◌}
+use Rattle.std.specs.Prelude.{◌≡◌, ℕ, ◌+◌, ◌==◌, Bool, Some, List, ◌∷◌, ◌++◌, map, length, sum, codes, decimal, slice_get, unwrap_or, IsPermutation, IsSorted, if◌then◌else◌}
 use Rattle.std.specs.List.{concat}
 use Rattle.std.specs.Int.{to_be_bytes}
 use mir.Syntax.{w64}
@@ -15,7 +15,7 @@ use Rattle.snap_rows.specs.Happenings.{deliveries_of, losses_of}
 use Rattle.snap_rows.specs.Network.{Copy, Net, Happening, Crossed, Delivered, Forked, whole}
 use Rattle.snap_head.specs.Frames.{frame}
 use Rattle.snap_net.specs.Shown.{Held, Shows}
-use Rattle.snap_trace.specs.Reports.{out_lines, end_text}
+use Rattle.snap_trace.specs.Reports.{out_lines, end_text, lost_line}
 use Rattle.snap_runs.specs.declared.frames.Frames.{Frames}
 use Rattle.snap_runs.specs.declared.frames.Frames.TheVariants.{Plain, Numbered}
 
@@ -45,10 +45,6 @@ hops_text f t hops i hs = if hops then hop_lines f t i hs else []
 -- `packet N`, counted from 1
 abbrev pub packet_line : ℕ → List ℕ
 packet_line n = concat (codes "packet " ∷ decimal n ∷ codes "\n" ∷ [])
-
--- `lost N`
-abbrev pub lost_line : ℕ → List ℕ
-lost_line n = concat (codes "lost " ∷ decimal n ∷ codes "\n" ∷ [])
 
 -- the packets that were delivered of packet i
 abbrev pub packets_delivered : (i : ℕ) → List Happening → List (List ℕ)

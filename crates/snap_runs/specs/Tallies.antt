@@ -18,8 +18,8 @@ use Rattle.snap_net.specs.Shown.{happened, moving}
 use Rattle.snap_runs.specs.declared.frames.Frames.{Frames}
 use Rattle.snap_runs.specs.declared.frames.Frames.TheVariants.{Plain}
 use Rattle.snap_runs.specs.declared.tally.Tally.{Tally}
-use Rattle.snap_trace.specs.Reports.{out_lines}
-use Rattle.snap_runs.specs.Reports.{hops_text, lead_of, lost_line, packet_line, packets_delivered}
+use Rattle.snap_trace.specs.Reports.{out_lines, lost_line}
+use Rattle.snap_runs.specs.Reports.{hops_text, lead_of, packet_line, packets_delivered}
 
 -- the packets that a step delivers
 abbrev pub delivered_by : Moved → List (List ℕ)

@@ -7,8 +7,8 @@ ghost use Rattle.snap_core.specs.Fields.{count};
 ghost use Rattle.snap_core.specs.Packets.{packet_cmp};
 ghost use Rattle.snap_rows.specs.Form.{switch_count};
 ghost use Rattle.snap_runs.specs.Crossings.{NotesCrossed, NotesWay};
-ghost use Rattle.snap_runs.specs.Reports.{lead_of, lost_line, packet_line};
-ghost use Rattle.snap_trace.specs.Reports.{out_lines};
+ghost use Rattle.snap_runs.specs.Reports.{lead_of, packet_line};
+ghost use Rattle.snap_trace.specs.Reports.{out_lines, lost_line};
 ghost use Rattle.snap_runs.specs.Tallies.{bared, delivered_by, delivered_in, hop_text, hop_told, IsBlockText, lost_by, lost_in, packets_sent};
 
 use crate::frames::Frames;

@@ -14,7 +14,7 @@ use Rattle.snap_core.specs.declared.program.Which.TheVariants.{Demands}
 use Rattle.snap_dep.specs.Ranks.{Grouping}
 use Rattle.snap_topo.specs.Answer.{is_unknown}
 use Rattle.snap_topo.specs.declared.topology.Topology.{Topology}
-use Rattle.snap_topo.specs.Document.{document}
+use Rattle.snap_topo.specs.Spells.{document}
 use Rattle.snap_seek.specs.declared.demand.Demand.{Demand}
 use Rattle.snap_seek.specs.declared.demand.DemandFault.{DemandFault}
 use Rattle.snap_seek.specs.declared.demand.DemandFault.TheVariants.{NotToml, Shape, Limit, NoPort, NoVariable, NoSwitch, Nowhere, NoMemory}

@@ -15,7 +15,7 @@ use Rattle.std.proofs.lemmas.List.Folds.{find-append, list_any_more}
 use Rattle.std.proofs.Math.Bool.{or-false, or-true}
 use Rattle.snap_topo.specs.Answer.{is_unknown}
 use Rattle.snap_topo.specs.Listing.{string_texts}
-use Rattle.snap_topo.specs.Numbers.{is_switch, number_of}
+use Rattle.snap_topo.specs.Spells.{is_switch, number_of}
 use Rattle.snap_seek.specs.declared.demand.DemandFault.{DemandFault}
 use Rattle.snap_seek.specs.declared.demand.DemandFault.TheVariants.{NoSwitch}
 use Rattle.snap_seek.specs.Answer.{Lists, entry_for, named, no_switch}

@@ -17,7 +17,7 @@ use Rattle.std.proofs.lemmas.Slice.Eq.{bytes_eq-Decides}
 use Rattle.snap_core.specs.declared.program.Program.{Program}
 use Rattle.snap_dep.specs.Ranks.{Grouping, rank_of}
 use Rattle.snap_topo.specs.declared.topology.Topology.{Topology}
-use Rattle.snap_topo.specs.Document.{document}
+use Rattle.snap_topo.specs.Spells.{document}
 use Rattle.snap_topo.specs.Form.{IsInForm}
 use Rattle.snap_route.specs.Tables.{AreRoutes, Table, distance_of}
 use Rattle.snap_route.specs.Walks.{Linked}

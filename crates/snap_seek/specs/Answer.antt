@@ -14,8 +14,7 @@ use Rattle.snap_core.specs.declared.program.Which.TheVariants.{Demands}
 use Rattle.snap_dep.specs.Ranks.{Grouping, rank_of}
 use Rattle.snap_topo.specs.Answer.{is_unknown}
 use Rattle.snap_topo.specs.declared.topology.Topology.{Topology}
-use Rattle.snap_topo.specs.Document.{document}
-use Rattle.snap_topo.specs.Numbers.{number_of}
+use Rattle.snap_topo.specs.Spells.{document, number_of}
 use Rattle.snap_seek.specs.declared.demand.Demand.{Demand}
 use Rattle.snap_seek.specs.declared.demand.DemandFault.{DemandFault}
 use Rattle.snap_seek.specs.declared.demand.DemandFault.TheVariants.{Limit, NoPort, NoVariable, NoSwitch, Nowhere}

@@ -2,7 +2,8 @@
 use Rattle.std.specs.Prelude.{ℕ, ◌^◌, pos, Bool, ◌&&◌, ◌==◌, List, [], codes, Option, Some, None, is_some, if◌then◌else◌, nat_lt, Result, Ok, Err}
 use Rattle.toml.specs.Data.{Data, integer, array, table, Items, no_items, item, Members, no_members, member, get_member}
 use Rattle.snap_core.specs.Names.{is_name}
-use Rattle.snap_topo.specs.Shape.{member_count, names_in, with_first}
+use Rattle.snap_topo.specs.Shape.{names_in, with_first}
+use Rattle.snap_topo.specs.Spells.{member_count}
 use Rattle.snap_seek.specs.declared.demand.DemandFault.{DemandFault}
 use Rattle.snap_seek.specs.declared.demand.DemandFault.TheVariants.{NotToml, Shape}
 use Rattle.snap_seek.specs.declared.demand.Flow.{Flow}

@@ -7,9 +7,8 @@ ghost use Rattle.std.specs.Ordering.{nat_cmp};
 ghost use Rattle.std.specs.Cmp.Lexicographic.{slice_cmp};
 ghost use Rattle.toml.specs.View.{items_view, table_view, view};
 ghost use Rattle.toml.specs.Data.{get_member};
-ghost use Rattle.snap_topo.specs.Document.{document};
+ghost use Rattle.snap_topo.specs.Spells.{document, member_count};
 ghost use Rattle.snap_topo.specs.Listing.{texts};
-ghost use Rattle.snap_topo.specs.Shape.{member_count};
 ghost use Rattle.snap_seek.specs.Listing.{entry_text, spelled_by, vec_texts};
 ghost use Rattle.snap_seek.specs.Shape.{entries_in, entries_listed, entry_of, flow_in, flows_in, flows_listed, has_keys, number_in, places_in, port_from, spelled};
 

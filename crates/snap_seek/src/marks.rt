@@ -7,7 +7,7 @@ ghost use Rattle.std.specs.Str.{bytes_eq};
 ghost use Rattle.indexmap.specs.IndexSet.{index_set_len};
 ghost use Rattle.snap_topo.specs.Answer.{is_unknown};
 ghost use Rattle.snap_topo.specs.Listing.{string_texts};
-ghost use Rattle.snap_topo.specs.Numbers.{is_switch, number_of};
+ghost use Rattle.snap_topo.specs.Spells.{is_switch, number_of};
 ghost use Rattle.snap_seek.specs.Answer.{Lists, TellsNowhere, entry_for, may, no_switch};
 ghost use Rattle.snap_seek.specs.Listing.{entry_texts, key_texts};
 ghost use Rattle.snap_seek.specs.Marks.{GroupMarked, mark_at};

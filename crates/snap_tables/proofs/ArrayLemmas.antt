@@ -3,7 +3,7 @@ use Rattle.std.proofs.Common.{◌≡◌, ℕ, ◌<◌, Bool, true, false, not, c
 use Rattle.std.specs.Prelude.{◌==◌, ◌&&◌, ◌||◌, codes}
 use Rattle.std.proofs.lemmas.Bool.{and_parts, ne_eqb}
 use Rattle.snap_core.specs.Names.{begins_plain, goes_on, is_joint, is_keyword, is_letter, is_name, is_plain, is_word}
-use Rattle.snap_core.specs.Parts.{parts_by}
+use Rattle.snap_core.specs.Figures.{parts_by}
 use Rattle.snap_rows.specs.declared.tables.ArrayAt.{ArrayAt}
 use Rattle.snap_tables.specs.Joins.{AllLack, Lacks}
 use Rattle.snap_tables.specs.Text.{Words, rank_words, spaced}

@@ -4,7 +4,7 @@ use Rattle.std.specs.Prelude.{codes, nat_lt, option_and_then}
 use Rattle.std.proofs.lemmas.Bool.{and_parts, ltb-true, lt-ltb}
 use Rattle.snap_core.specs.Names.{is_keyword, is_name, is_word}
 use Rattle.snap_core.specs.Fields.{PrefixFits}
-use Rattle.snap_core.specs.Parts.{parts_by}
+use Rattle.snap_core.specs.Figures.{parts_by}
 use Rattle.snap_core.specs.declared.program.Field.{Field}
 use Rattle.snap_tables.specs.Joins.{Lacks, join}
 use Rattle.snap_tables.specs.Text.{Words, prefix_text, spaced}

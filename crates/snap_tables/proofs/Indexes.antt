@@ -3,7 +3,7 @@ use Rattle.std.proofs.Common.{◌≡◌, ◌≢◌, ℕ, ◌^◌, ◌<◌, ◌�
 use Rattle.std.specs.Prelude.{◌==◌, ◌⊎◌, codes, nat_le, option_and_then, option_map}
 use Rattle.std.specs.List.{AllByRecursion, flat_map}
 use Rattle.std.proofs.lemmas.Bool.{eqb-true, leb-true, le-leb}
-use Rattle.snap_core.specs.Parts.{parts_by}
+use Rattle.snap_core.specs.Figures.{parts_by}
 use Rattle.snap_core.specs.declared.policy.Atom.{Atom}
 use Rattle.snap_tables.specs.Joins.{behind, join, Lacks, AllLack}
 use Rattle.snap_tables.specs.Text.{Words, atom_word, atoms_word}

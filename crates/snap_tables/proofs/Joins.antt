@@ -2,7 +2,7 @@
 use Rattle.std.proofs.Common.{◌≡◌, ℕ, Bool, true, false, cond, List, [], ◌∷◌, ◌++◌, refl, sym, ap, ◌∙◌}
 use Rattle.std.specs.Prelude.{◌==◌}
 use Rattle.std.proofs.lemmas.Bool.{eqb-true, eq-eqb}
-use Rattle.snap_core.specs.Parts.{parts_by, onto_first}
+use Rattle.snap_core.specs.Figures.{parts_by, onto_first}
 use Rattle.snap_tables.specs.Joins.{behind, join, Lacks, AllLack}
 use Rattle.snap_tables.proofs.Readings.{parts_by-some}
 

@@ -4,7 +4,7 @@ use Rattle.std.specs.Prelude.{codes, nat_le}
 use Rattle.std.proofs.lemmas.Bool.{and_parts, and_from, leb-true, le-leb}
 use Rattle.snap_core.specs.declared.ports.PortAt.{PortAt}
 use Rattle.snap_core.specs.declared.program.Field.{Field}
-use Rattle.snap_core.specs.Parts.{parts_by}
+use Rattle.snap_core.specs.Figures.{parts_by}
 use Rattle.snap_rows.specs.declared.tables.ArrayAt.{ArrayAt}
 use Rattle.snap_rows.specs.declared.tables.Hop.{Hop}
 use Rattle.snap_rows.specs.declared.tables.RowAt.{RowAt}

@@ -4,7 +4,7 @@ use Rattle.std.specs.Prelude.{◌&&◌, ◌⊎◌, codes, nat_lt}
 use Rattle.std.specs.Str.{bytes_eq}
 use Rattle.std.proofs.lemmas.Bool.{and_parts, ltb-true, lt-ltb}
 use Rattle.std.proofs.lemmas.Slice.Eq.{bytes_eq-Decides}
-use Rattle.snap_core.specs.Parts.{parts_by}
+use Rattle.snap_core.specs.Figures.{parts_by}
 use Rattle.snap_core.specs.declared.ports.PortAt.{PortAt}
 use Rattle.snap_rows.specs.declared.tables.Hop.{Hop}
 use Rattle.snap_tables.specs.Joins.{join}

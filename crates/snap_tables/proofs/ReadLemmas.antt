@@ -6,7 +6,7 @@ use Rattle.std.proofs.lemmas.Bool.{and_parts, and_from}
 use Rattle.std.proofs.lemmas.Slice.Eq.{bytes_eq-Decides}
 use Rattle.std.proofs.lemmas.Fmt.{decimal_digit}
 use Rattle.snap_core.specs.declared.program.Which.{Which}
-use Rattle.snap_core.specs.Parts.{parts_by, onto_first}
+use Rattle.snap_core.specs.Figures.{parts_by, onto_first}
 use Rattle.snap_rows.specs.declared.tables.Rule.{Rule}
 use Rattle.snap_rows.specs.declared.tables.Spot.{Spot}
 use Rattle.snap_rows.specs.declared.tables.Spot.TheVariants as spot

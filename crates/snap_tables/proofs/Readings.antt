@@ -6,8 +6,7 @@ use Rattle.std.specs.List.{list_all}
 use Rattle.std.specs.Char.{is_ascii_digit}
 use Rattle.std.proofs.lemmas.Fmt.{decimal-digits_value, first_decimal, decimal_nonempty, decimal_digit, digits_decimal, digits_value-decimal}
 use Rattle.std.proofs.lemmas.Str.Parse.{IsNumeralModel, IsDigitsTest, FoldsDigits, numerals_by_fold, tells_all_ascii_digits}
-use Rattle.snap_core.specs.Figures.{number_up_to, value_after, value_of_digits}
-use Rattle.snap_core.specs.Parts.{parts_by, onto_first}
+use Rattle.snap_core.specs.Figures.{number_up_to, value_after, value_of_digits, parts_by, onto_first}
 use Rattle.snap_core.proofs.FigureLemmas.{number_up_to-digits}
 use Rattle.snap_tables.specs.Text.{Words}
 use Rattle.snap_tables.specs.Reading.{both_said, comp_term_said, plus_said, below_said, declared_said, inner_said, is_close, is_padded, no_words, number_said}

@@ -9,8 +9,7 @@ use Rattle.std.proofs.lemmas.Bool.{false≢true, cases_lt, lt-ltb, leb-true, le-
 use Rattle.std.proofs.lemmas.Bool.Decides.{nat_tests}
 use Rattle.std.proofs.lemmas.List.{take_all, get_or-take, length-take}
 use Rattle.std.proofs.lemmas.List.Folds.{list_all_at, list_all_more}
-use Rattle.snap_core.specs.Figures.{number_up_to, value_after, value_of_digits}
-use Rattle.snap_core.specs.Parts.{onto_first, parts_by}
+use Rattle.snap_core.specs.Figures.{number_up_to, value_after, value_of_digits, onto_first, parts_by}
 use Rattle.snap_core.proofs.FigureLemmas.{number_up_to-digits}
 use Rattle.snap_core.proofs.PartLemmas.{parts_by-split, parts_by-none}
 use Rattle.snap_tables.specs.Reading.{below_said, is_padded, is_space, number_said, opened, taken, u64_said}

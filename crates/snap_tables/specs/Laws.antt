@@ -1,6 +1,6 @@
 -- Laws of words: what a word says, exactly.
 use Rattle.std.specs.Prelude.{Bool, IsTrue, ◌==◌, [], ◌∷◌, ◌≡◌, ◌↔◌, ℕ, ◌^◌, ◌<◌, ◌≤◌, ◌≢◌, List, ◌++◌, true, false, Some, codes, decimal, length}
-use Rattle.snap_core.specs.Parts.{parts_by}
+use Rattle.snap_core.specs.Figures.{parts_by}
 use Rattle.snap_core.specs.declared.ports.PortAt.{PortAt}
 use Rattle.snap_core.specs.declared.policy.Op.{Op}
 use Rattle.snap_core.specs.declared.policy.Op.TheVariants.{Put, Add}

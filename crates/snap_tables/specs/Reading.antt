@@ -18,8 +18,7 @@ use Rattle.snap_core.specs.Names.{is_name}
 use Rattle.snap_core.specs.Names.{is_switch_name}
 use Rattle.snap_rows.specs.declared.tables.ArrayAt.{ArrayAt}
 use Rattle.snap_rows.specs.declared.tables.Hop.{Hop}
-use Rattle.snap_core.specs.Figures.{number_up_to}
-use Rattle.snap_core.specs.Parts.{parts_by}
+use Rattle.snap_core.specs.Figures.{number_up_to, parts_by}
 use Rattle.snap_tables.specs.Text.{Words}
 
 abbrev pub is_space : ℕ → Bool

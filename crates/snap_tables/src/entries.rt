@@ -1,7 +1,7 @@
 //! Which entry a line says, behind those of a draft.
 
 ghost use Rattle.std.specs.Prelude.{◌≡◌, ◌≢◌, Some, None, length, IfOk, MatchOption};
-ghost use Rattle.snap_core.specs.Parts.{parts_by};
+ghost use Rattle.snap_core.specs.Figures.{parts_by};
 ghost use Rattle.snap_tables.specs.Drafts.{IsItem, IsKept, IsNoRowLine, IsNoneBy, IsRowLine, is_above_at, may_come, tables_of};
 ghost use Rattle.snap_tables.specs.declared.item.Item.TheVariants as item;
 ghost use Rattle.snap_tables.specs.Entries.{array_fits, field_fits, hop_fits, is_above, is_field_at, is_new, is_plain_field, kept, link_fits, link_less, port_less};

@@ -2,7 +2,7 @@
 
 ghost use Rattle.std.specs.Prelude.{◌≡◌, Some, None, IfOk, MatchOption};
 ghost use Rattle.snap_core.specs.Names.{is_name};
-ghost use Rattle.snap_core.specs.Parts.{parts_by};
+ghost use Rattle.snap_core.specs.Figures.{parts_by};
 ghost use Rattle.snap_core.specs.Names.{is_switch_name};
 ghost use Rattle.snap_tables.specs.Reading.{array_said, below_said, declared_said, field_said, is_slash, is_space, name_said, no_words, number_said, opened, rank_taken, switch_said, taken, words_left};
 

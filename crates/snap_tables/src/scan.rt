@@ -2,7 +2,7 @@
 
 ghost use Rattle.std.specs.Prelude.{◌≡◌, ◌==◌, ◌∷◌, ◌<◌, [], None, Some, length, IfSome, MatchOption};
 ghost use Rattle.std.specs.Str.{bytes_eq};
-ghost use Rattle.snap_core.specs.Parts.{parts_by};
+ghost use Rattle.snap_core.specs.Figures.{parts_by};
 ghost use Rattle.snap_tables.specs.Reading.{is_space, opened, taken, u64_said, words_left};
 ghost use Rattle.snap_tables.specs.Scan.{IsNumberFront};
 

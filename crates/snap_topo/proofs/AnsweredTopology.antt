@@ -11,11 +11,9 @@ use Rattle.snap_topo.specs.declared.topology.Topology.{Topology}
 use Rattle.snap_topo.specs.declared.topology.TopoFault.{TopoFault}
 use Rattle.snap_topo.specs.declared.topology.TopoFault.TheVariants.{Shape}
 use Rattle.snap_topo.specs.declared.topology.TheConstants.{MOST_SWITCHES, MOST_LINKS, MOST_PORTS}
-use Rattle.snap_topo.specs.Answer.{ends, port_name, too_many, repeat_after, first_repeat, first_unknown, is_unknown, KnownThen, DifferentThen, WithinThen, SpelledThen, IsAnswer, IsTopologyOf}
-use Rattle.snap_topo.specs.Document.{document}
-use Rattle.snap_topo.specs.Numbers.{is_switch}
-use Rattle.snap_topo.specs.Shape.{Spelled, spelled, name_in, with_first, names_in, switches_in, pair_of, links_listed, links_in, port_of, ports_listed, by_number, ports_in, ports_then, links_then, switches_then}
-use Rattle.snap_topo.specs.Spells.{AreNames, no_name, next_name, ArePairs, no_pair, next_pair, ArePorts, no_port, next_port, Holds, SpellsTopology}
+use Rattle.snap_topo.specs.Answer.{too_many, repeat_after, first_repeat, first_unknown, is_unknown, KnownThen, DifferentThen, WithinThen, SpelledThen, IsAnswer, IsTopologyOf}
+use Rattle.snap_topo.specs.Shape.{Spelled, spelled, name_in, with_first, names_in, switches_in, pair_of, links_listed, links_in, port_of, ports_listed, ports_in, ports_then, links_then, switches_then}
+use Rattle.snap_topo.specs.Spells.{AreNames, no_name, next_name, ArePairs, no_pair, next_pair, ArePorts, no_port, next_port, Holds, SpellsTopology, document, by_number, is_switch, ends, port_name}
 
 names-give : (items : Items) (names : List (List ℕ)) → AreNames items names → names_in items ≡ Some names
 names-give _ _ no_name = refl

@@ -17,10 +17,9 @@ use Rattle.snap_core.specs.declared.program.Which.{Which}
 use Rattle.snap_topo.specs.declared.topology.Topology.{Topology}
 use Rattle.snap_topo.specs.declared.topology.TopoFault.{TopoFault}
 use Rattle.snap_core.specs.Names.{is_switch_name}
-use Rattle.snap_topo.specs.Names.{port_number}
-use Rattle.snap_topo.specs.Numbers.{is_switch, number_of, numbered, port_at}
-use Rattle.snap_topo.specs.Shape.{Spelled, name_in, with_first, names_in, switches_in, pair_of, link_in, links_listed, links_in, port_of, ports_listed, by_number, ports_in, ports_then, links_then, switches_then, spelled, has_keys}
-use Rattle.snap_topo.specs.Answer.{ends, first_repeat, repeat_after, is_unknown, KnownThen, DifferentThen, WithinThen, IsTopologyOf, first_unknown, too_many, port_name}
+use Rattle.snap_topo.specs.Shape.{Spelled, name_in, with_first, names_in, switches_in, pair_of, link_in, links_listed, links_in, port_of, ports_listed, ports_in, ports_then, links_then, switches_then, spelled}
+use Rattle.snap_topo.specs.Spells.{by_number, has_keys, port_number, is_switch, number_of, numbered, port_at, ends, port_name}
+use Rattle.snap_topo.specs.Answer.{first_repeat, repeat_after, is_unknown, KnownThen, DifferentThen, WithinThen, IsTopologyOf, first_unknown, too_many}
 use Rattle.snap_topo.specs.Form.{IsInForm, IsLink, IsPort}
 use Rattle.snap_topo.specs.declared.topology.TheConstants.{MOST_SWITCHES, MOST_LINKS, MOST_PORTS}
 use Rattle.snap_core.specs.declared.program.Which.TheVariants.{Switches, Links, Ports}

@@ -3,7 +3,7 @@ use Rattle.std.proofs.Common.{◌≡◌, ◌∙◌, ℕ, ◌+◌, Bool, true, fa
 use Rattle.std.specs.List.{list_any, position_or_len}
 use Rattle.std.specs.Str.{bytes_eq}
 use Rattle.snap_topo.specs.Listing.{string_texts}
-use Rattle.snap_topo.specs.Numbers.{is_switch, number_of}
+use Rattle.snap_topo.specs.Spells.{is_switch, number_of}
 
 -- a set's test for the text of a name
 abbrev is_text : List ℕ → String Global → Bool

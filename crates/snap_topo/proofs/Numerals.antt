@@ -5,7 +5,7 @@ use Rattle.std.specs.Str.Parse.{digits_value}
 use Rattle.std.proofs.lemmas.Bool.{le-leb, lt-ltb, leb-true, ltb-true, and_from, and_parts}
 use Rattle.std.proofs.lemmas.Fmt.{decimal_is_IsNumeral}
 use Rattle.std.proofs.lemmas.Slice.Eq.{bytes_eq-Decides}
-use Rattle.snap_topo.specs.Names.{port_number}
+use Rattle.snap_topo.specs.Spells.{port_number}
 
 abbrev is_port : ℕ → List ℕ → Bool
 is_port n text = nat_le 1 n && (nat_lt n (2 ^ 32) && bytes_eq text (decimal n))

@@ -8,7 +8,7 @@ use Rattle.std.proofs.lemmas.Cmp.{nat_cmp_total, nat_eq_equiv, on_total, on_equi
 use Rattle.std.proofs.lemmas.Bool.{and_parts, eqb-true}
 use Rattle.std.proofs.Math.Path.{ap₂}
 use Rattle.std.proofs.lemmas.Bool.Decides.{nat_tests}
-use Rattle.snap_topo.specs.Form.{link_cmp}
+use Rattle.snap_topo.specs.Spells.{link_cmp}
 
 -- `==` of two links
 abbrev pub link_eq : ℕ × ℕ → ℕ × ℕ → Bool

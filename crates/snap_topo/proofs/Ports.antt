@@ -11,7 +11,7 @@ use Rattle.std.specs.Cmp.{nat_cmp_is}
 use Rattle.std.proofs.lemmas.Cmp.{by_ranked, ranked}
 use Rattle.std.proofs.lemmas.List.Elements.{All-nil, All-from_recursion, recursion_from_All, All-weaker}
 use Rattle.std.proofs.lemmas.Map.Views.{All-keys-insert_entry}
-use Rattle.snap_topo.specs.Shape.{put_port, by_number}
+use Rattle.snap_topo.specs.Spells.{put_port, by_number}
 
 abbrev Port : Type 0
 Port = ℕ × List ℕ

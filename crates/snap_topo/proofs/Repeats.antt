@@ -5,7 +5,7 @@ use Rattle.std.specs.Str.{bytes_eq}
 use Rattle.std.proofs.lemmas.List.{drop_more, map-append}
 use Rattle.snap_topo.specs.Answer.{repeat_after}
 use Rattle.snap_topo.specs.Listing.{string_texts}
-use Rattle.snap_topo.specs.Numbers.{is_switch}
+use Rattle.snap_topo.specs.Spells.{is_switch}
 use Rattle.snap_topo.proofs.NumberLemmas.{is_switch-texts}
 
 pub string_texts-drop : (names : List (String Global)) (i : ℕ) (x : String Global) → i < length names → x ≡ get_or names i x → string_texts (drop i names) ≡ string_bytes x ∷ string_texts (drop (i + 1) names)

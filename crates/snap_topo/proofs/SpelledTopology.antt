@@ -10,12 +10,9 @@ use Rattle.snap_topo.specs.declared.topology.Topology.{Topology}
 use Rattle.snap_topo.specs.declared.topology.TopoFault.{TopoFault}
 use Rattle.snap_topo.specs.declared.topology.TopoFault.TheVariants.{Limit, Shape, Twice, Unknown}
 use Rattle.snap_topo.specs.declared.topology.TheConstants.{MOST_SWITCHES, MOST_LINKS, MOST_PORTS}
-use Rattle.snap_topo.specs.Answer.{ends, port_name, too_many, first_repeat, first_unknown, KnownThen, DifferentThen, WithinThen, SpelledThen, IsAnswer, IsTopologyOf}
-use Rattle.snap_topo.specs.Document.{document}
-use Rattle.snap_topo.specs.Names.{port_number}
-use Rattle.snap_topo.specs.Numbers.{is_switch, numbered, port_at}
-use Rattle.snap_topo.specs.Shape.{Spelled, spelled, has_keys, name_in, with_first, names_in, switches_in, pair_of, link_in, links_listed, links_in, port_of, ports_listed, by_number, ports_in, ports_then, links_then, switches_then}
-use Rattle.snap_topo.specs.Spells.{AreNames, no_name, next_name, ArePairs, no_pair, next_pair, ArePorts, no_port, next_port, SpellsTopology}
+use Rattle.snap_topo.specs.Answer.{too_many, first_repeat, first_unknown, KnownThen, DifferentThen, WithinThen, SpelledThen, IsAnswer, IsTopologyOf}
+use Rattle.snap_topo.specs.Shape.{Spelled, spelled, name_in, with_first, names_in, switches_in, pair_of, link_in, links_listed, links_in, port_of, ports_listed, ports_in, ports_then, links_then, switches_then}
+use Rattle.snap_topo.specs.Spells.{AreNames, no_name, next_name, ArePairs, no_pair, next_pair, ArePorts, no_port, next_port, SpellsTopology, document, has_keys, by_number, port_number, is_switch, numbered, port_at, ends, port_name}
 use Rattle.snap_topo.proofs.Forms.{different, known-names}
 
 -- ---- what each part holds

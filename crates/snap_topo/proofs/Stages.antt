@@ -8,7 +8,8 @@ use Rattle.snap_topo.specs.declared.topology.Topology.{Topology}
 use Rattle.snap_topo.specs.declared.topology.TopoFault.{TopoFault}
 use Rattle.snap_topo.specs.declared.topology.TopoFault.TheVariants.{Unknown}
 use Rattle.snap_topo.specs.Shape.{Spelled}
-use Rattle.snap_topo.specs.Answer.{too_many, first_repeat, first_unknown, is_unknown, ends, port_name, KnownThen, DifferentThen, WithinThen, IsTopologyOf}
+use Rattle.snap_topo.specs.Answer.{too_many, first_repeat, first_unknown, is_unknown, KnownThen, DifferentThen, WithinThen, IsTopologyOf}
+use Rattle.snap_topo.specs.Spells.{ends, port_name}
 
 -- once the counts are within the limits and the switches differ
 pub within-different : (s : Spelled) (r : Result Topology TopoFault) → too_many s ≡ None → first_repeat s.switches ≡ None → KnownThen s (first_unknown s) r → WithinThen s (too_many s) r

@@ -13,8 +13,8 @@ use Rattle.toml.specs.declared.value.Value.{Value}
 use Rattle.toml.specs.Data.{Data, Items, no_items, item, string, integer, float, boolean, datetime, array, table, as_array, get_member}
 use Rattle.toml.specs.View.{items_view, members_view, view}
 use Rattle.toml.proofs.Views.{view-lookup}
-use Rattle.snap_topo.specs.Shape.{link_in, member_count, name_in, names_in, port_of, ports_listed, put_port, switches_in, with_first}
-use Rattle.snap_topo.specs.Names.{port_number}
+use Rattle.snap_topo.specs.Shape.{link_in, name_in, names_in, port_of, ports_listed, switches_in, with_first}
+use Rattle.snap_topo.specs.Spells.{member_count, put_port, port_number}
 use Rattle.snap_topo.specs.Listing.{port_text}
 
 pub member_count-view : (es : List (String Global × Value)) → member_count (members_view es) ≡ length es

@@ -1,5 +1,5 @@
 -- What is answered for a text: its first fault, or its topology.
-use Rattle.std.specs.Prelude.{Bool, ◌≡◌, ◌↔◌, ℕ, not, List, [], ◌∷◌, ◌++◌, length, map, find, Contains, Option, Some, None, if◌then◌else◌, nat_lt, Result, Ok, Err, IsOkAnd}
+use Rattle.std.specs.Prelude.{Bool, ◌≡◌, ◌↔◌, ℕ, not, List, ◌∷◌, ◌++◌, length, map, find, Contains, Option, Some, None, if◌then◌else◌, nat_lt, Result, Ok, Err, IsOkAnd}
 use Rattle.std.specs.List.{flat_map}
 use Rattle.std.specs.List.Sorted.{IsStrictlySortedBy}
 use Rattle.snap_core.specs.declared.program.Which.{Which}
@@ -8,9 +8,7 @@ use Rattle.snap_topo.specs.declared.topology.Topology.{Topology}
 use Rattle.snap_topo.specs.declared.topology.TopoFault.{TopoFault}
 use Rattle.snap_topo.specs.declared.topology.TopoFault.TheVariants.{Limit, Twice, Unknown}
 use Rattle.snap_topo.specs.declared.topology.TheConstants.{MOST_SWITCHES, MOST_LINKS, MOST_PORTS}
-use Rattle.snap_topo.specs.Document.{document}
-use Rattle.snap_topo.specs.Form.{link_cmp}
-use Rattle.snap_topo.specs.Numbers.{is_switch, numbered, port_at}
+use Rattle.snap_topo.specs.Spells.{document, is_switch, numbered, port_at, ends, port_name, link_cmp}
 use Rattle.snap_topo.specs.Shape.{Spelled, spelled}
 
 -- the first count that passes its limit
@@ -27,12 +25,6 @@ repeat_after seen (name ∷ names) = if is_switch seen name then Some name else 
 
 abbrev pub first_repeat : List (List ℕ) → Option (List ℕ)
 first_repeat names = repeat_after [] names
-
-abbrev pub ends : List ℕ × List ℕ → List (List ℕ)
-ends link = link.0 ∷ link.1 ∷ []
-
-abbrev pub port_name : ℕ × List ℕ → List ℕ
-port_name p = p.1
 
 -- the names in the links as listed, then those in the ports by rising number
 abbrev pub mentioned : Spelled → List (List ℕ)

@@ -1,18 +1,14 @@
 -- When a topology is in form.
 use Rattle.std.specs.Prelude.{ℕ, ◌<◌, ◌≤◌, length, map, All, IsTrue}
-use Rattle.std.specs.Ordering.{nat_cmp, ordering_then}
-use Rattle.std.specs.declared.cmp.Ordering.{Ordering}
+use Rattle.std.specs.Ordering.{nat_cmp}
 use Rattle.std.specs.List.{IsDistinct}
 use Rattle.std.specs.List.Sorted.{IsStrictlySortedBy}
 use Rattle.std.specs.Str.{bytes_eq}
 use Rattle.snap_core.specs.declared.ports.PortAt.{PortAt}
 use Rattle.snap_topo.specs.declared.topology.Topology.{Topology}
 use Rattle.snap_topo.specs.declared.topology.TheConstants.{MOST_SWITCHES, MOST_LINKS, MOST_PORTS}
+use Rattle.snap_topo.specs.Spells.{link_cmp}
 use Rattle.snap_core.specs.Names.{is_switch_name}
-
--- links by the first number, then by the second
-abbrev pub link_cmp : ℕ × ℕ → ℕ × ℕ → Ordering
-link_cmp a b = ordering_then (nat_cmp a.0 b.0) (nat_cmp a.1 b.1)
 
 -- a link between two of n switches, the lesser first
 pub record IsLink (n : ℕ) (link : ℕ × ℕ) : Type 0 where

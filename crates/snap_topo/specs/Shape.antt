@@ -1,28 +1,17 @@
 -- The shape of a topology's document: the names that it spells, or which part is out of shape.
-use Rattle.std.specs.Prelude.{ℕ, Bool, ◌+◌, ◌&&◌, ◌==◌, List, [], ◌∷◌, codes, Option, Some, None, is_some, if◌then◌else◌, option_map, fold, Result, Ok, Err}
-use Rattle.std.specs.Ordering.{nat_cmp}
-use Rattle.std.specs.BTreeMap.{insert_entry}
+use Rattle.std.specs.Prelude.{ℕ, List, ◌∷◌, codes, Option, Some, None, if◌then◌else◌, option_map, Result, Ok, Err}
 use Rattle.std.specs.Str.{bytes_eq}
 use Rattle.toml.specs.Data.{Data, string, array, table, Items, no_items, item, Members, no_members, member, get_member}
 use Rattle.snap_topo.specs.declared.topology.TopoFault.{TopoFault}
 use Rattle.snap_topo.specs.declared.topology.TopoFault.TheVariants.{NotToml, Shape}
 use Rattle.snap_core.specs.Names.{is_switch_name}
-use Rattle.snap_topo.specs.Names.{port_number}
+use Rattle.snap_topo.specs.Spells.{by_number, has_keys, port_number}
 
 -- the names of the switches, the links as listed, and the ports by rising number
 pub record Spelled : Type 0 where
   pub switches : List (List ℕ)
   pub links : List (List ℕ × List ℕ)
   pub ports : List (ℕ × List ℕ)
-
-abbrev pub member_count : Members → ℕ
-member_count no_members = 0
-member_count (member k d rest) = member_count rest + 1
-
--- the keys are exactly `links`, `ports` and `switches`
-abbrev pub has_keys : Members → Bool
-has_keys m = member_count m == 3 && (is_some (get_member (codes "links") m)
-    && (is_some (get_member (codes "ports") m) && is_some (get_member (codes "switches") m)))
 
 -- a text that is a switch name
 abbrev pub name_in : Data → Option (List ℕ)
@@ -70,14 +59,6 @@ port_of _ _ = None
 abbrev pub ports_listed : Members → Option (List (ℕ × List ℕ))
 ports_listed no_members = Some []
 ports_listed (member key d rest) = with_first (port_of (port_number key) (name_in d)) (ports_listed rest)
-
--- with one more port, at its place in the order of numbers
-abbrev pub put_port : List (ℕ × List ℕ) → ℕ × List ℕ → List (ℕ × List ℕ)
-put_port ports p = insert_entry nat_cmp ports p.0 p.1
-
--- the ports by rising number
-abbrev pub by_number : List (ℕ × List ℕ) → List (ℕ × List ℕ)
-by_number ports = fold put_port [] ports
 
 abbrev pub ports_in : Option Data → Option (List (ℕ × List ℕ))
 ports_in (Some (table members)) = option_map by_number (ports_listed members)

@@ -1,18 +1,67 @@
 -- Which topology a text spells: its document has three keys, and what they hold. Nothing is said here of faults and their order.
-use Rattle.std.specs.Prelude.{◌≡◌, ◌↔◌, ℕ, ◌≤◌, true, false, List, [], ◌∷◌, ◌++◌, length, map, codes, Some, Contains}
-use Rattle.std.specs.List.{AllByRecursion, IsDistinct, flat_map}
+use Rattle.std.specs.Prelude.{◌≡◌, ◌↔◌, ℕ, ◌≤◌, true, false, List, [], ◌∷◌, ◌++◌, length, map, codes, Some, Contains, Option, None, if◌then◌else◌, Bool, ◌+◌, ◌&&◌, ◌==◌, is_some, fold, nat_le, nat_lt, ◌^◌, decimal, min, max}
+use Rattle.std.specs.List.{AllByRecursion, IsDistinct, flat_map, list_any, position_or_len}
 use Rattle.std.specs.List.Sorted.{IsStrictlySortedBy}
-use Rattle.std.specs.Str.{bytes_eq}
+use Rattle.std.specs.Str.{bytes_eq, is_utf8}
+use Rattle.std.specs.Ordering.{nat_cmp, ordering_then}
+use Rattle.std.specs.BTreeMap.{insert_entry}
+use Rattle.std.specs.Str.Parse.{digits_value}
+use Rattle.std.specs.declared.cmp.Ordering.{Ordering}
 use Rattle.toml.specs.Data.{string, array, table, Items, no_items, item, Members, no_members, member, get_member}
+use Rattle.toml.specs.Parse.{parse_document}
 use Rattle.snap_core.specs.Names.{is_switch_name}
+use Rattle.snap_core.specs.declared.ports.PortAt.{PortAt}
 use Rattle.snap_topo.specs.declared.topology.Topology.{Topology}
 use Rattle.snap_topo.specs.declared.topology.TheConstants.{MOST_SWITCHES, MOST_LINKS, MOST_PORTS}
-use Rattle.snap_topo.specs.Answer.{ends, port_name}
-use Rattle.snap_topo.specs.Document.{document}
-use Rattle.snap_topo.specs.Form.{link_cmp}
-use Rattle.snap_topo.specs.Names.{port_number}
-use Rattle.snap_topo.specs.Numbers.{is_switch, numbered, port_at}
-use Rattle.snap_topo.specs.Shape.{has_keys, by_number}
+
+-- links by the first number, then by the second
+abbrev pub link_cmp : ℕ × ℕ → ℕ × ℕ → Ordering
+link_cmp a b = ordering_then (nat_cmp a.0 b.0) (nat_cmp a.1 b.1)
+
+abbrev pub ends : List ℕ × List ℕ → List (List ℕ)
+ends link = link.0 ∷ link.1 ∷ []
+
+abbrev pub port_name : ℕ × List ℕ → List ℕ
+port_name p = p.1
+
+abbrev pub is_switch : List (List ℕ) → List ℕ → Bool
+is_switch switches name = list_any (bytes_eq name) switches
+
+-- a switch's number is its place in the list
+abbrev pub number_of : List (List ℕ) → List ℕ → ℕ
+number_of switches name = position_or_len (bytes_eq name) switches
+
+-- a link by numbers, the lesser first
+abbrev pub numbered : List (List ℕ) → List ℕ × List ℕ → ℕ × ℕ
+numbered switches link = let a = number_of switches link.0 in let b = number_of switches link.1 in (min a b, max a b)
+
+abbrev pub port_at : List (List ℕ) → ℕ × List ℕ → PortAt
+port_at switches p = record { port = p.0; at = number_of switches p.1 }
+
+-- the number from 1 to 4294967295 of which the text is the decimal text
+abbrev pub port_number : List ℕ → Option ℕ
+port_number text = let n = digits_value 10 text in if nat_le 1 n && (nat_lt n (2 ^ 32) && bytes_eq text (decimal n)) then Some n else None
+
+abbrev pub member_count : Members → ℕ
+member_count no_members = 0
+member_count (member k d rest) = member_count rest + 1
+
+-- the keys are exactly `links`, `ports` and `switches`
+abbrev pub has_keys : Members → Bool
+has_keys m = member_count m == 3 && (is_some (get_member (codes "links") m)
+    && (is_some (get_member (codes "ports") m) && is_some (get_member (codes "switches") m)))
+
+-- with one more port, at its place in the order of numbers
+abbrev pub put_port : List (ℕ × List ℕ) → ℕ × List ℕ → List (ℕ × List ℕ)
+put_port ports p = insert_entry nat_cmp ports p.0 p.1
+
+-- the ports by rising number
+abbrev pub by_number : List (ℕ × List ℕ) → List (ℕ × List ℕ)
+by_number ports = fold put_port [] ports
+
+-- the members of the document, where the bytes are UTF-8 and TOML takes them
+abbrev pub document : List ℕ → Option Members
+document bytes = if is_utf8 bytes then parse_document bytes else None
 
 -- names of switches
 pub data AreNames : Items → List (List ℕ) → Type 0 where

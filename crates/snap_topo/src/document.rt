@@ -4,10 +4,9 @@ ghost use Rattle.std.specs.Prelude.{◌≡◌, ◌≢◌, ◌==◌, is_some, IfO
 ghost use Rattle.std.specs.Option.{option_copied};
 ghost use Rattle.toml.specs.View.{items_view, table_view, view};
 ghost use Rattle.toml.specs.Data.{get_member};
-ghost use Rattle.snap_topo.specs.Document.{document};
+ghost use Rattle.snap_topo.specs.Spells.{document, by_number, has_keys, member_count, port_number};
 ghost use Rattle.snap_topo.specs.Listing.{pair_seen, pair_texts, port_seen, port_texts, spelled_by, texts};
-ghost use Rattle.snap_topo.specs.Names.{port_number};
-ghost use Rattle.snap_topo.specs.Shape.{by_number, has_keys, link_in, links_in, links_listed, member_count, name_in, names_in, port_of, ports_in, ports_listed, spelled, switches_in};
+ghost use Rattle.snap_topo.specs.Shape.{link_in, links_in, links_listed, name_in, names_in, port_of, ports_in, ports_listed, spelled, switches_in};
 
 use crate::listing::Listing;
 use crate::names::port_of;

@@ -1,8 +1,7 @@
 //! Names and numbers in documents.
 
 ghost use Rattle.std.specs.Prelude.{◌≡◌};
-ghost use Rattle.snap_topo.specs.Names.{port_number};
-ghost use Rattle.snap_topo.specs.Numbers.{is_switch};
+ghost use Rattle.snap_topo.specs.Spells.{port_number, is_switch};
 
 use itoa::Buffer;
 use snap_core::lists::Name;

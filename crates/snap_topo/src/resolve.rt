@@ -4,10 +4,9 @@ ghost use Rattle.std.specs.Prelude.{◌≡◌, ◌≢◌, ◌≤◌, ◌↔◌, 
 ghost use Rattle.std.specs.List.{flat_map};
 ghost use Rattle.std.specs.List.Sorted.{IsStrictlySortedBy};
 ghost use Rattle.indexmap.specs.IndexSet.{index_set_len};
-ghost use Rattle.snap_topo.specs.Answer.{ends, first_repeat, port_name, first_unknown, is_unknown, too_many, WithinThen};
-ghost use Rattle.snap_topo.specs.Form.{link_cmp};
+ghost use Rattle.snap_topo.specs.Answer.{first_repeat, first_unknown, is_unknown, too_many, WithinThen};
 ghost use Rattle.snap_topo.specs.Listing.{pair_text, pair_texts, port_texts, spelled_by, string_texts, texts};
-ghost use Rattle.snap_topo.specs.Numbers.{is_switch, number_of, numbered, port_at};
+ghost use Rattle.snap_topo.specs.Spells.{is_switch, number_of, numbered, port_at, ends, port_name, link_cmp};
 
 use crate::listing::Listing;
 use crate::topology::{MOST_LINKS, MOST_PORTS, MOST_SWITCHES, TopoFault, Topology};

@@ -5,8 +5,7 @@ use Rattle.std.specs.List.{list_all}
 use Rattle.std.specs.Char.{is_ascii_digit}
 use Rattle.std.proofs.lemmas.Bool.Decides.{nat_tests}
 use Rattle.std.proofs.lemmas.List.{append-nil}
-use Rattle.snap_core.specs.Figures.{address_behind, address_of_parts, octet_of, number_up_to, value_of_digits}
-use Rattle.snap_core.specs.Parts.{onto_first, parts_by}
+use Rattle.snap_core.specs.Figures.{address_behind, address_of_parts, octet_of, number_up_to, value_of_digits, onto_first, parts_by}
 use Rattle.snap_core.proofs.FigureLemmas.{number_up_to-digits}
 use Rattle.snap_trace.specs.Ahead.{IsAddressFront, IsOctetAhead}
 use Rattle.snap_trace.specs.Cuts.{IsUntilBlank}

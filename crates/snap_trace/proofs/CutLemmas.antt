@@ -3,7 +3,7 @@ use Rattle.std.proofs.Common.{◌≡◌, ℕ, ◌+◌, ◌-◌, ◌<◌, ◌||�
 use Rattle.std.specs.Prelude.{filter, position}
 use Rattle.std.proofs.lemmas.List.{get_or-take, take_all}
 use Rattle.std.proofs.lemmas.List.Quantifiers.{position-Some}
-use Rattle.snap_core.specs.Parts.{onto_first, parts_by}
+use Rattle.snap_core.specs.Figures.{onto_first, parts_by}
 use Rattle.snap_core.proofs.PartLemmas.{parts_by-first, parts_by-none}
 use Rattle.snap_trace.specs.Cuts.{HasNoName, IsFirstCut, IsNameFront, IsUntilBlank, is_equals, is_mark}
 use Rattle.snap_trace.specs.PacketLines.{BeginsWord, is_blank, is_some_text, words_of}

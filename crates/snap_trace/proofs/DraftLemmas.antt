@@ -6,7 +6,7 @@ use Rattle.snap_core.specs.declared.program.Field.{Field}
 use Rattle.snap_core.specs.declared.program.Found.{Found}
 use Rattle.snap_core.specs.declared.program.Found.TheVariants.{Plain, Split}
 use Rattle.snap_core.specs.Fields.{found}
-use Rattle.snap_core.specs.Parts.{onto_first, parts_by}
+use Rattle.snap_core.specs.Figures.{onto_first, parts_by}
 use Rattle.snap_trace.specs.declared.line.LineFault.{LineFault}
 use Rattle.snap_trace.specs.declared.line.LineFault.TheVariants.{Bad}
 use Rattle.snap_trace.specs.Cuts.{HasNoName, IsCutOf, IsFirstCut, IsNameFront, IsUntilBlank, with_cut}

@@ -4,8 +4,7 @@ use Rattle.std.specs.Prelude.{nat_le, option_and_then, option_map}
 use Rattle.std.specs.List.{list_all, list_any}
 use Rattle.std.specs.Char.{is_ascii_digit}
 use Rattle.std.proofs.lemmas.Bool.Decides.{nat_tests}
-use Rattle.snap_core.specs.Figures.{address_behind, address_of, address_of_parts, number_of, number_up_to, octet_of}
-use Rattle.snap_core.specs.Parts.{onto_first, parts_by}
+use Rattle.snap_core.specs.Figures.{address_behind, address_of, address_of_parts, number_of, number_up_to, octet_of, onto_first, parts_by}
 use Rattle.snap_core.proofs.FigureLemmas.{number_up_to-other}
 use Rattle.snap_trace.specs.PacketLines.{both_numbers, plain_or, plain_value, split_or, split_value}
 

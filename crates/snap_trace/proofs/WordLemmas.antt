@@ -6,7 +6,7 @@ use Rattle.std.proofs.lemmas.List.Sums.{prefix_len_passes}
 use Rattle.std.proofs.lemmas.Bool.Decides.{nat_tests}
 use Rattle.std.proofs.lemmas.List.{take_all, drop_all, at_drop_more}
 use Rattle.std.proofs.lemmas.List.Quantifiers.{position-Some}
-use Rattle.snap_core.specs.Parts.{onto_first, parts_by}
+use Rattle.snap_core.specs.Figures.{onto_first, parts_by}
 use Rattle.snap_trace.specs.PacketLines.{is_blank, is_inked, is_some_text, words_of, BeginsWord, both_numbers}
 
 -- three parts or more are no two numbers

@@ -6,9 +6,8 @@ use Rattle.snap_core.specs.declared.program.Field.{Field}
 use Rattle.snap_core.specs.declared.program.Found.{Found}
 use Rattle.snap_core.specs.declared.program.Found.TheVariants.{Plain, Split}
 use Rattle.snap_core.specs.Fields.{count, found}
-use Rattle.snap_core.specs.Figures.{number_up_to, number_of, address_of}
-use Rattle.snap_core.specs.Parts.{parts_by}
-use Rattle.snap_core.specs.Variables.{has}
+use Rattle.snap_core.specs.Figures.{number_up_to, number_of, address_of, parts_by}
+use Rattle.snap_core.specs.Arrays.{has}
 
 -- what a line says: nothing, a packet that comes in at the port of its first component, or nothing in form
 pub data Said : Type 0 where

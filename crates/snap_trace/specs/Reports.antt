@@ -9,6 +9,10 @@ use Rattle.snap_core.specs.declared.place.Entry.{Entry}
 use Rattle.snap_core.specs.Fields.{width}
 use Rattle.snap_core.specs.Packets.{PacketSet, listed}
 
+-- `lost N`
+abbrev pub lost_line : ℕ → List ℕ
+lost_line n = concat (codes "lost " ∷ decimal n ∷ codes "\n" ∷ [])
+
 -- an address, as `10.0.6.1`
 abbrev pub address_text : ℕ → List ℕ
 address_text a =

@@ -2,7 +2,7 @@
 
 ghost use Rattle.std.specs.Prelude.{◌≡◌, ◌==◌, ◌+◌, ◌-◌, ◌^◌, ◌/◌, ◌%◌, ◌<◌, ◌≤◌, [], ◌∷◌, length, IfSome, MatchOption, position};
 ghost use Rattle.snap_trace.specs.PacketLines.{BeginsWord, both_numbers, ends_with_return, is_blank, is_inked, plain_value, split_value, without_return, words_of};
-ghost use Rattle.snap_core.specs.Parts.{parts_by};
+ghost use Rattle.snap_core.specs.Figures.{parts_by};
 ghost use Rattle.snap_trace.specs.Cuts.{HasNoName, IsNameFront, IsUntilBlank, is_mark};
 
 use snap_core::figures::{address, number};

@@ -21,9 +21,9 @@ use Rattle.snap_rows.specs.Handles.{sent}
 use Rattle.snap_rows.specs.Happenings.{deliveries_of, losses_of}
 use Rattle.snap_rows.specs.Network.{Happening}
 use Rattle.snap_gen.specs.Agreement.{CameOut}
-use Rattle.snap_trace.specs.Reports.{block, blocks, out_lines}
+use Rattle.snap_trace.specs.Reports.{block, blocks, out_lines, lost_line}
 use Rattle.snap_runs.specs.declared.frames.Frames.TheVariants.{Plain}
-use Rattle.snap_runs.specs.Reports.{IsBlock, packet_line, hops_text, lost_line, packets_delivered}
+use Rattle.snap_runs.specs.Reports.{IsBlock, packet_line, hops_text, packets_delivered}
 use Rattle.snap_runs.proofs.InOrder.{same_packets_in_order}
 use Rattle.snap_whole.specs.OneSwitch.{port_lines}
 

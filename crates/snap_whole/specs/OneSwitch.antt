@@ -9,8 +9,7 @@ use Rattle.snap_core.specs.Listing.{IsListing}
 use Rattle.snap_core.specs.Packets.{PacketSet}
 use Rattle.snap_core.specs.Switch.{Switched, one_big_switch, delivered, lost}
 use Rattle.snap_topo.specs.declared.topology.Topology.{Topology}
-use Rattle.snap_trace.specs.Reports.{blocks, end_text, out_lines}
-use Rattle.snap_runs.specs.Reports.{lost_line}
+use Rattle.snap_trace.specs.Reports.{blocks, end_text, out_lines, lost_line}
 
 -- the numbers of a topology's ports
 abbrev pub ports_of : Topology → List ℕ

@@ -1,6 +1,6 @@
 -- The classes so far agree outside of the set so far.
 use Rattle.std.proofs.Common.{◌≡◌, ◌<◌, ℕ, false}
-use Rattle.snap_core.specs.Variables.{has}
+use Rattle.snap_core.specs.Arrays.{has}
 use Rattle.snap_ctx.specs.Classes.{class_of}
 use Rattle.snap_ctx.proofs.classes.changed.Given as goal
 

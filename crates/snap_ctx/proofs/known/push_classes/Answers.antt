@@ -3,7 +3,7 @@ use Rattle.std.proofs.Common.{◌≡◌, ◌∷◌, [], ◌++◌, ◌+◌, List,
 use Rattle.std.proofs.Math.Seq.{drop-cons}
 use Rattle.snap_core.specs.declared.policy.Term.{Term}
 use Rattle.snap_core.specs.declared.policy.Term.TheVariants.{Plus}
-use Rattle.snap_core.specs.Variables.{has}
+use Rattle.snap_core.specs.Arrays.{has}
 use Rattle.snap_ctx.specs.Classes.{class_of}
 use Rattle.snap_ctx.specs.Known.{classes_key, term_key}
 use Rattle.snap_ctx.proofs.known.push_classes.Goals.{then-is_in+in_ok-push_term, else-is_in}

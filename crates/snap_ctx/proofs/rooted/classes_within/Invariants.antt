@@ -1,6 +1,6 @@
 -- The components so far.
 use Rattle.std.proofs.Common.{◌≡◌, ◌<◌, ℕ, true}
-use Rattle.snap_core.specs.Variables.{has}
+use Rattle.snap_core.specs.Arrays.{has}
 use Rattle.snap_ctx.specs.Classes.{class_of}
 use Rattle.snap_ctx.specs.Known.{within}
 use Rattle.snap_ctx.proofs.rooted.classes_within.Given as goal

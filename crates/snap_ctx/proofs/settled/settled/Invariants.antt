@@ -1,6 +1,6 @@
 -- The arrays so far.
 use Rattle.std.proofs.Common.{◌≡◌, ◌<◌, ℕ, true, false}
-use Rattle.snap_core.specs.Variables.{has}
+use Rattle.snap_core.specs.Arrays.{has}
 use Rattle.snap_ctx.specs.Known.{IsSettled}
 use Rattle.snap_ctx.proofs.settled.settled.Given as goal
 

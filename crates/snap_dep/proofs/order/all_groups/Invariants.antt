@@ -1,6 +1,6 @@
 use Rattle.std.proofs.Common.{ℕ, ◌<◌, ◌↔◌, length, IsTrue}
 use Rattle.snap_core.specs.declared.policy.Pol.{Pol}
-use Rattle.snap_core.specs.Variables.{has}
+use Rattle.snap_core.specs.Arrays.{has}
 use Rattle.snap_dep.specs.Dependencies.{Reaches}
 use Rattle.snap_dep.specs.Ranks.{IsGroup}
 use Rattle.snap_dep.specs.Relations.{IsRelation}

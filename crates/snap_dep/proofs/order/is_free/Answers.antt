@@ -1,5 +1,5 @@
 use Rattle.std.proofs.Common.{◌∙◌, sym, subst, eqb-true, eq-eqb, IsTrue}
-use Rattle.snap_core.specs.Variables.{has}
+use Rattle.snap_core.specs.Arrays.{has}
 use Rattle.snap_dep.proofs.Sets.{in_and, in_zero, no_members}
 use Rattle.snap_dep.proofs.order.is_free.Goals as goal
 

@@ -1,7 +1,7 @@
 use Rattle.std.proofs.Common.{◌≡◌, ◌<◌, true, false, length, get_or, sym, ap, ◌∙◌, arith}
 use Rattle.std.proofs.lemmas.Bool.{false≢true}
 use Rattle.std.proofs.lemmas.List.{set-get_or}
-use Rattle.snap_core.specs.Variables.{has}
+use Rattle.snap_core.specs.Arrays.{has}
 use Rattle.snap_dep.proofs.Rows.{write, skip}
 use Rattle.snap_dep.proofs.relation.lead_through.Goals as goal
 use Rattle.snap_dep.proofs.relation.lead_through.Goals.{then-has_var, else-has_var}

@@ -1,5 +1,5 @@
 use Rattle.std.proofs.Common.{IsTrue}
-use Rattle.snap_core.specs.Variables.{has}
+use Rattle.snap_core.specs.Arrays.{has}
 use Rattle.snap_dep.proofs.Rows.{Progress}
 use Rattle.snap_dep.proofs.relation.relate.Given as goal
 

@@ -1,6 +1,6 @@
 use Rattle.std.proofs.Common.{◌↔◌, ◌<◌, length, subst, arith, ⊎_elim}
 use Rattle.std.specs.Prelude.{IsTrue}
-use Rattle.snap_core.specs.Variables.{has}
+use Rattle.snap_core.specs.Arrays.{has}
 use Rattle.snap_dep.specs.Dependencies.{Tests, UsesBelow}
 use Rattle.snap_dep.proofs.Below.{reads_below, writes_below}
 use Rattle.snap_dep.proofs.Rows.{iff_on, either_iff}

@@ -2,7 +2,7 @@
 use Rattle.std.proofs.Common.{◌≡◌, false, length, take}
 use Rattle.std.specs.Prelude.{All}
 use Rattle.snap_core.specs.declared.place.Place.{Place}
-use Rattle.snap_core.specs.Variables.{has}
+use Rattle.snap_core.specs.Arrays.{has}
 use Rattle.snap_ctx.specs.Classes.{wrap}
 use Rattle.snap_equal.specs.Tally.{IsSum, signed_total, total}
 use Rattle.snap_equal.specs.Told.{On}

@@ -1,6 +1,6 @@
 -- The puts so far are in the set.
 use Rattle.std.proofs.Common.{◌≡◌, ℕ, false, take}
-use Rattle.snap_core.specs.Variables.{has}
+use Rattle.snap_core.specs.Arrays.{has}
 use Rattle.snap_equal.specs.Tally.{AddOutside}
 use Rattle.snap_equal.proofs.tally.with_puts.Given as goal
 

@@ -1,7 +1,7 @@
 -- The components so far.
 use Rattle.std.proofs.Common.{◌≡◌, ◌<◌, ℕ, true}
 use Rattle.snap_core.specs.declared.policy.Term.TheVariants.{Plus}
-use Rattle.snap_core.specs.Variables.{has}
+use Rattle.snap_core.specs.Arrays.{has}
 use Rattle.snap_ctx.specs.Classes.{class_of}
 use Rattle.snap_fdd.proofs.places.are_own.Given as goal
 

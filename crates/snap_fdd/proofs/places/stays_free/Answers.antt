@@ -2,7 +2,7 @@
 use Rattle.std.proofs.Common.{◌≡◌, ◌+◌, ◌<◌, ◌≤◌, ◌^◌, ℕ, List, length, sym, subst, rules, arith, true, false, ap, ◌∙◌}
 use Rattle.std.specs.Prelude.{IfSome, Option}
 use Rattle.std.specs.List.{AllByRecursion}
-use Rattle.snap_core.specs.Variables.{has}
+use Rattle.snap_core.specs.Arrays.{has}
 use Rattle.snap_core.specs.declared.policy.Term.TheVariants.{Plus}
 use Rattle.snap_ctx.specs.Classes.{class_of}
 use Rattle.snap_ctx.specs.declared.fact.Fact.{Fact}

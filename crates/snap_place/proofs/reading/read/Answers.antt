@@ -1,7 +1,7 @@
 use Rattle.std.proofs.Common.{◌∙◌, ap, subst, sym, List, ℕ, Ok, Err}
 use Rattle.std.proofs.lemmas.Result.{err_from_is_err_and}
 use Rattle.snap_dep.specs.Dependencies.{Tied}
-use Rattle.snap_topo.specs.Document.{document}
+use Rattle.snap_topo.specs.Spells.{document}
 use Rattle.snap_place.specs.Answer.{GivesSwitches, IsAnswer}
 use Rattle.snap_place.specs.Shape.{entries_of}
 use Rattle.snap_place.specs.Texts.{entry_texts, vec_texts}

@@ -1,5 +1,5 @@
 use Rattle.std.proofs.Common.{◌≡◌, ◌+◌, drop}
-use Rattle.snap_topo.specs.Numbers.{is_switch, number_of}
+use Rattle.snap_topo.specs.Spells.{is_switch, number_of}
 use Rattle.snap_place.proofs.resolve.switch_number.Given as goal
 
 abbrev pub invariant-loop-at : goal.invariant-loop-at

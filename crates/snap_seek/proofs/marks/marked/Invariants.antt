@@ -2,7 +2,7 @@ use Rattle.std.proofs.Common.{◌≡◌, ◌<◌, ◌==◌, ℕ, drop, false, fi
 use Rattle.std.specs.List.{list_any}
 use Rattle.snap_topo.specs.Answer.{is_unknown}
 use Rattle.snap_topo.specs.Listing.{string_texts}
-use Rattle.snap_topo.specs.Numbers.{number_of}
+use Rattle.snap_topo.specs.Spells.{number_of}
 use Rattle.snap_seek.specs.Listing.{key_texts}
 use Rattle.snap_seek.proofs.marks.marked.Given as goal
 

@@ -1,5 +1,5 @@
 use Rattle.std.proofs.Common.{◌≡◌, length}
-use Rattle.snap_core.specs.Parts.{parts_by}
+use Rattle.snap_core.specs.Figures.{parts_by}
 use Rattle.snap_tables.specs.Reading.{is_space, opened}
 use Rattle.snap_tables.proofs.scan.behind_word.Given as goal
 

@@ -2,7 +2,7 @@ use Rattle.std.proofs.Common.{◌≡◌, ◌∙◌, ap, Some, string_bytes}
 use Rattle.std.specs.Map.Iter.{deref_pair}
 use Rattle.std.proofs.lemmas.Map.Iter.{rest_more}
 use Rattle.toml.specs.View.{view}
-use Rattle.snap_topo.specs.Names.{port_number}
+use Rattle.snap_topo.specs.Spells.{port_number}
 use Rattle.snap_topo.specs.Shape.{name_in, port_of}
 use Rattle.snap_topo.proofs.TableLemmas.{ports-turn}
 use Rattle.snap_topo.proofs.document.ports_of.Goals as goal

@@ -1,6 +1,7 @@
 use Rattle.std.proofs.Common.{◌≡◌, fold, option_map}
 use Rattle.toml.specs.View.{members_view, table_view}
-use Rattle.snap_topo.specs.Shape.{by_number, ports_listed, put_port}
+use Rattle.snap_topo.specs.Shape.{ports_listed}
+use Rattle.snap_topo.specs.Spells.{by_number, put_port}
 use Rattle.snap_topo.specs.Listing.{port_texts}
 use Rattle.snap_topo.proofs.document.ports_of.Given as goal
 

@@ -1,5 +1,5 @@
 use Rattle.std.proofs.Common.{◌≡◌, drop}
-use Rattle.snap_topo.specs.Numbers.{is_switch}
+use Rattle.snap_topo.specs.Spells.{is_switch}
 use Rattle.snap_topo.proofs.names.is_among.Given as goal
 
 abbrev pub invariant-loop-known : goal.invariant-loop-known

@@ -1,8 +1,8 @@
 use Rattle.std.proofs.Common.{◌≡◌, ◌++◌, drop, find, map}
 use Rattle.std.specs.List.{flat_map}
-use Rattle.snap_topo.specs.Answer.{ends, is_unknown}
+use Rattle.snap_topo.specs.Answer.{is_unknown}
 use Rattle.snap_topo.specs.Listing.{pair_text, string_texts}
-use Rattle.snap_topo.specs.Numbers.{numbered}
+use Rattle.snap_topo.specs.Spells.{numbered, ends}
 use Rattle.snap_topo.proofs.resolve.links_of.Given as goal
 
 -- the links so far, whose names are known, before those that are left

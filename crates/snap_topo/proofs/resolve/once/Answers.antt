@@ -4,7 +4,7 @@ use Rattle.std.specs.List.Sorted.{IsStrictlySortedBy}
 use Rattle.std.proofs.lemmas.List.Filters.{dedup_is}
 use Rattle.std.proofs.lemmas.List.Kept.{Contains-dedup, Contains-from_dedup, IsStrictlySortedBy-dedup}
 use Rattle.std.proofs.lemmas.List.Sorted.{Contains-permutation, IsPermutation-sym}
-use Rattle.snap_topo.specs.Form.{link_cmp}
+use Rattle.snap_topo.specs.Spells.{link_cmp}
 use Rattle.snap_topo.proofs.Pairs.{link_eq, link_eq_equiv, link_eq-link_cmp, link_cmp_total, link_same}
 use Rattle.snap_topo.proofs.resolve.once.Goals as goal
 

@@ -1,7 +1,7 @@
 use Rattle.std.proofs.Common.{◌≡◌, ◌++◌, find, map}
-use Rattle.snap_topo.specs.Answer.{is_unknown, port_name}
+use Rattle.snap_topo.specs.Answer.{is_unknown}
 use Rattle.snap_topo.specs.Listing.{port_text, port_texts, string_texts}
-use Rattle.snap_topo.specs.Numbers.{port_at}
+use Rattle.snap_topo.specs.Spells.{port_at, port_name}
 use Rattle.snap_topo.proofs.resolve.ports_of.Given as goal
 
 -- the ports so far, whose names are known, before those that are left

@@ -2,10 +2,9 @@ use Rattle.std.proofs.Common.{◌≡◌, ◌∙◌, ap, sym, subst, List, ℕ, m
 use Rattle.std.specs.List.{flat_map}
 use Rattle.std.specs.List.Sorted.{IsStrictlySortedBy}
 use Rattle.std.proofs.lemmas.Result.{err_from_is_err_and}
-use Rattle.snap_topo.specs.Form.{link_cmp}
-use Rattle.snap_topo.specs.Answer.{ends, first_repeat, is_unknown}
+use Rattle.snap_topo.specs.Answer.{first_repeat, is_unknown}
 use Rattle.snap_topo.specs.Listing.{pair_text, spelled_by, string_texts}
-use Rattle.snap_topo.specs.Numbers.{numbered, port_at}
+use Rattle.snap_topo.specs.Spells.{numbered, port_at, ends, link_cmp}
 use Rattle.snap_topo.proofs.Stages.{all-known, unknown-links, unknown-ports}
 use Rattle.snap_topo.proofs.resolve.resolve.Goals as goal
 

@@ -2,7 +2,8 @@ use Rattle.std.proofs.Common.{rules, ◌≡◌, Ok, false, [], ◌∷◌, ◌++�
 use Rattle.snap_names.specs.declared.scope.Sense.TheVariants.{Policy}
 use Rattle.snap_names.specs.declared.fault.NameFault.TheVariants.{Twice}
 use Rattle.snap_names.specs.Senses.{word}
-use Rattle.snap_names.specs.Declarations.{is_known, with_let}
+use Rattle.snap_names.specs.Declarations.{with_let}
+use Rattle.snap_names.specs.Spells.{is_known}
 use Rattle.snap_names.specs.Parts.{names_in}
 use Rattle.snap_names.specs.Scopes.{declared_in}
 use Rattle.snap_names.proofs.Declaring.{HasDeclared-is, is_new, let_declared, IsBody-kept}
