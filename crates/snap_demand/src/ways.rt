@@ -26,7 +26,7 @@ fn way(here: Switches, routes: &Routes, at: u16, target: u16) -> Switches
 }
 
 /// With the switches on the ways to the target from all that are there. Takes time in proportion to the switches.
-pub fn ways(here: Switches, routes: &Routes, switches: u16, target: u16) -> Switches
+pub(crate) fn ways(here: Switches, routes: &Routes, switches: u16, target: u16) -> Switches
     requires few { switch_count routes.now ≤ 256 }
     requires switches { switch_count routes.now ≡ switches }
     requires target { target < switch_count routes.now }
@@ -43,7 +43,7 @@ pub fn ways(here: Switches, routes: &Routes, switches: u16, target: u16) -> Swit
 }
 
 /// With the switches behind `at` on the way to the target, all of them.
-pub fn line(here: Switches, routes: &Routes, at: u16, target: u16) -> Switches
+pub(crate) fn line(here: Switches, routes: &Routes, at: u16, target: u16) -> Switches
     requires few { switch_count routes.now ≤ 256 }
     requires at { at < switch_count routes.now }
     requires target { target < switch_count routes.now }

@@ -71,7 +71,7 @@ fn asks_places(nodes: &Nodes<Leaf>, reached: &Reached, marks: &[bool], d: u64) -
 
 /// Which of the numbers that are reached are of diagrams that test places alone, each of them for no more
 /// once it holds what was asked, by their places. No clause says that any is marked. Refuses for memory alone.
-pub fn mark_places(nodes: &Nodes<Leaf>, reached: &Reached) -> Result<Vec<bool>, NoMemory>
+pub(crate) fn mark_places(nodes: &Nodes<Leaf>, reached: &Reached) -> Result<Vec<bool>, NoMemory>
     requires { All (λ d. d < length nodes.now) reached.now.ids.items }
     ensures { IfOk result (λ marks. ArePlaced nodes.now reached.now.ids.items marks.items) }
 {
@@ -193,7 +193,7 @@ const MOST: u64 = 2_147_483_648;
 
 /// Whether a diagram tests places alone, of free components and behind all facts on its arrays, as far
 /// as marks tell: then each way of each test is met under the context.
-pub fn stays_free(
+pub(crate) fn stays_free(
     nodes: &Nodes<Leaf>,
     groups: &Groups,
     ctx: &Context,

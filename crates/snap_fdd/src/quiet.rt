@@ -100,7 +100,7 @@ fn is_quiet(nodes: &Nodes<Leaf>, survey: &Survey, reached: &Reached, quiet: &[bo
 
 /// Which of the numbers that are reached are of quiet diagrams, by their places. Those that are marked are; no clause
 /// says which are marked, or that any is. Refuses for memory alone.
-pub fn quiet_ones(
+pub(crate) fn quiet_ones(
     nodes: &Nodes<Leaf>,
     survey: &Survey,
     reached: &Reached,
@@ -151,7 +151,7 @@ fn all_before(groups: &Groups, survey: &Survey, facts: &Facts, test: &Test) -> b
 }
 
 /// Whether each way of each test of a diagram is met under a context, as far as marks tell.
-pub fn stays(
+pub(crate) fn stays(
     nodes: &Nodes<Leaf>,
     groups: &Groups,
     ctx: &Context,

@@ -56,7 +56,7 @@ fn excludes(a: &Test, b: &Test) -> bool
 /// What a test answers where another has an answer, as far as their subjects tell: the answer itself
 /// where they are the same, and no where the other passes and asks another number of one subject. None may be
 /// answered wherever the tests differ.
-pub fn told(test: &Test, yes: bool, other: &Test) -> Option<bool>
+pub(crate) fn told(test: &Test, yes: bool, other: &Test) -> Option<bool>
     ensures some { IfSome result (λ b. (m : Arrays) (k : List ℕ) → passes test.now m k ≡ yes → passes other.now m k ≡ b) }
     ensures none { IfNone result (test.now ≢ other.now) }
 {

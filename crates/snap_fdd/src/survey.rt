@@ -103,7 +103,7 @@ impl Survey {
 
     /// Whether a test is of a number or of its place's one term, at a subject that no other turns out
     /// to be.
-    pub fn is_fine(&self, test: &Test) -> bool
+    pub(crate) fn is_fine(&self, test: &Test) -> bool
         ensures { IsTrue result → IsFine self.now test.now }
     {
         match test {
@@ -175,7 +175,11 @@ fn all_judged(alloc: Global, values: u64, arrays: Vec<Seen>) -> Result<Vec<Seen>
 
 /// What the tests of the nodes that are reached are. Places of an array that may turn out to be one aren't told
 /// apart; no clause says that others are. Refuses for memory alone.
-pub fn look_over(nodes: &Nodes<Leaf>, arrays: usize, reached: &Reached) -> Result<Survey, NoMemory>
+pub(crate) fn look_over(
+    nodes: &Nodes<Leaf>,
+    arrays: usize,
+    reached: &Reached,
+) -> Result<Survey, NoMemory>
     requires { All (λ d. d < length nodes.now) reached.now.ids.items }
     ensures { IfOk result IsClear }
 {

@@ -88,7 +88,7 @@ fn test_tested(test: &Test) -> Tested
 }
 
 /// The mark at a place, where there is one.
-pub fn noted_mark(marks: &[Option<Tested>], place: usize) -> Option<Tested>
+pub(crate) fn noted_mark(marks: &[Option<Tested>], place: usize) -> Option<Tested>
     ensures { IfSome result (λ mark. slice_get marks.now place ≡ Some (Some mark)) }
 {
     *marks.get(place)?
@@ -133,7 +133,10 @@ fn next_tested(
 
 /// The marks of the numbers that are reached, by their places. Each has one, since its ways stand before it; what
 /// is marked may be more than is tested. Refuses for memory alone.
-pub fn mark_tests(nodes: &Nodes<Leaf>, reached: &Reached) -> Result<Vec<Option<Tested>>, NoMemory>
+pub(crate) fn mark_tests(
+    nodes: &Nodes<Leaf>,
+    reached: &Reached,
+) -> Result<Vec<Option<Tested>>, NoMemory>
     requires { All (λ d. d < length nodes.now) reached.now.ids.items }
     ensures { IfOk result (λ marks. AreTested nodes.now reached.now.ids.items marks.items) }
 {

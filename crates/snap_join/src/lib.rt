@@ -3,6 +3,6 @@
 
 pub mod choosing;
 pub mod joining;
-pub mod leaves;
+mod leaves;
 pub mod negating;
-pub mod uniting;
+mod uniting;

@@ -1,5 +1,5 @@
 //! Examples: a store and a packet that meet the facts of a context.
 #![tactic(auto)]
 
-pub mod ask;
+mod ask;
 pub mod example;

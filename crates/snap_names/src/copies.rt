@@ -10,7 +10,7 @@ use std::alloc::Global;
 
 /// An equal predicate.
 #[cycle(tests)]
-pub fn copy_test(alloc: Global, test: &Pred) -> Result<Pred, NameFault>
+pub(crate) fn copy_test(alloc: Global, test: &Pred) -> Result<Pred, NameFault>
     ensures ok { IfOk result (λ copy. core_test copy ≡ core_test test.now) }
     ensures err { IfErr result (λ f. f ≡ NoMemory) }
 {
@@ -55,7 +55,7 @@ fn boxed_test(alloc: Global, test: &Pred) -> Result<Box<Pred>, NameFault>
 
 /// An equal policy.
 #[cycle(policies)]
-pub fn copy_policy(alloc: Global, policy: &Pol) -> Result<Pol, NameFault>
+pub(crate) fn copy_policy(alloc: Global, policy: &Pol) -> Result<Pol, NameFault>
     ensures ok { IfOk result (λ copy. core_policy copy ≡ core_policy policy.now) }
     ensures err { IfErr result (λ f. f ≡ NoMemory) }
 {

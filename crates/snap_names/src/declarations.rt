@@ -74,7 +74,7 @@ fn add_names(
 
 impl<'a> Scope<'a> {
     /// The two plain fields that are declared before a text.
-    pub fn ports(alloc: Global, text: &'a [u8]) -> Result<Scope<'a>, NameFault>
+    pub(crate) fn ports(alloc: Global, text: &'a [u8]) -> Result<Scope<'a>, NameFault>
         ensures ok { IfOk result (λ s. HasDeclared text.now (Ok ports) s []) }
         ensures err { IfErr result (λ f. f ≡ NoMemory) }
     {
@@ -209,7 +209,7 @@ impl<'a> Scope<'a> {
     }
 
     /// A policy whose nodes are counted from 0.
-    pub fn body(&self, tally: &mut Tally, tree: &Policy) -> Result<Part, NameFault>
+    pub(crate) fn body(&self, tally: &mut Tally, tree: &Policy) -> Result<Part, NameFault>
         ensures { Reads self.now (λ e arities. read_policy e (policy_tree tree.now) arities) (record tally.old { nodes = 0 }) tally.new result }
     {
         tally.nodes = 0;
@@ -217,7 +217,7 @@ impl<'a> Scope<'a> {
     }
 
     /// A declaration.
-    pub fn declare(&mut self, tally: &mut Tally, decl: &Decl) -> Result<(), NameFault>
+    pub(crate) fn declare(&mut self, tally: &mut Tally, decl: &Decl) -> Result<(), NameFault>
         ensures { Declares (decl_tree decl.now) self.old self.new tally.old.arities.items tally.new.arities.items result }
     {
         match decl {

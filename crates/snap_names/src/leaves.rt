@@ -14,7 +14,12 @@ use snap_parse::{Span, Value};
 
 impl Scope<'_> {
     /// `name = value` of a field
-    pub fn test_part(&self, tally: &mut Tally, name: Span, value: Value) -> Result<Part, NameFault>
+    pub(crate) fn test_part(
+        &self,
+        tally: &mut Tally,
+        name: Span,
+        value: Value,
+    ) -> Result<Part, NameFault>
         ensures { Reads self.now (λ e arities. read_single e (test_tree name value) arities) tally.old tally.new result }
     {
         let test = self.field_equals(name, value)?;
@@ -22,7 +27,12 @@ impl Scope<'_> {
     }
 
     /// `name <- value` of a field
-    pub fn set_part(&self, tally: &mut Tally, name: Span, value: Value) -> Result<Part, NameFault>
+    pub(crate) fn set_part(
+        &self,
+        tally: &mut Tally,
+        name: Span,
+        value: Value,
+    ) -> Result<Part, NameFault>
         ensures { Reads self.now (λ e arities. read_single e (set_tree name value) arities) tally.old tally.new result }
     {
         let set = self.field_gets(name, value)?;
@@ -30,7 +40,7 @@ impl Scope<'_> {
     }
 
     /// `name places`
-    pub fn bare_part(
+    pub(crate) fn bare_part(
         &self,
         tally: &mut Tally,
         name: Span,
@@ -43,7 +53,7 @@ impl Scope<'_> {
     }
 
     /// `name places = value`
-    pub fn array_test_part(
+    pub(crate) fn array_test_part(
         &self,
         tally: &mut Tally,
         name: Span,
@@ -57,7 +67,7 @@ impl Scope<'_> {
     }
 
     /// `name places <- value`
-    pub fn array_set_part(
+    pub(crate) fn array_set_part(
         &self,
         tally: &mut Tally,
         name: Span,
@@ -71,7 +81,7 @@ impl Scope<'_> {
     }
 
     /// `name places++`, or `name places--`, by the number that it adds
-    pub fn step_part(
+    pub(crate) fn step_part(
         &self,
         tally: &mut Tally,
         name: Span,
@@ -85,7 +95,7 @@ impl Scope<'_> {
     }
 
     /// `name places += value`
-    pub fn array_add_part(
+    pub(crate) fn array_add_part(
         &self,
         tally: &mut Tally,
         name: Span,
@@ -99,7 +109,7 @@ impl Scope<'_> {
     }
 
     /// `name places -= value`
-    pub fn array_sub_part(
+    pub(crate) fn array_sub_part(
         &self,
         tally: &mut Tally,
         name: Span,

@@ -86,7 +86,7 @@ impl Scope<'_> {
     }
 
     /// The program with this body, if it is within all limits.
-    pub fn limited(self, tally: Tally, body: Part) -> Result<Program, NameFault>
+    pub(crate) fn limited(self, tally: Tally, body: Part) -> Result<Program, NameFault>
         requires { AreFields self }
         ensures ok { IfOk result (λ program. Limits self.entry tally body (λ r. r ≡ Ok (core_program program))) }
         ensures refused { IfErr result (λ f. f ≢ NoMemory → Limits self.entry tally body (λ r. r ≡ Err f)) }

@@ -14,7 +14,7 @@ use snap_core::policy::{Pol, Pred};
 use std::alloc::Global;
 
 /// The greatest number of core nodes of a program.
-pub const MOST_NODES: u64 = 2000;
+pub(crate) const MOST_NODES: u64 = 2000;
 
 // Whether a policy is a filter.
 fn is_filter(policy: &Pol) -> bool
@@ -28,7 +28,7 @@ fn is_filter(policy: &Pol) -> bool
 
 impl Tally {
     /// Counts core nodes.
-    pub fn count(&mut self, nodes: u64)
+    pub(crate) fn count(&mut self, nodes: u64)
         ensures nodes { self.new.nodes ≡ capped (self.old.nodes + nodes) }
         ensures arities { self.new.arities.items ≡ self.old.arities.items }
     {
@@ -36,7 +36,7 @@ impl Tally {
     }
 
     /// Counts one core node. Whether all are within the limit then.
-    pub fn has_room(&mut self) -> bool
+    pub(crate) fn has_room(&mut self) -> bool
         ensures room { self.new.nodes ≤ 2000 → result ≡ true }
         ensures nodes { self.new.nodes ≡ capped (self.old.nodes + 1) }
         ensures arities { self.new.arities.items ≡ self.old.arities.items }
@@ -46,7 +46,7 @@ impl Tally {
     }
 
     /// A whole policy as a part.
-    pub fn leaf(&mut self, policy: Pol) -> Part
+    pub(crate) fn leaf(&mut self, policy: Pol) -> Part
         ensures part { IsPart (core_policy policy) self.new.nodes result }
         ensures nodes { self.new.nodes ≡ capped (self.old.nodes + nodes (core_policy policy)) }
         ensures arities { self.new.arities.items ≡ self.old.arities.items }
@@ -235,7 +235,7 @@ fn whole(alloc: Global, policy: Option<Pol>) -> Result<Option<Pol>, NameFault>
 }
 
 /// `!part`
-pub fn not(alloc: Global, tally: &mut Tally, part: Part) -> Result<Part, NameFault>
+pub(crate) fn not(alloc: Global, tally: &mut Tally, part: Part) -> Result<Part, NameFault>
     ensures part { IfOk result (λ r. (x : CoreTest) → IsPart (filter x) tally.old.nodes part → IsPart (filter (not_test x)) tally.new.nodes r) }
     ensures nodes { OnOk result (tally.new.nodes ≡ capped (tally.old.nodes + 1)) }
     ensures arities { OnOk result (tally.new.arities.items ≡ tally.old.arities.items) }
@@ -252,7 +252,7 @@ pub fn not(alloc: Global, tally: &mut Tally, part: Part) -> Result<Part, NameFau
 }
 
 /// `atomic(part)`
-pub fn atomic(alloc: Global, tally: &mut Tally, part: Part) -> Result<Part, NameFault>
+pub(crate) fn atomic(alloc: Global, tally: &mut Tally, part: Part) -> Result<Part, NameFault>
     ensures part { IfOk result (λ r. (p : CorePolicy) → IsPart p tally.old.nodes part → IsPart (atomic p) tally.new.nodes r) }
     ensures nodes { OnOk result (tally.new.nodes ≡ capped (tally.old.nodes + 1)) }
     ensures arities { OnOk result (tally.new.arities.items ≡ tally.old.arities.items) }
@@ -269,7 +269,7 @@ pub fn atomic(alloc: Global, tally: &mut Tally, part: Part) -> Result<Part, Name
 }
 
 /// `before & next` or `before | next`, or what stands alone
-pub fn join_tests(
+pub(crate) fn join_tests(
     alloc: Global,
     tally: &mut Tally,
     join: TestJoin,
@@ -295,7 +295,7 @@ pub fn join_tests(
 }
 
 /// `before + next` or `before ; next`, or what stands alone
-pub fn join_policies(
+pub(crate) fn join_policies(
     alloc: Global,
     tally: &mut Tally,
     join: PolicyJoin,
@@ -321,7 +321,7 @@ pub fn join_policies(
 }
 
 /// `if test then yes else no`
-pub fn choice(
+pub(crate) fn choice(
     alloc: Global,
     tally: &mut Tally,
     test: Part,

@@ -110,7 +110,7 @@ impl Scope<'_> {
     }
 
     /// `name places`
-    pub fn place(
+    pub(crate) fn place(
         &self,
         tally: &mut Tally,
         name: Span,

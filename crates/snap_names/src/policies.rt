@@ -13,7 +13,7 @@ use snap_parse::{Both, Choice, Either, Policy, Sequence, Single};
 impl Scope<'_> {
     /// The core policy of sequences joined by `+`.
     #[cycle(reader)]
-    pub fn policy(&self, tally: &mut Tally, tree: &Policy) -> Result<Part, NameFault>
+    pub(crate) fn policy(&self, tally: &mut Tally, tree: &Policy) -> Result<Part, NameFault>
         ensures { Reads self.now (λ e arities. read_policy e (policy_tree tree.now) arities) tally.old tally.new result }
     {
         let mut parts: Option<Part> = None;

@@ -13,7 +13,7 @@ use snap_core::policy::{Pol, Pred};
 
 impl Tally {
     /// A repeated part: its operands, or `id` where there are none.
-    pub fn whole(&mut self, parts: Option<Part>) -> Part
+    pub(crate) fn whole(&mut self, parts: Option<Part>) -> Part
         ensures policies { (r : Result (Option CorePolicy × Arities) NameFault) (old : Tally) → HaveRead r old self.old parts → HasRead (after r whole) old self.new result }
         ensures tests { (r : Result (Option CoreTest × Arities) NameFault) (old : Tally) → HaveReadTests r old self.old parts → HasRead (after r whole_test) old self.new result }
     {

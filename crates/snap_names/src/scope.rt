@@ -70,7 +70,7 @@ pub struct Scope<'a> {
 
 impl Scope<'_> {
     /// The text of a token.
-    pub fn word(&self, token: Span) -> &[u8]
+    pub(crate) fn word(&self, token: Span) -> &[u8]
         ensures { result.now ≡ word (words_of self.now).text token }
     {
         let (from, to) = (token.from as usize, token.to as usize);
@@ -82,7 +82,7 @@ impl Scope<'_> {
     }
 
     /// What a name stands for.
-    pub fn sense(&self, name: Span) -> Result<Sense, NameFault>
+    pub(crate) fn sense(&self, name: Span) -> Result<Sense, NameFault>
         ensures { result ≡ sense_of (words_of self.now) name }
     {
         match self.names.get(self.word(name)) {

@@ -92,7 +92,7 @@ impl Scope<'_> {
     }
 
     /// `name = value` of a field
-    pub fn field_equals(&self, name: Span, value: Value) -> Result<Pred, NameFault>
+    pub(crate) fn field_equals(&self, name: Span, value: Value) -> Result<Pred, NameFault>
         ensures ok { IfOk result (λ x. field_equals (words_of self.now) name value ≡ Ok (core_test x)) }
         ensures err { Refuses (field_equals (words_of self.now) name value) result }
     {
@@ -125,7 +125,7 @@ impl Scope<'_> {
     }
 
     /// `name <- value` of a field
-    pub fn field_gets(&self, name: Span, value: Value) -> Result<Pol, NameFault>
+    pub(crate) fn field_gets(&self, name: Span, value: Value) -> Result<Pol, NameFault>
         ensures ok { IfOk result (λ p. field_gets (words_of self.now) name value ≡ Ok (core_policy p)) }
         ensures err { Refuses (field_gets (words_of self.now) name value) result }
     {
@@ -143,7 +143,7 @@ impl Scope<'_> {
     }
 
     /// A lone name.
-    pub fn named(&self, tally: &mut Tally, name: Span) -> Result<Part, NameFault>
+    pub(crate) fn named(&self, tally: &mut Tally, name: Span) -> Result<Part, NameFault>
         ensures { Reads self.now (λ e arities. after (named e name) (λ p. Ok (p, arities))) tally.old tally.new result }
     {
         match self.sense(name)? {
@@ -156,7 +156,12 @@ impl Scope<'_> {
     }
 
     /// `name places`
-    pub fn bare(&self, tally: &mut Tally, name: Span, places: &[Value]) -> Result<Pol, NameFault>
+    pub(crate) fn bare(
+        &self,
+        tally: &mut Tally,
+        name: Span,
+        places: &[Value],
+    ) -> Result<Pol, NameFault>
         ensures policy { ReadsSimple (after (place (words_of self.now) tally.old.arities.items name places.now) (tested (Ok (Num 1)))) tally.new result }
         ensures nodes { tally.new.nodes ≡ tally.old.nodes }
     {
@@ -169,7 +174,7 @@ impl Scope<'_> {
     }
 
     /// `name places = value`
-    pub fn array_test(
+    pub(crate) fn array_test(
         &self,
         tally: &mut Tally,
         name: Span,
@@ -189,7 +194,7 @@ impl Scope<'_> {
     }
 
     /// `name places <- value`
-    pub fn array_set(
+    pub(crate) fn array_set(
         &self,
         tally: &mut Tally,
         name: Span,
@@ -209,7 +214,7 @@ impl Scope<'_> {
     }
 
     /// `name places++`, or `name places--`, by the number that it adds
-    pub fn array_step(
+    pub(crate) fn array_step(
         &self,
         tally: &mut Tally,
         name: Span,
@@ -228,7 +233,7 @@ impl Scope<'_> {
     }
 
     /// `name places += value`
-    pub fn array_add(
+    pub(crate) fn array_add(
         &self,
         tally: &mut Tally,
         name: Span,
@@ -248,7 +253,7 @@ impl Scope<'_> {
     }
 
     /// `name places -= value`
-    pub fn array_sub(
+    pub(crate) fn array_sub(
         &self,
         tally: &mut Tally,
         name: Span,

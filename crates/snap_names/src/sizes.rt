@@ -7,24 +7,24 @@ ghost use Rattle.snap_names.specs.Declarations.{capped};
 use snap_core::policy::{Pol, Pred};
 
 /// The greatest number that is kept.
-pub const MOST_KEPT: u64 = 4294967295;
+pub(crate) const MOST_KEPT: u64 = 4294967295;
 
 /// A sum, kept.
-pub fn sum(a: u64, b: u64) -> u64
+pub(crate) fn sum(a: u64, b: u64) -> u64
     ensures { result ≡ capped (a + b) }
 {
     a.saturating_add(b).min(MOST_KEPT)
 }
 
 /// A product, kept.
-pub fn product(a: u64, b: u64) -> u64
+pub(crate) fn product(a: u64, b: u64) -> u64
     ensures { result ≡ capped (a * b) }
 {
     a.saturating_mul(b).min(MOST_KEPT)
 }
 
 /// The core nodes of a predicate.
-pub fn test_nodes(test: &Pred) -> u64
+pub(crate) fn test_nodes(test: &Pred) -> u64
     ensures { result ≡ capped (test_nodes (core_test test.now)) }
 {
     match test {
@@ -36,7 +36,7 @@ pub fn test_nodes(test: &Pred) -> u64
 }
 
 /// The weight of a predicate.
-pub fn test_weight(test: &Pred) -> u64
+pub(crate) fn test_weight(test: &Pred) -> u64
     ensures { result ≡ capped (test_weight (core_test test.now)) }
 {
     match test {
@@ -49,7 +49,7 @@ pub fn test_weight(test: &Pred) -> u64
 }
 
 /// The core nodes of a policy.
-pub fn nodes(policy: &Pol) -> u64
+pub(crate) fn nodes(policy: &Pol) -> u64
     ensures { result ≡ capped (nodes (core_policy policy.now)) }
 {
     match policy {
@@ -63,7 +63,7 @@ pub fn nodes(policy: &Pol) -> u64
 }
 
 /// The weight of a policy.
-pub fn weight(policy: &Pol) -> u64
+pub(crate) fn weight(policy: &Pol) -> u64
     ensures { result ≡ capped (weight (core_policy policy.now)) }
 {
     match policy {

@@ -12,14 +12,14 @@ use snap_core::policy::Atom;
 use snap_parse::{Literal, Span, Value};
 
 /// Whether a literal is an address.
-pub fn is_address(literal: Literal) -> bool
+pub(crate) fn is_address(literal: Literal) -> bool
     ensures { result ≡ is_address literal }
 {
     matches!(literal, Literal::Address(_))
 }
 
 /// Where a literal begins.
-pub fn literal_from(literal: Literal) -> u32
+pub(crate) fn literal_from(literal: Literal) -> u32
     ensures { result ≡ literal_from literal }
 {
     match literal {
@@ -31,14 +31,14 @@ pub fn literal_from(literal: Literal) -> u32
 }
 
 /// The net of an address: its first bits.
-pub fn net(prefix: u8, address: u64) -> u64
+pub(crate) fn net(prefix: u8, address: u64) -> u64
     ensures { result ≡ net prefix address }
 {
     address / (1 << 32u8.saturating_sub(prefix))
 }
 
 /// The host of an address: the bits behind the net.
-pub fn host(prefix: u8, address: u64) -> u64
+pub(crate) fn host(prefix: u8, address: u64) -> u64
     ensures { result ≡ host prefix address }
 {
     address % (1 << 32u8.saturating_sub(prefix))
@@ -114,7 +114,7 @@ fn split_of_sense(prefix: u8, at: u32, sense: Sense) -> Result<(Atom, Atom), Nam
 
 impl Scope<'_> {
     /// The number that a token spells.
-    pub fn number(&self, token: Span) -> Result<u64, NameFault>
+    pub(crate) fn number(&self, token: Span) -> Result<u64, NameFault>
         ensures { result ≡ number_at (words_of self.now).text token }
     {
         match figures::number(self.word(token)) {
@@ -124,7 +124,7 @@ impl Scope<'_> {
     }
 
     /// The number of the address that a token spells.
-    pub fn address(&self, token: Span) -> Result<u64, NameFault>
+    pub(crate) fn address(&self, token: Span) -> Result<u64, NameFault>
         ensures { result ≡ address_at (words_of self.now).text token }
     {
         match figures::address(self.word(token)) {
@@ -134,7 +134,7 @@ impl Scope<'_> {
     }
 
     /// The number of a literal.
-    pub fn literal(&self, value: Literal) -> Result<u64, NameFault>
+    pub(crate) fn literal(&self, value: Literal) -> Result<u64, NameFault>
         ensures { result ≡ literal (words_of self.now).text value }
     {
         match value {
@@ -146,7 +146,7 @@ impl Scope<'_> {
     }
 
     /// A literal or a constant.
-    pub fn constant(&self, value: Value) -> Result<u64, NameFault>
+    pub(crate) fn constant(&self, value: Value) -> Result<u64, NameFault>
         ensures { result ≡ constant (words_of self.now) value }
     {
         match value {
@@ -157,7 +157,7 @@ impl Scope<'_> {
     }
 
     /// What stands behind `<-` of a plain field: a literal, a constant or a plain field.
-    pub fn field_atom(&self, value: Value) -> Result<Atom, NameFault>
+    pub(crate) fn field_atom(&self, value: Value) -> Result<Atom, NameFault>
         ensures { result ≡ field_atom (words_of self.now) value }
     {
         match value {
@@ -168,7 +168,7 @@ impl Scope<'_> {
     }
 
     /// What stands behind `=` and `<-` of an array: the same, where a prefix is a fault of its own.
-    pub fn array_atom(&self, value: Value) -> Result<Atom, NameFault>
+    pub(crate) fn array_atom(&self, value: Value) -> Result<Atom, NameFault>
         ensures { result ≡ array_atom (words_of self.now) value }
     {
         match value {
@@ -192,7 +192,7 @@ impl Scope<'_> {
 
     /// What stands behind `<-` of a split field: an address, a constant that is one, or a split field of the same
     /// prefix length.
-    pub fn split_atoms(&self, prefix: u8, value: Value) -> Result<(Atom, Atom), NameFault>
+    pub(crate) fn split_atoms(&self, prefix: u8, value: Value) -> Result<(Atom, Atom), NameFault>
         ensures { result ≡ split_atoms (words_of self.now) prefix value }
     {
         match value {
@@ -203,7 +203,7 @@ impl Scope<'_> {
     }
 
     /// The number of an address or of a constant that is one, which a split field is compared with.
-    pub fn split_address(&self, value: Value) -> Result<u64, NameFault>
+    pub(crate) fn split_address(&self, value: Value) -> Result<u64, NameFault>
         ensures { result ≡ split_address (words_of self.now) value }
     {
         match value {
@@ -214,7 +214,12 @@ impl Scope<'_> {
     }
 
     /// The net of a prefix that a split field of this length is compared with.
-    pub fn split_net(&self, prefix: u8, address: Span, length: Span) -> Result<u64, NameFault>
+    pub(crate) fn split_net(
+        &self,
+        prefix: u8,
+        address: Span,
+        length: Span,
+    ) -> Result<u64, NameFault>
         ensures { result ≡ split_net (words_of self.now) prefix address length }
     {
         if figures::number(self.word(length)) == Some(u64::from(prefix)) {

@@ -4,7 +4,7 @@
 mod draft;
 mod entries;
 pub mod fault;
-pub mod item;
+mod item;
 pub mod laws;
 mod leaf;
 mod line;

@@ -34,7 +34,7 @@ pub struct Told<'a> {
 
 /// What the words behind a command say. `Usage` where they are not of the form: an option that is
 /// unknown or comes twice, or a name or a value that is empty or begins with `-`.
-pub fn read<'a>(alloc: Global, words: &'a [&'a str]) -> Result<Told<'a>, WordsFault>
+pub(crate) fn read<'a>(alloc: Global, words: &'a [&'a str]) -> Result<Told<'a>, WordsFault>
     requires { IsTrue (list_all is_utf8 (lent words.now)) }
     ensures ok { IfOk result (λ t. told_by (lent words.entry.now) ≡ Some (said t)) }
     ensures usage { IfErr result (λ e. e ≡ WordsFault.Usage → told_by (lent words.entry.now) ≡ None) }
