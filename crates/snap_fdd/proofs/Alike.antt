@@ -18,13 +18,13 @@ use Rattle.snap_ctx.proofs.Last.{with_last, last_parts, Meets-with_last}
 use Rattle.snap_ctx.proofs.Each.{Each-left, Each-right}
 use Rattle.snap_ctx.proofs.Fitting.{is_test}
 use Rattle.snap_ctx.proofs.Knowing.{known_alike}
+use Rattle.snap_ctx.specs.declared.tested.Tested.{Tested}
 use Rattle.snap_core.specs.Cells.{Cells}
 use Rattle.snap_core.specs.Inputs.{IsPacket}
 use Rattle.snap_arena.specs.declared.node.Node.{Node}
 use Rattle.snap_arena.specs.Arena.{Grew}
 use Rattle.snap_arena.specs.Memos.{Remembers}
 use Rattle.snap_arena.proofs.Remembering.{remembers_weaker}
-use Rattle.snap_fdd.specs.declared.tested.Tested.{Tested}
 use Rattle.snap_fdd.specs.Bounds.{Sizes, IsIn, TestIn}
 use Rattle.snap_fdd.specs.Contexts.{Met}
 use Rattle.snap_fdd.specs.Diagrams.{Diagram, Only, Asks, walk, depth, diagram}

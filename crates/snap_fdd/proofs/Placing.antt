@@ -20,8 +20,8 @@ use Rattle.snap_ctx.specs.Meets.{Meets}
 use Rattle.snap_ctx.specs.View.{View, IsContext}
 use Rattle.snap_ctx.proofs.Last.{with_last, last_parts}
 use Rattle.snap_ctx.proofs.Model.{model}
+use Rattle.snap_ctx.specs.declared.tested.Tested.{Tested}
 use Rattle.snap_dep.specs.Ranks.{Grouping}
-use Rattle.snap_fdd.specs.declared.tested.Tested.{Tested}
 use Rattle.snap_fdd.specs.Bounds.{Sizes, IsIn, TestIn}
 use Rattle.snap_fdd.specs.Contexts.{Met}
 use Rattle.snap_fdd.specs.Diagrams.{Diagram, Only, Asks, depth}

@@ -5,6 +5,7 @@ use Rattle.snap_core.specs.Cells.{Cells}
 use Rattle.snap_dep.specs.Ranks.{Grouping}
 use Rattle.snap_ctx.specs.Known.{IsKnown}
 use Rattle.snap_ctx.specs.View.{View, IsContext}
+use Rattle.snap_ctx.specs.declared.tested.Tested.{Tested}
 use Rattle.snap_arena.specs.declared.node.Node.{Node}
 use Rattle.snap_arena.specs.Memos.{Remembers}
 use Rattle.snap_fdd.specs.declared.leaf.Leaf.{Leaf}
@@ -16,7 +17,6 @@ use Rattle.snap_fdd.specs.Pruned.{IsPruned}
 use Rattle.snap_fdd.specs.Quiet.{IsMarked}
 use Rattle.snap_fdd.specs.Tested.{AreTested, TestsOver}
 use Rattle.snap_fdd.specs.declared.pruning.Plan.{Plan}
-use Rattle.snap_fdd.specs.declared.tested.Tested.{Tested}
 
 -- the number d is that of a test before two diagrams
 pub record IsPicked (ranks : List ℕ) (s : Sizes) (t : Test) (ns : List (Node Leaf)) (a b d : ℕ) : Type 0 where

@@ -6,6 +6,7 @@ use Rattle.snap_core.specs.Arrays.{Arrays}
 use Rattle.snap_core.specs.Listing.{number_in}
 use Rattle.snap_core.specs.Inputs.{IsStore}
 use Rattle.snap_ctx.specs.View.{View}
+use Rattle.snap_ctx.specs.declared.tested.Tested.{Tested}
 use Rattle.snap_arena.specs.declared.node.Node.{Node}
 use Rattle.snap_fdd.specs.declared.leaf.Leaf.{Leaf}
 use Rattle.snap_fdd.specs.declared.pruning.Part.{Part}
@@ -15,7 +16,6 @@ use Rattle.snap_fdd.specs.Diagrams.{Diagram, Only, Asks, walk, depth, diagram}
 use Rattle.snap_fdd.specs.Order.{Above}
 use Rattle.snap_fdd.specs.Bounds.{Sizes}
 use Rattle.snap_fdd.specs.Picks.{IsDiagram, Where}
-use Rattle.snap_fdd.specs.declared.tested.Tested.{Tested}
 use Rattle.snap_fdd.specs.Tested.{TestsOver}
 
 -- some finite store and some packet are of a set of them

@@ -1,10 +1,10 @@
 -- The components and arrays that a diagram tests, as marks tell.
-use Rattle.std.specs.Prelude.{ℕ, List, Option, IfSome, bit_or}
+use Rattle.std.specs.Prelude.{ℕ, List, Option, IfSome}
 use Rattle.snap_ctx.specs.Known.{TestOver}
 use Rattle.snap_ctx.specs.Ranges.{TestInRange}
+use Rattle.snap_ctx.specs.declared.tested.Tested.{Tested}
 use Rattle.snap_arena.specs.declared.node.Node.{Node}
 use Rattle.snap_fdd.specs.declared.leaf.Leaf.{Leaf}
-use Rattle.snap_fdd.specs.declared.tested.Tested.{Tested}
 use Rattle.snap_fdd.specs.Diagrams.{Diagram, Only, Asks}
 use Rattle.snap_fdd.specs.Reached.{AreNoted}
 
@@ -16,7 +16,3 @@ TestsOver e (Asks t y n) = TestOver e.comps e.arrays t × TestInRange t × Tests
 -- what the tests of each number's diagram are about, by its place, where that is known
 abbrev pub AreTested : List (Node Leaf) → List ℕ → List (Option Tested) → Type 0
 AreTested = AreNoted (λ o d. IfSome o (λ e. TestsOver e d))
-
--- what either of two marks has
-abbrev pub either_tested : Tested → Tested → Tested
-either_tested a b = record { comps = bit_or a.comps b.comps; arrays = bit_or a.arrays b.arrays }

@@ -18,7 +18,7 @@ use crate::leaf::Leaf;
 use crate::pick::look;
 use crate::quiet::{begins_elsewhere, comes_before};
 use crate::reach::Reached;
-use crate::tested::{Tested, mark_at};
+use crate::tested::mark_at;
 use snap_arena::node::Node;
 use snap_arena::nodes::Nodes;
 use snap_core::NoMemory;
@@ -27,6 +27,7 @@ use snap_ctx::context::Context;
 use snap_ctx::fact::Fact;
 use snap_ctx::facts::Facts;
 use snap_ctx::sets::is_in;
+use snap_ctx::tested::Tested;
 use snap_dep::groups::Groups;
 
 fn is_place(test: &Test) -> bool

@@ -15,13 +15,14 @@ use crate::places::{mark_places, stays_free};
 use crate::quiet::{quiet_ones, stays};
 use crate::reach::{Reached, joins, reach_from};
 use crate::survey::{Survey, look_over};
-use crate::tested::{Tested, mark_tests, noted_mark};
+use crate::tested::{mark_tests, noted_mark};
 use snap_arena::node::Node;
 use snap_arena::nodes::Nodes;
 use snap_arena::numbers::Numbers;
 use snap_core::NoMemory;
 use snap_core::policy::Test;
 use snap_ctx::context::{Assumed, Context};
+use snap_ctx::tested::Tested;
 use snap_dep::groups::Groups;
 
 /// A diagram's test and ways, or nothing where it is a leaf.

@@ -6,10 +6,10 @@ use Rattle.snap_core.specs.Arrays.{has}
 use Rattle.snap_core.specs.declared.policy.Term.TheVariants.{Plus}
 use Rattle.snap_ctx.specs.Classes.{class_of}
 use Rattle.snap_ctx.specs.declared.fact.Fact.{Fact}
+use Rattle.snap_ctx.specs.declared.tested.Tested.{Tested}
 use Rattle.snap_fdd.specs.Diagrams.{diagram, depth, IsNodeOf}
 use Rattle.snap_fdd.specs.Places.{StandsAside}
 use Rattle.snap_fdd.specs.Tested.{TestsOver}
-use Rattle.snap_fdd.specs.declared.tested.Tested.{Tested}
 use Rattle.snap_fdd.proofs.Placing.{places_live}
 use Rattle.snap_fdd.proofs.Quieting.{depth_le}
 use Rattle.snap_fdd.proofs.places.stays_free.Goals as goal

@@ -1,8 +1,8 @@
 -- What the plan says of its marks.
 use Rattle.std.proofs.Common.{Bool, List, Option, subst, sym}
+use Rattle.snap_ctx.specs.declared.tested.Tested.{Tested}
 use Rattle.snap_fdd.specs.Places.{ArePlaced}
 use Rattle.snap_fdd.specs.Tested.{AreTested}
-use Rattle.snap_fdd.specs.declared.tested.Tested.{Tested}
 use Rattle.snap_fdd.proofs.pruning.is_live.Goals as goal
 
 pub stays_free-requires-clause-placed : goal.stays_free-requires-clause-placed

@@ -4,7 +4,7 @@ use Rattle.std.specs.Prelude.{Result, Ok, Err, IfOk, IfSome, slice_get}
 use Rattle.std.specs.Global.{Vec}
 use Rattle.snap_ctx.specs.declared.fact.Fact.{Fact}
 use Rattle.snap_ctx.specs.Known.{IsKnown}
-use Rattle.snap_fdd.specs.declared.tested.Tested.{Tested}
+use Rattle.snap_ctx.specs.declared.tested.Tested.{Tested}
 use Rattle.snap_fdd.specs.Memoed.{IsKey}
 use Rattle.snap_fdd.proofs.Quieting.{depth_le}
 use Rattle.snap_fdd.proofs.pruning.memo_key.Goals as goal

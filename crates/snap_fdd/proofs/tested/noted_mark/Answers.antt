@@ -2,7 +2,7 @@
 use Rattle.std.proofs.Common.{◌≡◌, ◌∙◌, ℕ, List, Option, Some, None, ap, sym}
 use Rattle.std.specs.Prelude.{IfSome, slice_get}
 use Rattle.std.proofs.lemmas.Option.{slice_get-get_or}
-use Rattle.snap_fdd.specs.declared.tested.Tested.{Tested}
+use Rattle.snap_ctx.specs.declared.tested.Tested.{Tested}
 use Rattle.snap_fdd.proofs.tested.noted_mark.Goals as goal
 
 where_some : (marks : List (Option Tested)) (place : ℕ) (o : Option Tested) → slice_get marks place ≡ Some o → IfSome o (λ mark. slice_get marks place ≡ Some (Some mark))
