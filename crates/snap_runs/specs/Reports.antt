@@ -1,5 +1,5 @@
 -- The report of a run of the network.
-use Rattle.std.specs.Prelude.{◌≡◌, ℕ, ◌+◌, ◌==◌, Bool, Some, List, ◌∷◌, ◌++◌, map, length, sum, codes, decimal, slice_get, unwrap_or, IsPermutation, IsSorted, if◌then◌else◌}
+use Rattle.std.specs.Prelude.{◌≡◌, ℕ, ◌+◌, ◌==◌, Bool, Some, List, [], ◌∷◌, ◌++◌, map, length, sum, codes, decimal, slice_get, unwrap_or, IsPermutation, IsSorted, if◌then◌else◌}
 use Rattle.std.specs.List.{concat}
 use Rattle.std.specs.Int.{to_be_bytes}
 use mir.Syntax.{w64}

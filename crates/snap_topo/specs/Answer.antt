@@ -1,5 +1,5 @@
 -- What is answered for a text: its first fault, or its topology.
-use Rattle.std.specs.Prelude.{Bool, ◌≡◌, ◌↔◌, ℕ, not, List, ◌∷◌, ◌++◌, length, map, find, Contains, Option, Some, None, if◌then◌else◌, nat_lt, Result, Ok, Err, IsOkAnd}
+use Rattle.std.specs.Prelude.{Bool, ◌≡◌, ◌↔◌, ℕ, not, List, [], ◌∷◌, ◌++◌, length, map, find, Contains, Option, Some, None, if◌then◌else◌, nat_lt, Result, Ok, Err, IsOkAnd}
 use Rattle.std.specs.List.{flat_map}
 use Rattle.std.specs.List.Sorted.{IsStrictlySortedBy}
 use Rattle.snap_core.specs.declared.program.Which.{Which}
