@@ -7,16 +7,6 @@ use Rattle.snap_core.specs.declared.policy.Pol.TheVariants.{Filter, Set, Change,
 use Rattle.snap_core.specs.declared.policy.Pred.{Pred}
 use Rattle.snap_core.specs.declared.policy.Pred.TheVariants.{Id, Drop, Field, State, Not', And', Or'}
 
--- An address of 32 bits is the net, its first n bits, and the host, the others.
-abbrev pub net : ℕ → ℕ → ℕ
-net n address = address / 2 ^ (32 - n)
-
-abbrev pub host : ℕ → ℕ → ℕ
-host n address = address % 2 ^ (32 - n)
-
-abbrev pub whole_test : ℕ → ℕ → ℕ → ℕ → CoreTest
-whole_test a b n address = and_test (field_test a (net n address)) (field_test b (host n address))
-
 pub data CoreTest : Type 0 where
   id_test : CoreTest
   drop_test : CoreTest
@@ -52,6 +42,16 @@ core_policy (Par' _ p _ q) = par (core_policy p) (core_policy q)
 core_policy (Seq' _ p _ q) = seq (core_policy p) (core_policy q)
 core_policy (If' x _ p _ q) = choice (core_test x) (core_policy p) (core_policy q)
 core_policy (Atomic' _ p) = atomic (core_policy p)
+
+-- An address of 32 bits is the net, its first n bits, and the host, the others.
+abbrev pub net : ℕ → ℕ → ℕ
+net n address = address / 2 ^ (32 - n)
+
+abbrev pub host : ℕ → ℕ → ℕ
+host n address = address % 2 ^ (32 - n)
+
+abbrev pub whole_test : ℕ → ℕ → ℕ → ℕ → CoreTest
+whole_test a b n address = and_test (field_test a (net n address)) (field_test b (host n address))
 
 abbrev pub is_filter : CorePolicy → Bool
 is_filter (filter x) = true
