@@ -1,4 +1,4 @@
-//! Additions in the order in which their tests come: what is added first and what last makes no difference.
+//! Updates in the order in which their tests come, where it makes no difference which comes first.
 
 ghost use Rattle.std.specs.Prelude.{◌≡◌, ℕ, IfOk, IsTrue, List};
 ghost use Rattle.std.specs.List.{AllByRecursion};
@@ -7,6 +7,7 @@ ghost use Rattle.snap_core.specs.Arrays.{Arrays, updates};
 ghost use Rattle.snap_core.specs.Inputs.{IsStore};
 ghost use Rattle.snap_chain.specs.Additions.{Adds};
 
+use crate::fixed::{all_fixed, lateness};
 use snap_core::NoMemory;
 use snap_core::policy::{Atom, Op, Update, copy_updates};
 use std::alloc::Global;
@@ -40,8 +41,8 @@ fn falling(a: &Update, b: &Update) -> Ordering {
     begins(b).cmp(&begins(a))
 }
 
-/// Updates that do the same. Where all are additions, those whose places are tested first come last: a
-/// test behind them asks about the last one first, and so makes few nodes.
+/// Updates that do the same. Where all are additions, or all are at numbers, those whose places are tested first come last,
+/// and of those at one number the order stays: a test behind them asks about the last one first, and so makes few nodes.
 pub(crate) fn ordered(alloc: Global, ups: &[Update]) -> Result<Vec<Update>, NoMemory>
     ensures same { IfOk result (λ o. (m : Arrays) (k : List ℕ) → IsStore m → updates m o.items k ≡ updates m ups.now k) }
     ensures permuted { IfOk result (λ o. IsPermutation ups.now o.items) }
@@ -49,6 +50,8 @@ pub(crate) fn ordered(alloc: Global, ups: &[Update]) -> Result<Vec<Update>, NoMe
     let mut ordered = copy_updates(alloc, ups)?;
     if all_add(ups) {
         ordered.sort_by(|a, b| falling(a, b))?;
+    } else if all_fixed(ups) {
+        ordered.sort_by_key(|update| lateness(update))?;
     }
     Ok(ordered)
 }

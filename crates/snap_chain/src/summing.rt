@@ -61,6 +61,16 @@ pub fn push_update(updates: &mut Vec<Update>, update: &Update) -> Result<(), NoM
     Ok(())
 }
 
+/// Puts updates behind others as they are.
+pub(crate) fn push_copies(updates: &mut Vec<Update>, more: &[Update]) -> Result<(), NoMemory>
+    ensures { OnOk result (updates.new.items ≡ updates.old.items ++ more.now) }
+{
+    for update in more {
+        updates.push(update.copy()?)?;
+    }
+    Ok(())
+}
+
 /// Puts updates behind others, one after another.
 pub(crate) fn push_updates(updates: &mut Vec<Update>, more: &[Update]) -> Result<(), NoMemory>
     ensures { OnOk result (AreSame updates.new.items (updates.old.items ++ more.now)) }
