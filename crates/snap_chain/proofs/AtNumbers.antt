@@ -1,5 +1,5 @@
 -- Updates at numbers do the same in any order that keeps those at one place in theirs.
-use Rattle.std.proofs.Common.{◌≡◌, ℕ, Bool, true, false, cond, not, ◌&&◌, List, [], ◌∷◌, refl, sym, ap, ◌∙◌, subst, arith}
+use Rattle.std.proofs.Common.{◌≡◌, ℕ, Bool, true, false, cond, not, ◌&&◌, List, [], ◌∷◌, ◌++◌, refl, sym, ap, ◌∙◌, subst}
 use Rattle.std.specs.Prelude.{map}
 use Rattle.std.specs.List.{AllByRecursion, filter}
 use Rattle.std.specs.List.Sorted.{IsPermutation, IsStableByKey, ties}
@@ -8,16 +8,18 @@ use Rattle.std.specs.Cmp.{nat_cmp_is}
 use Rattle.std.specs.Ordering.{nat_cmp, is_lt}
 use Rattle.std.proofs.lemmas.Bool.{false≢true}
 use Rattle.std.proofs.lemmas.List.Elements.{All-from_recursion, recursion_from_All}
-use Rattle.std.proofs.lemmas.List.Sorted.{All-permutation}
+use Rattle.std.proofs.lemmas.List.{append-nil, append_assoc}
+use Rattle.std.proofs.lemmas.List.Sorted.{All-permutation, IsPermutation-append_left, IsPermutation-append_right, IsPermutation-refl, IsPermutation-trans}
 use Rattle.snap_core.specs.declared.place.Place.{Place}
 use Rattle.snap_core.specs.declared.policy.Atom.{Atom}
 use Rattle.snap_core.specs.declared.policy.Atom.TheVariants.{Num as Number, Comp}
 use Rattle.snap_core.specs.declared.policy.Op.TheVariants.{Add}
 use Rattle.snap_core.specs.declared.policy.Update.{Update}
 use Rattle.snap_core.specs.Arrays.{Arrays, number_after, place_at, same_place, update, updates, value_of}
+use Rattle.snap_ctx.proofs.Each.{Each-append}
 use Rattle.snap_ctx.proofs.Places.{same_place-true}
-use Rattle.snap_chain.specs.Fixed.{IsFixed, IsFixedUpdate, lateness}
-use Rattle.snap_chain.proofs.Splitting.{hit, missed}
+use Rattle.snap_chain.specs.Fixed.{AreReordered, EndInRun, IsFixed, IsFixedUpdate, lateness}
+use Rattle.snap_chain.proofs.Splitting.{hit, missed, updates-append}
 
 -- a second test of two keeps the same, where the first lets through all that it does
 module _ {X : Type 0} (P : X → Type 0) (p q : X → Bool) (within : (x : X) → P x → q x ≡ true → p x ≡ true) where
@@ -83,3 +85,35 @@ pub fixed_same : (us vs : List Update) → IsPermutation us vs → IsStableByKey
 fixed_same us vs perm stable h m k =
     let hv : AllByRecursion IsFixedUpdate vs = recursion_from_All IsFixedUpdate vs (All-permutation IsFixedUpdate us vs perm (All-from_recursion IsFixedUpdate us h)) in
     λ i p. (updates-filter k p vs m m refl ∙ ap (λ (ws : List Update). updates m ws k p) (stay_at_place k p us vs h hv stable) ∙ sym (updates-filter k p us m m refl)) i
+
+-- ---- in another order
+pub reordered_more : (us vs xs : List Update) → AreReordered us vs → AreReordered (us ++ xs) (vs ++ xs)
+reordered_more us vs xs r = record {
+  same = λ m k. updates-append vs xs m k ∙ ap (λ (n : Arrays). updates n xs k) (r.same m k) ∙ sym (updates-append us xs m k);
+  permuted = IsPermutation-append_left xs us vs r.permuted;
+}
+
+pub reordered-trans : (us vs ws : List Update) → AreReordered us vs → AreReordered vs ws → AreReordered us ws
+reordered-trans us vs ws a b = record { same = λ m k. b.same m k ∙ a.same m k; permuted = IsPermutation-trans us vs ws a.permuted b.permuted }
+
+pub run_sorted : (us run sorted : List Update) → IsPermutation run sorted → IsStableByKey (λ u. lateness u.index) nat_cmp run sorted → AllByRecursion IsFixedUpdate run → AreReordered (us ++ run) (us ++ sorted)
+run_sorted us run sorted perm stable fixed = record {
+  same = λ m k. updates-append us sorted m k ∙ fixed_same run sorted perm stable fixed (updates m us k) k ∙ sym (updates-append us run m k);
+  permuted = IsPermutation-append_right us run sorted perm;
+}
+
+-- ---- one update more
+pub run_longer : (us some run : List Update) (u : Update) → IsFixedUpdate u → EndInRun us some run → EndInRun (us ++ u ∷ []) some (run ++ u ∷ [])
+run_longer us some run u h e = record {
+  fixed = Each-append IsFixedUpdate run (u ∷ []) e.fixed (h, tt);
+  same = subst (AreReordered (us ++ u ∷ [])) (append_assoc some run (u ∷ [])) (reordered_more us (some ++ run) (u ∷ []) e.same);
+}
+
+pub run_ended : (us some run new : List Update) (u : Update) → AreReordered (some ++ run) new → EndInRun us some run → EndInRun (us ++ u ∷ []) (new ++ u ∷ []) []
+run_ended us some run new u r e = record {
+  fixed = tt;
+  same = subst (AreReordered (us ++ u ∷ [])) (sym (append-nil (new ++ u ∷ []))) (reordered_more us new (u ∷ []) (reordered-trans us (some ++ run) new e.same r));
+}
+
+pub none_yet : EndInRun [] [] []
+none_yet = record { fixed = tt; same = record { same = λ m k. refl; permuted = IsPermutation-refl [] } }
