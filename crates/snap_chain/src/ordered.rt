@@ -1,4 +1,4 @@
-//! Additions in the order in which their tests come: what is added first and what last makes no difference.
+//! Updates in the order in which their tests come, where it makes no difference which comes first.
 
 ghost use Rattle.std.specs.Prelude.{◌≡◌, ℕ, IfOk, IsTrue, List};
 ghost use Rattle.std.specs.List.{AllByRecursion};
@@ -7,6 +7,7 @@ ghost use Rattle.snap_core.specs.Arrays.{Arrays, updates};
 ghost use Rattle.snap_core.specs.Inputs.{IsStore};
 ghost use Rattle.snap_chain.specs.Additions.{Adds};
 
+use crate::fixed::in_runs;
 use snap_core::NoMemory;
 use snap_core::policy::{Atom, Op, Update, copy_updates};
 use std::alloc::Global;
@@ -40,15 +41,16 @@ fn falling(a: &Update, b: &Update) -> Ordering {
     begins(b).cmp(&begins(a))
 }
 
-/// Updates that do the same. Where all are additions, those whose places are tested first come last: a
-/// test behind them asks about the last one first, and so makes few nodes.
+/// Updates that do the same. Where all are additions, and in each run of updates at numbers, those whose places are tested
+/// first come last: a test behind them asks about the last one first, and so makes few nodes.
 pub(crate) fn ordered(alloc: Global, ups: &[Update]) -> Result<Vec<Update>, NoMemory>
     ensures same { IfOk result (λ o. (m : Arrays) (k : List ℕ) → IsStore m → updates m o.items k ≡ updates m ups.now k) }
     ensures permuted { IfOk result (λ o. IsPermutation ups.now o.items) }
 {
-    let mut ordered = copy_updates(alloc, ups)?;
-    if all_add(ups) {
-        ordered.sort_by(|a, b| falling(a, b))?;
+    if !all_add(ups) {
+        return in_runs(alloc, ups);
     }
+    let mut ordered = copy_updates(alloc, ups)?;
+    ordered.sort_by(|a, b| falling(a, b))?;
     Ok(ordered)
 }

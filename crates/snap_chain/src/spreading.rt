@@ -1,6 +1,6 @@
 //! A leaf, and then a diagram from each packet that it gives.
 
-ghost use Rattle.std.specs.Prelude.{◌≡◌, ◌<◌, ℕ, length, All, IfOk, OnOk};
+ghost use Rattle.std.specs.Prelude.{◌≡◌, ◌<◌, ℕ, length, All, IfOk, IsTrue, OnOk};
 ghost use Rattle.snap_core.specs.Tests.{OutFits};
 ghost use Rattle.snap_arena.specs.Arena.{Grew};
 ghost use Rattle.snap_arena.specs.Memos.{Remembers};
@@ -11,17 +11,17 @@ ghost use Rattle.snap_fdd.specs.declared.leaf.Leaf.TheVariants.{Go as Goes};
 ghost use Rattle.snap_fdd.specs.Picks.{IsArgument, sizes};
 ghost use Rattle.snap_chain.specs.Memoed.{PrefixedFor, IsAskedPrefix, SequelFor, IsAskedSequel};
 ghost use Rattle.snap_chain.specs.Marks.{AreMarked};
-ghost use Rattle.snap_chain.specs.Spread.{bare_leaf, IsBehindLeaf, IsRun, IsPrefixed, IsSpread, IsSequel};
+ghost use Rattle.snap_chain.specs.Spread.{bare_leaf, IsBehindLeaf, IsRun, IsPrefixed, IsSpread, IsSequel, OnlySends};
 
 use crate::late::after_marked;
 use crate::marks::Marks;
 use crate::settling::go_of;
-use crate::summing::push_updates;
+use crate::summing::{push_copies, push_updates};
 use snap_arena::nodes::Nodes;
 use snap_arena::pairs::Pairs;
 use snap_core::NoMemory;
 use snap_core::lists::Out;
-use snap_core::policy::{Update, copy_updates};
+use snap_core::policy::Update;
 use snap_ctx::context::Context;
 use snap_dep::groups::Groups;
 use snap_fdd::leaf::{Go, Leaf, Outs, Updates};
@@ -68,12 +68,14 @@ fn all_after(
     join(nodes, groups, ctx, first, second)
 }
 
-// A leaf behind the updates and logs of another.
+// A leaf behind the updates and logs of another. Leaves stay, so there is room for the updates of both and no more.
 fn leaf_behind(alloc: Global, go: &Go, later: &Go) -> Result<Leaf, NoMemory>
     ensures { IfOk result (IsBehindLeaf go.now later.now) }
 {
-    let mut ups = copy_updates(alloc, go.ups.list())?;
-    push_updates(&mut ups, later.ups.list())?;
+    let (first, second) = (go.ups.list(), later.ups.list());
+    let mut ups = Vec::with_capacity(alloc, first.len().saturating_add(second.len()))?;
+    push_copies(&mut ups, first)?;
+    push_updates(&mut ups, second)?;
     Ok(Leaf::Go(Go {
         outs: later.outs.copy(alloc)?,
         ups: Updates::new(ups),
@@ -137,6 +139,34 @@ fn prefixed_anew(
     }
 }
 
+// Whether a leaf has no updates and logs nothing.
+fn only_sends(go: &Go) -> bool
+    ensures { IsTrue result → OnlySends go.now }
+{
+    go.reads == 0 && go.writes == 0 && go.ups.list().is_empty()
+}
+
+// Each leaf behind the updates and logs of another: as it is where that one has none.
+fn put_behind(
+    nodes: &mut Nodes<Leaf>,
+    groups: &Groups,
+    ctx: &Context,
+    go: &Go,
+    d: u64,
+) -> Result<u64, NoMemory>
+    requires d { IsArgument groups.now ctx.now nodes.old d }
+    requires go { LeafIn (sizes groups.now ctx.now) (Goes go.now) }
+    ensures grew { Grew nodes.old nodes.new }
+    ensures number { IfOk result (λ r. r < length nodes.new) }
+    ensures prefixed { IfOk result (λ r. IsPrefixed groups.now ctx.now go.now (diagram nodes.old d) (diagram nodes.new r)) }
+{
+    if only_sends(go) {
+        return Ok(d);
+    }
+    let mut memo = Pairs::new(nodes.allocator());
+    prefixed(nodes, groups, ctx, &mut memo, go, d)
+}
+
 /// A leaf, and then a diagram, where the outs give different packets or the diagram writes nothing.
 /// Refuses for memory alone.
 pub fn spread(
@@ -172,8 +202,7 @@ pub fn spread(
         start,
         d,
     )?;
-    let mut memo = Pairs::new(alloc);
-    prefixed(nodes, groups, ctx, &mut memo, go, all)
+    put_behind(nodes, groups, ctx, go, all)
 }
 
 // A diagram whose leaves are settled, and then another, which may be remembered.

@@ -46,8 +46,9 @@ fn added_up(op: Op, more: u64) -> Op
     }
 }
 
-// Puts an update behind others.
-fn push_update(updates: &mut Vec<Update>, update: &Update) -> Result<(), NoMemory>
+/// Puts an update behind others: an addition is added to one at the same place, where additions alone come between. Refuses
+/// for memory alone.
+pub fn push_update(updates: &mut Vec<Update>, update: &Update) -> Result<(), NoMemory>
     ensures { OnOk result (AreSame updates.new.items (updates.old.items ++ update.now ∷ [])) }
 {
     if let Op::Add(num) = update.op {
@@ -60,7 +61,17 @@ fn push_update(updates: &mut Vec<Update>, update: &Update) -> Result<(), NoMemor
     Ok(())
 }
 
-/// Puts updates behind others: an addition is added to one at the same place, where additions alone come between.
+/// Puts updates behind others as they are.
+pub(crate) fn push_copies(updates: &mut Vec<Update>, more: &[Update]) -> Result<(), NoMemory>
+    ensures { OnOk result (updates.new.items ≡ updates.old.items ++ more.now) }
+{
+    for update in more {
+        updates.push(update.copy()?)?;
+    }
+    Ok(())
+}
+
+/// Puts updates behind others, one after another.
 pub(crate) fn push_updates(updates: &mut Vec<Update>, more: &[Update]) -> Result<(), NoMemory>
     ensures { OnOk result (AreSame updates.new.items (updates.old.items ++ more.now)) }
 {

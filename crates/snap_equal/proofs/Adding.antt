@@ -18,7 +18,7 @@ use Rattle.snap_core.specs.declared.policy.Atom.{Atom}
 use Rattle.snap_equal.specs.declared.tally.Sign.{Sign}
 use Rattle.snap_equal.specs.declared.tally.Sign.TheVariants.{Plus, Minus}
 use Rattle.snap_equal.specs.Tally.{AddOutside, IsAddition, added, share, share_of, signed, signed_total, total, plus}
-use Rattle.snap_equal.proofs.Holding.{hit, missed}
+use Rattle.snap_chain.proofs.Splitting.{hit, missed}
 
 -- ---- totals
 pub total_small : (us : List Update) (k : List ℕ) (q : Place) → total us k q < 2 ^ 64

@@ -12,11 +12,11 @@ use Rattle.snap_core.specs.Inputs.{IsStore}
 use Rattle.snap_ctx.specs.Classes.{wrap}
 use Rattle.snap_ctx.specs.View.{View}
 use Rattle.snap_ctx.proofs.Wrap.{wrap_zero, wrap_cancel, wrap_cancel_right}
+use Rattle.snap_chain.proofs.Splitting.{updates-append}
 use Rattle.snap_equal.specs.Held.{AgreeAlong}
 use Rattle.snap_equal.specs.Tally.{IsAddition, IsSum, AddOutside, IsDifference, total}
 use Rattle.snap_equal.specs.Told.{IsModel, On}
 use Rattle.snap_equal.proofs.Adding.{updates-add, total_small, wrap_turn}
-use Rattle.snap_equal.proofs.Holding.{updates-append}
 use Rattle.snap_equal.proofs.AllPlaces.{agree_at}
 
 each_map : {X : Type 0} (P Q : X → Type 0) (xs : List X) → ((x : X) → P x → Q x) → AllByRecursion P xs → AllByRecursion Q xs

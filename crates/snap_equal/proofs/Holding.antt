@@ -21,6 +21,7 @@ use Rattle.snap_ctx.specs.View.{View}
 use Rattle.snap_ctx.proofs.Algebra.{term_value-shift}
 use Rattle.snap_ctx.proofs.Places.{same_place-true, same_place-refl}
 use Rattle.snap_ctx.proofs.Wrap.{wrap_assoc}
+use Rattle.snap_chain.proofs.Splitting.{hit, missed, updates-append}
 use Rattle.snap_equal.specs.declared.held.Held.{Held}
 use Rattle.snap_equal.specs.declared.held.Held.TheVariants.{Is, Old}
 use Rattle.snap_equal.specs.declared.stop.Stop.{Stop}
@@ -45,25 +46,13 @@ held_as v vars r s ix t n rt rn h = result_as v vars (λ m k. passes (State s ix
     (λ m k i e. subst (λ x. (m (place_at s ix k) == x) ≡ true) (sym (shifted_back t n k rn)) (moved_back (m (place_at s ix k)) (term_value t k) n (i.store (place_at s ix k)) rn (sym e))) r h
 
 -- ---- one update more
-pub updates-append : (us vs : List Update) (m : Arrays) (k : List ℕ) → updates m (us ++ vs) k ≡ updates (updates m us k) vs k
-updates-append [] vs m k = refl
-updates-append (u ∷ us) vs m k = updates-append us vs (update m u k) k
-
 pub updates_more : (us : List Update) (i : ℕ) (u : Update) (m : Arrays) (k : List ℕ) → i < length us → u ≡ get_or us i u → updates m (take (i + 1) us) k ≡ update (updates m (take i us) k) u k
 updates_more us i u m k l is =
     ap (λ us. updates m us k) (take_more us i u l ∙ ap (λ x. take i us ++ x ∷ []) (sym is)) ∙ updates-append (take i us) (u ∷ []) m k
 
-pub hit : (u : Update) (m : Arrays) (k : List ℕ) (p : Place) → place_at u.var u.index k ≡ p → update m u k p ≡ number_after u.op (m p) k
-hit u m k p e =
-    subst (λ (q : Place). update m u k q ≡ number_after u.op (m q) k) e
-    (cond-true (same_place (place_at u.var u.index k) (place_at u.var u.index k)) _ _ (same_place-refl (place_at u.var u.index k)))
-
 pub not_same : (p q : Place) → (p ≡ q → ⊥) → (b : Bool) → same_place p q ≡ b → same_place p q ≡ false
 not_same p q h true e = absurd (h (same_place-true p q e))
 not_same p q h false e = e
-
-pub missed : (u : Update) (m : Arrays) (k : List ℕ) (p : Place) → same_place (place_at u.var u.index k) p ≡ false → update m u k p ≡ m p
-missed u m k p e = cond-false (same_place (place_at u.var u.index k) p) _ (m p) e
 
 more-value : (n : ℕ) (h : Held) (x : ℕ) (k : List ℕ) → held_value (more n h) x k ≡ wrap (held_value h x k) n
 more-value n (Is t) x k = term_value-shift k t n

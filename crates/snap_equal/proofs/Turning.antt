@@ -10,7 +10,7 @@ use Rattle.snap_core.specs.declared.place.Place.{Place}
 use Rattle.snap_core.specs.declared.policy.Update.{Update}
 use Rattle.snap_core.specs.Arrays.{Arrays, same_place, place_at, number_after, update, updates}
 use Rattle.snap_ctx.proofs.Places.{same_place-true}
-use Rattle.snap_equal.proofs.Holding.{hit, missed, updates-append}
+use Rattle.snap_chain.proofs.Splitting.{hit, missed, updates-append}
 
 -- ---- two updates
 module _ (k : List ℕ) (u w : Update) (n : Arrays)

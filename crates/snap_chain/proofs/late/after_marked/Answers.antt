@@ -10,6 +10,7 @@ use Rattle.snap_fdd.specs.Diagrams.{diagram}
 use Rattle.snap_fdd.specs.Picks.{sizes}
 use Rattle.snap_chain.specs.Late.{IsLate}
 use Rattle.snap_chain.proofs.Adding.{late_same}
+use Rattle.snap_chain.proofs.Lately.{late_itself}
 use Rattle.snap_chain.proofs.late.after_marked.Goals as goal
 
 pub later-requires : goal.later-requires
@@ -21,6 +22,11 @@ later-requires c = record {
   marked = c.requires.marked;
   known = rw c.new-memo.ensures (remembers_none _);
 }
+
+pub returns-then-stays-clause-late : goal.returns-then-stays-clause-late
+returns-then-stays-clause-late c =
+    let same = c.stays.ensures c.if-stays.true c.args.nodes.now c.requires.marked in
+    late_itself c.args.groups.now c.args.ctx.now c.args.out.now c.args.ups.now (diagram c.args.nodes.now c.args.d) same.0 same.1 c.requires.d.keeps
 
 pub returns-clause-late : goal.returns-clause-late
 returns-clause-late c =

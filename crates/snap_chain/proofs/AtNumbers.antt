@@ -1,0 +1,119 @@
+-- Updates at numbers do the same in any order that keeps those at one place in theirs.
+use Rattle.std.proofs.Common.{◌≡◌, ℕ, Bool, true, false, cond, not, ◌&&◌, List, [], ◌∷◌, ◌++◌, refl, sym, ap, ◌∙◌, subst}
+use Rattle.std.specs.Prelude.{map}
+use Rattle.std.specs.List.{AllByRecursion, filter}
+use Rattle.std.specs.List.Sorted.{IsPermutation, IsStableByKey, ties}
+use Rattle.std.specs.declared.cmp.Ordering.TheVariants.{Equal}
+use Rattle.std.specs.Cmp.{nat_cmp_is}
+use Rattle.std.specs.Ordering.{nat_cmp, is_lt}
+use Rattle.std.proofs.lemmas.Bool.{false≢true}
+use Rattle.std.proofs.lemmas.List.Elements.{All-from_recursion, recursion_from_All}
+use Rattle.std.proofs.lemmas.List.{append-nil, append_assoc}
+use Rattle.std.proofs.lemmas.List.Sorted.{All-permutation, IsPermutation-append_left, IsPermutation-append_right, IsPermutation-refl, IsPermutation-trans}
+use Rattle.snap_core.specs.declared.place.Place.{Place}
+use Rattle.snap_core.specs.declared.policy.Atom.{Atom}
+use Rattle.snap_core.specs.declared.policy.Atom.TheVariants.{Num as Number, Comp}
+use Rattle.snap_core.specs.declared.policy.Op.TheVariants.{Add}
+use Rattle.snap_core.specs.declared.policy.Update.{Update}
+use Rattle.snap_core.specs.Arrays.{Arrays, number_after, place_at, same_place, update, updates, value_of}
+use Rattle.snap_ctx.proofs.Each.{Each-append}
+use Rattle.snap_ctx.proofs.Places.{same_place-true}
+use Rattle.snap_chain.specs.Fixed.{AreReordered, EndInRun, IsFixed, IsFixedUpdate, lateness}
+use Rattle.snap_chain.proofs.Splitting.{hit, missed, updates-append}
+
+-- a second test of two keeps the same, where the first lets through all that it does
+module _ {X : Type 0} (P : X → Type 0) (p q : X → Bool) (within : (x : X) → P x → q x ≡ true → p x ≡ true) where
+  next_within : (x : X) (xs : List X) → P x → filter q (filter p xs) ≡ filter q xs → (b d : Bool) → p x ≡ b → q x ≡ d → filter q (cond b (x ∷ filter p xs) (filter p xs)) ≡ cond d (x ∷ filter q xs) (filter q xs)
+  next_within x xs h rest true d e f = λ i. cond (f i) (x ∷ rest i) (rest i)
+  next_within x xs h rest false true e f = absurd (false≢true (sym e ∙ within x h f))
+  next_within x xs h rest false false e f = rest
+
+  filter-filter : (xs : List X) → AllByRecursion P xs → filter q (filter p xs) ≡ filter q xs
+  filter-filter [] h = refl
+  filter-filter (x ∷ xs) h = next_within x xs h.0 (filter-filter xs h.1) (p x) (q x) refl refl
+
+same_key-ties : (a b : ℕ) → a ≡ b → not (is_lt (nat_cmp a b)) && not (is_lt (nat_cmp b a)) ≡ true
+same_key-ties a b e = λ i. not (is_lt (sym (nat_cmp_is a b Equal e) i)) && not (is_lt (sym (nat_cmp_is b a Equal (sym e)) i))
+
+-- numbers are the index that they give
+fixed_values : (ix : List Atom) (k : List ℕ) → AllByRecursion IsFixed ix → map Number (map (λ a. value_of a k) ix) ≡ ix
+fixed_values [] k h = refl
+fixed_values (Number n ∷ ix) k h = ap (λ (l : List Atom). Number n ∷ l) (fixed_values ix k h.1)
+fixed_values (Comp c ∷ ix) k h = absurd h.0
+
+module _ (k : List ℕ) (p : Place) where
+  abbrev is_at : Update → Bool
+  is_at u = same_place (place_at u.var u.index k) p
+
+  abbrev at_place : List Update → List Update
+  at_place us = filter is_at us
+
+  -- an update of stores that agree at the place
+  agree_after : (u : Update) (m n : Arrays) → m p ≡ n p → is_at u ≡ true → update m u k p ≡ update n u k p
+  agree_after u m n e t =
+      let at : place_at u.var u.index k ≡ p = same_place-true (place_at u.var u.index k) p t in
+      hit u m k p at ∙ ap (λ x. number_after u.op x k) e ∙ sym (hit u n k p at)
+
+  -- at a place only the updates there count
+  next_there : (u : Update) (us : List Update) (m n : Arrays) → m p ≡ n p → ((a b : Arrays) → a p ≡ b p → updates a us k p ≡ updates b (at_place us) k p)
+      → (t : Bool) → is_at u ≡ t → updates (update m u k) us k p ≡ updates n (cond t (u ∷ at_place us) (at_place us)) k p
+  next_there u us m n e rest true t = rest (update m u k) (update n u k) (agree_after u m n e t)
+  next_there u us m n e rest false t = rest (update m u k) n (missed u m k p t ∙ e)
+
+  updates-filter : (us : List Update) (m n : Arrays) → m p ≡ n p → updates m us k p ≡ updates n (at_place us) k p
+  updates-filter [] m n e = e
+  updates-filter (u ∷ us) m n e = next_there u us m n e (updates-filter us) (is_at u) refl
+
+  -- one at the very numbers of the place
+  abbrev here : Update
+  here = record { var = p.var; index = map Number p.index; op = Add 0 }
+
+  -- updates at numbers that are at the place are as late as that one
+  at_place-ties : (u : Update) → IsFixedUpdate u → is_at u ≡ true → ties (λ x y. is_lt (nat_cmp (lateness x.index) (lateness y.index))) here u ≡ true
+  at_place-ties u h t = same_key-ties (lateness here.index) (lateness u.index)
+      (ap (λ (q : Place). lateness (map Number q.index)) (sym (same_place-true (place_at u.var u.index k) p t)) ∙ ap lateness (fixed_values u.index k h))
+
+  stay_at_place : (us vs : List Update) → AllByRecursion IsFixedUpdate us → AllByRecursion IsFixedUpdate vs → IsStableByKey (λ u. lateness u.index) nat_cmp us vs → at_place vs ≡ at_place us
+  stay_at_place us vs hu hv stable =
+      let late : Update → Bool = ties (λ x y. is_lt (nat_cmp (lateness x.index) (lateness y.index))) here in
+      sym (filter-filter IsFixedUpdate late is_at at_place-ties vs hv)
+      ∙ ap at_place (stable here)
+      ∙ filter-filter IsFixedUpdate late is_at at_place-ties us hu
+
+-- the law
+pub fixed_same : (us vs : List Update) → IsPermutation us vs → IsStableByKey (λ u. lateness u.index) nat_cmp us vs → AllByRecursion IsFixedUpdate us → (m : Arrays) (k : List ℕ) → updates m vs k ≡ updates m us k
+fixed_same us vs perm stable h m k =
+    let hv : AllByRecursion IsFixedUpdate vs = recursion_from_All IsFixedUpdate vs (All-permutation IsFixedUpdate us vs perm (All-from_recursion IsFixedUpdate us h)) in
+    λ i p. (updates-filter k p vs m m refl ∙ ap (λ (ws : List Update). updates m ws k p) (stay_at_place k p us vs h hv stable) ∙ sym (updates-filter k p us m m refl)) i
+
+-- ---- in another order
+pub reordered_more : (us vs xs : List Update) → AreReordered us vs → AreReordered (us ++ xs) (vs ++ xs)
+reordered_more us vs xs r = record {
+  same = λ m k. updates-append vs xs m k ∙ ap (λ (n : Arrays). updates n xs k) (r.same m k) ∙ sym (updates-append us xs m k);
+  permuted = IsPermutation-append_left xs us vs r.permuted;
+}
+
+pub reordered-trans : (us vs ws : List Update) → AreReordered us vs → AreReordered vs ws → AreReordered us ws
+reordered-trans us vs ws a b = record { same = λ m k. b.same m k ∙ a.same m k; permuted = IsPermutation-trans us vs ws a.permuted b.permuted }
+
+pub run_sorted : (us run sorted : List Update) → IsPermutation run sorted → IsStableByKey (λ u. lateness u.index) nat_cmp run sorted → AllByRecursion IsFixedUpdate run → AreReordered (us ++ run) (us ++ sorted)
+run_sorted us run sorted perm stable fixed = record {
+  same = λ m k. updates-append us sorted m k ∙ fixed_same run sorted perm stable fixed (updates m us k) k ∙ sym (updates-append us run m k);
+  permuted = IsPermutation-append_right us run sorted perm;
+}
+
+-- ---- one update more
+pub run_longer : (us some run : List Update) (u : Update) → IsFixedUpdate u → EndInRun us some run → EndInRun (us ++ u ∷ []) some (run ++ u ∷ [])
+run_longer us some run u h e = record {
+  fixed = Each-append IsFixedUpdate run (u ∷ []) e.fixed (h, tt);
+  same = subst (AreReordered (us ++ u ∷ [])) (append_assoc some run (u ∷ [])) (reordered_more us (some ++ run) (u ∷ []) e.same);
+}
+
+pub run_ended : (us some run new : List Update) (u : Update) → AreReordered (some ++ run) new → EndInRun us some run → EndInRun (us ++ u ∷ []) (new ++ u ∷ []) []
+run_ended us some run new u r e = record {
+  fixed = tt;
+  same = subst (AreReordered (us ++ u ∷ [])) (sym (append-nil (new ++ u ∷ []))) (reordered_more us new (u ∷ []) (reordered-trans us (some ++ run) new e.same r));
+}
+
+pub none_yet : EndInRun [] [] []
+none_yet = record { fixed = tt; same = record { same = λ m k. refl; permuted = IsPermutation-refl [] } }

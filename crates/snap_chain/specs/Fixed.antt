@@ -1,0 +1,32 @@
+-- Updates at numbers.
+use Rattle.std.specs.Prelude.{◌≡◌, ℕ, ◌-◌, ◌^◌, List, [], ◌∷◌, ◌++◌}
+use Rattle.std.specs.List.{AllByRecursion}
+use Rattle.std.specs.List.Sorted.{IsPermutation}
+use Rattle.snap_core.specs.declared.policy.Atom.{Atom}
+use Rattle.snap_core.specs.declared.policy.Atom.TheVariants.{Num as Number, Comp}
+use Rattle.snap_core.specs.declared.policy.Update.{Update}
+use Rattle.snap_core.specs.Arrays.{Arrays, updates}
+
+abbrev pub IsFixed : Atom → Type 0
+IsFixed (Number n) = Unit {0}
+IsFixed (Comp c) = ⊥
+
+-- an update at numbers alone
+abbrev pub IsFixedUpdate : Update → Type 0
+IsFixedUpdate u = AllByRecursion IsFixed u.index
+
+-- updates that do the same, in another order
+pub record AreReordered (us vs : List Update) : Type 0 where
+  pub same : (m : Arrays) (k : List ℕ) → updates m vs k ≡ updates m us k
+  pub permuted : IsPermutation us vs
+
+-- some, and then a run of updates at numbers, do the same as us
+pub record EndInRun (us some run : List Update) : Type 0 where
+  pub fixed : AllByRecursion IsFixedUpdate run
+  pub same : AreReordered us (some ++ run)
+
+-- the greater, the less the first number of an index
+abbrev pub lateness : List Atom → ℕ
+lateness [] = 2 ^ 64 - 1
+lateness (Number n ∷ ix) = 2 ^ 64 - 1 - n
+lateness (Comp c ∷ ix) = 2 ^ 64 - 1

@@ -1,0 +1,78 @@
+//! Updates at numbers: where two are at different numbers, it makes no difference which comes first.
+
+ghost use Rattle.std.specs.Prelude.{◌≡◌, ◌∷◌, ◌++◌, [], IfOk, IsTrue, List, OnOk};
+ghost use Rattle.std.specs.List.{AllByRecursion};
+ghost use Rattle.snap_chain.specs.Fixed.{AreReordered, EndInRun, IsFixed, IsFixedUpdate, lateness};
+
+use snap_core::NoMemory;
+use snap_core::policy::{Atom, Update};
+use std::alloc::Global;
+
+fn is_number(atom: Atom) -> bool
+    ensures { IsTrue result → IsFixed atom }
+{
+    match atom {
+        Atom::Num(_) => true,
+        Atom::Comp(_) => false,
+    }
+}
+
+/// Whether an index is of numbers alone.
+pub(crate) fn is_fixed(index: &[Atom]) -> bool
+    ensures { IsTrue result → AllByRecursion IsFixed index.now }
+{
+    index.iter().all(|atom| is_number(*atom))
+}
+
+// How late an update comes among updates at numbers: the later, the less its index's first number.
+fn lateness(update: &Update) -> u64
+    ensures { result ≡ lateness update.now.index }
+{
+    match update.index.list().first() {
+        Some(Atom::Num(num)) => u64::MAX - *num,
+        _ => u64::MAX,
+    }
+}
+
+// Puts a run of updates at numbers behind others, the latest at last, and empties it.
+fn push_run(ordered: &mut Vec<Update>, run: &mut Vec<Update>) -> Result<(), NoMemory>
+    requires { AllByRecursion IsFixedUpdate run.old.items }
+    ensures empty { OnOk result (run.new.items ≡ []) }
+    ensures reordered { OnOk result (AreReordered (ordered.old.items ++ run.old.items) ordered.new.items) }
+{
+    run.sort_by_key(|update| lateness(update))?;
+    ordered.append(run)?;
+    Ok(())
+}
+
+// Puts an update behind others and a run: into it, or behind it.
+fn push_in_run(
+    ordered: &mut Vec<Update>,
+    run: &mut Vec<Update>,
+    update: &Update,
+) -> Result<(), NoMemory>
+    requires { AllByRecursion IsFixedUpdate run.old.items }
+    ensures { OnOk result ((us : List Update) → EndInRun us ordered.old.items run.old.items → EndInRun (us ++ update.now ∷ []) ordered.new.items run.new.items) }
+{
+    let next = update.copy()?;
+    if is_fixed(update.index.list()) {
+        run.push(next)?;
+        return Ok(());
+    }
+    push_run(ordered, run)?;
+    ordered.push(next)?;
+    Ok(())
+}
+
+/// Updates that do the same: of those at numbers with no others between, those at lesser numbers come last.
+pub(crate) fn in_runs(alloc: Global, ups: &[Update]) -> Result<Vec<Update>, NoMemory>
+    ensures { IfOk result (λ o. AreReordered ups.now o.items) }
+{
+    let mut ordered = Vec::with_capacity(alloc, ups.len())?;
+    let mut run = Vec::new(alloc);
+    for update in ups {
+        push_in_run(&mut ordered, &mut run, update)?;
+    }
+    push_run(&mut ordered, &mut run)?;
+    Ok(ordered)
+}
