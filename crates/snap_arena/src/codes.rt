@@ -19,9 +19,19 @@ fn make_room(code: &mut Vec<u64>, more: usize) -> Result<(), NoMemory>
     Ok(())
 }
 
-// Adds two numbers.
+/// Adds a number. Refuses for memory alone.
 #[inline(always)]
-fn push_two(code: &mut Vec<u64>, first: u64, second: u64) -> Result<(), NoMemory>
+pub fn push_one(code: &mut Vec<u64>, number: u64) -> Result<(), NoMemory>
+    ensures { OnOk result (code.new.items ≡ code.old.items ++ number ∷ []) }
+{
+    make_room(code, 1)?;
+    code.push_reserved(number);
+    Ok(())
+}
+
+/// Adds two numbers. Refuses for memory alone.
+#[inline(always)]
+pub fn push_two(code: &mut Vec<u64>, first: u64, second: u64) -> Result<(), NoMemory>
     ensures { OnOk result (code.new.items ≡ code.old.items ++ first ∷ second ∷ []) }
 {
     make_room(code, 2)?;
@@ -30,14 +40,9 @@ fn push_two(code: &mut Vec<u64>, first: u64, second: u64) -> Result<(), NoMemory
     Ok(())
 }
 
-// Adds three numbers.
+/// Adds three numbers. Refuses for memory alone.
 #[inline(always)]
-pub(crate) fn push_three(
-    code: &mut Vec<u64>,
-    first: u64,
-    second: u64,
-    third: u64,
-) -> Result<(), NoMemory>
+pub fn push_three(code: &mut Vec<u64>, first: u64, second: u64, third: u64) -> Result<(), NoMemory>
     ensures { OnOk result (code.new.items ≡ code.old.items ++ first ∷ second ∷ third ∷ []) }
 {
     make_room(code, 3)?;
@@ -64,8 +69,7 @@ pub fn push_index(code: &mut Vec<u64>, index: &Atoms) -> Result<(), NoMemory>
     for atom in index.list() {
         push_atom(code, *atom)?;
     }
-    code.push(0)?;
-    Ok(())
+    push_one(code, 0)
 }
 
 /// Adds the numbers of a term. Refuses for memory alone.
