@@ -3,7 +3,7 @@
 ghost use Rattle.std.specs.Prelude.{◌≡◌, ◌++◌, OnOk, List, ℕ};
 ghost use Rattle.snap_arena.specs.Codes.{node_code};
 
-use crate::codes::push_test;
+use crate::codes::{push_one, push_test, push_three};
 use snap_core::NoMemory;
 use snap_core::policy::Test;
 
@@ -34,13 +34,11 @@ pub(crate) fn put_code<L: Coded>(code: &mut Vec<u64>, node: &Node<L>) -> Result<
     code.clear();
     match node {
         Node::Ask { test, yes, no } => {
-            code.push(1)?;
-            code.push(*yes)?;
-            code.push(*no)?;
+            push_three(code, 1, *yes, *no)?;
             push_test(code, test)
         }
         Node::Leaf(leaf) => {
-            code.push(0)?;
+            push_one(code, 0)?;
             leaf.push_code(code)
         }
     }

@@ -4,7 +4,7 @@ ghost use Rattle.std.specs.Prelude.{◌≡◌, ◌++◌, OnOk};
 ghost use Rattle.snap_fdd.specs.Codes.{out_code, outs_code, op_code, ups_code};
 
 use crate::leaf::{Go, Leaf};
-use snap_arena::codes::{push_atom, push_index};
+use snap_arena::codes::{push_atom, push_index, push_one, push_three, push_two};
 use snap_arena::node::Coded;
 use snap_core::NoMemory;
 use snap_core::lists::Out;
@@ -15,23 +15,20 @@ pub fn push_out(code: &mut Vec<u64>, out: &Out) -> Result<(), NoMemory>
     ensures { OnOk result (code.new.items ≡ code.old.items ++ out_code out.now) }
 {
     for (comp, atom) in out.parts() {
-        code.push(1)?;
-        code.push(*comp as u64)?;
+        push_two(code, 1, *comp as u64)?;
         push_atom(code, *atom)?;
     }
-    code.push(0)?;
-    Ok(())
+    push_one(code, 0)
 }
 
 fn push_outs(code: &mut Vec<u64>, outs: &[Out]) -> Result<(), NoMemory>
     ensures { OnOk result (code.new.items ≡ code.old.items ++ outs_code outs.now) }
 {
     for out in outs {
-        code.push(1)?;
+        push_one(code, 1)?;
         push_out(code, out)?;
     }
-    code.push(0)?;
-    Ok(())
+    push_one(code, 0)
 }
 
 fn push_op(code: &mut Vec<u64>, op: Op) -> Result<(), NoMemory>
@@ -39,28 +36,22 @@ fn push_op(code: &mut Vec<u64>, op: Op) -> Result<(), NoMemory>
 {
     match op {
         Op::Put(atom) => {
-            code.push(0)?;
-            push_atom(code, atom)?;
+            push_one(code, 0)?;
+            push_atom(code, atom)
         }
-        Op::Add(num) => {
-            code.push(1)?;
-            code.push(num)?;
-        }
+        Op::Add(num) => push_two(code, 1, num),
     }
-    Ok(())
 }
 
 fn push_updates(code: &mut Vec<u64>, updates: &[Update]) -> Result<(), NoMemory>
     ensures { OnOk result (code.new.items ≡ code.old.items ++ ups_code updates.now) }
 {
     for update in updates {
-        code.push(1)?;
-        code.push(update.var as u64)?;
+        push_two(code, 1, update.var as u64)?;
         push_index(code, &update.index)?;
         push_op(code, update.op)?;
     }
-    code.push(0)?;
-    Ok(())
+    push_one(code, 0)
 }
 
 impl Coded for Leaf {
@@ -70,16 +61,13 @@ impl Coded for Leaf {
 
     fn push_code(&self, out: &mut Vec<u64>) -> Result<(), NoMemory> {
         match self {
-            Leaf::Race => out.push(0)?,
+            Leaf::Race => push_one(out, 0),
             Leaf::Go(go) => {
-                out.push(1)?;
-                out.push(go.reads)?;
-                out.push(go.writes)?;
+                push_three(out, 1, go.reads, go.writes)?;
                 push_outs(out, go.outs.list())?;
-                push_updates(out, go.ups.list())?;
+                push_updates(out, go.ups.list())
             }
         }
-        Ok(())
     }
 
     fn codes_differ() {}

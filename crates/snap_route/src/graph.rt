@@ -55,7 +55,7 @@ pub(crate) fn graph(
     ensures count { IfOk result (λ graph. length graph.items ≡ count) }
     ensures linked { IfOk result (λ graph. (a m : ℕ) → a < count → Adjacent graph.items a m ↔ Linked links.now a m) }
 {
-    let mut graph = Vec::new(alloc);
+    let mut graph = Vec::with_capacity(alloc, count as usize)?;
     for switch in 0..count {
         graph.push(neighbours_of(alloc, links, switch)?)?;
     }

@@ -44,7 +44,7 @@ pub(crate) fn next_hops(
     ensures count { IfOk result (λ nexts. length nexts.items ≡ length graph.now) }
     ensures nexts { IfOk result (λ nexts. (a m : ℕ) → a < length graph.now → Adjacent graph.now a m → IsNearest (neighbours_of graph.now a) distances.now (slice_index_or nexts.items a 0)) }
 {
-    let mut nexts = Vec::new(alloc);
+    let mut nexts = Vec::with_capacity(alloc, graph.len())?;
     for neighbours in graph {
         let next = nearest(neighbours.items(), distances).unwrap_or(target);
         nexts.push(next)?;

@@ -19,7 +19,7 @@ fn settled(alloc: Global, distances: &[Option<u32>], target: u16) -> Result<Vec<
     ensures ok { IfOk result (λ known. map (λ d. Some d) known.items ≡ distances.now) }
     ensures unreached { IfErr result (IsCause (λ a b. (a ≡ target) × IsFirstUnreached distances.now b)) }
 {
-    let mut known = Vec::new(alloc);
+    let mut known = Vec::with_capacity(alloc, distances.len())?;
     for (switch, distance) in distances.iter().enumerate() {
         let Some(distance) = distance else {
             return Err(RouteFault::Unreachable {
@@ -52,7 +52,7 @@ pub(crate) fn all_routes(alloc: Global, graph: &[Neighbours]) -> Result<Vec<Towa
     ensures rows { IfOk result (λ rows. (b : ℕ) → b < length graph.now → IsToward graph.now b (row_in rows.items b)) }
     ensures apart { IfErr result (IsCause (IsFirstApart (Adjacent graph.now) (length graph.now))) }
 {
-    let mut rows = Vec::new(alloc);
+    let mut rows = Vec::with_capacity(alloc, graph.len())?;
     for target in 0..graph.len() {
         rows.push(toward(alloc, graph, target as u16)?)?;
     }

@@ -1,6 +1,6 @@
 //! The distances to a switch, by levels.
 
-ghost use Rattle.std.specs.Prelude.{◌≡◌, ◌<◌, ◌+◌, ◌^◌, ℕ, [], All, Contains, IfOk, None, replicate, length};
+ghost use Rattle.std.specs.Prelude.{◌≡◌, ◌<◌, ◌+◌, ◌^◌, ℕ, [], All, Contains, IfOk, length};
 ghost use Rattle.std.specs.List.{flat_map};
 ghost use Rattle.snap_route.specs.Graphs.{IsGraph, neighbours_of};
 ghost use Rattle.snap_route.specs.Search.{Reaches, Settles};
@@ -8,16 +8,6 @@ ghost use Rattle.snap_route.specs.Search.{Reaches, Settles};
 use crate::graph::Neighbours;
 use snap_core::NoMemory;
 use std::alloc::Global;
-
-fn nowhere(alloc: Global, count: usize) -> Result<Vec<Option<u32>>, NoMemory>
-    ensures { IfOk result (λ ds. ds.items ≡ replicate count None) }
-{
-    let mut distances = Vec::new(alloc);
-    for _i in 0..count {
-        distances.push(None)?;
-    }
-    Ok(distances)
-}
 
 /// Reaches those of some switches that were not reached, at this distance, and adds them to the level.
 fn reach(
@@ -70,7 +60,7 @@ pub(crate) fn distances_to(
     requires target { target < length graph.now }
     ensures { IfOk result (λ ds. Settles graph.now target ds.items) }
 {
-    let mut distances = nowhere(alloc, graph.len())?;
+    let mut distances = vec![in alloc; None; graph.len()]?;
     let mut level = Vec::new(alloc);
     let mut distance = 0;
     reach(&[target], distance, distances.as_mut_slice(), &mut level)?;

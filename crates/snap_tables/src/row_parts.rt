@@ -70,21 +70,27 @@ fn put_words(out: &mut Vec<u8>, number: u64, row: &Row) -> Result<(), NoMemory>
     Ok(())
 }
 
-// These words by themselves.
-fn ending_with(alloc: Global, number: u64, row: &Row) -> Result<Text, NoMemory>
+// These words by themselves. They are put together in `words`, which has room from those before, so that a part is as long as its bytes.
+fn ending_with(alloc: Global, words: &mut Vec<u8>, number: u64, row: &Row) -> Result<Text, NoMemory>
     ensures { IfOk result (λ text. text ≡ ending_text number row.now) }
 {
-    let mut bytes = Vec::new(alloc);
-    put_words(&mut bytes, number, row)?;
+    words.clear();
+    put_words(words, number, row)?;
+    let bytes = Vec::from_slice(alloc, words)?;
     Ok(Text { bytes })
 }
 
-fn endings_of(alloc: Global, bodies: &[Row], number: usize) -> Result<Ending, NoMemory>
+fn endings_of(
+    alloc: Global,
+    words: &mut Vec<u8>,
+    bodies: &[Row],
+    number: usize,
+) -> Result<Ending, NoMemory>
     requires { number < length bodies.now }
     ensures { IfOk result (λ ending. ending ≡ ending_of bodies.now number) }
 {
-    let body = ending_with(alloc, number as u64, &bodies[number])?;
-    let stop = ending_with(alloc, number as u64, &Row::Stop)?;
+    let body = ending_with(alloc, words, number as u64, &bodies[number])?;
+    let stop = ending_with(alloc, words, number as u64, &Row::Stop)?;
     Ok(Ending { body, stop })
 }
 
@@ -92,8 +98,9 @@ fn endings(alloc: Global, bodies: &[Row]) -> Result<Vec<Ending>, NoMemory>
     ensures { IfOk result (λ r. r.items ≡ map (ending_of bodies.now) (range_with_len 0 (length bodies.now))) }
 {
     let mut endings = Vec::with_capacity(alloc, bodies.len())?;
+    let mut words = Vec::new(alloc);
     for number in 0..bodies.len() {
-        let ending = endings_of(alloc, bodies, number)?;
+        let ending = endings_of(alloc, &mut words, bodies, number)?;
         endings.push(ending)?;
     }
     Ok(endings)

@@ -6,6 +6,7 @@ use Rattle.std.specs.Ordering.{nat_cmp, match_ordering}
 use Rattle.std.specs.declared.cmp.Ordering.{Ordering}
 use Rattle.std.specs.declared.cmp.Ordering.TheVariants.{Less, Equal, Greater}
 use Rattle.std.specs.Cmp.Lexicographic.{slice_cmp}
+use Rattle.std.specs.Borrow.{Bor}
 use Rattle.std.specs.Map.{lookup}
 use Rattle.std.specs.BTreeMap.{is_at, insert_entry}
 use Rattle.std.specs.declared.alloc.Global.{Global}
@@ -62,14 +63,14 @@ no_link (datetime t) vs is not = cc
 no_link (table m) vs is not = cc
 
 -- ---- ports
-placed : (o : Ordering) (e : ℕ × String Global) (es : List (ℕ × String Global)) (k : ℕ) (v : String Global) → map port_text (insert_entry nat_cmp es k v) ≡ insert_entry nat_cmp (map port_text es) k (string_bytes v)
+placed : (o : Ordering) (e : ℕ × Bor (List ℕ)) (es : List (ℕ × Bor (List ℕ))) (k : ℕ) (v : Bor (List ℕ)) → map port_text (insert_entry nat_cmp es k v) ≡ insert_entry nat_cmp (map port_text es) k (v.now)
     → map port_text (match_ordering o ((k, v) ∷ e ∷ es) ((e.0, v) ∷ es) (e ∷ insert_entry nat_cmp es k v))
-    ≡ match_ordering o ((k, string_bytes v) ∷ port_text e ∷ map port_text es) ((e.0, string_bytes v) ∷ map port_text es) (port_text e ∷ insert_entry nat_cmp (map port_text es) k (string_bytes v))
+    ≡ match_ordering o ((k, v.now) ∷ port_text e ∷ map port_text es) ((e.0, v.now) ∷ map port_text es) (port_text e ∷ insert_entry nat_cmp (map port_text es) k (v.now))
 placed Less e es k v rest = refl
 placed Equal e es k v rest = refl
 placed Greater e es k v rest = ap (λ t. port_text e ∷ t) rest
 
-pub port_texts-insert_entry : (es : List (ℕ × String Global)) (k : ℕ) (v : String Global) → map port_text (insert_entry nat_cmp es k v) ≡ put_port (map port_text es) (k, string_bytes v)
+pub port_texts-insert_entry : (es : List (ℕ × Bor (List ℕ))) (k : ℕ) (v : Bor (List ℕ)) → map port_text (insert_entry nat_cmp es k v) ≡ put_port (map port_text es) (k, v.now)
 port_texts-insert_entry [] k v = refl
 port_texts-insert_entry (e ∷ es) k v = placed (nat_cmp k e.0) e es k v (port_texts-insert_entry es k v)
 
@@ -82,13 +83,13 @@ ports-step so_far port p rest is = rw is (found rest)
     found (Some ports) = refl
 
 -- one turn of a loop that puts the ports of a table in order
-pub ports-turn : (old new : List (ℕ × String Global)) (left rest : List (String Global × Value)) (key : String Global) (value : Value) (port : ℕ) (text : List ℕ) (name : String Global)
-    → left ≡ (key, value) ∷ rest → Some (port, text) ≡ port_of (port_number (string_bytes key)) (name_in (view value)) → string_bytes name ≡ text → new ≡ insert_entry nat_cmp old port name
+pub ports-turn : (old new : List (ℕ × Bor (List ℕ))) (left rest : List (String Global × Value)) (key : String Global) (value : Value) (port : ℕ) (name : Bor (List ℕ))
+    → left ≡ (key, value) ∷ rest → Some (port, name.now) ≡ port_of (port_number (string_bytes key)) (name_in (view value)) → new ≡ insert_entry nat_cmp old port name
     → option_map (fold put_port (map port_text new)) (ports_listed (members_view rest)) ≡ option_map (fold put_port (map port_text old)) (ports_listed (members_view left))
-ports-turn old new left rest key value port text name more is same put =
+ports-turn old new left rest key value port name more is put =
     ap (λ es. option_map (fold put_port (map port_text es)) (ports_listed (members_view rest))) put
-    ∙ ap (λ ps. option_map (fold put_port ps) (ports_listed (members_view rest))) (port_texts-insert_entry old port name ∙ ap (λ t. put_port (map port_text old) (port, t)) same)
-    ∙ sym (ports-step (map port_text old) (port_of (port_number (string_bytes key)) (name_in (view value))) (port, text) (ports_listed (members_view rest)) (sym is))
+    ∙ ap (λ ps. option_map (fold put_port ps) (ports_listed (members_view rest))) (port_texts-insert_entry old port name)
+    ∙ sym (ports-step (map port_text old) (port_of (port_number (string_bytes key)) (name_in (view value))) (port, name.now) (ports_listed (members_view rest)) (sym is))
     ∙ ap (λ es. option_map (fold put_port (map port_text old)) (ports_listed (members_view es))) (sym more)
 
 -- ---- keys in order

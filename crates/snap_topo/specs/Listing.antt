@@ -12,24 +12,17 @@ string_texts names = map string_bytes names
 abbrev pub texts : Vec (String Global) Global → List (List ℕ)
 texts v = string_texts v.items
 
-abbrev pub pair_text : String Global × String Global → List ℕ × List ℕ
-pair_text p = (string_bytes p.0, string_bytes p.1)
+abbrev pub pair_text : Bor (List ℕ) × Bor (List ℕ) → List ℕ × List ℕ
+pair_text p = (p.0.now, p.1.now)
 
-abbrev pub pair_texts : Vec (String Global × String Global) Global → List (List ℕ × List ℕ)
+abbrev pub pair_texts : Vec (Bor (List ℕ) × Bor (List ℕ)) Global → List (List ℕ × List ℕ)
 pair_texts v = map pair_text v.items
 
-abbrev pub port_text : ℕ × String Global → ℕ × List ℕ
-port_text p = (p.0, string_bytes p.1)
+abbrev pub port_text : ℕ × Bor (List ℕ) → ℕ × List ℕ
+port_text p = (p.0, p.1.now)
 
-abbrev pub port_texts : BTreeMap ℕ (String Global) → List (ℕ × List ℕ)
+abbrev pub port_texts : BTreeMap ℕ (Bor (List ℕ)) → List (ℕ × List ℕ)
 port_texts m = map port_text m.entries
-
--- what borrowed names are
-abbrev pub pair_seen : Bor (List ℕ) × Bor (List ℕ) → List ℕ × List ℕ
-pair_seen p = (p.0.now, p.1.now)
-
-abbrev pub port_seen : ℕ × Bor (List ℕ) → ℕ × List ℕ
-port_seen p = (p.0, p.1.now)
 
 abbrev pub spelled_by : Listing → Spelled
 spelled_by l = record { switches = texts l.switches; links = pair_texts l.links; ports = port_texts l.ports }

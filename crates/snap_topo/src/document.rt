@@ -5,7 +5,7 @@ ghost use Rattle.std.specs.Option.{option_copied};
 ghost use Rattle.toml.specs.View.{items_view, table_view, view};
 ghost use Rattle.toml.specs.Data.{get_member};
 ghost use Rattle.snap_topo.specs.Spells.{document, by_number, has_keys, member_count, port_number};
-ghost use Rattle.snap_topo.specs.Listing.{pair_seen, pair_texts, port_seen, port_texts, spelled_by, texts};
+ghost use Rattle.snap_topo.specs.Listing.{pair_text, pair_texts, port_text, port_texts, spelled_by, texts};
 ghost use Rattle.snap_topo.specs.Shape.{link_in, links_in, links_listed, name_in, names_in, port_of, ports_in, ports_listed, spelled, switches_in};
 
 use crate::listing::Listing;
@@ -83,7 +83,7 @@ pub fn switch_name(value: &Value) -> Option<&str>
 pub fn names_of(alloc: Global, items: &[Value]) -> Result<Option<Vec<String>>, AllocError>
     ensures { IfOk result (λ r. option_map texts r ≡ names_in (items_view items.now)) }
 {
-    let mut names = Vec::new(alloc);
+    let mut names = Vec::with_capacity(alloc, items.len())?;
     for item in items {
         let Some(name) = switch_name(item) else {
             return Ok(None);
@@ -119,7 +119,7 @@ fn switches_of(alloc: Global, table: &Table) -> Result<Option<Vec<String>>, Allo
 
 /// The two names of an array of two different switch names.
 fn link_of(value: &Value) -> Option<(&str, &str)>
-    ensures { option_map pair_seen result ≡ link_in (view value.now) }
+    ensures { option_map pair_text result ≡ link_in (view value.now) }
 {
     let items = value.as_array()?.as_slice();
     if items.len() != 2 {
@@ -131,22 +131,26 @@ fn link_of(value: &Value) -> Option<(&str, &str)>
 }
 
 /// The links of an array of links.
-fn links_of(alloc: Global, items: &[Value]) -> Result<Option<Vec<(String, String)>>, AllocError>
+fn links_of<'a>(
+    alloc: Global,
+    items: &'a [Value],
+) -> Result<Option<Vec<(&'a str, &'a str)>>, AllocError>
     ensures { IfOk result (λ r. option_map pair_texts r ≡ links_listed (items_view items.now)) }
 {
-    let mut links = Vec::new(alloc);
+    let mut links = Vec::with_capacity(alloc, items.len())?;
     for item in items {
-        let Some((a, b)) = link_of(item) else {
+        let Some(link) = link_of(item) else {
             return Ok(None);
         };
-        let a = String::from_str(alloc, a)?;
-        let b = String::from_str(alloc, b)?;
-        links.push((a, b))?;
+        links.push(link)?;
     }
     Ok(Some(links))
 }
 
-fn links_in_value(alloc: Global, value: &Value) -> Result<Option<Vec<(String, String)>>, AllocError>
+fn links_in_value<'a>(
+    alloc: Global,
+    value: &'a Value,
+) -> Result<Option<Vec<(&'a str, &'a str)>>, AllocError>
     ensures { IfOk result (λ r. option_map pair_texts r ≡ links_in (Some (view value.now))) }
 {
     match value.as_array() {
@@ -155,7 +159,10 @@ fn links_in_value(alloc: Global, value: &Value) -> Result<Option<Vec<(String, St
     }
 }
 
-fn links_in_table(alloc: Global, table: &Table) -> Result<Option<Vec<(String, String)>>, AllocError>
+fn links_in_table<'a>(
+    alloc: Global,
+    table: &'a Table,
+) -> Result<Option<Vec<(&'a str, &'a str)>>, AllocError>
     ensures { IfOk result (λ r. option_map pair_texts r ≡ links_in (get_member (codes "links") (table_view table.now))) }
 {
     match table.get("links") {
@@ -166,7 +173,7 @@ fn links_in_table(alloc: Global, table: &Table) -> Result<Option<Vec<(String, St
 
 /// The port and the name of an entry of the table of ports.
 fn port_entry<'a>(key: &str, value: &'a Value) -> Option<(u32, &'a str)>
-    ensures { option_map port_seen result ≡ port_of (port_number key.now) (name_in (view value.now)) }
+    ensures { option_map port_text result ≡ port_of (port_number key.now) (name_in (view value.now)) }
 {
     let port = port_of(key)?;
     let name = switch_name(value)?;
@@ -174,7 +181,10 @@ fn port_entry<'a>(key: &str, value: &'a Value) -> Option<(u32, &'a str)>
 }
 
 /// The ports of a table from numbers of ports to switch names.
-fn ports_of(alloc: Global, table: &Table) -> Result<Option<BTreeMap<u32, String>>, AllocError>
+fn ports_of<'a>(
+    alloc: Global,
+    table: &'a Table,
+) -> Result<Option<BTreeMap<u32, &'a str>>, AllocError>
     ensures { IfOk result (λ r. option_map port_texts r ≡ option_map by_number (ports_listed (table_view table.now))) }
 {
     let mut ports = BTreeMap::new(alloc);
@@ -182,12 +192,15 @@ fn ports_of(alloc: Global, table: &Table) -> Result<Option<BTreeMap<u32, String>
         let Some((port, name)) = port_entry(key.as_str(), value) else {
             return Ok(None);
         };
-        ports.insert(port, String::from_str(alloc, name)?)?;
+        ports.insert(port, name)?;
     }
     Ok(Some(ports))
 }
 
-fn ports_in_value(alloc: Global, value: &Value) -> Result<Option<BTreeMap<u32, String>>, AllocError>
+fn ports_in_value<'a>(
+    alloc: Global,
+    value: &'a Value,
+) -> Result<Option<BTreeMap<u32, &'a str>>, AllocError>
     ensures { IfOk result (λ r. option_map port_texts r ≡ ports_in (Some (view value.now))) }
 {
     match value.as_table() {
@@ -196,7 +209,10 @@ fn ports_in_value(alloc: Global, value: &Value) -> Result<Option<BTreeMap<u32, S
     }
 }
 
-fn ports_in_table(alloc: Global, table: &Table) -> Result<Option<BTreeMap<u32, String>>, AllocError>
+fn ports_in_table<'a>(
+    alloc: Global,
+    table: &'a Table,
+) -> Result<Option<BTreeMap<u32, &'a str>>, AllocError>
     ensures { IfOk result (λ r. option_map port_texts r ≡ ports_in (get_member (codes "ports") (table_view table.now))) }
 {
     match table.get("ports") {
@@ -206,7 +222,7 @@ fn ports_in_table(alloc: Global, table: &Table) -> Result<Option<BTreeMap<u32, S
 }
 
 /// What the document spells.
-pub(crate) fn listing_of(alloc: Global, table: &Table) -> Result<Listing, TopoFault>
+pub(crate) fn listing_of<'a>(alloc: Global, table: &'a Table) -> Result<Listing<'a>, TopoFault>
     ensures { MatchResult result (λ l. spelled (Some (table_view table.now)) ≡ Ok (spelled_by l))
         (λ e. e ≢ TopoFault.NoMemory → spelled (Some (table_view table.now)) ≡ Err e) }
 {

@@ -4,8 +4,8 @@ use std::collections::BTreeMap;
 
 /// The names of the switches, the links as listed, and the ports by rising number.
 #[derive(Drop)]
-pub(crate) struct Listing {
+pub(crate) struct Listing<'a> {
     pub(crate) switches: Vec<String>,
-    pub(crate) links: Vec<(String, String)>,
-    pub(crate) ports: BTreeMap<u32, String>,
+    pub(crate) links: Vec<(&'a str, &'a str)>,
+    pub(crate) ports: BTreeMap<u32, &'a str>,
 }

@@ -24,7 +24,7 @@ fn name_of(alloc: Global, text: &str) -> Result<Name, AllocError>
 }
 
 /// Refuses a listing of too many switches, links or ports.
-fn within_limits(listing: &Listing) -> Result<(), TopoFault>
+fn within_limits(listing: &Listing<'_>) -> Result<(), TopoFault>
     ensures ok { OnOk result (too_many (spelled_by listing.now) ≡ None) }
     ensures limit { IfErr result (λ e. IsSomeAnd (too_many (spelled_by listing.now)) (λ many. e ≡ TopoFault.Limit many.0 many.1)) }
 {
@@ -87,14 +87,14 @@ fn number(alloc: Global, numbers: &IndexSet<String>, name: &str) -> Result<u16, 
 fn link_of(
     alloc: Global,
     numbers: &IndexSet<String>,
-    link: &(String, String),
+    link: &(&str, &str),
 ) -> Result<(u16, u16), TopoFault>
     requires { index_set_len numbers.now ≤ MOST_SWITCHES }
     ensures ok { IfOk result (λ pair. (find (is_unknown (string_texts numbers.now.keys)) (ends (pair_text link.now)) ≡ None) × (pair ≡ numbered (string_texts numbers.now.keys) (pair_text link.now))) }
     ensures unknown { IfErr result (λ e. e ≢ TopoFault.NoMemory → IsSomeAnd (find (is_unknown (string_texts numbers.now.keys)) (ends (pair_text link.now))) (λ name. e ≡ TopoFault.Unknown name)) }
 {
-    let a = number(alloc, numbers, link.0.as_str())?;
-    let b = number(alloc, numbers, link.1.as_str())?;
+    let a = number(alloc, numbers, link.0)?;
+    let b = number(alloc, numbers, link.1)?;
     Ok((a.min(b), a.max(b)))
 }
 
@@ -102,13 +102,13 @@ fn link_of(
 fn links_of(
     alloc: Global,
     numbers: &IndexSet<String>,
-    links: &[(String, String)],
+    links: &[(&str, &str)],
 ) -> Result<Vec<(u16, u16)>, TopoFault>
     requires { index_set_len numbers.now ≤ MOST_SWITCHES }
     ensures ok { IfOk result (λ pairs. (find (is_unknown (string_texts numbers.now.keys)) (flat_map ends (map pair_text links.now)) ≡ None) × (pairs.items ≡ map (numbered (string_texts numbers.now.keys)) (map pair_text links.now))) }
     ensures unknown { IfErr result (λ e. e ≢ TopoFault.NoMemory → IsSomeAnd (find (is_unknown (string_texts numbers.now.keys)) (flat_map ends (map pair_text links.now))) (λ name. e ≡ TopoFault.Unknown name)) }
 {
-    let mut pairs = Vec::new(alloc);
+    let mut pairs = Vec::with_capacity(alloc, links.len())?;
     for link in links {
         pairs.push(link_of(alloc, numbers, link)?)?;
     }
@@ -119,7 +119,7 @@ fn links_of(
 fn ports_of(
     alloc: Global,
     numbers: &IndexSet<String>,
-    ports: &BTreeMap<u32, String>,
+    ports: &BTreeMap<u32, &str>,
 ) -> Result<Vec<PortAt>, TopoFault>
     requires { index_set_len numbers.now ≤ MOST_SWITCHES }
     ensures ok { IfOk result (λ placed. (find (is_unknown (string_texts numbers.now.keys)) (map port_name (port_texts ports.now)) ≡ None) × (placed.items ≡ map (port_at (string_texts numbers.now.keys)) (port_texts ports.now))) }
@@ -127,7 +127,7 @@ fn ports_of(
 {
     let mut placed = Vec::new(alloc);
     for (port, name) in ports {
-        let at = number(alloc, numbers, name.as_str())?;
+        let at = number(alloc, numbers, name)?;
         placed.push(PortAt { port: *port, at })?;
     }
     Ok(placed)
@@ -147,7 +147,7 @@ fn once(mut links: Vec<(u16, u16)>) -> Vec<(u16, u16)>
 fn switches_of(alloc: Global, names: &[String]) -> Result<Names, AllocError>
     ensures { IfOk result (λ switches. switches ≡ string_texts names.now) }
 {
-    let mut switches = Vec::new(alloc);
+    let mut switches = Vec::with_capacity(alloc, names.len())?;
     for name in names {
         switches.push(name_of(alloc, name.as_str())?)?;
     }
@@ -155,7 +155,7 @@ fn switches_of(alloc: Global, names: &[String]) -> Result<Names, AllocError>
 }
 
 /// The topology of a listing, or its first fault.
-pub(crate) fn resolve(alloc: Global, listing: &Listing) -> Result<Topology, TopoFault>
+pub(crate) fn resolve(alloc: Global, listing: &Listing<'_>) -> Result<Topology, TopoFault>
     ensures few { IfOk result (λ t. length t.links ≤ length (spelled_by listing.now).links) }
     ensures answer { MatchResult result (λ t. WithinThen (spelled_by listing.now) (too_many (spelled_by listing.now)) (Ok t))
         (λ e. e ≢ TopoFault.NoMemory → WithinThen (spelled_by listing.now) (too_many (spelled_by listing.now)) (Err e)) }

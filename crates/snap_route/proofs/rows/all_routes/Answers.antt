@@ -6,7 +6,7 @@ use Rattle.snap_route.proofs.rows.all_routes.Goals as goal
 
 pub returns-in_err-toward-clause-apart : goal.returns-in_err-toward-clause-apart
 returns-in_err-toward-clause-apart c =
-    let p = err_from_is_err_and c.from_residual.result c.from_residual.ensures.1 in
+    let p = err_from_is_err_and c.from_residual-in_err-toward.result c.from_residual-in_err-toward.ensures.1 in
     rw (p.1, p.2) (apart-cause c.args.graph.now c.loop-target.rows.items c.loop-target.target c.in_err-toward.field-0.0 c.requires c.loop-target-test.true c.loop-target.invariant.rows c.in_err-toward.ensures.away)
 
 pub loop-target-preserved : goal.loop-target-preserved

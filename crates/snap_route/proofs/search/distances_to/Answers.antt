@@ -1,4 +1,4 @@
-use Rattle.std.proofs.Common.{◌≡◌, ◌∙◌, ◌+◌, ◌<◌, ◌∷◌, [], ℕ, List, Option, sym, ap, subst, arith, length}
+use Rattle.std.proofs.Common.{◌≡◌, ◌∙◌, ◌+◌, ◌<◌, ◌∷◌, [], ℕ, List, None, Option, sym, ap, subst, arith, length, replicate, rules}
 use Rattle.std.specs.List.{Contains, flat_map}
 use Rattle.std.proofs.lemmas.Bool.{eqb-true, eq-eqb, false≢true}
 use Rattle.snap_route.specs.Graphs.{neighbours_of}
@@ -13,9 +13,10 @@ pub levels-init : goal.levels-init
 levels-init c =
     let old = c.as_mut_slice.result.now in
     let new = c.reach.new.distances in
+    let nowhere : c.in_ok-distances.distances.items ≡ replicate (length c.args.graph.now) None = search rules in
     let size = ap (λ (xs : List (Option ℕ)). length xs) c.as_mut_slice.ensures.value in
     let one = subst (λ (xs : List ℕ). Reaches (c.args.target ∷ []) 0 old new xs c.reach.new.level.items) c.new-level.ensures.items c.in_ok-reach.ensures in
-    let first = Levels-first c.args.graph.now c.args.target old new c.reach.new.level.items c.requires.target (c.as_mut_slice.ensures.value ∙ c.in_ok-distances.ensures) one in
+    let first = Levels-first c.args.graph.now c.args.target old new c.reach.new.level.items c.requires.target (c.as_mut_slice.ensures.value ∙ nowhere) one in
     subst (λ (ds : List (Option ℕ)). Levels c.args.graph.now c.args.target 0 ds c.reach.new.level.items)
     (sym (written-back c.in_ok-distances.distances.len new c.in_ok-distances.distances.items (one.count ∙ size) (sym c.as_mut_slice.ensures.len ∙ size))) first
 
