@@ -1,6 +1,7 @@
 pub mod AheadLemmas
 pub mod DraftLemmas
 pub mod WordLemmas
+pub mod Readers
 pub mod RunLemmas
 pub mod StepLemmas
 pub mod SwitchLemmas

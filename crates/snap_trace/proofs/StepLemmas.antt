@@ -21,7 +21,9 @@ use Rattle.snap_trace.specs.PacketLines.{Said, skip, inject, bad, said_by}
 use Rattle.snap_trace.specs.Spelled.{stops, refused, ended, with_said, with_next, after_last}
 use Rattle.snap_trace.specs.ByPackets.{blocks_of, ending_of, IsTailOf}
 use Rattle.snap_trace.specs.OneSwitch.{HasReport, IsReport, RunEnding, WritesReport}
-use Rattle.snap_trace.specs.Steps.{Takes, Waits, ComesTo, ComesOn, Closes, PutsEnd, left_at, refusal_of, refusal_past_last, is_told}
+use Rattle.snap_trace.specs.Steps.{Takes, Waits, ComesTo, ComesOn, Closes, PutsEnd, left_at}
+use Rattle.snap_trace.specs.Reading.{refusal_of, refusal_past_last}
+use Rattle.snap_trace.specs.Runner.{is_told}
 use Rattle.snap_trace.proofs.SwitchLemmas.{are-blocks, is-report}
 use Rattle.snap_trace.proofs.RunLemmas.{left_at-next, left_at-last, comes-nothing, comes-ended, comes-ended-part, comes-refused, comes-undefined, comes-skip, comes-packet}
 
