@@ -15,7 +15,8 @@ use Rattle.snap_trace.specs.declared.line.Line.{Line}
 use Rattle.snap_trace.specs.declared.line.Line.TheVariants.{Skip, Inject}
 use Rattle.snap_trace.specs.declared.packets.PacketLines.{PacketLines}
 use Rattle.snap_trace.specs.PacketLines.{Said, bad, said_by}
-use Rattle.snap_trace.specs.Reading.{EndsAt, GivesNext, GoesOn, IsUnfit, LeavesLine, ReadsNext, RefusesNext, SaysNext, StopsNext, left_for, left_where, next_for, refusal_of, refusal_past_last, refused_behind, said_of, said_where, spelled_where, where_accepted}
+use Rattle.snap_trace.specs.Reading.{EndsAt, GivesNext, GoesOn, IsUnfit, LeavesLine, ReadsNext, RefusesNext, SaysNext, StopsNext, left_for, left_where, next_for, refused_behind, said_of, said_where, spelled_where, where_accepted}
+use Rattle.snap_trace.specs.Refusals.{refusal_of, refusal_past_last}
 use Rattle.snap_trace.specs.Shown.{Says}
 use Rattle.snap_trace.specs.Spelled.{after_last, counted, ended, refused, spelled_behind, stops, text_of, with_next, with_said}
 

@@ -6,6 +6,7 @@ pub mod Guesses
 pub mod OneSwitch
 pub mod PacketLines
 pub mod Reading
+pub mod Refusals
 pub mod Reports
 pub mod Runner
 pub mod Shown

@@ -2,9 +2,8 @@
 use Rattle.std.specs.Prelude.{◌≡◌, ◌⊎◌, ℕ, ◌+◌, ◌-◌, ◌<◌, ◌≤◌, ◌==◌, Bool, true, false, List, Result, Ok, Err, Some, None, length, slice_index, if◌then◌else◌}
 use Rattle.std.specs.declared.option.Option.{Option}
 use Rattle.snap_core.specs.declared.program.Field.{Field}
-use Rattle.snap_core.specs.declared.program.Which.TheVariants.{Bytes, Lines}
+use Rattle.snap_core.specs.declared.program.Which.TheVariants.{Bytes}
 use Rattle.snap_io.specs.declared.lines.LinesFault.{LinesFault}
-use Rattle.snap_io.specs.declared.lines.LinesFault.TheVariants.{Failed, LongLine, ManyBytes}
 use Rattle.snap_io.specs.LineReaders.{lines_given, lines_line}
 use Rattle.snap_io.specs.Lines.{Next, next_line, no_line, long_line, many_bytes, next_in}
 use Rattle.snap_trace.specs.declared.fault.TraceFault.{TraceFault}
@@ -13,19 +12,8 @@ use Rattle.snap_trace.specs.declared.line.Line.{Line}
 use Rattle.snap_trace.specs.declared.line.Line.TheVariants.{Skip, Inject}
 use Rattle.snap_trace.specs.declared.packets.PacketLines.{PacketLines}
 use Rattle.snap_trace.specs.PacketLines.{Said, skip, inject, bad, said_by}
+use Rattle.snap_trace.specs.Refusals.{refusal_of, refusal_past_last}
 use Rattle.snap_trace.specs.Spelled.{Spelled, stops, ended, refused, spelled_behind, with_said, after_last, counted}
-
--- why the line of this number isn't given
-abbrev pub refusal_of : LinesFault → ℕ → TraceFault
-refusal_of Failed line = Read
-refusal_of LongLine line = Packets line
-refusal_of ManyBytes line = Limit Bytes 67108865
-
--- why no line is given behind the last that may come
-abbrev pub refusal_past_last : LinesFault → TraceFault
-refusal_past_last Failed = Read
-refusal_past_last LongLine = Limit Lines 1000001
-refusal_past_last ManyBytes = Limit Lines 1000001
 
 -- what a line that was given says
 abbrev pub said_of : Line → Said

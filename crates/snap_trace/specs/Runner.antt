@@ -5,7 +5,7 @@ use Rattle.std.specs.declared.option.Option.{Option}
 use Rattle.std.specs.Io.KnownBytes.{Appends}
 use Rattle.snap_core.specs.declared.program.Field.{Field}
 use Rattle.snap_io.specs.Sinks.{AppendsPart, AppendsSome}
-use Rattle.snap_trace.specs.Steps.{Waits}
+use Rattle.snap_io.specs.Outputs.{Waits}
 use Rattle.snap_trace.specs.declared.fault.TraceFault.{TraceFault}
 use Rattle.snap_trace.specs.declared.fault.TraceFault.TheVariants.{Read, Write, Limit, Packets, Undefined, NoMemory}
 use Rattle.snap_trace.specs.declared.line.Line.{Line}

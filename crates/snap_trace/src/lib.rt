@@ -7,7 +7,6 @@ pub mod fault;
 pub mod front;
 mod guess;
 pub mod line;
-pub mod output;
 pub mod packets;
 pub mod report;
 pub mod runner;

@@ -3,7 +3,7 @@
 ghost use Rattle.std.specs.Prelude.{◌≡◌, ◌↔◌, ◌≤◌, ◌+◌, ℕ, List, Bool, IfOk, IfSome, IsErrOf, IsTrue};
 ghost use Rattle.std.specs.declared.option.Option.{Option as Maybe};
 ghost use Rattle.snap_io.specs.LineReaders.{lines_limit, lines_most};
-ghost use Rattle.snap_trace.specs.Reading.{refusal_of, refusal_past_last};
+ghost use Rattle.snap_trace.specs.Refusals.{refusal_of, refusal_past_last};
 
 use crate::fault::TraceFault;
 use crate::line::{Line, LineFault, read_line};

@@ -12,16 +12,16 @@ ghost use Rattle.snap_trace.specs.Spelled.{Spelled};
 
 use crate::fault::TraceFault;
 use crate::line::Line;
-use crate::output::Output;
 use crate::packets::PacketLines;
 use snap_core::packet::Packet;
 use snap_core::program::Fields;
-use snap_io::{Shelf, Sink};
+use snap_io::{Output, Shelf, Sink};
 use std::alloc::Global;
 
 /// Takes the packets of a file, one after another, and reports them: one big switch, or a network.
 pub trait Machine {
     ghost use Rattle.snap_core.specs.declared.program.Field.{Field};
+    ghost use Rattle.snap_trace.specs.declared.fault.TraceFault.{TraceFault};
 
     /// The fields of its packets.
     ghost fields: { Self → List Field };

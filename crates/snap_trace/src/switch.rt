@@ -18,6 +18,7 @@ ghost use Rattle.snap_trace.specs.Steps.{Closes, ComesOn, ComesTo, PutsEnd, Take
 
 use crate::fault::TraceFault;
 use crate::line::{Line, LineFault, read_line};
+pub use crate::packets::MOST_BYTES;
 use crate::packets::{MOST_LINE, MOST_LINES, many_lines, refusal, refusal_past_last};
 use crate::report::put_copies;
 use crate::runner::is_told;
@@ -29,8 +30,6 @@ use snap_core::program::Program;
 use snap_core::store::Store;
 use snap_io::{Lines, Shelf, Sink, WriteFailed, write_whole};
 use std::alloc::Global;
-
-pub use crate::packets::MOST_BYTES;
 
 /// A switch between two packets: its store, the number of the next packet, and the text that waits to be written.
 #[derive(Drop)]
