@@ -21,7 +21,9 @@ use Rattle.snap_trace.specs.PacketLines.{Said, skip, inject, bad, said_by}
 use Rattle.snap_trace.specs.Spelled.{stops, refused, ended, with_said, with_next, after_last}
 use Rattle.snap_trace.specs.ByPackets.{blocks_of, ending_of, IsTailOf}
 use Rattle.snap_trace.specs.OneSwitch.{HasReport, IsReport, RunEnding, WritesReport}
-use Rattle.snap_trace.specs.Steps.{Takes, Waits, ComesTo, ComesOn, Closes, PutsEnd, left_at, refusal_of, refusal_past_last, is_told}
+use Rattle.snap_trace.specs.Steps.{Takes, Waits, ComesTo, ComesOn, Closes, PutsEnd, left_at}
+use Rattle.snap_trace.specs.Refusals.{refusal_of, refusal_past_last}
+use Rattle.snap_trace.specs.Runner.{is_told}
 use Rattle.snap_trace.proofs.SwitchLemmas.{are-blocks, is-report}
 use Rattle.snap_trace.proofs.RunLemmas.{left_at-next, left_at-last, comes-nothing, comes-ended, comes-ended-part, comes-refused, comes-undefined, comes-skip, comes-packet}
 
@@ -98,6 +100,13 @@ module _ (program : Program) (file : List ℕ) (start now : Option (List ℕ)) (
 pub where_both_told : (told : Option Files) (P Q R : Files → Type 0) → ((files : Files) → P files → Q files → R files) → IfSome told P → IfSome told Q → IfSome told R
 where_both_told None P Q R f h k = tt
 where_both_told (Some files) P Q R f h k = f files h k
+
+-- what a step makes of each file that a shelf tells, where it tells the same files as before
+pub told-on : (told told' : Option Files) (name name' : List ℕ) (P Q : List ℕ → Type 0) → told' ≡ told → name' ≡ name → IfSome told (λ files. P (file_of files name))
+    → IfSome told' (λ files. P (file_of files name') → Q (file_of files name')) → IfSome told (λ files. Q (file_of files name))
+told-on told told' name name' P Q same called came steps =
+    where_both_told told (λ files. P (file_of files name)) (λ files. P (file_of files name) → Q (file_of files name)) (λ files. Q (file_of files name)) (λ files p f. f p) came
+    (subst (λ o. IfSome o (λ files. P (file_of files name) → Q (file_of files name))) same (subst (λ n. IfSome told' (λ files. P (file_of files n) → Q (file_of files n))) called steps))
 
 -- the end of the report is put where no line is left
 pub end-put : (program : Program) (file : List ℕ) (start now then : Option (List ℕ)) (read at : ℕ) (old : Switch) (waiting : List ℕ) → ComesTo program file read at start now old

@@ -5,7 +5,10 @@ pub mod Drafts
 pub mod Guesses
 pub mod OneSwitch
 pub mod PacketLines
+pub mod Reading
+pub mod Refusals
 pub mod Reports
+pub mod Runner
 pub mod Shown
 pub mod Spelled
 pub mod Steps

@@ -8,9 +8,6 @@ use Rattle.snap_core.specs.Cells.{arrays_of}
 use Rattle.snap_core.specs.Meaning.{Meaning, eval}
 use Rattle.snap_core.specs.declared.place.Entry.{Entry}
 use Rattle.snap_core.specs.Listing.{IsListing}
-use Rattle.snap_core.specs.declared.program.Which.TheVariants.{Bytes, Lines}
-use Rattle.snap_io.specs.declared.lines.LinesFault.{LinesFault}
-use Rattle.snap_io.specs.declared.lines.LinesFault.TheVariants.{Failed, LongLine, ManyBytes}
 use Rattle.snap_io.specs.Lines.{no_line, next_in}
 use Rattle.snap_io.specs.Sinks.{AppendsPart}
 use Rattle.snap_trace.specs.declared.fault.TraceFault.{TraceFault}
@@ -99,22 +96,3 @@ PutsEnd program switch old new waiting (Ok u) = (entries : List Entry) × IsList
 PutsEnd program switch old new waiting (Err Write) = (entries : List Entry) × IsListing (arrays_of switch.store) entries × AppendsPart old new (switch.text.items ++ end_text program.vars entries)
 PutsEnd program switch old new waiting (Err NoMemory) = new ≡ old
 PutsEnd program switch old new waiting (Err fault) = ⊥
-
--- why the line of this number isn't given
-abbrev pub refusal_of : LinesFault → ℕ → TraceFault
-refusal_of Failed line = Read
-refusal_of LongLine line = Packets line
-refusal_of ManyBytes line = Limit Bytes 67108865
-
--- why no line is given behind the last that may come
-abbrev pub refusal_past_last : LinesFault → TraceFault
-refusal_past_last Failed = Read
-refusal_past_last LongLine = Limit Lines 1000001
-refusal_past_last ManyBytes = Limit Lines 1000001
-
--- the run has come to its end, with no device's failure and no want of memory
-abbrev pub is_told : RunEnding → Bool
-is_told (Err Read) = false
-is_told (Err Write) = false
-is_told (Err NoMemory) = false
-is_told ending = true

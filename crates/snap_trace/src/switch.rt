@@ -14,28 +14,22 @@ ghost use Rattle.snap_io.specs.LineReaders.{AgreesWith, lines_given, lines_limit
 ghost use Rattle.snap_io.specs.Sinks.{AppendsPart};
 ghost use Rattle.snap_trace.specs.OneSwitch.{WritesReport};
 ghost use Rattle.snap_trace.specs.PacketLines.{said_by};
-ghost use Rattle.snap_trace.specs.Steps.{Closes, ComesOn, ComesTo, PutsEnd, Takes, is_told, refusal_of, refusal_past_last, TakesPacket, Waits};
+ghost use Rattle.snap_trace.specs.Steps.{Closes, ComesOn, ComesTo, PutsEnd, Takes, TakesPacket, Waits};
 
 use crate::fault::TraceFault;
 use crate::line::{Line, LineFault, read_line};
+pub use crate::packets::MOST_BYTES;
+use crate::packets::{MOST_LINE, MOST_LINES, many_lines, refusal, refusal_past_last};
 use crate::report::put_copies;
+use crate::runner::is_told;
 use crate::tail::{PIECE, put_end};
 use snap_core::eval::run;
 use snap_core::outcome::EvalFault;
 use snap_core::packet::Packet;
-use snap_core::program::{Program, Which};
+use snap_core::program::Program;
 use snap_core::store::Store;
-use snap_io::{Lines, LinesFault, Shelf, Sink, WriteFailed, write_whole};
+use snap_io::{Lines, Shelf, Sink, WriteFailed, write_whole};
 use std::alloc::Global;
-
-/// The most bytes of a packets file.
-pub const MOST_BYTES: u64 = 67_108_864;
-
-/// The most bytes of a line of a packets file, without its LF.
-pub const MOST_LINE: usize = 65_536;
-
-/// The most lines of a packets file.
-pub const MOST_LINES: u64 = 1_000_000;
 
 /// A switch between two packets: its store, the number of the next packet, and the text that waits to be written.
 #[derive(Drop)]
@@ -273,51 +267,6 @@ impl Switch {
             Ok(()) => ended,
             Err(_) => Err(TraceFault::Write),
         }
-    }
-}
-
-/// Whether the run has come to its end, with no device's failure and no want of memory.
-pub fn is_told(ended: &Result<(), TraceFault>) -> bool
-    ensures { result ≡ is_told ended.now }
-{
-    !matches!(
-        ended,
-        Err(TraceFault::Read | TraceFault::Write | TraceFault::NoMemory)
-    )
-}
-
-/// The refusal of a line behind the last that may come.
-pub fn many_lines() -> TraceFault
-    ensures { result ≡ TraceFault.Limit Which.Lines 1000001 }
-{
-    TraceFault::Limit {
-        which: Which::Lines,
-        count: MOST_LINES + 1,
-    }
-}
-
-/// Why no line is given behind the last that may come.
-pub fn refusal_past_last(fault: LinesFault) -> TraceFault
-    ensures { result ≡ refusal_past_last fault }
-{
-    match fault {
-        LinesFault::Failed => TraceFault::Read,
-        LinesFault::LongLine => many_lines(),
-        LinesFault::ManyBytes => many_lines(),
-    }
-}
-
-/// Why the line of this number isn't given.
-pub fn refusal(fault: LinesFault, line: u64) -> TraceFault
-    ensures { result ≡ refusal_of fault line }
-{
-    match fault {
-        LinesFault::Failed => TraceFault::Read,
-        LinesFault::LongLine => TraceFault::Packets { line },
-        LinesFault::ManyBytes => TraceFault::Limit {
-            which: Which::Bytes,
-            count: MOST_BYTES + 1,
-        },
     }
 }
 

@@ -1,5 +1,5 @@
 use Rattle.std.proofs.Common.{◌≡◌, true, false, sym, ◌∙◌}
-use Rattle.snap_trace.specs.Steps.{is_told}
+use Rattle.snap_trace.specs.Runner.{is_told}
 use Rattle.snap_trace.proofs.StepLemmas.{meets-written, meets-failed, meets-short}
 use Rattle.snap_trace.proofs.switch.Switch.close.Goals as goal
 

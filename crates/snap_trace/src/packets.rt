@@ -1,17 +1,25 @@
 //! A reader of a packets file, line by line.
 
-ghost use Rattle.std.specs.Prelude.{◌≡◌, ◌↔◌, ◌≤◌, ◌+◌, ℕ, List, IfOk, IfSome, IsErrOf, IsTrue};
+ghost use Rattle.std.specs.Prelude.{◌≡◌, ◌↔◌, ◌≤◌, ◌+◌, ℕ, List, Bool, IfOk, IfSome, IsErrOf, IsTrue};
 ghost use Rattle.std.specs.declared.option.Option.{Option as Maybe};
 ghost use Rattle.snap_io.specs.LineReaders.{lines_limit, lines_most};
+ghost use Rattle.snap_trace.specs.Refusals.{refusal_of, refusal_past_last};
 
+use crate::fault::TraceFault;
+use crate::line::{Line, LineFault, read_line};
 use snap_core::NoMemory;
-use snap_core::program::Fields;
+use snap_core::program::{Fields, Which};
 use snap_io::{Lines, LinesFault, Shelf};
-use snap_trace::switch::{
-    MOST_BYTES, MOST_LINE, MOST_LINES, many_lines, refusal, refusal_past_last,
-};
-use snap_trace::{Line, LineFault, TraceFault, read_line};
 use std::alloc::Global;
+
+/// The most bytes of a packets file.
+pub const MOST_BYTES: u64 = 67_108_864;
+
+/// The most bytes of a line of a packets file, without its LF.
+pub const MOST_LINE: usize = 65_536;
+
+/// The most lines of a packets file.
+pub const MOST_LINES: u64 = 1_000_000;
 
 /// A reader of a packets file, and how many lines it has given.
 #[derive(Drop)]
@@ -28,8 +36,7 @@ impl PacketLines {
     ghost use Rattle.snap_io.specs.Causes.{NoneFell, Rose};
     ghost use Rattle.snap_io.specs.Files.{Files, file_of};
     ghost use Rattle.snap_io.specs.LineReaders.{AgreesWith, HoldsLine, lines_given, lines_name};
-    ghost use Rattle.snap_rows.specs.declared.tables.Tables.{Tables};
-    ghost use Rattle.snap_runs.specs.Reading.{GivesLine, GivesNext, GoesOn, HasLine, ReadsNext, next_for, refused_behind};
+    ghost use Rattle.snap_trace.specs.Reading.{GivesNext, GoesOn, HasLine, LeavesLine, ReadsNext, next_for, refused_behind};
 
     /// A reader of the file with this name, before its first line. Refuses for memory alone.
     pub fn new(alloc: Global, name: &[u8]) -> Result<PacketLines, NoMemory>
@@ -69,10 +76,8 @@ impl PacketLines {
         fields: &Fields,
     ) -> Result<Option<Line>, TraceFault>
         requires agrees { AgreesWith (S.files shelf.old) self.old.lines }
-        ensures next { IfSome (S.files shelf.old) (λ files.
-            GivesNext fields.now self.old.read (next_for (file_of files (lines_name self.old.lines)) self.old) self.new result) }
-        ensures gives { IfSome (S.files shelf.old) (λ files. (t : Tables) → fields.now ≡ t.fields →
-            GivesLine t (file_of files (lines_name self.old.lines)) self.old self.new result) }
+        ensures leaves { IfSome (S.files shelf.old) (λ files. (accepts : ℕ → List ℕ → Bool) (before : ℕ) →
+            LeavesLine fields.now accepts before (file_of files (lines_name self.old.lines)) self.old self.new result) }
         ensures comps { IfOk result (HasLine (count fields.now)) }
         ensures goes_on { IfOk result (GoesOn self.old.read self.new.read) }
         ensures name { lines_name self.new.lines ≡ lines_name self.old.lines }
@@ -153,5 +158,40 @@ impl PacketLines {
         } else {
             refusal(fault, self.read + 1)
         }
+    }
+}
+
+// The refusal of a line behind the last that may come.
+pub(crate) fn many_lines() -> TraceFault
+    ensures { result ≡ TraceFault.Limit Which.Lines 1000001 }
+{
+    TraceFault::Limit {
+        which: Which::Lines,
+        count: MOST_LINES + 1,
+    }
+}
+
+// Why no line is given behind the last that may come.
+pub(crate) fn refusal_past_last(fault: LinesFault) -> TraceFault
+    ensures { result ≡ refusal_past_last fault }
+{
+    match fault {
+        LinesFault::Failed => TraceFault::Read,
+        LinesFault::LongLine => many_lines(),
+        LinesFault::ManyBytes => many_lines(),
+    }
+}
+
+// Why the line of this number isn't given.
+pub(crate) fn refusal(fault: LinesFault, line: u64) -> TraceFault
+    ensures { result ≡ refusal_of fault line }
+{
+    match fault {
+        LinesFault::Failed => TraceFault::Read,
+        LinesFault::LongLine => TraceFault::Packets { line },
+        LinesFault::ManyBytes => TraceFault::Limit {
+            which: Which::Bytes,
+            count: MOST_BYTES + 1,
+        },
     }
 }

@@ -5,9 +5,9 @@ use Rattle.snap_io.specs.LineReaders.{lines_name}
 use Rattle.snap_trace.specs.PacketLines.{said_by}
 use Rattle.snap_trace.specs.Shown.{Says}
 use Rattle.snap_trace.proofs.StepLemmas.{where_told, whatever_told}
-use Rattle.snap_runs.specs.Reading.{GivesNext, ReadsNext, next_for}
-use Rattle.snap_runs.proofs.Readers.{gives-bad, gives-fault, gives-said}
-use Rattle.snap_runs.proofs.packets.PacketLines.give.Goals as goal
+use Rattle.snap_trace.specs.Reading.{GivesNext, ReadsNext, next_for}
+use Rattle.snap_trace.proofs.Readers.{gives-bad, gives-fault, gives-said}
+use Rattle.snap_trace.proofs.packets.PacketLines.give.Goals as goal
 
 pub returns-in_err-next_text-clause-next : goal.returns-in_err-next_text-clause-next
 returns-in_err-next_text-clause-next g c =

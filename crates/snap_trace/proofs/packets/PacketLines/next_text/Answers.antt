@@ -3,9 +3,9 @@ use Rattle.snap_io.specs.Files.{file_of}
 use Rattle.snap_io.specs.LineReaders.{AnswersNext, lines_given, lines_name}
 use Rattle.snap_io.specs.Lines.{next_in}
 use Rattle.snap_trace.proofs.StepLemmas.{where_told}
-use Rattle.snap_runs.specs.Reading.{next_for}
-use Rattle.snap_runs.proofs.Readers.{read-fault, read-many}
-use Rattle.snap_runs.proofs.packets.PacketLines.next_text.Goals as goal
+use Rattle.snap_trace.specs.Reading.{next_for}
+use Rattle.snap_trace.proofs.Readers.{read-fault, read-many}
+use Rattle.snap_trace.proofs.packets.PacketLines.next_text.Goals as goal
 
 pub returns-then-self-eq-MOST_LINES-clause-reads : goal.returns-then-self-eq-MOST_LINES-clause-reads
 returns-then-self-eq-MOST_LINES-clause-reads g c =
