@@ -1,5 +1,5 @@
 -- One big switch, one packet after another.
-use Rattle.std.proofs.Common.{◌≡◌, ◌⊎◌, ℕ, ◌+◌, Bool, true, zero, suc, List, [], ◌∷◌, ◌++◌, length, take, Option, Some, None, Ok, Err, refl, sym, ap, subst, ◌∙◌, inl, inr, arith, append_assoc, append-nil}
+use Rattle.std.proofs.Common.{◌≡◌, ◌⊎◌, ℕ, ◌+◌, true, zero, suc, List, [], ◌∷◌, ◌++◌, length, take, Option, Some, None, Ok, Err, refl, sym, ap, subst, ◌∙◌, inl, inr, arith, append_assoc, append-nil}
 use Rattle.std.specs.Prelude.{option_and_then, option_map}
 use Rattle.std.proofs.lemmas.List.{length-append}
 use Rattle.std.proofs.Math.Seq.{take-append_seam, drop-append_seam, take-add}
@@ -15,12 +15,12 @@ use Rattle.snap_core.specs.Packets.{PacketSet}
 use Rattle.snap_core.specs.Switch.{Switched, one_big_switch}
 use Rattle.snap_trace.specs.declared.fault.TraceFault.TheVariants.{Read, Write, Limit, Packets, Undefined, NoMemory}
 use Rattle.snap_trace.specs.declared.switch.Switch.{Switch}
-use Rattle.snap_trace.specs.OneSwitch.{AreBlocks, EndsAsRead, HasReport, IsReport, IsUndefinedAfter, RunEnding, WritesReport, made_text}
+use Rattle.snap_trace.specs.OneSwitch.{AreBlocks, EndsAsRead, IsReport, IsUndefinedAfter, RunEnding, WritesReport, made_text}
 use Rattle.snap_trace.specs.PacketLines.{Said, skip, inject, bad, said_by}
 use Rattle.snap_trace.specs.Reading.{spelled_where, where_accepted}
 use Rattle.snap_trace.specs.Reports.{all_lines, block, blocks, end_text}
 use Rattle.snap_trace.specs.Runner.{Ends, FirstBlocks, WritesOut, WritesRun}
-use Rattle.snap_trace.specs.Spelled.{Spelled, Stop, ended, refused, spelled, spelled_behind}
+use Rattle.snap_trace.specs.Spelled.{Spelled, spelled, spelled_behind}
 use Rattle.snap_trace.specs.Switching.{Stands, Reports, Refuses, after}
 use Rattle.snap_trace.proofs.Readers.{spelled_behind-const}
 use Rattle.snap_trace.proofs.Running.{written-as}
@@ -95,43 +95,39 @@ module _ (first : Switch) (packets : List (List ℕ)) (text : List ℕ) (now : S
     (entries, subst (λ m. IsListing m entries) s.arrays listing, (λ i. s.blocks i ++ end_text (s.program i).vars entries)),
   )
 
-  module _ (packet : List ℕ) where
-    at : (o : Option Meaning) → eval now.program.now.body (arrays_of now.store) packet ≡ o → eval body s.made.arrays packet ≡ o
-    at o is = (λ i. eval (sym s.program i).body (sym s.arrays i) packet) ∙ is
+  -- the next packet was evaluated
+  pub stands-more : (packet : List ℕ) (new : Switch) (o : Meaning) → new.program.now ≡ now.program.now → eval now.program.now.body (arrays_of now.store) packet ≡ Some o → arrays_of new.store ≡ o.arrays → new.number ≡ now.number + 1
+      → Stands first (packets ++ packet ∷ []) (text ++ block (all_lines now.program.now.fields) now.number o.packets) new
+  stands-more packet new o same is arrays number =
+      let longer : length (packets ++ packet ∷ []) ≡ length packets + 1 = length-append packets (packet ∷ []) in
+      let here : eval body s.made.arrays packet ≡ Some o = (λ i. eval (sym s.program i).body (sym s.arrays i) packet) ∙ is in
+      record {
+        program = same ∙ s.program;
+        made = made;
+        goes_on = λ more.
+            ap (one_big_switch body zero_arrays) (append_assoc packets (packet ∷ []) more) ∙ s.goes_on (packet ∷ more)
+            ∙ ap (λ x. option_map (after s.made) (option_and_then (λ (x : Meaning). option_map (behind x) (one_big_switch body x.arrays more)) x)) here ∙ both (one_big_switch body o.arrays more);
+        arrays = arrays;
+        as_many = length-append s.made.packets (o.packets ∷ []) ∙ ap (λ n. n + 1) s.as_many ∙ sym longer;
+        number = number ∙ ap (λ n. n + 1) (s.number ∙ sym longer);
+        blocks = (λ i. s.blocks i ++ block (all_lines (s.program i).fields) (numbered i) o.packets) ∙ sym grown;
+      }
+    where
+      made : Switched
+      made = record { packets = s.made.packets ++ o.packets ∷ []; arrays = o.arrays }
 
-    -- the next packet was evaluated
-    pub stands-more : (new : Switch) (o : Meaning) → new.program.now ≡ now.program.now → eval now.program.now.body (arrays_of now.store) packet ≡ Some o → arrays_of new.store ≡ o.arrays → new.number ≡ now.number + 1
-        → Stands first (packets ++ packet ∷ []) (text ++ block (all_lines now.program.now.fields) now.number o.packets) new
-    stands-more new o same is arrays number =
-        let longer : length (packets ++ packet ∷ []) ≡ length packets + 1 = length-append packets (packet ∷ []) in
-        record {
-          program = same ∙ s.program;
-          made = made;
-          goes_on = λ more.
-              ap (one_big_switch body zero_arrays) (append_assoc packets (packet ∷ []) more) ∙ s.goes_on (packet ∷ more)
-              ∙ ap (λ x. option_map (after s.made) (option_and_then (λ (x : Meaning). option_map (behind x) (one_big_switch body x.arrays more)) x)) (at (Some o) is)
-              ∙ both (one_big_switch body o.arrays more);
-          arrays = arrays;
-          as_many = length-append s.made.packets (o.packets ∷ []) ∙ ap (λ n. n + 1) s.as_many ∙ sym longer;
-          number = number ∙ ap (λ n. n + 1) (s.number ∙ sym longer);
-          blocks = (λ i. s.blocks i ++ block (all_lines (s.program i).fields) (numbered i) o.packets) ∙ sym grown;
-        }
-      where
-        made : Switched
-        made = record { packets = s.made.packets ++ o.packets ∷ []; arrays = o.arrays }
+      both : (x : Option Switched) → option_map (after s.made) (option_map (behind o) x) ≡ option_map (after made) x
+      both None = refl
+      both (Some r) = ap (λ l. Some (record { packets = l; arrays = r.arrays })) (sym (append_assoc s.made.packets (o.packets ∷ []) r.packets))
 
-        both : (x : Option Switched) → option_map (after s.made) (option_map (behind o) x) ≡ option_map (after made) x
-        both None = refl
-        both (Some r) = ap (λ l. Some (record { packets = l; arrays = r.arrays })) (sym (append_assoc s.made.packets (o.packets ∷ []) r.packets))
+      numbered : now.number ≡ 1 + length s.made.packets
+      numbered = let n = s.number in let m = s.as_many in omega (arith, n, m)
 
-        numbered : now.number ≡ 1 + length s.made.packets
-        numbered = let n = s.number in let m = s.as_many in omega (arith, n, m)
+      lines : PacketSet → List ℕ
+      lines = all_lines first.program.now.fields
 
-        lines : PacketSet → List ℕ
-        lines = all_lines first.program.now.fields
-
-        grown : made_text first.program.now.fields made ≡ made_text first.program.now.fields s.made ++ block lines (1 + length s.made.packets) o.packets
-        grown = blocks-append lines 1 s.made.packets (o.packets ∷ []) ∙ ap (λ l. made_text first.program.now.fields s.made ++ l) (append-nil (block lines (1 + length s.made.packets) o.packets))
+      grown : made_text first.program.now.fields made ≡ made_text first.program.now.fields s.made ++ block lines (1 + length s.made.packets) o.packets
+      grown = blocks-append lines 1 s.made.packets (o.packets ∷ []) ∙ ap (λ l. made_text first.program.now.fields s.made ++ l) (append-nil (block lines (1 + length s.made.packets) o.packets))
 
 -- ---- what the run writes
 -- every packet comes in at a port

@@ -1,6 +1,5 @@
 -- How far one big switch has come.
 use Rattle.std.specs.Prelude.{◌≡◌, ℕ, ◌+◌, List, [], ◌∷◌, ◌++◌, length, Some, None, option_map}
-use Rattle.std.specs.declared.option.Option.{Option}
 use Rattle.snap_core.specs.declared.place.Entry.{Entry}
 use Rattle.snap_core.specs.Arrays.{zero_arrays}
 use Rattle.snap_core.specs.Cells.{arrays_of}
