@@ -9,4 +9,5 @@ pub mod Lines
 pub mod MemoryFiles
 pub mod MemoryShelves
 pub mod MemorySinks
+pub mod Outputs
 pub mod Sinks

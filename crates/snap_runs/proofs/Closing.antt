@@ -39,13 +39,6 @@ module _ (Blocks : List ℕ → Type 0) (Ends : RunEnding → List ℕ → Type 
       by (Err (Packets line)) told c = some (Err (Packets line)) c
       by (Err (Undefined packet)) told c = absurd c
 
--- what a step makes of each file that a shelf tells, where it tells the same files as before
-pub told-on : (told told' : Option Files) (name name' : List ℕ) (P Q : List ℕ → Type 0) → told' ≡ told → name' ≡ name → IfSome told (λ files. P (file_of files name))
-    → IfSome told' (λ files. P (file_of files name') → Q (file_of files name')) → IfSome told (λ files. Q (file_of files name))
-told-on told told' name name' P Q same called came steps =
-    where_both_told told (λ files. P (file_of files name)) (λ files. P (file_of files name) → Q (file_of files name)) (λ files. Q (file_of files name)) (λ files p f. f p) came
-    (subst (λ o. IfSome o (λ files. P (file_of files name) → Q (file_of files name))) same (subst (λ n. IfSome told' (λ files. P (file_of files n) → Q (file_of files n))) called steps))
-
 -- where memory is short before anything is read, nothing is written
 pub writes-nothing : (f : Frames) (t : Tables) (hops : Bool) (file : List ℕ) (out : Option (List ℕ)) → WritesTraceBy f t hops file (Err NoMemory) out out
 writes-nothing f t hops file out = (

@@ -1,10 +1,10 @@
 pub mod AheadLemmas
 pub mod DraftLemmas
 pub mod WordLemmas
-pub mod RunLemmas
+pub mod Readers
+pub mod Running
 pub mod StepLemmas
 pub mod SwitchLemmas
-pub mod TailLemmas
 pub mod DigitLemmas
 pub mod EqualsLemmas
 pub mod GuessLemmas

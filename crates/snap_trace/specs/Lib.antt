@@ -1,11 +1,13 @@
 pub mod Ahead
-pub mod ByPackets
 pub mod Cuts
 pub mod Drafts
 pub mod Guesses
 pub mod OneSwitch
 pub mod PacketLines
+pub mod Reading
+pub mod Refusals
 pub mod Reports
+pub mod Runner
 pub mod Shown
 pub mod Spelled
-pub mod Steps
+pub mod Switching

@@ -51,3 +51,24 @@ spelled_by said file = spelled_from said file 1000000 1 0
 -- the packets of these fields
 abbrev pub spelled : List Field → List ℕ → Spelled
 spelled fields file = spelled_by (said_by fields) file
+
+-- ---- where what a line says depends on how many packets come before it
+-- the number of packets behind a line
+abbrev pub counted : Said → ℕ → ℕ
+counted skip n = n
+counted (inject packet) n = n + 1
+counted bad n = n
+
+abbrev pub text_of : Next → List ℕ
+text_of (next_line text behind) = text
+text_of no_line = []
+text_of long_line = []
+text_of many_bytes = []
+
+-- From this place on the file's lines are read, where `said` tells what a line says behind so many packets. The first line
+-- has this number and comes behind `before` packets, and `left` lines may come.
+unfoldable pub spelled_behind : (said : ℕ → List ℕ → Said) → (file : List ℕ) → (left line at before : ℕ) → Spelled
+spelled_behind said file zero line at before = after_last (next_in 67108864 65536 file at)
+spelled_behind said file (suc left) line at before =
+    with_next (said before) line (next_in 67108864 65536 file at)
+    (λ behind. spelled_behind said file left (line + 1) behind (counted (said before (text_of (next_in 67108864 65536 file at))) before))
