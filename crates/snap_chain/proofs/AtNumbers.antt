@@ -2,14 +2,17 @@
 use Rattle.std.proofs.Common.{◌≡◌, ℕ, Bool, true, false, cond, not, ◌&&◌, List, [], ◌∷◌, ◌++◌, refl, sym, ap, ◌∙◌, subst}
 use Rattle.std.specs.Prelude.{map}
 use Rattle.std.specs.List.{AllByRecursion, filter}
-use Rattle.std.specs.List.Sorted.{IsPermutation, IsStableByKey, ties}
-use Rattle.std.specs.declared.cmp.Ordering.TheVariants.{Equal}
-use Rattle.std.specs.Cmp.{nat_cmp_is}
-use Rattle.std.specs.Ordering.{nat_cmp, is_lt}
+use Rattle.std.specs.List.Sorted.{IsPermutation, IsStableBy, ties}
+use Rattle.std.specs.declared.cmp.Ordering.{Ordering}
+use Rattle.std.specs.declared.cmp.Ordering.TheVariants.{Less, Equal, Greater}
+use Rattle.std.specs.Ordering.{nat_cmp, is_lt, ordering_then}
+use Rattle.std.specs.Cmp.{IsStrictWeakOrder}
+use Rattle.std.specs.Cmp.Lexicographic.{slice_cmp}
+use Rattle.std.proofs.lemmas.Cmp.{nat_list_cmp_total, tied_itself}
 use Rattle.std.proofs.lemmas.Bool.{false≢true}
 use Rattle.std.proofs.lemmas.List.Elements.{All-from_recursion, recursion_from_All}
 use Rattle.std.proofs.lemmas.List.{append-nil, append_assoc}
-use Rattle.std.proofs.lemmas.List.Sorted.{All-permutation, IsPermutation-append_left, IsPermutation-append_right, IsPermutation-refl, IsPermutation-trans}
+use Rattle.std.proofs.lemmas.List.Sorted.{ranks_by, IsStrictWeakOrder-flip, All-permutation, IsPermutation-append_left, IsPermutation-append_right, IsPermutation-refl, IsPermutation-trans}
 use Rattle.snap_core.specs.declared.place.Place.{Place}
 use Rattle.snap_core.specs.declared.policy.Atom.{Atom}
 use Rattle.snap_core.specs.declared.policy.Atom.TheVariants.{Num as Number, Comp}
@@ -18,7 +21,8 @@ use Rattle.snap_core.specs.declared.policy.Update.{Update}
 use Rattle.snap_core.specs.Arrays.{Arrays, number_after, place_at, same_place, update, updates, value_of}
 use Rattle.snap_ctx.proofs.Each.{Each-append}
 use Rattle.snap_ctx.proofs.Places.{same_place-true}
-use Rattle.snap_chain.specs.Fixed.{AreReordered, EndInRun, IsFixed, IsFixedUpdate, lateness}
+use Rattle.snap_arena.specs.Codes.{index_code}
+use Rattle.snap_chain.specs.Fixed.{AreReordered, EndInRun, IsFixed, IsFixedUpdate, falling}
 use Rattle.snap_chain.proofs.Splitting.{hit, missed, updates-append}
 
 -- a second test of two keeps the same, where the first lets through all that it does
@@ -31,9 +35,6 @@ module _ {X : Type 0} (P : X → Type 0) (p q : X → Bool) (within : (x : X) �
   filter-filter : (xs : List X) → AllByRecursion P xs → filter q (filter p xs) ≡ filter q xs
   filter-filter [] h = refl
   filter-filter (x ∷ xs) h = next_within x xs h.0 (filter-filter xs h.1) (p x) (q x) refl refl
-
-same_key-ties : (a b : ℕ) → a ≡ b → not (is_lt (nat_cmp a b)) && not (is_lt (nat_cmp b a)) ≡ true
-same_key-ties a b e = λ i. not (is_lt (sym (nat_cmp_is a b Equal e) i)) && not (is_lt (sym (nat_cmp_is b a Equal (sym e)) i))
 
 -- numbers are the index that they give
 fixed_values : (ix : List Atom) (k : List ℕ) → AllByRecursion IsFixed ix → map Number (map (λ a. value_of a k) ix) ≡ ix
@@ -68,20 +69,22 @@ module _ (k : List ℕ) (p : Place) where
   abbrev here : Update
   here = record { var = p.var; index = map Number p.index; op = Add 0 }
 
-  -- updates at numbers that are at the place are as late as that one
-  at_place-ties : (u : Update) → IsFixedUpdate u → is_at u ≡ true → ties (λ x y. is_lt (nat_cmp (lateness x.index) (lateness y.index))) here u ≡ true
-  at_place-ties u h t = same_key-ties (lateness here.index) (lateness u.index)
-      (ap (λ (q : Place). lateness (map Number q.index)) (sym (same_place-true (place_at u.var u.index k) p t)) ∙ ap lateness (fixed_values u.index k h))
+  -- updates at numbers that are at the place tie with that one
+  at_place-ties : (u : Update) → IsFixedUpdate u → is_at u ≡ true → ties (λ x y. is_lt (falling x y)) here u ≡ true
+  at_place-ties u h t =
+      let same : u.index ≡ map Number p.index = sym (fixed_values u.index k h) ∙ ap (λ (q : Place). map Number q.index) (same_place-true (place_at u.var u.index k) p t) in
+      (λ i. not (is_lt (slice_cmp nat_cmp (index_code (same i)) (index_code here.index))) && not (is_lt (slice_cmp nat_cmp (index_code here.index) (index_code (same i)))))
+      ∙ (λ i. not (is_lt (tied_itself nat_list_cmp_total (index_code here.index) i)) && not (is_lt (tied_itself nat_list_cmp_total (index_code here.index) i)))
 
-  stay_at_place : (us vs : List Update) → AllByRecursion IsFixedUpdate us → AllByRecursion IsFixedUpdate vs → IsStableByKey (λ u. lateness u.index) nat_cmp us vs → at_place vs ≡ at_place us
+  stay_at_place : (us vs : List Update) → AllByRecursion IsFixedUpdate us → AllByRecursion IsFixedUpdate vs → IsStableBy (λ x y. is_lt (falling x y)) us vs → at_place vs ≡ at_place us
   stay_at_place us vs hu hv stable =
-      let late : Update → Bool = ties (λ x y. is_lt (nat_cmp (lateness x.index) (lateness y.index))) here in
+      let late : Update → Bool = ties (λ x y. is_lt (falling x y)) here in
       sym (filter-filter IsFixedUpdate late is_at at_place-ties vs hv)
       ∙ ap at_place (stable here)
       ∙ filter-filter IsFixedUpdate late is_at at_place-ties us hu
 
 -- the law
-pub fixed_same : (us vs : List Update) → IsPermutation us vs → IsStableByKey (λ u. lateness u.index) nat_cmp us vs → AllByRecursion IsFixedUpdate us → (m : Arrays) (k : List ℕ) → updates m vs k ≡ updates m us k
+pub fixed_same : (us vs : List Update) → IsPermutation us vs → IsStableBy (λ x y. is_lt (falling x y)) us vs → AllByRecursion IsFixedUpdate us → (m : Arrays) (k : List ℕ) → updates m vs k ≡ updates m us k
 fixed_same us vs perm stable h m k =
     let hv : AllByRecursion IsFixedUpdate vs = recursion_from_All IsFixedUpdate vs (All-permutation IsFixedUpdate us vs perm (All-from_recursion IsFixedUpdate us h)) in
     λ i p. (updates-filter k p vs m m refl ∙ ap (λ (ws : List Update). updates m ws k p) (stay_at_place k p us vs h hv stable) ∙ sym (updates-filter k p us m m refl)) i
@@ -96,7 +99,7 @@ reordered_more us vs xs r = record {
 pub reordered-trans : (us vs ws : List Update) → AreReordered us vs → AreReordered vs ws → AreReordered us ws
 reordered-trans us vs ws a b = record { same = λ m k. b.same m k ∙ a.same m k; permuted = IsPermutation-trans us vs ws a.permuted b.permuted }
 
-pub run_sorted : (us run sorted : List Update) → IsPermutation run sorted → IsStableByKey (λ u. lateness u.index) nat_cmp run sorted → AllByRecursion IsFixedUpdate run → AreReordered (us ++ run) (us ++ sorted)
+pub run_sorted : (us run sorted : List Update) → IsPermutation run sorted → IsStableBy (λ x y. is_lt (falling x y)) run sorted → AllByRecursion IsFixedUpdate run → AreReordered (us ++ run) (us ++ sorted)
 run_sorted us run sorted perm stable fixed = record {
   same = λ m k. updates-append us sorted m k ∙ fixed_same run sorted perm stable fixed (updates m us k) k ∙ sym (updates-append us run m k);
   permuted = IsPermutation-append_right us run sorted perm;
@@ -117,3 +120,15 @@ run_ended us some run new u r e = record {
 
 pub none_yet : EndInRun [] [] []
 none_yet = record { fixed = tt; same = record { same = λ m k. refl; permuted = IsPermutation-refl [] } }
+
+-- ---- the order is one
+pub falling-order : IsStrictWeakOrder (λ u v. is_lt (falling u v))
+falling-order = IsStrictWeakOrder-flip (λ u v. is_lt (slice_cmp nat_cmp (index_code u.index) (index_code v.index))) (ranks_by nat_list_cmp_total (λ (u : Update). index_code u.index))
+
+then-Equal : (o : Ordering) → ordering_then o Equal ≡ o
+then-Equal Less = refl
+then-Equal Equal = refl
+then-Equal Greater = refl
+
+pub falling_is : (u v : Update) (o : Ordering) → ((s t : List ℕ) → slice_cmp nat_cmp (index_code v.index ++ s) (index_code u.index ++ t) ≡ ordering_then o (slice_cmp nat_cmp s t)) → o ≡ falling u v
+falling_is u v o h = sym (then-Equal o) ∙ sym (h [] []) ∙ (λ i. slice_cmp nat_cmp (append-nil (index_code v.index) i) (append-nil (index_code u.index) i))

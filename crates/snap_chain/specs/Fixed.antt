@@ -1,11 +1,15 @@
 -- Updates at numbers.
-use Rattle.std.specs.Prelude.{◌≡◌, ℕ, ◌-◌, ◌^◌, List, [], ◌∷◌, ◌++◌}
+use Rattle.std.specs.Prelude.{◌≡◌, ℕ, List, ◌++◌}
 use Rattle.std.specs.List.{AllByRecursion}
 use Rattle.std.specs.List.Sorted.{IsPermutation}
+use Rattle.std.specs.Ordering.{nat_cmp}
+use Rattle.std.specs.Cmp.Lexicographic.{slice_cmp}
+use Rattle.std.specs.declared.cmp.Ordering.{Ordering}
 use Rattle.snap_core.specs.declared.policy.Atom.{Atom}
 use Rattle.snap_core.specs.declared.policy.Atom.TheVariants.{Num as Number, Comp}
 use Rattle.snap_core.specs.declared.policy.Update.{Update}
 use Rattle.snap_core.specs.Arrays.{Arrays, updates}
+use Rattle.snap_arena.specs.Codes.{index_code}
 
 abbrev pub IsFixed : Atom → Type 0
 IsFixed (Number n) = Unit {0}
@@ -25,8 +29,6 @@ pub record EndInRun (us some run : List Update) : Type 0 where
   pub fixed : AllByRecursion IsFixedUpdate run
   pub same : AreReordered us (some ++ run)
 
--- the greater, the less the first number of an index
-abbrev pub lateness : List Atom → ℕ
-lateness [] = 2 ^ 64 - 1
-lateness (Number n ∷ ix) = 2 ^ 64 - 1 - n
-lateness (Comp c ∷ ix) = 2 ^ 64 - 1
+-- the order of two updates' indices, the other way round
+abbrev pub falling : Update → Update → Ordering
+falling u v = slice_cmp nat_cmp (index_code v.index) (index_code u.index)

@@ -2,8 +2,9 @@
 
 ghost use Rattle.std.specs.Prelude.{◌≡◌, ◌∷◌, ◌++◌, [], IfOk, IsTrue, List, OnOk};
 ghost use Rattle.std.specs.List.{AllByRecursion};
-ghost use Rattle.snap_chain.specs.Fixed.{AreReordered, EndInRun, IsFixed, IsFixedUpdate, lateness};
+ghost use Rattle.snap_chain.specs.Fixed.{AreReordered, EndInRun, IsFixed, IsFixedUpdate};
 
+use crate::ordered::falling;
 use snap_core::NoMemory;
 use snap_core::policy::{Atom, Update};
 use std::alloc::Global;
@@ -24,23 +25,13 @@ pub(crate) fn is_fixed(index: &[Atom]) -> bool
     index.iter().all(|atom| is_number(*atom))
 }
 
-// How late an update comes among updates at numbers: the later, the less its index's first number.
-fn lateness(update: &Update) -> u64
-    ensures { result ≡ lateness update.now.index }
-{
-    match update.index.list().first() {
-        Some(Atom::Num(num)) => u64::MAX - *num,
-        _ => u64::MAX,
-    }
-}
-
-// Puts a run of updates at numbers behind others, the latest at last, and empties it.
+// Puts a run of updates at numbers behind others, those whose places are tested first at last, and empties it.
 fn push_run(ordered: &mut Vec<Update>, run: &mut Vec<Update>) -> Result<(), NoMemory>
     requires { AllByRecursion IsFixedUpdate run.old.items }
     ensures empty { OnOk result (run.new.items ≡ []) }
     ensures reordered { OnOk result (AreReordered (ordered.old.items ++ run.old.items) ordered.new.items) }
 {
-    run.sort_by_key(|update| lateness(update))?;
+    run.sort_by(|a, b| falling(a, b))?;
     ordered.append(run)?;
     Ok(())
 }
@@ -64,7 +55,7 @@ fn push_in_run(
     Ok(())
 }
 
-/// Updates that do the same: of those at numbers with no others between, those at lesser numbers come last.
+/// Updates that do the same: of those at numbers with no others between, those whose places are tested first come last.
 pub(crate) fn in_runs(alloc: Global, ups: &[Update]) -> Result<Vec<Update>, NoMemory>
     ensures { IfOk result (λ o. AreReordered ups.now o.items) }
 {

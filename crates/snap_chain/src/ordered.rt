@@ -6,10 +6,12 @@ ghost use Rattle.std.specs.List.Sorted.{IsPermutation};
 ghost use Rattle.snap_core.specs.Arrays.{Arrays, updates};
 ghost use Rattle.snap_core.specs.Inputs.{IsStore};
 ghost use Rattle.snap_chain.specs.Additions.{Adds};
+ghost use Rattle.snap_chain.specs.Fixed.{falling};
 
 use crate::fixed::in_runs;
 use snap_core::NoMemory;
-use snap_core::policy::{Atom, Op, Update, copy_updates};
+use snap_core::policy::{Op, Update, copy_updates};
+use snap_fdd::order::compare_indices;
 use std::alloc::Global;
 use std::cmp::Ordering;
 
@@ -28,17 +30,11 @@ fn all_add(ups: &[Update]) -> bool
     ups.iter().all(|update| adds(update))
 }
 
-// What an index begins with: numbers come before components.
-fn begins(update: &Update) -> (u32, u64) {
-    match update.index.list().first() {
-        None => (0, 0),
-        Some(Atom::Num(num)) => (0, *num),
-        Some(Atom::Comp(comp)) => (1, *comp as u64),
-    }
-}
-
-fn falling(a: &Update, b: &Update) -> Ordering {
-    begins(b).cmp(&begins(a))
+/// The order in which tests of two updates' places come, the other way round.
+pub(crate) fn falling(a: &Update, b: &Update) -> Ordering
+    ensures { result ≡ falling a.now b.now }
+{
+    compare_indices(b.index.list(), a.index.list())
 }
 
 /// Updates that do the same. Where all are additions, and in each run of updates at numbers, those whose places are tested

@@ -2,7 +2,6 @@
 use Rattle.std.proofs.Common.{◌≡◌, ℕ, ◌-◌, ◌^◌, ◌<◌, Bool, true, false, List, [], ◌∷◌, ◌++◌, length, take, ◌+◌, get_or, refl, sym, ap, ◌∙◌, subst, arith}
 use Rattle.std.specs.Prelude.{◌==◌, Result, MatchResult}
 use Rattle.std.proofs.lemmas.List.{take_more}
-use Rattle.std.proofs.lemmas.Bool.{cond-true, cond-false}
 use Rattle.snap_core.specs.declared.place.Place.{Place}
 use Rattle.snap_core.specs.declared.policy.Atom.{Atom}
 use Rattle.snap_core.specs.declared.policy.Op.{Op}
@@ -19,7 +18,7 @@ use Rattle.snap_ctx.specs.Classes.{wrap, shift}
 use Rattle.snap_ctx.specs.Ranges.{TermInRange}
 use Rattle.snap_ctx.specs.View.{View}
 use Rattle.snap_ctx.proofs.Algebra.{term_value-shift}
-use Rattle.snap_ctx.proofs.Places.{same_place-true, same_place-refl}
+use Rattle.snap_ctx.proofs.Places.{same_place-true}
 use Rattle.snap_ctx.proofs.Wrap.{wrap_assoc}
 use Rattle.snap_chain.proofs.Splitting.{hit, missed, updates-append}
 use Rattle.snap_equal.specs.declared.held.Held.{Held}

@@ -27,8 +27,8 @@ fn compare_atoms(a: Atom, b: Atom) -> Ordering
     }
 }
 
-// Compares two indices atom by atom: of two that begin alike, the shorter comes first.
-fn compare_indices(a: &[Atom], b: &[Atom]) -> Ordering
+/// Compares two indices atom by atom, numbers before components: of two that begin alike, the shorter comes first.
+pub fn compare_indices(a: &[Atom], b: &[Atom]) -> Ordering
     ensures { (s t : List ℕ) → slice_cmp nat_cmp (index_code a.now ++ s) (index_code b.now ++ t) ≡ ordering_then result (slice_cmp nat_cmp s t) }
 {
     match a.split_first() {
