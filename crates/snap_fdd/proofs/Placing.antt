@@ -18,6 +18,8 @@ use Rattle.snap_ctx.specs.Classes.{wrap, class_of, normal, atom_class, is_state,
 use Rattle.snap_ctx.specs.Known.{IsAmong, AtomOver, TermOver}
 use Rattle.snap_ctx.specs.Meets.{Meets}
 use Rattle.snap_ctx.specs.View.{View, IsContext}
+use Rattle.snap_ctx.specs.Lean.{Among}
+use Rattle.snap_ctx.proofs.Among.{all_among, among_last, from_all}
 use Rattle.snap_ctx.proofs.Last.{with_last, last_parts}
 use Rattle.snap_ctx.proofs.Model.{model}
 use Rattle.snap_ctx.specs.declared.tested.Tested.{Tested}
@@ -33,7 +35,7 @@ use Rattle.snap_fdd.specs.Quiet.{BeginsElsewhere, SameSubject}
 use Rattle.snap_fdd.specs.Tested.{TestsOver}
 use Rattle.snap_fdd.proofs.Alike.{test_is}
 use Rattle.snap_fdd.proofs.Between.{same_between}
-use Rattle.snap_fdd.proofs.Calm.{Agree, Among, Tells, all_among, among_last, from_all, number_of}
+use Rattle.snap_fdd.proofs.Calm.{Agree, Tells, number_of}
 use Rattle.snap_fdd.proofs.Comparing.{less_trans, not_itself}
 use Rattle.snap_fdd.proofs.Quieting.{one_test, turned}
 

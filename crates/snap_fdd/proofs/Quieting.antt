@@ -21,6 +21,8 @@ use Rattle.snap_core.specs.Inputs.{IsPacket}
 use Rattle.snap_ctx.specs.declared.fact.Fact.{Fact}
 use Rattle.snap_ctx.specs.Classes.{IsAtom, IsTerm, IsTest}
 use Rattle.snap_ctx.specs.Meets.{Meets, IsMet}
+use Rattle.snap_ctx.specs.Lean.{Among}
+use Rattle.snap_ctx.proofs.Among.{among_last, from_all}
 use Rattle.snap_ctx.proofs.Last.{with_last, last_parts}
 use Rattle.snap_ctx.specs.View.{View}
 use Rattle.snap_dep.specs.Ranks.{Grouping}
@@ -40,7 +42,7 @@ use Rattle.snap_fdd.specs.Quiet.{IndexIsFine, IsClear, IsFine, SameSubject, Begi
 use Rattle.snap_fdd.specs.Spots.{IsNumber}
 use Rattle.snap_fdd.proofs.Spotted.{BothAsked, clear_at, same_asked}
 use Rattle.snap_fdd.proofs.Between.{same_between}
-use Rattle.snap_fdd.proofs.Calm.{Among, among_last, from_all, Tells, number_of, IsCalm, calm_is_met}
+use Rattle.snap_fdd.proofs.Calm.{Tells, number_of, IsCalm, calm_is_met}
 use Rattle.snap_fdd.proofs.Comparing.{less_trans, not_itself}
 use Rattle.snap_fdd.proofs.Shared.{kept, node_of}
 

@@ -113,22 +113,22 @@ pruned_anew-returns-in_ok-n-in-More-2-clause-memo t c =
     IfOk-weaker c.ask.result _ _ (λ d p. pruned_memo_kept c.args.groups.now.ranks (sizes c.args.groups.now c.args.ctx.now) c.args.plan.now c.pruned-in-More-2-2.new.nodes c.ask.new.nodes c.pruned-in-More-2-2.new.memo c.ask.ensures.grew
     (memo_back c.args.groups.now c.args.plan.now c.pruned-in-More-2-2.new.nodes c.pruned-in-More-2-2.new.memo c.args.ctx.now c.in-More-2.no_ctx c.in-Split.test false m2 c.in_ok-n-in-More-2.ensures.memo)) c.ask.ensures.number
 
-pub pruned-returns-in-Some-get-clause-number : goal.pruned-returns-in-Some-get-clause-number
-pruned-returns-in-Some-get-clause-number t c =
+pub pruned_under-returns-in-Some-get-clause-number : goal.pruned_under-returns-in-Some-get-clause-number
+pruned_under-returns-in-Some-get-clause-number t c =
     let k = subst (λ (o : Option (Vec ℕ)). IfSome o (λ key. IsKey c.args.plan.now c.args.nodes.now c.args.ctx.now c.args.d key.items)) c.in-Some.is c.in_ok-key.ensures in
     (pruned_before c.args.groups.now.ranks (sizes c.args.groups.now c.args.ctx.now) c.args.plan.now c.args.nodes.now c.args.ctx.now c.args.d c.in-Some.key.items c.in-Some-get.r refl c.requires.first.keeps k
     (subst (λ (q : List ℕ). PrunedFor c.args.groups.now.ranks (sizes c.args.groups.now c.args.ctx.now) c.args.plan.now c.args.nodes.now q c.in-Some-get.r) c.deref.ensures.value
     (c.requires.known c.deref.result.now c.in-Some-get.r (sym c.in-Some-get.ensures)))).0
 
-pub pruned-returns-in-Some-get-clause-pruned : goal.pruned-returns-in-Some-get-clause-pruned
-pruned-returns-in-Some-get-clause-pruned t c =
+pub pruned_under-returns-in-Some-get-clause-pruned : goal.pruned_under-returns-in-Some-get-clause-pruned
+pruned_under-returns-in-Some-get-clause-pruned t c =
     let k = subst (λ (o : Option (Vec ℕ)). IfSome o (λ key. IsKey c.args.plan.now c.args.nodes.now c.args.ctx.now c.args.d key.items)) c.in-Some.is c.in_ok-key.ensures in
     (pruned_before c.args.groups.now.ranks (sizes c.args.groups.now c.args.ctx.now) c.args.plan.now c.args.nodes.now c.args.ctx.now c.args.d c.in-Some.key.items c.in-Some-get.r refl c.requires.first.keeps k
     (subst (λ (q : List ℕ). PrunedFor c.args.groups.now.ranks (sizes c.args.groups.now c.args.ctx.now) c.args.plan.now c.args.nodes.now q c.in-Some-get.r) c.deref.ensures.value
     (c.requires.known c.deref.result.now c.in-Some-get.r (sym c.in-Some-get.ensures)))).1
 
-pub pruned-returns-clause-memo : goal.pruned-returns-clause-memo
-pruned-returns-clause-memo t c =
+pub pruned_under-returns-clause-memo : goal.pruned_under-returns-clause-memo
+pruned_under-returns-clause-memo t c =
     let k = subst (λ (o : Option (Vec ℕ)). IfSome o (λ key. IsKey c.args.plan.now c.args.nodes.now c.args.ctx.now c.args.d key.items)) c.in-Some.is c.in_ok-key.ensures in
     remembers_more (PrunedFor c.args.groups.now.ranks (sizes c.args.groups.now c.args.ctx.now) c.args.plan.now c.pruned_anew-2.new.nodes) c.pruned_anew-2.new.memo c.put.new.self c.in-Some.key.items c.in_ok-r.r c.in_ok-r.ensures.memo
     (pruned_now c.args.groups.now.ranks (sizes c.args.groups.now c.args.ctx.now) c.args.plan.now c.args.nodes.now c.pruned_anew-2.new.nodes c.args.ctx.now c.args.d c.in-Some.key.items c.in_ok-r.r c.in_ok-r.ensures.grew c.requires.first.below c.in_ok-r.ensures.number refl k c.in_ok-r.ensures.pruned)
