@@ -1,24 +1,22 @@
 -- A store that meets the facts that stay, filled at the places of those that went, meets all.
-use Rattle.std.proofs.Common.{◌≡◌, ◌≢◌, inl, inr, ℕ, ◌<◌, ◌≤◌, ◌^◌, Bool, cond, true, false, List, [], ◌∷◌, length, map, refl, sym, ap, subst, ◌∙◌, arith}
+use Rattle.std.proofs.Common.{◌≡◌, ◌≢◌, inl, inr, ℕ, ◌<◌, ◌^◌, Bool, cond, true, false, List, [], ◌∷◌, length, map, refl, sym, ap, subst, ◌∙◌, arith}
 use Rattle.std.specs.Prelude.{◌==◌, All}
 use Rattle.std.specs.List.{AllByRecursion}
-use Rattle.std.proofs.lemmas.Bool.{cases_Bool}
 use Rattle.snap_core.specs.declared.place.Entry.{Entry}
 use Rattle.snap_core.specs.declared.place.Place.{Place}
 use Rattle.snap_core.specs.declared.policy.Atom.{Atom}
 use Rattle.snap_core.specs.declared.policy.Atom.TheVariants.{Num as Number, Comp}
-use Rattle.snap_core.specs.declared.policy.Term.{Term}
 use Rattle.snap_core.specs.declared.policy.Term.TheVariants.{Num, Plus}
 use Rattle.snap_core.specs.declared.policy.Test.{Test}
 use Rattle.snap_core.specs.declared.policy.Test.TheVariants.{Value, Equal, State}
-use Rattle.snap_core.specs.Arrays.{Arrays, place_at, same_place, value_of}
+use Rattle.snap_core.specs.Arrays.{Arrays, same_place, value_of}
 use Rattle.snap_core.specs.Inputs.{IsStore, IsPacket}
 use Rattle.snap_core.specs.Listing.{number_in}
 use Rattle.snap_core.specs.Tests.{passes}
 use Rattle.snap_ctx.specs.declared.fact.Fact.{Fact}
-use Rattle.snap_ctx.specs.Classes.{Fits, IsTest, FactRule, PairRule, is_state, var_of, index_of}
-use Rattle.snap_ctx.specs.Known.{IsFixed, is_number}
-use Rattle.snap_ctx.specs.Lean.{Among, AreParted, IsBeside, IsLean, IsPlain}
+use Rattle.snap_ctx.specs.Classes.{Fits, IsTest, FactRule, PairRule, is_state, index_of}
+use Rattle.snap_ctx.specs.Known.{IsFixed}
+use Rattle.snap_ctx.specs.Lean.{Among, IsBeside, IsLean, IsPlain}
 use Rattle.snap_ctx.specs.Meets.{Meets}
 use Rattle.snap_ctx.specs.View.{View, IsContext}
 use Rattle.snap_ctx.proofs.Among.{all_among, among_at, from_all}

@@ -1,7 +1,7 @@
 //! What a context can forget before a diagram: facts at places of numbers that none of its tests can be at. So contexts that
 //! differ in such facts alone become one, where several ways lead to the diagram.
 
-ghost use Rattle.std.specs.Prelude.{◌≡◌, ◌∷◌, ◌↔◌, IfOk, IfSome, IsTrue, List, OnOk, [], length};
+ghost use Rattle.std.specs.Prelude.{◌≡◌, ◌≢◌, ◌∷◌, ◌↔◌, IfOk, IfSome, IsTrue, List, OnOk, [], length};
 ghost use Rattle.std.specs.List.{AllByRecursion};
 ghost use Rattle.snap_core.specs.declared.policy.Atom.TheVariants.{Num as Number};
 ghost use Rattle.snap_ctx.specs.declared.fact.Fact.{Fact as AFact};

@@ -3,6 +3,9 @@ use Rattle.std.proofs.Common.{◌≡◌, ◌<◌, ℕ, List, Option, refl, sym, 
 use Rattle.std.specs.Global.{Vec}
 use Rattle.std.specs.Prelude.{IfSome}
 use Rattle.snap_arena.proofs.Remembering.{remembers_more}
+use Rattle.snap_ctx.specs.View.{View}
+use Rattle.snap_fdd.specs.Forgotten.{IsForgotten}
+use Rattle.snap_fdd.proofs.Forgotten.{asked_lean, memo_lean, pruned_lean}
 use Rattle.snap_fdd.specs.Memoed.{IsKey, PrunedFor}
 use Rattle.std.proofs.lemmas.Result.{IfOk-weaker}
 use Rattle.snap_ctx.specs.Answers.{IsAssumed}
@@ -133,3 +136,20 @@ pruned_under-returns-clause-memo t c =
     remembers_more (PrunedFor c.args.groups.now.ranks (sizes c.args.groups.now c.args.ctx.now) c.args.plan.now c.pruned_anew-2.new.nodes) c.pruned_anew-2.new.memo c.put.new.self c.in-Some.key.items c.in_ok-r.r c.in_ok-r.ensures.memo
     (pruned_now c.args.groups.now.ranks (sizes c.args.groups.now c.args.ctx.now) c.args.plan.now c.args.nodes.now c.pruned_anew-2.new.nodes c.args.ctx.now c.args.d c.in-Some.key.items c.in_ok-r.r c.in_ok-r.ensures.grew c.requires.first.below c.in_ok-r.ensures.number refl k c.in_ok-r.ensures.pruned)
     c.in_ok-put.ensures.ok
+
+pub pruned-pruned_under-requires : goal.pruned-pruned_under-requires
+pruned-pruned_under-requires t c =
+    let f = subst (λ (o : Option View). IfSome o (λ lean. IsForgotten c.args.groups.now.ranks c.args.ctx.now lean (diagram c.args.nodes.now c.args.d))) c.in-Some.is c.in_ok-lean.ensures in (
+      omega (arith, c.decreases),
+      asked_lean c.args.groups.now c.args.ctx.now c.in-Some.lean (diagram c.args.nodes.now c.args.d) f c.args.plan.now c.args.nodes.now c.args.memo.now c.args.d c.requires,
+    )
+
+pub pruned-returns-in-Some-clause-pruned : goal.pruned-returns-in-Some-clause-pruned
+pruned-returns-in-Some-clause-pruned t c =
+    let f = subst (λ (o : Option View). IfSome o (λ lean. IsForgotten c.args.groups.now.ranks c.args.ctx.now lean (diagram c.args.nodes.now c.args.d))) c.in-Some.is c.in_ok-lean.ensures in
+    IfOk-weaker c.pruned_under.result _ _ (λ r p. pruned_lean c.args.groups.now c.args.ctx.now c.in-Some.lean (diagram c.args.nodes.now c.args.d) f (diagram c.pruned_under.new.nodes r) p) c.pruned_under.ensures.pruned
+
+pub pruned-returns-in-Some-clause-memo : goal.pruned-returns-in-Some-clause-memo
+pruned-returns-in-Some-clause-memo t c =
+    let f = subst (λ (o : Option View). IfSome o (λ lean. IsForgotten c.args.groups.now.ranks c.args.ctx.now lean (diagram c.args.nodes.now c.args.d))) c.in-Some.is c.in_ok-lean.ensures in
+    IfOk-weaker c.pruned_under.result _ _ (λ r p. memo_lean c.args.groups.now c.args.ctx.now c.in-Some.lean (diagram c.args.nodes.now c.args.d) f c.args.plan.now c.pruned_under.new.nodes c.pruned_under.new.memo p) c.pruned_under.ensures.memo
