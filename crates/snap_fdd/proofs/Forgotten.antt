@@ -1,6 +1,6 @@
 -- What is pruned under a context without facts that no test bears on is pruned under the context.
-use Rattle.std.proofs.Common.{◌≡◌, ◌≢◌, ◌⊎◌, inl, inr, ℕ, ◌+◌, ◌<◌, ◌≤◌, ◌^◌, Bool, true, false, List, [], ◌∷◌, ◌++◌, length, map, refl, sym, ap, subst, ◌∙◌, arith, length-append}
-use Rattle.std.specs.Prelude.{All, slice_index}
+use Rattle.std.proofs.Common.{◌≡◌, ◌≢◌, inl, inr, ℕ, ◌<◌, ◌≤◌, ◌^◌, Bool, true, false, List, [], ◌∷◌, ◌++◌, length, map, refl, sym, ap, subst, ◌∙◌, arith, length-append}
+use Rattle.std.specs.Prelude.{slice_index}
 use Rattle.std.specs.List.{AllByRecursion}
 use Rattle.std.specs.declared.cmp.Ordering.{Ordering}
 use Rattle.std.specs.declared.cmp.Ordering.TheVariants.{Less, Equal, Greater}
@@ -20,12 +20,11 @@ use Rattle.snap_core.specs.Tests.{passes, term_value}
 use Rattle.snap_dep.specs.Ranks.{Grouping}
 use Rattle.snap_ctx.specs.declared.fact.Fact.{Fact}
 use Rattle.snap_ctx.specs.declared.tested.Tested.{Tested}
-use Rattle.snap_ctx.specs.Classes.{Fits, IsAtom, IsTest, class_of, index_of, is_state, var_of, wrap}
+use Rattle.snap_ctx.specs.Classes.{Fits, IsAtom, IsTest, class_of, index_of, is_state, var_of}
 use Rattle.snap_ctx.specs.Known.{AtomOver, IsAmong, IsFixed, TestOver}
-use Rattle.snap_ctx.specs.Lean.{Among, AreParted, IsPlain}
-use Rattle.snap_ctx.specs.View.{View, IsContext}
+use Rattle.snap_ctx.specs.Lean.{AreParted, IsPlain}
+use Rattle.snap_ctx.specs.View.{View}
 use Rattle.snap_ctx.proofs.Among.{all_among, among_at, among_last, among_push, from_all}
-use Rattle.snap_ctx.proofs.Each.{Each-append}
 use Rattle.snap_ctx.proofs.Lean.{lean_context, refilled}
 use Rattle.snap_ctx.proofs.Roots.{index-atoms}
 use Rattle.snap_ctx.proofs.Wrap.{wrap_zero}
@@ -37,7 +36,7 @@ use Rattle.snap_fdd.specs.declared.pruning.Plan.{Plan}
 use Rattle.snap_fdd.specs.Bounds.{Sizes, IsIn}
 use Rattle.snap_fdd.specs.Contexts.{Met}
 use Rattle.snap_fdd.specs.Diagrams.{Diagram, Only, Asks, diagram}
-use Rattle.snap_fdd.specs.Forgotten.{AreDealt, AreMissed, IsDone, IsForgotten, IsLeaner, IsMissed, IsPast}
+use Rattle.snap_fdd.specs.Forgotten.{AreDealt, AreMissed, IsDone, IsForgotten, IsMissed, IsPast}
 use Rattle.snap_fdd.specs.Memoed.{IsAskedPruned, PrunedFor}
 use Rattle.snap_fdd.specs.Order.{test_cmp, Above, IsOrdered, NotBelow}
 use Rattle.snap_fdd.specs.Picks.{IsDiagram, sizes}
@@ -164,7 +163,7 @@ done_apart ranks cl e t u f k few fits packet done follows st place = elim done.
   | inr past ↦
       let index : index_of f.test ≡ index_of u
       = same_spelled cl k e.comps few fits packet (index_of f.test) (index_of u) (plain_state f.test done.0).1
-          (recursion_from_All (IsAtom (length cl)) (index_of u) (index-atoms (length cl) u follows.test)) (over_atoms e.comps e.arrays u follows.over) past.1 (ap (λ (p : Place). p.index) place) in
+      (recursion_from_All (IsAtom (length cl)) (index_of u) (index-atoms (length cl) u follows.test)) (over_atoms e.comps e.arrays u follows.over) past.1 (ap (λ (p : Place). p.index) place) in
       past_apart ranks t u f past.0 follows.after (one_subject f.test u (plain_state f.test done.0).0 st var index)
 ]
   where

@@ -1,5 +1,5 @@
 -- One way, the other, or both.
-use Rattle.std.proofs.Common.{◌≡◌, ◌<◌, ℕ, List, Option, refl, sym, subst, arith, length, true, false}
+use Rattle.std.proofs.Common.{◌<◌, ℕ, List, Option, refl, sym, subst, arith, length, true, false}
 use Rattle.std.specs.Global.{Vec}
 use Rattle.std.specs.Prelude.{IfSome}
 use Rattle.snap_arena.proofs.Remembering.{remembers_more}
