@@ -1,4 +1,5 @@
 pub mod Algebra
+pub mod Among
 pub mod Answers
 pub mod Apart
 pub mod Contexts
@@ -10,6 +11,7 @@ pub mod Indices
 pub mod Keys
 pub mod Knowing
 pub mod Last
+pub mod Lean
 pub mod Merging
 pub mod Model
 pub mod Numbered

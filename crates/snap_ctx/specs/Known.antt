@@ -32,6 +32,10 @@ TestOver comps arrays (Value c n) = IsAmong comps c
 TestOver comps arrays (Equal l r p) = IsAmong comps l × IsAmong comps r
 TestOver comps arrays (State v ix t) = IsAmong arrays v × AllByRecursion (AtomOver comps) ix × TermOver comps t
 
+abbrev pub IsFixed : Atom → Type 0
+IsFixed (Number n) = Unit {0}
+IsFixed (Comp c) = ⊥
+
 -- ---- facts by the classes
 -- two terms that differ, or what a place holds or doesn't
 pub data Normal : Type 0 where

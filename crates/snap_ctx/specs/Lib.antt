@@ -3,6 +3,7 @@ pub mod Classes
 pub mod Closing
 pub mod Facts
 pub mod Known
+pub mod Lean
 pub mod Meets
 pub mod Ranges
 pub mod Tested

@@ -3,7 +3,9 @@
 ghost use Rattle.std.specs.Prelude.{◌≡◌, ◌<◌, ◌≤◌, ◌^◌, ℕ, All, IfOk, IfSome, List, MatchBool, [], ◌∷◌, length, slice_index};
 ghost use Rattle.snap_core.specs.Tests.{TestFits, term_value};
 ghost use Rattle.snap_ctx.specs.Classes.{IsClass, IsTest, class_of, index_of};
+ghost use Rattle.snap_ctx.specs.declared.fact.Fact.{Fact as AFact};
 ghost use Rattle.snap_ctx.specs.Known.{IsKnown};
+ghost use Rattle.snap_ctx.specs.Lean.{IsLean};
 ghost use Rattle.snap_ctx.specs.Meets.{IsMet, NoneMeets, Under, with_fact};
 ghost use Rattle.snap_ctx.specs.View.{IsContext};
 
@@ -67,6 +69,18 @@ fn shared(alloc: Global, facts: Facts) -> Result<Rc<Facts>, NoMemory>
         Ok(shared) => Ok(shared),
         Err(_) => Err(NoMemory),
     }
+}
+
+// Facts that contexts can share: these, the first of them the newest. Refuses for memory alone.
+fn list_of(alloc: Global, mut list: Vec<Fact>) -> Result<Rc<Facts>, NoMemory>
+    requires { length list.items < 2 ^ 32 }
+    ensures { IfOk result (λ facts. facts.value ≡ list.items) }
+{
+    let mut facts = shared(alloc, Facts::none())?;
+    while let Some(fact) = list.pop() {
+        facts = shared(alloc, Facts::with(fact, facts))?;
+    }
+    Ok(facts)
 }
 
 impl Context {
@@ -165,6 +179,19 @@ impl Context {
             comps,
             arrays,
         )
+    }
+
+    /// The context of these of its facts alone, where those that it loses are of numbers at places of numbers,
+    /// and those that stay are at other places: then nothing more is known of the components. Refuses for memory alone.
+    pub fn with_only(&self, stay: Vec<Fact>) -> Result<Context, NoMemory>
+        requires { (gone : List AFact) × IsLean self.now.facts stay.items gone }
+        ensures facts { IfOk result (λ c. c.facts ≡ stay.items) }
+        ensures classes { IfOk result (λ c. c.classes ≡ self.now.classes) }
+    {
+        let alloc = *self.classes.allocator();
+        let classes = Vec::from_slice(alloc, &self.classes)?;
+        let facts = list_of(alloc, stay)?;
+        Ok(Context { classes, facts })
     }
 
     /// Whether all, none or some of the stores and packets that meet the facts pass the test.

@@ -1,12 +1,12 @@
 -- Facts of numbers that don't contradict each other have a model.
-use Rattle.std.proofs.Common.{◌≡◌, ◌≢◌, ◌⊎◌, inl, inr, ℕ, ◌<◌, ◌≤◌, ◌^◌, Bool, true, false, cond, List, [], ◌∷◌, ◌++◌, length, map, get_or, Option, Some, None, refl, sym, ap, subst, ◌∙◌, arith}
+use Rattle.std.proofs.Common.{◌≡◌, ◌≢◌, inl, inr, ℕ, ◌<◌, ◌≤◌, ◌^◌, Bool, true, false, cond, List, [], ◌∷◌, length, map, get_or, Option, Some, None, refl, sym, ap, subst, ◌∙◌, arith}
 use Rattle.std.specs.Prelude.{◌==◌, All, if◌then◌else◌, slice_get, slice_index_or}
 use Rattle.std.specs.List.{AllByRecursion}
 use Rattle.std.specs.List.{range_with_len}
 use Rattle.std.proofs.lemmas.Bool.{eqb-true, eqb-false}
 use Rattle.std.proofs.lemmas.List.{length-map, get_or-map}
 use Rattle.std.proofs.lemmas.List.FromFn.{get_or-map-range_with_len, length-map-range_with_len}
-use Rattle.std.proofs.lemmas.List.Elements.{All-from_recursion, recursion_from_All}
+use Rattle.std.proofs.lemmas.List.Elements.{recursion_from_All}
 use Rattle.snap_core.specs.declared.policy.Atom.{Atom}
 use Rattle.snap_core.specs.declared.policy.Atom.TheVariants.{Num as Number, Comp}
 use Rattle.snap_core.specs.declared.policy.Term.{Term}
@@ -17,6 +17,8 @@ use Rattle.snap_core.specs.Arrays.{has}
 use Rattle.snap_ctx.specs.declared.fact.Fact.{Fact}
 use Rattle.snap_ctx.specs.Meets.{IsMet}
 use Rattle.snap_ctx.specs.Classes.{wrap, shift, class_of, normal, atom_class, IsAtom, IsTest, IsClass, Says, FactRule, PairRule, Rules, is_state, left_of, right_of, var_of, index_of}
+use Rattle.snap_ctx.specs.Lean.{Among}
+use Rattle.snap_ctx.proofs.Among.{all_among}
 use Rattle.snap_ctx.proofs.Model.{model}
 use Rattle.snap_fdd.specs.declared.survey.Seen.{Seen}
 use Rattle.snap_fdd.specs.declared.survey.Seen.TheVariants.{Few, Many}
@@ -24,29 +26,6 @@ use Rattle.snap_fdd.specs.declared.survey.Survey.{Survey}
 use Rattle.snap_fdd.specs.Quiet.{AtomIsFree, IndexIsFine, IsClear, IsFine, SameSubject}
 use Rattle.snap_fdd.specs.Spots.{IsNumber, AtomsApart, IndicesApart}
 use Rattle.snap_fdd.proofs.Spotted.{BothAsked, ClearAt, clear_at, one_or_apart}
-
--- ---- members of lists of facts
-abbrev pub Among : Fact → List Fact → Type 0
-Among f [] = ⊥
-Among f (g ∷ gs) = (f ≡ g) ⊎ Among f gs
-
-pub among_last : (f : Fact) (xs : List Fact) (x : Fact) → Among f (xs ++ x ∷ []) → Among f xs ⊎ (f ≡ x)
-among_last f [] x (inl e) = inr e
-among_last f [] x (inr n) = absurd n
-among_last f (y ∷ xs) x (inl e) = inl (inl e)
-among_last f (y ∷ xs) x (inr h) = elim (among_last f xs x h) [ inl a ↦ inl (inr a) | inr e ↦ inr e ]
-
-among_all : (P : Fact → Type 0) (xs : List Fact) → ((f : Fact) → Among f xs → P f) → AllByRecursion P xs
-among_all P [] h = tt
-among_all P (x ∷ xs) h = (h x (inl refl), among_all P xs (λ f a. h f (inr a)))
-
-pub all_among : (P : Fact → Type 0) (xs : List Fact) → ((f : Fact) → Among f xs → P f) → All P xs
-all_among P xs h = All-from_recursion P xs (among_all P xs h)
-
-pub from_all : (P : Fact → Type 0) (xs : List Fact) → AllByRecursion P xs → (f : Fact) → Among f xs → P f
-from_all P [] h f a = absurd a
-from_all P (x ∷ xs) h f (inl e) = subst P (sym e) h.0
-from_all P (x ∷ xs) h f (inr a) = from_all P xs h.1 f a
 
 -- ---- facts that don't contradict each other
 abbrev pub number_of : Test → Term

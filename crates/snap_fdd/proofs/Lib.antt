@@ -12,4 +12,5 @@ pub mod Calm
 pub mod Quieting
 pub mod Testing
 pub mod Alike
+pub mod Forgotten
 pub mod Placing

@@ -1,7 +1,6 @@
 -- Nothing is dead in a diagram that tests places alone, where its components are their own classes.
-use Rattle.std.proofs.Common.{◌≡◌, ◌≢◌, ◌⊎◌, inl, inr, ℕ, ◌+◌, ◌<◌, ◌≤◌, ◌^◌, Bool, true, false, List, [], ◌∷◌, ◌++◌, length, map, refl, sym, ap, subst, ◌∙◌, arith, append_assoc, append-nil, length-append}
-use Rattle.std.specs.Prelude.{All, slice_index_or}
-use Rattle.std.specs.declared.cmp.Ordering.TheVariants.{Less}
+use Rattle.std.proofs.Common.{◌≡◌, ◌⊎◌, inl, inr, ℕ, ◌+◌, ◌<◌, ◌≤◌, ◌^◌, Bool, true, false, List, [], ◌∷◌, ◌++◌, length, map, refl, sym, ap, subst, ◌∙◌, arith, append_assoc, append-nil, length-append}
+use Rattle.std.specs.Prelude.{All}
 use Rattle.std.specs.List.{AllByRecursion}
 use Rattle.std.proofs.lemmas.List.Elements.{All-append, recursion_from_All}
 use Rattle.snap_core.specs.declared.policy.Atom.{Atom}
@@ -14,18 +13,20 @@ use Rattle.snap_core.specs.Arrays.{Arrays, has}
 use Rattle.snap_core.specs.Inputs.{IsPacket}
 use Rattle.snap_core.specs.Listing.{number_in}
 use Rattle.snap_ctx.specs.declared.fact.Fact.{Fact}
-use Rattle.snap_ctx.specs.Classes.{wrap, class_of, normal, atom_class, is_state, var_of, index_of, left_of, IsAtom, IsTerm, IsTest, FactRule, PairRule, Rules, SamePlace, Says}
+use Rattle.snap_ctx.specs.Classes.{wrap, class_of, normal, atom_class, is_state, var_of, index_of, left_of, IsAtom, IsTerm, IsTest, FactRule, PairRule, Rules, Says}
 use Rattle.snap_ctx.specs.Known.{IsAmong, AtomOver, TermOver}
 use Rattle.snap_ctx.specs.Meets.{Meets}
 use Rattle.snap_ctx.specs.View.{View, IsContext}
+use Rattle.snap_ctx.specs.Lean.{Among}
+use Rattle.snap_ctx.proofs.Among.{all_among, among_last, from_all}
 use Rattle.snap_ctx.proofs.Last.{with_last, last_parts}
 use Rattle.snap_ctx.proofs.Model.{model}
 use Rattle.snap_ctx.specs.declared.tested.Tested.{Tested}
 use Rattle.snap_dep.specs.Ranks.{Grouping}
-use Rattle.snap_fdd.specs.Bounds.{Sizes, IsIn, TestIn}
+use Rattle.snap_fdd.specs.Bounds.{Sizes, IsIn}
 use Rattle.snap_fdd.specs.Contexts.{Met}
 use Rattle.snap_fdd.specs.Diagrams.{Diagram, Only, Asks, depth}
-use Rattle.snap_fdd.specs.Order.{test_cmp, Above, IsOrdered}
+use Rattle.snap_fdd.specs.Order.{Above, IsOrdered}
 use Rattle.snap_fdd.specs.Picks.{IsDiagram, sizes}
 use Rattle.snap_fdd.specs.Places.{AsksPlaces, AtomIsOwn, ComesBefore, IsOwn, StandsAside, TermIsOwn}
 use Rattle.snap_fdd.specs.Pruned.{Someone, With, IsLive}
@@ -33,7 +34,7 @@ use Rattle.snap_fdd.specs.Quiet.{BeginsElsewhere, SameSubject}
 use Rattle.snap_fdd.specs.Tested.{TestsOver}
 use Rattle.snap_fdd.proofs.Alike.{test_is}
 use Rattle.snap_fdd.proofs.Between.{same_between}
-use Rattle.snap_fdd.proofs.Calm.{Agree, Among, Tells, all_among, among_last, from_all, number_of}
+use Rattle.snap_fdd.proofs.Calm.{Agree, Tells, number_of}
 use Rattle.snap_fdd.proofs.Comparing.{less_trans, not_itself}
 use Rattle.snap_fdd.proofs.Quieting.{one_test, turned}
 

@@ -1,5 +1,5 @@
 -- Nothing is dead below calm facts in a quiet diagram.
-use Rattle.std.proofs.Common.{◌≡◌, ◌⊎◌, inl, inr, ℕ, zero, suc, Option, Some, None, ◌+◌, ◌<◌, ◌≤◌, ◌^◌, Bool, true, false, List, [], ◌∷◌, length, refl, sym, ap, subst, ◌∙◌, arith, length-append}
+use Rattle.std.proofs.Common.{◌≡◌, inl, inr, ℕ, zero, suc, Option, Some, None, ◌+◌, ◌<◌, ◌≤◌, ◌^◌, Bool, true, false, List, [], ◌∷◌, length, refl, sym, ap, subst, ◌∙◌, arith, length-append}
 use Rattle.std.specs.declared.cmp.Ordering.TheVariants.{Less}
 use Rattle.snap_core.specs.declared.policy.Atom.{Atom}
 use Rattle.snap_core.specs.declared.policy.Term.{Term}
@@ -21,12 +21,14 @@ use Rattle.snap_core.specs.Inputs.{IsPacket}
 use Rattle.snap_ctx.specs.declared.fact.Fact.{Fact}
 use Rattle.snap_ctx.specs.Classes.{IsAtom, IsTerm, IsTest}
 use Rattle.snap_ctx.specs.Meets.{Meets, IsMet}
+use Rattle.snap_ctx.specs.Lean.{Among}
+use Rattle.snap_ctx.proofs.Among.{among_last, from_all}
 use Rattle.snap_ctx.proofs.Last.{with_last, last_parts}
 use Rattle.snap_ctx.specs.View.{View}
 use Rattle.snap_dep.specs.Ranks.{Grouping}
 use Rattle.snap_arena.specs.declared.node.Node.{Node}
 use Rattle.snap_arena.specs.declared.node.Node.TheVariants as node
-use Rattle.snap_arena.specs.Arena.{Grew, IsArena}
+use Rattle.snap_arena.specs.Arena.{IsArena}
 use Rattle.snap_fdd.specs.declared.leaf.Leaf.{Leaf}
 use Rattle.snap_fdd.specs.declared.leaf.Leaf.TheVariants.{Race}
 use Rattle.snap_fdd.specs.declared.survey.Survey.{Survey}
@@ -36,13 +38,13 @@ use Rattle.snap_fdd.specs.Diagrams.{Diagram, Only, Asks, diagram, depth, IsNodeO
 use Rattle.snap_fdd.specs.Order.{test_cmp, Above, IsOrdered}
 use Rattle.snap_fdd.specs.Picks.{IsDiagram, sizes}
 use Rattle.snap_fdd.specs.Pruned.{Someone, With, IsLive}
-use Rattle.snap_fdd.specs.Quiet.{IndexIsFine, IsClear, IsFine, SameSubject, BeginsElsewhere, IsQuiet, IsMarked, StandsBefore}
+use Rattle.snap_fdd.specs.Quiet.{IndexIsFine, IsClear, IsFine, SameSubject, BeginsElsewhere, IsQuiet, StandsBefore}
 use Rattle.snap_fdd.specs.Spots.{IsNumber}
 use Rattle.snap_fdd.proofs.Spotted.{BothAsked, clear_at, same_asked}
 use Rattle.snap_fdd.proofs.Between.{same_between}
-use Rattle.snap_fdd.proofs.Calm.{Among, among_last, from_all, Tells, number_of, IsCalm, calm_is_met}
+use Rattle.snap_fdd.proofs.Calm.{Tells, number_of, IsCalm, calm_is_met}
 use Rattle.snap_fdd.proofs.Comparing.{less_trans, not_itself}
-use Rattle.snap_fdd.proofs.Shared.{kept, node_of}
+use Rattle.snap_fdd.proofs.Shared.{node_of}
 
 pub turned : (t u : Test) → SameSubject t u → SameSubject u t
 turned (Value c n) (Value d o) e = sym e

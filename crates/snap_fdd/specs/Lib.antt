@@ -13,3 +13,4 @@ pub mod Places
 pub mod Spots
 pub mod Tested
 pub mod Memoed
+pub mod Forgotten

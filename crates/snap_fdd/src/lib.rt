@@ -3,6 +3,7 @@
 
 pub mod bounds;
 pub mod codes;
+mod forgetting;
 pub mod leaf;
 pub mod only;
 pub mod order;

@@ -154,8 +154,8 @@ fn test_is_own(ctx: &Context, test: &Test) -> bool
     }
 }
 
-// Whether a test is surely on no array of a set.
-fn is_elsewhere(arrays: u64, test: &Test) -> bool
+/// Whether a test is surely on no array of a set.
+pub(crate) fn is_elsewhere(arrays: u64, test: &Test) -> bool
     ensures { IsTrue result → is_state test.now ≡ true → ¬ (IsAmong arrays (var_of test.now)) }
 {
     match test {

@@ -9,6 +9,7 @@ ghost use Rattle.snap_fdd.specs.Pruned.{IsPruned, IsLive, IsPart};
 ghost use Rattle.snap_fdd.specs.Memoed.{IsKey, IsPlan, PrunedFor, IsAskedPruned};
 ghost use Rattle.snap_arena.specs.Memos.{Remembers};
 
+use crate::forgetting::forgotten;
 use crate::leaf::Leaf;
 use crate::pick::{ask, look};
 use crate::places::{mark_places, stays_free};
@@ -139,6 +140,28 @@ fn pruned(
     if is_live(nodes, groups, ctx, plan, d) {
         return Ok(d);
     }
+    match forgotten(nodes, groups, ctx, plan, d)? {
+        Some(lean) => pruned_under(nodes, groups, &lean, plan, memo, d),
+        None => pruned_under(nodes, groups, ctx, plan, memo, d),
+    }
+}
+
+// A diagram pruned under a context that has no more to forget before it.
+#[cycle(pruned)]
+fn pruned_under(
+    nodes: &mut Nodes<Leaf>,
+    groups: &Groups,
+    ctx: &Context,
+    plan: &Plan,
+    memo: &mut Numbers,
+    d: u64,
+) -> Result<u64, NoMemory>
+    requires { IsAskedPruned groups.now ctx.now plan.now nodes.old memo.old d }
+    ensures grew { Grew nodes.old nodes.new }
+    ensures number { IfOk result (λ r. r < length nodes.new) }
+    ensures pruned { IfOk result (λ r. IsPruned groups.now.ranks (sizes groups.now ctx.now) ctx.now (diagram nodes.old d) (diagram nodes.new r)) }
+    ensures memo { OnOk result (Remembers (PrunedFor groups.now.ranks (sizes groups.now ctx.now) plan.now nodes.new) memo.new) }
+{
     let Some(key) = memo_key(nodes, ctx, plan, d)? else {
         return pruned_anew(nodes, groups, ctx, plan, memo, d);
     };
@@ -196,6 +219,9 @@ pub fn prune(
     ensures answer { IfOk result (λ r. Under ctx.now (λ m k. answer nodes.new r m k ≡ answer nodes.old d m k)) }
     ensures live { IfOk result (λ r. IsLive (Met ctx.now) (diagram nodes.new r)) }
 {
+    if let Node::Leaf(_) = look(nodes, d) {
+        return Ok(d);
+    }
     let reached = reach_from(nodes, &[d])?;
     let survey = look_over(nodes, groups.count(), &reached)?;
     let quiet = quiet_ones(nodes, &survey, &reached)?;

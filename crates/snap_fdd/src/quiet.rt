@@ -5,6 +5,7 @@ ghost use Rattle.std.specs.List.{AllByRecursion};
 ghost use Rattle.snap_ctx.specs.declared.fact.Fact.{Fact};
 ghost use Rattle.snap_fdd.specs.Contexts.{Met};
 ghost use Rattle.snap_fdd.specs.Diagrams.{diagram};
+ghost use Rattle.snap_fdd.specs.Forgotten.{IsPast};
 ghost use Rattle.snap_fdd.specs.Order.{IsRanked, test_cmp};
 ghost use Rattle.snap_fdd.specs.Picks.{IsArgument};
 ghost use Rattle.snap_fdd.specs.Places.{ComesBefore};
@@ -127,6 +128,14 @@ pub(crate) fn comes_before(groups: &Groups, fact: &Fact, test: &Test) -> bool
         return false;
     }
     !fact.yes || !same_subject(before, test)
+}
+
+/// Whether a fact is on a test before this one, and on another subject.
+pub(crate) fn is_past(groups: &Groups, fact: &Fact, test: &Test) -> bool
+    requires { IsRanked (length groups.now.ranks) test.now }
+    ensures { IsTrue result → IsPast groups.now.ranks test.now fact.now }
+{
+    comes_before(groups, fact, test) && !same_subject(fact.test.test(), test)
 }
 
 // Whether a fact is fine besides.

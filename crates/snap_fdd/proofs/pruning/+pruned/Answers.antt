@@ -1,8 +1,11 @@
 -- One way, the other, or both.
-use Rattle.std.proofs.Common.{◌≡◌, ◌<◌, ℕ, List, Option, refl, sym, subst, arith, length, true, false}
+use Rattle.std.proofs.Common.{◌<◌, ℕ, List, Option, refl, sym, subst, arith, length, true, false}
 use Rattle.std.specs.Global.{Vec}
 use Rattle.std.specs.Prelude.{IfSome}
 use Rattle.snap_arena.proofs.Remembering.{remembers_more}
+use Rattle.snap_ctx.specs.View.{View}
+use Rattle.snap_fdd.specs.Forgotten.{IsForgotten}
+use Rattle.snap_fdd.proofs.Forgotten.{asked_lean, memo_lean, pruned_lean}
 use Rattle.snap_fdd.specs.Memoed.{IsKey, PrunedFor}
 use Rattle.std.proofs.lemmas.Result.{IfOk-weaker}
 use Rattle.snap_ctx.specs.Answers.{IsAssumed}
@@ -113,23 +116,40 @@ pruned_anew-returns-in_ok-n-in-More-2-clause-memo t c =
     IfOk-weaker c.ask.result _ _ (λ d p. pruned_memo_kept c.args.groups.now.ranks (sizes c.args.groups.now c.args.ctx.now) c.args.plan.now c.pruned-in-More-2-2.new.nodes c.ask.new.nodes c.pruned-in-More-2-2.new.memo c.ask.ensures.grew
     (memo_back c.args.groups.now c.args.plan.now c.pruned-in-More-2-2.new.nodes c.pruned-in-More-2-2.new.memo c.args.ctx.now c.in-More-2.no_ctx c.in-Split.test false m2 c.in_ok-n-in-More-2.ensures.memo)) c.ask.ensures.number
 
-pub pruned-returns-in-Some-get-clause-number : goal.pruned-returns-in-Some-get-clause-number
-pruned-returns-in-Some-get-clause-number t c =
+pub pruned_under-returns-in-Some-get-clause-number : goal.pruned_under-returns-in-Some-get-clause-number
+pruned_under-returns-in-Some-get-clause-number t c =
     let k = subst (λ (o : Option (Vec ℕ)). IfSome o (λ key. IsKey c.args.plan.now c.args.nodes.now c.args.ctx.now c.args.d key.items)) c.in-Some.is c.in_ok-key.ensures in
     (pruned_before c.args.groups.now.ranks (sizes c.args.groups.now c.args.ctx.now) c.args.plan.now c.args.nodes.now c.args.ctx.now c.args.d c.in-Some.key.items c.in-Some-get.r refl c.requires.first.keeps k
     (subst (λ (q : List ℕ). PrunedFor c.args.groups.now.ranks (sizes c.args.groups.now c.args.ctx.now) c.args.plan.now c.args.nodes.now q c.in-Some-get.r) c.deref.ensures.value
     (c.requires.known c.deref.result.now c.in-Some-get.r (sym c.in-Some-get.ensures)))).0
 
-pub pruned-returns-in-Some-get-clause-pruned : goal.pruned-returns-in-Some-get-clause-pruned
-pruned-returns-in-Some-get-clause-pruned t c =
+pub pruned_under-returns-in-Some-get-clause-pruned : goal.pruned_under-returns-in-Some-get-clause-pruned
+pruned_under-returns-in-Some-get-clause-pruned t c =
     let k = subst (λ (o : Option (Vec ℕ)). IfSome o (λ key. IsKey c.args.plan.now c.args.nodes.now c.args.ctx.now c.args.d key.items)) c.in-Some.is c.in_ok-key.ensures in
     (pruned_before c.args.groups.now.ranks (sizes c.args.groups.now c.args.ctx.now) c.args.plan.now c.args.nodes.now c.args.ctx.now c.args.d c.in-Some.key.items c.in-Some-get.r refl c.requires.first.keeps k
     (subst (λ (q : List ℕ). PrunedFor c.args.groups.now.ranks (sizes c.args.groups.now c.args.ctx.now) c.args.plan.now c.args.nodes.now q c.in-Some-get.r) c.deref.ensures.value
     (c.requires.known c.deref.result.now c.in-Some-get.r (sym c.in-Some-get.ensures)))).1
 
-pub pruned-returns-clause-memo : goal.pruned-returns-clause-memo
-pruned-returns-clause-memo t c =
+pub pruned_under-returns-clause-memo : goal.pruned_under-returns-clause-memo
+pruned_under-returns-clause-memo t c =
     let k = subst (λ (o : Option (Vec ℕ)). IfSome o (λ key. IsKey c.args.plan.now c.args.nodes.now c.args.ctx.now c.args.d key.items)) c.in-Some.is c.in_ok-key.ensures in
     remembers_more (PrunedFor c.args.groups.now.ranks (sizes c.args.groups.now c.args.ctx.now) c.args.plan.now c.pruned_anew-2.new.nodes) c.pruned_anew-2.new.memo c.put.new.self c.in-Some.key.items c.in_ok-r.r c.in_ok-r.ensures.memo
     (pruned_now c.args.groups.now.ranks (sizes c.args.groups.now c.args.ctx.now) c.args.plan.now c.args.nodes.now c.pruned_anew-2.new.nodes c.args.ctx.now c.args.d c.in-Some.key.items c.in_ok-r.r c.in_ok-r.ensures.grew c.requires.first.below c.in_ok-r.ensures.number refl k c.in_ok-r.ensures.pruned)
     c.in_ok-put.ensures.ok
+
+pub pruned-pruned_under-requires : goal.pruned-pruned_under-requires
+pruned-pruned_under-requires t c =
+    let f = subst (λ (o : Option View). IfSome o (λ lean. IsForgotten c.args.groups.now.ranks c.args.ctx.now lean (diagram c.args.nodes.now c.args.d))) c.in-Some.is c.in_ok-lean.ensures in (
+      omega (arith, c.decreases),
+      asked_lean c.args.groups.now c.args.ctx.now c.in-Some.lean (diagram c.args.nodes.now c.args.d) f c.args.plan.now c.args.nodes.now c.args.memo.now c.args.d c.requires,
+    )
+
+pub pruned-returns-in-Some-clause-pruned : goal.pruned-returns-in-Some-clause-pruned
+pruned-returns-in-Some-clause-pruned t c =
+    let f = subst (λ (o : Option View). IfSome o (λ lean. IsForgotten c.args.groups.now.ranks c.args.ctx.now lean (diagram c.args.nodes.now c.args.d))) c.in-Some.is c.in_ok-lean.ensures in
+    IfOk-weaker c.pruned_under.result _ _ (λ r p. pruned_lean c.args.groups.now c.args.ctx.now c.in-Some.lean (diagram c.args.nodes.now c.args.d) f (diagram c.pruned_under.new.nodes r) p) c.pruned_under.ensures.pruned
+
+pub pruned-returns-in-Some-clause-memo : goal.pruned-returns-in-Some-clause-memo
+pruned-returns-in-Some-clause-memo t c =
+    let f = subst (λ (o : Option View). IfSome o (λ lean. IsForgotten c.args.groups.now.ranks c.args.ctx.now lean (diagram c.args.nodes.now c.args.d))) c.in-Some.is c.in_ok-lean.ensures in
+    IfOk-weaker c.pruned_under.result _ _ (λ r p. memo_lean c.args.groups.now c.args.ctx.now c.in-Some.lean (diagram c.args.nodes.now c.args.d) f c.args.plan.now c.pruned_under.new.nodes c.pruned_under.new.memo p) c.pruned_under.ensures.memo
