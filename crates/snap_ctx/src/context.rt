@@ -181,8 +181,8 @@ impl Context {
         )
     }
 
-    /// The context of these of its facts alone, where those that it loses are of numbers at places of numbers,
-    /// and those that stay are at other places: then nothing more is known of the components. Refuses for memory alone.
+    /// The context of these of its facts alone. Those that it loses are of numbers at places of numbers, and those that
+    /// stay are at other places, so the classes stay as they are. Refuses for memory alone.
     pub fn with_only(&self, stay: Vec<Fact>) -> Result<Context, NoMemory>
         requires { (gone : List AFact) × IsLean self.now.facts stay.items gone }
         ensures facts { IfOk result (λ c. c.facts ≡ stay.items) }

@@ -258,7 +258,7 @@ module _ (g : Grouping) (v w : View) (d : Diagram) (f : IsForgotten g.ranks v w 
         keeps = keeps;
         above = p.above;
         live = live_refilled (Follows g.ranks (length v.classes) f.tested f.test) (Met w) (Met v) r refills
-            (all_follow g.ranks (sizes g v) f.tested f.test r keeps.bounds (p.tests f.tested f.over) keeps.ordered (not_before g.ranks f.test f.yes f.no_way d r f.is p.above)) p.live;
+            (all_follow g.ranks (sizes g v) f.tested f.test r keeps.bounds (p.tests f.tested f.over) keeps.ordered (not_before g.ranks f.test f.yes f.other d r f.is p.above)) p.live;
         tests = p.tests;
         short = p.short;
       }

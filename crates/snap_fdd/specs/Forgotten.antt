@@ -48,9 +48,9 @@ pub record IsLeaner (ranks : List ℕ) (v w : View) (e : Tested) (t : Test) : Ty
 pub record IsForgotten (ranks : List ℕ) (v w : View) (d : Diagram) : Type 0 where
   pub test : Test
   pub yes : Diagram
-  pub no_way : Diagram
+  pub other : Diagram
   pub tested : Tested
-  pub is : d ≡ Asks test yes no_way
+  pub is : d ≡ Asks test yes other
   pub over : TestsOver tested d
   pub leaner : IsLeaner ranks v w tested test
 
