@@ -12,6 +12,7 @@ use crate::close::closed;
 use crate::fact::{Fact, Shared};
 use crate::facts::Facts;
 use crate::known::known;
+use crate::named::named;
 use crate::ranges::know_test;
 use snap_core::NoMemory;
 use snap_core::policy::{Term, Test};
@@ -157,14 +158,9 @@ impl Context {
         ensures known { IfOk result (λ o. IfSome o (λ key. (q : List ℕ) × (key.items ≡ label ∷ q) × IsKnown self.now comps arrays q)) }
         ensures context { IsContext self.now }
     {
-        known(
-            *self.classes.allocator(),
-            &self.classes,
-            &self.facts,
-            label,
-            comps,
-            arrays,
-        )
+        let alloc = *self.classes.allocator();
+        let classes = named(alloc, &self.classes, comps)?;
+        known(alloc, &classes, &self.facts, label, comps, arrays)
     }
 
     /// Whether all, none or some of the stores and packets that meet the facts pass the test.
