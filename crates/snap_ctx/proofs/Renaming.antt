@@ -11,10 +11,10 @@ use Rattle.snap_core.specs.declared.policy.Term.{Term}
 use Rattle.snap_core.specs.declared.policy.Term.TheVariants.{Num, Plus}
 use Rattle.snap_core.specs.Tests.{term_value}
 use Rattle.snap_ctx.specs.declared.fact.Fact.{Fact}
-use Rattle.snap_ctx.specs.Classes.{wrap, shift, class_of, normal, atom_class, IsTerm, IsAtom, IsTest, IsClass, left_of, right_of, index_of, Says, FactRule, PairRule, Rules}
+use Rattle.snap_ctx.specs.Classes.{wrap, shift, class_of, normal, atom_class, IsTerm, IsAtom, IsTest, IsClass, left_of, right_of, index_of, Says, FactRule, PairRule}
 use Rattle.snap_ctx.specs.Closing.{replace, put}
 use Rattle.snap_ctx.specs.Known.{AreRenamed}
-use Rattle.snap_ctx.specs.View.{View, IsContext}
+use Rattle.snap_ctx.specs.View.{IsContext}
 use Rattle.snap_ctx.proofs.Algebra.{class_of-put, normal-put, atom_class-put, Fits-put}
 use Rattle.snap_ctx.proofs.Merging.{solve_sum}
 use Rattle.snap_ctx.proofs.Roots.{replace-other, left-term, right-term, index-atoms}

@@ -1,9 +1,6 @@
 -- The root is named by the component.
-use Rattle.std.proofs.Common.{◌≡◌, ◌∙◌, ◌-◌, ◌^◌, List, sym, subst}
+use Rattle.std.proofs.Common.{◌∙◌, List, sym, subst}
 use Rattle.snap_core.specs.declared.policy.Term.{Term}
-use Rattle.snap_core.specs.declared.policy.Term.TheVariants.{Plus}
-use Rattle.snap_ctx.specs.Classes.{wrap}
-use Rattle.snap_ctx.specs.Closing.{put}
 use Rattle.snap_ctx.specs.Known.{AreRenamed}
 use Rattle.snap_ctx.proofs.Renaming.{renamed-put}
 use Rattle.snap_ctx.proofs.named.rename.Goals as goal
