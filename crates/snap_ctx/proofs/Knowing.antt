@@ -17,7 +17,7 @@ use Rattle.snap_core.specs.Inputs.{IsPacket}
 use Rattle.snap_ctx.specs.declared.fact.Fact.{Fact}
 use Rattle.snap_ctx.specs.Meets.{Meets, IsMet}
 use Rattle.snap_ctx.specs.Classes.{wrap, shift, class_of, normal, atom_class, IsTerm, IsAtom, IsTest, IsClass, Fits, is_state, var_of, index_of, left_of, right_of, Says, SamePlace, FactRule, PairRule, Rules}
-use Rattle.snap_ctx.specs.Known.{IsAmong, AtomOver, TermOver, TestOver, Normal, Differ, Held, within, are_within, outside, are_outside, is_number, are_numbers, spot, tied, loose, difference, apart_of, held_of, known, with_some, all_known, normals_key, AreSame, IsRooted, IsKnown}
+use Rattle.snap_ctx.specs.Known.{IsAmong, AtomOver, TermOver, TestOver, Normal, Differ, Held, within, are_within, outside, are_outside, is_number, are_numbers, spot, tied, loose, difference, apart_of, held_of, known, with_some, all_known, normals_key, AreSame, IsRooted, IsSpelled, IsKnown}
 use Rattle.snap_ctx.specs.View.{View, IsContext}
 use Rattle.snap_ctx.proofs.Algebra.{normal-value}
 use Rattle.snap_ctx.proofs.Keys.{same_normals, same_classes}
@@ -211,7 +211,7 @@ number_pinned : (roots : ℕ) (k : List ℕ) (t : Term) → is_number t ≡ true
 number_pinned roots k (Num n) h = refl
 number_pinned roots k (Plus r p) h = absurd (cc)
 
-module _ (w : View) (comps arrays : ℕ) (key : List ℕ) (is : IsKnown w comps arrays key) (ctx : IsContext w) (m : Arrays) (k : List ℕ) (p : IsPacket (length w.classes) k)
+module _ (w : View) (comps arrays : ℕ) (key : List ℕ) (is : IsSpelled w comps arrays key) (ctx : IsContext w) (m : Arrays) (k : List ℕ) (p : IsPacket (length w.classes) k)
     (said : AllByRecursion (SaysSo m k) (all_known w.classes is.roots is.settled w.facts))
     (fits : (c : ℕ) → c < length w.classes → has comps c ≡ true → term_value (class_of w.classes c) k ≡ term_value (Plus c 0) k) where
   abbrev new : List Term
@@ -369,11 +369,11 @@ module _ (w : View) (comps arrays : ℕ) (key : List ℕ) (is : IsKnown w comps 
 all_same : (P : Normal → Type 0) (ns os : List Normal) → AreSame ns os → AllByRecursion P os → AllByRecursion P ns
 all_same P ns os same h = recursion_from_All P ns (λ i d l. All-contains P os (get_or ns i d) (All-from_recursion P os h) ((same (get_or ns i d)).0 (i, l, get_or_default ns i (get_or ns i d) d l)))
 
--- the law: beside contexts of which the same is known, the same facts about the components and arrays are met
-pub known_alike : (v w : View) (comps arrays : ℕ) (key : List ℕ) → IsContext v → IsContext w → length v.classes ≡ length w.classes → IsKnown v comps arrays key → IsKnown w comps arrays key
+-- beside contexts of which the same is known, the same facts about the components and arrays are met
+spelled_alike : (v w : View) (comps arrays : ℕ) (key : List ℕ) → IsContext v → IsContext w → length v.classes ≡ length w.classes → IsSpelled v comps arrays key → IsSpelled w comps arrays key
     → (m : Arrays) (k : List ℕ) → IsPacket (length v.classes) k → Meets v.facts m k → (path : List Fact) → All (λ f. IsTest (length w.classes) f.test) path → All (λ f. TestOver comps arrays f.test) path → Meets path m k
     → length (w.facts ++ path) ≤ 2 ^ 32 → IsMet (length w.classes) (w.facts ++ path)
-known_alike v w comps arrays key cv cw count kv kw m k p facts path tests over met short =
+spelled_alike v w comps arrays key cv cw count kv kw m k p facts path tests over met short =
     let both = same_classes comps 0 v.classes w.classes (normals_key kv.told) (normals_key kw.told) count (sym kv.is ∙ kw.is) in
     let normals = same_normals kv.told kw.told both.1 in
     let told = cv.told m k p facts in
@@ -385,3 +385,16 @@ known_alike v w comps arrays key cv cw count kv kw m k p facts path tests over m
     met_there w comps arrays key kw cw m k (record { long = p.long ∙ count; numbers = p.numbers }) said
     (λ c l h. ap (λ t. term_value t k) (sym (both.0 c (Plus c 0) (rw count l) (subst (λ (n : ℕ). has comps n ≡ true) (let e : c ≡ 0 + c = omega arith in e) h))) ∙ told c (rw count l))
     path tests over met short
+
+-- the law: whatever the classes are called
+pub known_alike : (v w : View) (comps arrays : ℕ) (key : List ℕ) → IsContext v → IsContext w → length v.classes ≡ length w.classes → IsKnown v comps arrays key → IsKnown w comps arrays key
+    → (m : Arrays) (k : List ℕ) → IsPacket (length v.classes) k → Meets v.facts m k → (path : List Fact) → All (λ f. IsTest (length w.classes) f.test) path → All (λ f. TestOver comps arrays f.test) path → Meets path m k
+    → length (w.facts ++ path) ≤ 2 ^ 32 → IsMet (length w.classes) (w.facts ++ path)
+known_alike v w comps arrays key cv cw count kv kw m k p facts path tests over met short =
+    let ev = kv.named.0 in
+    let ew = kw.named.0 in
+    subst (λ (n : ℕ). IsMet n (w.facts ++ path)) ew
+    (spelled_alike (record { facts = v.facts; classes = kv.classes }) (record { facts = w.facts; classes = kw.classes }) comps arrays key
+    (kv.named.1 v.facts cv) (kw.named.1 w.facts cw) (ev ∙ count ∙ sym ew) kv.spelled kw.spelled
+    m k (record { long = p.long ∙ sym ev; numbers = p.numbers }) facts path
+    (subst (λ (n : ℕ). All (λ f. IsTest n f.test) path) (sym ew) tests) over met short)

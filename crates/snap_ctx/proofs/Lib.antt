@@ -17,6 +17,7 @@ pub mod Model
 pub mod Numbered
 pub mod Pinned
 pub mod Places
+pub mod Renaming
 pub mod Roots
 pub mod Sound
 pub mod Staying

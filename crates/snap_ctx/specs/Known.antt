@@ -11,7 +11,7 @@ use Rattle.snap_core.specs.declared.policy.Test.TheVariants.{Value, Equal, State
 use Rattle.snap_core.specs.Arrays.{has}
 use Rattle.snap_ctx.specs.declared.fact.Fact.{Fact}
 use Rattle.snap_ctx.specs.Classes.{wrap, class_of, normal, atom_class, is_state, var_of, index_of, left_of, right_of}
-use Rattle.snap_ctx.specs.View.{View}
+use Rattle.snap_ctx.specs.View.{View, IsContext}
 
 -- ---- tests about components and arrays
 -- the number is in a set, as far as one of 64 bits can tell
@@ -166,8 +166,8 @@ pub record IsSettled (cl : List Term) (facts : List Fact) (v : ℕ) : Type 0 whe
   pub index : List Term
   pub all : All (IsAtSpot cl v index) facts
 
--- the numbers of a key tell what a context knows about components and arrays
-pub record IsKnown (v : View) (comps arrays : ℕ) (key : List ℕ) : Type 0 where
+-- the numbers of a key tell what facts and classes do about components and arrays
+pub record IsSpelled (v : View) (comps arrays : ℕ) (key : List ℕ) : Type 0 where
   pub roots : ℕ
   pub settled : ℕ
   pub classes : (c : ℕ) → c < length v.classes → has comps c ≡ true → within roots (class_of v.classes c) ≡ true
@@ -176,3 +176,13 @@ pub record IsKnown (v : View) (comps arrays : ℕ) (key : List ℕ) : Type 0 whe
   pub told : List Normal
   pub same : AreSame told (all_known v.classes roots settled v.facts)
   pub is : key ≡ classes_key comps 0 v.classes ++ normals_key told
+
+-- the same classes by other names: a context still, of the same facts
+abbrev pub AreRenamed : List Term → List Term → Type 0
+AreRenamed cl new = (length new ≡ length cl) × ((facts : List Fact) → IsContext (record { facts = facts; classes = cl }) → IsContext (record { facts = facts; classes = new }))
+
+-- the numbers of a key tell what a context knows about components and arrays, by some names of its classes
+pub record IsKnown (v : View) (comps arrays : ℕ) (key : List ℕ) : Type 0 where
+  pub classes : List Term
+  pub named : AreRenamed v.classes classes
+  pub spelled : IsSpelled (record { facts = v.facts; classes = classes }) comps arrays key

@@ -81,7 +81,7 @@ pub(crate) fn same_index(classes: &[Term], first: &[Atom], second: &[Atom]) -> b
     true
 }
 
-fn put_root(classes: &mut [Term], root: u16, to: Term)
+pub(crate) fn put_root(classes: &mut [Term], root: u16, to: Term)
     ensures { classes.new ≡ put classes.old root to }
 {
     for class in classes.iter_mut() {

@@ -14,6 +14,7 @@ use crate::close::closed;
 use crate::fact::{Fact, Shared};
 use crate::facts::Facts;
 use crate::known::known;
+use crate::named::named;
 use crate::ranges::know_test;
 use snap_core::NoMemory;
 use snap_core::policy::{Term, Test};
@@ -171,14 +172,9 @@ impl Context {
         ensures known { IfOk result (λ o. IfSome o (λ key. (q : List ℕ) × (key.items ≡ label ∷ q) × IsKnown self.now comps arrays q)) }
         ensures context { IsContext self.now }
     {
-        known(
-            *self.classes.allocator(),
-            &self.classes,
-            &self.facts,
-            label,
-            comps,
-            arrays,
-        )
+        let alloc = *self.classes.allocator();
+        let classes = named(alloc, &self.classes, comps)?;
+        known(alloc, &classes, &self.facts, label, comps, arrays)
     }
 
     /// The context of these of its facts alone. Those that it loses are of numbers at places of numbers, and those that

@@ -2,7 +2,7 @@
 
 ghost use Rattle.std.specs.Prelude.{◌≡◌, ◌≤◌, ◌∷◌, ◌++◌, ℕ, All, IfOk, IfSome, IsTrue, List, OnOk, length, map};
 ghost use Rattle.snap_ctx.specs.Classes.{atom_class, normal, IsAtom, IsTerm, IsTest};
-ghost use Rattle.snap_ctx.specs.Known.{all_known, apart_of, classes_key, difference, held_of, known, normal_key, normals_key, some_key, spot_key, term_key, HasWords, IsKnown, IsWord, Normal, Differ};
+ghost use Rattle.snap_ctx.specs.Known.{all_known, apart_of, classes_key, difference, held_of, known, normal_key, normals_key, some_key, spot_key, term_key, HasWords, IsSpelled, IsWord, Normal, Differ};
 ghost use Rattle.snap_core.specs.declared.policy.Term.TheVariants.{Plus};
 
 use crate::classes::{atom_at, class_at, normal_at};
@@ -296,7 +296,7 @@ pub(crate) fn known(
 ) -> Result<Option<Vec<u64>>, NoMemory>
     requires few { length classes.now ≤ 64 }
     requires tests { All (λ f. IsTest (length classes.now) f.test) facts.now }
-    ensures { IfOk result (λ o. IfSome o (λ key. (q : List ℕ) × (key.items ≡ label ∷ q) × IsKnown (record { facts = facts.now; classes = classes.now }) comps arrays q)) }
+    ensures { IfOk result (λ o. IfSome o (λ key. (q : List ℕ) × (key.items ≡ label ∷ q) × IsSpelled (record { facts = facts.now; classes = classes.now }) comps arrays q)) }
 {
     let settled = settled(classes, arrays, facts);
     let Some(roots) = rooted(classes, comps, settled, facts) else {

@@ -10,6 +10,7 @@ pub mod fits;
 mod known;
 pub mod laws;
 mod look;
+mod named;
 pub mod plain;
 pub mod ranges;
 mod rooted;
