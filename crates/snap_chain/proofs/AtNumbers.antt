@@ -22,7 +22,8 @@ use Rattle.snap_core.specs.Arrays.{Arrays, number_after, place_at, same_place, u
 use Rattle.snap_ctx.proofs.Each.{Each-append}
 use Rattle.snap_ctx.proofs.Places.{same_place-true}
 use Rattle.snap_arena.specs.Codes.{index_code}
-use Rattle.snap_chain.specs.Fixed.{AreReordered, EndInRun, IsFixed, IsFixedUpdate, falling}
+use Rattle.snap_ctx.specs.Known.{IsFixed}
+use Rattle.snap_chain.specs.Fixed.{AreReordered, EndInRun, IsFixedUpdate, falling}
 use Rattle.snap_chain.proofs.Splitting.{hit, missed, updates-append}
 
 -- a second test of two keeps the same, where the first lets through all that it does

@@ -5,15 +5,10 @@ use Rattle.std.specs.List.Sorted.{IsPermutation}
 use Rattle.std.specs.Ordering.{nat_cmp}
 use Rattle.std.specs.Cmp.Lexicographic.{slice_cmp}
 use Rattle.std.specs.declared.cmp.Ordering.{Ordering}
-use Rattle.snap_core.specs.declared.policy.Atom.{Atom}
-use Rattle.snap_core.specs.declared.policy.Atom.TheVariants.{Num as Number, Comp}
 use Rattle.snap_core.specs.declared.policy.Update.{Update}
 use Rattle.snap_core.specs.Arrays.{Arrays, updates}
+use Rattle.snap_ctx.specs.Known.{IsFixed}
 use Rattle.snap_arena.specs.Codes.{index_code}
-
-abbrev pub IsFixed : Atom → Type 0
-IsFixed (Number n) = Unit {0}
-IsFixed (Comp c) = ⊥
 
 -- an update at numbers alone
 abbrev pub IsFixedUpdate : Update → Type 0

@@ -1,29 +1,14 @@
 //! Updates at numbers: where two are at different numbers, it makes no difference which comes first.
 
-ghost use Rattle.std.specs.Prelude.{◌≡◌, ◌∷◌, ◌++◌, [], IfOk, IsTrue, List, OnOk};
+ghost use Rattle.std.specs.Prelude.{◌≡◌, ◌∷◌, ◌++◌, [], IfOk, List, OnOk};
 ghost use Rattle.std.specs.List.{AllByRecursion};
-ghost use Rattle.snap_chain.specs.Fixed.{AreReordered, EndInRun, IsFixed, IsFixedUpdate};
+ghost use Rattle.snap_chain.specs.Fixed.{AreReordered, EndInRun, IsFixedUpdate};
 
 use crate::ordered::falling;
 use snap_core::NoMemory;
-use snap_core::policy::{Atom, Update};
+use snap_core::policy::Update;
+use snap_ctx::plain::is_fixed;
 use std::alloc::Global;
-
-fn is_number(atom: Atom) -> bool
-    ensures { IsTrue result → IsFixed atom }
-{
-    match atom {
-        Atom::Num(_) => true,
-        Atom::Comp(_) => false,
-    }
-}
-
-/// Whether an index is of numbers alone.
-pub(crate) fn is_fixed(index: &[Atom]) -> bool
-    ensures { IsTrue result → AllByRecursion IsFixed index.now }
-{
-    index.iter().all(|atom| is_number(*atom))
-}
 
 // Puts a run of updates at numbers behind others, those whose places are tested first at last, and empties it.
 fn push_run(ordered: &mut Vec<Update>, run: &mut Vec<Update>) -> Result<(), NoMemory>
