@@ -2,11 +2,9 @@ pub mod AheadLemmas
 pub mod DraftLemmas
 pub mod WordLemmas
 pub mod Readers
-pub mod RunLemmas
 pub mod Running
 pub mod StepLemmas
 pub mod SwitchLemmas
-pub mod TailLemmas
 pub mod DigitLemmas
 pub mod EqualsLemmas
 pub mod GuessLemmas

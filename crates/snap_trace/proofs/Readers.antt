@@ -18,7 +18,7 @@ use Rattle.snap_trace.specs.PacketLines.{Said, bad, said_by}
 use Rattle.snap_trace.specs.Reading.{EndsAt, GivesNext, GoesOn, IsUnfit, LeavesLine, ReadsNext, RefusesNext, SaysNext, StopsNext, left_for, left_where, next_for, refused_behind, said_of, said_where, spelled_where, where_accepted}
 use Rattle.snap_trace.specs.Refusals.{refusal_of, refusal_past_last}
 use Rattle.snap_trace.specs.Shown.{Says}
-use Rattle.snap_trace.specs.Spelled.{after_last, counted, ended, refused, spelled_behind, spelled_from, stops, text_of, with_next, with_said}
+use Rattle.snap_trace.specs.Spelled.{Spelled, after_last, counted, ended, refused, spelled_behind, spelled_from, stops, text_of, with_next, with_said}
 
 -- ---- what the next line is
 -- a line behind the last that may come
@@ -77,13 +77,6 @@ spelled_behind-last : (said : ℕ → List ℕ → Said) (file : List ℕ) (left
 unfolding spelled_behind
 spelled_behind-last said file left line at before none = ap (λ k. spelled_behind said file k line at before) none
 
--- where what a line says doesn't depend on how many packets come before it
-pub spelled_behind-const : (said : List ℕ → Said) (file : List ℕ) (left line at before : ℕ) → spelled_behind (λ n. said) file left line at before ≡ spelled_from said file left line at
-unfolding spelled_behind spelled_from
-spelled_behind-const said file zero line at before = refl
-spelled_behind-const said file (suc left) line at before =
-    λ i. with_next said line (next_in 67108864 65536 file at) (λ behind. spelled_behind-const said file left (line + 1) behind (counted (said (text_of (next_in 67108864 65536 file at))) before) i)
-
 module _ (fields : List Field) (accepts : ℕ → List ℕ → Bool) (file : List ℕ) (before read at : ℕ) where
   next_left : (next : Next) → read < 1000000 → next_in 67108864 65536 file at ≡ next
       → left_where fields accepts file before read at ≡ with_next (said_where fields accepts before) (read + 1) next (λ behind. left_where fields accepts file (counted (said_where fields accepts before (text_of next)) before) (read + 1) behind)
@@ -139,3 +132,15 @@ module _ (fields : List Field) (accepts : ℕ → List ℕ → Bool) (file : Lis
 pub left-first : (fields : List Field) (accepts : ℕ → List ℕ → Bool) (file : List ℕ) (reader : PacketLines) → reader.read ≡ 0 → lines_given reader.lines ≡ 0
     → spelled_where fields accepts file ≡ left_for fields accepts file reader 0
 left-first fields accepts file reader r g = λ i. spelled_behind (said_where fields accepts) file (1000000 - sym r i) (sym r i + 1) (sym g i) 0
+
+-- what a line says doesn't depend on the packets before it
+pub spelled_behind-const : (said : List ℕ → Said) (file : List ℕ) (left line at before : ℕ) → spelled_behind (λ n. said) file left line at before ≡ spelled_from said file left line at
+unfolding spelled_behind spelled_from
+spelled_behind-const said file zero line at before = refl
+spelled_behind-const said file (suc left) line at before =
+    by (next_in 67108864 65536 file at)
+    (λ behind. spelled_behind (λ n. said) file left (line + 1) behind (counted (said (text_of (next_in 67108864 65536 file at))) before)) (λ behind. spelled_from said file left (line + 1) behind)
+    (λ behind. spelled_behind-const said file left (line + 1) behind (counted (said (text_of (next_in 67108864 65536 file at))) before))
+  where
+    by : (next : Next) (a b : ℕ → Spelled) → ((behind : ℕ) → a behind ≡ b behind) → with_next said line next a ≡ with_next said line next b
+    by next a b same = ap (with_next said line next) (λ i behind. same behind i)

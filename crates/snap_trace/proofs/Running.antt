@@ -5,7 +5,7 @@ use Rattle.std.proofs.KnownBytes.{Appends-nil}
 use Rattle.std.proofs.lemmas.List.{length-append, take-append-le}
 use Rattle.std.proofs.Math.Seq.{take-length}
 use Rattle.snap_core.specs.declared.program.Field.{Field}
-use Rattle.snap_io.specs.Outputs.{Puts, Waits}
+use Rattle.snap_io.specs.Outputs.{Waits}
 use Rattle.snap_io.specs.Sinks.{AppendsPart, AppendsSome}
 use Rattle.snap_io.proofs.OutputLemmas.{waits-all, waits-more, waits-part, waits-same, waits-then, waits-written}
 use Rattle.snap_trace.specs.declared.fault.TraceFault.{TraceFault}

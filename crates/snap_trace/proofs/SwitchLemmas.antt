@@ -1,33 +1,33 @@
--- A run packet by packet is one big switch.
-use Rattle.std.proofs.Common.{◌≡◌, ◌⊎◌, ℕ, ◌+◌, zero, suc, List, [], ◌∷◌, ◌++◌, take, Option, Some, None, Ok, Err, refl, sym, ap, subst, ◌∙◌, inl, inr, arith, append_assoc}
-use Rattle.std.specs.Prelude.{MatchOption, option_and_then, option_map}
-use Rattle.std.specs.Option.{option_map_or}
+-- One big switch, one packet after another.
+use Rattle.std.proofs.Common.{◌≡◌, ◌⊎◌, ℕ, ◌+◌, true, zero, suc, List, [], ◌∷◌, ◌++◌, length, take, Option, Some, None, Ok, Err, refl, sym, ap, subst, ◌∙◌, inl, inr, arith, append_assoc, append-nil}
+use Rattle.std.specs.Prelude.{option_and_then, option_map}
+use Rattle.std.proofs.lemmas.List.{length-append}
+use Rattle.std.proofs.Math.Seq.{take-append_seam, drop-append_seam, take-add}
 use Rattle.snap_core.specs.declared.policy.Pol.{Pol}
-use Rattle.snap_core.specs.declared.program.Program.{Program}
 use Rattle.snap_core.specs.declared.place.Entry.{Entry}
+use Rattle.snap_core.specs.declared.program.Field.{Field}
+use Rattle.snap_core.specs.declared.program.Program.{Program}
 use Rattle.snap_core.specs.Arrays.{Arrays, zero_arrays}
+use Rattle.snap_core.specs.Cells.{arrays_of}
 use Rattle.snap_core.specs.Listing.{IsListing}
 use Rattle.snap_core.specs.Meaning.{Meaning, eval}
+use Rattle.snap_core.specs.Packets.{PacketSet}
 use Rattle.snap_core.specs.Switch.{Switched, one_big_switch}
-use Rattle.snap_trace.specs.declared.fault.TraceFault.TheVariants.{Undefined}
-use Rattle.snap_trace.specs.ByPackets.{blocks_from, blocks_of, ending_from, ending_of, IsTailFrom, IsTailOf}
-use Rattle.snap_trace.specs.OneSwitch.{AreBlocks, EndsAsRead, RunEnding, IsReport}
+use Rattle.snap_trace.specs.declared.fault.TraceFault.TheVariants.{Read, Write, Limit, Packets, Undefined, NoMemory}
+use Rattle.snap_trace.specs.declared.switch.Switch.{Switch}
+use Rattle.snap_trace.specs.OneSwitch.{AreBlocks, EndsAsRead, IsReport, IsUndefinedAfter, RunEnding, WritesReport, made_text}
+use Rattle.snap_trace.specs.PacketLines.{Said, skip, inject, bad, said_by}
+use Rattle.snap_trace.specs.Reading.{spelled_where, where_accepted}
 use Rattle.snap_trace.specs.Reports.{all_lines, block, blocks, end_text}
-use Rattle.snap_trace.specs.Spelled.{Stop, ended, refused, spelled}
+use Rattle.snap_trace.specs.Runner.{Ends, FirstBlocks, WritesOut, WritesRun}
+use Rattle.snap_trace.specs.Spelled.{Spelled, spelled, spelled_behind}
+use Rattle.snap_trace.specs.Switching.{Stands, Reports, Refuses, after}
+use Rattle.snap_trace.proofs.Readers.{spelled_behind-const}
+use Rattle.snap_trace.proofs.Running.{written-as}
 
 -- what a packet became, before what those behind it became
 abbrev pub behind : Meaning → Switched → Switched
 behind o made = record { packets = o.packets ∷ made.packets; arrays = made.arrays }
-
-module _ (p : Pol) (m : Arrays) (packet : List ℕ) (packets : List (List ℕ)) where
-  switch-more : (o : Meaning) (made : Switched) → eval p m packet ≡ Some o → one_big_switch p o.arrays packets ≡ Some made → one_big_switch p m (packet ∷ packets) ≡ Some (behind o made)
-  switch-more o made e f = ap (option_and_then (λ x. option_map (behind x) (one_big_switch p x.arrays packets))) e ∙ ap (option_map (behind o)) f
-
-  switch-none : eval p m packet ≡ None → one_big_switch p m (packet ∷ packets) ≡ None
-  switch-none e = ap (option_and_then (λ x. option_map (behind x) (one_big_switch p x.arrays packets))) e
-
-  switch-later : (o : Meaning) → eval p m packet ≡ Some o → one_big_switch p o.arrays packets ≡ None → one_big_switch p m (packet ∷ packets) ≡ None
-  switch-later o e f = ap (option_and_then (λ x. option_map (behind x) (one_big_switch p x.arrays packets))) e ∙ ap (option_map (behind o)) f
 
 some_of_map : (f : Switched → Switched) (o : Option Switched) (r : Switched) → option_map f o ≡ Some r → (s : Switched) × (o ≡ Some s)
 some_of_map f None r e = absurd (cc)
@@ -52,99 +52,140 @@ switch-take p (packet ∷ packets) m (suc count) made e none = from (eval p m pa
         let some = some_of_map (behind x) (one_big_switch p x.arrays packets) made f in
         later x some.0 some.1 (none_of_map (behind x) (one_big_switch p x.arrays (take count packets)) g)
 
-module _ (program : Program) where
-  -- the blocks of a run are those of some first packets
-  abbrev Made : ℕ → Arrays → List (List ℕ) → List ℕ → Type 0
-  Made number m packets text = (count : ℕ) × (made : Switched) × (one_big_switch program.body m (take count packets) ≡ Some made) × (text ≡ blocks (all_lines program.fields) number made.packets)
+blocks-append : (shown : PacketSet → List ℕ) (number : ℕ) (a b : List PacketSet) → blocks shown number (a ++ b) ≡ blocks shown number a ++ blocks shown (number + length a) b
+blocks-append shown number [] b = ap (λ n. blocks shown n b) (let e : number ≡ number + 0 = omega arith in e)
+blocks-append shown number (x ∷ a) b =
+    let first = block shown number x in
+    let more : number + 1 + length a ≡ number + suc (length a) = omega arith in
+    ap (λ l. first ++ l) (blocks-append shown (number + 1) a b) ∙ sym (append_assoc first (blocks shown (number + 1) a) (blocks shown (number + 1 + length a) b))
+    ∙ ap (λ n. (first ++ blocks shown (number + 1) a) ++ blocks shown n b) more
 
-  blocks-made : (packets : List (List ℕ)) (number : ℕ) (m : Arrays) → Made number m packets (blocks_from program number m packets)
-  blocks-made [] number m = (0, record { packets = []; arrays = m }, refl, refl)
-  blocks-made (packet ∷ packets) number m = from (eval program.body m packet) refl (λ o. blocks-made packets (number + 1) o.arrays)
+-- before the first packet
+pub stands-first : (s : Switch) → arrays_of s.store ≡ zero_arrays → s.number ≡ 1 → Stands s [] [] s
+stands-first s none first = record {
+  program = refl;
+  made = nothing;
+  goes_on = λ more. same (one_big_switch s.program.now.body zero_arrays more);
+  arrays = none;
+  as_many = refl;
+  number = first;
+  blocks = refl;
+}
+  where
+    nothing : Switched
+    nothing = record { packets = []; arrays = zero_arrays }
+
+    same : (o : Option Switched) → o ≡ option_map (after nothing) o
+    same None = refl
+    same (Some r) = refl
+
+module _ (first : Switch) (packets : List (List ℕ)) (text : List ℕ) (now : Switch) (s : Stands first packets text now) where
+  abbrev body : Pol
+  body = first.program.now.body
+
+  -- what was made of them
+  pub stands-made : one_big_switch body zero_arrays packets ≡ Some s.made
+  stands-made = ap (one_big_switch body zero_arrays) (sym (append-nil packets)) ∙ s.goes_on [] ∙ ap (λ l. Some (record { packets = l; arrays = s.made.arrays })) (append-nil s.made.packets)
+
+  -- the places that aren't 0 are listed
+  pub stands-listed : (entries : List Entry) → IsListing (arrays_of now.store) entries → Reports first packets (text ++ end_text now.program.now.vars entries)
+  stands-listed entries listing = (
+    s.made,
+    stands-made,
+    (entries, subst (λ m. IsListing m entries) s.arrays listing, (λ i. s.blocks i ++ end_text (s.program i).vars entries)),
+  )
+
+  -- the next packet was evaluated
+  pub stands-more : (packet : List ℕ) (new : Switch) (o : Meaning) → new.program.now ≡ now.program.now → eval now.program.now.body (arrays_of now.store) packet ≡ Some o → arrays_of new.store ≡ o.arrays → new.number ≡ now.number + 1
+      → Stands first (packets ++ packet ∷ []) (text ++ block (all_lines now.program.now.fields) now.number o.packets) new
+  stands-more packet new o same is arrays number =
+      let longer : length (packets ++ packet ∷ []) ≡ length packets + 1 = length-append packets (packet ∷ []) in
+      let here : eval body s.made.arrays packet ≡ Some o = (λ i. eval (sym s.program i).body (sym s.arrays i) packet) ∙ is in
+      record {
+        program = same ∙ s.program;
+        made = made;
+        goes_on = λ more.
+            ap (one_big_switch body zero_arrays) (append_assoc packets (packet ∷ []) more) ∙ s.goes_on (packet ∷ more)
+            ∙ ap (λ x. option_map (after s.made) (option_and_then (λ (x : Meaning). option_map (behind x) (one_big_switch body x.arrays more)) x)) here ∙ both (one_big_switch body o.arrays more);
+        arrays = arrays;
+        as_many = length-append s.made.packets (o.packets ∷ []) ∙ ap (λ n. n + 1) s.as_many ∙ sym longer;
+        number = number ∙ ap (λ n. n + 1) (s.number ∙ sym longer);
+        blocks = (λ i. s.blocks i ++ block (all_lines (s.program i).fields) (numbered i) o.packets) ∙ sym grown;
+      }
     where
-      from : (o : Option Meaning) → eval program.body m packet ≡ o → ((x : Meaning) → Made (number + 1) x.arrays packets (blocks_from program (number + 1) x.arrays packets))
-          → Made number m (packet ∷ packets) (option_map_or (λ (x : Meaning). block (all_lines program.fields) number x.packets ++ blocks_from program (number + 1) x.arrays packets) o [])
-      from None e later = (0, record { packets = []; arrays = m }, refl, refl)
-      from (Some x) e later =
-          let l = later x in
-          (suc l.0, behind x l.1, switch-more program.body m packet (take l.0 packets) x l.1 e l.2, ap (λ t. block (all_lines program.fields) number x.packets ++ t) l.3)
+      made : Switched
+      made = record { packets = s.made.packets ++ o.packets ∷ []; arrays = o.arrays }
 
-  pub are-blocks : (file : List ℕ) → AreBlocks program file (blocks_of program file)
-  are-blocks file = blocks-made (spelled program.fields file).packets 1 zero_arrays
+      both : (x : Option Switched) → option_map (after s.made) (option_map (behind o) x) ≡ option_map (after made) x
+      both None = refl
+      both (Some r) = ap (λ l. Some (record { packets = l; arrays = r.arrays })) (sym (append_assoc s.made.packets (o.packets ∷ []) r.packets))
 
-  -- the report from a packet on, which has this number
-  abbrev Ends : ℕ → Stop → Switched → RunEnding → List ℕ → Type 0
-  Ends number ended made ending text =
-      (ending ≡ Ok tt) × ((entries : List Entry) × IsListing made.arrays entries × (text ≡ blocks (all_lines program.fields) number made.packets ++ end_text program.vars entries))
-  Ends number (refused fault) made ending text = (ending ≡ Err fault) × (text ≡ blocks (all_lines program.fields) number made.packets)
+      numbered : now.number ≡ 1 + length s.made.packets
+      numbered = let n = s.number in let m = s.as_many in omega (arith, n, m)
 
-  abbrev Whole : ℕ → Arrays → List (List ℕ) → Stop → RunEnding → List ℕ → Type 0
-  Whole number m packets stop ending text = (made : Switched) × (one_big_switch program.body m packets ≡ Some made) × Ends number stop made ending text
+      lines : PacketSet → List ℕ
+      lines = all_lines first.program.now.fields
 
-  pub record Cut (number : ℕ) (m : Arrays) (packets : List (List ℕ)) (ending : RunEnding) (text : List ℕ) : Type 0 where
-    pub before : ℕ
-    pub made : Switched
-    pub some : one_big_switch program.body m (take before packets) ≡ Some made
-    pub none : one_big_switch program.body m (take (suc before) packets) ≡ None
-    pub ends : ending ≡ Err (Undefined (number + before))
-    pub is : text ≡ blocks (all_lines program.fields) number made.packets
+      grown : made_text first.program.now.fields made ≡ made_text first.program.now.fields s.made ++ block lines (1 + length s.made.packets) o.packets
+      grown = blocks-append lines 1 s.made.packets (o.packets ∷ []) ∙ ap (λ l. made_text first.program.now.fields s.made ++ l) (append-nil (block lines (1 + length s.made.packets) o.packets))
 
-  abbrev From : ℕ → Arrays → List (List ℕ) → Stop → RunEnding → List ℕ → Type 0
-  From number m packets stop ending text = Whole number m packets stop ending text ⊎ Cut number m packets ending text
+-- ---- what the run writes
+-- every packet comes in at a port
+spelled_where-true : (fields : List Field) (file : List ℕ) → spelled_where fields (λ before packet. true) file ≡ spelled fields file
+spelled_where-true fields file = (λ i. spelled_behind (λ before line. same (said_by fields line) i) file 1000000 1 0 0) ∙ spelled_behind-const (said_by fields) file 1000000 1 0 0
+  where
+    same : (said : Said) → where_accepted (λ packet. true) said ≡ said
+    same skip = refl
+    same (inject packet) = refl
+    same bad = refl
 
-  ends-more : (number : ℕ) (stop : Stop) (o : Meaning) (made : Switched) (ending : RunEnding) (text : List ℕ) → Ends (number + 1) stop made ending text
-      → Ends number stop (behind o made) ending (block (all_lines program.fields) number o.packets ++ text)
-  ends-more number ended o made ending text h =
-      let first = block (all_lines program.fields) number o.packets in
-      (h.0, (h.1.0, h.1.1, ap (λ t. first ++ t) h.1.2 ∙ sym (append_assoc first (blocks (all_lines program.fields) (number + 1) made.packets) (end_text program.vars h.1.0))))
-  ends-more number (refused fault) o made ending text h = (h.0, ap (λ t. block (all_lines program.fields) number o.packets ++ t) h.1)
+module _ (s : Switch) (all : Spelled) where
+  abbrev program : Program
+  program = s.program.now
 
-  from-more : (number : ℕ) (m : Arrays) (packet : List ℕ) (packets : List (List ℕ)) (stop : Stop) (o : Meaning) (ending : RunEnding) (text : List ℕ) → eval program.body m packet ≡ Some o
-      → From (number + 1) o.arrays packets stop ending text → From number m (packet ∷ packets) stop ending (block (all_lines program.fields) number o.packets ++ text)
-  from-more number m packet packets stop o ending text e (inl h) =
-      inl (behind o h.0, switch-more program.body m packet packets o h.0 e h.1, ends-more number stop o h.0 ending text h.2)
-  from-more number m packet packets stop o ending text e (inr h) =
-      let more : number + 1 + h.before ≡ number + suc h.before = omega arith in
-      inr (record {
-        before = suc h.before;
-        made = behind o h.made;
-        some = switch-more program.body m packet (take h.before packets) o h.made e h.some;
-        none = switch-later program.body m packet (take (suc h.before) packets) o e h.none;
-        ends = h.ends ∙ ap (λ n. Err (Undefined n)) more;
-        is = ap (λ t. block (all_lines program.fields) number o.packets ++ t) h.is;
-      })
+  first-blocks : (text : List ℕ) → FirstBlocks (Stands s) all text → (count : ℕ) × (made : Switched) × (one_big_switch program.body zero_arrays (take count all.packets) ≡ Some made) × (text ≡ made_text program.fields made)
+  first-blocks text b = (b.count, b.stood.made, stands-made s (take b.count all.packets) text b.machine b.stood, b.stood.blocks)
 
-  from-first : (packets : List (List ℕ)) (number : ℕ) (m : Arrays) (stop : Stop) (tail : List ℕ) → IsTailFrom program m packets stop tail
-      → From number m packets stop (ending_from program number m packets stop) (blocks_from program number m packets ++ tail)
-  from-first [] number m ended tail h = inl (record { packets = []; arrays = m }, refl, (refl, (h.0, h.1, h.2)))
-  from-first [] number m (refused fault) tail h = inl (record { packets = []; arrays = m }, refl, (refl, h))
-  from-first (packet ∷ packets) number m stop tail h = from (eval program.body m packet) refl (λ o. from-first packets (number + 1) o.arrays stop tail) h
-    where
-      from : (o : Option Meaning) → eval program.body m packet ≡ o
-          → ((x : Meaning) → IsTailFrom program x.arrays packets stop tail → From (number + 1) x.arrays packets stop (ending_from program (number + 1) x.arrays packets stop) (blocks_from program (number + 1) x.arrays packets ++ tail))
-          → MatchOption o (tail ≡ []) (λ x. IsTailFrom program x.arrays packets stop tail)
-          → From number m (packet ∷ packets) stop (option_map_or (λ (x : Meaning). ending_from program (number + 1) x.arrays packets stop) o (Err (Undefined number)))
-          (option_map_or (λ (x : Meaning). block (all_lines program.fields) number x.packets ++ blocks_from program (number + 1) x.arrays packets) o [] ++ tail)
-      from None e later t =
-          let here : number ≡ number + 0 = omega arith in
-          inr (record { before = 0; made = record { packets = []; arrays = m }; some = refl; none = switch-none program.body m packet [] e; ends = ap (λ n. Err (Undefined n)) here; is = t })
-      from (Some x) e later t =
-          let first = block (all_lines program.fields) number x.packets in
-          let rest = blocks_from program (number + 1) x.arrays packets in
-          let ending = ending_from program (number + 1) x.arrays packets stop in
-          subst (λ l. From number m (packet ∷ packets) stop ending l) (sym (append_assoc first rest tail))
-          (from-more number m packet packets stop x ending (rest ++ tail) e (later x t))
+  abbrev Report : RunEnding → List ℕ → Type 0
+  Report ending text =
+      ((made : Switched) × (one_big_switch program.body zero_arrays all.packets ≡ Some made) × EndsAsRead program.fields program.vars all.stop made ending text)
+      ⊎ ((before : ℕ) × (made : Switched) × IsUndefinedAfter program all.packets before made × (ending ≡ Err (Undefined (before + 1))) × (text ≡ made_text program.fields made))
 
-  ends_as_read : (stop : Stop) (made : Switched) (ending : RunEnding) (text : List ℕ) → Ends 1 stop made ending text → EndsAsRead program.fields program.vars stop made ending text
-  ends_as_read ended made ending text h = h
-  ends_as_read (refused fault) made ending text h = h
+  ends-report : (ending : RunEnding) (text : List ℕ) → Ends (Stands s) (Reports s) (Refuses s) all ending text → Report ending text
+  ends-report (Ok u) text h = inl (h.1.0, h.1.1, subst (λ stop. EndsAsRead program.fields program.vars stop h.1.0 (Ok u) text) (sym h.0) (refl, h.1.2))
+  ends-report (Err fault) text (inl h) =
+      inl (h.stood.made, stands-made s all.packets text h.machine h.stood, subst (λ stop. EndsAsRead program.fields program.vars stop h.stood.made (Err fault) text) (sym h.stop) (refl, h.stood.blocks))
+  ends-report (Err fault) text (inr h) =
+      let n = length h.before in
+      let front : take n all.packets ≡ h.before = ap (take n) h.are ∙ take-append_seam h.before (h.packet ∷ h.behind) in
+      let longer : take (n + 1) all.packets ≡ h.before ++ h.packet ∷ [] =
+      ap (take (n + 1)) h.are ∙ take-add n 1 (h.before ++ h.packet ∷ h.behind) ∙ (λ i. take-append_seam h.before (h.packet ∷ h.behind) i ++ take 1 (drop-append_seam h.before (h.packet ∷ h.behind) i)) in
+      inr (
+        n,
+        h.stood.made,
+        record {
+          some = ap (one_big_switch program.body zero_arrays) front ∙ stands-made s h.before text h.machine h.stood;
+          none = ap (one_big_switch program.body zero_arrays) longer ∙ h.refused_so.1;
+        },
+        ap (λ f. Err f) h.refused_so.0,
+        h.stood.blocks,
+      )
 
-  pub is-report : (file tail : List ℕ) → IsTailOf program file tail → IsReport program file (ending_of program file) (blocks_of program file ++ tail)
-  is-report file tail h = of (from-first (spelled program.fields file).packets 1 zero_arrays (spelled program.fields file).stop tail h)
-    where
-      of : From 1 zero_arrays (spelled program.fields file).packets (spelled program.fields file).stop (ending_of program file) (blocks_of program file ++ tail)
-          → IsReport program file (ending_of program file) (blocks_of program file ++ tail)
-      of (inl w) = inl (w.0, w.1, ends_as_read (spelled program.fields file).stop w.0 (ending_of program file) (blocks_of program file ++ tail) w.2)
-      of (inr c) =
-          let next : suc c.before ≡ c.before + 1 = omega arith in
-          let same : 1 + c.before ≡ c.before + 1 = omega arith in
-          inr (c.before, c.made, record { some = c.some; none = ap (λ n. one_big_switch program.body zero_arrays (take n (spelled program.fields file).packets)) (sym next) ∙ c.none }, c.ends ∙ ap (λ n. Err (Undefined n)) same, c.is)
+-- the run of one big switch writes its report
+pub writes-report : (s : Switch) (file : List ℕ) (ending : RunEnding) (old new : Option (List ℕ)) → WritesRun (Stands s) (Reports s) (Refuses s) (spelled_where s.program.now.fields (λ before packet. true) file) ending old new
+    → WritesReport s.program.now file ending old new
+writes-report s file ending old new writes =
+    by ending (written-as (FirstBlocks (Stands s) all) (AreBlocks s.program.now file) (Ends (Stands s) (Reports s) (Refuses s) all) (IsReport s.program.now file) (first-blocks s all) (ends-report s all) ending old new
+    (subst (λ a. WritesRun (Stands s) (Reports s) (Refuses s) a ending old new) (spelled_where-true s.program.now.fields file) writes))
+  where
+    all : Spelled
+    all = spelled s.program.now.fields file
+
+    by : (e : RunEnding) → WritesOut (AreBlocks s.program.now file) (IsReport s.program.now file) e old new → WritesReport s.program.now file e old new
+    by (Ok u) w = w
+    by (Err Read) w = w
+    by (Err Write) w = w
+    by (Err NoMemory) w = w
+    by (Err (Limit which count)) w = w
+    by (Err (Packets line)) w = w
+    by (Err (Undefined packet)) w = w

@@ -1,5 +1,4 @@
 pub mod Ahead
-pub mod ByPackets
 pub mod Cuts
 pub mod Drafts
 pub mod Guesses
@@ -11,4 +10,4 @@ pub mod Reports
 pub mod Runner
 pub mod Shown
 pub mod Spelled
-pub mod Steps
+pub mod Switching

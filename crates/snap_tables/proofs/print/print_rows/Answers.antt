@@ -18,11 +18,11 @@ returns-clause-ok g c =
     let t = c.args.frame.now in
     let rows = flat_map (g.T.Entry.entry_line t.version c.args.parts.now) c.args.rows.now in
     let first = c.in_ok-put_first.ensures ∙ ap (λ l. l ++ first_line t.version) c.new-waiting.ensures.items in
-    ends-ok _ _ c.put_first.new.out.items (first_line t.version) (names_text t ++ (ways_text t ++ rows)) last_line first _ c.put_sections.new.waiting.items c.in_ok-put_sections.ensures.puts c.put_end.result c.put_end.ensures.ok
+    ends-ok _ _ c.put_first.new.out.items (first_line t.version) (names_text t ++ (ways_text t ++ rows)) last_line first _ c.put_sections.new.out.text.items c.in_ok-put_sections.ensures.puts c.put_end.result c.put_end.ensures.ok
 
 pub returns-clause-part : goal.returns-clause-part
 returns-clause-part g c =
     let t = c.args.frame.now in
     let rows = flat_map (g.T.Entry.entry_line t.version c.args.parts.now) c.args.rows.now in
     let first = c.in_ok-put_first.ensures ∙ ap (λ l. l ++ first_line t.version) c.new-waiting.ensures.items in
-    ends-part _ _ c.put_first.new.out.items (first_line t.version) (names_text t ++ (ways_text t ++ rows)) last_line first _ c.put_sections.new.waiting.items c.in_ok-put_sections.ensures.puts c.put_end.result c.put_end.ensures.part
+    ends-part _ _ c.put_first.new.out.items (first_line t.version) (names_text t ++ (ways_text t ++ rows)) last_line first _ c.put_sections.new.out.text.items c.in_ok-put_sections.ensures.puts c.put_end.result c.put_end.ensures.part

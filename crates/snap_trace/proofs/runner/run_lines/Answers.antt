@@ -1,4 +1,4 @@
-use Rattle.std.proofs.Common.{◌≡◌, [], length, None, Ok, Err, rules, refl, sym, subst, ◌∙◌, arith}
+use Rattle.std.proofs.Common.{◌≡◌, [], None, Ok, rules, refl, subst, ◌∙◌, arith}
 use Rattle.snap_io.specs.Files.{file_of}
 use Rattle.snap_io.specs.LineReaders.{lines_name}
 use Rattle.snap_trace.specs.Reading.{left_for, spelled_where}

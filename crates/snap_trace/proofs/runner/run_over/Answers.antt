@@ -1,7 +1,6 @@
 use Rattle.std.proofs.Common.{◌≡◌, ℕ, List, true, false, subst, sym, ◌∙◌}
 use Rattle.std.proofs.lemmas.Result.{err_from_is_err_and}
 use Rattle.snap_io.specs.Files.{file_of}
-use Rattle.snap_io.specs.LineReaders.{lines_name}
 use Rattle.snap_trace.specs.Reading.{spelled_where}
 use Rattle.snap_trace.specs.Runner.{Closes, Ends, FirstBlocks, is_told}
 use Rattle.snap_trace.specs.Spelled.{Spelled}

@@ -1,16 +1,17 @@
-use Rattle.std.proofs.Common.{Err, subst, sym}
-use Rattle.std.proofs.lemmas.Result.{err_from_is_err_and}
+use Rattle.std.proofs.Common.{refl, subst}
 use Rattle.snap_io.specs.Files.{file_of}
 use Rattle.snap_trace.specs.OneSwitch.{WritesReport}
-use Rattle.snap_trace.proofs.StepLemmas.{whatever_told, writes-nothing}
+use Rattle.snap_trace.proofs.StepLemmas.{where_told}
+use Rattle.snap_trace.proofs.SwitchLemmas.{stands-first, writes-report}
 use Rattle.snap_trace.proofs.switch.one_switch.Goals as goal
 
-pub returns-in_err-lines-clause-report : goal.returns-in_err-lines-clause-report
-returns-in_err-lines-clause-report g c =
-    let out = err_from_is_err_and c.from_residual.result c.from_residual.ensures.1 in
-    whatever_told (g.S.Shelf.files c.args.shelf.now) _ (λ files.
+pub returns-clause-report : goal.returns-clause-report
+returns-clause-report g c =
+    let switch = c.new-switch.result in
+    let before = g.K.Sink.taken c.args.sink.now in
+    let now = g.K.Sink.taken c.run_over.new.sink in
+    where_told (g.S.Shelf.files c.args.shelf.now) _ _ (λ files writes.
     let file = file_of files c.args.packets.now in
-    let program = c.args.program.now in
-    let start = g.K.Sink.taken c.args.sink.now in
-    subst (λ r. WritesReport program file r start start) (sym out.1)
-    (subst (λ e. WritesReport program file (Err e) start start) (sym out.2) (writes-nothing program file start)))
+    subst (λ program. WritesReport program file c.run_over.result before now) c.new-switch.ensures.program
+    (writes-report switch file c.run_over.result before now (writes switch (stands-first switch c.new-switch.ensures.arrays c.new-switch.ensures.number) refl)))
+    c.run_over.ensures.report
