@@ -12,12 +12,12 @@ use Rattle.snap_rows.specs.declared.tables.Tables.{Tables}
 use Rattle.snap_rows.specs.Entries.{port_at, port_in}
 use Rattle.snap_trace.specs.declared.fault.TraceFault.TheVariants.{Packets}
 use Rattle.snap_trace.specs.PacketLines.{Said, skip, inject, bad, said_by}
-use Rattle.snap_trace.specs.Spelled.{Spelled, ended, refused, spelled, spelled_from, with_next, with_said}
+use Rattle.snap_trace.specs.Spelled.{Spelled, counted, ended, refused, spelled, spelled_behind, spelled_from, text_of, with_next, with_said}
 use Rattle.snap_runs.specs.Laws.{SpelledPacketsFit}
 use Rattle.snap_runs.specs.Plain.{at_ports}
 use Rattle.snap_move.specs.declared.later.Later.{Later}
 use Rattle.snap_move.specs.Changing.{in_force}
-use Rattle.snap_move.specs.Files.{counted, spelled_behind, spelled_under, text_of}
+use Rattle.snap_move.specs.Files.{spelled_under}
 
 -- ---- tables with a port for each packet
 -- the packet comes in at a port of these

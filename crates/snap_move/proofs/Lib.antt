@@ -1,5 +1,4 @@
 pub mod Through
-pub mod Reading
 pub mod Settling
 pub mod Coming
 pub mod Shapes

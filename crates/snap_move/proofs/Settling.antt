@@ -59,20 +59,6 @@ settled-not_due m keeps none =
     ahead-not_due (left_in m) m.tracer.net.injected keeps.from
     (λ before l e. none before l (sym (reverse-reverse m.later.items) ∙ ap reverse (e ∙ sym (next-first before l)) ∙ reverse-reverse (before ++ l ∷ [])))
 
--- the same, where no more than the waiting text has changed
-pub stands-as : (first : Tables) (later : List Later) (packets : List (List ℕ)) (turns : List Turn) (m m' : Mover) → m'.tracer.net ≡ m.tracer.net → m'.later.items ≡ m.later.items → Stands first later packets turns m → Stands first later packets turns m'
-stands-as first later packets turns m m' net same s = record {
-  state = s.state;
-  run = subst (λ (n : Held). RunsThrough n.tables (left_in m') s.state first later (start first zero_arrays) packets turns) (sym net)
-      (subst (λ (ls : List Later). RunsThrough m.tracer.net.tables (reverse ls) s.state first later (start first zero_arrays) packets turns) (sym same) s.run);
-  shows = subst (λ n. Shows n s.state) (sym net) s.shows;
-  rests = s.rests;
-  injected = s.injected;
-  as_many = s.as_many;
-  shape = subst (λ (n : Held). HaveOneShape n.tables first) (sym net) s.shape;
-  force = λ i within. s.force i within ∙ ap (λ (ls : List Later). in_force m.tracer.net.tables (reverse ls) i) (sym same) ∙ ap (λ (n : Held). in_force n.tables (left_in m') i) (sym net);
-}
-
 -- the next change has the tables' shape
 pub next-shape : (m : Mover) (before : List Later) (l : Later) → m.later.items ≡ before ++ l ∷ [] → Keeps m → HaveOneShape l.tables m.tracer.net.tables
 next-shape m before l is keeps =
@@ -131,10 +117,10 @@ module _ (old new : Mover) (l : Later) (is : old.later.items ≡ new.later.items
 
 -- ---- a packet
 module _ (old new : Mover) (later_same : new.later.items ≡ old.later.items) (tables : new.tracer.net.tables ≡ old.tracer.net.tables) (settled : IsSettled old) where
-  pub stands-taken : (hops : Bool) (k : List ℕ) (before : List ℕ) (first : Tables) (later : List Later) (packets : List (List ℕ)) (turns : List Turn) (stands : Stands first later packets turns old)
-      → (taken : HasTaken Plain old.tracer.net.tables hops (slice_index k 0) k stands.state before new.tracer)
+  pub stands-taken : (hops : Bool) (k before after : List ℕ) (first : Tables) (later : List Later) (packets : List (List ℕ)) (turns : List Turn) (stands : Stands first later packets turns old)
+      → (taken : HasTaken Plain old.tracer.net.tables hops (slice_index k 0) k stands.state new.tracer.net before after)
       → Stands first later (packets ++ k ∷ []) (turns ++ record { tables = old.tracer.net.tables; happenings = taken.happenings } ∷ []) new
-  stands-taken hops k before first later packets turns stands taken =
+  stands-taken hops k before after first later packets turns stands taken =
       let t = old.tracer.net.tables in
       let ls = left_in old in
       let turn : Turn = record { tables = t; happenings = taken.happenings } in

@@ -1,11 +1,10 @@
 -- The report of a network whose tables change, over a packets file.
-use Rattle.std.specs.Prelude.{◌≡◌, ℕ, ◌+◌, zero, suc, Bool, List, [], take, Ok, Err}
+use Rattle.std.specs.Prelude.{◌≡◌, ℕ, Bool, List, [], take, Ok, Err}
 use Rattle.std.specs.declared.option.Option.{Option}
-use Rattle.snap_io.specs.Lines.{Next, next_line, no_line, long_line, many_bytes, next_in}
 use Rattle.snap_rows.specs.declared.tables.Tables.{Tables}
 use Rattle.snap_trace.specs.OneSwitch.{RunEnding}
-use Rattle.snap_trace.specs.PacketLines.{Said, skip, inject, bad, said_by}
-use Rattle.snap_trace.specs.Spelled.{Spelled, Stop, ended, refused, after_last, with_next}
+use Rattle.snap_trace.specs.PacketLines.{Said, said_by}
+use Rattle.snap_trace.specs.Spelled.{Spelled, Stop, ended, refused, spelled_behind}
 use Rattle.snap_runs.specs.Plain.{Writes, at_ports}
 use Rattle.snap_move.specs.declared.later.Later.{Later}
 use Rattle.snap_move.specs.Changing.{AreChangedBlocks, IsChangedReport, in_force}
@@ -13,26 +12,6 @@ use Rattle.snap_move.specs.Changing.{AreChangedBlocks, IsChangedReport, in_force
 -- what a line says behind so many packets, at the ports of the tables that are in force then
 abbrev pub said_under : Tables → List Later → ℕ → List ℕ → Said
 said_under first later n line = at_ports (in_force first later n) (said_by first.fields line)
-
--- the number of packets behind a line
-abbrev pub counted : Said → ℕ → ℕ
-counted skip n = n
-counted (inject packet) n = n + 1
-counted bad n = n
-
-abbrev pub text_of : Next → List ℕ
-text_of (next_line text behind) = text
-text_of no_line = []
-text_of long_line = []
-text_of many_bytes = []
-
--- From this place on the file's lines are read, where `said` tells what a line says behind so many packets. The first line
--- has this number and comes behind `before` packets, and `left` lines may come.
-unfoldable pub spelled_behind : (said : ℕ → List ℕ → Said) → (file : List ℕ) → (left line at before : ℕ) → Spelled
-spelled_behind said file zero line at before = after_last (next_in 67108864 65536 file at)
-spelled_behind said file (suc left) line at before =
-    with_next (said before) line (next_in 67108864 65536 file at)
-    (λ behind. spelled_behind said file left (line + 1) behind (counted (said before (text_of (next_in 67108864 65536 file at))) before))
 
 -- what a file of packets spells for tables that change
 abbrev pub spelled_under : Tables → List Later → (file : List ℕ) → Spelled

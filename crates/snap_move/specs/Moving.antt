@@ -1,22 +1,11 @@
 -- How far a changes file is read, and how far a run with changes has come.
-use Rattle.std.specs.Prelude.{◌≡◌, ℕ, ◌+◌, ◌-◌, ◌≤◌, ◌≢◌, Bool, List, [], ◌∷◌, ◌++◌, length, reverse, Result, Ok, Err, Some, None}
-use Rattle.std.specs.declared.option.Option.{Option}
+use Rattle.std.specs.Prelude.{◌≡◌, ℕ, ◌+◌, ◌≤◌, ◌≢◌, Bool, List, [], ◌∷◌, ◌++◌, length, reverse, Result, Ok, Err}
 use Rattle.snap_core.specs.Arrays.{zero_arrays}
 use Rattle.snap_core.specs.declared.program.Which.TheVariants.{Changes}
 use Rattle.snap_rows.specs.declared.tables.Tables.{Tables}
 use Rattle.snap_rows.specs.Network.{Net, start}
 use Rattle.snap_net.specs.Shown.{Shows}
-use Rattle.snap_trace.specs.declared.fault.TraceFault.{TraceFault}
-use Rattle.snap_trace.specs.declared.line.Line.{Line as Given}
-use Rattle.snap_trace.specs.OneSwitch.{RunEnding}
-use Rattle.snap_trace.specs.Spelled.{Spelled, stops, ended, with_said}
-use Rattle.snap_trace.specs.Steps.{Waits}
-use Rattle.snap_io.specs.LineReaders.{lines_given}
 use Rattle.snap_runs.specs.declared.frames.Frames.TheVariants.{Plain}
-use Rattle.snap_runs.specs.declared.packets.PacketLines.{PacketLines}
-use Rattle.snap_runs.specs.Plain.{at_ports}
-use Rattle.snap_runs.specs.Reading.{said_of}
-use Rattle.snap_runs.specs.Tracing.{EndsRun}
 use Rattle.snap_move.specs.declared.change.Change.{Change}
 use Rattle.snap_move.specs.declared.change.ChangesFault.{ChangesFault}
 use Rattle.snap_move.specs.declared.change.ChangesFault.TheVariants.{Line, Limit, NoMemory}
@@ -24,7 +13,6 @@ use Rattle.snap_move.specs.declared.change.Read.{Read}
 use Rattle.snap_move.specs.declared.later.Later.{Later}
 use Rattle.snap_move.specs.declared.mover.Mover.{Mover}
 use Rattle.snap_move.specs.Changing.{AreBlocksFrom, HaveShapeOf, IsAhead, IsRising, RunsThrough, Turn, in_force}
-use Rattle.snap_move.specs.Files.{AreChangedTraceBlocks, IsChangedTrace, counted, said_under, spelled_behind, spelled_under}
 use Rattle.snap_move.specs.Lines.{behind, changes_from}
 use Rattle.snap_move.specs.Shapes.{HaveOneShape}
 
@@ -87,43 +75,10 @@ IsSettled m = IsAhead (left_in m) m.tracer.net.injected
 abbrev pub HasSettled : (old new : Mover) → Type 0
 HasSettled old new = (first : Tables) (later : List Later) (packets : List (List ℕ)) (turns : List Turn) → Stands first later packets turns old → Stands first later packets turns new
 
--- what is left of a file behind so many packets
-abbrev pub left_under : Tables → List Later → (file : List ℕ) → (before read at : ℕ) → Spelled
-left_under first later file before read at = spelled_behind (said_under first later) file (1000000 - read) (read + 1) at before
-
--- the same for a reader
-abbrev pub left_for : Tables → List Later → (file : List ℕ) → (before : ℕ) → PacketLines → Spelled
-left_for first later file before reader = left_under first later file before reader.read (lines_given reader.lines)
-
--- So far the run over a file has come, and this is left. Of the blocks of the packets the last part waits to be written.
-pub record Comes (first : Tables) (later : List Later) (hops : Bool) (file : List ℕ) (left : Spelled) (m : Mover) (old now : Option (List ℕ)) : Type 0 where
-  pub hops_same : m.tracer.hops ≡ hops
+-- In a run that began with the first of these networks these packets were taken, of which these are the blocks.
+pub record StandsBehind (first : Mover) (packets : List (List ℕ)) (text : List ℕ) (m : Mover) : Type 0 where
+  pub hops_same : m.tracer.hops ≡ first.tracer.hops
   pub frames_same : m.tracer.frames ≡ Plain
-  pub packets : List (List ℕ)
   pub turns : List Turn
-  pub stands : Stands first later packets turns m
-  pub spelled : spelled_under first later file ≡ record { packets = packets ++ left.packets; stop = left.stop }
-  pub text : List ℕ
-  pub blocks : AreBlocksFrom hops 0 turns text
-  pub waits : Waits old now text m.tracer.text.items
-
--- the run has ended
-abbrev pub Closes : Tables → List Later → (hops : Bool) → (file : List ℕ) → RunEnding → (old now : Option (List ℕ)) → (waiting : List ℕ) → Type 0
-Closes first later hops file ending old now waiting = EndsRun (AreChangedTraceBlocks first later hops file) (IsChangedTrace first later hops file) ending old now waiting
-
--- a line of this number that says this, at the ports in force behind so many packets, before what is left behind it
-abbrev pub with_line : Tables → List Later → (number before : ℕ) → Given → (ℕ → Spelled) → Spelled
-with_line first later number before line rest =
-    let said = at_ports (in_force first later before) (said_of line) in with_said number said (rest (counted said before))
-
--- the next line stands before the others, or none is left, or the run has ended
-abbrev pub Follows : Tables → List Later → (hops : Bool) → (file : List ℕ) → PacketLines → Mover → (old now : Option (List ℕ)) → Result (Option Given) TraceFault → Type 0
-Follows first later hops file reader m old now (Ok (Some line)) =
-    Comes first later hops file (with_line first later reader.read m.tracer.net.injected line (λ before. left_for first later file before reader)) m old now
-Follows first later hops file reader m old now (Ok None) = Comes first later hops file (stops ended) m old now
-Follows first later hops file reader m old now (Err fault) = Closes first later hops file (Err fault) old now m.tracer.text.items
-
--- the line was taken, or the run has ended
-abbrev pub ComesOn : Tables → List Later → (hops : Bool) → (file : List ℕ) → (ℕ → Spelled) → Mover → (old now : Option (List ℕ)) → RunEnding → Type 0
-ComesOn first later hops file rest m old now (Ok u) = Comes first later hops file (rest m.tracer.net.injected) m old now
-ComesOn first later hops file rest m old now (Err fault) = Closes first later hops file (Err fault) old now m.tracer.text.items
+  pub stood : Stands first.tracer.net.tables (left_in first) packets turns m
+  pub blocks : AreBlocksFrom first.tracer.hops 0 turns text

@@ -1,29 +1,21 @@
-//! A network over a file of packets, whose tables change between packets.
+//! A network that takes packets one after another, and whose tables change between packets.
 
-ghost use Rattle.std.specs.Prelude.{◌≡◌, ◌≢◌, ◌≤◌, ◌<◌, ◌+◌, ◌^◌, ◌⊎◌, ◌++◌, ◌∷◌, [], ℕ, List, Bool, IfOk, IfSome, IsErrOf, MatchOption, OnOk};
-ghost use Rattle.std.specs.declared.option.Option.{Option as Maybe};
+ghost use Rattle.std.specs.Prelude.{◌≡◌, ◌≢◌, ◌++◌, ◌∷◌, [], ℕ, IfOk, MatchOption, OnOk};
 ghost use Rattle.snap_core.specs.Arrays.{zero_arrays};
-ghost use Rattle.snap_io.specs.Causes.{NoneFell, Rose};
-ghost use Rattle.snap_io.specs.Files.{file_of};
-ghost use Rattle.snap_io.specs.LineReaders.{AgreesWith, lines_given, lines_name};
-ghost use Rattle.snap_rows.specs.declared.tables.Tables.{Tables};
-ghost use Rattle.snap_rows.specs.Form.{comps};
 ghost use Rattle.snap_rows.specs.Network.{start};
 ghost use Rattle.snap_net.specs.Shown.{Shows};
-ghost use Rattle.snap_trace.specs.Spelled.{Spelled};
-ghost use Rattle.snap_runs.specs.Reading.{FitsLine, GoesOn, HasLine};
-ghost use Rattle.snap_move.specs.Files.{WritesChanged};
-ghost use Rattle.snap_move.specs.Moving.{Closes, Comes, ComesOn, Follows, HasSettled, IsNotDue, IsSettled, Keeps, left_for, left_in, with_line};
+ghost use Rattle.snap_move.specs.Moving.{HasSettled, IsNotDue, IsSettled, Keeps, left_in};
 
 use crate::later::Later;
 use snap_core::NoMemory;
-use snap_io::{Shelf, Sink};
+use snap_core::packet::Packet;
+use snap_core::program::Fields;
+use snap_io::{Output, Sink};
 use snap_rows::valid::Valid;
 use snap_runs::frames::Frames;
-use snap_runs::packets::PacketLines;
 use snap_runs::tracer::Tracer;
-use snap_trace::switch::is_told;
-use snap_trace::{Line, TraceFault};
+use snap_trace::TraceFault;
+use snap_trace::runner::Machine;
 use std::alloc::Global;
 
 /// A network between two packets, and the changes of its tables that are still to come, the next one last.
@@ -48,7 +40,6 @@ impl Mover {
         ensures frames { IfOk result (λ mover. mover.tracer.frames ≡ Frames.Plain) }
         ensures injected { IfOk result (λ mover. mover.tracer.net.injected ≡ 0) }
         ensures start { IfOk result (λ mover. Shows mover.tracer.net (start first zero_arrays)) }
-        ensures text { IfOk result (λ mover. mover.tracer.text.items ≡ []) }
     {
         let tracer = Tracer::new(alloc, first, hops, Frames::Plain)?;
         later.reverse();
@@ -59,98 +50,14 @@ impl Mover {
         })
     }
 
-    /// Takes the lines of a packets file, one after another, and puts the end of the report where all were taken.
-    pub(crate) fn run<S: Shelf, K: Sink>(
-        &mut self,
-        shelf: &mut S,
-        reader: &mut PacketLines,
-        sink: &mut K,
-    ) -> Result<(), TraceFault>
-        requires start { Shows self.old.tracer.net (start self.old.tracer.net.tables zero_arrays) }
-        requires keeps { Keeps self.old }
-        requires injected { self.old.tracer.net.injected ≡ 0 }
-        requires text { self.old.tracer.text.items ≡ [] }
-        requires frames { self.old.tracer.frames ≡ Frames.Plain }
-        requires given { lines_given reader.old.lines ≡ 0 }
-        requires read { reader.old.read ≡ 0 }
-        requires agrees { AgreesWith (S.files shelf.old) reader.old.lines }
-        ensures closes { IfSome (S.files shelf.old) (λ files.
-            Closes self.old.tracer.net.tables (left_in self.old) self.old.tracer.hops (file_of files (lines_name reader.old.lines)) result (K.taken sink.old) (K.taken sink.new) self.new.tracer.text.items) }
-        ensures read { IsErrOf result TraceFault.Read → Rose (S.faults shelf.old (lines_name reader.old.lines)) (S.faults shelf.new (lines_name reader.old.lines)) }
-        ensures defined { (packet : ℕ) → IsErrOf result (TraceFault.Undefined packet) → ⊥ }
-        ensures write { IsErrOf result TraceFault.Write → Rose (K.faults sink.old) (K.faults sink.new) }
-        ensures files { S.files shelf.new ≡ S.files shelf.old }
-        ensures later { NoneFell (S.faults shelf.old) (S.faults shelf.new) }
-        ensures sink_later { K.faults sink.old ≤ K.faults sink.new }
-    {
-        self.settle()?;
-        while let Some(line) = self.next_line(shelf, reader, sink)? {
-            self.take_line(line, reader.read())?;
-        }
-        self.tracer.put_end()?;
-        Ok(())
-    }
-
-    // The next line. What waits is written first, where the line has to be read.
-    fn next_line<S: Shelf, K: Sink>(
-        &mut self,
-        shelf: &mut S,
-        reader: &mut PacketLines,
-        sink: &mut K,
-    ) -> Result<Option<Line>, TraceFault>
-        requires agrees { AgreesWith (S.files shelf.old) reader.old.lines }
-        ensures follows { IfSome (S.files shelf.old) (λ files. (first : Tables) (later : List Later) (hops : Bool) (start : Maybe (List ℕ)) →
-            Comes first later hops (file_of files (lines_name reader.old.lines)) (left_for first later (file_of files (lines_name reader.old.lines)) self.old.tracer.net.injected reader.old) self.old start (K.taken sink.old) →
-            Follows first later hops (file_of files (lines_name reader.old.lines)) reader.new self.new start (K.taken sink.new) result) }
-        ensures fits { IfOk result (HasLine (comps self.old.tracer.net.tables)) }
-        ensures goes_on { IfOk result (GoesOn reader.old.read reader.new.read) }
-        ensures net { self.new.tracer.net ≡ self.old.tracer.net }
-        ensures changes { self.new.later.items ≡ self.old.later.items }
-        ensures name { lines_name reader.new.lines ≡ lines_name reader.old.lines }
-        ensures agrees { AgreesWith (S.files shelf.new) reader.new.lines }
-        ensures read { IsErrOf result TraceFault.Read → Rose (S.faults shelf.old (lines_name reader.old.lines)) (S.faults shelf.new (lines_name reader.old.lines)) }
-        ensures defined { (packet : ℕ) → IsErrOf result (TraceFault.Undefined packet) → ⊥ }
-        ensures write { IsErrOf result TraceFault.Write → Rose (K.faults sink.old) (K.faults sink.new) }
-        ensures files { S.files shelf.new ≡ S.files shelf.old }
-        ensures later { NoneFell (S.faults shelf.old) (S.faults shelf.new) }
-        ensures sink_later { K.faults sink.old ≤ K.faults sink.new }
-    {
-        self.tracer.write_before_read(reader, sink)?;
-        reader.next(self.alloc, shelf, self.tracer.fields())
-    }
-
-    // Takes a line of this number, and makes the change that is due behind it.
-    fn take_line(&mut self, line: Line, number: u64) -> Result<(), TraceFault>
-        requires fits { FitsLine (comps self.old.tracer.net.tables) line }
-        requires room { self.old.tracer.net.injected < 2 ^ 63 }
-        requires settled { IsSettled self.old }
-        requires keeps { Keeps self.old }
-        ensures comes { (first : Tables) (later : List Later) (hops : Bool) (file : List ℕ) (rest : ℕ → Spelled) (start now : Maybe (List ℕ)) →
-            Comes first later hops file (with_line first later number self.old.tracer.net.injected line rest) self.old start now → ComesOn first later hops file rest self.new start now result }
-        ensures settled { OnOk result (IsSettled self.new) }
-        ensures keeps { OnOk result (Keeps self.new) }
-        ensures injected { self.new.tracer.net.injected ≤ self.old.tracer.net.injected + 1 }
-        ensures fault { (IsErrOf result TraceFault.Read ⊎ IsErrOf result TraceFault.Write) → ⊥ }
-        ensures defined { (packet : ℕ) → IsErrOf result (TraceFault.Undefined packet) → ⊥ }
-    {
-        match line {
-            Line::Skip => Ok(()),
-            Line::Inject { port, packet } => {
-                self.tracer.take_packet(port, packet, number)?;
-                self.settle()?;
-                Ok(())
-            }
-        }
-    }
-
-    // Makes the change that is due, if one is.
-    fn settle(&mut self) -> Result<(), NoMemory>
+    /// Makes the change that is due, if one is. Refuses for memory alone.
+    pub(crate) fn settle(&mut self) -> Result<(), NoMemory>
         requires { Keeps self.old }
         ensures stands { OnOk result (HasSettled self.old self.new) }
         ensures settled { OnOk result (IsSettled self.new) }
         ensures keeps { OnOk result (Keeps self.new) }
         ensures injected { self.new.tracer.net.injected ≡ self.old.tracer.net.injected }
-        ensures text { self.new.tracer.text.items ≡ self.old.tracer.text.items }
+        ensures fields { OnOk result (self.new.tracer.net.tables.fields ≡ self.old.tracer.net.tables.fields) }
         ensures hops { self.new.tracer.hops ≡ self.old.tracer.hops }
         ensures frames { self.new.tracer.frames ≡ self.old.tracer.frames }
     {
@@ -159,27 +66,49 @@ impl Mover {
             None => Ok(()),
         }
     }
+}
 
-    /// Writes what waits, unless a device failed or memory was short.
-    pub(crate) fn close<K: Sink>(
+impl Machine for Mover {
+    ghost use Rattle.snap_runs.specs.Reading.{has_port};
+    ghost use Rattle.snap_move.specs.Changing.{IsChangedReport, in_force};
+    ghost use Rattle.snap_move.specs.Moving.{StandsBehind};
+
+    ghost fields = { λ mover. mover.tracer.net.tables.fields };
+
+    ghost count = { λ mover. mover.tracer.net.injected };
+
+    ghost accepts = { λ mover before packet. has_port (in_force mover.tracer.net.tables (left_in mover) before) packet };
+
+    ghost is_ready = { λ mover. Keeps mover × IsSettled mover };
+
+    ghost stands = { StandsBehind };
+
+    ghost reports = { λ mover packets text. IsChangedReport mover.tracer.net.tables (left_in mover) mover.tracer.hops packets text };
+
+    ghost refuses = { λ mover packets packet fault. ⊥ };
+
+    ghost is_partial = { ⊥ };
+
+    fn fields(&self) -> &Fields {
+        self.tracer.fields()
+    }
+
+    // The change that is due behind the packet is made too.
+    fn take(
         &mut self,
-        sink: &mut K,
-        ended: Result<(), TraceFault>,
-    ) -> Result<(), TraceFault>
-        ensures report { (first : Tables) (later : List Later) (hops : Bool) (file : List ℕ) (start : Maybe (List ℕ)) →
-            Closes first later hops file ended start (K.taken sink.old) self.old.tracer.text.items → WritesChanged first later hops file result start (K.taken sink.new) }
-        ensures read { IsErrOf result TraceFault.Read → IsErrOf ended TraceFault.Read }
-        ensures defined { (packet : ℕ) → IsErrOf result (TraceFault.Undefined packet) → IsErrOf ended (TraceFault.Undefined packet) }
-        ensures write { IsErrOf result TraceFault.Write → IsErrOf ended TraceFault.Write ⊎ Rose (K.faults sink.old) (K.faults sink.new) }
-        ensures later { K.faults sink.old ≤ K.faults sink.new }
-    {
-        if !is_told(&ended) {
-            return ended;
-        }
-        match self.tracer.flush(sink) {
-            Ok(()) => ended,
-            Err(_) => Err(TraceFault::Write),
-        }
+        text: &mut Vec<u8>,
+        port: u32,
+        packet: Packet,
+        line: u64,
+    ) -> Result<(), TraceFault> {
+        self.tracer.take_packet(text, port, packet, line)?;
+        self.settle()?;
+        Ok(())
+    }
+
+    fn put_end<K: Sink>(&mut self, out: &mut Output, _: &mut K) -> Result<(), TraceFault> {
+        self.tracer.put_places(&mut out.text)?;
+        Ok(())
     }
 }
 

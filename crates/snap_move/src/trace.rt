@@ -10,8 +10,8 @@ use crate::later::Later;
 use crate::mover::Mover;
 use snap_io::{Shelf, Sink};
 use snap_rows::valid::Valid;
-use snap_runs::packets::PacketLines;
 use snap_trace::TraceFault;
+use snap_trace::runner::run_over;
 use std::alloc::Global;
 
 /// Writes the report of the network with these tables over the packets file with this name, as `snap_runs::trace` does,
@@ -43,8 +43,7 @@ pub fn trace_changes<S: Shelf, K: Sink>(
     ensures later { NoneFell (S.faults shelf.old) (S.faults shelf.new) }
     ensures sink_later { K.faults sink.old ≤ K.faults sink.new }
 {
-    let mut reader = PacketLines::new(alloc, packets)?;
     let mut mover = Mover::new(alloc, first, later, hops)?;
-    let ended = mover.run(shelf, &mut reader, sink);
-    mover.close(sink, ended)
+    mover.settle()?;
+    run_over(alloc, &mut mover, shelf, packets, sink)
 }

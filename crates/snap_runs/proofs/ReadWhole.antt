@@ -13,11 +13,12 @@ use Rattle.snap_trace.specs.declared.line.Line.{Line}
 use Rattle.snap_trace.specs.declared.line.Line.TheVariants.{Skip, Inject}
 use Rattle.snap_trace.specs.PacketLines.{inject, bad}
 use Rattle.snap_trace.specs.Spelled.{Spelled, ended, refused, stops, with_said}
-use Rattle.snap_runs.specs.declared.packets.PacketLines.{PacketLines}
+use Rattle.snap_trace.specs.declared.packets.PacketLines.{PacketLines}
 use Rattle.snap_runs.specs.declared.ready.Ready.{Ready}
 use Rattle.snap_runs.specs.Plain.{at_ports, spelled_for}
 use Rattle.snap_runs.specs.Playing.{AreAll, AreBefore, HasRead, IsReady, TakesLine, packets_in}
-use Rattle.snap_runs.specs.Reading.{FitsLine, GivesLine, left_of, said_at, said_of}
+use Rattle.snap_trace.specs.Reading.{FitsLine, said_of}
+use Rattle.snap_runs.specs.Reading.{GivesLine, left_of, said_at}
 
 -- these packets were read, and this is left
 abbrev pub AreRead : Tables → (file : List ℕ) → List Ready → Spelled → Type 0

@@ -15,7 +15,6 @@ use Rattle.snap_net.specs.Shown.{Held, IsDone, Nothing, Shows, happened, moving}
 use Rattle.snap_trace.specs.Reports.{out_lines, lost_line}
 use Rattle.snap_runs.specs.declared.frames.Frames.{Frames}
 use Rattle.snap_runs.specs.declared.tally.Tally.{Tally}
-use Rattle.snap_runs.specs.declared.tracer.Tracer.{Tracer}
 use Rattle.snap_runs.specs.Crossings.{NotesCrossings}
 use Rattle.snap_runs.specs.Reports.{IsBlockBy, hops_text, packet_line}
 use Rattle.snap_runs.specs.Settling.{AreCopiesOf, Goes, GoOn, one_goes, more_go, HasGone, HasNoted, HasPassed, HasSettled, Settles, Tallies}
@@ -153,11 +152,10 @@ tally_block f t hops i hs y old new is put = (
 )
 
 -- an injection with nothing in flight, after which all has come to rest and the block was put
-pub has-taken : (f : Frames) (hops : Bool) (port number : ℕ) (k : List ℕ) (old mid new : Held) (y : Tally) (before after : List ℕ) (last : Tracer) → number ≡ old.injected → mid.tables ≡ old.tables
+pub has-taken : (f : Frames) (hops : Bool) (port number : ℕ) (k : List ℕ) (old mid new : Held) (y : Tally) (before after : List ℕ) → number ≡ old.injected → mid.tables ≡ old.tables
     → IsDone old (Inject port k) mid Nothing → HasSettled f hops mid new y → new.flying ≡ [] → IsBlockText old.tables.fields (number + 1) y before after
-    → last.net ≡ new → last.text.items ≡ after
-    → (s : Net) → Shows old s → s.flying ≡ [] → HasTaken f old.tables hops port k s before last
-has-taken f hops port number k old mid new y before after last n same done settled rest put net text s shows none =
+    → (s : Net) → Shows old s → s.flying ≡ [] → HasTaken f old.tables hops port k s new before after
+has-taken f hops port number k old mid new y before after n same done settled rest put s shows none =
     let a = done s shows in
     let alone = inject-alone old.tables s a.0 port k a.1 none a.2 in
     let b = subst (λ t. (s' : Net) × (hs : List Happening) × Settles t a.0 s' hs × Shows new s' × ((i : ℕ) → AreCopiesOf i a.0.flying → Tallies f t hops i s' hs y)) same (settled a.0 a.3) in
@@ -172,9 +170,9 @@ has-taken f hops port number k old mid new y before after last n same done settl
       run = subst (λ l. RunsCalmly old.tables s (Inject port k ∷ b.2.events) b.0 (l ++ b.1)) a.4 (injects none a.2 b.2.run);
       rests = rests-shown new b.0 b.3 rest;
       injected = b.2.injected ∙ alone.1;
-      shows = subst (λ v. Shows v b.0) (sym net) b.3;
+      shows = b.3;
       happen = told.happen;
       text = block.0;
       block = block.1;
-      put = text ∙ block.2;
+      put = block.2;
     }

@@ -1,78 +1,22 @@
--- What a reader of packets' lines answers, and what is left of its file.
-use Rattle.std.specs.Prelude.{◌≡◌, ◌⊎◌, ℕ, ◌+◌, ◌-◌, ◌<◌, ◌≤◌, ◌==◌, Bool, true, false, List, Result, Ok, Err, Some, None, length, slice_index, if◌then◌else◌}
+-- What is left of a packets file for its reader, at the ports of tables.
+use Rattle.std.specs.Prelude.{◌≡◌, ℕ, ◌+◌, ◌-◌, Bool, List, Result, Ok, Err, Some, None, slice_index, is_some}
 use Rattle.std.specs.declared.option.Option.{Option}
-use Rattle.snap_core.specs.declared.program.Field.{Field}
-use Rattle.snap_core.specs.declared.program.Which.TheVariants.{Bytes}
-use Rattle.snap_io.specs.declared.lines.LinesFault.{LinesFault}
-use Rattle.snap_io.specs.LineReaders.{lines_given, lines_line}
-use Rattle.snap_io.specs.Lines.{Next, next_line, no_line, long_line, many_bytes, next_in}
+use Rattle.snap_io.specs.LineReaders.{lines_given}
 use Rattle.snap_rows.specs.declared.tables.Tables.{Tables}
+use Rattle.snap_rows.specs.Entries.{port_at}
 use Rattle.snap_trace.specs.declared.fault.TraceFault.{TraceFault}
 use Rattle.snap_trace.specs.declared.fault.TraceFault.TheVariants.{Read, Write, Limit, Packets, Undefined, NoMemory}
 use Rattle.snap_trace.specs.declared.line.Line.{Line}
-use Rattle.snap_trace.specs.declared.line.Line.TheVariants.{Skip, Inject}
-use Rattle.snap_trace.specs.PacketLines.{Said, skip, inject, bad, said_by}
-use Rattle.snap_trace.specs.Steps.{refusal_of, refusal_past_last}
-use Rattle.snap_trace.specs.Spelled.{Spelled, stops, ended, refused, spelled_from, with_said, after_last}
-use Rattle.snap_runs.specs.declared.packets.PacketLines.{PacketLines}
+use Rattle.snap_trace.specs.declared.packets.PacketLines.{PacketLines}
+use Rattle.snap_trace.specs.PacketLines.{Said, said_by}
+use Rattle.snap_trace.specs.Reading.{said_of}
+use Rattle.snap_trace.specs.Spelled.{Spelled, stops, ended, refused, spelled_from, with_said}
 use Rattle.snap_runs.specs.Plain.{at_ports}
 
--- what a line that was given says
-abbrev pub said_of : Line → Said
-said_of Skip = skip
-said_of (Inject port packet) = inject packet
+-- a packet comes in at a port of tables
+abbrev pub has_port : Tables → List ℕ → Bool
+has_port t packet = is_some (port_at t (slice_index packet 0))
 
--- ---- what stands next in the file
--- the line isn't in form, or the file is too long for it
-abbrev pub IsUnfit : (line : ℕ) → Next → TraceFault → Type 0
-IsUnfit line (next_line text behind) fault = ⊥
-IsUnfit line no_line fault = ⊥
-IsUnfit line long_line fault = fault ≡ Packets line
-IsUnfit line many_bytes fault = fault ≡ Limit Bytes 67108865
-
--- no line may come behind the last, or the next one can't be given
-abbrev pub EndsAt : (read : ℕ) → Next → TraceFault → Type 0
-EndsAt read next fault = ((read ≡ 1000000) × (after_last next ≡ stops (refused fault))) ⊎ ((read < 1000000) × IsUnfit (read + 1) next fault)
-
--- why the line isn't given that stands next behind `read` lines
-abbrev pub RefusesNext : (read : ℕ) → Next → TraceFault → Type 0
-RefusesNext read next Read = Unit {0}
-RefusesNext read next (Limit which count) = EndsAt read next (Limit which count)
-RefusesNext read next (Packets line) = EndsAt read next (Packets line)
-RefusesNext read next Write = ⊥
-RefusesNext read next (Undefined packet) = ⊥
-RefusesNext read next NoMemory = ⊥
-
--- the line that stood next was read, or the file's end, or reading has stopped
-abbrev pub ReadsNext : (read : ℕ) → Next → (new : PacketLines) → Result Bool TraceFault → Type 0
-ReadsNext read next new (Ok true) = (read < 1000000) × (next ≡ next_line (lines_line new.lines) (lines_given new.lines))
-ReadsNext read next new (Ok false) = next ≡ no_line
-ReadsNext read next new (Err fault) = RefusesNext read next fault
-
--- the same of a line that says what is given
-abbrev pub SaysNext : List Field → (read : ℕ) → Next → (new : PacketLines) → Said → Type 0
-SaysNext fields read next new said = (read < 1000000) × ((text : List ℕ) × (next ≡ next_line text (lines_given new.lines)) × (said_by fields text ≡ said))
-
--- and of a refusal, which a line that isn't in form makes too
-abbrev pub StopsNext : List Field → (read : ℕ) → Next → (new : PacketLines) → TraceFault → Type 0
-StopsNext fields read next new fault = EndsAt read next fault ⊎ ((fault ≡ Packets (read + 1)) × SaysNext fields read next new bad)
-
--- what is given of these fields
-abbrev pub GivesNext : List Field → (read : ℕ) → Next → (new : PacketLines) → Result (Option Line) TraceFault → Type 0
-GivesNext fields read next new (Ok (Some line)) = SaysNext fields read next new (said_of line)
-GivesNext fields read next new (Ok None) = next ≡ no_line
-GivesNext fields read next new (Err Read) = Unit {0}
-GivesNext fields read next new (Err NoMemory) = Unit {0}
-GivesNext fields read next new (Err (Limit which count)) = StopsNext fields read next new (Limit which count)
-GivesNext fields read next new (Err (Packets line)) = StopsNext fields read next new (Packets line)
-GivesNext fields read next new (Err Write) = ⊥
-GivesNext fields read next new (Err (Undefined packet)) = ⊥
-
--- what stands next for the reader
-abbrev pub next_for : (file : List ℕ) → PacketLines → Next
-next_for file reader = next_in 67108864 65536 file (lines_given reader.lines)
-
--- ---- what is left of the file
 -- what a line says at the ports of tables
 abbrev pub said_at : Tables → List ℕ → Said
 said_at t line = at_ports t (said_by t.fields line)
@@ -95,21 +39,3 @@ GivesLine t file old new (Err (Limit which count)) = left_of (said_at t) file ol
 GivesLine t file old new (Err (Packets line)) = left_of (said_at t) file old ≡ stops (refused (Packets line))
 GivesLine t file old new (Err Write) = ⊥
 GivesLine t file old new (Err (Undefined packet)) = ⊥
-
--- why the line behind `read` lines isn't given
-abbrev pub refused_behind : (read : ℕ) → LinesFault → TraceFault
-refused_behind read fault = if read == 1000000 then refusal_past_last fault else refusal_of fault (read + 1)
-
--- a packet has so many components, of which the first is its port
-abbrev pub FitsLine : ℕ → Line → Type 0
-FitsLine comps Skip = Unit {0}
-FitsLine comps (Inject port packet) = (length packet ≡ comps) × (slice_index packet 0 ≡ port)
-
-abbrev pub HasLine : ℕ → Option Line → Type 0
-HasLine comps None = Unit {0}
-HasLine comps (Some line) = FitsLine comps line
-
--- where a line is given it is one more
-abbrev pub GoesOn : (old new : ℕ) → Option Line → Type 0
-GoesOn old new None = Unit {0}
-GoesOn old new (Some line) = (new ≡ old + 1) × (new ≤ 1000000)

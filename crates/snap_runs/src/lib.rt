@@ -6,7 +6,6 @@ pub mod event;
 pub mod frames;
 pub mod laws;
 mod links;
-pub mod packets;
 pub mod play;
 pub mod ready;
 pub mod schedule;

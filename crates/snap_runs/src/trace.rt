@@ -10,6 +10,7 @@ use crate::tracer::Tracer;
 use snap_io::{Shelf, Sink};
 use snap_rows::valid::Valid;
 use snap_trace::TraceFault;
+use snap_trace::runner::run_over;
 use std::alloc::Global;
 
 /// Writes the report of the network with these tables over the packets file with this name (`docs/FORMATS.md`,
@@ -66,5 +67,5 @@ pub fn trace_by<S: Shelf, K: Sink>(
     ensures sink_later { K.faults sink.old ≤ K.faults sink.new }
 {
     let mut tracer = Tracer::new(alloc, tables, hops, frames)?;
-    tracer.trace(shelf, packets, sink)
+    run_over(alloc, &mut tracer, shelf, packets, sink)
 }

@@ -11,7 +11,7 @@ pub mod packets;
 pub mod report;
 pub mod runner;
 pub mod switch;
-pub mod tail;
+mod tail;
 pub mod words;
 
 pub use fault::TraceFault;

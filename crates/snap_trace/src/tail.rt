@@ -16,9 +16,6 @@ use snap_core::lists::Names;
 use snap_core::place::Listed;
 use snap_io::{Output, Sink, WriteFailed};
 
-/// As many bytes wait at least before they are written while more are at hand.
-pub const PIECE: usize = 65_536;
-
 // Puts a mark and a number in digits.
 fn put_number<K: Sink>(
     out: &mut Output,

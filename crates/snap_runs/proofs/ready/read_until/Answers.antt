@@ -5,10 +5,11 @@ use Rattle.snap_core.specs.Fields.{count}
 use Rattle.snap_io.specs.Files.{file_of}
 use Rattle.snap_io.specs.LineReaders.{lines_name}
 use Rattle.snap_rows.specs.declared.tables.Tables.{Tables}
-use Rattle.snap_trace.proofs.StepLemmas.{where_told}
+use Rattle.snap_trace.proofs.StepLemmas.{told-on, where_told}
 use Rattle.snap_runs.specs.Playing.{AreAll, HasRead}
-use Rattle.snap_runs.specs.Reading.{FitsLine, GivesLine, GoesOn, HasLine, left_of, said_at}
-use Rattle.snap_runs.proofs.Closing.{told-on}
+use Rattle.snap_trace.specs.Reading.{FitsLine, GoesOn, HasLine}
+use Rattle.snap_runs.specs.Reading.{GivesLine, left_of, said_at}
+use Rattle.snap_runs.proofs.Readers.{gives-at}
 use Rattle.snap_runs.proofs.ReadWhole.{AreRead, read-ended, read-more, read-refused, read-taken, ready-more, taken-few}
 use Rattle.snap_runs.proofs.ready.read_until.Goals as goal
 
@@ -26,7 +27,7 @@ returns-in_err-line-clause-whole g c =
     (told-on (g.S.Shelf.files c.args.shelf.now) (g.S.Shelf.files l.shelf) c.args.name.now (lines_name l.reader.lines)
     (λ file. AreRead t file l.packets.items (left_of (said_at t) file l.reader)) (λ file. HasRead t file l.packets.items (Err fault))
     l.invariant.files l.invariant.name l.invariant.came
-    (where_told (g.S.Shelf.files l.shelf) _ _ (λ files gives came. read-refused t (file_of files (lines_name l.reader.lines)) l.packets.items l.reader new came fault (gives t fields)) c.in_err-line.ensures.gives))
+    (where_told (g.S.Shelf.files l.shelf) _ _ (λ files gives came. read-refused t (file_of files (lines_name l.reader.lines)) l.packets.items l.reader new came fault (gives-at t fields (file_of files (lines_name l.reader.lines)) l.reader new (Err fault) gives)) c.in_err-line.ensures.leaves))
 
 pub returns-in_err-take_line-clause-whole : goal.returns-in_err-take_line-clause-whole
 returns-in_err-take_line-clause-whole g c =
@@ -44,7 +45,7 @@ returns-in_err-take_line-clause-whole g c =
     (told-on (g.S.Shelf.files c.args.shelf.now) (g.S.Shelf.files l.shelf) c.args.name.now (lines_name l.reader.lines)
     (λ file. AreRead t file l.packets.items (left_of (said_at t) file l.reader)) (λ file. HasRead t file l.packets.items (Err fault))
     l.invariant.files l.invariant.name l.invariant.came
-    (where_told (g.S.Shelf.files l.shelf) _ _ (λ files gives came. (let file = file_of files (lines_name l.reader.lines) in read-taken t file l.packets.items l.reader new came line c.read.result fault c.read.ensures.read c.in_err-take_line.ensures.err (subst (λ o. GivesLine t file l.reader new (Ok o)) c.in-Some.is (gives t fields)))) c.in_ok-line.ensures.gives)))
+    (where_told (g.S.Shelf.files l.shelf) _ _ (λ files gives came. (let file = file_of files (lines_name l.reader.lines) in read-taken t file l.packets.items l.reader new came line c.read.result fault c.read.ensures.read c.in_err-take_line.ensures.err (subst (λ o. GivesLine t file l.reader new (Ok o)) c.in-Some.is (gives-at t fields (file_of files (lines_name l.reader.lines)) l.reader new (Ok c.in_ok-line.field-0) gives)))) c.in_ok-line.ensures.leaves)))
 
 pub loop-reader-preserved : goal.loop-reader-preserved
 loop-reader-preserved g c =
@@ -62,7 +63,7 @@ loop-reader-preserved g c =
           (told-on (g.S.Shelf.files c.args.shelf.now) (g.S.Shelf.files l.shelf) c.args.name.now (lines_name l.reader.lines)
           (λ file. AreRead t file l.packets.items (left_of (said_at t) file l.reader)) (λ file. AreRead t file items (left_of (said_at t) file new))
           l.invariant.files l.invariant.name l.invariant.came
-          (where_told (g.S.Shelf.files l.shelf) _ _ (λ files gives came. (let file = file_of files (lines_name l.reader.lines) in read-more t file l.packets.items l.reader new came line items fits (subst (λ o. GivesLine t file l.reader new (Ok o)) c.in-Some.is (gives t fields)) c.in_ok-take_line.ensures.ok)) c.in_ok-line.ensures.gives));
+          (where_told (g.S.Shelf.files l.shelf) _ _ (λ files gives came. (let file = file_of files (lines_name l.reader.lines) in read-more t file l.packets.items l.reader new came line items fits (subst (λ o. GivesLine t file l.reader new (Ok o)) c.in-Some.is (gives-at t fields (file_of files (lines_name l.reader.lines)) l.reader new (Ok c.in_ok-line.field-0) gives)) c.in_ok-take_line.ensures.ok)) c.in_ok-line.ensures.leaves));
       ready = ready-more t line l.packets.items items fits c.in_ok-take_line.ensures.ok i.ready;
       few = (let more = goes in let m = more.0 in let e = taken-few t line l.packets.items items l.reader.read c.in_ok-take_line.ensures.ok i.few in omega (arith, e, m));
       bound = goes.1;
@@ -82,4 +83,4 @@ returns-clause-whole g c =
     told-on (g.S.Shelf.files c.args.shelf.now) (g.S.Shelf.files l.shelf) c.args.name.now (lines_name l.reader.lines)
     (λ file. AreRead t file l.packets.items (left_of (said_at t) file l.reader)) (λ file. AreAll t file l.packets.items)
     l.invariant.files l.invariant.name l.invariant.came
-    (where_told (g.S.Shelf.files l.shelf) _ _ (λ files gives came. (let file = file_of files (lines_name l.reader.lines) in read-ended t file l.packets.items l.reader new came (subst (λ o. GivesLine t file l.reader new (Ok o)) none (gives t fields)))) c.in_ok-line.ensures.gives)
+    (where_told (g.S.Shelf.files l.shelf) _ _ (λ files gives came. (let file = file_of files (lines_name l.reader.lines) in read-ended t file l.packets.items l.reader new came (subst (λ o. GivesLine t file l.reader new (Ok o)) none (gives-at t fields (file_of files (lines_name l.reader.lines)) l.reader new (Ok c.in_ok-line.field-0) gives)))) c.in_ok-line.ensures.leaves)

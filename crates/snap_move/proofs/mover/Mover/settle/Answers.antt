@@ -1,4 +1,6 @@
-use Rattle.std.proofs.Common.{List, reverse, sym, subst, ◌∙◌}
+use Rattle.std.proofs.Common.{List, ap, reverse, sym, subst, ◌∙◌}
+use Rattle.std.proofs.lemmas.Result.{on_ok_weaker}
+use Rattle.snap_rows.specs.declared.tables.Tables.{Tables}
 use Rattle.snap_move.specs.declared.later.Later.{Later}
 use Rattle.snap_move.specs.declared.mover.Mover.{Mover}
 use Rattle.snap_move.specs.Changing.{IsAhead}
@@ -30,3 +32,9 @@ returns-in-None-clause-settled c =
     let m = c.args.self.now in
     subst (λ (items : List Later). IsAhead (reverse items) m.tracer.net.injected) (sym c.in-None.ensures.0)
     (settled-not_due m c.requires (subst (IsNotDue m.later.items) c.taken.ensures c.in-None.ensures.1))
+
+pub returns-in-Some-clause-fields : goal.returns-in-Some-clause-fields
+returns-in-Some-clause-fields c =
+    let m = c.args.self.now in
+    let l = c.in-Some.next in
+    on_ok_weaker c.change.result (λ tables. ap (λ (t : Tables). t.fields) tables ∙ (next-shape m c.next_due.new.later.items l c.in-Some.ensures.0 c.requires).fields) c.change.ensures.tables

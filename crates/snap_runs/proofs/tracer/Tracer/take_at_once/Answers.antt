@@ -1,4 +1,4 @@
-use Rattle.std.proofs.Common.{◌+◌, refl, ap, sym, subst, ◌∙◌}
+use Rattle.std.proofs.Common.{◌+◌, ap, sym, subst, ◌∙◌}
 use Rattle.snap_rows.specs.declared.tables.Tables.{Tables}
 use Rattle.snap_runs.specs.Settling.{HasSettled}
 use Rattle.snap_runs.specs.Tallies.{IsBlockText}
@@ -14,5 +14,5 @@ returns-clause-takes c =
     let tally = c.enter.new.tally in
     let number = c.injected-number.result in
     let settled = subst (λ hops. HasSettled v.frames hops mid new tally) (sym c.requires.bare) (entered.3 v.frames) in
-    let put = subst (λ f. IsBlockText f (number + 1) tally v.text.items c.put_block.new.out.items) (c.fields_of-fields.ensures ∙ ap (λ (t : Tables). t.fields) c.enter.ensures.tables) c.in_ok-put_block.ensures in
-    (c.in-Ok.ensures.has_port, has-taken v.frames v.hops c.args.port number c.args.packet v.net mid new tally v.text.items c.put_block.new.out.items _ c.injected-number.ensures entered.1 entered.2 settled c.enter.ensures.rests put refl refl)
+    let put = subst (λ f. IsBlockText f (number + 1) tally c.args.text.now.items c.put_block.new.out.items) (c.fields_of-fields.ensures ∙ ap (λ (t : Tables). t.fields) c.enter.ensures.tables) c.in_ok-put_block.ensures in
+    (c.in-Ok.ensures.has_port, has-taken v.frames v.hops c.args.port number c.args.packet v.net mid new tally c.args.text.now.items c.put_block.new.out.items c.injected-number.ensures entered.1 entered.2 settled c.enter.ensures.rests put)
