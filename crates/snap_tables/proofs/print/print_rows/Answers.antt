@@ -10,19 +10,19 @@ returns-in_err-put_sections-clause-part g c =
     let t = c.args.frame.now in
     let rows = flat_map (g.T.Entry.entry_line t.version c.args.parts.now) c.args.rows.now in
     let out = err_from_is_err_and c.from_residual-in_err-put_sections.result c.from_residual-in_err-put_sections.ensures.1 in
-    let first = c.in_ok-put_first.ensures ∙ ap (λ l. l ++ first_line t.version) c.new-waiting.ensures.items in
+    let first = c.in_ok-put_first.ensures ∙ ap (λ l. l ++ first_line t.version) c.in_ok-out.ensures in
     rw out.1 (ends-short _ _ c.put_first.new.out.items (first_line t.version) (names_text t ++ (ways_text t ++ rows)) last_line first c.in_err-put_sections.ensures.puts)
 
 pub returns-clause-ok : goal.returns-clause-ok
 returns-clause-ok g c =
     let t = c.args.frame.now in
     let rows = flat_map (g.T.Entry.entry_line t.version c.args.parts.now) c.args.rows.now in
-    let first = c.in_ok-put_first.ensures ∙ ap (λ l. l ++ first_line t.version) c.new-waiting.ensures.items in
+    let first = c.in_ok-put_first.ensures ∙ ap (λ l. l ++ first_line t.version) c.in_ok-out.ensures in
     ends-ok _ _ c.put_first.new.out.items (first_line t.version) (names_text t ++ (ways_text t ++ rows)) last_line first _ c.put_sections.new.out.text.items c.in_ok-put_sections.ensures.puts c.put_end.result c.put_end.ensures.ok
 
 pub returns-clause-part : goal.returns-clause-part
 returns-clause-part g c =
     let t = c.args.frame.now in
     let rows = flat_map (g.T.Entry.entry_line t.version c.args.parts.now) c.args.rows.now in
-    let first = c.in_ok-put_first.ensures ∙ ap (λ l. l ++ first_line t.version) c.new-waiting.ensures.items in
+    let first = c.in_ok-put_first.ensures ∙ ap (λ l. l ++ first_line t.version) c.in_ok-out.ensures in
     ends-part _ _ c.put_first.new.out.items (first_line t.version) (names_text t ++ (ways_text t ++ rows)) last_line first _ c.put_sections.new.out.text.items c.in_ok-put_sections.ensures.puts c.put_end.result c.put_end.ensures.part
