@@ -55,7 +55,6 @@ pub(crate) fn report<'a, S: Shelf, O: Sink>(
     ensures meets { IfSome (S.files shelf.old) (λ files.
         Meets files (compile program.entry.now topology.entry.now placement.entry.now on_demand) result (O.taken out.old) (O.taken out.new)) }
     ensures causes { HasCauses (S.faults shelf.old) (S.faults shelf.new) (O.faults out.old) (O.faults out.new) result }
-    ensures not_usage { IsErrOf result Refusal.Usage → ⊥ }
     ensures statuses { EndsWith (statuses_of (compile program.entry.now topology.entry.now placement.entry.now on_demand)) result }
     ensures files { S.files shelf.new ≡ S.files shelf.old }
     ensures later { NoneFell (S.faults shelf.old) (S.faults shelf.new) }
@@ -77,7 +76,6 @@ fn write_tables<'a, O: Sink>(
     ensures back { IsReadBack tables.now }
     ensures write { IsErrOf result Refusal.Write → Rose (O.faults out.old) (O.faults out.new) }
     ensures not_read { IsRead result → ⊥ }
-    ensures not_usage { IsErrOf result Refusal.Usage → ⊥ }
     ensures out_later { O.faults out.old ≤ O.faults out.new }
 {
     match print_shared(alloc, tables, out) {
@@ -99,7 +97,6 @@ fn load_tables<'a, S: Shelf>(
     ensures gives { IfSome (S.files shelf.old) (λ files. GivesTables files program.entry.now topology.entry.now placement.entry.now on_demand result) }
     ensures read { (file : List ℕ) → IsReadOf file result → Rose (S.faults shelf.old file) (S.faults shelf.new file) }
     ensures not_write { IsErrOf result Refusal.Write → ⊥ }
-    ensures not_usage { IsErrOf result Refusal.Usage → ⊥ }
     ensures statuses { IfErr result (RefusesWith (2 ∷ 4 ∷ 5 ∷ 6 ∷ 7 ∷ 8 ∷ 9 ∷ 10 ∷ [])) }
     ensures files { S.files shelf.new ≡ S.files shelf.old }
     ensures later { NoneFell (S.faults shelf.old) (S.faults shelf.new) }
@@ -123,7 +120,6 @@ fn tables_on<'a, S: Shelf>(
     ensures gives { IfSome (S.files shelf.old) (λ files. CompilesOn files program topology.entry.now placement.entry.now on_demand result) }
     ensures read { (file : List ℕ) → IsReadOf file result → Rose (S.faults shelf.old file) (S.faults shelf.new file) }
     ensures not_write { IsErrOf result Refusal.Write → ⊥ }
-    ensures not_usage { IsErrOf result Refusal.Usage → ⊥ }
     ensures later { NoneFell (S.faults shelf.old) (S.faults shelf.new) }
     ensures statuses { IfErr result (RefusesWith (2 ∷ 6 ∷ 7 ∷ 8 ∷ 9 ∷ 10 ∷ [])) }
     ensures files { S.files shelf.new ≡ S.files shelf.old }
@@ -149,7 +145,6 @@ fn tables_for<'a, S: Shelf>(
     ensures gives { IfSome (S.files shelf.old) (λ files. CompilesFor program network.now.topology placement.entry.now (file_of files placement.entry.now) on_demand result) }
     ensures read { (file : List ℕ) → IsReadOf file result → Rose (S.faults shelf.old file) (S.faults shelf.new file) }
     ensures not_write { IsErrOf result Refusal.Write → ⊥ }
-    ensures not_usage { IsErrOf result Refusal.Usage → ⊥ }
     ensures later { NoneFell (S.faults shelf.old) (S.faults shelf.new) }
     ensures statuses { IfErr result (RefusesWith (2 ∷ 6 ∷ 9 ∷ 10 ∷ [])) }
     ensures files { S.files shelf.new ≡ S.files shelf.old }
@@ -174,7 +169,6 @@ fn tables_of<'a>(
     ensures compiles { Compiles program network.now.topology text.now on_demand result }
     ensures not_read { IsRead result → ⊥ }
     ensures not_write { IsErrOf result Refusal.Write → ⊥ }
-    ensures not_usage { IsErrOf result Refusal.Usage → ⊥ }
 {
     let groups = groups(alloc, &program)?;
     match snap_place::read(alloc, text, &program, &groups, &network.topology) {
@@ -216,7 +210,6 @@ fn make<'a>(
     ensures makes { MakesTables program.now network.now.topology placement.now on_demand result }
     ensures not_read { IsRead result → ⊥ }
     ensures not_write { IsErrOf result Refusal.Write → ⊥ }
-    ensures not_usage { IsErrOf result Refusal.Usage → ⊥ }
 {
     let built = diagram_of(alloc, program, groups)?;
     let made = tables_from(alloc, program, built, groups, network, placement, on_demand)?;

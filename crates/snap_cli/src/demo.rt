@@ -23,7 +23,6 @@ pub(crate) fn report<'a, O: Sink>(
 ) -> Result<(), Refusal<'a>>
     ensures meets { (files : Files) → Meets files (demo switches.value) result (O.taken out.old) (O.taken out.new) }
     ensures causes { (before now : List ℕ → ℕ) → HasCauses before now (O.faults out.old) (O.faults out.new) result }
-    ensures not_usage { IsErrOf result Refusal.Usage → ⊥ }
     ensures statuses { EndsWith (statuses_of (demo switches.value)) result }
     ensures out_later { O.faults out.old ≤ O.faults out.new }
 {
@@ -36,7 +35,6 @@ fn write_summary<'a, O: Sink>(alloc: Global, switches: u16, out: &mut O) -> Resu
     ensures meets { MeetsSummary switches result (O.taken out.old) (O.taken out.new) }
     ensures write { IsErrOf result Refusal.Write → Rose (O.faults out.old) (O.faults out.new) }
     ensures not_read { IsRead result → ⊥ }
-    ensures not_usage { IsErrOf result Refusal.Usage → ⊥ }
     ensures out_later { O.faults out.old ≤ O.faults out.new }
 {
     match summary(alloc, switches) {

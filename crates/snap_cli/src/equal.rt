@@ -38,7 +38,6 @@ pub(crate) fn report<'a, S: Shelf, O: Sink>(
     ensures meets { IfSome (S.files shelf.old) (λ files.
         Meets files (equal left.entry.now right.entry.now) result (O.taken out.old) (O.taken out.new)) }
     ensures causes { HasCauses (S.faults shelf.old) (S.faults shelf.new) (O.faults out.old) (O.faults out.new) result }
-    ensures not_usage { IsErrOf result Refusal.Usage → ⊥ }
     ensures statuses { EndsWith (statuses_of (equal left.entry.now right.entry.now)) result }
     ensures files { S.files shelf.new ≡ S.files shelf.old }
     ensures later { NoneFell (S.faults shelf.old) (S.faults shelf.new) }
@@ -65,7 +64,6 @@ fn answer<'a, O: Sink>(
     ensures meets { MeetsEqual left.now right.now result (O.taken out.old) (O.taken out.new) }
     ensures write { IsErrOf result Refusal.Write → Rose (O.faults out.old) (O.faults out.new) }
     ensures not_read { IsRead result → ⊥ }
-    ensures not_usage { IsErrOf result Refusal.Usage → ⊥ }
     ensures out_later { O.faults out.old ≤ O.faults out.new }
 {
     match judge(alloc, left, right) {

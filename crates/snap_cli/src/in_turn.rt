@@ -1,6 +1,6 @@
 //! `trace --ordered`: the report of a run in which each rank's packets take turns.
 
-ghost use Rattle.std.specs.Prelude.{◌≡◌, ◌≤◌, IfSome, IsErrOf, IsTrue, None, Some, false, option_map};
+ghost use Rattle.std.specs.Prelude.{◌≡◌, ◌≤◌, IfSome, IsTrue, None, Some, false, option_map};
 ghost use Rattle.snap_cli.specs.Causes.{HasCauses};
 ghost use Rattle.snap_cli.specs.InTurnSteps.{MeetsInTurn, MeetsTurns};
 ghost use Rattle.snap_cli.specs.Statuses.{EndsWith, statuses_of_trace};
@@ -30,7 +30,6 @@ pub(crate) fn report_in_turn<'a, S: Shelf, O: Sink>(
     ensures meets { IfSome (S.files shelf.old) (λ files.
         MeetsInTurn files tables hops packets.entry lines.entry result (O.taken out.old) (O.taken out.new)) }
     ensures causes { HasCauses (S.faults shelf.old) (S.faults shelf.new) (O.faults out.old) (O.faults out.new) result }
-    ensures not_usage { IsErrOf result Refusal.Usage → ⊥ }
     ensures statuses { EndsWith (statuses_of_trace (in_turn (option_map (λ s. s.now) lines.entry))) result }
     ensures files { S.files shelf.new ≡ S.files shelf.old }
     ensures later { NoneFell (S.faults shelf.old) (S.faults shelf.new) }
@@ -65,7 +64,6 @@ fn report_turns<'a, S: Shelf, O: Sink>(
     ensures meets { IfSome (S.files shelf.old) (λ files.
         MeetsTurns files tables hops packets.entry lines.entry result (O.taken out.old) (O.taken out.new)) }
     ensures causes { HasCauses (S.faults shelf.old) (S.faults shelf.new) (O.faults out.old) (O.faults out.new) result }
-    ensures not_usage { IsErrOf result Refusal.Usage → ⊥ }
     ensures statuses { EndsWith (statuses_of_trace (in_turn (option_map (λ s. s.now) lines.entry))) result }
     ensures files { S.files shelf.new ≡ S.files shelf.old }
     ensures later { NoneFell (S.faults shelf.old) (S.faults shelf.new) }
@@ -90,7 +88,6 @@ fn report_each<'a, S: Shelf, O: Sink>(
     ensures meets { IfSome (S.files shelf.old) (λ files.
         MeetsTurns files tables hops packets.entry None result (O.taken out.old) (O.taken out.new)) }
     ensures causes { HasCauses (S.faults shelf.old) (S.faults shelf.new) (O.faults out.old) (O.faults out.new) result }
-    ensures not_usage { IsErrOf result Refusal.Usage → ⊥ }
     ensures statuses { EndsWith (statuses_of_trace plain) result }
     ensures files { S.files shelf.new ≡ S.files shelf.old }
     ensures later { NoneFell (S.faults shelf.old) (S.faults shelf.new) }
@@ -116,7 +113,6 @@ fn report_lines<'a, S: Shelf, O: Sink>(
     ensures meets { IfSome (S.files shelf.old) (λ files.
         MeetsTurns files tables hops packets.entry (Some lines.entry) result (O.taken out.old) (O.taken out.new)) }
     ensures causes { HasCauses (S.faults shelf.old) (S.faults shelf.new) (O.faults out.old) (O.faults out.new) result }
-    ensures not_usage { IsErrOf result Refusal.Usage → ⊥ }
     ensures statuses { EndsWith (statuses_of_trace (schedule lines.entry.now)) result }
     ensures files { S.files shelf.new ≡ S.files shelf.old }
     ensures later { NoneFell (S.faults shelf.old) (S.faults shelf.new) }

@@ -47,7 +47,6 @@ pub(crate) fn report<'a, S: Shelf, O: Sink>(
     ensures meets { IfSome (S.files shelf.old) (λ files.
         Meets files (place program.entry.now topology.entry.now demand.entry.now) result (O.taken out.old) (O.taken out.new)) }
     ensures causes { HasCauses (S.faults shelf.old) (S.faults shelf.new) (O.faults out.old) (O.faults out.new) result }
-    ensures not_usage { IsErrOf result Refusal.Usage → ⊥ }
     ensures statuses { EndsWith (statuses_of (place program.entry.now topology.entry.now demand.entry.now)) result }
     ensures files { S.files shelf.new ≡ S.files shelf.old }
     ensures later { NoneFell (S.faults shelf.old) (S.faults shelf.new) }
@@ -73,7 +72,6 @@ fn load_placement<'a, S: Shelf>(
     ensures gives { IfSome (S.files shelf.old) (λ files. GivesPlacement files program.entry.now topology.entry.now demand.entry.now result) }
     ensures read { (file : List ℕ) → IsReadOf file result → Rose (S.faults shelf.old file) (S.faults shelf.new file) }
     ensures not_write { IsErrOf result Refusal.Write → ⊥ }
-    ensures not_usage { IsErrOf result Refusal.Usage → ⊥ }
     ensures statuses { IfErr result (RefusesWith (2 ∷ 4 ∷ 5 ∷ 6 ∷ 7 ∷ 8 ∷ 19 ∷ [])) }
     ensures files { S.files shelf.new ≡ S.files shelf.old }
     ensures later { NoneFell (S.faults shelf.old) (S.faults shelf.new) }
@@ -96,7 +94,6 @@ fn placement_on<'a, S: Shelf>(
     ensures gives { IfSome (S.files shelf.old) (λ files. PlacesOn files program topology.entry.now demand.entry.now result) }
     ensures read { (file : List ℕ) → IsReadOf file result → Rose (S.faults shelf.old file) (S.faults shelf.new file) }
     ensures not_write { IsErrOf result Refusal.Write → ⊥ }
-    ensures not_usage { IsErrOf result Refusal.Usage → ⊥ }
     ensures later { NoneFell (S.faults shelf.old) (S.faults shelf.new) }
     ensures statuses { IfErr result (RefusesWith (2 ∷ 6 ∷ 7 ∷ 8 ∷ 19 ∷ [])) }
     ensures files { S.files shelf.new ≡ S.files shelf.old }
@@ -121,7 +118,6 @@ fn placement_for<'a, S: Shelf>(
     ensures gives { IfSome (S.files shelf.old) (λ files. PlacesFor program network.now.topology network.now.routes demand.entry.now (file_of files demand.entry.now) result) }
     ensures read { (file : List ℕ) → IsReadOf file result → Rose (S.faults shelf.old file) (S.faults shelf.new file) }
     ensures not_write { IsErrOf result Refusal.Write → ⊥ }
-    ensures not_usage { IsErrOf result Refusal.Usage → ⊥ }
     ensures later { NoneFell (S.faults shelf.old) (S.faults shelf.new) }
     ensures statuses { IfErr result (RefusesWith (2 ∷ 6 ∷ 19 ∷ [])) }
     ensures files { S.files shelf.new ≡ S.files shelf.old }
@@ -145,7 +141,6 @@ fn placement_of<'a>(
     ensures places { Places program network.now.topology network.now.routes text.now result }
     ensures not_read { IsRead result → ⊥ }
     ensures not_write { IsErrOf result Refusal.Write → ⊥ }
-    ensures not_usage { IsErrOf result Refusal.Usage → ⊥ }
 {
     let groups = groups(alloc, &program)?;
     match read_demand(alloc, text, &program, &groups, &network.topology) {

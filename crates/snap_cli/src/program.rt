@@ -33,7 +33,6 @@ pub(crate) fn load_program<'a, S: Shelf>(
     ensures form { IfOk result IsInForm }
     ensures read { (file : List ℕ) → IsReadOf file result → Rose (S.faults shelf.old file) (S.faults shelf.new file) }
     ensures not_write { IsErrOf result Refusal.Write → ⊥ }
-    ensures not_usage { IsErrOf result Refusal.Usage → ⊥ }
     ensures files { S.files shelf.new ≡ S.files shelf.old }
     ensures later { NoneFell (S.faults shelf.old) (S.faults shelf.new) }
     ensures statuses { IfErr result (RefusesWith (2 ∷ 4 ∷ 5 ∷ 6 ∷ [])) }
@@ -52,7 +51,6 @@ pub(crate) fn read_program<'a>(alloc: Global, text: &[u8]) -> Result<Program, Re
     ensures form { IfOk result IsInForm }
     ensures not_read { IsRead result → ⊥ }
     ensures not_write { IsErrOf result Refusal.Write → ⊥ }
-    ensures not_usage { IsErrOf result Refusal.Usage → ⊥ }
 {
     let tokens = match tokens(alloc, text) {
         Ok(tokens) => tokens,

@@ -1,6 +1,6 @@
 //! `trace --ordered --workers`: the report of a run by rounds, in which several workers make the steps.
 
-ghost use Rattle.std.specs.Prelude.{◌≡◌, ◌≤◌, IfSome, IsErrOf};
+ghost use Rattle.std.specs.Prelude.{◌≡◌, ◌≤◌, IfSome};
 ghost use Rattle.snap_cli.specs.Causes.{HasCauses};
 ghost use Rattle.snap_cli.specs.RoundsSteps.{MeetsByRounds, MeetsRounds};
 ghost use Rattle.snap_cli.specs.Statuses.{EndsWith, statuses_of_trace};
@@ -33,7 +33,6 @@ pub(crate) fn report_by_rounds<'a, R: Threads + Sync, S: Shelf, O: Sink>(
     ensures meets { IfSome (S.files shelf.old) (λ files.
         MeetsByRounds files tables hops packets.entry result (O.taken out.old) (O.taken out.new)) }
     ensures causes { HasCauses (S.faults shelf.old) (S.faults shelf.new) (O.faults out.old) (O.faults out.new) result }
-    ensures not_usage { IsErrOf result Refusal.Usage → ⊥ }
     ensures statuses { EndsWith (statuses_of_trace (rounds workers.value)) result }
     ensures files { S.files shelf.new ≡ S.files shelf.old }
     ensures later { NoneFell (S.faults shelf.old) (S.faults shelf.new) }
@@ -61,7 +60,6 @@ fn report_rounds<'a, R: Threads + Sync, S: Shelf, O: Sink>(
     ensures meets { IfSome (S.files shelf.old) (λ files.
         MeetsRounds files tables hops packets.entry result (O.taken out.old) (O.taken out.new)) }
     ensures causes { HasCauses (S.faults shelf.old) (S.faults shelf.new) (O.faults out.old) (O.faults out.new) result }
-    ensures not_usage { IsErrOf result Refusal.Usage → ⊥ }
     ensures statuses { EndsWith (statuses_of_trace plain) result }
     ensures files { S.files shelf.new ≡ S.files shelf.old }
     ensures later { NoneFell (S.faults shelf.old) (S.faults shelf.new) }

@@ -34,7 +34,6 @@ pub(crate) fn report<'a, S: Shelf, O: Sink>(
     ensures meets { IfSome (S.files shelf.old) (λ files.
         Meets files (routes name.entry.now) result (O.taken out.old) (O.taken out.new)) }
     ensures causes { HasCauses (S.faults shelf.old) (S.faults shelf.new) (O.faults out.old) (O.faults out.new) result }
-    ensures not_usage { IsErrOf result Refusal.Usage → ⊥ }
     ensures statuses { EndsWith (statuses_of (routes name.entry.now)) result }
     ensures files { S.files shelf.new ≡ S.files shelf.old }
     ensures later { NoneFell (S.faults shelf.old) (S.faults shelf.new) }
@@ -52,7 +51,6 @@ fn report_of<'a, O: Sink>(alloc: Global, topology: Topology, out: &mut O) -> Res
     ensures meets { MeetsTopology topology result (O.taken out.old) (O.taken out.new) }
     ensures write { IsErrOf result Refusal.Write → Rose (O.faults out.old) (O.faults out.new) }
     ensures not_read { IsRead result → ⊥ }
-    ensures not_usage { IsErrOf result Refusal.Usage → ⊥ }
     ensures out_later { O.faults out.old ≤ O.faults out.new }
 {
     match routes(alloc, &topology) {
@@ -83,7 +81,6 @@ fn write_routes<'a, O: Sink>(
     ensures writes { Writes (routes_text switches.now routes.now) result (O.taken out.old) (O.taken out.new) }
     ensures write { IsErrOf result Refusal.Write → Rose (O.faults out.old) (O.faults out.new) }
     ensures not_read { IsRead result → ⊥ }
-    ensures not_usage { IsErrOf result Refusal.Usage → ⊥ }
     ensures out_later { O.faults out.old ≤ O.faults out.new }
 {
     for a in 0..switches.items().len() as u16 {

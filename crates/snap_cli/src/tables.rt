@@ -27,7 +27,6 @@ pub(crate) fn load_tables<'a, S: Shelf>(
     ensures gives { IfSome (S.files shelf.old) (λ files. LoadsTables name.entry.now (file_of files name.entry.now) result) }
     ensures read { (file : List ℕ) → IsReadOf file result → Rose (S.faults shelf.old file) (S.faults shelf.new file) }
     ensures not_write { IsErrOf result Refusal.Write → ⊥ }
-    ensures not_usage { IsErrOf result Refusal.Usage → ⊥ }
     ensures files { S.files shelf.new ≡ S.files shelf.old }
     ensures later { NoneFell (S.faults shelf.old) (S.faults shelf.new) }
     ensures statuses { IfErr result (RefusesWith (2 ∷ 6 ∷ 11 ∷ [])) }
@@ -43,7 +42,6 @@ pub(crate) fn read_tables<'a>(alloc: Global, text: &[u8]) -> Result<Valid, Refus
     ensures reads { ReadsTables text.now result }
     ensures not_read { IsRead result → ⊥ }
     ensures not_write { IsErrOf result Refusal.Write → ⊥ }
-    ensures not_usage { IsErrOf result Refusal.Usage → ⊥ }
 {
     match read(alloc, text) {
         Ok(tables) => Ok(tables),

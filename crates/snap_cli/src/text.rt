@@ -24,7 +24,6 @@ pub(crate) fn load_text<'a, S: Shelf>(
     ensures bound { IfOk result (λ text. length text.items ≤ most) }
     ensures read { (file : List ℕ) → IsReadOf file result → Rose (S.faults shelf.old file) (S.faults shelf.new file) }
     ensures not_write { IsErrOf result Refusal.Write → ⊥ }
-    ensures not_usage { IsErrOf result Refusal.Usage → ⊥ }
     ensures files { S.files shelf.new ≡ S.files shelf.old }
     ensures later { NoneFell (S.faults shelf.old) (S.faults shelf.new) }
     ensures statuses { IfErr result (RefusesWith (2 ∷ 6 ∷ [])) }

@@ -76,9 +76,8 @@ fn run<'a, R: Threads + Sync, S: Shelf, O: Sink>(
 ) -> Result<(), Refusal<'a>>
     ensures meets { IfSome (S.files shelf.old) (λ files.
         MeetsWords files (bytes_of words.entry.now) result (O.taken out.old) (O.taken out.new)) }
-    ensures usage { IsErrOf result Refusal.Usage → command_of (bytes_of words.entry.now) ≡ None }
     ensures usage_comes { command_of (bytes_of words.entry.now) ≡ None → IsErrOf result Refusal.Usage ⊎ IsErrOf result Refusal.NoMemory }
-    ensures nothing { IsErrOf result Refusal.Usage → Appends (O.taken out.old) (O.taken out.new) [] }
+    ensures nothing { command_of (bytes_of words.entry.now) ≡ None → Appends (O.taken out.old) (O.taken out.new) [] }
     ensures causes { HasCauses (S.faults shelf.old) (S.faults shelf.new) (O.faults out.old) (O.faults out.new) result }
     ensures statuses { IfSome (command_of (bytes_of words.entry.now)) (λ command. CanAnswer command (status_of result)) }
     ensures demo { (switches : ℕ) → command_of (bytes_of words.entry.now) ≡ Some (demo switches) → (files : Files) →

@@ -1,6 +1,6 @@
 //! The command `trace`: the report of the network that runs tables.
 
-ghost use Rattle.std.specs.Prelude.{◌≡◌, ◌≤◌, IfSome, IsErrOf};
+ghost use Rattle.std.specs.Prelude.{◌≡◌, ◌≤◌, IfSome};
 ghost use Rattle.snap_words.specs.Commands.{plain, trace};
 ghost use Rattle.snap_words.specs.Said.{shown_order};
 ghost use Rattle.snap_io.specs.Files.{file_of};
@@ -39,7 +39,6 @@ pub(crate) fn report<'a, R: Threads + Sync, S: Shelf, O: Sink>(
     ensures meets { IfSome (S.files shelf.old) (λ files.
         Meets files (trace tables.entry.now packets.entry.now hops (shown_order order.entry)) result (O.taken out.old) (O.taken out.new)) }
     ensures causes { HasCauses (S.faults shelf.old) (S.faults shelf.new) (O.faults out.old) (O.faults out.new) result }
-    ensures not_usage { IsErrOf result Refusal.Usage → ⊥ }
     ensures statuses { EndsWith (statuses_of_trace (shown_order order.entry)) result }
     ensures files { S.files shelf.new ≡ S.files shelf.old }
     ensures later { NoneFell (S.faults shelf.old) (S.faults shelf.new) }
@@ -65,7 +64,6 @@ fn report_in_order<'a, R: Threads + Sync, S: Shelf, O: Sink>(
     ensures meets { IfSome (S.files shelf.old) (λ files.
         MeetsOrder files tables hops packets.entry order.entry result (O.taken out.old) (O.taken out.new)) }
     ensures causes { HasCauses (S.faults shelf.old) (S.faults shelf.new) (O.faults out.old) (O.faults out.new) result }
-    ensures not_usage { IsErrOf result Refusal.Usage → ⊥ }
     ensures statuses { EndsWith (statuses_of_trace (shown_order order.entry)) result }
     ensures files { S.files shelf.new ≡ S.files shelf.old }
     ensures later { NoneFell (S.faults shelf.old) (S.faults shelf.new) }
@@ -98,7 +96,6 @@ fn report_of<'a, S: Shelf, O: Sink>(
     ensures meets { IfSome (S.files shelf.old) (λ files.
         MeetsTrace tables hops packets.entry (file_of files packets.entry.now) result (O.taken out.old) (O.taken out.new)) }
     ensures causes { HasCauses (S.faults shelf.old) (S.faults shelf.new) (O.faults out.old) (O.faults out.new) result }
-    ensures not_usage { IsErrOf result Refusal.Usage → ⊥ }
     ensures statuses { EndsWith (statuses_of_trace plain) result }
     ensures files { S.files shelf.new ≡ S.files shelf.old }
     ensures later { NoneFell (S.faults shelf.old) (S.faults shelf.new) }

@@ -2,7 +2,7 @@ use Rattle.std.proofs.Common.{Ok, Err, IfSome, refl, sym, subst, ◌∙◌}
 use Rattle.snap_words.specs.Commands.{command_of}
 use Rattle.snap_words.specs.Said.{bytes_of}
 use Rattle.snap_cli.specs.Statuses.{CanAnswer}
-use Rattle.snap_cli.proofs.TopLemmas.{quiet, read-rose, tells}
+use Rattle.snap_cli.proofs.TopLemmas.{only-usage, quiet, read-rose, tells}
 use Rattle.snap_cli.proofs.top.snap.Goals as goal
 
 pub returns-in-Err-clause-answer : goal.returns-in-Err-clause-answer
@@ -40,3 +40,10 @@ returns-in-Err-clause-demo g c = λ switches is files. record {
 pub returns-in-Err-clause-statuses : goal.returns-in-Err-clause-statuses
 returns-in-Err-clause-statuses g c =
     subst (λ status. IfSome (command_of (bytes_of c.args.words.now)) (λ command. CanAnswer command status)) (sym c.status.ensures) c.in-Err.ensures.statuses
+
+pub returns-in-Err-clause-usage : goal.returns-in-Err-clause-usage
+returns-in-Err-clause-usage g c = λ one. only-usage (command_of (bytes_of c.args.words.now)) _ c.in-Err.ensures.statuses (sym c.status.ensures ∙ one)
+
+pub returns-in-Err-clause-nothing : goal.returns-in-Err-clause-nothing
+returns-in-Err-clause-nothing g c = λ one.
+    c.in-Err.ensures.nothing (only-usage (command_of (bytes_of c.args.words.now)) _ c.in-Err.ensures.statuses (sym c.status.ensures ∙ one))
