@@ -26,8 +26,8 @@ loop-change-preserved g c =
       shapes = subst (All (λ (y : Later). HaveOneShape y.tables c.args.first.now)) (sym pushed) (All-push (λ (y : Later). HaveOneShape y.tables c.args.first.now) l.later.items x l.invariant.shapes c.in_ok-next.ensures.shape);
       afters_same = ap afters pushed ∙ map-append (λ (y : Later). y.after) l.later.items (x ∷ []) ∙ (λ j. l.invariant.afters_same j ++ c.in_ok-next.ensures.after j ∷ [])
           ∙ sym (map-append (λ (y : Change). y.after) (take i all) (item ∷ [])) ∙ ap afters_of ((λ j. take i all ++ c.change-item.is j ∷ []) ∙ sym (take_more all i item c.loop-change-test.true));
-      files = c.load_later.ensures.files ∙ l.invariant.files;
-      none_fell = λ name. (let a = l.invariant.none_fell name in let b = c.load_later.ensures.later name in omega (arith, a, b));
+      files = c.load_later.ensures.devices.files ∙ l.invariant.files;
+      none_fell = λ name. (let a = l.invariant.none_fell name in let b = c.load_later.ensures.devices.later name in omega (arith, a, b));
     }
 
 pub returns-in_err-next-clause-gives : goal.returns-in_err-next-clause-gives

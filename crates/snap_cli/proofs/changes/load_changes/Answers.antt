@@ -9,7 +9,7 @@ use Rattle.snap_cli.proofs.changes.load_changes.Goals as goal
 
 pub returns-clause-gives : goal.returns-clause-gives
 returns-clause-gives g c =
-    told-tables (g.S.Shelf.files c.args.shelf.now) _ c.args.first.now c.args.name.now c.in-Ok.changes c.deref.result.now c.load_all.result c.in-Ok.ensures.files c.in-Ok.ensures.gives c.deref.ensures.value c.load_all.ensures.gives
+    told-tables (g.S.Shelf.files c.args.shelf.now) _ c.args.first.now c.args.name.now c.in-Ok.changes c.deref.result.now c.load_all.result c.in-Ok.ensures.devices.files c.in-Ok.ensures.gives c.deref.ensures.value c.load_all.ensures.gives
 
 pub returns-clause-rising : goal.returns-clause-rising
 returns-clause-rising g c =

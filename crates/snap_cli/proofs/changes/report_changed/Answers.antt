@@ -8,7 +8,7 @@ use Rattle.snap_cli.proofs.changes.report_changed.Goals as goal
 pub returns-in-Ok-clause-meets : goal.returns-in-Ok-clause-meets
 returns-in-Ok-clause-meets g c =
     told-changes (g.S.Shelf.files c.args.shelf.now) (g.S.Shelf.files c.load_changes.new.shelf) c.args.tables c.in-Ok.later c.args.hops c.args.packets c.args.lines.now
-    (g.O.Sink.taken c.args.out.now) (g.O.Sink.taken c.report_later.new.out) c.report_later.result c.in-Ok.ensures.files c.in-Ok.ensures.gives c.report_later.ensures.meets
+    (g.O.Sink.taken c.args.out.now) (g.O.Sink.taken c.report_later.new.out) c.report_later.result c.in-Ok.ensures.devices.files c.in-Ok.ensures.gives c.report_later.ensures.meets
 
 pub returns-clause-meets : goal.returns-clause-meets
 returns-clause-meets g c = told-no_changes (g.S.Shelf.files c.args.shelf.now) c.args.tables c.args.hops c.args.packets c.args.lines.now (g.O.Sink.taken c.args.out.now) c.in-Err.refusal c.in-Err.ensures.gives

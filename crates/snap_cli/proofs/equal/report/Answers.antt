@@ -12,14 +12,14 @@ pub returns-in-Ok-load_program-clause-meets : goal.returns-in-Ok-load_program-cl
 returns-in-Ok-load_program-clause-meets g c =
     let r = c.args.right.now in
     equal-answer (g.S.Shelf.files c.args.shelf.now) c.args.left.now r c.in-Ok.first c.in-Ok-load_program.second (g.O.Sink.taken c.args.out.now) (g.O.Sink.taken c.answer.new.out) c.answer.result c.in-Ok.ensures.gives
-    (subst (λ told. IfSome told (λ files. GivesProgram r (file_of files r) (Ok c.in-Ok-load_program.second))) c.in-Ok.ensures.files c.in-Ok-load_program.ensures.gives)
+    (subst (λ told. IfSome told (λ files. GivesProgram r (file_of files r) (Ok c.in-Ok-load_program.second))) c.in-Ok.ensures.devices.files c.in-Ok-load_program.ensures.gives)
     c.answer.ensures.meets
 
 pub returns-in-Ok-clause-meets : goal.returns-in-Ok-clause-meets
 returns-in-Ok-clause-meets g c =
     let r = c.args.right.now in
     equal-refused-second (g.S.Shelf.files c.args.shelf.now) c.args.left.now r c.in-Ok.first (g.O.Sink.taken c.args.out.now) c.in-Err-load_program.refusal c.in-Ok.ensures.gives
-    (subst (λ told. IfSome told (λ files. GivesProgram r (file_of files r) (Err c.in-Err-load_program.refusal))) c.in-Ok.ensures.files c.in-Err-load_program.ensures.gives)
+    (subst (λ told. IfSome told (λ files. GivesProgram r (file_of files r) (Err c.in-Err-load_program.refusal))) c.in-Ok.ensures.devices.files c.in-Err-load_program.ensures.gives)
 
 pub returns-clause-meets : goal.returns-clause-meets
 returns-clause-meets g c =

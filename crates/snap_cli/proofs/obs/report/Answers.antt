@@ -8,7 +8,7 @@ use Rattle.snap_cli.proofs.obs.report.Goals as goal
 pub returns-in-Ok-clause-meets : goal.returns-in-Ok-clause-meets
 returns-in-Ok-clause-meets g c =
     obs-run (g.S.Shelf.files c.args.shelf.now) (g.S.Shelf.files c.load_program.new.shelf) c.args.program.now c.args.packets.now c.in-Ok.program
-    (g.O.Sink.taken c.args.out.now) (g.O.Sink.taken c.report_of.new.out) c.report_of.result c.in-Ok.ensures.files c.in-Ok.ensures.gives c.report_of.ensures.meets
+    (g.O.Sink.taken c.args.out.now) (g.O.Sink.taken c.report_of.new.out) c.report_of.result c.in-Ok.ensures.devices.files c.in-Ok.ensures.gives c.report_of.ensures.meets
 
 pub returns-in-Err-clause-meets : goal.returns-in-Err-clause-meets
 returns-in-Err-clause-meets g c =

@@ -10,21 +10,21 @@ returns-in-Err-clause-answer g c = record {
   ending = Err c.in-Err.refusal;
   status_is = c.status.ensures;
   out = c.in-Err.ensures.meets;
-  causes = c.in-Err.ensures.causes;
+  causes = c.in-Err.ensures.devices.causes;
   err = tells _ _ _ _ _ c.tell.result c.tell.ensures.ok c.tell.ensures.err c.tell.ensures.cause;
 }
 
 pub returns-in-Err-clause-read : goal.returns-in-Err-clause-read
 returns-in-Err-clause-read g c = λ two.
     read-rose (g.S.Shelf.faults c.args.shelf.now) (g.S.Shelf.faults c.run-ending.new.shelf) (g.O.Sink.faults c.args.out.now) (g.O.Sink.faults c.run-ending.new.out) c.in-Err.refusal
-    c.in-Err.ensures.causes (sym c.status.ensures ∙ two)
+    c.in-Err.ensures.devices.causes (sym c.status.ensures ∙ two)
 
 pub returns-in-Ok-clause-demo : goal.returns-in-Ok-clause-demo
 returns-in-Ok-clause-demo g c = λ switches is files. record {
   ending = Ok tt;
   status_is = refl;
   out = c.in-Ok.ensures.demo switches is files;
-  causes = c.in-Ok.ensures.causes;
+  causes = c.in-Ok.ensures.devices.causes;
   err = quiet (g.E.Sink.faults c.args.err.now) (g.E.Sink.taken c.args.err.now);
 }
 
@@ -33,7 +33,7 @@ returns-in-Err-clause-demo g c = λ switches is files. record {
   ending = Err c.in-Err.refusal;
   status_is = c.status.ensures;
   out = c.in-Err.ensures.demo switches is files;
-  causes = c.in-Err.ensures.causes;
+  causes = c.in-Err.ensures.devices.causes;
   err = tells _ _ _ _ _ c.tell.result c.tell.ensures.ok c.tell.ensures.err c.tell.ensures.cause;
 }
 

@@ -8,7 +8,7 @@ use Rattle.snap_cli.proofs.trace.report.Goals as goal
 pub returns-in-Ok-clause-meets : goal.returns-in-Ok-clause-meets
 returns-in-Ok-clause-meets g c =
     trace-run (g.S.Shelf.files c.args.shelf.now) (g.S.Shelf.files c.load_tables.new.shelf) c.args.tables.now c.args.packets c.args.hops c.args.order c.in-Ok.tables
-    (g.O.Sink.taken c.args.out.now) (g.O.Sink.taken c.report_in_order.new.out) c.report_in_order.result c.in-Ok.ensures.files c.in-Ok.ensures.gives c.report_in_order.ensures.meets
+    (g.O.Sink.taken c.args.out.now) (g.O.Sink.taken c.report_in_order.new.out) c.report_in_order.result c.in-Ok.ensures.devices.files c.in-Ok.ensures.gives c.report_in_order.ensures.meets
 
 pub returns-in-Err-clause-meets : goal.returns-in-Err-clause-meets
 returns-in-Err-clause-meets g c =
