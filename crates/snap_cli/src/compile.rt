@@ -5,7 +5,6 @@ ghost use Rattle.snap_build.specs.Whole.{IsWhole};
 ghost use Rattle.snap_core.specs.Laws.{PutsSmall};
 ghost use Rattle.snap_core.specs.Programs.{IsInForm};
 ghost use Rattle.snap_dep.specs.Ranks.{IsGrouping};
-ghost use Rattle.snap_io.specs.Files.{file_of};
 ghost use Rattle.snap_place.specs.Answer.{GivesSwitches};
 ghost use Rattle.snap_tables.specs.ReadBack.{IsReadBack};
 ghost use Rattle.snap_topo.specs.Form.{IsInForm as IsTopology};
@@ -13,16 +12,15 @@ ghost use Rattle.snap_route.specs.Tables.{AreRoutes};
 ghost use Rattle.snap_words.specs.Commands.{compile};
 ghost use Rattle.snap_cli.specs.Causes.{BlamesNoDevice, OnlyReads, OnlyWrites, ReadsAndWrites};
 ghost use Rattle.snap_cli.specs.Compile.{AreMade};
-ghost use Rattle.snap_cli.specs.CompileSteps.{Compiles, CompilesFor, CompilesOn, GivesTables, MakesTables, WritesTables};
+ghost use Rattle.snap_cli.specs.CompileSteps.{Compiles, GivesTables, MakesTables, WritesTables};
 ghost use Rattle.snap_cli.specs.Deserved.{Meets};
 ghost use Rattle.snap_cli.specs.PlacementOf.{refusal_of_placement};
 ghost use Rattle.snap_cli.specs.Statuses.{EndsWith, RefusesWith, statuses_of};
 
 use crate::diagram::diagram_of;
-use crate::network::{Network, load_network};
-use crate::program::load_program;
+use crate::inputs::load_inputs;
+use crate::network::Network;
 use crate::refusal::{NoPlacement, Refusal};
-use crate::text::load_text;
 use snap_build::building::Built;
 use snap_core::NoMemory;
 use snap_core::lists::Names;
@@ -37,9 +35,6 @@ use snap_tables::fault::PrintFault;
 use snap_tables::print_shared::print_shared;
 use snap_tables::shared::SharedTables;
 use std::alloc::Global;
-
-/// The most bytes of a placement's file.
-pub const MOST_PLACEMENT: u64 = 1_048_576;
 
 /// Writes tables that are faithful to a program, a topology and a placement: of version 2, or on demand of version 1.
 pub(crate) fn report<'a, S: Shelf, O: Sink>(
@@ -92,52 +87,14 @@ fn load_tables<'a, S: Shelf>(
     ensures devices { OnlyReads (S.files shelf.old) (S.files shelf.new) (S.faults shelf.old) (S.faults shelf.new) result }
     ensures statuses { IfErr result (RefusesWith (2 ∷ 4 ∷ 5 ∷ 6 ∷ 7 ∷ 8 ∷ 9 ∷ 10 ∷ [])) }
 {
-    match load_program(alloc, shelf, program) {
-        Ok(program) => tables_on(alloc, program, topology, placement, on_demand, shelf),
-        Err(refusal) => Err(refusal),
-    }
-}
-
-// The tables of a program that was read.
-fn tables_on<'a, S: Shelf>(
-    alloc: Global,
-    program: Program,
-    topology: &'a [u8],
-    placement: &'a [u8],
-    on_demand: bool,
-    shelf: &mut S,
-) -> Result<SharedTables, Refusal<'a>>
-    requires { IsInForm program }
-    ensures gives { IfSome (S.files shelf.old) (λ files. CompilesOn files program topology.entry.now placement.entry.now on_demand result) }
-    ensures devices { OnlyReads (S.files shelf.old) (S.files shelf.new) (S.faults shelf.old) (S.faults shelf.new) result }
-    ensures statuses { IfErr result (RefusesWith (2 ∷ 6 ∷ 7 ∷ 8 ∷ 9 ∷ 10 ∷ [])) }
-{
-    match load_network(alloc, shelf, topology) {
-        Ok(network) => tables_for(alloc, program, &network, placement, on_demand, shelf),
-        Err(refusal) => Err(refusal),
-    }
-}
-
-// The tables of a program on a topology.
-fn tables_for<'a, S: Shelf>(
-    alloc: Global,
-    program: Program,
-    network: &Network,
-    placement: &'a [u8],
-    on_demand: bool,
-    shelf: &mut S,
-) -> Result<SharedTables, Refusal<'a>>
-    requires program { IsInForm program }
-    requires topology { IsTopology network.now.topology }
-    requires routes { AreRoutes network.now.topology network.now.routes }
-    ensures gives { IfSome (S.files shelf.old) (λ files. CompilesFor program network.now.topology placement.entry.now (file_of files placement.entry.now) on_demand result) }
-    ensures devices { OnlyReads (S.files shelf.old) (S.files shelf.new) (S.faults shelf.old) (S.faults shelf.new) result }
-    ensures statuses { IfErr result (RefusesWith (2 ∷ 6 ∷ 9 ∷ 10 ∷ [])) }
-{
-    match load_text(alloc, shelf, placement, MOST_PLACEMENT) {
-        Ok(text) => tables_of(alloc, program, network, &text, on_demand),
-        Err(refusal) => Err(refusal),
-    }
+    let inputs = load_inputs(alloc, program, topology, placement, shelf)?;
+    tables_of(
+        alloc,
+        inputs.program,
+        &inputs.network,
+        &inputs.text,
+        on_demand,
+    )
 }
 
 // The tables of a program on a topology with the placement that a text spells.
