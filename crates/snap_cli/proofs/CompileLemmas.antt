@@ -1,5 +1,5 @@
 -- What `compile` did, from what its steps did.
-use Rattle.std.proofs.Common.{◌⊎◌, ◌≤◌, ℕ, Bool, List, [], Option, Some, None, IfSome, Result, Ok, Err, length, refl, ap, inl, inr}
+use Rattle.std.proofs.Common.{◌⊎◌, ◌≤◌, ℕ, Bool, List, [], Option, Result, Ok, Err, length, refl, ap, inl, inr}
 use Rattle.snap_core.specs.declared.program.Program.{Program}
 use Rattle.snap_io.specs.Files.{Files, file_of}
 use Rattle.snap_topo.specs.declared.topology.Topology.{Topology}
@@ -68,7 +68,7 @@ module _ (files : Files) (program topology placement : List ℕ) (on_demand : Bo
   abbrev command : Command
   command = compile program topology placement on_demand
 
-  meets-refused : (out : Option (List ℕ)) (e : Refusal) → GivesTables files program topology placement on_demand (Err e) → Meets files command (Err e) out out
+  pub meets-refused : (out : Option (List ℕ)) (e : Refusal) → GivesTables files program topology placement on_demand (Err e) → Meets files command (Err e) out out
   meets-refused out e h =
       meets-by files command out e (inl refl)
       (by-map (IsReached files program topology placement) (λ name. MayPrecedeRead files command name []) (HasNoTables files program topology placement) (λ x. Ends files command (Err x) × IsText files command [])
@@ -78,19 +78,8 @@ module _ (files : Files) (program topology placement : List ℕ) (on_demand : Bo
     written : IsCompiled files program topology placement on_demand (tables_text tables)
     written = (tables, are, back, refl)
 
-    meets-written : (e : Ending) → WritesTables tables e old new → Meets files command e old new
+    pub meets-written : (e : Ending) → WritesTables tables e old new → Meets files command e old new
     meets-written (Ok u) h = ((tables_text tables, written), (tables_text tables, inr written, h))
     meets-written (Err Write) h = inr (tables_text tables, inr written, h)
     meets-written (Err NoMemory) h = (tables_text tables, inr written, h)
     meets-written (Err e) h = absurd h
-
-pub told-refused : (told : Option Files) (program topology placement : List ℕ) (on_demand : Bool) (out : Option (List ℕ)) (e : Refusal) → IfSome told (λ files. GivesTables files program topology placement on_demand (Err e))
-    → IfSome told (λ files. Meets files (compile program topology placement on_demand) (Err e) out out)
-told-refused None program topology placement on_demand out e h = tt
-told-refused (Some files) program topology placement on_demand out e h = meets-refused files program topology placement on_demand out e h
-
-pub told-written : (told : Option Files) (program topology placement : List ℕ) (on_demand : Bool) (old new : Option (List ℕ)) (tables : Tables) (e : Ending)
-    → IfSome told (λ files. GivesTables files program topology placement on_demand (Ok tables)) → IsReadBack tables → WritesTables tables e old new
-    → IfSome told (λ files. Meets files (compile program topology placement on_demand) e old new)
-told-written None program topology placement on_demand old new tables e h back w = tt
-told-written (Some files) program topology placement on_demand old new tables e h back w = meets-written files program topology placement on_demand old new tables h back e w

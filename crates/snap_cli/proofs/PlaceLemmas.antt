@@ -1,12 +1,10 @@
 -- What `place` did, from what its steps did.
-use Rattle.std.proofs.Common.{◌≡◌, ℕ, List, [], Option, Some, None, IfSome, Result, Ok, Err, refl, subst, inl, inr}
+use Rattle.std.proofs.Common.{ℕ, List, [], Option, Result, Ok, Err, refl, inl, inr}
 use Rattle.std.proofs.KnownBytes.{Appends-nil}
 use Rattle.std.specs.Prelude.{Vec}
-use Rattle.std.specs.Io.KnownBytes.{Appends}
 use Rattle.std.specs.declared.alloc.Global.{Global}
 use Rattle.snap_core.specs.declared.program.Program.{Program}
 use Rattle.snap_io.specs.Files.{Files, file_of}
-use Rattle.snap_io.specs.Sinks.{AppendsPart}
 use Rattle.snap_topo.specs.declared.topology.Topology.{Topology}
 use Rattle.snap_route.specs.Tables.{Table}
 use Rattle.snap_seek.specs.declared.demand.DemandFault.TheVariants as seek
@@ -43,24 +41,9 @@ module _ (files : Files) (program topology demand : List ℕ) where
 
 -- ---- the command
 module _ (files : Files) (program topology demand : List ℕ) where
-  meets-refused : (out : Option (List ℕ)) (e : Refusal) → GivesPlacement files program topology demand (Err e) → Meets files (place program topology demand) (Err e) out out
+  pub meets-refused : (out : Option (List ℕ)) (e : Refusal) → GivesPlacement files program topology demand (Err e) → Meets files (place program topology demand) (Err e) out out
   meets-refused out (Read name) h = ([], (h, refl), (0, Appends-nil out))
   meets-refused out (ReadChange name) h = ([], (h, refl), (0, Appends-nil out))
   meets-refused out NoMemory h = ([], refl, (0, Appends-nil out))
   meets-refused out Write h = inl ([], refl, (0, Appends-nil out))
   meets-refused out e h = (h, ([], inl (e, h, refl), Appends-nil out))
-
-pub told-refused : (told : Option Files) (program topology demand : List ℕ) (out : Option (List ℕ)) (e : Refusal) → IfSome told (λ files. GivesPlacement files program topology demand (Err e))
-    → IfSome told (λ files. Meets files (place program topology demand) (Err e) out out)
-told-refused None program topology demand out e h = tt
-told-refused (Some files) program topology demand out e h = meets-refused files program topology demand out e h
-
-pub told-written : (told : Option Files) (program topology demand : List ℕ) (old new : Option (List ℕ)) (text : Vec ℕ Global) (seen : List ℕ) → IfSome told (λ files. GivesPlacement files program topology demand (Ok text))
-    → seen ≡ text.items → Appends old new seen → IfSome told (λ files. Meets files (place program topology demand) (Ok tt) old new)
-told-written None program topology demand old new text seen h same out = tt
-told-written (Some files) program topology demand old new text seen h same out = ((text.items, h), (text.items, inr h, subst (Appends old new) same out))
-
-pub told-cut : (told : Option Files) (program topology demand : List ℕ) (old new : Option (List ℕ)) (text : Vec ℕ Global) (seen : List ℕ) → IfSome told (λ files. GivesPlacement files program topology demand (Ok text))
-    → seen ≡ text.items → AppendsPart old new seen → IfSome told (λ files. Meets files (place program topology demand) (Err Write) old new)
-told-cut None program topology demand old new text seen h same out = tt
-told-cut (Some files) program topology demand old new text seen h same out = inr (text.items, inr h, subst (AppendsPart old new) same out)

@@ -1,14 +1,18 @@
-use Rattle.snap_cli.proofs.NetworkLemmas.{told-no-routes}
-use Rattle.std.proofs.Common.{[], ◌∷◌, IfErr, refl, sym, subst}
+use Rattle.snap_cli.proofs.NetworkLemmas.{network-fault}
+use Rattle.std.proofs.Common.{[], ◌∷◌, Err, IfErr, refl, sym, subst}
 use Rattle.snap_cli.specs.Statuses.{RefusesWith}
 use Rattle.snap_cli.proofs.Relayed.{relayed}
 use Rattle.snap_cli.proofs.StatusLemmas.{of-routes, refuses-more}
+use Rattle.snap_io.specs.Files.{file_of}
+use Rattle.snap_cli.specs.NetworkSteps.{GivesNetwork}
+use Rattle.std.proofs.lemmas.Option.{IfSome_then}
 use Rattle.snap_cli.proofs.network.load_network.Goals as goal
 
 pub returns-clause-gives : goal.returns-clause-gives
 returns-clause-gives g c =
-    told-no-routes (g.S.Shelf.files c.args.shelf.now) c.args.name.now c.in_ok-topology.topology c.in-Err.fault c.refusal_of_routes.result c.refusal_of_routes.ensures
-    c.in_ok-topology.ensures.gives c.in-Err.ensures.unreachable
+    let name = c.args.name.now in
+    IfSome_then (g.S.Shelf.files c.args.shelf.now) c.in_ok-topology.ensures.gives (λ files read.
+    subst (λ e. GivesNetwork name (file_of files name) (Err e)) (sym c.refusal_of_routes.ensures) (network-fault name (file_of files name) c.in_ok-topology.topology c.in-Err.fault read c.in-Err.ensures.unreachable))
 
 pub returns-in_err-topology-clause-statuses : goal.returns-in_err-topology-clause-statuses
 returns-in_err-topology-clause-statuses g c =
