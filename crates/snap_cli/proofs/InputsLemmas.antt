@@ -21,8 +21,8 @@ use Rattle.snap_cli.proofs.RefusedBy.{by-map, by-program}
 pub stopped-map : (why because : Program → Topology → Table → Refusal → Type 0) (files : Files) (program topology : List ℕ)
     → ((p : Program) (t : Topology) (table : Table) (e : Refusal) → why p t table e → because p t table e)
     → (e : Refusal) → IsStopped why files program topology e → IsStopped because files program topology e
-stopped-map why because files program topology f e (inl no) = inl no
-stopped-map why because files program topology f e (inr (p, read, inl no)) = inr (p, read, inl no)
+stopped-map why because files program topology f e (inl none) = inl none
+stopped-map why because files program topology f e (inr (p, read, inl none)) = inr (p, read, inl none)
 stopped-map why because files program topology f e (inr (p, read, inr (t, table, spelled, are, h))) = inr (p, read, inr (t, table, spelled, are, f p t table e h))
 
 module _ (files : Files) (program topology last : List ℕ) where
