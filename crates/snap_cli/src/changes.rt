@@ -41,7 +41,8 @@ pub(crate) fn report_changed<'a, S: Shelf, O: Sink>(
     out: &mut O,
 ) -> Result<(), Refusal<'a>>
     ensures meets { IfSome (S.files shelf.old) (λ files. MeetsChanges files tables hops packets.entry lines.entry.now result (O.taken out.old) (O.taken out.new)) }
-    ensures devices { ReadsAndWrites (S.files shelf.old) (S.files shelf.new) (S.faults shelf.old) (S.faults shelf.new) (O.faults out.old) (O.faults out.new) result }
+    ensures devices { ReadsAndWrites (S.files shelf.old) (S.files shelf.new) (S.faults shelf.old) (S.faults shelf.new)
+        (O.faults out.old) (O.faults out.new) result }
     ensures statuses { EndsWith (statuses_of_trace (changes lines.entry.now)) result }
 {
     match load_changes(alloc, shelf, &tables, lines) {
@@ -64,7 +65,8 @@ fn report_later<'a, S: Shelf, O: Sink>(
     requires rising { IsRising later.items }
     ensures meets { IfSome (S.files shelf.old) (λ files.
         MeetsLater tables later.items hops packets.entry (file_of files packets.entry.now) result (O.taken out.old) (O.taken out.new)) }
-    ensures devices { ReadsAndWrites (S.files shelf.old) (S.files shelf.new) (S.faults shelf.old) (S.faults shelf.new) (O.faults out.old) (O.faults out.new) result }
+    ensures devices { ReadsAndWrites (S.files shelf.old) (S.files shelf.new) (S.faults shelf.old) (S.faults shelf.new)
+        (O.faults out.old) (O.faults out.new) result }
     ensures statuses { EndsWith (statuses_of_trace plain) result }
 {
     match trace_changes(alloc, shelf, packets, tables, later, hops, out) {

@@ -28,7 +28,8 @@ pub(crate) fn report_in_turn<'a, S: Shelf, O: Sink>(
 ) -> Result<(), Refusal<'a>>
     ensures meets { IfSome (S.files shelf.old) (λ files.
         MeetsInTurn files tables hops packets.entry lines.entry result (O.taken out.old) (O.taken out.new)) }
-    ensures devices { ReadsAndWrites (S.files shelf.old) (S.files shelf.new) (S.faults shelf.old) (S.faults shelf.new) (O.faults out.old) (O.faults out.new) result }
+    ensures devices { ReadsAndWrites (S.files shelf.old) (S.files shelf.new) (S.faults shelf.old) (S.faults shelf.new)
+        (O.faults out.old) (O.faults out.new) result }
     ensures statuses { EndsWith (statuses_of_trace (in_turn (option_map (λ s. s.now) lines.entry))) result }
 {
     if has_turns(&tables) {
@@ -59,7 +60,8 @@ fn report_turns<'a, S: Shelf, O: Sink>(
     requires version { tables.version ≡ 2 }
     ensures meets { IfSome (S.files shelf.old) (λ files.
         MeetsTurns files tables hops packets.entry lines.entry result (O.taken out.old) (O.taken out.new)) }
-    ensures devices { ReadsAndWrites (S.files shelf.old) (S.files shelf.new) (S.faults shelf.old) (S.faults shelf.new) (O.faults out.old) (O.faults out.new) result }
+    ensures devices { ReadsAndWrites (S.files shelf.old) (S.files shelf.new) (S.faults shelf.old) (S.faults shelf.new)
+        (O.faults out.old) (O.faults out.new) result }
     ensures statuses { EndsWith (statuses_of_trace (in_turn (option_map (λ s. s.now) lines.entry))) result }
 {
     match lines {
@@ -80,7 +82,8 @@ fn report_each<'a, S: Shelf, O: Sink>(
     requires version { tables.version ≡ 2 }
     ensures meets { IfSome (S.files shelf.old) (λ files.
         MeetsTurns files tables hops packets.entry None result (O.taken out.old) (O.taken out.new)) }
-    ensures devices { ReadsAndWrites (S.files shelf.old) (S.files shelf.new) (S.faults shelf.old) (S.faults shelf.new) (O.faults out.old) (O.faults out.new) result }
+    ensures devices { ReadsAndWrites (S.files shelf.old) (S.files shelf.new) (S.faults shelf.old) (S.faults shelf.new)
+        (O.faults out.old) (O.faults out.new) result }
     ensures statuses { EndsWith (statuses_of_trace plain) result }
 {
     match trace_ordered(alloc, shelf, packets, tables, hops, out) {
@@ -102,7 +105,8 @@ fn report_lines<'a, S: Shelf, O: Sink>(
     requires version { tables.version ≡ 2 }
     ensures meets { IfSome (S.files shelf.old) (λ files.
         MeetsTurns files tables hops packets.entry (Some lines.entry) result (O.taken out.old) (O.taken out.new)) }
-    ensures devices { ReadsAndWrites (S.files shelf.old) (S.files shelf.new) (S.faults shelf.old) (S.faults shelf.new) (O.faults out.old) (O.faults out.new) result }
+    ensures devices { ReadsAndWrites (S.files shelf.old) (S.files shelf.new) (S.faults shelf.old) (S.faults shelf.new)
+        (O.faults out.old) (O.faults out.new) result }
     ensures statuses { EndsWith (statuses_of_trace (schedule lines.entry.now)) result }
 {
     match schedule_ordered(alloc, shelf, packets, lines, tables, hops, out) {

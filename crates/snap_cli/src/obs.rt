@@ -28,7 +28,8 @@ pub(crate) fn report<'a, S: Shelf, O: Sink>(
 ) -> Result<(), Refusal<'a>>
     ensures meets { IfSome (S.files shelf.old) (λ files.
         Meets files (obs program.entry.now packets.entry.now) result (O.taken out.old) (O.taken out.new)) }
-    ensures devices { ReadsAndWrites (S.files shelf.old) (S.files shelf.new) (S.faults shelf.old) (S.faults shelf.new) (O.faults out.old) (O.faults out.new) result }
+    ensures devices { ReadsAndWrites (S.files shelf.old) (S.files shelf.new) (S.faults shelf.old) (S.faults shelf.new)
+        (O.faults out.old) (O.faults out.new) result }
     ensures statuses { EndsWith (statuses_of (obs program.entry.now packets.entry.now)) result }
 {
     match load_program(alloc, shelf, program) {
@@ -48,7 +49,8 @@ fn report_of<'a, S: Shelf, O: Sink>(
     requires { IsBounded program.now }
     ensures meets { IfSome (S.files shelf.old) (λ files.
         MeetsRun program.now packets.entry.now (file_of files packets.entry.now) result (O.taken out.old) (O.taken out.new)) }
-    ensures devices { ReadsAndWrites (S.files shelf.old) (S.files shelf.new) (S.faults shelf.old) (S.faults shelf.new) (O.faults out.old) (O.faults out.new) result }
+    ensures devices { ReadsAndWrites (S.files shelf.old) (S.files shelf.new) (S.faults shelf.old) (S.faults shelf.new)
+        (O.faults out.old) (O.faults out.new) result }
     ensures statuses { EndsWith (2 ∷ 6 ∷ 12 ∷ 15 ∷ []) result }
 {
     match one_switch(alloc, shelf, packets, program, out) {

@@ -31,7 +31,8 @@ pub(crate) fn report_by_rounds<'a, R: Threads + Sync, S: Shelf, O: Sink>(
 ) -> Result<(), Refusal<'a>>
     ensures meets { IfSome (S.files shelf.old) (λ files.
         MeetsByRounds files tables hops packets.entry result (O.taken out.old) (O.taken out.new)) }
-    ensures devices { ReadsAndWrites (S.files shelf.old) (S.files shelf.new) (S.faults shelf.old) (S.faults shelf.new) (O.faults out.old) (O.faults out.new) result }
+    ensures devices { ReadsAndWrites (S.files shelf.old) (S.files shelf.new) (S.faults shelf.old) (S.faults shelf.new)
+        (O.faults out.old) (O.faults out.new) result }
     ensures statuses { EndsWith (statuses_of_trace (rounds workers.value)) result }
 {
     if has_turns(&tables) {
@@ -55,7 +56,8 @@ fn report_rounds<'a, R: Threads + Sync, S: Shelf, O: Sink>(
     requires version { tables.version ≡ 2 }
     ensures meets { IfSome (S.files shelf.old) (λ files.
         MeetsRounds files tables hops packets.entry result (O.taken out.old) (O.taken out.new)) }
-    ensures devices { ReadsAndWrites (S.files shelf.old) (S.files shelf.new) (S.faults shelf.old) (S.faults shelf.new) (O.faults out.old) (O.faults out.new) result }
+    ensures devices { ReadsAndWrites (S.files shelf.old) (S.files shelf.new) (S.faults shelf.old) (S.faults shelf.new)
+        (O.faults out.old) (O.faults out.new) result }
     ensures statuses { EndsWith (statuses_of_trace plain) result }
 {
     match trace_workers(

@@ -33,7 +33,8 @@ pub(crate) fn report<'a, S: Shelf, O: Sink>(
 ) -> Result<(), Refusal<'a>>
     ensures meets { IfSome (S.files shelf.old) (λ files.
         Meets files (routes name.entry.now) result (O.taken out.old) (O.taken out.new)) }
-    ensures devices { ReadsAndWrites (S.files shelf.old) (S.files shelf.new) (S.faults shelf.old) (S.faults shelf.new) (O.faults out.old) (O.faults out.new) result }
+    ensures devices { ReadsAndWrites (S.files shelf.old) (S.files shelf.new) (S.faults shelf.old) (S.faults shelf.new)
+        (O.faults out.old) (O.faults out.new) result }
     ensures statuses { EndsWith (statuses_of (routes name.entry.now)) result }
 {
     match load_topology(alloc, shelf, name) {

@@ -29,7 +29,8 @@ pub(crate) fn report_scheduled<'a, S: Shelf, O: Sink>(
 ) -> Result<(), Refusal<'a>>
     ensures meets { IfSome (S.files shelf.old) (λ files. MeetsSchedule tables hops packets.entry lines.entry
         (file_of files packets.entry.now) (file_of files lines.entry.now) result (O.taken out.old) (O.taken out.new)) }
-    ensures devices { ReadsAndWrites (S.files shelf.old) (S.files shelf.new) (S.faults shelf.old) (S.faults shelf.new) (O.faults out.old) (O.faults out.new) result }
+    ensures devices { ReadsAndWrites (S.files shelf.old) (S.files shelf.new) (S.faults shelf.old) (S.faults shelf.new)
+        (O.faults out.old) (O.faults out.new) result }
     ensures statuses { EndsWith (statuses_of_trace (schedule lines.entry.now)) result }
 {
     match scheduled(alloc, shelf, packets, lines, tables, hops, out) {

@@ -78,7 +78,8 @@ fn run<'a, R: Threads + Sync, S: Shelf, O: Sink>(
         MeetsWords files (bytes_of words.entry.now) result (O.taken out.old) (O.taken out.new)) }
     ensures usage_comes { command_of (bytes_of words.entry.now) ≡ None → IsErrOf result Refusal.Usage ⊎ IsErrOf result Refusal.NoMemory }
     ensures nothing { command_of (bytes_of words.entry.now) ≡ None → Appends (O.taken out.old) (O.taken out.new) [] }
-    ensures devices { ReadsAndWrites (S.files shelf.old) (S.files shelf.new) (S.faults shelf.old) (S.faults shelf.new) (O.faults out.old) (O.faults out.new) result }
+    ensures devices { ReadsAndWrites (S.files shelf.old) (S.files shelf.new) (S.faults shelf.old) (S.faults shelf.new)
+        (O.faults out.old) (O.faults out.new) result }
     ensures statuses { IfSome (command_of (bytes_of words.entry.now)) (λ command. CanAnswer command (status_of result)) }
     ensures demo { (switches : ℕ) → command_of (bytes_of words.entry.now) ≡ Some (demo switches) → (files : Files) →
         MeetsWords files (bytes_of words.entry.now) result (O.taken out.old) (O.taken out.new) }

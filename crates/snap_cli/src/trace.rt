@@ -37,7 +37,8 @@ pub(crate) fn report<'a, R: Threads + Sync, S: Shelf, O: Sink>(
 ) -> Result<(), Refusal<'a>>
     ensures meets { IfSome (S.files shelf.old) (λ files.
         Meets files (trace tables.entry.now packets.entry.now hops (shown_order order.entry)) result (O.taken out.old) (O.taken out.new)) }
-    ensures devices { ReadsAndWrites (S.files shelf.old) (S.files shelf.new) (S.faults shelf.old) (S.faults shelf.new) (O.faults out.old) (O.faults out.new) result }
+    ensures devices { ReadsAndWrites (S.files shelf.old) (S.files shelf.new) (S.faults shelf.old) (S.faults shelf.new)
+        (O.faults out.old) (O.faults out.new) result }
     ensures statuses { EndsWith (statuses_of_trace (shown_order order.entry)) result }
 {
     match load_tables(alloc, shelf, tables) {
@@ -59,7 +60,8 @@ fn report_in_order<'a, R: Threads + Sync, S: Shelf, O: Sink>(
 ) -> Result<(), Refusal<'a>>
     ensures meets { IfSome (S.files shelf.old) (λ files.
         MeetsOrder files tables hops packets.entry order.entry result (O.taken out.old) (O.taken out.new)) }
-    ensures devices { ReadsAndWrites (S.files shelf.old) (S.files shelf.new) (S.faults shelf.old) (S.faults shelf.new) (O.faults out.old) (O.faults out.new) result }
+    ensures devices { ReadsAndWrites (S.files shelf.old) (S.files shelf.new) (S.faults shelf.old) (S.faults shelf.new)
+        (O.faults out.old) (O.faults out.new) result }
     ensures statuses { EndsWith (statuses_of_trace (shown_order order.entry)) result }
 {
     match order {
@@ -88,7 +90,8 @@ fn report_of<'a, S: Shelf, O: Sink>(
 ) -> Result<(), Refusal<'a>>
     ensures meets { IfSome (S.files shelf.old) (λ files.
         MeetsTrace tables hops packets.entry (file_of files packets.entry.now) result (O.taken out.old) (O.taken out.new)) }
-    ensures devices { ReadsAndWrites (S.files shelf.old) (S.files shelf.new) (S.faults shelf.old) (S.faults shelf.new) (O.faults out.old) (O.faults out.new) result }
+    ensures devices { ReadsAndWrites (S.files shelf.old) (S.files shelf.new) (S.faults shelf.old) (S.faults shelf.new)
+        (O.faults out.old) (O.faults out.new) result }
     ensures statuses { EndsWith (statuses_of_trace plain) result }
 {
     match trace(alloc, shelf, packets, tables, hops, out) {
