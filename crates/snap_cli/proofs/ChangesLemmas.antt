@@ -1,7 +1,7 @@
 -- What `trace --changes` did, from what its steps did.
 use Rattle.std.proofs.Common.{◌≡◌, ◌≢◌, ℕ, ◌+◌, ◌<◌, ◌≤◌, Bool, List, [], ◌∷◌, ◌++◌, Option, Some, None, IfSome, Result, Ok, Err, length, drop, take, refl, sym, ap, subst, ◌∙◌, inl, inr, append_assoc, append-nil, add-one, get_or}
 use Rattle.std.proofs.Math.Seq.{drop-cons}
-use Rattle.std.proofs.lemmas.List.Elements.{All-more, All-nil}
+use Rattle.std.proofs.lemmas.List.Elements.{All-more}
 use Rattle.std.proofs.lemmas.Option.{slice_get-get_or}
 use Rattle.std.specs.List.{All}
 use Rattle.std.specs.Borrow.{Bor}
@@ -58,10 +58,6 @@ before-then xs ys (Err e) = refl
 -- the tables of these changes stand before those of the others
 abbrev pub Extends : Files → Tables → (all others : List Change) → List Later → Type 0
 Extends files first all others ls = (r : Result (List Later) Refusal) → LaterOf files first others r → LaterOf files first all (before ls r)
-
-pub extends-none : (files : Files) (first : Tables) (all : List Change) → Extends files first all all []
-extends-none files first all (Ok ls) h = h
-extends-none files first all (Err e) h = h
 
 pub extends-more : (files : Files) (first : Tables) (all others : List Change) (c : Change) (ls : List Later) (l : Later) → Extends files first all (c ∷ others) ls → IsLater files first c l → Extends files first all others (ls ++ l ∷ [])
 extends-more files first all others c ls l so is r h =
@@ -151,20 +147,11 @@ told-no_more (Some files) now first all i c ls e same within is h m =
     by-map (λ failed. failed ≡ c.name) (IsReachedChange files first all) (RefusesLater files first c) (λ x. LaterOf files first all (Err x)) (λ failed name. (i, c, there, name, h.1))
     (λ x no. extends-refused files first all (drop (i + 1) all) c ls x so no) e (subst (λ o. IfSome o (λ files. LoadsLater files first c (Err e))) same m)
 
--- memory is short
-pub told-short : (told : Option Files) (first : Tables) (all : List Change) → IfSome told (λ files. LoadsLaters files first all (Err NoMemory))
-told-short None first all = tt
-told-short (Some files) first all = tt
-
 -- all were read
 pub told-all : (told : Option Files) (first : Tables) (all : List Change) (i : ℕ) (ls : List Later) → drop i all ≡ [] → IfSome told (λ files. Loaded files first all i ls) → IfSome told (λ files. LaterOf files first all (Ok ls))
 told-all None first all i ls none h = tt
 told-all (Some files) first all i ls none h =
     subst (λ (x : List Later). LaterOf files first all (Ok x)) (append-nil ls) (subst (λ cs. Extends files first all cs ls) none h.0 (Ok []) refl)
-
-pub told-none : (told : Option Files) (first : Tables) (all : List Change) → IfSome told (λ files. Loaded files first all 0 [])
-told-none None first all = tt
-told-none (Some files) first all = (extends-none files first all, All-nil (HasLater files first))
 
 -- ---- the changes of a file
 pub loads-all : (files : Files) (first : Tables) (name : List ℕ) (cs : List Change) (r : Result (Vec Later Global) Refusal) → ChangesOf (file_of files name) (Ok cs) → LoadsLaters files first cs r → LoadsChanges files first name r

@@ -6,7 +6,7 @@ use Rattle.std.proofs.lemmas.List.Elements.{All-push}
 use Rattle.snap_move.specs.declared.change.Change.{Change}
 use Rattle.snap_move.specs.declared.later.Later.{Later}
 use Rattle.snap_move.specs.Shapes.{HaveOneShape}
-use Rattle.snap_cli.proofs.ChangesLemmas.{Loaded, told-all, told-more, told-no_more, told-none, told-short}
+use Rattle.snap_cli.proofs.ChangesLemmas.{Loaded, told-all, told-more, told-no_more}
 use Rattle.snap_cli.specs.ChangesSteps.{LoadsLaters, afters, afters_of}
 use Rattle.snap_cli.proofs.Relayed.{relayed}
 use Rattle.snap_cli.proofs.changes.load_all.Goals as goal
