@@ -1,7 +1,7 @@
 -- What `trace --changes` did, from what its steps did.
 use Rattle.std.proofs.Common.{◌≡◌, ◌≢◌, ℕ, ◌+◌, ◌<◌, ◌≤◌, Bool, List, [], ◌∷◌, ◌++◌, Option, Some, None, IfSome, Result, Ok, Err, length, drop, take, refl, sym, ap, subst, ◌∙◌, inl, inr, append_assoc, append-nil, add-one, get_or}
 use Rattle.std.proofs.Math.Seq.{drop-cons}
-use Rattle.std.proofs.lemmas.List.Elements.{All-more, All-nil}
+use Rattle.std.proofs.lemmas.List.Elements.{All-more}
 use Rattle.std.proofs.lemmas.Option.{slice_get-get_or}
 use Rattle.std.specs.List.{All}
 use Rattle.std.specs.Borrow.{Bor}
@@ -23,15 +23,13 @@ use Rattle.snap_words.specs.Commands.{Command, changes, trace}
 use Rattle.snap_cli.specs.declared.refusal.Refusal.{Refusal}
 use Rattle.snap_cli.specs.declared.refusal.Refusal.TheVariants.{Limit, NoMemory, Packets}
 use Rattle.snap_cli.specs.Changes.{ChangedTables, ChangesOf, HasLater, IsLater, IsReachedByChanges, IsReachedChange, LaterOf, RefusesLater, before, refusal_of_changes, said_changes}
-use Rattle.snap_cli.specs.ChangesSteps.{GivesChanges, LoadsChanges, LoadsLater, LoadsLaters, MeetsChanges, MeetsLater, ReadsChanges, afters, afters_of}
+use Rattle.snap_cli.specs.ChangesSteps.{GivesChanges, LoadsChanges, LoadsLater, LoadsLaters, MeetsChanges, ReadsChanges, afters, afters_of}
 use Rattle.snap_cli.specs.Deserved.{Ends, IsText, MayPrecedeRead, Meets}
 use Rattle.snap_cli.specs.Obs.{IsRunEnding}
 use Rattle.snap_cli.specs.Refusals.{Ending}
 use Rattle.snap_cli.specs.RunSteps.{ending_of_run}
 use Rattle.snap_cli.specs.TablesOf.{TablesOf}
-use Rattle.snap_move.specs.Shapes.{HaveOneShape}
 use Rattle.snap_cli.specs.Texts.{GivesText, IsTooLong, RefusesBy}
-use Rattle.snap_cli.specs.TraceSteps.{LoadsTables}
 use Rattle.snap_cli.proofs.RefusedBy.{by-map, meets-by}
 
 -- ---- the changes file
@@ -43,23 +41,13 @@ read-refused text fault.NoMemory h = tt
 pub reads-told : (text : List ℕ) (e : ChangesFault) (r : Refusal) → r ≡ refusal_of_changes e → (e ≢ fault.NoMemory → changes_of text ≡ Err e) → ReadsChanges text (Err r)
 reads-told text e r is h = subst (λ x. ReadsChanges text (Err x)) (sym is) (read-refused text e h)
 
-gives-read : (name file : List ℕ) (r : Result (Vec Change Global) Refusal) → length file ≤ 1048576 → ReadsChanges file r → GivesChanges name file r
+pub gives-read : (name file : List ℕ) (r : Result (Vec Change Global) Refusal) → length file ≤ 1048576 → ReadsChanges file r → GivesChanges name file r
 gives-read name file (Ok cs) short h = inr (short, sym (ap said_changes h))
 gives-read name file (Err e) short h =
     by-map (λ failed. ⊥) (λ failed. failed ≡ name) (λ x. said_changes (changes_of file) ≡ Err x) (λ x. ChangesOf file (Err x)) (λ failed no. absurd no) (λ x is. inr (short, sym is)) e h
 
-pub told-lines : (told : Option Files) (name : List ℕ) (text : Vec ℕ Global) (seen : List ℕ) (r : Result (Vec Change Global) Refusal) → IfSome told (λ files. GivesText 1048576 name (file_of files name) (Ok text))
-    → seen ≡ text.items → ReadsChanges seen r → IfSome told (λ files. GivesChanges name (file_of files name) r)
-told-lines None name text seen r h same reads = tt
-told-lines (Some files) name text seen r h same reads =
-    let file = file_of files name in
-    gives-read name file r h.1 (subst (λ x. ReadsChanges x r) h.0 (subst (λ x. ReadsChanges x r) same reads))
-
-pub told-no_lines : (told : Option Files) (name : List ℕ) (e : Refusal) → IfSome told (λ files. GivesText 1048576 name (file_of files name) (Err e))
-    → IfSome told (λ files. GivesChanges name (file_of files name) (Err e))
-told-no_lines None name e h = tt
-told-no_lines (Some files) name e h =
-    let file = file_of files name in
+pub gives-none : (name file : List ℕ) (e : Refusal) → GivesText 1048576 name file (Err e) → GivesChanges name file (Err e)
+gives-none name file e h =
     by-map (λ failed. failed ≡ name) (λ failed. failed ≡ name) (IsTooLong 1048576 file) (λ x. ChangesOf file (Err x)) (λ failed is. is) (λ x no. inl (no.0, ap (λ y. Err y) no.1)) e h
 
 -- ---- tables of changes
@@ -70,10 +58,6 @@ before-then xs ys (Err e) = refl
 -- the tables of these changes stand before those of the others
 abbrev pub Extends : Files → Tables → (all others : List Change) → List Later → Type 0
 Extends files first all others ls = (r : Result (List Later) Refusal) → LaterOf files first others r → LaterOf files first all (before ls r)
-
-pub extends-none : (files : Files) (first : Tables) (all : List Change) → Extends files first all all []
-extends-none files first all (Ok ls) h = h
-extends-none files first all (Err e) h = h
 
 pub extends-more : (files : Files) (first : Tables) (all others : List Change) (c : Change) (ls : List Later) (l : Later) → Extends files first all (c ∷ others) ls → IsLater files first c l → Extends files first all others (ls ++ l ∷ [])
 extends-more files first all others c ls l so is r h =
@@ -135,31 +119,6 @@ module _ (files : Files) (name : List ℕ) (packets : Bor (List ℕ)) (lines : L
   meets-changes e (inl m) = subst (λ x. Meets files command x old new) (sym m.2) (refused-so m.0 m.1 m.3)
   meets-changes e (inr m) = subst (λ x. Meets files command x old new) (sym m.2.2) (meets-run m.0 m.1 m.2.0 m.2.1)
 
--- ---- what is told
-pub told-later : (told : Option Files) (t : Tables) (later : List Later) (hops : Bool) (packets : Bor (List ℕ)) (old new : Option (List ℕ)) (r : RunEnding) (e : Ending) → e ≡ ending_of_run packets r
-    → IfSome told (λ files. WritesChanged t later hops (file_of files packets.now) r old new) → IfSome told (λ files. MeetsLater t later hops packets (file_of files packets.now) e old new)
-told-later None t later hops packets old new r e is m = tt
-told-later (Some files) t later hops packets old new r e is m = (r, m, is)
-
--- the tables were all read, and this is what their run did
-pub told-changes : (told now : Option Files) (t : Tables) (later : Vec Later Global) (hops : Bool) (packets : Bor (List ℕ)) (lines : List ℕ) (old new : Option (List ℕ)) (e : Ending) → now ≡ told
-    → IfSome told (λ files. LoadsChanges files t lines (Ok later)) → IfSome now (λ files. MeetsLater t later.items hops packets (file_of files packets.now) e old new)
-    → IfSome told (λ files. MeetsChanges files t hops packets lines e old new)
-told-changes None now t later hops packets lines old new e same h m = tt
-told-changes (Some files) now t later hops packets lines old new e same h m =
-    inr (later.items, h, subst (λ o. IfSome o (λ files. MeetsLater t later.items hops packets (file_of files packets.now) e old new)) same m)
-
--- a file of the changes was refused, and nothing went out
-pub told-no_changes : (told : Option Files) (t : Tables) (hops : Bool) (packets : Bor (List ℕ)) (lines : List ℕ) (out : Option (List ℕ)) (e : Refusal)
-    → IfSome told (λ files. LoadsChanges files t lines (Err e)) → IfSome told (λ files. MeetsChanges files t hops packets lines (Err e) out out)
-told-no_changes None t hops packets lines out e h = tt
-told-no_changes (Some files) t hops packets lines out e h = inl (e, h, refl, refl)
-
--- ---- one change
-pub told-one_later : (told : Option Files) (first : Tables) (c : Change) (t : Tables) → IfSome told (λ files. LoadsTables c.name (file_of files c.name) (Ok t)) → HaveOneShape t first → IfSome told (λ files. LoadsLater files first c (Ok (record { after = c.after; tables = t })))
-told-one_later None first c t h same = tt
-told-one_later (Some files) first c t h same = record { after = refl; spelled = h; shape = same }
-
 -- ---- all changes
 -- these stand for the first changes, whose files spell them, before those of the others
 abbrev pub Loaded : Files → Tables → (all : List Change) → (i : ℕ) → List Later → Type 0
@@ -188,31 +147,15 @@ told-no_more (Some files) now first all i c ls e same within is h m =
     by-map (λ failed. failed ≡ c.name) (IsReachedChange files first all) (RefusesLater files first c) (λ x. LaterOf files first all (Err x)) (λ failed name. (i, c, there, name, h.1))
     (λ x no. extends-refused files first all (drop (i + 1) all) c ls x so no) e (subst (λ o. IfSome o (λ files. LoadsLater files first c (Err e))) same m)
 
--- memory is short
-pub told-short : (told : Option Files) (first : Tables) (all : List Change) → IfSome told (λ files. LoadsLaters files first all (Err NoMemory))
-told-short None first all = tt
-told-short (Some files) first all = tt
-
 -- all were read
 pub told-all : (told : Option Files) (first : Tables) (all : List Change) (i : ℕ) (ls : List Later) → drop i all ≡ [] → IfSome told (λ files. Loaded files first all i ls) → IfSome told (λ files. LaterOf files first all (Ok ls))
 told-all None first all i ls none h = tt
 told-all (Some files) first all i ls none h =
     subst (λ (x : List Later). LaterOf files first all (Ok x)) (append-nil ls) (subst (λ cs. Extends files first all cs ls) none h.0 (Ok []) refl)
 
-pub told-none : (told : Option Files) (first : Tables) (all : List Change) → IfSome told (λ files. Loaded files first all 0 [])
-told-none None first all = tt
-told-none (Some files) first all = (extends-none files first all, All-nil (HasLater files first))
-
 -- ---- the changes of a file
-loads-all : (files : Files) (first : Tables) (name : List ℕ) (cs : List Change) (r : Result (Vec Later Global) Refusal) → ChangesOf (file_of files name) (Ok cs) → LoadsLaters files first cs r → LoadsChanges files first name r
+pub loads-all : (files : Files) (first : Tables) (name : List ℕ) (cs : List Change) (r : Result (Vec Later Global) Refusal) → ChangesOf (file_of files name) (Ok cs) → LoadsLaters files first cs r → LoadsChanges files first name r
 loads-all files first name cs (Ok later) said h = inr (cs, said, h)
 loads-all files first name cs (Err e) said h =
     by-map (IsReachedChange files first cs) (IsReachedByChanges files first name) (λ x. LaterOf files first cs (Err x)) (λ x. ChangedTables files first name (Err x))
     (λ failed is. inr (cs, said, is)) (λ x why. inr (cs, said, why)) e h
-
--- they were read, after which the shelf tells the same files, and their tables were, or can't be
-pub told-tables : (told now : Option Files) (first : Tables) (name : List ℕ) (cs : Vec Change Global) (seen : List Change) (r : Result (Vec Later Global) Refusal) → now ≡ told
-    → IfSome told (λ files. GivesChanges name (file_of files name) (Ok cs)) → seen ≡ cs.items → IfSome now (λ files. LoadsLaters files first seen r) → IfSome told (λ files. LoadsChanges files first name r)
-told-tables None now first name cs seen r same h is m = tt
-told-tables (Some files) now first name cs seen r same h is m =
-    loads-all files first name cs.items r h (subst (λ x. LoadsLaters files first x r) is (subst (λ o. IfSome o (λ x. LoadsLaters x first seen r)) same m))

@@ -1,5 +1,5 @@
 -- What a run in turn did, as the command tells it.
-use Rattle.std.proofs.Common.{◌≡◌, ℕ, Bool, List, [], Option, Some, None, IfSome, Result, Ok, Err, refl, sym, subst, inl, inr}
+use Rattle.std.proofs.Common.{◌≡◌, ℕ, Bool, List, [], Option, Some, None, Result, Ok, Err, refl, sym, subst, inl, inr}
 use Rattle.std.specs.Borrow.{Bor}
 use Rattle.std.specs.Prelude.{option_map}
 use Rattle.std.specs.Io.KnownBytes.{Appends}
@@ -86,16 +86,3 @@ module _ (files : Files) (name : List ℕ) (packets : Bor (List ℕ)) (hops : Bo
   pub meets-in_turn : (lines : Option (Bor (List ℕ))) (e : Ending) → MeetsInTurn files t hops packets lines e old new → Meets files (ordered (option_map (λ l. l.now) lines)) e old new
   meets-in_turn lines e (inl m) = subst (λ x. Meets files (ordered (option_map (λ l. l.now) lines)) x old new) (sym m.1) (version_one (option_map (λ l. l.now) lines) m.0 m.2)
   meets-in_turn lines e (inr m) = meets-turns m.0 lines e m.1
-
--- ---- what is told
--- one packet after the other
-pub told-each : (told : Option Files) (t : Tables) (hops : Bool) (packets : Bor (List ℕ)) (old new : Option (List ℕ)) (r : RunEnding) (e : Ending) → e ≡ ending_of_run packets r
-    → IfSome told (λ files. WritesTrace t hops (file_of files packets.now) r old new) → IfSome told (λ files. MeetsTurns files t hops packets None e old new)
-told-each None t hops packets old new r e is m = tt
-told-each (Some files) t hops packets old new r e is m = (r, m, is)
-
--- in the order of a schedule
-pub told-lines : (told : Option Files) (t : Tables) (hops : Bool) (packets lines : Bor (List ℕ)) (old new : Option (List ℕ)) (r : Result (Unit {0}) ScheduleFault) (e : Ending) → e ≡ ending_of_schedule packets lines r
-    → IfSome told (λ files. WritesSchedule t hops (file_of files packets.now) (file_of files lines.now) r old new) → IfSome told (λ files. MeetsTurns files t hops packets (Some lines) e old new)
-told-lines None t hops packets lines old new r e is m = tt
-told-lines (Some files) t hops packets lines old new r e is m = (r, m, is)

@@ -16,6 +16,7 @@ pub mod InTurnLemmas
 pub mod InTurnOnce
 pub mod InTurnTraced
 pub mod NamedWords
+pub mod InputsLemmas
 pub mod NetworkLemmas
 pub mod ObsLemmas
 pub mod ObsOnce
@@ -31,6 +32,7 @@ pub mod PlacementOnce
 pub mod ProgramOnce
 pub mod Refused
 pub mod RefusedBy
+pub mod Relayed
 pub mod Rising
 pub mod RoundsLemmas
 pub mod RoundsOnce

@@ -1,5 +1,5 @@
 -- What `obs` did, from what its steps did.
-use Rattle.std.proofs.Common.{◌≡◌, ℕ, List, Option, Some, None, IfSome, Ok, Err, refl, sym, subst, inl, inr}
+use Rattle.std.proofs.Common.{ℕ, List, Option, Ok, Err, refl, inl, inr}
 use Rattle.snap_core.specs.declared.program.Program.{Program}
 use Rattle.snap_io.specs.Files.{Files, file_of}
 use Rattle.std.specs.Borrow.{Bor}
@@ -8,13 +8,12 @@ use Rattle.snap_trace.specs.declared.fault.TraceFault.{TraceFault}
 use Rattle.snap_trace.specs.declared.fault.TraceFault.TheVariants as run
 use Rattle.snap_trace.specs.OneSwitch.{WritesReport}
 use Rattle.snap_words.specs.Commands.{obs}
-use Rattle.snap_cli.specs.declared.refusal.Refusal.{Refusal}
 use Rattle.snap_cli.specs.declared.refusal.Refusal.TheVariants.{Read, ReadChange, Write, NoMemory}
 use Rattle.snap_cli.specs.Deserved.{Meets}
 use Rattle.snap_cli.specs.Obs.{EndsObs, IsObsText, MeetsRun, RunsTo}
 use Rattle.snap_cli.specs.ProgramOf.{ProgramOf}
 use Rattle.snap_cli.specs.Refusals.{Ending}
-use Rattle.snap_cli.specs.Steps.{GivesProgram, refusal_of_run}
+use Rattle.snap_cli.specs.Steps.{refusal_of_run}
 use Rattle.snap_cli.proofs.Refused.{Refuses}
 
 pub obs-refuses : (p q : List ℕ) (files : Files) → Refuses files (obs p q) p
@@ -28,7 +27,7 @@ whole-run files p q program old new e h m =
     (inr (program, h, (m.0, run)), (m.0, inr (program, h, (run.0, run.1)), m.2))
 
 -- the program was read, and this is what its run did
-meets-run : (files : Files) (p q : List ℕ) (program : Program) (old new : Option (List ℕ)) (e : Ending) → ProgramOf (file_of files p) (Ok program)
+pub meets-run : (files : Files) (p q : List ℕ) (program : Program) (old new : Option (List ℕ)) (e : Ending) → ProgramOf (file_of files p) (Ok program)
     → MeetsRun program q (file_of files q) e old new → Meets files (obs p q) e old new
 meets-run files p q program old new (Ok u) h m = whole-run files p q program old new (Ok u) h m
 meets-run files p q program old new (Err (Read name)) h m = (m.1.0, inr (m.0, (program, h, m.1.1)), m.1.2)
@@ -38,18 +37,11 @@ meets-run files p q program old new (Err Write) h (inl m) = inl (m.0, inr (progr
 meets-run files p q program old new (Err Write) h (inr m) = inr (m.0, inr (program, h, m.1), m.2)
 meets-run files p q program old new (Err e) h m = whole-run files p q program old new (Err e) h m
 
-pub obs-run : (told now : Option Files) (p q : List ℕ) (program : Program) (old new : Option (List ℕ)) (e : Ending) → now ≡ told
-    → IfSome told (λ files. GivesProgram p (file_of files p) (Ok program)) → IfSome now (λ files. MeetsRun program q (file_of files q) e old new)
-    → IfSome told (λ files. Meets files (obs p q) e old new)
-obs-run None now p q program old new e same h m = tt
-obs-run (Some files) now p q program old new e same h m =
-    meets-run files p q program old new e h (subst (λ o. IfSome o (λ files. MeetsRun program q (file_of files q) e old new)) same m)
-
 -- the run of a program, as the command tells it
-run-ok : (program : Program) (packets file : List ℕ) (old new : Option (List ℕ)) → WritesReport program file (Ok tt) old new → MeetsRun program packets file (Ok tt) old new
+pub run-ok : (program : Program) (packets file : List ℕ) (old new : Option (List ℕ)) → WritesReport program file (Ok tt) old new → MeetsRun program packets file (Ok tt) old new
 run-ok program packets file old new m = (m.0, (Ok tt, m.1, refl), m.2)
 
-run-err : (program : Program) (packets : Bor (List ℕ)) (file : List ℕ) (old new : Option (List ℕ)) (fault : TraceFault) → WritesReport program file (Err fault) old new
+pub run-err : (program : Program) (packets : Bor (List ℕ)) (file : List ℕ) (old new : Option (List ℕ)) (fault : TraceFault) → WritesReport program file (Err fault) old new
     → MeetsRun program packets.now file (Err (refusal_of_run packets fault)) old new
 run-err program packets file old new run.Read m = (refl, m)
 run-err program packets file old new run.Write m = m
@@ -57,16 +49,3 @@ run-err program packets file old new run.NoMemory m = m
 run-err program packets file old new (run.Limit which count) m = (m.0, (Err (run.Limit which count), m.1, refl), m.2)
 run-err program packets file old new (run.Packets line) m = (m.0, (Err (run.Packets line), m.1, refl), m.2)
 run-err program packets file old new (run.Undefined packet) m = (m.0, (Err (run.Undefined packet), m.1, refl), m.2)
-
-pub told-ok : (told : Option Files) (program : Program) (q : List ℕ) (old new : Option (List ℕ)) → IfSome told (λ files. WritesReport program (file_of files q) (Ok tt) old new)
-    → IfSome told (λ files. MeetsRun program q (file_of files q) (Ok tt) old new)
-told-ok None program q old new m = tt
-told-ok (Some files) program q old new m = run-ok program q (file_of files q) old new m
-
-pub told-err : (told : Option Files) (program : Program) (packets : Bor (List ℕ)) (old new : Option (List ℕ)) (fault : TraceFault) (e : Refusal) → e ≡ refusal_of_run packets fault
-    → IfSome told (λ files. WritesReport program (file_of files packets.now) (Err fault) old new)
-    → IfSome told (λ files. MeetsRun program packets.now (file_of files packets.now) (Err e) old new)
-told-err None program packets old new fault e is m = tt
-told-err (Some files) program packets old new fault e is m =
-    let file = file_of files packets.now in
-    subst (λ x. MeetsRun program packets.now file (Err x) old new) (sym is) (run-err program packets file old new fault m)

@@ -1,5 +1,5 @@
 -- A command whose program was refused before anything went out.
-use Rattle.std.proofs.Common.{ℕ, List, [], Option, Some, None, IfSome, Err, sym, subst}
+use Rattle.std.proofs.Common.{ℕ, List, [], Option, Err, sym, subst}
 use Rattle.std.proofs.KnownBytes.{Appends-nil}
 use Rattle.snap_io.specs.Files.{Files, file_of}
 use Rattle.snap_words.specs.Commands.{Command}
@@ -25,8 +25,3 @@ meets-refused files command program out (Syntax fault spot) r h = (r.ends (Synta
 meets-refused files command program out (Naming fault spot) r h = (r.ends (Naming fault spot) h, ([], r.text (Naming fault spot) h, Appends-nil out))
 meets-refused files command program out (Limit which count) r h = (r.ends (Limit which count) h, ([], r.text (Limit which count) h, Appends-nil out))
 meets-refused files command program out e r h = absurd h
-
-pub told-refused : (told : Option Files) (command : Command) (program : List ℕ) (out : Option (List ℕ)) (e : Refusal) → ((files : Files) → Refuses files command program)
-    → IfSome told (λ files. GivesProgram program (file_of files program) (Err e)) → IfSome told (λ files. Meets files command (Err e) out out)
-told-refused None command program out e r h = tt
-told-refused (Some files) command program out e r h = meets-refused files command program out e (r files) h

@@ -1,5 +1,5 @@
 -- What a run by rounds did, as the command tells it.
-use Rattle.std.proofs.Common.{◌≡◌, ℕ, Bool, List, [], Option, Some, None, IfSome, Ok, Err, refl, sym, subst, inl, inr}
+use Rattle.std.proofs.Common.{◌≡◌, ℕ, Bool, List, [], Option, Ok, Err, refl, sym, subst, inl, inr}
 use Rattle.std.specs.Borrow.{Bor}
 use Rattle.std.specs.Io.KnownBytes.{Appends}
 use Rattle.snap_io.specs.Files.{Files, file_of}
@@ -16,7 +16,7 @@ use Rattle.snap_cli.specs.Deserved.{Ends, IsText, MayPrecede, MayPrecedeRead, Me
 use Rattle.snap_cli.specs.Obs.{IsRunEnding}
 use Rattle.snap_cli.specs.Refusals.{Ending}
 use Rattle.snap_cli.specs.Rounds.{RoundsTo}
-use Rattle.snap_cli.specs.RoundsSteps.{MeetsByRounds, MeetsRounds}
+use Rattle.snap_cli.specs.RoundsSteps.{MeetsByRounds}
 use Rattle.snap_cli.specs.RunSteps.{ending_of_run}
 use Rattle.snap_cli.specs.TablesOf.{TablesOf}
 use Rattle.snap_cli.proofs.ScheduleLemmas.{none_of, nothing_out}
@@ -51,9 +51,3 @@ module _ (files : Files) (name : List ℕ) (packets : Bor (List ℕ)) (hops : Bo
   pub meets-by_rounds : (e : Ending) → MeetsByRounds files t hops packets e old new → Meets files command e old new
   meets-by_rounds e (inl m) = subst (λ x. Meets files command x old new) (sym m.1) (version_one m.0 m.2)
   meets-by_rounds e (inr m) = subst (λ x. Meets files command x old new) (sym m.1.2) (meets-rounds m.0 m.1.0 m.1.1)
-
--- ---- what is told
-pub told-rounds : (told : Option Files) (t : Tables) (hops : Bool) (packets : Bor (List ℕ)) (old new : Option (List ℕ)) (r : RunEnding) (e : Ending) → e ≡ ending_of_run packets r
-    → IfSome told (λ files. WritesRounds t hops (file_of files packets.now) r old new) → IfSome told (λ files. MeetsRounds files t hops packets e old new)
-told-rounds None t hops packets old new r e is m = tt
-told-rounds (Some files) t hops packets old new r e is m = (r, m, is)

@@ -1,5 +1,5 @@
 -- What `routes` did, from what its steps did.
-use Rattle.std.proofs.Common.{ℕ, List, [], Option, Some, None, IfSome, Ok, Err, refl, sym, subst, inl, inr}
+use Rattle.std.proofs.Common.{ℕ, List, [], Option, Ok, Err, refl, sym, subst, inl, inr}
 use Rattle.std.proofs.KnownBytes.{Appends-nil}
 use Rattle.snap_io.specs.Files.{Files, file_of}
 use Rattle.snap_topo.specs.declared.topology.Topology.{Topology}
@@ -17,7 +17,7 @@ use Rattle.snap_cli.specs.RoutesSteps.{GivesTopology, IsApart, MeetsTopology, Wr
 use Rattle.snap_cli.specs.TopologyOf.{TopologyOf}
 
 module _ (files : Files) (name : List ℕ) (out : Option (List ℕ)) where
-  meets-refused : (e : Refusal) → GivesTopology name (file_of files name) (Err e) → Meets files (routes name) (Err e) out out
+  pub meets-refused : (e : Refusal) → GivesTopology name (file_of files name) (Err e) → Meets files (routes name) (Err e) out out
   meets-refused (Read failed) h = ([], (h, refl), (0, Appends-nil out))
   meets-refused (ReadChange failed) h = ([], (h, refl), (0, Appends-nil out))
   meets-refused NoMemory h = ([], inl refl, (0, Appends-nil out))
@@ -42,7 +42,7 @@ module _ (files : Files) (name : List ℕ) (old new : Option (List ℕ)) (t : To
   meets-written table are (Err NoMemory) h = (routes_text t.switches table, inr (t, table, read, are, refl), h)
   meets-written table are (Err e) h = absurd h
 
-  meets-topology : (e : Ending) → MeetsTopology t e old new → Meets files (routes name) e old new
+  pub meets-topology : (e : Ending) → MeetsTopology t e old new → Meets files (routes name) e old new
   meets-topology e (inl h) = meets-written h.0 h.1 e h.2
   meets-topology e (inr (inl h)) = meets-apart e h
   meets-topology e (inr (inr h)) = subst (λ x. Meets files (routes name) x old new) (sym h.0) ([], inl refl, (0, h.1))
@@ -51,13 +51,3 @@ module _ (files : Files) (name : List ℕ) (old new : Option (List ℕ)) (t : To
 pub meets-fault : (t : Topology) (out : Option (List ℕ)) (fault : RouteFault) → IsCause (IsUnreachable t) fault → MeetsTopology t (Err (refusal_of_routes t.switches fault)) out out
 meets-fault t out (route.Unreachable a b) h = inr (inl (record { a = a; b = b; unreachable = h; is = refl; nothing = Appends-nil out }))
 meets-fault t out route.NoMemory h = inr (inr (refl, Appends-nil out))
-
-pub told-refused : (told : Option Files) (name : List ℕ) (out : Option (List ℕ)) (e : Refusal) → IfSome told (λ files. GivesTopology name (file_of files name) (Err e))
-    → IfSome told (λ files. Meets files (routes name) (Err e) out out)
-told-refused None name out e h = tt
-told-refused (Some files) name out e h = meets-refused files name out e h
-
-pub told-report : (told : Option Files) (name : List ℕ) (old new : Option (List ℕ)) (t : Topology) (e : Ending) → IfSome told (λ files. GivesTopology name (file_of files name) (Ok t))
-    → MeetsTopology t e old new → IfSome told (λ files. Meets files (routes name) e old new)
-told-report None name old new t e h m = tt
-told-report (Some files) name old new t e h m = meets-topology files name old new t h e m

@@ -9,13 +9,14 @@ use Rattle.snap_io.specs.Causes.{HasCause}
 use Rattle.snap_io.specs.Sinks.{AppendsPart}
 use Rattle.snap_cli.specs.declared.refusal.Refusal.{Refusal}
 use Rattle.snap_io.specs.Files.{Files}
-use Rattle.snap_words.specs.Commands.{Command, command_of, obs, deps, check, equal, routes, place, compile, trace, demo}
+use Rattle.snap_words.specs.Commands.{Command, command_of, obs, deps, check, equal, routes, place, compile, trace, demo, plain, schedule, changes, in_turn, rounds}
 use Rattle.snap_cli.specs.Answers.{MeetsWords}
 use Rattle.snap_cli.specs.declared.refusal.Refusal.TheVariants.{Read, ReadChange, Usage, NoMemory}
 use Rattle.snap_cli.specs.Causes.{HasCauses, IsReadOf}
 use Rattle.snap_cli.specs.Deserved.{MayPrecede, Meets, Tells}
 use Rattle.snap_cli.specs.Refusals.{Ending, status_of}
 use Rattle.snap_io.specs.Causes.{Rose}
+use Rattle.snap_cli.specs.Statuses.{CanAnswer}
 
 pub tells : {E : Type 0} (before now : ℕ) (old new : Option (List ℕ)) (message : List ℕ) (r : Result (Unit {0}) E)
     → OnOk r (Appends old new message) → OnErr r (AppendsPart old new message) → HasCause before now r → Tells before now old new message
@@ -58,3 +59,25 @@ meets_any files out (Some command) ending is = subst (λ e. Meets files command 
 pub meets-short : (told : Option Files) (words : List (List ℕ)) (out : Option (List ℕ)) (ending : Ending) → ending ≡ Err NoMemory → IfSome told (λ files. MeetsWords files words ending out out)
 meets-short None words out ending is = tt
 meets-short (Some files) words out ending is = meets_any files out (command_of words) ending is
+
+-- no command ends as words of no form do
+never_usage : (command : Command) → CanAnswer command 1 → ⊥
+never_usage (obs program packets) can = cc
+never_usage (deps program) can = cc
+never_usage (check program) can = cc
+never_usage (equal left right) can = cc
+never_usage (routes topology) can = cc
+never_usage (place program topology demand) can = cc
+never_usage (compile program topology placement on_demand) can = cc
+never_usage (trace tables packets hops plain) can = cc
+never_usage (trace tables packets hops (schedule lines)) can = cc
+never_usage (trace tables packets hops (changes lines)) can = cc
+never_usage (trace tables packets hops (in_turn None)) can = cc
+never_usage (trace tables packets hops (in_turn (Some lines))) can = cc
+never_usage (trace tables packets hops (rounds workers)) can = cc
+never_usage (demo switches) can = cc
+
+-- so 1 is answered to such words alone
+pub only-usage : (said : Option Command) (status : ℕ) → IfSome said (λ command. CanAnswer command status) → status ≡ 1 → said ≡ None
+only-usage None status can one = refl
+only-usage (Some command) status can one = absurd (never_usage command (subst (CanAnswer command) one can))

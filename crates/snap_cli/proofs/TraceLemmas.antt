@@ -1,15 +1,12 @@
 -- What `trace` did, from what its steps did.
-use Rattle.std.proofs.Common.{◌≡◌, ◌≤◌, ℕ, Bool, List, [], Option, Some, None, IfSome, Result, Ok, Err, length, refl, sym, ap, subst, inl, inr}
+use Rattle.std.proofs.Common.{◌≡◌, ◌≤◌, ℕ, Bool, List, [], Option, Result, Ok, Err, length, refl, sym, ap, subst, inl, inr}
 use Rattle.std.specs.Borrow.{Bor}
-use Rattle.std.specs.Prelude.{Vec}
 use Rattle.std.specs.Io.KnownBytes.{Appends}
-use Rattle.std.specs.declared.alloc.Global.{Global}
 use Rattle.snap_io.specs.Files.{Files, file_of}
 use Rattle.snap_rows.specs.declared.tables.Tables.{Tables}
 use Rattle.snap_tables.specs.Lines.{IsRead}
 use Rattle.snap_tables.specs.declared.fault.TablesFault.{TablesFault}
 use Rattle.snap_tables.specs.declared.fault.TablesFault.TheVariants as tables
-use Rattle.snap_trace.specs.declared.fault.TraceFault.{TraceFault}
 use Rattle.snap_trace.specs.declared.fault.TraceFault.TheVariants as run
 use Rattle.snap_trace.specs.OneSwitch.{RunEnding}
 use Rattle.snap_runs.specs.Plain.{IsTrace, WritesTrace}
@@ -29,7 +26,7 @@ use Rattle.snap_cli.specs.RunSteps.{ending_of_run, ending_of_schedule}
 use Rattle.snap_cli.specs.TablesOf.{SpellsTables, TablesOf}
 use Rattle.snap_cli.specs.Texts.{GivesText, IsTooLong}
 use Rattle.snap_cli.specs.Trace.{EndsTrace, IsTraceText}
-use Rattle.snap_cli.specs.TraceSteps.{LoadsTables, MeetsOrder, MeetsSchedule, MeetsTrace, ReadsTables, refusal_of_tables}
+use Rattle.snap_cli.specs.TraceSteps.{LoadsTables, MeetsOrder, ReadsTables, refusal_of_tables}
 use Rattle.snap_cli.proofs.ChangesLemmas.{meets-changes}
 use Rattle.snap_cli.proofs.InTurnLemmas.{meets-in_turn}
 use Rattle.snap_cli.proofs.RoundsLemmas.{meets-by_rounds}
@@ -47,23 +44,13 @@ reads-refused text tables.NoMemory h = tt
 pub reads-told : (text : List ℕ) (fault : TablesFault) (e : Refusal) → e ≡ refusal_of_tables fault → IsRead text (Err fault) → ReadsTables text (Err e)
 reads-told text fault e is h = subst (λ x. ReadsTables text (Err x)) (sym is) (reads-refused text fault h)
 
-loads-read : (name file : List ℕ) (r : Result Tables Refusal) → length file ≤ 67108864 → ReadsTables file r → LoadsTables name file r
+pub loads-read : (name file : List ℕ) (r : Result Tables Refusal) → length file ≤ 67108864 → ReadsTables file r → LoadsTables name file r
 loads-read name file (Ok t) short h = inr (short, h)
 loads-read name file (Err e) short h =
     by-map (λ failed. ⊥) (λ failed. failed ≡ name) (λ x. SpellsTables file (Err x)) (λ x. TablesOf file (Err x)) (λ failed no. absurd no) (λ x no. inr (short, no)) e h
 
-pub told-loaded : (told : Option Files) (name : List ℕ) (text : Vec ℕ Global) (seen : List ℕ) (r : Result Tables Refusal) → IfSome told (λ files. GivesText 67108864 name (file_of files name) (Ok text))
-    → seen ≡ text.items → ReadsTables seen r → IfSome told (λ files. LoadsTables name (file_of files name) r)
-told-loaded None name text seen r h same reads = tt
-told-loaded (Some files) name text seen r h same reads =
-    let file = file_of files name in
-    loads-read name file r h.1 (subst (λ x. ReadsTables x r) h.0 (subst (λ x. ReadsTables x r) same reads))
-
-pub told-unloaded : (told : Option Files) (name : List ℕ) (e : Refusal) → IfSome told (λ files. GivesText 67108864 name (file_of files name) (Err e))
-    → IfSome told (λ files. LoadsTables name (file_of files name) (Err e))
-told-unloaded None name e h = tt
-told-unloaded (Some files) name e h =
-    let file = file_of files name in
+pub loads-none : (name file : List ℕ) (e : Refusal) → GivesText 67108864 name file (Err e) → LoadsTables name file (Err e)
+loads-none name file e h =
     by-map (λ failed. failed ≡ name) (λ failed. failed ≡ name) (IsTooLong 67108864 file) (λ x. TablesOf file (Err x)) (λ failed is. is) (λ x no. inl (no.0, ap (λ y. Err y) no.1)) e h
 
 -- ---- the command
@@ -117,7 +104,7 @@ module _ (files : Files) (name : List ℕ) (packets lines : Bor (List ℕ)) (hop
   meets-schedule (Err order.Write) m = part_went files command packets lines t Reports Refuses so old new m
   meets-schedule (Err order.NoMemory) m = memory_short files command packets lines t Reports Refuses so old new m
 
-meets-order : (files : Files) (name : List ℕ) (packets : Bor (List ℕ)) (hops : Bool) (o : Given) (t : Tables) → TablesOf (file_of files name) (Ok t) → (old new : Option (List ℕ)) (e : Ending)
+pub meets-order : (files : Files) (name : List ℕ) (packets : Bor (List ℕ)) (hops : Bool) (o : Given) (t : Tables) → TablesOf (file_of files name) (Ok t) → (old new : Option (List ℕ)) (e : Ending)
     → MeetsOrder files t hops packets o e old new → Meets files (trace name packets.now hops (shown_order o)) e old new
 meets-order files name packets hops given.Plain t spelled old new e m =
     subst (λ x. Meets files (trace name packets.now hops plain) x old new) (sym m.2) (meets-run files name packets hops t spelled old new m.0 m.1)
@@ -127,30 +114,10 @@ meets-order files name packets hops (given.Changes lines) t spelled old new e m 
 meets-order files name packets hops (given.InTurn lines) t spelled old new e m = meets-in_turn files name packets hops t spelled old new lines e m
 meets-order files name packets hops (given.Rounds workers) t spelled old new e m = meets-by_rounds files name packets hops workers.value t spelled old new e m
 
-pub trace-run : (told now : Option Files) (name : List ℕ) (packets : Bor (List ℕ)) (hops : Bool) (o : Given) (t : Tables) (old new : Option (List ℕ)) (e : Ending) → now ≡ told
-    → IfSome told (λ files. LoadsTables name (file_of files name) (Ok t)) → IfSome now (λ files. MeetsOrder files t hops packets o e old new)
-    → IfSome told (λ files. Meets files (trace name packets.now hops (shown_order o)) e old new)
-trace-run None now name packets hops o t old new e same h m = tt
-trace-run (Some files) now name packets hops o t old new e same h m =
-    meets-order files name packets hops o t h old new e (subst (λ x. IfSome x (λ files. MeetsOrder files t hops packets o e old new)) same m)
-
-pub trace-refused : (told : Option Files) (name packets : List ℕ) (hops : Bool) (order : Order) (out : Option (List ℕ)) (e : Refusal) → IfSome told (λ files. LoadsTables name (file_of files name) (Err e))
-    → IfSome told (λ files. Meets files (trace name packets hops order) (Err e) out out)
-trace-refused None name packets hops order out e h = tt
-trace-refused (Some files) name packets hops order out e h =
+pub meets-refused : (files : Files) (name packets : List ℕ) (hops : Bool) (order : Order) (out : Option (List ℕ)) (e : Refusal) → LoadsTables name (file_of files name) (Err e)
+    → Meets files (trace name packets hops order) (Err e) out out
+meets-refused files name packets hops order out e h =
     let command = trace name packets hops order in
     meets-by files command out e (inl refl)
     (by-map (λ failed. failed ≡ name) (λ failed. MayPrecedeRead files command failed []) (λ x. TablesOf (file_of files name) (Err x)) (λ x. Ends files command (Err x) × IsText files command [])
     (λ failed is. inl (is, refl)) (λ x no. (inl (x, no, refl), inl (x, no, refl))) e h)
-
--- the run of tables, as the command tells it
-pub told-trace : (told : Option Files) (t : Tables) (hops : Bool) (packets : Bor (List ℕ)) (old new : Option (List ℕ)) (r : RunEnding) (e : Ending) → e ≡ ending_of_run packets r
-    → IfSome told (λ files. WritesTrace t hops (file_of files packets.now) r old new) → IfSome told (λ files. MeetsTrace t hops packets (file_of files packets.now) e old new)
-told-trace None t hops packets old new r e is m = tt
-told-trace (Some files) t hops packets old new r e is m = (r, m, is)
-
-pub told-schedule : (told : Option Files) (t : Tables) (hops : Bool) (packets lines : Bor (List ℕ)) (old new : Option (List ℕ)) (r : Result (Unit {0}) ScheduleFault) (e : Ending) → e ≡ ending_of_schedule packets lines r
-    → IfSome told (λ files. WritesSchedule t hops (file_of files packets.now) (file_of files lines.now) r old new)
-    → IfSome told (λ files. MeetsSchedule t hops packets lines (file_of files packets.now) (file_of files lines.now) e old new)
-told-schedule None t hops packets lines old new r e is m = tt
-told-schedule (Some files) t hops packets lines old new r e is m = (r, m, is)

@@ -1,21 +1,19 @@
 -- What a step of `compile` gives.
-use Rattle.std.specs.Prelude.{◌≡◌, ◌⊎◌, ℕ, Bool, List, Result, Ok, Err}
+use Rattle.std.specs.Prelude.{◌⊎◌, ℕ, Bool, List, Result, Ok, Err}
 use Rattle.std.specs.declared.option.Option.{Option}
 use Rattle.snap_core.specs.declared.program.Program.{Program}
-use Rattle.snap_io.specs.Files.{Files, file_of}
+use Rattle.snap_io.specs.Files.{Files}
 use Rattle.snap_topo.specs.declared.topology.Topology.{Topology}
-use Rattle.snap_route.specs.Tables.{AreRoutes, Table}
 use Rattle.snap_rows.specs.declared.tables.Tables.{Tables}
 use Rattle.snap_tables.specs.Text.{text as tables_text}
 use Rattle.snap_cli.specs.declared.refusal.Refusal.{Refusal}
 use Rattle.snap_cli.specs.Check.{EndsJudged}
-use Rattle.snap_cli.specs.Compile.{AreMade, AreTables, HasNoTables, HasNoTablesFor, HasNoTablesOn}
-use Rattle.snap_cli.specs.PlacementOf.{PlacementOf, SpellsPlacement}
-use Rattle.snap_cli.specs.Reached.{IsReached, IsReachedOn}
+use Rattle.snap_cli.specs.Compile.{AreMade, AreTables, HasNoTables}
+use Rattle.snap_cli.specs.PlacementOf.{SpellsPlacement}
+use Rattle.snap_cli.specs.Reached.{IsReached}
 use Rattle.snap_cli.specs.Refusals.{Ending}
 use Rattle.snap_cli.specs.RoutesSteps.{Writes}
 use Rattle.snap_cli.specs.Texts.{RefusesBy}
-use Rattle.snap_cli.specs.TopologyOf.{TopologyOf}
 
 -- tables of a program on a topology with this placement, or the program races, as is told
 abbrev pub MakesTables : Program → Topology → (places : List ℕ) → (on_demand : Bool) → Result Tables Refusal → Type 0
@@ -29,17 +27,7 @@ Compiles p t text on_demand (Err e) =
     RefusesBy (λ failed. ⊥)
     (λ refusal. SpellsPlacement p t text (Err refusal) ⊎ ((places : List ℕ) × SpellsPlacement p t text (Ok places) × EndsJudged p (Err refusal))) e
 
--- the same for the file of a placement, for files of a topology and a placement, and for all three
-abbrev pub CompilesFor : Program → Topology → (name file : List ℕ) → (on_demand : Bool) → Result Tables Refusal → Type 0
-CompilesFor p t name file on_demand (Ok tables) = (places : List ℕ) × PlacementOf p t file (Ok places) × AreMade p t places on_demand tables
-CompilesFor p t name file on_demand (Err e) = RefusesBy (λ failed. failed ≡ name) (HasNoTablesFor p t file) e
-
-abbrev pub CompilesOn : Files → Program → (topology placement : List ℕ) → (on_demand : Bool) → Result Tables Refusal → Type 0
-CompilesOn files p topology placement on_demand (Ok tables) =
-    (t : Topology) × (table : Table) × TopologyOf (file_of files topology) (Ok t) × AreRoutes t table
-    × ((places : List ℕ) × PlacementOf p t (file_of files placement) (Ok places) × AreMade p t places on_demand tables)
-CompilesOn files p topology placement on_demand (Err e) = RefusesBy (IsReachedOn files topology placement) (HasNoTablesOn files p topology placement) e
-
+-- the same for the files of a program, a topology and a placement
 abbrev pub GivesTables : Files → (program topology placement : List ℕ) → (on_demand : Bool) → Result Tables Refusal → Type 0
 GivesTables files program topology placement on_demand (Ok tables) = AreTables files program topology placement on_demand tables
 GivesTables files program topology placement on_demand (Err e) = RefusesBy (IsReached files program topology placement) (HasNoTables files program topology placement) e

@@ -14,6 +14,7 @@ pub mod Rounds
 pub mod RoundsSteps
 pub mod Laws
 pub mod Messages
+pub mod InputsSteps
 pub mod NetworkSteps
 pub mod Obs
 pub mod Pairs

@@ -13,8 +13,8 @@ use Rattle.snap_seek.specs.declared.demand.Demand.{Demand}
 use Rattle.snap_seek.specs.Answer.{IsAnswer}
 use Rattle.snap_seek.specs.Placements.{IsBestOf}
 use Rattle.snap_cli.specs.declared.refusal.Refusal.{Refusal}
-use Rattle.snap_cli.specs.Place.{HasNoDemand, HasNoPlacement, HasNoPlacementOn, IsPlaced, IsPlacedOn, IsPlacementOf, SpellsNoDemand}
-use Rattle.snap_cli.specs.Reached.{IsReached, IsReachedOn}
+use Rattle.snap_cli.specs.Place.{HasNoPlacement, IsPlaced, SpellsNoDemand}
+use Rattle.snap_cli.specs.Reached.{IsReached}
 use Rattle.snap_cli.specs.Texts.{RefusesBy}
 
 -- the text of the best placement, for the demand that a text spells
@@ -32,15 +32,7 @@ abbrev pub Places : Program → Topology → Table → (text : List ℕ) → Res
 Places p t table text (Ok made) = IsPlacement p t table text made.items
 Places p t table text (Err e) = RefusesBy (λ failed. ⊥) (SpellsNoDemand p t text) e
 
--- the same, for the file of a demand, for files of a topology and a demand, and for all three
-abbrev pub PlacesFor : Program → Topology → Table → (name file : List ℕ) → Result (Vec ℕ Global) Refusal → Type 0
-PlacesFor p t table name file (Ok made) = IsPlacementOf p t table file made.items
-PlacesFor p t table name file (Err e) = RefusesBy (λ failed. failed ≡ name) (HasNoDemand p t file) e
-
-abbrev pub PlacesOn : Files → Program → (topology demand : List ℕ) → Result (Vec ℕ Global) Refusal → Type 0
-PlacesOn files p topology demand (Ok made) = IsPlacedOn files p topology demand made.items
-PlacesOn files p topology demand (Err e) = RefusesBy (IsReachedOn files topology demand) (HasNoPlacementOn files p topology demand) e
-
+-- the same for the files of a program, a topology and a demand
 abbrev pub GivesPlacement : Files → (program topology demand : List ℕ) → Result (Vec ℕ Global) Refusal → Type 0
 GivesPlacement files program topology demand (Ok made) = IsPlaced files program topology demand made.items
 GivesPlacement files program topology demand (Err e) = RefusesBy (IsReached files program topology demand) (HasNoPlacement files program topology demand) e

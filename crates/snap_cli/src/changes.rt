@@ -1,12 +1,11 @@
 //! `trace --changes`: the report of tables that change between packets.
 
-ghost use Rattle.std.specs.Prelude.{◌≡◌, ◌≤◌, ◌++◌, ◌∷◌, [], ℕ, List, IfErr, IfOk, IfSome, IsErrOf, OnOk};
-ghost use Rattle.snap_io.specs.Causes.{NoneFell, Rose};
+ghost use Rattle.std.specs.Prelude.{◌≡◌, ◌++◌, ◌∷◌, [], IfErr, IfOk, IfSome, OnOk};
 ghost use Rattle.snap_io.specs.Files.{file_of};
 ghost use Rattle.snap_move.specs.Changing.{HaveShapeOf, IsRising};
 ghost use Rattle.snap_move.specs.Lines.{AreRising};
 ghost use Rattle.snap_move.specs.Shapes.{HaveOneShape};
-ghost use Rattle.snap_cli.specs.Causes.{HasCauses, IsRead, IsReadOf};
+ghost use Rattle.snap_cli.specs.Causes.{BlamesNoDevice, OnlyReads, ReadsAndWrites};
 ghost use Rattle.snap_cli.specs.Changes.{refusal_of_changes};
 ghost use Rattle.snap_cli.specs.ChangesSteps.{GivesChanges, LoadsChanges, LoadsLater, LoadsLaters, MeetsChanges, MeetsLater, ReadsChanges, afters, afters_of};
 ghost use Rattle.snap_cli.specs.Texts.{GivesText};
@@ -42,12 +41,9 @@ pub(crate) fn report_changed<'a, S: Shelf, O: Sink>(
     out: &mut O,
 ) -> Result<(), Refusal<'a>>
     ensures meets { IfSome (S.files shelf.old) (λ files. MeetsChanges files tables hops packets.entry lines.entry.now result (O.taken out.old) (O.taken out.new)) }
-    ensures causes { HasCauses (S.faults shelf.old) (S.faults shelf.new) (O.faults out.old) (O.faults out.new) result }
-    ensures not_usage { IsErrOf result Refusal.Usage → ⊥ }
+    ensures devices { ReadsAndWrites (S.files shelf.old) (S.files shelf.new) (S.faults shelf.old) (S.faults shelf.new)
+        (O.faults out.old) (O.faults out.new) result }
     ensures statuses { EndsWith (statuses_of_trace (changes lines.entry.now)) result }
-    ensures files { S.files shelf.new ≡ S.files shelf.old }
-    ensures later { NoneFell (S.faults shelf.old) (S.faults shelf.new) }
-    ensures out_later { O.faults out.old ≤ O.faults out.new }
 {
     match load_changes(alloc, shelf, &tables, lines) {
         Ok(later) => report_later(alloc, tables, later, packets, hops, shelf, out),
@@ -69,12 +65,9 @@ fn report_later<'a, S: Shelf, O: Sink>(
     requires rising { IsRising later.items }
     ensures meets { IfSome (S.files shelf.old) (λ files.
         MeetsLater tables later.items hops packets.entry (file_of files packets.entry.now) result (O.taken out.old) (O.taken out.new)) }
-    ensures causes { HasCauses (S.faults shelf.old) (S.faults shelf.new) (O.faults out.old) (O.faults out.new) result }
-    ensures not_usage { IsErrOf result Refusal.Usage → ⊥ }
+    ensures devices { ReadsAndWrites (S.files shelf.old) (S.files shelf.new) (S.faults shelf.old) (S.faults shelf.new)
+        (O.faults out.old) (O.faults out.new) result }
     ensures statuses { EndsWith (statuses_of_trace plain) result }
-    ensures files { S.files shelf.new ≡ S.files shelf.old }
-    ensures later { NoneFell (S.faults shelf.old) (S.faults shelf.new) }
-    ensures out_later { O.faults out.old ≤ O.faults out.new }
 {
     match trace_changes(alloc, shelf, packets, tables, later, hops, out) {
         Ok(()) => Ok(()),
@@ -92,11 +85,7 @@ fn load_changes<'a, S: Shelf>(
     ensures gives { IfSome (S.files shelf.old) (λ files. LoadsChanges files first.now name.entry.now result) }
     ensures shapes { IfOk result (λ later. HaveShapeOf first.now later.items) }
     ensures rising { IfOk result (λ later. IsRising later.items) }
-    ensures read { (file : List ℕ) → IsReadOf file result → Rose (S.faults shelf.old file) (S.faults shelf.new file) }
-    ensures not_write { IsErrOf result Refusal.Write → ⊥ }
-    ensures not_usage { IsErrOf result Refusal.Usage → ⊥ }
-    ensures files { S.files shelf.new ≡ S.files shelf.old }
-    ensures later { NoneFell (S.faults shelf.old) (S.faults shelf.new) }
+    ensures devices { OnlyReads (S.files shelf.old) (S.files shelf.new) (S.faults shelf.old) (S.faults shelf.new) result }
     ensures statuses { IfErr result (RefusesWith (2 ∷ 6 ∷ 11 ∷ 20 ∷ [])) }
 {
     let changes = match load_lines(alloc, shelf, name) {
@@ -114,11 +103,7 @@ fn load_lines<'a, S: Shelf>(
 ) -> Result<Vec<Change>, Refusal<'a>>
     ensures gives { IfSome (S.files shelf.old) (λ files. GivesChanges name.entry.now (file_of files name.entry.now) result) }
     ensures rising { IfOk result (λ changes. AreRising changes.items) }
-    ensures read { (file : List ℕ) → IsReadOf file result → Rose (S.faults shelf.old file) (S.faults shelf.new file) }
-    ensures not_write { IsErrOf result Refusal.Write → ⊥ }
-    ensures not_usage { IsErrOf result Refusal.Usage → ⊥ }
-    ensures files { S.files shelf.new ≡ S.files shelf.old }
-    ensures later { NoneFell (S.faults shelf.old) (S.faults shelf.new) }
+    ensures devices { OnlyReads (S.files shelf.old) (S.files shelf.new) (S.faults shelf.old) (S.faults shelf.new) result }
     ensures statuses { IfErr result (RefusesWith (2 ∷ 6 ∷ 20 ∷ [])) }
 {
     match load_text(alloc, shelf, name, MOST_CHANGES_BYTES) {
@@ -131,9 +116,7 @@ fn load_lines<'a, S: Shelf>(
 fn read_lines<'a>(alloc: Global, text: &[u8]) -> Result<Vec<Change>, Refusal<'a>>
     ensures reads { ReadsChanges text.now result }
     ensures rising { IfOk result (λ changes. AreRising changes.items) }
-    ensures not_read { IsRead result → ⊥ }
-    ensures not_write { IsErrOf result Refusal.Write → ⊥ }
-    ensures not_usage { IsErrOf result Refusal.Usage → ⊥ }
+    ensures devices { IfErr result BlamesNoDevice }
 {
     match read_changes(alloc, text) {
         Ok(changes) => Ok(changes),
@@ -161,11 +144,7 @@ fn load_all<'a, S: Shelf>(
     ensures gives { IfSome (S.files shelf.old) (λ files. LoadsLaters files first.now changes.now result) }
     ensures shapes { IfOk result (λ later. HaveShapeOf first.now later.items) }
     ensures afters { IfOk result (λ later. afters later.items ≡ afters_of changes.now) }
-    ensures read { (file : List ℕ) → IsReadOf file result → Rose (S.faults shelf.old file) (S.faults shelf.new file) }
-    ensures not_write { IsErrOf result Refusal.Write → ⊥ }
-    ensures not_usage { IsErrOf result Refusal.Usage → ⊥ }
-    ensures files { S.files shelf.new ≡ S.files shelf.old }
-    ensures later { NoneFell (S.faults shelf.old) (S.faults shelf.new) }
+    ensures devices { OnlyReads (S.files shelf.old) (S.files shelf.new) (S.faults shelf.old) (S.faults shelf.new) result }
     ensures statuses { IfErr result (RefusesWith (2 ∷ 6 ∷ 11 ∷ 20 ∷ [])) }
 {
     let mut later = Vec::new(alloc);
@@ -197,11 +176,7 @@ fn load_later<'a, S: Shelf>(
     ensures gives { IfSome (S.files shelf.old) (λ files. LoadsLater files first.now change.now result) }
     ensures shape { IfOk result (λ later. HaveOneShape later.tables first.now) }
     ensures after { IfOk result (λ later. later.after ≡ change.now.after) }
-    ensures read { (file : List ℕ) → IsReadOf file result → Rose (S.faults shelf.old file) (S.faults shelf.new file) }
-    ensures not_write { IsErrOf result Refusal.Write → ⊥ }
-    ensures not_usage { IsErrOf result Refusal.Usage → ⊥ }
-    ensures files { S.files shelf.new ≡ S.files shelf.old }
-    ensures later { NoneFell (S.faults shelf.old) (S.faults shelf.new) }
+    ensures devices { OnlyReads (S.files shelf.old) (S.files shelf.new) (S.faults shelf.old) (S.faults shelf.new) result }
     ensures statuses { IfErr result (RefusesWith (2 ∷ 6 ∷ 11 ∷ 20 ∷ [])) }
 {
     let tables = match load_named(alloc, shelf, change) {
@@ -224,11 +199,7 @@ fn load_named<'a, S: Shelf>(
     change: &Change,
 ) -> Result<Valid, Refusal<'a>>
     ensures gives { IfSome (S.files shelf.old) (λ files. LoadsTables change.now.name (file_of files change.now.name) result) }
-    ensures read { (file : List ℕ) → IsReadOf file result → Rose (S.faults shelf.old file) (S.faults shelf.new file) }
-    ensures not_write { IsErrOf result Refusal.Write → ⊥ }
-    ensures not_usage { IsErrOf result Refusal.Usage → ⊥ }
-    ensures files { S.files shelf.new ≡ S.files shelf.old }
-    ensures later { NoneFell (S.faults shelf.old) (S.faults shelf.new) }
+    ensures devices { OnlyReads (S.files shelf.old) (S.files shelf.new) (S.faults shelf.old) (S.faults shelf.new) result }
     ensures statuses { IfErr result (RefusesWith (2 ∷ 6 ∷ 11 ∷ [])) }
 {
     match load_bytes(alloc, shelf, change) {
@@ -244,11 +215,7 @@ fn load_bytes<'a, S: Shelf>(
     change: &Change,
 ) -> Result<Vec<u8>, Refusal<'a>>
     ensures gives { IfSome (S.files shelf.old) (λ files. GivesText 67108864 change.now.name (file_of files change.now.name) result) }
-    ensures read { (file : List ℕ) → IsReadOf file result → Rose (S.faults shelf.old file) (S.faults shelf.new file) }
-    ensures not_write { IsErrOf result Refusal.Write → ⊥ }
-    ensures not_usage { IsErrOf result Refusal.Usage → ⊥ }
-    ensures files { S.files shelf.new ≡ S.files shelf.old }
-    ensures later { NoneFell (S.faults shelf.old) (S.faults shelf.new) }
+    ensures devices { OnlyReads (S.files shelf.old) (S.files shelf.new) (S.faults shelf.old) (S.faults shelf.new) result }
     ensures statuses { IfErr result (RefusesWith (2 ∷ 6 ∷ [])) }
 {
     match read_whole(alloc, shelf, change.name.bytes(), MOST_TABLES) {

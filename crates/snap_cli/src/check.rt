@@ -1,10 +1,9 @@
 //! The command `check`: whether the parts of a program race on some store and packet.
 
-ghost use Rattle.std.specs.Prelude.{◌≡◌, ◌≤◌, IfSome, IsErrOf};
+ghost use Rattle.std.specs.Prelude.{IfSome};
 ghost use Rattle.snap_core.specs.Programs.{IsInForm};
-ghost use Rattle.snap_io.specs.Causes.{NoneFell, Rose};
 ghost use Rattle.snap_words.specs.Commands.{check};
-ghost use Rattle.snap_cli.specs.Causes.{HasCauses, IsRead};
+ghost use Rattle.snap_cli.specs.Causes.{OnlyWrites, ReadsAndWrites};
 ghost use Rattle.snap_cli.specs.Check.{Judges, MeetsCheck};
 ghost use Rattle.snap_cli.specs.Deserved.{Meets};
 ghost use Rattle.snap_cli.specs.Statuses.{EndsWith, statuses_of};
@@ -26,12 +25,9 @@ pub(crate) fn report<'a, S: Shelf, O: Sink>(
 ) -> Result<(), Refusal<'a>>
     ensures meets { IfSome (S.files shelf.old) (λ files.
         Meets files (check program.entry.now) result (O.taken out.old) (O.taken out.new)) }
-    ensures causes { HasCauses (S.faults shelf.old) (S.faults shelf.new) (O.faults out.old) (O.faults out.new) result }
-    ensures not_usage { IsErrOf result Refusal.Usage → ⊥ }
+    ensures devices { ReadsAndWrites (S.files shelf.old) (S.files shelf.new) (S.faults shelf.old) (S.faults shelf.new)
+        (O.faults out.old) (O.faults out.new) result }
     ensures statuses { EndsWith (statuses_of (check program.entry.now)) result }
-    ensures files { S.files shelf.new ≡ S.files shelf.old }
-    ensures later { NoneFell (S.faults shelf.old) (S.faults shelf.new) }
-    ensures out_later { O.faults out.old ≤ O.faults out.new }
 {
     match load_program(alloc, shelf, program) {
         Ok(program) => answer(alloc, &program, out),
@@ -43,10 +39,7 @@ pub(crate) fn report<'a, S: Shelf, O: Sink>(
 fn answer<'a, O: Sink>(alloc: Global, program: &Program, out: &mut O) -> Result<(), Refusal<'a>>
     requires { IsInForm program.now }
     ensures meets { MeetsCheck program.now result (O.taken out.old) (O.taken out.new) }
-    ensures write { IsErrOf result Refusal.Write → Rose (O.faults out.old) (O.faults out.new) }
-    ensures not_read { IsRead result → ⊥ }
-    ensures not_usage { IsErrOf result Refusal.Usage → ⊥ }
-    ensures out_later { O.faults out.old ≤ O.faults out.new }
+    ensures devices { OnlyWrites (O.faults out.old) (O.faults out.new) result }
 {
     match judge(alloc, program) {
         Ok(()) => match write_whole(out, b"ok\n") {

@@ -1,29 +1,26 @@
 //! The command `compile`: tables that make the network behave as the program says.
 
-ghost use Rattle.std.specs.Prelude.{◌≡◌, ◌≤◌, ◌∷◌, [], ℕ, List, IfErr, IfOk, IfSome, IsErrOf, length};
+ghost use Rattle.std.specs.Prelude.{◌≡◌, ◌∷◌, [], IfErr, IfOk, IfSome, length};
 ghost use Rattle.snap_build.specs.Whole.{IsWhole};
 ghost use Rattle.snap_core.specs.Laws.{PutsSmall};
 ghost use Rattle.snap_core.specs.Programs.{IsInForm};
 ghost use Rattle.snap_dep.specs.Ranks.{IsGrouping};
-ghost use Rattle.snap_io.specs.Causes.{NoneFell, Rose};
-ghost use Rattle.snap_io.specs.Files.{file_of};
 ghost use Rattle.snap_place.specs.Answer.{GivesSwitches};
 ghost use Rattle.snap_tables.specs.ReadBack.{IsReadBack};
 ghost use Rattle.snap_topo.specs.Form.{IsInForm as IsTopology};
 ghost use Rattle.snap_route.specs.Tables.{AreRoutes};
 ghost use Rattle.snap_words.specs.Commands.{compile};
-ghost use Rattle.snap_cli.specs.Causes.{HasCauses, IsRead, IsReadOf};
+ghost use Rattle.snap_cli.specs.Causes.{BlamesNoDevice, OnlyReads, OnlyWrites, ReadsAndWrites};
 ghost use Rattle.snap_cli.specs.Compile.{AreMade};
-ghost use Rattle.snap_cli.specs.CompileSteps.{Compiles, CompilesFor, CompilesOn, GivesTables, MakesTables, WritesTables};
+ghost use Rattle.snap_cli.specs.CompileSteps.{Compiles, GivesTables, MakesTables, WritesTables};
 ghost use Rattle.snap_cli.specs.Deserved.{Meets};
 ghost use Rattle.snap_cli.specs.PlacementOf.{refusal_of_placement};
 ghost use Rattle.snap_cli.specs.Statuses.{EndsWith, RefusesWith, statuses_of};
 
 use crate::diagram::diagram_of;
-use crate::network::{Network, load_network};
-use crate::program::load_program;
+use crate::inputs::load_inputs;
+use crate::network::Network;
 use crate::refusal::{NoPlacement, Refusal};
-use crate::text::load_text;
 use snap_build::building::Built;
 use snap_core::NoMemory;
 use snap_core::lists::Names;
@@ -39,9 +36,6 @@ use snap_tables::print_shared::print_shared;
 use snap_tables::shared::SharedTables;
 use std::alloc::Global;
 
-/// The most bytes of a placement's file.
-pub const MOST_PLACEMENT: u64 = 1_048_576;
-
 /// Writes tables that are faithful to a program, a topology and a placement: of version 2, or on demand of version 1.
 pub(crate) fn report<'a, S: Shelf, O: Sink>(
     alloc: Global,
@@ -54,12 +48,9 @@ pub(crate) fn report<'a, S: Shelf, O: Sink>(
 ) -> Result<(), Refusal<'a>>
     ensures meets { IfSome (S.files shelf.old) (λ files.
         Meets files (compile program.entry.now topology.entry.now placement.entry.now on_demand) result (O.taken out.old) (O.taken out.new)) }
-    ensures causes { HasCauses (S.faults shelf.old) (S.faults shelf.new) (O.faults out.old) (O.faults out.new) result }
-    ensures not_usage { IsErrOf result Refusal.Usage → ⊥ }
+    ensures devices { ReadsAndWrites (S.files shelf.old) (S.files shelf.new) (S.faults shelf.old) (S.faults shelf.new)
+        (O.faults out.old) (O.faults out.new) result }
     ensures statuses { EndsWith (statuses_of (compile program.entry.now topology.entry.now placement.entry.now on_demand)) result }
-    ensures files { S.files shelf.new ≡ S.files shelf.old }
-    ensures later { NoneFell (S.faults shelf.old) (S.faults shelf.new) }
-    ensures out_later { O.faults out.old ≤ O.faults out.new }
 {
     match load_tables(alloc, program, topology, placement, on_demand, shelf) {
         Ok(tables) => write_tables(alloc, &tables, out),
@@ -75,10 +66,7 @@ fn write_tables<'a, O: Sink>(
 ) -> Result<(), Refusal<'a>>
     ensures writes { WritesTables tables.now result (O.taken out.old) (O.taken out.new) }
     ensures back { IsReadBack tables.now }
-    ensures write { IsErrOf result Refusal.Write → Rose (O.faults out.old) (O.faults out.new) }
-    ensures not_read { IsRead result → ⊥ }
-    ensures not_usage { IsErrOf result Refusal.Usage → ⊥ }
-    ensures out_later { O.faults out.old ≤ O.faults out.new }
+    ensures devices { OnlyWrites (O.faults out.old) (O.faults out.new) result }
 {
     match print_shared(alloc, tables, out) {
         Ok(()) => Ok(()),
@@ -97,67 +85,17 @@ fn load_tables<'a, S: Shelf>(
     shelf: &mut S,
 ) -> Result<SharedTables, Refusal<'a>>
     ensures gives { IfSome (S.files shelf.old) (λ files. GivesTables files program.entry.now topology.entry.now placement.entry.now on_demand result) }
-    ensures read { (file : List ℕ) → IsReadOf file result → Rose (S.faults shelf.old file) (S.faults shelf.new file) }
-    ensures not_write { IsErrOf result Refusal.Write → ⊥ }
-    ensures not_usage { IsErrOf result Refusal.Usage → ⊥ }
+    ensures devices { OnlyReads (S.files shelf.old) (S.files shelf.new) (S.faults shelf.old) (S.faults shelf.new) result }
     ensures statuses { IfErr result (RefusesWith (2 ∷ 4 ∷ 5 ∷ 6 ∷ 7 ∷ 8 ∷ 9 ∷ 10 ∷ [])) }
-    ensures files { S.files shelf.new ≡ S.files shelf.old }
-    ensures later { NoneFell (S.faults shelf.old) (S.faults shelf.new) }
 {
-    match load_program(alloc, shelf, program) {
-        Ok(program) => tables_on(alloc, program, topology, placement, on_demand, shelf),
-        Err(refusal) => Err(refusal),
-    }
-}
-
-// The tables of a program that was read.
-fn tables_on<'a, S: Shelf>(
-    alloc: Global,
-    program: Program,
-    topology: &'a [u8],
-    placement: &'a [u8],
-    on_demand: bool,
-    shelf: &mut S,
-) -> Result<SharedTables, Refusal<'a>>
-    requires { IsInForm program }
-    ensures gives { IfSome (S.files shelf.old) (λ files. CompilesOn files program topology.entry.now placement.entry.now on_demand result) }
-    ensures read { (file : List ℕ) → IsReadOf file result → Rose (S.faults shelf.old file) (S.faults shelf.new file) }
-    ensures not_write { IsErrOf result Refusal.Write → ⊥ }
-    ensures not_usage { IsErrOf result Refusal.Usage → ⊥ }
-    ensures later { NoneFell (S.faults shelf.old) (S.faults shelf.new) }
-    ensures statuses { IfErr result (RefusesWith (2 ∷ 6 ∷ 7 ∷ 8 ∷ 9 ∷ 10 ∷ [])) }
-    ensures files { S.files shelf.new ≡ S.files shelf.old }
-{
-    match load_network(alloc, shelf, topology) {
-        Ok(network) => tables_for(alloc, program, &network, placement, on_demand, shelf),
-        Err(refusal) => Err(refusal),
-    }
-}
-
-// The tables of a program on a topology.
-fn tables_for<'a, S: Shelf>(
-    alloc: Global,
-    program: Program,
-    network: &Network,
-    placement: &'a [u8],
-    on_demand: bool,
-    shelf: &mut S,
-) -> Result<SharedTables, Refusal<'a>>
-    requires program { IsInForm program }
-    requires topology { IsTopology network.now.topology }
-    requires routes { AreRoutes network.now.topology network.now.routes }
-    ensures gives { IfSome (S.files shelf.old) (λ files. CompilesFor program network.now.topology placement.entry.now (file_of files placement.entry.now) on_demand result) }
-    ensures read { (file : List ℕ) → IsReadOf file result → Rose (S.faults shelf.old file) (S.faults shelf.new file) }
-    ensures not_write { IsErrOf result Refusal.Write → ⊥ }
-    ensures not_usage { IsErrOf result Refusal.Usage → ⊥ }
-    ensures later { NoneFell (S.faults shelf.old) (S.faults shelf.new) }
-    ensures statuses { IfErr result (RefusesWith (2 ∷ 6 ∷ 9 ∷ 10 ∷ [])) }
-    ensures files { S.files shelf.new ≡ S.files shelf.old }
-{
-    match load_text(alloc, shelf, placement, MOST_PLACEMENT) {
-        Ok(text) => tables_of(alloc, program, network, &text, on_demand),
-        Err(refusal) => Err(refusal),
-    }
+    let inputs = load_inputs(alloc, program, topology, placement, shelf)?;
+    tables_of(
+        alloc,
+        inputs.program,
+        &inputs.network,
+        &inputs.text,
+        on_demand,
+    )
 }
 
 // The tables of a program on a topology with the placement that a text spells.
@@ -172,9 +110,7 @@ fn tables_of<'a>(
     requires topology { IsTopology network.now.topology }
     requires routes { AreRoutes network.now.topology network.now.routes }
     ensures compiles { Compiles program network.now.topology text.now on_demand result }
-    ensures not_read { IsRead result → ⊥ }
-    ensures not_write { IsErrOf result Refusal.Write → ⊥ }
-    ensures not_usage { IsErrOf result Refusal.Usage → ⊥ }
+    ensures devices { IfErr result BlamesNoDevice }
 {
     let groups = groups(alloc, &program)?;
     match snap_place::read(alloc, text, &program, &groups, &network.topology) {
@@ -214,9 +150,7 @@ fn make<'a>(
     requires routes { AreRoutes network.now.topology network.now.routes }
     requires placement { GivesSwitches program.now network.now.topology placement.now }
     ensures makes { MakesTables program.now network.now.topology placement.now on_demand result }
-    ensures not_read { IsRead result → ⊥ }
-    ensures not_write { IsErrOf result Refusal.Write → ⊥ }
-    ensures not_usage { IsErrOf result Refusal.Usage → ⊥ }
+    ensures devices { IfErr result BlamesNoDevice }
 {
     let built = diagram_of(alloc, program, groups)?;
     let made = tables_from(alloc, program, built, groups, network, placement, on_demand)?;

@@ -1,10 +1,9 @@
 //! The command `demo`: a program that is compiled and run over packets, and what came of it.
 
-ghost use Rattle.std.specs.Prelude.{◌≤◌, ℕ, List, IsErrOf};
-ghost use Rattle.snap_io.specs.Causes.{Rose};
+ghost use Rattle.std.specs.Prelude.{◌≤◌};
 ghost use Rattle.snap_io.specs.Files.{Files};
 ghost use Rattle.snap_words.specs.Commands.{demo};
-ghost use Rattle.snap_cli.specs.Causes.{HasCauses, IsRead};
+ghost use Rattle.snap_cli.specs.Causes.{OnlyWrites};
 ghost use Rattle.snap_cli.specs.Demo.{MeetsSummary};
 ghost use Rattle.snap_cli.specs.Deserved.{Meets};
 ghost use Rattle.snap_cli.specs.Statuses.{EndsWith, statuses_of};
@@ -22,10 +21,8 @@ pub(crate) fn report<'a, O: Sink>(
     out: &mut O,
 ) -> Result<(), Refusal<'a>>
     ensures meets { (files : Files) → Meets files (demo switches.value) result (O.taken out.old) (O.taken out.new) }
-    ensures causes { (before now : List ℕ → ℕ) → HasCauses before now (O.faults out.old) (O.faults out.new) result }
-    ensures not_usage { IsErrOf result Refusal.Usage → ⊥ }
+    ensures devices { OnlyWrites (O.faults out.old) (O.faults out.new) result }
     ensures statuses { EndsWith (statuses_of (demo switches.value)) result }
-    ensures out_later { O.faults out.old ≤ O.faults out.new }
 {
     write_summary(alloc, switches.value, out)
 }
@@ -34,10 +31,7 @@ fn write_summary<'a, O: Sink>(alloc: Global, switches: u16, out: &mut O) -> Resu
     requires some { 1 ≤ switches }
     requires few { switches ≤ 64 }
     ensures meets { MeetsSummary switches result (O.taken out.old) (O.taken out.new) }
-    ensures write { IsErrOf result Refusal.Write → Rose (O.faults out.old) (O.faults out.new) }
-    ensures not_read { IsRead result → ⊥ }
-    ensures not_usage { IsErrOf result Refusal.Usage → ⊥ }
-    ensures out_later { O.faults out.old ≤ O.faults out.new }
+    ensures devices { OnlyWrites (O.faults out.old) (O.faults out.new) result }
 {
     match summary(alloc, switches) {
         Ok(text) => match write_whole(out, &text) {

@@ -1,12 +1,11 @@
 //! The command `deps`: the dependencies of a program's arrays, and their groups.
 
-ghost use Rattle.std.specs.Prelude.{◌≡◌, ◌≤◌, ◌++◌, IfOk, IfSome, IsErrOf, OnOk};
+ghost use Rattle.std.specs.Prelude.{◌≡◌, ◌++◌, IfOk, IfSome, OnOk};
 ghost use Rattle.std.specs.List.{flat_map};
 ghost use Rattle.snap_core.specs.Programs.{IsBounded};
-ghost use Rattle.snap_io.specs.Causes.{NoneFell, Rose};
 ghost use Rattle.snap_words.specs.Commands.{deps};
 ghost use Rattle.snap_cli.specs.Deps.{HasOneText, IsTextOf, MeetsText, dep_line, group_line, groups_text, member_text};
-ghost use Rattle.snap_cli.specs.Causes.{HasCauses, IsRead};
+ghost use Rattle.snap_cli.specs.Causes.{OnlyWrites, ReadsAndWrites};
 ghost use Rattle.snap_cli.specs.Deserved.{Meets};
 ghost use Rattle.snap_cli.specs.Statuses.{EndsWith, statuses_of};
 
@@ -38,12 +37,9 @@ pub(crate) fn report<'a, S: Shelf, O: Sink>(
 ) -> Result<(), Refusal<'a>>
     ensures meets { IfSome (S.files shelf.old) (λ files.
         Meets files (deps program.entry.now) result (O.taken out.old) (O.taken out.new)) }
-    ensures causes { HasCauses (S.faults shelf.old) (S.faults shelf.new) (O.faults out.old) (O.faults out.new) result }
-    ensures not_usage { IsErrOf result Refusal.Usage → ⊥ }
+    ensures devices { ReadsAndWrites (S.files shelf.old) (S.files shelf.new) (S.faults shelf.old) (S.faults shelf.new)
+        (O.faults out.old) (O.faults out.new) result }
     ensures statuses { EndsWith (statuses_of (deps program.entry.now)) result }
-    ensures files { S.files shelf.new ≡ S.files shelf.old }
-    ensures later { NoneFell (S.faults shelf.old) (S.faults shelf.new) }
-    ensures out_later { O.faults out.old ≤ O.faults out.new }
 {
     match load_program(alloc, shelf, program) {
         Ok(program) => write_text(alloc, &program, out),
@@ -55,10 +51,7 @@ pub(crate) fn report<'a, S: Shelf, O: Sink>(
 fn write_text<'a, O: Sink>(alloc: Global, program: &Program, out: &mut O) -> Result<(), Refusal<'a>>
     requires { IsBounded program.now }
     ensures meets { MeetsText program.now result (O.taken out.old) (O.taken out.new) }
-    ensures write { IsErrOf result Refusal.Write → Rose (O.faults out.old) (O.faults out.new) }
-    ensures not_read { IsRead result → ⊥ }
-    ensures not_usage { IsErrOf result Refusal.Usage → ⊥ }
-    ensures out_later { O.faults out.old ≤ O.faults out.new }
+    ensures devices { OnlyWrites (O.faults out.old) (O.faults out.new) result }
 {
     match text_of(alloc, program) {
         Ok(text) => match write_whole(out, &text) {

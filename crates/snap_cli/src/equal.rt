@@ -1,12 +1,11 @@
 //! The command `equal`: whether two programs mean the same.
 
-ghost use Rattle.std.specs.Prelude.{◌≡◌, ◌↔◌, ◌≤◌, IfSome, IsErrOf, IsTrue};
+ghost use Rattle.std.specs.Prelude.{◌↔◌, IfSome, IsTrue};
 ghost use Rattle.snap_core.specs.Cells.{arrays_of};
 ghost use Rattle.snap_core.specs.Programs.{IsInForm};
-ghost use Rattle.snap_io.specs.Causes.{NoneFell, Rose};
 ghost use Rattle.snap_words.specs.Commands.{equal};
 ghost use Rattle.snap_equal.specs.Same.{TellApart};
-ghost use Rattle.snap_cli.specs.Causes.{HasCauses, IsRead};
+ghost use Rattle.snap_cli.specs.Causes.{OnlyWrites, ReadsAndWrites};
 ghost use Rattle.snap_cli.specs.Check.{HasWhole};
 ghost use Rattle.snap_cli.specs.Deserved.{Meets};
 ghost use Rattle.snap_cli.specs.Equal.{AreDeclaredAlike, Compares, IsDifferenceTold, MeetsEqual};
@@ -37,12 +36,9 @@ pub(crate) fn report<'a, S: Shelf, O: Sink>(
 ) -> Result<(), Refusal<'a>>
     ensures meets { IfSome (S.files shelf.old) (λ files.
         Meets files (equal left.entry.now right.entry.now) result (O.taken out.old) (O.taken out.new)) }
-    ensures causes { HasCauses (S.faults shelf.old) (S.faults shelf.new) (O.faults out.old) (O.faults out.new) result }
-    ensures not_usage { IsErrOf result Refusal.Usage → ⊥ }
+    ensures devices { ReadsAndWrites (S.files shelf.old) (S.files shelf.new) (S.faults shelf.old) (S.faults shelf.new)
+        (O.faults out.old) (O.faults out.new) result }
     ensures statuses { EndsWith (statuses_of (equal left.entry.now right.entry.now)) result }
-    ensures files { S.files shelf.new ≡ S.files shelf.old }
-    ensures later { NoneFell (S.faults shelf.old) (S.faults shelf.new) }
-    ensures out_later { O.faults out.old ≤ O.faults out.new }
 {
     match load_program(alloc, shelf, left) {
         Ok(first) => match load_program(alloc, shelf, right) {
@@ -63,10 +59,7 @@ fn answer<'a, O: Sink>(
     requires left { IsInForm left.now }
     requires right { IsInForm right.now }
     ensures meets { MeetsEqual left.now right.now result (O.taken out.old) (O.taken out.new) }
-    ensures write { IsErrOf result Refusal.Write → Rose (O.faults out.old) (O.faults out.new) }
-    ensures not_read { IsRead result → ⊥ }
-    ensures not_usage { IsErrOf result Refusal.Usage → ⊥ }
-    ensures out_later { O.faults out.old ≤ O.faults out.new }
+    ensures devices { OnlyWrites (O.faults out.old) (O.faults out.new) result }
 {
     match judge(alloc, left, right) {
         Ok(()) => match write_whole(out, b"equal\n") {

@@ -1,10 +1,9 @@
 //! `trace --ordered`: the report of a run in which each rank's packets take turns.
 
-ghost use Rattle.std.specs.Prelude.{◌≡◌, ◌≤◌, IfSome, IsErrOf, IsTrue, None, Some, false, option_map};
-ghost use Rattle.snap_cli.specs.Causes.{HasCauses};
+ghost use Rattle.std.specs.Prelude.{◌≡◌, IfSome, IsTrue, None, Some, false, option_map};
+ghost use Rattle.snap_cli.specs.Causes.{ReadsAndWrites};
 ghost use Rattle.snap_cli.specs.InTurnSteps.{MeetsInTurn, MeetsTurns};
 ghost use Rattle.snap_cli.specs.Statuses.{EndsWith, statuses_of_trace};
-ghost use Rattle.snap_io.specs.Causes.{NoneFell};
 ghost use Rattle.snap_words.specs.Commands.{in_turn, plain, schedule};
 
 use crate::obs::refusal_of_run;
@@ -29,12 +28,9 @@ pub(crate) fn report_in_turn<'a, S: Shelf, O: Sink>(
 ) -> Result<(), Refusal<'a>>
     ensures meets { IfSome (S.files shelf.old) (λ files.
         MeetsInTurn files tables hops packets.entry lines.entry result (O.taken out.old) (O.taken out.new)) }
-    ensures causes { HasCauses (S.faults shelf.old) (S.faults shelf.new) (O.faults out.old) (O.faults out.new) result }
-    ensures not_usage { IsErrOf result Refusal.Usage → ⊥ }
+    ensures devices { ReadsAndWrites (S.files shelf.old) (S.files shelf.new) (S.faults shelf.old) (S.faults shelf.new)
+        (O.faults out.old) (O.faults out.new) result }
     ensures statuses { EndsWith (statuses_of_trace (in_turn (option_map (λ s. s.now) lines.entry))) result }
-    ensures files { S.files shelf.new ≡ S.files shelf.old }
-    ensures later { NoneFell (S.faults shelf.old) (S.faults shelf.new) }
-    ensures out_later { O.faults out.old ≤ O.faults out.new }
 {
     if has_turns(&tables) {
         report_turns(alloc, tables, packets, lines, hops, shelf, out)
@@ -64,12 +60,9 @@ fn report_turns<'a, S: Shelf, O: Sink>(
     requires version { tables.version ≡ 2 }
     ensures meets { IfSome (S.files shelf.old) (λ files.
         MeetsTurns files tables hops packets.entry lines.entry result (O.taken out.old) (O.taken out.new)) }
-    ensures causes { HasCauses (S.faults shelf.old) (S.faults shelf.new) (O.faults out.old) (O.faults out.new) result }
-    ensures not_usage { IsErrOf result Refusal.Usage → ⊥ }
+    ensures devices { ReadsAndWrites (S.files shelf.old) (S.files shelf.new) (S.faults shelf.old) (S.faults shelf.new)
+        (O.faults out.old) (O.faults out.new) result }
     ensures statuses { EndsWith (statuses_of_trace (in_turn (option_map (λ s. s.now) lines.entry))) result }
-    ensures files { S.files shelf.new ≡ S.files shelf.old }
-    ensures later { NoneFell (S.faults shelf.old) (S.faults shelf.new) }
-    ensures out_later { O.faults out.old ≤ O.faults out.new }
 {
     match lines {
         None => report_each(alloc, tables, packets, hops, shelf, out),
@@ -89,12 +82,9 @@ fn report_each<'a, S: Shelf, O: Sink>(
     requires version { tables.version ≡ 2 }
     ensures meets { IfSome (S.files shelf.old) (λ files.
         MeetsTurns files tables hops packets.entry None result (O.taken out.old) (O.taken out.new)) }
-    ensures causes { HasCauses (S.faults shelf.old) (S.faults shelf.new) (O.faults out.old) (O.faults out.new) result }
-    ensures not_usage { IsErrOf result Refusal.Usage → ⊥ }
+    ensures devices { ReadsAndWrites (S.files shelf.old) (S.files shelf.new) (S.faults shelf.old) (S.faults shelf.new)
+        (O.faults out.old) (O.faults out.new) result }
     ensures statuses { EndsWith (statuses_of_trace plain) result }
-    ensures files { S.files shelf.new ≡ S.files shelf.old }
-    ensures later { NoneFell (S.faults shelf.old) (S.faults shelf.new) }
-    ensures out_later { O.faults out.old ≤ O.faults out.new }
 {
     match trace_ordered(alloc, shelf, packets, tables, hops, out) {
         Ok(()) => Ok(()),
@@ -115,12 +105,9 @@ fn report_lines<'a, S: Shelf, O: Sink>(
     requires version { tables.version ≡ 2 }
     ensures meets { IfSome (S.files shelf.old) (λ files.
         MeetsTurns files tables hops packets.entry (Some lines.entry) result (O.taken out.old) (O.taken out.new)) }
-    ensures causes { HasCauses (S.faults shelf.old) (S.faults shelf.new) (O.faults out.old) (O.faults out.new) result }
-    ensures not_usage { IsErrOf result Refusal.Usage → ⊥ }
+    ensures devices { ReadsAndWrites (S.files shelf.old) (S.files shelf.new) (S.faults shelf.old) (S.faults shelf.new)
+        (O.faults out.old) (O.faults out.new) result }
     ensures statuses { EndsWith (statuses_of_trace (schedule lines.entry.now)) result }
-    ensures files { S.files shelf.new ≡ S.files shelf.old }
-    ensures later { NoneFell (S.faults shelf.old) (S.faults shelf.new) }
-    ensures out_later { O.faults out.old ≤ O.faults out.new }
 {
     match schedule_ordered(alloc, shelf, packets, lines, tables, hops, out) {
         Ok(()) => Ok(()),

@@ -10,6 +10,7 @@ mod diagram;
 mod equal;
 pub mod headline;
 mod in_turn;
+mod inputs;
 pub mod laws;
 mod network;
 mod obs;

@@ -1,11 +1,10 @@
 //! The topology of a file, with its routes.
 
-ghost use Rattle.std.specs.Prelude.{◌≡◌, ◌∷◌, [], ℕ, List, IfErr, IfOk, IfSome, IsErrOf};
-ghost use Rattle.snap_io.specs.Causes.{NoneFell, Rose};
+ghost use Rattle.std.specs.Prelude.{◌∷◌, [], IfErr, IfOk, IfSome};
 ghost use Rattle.snap_io.specs.Files.{file_of};
 ghost use Rattle.snap_topo.specs.Form.{IsInForm};
 ghost use Rattle.snap_route.specs.Tables.{AreRoutes};
-ghost use Rattle.snap_cli.specs.Causes.{IsReadOf};
+ghost use Rattle.snap_cli.specs.Causes.{OnlyReads};
 ghost use Rattle.snap_cli.specs.NetworkSteps.{GivesNetwork};
 ghost use Rattle.snap_cli.specs.Statuses.{RefusesWith};
 
@@ -34,11 +33,7 @@ pub(crate) fn load_network<'a, S: Shelf>(
     ensures gives { IfSome (S.files shelf.old) (λ files. GivesNetwork name.entry.now (file_of files name.entry.now) result) }
     ensures topology { IfOk result (λ n. IsInForm n.topology) }
     ensures routes { IfOk result (λ n. AreRoutes n.topology n.routes) }
-    ensures read { (file : List ℕ) → IsReadOf file result → Rose (S.faults shelf.old file) (S.faults shelf.new file) }
-    ensures not_write { IsErrOf result Refusal.Write → ⊥ }
-    ensures not_usage { IsErrOf result Refusal.Usage → ⊥ }
-    ensures files { S.files shelf.new ≡ S.files shelf.old }
-    ensures later { NoneFell (S.faults shelf.old) (S.faults shelf.new) }
+    ensures devices { OnlyReads (S.files shelf.old) (S.files shelf.new) (S.faults shelf.old) (S.faults shelf.new) result }
     ensures statuses { IfErr result (RefusesWith (2 ∷ 6 ∷ 7 ∷ 8 ∷ [])) }
 {
     let topology = load_topology(alloc, shelf, name)?;

@@ -1,11 +1,10 @@
 //! The command `obs`: the report of one big switch.
 
-ghost use Rattle.std.specs.Prelude.{◌≡◌, ◌≤◌, ◌∷◌, [], IfSome, IsErrOf};
+ghost use Rattle.std.specs.Prelude.{◌≡◌, ◌∷◌, [], IfSome};
 ghost use Rattle.snap_words.specs.Commands.{obs};
 ghost use Rattle.snap_core.specs.Programs.{IsBounded};
-ghost use Rattle.snap_io.specs.Causes.{NoneFell};
 ghost use Rattle.snap_io.specs.Files.{file_of};
-ghost use Rattle.snap_cli.specs.Causes.{HasCauses};
+ghost use Rattle.snap_cli.specs.Causes.{ReadsAndWrites};
 ghost use Rattle.snap_cli.specs.Deserved.{Meets};
 ghost use Rattle.snap_cli.specs.Obs.{MeetsRun};
 ghost use Rattle.snap_cli.specs.Steps.{refusal_of_run};
@@ -29,12 +28,9 @@ pub(crate) fn report<'a, S: Shelf, O: Sink>(
 ) -> Result<(), Refusal<'a>>
     ensures meets { IfSome (S.files shelf.old) (λ files.
         Meets files (obs program.entry.now packets.entry.now) result (O.taken out.old) (O.taken out.new)) }
-    ensures causes { HasCauses (S.faults shelf.old) (S.faults shelf.new) (O.faults out.old) (O.faults out.new) result }
-    ensures not_usage { IsErrOf result Refusal.Usage → ⊥ }
+    ensures devices { ReadsAndWrites (S.files shelf.old) (S.files shelf.new) (S.faults shelf.old) (S.faults shelf.new)
+        (O.faults out.old) (O.faults out.new) result }
     ensures statuses { EndsWith (statuses_of (obs program.entry.now packets.entry.now)) result }
-    ensures files { S.files shelf.new ≡ S.files shelf.old }
-    ensures later { NoneFell (S.faults shelf.old) (S.faults shelf.new) }
-    ensures out_later { O.faults out.old ≤ O.faults out.new }
 {
     match load_program(alloc, shelf, program) {
         Ok(program) => report_of(alloc, &program, packets, shelf, out),
@@ -53,11 +49,8 @@ fn report_of<'a, S: Shelf, O: Sink>(
     requires { IsBounded program.now }
     ensures meets { IfSome (S.files shelf.old) (λ files.
         MeetsRun program.now packets.entry.now (file_of files packets.entry.now) result (O.taken out.old) (O.taken out.new)) }
-    ensures causes { HasCauses (S.faults shelf.old) (S.faults shelf.new) (O.faults out.old) (O.faults out.new) result }
-    ensures not_usage { IsErrOf result Refusal.Usage → ⊥ }
-    ensures files { S.files shelf.new ≡ S.files shelf.old }
-    ensures later { NoneFell (S.faults shelf.old) (S.faults shelf.new) }
-    ensures out_later { O.faults out.old ≤ O.faults out.new }
+    ensures devices { ReadsAndWrites (S.files shelf.old) (S.files shelf.new) (S.faults shelf.old) (S.faults shelf.new)
+        (O.faults out.old) (O.faults out.new) result }
     ensures statuses { EndsWith (2 ∷ 6 ∷ 12 ∷ 15 ∷ []) result }
 {
     match one_switch(alloc, shelf, packets, program, out) {

@@ -1,26 +1,23 @@
 //! The command `place`: a placement of least cost.
 
-ghost use Rattle.std.specs.Prelude.{◌≡◌, ◌≤◌, ◌∷◌, [], ℕ, List, IfErr, IfOk, IfSome, IsErrOf, length};
+ghost use Rattle.std.specs.Prelude.{◌≡◌, ◌∷◌, [], IfErr, IfOk, IfSome, length};
 ghost use Rattle.snap_core.specs.Programs.{IsInForm};
 ghost use Rattle.snap_dep.specs.Ranks.{IsGrouping};
-ghost use Rattle.snap_io.specs.Causes.{NoneFell, Rose};
-ghost use Rattle.snap_io.specs.Files.{file_of};
 ghost use Rattle.snap_topo.specs.Form.{IsInForm as IsTopology};
 ghost use Rattle.snap_route.specs.Tables.{AreRoutes};
 ghost use Rattle.snap_place.specs.Printed.{placement_text};
 ghost use Rattle.snap_seek.specs.Placements.{IsBestOf, IsDemand};
 ghost use Rattle.snap_seek.specs.declared.best.Best.{Best};
 ghost use Rattle.snap_words.specs.Commands.{place};
-ghost use Rattle.snap_cli.specs.Causes.{HasCauses, IsRead, IsReadOf};
+ghost use Rattle.snap_cli.specs.Causes.{BlamesNoDevice, OnlyReads, ReadsAndWrites};
 ghost use Rattle.snap_cli.specs.Deserved.{Meets};
 ghost use Rattle.snap_cli.specs.Place.{refusal_of_demand};
-ghost use Rattle.snap_cli.specs.PlaceSteps.{GivesPlacement, Places, PlacesFor, PlacesOn};
+ghost use Rattle.snap_cli.specs.PlaceSteps.{GivesPlacement, Places};
 ghost use Rattle.snap_cli.specs.Statuses.{EndsWith, RefusesWith, statuses_of};
 
-use crate::network::{Network, load_network};
-use crate::program::load_program;
+use crate::inputs::load_inputs;
+use crate::network::Network;
 use crate::refusal::{NoDemand, Refusal};
-use crate::text::load_text;
 use snap_core::NoMemory;
 use snap_core::lists::Names;
 use snap_core::program::Program;
@@ -31,9 +28,6 @@ use snap_place::print;
 use snap_seek::demand::{Demand, DemandFault};
 use snap_seek::{read_demand, seek};
 use std::alloc::Global;
-
-/// The most bytes of a demand's file.
-pub const MOST_DEMAND: u64 = 1_048_576;
 
 /// Writes the placement of least cost for a program, a topology and a demand.
 pub(crate) fn report<'a, S: Shelf, O: Sink>(
@@ -46,12 +40,9 @@ pub(crate) fn report<'a, S: Shelf, O: Sink>(
 ) -> Result<(), Refusal<'a>>
     ensures meets { IfSome (S.files shelf.old) (λ files.
         Meets files (place program.entry.now topology.entry.now demand.entry.now) result (O.taken out.old) (O.taken out.new)) }
-    ensures causes { HasCauses (S.faults shelf.old) (S.faults shelf.new) (O.faults out.old) (O.faults out.new) result }
-    ensures not_usage { IsErrOf result Refusal.Usage → ⊥ }
+    ensures devices { ReadsAndWrites (S.files shelf.old) (S.files shelf.new) (S.faults shelf.old) (S.faults shelf.new)
+        (O.faults out.old) (O.faults out.new) result }
     ensures statuses { EndsWith (statuses_of (place program.entry.now topology.entry.now demand.entry.now)) result }
-    ensures files { S.files shelf.new ≡ S.files shelf.old }
-    ensures later { NoneFell (S.faults shelf.old) (S.faults shelf.new) }
-    ensures out_later { O.faults out.old ≤ O.faults out.new }
 {
     match load_placement(alloc, program, topology, demand, shelf) {
         Ok(text) => match write_whole(out, &text) {
@@ -71,65 +62,11 @@ fn load_placement<'a, S: Shelf>(
     shelf: &mut S,
 ) -> Result<Vec<u8>, Refusal<'a>>
     ensures gives { IfSome (S.files shelf.old) (λ files. GivesPlacement files program.entry.now topology.entry.now demand.entry.now result) }
-    ensures read { (file : List ℕ) → IsReadOf file result → Rose (S.faults shelf.old file) (S.faults shelf.new file) }
-    ensures not_write { IsErrOf result Refusal.Write → ⊥ }
-    ensures not_usage { IsErrOf result Refusal.Usage → ⊥ }
+    ensures devices { OnlyReads (S.files shelf.old) (S.files shelf.new) (S.faults shelf.old) (S.faults shelf.new) result }
     ensures statuses { IfErr result (RefusesWith (2 ∷ 4 ∷ 5 ∷ 6 ∷ 7 ∷ 8 ∷ 19 ∷ [])) }
-    ensures files { S.files shelf.new ≡ S.files shelf.old }
-    ensures later { NoneFell (S.faults shelf.old) (S.faults shelf.new) }
 {
-    match load_program(alloc, shelf, program) {
-        Ok(program) => placement_on(alloc, program, topology, demand, shelf),
-        Err(refusal) => Err(refusal),
-    }
-}
-
-// The text of the placement of a program that was read.
-fn placement_on<'a, S: Shelf>(
-    alloc: Global,
-    program: Program,
-    topology: &'a [u8],
-    demand: &'a [u8],
-    shelf: &mut S,
-) -> Result<Vec<u8>, Refusal<'a>>
-    requires { IsInForm program }
-    ensures gives { IfSome (S.files shelf.old) (λ files. PlacesOn files program topology.entry.now demand.entry.now result) }
-    ensures read { (file : List ℕ) → IsReadOf file result → Rose (S.faults shelf.old file) (S.faults shelf.new file) }
-    ensures not_write { IsErrOf result Refusal.Write → ⊥ }
-    ensures not_usage { IsErrOf result Refusal.Usage → ⊥ }
-    ensures later { NoneFell (S.faults shelf.old) (S.faults shelf.new) }
-    ensures statuses { IfErr result (RefusesWith (2 ∷ 6 ∷ 7 ∷ 8 ∷ 19 ∷ [])) }
-    ensures files { S.files shelf.new ≡ S.files shelf.old }
-{
-    match load_network(alloc, shelf, topology) {
-        Ok(network) => placement_for(alloc, program, &network, demand, shelf),
-        Err(refusal) => Err(refusal),
-    }
-}
-
-// The text of the placement of a program on a topology.
-fn placement_for<'a, S: Shelf>(
-    alloc: Global,
-    program: Program,
-    network: &Network,
-    demand: &'a [u8],
-    shelf: &mut S,
-) -> Result<Vec<u8>, Refusal<'a>>
-    requires program { IsInForm program }
-    requires topology { IsTopology network.now.topology }
-    requires routes { AreRoutes network.now.topology network.now.routes }
-    ensures gives { IfSome (S.files shelf.old) (λ files. PlacesFor program network.now.topology network.now.routes demand.entry.now (file_of files demand.entry.now) result) }
-    ensures read { (file : List ℕ) → IsReadOf file result → Rose (S.faults shelf.old file) (S.faults shelf.new file) }
-    ensures not_write { IsErrOf result Refusal.Write → ⊥ }
-    ensures not_usage { IsErrOf result Refusal.Usage → ⊥ }
-    ensures later { NoneFell (S.faults shelf.old) (S.faults shelf.new) }
-    ensures statuses { IfErr result (RefusesWith (2 ∷ 6 ∷ 19 ∷ [])) }
-    ensures files { S.files shelf.new ≡ S.files shelf.old }
-{
-    match load_text(alloc, shelf, demand, MOST_DEMAND) {
-        Ok(text) => placement_of(alloc, program, network, &text),
-        Err(refusal) => Err(refusal),
-    }
+    let inputs = load_inputs(alloc, program, topology, demand, shelf)?;
+    placement_of(alloc, inputs.program, &inputs.network, &inputs.text)
 }
 
 // The text of the placement for the demand that a text spells.
@@ -143,9 +80,7 @@ fn placement_of<'a>(
     requires topology { IsTopology network.now.topology }
     requires routes { AreRoutes network.now.topology network.now.routes }
     ensures places { Places program network.now.topology network.now.routes text.now result }
-    ensures not_read { IsRead result → ⊥ }
-    ensures not_write { IsErrOf result Refusal.Write → ⊥ }
-    ensures not_usage { IsErrOf result Refusal.Usage → ⊥ }
+    ensures devices { IfErr result BlamesNoDevice }
 {
     let groups = groups(alloc, &program)?;
     match read_demand(alloc, text, &program, &groups, &network.topology) {

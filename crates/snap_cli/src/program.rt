@@ -1,10 +1,9 @@
 //! The program of a file.
 
-ghost use Rattle.std.specs.Prelude.{◌≡◌, ◌≤◌, ◌∷◌, [], ℕ, List, IfErr, IfOk, IfSome, IsErrOf, length};
+ghost use Rattle.std.specs.Prelude.{◌≡◌, ◌≤◌, ◌∷◌, [], IfErr, IfOk, IfSome, length};
 ghost use Rattle.snap_core.specs.Programs.{IsBounded, IsInForm};
-ghost use Rattle.snap_io.specs.Causes.{NoneFell, Rose};
 ghost use Rattle.snap_io.specs.Files.{file_of};
-ghost use Rattle.snap_cli.specs.Causes.{IsRead, IsReadOf};
+ghost use Rattle.snap_cli.specs.Causes.{BlamesNoDevice, OnlyReads};
 ghost use Rattle.snap_cli.specs.Spots.{spot_of};
 ghost use Rattle.snap_cli.specs.Steps.{GivesProgram, SpellsProgram, refusal_of_names, refusal_of_tokens, refusal_of_tree};
 ghost use Rattle.snap_cli.specs.Statuses.{RefusesWith};
@@ -31,11 +30,7 @@ pub(crate) fn load_program<'a, S: Shelf>(
     ensures gives { IfSome (S.files shelf.old) (λ files. GivesProgram name.entry.now (file_of files name.entry.now) result) }
     ensures bounded { IfOk result IsBounded }
     ensures form { IfOk result IsInForm }
-    ensures read { (file : List ℕ) → IsReadOf file result → Rose (S.faults shelf.old file) (S.faults shelf.new file) }
-    ensures not_write { IsErrOf result Refusal.Write → ⊥ }
-    ensures not_usage { IsErrOf result Refusal.Usage → ⊥ }
-    ensures files { S.files shelf.new ≡ S.files shelf.old }
-    ensures later { NoneFell (S.faults shelf.old) (S.faults shelf.new) }
+    ensures devices { OnlyReads (S.files shelf.old) (S.files shelf.new) (S.faults shelf.old) (S.faults shelf.new) result }
     ensures statuses { IfErr result (RefusesWith (2 ∷ 4 ∷ 5 ∷ 6 ∷ [])) }
 {
     match load_text(alloc, shelf, name, MOST_PROGRAM) {
@@ -50,9 +45,7 @@ pub(crate) fn read_program<'a>(alloc: Global, text: &[u8]) -> Result<Program, Re
     ensures gives { SpellsProgram text.now result }
     ensures bounded { IfOk result IsBounded }
     ensures form { IfOk result IsInForm }
-    ensures not_read { IsRead result → ⊥ }
-    ensures not_write { IsErrOf result Refusal.Write → ⊥ }
-    ensures not_usage { IsErrOf result Refusal.Usage → ⊥ }
+    ensures devices { IfErr result BlamesNoDevice }
 {
     let tokens = match tokens(alloc, text) {
         Ok(tokens) => tokens,

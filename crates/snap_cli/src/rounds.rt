@@ -1,10 +1,9 @@
 //! `trace --ordered --workers`: the report of a run by rounds, in which several workers make the steps.
 
-ghost use Rattle.std.specs.Prelude.{◌≡◌, ◌≤◌, IfSome, IsErrOf};
-ghost use Rattle.snap_cli.specs.Causes.{HasCauses};
+ghost use Rattle.std.specs.Prelude.{◌≡◌, IfSome};
+ghost use Rattle.snap_cli.specs.Causes.{ReadsAndWrites};
 ghost use Rattle.snap_cli.specs.RoundsSteps.{MeetsByRounds, MeetsRounds};
 ghost use Rattle.snap_cli.specs.Statuses.{EndsWith, statuses_of_trace};
-ghost use Rattle.snap_io.specs.Causes.{NoneFell};
 ghost use Rattle.snap_words.specs.Commands.{rounds, plain};
 
 use crate::in_turn::has_turns;
@@ -32,12 +31,9 @@ pub(crate) fn report_by_rounds<'a, R: Threads + Sync, S: Shelf, O: Sink>(
 ) -> Result<(), Refusal<'a>>
     ensures meets { IfSome (S.files shelf.old) (λ files.
         MeetsByRounds files tables hops packets.entry result (O.taken out.old) (O.taken out.new)) }
-    ensures causes { HasCauses (S.faults shelf.old) (S.faults shelf.new) (O.faults out.old) (O.faults out.new) result }
-    ensures not_usage { IsErrOf result Refusal.Usage → ⊥ }
+    ensures devices { ReadsAndWrites (S.files shelf.old) (S.files shelf.new) (S.faults shelf.old) (S.faults shelf.new)
+        (O.faults out.old) (O.faults out.new) result }
     ensures statuses { EndsWith (statuses_of_trace (rounds workers.value)) result }
-    ensures files { S.files shelf.new ≡ S.files shelf.old }
-    ensures later { NoneFell (S.faults shelf.old) (S.faults shelf.new) }
-    ensures out_later { O.faults out.old ≤ O.faults out.new }
 {
     if has_turns(&tables) {
         report_rounds(rt, alloc, tables, packets, workers, hops, shelf, out)
@@ -60,12 +56,9 @@ fn report_rounds<'a, R: Threads + Sync, S: Shelf, O: Sink>(
     requires version { tables.version ≡ 2 }
     ensures meets { IfSome (S.files shelf.old) (λ files.
         MeetsRounds files tables hops packets.entry result (O.taken out.old) (O.taken out.new)) }
-    ensures causes { HasCauses (S.faults shelf.old) (S.faults shelf.new) (O.faults out.old) (O.faults out.new) result }
-    ensures not_usage { IsErrOf result Refusal.Usage → ⊥ }
+    ensures devices { ReadsAndWrites (S.files shelf.old) (S.files shelf.new) (S.faults shelf.old) (S.faults shelf.new)
+        (O.faults out.old) (O.faults out.new) result }
     ensures statuses { EndsWith (statuses_of_trace plain) result }
-    ensures files { S.files shelf.new ≡ S.files shelf.old }
-    ensures later { NoneFell (S.faults shelf.old) (S.faults shelf.new) }
-    ensures out_later { O.faults out.old ≤ O.faults out.new }
 {
     match trace_workers(
         rt,

@@ -1,13 +1,13 @@
 //! The command `routes`: distances and next hops.
 
-ghost use Rattle.std.specs.Prelude.{◌≡◌, ◌≢◌, ◌<◌, ◌≤◌, ◌++◌, ◌∷◌, [], IfOk, IfSome, IsErrOf, OnErr, OnOk, length};
+ghost use Rattle.std.specs.Prelude.{◌≡◌, ◌≢◌, ◌<◌, ◌≤◌, ◌++◌, ◌∷◌, [], IfOk, IfSome, OnErr, OnOk, length};
 ghost use Rattle.std.specs.Io.KnownBytes.{Appends};
-ghost use Rattle.snap_io.specs.Causes.{HasCause, NoneFell, Rose};
+ghost use Rattle.snap_io.specs.Causes.{HasCause};
 ghost use Rattle.snap_io.specs.Sinks.{AppendsPart};
 ghost use Rattle.snap_topo.specs.Form.{IsInForm};
 ghost use Rattle.snap_route.specs.Tables.{switch_count};
 ghost use Rattle.snap_words.specs.Commands.{routes};
-ghost use Rattle.snap_cli.specs.Causes.{HasCauses, IsRead};
+ghost use Rattle.snap_cli.specs.Causes.{OnlyWrites, ReadsAndWrites};
 ghost use Rattle.snap_cli.specs.Deserved.{Meets};
 ghost use Rattle.snap_cli.specs.Routes.{end_text, line_between, lines_from, route_line, routes_text};
 ghost use Rattle.snap_cli.specs.RoutesSteps.{MeetsTopology, Writes, refusal_of_routes};
@@ -33,12 +33,9 @@ pub(crate) fn report<'a, S: Shelf, O: Sink>(
 ) -> Result<(), Refusal<'a>>
     ensures meets { IfSome (S.files shelf.old) (λ files.
         Meets files (routes name.entry.now) result (O.taken out.old) (O.taken out.new)) }
-    ensures causes { HasCauses (S.faults shelf.old) (S.faults shelf.new) (O.faults out.old) (O.faults out.new) result }
-    ensures not_usage { IsErrOf result Refusal.Usage → ⊥ }
+    ensures devices { ReadsAndWrites (S.files shelf.old) (S.files shelf.new) (S.faults shelf.old) (S.faults shelf.new)
+        (O.faults out.old) (O.faults out.new) result }
     ensures statuses { EndsWith (statuses_of (routes name.entry.now)) result }
-    ensures files { S.files shelf.new ≡ S.files shelf.old }
-    ensures later { NoneFell (S.faults shelf.old) (S.faults shelf.new) }
-    ensures out_later { O.faults out.old ≤ O.faults out.new }
 {
     match load_topology(alloc, shelf, name) {
         Ok(topology) => report_of(alloc, topology, out),
@@ -50,10 +47,7 @@ pub(crate) fn report<'a, S: Shelf, O: Sink>(
 fn report_of<'a, O: Sink>(alloc: Global, topology: Topology, out: &mut O) -> Result<(), Refusal<'a>>
     requires { IsInForm topology }
     ensures meets { MeetsTopology topology result (O.taken out.old) (O.taken out.new) }
-    ensures write { IsErrOf result Refusal.Write → Rose (O.faults out.old) (O.faults out.new) }
-    ensures not_read { IsRead result → ⊥ }
-    ensures not_usage { IsErrOf result Refusal.Usage → ⊥ }
-    ensures out_later { O.faults out.old ≤ O.faults out.new }
+    ensures devices { OnlyWrites (O.faults out.old) (O.faults out.new) result }
 {
     match routes(alloc, &topology) {
         Ok(routes) => write_routes(alloc, &topology.switches, &routes, out),
@@ -81,10 +75,7 @@ fn write_routes<'a, O: Sink>(
     requires few { length switches.now ≤ 256 }
     requires count { switch_count routes.now ≡ length switches.now }
     ensures writes { Writes (routes_text switches.now routes.now) result (O.taken out.old) (O.taken out.new) }
-    ensures write { IsErrOf result Refusal.Write → Rose (O.faults out.old) (O.faults out.new) }
-    ensures not_read { IsRead result → ⊥ }
-    ensures not_usage { IsErrOf result Refusal.Usage → ⊥ }
-    ensures out_later { O.faults out.old ≤ O.faults out.new }
+    ensures devices { OnlyWrites (O.faults out.old) (O.faults out.new) result }
 {
     for a in 0..switches.items().len() as u16 {
         let lines = lines_from(alloc, switches, routes, a)?;

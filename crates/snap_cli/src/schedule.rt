@@ -1,12 +1,11 @@
 //! `trace --schedule`: the report of the events that a schedule orders.
 
-ghost use Rattle.std.specs.Prelude.{◌≡◌, ◌≤◌, IfSome, IsErrOf};
+ghost use Rattle.std.specs.Prelude.{◌≡◌, IfSome};
 ghost use Rattle.snap_io.specs.Files.{file_of};
-ghost use Rattle.snap_cli.specs.Causes.{HasCauses};
+ghost use Rattle.snap_cli.specs.Causes.{ReadsAndWrites};
 ghost use Rattle.snap_cli.specs.RunSteps.{refusal_of_schedule};
 ghost use Rattle.snap_cli.specs.TraceSteps.{MeetsSchedule};
 ghost use Rattle.snap_cli.specs.Statuses.{EndsWith, statuses_of_trace};
-ghost use Rattle.snap_io.specs.Causes.{NoneFell};
 ghost use Rattle.snap_words.specs.Commands.{schedule};
 
 use crate::obs::refusal_of_run;
@@ -30,12 +29,9 @@ pub(crate) fn report_scheduled<'a, S: Shelf, O: Sink>(
 ) -> Result<(), Refusal<'a>>
     ensures meets { IfSome (S.files shelf.old) (λ files. MeetsSchedule tables hops packets.entry lines.entry
         (file_of files packets.entry.now) (file_of files lines.entry.now) result (O.taken out.old) (O.taken out.new)) }
-    ensures causes { HasCauses (S.faults shelf.old) (S.faults shelf.new) (O.faults out.old) (O.faults out.new) result }
-    ensures not_usage { IsErrOf result Refusal.Usage → ⊥ }
+    ensures devices { ReadsAndWrites (S.files shelf.old) (S.files shelf.new) (S.faults shelf.old) (S.faults shelf.new)
+        (O.faults out.old) (O.faults out.new) result }
     ensures statuses { EndsWith (statuses_of_trace (schedule lines.entry.now)) result }
-    ensures files { S.files shelf.new ≡ S.files shelf.old }
-    ensures later { NoneFell (S.faults shelf.old) (S.faults shelf.new) }
-    ensures out_later { O.faults out.old ≤ O.faults out.new }
 {
     match scheduled(alloc, shelf, packets, lines, tables, hops, out) {
         Ok(()) => Ok(()),

@@ -1,9 +1,8 @@
 //! The tables of a file.
 
-ghost use Rattle.std.specs.Prelude.{◌≡◌, ◌≤◌, ◌∷◌, [], ℕ, List, IfErr, IfSome, IsErrOf};
-ghost use Rattle.snap_io.specs.Causes.{NoneFell, Rose};
+ghost use Rattle.std.specs.Prelude.{◌≡◌, ◌∷◌, [], IfErr, IfSome};
 ghost use Rattle.snap_io.specs.Files.{file_of};
-ghost use Rattle.snap_cli.specs.Causes.{IsRead, IsReadOf};
+ghost use Rattle.snap_cli.specs.Causes.{BlamesNoDevice, OnlyReads};
 ghost use Rattle.snap_cli.specs.TraceSteps.{LoadsTables, ReadsTables, refusal_of_tables};
 ghost use Rattle.snap_cli.specs.Statuses.{RefusesWith};
 
@@ -25,11 +24,7 @@ pub(crate) fn load_tables<'a, S: Shelf>(
     name: &'a [u8],
 ) -> Result<Valid, Refusal<'a>>
     ensures gives { IfSome (S.files shelf.old) (λ files. LoadsTables name.entry.now (file_of files name.entry.now) result) }
-    ensures read { (file : List ℕ) → IsReadOf file result → Rose (S.faults shelf.old file) (S.faults shelf.new file) }
-    ensures not_write { IsErrOf result Refusal.Write → ⊥ }
-    ensures not_usage { IsErrOf result Refusal.Usage → ⊥ }
-    ensures files { S.files shelf.new ≡ S.files shelf.old }
-    ensures later { NoneFell (S.faults shelf.old) (S.faults shelf.new) }
+    ensures devices { OnlyReads (S.files shelf.old) (S.files shelf.new) (S.faults shelf.old) (S.faults shelf.new) result }
     ensures statuses { IfErr result (RefusesWith (2 ∷ 6 ∷ 11 ∷ [])) }
 {
     match load_text(alloc, shelf, name, MOST_TABLES) {
@@ -41,9 +36,7 @@ pub(crate) fn load_tables<'a, S: Shelf>(
 // The valid tables that a text spells.
 pub(crate) fn read_tables<'a>(alloc: Global, text: &[u8]) -> Result<Valid, Refusal<'a>>
     ensures reads { ReadsTables text.now result }
-    ensures not_read { IsRead result → ⊥ }
-    ensures not_write { IsErrOf result Refusal.Write → ⊥ }
-    ensures not_usage { IsErrOf result Refusal.Usage → ⊥ }
+    ensures devices { IfErr result BlamesNoDevice }
 {
     match read(alloc, text) {
         Ok(tables) => Ok(tables),

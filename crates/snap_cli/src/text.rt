@@ -1,9 +1,8 @@
 //! The text of a file.
 
-ghost use Rattle.std.specs.Prelude.{◌≡◌, ◌<◌, ◌≤◌, ◌-◌, ◌^◌, ◌∷◌, [], ℕ, List, IfErr, IfOk, IfSome, IsErrOf, length};
-ghost use Rattle.snap_io.specs.Causes.{NoneFell, Rose};
+ghost use Rattle.std.specs.Prelude.{◌<◌, ◌≤◌, ◌-◌, ◌^◌, ◌∷◌, [], IfErr, IfOk, IfSome, length};
 ghost use Rattle.snap_io.specs.Files.{file_of};
-ghost use Rattle.snap_cli.specs.Causes.{IsReadOf};
+ghost use Rattle.snap_cli.specs.Causes.{OnlyReads};
 ghost use Rattle.snap_cli.specs.Texts.{GivesText};
 ghost use Rattle.snap_cli.specs.Statuses.{RefusesWith};
 
@@ -22,11 +21,7 @@ pub(crate) fn load_text<'a, S: Shelf>(
     requires { most < 2 ^ 64 - 1 }
     ensures gives { IfSome (S.files shelf.old) (λ files. GivesText most name.entry.now (file_of files name.entry.now) result) }
     ensures bound { IfOk result (λ text. length text.items ≤ most) }
-    ensures read { (file : List ℕ) → IsReadOf file result → Rose (S.faults shelf.old file) (S.faults shelf.new file) }
-    ensures not_write { IsErrOf result Refusal.Write → ⊥ }
-    ensures not_usage { IsErrOf result Refusal.Usage → ⊥ }
-    ensures files { S.files shelf.new ≡ S.files shelf.old }
-    ensures later { NoneFell (S.faults shelf.old) (S.faults shelf.new) }
+    ensures devices { OnlyReads (S.files shelf.old) (S.files shelf.new) (S.faults shelf.old) (S.faults shelf.new) result }
     ensures statuses { IfErr result (RefusesWith (2 ∷ 6 ∷ [])) }
 {
     match read_whole(alloc, shelf, name, most) {

@@ -7,7 +7,7 @@ ghost use Rattle.snap_io.specs.Files.{Files};
 ghost use Rattle.snap_words.specs.Commands.{command_of, demo};
 ghost use Rattle.snap_words.specs.Said.{bytes_of};
 ghost use Rattle.snap_cli.specs.Answers.{Answers, MeetsWords};
-ghost use Rattle.snap_cli.specs.Causes.{HasCauses};
+ghost use Rattle.snap_cli.specs.Causes.{ReadsAndWrites};
 ghost use Rattle.snap_cli.specs.Refusals.{status_of};
 ghost use Rattle.snap_cli.specs.Statuses.{CanAnswer};
 
@@ -76,16 +76,13 @@ fn run<'a, R: Threads + Sync, S: Shelf, O: Sink>(
 ) -> Result<(), Refusal<'a>>
     ensures meets { IfSome (S.files shelf.old) (λ files.
         MeetsWords files (bytes_of words.entry.now) result (O.taken out.old) (O.taken out.new)) }
-    ensures usage { IsErrOf result Refusal.Usage → command_of (bytes_of words.entry.now) ≡ None }
     ensures usage_comes { command_of (bytes_of words.entry.now) ≡ None → IsErrOf result Refusal.Usage ⊎ IsErrOf result Refusal.NoMemory }
-    ensures nothing { IsErrOf result Refusal.Usage → Appends (O.taken out.old) (O.taken out.new) [] }
-    ensures causes { HasCauses (S.faults shelf.old) (S.faults shelf.new) (O.faults out.old) (O.faults out.new) result }
+    ensures nothing { command_of (bytes_of words.entry.now) ≡ None → Appends (O.taken out.old) (O.taken out.new) [] }
+    ensures devices { ReadsAndWrites (S.files shelf.old) (S.files shelf.new) (S.faults shelf.old) (S.faults shelf.new)
+        (O.faults out.old) (O.faults out.new) result }
     ensures statuses { IfSome (command_of (bytes_of words.entry.now)) (λ command. CanAnswer command (status_of result)) }
     ensures demo { (switches : ℕ) → command_of (bytes_of words.entry.now) ≡ Some (demo switches) → (files : Files) →
         MeetsWords files (bytes_of words.entry.now) result (O.taken out.old) (O.taken out.new) }
-    ensures files { S.files shelf.new ≡ S.files shelf.old }
-    ensures later { NoneFell (S.faults shelf.old) (S.faults shelf.new) }
-    ensures out_later { O.faults out.old ≤ O.faults out.new }
 {
     match command(alloc, words) {
         Ok(Command::Obs { program, packets }) => obs::report(alloc, program, packets, shelf, out),

@@ -1,14 +1,14 @@
-use Rattle.std.proofs.Common.{◌≡◌, ◌++◌, ◌∷◌, ◌+◌, ◌<◌, ◌≤◌, [], Err, List, drop, get_or, length, take, refl, sym, ap, subst, ◌∙◌, arith}
+use Rattle.std.proofs.Common.{◌≡◌, ◌++◌, ◌∷◌, ◌+◌, ◌<◌, ◌≤◌, [], List, drop, get_or, length, take, refl, sym, ap, subst, ◌∙◌, arith}
 use Rattle.std.specs.List.{All}
 use Rattle.std.specs.Prelude.{IfSome}
 use Rattle.std.proofs.lemmas.List.{drop_all, map-append, take_more}
 use Rattle.std.proofs.lemmas.List.Elements.{All-push}
-use Rattle.std.proofs.lemmas.Result.{err_from_is_err_and}
 use Rattle.snap_move.specs.declared.change.Change.{Change}
 use Rattle.snap_move.specs.declared.later.Later.{Later}
 use Rattle.snap_move.specs.Shapes.{HaveOneShape}
-use Rattle.snap_cli.proofs.ChangesLemmas.{Loaded, told-all, told-more, told-no_more, told-none, told-short}
+use Rattle.snap_cli.proofs.ChangesLemmas.{Loaded, told-all, told-more, told-no_more}
 use Rattle.snap_cli.specs.ChangesSteps.{LoadsLaters, afters, afters_of}
+use Rattle.snap_cli.proofs.Relayed.{relayed}
 use Rattle.snap_cli.proofs.changes.load_all.Goals as goal
 
 pub loop-change-preserved : goal.loop-change-preserved
@@ -26,8 +26,8 @@ loop-change-preserved g c =
       shapes = subst (All (λ (y : Later). HaveOneShape y.tables c.args.first.now)) (sym pushed) (All-push (λ (y : Later). HaveOneShape y.tables c.args.first.now) l.later.items x l.invariant.shapes c.in_ok-next.ensures.shape);
       afters_same = ap afters pushed ∙ map-append (λ (y : Later). y.after) l.later.items (x ∷ []) ∙ (λ j. l.invariant.afters_same j ++ c.in_ok-next.ensures.after j ∷ [])
           ∙ sym (map-append (λ (y : Change). y.after) (take i all) (item ∷ [])) ∙ ap afters_of ((λ j. take i all ++ c.change-item.is j ∷ []) ∙ sym (take_more all i item c.loop-change-test.true));
-      files = c.load_later.ensures.files ∙ l.invariant.files;
-      none_fell = λ name. (let a = l.invariant.none_fell name in let b = c.load_later.ensures.later name in omega (arith, a, b));
+      files = c.load_later.ensures.devices.files ∙ l.invariant.files;
+      none_fell = λ name. (let a = l.invariant.none_fell name in let b = c.load_later.ensures.devices.later name in omega (arith, a, b));
     }
 
 pub returns-in_err-next-clause-gives : goal.returns-in_err-next-clause-gives
@@ -35,10 +35,9 @@ returns-in_err-next-clause-gives g c =
     let l = c.loop-change in
     let told = g.S.Shelf.files c.args.shelf.now in
     let all = c.args.changes.now in
-    let out = err_from_is_err_and c.from_residual.result c.from_residual.ensures.1 in
-    let gives = told-no_more told (g.S.Shelf.files l.shelf) c.args.first.now all l.change-index c.change-item.result l.later.items c.in_err-next.field-0.0 l.invariant.files c.loop-change-test.true c.change-item.is l.invariant.loaded c.in_err-next.ensures.gives in
-    subst (λ r. IfSome told (λ files. LoadsLaters files c.args.first.now all r)) (sym out.1)
-    (subst (λ e. IfSome told (λ files. LoadsLaters files c.args.first.now all (Err e))) (sym out.2) gives)
+    let e = c.in_err-next.field-0.0 in
+    relayed (λ r. IfSome told (λ files. LoadsLaters files c.args.first.now all r)) c.from_residual.result e c.from_residual.ensures.1
+    (told-no_more told (g.S.Shelf.files l.shelf) c.args.first.now all l.change-index c.change-item.result l.later.items e l.invariant.files c.loop-change-test.true c.change-item.is l.invariant.loaded c.in_err-next.ensures.gives)
 
 pub returns-clause-gives : goal.returns-clause-gives
 returns-clause-gives g c =

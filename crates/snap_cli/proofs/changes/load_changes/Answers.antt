@@ -1,15 +1,17 @@
-use Rattle.std.proofs.Common.{◌≡◌, List, ap, ◌∙◌, [], ◌∷◌, refl}
+use Rattle.std.proofs.Common.{◌≡◌, List, ap, subst, ◌∙◌, [], ◌∷◌, refl}
 use Rattle.std.proofs.lemmas.Result.{IfOk-weaker}
 use Rattle.snap_move.specs.declared.change.Change.{Change}
 use Rattle.snap_move.specs.Changing.{IsRising}
-use Rattle.snap_cli.specs.ChangesSteps.{afters, afters_of}
-use Rattle.snap_cli.proofs.ChangesLemmas.{rising-changes, told-tables}
+use Rattle.snap_cli.specs.ChangesSteps.{LoadsLaters, afters, afters_of}
+use Rattle.snap_cli.proofs.ChangesLemmas.{loads-all, rising-changes}
 use Rattle.snap_cli.proofs.StatusLemmas.{refuses-more}
+use Rattle.snap_cli.proofs.Relayed.{IfSome_both}
 use Rattle.snap_cli.proofs.changes.load_changes.Goals as goal
 
 pub returns-clause-gives : goal.returns-clause-gives
 returns-clause-gives g c =
-    told-tables (g.S.Shelf.files c.args.shelf.now) _ c.args.first.now c.args.name.now c.in-Ok.changes c.deref.result.now c.load_all.result c.in-Ok.ensures.files c.in-Ok.ensures.gives c.deref.ensures.value c.load_all.ensures.gives
+    IfSome_both (g.S.Shelf.files c.args.shelf.now) _ c.in-Ok.ensures.devices.files c.in-Ok.ensures.gives c.load_all.ensures.gives (λ files said loaded.
+    loads-all files c.args.first.now c.args.name.now c.in-Ok.changes.items c.load_all.result said (subst (λ cs. LoadsLaters files c.args.first.now cs c.load_all.result) c.deref.ensures.value loaded))
 
 pub returns-clause-rising : goal.returns-clause-rising
 returns-clause-rising g c =

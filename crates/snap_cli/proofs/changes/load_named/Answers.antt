@@ -1,11 +1,16 @@
-use Rattle.snap_cli.proofs.TraceLemmas.{told-loaded}
-use Rattle.std.proofs.Common.{[], ◌∷◌, refl}
+use Rattle.snap_cli.proofs.TraceLemmas.{loads-read}
+use Rattle.std.proofs.Common.{[], ◌∷◌, refl, subst, ◌∙◌}
+use Rattle.snap_io.specs.Files.{file_of}
+use Rattle.snap_cli.specs.TraceSteps.{ReadsTables}
 use Rattle.snap_cli.proofs.StatusLemmas.{of-tables, refuses-more}
+use Rattle.std.proofs.lemmas.Option.{IfSome_then}
 use Rattle.snap_cli.proofs.changes.load_named.Goals as goal
 
 pub returns-in-Ok-clause-gives : goal.returns-in-Ok-clause-gives
 returns-in-Ok-clause-gives g c =
-    told-loaded (g.S.Shelf.files c.args.shelf.now) c.args.change.now.name c.in-Ok.text c.deref.result.now c.read_tables.result c.in-Ok.ensures.gives c.deref.ensures.value c.read_tables.ensures.reads
+    let name = c.args.change.now.name in
+    IfSome_then (g.S.Shelf.files c.args.shelf.now) c.in-Ok.ensures.gives (λ files text.
+    loads-read name (file_of files name) c.read_tables.result text.1 (subst (λ x. ReadsTables x c.read_tables.result) (c.deref.ensures.value ∙ text.0) c.read_tables.ensures.reads))
 
 pub returns-in-Ok-clause-statuses : goal.returns-in-Ok-clause-statuses
 returns-in-Ok-clause-statuses g c = of-tables c.deref.result.now c.read_tables.result c.read_tables.ensures.reads

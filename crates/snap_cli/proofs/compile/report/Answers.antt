@@ -1,17 +1,20 @@
-use Rattle.snap_cli.proofs.CompileLemmas.{told-refused, told-written}
+use Rattle.snap_cli.proofs.CompileLemmas.{meets-refused, meets-written}
 use Rattle.std.proofs.Common.{[], ◌∷◌, refl}
 use Rattle.snap_tables.specs.Text.{text as tables_text}
 use Rattle.snap_cli.proofs.StatusLemmas.{ends-refused, ends-written}
+use Rattle.std.proofs.lemmas.Option.{IfSome_then}
 use Rattle.snap_cli.proofs.compile.report.Goals as goal
 
 pub returns-in-Ok-clause-meets : goal.returns-in-Ok-clause-meets
 returns-in-Ok-clause-meets g c =
-    told-written (g.S.Shelf.files c.args.shelf.now) c.args.program.now c.args.topology.now c.args.placement.now c.args.on_demand (g.O.Sink.taken c.args.out.now) (g.O.Sink.taken c.write_tables.new.out) c.in-Ok.tables c.write_tables.result
-    c.in-Ok.ensures.gives c.write_tables.ensures.back c.write_tables.ensures.writes
+    IfSome_then (g.S.Shelf.files c.args.shelf.now) c.in-Ok.ensures.gives (λ files are.
+    meets-written files c.args.program.now c.args.topology.now c.args.placement.now c.args.on_demand (g.O.Sink.taken c.args.out.now) (g.O.Sink.taken c.write_tables.new.out) c.in-Ok.tables are c.write_tables.ensures.back c.write_tables.result
+    c.write_tables.ensures.writes)
 
 pub returns-in-Err-clause-meets : goal.returns-in-Err-clause-meets
 returns-in-Err-clause-meets g c =
-    told-refused (g.S.Shelf.files c.args.shelf.now) c.args.program.now c.args.topology.now c.args.placement.now c.args.on_demand (g.O.Sink.taken c.args.out.now) c.in-Err.refusal c.in-Err.ensures.gives
+    IfSome_then (g.S.Shelf.files c.args.shelf.now) c.in-Err.ensures.gives (λ files no.
+    meets-refused files c.args.program.now c.args.topology.now c.args.placement.now c.args.on_demand (g.O.Sink.taken c.args.out.now) c.in-Err.refusal no)
 
 pub returns-in-Ok-clause-statuses : goal.returns-in-Ok-clause-statuses
 returns-in-Ok-clause-statuses g c = ends-written (tables_text c.in-Ok.tables) (2 ∷ 4 ∷ 5 ∷ 6 ∷ 7 ∷ 8 ∷ 9 ∷ 10 ∷ []) c.write_tables.result _ _ c.write_tables.ensures.writes

@@ -1,19 +1,20 @@
 use Rattle.snap_words.specs.Commands.{deps}
-use Rattle.snap_cli.proofs.DepsLemmas.{deps-refuses, deps-text}
-use Rattle.snap_cli.proofs.Refused.{told-refused}
+use Rattle.snap_cli.proofs.DepsLemmas.{deps-refuses, meets-text}
+use Rattle.snap_cli.proofs.Refused.{meets-refused}
 use Rattle.std.proofs.Common.{[], ◌∷◌, refl}
 use Rattle.snap_cli.proofs.StatusLemmas.{ends-refused, ends-text}
+use Rattle.std.proofs.lemmas.Option.{IfSome_then}
 use Rattle.snap_cli.proofs.deps.report.Goals as goal
 
 pub returns-in-Ok-clause-meets : goal.returns-in-Ok-clause-meets
 returns-in-Ok-clause-meets g c =
-    deps-text (g.S.Shelf.files c.args.shelf.now) c.args.program.now c.in-Ok.program (g.O.Sink.taken c.args.out.now) (g.O.Sink.taken c.write_text.new.out)
-    c.write_text.result c.in-Ok.ensures.gives c.write_text.ensures.meets
+    IfSome_then (g.S.Shelf.files c.args.shelf.now) c.in-Ok.ensures.gives (λ files read.
+    meets-text files c.args.program.now c.in-Ok.program (g.O.Sink.taken c.args.out.now) (g.O.Sink.taken c.write_text.new.out) c.write_text.result read c.write_text.ensures.meets)
 
 pub returns-in-Err-clause-meets : goal.returns-in-Err-clause-meets
 returns-in-Err-clause-meets g c =
     let p = c.args.program.now in
-    told-refused (g.S.Shelf.files c.args.shelf.now) (deps p) p (g.O.Sink.taken c.args.out.now) c.in-Err.refusal (deps-refuses p) c.in-Err.ensures.gives
+    IfSome_then (g.S.Shelf.files c.args.shelf.now) c.in-Err.ensures.gives (λ files no. meets-refused files (deps p) p (g.O.Sink.taken c.args.out.now) c.in-Err.refusal (deps-refuses p files) no)
 
 pub returns-in-Ok-clause-statuses : goal.returns-in-Ok-clause-statuses
 returns-in-Ok-clause-statuses g c = ends-text c.in-Ok.program c.write_text.result _ _ c.write_text.ensures.meets

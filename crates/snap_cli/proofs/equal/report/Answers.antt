@@ -1,30 +1,28 @@
 -- Both programs are read, or the first that isn't tells why.
-use Rattle.std.proofs.Common.{Ok, Err, IfSome, subst, [], ◌∷◌, refl}
-use Rattle.snap_io.specs.Files.{file_of}
+use Rattle.std.proofs.Common.{[], ◌∷◌, refl}
 use Rattle.snap_words.specs.Commands.{equal}
-use Rattle.snap_cli.specs.Steps.{GivesProgram}
-use Rattle.snap_cli.proofs.EqualLemmas.{equal-answer, equal-refuses, equal-refused-second}
-use Rattle.snap_cli.proofs.Refused.{told-refused}
+use Rattle.snap_cli.proofs.EqualLemmas.{equal-refuses, equal-refuses-second, meets-equal}
+use Rattle.snap_cli.proofs.Refused.{meets-refused}
 use Rattle.snap_cli.proofs.StatusLemmas.{ends-equal, ends-refused}
+use Rattle.std.proofs.lemmas.Option.{IfSome_then}
+use Rattle.snap_cli.proofs.Relayed.{IfSome_both}
 use Rattle.snap_cli.proofs.equal.report.Goals as goal
 
 pub returns-in-Ok-load_program-clause-meets : goal.returns-in-Ok-load_program-clause-meets
 returns-in-Ok-load_program-clause-meets g c =
-    let r = c.args.right.now in
-    equal-answer (g.S.Shelf.files c.args.shelf.now) c.args.left.now r c.in-Ok.first c.in-Ok-load_program.second (g.O.Sink.taken c.args.out.now) (g.O.Sink.taken c.answer.new.out) c.answer.result c.in-Ok.ensures.gives
-    (subst (λ told. IfSome told (λ files. GivesProgram r (file_of files r) (Ok c.in-Ok-load_program.second))) c.in-Ok.ensures.files c.in-Ok-load_program.ensures.gives)
-    c.answer.ensures.meets
+    IfSome_both (g.S.Shelf.files c.args.shelf.now) _ c.in-Ok.ensures.devices.files c.in-Ok.ensures.gives c.in-Ok-load_program.ensures.gives (λ files left right.
+    meets-equal files c.args.left.now c.args.right.now c.in-Ok.first left c.in-Ok-load_program.second right (g.O.Sink.taken c.args.out.now) (g.O.Sink.taken c.answer.new.out) c.answer.result c.answer.ensures.meets)
 
 pub returns-in-Ok-clause-meets : goal.returns-in-Ok-clause-meets
 returns-in-Ok-clause-meets g c =
-    let r = c.args.right.now in
-    equal-refused-second (g.S.Shelf.files c.args.shelf.now) c.args.left.now r c.in-Ok.first (g.O.Sink.taken c.args.out.now) c.in-Err-load_program.refusal c.in-Ok.ensures.gives
-    (subst (λ told. IfSome told (λ files. GivesProgram r (file_of files r) (Err c.in-Err-load_program.refusal))) c.in-Ok.ensures.files c.in-Err-load_program.ensures.gives)
+    let l = c.args.left.now in let r = c.args.right.now in
+    IfSome_both (g.S.Shelf.files c.args.shelf.now) _ c.in-Ok.ensures.devices.files c.in-Ok.ensures.gives c.in-Err-load_program.ensures.gives (λ files left no.
+    meets-refused files (equal l r) r (g.O.Sink.taken c.args.out.now) c.in-Err-load_program.refusal (equal-refuses-second files l r c.in-Ok.first left) no)
 
 pub returns-clause-meets : goal.returns-clause-meets
 returns-clause-meets g c =
     let l = c.args.left.now in let r = c.args.right.now in
-    told-refused (g.S.Shelf.files c.args.shelf.now) (equal l r) l (g.O.Sink.taken c.args.out.now) c.in-Err.refusal (λ files. equal-refuses files l r) c.in-Err.ensures.gives
+    IfSome_then (g.S.Shelf.files c.args.shelf.now) c.in-Err.ensures.gives (λ files no. meets-refused files (equal l r) l (g.O.Sink.taken c.args.out.now) c.in-Err.refusal (equal-refuses files l r) no)
 
 pub returns-in-Ok-load_program-clause-statuses : goal.returns-in-Ok-load_program-clause-statuses
 returns-in-Ok-load_program-clause-statuses g c = ends-equal c.in-Ok.first c.in-Ok-load_program.second c.answer.result _ _ c.answer.ensures.meets

@@ -1,16 +1,17 @@
-use Rattle.snap_cli.proofs.RoutesLemmas.{told-refused, told-report}
+use Rattle.snap_cli.proofs.RoutesLemmas.{meets-refused, meets-topology}
 use Rattle.std.proofs.Common.{[], ◌∷◌, refl}
 use Rattle.snap_cli.proofs.StatusLemmas.{ends-refused, ends-routes}
+use Rattle.std.proofs.lemmas.Option.{IfSome_then}
 use Rattle.snap_cli.proofs.routes.report.Goals as goal
 
 pub returns-in-Ok-clause-meets : goal.returns-in-Ok-clause-meets
 returns-in-Ok-clause-meets g c =
-    told-report (g.S.Shelf.files c.args.shelf.now) c.args.name.now (g.O.Sink.taken c.args.out.now) (g.O.Sink.taken c.report_of.new.out) c.in-Ok.topology
-    c.report_of.result c.in-Ok.ensures.gives c.report_of.ensures.meets
+    IfSome_then (g.S.Shelf.files c.args.shelf.now) c.in-Ok.ensures.gives (λ files read.
+    meets-topology files c.args.name.now (g.O.Sink.taken c.args.out.now) (g.O.Sink.taken c.report_of.new.out) c.in-Ok.topology read c.report_of.result c.report_of.ensures.meets)
 
 pub returns-in-Err-clause-meets : goal.returns-in-Err-clause-meets
 returns-in-Err-clause-meets g c =
-    told-refused (g.S.Shelf.files c.args.shelf.now) c.args.name.now (g.O.Sink.taken c.args.out.now) c.in-Err.refusal c.in-Err.ensures.gives
+    IfSome_then (g.S.Shelf.files c.args.shelf.now) c.in-Err.ensures.gives (λ files no. meets-refused files c.args.name.now (g.O.Sink.taken c.args.out.now) c.in-Err.refusal no)
 
 pub returns-in-Ok-clause-statuses : goal.returns-in-Ok-clause-statuses
 returns-in-Ok-clause-statuses g c = ends-routes c.in-Ok.topology c.report_of.result _ _ c.report_of.ensures.meets
