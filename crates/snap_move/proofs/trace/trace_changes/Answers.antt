@@ -12,7 +12,7 @@ use Rattle.snap_move.proofs.trace.trace_changes.Goals as goal
 
 pub returns-in_err-mover-clause-report : goal.returns-in_err-mover-clause-report
 returns-in_err-mover-clause-report g c =
-    let out = err_from_is_err_and c.from_residual-in_err-mover.result c.from_residual-in_err-mover.ensures.1 in
+    let out = err_from_is_err_and c.from_residual.result c.from_residual.ensures.1 in
     whatever_told (g.S.Shelf.files c.args.shelf.now) _ (λ files.
     rw out.1 (rw out.2 (none-written c.args.first c.args.later.items c.args.hops (file_of files c.args.packets.now) (g.K.Sink.taken c.args.sink.now))))
 
