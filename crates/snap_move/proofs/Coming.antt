@@ -1,5 +1,5 @@
 -- How a run with changes comes from one packet to the next.
-use Rattle.std.proofs.Common.{◌≡◌, ℕ, ◌+◌, Bool, List, [], ◌∷◌, ◌++◌, Option, Some, None, Ok, Err, take, length, refl, sym, ap, subst, ◌∙◌, arith}
+use Rattle.std.proofs.Common.{◌≡◌, ℕ, Bool, List, [], ◌∷◌, ◌++◌, Option, Ok, Err, take, length, refl, sym, ap, subst, ◌∙◌, arith}
 use Rattle.std.specs.Prelude.{IsErrOf, is_some, slice_index}
 use Rattle.std.proofs.KnownBytes.{Appends-nil}
 use Rattle.snap_core.specs.Arrays.{zero_arrays}

@@ -9,7 +9,7 @@ use Rattle.snap_rows.specs.declared.tables.ArrayAt.{ArrayAt}
 use Rattle.snap_rows.specs.declared.tables.Tables.{Tables}
 use Rattle.snap_rows.specs.Form.{array_count}
 use Rattle.snap_rows.specs.Network.{Net, start}
-use Rattle.snap_net.specs.Shown.{Held, Shows}
+use Rattle.snap_net.specs.Shown.{Shows}
 use Rattle.snap_runs.specs.declared.frames.Frames.TheVariants.{Plain}
 use Rattle.snap_runs.specs.Tracing.{HasTaken, changed}
 use Rattle.snap_move.specs.declared.later.Later.{Later}

@@ -1,5 +1,5 @@
 -- The report of a network whose tables change, over a packets file.
-use Rattle.std.specs.Prelude.{◌≡◌, ℕ, Bool, List, [], take, Ok, Err}
+use Rattle.std.specs.Prelude.{◌≡◌, ℕ, Bool, List, take, Ok, Err}
 use Rattle.std.specs.declared.option.Option.{Option}
 use Rattle.snap_rows.specs.declared.tables.Tables.{Tables}
 use Rattle.snap_trace.specs.OneSwitch.{RunEnding}

@@ -1,4 +1,4 @@
-use Rattle.std.proofs.Common.{Err, refl, subst, sym, ◌∙◌}
+use Rattle.std.proofs.Common.{refl}
 use Rattle.std.proofs.lemmas.Result.{err_from_is_err_and}
 use Rattle.snap_move.specs.declared.mover.Mover.{Mover}
 use Rattle.snap_move.proofs.Coming.{stuck, took}
