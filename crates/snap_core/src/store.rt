@@ -1,8 +1,8 @@
 //! Stores: the numbers of the state variables.
 
-ghost use Rattle.std.specs.Prelude.{◌≡◌, ◌<◌, ◌≤◌, ◌+◌, ◌%◌, ◌^◌, ◌==◌, false, All, ℕ, OnOk, OnErr, IfOk, IsOk, IsTrue, is_some, if◌then◌else◌, map, length, unwrap_or};
+ghost use Rattle.std.specs.Prelude.{◌≡◌, ◌<◌, ◌≤◌, ◌+◌, ◌%◌, ◌^◌, ◌==◌, false, All, ℕ, OnOk, OnErr, IfOk, IsOk, IsTrue, is_some, if◌then◌else◌, map, length, nat_lt, unwrap_or};
 ghost use Rattle.snap_core.specs.declared.place.Place.{Place};
-ghost use Rattle.snap_core.specs.Arrays.{update, updates, put, zero_arrays};
+ghost use Rattle.snap_core.specs.Arrays.{update, updates, put, with_array, zero_arrays};
 ghost use Rattle.snap_core.specs.Cells.{cell, array_at, arrays_of, overlaid, changed_at, room_at, written};
 ghost use Rattle.snap_core.specs.CellsKept.{cell_at, HasCellsOf};
 ghost use Rattle.snap_core.specs.Fits.{UpdateReads};
@@ -19,6 +19,7 @@ use crate::policy::Update;
 use crate::write::Write;
 use std::alloc::Global;
 use std::marker::Model;
+use std::mem;
 
 // How many updates are done in place, each in a call of its own.
 const FEW: usize = 16;
@@ -226,6 +227,32 @@ impl Store {
         if let Some(array) = self.arrays.get_mut(var as usize) {
             array.take(patch);
         }
+    }
+
+    /// Exchanges one array with another store, whatever it holds. A refusal leaves both as they were; only memory is
+    /// refused, and that for a few bytes where one of the two never held a number of this array or of a later one.
+    pub fn swap_array(&mut self, var: u16, other: &mut Store) -> Result<(), NoMemory>
+        ensures here { OnOk result (arrays_of self.new ≡ with_array (arrays_of self.old) (arrays_of other.old) var) }
+        ensures there { OnOk result (arrays_of other.new ≡ with_array (arrays_of other.old) (arrays_of self.old) var) }
+        ensures err { OnErr result ((arrays_of self.new ≡ arrays_of self.old) × (arrays_of other.new ≡ arrays_of other.old)) }
+    {
+        if !self.reaches(var) && !other.reaches(var) {
+            return Ok(());
+        }
+        reach(self.alloc, &mut self.arrays, var)?;
+        reach(other.alloc, &mut other.arrays, var)?;
+        mem::swap(
+            &mut self.arrays[var as usize],
+            &mut other.arrays[var as usize],
+        );
+        Ok(())
+    }
+
+    // Whether there may be a number of this array.
+    fn reaches(&self, var: u16) -> bool
+        ensures { result ≡ nat_lt var (length self.now) }
+    {
+        (var as usize) < self.arrays.len()
     }
 
     /// The places that don't hold 0, rising by variable and then by index, with their numbers.
