@@ -90,6 +90,35 @@ pub fn run_on(
     })
 }
 
+/// Evaluates a policy on each packet that a run in place left, side by side, from the store as the run left it. So a
+/// sequence is done part by part: what a run of its first part left, a run of the next one takes over. Errors leave the
+/// store and the packet as those of `run_on` do.
+pub fn run_after(
+    alloc: Global,
+    pol: &Pol,
+    store: &mut Store,
+    packet: &mut Packet,
+    before: Ran,
+) -> Result<Ran, EvalFault>
+    requires fits { PolFits (length packet.old) 64 pol.now }
+    requires lengths { AllLong (length packet.old) (set_after before.flow packet.old) }
+    ensures ok { IfOk result (λ r. after_first pol.now (ran_with (arrays_of store.old) packet.old before) ≡ Some (ran_with (arrays_of store.new) packet.new r)) }
+    ensures undefined { result ≡ Err EvalFault.Undefined → after_first pol.now (ran_with (arrays_of store.old) packet.old before) ≡ None }
+    ensures lengths { IfOk result (λ r. AllLong (length packet.old) (set_after r.flow packet.new)) }
+    ensures length { length packet.new ≡ length packet.old }
+{
+    let mut logs = Logs {
+        reads: before.reads,
+        writes: before.writes,
+    };
+    let flow = each(alloc, pol, store, packet, &mut logs, before.flow)?;
+    Ok(Ran {
+        flow,
+        reads: logs.reads,
+        writes: logs.writes,
+    })
+}
+
 // The same within a run, whose logs grow.
 #[cycle(eval)]
 fn pass(

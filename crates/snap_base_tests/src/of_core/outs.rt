@@ -24,7 +24,7 @@ fn moved(alloc: Global) -> Result<Packet, Fail> {
         (5, Atom::Comp(6)),
         (6, Atom::Comp(7)),
         (7, Atom::Comp(8)),
-        (8, Atom::Comp(9))
+        (8, Atom::Comp(9)),
     ]?);
     out.change(&mut packet)?;
     Ok(packet)

@@ -91,7 +91,13 @@ const ALONE: [(&str, u64, [u64; 4], [u64; 4]); 4] = [
 ];
 
 // Whether a packet leaves a policy alone, in its own memory, with these components.
-fn becomes(alloc: Global, pol: &Pol, seven: u64, comps: [u64; 4], wanted: [u64; 4]) -> Result<bool, Fail> {
+fn becomes(
+    alloc: Global,
+    pol: &Pol,
+    seven: u64,
+    comps: [u64; 4],
+    wanted: [u64; 4],
+) -> Result<bool, Fail> {
     let mut store = Store::new(alloc);
     store.put(0, &[7], seven)?;
     let mut packet = Packet::new(comps.as_slice().to_vec(alloc)?);
@@ -113,7 +119,13 @@ fn given(alloc: Global, body: &str, seven: u64, comps: [u64; 4]) -> Result<Optio
 }
 
 // Whether a packet leaves a body alone, with these components.
-fn left_alone(alloc: Global, body: &str, seven: u64, comps: [u64; 4], wanted: [u64; 4]) -> Result<bool, Fail> {
+fn left_alone(
+    alloc: Global,
+    body: &str,
+    seven: u64,
+    comps: [u64; 4],
+    wanted: [u64; 4],
+) -> Result<bool, Fail> {
     let text = format!(in alloc; "field srcport; field dstport; array s; {body}")?;
     let program = program(alloc, text.as_str())?;
     becomes(alloc, &program.body, seven, comps, wanted)
@@ -130,7 +142,10 @@ fn policies_give_what_was_worked_by_hand(rt: HostRuntime) -> Result<(), Fail> {
 #[test]
 fn a_packet_that_goes_on_alone_is_changed_in_place(rt: HostRuntime) -> Result<(), Fail> {
     for (body, seven, comps, wanted) in ALONE {
-        assert!(rt; left_alone(rt.alloc(), body, seven, comps, wanted)?, "{body}");
+        assert!(rt;
+            left_alone(rt.alloc(), body, seven, comps, wanted)?,
+            "{body}"
+        );
     }
     Ok(())
 }
