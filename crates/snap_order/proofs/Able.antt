@@ -18,7 +18,8 @@ use Rattle.snap_gen.specs.Agreement.{lost_of, sent_of}
 use Rattle.snap_gen.specs.InTurn.{Becomes, SentOn, Waiting, Forks, TakesTurns, handled_more}
 use Rattle.snap_gen.specs.InTurn as turn
 use Rattle.snap_gen.proofs.Nodes.{IsTwo, WalkDoes, visits_first, forks_at_once, walk_does}
-use Rattle.snap_order.specs.Ordered.{Ordered, Turn, Happens, Waits, ComesTo, visit, walk, IsBefore, moves, visits, waits, turn_of, visited}
+use Rattle.snap_rows.specs.Stepping.{ComesTo, visit, walk}
+use Rattle.snap_order.specs.Ordered.{Ordered, Turn, Happens, Waits, IsBefore, moves, visits, waits, turn_of, visited}
 use Rattle.snap_order.specs.Progress.{CanStep}
 use Rattle.snap_order.specs.Rounding.{is_early}
 use Rattle.snap_order.proofs.Placed.{Placed}

@@ -31,7 +31,8 @@ use Rattle.snap_gen.proofs.Bounds.{HasDistances, HeadWithin, CopyWithin, one_ste
 use Rattle.snap_gen.proofs.Far.{ranks_few}
 use Rattle.snap_gen.proofs.Leaving.{split_off}
 use Rattle.snap_gen.proofs.Nodes.{IsTwo}
-use Rattle.snap_order.specs.Ordered.{Ordered, Turn, ComesTo, visit, walk, left_by, turn_of, LeadsInTurn, injects, moves, visits, waits, RunsInTurn, RunInTurn, happenings}
+use Rattle.snap_rows.specs.Stepping.{ComesTo, visit, walk}
+use Rattle.snap_order.specs.Ordered.{Ordered, Turn, left_by, turn_of, LeadsInTurn, injects, moves, visits, waits, RunsInTurn, RunInTurn, happenings}
 use Rattle.snap_order.specs.Ordered as ordered
 use Rattle.snap_order.specs.Laws.{IsDeliveredWithin, Overlaps}
 use Rattle.snap_order.proofs.Near.{near, distances}

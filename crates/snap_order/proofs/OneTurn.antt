@@ -10,7 +10,7 @@ use Rattle.snap_rows.proofs.OneWay.{follows_one, visits_one}
 use Rattle.snap_core.specs.Tests.{results}
 use Rattle.snap_gen.specs.Agreement.{lost_of, sent_of}
 use Rattle.snap_gen.specs.InTurn.{Becomes, Forks, SentOn, TakesTurns, concludes, seeks, visits, waits}
-use Rattle.snap_order.specs.Ordered.{ComesTo, visit, walk}
+use Rattle.snap_rows.specs.Stepping.{ComesTo, visit, walk}
 
 -- ---- ways along rows
 -- a head comes to a visit at one number

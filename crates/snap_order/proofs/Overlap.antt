@@ -38,7 +38,8 @@ use Rattle.snap_gen.proofs.LoneRuns.{is_early, only_one}
 use Rattle.snap_gen.proofs.Nodes.{IsTwo, WalkDoes, visits_first, forks_at_once, walk_does, OutDoes, is_delivered, is_carried, out_does}
 use Rattle.snap_gen.proofs.Switching.{behind, in_pushed, picked_at, switched_more}
 use Rattle.snap_gen.proofs.Turning.{faithful_chains, faithful_stores, faithful_turns}
-use Rattle.snap_order.specs.Ordered.{Ordered, Turn, Happens, Stays, Waits, ComesTo, visit, walk, IsBefore, turn_of, visited, LeadsInTurn, injects, moves, visits, waits, RunsInTurn, happenings}
+use Rattle.snap_rows.specs.Stepping.{ComesTo, visit, walk}
+use Rattle.snap_order.specs.Ordered.{Ordered, Turn, Happens, Stays, Waits, IsBefore, turn_of, visited, LeadsInTurn, injects, moves, visits, waits, RunsInTurn, happenings}
 use Rattle.snap_order.specs.Ordered as ordered
 use Rattle.snap_order.specs.Turning.{rank_behind}
 use Rattle.snap_order.proofs.Taking.{Counts, counts}

@@ -29,7 +29,8 @@ use Rattle.snap_gen.proofs.Nodes.{IsTwo}
 use Rattle.snap_gen.proofs.Owners.{ranks_above}
 use Rattle.snap_gen.proofs.Switching.{number_at, picks_all}
 use Rattle.snap_gen.proofs.Whole.{starts, whole_holds}
-use Rattle.snap_order.specs.Ordered.{Ordered, Turn, Happens, Waits, ComesTo, IsBefore, turn_of, LeadsInTurn, moves, visits, waits, happenings}
+use Rattle.snap_rows.specs.Stepping.{ComesTo}
+use Rattle.snap_order.specs.Ordered.{Ordered, Turn, Happens, Waits, IsBefore, turn_of, LeadsInTurn, moves, visits, waits, happenings}
 use Rattle.snap_order.specs.Laws.{Overlaps, IsBehind, IsLeast}
 use Rattle.snap_order.proofs.Able.{no_wait, visits_on}
 use Rattle.snap_order.proofs.Overlap as overlap

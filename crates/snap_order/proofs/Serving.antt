@@ -23,7 +23,8 @@ use Rattle.snap_gen.specs.InTurn as turn
 use Rattle.snap_gen.proofs.LoneRuns.{is_early}
 use Rattle.snap_gen.proofs.Nodes.{IsTwo, WalkDoes, visits_first, forks_at_once, walk_does, OutDoes, is_delivered, is_carried, out_does}
 use Rattle.snap_order.specs.Laws.{HasForked}
-use Rattle.snap_order.specs.Ordered.{Ordered, Turn, ComesTo, visit, walk, IsBefore, LeadsInTurn, injects, moves, visits, waits, happenings, visited, turn_of}
+use Rattle.snap_rows.specs.Stepping.{ComesTo, visit, walk}
+use Rattle.snap_order.specs.Ordered.{Ordered, Turn, IsBefore, LeadsInTurn, injects, moves, visits, waits, happenings, visited, turn_of}
 use Rattle.snap_order.specs.Serving.{IsRested, Serves, StandsBefore, comes, leaves}
 use Rattle.snap_order.specs.Turning.{rank_behind}
 use Rattle.snap_order.proofs.Overlap.{comes_early}

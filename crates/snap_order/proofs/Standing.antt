@@ -23,7 +23,8 @@ use Rattle.snap_gen.specs.InTurn.{Becomes, SentOn, Waiting, Forks, TakesTurns}
 use Rattle.snap_gen.specs.InTurn as turn
 use Rattle.snap_gen.proofs.Leaving.{split_up}
 use Rattle.snap_gen.proofs.Nodes.{IsTwo, OutDoes, is_delivered, is_carried, out_does}
-use Rattle.snap_order.specs.Ordered.{Ordered, Turn, ComesTo, visit, walk, IsBefore, LeadsInTurn, injects, moves, visits, waits, left_by}
+use Rattle.snap_rows.specs.Stepping.{ComesTo, visit, walk}
+use Rattle.snap_order.specs.Ordered.{Ordered, Turn, IsBefore, LeadsInTurn, injects, moves, visits, waits, left_by}
 use Rattle.snap_order.specs.Rounding.{KeepsPace, Stands, come_to, early, is_early}
 use Rattle.snap_order.specs.Serving.{StandsBefore}
 use Rattle.snap_order.specs.Turning.{rank_behind}

@@ -16,7 +16,7 @@ use Rattle.snap_rows.specs.Handles.{Handles}
 use Rattle.snap_gen.specs.InTurn.{Becomes, SentOn, Waiting, Forks, handled_more, TakesTurns, seeks, waits, visits, concludes}
 use Rattle.snap_gen.proofs.Nodes.{IsTwo}
 use Rattle.snap_gen.proofs.Chained.{home_on}
-use Rattle.snap_order.specs.Ordered.{ComesTo, visit, walk}
+use Rattle.snap_rows.specs.Stepping.{ComesTo, visit, walk}
 use Rattle.snap_order.specs.Turning.{rank_behind}
 
 pub more_own : (h : ℕ → ℕ) (r q : ℕ) → q ≡ r → handled_more h r q ≡ h q + 1

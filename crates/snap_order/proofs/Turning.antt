@@ -25,7 +25,7 @@ use Rattle.snap_gen.proofs.Chained.{home_first}
 use Rattle.snap_gen.proofs.Nodes.{IsTwo}
 use Rattle.snap_order.specs.declared.turns.Outcome.TheVariants.{Moves, Stays}
 use Rattle.snap_order.specs.declared.turns.Turns.{Turns}
-use Rattle.snap_order.specs.Ordered.{ComesTo, visit, walk}
+use Rattle.snap_rows.specs.Stepping.{ComesTo, visit, walk}
 use Rattle.snap_order.specs.Shown.{action_by}
 use Rattle.snap_order.specs.Turning.{MakesTurns, outcome_of}
 use Rattle.snap_order.proofs.Taking.{acts, counts, more_other, stays_at_home, visit_handles}

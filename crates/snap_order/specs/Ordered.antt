@@ -5,11 +5,12 @@ use mir.Syntax.{w64}
 use Rattle.snap_core.specs.Arrays.{Arrays}
 use Rattle.snap_rows.specs.declared.tables.Tables.{Tables}
 use Rattle.snap_rows.specs.declared.head.Head.{Head}
-use Rattle.snap_rows.specs.declared.head.Head.TheVariants.{Walk, Visit}
+use Rattle.snap_rows.specs.declared.head.Head.TheVariants.{Visit}
 use Rattle.snap_rows.specs.declared.head.Action.{Action}
 use Rattle.snap_rows.specs.declared.head.Action.TheVariants.{Forward, Fork}
-use Rattle.snap_rows.specs.Entries.{port_at, rank_at, ranks}
-use Rattle.snap_rows.specs.Handles.{Handles, Follows, is_field}
+use Rattle.snap_rows.specs.Entries.{port_at, rank_at}
+use Rattle.snap_rows.specs.Handles.{Handles}
+use Rattle.snap_rows.specs.Stepping.{ComesTo}
 use Rattle.snap_rows.specs.Network.{Net, Copy, Event, Inject, Step, Happening, Crossed, Forked, start, injected, moved, happening, stepped}
 use Rattle.snap_head.specs.Frames.{frame}
 use Rattle.snap_gen.specs.InTurn.{Becomes, SentOn, Waiting, Forks, TakesTurns}
@@ -31,11 +32,6 @@ pub data Turn : Type 0 where
 -- nothing has been injected, and no rank has handled a packet
 abbrev pub begin : Tables → Arrays → Ordered
 begin t m = record { net = start t m; handled = λ r. 0 }
-
--- the head comes to its visit of rank r at number n: so does a walk, once its field rows are passed
-pub data ComesTo (t : Tables) (w : ℕ) (k : List ℕ) (m : Arrays) : Head → ℕ → ℕ → Type 0 where
-  visit : {r n : ℕ} → ComesTo t w k m (Visit r n) r n
-  walk : {n v : ℕ} → ranks t ≢ 0 → Follows t w k is_field m n v → ComesTo t w k m (Walk n) 0 v
 
 -- the copy is at the owner of rank r for its visit, at number n
 pub record IsBefore (t : Tables) (s : Net) (c : Copy) (r n : ℕ) : Type 0 where

@@ -14,7 +14,7 @@ use Rattle.snap_order.specs.declared.turns.Due.{Due}
 use Rattle.snap_order.specs.declared.turns.Outcome.{Outcome}
 use Rattle.snap_order.specs.declared.turns.Outcome.TheVariants.{Moves, Stays}
 use Rattle.snap_order.specs.declared.turns.Turns.{Turns}
-use Rattle.snap_order.specs.Ordered.{ComesTo}
+use Rattle.snap_rows.specs.Stepping.{ComesTo}
 
 -- the copy is at the owner of a rank for its visit
 pub record IsDue (t : Tables) (c : Flying) (d : Due) : Type 0 where

@@ -32,3 +32,4 @@ pub mod Ending
 pub mod Lighter
 pub mod Aims
 pub mod Lent
+pub mod Stepping

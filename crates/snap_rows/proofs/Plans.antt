@@ -1,5 +1,5 @@
--- What plans do.
-use Rattle.std.proofs.Common.{◌≡◌, ◌≢◌, ℕ, ◌+◌, ◌<◌, ◌≤◌, Bool, false, List, [], Some, length, sym, subst, ◌∙◌, arith}
+-- What steps do that make no visits, and where walks end.
+use Rattle.std.proofs.Common.{◌≡◌, ◌≢◌, ℕ, ◌+◌, ◌<◌, ◌≤◌, Bool, false, List, [], Some, length, refl, sym, subst, ◌∙◌, arith, Bor}
 use Rattle.std.specs.Prelude.{slice_get, ◌==◌}
 use Rattle.std.specs.List.{All}
 use Rattle.std.proofs.lemmas.Bool.{false≢true}
@@ -13,78 +13,87 @@ use Rattle.snap_rows.specs.declared.head.Head.{Head}
 use Rattle.snap_rows.specs.declared.head.Head.TheVariants.{Stage as AtStage}
 use Rattle.snap_rows.specs.declared.head.Action.{Action}
 use Rattle.snap_rows.specs.declared.head.Action.TheVariants.{Forward}
-use Rattle.snap_rows.specs.declared.plan.Plan.{Plan}
+use Rattle.snap_rows.specs.declared.head.Fate.{Fate}
+use Rattle.snap_rows.specs.declared.head.Fate.TheVariants.{Seek, Fork}
 use Rattle.snap_rows.specs.declared.tables.Row.{Row}
 use Rattle.snap_rows.specs.declared.tables.Row.TheVariants.{Field, State, Go, Leaf, Stop, Last}
 use Rattle.snap_rows.specs.declared.tables.Stage.{Stage as Turn}
 use Rattle.snap_rows.specs.declared.tables.Tables.{Tables}
 use Rattle.snap_rows.specs.Entries.{Parts, row_at, rank_of, next}
-use Rattle.snap_rows.specs.Form.{IsInForm, IsRowInForm, IsUpdateInForm, comps}
+use Rattle.snap_rows.specs.Form.{IsInForm, IsRowInForm, IsTurnInForm, IsUpdateInForm, comps, switch_count}
 use Rattle.snap_rows.specs.Handles.{Handles, Follows, arrives, follows, is_test, forked, passes_on, goes_on, completes, Visits}
-use Rattle.snap_rows.specs.Steps.{Does, HasLast, IsGoOrLeaf, AppendsVisit}
+use Rattle.snap_rows.specs.Steps.{HasLast, IsGoOrLeaf, AppendsVisit}
+use Rattle.snap_rows.specs.Stepping.{ActsAs, FateFits, GoesBy}
 use Rattle.snap_rows.specs.Rules.{IsValid}
 use Rattle.snap_rows.specs.Home.{IsVisited}
 use Rattle.snap_rows.proofs.Visited.{next_visited, row_of}
-use Rattle.snap_rows.proofs.Rows.{row_form, nodes, some_injective}
+use Rattle.snap_rows.proofs.Rows.{All-get, row_form, nodes, some_injective}
 use Rattle.snap_rows.proofs.Stages.{alternates, outs_fit, reads_own, ups_fit}
 
-no_updates : (n : ℕ) → All (UpdateReads n) []
+pub no_updates : (n : ℕ) → All (UpdateReads n) []
 no_updates n = λ i d within. absurd (let h : i < 0 = within in omega arith)
-
--- a plan without updates
-pub bare_does : (t : Tables) (w : ℕ) (k : List ℕ) (m : Arrays) (h : Head) (p : Plan) (a : Action) → p.ups ≡ [] → p.action ≡ a → Handles t w k m h m a → Does t w k m h p
-bare_does t w k m h p a none is step = record {
-  handles = subst (λ us. Handles t w k m h (updates m us k) p.action) (sym none) (subst (Handles t w k m h m) (sym is) step);
-  reads = subst (All (UpdateReads (length k))) (sym none) (no_updates (length k));
-}
-
--- a stage that isn't here
-pub stage_away : (t : Tables) (w : ℕ) (k : List ℕ) (m : Arrays) (n i x : ℕ) (s : Turn) (ss : List Turn) (os : List Parts) (p : Plan) → row_at t w n ≡ Some (Leaf ss os) → slice_get ss i ≡ Some s → s.at ≢ w → x ≡ next t w s.at
-    → p.ups ≡ [] → p.action ≡ Forward x (AtStage n i) → Does t w k m (AtStage n i) p
-stage_away t w k m n i x s ss os p row is away to none act =
-    bare_does t w k m (AtStage n i) p (Forward x (AtStage n i)) none act
-    (subst (λ x. Handles t w k m (AtStage n i) m (Forward x (AtStage n i))) (sym to) (passes_on row is away))
-
-stage_fits : (t : Tables) → IsInForm t → (w n i : ℕ) (k : List ℕ) (s : Turn) (ss : List Turn) (os : List Parts) → row_at t w n ≡ Some (Leaf ss os) → slice_get ss i ≡ Some s → length k ≡ comps t → All (UpdateReads (length k)) s.ups
-stage_fits t form w n i k s ss os row is long = ups_fit t form ss i s (row_form t form w n (Leaf ss os) row).2 is (length k) long
-
--- a stage that is done here, with another one behind it
-pub stage_on : (t : Tables) → IsInForm t → (w : ℕ) (k : List ℕ) (m : Arrays) (n i x : ℕ) (s s' : Turn) (ss : List Turn) (os : List Parts) (us : List Update) → length k ≡ comps t → row_at t w n ≡ Some (Leaf ss os)
-    → slice_get ss i ≡ Some s → slice_get ss (i + 1) ≡ Some s' → i + 1 < length ss → s.at ≡ w → us ≡ s.ups → x ≡ next t w s'.at
-    → Does t w k m (AtStage n i) (record { ups = us; action = Forward x (AtStage n (i + 1)) })
-stage_on t form w k m n i x s s' ss os us long row is is' more here same to =
-    let other : s'.at ≢ s.at = alternates ss i s s' (row_form t form w n (Leaf ss os) row).3 is is' in
-    let apart : s'.at ≢ w = λ e. other (e ∙ sym here) in
-    record {
-      handles =
-          subst (λ x. Handles t w k m (AtStage n i) (updates m us k) (Forward x (AtStage n (i + 1)))) (sym to)
-          (subst (λ us. Handles t w k m (AtStage n i) (updates m us k) (Forward (next t w s'.at) (AtStage n (i + 1)))) (sym same)
-          (goes_on row is here more (passes_on row is' apart)));
-      reads = subst (All (UpdateReads (length k))) (sym same) (stage_fits t form w n i k s ss os row is long);
-    }
-
--- the last stage, here
-pub stage_last : (t : Tables) → IsInForm t → (w : ℕ) (k : List ℕ) (m : Arrays) (n i : ℕ) (s : Turn) (ss : List Turn) (os : List Parts) (us : List Update) (a : Action) → length k ≡ comps t → row_at t w n ≡ Some (Leaf ss os)
-    → slice_get ss i ≡ Some s → i < length ss → length ss ≤ i + 1 → s.at ≡ w → us ≡ s.ups → a ≡ forked t os k
-    → Does t w k m (AtStage n i) (record { ups = us; action = a })
-stage_last t form w k m n i s ss os us a long row is within past here same fork = record {
-  handles =
-      subst (Handles t w k m (AtStage n i) (updates m us k)) (sym fork)
-      (subst (λ us. Handles t w k m (AtStage n i) (updates m us k) (forked t os k)) (sym same)
-      (completes row is here (omega arith)));
-  reads = subst (All (UpdateReads (length k))) (sym same) (stage_fits t form w n i k s ss os row is long);
-}
-
--- where a way along test rows ends
-pub way_end : (t : Tables) (w : ℕ) (k : List ℕ) (p : Row → Bool) (m : Arrays) (n v : ℕ) → Follows t w k p m n v → (b : Row) × (row_at t w v ≡ Some b) × (p b ≡ false)
-way_end t w k p m n v (arrives row test) = (_, row, test)
-way_end t w k p m n v (follows row test goes f) = way_end t w k p m _ v f
 
 pub last_outs_fit : (t : Tables) → IsInForm t → (w n : ℕ) (us : List Update) (os : List Parts) → row_at t w n ≡ Some (Last us os) → All (OutFits (comps t)) os
 last_outs_fit t form w n us os row = outs_fit t os (row_form t form w n (Last us os) row).3
 
 pub leaf_outs_fit : (t : Tables) → IsInForm t → (w n : ℕ) (ss : List Turn) (os : List Parts) → row_at t w n ≡ Some (Leaf ss os) → All (OutFits (comps t)) os
 leaf_outs_fit t form w n ss os row = outs_fit t os (row_form t form w n (Leaf ss os) row).4
+
+-- a step without updates
+pub bare_goes : (t : Tables) (w : ℕ) (k : List ℕ) (m : Arrays) (h : Head) (us : List Update) (f : Fate) (a : Action) → us ≡ [] → ActsAs t w k f a → FateFits t f → Handles t w k m h m a → GoesBy t w k m h us f
+bare_goes t w k m h us f a none acts fits step = record {
+  action = a;
+  acts = acts;
+  handles = subst (λ us. Handles t w k m h (updates m us k) a) (sym none) step;
+  reads = subst (All (UpdateReads (length k))) (sym none) (no_updates (length k));
+  fits = fits;
+}
+
+-- a stage stands at a switch
+turn_below : (t : Tables) → IsInForm t → (w n i : ℕ) (s : Turn) (ss : List Turn) (os : List Parts) → row_at t w n ≡ Some (Leaf ss os) → slice_get ss i ≡ Some s → s.at < switch_count t
+turn_below t form w n i s ss os row is = (All-get (IsTurnInForm t) ss i s (row_form t form w n (Leaf ss os) row).2 is).at
+
+-- a stage that isn't here
+pub stage_away : (t : Tables) → IsInForm t → (w : ℕ) (k : List ℕ) (m : Arrays) (n i : ℕ) (s : Turn) (ss : List Turn) (os : List Parts) (us : List Update) → row_at t w n ≡ Some (Leaf ss os) → slice_get ss i ≡ Some s → s.at ≢ w → us ≡ []
+    → GoesBy t w k m (AtStage n i) us (Seek s.at (AtStage n i))
+stage_away t form w k m n i s ss os us row is away none = bare_goes t w k m (AtStage n i) us (Seek s.at (AtStage n i)) _ none refl (turn_below t form w n i s ss os row is, tt) (passes_on row is away)
+
+stage_fits : (t : Tables) → IsInForm t → (w n i : ℕ) (k : List ℕ) (s : Turn) (ss : List Turn) (os : List Parts) → row_at t w n ≡ Some (Leaf ss os) → slice_get ss i ≡ Some s → length k ≡ comps t → All (UpdateReads (length k)) s.ups
+stage_fits t form w n i k s ss os row is long = ups_fit t form ss i s (row_form t form w n (Leaf ss os) row).2 is (length k) long
+
+-- a stage that is done here, with another one behind it
+pub stage_on : (t : Tables) → IsInForm t → (w : ℕ) (k : List ℕ) (m : Arrays) (n i : ℕ) (s s' : Turn) (ss : List Turn) (os : List Parts) (us : List Update) → length k ≡ comps t → row_at t w n ≡ Some (Leaf ss os)
+    → slice_get ss i ≡ Some s → slice_get ss (i + 1) ≡ Some s' → i + 1 < length ss → s.at ≡ w → us ≡ s.ups → GoesBy t w k m (AtStage n i) us (Seek s'.at (AtStage n (i + 1)))
+stage_on t form w k m n i s s' ss os us long row is is' more here same =
+    let other : s'.at ≢ s.at = alternates ss i s s' (row_form t form w n (Leaf ss os) row).3 is is' in
+    let apart : s'.at ≢ w = λ e. other (e ∙ sym here) in
+    record {
+      action = Forward (next t w s'.at) (AtStage n (i + 1));
+      acts = refl;
+      handles =
+          subst (λ us. Handles t w k m (AtStage n i) (updates m us k) (Forward (next t w s'.at) (AtStage n (i + 1)))) (sym same)
+          (goes_on row is here more (passes_on row is' apart));
+      reads = subst (All (UpdateReads (length k))) (sym same) (stage_fits t form w n i k s ss os row is long);
+      fits = (turn_below t form w n (i + 1) s' ss os row is', tt);
+    }
+
+-- the last stage, here
+pub stage_last : (t : Tables) → IsInForm t → (w : ℕ) (k : List ℕ) (m : Arrays) (n i : ℕ) (s : Turn) (ss : List Turn) (outs : Bor (List Parts)) (us : List Update) → length k ≡ comps t → row_at t w n ≡ Some (Leaf ss outs.now)
+    → slice_get ss i ≡ Some s → i < length ss → length ss ≤ i + 1 → s.at ≡ w → us ≡ s.ups → GoesBy t w k m (AtStage n i) us (Fork outs)
+stage_last t form w k m n i s ss outs us long row is within past here same = record {
+  action = forked t outs.now k;
+  acts = refl;
+  handles =
+      subst (λ us. Handles t w k m (AtStage n i) (updates m us k) (forked t outs.now k)) (sym same)
+      (completes row is here (omega arith));
+  reads = subst (All (UpdateReads (length k))) (sym same) (stage_fits t form w n i k s ss outs.now row is long);
+  fits = leaf_outs_fit t form w n ss outs.now row;
+}
+
+-- where a way along test rows ends
+pub way_end : (t : Tables) (w : ℕ) (k : List ℕ) (p : Row → Bool) (m : Arrays) (n v : ℕ) → Follows t w k p m n v → (b : Row) × (row_at t w v ≡ Some b) × (p b ≡ false)
+way_end t w k p m n v (arrives row test) = (_, row, test)
+way_end t w k p m n v (follows row test goes f) = way_end t w k p m _ v f
 
 -- the updates of a visit fit
 pub visit_fits : (t : Tables) → IsInForm t → (w : ℕ) (k : List ℕ) (m : Arrays) (r n v : ℕ) (us : List Update) → length k ≡ comps t → Visits t w k m r n v us → All (UpdateReads (length k)) us

@@ -1,18 +1,22 @@
 //! What one step does, worked out before anything is changed.
 
-ghost use Rattle.std.specs.Prelude.{◌≡◌, ◌<◌, ◌++◌, ℕ, List, [], IfOk, OnOk, IsSome, Some, length};
+ghost use Rattle.std.specs.Prelude.{◌≡◌, ◌≢◌, ◌<◌, ◌++◌, ℕ, List, [], IfOk, OnOk, IsSome, Some, length};
+ghost use Rattle.snap_core.specs.declared.place.Place.{Place};
+ghost use Rattle.snap_core.specs.declared.policy.Update.{Update};
 ghost use Rattle.snap_core.specs.Arrays.{Arrays};
 ghost use Rattle.snap_core.specs.Cells.{arrays_of};
-ghost use Rattle.snap_rows.specs.declared.tables.Row.TheVariants.{Leaf};
-ghost use Rattle.snap_rows.specs.Entries.{row_at, rank_at};
+ghost use Rattle.snap_rows.specs.declared.tables.Row.TheVariants.{Leaf, Last};
+ghost use Rattle.snap_rows.specs.declared.head.Action.{Action};
+ghost use Rattle.snap_rows.specs.Entries.{row_at, rank_at, owner_of};
 ghost use Rattle.snap_rows.specs.Form.{IsInForm, comps, switch_count};
-ghost use Rattle.snap_rows.specs.Handles.{Handles};
 ghost use Rattle.snap_rows.specs.Home.{AtHome};
-ghost use Rattle.snap_rows.specs.Steps.{IsGoOrLeaf, Does, plan_of};
+ghost use Rattle.snap_rows.specs.Steps.{IsGoOrLeaf, HasLast, Does};
+ghost use Rattle.snap_rows.specs.Stepping.{ActsAs, FateArrives, FateFits, GoesBy, Steps, StepsBy, VisitsBy, held_back};
 
+use crate::admit::{Admit, Every};
 use crate::dues::Dues;
-use crate::fork::{fork, fork_by};
-use crate::head::{Action, Head};
+use crate::fork::fork_by;
+use crate::head::{Action, Fate, Head};
 use crate::lists::Updates;
 use crate::tables::{Row, Stage};
 use crate::valid::Valid;
@@ -43,17 +47,18 @@ fn lend<'a>(lent: &'a [Update], ups: &mut Dues<'a>) -> Result<(), NoMemory>
 }
 
 // A copy on its way to a port.
-fn to_port(tables: &Valid, at: u16, port: u32) -> Action
+fn to_port(tables: &Valid, at: u16, port: u32) -> Fate<'_>
     requires { AtHome tables.now at (Head.Out port) }
-    ensures { (k : List ℕ) (m : Arrays) → Handles tables.now at k m (Head.Out port) m result }
+    ensures { (k : List ℕ) (m : Arrays) → GoesBy tables.now at k m (Head.Out port) [] result }
 {
+    let _known = tables.tables();
     match tables.port_at(port as u64) {
         Some(switch) => {
             if switch == at {
-                Action::Deliver { port }
+                Fate::Deliver { port }
             } else {
-                Action::Forward {
-                    to: tables.next(at, switch),
+                Fate::Seek {
+                    target: switch,
                     head: Head::Out { port },
                 }
             }
@@ -65,98 +70,94 @@ fn to_port(tables: &Valid, at: u16, port: u32) -> Action
 // A copy at a stage of a leaf.
 #[inline(never)]
 fn at_stage<'a>(
-    alloc: Global,
     tables: &'a Valid,
     at: u16,
     packet: &Packet,
     leaf: u64,
     stage: u16,
     ups: &mut Dues<'a>,
-) -> Result<Action, NoMemory>
+) -> Result<Fate<'a>, NoMemory>
     requires packet { length packet.now ≡ comps tables.now }
     requires home { AtHome tables.now at (Head.Stage leaf stage) }
     requires none { ups.old ≡ [] }
-    ensures { IfOk result (λ action. (m : Arrays) → Does tables.now at packet.now m (Head.Stage leaf stage) (plan_of ups.new action)) }
+    ensures { IfOk result (λ fate. (m : Arrays) → GoesBy tables.now at packet.now m (Head.Stage leaf stage) ups.new fate) }
 {
     match tables.row(at, leaf) {
-        Some(Row::Leaf { stages, outs }) => staged(
-            alloc,
-            tables,
-            at,
-            packet,
-            leaf,
-            stage,
-            stages.items(),
-            outs.items(),
-            ups,
-        ),
+        Some(Row::Leaf { stages, outs }) => {
+            staged(
+                tables,
+                at,
+                packet,
+                leaf,
+                stage,
+                stages.items(),
+                outs.items(),
+                ups,
+            )
+        }
         _ => unreachable!(),
     }
 }
 
 // A copy at a stage of a leaf with these stages and outs.
 fn staged<'a>(
-    alloc: Global,
     tables: &'a Valid,
     at: u16,
     packet: &Packet,
     leaf: u64,
     stage: u16,
     stages: &'a [Stage],
-    outs: &[Out],
+    outs: &'a [Out],
     ups: &mut Dues<'a>,
-) -> Result<Action, NoMemory>
+) -> Result<Fate<'a>, NoMemory>
     requires packet { length packet.now ≡ comps tables.now }
     requires form { IsInForm tables.now }
     requires row { row_at tables.now at leaf ≡ Some (Leaf stages.now outs.now) }
     requires more { stage < length stages.now }
     requires none { ups.old ≡ [] }
-    ensures { IfOk result (λ action. (m : Arrays) → Does tables.now at packet.now m (Head.Stage leaf stage) (plan_of ups.new action)) }
+    ensures { IfOk result (λ fate. (m : Arrays) → GoesBy tables.now at packet.now m (Head.Stage leaf stage) ups.new fate) }
 {
     let here = &stages[stage as usize];
     if here.at != at {
-        let action = Action::Forward {
-            to: tables.next(at, here.at),
+        return Ok(Fate::Seek {
+            target: here.at,
             head: Head::Stage { leaf, stage },
-        };
-        return Ok(action);
+        });
     }
     lend(here.ups.items(), ups)?;
     if stage as usize + 1 < stages.len() {
         let then = &stages[stage as usize + 1];
-        let action = Action::Forward {
-            to: tables.next(at, then.at),
+        return Ok(Fate::Seek {
+            target: then.at,
             head: Head::Stage {
                 leaf,
                 stage: stage + 1,
             },
-        };
-        return Ok(action);
+        });
     }
-    fork_by(alloc, tables, outs, packet)
+    Ok(Fate::Fork { outs })
 }
 
 // A copy that walked to a leaf with these stages and outs.
 fn leafed<'a>(
-    alloc: Global,
     tables: &'a Valid,
     at: u16,
     packet: &Packet,
     leaf: u64,
     stages: &'a [Stage],
-    outs: &[Out],
+    outs: &'a [Out],
     ups: &mut Dues<'a>,
-) -> Result<Action, NoMemory>
+) -> Result<Fate<'a>, NoMemory>
     requires packet { length packet.now ≡ comps tables.now }
     requires form { IsInForm tables.now }
     requires row { row_at tables.now at leaf ≡ Some (Leaf stages.now outs.now) }
     requires none { ups.old ≡ [] }
-    ensures { IfOk result (λ action. (m : Arrays) → Does tables.now at packet.now m (Head.Walk leaf) (plan_of ups.new action)) }
+    ensures { IfOk result (λ fate. (m : Arrays) → GoesBy tables.now at packet.now m (Head.Walk leaf) ups.new fate) }
 {
     if stages.len() == 0 {
-        return fork_by(alloc, tables, outs, packet);
+        return Ok(Fate::Fork { outs });
     }
-    staged(alloc, tables, at, packet, leaf, 0, stages, outs, ups)
+    staged(tables, at, packet, leaf, 0, stages, outs, ups)
 }
 
 // A walk in version 1.
@@ -169,43 +170,40 @@ fn walk_one<'a>(
     packet: &Packet,
     node: u64,
     ups: &mut Dues<'a>,
-) -> Result<Action, NoMemory>
+) -> Result<Fate<'a>, NoMemory>
     requires version { tables.now.version ≡ 1 }
     requires packet { length packet.now ≡ comps tables.now }
     requires row { IsSome (row_at tables.now at node) }
     requires none { ups.old ≡ [] }
-    ensures { IfOk result (λ action. Does tables.now at packet.now (arrays_of store.now) (Head.Walk node) (plan_of ups.new action)) }
+    ensures { IfOk result (GoesBy tables.now at packet.now (arrays_of store.now) (Head.Walk node) ups.new) }
 {
     let _known = tables.tables();
     let number = walk(alloc, tables, at, store, packet, node)?;
-    decided(alloc, tables, at, packet, number, ups)
+    decided(tables, at, packet, number, ups)
 }
 
 // A copy that walked to a number that asks nothing here.
 fn decided<'a>(
-    alloc: Global,
     tables: &'a Valid,
     at: u16,
     packet: &Packet,
     number: u64,
     ups: &mut Dues<'a>,
-) -> Result<Action, NoMemory>
+) -> Result<Fate<'a>, NoMemory>
     requires packet { length packet.now ≡ comps tables.now }
     requires row { IsGoOrLeaf (row_at tables.now at number) }
     requires none { ups.old ≡ [] }
-    ensures { IfOk result (λ action. (m : Arrays) → Does tables.now at packet.now m (Head.Walk number) (plan_of ups.new action)) }
+    ensures { IfOk result (λ fate. (m : Arrays) → GoesBy tables.now at packet.now m (Head.Walk number) ups.new fate) }
 {
     match tables.row(at, number) {
         Some(Row::Go { to }) => {
-            let action = Action::Forward {
-                to: tables.next(at, *to),
+            Ok(Fate::Seek {
+                target: *to,
                 head: Head::Walk { node: number },
-            };
-            Ok(action)
+            })
         }
         Some(Row::Leaf { stages, outs }) => {
             leafed(
-                alloc,
                 tables,
                 at,
                 packet,
@@ -230,38 +228,68 @@ fn owner_of_rank(tables: &Valid, rank: u16) -> u16
     }
 }
 
+// The outs of a leaf of version 2 that has a row at the switch.
+fn last_outs(tables: &Valid, at: u16, leaf: u64) -> &[Out]
+    requires { HasLast tables.now at leaf }
+    ensures { (us : List Update) × (row_at tables.now at leaf ≡ Some (Last us result.now)) }
+{
+    match tables.row(at, leaf) {
+        Some(Row::Last { ups: _, outs }) => outs.items(),
+        _ => unreachable!(),
+    }
+}
+
+// What becomes of a copy whose next visit, of the rank that is due at a number, isn't admitted, after visits from a rank on.
+fn held_back<'a>(rank: u16, due: u16, number: u64) -> Fate<'a>
+    ensures { result ≡ held_back rank due number }
+{
+    if due == rank {
+        Fate::Wait { rank }
+    } else {
+        Fate::Stay {
+            rank: due,
+            node: number,
+        }
+    }
+}
+
 // What becomes of a copy from a visit on. The updates of all visits of the step are lent. All visits read the store as it
 // was, since none reads what one of lesser rank changes.
 #[inline(always)]
-fn visits<'a>(
+fn visits<'a, A: Admit>(
     alloc: Global,
     tables: &'a Valid,
+    admit: &A,
     at: u16,
     store: &Store,
     packet: &Packet,
     rank: u16,
     node: u64,
     ups: &mut Dues<'a>,
-) -> Result<Action, NoMemory>
+) -> Result<Fate<'a>, NoMemory>
     requires packet { length packet.now ≡ comps tables.now }
     requires home { AtHome tables.now at (Head.Visit rank node) }
     requires none { ups.old ≡ [] }
-    ensures { IfOk result (λ action. Does tables.now at packet.now (arrays_of store.now) (Head.Visit rank node) (plan_of ups.new action)) }
+    ensures { IfOk result (VisitsBy tables.now at packet.now (A.admits admit.now) (arrays_of store.now) rank node ups.new) }
 {
     let _known = tables.tables();
     let mut due = rank;
     let mut number = node;
     let mut owner = owner_of_rank(tables, rank);
     while owner == at {
+        if !admit.admits(due) {
+            return Ok(held_back(rank, due, number));
+        }
         number = visit(alloc, tables, at, store, packet, due, number, ups)?;
         due += 1;
         if due == tables.ranks() {
-            return fork(alloc, tables, at, packet, number);
+            let outs = last_outs(tables, at, number);
+            return Ok(Fate::Fork { outs });
         }
         owner = owner_of_rank(tables, due);
     }
-    Ok(Action::Forward {
-        to: tables.next(at, owner),
+    Ok(Fate::Seek {
+        target: owner,
         head: Head::Visit {
             rank: due,
             node: number,
@@ -271,62 +299,123 @@ fn visits<'a>(
 
 // A walk in version 2.
 #[inline(always)]
-fn walk_two<'a>(
+fn walk_two<'a, A: Admit>(
     alloc: Global,
     tables: &'a Valid,
+    admit: &A,
     at: u16,
     store: &Store,
     packet: &Packet,
     node: u64,
     ups: &mut Dues<'a>,
-) -> Result<Action, NoMemory>
+) -> Result<Fate<'a>, NoMemory>
     requires version { tables.now.version ≡ 2 }
     requires packet { length packet.now ≡ comps tables.now }
     requires row { IsSome (row_at tables.now at node) }
     requires none { ups.old ≡ [] }
-    ensures { IfOk result (λ action. Does tables.now at packet.now (arrays_of store.now) (Head.Walk node) (plan_of ups.new action)) }
+    ensures { IfOk result (StepsBy tables.now at packet.now (A.admits admit.now) (arrays_of store.now) (Head.Walk node) ups.new) }
 {
     let _known = tables.tables();
     let number = enter(tables, at, packet, node);
     if tables.ranks() == 0 {
-        return fork(alloc, tables, at, packet, number);
+        let outs = last_outs(tables, at, number);
+        return Ok(Fate::Fork { outs });
     }
-    visits(alloc, tables, at, store, packet, 0, number, ups)
+    visits(alloc, tables, admit, at, store, packet, 0, number, ups)
 }
 
-/// What one step does, by a store that stays as it is: answers what becomes of the copy, and lends the updates to a list
-/// that is empty before. All memory that the step wants is taken here, but that of the updates themselves.
+/// What a step of a copy does, by a store that stays as it is: answers what becomes of the copy, and lends the updates to a
+/// list that is empty before. It takes no memory for them or for copies of the packet. Refuses for memory alone.
 #[inline(always)]
-pub(crate) fn lend_step<'a>(
+pub fn fate<'a, A: Admit>(
     alloc: Global,
     tables: &'a Valid,
+    admit: &A,
     at: u16,
     store: &Store,
     packet: &Packet,
     head: Head,
     ups: &mut Dues<'a>,
-) -> Result<Action, NoMemory>
+) -> Result<Fate<'a>, NoMemory>
     requires at { at < switch_count tables.now }
     requires packet { length packet.now ≡ comps tables.now }
     requires home { AtHome tables.now at head }
     requires none { ups.old ≡ [] }
-    ensures does { IfOk result (λ action. Does tables.now at packet.now (arrays_of store.now) head (plan_of ups.new action)) }
+    ensures { IfOk result (StepsBy tables.now at packet.now (A.admits admit.now) (arrays_of store.now) head ups.new) }
 {
+    let _known = tables.tables();
     match head {
         Head::Walk { node } => {
             if tables.tables().version == 1 {
                 walk_one(alloc, tables, at, store, packet, node, ups)
             } else {
-                walk_two(alloc, tables, at, store, packet, node, ups)
+                walk_two(alloc, tables, admit, at, store, packet, node, ups)
             }
         }
-        Head::Stage { leaf, stage } => at_stage(alloc, tables, at, packet, leaf, stage, ups),
+        Head::Stage { leaf, stage } => at_stage(tables, at, packet, leaf, stage, ups),
         Head::Out { port } => Ok(to_port(tables, at, port)),
-        Head::Visit { rank, node } => visits(alloc, tables, at, store, packet, rank, node, ups),
+        Head::Visit { rank, node } => {
+            visits(alloc, tables, admit, at, store, packet, rank, node, ups)
+        }
     }
 }
 
-/// The same as a plan, with copies of the updates. Refuses for memory alone.
+/// Makes a step of a copy: answers what becomes of the copy. A refusal, which is for memory alone, may leave some of the
+/// updates done.
+#[inline(always)]
+pub fn step<'a, A: Admit>(
+    alloc: Global,
+    tables: &'a Valid,
+    admit: &A,
+    at: u16,
+    store: &mut Store,
+    packet: &Packet,
+    head: Head,
+) -> Result<Fate<'a>, NoMemory>
+    requires at { at < switch_count tables.now }
+    requires packet { length packet.now ≡ comps tables.now }
+    requires home { AtHome tables.now at head }
+    ensures steps { IfOk result (Steps tables.now at packet.now (A.admits admit.now) (arrays_of store.old) head (arrays_of store.new)) }
+    ensures fits { IfOk result (FateFits tables.now) }
+    ensures arrives { IfOk result (FateArrives tables.now at) }
+    ensures own { IfOk result (λ _. (p : Place) → arrays_of store.new p ≢ arrays_of store.old p → owner_of tables.now p.var ≡ Some at) }
+{
+    let _known = tables.tables();
+    let mut ups = Dues::new(alloc);
+    let fate = fate(alloc, tables, admit, at, store, packet, head, &mut ups)?;
+    ups.apply(store, packet)?;
+    Ok(fate)
+}
+
+/// The action that a fate is, where it is one without order. Refuses for memory alone.
+#[inline(always)]
+pub(crate) fn action_in(
+    alloc: Global,
+    tables: &Valid,
+    at: u16,
+    packet: &Packet,
+    fate: Fate<'_>,
+) -> Result<Action, NoMemory>
+    requires packet { length packet.now ≡ comps tables.now }
+    requires fits { FateFits tables.now fate }
+    requires plain { (a : Action) × ActsAs tables.now at packet.now fate a }
+    ensures { IfOk result (ActsAs tables.now at packet.now fate.entry) }
+{
+    match fate {
+        Fate::Seek { target, head } => {
+            Ok(Action::Forward {
+                to: tables.next(at, target),
+                head,
+            })
+        }
+        Fate::Deliver { port } => Ok(Action::Deliver { port }),
+        Fate::Fork { outs } => fork_by(alloc, tables, outs, packet),
+        Fate::Stay { .. } => unreachable!(),
+        Fate::Wait { .. } => unreachable!(),
+    }
+}
+
+/// What a step does as a plan, with copies of the updates and of the packet. Refuses for memory alone.
 #[inline(always)]
 pub fn plan_step(
     alloc: Global,
@@ -342,7 +431,8 @@ pub fn plan_step(
     ensures does { IfOk result (Does tables.now at packet.now (arrays_of store.now) head) }
 {
     let mut ups = Dues::new(alloc);
-    let action = lend_step(alloc, tables, at, store, packet, head, &mut ups)?;
+    let fate = fate(alloc, tables, &Every, at, store, packet, head, &mut ups)?;
     let ups = ups.copies(alloc)?;
+    let action = action_in(alloc, tables, at, packet, fate)?;
     Ok(Plan { ups, action })
 }

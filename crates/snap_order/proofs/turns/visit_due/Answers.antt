@@ -1,7 +1,7 @@
 use Rattle.std.proofs.Common.{◌≡◌, ◌≢◌, true, Some, arith, rules, sym, subst}
 use Rattle.snap_rows.specs.Entries.{rank_at, ranks}
 use Rattle.snap_rows.proofs.Later.{rank_is_below}
-use Rattle.snap_order.specs.Ordered.{ComesTo, visit, walk}
+use Rattle.snap_rows.specs.Stepping.{ComesTo, visit, walk}
 use Rattle.snap_order.proofs.turns.visit_due.Goals as goal
 
 pub returns-else-not-owns : goal.returns-else-not-owns

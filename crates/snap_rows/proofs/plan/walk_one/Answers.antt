@@ -2,7 +2,7 @@ use Rattle.std.proofs.lemmas.Result.{IfOk-weaker}
 use Rattle.snap_core.specs.Arrays.{Arrays, updates}
 use Rattle.snap_core.specs.Cells.{arrays_of}
 use Rattle.snap_rows.specs.declared.head.Head.TheVariants.{Walk}
-use Rattle.snap_rows.specs.Steps.{Does, plan_of}
+use Rattle.snap_rows.specs.Stepping.{GoesBy}
 use Rattle.snap_rows.proofs.Stages.{asked}
 use Rattle.snap_rows.proofs.Plans.{end_one}
 use Rattle.snap_rows.proofs.plan.walk_one.Goals as goal
@@ -17,5 +17,11 @@ returns c =
     let m = arrays_of c.args.store.now in
     let v = c.in_ok-number.number in
     let us = c.decided.new.ups in
-    IfOk-weaker _ (λ a. (m : Arrays) → Does t c.args.at k m (Walk v) (plan_of us a)) (λ a. Does t c.args.at k m (Walk c.args.node) (plan_of us a))
-    (λ a h. record { handles = asked t c.args.at k m (updates m us k) c.args.node v a c.requires.version c.in_ok-number.ensures (h m).handles; reads = (h m).reads }) c.decided.ensures
+    IfOk-weaker _ (λ f. (m : Arrays) → GoesBy t c.args.at k m (Walk v) us f) (λ f. GoesBy t c.args.at k m (Walk c.args.node) us f)
+    (λ f h. let g = h m in record {
+      action = g.action;
+      acts = g.acts;
+      handles = asked t c.args.at k m (updates m us k) c.args.node v g.action c.requires.version c.in_ok-number.ensures g.handles;
+      reads = g.reads;
+      fits = g.fits;
+    }) c.decided.ensures
