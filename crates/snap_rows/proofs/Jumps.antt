@@ -1,9 +1,11 @@
 -- Where field rows lead, and chains of tests.
 use Rattle.std.proofs.Common.{◌≡◌, ℕ, ◌<◌, Bool, true, false, List, [], ◌∷◌, ◌++◌, Option, Some, None, refl, sym, ap, subst, ◌∙◌, arith, ⊎_elim}
 use Rattle.std.specs.Prelude.{◌==◌, if◌then◌else◌, IfSome, IsSome, is_some, slice_index, unwrap_or}
-use Rattle.std.proofs.lemmas.Bool.{eq-eqb, eqb-true, eqb-false, false≢true}
+use Rattle.std.specs.Option.{option_or}
+use Rattle.std.proofs.lemmas.Bool.{eqb-true, eqb-false, false≢true}
 use Rattle.snap_core.specs.Arrays.{Arrays}
 use Rattle.snap_core.specs.Cases.{case_at}
+use Rattle.snap_core.proofs.CaseLemmas.{case_at-append}
 use Rattle.snap_core.specs.declared.policy.Test.{Test}
 use Rattle.snap_core.specs.declared.policy.Test.TheVariants.{Value}
 use Rattle.snap_rows.specs.declared.tables.RowAt.{RowAt}
@@ -86,22 +88,17 @@ jumps_on t k n x y first then w there p fields m =
     record { up = omega arith; there = g.there; way = λ v h. f.way v (g.way v h) }
 
 -- where these cases of a component lead from number n, and where r is the number for all others
-pub abbrev CasesLead : Tables → ℕ → ℕ → List (ℕ × ℕ) → ℕ → Type 0
+abbrev pub CasesLead : Tables → ℕ → ℕ → List (ℕ × ℕ) → ℕ → Type 0
 CasesLead t n c cs r = (k : List ℕ) → Jumps t k n (unwrap_or (case_at cs (slice_index k c)) r)
 
 -- one more case, behind the others
 case_more : (cs : List (ℕ × ℕ)) (v y z i : ℕ) → unwrap_or (case_at (cs ++ (v, y) ∷ []) i) z ≡ unwrap_or (case_at cs i) (if v == i then y else z)
-case_more [] v y z i = by (v == i)
+case_more cs v y z i = ap (λ o. unwrap_or o z) (case_at-append cs ((v, y) ∷ []) i) ∙ by (case_at cs i) (v == i)
   where
-    by : (s : Bool) → unwrap_or (if s then Some y else None) z ≡ (if s then y else z)
-    by true = refl
-    by false = refl
-case_more (c ∷ cs) v y z i = by (c.0 == i) (case_more cs v y z i)
-  where
-    by : (s : Bool) → unwrap_or (case_at (cs ++ (v, y) ∷ []) i) z ≡ unwrap_or (case_at cs i) (if v == i then y else z)
-        → unwrap_or (if s then Some c.1 else case_at (cs ++ (v, y) ∷ []) i) z ≡ unwrap_or (if s then Some c.1 else case_at cs i) (if v == i then y else z)
-    by true e = refl
-    by false e = e
+    by : (o : Option ℕ) (s : Bool) → unwrap_or (option_or o (if s then Some y else None)) z ≡ unwrap_or o (if s then y else z)
+    by (Some x) s = refl
+    by None true = refl
+    by None false = refl
 
 past_cases : (t : Tables) (k : List ℕ) (n r x : ℕ) (o : Option ℕ) → Jumps t k n (unwrap_or o r) → Jumps t k r x → Jumps t k n (unwrap_or o x)
 past_cases t k n r x None first then = jumps_on t k n r x first then
