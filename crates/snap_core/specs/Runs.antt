@@ -7,6 +7,7 @@ use Rattle.snap_core.specs.declared.copies.Flow.TheVariants.{Same}
 use Rattle.snap_core.specs.declared.copies.Flow.TheVariants as flow
 use Rattle.snap_core.specs.declared.policy.Pol.{Pol}
 use Rattle.snap_core.specs.declared.policy.Pred.{Pred}
+use Rattle.snap_core.specs.declared.run.Ran.{Ran}
 use Rattle.snap_core.specs.declared.run.Run.{Run}
 use Rattle.snap_core.specs.declared.run.Logs.{Logs}
 use Rattle.snap_core.specs.Arrays.{Arrays}
@@ -26,6 +27,10 @@ meaning_with m r = record { arrays = m; packets = set_in r.copies; reads = r.rea
 abbrev pub set_after : Flow → List ℕ → PacketSet
 set_after Same k = with_packet no_packets k
 set_after (flow.Many v) k = with_packets no_packets v.items
+
+-- what a run in place means that left the arrays m and the packet k
+abbrev pub ran_with : Arrays → List ℕ → Ran → Meaning
+ran_with m k r = record { arrays = m; packets = set_after r.flow k; reads = r.reads; writes = r.writes }
 
 -- what a policy came to, within a run with these logs, that left the arrays m and the packet k
 abbrev pub flown : Arrays → Flow → List ℕ → Logs → Meaning

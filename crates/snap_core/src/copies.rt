@@ -18,7 +18,7 @@ pub enum Copies {
 
 /// What a policy makes of a packet that it changes in place.
 #[derive(Drop)]
-pub(crate) enum Flow {
+pub enum Flow {
     /// The packet alone, as it now is.
     Same,
 

@@ -10,7 +10,7 @@ ghost use Rattle.snap_core.specs.Meaning.{truth, vars_of, eval, all_together, lo
 ghost use Rattle.snap_core.specs.declared.run.Logs.{Logs as LogsData};
 ghost use Rattle.snap_core.specs.Outcomes.{meaning_of};
 ghost use Rattle.snap_core.specs.Packets.{AllLong, listed, no_packets, with_packets};
-ghost use Rattle.snap_core.specs.Runs.{after_first, chosen, flown, meaning_with, set_after, set_in, within};
+ghost use Rattle.snap_core.specs.Runs.{after_first, chosen, flown, meaning_with, ran_with, set_after, set_in, within};
 
 use crate::NoMemory;
 use crate::atoms::{index_on, short_index};
@@ -20,7 +20,7 @@ use crate::outcome::{EvalFault, Outcome};
 use crate::packet::Packet;
 use crate::packets::Packets;
 use crate::policy::{Atom, Pol, Pred, Update};
-use crate::run::{Logs, Run};
+use crate::run::{Logs, Ran, Run};
 use crate::store::Store;
 use std::alloc::Global;
 
@@ -54,19 +54,72 @@ pub fn run(alloc: Global, pol: &Pol, store: &mut Store, packet: Packet) -> Resul
     ensures lengths { IfOk result (λ r. AllLong (length packet) (set_in r.copies)) }
 {
     let mut packet = packet;
+    let ran = run_on(alloc, pol, store, &mut packet)?;
+    Ok(Run {
+        copies: ran.flow.copies(packet),
+        reads: ran.reads,
+        writes: ran.writes,
+    })
+}
+
+/// The same on a packet that is changed in place, so that a packet that goes on alone takes no memory. Where the answer
+/// is an error the packet holds some of the changes, as the store does; where packets stand in the answer it is one that
+/// counts for nothing.
+#[cycle(eval)]
+pub fn run_on(
+    alloc: Global,
+    pol: &Pol,
+    store: &mut Store,
+    packet: &mut Packet,
+) -> Result<Ran, EvalFault>
+    requires { PolFits (length packet.old) 64 pol.now }
+    ensures ok { IfOk result (λ r. eval pol.now (arrays_of store.old) packet.old ≡ Some (ran_with (arrays_of store.new) packet.new r)) }
+    ensures undefined { result ≡ Err EvalFault.Undefined → eval pol.now (arrays_of store.old) packet.old ≡ None }
+    ensures lengths { IfOk result (λ r. AllLong (length packet.old) (set_after r.flow packet.new)) }
+    ensures length { length packet.new ≡ length packet.old }
+{
     let mut logs = Logs {
         reads: 0,
         writes: 0,
     };
-    let flow = pass(alloc, pol, store, &mut packet, &mut logs)?;
-    Ok(Run {
-        copies: flow.copies(packet),
+    let flow = pass(alloc, pol, store, packet, &mut logs)?;
+    Ok(Ran {
+        flow,
         reads: logs.reads,
         writes: logs.writes,
     })
 }
 
-// The same within a run, whose packet is changed in place and whose logs grow.
+/// Evaluates a policy on each packet that a run in place left, side by side, from the store as the run left it. So a
+/// sequence is done part by part: what a run of its first part left, a run of the next one takes over. Errors leave the
+/// store and the packet as those of `run_on` do.
+pub fn run_after(
+    alloc: Global,
+    pol: &Pol,
+    store: &mut Store,
+    packet: &mut Packet,
+    before: Ran,
+) -> Result<Ran, EvalFault>
+    requires fits { PolFits (length packet.old) 64 pol.now }
+    requires lengths { AllLong (length packet.old) (set_after before.flow packet.old) }
+    ensures ok { IfOk result (λ r. after_first pol.now (ran_with (arrays_of store.old) packet.old before) ≡ Some (ran_with (arrays_of store.new) packet.new r)) }
+    ensures undefined { result ≡ Err EvalFault.Undefined → after_first pol.now (ran_with (arrays_of store.old) packet.old before) ≡ None }
+    ensures lengths { IfOk result (λ r. AllLong (length packet.old) (set_after r.flow packet.new)) }
+    ensures length { length packet.new ≡ length packet.old }
+{
+    let mut logs = Logs {
+        reads: before.reads,
+        writes: before.writes,
+    };
+    let flow = each(alloc, pol, store, packet, &mut logs, before.flow)?;
+    Ok(Ran {
+        flow,
+        reads: logs.reads,
+        writes: logs.writes,
+    })
+}
+
+// The same within a run, whose logs grow.
 #[cycle(eval)]
 fn pass(
     alloc: Global,

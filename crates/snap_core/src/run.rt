@@ -26,6 +26,14 @@ pub struct Run {
     pub writes: u64,
 }
 
+/// What became of a packet that was changed in place, and the variables that were read and written, a bit each.
+#[derive(Drop)]
+pub struct Ran {
+    pub flow: Flow,
+    pub reads: u64,
+    pub writes: u64,
+}
+
 impl Run {
     /// Nothing was done, and no packet goes on.
     pub(crate) fn blank(alloc: Global) -> Run
