@@ -3,6 +3,7 @@ pub mod Rows
 pub mod Places
 pub mod Ports
 pub mod Ways
+pub mod Jumps
 pub mod Stages
 pub mod Own
 pub mod Visited

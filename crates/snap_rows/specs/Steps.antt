@@ -12,12 +12,11 @@ use Rattle.snap_rows.specs.declared.tables.Row.TheVariants.{Field, State, Go, Le
 use Rattle.snap_rows.specs.Entries.{Parts, row_at, port_at}
 use Rattle.snap_rows.specs.declared.head.Sent.{Sent}
 use Rattle.snap_core.specs.declared.policy.Update.{Update}
-use Rattle.snap_rows.specs.Handles.{side, Visits}
 use Rattle.snap_rows.specs.Form.{IsFieldTest, switch_count}
 use Rattle.snap_rows.specs.Home.{AtHome, IsVisited}
 use Rattle.snap_rows.specs.declared.head.Action.{Action}
 use Rattle.snap_rows.specs.declared.head.Action.TheVariants.{Forward, Deliver, Fork}
-use Rattle.snap_rows.specs.Handles.{Handles, forked}
+use Rattle.snap_rows.specs.Handles.{Handles, Follows, Visits, forked}
 
 -- the components of a test row are below c
 abbrev pub TestRowFits : ℕ → Row → Type 0
@@ -25,12 +24,18 @@ TestRowFits c (Field test y z) = TestFits c test
 TestRowFits c (State test y z) = TestFits c test
 TestRowFits c _ = Unit {0}
 
+-- at switch w a walk along rows that pass p goes on from number n to number x, which is above and has a row
+pub record GoesOn (t : Tables) (w : ℕ) (k : List ℕ) (p : Row → Bool) (m : Arrays) (n x : ℕ) : Type 0 where
+  pub up : n < x
+  pub there : IsSome (row_at t w x)
+  pub way : (v : ℕ) → Follows t w k p m x v → Follows t w k p m n v
+
 -- one more number on a way along rows that pass p, or none where the row doesn't pass it
 pub record IsStep (t : Tables) (w : ℕ) (k : List ℕ) (p : Row → Bool) (m : Arrays) (n : ℕ) (x : Option ℕ) : Type 0 where
   pub body : Row
   pub row : row_at t w n ≡ Some body
   pub test : p body ≡ is_some x
-  pub goes : IfSome x (λ y. (side body m k ≡ Some y) × (n < y) × IsSome (row_at t w y))
+  pub goes : IfSome x (GoesOn t w k p m n)
 
 -- a packet as long as k on its way to a port that exists
 pub record IsSent (t : Tables) (k : List ℕ) (x : Sent) : Type 0 where
