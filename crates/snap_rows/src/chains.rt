@@ -45,9 +45,7 @@ impl Chain {
         requires { self.now.comp < length packet.now }
         ensures { result ≡ picked self.now packet.now }
     {
-        self.cases
-            .get(packet.get(self.comp))
-            .unwrap_or(self.rest)
+        self.cases.get(packet.get(self.comp)).unwrap_or(self.rest)
     }
 }
 
@@ -61,11 +59,7 @@ pub(crate) struct Chains {
 
 impl Chains {
     /// The chains of valid tables.
-    pub(crate) fn of(
-        alloc: Global,
-        tables: &Tables,
-        nodes: &Numbered,
-    ) -> Result<Chains, NoMemory>
+    pub(crate) fn of(alloc: Global, tables: &Tables, nodes: &Numbered) -> Result<Chains, NoMemory>
         requires form { IsInForm tables.now }
         requires valid { IsValid tables.now }
         requires nodes { AreNodesFrom tables.now 0 (place_in nodes.now) }
