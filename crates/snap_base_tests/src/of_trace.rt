@@ -1,22 +1,15 @@
+ghost use Rattle.std.specs.Prelude.{◌≡◌, length};
+ghost use Rattle.snap_core.specs.Fields.{count};
 ghost use Rattle.snap_core.specs.Programs.{IsBounded};
 
 use crate::given::program;
-use snap_core::packet::Packet;
 use snap_core::program::{Fields, Program};
 use snap_io::{File, MemoryShelf, MemorySink, have_distinct_names};
 use snap_trace::switch::one_switch;
-use snap_trace::{Line, read_line};
+use snap_trace::{Draft, Line, read_line};
 use std::alloc::Global;
 use std::process::Abort;
 use std::test::Fail;
-
-// The port and the components of the packet that a line says.
-fn said(alloc: Global, fields: &Fields, line: &[u8]) -> Result<(u32, Packet), Fail> {
-    match read_line(alloc, fields, line)? {
-        Line::Inject { port, packet } => Ok((port, packet)),
-        Line::Skip => Err("no packet")?,
-    }
-}
 
 // Lines, and the components of the packet that each says, of which the first is its port.
 const LINES: [(&[u8], [u64; 5]); 14] = [
@@ -36,15 +29,23 @@ const LINES: [(&[u8], [u64; 5]); 14] = [
     (b"1 g.host=5 f=1 outport=2", [1, 2, 1, 0, 5]),
 ];
 
-// Whether a line says a packet of these components, the first of which is its port.
-fn says(alloc: Global, fields: &Fields, line: &[u8], numbers: [u64; 5]) -> Result<bool, Fail> {
-    let (port, packet) = said(alloc, fields, line)?;
-    Ok(u64::from(port) == numbers[0] && packet.comps() == numbers.as_slice())
+// Whether a line that is read behind others says a packet of these components, the first of which is its port.
+fn says(draft: &mut Draft, fields: &Fields, line: &[u8], numbers: [u64; 5]) -> bool
+    requires { length draft.old.packet ≡ count fields.now }
+    ensures { length draft.new.packet ≡ length draft.old.packet }
+{
+    match read_line(draft, fields, line) {
+        Some(Line::Inject { port }) => {
+            u64::from(port) == numbers[0] && draft.packet().comps() == numbers.as_slice()
+        }
+        _ => false,
+    }
 }
 
 fn lines_say(rt: &impl Abort, alloc: Global, fields: &Fields) -> Result<(), Fail> {
+    let mut draft = Draft::new(alloc, fields)?;
     for (line, numbers) in LINES {
-        assert!(rt; says(alloc, fields, line, numbers)?, "{line:?}");
+        assert!(rt; says(&mut draft, fields, line, numbers), "{line:?}");
     }
     Ok(())
 }

@@ -1,7 +1,7 @@
 //! Diagrams of updates alone, one after another: a run of them is one leaf at once.
 
 ghost use Rattle.std.specs.Prelude.{◌≡◌, ◌++◌, ◌<◌, IfOk, IsTrue, OnOk};
-ghost use Rattle.snap_core.specs.Laws.{AtomIsSmall, OpIsSmall, PutsSmall, write_vars};
+ghost use Rattle.snap_core.specs.Laws.{PutsSmall, write_vars};
 ghost use Rattle.snap_arena.specs.Arena.{Grew};
 ghost use Rattle.snap_fdd.specs.Picks.{IsArgument, sizes};
 ghost use Rattle.snap_chain.specs.Additions.{AreSame};
@@ -11,26 +11,14 @@ use crate::predicates::bit;
 use snap_arena::nodes::Nodes;
 use snap_chain::summing::push_update;
 use snap_core::NoMemory;
+use snap_core::bits::op_is_small;
 use snap_core::lists::Out;
-use snap_core::policy::{Atom, Op, Pol, Update};
+use snap_core::policy::{Pol, Update};
 use snap_ctx::context::Context;
 use snap_dep::groups::Groups;
 use snap_fdd::leaf::{Go, Leaf, Outs, Updates};
 use snap_fdd::only::only;
 use std::alloc::Global;
-
-pub(crate) fn know_atom(atom: Atom)
-    ensures { AtomIsSmall atom }
-{}
-
-fn know_op(op: Op)
-    ensures { OpIsSmall op }
-{
-    match op {
-        Op::Put(atom) => know_atom(atom),
-        Op::Add(_) => {}
-    }
-}
 
 /// Whether a policy is of updates alone, one after another. The last part is looked at first: mostly it tells.
 pub(crate) fn updates_alone(pol: &Pol) -> bool
@@ -59,7 +47,7 @@ fn push_all(
     match pol {
         Pol::Change(update) => {
             let _vars = groups.count();
-            know_op(update.op);
+            op_is_small(update.op);
             push_update(updates, update)?;
             Ok(bit(update.var))
         }

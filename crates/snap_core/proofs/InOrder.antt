@@ -1,25 +1,26 @@
 -- Listed places, put in order.
 use Rattle.std.proofs.Common.{◌≡◌, ◌≢◌, ℕ, ◌+◌, Bool, true, false, cond, List, [], ◌∷◌, map, refl, sym, ap, subst, ◌∙◌, arith}
-use Rattle.std.specs.Prelude.{unwrap_or, slice_index_or}
-use Rattle.std.specs.List.{AllByRecursion, IsDistinct}
+use Rattle.std.specs.Prelude.{nat_eq, unwrap_or, slice_index_or}
+use Rattle.std.specs.List.{All, AllByRecursion, IsDistinct}
 use Rattle.std.specs.List.Sorted.{IsPermutation, IsSorted, IsStrictlySortedBy}
 use Rattle.std.specs.Map.{keys_of, lookup}
+use Rattle.std.specs.Str.{bytes_eq}
 use Rattle.std.specs.Ordering.{ordering_reverse, is_lt}
 use Rattle.std.specs.Cmp.{IsTotalOrder}
 use Rattle.std.specs.declared.cmp.Ordering.{Ordering}
 use Rattle.std.specs.declared.cmp.Ordering.TheVariants.{Less, Equal, Greater}
-use Rattle.std.proofs.lemmas.Bool.{both_ways}
+use Rattle.std.proofs.lemmas.Bool.{both_ways, eqb-true}
 use Rattle.std.proofs.lemmas.Cmp.{on_total}
 use Rattle.std.proofs.lemmas.List.Sorted.{IsPermutation-map, All-permutation}
 use Rattle.std.proofs.lemmas.Map.Keys.{IsDistinct-IsPermutation, apart_from_distinct, sorted_from_all_adjacent}
 use Rattle.snap_core.specs.declared.place.Place.{Place}
 use Rattle.snap_core.specs.declared.place.Entry.{Entry}
 use Rattle.snap_core.specs.declared.place.Listed.{Listed}
-use Rattle.snap_core.specs.Arrays.{same_place}
-use Rattle.snap_core.specs.Cells.{Kept, arrays_of}
-use Rattle.snap_core.specs.Listing.{place_cmp, number_in, entry_of, listed_cmp, IsListing}
+use Rattle.snap_core.specs.Arrays.{Arrays, same_place}
+use Rattle.snap_core.specs.Cells.{Kept, array_at, arrays_of}
+use Rattle.snap_core.specs.Listing.{place_cmp, number_in, array_of, entries_of, entry_of, listed_cmp, IsListing, IsArrayListing}
 use Rattle.snap_core.proofs.CellMerge.{lookup-reordered, unwrap-cond}
-use Rattle.snap_core.proofs.Entries.{places, all_entries, HaveDistinct, NoZero-all, All-NoZero, IsDistinct-all, number-all}
+use Rattle.snap_core.proofs.Entries.{places, NoZero, All-NoZero, NoZero-entries_of, vars-entries_of, IsDistinct-entries_of, number-here, number-other}
 use Rattle.snap_core.proofs.Places.{place_total, place_exact, same_place-exact, same_place-itself, same_place-flips, same_place_equiv}
 
 -- ---- lists of values with a key
@@ -87,16 +88,33 @@ listed_total = on_total (λ (l : Listed). (entry_of l).place) place_total
 tied : (a b : Listed) → listed_cmp a b ≡ Equal → same_place (entry_of a).place (entry_of b).place ≡ true
 tied a b h = ap (same_place (entry_of a).place) (sym (place_exact (entry_of a).place (entry_of b).place h)) ∙ same_place-itself (entry_of a).place
 
--- all entries of a store, put in order
-pub IsListing-sorted : (m : Kept) (ls ms : List Listed) → HaveDistinct m → map entry_of ls ≡ all_entries 0 m → IsPermutation ls ms → IsSorted listed_cmp ms → IsListing (arrays_of m) (map entry_of ms)
-IsListing-sorted m ls ms indices all moved sorted =
-    let es = all_entries 0 m in let fs = map entry_of ms in
-    let reordered : IsPermutation es fs = subst (λ l. IsPermutation l fs) all (IsPermutation-map entry_of ls ms moved) in
-    let distinct : IsDistinct same_place (places es) = IsDistinct-all 0 m indices in
+-- the places of m that don't hold 0, put in order
+pub IsListing-sorted : (m : Arrays) (ls ms : List Listed) → IsDistinct same_place (places (map entry_of ls)) → NoZero (map entry_of ls) → ((p : Place) → number_in (map entry_of ls) p ≡ m p) → IsPermutation ls ms → IsSorted listed_cmp ms → IsListing m (map entry_of ms)
+IsListing-sorted m ls ms distinct some numbers moved sorted =
+    let es = map entry_of ls in let fs = map entry_of ms in
+    let reordered : IsPermutation es fs = IsPermutation-map entry_of ls ms moved in
     let apart = IsDistinct-reordered es fs reordered distinct in
     let apart_listed = IsDistinct-unmapped entry_of (λ (e f : Entry). same_place e.place f.place) ms (IsDistinct-unmapped (λ (e : Entry). e.place) same_place fs apart) in
     record {
       rising = sorted-mapped (λ (e : Entry). e.place) place_cmp fs (sorted-mapped entry_of (λ (e f : Entry). place_cmp e.place f.place) ms (rising listed_total (λ a b. same_place (entry_of a).place (entry_of b).place) tied ms sorted apart_listed));
-      nonzero = All-permutation (λ (e : Entry). e.value ≢ 0) es fs reordered (All-NoZero es (NoZero-all 0 m));
-      numbers = λ p. number-reordered es fs reordered distinct p ∙ number-all m indices p;
+      nonzero = All-permutation (λ (e : Entry). e.value ≢ 0) es fs reordered (All-NoZero es some);
+      numbers = λ p. number-reordered es fs reordered distinct p ∙ numbers p;
     }
+
+-- those of one array
+pub IsArrayListing-sorted : (s : ℕ) (m : Kept) (ls ms : List Listed) → IsDistinct bytes_eq (keys_of (array_at m s).0) → map entry_of ls ≡ entries_of s (array_at m s).0 → IsPermutation ls ms → IsSorted listed_cmp ms → IsArrayListing s (arrays_of m) (map entry_of ms)
+IsArrayListing-sorted s m ls ms distinct all moved sorted =
+    let cs = (array_at m s).0 in
+    let each = λ (Q : List Entry → Type 0) (q : Q (entries_of s cs)). subst Q (sym all) q in
+    record {
+      listing = IsListing-sorted (array_of s (arrays_of m)) ls ms
+          (each (λ es. IsDistinct same_place (places es)) (IsDistinct-entries_of s cs distinct))
+          (each NoZero (NoZero-entries_of s cs))
+          (λ p. ap (λ es. number_in es p) all ∙ number p (nat_eq s p.var) refl)
+          moved sorted;
+      vars = All-permutation (λ (e : Entry). e.place.var ≡ s) (map entry_of ls) (map entry_of ms) (IsPermutation-map entry_of ls ms moved) (each (All (λ e. e.place.var ≡ s)) (vars-entries_of s cs));
+    }
+  where
+    number : (p : Place) (t : Bool) → nat_eq s p.var ≡ t → number_in (entries_of s (array_at m s).0) p ≡ cond t (arrays_of m p) 0
+    number p true e = ap (λ v. number_in (entries_of v (array_at m v).0) p) (eqb-true s p.var e) ∙ number-here p.var (array_at m p.var).0 p.index (subst (λ v. IsDistinct bytes_eq (keys_of (array_at m v).0)) (eqb-true s p.var e) distinct)
+    number p false e = number-other s (array_at m s).0 p e

@@ -20,7 +20,8 @@ use Rattle.snap_core.specs.declared.policy.Pol.TheVariants.{Filter, Set, Change,
 use Rattle.snap_core.specs.Arrays.{Arrays, same_place, place_at, value_of, number_after, update, has}
 use Rattle.snap_core.specs.Packets.{PacketSet, packet_cmp, no_packets, with_packet, union, listed}
 use Rattle.snap_core.specs.Meaning.{Meaning, eval, truth, vars_of, merge, all_packets}
-use Rattle.snap_core.specs.Laws.{AtomIsSmall, OpIsSmall, PutsSmall, AreSmall, HoldSmall}
+use Rattle.snap_core.specs.Laws.{OpIsSmall, PutsSmall, AreSmall, HoldSmall}
+use Rattle.snap_core.specs.Ranges.{AtomInRange}
 use Rattle.snap_core.proofs.Kept.{IfDefined}
 use Rattle.snap_core.proofs.Gathered.{beside_all, all_together_has, logged_has, then_has, either_has, each_has}
 use Rattle.snap_core.proofs.PacketSets.{contains-no_packets, contains-with_packet, contains-union}
@@ -36,7 +37,7 @@ small-set [] c v h s = tt
 small-set (x ∷ k) zero v h s = (s, h.1)
 small-set (x ∷ k) (suc c) v h s = (h.0, small-set k c v h.1 s)
 
-small-value : (a : Atom) (k : List ℕ) → AtomIsSmall a → AreSmall k → value_of a k < 2 ^ 64
+small-value : (a : Atom) (k : List ℕ) → AtomInRange a → AreSmall k → value_of a k < 2 ^ 64
 small-value (Num n) k a h = a
 small-value (Comp c) k a h = small-index k c h
 

@@ -35,6 +35,10 @@ put m p v q = if same_place p q then v else m q
 abbrev pub taken : Arrays → Arrays → ℕ → Arrays
 taken m n vars p = if has vars p.var then n p else m p
 
+-- m, with one array as it is in n
+abbrev pub with_array : Arrays → Arrays → ℕ → Arrays
+with_array m n var p = if var == p.var then n p else m p
+
 -- an atom's value on a packet
 abbrev pub value_of : Atom → List ℕ → ℕ
 value_of (Num n) k = n

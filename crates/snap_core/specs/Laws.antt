@@ -3,8 +3,6 @@ use Rattle.std.specs.Prelude.{◌≡◌, ℕ, ◌<◌, ◌^◌, List, [], ◌∷
 use Rattle.std.specs.List.{AllByRecursion}
 use Rattle.std.specs.FinMap.{contains_key}
 use Rattle.snap_core.specs.declared.place.Place.{Place}
-use Rattle.snap_core.specs.declared.policy.Atom.{Atom}
-use Rattle.snap_core.specs.declared.policy.Atom.TheVariants.{Num, Comp}
 use Rattle.snap_core.specs.declared.policy.Op.{Op}
 use Rattle.snap_core.specs.declared.policy.Op.TheVariants.{Put, Add}
 use Rattle.snap_core.specs.declared.policy.Pol.{Pol}
@@ -12,6 +10,7 @@ use Rattle.snap_core.specs.declared.policy.Pol.TheVariants.{Filter, Set, Change,
 use Rattle.snap_core.specs.declared.policy.Update.{Update}
 use Rattle.snap_core.specs.Arrays.{Arrays, taken, updates, has}
 use Rattle.snap_core.specs.Meaning.{Meaning, eval, vars_of}
+use Rattle.snap_core.specs.Ranges.{AtomInRange}
 
 -- a variable that is not in the log of writes is as it was
 abbrev pub KeepsUnwritten : Type 0
@@ -70,18 +69,14 @@ abbrev pub LogsWhatStands : Type 0
 LogsWhatStands = (p : Pol) (m : Arrays) (k : List ℕ) (o : Meaning) → eval p m k ≡ Some o → IsWithin o.reads (read_vars p) × IsWithin o.writes (write_vars p)
 
 -- ---- 64 bits
-abbrev pub AtomIsSmall : Atom → Type 0
-AtomIsSmall (Num n) = n < 2 ^ 64
-AtomIsSmall (Comp c) = ⊤
-
 abbrev pub OpIsSmall : Op → Type 0
-OpIsSmall (Put a) = AtomIsSmall a
+OpIsSmall (Put a) = AtomInRange a
 OpIsSmall (Add n) = ⊤
 
 -- each number that a policy puts anywhere has 64 bits
 abbrev pub PutsSmall : Pol → Type 0
 PutsSmall (Filter x) = ⊤
-PutsSmall (Set c a) = AtomIsSmall a
+PutsSmall (Set c a) = AtomInRange a
 PutsSmall (Change u) = OpIsSmall u.op
 PutsSmall (Par' _ p _ q) = PutsSmall p × PutsSmall q
 PutsSmall (Seq' _ p _ q) = PutsSmall p × PutsSmall q

@@ -1,12 +1,13 @@
 //! Stores: the numbers of the state variables.
 
-ghost use Rattle.std.specs.Prelude.{◌≡◌, ◌<◌, ◌≤◌, ◌+◌, ◌%◌, ◌^◌, ◌==◌, false, All, ℕ, OnOk, OnErr, IfOk, IsOk, IsTrue, is_some, if◌then◌else◌, map, length, unwrap_or};
+ghost use Rattle.std.specs.Prelude.{◌≡◌, ◌<◌, ◌≤◌, ◌+◌, ◌%◌, ◌^◌, ◌==◌, false, All, ℕ, OnOk, OnErr, IfOk, IsOk, IsTrue, is_some, if◌then◌else◌, map, take, drop, length, nat_lt, unwrap_or};
+ghost use Rattle.std.specs.List.Sorted.{IsPermutation, IsSorted};
 ghost use Rattle.snap_core.specs.declared.place.Place.{Place};
-ghost use Rattle.snap_core.specs.Arrays.{update, updates, put, zero_arrays};
+ghost use Rattle.snap_core.specs.Arrays.{update, updates, put, with_array, zero_arrays};
 ghost use Rattle.snap_core.specs.Cells.{cell, array_at, arrays_of, overlaid, changed_at, room_at, written};
 ghost use Rattle.snap_core.specs.CellsKept.{cell_at, HasCellsOf};
 ghost use Rattle.snap_core.specs.Fits.{UpdateReads};
-ghost use Rattle.snap_core.specs.Listing.{IsListing, entry_of};
+ghost use Rattle.snap_core.specs.Listing.{IsListing, ListsArray, entry_of, listed_cmp};
 
 use crate::NoMemory;
 use crate::array::Array;
@@ -19,6 +20,7 @@ use crate::policy::Update;
 use crate::write::Write;
 use std::alloc::Global;
 use std::marker::Model;
+use std::mem;
 
 // How many updates are done in place, each in a call of its own.
 const FEW: usize = 16;
@@ -228,6 +230,32 @@ impl Store {
         }
     }
 
+    /// Exchanges one array with another store, whatever the two hold of it. Refuses for memory alone, which is asked for
+    /// where one of them never held a number of this array or of a later one, and then leaves both as they were.
+    pub fn swap_array(&mut self, var: u16, other: &mut Store) -> Result<(), NoMemory>
+        ensures here { OnOk result (arrays_of self.new ≡ with_array (arrays_of self.old) (arrays_of other.old) var) }
+        ensures there { OnOk result (arrays_of other.new ≡ with_array (arrays_of other.old) (arrays_of self.old) var) }
+        ensures err { OnErr result ((arrays_of self.new ≡ arrays_of self.old) × (arrays_of other.new ≡ arrays_of other.old)) }
+    {
+        if !self.reaches(var) && !other.reaches(var) {
+            return Ok(());
+        }
+        reach(self.alloc, &mut self.arrays, var)?;
+        reach(other.alloc, &mut other.arrays, var)?;
+        mem::swap(
+            &mut self.arrays[var as usize],
+            &mut other.arrays[var as usize],
+        );
+        Ok(())
+    }
+
+    // Whether there may be a number of this array.
+    fn reaches(&self, var: u16) -> bool
+        ensures { result ≡ nat_lt var (length self.now) }
+    {
+        (var as usize) < self.arrays.len()
+    }
+
     /// The places that don't hold 0, rising by variable and then by index, with their numbers.
     pub fn entries(&self) -> Result<Vec<Entry>, NoMemory>
         ensures { IfOk result (λ entries. IsListing (arrays_of self.now) entries.items) }
@@ -244,14 +272,31 @@ impl Store {
     pub fn listing(&self) -> Result<Vec<Listed<'_>>, NoMemory>
         ensures { IfOk result (λ listed. IsListing (arrays_of self.now) (map entry_of listed.items)) }
     {
-        let lengths = self.arrays.iter().map(|array| array.len());
-        let cells = lengths.fold(0, |sum: usize, length| sum.saturating_add(length));
-        let mut listed = Vec::with_capacity(self.alloc, cells)?;
+        let mut listed = Vec::with_capacity(self.alloc, self.cells())?;
         for var in 0..self.arrays.len() {
-            self.arrays[var].list(var as u16, &mut listed)?;
+            self.list_array(var as u16, &mut listed)?;
         }
-        listed.sort_unstable_by(|left, right| left.compare(right));
         Ok(listed)
+    }
+
+    /// Lists the places of one array that don't hold 0 behind what is listed, rising by index. A refusal for memory may
+    /// leave some of them there.
+    pub fn list_array<'a>(&'a self, var: u16, listed: &mut Vec<Listed<'a>>) -> Result<(), NoMemory>
+        ensures { OnOk result (ListsArray var (arrays_of self.now) (map entry_of listed.old.items) (map entry_of listed.new.items)) }
+    {
+        if !self.reaches(var) {
+            return Ok(());
+        }
+        let before = listed.len();
+        self.arrays[var as usize].list(var, listed)?;
+        sort_from(listed, before);
+        Ok(())
+    }
+
+    /// The number of cells, as room for a listing: each place that doesn't hold 0 has one.
+    pub fn cells(&self) -> usize {
+        let lengths = self.arrays.iter().map(|array| array.len());
+        lengths.fold(0, |sum: usize, length| sum.saturating_add(length))
     }
 }
 
@@ -267,4 +312,22 @@ fn reach(alloc: Global, arrays: &mut Vec<Array>, var: u16) -> Result<(), NoMemor
         arrays.push(Array::new(alloc))?;
     }
     Ok(())
+}
+
+// Puts the listed places from one on in order.
+fn sort_from(listed: &mut Vec<Listed<'_>>, from: usize)
+    requires { from ≤ length listed.old.items }
+    ensures before { take from listed.new.items ≡ take from listed.old.items }
+    ensures same { IsPermutation (drop from listed.old.items) (drop from listed.new.items) }
+    ensures sorted { IsSorted listed_cmp (drop from listed.new.items) }
+{
+    sort(&mut listed[from..]);
+}
+
+// Puts listed places in order.
+fn sort(listed: &mut [Listed<'_>])
+    ensures same { IsPermutation listed.old listed.new }
+    ensures sorted { IsSorted listed_cmp listed.new }
+{
+    listed.sort_unstable_by(|left, right| left.compare(right));
 }

@@ -10,7 +10,7 @@ use Rattle.snap_core.specs.declared.policy.Test.TheVariants.{Value, Equal, State
 use Rattle.snap_core.specs.Fits.{AtomFits}
 use Rattle.snap_core.specs.Tests.{TermFits, TestFits}
 use Rattle.snap_ctx.specs.Classes.{IsAtom, IsTerm, IsTest, index_of}
-use Rattle.snap_ctx.specs.Ranges.{AtomInRange, TermInRange, TestInRange}
+use Rattle.snap_core.specs.Ranges.{AtomInRange, TermInRange, TestInRange}
 
 is_atom : (comps : ℕ) (a : Atom) → AtomFits comps a → AtomInRange a → IsAtom comps a
 is_atom comps (Number n) fits range = range

@@ -5,6 +5,5 @@ pub mod Facts
 pub mod Known
 pub mod Lean
 pub mod Meets
-pub mod Ranges
 pub mod Tested
 pub mod View

@@ -12,7 +12,6 @@ pub mod laws;
 mod look;
 mod named;
 pub mod plain;
-pub mod ranges;
 mod rooted;
 pub mod sets;
 mod settled;

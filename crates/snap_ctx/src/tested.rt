@@ -4,11 +4,11 @@ ghost use Rattle.std.specs.Prelude.{◌≡◌};
 ghost use Rattle.std.specs.List.{AllByRecursion};
 ghost use Rattle.snap_core.specs.Arrays.{meets};
 ghost use Rattle.snap_ctx.specs.Known.{AtomOver, TermOver, TestOver};
-ghost use Rattle.snap_ctx.specs.Ranges.{TestInRange};
+ghost use Rattle.snap_core.specs.Ranges.{TestInRange};
 ghost use Rattle.snap_ctx.specs.Tested.{either_tested};
 
-use crate::ranges::know_test;
 use crate::sets::bit;
+use snap_core::bits::know_test;
 use snap_core::lists::Atoms;
 use snap_core::policy::{Atom, Term, Test};
 

@@ -15,7 +15,7 @@ use Rattle.snap_core.specs.Arrays.{Arrays, same_place, place_at, number_after, u
 use Rattle.snap_core.specs.Fits.{OpFits}
 use Rattle.snap_core.specs.Tests.{TermFits, passes, term_value}
 use Rattle.snap_ctx.specs.Classes.{wrap, shift}
-use Rattle.snap_ctx.specs.Ranges.{TermInRange}
+use Rattle.snap_core.specs.Ranges.{TermInRange}
 use Rattle.snap_ctx.specs.View.{View}
 use Rattle.snap_ctx.proofs.Algebra.{term_value-shift}
 use Rattle.snap_ctx.proofs.Places.{same_place-true}

@@ -11,7 +11,7 @@ use Rattle.snap_core.specs.Fits.{AtomFits}
 use Rattle.snap_core.specs.Tests.{TermFits, passes, term_value}
 use Rattle.snap_core.specs.Inputs.{IsPacket}
 use Rattle.snap_ctx.specs.Classes.{wrap}
-use Rattle.snap_ctx.specs.Ranges.{TermInRange}
+use Rattle.snap_core.specs.Ranges.{TermInRange}
 use Rattle.snap_ctx.specs.View.{View}
 use Rattle.snap_equal.specs.declared.stop.Stop.{Stop}
 use Rattle.snap_equal.specs.Held.{term_of}

@@ -12,8 +12,9 @@ ghost use Rattle.snap_equal.specs.Told.{IsStop, Tells};
 
 use crate::places::is_at;
 use crate::stop::{Stop, holds};
-use crate::terms::{know_term, same_terms, shifted, term_of};
+use crate::terms::{same_terms, shifted, term_of};
 use snap_core::NoMemory;
+use snap_core::bits::know_term;
 use snap_core::lists::Atoms;
 use snap_core::policy::{Op, Term, Test, Update};
 use snap_ctx::context::Context;

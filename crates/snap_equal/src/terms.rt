@@ -5,18 +5,13 @@ ghost use Rattle.snap_core.specs.Arrays.{value_of};
 ghost use Rattle.snap_core.specs.Fits.{AtomFits};
 ghost use Rattle.snap_core.specs.Tests.{TermFits, term_value};
 ghost use Rattle.snap_ctx.specs.Classes.{shift};
-ghost use Rattle.snap_ctx.specs.Ranges.{TermInRange};
 ghost use Rattle.snap_equal.specs.Held.{term_of};
 ghost use Rattle.snap_equal.specs.Told.{IsStop, On, Tells};
 
 use crate::stop::{Stop, holds};
+use snap_core::bits::know_term;
 use snap_core::policy::{Atom, Term, Test};
 use snap_ctx::context::Context;
-
-/// Each number of a term has 64 bits.
-pub(crate) fn know_term(term: Term)
-    ensures { TermInRange term }
-{}
 
 /// The term with this much more, modulo 2^64.
 pub(crate) fn shifted(term: Term, by: u64) -> Term

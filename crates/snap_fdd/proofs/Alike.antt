@@ -12,7 +12,7 @@ use Rattle.snap_ctx.specs.declared.fact.Fact.{Fact}
 use Rattle.snap_ctx.specs.Classes.{IsTest, index_of}
 use Rattle.snap_ctx.specs.Known.{IsKnown, TestOver}
 use Rattle.snap_ctx.specs.Meets.{Meets, IsMet}
-use Rattle.snap_ctx.specs.Ranges.{TestInRange}
+use Rattle.snap_core.specs.Ranges.{TestInRange}
 use Rattle.snap_ctx.specs.View.{View, IsContext}
 use Rattle.snap_ctx.proofs.Last.{with_last, last_parts, Meets-with_last}
 use Rattle.snap_ctx.proofs.Each.{Each-left, Each-right}

@@ -15,7 +15,7 @@ use Rattle.snap_core.specs.declared.policy.Atom.TheVariants.{Num as Number, Comp
 use Rattle.snap_core.specs.Arrays.{Arrays, place_at}
 use Rattle.snap_core.specs.Fits.{AtomFits}
 use Rattle.snap_core.specs.Tests.{passes, TermFits}
-use Rattle.snap_ctx.specs.Ranges.{AtomInRange, TermInRange}
+use Rattle.snap_core.specs.Ranges.{AtomInRange, TermInRange}
 use Rattle.snap_core.specs.Listing.{number_in}
 use Rattle.snap_core.specs.Inputs.{IsPacket}
 use Rattle.snap_ctx.specs.declared.fact.Fact.{Fact}
@@ -126,7 +126,7 @@ term_is comps (Plus c p) f r = (f, r)
 test_is : (sz : Sizes) (s : Survey) (t : Test) → TestIn sz t → IsFine s t → IsTest sz.comps t
 test_is sz s (Value c n) i f = (i.0, f.0)
 test_is sz s (Same l r p) i f = absurd f
-test_is sz s (State v ix t) i f = (i.1.few, All-from_recursion (IsAtom sz.comps) ix (atoms_are sz.comps ix i.1.atoms f.1), term_is sz.comps t i.2 f.0)
+test_is sz s (State v ix t) i f = (i.1.few, All-from_recursion (IsAtom sz.comps) ix (atoms_are sz.comps ix i.1.atoms (recursion_from_All AtomInRange ix f.1)), term_is sz.comps t i.2 f.0)
 
 -- those that meet one fact more
 more : (P : Arrays → List ℕ → Type 0) (facts : List Fact) (t : Test) (b : Bool) (comps : ℕ) → ((m : Arrays) (k : List ℕ) → IsPacket comps k → Meets facts m k → P m k)

@@ -11,7 +11,7 @@ use Rattle.snap_core.specs.declared.policy.Test.{Test}
 use Rattle.snap_core.specs.declared.policy.Test.TheVariants.{Value, Equal, State}
 use Rattle.snap_ctx.proofs.Testing.{test_left, test_right}
 use Rattle.snap_ctx.specs.Known.{IsAmong, AtomOver, TermOver, TestOver}
-use Rattle.snap_ctx.specs.Ranges.{TestInRange}
+use Rattle.snap_core.specs.Ranges.{TestInRange}
 use Rattle.snap_ctx.specs.declared.tested.Tested.{Tested}
 use Rattle.snap_ctx.specs.Tested.{either_tested}
 use Rattle.snap_dep.proofs.Sets.{in_or}

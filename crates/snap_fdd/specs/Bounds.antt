@@ -6,7 +6,7 @@ use Rattle.snap_core.specs.declared.policy.Test.TheVariants.{Value, Equal, State
 use Rattle.snap_core.specs.declared.policy.Update.{Update}
 use Rattle.snap_core.specs.Fits.{OpFits, IndexFits}
 use Rattle.snap_core.specs.Tests.{TermFits, OutFits}
-use Rattle.snap_ctx.specs.Ranges.{TermInRange}
+use Rattle.snap_core.specs.Ranges.{TermInRange}
 use Rattle.snap_fdd.specs.declared.leaf.Leaf.{Leaf}
 use Rattle.snap_fdd.specs.declared.leaf.Leaf.TheVariants.{Race, Go as Goes}
 use Rattle.snap_fdd.specs.Diagrams.{Diagram, Only, Asks}

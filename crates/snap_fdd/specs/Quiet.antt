@@ -1,7 +1,7 @@
 -- Diagrams in which nothing can be dead: they test components for numbers, and places for numbers or one term, and no place can turn out to be another.
 use Rattle.std.specs.Prelude.{◌≡◌, ℕ, ◌<◌, ◌^◌, Bool, true, false, Option, Some, None, List, slice_get}
 use Rattle.std.specs.declared.cmp.Ordering.TheVariants.{Less}
-use Rattle.std.specs.List.{AllByRecursion}
+use Rattle.std.specs.List.{All, AllByRecursion}
 use Rattle.snap_core.specs.declared.policy.Atom.{Atom}
 use Rattle.snap_core.specs.declared.policy.Atom.TheVariants.{Num as Number, Comp}
 use Rattle.snap_core.specs.declared.policy.Term.{Term}
@@ -9,7 +9,7 @@ use Rattle.snap_core.specs.declared.policy.Test.{Test}
 use Rattle.snap_core.specs.declared.policy.Test.TheVariants.{Value, Equal, State}
 use Rattle.snap_core.specs.Arrays.{has}
 use Rattle.snap_ctx.specs.declared.fact.Fact.{Fact}
-use Rattle.snap_ctx.specs.Ranges.{AtomInRange, TermInRange}
+use Rattle.snap_core.specs.Ranges.{AtomInRange, TermInRange}
 use Rattle.snap_fdd.specs.declared.survey.Seen.{Seen}
 use Rattle.snap_fdd.specs.declared.survey.Seen.TheVariants.{Few, Many}
 use Rattle.snap_fdd.specs.declared.survey.Survey.{Survey}
@@ -43,7 +43,7 @@ IndexIsFine s None ix t = ⊥
 abbrev pub IsFine : Survey → Test → Type 0
 IsFine s (Value c n) = (n < 2 ^ 64) × (has s.values c ≡ true)
 IsFine s (Equal l r p) = ⊥
-IsFine s (State v ix t) = TermInRange t × AllByRecursion AtomInRange ix × IndexIsFine s (slice_get s.arrays.items v) ix t
+IsFine s (State v ix t) = TermInRange t × All AtomInRange ix × IndexIsFine s (slice_get s.arrays.items v) ix t
 
 -- tests of one component, or of one place
 abbrev pub SameSubject : Test → Test → Type 0

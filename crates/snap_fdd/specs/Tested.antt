@@ -1,7 +1,7 @@
 -- The components and arrays that a diagram tests, as marks tell.
 use Rattle.std.specs.Prelude.{ℕ, List, Option, IfSome}
 use Rattle.snap_ctx.specs.Known.{TestOver}
-use Rattle.snap_ctx.specs.Ranges.{TestInRange}
+use Rattle.snap_core.specs.Ranges.{TestInRange}
 use Rattle.snap_ctx.specs.declared.tested.Tested.{Tested}
 use Rattle.snap_arena.specs.declared.node.Node.{Node}
 use Rattle.snap_fdd.specs.declared.leaf.Leaf.{Leaf}

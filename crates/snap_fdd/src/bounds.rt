@@ -3,7 +3,7 @@
 ghost use Rattle.std.specs.Prelude.{◌↔◌, ◌<◌, ◌≤◌, ◌^◌, All, IsTrue, length};
 ghost use Rattle.snap_core.specs.Fits.{IndexFits};
 ghost use Rattle.snap_core.specs.Tests.{OutFits, TermFits, PartFits};
-ghost use Rattle.snap_ctx.specs.Ranges.{TermInRange};
+ghost use Rattle.snap_core.specs.Ranges.{TermInRange};
 ghost use Rattle.snap_fdd.specs.Bounds.{IsIndex, TestIn, UpdateIn, LeafIn};
 ghost use Rattle.snap_fdd.specs.declared.leaf.Leaf.TheVariants.{Go as Goes};
 ghost use Rattle.snap_fdd.specs.Picks.{sizes};

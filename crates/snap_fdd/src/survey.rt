@@ -2,7 +2,6 @@
 
 ghost use Rattle.std.specs.Prelude.{◌≡◌, ◌↔◌, ◌<◌, ◌≤◌, All, IfOk, IsTrue, length, slice_get};
 ghost use Rattle.std.specs.List.{AllByRecursion};
-ghost use Rattle.snap_ctx.specs.Ranges.{AtomInRange, TermInRange};
 ghost use Rattle.snap_fdd.specs.Quiet.{AtomIsFree, IndexIsFine, IsClear, IsFine, SeenClear};
 ghost use Rattle.snap_fdd.specs.Spots.{IsNumber};
 
@@ -12,6 +11,7 @@ use crate::spots::{Spot, is_at, note_spot, spots_apart};
 use snap_arena::node::Node;
 use snap_arena::nodes::Nodes;
 use snap_core::NoMemory;
+use snap_core::bits::{know_index, know_term};
 use snap_core::lists::Atoms;
 use snap_core::policy::{Atom, Term, Test};
 use snap_ctx::sets::is_in;
@@ -114,7 +114,7 @@ impl Survey {
             Test::Equal { .. } => false,
             Test::State { var, index, value } => {
                 know_term(*value);
-                know_index(index);
+                know_index(index.list());
                 self.has_place(*var, index, *value)
             }
         }
@@ -127,23 +127,6 @@ fn is_number(term: Term) -> bool
     match term {
         Term::Num(_) => true,
         Term::Plus { .. } => false,
-    }
-}
-
-fn know_term(term: Term)
-    ensures { TermInRange term }
-{}
-
-fn know_atom(atom: Atom)
-    ensures { AtomInRange atom }
-{}
-
-// Each number of an index has 64 bits: reading it tells.
-fn know_index(index: &Atoms)
-    ensures { AllByRecursion AtomInRange index.now }
-{
-    for atom in index.list() {
-        know_atom(*atom);
     }
 }
 

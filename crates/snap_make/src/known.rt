@@ -12,27 +12,16 @@ ghost use Rattle.snap_make.specs.Known.{IsKnown, LeafKnown};
 
 use snap_arena::node::Node;
 use snap_arena::nodes::Nodes;
+use snap_core::bits::op_is_small;
 use snap_core::lists::Out;
-use snap_core::policy::{Atom, Op, Update};
+use snap_core::policy::Update;
 use snap_fdd::leaf::Leaf;
-
-fn know_op(op: Op)
-    ensures { OpIsSmall op }
-{
-    match op {
-        Op::Put(atom) => match atom {
-            Atom::Num(_) => {}
-            Atom::Comp(_) => {}
-        },
-        Op::Add(_) => {}
-    }
-}
 
 fn know_updates(ups: &[Update])
     ensures { All (λ (u : Update). OpIsSmall u.op) ups.now }
 {
     for up in ups {
-        know_op(up.op);
+        op_is_small(up.op);
     }
 }
 

@@ -98,7 +98,7 @@ impl Machine for Mover {
         &mut self,
         text: &mut Vec<u8>,
         port: u32,
-        packet: Packet,
+        packet: &mut Packet,
         line: u64,
     ) -> Result<(), TraceFault> {
         self.tracer.take_packet(text, port, packet, line)?;

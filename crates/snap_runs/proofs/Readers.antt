@@ -9,7 +9,7 @@ use Rattle.snap_trace.specs.declared.line.Line.{Line}
 use Rattle.snap_trace.specs.declared.line.Line.TheVariants.{Skip, Inject}
 use Rattle.snap_trace.specs.declared.packets.PacketLines.{PacketLines}
 use Rattle.snap_trace.specs.PacketLines.{Said, skip, inject, bad, said_by}
-use Rattle.snap_trace.specs.Reading.{LeavesLine, left_for, said_of, spelled_where, where_accepted}
+use Rattle.snap_trace.specs.Reading.{LeavesLine, left_for, packet_in, said_of, spelled_where, where_accepted}
 use Rattle.snap_trace.specs.Spelled.{counted, spelled_from, with_said}
 use Rattle.snap_trace.proofs.Readers.{spelled_behind-const}
 use Rattle.snap_runs.specs.Plain.{at_ports, spelled_for}
@@ -34,16 +34,16 @@ module _ (t : Tables) where
       ∙ at-ports file (1000000 - reader.read) (reader.read + 1) (lines_given reader.lines) before
 
   module _ (file : List ℕ) (old new : PacketLines) where
-    line_at : (line : Line) → left_for t.fields (λ n. has_port t) file old 0 ≡ with_said new.read (where_accepted (has_port t) (said_of line)) (left_for t.fields (λ n. has_port t) file new (counted (where_accepted (has_port t) (said_of line)) 0)) → GivesLine t file old new (Ok (Some line))
+    line_at : (line : Line) → left_for t.fields (λ n. has_port t) file old 0 ≡ with_said new.read (where_accepted (has_port t) (said_of (packet_in new) line)) (left_for t.fields (λ n. has_port t) file new (counted (where_accepted (has_port t) (said_of (packet_in new) line)) 0)) → GivesLine t file old new (Ok (Some line))
     line_at line h =
         sym (left-ports file old 0) ∙ h
-        ∙ (λ i. with_said new.read (accepted-ports (said_of line) i) (left-ports file new (counted (where_accepted (has_port t) (said_of line)) 0) i))
+        ∙ (λ i. with_said new.read (accepted-ports (said_of (packet_in new) line) i) (left-ports file new (counted (where_accepted (has_port t) (said_of (packet_in new) line)) 0) i))
 
     leaves_at : (r : Result (Option Line) TraceFault) → LeavesLine t.fields (λ n. has_port t) 0 file old new r → GivesLine t file old new r
     leaves_at (Ok (Some line)) h = line_at line h
     leaves_at (Ok None) h = sym (left-ports file old 0) ∙ h
     leaves_at (Err Read) h = tt
-    leaves_at (Err NoMemory) h = tt
+    leaves_at (Err NoMemory) h = h
     leaves_at (Err (Limit which count)) h = sym (left-ports file old 0) ∙ h
     leaves_at (Err (Packets line)) h = sym (left-ports file old 0) ∙ h
     leaves_at (Err Write) h = h

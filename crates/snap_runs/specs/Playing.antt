@@ -167,6 +167,6 @@ HasRead t file rs (Err trace.Write) = ⊥
 HasRead t file rs (Err (trace.Undefined packet)) = ⊥
 
 -- a packet of the line stands behind the others, and its port is one of the tables'
-abbrev pub TakesLine : Tables → Read_line → (before after : List Ready) → Type 0
-TakesLine t read.Skip before after = after ≡ before
-TakesLine t (read.Inject port packet) before after = (after ≡ before ++ record { port = port; packet = packet } ∷ []) × IsSome (port_at t port)
+abbrev pub TakesLine : Tables → (packet : List ℕ) → Read_line → (before after : List Ready) → Type 0
+TakesLine t packet read.Skip before after = after ≡ before
+TakesLine t packet (read.Inject port) before after = (after ≡ before ++ record { port = port; packet = packet } ∷ []) × IsSome (port_at t port)

@@ -9,7 +9,7 @@ use Rattle.snap_trace.specs.declared.fault.TraceFault.TheVariants.{Read, Write, 
 use Rattle.snap_trace.specs.declared.line.Line.{Line}
 use Rattle.snap_trace.specs.declared.packets.PacketLines.{PacketLines}
 use Rattle.snap_trace.specs.PacketLines.{Said, said_by}
-use Rattle.snap_trace.specs.Reading.{said_of}
+use Rattle.snap_trace.specs.Reading.{packet_in, said_of}
 use Rattle.snap_trace.specs.Spelled.{Spelled, stops, ended, refused, spelled_from, with_said}
 use Rattle.snap_runs.specs.Plain.{at_ports}
 
@@ -31,10 +31,10 @@ left_of said file reader = left_behind said file reader.read (lines_given reader
 
 -- the next line stands before the others, or none is left, or reading has stopped
 abbrev pub GivesLine : Tables → (file : List ℕ) → (old new : PacketLines) → Result (Option Line) TraceFault → Type 0
-GivesLine t file old new (Ok (Some line)) = left_of (said_at t) file old ≡ with_said new.read (at_ports t (said_of line)) (left_of (said_at t) file new)
+GivesLine t file old new (Ok (Some line)) = left_of (said_at t) file old ≡ with_said new.read (at_ports t (said_of (packet_in new) line)) (left_of (said_at t) file new)
 GivesLine t file old new (Ok None) = left_of (said_at t) file old ≡ stops ended
 GivesLine t file old new (Err Read) = Unit {0}
-GivesLine t file old new (Err NoMemory) = Unit {0}
+GivesLine t file old new (Err NoMemory) = ⊥
 GivesLine t file old new (Err (Limit which count)) = left_of (said_at t) file old ≡ stops (refused (Limit which count))
 GivesLine t file old new (Err (Packets line)) = left_of (said_at t) file old ≡ stops (refused (Packets line))
 GivesLine t file old new (Err Write) = ⊥

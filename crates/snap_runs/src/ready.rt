@@ -71,39 +71,42 @@ fn read_until<S: Shelf>(
     ensures files { S.files shelf.new ≡ S.files shelf.old }
     ensures later { NoneFell (S.faults shelf.old) (S.faults shelf.new) }
 {
-    let mut reader = PacketLines::new(alloc, name)?;
-    while let Some(line) = reader.next(alloc, shelf, &tables.tables().fields)? {
-        take_line(tables, packets, line, reader.read())?;
+    let fields = &tables.tables().fields;
+    let mut reader = PacketLines::new(alloc, name, fields)?;
+    while let Some(line) = reader.next(shelf, fields)? {
+        take_line(tables, packets, line, reader.packet(), reader.read())?;
     }
     Ok(())
 }
 
-// Takes a line of this number.
+// Takes a line of this number, whose packet this is.
 fn take_line(
     tables: &Valid,
     packets: &mut Vec<Ready>,
     line: Line,
+    packet: &Packet,
     number: u64,
 ) -> Result<(), TraceFault>
-    requires { FitsLine (comps tables.now) line }
-    ensures ok { OnOk result (TakesLine tables.now line packets.old.items packets.new.items) }
-    ensures err { IfErr result (λ fault. fault ≢ TraceFault.NoMemory → (fault ≡ TraceFault.Packets number) × (at_ports tables.now (said_of line) ≡ bad)) }
+    requires { FitsLine (comps tables.now) packet.now line }
+    ensures ok { OnOk result (TakesLine tables.now packet.now line packets.old.items packets.new.items) }
+    ensures err { IfErr result (λ fault. fault ≢ TraceFault.NoMemory → (fault ≡ TraceFault.Packets number) × (at_ports tables.now (said_of packet.now line) ≡ bad)) }
     ensures refused { OnErr result (packets.new.items ≡ packets.old.items) }
 {
-    let Line::Inject { port, packet } = line else {
+    let Line::Inject { port } = line else {
         return Ok(());
     };
     if tables.port_at(port as u64).is_none() {
         return Err(TraceFault::Packets { line: number });
     }
-    put(packets, Ready { port, packet })?;
+    put(packets, port, packet)?;
     Ok(())
 }
 
-fn put(packets: &mut Vec<Ready>, ready: Ready) -> Result<(), NoMemory>
-    ensures ok { OnOk result (packets.new.items ≡ packets.old.items ++ ready ∷ []) }
+fn put(packets: &mut Vec<Ready>, port: u32, packet: &Packet) -> Result<(), NoMemory>
+    ensures ok { OnOk result (packets.new.items ≡ packets.old.items ++ record { port = port; packet = packet.now } ∷ []) }
     ensures err { OnErr result (packets.new.items ≡ packets.old.items) }
 {
-    packets.push(ready)?;
+    let packet = packet.copy()?;
+    packets.push(Ready { port, packet })?;
     Ok(())
 }

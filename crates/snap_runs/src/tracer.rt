@@ -87,7 +87,8 @@ impl Tracer {
         Ok(())
     }
 
-    /// Injects a packet of the line with this number, lets its copies come to rest, and puts its block behind the text.
+    /// Injects a packet of the line with this number, lets its copies come to rest, and puts its block behind the text. The
+    /// packet is copied.
     ///
     /// # Errors
     ///
@@ -96,18 +97,19 @@ impl Tracer {
         &mut self,
         text: &mut Vec<u8>,
         port: u32,
-        packet: Packet,
+        packet: &Packet,
         line: u64,
     ) -> Result<(), TraceFault>
-        requires packet { length packet ≡ comps self.old.net.tables }
-        requires port { slice_index packet 0 ≡ port }
+        requires packet { length packet.now ≡ comps self.old.net.tables }
+        requires port { slice_index packet.now 0 ≡ port }
         requires room { self.old.net.injected < 2 ^ 63 }
-        ensures takes { TakesPacket line port packet self.old self.new text.old.items text.new.items result }
+        ensures takes { TakesPacket line port packet.now self.old self.new text.old.items text.new.items result }
         ensures tables { self.new.net.tables ≡ self.old.net.tables }
         ensures hops { self.new.hops ≡ self.old.hops }
         ensures frames { self.new.frames ≡ self.old.frames }
         ensures injected { self.new.net.injected ≤ self.old.net.injected + 1 }
     {
+        let packet = packet.copy()?;
         if self.is_bare() {
             self.take_at_once(text, port, packet, line)
         } else {
@@ -235,7 +237,7 @@ impl Machine for Tracer {
         &mut self,
         text: &mut Vec<u8>,
         port: u32,
-        packet: Packet,
+        packet: &mut Packet,
         line: u64,
     ) -> Result<(), TraceFault> {
         self.take_packet(text, port, packet, line)

@@ -21,7 +21,8 @@ use Rattle.snap_rows.specs.declared.tables.Stage.{Stage as Turn}
 use Rattle.snap_rows.specs.declared.tables.Tables.{Tables}
 use Rattle.snap_rows.specs.Entries.{Parts}
 use Rattle.snap_rows.specs.Form.{Alternate, AlternateFrom, AreOutsInForm, IsFieldTest, IsIndexInForm, IsOpInForm, IsPartsInForm, IsRowInForm, IsStateTest, IsTurnInForm, IsUpdateInForm, RanksRise, comps, parts_cmp}
-use Rattle.snap_tables.specs.Ranges.{AtomInRange, OpInRange, OutInRange, RowInRange, TermInRange, TestInRange, UpdateInRange, UpsInRange}
+use Rattle.snap_core.specs.Ranges.{AtomInRange, OpInRange, OutInRange, TermInRange, TestInRange, UpdateInRange}
+use Rattle.snap_tables.specs.Ranges.{RowInRange, UpsInRange}
 use Rattle.snap_tables.specs.Laws.{IsAtom, IsIndex, IsOp, IsPart, IsTerm, IsTestOf, IsUpdateOf}
 use Rattle.snap_tables.specs.Lines.{counts_of}
 use Rattle.snap_tables.specs.Pieces.{is_adjacent}

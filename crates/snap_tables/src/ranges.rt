@@ -3,10 +3,11 @@
 ghost use Rattle.std.specs.Prelude.{◌<◌, ◌^◌};
 ghost use Rattle.std.specs.List.{All};
 ghost use Rattle.snap_core.specs.declared.ports.PortAt.{PortAt};
-ghost use Rattle.snap_tables.specs.Ranges.{AtomInRange, OpInRange, OutInRange, RowAtInRange, RowInRange, TablesInRange, TermInRange, TestInRange, UpdateInRange, UpsInRange};
+ghost use Rattle.snap_core.specs.Ranges.{TestInRange};
+ghost use Rattle.snap_tables.specs.Ranges.{RowAtInRange, RowInRange, TablesInRange, UpsInRange};
 
-use snap_core::lists::Out;
-use snap_core::policy::{Atom, Op, Term, Test, Update};
+use snap_core::bits::{know_outs, know_test, know_updates};
+use snap_core::policy::Test;
 use snap_core::ports::PortAt;
 use snap_rows::tables::{Row, RowAt, Stage, Tables};
 
@@ -20,75 +21,11 @@ fn know_port(port: &PortAt)
     let _number = port.port;
 }
 
-fn know_atom(atom: Atom)
-    ensures { AtomInRange atom }
-{}
-
-fn know_term(term: Term)
-    ensures { TermInRange term }
-{}
-
-fn know_op(op: Op)
-    ensures { OpInRange op }
-{}
-
-fn know_index(atoms: &[Atom])
-    ensures { All AtomInRange atoms.now }
-{
-    for atom in atoms {
-        know_atom(*atom);
-    }
-}
-
-fn know_test(test: &Test)
-    ensures { TestInRange test.now }
-{
-    match test {
-        Test::Value { num, .. } => know_number(*num),
-        Test::Equal { plus, .. } => know_number(*plus),
-        Test::State { index, value, .. } => {
-            know_index(index.list());
-            know_term(*value);
-        }
-    }
-}
-
-fn know_updates(updates: &[Update])
-    ensures { All UpdateInRange updates.now }
-{
-    for update in updates {
-        know_index(update.index.list());
-        know_op(update.op);
-    }
-}
-
 fn know_stages(stages: &[Stage])
     ensures { All UpsInRange stages.now }
 {
     for stage in stages {
         know_updates(stage.ups.items());
-    }
-}
-
-fn know_part(part: &(u16, Atom))
-    ensures { AtomInRange part.now.1 }
-{
-    know_atom(part.1);
-}
-
-fn know_parts(parts: &[(u16, Atom)])
-    ensures { OutInRange parts.now }
-{
-    for part in parts {
-        know_part(part);
-    }
-}
-
-fn know_outs(outs: &[Out])
-    ensures { All OutInRange outs.now }
-{
-    for out in outs {
-        know_parts(out.parts());
     }
 }
 

@@ -1,14 +1,12 @@
 -- Drafts, one word more.
 use Rattle.std.proofs.Common.{◌≡◌, ℕ, ◌+◌, ◌-◌, ◌||◌, Bool, true, false, cond, eqb, Bor, Option, None, Some, List, [], ◌∷◌, length, take, drop, refl, sym, ap, ◌∙◌}
-use Rattle.std.specs.Prelude.{MatchResult, Result, Ok, Err, option_and_then, position}
+use Rattle.std.specs.Prelude.{MatchOption, option_and_then, position}
 use Rattle.std.specs.List.{list_any}
 use Rattle.snap_core.specs.declared.program.Field.{Field}
 use Rattle.snap_core.specs.declared.program.Found.{Found}
 use Rattle.snap_core.specs.declared.program.Found.TheVariants.{Plain, Split}
 use Rattle.snap_core.specs.Fields.{found}
 use Rattle.snap_core.specs.Figures.{onto_first, parts_by}
-use Rattle.snap_trace.specs.declared.line.LineFault.{LineFault}
-use Rattle.snap_trace.specs.declared.line.LineFault.TheVariants.{Bad}
 use Rattle.snap_trace.specs.Cuts.{HasNoName, IsCutOf, IsFirstCut, IsNameFront, IsUntilBlank, with_cut}
 use Rattle.snap_trace.specs.Drafts.{IsNotSet, IsSet}
 use Rattle.snap_trace.specs.Guesses.{Sets, SetsNothing}
@@ -106,9 +104,9 @@ sets_nothing-unknown fields text name rest front unknown =
 
 -- what a word makes, where its value was read
 pub words-either : (fields : List Field) (text rest : List ℕ) (what : Found) (old new : Draft) → Sets fields text what rest
-    → (result : Result (Bor (List ℕ)) LineFault) → MatchResult result (λ behind. IsSet what rest behind.now old new) (λ e. (e ≡ Bad) × IsNotSet what rest old)
-    → MatchResult result (λ behind. with_words fields (words_of text) old ≡ with_words fields (words_of behind.now) new) (λ e. (e ≡ Bad) × (with_words fields (words_of text) old ≡ None))
-words-either fields text rest what old new sets (Ok behind) is =
+    → (result : Option (Bor (List ℕ))) → MatchOption result (IsNotSet what rest old) (λ behind. IsSet what rest behind.now old new)
+    → MatchOption result (with_words fields (words_of text) old ≡ None) (λ behind. with_words fields (words_of text) old ≡ with_words fields (words_of behind.now) new)
+words-either fields text rest what old new sets (Some behind) is =
     sets.set is.value behind.now old is.until ∙ ap (option_and_then (with_words fields (words_of behind.now))) is.set
-words-either fields text rest what old new sets (Err e) is =
-    (is.0, sets.set is.1.value is.1.behind old is.1.until ∙ ap (option_and_then (with_words fields (words_of is.1.behind))) is.1.set)
+words-either fields text rest what old new sets None is =
+    sets.set is.value is.behind old is.until ∙ ap (option_and_then (with_words fields (words_of is.behind))) is.set

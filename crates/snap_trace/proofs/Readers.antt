@@ -15,7 +15,7 @@ use Rattle.snap_trace.specs.declared.line.Line.{Line}
 use Rattle.snap_trace.specs.declared.line.Line.TheVariants.{Skip, Inject}
 use Rattle.snap_trace.specs.declared.packets.PacketLines.{PacketLines}
 use Rattle.snap_trace.specs.PacketLines.{Said, bad, said_by}
-use Rattle.snap_trace.specs.Reading.{EndsAt, GivesNext, GoesOn, IsUnfit, LeavesLine, ReadsNext, RefusesNext, SaysNext, StopsNext, left_for, left_where, next_for, refused_behind, said_of, said_where, spelled_where, where_accepted}
+use Rattle.snap_trace.specs.Reading.{EndsAt, GivesNext, GoesOn, IsUnfit, LeavesLine, ReadsNext, RefusesNext, SaysNext, StopsNext, left_for, left_where, next_for, packet_in, refused_behind, said_of, said_where, spelled_where, where_accepted}
 use Rattle.snap_trace.specs.Refusals.{refusal_of, refusal_past_last}
 use Rattle.snap_trace.specs.Shown.{Says}
 use Rattle.snap_trace.specs.Spelled.{Spelled, after_last, counted, ended, refused, spelled_behind, spelled_from, stops, text_of, with_next, with_said}
@@ -44,13 +44,13 @@ read-fault read next new lines fault few answers e same = subst (λ e. ReadsNext
     by ManyBytes false e is = inr (some e, subst (λ n. IsUnfit (read + 1) n (Limit Bytes 67108865)) (sym is) refl)
 
 -- ---- what a line that was read says
-said-given : (said : Said) (line : Line) → Says said (Ok line) → said ≡ said_of line
-said-given said Skip h = h
-said-given said (Inject port packet) h = h.0
+said-given : (said : Said) (packet : List ℕ) (line : Line) → Says said packet (Some line) → said ≡ said_of packet line
+said-given said packet Skip h = h
+said-given said packet (Inject port) h = h.0
 
 -- the line that was read says what is given
-pub gives-said : (fields : List Field) (read : ℕ) (next : Next) (new : PacketLines) (text : List ℕ) (line : Line) → text ≡ lines_line new.lines → ReadsNext read next new (Ok true) → Says (said_by fields text) (Ok line) → GivesNext fields read next new (Ok (Some line))
-gives-said fields read next new text line e reads says = (reads.0, (text, reads.1 ∙ ap (λ x. next_line x (lines_given new.lines)) (sym e), said-given (said_by fields text) line says))
+pub gives-said : (fields : List Field) (read : ℕ) (next : Next) (new : PacketLines) (text : List ℕ) (line : Line) → text ≡ lines_line new.lines → ReadsNext read next new (Ok true) → Says (said_by fields text) (packet_in new) (Some line) → GivesNext fields read next new (Ok (Some line))
+gives-said fields read next new text line e reads says = (reads.0, (text, reads.1 ∙ ap (λ x. next_line x (lines_given new.lines)) (sym e), said-given (said_by fields text) (packet_in new) line says))
 
 -- or nothing in form
 pub gives-bad : (fields : List Field) (read : ℕ) (next : Next) (new : PacketLines) (text : List ℕ) → text ≡ lines_line new.lines → new.read ≡ read + 1 → ReadsNext read next new (Ok true) → said_by fields text ≡ bad → GivesNext fields read next new (Err (Packets new.read))
@@ -58,7 +58,7 @@ gives-bad fields read next new text e more reads is = inr (ap Packets more, (rea
 
 pub gives-fault : (fields : List Field) (read : ℕ) (next : Next) (new : PacketLines) (fault : TraceFault) → RefusesNext read next fault → GivesNext fields read next new (Err fault)
 gives-fault fields read next new Read h = tt
-gives-fault fields read next new NoMemory h = tt
+gives-fault fields read next new NoMemory h = h
 gives-fault fields read next new (Limit which count) h = inl h
 gives-fault fields read next new (Packets line) h = inl h
 gives-fault fields read next new Write h = h
@@ -118,11 +118,11 @@ module _ (fields : List Field) (accepts : ℕ → List ℕ → Bool) (file : Lis
 
   pub leaves_by : old.read ≤ 1000000 → (r : Result (Option Line) TraceFault) → IfOk r (GoesOn old.read new.read) → GivesNext fields old.read (next_for file old) new r → LeavesLine fields accepts before file old new r
   leaves_by few (Ok (Some line)) on h =
-      said_first (said_of line) h
-      ∙ ap (λ n. with_said n (where_accepted (accepts before) (said_of line)) (left_where fields accepts file (counted (where_accepted (accepts before) (said_of line)) before) n (lines_given new.lines))) (sym on.0)
+      said_first (said_of (packet_in new) line) h
+      ∙ ap (λ n. with_said n (where_accepted (accepts before) (said_of (packet_in new) line)) (left_where fields accepts file (counted (where_accepted (accepts before) (said_of (packet_in new) line)) before) n (lines_given new.lines))) (sym on.0)
   leaves_by few (Ok None) on h = none_left fields accepts file before old.read (lines_given old.lines) few h
   leaves_by few (Err Read) on h = tt
-  leaves_by few (Err NoMemory) on h = tt
+  leaves_by few (Err NoMemory) on h = h
   leaves_by few (Err (Limit which count)) on h = stops_here (Limit which count) h
   leaves_by few (Err (Packets line)) on h = stops_here (Packets line) h
   leaves_by few (Err Write) on h = h

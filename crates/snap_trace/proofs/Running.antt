@@ -15,7 +15,7 @@ use Rattle.snap_trace.specs.declared.line.Line.TheVariants.{Inject}
 use Rattle.snap_trace.specs.declared.packets.PacketLines.{PacketLines}
 use Rattle.snap_trace.specs.PacketLines.{inject, bad}
 use Rattle.snap_trace.specs.OneSwitch.{RunEnding}
-use Rattle.snap_trace.specs.Reading.{LeavesLine, left_for, with_line}
+use Rattle.snap_trace.specs.Reading.{LeavesLine, left_for, packet_in, with_line}
 use Rattle.snap_trace.specs.Runner.{Closes, Comes, ComesOn, Ends, EndsRun, FirstBlocks, Follows, PutsEnd, Takes, WritesOut, is_told}
 use Rattle.snap_trace.specs.Spelled.{Spelled, counted, ended, refused, stops, with_said}
 
@@ -130,29 +130,29 @@ module _ {M : Type 0} (stands : List (List ℕ) → List ℕ → M → Type 0) (
     -- ---- the next line
     pub follows : (fields : List Field) (accepts : ℕ → List ℕ → Bool) (file : List ℕ) (reader reader' : PacketLines) (m : M) (old now : Option (List ℕ)) (waiting : List ℕ) (c : Comes stands all (left_for fields accepts file reader) m old now waiting)
         → (r : Result (Option Line) TraceFault) → LeavesLine fields accepts (length c.packets) file reader reader' r → Follows stands reports refuses all fields accepts file reader' m old now waiting r
-    follows fields accepts file reader reader' m old now waiting c (Ok (Some line)) h = comes-as (left_for fields accepts file reader) m old now waiting c (with_line accepts reader'.read line (left_for fields accepts file reader')) h
+    follows fields accepts file reader reader' m old now waiting c (Ok (Some line)) h = comes-as (left_for fields accepts file reader) m old now waiting c (with_line accepts reader'.read (packet_in reader') line (left_for fields accepts file reader')) h
     follows fields accepts file reader reader' m old now waiting c (Ok None) h = comes-as (left_for fields accepts file reader) m old now waiting c (λ before. stops ended) h
     follows fields accepts file reader reader' m old now waiting c (Err Read) h = comes-nothing (left_for fields accepts file reader) m old now waiting c
-    follows fields accepts file reader reader' m old now waiting c (Err NoMemory) h = comes-nothing (left_for fields accepts file reader) m old now waiting c
+    follows fields accepts file reader reader' m old now waiting c (Err NoMemory) h = absurd h
     follows fields accepts file reader reader' m old now waiting c (Err (Limit which count)) h = comes-stopped (left_for fields accepts file reader) m old now waiting c reports refuses (Limit which count) waiting h refl
     follows fields accepts file reader reader' m old now waiting c (Err (Packets line)) h = comes-stopped (left_for fields accepts file reader) m old now waiting c reports refuses (Packets line) waiting h refl
     follows fields accepts file reader reader' m old now waiting c (Err Write) h = absurd h
     follows fields accepts file reader reader' m old now waiting c (Err (Undefined packet)) h = absurd h
 
     -- ---- a packet that is taken
-    module _ (accepts : ℕ → List ℕ → Bool) (number port : ℕ) (k : List ℕ) (rest : ℕ → Spelled) (m m' : M) (old now : Option (List ℕ)) (waiting after : List ℕ) (c : Comes stands all (with_line accepts number (Inject port k) rest) m old now waiting) where
+    module _ (accepts : ℕ → List ℕ → Bool) (number port : ℕ) (k : List ℕ) (rest : ℕ → Spelled) (m m' : M) (old now : Option (List ℕ)) (waiting after : List ℕ) (c : Comes stands all (with_line accepts number k (Inject port) rest) m old now waiting) where
       abbrev n : ℕ
       n = length c.packets
 
       -- what is left, where the packet is accepted or not
-      said_so : (b : Bool) → accepts n k ≡ b → with_line accepts number (Inject port k) rest n ≡ (let said = if b then inject k else bad in with_said number said (rest (counted said n)))
+      said_so : (b : Bool) → accepts n k ≡ b → with_line accepts number k (Inject port) rest n ≡ (let said = if b then inject k else bad in with_said number said (rest (counted said n)))
       said_so b e = ap (λ b. let said = if b then inject k else bad in with_said number said (rest (counted said n))) e
 
       pub took : (r : RunEnding) → Takes stands refuses (accepts n) number k c.packets c.text m' waiting after r → ComesOn stands reports refuses all rest m' old now after r
-      took (Ok u) h = comes-taken (with_line accepts number (Inject port k) rest) m old now waiting c k rest m' h.1.0 after (said_so true h.0) h.1.1 h.1.2
-      took (Err (Packets line)) h = comes-stopped (with_line accepts number (Inject port k) rest) m old now waiting c reports refuses (Packets line) after (said_so false h.1 ∙ ap (λ l. stops (refused (Packets l))) (sym h.0)) h.2
-      took (Err (Undefined packet)) h = comes-cut (with_line accepts number (Inject port k) rest) m old now waiting c reports refuses k (rest (n + 1)) (Undefined packet) after (said_so true h.0) h.1 h.2
-      took (Err NoMemory) h = comes-nothing (with_line accepts number (Inject port k) rest) m old now waiting c
+      took (Ok u) h = comes-taken (with_line accepts number k (Inject port) rest) m old now waiting c k rest m' h.1.0 after (said_so true h.0) h.1.1 h.1.2
+      took (Err (Packets line)) h = comes-stopped (with_line accepts number k (Inject port) rest) m old now waiting c reports refuses (Packets line) after (said_so false h.1 ∙ ap (λ l. stops (refused (Packets l))) (sym h.0)) h.2
+      took (Err (Undefined packet)) h = comes-cut (with_line accepts number k (Inject port) rest) m old now waiting c reports refuses k (rest (n + 1)) (Undefined packet) after (said_so true h.0) h.1 h.2
+      took (Err NoMemory) h = comes-nothing (with_line accepts number k (Inject port) rest) m old now waiting c
       took (Err Read) h = absurd h
       took (Err Write) h = absurd h
       took (Err (Limit which count)) h = absurd h

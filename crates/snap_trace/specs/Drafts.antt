@@ -6,7 +6,7 @@ use Rattle.snap_trace.specs.Cuts.{IsUntilBlank}
 use Rattle.snap_trace.specs.PacketLines.{Draft, with_value}
 
 abbrev pub draft_of : Kept → Draft
-draft_of kept = record { numbers = kept.numbers.items; named = kept.named }
+draft_of kept = record { numbers = kept.packet; named = kept.named }
 
 -- the value at the front of a text, up to a blank, makes the new draft of the old
 pub record IsSet (found : Found) (text behind : List ℕ) (old new : Draft) : Type 0 where

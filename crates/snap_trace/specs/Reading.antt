@@ -15,10 +15,14 @@ use Rattle.snap_trace.specs.PacketLines.{Said, skip, inject, bad, said_by}
 use Rattle.snap_trace.specs.Refusals.{refusal_of, refusal_past_last}
 use Rattle.snap_trace.specs.Spelled.{Spelled, stops, ended, refused, spelled_behind, with_said, after_last, counted}
 
--- what a line that was given says
-abbrev pub said_of : Line → Said
-said_of Skip = skip
-said_of (Inject port packet) = inject packet
+-- what a line that was given says, where a packet that comes in is this one
+abbrev pub said_of : (packet : List ℕ) → Line → Said
+said_of packet Skip = skip
+said_of packet (Inject port) = inject packet
+
+-- the packet of the line that a reader gave last
+abbrev pub packet_in : PacketLines → List ℕ
+packet_in reader = reader.draft.packet
 
 -- ---- what stands next in the file
 -- the line isn't in form, or the file is too long for it
@@ -57,10 +61,10 @@ StopsNext fields read next new fault = EndsAt read next fault ⊎ ((fault ≡ Pa
 
 -- what is given of these fields
 abbrev pub GivesNext : List Field → (read : ℕ) → Next → (new : PacketLines) → Result (Option Line) TraceFault → Type 0
-GivesNext fields read next new (Ok (Some line)) = SaysNext fields read next new (said_of line)
+GivesNext fields read next new (Ok (Some line)) = SaysNext fields read next new (said_of (packet_in new) line)
 GivesNext fields read next new (Ok None) = next ≡ no_line
 GivesNext fields read next new (Err Read) = Unit {0}
-GivesNext fields read next new (Err NoMemory) = Unit {0}
+GivesNext fields read next new (Err NoMemory) = ⊥
 GivesNext fields read next new (Err (Limit which count)) = StopsNext fields read next new (Limit which count)
 GivesNext fields read next new (Err (Packets line)) = StopsNext fields read next new (Packets line)
 GivesNext fields read next new (Err Write) = ⊥
@@ -75,13 +79,13 @@ abbrev pub refused_behind : (read : ℕ) → LinesFault → TraceFault
 refused_behind read fault = if read == 1000000 then refusal_past_last fault else refusal_of fault (read + 1)
 
 -- a packet has so many components, of which the first is its port
-abbrev pub FitsLine : ℕ → Line → Type 0
-FitsLine comps Skip = Unit {0}
-FitsLine comps (Inject port packet) = (length packet ≡ comps) × (slice_index packet 0 ≡ port)
+abbrev pub FitsLine : ℕ → (packet : List ℕ) → Line → Type 0
+FitsLine comps packet Skip = Unit {0}
+FitsLine comps packet (Inject port) = (length packet ≡ comps) × (slice_index packet 0 ≡ port)
 
-abbrev pub HasLine : ℕ → Option Line → Type 0
-HasLine comps None = Unit {0}
-HasLine comps (Some line) = FitsLine comps line
+abbrev pub HasLine : ℕ → (packet : List ℕ) → Option Line → Type 0
+HasLine comps packet None = Unit {0}
+HasLine comps packet (Some line) = FitsLine comps packet line
 
 -- where a line is given it is one more
 abbrev pub GoesOn : (old new : ℕ) → Option Line → Type 0
@@ -112,15 +116,15 @@ abbrev pub left_for : List Field → (accepts : ℕ → List ℕ → Bool) → (
 left_for fields accepts file reader before = left_where fields accepts file before reader.read (lines_given reader.lines)
 
 -- a line of this number that says this, before what is left behind it
-abbrev pub with_line : (accepts : ℕ → List ℕ → Bool) → (number : ℕ) → Line → (rest : ℕ → Spelled) → (before : ℕ) → Spelled
-with_line accepts number line rest before = let said = where_accepted (accepts before) (said_of line) in with_said number said (rest (counted said before))
+abbrev pub with_line : (accepts : ℕ → List ℕ → Bool) → (number : ℕ) → (packet : List ℕ) → Line → (rest : ℕ → Spelled) → (before : ℕ) → Spelled
+with_line accepts number packet line rest before = let said = where_accepted (accepts before) (said_of packet line) in with_said number said (rest (counted said before))
 
 -- the next line stands before the others, or none is left, or reading has stopped
 abbrev pub LeavesLine : List Field → (accepts : ℕ → List ℕ → Bool) → (before : ℕ) → (file : List ℕ) → (old new : PacketLines) → Result (Option Line) TraceFault → Type 0
-LeavesLine fields accepts before file old new (Ok (Some line)) = left_for fields accepts file old before ≡ with_line accepts new.read line (left_for fields accepts file new) before
+LeavesLine fields accepts before file old new (Ok (Some line)) = left_for fields accepts file old before ≡ with_line accepts new.read (packet_in new) line (left_for fields accepts file new) before
 LeavesLine fields accepts before file old new (Ok None) = left_for fields accepts file old before ≡ stops ended
 LeavesLine fields accepts before file old new (Err Read) = Unit {0}
-LeavesLine fields accepts before file old new (Err NoMemory) = Unit {0}
+LeavesLine fields accepts before file old new (Err NoMemory) = ⊥
 LeavesLine fields accepts before file old new (Err (Limit which count)) = left_for fields accepts file old before ≡ stops (refused (Limit which count))
 LeavesLine fields accepts before file old new (Err (Packets line)) = left_for fields accepts file old before ≡ stops (refused (Packets line))
 LeavesLine fields accepts before file old new (Err Write) = ⊥

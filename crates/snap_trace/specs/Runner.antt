@@ -11,7 +11,7 @@ use Rattle.snap_trace.specs.declared.fault.TraceFault.TheVariants.{Read, Write, 
 use Rattle.snap_trace.specs.declared.line.Line.{Line}
 use Rattle.snap_trace.specs.declared.packets.PacketLines.{PacketLines}
 use Rattle.snap_trace.specs.OneSwitch.{RunEnding}
-use Rattle.snap_trace.specs.Reading.{left_for, with_line}
+use Rattle.snap_trace.specs.Reading.{left_for, packet_in, with_line}
 use Rattle.snap_trace.specs.Spelled.{Spelled, ended, refused, stops}
 
 -- ---- how a run ends
@@ -86,7 +86,7 @@ ComesOn stands reports refuses all rest machine old now waiting (Err fault) = Cl
 
 -- the next line stands before the others, or none is left, or the run has ended
 abbrev pub Follows : {M : Type 0} → (stands : List (List ℕ) → List ℕ → M → Type 0) → (reports : List (List ℕ) → List ℕ → Type 0) → (refuses : List (List ℕ) → List ℕ → TraceFault → Type 0) → Spelled → List Field → (accepts : ℕ → List ℕ → Bool) → (file : List ℕ) → PacketLines → M → (old now : Option (List ℕ)) → (waiting : List ℕ) → Result (Option Line) TraceFault → Type 0
-Follows stands reports refuses all fields accepts file reader machine old now waiting (Ok (Some line)) = Comes stands all (with_line accepts reader.read line (left_for fields accepts file reader)) machine old now waiting
+Follows stands reports refuses all fields accepts file reader machine old now waiting (Ok (Some line)) = Comes stands all (with_line accepts reader.read (packet_in reader) line (left_for fields accepts file reader)) machine old now waiting
 Follows stands reports refuses all fields accepts file reader machine old now waiting (Ok None) = Comes stands all (λ before. stops ended) machine old now waiting
 Follows stands reports refuses all fields accepts file reader machine old now waiting (Err fault) = Closes stands reports refuses all (Err fault) old now waiting
 

@@ -16,5 +16,6 @@ pub mod switch;
 mod tail;
 pub mod words;
 
+pub use draft::Draft;
 pub use fault::TraceFault;
-pub use line::{Line, LineFault, read_line};
+pub use line::{Line, read_line};

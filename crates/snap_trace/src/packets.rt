@@ -1,13 +1,15 @@
 //! A reader of a packets file, line by line.
 
-ghost use Rattle.std.specs.Prelude.{◌≡◌, ◌↔◌, ◌≤◌, ◌+◌, ℕ, List, Bool, IfOk, IfSome, IsErrOf, IsTrue};
+ghost use Rattle.std.specs.Prelude.{◌≡◌, ◌↔◌, ◌≤◌, ◌+◌, ℕ, List, Bool, length, IfOk, IfSome, IsErrOf, IsTrue};
 ghost use Rattle.std.specs.declared.option.Option.{Option as Maybe};
 ghost use Rattle.snap_io.specs.LineReaders.{lines_limit, lines_most};
 ghost use Rattle.snap_trace.specs.Refusals.{refusal_of, refusal_past_last};
 
+use crate::draft::Draft;
 use crate::fault::TraceFault;
-use crate::line::{Line, LineFault, read_line};
+use crate::line::{Line, read_line};
 use snap_core::NoMemory;
+use snap_core::packet::Packet;
 use snap_core::program::{Fields, Which};
 use snap_io::{Lines, LinesFault, Shelf};
 use std::alloc::Global;
@@ -21,11 +23,12 @@ pub const MOST_LINE: usize = 65_536;
 /// The most lines of a packets file.
 pub const MOST_LINES: u64 = 1_000_000;
 
-/// A reader of a packets file, and how many lines it has given.
+/// A reader of a packets file, how many lines it has given, and room for the packet of a line.
 #[derive(Drop)]
 pub struct PacketLines {
     lines: Lines,
     read: u64,
+    pub(crate) draft: Draft,
     ghost limit: { lines_limit lines ≡ 67108864 },
     ghost most: { lines_most lines ≡ 65536 },
     ghost few: { read ≤ 1000000 },
@@ -36,17 +39,30 @@ impl PacketLines {
     ghost use Rattle.snap_io.specs.Causes.{NoneFell, Rose};
     ghost use Rattle.snap_io.specs.Files.{Files, file_of};
     ghost use Rattle.snap_io.specs.LineReaders.{AgreesWith, HoldsLine, lines_given, lines_name};
-    ghost use Rattle.snap_trace.specs.Reading.{GivesNext, GoesOn, HasLine, LeavesLine, ReadsNext, next_for, refused_behind};
+    ghost use Rattle.snap_trace.specs.Reading.{GivesNext, GoesOn, HasLine, LeavesLine, ReadsNext, next_for, packet_in, refused_behind};
 
-    /// A reader of the file with this name, before its first line. Refuses for memory alone.
-    pub fn new(alloc: Global, name: &[u8]) -> Result<PacketLines, NoMemory>
+    /// A reader of the file with this name, of packets with these fields, before its first line. Refuses for memory alone.
+    pub fn new(alloc: Global, name: &[u8], fields: &Fields) -> Result<PacketLines, NoMemory>
         ensures name { IfOk result (λ reader. lines_name reader.lines ≡ name.now) }
         ensures given { IfOk result (λ reader. lines_given reader.lines ≡ 0) }
         ensures read { IfOk result (λ reader. reader.read ≡ 0) }
         ensures agrees { IfOk result (λ reader. (told : Maybe Files) → AgreesWith told reader.lines) }
+        ensures long { IfOk result (λ reader. length (packet_in reader) ≡ count fields.now) }
     {
+        let draft = Draft::new(alloc, fields)?;
         let lines = Lines::new(alloc, name, MOST_BYTES, MOST_LINE)?;
-        Ok(PacketLines { lines, read: 0 })
+        Ok(PacketLines {
+            lines,
+            read: 0,
+            draft,
+        })
+    }
+
+    /// The packet of the line that `next` gave last, if that was one. Takes no memory.
+    pub fn packet(&self) -> &Packet
+        ensures { result.now ≡ packet_in self.now }
+    {
+        self.draft.packet()
     }
 
     /// How many lines were given. Takes no memory.
@@ -64,21 +80,23 @@ impl PacketLines {
         self.lines.whole()
     }
 
-    /// The next line, of packets with these fields, or nothing at the file's end.
+    /// The next line, of packets with these fields, or nothing at the file's end. The reader's packet becomes that of the
+    /// line. Takes no memory for it.
     ///
     /// # Errors
     ///
-    /// As those of `trace`: `Read`, `Packets`, `Limit` and `NoMemory`.
+    /// As those of `trace`: `Read`, `Packets` and `Limit`.
     pub fn next<S: Shelf>(
         &mut self,
-        alloc: Global,
         shelf: &mut S,
         fields: &Fields,
     ) -> Result<Option<Line>, TraceFault>
         requires agrees { AgreesWith (S.files shelf.old) self.old.lines }
+        requires long { length (packet_in self.old) ≡ count fields.now }
         ensures leaves { IfSome (S.files shelf.old) (λ files. (accepts : ℕ → List ℕ → Bool) (before : ℕ) →
             LeavesLine fields.now accepts before (file_of files (lines_name self.old.lines)) self.old self.new result) }
-        ensures comps { IfOk result (HasLine (count fields.now)) }
+        ensures comps { IfOk result (HasLine (count fields.now) (packet_in self.new)) }
+        ensures long { length (packet_in self.new) ≡ count fields.now }
         ensures goes_on { IfOk result (GoesOn self.old.read self.new.read) }
         ensures name { lines_name self.new.lines ≡ lines_name self.old.lines }
         ensures agrees { AgreesWith (S.files shelf.new) self.new.lines }
@@ -88,21 +106,18 @@ impl PacketLines {
         ensures files { S.files shelf.new ≡ S.files shelf.old }
         ensures later { NoneFell (S.faults shelf.old) (S.faults shelf.new) }
     {
-        self.give(alloc, shelf, fields)
+        self.give(shelf, fields)
     }
 
     // Reads the next line, and says what it says.
-    fn give<S: Shelf>(
-        &mut self,
-        alloc: Global,
-        shelf: &mut S,
-        fields: &Fields,
-    ) -> Result<Option<Line>, TraceFault>
+    fn give<S: Shelf>(&mut self, shelf: &mut S, fields: &Fields) -> Result<Option<Line>, TraceFault>
         requires agrees { AgreesWith (S.files shelf.old) self.old.lines }
+        requires long { length (packet_in self.old) ≡ count fields.now }
         ensures next { IfSome (S.files shelf.old) (λ files.
             GivesNext fields.now self.old.read (next_for (file_of files (lines_name self.old.lines)) self.old) self.new result) }
         ensures few { self.old.read ≤ 1000000 }
-        ensures comps { IfOk result (HasLine (count fields.now)) }
+        ensures comps { IfOk result (HasLine (count fields.now) (packet_in self.new)) }
+        ensures long { length (packet_in self.new) ≡ count fields.now }
         ensures goes_on { IfOk result (GoesOn self.old.read self.new.read) }
         ensures name { lines_name self.new.lines ≡ lines_name self.old.lines }
         ensures agrees { AgreesWith (S.files shelf.new) self.new.lines }
@@ -115,10 +130,9 @@ impl PacketLines {
         if !self.next_text(shelf)? {
             return Ok(None);
         }
-        match read_line(alloc, fields, self.lines.line()) {
-            Ok(line) => Ok(Some(line)),
-            Err(LineFault::Bad) => Err(TraceFault::Packets { line: self.read }),
-            Err(LineFault::NoMemory) => Err(TraceFault::NoMemory),
+        match read_line(&mut self.draft, fields, self.lines.line()) {
+            Some(line) => Ok(Some(line)),
+            None => Err(TraceFault::Packets { line: self.read }),
         }
     }
 
@@ -128,6 +142,7 @@ impl PacketLines {
         ensures reads { IfSome (S.files shelf.old) (λ files.
             ReadsNext self.old.read (next_for (file_of files (lines_name self.old.lines)) self.old) self.new result) }
         ensures more { IfOk result (λ more. IsTrue more → self.new.read ≡ self.old.read + 1) }
+        ensures packet { packet_in self.new ≡ packet_in self.old }
         ensures name { lines_name self.new.lines ≡ lines_name self.old.lines }
         ensures agrees { AgreesWith (S.files shelf.new) self.new.lines }
         ensures read { IsErrOf result TraceFault.Read → Rose (S.faults shelf.old (lines_name self.old.lines)) (S.faults shelf.new (lines_name self.old.lines)) }

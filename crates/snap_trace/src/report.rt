@@ -3,7 +3,7 @@
 ghost use Rattle.std.specs.Prelude.{◌≡◌, ◌<◌, ◌≤◌, ◌+◌, ◌-◌, ◌++◌, [], codes, decimal, drop, length, slice_get, unwrap_or, IfNone, IfSome, OnOk};
 ghost use Rattle.snap_core.specs.Fields.{PrefixFits, count, width};
 ghost use Rattle.snap_core.specs.Packets.{AllLong};
-ghost use Rattle.snap_core.specs.Runs.{set_in};
+ghost use Rattle.snap_core.specs.Runs.{set_after};
 ghost use Rattle.snap_trace.specs.Reports.{address_text, all_lines, block, field_text, fields_text, index_text, listed_line, out_line, out_lines, place_line, split_text, value_text};
 ghost use Rattle.std.specs.List.{All, flat_map};
 
@@ -12,7 +12,7 @@ use crate::front::{
 };
 use itoa::Buffer;
 use snap_core::NoMemory;
-use snap_core::copies::Copies;
+use snap_core::copies::Flow;
 use snap_core::lists::Names;
 use snap_core::packet::Packet;
 use snap_core::packets::Packets;
@@ -461,20 +461,21 @@ fn put_one(out: &mut Vec<u8>, fields: &Fields, number: u64, packet: &Packet) -> 
     }
 }
 
-/// Puts the block of the packet with this number, which became these packets.
-pub(crate) fn put_copies(
+/// Puts the block of the packet with this number, which became this packet alone, or others.
+pub(crate) fn put_flow(
     alloc: Global,
     out: &mut Vec<u8>,
     fields: &Fields,
     number: u64,
-    copies: Copies,
+    packet: &Packet,
+    flow: Flow,
 ) -> Result<(), NoMemory>
-    requires { AllLong (count fields.now) (set_in copies) }
-    ensures { OnOk result (out.new.items ≡ out.old.items ++ block (all_lines fields.now) number (set_in copies)) }
+    requires { AllLong (count fields.now) (set_after flow packet.now) }
+    ensures { OnOk result (out.new.items ≡ out.old.items ++ block (all_lines fields.now) number (set_after flow packet.now)) }
 {
-    match copies {
-        Copies::One(packet) => put_one(out, fields, number, &packet),
-        Copies::Many(packets) => {
+    match flow {
+        Flow::Same => put_one(out, fields, number, packet),
+        Flow::Many(packets) => {
             let packets = Packets::from_list(alloc, packets)?;
             put_block(out, fields, number, &packets)
         }

@@ -6,7 +6,7 @@ ghost use Rattle.snap_core.specs.Fields.{count as comps};
 ghost use Rattle.snap_io.specs.Causes.{NoneFell, Rose};
 ghost use Rattle.snap_io.specs.Files.{file_of};
 ghost use Rattle.snap_io.specs.LineReaders.{AgreesWith, lines_given, lines_name};
-ghost use Rattle.snap_trace.specs.Reading.{FitsLine, GoesOn, HasLine, left_for, spelled_where, with_line};
+ghost use Rattle.snap_trace.specs.Reading.{FitsLine, GoesOn, HasLine, left_for, packet_in, spelled_where, with_line};
 ghost use Rattle.snap_trace.specs.Runner.{Closes, Comes, ComesOn, Follows, PutsEnd, Takes, WritesRun, is_told};
 ghost use Rattle.snap_trace.specs.Spelled.{Spelled};
 
@@ -52,7 +52,8 @@ pub trait Machine {
     fn fields(&self) -> &Fields
         ensures { result.now ≡ fields self.now };
 
-    /// Takes a packet of the line with this number, and puts its block behind the text.
+    /// Takes a packet of the line with this number, and puts its block behind the text. The packet's memory may be used for
+    /// what it becomes.
     ///
     /// # Errors
     ///
@@ -61,15 +62,16 @@ pub trait Machine {
         &mut self,
         text: &mut Vec<u8>,
         port: u32,
-        packet: Packet,
+        packet: &mut Packet,
         line: u64,
     ) -> Result<(), TraceFault>
         requires ready { is_ready self.old }
         requires room { count self.old < 1000000 }
-        requires comps { length packet ≡ comps (fields self.old) }
-        requires port { slice_index packet 0 ≡ port }
+        requires comps { length packet.old ≡ comps (fields self.old) }
+        requires port { slice_index packet.old 0 ≡ port }
         ensures takes { (first : Self) (packets : List (List ℕ)) (blocks : List ℕ) → stands first packets blocks self.old →
-            Takes (stands first) (refuses first) (accepts first (length packets)) line packet packets blocks self.new text.old.items text.new.items result }
+            Takes (stands first) (refuses first) (accepts first (length packets)) line packet.old packets blocks self.new text.old.items text.new.items result }
+        ensures long { length packet.new ≡ length packet.old }
         ensures ready { OnOk result (is_ready self.new) }
         ensures fields { OnOk result (fields self.new ≡ fields self.old) }
         ensures count { count self.new ≤ count self.old + 1 }
@@ -118,9 +120,9 @@ pub fn run_over<M: Machine, S: Shelf, K: Sink>(
     ensures later { NoneFell (S.faults shelf.old) (S.faults shelf.new) }
     ensures sink_later { K.faults sink.old ≤ K.faults sink.new }
 {
-    let mut reader = PacketLines::new(alloc, packets)?;
+    let mut reader = PacketLines::new(alloc, packets, machine.fields())?;
     let mut out = Output::new(alloc);
-    let ended = run_lines(alloc, machine, &mut out, shelf, &mut reader, sink);
+    let ended = run_lines(machine, &mut out, shelf, &mut reader, sink);
     if !is_told(&ended) {
         return ended;
     }
@@ -132,7 +134,6 @@ pub fn run_over<M: Machine, S: Shelf, K: Sink>(
 
 // Takes the lines one after another, and puts the end of the report where all were taken.
 fn run_lines<M: Machine, S: Shelf, K: Sink>(
-    alloc: Global,
     machine: &mut M,
     out: &mut Output,
     shelf: &mut S,
@@ -145,6 +146,7 @@ fn run_lines<M: Machine, S: Shelf, K: Sink>(
     requires given { lines_given reader.old.lines ≡ 0 }
     requires read { reader.old.read ≡ 0 }
     requires agrees { AgreesWith (S.files shelf.old) reader.old.lines }
+    requires long { length (packet_in reader.old) ≡ comps (M.fields machine.old) }
     ensures closes { IfSome (S.files shelf.old) (λ files. (first : M) → M.stands first [] [] machine.old → M.fields machine.old ≡ M.fields first →
         Closes (M.stands first) (M.reports first) (M.refuses first) (spelled_where (M.fields first) (M.accepts first) (file_of files (lines_name reader.old.lines))) result (K.taken sink.old) (K.taken sink.new) out.new.text.items) }
     ensures defined { (k : ℕ) → IsErrOf result (TraceFault.Undefined k) → M.is_partial }
@@ -154,15 +156,15 @@ fn run_lines<M: Machine, S: Shelf, K: Sink>(
     ensures later { NoneFell (S.faults shelf.old) (S.faults shelf.new) }
     ensures sink_later { K.faults sink.old ≤ K.faults sink.new }
 {
-    while let Some(line) = next_line(alloc, machine, out, shelf, reader, sink)? {
-        take_line(machine, out, line, reader.read())?;
+    while let Some(line) = next_line(machine, out, shelf, reader, sink)? {
+        let number = reader.read();
+        take_line(machine, out, line, &mut reader.draft.packet, number)?;
     }
     machine.put_end(out, sink)
 }
 
 // The next line. What waits is written first, where the line has to be read.
 fn next_line<M: Machine, S: Shelf, K: Sink>(
-    alloc: Global,
     machine: &M,
     out: &mut Output,
     shelf: &mut S,
@@ -170,10 +172,12 @@ fn next_line<M: Machine, S: Shelf, K: Sink>(
     sink: &mut K,
 ) -> Result<Option<Line>, TraceFault>
     requires agrees { AgreesWith (S.files shelf.old) reader.old.lines }
+    requires long { length (packet_in reader.old) ≡ comps (M.fields machine.now) }
     ensures follows { IfSome (S.files shelf.old) (λ files. (first : M) (all : Spelled) (start : Maybe (List ℕ)) → M.fields machine.now ≡ M.fields first →
         Comes (M.stands first) all (left_for (M.fields first) (M.accepts first) (file_of files (lines_name reader.old.lines)) reader.old) machine.now start (K.taken sink.old) out.old.text.items →
         Follows (M.stands first) (M.reports first) (M.refuses first) all (M.fields first) (M.accepts first) (file_of files (lines_name reader.old.lines)) reader.new machine.now start (K.taken sink.new) out.new.text.items result) }
-    ensures fits { IfOk result (HasLine (comps (M.fields machine.now))) }
+    ensures fits { IfOk result (HasLine (comps (M.fields machine.now)) (packet_in reader.new)) }
+    ensures long { length (packet_in reader.new) ≡ comps (M.fields machine.now) }
     ensures goes_on { IfOk result (GoesOn reader.old.read reader.new.read) }
     ensures name { lines_name reader.new.lines ≡ lines_name reader.old.lines }
     ensures agrees { AgreesWith (S.files shelf.new) reader.new.lines }
@@ -185,21 +189,23 @@ fn next_line<M: Machine, S: Shelf, K: Sink>(
     ensures sink_later { K.faults sink.old ≤ K.faults sink.new }
 {
     out.write_some(reader.whole(), sink)?;
-    reader.next(alloc, shelf, machine.fields())
+    reader.next(shelf, machine.fields())
 }
 
-// Takes a line of this number.
+// Takes a line of this number, whose packet this is.
 fn take_line<M: Machine>(
     machine: &mut M,
     out: &mut Output,
     line: Line,
+    packet: &mut Packet,
     number: u64,
 ) -> Result<(), TraceFault>
     requires ready { M.is_ready machine.old }
     requires room { M.count machine.old < 1000000 }
-    requires fits { FitsLine (comps (M.fields machine.old)) line }
-    ensures comes { (first : M) (all : Spelled) (rest : ℕ → Spelled) (start now : Maybe (List ℕ)) → Comes (M.stands first) all (with_line (M.accepts first) number line rest) machine.old start now out.old.text.items →
+    requires fits { FitsLine (comps (M.fields machine.old)) packet.old line }
+    ensures comes { (first : M) (all : Spelled) (rest : ℕ → Spelled) (start now : Maybe (List ℕ)) → Comes (M.stands first) all (with_line (M.accepts first) number packet.old line rest) machine.old start now out.old.text.items →
         ComesOn (M.stands first) (M.reports first) (M.refuses first) all rest machine.new start now out.new.text.items result }
+    ensures long { length packet.new ≡ length packet.old }
     ensures ready { OnOk result (M.is_ready machine.new) }
     ensures fields { OnOk result (M.fields machine.new ≡ M.fields machine.old) }
     ensures count { M.count machine.new ≤ M.count machine.old + 1 }
@@ -208,7 +214,7 @@ fn take_line<M: Machine>(
 {
     match line {
         Line::Skip => Ok(()),
-        Line::Inject { port, packet } => machine.take(&mut out.text, port, packet, number),
+        Line::Inject { port } => machine.take(&mut out.text, port, packet, number),
     }
 }
 

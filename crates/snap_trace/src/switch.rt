@@ -10,10 +10,10 @@ ghost use Rattle.snap_trace.specs.OneSwitch.{WritesReport};
 
 use crate::fault::TraceFault;
 pub use crate::packets::MOST_BYTES;
-use crate::report::put_copies;
+use crate::report::put_flow;
 use crate::runner::{Machine, run_over};
 use crate::tail::put_end;
-use snap_core::eval::run;
+use snap_core::eval::run_on;
 use snap_core::outcome::EvalFault;
 use snap_core::packet::Packet;
 use snap_core::program::{Fields, Program};
@@ -73,13 +73,13 @@ impl<'a> Machine for Switch<'a> {
         &mut self,
         text: &mut Vec<u8>,
         port: u32,
-        packet: Packet,
+        packet: &mut Packet,
         line: u64,
     ) -> Result<(), TraceFault> {
-        match run(self.alloc, &self.program.body, &mut self.store, packet) {
-            Ok(done) => {
+        match run_on(self.alloc, &self.program.body, &mut self.store, packet) {
+            Ok(ran) => {
                 let fields = &self.program.fields;
-                put_copies(self.alloc, text, fields, self.number, done.copies)?;
+                put_flow(self.alloc, text, fields, self.number, packet, ran.flow)?;
                 self.number += 1;
                 Ok(())
             }

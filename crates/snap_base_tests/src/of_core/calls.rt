@@ -51,6 +51,34 @@ fn a_listing_rises_and_leaves_out_zeros(rt: HostRuntime) -> Result<(), Fail> {
     Ok(())
 }
 
+// Exchanges the second array and one that neither holds.
+fn exchange(left: &mut Store, right: &mut Store) -> Result<(), NoMemory> {
+    right.put(0, &[8], 2)?;
+    right.put(1, &[5], 4)?;
+    left.swap_array(1, right)?;
+    left.swap_array(2, right)
+}
+
+// Places, and what the two hold there afterwards.
+const EXCHANGED: [(u16, &[u64], u64, u64); 5] = [
+    (0, &[4], 6, 0),
+    (0, &[8], 0, 2),
+    (1, &[5], 4, 3),
+    (1, &[5, 7], 0, 2),
+    (2, &[5], 0, 0),
+];
+
+#[test]
+fn an_array_moves_between_stores(rt: HostRuntime) -> Result<(), Fail> {
+    let mut left = store(rt.alloc())?;
+    let mut right = Store::new(rt.alloc());
+    exchange(&mut left, &mut right)?;
+    for (var, index, here, there) in EXCHANGED {
+        assert!(rt; left.get(var, index) == here && right.get(var, index) == there);
+    }
+    Ok(())
+}
+
 // Texts, and the numbers up to one that they spell.
 const NUMBERS: [(u64, &[u8], Option<u64>); 4] = [
     (u64::MAX, b"018446744073709551615", Some(u64::MAX)),

@@ -1,5 +1,6 @@
 use crate::given::program;
-use snap_core::eval::eval;
+use snap_core::copies::Flow;
+use snap_core::eval::{eval, run_on};
 use snap_core::outcome::{EvalFault, Outcome};
 use snap_core::packet::Packet;
 use snap_core::policy::Pol;
@@ -81,6 +82,35 @@ fn evaluated(alloc: Global, pol: &Pol, seven: u64, comps: [u64; 4]) -> Result<Op
     }
 }
 
+// Bodies that a packet leaves alone: the number at `s[7]` before, the components of the packet, and what they become.
+const ALONE: [(&str, u64, [u64; 4], [u64; 4]); 4] = [
+    (MOVED, 3, [7, 9, 8, 0], [7, 5, 5, 0]),
+    (WRITTEN, 6, [7, 9, 5, 0], [7, 1, 5, 0]),
+    (WRITTEN, 5, [7, 9, 6, 0], [7, 2, 6, 0]),
+    (PENDING, 0, [7, 0, 7, u64::MAX], [7, 1, 7, u64::MAX]),
+];
+
+// Whether a packet leaves a policy alone, in its own memory, with these components.
+fn becomes(
+    alloc: Global,
+    pol: &Pol,
+    seven: u64,
+    comps: [u64; 4],
+    wanted: [u64; 4],
+) -> Result<bool, Fail> {
+    let mut store = Store::new(alloc);
+    store.put(0, &[7], seven)?;
+    let mut packet = Packet::new(comps.as_slice().to_vec(alloc)?);
+    if !pol.fits(packet.comps().len(), 64) {
+        return Err("the policy doesn't fit")?;
+    }
+    match run_on(alloc, pol, &mut store, &mut packet) {
+        Ok(ran) => Ok(matches!(ran.flow, Flow::Same) && *packet.comps() == wanted),
+        Err(EvalFault::Undefined) => Ok(false),
+        Err(EvalFault::NoMemory) => Err("out of memory")?,
+    }
+}
+
 // What a body gives.
 fn given(alloc: Global, body: &str, seven: u64, comps: [u64; 4]) -> Result<Option<Gives>, Fail> {
     let text = format!(in alloc; "field srcport; field dstport; array s; {body}")?;
@@ -88,10 +118,34 @@ fn given(alloc: Global, body: &str, seven: u64, comps: [u64; 4]) -> Result<Optio
     evaluated(alloc, &program.body, seven, comps)
 }
 
+// Whether a packet leaves a body alone, with these components.
+fn left_alone(
+    alloc: Global,
+    body: &str,
+    seven: u64,
+    comps: [u64; 4],
+    wanted: [u64; 4],
+) -> Result<bool, Fail> {
+    let text = format!(in alloc; "field srcport; field dstport; array s; {body}")?;
+    let program = program(alloc, text.as_str())?;
+    becomes(alloc, &program.body, seven, comps, wanted)
+}
+
 #[test]
 fn policies_give_what_was_worked_by_hand(rt: HostRuntime) -> Result<(), Fail> {
     for (body, seven, comps, wanted) in GIVEN {
         assert_eq!(rt; given(rt.alloc(), body, seven, comps)?, wanted, "{body}");
+    }
+    Ok(())
+}
+
+#[test]
+fn a_packet_that_goes_on_alone_is_changed_in_place(rt: HostRuntime) -> Result<(), Fail> {
+    for (body, seven, comps, wanted) in ALONE {
+        assert!(rt;
+            left_alone(rt.alloc(), body, seven, comps, wanted)?,
+            "{body}"
+        );
     }
     Ok(())
 }

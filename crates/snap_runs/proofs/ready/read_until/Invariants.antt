@@ -1,8 +1,10 @@
 use Rattle.std.proofs.Common.{◌≡◌, ◌≤◌, ◌-◌, ◌++◌, length, IfSome}
 use Rattle.std.specs.List.{All}
+use Rattle.snap_core.specs.Fields.{count}
 use Rattle.snap_io.specs.Causes.{NoneFell}
 use Rattle.snap_io.specs.Files.{file_of}
 use Rattle.snap_io.specs.LineReaders.{AgreesWith, lines_name}
+use Rattle.snap_trace.specs.Reading.{packet_in}
 use Rattle.snap_runs.specs.Plain.{spelled_for}
 use Rattle.snap_runs.specs.Playing.{IsReady, packets_in}
 use Rattle.snap_runs.specs.Reading.{left_of, said_at}
@@ -14,6 +16,7 @@ invariant-loop-reader g l =
     record {
       came : IfSome (shelf.files l.fn.shelf) (λ files.
           spelled_for l.tables (file_of files l.name) ≡ record { packets = packets_in l.packets.items ++ (left_of (said_at l.tables) (file_of files l.name) l.reader).packets; stop = (left_of (said_at l.tables) (file_of files l.name) l.reader).stop });
+      long : length (packet_in l.reader) ≡ count l.fields;
       bound : l.reader.read ≤ 1000000;
       few : length l.packets.items ≤ l.reader.read;
       ready : All (IsReady l.tables) l.packets.items;

@@ -2,7 +2,8 @@ use Rattle.std.proofs.Common.{subst}
 use Rattle.std.specs.List.{All}
 use Rattle.std.proofs.lemmas.List.{take_all}
 use Rattle.std.proofs.lemmas.List.Elements.{All-more}
-use Rattle.snap_tables.specs.Ranges.{UpdateInRange, UpsInRange}
+use Rattle.snap_core.specs.Ranges.{UpdateInRange}
+use Rattle.snap_tables.specs.Ranges.{UpsInRange}
 use Rattle.snap_tables.proofs.ranges.know_stages.Goals as goal
 
 pub loop-stage-preserved : goal.loop-stage-preserved

@@ -22,6 +22,7 @@ loop-line-init g c =
       ready = c.requires.ready;
       count = omega (arith, none);
       fields = refl;
+      long = c.requires.long;
       name = refl;
       agrees = c.requires.agrees;
       files = refl;

@@ -1,8 +1,9 @@
-use Rattle.std.proofs.Common.{◌≡◌, [], ◌-◌, ◌≤◌, IfSome}
+use Rattle.std.proofs.Common.{◌≡◌, [], ◌-◌, ◌≤◌, length, IfSome}
+use Rattle.snap_core.specs.Fields.{count as comps}
 use Rattle.snap_io.specs.Causes.{NoneFell}
 use Rattle.snap_io.specs.Files.{file_of}
 use Rattle.snap_io.specs.LineReaders.{AgreesWith, lines_name}
-use Rattle.snap_trace.specs.Reading.{left_for, spelled_where}
+use Rattle.snap_trace.specs.Reading.{left_for, packet_in, spelled_where}
 use Rattle.snap_trace.specs.Runner.{Comes}
 use Rattle.snap_trace.proofs.runner.run_lines.Given as goal
 
@@ -18,6 +19,7 @@ invariant-loop-line g l =
       ready : m.is_ready l.machine;
       count : m.count l.machine ≤ l.reader.read;
       fields : m.fields l.machine ≡ m.fields l.fn.machine;
+      long : length (packet_in l.reader) ≡ comps (m.fields l.machine);
       name : lines_name l.reader.lines ≡ lines_name l.fn.reader.lines;
       agrees : AgreesWith (shelf.files l.shelf) l.reader.lines;
       files : shelf.files l.shelf ≡ shelf.files l.fn.shelf;

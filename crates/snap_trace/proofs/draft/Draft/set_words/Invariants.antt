@@ -1,4 +1,4 @@
-use Rattle.std.proofs.Common.{◌≡◌, length, vec_len}
+use Rattle.std.proofs.Common.{◌≡◌, length}
 use Rattle.snap_core.specs.Fields.{count}
 use Rattle.snap_trace.specs.Drafts.{draft_of}
 use Rattle.snap_trace.specs.Guesses.{StandsAt}
@@ -10,7 +10,7 @@ abbrev pub invariant-loop-front : goal.invariant-loop-front
 invariant-loop-front l = record {
   words : with_words l.fields (words_of l.rest) (draft_of l.self) ≡ with_words l.fields (words_of l.fn.text) (draft_of l.fn.self);
   stands : StandsAt l.fields l.guess;
-  comps : vec_len l.self.numbers ≡ count l.fields;
+  comps : length l.self.packet ≡ count l.fields;
 }
 
 abbrev pub decreases-loop-front : goal.decreases-loop-front

@@ -2,9 +2,7 @@ use Rattle.std.proofs.Common.{Err, Ok, sym, subst}
 use Rattle.std.proofs.lemmas.Result.{err_from_is_err_and}
 use Rattle.snap_io.specs.Files.{file_of}
 use Rattle.snap_io.specs.LineReaders.{lines_name}
-use Rattle.snap_trace.specs.PacketLines.{said_by}
-use Rattle.snap_trace.specs.Shown.{Says}
-use Rattle.snap_trace.proofs.StepLemmas.{where_told, whatever_told}
+use Rattle.snap_trace.proofs.StepLemmas.{where_told}
 use Rattle.snap_trace.specs.Reading.{GivesNext, ReadsNext, next_for}
 use Rattle.snap_trace.proofs.Readers.{gives-bad, gives-fault, gives-said}
 use Rattle.snap_trace.proofs.packets.PacketLines.give.Goals as goal
@@ -27,29 +25,25 @@ returns-then-not-branch-clause-next g c =
     subst (λ b. ReadsNext v.read (next_for (file_of files (lines_name v.lines)) v) c.next_text.new.self (Ok b)) c.if-not-branch.true reads)
     c.in_ok-next_text.ensures.reads
 
-pub returns-in-Ok-clause-next : goal.returns-in-Ok-clause-next
-returns-in-Ok-clause-next g c =
+pub returns-in-Some-clause-next : goal.returns-in-Some-clause-next
+returns-in-Some-clause-next g c =
     where_told (g.S.Shelf.files c.args.shelf.now) _ _ (λ files reads.
     let v = c.args.self.now in
-    let new = c.next_text.new.self in
+    let new = record c.next_text.new.self { draft = c.read_line.new.draft } in
     let next = next_for (file_of files (lines_name v.lines)) v in
     let read = subst (λ b. ReadsNext v.read next new (Ok b)) c.if-not-branch.false reads in
-    gives-said c.args.fields.now v.read next new c.line.result.now c.in-Ok.line c.line.ensures.line read c.in-Ok.ensures.said)
+    gives-said c.args.fields.now v.read next new c.line.result.now c.in-Some.line c.line.ensures.line read c.in-Some.ensures.said)
     c.in_ok-next_text.ensures.reads
 
-pub returns-in-Err-Bad-clause-next : goal.returns-in-Err-Bad-clause-next
-returns-in-Err-Bad-clause-next g c =
+pub returns-in-None-clause-next : goal.returns-in-None-clause-next
+returns-in-None-clause-next g c =
     where_told (g.S.Shelf.files c.args.shelf.now) _ _ (λ files reads.
     let v = c.args.self.now in
-    let new = c.next_text.new.self in
+    let new = record c.next_text.new.self { draft = c.read_line.new.draft } in
     let next = next_for (file_of files (lines_name v.lines)) v in
     let read = subst (λ b. ReadsNext v.read next new (Ok b)) c.if-not-branch.false reads in
-    let is = subst (λ e. Says (said_by c.args.fields.now c.line.result.now) (Err e)) c.in-Err-Bad.field-0-is c.in-Err-Bad.ensures.said in
-    gives-bad c.args.fields.now v.read next new c.line.result.now c.line.ensures.line (c.in_ok-next_text.ensures.more c.if-not-branch.false) read is)
+    gives-bad c.args.fields.now v.read next new c.line.result.now c.line.ensures.line (c.in_ok-next_text.ensures.more c.if-not-branch.false) read c.in-None.ensures.said)
     c.in_ok-next_text.ensures.reads
 
-pub returns-in-Err-NoMemory-clause-next : goal.returns-in-Err-NoMemory-clause-next
-returns-in-Err-NoMemory-clause-next g c = whatever_told (g.S.Shelf.files c.args.shelf.now) _ (λ files. tt)
-
-pub returns-in-Ok-clause-goes_on : goal.returns-in-Ok-clause-goes_on
-returns-in-Ok-clause-goes_on g c = (c.in_ok-next_text.ensures.more c.if-not-branch.false, c.next_text.new.self.few)
+pub returns-in-Some-clause-goes_on : goal.returns-in-Some-clause-goes_on
+returns-in-Some-clause-goes_on g c = (c.in_ok-next_text.ensures.more c.if-not-branch.false, c.next_text.new.self.few)

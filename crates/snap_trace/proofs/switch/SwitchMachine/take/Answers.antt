@@ -2,19 +2,19 @@ use Rattle.std.proofs.Common.{length, refl, subst, sym}
 use Rattle.snap_core.specs.Cells.{arrays_of}
 use Rattle.snap_core.specs.Fields.{count}
 use Rattle.snap_core.specs.Fits.{PolFits}
-use Rattle.snap_core.specs.Runs.{meaning_with}
+use Rattle.snap_core.specs.Runs.{ran_with}
 use Rattle.snap_core.proofs.FitLemmas.{PolFits-vars}
 use Rattle.snap_trace.specs.Reports.{all_lines, block}
 use Rattle.snap_trace.proofs.SwitchLemmas.{stands-more}
 use Rattle.snap_trace.proofs.switch.SwitchMachine.take.Goals as goal
 
-pub run-requires : goal.run-requires
-run-requires c =
+pub run_on-requires : goal.run_on-requires
+run_on-requires c =
     let program = c.args.self.now.program.now in
     subst (λ n. PolFits n 64 program.body) (sym c.requires.comps) (PolFits-vars (count program.fields) (length program.vars) 64 program.body c.requires.ready.few c.requires.ready.fits)
 
-pub returns-in_ok-put_copies-in-Ok-clause-takes : goal.returns-in_ok-put_copies-in-Ok-clause-takes
-returns-in_ok-put_copies-in-Ok-clause-takes c = λ first packets blocks stood.
+pub returns-in_ok-put_flow-in-Ok-clause-takes : goal.returns-in_ok-put_flow-in-Ok-clause-takes
+returns-in_ok-put_flow-in-Ok-clause-takes c = λ first packets blocks stood.
     let old = c.args.self.now in
-    let outcome = meaning_with (arrays_of c.run.new.store) c.in-Ok.done in
-    (refl, (block (all_lines old.program.now.fields) old.number outcome.packets, stands-more first packets blocks old stood c.args.packet _ outcome refl c.in-Ok.ensures.ok refl refl, c.in_ok-put_copies-in-Ok.ensures))
+    let outcome = ran_with (arrays_of c.run_on.new.store) c.run_on.new.packet c.in-Ok.ran in
+    (refl, (block (all_lines old.program.now.fields) old.number outcome.packets, stands-more first packets blocks old stood c.args.packet.now _ outcome refl c.in-Ok.ensures.ok refl refl, c.in_ok-put_flow-in-Ok.ensures))
