@@ -1,20 +1,24 @@
 -- Choices among the numbers of one component, and policies part by part.
-use Rattle.std.proofs.Common.{◌≡◌, ℕ, suc, zero, Bool, true, false, ◌==◌, cond, List, [], ◌∷◌, ◌++◌, Option, Some, None, length, map, refl, ap, sym, subst, ◌∙◌, slice_get, slice_index, option_and_then, option_map, bit_or, Bor}
-use Rattle.std.specs.Prelude.{unwrap_or, MatchOption, All}
+use Rattle.std.proofs.Common.{◌≡◌, ◌<◌, ◌+◌, ℕ, suc, zero, Bool, true, false, ◌==◌, cond, List, [], ◌∷◌, ◌++◌, Option, Some, None, length, map, drop, refl, ap, sym, subst, ◌∙◌, slice_get, slice_index, slice_index_or, option_and_then, option_map, Bor}
+use Rattle.std.specs.Prelude.{unwrap_or, MatchOption}
 use Rattle.std.specs.Cmp.{nat_eq_equiv}
 use Rattle.std.specs.Int.Bits.{or_zero_l}
 use Rattle.std.specs.Option.{option_or}
-use Rattle.std.proofs.lemmas.List.{length-map, map-append}
+use Rattle.std.proofs.lemmas.List.{drop_more, length-map, map-append}
 use Rattle.std.proofs.lemmas.Option.{none-some}
 use Rattle.snap_core.specs.declared.policy.Pol.{Pol}
 use Rattle.snap_core.specs.Arrays.{Arrays}
 use Rattle.snap_core.specs.Cases.{case_at}
 use Rattle.snap_core.specs.Fits.{PolFits}
-use Rattle.snap_core.specs.Meaning.{Meaning, eval, logged}
-use Rattle.snap_core.specs.Runs.{after_first}
+use Rattle.snap_core.specs.declared.copies.Flow.TheVariants.{Same}
+use Rattle.snap_core.specs.declared.run.Ran.{Ran}
+use Rattle.snap_core.specs.Meaning.{Meaning, all_together, eval, logged}
+use Rattle.snap_core.specs.Packets.{listed}
+use Rattle.snap_core.specs.Runs.{after_first, ran_with, set_after}
 use Rattle.snap_core.proofs.CaseLemmas.{case_at-append}
+use Rattle.snap_core.proofs.EvalLemmas.{each_one}
 use Rattle.snap_trace.specs.declared.laid.Part.{Part}
-use Rattle.snap_trace.specs.Choices.{ComesTo, IsTest, IsSequence, AreParts, seen}
+use Rattle.snap_trace.specs.Choices.{ComesTo, IsTest, AreParts, seen}
 
 pub comes-itself : (p : Pol) (k : List ℕ) → ComesTo p p k
 comes-itself p k = record { fits = λ n v f. f; same = λ m. refl }
@@ -95,3 +99,13 @@ parts-fit n v first (x ∷ xs) whole is fits = (is.1.fits n v (parts-fit n v is.
 pub parts-none : (first : Pol) (xs : List Part) (whole : Pol) (m : Arrays) (k : List ℕ) → AreParts first xs whole → eval first m k ≡ None → eval whole m k ≡ None
 parts-none first [] whole m k is none = ap (λ p. eval p m k) is ∙ none
 parts-none first (x ∷ xs) whole m k is none = parts-none is.0 xs whole m k is.2 (is.1.same m k ∙ ap (option_and_then (after_first x.pol.now)) none)
+
+-- a part on the one packet that a run in place left
+pub after-one : (p : Pol) (m : Arrays) (k : List ℕ) (r : Ran) → r.flow ≡ Same → after_first p (ran_with m k r) ≡ option_map (logged r.reads r.writes) (eval p m k)
+after-one p m k r is =
+    ap (λ f. option_map (logged r.reads r.writes) (all_together m (map (λ k'. eval p m k') (listed (set_after f k))))) is
+    ∙ ap (option_map (logged r.reads r.writes)) (each_one m p k)
+
+-- the next of the parts that are left
+pub parts-next : (xs : List Part) (i : ℕ) (x : Part) (done whole : Pol) → i < length xs → x ≡ slice_index_or xs i x → AreParts done (drop i xs) whole → AreParts done (x ∷ drop (i + 1) xs) whole
+parts-next xs i x done whole within is are = subst (λ l. AreParts done l whole) (drop_more xs i x within ∙ ap (λ y. y ∷ drop (i + 1) xs) (sym is)) are

@@ -1,13 +1,14 @@
 //! Policies laid out to be run on many packets.
 
-ghost use Rattle.std.specs.Prelude.{◌≡◌, ℕ, All, Some, None, Err, IfOk, IfSome, length};
+ghost use Rattle.std.specs.Prelude.{◌≡◌, ◌++◌, [], ◌∷◌, Some, None, Err, IfOk, OnOk, length};
 ghost use Rattle.snap_core.specs.Arrays.{Arrays};
 ghost use Rattle.snap_core.specs.Cells.{arrays_of};
 ghost use Rattle.snap_core.specs.Fits.{PolFits};
 ghost use Rattle.snap_core.specs.Meaning.{eval};
 ghost use Rattle.snap_core.specs.Packets.{AllLong};
 ghost use Rattle.snap_core.specs.Runs.{after_first, ran_with, set_after};
-ghost use Rattle.snap_trace.specs.Choices.{ComesTo, IsPart, IsSequence};
+ghost use Rattle.snap_trace.specs.Choices.{ComesTo, IsPart};
+ghost use Rattle.snap_trace.specs.declared.laid.Part.{Part as PartData};
 
 use crate::choice::Choice;
 use snap_core::NoMemory;
@@ -112,10 +113,14 @@ pub struct Laid<'a> {
 
 impl<'a> Model for Laid<'a> {
     ghost use Rattle.std.specs.Prelude.{All};
+    ghost use Rattle.std.specs.Coded.{codes};
     ghost use Rattle.snap_core.specs.declared.policy.Pol.{Pol};
+    ghost use Rattle.snap_core.specs.contracts.policy.Pol as policy;
     ghost use Rattle.snap_trace.specs.Choices.{AreParts, IsPart};
 
     ghost Value = { Pol };
+
+    ghost coded = { Prim.hlevel (codes, policy.the_row.coded) };
 
     ghost view = { λ a. a.whole.now };
 
@@ -144,7 +149,7 @@ pub fn lay(alloc: Global, pol: &Pol) -> Result<Laid<'_>, NoMemory>
 
 // Puts a part behind the others.
 fn put_part<'a>(alloc: Global, parts: &mut Vec<Part<'a>>, pol: &'a Pol) -> Result<(), NoMemory>
-    ensures { OnOk result ((x : Part) × (parts.new.items ≡ parts.old.items ++ x ∷ []) × (x.pol.now ≡ pol.now) × IsPart x) }
+    ensures { OnOk result ((x : PartData) × (parts.new.items ≡ parts.old.items ++ x ∷ []) × (x.pol.now ≡ pol.now) × IsPart x) }
 {
     parts.push(Part::of(alloc, pol)?)?;
     Ok(())

@@ -1,4 +1,4 @@
-use Rattle.std.proofs.Common.{List, [], ◌∷◌, ◌++◌, subst, sym, slice_get, slice_index, option_and_then}
+use Rattle.std.proofs.Common.{[], ◌∷◌, ◌++◌, subst, sym, slice_get, slice_index, option_and_then}
 use Rattle.std.specs.Prelude.{unwrap_or}
 use Rattle.snap_core.specs.Cases.{case_at}
 use Rattle.snap_trace.specs.Choices.{ComesTo, seen}
