@@ -12,7 +12,7 @@ use snap_core::figures::number_up_to;
 use snap_core::program::Fields;
 
 /// What a line of a packets file says.
-#[derive(Clone, Copy, Debug, PartialEq, Eq)]
+#[derive(Clone, Copy)]
 pub enum Line {
     /// Nothing: it has no words, or begins with `#`.
     Skip,
