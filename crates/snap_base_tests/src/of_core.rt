@@ -1,3 +1,4 @@
 mod calls;
+mod cases;
 mod outs;
 mod policies;

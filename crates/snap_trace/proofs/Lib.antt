@@ -1,4 +1,5 @@
 pub mod AheadLemmas
+pub mod ChoiceLemmas
 pub mod DraftLemmas
 pub mod WordLemmas
 pub mod Readers

@@ -1,4 +1,5 @@
 pub mod Ahead
+pub mod Choices
 pub mod Cuts
 pub mod Drafts
 pub mod Guesses

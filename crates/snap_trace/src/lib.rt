@@ -2,10 +2,12 @@
 #![tactic(auto)]
 
 mod ahead;
+mod choice;
 mod draft;
 pub mod fault;
 pub mod front;
 mod guess;
+pub mod laid;
 pub mod line;
 pub mod packets;
 pub mod report;
