@@ -7,11 +7,11 @@ use Rattle.snap_trace.proofs.switch.one_switch.Goals as goal
 
 pub returns-clause-report : goal.returns-clause-report
 returns-clause-report g c =
-    let switch = c.new-switch.result in
+    let switch = c.in_ok-switch.switch in
     let before = g.K.Sink.taken c.args.sink.now in
     let now = g.K.Sink.taken c.run_over.new.sink in
     where_told (g.S.Shelf.files c.args.shelf.now) _ _ (λ files writes.
     let file = file_of files c.args.packets.now in
-    subst (λ program. WritesReport program file c.run_over.result before now) c.new-switch.ensures.program
-    (writes-report switch file c.run_over.result before now (writes switch (stands-first switch c.new-switch.ensures.arrays c.new-switch.ensures.number) refl)))
+    subst (λ program. WritesReport program file c.run_over.result before now) c.in_ok-switch.ensures.program
+    (writes-report switch file c.run_over.result before now (writes switch (stands-first switch c.in_ok-switch.ensures.arrays c.in_ok-switch.ensures.number) refl)))
     c.run_over.ensures.report
