@@ -40,7 +40,7 @@ pub leaf_outs_fit : (t : Tables) → IsInForm t → (w n : ℕ) (ss : List Turn)
 leaf_outs_fit t form w n ss os row = outs_fit t os (row_form t form w n (Leaf ss os) row).4
 
 -- a step without updates
-pub bare_goes : (t : Tables) (w : ℕ) (k : List ℕ) (m : Arrays) (h : Head) (us : List Update) (f : Fate) (a : Action) → us ≡ [] → ActsAs t w k f a → FateFits t f → Handles t w k m h m a → GoesBy t w k m h us f
+pub bare_goes : (t : Tables) (w : ℕ) (k : List ℕ) (m : Arrays) (h : Head) (us : List Update) (f : Fate) (a : Action) → us ≡ [] → ActsAs t w k f a → FateFits t w f → Handles t w k m h m a → GoesBy t w k m h us f
 bare_goes t w k m h us f a none acts fits step = record {
   action = a;
   acts = acts;

@@ -1,6 +1,6 @@
 -- Ports, and the packets that go to them.
 use Rattle.std.proofs.Common.{◌≡◌, ℕ, zero, suc, ◌<◌, get_or, Option, None, sym, subst, ⊎_elim, ◌+◌, ◌-◌, ◌≤◌, Bool, true, false, not, ◌==◌, List, [], ◌∷◌, map, length, Some, refl, ap, ap₂, ◌∙◌, arith}
-use Rattle.std.specs.Prelude.{◌||◌, if◌then◌else◌, is_some, slice_get, option_map, nat_lt}
+use Rattle.std.specs.Prelude.{◌||◌, if◌then◌else◌, IfSome, is_some, slice_index, slice_get, option_map, nat_lt}
 use Rattle.std.specs.List.{list_any, filter}
 use Rattle.std.specs.List.Sorted.{IsStrictlySortedBy, IsPartitionedBy, IsPartitionPoint}
 use Rattle.std.specs.Ordering.{nat_cmp}
@@ -21,6 +21,7 @@ use Rattle.snap_rows.specs.declared.head.Sent.{Sent}
 use Rattle.snap_rows.specs.Entries.{Parts, port_in, port_numbers}
 use Rattle.snap_rows.specs.Handles.{sent, forked}
 use Rattle.snap_rows.specs.Places.{port_said}
+use Rattle.snap_rows.specs.Stepping.{IsSpread, lost_to, sent_to}
 use Rattle.snap_rows.proofs.Rows.{some_injective}
 
 -- a number is that of a port where it has a switch
@@ -153,3 +154,7 @@ fork_sent t o k k' after goes = sym (forks_one t o k k' true after goes)
 
 pub fork_lost : (t : Tables) (o : Parts) (k k' : List ℕ) → k' ≡ after_out o k → goes_out (port_numbers t) k' ≡ false → Fork [] 1 ≡ forked t (o ∷ []) k
 fork_lost t o k k' after goes = sym (forks_one t o k k' false after goes)
+
+pub spread_one : (t : Tables) (o : Parts) (k k' : List ℕ) (port : Option ℕ) → k' ≡ after_out o k → is_some port ≡ goes_out (port_numbers t) k' → IfSome port (λ p. p ≡ slice_index k' 1) → IsSpread t (o ∷ []) k (sent_to port k') (lost_to port)
+spread_one t o k k' None after goes same = fork_lost t o k k' after (sym goes)
+spread_one t o k k' (Some p) after goes same = ap (λ p. Fork (record { port = p; packet = k' } ∷ []) 0) same ∙ fork_sent t o k k' after (sym goes)

@@ -105,8 +105,8 @@ steps_ended {q = q} {v = v} (Stay q' v') two comes made ends =
     ⊎_elim (λ same. absurd (let low = ends.0 in let e = same.1 in omega (arith, low, e))) (λ own. visits two comes own (record { last = q; number = v; made = made; ends = ends })) (first_here made)
 steps_ended {q = q} {v = v} (Wait q') two comes made ends = visits two comes ends.1 (record { last = q; number = v; made = made; ends = ends })
 
-visited_fit : (t : Tables) (w : ℕ) (may : ℕ → Bool) (r q v : ℕ) (f : Fate) → IsInForm t → EndsVisits t w may r q v f → FateFits t f
-visited_fit t w may r q v (Seek x h) form ends = (owner_below t form q x ends.0, subst (λ h. AimsAt t h x) (sym ends.2) ends.0)
+visited_fit : (t : Tables) (w : ℕ) (may : ℕ → Bool) (r q v : ℕ) (f : Fate) → IsInForm t → EndsVisits t w may r q v f → FateFits t w f
+visited_fit t w may r q v (Seek x h) form ends = (owner_below t form q x ends.0, subst (λ h. AimsAt t w h x) (sym ends.2) (ends.0, ends.1))
 visited_fit t w may r q v (Deliver port) form ends = tt
 visited_fit t w may r q v (Fork outs) form ends = last_outs_fit t form w v ends.2.0 outs.now ends.2.1
 visited_fit t w may r q v (Stay q' v') form ends = tt

@@ -3,6 +3,12 @@ use Rattle.std.specs.Prelude.{ℕ, ◌==◌, List, [], ◌∷◌, if◌then◌el
 use Rattle.snap_rows.specs.declared.head.Sent.{Sent}
 use Rattle.snap_rows.specs.Network.{Happening, Crossed, Delivered, Forked}
 
+-- the packet whose copy steps
+abbrev pub number_of : Happening → ℕ
+number_of (Crossed c to head) = c.number
+number_of (Delivered c port) = c.number
+number_of (Forked c copies lost) = c.number
+
 -- the deliveries of packet i, each with its port
 abbrev pub deliveries_of : ℕ → List Happening → List Sent
 deliveries_of i [] = []

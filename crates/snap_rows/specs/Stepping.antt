@@ -1,5 +1,5 @@
 -- What becomes of a copy in a step, where some visits are admitted.
-use Rattle.std.specs.Prelude.{◌≡◌, ◌≢◌, ℕ, ◌+◌, ◌<◌, Bool, true, false, Some, List, length, ◌==◌, if◌then◌else◌}
+use Rattle.std.specs.Prelude.{◌≡◌, ◌≢◌, ℕ, ◌+◌, ◌<◌, Bool, true, false, Option, Some, None, List, [], ◌∷◌, length, ◌==◌, if◌then◌else◌}
 use Rattle.std.specs.List.{All}
 use Rattle.snap_core.specs.declared.policy.Update.{Update}
 use Rattle.snap_core.specs.Arrays.{Arrays, updates}
@@ -10,10 +10,11 @@ use Rattle.snap_rows.specs.declared.head.Action.TheVariants as action
 use Rattle.snap_rows.specs.declared.head.Fate.{Fate}
 use Rattle.snap_rows.specs.declared.head.Fate.TheVariants.{Seek, Deliver, Fork, Stay, Wait}
 use Rattle.snap_rows.specs.declared.head.Head.{Head}
+use Rattle.snap_rows.specs.declared.head.Sent.{Sent}
 use Rattle.snap_rows.specs.declared.head.Head.TheVariants.{Walk, Out, Visit}
 use Rattle.snap_rows.specs.declared.tables.Tables.{Tables}
 use Rattle.snap_rows.specs.declared.tables.Row.TheVariants.{Last}
-use Rattle.snap_rows.specs.Entries.{next, port_at, rank_at, ranks, row_at}
+use Rattle.snap_rows.specs.Entries.{Parts, next, port_at, rank_at, ranks, row_at}
 use Rattle.snap_rows.specs.Form.{comps, switch_count}
 use Rattle.snap_rows.specs.Handles.{Follows, Handles, Visits, forked, is_field}
 use Rattle.snap_rows.specs.Home.{AtHome}
@@ -30,6 +31,19 @@ ActsAs t w k (Deliver p) a = a ≡ action.Deliver p
 ActsAs t w k (Fork outs) a = a ≡ forked t outs.now k
 ActsAs t w k (Stay r n) a = ⊥
 ActsAs t w k (Wait r) a = ⊥
+
+-- these copies and this count of lost packets are what outs make of a packet
+abbrev pub IsSpread : Tables → List Parts → List ℕ → List Sent → ℕ → Type 0
+IsSpread t os k copies lost = action.Fork copies lost ≡ forked t os k
+
+-- a packet on its way to a port, if it is for one, and how many are lost
+abbrev pub sent_to : Option ℕ → List ℕ → List Sent
+sent_to None k = []
+sent_to (Some port) k = record { port = port; packet = k } ∷ []
+
+abbrev pub lost_to : Option ℕ → ℕ
+lost_to None = 1
+lost_to (Some port) = 0
 
 -- From rank r and number n on, a packet has made visits at switch w that were admitted, one after another; the next is of rank q at number v.
 pub data Visiting (t : Tables) (w : ℕ) (k : List ℕ) (may : ℕ → Bool) (m : Arrays) (r n : ℕ) : Arrays → ℕ → ℕ → Type 0 where
@@ -66,17 +80,17 @@ pub data Steps (t : Tables) (w : ℕ) (k : List ℕ) (may : ℕ → Bool) (m : A
   goes : {h : Head} {m' : Arrays} {f : Fate} {a : Action} → IsBeforeNone t w k h → ActsAs t w k f a → Handles t w k m h m' a → Steps t w k may m h m' f
   visits : {h : Head} {r n : ℕ} {m' : Arrays} {f : Fate} → t.version ≡ 2 → ComesTo t w k m h r n → rank_at t r ≡ Some w → HasVisited t w k may m r n m' f → Steps t w k may m h m' f
 
--- a head that says where it goes says this switch
-abbrev pub AimsAt : Tables → Head → ℕ → Type 0
-AimsAt t (Out p) x = port_at t p ≡ Some x
-AimsAt t (Visit r n) x = rank_at t r ≡ Some x
-AimsAt t _ x = Unit {0}
+-- a head that says where it goes from switch w says this switch, another one
+abbrev pub AimsAt : Tables → (w : ℕ) → Head → ℕ → Type 0
+AimsAt t w (Out p) x = (port_at t p ≡ Some x) × (x ≢ w)
+AimsAt t w (Visit r n) x = (rank_at t r ≡ Some x) × (x ≢ w)
+AimsAt t w _ x = Unit {0}
 
 -- the switch that is sought is one, which the head says if it says where it goes; outs fit
-abbrev pub FateFits : Tables → Fate → Type 0
-FateFits t (Seek x h) = (x < switch_count t) × AimsAt t h x
-FateFits t (Fork outs) = All (OutFits (comps t)) outs.now
-FateFits t _ = Unit {0}
+abbrev pub FateFits : Tables → (w : ℕ) → Fate → Type 0
+FateFits t w (Seek x h) = (x < switch_count t) × AimsAt t w h x
+FateFits t w (Fork outs) = All (OutFits (comps t)) outs.now
+FateFits t w _ = Unit {0}
 
 -- what goes on from switch w is at home at the next hop, and what stays is at home there
 abbrev pub FateArrives : Tables → ℕ → Fate → Type 0
@@ -88,7 +102,7 @@ FateArrives t w _ = Unit {0}
 pub record StepsBy (t : Tables) (w : ℕ) (k : List ℕ) (may : ℕ → Bool) (m : Arrays) (h : Head) (us : List Update) (f : Fate) : Type 0 where
   pub steps : Steps t w k may m h (updates m us k) f
   pub reads : All (UpdateReads (length k)) us
-  pub fits : FateFits t f
+  pub fits : FateFits t w f
   pub arrives : FateArrives t w f
 
 -- the same of a step that makes no visits
@@ -97,7 +111,7 @@ pub record GoesBy (t : Tables) (w : ℕ) (k : List ℕ) (m : Arrays) (h : Head) 
   pub acts : ActsAs t w k f action
   pub handles : Handles t w k m h (updates m us k) action
   pub reads : All (UpdateReads (length k)) us
-  pub fits : FateFits t f
+  pub fits : FateFits t w f
 
 -- the same of visits
 pub record VisitsBy (t : Tables) (w : ℕ) (k : List ℕ) (may : ℕ → Bool) (m : Arrays) (r n : ℕ) (us : List Update) (f : Fate) : Type 0 where

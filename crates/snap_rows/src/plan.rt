@@ -376,7 +376,7 @@ pub fn step<'a, A: Admit>(
     requires packet { length packet.now ≡ comps tables.now }
     requires home { AtHome tables.now at head }
     ensures steps { IfOk result (Steps tables.now at packet.now (A.admits admit.now) (arrays_of store.old) head (arrays_of store.new)) }
-    ensures fits { IfOk result (FateFits tables.now) }
+    ensures fits { IfOk result (FateFits tables.now at) }
     ensures arrives { IfOk result (FateArrives tables.now at) }
     ensures own { IfOk result (λ _. (p : Place) → arrays_of store.new p ≢ arrays_of store.old p → owner_of tables.now p.var ≡ Some at) }
 {
@@ -397,7 +397,7 @@ pub(crate) fn action_in(
     fate: Fate<'_>,
 ) -> Result<Action, NoMemory>
     requires packet { length packet.now ≡ comps tables.now }
-    requires fits { FateFits tables.now fate }
+    requires fits { FateFits tables.now at fate }
     requires plain { (a : Action) × ActsAs tables.now at packet.now fate a }
     ensures { IfOk result (ActsAs tables.now at packet.now fate.entry) }
 {
