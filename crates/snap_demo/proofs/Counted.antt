@@ -7,7 +7,7 @@ use Rattle.std.proofs.lemmas.List.Elements.{All-append, All-nil, All-weaker}
 use Rattle.std.proofs.lemmas.List.Sums.{sum_by-cons}
 use Rattle.snap_core.specs.Arrays.{zero_arrays}
 use Rattle.snap_rows.specs.declared.head.Sent.{Sent}
-use Rattle.snap_rows.specs.Happenings.{deliveries_of, losses_of}
+use Rattle.snap_rows.specs.Happenings.{deliveries_of, losses_of, number_of}
 use Rattle.snap_rows.specs.Network.{Happening, Inject, IsPlainRun, Net, injects, rests, start}
 use Rattle.snap_net.specs.Shown.{Held, IsDone, Nothing, Shows}
 use Rattle.snap_runs.specs.declared.frames.Frames.TheVariants.{Plain}
@@ -15,7 +15,6 @@ use Rattle.snap_runs.specs.declared.tally.Tally.{Tally}
 use Rattle.snap_runs.specs.Plain.{entering}
 use Rattle.snap_runs.specs.Reports.{packets_delivered}
 use Rattle.snap_runs.specs.Settling.{AreCopiesOf, HappenTo, HasSettled, Settles, Tallies}
-use Rattle.snap_runs.specs.Tallies.{number_of}
 use Rattle.snap_runs.proofs.Blocks.{earlier-elsewhere, later-elsewhere}
 use Rattle.snap_runs.proofs.Happenings.{HappenElsewhere, deliveries_of-append, deliveries_of-others, losses_of-append, losses_of-others}
 use Rattle.snap_runs.proofs.Runs.{plain-then}

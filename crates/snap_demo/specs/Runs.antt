@@ -2,12 +2,11 @@
 use Rattle.std.specs.Prelude.{◌≡◌, ℕ, ◌<◌, List, ◌++◌, ◌∷◌, [], length, sum, sum_by}
 use Rattle.std.specs.List.{All, range_with_len}
 use Rattle.snap_core.specs.Arrays.{zero_arrays}
-use Rattle.snap_rows.specs.Happenings.{losses_of}
+use Rattle.snap_rows.specs.Happenings.{losses_of, number_of}
 use Rattle.snap_rows.specs.Network.{Event, Happening, IsPlainRun, Net}
 use Rattle.snap_net.specs.Shown.{Held, Shows}
 use Rattle.snap_runs.specs.Plain.{entering}
 use Rattle.snap_runs.specs.Reports.{packets_delivered}
-use Rattle.snap_runs.specs.Tallies.{number_of}
 use Rattle.snap_demo.specs.declared.counts.Counts.{Counts}
 
 -- so many of the first packets were delivered, and so many lost

@@ -22,7 +22,7 @@ use Rattle.snap_runs.specs.declared.frames.Frames.TheVariants.{Numbered}
 use Rattle.snap_runs.specs.declared.ready.Ready.{Ready}
 use Rattle.snap_runs.specs.declared.tally.Tally.{Tally}
 use Rattle.snap_runs.specs.Playing.{IsLong, IsReady, packets_in}
-use Rattle.snap_runs.specs.Tallies.{number_of}
+use Rattle.snap_rows.specs.Happenings.{number_of}
 use Rattle.snap_runs.proofs.Blocks.{in_pushed}
 use Rattle.snap_runs.proofs.Steps.{held-shown}
 use Rattle.snap_runs.proofs.Playing.{elsewhere, tally_fresh}

@@ -13,7 +13,7 @@ use Rattle.snap_net.proofs.Steps.{copy_shown}
 use Rattle.snap_gen.proofs.Nodes.{IsTwo}
 use Rattle.snap_runs.specs.Plain.{entering}
 use Rattle.snap_runs.specs.Playing.{IsReady, packets_in}
-use Rattle.snap_runs.specs.Tallies.{number_of}
+use Rattle.snap_rows.specs.Happenings.{number_of}
 use Rattle.snap_runs.proofs.Steps.{rests-shown}
 use Rattle.snap_order.specs.declared.play.Play.{Play}
 use Rattle.snap_order.specs.declared.turned.Turned.{Turned}

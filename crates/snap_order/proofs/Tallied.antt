@@ -17,7 +17,8 @@ use Rattle.snap_gen.specs.InTurn.{Becomes, SentOn, Waiting, Forks}
 use Rattle.snap_runs.specs.declared.frames.Frames.TheVariants.{Numbered}
 use Rattle.snap_runs.specs.declared.tally.Tally.{Tally}
 use Rattle.snap_runs.specs.Playing.{IsLong, owner_by}
-use Rattle.snap_runs.specs.Tallies.{bared, delivered_by, hop_by, lost_by, number_of}
+use Rattle.snap_rows.specs.Happenings.{number_of}
+use Rattle.snap_runs.specs.Tallies.{bared, delivered_by, hop_by, lost_by}
 use Rattle.snap_runs.proofs.Playing.{tally_other}
 use Rattle.snap_order.specs.declared.turned.Turned.{Turned}
 use Rattle.snap_order.specs.Ordered.{Ordered, Turn, Happens, Stays, Waits, LeadsInTurn, happenings, moves, turn_of, visits, waits}

@@ -11,7 +11,8 @@ use Rattle.snap_net.specs.Shown.{happened, moving}
 use Rattle.snap_runs.specs.declared.frames.Frames.TheVariants.{Numbered}
 use Rattle.snap_runs.specs.declared.tally.Tally.{Tally}
 use Rattle.snap_runs.specs.Playing.{owner_by}
-use Rattle.snap_runs.specs.Tallies.{bared, delivered_by, hop_by, hop_told, lost_by, number_of}
+use Rattle.snap_rows.specs.Happenings.{number_of}
+use Rattle.snap_runs.specs.Tallies.{bared, delivered_by, hop_by, hop_told, lost_by}
 use Rattle.snap_runs.proofs.Playing.{set-other, set-same}
 use Rattle.snap_runs.proofs.Settled.{tally-more}
 use Rattle.snap_order.specs.Playing.{HasNoted, IsTally}

@@ -8,7 +8,8 @@ use Rattle.snap_net.specs.declared.happened.Happened.{Happened}
 use Rattle.snap_runs.specs.declared.frames.Frames.TheVariants.{Numbered}
 use Rattle.snap_runs.specs.declared.tally.Tally.{Tally}
 use Rattle.snap_runs.specs.Playing.{IsLong, IsReady, owner_by, packets_in}
-use Rattle.snap_runs.specs.Tallies.{IsTally as IsTallyBy, bared, delivered_by, hop_by, lost_by, number_of}
+use Rattle.snap_rows.specs.Happenings.{number_of}
+use Rattle.snap_runs.specs.Tallies.{IsTally as IsTallyBy, bared, delivered_by, hop_by, lost_by}
 use Rattle.snap_order.specs.declared.play.Play.{Play}
 use Rattle.snap_order.specs.declared.turned.Turned.{Turned}
 use Rattle.snap_order.specs.declared.turned.Turned.TheVariants.{Moved, Visited, Waited}

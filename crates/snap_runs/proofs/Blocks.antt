@@ -7,14 +7,13 @@ use Rattle.std.proofs.lemmas.List.{length-append}
 use Rattle.std.proofs.lemmas.List.Elements.{All-weaker}
 use Rattle.snap_rows.specs.declared.tables.Tables.{Tables}
 use Rattle.snap_rows.specs.declared.head.Sent.{Sent}
-use Rattle.snap_rows.specs.Happenings.{deliveries_of, losses_of}
+use Rattle.snap_rows.specs.Happenings.{deliveries_of, losses_of, number_of}
 use Rattle.snap_rows.specs.Network.{Happening}
 use Rattle.std.proofs.lemmas.Option.{same_Some}
 use Rattle.snap_trace.specs.Reports.{out_lines, lost_line}
 use Rattle.snap_runs.specs.declared.frames.Frames.{Frames}
 use Rattle.snap_runs.specs.Reports.{AreBlocksBy, IsBlockBy, hops_text, packet_line}
 use Rattle.snap_runs.specs.Settling.{HappenTo}
-use Rattle.snap_runs.specs.Tallies.{number_of}
 use Rattle.snap_runs.proofs.Happenings.{HappenElsewhere, deliveries_of-append, deliveries_of-others, losses_of-append, losses_of-others, hops_text-append, hops_text-others}
 
 module _ (f : Frames) (t : Tables) (hops : Bool) (i : ℕ) (text : List ℕ) where

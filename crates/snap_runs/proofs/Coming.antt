@@ -21,7 +21,7 @@ use Rattle.snap_runs.specs.declared.tracer.Tracer.{Tracer}
 use Rattle.snap_runs.specs.Plain.{ArePlainBlocksBy, IsPlainReportBy, entering}
 use Rattle.snap_runs.specs.Reading.{has_port}
 use Rattle.snap_runs.specs.Reports.{AreBlocksBy, IsBlockBy, PutsEnd, array_names}
-use Rattle.snap_runs.specs.Tallies.{number_of}
+use Rattle.snap_rows.specs.Happenings.{number_of}
 use Rattle.snap_runs.specs.Tracing.{HasTaken, Stands, TakesPacket}
 use Rattle.snap_runs.proofs.Blocks.{blocks-none, blocks-push}
 use Rattle.snap_runs.proofs.Runs.{plain-then}

@@ -8,12 +8,12 @@ use Rattle.std.proofs.lemmas.List.Elements.{All-head, All-tail}
 use Rattle.std.proofs.lemmas.List.Sums.{sum_by-append, sum_by-cons}
 use Rattle.snap_rows.specs.declared.tables.Tables.{Tables}
 use Rattle.snap_rows.specs.declared.head.Sent.{Sent}
-use Rattle.snap_rows.specs.Happenings.{deliveries_of, losses_of}
+use Rattle.snap_rows.specs.Happenings.{deliveries_of, losses_of, number_of}
 use Rattle.snap_rows.specs.Network.{Happening, Crossed, Delivered, Forked}
 use Rattle.snap_net.specs.Shown.{happened, moving}
 use Rattle.snap_runs.specs.declared.frames.Frames.{Frames}
 use Rattle.snap_runs.specs.Reports.{hop_line, hop_lines, hops_text, packets_delivered}
-use Rattle.snap_runs.specs.Tallies.{delivered_by, hop_told, lost_by, number_of}
+use Rattle.snap_runs.specs.Tallies.{delivered_by, hop_told, lost_by}
 
 pub deliveries_of-append : (i : ℕ) (hs gs : List Happening) → deliveries_of i (hs ++ gs) ≡ deliveries_of i hs ++ deliveries_of i gs
 deliveries_of-append i [] gs = refl

@@ -11,7 +11,7 @@ use Rattle.snap_rows.specs.declared.head.Sent.{Sent}
 use Rattle.snap_rows.specs.Aims.{aim_of}
 use Rattle.snap_rows.specs.Entries.{next}
 use Rattle.snap_rows.specs.Form.{IsInForm, switch_count}
-use Rattle.snap_rows.specs.Happenings.{deliveries_of, losses_of}
+use Rattle.snap_rows.specs.Happenings.{deliveries_of, losses_of, number_of}
 use Rattle.snap_rows.specs.declared.head.Action.{Action}
 use Rattle.snap_rows.specs.declared.head.Action.TheVariants.{Forward, Deliver, Fork}
 use Rattle.snap_rows.specs.Network.{Copy, Net, Happening, Crossed, Leads, Step, happening, moved, rests, step, steps, StepsFirst, packets_of}
@@ -25,7 +25,7 @@ use Rattle.snap_runs.specs.declared.tally.Tally.{Tally}
 use Rattle.snap_runs.specs.Crossings.{NotesCrossings, NotesWay, crossing_lines, digits_of, line_text, way_text}
 use Rattle.snap_runs.specs.Reports.{hop_line, hop_lines, hops_text, lead_of}
 use Rattle.snap_runs.specs.Settling.{AreCopiesOf, HappenTo, HasPassed, Settles, Tallies}
-use Rattle.snap_runs.specs.Tallies.{IsTally, number_of}
+use Rattle.snap_runs.specs.Tallies.{IsTally}
 use Rattle.snap_rows.proofs.Aims.{aim_below}
 use Rattle.snap_runs.proofs.Happenings.{deliveries_of-append, losses_of-append, hops_text-append}
 use Rattle.snap_runs.proofs.Runs.{calm-then, packets_of-append}

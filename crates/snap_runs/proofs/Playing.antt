@@ -12,7 +12,7 @@ use Rattle.snap_core.specs.Arrays.{zero_arrays}
 use Rattle.snap_rows.specs.declared.tables.Tables.{Tables}
 use Rattle.snap_rows.specs.declared.head.Sent.{Sent}
 use Rattle.snap_rows.specs.Form.{comps}
-use Rattle.snap_rows.specs.Happenings.{deliveries_of, losses_of}
+use Rattle.snap_rows.specs.Happenings.{deliveries_of, losses_of, number_of}
 use Rattle.snap_rows.specs.Network.{Copy, Net, Inject, Step, Happening, Crossed, Delivered, Forked, Leads, Runs, done, start}
 use Rattle.snap_net.specs.declared.flying.Flying.{Flying}
 use Rattle.snap_net.specs.declared.happened.Happened.{Happened}
@@ -28,7 +28,7 @@ use Rattle.snap_runs.specs.declared.tally.Tally.{Tally}
 use Rattle.snap_runs.specs.Playing.{HasDone, HasObeyed, HasStepped, IsLong, IsPlaying, IsReady, NotesIn, Plays, left_in, owner_by, packets_in}
 use Rattle.snap_runs.specs.Reports.{hops_text}
 use Rattle.snap_runs.specs.Schedules.{CantBeDone, Spells, nothing, order_by}
-use Rattle.snap_runs.specs.Tallies.{IsTally, Notes, bared, delivered_by, hop_by, lost_by, number_of}
+use Rattle.snap_runs.specs.Tallies.{IsTally, Notes, bared, delivered_by, hop_by, lost_by}
 use Rattle.snap_runs.proofs.Blocks.{in_pushed}
 use Rattle.snap_runs.proofs.Happenings.{HappenElsewhere, deliveries_of-append, deliveries_of-others, losses_of-append, losses_of-others, hops_text-append, hops_text-others}
 use Rattle.snap_runs.proofs.Settled.{tally-more}

@@ -18,7 +18,8 @@ use Rattle.snap_runs.specs.declared.tally.Tally.{Tally}
 use Rattle.snap_runs.specs.Crossings.{NotesCrossings}
 use Rattle.snap_runs.specs.Reports.{IsBlockBy, hops_text, packet_line}
 use Rattle.snap_runs.specs.Settling.{AreCopiesOf, Goes, GoOn, one_goes, more_go, HasGone, HasNoted, HasPassed, HasSettled, Settles, Tallies}
-use Rattle.snap_runs.specs.Tallies.{IsBlockText, IsTally, Notes, delivered_by, delivered_in, hop_told, lost_by, lost_in, number_of, packets_sent}
+use Rattle.snap_rows.specs.Happenings.{number_of}
+use Rattle.snap_runs.specs.Tallies.{IsBlockText, IsTally, Notes, delivered_by, delivered_in, hop_told, lost_by, lost_in, packets_sent}
 use Rattle.snap_runs.specs.Tracing.{HasTaken}
 use Rattle.snap_runs.proofs.Passing.{Noted, noted-passed}
 use Rattle.snap_runs.proofs.Happenings.{hops_text-more, losses_of-more, packets_delivered-more}

@@ -24,7 +24,8 @@ use Rattle.snap_net.specs.Shown.{Held, IsHeld, Shows, flown, moving, store_of}
 use Rattle.snap_runs.specs.declared.frames.Frames.{Frames}
 use Rattle.snap_runs.specs.declared.tally.Tally.{Tally}
 use Rattle.snap_runs.specs.Settling.{AreCopiesOf, Goes, GoOn, one_goes, more_go, HasGone, steps_left_of}
-use Rattle.snap_runs.specs.Tallies.{delivered_by, number_of}
+use Rattle.snap_rows.specs.Happenings.{number_of}
+use Rattle.snap_runs.specs.Tallies.{delivered_by}
 
 -- ---- numbers of packets
 module _ (P : ℕ → Type 0) where

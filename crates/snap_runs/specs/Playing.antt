@@ -25,7 +25,8 @@ use Rattle.snap_trace.specs.declared.line.Line.TheVariants as read
 use Rattle.snap_trace.specs.Spelled.{ended, refused}
 use Rattle.snap_runs.specs.Plain.{spelled_for}
 use Rattle.snap_runs.specs.Schedules.{CantBeDone, EndsEarly, IsReadWhole, Obeys, RefusesPackets, RefusesScheduleLine, StopsAt, lines_of, order_by}
-use Rattle.snap_runs.specs.Tallies.{IsBlockText, IsTally, Notes, number_of}
+use Rattle.snap_rows.specs.Happenings.{number_of}
+use Rattle.snap_runs.specs.Tallies.{IsBlockText, IsTally, Notes}
 
 -- the number of the packet whose copy steps
 abbrev pub owner_by : Moved → ℕ

@@ -10,7 +10,8 @@ use Rattle.snap_net.specs.Travels.{Travels}
 use Rattle.snap_runs.specs.declared.frames.Frames.{Frames}
 use Rattle.snap_runs.specs.declared.tally.Tally.{Tally}
 use Rattle.snap_runs.specs.Crossings.{NotesCrossings, digits_of, line_text}
-use Rattle.snap_runs.specs.Tallies.{IsTally, Notes, number_of}
+use Rattle.snap_rows.specs.Happenings.{number_of}
+use Rattle.snap_runs.specs.Tallies.{IsTally, Notes}
 
 -- the copies are of packet i
 abbrev pub AreCopiesOf : ℕ → List Copy → Type 0

@@ -7,7 +7,7 @@ use Rattle.snap_core.specs.Packets.{packet_cmp}
 use Rattle.snap_rows.specs.declared.tables.Tables.{Tables}
 use Rattle.snap_rows.specs.declared.head.Sent.{Sent}
 use Rattle.snap_rows.specs.Happenings.{losses_of}
-use Rattle.snap_rows.specs.Network.{Happening, Crossed, Delivered, Forked}
+use Rattle.snap_rows.specs.Network.{Happening}
 use Rattle.snap_net.specs.declared.happened.Happened.{Happened}
 use Rattle.snap_net.specs.declared.happened.Happened.TheVariants as shown
 use Rattle.snap_net.specs.declared.happened.Landed.{Landed}
@@ -69,12 +69,6 @@ hop_told f switches (shown.Forked owner copies lost) = []
 -- the same with its frame as it is
 abbrev pub hop_by : List (List ℕ) → Happened → List ℕ
 hop_by switches h = hop_told Plain switches h
-
--- the packet whose copy steps
-abbrev pub number_of : Happening → ℕ
-number_of (Crossed c to head) = c.number
-number_of (Delivered c port) = c.number
-number_of (Forked c copies lost) = c.number
 
 -- what a step tells was noted, with its line where hops are told
 pub record Notes (f : Frames) (t : Tables) (hops : Bool) (x : Happening) (old new : Tally) : Type 0 where

@@ -13,7 +13,7 @@ use Rattle.snap_runs.specs.declared.tracer.Tracer.{Tracer}
 use Rattle.snap_runs.specs.Plain.{entering}
 use Rattle.snap_runs.specs.Reports.{AreBlocksBy, IsBlockBy}
 use Rattle.snap_runs.specs.Settling.{HappenTo}
-use Rattle.snap_runs.specs.Tallies.{number_of}
+use Rattle.snap_rows.specs.Happenings.{number_of}
 
 -- other tables come into force: nothing is in flight, the same number was injected, and the whole store is the same
 abbrev pub changed : (to from : Tables) → Net → Net
