@@ -80,9 +80,9 @@ jump_node t valid form n c v y z e k w there p fields m = by (row_at t w n) refl
         goes_on_by_test t valid w n (Field (Value c v) y z) row k p m _ (fields (Value c v) y z) (ap (λ (s : Bool). Some (if s then y else z)) (eqb_swap (slice_index k c) v))
 
 jumps_on : (t : Tables) (k : List ℕ) (n x y : ℕ) → Jumps t k n x → Jumps t k x y → Jumps t k n y
-jumps_on t k n x y first then w there p fields m =
+jumps_on t k n x y first after w there p fields m =
     let f : GoesOn t w k p m n x = first w there p fields m in
-    let g : GoesOn t w k p m x y = then w f.there p fields m in
+    let g : GoesOn t w k p m x y = after w f.there p fields m in
     let low : n < x = f.up in
     let up : x < y = g.up in
     record { up = omega arith; there = g.there; way = λ v h. f.way v (g.way v h) }
@@ -101,8 +101,8 @@ case_more cs v y z i = ap (λ o. unwrap_or o z) (case_at-append cs ((v, y) ∷ [
     by None false = refl
 
 past_cases : (t : Tables) (k : List ℕ) (n r x : ℕ) (o : Option ℕ) → Jumps t k n (unwrap_or o r) → Jumps t k r x → Jumps t k n (unwrap_or o x)
-past_cases t k n r x None first then = jumps_on t k n r x first then
-past_cases t k n r x (Some y) first then = first
+past_cases t k n r x None first after = jumps_on t k n r x first after
+past_cases t k n r x (Some y) first after = first
 
 pub one_leads : (t : Tables) → IsValid t → IsInForm t → (n c v y z : ℕ) → node_of t n ≡ Some (Field (Value c v) y z) → CasesLead t n c ((v, y) ∷ []) z
 one_leads t valid form n c v y z e k = subst (Jumps t k n) (sym (case_more [] v y z (slice_index k c))) (jump_node t valid form n c v y z e k)

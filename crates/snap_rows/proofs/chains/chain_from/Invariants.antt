@@ -6,8 +6,8 @@ use Rattle.snap_rows.proofs.chains.chain_from.Given as goal
 abbrev pub invariant-loop-next : goal.invariant-loop-next
 invariant-loop-next l = record {
   comp : l.step.comp < comps l.tables;
-  lead : CasesLead l.tables l.first l.step.comp l.cases l.rest;
+  lead : CasesLead l.tables l.first l.step.comp l.cases.items l.rest;
 }
 
 abbrev pub decreases-loop-next : goal.decreases-loop-next
-decreases-loop-next l = 65535 - length l.cases
+decreases-loop-next l = 65535 - length l.cases.items
