@@ -1,10 +1,12 @@
 -- The switches to which a list of links joins one.
 use Rattle.std.proofs.Common.{◌≡◌, ◌∙◌, ◌⊎◌, ◌↔◌, inl, inr, ℕ, zero, suc, ◌+◌, ◌<◌, ◌==◌, Bool, true, false, cond, List, [], ◌∷◌, ◌++◌, length, refl, sym, ap, subst, arith, slice_index_or}
 use Rattle.std.specs.List.{Contains, flat_map}
+use Rattle.std.specs.List.Sorted.{IsNonDecreasing, IsPermutation}
 use Rattle.std.proofs.lemmas.Bool.{eqb-true, eq-eqb, cases_eq}
 use Rattle.std.proofs.lemmas.List.{get_or_push, get_or_append_left}
 use Rattle.snap_route.specs.Graphs.{Adjacent, neighbours_of}
 use Rattle.std.proofs.lemmas.List.Elements.{Contains-append_left, Contains-append_right, Contains-append_cases}
+use Rattle.std.proofs.lemmas.List.Sorted.{Contains-permutation, IsPermutation-sym}
 use Rattle.snap_route.specs.Walks.{Linked}
 
 at-only : {X : Type 0} (x y : X) (k : ℕ) → k < 1 → slice_index_or (x ∷ []) k y ≡ y → x ≡ y
@@ -87,6 +89,11 @@ pub Linked-from : (links : List (ℕ × ℕ)) (v : ℕ) (ms : List ℕ) → ms �
 Linked-from links v ms is m =
     (λ h. joined-Linked links v m (subst (λ (xs : List ℕ). Contains xs m) is h), λ h. subst (λ (xs : List ℕ). Contains xs m) (sym is) (Linked-joined links v m h))
 
+-- in another order they are the same
+pub Linked-moved : (links : List (ℕ × ℕ)) (v : ℕ) (ms ns : List ℕ) → IsPermutation ms ns → ((m : ℕ) → Contains ms m ↔ Linked links v m) → (m : ℕ) → Contains ns m ↔ Linked links v m
+Linked-moved links v ms ns moved are m =
+    (λ h. (are m).0 (Contains-permutation ns ms m (IsPermutation-sym ms ns moved) h), λ h. Contains-permutation ms ns m moved ((are m).1 h))
+
 -- the neighbours of one more switch
 pub Adjacent-more : (links : List (ℕ × ℕ)) (graph more : List (List ℕ)) (ns : List ℕ) (n : ℕ) → length graph ≡ n → more ≡ graph ++ ns ∷ [] → ((a m : ℕ) → a < n → Adjacent graph a m ↔ Linked links a m)
     → ((m : ℕ) → Contains ns m ↔ Linked links n m) → (a m : ℕ) → a < n + 1 → Adjacent more a m ↔ Linked links a m
@@ -97,4 +104,13 @@ Adjacent-more links graph more ns n count is linked new a m lt =
       | inr other ↦ let low : a < length graph = omega arith in
           let at : neighbours_of more a ≡ neighbours_of graph a = ap (λ (g : List (List ℕ)). neighbours_of g a) is ∙ get_or_append_left graph (ns ∷ []) [] a low in
           subst (λ (xs : List ℕ). Contains xs m ↔ Linked links a m) (sym at) (linked a m (omega arith))
+    ]
+
+pub rise-more : (graph more : List (List ℕ)) (ns : List ℕ) (n : ℕ) → length graph ≡ n → more ≡ graph ++ ns ∷ [] → ((a : ℕ) → a < n → IsNonDecreasing (neighbours_of graph a)) → IsNonDecreasing ns → (a : ℕ) → a < n + 1 → IsNonDecreasing (neighbours_of more a)
+rise-more graph more ns n count is before new a lt =
+    elim (cases_eq a n) [
+      | inl same ↦ let at : neighbours_of more a ≡ ns = ap (λ (g : List (List ℕ)). neighbours_of g a) is ∙ get_or_push graph ns [] a (count ∙ sym same) in
+          subst (λ (xs : List ℕ). IsNonDecreasing xs) (sym at) new
+      | inr other ↦ let at : neighbours_of more a ≡ neighbours_of graph a = ap (λ (g : List (List ℕ)). neighbours_of g a) is ∙ get_or_append_left graph (ns ∷ []) [] a (omega arith) in
+          subst (λ (xs : List ℕ). IsNonDecreasing xs) (sym at) (before a (omega arith))
     ]

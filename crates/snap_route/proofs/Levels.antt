@@ -1,5 +1,5 @@
 -- What a search knows after each level, and at its end.
-use Rattle.std.proofs.Common.{◌≡◌, ◌∙◌, inl, inr, ℕ, zero, suc, ◌+◌, ◌<◌, ◌≤◌, List, [], ◌∷◌, length, take, drop, ◌++◌, replicate, Option, Some, None, IsSome, is_none, MatchOption, refl, sym, ap, subst, arith}
+use Rattle.std.proofs.Common.{◌≡◌, ◌∙◌, inl, inr, ℕ, zero, suc, ◌+◌, ◌-◌, ◌<◌, ◌≤◌, List, [], ◌∷◌, length, take, drop, ◌++◌, replicate, Option, Some, None, IsSome, is_none, MatchOption, refl, sym, ap, subst, arith}
 use Rattle.std.specs.Option.{IsSomeAnd}
 use Rattle.std.specs.List.{Contains, flat_map}
 use Rattle.std.proofs.lemmas.Bool.{cases_eq}
@@ -126,3 +126,7 @@ Settles-from graph target d ds level none levels = record {
 -- what is written back through a slice of a list's length
 pub written-back : {X : Type 0} (n : ℕ) (new old : List X) → length new ≡ length old → n ≡ length old → take n (new ++ drop (length new) old) ≡ new
 written-back n new old same all = grind (arith, common_steps)
+
+-- fewer are left once some more are reached
+pub left-less : (ds new : List (Option ℕ)) (left k : ℕ) → ds ≡ new → unreached new + k ≤ left → unreached ds ≤ left - k
+left-less ds new left k same few = subst (λ (xs : List (Option ℕ)). unreached xs ≤ left - k) (sym same) (omega arith)

@@ -1,57 +1,46 @@
--- The nearest of some switches, one after the other.
-use Rattle.std.proofs.Common.{◌≡◌, ◌∙◌, ◌⊎◌, inl, inr, ℕ, ◌+◌, ◌<◌, ◌≤◌, max, Bool, true, false, ◌==◌, ◌&&◌, ◌||◌, nat_lt, List, [], ◌∷◌, ◌++◌, length, get_or, take, Option, Some, None, MatchOption, unwrap_or, refl, sym, ap, subst, arith, slice_index}
+-- The nearest of some switches in order, and the greatest of some distances.
+use Rattle.std.proofs.Common.{◌≡◌, ◌≢◌, ◌∙◌, ◌⊎◌, inl, inr, ℕ, ◌+◌, ◌<◌, ◌≤◌, max, List, [], ◌∷◌, ◌++◌, length, get_or, take, Option, Some, None, MatchOption, unwrap_or, sym, ap, subst, arith, slice_index}
 use Rattle.std.specs.List.{Contains}
+use Rattle.std.specs.List.Sorted.{IsNonDecreasing}
 use Rattle.std.specs.Ordering.{nat_cmp, ord_max}
-use Rattle.std.proofs.lemmas.Bool.{cases_eq}
+use Rattle.std.proofs.lemmas.Bool.{cases_eq, cases_lt}
 use Rattle.std.proofs.lemmas.Bool.Decides.{nat_tests}
 use Rattle.std.proofs.lemmas.List.{take_more, get_or_push, get_or_append_left}
-use Rattle.std.proofs.lemmas.Grind.{common_steps}
-use Rattle.snap_route.specs.Graphs.{Adjacent, neighbours_of}
+use Rattle.std.proofs.lemmas.Grind.{common_steps, get_or_default_zero}
+use Rattle.snap_route.specs.Graphs.{Adjacent, IsGraph, neighbours_of}
 use Rattle.std.proofs.lemmas.List.Elements.{Contains-push_cases, Contains-get_or}
-use Rattle.snap_route.specs.Hops.{IsNearest, is_closer, HasDistance}
+use Rattle.snap_route.specs.Hops.{AreDistances, HasDistance, IsLeastNearer, IsNearest, NoneNearer}
 use Rattle.snap_route.specs.Tables.{Row, row_in}
-use Rattle.snap_route.proofs.Joined.{Contains-nil}
+use Rattle.snap_route.specs.Walks.{IsWalk}
 
--- the best of some switches, which is itself among all
-pub record IsBestOf (all some distances : List ℕ) (n : ℕ) : Type 0 where
-  pub member : Contains all n
-  pub nearest : (m : ℕ) → Contains some m → slice_index distances n ≤ slice_index distances m
-  pub least : (m : ℕ) → Contains some m → slice_index distances m ≡ slice_index distances n → n ≤ m
+-- none of the first i switches is nearer than d
+abbrev pub NoneBefore : (ms distances : List ℕ) (d i : ℕ) → Type 0
+NoneBefore ms distances d i = (k : ℕ) → k < i → d ≤ slice_index distances (slice_index ms k)
 
--- what the test says of two distances
-closer : (x y a b : ℕ) (t : Bool) → (nat_lt x y || ((x == y) && nat_lt a b)) ≡ t → (t ≡ true) → (x ≤ y) × (x ≡ y → a < b)
-closer x y a b t is yes' = (grind (arith, nat_tests), λ e. grind (arith, nat_tests))
+pub NoneBefore-more : (ms distances : List ℕ) (d i x : ℕ) → x ≡ slice_index ms i → d ≤ slice_index distances x → NoneBefore ms distances d i → NoneBefore ms distances d (i + 1)
+NoneBefore-more ms distances d i x is far before k lt = elim (cases_eq k i) [
+  | inl same ↦ subst (λ (w : ℕ). d ≤ slice_index distances w) (is ∙ ap (slice_index ms) (sym same)) far
+  | inr other ↦ before k (omega arith)
+]
 
-further : (x y a b : ℕ) (t : Bool) → (nat_lt x y || ((x == y) && nat_lt a b)) ≡ t → (t ≡ false) → (y ≤ x) × (x ≡ y → b ≤ a)
-further x y a b t is no' = (grind (arith, nat_tests), λ e. grind (arith, nat_tests))
+-- the value at an index where a list contains it
+at-index : (ms : List ℕ) (m : ℕ) (h : Contains ms m) → slice_index ms h.0 ≡ m
+at-index ms m h = sym (get_or_default_zero ms h.0 m h.1) ∙ h.2
 
-pub IsBestOf-closer : (all distances : List ℕ) (i n new : ℕ) → i < length all → is_closer distances (get_or all i 0) n ≡ true → new ≡ get_or all i 0 → IsBestOf all (take i all) distances n → IsBestOf all (take (i + 1) all) distances new
-IsBestOf-closer all distances i n new lt is same best =
-    let x = get_or all i 0 in
-    let said = closer (slice_index distances x) (slice_index distances n) x n (is_closer distances x n) refl is in
-    let near = said.0 in
-    let cases : (m : ℕ) → Contains (take (i + 1) all) m → Contains (take i all) m ⊎ (x ≡ m) = λ m h. Contains-push_cases (take i all) x m (subst (λ (ys : List ℕ). Contains ys m) (take_more all i 0 lt) h) in
-    subst (λ (w : ℕ). IsBestOf all (take (i + 1) all) distances w) (sym same) (record {
-      member = Contains-get_or all i 0 lt;
-      nearest = λ m h. elim (cases m h) [ inl before ↦ omega (arith, best.nearest m before) | inr now ↦ subst (λ (w : ℕ). slice_index distances x ≤ slice_index distances w) now (omega arith) ];
-      least = λ m h e. elim (cases m h) [
-        | inl before ↦ let low = best.nearest m before in let tie : slice_index distances x ≡ slice_index distances n = omega arith in
-            let under = said.1 tie in omega (arith, best.least m before (e ∙ tie))
-        | inr now ↦ omega arith
-      ];
-    })
+pub NoneNearer-all : (ms distances : List ℕ) (d i : ℕ) → length ms ≤ i → NoneBefore ms distances d i → NoneNearer ms distances d
+NoneNearer-all ms distances d i all before m h =
+    subst (λ (w : ℕ). d ≤ slice_index distances w) (at-index ms m h) (before h.0 (let lt = h.1 in omega arith))
 
-pub IsBestOf-further : (all distances : List ℕ) (i n new : ℕ) → i < length all → is_closer distances (get_or all i 0) n ≡ false → new ≡ n → IsBestOf all (take i all) distances n → IsBestOf all (take (i + 1) all) distances new
-IsBestOf-further all distances i n new lt is same best =
-    let x = get_or all i 0 in
-    let said = further (slice_index distances x) (slice_index distances n) x n (is_closer distances x n) refl is in
-    let near = said.0 in
-    let cases : (m : ℕ) → Contains (take (i + 1) all) m → Contains (take i all) m ⊎ (x ≡ m) = λ m h. Contains-push_cases (take i all) x m (subst (λ (ys : List ℕ). Contains ys m) (take_more all i 0 lt) h) in
-    subst (λ (w : ℕ). IsBestOf all (take (i + 1) all) distances w) (sym same) (record {
-      member = best.member;
-      nearest = λ m h. elim (cases m h) [ inl before ↦ best.nearest m before | inr now ↦ subst (λ (w : ℕ). slice_index distances n ≤ slice_index distances w) now near ];
-      least = λ m h e. elim (cases m h) [ inl before ↦ best.least m before e | inr now ↦ subst (λ (w : ℕ). n ≤ w) now (said.1 (ap (slice_index distances) now ∙ e)) ];
-    })
+-- in order, the first that is nearer is the one of least number
+pub IsLeastNearer-first : (ms distances : List ℕ) (d i x : ℕ) → i < length ms → x ≡ slice_index ms i → IsNonDecreasing ms → slice_index distances x < d → NoneBefore ms distances d i → IsLeastNearer ms distances d x
+IsLeastNearer-first ms distances d i x lt is rise near before = record {
+  member = subst (λ (w : ℕ). Contains ms w) (sym is) (Contains-get_or ms i 0 lt);
+  nearer = near;
+  least = λ m h nearer. elim (cases_lt h.0 i) [
+    | inl early ↦ absurd (omega (arith, before h.0 early, ap (slice_index distances) (at-index ms m h)))
+    | inr late ↦ omega (arith, rise i h.0 0 late h.1, at-index ms m h)
+  ];
+}
 
 -- ---- the greatest distance
 pub greatest-more : (ds : List ℕ) (i most new : ℕ) → i < length ds → new ≡ max most (get_or ds i 0) → (most ≡ 0) ⊎ Contains ds most → ((d : ℕ) → Contains (take i ds) d → d ≤ most)
@@ -89,20 +78,43 @@ pub take-all : {X : Type 0} (xs : List X) (i : ℕ) → length xs ≤ i → take
 take-all xs i all = grind (arith, common_steps)
 
 -- ---- next hops
-pub nearest-of : (o : Option ℕ) (ns distances : List ℕ) (target : ℕ) → MatchOption o (ns ≡ []) (IsNearest ns distances) → (m : ℕ) → Contains ns m → IsNearest ns distances (unwrap_or o target)
-nearest-of (Some n) ns distances target is m h = is
-nearest-of None ns distances target is m h = absurd (Contains-nil m (subst (λ (xs : List ℕ). Contains xs m) is h))
+-- a neighbour is at most one nearer
+neighbour-far : (graph : List (List ℕ)) (target : ℕ) (distances : List ℕ) (a m : ℕ) → IsGraph graph → AreDistances graph target distances → a < length graph → Adjacent graph a m → slice_index distances a ≤ slice_index distances m + 1
+neighbour-far graph target distances a m g ds lt step =
+    let on = (ds.each m (g.below a m step)).walk in
+    omega (arith, on.1.0, (ds.each a lt).least (m ∷ on.0) (step, on.1.1))
 
-pub nexts-more : (graph : List (List ℕ)) (distances nexts new : List ℕ) (n next : ℕ) → length nexts ≡ n → new ≡ nexts ++ next ∷ [] → ((a m : ℕ) → a < n → Adjacent graph a m → IsNearest (neighbours_of graph a) distances (slice_index nexts a))
-    → ((m : ℕ) → Adjacent graph n m → IsNearest (neighbours_of graph n) distances next) → (a m : ℕ) → a < n + 1 → Adjacent graph a m → IsNearest (neighbours_of graph a) distances (slice_index new a)
-nexts-more graph distances nexts new n next count is before now a m lt step =
+-- the first step of a walk to another switch, and what is left of it
+first-step : (step : ℕ → ℕ → Type 0) (xs : List ℕ) (a b : ℕ) → a ≢ b → IsWalk step a xs b → (m : ℕ) × (step a m × ((ys : List ℕ) × (IsWalk step m ys b × (length ys < length xs))))
+first-step step [] a b apart walk = absurd (apart walk)
+first-step step (x ∷ xs) a b apart walk = (x, (walk.0, (xs, (walk.1, omega arith))))
+
+-- of another switch than the target some neighbour is nearer
+some-nearer : (graph : List (List ℕ)) (target : ℕ) (distances : List ℕ) (a : ℕ) → IsGraph graph → AreDistances graph target distances → a < length graph → a ≢ target → NoneNearer (neighbours_of graph a) distances (slice_index distances a) → ⊥
+some-nearer graph target distances a g ds lt apart none =
+    let way = (ds.each a lt).walk in
+    let first = first-step (Adjacent graph) way.0 a target apart way.1.1 in
+    omega (arith, way.1.0, first.1.1.1.1, (ds.each first.0 (g.below a first.0 first.1.0)).least first.1.1.0 first.1.1.1.0, none first.0 first.1.0)
+
+pub next-nearest : (graph : List (List ℕ)) (target : ℕ) (distances : List ℕ) (a : ℕ) (o : Option ℕ) → IsGraph graph → AreDistances graph target distances → a < length graph
+    → MatchOption o (NoneNearer (neighbours_of graph a) distances (slice_index distances a)) (IsLeastNearer (neighbours_of graph a) distances (slice_index distances a)) → a ≢ target → IsNearest (neighbours_of graph a) distances (unwrap_or o target)
+next-nearest graph target distances a (Some n) g ds lt is apart = record {
+  member = is.member;
+  nearest = λ m h. omega (arith, is.nearer, neighbour-far graph target distances a m g ds lt h);
+  least = λ m h tie. is.least m h (omega (arith, tie, is.nearer));
+}
+next-nearest graph target distances a None g ds lt is apart = absurd (some-nearer graph target distances a g ds lt apart is)
+
+pub nexts-more : (graph : List (List ℕ)) (target : ℕ) (distances nexts new : List ℕ) (n next : ℕ) → length nexts ≡ n → new ≡ nexts ++ next ∷ [] → ((a : ℕ) → a < n → a ≢ target → IsNearest (neighbours_of graph a) distances (slice_index nexts a))
+    → (n ≢ target → IsNearest (neighbours_of graph n) distances next) → (a : ℕ) → a < n + 1 → a ≢ target → IsNearest (neighbours_of graph a) distances (slice_index new a)
+nexts-more graph target distances nexts new n next count is before now a lt apart =
     elim (cases_eq a n) [
       | inl same ↦ let at : slice_index new a ≡ next = ap (λ (xs : List ℕ). slice_index xs a) is ∙ get_or_push nexts next 0 a (count ∙ sym same) in
           subst (λ (x : ℕ). IsNearest (neighbours_of graph a) distances x) (sym at)
-          (subst (λ (b : ℕ). IsNearest (neighbours_of graph b) distances next) (sym same) (now m (subst (λ (b : ℕ). Adjacent graph b m) same step)))
+          (subst (λ (b : ℕ). IsNearest (neighbours_of graph b) distances next) (sym same) (now (λ here. apart (same ∙ here))))
       | inr other ↦ let low : a < length nexts = omega arith in
           let at : slice_index new a ≡ slice_index nexts a = ap (λ (xs : List ℕ). slice_index xs a) is ∙ get_or_append_left nexts (next ∷ []) 0 a low in
-          subst (λ (x : ℕ). IsNearest (neighbours_of graph a) distances x) (sym at) (before a m (omega arith) step)
+          subst (λ (x : ℕ). IsNearest (neighbours_of graph a) distances x) (sym at) (before a (omega arith) apart)
     ]
 
 pub ord_max-max : (a b : ℕ) → ord_max nat_cmp a b ≡ max a b

@@ -1,12 +1,12 @@
 -- Steps of a search by levels.
-use Rattle.std.proofs.Common.{◌≡◌, ◌∙◌, inl, inr, ℕ, ◌+◌, ◌<◌, Bool, true, false, cond, List, [], ◌∷◌, ◌++◌, length, get_or, set, take, Option, Some, None, IsSome, is_some, is_none, refl, sym, ap, subst, arith, get_or-set_same, get_or-set_other, length-append, append-nil}
+use Rattle.std.proofs.Common.{◌≡◌, ◌∙◌, inl, inr, ℕ, ◌+◌, ◌<◌, ◌≤◌, Bool, true, false, cond, List, [], ◌∷◌, ◌++◌, length, get_or, set, take, Option, Some, None, IsSome, is_some, is_none, refl, sym, ap, subst, arith, get_or-set_same, get_or-set_other, length-append, append-nil}
 use Rattle.std.specs.List.{All, Contains, flat_map}
 use Rattle.std.proofs.lemmas.Bool.{cases_eq}
 use Rattle.std.proofs.lemmas.List.{get_or_read, length-set, take_more}
 use Rattle.std.proofs.lemmas.Grind.{flat_map-append}
 use Rattle.snap_route.specs.Graphs.{IsGraph, neighbours_of}
-use Rattle.std.proofs.lemmas.List.Sums.{sum_by-set}
-use Rattle.std.proofs.lemmas.List.Elements.{All-weaker, All-contains_itself, Contains-append_left, Contains-append_right, Contains-append_cases}
+use Rattle.std.proofs.lemmas.List.Sums.{get_or-le-sum_by, sum_by-set}
+use Rattle.std.proofs.lemmas.List.Elements.{All-weaker, All-contains, All-contains_itself, Contains-append_left, Contains-append_right, Contains-append_cases}
 use Rattle.snap_route.specs.Search.{distance_in, unreached, Reaches}
 use Rattle.snap_route.proofs.Joined.{Contains-one, Contains-only}
 
@@ -90,7 +90,7 @@ Reaches-fresh x d ds level lt is = record {
   fewer = omega (arith, unreached-set x d ds lt is, length-append level (x ∷ []));
 }
 
-reaches-as : (vs : List ℕ) (d : ℕ) (a b b' : List (Option ℕ)) (l m m' : List ℕ) → b' ≡ b → m' ≡ m → Reaches vs d a b l m → Reaches vs d a b' l m'
+pub reaches-as : (vs : List ℕ) (d : ℕ) (a b b' : List (Option ℕ)) (l m m' : List ℕ) → b' ≡ b → m' ≡ m → Reaches vs d a b l m → Reaches vs d a b' l m'
 reaches-as vs d a b b' l m m' same also r = subst (λ (x : List (Option ℕ)). Reaches vs d a x l m') (sym same) (subst (λ (x : List ℕ). Reaches vs d a b l x) (sym also) r)
 
 -- one more switch of a list
@@ -123,3 +123,31 @@ neighbours_of-read graph x item ns lt is same = same ∙ get_or_read graph x ite
 pub neighbours_of-below : (graph : List (List ℕ)) (ds : List (Option ℕ)) (x : ℕ) (ns : List ℕ) → IsGraph graph → length ds ≡ length graph → ns ≡ neighbours_of graph x → All (λ v. v < length ds) ns
 neighbours_of-below graph ds x ns g count are = subst (λ (vs : List ℕ). All (λ v. v < length ds) vs) (sym are)
     (All-weaker (Contains (neighbours_of graph x)) (λ v. v < length ds) (λ v h. let low = g.below x v h in omega arith) (neighbours_of graph x) (All-contains_itself (neighbours_of graph x)))
+
+-- where all are reached, a level more changes nothing
+known-of-all : (ds : List (Option ℕ)) (v : ℕ) → unreached ds ≡ 0 → v < length ds → IsSome (distance_in ds v)
+known-of-all ds v none lt = by (distance_in ds v) (get_or-le-sum_by (λ (o : Option ℕ). cond (is_none o) 1 0) ds v None lt)
+  where
+    by : (o : Option ℕ) → cond (is_none o) 1 0 ≤ unreached ds → IsSome o
+    by (Some d) low = refl
+    by None low = let one : 1 ≤ unreached ds = low in absurd (omega (arith, none))
+
+Reaches-idle : (vs : List ℕ) (d : ℕ) (ds : List (Option ℕ)) (level : List ℕ) → unreached ds ≡ 0 → All (λ v. v < length ds) vs → Reaches vs d ds ds level level
+Reaches-idle vs d ds level none below = record {
+  count = refl;
+  kept = λ v k e. e;
+  fresh = λ v k e. inl e;
+  reached = λ v h. known-of-all ds v none (All-contains (λ w. w < length ds) vs v below h);
+  held = λ v h. h;
+  added = λ v h. inl h;
+  fewer = refl;
+}
+
+pub reach-idle : (graph : List (List ℕ)) (level : List ℕ) (i d left : ℕ) (old now new : List (Option ℕ)) (m n : List ℕ) → IsGraph graph → i < length level → length old ≡ length graph → unreached old ≤ left → left ≤ length m → new ≡ now → n ≡ m
+    → Reaches (flat_map (neighbours_of graph) (take i level)) d old now [] m → Reaches (flat_map (neighbours_of graph) (take (i + 1) level)) d old new [] n
+reach-idle graph level i d left old now new m n g lt count few all put more one =
+    let x = get_or level i 0 in
+    let ns = neighbours_of graph x in
+    let size : length now ≡ length graph = one.count ∙ count in
+    let idle = Reaches-idle ns d now m (omega (arith, one.fewer)) (neighbours_of-below graph now x ns g size refl) in
+    reach-level graph level i x d ns old now new [] m n lt refl refl one (reaches-as ns d now now new m m n put more idle)

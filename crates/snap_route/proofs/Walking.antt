@@ -1,6 +1,7 @@
 -- Walks back, and by other steps.
-use Rattle.std.proofs.Common.{◌≡◌, ◌∙◌, ◌≢◌, ◌⊎◌, ◌↔◌, inl, inr, ℕ, zero, suc, ◌+◌, ◌<◌, ◌≤◌, List, [], ◌∷◌, ◌++◌, length, map, Option, Some, None, IsSome, is_some, MatchOption, refl, sym, ap, subst, arith, slice_index}
+use Rattle.std.proofs.Common.{◌≡◌, ◌∙◌, ◌⊎◌, ◌↔◌, inl, inr, ℕ, zero, suc, ◌+◌, ◌<◌, ◌≤◌, List, [], ◌∷◌, ◌++◌, length, map, Option, Some, None, IsSome, is_some, MatchOption, refl, sym, ap, subst, arith, slice_index}
 use Rattle.std.specs.List.{Contains}
+use Rattle.std.specs.List.Sorted.{IsNonDecreasing}
 use Rattle.std.proofs.lemmas.Bool.{cases_eq, cases_lt}
 use Rattle.std.proofs.lemmas.List.{get_or_append_left, get_or_push, get_or_read, length-map}
 use Rattle.std.proofs.lemmas.List.Elements.{Contains-get_or, All-from_get_or, All-contains}
@@ -157,10 +158,11 @@ link-cause step other by back n m (Unreachable a b) same is = apart-by step othe
 link-cause step other by back n m NoMemory same is = tt
 
 -- ---- the whole
--- the lists of neighbours of a topology in form
+-- the lists of neighbours of a topology in form, in order
 pub record AreNeighbours (t : Topology) (graph : List (List ℕ)) : Type 0 where
   pub count : length graph ≡ length t.switches
   pub linked : (a m : ℕ) → a < length t.switches → Adjacent graph a m ↔ Linked t.links a m
+  pub rise : (a : ℕ) → a < length t.switches → IsNonDecreasing (neighbours_of graph a)
 
 link-below : (t : Topology) → IsInForm t → (a b : ℕ) → Linked t.links a b → (a < length t.switches) × (b < length t.switches)
 link-below t form a b (inl h) = let link = All-contains (IsLink (length t.switches)) t.links (a, b) form.links h in let lt = link.lesser in let low = link.below in (omega arith, low)
@@ -191,6 +193,7 @@ pub IsGraph-from : (t : Topology) (graph : List (List ℕ)) → IsInForm t → A
 IsGraph-from t graph form are = record {
   below = λ a m step. (let low = (link-below t form a m (to-link t graph are a m step)).1 in let count = are.count in omega arith);
   both_ways = λ a m step. from-link t graph form are m a (linked-back t.links a m (to-link t graph are a m step));
+  rise = λ a lt. are.rise a (let count = are.count in omega arith);
   few = (let count = are.count in let few = form.switches in omega arith);
 }
 
@@ -206,11 +209,6 @@ next-from t graph target a n distances form are ds best =
       least = λ m d link near also. (let step = from-link t graph form are a m link in best.least m step (sym (at m d step also) ∙ at n d best.member near));
     }
 
--- the first step of a walk between two switches
-some-step : (step : ℕ → ℕ → Type 0) (xs : List ℕ) (a b : ℕ) → a ≢ b → IsWalk step a xs b → (m : ℕ) × step a m
-some-step step [] a b apart walk = absurd (apart walk)
-some-step step (x ∷ xs) a b apart walk = (x, walk.0)
-
 pub routes-from : (t : Topology) (graph : List (List ℕ)) (table : Table) → IsInForm t → AreNeighbours t graph → length table.rows ≡ length graph → ((b : ℕ) → b < length graph → IsToward graph b (row_in table.rows b))
     → (table.diameter ≡ 0) ⊎ HasDistance table.rows table.diameter → ((d : ℕ) → HasDistance table.rows d → d ≤ table.diameter) → AreRoutes t table
 routes-from t graph table form are count rows reached bound =
@@ -225,8 +223,7 @@ routes-from t graph table form are count rows reached bound =
       distances = distances;
       nexts = λ a b low also apart. (
           let row = rows b (omega arith) in
-          let first = some-step (Linked t.links) (distances a b low also).walk.0 a b apart (distances a b low also).walk.1.1 in
-          next-from t graph b a (next_of table a b) (row_in table.rows b).distances form are row.distances (row.nexts a first.0 (omega arith) (from a first.0 first.1)));
+          next-from t graph b a (next_of table a b) (row_in table.rows b).distances form are row.distances (row.nexts a (omega arith) apart));
       diameter = record {
         reached = elim reached [
           | inl zero' ↦ (0, (0, (form.some, (form.some, record { walk = ([], (sym zero', refl)); least = λ xs walk. omega arith }))))
@@ -253,10 +250,11 @@ square-from graph table count rows = record {
 }
 
 pub are-neighbours : (t : Topology) (graph : List (List ℕ)) (names : List (List ℕ)) (links : List (ℕ × ℕ)) → names ≡ t.switches → links ≡ t.links → length graph ≡ length names
-    → ((a m : ℕ) → a < length names → Adjacent graph a m ↔ Linked links a m) → AreNeighbours t graph
-are-neighbours t graph names links same also count linked =
+    → ((a m : ℕ) → a < length names → Adjacent graph a m ↔ Linked links a m) → ((a : ℕ) → a < length names → IsNonDecreasing (neighbours_of graph a)) → AreNeighbours t graph
+are-neighbours t graph names links same also count linked rise =
     let size : length names ≡ length t.switches = ap (λ (ns : List (List ℕ)). length ns) same in
     record {
       count = count ∙ size;
       linked = λ a m lt. subst (λ (ls : List (ℕ × ℕ)). Adjacent graph a m ↔ Linked ls a m) also (linked a m (omega arith));
+      rise = λ a lt. rise a (omega arith);
     }

@@ -1,5 +1,5 @@
 -- Next hops over a list of distances to one target.
-use Rattle.std.specs.Prelude.{◌≡◌, ◌≤◌, ◌<◌, ℕ, Bool, ◌==◌, ◌&&◌, ◌||◌, nat_lt, List, length, Option, None, IsSome, Contains, slice_index}
+use Rattle.std.specs.Prelude.{◌≡◌, ◌≢◌, ◌≤◌, ◌<◌, ℕ, List, length, Option, None, IsSome, Contains, slice_index}
 use Rattle.snap_route.specs.Graphs.{Adjacent, neighbours_of}
 use Rattle.snap_route.specs.Search.{distance_in}
 use Rattle.snap_route.specs.Tables.{Row, row_in}
@@ -16,9 +16,19 @@ pub record AreDistances (graph : List (List ℕ)) (target : ℕ) (distances : Li
   pub count : length distances ≡ length graph
   pub each : (v : ℕ) → v < length graph → IsDistance (Adjacent graph) v target (slice_index distances v)
 
--- whether a is nearer than b, or of lesser number where both are as near
-abbrev pub is_closer : List ℕ → ℕ → ℕ → Bool
-is_closer distances a b = nat_lt (slice_index distances a) (slice_index distances b) || ((slice_index distances a == slice_index distances b) && nat_lt a b)
+-- n is of least number among those of ms that are nearer than d
+pub record IsLeastNearer (ms distances : List ℕ) (d n : ℕ) : Type 0 where
+  pub member : Contains ms n
+  pub nearer : slice_index distances n < d
+  pub least : (m : ℕ) → Contains ms m → slice_index distances m < d → n ≤ m
+
+-- none of ms is nearer than d
+abbrev pub NoneNearer : (ms distances : List ℕ) → ℕ → Type 0
+NoneNearer ms distances d = (m : ℕ) → Contains ms m → d ≤ slice_index distances m
+
+-- from each switch but the target the next hop is its nearest neighbour
+abbrev pub AreNexts : (graph : List (List ℕ)) (target : ℕ) (distances nexts : List ℕ) → Type 0
+AreNexts graph target distances nexts = (a : ℕ) → a < length graph → a ≢ target → IsNearest (neighbours_of graph a) distances (slice_index nexts a)
 
 -- v is the first switch that was not reached
 pub record IsFirstUnreached (ds : List (Option ℕ)) (v : ℕ) : Type 0 where
@@ -36,7 +46,7 @@ pub record IsFirstAway (graph : List (List ℕ)) (target v : ℕ) : Type 0 where
 pub record IsToward (graph : List (List ℕ)) (target : ℕ) (row : Row) : Type 0 where
   pub distances : AreDistances graph target row.distances
   pub count : length row.nexts ≡ length graph
-  pub nexts : (a m : ℕ) → a < length graph → Adjacent graph a m → IsNearest (neighbours_of graph a) row.distances (slice_index row.nexts a)
+  pub nexts : AreNexts graph target row.distances row.nexts
 
 -- some row has the distance
 pub record HasDistance (rows : List Row) (d : ℕ) : Type 0 where

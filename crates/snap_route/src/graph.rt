@@ -1,14 +1,15 @@
 //! A topology as the list of each switch's neighbours.
 
 ghost use Rattle.std.specs.Prelude.{◌≡◌, ◌<◌, ◌↔◌, ℕ, Contains, IfOk, length};
-ghost use Rattle.snap_route.specs.Graphs.{Adjacent};
+ghost use Rattle.std.specs.List.Sorted.{IsNonDecreasing};
+ghost use Rattle.snap_route.specs.Graphs.{Adjacent, neighbours_of};
 ghost use Rattle.snap_route.specs.Walks.{Linked};
 
 use snap_core::NoMemory;
 use std::alloc::Global;
 use std::marker::Model;
 
-/// The neighbours of a switch.
+/// The neighbours of a switch, in order.
 #[derive(Drop)]
 pub(crate) struct Neighbours {
     switches: Vec<u16>,
@@ -30,9 +31,10 @@ impl Neighbours {
     }
 }
 
-/// The switches to which links join a switch.
+/// The switches to which links join a switch, in order.
 fn neighbours_of(alloc: Global, links: &[(u16, u16)], switch: u16) -> Result<Neighbours, NoMemory>
-    ensures { IfOk result (λ ms. (m : ℕ) → Contains ms m ↔ Linked links.now switch m) }
+    ensures linked { IfOk result (λ ms. (m : ℕ) → Contains ms m ↔ Linked links.now switch m) }
+    ensures rise { IfOk result (λ ms. IsNonDecreasing ms) }
 {
     let mut switches = Vec::new(alloc);
     for (a, b) in links {
@@ -43,6 +45,7 @@ fn neighbours_of(alloc: Global, links: &[(u16, u16)], switch: u16) -> Result<Nei
             switches.push(*a)?;
         }
     }
+    switches.sort_unstable();
     Ok(Neighbours { switches })
 }
 
@@ -54,6 +57,7 @@ pub(crate) fn graph(
 ) -> Result<Vec<Neighbours>, NoMemory>
     ensures count { IfOk result (λ graph. length graph.items ≡ count) }
     ensures linked { IfOk result (λ graph. (a m : ℕ) → a < count → Adjacent graph.items a m ↔ Linked links.now a m) }
+    ensures rise { IfOk result (λ graph. (a : ℕ) → a < count → IsNonDecreasing (neighbours_of graph.items a)) }
 {
     let mut graph = Vec::with_capacity(alloc, count as usize)?;
     for switch in 0..count {

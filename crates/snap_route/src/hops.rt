@@ -1,38 +1,32 @@
 //! Next hops towards a switch.
 
-ghost use Rattle.std.specs.Prelude.{◌≡◌, ◌⊎◌, ◌<◌, ◌≤◌, ℕ, Contains, IfOk, MatchOption, [], length, slice_index_or};
-ghost use Rattle.snap_route.specs.Graphs.{Adjacent, IsGraph, neighbours_of};
-ghost use Rattle.snap_route.specs.Hops.{HasDistance, IsNearest, is_closer};
+ghost use Rattle.std.specs.Prelude.{◌≡◌, ◌⊎◌, ◌<◌, ◌≤◌, ℕ, Contains, IfOk, MatchOption, length};
+ghost use Rattle.std.specs.List.Sorted.{IsNonDecreasing};
+ghost use Rattle.snap_route.specs.Graphs.{IsGraph};
+ghost use Rattle.snap_route.specs.Hops.{AreDistances, AreNexts, HasDistance, IsLeastNearer, NoneNearer};
 
 use crate::graph::Neighbours;
 use crate::table::Toward;
 use snap_core::NoMemory;
 use std::alloc::Global;
 
-fn is_closer(distances: &[u32], a: u16, b: u16) -> bool
-    requires first { a < length distances.now }
-    requires second { b < length distances.now }
-    ensures { result ≡ is_closer distances.now a b }
+/// Of some switches in order the first that is nearer than a distance.
+fn first_nearer(switches: &[u16], distances: &[u32], distance: u32) -> Option<u16>
+    requires below { (m : ℕ) → Contains switches.now m → m < length distances.now }
+    requires rise { IsNonDecreasing switches.now }
+    ensures { MatchOption result (NoneNearer switches.now distances.now distance) (IsLeastNearer switches.now distances.now distance) }
 {
-    let (near, far) = (distances[a as usize], distances[b as usize]);
-    near < far || (near == far && a < b)
-}
-
-/// The nearest of some switches, and the one of least number among the nearest.
-fn nearest(switches: &[u16], distances: &[u32]) -> Option<u16>
-    requires { (m : ℕ) → Contains switches.now m → m < length distances.now }
-    ensures { MatchOption result (switches.now ≡ []) (IsNearest switches.now distances.now) }
-{
-    let mut best = *switches.first()?;
     for switch in switches {
-        if is_closer(distances, *switch, best) {
-            best = *switch;
+        if distances[*switch as usize] < distance {
+            return Some(*switch);
         }
     }
-    Some(best)
+    None
 }
 
-/// The next hop of each switch; a switch without neighbours has the target itself.
+/// The next hop of each switch towards the target, and that of the target itself.
+///
+/// Neighbours differ by at most one in their distances, so the first that is nearer is the nearest.
 pub(crate) fn next_hops(
     alloc: Global,
     graph: &[Neighbours],
@@ -40,13 +34,13 @@ pub(crate) fn next_hops(
     target: u16,
 ) -> Result<Vec<u16>, NoMemory>
     requires graph { IsGraph graph.now }
-    requires count { length distances.now ≡ length graph.now }
+    requires distances { AreDistances graph.now target distances.now }
     ensures count { IfOk result (λ nexts. length nexts.items ≡ length graph.now) }
-    ensures nexts { IfOk result (λ nexts. (a m : ℕ) → a < length graph.now → Adjacent graph.now a m → IsNearest (neighbours_of graph.now a) distances.now (slice_index_or nexts.items a 0)) }
+    ensures nexts { IfOk result (λ nexts. AreNexts graph.now target distances.now nexts.items) }
 {
     let mut nexts = Vec::with_capacity(alloc, graph.len())?;
-    for neighbours in graph {
-        let next = nearest(neighbours.items(), distances).unwrap_or(target);
+    for (at, neighbours) in graph.iter().enumerate() {
+        let next = first_nearer(neighbours.items(), distances, distances[at]).unwrap_or(target);
         nexts.push(next)?;
     }
     Ok(nexts)

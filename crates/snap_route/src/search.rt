@@ -1,9 +1,9 @@
 //! The distances to a switch, by levels.
 
-ghost use Rattle.std.specs.Prelude.{◌≡◌, ◌<◌, ◌+◌, ◌^◌, ℕ, [], All, Contains, IfOk, length};
+ghost use Rattle.std.specs.Prelude.{◌≡◌, ◌<◌, ◌≤◌, ◌+◌, ◌^◌, ℕ, [], All, Contains, IfOk, length};
 ghost use Rattle.std.specs.List.{flat_map};
 ghost use Rattle.snap_route.specs.Graphs.{IsGraph, neighbours_of};
-ghost use Rattle.snap_route.specs.Search.{Reaches, Settles};
+ghost use Rattle.snap_route.specs.Search.{Reaches, Settles, unreached};
 
 use crate::graph::Neighbours;
 use snap_core::NoMemory;
@@ -29,23 +29,28 @@ fn reach(
     Ok(())
 }
 
-/// Reaches the switches next to a level, and gives them as the next level.
+/// Reaches the switches next to a level, and gives them as the next level. Of the others at most `left` are not
+/// reached, so once there are as many in the next level no more is looked for.
 fn next_level(
     alloc: Global,
     graph: &[Neighbours],
     level: &[u16],
     distance: u32,
+    left: usize,
     distances: &mut [Option<u32>],
 ) -> Result<Vec<u16>, NoMemory>
     requires graph { IsGraph graph.now }
     requires count { length distances.old ≡ length graph.now }
     requires level { (v : ℕ) → Contains level.now v → v < length graph.now }
+    requires left { unreached distances.old ≤ left }
     ensures { IfOk result (λ next. Reaches (flat_map (neighbours_of graph.now) level.now) distance distances.old distances.new [] next.items) }
 {
-    let mut next = Vec::new(alloc);
+    let mut next = Vec::with_capacity(alloc, graph.len())?;
     for switch in level {
-        let switches = graph[*switch as usize].items();
-        reach(switches, distance, distances, &mut next)?;
+        if next.len() < left {
+            let switches = graph[*switch as usize].items();
+            reach(switches, distance, distances, &mut next)?;
+        }
     }
     Ok(next)
 }
@@ -61,18 +66,22 @@ pub(crate) fn distances_to(
     ensures { IfOk result (λ ds. Settles graph.now target ds.items) }
 {
     let mut distances = vec![in alloc; None; graph.len()]?;
-    let mut level = Vec::new(alloc);
+    let mut level = Vec::with_capacity(alloc, graph.len())?;
     let mut distance = 0;
     reach(&[target], distance, distances.as_mut_slice(), &mut level)?;
+    let mut left = graph.len() - level.len();
     'levels: while !level.is_empty() {
         distance += 1;
-        level = next_level(
+        let next = next_level(
             alloc,
             graph,
             level.as_slice(),
             distance,
+            left,
             distances.as_mut_slice(),
         )?;
+        left -= next.len();
+        level = next;
     }
     Ok(distances)
 }

@@ -1,5 +1,6 @@
 use Rattle.std.proofs.Common.{◌≡◌, ◌<◌, ◌↔◌, ℕ, length}
-use Rattle.snap_route.specs.Graphs.{Adjacent}
+use Rattle.std.specs.List.Sorted.{IsNonDecreasing}
+use Rattle.snap_route.specs.Graphs.{Adjacent, neighbours_of}
 use Rattle.snap_route.specs.Walks.{Linked}
 use Rattle.snap_route.proofs.graph.graph.Given as goal
 
@@ -8,4 +9,5 @@ abbrev pub invariant-loop-switch : goal.invariant-loop-switch
 invariant-loop-switch l = record {
   count : length l.graph.items ≡ l.switch;
   linked : (a m : ℕ) → a < l.switch → Adjacent l.graph.items a m ↔ Linked l.links a m;
+  rise : (a : ℕ) → a < l.switch → IsNonDecreasing (neighbours_of l.graph.items a);
 }

@@ -1,25 +1,36 @@
-use Rattle.std.proofs.Common.{◌≡◌, ◌∙◌, ◌∷◌, [], ℕ, List, ap, subst, sym, arith, length, length-append, MatchOption}
+use Rattle.std.proofs.Common.{◌∙◌, ◌∷◌, [], ℕ, List, ap, subst, sym, arith, length, length-append, MatchOption, slice_index}
 use Rattle.std.specs.List.{Contains}
-use Rattle.snap_route.specs.Hops.{IsNearest}
+use Rattle.std.specs.List.Sorted.{IsNonDecreasing}
 use Rattle.snap_route.specs.Graphs.{neighbours_of}
+use Rattle.snap_route.specs.Hops.{IsLeastNearer, IsNearest, NoneNearer}
 use Rattle.snap_route.proofs.Reaching.{neighbours_of-read}
-use Rattle.snap_route.proofs.Nearest.{nearest-of, nexts-more}
+use Rattle.snap_route.proofs.Nearest.{next-nearest, nexts-more}
 use Rattle.snap_route.proofs.hops.next_hops.Goals as goal
 
-pub nearest-requires : goal.nearest-requires
-nearest-requires c =
-    let are = neighbours_of-read c.args.graph.now c.loop-neighbours.neighbours-index c.neighbours-item.result c.items.result.now c.loop-neighbours-test.true c.neighbours-item.is c.items.ensures in
-    λ m h. let low = c.requires.graph.below c.loop-neighbours.neighbours-index m (subst (λ (xs : List ℕ). Contains xs m) are h) in omega (arith, low, c.requires.count)
+pub first_nearer-requires-clause-below : goal.first_nearer-requires-clause-below
+first_nearer-requires-clause-below c =
+    let are = neighbours_of-read c.args.graph.now c.loop-at.at c.index-graph-at.result c.items.result.now c.loop-at-test.true c.index-graph-at.is c.items.ensures in
+    λ m h. let low = c.requires.graph.below c.loop-at.at m (subst (λ (xs : List ℕ). Contains xs m) are h) in omega (arith, low, c.requires.distances.count)
 
-pub loop-neighbours-preserved : goal.loop-neighbours-preserved
-loop-neighbours-preserved c =
-    let are = neighbours_of-read c.args.graph.now c.loop-neighbours.neighbours-index c.neighbours-item.result c.items.result.now c.loop-neighbours-test.true c.neighbours-item.is c.items.ensures in
+pub first_nearer-requires-clause-rise : goal.first_nearer-requires-clause-rise
+first_nearer-requires-clause-rise c =
+    let are = neighbours_of-read c.args.graph.now c.loop-at.at c.index-graph-at.result c.items.result.now c.loop-at-test.true c.index-graph-at.is c.items.ensures in
+    subst (λ (xs : List ℕ). IsNonDecreasing xs) (sym are) (c.requires.graph.rise c.loop-at.at c.loop-at-test.true)
+
+pub loop-at-preserved : goal.loop-at-preserved
+loop-at-preserved c =
+    let graph = c.args.graph.now in
+    let distances = c.args.distances.now in
+    let a = c.loop-at.at in
+    let d = slice_index distances a in
+    let are = neighbours_of-read graph a c.index-graph-at.result c.items.result.now c.loop-at-test.true c.index-graph-at.is c.items.ensures in
+    let found = subst (λ (xs : List ℕ). MatchOption c.first_nearer.result (NoneNearer xs distances d) (IsLeastNearer xs distances d)) are c.first_nearer.ensures in
     record {
-      count = ap (λ (xs : List ℕ). length xs) c.in_ok-push.ensures.items ∙ omega (arith, length-append c.loop-neighbours.nexts.items (c.unwrap_or-next.result ∷ []), c.loop-neighbours.invariant.count);
-      nexts = nexts-more c.args.graph.now c.args.distances.now c.loop-neighbours.nexts.items c.push.new.self.items c.loop-neighbours.neighbours-index c.unwrap_or-next.result c.loop-neighbours.invariant.count c.in_ok-push.ensures.items c.loop-neighbours.invariant.nexts
-          (λ m step. subst (λ (n : ℕ). IsNearest (neighbours_of c.args.graph.now c.loop-neighbours.neighbours-index) c.args.distances.now n) (sym c.unwrap_or-next.ensures)
-          (nearest-of c.nearest.result (neighbours_of c.args.graph.now c.loop-neighbours.neighbours-index) c.args.distances.now c.args.target (subst (λ (xs : List ℕ). MatchOption c.nearest.result (xs ≡ []) (IsNearest xs c.args.distances.now)) are c.nearest.ensures) m step));
+      count = ap (λ (xs : List ℕ). length xs) c.in_ok-push.ensures.items ∙ omega (arith, length-append c.loop-at.nexts.items (c.unwrap_or-next.result ∷ []), c.loop-at.invariant.count);
+      nexts = nexts-more graph c.args.target distances c.loop-at.nexts.items c.push.new.self.items a c.unwrap_or-next.result c.loop-at.invariant.count c.in_ok-push.ensures.items c.loop-at.invariant.nexts
+          (λ apart. subst (λ (n : ℕ). IsNearest (neighbours_of graph a) distances n) (sym c.unwrap_or-next.ensures)
+          (next-nearest graph c.args.target distances a c.first_nearer.result c.requires.graph c.requires.distances c.loop-at-test.true found apart));
     }
 
 pub returns-clause-nexts : goal.returns-clause-nexts
-returns-clause-nexts c = λ a m lt. c.loop-neighbours.invariant.nexts a m (omega arith)
+returns-clause-nexts c = λ a lt. c.loop-at.invariant.nexts a (omega arith)

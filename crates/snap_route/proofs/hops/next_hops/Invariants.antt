@@ -1,11 +1,11 @@
-use Rattle.std.proofs.Common.{◌≡◌, ◌<◌, ℕ, length, slice_index_or}
-use Rattle.snap_route.specs.Graphs.{Adjacent, neighbours_of}
+use Rattle.std.proofs.Common.{◌≡◌, ◌≢◌, ◌<◌, ℕ, length, slice_index}
+use Rattle.snap_route.specs.Graphs.{neighbours_of}
 use Rattle.snap_route.specs.Hops.{IsNearest}
 use Rattle.snap_route.proofs.hops.next_hops.Given as goal
 
 -- the switches so far have their next hops
-abbrev pub invariant-loop-neighbours : goal.invariant-loop-neighbours
-invariant-loop-neighbours l = record {
-  count : length l.nexts.items ≡ l.neighbours-index;
-  nexts : (a m : ℕ) → a < l.neighbours-index → Adjacent l.graph a m → IsNearest (neighbours_of l.graph a) l.distances (slice_index_or l.nexts.items a 0);
+abbrev pub invariant-loop-at : goal.invariant-loop-at
+invariant-loop-at l = record {
+  count : length l.nexts.items ≡ l.at;
+  nexts : (a : ℕ) → a < l.at → a ≢ l.target → IsNearest (neighbours_of l.graph a) l.distances (slice_index l.nexts.items a);
 }

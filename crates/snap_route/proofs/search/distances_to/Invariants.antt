@@ -1,10 +1,14 @@
-use Rattle.std.proofs.Common.{◌+◌, length}
+use Rattle.std.proofs.Common.{◌≤◌, ◌+◌, length}
 use Rattle.snap_route.specs.Search.{unreached}
 use Rattle.snap_route.proofs.Levels.{Levels}
 use Rattle.snap_route.proofs.search.distances_to.Given as goal
 
+-- at most `left` are not reached
 abbrev pub invariant-levels : goal.invariant-levels
-invariant-levels l = Levels l.graph l.target l.distance l.distances.items l.level.items
+invariant-levels l = record {
+  levels : Levels l.graph l.target l.distance l.distances.items l.level.items;
+  left : unreached l.distances.items ≤ l.left;
+}
 
 -- each turn reaches a switch or leaves an empty level
 abbrev pub decreases-levels : goal.decreases-levels
