@@ -1,5 +1,5 @@
 -- One rank of a plan, and where it begins.
-use Rattle.std.proofs.Common.{◌≡◌, ◌∙◌, ℕ, ◌+◌, ◌*◌, ◌^◌, ◌<◌, ◌≤◌, List, [], All, length, slice_index, sym, ap, subst, arith}
+use Rattle.std.proofs.Common.{◌≡◌, ◌∙◌, ℕ, ◌+◌, ◌*◌, ◌^◌, ◌<◌, ◌≤◌, List, [], All, length, slice_index, sym, subst, arith}
 use Rattle.std.specs.List.{sum_by}
 use Rattle.std.proofs.Math.Nat.{mul-le-mul}
 use Rattle.std.proofs.lemmas.List.Elements.{All-contains, All-nil}
@@ -8,8 +8,8 @@ use Rattle.snap_seek.specs.declared.trips.End.{End}
 use Rattle.snap_seek.specs.declared.trips.End.TheVariants.{From, To}
 use Rattle.snap_seek.specs.declared.trips.Trip.{Trip}
 use Rattle.snap_seek.specs.Costs.{cost_from}
-use Rattle.snap_seek.specs.Steps.{AreNear, IsCheapest, IsPlan, IsRow, IsStage, end_of, leg, over}
-use Rattle.snap_seek.proofs.Bests.{cheapest-by, none-best}
+use Rattle.snap_seek.specs.Steps.{AreNear, IsCheapest, IsPlan, IsRow, IsStage, cost_over, end_of, leg}
+use Rattle.snap_seek.proofs.Bests.{none-best}
 use Rattle.snap_seek.proofs.Costing.{cost_from-none, sum_by-within, weight_of}
 use Rattle.snap_seek.proofs.Filling.{Fills}
 
@@ -35,22 +35,12 @@ fits-by a b is small = omega arith
 
 -- ---- one stage
 
-pub cheapest-leg : (routes : Table) (total n at next : ℕ) (allowed onward legs seen : List ℕ) → seen ≡ legs → All (λ m. m < n) allowed → ((y : ℕ) → y < n → slice_index legs y ≡ total * distance_of routes at y)
-    → IsCheapest (over seen onward) allowed next → IsCheapest (λ y. total * distance_of routes at y + slice_index onward y) allowed next
-cheapest-leg routes total n at next allowed onward legs seen is below each cheap =
-    cheapest-by (over seen onward) (λ (y : ℕ). total * distance_of routes at y + slice_index onward y) allowed next
-    (λ m h. ap (λ (xs : List ℕ). over xs onward m) is ∙ ap (λ (k : ℕ). k + slice_index onward m) (each m (All-contains (λ k. k < n) allowed m below h))) cheap
-
-pub cost-leg : (routes : Table) (total n at next : ℕ) (onward legs seen : List ℕ) → seen ≡ legs → next < n → ((y : ℕ) → y < n → slice_index legs y ≡ total * distance_of routes at y)
-    → over seen onward next ≡ total * distance_of routes at next + slice_index onward next
-cost-leg routes total n at next onward legs seen is lt each = ap (λ (xs : List ℕ). over xs onward next) is ∙ ap (λ (k : ℕ). k + slice_index onward next) (each next lt)
-
 pub cost-same : (cost : ℕ → ℕ) (allowed : List ℕ) (a b : ℕ) → IsCheapest cost allowed a → IsCheapest cost allowed b → cost a ≡ cost b
 cost-same cost allowed a b one other = let low = one.least b other.member in let high = other.least a one.member in omega arith
 
 pub stage-of : (routes : Table) (total n at : ℕ) (allowed onward nexts made costs : List ℕ) → at ≡ n → made ≡ nexts
-    → Fills (λ (x next : ℕ). IsCheapest (λ y. total * distance_of routes x y + slice_index onward y) allowed next) at nexts
-    → Fills (λ (x cost : ℕ). (m : ℕ) → IsCheapest (λ y. total * distance_of routes x y + slice_index onward y) allowed m → cost ≡ total * distance_of routes x m + slice_index onward m) at costs
+    → Fills (λ (x next : ℕ). IsCheapest (cost_over routes total onward x) allowed next) at nexts
+    → Fills (λ (x cost : ℕ). (m : ℕ) → IsCheapest (cost_over routes total onward x) allowed m → cost ≡ cost_over routes total onward x m) at costs
     → IsStage routes total n allowed onward made costs
 stage-of routes total n at allowed onward nexts made costs end is found priced =
     subst (λ (xs : List ℕ). IsStage routes total n allowed onward xs costs) (sym is) (record {

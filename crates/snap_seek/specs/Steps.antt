@@ -33,8 +33,16 @@ weighed f at (w ∷ ws) = w * f at + weighed f (at + 1) ws
 abbrev pub over : List ℕ → List ℕ → ℕ → ℕ
 over near onward at = slice_index near at + slice_index onward at
 
-abbrev pub is_cheaper : List ℕ → List ℕ → ℕ → ℕ → Bool
-is_cheaper near onward a b = nat_lt (over near onward a) (over near onward b) || ((over near onward a == over near onward b) && nat_lt a b)
+-- the cost of going from a switch on over another, where a unit of distance costs total
+abbrev pub cost_over : Table → ℕ → List ℕ → ℕ → ℕ → ℕ
+cost_over routes total onward at to = total * distance_of routes at to + slice_index onward to
+
+-- whether one switch comes before another, by their costs and then by number
+abbrev pub is_before : ℕ → ℕ → ℕ → ℕ → Bool
+is_before cost other_cost switch other = nat_lt cost other_cost || ((cost == other_cost) && nat_lt switch other)
+
+abbrev pub is_cheaper : (ℕ → ℕ) → ℕ → ℕ → Bool
+is_cheaper cost a b = is_before (cost a) (cost b) a b
 
 -- n costs least of some switches, and has the least number of those that cost least
 pub record IsCheapest (cost : ℕ → ℕ) (switches : List ℕ) (n : ℕ) : Type 0 where
@@ -68,8 +76,8 @@ path (nexts ∷ rest) at = slice_index nexts at ∷ path rest (slice_index nexts
 pub record IsStage (routes : Table) (total n : ℕ) (allowed onward nexts costs : List ℕ) : Type 0 where
   pub long : length nexts ≡ n
   pub count : length costs ≡ n
-  pub cheapest : (x : ℕ) → x < n → IsCheapest (λ y. total * distance_of routes x y + slice_index onward y) allowed (slice_index nexts x)
-  pub cost : (x : ℕ) → x < n → slice_index costs x ≡ total * distance_of routes x (slice_index nexts x) + slice_index onward (slice_index nexts x)
+  pub cheapest : (x : ℕ) → x < n → IsCheapest (cost_over routes total onward x) allowed (slice_index nexts x)
+  pub cost : (x : ℕ) → x < n → slice_index costs x ≡ cost_over routes total onward x (slice_index nexts x)
 
 -- a next switch for each of n switches
 pub record IsRow (n : ℕ) (nexts : List ℕ) : Type 0 where

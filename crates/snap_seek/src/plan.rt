@@ -5,7 +5,7 @@ ghost use Rattle.std.specs.List.{sum_by};
 ghost use Rattle.snap_route.specs.Tables.{distance_of, switch_count};
 ghost use Rattle.snap_seek.specs.Costs.{cost_from};
 ghost use Rattle.snap_seek.specs.Placements.{places_of};
-ghost use Rattle.snap_seek.specs.Steps.{AreNear, IsCheapest, IsPlan, IsRow, IsStage, choices, is_cheaper, leg, over, path};
+ghost use Rattle.snap_seek.specs.Steps.{AreNear, IsCheapest, IsPlan, IsRow, IsStage, choices, cost_over, is_before, is_cheaper, leg, over, path};
 
 use crate::demand::{Allowed, Switches};
 use crate::price::end_costs;
@@ -38,6 +38,13 @@ pub(crate) fn over(near: &[u64], onward: &[u64], at: u16) -> u64
     near[at as usize] + onward[at as usize]
 }
 
+/// Whether a switch comes before another, by what they cost and then by number.
+fn is_before(cost: u64, other_cost: u64, switch: u16, other: u16) -> bool
+    ensures { result ≡ is_before cost other_cost switch other }
+{
+    cost < other_cost || (cost == other_cost && switch < other)
+}
+
 fn is_cheaper(near: &[u64], onward: &[u64], a: u16, b: u16) -> bool
     requires near_a { a < length near.now }
     requires onward_a { a < length onward.now }
@@ -45,10 +52,9 @@ fn is_cheaper(near: &[u64], onward: &[u64], a: u16, b: u16) -> bool
     requires near_b { b < length near.now }
     requires onward_b { b < length onward.now }
     requires fits_b { over near.now onward.now b < 2 ^ 64 }
-    ensures { result ≡ is_cheaper near.now onward.now a b }
+    ensures { result ≡ is_cheaper (over near.now onward.now) a b }
 {
-    let (left, right) = (over(near, onward, a), over(near, onward, b));
-    left < right || (left == right && a < b)
+    is_before(over(near, onward, a), over(near, onward, b), a, b)
 }
 
 /// The cheapest of some switches, and the one of least number among the cheapest.
@@ -68,52 +74,41 @@ pub(crate) fn cheapest(switches: &[u16], near: &[u64], onward: &[u64]) -> u16
     best
 }
 
-/// What it costs to go from a switch to each other, where a unit of distance costs `total`.
-fn legs(
-    alloc: Global,
-    routes: &Routes,
-    at: u16,
-    total: u64,
-    count: u16,
-) -> Result<Vec<u64>, NoMemory>
+/// The cost of going from a switch on over another, where a unit of distance costs `total`.
+fn cost_over(routes: &Routes, total: u64, onward: &[u64], at: u16, to: u16) -> u64
     requires total { total < 2 ^ 48 }
-    requires at { at < count }
-    requires count { count ≡ switch_count routes.now }
+    requires at { at < switch_count routes.now }
+    requires to { to < switch_count routes.now }
+    requires onward { length onward.now ≡ switch_count routes.now }
+    requires fits { slice_index onward.now to ≤ 2 ^ 63 }
     requires near { AreNear routes.now }
-    ensures count { IfOk result (λ legs. length legs.items ≡ count) }
-    ensures legs { IfOk result (λ legs. (y : ℕ) → y < count → slice_index legs.items y ≡ total * distance_of routes.now at y) }
+    ensures { result ≡ cost_over routes.now total onward.now at to }
 {
-    let mut legs = Vec::new(alloc);
-    for to in 0..count {
-        legs.push(total * u64::from(routes.distance(at, to)))?;
-    }
-    Ok(legs)
+    total * u64::from(routes.distance(at, to)) + onward[to as usize]
 }
 
 /// The cheapest next switch from a switch, and what the way on over it costs.
-fn next_from(
-    alloc: Global,
-    routes: &Routes,
-    at: u16,
-    allowed: &[u16],
-    total: u64,
-    onward: &[u64],
-    count: u16,
-) -> Result<(u16, u64), NoMemory>
+fn next_from(routes: &Routes, at: u16, allowed: &[u16], total: u64, onward: &[u64]) -> (u16, u64)
     requires total { total < 2 ^ 48 }
-    requires at { at < count }
+    requires at { at < switch_count routes.now }
     requires some { 1 ≤ length allowed.now }
-    requires allowed { All (λ m. m < count) allowed.now }
-    requires onward { length onward.now ≡ count }
-    requires fits { (x : ℕ) → x < count → slice_index onward.now x ≤ 2 ^ 63 }
-    requires count { count ≡ switch_count routes.now }
+    requires allowed { All (λ m. m < switch_count routes.now) allowed.now }
+    requires onward { length onward.now ≡ switch_count routes.now }
+    requires fits { (x : ℕ) → x < switch_count routes.now → slice_index onward.now x ≤ 2 ^ 63 }
     requires near { AreNear routes.now }
-    ensures next { IfOk result (λ r. IsCheapest (λ y. total * distance_of routes.now at y + slice_index onward.now y) allowed.now r.0) }
-    ensures cost { IfOk result (λ r. r.1 ≡ total * distance_of routes.now at r.0 + slice_index onward.now r.0) }
+    ensures next { IsCheapest (cost_over routes.now total onward.now at) allowed.now result.0 }
+    ensures cost { result.1 ≡ cost_over routes.now total onward.now at result.0 }
 {
-    let near = legs(alloc, routes, at, total, count)?;
-    let next = cheapest(allowed, &near, onward);
-    Ok((next, over(&near, onward, next)))
+    let mut best = allowed[0];
+    let mut least = cost_over(routes, total, onward, at, best);
+    for switch in allowed {
+        let cost = cost_over(routes, total, onward, at, *switch);
+        if is_before(cost, least, *switch, best) {
+            best = *switch;
+            least = cost;
+        }
+    }
+    (best, least)
 }
 
 /// The cheapest next switch from each switch.
@@ -134,10 +129,10 @@ fn stage_before(
     requires near { AreNear routes.now }
     ensures { IfOk result (λ made. IsStage routes.now total count allowed.now onward.now made.nexts made.costs.items) }
 {
-    let mut nexts = Vec::new(alloc);
-    let mut costs = Vec::new(alloc);
+    let mut nexts = Vec::with_capacity(alloc, count as usize)?;
+    let mut costs = Vec::with_capacity(alloc, count as usize)?;
     for at in 0..count {
-        let (next, cost) = next_from(alloc, routes, at, allowed, total, onward, count)?;
+        let (next, cost) = next_from(routes, at, allowed, total, onward);
         nexts.push(next)?;
         costs.push(cost)?;
     }

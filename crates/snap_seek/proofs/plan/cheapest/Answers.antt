@@ -1,5 +1,6 @@
 use Rattle.std.proofs.Common.{◌∙◌, sym}
 use Rattle.std.proofs.lemmas.List.Elements.{Contains-get_or}
+use Rattle.snap_seek.specs.Steps.{over}
 use Rattle.snap_seek.proofs.Cheap.{IsBestSo-cheaper, IsBestSo-dearer}
 use Rattle.snap_seek.proofs.plan.cheapest.Goals as goal
 use Rattle.snap_seek.proofs.plan.cheapest.Goals.{then-is_cheaper, else-is_cheaper}
@@ -19,6 +20,6 @@ is_cheaper-requires-clause-onward_b c = c.requires.onward _ c.loop-switch.invari
 pub loop-switch-preserved : goal.loop-switch-preserved
 loop-switch-preserved c =
     elim c.if-is_cheaper.branch [
-      | then-is_cheaper w ↦ IsBestSo-cheaper c.args.near.now c.args.onward.now c.args.switches.now c.loop-switch.switch-index c.loop-switch.best c.if-is_cheaper.best c.loop-switch-test.true (sym c.is_cheaper.ensures ∙ w.if-is_cheaper.true) w.best-is c.loop-switch.invariant
-      | else-is_cheaper w ↦ IsBestSo-dearer c.args.near.now c.args.onward.now c.args.switches.now c.loop-switch.switch-index c.loop-switch.best c.if-is_cheaper.best c.loop-switch-test.true (sym c.is_cheaper.ensures ∙ w.if-is_cheaper.false) w.best-is c.loop-switch.invariant
+      | then-is_cheaper w ↦ IsBestSo-cheaper (over c.args.near.now c.args.onward.now) c.args.switches.now c.loop-switch.switch-index c.loop-switch.best c.if-is_cheaper.best c.loop-switch-test.true (sym c.is_cheaper.ensures ∙ w.if-is_cheaper.true) w.best-is c.loop-switch.invariant
+      | else-is_cheaper w ↦ IsBestSo-dearer (over c.args.near.now c.args.onward.now) c.args.switches.now c.loop-switch.switch-index c.loop-switch.best c.if-is_cheaper.best c.loop-switch-test.true (sym c.is_cheaper.ensures ∙ w.if-is_cheaper.false) w.best-is c.loop-switch.invariant
     ]
