@@ -1,6 +1,6 @@
 //! Flows between switches.
 
-ghost use Rattle.std.specs.Prelude.{◌≡◌, ◌≤◌, ◌*◌, ◌<◌, ◌^◌, ◌++◌, All, IfOk, OnOk, [], ◌∷◌, length, map};
+ghost use Rattle.std.specs.Prelude.{◌≡◌, ◌≤◌, ◌*◌, ◌<◌, ◌^◌, ◌++◌, All, IfOk, IfSome, OnOk, [], ◌∷◌, Some, length, map};
 ghost use Rattle.std.specs.List.{sum_by};
 ghost use Rattle.std.specs.List.Sorted.{IsStrictlySortedBy};
 ghost use Rattle.std.specs.Ordering.{nat_cmp};
@@ -46,11 +46,31 @@ impl Trip {
     }
 }
 
+// The switch at which a port is, where it stands as far behind the first port as its number is above that one's: so each
+// does where numbers have no gaps.
+#[tactic(auto, using(crate::proofs::Ported::found_near))]
+fn switch_near(ports: &[PortAt], port: u32) -> Option<u16>
+    requires { IsStrictlySortedBy nat_cmp (map (λ (p : PortAt). p.port) ports.now) }
+    ensures { IfSome result (λ at. switch_at ports.now port ≡ Some at) }
+{
+    let first = ports.first()?;
+    let place = port.checked_sub(first.port)?;
+    let entry = ports.get(place as usize)?;
+    if entry.port == port {
+        Some(entry.at)
+    } else {
+        None
+    }
+}
+
 /// The switch at which a port is. The ports rise.
 pub(crate) fn switch_at(ports: &[PortAt], port: u32) -> Option<u16>
     requires { IsStrictlySortedBy nat_cmp (map (λ (p : PortAt). p.port) ports.now) }
     ensures { result ≡ switch_at ports.now port }
 {
+    if let Some(at) = switch_near(ports, port) {
+        return Some(at);
+    }
     match ports.binary_search_by_key(&port, |entry| entry.port) {
         Ok(at) => Some(ports[at].at),
         Err(_) => None,
