@@ -1,4 +1,4 @@
-use Rattle.std.proofs.Common.{arith, get_or, refl}
+use Rattle.std.proofs.Common.{arith, refl}
 use Rattle.std.proofs.lemmas.List.Elements.{Contains-get_or}
 use Rattle.snap_route.proofs.Nearest.{IsLeastNearer-first, NoneNearer-all}
 use Rattle.snap_route.proofs.hops.first_nearer.Goals as goal
