@@ -13,6 +13,7 @@ use Rattle.snap_core.specs.Listing.{IsListing}
 use Rattle.snap_core.specs.Meaning.{Meaning, eval}
 use Rattle.snap_core.specs.Packets.{PacketSet}
 use Rattle.snap_core.specs.Switch.{Switched, one_big_switch}
+use Rattle.std.proofs.KnownBytes.{Appends-nil}
 use Rattle.snap_trace.specs.declared.fault.TraceFault.TheVariants.{Read, Write, Limit, Packets, Undefined, NoMemory}
 use Rattle.snap_trace.specs.declared.switch.Switch.{Switch}
 use Rattle.snap_trace.specs.OneSwitch.{AreBlocks, EndsAsRead, IsReport, IsUndefinedAfter, RunEnding, WritesReport, made_text}
@@ -189,3 +190,7 @@ writes-report s file ending old new writes =
     by (Err (Limit which count)) w = w
     by (Err (Packets line)) w = w
     by (Err (Undefined packet)) w = w
+
+-- where memory is short before anything is read, nothing is written
+pub writes-none : (program : Program) (file : List ℕ) (now : Option (List ℕ)) → WritesReport program file (Err NoMemory) now now
+writes-none program file now = ([], (0, record { packets = []; arrays = zero_arrays }, refl, refl), (0, Appends-nil now))

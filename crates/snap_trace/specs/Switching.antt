@@ -4,6 +4,7 @@ use Rattle.snap_core.specs.declared.place.Entry.{Entry}
 use Rattle.snap_core.specs.Arrays.{zero_arrays}
 use Rattle.snap_core.specs.Cells.{arrays_of}
 use Rattle.snap_core.specs.Listing.{IsListing}
+use Rattle.snap_core.specs.Programs.{IsBounded}
 use Rattle.snap_core.specs.Switch.{Switched, one_big_switch}
 use Rattle.snap_trace.specs.declared.fault.TraceFault.{TraceFault}
 use Rattle.snap_trace.specs.declared.fault.TraceFault.TheVariants.{Undefined}
@@ -14,6 +15,10 @@ use Rattle.snap_trace.specs.Reports.{end_text}
 -- what was made of some packets, before what was made of those behind them
 abbrev pub after : Switched → Switched → Switched
 after made rest = record { packets = made.packets ++ rest.packets; arrays = rest.arrays }
+
+-- its program is in bounds, and is what is laid out
+abbrev pub IsReady : Switch → Type 0
+IsReady switch = IsBounded switch.program.now × (switch.laid ≡ switch.program.now.body)
 
 -- The program of the first switch was run over these packets, with these blocks, and the other switch stands behind them.
 pub record Stands (first : Switch) (packets : List (List ℕ)) (text : List ℕ) (now : Switch) : Type 0 where

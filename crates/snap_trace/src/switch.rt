@@ -1,6 +1,6 @@
 //! One big switch over a file of packets.
 
-ghost use Rattle.std.specs.Prelude.{◌≡◌, ◌≤◌, ◌-◌, IfSome, IsErrOf, true};
+ghost use Rattle.std.specs.Prelude.{◌≡◌, ◌≤◌, ◌-◌, IfOk, IfSome, IsErrOf, true};
 ghost use Rattle.snap_core.specs.Arrays.{zero_arrays};
 ghost use Rattle.snap_core.specs.Cells.{arrays_of};
 ghost use Rattle.snap_core.specs.Programs.{IsBounded};
@@ -9,11 +9,12 @@ ghost use Rattle.snap_io.specs.Files.{file_of};
 ghost use Rattle.snap_trace.specs.OneSwitch.{WritesReport};
 
 use crate::fault::TraceFault;
+use crate::laid::{Laid, lay, run_laid_on};
 pub use crate::packets::MOST_BYTES;
 use crate::report::put_flow;
 use crate::runner::{Machine, run_over};
 use crate::tail::put_end;
-use snap_core::eval::run_on;
+use snap_core::NoMemory;
 use snap_core::outcome::EvalFault;
 use snap_core::packet::Packet;
 use snap_core::program::{Fields, Program};
@@ -21,33 +22,37 @@ use snap_core::store::Store;
 use snap_io::{Output, Shelf, Sink};
 use std::alloc::Global;
 
-/// One big switch between two packets: its program, its store, and the number of the next packet.
+/// One big switch between two packets: its program, which is laid out, its store, and the number of the next packet.
 #[derive(Drop)]
 pub(crate) struct Switch<'a> {
     alloc: Global,
     program: &'a Program,
+    laid: Laid<'a>,
     store: Store,
     number: u64,
 }
 
 impl<'a> Switch<'a> {
-    /// Before the first packet.
-    fn new(alloc: Global, program: &'a Program) -> Switch<'a>
-        ensures program { result.program.now ≡ program.now }
-        ensures arrays { arrays_of result.store ≡ zero_arrays }
-        ensures number { result.number ≡ 1 }
+    /// Before the first packet. Refuses for memory alone.
+    fn new(alloc: Global, program: &'a Program) -> Result<Switch<'a>, NoMemory>
+        ensures program { IfOk result (λ switch. switch.program.now ≡ program.now) }
+        ensures laid { IfOk result (λ switch. switch.laid ≡ program.now.body) }
+        ensures arrays { IfOk result (λ switch. arrays_of switch.store ≡ zero_arrays) }
+        ensures number { IfOk result (λ switch. switch.number ≡ 1) }
     {
-        Switch {
+        let laid = lay(alloc, &program.body)?;
+        Ok(Switch {
             alloc,
             program,
+            laid,
             store: Store::new(alloc),
             number: 1,
-        }
+        })
     }
 }
 
 impl<'a> Machine for Switch<'a> {
-    ghost use Rattle.snap_trace.specs.Switching.{Refuses, Reports, Stands};
+    ghost use Rattle.snap_trace.specs.Switching.{IsReady, Refuses, Reports, Stands};
 
     ghost fields = { λ switch. switch.program.now.fields };
 
@@ -55,7 +60,7 @@ impl<'a> Machine for Switch<'a> {
 
     ghost accepts = { λ switch before packet. true };
 
-    ghost is_ready = { λ switch. IsBounded switch.program.now };
+    ghost is_ready = { IsReady };
 
     ghost stands = { Stands };
 
@@ -76,7 +81,7 @@ impl<'a> Machine for Switch<'a> {
         packet: &mut Packet,
         line: u64,
     ) -> Result<(), TraceFault> {
-        match run_on(self.alloc, &self.program.body, &mut self.store, packet) {
+        match run_laid_on(self.alloc, &self.laid, &mut self.store, packet) {
             Ok(ran) => {
                 let fields = &self.program.fields;
                 put_flow(self.alloc, text, fields, self.number, packet, ran.flow)?;
@@ -124,6 +129,6 @@ pub fn one_switch<S: Shelf, K: Sink>(
     ensures later { NoneFell (S.faults shelf.old) (S.faults shelf.new) }
     ensures sink_later { K.faults sink.old ≤ K.faults sink.new }
 {
-    let mut switch = Switch::new(alloc, program);
+    let mut switch = Switch::new(alloc, program)?;
     run_over(alloc, &mut switch, shelf, packets, sink)
 }
