@@ -2,6 +2,7 @@
 use Rattle.std.proofs.Common.{◌≡◌, ◌⊎◌, ℕ, ◌+◌, true, zero, suc, List, [], ◌∷◌, ◌++◌, length, take, Option, Some, None, Ok, Err, refl, sym, ap, subst, ◌∙◌, inl, inr, arith, append_assoc, append-nil}
 use Rattle.std.specs.Prelude.{option_and_then, option_map}
 use Rattle.std.proofs.lemmas.List.{length-append}
+use Rattle.std.proofs.KnownBytes.{Appends-nil}
 use Rattle.std.proofs.Math.Seq.{take-append_seam, drop-append_seam, take-add}
 use Rattle.snap_core.specs.declared.policy.Pol.{Pol}
 use Rattle.snap_core.specs.declared.place.Entry.{Entry}
@@ -13,7 +14,6 @@ use Rattle.snap_core.specs.Listing.{IsListing}
 use Rattle.snap_core.specs.Meaning.{Meaning, eval}
 use Rattle.snap_core.specs.Packets.{PacketSet}
 use Rattle.snap_core.specs.Switch.{Switched, one_big_switch}
-use Rattle.std.proofs.KnownBytes.{Appends-nil}
 use Rattle.snap_trace.specs.declared.fault.TraceFault.TheVariants.{Read, Write, Limit, Packets, Undefined, NoMemory}
 use Rattle.snap_trace.specs.declared.switch.Switch.{Switch}
 use Rattle.snap_trace.specs.OneSwitch.{AreBlocks, EndsAsRead, IsReport, IsUndefinedAfter, RunEnding, WritesReport, made_text}
@@ -192,5 +192,5 @@ writes-report s file ending old new writes =
     by (Err (Undefined packet)) w = w
 
 -- where memory is short before anything is read, nothing is written
-pub writes-none : (program : Program) (file : List ℕ) (now : Option (List ℕ)) → WritesReport program file (Err NoMemory) now now
-writes-none program file now = ([], (0, record { packets = []; arrays = zero_arrays }, refl, refl), (0, Appends-nil now))
+pub writes-none : (p : Program) (file : List ℕ) (now : Option (List ℕ)) → WritesReport p file (Err NoMemory) now now
+writes-none p file now = ([], (0, record { packets = []; arrays = zero_arrays }, refl, refl), (0, Appends-nil now))
