@@ -101,3 +101,62 @@ fn one_switch_writes_its_report(rt: HostRuntime) -> Result<(), Fail> {
     assert_eq!(rt; written.as_slice(), wanted);
     Ok(())
 }
+
+// Choices among many numbers: two have one number, and another field's test cuts them.
+const CUT: &str = "field f; field g;
+if f = 3 then outport <- 1 else if f = 5 then outport <- 2 else if f = 3 then outport <- 3
+else if f = 4 then outport <- 4 else if g = 5 then outport <- 5 else if f = 6 then outport <- 6
+else outport <- 7";
+
+// Behind a fork each packet makes its own choice.
+const FORKED: &str = "field f; (id + f <- 5);
+if f = 3 then outport <- 1 else if f = 4 then outport <- 2 else if f = 5 then outport <- 3
+else if f = 6 then drop else outport <- 4";
+
+// Choices one behind the other, with an update between them.
+const TWICE: &str = "field f; array s;
+if f = 1 then outport <- 1 else if f = 2 then outport <- 2 else if f = 3 then outport <- 3
+else if f = 4 then outport <- 4 else id;
+s[outport]++;
+if outport = 1 then f <- 10 else if outport = 2 then f <- 20 else if outport = 3 then f <- 30
+else if outport = 4 then drop else f <- 50";
+
+// Programs, packets, and the report of each, worked by hand.
+const CHOSEN: &[(&str, &[u8], &[u8])] = &[
+    (
+        CUT,
+        b"1 f=3\n1 f=4\n1 f=6\n1 f=6 g=5\n1 g=5 f=5\n1",
+        b"packet 1\nout inport=1 outport=1 f=3 g=0\n\
+        packet 2\nout inport=1 outport=4 f=4 g=0\n\
+        packet 3\nout inport=1 outport=6 f=6 g=0\n\
+        packet 4\nout inport=1 outport=5 f=6 g=5\n\
+        packet 5\nout inport=1 outport=2 f=5 g=5\n\
+        packet 6\nout inport=1 outport=7 f=0 g=0\nend\n",
+    ),
+    (
+        FORKED,
+        b"1 f=3\n1 f=6\n1 f=5\n1 f=7",
+        b"packet 1\nout inport=1 outport=1 f=3\nout inport=1 outport=3 f=5\n\
+        packet 2\nout inport=1 outport=3 f=5\n\
+        packet 3\nout inport=1 outport=3 f=5\n\
+        packet 4\nout inport=1 outport=3 f=5\nout inport=1 outport=4 f=7\nend\n",
+    ),
+    (
+        TWICE,
+        b"1 f=3\n1 f=4\n1 f=1\n1 f=9\n1 f=3",
+        b"packet 1\nout inport=1 outport=3 f=30\npacket 2\n\
+        packet 3\nout inport=1 outport=1 f=10\n\
+        packet 4\nout inport=1 outport=0 f=50\n\
+        packet 5\nout inport=1 outport=3 f=30\n\
+        array s 0 = 1\narray s 1 = 1\narray s 3 = 2\narray s 4 = 1\nend\n",
+    ),
+];
+
+#[test]
+fn choices_among_many_numbers_lead_each_packet(rt: HostRuntime) -> Result<(), Fail> {
+    for (text, packets, wanted) in CHOSEN {
+        let written = report(rt.alloc(), *text, *packets)?;
+        assert!(rt; written.as_slice() == *wanted, "{text}");
+    }
+    Ok(())
+}

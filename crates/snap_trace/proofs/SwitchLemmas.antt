@@ -2,6 +2,7 @@
 use Rattle.std.proofs.Common.{◌≡◌, ◌⊎◌, ℕ, ◌+◌, true, zero, suc, List, [], ◌∷◌, ◌++◌, length, take, Option, Some, None, Ok, Err, refl, sym, ap, subst, ◌∙◌, inl, inr, arith, append_assoc, append-nil}
 use Rattle.std.specs.Prelude.{option_and_then, option_map}
 use Rattle.std.proofs.lemmas.List.{length-append}
+use Rattle.std.proofs.KnownBytes.{Appends-nil}
 use Rattle.std.proofs.Math.Seq.{take-append_seam, drop-append_seam, take-add}
 use Rattle.snap_core.specs.declared.policy.Pol.{Pol}
 use Rattle.snap_core.specs.declared.place.Entry.{Entry}
@@ -189,3 +190,7 @@ writes-report s file ending old new writes =
     by (Err (Limit which count)) w = w
     by (Err (Packets line)) w = w
     by (Err (Undefined packet)) w = w
+
+-- where memory is short before anything is read, nothing is written
+pub writes-none : (p : Program) (file : List ℕ) (now : Option (List ℕ)) → WritesReport p file (Err NoMemory) now now
+writes-none p file now = ([], (0, record { packets = []; arrays = zero_arrays }, refl, refl), (0, Appends-nil now))
