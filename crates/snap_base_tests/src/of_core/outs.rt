@@ -33,9 +33,9 @@ fn moved(alloc: Global) -> Result<Packet, Fail> {
 #[test]
 fn an_out_reads_a_packet_as_it_was(rt: HostRuntime) -> Result<(), Fail> {
     let packet = swapped(rt.alloc())?;
-    assert!(rt; *packet.comps() == [7, 5, 9]);
+    assert!(rt; packet.comps() == [7, 5, 9].as_slice());
     let packet = moved(rt.alloc())?;
-    assert!(rt; *packet.comps() == [8, 7, 6, 5, 4, 3, 2, 1, 0, 0]);
+    assert!(rt; packet.comps() == [8, 7, 6, 5, 4, 3, 2, 1, 0, 0].as_slice());
     Ok(())
 }
 
@@ -43,8 +43,8 @@ fn an_out_reads_a_packet_as_it_was(rt: HostRuntime) -> Result<(), Fail> {
 fn a_packet_is_made_zero(rt: HostRuntime) -> Result<(), Fail> {
     let mut packet = Packet::new(vec![in rt.alloc(); 5, 7]?);
     packet.reset();
-    assert!(rt; *packet.comps() == [0, 0]);
+    assert!(rt; packet.comps() == [0, 0].as_slice());
     packet.set(1, 3);
-    assert!(rt; *packet.comps() == [0, 3]);
+    assert!(rt; packet.comps() == [0, 3].as_slice());
     Ok(())
 }

@@ -105,7 +105,7 @@ fn becomes(
         return Err("the policy doesn't fit")?;
     }
     match run_on(alloc, pol, &mut store, &mut packet) {
-        Ok(ran) => Ok(matches!(ran.flow, Flow::Same) && *packet.comps() == wanted),
+        Ok(ran) => Ok(matches!(ran.flow, Flow::Same) && packet.comps() == wanted.as_slice()),
         Err(EvalFault::Undefined) => Ok(false),
         Err(EvalFault::NoMemory) => Err("out of memory")?,
     }
