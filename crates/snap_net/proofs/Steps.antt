@@ -30,7 +30,7 @@ use Rattle.snap_rows.proofs.Rows.{All-get, some_injective}
 use Rattle.snap_rows.proofs.Arrives.{arrives}
 use Rattle.snap_net.specs.declared.flying.Flying.{Flying}
 use Rattle.snap_net.specs.Shown.{Held, IsHeld, Shows, IsDone, Nothing, SameArrays, store_of, flown, moving, happened}
-use Rattle.snap_net.specs.Moves.{CanBeDone, HasStepped, Changed, HasMoved, HasUpdated, flights, copies_in_flight, moved_of, with_frame, Frames, PlanAt, taken}
+use Rattle.snap_net.specs.Moves.{CanBeDone, HasStepped, Changed, HasMoved, HasUpdated, flights, copies_in_flight, moved_of, with_frame, Frames, PlanAt}
 use Rattle.snap_net.specs.declared.happened.Happened.TheVariants as shown
 use Rattle.snap_net.specs.declared.happened.Moved.{Moved}
 
@@ -236,44 +236,3 @@ pub framed_of : (c : Copy) (a : Action) (bytes : List ℕ) → Frames a c.packet
 framed_of c (Forward to head) bytes e = ap (shown.Forwarded c.number c.at to) e
 framed_of c (Deliver port) bytes e = refl
 framed_of c (Fork copies lost) bytes e = refl
-
--- ---- the whole store
-abbrev owned : Held → Place → ℕ
-owned v p = unwrap_or (option_map (λ w. store_of v.stores w p) (owner_of v.tables p.var)) 0
-
-below : (v : Held) (n : ℕ) (p : Place) → p.var < n → taken v n p ≡ owned v p
-below v n p low = ap (λ b. if b then owned v p else 0) (lt-ltb p.var n low)
-
-above : (v : Held) (n : ℕ) (p : Place) → n ≤ p.var → taken v n p ≡ 0
-above v n p high = ap (λ b. if b then owned v p else 0) (le-ltb p.var n high)
-
-pub taken_none : (v : Held) (p : Place) → taken v 0 p ≡ 0
-taken_none v p = above v 0 p (omega arith)
-
-pub taken_more : (v : Held) (n w : ℕ) (m m' other : Arrays) → owner_of v.tables n ≡ Some w → other ≡ store_of v.stores w → ((p : Place) → m p ≡ taken v n p)
-    → ((p : Place) → m' p ≡ (if n == p.var then other p else m p)) → (p : Place) → m' p ≡ taken v (n + 1) p
-taken_more v n w m m' other owner same before after p = after p ∙ by (n == p.var) refl
-  where
-    by : (b : Bool) → (n == p.var) ≡ b → (if b then other p else m p) ≡ taken v (n + 1) p
-    by true e =
-        let is : n ≡ p.var = eqb-true n p.var e in
-        ap (λ (m : Arrays). m p) same
-        ∙ ap (λ (o : Option ℕ). unwrap_or (option_map (λ w. store_of v.stores w p) o) 0) (sym owner ∙ ap (owner_of v.tables) is)
-        ∙ sym (below v (n + 1) p (omega (arith, is)))
-    by false e = before p ∙ ⊎_elim
-        (λ low. below v n p low ∙ sym (below v (n + 1) p (let h : p.var < n = low in omega (arith, h))))
-        (λ high. above v n p high ∙ sym (above v (n + 1) p (let h : n ≤ p.var = high in let other : n ≢ p.var = λ is. false≢true (sym e ∙ eq-eqb n p.var is) in omega (arith, h, other))))
-        (cases_lt p.var n)
-
-whole_of : (v : Held) (s : Net) (p : Place) → Shows v s → owned v p ≡ whole v.tables s p
-whole_of v s p shows = by (owner_of v.tables p.var)
-  where
-    by : (o : Option ℕ) → unwrap_or (option_map (λ w. store_of v.stores w p) o) 0 ≡ unwrap_or (option_map (λ w. s.stores w p) o) 0
-    by None = refl
-    by (Some w) = ap (λ (m : Arrays). m p) (sym (shows.stores w))
-
-pub taken_all : (v : Held) (s : Net) (p : Place) → Shows v s → taken v (array_count v.tables) p ≡ whole v.tables s p
-taken_all v s p shows = ⊎_elim
-    (λ low. below v (array_count v.tables) p low ∙ whole_of v s p shows)
-    (λ high. above v (array_count v.tables) p high ∙ sym (ap (λ (o : Option ℕ). unwrap_or (option_map (λ w. s.stores w p) o) 0) (ap (option_map (λ (a : ArrayAt). a.at)) (slice_get_past v.tables.arrays p.var high))))
-    (cases_lt p.var (array_count v.tables))

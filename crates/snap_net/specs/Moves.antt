@@ -81,7 +81,3 @@ abbrev pub with_frame : Moved → List ℕ → Happened
 with_frame (bare.Forwarded owner from to) bytes = shown.Forwarded owner from to bytes
 with_frame (bare.Delivered owner port k) bytes = shown.Delivered owner port k
 with_frame (bare.Forked owner copies lost) bytes = shown.Forked owner copies lost
-
--- each array of the variables below n as its switch has it
-abbrev pub taken : Held → ℕ → Arrays
-taken v n p = if nat_lt p.var n then unwrap_or (option_map (λ w. store_of v.stores w p) (owner_of v.tables p.var)) 0 else 0
