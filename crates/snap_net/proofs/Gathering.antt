@@ -1,5 +1,5 @@
 -- The whole store, array by array, and arrays that move to other switches.
-use Rattle.std.proofs.Common.{◌≡◌, ℕ, ◌+◌, ◌<◌, ◌≤◌, Bool, true, false, List, [], length, get_or, Option, Some, None, refl, sym, ap, ◌∙◌, arith, ⊎_elim}
+use Rattle.std.proofs.Common.{◌≡◌, ℕ, ◌+◌, ◌<◌, ◌≤◌, Bool, true, false, List, [], length, Option, Some, None, refl, sym, ap, ◌∙◌, arith, ⊎_elim}
 use Rattle.std.specs.Prelude.{◌==◌, option_map, unwrap_or, if◌then◌else◌}
 use Rattle.std.proofs.lemmas.Bool.{cases_eq, cases_lt, eqb-true, eq-eqb, ne_eqb}
 use Rattle.std.proofs.lemmas.List.{get_or-set_other, get_or-set_same, length-set}
@@ -74,7 +74,6 @@ holds-none t stores m empty w = (λ i p. nothing (unwrap_or (option_map (λ o. o
 module _ (from to : Tables) (first old old' new new' : List Kept) (n here there : ℕ) (owner : owner_of from n ≡ Some here) (owner' : owner_of to n ≡ Some there)
     (left : Changed old old' here (with_array (store_of old here) (store_of new there) n)) (put : Changed new new' there (with_array (store_of new there) (store_of old here) n))
     (same : (w : ℕ) (p : Place) → n ≤ p.var → store_of old w p ≡ store_of first w p) where
-
   -- the arrays that are left are as they were
   pub moved-same : (w : ℕ) (p : Place) → n + 1 ≤ p.var → store_of old' w p ≡ store_of first w p
   moved-same w p high =

@@ -1,31 +1,29 @@
 -- Steps of the network, on what the program holds.
-use Rattle.std.proofs.Common.{◌≡◌, ℕ, zero, suc, ◌+◌, ◌<◌, ◌≤◌, ◌≢◌, Bool, true, false, List, [], ◌∷◌, ◌++◌, map, take, drop, Option, Some, None, length, refl, sym, ap, subst, ◌∙◌, arith, ⊎_elim}
-use Rattle.std.specs.Prelude.{slice_get, slice_index, ◌==◌, IfSome, IsSome, is_some, option_map, unwrap_or, if◌then◌else◌}
+use Rattle.std.proofs.Common.{◌≡◌, ℕ, zero, suc, ◌+◌, ◌<◌, Bool, true, false, List, [], ◌∷◌, ◌++◌, map, take, drop, Option, Some, None, length, refl, sym, ap, subst, ◌∙◌}
+use Rattle.std.specs.Prelude.{slice_get, slice_index, ◌==◌, IfSome, IsSome, is_some, option_map, if◌then◌else◌}
 use Rattle.std.specs.List.{All}
-use Rattle.std.proofs.lemmas.Bool.{false≢true, eqb-true, eq-eqb, cases_lt, lt-ltb, le-ltb}
+use Rattle.std.proofs.lemmas.Bool.{false≢true, eqb-true, eq-eqb}
 use Rattle.std.proofs.lemmas.List.{map-append, take-map, drop-map}
 use Rattle.std.proofs.lemmas.List.Elements.{All-push, All-append, All-take, All-drop, All-map, All-cons, All-nil}
-use Rattle.std.proofs.lemmas.Option.{slice_get-map, slice_get_past}
+use Rattle.std.proofs.lemmas.Option.{slice_get-map}
 use Rattle.snap_core.specs.Arrays.{Arrays, updates, zero_arrays}
 use Rattle.snap_core.specs.Cells.{Kept, arrays_of}
 use Rattle.snap_core.specs.declared.ports.PortAt.{PortAt}
-use Rattle.snap_core.specs.declared.place.Place.{Place}
 use Rattle.snap_rows.specs.declared.plan.Plan.{Plan}
 use Rattle.snap_rows.specs.declared.head.Head.TheVariants.{Walk, Out}
 use Rattle.snap_rows.specs.declared.head.Action.{Action}
 use Rattle.snap_rows.specs.declared.head.Action.TheVariants.{Forward, Deliver, Fork}
 use Rattle.snap_rows.specs.declared.head.Sent.{Sent}
-use Rattle.snap_rows.specs.declared.tables.ArrayAt.{ArrayAt}
 use Rattle.snap_rows.specs.declared.tables.Tables.{Tables}
 use Rattle.snap_rows.specs.declared.tables.Rule.TheVariants.{Missing}
 use Rattle.snap_rows.specs.declared.tables.Spot.TheVariants as spot
-use Rattle.snap_rows.specs.Entries.{port_in, port_at, row_at, owner_of}
-use Rattle.snap_rows.specs.Form.{IsPortInForm, array_count, comps, switch_count}
+use Rattle.snap_rows.specs.Entries.{port_in, port_at, row_at}
+use Rattle.snap_rows.specs.Form.{IsPortInForm, comps, switch_count}
 use Rattle.snap_rows.specs.Home.{AtHome}
 use Rattle.snap_rows.specs.Handles.{Handles}
 use Rattle.snap_rows.specs.Rules.{PortKeeps}
 use Rattle.snap_rows.specs.Steps.{Arrives}
-use Rattle.snap_rows.specs.Network.{Copy, Net, Inject, inject, injected, step, stepped, moved, happening, whole}
+use Rattle.snap_rows.specs.Network.{Copy, Net, Inject, inject, injected, step, stepped, moved, happening}
 use Rattle.snap_rows.proofs.Rows.{All-get, some_injective}
 use Rattle.snap_rows.proofs.Arrives.{arrives}
 use Rattle.snap_net.specs.declared.flying.Flying.{Flying}
