@@ -1,36 +1,34 @@
 -- Steps of the network, on what the program holds.
-use Rattle.std.proofs.Common.{◌≡◌, ℕ, zero, suc, ◌+◌, ◌<◌, ◌≤◌, ◌≢◌, Bool, true, false, List, [], ◌∷◌, ◌++◌, map, take, drop, Option, Some, None, length, refl, sym, ap, subst, ◌∙◌, arith, ⊎_elim}
-use Rattle.std.specs.Prelude.{slice_get, slice_index, ◌==◌, IfSome, IsSome, is_some, option_map, unwrap_or, if◌then◌else◌}
+use Rattle.std.proofs.Common.{◌≡◌, ℕ, zero, suc, ◌+◌, ◌<◌, Bool, true, false, List, [], ◌∷◌, ◌++◌, map, take, drop, Option, Some, None, length, refl, sym, ap, subst, ◌∙◌}
+use Rattle.std.specs.Prelude.{slice_get, slice_index, ◌==◌, IfSome, IsSome, is_some, option_map, if◌then◌else◌}
 use Rattle.std.specs.List.{All}
-use Rattle.std.proofs.lemmas.Bool.{false≢true, eqb-true, eq-eqb, cases_lt, lt-ltb, le-ltb}
+use Rattle.std.proofs.lemmas.Bool.{false≢true, eqb-true, eq-eqb}
 use Rattle.std.proofs.lemmas.List.{map-append, take-map, drop-map}
 use Rattle.std.proofs.lemmas.List.Elements.{All-push, All-append, All-take, All-drop, All-map, All-cons, All-nil}
-use Rattle.std.proofs.lemmas.Option.{slice_get-map, slice_get_past}
+use Rattle.std.proofs.lemmas.Option.{slice_get-map}
 use Rattle.snap_core.specs.Arrays.{Arrays, updates, zero_arrays}
 use Rattle.snap_core.specs.Cells.{Kept, arrays_of}
 use Rattle.snap_core.specs.declared.ports.PortAt.{PortAt}
-use Rattle.snap_core.specs.declared.place.Place.{Place}
 use Rattle.snap_rows.specs.declared.plan.Plan.{Plan}
 use Rattle.snap_rows.specs.declared.head.Head.TheVariants.{Walk, Out}
 use Rattle.snap_rows.specs.declared.head.Action.{Action}
 use Rattle.snap_rows.specs.declared.head.Action.TheVariants.{Forward, Deliver, Fork}
 use Rattle.snap_rows.specs.declared.head.Sent.{Sent}
-use Rattle.snap_rows.specs.declared.tables.ArrayAt.{ArrayAt}
 use Rattle.snap_rows.specs.declared.tables.Tables.{Tables}
 use Rattle.snap_rows.specs.declared.tables.Rule.TheVariants.{Missing}
 use Rattle.snap_rows.specs.declared.tables.Spot.TheVariants as spot
-use Rattle.snap_rows.specs.Entries.{port_in, port_at, row_at, owner_of}
-use Rattle.snap_rows.specs.Form.{IsPortInForm, array_count, comps, switch_count}
+use Rattle.snap_rows.specs.Entries.{port_in, port_at, row_at}
+use Rattle.snap_rows.specs.Form.{IsPortInForm, comps, switch_count}
 use Rattle.snap_rows.specs.Home.{AtHome}
 use Rattle.snap_rows.specs.Handles.{Handles}
 use Rattle.snap_rows.specs.Rules.{PortKeeps}
 use Rattle.snap_rows.specs.Steps.{Arrives}
-use Rattle.snap_rows.specs.Network.{Copy, Net, Inject, inject, injected, step, stepped, moved, happening, whole}
+use Rattle.snap_rows.specs.Network.{Copy, Net, Inject, inject, injected, step, stepped, moved, happening}
 use Rattle.snap_rows.proofs.Rows.{All-get, some_injective}
 use Rattle.snap_rows.proofs.Arrives.{arrives}
 use Rattle.snap_net.specs.declared.flying.Flying.{Flying}
 use Rattle.snap_net.specs.Shown.{Held, IsHeld, Shows, IsDone, Nothing, SameArrays, store_of, flown, moving, happened}
-use Rattle.snap_net.specs.Moves.{CanBeDone, HasStepped, Changed, HasMoved, HasUpdated, flights, copies_in_flight, moved_of, with_frame, Frames, PlanAt, taken}
+use Rattle.snap_net.specs.Moves.{CanBeDone, HasStepped, Changed, HasMoved, HasUpdated, flights, copies_in_flight, moved_of, with_frame, Frames, PlanAt}
 use Rattle.snap_net.specs.declared.happened.Happened.TheVariants as shown
 use Rattle.snap_net.specs.declared.happened.Moved.{Moved}
 
@@ -236,44 +234,3 @@ pub framed_of : (c : Copy) (a : Action) (bytes : List ℕ) → Frames a c.packet
 framed_of c (Forward to head) bytes e = ap (shown.Forwarded c.number c.at to) e
 framed_of c (Deliver port) bytes e = refl
 framed_of c (Fork copies lost) bytes e = refl
-
--- ---- the whole store
-abbrev owned : Held → Place → ℕ
-owned v p = unwrap_or (option_map (λ w. store_of v.stores w p) (owner_of v.tables p.var)) 0
-
-below : (v : Held) (n : ℕ) (p : Place) → p.var < n → taken v n p ≡ owned v p
-below v n p low = ap (λ b. if b then owned v p else 0) (lt-ltb p.var n low)
-
-above : (v : Held) (n : ℕ) (p : Place) → n ≤ p.var → taken v n p ≡ 0
-above v n p high = ap (λ b. if b then owned v p else 0) (le-ltb p.var n high)
-
-pub taken_none : (v : Held) (p : Place) → taken v 0 p ≡ 0
-taken_none v p = above v 0 p (omega arith)
-
-pub taken_more : (v : Held) (n w : ℕ) (m m' other : Arrays) → owner_of v.tables n ≡ Some w → other ≡ store_of v.stores w → ((p : Place) → m p ≡ taken v n p)
-    → ((p : Place) → m' p ≡ (if n == p.var then other p else m p)) → (p : Place) → m' p ≡ taken v (n + 1) p
-taken_more v n w m m' other owner same before after p = after p ∙ by (n == p.var) refl
-  where
-    by : (b : Bool) → (n == p.var) ≡ b → (if b then other p else m p) ≡ taken v (n + 1) p
-    by true e =
-        let is : n ≡ p.var = eqb-true n p.var e in
-        ap (λ (m : Arrays). m p) same
-        ∙ ap (λ (o : Option ℕ). unwrap_or (option_map (λ w. store_of v.stores w p) o) 0) (sym owner ∙ ap (owner_of v.tables) is)
-        ∙ sym (below v (n + 1) p (omega (arith, is)))
-    by false e = before p ∙ ⊎_elim
-        (λ low. below v n p low ∙ sym (below v (n + 1) p (let h : p.var < n = low in omega (arith, h))))
-        (λ high. above v n p high ∙ sym (above v (n + 1) p (let h : n ≤ p.var = high in let other : n ≢ p.var = λ is. false≢true (sym e ∙ eq-eqb n p.var is) in omega (arith, h, other))))
-        (cases_lt p.var n)
-
-whole_of : (v : Held) (s : Net) (p : Place) → Shows v s → owned v p ≡ whole v.tables s p
-whole_of v s p shows = by (owner_of v.tables p.var)
-  where
-    by : (o : Option ℕ) → unwrap_or (option_map (λ w. store_of v.stores w p) o) 0 ≡ unwrap_or (option_map (λ w. s.stores w p) o) 0
-    by None = refl
-    by (Some w) = ap (λ (m : Arrays). m p) (sym (shows.stores w))
-
-pub taken_all : (v : Held) (s : Net) (p : Place) → Shows v s → taken v (array_count v.tables) p ≡ whole v.tables s p
-taken_all v s p shows = ⊎_elim
-    (λ low. below v (array_count v.tables) p low ∙ whole_of v s p shows)
-    (λ high. above v (array_count v.tables) p high ∙ sym (ap (λ (o : Option ℕ). unwrap_or (option_map (λ w. s.stores w p) o) 0) (ap (option_map (λ (a : ArrayAt). a.at)) (slice_get_past v.tables.arrays p.var high))))
-    (cases_lt p.var (array_count v.tables))

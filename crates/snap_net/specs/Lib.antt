@@ -5,5 +5,4 @@ pub mod Moves
 pub mod Laws
 pub mod Travels
 pub mod Landings
-pub mod Listings
 pub mod Parts

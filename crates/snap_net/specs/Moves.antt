@@ -1,5 +1,5 @@
 -- How a step of a copy is made.
-use Rattle.std.specs.Prelude.{◌≡◌, ◌≢◌, ℕ, ◌+◌, Some, List, [], ◌∷◌, ◌++◌, map, length, slice_get, nat_lt, unwrap_or, option_map, if◌then◌else◌}
+use Rattle.std.specs.Prelude.{◌≡◌, ◌≢◌, ℕ, ◌+◌, Some, List, [], ◌∷◌, ◌++◌, map, length, slice_get}
 use Rattle.std.specs.List.{All}
 use Rattle.snap_core.specs.declared.policy.Update.{Update}
 use Rattle.snap_core.specs.Arrays.{Arrays, updates}
@@ -10,7 +10,6 @@ use Rattle.snap_rows.specs.declared.head.Action.{Action}
 use Rattle.snap_rows.specs.declared.head.Action.TheVariants.{Forward, Deliver, Fork}
 use Rattle.snap_rows.specs.declared.head.Sent.{Sent}
 use Rattle.snap_rows.specs.declared.plan.Plan.{Plan}
-use Rattle.snap_rows.specs.Entries.{owner_of}
 use Rattle.snap_rows.specs.Steps.{Does, Arrives}
 use Rattle.snap_rows.specs.Network.{Copy, Net, Step, Leads, happening}
 use Rattle.snap_head.specs.Frames.{frame}
@@ -81,7 +80,3 @@ abbrev pub with_frame : Moved → List ℕ → Happened
 with_frame (bare.Forwarded owner from to) bytes = shown.Forwarded owner from to bytes
 with_frame (bare.Delivered owner port k) bytes = shown.Delivered owner port k
 with_frame (bare.Forked owner copies lost) bytes = shown.Forked owner copies lost
-
--- each array of the variables below n as its switch has it
-abbrev pub taken : Held → ℕ → Arrays
-taken v n p = if nat_lt p.var n then unwrap_or (option_map (λ w. store_of v.stores w p) (owner_of v.tables p.var)) 0 else 0

@@ -1,9 +1,10 @@
 -- A network of the program as a state of the network, whose counts of hops and steps it doesn't keep.
-use Rattle.std.specs.Prelude.{◌≡◌, ℕ, ◌<◌, List, [], ◌∷◌, map, length, get_or}
+use Rattle.std.specs.Prelude.{◌≡◌, ℕ, ◌<◌, List, [], ◌∷◌, map, length, get_or, option_map, unwrap_or}
 use Rattle.std.specs.List.{All}
 use Rattle.snap_core.specs.Arrays.{Arrays}
 use Rattle.snap_core.specs.Cells.{Kept, arrays_of}
 use Rattle.snap_rows.specs.declared.tables.Tables.{Tables}
+use Rattle.snap_rows.specs.Entries.{owner_of}
 use Rattle.snap_rows.specs.Form.{IsInForm, comps, switch_count}
 use Rattle.snap_rows.specs.Home.{AtHome}
 use Rattle.snap_rows.specs.Rules.{IsValid}
@@ -34,6 +35,10 @@ pub record IsHeld (v : Held) : Type 0 where
 -- the arrays of a switch
 abbrev pub store_of : List Kept → ℕ → Arrays
 store_of stores w = arrays_of (get_or stores w [])
+
+-- each array as its switch has it
+abbrev pub gathered : Tables → List Kept → Arrays
+gathered t stores p = unwrap_or (option_map (λ w. store_of stores w p) (owner_of t p.var)) 0
 
 -- each switch holds its own arrays as m has them
 abbrev pub Holds : Tables → List Kept → Arrays → Type 0

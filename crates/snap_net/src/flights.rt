@@ -44,8 +44,21 @@ struct Spot {
     place: usize,
 }
 
-// Where a copy of the list is.
-fn spot_of(blocks: &[Block], k: usize) -> Spot
+// Where a copy of the list is, looked for from the nearer end.
+#[inline(always)]
+fn spot_of(blocks: &[Block], count: usize, k: usize) -> Spot
+    requires count { count ≡ length (joined blocks.now) }
+    requires k { k < count }
+    ensures { IsSpot blocks.now k result }
+{
+    if k <= count / 2 {
+        spot_from_front(blocks, k)
+    } else {
+        spot_from_back(blocks, count, k)
+    }
+}
+
+fn spot_from_front(blocks: &[Block], k: usize) -> Spot
     requires { k < length (joined blocks.now) }
     ensures { IsSpot blocks.now k result }
 {
@@ -56,6 +69,25 @@ fn spot_of(blocks: &[Block], k: usize) -> Spot
             return Spot { block: i, place };
         }
         place -= count;
+    }
+    unreachable!()
+}
+
+#[inline(never)]
+fn spot_from_back(blocks: &[Block], count: usize, k: usize) -> Spot
+    requires count { count ≡ length (joined blocks.now) }
+    requires k { k < count }
+    ensures { IsSpot blocks.now k result }
+{
+    let mut before = count;
+    for i in (0..blocks.len()).rev() {
+        before -= blocks[i].count();
+        if before <= k {
+            return Spot {
+                block: i,
+                place: k - before,
+            };
+        }
     }
     unreachable!()
 }
@@ -80,17 +112,18 @@ fn split(blocks: &mut Vec<Block>, i: usize) -> Result<(), NoMemory>
 }
 
 // Where a copy of the list is, in a block that has room for another.
-fn roomy_spot(blocks: &mut Vec<Block>, k: usize) -> Result<Spot, NoMemory>
-    requires { k < length (joined blocks.old.items) }
+fn roomy_spot(blocks: &mut Vec<Block>, count: usize, k: usize) -> Result<Spot, NoMemory>
+    requires count { count ≡ length (joined blocks.old.items) }
+    requires k { k < count }
     ensures same { joined blocks.new.items ≡ joined blocks.old.items }
     ensures spot { IfOk result (IsSpot blocks.new.items k) }
 {
-    let spot = spot_of(blocks, k);
+    let spot = spot_of(blocks, count, k);
     if blocks[spot.block].count() < MOST {
         return Ok(spot);
     }
     split(blocks, spot.block)?;
-    Ok(spot_of(blocks, k))
+    Ok(spot_of(blocks, count, k))
 }
 
 // Puts a copy behind the one at a spot.
@@ -183,7 +216,7 @@ impl Flights {
         requires { k < length self.now }
         ensures { slice_get self.now k ≡ Some result.now }
     {
-        let spot = spot_of(&self.blocks, k);
+        let spot = spot_of(&self.blocks, self.count, k);
         copy_at(&self.blocks, spot)
     }
 
@@ -206,7 +239,7 @@ impl Flights {
         ensures err { OnErr result (self.new ≡ self.old) }
     {
         let count = self.count.checked_add(1).ok_or(NoMemory)?;
-        let spot = roomy_spot(&mut self.blocks, k)?;
+        let spot = roomy_spot(&mut self.blocks, self.count, k)?;
         insert_at(&mut self.blocks, spot, copy)?;
         self.count = count;
         Ok(())
@@ -217,7 +250,7 @@ impl Flights {
         requires { k < length self.old }
         ensures { (c : Flying) → slice_get self.old k ≡ Some c → self.new ≡ spliced self.old k 1 (record c { at = to; head = head } ∷ []) }
     {
-        let spot = spot_of(&self.blocks, k);
+        let spot = spot_of(&self.blocks, self.count, k);
         send_at(&mut self.blocks, spot, to, head);
     }
 
@@ -227,7 +260,7 @@ impl Flights {
         ensures gone { slice_get self.old k ≡ Some result }
         ensures left { self.new ≡ spliced self.old k 1 (copy ∷ []) }
     {
-        let spot = spot_of(&self.blocks, k);
+        let spot = spot_of(&self.blocks, self.count, k);
         replace_at(&mut self.blocks, spot, copy)
     }
 
@@ -238,7 +271,7 @@ impl Flights {
         ensures copy { slice_get self.old k ≡ Some result }
         ensures left { self.new ≡ spliced self.old k 1 [] }
     {
-        let spot = spot_of(&self.blocks, k);
+        let spot = spot_of(&self.blocks, self.count, k);
         let gone = remove_at(&mut self.blocks, spot);
         self.count -= 1;
         gone

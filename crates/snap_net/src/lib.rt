@@ -2,14 +2,13 @@
 #![tactic(auto)]
 
 mod block;
-mod fill;
 mod flights;
 pub mod flying;
 pub mod happened;
 mod landing;
 pub mod laws;
-mod listing;
 pub mod moves;
 pub mod net;
 pub mod parts;
+mod rehousing;
 mod updates;

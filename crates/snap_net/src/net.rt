@@ -17,14 +17,13 @@ ghost use Rattle.snap_net.specs.Moves.{CanBeDone, HasStepped, HasMoved, HasUpdat
 ghost use Rattle.snap_net.specs.declared.net.InjectFault.{InjectFault};
 ghost use Rattle.snap_net.specs.declared.net.StepFault.{StepFault};
 
-use crate::fill::filled_stores;
 use crate::flights::Flights;
 use crate::flying::Flying;
 use crate::happened::{Happened, Landed, Moved};
 use crate::landing::{become_of, fly, put_down, step_at};
-use crate::listing::{append, listing_at, listings, of_array, total};
 use crate::moves::{carry_out, frame_of, framed, move_on};
 use crate::parts::Parts;
+use crate::rehousing::move_arrays;
 use snap_core::NoMemory;
 use snap_core::packet::Packet;
 use snap_core::place::{Entry, Listed};
@@ -120,30 +119,6 @@ pub fn empty_stores(alloc: Global, count: usize) -> Result<Vec<Store>, NoMemory>
         stores.push(Store::new(alloc))?;
     }
     Ok(stores)
-}
-
-/// A network with nothing in flight, in which so many packets were injected, and each switch holds its own arrays as the
-/// entries have them. Of two entries of one place the first counts. Refuses for memory alone.
-pub fn reopen(
-    alloc: Global,
-    tables: Valid,
-    entries: &[Entry],
-    injected: u64,
-) -> Result<Net, NoMemory>
-    requires { All (λ e. e.place.var < array_count tables) entries.now }
-    ensures tables { IfOk result (λ net. net.tables ≡ tables) }
-    ensures injected { IfOk result (λ net. net.injected ≡ injected) }
-    ensures flying { IfOk result (λ net. net.flying ≡ []) }
-    ensures start { IfOk result (λ net. Shows net (record (start tables (number_in entries.now)) { injected = injected })) }
-{
-    let stores = filled_stores(alloc, &tables, entries)?;
-    Ok(Net {
-        alloc,
-        tables,
-        stores,
-        injected,
-        flying: Flights::new(alloc),
-    })
 }
 
 impl Net {
@@ -424,12 +399,13 @@ impl Net {
     pub fn listing(&self) -> Result<Vec<Listed<'_>>, NoMemory>
         ensures { IfOk result (λ listed. (s : State) → Shows self.now s → IsListing (whole self.now.tables s) (map entry_of listed.items)) }
     {
-        let stores = listings(self.alloc, &self.stores)?;
-        let mut all = Vec::with_capacity(self.alloc, total(&stores))?;
+        let cells = self.stores.iter().map(|store| store.cells());
+        let room = cells.fold(0, |sum: usize, count| sum.saturating_add(count));
+        let mut all = Vec::with_capacity(self.alloc, room)?;
         let count = self.tables.tables().arrays.items().len();
         for var in 0..count as u16 {
             let at = self.tables.owner_of(var);
-            append(&mut all, of_array(listing_at(&stores, at as usize), var))?;
+            self.stores[at as usize].list_array(var, &mut all)?;
         }
         Ok(all)
     }
@@ -444,6 +420,25 @@ impl Net {
             entries.push(each.entry(self.alloc)?)?;
         }
         Ok(entries)
+    }
+
+    /// Puts other tables in the place of these: each array moves to its switch of those, so the whole store stays, and
+    /// nothing is in flight. Refuses for memory alone; the arrays that had moved by then are lost.
+    pub fn rehouse(&mut self, tables: Valid) -> Result<(), NoMemory>
+        requires { array_count tables ≡ array_count self.old.tables }
+        ensures tables { OnOk result (self.new.tables ≡ tables) }
+        ensures flying { OnOk result (self.new.flying ≡ []) }
+        ensures stores { OnOk result ((s : State) → Shows self.old s → Shows self.new (record (start tables (whole self.old.tables s)) { injected = s.injected })) }
+        ensures injected { self.new.injected ≡ self.old.injected }
+        ensures err { OnErr result ((self.new.tables ≡ self.old.tables) × (self.new.flying ≡ self.old.flying)) }
+    {
+        let _known = self.tables();
+        let mut stores = empty_stores(self.alloc, tables.tables().switches.items().len())?;
+        move_arrays(&self.tables, &mut self.stores, &tables, &mut stores)?;
+        self.tables = tables;
+        self.stores = stores;
+        self.flying = Flights::new(self.alloc);
+        Ok(())
     }
 
     /// Takes the network apart. Refuses for memory alone.

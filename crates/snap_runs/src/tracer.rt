@@ -16,7 +16,7 @@ use snap_core::NoMemory;
 use snap_core::packet::Packet;
 use snap_core::program::Fields;
 use snap_io::{Output, Sink};
-use snap_net::net::{InjectFault, Net, open_net, reopen};
+use snap_net::net::{InjectFault, Net, open_net};
 use snap_rows::valid::Valid;
 use snap_trace::TraceFault;
 use snap_trace::runner::Machine;
@@ -25,7 +25,6 @@ use std::alloc::Global;
 /// A network between two packets, and room for what happens to a packet.
 #[derive(Drop)]
 pub struct Tracer {
-    alloc: Global,
     net: Net,
     hops: bool,
     frames: Frames,
@@ -44,7 +43,6 @@ impl Tracer {
     {
         let net = open_net(alloc, tables)?;
         Ok(Tracer {
-            alloc,
             net,
             hops,
             frames,
@@ -83,7 +81,7 @@ impl Tracer {
         ensures hops { self.new.hops ≡ self.old.hops }
         ensures frames { self.new.frames ≡ self.old.frames }
     {
-        self.net = reopened(self.alloc, &self.net, tables)?;
+        self.net.rehouse(tables)?;
         Ok(())
     }
 
@@ -189,17 +187,6 @@ impl Tracer {
         self.tally.put_block(text, fields, number + 1)?;
         Ok(())
     }
-}
-
-// A network with these tables, and with the same number of packets taken and the same whole store as this one.
-fn reopened(alloc: Global, net: &Net, tables: Valid) -> Result<Net, NoMemory>
-    requires { array_count tables ≡ array_count net.now.tables }
-    ensures tables { IfOk result (λ new. new.tables ≡ tables) }
-    ensures changed { IfOk result (λ new. (s : State) → Shows net.now s → Shows new (changed tables net.now.tables s)) }
-    ensures injected { IfOk result (λ new. new.injected ≡ net.now.injected) }
-{
-    let entries = net.entries()?;
-    reopen(alloc, tables, &entries, net.injected())
 }
 
 pub(crate) fn fields_of(net: &Net) -> &Fields
