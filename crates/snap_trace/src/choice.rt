@@ -39,14 +39,14 @@ impl<'a> Choice<'a> {
         let Some(first) = value_test(pol) else {
             return Ok(None);
         };
-        if !has_many(first.comp, pol) {
-            return Ok(None);
-        }
         let (mut cases, mut branches) = (Vec::new(alloc), Vec::new(alloc));
         let mut rest = pol;
         while let Some(next) = test_of(first.comp, rest) {
             put(&mut cases, &mut branches, next)?;
             rest = next.no;
+        }
+        if cases.len() <= FEW {
+            return Ok(None);
         }
         Ok(Some(Choice {
             comp: first.comp,
@@ -78,26 +78,6 @@ impl<'a> Choice<'a> {
             None => self.rest,
         }
     }
-}
-
-/// Whether a policy is a choice among many numbers. Takes no memory.
-pub(crate) fn is_choice(pol: &Pol) -> bool {
-    match value_test(pol) {
-        Some(first) => has_many(first.comp, pol),
-        None => false,
-    }
-}
-
-// Whether a policy tests a component against many numbers.
-fn has_many(comp: u16, pol: &Pol) -> bool {
-    let mut rest = pol;
-    for _ in 0..=FEW {
-        match test_of(comp, rest) {
-            Some(next) => rest = next.no,
-            None => return false,
-        }
-    }
-    true
 }
 
 // Puts a case and its branch behind the others.

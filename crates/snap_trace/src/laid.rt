@@ -10,7 +10,7 @@ ghost use Rattle.snap_core.specs.Runs.{after_first, ran_with, set_after};
 ghost use Rattle.snap_trace.specs.Choices.{ComesTo, IsPart};
 ghost use Rattle.snap_trace.specs.declared.laid.Part.{Part as PartData};
 
-use crate::choice::{Choice, is_choice};
+use crate::choice::Choice;
 use snap_core::NoMemory;
 use snap_core::copies::Flow;
 use snap_core::eval::{run_after, run_on};
@@ -133,10 +133,7 @@ pub fn lay(alloc: Global, pol: &Pol) -> Result<Laid<'_>, NoMemory>
 {
     let mut later = Vec::new(alloc);
     let mut first = pol;
-    for _ in 0..count_later(pol) {
-        let Pol::Seq(before, last) = first else {
-            break;
-        };
+    while let Pol::Seq(before, last) = first {
         put_part(alloc, &mut later, last)?;
         first = before;
     }
@@ -148,20 +145,6 @@ pub fn lay(alloc: Global, pol: &Pol) -> Result<Laid<'_>, NoMemory>
         first,
         later,
     })
-}
-
-// How many parts are to stand behind the first, in which all before the first choice among many numbers stay together.
-fn count_later(pol: &Pol) -> usize {
-    let (mut count, mut later) = (0usize, 0);
-    let mut first = pol;
-    while let Pol::Seq(before, last) = first {
-        count = count.saturating_add(1);
-        if is_choice(last) {
-            later = count;
-        }
-        first = before;
-    }
-    if is_choice(first) { count } else { later }
 }
 
 // Puts a part behind the others.
