@@ -1,11 +1,17 @@
 -- One link, or both halves.
-use Rattle.std.proofs.Common.{◌≡◌, ◌++◌, ℕ, List, [], ◌∷◌, get_or, length, refl, sym, subst, ◌∙◌, arith, take-append-drop}
+use Rattle.std.proofs.Common.{◌≡◌, ◌++◌, List, [], ◌∷◌, get_or, length, refl, sym, subst, ◌∙◌, arith, take-append-drop}
 use Rattle.std.specs.Prelude.{All}
 use Rattle.std.proofs.lemmas.List.Elements.{All-drop, All-take}
 use Rattle.std.proofs.lemmas.Result.{IfOk-weaker}
+use Rattle.snap_build.specs.declared.chains.Link.{Link}
 use Rattle.snap_build.specs.Chains.{holding, reading, IsLink}
 use Rattle.snap_build.proofs.Chained.{holding_kept, link_kept, link_same, links_kept, only_link, own_kept, own_link, reading_kept, two_links, whole_chain}
 use Rattle.snap_build.proofs.chains.+join_all.Goals as goal
+
+alone : (ls : List Link) (d : Link) → length ls ≡ 1 → ls ≡ get_or ls 0 d ∷ []
+alone [] d one = absurd (let z : ⊥ = omega (arith, one) in z)
+alone (l ∷ []) d one = refl
+alone (l ∷ k ∷ ls) d one = absurd (let z : ⊥ = omega (arith, one) in z)
 
 pub join_all-requires : goal.join_all-requires
 join_all-requires t c =
@@ -29,10 +35,16 @@ join_all-requires-2 t c =
 
 pub join_two-requires : goal.join_two-requires
 join_two-requires t c =
-    let g = c.args.groups.now in let v = c.args.ctx.now in (
-      own_kept g v c.join_all.new.nodes c.join_all-2.new.nodes c.in_ok-first.first c.join_all-2.ensures.grew (own_link g v _ _ c.join_all.new.nodes c.in_ok-first.first c.in_ok-first.ensures.link),
-      own_link g v _ _ c.join_all-2.new.nodes c.in_ok-second.second c.in_ok-second.ensures.link,
-    )
+    let g = c.args.groups.now in let v = c.args.ctx.now in
+    record {
+      a = own_kept g v c.join_all.new.nodes c.join_all-2.new.nodes c.in_ok-first.first c.join_all-2.ensures.grew (own_link g v _ _ c.join_all.new.nodes c.in_ok-first.first c.in_ok-first.ensures.link);
+      b = own_link g v _ _ c.join_all-2.new.nodes c.in_ok-second.second c.in_ok-second.ensures.link;
+    }
+
+pub returns-then-links-eq1-clause-link : goal.returns-then-links-eq1-clause-link
+returns-then-links-eq1-clause-link t c =
+    let ls = c.args.links.now in let d : Link = record { diagram = 0; last = 0 } in
+    only_link c.args.any c.args.groups.now c.args.ctx.now c.args.nodes.now ls (get_or ls 0 d) (alone ls d c.if-links-eq1.true) (c.requires.links 0 d c.requires.some)
 
 pub returns-clause-link : goal.returns-clause-link
 returns-clause-link t c =
