@@ -1,5 +1,5 @@
 -- The switch of a port, by a search in ports that rise.
-use Rattle.std.proofs.Common.{◌≡◌, ◌≢◌, ◌∙◌, inl, inr, ℕ, zero, suc, ◌<◌, ◌≤◌, Bool, true, false, cond, ◌==◌, List, [], ◌∷◌, length, map, get_or, slice_get, Option, Some, None, IsSome, unwrap_or, Ok, Err, refl, sym, ap, arith}
+use Rattle.std.proofs.Common.{◌≡◌, ◌≢◌, ◌∙◌, inl, inr, ℕ, zero, suc, ◌<◌, ◌≤◌, Bool, true, false, cond, ◌==◌, List, [], ◌∷◌, length, map, get_or, Option, Some, None, IsSome, unwrap_or, Ok, Err, refl, sym, ap, arith}
 use Rattle.std.specs.List.{All}
 use Rattle.std.specs.List.Sorted.{IsStrictlySortedBy, IsSearchInRange, IsBinarySearchResult, IsNonDecreasingBy}
 use Rattle.std.specs.Ordering.{nat_cmp, ordering_index}
@@ -10,7 +10,6 @@ use Rattle.std.proofs.lemmas.List.{get_or-map, length-map}
 use Rattle.std.proofs.lemmas.List.Elements.{All-head, All-map, All-tail, All-weaker}
 use Rattle.std.proofs.lemmas.List.Sorted.{IsNonDecreasingBy-from_default}
 use Rattle.std.proofs.lemmas.Map.Keys.{below_from_sorted}
-use Rattle.std.proofs.lemmas.Option.{get_or_from_slice_get, slice_get_within}
 use Rattle.snap_core.specs.declared.ports.PortAt.{PortAt}
 use Rattle.snap_topo.specs.Form.{IsPort}
 use Rattle.snap_seek.specs.declared.demand.Flow.{Flow}
@@ -87,10 +86,10 @@ module _ (ports : List PortAt) (rise : IsStrictlySortedBy nat_cmp (map number po
       absent ports port (λ k lt same. elim (cases_lt k at) [ inl less ↦ let low = before k less in omega arith | inr more ↦ let high = after k more lt in omega arith ])
 
 -- the port that a guess found
-pub found_near : (ports : List PortAt) (port place : ℕ) (entry : PortAt) → IsStrictlySortedBy nat_cmp (map number ports) → slice_get ports place ≡ Some entry → entry.port ≡ port → switch_at ports port ≡ Some entry.at
-found_near ports port place entry rise found is =
-    let here = get_or_from_slice_get ports place entry nowhere found in
-    found-there ports rise port place (slice_get_within ports place entry found) (ap number here ∙ is) ∙ ap (λ (p : PortAt). Some p.at) here
+pub found_near : (ports : List PortAt) (port place : ℕ) (entry : PortAt) → IsStrictlySortedBy nat_cmp (map number ports) → place < length ports → ((d : PortAt) → entry ≡ get_or ports place d) → entry.port ≡ port → switch_at ports port ≡ Some entry.at
+found_near ports port place entry rise within found is =
+    let here = sym (found nowhere) in
+    found-there ports rise port place within (ap number here ∙ is) ∙ ap (λ (p : PortAt). Some p.at) here
 
 -- the switch of a port that is there is one of the switches
 pub switch_of-below : (n : ℕ) (ports : List PortAt) (port : ℕ) → All (IsPort n) ports → IsSome (switch_at ports port) → switch_of ports port < n

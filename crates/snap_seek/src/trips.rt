@@ -48,7 +48,6 @@ impl Trip {
 
 // The switch at which a port is, where it stands as far behind the first port as its number is above that one's: so each
 // does where numbers have no gaps.
-#[tactic(auto, using(crate::proofs::Ported::found_near))]
 fn switch_near(ports: &[PortAt], port: u32) -> Option<u16>
     requires { IsStrictlySortedBy nat_cmp (map (λ (p : PortAt). p.port) ports.now) }
     ensures { IfSome result (λ at. switch_at ports.now port ≡ Some at) }
