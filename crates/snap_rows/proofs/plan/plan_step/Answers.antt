@@ -15,7 +15,9 @@ returns c =
     let t = c.args.tables.now in
     let k = c.args.packet.now in
     let m = arrays_of c.args.store.now in
-    record { does = record {
-      handles = subst (λ us. Handles t c.args.at k m c.args.head (updates m us k) c.in_ok-action.action) (sym c.in_ok-ups.ensures) (plain_does c.in_ok-fate.ensures (λ j. refl) c.in_ok-action.ensures);
-      reads = subst (All (UpdateReads _)) (sym c.in_ok-ups.ensures) c.in_ok-fate.ensures.reads;
-    } }
+    record {
+      does = record {
+        handles = subst (λ us. Handles t c.args.at k m c.args.head (updates m us k) c.in_ok-action.action) (sym c.in_ok-ups.ensures) (plain_does c.in_ok-fate.ensures (λ j. refl) c.in_ok-action.ensures);
+        reads = subst (All (UpdateReads _)) (sym c.in_ok-ups.ensures) c.in_ok-fate.ensures.reads;
+      };
+    }
