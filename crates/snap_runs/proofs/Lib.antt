@@ -21,7 +21,6 @@ pub mod Playing
 pub mod Played
 pub mod Scheduled
 pub mod ReadWhole
-pub mod Changing
 pub mod Passing
 pub mod LineTexts
 pub mod Crossed
