@@ -1,5 +1,3 @@
-ghost use Rattle.std.specs.Prelude.{◌≡◌, length};
-ghost use Rattle.snap_core.specs.Fields.{count};
 ghost use Rattle.snap_core.specs.Programs.{IsBounded};
 
 use crate::given::program;
@@ -29,23 +27,21 @@ const LINES: [(&[u8], [u64; 5]); 14] = [
     (b"1 g.host=5 f=1 outport=2", [1, 2, 1, 0, 5]),
 ];
 
-// Whether a line that is read behind others says a packet of these components, the first of which is its port.
-fn says(draft: &mut Draft, fields: &Fields, line: &[u8], numbers: [u64; 5]) -> bool
-    requires { length draft.old.packet ≡ count fields.now }
-    ensures { length draft.new.packet ≡ length draft.old.packet }
-{
-    match read_line(draft, fields, line) {
+// Whether a line that is read behind another says a packet of these components, the first of which is its port.
+fn says(alloc: Global, fields: &Fields, line: &[u8], numbers: [u64; 5]) -> Result<bool, Fail> {
+    let mut draft = Draft::new(alloc, fields)?;
+    let _before = read_line(&mut draft, fields, b"9 outport=8 f=7 g=6:5");
+    match read_line(&mut draft, fields, line) {
         Some(Line::Inject { port }) => {
-            u64::from(port) == numbers[0] && draft.packet().comps() == numbers.as_slice()
+            Ok(u64::from(port) == numbers[0] && draft.packet().comps() == numbers.as_slice())
         }
-        _ => false,
+        _ => Ok(false),
     }
 }
 
 fn lines_say(rt: &impl Abort, alloc: Global, fields: &Fields) -> Result<(), Fail> {
-    let mut draft = Draft::new(alloc, fields)?;
     for (line, numbers) in LINES {
-        assert!(rt; says(&mut draft, fields, line, numbers), "{line:?}");
+        assert!(rt; says(alloc, fields, line, numbers)?, "{line:?}");
     }
     Ok(())
 }
