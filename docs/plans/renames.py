@@ -44,7 +44,7 @@ class Renames:
         self.root, self.rows = root, list(table_rows(table))
         listed = subprocess.run(["git", "-C", root, "ls-files", "-co", "--exclude-standard"], capture_output=True, text=True, check=True)
         files = [f for f in listed.stdout.split("\n") if os.path.isfile(f"{root}/{f}") and not f.endswith((".svg", ".json"))]
-        self.text = {f: open(f"{root}/{f}", encoding="utf-8", errors="surrogateescape", newline="").read() for f in files if not f.startswith("docs/plans/renames")}
+        self.text = {f: open(f"{root}/{f}", encoding="utf-8", errors="surrogateescape", newline="").read() for f in files if not f.startswith(("docs/plans/renames", "docs/plans/crates"))}
         self.words = {f: set(WORD.findall(text)) for f, text in self.text.items()}
         self.crates = {old: new for kind, old, new, _ in self.rows if kind == "crate"}
         self.exact, self.spots = defaultdict(dict), defaultdict(dict)  # by file: new names of words, and of words at places
