@@ -16,7 +16,8 @@ use Rattle.snap_runs.specs.Plain.{entering}
 use Rattle.snap_runs.specs.Reports.{packets_delivered}
 use Rattle.snap_runs.specs.Settling.{AreCopiesOf, HappenTo, HasSettled, Settles, Tallies}
 use Rattle.snap_runs.proofs.Blocks.{earlier-elsewhere, later-elsewhere}
-use Rattle.snap_runs.proofs.Happenings.{HappenElsewhere, deliveries_of-append, deliveries_of-others, losses_of-append, losses_of-others}
+use Rattle.snap_net.proofs.Told.{deliveries_of-append, losses_of-append}
+use Rattle.snap_runs.proofs.Happenings.{HappenElsewhere, deliveries_of-others, losses_of-others}
 use Rattle.snap_runs.proofs.Runs.{plain-then}
 use Rattle.snap_runs.proofs.Steps.{inject-alone, rests-shown}
 use Rattle.snap_demo.specs.declared.counts.Counts.{Counts}

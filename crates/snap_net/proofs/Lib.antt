@@ -5,3 +5,5 @@ pub mod Home
 pub mod Gathering
 pub mod Travelling
 pub mod Landed
+pub mod Told
+pub mod Carried

@@ -73,7 +73,7 @@ behind k s c d is =
     ∙ ap (λ l. take k (map flown s.flying) ++ (flown d ∷ l)) (sym (drop-map flown (k + 1) s.flying) ∙ ap (λ n. drop n (map flown s.flying)) (add-one k))
 
 module _ (t : Tables) (k x : ℕ) (h : Head) (forwards : (w : ℕ) (p : List ℕ) (m : Arrays) → x ≢ w → Handles t w p m h m (Forward (next t w x) h)) where
-  travel_on : (w : ℕ) (ws : List ℕ) → Way t x w ws → (s : Net) (c : Copy) → slice_get s.flying k ≡ Some c → c.at ≡ w → c.head ≡ h → (s' : Net) × (hs : List Happening) × Crosses h c.packet w ws hs × Travels t k s hs s' × IsAt k x c s s'
+  travel_on : (w : ℕ) (ws : List ℕ) → Way t x w ws → (s : Net) (c : Copy) → slice_get s.flying k ≡ Some c → c.at ≡ w → c.head ≡ h → (s' : Net) × (hs : List Happening) × Crosses c.number h c.packet w ws hs × Travels t k s hs s' × IsAt k x c s s'
   travel_on w ws here s c is at head =
       let there : slice_get (map flown s.flying) k ≡ Some (flown c) = slice_get-map flown s.flying k ∙ ap (λ (o : Option Copy). elim o [ None ↦ None | Some y ↦ Some (flown y) ]) is in (
         s,
@@ -102,7 +102,7 @@ module _ (t : Tables) (k x : ℕ) (h : Head) (forwards : (w : ℕ) (p : List ℕ
       let same : record (flown d) { at = x } ≡ y = ap (λ h'. record (flown c) { at = x; head = h' }) (sym head) in (
         rest.0,
         Crossed c (next t w x) h ∷ rest.1,
-        goes at refl rest.2,
+        goes refl at refl rest.2,
         crosses (step is handles) rest.3,
         record {
           stores = λ u. rest.4.stores u ∙ same_store s.stores c.at u;
@@ -142,7 +142,7 @@ held_arrived v held k c is =
     (aim_there t held.form c.at c.head low home)
 
 pub has_gone : (v : Held) → IsValid v.tables → IsInForm v.tables → (k : ℕ) (c : Flying) → slice_get v.flying k ≡ Some c → c.at < switch_count v.tables → HasTravelled v k (travelled_to v k c)
-has_gone v valid form k y there within c is s shows = subst (λ (z : Flying). (s' : Net) × (ws : List ℕ) × (hs : List Happening) × Way t (arrived t c).at c.at ws × Crosses c.head c.packet c.at ws hs × Travels t k s hs s' × Shows (travelled_to v k z) s') same (by (aim_of t c.head) refl)
+has_gone v valid form k y there within c is s shows = subst (λ (z : Flying). (s' : Net) × (ws : List ℕ) × (hs : List Happening) × Way t (arrived t c).at c.at ws × Crosses c.number c.head c.packet c.at ws hs × Travels t k s hs s' × Shows (travelled_to v k z) s') same (by (aim_of t c.head) refl)
   where
     t : Tables
     t = v.tables
@@ -157,7 +157,7 @@ has_gone v valid form k y there within c is s shows = subst (λ (z : Flying). (s
     stands x = ap (λ n. take k v.flying ++ (record c { at = x } ∷ drop n v.flying)) (sym (add-one k))
 
     by : (o : Option ℕ) → aim_of t c.head ≡ o
-        → (s' : Net) × (ws : List ℕ) × (hs : List Happening) × Way t (unwrap_or o c.at) c.at ws × Crosses c.head c.packet c.at ws hs × Travels t k s hs s' × Shows (new (unwrap_or o c.at)) s'
+        → (s' : Net) × (ws : List ℕ) × (hs : List Happening) × Way t (unwrap_or o c.at) c.at ws × Crosses c.number c.head c.packet c.at ws hs × Travels t k s hs s' × Shows (new (unwrap_or o c.at)) s'
     by None e = (s, [], [], here, ends, stays, record { stores = shows.stores; injected = shows.injected; flying = shows.flying ∙ sym (put_same v.flying k c is) ∙ stands c.at })
     by (Some x) e =
         let low : c.at < switch_count t = subst (λ (z : Flying). z.at < switch_count t) (sym same) within in
@@ -168,7 +168,7 @@ has_gone v valid form k y there within c is s shows = subst (λ (z : Flying). (s
           way.0,
           went.1,
           way.1,
-          subst (λ p. Crosses c.head p c.at way.0 went.1) (ap (λ (z : Flying). z.packet) z.2) went.2,
+          subst (λ (z : Flying). Crosses z.number c.head z.packet c.at way.0 went.1) z.2 went.2,
           went.3,
           record {
             stores = λ u. went.4.stores u ∙ shows.stores u;

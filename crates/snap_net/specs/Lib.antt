@@ -6,3 +6,4 @@ pub mod Laws
 pub mod Travels
 pub mod Landings
 pub mod Parts
+pub mod Passing

@@ -10,5 +10,7 @@ pub mod laws;
 pub mod moves;
 pub mod net;
 pub mod parts;
+pub mod passing;
 mod rehousing;
 mod updates;
+pub mod watch;

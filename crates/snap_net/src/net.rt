@@ -11,6 +11,7 @@ ghost use Rattle.snap_net.specs.declared.flying.Flying.{Flying};
 ghost use Rattle.snap_net.specs.Flights.{spliced};
 ghost use Rattle.snap_net.specs.Travels.{HasTravelled, arrived};
 ghost use Rattle.snap_net.specs.Landings.{HasComeDown, HasComeThrough};
+ghost use Rattle.snap_net.specs.Passing.{IsHeard, Passes, lost_in, sent_in};
 ghost use Rattle.snap_net.specs.Shown.{IsHeld, Shows, IsDone, Nothing, Tells, TellsMoved, Same, store_of};
 ghost use Rattle.snap_net.specs.Parts.{held_of};
 ghost use Rattle.snap_net.specs.Moves.{CanBeDone, HasStepped, HasMoved, HasUpdated, PlanAt};
@@ -23,7 +24,9 @@ use crate::happened::{Happened, Landed, Moved};
 use crate::landing::{become_of, fly, put_down, step_at};
 use crate::moves::{carry_out, frame_of, framed, move_on};
 use crate::parts::Parts;
+use crate::passing::{Passed, carry};
 use crate::rehousing::move_arrays;
+use crate::watch::Watch;
 use snap_core::NoMemory;
 use snap_core::packet::Packet;
 use snap_core::place::{Entry, Listed};
@@ -310,6 +313,51 @@ impl Net {
         let action = fly(self.alloc, &self.tables, &mut self.stores, &copy)?;
         self.injected = number + 1;
         Ok(become_of(copy, action))
+    }
+
+    /// A packet comes in where nothing is in flight, and its copies make their steps, the first one at a time, until each is
+    /// delivered: answers what went out. The packet is changed in its own memory, and stands in no list meanwhile. Where memory
+    /// is short only the tables and the count of packets are sure to stay.
+    ///
+    /// # Errors
+    ///
+    /// As `inject`.
+    pub fn pass<W: Watch>(
+        &mut self,
+        port: u32,
+        packet: &mut Packet,
+        watch: &mut W,
+    ) -> Result<Passed, InjectFault>
+        requires rests { self.old.flying ≡ [] }
+        requires packet { length packet.old ≡ comps self.old.tables }
+        requires port { slice_index packet.old 0 ≡ port }
+        requires room { self.old.injected + 1 < 2 ^ 64 }
+        ensures passes { IfOk result (λ passed. Passes port packet.old self.old self.new (IsHeard (W.saw self.old.tables) self.old.injected watch.old watch.new (sent_in packet.new passed) (lost_in passed))) }
+        ensures sent { IfOk result (λ passed. All (λ k. length k ≡ comps self.old.tables) (sent_in packet.new passed)) }
+        ensures long { length packet.new ≡ length packet.old }
+        ensures rests { self.new.flying ≡ [] }
+        ensures tables { self.new.tables ≡ self.old.tables }
+        ensures count { OnOk result (self.new.injected ≡ self.old.injected + 1) }
+        ensures same_count { OnErr result (self.new.injected ≡ self.old.injected) }
+        ensures no_port { IfErr result (λ fault. fault ≢ InjectFault.NoMemory → port_at self.old.tables port ≡ None) }
+        ensures has_port { IfOk result (λ _. IsSome (port_at self.old.tables port)) }
+    {
+        let at = match self.tables.port_at(port as u64) {
+            Some(at) => at,
+            None => return Err(InjectFault::NoPort),
+        };
+        let number = self.injected;
+        let passed = carry(
+            self.alloc,
+            &self.tables,
+            &mut self.stores,
+            number,
+            at,
+            packet,
+            watch,
+        )?;
+        self.injected = number + 1;
+        Ok(passed)
     }
 
     /// Makes a step of copy k, counted from 0, without a frame. A refusal leaves the network as it was, but for

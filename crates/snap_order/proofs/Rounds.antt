@@ -8,7 +8,7 @@ use Rattle.snap_rows.specs.Network.{Copy, Event, Inject, Step, happening, packet
 use Rattle.snap_gen.proofs.Nodes.{IsTwo}
 use Rattle.snap_runs.specs.declared.tally.Tally.{Tally}
 use Rattle.snap_rows.specs.Happenings.{number_of}
-use Rattle.snap_runs.proofs.Runs.{packets_of-append}
+use Rattle.snap_net.proofs.Told.{packets_of-append}
 use Rattle.snap_order.specs.declared.turned.Turned.{Turned}
 use Rattle.snap_order.specs.declared.turned.Turned.TheVariants.{Moved, Visited, Waited}
 use Rattle.snap_order.specs.Ordered.{Ordered, Turn, Happens, Stays, Waits, LeadsInTurn, RunsInTurn, done, on, happenings, injects as injecting, moves, turn_of, visits, waits}

@@ -11,30 +11,10 @@ use Rattle.snap_rows.specs.declared.head.Sent.{Sent}
 use Rattle.snap_rows.specs.Happenings.{deliveries_of, losses_of, number_of}
 use Rattle.snap_rows.specs.Network.{Happening, Crossed, Delivered, Forked}
 use Rattle.snap_net.specs.Shown.{happened, moving}
+use Rattle.snap_net.proofs.Told.{deliveries_of-append, losses_of-append}
 use Rattle.snap_runs.specs.declared.frames.Frames.{Frames}
 use Rattle.snap_runs.specs.Reports.{hop_line, hop_lines, hops_text, packets_delivered}
 use Rattle.snap_runs.specs.Tallies.{delivered_by, hop_told, lost_by}
-
-pub deliveries_of-append : (i : ℕ) (hs gs : List Happening) → deliveries_of i (hs ++ gs) ≡ deliveries_of i hs ++ deliveries_of i gs
-deliveries_of-append i [] gs = refl
-deliveries_of-append i (Delivered c port ∷ hs) gs = by (c.number == i) (deliveries_of-append i hs gs)
-  where
-    by : (b : Bool) → deliveries_of i (hs ++ gs) ≡ deliveries_of i hs ++ deliveries_of i gs
-        → (if b then (record { port = port; packet = c.packet } ∷ deliveries_of i (hs ++ gs)) else deliveries_of i (hs ++ gs)) ≡ (if b then (record { port = port; packet = c.packet } ∷ deliveries_of i hs) else deliveries_of i hs) ++ deliveries_of i gs
-    by true e = ap (λ l. record { port = port; packet = c.packet } ∷ l) e
-    by false e = e
-deliveries_of-append i (Crossed c to head ∷ hs) gs = deliveries_of-append i hs gs
-deliveries_of-append i (Forked c copies lost ∷ hs) gs = deliveries_of-append i hs gs
-
-pub losses_of-append : (i : ℕ) (hs gs : List Happening) → losses_of i (hs ++ gs) ≡ losses_of i hs ++ losses_of i gs
-losses_of-append i [] gs = refl
-losses_of-append i (Delivered c port ∷ hs) gs = losses_of-append i hs gs
-losses_of-append i (Crossed c to head ∷ hs) gs = losses_of-append i hs gs
-losses_of-append i (Forked c copies lost ∷ hs) gs = by (c.number == i) (losses_of-append i hs gs)
-  where
-    by : (b : Bool) → losses_of i (hs ++ gs) ≡ losses_of i hs ++ losses_of i gs → (if b then (lost ∷ losses_of i (hs ++ gs)) else losses_of i (hs ++ gs)) ≡ (if b then (lost ∷ losses_of i hs) else losses_of i hs) ++ losses_of i gs
-    by true e = ap (λ l. lost ∷ l) e
-    by false e = e
 
 hop_lines-append : (f : Frames) (t : Tables) (i : ℕ) (hs gs : List Happening) → hop_lines f t i (hs ++ gs) ≡ hop_lines f t i hs ++ hop_lines f t i gs
 hop_lines-append f t i [] gs = refl

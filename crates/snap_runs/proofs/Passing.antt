@@ -1,9 +1,8 @@
 -- The first copy goes on its way, and the lines of the links that it crosses are put.
-use Rattle.std.proofs.Common.{◌≡◌, ◌≢◌, ℕ, ◌+◌, ◌<◌, Bool, true, false, List, [], ◌∷◌, ◌++◌, map, take, drop, Option, Some, None, refl, sym, ap, ap₂, subst, ◌∙◌, append-nil}
+use Rattle.std.proofs.Common.{◌≡◌, ◌≢◌, ℕ, ◌+◌, ◌<◌, Bool, true, false, List, [], ◌∷◌, ◌++◌, map, Option, Some, None, refl, sym, ap, ap₂, subst, ◌∙◌, append-nil}
 use Rattle.std.specs.Prelude.{slice_get, sum, unwrap_or, if◌then◌else◌}
 use Rattle.hex.specs.Hex.{encode_lower}
 use Rattle.std.proofs.lemmas.Bool.{eq-eqb}
-use Rattle.std.proofs.lemmas.Option.{none-some, same_Some}
 use Rattle.std.proofs.lemmas.List.Elements.{All-nil, All-cons, All-append, All-head, All-tail}
 use Rattle.snap_rows.specs.declared.tables.Tables.{Tables}
 use Rattle.snap_rows.specs.declared.head.Head.{Head}
@@ -12,13 +11,11 @@ use Rattle.snap_rows.specs.Aims.{aim_of}
 use Rattle.snap_rows.specs.Entries.{next}
 use Rattle.snap_rows.specs.Form.{IsInForm, switch_count}
 use Rattle.snap_rows.specs.Happenings.{deliveries_of, losses_of, number_of}
-use Rattle.snap_rows.specs.declared.head.Action.{Action}
-use Rattle.snap_rows.specs.declared.head.Action.TheVariants.{Forward, Deliver, Fork}
-use Rattle.snap_rows.specs.Network.{Copy, Net, Happening, Crossed, Leads, Step, happening, moved, rests, step, steps, StepsFirst, packets_of}
+use Rattle.snap_rows.specs.Network.{Net, Happening, Crossed, Step, rests, steps, StepsFirst, packets_of}
 use Rattle.snap_rows.specs.Ways.{Way, here, on}
 use Rattle.snap_head.specs.Frames.{frame}
 use Rattle.snap_net.specs.declared.flying.Flying.{Flying}
-use Rattle.snap_net.specs.Shown.{Held, Shows, flown}
+use Rattle.snap_net.specs.Shown.{Held}
 use Rattle.snap_net.specs.Travels.{Crosses, ends, goes, Travels, stays, crosses, HasTravelled, arrived}
 use Rattle.snap_runs.specs.declared.frames.Frames.{Frames}
 use Rattle.snap_runs.specs.declared.tally.Tally.{Tally}
@@ -27,8 +24,8 @@ use Rattle.snap_runs.specs.Reports.{hop_line, hop_lines, hops_text, lead_of}
 use Rattle.snap_runs.specs.Settling.{AreCopiesOf, HappenTo, HasPassed, Settles, Tallies}
 use Rattle.snap_runs.specs.Tallies.{IsTally}
 use Rattle.snap_rows.proofs.Aims.{aim_below}
-use Rattle.snap_runs.proofs.Happenings.{deliveries_of-append, losses_of-append, hops_text-append}
-use Rattle.snap_runs.proofs.Runs.{calm-then, packets_of-append}
+use Rattle.snap_net.proofs.Told.{calm-then, deliveries_of-append, losses_of-append, packets_of-append}
+use Rattle.snap_runs.proofs.Happenings.{hops_text-append}
 use Rattle.snap_runs.proofs.Steps.{step-injected, step-numbers}
 
 -- ---- ways
@@ -58,14 +55,12 @@ notes-way f t c to digits before after there are put ws way =
     ∙ ap (λ d. before ++ way_text t.switches d c.at ws) are
 
 -- the lines of a way are those of the crossings along it, which are of one packet
-crosses_lines : (f : Frames) (switches : List (List ℕ)) (i : ℕ) (h : Head) (p : List ℕ) (w : ℕ) (ws : List ℕ) (hs : List Happening) → HappenTo i hs → Crosses h p w ws hs
-    → way_text switches (encode_lower (lead_of f i ++ frame h p)) w ws ≡ crossing_lines f switches hs
-crosses_lines f switches i h p w ws hs own ends = refl
-crosses_lines f switches i h p w ws hs own (goes {v = v} {vs = vs} {hs = gs} {c = c} at packet rest) =
-    let mine : c.number ≡ i = All-head (λ x. number_of x ≡ i) (Crossed c v h) gs own in
+crosses_lines : (f : Frames) (switches : List (List ℕ)) (i : ℕ) (h : Head) (p : List ℕ) (w : ℕ) (ws : List ℕ) (hs : List Happening) → Crosses i h p w ws hs → way_text switches (encode_lower (lead_of f i ++ frame h p)) w ws ≡ crossing_lines f switches hs
+crosses_lines f switches i h p w ws hs ends = refl
+crosses_lines f switches i h p w ws hs (goes {v = v} {vs = vs} {hs = gs} {c = c} mine at packet rest) =
     ap₂ (λ a b. a ++ b)
     (λ z. line_text switches (encode_lower (lead_of f (sym mine z) ++ frame h (sym packet z))) (sym at z) v)
-    (crosses_lines f switches i h p v vs gs (All-tail (λ x. number_of x ≡ i) (Crossed c v h) gs own) rest)
+    (crosses_lines f switches i h p v vs gs rest)
 
 -- ---- crossings
 travels_settle : (t : Tables) (a b : Net) (gs : List Happening) → Travels t 0 a gs b → Settles t a b gs
@@ -140,45 +135,11 @@ noted-passed f t hops s a b hs gs y y' noted travels passed = record {
       };
 }
 
--- what holds of the number of the first copy holds of those that cross links
-crossing_numbers : (t : Tables) (i : ℕ) (a m : Net) (j : ℕ) (hs : List Happening) → ((x : Copy) → slice_get a.flying 0 ≡ Some x → x.number ≡ i) → j ≡ 0 → Leads t a (Step j) m hs → (c : Copy) (to : ℕ) (h : Head) → hs ≡ Crossed c to h ∷ []
-    → (c.number ≡ i) × ((x : Copy) → slice_get m.flying 0 ≡ Some x → x.number ≡ i)
-crossing_numbers t i a m j hs own zeroth (step {i = k} {c = d} {a = act} found does) c to h e = by act (cc)
-  where
-    mine : d.number ≡ i
-    mine = own d (subst (λ n. slice_get a.flying n ≡ Some d) zeroth found)
-
-    by : (act : Action) → happening d act ≡ Crossed c to h → (c.number ≡ i) × ((x : Copy) → slice_get (take k a.flying ++ (moved d act ++ drop (k + 1) a.flying)) 0 ≡ Some x → x.number ≡ i)
-    by (Forward y head) same =
-        let copy : d ≡ c = cc in (
-          ap (λ (x : Copy). x.number) (sym copy) ∙ mine,
-          λ x is.
-              (let one : Copy = record d { at = y; head = head; hops = d.hops + 1; steps = d.steps + 1 } in
-              ap (λ (z : Copy). z.number) (sym (same_Some one x (subst (λ n. slice_get (take n a.flying ++ (moved d (Forward y head) ++ drop (k + 1) a.flying)) 0 ≡ Some x) zeroth is))) ∙ mine),
-        )
-    by (Deliver port) same = absurd (cc)
-    by (Fork copies lost) same = absurd (cc)
-
-travels_own : (t : Tables) (i : ℕ) (a b : Net) (gs : List Happening) → ((x : Copy) → slice_get a.flying 0 ≡ Some x → x.number ≡ i) → Travels t 0 a gs b → HappenTo i gs
-travels_own t i a b gs own stays = All-nil (λ h. number_of h ≡ i)
-travels_own t i a b gs own (crosses {s' = m} {c = c} {to = to} {h = h} {hs = hs} leads rest) =
-    let one = crossing_numbers t i a m 0 (Crossed c to h ∷ []) own refl leads c to h refl in
-    All-cons (λ h. number_of h ≡ i) (Crossed c to h) hs one.0 (travels_own t i m b hs one.1 rest)
-
--- the first copy of a state is that which is held
-first_shown : (v : Held) (s : Net) (c : Flying) → slice_get v.flying 0 ≡ Some c → Shows v s → (x : Copy) → slice_get s.flying 0 ≡ Some x → x.number ≡ c.number
-first_shown v s c is shows x stands = by s.flying (subst (λ l. slice_get l 0 ≡ Some c) (sym shows.flying) is) stands
-  where
-    by : (cs : List Copy) → slice_get (map flown cs) 0 ≡ Some c → slice_get cs 0 ≡ Some x → x.number ≡ c.number
-    by [] a b = absurd (none-some c a)
-    by (y ∷ ys) a b = ap (λ (z : Copy). z.number) (sym (same_Some y x b)) ∙ ap (λ (z : Flying). z.number) (same_Some (flown y) c a)
-
 -- a copy's way was noted, and the copy has gone it
 pub has-passed : (f : Frames) (hops : Bool) (old new : Held) (y y' : Tally) (c : Flying) → slice_get old.flying 0 ≡ Some c → HasTravelled old 0 new → y'.delivered.items ≡ y.delivered.items → y'.lost ≡ y.lost
     → NotesWay f old.tables hops c y.hops.items y'.hops.items → HasPassed f hops old new y y'
 has-passed f hops old new y y' c is travelled delivered lost told s shows =
-    let r = travelled c is s shows in
-    let own = travels_own old.tables c.number s r.0 r.2 (first_shown old s c is shows) r.5 in (
+    let r = travelled c is s shows in (
       r.0,
       r.2,
       r.5,
@@ -186,6 +147,6 @@ has-passed f hops old new y y' c is travelled delivered lost told s shows =
       record {
         delivered = delivered;
         lost = lost;
-        hops_told = told r.1 r.3 ∙ ap (λ l. y.hops.items ++ (if hops then l else [])) (crosses_lines f old.tables.switches c.number c.head c.packet c.at r.1 r.2 own r.4);
+        hops_told = told r.1 r.3 ∙ ap (λ l. y.hops.items ++ (if hops then l else [])) (crosses_lines f old.tables.switches c.number c.head c.packet c.at r.1 r.2 r.4);
       },
     )

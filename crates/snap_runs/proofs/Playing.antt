@@ -30,7 +30,8 @@ use Rattle.snap_runs.specs.Reports.{hops_text}
 use Rattle.snap_runs.specs.Schedules.{CantBeDone, Spells, nothing, order_by}
 use Rattle.snap_runs.specs.Tallies.{IsTally, Notes, bared, delivered_by, hop_by, lost_by}
 use Rattle.snap_runs.proofs.Blocks.{in_pushed}
-use Rattle.snap_runs.proofs.Happenings.{HappenElsewhere, deliveries_of-append, deliveries_of-others, losses_of-append, losses_of-others, hops_text-append, hops_text-others}
+use Rattle.snap_net.proofs.Told.{deliveries_of-append, losses_of-append}
+use Rattle.snap_runs.proofs.Happenings.{HappenElsewhere, deliveries_of-others, losses_of-others, hops_text-append, hops_text-others}
 use Rattle.snap_runs.proofs.Settled.{tally-more}
 use Rattle.snap_runs.proofs.Spelling.{spells-inject, spells-skip, spells-step, runs-then}
 use Rattle.snap_runs.proofs.Steps.{held-shown, inject-numbers, shown, step-injected, step-long, step-numbers}

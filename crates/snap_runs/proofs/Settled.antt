@@ -23,7 +23,7 @@ use Rattle.snap_runs.specs.Tallies.{IsBlockText, IsTally, Notes, delivered_by, d
 use Rattle.snap_runs.specs.Tracing.{HasTaken}
 use Rattle.snap_runs.proofs.Passing.{Noted, noted-passed}
 use Rattle.snap_runs.proofs.Happenings.{hops_text-more, losses_of-more, packets_delivered-more}
-use Rattle.snap_runs.proofs.Runs.{calm-then, packets_of-append}
+use Rattle.snap_net.proofs.Told.{calm-then, packets_of-append}
 use Rattle.snap_runs.proofs.Steps.{inject-alone, rests-shown, step-injected, step-numbers}
 
 -- nothing was noted yet
