@@ -7,7 +7,8 @@ use Rattle.std.specs.Cmp.Lexicographic.{nat_list_eq_equiv}
 use Rattle.std.proofs.lemmas.Bool.{cond-true, cond-false}
 use Rattle.std.proofs.lemmas.Slice.Eq.{bytes_eq-Decides}
 use Rattle.std.proofs.Math.Bool.{and-true}
-use Rattle.snap_core.specs.Cells.{cell}
+use Rattle.snap_core.specs.Cells.{Cells, cell, either, beside}
+use Rattle.snap_core.proofs.Beside.{cell-beside}
 use Rattle.snap_arena.specs.Memos.{paired}
 
 abbrev two : ℕ × ℕ → List ℕ
@@ -23,7 +24,7 @@ cell-paired_any : (q : List ℕ) (es : List ((ℕ × ℕ) × ℕ)) → lookup (�
 cell-paired_any q [] = refl
 cell-paired_any q (e ∷ es) = ap (cond (bytes_eq q (two e.0)) (Some e.1)) (cell-paired_any q es)
 
-pub cell-paired : (k : ℕ × ℕ) (es : List ((ℕ × ℕ) × ℕ)) → lookup (two_eq k) es ≡ cell (paired es) (two k)
+cell-paired : (k : ℕ × ℕ) (es : List ((ℕ × ℕ) × ℕ)) → lookup (two_eq k) es ≡ cell (paired es) (two k)
 cell-paired k es = (λ i. lookup (λ l. two_eq-bytes_eq k l i) es) ∙ cell-paired_any (two k) es
 
 apart : (xs ys ks : List ℕ) → bytes_eq xs ys ≡ false → bytes_eq xs ks ≡ true → bytes_eq ys ks ≡ false
@@ -40,3 +41,15 @@ cell-paired_update k es fs w here others q = by (bytes_eq (two k) q) refl
         ∙ others (λ l. bytes_eq q (two l)) (λ x y e. nat_list_eq_equiv.congr q (two x) (two y) e ∙ sym (two_eq-bytes_eq x y)) (λ l e. apart (two k) q (two l) f (sym (two_eq-bytes_eq k l) ∙ e))
         ∙ cell-paired_any q es
         ∙ sym (cond-false (bytes_eq (two k) q) _ _ f)
+
+-- in front of other cells: what is found there, or else among these
+pub cell-paired_beside : (k : ℕ × ℕ) (es : List ((ℕ × ℕ) × ℕ)) (back : Cells) (found : Option ℕ) → lookup (two_eq k) es ≡ found → cell (beside (paired es) back) (two k) ≡ either found (cell back (two k))
+cell-paired_beside k es back found is = cell-beside (paired es) back (two k) ∙ ap (λ o. either o (cell back (two k))) (sym (cell-paired k es) ∙ is)
+
+-- what is written in front of other cells counts before these, too
+pub cell-beside_update : (b : Bool) (n : ℕ) (new old back : Cells) (q : List ℕ) → cell new q ≡ cond b (Some n) (cell old q) → cell (beside new back) q ≡ cond b (Some n) (cell (beside old back) q)
+cell-beside_update b n new old back q is =
+    cell-beside new back q
+    ∙ ap (λ o. either o (cell back q)) is
+    ∙ elim b as (λ t. either (cond t (Some n) (cell old q)) (cell back q) ≡ cond t (Some n) (either (cell old q) (cell back q))) [ true ↦ refl | false ↦ refl ]
+    ∙ ap (cond b (Some n)) (sym (cell-beside old back q))
