@@ -32,14 +32,20 @@ fn settled(alloc: Global, distances: &[Option<u32>], target: u16) -> Result<Vec<
     Ok(known)
 }
 
-/// The routes to the target.
-fn toward(alloc: Global, graph: &[Neighbours], target: u16) -> Result<Toward, RouteFault>
+/// The routes to the target. The two lists are room for the search.
+fn toward(
+    alloc: Global,
+    graph: &[Neighbours],
+    target: u16,
+    level: &mut Vec<u16>,
+    next: &mut Vec<u16>,
+) -> Result<Toward, RouteFault>
     requires graph { IsGraph graph.now }
     requires target { target < length graph.now }
     ensures ok { IfOk result (IsToward graph.now target) }
     ensures away { IfErr result (IsCause (λ a b. (a ≡ target) × IsFirstAway graph.now target b)) }
 {
-    let found = distances_to(alloc, graph, target)?;
+    let found = distances_to(alloc, graph, target, level, next)?;
     let distances = settled(alloc, found.as_slice(), target)?;
     let nexts = next_hops(alloc, graph, distances.as_slice(), target)?;
     Ok(Toward::new(distances, nexts))
@@ -52,9 +58,11 @@ pub(crate) fn all_routes(alloc: Global, graph: &[Neighbours]) -> Result<Vec<Towa
     ensures rows { IfOk result (λ rows. (b : ℕ) → b < length graph.now → IsToward graph.now b (row_in rows.items b)) }
     ensures apart { IfErr result (IsCause (IsFirstApart (Adjacent graph.now) (length graph.now))) }
 {
+    let mut level = Vec::with_capacity(alloc, graph.len())?;
+    let mut next = Vec::with_capacity(alloc, graph.len())?;
     let mut rows = Vec::with_capacity(alloc, graph.len())?;
     for target in 0..graph.len() {
-        rows.push(toward(alloc, graph, target as u16)?)?;
+        rows.push(toward(alloc, graph, target as u16, &mut level, &mut next)?)?;
     }
     Ok(rows)
 }

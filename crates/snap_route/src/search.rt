@@ -8,6 +8,7 @@ ghost use Rattle.snap_route.specs.Search.{Reaches, Settles, unreached};
 use crate::graph::Neighbours;
 use snap_core::NoMemory;
 use std::alloc::Global;
+use std::mem;
 
 /// Reaches those of some switches that were not reached, at this distance, and adds them to the level.
 fn reach(
@@ -29,59 +30,62 @@ fn reach(
     Ok(())
 }
 
-/// Reaches the switches next to a level, and gives them as the next level. Of the others at most `left` are not
+/// Reaches the switches next to a level, and leaves them alone in the next level. Of the others at most `left` are not
 /// reached, so once there are as many in the next level no more is looked for.
 fn next_level(
-    alloc: Global,
     graph: &[Neighbours],
     level: &[u16],
     distance: u32,
     left: usize,
     distances: &mut [Option<u32>],
-) -> Result<Vec<u16>, NoMemory>
+    next: &mut Vec<u16>,
+) -> Result<(), NoMemory>
     requires graph { IsGraph graph.now }
     requires count { length distances.old ≡ length graph.now }
     requires level { (v : ℕ) → Contains level.now v → v < length graph.now }
     requires left { unreached distances.old ≤ left }
-    ensures { IfOk result (λ next. Reaches (flat_map (neighbours_of graph.now) level.now) distance distances.old distances.new [] next.items) }
+    ensures { IfOk result (λ _. Reaches (flat_map (neighbours_of graph.now) level.now) distance distances.old distances.new [] next.new.items) }
 {
-    let mut next = Vec::with_capacity(alloc, graph.len())?;
+    next.clear();
     for switch in level {
         if next.len() < left {
             let switches = graph[*switch as usize].items();
-            reach(switches, distance, distances, &mut next)?;
+            reach(switches, distance, distances, next)?;
         }
     }
-    Ok(next)
+    Ok(())
 }
 
-/// The distance of each switch to the target, or `None` where no walk leads there.
+/// The distance of each switch to the target, or `None` where no walk leads there. The two lists are room for the
+/// search; what stands in them doesn't count.
 pub(crate) fn distances_to(
     alloc: Global,
     graph: &[Neighbours],
     target: u16,
+    level: &mut Vec<u16>,
+    next: &mut Vec<u16>,
 ) -> Result<Vec<Option<u32>>, NoMemory>
     requires graph { IsGraph graph.now }
     requires target { target < length graph.now }
     ensures { IfOk result (λ ds. Settles graph.now target ds.items) }
 {
     let mut distances = vec![in alloc; None; graph.len()]?;
-    let mut level = Vec::with_capacity(alloc, graph.len())?;
     let mut distance = 0;
-    reach(&[target], distance, distances.as_mut_slice(), &mut level)?;
+    level.clear();
+    reach(&[target], distance, distances.as_mut_slice(), level)?;
     let mut left = graph.len() - level.len();
     'levels: while !level.is_empty() {
         distance += 1;
-        let next = next_level(
-            alloc,
+        next_level(
             graph,
             level.as_slice(),
             distance,
             left,
             distances.as_mut_slice(),
+            next,
         )?;
         left -= next.len();
-        level = next;
+        mem::swap(level, next);
     }
     Ok(distances)
 }
