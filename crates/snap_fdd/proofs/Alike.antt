@@ -187,7 +187,7 @@ pruned_alike ranks s e key v w d r cv cw lv lw kv kw over diagram fv fw p = reco
 pub plan_kept : (plan : Plan) (old new : List (Node Leaf)) → Grew old new → IsPlan plan old → IsPlan plan new
 plan_kept plan old new g p = record {
   marked = record { clear = p.marked.clear; quiet = noted_kept (λ (b : Bool) (d : Diagram). b ≡ true → IsQuiet plan.survey d) old new plan.reached.ids.items plan.quiet.items g p.marked.quiet };
-  placed = noted_kept (λ (b : Bool) (d : Diagram). b ≡ true → AsksPlaces d) old new plan.reached.ids.items plan.places.items g p.placed;
+  placed = noted_kept (λ (b : Bool) (d : Diagram). b ≡ true → AsksPlaces plan.spelling d) old new plan.reached.ids.items plan.places.items g p.placed;
   tested = noted_kept (λ (o : Option Tested) (d : Diagram). IfSome o (λ e. TestsOver e d)) old new plan.reached.ids.items plan.tested.items g p.tested;
 }
 

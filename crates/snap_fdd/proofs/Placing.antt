@@ -1,5 +1,5 @@
--- Nothing is dead in a diagram that tests places alone, where its components are their own classes.
-use Rattle.std.proofs.Common.{◌≡◌, ◌⊎◌, inl, inr, ℕ, ◌+◌, ◌<◌, ◌≤◌, ◌^◌, Bool, true, false, List, [], ◌∷◌, ◌++◌, length, map, refl, sym, ap, subst, ◌∙◌, arith, append_assoc, append-nil, length-append}
+-- Nothing is dead in a diagram that tests places alone, where those that are spelled differently differ.
+use Rattle.std.proofs.Common.{◌≡◌, ◌⊎◌, inl, inr, ℕ, ◌+◌, ◌<◌, ◌≤◌, ◌^◌, Bool, true, false, List, [], ◌∷◌, ◌++◌, length, map, refl, sym, ap, subst, ◌∙◌, arith, append_assoc, append-nil, length-append, bit_or}
 use Rattle.std.specs.Prelude.{All}
 use Rattle.std.specs.List.{AllByRecursion}
 use Rattle.std.proofs.lemmas.List.Elements.{All-append, recursion_from_All}
@@ -9,7 +9,7 @@ use Rattle.snap_core.specs.declared.policy.Term.{Term}
 use Rattle.snap_core.specs.declared.policy.Term.TheVariants.{Num, Plus}
 use Rattle.snap_core.specs.declared.policy.Test.{Test}
 use Rattle.snap_core.specs.declared.policy.Test.TheVariants.{Value, Equal, State}
-use Rattle.snap_core.specs.Arrays.{Arrays, has}
+use Rattle.snap_core.specs.Arrays.{Arrays}
 use Rattle.snap_core.specs.Inputs.{IsPacket}
 use Rattle.snap_core.specs.Listing.{number_in}
 use Rattle.snap_ctx.specs.declared.fact.Fact.{Fact}
@@ -21,6 +21,7 @@ use Rattle.snap_ctx.specs.Lean.{Among}
 use Rattle.snap_ctx.proofs.Among.{all_among, among_last, from_all}
 use Rattle.snap_ctx.proofs.Last.{with_last, last_parts}
 use Rattle.snap_ctx.proofs.Model.{model}
+use Rattle.snap_ctx.proofs.Testing.{has-left}
 use Rattle.snap_ctx.specs.declared.tested.Tested.{Tested}
 use Rattle.snap_dep.specs.Ranks.{Grouping}
 use Rattle.snap_fdd.specs.Bounds.{Sizes, IsIn}
@@ -28,39 +29,48 @@ use Rattle.snap_fdd.specs.Contexts.{Met}
 use Rattle.snap_fdd.specs.Diagrams.{Diagram, Only, Asks, depth}
 use Rattle.snap_fdd.specs.Order.{Above, IsOrdered}
 use Rattle.snap_fdd.specs.Picks.{IsDiagram, sizes}
-use Rattle.snap_fdd.specs.Places.{AsksPlaces, AtomIsOwn, ComesBefore, IsOwn, StandsAside, TermIsOwn}
+use Rattle.snap_fdd.specs.Places.{AreApart, AreKept, AsksPlaces, AtomIsOwn, AtomIsWithin, ComesBefore, IsKept, IsOutside, IsOwn, StandsAside, TermIsOwn}
 use Rattle.snap_fdd.specs.Pruned.{Someone, With, IsLive}
 use Rattle.snap_fdd.specs.Quiet.{BeginsElsewhere, SameSubject}
 use Rattle.snap_fdd.specs.Tested.{TestsOver}
+use Rattle.snap_fdd.specs.declared.places.Spelling.{Spelling}
 use Rattle.snap_fdd.proofs.Alike.{test_is}
 use Rattle.snap_fdd.proofs.Between.{same_between}
 use Rattle.snap_fdd.proofs.Calm.{Agree, Tells, number_of}
 use Rattle.snap_fdd.proofs.Comparing.{less_trans, not_itself}
 use Rattle.snap_fdd.proofs.Quieting.{one_test, turned}
 
+-- ---- sets of bound components
+pub kept_more : (cl : List Term) (bound more c : ℕ) → IsKept cl bound (Comp c) → IsKept cl (bit_or bound more) (Comp c)
+kept_more cl bound more c h = elim h [ inl o ↦ inl o | inr b ↦ inr (has-left bound more c b) ]
+
 -- ---- tests of own components are as they are spelled
-module _ (cl : List Term) where
-  own_index : (ix iy : List Atom) → AllByRecursion (AtomIsOwn cl) ix → AllByRecursion (AtomIsOwn cl) iy → map (atom_class cl) ix ≡ map (atom_class cl) iy → ix ≡ iy
-  own_index [] [] a b e = refl
-  own_index [] (y ∷ iy) a b e = absurd (cc)
-  own_index (x ∷ ix) [] a b e = absurd (cc)
-  own_index (x ∷ ix) (y ∷ iy) a b e =
+module _ (cl : List Term) (bound : ℕ) where
+  own_index : (ix iy : List Atom) → AllByRecursion (IsAtom (length cl)) ix → AllByRecursion (IsAtom (length cl)) iy → AllByRecursion (AtomIsOwn cl bound) ix → AllByRecursion (AtomIsOwn cl bound) iy
+      → map (atom_class cl) ix ≡ map (atom_class cl) iy → ix ≡ iy
+  own_index [] [] p q a b e = refl
+  own_index [] (y ∷ iy) p q a b e = absurd (cc)
+  own_index (x ∷ ix) [] p q a b e = absurd (cc)
+  own_index (x ∷ ix) (y ∷ iy) p q a b e =
       let first : atom_class cl x ≡ atom_class cl y = cc in
       let rest : map (atom_class cl) ix ≡ map (atom_class cl) iy = cc in
-      let i = own_index ix iy a.1 b.1 rest in
-      (λ j. own_atom x y a.0 b.0 first j ∷ i j)
+      let i = own_index ix iy p.1 q.1 a.1 b.1 rest in
+      (λ j. own_atom x y p.0 q.0 a.0 b.0 first j ∷ i j)
     where
-      own_atom : (x y : Atom) → AtomIsOwn cl x → AtomIsOwn cl y → atom_class cl x ≡ atom_class cl y → x ≡ y
-      own_atom (Number n) (Number o) a b e = (let h : n ≡ o = cc in ap Number h)
-      own_atom (Number n) (Comp d) a b e = absurd (let k = b in cc)
-      own_atom (Comp c) (Number o) a b e = absurd (let k = a in cc)
-      own_atom (Comp c) (Comp d) a b e = (let k = a in let l = b in let h : c ≡ d = cc in ap Comp h)
+      own_atom : (x y : Atom) → IsAtom (length cl) x → IsAtom (length cl) y → AtomIsOwn cl bound x → AtomIsOwn cl bound y → atom_class cl x ≡ atom_class cl y → x ≡ y
+      own_atom (Number n) (Number o) p q a b e = (let h : n ≡ o = cc in ap Number h)
+      own_atom (Number n) (Comp d) p q a b e = elim b.1 [ inl k ↦ absurd (let l : class_of cl d ≡ Plus d 0 = k in cc) | inr h ↦ a.0 d q h (sym e) ]
+      own_atom (Comp c) (Number o) p q a b e = elim a.1 [ inl k ↦ absurd (let l : class_of cl c ≡ Plus c 0 = k in cc) | inr h ↦ sym (b.0 c p h e) ]
+      own_atom (Comp c) (Comp d) p q a b e = elim a.1 [
+        | inr h ↦ sym (b.0 c p h e)
+        | inl k ↦ elim b.1 [ inr h ↦ a.0 d q h (sym e) | inl l ↦ (let i : class_of cl c ≡ Plus c 0 = k in let j : class_of cl d ≡ Plus d 0 = l in let h : c ≡ d = cc in ap Comp h) ]
+      ]
 
   own_term : (n : ℕ) (t : Term) → IsTerm n t → TermIsOwn cl t → normal cl t ≡ t
   own_term n (Num x) i o = refl
   own_term n (Plus c p) i o = rw o (let q : wrap 0 p ≡ p = (let l = i.1 in omega (arith, l)) in ap (λ (x : ℕ). Plus c x) q)
 
-  own_pair : (f g : Fact) → IsTest (length cl) f.test → IsTest (length cl) g.test → IsOwn cl f.test → IsOwn cl g.test → Agree f g → PairRule cl f g
+  own_pair : (f g : Fact) → IsTest (length cl) f.test → IsTest (length cl) g.test → IsOwn cl bound f.test → IsOwn cl bound g.test → Agree f g → PairRule cl f g
   own_pair f g tf tg hf hg agree passed same = by f.test g.test refl refl
     where
       tells : (y : Bool) (t u : Term) → Tells y t u → Says y t u
@@ -71,24 +81,24 @@ module _ (cl : List Term) where
       states v w ix iy t u ef eg =
           let af : IsTest (length cl) (State v ix t) = subst (IsTest (length cl)) ef tf in
           let ag : IsTest (length cl) (State w iy u) = subst (IsTest (length cl)) eg tg in
-          let bf : IsOwn cl (State v ix t) = subst (IsOwn cl) ef hf in
-          let bg : IsOwn cl (State w iy u) = subst (IsOwn cl) eg hg in
+          let bf : IsOwn cl bound (State v ix t) = subst (IsOwn cl bound) ef hf in
+          let bg : IsOwn cl bound (State w iy u) = subst (IsOwn cl bound) eg hg in
           let var : v ≡ w = ap var_of (sym ef) ∙ same.var ∙ ap var_of eg in
           let idx : map (atom_class cl) ix ≡ map (atom_class cl) iy
           = ap (λ (t : Test). map (atom_class cl) (index_of t)) (sym ef) ∙ same.index ∙ ap (λ (t : Test). map (atom_class cl) (index_of t)) eg in
-          let subject : SameSubject f.test g.test = rw (ef, eg) (var, own_index ix iy bf.0 bg.0 idx) in
+          let subject : SameSubject f.test g.test = rw (ef, eg) (var, own_index ix iy (recursion_from_All (IsAtom (length cl)) ix af.1) (recursion_from_All (IsAtom (length cl)) iy ag.1) bf.0 bg.0 idx) in
           let h : Tells g.yes (number_of f.test) (number_of g.test) = agree passed subject in
           rw (own_term (length cl) t af.2 bf.1, own_term (length cl) u ag.2 bg.1) (tells g.yes t u (rw (ef, eg) at h))
 
       by : (t u : Test) → f.test ≡ t → g.test ≡ u → Says g.yes (normal cl (left_of f.test)) (normal cl (left_of g.test))
-      by (Value c n) u ef eg = absurd (subst (IsOwn cl) ef hf)
-      by (Equal l r p) u ef eg = absurd (subst (IsOwn cl) ef hf)
-      by (State v ix t) (Value c o) ef eg = absurd (subst (IsOwn cl) eg hg)
-      by (State v ix t) (Equal l r p) ef eg = absurd (subst (IsOwn cl) eg hg)
+      by (Value c n) u ef eg = absurd (subst (IsOwn cl bound) ef hf)
+      by (Equal l r p) u ef eg = absurd (subst (IsOwn cl bound) ef hf)
+      by (State v ix t) (Value c o) ef eg = absurd (subst (IsOwn cl bound) eg hg)
+      by (State v ix t) (Equal l r p) ef eg = absurd (subst (IsOwn cl bound) eg hg)
       by (State v ix t) (State w iy u) ef eg = rw (ef, eg) (states v w ix iy t u ef eg)
 
 -- ---- facts of a context, and a path behind them
-module _ (ranks : List ℕ) (v : View) (ctx : IsContext v) (arrays : ℕ) where
+module _ (ranks : List ℕ) (v : View) (ctx : IsContext v) (bound arrays : ℕ) where
   -- the facts of the path, and those of the context on arrays of the set
   abbrev Matters : List Fact → Fact → Type 0
   Matters path f = Among f path ⊎ (Among f v.facts × (is_state f.test ≡ true) × IsAmong arrays (var_of f.test))
@@ -96,7 +106,7 @@ module _ (ranks : List ℕ) (v : View) (ctx : IsContext v) (arrays : ℕ) where
   record IsPath (path : List Fact) : Type 0 where
     tests : (f : Fact) → Among f path → IsTest (length v.classes) f.test
     state : (f : Fact) → Among f path → (is_state f.test ≡ true) × IsAmong arrays (var_of f.test)
-    own : (f : Fact) → Matters path f → IsOwn v.classes f.test
+    own : (f : Fact) → Matters path f → IsOwn v.classes bound f.test
     agree : (f g : Fact) → Among f path → Matters path g → Agree f g × Agree g f
 
   abbrev Before : List Fact → Test → Type 0
@@ -127,15 +137,15 @@ module _ (ranks : List ℕ) (v : View) (ctx : IsContext v) (arrays : ℕ) where
       old_new : (f g : Fact) → Among f v.facts → Among g path → PairRule v.classes f g
       old_new f g a b = λ y same.
           let m : Matters path f = inr (a, same.first, subst (IsAmong arrays) (sym same.var) (h.state g b).1) in
-          own_pair v.classes f g (all_tests f a) (h.tests g b) (h.own f m) (h.own g (inl b)) (h.agree g f b m).1 y same
+          own_pair v.classes bound f g (all_tests f a) (h.tests g b) (h.own f m) (h.own g (inl b)) (h.agree g f b m).1 y same
 
       new_old : (f g : Fact) → Among f path → Among g v.facts → PairRule v.classes f g
       new_old f g a b = λ y same.
           let m : Matters path g = inr (b, same.second, subst (IsAmong arrays) same.var (h.state f a).1) in
-          own_pair v.classes f g (h.tests f a) (all_tests g b) (h.own f (inl a)) (h.own g m) (h.agree f g a m).0 y same
+          own_pair v.classes bound f g (h.tests f a) (all_tests g b) (h.own f (inl a)) (h.own g m) (h.agree f g a m).0 y same
 
       new_new : (f g : Fact) → Among f path → Among g path → PairRule v.classes f g
-      new_new f g a b = own_pair v.classes f g (h.tests f a) (h.tests g b) (h.own f (inl a)) (h.own g (inl b)) (h.agree f g a (inl b)).0
+      new_new f g a b = own_pair v.classes bound f g (h.tests f a) (h.tests g b) (h.own f (inl a)) (h.own g (inl b)) (h.agree f g a (inl b)).0
 
   matters_last : (path : List Fact) (new f : Fact) → Matters (path ++ new ∷ []) f → Matters path f ⊎ (f ≡ new)
   matters_last path new f (inl a) = elim (among_last f path new a) [ inl o ↦ inl (inl o) | inr e ↦ inr e ]
@@ -153,7 +163,7 @@ module _ (ranks : List ℕ) (v : View) (ctx : IsContext v) (arrays : ℕ) where
   itself_agrees t true passed same = refl
   itself_agrees t false passed same = absurd (cc)
 
-  path_more : (path : List Fact) (t : Test) (b : Bool) → IsPath path → IsTest (length v.classes) t → (is_state t ≡ true) × IsAmong arrays (var_of t) → IsOwn v.classes t → Before path t → IsPath (with_last path t b)
+  path_more : (path : List Fact) (t : Test) (b : Bool) → IsPath path → IsTest (length v.classes) t → (is_state t ≡ true) × IsAmong arrays (var_of t) → IsOwn v.classes bound t → Before path t → IsPath (with_last path t b)
   path_more path t b h test state own before = record {
     tests = λ f a. elim (among_last f path new a) [ inl o ↦ h.tests f o | inr e ↦ rw e test ];
     state = λ f a. elim (among_last f path new a) [ inl o ↦ h.state f o | inr e ↦ rw e state ];
@@ -174,25 +184,31 @@ module _ (ranks : List ℕ) (v : View) (ctx : IsContext v) (arrays : ℕ) where
     | inr e ↦ rw e (above, other)
   ]
 
-  module _ (sz : Sizes) (size : sz.comps ≡ length v.classes) (e : Tested) (set : e.arrays ≡ arrays) (free : (c : ℕ) → c < length v.classes → has e.comps c ≡ true → class_of v.classes c ≡ Plus c 0) where
-    own_comp : (c : ℕ) → c < length v.classes → IsAmong e.comps c → class_of v.classes c ≡ Plus c 0
-    own_comp c l a = free c l (a (let f = ctx.few in omega (arith, l, f)))
+  module _ (sz : Sizes) (size : sz.comps ≡ length v.classes) (e : Tested) (set : e.arrays ≡ arrays) (s : Spelling) (kept : AreKept v.classes e.comps bound) (apart : AreApart v.classes e.comps bound s) where
+    own_comp : (c : ℕ) → c < length v.classes → IsAmong e.comps c → AtomIsOwn v.classes bound (Comp c)
+    own_comp c l a = let h = a (let f = ctx.few in omega (arith, l, f)) in ((apart c l).0 h, kept c l h)
 
-    own_atoms : (ix : List Atom) → AllByRecursion (IsAtom (length v.classes)) ix → AllByRecursion (AtomOver e.comps) ix → AllByRecursion (AtomIsOwn v.classes) ix
-    own_atoms [] i o = tt
-    own_atoms (Number n ∷ ix) i o = (tt, own_atoms ix i.1 o.1)
-    own_atoms (Comp c ∷ ix) i o = (own_comp c i.0 o.0, own_atoms ix i.1 o.1)
+    own_number : (n : ℕ) → AtomIsWithin s (Number n) → AtomIsOwn v.classes bound (Number n)
+    own_number n w = ((λ d l h e. absurd (elim (subst (IsOutside s) e ((apart d l).1 h).0) [ inl g ↦ omega (arith, g, w.0) | inr g ↦ omega (arith, g, w.1) ])), tt)
 
-    own_of_term : (t : Term) → IsTerm (length v.classes) t → TermOver e.comps t → TermIsOwn v.classes t
-    own_of_term (Num n) i o = tt
-    own_of_term (Plus c p) i o = own_comp c i.0 o
+    own_atoms : (ix : List Atom) → AllByRecursion (IsAtom (length v.classes)) ix → AllByRecursion (AtomOver e.comps) ix → AllByRecursion (AtomIsWithin s) ix → AllByRecursion (AtomIsOwn v.classes bound) ix
+    own_atoms [] i o w = tt
+    own_atoms (Number n ∷ ix) i o w = (own_number n w.0, own_atoms ix i.1 o.1 w.1)
+    own_atoms (Comp c ∷ ix) i o w = (own_comp c i.0 o.0, own_atoms ix i.1 o.1 w.1)
+
+    own_of_term : (t : Term) → IsTerm (length v.classes) t → TermOver e.comps t → TermOver s.terms t → TermIsOwn v.classes t
+    own_of_term (Num n) i o w = tt
+    own_of_term (Plus c p) i o w = elim (own_comp c i.0 o).1 [
+      | inl k ↦ k
+      | inr h ↦ absurd (let no = ((apart c i.0).1 h).1 in let yes = w (let l = i.0 in let f = ctx.few in omega (arith, l, f)) in cc)
+    ]
 
     live_path : (P : Arrays → List ℕ → Type 0) (path : List Fact) (d : Diagram)
         → ((m : Arrays) (k : List ℕ) → IsPacket (length v.classes) k → Meets (v.facts ++ path) m k → P m k)
-        → IsPath path → BeforeAll path d → AsksPlaces d → TestsOver e d → IsOrdered ranks d → IsIn sz d → length v.facts + (length path + depth d) ≤ 2 ^ 32 → IsLive P d
+        → IsPath path → BeforeAll path d → AsksPlaces s d → TestsOver e d → IsOrdered ranks d → IsIn sz d → length v.facts + (length path + depth d) ≤ 2 ^ 32 → IsLive P d
     live_path P path (Only l) covers h before asks over order bounds short = tt
-    live_path P path (Asks (Value c x) y n) covers h before asks over order bounds short = absurd (let s = asks.0 in cc)
-    live_path P path (Asks (Equal l r p) y n) covers h before asks over order bounds short = absurd (let s = asks.0 in cc)
+    live_path P path (Asks (Value c x) y n) covers h before asks over order bounds short = absurd asks.0
+    live_path P path (Asks (Equal l r p) y n) covers h before asks over order bounds short = absurd asks.0
     live_path P path (Asks (State w ix t) y n) covers h before asks over order bounds short = (
       someone true,
       someone false,
@@ -209,7 +225,7 @@ module _ (ranks : List ℕ) (v : View) (ctx : IsContext v) (arrays : ℕ) where
         test = subst (λ (n : ℕ). IsTest n (State w ix t)) size (test_is sz (State w ix t) bounds.0 over.1)
 
         longer : (b : Bool) → IsPath (with_last path u b)
-        longer b = path_more path u b h test (refl, subst (λ (a : ℕ). IsAmong a w) set over.0.0) (own_atoms ix (recursion_from_All (IsAtom (length v.classes)) ix test.1) over.0.1, own_of_term t test.2 over.0.2) before
+        longer b = path_more path u b h test (refl, subst (λ (a : ℕ). IsAmong a w) set over.0.0) (own_atoms ix (recursion_from_All (IsAtom (length v.classes)) ix test.1) over.0.1 asks.0.0, own_of_term t test.2 over.0.2 asks.0.1) before
 
         added : (b : Bool) → length (with_last path u b) ≡ length path + 1
         added b = length-append path (record { test = u; yes = b } ∷ [])
@@ -227,13 +243,13 @@ module _ (ranks : List ℕ) (v : View) (ctx : IsContext v) (arrays : ℕ) where
             record { entries = met.entries; packet = met.packet; store = met.is_store; is = more b (number_in met.entries) met.packet met.is_packet met.meets }
 
 -- the law
-pub places_live : (g : Grouping) (v : View) (ctx : IsContext v) (e : Tested) (t : Test) (y n d : Diagram) → d ≡ Asks t y n
-    → ((c : ℕ) → c < length v.classes → has e.comps c ≡ true → class_of v.classes c ≡ Plus c 0)
-    → AllByRecursion (StandsAside g.ranks v.classes e.arrays t) v.facts → AsksPlaces d → TestsOver e d → IsDiagram g.ranks (sizes g v) d → length v.facts + depth d ≤ 2 ^ 32 → IsLive (Met v) d
-places_live g v ctx e t y n d is free aside asks over diagram short =
-    let stands = from_all (StandsAside g.ranks v.classes e.arrays t) v.facts aside in
+pub places_live : (g : Grouping) (v : View) (ctx : IsContext v) (e : Tested) (s : Spelling) (bound : ℕ) (t : Test) (y n d : Diagram) → d ≡ Asks t y n
+    → AreKept v.classes e.comps bound → AreApart v.classes e.comps bound s
+    → AllByRecursion (StandsAside g.ranks v.classes bound e.arrays t) v.facts → AsksPlaces s d → TestsOver e d → IsDiagram g.ranks (sizes g v) d → length v.facts + depth d ≤ 2 ^ 32 → IsLive (Met v) d
+places_live g v ctx e s bound t y n d is kept apart aside asks over diagram short =
+    let stands = from_all (StandsAside g.ranks v.classes bound e.arrays t) v.facts aside in
     let i : IsDiagram g.ranks (sizes g v) (Asks t y n) = subst (IsDiagram g.ranks (sizes g v)) is diagram in
-    rw is (live_path g.ranks v ctx e.arrays (sizes g v) refl e refl free (Met v) [] (Asks t y n)
+    rw is (live_path g.ranks v ctx bound e.arrays (sizes g v) refl e refl s kept apart (Met v) [] (Asks t y n)
     (λ m k p meets. record { packet = p; facts = subst (λ (fs : List Fact). Meets fs m k) (append-nil v.facts) meets })
     (record {
       tests = λ f a. absurd a;
@@ -242,4 +258,4 @@ places_live g v ctx e t y n d is free aside asks over diagram short =
       agree = λ f g a m. absurd a;
     })
     (λ f m. elim m [ inl a ↦ absurd a | inr a ↦ (stands f a.0 a.1 a.2).1 ])
-    (subst AsksPlaces is asks) (subst (TestsOver e) is over) i.ordered i.bounds (let s : length v.facts + depth (Asks t y n) ≤ 2 ^ 32 = subst (λ (x : Diagram). length v.facts + depth x ≤ 2 ^ 32) is short in omega (arith, s)))
+    (subst (AsksPlaces s) is asks) (subst (TestsOver e) is over) i.ordered i.bounds (let room : length v.facts + depth (Asks t y n) ≤ 2 ^ 32 = subst (λ (x : Diagram). length v.facts + depth x ≤ 2 ^ 32) is short in omega (arith, room)))

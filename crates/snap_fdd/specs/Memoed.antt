@@ -40,7 +40,7 @@ pub record IsAskedPick (g : Grouping) (v : View) (t : Test) (ns : List (Node Lea
 -- what was looked up of the nodes before pruning
 pub record IsPlan (plan : Plan) (ns : List (Node Leaf)) : Type 0 where
   pub marked : IsMarked plan.survey ns plan.reached.ids.items plan.quiet.items
-  pub placed : ArePlaced ns plan.reached.ids.items plan.places.items
+  pub placed : ArePlaced plan.spelling ns plan.reached.ids.items plan.places.items
   pub tested : AreTested ns plan.reached.ids.items plan.tested.items
 
 -- the number's place, and what is noted there of its tests

@@ -1,5 +1,5 @@
 -- Diagrams that test places alone, and facts that leave them as they are.
-use Rattle.std.specs.Prelude.{◌≡◌, ℕ, Bool, true, List}
+use Rattle.std.specs.Prelude.{◌≡◌, ◌⊎◌, ℕ, ◌<◌, ◌≤◌, Bool, true, false, List, length}
 use Rattle.std.specs.declared.cmp.Ordering.TheVariants.{Less}
 use Rattle.std.specs.List.{AllByRecursion}
 use Rattle.snap_core.specs.declared.policy.Atom.{Atom}
@@ -8,43 +8,80 @@ use Rattle.snap_core.specs.declared.policy.Term.{Term}
 use Rattle.snap_core.specs.declared.policy.Term.TheVariants.{Num, Plus}
 use Rattle.snap_core.specs.declared.policy.Test.{Test}
 use Rattle.snap_core.specs.declared.policy.Test.TheVariants.{Value, Equal, State}
+use Rattle.snap_core.specs.Arrays.{has}
 use Rattle.snap_ctx.specs.declared.fact.Fact.{Fact}
-use Rattle.snap_ctx.specs.Classes.{class_of, is_state, var_of}
-use Rattle.snap_ctx.specs.Known.{IsAmong}
+use Rattle.snap_ctx.specs.Classes.{atom_class, class_of, is_state, var_of}
+use Rattle.snap_ctx.specs.Known.{IsAmong, TermOver}
 use Rattle.snap_arena.specs.declared.node.Node.{Node}
 use Rattle.snap_fdd.specs.declared.leaf.Leaf.{Leaf}
+use Rattle.snap_fdd.specs.declared.places.Spelling.{Spelling}
 use Rattle.snap_fdd.specs.Diagrams.{Diagram, Only, Asks}
 use Rattle.snap_fdd.specs.Order.{test_cmp}
 use Rattle.snap_fdd.specs.Quiet.{SameSubject, BeginsElsewhere}
 use Rattle.snap_fdd.specs.Reached.{AreNoted}
 
--- each test is of a place, and of another one than the test behind it where it passes
-abbrev pub AsksPlaces : Diagram → Type 0
-AsksPlaces (Only l) = Unit {0}
-AsksPlaces (Asks t y n) = (is_state t ≡ true) × BeginsElsewhere t y × AsksPlaces y × AsksPlaces n
+-- ---- how places are spelled
+abbrev pub AtomIsWithin : Spelling → Atom → Type 0
+AtomIsWithin s (Number n) = (s.low ≤ n) × (n ≤ s.high)
+AtomIsWithin s (Comp c) = Unit {0}
+
+abbrev pub IsWithin : Spelling → Test → Type 0
+IsWithin s (Value c n) = ⊥
+IsWithin s (Equal l r p) = ⊥
+IsWithin s (State v ix t) = AllByRecursion (AtomIsWithin s) ix × TermOver s.terms t
+
+-- each test is of a place, spelled so, and of another one than the test behind it where it passes
+abbrev pub AsksPlaces : Spelling → Diagram → Type 0
+AsksPlaces s (Only l) = Unit {0}
+AsksPlaces s (Asks t y n) = IsWithin s t × BeginsElsewhere t y × AsksPlaces s y × AsksPlaces s n
 
 -- marks of such diagrams, by the places of their numbers
-abbrev pub ArePlaced : List (Node Leaf) → List ℕ → List Bool → Type 0
-ArePlaced = AreNoted (λ b d. b ≡ true → AsksPlaces d)
+abbrev pub ArePlaced : Spelling → List (Node Leaf) → List ℕ → List Bool → Type 0
+ArePlaced s = AreNoted (λ b d. b ≡ true → AsksPlaces s d)
 
--- all components are their own classes
-abbrev pub AtomIsOwn : List Term → Atom → Type 0
-AtomIsOwn cl (Number n) = Unit {0}
-AtomIsOwn cl (Comp c) = class_of cl c ≡ Plus c 0
+-- ---- components that aren't their own classes: they are bound
+-- no component of the set has the atom's class, unless it is the atom
+abbrev pub IsAlone : List Term → ℕ → Atom → Type 0
+IsAlone cl bound a = (d : ℕ) → d < length cl → has bound d ≡ true → class_of cl d ≡ atom_class cl a → a ≡ Comp d
+
+-- a number, a component that is its own class, or one of the set
+abbrev pub IsKept : List Term → ℕ → Atom → Type 0
+IsKept cl bound (Number n) = Unit {0}
+IsKept cl bound (Comp c) = (class_of cl c ≡ Plus c 0) ⊎ (has bound c ≡ true)
+
+abbrev pub AreKept : List Term → ℕ → ℕ → Type 0
+AreKept cl comps bound = (c : ℕ) → c < length cl → has comps c ≡ true → IsKept cl bound (Comp c)
+
+-- spelled otherwise than an atom like it, it has another class
+abbrev pub AtomIsOwn : List Term → ℕ → Atom → Type 0
+AtomIsOwn cl bound a = IsAlone cl bound a × IsKept cl bound a
 
 abbrev pub TermIsOwn : List Term → Term → Type 0
 TermIsOwn cl (Num n) = Unit {0}
 TermIsOwn cl (Plus c p) = class_of cl c ≡ Plus c 0
 
-abbrev pub IsOwn : List Term → Test → Type 0
-IsOwn cl (Value c n) = ⊥
-IsOwn cl (Equal l r p) = ⊥
-IsOwn cl (State v ix t) = AllByRecursion (AtomIsOwn cl) ix × TermIsOwn cl t
+abbrev pub IsOwn : List Term → ℕ → Test → Type 0
+IsOwn cl bound (Value c n) = ⊥
+IsOwn cl bound (Equal l r p) = ⊥
+IsOwn cl bound (State v ix t) = AllByRecursion (AtomIsOwn cl bound) ix × TermIsOwn cl t
 
+-- no number of an index
+abbrev pub IsOutside : Spelling → Term → Type 0
+IsOutside s (Num n) = (n < s.low) ⊎ (s.high < n)
+IsOutside s (Plus r p) = Unit {0}
+
+-- a component of the first set has no class of another of the second, and one of the second is spelled by itself alone
+abbrev pub IsApart : List Term → ℕ → ℕ → Spelling → ℕ → Type 0
+IsApart cl comps bound s c = (has comps c ≡ true → IsAlone cl bound (Comp c)) × (has bound c ≡ true → IsOutside s (class_of cl c) × (has s.terms c ≡ false))
+
+abbrev pub AreApart : List Term → ℕ → ℕ → Spelling → Type 0
+AreApart cl comps bound s = (c : ℕ) → c < length cl → IsApart cl comps bound s c
+
+-- ---- facts
 -- a fact on a test before t, and on another subject if it passes
 abbrev pub ComesBefore : List ℕ → Test → Fact → Type 0
 ComesBefore ranks t f = (test_cmp ranks f.test t ≡ Less) × (f.yes ≡ true → ¬ (SameSubject f.test t))
 
--- if it is on an array of the set, its components are their own classes, and it comes before t
-abbrev pub StandsAside : List ℕ → List Term → ℕ → Test → Fact → Type 0
-StandsAside ranks cl arrays t f = is_state f.test ≡ true → IsAmong arrays (var_of f.test) → IsOwn cl f.test × ComesBefore ranks t f
+-- if it is on an array of the set, its place is spelled as no other, and it comes before t
+abbrev pub StandsAside : List ℕ → List Term → ℕ → ℕ → Test → Fact → Type 0
+StandsAside ranks cl bound arrays t f = is_state f.test ≡ true → IsAmong arrays (var_of f.test) → IsOwn cl bound f.test × ComesBefore ranks t f

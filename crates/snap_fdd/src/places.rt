@@ -1,16 +1,17 @@
-//! Diagrams that test places alone: nothing is dead in them under a context that leaves their components free.
+//! Diagrams that test places alone: nothing is dead in them where a context leaves what is spelled differently different.
 
-ghost use Rattle.std.specs.Prelude.{◌≡◌, ◌↔◌, ◌<◌, ◌≤◌, ℕ, All, IfOk, IsTrue, length, true};
+ghost use Rattle.std.specs.Prelude.{◌≡◌, ◌<◌, All, IfOk, IsTrue, false, length, true};
 ghost use Rattle.std.specs.List.{AllByRecursion};
 ghost use Rattle.snap_core.specs.Arrays.{has};
+ghost use Rattle.snap_core.specs.declared.policy.Atom.TheVariants.{Comp as Component};
 ghost use Rattle.snap_core.specs.declared.policy.Term.TheVariants.{Plus};
-ghost use Rattle.snap_ctx.specs.Classes.{class_of, is_state, var_of, IsAtom, IsTerm, IsTest};
-ghost use Rattle.snap_ctx.specs.Known.{IsAmong};
+ghost use Rattle.snap_ctx.specs.Classes.{atom_class, class_of, is_state, var_of, IsAtom, IsTerm, IsTest};
+ghost use Rattle.snap_ctx.specs.Known.{IsAmong, TermOver};
 ghost use Rattle.snap_fdd.specs.Contexts.{Met};
 ghost use Rattle.snap_fdd.specs.Diagrams.{diagram};
 ghost use Rattle.snap_fdd.specs.Order.{IsRanked};
 ghost use Rattle.snap_fdd.specs.Picks.{IsArgument};
-ghost use Rattle.snap_fdd.specs.Places.{ArePlaced, AsksPlaces, AtomIsOwn, ComesBefore, IsOwn, StandsAside, TermIsOwn};
+ghost use Rattle.snap_fdd.specs.Places.{AreApart, AreKept, ArePlaced, AsksPlaces, AtomIsOwn, AtomIsWithin, IsAlone, IsOutside, IsOwn, IsWithin, StandsAside, TermIsOwn};
 ghost use Rattle.snap_fdd.specs.Pruned.{IsLive};
 ghost use Rattle.snap_fdd.specs.Tested.{AreTested};
 
@@ -26,23 +27,115 @@ use snap_core::policy::{Atom, Term, Test};
 use snap_ctx::context::Context;
 use snap_ctx::fact::Fact;
 use snap_ctx::facts::Facts;
-use snap_ctx::sets::is_in;
+use snap_ctx::sets::{bit, is_in};
 use snap_ctx::tested::Tested;
 use snap_dep::groups::Groups;
 
-fn is_place(test: &Test) -> bool
-    ensures { IsTrue result → is_state test.now ≡ true }
+/// Bounds of how places are spelled: no number in an index is below `low` or above `high`, and each component in a
+/// term is in `terms`, a bit each. With no numbers `low` is above `high`.
+#[derive(Clone, Copy)]
+pub struct Spelling {
+    pub low: u64,
+    pub high: u64,
+    pub terms: u64,
+}
+
+impl Spelling {
+    fn note_atom(&mut self, atom: Atom) {
+        if let Atom::Num(num) = atom {
+            self.low = self.low.min(num);
+            self.high = self.high.max(num);
+        }
+    }
+
+    // Takes note of a test.
+    fn note(&mut self, test: &Test) {
+        if let Test::State {
+            var: _,
+            index,
+            value,
+        } = test
+        {
+            for atom in index.list() {
+                self.note_atom(*atom);
+            }
+            if let Term::Plus { comp, plus: _ } = *value {
+                self.terms |= bit(comp);
+            }
+        }
+    }
+}
+
+/// How the nodes that are reached spell the places that they test. No clause says so: marks look at it again.
+pub(crate) fn spelling_of(nodes: &Nodes<Leaf>, reached: &Reached) -> Spelling
+    requires { All (λ d. d < length nodes.now) reached.now.ids.items }
+{
+    let mut spelling = Spelling {
+        low: u64::MAX,
+        high: 0,
+        terms: 0,
+    };
+    for id in &reached.ids {
+        if let Node::Ask { test, .. } = nodes.get(*id) {
+            spelling.note(test);
+        }
+    }
+    spelling
+}
+
+fn atom_is_within(spelling: Spelling, atom: Atom) -> bool
+    ensures { IsTrue result → AtomIsWithin spelling atom }
+{
+    match atom {
+        Atom::Num(num) => spelling.low <= num && num <= spelling.high,
+        Atom::Comp(_) => true,
+    }
+}
+
+fn index_is_within(spelling: Spelling, index: &[Atom]) -> bool
+    ensures { IsTrue result → AllByRecursion (AtomIsWithin spelling) index.now }
+{
+    for atom in index {
+        if !atom_is_within(spelling, *atom) {
+            return false;
+        }
+    }
+    true
+}
+
+fn term_is_within(spelling: Spelling, term: Term) -> bool
+    ensures { IsTrue result → TermOver spelling.terms term }
+{
+    match term {
+        Term::Num(_) => true,
+        Term::Plus { comp, plus: _ } => is_in(spelling.terms, comp),
+    }
+}
+
+// Whether a test is of a place that is spelled so.
+fn is_within(spelling: Spelling, test: &Test) -> bool
+    ensures { IsTrue result → IsWithin spelling test.now }
 {
     match test {
-        Test::State { .. } => true,
+        Test::State {
+            var: _,
+            index,
+            value,
+        } => index_is_within(spelling, index.list()) && term_is_within(spelling, *value),
         Test::Value { .. } | Test::Equal { .. } => false,
     }
 }
 
 // Whether a number is noted as that of a diagram that tests places alone.
-fn is_noted(nodes: &Nodes<Leaf>, reached: &Reached, marks: &[bool], d: u64) -> bool
-    requires { ArePlaced nodes.now reached.now.ids.items marks.now }
-    ensures { IsTrue result → AsksPlaces (diagram nodes.now d) }
+fn is_noted(
+    nodes: &Nodes<Leaf>,
+    reached: &Reached,
+    spelling: Spelling,
+    marks: &[bool],
+    d: u64,
+) -> bool
+    requires { ArePlaced spelling nodes.now reached.now.ids.items marks.now }
+    ensures { IsTrue result → AsksPlaces spelling (diagram nodes.now d) }
 {
     match reached.place(d) {
         Some(place) => marks.get(place) == Some(&true),
@@ -51,34 +144,44 @@ fn is_noted(nodes: &Nodes<Leaf>, reached: &Reached, marks: &[bool], d: u64) -> b
 }
 
 // Whether a node's diagram tests places alone, by its ways.
-fn asks_places(nodes: &Nodes<Leaf>, reached: &Reached, marks: &[bool], d: u64) -> bool
+fn asks_places(
+    nodes: &Nodes<Leaf>,
+    reached: &Reached,
+    spelling: Spelling,
+    marks: &[bool],
+    d: u64,
+) -> bool
     requires d { d < length nodes.now }
-    requires marks { ArePlaced nodes.now reached.now.ids.items marks.now }
-    ensures { IsTrue result → AsksPlaces (diagram nodes.now d) }
+    requires marks { ArePlaced spelling nodes.now reached.now.ids.items marks.now }
+    ensures { IsTrue result → AsksPlaces spelling (diagram nodes.now d) }
 {
     match look(nodes, d) {
         Node::Leaf(_) => true,
         Node::Ask { test, yes, no } => {
-            if !is_noted(nodes, reached, marks, *yes) {
+            if !is_noted(nodes, reached, spelling, marks, *yes) {
                 return false;
             }
-            if !is_noted(nodes, reached, marks, *no) {
+            if !is_noted(nodes, reached, spelling, marks, *no) {
                 return false;
             }
-            is_place(test) && begins_elsewhere(nodes, test, *yes)
+            is_within(spelling, test) && begins_elsewhere(nodes, test, *yes)
         }
     }
 }
 
-/// Which of the numbers that are reached are of diagrams that test places alone, each of them for no more
-/// once it holds what was asked, by their places. No clause says that any is marked. Refuses for memory alone.
-pub(crate) fn mark_places(nodes: &Nodes<Leaf>, reached: &Reached) -> Result<Vec<bool>, NoMemory>
+/// Which of the numbers that are reached are of diagrams that test places alone, spelled as told, each of them for
+/// no more once it holds what was asked, by their places. No clause says that any is marked. Refuses for memory alone.
+pub(crate) fn mark_places(
+    nodes: &Nodes<Leaf>,
+    reached: &Reached,
+    spelling: Spelling,
+) -> Result<Vec<bool>, NoMemory>
     requires { All (λ d. d < length nodes.now) reached.now.ids.items }
-    ensures { IfOk result (λ marks. ArePlaced nodes.now reached.now.ids.items marks.items) }
+    ensures { IfOk result (λ marks. ArePlaced spelling nodes.now reached.now.ids.items marks.items) }
 {
     let mut marks = Vec::with_capacity(nodes.allocator(), reached.ids.len())?;
     for id in &reached.ids {
-        let next = asks_places(nodes, reached, &marks, *id);
+        let next = asks_places(nodes, reached, spelling, &marks, *id);
         marks.push(next)?;
     }
     Ok(marks)
@@ -95,25 +198,105 @@ fn is_own(ctx: &Context, comp: u16) -> bool
     }
 }
 
-// Whether each component of a set is its own class.
-fn are_own(ctx: &Context, comps: u64) -> bool
-    ensures { IsTrue result → (c : ℕ) → c < length ctx.now.classes → has comps c ≡ true → class_of ctx.now.classes c ≡ Plus c 0 }
+// The components of a set that aren't their own classes: they have numbers, or are bound to others.
+fn bound_ones(ctx: &Context, comps: u64) -> u64
+    ensures { AreKept ctx.now.classes comps result }
 {
+    let _few = ctx.facts();
+    let mut bound = 0;
     for comp in 0..ctx.comps() {
         if is_in(comps, comp) && !is_own(ctx, comp) {
+            bound |= bit(comp);
+        }
+    }
+    bound
+}
+
+fn class_of_atom(ctx: &Context, atom: Atom) -> Term
+    requires { IsAtom (length ctx.now.classes) atom }
+    ensures { result ≡ atom_class ctx.now.classes atom }
+{
+    match atom {
+        Atom::Num(num) => Term::Num(num),
+        Atom::Comp(comp) => ctx.class(comp),
+    }
+}
+
+// Whether a component has another class than an atom, or is that atom.
+fn is_apart_from(ctx: &Context, atom: Atom, comp: u16) -> bool
+    requires atom { IsAtom (length ctx.now.classes) atom }
+    requires comp { comp < length ctx.now.classes }
+    ensures { IsTrue result → class_of ctx.now.classes comp ≡ atom_class ctx.now.classes atom → atom ≡ Component comp }
+{
+    atom == Atom::Comp(comp) || ctx.class(comp) != class_of_atom(ctx, atom)
+}
+
+// Whether no bound component has the class of an atom, unless it is that atom.
+fn is_alone(ctx: &Context, bound: u64, atom: Atom) -> bool
+    requires { IsAtom (length ctx.now.classes) atom }
+    ensures { IsTrue result → IsAlone ctx.now.classes bound atom }
+{
+    if bound == 0 {
+        return true;
+    }
+    for comp in 0..ctx.comps() {
+        if is_in(bound, comp) && !is_apart_from(ctx, atom, comp) {
             return false;
         }
     }
     true
 }
 
-fn atom_is_own(ctx: &Context, atom: Atom) -> bool
+fn is_outside(spelling: Spelling, class: Term) -> bool
+    ensures { IsTrue result → IsOutside spelling class }
+{
+    match class {
+        Term::Num(num) => num < spelling.low || spelling.high < num,
+        Term::Plus { .. } => true,
+    }
+}
+
+// Whether a component of a set has no bound one's class but its own.
+fn is_set_apart(ctx: &Context, comps: u64, bound: u64, comp: u16) -> bool
+    requires { comp < length ctx.now.classes }
+    ensures { IsTrue result → has comps comp ≡ true → IsAlone ctx.now.classes bound (Component comp) }
+{
+    !is_in(comps, comp) || is_alone(ctx, bound, Atom::Comp(comp))
+}
+
+// Whether a bound component's number is in no index, and it is in no term.
+fn is_unspelled(ctx: &Context, bound: u64, spelling: Spelling, comp: u16) -> bool
+    requires { comp < length ctx.now.classes }
+    ensures { IsTrue result → has bound comp ≡ true → IsOutside spelling (class_of ctx.now.classes comp) × (has spelling.terms comp ≡ false) }
+{
+    !is_in(bound, comp) || (is_outside(spelling, ctx.class(comp)) && !is_in(spelling.terms, comp))
+}
+
+// Whether the components of a set are told apart from bound ones, and these from all that is spelled.
+fn are_apart(ctx: &Context, comps: u64, bound: u64, spelling: Spelling) -> bool
+    ensures { IsTrue result → AreApart ctx.now.classes comps bound spelling }
+{
+    if bound == 0 {
+        return true;
+    }
+    for comp in 0..ctx.comps() {
+        if !is_set_apart(ctx, comps, bound, comp) || !is_unspelled(ctx, bound, spelling, comp) {
+            return false;
+        }
+    }
+    true
+}
+
+// Whether an atom is a number, its own class or bound, and no bound one has its class.
+fn atom_is_own(ctx: &Context, bound: u64, atom: Atom) -> bool
     requires { IsAtom (length ctx.now.classes) atom }
-    ensures { IsTrue result → AtomIsOwn ctx.now.classes atom }
+    ensures { IsTrue result → AtomIsOwn ctx.now.classes bound atom }
 {
     match atom {
-        Atom::Num(_) => true,
-        Atom::Comp(comp) => is_own(ctx, comp),
+        Atom::Num(_) => is_alone(ctx, bound, atom),
+        Atom::Comp(comp) => {
+            (is_in(bound, comp) || is_own(ctx, comp)) && is_alone(ctx, bound, atom)
+        }
     }
 }
 
@@ -127,29 +310,29 @@ fn term_is_own(ctx: &Context, term: Term) -> bool
     }
 }
 
-fn index_is_own(ctx: &Context, index: &[Atom]) -> bool
+fn index_is_own(ctx: &Context, bound: u64, index: &[Atom]) -> bool
     requires { All (IsAtom (length ctx.now.classes)) index.now }
-    ensures { IsTrue result → AllByRecursion (AtomIsOwn ctx.now.classes) index.now }
+    ensures { IsTrue result → AllByRecursion (AtomIsOwn ctx.now.classes bound) index.now }
 {
     for atom in index {
-        if !atom_is_own(ctx, *atom) {
+        if !atom_is_own(ctx, bound, *atom) {
             return false;
         }
     }
     true
 }
 
-// Whether a test is of a place, and all of its components are their own classes.
-fn test_is_own(ctx: &Context, test: &Test) -> bool
+// Whether a test is of a place that is told apart from places that are spelled otherwise.
+fn test_is_own(ctx: &Context, bound: u64, test: &Test) -> bool
     requires { IsTest (length ctx.now.classes) test.now }
-    ensures { IsTrue result → IsOwn ctx.now.classes test.now }
+    ensures { IsTrue result → IsOwn ctx.now.classes bound test.now }
 {
     match test {
         Test::State {
             var: _,
             index,
             value,
-        } => index_is_own(ctx, index.list()) && term_is_own(ctx, *value),
+        } => index_is_own(ctx, bound, index.list()) && term_is_own(ctx, *value),
         Test::Value { .. } | Test::Equal { .. } => false,
     }
 }
@@ -164,25 +347,39 @@ pub(crate) fn is_elsewhere(arrays: u64, test: &Test) -> bool
     }
 }
 
-// Whether a fact is on no array of a set, or its components are their own classes and it comes before
+// Whether a fact is on no array of a set, or its place is told apart from others and it comes before
 // a test.
-fn stands_aside(groups: &Groups, ctx: &Context, arrays: u64, fact: &Fact, test: &Test) -> bool
+fn stands_aside(
+    groups: &Groups,
+    ctx: &Context,
+    bound: u64,
+    arrays: u64,
+    fact: &Fact,
+    test: &Test,
+) -> bool
     requires rank { IsRanked (length groups.now.ranks) test.now }
     requires fact { IsTest (length ctx.now.classes) fact.now.test }
-    ensures { IsTrue result → StandsAside groups.now.ranks ctx.now.classes arrays test.now fact.now }
+    ensures { IsTrue result → StandsAside groups.now.ranks ctx.now.classes bound arrays test.now fact.now }
 {
     is_elsewhere(arrays, fact.test.test())
-        || (test_is_own(ctx, fact.test.test()) && comes_before(groups, fact, test))
+        || (test_is_own(ctx, bound, fact.test.test()) && comes_before(groups, fact, test))
 }
 
 // Whether all facts do.
-fn all_aside(groups: &Groups, ctx: &Context, arrays: u64, facts: &Facts, test: &Test) -> bool
+fn all_aside(
+    groups: &Groups,
+    ctx: &Context,
+    bound: u64,
+    arrays: u64,
+    facts: &Facts,
+    test: &Test,
+) -> bool
     requires rank { IsRanked (length groups.now.ranks) test.now }
     requires facts { All (λ f. IsTest (length ctx.now.classes) f.test) facts.now }
-    ensures { IsTrue result → AllByRecursion (StandsAside groups.now.ranks ctx.now.classes arrays test.now) facts.now }
+    ensures { IsTrue result → AllByRecursion (StandsAside groups.now.ranks ctx.now.classes bound arrays test.now) facts.now }
 {
     for fact in facts.iter() {
-        if !stands_aside(groups, ctx, arrays, fact, test) {
+        if !stands_aside(groups, ctx, bound, arrays, fact, test) {
             return false;
         }
     }
@@ -192,25 +389,26 @@ fn all_aside(groups: &Groups, ctx: &Context, arrays: u64, facts: &Facts, test: &
 // Facts and tests of which the model of a context is known to hold twice as many.
 const MOST: u64 = 2_147_483_648;
 
-/// Whether a diagram tests places alone, of free components and behind all facts on its arrays, as far
-/// as marks tell: then each way of each test is met under the context.
+/// Whether a diagram tests places alone, behind all facts on its arrays, and places and terms that are spelled
+/// differently there differ, as far as marks tell: then each way of each test is met under the context.
 pub(crate) fn stays_free(
     nodes: &Nodes<Leaf>,
     groups: &Groups,
     ctx: &Context,
     reached: &Reached,
+    spelling: Spelling,
     marks: &[bool],
     tested: &[Option<Tested>],
     d: u64,
 ) -> bool
     requires d { IsArgument groups.now ctx.now nodes.now d }
-    requires placed { ArePlaced nodes.now reached.now.ids.items marks.now }
+    requires placed { ArePlaced spelling nodes.now reached.now.ids.items marks.now }
     requires tested { AreTested nodes.now reached.now.ids.items tested.now }
     ensures { IsTrue result → IsLive (Met ctx.now) (diagram nodes.now d) }
 {
     let _arena = nodes.count();
     let facts = ctx.facts();
-    if !is_noted(nodes, reached, marks, d) {
+    if !is_noted(nodes, reached, spelling, marks, d) {
         return false;
     }
     if d > MOST || facts.len() as u64 > MOST {
@@ -219,7 +417,8 @@ pub(crate) fn stays_free(
     let Some(mark) = mark_at(nodes, reached, tested, d) else {
         return false;
     };
-    if !are_own(ctx, mark.comps) {
+    let bound = bound_ones(ctx, mark.comps);
+    if !are_apart(ctx, mark.comps, bound, spelling) {
         return false;
     }
     match look(nodes, d) {
@@ -228,6 +427,6 @@ pub(crate) fn stays_free(
             test,
             yes: _,
             no: _,
-        } => all_aside(groups, ctx, mark.arrays, facts, test),
+        } => all_aside(groups, ctx, bound, mark.arrays, facts, test),
     }
 }

@@ -12,7 +12,7 @@ ghost use Rattle.snap_arena.specs.Memos.{Remembers};
 use crate::forgetting::forgotten;
 use crate::leaf::Leaf;
 use crate::pick::{ask, look};
-use crate::places::{mark_places, stays_free};
+use crate::places::{Spelling, mark_places, spelling_of, stays_free};
 use crate::quiet::{quiet_ones, stays};
 use crate::reach::{Reached, joins, reach_from};
 use crate::survey::{Survey, look_over};
@@ -51,14 +51,15 @@ pub fn part_of(nodes: &Nodes<Leaf>, d: u64) -> Result<Part, NoMemory>
     }
 }
 
-/// What is looked up before pruning: which numbers are reached, what is tested at all, and by places which
-/// numbers are of quiet diagrams and which of such that test places alone, what each number's diagram tests,
-/// and which are ways of several tests.
+/// What is looked up before pruning: which numbers are reached, what is tested at all and how places are spelled,
+/// and by places which numbers are of quiet diagrams and which of such that test places alone, what each number's
+/// diagram tests, and which are ways of several tests.
 #[derive(Drop)]
 pub struct Plan {
     pub reached: Reached,
     pub survey: Survey,
     pub quiet: Vec<bool>,
+    pub spelling: Spelling,
     pub places: Vec<bool>,
     pub tested: Vec<Option<Tested>>,
     pub joins: Vec<bool>,
@@ -115,6 +116,7 @@ fn is_live(nodes: &Nodes<Leaf>, groups: &Groups, ctx: &Context, plan: &Plan, d: 
         groups,
         ctx,
         &plan.reached,
+        plan.spelling,
         &plan.places,
         &plan.tested,
         d,
@@ -228,13 +230,15 @@ pub fn prune(
     if stays(nodes, groups, ctx, &survey, &reached, &quiet, d) {
         return Ok(d);
     }
-    let places = mark_places(nodes, &reached)?;
+    let spelling = spelling_of(nodes, &reached);
+    let places = mark_places(nodes, &reached, spelling)?;
     let tested = mark_tests(nodes, &reached)?;
     let joins = joins(nodes, &reached)?;
     let plan = Plan {
         reached,
         survey,
         quiet,
+        spelling,
         places,
         tested,
         joins,

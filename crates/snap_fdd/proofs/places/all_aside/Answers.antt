@@ -15,5 +15,5 @@ loop-fact-preserved c =
     let next : left ≡ f ∷ others = c.in-Some.ensures.steps in (
       others_are (λ (g : Fact). IsTest (length c.args.ctx.now.classes) g.test) f left others next c.loop-fact.invariant.0,
       (λ rest. c.loop-fact.invariant.1
-          (subst (AllByRecursion (StandsAside c.args.groups.now.ranks c.args.ctx.now.classes c.args.arrays c.args.test.now)) (sym next) (c.stands_aside.ensures c.if-not-stands_aside.false, rest))),
+          (subst (AllByRecursion (StandsAside c.args.groups.now.ranks c.args.ctx.now.classes c.args.bound c.args.arrays c.args.test.now)) (sym next) (c.stands_aside.ensures c.if-not-stands_aside.false, rest))),
     )

@@ -9,4 +9,4 @@ use Rattle.snap_fdd.proofs.places.all_aside.Given as goal
 abbrev pub invariant-loop-fact : goal.invariant-loop-fact
 invariant-loop-fact l =
     All (λ f. IsTest (length l.ctx.classes) f.test) l.fact-iterator.left.now
-    × (AllByRecursion (StandsAside l.groups.ranks l.ctx.classes l.arrays l.test) l.fact-iterator.left.now → AllByRecursion (StandsAside l.groups.ranks l.ctx.classes l.arrays l.test) l.facts)
+    × (AllByRecursion (StandsAside l.groups.ranks l.ctx.classes l.bound l.arrays l.test) l.fact-iterator.left.now → AllByRecursion (StandsAside l.groups.ranks l.ctx.classes l.bound l.arrays l.test) l.facts)

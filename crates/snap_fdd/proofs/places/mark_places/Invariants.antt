@@ -6,5 +6,5 @@ use Rattle.snap_fdd.proofs.places.mark_places.Given as goal
 abbrev pub invariant-loop-id : goal.invariant-loop-id
 invariant-loop-id l = record {
   count : length l.marks.items ≡ l.id-index;
-  marked : ArePlaced l.nodes l.reached.ids.items l.marks.items;
+  marked : ArePlaced l.spelling l.nodes l.reached.ids.items l.marks.items;
 }

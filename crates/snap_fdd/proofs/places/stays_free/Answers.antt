@@ -1,10 +1,7 @@
 -- Nothing is dead behind facts that stand aside.
-use Rattle.std.proofs.Common.{◌≡◌, ◌+◌, ◌<◌, ◌≤◌, ◌^◌, ℕ, List, length, sym, subst, rules, arith, true, false, ap, ◌∙◌}
+use Rattle.std.proofs.Common.{◌+◌, ◌≤◌, ◌^◌, List, length, sym, subst, arith}
 use Rattle.std.specs.Prelude.{IfSome, Option}
 use Rattle.std.specs.List.{AllByRecursion}
-use Rattle.snap_core.specs.Arrays.{has}
-use Rattle.snap_core.specs.declared.policy.Term.TheVariants.{Plus}
-use Rattle.snap_ctx.specs.Classes.{class_of}
 use Rattle.snap_ctx.specs.declared.fact.Fact.{Fact}
 use Rattle.snap_ctx.specs.declared.tested.Tested.{Tested}
 use Rattle.snap_fdd.specs.Diagrams.{diagram, depth, IsNodeOf}
@@ -21,7 +18,7 @@ returns-in-Ask c =
     let count : length c.facts-facts.result.now ≤ 2147483648 = omega (arith, c.len.ensures, c.if-len-gt-MOST.false) in
     let short : length c.args.ctx.now.facts + depth (diagram c.args.nodes.now c.args.d) ≤ 2 ^ 32
     = rw (sym c.facts-facts.ensures.facts) (omega (arith, low, count, c.if-d-gt-MOST.false)) in
-    λ t. places_live c.args.groups.now c.args.ctx.now c.facts-facts.ensures.context c.in-Some.mark c.in-Ask.test _ _ (diagram c.args.nodes.now c.args.d) l.0
-    (c.are_own.ensures c.if-not-are_own.false)
-    (subst (λ (fs : List Fact). AllByRecursion (StandsAside c.args.groups.now.ranks c.args.ctx.now.classes c.in-Some.mark.arrays c.in-Ask.test) fs) c.facts-facts.ensures.facts (c.all_aside.ensures t))
+    λ t. places_live c.args.groups.now c.args.ctx.now c.facts-facts.ensures.context c.in-Some.mark c.args.spelling c.bound_ones-bound.result c.in-Ask.test _ _ (diagram c.args.nodes.now c.args.d) l.0
+    c.bound_ones-bound.ensures (c.are_apart.ensures c.if-not-are_apart.false)
+    (subst (λ (fs : List Fact). AllByRecursion (StandsAside c.args.groups.now.ranks c.args.ctx.now.classes c.bound_ones-bound.result c.in-Some.mark.arrays c.in-Ask.test) fs) c.facts-facts.ensures.facts (c.all_aside.ensures t))
     (c.is_noted.ensures c.if-not-is_noted.false) (subst (λ (o : Option Tested). IfSome o (λ mark. TestsOver mark (diagram c.args.nodes.now c.args.d))) c.in-Some.is c.mark_at.ensures) c.requires.d.keeps short

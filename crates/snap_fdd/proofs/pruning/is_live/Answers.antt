@@ -7,7 +7,7 @@ use Rattle.snap_fdd.proofs.pruning.is_live.Goals as goal
 
 pub stays_free-requires-clause-placed : goal.stays_free-requires-clause-placed
 stays_free-requires-clause-placed c =
-    subst (λ (marks : List Bool). ArePlaced c.args.nodes.now c.args.plan.now.reached.ids.items marks) (sym c.deref-else-stays.ensures.value) c.requires.plan.placed
+    subst (λ (marks : List Bool). ArePlaced c.args.plan.now.spelling c.args.nodes.now c.args.plan.now.reached.ids.items marks) (sym c.deref-else-stays.ensures.value) c.requires.plan.placed
 
 pub stays_free-requires-clause-tested : goal.stays_free-requires-clause-tested
 stays_free-requires-clause-tested c =
