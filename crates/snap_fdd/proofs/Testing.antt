@@ -1,26 +1,14 @@
 -- What marks of tests say of diagrams.
-use Rattle.std.proofs.Common.{◌≡◌, inl, inr, ℕ, ◌+◌, ◌<◌, List, [], ◌∷◌, ◌++◌, length, take, get_or, sym, ap, arith, bit_or, length-append}
-use Rattle.std.specs.List.{AllByRecursion}
-use Rattle.std.proofs.lemmas.Bool.{cases_eq}
-use Rattle.std.proofs.lemmas.List.{take_more, get_or_append_left, get_or_push}
-use Rattle.snap_core.specs.declared.policy.Atom.{Atom}
-use Rattle.snap_core.specs.declared.policy.Atom.TheVariants.{Num as Number, Comp}
-use Rattle.snap_core.specs.declared.policy.Term.{Term}
-use Rattle.snap_core.specs.declared.policy.Term.TheVariants.{Num, Plus}
+use Rattle.std.proofs.Common.{◌≡◌, inl, inr, ℕ, bit_or}
 use Rattle.snap_core.specs.declared.policy.Test.{Test}
-use Rattle.snap_core.specs.declared.policy.Test.TheVariants.{Value, Equal, State}
 use Rattle.snap_ctx.proofs.Testing.{test_left, test_right}
-use Rattle.snap_ctx.specs.Known.{IsAmong, AtomOver, TermOver, TestOver}
+use Rattle.snap_ctx.specs.Known.{IsAmong, TestOver}
 use Rattle.snap_core.specs.Ranges.{TestInRange}
 use Rattle.snap_ctx.specs.declared.tested.Tested.{Tested}
 use Rattle.snap_ctx.specs.Tested.{either_tested}
 use Rattle.snap_dep.proofs.Sets.{in_or}
-use Rattle.snap_arena.specs.declared.node.Node.{Node}
-use Rattle.snap_arena.specs.Arena.{Grew}
-use Rattle.snap_fdd.specs.declared.leaf.Leaf.{Leaf}
-use Rattle.snap_fdd.specs.Diagrams.{Diagram, Only, Asks, diagram}
+use Rattle.snap_fdd.specs.Diagrams.{Diagram, Only, Asks}
 use Rattle.snap_fdd.specs.Tested.{TestsOver}
-use Rattle.snap_fdd.proofs.Shared.{kept}
 
 pub among_left : (a b n : ℕ) → IsAmong a n → IsAmong (bit_or a b) n
 among_left a b n h = λ l. (in_or a b n).1 (inl (h l))

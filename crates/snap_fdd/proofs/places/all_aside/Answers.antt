@@ -1,5 +1,5 @@
 -- One fact more.
-use Rattle.std.proofs.Common.{◌≡◌, ◌∷◌, List, length, sym, subst}
+use Rattle.std.proofs.Common.{◌≡◌, ◌∷◌, length, sym, subst}
 use Rattle.std.specs.List.{AllByRecursion}
 use Rattle.snap_ctx.specs.declared.fact.Fact.{Fact}
 use Rattle.snap_ctx.specs.Classes.{IsTest}
