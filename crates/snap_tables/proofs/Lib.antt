@@ -33,3 +33,4 @@ pub mod ReadBack
 pub mod Scanning
 pub mod SharedLines
 pub mod Digits
+pub mod Spans

@@ -1,22 +1,20 @@
 -- The lines of rows that share their bodies, made of parts, are the lines of the rows.
-use Rattle.std.proofs.Common.{◌≡◌, ℕ, suc, ◌^◌, ◌<◌, ⊎_elim, List, [], ◌∷◌, ◌++◌, map, length, Some, codes, decimal, refl, sym, ap, subst, ◌∙◌, arith, append_assoc, append-nil}
-use Rattle.std.specs.Prelude.{option_map, slice_get, slice_index_or, unwrap_or}
+use Rattle.std.proofs.Common.{◌≡◌, ℕ, suc, ◌^◌, ◌<◌, ⊎_elim, List, [], ◌∷◌, ◌++◌, map, length, codes, decimal, refl, sym, ap, subst, ◌∙◌, arith, append_assoc, append-nil}
+use Rattle.std.specs.Prelude.{slice_index_or}
 use Rattle.std.specs.List.{All, flat_map, range_with_len}
 use Rattle.std.proofs.lemmas.Bool.{cases_lt}
 use Rattle.std.proofs.lemmas.List.{get_or-map, get_or_past, length-map}
 use Rattle.std.proofs.lemmas.List.Elements.{All-map}
-use Rattle.std.proofs.lemmas.List.FromFn.{get_or-map-range_with_len, length-map-range_with_len}
-use Rattle.std.proofs.lemmas.Option.{slice_get-get_or}
+use Rattle.std.proofs.lemmas.List.FromFn.{get_or-map-range_with_len}
 use Rattle.snap_rows.specs.declared.tables.Row.{Row}
 use Rattle.snap_rows.specs.declared.tables.Row.TheVariants as row
 use Rattle.snap_rows.specs.declared.tables.RowAt.{RowAt}
 use Rattle.snap_rows.specs.declared.tables.Tables.{Tables}
 use Rattle.snap_rows.specs.Form.{IsInForm, switch_count}
 use Rattle.snap_tables.specs.Ranges.{RowInRange, RowAtInRange}
-use Rattle.snap_tables.specs.RowParts.{chosen, ending_of, ending_text, front_text, shared_line}
+use Rattle.snap_tables.specs.RowParts.{body_of, chosen, ending_text, front_text, shared_line, stop_of}
 use Rattle.snap_tables.specs.Shared.{row_said, row_shared, shared}
 use Rattle.snap_tables.specs.Text.{row_line, row_words, spaced, text, text_with}
-use Rattle.snap_tables.specs.declared.row_parts.Ending.{Ending}
 use Rattle.snap_tables.specs.declared.row_parts.RowParts.{RowParts}
 use Rattle.snap_tables.specs.declared.shared.RowShare.{RowShare}
 use Rattle.snap_tables.specs.declared.shared.Share.{Share}
@@ -29,25 +27,20 @@ regroup r x y z = ap (λ l. r ++ l) (append_assoc x y z) ∙ sym (append_assoc r
 row_line_is : (r : RowAt) → row_line r ≡ front_text r.at ++ ending_text r.number r.row
 row_line_is r = regroup (codes "row") (codes " " ++ decimal r.at) (spaced (decimal r.number ∷ row_words r.row)) (codes "\n")
 
-chosen_is : (bodies : List Row) (n : ℕ) (s : Share) → chosen n s (ending_of bodies n) ≡ ending_text n (row_said bodies n s)
-chosen_is bodies n share.Body = refl
-chosen_is bodies n share.Stop = refl
-chosen_is bodies n (share.Go x) = refl
+part_at : (texts : List (List ℕ)) (f : ℕ → List ℕ) (count n : ℕ) → texts ≡ map f (range_with_len 0 count) → n < count → slice_index_or texts n [] ≡ f n
+part_at texts f count n are l = ap (λ (ts : List (List ℕ)). slice_index_or ts n []) are ∙ get_or-map-range_with_len f 0 count n n [] l (omega arith)
 
-module _ (t : Tables) (bodies : List Row) (parts : RowParts)
-    (fronts : parts.fronts.items ≡ map front_text (range_with_len 0 (switch_count t))) (endings : parts.endings.items ≡ map (ending_of bodies) (range_with_len 0 (length bodies))) where
-  ending_at : (n : ℕ) → n < length bodies → slice_get (map (ending_of bodies) (range_with_len 0 (length bodies))) n ≡ Some (ending_of bodies n)
-  ending_at n l =
-      let blank : Ending = record { body = []; stop = [] } in
-      let many = length-map-range_with_len (ending_of bodies) 0 (length bodies) in
-      slice_get-get_or (map (ending_of bodies) (range_with_len 0 (length bodies))) n blank (omega (arith, many, l))
-      ∙ ap Some (get_or-map-range_with_len (ending_of bodies) 0 (length bodies) n n blank l (omega arith))
+module _ (t : Tables) (bodies : List Row) (parts : RowParts) (fronts : parts.fronts ≡ map front_text (range_with_len 0 (switch_count t)))
+    (whole : parts.bodies ≡ map (body_of bodies) (range_with_len 0 (length bodies))) (stops : parts.stops ≡ map stop_of (range_with_len 0 (length bodies))) where
+  chosen_is : (n : ℕ) (s : Share) → n < length bodies → chosen parts n s ≡ ending_text n (row_said bodies n s)
+  chosen_is n share.Body l = part_at parts.bodies (body_of bodies) (length bodies) n whole l
+  chosen_is n share.Stop l = part_at parts.stops stop_of (length bodies) n stops l
+  chosen_is n (share.Go x) l = refl
 
   same_line : (s : RowShare) → s.at < switch_count t → s.number < length bodies → shared_line parts s ≡ row_line (row_shared bodies s)
   same_line s at number =
-      let f : slice_index_or parts.fronts.items s.at [] ≡ front_text s.at = ap (λ l. slice_index_or l s.at []) fronts ∙ get_or-map-range_with_len front_text 0 (switch_count t) s.at s.at [] at (omega arith) in
-      let e : slice_get parts.endings.items s.number ≡ Some (ending_of bodies s.number) = ap (λ l. slice_get l s.number) endings ∙ ending_at s.number number in
-      (λ i. f i ++ unwrap_or (option_map (chosen s.number s.share) (e i)) []) ∙ ap (λ l. front_text s.at ++ l) (chosen_is bodies s.number s.share) ∙ sym (row_line_is (row_shared bodies s))
+      let f = part_at parts.fronts front_text (switch_count t) s.at fronts at in
+      (λ i. f i ++ chosen_is s.number s.share number i) ∙ sym (row_line_is (row_shared bodies s))
 
   same_lines : (shares : List RowShare) → All (λ (s : RowShare). s.at < switch_count t) shares → All (λ (s : RowShare). s.number < length bodies) shares
       → flat_map (shared_line parts) shares ≡ flat_map row_line (map (row_shared bodies) shares)

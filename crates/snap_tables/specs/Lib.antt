@@ -14,3 +14,4 @@ pub mod Exact
 pub mod Scan
 pub mod Shared
 pub mod RowParts
+pub mod Texts

@@ -1,9 +1,8 @@
 -- Parts of the lines of rows that share their bodies, each made once.
-use Rattle.std.specs.Prelude.{ℕ, List, [], ◌∷◌, ◌++◌, codes, decimal, option_map, slice_get, slice_index_or, unwrap_or}
+use Rattle.std.specs.Prelude.{ℕ, List, [], ◌∷◌, ◌++◌, codes, decimal, slice_index_or}
 use Rattle.snap_rows.specs.declared.tables.Row.{Row}
 use Rattle.snap_rows.specs.declared.tables.Row.TheVariants as row
 use Rattle.snap_tables.specs.Text.{row_words, spaced}
-use Rattle.snap_tables.specs.declared.row_parts.Ending.{Ending}
 use Rattle.snap_tables.specs.declared.row_parts.RowParts.{RowParts}
 use Rattle.snap_tables.specs.declared.shared.RowShare.{RowShare}
 use Rattle.snap_tables.specs.declared.shared.Share.{Share}
@@ -16,20 +15,19 @@ front_text w = codes "row" ++ spaced (decimal w ∷ [])
 abbrev pub ending_text : (number : ℕ) → Row → List ℕ
 ending_text n b = spaced (decimal n ∷ row_words b) ++ codes "\n"
 
--- the endings of a number's lines that are made once
-abbrev pub ending_of : List Row → ℕ → Ending
-ending_of bodies n = record { body = ending_text n (slice_index_or bodies n row.Stop); stop = ending_text n row.Stop }
+-- a number's with its body, and where it isn't decided
+abbrev pub body_of : List Row → ℕ → List ℕ
+body_of bodies n = ending_text n (slice_index_or bodies n row.Stop)
 
--- what stands behind the switch in a row of a number with these endings
-abbrev pub chosen : ℕ → Share → Ending → List ℕ
-chosen n share.Body e = e.body
-chosen n share.Stop e = e.stop
-chosen n (share.Go x) e = ending_text n (row.Go x)
+abbrev pub stop_of : ℕ → List ℕ
+stop_of n = ending_text n row.Stop
 
--- nothing where the number has no endings
-abbrev pub chosen_at : List Ending → ℕ → Share → List ℕ
-chosen_at endings n s = unwrap_or (option_map (chosen n s) (slice_get endings n)) []
+-- what stands behind the switch in a row of a number; nothing where the number has no parts
+abbrev pub chosen : RowParts → ℕ → Share → List ℕ
+chosen parts n share.Body = slice_index_or parts.bodies n []
+chosen parts n share.Stop = slice_index_or parts.stops n []
+chosen parts n (share.Go x) = ending_text n (row.Go x)
 
 -- the line of a row, of parts by its switch and its number
 abbrev pub shared_line : RowParts → RowShare → List ℕ
-shared_line parts s = slice_index_or parts.fronts.items s.at [] ++ chosen_at parts.endings.items s.number s.share
+shared_line parts s = slice_index_or parts.fronts s.at [] ++ chosen parts s.number s.share

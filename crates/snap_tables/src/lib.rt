@@ -24,4 +24,5 @@ mod scan;
 pub mod shared;
 pub mod shared_rows;
 mod taken;
+mod texts;
 mod words;

@@ -1,61 +1,42 @@
 //! Parts of the lines of rows that share their bodies: each is made once.
 
-ghost use Rattle.std.specs.Prelude.{◌≡◌, ◌<◌, ◌++◌, [], IfOk, OnOk, length, map, slice_index_or};
+ghost use Rattle.std.specs.Prelude.{◌≡◌, ◌<◌, ◌++◌, IfOk, OnOk, length, map, slice_index_or};
 ghost use Rattle.std.specs.List.{range_with_len};
-ghost use Rattle.snap_tables.specs.RowParts.{chosen, chosen_at, ending_of, ending_text, front_text, shared_line};
+ghost use Rattle.snap_tables.specs.RowParts.{body_of, chosen, ending_text, front_text, shared_line, stop_of};
 
 use crate::line::Entry;
 use crate::shared::{RowShare, Share};
+use crate::texts::Texts;
 use crate::words::{put_number, put_row};
 use snap_core::NoMemory;
 use snap_rows::tables::Row;
 use std::alloc::Global;
-use std::marker::Model;
 
-/// Part of a line.
-#[derive(Drop)]
-pub(crate) struct Text {
-    bytes: Vec<u8>,
-}
-
-impl Model for Text {
-    ghost use Rattle.std.specs.Prelude.{List, ℕ};
-
-    ghost Value = { List ℕ };
-
-    ghost view = { λ a. a.bytes.items };
-}
-
-/// What stands in the lines of a number behind their switch: with its body, and where it isn't decided.
-#[derive(Drop)]
-pub(crate) struct Ending {
-    pub body: Text,
-    pub stop: Text,
-}
-
-/// The fronts of lines by their switch, up to their number, and the endings by that.
+/// The fronts of lines by their switch, up to their number, and what stands behind that by the number: with its body,
+/// and where it isn't decided.
 #[derive(Drop)]
 pub(crate) struct RowParts {
-    pub fronts: Vec<Text>,
-    pub endings: Vec<Ending>,
+    pub fronts: Texts,
+    pub bodies: Texts,
+    pub stops: Texts,
 }
 
-fn front(alloc: Global, at: usize) -> Result<Text, NoMemory>
-    ensures { IfOk result (λ text. text ≡ front_text at) }
+// Puts a line up to its number in place of what the words held.
+fn front(words: &mut Vec<u8>, at: usize) -> Result<(), NoMemory>
+    ensures { OnOk result (words.new.items ≡ front_text at) }
 {
-    let mut bytes = Vec::new(alloc);
-    bytes.extend_from_slice(b"row")?;
-    put_number(&mut bytes, at as u64)?;
-    Ok(Text { bytes })
+    words.clear();
+    words.extend_from_slice(b"row")?;
+    put_number(words, at as u64)
 }
 
-fn fronts(alloc: Global, switches: usize) -> Result<Vec<Text>, NoMemory>
-    ensures { IfOk result (λ r. r.items ≡ map front_text (range_with_len 0 switches)) }
+fn fronts(alloc: Global, words: &mut Vec<u8>, switches: usize) -> Result<Texts, NoMemory>
+    ensures { IfOk result (λ r. r ≡ map front_text (range_with_len 0 switches)) }
 {
-    let mut fronts = Vec::with_capacity(alloc, switches)?;
+    let mut fronts = Texts::with_capacity(alloc, switches)?;
     for at in 0..switches {
-        let text = front(alloc, at)?;
-        fronts.push(text)?;
+        front(words, at)?;
+        fronts.push(words.as_slice())?;
     }
     Ok(fronts)
 }
@@ -70,78 +51,56 @@ fn put_words(out: &mut Vec<u8>, number: u64, row: &Row) -> Result<(), NoMemory>
     Ok(())
 }
 
-// These words by themselves. They are put together in `words`, which has room from those before, so that a part is as long as its bytes.
-fn ending_with(alloc: Global, words: &mut Vec<u8>, number: u64, row: &Row) -> Result<Text, NoMemory>
-    ensures { IfOk result (λ text. text ≡ ending_text number row.now) }
+// These in place of what the words held.
+fn ending(words: &mut Vec<u8>, number: usize, row: &Row) -> Result<(), NoMemory>
+    ensures { OnOk result (words.new.items ≡ ending_text number row.now) }
 {
     words.clear();
-    put_words(words, number, row)?;
-    let bytes = Vec::from_slice(alloc, words)?;
-    Ok(Text { bytes })
+    put_words(words, number as u64, row)
 }
 
-fn endings_of(
-    alloc: Global,
-    words: &mut Vec<u8>,
-    bodies: &[Row],
-    number: usize,
-) -> Result<Ending, NoMemory>
+fn body(words: &mut Vec<u8>, bodies: &[Row], number: usize) -> Result<(), NoMemory>
     requires { number < length bodies.now }
-    ensures { IfOk result (λ ending. ending ≡ ending_of bodies.now number) }
+    ensures { OnOk result (words.new.items ≡ body_of bodies.now number) }
 {
-    let body = ending_with(alloc, words, number as u64, &bodies[number])?;
-    let stop = ending_with(alloc, words, number as u64, &Row::Stop)?;
-    Ok(Ending { body, stop })
+    ending(words, number, &bodies[number])
 }
 
-fn endings(alloc: Global, bodies: &[Row]) -> Result<Vec<Ending>, NoMemory>
-    ensures { IfOk result (λ r. r.items ≡ map (ending_of bodies.now) (range_with_len 0 (length bodies.now))) }
+fn endings(alloc: Global, words: &mut Vec<u8>, bodies: &[Row]) -> Result<Texts, NoMemory>
+    ensures { IfOk result (λ r. r ≡ map (body_of bodies.now) (range_with_len 0 (length bodies.now))) }
 {
-    let mut endings = Vec::with_capacity(alloc, bodies.len())?;
-    let mut words = Vec::new(alloc);
+    let mut endings = Texts::with_capacity(alloc, bodies.len())?;
     for number in 0..bodies.len() {
-        let ending = endings_of(alloc, &mut words, bodies, number)?;
-        endings.push(ending)?;
+        body(words, bodies, number)?;
+        endings.push(words.as_slice())?;
     }
     Ok(endings)
 }
 
-// Puts a line up to its number.
-fn put_front(out: &mut Vec<u8>, fronts: &[Text], at: u16) -> Result<(), NoMemory>
-    ensures { OnOk result (out.new.items ≡ out.old.items ++ slice_index_or fronts.now at []) }
+fn stops(alloc: Global, words: &mut Vec<u8>, numbers: usize) -> Result<Texts, NoMemory>
+    ensures { IfOk result (λ r. r ≡ map stop_of (range_with_len 0 numbers)) }
 {
-    match fronts.get(at as usize) {
-        Some(text) => {
-            out.extend_from_slice(&text.bytes)?;
-            Ok(())
-        }
-        None => Ok(()),
+    let mut stops = Texts::with_capacity(alloc, numbers)?;
+    for number in 0..numbers {
+        ending(words, number, &Row::Stop)?;
+        stops.push(words.as_slice())?;
     }
-}
-
-fn put_chosen(out: &mut Vec<u8>, ending: &Ending, number: u64, share: Share) -> Result<(), NoMemory>
-    ensures { OnOk result (out.new.items ≡ out.old.items ++ chosen number share ending.now) }
-{
-    match share {
-        Share::Body => out.extend_from_slice(&ending.body.bytes)?,
-        Share::Stop => out.extend_from_slice(&ending.stop.bytes)?,
-        Share::Go { to } => put_words(out, number, &Row::Go { to })?,
-    }
-    Ok(())
+    Ok(stops)
 }
 
 // Puts the rest of a line.
-fn put_ending(
+fn put_chosen(
     out: &mut Vec<u8>,
-    endings: &[Ending],
+    parts: &RowParts,
     number: u64,
     share: Share,
 ) -> Result<(), NoMemory>
-    ensures { OnOk result (out.new.items ≡ out.old.items ++ chosen_at endings.now number share) }
+    ensures { OnOk result (out.new.items ≡ out.old.items ++ chosen parts.now number share) }
 {
-    match endings.get(number as usize) {
-        Some(ending) => put_chosen(out, ending, number, share),
-        None => Ok(()),
+    match share {
+        Share::Body => parts.bodies.put(out, number as usize),
+        Share::Stop => parts.stops.put(out, number as usize),
+        Share::Go { to } => put_words(out, number, &Row::Go { to }),
     }
 }
 
@@ -151,8 +110,8 @@ impl Entry for RowShare {
     fn put_line(&self, out: &mut Vec<u8>, version: u8, parts: &RowParts) -> Result<(), NoMemory>
         ensures { OnOk result (out.new.items ≡ out.old.items ++ shared_line parts.now self.now) }
     {
-        put_front(out, &parts.fronts, self.at)?;
-        put_ending(out, &parts.endings, self.number, self.share)
+        parts.fronts.put(out, self.at as usize)?;
+        put_chosen(out, parts, self.number, self.share)
     }
 }
 
@@ -160,18 +119,26 @@ impl RowParts {
     /// No parts, for rows with bodies of their own. Takes no memory.
     pub(crate) fn none(alloc: Global) -> RowParts {
         RowParts {
-            fronts: Vec::new(alloc),
-            endings: Vec::new(alloc),
+            fronts: Texts::none(alloc),
+            bodies: Texts::none(alloc),
+            stops: Texts::none(alloc),
         }
     }
 
     /// The parts of the lines of so many switches and these bodies.
     pub(crate) fn of(alloc: Global, switches: usize, bodies: &[Row]) -> Result<RowParts, NoMemory>
-        ensures fronts { IfOk result (λ r. r.fronts.items ≡ map front_text (range_with_len 0 switches)) }
-        ensures endings { IfOk result (λ r. r.endings.items ≡ map (ending_of bodies.now) (range_with_len 0 (length bodies.now))) }
+        ensures fronts { IfOk result (λ r. r.fronts ≡ map front_text (range_with_len 0 switches)) }
+        ensures bodies { IfOk result (λ r. r.bodies ≡ map (body_of bodies.now) (range_with_len 0 (length bodies.now))) }
+        ensures stops { IfOk result (λ r. r.stops ≡ map stop_of (range_with_len 0 (length bodies.now))) }
     {
-        let fronts = fronts(alloc, switches)?;
-        let endings = endings(alloc, bodies)?;
-        Ok(RowParts { fronts, endings })
+        let mut words = Vec::new(alloc);
+        let fronts = fronts(alloc, &mut words, switches)?;
+        let stops = stops(alloc, &mut words, bodies.len())?;
+        let bodies = endings(alloc, &mut words, bodies)?;
+        Ok(RowParts {
+            fronts,
+            bodies,
+            stops,
+        })
     }
 }

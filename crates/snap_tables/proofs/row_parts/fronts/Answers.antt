@@ -5,5 +5,6 @@ use Rattle.snap_tables.proofs.row_parts.fronts.Goals as goal
 
 pub loop-at-preserved : goal.loop-at-preserved
 loop-at-preserved c =
-    c.in_ok-push.ensures.items ∙ (λ i. c.loop-at.invariant i ++ c.in_ok-text.ensures i ∷ [])
+    let text = c.as_slice.ensures.value ∙ c.in_ok-front.ensures in
+    c.in_ok-push.ensures ∙ (λ i. c.loop-at.invariant i ++ text i ∷ [])
     ∙ sym (map-range_with_len_more front_text 0 c.loop-at.at c.loop-at.at (omega arith))
