@@ -1,4 +1,7 @@
 //! The command `compile`: tables that make the network behave as the program says.
+//!
+//! What is held to the end of the call is forgotten and not freed: the process ends with it, and of what a small program
+//! costs it would be a good part.
 
 ghost use Rattle.std.specs.Prelude.{◌≡◌, ◌∷◌, [], IfErr, IfOk, IfSome, length};
 ghost use Rattle.snap_build.specs.Whole.{IsWhole};
@@ -35,6 +38,7 @@ use snap_tables::fault::PrintFault;
 use snap_tables::print_shared::print_shared;
 use snap_tables::shared::SharedTables;
 use std::alloc::Global;
+use std::mem::forget;
 
 /// Writes tables that are faithful to a program, a topology and a placement: of version 2, or on demand of version 1.
 pub(crate) fn report<'a, S: Shelf, O: Sink>(
@@ -53,7 +57,11 @@ pub(crate) fn report<'a, S: Shelf, O: Sink>(
     ensures statuses { EndsWith (statuses_of (compile program.entry.now topology.entry.now placement.entry.now on_demand)) result }
 {
     match load_tables(alloc, program, topology, placement, on_demand, shelf) {
-        Ok(tables) => write_tables(alloc, &tables, out),
+        Ok(tables) => {
+            let written = write_tables(alloc, &tables, out);
+            forget(tables);
+            written
+        }
         Err(refusal) => Err(refusal),
     }
 }
@@ -89,13 +97,15 @@ fn load_tables<'a, S: Shelf>(
     ensures statuses { IfErr result (RefusesWith (2 ∷ 4 ∷ 5 ∷ 6 ∷ 7 ∷ 8 ∷ 9 ∷ 10 ∷ [])) }
 {
     let inputs = load_inputs(alloc, program, topology, placement, shelf)?;
-    tables_of(
+    let made = tables_of(
         alloc,
         inputs.program,
         &inputs.network,
         &inputs.text,
         on_demand,
-    )
+    );
+    forget(inputs.network);
+    made
 }
 
 // The tables of a program on a topology with the placement that a text spells.
@@ -114,7 +124,13 @@ fn tables_of<'a>(
 {
     let groups = groups(alloc, &program)?;
     match snap_place::read(alloc, text, &program, &groups, &network.topology) {
-        Ok(placement) => make(alloc, &program, &groups, network, &placement, on_demand),
+        Ok(placement) => {
+            let made = make(alloc, &program, &groups, network, &placement, on_demand);
+            forget(program);
+            forget(groups);
+            forget(placement);
+            made
+        }
         Err(fault) => Err(refusal_of_placement(program.vars, fault)),
     }
 }
@@ -152,16 +168,19 @@ fn make<'a>(
     ensures makes { MakesTables program.now network.now.topology placement.now on_demand result }
     ensures devices { IfErr result BlamesNoDevice }
 {
-    let built = diagram_of(alloc, program, groups)?;
-    let made = tables_from(alloc, program, built, groups, network, placement, on_demand)?;
-    Ok(made)
+    let mut built = diagram_of(alloc, program, groups)?;
+    let made = tables_from(
+        alloc, program, &mut built, groups, network, placement, on_demand,
+    );
+    forget(built);
+    Ok(made?)
 }
 
 // The tables of a program with this diagram, of the version that is asked for.
 fn tables_from(
     alloc: Global,
     program: &Program,
-    built: Built,
+    built: &mut Built,
     groups: &Groups,
     network: &Network,
     placement: &Placement,
@@ -170,7 +189,7 @@ fn tables_from(
     requires form { IsInForm program.now }
     requires small { PutsSmall program.now.body }
     requires groups { IsGrouping program.now.body (length program.now.vars) groups.now }
-    requires whole { IsWhole program.now groups.now built.nodes built.root }
+    requires whole { IsWhole program.now groups.now built.old.nodes built.old.root }
     requires topology { IsTopology network.now.topology }
     requires routes { AreRoutes network.now.topology network.now.routes }
     requires placement { GivesSwitches program.now network.now.topology placement.now }

@@ -79,11 +79,12 @@ fn tidy_on_demand(
 /// Tables of version 1 that are faithful to a program with this diagram, for a topology with these routes and a placement
 /// of the program's arrays (`docs/MEANING.md`, "Faithful tables"): a packet goes only where its program needs it.
 ///
-/// The nodes below the root are numbered from 0 at the root, rising along each way. Refuses for memory alone.
+/// The nodes below the root are numbered from 0 at the root, rising along each way. The diagram is changed, and no clause
+/// says how. Refuses for memory alone.
 pub fn on_demand(
     alloc: Global,
     program: &Program,
-    mut built: Built,
+    built: &mut Built,
     groups: &Groups,
     topology: &Topology,
     placement: &Placement,
@@ -92,7 +93,7 @@ pub fn on_demand(
     requires form { IsProgramInForm program.now }
     requires small { PutsSmall program.now.body }
     requires groups { IsGrouping program.now.body (length program.now.vars) groups.now }
-    requires whole { IsWhole program.now groups.now built.nodes built.root }
+    requires whole { IsWhole program.now groups.now built.old.nodes built.old.root }
     requires topology { IsInForm topology.now }
     requires routes { AreRoutes topology.now routes.now }
     requires placement { GivesSwitches program.now topology.now placement.now }
@@ -100,5 +101,5 @@ pub fn on_demand(
 {
     know_nodes(&built.nodes);
     built.root = tidied(&mut built.nodes, groups, built.root)?;
-    tidy_on_demand(alloc, program, &built, groups, topology, placement, routes)
+    tidy_on_demand(alloc, program, built, groups, topology, placement, routes)
 }

@@ -99,11 +99,12 @@ fn tidy_tables(
 /// Tables of version 2 that are faithful to a program with this diagram, for a topology with these routes and a placement
 /// of the program's arrays (`docs/MEANING.md`, "Faithful tables").
 ///
-/// The nodes below the root are numbered from 0 at the root, rising along each way. Refuses for memory alone.
+/// The nodes below the root are numbered from 0 at the root, rising along each way. The diagram is changed, and no clause
+/// says how. Refuses for memory alone.
 pub fn shared_tables(
     alloc: Global,
     program: &Program,
-    mut built: Built,
+    built: &mut Built,
     groups: &Groups,
     topology: &Topology,
     placement: &Placement,
@@ -112,7 +113,7 @@ pub fn shared_tables(
     requires form { IsProgramInForm program.now }
     requires small { PutsSmall program.now.body }
     requires groups { IsGrouping program.now.body (length program.now.vars) groups.now }
-    requires whole { IsWhole program.now groups.now built.nodes built.root }
+    requires whole { IsWhole program.now groups.now built.old.nodes built.old.root }
     requires topology { IsInForm topology.now }
     requires routes { AreRoutes topology.now routes.now }
     requires placement { GivesSwitches program.now topology.now placement.now }
@@ -120,14 +121,14 @@ pub fn shared_tables(
 {
     know_nodes(&built.nodes);
     built.root = tidied(&mut built.nodes, groups, built.root)?;
-    tidy_tables(alloc, program, &built, groups, topology, placement, routes)
+    tidy_tables(alloc, program, built, groups, topology, placement, routes)
 }
 
 /// The same, each row with a body of its own, so that packets can be traced. Refuses for memory alone.
 pub fn tables(
     alloc: Global,
     program: &Program,
-    built: Built,
+    mut built: Built,
     groups: &Groups,
     topology: &Topology,
     placement: &Placement,
@@ -142,6 +143,8 @@ pub fn tables(
     requires placement { GivesSwitches program.now topology.now placement.now }
     ensures { IfOk result (λ t. Faithful program.now topology.now placement.now t × (t.version ≡ 2)) }
 {
-    let shared = shared_tables(alloc, program, built, groups, topology, placement, routes)?;
+    let shared = shared_tables(
+        alloc, program, &mut built, groups, topology, placement, routes,
+    )?;
     unshared(alloc, shared)
 }

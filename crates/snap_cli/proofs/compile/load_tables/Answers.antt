@@ -19,8 +19,8 @@ pub returns-clause-gives : goal.returns-clause-gives
 returns-clause-gives g c =
     let i = c.in_ok-inputs.inputs in
     IfSome_then (g.S.Shelf.files c.args.shelf.now) c.in_ok-inputs.ensures.gives (λ files are.
-    gives-made files c.args.program.now c.args.topology.now c.args.placement.now c.args.on_demand i c.tables_of.result are
-    (subst (λ text. Compiles i.program i.network.topology text c.args.on_demand c.tables_of.result) (c.deref.ensures.value ∙ are.the_text) c.tables_of.ensures.compiles))
+    gives-made files c.args.program.now c.args.topology.now c.args.placement.now c.args.on_demand i c.tables_of-made.result are
+    (subst (λ text. Compiles i.program i.network.topology text c.args.on_demand c.tables_of-made.result) (c.deref.ensures.value ∙ are.the_text) c.tables_of-made.ensures.compiles))
 
 pub returns-in_err-inputs-clause-statuses : goal.returns-in_err-inputs-clause-statuses
 returns-in_err-inputs-clause-statuses g c =
@@ -31,5 +31,5 @@ returns-in_err-inputs-clause-statuses g c =
 pub returns-clause-statuses : goal.returns-clause-statuses
 returns-clause-statuses g c =
     let i = c.in_ok-inputs.inputs in
-    any-refuses-more (2 ∷ 6 ∷ 9 ∷ 10 ∷ []) (2 ∷ 4 ∷ 5 ∷ 6 ∷ 7 ∷ 8 ∷ 9 ∷ 10 ∷ []) c.tables_of.result refl
-    (of-compiles i.program i.network.topology c.deref.result.now c.args.on_demand c.tables_of.result c.tables_of.ensures.compiles)
+    any-refuses-more (2 ∷ 6 ∷ 9 ∷ 10 ∷ []) (2 ∷ 4 ∷ 5 ∷ 6 ∷ 7 ∷ 8 ∷ 9 ∷ 10 ∷ []) c.tables_of-made.result refl
+    (of-compiles i.program i.network.topology c.deref.result.now c.args.on_demand c.tables_of-made.result c.tables_of-made.ensures.compiles)
