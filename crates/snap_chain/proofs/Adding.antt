@@ -61,5 +61,6 @@ same_total us vs perm h m k small = λ i p. (total vs m k p (recursion_from_All 
 pub late_same : (g : Grouping) (v : View) (out : List (ℕ × Atom)) (us vs : List Update) (d r : Diagram) → ((m : Arrays) (k : List ℕ) → IsStore m → updates m vs k ≡ updates m us k) → IsLate g v out vs d r → IsLate g v out us d r
 late_same g v out us vs d r same l = record {
   late = λ m k h s. subst (λ (n : Arrays). outcome_of (answer_of (walk r m k) k) n ≡ outcome_at d n (after_out out k)) (same m k s) (l.late m k h s);
+  logs = l.logs;
   keeps = l.keeps;
 }

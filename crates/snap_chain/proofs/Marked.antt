@@ -2,7 +2,7 @@
 use Rattle.std.proofs.Common.{◌≡◌, ℕ, ◌+◌, ◌-◌, ◌%◌, ◌<◌, ◌^◌, Bool, true, false, cond, ◌||◌, List, [], ◌∷◌, ◌++◌, length, take, get_or, refl, sym, ap, subst, ◌∙◌, arith, bit_or}
 use Rattle.std.specs.Prelude.{slice_index, slice_set, map, ◌==◌}
 use Rattle.std.specs.List.{AllByRecursion}
-use Rattle.std.proofs.lemmas.Bool.{or_parts, both_ways, false≢true, ne_eqb, eq-eqb}
+use Rattle.std.proofs.lemmas.Bool.{or_parts, and_parts, both_ways, false≢true, ne_eqb, eq-eqb}
 use Rattle.std.proofs.lemmas.Nat.Bits.{bit_at_ones}
 use Rattle.std.proofs.lemmas.List.{take_more, get_or_default, get_or-set_other}
 use Rattle.snap_core.specs.declared.policy.Atom.{Atom}
@@ -25,7 +25,7 @@ use Rattle.snap_fdd.proofs.Noted.{noted_kept}
 use Rattle.snap_fdd.proofs.Testing.{among_left, among_right}
 use Rattle.snap_chain.specs.declared.marks.Mark.{Mark}
 use Rattle.snap_chain.specs.declared.marks.Marks.{Marks}
-use Rattle.snap_chain.specs.Marks.{either_mark, AreMarked, AtomMissed, IsMarkedBy, IsMissed, LeafMarked, LeafWritesNothing, SetsAmong, TermMissed, TestMarked, TestMissed, UpdatesAmong, WritesNothing}
+use Rattle.snap_chain.specs.Marks.{either_mark, AreMarked, AtomMissed, IsMarkedBy, IsMissed, LeafLogsUpdates, LeafMarked, LeafWritesNothing, LogsUpdates, SetsAmong, TermMissed, TestMarked, TestMissed, UpdatesAmong, WritesNothing}
 use Rattle.snap_chain.specs.Untouched.{changes, tests_updated, IsUntouched}
 use Rattle.snap_chain.proofs.Staying.{unchanged}
 
@@ -61,6 +61,7 @@ leaf_left a b (Goes g) h = (
   Each-weaker (SetsAmong a.sets) (SetsAmong (bit_or a.sets b.sets)) (sets_left a.sets b.sets) g.outs h.0,
   Each-weaker (λ (u : Update). IsAmong a.updates u.var) (λ (u : Update). IsAmong (bit_or a.updates b.updates) u.var) (λ u. among_left a.updates b.updates u.var) g.ups h.1,
   λ e. h.2 (or_parts a.writes b.writes e).0,
+  λ e. h.3 (and_parts a.framed b.framed e).0,
 )
 
 leaf_right : (a b : Mark) (l : Leaf) → LeafMarked b l → LeafMarked (either_mark a b) l
@@ -69,6 +70,7 @@ leaf_right a b (Goes g) h = (
   Each-weaker (SetsAmong b.sets) (SetsAmong (bit_or a.sets b.sets)) (sets_right a.sets b.sets) g.outs h.0,
   Each-weaker (λ (u : Update). IsAmong b.updates u.var) (λ (u : Update). IsAmong (bit_or a.updates b.updates) u.var) (λ u. among_right a.updates b.updates u.var) g.ups h.1,
   λ e. h.2 (or_parts a.writes b.writes e).1,
+  λ e. h.3 (and_parts a.framed b.framed e).1,
 )
 
 test_left : (a b : Mark) (t : Test) → TestMarked a t → TestMarked (either_mark a b) t
@@ -105,7 +107,7 @@ each_is P f [] = tt
 each_is P f (x ∷ xs) = (f x, each_is P f xs)
 
 abbrev everything : Mark
-everything = record { sets = 2 ^ 64 - 1; updates = 2 ^ 64 - 1; tests = 2 ^ 64 - 1; writes = true }
+everything = record { sets = 2 ^ 64 - 1; updates = 2 ^ 64 - 1; tests = 2 ^ 64 - 1; writes = true; framed = false }
 
 leaf_in_everything : (l : Leaf) → LeafMarked everything l
 leaf_in_everything Race = tt
@@ -113,6 +115,7 @@ leaf_in_everything (Goes g) = (
   each_is (SetsAmong (2 ^ 64 - 1)) (each_is (λ (p : ℕ × Atom). IsAmong (2 ^ 64 - 1) p.0) (λ p. has_all p.0)) g.outs,
   each_is (λ (u : Update). IsAmong (2 ^ 64 - 1) u.var) (λ u. has_all u.var) g.ups,
   λ e. absurd (false≢true (sym e)),
+  λ e. absurd (false≢true e),
 )
 
 test_in_everything : (t : Test) → TestMarked everything t
@@ -187,3 +190,12 @@ leaf_writes_nothing mk (Goes g) h e = h.2 e
 pub marked_writes_nothing : (mk : Mark) (d : Diagram) → IsMarkedBy mk d → mk.writes ≡ false → WritesNothing d
 marked_writes_nothing mk (Only l) h e = leaf_writes_nothing mk l h e
 marked_writes_nothing mk (Asks t y n) h e = (marked_writes_nothing mk y h.1 e, marked_writes_nothing mk n h.2 e)
+
+-- ---- diagrams whose leaves log all that they update
+leaf_logs : (mk : Mark) (l : Leaf) → LeafMarked mk l → mk.framed ≡ true → LeafLogsUpdates l
+leaf_logs mk Race h e = tt
+leaf_logs mk (Goes g) h e = h.3 e
+
+pub marked_logs : (mk : Mark) (d : Diagram) → IsMarkedBy mk d → mk.framed ≡ true → LogsUpdates d
+marked_logs mk (Only l) h e = leaf_logs mk l h e
+marked_logs mk (Asks t y n) h e = (marked_logs mk y h.1 e, marked_logs mk n h.2 e)

@@ -1,5 +1,5 @@
 -- What a diagram's leaves set, update and write, and which arrays it tests, as marks tell.
-use Rattle.std.specs.Prelude.{◌≡◌, ℕ, ◌<◌, false, List, bit_or, ◌||◌}
+use Rattle.std.specs.Prelude.{◌≡◌, ℕ, ◌<◌, true, false, List, bit_or, ◌||◌, ◌&&◌}
 use Rattle.std.specs.List.{AllByRecursion}
 use Rattle.snap_core.specs.declared.policy.Atom.{Atom}
 use Rattle.snap_core.specs.declared.policy.Atom.TheVariants.{Num as Number, Comp}
@@ -28,10 +28,19 @@ SetsAmong set o = AllByRecursion (λ (p : ℕ × Atom). IsAmong set p.0) o
 abbrev pub UpdatesAmong : ℕ → List Update → Type 0
 UpdatesAmong set us = AllByRecursion (λ (u : Update). IsAmong set u.var) us
 
--- the leaf sets and updates no more than is marked, and logs no write where none is marked
+-- the variables that updates change are in a set
+abbrev pub AreLogged : ℕ → List Update → Type 0
+AreLogged set us = AllByRecursion (λ (u : Update). has set u.var ≡ true) us
+
+-- the leaf logs all that it updates
+abbrev pub LeafLogsUpdates : Leaf → Type 0
+LeafLogsUpdates Race = Unit {0}
+LeafLogsUpdates (Goes g) = AreLogged g.writes g.ups
+
+-- the leaf sets and updates no more than is marked, logs no write where none is marked, and all updates where that is marked
 abbrev pub LeafMarked : Mark → Leaf → Type 0
 LeafMarked k Race = Unit {0}
-LeafMarked k (Goes g) = AllByRecursion (SetsAmong k.sets) g.outs × UpdatesAmong k.updates g.ups × (k.writes ≡ false → g.writes ≡ 0)
+LeafMarked k (Goes g) = AllByRecursion (SetsAmong k.sets) g.outs × UpdatesAmong k.updates g.ups × (k.writes ≡ false → g.writes ≡ 0) × (k.framed ≡ true → AreLogged g.writes g.ups)
 
 abbrev pub TestMarked : Mark → Test → Type 0
 TestMarked k (Value c n) = Unit {0}
@@ -49,7 +58,7 @@ AreMarked ns marks = AreNoted IsMarkedBy ns marks.reached.ids.items marks.noted.
 
 -- what either of two marks says
 abbrev pub either_mark : Mark → Mark → Mark
-either_mark a b = record { sets = bit_or a.sets b.sets; updates = bit_or a.updates b.updates; tests = bit_or a.tests b.tests; writes = a.writes || b.writes }
+either_mark a b = record { sets = bit_or a.sets b.sets; updates = bit_or a.updates b.updates; tests = bit_or a.tests b.tests; writes = a.writes || b.writes; framed = a.framed && b.framed }
 
 -- a test of nothing that the marked leaves set or update
 abbrev pub AtomMissed : Mark → Atom → Type 0
@@ -73,3 +82,8 @@ LeafWritesNothing (Goes g) = g.writes ≡ 0
 abbrev pub WritesNothing : Diagram → Type 0
 WritesNothing (Only l) = LeafWritesNothing l
 WritesNothing (Asks t y n) = WritesNothing y × WritesNothing n
+
+-- each leaf logs all that it updates
+abbrev pub LogsUpdates : Diagram → Type 0
+LogsUpdates (Only l) = LeafLogsUpdates l
+LogsUpdates (Asks t y n) = LogsUpdates y × LogsUpdates n

@@ -1,7 +1,7 @@
 //! What a diagram's leaves set and update: a look before one part comes after another, so that what isn't touched is
 //! left as it is.
 
-ghost use Rattle.std.specs.Prelude.{◌≡◌, ◌<◌, ℕ, List, All, false, IfOk, IfSome, IsTrue, length};
+ghost use Rattle.std.specs.Prelude.{◌≡◌, ◌<◌, ℕ, List, All, true, false, IfOk, IfSome, IsTrue, length};
 ghost use Rattle.std.specs.List.{AllByRecursion};
 ghost use Rattle.snap_core.specs.Arrays.{has};
 ghost use Rattle.snap_core.specs.declared.policy.Update.{Update};
@@ -9,7 +9,7 @@ ghost use Rattle.snap_arena.specs.declared.node.Node.{Node};
 ghost use Rattle.snap_fdd.specs.declared.leaf.Leaf.{Leaf};
 ghost use Rattle.snap_fdd.specs.Diagrams.{Diagram, diagram};
 ghost use Rattle.snap_fdd.specs.Reached.{AreNoted};
-ghost use Rattle.snap_chain.specs.Marks.{either_mark, AreMarked, AtomMissed, IsMarkedBy, IsMissed, LeafMarked, SetsAmong, TermMissed, TestMarked, TestMissed, UpdatesAmong};
+ghost use Rattle.snap_chain.specs.Marks.{either_mark, AreLogged, AreMarked, AtomMissed, IsMarkedBy, IsMissed, LeafMarked, LogsUpdates, SetsAmong, TermMissed, TestMarked, TestMissed, UpdatesAmong};
 
 use snap_arena::node::Node;
 use snap_arena::nodes::Nodes;
@@ -22,13 +22,14 @@ use snap_fdd::pick::look;
 use snap_fdd::reach::{Reached, reach_from};
 
 /// The components that a diagram's leaves set, the variables that they update and those that the diagram tests, a bit
-/// each, and whether a leaf logs a write.
+/// each, whether a leaf logs a write, and whether leaves log all that they update.
 #[derive(Clone, Copy)]
 pub struct Mark {
     pub sets: u64,
     pub updates: u64,
     pub tests: u64,
     pub writes: bool,
+    pub framed: bool,
 }
 
 // Whether a set of 64 bits tells that a number isn't in it.
@@ -94,6 +95,7 @@ fn either(a: Mark, b: Mark) -> Mark
         updates: a.updates | b.updates,
         tests: a.tests | b.tests,
         writes: a.writes || b.writes,
+        framed: a.framed && b.framed,
     }
 }
 
@@ -129,6 +131,13 @@ fn updated_by(updates: &[Update]) -> u64
     set
 }
 
+// Whether all variables that updates change are in a set.
+fn are_logged(set: u64, updates: &[Update]) -> bool
+    ensures { IsTrue result → AreLogged set updates.now }
+{
+    updates.iter().all(|update| is_in(set, update.var))
+}
+
 fn leaf_mark(leaf: &Leaf) -> Mark
     ensures { LeafMarked result leaf.now }
 {
@@ -138,12 +147,14 @@ fn leaf_mark(leaf: &Leaf) -> Mark
             updates: 0,
             tests: 0,
             writes: false,
+            framed: true,
         },
         Leaf::Go(go) => Mark {
             sets: set_by_all(go.outs.list()),
             updates: updated_by(go.ups.list()),
             tests: 0,
             writes: go.writes != 0,
+            framed: are_logged(go.writes, go.ups.list()),
         },
     }
 }
@@ -160,6 +171,7 @@ fn test_mark(test: &Test) -> Mark
         updates: 0,
         tests,
         writes: false,
+        framed: true,
     }
 }
 
@@ -172,6 +184,7 @@ fn anything() -> Mark
         updates: u64::MAX,
         tests: u64::MAX,
         writes: true,
+        framed: false,
     }
 }
 
@@ -221,6 +234,13 @@ impl Marks {
         ensures { (ns : List (Node Leaf)) → AreMarked ns self.now → IsMarkedBy result (diagram ns d) }
     {
         mark_at(&self.reached, &self.noted, d)
+    }
+
+    /// Whether each leaf that is reached from a number logs all that it updates, as far as the mark tells.
+    pub fn logs_updates(&self, d: u64) -> bool
+        ensures { IsTrue result → (ns : List (Node Leaf)) → AreMarked ns self.now → LogsUpdates (diagram ns d) }
+    {
+        self.of(d).framed
     }
 }
 

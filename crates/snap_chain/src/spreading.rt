@@ -32,7 +32,8 @@ use snap_join::joining::join;
 use std::alloc::Global;
 
 // A diagram behind each out and the updates, side by side, from a leaf that does nothing. Halves are joined with halves,
-// so each out's packets are copied once for each halving, and calls are no deeper than that.
+// so each out's packets are copied once for each halving, and calls are no deeper than that. Where leaves log all that
+// they update, nothing is lost beside the leaf that does nothing.
 fn all_after(
     nodes: &mut Nodes<Leaf>,
     groups: &Groups,
@@ -58,6 +59,9 @@ fn all_after(
             None => Ok(start),
             Some((out, _)) => {
                 let one = after_marked(nodes, groups, ctx, marks, out, ups, d)?;
+                if marks.logs_updates(d) {
+                    return Ok(one);
+                }
                 join(nodes, groups, ctx, start, one)
             }
         };

@@ -10,7 +10,7 @@ use Rattle.snap_fdd.proofs.Shared.{kept, argument_kept}
 use Rattle.snap_chain.specs.Spread.{IsRun}
 use Rattle.snap_chain.proofs.Settled.{head_fits}
 use Rattle.snap_chain.proofs.Marked.{marked_kept}
-use Rattle.snap_chain.proofs.Sequel.{only_one, run_one, run_both}
+use Rattle.snap_chain.proofs.Sequel.{only_one, run_framed, run_one, run_both}
 use Rattle.snap_chain.proofs.spreading.+all_after.Goals as goal
 
 pub after_marked-requires-clause-out : goal.after_marked-requires-clause-out
@@ -19,12 +19,18 @@ after_marked-requires-clause-out t c = head_fits (sizes c.args.groups.now c.args
 pub join-requires-clause-a : goal.join-requires-clause-a
 join-requires-clause-a t c = argument_kept c.args.groups.now c.args.ctx.now c.args.nodes.now c.after_marked.new.nodes c.args.start c.after_marked.ensures.grew c.requires.start
 
-pub returns-in_ok-one-in-Some-clause-run : goal.returns-in_ok-one-in-Some-clause-run
-returns-in_ok-one-in-Some-clause-run t c =
+pub returns-else-logs_updates-clause-run : goal.returns-else-logs_updates-clause-run
+returns-else-logs_updates-clause-run t c =
     let ks = kept c.args.nodes.now c.after_marked.new.nodes c.args.start c.after_marked.ensures.grew c.requires.start.below in
     let one = only_one c.args.outs.now c.in-Some.field-0-1.now c.in-Some.out.now c.in-Some.ensures.cases.0 (omega (arith, c.if-outs-le1.true)) in
     if_ok_both c.join.result _ _ _ (λ r a w. run_one c.args.groups.now c.args.ctx.now c.in-Some.out.now c.args.outs.now c.args.ups.now (diagram c.args.nodes.now c.args.d) (diagram c.after_marked.new.nodes c.args.start)
     (diagram c.after_marked.new.nodes c.in_ok-one-in-Some.one) (diagram c.join.new.nodes r) one (ks ∙ c.requires.bare) c.in_ok-one-in-Some.ensures.late.late (λ m k met small. w m k met) a.keeps) c.join.ensures.diagram c.join.ensures.answer
+
+pub returns-then-logs_updates-clause-run : goal.returns-then-logs_updates-clause-run
+returns-then-logs_updates-clause-run t c =
+    let one = only_one c.args.outs.now c.in-Some.field-0-1.now c.in-Some.out.now c.in-Some.ensures.cases.0 (omega (arith, c.if-outs-le1.true)) in
+    run_framed c.args.groups.now c.args.ctx.now c.in-Some.out.now c.args.outs.now c.args.ups.now (diagram c.args.nodes.now c.args.d) (diagram c.after_marked.new.nodes c.in_ok-one-in-Some.one) one
+    (c.logs_updates.ensures c.if-logs_updates.true c.args.nodes.now c.requires.marked) c.in_ok-one-in-Some.ensures.late
 
 pub all_after-requires-2 : goal.all_after-requires-2
 all_after-requires-2 t c =
