@@ -29,7 +29,7 @@ returns-in_ok-put_alone-in-Alone-clause-takes c =
     let text = c.put_alone.new.out.items in
     let fields = c.fields_of-fields.ensures ∙ ap (λ (t : Tables). t.fields) c.pass.ensures.tables in
     let passes = subst (λ p. Passes c.args.port k v.net new.net (IsTraced v.frames t v.hops v.net.injected new.tally (sent_in after p) (lost_in p))) c.in-Alone.is c.in-Ok.ensures.passes in
-    let put = subst (λ n. PutsBlock t.fields (n + 1) new.tally.hops.items (after ∷ []) 0 before text) c.injected.ensures (subst (λ f. PutsBlock f (c.injected.result + 1) new.tally.hops.items (after ∷ []) 0 before text) fields c.in_ok-put_alone-in-Alone.ensures) in
+    let put = subst (λ n. PutsBlock t.fields (n + 1) new.tally.hops.items (after ∷ []) 0 before text) c.injected-number.ensures (subst (λ f. PutsBlock f (c.injected-number.result + 1) new.tally.hops.items (after ∷ []) 0 before text) fields c.in_ok-put_alone-in-Alone.ensures) in
     (c.in-Ok.ensures.has_port, λ s shows none. taken-passed v.frames v.hops c.args.port k v.net new.net new.tally (after ∷ []) 0 before text passes put s shows)
 
 pub returns-in_ok-put_parted-in-Parted-clause-takes : goal.returns-in_ok-put_parted-in-Parted-clause-takes
@@ -45,5 +45,5 @@ returns-in_ok-put_parted-in-Parted-clause-takes c =
     let lost = c.in-Parted.lost in
     let fields = c.fields_of-fields.ensures ∙ ap (λ (t : Tables). t.fields) c.pass.ensures.tables in
     let passes = subst (λ p. Passes c.args.port k v.net new.net (IsTraced v.frames t v.hops v.net.injected new.tally (sent_in after p) (lost_in p))) c.in-Parted.is c.in-Ok.ensures.passes in
-    let put = subst (λ n. PutsBlock t.fields (n + 1) new.tally.hops.items sent lost before text) c.injected.ensures (subst (λ f. PutsBlock f (c.injected.result + 1) new.tally.hops.items sent lost before text) fields c.in_ok-put_parted-in-Parted.ensures) in
+    let put = subst (λ n. PutsBlock t.fields (n + 1) new.tally.hops.items sent lost before text) c.injected-number.ensures (subst (λ f. PutsBlock f (c.injected-number.result + 1) new.tally.hops.items sent lost before text) fields c.in_ok-put_parted-in-Parted.ensures) in
     (c.in-Ok.ensures.has_port, λ s shows none. taken-passed v.frames v.hops c.args.port k v.net new.net new.tally sent lost before text passes put s shows)
