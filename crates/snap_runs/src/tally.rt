@@ -57,20 +57,6 @@ impl Tally {
         }
     }
 
-    /// The packets that were delivered. Takes no memory.
-    pub fn delivered(&self) -> &[Packet]
-        ensures { result.now ≡ self.now.delivered.items }
-    {
-        &self.delivered
-    }
-
-    /// How many packets were lost. Takes no memory.
-    pub fn lost(&self) -> u64
-        ensures { result ≡ self.now.lost }
-    {
-        self.lost
-    }
-
     /// Forgets the lines of links, and tells those that come by frames of this kind. Takes no memory.
     #[inline(always)]
     pub(crate) fn begin(&mut self, frames: Frames)

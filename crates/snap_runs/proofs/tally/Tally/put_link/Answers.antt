@@ -1,4 +1,4 @@
-use Rattle.std.proofs.Common.{◌≡◌, ◌++◌, sym, ap, ◌∙◌}
+use Rattle.std.proofs.Common.{◌++◌, sym, ap, ◌∙◌}
 use Rattle.std.proofs.lemmas.Result.{on_ok_weaker}
 use Rattle.snap_rows.specs.declared.tables.Tables.{Tables}
 use Rattle.snap_runs.specs.Crossings.{digits_of, line_text, link_of}
