@@ -62,5 +62,6 @@ fn run_packet(
         Err(InjectFault::NoMemory) => return Err(NoMemory),
         Err(InjectFault::NoPort) => unreachable!(),
     };
-    counts.add(&passed)
+    counts.add(&passed)?;
+    Ok(())
 }
