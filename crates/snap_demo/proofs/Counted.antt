@@ -1,5 +1,5 @@
 -- What is counted of a run, packet by packet.
-use Rattle.std.proofs.Common.{◌≡◌, ℕ, zero, suc, ◌+◌, ◌<◌, false, List, [], ◌∷◌, ◌++◌, map, length, Some, refl, sym, ap, subst, ◌∙◌, arith, add-one, append-nil, length-append}
+use Rattle.std.proofs.Common.{◌≡◌, ℕ, zero, suc, ◌+◌, ◌<◌, List, [], ◌∷◌, ◌++◌, map, length, Some, refl, sym, ap, subst, ◌∙◌, arith, add-one, append-nil, length-append}
 use Rattle.std.specs.Prelude.{slice_get, slice_index, sum, sum_by}
 use Rattle.std.specs.List.{All, range_with_len}
 use Rattle.std.proofs.lemmas.List.{map-append}
@@ -8,18 +8,15 @@ use Rattle.std.proofs.lemmas.List.Sums.{sum_by-cons}
 use Rattle.snap_core.specs.Arrays.{zero_arrays}
 use Rattle.snap_rows.specs.declared.head.Sent.{Sent}
 use Rattle.snap_rows.specs.Happenings.{deliveries_of, losses_of, number_of}
-use Rattle.snap_rows.specs.Network.{Happening, Inject, IsPlainRun, Net, injects, rests, start}
-use Rattle.snap_net.specs.Shown.{Held, IsDone, Nothing, Shows}
-use Rattle.snap_runs.specs.declared.frames.Frames.TheVariants.{Plain}
-use Rattle.snap_runs.specs.declared.tally.Tally.{Tally}
+use Rattle.snap_rows.specs.Network.{Happening, Inject, IsPlainRun, rests, start}
+use Rattle.snap_net.specs.Passing.{IsHeard, IsTold, Passes}
+use Rattle.snap_net.specs.Shown.{Held, Shows}
+use Rattle.snap_net.proofs.Told.{deliveries_of-append, losses_of-append}
 use Rattle.snap_runs.specs.Plain.{entering}
 use Rattle.snap_runs.specs.Reports.{packets_delivered}
-use Rattle.snap_runs.specs.Settling.{AreCopiesOf, HappenTo, HasSettled, Settles, Tallies}
 use Rattle.snap_runs.proofs.Blocks.{earlier-elsewhere, later-elsewhere}
-use Rattle.snap_net.proofs.Told.{deliveries_of-append, losses_of-append}
 use Rattle.snap_runs.proofs.Happenings.{HappenElsewhere, deliveries_of-others, losses_of-others}
 use Rattle.snap_runs.proofs.Runs.{plain-then}
-use Rattle.snap_runs.proofs.Steps.{inject-alone, rests-shown}
 use Rattle.snap_demo.specs.declared.counts.Counts.{Counts}
 use Rattle.snap_demo.specs.Runs.{HasRun, RunsOn, delivered_of, lost_of}
 
@@ -75,7 +72,7 @@ module _ (i : ℕ) (hs gs : List Happening) where
   losses-behind : HappenElsewhere i hs → losses_of i (hs ++ gs) ≡ losses_of i gs
   losses-behind other = losses_of-append i hs gs ∙ ap (λ l. l ++ losses_of i gs) (losses_of-others i hs other)
 
-module _ (n : ℕ) (hs gs : List Happening) (before : All (λ h. number_of h < n) hs) (happen : HappenTo n gs) where
+module _ (n : ℕ) (hs gs : List Happening) (before : All (λ h. number_of h < n) hs) (happen : All (λ h. number_of h ≡ n) gs) where
   delivered_of-more : delivered_of (n + 1) (hs ++ gs) ≡ delivered_of n hs + length (packets_delivered n gs)
   delivered_of-more =
       let f : ℕ → ℕ = λ i. length (packets_delivered i (hs ++ gs)) in
@@ -107,35 +104,30 @@ has_run-none v c d l shows = record {
   lost = l;
 }
 
--- a packet is injected, and all its copies come to rest
-module _ (port : ℕ) (k : List ℕ) (old mid new : Held) (y : Tally) (before after : Counts) where
-  pub runs-on : slice_index k 0 ≡ port → mid.tables ≡ old.tables → new.tables ≡ old.tables → IsDone old (Inject port k) mid Nothing → HasSettled Plain false mid new y → new.flying ≡ []
-      → after.delivered ≡ before.delivered + length y.delivered.items → after.lost ≡ before.lost + y.lost → RunsOn k old before new after
-  runs-on first same kept done settled rest delivers loses ks h =
+-- a packet passes, and what went out of it is counted
+module _ {V : Type 0} {saw : V → List Happening → V → Type 0} {a b : V} (port : ℕ) (k : List ℕ) (old new : Held) (sent : List (List ℕ)) (lost : ℕ) (before after : Counts) where
+  pub runs-on : slice_index k 0 ≡ port → new.tables ≡ old.tables → Passes port k old new (IsHeard saw old.injected a b sent lost) → after.delivered ≡ before.delivered + length sent → after.lost ≡ before.lost + lost → RunsOn k old before new after
+  runs-on first kept passes delivers loses ks h =
       let n = length ks in
-      let a = done h.state h.shows in
-      let alone = inject-alone old.tables h.state a.0 port k a.1 h.run.ended a.2 in
-      let b = subst (λ t. (s' : Net) × (hs : List Happening) × Settles t a.0 s' hs × Shows new s' × ((i : ℕ) → AreCopiesOf i a.0.flying → Tallies Plain t false i s' hs y)) same (settled a.0 a.3) in
-      let told = subst (λ i. Tallies Plain old.tables false i b.0 b.1 y) h.injected (b.4 h.state.injected alone.0) in
+      let p = passes h.state h.shows in
+      let told : IsTold n sent lost p.happenings = subst (λ i. IsTold i sent lost p.happenings) (sym h.shows.injected ∙ h.injected) p.tells.told in
       let longer : length (ks ++ k ∷ []) ≡ n + 1 = length-append ks (k ∷ []) in
-      let events = h.events ++ Inject port k ∷ b.2.events in
-      let happenings = h.happenings ++ b.1 in
-      let run : IsPlainRun old.tables zero_arrays (entering ks ++ (port, k) ∷ []) events b.0 happenings =
-      plain-then old.tables zero_arrays (entering ks) h.events h.state h.happenings h.run port k b.2.events b.0 b.1 b.2.no_packets b.2.first
-      (subst (λ l. Rattle.snap_rows.specs.Network.RunsCalmly old.tables h.state (Inject port k ∷ b.2.events) b.0 (l ++ b.1)) a.4 (injects h.run.ended a.2 b.2.run))
-      (rests-shown new b.0 b.3 rest) in
-      let enters : entering ks ++ (port, k) ∷ [] ≡ entering (ks ++ k ∷ []) = ap (λ p. entering ks ++ (p, k) ∷ []) (sym first) ∙ sym (map-append (λ x. (slice_index x 0, x)) ks (k ∷ [])) in
+      let events = h.events ++ Inject port k ∷ p.events in
+      let happenings = h.happenings ++ p.happenings in
+      let run : IsPlainRun old.tables zero_arrays (entering ks ++ (port, k) ∷ []) events p.state happenings =
+      plain-then old.tables zero_arrays (entering ks) h.events h.state h.happenings h.run port k p.events p.state p.happenings p.no_packets p.first p.run p.rests in
+      let enters : entering ks ++ (port, k) ∷ [] ≡ entering (ks ++ k ∷ []) = ap (λ q. entering ks ++ (q, k) ∷ []) (sym first) ∙ sym (map-append (λ x. (slice_index x 0, x)) ks (k ∷ [])) in
       record {
         events = events;
-        state = b.0;
+        state = p.state;
         happenings = happenings;
-        run = subst (λ t. IsPlainRun t zero_arrays (entering (ks ++ k ∷ [])) events b.0 happenings) (sym kept) (subst (λ l. IsPlainRun old.tables zero_arrays l events b.0 happenings) enters run);
-        shows = b.3;
-        injected = b.2.injected ∙ alone.1 ∙ ap (λ m. m + 1) h.injected ∙ sym longer;
+        run = subst (λ t. IsPlainRun t zero_arrays (entering (ks ++ k ∷ [])) events p.state happenings) (sym kept) (subst (λ l. IsPlainRun old.tables zero_arrays l events p.state happenings) enters run);
+        shows = p.shows;
+        injected = p.injected ∙ ap (λ m. m + 1) h.injected ∙ sym longer;
         before = subst (λ m. All (λ h. number_of h < m) happenings) (sym longer)
-            (All-append (λ h. number_of h < n + 1) h.happenings b.1
+            (All-append (λ h. number_of h < n + 1) h.happenings p.happenings
             (All-weaker (λ h. number_of h < n) (λ h. number_of h < n + 1) (λ h less. omega (arith, less)) h.happenings h.before)
-            (All-weaker (λ h. number_of h ≡ n) (λ h. number_of h < n + 1) (λ h is. omega (arith, is)) b.1 told.happen));
-        delivered = delivers ∙ (λ i. h.delivered i + length (told.tally.delivered i)) ∙ sym (delivered_of-more n h.happenings b.1 h.before told.happen) ∙ ap (λ m. delivered_of m happenings) (sym longer);
-        lost = loses ∙ (λ i. h.lost i + told.tally.lost i) ∙ sym (lost_of-more n h.happenings b.1 h.before told.happen) ∙ ap (λ m. lost_of m happenings) (sym longer);
+            (All-weaker (λ h. number_of h ≡ n) (λ h. number_of h < n + 1) (λ h is. omega (arith, is)) p.happenings told.happen));
+        delivered = delivers ∙ (λ i. h.delivered i + length (sym told.sent_is i)) ∙ sym (delivered_of-more n h.happenings p.happenings h.before told.happen) ∙ ap (λ m. delivered_of m happenings) (sym longer);
+        lost = loses ∙ (λ i. h.lost i + sym told.lost_is i) ∙ sym (lost_of-more n h.happenings p.happenings h.before told.happen) ∙ ap (λ m. lost_of m happenings) (sym longer);
       }

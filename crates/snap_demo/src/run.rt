@@ -1,11 +1,11 @@
 //! The packets, one after another through the network.
 
-ghost use Rattle.std.specs.Prelude.{◌≡◌, ◌≤◌, ◌<◌, ◌+◌, ◌^◌, ℕ, IfOk, IsSome, OnOk, length, slice_index};
+ghost use Rattle.std.specs.Prelude.{◌≡◌, ◌≤◌, ◌<◌, ◌+◌, ◌^◌, [], IfOk, IsSome, OnOk, length, slice_index};
 ghost use Rattle.snap_core.specs.Arrays.{zero_arrays};
 ghost use Rattle.snap_rows.specs.Entries.{port_at};
 ghost use Rattle.snap_rows.specs.Form.{comps};
-ghost use Rattle.snap_rows.specs.Network.{Inject, start};
-ghost use Rattle.snap_net.specs.Shown.{IsDone, Nothing, Shows};
+ghost use Rattle.snap_rows.specs.Network.{start};
+ghost use Rattle.snap_net.specs.Shown.{Shows};
 ghost use Rattle.snap_demo.specs.Packets.{stated_packets};
 ghost use Rattle.snap_demo.specs.Row.{ports};
 ghost use Rattle.snap_demo.specs.Runs.{HasRun, RunsOn};
@@ -15,9 +15,7 @@ use crate::packets::{PACKETS, packet_of, port_of};
 use snap_core::NoMemory;
 use snap_core::packet::Packet;
 use snap_net::net::{InjectFault, Net};
-use snap_runs::frames::Frames;
-use snap_runs::settle::settle;
-use snap_runs::tally::Tally;
+use snap_net::watch::Unwatched;
 use std::alloc::Global;
 
 /// Runs all packets, and counts what happened to them.
@@ -35,55 +33,35 @@ pub(crate) fn run(alloc: Global, net: &mut Net, switches: u16) -> Result<Counts,
         delivered: 0,
         lost: 0,
     };
-    let mut tally = Tally::new(alloc);
     for number in 0..PACKETS * switches as u64 {
         let packet = packet_of(alloc, switches, number)?;
-        run_packet(
-            net,
-            &mut tally,
-            &mut counts,
-            port_of(switches, number),
-            packet,
-        )?;
+        run_packet(net, &mut counts, port_of(switches, number), packet)?;
     }
     Ok(counts)
 }
 
-// Injects a packet at its port, lets its copies come to rest, and counts what happened to it.
+// Lets a packet through the network, and counts what went out.
 fn run_packet(
     net: &mut Net,
-    tally: &mut Tally,
     counts: &mut Counts,
     port: u32,
-    packet: Packet,
+    mut packet: Packet,
 ) -> Result<(), NoMemory>
+    requires rests { net.old.flying ≡ [] }
     requires packet { length packet ≡ comps net.old.tables }
     requires port { slice_index packet 0 ≡ port }
     requires there { IsSome (port_at net.old.tables port) }
     requires room { net.old.injected + 1 < 2 ^ 64 }
     ensures on { OnOk result (RunsOn packet net.old counts.old net.new counts.new) }
+    ensures rests { net.new.flying ≡ [] }
     ensures tables { net.new.tables ≡ net.old.tables }
     ensures injected { OnOk result (net.new.injected ≡ net.old.injected + 1) }
 {
-    enter(net, port, packet)?;
-    settle(net, false, Frames::Plain, tally)?;
-    counts.add(tally)?;
-    Ok(())
-}
-
-// Injects a packet at a port that is there.
-fn enter(net: &mut Net, port: u32, packet: Packet) -> Result<(), NoMemory>
-    requires packet { length packet ≡ comps net.old.tables }
-    requires port { slice_index packet 0 ≡ port }
-    requires there { IsSome (port_at net.old.tables port) }
-    requires room { net.old.injected + 1 < 2 ^ 64 }
-    ensures done { OnOk result (IsDone net.old (Inject port packet) net.new Nothing) }
-    ensures tables { net.new.tables ≡ net.old.tables }
-    ensures injected { OnOk result (net.new.injected ≡ net.old.injected + 1) }
-{
-    match net.inject(port, packet) {
-        Ok(_) => Ok(()),
-        Err(InjectFault::NoMemory) => Err(NoMemory),
+    let passed = match net.pass(port, &mut packet, &mut Unwatched) {
+        Ok(passed) => passed,
+        Err(InjectFault::NoMemory) => return Err(NoMemory),
         Err(InjectFault::NoPort) => unreachable!(),
-    }
+    };
+    counts.add(&passed)?;
+    Ok(())
 }

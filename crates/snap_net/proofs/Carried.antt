@@ -1,6 +1,6 @@
 -- A packet passes through the network: it comes in, its copy flies to where it is parted, and what goes out goes out.
 use Rattle.std.proofs.Common.{◌≡◌, ◌≢◌, ℕ, ◌+◌, ◌<◌, ◌≤◌, true, List, [], ◌∷◌, ◌++◌, map, Option, Some, None, length, refl, sym, ap, ap₂, subst, ◌∙◌, arith, append_assoc, append-nil, Bor}
-use Rattle.std.specs.Prelude.{IsSome, slice_index, sum, unwrap_or, if◌then◌else◌}
+use Rattle.std.specs.Prelude.{IsSome, slice_index, sum, if◌then◌else◌}
 use Rattle.std.specs.List.{All}
 use Rattle.std.proofs.lemmas.Bool.{eq-eqb, false≢true}
 use Rattle.std.proofs.lemmas.List.{map-append}
@@ -10,6 +10,7 @@ use Rattle.snap_core.specs.Arrays.{Arrays}
 use Rattle.snap_core.specs.Cells.{Kept}
 use Rattle.snap_rows.specs.Aims.{aim_of}
 use Rattle.snap_rows.specs.declared.tables.Tables.{Tables}
+use Rattle.snap_rows.specs.declared.tables.Rule.TheVariants.{Loop}
 use Rattle.snap_rows.specs.declared.head.Action.{Action}
 use Rattle.snap_rows.specs.declared.head.Action.TheVariants.{Forward, Deliver, Fork}
 use Rattle.snap_rows.specs.declared.head.Fate.{Fate}
@@ -19,7 +20,7 @@ use Rattle.snap_rows.specs.declared.head.Head.TheVariants.{Walk, Stage, Out, Vis
 use Rattle.snap_rows.specs.declared.head.Sent.{Sent}
 use Rattle.snap_rows.specs.Entries.{Parts, next, port_at}
 use Rattle.snap_rows.specs.Form.{IsInForm, switch_count}
-use Rattle.snap_rows.specs.Handles.{delivers}
+use Rattle.snap_rows.specs.Handles.{Handles, delivers}
 use Rattle.snap_rows.specs.Happenings.{deliveries_of, losses_of, number_of}
 use Rattle.snap_rows.specs.Home.{AtHome}
 use Rattle.snap_rows.specs.Network.{Copy, Net, Step, Happening, Crossed, Delivered, Forked, Leads, rests, injects, steps, StepsFirst, happening}
@@ -28,21 +29,18 @@ use Rattle.snap_rows.specs.Steps.{Arrives, IsSent}
 use Rattle.snap_rows.specs.Stepping.{ActsAs, AimsAt, IsSpread, Steps}
 use Rattle.snap_rows.specs.Ways.{Way, here, on}
 use Rattle.snap_rows.specs.Weight.{weight}
-use Rattle.snap_rows.proofs.Aims.{aim_lighter}
-use Rattle.snap_rows.proofs.Arrives.{fork_arrives, next_below}
+use Rattle.snap_rows.proofs.Aims.{aim_below, aim_lighter, goes_on}
+use Rattle.snap_rows.proofs.Arrives.{fork_arrives, next_below, way_to}
 use Rattle.snap_rows.proofs.Lighter.{lighter}
 use Rattle.snap_rows.proofs.Rows.{some_injective}
 use Rattle.snap_rows.proofs.Stepping.{steps_plain}
 use Rattle.snap_net.specs.declared.flying.Flying.{Flying}
-use Rattle.snap_net.specs.Landings.{StepsAt, held as holding}
 use Rattle.snap_net.specs.Moves.{copies_in_flight, flights}
-use Rattle.snap_net.specs.Passing.{Comes, Goes, GoOut, none, next_one, IsHeard, IsPlain, IsTold, LandsWith, PartsInto, Passes, StepsSo, crossings, entering, reached}
+use Rattle.snap_net.specs.Passing.{Comes, Goes, GoOut, none, next_one, IsHeard, IsPlain, IsTold, LandsWith, PartsInto, Passes, StepsAt, StepsSo, crossings, entering, held as holding, reached}
 use Rattle.snap_net.specs.Shown.{Held, Shows, flown, store_of}
-use Rattle.snap_net.specs.Travels.{Crosses, ends, goes, Hears, Travels, stays, crosses, WayOf, arrived}
-use Rattle.snap_net.proofs.Landed.{there}
+use Rattle.snap_net.specs.Travels.{Crosses, ends, goes, Hears, WayOf}
 use Rattle.snap_net.proofs.Steps.{Left, done_fresh, has_stepped, with_fresh}
 use Rattle.snap_net.proofs.Told.{calm-then, crossings-append, deliveries_of-append, losses_of-append, packets_of-append}
-use Rattle.snap_net.proofs.Travelling.{has_gone}
 
 -- ---- steps of the first copy
 goes_none : (t : Tables) (s : Net) → Goes t s [] s
@@ -63,10 +61,6 @@ goes_once t a b x leads = record {
   first = All-cons StepsFirst (Step 0) [] refl (All-nil StepsFirst);
   run = steps leads rests;
 }
-
-goes_far : (t : Tables) (a b : Net) (hs : List Happening) → Travels t 0 a hs b → Goes t a hs b
-goes_far t a b hs stays = goes_none t a
-goes_far t a b hs (crosses {s' = m} {c = c} {to = to} {h = h} {hs = gs} leads rest) = goes_both t a m b (Crossed c to h ∷ []) gs (goes_once t a m (Crossed c to h) leads) (goes_far t m b gs rest)
 
 -- ---- copies come on
 pub comes_none : (t : Tables) (n : ℕ) (stores : List Kept) (fl : List Flying) (told : List Happening → Type 0) → told [] → Comes t n stores fl stores fl told
@@ -95,6 +89,28 @@ comes_step t n old new d xs a made s shows =
     let b = has_stepped v v' 0 d made.arrays a left made.handles s shows in
     (b.state, happening b.copy a ∷ [], goes_once t s b.state (happening b.copy a) b.leads, b.shows, (b.copy, sym (some_injective _ _ b.is), refl))
 
+-- a copy at switch w with a head
+abbrev pub there : Flying → ℕ → Head → Flying
+there c w h = record c { at = w; head = h }
+
+-- the first link
+crosses_first : (t : Tables) (d : Flying) (to : ℕ) (h : Head) (hs : List Happening) → Happens d (Forward to h) hs → (ws : List ℕ) (gs : List Happening) → Crosses d.number h d.packet to ws gs → Crosses d.number h d.packet d.at (to ∷ ws) (hs ++ gs)
+crosses_first t d to h hs happens ws gs rest =
+    subst (λ l. Crosses d.number h d.packet d.at (to ∷ ws) (l ++ gs)) (sym happens.2)
+    (goes (ap (λ (x : Flying). x.number) happens.1) (ap (λ (x : Flying). x.at) happens.1) (ap (λ (x : Flying). x.packet) happens.1) rest)
+
+-- a copy with a head that is sent on from everywhere but x goes along a way to x
+comes_along : (t : Tables) (n : ℕ) (stores : List Kept) (d : Flying) (xs : List Flying) (x : ℕ) (h : Head) → ((w : ℕ) (k : List ℕ) (m : Arrays) → x ≢ w → Handles t w k m h m (Forward (next t w x) h))
+    → (w : ℕ) (ws : List ℕ) → Way t x w ws → Comes t n stores (there d w h ∷ xs) stores (there d x h ∷ xs) (Crosses d.number h d.packet w ws)
+comes_along t n stores d xs x h forwards w ws here = comes_none t n stores (there d w h ∷ xs) (Crosses d.number h d.packet w []) ends
+comes_along t n stores d xs x h forwards w ws (on {ws = vs} away way) =
+    let to = next t w x in
+    let made : StepsAt t w d.packet h stores stores (Forward to h) = record { arrays = store_of stores w; handles = forwards w d.packet (store_of stores w) (λ e. away (sym e)); changed = record { count = refl; here = refl; others = λ y off. refl } } in
+    comes_then t n stores stores stores (there d w h ∷ xs) (there d to h ∷ xs) (there d x h ∷ xs) (Happens (there d w h) (Forward to h)) (Crosses d.number h d.packet to vs) (Crosses d.number h d.packet w (to ∷ vs))
+    (comes_step t n stores stores (there d w h) xs (Forward to h) made)
+    (comes_along t n stores d xs x h forwards to vs way)
+    (λ hs gs happens rest. crosses_first t (there d w h) to h hs happens vs gs rest)
+
 -- the first copy crosses links from switch w, by next hops towards x
 abbrev Gone : Tables → ℕ → Head → List ℕ → (w x : ℕ) → List Happening → Type 0
 Gone t i h k w x hs = (ws : List ℕ) × Way t x w ws × Crosses i h k w ws hs
@@ -102,15 +118,11 @@ Gone t i h k w x hs = (ws : List ℕ) × Way t x w ws × Crosses i h k w ws hs
 -- by steps of the first copy to where its head sends it
 comes_far : (t : Tables) → IsValid t → IsInForm t → (n : ℕ) (stores : List Kept) (d : Flying) (xs : List Flying) (x : ℕ) → d.at < switch_count t → aim_of t d.head ≡ Some x
     → Comes t n stores (d ∷ xs) stores (record d { at = x } ∷ xs) (Gone t d.number d.head d.packet d.at x)
-comes_far t valid form n stores d xs x low aim s shows =
-    let r = has_gone (holding t n stores (d ∷ xs)) valid form 0 d refl low d refl s shows in
-    let to : (arrived t d).at ≡ x = ap (λ o. unwrap_or o d.at) aim in (
-      r.0,
-      r.2,
-      goes_far t s r.0 r.2 r.5,
-      subst (λ y. Shows (holding t n stores (record d { at = y } ∷ xs)) r.0) to r.6,
-      (r.1, subst (λ y. Way t y d.at r.1) to r.3, r.4),
-    )
+comes_far t valid form n stores d xs x low aim =
+    let way = way_to t (valid Loop) form d.at x low (aim_below t form d.head x aim) in
+    comes_so t n stores stores (d ∷ xs) (record d { at = x } ∷ xs) (Crosses d.number d.head d.packet d.at way.0) (Gone t d.number d.head d.packet d.at x)
+    (comes_along t n stores d xs x d.head (goes_on t d.head x aim) d.at way.0 way.1)
+    (λ hs crosses. (way.0, way.1, crosses))
 
 -- ---- a step towards a switch
 steps_at : (t : Tables) (w : ℕ) (k : List ℕ) (h : Head) (old new : List Kept) (f : Fate) → StepsSo t w k h old new f → (a : Action) × ActsAs t w k f a × StepsAt t w k h old new a
@@ -127,12 +139,6 @@ steps_are_plain (fate.Deliver p) made = tt
 steps_are_plain (fate.Fork outs) made = tt
 steps_are_plain (fate.Stay r n) made = (steps_plain made (λ j. refl)).1
 steps_are_plain (fate.Wait r) made = (steps_plain made (λ j. refl)).1
-
--- the first link
-crosses_first : (t : Tables) (d : Flying) (to : ℕ) (h : Head) (hs : List Happening) → Happens d (Forward to h) hs → (ws : List ℕ) (gs : List Happening) → Crosses d.number h d.packet to ws gs → Crosses d.number h d.packet d.at (to ∷ ws) (hs ++ gs)
-crosses_first t d to h hs happens ws gs rest =
-    subst (λ l. Crosses d.number h d.packet d.at (to ∷ ws) (l ++ gs)) (sym happens.2)
-    (goes (ap (λ (x : Flying). x.number) happens.1) (ap (λ (x : Flying). x.at) happens.1) (ap (λ (x : Flying). x.packet) happens.1) rest)
 
 -- the links on a copy's way from w towards x with this head
 abbrev pub OnWay : Tables → ℕ → Head → List ℕ → (w x : ℕ) → List Happening → Type 0

@@ -3,7 +3,5 @@ pub mod Splices
 pub mod Steps
 pub mod Home
 pub mod Gathering
-pub mod Travelling
-pub mod Landed
 pub mod Told
 pub mod Carried

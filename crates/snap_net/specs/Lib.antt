@@ -4,6 +4,5 @@ pub mod Shown
 pub mod Moves
 pub mod Laws
 pub mod Travels
-pub mod Landings
 pub mod Parts
 pub mod Passing

@@ -3,6 +3,7 @@ use Rattle.std.specs.Prelude.{◌≡◌, ℕ, ◌+◌, true, Some, List, [], ◌
 use Rattle.std.specs.List.{All}
 use Rattle.snap_core.specs.Arrays.{Arrays}
 use Rattle.snap_core.specs.Cells.{Kept}
+use Rattle.snap_rows.specs.declared.head.Action.{Action}
 use Rattle.snap_rows.specs.declared.head.Fate.{Fate}
 use Rattle.snap_rows.specs.declared.head.Fate.TheVariants as fate
 use Rattle.snap_rows.specs.declared.head.Head.{Head}
@@ -10,6 +11,7 @@ use Rattle.snap_rows.specs.declared.head.Head.TheVariants.{Walk, Out, Visit}
 use Rattle.snap_rows.specs.declared.head.Sent.{Sent}
 use Rattle.snap_rows.specs.declared.tables.Tables.{Tables}
 use Rattle.snap_rows.specs.Entries.{Parts, next, port_at}
+use Rattle.snap_rows.specs.Handles.{Handles}
 use Rattle.snap_rows.specs.Happenings.{deliveries_of, losses_of, number_of}
 use Rattle.snap_rows.specs.Network.{Net, Event, Inject, Happening, Crossed, Delivered, Forked, RunsCalmly, StepsFirst, packets_of}
 use Rattle.snap_rows.specs.Stepping.{IsSpread, Steps}
@@ -17,7 +19,6 @@ use Rattle.snap_rows.specs.Ways.{Way}
 use Rattle.snap_net.specs.declared.flying.Flying.{Flying}
 use Rattle.snap_net.specs.declared.passing.Passed.{Passed}
 use Rattle.snap_net.specs.declared.passing.Passed.TheVariants.{Alone, Parted}
-use Rattle.snap_net.specs.Landings.{held}
 use Rattle.snap_net.specs.Moves.{Changed}
 use Rattle.snap_net.specs.Shown.{Held, Shows, store_of}
 use Rattle.snap_net.specs.Travels.{Crosses, Hears}
@@ -51,11 +52,21 @@ lost_in Alone = 0
 lost_in (Parted copies lost) = lost
 
 -- ---- steps
+-- n packets were injected, and these copies are in flight
+abbrev pub held : Tables → ℕ → List Kept → List Flying → Held
+held t n stores flying = record { tables = t; stores = stores; injected = n; flying = flying }
+
 -- a copy of packet number i that has come in at switch w
 abbrev pub entering : ℕ → ℕ → List ℕ → Flying
 entering i w k = record { number = i; at = w; head = Walk 0; packet = k }
 
--- switch w makes the step of a copy, of which this becomes
+-- switch w makes the step of a copy, which does this
+pub record StepsAt (t : Tables) (w : ℕ) (k : List ℕ) (h : Head) (old new : List Kept) (a : Action) : Type 0 where
+  pub arrays : Arrays
+  pub handles : Handles t w k (store_of old w) h arrays a
+  pub changed : Changed old new w arrays
+
+-- the same, of which this becomes
 pub record StepsSo (t : Tables) (w : ℕ) (k : List ℕ) (h : Head) (old new : List Kept) (f : Fate) : Type 0 where
   pub arrays : Arrays
   pub steps : Steps t w k (λ r. true) (store_of old w) h arrays f

@@ -5,7 +5,6 @@ mod block;
 mod flights;
 pub mod flying;
 pub mod happened;
-mod landing;
 pub mod laws;
 pub mod moves;
 pub mod net;

@@ -1,6 +1,6 @@
 //! The network.
 
-ghost use Rattle.std.specs.Prelude.{◌≡◌, ◌≢◌, ◌≤◌, ◌<◌, ◌+◌, ◌^◌, None, Some, ℕ, IfOk, IfErr, OnOk, OnErr, IsSome, [], length, map, slice_get, slice_index, All, ◌∷◌};
+ghost use Rattle.std.specs.Prelude.{◌≡◌, ◌≢◌, ◌≤◌, ◌<◌, ◌+◌, ◌^◌, None, Some, ℕ, IfOk, IfErr, OnOk, OnErr, IsSome, [], length, map, slice_get, slice_index, All};
 ghost use Rattle.snap_core.specs.Arrays.{zero_arrays};
 ghost use Rattle.snap_core.specs.Cells.{arrays_of};
 ghost use Rattle.snap_core.specs.Listing.{IsListing, entry_of, number_in};
@@ -8,9 +8,6 @@ ghost use Rattle.snap_rows.specs.Entries.{port_at};
 ghost use Rattle.snap_rows.specs.Form.{comps, array_count, switch_count};
 ghost use Rattle.snap_rows.specs.Network.{Net as State, start, whole, Inject, Step};
 ghost use Rattle.snap_net.specs.declared.flying.Flying.{Flying};
-ghost use Rattle.snap_net.specs.Flights.{spliced};
-ghost use Rattle.snap_net.specs.Travels.{HasTravelled, arrived};
-ghost use Rattle.snap_net.specs.Landings.{HasComeDown, HasComeThrough};
 ghost use Rattle.snap_net.specs.Passing.{IsHeard, Passes, lost_in, sent_in};
 ghost use Rattle.snap_net.specs.Shown.{IsHeld, Shows, IsDone, Nothing, Tells, TellsMoved, Same, store_of};
 ghost use Rattle.snap_net.specs.Parts.{held_of};
@@ -20,9 +17,8 @@ ghost use Rattle.snap_net.specs.declared.net.StepFault.{StepFault};
 
 use crate::flights::Flights;
 use crate::flying::Flying;
-use crate::happened::{Happened, Landed, Moved};
-use crate::landing::{become_of, fly, put_down, step_at};
-use crate::moves::{carry_out, frame_of, framed, move_on};
+use crate::happened::{Happened, Moved};
+use crate::moves::{carry_out, frame_of, framed};
 use crate::parts::Parts;
 use crate::passing::{Passed, carry};
 use crate::rehousing::move_arrays;
@@ -248,73 +244,6 @@ impl Net {
         Ok(moved)
     }
 
-    /// Makes the steps of copy k, counted from 0, that take it to the switch to which its head sends it, and tells nothing of
-    /// them. Each only crosses a link, and next hops lead there from everywhere, so no way is looked up. Takes no memory.
-    pub fn travel(&mut self, k: usize)
-        requires { k < length self.old.flying }
-        ensures travelled { HasTravelled self.old k self.new }
-        ensures arrived { (c : Flying) → slice_get self.old.flying k ≡ Some c → self.new.flying ≡ spliced self.old.flying k 1 (arrived self.old.tables c ∷ []) }
-        ensures tables { self.new.tables ≡ self.old.tables }
-        ensures injected { self.new.injected ≡ self.old.injected }
-    {
-        let traveller = self.flying.get(k);
-        let head = traveller.head;
-        let to = self.tables.aim(head).unwrap_or(traveller.at);
-        self.flying.send(k, to, head);
-    }
-
-    /// Makes the steps of the first copy up to the first that forks or delivers it, then those of the copies that it was
-    /// forked into, until each of them is delivered, and tells what became of them all. Where memory is short only the tables
-    /// and the count of packets are sure to stay: the copy may be half on its way, in the midst of updates.
-    /// Refuses for memory alone.
-    pub fn land(&mut self) -> Result<Landed, NoMemory>
-        requires { 0 < length self.old.flying }
-        ensures down { IfOk result (HasComeDown self.old self.new) }
-        ensures tables { self.new.tables ≡ self.old.tables }
-        ensures injected { self.new.injected ≡ self.old.injected }
-    {
-        let copy = self.flying.get(0);
-        let action = fly(self.alloc, &self.tables, &mut self.stores, copy)?;
-        // What it was forked into only crosses links to ports, which changes no store.
-        Ok(put_down(&mut self.flying, action))
-    }
-
-    /// Injects a packet where nothing is in flight, and makes the steps of its copy and of those that it is forked into as
-    /// `land` does, until each is delivered. The copy stands in no list meanwhile. Where memory is short only the tables and
-    /// the count of packets are sure to stay.
-    ///
-    /// # Errors
-    ///
-    /// As `inject`.
-    pub fn inject_and_land(&mut self, port: u32, packet: Packet) -> Result<Landed, InjectFault>
-        requires rests { self.old.flying ≡ [] }
-        requires packet { length packet ≡ comps self.old.tables }
-        requires port { slice_index packet 0 ≡ port }
-        requires room { self.old.injected + 1 < 2 ^ 64 }
-        ensures through { IfOk result (HasComeThrough port packet self.old self.new) }
-        ensures rests { self.new.flying ≡ [] }
-        ensures tables { self.new.tables ≡ self.old.tables }
-        ensures count { OnOk result (self.new.injected ≡ self.old.injected + 1) }
-        ensures same_count { OnErr result (self.new.injected ≡ self.old.injected) }
-        ensures no_port { IfErr result (λ fault. fault ≢ InjectFault.NoMemory → port_at self.old.tables port ≡ None) }
-        ensures has_port { IfOk result (λ _. IsSome (port_at self.old.tables port)) }
-    {
-        let at = match self.tables.port_at(port as u64) {
-            Some(at) => at,
-            None => return Err(InjectFault::NoPort),
-        };
-        let number = self.injected;
-        let copy = Flying {
-            number,
-            at,
-            head: Head::Walk { node: 0 },
-            packet,
-        };
-        let action = fly(self.alloc, &self.tables, &mut self.stores, &copy)?;
-        self.injected = number + 1;
-        Ok(become_of(copy, action))
-    }
-
     /// A packet comes in where nothing is in flight, and its copies make their steps, the first one at a time, until each is
     /// delivered: answers what went out. The packet is changed in its own memory, and stands in no list meanwhile. Where memory
     /// is short only the tables and the count of packets are sure to stay.
@@ -379,35 +308,6 @@ impl Net {
         }
         let plan = self.plan(k)?;
         let moved = self.finish(k, plan)?;
-        Ok(moved)
-    }
-
-    /// The same with no copies of updates. Where memory is short only the tables and the count of packets are sure to stay:
-    /// the copy may be in the midst of its updates.
-    ///
-    /// # Errors
-    ///
-    /// As `advance`.
-    pub fn advance_in_place(&mut self, k: usize) -> Result<Moved, StepFault>
-        ensures done { IfOk result (λ moved. IsDone self.old (Step k) self.new (TellsMoved moved)) }
-        ensures tables { self.new.tables ≡ self.old.tables }
-        ensures injected { self.new.injected ≡ self.old.injected }
-        ensures copy { IfErr result (λ fault. fault ≡ StepFault.NoCopy → length self.old.flying ≤ k) }
-        ensures has_copy { length self.old.flying ≤ k → IfErr result (λ fault. fault ≡ StepFault.NoCopy) }
-    {
-        if k >= self.flying.count() {
-            return Err(StepFault::NoCopy);
-        }
-        let copy = self.flying.get(k);
-        let action = step_at(
-            self.alloc,
-            &self.tables,
-            &mut self.stores,
-            copy.at,
-            &copy.packet,
-            copy.head,
-        )?;
-        let moved = move_on(&mut self.flying, k, action)?;
         Ok(moved)
     }
 

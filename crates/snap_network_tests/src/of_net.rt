@@ -3,12 +3,14 @@
 ghost use Rattle.std.specs.Prelude.{◌≡◌, ◌<◌, ◌∷◌, [], IfOk, IsTrue};
 ghost use Rattle.snap_rows.specs.Form.{comps};
 
-use crate::texts::{FIRST_COME, THREE_WAYS, TWO_OWNERS_1, valid};
+use crate::texts::{FIRST_COME, PARTING, THREE_WAYS, TWO_OWNERS_1, valid};
 use snap_core::NoMemory;
 use snap_core::packet::Packet;
 use snap_core::place::Entry;
 use snap_net::happened::{Frame, Happened, Moved};
 use snap_net::net::{InjectFault, Net, StepFault, open_net};
+use snap_net::passing::Passed;
+use snap_net::watch::Unwatched;
 use std::alloc::Global;
 use std::test::Fail;
 
@@ -285,7 +287,7 @@ fn two_owners_may_be_seen_in_no_order(rt: HostRuntime) -> Result<(), Fail> {
 }
 
 // The number that is left by packets that come in at these ports, one after another.
-fn passed(alloc: Global, net: &mut Net, ports: &[u32]) -> Result<Option<u64>, Fail> {
+fn left_behind(alloc: Global, net: &mut Net, ports: &[u32]) -> Result<Option<u64>, Fail> {
     for port in ports {
         inject(alloc, net, *port)?;
         finish(net)?;
@@ -295,7 +297,7 @@ fn passed(alloc: Global, net: &mut Net, ports: &[u32]) -> Result<Option<u64>, Fa
 
 fn one_after_another(alloc: Global) -> Result<Option<u64>, Fail> {
     let mut net = opened(alloc, TWO_OWNERS_1)?;
-    passed(alloc, &mut net, &[1, 1])
+    left_behind(alloc, &mut net, &[1, 1])
 }
 
 #[test]
@@ -317,5 +319,74 @@ const EQUAL_COPIES: [Told; 6] = [
 fn equal_copies_of_a_fork_are_one(rt: HostRuntime) -> Result<(), Fail> {
     let run = stepped(rt.alloc(), THREE_WAYS, (1, 2), &[0, 1, 2, 1, 0, 0])?;
     assert!(rt; run.told.as_slice() == EQUAL_COPIES.as_slice());
+    Ok(())
+}
+
+// Whether nothing is in flight.
+fn rests(net: &Net) -> bool
+    ensures { IsTrue result → net.now.flying ≡ [] }
+{
+    net.flying() == 0
+}
+
+// What went out of a packet, by the `outport`s, and how many copies were for no port.
+#[derive(Drop)]
+struct Gone {
+    outs: Vec<u64>,
+    lost: u64,
+}
+
+// What went out of a packet that now is this one.
+fn outs_of(alloc: Global, passed: &Passed, packet: &Packet) -> Result<Gone, NoMemory> {
+    let mut outs = Vec::new(alloc);
+    match passed {
+        Passed::Alone => {
+            outs.push(outport(packet))?;
+            Ok(Gone { outs, lost: 0 })
+        }
+        Passed::Parted { copies, lost } => {
+            for sent in copies {
+                outs.push(outport(&sent.packet))?;
+            }
+            Ok(Gone { outs, lost: *lost })
+        }
+    }
+}
+
+// What goes out of a packet that comes in at a port.
+fn pass(alloc: Global, net: &mut Net, port: u32) -> Result<Gone, Fail> {
+    if !takes_two(net) || !rests(net) {
+        return Err("a packet of two components doesn't fit")?;
+    }
+    let mut packet = packet(alloc, port as u64)?;
+    match net.pass(port, &mut packet, &mut Unwatched) {
+        Ok(passed) => Ok(outs_of(alloc, &passed, &packet)?),
+        Err(InjectFault::NoPort) => Err("there is no such port")?,
+        Err(InjectFault::NoMemory) => Err(NoMemory)?,
+    }
+}
+
+// Ports, the `outport`s of what goes out of a packet from there, and how many copies are lost.
+const PASSING: [(u32, &[u64], u64); 3] = [(1, &[1], 0), (2, &[], 1), (3, &[1, 2], 1)];
+
+// Whether this goes out of packets one after another, and each leaves its `inport` alone.
+fn pass_so(alloc: Global, net: &mut Net) -> Result<bool, Fail> {
+    for (port, outs, lost) in PASSING {
+        let gone = pass(alloc, net, port)?;
+        if gone.outs.as_slice() != outs || gone.lost != lost || left(net)? != Some(port as u64) {
+            return Ok(false);
+        }
+    }
+    Ok(true)
+}
+
+fn passed_so(alloc: Global) -> Result<bool, Fail> {
+    let mut net = opened(alloc, PARTING)?;
+    pass_so(alloc, &mut net)
+}
+
+#[test]
+fn packets_pass_alone_and_parted(rt: HostRuntime) -> Result<(), Fail> {
+    assert!(rt; passed_so(rt.alloc())?);
     Ok(())
 }

@@ -113,6 +113,31 @@ pub(crate) const THREE_WAYS: &[u8] = b"snap-tables 1\n\
     row 1 0 leaf out c1=#1 out c1=#9 out c1=c0\n\
     end\n";
 
+/// Each packet leaves its `inport`; from port 1 it goes to port 1, from 2 to 9, which is no port, from 3 to 1, 2 and 9.
+pub(crate) const PARTING: &[u8] = b"snap-tables 2\n\
+    field inport\n\
+    field outport\n\
+    switch a\n\
+    switch b\n\
+    array s 1 0\n\
+    link 0 1\n\
+    port 1 0\n\
+    port 2 0\n\
+    port 3 1\n\
+    hop 0 1 1\n\
+    hop 1 0 0\n\
+    row 0 0 value 0 1 1 2\n\
+    row 0 1 stop\n\
+    row 0 2 value 0 2 3 4\n\
+    row 0 3 stop\n\
+    row 0 4 stop\n\
+    row 1 0 value 0 1 1 2\n\
+    row 1 1 leaf put 0 [#0] c0 out c1=#1\n\
+    row 1 2 value 0 2 3 4\n\
+    row 1 3 leaf put 0 [#0] c0 out c1=#9\n\
+    row 1 4 leaf put 0 [#0] c0 out c1=#1 out c1=#2 out c1=#9\n\
+    end\n";
+
 /// The tables of a text.
 pub(crate) fn valid(alloc: Global, text: &[u8]) -> Result<Valid, NoMemory> {
     match read(alloc, text) {

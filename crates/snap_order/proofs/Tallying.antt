@@ -14,7 +14,7 @@ use Rattle.snap_runs.specs.Playing.{owner_by}
 use Rattle.snap_rows.specs.Happenings.{number_of}
 use Rattle.snap_runs.specs.Tallies.{bared, delivered_by, hop_by, hop_told, lost_by}
 use Rattle.snap_runs.proofs.Playing.{set-other, set-same}
-use Rattle.snap_runs.proofs.Settled.{tally-more}
+use Rattle.snap_runs.proofs.Happenings.{tally-more}
 use Rattle.snap_order.specs.Playing.{HasNoted, IsTally}
 use Rattle.snap_order.specs.Shown.{happened_in_turn}
 

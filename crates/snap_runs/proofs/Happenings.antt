@@ -13,8 +13,9 @@ use Rattle.snap_rows.specs.Network.{Happening, Crossed, Delivered, Forked}
 use Rattle.snap_net.specs.Shown.{happened, moving}
 use Rattle.snap_net.proofs.Told.{deliveries_of-append, losses_of-append}
 use Rattle.snap_runs.specs.declared.frames.Frames.{Frames}
+use Rattle.snap_runs.specs.declared.tally.Tally.{Tally}
 use Rattle.snap_runs.specs.Reports.{hop_line, hop_lines, hops_text, packets_delivered}
-use Rattle.snap_runs.specs.Tallies.{delivered_by, hop_told, lost_by}
+use Rattle.snap_runs.specs.Tallies.{IsTally, Notes, delivered_by, hop_told, lost_by}
 
 hop_lines-append : (f : Frames) (t : Tables) (i : ℕ) (hs gs : List Happening) → hop_lines f t i (hs ++ gs) ≡ hop_lines f t i hs ++ hop_lines f t i gs
 hop_lines-append f t i [] gs = refl
@@ -98,3 +99,11 @@ module _ (i : ℕ) where
   pub hops_text-more : (f : Frames) (t : Tables) (hops : Bool) (hs : List Happening) (x : Happening) → number_of x ≡ i → hops_text f t hops i (hs ++ x ∷ []) ≡ hops_text f t hops i hs ++ (if hops then hop_told f t.switches (happened x) else [])
   hops_text-more f t true hs x e = hop_lines-append f t i hs (x ∷ []) ∙ ap (λ l. hop_lines f t i hs ++ l) (hop_one f t x e)
   hops_text-more f t false hs x e = refl
+
+-- what was noted of a packet, and its next step
+pub tally-more : (f : Frames) (t : Tables) (hops : Bool) (i : ℕ) (hs : List Happening) (x : Happening) (y y' : Tally) → number_of x ≡ i → IsTally f t hops i hs y → Notes f t hops x y y' → IsTally f t hops i (hs ++ x ∷ []) y'
+tally-more f t hops i hs x y y' e is notes = record {
+  delivered = notes.delivered ∙ ap (λ l. l ++ delivered_by (moving x)) is.delivered ∙ sym (packets_delivered-more i hs x e);
+  lost = notes.lost ∙ ap (λ n. n + lost_by (moving x)) is.lost ∙ sym (losses_of-more i hs x e);
+  hops_told = notes.hops_told ∙ ap (λ l. l ++ (if hops then hop_told f t.switches (happened x) else [])) is.hops_told ∙ sym (hops_text-more i f t hops hs x e);
+}

@@ -9,7 +9,6 @@ pub mod Happenings
 pub mod Blocks
 pub mod Runs
 pub mod Steps
-pub mod Settled
 pub mod Readers
 pub mod Coming
 pub mod Closing
@@ -22,5 +21,5 @@ pub mod Played
 pub mod Scheduled
 pub mod ReadWhole
 pub mod Passing
+pub mod Taken
 pub mod LineTexts
-pub mod Crossed

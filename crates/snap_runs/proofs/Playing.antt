@@ -31,8 +31,7 @@ use Rattle.snap_runs.specs.Schedules.{CantBeDone, Spells, nothing, order_by}
 use Rattle.snap_runs.specs.Tallies.{IsTally, Notes, bared, delivered_by, hop_by, lost_by}
 use Rattle.snap_runs.proofs.Blocks.{in_pushed}
 use Rattle.snap_net.proofs.Told.{deliveries_of-append, losses_of-append}
-use Rattle.snap_runs.proofs.Happenings.{HappenElsewhere, deliveries_of-others, losses_of-others, hops_text-append, hops_text-others}
-use Rattle.snap_runs.proofs.Settled.{tally-more}
+use Rattle.snap_runs.proofs.Happenings.{HappenElsewhere, deliveries_of-others, losses_of-others, hops_text-append, hops_text-others, tally-more}
 use Rattle.snap_runs.proofs.Spelling.{spells-inject, spells-skip, spells-step, runs-then}
 use Rattle.snap_runs.proofs.Steps.{held-shown, inject-numbers, shown, step-injected, step-long, step-numbers}
 

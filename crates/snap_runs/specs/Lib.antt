@@ -2,7 +2,6 @@ pub mod Reports
 pub mod Plain
 pub mod Laws
 pub mod Tallies
-pub mod Settling
 pub mod Reading
 pub mod Tracing
 pub mod Schedules

@@ -10,8 +10,6 @@ use Rattle.snap_rows.specs.Happenings.{losses_of}
 use Rattle.snap_rows.specs.Network.{Happening}
 use Rattle.snap_net.specs.declared.happened.Happened.{Happened}
 use Rattle.snap_net.specs.declared.happened.Happened.TheVariants as shown
-use Rattle.snap_net.specs.declared.happened.Landed.{Landed}
-use Rattle.snap_net.specs.declared.happened.Landed.TheVariants as down
 use Rattle.snap_net.specs.declared.happened.Moved.{Moved}
 use Rattle.snap_net.specs.declared.happened.Moved.TheVariants as bare
 use Rattle.snap_net.specs.Shown.{happened, moving}
@@ -36,16 +34,6 @@ lost_by (bare.Forked owner copies lost) = lost
 -- the packets of copies on their way to ports
 abbrev pub packets_sent : List Sent → List (List ℕ)
 packets_sent copies = map (λ (x : Sent). x.packet) copies
-
--- the packets that were delivered of a copy that landed, and of those that it was forked into
-abbrev pub delivered_in : Landed → List (List ℕ)
-delivered_in (down.Delivered k) = k ∷ []
-delivered_in (down.Forked copies lost) = packets_sent copies
-
--- how many packets were lost in that
-abbrev pub lost_in : Landed → ℕ
-lost_in (down.Delivered k) = 0
-lost_in (down.Forked copies lost) = lost
 
 -- the step without its frame
 abbrev pub bared : Happened → Moved
@@ -82,9 +70,13 @@ pub record IsTally (f : Frames) (t : Tables) (hops : Bool) (i : ℕ) (hs : List 
   pub lost : y.lost ≡ sum (losses_of i hs)
   pub hops_told : y.hops.items ≡ hops_text f t hops i hs
 
--- the block of the packet with this number was put, with the packets that were delivered in rising order
-pub record IsBlockText (fields : List Field) (number : ℕ) (y : Tally) (old new : List ℕ) : Type 0 where
+-- the block of the packet with this number was put: these lines of links, the packets that were sent, in rising order, and how many were lost
+pub record PutsBlock (fields : List Field) (number : ℕ) (hops : List ℕ) (sent : List (List ℕ)) (lost : ℕ) (old new : List ℕ) : Type 0 where
   pub outs : List (List ℕ)
   pub rising : IsSorted packet_cmp outs
-  pub delivered : IsPermutation outs y.delivered.items
-  pub is : new ≡ old ++ (packet_line number ++ y.hops.items ++ out_lines fields outs ++ lost_line y.lost)
+  pub delivered : IsPermutation outs sent
+  pub is : new ≡ old ++ (packet_line number ++ hops ++ out_lines fields outs ++ lost_line lost)
+
+-- as a tally tells it
+abbrev pub IsBlockText : List Field → (number : ℕ) → Tally → (old new : List ℕ) → Type 0
+IsBlockText fields number y old new = PutsBlock fields number y.hops.items y.delivered.items y.lost old new

@@ -5,19 +5,29 @@ use Rattle.snap_core.specs.Arrays.{zero_arrays}
 use Rattle.snap_rows.specs.declared.tables.Tables.{Tables}
 use Rattle.snap_rows.specs.Entries.{port_at}
 use Rattle.snap_rows.specs.Network.{Net, Event, Inject, Happening, IsPlainRun, RunsCalmly, StepsFirst, packets_of, start, whole}
+use Rattle.snap_net.specs.Passing.{IsTold}
 use Rattle.snap_net.specs.Shown.{Held, Shows}
 use Rattle.snap_trace.specs.declared.fault.TraceFault.TheVariants.{Read, Write, Limit, Packets, Undefined, NoMemory}
 use Rattle.snap_trace.specs.OneSwitch.{RunEnding}
 use Rattle.snap_runs.specs.declared.frames.Frames.{Frames}
+use Rattle.snap_runs.specs.declared.tally.Tally.{Tally}
 use Rattle.snap_runs.specs.declared.tracer.Tracer.{Tracer}
 use Rattle.snap_runs.specs.Plain.{entering}
-use Rattle.snap_runs.specs.Reports.{AreBlocksBy, IsBlockBy}
-use Rattle.snap_runs.specs.Settling.{HappenTo}
+use Rattle.snap_runs.specs.Reports.{AreBlocksBy, IsBlockBy, hops_text}
 use Rattle.snap_rows.specs.Happenings.{number_of}
 
 -- other tables come into force: nothing is in flight, the same number was injected, and the whole store is the same
 abbrev pub changed : (to from : Tables) → Net → Net
 changed to from s = record (start to (whole from s)) { injected = s.injected }
+
+-- all of this happens to packet i
+abbrev pub HappenTo : ℕ → List Happening → Type 0
+HappenTo i hs = All (λ h. number_of h ≡ i) hs
+
+-- this was told of packet i, and the lines of the links that its copies crossed were put, where hops are told
+pub record IsTraced (f : Frames) (t : Tables) (hops : Bool) (i : ℕ) (y : Tally) (sent : List (List ℕ)) (lost : ℕ) (hs : List Happening) : Type 0 where
+  pub told : IsTold i sent lost hs
+  pub lines : y.hops.items ≡ hops_text f t hops i hs
 
 -- a packet was injected with nothing in flight, all its copies have come to rest, and its block stands behind the text
 pub record HasTaken (f : Frames) (t : Tables) (hops : Bool) (port : ℕ) (k : List ℕ) (s : Net) (new : Held) (before after : List ℕ) : Type 0 where

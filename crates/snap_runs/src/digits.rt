@@ -8,47 +8,54 @@ ghost use Rattle.snap_runs.specs.Reports.{lead_of};
 
 use crate::frames::Frames;
 use snap_core::packet::Packet;
-use snap_net::flying::Flying;
 use snap_rows::head::Head;
 use snap_trace::front::{put_byte_before, put_bytes_before};
 
 // The most components of a packet whose frame is put together here.
 const MOST_COMPS: usize = 13;
 
-/// Puts the digits of a copy's frame, with what is told before it, before the text that begins at `end`, and returns
-/// where the text begins then, if the packet has few components.
+/// Puts the digits of the frame of a copy of packet `number` with this head, with what is told before it, before the text that
+/// begins at `end`, and returns where the text begins then, if the packet has few components.
 #[inline(always)]
 pub(crate) fn put_digits_before(
     buffer: &mut [u8; 256],
     end: usize,
     frames: Frames,
-    copy: &Flying,
+    number: u64,
+    head: Head,
+    packet: &Packet,
 ) -> Option<usize>
     requires within { end ≤ 256 }
     requires room { 246 ≤ end }
     ensures begin { IfSome result (λ begin. begin ≤ end) }
-    ensures text { IfSome result (λ begin. drop begin buffer.new ≡ digits_of frames copy.now ++ drop end buffer.old) }
+    ensures text { IfSome result (λ begin. drop begin buffer.new ≡ digits_of frames number head packet.now ++ drop end buffer.old) }
     ensures long { length buffer.new ≡ 256 }
 {
     let mut frame = [0u8; 256];
-    let begin = put_frame_before(&mut frame, frames, copy)?;
+    let begin = put_frame_before(&mut frame, frames, number, head, packet)?;
     Some(put_spelled_before(buffer, end, &frame[begin..]))
 }
 
-// Puts the bytes of a copy's frame, with what is told before it, at the buffer's end, and returns where they begin, if the
-// packet has few components.
+// Puts the bytes of such a frame, with what is told before it, at the buffer's end, and returns where they begin, if the packet
+// has few components.
 #[inline(always)]
-fn put_frame_before(buffer: &mut [u8; 256], frames: Frames, copy: &Flying) -> Option<usize>
+fn put_frame_before(
+    buffer: &mut [u8; 256],
+    frames: Frames,
+    number: u64,
+    head: Head,
+    packet: &Packet,
+) -> Option<usize>
     ensures begin { IfSome result (λ begin. begin ≤ 256) }
     ensures few { IfSome result (λ begin. 133 ≤ begin) }
-    ensures text { IfSome result (λ begin. drop begin buffer.new ≡ bytes_of frames copy.now) }
+    ensures text { IfSome result (λ begin. drop begin buffer.new ≡ bytes_of frames number head packet.now) }
 {
-    if copy.packet.comps().len() > MOST_COMPS {
+    if packet.comps().len() > MOST_COMPS {
         return None;
     }
-    let begin = put_packet_before(buffer, 256, &copy.packet);
-    let begin = put_head_before(buffer, begin, copy.head);
-    Some(put_lead_before(buffer, begin, frames, copy.number))
+    let begin = put_packet_before(buffer, 256, packet);
+    let begin = put_head_before(buffer, begin, head);
+    Some(put_lead_before(buffer, begin, frames, number))
 }
 
 // Puts the bytes of a packet before the text that begins at `end`, and returns where the text begins then.

@@ -9,7 +9,6 @@ mod links;
 pub mod play;
 pub mod ready;
 pub mod schedule;
-pub mod settle;
 pub mod tail;
 pub mod tally;
 pub mod trace;

@@ -9,8 +9,9 @@ use crate::digits::put_digits_before;
 use crate::frames::{Frames, put_lead};
 use snap_core::NoMemory;
 use snap_core::lists::Names;
+use snap_core::packet::Packet;
 use snap_head::encode::encode;
-use snap_net::flying::Flying;
+use snap_rows::head::Head;
 use snap_rows::valid::Valid;
 use snap_trace::front::{put_byte_before, put_bytes_before};
 use snap_trace::report::name_at;
@@ -44,26 +45,28 @@ impl Tail {
         }
     }
 
-    /// Makes it the tail of the lines of the links that a copy crosses with its head.
+    /// Makes it the tail of the lines of the links that a copy of packet `number` crosses with this head.
     #[inline(always)]
     pub(crate) fn spell(
         &mut self,
         alloc: Global,
         frames: Frames,
-        copy: &Flying,
+        number: u64,
+        head: Head,
+        packet: &Packet,
     ) -> Result<(), NoMemory>
-        ensures { OnOk result (tail_text self.new ≡ digits_of frames copy.now ++ codes "\n") }
+        ensures { OnOk result (tail_text self.new ≡ digits_of frames number head packet.now ++ codes "\n") }
     {
         let end = put_byte_before(&mut self.buffer, 256, b'\n');
-        match put_digits_before(&mut self.buffer, end, frames, copy) {
+        match put_digits_before(&mut self.buffer, end, frames, number, head, packet) {
             Some(begin) => {
                 self.begin = begin;
                 self.long.clear();
             }
             None => {
-                let frame = encode(alloc, copy.head, &copy.packet)?;
+                let frame = encode(alloc, head, packet)?;
                 self.begin = 256;
-                self.long = long_tail(alloc, frames, copy.number, &frame)?;
+                self.long = long_tail(alloc, frames, number, &frame)?;
             }
         }
         Ok(())

@@ -1,15 +1,16 @@
 //! What is noted of one packet while its copies are in flight.
 
-ghost use Rattle.std.specs.Prelude.{◌≡◌, ◌<◌, ◌≤◌, ◌+◌, ◌++◌, [], ◌∷◌, true, drop, length, IfSome, OnOk};
+ghost use Rattle.std.specs.Prelude.{◌≡◌, ◌<◌, ◌≤◌, ◌+◌, ◌++◌, [], ◌∷◌, ℕ, List, drop, length, IfSome, OnOk};
 ghost use Rattle.std.specs.List.{All};
 ghost use Rattle.std.specs.List.Sorted.{IsPermutation, IsSorted};
 ghost use Rattle.snap_core.specs.Fields.{count};
 ghost use Rattle.snap_core.specs.Packets.{packet_cmp};
 ghost use Rattle.snap_rows.specs.Form.{switch_count};
-ghost use Rattle.snap_runs.specs.Crossings.{NotesCrossed, NotesWay};
+ghost use Rattle.snap_rows.specs.Ways.{Way};
+ghost use Rattle.snap_runs.specs.Crossings.{digits_of, line_text, way_text};
 ghost use Rattle.snap_runs.specs.Reports.{lead_of, packet_line};
 ghost use Rattle.snap_trace.specs.Reports.{out_lines, lost_line};
-ghost use Rattle.snap_runs.specs.Tallies.{bared, delivered_by, delivered_in, hop_text, hop_told, IsBlockText, lost_by, lost_in, packets_sent};
+ghost use Rattle.snap_runs.specs.Tallies.{bared, delivered_by, hop_told, IsBlockText, lost_by, packets_sent, PutsBlock};
 
 use crate::frames::Frames;
 use crate::links::{Tail, long_tail, put_long_line};
@@ -17,10 +18,9 @@ use snap_core::NoMemory;
 use snap_core::lists::Names;
 use snap_core::packet::Packet;
 use snap_core::program::Fields;
-use snap_net::flying::Flying;
-use snap_net::happened::{Happened, Landed, Moved};
-use snap_rows::head::Sent;
-use snap_rows::lists::{Copies, OneOrMany};
+use snap_net::happened::{Happened, Moved};
+use snap_net::watch::Watch;
+use snap_rows::head::{Head, Sent};
 use snap_rows::valid::Valid;
 use snap_trace::front::{put_byte_before, put_bytes_before, put_number_before};
 use snap_trace::report::{
@@ -28,19 +28,21 @@ use snap_trace::report::{
 };
 use std::alloc::Global;
 use std::cmp::Ordering;
+use std::slice;
 
 /// What has happened to one packet: the packets that were delivered of it, how many were lost, and the lines of the
 /// links that its copies crossed, where they are told.
 #[derive(Drop)]
 pub struct Tally {
     alloc: Global,
+    frames: Frames,
     delivered: Vec<Packet>,
     lost: u64,
     hops: Vec<u8>,
 }
 
 impl Tally {
-    /// Nothing has happened. Takes no memory.
+    /// Nothing has happened, and frames are told as they are. Takes no memory.
     pub fn new(alloc: Global) -> Tally
         ensures delivered { result.delivered.items ≡ [] }
         ensures lost { result.lost ≡ 0 }
@@ -48,34 +50,20 @@ impl Tally {
     {
         Tally {
             alloc,
+            frames: Frames::Plain,
             delivered: Vec::new(alloc),
             lost: 0,
             hops: Vec::new(alloc),
         }
     }
 
-    /// The packets that were delivered. Takes no memory.
-    pub fn delivered(&self) -> &[Packet]
-        ensures { result.now ≡ self.now.delivered.items }
-    {
-        &self.delivered
-    }
-
-    /// How many packets were lost. Takes no memory.
-    pub fn lost(&self) -> u64
-        ensures { result ≡ self.now.lost }
-    {
-        self.lost
-    }
-
-    /// Forgets what was noted, and keeps the room. Takes no memory.
-    pub fn clear(&mut self)
-        ensures delivered { self.new.delivered.items ≡ [] }
-        ensures lost { self.new.lost ≡ 0 }
+    /// Forgets the lines of links, and tells those that come by frames of this kind. Takes no memory.
+    #[inline(always)]
+    pub(crate) fn begin(&mut self, frames: Frames)
+        ensures frames { self.new.frames ≡ frames }
         ensures hops { self.new.hops.items ≡ [] }
     {
-        self.delivered.clear();
-        self.lost = 0;
+        self.frames = frames;
         self.hops.clear();
     }
 
@@ -89,21 +77,6 @@ impl Tally {
             Moved::Forwarded { .. } => Ok(()),
             Moved::Delivered { packet, .. } => self.deliver(packet),
             Moved::Forked { lost, .. } => self.lose(lost),
-        }
-    }
-
-    /// Notes what became of a copy, and of those that it was forked into. Refuses for memory alone.
-    pub fn note_landed(&mut self, landed: Landed) -> Result<(), NoMemory>
-        ensures delivered { OnOk result (self.new.delivered.items ≡ self.old.delivered.items ++ delivered_in landed) }
-        ensures lost { OnOk result (self.new.lost ≡ self.old.lost + lost_in landed) }
-        ensures hops { self.new.hops.items ≡ self.old.hops.items }
-    {
-        match landed {
-            Landed::Delivered { packet } => self.deliver(packet),
-            Landed::Forked { copies, lost } => {
-                self.lose(lost)?;
-                self.deliver_all(copies)
-            }
         }
     }
 
@@ -138,57 +111,54 @@ impl Tally {
         }
     }
 
-    /// Notes the lines of the links that a copy crosses along next hops to where its head sends it. All have one frame.
-    pub(crate) fn note_way(
+    // Puts the lines of the links along next hops to a switch, which a copy of packet `number` crosses with this head. All have
+    // one frame.
+    fn put_way(
         &mut self,
-        frames: Frames,
         tables: &Valid,
-        copy: &Flying,
+        number: u64,
+        from: u16,
+        to: u16,
+        head: Head,
+        packet: &Packet,
     ) -> Result<(), NoMemory>
-        requires { copy.now.at < switch_count tables.now }
-        ensures delivered { self.new.delivered.items ≡ self.old.delivered.items }
-        ensures lost { self.new.lost ≡ self.old.lost }
-        ensures hops { OnOk result (NotesWay frames tables.now true copy.now self.old.hops.items self.new.hops.items) }
+        requires from { from < switch_count tables.now }
+        requires to { to < switch_count tables.now }
+        ensures frames { self.new.frames ≡ self.old.frames }
+        ensures lines { OnOk result ((ws : List ℕ) → Way tables.now to from ws → self.new.hops.items ≡ self.old.hops.items ++ way_text tables.now.switches (digits_of self.old.frames number head packet.now) from ws) }
     {
-        let _known = tables.tables();
-        let to = tables.aim(copy.head).unwrap_or(copy.at);
-        if to == copy.at {
+        if from == to {
             return Ok(());
         }
         self.make_room()?;
         let mut tail = Tail::new(self.alloc);
-        tail.spell(self.alloc, frames, copy)?;
-        tail.put_way(&mut self.hops, tables, copy.at, to)
+        tail.spell(self.alloc, self.frames, number, head, packet)?;
+        tail.put_way(&mut self.hops, tables, from, to)
     }
 
-    /// Notes the lines of the link from a switch that a copy has crossed, and of those that it crosses behind it along next
-    /// hops to where its head sends it. All have one frame.
-    pub(crate) fn note_crossing(
+    // Puts the line of a link, which a copy of packet `number` crosses with this head.
+    fn put_link(
         &mut self,
-        frames: Frames,
         tables: &Valid,
+        number: u64,
         from: u16,
-        copy: &Flying,
+        to: u16,
+        head: Head,
+        packet: &Packet,
     ) -> Result<(), NoMemory>
-        requires { copy.now.at < switch_count tables.now }
-        ensures delivered { self.new.delivered.items ≡ self.old.delivered.items }
-        ensures lost { self.new.lost ≡ self.old.lost }
-        ensures hops { OnOk result (NotesCrossed frames tables.now from copy.now self.old self.new) }
+        ensures frames { self.new.frames ≡ self.old.frames }
+        ensures line { OnOk result (self.new.hops.items ≡ self.old.hops.items ++ line_text tables.now.switches (digits_of self.old.frames number head packet.now) from to) }
     {
-        let switches = &tables.tables().switches;
-        let to = tables.aim(copy.head).unwrap_or(copy.at);
         self.make_room()?;
         let mut tail = Tail::new(self.alloc);
-        tail.spell(self.alloc, frames, copy)?;
-        tail.put_line(&mut self.hops, switches, from, copy.at)?;
-        tail.put_way(&mut self.hops, tables, copy.at, to)
+        tail.spell(self.alloc, self.frames, number, head, packet)?;
+        tail.put_line(&mut self.hops, &tables.tables().switches, from, to)
     }
 
     // Takes room for the lines of a few links at once.
     #[inline(always)]
     fn make_room(&mut self) -> Result<(), NoMemory>
-        ensures delivered { self.new.delivered.items ≡ self.old.delivered.items }
-        ensures lost { self.new.lost ≡ self.old.lost }
+        ensures frames { self.new.frames ≡ self.old.frames }
         ensures hops { self.new.hops.items ≡ self.old.hops.items }
     {
         if self.hops.is_empty() {
@@ -206,18 +176,6 @@ impl Tally {
         Ok(())
     }
 
-    fn deliver_all(&mut self, copies: Copies) -> Result<(), NoMemory>
-        ensures delivered { OnOk result (self.new.delivered.items ≡ self.old.delivered.items ++ packets_sent copies) }
-        ensures lost { self.new.lost ≡ self.old.lost }
-        ensures hops { self.new.hops.items ≡ self.old.hops.items }
-    {
-        match copies.into_one_or_many() {
-            OneOrMany::One(sent) => self.deliver(sent.packet),
-            OneOrMany::Many(copies) => self.deliver_each(copies),
-        }
-    }
-
-    #[inline(never)]
     fn deliver_each(&mut self, copies: Vec<Sent>) -> Result<(), NoMemory>
         ensures delivered { OnOk result (self.new.delivered.items ≡ self.old.delivered.items ++ packets_sent copies.items) }
         ensures lost { self.new.lost ≡ self.old.lost }
@@ -255,6 +213,42 @@ impl Tally {
         Ok(())
     }
 
+    /// Puts the block of the packet with this number, counted from 1, of which this one alone went out, behind the lines of its
+    /// links. Refuses for memory alone.
+    #[inline(always)]
+    pub(crate) fn put_alone(
+        &self,
+        out: &mut Vec<u8>,
+        fields: &Fields,
+        number: u64,
+        packet: &Packet,
+    ) -> Result<(), NoMemory>
+        requires { length packet.now ≡ count fields.now }
+        ensures { OnOk result (PutsBlock fields.now number self.now.hops.items (packet.now ∷ []) 0 out.old.items out.new.items) }
+    {
+        put_lines(out, fields, number, &self.hops, slice::from_ref(packet), 0)
+    }
+
+    /// Puts the block of the packet with this number, counted from 1, of which these copies went out and so many were lost,
+    /// behind the lines of its links. Refuses for memory alone.
+    #[inline(never)]
+    pub(crate) fn put_parted(
+        &mut self,
+        out: &mut Vec<u8>,
+        fields: &Fields,
+        number: u64,
+        copies: Vec<Sent>,
+        lost: u64,
+    ) -> Result<(), NoMemory>
+        requires { All (λ k. length k ≡ count fields.now) (packets_sent copies.items) }
+        ensures { OnOk result (PutsBlock fields.now number self.old.hops.items (packets_sent copies.items) lost out.old.items out.new.items) }
+    {
+        self.delivered.clear();
+        self.lost = lost;
+        self.deliver_each(copies)?;
+        self.put_block(out, fields, number)
+    }
+
     // Puts the packets in rising order.
     fn sort_packets(&mut self) -> Result<(), NoMemory>
         ensures rising { OnOk result (IsSorted packet_cmp self.new.delivered.items) }
@@ -264,6 +258,50 @@ impl Tally {
     {
         sort(self.alloc, self.delivered.as_mut_slice())?;
         Ok(())
+    }
+}
+
+impl Watch for Tally {
+    ghost use Rattle.snap_runs.specs.Crossings.{SeesLines};
+
+    ghost saw = { SeesLines };
+
+    fn cross(
+        &mut self,
+        tables: &Valid,
+        number: u64,
+        from: u16,
+        target: u16,
+        head: Head,
+        packet: &Packet,
+    ) -> Result<(), NoMemory> {
+        match head {
+            Head::Out { .. } => self.put_way(tables, number, from, target, head, packet),
+            Head::Visit { .. } => self.put_way(tables, number, from, target, head, packet),
+            Head::Walk { .. } => {
+                let to = tables.next(from, target);
+                self.put_link(tables, number, from, to, head, packet)
+            }
+            Head::Stage { .. } => {
+                let to = tables.next(from, target);
+                self.put_link(tables, number, from, to, head, packet)
+            }
+        }
+    }
+
+    fn go_out(
+        &mut self,
+        tables: &Valid,
+        number: u64,
+        from: u16,
+        port: u32,
+        packet: &Packet,
+    ) -> Result<(), NoMemory> {
+        let _known = tables.tables();
+        match tables.port_at(port as u64) {
+            Some(to) => self.put_way(tables, number, from, to, Head::Out { port }, packet),
+            None => Ok(()),
+        }
     }
 }
 

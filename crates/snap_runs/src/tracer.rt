@@ -1,15 +1,17 @@
 //! A network that takes packets one after another, by the plain schedule.
 
-ghost use Rattle.std.specs.Prelude.{◌≡◌, ◌≤◌, ◌+◌, ◌<◌, ◌^◌, [], ℕ, IsTrue, false, length, slice_index, IfOk, OnOk};
+ghost use Rattle.std.specs.Prelude.{◌≡◌, ◌≢◌, ◌≤◌, ◌+◌, ◌<◌, ◌^◌, [], ℕ, None, IfErr, IfOk, IsSome, OnOk, length, slice_index};
+ghost use Rattle.std.specs.List.{All};
 ghost use Rattle.snap_core.specs.Arrays.{zero_arrays};
+ghost use Rattle.snap_rows.specs.Entries.{port_at};
 ghost use Rattle.snap_rows.specs.Form.{array_count, comps};
 ghost use Rattle.snap_rows.specs.Network.{Net as State, start};
+ghost use Rattle.snap_net.specs.declared.net.InjectFault.{InjectFault};
+ghost use Rattle.snap_net.specs.Passing.{Passes, lost_in, sent_in};
 ghost use Rattle.snap_net.specs.Shown.{Shows};
 ghost use Rattle.snap_runs.specs.Reports.{PutsEnd};
-ghost use Rattle.snap_runs.specs.Tracing.{TakesPacket, changed};
 
 use crate::frames::Frames;
-use crate::settle::{enter, settle};
 use crate::tail::put_end;
 use crate::tally::Tally;
 use snap_core::NoMemory;
@@ -17,6 +19,8 @@ use snap_core::packet::Packet;
 use snap_core::program::Fields;
 use snap_io::{Output, Sink};
 use snap_net::net::{InjectFault, Net, open_net};
+use snap_net::passing::Passed;
+use snap_net::watch::Unwatched;
 use snap_rows::valid::Valid;
 use snap_trace::TraceFault;
 use snap_trace::runner::Machine;
@@ -29,9 +33,12 @@ pub struct Tracer {
     hops: bool,
     frames: Frames,
     tally: Tally,
+    ghost rests: { net.flying ≡ [] },
 }
 
 impl Tracer {
+    ghost use Rattle.snap_runs.specs.Tracing.{IsTraced, TakesPacket, changed};
+
     /// Before the first packet. With `hops` a line of the report tells each link that a copy crosses, by a frame of this
     /// kind. Refuses for memory alone.
     pub fn new(alloc: Global, tables: Valid, hops: bool, frames: Frames) -> Result<Tracer, NoMemory>
@@ -85,8 +92,8 @@ impl Tracer {
         Ok(())
     }
 
-    /// Injects a packet of the line with this number, lets its copies come to rest, and puts its block behind the text. The
-    /// packet is copied.
+    /// Takes a packet of the line with this number: it passes through the network, in its own memory, and its block is put
+    /// behind the text.
     ///
     /// # Errors
     ///
@@ -95,97 +102,57 @@ impl Tracer {
         &mut self,
         text: &mut Vec<u8>,
         port: u32,
-        packet: &Packet,
+        packet: &mut Packet,
         line: u64,
     ) -> Result<(), TraceFault>
-        requires packet { length packet.now ≡ comps self.old.net.tables }
-        requires port { slice_index packet.now 0 ≡ port }
+        requires packet { length packet.old ≡ comps self.old.net.tables }
+        requires port { slice_index packet.old 0 ≡ port }
         requires room { self.old.net.injected < 2 ^ 63 }
-        ensures takes { TakesPacket line port packet.now self.old self.new text.old.items text.new.items result }
+        ensures takes { TakesPacket line port packet.old self.old self.new text.old.items text.new.items result }
+        ensures long { length packet.new ≡ length packet.old }
         ensures tables { self.new.net.tables ≡ self.old.net.tables }
         ensures hops { self.new.hops ≡ self.old.hops }
         ensures frames { self.new.frames ≡ self.old.frames }
         ensures injected { self.new.net.injected ≤ self.old.net.injected + 1 }
     {
-        let packet = packet.copy()?;
-        if self.is_bare() {
-            self.take_at_once(text, port, packet, line)
-        } else {
-            self.take_by_steps(text, port, packet, line)
-        }
-    }
-
-    // Whether no hops are told and nothing is in flight.
-    fn is_bare(&self) -> bool
-        ensures bare { IsTrue result → self.now.hops ≡ false }
-        ensures rests { IsTrue result → self.now.net.flying ≡ [] }
-    {
-        if self.hops {
-            return false;
-        }
-        if self.net.flying() > 0 {
-            return false;
-        }
-        true
-    }
-
-    // The same, where no hops are told and nothing is in flight.
-    fn take_at_once(
-        &mut self,
-        text: &mut Vec<u8>,
-        port: u32,
-        packet: Packet,
-        line: u64,
-    ) -> Result<(), TraceFault>
-        requires packet { length packet ≡ comps self.old.net.tables }
-        requires port { slice_index packet 0 ≡ port }
-        requires room { self.old.net.injected < 2 ^ 63 }
-        requires bare { self.old.hops ≡ false }
-        requires rests { self.old.net.flying ≡ [] }
-        ensures takes { TakesPacket line port packet self.old self.new text.old.items text.new.items result }
-        ensures tables { self.new.net.tables ≡ self.old.net.tables }
-        ensures hops { self.new.hops ≡ self.old.hops }
-        ensures frames { self.new.frames ≡ self.old.frames }
-        ensures injected { self.new.net.injected ≤ self.old.net.injected + 1 }
-    {
-        let number = self.net.injected();
-        match enter(&mut self.net, port, packet, &mut self.tally) {
-            Ok(()) => {}
-            Err(InjectFault::NoPort) => return Err(TraceFault::Packets { line }),
-            Err(InjectFault::NoMemory) => return Err(TraceFault::NoMemory),
-        }
-        let fields = fields_of(&self.net);
-        self.tally.put_block(text, fields, number + 1)?;
-        Ok(())
-    }
-
-    // The same, step by step.
-    #[inline(never)]
-    fn take_by_steps(
-        &mut self,
-        text: &mut Vec<u8>,
-        port: u32,
-        packet: Packet,
-        line: u64,
-    ) -> Result<(), TraceFault>
-        requires packet { length packet ≡ comps self.old.net.tables }
-        requires port { slice_index packet 0 ≡ port }
-        requires room { self.old.net.injected < 2 ^ 63 }
-        ensures takes { TakesPacket line port packet self.old self.new text.old.items text.new.items result }
-        ensures tables { self.new.net.tables ≡ self.old.net.tables }
-        ensures hops { self.new.hops ≡ self.old.hops }
-        ensures frames { self.new.frames ≡ self.old.frames }
-        ensures injected { self.new.net.injected ≤ self.old.net.injected + 1 }
-    {
-        let number = match self.net.inject(port, packet) {
-            Ok(number) => number,
+        let number = self.net.injected() + 1;
+        let passed = match self.pass(port, packet) {
+            Ok(passed) => passed,
             Err(InjectFault::NoPort) => return Err(TraceFault::Packets { line }),
             Err(InjectFault::NoMemory) => return Err(TraceFault::NoMemory),
         };
-        settle(&mut self.net, self.hops, self.frames, &mut self.tally)?;
         let fields = fields_of(&self.net);
-        self.tally.put_block(text, fields, number + 1)?;
+        match passed {
+            Passed::Alone => self.tally.put_alone(text, fields, number, packet)?,
+            Passed::Parted { copies, lost } => {
+                self.tally.put_parted(text, fields, number, copies, lost)?
+            }
+        }
         Ok(())
+    }
+
+    // The packet passes through the network; where hops are told, the tally has the lines of the links that are crossed.
+    #[inline(always)]
+    fn pass(&mut self, port: u32, packet: &mut Packet) -> Result<Passed, InjectFault>
+        requires packet { length packet.old ≡ comps self.old.net.tables }
+        requires port { slice_index packet.old 0 ≡ port }
+        requires room { self.old.net.injected < 2 ^ 63 }
+        ensures passes { IfOk result (λ passed. Passes port packet.old self.old.net self.new.net (IsTraced self.old.frames self.old.net.tables self.old.hops self.old.net.injected self.new.tally (sent_in packet.new passed) (lost_in passed))) }
+        ensures sent { IfOk result (λ passed. All (λ k. length k ≡ comps self.old.net.tables) (sent_in packet.new passed)) }
+        ensures long { length packet.new ≡ length packet.old }
+        ensures tables { self.new.net.tables ≡ self.old.net.tables }
+        ensures hops { self.new.hops ≡ self.old.hops }
+        ensures frames { self.new.frames ≡ self.old.frames }
+        ensures injected { self.new.net.injected ≤ self.old.net.injected + 1 }
+        ensures no_port { IfErr result (λ fault. fault ≢ InjectFault.NoMemory → port_at self.old.net.tables port ≡ None) }
+        ensures has_port { IfOk result (λ _. IsSome (port_at self.old.net.tables port)) }
+    {
+        self.tally.begin(self.frames);
+        if self.hops {
+            self.net.pass(port, packet, &mut self.tally)
+        } else {
+            self.net.pass(port, packet, &mut Unwatched)
+        }
     }
 }
 

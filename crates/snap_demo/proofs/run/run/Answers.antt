@@ -11,7 +11,7 @@ use Rattle.snap_demo.proofs.Row.{port_in-row}
 use Rattle.snap_demo.proofs.run.run.Goals as goal
 
 pub loop-number-init : goal.loop-number-init
-loop-number-init c = record { run = has_run-none c.args.net.now _ refl refl c.requires.start; tables = refl; injected = c.requires.injected }
+loop-number-init c = record { run = has_run-none c.args.net.now _ refl refl c.requires.start; rests = sym c.requires.start.flying; tables = refl; injected = c.requires.injected }
 
 pub run_packet-requires-clause-there : goal.run_packet-requires-clause-there
 run_packet-requires-clause-there c =
@@ -31,6 +31,7 @@ loop-number-preserved c =
     let longer = ap (λ k. ks ++ k ∷ []) c.in_ok-packet.ensures ∙ sym (map-range_with_len_more (packet_of n) 0 i i (omega arith)) in
     record {
       run = subst (λ l. HasRun l c.run_packet.new.net c.run_packet.new.counts) longer (c.in_ok-run_packet.ensures.on ks c.loop-number.invariant.run);
+      rests = c.run_packet.ensures.rests;
       tables = c.run_packet.ensures.tables ∙ c.loop-number.invariant.tables;
       injected = c.in_ok-run_packet.ensures.injected ∙ ap (λ m. m + 1) c.loop-number.invariant.injected;
     }

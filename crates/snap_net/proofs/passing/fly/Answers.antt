@@ -4,8 +4,7 @@ use Rattle.snap_rows.specs.Home.{AtHome}
 use Rattle.snap_rows.specs.Stepping.{FateArrives, FateFits}
 use Rattle.snap_rows.specs.Weight.{weight}
 use Rattle.snap_net.specs.Passing.{Comes, EndsPassing, IsHeard, StepsSo, entering, reached}
-use Rattle.snap_net.proofs.Landed.{there}
-use Rattle.snap_net.proofs.Carried.{OnWay, comes_none, comes_so, comes_sought, comes_then, heard_both, heard_none, heard_way, reached_home, sought_lighter}
+use Rattle.snap_net.proofs.Carried.{OnWay, comes_none, comes_so, comes_sought, comes_then, heard_both, heard_none, heard_way, reached_home, sought_lighter, there}
 use Rattle.snap_net.proofs.passing.fly.Goals as goal
 
 pub loop-fate-init : goal.loop-fate-init

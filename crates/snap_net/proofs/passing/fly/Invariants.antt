@@ -3,7 +3,7 @@ use Rattle.snap_rows.specs.Form.{switch_count}
 use Rattle.snap_rows.specs.Home.{AtHome}
 use Rattle.snap_rows.specs.Weight.{weight}
 use Rattle.snap_net.specs.Passing.{Comes, IsHeard, entering}
-use Rattle.snap_net.proofs.Landed.{there}
+use Rattle.snap_net.proofs.Carried.{there}
 use Rattle.snap_net.proofs.passing.fly.Given as goal
 
 abbrev pub invariant-loop-fate : goal.invariant-loop-fate
