@@ -1,22 +1,14 @@
 -- Loops over the operands of a repeated part: what was read so far, one operand more, and the first that is refused.
-use Rattle.std.proofs.Common.{◌≡◌, ℕ, ◌+◌, ◌<◌, List, [], ◌∷◌, ◌++◌, length, take, drop, get_or, map, Option, Some, Ok, Err, refl, ap, sym, ◌∙◌, subst, add-one}
-use Rattle.std.specs.Prelude.{is_some, option_map, if◌then◌else◌}
+use Rattle.std.proofs.Common.{◌≡◌, ℕ, ◌+◌, ◌<◌, List, [], ◌∷◌, ◌++◌, length, take, drop, get_or, map, Option, Some, Ok, Err, refl, ap, sym, ◌∙◌, subst, add-one, is_some, option_map, if◌then◌else◌}
 use Rattle.std.proofs.lemmas.List.{take_more, take-append-drop, map-append}
 use Rattle.std.proofs.Math.Seq.{drop-cons}
-use Rattle.snap_parse.specs.declared.tree.Sequence.{Sequence}
-use Rattle.snap_parse.specs.declared.tree.Choice.{Choice}
-use Rattle.snap_parse.specs.declared.tree.Both.{Both}
-use Rattle.snap_parse.specs.declared.tree.Single.{Single}
-use Rattle.snap_parse.specs.Tree.{PolicyTree, SequenceTree, ChoiceTree, EitherTree, BothTree, SingleTree, sequence_tree, choice_tree, both_tree, single_tree, policy_append, policy_begin, policy_more, sequence_append, sequence_begin, sequence_more, either_append, either_begin, either_more, both_append, both_begin, both_more}
+use Rattle.snap_parse.specs.Tree.{Sequence, Choice, Both, Single, PolicyTree, SequenceTree, ChoiceTree, EitherTree, BothTree, SingleTree, sequence_tree, choice_tree, both_tree, single_tree, policy_append, policy_begin, policy_more, sequence_append, sequence_begin, sequence_more, either_append, either_begin, either_more, both_append, both_begin, both_more}
 use Rattle.snap_parse.proofs.Trees.{policy_next, sequence_next, either_next, both_next}
-use Rattle.snap_names.specs.declared.scope.Part.{Part}
-use Rattle.snap_names.specs.declared.scope.Tally.{Tally}
-use Rattle.snap_names.specs.declared.fault.NameFault.{NameFault}
+use Rattle.snap_names.specs.Parts.{Part, Tally, IsPart, IsPartOf, HasRead, HasReadTest, HaveRead, HaveReadTests}
+use Rattle.snap_names.specs.Senses.{NameFault, Arities, after}
 use Rattle.snap_names.specs.Core.{CoreTest, CorePolicy, filter, par, seq, and_test, or_test}
 use Rattle.snap_names.specs.Declarations.{capped}
-use Rattle.snap_names.specs.Senses.{Arities, after}
 use Rattle.snap_names.specs.Reading.{Env, Reading, TestReading, joined, more, operand, read_sequences, read_sequence, read_choices, read_choice, read_boths, read_both, read_singles, read_single, both_is_predicate, both_fault, is_predicate, single_fault}
-use Rattle.snap_names.specs.Parts.{IsPart, IsPartOf, HasRead, HasReadTest, HaveRead, HaveReadTests}
 use Rattle.snap_names.proofs.Readings.{HaveRead-more, HaveReadTests-more}
 
 -- the items up to i, the item at i, and those behind it
