@@ -6,8 +6,8 @@ use Rattle.std.specs.List.{AllByRecursion, list_any}
 use Rattle.snap_names.specs.Declarations.{Field, Program, Components, Arrays, Atoms, Nodes, Weight, Declared, ports, env_of, field_names, short, field_senses, prefix_length, with_field, with_array, with_constant, with_let, declare, declare_all, CoreProgram, core_program, greatest, limited, resolved}
 use Rattle.snap_core.specs.Fields.{count, width}
 use Rattle.snap_core.specs.Figures.{number_of}
-use Rattle.snap_parse.specs.Tree.{Span, Literal, DeclTree, field_tree, array_tree, const_tree, let_tree, PolicyTree, SourceTree}
-use Rattle.snap_names.specs.Senses.{Sense, Array, Constant, Policy, NameFault, Twice, Prefix, Wide, Arities, after, word, number_at, literal, is_address}
+use Rattle.snap_parse.specs.Tree.{DeclTree, field_tree, array_tree, const_tree, let_tree, PolicyTree, SourceTree}
+use Rattle.snap_names.specs.Senses.{Span, Literal, Sense, Array, Constant, Policy, NameFault, Twice, Prefix, Wide, Arities, after, word, number_at, literal, is_address}
 use Rattle.snap_names.specs.Core.{CorePolicy, nodes, weight}
 use Rattle.snap_names.specs.Reading.{read_policy}
 use Rattle.snap_names.specs.Spells.{Scope, senses, is_known}

@@ -2,11 +2,10 @@
 use Rattle.std.proofs.Common.{◌≡◌, ℕ, suc, ◌+◌, ◌<◌, ◌≤◌, Bool, true, List, [], ◌∷◌, ◌++◌, Option, None, Some, refl, sym, subst, arith, append_assoc}
 use Rattle.std.proofs.lemmas.List.{append-nil}
 use Rattle.snap_names.specs.Core.{Atom, Num, CorePolicy, filter}
-use Rattle.snap_lex.specs.Lexemes.{Token, Kind, Key}
-use Rattle.snap_parse.specs.Tree.{Span, Literal, Value, PolicyTree, policy_begin, policy_more, SequenceTree, sequence_begin, sequence_more, ChoiceTree, if_tree, plain_tree, EitherTree, either_begin, either_more, BothTree, both_begin, both_more, SingleTree, not_tree, id_tree, drop_tree, group_tree, atomic_tree, name_tree, test_tree, set_tree, bare_tree, array_test_tree, array_set_tree, up_tree, down_tree, array_add_tree, array_sub_tree, DeclTree, field_tree, array_tree, const_tree, let_tree, SourceTree, span_of}
+use Rattle.snap_parse.specs.Tree.{PolicyTree, policy_begin, policy_more, SequenceTree, sequence_begin, sequence_more, ChoiceTree, if_tree, plain_tree, EitherTree, either_begin, either_more, BothTree, both_begin, both_more, SingleTree, not_tree, id_tree, drop_tree, group_tree, atomic_tree, name_tree, test_tree, set_tree, bare_tree, array_test_tree, array_set_tree, up_tree, down_tree, array_add_tree, array_sub_tree, DeclTree, field_tree, array_tree, const_tree, let_tree, SourceTree, span_of}
 use Rattle.snap_parse.specs.Grammar as grammar
-use Rattle.snap_names.specs.Senses.{Sense, Constant, word, is_address}
-use Rattle.snap_names.specs.Spells.{Scope}
+use Rattle.snap_names.specs.Senses.{Span, Literal, Value, Sense, Constant, word, is_address}
+use Rattle.snap_names.specs.Spells.{Token, Kind, Key, Scope}
 use Rattle.snap_names.specs.Spells as spells
 use Rattle.snap_names.proofs.SpelledTrees.{deeper}
 use Rattle.snap_names.proofs.TreeReadings as readings

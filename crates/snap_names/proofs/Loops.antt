@@ -2,7 +2,11 @@
 use Rattle.std.proofs.Common.{◌≡◌, ℕ, ◌+◌, ◌<◌, List, [], ◌∷◌, ◌++◌, length, take, drop, get_or, map, Option, Some, Ok, Err, refl, ap, sym, ◌∙◌, subst, add-one, is_some, option_map, if◌then◌else◌}
 use Rattle.std.proofs.lemmas.List.{take_more, take-append-drop, map-append}
 use Rattle.std.proofs.Math.Seq.{drop-cons}
-use Rattle.snap_parse.specs.Tree.{Sequence, Choice, Both, Single, PolicyTree, SequenceTree, ChoiceTree, EitherTree, BothTree, SingleTree, sequence_tree, choice_tree, both_tree, single_tree, policy_append, policy_begin, policy_more, sequence_append, sequence_begin, sequence_more, either_append, either_begin, either_more, both_append, both_begin, both_more}
+use Rattle.snap_parse.specs.declared.tree.Sequence.{Sequence}
+use Rattle.snap_parse.specs.declared.tree.Choice.{Choice}
+use Rattle.snap_parse.specs.declared.tree.Both.{Both}
+use Rattle.snap_parse.specs.declared.tree.Single.{Single}
+use Rattle.snap_parse.specs.Tree.{PolicyTree, SequenceTree, ChoiceTree, EitherTree, BothTree, SingleTree, sequence_tree, choice_tree, both_tree, single_tree, policy_append, policy_begin, policy_more, sequence_append, sequence_begin, sequence_more, either_append, either_begin, either_more, both_append, both_begin, both_more}
 use Rattle.snap_parse.proofs.Trees.{policy_next, sequence_next, either_next, both_next}
 use Rattle.snap_names.specs.Parts.{Part, Tally, IsPart, IsPartOf, HasRead, HasReadTest, HaveRead, HaveReadTests}
 use Rattle.snap_names.specs.Senses.{NameFault, Arities, after}

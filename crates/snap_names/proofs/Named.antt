@@ -1,7 +1,6 @@
 -- What a lone name reads as.
 use Rattle.std.proofs.Common.{◌≡◌, ℕ, ◌+◌, List, Some, None, Result, Ok, Err, ap, sym, ◌∙◌, slice_get, arith, IfOk, IfErr, OnOk}
-use Rattle.snap_parse.specs.Tree.{Span}
-use Rattle.snap_names.specs.Senses.{Policy, NameFault, Kind, NoMemory, after, or_fault, sense_of}
+use Rattle.snap_names.specs.Senses.{Span, Policy, NameFault, Kind, NoMemory, after, or_fault, sense_of}
 use Rattle.snap_names.specs.Parts.{Part, Body, Tally, Scope, IsPart, IsBody, AreBodies, Reads, words_of, env_in}
 use Rattle.snap_names.specs.Core.{CorePolicy, nodes}
 use Rattle.snap_names.specs.Declarations.{capped}

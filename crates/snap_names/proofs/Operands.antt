@@ -1,6 +1,10 @@
 -- Predicates of repeated parts, and the bodies of `let`.
 use Rattle.std.proofs.Common.{◌≡◌, ℕ, true, false, List, [], ◌∷◌, Some, None, refl, ap, sym, slice_get, zero, suc, subst, ◌≢◌, length, map, get_or, arith}
-use Rattle.snap_parse.specs.Tree.{Sequence, Choice, Both, Single, BothTree, both_begin, both_more, both_append, EitherTree, either_begin, either_more, either_append, SingleTree, SequenceTree, sequence_begin, sequence_more, sequence_append, ChoiceTree, PolicyTree, policy_begin, policy_more, policy_append, single_tree, both_tree, choice_tree, sequence_tree, both_at, either_at}
+use Rattle.snap_parse.specs.declared.tree.Sequence.{Sequence}
+use Rattle.snap_parse.specs.declared.tree.Choice.{Choice}
+use Rattle.snap_parse.specs.declared.tree.Both.{Both}
+use Rattle.snap_parse.specs.declared.tree.Single.{Single}
+use Rattle.snap_parse.specs.Tree.{BothTree, both_begin, both_more, both_append, EitherTree, either_begin, either_more, either_append, SingleTree, SequenceTree, sequence_begin, sequence_more, sequence_append, ChoiceTree, PolicyTree, policy_begin, policy_more, policy_append, single_tree, both_tree, choice_tree, sequence_tree, both_at, either_at}
 use Rattle.snap_names.specs.Parts.{Body, IsBody, AreBodies, no_bodies, more_bodies}
 use Rattle.snap_names.specs.Senses.{Kind, Words}
 use Rattle.snap_names.specs.Core.{CorePolicy}

@@ -1,6 +1,9 @@
 -- Readings by the form of a tree: one operand or several, operands that must be predicates, and the faults of a choice.
 use Rattle.std.proofs.Common.{◌≡◌, ◌≢◌, ℕ, Bool, true, false, List, [], ◌∷◌, length, get_or, map, Result, Ok, Err, refl, ap, sym, ◌∙◌, subst, arith}
-use Rattle.snap_parse.specs.Tree.{Either, Both, Single, EitherTree, BothTree, SingleTree, ChoiceTree, either_begin, either_more, either_append, both_begin, both_more, both_append, single_tree, both_tree, either_tree}
+use Rattle.snap_parse.specs.declared.tree.Either.{Either}
+use Rattle.snap_parse.specs.declared.tree.Both.{Both}
+use Rattle.snap_parse.specs.declared.tree.Single.{Single}
+use Rattle.snap_parse.specs.Tree.{EitherTree, BothTree, SingleTree, ChoiceTree, either_begin, either_more, either_append, both_begin, both_more, both_append, single_tree, both_tree, either_tree}
 use Rattle.snap_names.specs.Parts.{Scope, Part, Tally, AreBodies, HasRead, HasReadTest, Reads, env_in}
 use Rattle.snap_names.specs.Senses.{NameFault, NoMemory, Arities, after}
 use Rattle.snap_names.specs.Core.{CorePolicy, choice}

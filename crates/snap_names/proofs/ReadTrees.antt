@@ -3,9 +3,9 @@ use Rattle.std.proofs.Common.{◌≡◌, ℕ, ◌-◌, ◌%◌, ◌^◌, ◌<◌
 use Rattle.std.proofs.lemmas.Result.{IfOk-weaker}
 use Rattle.std.specs.List.{AllByRecursion}
 use Rattle.snap_core.specs.Fits.{AtomFits, OpFits, IndexFits}
-use Rattle.snap_parse.specs.Tree.{Span, Value, PolicyTree, policy_begin, policy_more, SequenceTree, sequence_begin, sequence_more, ChoiceTree, if_tree, plain_tree, EitherTree, either_begin, either_more, BothTree, both_begin, both_more, SingleTree, not_tree, id_tree, drop_tree, group_tree, atomic_tree, name_tree, test_tree, set_tree, bare_tree, array_test_tree, array_set_tree, up_tree, down_tree, array_add_tree, array_sub_tree}
+use Rattle.snap_parse.specs.Tree.{PolicyTree, policy_begin, policy_more, SequenceTree, sequence_begin, sequence_more, ChoiceTree, if_tree, plain_tree, EitherTree, either_begin, either_more, BothTree, both_begin, both_more, SingleTree, not_tree, id_tree, drop_tree, group_tree, atomic_tree, name_tree, test_tree, set_tree, bare_tree, array_test_tree, array_set_tree, up_tree, down_tree, array_add_tree, array_sub_tree}
 use Rattle.snap_names.specs.Core.{Atom, Num, Op, Put, Add, CoreTest, not_test, and_test, or_test, state_test, CorePolicy, filter, set, change, par, seq, choice, atomic}
-use Rattle.snap_names.specs.Senses.{Sense, Plain, Split, Array, Constant, Policy, NameFault, Kind, Arities, Place, after, or_fault, word, sense_of, constant, array_atom, field_equals, field_gets, array_of_sense, arity_seen, atoms_behind, width, place_of, place}
+use Rattle.snap_names.specs.Senses.{Span, Value, Sense, Plain, Split, Array, Constant, Policy, NameFault, Kind, Arities, Place, after, or_fault, word, sense_of, constant, array_atom, field_equals, field_gets, array_of_sense, arity_seen, atoms_behind, width, place_of, place}
 use Rattle.snap_names.specs.Reading.{Env, body_of, named, is_predicate, both_is_predicate, either_is_predicate, single_fault, both_fault, either_fault, Reading, TestReading, as_test, operand, more, whole, whole_test, changed, tested, read_sequences, read_choices, read_choice, read_either, read_boths, read_both, read_singles, read_single, read_policy}
 use Rattle.snap_names.specs.Spells.{Scope}
 use Rattle.snap_names.proofs.BoundedCore.{TestFits, PolicyFits, PolicyFits-more, Grows, Grows-same, Grows-then}

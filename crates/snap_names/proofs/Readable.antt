@@ -3,8 +3,7 @@ use Rattle.std.proofs.Common.{◌≡◌, ℕ, true, ◌==◌, List, [], ◌∷�
 use Rattle.std.proofs.lemmas.List.{append-nil}
 use Rattle.snap_core.specs.Figures.{number_of, address_of}
 use Rattle.snap_names.specs.Core.{Atom, Num, Comp, field_test, set, seq, net, host, whole_test}
-use Rattle.snap_parse.specs.Tree.{Span, Literal, Value}
-use Rattle.snap_names.specs.Senses.{Sense, Plain, Split, Constant, NameFault, Unknown, Wide, Kind, Prefix, after, or_fault, word, sense_of, literal, constant, constant_of, field_atom, array_atom, atom_of, address_at, split_address, address_of_sense, split_of_sense, split_atoms, net_if, split_test, test_of_sense, field_equals, set_of_sense, field_gets, value_atoms, atoms_of_sense, atoms_behind, width_of, value_width, width}
+use Rattle.snap_names.specs.Senses.{Span, Literal, Value, Sense, Plain, Split, Constant, NameFault, Unknown, Wide, Kind, Prefix, after, or_fault, word, sense_of, literal, constant, constant_of, field_atom, array_atom, atom_of, address_at, split_address, address_of_sense, split_of_sense, split_atoms, net_if, split_test, test_of_sense, field_equals, set_of_sense, field_gets, value_atoms, atoms_of_sense, atoms_behind, width_of, value_width, width}
 use Rattle.snap_names.specs.Spells.{Scope}
 use Rattle.snap_names.proofs.Faultless.{words}
 use Rattle.snap_names.proofs.TreeReadings.{Means, number, IsAddress, address, constant_address, HasAtoms, literal as a_literal, constant as a_constant, component, components, HaveAtoms, no_place, next_place}

@@ -5,8 +5,8 @@ use Rattle.std.specs.List.{list_any}
 use Rattle.snap_names.specs.Declarations.{Field, Program, Components, Arrays, Atoms, Nodes, Weight, Declared, ports, env_of, field_names, field_senses, prefix_length, with_field, with_array, with_constant, with_let, declare, declare_all, core_program, greatest, capped, within, limited, resolved}
 use Rattle.snap_core.specs.declared.program.Which.{Which}
 use Rattle.snap_core.specs.Fields.{count, width}
-use Rattle.snap_parse.specs.Tree.{Span, DeclTree, SourceTree}
-use Rattle.snap_names.specs.Senses.{Sense, Array, Constant, Policy, NameFault, Twice, Prefix, Wide, Limit, Arities, after, or_fault, word, number_at, literal, is_address}
+use Rattle.snap_parse.specs.Tree.{DeclTree, SourceTree}
+use Rattle.snap_names.specs.Senses.{Span, Sense, Array, Constant, Policy, NameFault, Twice, Prefix, Wide, Limit, Arities, after, or_fault, word, number_at, literal, is_address}
 use Rattle.snap_names.specs.Core.{CorePolicy, core_policy, nodes, weight}
 use Rattle.snap_names.specs.Reading.{read_policy}
 use Rattle.snap_names.specs.Spells.{Scope, senses, before_text, is_known}

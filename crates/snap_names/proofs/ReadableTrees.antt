@@ -2,8 +2,8 @@
 use Rattle.std.proofs.Common.{◌≡◌, ℕ, zero, suc, ◌-◌, ◌%◌, ◌^◌, ◌<◌, ◌≤◌, min, Bool, true, ◌==◌, List, [], ◌∷◌, slice_get, slice_set, Option, None, Some, Result, Ok, Err, if◌then◌else◌, refl, sym, ap, ◌∙◌, subst, arith, ◌⊎◌, inl, inr}
 use Rattle.std.proofs.lemmas.Bool.{false≢true}
 use Rattle.snap_names.specs.Core.{Atom, Num, Op, Put, Add, CoreTest, id_test, not_test, and_test, or_test, field_test, state_test, CorePolicy, filter, change, par, seq, choice, atomic, is_filter, net, whole_test}
-use Rattle.snap_parse.specs.Tree.{Span, Value, PolicyTree, SequenceTree, ChoiceTree, if_tree, EitherTree, either_begin, either_more, BothTree, both_begin, both_more, SingleTree}
-use Rattle.snap_names.specs.Senses.{Array, Policy, NameFault, Kind, Arity, Arities, Place, after, or_fault, sense_of, constant, array_atom, field_equals, field_gets, array_of_sense, arity_seen, atoms_behind, width, place_of, place}
+use Rattle.snap_parse.specs.Tree.{PolicyTree, SequenceTree, ChoiceTree, if_tree, EitherTree, either_begin, either_more, BothTree, both_begin, both_more, SingleTree}
+use Rattle.snap_names.specs.Senses.{Span, Value, Array, Policy, NameFault, Kind, Arity, Arities, Place, after, or_fault, sense_of, constant, array_atom, field_equals, field_gets, array_of_sense, arity_seen, atoms_behind, width, place_of, place}
 use Rattle.snap_names.specs.Reading.{body_of, named, is_filter_or_fault, is_predicate, both_is_predicate, either_is_predicate, choice_is_predicate, sequence_is_predicate, policy_is_predicate, single_fault, both_fault, either_fault, Reading, TestReading, as_test, operand, joined, more, whole, whole_test as a_whole_test, changed, tested, read_sequences, read_choices, read_choice, read_either, read_boths, read_both, read_singles, read_single, read_policy}
 use Rattle.snap_names.specs.Spells.{Scope}
 use Rattle.snap_names.proofs.BoundedSenses.{NamesFit}

@@ -1,11 +1,11 @@
 -- `Spells` says which program a text spells just as the reading with faults does.
 use Rattle.std.proofs.Common.{◌≡◌, ℕ, ◌≤◌, List, length, Ok}
 use Rattle.snap_names.specs.Declarations.{Program, core_program, resolved}
-use Rattle.snap_lex.specs.Lexemes.{Token, SpellsTokens}
+use Rattle.snap_lex.specs.Lexemes.{SpellsTokens}
 use Rattle.snap_parse.specs.Grammar.{DerivesWithin}
 use Rattle.snap_parse.specs.Tree.{SourceTree}
 use Rattle.snap_names.specs.Core.{core_policy}
-use Rattle.snap_names.specs.Spells.{before_text, SpellsProgram}
+use Rattle.snap_names.specs.Spells.{Token, before_text, SpellsProgram}
 use Rattle.snap_names.proofs.FaultlessDeclared.{IsProgramOf-resolved}
 use Rattle.snap_names.proofs.DerivedTrees.{SourceWritten-text}
 use Rattle.snap_names.proofs.GrownTrees.{program-grown}

@@ -2,11 +2,10 @@
 use Rattle.std.proofs.Common.{◌≡◌, ℕ, zero, suc, ◌+◌, ◌<◌, ◌≤◌, Bool, true, false, List, [], ◌∷◌, ◌++◌, Some, refl, sym, subst, ◌∙◌, arith, append_assoc}
 use Rattle.std.proofs.lemmas.List.{append-nil}
 use Rattle.snap_names.specs.Core.{Atom, Num, CorePolicy, filter}
-use Rattle.snap_lex.specs.Lexemes.{Token, Kind, Sign}
-use Rattle.snap_parse.specs.Tree.{Literal, Value, PolicyTree, policy_begin, policy_more, SequenceTree, sequence_begin, sequence_more, ChoiceTree, EitherTree, either_begin, either_more, BothTree, both_begin, both_more, SingleTree, test_tree, set_tree, DeclTree, SourceTree, span_of}
+use Rattle.snap_parse.specs.Tree.{PolicyTree, policy_begin, policy_more, SequenceTree, sequence_begin, sequence_more, ChoiceTree, EitherTree, either_begin, either_more, BothTree, both_begin, both_more, SingleTree, test_tree, set_tree, DeclTree, SourceTree, span_of}
 use Rattle.snap_parse.specs.Grammar as grammar
-use Rattle.snap_names.specs.Senses.{Sense, Constant, word, is_address}
-use Rattle.snap_names.specs.Spells.{Scope}
+use Rattle.snap_names.specs.Senses.{Literal, Value, Sense, Constant, word, is_address}
+use Rattle.snap_names.specs.Spells.{Token, Kind, Sign, Scope}
 use Rattle.snap_names.specs.Spells as spells
 use Rattle.snap_names.proofs.TreeReadings as readings
 use Rattle.snap_names.proofs.Placed.{HasSequence, HasChoice, HasBoth, HasSingle}

@@ -6,8 +6,8 @@ use Rattle.snap_core.specs.Figures.{number_of, address_of}
 use Rattle.snap_core.specs.Fields.{count}
 use Rattle.snap_names.specs.Core.{Atom, Num, Comp, Op, Put, Add, CorePolicy, id_test, drop_test, field_test, state_test, not_test, and_test, or_test, filter, set, change, par, seq, choice, atomic, core_policy, nodes, weight, net, host, whole_test}
 use Rattle.snap_names.specs.Declarations.{Program}
-use Rattle.snap_parse.specs.Tree.{Span, Literal, Value, PolicyTree, policy_begin, policy_more, SequenceTree, sequence_begin, sequence_more, ChoiceTree, if_tree, plain_tree, EitherTree, either_begin, either_more, BothTree, both_begin, both_more, SingleTree, not_tree, id_tree, drop_tree, group_tree, atomic_tree, name_tree, test_tree, set_tree, bare_tree, array_test_tree, array_set_tree, up_tree, down_tree, array_add_tree, array_sub_tree, DeclTree, field_tree, array_tree, const_tree, let_tree, SourceTree}
-use Rattle.snap_names.specs.Senses.{Sense, Plain, Split, Array, Constant, Policy, word, is_address}
+use Rattle.snap_parse.specs.Tree.{PolicyTree, policy_begin, policy_more, SequenceTree, sequence_begin, sequence_more, ChoiceTree, if_tree, plain_tree, EitherTree, either_begin, either_more, BothTree, both_begin, both_more, SingleTree, not_tree, id_tree, drop_tree, group_tree, atomic_tree, name_tree, test_tree, set_tree, bare_tree, array_test_tree, array_set_tree, up_tree, down_tree, array_add_tree, array_sub_tree, DeclTree, field_tree, array_tree, const_tree, let_tree, SourceTree}
+use Rattle.snap_names.specs.Senses.{Span, Literal, Value, Sense, Plain, Split, Array, Constant, Policy, word, is_address}
 use Rattle.snap_names.specs.Spells.{Scope, senses, before_text, is_known}
 
 -- the name was declared as this

@@ -6,7 +6,8 @@ pub use Rattle.snap_core.specs.declared.program.Program.{Program}
 pub use Rattle.snap_core.specs.declared.program.Which.{Which}
 pub use Rattle.snap_core.specs.declared.program.Which.TheVariants.{Components, Arrays, Atoms, Nodes, Weight}
 use Rattle.snap_core.specs.Fields.{count, plain_field}
-use Rattle.snap_parse.specs.Tree.{Span, DeclTree, field_tree, array_tree, const_tree, let_tree, SourceTree}
+use Rattle.snap_parse.specs.declared.tree.Span.{Span}
+use Rattle.snap_parse.specs.Tree.{DeclTree, field_tree, array_tree, const_tree, let_tree, SourceTree}
 use Rattle.snap_names.specs.Senses.{Sense, Plain, Split, Array, Constant, Policy, NameFault, Twice, Prefix, Limit, Arities, after, word, number_at, literal, is_address}
 use Rattle.snap_names.specs.Core.{CorePolicy, core_policy, nodes, weight}
 use Rattle.snap_names.specs.Reading.{Env, read_policy}

@@ -3,7 +3,9 @@ use Rattle.std.specs.Prelude.{ℕ, ◌+◌, Bool, true, false, ◌&&◌, ◌==�
 use Rattle.std.specs.Map.{lookup}
 use Rattle.snap_core.specs.Figures.{number_of, address_of}
 use Rattle.snap_names.specs.Core.{Atom, Num, Comp, CoreTest, CorePolicy, field_test, set, seq, host, net, whole_test}
-use Rattle.snap_parse.specs.Tree.{Span, Literal, Value}
+pub use Rattle.snap_parse.specs.declared.tree.Span.{Span}
+pub use Rattle.snap_parse.specs.declared.tree.Literal.{Literal}
+pub use Rattle.snap_parse.specs.declared.tree.Value.{Value}
 use Rattle.snap_parse.specs.declared.tree.Literal.TheVariants as literals
 use Rattle.snap_parse.specs.declared.tree.Value.TheVariants as values
 pub use Rattle.snap_names.specs.declared.scope.Sense.{Sense}

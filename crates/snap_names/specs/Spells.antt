@@ -9,7 +9,11 @@ use Rattle.snap_core.specs.Fields.{count, plain_field}
 use Rattle.snap_names.specs.Core.{Atom, Num, Comp, Op, Put, Add, CoreTest, CorePolicy, id_test, drop_test, field_test, state_test, not_test, and_test, or_test, filter, set, change, par, seq, choice, atomic, core_policy, nodes, weight, net, host, whole_test}
 use Rattle.snap_core.specs.declared.program.Field.{Field}
 use Rattle.snap_core.specs.declared.program.Program.{Program}
-use Rattle.snap_lex.specs.Lexemes.{Token, Key, Sign, SpellsTokens}
+pub use Rattle.snap_lex.specs.declared.Token.{Token}
+pub use Rattle.snap_lex.specs.declared.Kind.{Kind}
+pub use Rattle.snap_lex.specs.declared.Key.{Key}
+pub use Rattle.snap_lex.specs.declared.Sign.{Sign}
+use Rattle.snap_lex.specs.Lexemes.{SpellsTokens}
 use Rattle.snap_lex.specs.declared.Kind.TheVariants as kinds
 use Rattle.snap_lex.specs.declared.Key.TheVariants as keys
 use Rattle.snap_lex.specs.declared.Sign.TheVariants as signs

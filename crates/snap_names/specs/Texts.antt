@@ -1,6 +1,7 @@
 -- The tree of a text.
 use Rattle.std.specs.Prelude.{ℕ, List}
-use Rattle.snap_lex.specs.Lexemes.{Token, SpellsTokens}
+use Rattle.snap_lex.specs.declared.Token.{Token}
+use Rattle.snap_lex.specs.Lexemes.{SpellsTokens}
 use Rattle.snap_parse.specs.Tree.{SourceTree}
 use Rattle.snap_parse.specs.Grammar.{Derives}
 

@@ -1,6 +1,6 @@
 -- What completes a state of the machine to a program, in the words of the grammar.
 use Rattle.std.proofs.Common.{length, ◌≡◌, ℕ, suc, ◌≤◌, List, [], ◌∷◌, ◌++◌, Option, Some, None, sym, subst}
-use Rattle.snap_lex.specs.Lexemes.{Token, Kind, Key, Sign}
+use Rattle.snap_parse.specs.Kinds.{Token, Kind, Key, Sign}
 use Rattle.snap_parse.specs.Tree.{Span, Literal, Value, PolicyTree, policy_more, SequenceTree, sequence_more, ChoiceTree, if_tree, plain_tree, EitherTree, either_more, BothTree, both_more, SingleTree, not_tree, name_tree, test_tree, set_tree, bare_tree, array_test_tree, array_set_tree, up_tree, down_tree, array_add_tree, array_sub_tree, DeclTree, field_tree, const_tree, let_tree, SourceTree, span_of}
 use Rattle.snap_parse.specs.Grammar.{IsLiteral, IsValue, IsPlacesRest, IsPolicy, IsPolicyRest, IsSequence, IsSequenceRest, IsChoice, IsEither, IsEitherRest, IsBoth, IsBothRest, IsSingle, IsProgramRest}
 use Rattle.snap_parse.specs.Machine.{AfterPolicy, the_end, close_let, close_round, else_part, AfterSequence, part_of_policy, AfterChoice, part_of_sequence, end_of_if, AfterEither, then_part, end_of_plain, AfterBoth, part_of_either, AfterSingle, part_of_both, end_of_not, AfterValue, end_of_value, close_place, policy_depth, sequence_depth, choice_depth, either_depth, both_depth, single_depth, State, wants, at_open, at_decl, past_field, at_constant, at_policy, at_sequence, at_choice, at_either, at_both, at_single, at_value, past_address, past_value, past_name, past_places, past_single, past_both, past_either, past_choice, past_sequence, past_policy, state_depth, Move, go, done}

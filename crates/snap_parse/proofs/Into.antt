@@ -1,6 +1,6 @@
 -- A step leads from what completes a state to what completes the next.
 use Rattle.std.proofs.Common.{length, ◌≡◌, ℕ, ◌≤◌, List, [], ◌∷◌, ◌++◌, Some, cond, refl, sym, subst, arith}
-use Rattle.snap_lex.specs.Lexemes.{Token, Kind, Key, Sign}
+use Rattle.snap_parse.specs.Kinds.{Token, Kind, Key, Sign}
 use Rattle.snap_parse.specs.Tree.{Span, Literal, Value, PolicyTree, policy_begin, policy_more, SequenceTree, sequence_begin, sequence_more, ChoiceTree, if_tree, plain_tree, EitherTree, either_begin, either_more, BothTree, both_begin, both_more, SingleTree, not_tree, name_tree, test_tree, set_tree, bare_tree, array_test_tree, array_set_tree, up_tree, down_tree, array_add_tree, array_sub_tree, DeclTree, field_tree, const_tree, let_tree, SourceTree, span_of}
 use Rattle.snap_parse.specs.Grammar.{IsLiteral, number_literal, address_literal, true_literal, false_literal, IsValue, literal_value, prefix_value, name_value, IsPlacesRest, places_end, places_more, places, IsPolicy, policy, policy_end, policy_plus, IsSequence, sequence, sequence_end, sequence_semicolon, IsChoice, if_choice, plain_choice, IsEither, either, either_end, either_or, IsBoth, both, both_end, both_and, IsSingle, not_single, id_single, drop_single, group_single, atomic_single, name_single, test_single, set_single, bare_single, array_test_single, array_set_single, up_single, down_single, array_add_single, array_sub_single, field_decl, split_field_decl, array_decl, const_decl, let_decl, IsProgramRest, last_policy, next_decl}
 use Rattle.snap_parse.specs.Machine.{AfterPolicy, the_end, else_part, AfterSequence, part_of_policy, AfterChoice, part_of_sequence, end_of_if, AfterEither, end_of_plain, AfterBoth, part_of_either, AfterSingle, part_of_both, AfterValue, end_of_value, close_place, policy_depth, sequence_depth, choice_depth, either_depth, both_depth, single_depth, value_depth, State, wants, at_decl, at_constant, at_policy, at_sequence, at_choice, at_both, at_single, at_value, past_value, past_places, past_single, state_depth, Move, go, stuck, front, on_next, after_policy, after_sequence, after_choice, after_either, after_both, after_single, after_value, placed, after_places, after_name, literal_of, begin_value, begin_single, begin_both, begin_either, begin_choice, begin_sequence, begin_policy, begin_decl, on_literal, in_constant_value, step}

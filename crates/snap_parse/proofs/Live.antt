@@ -1,6 +1,6 @@
 -- Each state can be completed: there are tokens that do, where one that opens a construct is allowed.
 use Rattle.std.proofs.Common.{le_of_lt, length, ℕ, zero, suc, ◌<◌, ◌≤◌, List, [], ◌∷◌, ◌++◌, None, refl, arith}
-use Rattle.snap_lex.specs.Lexemes.{Token, Kind, Key, Sign}
+use Rattle.snap_parse.specs.Kinds.{Token, Kind, Key, Sign}
 use Rattle.snap_parse.specs.Tree.{Span, Literal, Value, PolicyTree, policy_begin, policy_more, SequenceTree, sequence_begin, sequence_more, ChoiceTree, if_tree, plain_tree, EitherTree, either_begin, either_more, BothTree, both_begin, both_more, SingleTree, not_tree, id_tree, name_tree, bare_tree, DeclTree, field_tree, const_tree, let_tree, SourceTree}
 use Rattle.snap_parse.specs.Grammar.{number_literal, name_value, places_end, IsPolicy, policy, policy_end, IsSequence, sequence, sequence_end, IsChoice, plain_choice, IsEither, either, either_end, IsBoth, both, both_end, id_single, IsProgramRest, last_policy}
 use Rattle.snap_parse.specs.Machine.{AfterPolicy, the_end, close_let, close_round, else_part, AfterSequence, part_of_policy, AfterChoice, part_of_sequence, end_of_if, AfterEither, then_part, end_of_plain, AfterBoth, part_of_either, AfterSingle, part_of_both, end_of_not, AfterValue, end_of_value, close_place, policy_depth, sequence_depth, choice_depth, either_depth, both_depth, State, wants, at_open, at_decl, past_field, at_constant, at_policy, at_sequence, at_choice, at_either, at_both, at_single, at_value, past_address, past_value, past_name, past_places, past_single, past_both, past_either, past_choice, past_sequence, past_policy, token_of, one_less, state_depth}

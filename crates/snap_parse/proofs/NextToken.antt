@@ -1,9 +1,8 @@
 -- Kinds are the same where their numbers are, and what may stand behind a part.
 use Rattle.std.proofs.Common.{◌≡◌, ◌≢◌, ℕ, suc, ◌≤◌, List, [], ◌∷◌, Bool, true, false, refl, sym, ap, ◌∙◌, subst, arith, get_or}
 use Rattle.std.proofs.lemmas.Bool.{eqb-true, eq-eqb}
-use Rattle.snap_lex.specs.Lexemes.{Token, Kind, Key, Sign}
 use Rattle.snap_lex.proofs.Forms.{all_keys, all_signs}
-use Rattle.snap_parse.specs.Kinds.{key_code, sign_code, same_kind}
+use Rattle.snap_parse.specs.Kinds.{Token, Kind, Key, Sign, key_code, sign_code, same_kind}
 
 -- a number tells its keyword, and its sign
 key_at-code : (k : Key) → get_or all_keys (key_code k) Key.If ≡ k

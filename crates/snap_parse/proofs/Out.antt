@@ -1,8 +1,7 @@
 -- What completes the program after a step completes the state before it.
 use Rattle.std.proofs.Common.{◌≡◌, ℕ, List, [], ◌∷◌, Some, cond, Bool, true, false, refl, arith}
-use Rattle.snap_lex.specs.Lexemes.{Token, Kind, Key, Sign}
 use Rattle.snap_parse.specs.Tree.{Span, Literal, Value, PolicyTree, policy_begin, policy_more, SequenceTree, sequence_begin, sequence_more, ChoiceTree, if_tree, plain_tree, EitherTree, either_begin, either_more, BothTree, both_begin, both_more, SingleTree, not_tree, name_tree, bare_tree, DeclTree, SourceTree, span_of}
-use Rattle.snap_parse.specs.Kinds.{same_kind}
+use Rattle.snap_parse.specs.Kinds.{Token, Kind, Key, Sign, same_kind}
 use Rattle.snap_parse.specs.Grammar.{number_literal, address_literal, true_literal, false_literal, literal_value, prefix_value, name_value, places_end, places_more, places, policy, policy_end, policy_plus, sequence, sequence_end, sequence_semicolon, if_choice, plain_choice, either, either_end, either_or, both, both_end, both_and, not_single, id_single, drop_single, group_single, atomic_single, name_single, test_single, set_single, bare_single, array_test_single, array_set_single, up_single, down_single, array_add_single, array_sub_single, field_decl, split_field_decl, array_decl, const_decl, let_decl, last_policy, next_decl}
 use Rattle.snap_parse.specs.Machine.{AfterPolicy, the_end, close_let, close_round, else_part, AfterSequence, part_of_policy, AfterChoice, part_of_sequence, end_of_if, AfterEither, then_part, end_of_plain, AfterBoth, part_of_either, AfterSingle, part_of_both, end_of_not, AfterValue, end_of_value, close_place, State, wants, at_open, at_decl, past_field, at_constant, at_policy, at_sequence, at_choice, at_either, at_both, at_single, at_value, past_address, past_value, past_name, past_places, past_single, past_both, past_either, past_choice, past_sequence, past_policy, go, stuck, front, after_policy, after_sequence, after_choice, after_either, after_both, after_single, after_value, after_address, placed, after_places, after_name, literal_of, begin_value, begin_single, begin_both, begin_either, begin_choice, begin_sequence, begin_policy, begin_decl, after_field, on_literal, in_constant_value, step}
 use Rattle.snap_parse.proofs.Completion.{again, IsPlaced, placed_alone, placed_equals, placed_arrow, placed_up, placed_down, placed_add, placed_sub, named_alone, named_equals, named_arrow, named_places, PolicyGoesOn, on_end, on_let, on_round, on_else, SequenceGoesOn, on_policy, ChoiceGoesOn, on_sequence, on_end_of_if, EitherGoesOn, on_then, on_plain, BothGoesOn, on_either, SingleGoesOn, on_both, on_end_of_not, ValueGoesOn, on_value, on_place, Completes, from_wants, from_open, from_decl, from_plain_field, from_split_field, from_constant, from_policy, from_sequence, from_choice, from_either, from_both, from_single, from_value, from_address, from_prefix, from_name, from_places, past_a_value, past_a_single, past_a_both, past_an_either, past_a_choice, past_a_sequence, past_a_policy, Follows, follows_go, follows_done}

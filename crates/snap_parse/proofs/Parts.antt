@@ -1,7 +1,7 @@
 -- Steps of the machine at names, values, choices and declarations.
 use Rattle.std.proofs.Common.{◌≡◌, ◌≢◌, ℕ, ◌≤◌, List, [], ◌∷◌, ◌++◌, Option, Some, None, Result, Ok, Err, refl, sym, ap, ◌∙◌, subst, arith, IsErrAnd, Vec, Bor, Global}
 use Rattle.std.proofs.lemmas.Result.{err_from_is_err_and}
-use Rattle.snap_lex.specs.Lexemes.{Token, Kind, Key, Sign}
+use Rattle.snap_parse.specs.Kinds.{Token, Kind, Key, Sign}
 use Rattle.snap_parse.specs.Tree.{Span, Literal, Value, PolicyTree, name_tree, bare_tree, DeclTree, span_of, Decl, decl_tree}
 use Rattle.snap_parse.specs.Machine.{State, state_depth, the_end, AfterChoice, end_of_plain, AfterSingle, AfterValue, close_place, single_depth, value_depth, at_decl, at_constant, at_policy, at_choice, at_either, at_single, at_value, past_value, past_policy, Move, go, stuck, front, after_single, placed, after_name, literal_of, begin_value, begin_single, begin_either, begin_choice, begin_policy, begin_decl, on_literal, in_constant_value, ParseFault, Unexpected, follow, run, place}
 use Rattle.snap_parse.specs.Reading.{Refuses, Lacks, ReadsPlaces, ReadsDeclaration}

@@ -2,7 +2,7 @@
 use Rattle.std.proofs.Common.{◌≡◌, ℕ, suc, ◌≤◌, List, [], ◌∷◌, Result, Ok, Err, Bool, true, false, cond, refl, sym, ap, ◌∙◌, subst, arith, nat_le, IsErrAnd, Bor}
 use Rattle.std.proofs.lemmas.Bool.{leb-true, le-leb}
 use Rattle.std.proofs.lemmas.Result.{err_from_is_err_and}
-use Rattle.snap_lex.specs.Lexemes.{Token, Kind}
+use Rattle.snap_parse.specs.Kinds.{Token, Kind}
 use Rattle.snap_parse.specs.Machine.{ParseFault, Unexpected, TooDeep, State, wants, state_depth, Move, go, stuck, front, on_next, with_next, follow, run, place}
 use Rattle.snap_parse.specs.declared.fault.ParseFault.TheVariants.{NoMemory}
 use Rattle.snap_parse.specs.Tree.{SourceTree}

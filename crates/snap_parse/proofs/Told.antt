@@ -1,6 +1,6 @@
 -- What the answer tells, and where it comes.
 use Rattle.std.proofs.Common.{◌≡◌, ℕ, List, [], ◌∷◌, Result, Ok, Err, refl, subst, true, false, length, arith, IfOk, ◌==◌}
-use Rattle.snap_lex.specs.Lexemes.{Token}
+use Rattle.snap_parse.specs.Kinds.{Token}
 use Rattle.snap_parse.specs.Tree.{Source, SourceTree, source_tree}
 use Rattle.snap_parse.specs.Machine.{ParseFault, Unexpected, TooDeep, run, at_decl}
 use Rattle.snap_parse.specs.declared.fault.ParseFault.TheVariants.{NoMemory}

@@ -3,7 +3,7 @@
 -- says that the tokens before `rest` derive the tree. `depth` constructs (`if`, `!`, `(`, `{`) are open around it,
 -- and no token makes the depth pass the limit but the last `free` of the text.
 use Rattle.std.specs.Prelude.{◌≡◌, ℕ, suc, ◌<◌, ◌≤◌, List, [], ◌∷◌, ◌++◌, length, Some, None}
-use Rattle.snap_lex.specs.Lexemes.{Token}
+use Rattle.snap_parse.specs.Kinds.{Token}
 use Rattle.snap_lex.specs.declared.Kind.TheVariants as kinds
 use Rattle.snap_lex.specs.declared.Key.TheVariants as keys
 use Rattle.snap_lex.specs.declared.Sign.TheVariants as signs

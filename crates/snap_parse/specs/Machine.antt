@@ -1,7 +1,6 @@
 -- The parser as a machine that takes one token at a time. What was read and what is still wanted is a
 -- stack: what is to be read after a part of each kind.
 use Rattle.std.specs.Prelude.{ℕ, zero, suc, List, [], ◌∷◌, ◌++◌, Option, Some, None, Result, Ok, Err, cond, nat_le}
-use Rattle.snap_lex.specs.Lexemes.{Token, Kind}
 use Rattle.snap_lex.specs.declared.Kind.TheVariants as kinds
 use Rattle.snap_lex.specs.declared.Key.TheVariants as keys
 use Rattle.snap_lex.specs.declared.Sign.TheVariants as signs
@@ -10,7 +9,7 @@ use Rattle.snap_parse.specs.declared.tree.Literal.TheVariants as literals
 use Rattle.snap_parse.specs.declared.tree.Value.TheVariants as values
 pub use Rattle.snap_parse.specs.declared.fault.ParseFault.{ParseFault}
 pub use Rattle.snap_parse.specs.declared.fault.ParseFault.TheVariants.{Unexpected, TooDeep}
-use Rattle.snap_parse.specs.Kinds.{same_kind}
+use Rattle.snap_parse.specs.Kinds.{Token, Kind, same_kind}
 
 mutual
   pub data AfterPolicy : Type 0 where

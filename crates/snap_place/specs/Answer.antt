@@ -4,7 +4,8 @@ use Rattle.std.specs.List.{list_any, position_from}
 use Rattle.std.specs.Map.{lookup}
 use Rattle.snap_core.specs.declared.program.Program.{Program}
 use Rattle.snap_dep.specs.Dependencies.{Tied}
-use Rattle.snap_topo.specs.Spells.{Topology, document, is_switch, number_of}
+use Rattle.snap_topo.specs.declared.topology.Topology.{Topology}
+use Rattle.snap_topo.specs.Spells.{document, is_switch, number_of}
 use Rattle.snap_place.specs.Shape.{PlaceFault, NoVariable, Missing, NoSwitch, entries_of}
 use Rattle.snap_place.specs.Together.{IsTogether, TellsApart}
 

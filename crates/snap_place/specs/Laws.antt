@@ -2,7 +2,7 @@
 use Rattle.std.specs.Prelude.{ℕ, List, Ok}
 use Rattle.snap_core.specs.declared.program.Program.{Program}
 use Rattle.snap_core.specs.Programs.{IsInForm}
-use Rattle.snap_topo.specs.Spells.{Topology}
+use Rattle.snap_topo.specs.declared.topology.Topology.{Topology}
 use Rattle.snap_topo.specs.Form.{IsInForm as IsTopology}
 use Rattle.snap_place.specs.Answer.{GivesSwitches, IsAnswer}
 use Rattle.snap_place.specs.Printed.{placement_text}

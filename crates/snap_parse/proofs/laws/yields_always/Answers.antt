@@ -1,5 +1,5 @@
 use Rattle.std.proofs.Common.{◌≡◌, ℕ, List, [], ◌∷◌, Bool, true, false, cond, Result, Ok, Err, refl, nat_le}
-use Rattle.snap_lex.specs.Lexemes.{Token}
+use Rattle.snap_parse.specs.Kinds.{Token}
 use Rattle.snap_parse.specs.Machine.{ParseFault, Unexpected, TooDeep, at_decl, state_depth, Move, go, done, stuck, front, step, follow, run}
 use Rattle.snap_parse.specs.declared.fault.ParseFault.TheVariants.{NoMemory}
 use Rattle.snap_parse.specs.Tree.{SourceTree}

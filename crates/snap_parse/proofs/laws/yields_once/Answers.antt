@@ -1,5 +1,5 @@
 use Rattle.std.proofs.Common.{◌≡◌, ℕ, List, [], Result, Ok, Err}
-use Rattle.snap_lex.specs.Lexemes.{Token}
+use Rattle.snap_parse.specs.Kinds.{Token}
 use Rattle.snap_parse.specs.Machine.{ParseFault, Unexpected, TooDeep, at_decl, run}
 use Rattle.snap_parse.specs.declared.fault.ParseFault.TheVariants.{NoMemory}
 use Rattle.snap_parse.specs.Tree.{SourceTree}

@@ -1,5 +1,5 @@
 use Rattle.std.proofs.Common.{suc, ◌∷◌, ◌∙◌, ap, refl, sym, arith, map, length}
-use Rattle.snap_lex.specs.Lexemes.{Kind, Key, Sign}
+use Rattle.snap_parse.specs.Kinds.{Kind, Key, Sign}
 use Rattle.snap_parse.specs.Tree.{policy_begin, policy_more, sequence_begin, sequence_more, if_tree, either_begin, either_more, both_begin, both_more, not_tree, id_tree, drop_tree, group_tree, atomic_tree, span_of, policy_tree, sequence_tree, choice_tree, either_tree, both_tree, single_tree, policy_append, sequence_append, either_append, both_append}
 use Rattle.snap_parse.specs.Machine.{close_round, else_part, part_of_policy, part_of_sequence, end_of_if, then_part, end_of_plain, part_of_either, part_of_both, end_of_not, at_open, at_policy, at_sequence, at_choice, at_either, at_both, at_single, past_name, past_single, past_both, past_either, past_choice, past_sequence, past_policy, go, stuck, front, after_policy, after_sequence, after_either, after_both, after_name, begin_single, begin_choice, step, follow, run}
 use Rattle.snap_parse.specs.declared.cursor.TheConstants.{MAX_DEPTH}

@@ -1,5 +1,5 @@
 use Rattle.std.proofs.Common.{◌∙◌, ap, sym}
-use Rattle.snap_lex.specs.Lexemes.{Kind, Sign}
+use Rattle.snap_parse.specs.Kinds.{Kind, Sign}
 use Rattle.snap_parse.specs.Tree.{Literal, Value, span_of}
 use Rattle.snap_parse.specs.Machine.{wants, past_value, front, after_value, after_address, run}
 use Rattle.snap_parse.specs.declared.cursor.TheConstants.{MAX_DEPTH}

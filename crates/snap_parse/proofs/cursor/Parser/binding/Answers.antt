@@ -1,5 +1,5 @@
 use Rattle.std.proofs.Common.{[], ◌∷◌, ◌++◌, ◌∙◌, ap, refl, sym, arith}
-use Rattle.snap_lex.specs.Lexemes.{Kind, Sign}
+use Rattle.snap_parse.specs.Kinds.{Kind, Sign}
 use Rattle.snap_parse.specs.Tree.{let_tree, span_of, policy_tree, decl_tree}
 use Rattle.snap_parse.specs.Machine.{close_let, at_open, at_decl, at_policy, stuck, front, in_let, step, run}
 use Rattle.snap_parse.specs.declared.cursor.TheConstants.{MAX_DEPTH}

@@ -1,5 +1,5 @@
 use Rattle.std.proofs.Common.{◌∙◌, arith}
-use Rattle.snap_lex.specs.Lexemes.{Kind, Key}
+use Rattle.snap_parse.specs.Kinds.{Kind, Key}
 use Rattle.snap_parse.specs.Machine.{in_field, in_array, in_constant, in_let, begin_decl}
 use Rattle.snap_parse.specs.declared.cursor.TheConstants.{MAX_DEPTH}
 use Rattle.snap_parse.proofs.Steps.{goes, begins, refuses}

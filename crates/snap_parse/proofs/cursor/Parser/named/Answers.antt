@@ -1,5 +1,5 @@
 use Rattle.std.proofs.Common.{[], ◌∙◌, refl, ap, sym}
-use Rattle.snap_lex.specs.Lexemes.{Kind, Sign}
+use Rattle.snap_parse.specs.Kinds.{Kind, Sign}
 use Rattle.snap_parse.specs.Tree.{test_tree, set_tree, single_tree}
 use Rattle.snap_parse.specs.Machine.{at_value, close_place, end_of_value, past_single, front, placed, after_name, run}
 use Rattle.snap_parse.specs.declared.cursor.TheConstants.{MAX_DEPTH}

@@ -1,5 +1,5 @@
 use Rattle.std.proofs.Common.{◌∙◌, refl, ap, sym}
-use Rattle.snap_lex.specs.Lexemes.{Kind, Sign}
+use Rattle.snap_parse.specs.Kinds.{Kind, Sign}
 use Rattle.snap_parse.specs.Tree.{array_test_tree, array_set_tree, array_add_tree, array_sub_tree, up_tree, down_tree, single_tree}
 use Rattle.snap_parse.specs.Machine.{at_value, end_of_value, past_single, front, placed, run}
 use Rattle.snap_parse.specs.declared.cursor.TheConstants.{MAX_DEPTH}

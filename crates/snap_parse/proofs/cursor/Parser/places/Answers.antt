@@ -1,5 +1,5 @@
 use Rattle.std.proofs.Common.{[], ◌∷◌, ◌++◌, ◌∙◌, ap, sym, arith, length}
-use Rattle.snap_lex.specs.Lexemes.{Kind, Sign}
+use Rattle.snap_parse.specs.Kinds.{Kind, Sign}
 use Rattle.snap_parse.specs.Machine.{close_place, at_value, past_places, stuck, front, placed, follow, run}
 use Rattle.snap_parse.specs.declared.cursor.TheConstants.{MAX_DEPTH}
 use Rattle.snap_parse.proofs.Steps.{met, missed, refuses, refuses_kind}

@@ -1,5 +1,5 @@
 use Rattle.std.proofs.Common.{◌∙◌, ap, sym, arith, length}
-use Rattle.snap_lex.specs.Lexemes.{Kind}
+use Rattle.snap_parse.specs.Kinds.{Kind}
 use Rattle.snap_parse.specs.Tree.{Value, span_of}
 use Rattle.snap_parse.specs.Machine.{at_value, past_address, past_value, front, after_address, begin_value, step, run}
 use Rattle.snap_parse.specs.declared.cursor.TheConstants.{MAX_DEPTH}
