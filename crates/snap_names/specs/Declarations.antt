@@ -8,8 +8,12 @@ pub use Rattle.snap_core.specs.declared.program.Which.TheVariants.{Components, A
 use Rattle.snap_core.specs.Fields.{count, plain_field}
 use Rattle.snap_parse.specs.declared.tree.Span.{Span}
 use Rattle.snap_parse.specs.Tree.{DeclTree, field_tree, array_tree, const_tree, let_tree, SourceTree}
-use Rattle.snap_names.specs.Senses.{Sense, Plain, Split, Array, Constant, Policy, NameFault, Twice, Prefix, Limit, Arities, after, word, number_at, literal, is_address}
+use Rattle.snap_names.specs.declared.scope.Sense.{Sense}
+use Rattle.snap_names.specs.declared.scope.Sense.TheVariants.{Plain, Split, Array, Constant, Policy}
+use Rattle.snap_names.specs.declared.fault.NameFault.{NameFault}
+use Rattle.snap_names.specs.declared.fault.NameFault.TheVariants.{Twice, Prefix, Limit}
 use Rattle.snap_names.specs.Core.{CorePolicy, core_policy, nodes, weight}
+use Rattle.snap_names.specs.Senses.{Arities, after, word, number_at, literal, is_address}
 use Rattle.snap_names.specs.Reading.{Env, read_policy}
 use Rattle.snap_names.specs.Spells.{is_known}
 

@@ -1,17 +1,21 @@
 -- How the parts that are built stand for core policies.
 use Rattle.std.specs.Prelude.{◌≡◌, ◌≢◌, ℕ, ◌+◌, ◌≤◌, List, [], ◌∷◌, map, Option, None, Some, option_map, Result, Ok, Err, IfErr, Vec}
 use Rattle.std.specs.declared.alloc.Global.{Global}
-use Rattle.snap_names.specs.Core.{Pol, CoreTest, CorePolicy, filter, not_test, and_test, or_test, par, seq, choice, core_policy, is_filter, test_nodes, nodes, weight}
+use Rattle.snap_core.specs.declared.policy.Pol.{Pol}
 use Rattle.snap_names.specs.declared.parts.TestJoin.{TestJoin}
 use Rattle.snap_names.specs.declared.parts.TestJoin.TheVariants.{Both, Either}
 use Rattle.snap_names.specs.declared.parts.PolicyJoin.{PolicyJoin}
 use Rattle.snap_names.specs.declared.parts.PolicyJoin.TheVariants.{Beside, Behind}
-use Rattle.snap_names.specs.Senses.{Sense, NameFault, NoMemory, Words, Arities, Place}
+use Rattle.snap_names.specs.declared.scope.Sense.{Sense}
 pub use Rattle.snap_names.specs.declared.scope.Part.{Part}
 pub use Rattle.snap_names.specs.declared.scope.Body.{Body}
 pub use Rattle.snap_names.specs.declared.scope.Tally.{Tally}
 pub use Rattle.snap_names.specs.declared.scope.Scope.{Scope}
+use Rattle.snap_names.specs.declared.fault.NameFault.{NameFault}
+use Rattle.snap_names.specs.declared.fault.NameFault.TheVariants.{NoMemory}
+use Rattle.snap_names.specs.Core.{CoreTest, CorePolicy, filter, not_test, and_test, or_test, par, seq, choice, core_policy, is_filter, test_nodes, nodes, weight}
 use Rattle.snap_names.specs.Declarations.{capped}
+use Rattle.snap_names.specs.Senses.{Words, Arities, Place}
 use Rattle.snap_names.specs.declared.places.Indexed.{Indexed}
 use Rattle.snap_names.specs.Reading.{Env, Reading, TestReading}
 

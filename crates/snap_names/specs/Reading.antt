@@ -1,9 +1,17 @@
 -- The core form of each part of a tree, or its first broken naming rule.
 use Rattle.std.specs.Prelude.{ℕ, ◌-◌, ◌%◌, ◌^◌, Bool, true, false, if◌then◌else◌, List, slice_get, Option, None, Some, Result, Ok, Err}
-use Rattle.snap_names.specs.Core.{Atom, Num, Op, Put, Add, CoreTest, CorePolicy, id_test, drop_test, state_test, not_test, and_test, or_test, filter, change, par, seq, choice, atomic, is_filter}
+use Rattle.snap_core.specs.declared.policy.Atom.{Atom}
+use Rattle.snap_core.specs.declared.policy.Atom.TheVariants.{Num}
+use Rattle.snap_core.specs.declared.policy.Op.{Op}
+use Rattle.snap_core.specs.declared.policy.Op.TheVariants.{Put, Add}
 use Rattle.snap_parse.specs.declared.tree.Span.{Span}
 use Rattle.snap_parse.specs.Tree.{PolicyTree, policy_begin, policy_more, SequenceTree, sequence_begin, sequence_more, ChoiceTree, if_tree, plain_tree, EitherTree, either_begin, either_more, BothTree, both_begin, both_more, SingleTree, not_tree, id_tree, drop_tree, group_tree, atomic_tree, name_tree, test_tree, set_tree, bare_tree, array_test_tree, array_set_tree, up_tree, down_tree, array_add_tree, array_sub_tree, single_at, both_at, either_at}
-use Rattle.snap_names.specs.Senses.{Sense, Policy, NameFault, Kind, Words, Arities, Place, or_fault, after, sense_of, constant, array_atom, field_equals, field_gets, place}
+use Rattle.snap_names.specs.declared.scope.Sense.{Sense}
+use Rattle.snap_names.specs.declared.scope.Sense.TheVariants.{Policy}
+use Rattle.snap_names.specs.declared.fault.NameFault.{NameFault}
+use Rattle.snap_names.specs.declared.fault.NameFault.TheVariants.{Kind}
+use Rattle.snap_names.specs.Core.{CoreTest, CorePolicy, id_test, drop_test, state_test, not_test, and_test, or_test, filter, change, par, seq, choice, atomic, is_filter}
+use Rattle.snap_names.specs.Senses.{Words, Arities, Place, or_fault, after, sense_of, constant, array_atom, field_equals, field_gets, place}
 
 -- what is known where a policy is read: the text with its names, and the bodies of `let`
 pub record Env : Type 0 where

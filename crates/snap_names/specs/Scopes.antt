@@ -2,10 +2,15 @@
 use Rattle.std.specs.Prelude.{◌≡◌, ◌≢◌, ℕ, ◌≤◌, List, Result, Ok, Err}
 use Rattle.snap_core.specs.Fields.{count, IsFields}
 use Rattle.snap_parse.specs.Tree.{DeclTree}
-use Rattle.snap_names.specs.Parts.{Part, Tally, Scope, AreBodies, IsPart, names_in}
-use Rattle.snap_names.specs.Senses.{NameFault, NoMemory, Arities}
+use Rattle.snap_names.specs.declared.scope.Part.{Part}
+use Rattle.snap_names.specs.declared.scope.Tally.{Tally}
+use Rattle.snap_names.specs.declared.scope.Scope.{Scope}
+use Rattle.snap_names.specs.declared.fault.NameFault.{NameFault}
+use Rattle.snap_names.specs.declared.fault.NameFault.TheVariants.{NoMemory}
 use Rattle.snap_names.specs.Core.{CorePolicy, nodes}
+use Rattle.snap_names.specs.Senses.{Arities}
 use Rattle.snap_names.specs.Declarations.{Declared, short, capped, declare, CoreProgram, limited}
+use Rattle.snap_names.specs.Parts.{AreBodies, IsPart, names_in}
 
 -- what is declared in a scope, with what the bodies of `let` stand for
 abbrev pub declared_in : Scope → List CorePolicy → Arities → Declared

@@ -1,17 +1,20 @@
 -- What names, literals and values stand for, or the first naming rule that they break.
-use Rattle.std.specs.Prelude.{ℕ, ◌+◌, Bool, true, false, ◌&&◌, ◌==◌, nat_le, if◌then◌else◌, List, [], ◌∷◌, ◌++◌, length, min, slice_get, slice_set, slice_range, Option, None, Some, Result, Ok, Err, bytes_eq}
+use Rattle.std.specs.Prelude.{ℕ, ◌+◌, Bool, true, false, ◌&&◌, ◌==◌, nat_le, if◌then◌else◌, List, [], ◌∷◌, ◌++◌, length, min, slice_get, slice_set, slice_range, Option, None, Some, Result, Ok, Err}
 use Rattle.std.specs.Map.{lookup}
+use Rattle.std.specs.Str.{bytes_eq}
 use Rattle.snap_core.specs.Figures.{number_of, address_of}
-use Rattle.snap_names.specs.Core.{Atom, Num, Comp, CoreTest, CorePolicy, field_test, set, seq, host, net, whole_test}
+use Rattle.snap_core.specs.declared.policy.Atom.{Atom}
+use Rattle.snap_core.specs.declared.policy.Atom.TheVariants.{Num, Comp}
 pub use Rattle.snap_parse.specs.declared.tree.Span.{Span}
 pub use Rattle.snap_parse.specs.declared.tree.Literal.{Literal}
-pub use Rattle.snap_parse.specs.declared.tree.Value.{Value}
 use Rattle.snap_parse.specs.declared.tree.Literal.TheVariants as literals
+pub use Rattle.snap_parse.specs.declared.tree.Value.{Value}
 use Rattle.snap_parse.specs.declared.tree.Value.TheVariants as values
 pub use Rattle.snap_names.specs.declared.scope.Sense.{Sense}
 pub use Rattle.snap_names.specs.declared.scope.Sense.TheVariants.{Plain, Split, Array, Constant, Policy}
 pub use Rattle.snap_names.specs.declared.fault.NameFault.{NameFault}
 pub use Rattle.snap_names.specs.declared.fault.NameFault.TheVariants.{Twice, Unknown, Kind, Arity, Wide, Prefix, Limit, NoMemory}
+use Rattle.snap_names.specs.Core.{CoreTest, CorePolicy, field_test, set, seq, host, net, whole_test}
 
 -- the text of a program, and what the names that are declared so far stand for
 pub record Words : Type 0 where

@@ -1,24 +1,29 @@
 -- Which program a text spells: each rule of the grammar, with what each of its forms stands for.
 -- A relation of a rule says that the tokens before `rest` have its form, and what they stand for. At most `d` parts are open within
 -- them, one in another: each `if`, `!`, `(` and `{` opens one.
-use Rattle.std.specs.Prelude.{◌≡◌, ℕ, suc, ◌+◌, ◌-◌, ◌%◌, ◌^◌, ◌≤◌, ◌&&◌, nat_le, if◌then◌else◌, Bool, true, false, List, [], ◌∷◌, ◌++◌, length, codes, slice_get, slice_range, Option, None, Some, is_some, bytes_eq}
+use Rattle.std.specs.Prelude.{◌≡◌, ℕ, suc, ◌+◌, ◌-◌, ◌%◌, ◌^◌, ◌≤◌, ◌&&◌, nat_le, if◌then◌else◌, Bool, true, false, List, [], ◌∷◌, ◌++◌, length, codes, slice_get, slice_range, Option, None, Some, is_some}
 use Rattle.std.specs.List.{list_any}
 use Rattle.std.specs.Map.{lookup}
+use Rattle.std.specs.Str.{bytes_eq}
 use Rattle.snap_core.specs.Figures.{number_of, address_of}
 use Rattle.snap_core.specs.Fields.{count, plain_field}
-use Rattle.snap_names.specs.Core.{Atom, Num, Comp, Op, Put, Add, CoreTest, CorePolicy, id_test, drop_test, field_test, state_test, not_test, and_test, or_test, filter, set, change, par, seq, choice, atomic, core_policy, nodes, weight, net, host, whole_test}
+use Rattle.snap_core.specs.declared.policy.Atom.{Atom}
+use Rattle.snap_core.specs.declared.policy.Atom.TheVariants.{Num, Comp}
+use Rattle.snap_core.specs.declared.policy.Op.{Op}
+use Rattle.snap_core.specs.declared.policy.Op.TheVariants.{Put, Add}
 use Rattle.snap_core.specs.declared.program.Field.{Field}
 use Rattle.snap_core.specs.declared.program.Program.{Program}
 pub use Rattle.snap_lex.specs.declared.Token.{Token}
 pub use Rattle.snap_lex.specs.declared.Kind.{Kind}
-pub use Rattle.snap_lex.specs.declared.Key.{Key}
-pub use Rattle.snap_lex.specs.declared.Sign.{Sign}
-use Rattle.snap_lex.specs.Lexemes.{SpellsTokens}
 use Rattle.snap_lex.specs.declared.Kind.TheVariants as kinds
+pub use Rattle.snap_lex.specs.declared.Key.{Key}
 use Rattle.snap_lex.specs.declared.Key.TheVariants as keys
+pub use Rattle.snap_lex.specs.declared.Sign.{Sign}
 use Rattle.snap_lex.specs.declared.Sign.TheVariants as signs
+use Rattle.snap_lex.specs.Lexemes.{SpellsTokens}
 use Rattle.snap_names.specs.declared.scope.Sense.{Sense}
 use Rattle.snap_names.specs.declared.scope.Sense.TheVariants.{Plain, Split, Array, Constant, Policy}
+use Rattle.snap_names.specs.Core.{CoreTest, CorePolicy, id_test, drop_test, field_test, state_test, not_test, and_test, or_test, filter, set, change, par, seq, choice, atomic, core_policy, nodes, weight, net, host, whole_test}
 
 abbrev pub is_known : List (List ℕ × Sense) → List ℕ → Bool
 is_known names name = is_some (lookup (bytes_eq name) names)

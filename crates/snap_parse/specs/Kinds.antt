@@ -2,10 +2,10 @@
 use Rattle.std.specs.Prelude.{ℕ, Bool, true, false, nat_eq}
 pub use Rattle.snap_lex.specs.declared.Token.{Token}
 pub use Rattle.snap_lex.specs.declared.Kind.{Kind}
-pub use Rattle.snap_lex.specs.declared.Key.{Key}
-pub use Rattle.snap_lex.specs.declared.Sign.{Sign}
 use Rattle.snap_lex.specs.declared.Kind.TheVariants as kinds
+pub use Rattle.snap_lex.specs.declared.Key.{Key}
 use Rattle.snap_lex.specs.declared.Key.TheVariants as keys
+pub use Rattle.snap_lex.specs.declared.Sign.{Sign}
 use Rattle.snap_lex.specs.declared.Sign.TheVariants as signs
 
 -- numbers for keywords and signs

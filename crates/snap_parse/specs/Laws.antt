@@ -1,6 +1,6 @@
 -- Tokens are parsed in one way.
 use Rattle.std.specs.Prelude.{◌≡◌, ℕ, List, Result, Ok, Err}
-use Rattle.snap_parse.specs.Kinds.{Token}
+use Rattle.snap_lex.specs.declared.Token.{Token}
 use Rattle.snap_parse.specs.declared.fault.ParseFault.{ParseFault}
 use Rattle.snap_parse.specs.declared.fault.ParseFault.TheVariants.{Unexpected, TooDeep, NoMemory}
 use Rattle.snap_parse.specs.Tree.{SourceTree}

@@ -1,15 +1,20 @@
 -- The parser as a machine that takes one token at a time. What was read and what is still wanted is a
 -- stack: what is to be read after a part of each kind.
 use Rattle.std.specs.Prelude.{ℕ, zero, suc, List, [], ◌∷◌, ◌++◌, Option, Some, None, Result, Ok, Err, cond, nat_le}
+use Rattle.snap_lex.specs.declared.Token.{Token}
+use Rattle.snap_lex.specs.declared.Kind.{Kind}
 use Rattle.snap_lex.specs.declared.Kind.TheVariants as kinds
 use Rattle.snap_lex.specs.declared.Key.TheVariants as keys
 use Rattle.snap_lex.specs.declared.Sign.TheVariants as signs
-use Rattle.snap_parse.specs.Tree.{Span, Literal, Value, PolicyTree, policy_begin, policy_more, SequenceTree, sequence_begin, sequence_more, ChoiceTree, if_tree, plain_tree, EitherTree, either_begin, either_more, BothTree, both_begin, both_more, SingleTree, not_tree, id_tree, drop_tree, group_tree, atomic_tree, name_tree, test_tree, set_tree, bare_tree, array_test_tree, array_set_tree, up_tree, down_tree, array_add_tree, array_sub_tree, DeclTree, field_tree, array_tree, const_tree, let_tree, SourceTree, span_of}
+use Rattle.snap_parse.specs.declared.tree.Span.{Span}
+use Rattle.snap_parse.specs.declared.tree.Literal.{Literal}
 use Rattle.snap_parse.specs.declared.tree.Literal.TheVariants as literals
+use Rattle.snap_parse.specs.declared.tree.Value.{Value}
 use Rattle.snap_parse.specs.declared.tree.Value.TheVariants as values
 pub use Rattle.snap_parse.specs.declared.fault.ParseFault.{ParseFault}
 pub use Rattle.snap_parse.specs.declared.fault.ParseFault.TheVariants.{Unexpected, TooDeep}
-use Rattle.snap_parse.specs.Kinds.{Token, Kind, same_kind}
+use Rattle.snap_parse.specs.Kinds.{same_kind}
+use Rattle.snap_parse.specs.Tree.{PolicyTree, policy_begin, policy_more, SequenceTree, sequence_begin, sequence_more, ChoiceTree, if_tree, plain_tree, EitherTree, either_begin, either_more, BothTree, both_begin, both_more, SingleTree, not_tree, id_tree, drop_tree, group_tree, atomic_tree, name_tree, test_tree, set_tree, bare_tree, array_test_tree, array_set_tree, up_tree, down_tree, array_add_tree, array_sub_tree, DeclTree, field_tree, array_tree, const_tree, let_tree, SourceTree, span_of}
 
 mutual
   pub data AfterPolicy : Type 0 where

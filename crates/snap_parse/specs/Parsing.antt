@@ -1,8 +1,9 @@
 -- What `parse` answers.
 use Rattle.std.specs.Prelude.{◌≡◌, Result, Ok, Err}
-use Rattle.snap_parse.specs.Tree.{Source, SourceTree, source_tree}
+use Rattle.snap_parse.specs.declared.tree.Source.{Source}
 use Rattle.snap_parse.specs.declared.fault.ParseFault.{ParseFault}
 use Rattle.snap_parse.specs.declared.fault.ParseFault.TheVariants.{NoMemory}
+use Rattle.snap_parse.specs.Tree.{SourceTree, source_tree}
 
 -- the answer is this tree, unless memory ran out
 abbrev pub GivesTree : Result Source ParseFault → SourceTree → Type 0

@@ -2,10 +2,23 @@
 use Rattle.std.specs.Prelude.{◌≡◌, ◌≢◌, ℕ, ◌+◌, ◌<◌, ◌≤◌, List, [], ◌∷◌, ◌++◌, length, Option, Some, None, Result, Ok, Err, Vec}
 use Rattle.std.specs.Borrow.{Bor}
 use Rattle.std.specs.declared.alloc.Global.{Global}
-use Rattle.snap_parse.specs.Kinds.{Token, Kind}
-use Rattle.snap_parse.specs.Tree.{Span, Literal, Value, Source, Decl, Policy, Sequence, Choice, Either, Both, Single, PolicyTree, DeclTree, SourceTree, policy_tree, sequence_tree, choice_tree, either_tree, both_tree, single_tree, decl_tree, source_tree, span_of}
-use Rattle.snap_parse.specs.Machine.{ParseFault, Unexpected, TooDeep, AfterPolicy, the_end, AfterSequence, AfterChoice, then_part, AfterEither, AfterBoth, AfterSingle, end_of_not, AfterValue, close_place, policy_depth, sequence_depth, choice_depth, either_depth, both_depth, single_depth, value_depth, State, at_decl, at_policy, at_sequence, at_choice, at_either, at_both, at_single, at_value, past_address, past_value, past_name, past_single, past_both, past_either, past_choice, past_sequence, past_policy, state_depth, Move, go, stuck, front, on_next, placed, literal_of, step, follow, run, place}
-use Rattle.snap_parse.specs.declared.fault.ParseFault.TheVariants.{NoMemory}
+use Rattle.snap_lex.specs.declared.Token.{Token}
+use Rattle.snap_lex.specs.declared.Kind.{Kind}
+use Rattle.snap_parse.specs.declared.tree.Span.{Span}
+use Rattle.snap_parse.specs.declared.tree.Literal.{Literal}
+use Rattle.snap_parse.specs.declared.tree.Value.{Value}
+use Rattle.snap_parse.specs.declared.tree.Source.{Source}
+use Rattle.snap_parse.specs.declared.tree.Decl.{Decl}
+use Rattle.snap_parse.specs.declared.tree.Policy.{Policy}
+use Rattle.snap_parse.specs.declared.tree.Sequence.{Sequence}
+use Rattle.snap_parse.specs.declared.tree.Choice.{Choice}
+use Rattle.snap_parse.specs.declared.tree.Either.{Either}
+use Rattle.snap_parse.specs.declared.tree.Both.{Both}
+use Rattle.snap_parse.specs.declared.tree.Single.{Single}
+use Rattle.snap_parse.specs.declared.fault.ParseFault.{ParseFault}
+use Rattle.snap_parse.specs.declared.fault.ParseFault.TheVariants.{Unexpected, TooDeep, NoMemory}
+use Rattle.snap_parse.specs.Tree.{PolicyTree, DeclTree, SourceTree, policy_tree, sequence_tree, choice_tree, either_tree, both_tree, single_tree, decl_tree, source_tree, span_of}
+use Rattle.snap_parse.specs.Machine.{AfterPolicy, the_end, AfterSequence, AfterChoice, then_part, AfterEither, AfterBoth, AfterSingle, end_of_not, AfterValue, close_place, policy_depth, sequence_depth, choice_depth, either_depth, both_depth, single_depth, value_depth, State, at_decl, at_policy, at_sequence, at_choice, at_either, at_both, at_single, at_value, past_address, past_value, past_name, past_single, past_both, past_either, past_choice, past_sequence, past_policy, state_depth, Move, go, stuck, front, on_next, placed, literal_of, step, follow, run, place}
 
 -- the machine refuses so too, unless memory ran out
 abbrev pub Refuses : ParseFault → Result SourceTree ParseFault → Type 0

@@ -1,6 +1,6 @@
 -- The tree of a program, without where it lies in memory.
 use Rattle.std.specs.Prelude.{ℕ, List, [], ◌∷◌, Option, map}
-use Rattle.snap_parse.specs.Kinds.{Token}
+use Rattle.snap_lex.specs.declared.Token.{Token}
 pub use Rattle.snap_parse.specs.declared.tree.Span.{Span}
 pub use Rattle.snap_parse.specs.declared.tree.Literal.{Literal}
 pub use Rattle.snap_parse.specs.declared.tree.Value.{Value}

@@ -1,12 +1,15 @@
 -- What is answered for the text of a placement: its first fault, or the owners.
-use Rattle.std.specs.Prelude.{◌≡◌, ◌<◌, ℕ, Bool, false, not, List, All, length, map, find, is_none, Option, Some, None, Result, Ok, Err, MatchResult, bytes_eq}
+use Rattle.std.specs.Prelude.{◌≡◌, ◌<◌, ℕ, Bool, false, not, List, All, length, map, find, is_none, Option, Some, None, Result, Ok, Err, MatchResult}
 use Rattle.std.specs.List.{list_any, position_from}
 use Rattle.std.specs.Map.{lookup}
+use Rattle.std.specs.Str.{bytes_eq}
 use Rattle.snap_core.specs.declared.program.Program.{Program}
 use Rattle.snap_dep.specs.Dependencies.{Tied}
 use Rattle.snap_topo.specs.declared.topology.Topology.{Topology}
 use Rattle.snap_topo.specs.Spells.{document, is_switch, number_of}
-use Rattle.snap_place.specs.Shape.{PlaceFault, NoVariable, Missing, NoSwitch, entries_of}
+use Rattle.snap_place.specs.declared.placement.PlaceFault.{PlaceFault}
+use Rattle.snap_place.specs.declared.placement.PlaceFault.TheVariants.{NoVariable, Missing, NoSwitch}
+use Rattle.snap_place.specs.Shape.{entries_of}
 use Rattle.snap_place.specs.Together.{IsTogether, TellsApart}
 
 -- the switch name at which a variable is placed

@@ -6,8 +6,10 @@ use Rattle.std.specs.Ordering.{nat_cmp}
 use Rattle.std.specs.Cmp.Lexicographic.{slice_cmp}
 use Rattle.std.specs.declared.cmp.Ordering.TheVariants.{Greater}
 use Rattle.snap_topo.specs.Spells.{document}
-use Rattle.snap_place.specs.Shape.{PlaceFault, NoVariable, entries_of}
+use Rattle.snap_place.specs.declared.placement.PlaceFault.{PlaceFault}
+use Rattle.snap_place.specs.declared.placement.PlaceFault.TheVariants.{NoVariable}
 use Rattle.snap_place.specs.Answer.{is_unknown}
+use Rattle.snap_place.specs.Shape.{entries_of}
 
 -- the names rise in byte order
 abbrev pub InByteOrder : List (List ℕ × List ℕ) → Type 0

@@ -1,6 +1,6 @@
 -- The text of a placement.
-use Rattle.std.specs.Prelude.{◌++◌, ◌==◌, if◌then◌else◌, ℕ, List, [], ◌∷◌, codes, decimal, map, slice_get, unwrap_or, flat_map, zip}
-use Rattle.std.specs.List.{concat, list_any}
+use Rattle.std.specs.Prelude.{◌++◌, ◌==◌, if◌then◌else◌, ℕ, List, [], ◌∷◌, codes, decimal, map, slice_get, unwrap_or}
+use Rattle.std.specs.List.{concat, flat_map, list_any, zip}
 
 -- a name as a key: in quotes where it has a dot
 abbrev pub key_text : List ℕ → List ℕ

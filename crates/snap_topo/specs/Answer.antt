@@ -1,10 +1,15 @@
 -- What is answered for a text: its first fault, or its topology.
-use Rattle.std.specs.Prelude.{Bool, ◌≡◌, ◌↔◌, ℕ, not, List, [], ◌∷◌, ◌++◌, length, map, find, Contains, Option, Some, None, if◌then◌else◌, nat_lt, Result, Ok, Err, IsOkAnd, flat_map}
+use Rattle.std.specs.Prelude.{Bool, ◌≡◌, ◌↔◌, ℕ, not, List, [], ◌∷◌, ◌++◌, length, map, find, Contains, Option, Some, None, if◌then◌else◌, nat_lt, Result, Ok, Err, IsOkAnd}
+use Rattle.std.specs.List.{flat_map}
 use Rattle.std.specs.List.Sorted.{IsStrictlySortedBy}
 pub use Rattle.snap_core.specs.declared.program.Which.{Which}
 pub use Rattle.snap_core.specs.declared.program.Which.TheVariants.{Switches, Links, Ports}
-use Rattle.snap_topo.specs.Spells.{Topology, MOST_SWITCHES, MOST_LINKS, MOST_PORTS, document, is_switch, numbered, port_at, ends, port_name, link_cmp}
-use Rattle.snap_topo.specs.Shape.{TopoFault, Limit, Twice, Unknown, Spelled, spelled}
+use Rattle.snap_topo.specs.declared.topology.Topology.{Topology}
+use Rattle.snap_topo.specs.declared.topology.TopoFault.{TopoFault}
+use Rattle.snap_topo.specs.declared.topology.TopoFault.TheVariants.{Limit, Twice, Unknown}
+use Rattle.snap_topo.specs.declared.topology.TheConstants.{MOST_SWITCHES, MOST_LINKS, MOST_PORTS}
+use Rattle.snap_topo.specs.Spells.{document, is_switch, numbered, port_at, ends, port_name, link_cmp}
+use Rattle.snap_topo.specs.Shape.{Spelled, spelled}
 
 -- the first count that passes its limit
 abbrev pub too_many : Spelled → Option (Which × ℕ)

@@ -1,9 +1,13 @@
 -- When a topology is in form.
-use Rattle.std.specs.Prelude.{ℕ, ◌<◌, ◌≤◌, length, map, All, IsTrue, bytes_eq}
+use Rattle.std.specs.Prelude.{ℕ, ◌<◌, ◌≤◌, length, map, All, IsTrue}
 use Rattle.std.specs.Ordering.{nat_cmp}
 use Rattle.std.specs.List.{IsDistinct}
 use Rattle.std.specs.List.Sorted.{IsStrictlySortedBy}
-use Rattle.snap_topo.specs.Spells.{PortAt, Topology, MOST_SWITCHES, MOST_LINKS, MOST_PORTS, link_cmp}
+use Rattle.std.specs.Str.{bytes_eq}
+use Rattle.snap_core.specs.declared.ports.PortAt.{PortAt}
+use Rattle.snap_topo.specs.declared.topology.Topology.{Topology}
+use Rattle.snap_topo.specs.declared.topology.TheConstants.{MOST_SWITCHES, MOST_LINKS, MOST_PORTS}
+use Rattle.snap_topo.specs.Spells.{link_cmp}
 use Rattle.snap_core.specs.Names.{is_switch_name}
 
 -- a link between two of n switches, the lesser first

@@ -1,5 +1,6 @@
 -- The shape of a topology's document: the names that it spells, or which part is out of shape.
-use Rattle.std.specs.Prelude.{ℕ, List, [], ◌∷◌, codes, Option, Some, None, if◌then◌else◌, option_map, Result, Ok, Err, bytes_eq}
+use Rattle.std.specs.Prelude.{ℕ, List, [], ◌∷◌, codes, Option, Some, None, if◌then◌else◌, option_map, Result, Ok, Err}
+use Rattle.std.specs.Str.{bytes_eq}
 use Rattle.toml.specs.Data.{Data, string, array, table, Items, no_items, item, Members, no_members, member, get_member}
 pub use Rattle.snap_topo.specs.declared.topology.TopoFault.{TopoFault}
 pub use Rattle.snap_topo.specs.declared.topology.TopoFault.TheVariants.{NotToml, Shape, Limit, Twice, Unknown, NoMemory}

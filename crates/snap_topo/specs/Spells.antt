@@ -1,8 +1,8 @@
 -- Which topology a text spells: its document has three keys, and what they hold. Nothing is said here of faults and their order.
-use Rattle.std.specs.Prelude.{◌≡◌, ◌↔◌, ℕ, ◌≤◌, true, false, List, [], ◌∷◌, ◌++◌, length, map, codes, Some, Contains, Option, None, if◌then◌else◌, Bool, ◌+◌, ◌&&◌, ◌==◌, is_some, fold, nat_le, nat_lt, ◌^◌, decimal, min, max, flat_map, bytes_eq}
-use Rattle.std.specs.List.{AllByRecursion, IsDistinct, list_any, position_or_len}
+use Rattle.std.specs.Prelude.{◌≡◌, ◌↔◌, ℕ, ◌≤◌, true, false, List, [], ◌∷◌, ◌++◌, length, map, codes, Some, Contains, Option, None, if◌then◌else◌, Bool, ◌+◌, ◌&&◌, ◌==◌, is_some, fold, nat_le, nat_lt, ◌^◌, decimal, min, max}
+use Rattle.std.specs.List.{AllByRecursion, IsDistinct, flat_map, list_any, position_or_len}
 use Rattle.std.specs.List.Sorted.{IsStrictlySortedBy}
-use Rattle.std.specs.Str.{is_utf8}
+use Rattle.std.specs.Str.{bytes_eq, is_utf8}
 use Rattle.std.specs.Ordering.{nat_cmp, ordering_then}
 use Rattle.std.specs.BTreeMap.{insert_entry}
 use Rattle.std.specs.Str.Parse.{digits_value}

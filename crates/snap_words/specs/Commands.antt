@@ -1,7 +1,7 @@
 -- The commands, and the words that name one.
-use Rattle.std.specs.Prelude.{ℕ, ◌||◌, Bool, true, false, List, [], ◌∷◌, codes, Option, Some, None, if◌then◌else◌, is_some, option_and_then, option_map, bytes_eq}
+use Rattle.std.specs.Prelude.{ℕ, ◌||◌, Bool, true, false, List, [], ◌∷◌, codes, Option, Some, None, if◌then◌else◌, is_some, option_and_then, option_map}
 use Rattle.std.specs.List.{list_all}
-use Rattle.std.specs.Str.{is_utf8}
+use Rattle.std.specs.Str.{bytes_eq, is_utf8}
 use Rattle.snap_words.specs.Counts.{count_of}
 use Rattle.snap_words.specs.Words.{Text, Told, hops_flag, on_demand_flag, ordered_flag, schedule_option, changes_option, workers_option, told_by}
 

@@ -1,6 +1,7 @@
 -- Numbers from 1 to 64 in words.
-use Rattle.std.specs.Prelude.{ℕ, Option, decimal, find, bytes_eq}
-use Rattle.std.specs.List.{range_with_len}
+use Rattle.std.specs.Prelude.{ℕ, Option, decimal}
+use Rattle.std.specs.List.{find, range_with_len}
+use Rattle.std.specs.Str.{bytes_eq}
 use Rattle.snap_words.specs.Words.{Text}
 
 -- the number from 1 to 64 that the text is in decimal, without a sign or a leading zero

@@ -1,7 +1,8 @@
 -- What the code's values stand for.
-use Rattle.std.specs.Prelude.{ℕ, ◌==◌, ◌&&◌, Bool, true, List, map, Option, Some, None, option_map, Vec}
+use Rattle.std.specs.Prelude.{ℕ, ◌==◌, ◌&&◌, Bool, true, List, map, Option, Some, None, option_map}
 use Rattle.std.specs.List.{ends_with, list_all, list_any}
 use Rattle.std.specs.Borrow.{Bor}
+use Rattle.std.specs.declared.vec.Vec.{Vec}
 use Rattle.std.specs.Global.{Global}
 use Rattle.snap_words.specs.Commands.{Command, Order, plain, schedule, changes, in_turn, rounds, check, compile, demo, deps, equal, obs, routes, place, trace}
 use Rattle.snap_words.specs.Words.{Flag, Text, Told, Valued, hops_flag, on_demand_flag, ordered_flag, schedule_option, changes_option, workers_option}
