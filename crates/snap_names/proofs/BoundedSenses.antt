@@ -114,6 +114,7 @@ index-length e xs = IfOk-weaker (atoms_behind e [] xs) (λ es. length es ≡ 0 +
 
 width_of-some : (r : Result Sense NameFault) → 1 ≤ width_of r
 width_of-some (Err f) = omega arith
+width_of-some (Ok (Plain i)) = omega arith
 width_of-some _ = omega arith
 
 value_width-some : (e : Words) (x : Value) → 1 ≤ value_width e x

@@ -10,4 +10,5 @@ IsPart-later p all later n part e h = record { is_test = h.is_test; weight = h.w
 pub IsPartOf-later : (p : Option CorePolicy) (all later n : ℕ) (part : Option Part) → capped later ≡ capped (all + n) → IsPartOf p all part → IsPartOf p later part
 IsPartOf-later None all later n (Some part) e h = h
 IsPartOf-later (Some p) all later n (Some part) e h = IsPart-later p all later n part e h
-IsPartOf-later _ all later n None e h = h
+IsPartOf-later None all later n None e h = h
+IsPartOf-later (Some p) all later n None e h = h

@@ -66,7 +66,8 @@ lookup_put q k p (e ∷ es) =
     swapped : (a b : Bool) (x y : List ℕ) (o : Option (List ℕ)) → (a ≡ true → b ≡ true → ⊥) → cond a (Some y) (cond b (Some x) o) ≡ cond b (Some x) (cond a (Some y) o)
     swapped true true x y o h = absurd (h refl refl)
     swapped false true x y o h = refl
-    swapped _ false x y o h = refl
+    swapped true false x y o h = refl
+    swapped false false x y o h = refl
 
 get_node-lookup : (k : List ℕ) (es : List Entry) → get_node k (nodes_of es) ≡ option_map (λ p. value (string p)) (lookup (bytes_eq k) es)
 get_node-lookup k [] = refl

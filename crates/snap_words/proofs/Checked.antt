@@ -129,4 +129,5 @@ wait_alike o w ws t alike (refused_case is met bad) = rw met (value_bad t o w ws
 pub tell-read : (ws : List Text) (waits : Option Valued) (t : Told) → option_and_then checked (tell ws waits t) ≡ option_and_then checked (read ws waits t)
 tell-read (w ∷ ws) None t = word_alike w ws t (tell-read ws) (cases w)
 tell-read (w ∷ ws) (Some o) t = wait_alike o w ws t (tell-read ws) (cases w)
-tell-read [] _ t = refl
+tell-read [] None t = refl
+tell-read [] (Some o) t = refl

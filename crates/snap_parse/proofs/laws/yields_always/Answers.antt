@@ -18,7 +18,8 @@ never_short limit end [] (go st) e = absurd (cc)
 never_short limit end [] stuck e = absurd (cc)
 never_short limit end (t ∷ ts) (go st) e = short_go (run limit end st ts) t.from (nat_le (state_depth st) limit) (never_short limit end ts (step st (front ts))) e
 never_short limit end (t ∷ ts) stuck e = absurd (cc)
-never_short limit end _ (done p) e = absurd (cc)
+never_short limit end [] (done p) e = absurd (cc)
+never_short limit end (t ∷ ts) (done p) e = absurd (cc)
 
 yielded : (limit end : ℕ) (ts : List Token) (a : Result SourceTree ParseFault) → run limit end (at_decl []) ts ≡ a → (b : Result SourceTree ParseFault) × Yields limit end ts b
 yielded limit end ts (Ok s) e = (Ok s, ok_derives limit end ts s e)
