@@ -1,16 +1,12 @@
 -- Groups and dots.
-use Rattle.std.proofs.Common.{◌≡◌, ◌≢◌, ℕ, zero, suc, ◌+◌, ◌-◌, ◌<◌, ◌≤◌, List, [], ◌∷◌, ◌++◌, length, true, false, ap, sym, ◌∙◌, subst, take, drop, arith, refl, get_or, length-append, length-take}
-use Rattle.std.specs.Prelude.{Bool, ◌&&◌, Option, None, MatchOption, IsTrue, ◌↔◌}
+use Rattle.std.proofs.Common.{◌≡◌, ◌≢◌, ℕ, zero, suc, ◌+◌, ◌-◌, ◌<◌, ◌≤◌, List, [], ◌∷◌, ◌++◌, length, true, false, ap, sym, ◌∙◌, subst, take, drop, arith, refl, get_or, true≢false, length-append, length-take, Bool, ◌&&◌, Option, None, MatchOption, IsTrue, ◌↔◌}
 use Rattle.std.proofs.Math.Seq.{get_or-append_seam}
-use Rattle.std.proofs.lemmas.Bool.{and_parts}
+use Rattle.std.proofs.lemmas.Bool.{and_parts, false≢true}
 use Rattle.std.proofs.lemmas.List.{get_or-take}
 use Rattle.snap_lex.specs.Lexemes.{AreDigits, is_group, HasDots, last_group, next_group, IsAddress, is_digit}
 
 digit_no_dot : (b : ℕ) → is_digit b ≡ true → b ≢ 46
-digit_no_dot b x y = no (sym x ∙ ap is_digit y)
-  where
-    no : true ≡ false → ⊥
-    no e = cc
+digit_no_dot b x y = true≢false (sym x ∙ ap is_digit y)
 
 abbrev pub NoDot : List ℕ → Type 0
 NoDot [] = Unit {0}
@@ -37,10 +33,7 @@ one_split (a ∷ g) (b ∷ h) r s x y e =
     let first : a ≡ b = cc in
     let tails : g ++ 46 ∷ r ≡ h ++ 46 ∷ s = cc in
     let more = one_split g h r s x.1 y.1 tails in
-    record { groups = cc_of first more.groups; rests = more.rests }
-  where
-    cc_of : a ≡ b → g ≡ h → a ∷ g ≡ b ∷ h
-    cc_of p q = cc
+    record { groups = cc (first, more.groups); rests = more.rests }
 
 no_dot_below : (xs : List ℕ) (n : ℕ) → ((j : ℕ) → j < n → get_or xs j 0 ≢ 46) → NoDot (take n xs)
 no_dot_below xs zero h = tt
@@ -64,10 +57,7 @@ pub other_group : (bytes : List ℕ) (dot : ℕ) → dot < length bytes → get_
     is_group (take dot bytes) ≡ false → (group rest : List ℕ) → is_group group ≡ true → bytes ≡ group ++ 46 ∷ rest → ⊥
 other_group bytes dot below is first none group rest right e =
     let same = one_split group (take dot bytes) rest _ (group_no_dot group right) (no_dot_below bytes dot first) (sym e ∙ at_dot bytes dot below is) in
-    never (sym none ∙ (ap is_group (sym same.groups) ∙ right))
-  where
-    never : false ≡ true → ⊥
-    never e = cc
+    false≢true (sym none ∙ (ap is_group (sym same.groups) ∙ right))
 
 pub this_group : (bytes : List ℕ) (dot : ℕ) → dot < length bytes → get_or bytes dot 0 ≡ 46 → is_group (take dot bytes) ≡ true →
     (group : List ℕ) × (is_group group ≡ true) × (bytes ≡ group ++ 46 ∷ drop (dot + 1) bytes)

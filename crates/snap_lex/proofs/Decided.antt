@@ -2,6 +2,7 @@
 use Rattle.std.proofs.Common.{◌≡◌, ℕ, zero, suc, ◌<◌, ◌≤◌, ◌⊎◌, List, [], ◌∷◌, Bool, true, false, refl, subst, inl, inr, arith}
 use Rattle.std.proofs.Math.Decide.{map_dec, ℕ_discrete}
 use Rattle.std.proofs.lemmas.Bool.{cases_lt}
+use Rattle.snap_lex.proofs.Forms.{OfEach}
 
 pub both : {P Q : Type 0} → Dec P → Dec Q → Dec (P × Q)
 both (yes h) (yes k) = yes (h, k)
@@ -64,17 +65,12 @@ module _ (P : ℕ → Type 0) where
   find decide zero = begin (decide zero)
   find decide (suc most) = next most (decide (suc most)) (find decide most)
 
--- it holds of none of these
-abbrev pub NoneOf : {A : Type 0} → (A → Type 0) → List A → Type 0
-NoneOf P [] = Unit {0}
-NoneOf P (x ∷ xs) = (P x → ⊥) × NoneOf P xs
-
 -- one of these of which it holds, or it holds of none
-pub tried : {A : Type 0} (P : A → Type 0) → ((x : A) → Dec (P x)) → (xs : List A) → ((x : A) × P x) ⊎ NoneOf P xs
+pub tried : {A : Type 0} (P : A → Type 0) → ((x : A) → Dec (P x)) → (xs : List A) → ((x : A) × P x) ⊎ OfEach (λ x. P x → ⊥) xs
 tried P decide [] = inr tt
 tried P decide (x ∷ xs) = first (decide x) (tried P decide xs)
   where
-    first : Dec (P x) → ((y : _) × P y) ⊎ NoneOf P xs → ((y : _) × P y) ⊎ NoneOf P (x ∷ xs)
+    first : Dec (P x) → ((y : _) × P y) ⊎ OfEach (λ x. P x → ⊥) xs → ((y : _) × P y) ⊎ OfEach (λ x. P x → ⊥) (x ∷ xs)
     first (yes h) more = inl (x, h)
     first (no f) (inl y) = inl y
     first (no f) (inr others) = inr (f, others)

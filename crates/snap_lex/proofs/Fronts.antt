@@ -1,60 +1,11 @@
 -- Of bytes one can tell what token begins with them.
-use Rattle.std.proofs.Common.{◌≡◌, ◌≢◌, ℕ, zero, suc, ◌+◌, ◌-◌, ◌<◌, ◌≤◌, ◌⊎◌, List, [], ◌∷◌, length, Bool, true, false, refl, sym, subst, take, drop, inl, inr, arith, get_or}
-use Rattle.std.specs.Prelude.{slice_index}
-use Rattle.snap_lex.specs.declared.Kind.{Kind}
-use Rattle.snap_lex.specs.declared.Kind.TheVariants as kinds
-use Rattle.snap_lex.specs.declared.Key.{Key}
-use Rattle.snap_lex.specs.declared.Key.TheVariants as keys
-use Rattle.snap_lex.specs.declared.Sign.{Sign}
-use Rattle.snap_lex.specs.declared.Sign.TheVariants as signs
-use Rattle.snap_lex.specs.Lexemes.{IsWord, IsFigure, IsSign, HasForm, as_word, as_figure, as_sign, IsLexeme, a_name, a_key, a_number, an_address, a_sign, IsLongest, AreDigits, key_text, sign_text, is_group, HasDots, last_group, is_blank, is_digit, is_letter, is_part, is_joint, is_figure_part}
+use Rattle.std.proofs.Common.{◌≡◌, ◌≢◌, ℕ, zero, suc, ◌+◌, ◌-◌, ◌<◌, ◌≤◌, ◌⊎◌, List, [], ◌∷◌, length, Bool, true, false, refl, sym, subst, take, drop, inl, inr, arith, get_or, slice_index}
+use Rattle.snap_lex.specs.Lexemes.{Kind, Key, Sign, IsWord, IsFigure, IsSign, HasForm, as_word, as_figure, as_sign, IsLexeme, a_name, a_key, a_number, an_address, a_sign, IsLongest, AreDigits, key_text, sign_text, is_group, HasDots, last_group, is_blank, is_digit, is_letter, is_part, is_joint, is_figure_part}
 use Rattle.snap_lex.proofs.Addresses.{no_group, other_group, this_group, dots_none, dots_behind, dots_before, dots_never}
 use Rattle.std.proofs.Math.Decide.{map_dec, dec_le, dec_lt, ℕ_discrete}
-use Rattle.snap_lex.proofs.Decided.{both, either, is_true, same_text, all_below, Greatest, greatest, none, find, NoneOf, tried}
-use Rattle.snap_lex.proofs.Forms.{sign_some, sign_within}
+use Rattle.snap_lex.proofs.Decided.{both, either, is_true, same_text, all_below, Greatest, greatest, none, find, tried}
+use Rattle.snap_lex.proofs.Forms.{OfEach, all_signs, all_keys, each_sign, each_key, sign_some, sign_within}
 use Rattle.snap_lex.proofs.Unique.{IsStop, at_bad_byte, at_bad_number}
-
-all_signs : List Sign
-all_signs = signs.PlusPlus ∷ signs.MinusMinus ∷ signs.Arrow ∷ signs.OpenSquare ∷ signs.CloseSquare ∷ signs.OpenRound ∷ signs.CloseRound ∷ signs.OpenCurly ∷ signs.CloseCurly ∷ signs.Equals ∷ signs.Not ∷ signs.And ∷ signs.Or ∷ signs.Plus ∷ signs.Semicolon ∷ signs.Slash ∷ signs.PlusEquals ∷ signs.MinusEquals ∷ []
-
-all_keys : List Key
-all_keys = keys.Field ∷ keys.Array ∷ keys.Const ∷ keys.Let ∷ keys.If ∷ keys.Then ∷ keys.Else ∷ keys.Id ∷ keys.Drop ∷ keys.Atomic ∷ keys.True ∷ keys.False ∷ []
-
-no_sign : (P : Sign → Type 0) → NoneOf P all_signs → (sign : Sign) → P sign → ⊥
-unfolding all_signs
-no_sign P h signs.PlusPlus k = h.0 k
-no_sign P h signs.MinusMinus k = h.1.0 k
-no_sign P h signs.Arrow k = h.1.1.0 k
-no_sign P h signs.OpenSquare k = h.1.1.1.0 k
-no_sign P h signs.CloseSquare k = h.1.1.1.1.0 k
-no_sign P h signs.OpenRound k = h.1.1.1.1.1.0 k
-no_sign P h signs.CloseRound k = h.1.1.1.1.1.1.0 k
-no_sign P h signs.OpenCurly k = h.1.1.1.1.1.1.1.0 k
-no_sign P h signs.CloseCurly k = h.1.1.1.1.1.1.1.1.0 k
-no_sign P h signs.Equals k = h.1.1.1.1.1.1.1.1.1.0 k
-no_sign P h signs.Not k = h.1.1.1.1.1.1.1.1.1.1.0 k
-no_sign P h signs.And k = h.1.1.1.1.1.1.1.1.1.1.1.0 k
-no_sign P h signs.Or k = h.1.1.1.1.1.1.1.1.1.1.1.1.0 k
-no_sign P h signs.Plus k = h.1.1.1.1.1.1.1.1.1.1.1.1.1.0 k
-no_sign P h signs.Semicolon k = h.1.1.1.1.1.1.1.1.1.1.1.1.1.1.0 k
-no_sign P h signs.Slash k = h.1.1.1.1.1.1.1.1.1.1.1.1.1.1.1.0 k
-no_sign P h signs.PlusEquals k = h.1.1.1.1.1.1.1.1.1.1.1.1.1.1.1.1.0 k
-no_sign P h signs.MinusEquals k = h.1.1.1.1.1.1.1.1.1.1.1.1.1.1.1.1.1.0 k
-
-no_key : (P : Key → Type 0) → NoneOf P all_keys → (key : Key) → P key → ⊥
-unfolding all_keys
-no_key P h keys.Field k = h.0 k
-no_key P h keys.Array k = h.1.0 k
-no_key P h keys.Const k = h.1.1.0 k
-no_key P h keys.Let k = h.1.1.1.0 k
-no_key P h keys.If k = h.1.1.1.1.0 k
-no_key P h keys.Then k = h.1.1.1.1.1.0 k
-no_key P h keys.Else k = h.1.1.1.1.1.1.0 k
-no_key P h keys.Id k = h.1.1.1.1.1.1.1.0 k
-no_key P h keys.Drop k = h.1.1.1.1.1.1.1.1.0 k
-no_key P h keys.Atomic k = h.1.1.1.1.1.1.1.1.1.0 k
-no_key P h keys.True k = h.1.1.1.1.1.1.1.1.1.1.0 k
-no_key P h keys.False k = h.1.1.1.1.1.1.1.1.1.1.1.0 k
 
 -- where the first dot stands, or there is none
 abbrev Dot : List ℕ → Type 0
@@ -118,15 +69,15 @@ module _ (bytes : List ℕ) where
   is_sign n sign =
       map_dec (λ h. record { text = h.0; size = h.1 }) (λ s. (s.text, s.size)) (both (same_text (take n bytes) (sign_text sign)) (ℕ_discrete n (length (sign_text sign))))
 
-  refused : (n : ℕ) → (IsWord bytes n → ⊥) → (IsFigure bytes n → ⊥) → NoneOf (λ s. IsSign s bytes n) all_signs → HasForm bytes n → ⊥
+  refused : (n : ℕ) → (IsWord bytes n → ⊥) → (IsFigure bytes n → ⊥) → OfEach (λ s. IsSign s bytes n → ⊥) all_signs → HasForm bytes n → ⊥
   refused n words figures others (as_word w) = words w
   refused n words figures others (as_figure f) = figures f
-  refused n words figures others (as_sign sign h) = no_sign (λ s. IsSign s bytes n) others sign h
+  refused n words figures others (as_sign sign h) = each_sign (λ s. IsSign s bytes n → ⊥) others sign h
 
   has_form : (n : ℕ) → Dec (HasForm bytes n)
   has_form n = told (is_word n) (is_figure n) (tried (λ s. IsSign s bytes n) (is_sign n) all_signs)
     where
-      told : Dec (IsWord bytes n) → Dec (IsFigure bytes n) → ((s : Sign) × IsSign s bytes n) ⊎ NoneOf (λ s. IsSign s bytes n) all_signs → Dec (HasForm bytes n)
+      told : Dec (IsWord bytes n) → Dec (IsFigure bytes n) → ((s : Sign) × IsSign s bytes n) ⊎ OfEach (λ s. IsSign s bytes n → ⊥) all_signs → Dec (HasForm bytes n)
       told (yes w) f s = yes (as_word w)
       told (no words) (yes f) s = yes (as_figure f)
       told (no words) (no figures) (inl s) = yes (as_sign s.0 s.1)
@@ -142,19 +93,19 @@ module _ (bytes : List ℕ) where
     a_token : (n : ℕ) (kind : Kind) → 0 < n → n ≤ length bytes → IsLexeme bytes n kind → IsLongest bytes n → Front
     no_token : IsStop bytes → Front
 
-  of_word : (n : ℕ) → IsWord bytes n → IsLongest bytes n → ((key : Key) × (take n bytes ≡ key_text key)) ⊎ NoneOf (λ key. take n bytes ≡ key_text key) all_keys → Front
-  of_word n w most (inl x) = a_token n (kinds.Key x.0) w.some w.within (a_key x.0 w x.1) most
-  of_word n w most (inr others) = a_token n kinds.Word w.some w.within (a_name w (no_key (λ key. take n bytes ≡ key_text key) others)) most
+  of_word : (n : ℕ) → IsWord bytes n → IsLongest bytes n → ((key : Key) × (take n bytes ≡ key_text key)) ⊎ OfEach (λ key. take n bytes ≡ key_text key → ⊥) all_keys → Front
+  of_word n w most (inl x) = a_token n (Kind.Key x.0) w.some w.within (a_key x.0 w x.1) most
+  of_word n w most (inr others) = a_token n Kind.Word w.some w.within (a_name w (each_key (λ key. take n bytes ≡ key_text key → ⊥) others)) most
 
   of_figure : (n : ℕ) → IsFigure bytes n → IsLongest bytes n → Dec (AreDigits bytes n) → Dec (HasDots 3 (take n bytes)) → Front
-  of_figure n f most (yes digits) dots = a_token n kinds.Number f.some f.within (a_number f digits) most
-  of_figure n f most (no others) (yes dots) = a_token n kinds.Address f.some f.within (an_address f dots) most
+  of_figure n f most (yes digits) dots = a_token n Kind.Number f.some f.within (a_number f digits) most
+  of_figure n f most (no others) (yes dots) = a_token n Kind.Address f.some f.within (an_address f dots) most
   of_figure n f most (no others) (no never) = no_token (at_bad_number (record { size = n; figure = f; longest = most; no_number = others; no_address = never }))
 
   of_form : (n : ℕ) → HasForm bytes n → IsLongest bytes n → Front
   of_form n (as_word w) most = of_word n w most (tried (λ key. take n bytes ≡ key_text key) (λ key. same_text (take n bytes) (key_text key)) all_keys)
   of_form n (as_figure f) most = of_figure n f most (all_below (λ i. is_digit (slice_index bytes i) ≡ true) (λ i. is_true (is_digit (slice_index bytes i))) n) (has_dots 3 (take n bytes))
-  of_form n (as_sign sign h) most = a_token n (kinds.Sign sign) (sign_some sign bytes n h) (sign_within sign bytes n h) (a_sign sign h) most
+  of_form n (as_sign sign h) most = a_token n (Kind.Sign sign) (sign_some sign bytes n h) (sign_within sign bytes n h) (a_sign sign h) most
 
   pub front : 0 < length bytes → is_blank (slice_index bytes 0) ≡ false → slice_index bytes 0 ≢ 35 → Front
   front some no_blank no_comment = told (find (λ n. HasForm bytes n) has_form (length bytes))

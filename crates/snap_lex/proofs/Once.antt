@@ -1,10 +1,7 @@
 -- A text is read in one way.
 use Rattle.std.proofs.Common.{◌≡◌, ℕ, List, [], length, Result, Ok, Err, refl, sym, ap, subst, arith}
-use Rattle.snap_lex.specs.declared.Token.{Token}
-use Rattle.snap_lex.specs.declared.LexFault.{LexFault}
-use Rattle.snap_lex.specs.declared.LexFault.TheVariants.{BadByte, BadNumber, NoMemory}
-use Rattle.snap_lex.specs.Lexemes.{SpellsTokens, IsBadByte, IsBadNumber, BeginsNothing, BeginsNoNumber, IsFigure, as_figure}
-use Rattle.snap_lex.specs.Laws.{Finds}
+use Rattle.snap_lex.specs.Lexemes.{Token, SpellsTokens, IsBadByte, IsBadNumber, BeginsNothing, BeginsNoNumber, IsFigure, as_figure}
+use Rattle.snap_lex.specs.Laws.{LexFault, BadByte, BadNumber, NoMemory, Finds}
 use Rattle.snap_lex.proofs.Unique.{at_the_end, at_bad_byte, at_bad_number, same_stop}
 
 no_bad_byte : (rest : List ℕ) → [] ≡ rest → BeginsNothing rest → ⊥

@@ -1,10 +1,7 @@
 -- In a text something is found: its tokens, or a bad byte, or a bad number.
 use Rattle.std.proofs.Common.{◌≡◌, ◌≢◌, ℕ, zero, suc, ◌+◌, ◌<◌, ◌≤◌, List, [], ◌∷◌, length, Bool, true, false, Result, Ok, Err, refl, ap, subst, drop, arith, length-drop, get_or}
-use Rattle.snap_lex.specs.declared.Token.{Token}
-use Rattle.snap_lex.specs.declared.LexFault.{LexFault}
-use Rattle.snap_lex.specs.declared.LexFault.TheVariants.{BadByte, BadNumber}
-use Rattle.snap_lex.specs.Lexemes.{IsComment, Spells, spells_nothing, spells_blank, spells_comment, spells_token, is_blank}
-use Rattle.snap_lex.specs.Laws.{Finds}
+use Rattle.snap_lex.specs.Lexemes.{Token, IsComment, Spells, spells_nothing, spells_blank, spells_comment, spells_token, is_blank}
+use Rattle.snap_lex.specs.Laws.{LexFault, BadByte, BadNumber, Finds}
 use Rattle.std.proofs.Math.Decide.{ℕ_discrete}
 use Rattle.snap_lex.proofs.Fronts.{Front, a_token, no_token, front}
 use Rattle.snap_lex.proofs.Unique.{IsStop, at_the_end, at_bad_byte, at_bad_number}

@@ -1,72 +1,20 @@
 -- Of two spellings of one text one goes on where the other stops.
-use Rattle.std.proofs.Common.{◌≡◌, ℕ, ◌+◌, ◌*◌, ◌<◌, ◌≤◌, List, [], ◌∷◌, ◌++◌, length, true, false, ap, sym, ◌∙◌, subst, take, drop, inl, inr, arith, refl, append-nil}
-use Rattle.std.specs.Prelude.{slice_index}
+use Rattle.std.proofs.Common.{◌≡◌, ℕ, ◌+◌, ◌<◌, ◌≤◌, List, [], ◌∷◌, ◌++◌, length, true, ap, sym, ◌∙◌, subst, take, drop, inl, inr, arith, refl, append-nil, true≢false, slice_index}
 use Rattle.std.proofs.lemmas.Bool.{cases_lt}
 use Rattle.std.proofs.lemmas.Bool.Decides.{nat_tests}
-use Rattle.snap_lex.specs.declared.Token.{Token}
-use Rattle.snap_lex.specs.declared.Kind.{Kind}
-use Rattle.snap_lex.specs.declared.Kind.TheVariants as kinds
-use Rattle.snap_lex.specs.declared.Key.{Key}
-use Rattle.snap_lex.specs.declared.Key.TheVariants as keys
-use Rattle.snap_lex.specs.declared.Sign.{Sign}
-use Rattle.snap_lex.specs.declared.Sign.TheVariants as signs
-use Rattle.snap_lex.specs.Lexemes.{IsWord, IsFigure, IsSign, HasForm, as_word, as_figure, as_sign, IsLexeme, a_name, a_key, a_number, an_address, a_sign, IsLongest, IsComment, Spells, spells_nothing, spells_blank, spells_comment, spells_token, BeginsNothing, BeginsNoNumber, AreDigits, key_text, sign_text, IsAddress, is_blank, is_letter, is_digit}
+use Rattle.snap_lex.specs.Lexemes.{Token, Kind, Key, Sign, IsWord, IsFigure, IsSign, HasForm, as_word, as_figure, as_sign, IsLexeme, a_name, a_key, a_number, an_address, a_sign, IsLongest, IsComment, Spells, spells_nothing, spells_blank, spells_comment, spells_token, BeginsNothing, BeginsNoNumber, AreDigits, IsAddress, is_blank, is_letter, is_digit}
 use Rattle.snap_lex.proofs.Addresses.{no_address_of_digits}
-use Rattle.snap_lex.proofs.Forms.{letter_no_digit, sign_no_letter, sign_no_digit, sign_no_blank, sign_no_comment, sign_some, sign_within}
-
--- a number for each text
-abbrev text_code : List ℕ → ℕ
-text_code [] = 0
-text_code (b ∷ bs) = b + 256 * text_code bs
-
-key_same : (a b : Key) → key_text a ≡ key_text b → a ≡ b
-key_same keys.Field keys.Field e = refl
-key_same keys.Array keys.Array e = refl
-key_same keys.Const keys.Const e = refl
-key_same keys.Let keys.Let e = refl
-key_same keys.If keys.If e = refl
-key_same keys.Then keys.Then e = refl
-key_same keys.Else keys.Else e = refl
-key_same keys.Id keys.Id e = refl
-key_same keys.Drop keys.Drop e = refl
-key_same keys.Atomic keys.Atomic e = refl
-key_same keys.True keys.True e = refl
-key_same keys.False keys.False e = refl
-key_same _ _ e = absurd (omega (arith, ap text_code e))
-
-sign_same : (a b : Sign) → sign_text a ≡ sign_text b → a ≡ b
-sign_same signs.PlusPlus signs.PlusPlus e = refl
-sign_same signs.MinusMinus signs.MinusMinus e = refl
-sign_same signs.Arrow signs.Arrow e = refl
-sign_same signs.OpenSquare signs.OpenSquare e = refl
-sign_same signs.CloseSquare signs.CloseSquare e = refl
-sign_same signs.OpenRound signs.OpenRound e = refl
-sign_same signs.CloseRound signs.CloseRound e = refl
-sign_same signs.OpenCurly signs.OpenCurly e = refl
-sign_same signs.CloseCurly signs.CloseCurly e = refl
-sign_same signs.Equals signs.Equals e = refl
-sign_same signs.Not signs.Not e = refl
-sign_same signs.And signs.And e = refl
-sign_same signs.Or signs.Or e = refl
-sign_same signs.Plus signs.Plus e = refl
-sign_same signs.Semicolon signs.Semicolon e = refl
-sign_same signs.Slash signs.Slash e = refl
-sign_same signs.PlusEquals signs.PlusEquals e = refl
-sign_same signs.MinusEquals signs.MinusEquals e = refl
-sign_same _ _ e = absurd (omega (arith, ap text_code e))
-
-differ : true ≡ false → ⊥
-differ e = cc
+use Rattle.snap_lex.proofs.Forms.{key_same, sign_same, letter_no_digit, sign_no_letter, sign_no_digit, sign_no_blank, sign_no_comment, sign_some, sign_within}
 
 -- a word, a figure and a sign are three things
 word_no_figure : (bytes : List ℕ) (n : ℕ) → IsWord bytes n → IsFigure bytes n → ⊥
 word_no_figure bytes n w f = letter_no_digit (slice_index bytes 0) w.first f.first
 
 word_no_sign : (sign : Sign) (bytes : List ℕ) (n : ℕ) → IsWord bytes n → IsSign sign bytes n → ⊥
-word_no_sign sign bytes n w h = differ (sym w.first ∙ sign_no_letter sign bytes n h)
+word_no_sign sign bytes n w h = true≢false (sym w.first ∙ sign_no_letter sign bytes n h)
 
 figure_no_sign : (sign : Sign) (bytes : List ℕ) (n : ℕ) → IsFigure bytes n → IsSign sign bytes n → ⊥
-figure_no_sign sign bytes n f h = differ (sym f.first ∙ sign_no_digit sign bytes n h)
+figure_no_sign sign bytes n f h = true≢false (sym f.first ∙ sign_no_digit sign bytes n h)
 
 -- one kind at most
 kind_same : (bytes : List ℕ) (n : ℕ) (a b : Kind) → IsLexeme bytes n a → IsLexeme bytes n b → a ≡ b
@@ -76,7 +24,7 @@ kind_same bytes n a b (a_name w none) (a_number g others) = absurd (word_no_figu
 kind_same bytes n a b (a_name w none) (an_address g dots) = absurd (word_no_figure bytes n w g)
 kind_same bytes n a b (a_name w none) (a_sign sign2 g) = absurd (word_no_sign sign2 bytes n w g)
 kind_same bytes n a b (a_key key w is) (a_name v other) = absurd (other key is)
-kind_same bytes n a b (a_key key w is) (a_key key2 v was) = ap kinds.Key (key_same key key2 (sym is ∙ was))
+kind_same bytes n a b (a_key key w is) (a_key key2 v was) = ap Kind.Key (key_same key key2 (sym is ∙ was))
 kind_same bytes n a b (a_key key w is) (a_number g others) = absurd (word_no_figure bytes n w g)
 kind_same bytes n a b (a_key key w is) (an_address g dots) = absurd (word_no_figure bytes n w g)
 kind_same bytes n a b (a_key key w is) (a_sign sign2 g) = absurd (word_no_sign sign2 bytes n w g)
@@ -94,7 +42,7 @@ kind_same bytes n a b (a_sign sign h) (a_name v other) = absurd (word_no_sign si
 kind_same bytes n a b (a_sign sign h) (a_key key2 v was) = absurd (word_no_sign sign bytes n v h)
 kind_same bytes n a b (a_sign sign h) (a_number g others) = absurd (figure_no_sign sign bytes n g h)
 kind_same bytes n a b (a_sign sign h) (an_address g dots) = absurd (figure_no_sign sign bytes n g h)
-kind_same bytes n a b (a_sign sign h) (a_sign sign2 g) = ap kinds.Sign (sign_same sign sign2 (sym h.text ∙ g.text))
+kind_same bytes n a b (a_sign sign h) (a_sign sign2 g) = ap Kind.Sign (sign_same sign sign2 (sym h.text ∙ g.text))
 
 -- a token has a form
 pub form_of : (bytes : List ℕ) (n : ℕ) (kind : Kind) → IsLexeme bytes n kind → HasForm bytes n
@@ -111,15 +59,15 @@ digit_no_blank : (b : ℕ) → is_digit b ≡ true → is_blank b ≡ true → �
 digit_no_blank b x y = grind (arith, nat_tests)
 
 letter_no_comment : (b : ℕ) → is_letter b ≡ true → b ≡ 35 → ⊥
-letter_no_comment b x y = differ (sym x ∙ ap is_letter y)
+letter_no_comment b x y = true≢false (sym x ∙ ap is_letter y)
 
 digit_no_comment : (b : ℕ) → is_digit b ≡ true → b ≡ 35 → ⊥
-digit_no_comment b x y = differ (sym x ∙ ap is_digit y)
+digit_no_comment b x y = true≢false (sym x ∙ ap is_digit y)
 
 no_blank_form : (bytes : List ℕ) (n : ℕ) → HasForm bytes n → is_blank (slice_index bytes 0) ≡ true → ⊥
 no_blank_form bytes n (as_word w) is = letter_no_blank (slice_index bytes 0) w.first is
 no_blank_form bytes n (as_figure f) is = digit_no_blank (slice_index bytes 0) f.first is
-no_blank_form bytes n (as_sign sign h) is = differ (sym is ∙ sign_no_blank sign bytes n h)
+no_blank_form bytes n (as_sign sign h) is = true≢false (sym is ∙ sign_no_blank sign bytes n h)
 
 no_comment_form : (bytes : List ℕ) (n : ℕ) → HasForm bytes n → slice_index bytes 0 ≡ 35 → ⊥
 no_comment_form bytes n (as_word w) is = letter_no_comment (slice_index bytes 0) w.first is
@@ -127,7 +75,7 @@ no_comment_form bytes n (as_figure f) is = digit_no_comment (slice_index bytes 0
 no_comment_form bytes n (as_sign sign h) is = sign_no_comment sign bytes n h is
 
 no_blank_comment : (b : ℕ) → is_blank b ≡ true → b ≡ 35 → ⊥
-no_blank_comment b x y = differ (sym x ∙ ap is_blank y)
+no_blank_comment b x y = true≢false (sym x ∙ ap is_blank y)
 
 comment_least : (bytes : List ℕ) (n m : ℕ) → IsComment bytes n → IsComment bytes m → m ≤ n
 comment_least bytes n m a b = elim (cases_lt n m) [ inl below ↦ absurd (b.inside n below (a.ends (omega (arith, b.within)))) | inr above ↦ above ]
@@ -197,7 +145,7 @@ no_token bytes n kind (at_bad_number bad) lexeme most =
 
 no_blank_here : (bytes : List ℕ) → IsStop bytes → 0 < length bytes → is_blank (slice_index bytes 0) ≡ true → ⊥
 no_blank_here bytes (at_the_end is) some blank = absurd (omega (arith, some, ap (λ x. length x) is))
-no_blank_here bytes (at_bad_byte bad) some blank = differ (sym blank ∙ bad.no_blank)
+no_blank_here bytes (at_bad_byte bad) some blank = true≢false (sym blank ∙ bad.no_blank)
 no_blank_here bytes (at_bad_number bad) some blank = digit_no_blank (slice_index bytes 0) bad.figure.first blank
 
 no_comment_here : (bytes : List ℕ) (n : ℕ) → IsStop bytes → IsComment bytes n → ⊥

@@ -1,9 +1,8 @@
 -- A text is read in one way.
 use Rattle.std.specs.Prelude.{◌≡◌, ℕ, List, Result, Ok, Err}
-use Rattle.snap_lex.specs.declared.Token.{Token}
-use Rattle.snap_lex.specs.declared.LexFault.{LexFault}
-use Rattle.snap_lex.specs.declared.LexFault.TheVariants.{BadByte, BadNumber, NoMemory}
-use Rattle.snap_lex.specs.Lexemes.{SpellsTokens, IsBadByte, IsBadNumber}
+use Rattle.snap_lex.specs.Lexemes.{Token, SpellsTokens, IsBadByte, IsBadNumber}
+pub use Rattle.snap_lex.specs.declared.LexFault.{LexFault}
+pub use Rattle.snap_lex.specs.declared.LexFault.TheVariants.{BadByte, BadNumber, NoMemory}
 
 -- what is found in a text: the tokens that it spells, or a bad byte or a bad number at its place
 abbrev pub Finds : List ℕ → Result (List Token) LexFault → Type 0

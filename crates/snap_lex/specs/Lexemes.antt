@@ -1,11 +1,11 @@
 -- Words, figures and signs, and the token list that a text spells by longest match.
 use Rattle.std.specs.Prelude.{◌≡◌, ◌≢◌, ℕ, ◌+◌, ◌<◌, ◌≤◌, ◌⊎◌, List, [], ◌∷◌, length, slice_index, take, drop, codes, true, false, suc, ◌-◌, ◌*◌, ◌++◌, Bool, nat_le, ◌&&◌, nat_eq, ◌||◌}
-use Rattle.snap_lex.specs.declared.Token.{Token}
-use Rattle.snap_lex.specs.declared.Kind.{Kind}
+pub use Rattle.snap_lex.specs.declared.Token.{Token}
+pub use Rattle.snap_lex.specs.declared.Kind.{Kind}
 use Rattle.snap_lex.specs.declared.Kind.TheVariants as kinds
-use Rattle.snap_lex.specs.declared.Key.{Key}
+pub use Rattle.snap_lex.specs.declared.Key.{Key}
 use Rattle.snap_lex.specs.declared.Key.TheVariants as keys
-use Rattle.snap_lex.specs.declared.Sign.{Sign}
+pub use Rattle.snap_lex.specs.declared.Sign.{Sign}
 use Rattle.snap_lex.specs.declared.Sign.TheVariants as signs
 
 -- space, tab, CR, LF

@@ -1,6 +1,5 @@
 -- An address of the tokens is the text of a number.
-use Rattle.std.proofs.Common.{◌≡◌, ℕ, ◌+◌, ◌-◌, ◌*◌, ◌<◌, ◌≤◌, zero, suc, cond, eqb, List, [], ◌∷◌, ◌++◌, length, refl, sym, ap, subst, ◌∙◌, inl, inr, arith}
-use Rattle.std.specs.Prelude.{Bool, true, false, ◌&&◌, Option, Some, None, is_some, IsTrue, nat_le, option_and_then, ◌⊎◌, ◌↔◌}
+use Rattle.std.proofs.Common.{◌≡◌, ℕ, ◌+◌, ◌-◌, ◌*◌, ◌<◌, ◌≤◌, zero, suc, cond, eqb, List, [], ◌∷◌, ◌++◌, length, refl, sym, ap, subst, ◌∙◌, inl, inr, arith, Bool, true, false, ◌&&◌, Option, Some, None, is_some, IsTrue, nat_le, option_and_then, ◌⊎◌, ◌↔◌}
 use Rattle.std.proofs.lemmas.Bool.{eqb-true, and_parts}
 use Rattle.std.proofs.lemmas.Bool.Decides.{nat_tests}
 use Rattle.snap_core.specs.Figures.{address_behind, address_of, address_of_parts, number_up_to, octet_of, onto_first, parts_by}
@@ -147,9 +146,8 @@ some_number-groups : (gs : List (List ℕ)) → AreGroups 3 gs → is_some (addr
 some_number-groups [] h = absurd h
 some_number-groups (a ∷ []) h = absurd h.1
 some_number-groups (a ∷ b ∷ []) h = absurd h.1.1
-some_number-groups (a ∷ b ∷ c ∷ []) h = absurd h.1.1.1
 some_number-groups (a ∷ b ∷ c ∷ d ∷ []) h = four a b c d ∙ (λ i. ((h.0 i && h.1.0 i) && h.1.1.0 i) && h.1.1.1 i)
-some_number-groups (a ∷ b ∷ c ∷ d ∷ e ∷ gs) h = absurd h.1.1.1
+some_number-groups _ h = absurd h.1.1.1
 
 pub address-number : (text : List ℕ) → IsAddress text ↔ IsTrue (is_some (address_of text))
 address-number text = (

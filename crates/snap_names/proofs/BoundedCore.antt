@@ -2,16 +2,8 @@
 -- W tells that no index is empty, as none is where a text derives the tree.
 use Rattle.std.proofs.Common.{◌≡◌, ℕ, ◌<◌, ◌≤◌, min, length, List, Some, slice_get, arith, le_refl, le_trans, lt_of_lt_of_le}
 use Rattle.std.proofs.Math.Nat.{min-le_left}
-use Rattle.snap_core.specs.declared.policy.Atom.{Atom}
-use Rattle.snap_core.specs.declared.policy.Atom.TheVariants.{Num, Comp}
-use Rattle.snap_core.specs.declared.policy.Op.{Op}
-use Rattle.snap_core.specs.declared.policy.Op.TheVariants.{Put, Add}
-use Rattle.snap_core.specs.declared.policy.Pol.{Pol}
-use Rattle.snap_core.specs.declared.policy.Pol.TheVariants.{Filter, Set, Change, Par', Seq', If', Atomic'}
-use Rattle.snap_core.specs.declared.policy.Pred.{Pred}
-use Rattle.snap_core.specs.declared.policy.Pred.TheVariants.{Id, Drop, Field, State, Not', And', Or'}
+use Rattle.snap_names.specs.Core.{Atom, Num, Comp, Op, Put, Add, Pol, Filter, Set, Change, Par', Seq', If', Atomic', Pred, Id, Drop, Field, State, Not', And', Or', CoreTest, id_test, drop_test, field_test, state_test, not_test, and_test, or_test, core_test, CorePolicy, filter, set, change, par, seq, choice, atomic, core_policy}
 use Rattle.snap_core.specs.Fits.{AtomFits, OpFits, IndexFits, PredFits, PolFits}
-use Rattle.snap_names.specs.Core.{CoreTest, id_test, drop_test, field_test, state_test, not_test, and_test, or_test, core_test, CorePolicy, filter, set, change, par, seq, choice, atomic, core_policy}
 use Rattle.snap_names.specs.Senses.{Arities}
 use Rattle.snap_names.proofs.BoundedSteps.{AllByRecursion-weaker}
 
@@ -24,13 +16,12 @@ pub record IsIndexed (W : Type 0) (v : ℕ) (seen : Arities) (s : ℕ) (es : Lis
   pub some : W → 1 ≤ length es
 
 abbrev pub TestFits : Type 0 → ℕ → ℕ → Arities → CoreTest → Type 0
-TestFits W c v seen id_test = Unit {0}
-TestFits W c v seen drop_test = Unit {0}
 TestFits W c v seen (field_test i n) = i < c
 TestFits W c v seen (state_test s es a) = IsIndexed W v seen s es × IndexFits c es × AtomFits c a
 TestFits W c v seen (not_test x) = TestFits W c v seen x
 TestFits W c v seen (and_test x y) = TestFits W c v seen x × TestFits W c v seen y
 TestFits W c v seen (or_test x y) = TestFits W c v seen x × TestFits W c v seen y
+TestFits W c v seen _ = Unit {0}
 
 abbrev pub PolicyFits : Type 0 → ℕ → ℕ → Arities → CorePolicy → Type 0
 PolicyFits W c v seen (filter x) = TestFits W c v seen x
@@ -46,13 +37,12 @@ array-below W v seen s es h = omega (arith, min-le_left h.array 65535, h.below, 
 
 -- The code's predicates and policies fit as their core forms do.
 pub PredFits-core_test : (W : Type 0) (c v : ℕ) (seen : Arities) (x : Pred) → TestFits W c v seen (core_test x) → PredFits c v x
-PredFits-core_test W c v seen Id h = tt
-PredFits-core_test W c v seen Drop h = tt
 PredFits-core_test W c v seen (Field i n) h = h
 PredFits-core_test W c v seen (State s es a) h = (array-below W v seen s es h.0, h.1, h.2)
 PredFits-core_test W c v seen (Not' _ x) h = PredFits-core_test W c v seen x h
 PredFits-core_test W c v seen (And' _ x _ y) h = (PredFits-core_test W c v seen x h.0, PredFits-core_test W c v seen y h.1)
 PredFits-core_test W c v seen (Or' _ x _ y) h = (PredFits-core_test W c v seen x h.0, PredFits-core_test W c v seen y h.1)
+PredFits-core_test W c v seen _ h = tt
 
 pub PolFits-core_policy : (W : Type 0) (c v : ℕ) (seen : Arities) (p : Pol) → PolicyFits W c v seen (core_policy p) → PolFits c v p
 PolFits-core_policy W c v seen (Filter x) h = PredFits-core_test W c v seen x h
@@ -90,13 +80,12 @@ IsIndexed-more : (W : Type 0) (v w : ℕ) (seen now : Arities) → v ≤ w → G
 IsIndexed-more W v w seen now l g s es h = record { array = h.array; below = lt_of_lt_of_le h.below l; number = h.number; arity = g.kept h.array (length es) h.arity; some = h.some }
 
 pub TestFits-more : (W : Type 0) (c d v w : ℕ) (seen now : Arities) → c ≤ d → v ≤ w → Grows seen now → (x : CoreTest) → TestFits W c v seen x → TestFits W d w now x
-TestFits-more W c d v w seen now k l g id_test h = tt
-TestFits-more W c d v w seen now k l g drop_test h = tt
 TestFits-more W c d v w seen now k l g (field_test i n) h = lt_of_lt_of_le h k
 TestFits-more W c d v w seen now k l g (state_test s es a) h = (IsIndexed-more W v w seen now l g s es h.0, IndexFits-more c d k es h.1, AtomFits-more c d k a h.2)
 TestFits-more W c d v w seen now k l g (not_test x) h = TestFits-more W c d v w seen now k l g x h
 TestFits-more W c d v w seen now k l g (and_test x y) h = (TestFits-more W c d v w seen now k l g x h.0, TestFits-more W c d v w seen now k l g y h.1)
 TestFits-more W c d v w seen now k l g (or_test x y) h = (TestFits-more W c d v w seen now k l g x h.0, TestFits-more W c d v w seen now k l g y h.1)
+TestFits-more W c d v w seen now k l g _ h = tt
 
 pub PolicyFits-more : (W : Type 0) (c d v w : ℕ) (seen now : Arities) → c ≤ d → v ≤ w → Grows seen now → (p : CorePolicy) → PolicyFits W c v seen p → PolicyFits W d w now p
 PolicyFits-more W c d v w seen now k l g (filter x) h = TestFits-more W c d v w seen now k l g x h

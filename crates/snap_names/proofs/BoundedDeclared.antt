@@ -2,22 +2,19 @@
 use Rattle.std.proofs.Common.{◌≡◌, ℕ, zero, suc, ◌+◌, ◌<◌, ◌≤◌, List, [], ◌∷◌, ◌++◌, length, slice_get, Option, None, Some, is_some, Ok, IfOk, sym, ap, ◌∙◌, arith, add_assoc, le_refl, le_trans, lt_of_le_of_lt, lt_of_lt_of_le, length-append}
 use Rattle.std.proofs.Math.Nat.{min-le_left}
 use Rattle.std.specs.List.{AllByRecursion, list_any}
-use Rattle.snap_core.specs.declared.program.Field.{Field}
+use Rattle.snap_names.specs.Declarations.{Field, Declared, ports, env_of, field_names, short, field_senses, prefix_length, with_field, with_array, with_constant, with_let, declare}
 use Rattle.snap_core.specs.Fields.{count, width}
-use Rattle.snap_parse.specs.Tree.{DeclTree, field_tree, array_tree, const_tree, let_tree}
-use Rattle.snap_names.specs.declared.scope.Sense.{Sense}
-use Rattle.snap_names.specs.declared.scope.Sense.TheVariants.{Plain, Split, Array, Constant, Policy}
-use Rattle.snap_names.specs.declared.fault.NameFault.TheVariants.{Twice}
+use Rattle.snap_parse.specs.Tree.{PolicyTree, DeclTree, field_tree, array_tree, const_tree, let_tree}
+use Rattle.snap_names.specs.Senses.{Sense, Plain, Split, Array, Constant, Policy, Twice, Arities, word, literal, is_address}
 use Rattle.snap_names.specs.Core.{CorePolicy}
-use Rattle.snap_names.specs.Senses.{Arities, word, literal, is_address}
 use Rattle.snap_names.specs.Reading.{read_policy}
-use Rattle.snap_names.specs.Declarations.{Declared, ports, env_of, field_names, short, field_senses, prefix_length, with_field, with_array, with_constant, with_let, declare}
-use Rattle.snap_names.specs.Spells.{is_known}
+use Rattle.snap_names.specs.Spells.{Scope, is_known}
 use Rattle.snap_names.proofs.BoundedCore.{PolicyFits, PolicyFits-more, Grows, Grows-same}
-use Rattle.snap_names.proofs.BoundedReading.{EnvFits, read_policy-fits}
+use Rattle.snap_names.proofs.ReadTrees.{EnvFits, Is, policy-reads}
+use Rattle.snap_names.proofs.TreeReadings.{IsPolicy}
 use Rattle.snap_names.proofs.BoundedSenses.{SenseFits, NamesFit}
 use Rattle.snap_names.proofs.BoundedSteps.{AllByRecursion-weaker, AllByRecursion-append, IfOk-after, IfOk-after_any, IfOk-unless}
-use Rattle.snap_names.proofs.Placed.{DeclWritten}
+use Rattle.snap_names.proofs.Placed.{DeclWritten, PolicyPlaced, HasSequence}
 
 -- what the names stand for, and the bodies of `let`, have no component and no array beyond those that are declared
 pub record DeclaredFits (W : Type 0) (d : Declared) : Type 0 where
@@ -33,8 +30,7 @@ SenseFits-more : (c d v w : ℕ) → c ≤ d → v ≤ w → (s : Sense) → Sen
 SenseFits-more c d v w k l (Plain i) h = lt_of_lt_of_le h k
 SenseFits-more c d v w k l (Split a b n) h = (lt_of_lt_of_le h.0 k, lt_of_lt_of_le h.1 k)
 SenseFits-more c d v w k l (Array s) h = lt_of_lt_of_le h l
-SenseFits-more c d v w k l (Constant n b) h = tt
-SenseFits-more c d v w k l (Policy i) h = tt
+SenseFits-more c d v w k l _ h = tt
 
 NamesFit-more : (c d v w : ℕ) → c ≤ d → v ≤ w → (names : List (List ℕ × Sense)) → NamesFit c v names → NamesFit d w names
 NamesFit-more c d v w k l names h = AllByRecursion-weaker (λ x. SenseFits c v x.1) (λ x. SenseFits d w x.1) (λ x. SenseFits-more c d v w k l x.1) names h
@@ -97,8 +93,19 @@ with_let-fits W d name x h k = record {
   room = le_trans h.room k.0.size;
 }
 
-pub env-fits : (W : Type 0) (text : List ℕ) (d : Declared) → DeclaredFits W d → EnvFits W (count d.fields) (length d.arrays) (env_of text d) d.arities
+env-fits : (W : Type 0) (text : List ℕ) (d : Declared) → DeclaredFits W d → EnvFits W (count d.fields) (length d.arrays) (env_of text d) d.arities
 env-fits W text d h = record { names = h.names; lets = h.lets; room = h.room }
+
+-- what is declared, as a scope
+abbrev pub scope_of : List ℕ → (ℕ → ℕ) → Declared → Scope
+scope_of text atoms d = record { text = text; atoms = atoms; fields = d.fields; arrays = d.arrays; lets = d.lets; names = d.names }
+
+-- what a policy behind declarations reads as
+abbrev pub PolicyRead : Type 0 → List ℕ → (ℕ → ℕ) → Declared → PolicyTree → CorePolicy × Arities → Type 0
+PolicyRead W text atoms d t x = Grows d.arities x.1 × Is W (count d.fields) (length d.arrays) (scope_of text atoms d) (IsPolicy (scope_of text atoms d) t) x.1 x.0
+
+pub policy-read : (W : Type 0) (text : List ℕ) (atoms : ℕ → ℕ) (d : Declared) → DeclaredFits W d → (t : PolicyTree) → (W → PolicyPlaced t × HasSequence t) → IfOk (read_policy (env_of text d) t d.arities) (PolicyRead W text atoms d t)
+policy-read W text atoms d h t w = policy-reads W (count d.fields) (length d.arrays) (scope_of text atoms d) t w d.arities (env-fits W text d h)
 
 pub declare-fits : (W : Type 0) (text : List ℕ) (d : Declared) → DeclaredFits W d → (t : DeclTree) → (W → DeclWritten text t) → IfOk (declare text d t) (DeclaredFits W)
 declare-fits W text d h (field_tree at t p) w =
@@ -110,9 +117,7 @@ declare-fits W text d h (const_tree at t l) w =
     (IfOk-after_any (DeclaredFits W) (literal text l) _ (λ n. with_constant-fits W d (word text t) n (is_address l) h))
 declare-fits W text d h (let_tree at t p) w =
     IfOk-unless (DeclaredFits W) (is_known d.names (word text t)) (Twice t.from) _
-    (IfOk-after (λ x. Grows d.arities x.1 × PolicyFits W (count d.fields) (length d.arrays) x.1 x.0) (DeclaredFits W) (read_policy (env_of text d) p d.arities) _
-    (read_policy-fits W (count d.fields) (length d.arrays) (env_of text d) p w d.arities (env-fits W text d h))
-    (λ x k. with_let-fits W d (word text t) x h k))
+    (IfOk-after (PolicyRead W text (λ i. i) d p) (DeclaredFits W) (read_policy (env_of text d) p d.arities) _ (policy-read W text (λ i. i) d h p w) (λ x k. with_let-fits W d (word text t) x h (k.0, k.1.0)))
 
 pub ports-fit : (W : Type 0) → DeclaredFits W ports
 ports-fit W = record { names = (omega arith, (omega arith, tt)); lets = tt; room = omega arith }

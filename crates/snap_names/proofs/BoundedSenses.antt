@@ -1,30 +1,20 @@
 -- What a name or a value stands for fits, where each name does.
-use Rattle.std.proofs.Common.{◌≡◌, ℕ, zero, suc, ◌+◌, ◌<◌, ◌≤◌, Bool, true, false, List, [], ◌∷◌, ◌++◌, length, Option, None, Some, Result, Ok, Err, IfOk, if◌then◌else◌, ◌==◌, slice_get, slice_set, refl, sym, ap, ◌∙◌, arith, length-append}
+use Rattle.std.proofs.Common.{◌≡◌, ℕ, zero, suc, ◌+◌, ◌<◌, ◌≤◌, Bool, true, false, List, [], ◌∷◌, ◌++◌, length, Option, None, Some, Result, Ok, Err, IfOk, if◌then◌else◌, ◌==◌, slice_get, slice_set, refl, sym, ap, ◌∙◌, arith, length-append, bytes_eq}
 use Rattle.std.proofs.lemmas.Bool.{eqb-true}
 use Rattle.std.proofs.lemmas.Result.{IfOk-weaker}
 use Rattle.std.specs.List.{AllByRecursion}
-use Rattle.std.specs.Str.{bytes_eq}
-use Rattle.snap_core.specs.declared.policy.Atom.{Atom}
-use Rattle.snap_core.specs.declared.policy.Atom.TheVariants.{Comp}
+use Rattle.snap_names.specs.Core.{Atom, Comp}
 use Rattle.snap_core.specs.Fits.{AtomFits, IndexFits}
-use Rattle.snap_parse.specs.declared.tree.Span.{Span}
-use Rattle.snap_parse.specs.declared.tree.Value.{Value}
-use Rattle.snap_parse.specs.declared.tree.Value.TheVariants as values
-use Rattle.snap_names.specs.declared.scope.Sense.{Sense}
-use Rattle.snap_names.specs.declared.scope.Sense.TheVariants.{Plain, Split, Array, Constant, Policy}
-use Rattle.snap_names.specs.declared.fault.NameFault.{NameFault}
-use Rattle.snap_names.specs.declared.fault.NameFault.TheVariants.{Unknown, Kind, Arity}
-use Rattle.snap_names.specs.Senses.{Words, Arities, Place, after, word, sense_of, literal, constant, atom_of, field_atom, array_atom, address_literal, split_of_sense, split_atoms, split_address, split_net, split_test, test_of_sense, field_equals, set_of_sense, field_gets, atoms_of_sense, value_atoms, atoms_behind, array_of_sense, arity_seen, width_of, value_width, width, place_of, place}
+use Rattle.snap_names.specs.Senses.{Span, Value, Sense, Plain, Split, Array, Constant, Policy, NameFault, Unknown, Kind, Arity, Words, Arities, Place, after, word, sense_of, literal, constant, atom_of, field_atom, array_atom, address_literal, split_of_sense, split_atoms, split_address, split_net, split_test, test_of_sense, field_equals, set_of_sense, field_gets, atoms_of_sense, value_atoms, atoms_behind, arity_seen, width_of, value_width, width}
 use Rattle.snap_names.proofs.BoundedCore.{IsIndexed, TestFits, PolicyFits, Grows, Grows-same}
-use Rattle.snap_names.proofs.BoundedSteps.{AllByRecursion-append, AllByRecursion-lookup, IfOk-or_fault, IfOk-after, IfOk-after_any, IfOk-if, IfOk-both}
+use Rattle.snap_names.proofs.BoundedSteps.{AllByRecursion-append, AllByRecursion-lookup, IfOk-or_fault, IfOk-after, IfOk-after_any, IfOk-if}
 
 -- a component is one of c, and an array one of v
 abbrev pub SenseFits : ℕ → ℕ → Sense → Type 0
 SenseFits c v (Plain i) = i < c
 SenseFits c v (Split a b n) = (a < c) × (b < c)
 SenseFits c v (Array s) = s < v
-SenseFits c v (Constant n b) = Unit {0}
-SenseFits c v (Policy i) = Unit {0}
+SenseFits c v _ = Unit {0}
 
 abbrev pub NamesFit : ℕ → ℕ → List (List ℕ × Sense) → Type 0
 NamesFit c v names = AllByRecursion (λ x. SenseFits c v x.1) names
@@ -38,48 +28,40 @@ sense_of-fits c v e name h = IfOk-or_fault (SenseFits c v) (Unknown name.from) _
 
 atom_of-fits : (c v at : ℕ) (s : Sense) → SenseFits c v s → IfOk (atom_of at s) (AtomFits c)
 atom_of-fits c v at (Plain i) h = h
-atom_of-fits c v at (Split a b n) h = tt
-atom_of-fits c v at (Array s) h = tt
-atom_of-fits c v at (Constant n b) h = tt
-atom_of-fits c v at (Policy i) h = tt
+atom_of-fits c v at _ h = tt
 
 field_atom-fits : (c v : ℕ) (e : Words) (x : Value) → NamesFit c v e.names → IfOk (field_atom e x) (AtomFits c)
-field_atom-fits c v e (values.Literal l) h = IfOk-after_any (AtomFits c) (literal e.text l) _ (λ n. tt)
-field_atom-fits c v e (values.Prefix a l) h = tt
-field_atom-fits c v e (values.Name t) h = IfOk-after (SenseFits c v) (AtomFits c) (sense_of e t) (atom_of t.from) (sense_of-fits c v e t h) (atom_of-fits c v t.from)
+field_atom-fits c v e (Value.Literal l) h = IfOk-after_any (AtomFits c) (literal e.text l) _ (λ n. tt)
+field_atom-fits c v e (Value.Prefix a l) h = tt
+field_atom-fits c v e (Value.Name t) h = IfOk-after (SenseFits c v) (AtomFits c) (sense_of e t) (atom_of t.from) (sense_of-fits c v e t h) (atom_of-fits c v t.from)
 
 pub array_atom-fits : (c v : ℕ) (e : Words) (x : Value) → NamesFit c v e.names → IfOk (array_atom e x) (AtomFits c)
-array_atom-fits c v e (values.Literal l) h = IfOk-after_any (AtomFits c) (literal e.text l) _ (λ n. tt)
-array_atom-fits c v e (values.Prefix a l) h = tt
-array_atom-fits c v e (values.Name t) h = IfOk-after (SenseFits c v) (AtomFits c) (sense_of e t) (atom_of t.from) (sense_of-fits c v e t h) (atom_of-fits c v t.from)
+array_atom-fits c v e (Value.Literal l) h = IfOk-after_any (AtomFits c) (literal e.text l) _ (λ n. tt)
+array_atom-fits c v e (Value.Prefix a l) h = tt
+array_atom-fits c v e (Value.Name t) h = IfOk-after (SenseFits c v) (AtomFits c) (sense_of e t) (atom_of t.from) (sense_of-fits c v e t h) (atom_of-fits c v t.from)
 
 abbrev AtomsFit : ℕ → Atom × Atom → Type 0
 AtomsFit c x = AtomFits c x.0 × AtomFits c x.1
 
 split_of_sense-fits : (c v n at : ℕ) (s : Sense) → SenseFits c v s → IfOk (split_of_sense n at s) (AtomsFit c)
-split_of_sense-fits c v n at (Plain i) h = tt
 split_of_sense-fits c v n at (Split a b m) h = IfOk-if (AtomsFit c) (m == n) (Ok (Comp a, Comp b)) (Kind at) h
-split_of_sense-fits c v n at (Array s) h = tt
 split_of_sense-fits c v n at (Constant a true) h = (tt, tt)
-split_of_sense-fits c v n at (Constant a false) h = tt
-split_of_sense-fits c v n at (Policy i) h = tt
+split_of_sense-fits c v n at _ h = tt
 
 split_atoms-fits : (c v : ℕ) (e : Words) (n : ℕ) (x : Value) → NamesFit c v e.names → IfOk (split_atoms e n x) (AtomsFit c)
-split_atoms-fits c v e n (values.Literal l) h = IfOk-after_any (AtomsFit c) (address_literal e l) _ (λ a. (tt, tt))
-split_atoms-fits c v e n (values.Prefix a l) h = tt
-split_atoms-fits c v e n (values.Name t) h = IfOk-after (SenseFits c v) (AtomsFit c) (sense_of e t) (split_of_sense n t.from) (sense_of-fits c v e t h) (split_of_sense-fits c v n t.from)
+split_atoms-fits c v e n (Value.Literal l) h = IfOk-after_any (AtomsFit c) (address_literal e l) _ (λ a. (tt, tt))
+split_atoms-fits c v e n (Value.Prefix a l) h = tt
+split_atoms-fits c v e n (Value.Name t) h = IfOk-after (SenseFits c v) (AtomsFit c) (sense_of e t) (split_of_sense n t.from) (sense_of-fits c v e t h) (split_of_sense-fits c v n t.from)
 
 split_test-fits : (W : Type 0) (c v : ℕ) (seen : Arities) (e : Words) (a b n : ℕ) (x : Value) → a < c → b < c → IfOk (split_test e a b n x) (TestFits W c v seen)
-split_test-fits W c v seen e a b n (values.Literal l) h k = IfOk-after_any (TestFits W c v seen) (split_address e (values.Literal l)) _ (λ y. (h, k))
-split_test-fits W c v seen e a b n (values.Prefix t l) h k = IfOk-after_any (TestFits W c v seen) (split_net e n t l) _ (λ y. h)
-split_test-fits W c v seen e a b n (values.Name t) h k = IfOk-after_any (TestFits W c v seen) (split_address e (values.Name t)) _ (λ y. (h, k))
+split_test-fits W c v seen e a b n (Value.Literal l) h k = IfOk-after_any (TestFits W c v seen) (split_address e (Value.Literal l)) _ (λ y. (h, k))
+split_test-fits W c v seen e a b n (Value.Prefix t l) h k = IfOk-after_any (TestFits W c v seen) (split_net e n t l) _ (λ y. h)
+split_test-fits W c v seen e a b n (Value.Name t) h k = IfOk-after_any (TestFits W c v seen) (split_address e (Value.Name t)) _ (λ y. (h, k))
 
 test_of_sense-fits : (W : Type 0) (c v : ℕ) (seen : Arities) (e : Words) (at : ℕ) (x : Value) (s : Sense) → SenseFits c v s → IfOk (test_of_sense e at x s) (TestFits W c v seen)
 test_of_sense-fits W c v seen e at x (Plain i) h = IfOk-after_any (TestFits W c v seen) (constant e x) _ (λ n. h)
 test_of_sense-fits W c v seen e at x (Split a b n) h = split_test-fits W c v seen e a b n x h.0 h.1
-test_of_sense-fits W c v seen e at x (Array s) h = tt
-test_of_sense-fits W c v seen e at x (Constant n b) h = tt
-test_of_sense-fits W c v seen e at x (Policy i) h = tt
+test_of_sense-fits W c v seen e at x _ h = tt
 
 pub field_equals-fits : (W : Type 0) (c v : ℕ) (seen : Arities) (e : Words) (name : Span) (x : Value) → NamesFit c v e.names → IfOk (field_equals e name x) (TestFits W c v seen)
 field_equals-fits W c v seen e name x h = IfOk-after (SenseFits c v) (TestFits W c v seen) (sense_of e name) (test_of_sense e name.from x) (sense_of-fits c v e name h) (test_of_sense-fits W c v seen e name.from x)
@@ -87,9 +69,7 @@ field_equals-fits W c v seen e name x h = IfOk-after (SenseFits c v) (TestFits W
 set_of_sense-fits : (W : Type 0) (c v : ℕ) (seen : Arities) (e : Words) (at : ℕ) (x : Value) → NamesFit c v e.names → (s : Sense) → SenseFits c v s → IfOk (set_of_sense e at x s) (PolicyFits W c v seen)
 set_of_sense-fits W c v seen e at x w (Plain i) h = IfOk-after (AtomFits c) (PolicyFits W c v seen) (field_atom e x) _ (field_atom-fits c v e x w) (λ a k. (h, k))
 set_of_sense-fits W c v seen e at x w (Split a b n) h = IfOk-after (AtomsFit c) (PolicyFits W c v seen) (split_atoms e n x) _ (split_atoms-fits c v e n x w) (λ y k. ((h.0, k.0), (h.1, k.1)))
-set_of_sense-fits W c v seen e at x w (Array s) h = tt
-set_of_sense-fits W c v seen e at x w (Constant n b) h = tt
-set_of_sense-fits W c v seen e at x w (Policy i) h = tt
+set_of_sense-fits W c v seen e at x w _ h = tt
 
 pub field_gets-fits : (W : Type 0) (c v : ℕ) (seen : Arities) (e : Words) (name : Span) (x : Value) → NamesFit c v e.names → IfOk (field_gets e name x) (PolicyFits W c v seen)
 field_gets-fits W c v seen e name x h = IfOk-after (SenseFits c v) (PolicyFits W c v seen) (sense_of e name) (set_of_sense e name.from x) (sense_of-fits c v e name h) (set_of_sense-fits W c v seen e name.from x h)
@@ -97,41 +77,31 @@ field_gets-fits W c v seen e name x h = IfOk-after (SenseFits c v) (PolicyFits W
 atoms_of_sense-fits : (c v at : ℕ) (s : Sense) → SenseFits c v s → IfOk (atoms_of_sense at s) (IndexFits c)
 atoms_of_sense-fits c v at (Plain i) h = (h, tt)
 atoms_of_sense-fits c v at (Split a b n) h = (h.0, (h.1, tt))
-atoms_of_sense-fits c v at (Array s) h = tt
 atoms_of_sense-fits c v at (Constant n b) h = (tt, tt)
-atoms_of_sense-fits c v at (Policy i) h = tt
+atoms_of_sense-fits c v at _ h = tt
 
 value_atoms-fits : (c v : ℕ) (e : Words) (x : Value) → NamesFit c v e.names → IfOk (value_atoms e x) (IndexFits c)
-value_atoms-fits c v e (values.Literal l) h = IfOk-after_any (IndexFits c) (literal e.text l) _ (λ n. (tt, tt))
-value_atoms-fits c v e (values.Prefix a l) h = tt
-value_atoms-fits c v e (values.Name t) h = IfOk-after (SenseFits c v) (IndexFits c) (sense_of e t) (atoms_of_sense t.from) (sense_of-fits c v e t h) (atoms_of_sense-fits c v t.from)
+value_atoms-fits c v e (Value.Literal l) h = IfOk-after_any (IndexFits c) (literal e.text l) _ (λ n. (tt, tt))
+value_atoms-fits c v e (Value.Prefix a l) h = tt
+value_atoms-fits c v e (Value.Name t) h = IfOk-after (SenseFits c v) (IndexFits c) (sense_of e t) (atoms_of_sense t.from) (sense_of-fits c v e t h) (atoms_of_sense-fits c v t.from)
 
-atoms_behind-fits : (c v : ℕ) (e : Words) → NamesFit c v e.names → (before : List Atom) (xs : List Value) → IndexFits c before → IfOk (atoms_behind e before xs) (IndexFits c)
+pub atoms_behind-fits : (c v : ℕ) (e : Words) → NamesFit c v e.names → (before : List Atom) (xs : List Value) → IndexFits c before → IfOk (atoms_behind e before xs) (IndexFits c)
 atoms_behind-fits c v e w before [] h = h
 atoms_behind-fits c v e w before (x ∷ xs) h =
     IfOk-after (IndexFits c) (IndexFits c) (value_atoms e x) (λ es. atoms_behind e (before ++ es) xs) (value_atoms-fits c v e x w)
     (λ es k. atoms_behind-fits c v e w (before ++ es) xs (AllByRecursion-append (AtomFits c) before es h k))
 
-array_of_sense-fits : (c v at : ℕ) (s : Sense) → SenseFits c v s → IfOk (array_of_sense at s) (λ i. i < v)
-array_of_sense-fits c v at (Plain i) h = tt
-array_of_sense-fits c v at (Split a b n) h = tt
-array_of_sense-fits c v at (Array s) h = h
-array_of_sense-fits c v at (Constant n b) h = tt
-array_of_sense-fits c v at (Policy i) h = tt
-
 -- A value gives as many atoms as its width says.
 atoms_of_sense-length : (at : ℕ) (r : Result Sense NameFault) → IfOk (after r (atoms_of_sense at)) (λ es. length es ≡ width_of r)
-atoms_of_sense-length at (Err f) = tt
 atoms_of_sense-length at (Ok (Plain i)) = refl
 atoms_of_sense-length at (Ok (Split a b n)) = refl
-atoms_of_sense-length at (Ok (Array s)) = tt
 atoms_of_sense-length at (Ok (Constant n b)) = refl
-atoms_of_sense-length at (Ok (Policy i)) = tt
+atoms_of_sense-length at _ = tt
 
 value_atoms-length : (e : Words) (x : Value) → IfOk (value_atoms e x) (λ es. length es ≡ value_width e x)
-value_atoms-length e (values.Literal l) = IfOk-after_any (λ es. length es ≡ 1) (literal e.text l) _ (λ n. refl)
-value_atoms-length e (values.Prefix a l) = tt
-value_atoms-length e (values.Name t) = atoms_of_sense-length t.from (sense_of e t)
+value_atoms-length e (Value.Literal l) = IfOk-after_any (λ es. length es ≡ 1) (literal e.text l) _ (λ n. refl)
+value_atoms-length e (Value.Prefix a l) = tt
+value_atoms-length e (Value.Name t) = atoms_of_sense-length t.from (sense_of e t)
 
 atoms_behind-length : (e : Words) (before : List Atom) (xs : List Value) → IfOk (atoms_behind e before xs) (λ es. length es ≡ length before + width e xs)
 atoms_behind-length e before [] = omega arith
@@ -145,17 +115,13 @@ index-length e xs = IfOk-weaker (atoms_behind e [] xs) (λ es. length es ≡ 0 +
 width_of-some : (r : Result Sense NameFault) → 1 ≤ width_of r
 width_of-some (Err f) = omega arith
 width_of-some (Ok (Plain i)) = omega arith
-width_of-some (Ok (Split a b n)) = omega arith
-width_of-some (Ok (Array s)) = omega arith
-width_of-some (Ok (Constant n b)) = omega arith
-width_of-some (Ok (Policy i)) = omega arith
+width_of-some _ = omega arith
 
 value_width-some : (e : Words) (x : Value) → 1 ≤ value_width e x
-value_width-some e (values.Literal l) = omega arith
-value_width-some e (values.Prefix a l) = omega arith
-value_width-some e (values.Name t) = width_of-some (sense_of e t)
+value_width-some e (Value.Name t) = width_of-some (sense_of e t)
+value_width-some e _ = omega arith
 
-width-some : (e : Words) (xs : List Value) → 1 ≤ length xs → 1 ≤ width e xs
+pub width-some : (e : Words) (xs : List Value) → 1 ≤ length xs → 1 ≤ width e xs
 width-some e [] h = absurd (omega (arith, h))
 width-some e (x ∷ xs) h = omega (arith, value_width-some e x)
 
@@ -200,20 +166,3 @@ arity_seen-gives before s n at h (Some (Some m)) e = by_test (m == n) refl
     by_test : (b : Bool) → (m == n) ≡ b → IfOk (if b then Ok before else Err (Arity at)) (λ behind. IsSeen before behind s n)
     by_test true same = record { grows = Grows-same before; arity = e ∙ ap (λ k. Some (Some k)) (eqb-true m n same) }
     by_test false other = tt
-
-place_of-fits : (W : Type 0) (c v : ℕ) (e : Words) (before : Arities) (at : ℕ) (xs : List Value) → NamesFit c v e.names → v ≤ length before → (W → 1 ≤ length xs) → (s : ℕ) → s < v → IfOk (place_of e before at xs s) (PlaceFits W c v before)
-place_of-fits W c v e before at xs w room some s h =
-    IfOk-after (λ behind. IsSeen before behind s (width e xs)) (PlaceFits W c v before) (arity_seen before s (width e xs) at (slice_get before s)) _
-    (arity_seen-gives before s (width e xs) at (omega (arith, h, room)) (slice_get before s) refl) (λ arities seen.
-    IfOk-after (λ es. IndexFits c es × (length es ≡ width e xs)) (PlaceFits W c v before) (atoms_behind e [] xs) _
-    (IfOk-both (IndexFits c) (λ es. length es ≡ width e xs) (atoms_behind e [] xs) (atoms_behind-fits c v e w [] xs tt) (index-length e xs)) (λ index k. (
-      seen.grows,
-      record { array = s; below = h; number = refl; arity = seen.arity ∙ ap (λ n. Some (Some n)) (sym k.1); some = λ q. omega (arith, width-some e xs (some q), k.1) },
-      k.0,
-    )))
-
-pub place-fits : (W : Type 0) (c v : ℕ) (e : Words) (before : Arities) (name : Span) (xs : List Value) → NamesFit c v e.names → v ≤ length before → (W → 1 ≤ length xs) → IfOk (place e before name xs) (PlaceFits W c v before)
-place-fits W c v e before name xs h room some =
-    IfOk-after (λ i. i < v) (PlaceFits W c v before) _ (place_of e before name.from xs)
-    (IfOk-after (SenseFits c v) (λ i. i < v) (sense_of e name) (array_of_sense name.from) (sense_of-fits c v e name h) (array_of_sense-fits c v name.from))
-    (place_of-fits W c v e before name.from xs h room some)

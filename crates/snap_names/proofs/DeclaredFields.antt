@@ -1,28 +1,19 @@
 -- The fields that are declared are those of a program, but for their number.
-use Rattle.std.proofs.Common.{◌≡◌, ℕ, zero, suc, ◌+◌, ◌≤◌, Bool, true, false, List, [], ◌∷◌, ◌++◌, map, length, codes, Option, None, Some, is_some, Result, Ok, Err, IfOk, cond, refl, sym, ap, ◌∙◌, subst, arith, append_assoc, length-append}
-use Rattle.std.specs.List.{AllByRecursion, All, IsDistinct, list_any}
+use Rattle.std.proofs.Common.{◌≡◌, ℕ, ◌+◌, ◌≤◌, Bool, true, false, List, [], ◌∷◌, ◌++◌, map, length, codes, Option, None, Some, is_some, Result, Ok, Err, IfOk, cond, refl, sym, ap, ◌∙◌, subst, arith, append_assoc, length-append, bytes_eq, nat_le, ◌&&◌, if◌then◌else◌}
+use Rattle.std.specs.List.{AllByRecursion, IsDistinct, list_any}
 use Rattle.std.specs.Map.{lookup}
-use Rattle.std.specs.Str.{bytes_eq}
 use Rattle.std.proofs.lemmas.Slice.Eq.{bytes_eq-Decides}
-use Rattle.snap_core.specs.declared.program.Field.{Field}
+use Rattle.snap_names.specs.Declarations.{Field, Declared, ports, field_names, with_field, field_senses, prefix_length, short, with_array, with_constant, with_let, declare, env_of}
 use Rattle.snap_core.specs.Fields.{count, width, declared_at, declared_from, names_of, plain_field, PrefixFits, IsFields}
-use Rattle.snap_names.specs.declared.scope.Sense.{Sense}
-use Rattle.snap_names.specs.declared.scope.Sense.TheVariants.{Plain, Split, Array}
-use Rattle.snap_names.specs.Declarations.{Declared, ports, field_names, with_field}
+use Rattle.snap_names.specs.Senses.{Sense, Plain, Split, Array, after, word, literal, is_address, number_at, NameFault, Twice, Prefix}
 use Rattle.snap_names.specs.Spells.{is_known}
-use Rattle.snap_names.specs.Declarations.{field_senses, prefix_length, short, with_array, with_constant, with_let, declare}
-use Rattle.snap_names.specs.Senses.{after, word, literal, is_address, number_at}
 use Rattle.snap_names.specs.Reading.{read_policy}
-use Rattle.snap_names.specs.Declarations.{env_of}
-use Rattle.snap_names.specs.declared.fault.NameFault.{NameFault}
-use Rattle.snap_names.specs.declared.fault.NameFault.TheVariants.{Twice, Prefix}
 use Rattle.snap_parse.specs.Tree.{DeclTree, field_tree, array_tree, const_tree, let_tree}
 use Rattle.std.proofs.lemmas.Bool.Decides.{nat_tests}
 use Rattle.snap_core.specs.Names.{IsName}
 use Rattle.snap_names.proofs.Placed.{DeclWritten}
 use Rattle.snap_names.proofs.NameParts.{IsName-field}
 use Rattle.snap_names.proofs.Declaring.{bytes_eq-apart, or_left, or_right}
-use Rattle.std.specs.Prelude.{nat_le, ◌&&◌, if◌then◌else◌}
 use Rattle.std.proofs.lemmas.List.Elements.{All-from_recursion}
 use Rattle.snap_names.proofs.BoundedSteps.{AllByRecursion-append, AllByRecursion-weaker, IfOk-after_any, IfOk-unless, IfOk-unless_is}
 

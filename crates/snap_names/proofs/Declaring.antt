@@ -1,25 +1,15 @@
 -- What a declaration adds to a scope.
-use Rattle.std.proofs.Common.{◌≡◌, ◌≢◌, ℕ, suc, ◌+◌, Bool, true, false, List, [], ◌∷◌, ◌++◌, length, codes, Option, None, Some, is_some, Result, Ok, Err, cond, if◌then◌else◌, min, refl, sym, ap, ◌∙◌, subst, arith, append_assoc, length-append}
-use Rattle.std.specs.Prelude.{Vec, ◌||◌}
-use Rattle.std.specs.declared.alloc.Global.{Global}
+use Rattle.std.proofs.Common.{◌≡◌, ◌≢◌, ℕ, suc, ◌+◌, Bool, true, false, List, [], ◌∷◌, ◌++◌, length, codes, Option, None, Some, is_some, Result, Ok, Err, cond, if◌then◌else◌, min, refl, sym, ap, ◌∙◌, subst, arith, append_assoc, length-append, Vec, ◌||◌, Global, bytes_eq}
 use Rattle.std.specs.List.{list_any}
 use Rattle.std.specs.Map.{lookup}
-use Rattle.std.specs.Str.{bytes_eq}
 use Rattle.std.proofs.lemmas.Slice.Eq.{bytes_eq-Decides}
 use Rattle.indexmap.specs.IndexMap.{insert_entry}
-use Rattle.snap_core.specs.declared.program.Field.{Field}
+use Rattle.snap_names.specs.Declarations.{Field, Declared, ports, field_names, field_senses, short, capped, with_field, with_let}
 use Rattle.snap_core.specs.Fields.{count, width}
-use Rattle.snap_names.specs.declared.scope.Sense.{Sense}
-use Rattle.snap_names.specs.declared.scope.Sense.TheVariants.{Plain, Split, Policy}
-use Rattle.snap_names.specs.declared.scope.Body.{Body}
-use Rattle.snap_names.specs.declared.scope.Part.{Part}
-use Rattle.snap_names.specs.declared.scope.Scope.{Scope}
-use Rattle.snap_names.specs.declared.fault.NameFault.{NameFault}
+use Rattle.snap_names.specs.Senses.{Sense, Plain, Split, Policy, NameFault, Arities}
+use Rattle.snap_names.specs.Parts.{Body, Part, Scope, names_in, AreBodies, no_bodies, more_bodies, IsBody, IsPart}
 use Rattle.snap_names.specs.Core.{CorePolicy, nodes}
-use Rattle.snap_names.specs.Senses.{Arities}
-use Rattle.snap_names.specs.Declarations.{Declared, ports, field_names, field_senses, short, capped, with_field, with_let}
 use Rattle.snap_names.specs.Spells.{is_known}
-use Rattle.snap_names.specs.Parts.{names_in, AreBodies, no_bodies, more_bodies, IsBody, IsPart}
 use Rattle.snap_names.specs.Scopes.{declared_in, IsScope, HasDeclared}
 use Rattle.snap_names.proofs.PartLemmas.{IsPart-later}
 use Rattle.snap_names.proofs.BoundedDeclared.{count-append}

@@ -1,56 +1,24 @@
 -- A tree that is read without a fault is of a program as `TreeReadings` says.
-use Rattle.std.proofs.Common.{◌≡◌, ℕ, ◌+◌, ◌<◌, ◌≤◌, min, Bool, true, false, List, [], ◌∷◌, ◌++◌, length, slice_get, Option, None, Some, is_some, Result, Ok, Err, IfOk, if◌then◌else◌, ◌&&◌, nat_le, refl, sym, ap, ◌∙◌, subst, arith, le_refl, le_trans, length-append, ◌⊎◌, inl, inr}
-use Rattle.std.proofs.lemmas.Bool.{cases_lt, leb-true}
+use Rattle.std.proofs.Common.{◌≡◌, ℕ, ◌+◌, ◌≤◌, min, Bool, true, false, List, [], ◌∷◌, ◌++◌, length, slice_get, Option, None, Some, is_some, Result, Ok, Err, IfOk, if◌then◌else◌, ◌&&◌, nat_le, refl, sym, ap, ◌∙◌, subst, arith, le_refl, le_trans, length-append}
+use Rattle.std.proofs.lemmas.Bool.{leb-true}
 use Rattle.std.proofs.lemmas.Result.{IfOk-weaker}
 use Rattle.std.specs.List.{AllByRecursion, list_any}
-use Rattle.snap_core.specs.declared.program.Field.{Field}
-use Rattle.snap_core.specs.declared.program.Program.{Program}
-use Rattle.snap_core.specs.declared.program.Which.TheVariants.{Components, Arrays, Atoms, Nodes, Weight}
+use Rattle.snap_names.specs.Declarations.{Field, Program, Components, Arrays, Atoms, Nodes, Weight, Declared, ports, env_of, field_names, short, field_senses, prefix_length, with_field, with_array, with_constant, with_let, declare, declare_all, CoreProgram, core_program, greatest, limited, resolved}
 use Rattle.snap_core.specs.Fields.{count, width}
 use Rattle.snap_core.specs.Figures.{number_of}
-use Rattle.snap_parse.specs.declared.tree.Span.{Span}
-use Rattle.snap_parse.specs.declared.tree.Literal.{Literal}
 use Rattle.snap_parse.specs.Tree.{DeclTree, field_tree, array_tree, const_tree, let_tree, PolicyTree, SourceTree}
-use Rattle.snap_names.specs.declared.scope.Sense.{Sense}
-use Rattle.snap_names.specs.declared.scope.Sense.TheVariants.{Array, Constant, Policy}
-use Rattle.snap_names.specs.declared.fault.NameFault.{NameFault}
-use Rattle.snap_names.specs.declared.fault.NameFault.TheVariants.{Twice, Prefix, Wide}
+use Rattle.snap_names.specs.Senses.{Span, Literal, Sense, Array, Constant, Policy, NameFault, Twice, Prefix, Wide, Arities, after, word, number_at, literal, is_address}
 use Rattle.snap_names.specs.Core.{CorePolicy, nodes, weight}
-use Rattle.snap_names.specs.Senses.{Arities, after, word, number_at, literal, is_address}
 use Rattle.snap_names.specs.Reading.{read_policy}
-use Rattle.snap_names.specs.Declarations.{Declared, ports, env_of, field_names, short, field_senses, prefix_length, with_field, with_array, with_constant, with_let, declare, declare_all, CoreProgram, core_program, greatest, limited, resolved}
 use Rattle.snap_names.specs.Spells.{Scope, senses, is_known}
-use Rattle.snap_names.proofs.BoundedCore.{PolicyFits, Grows, Grows-same, Grows-then}
-use Rattle.snap_names.proofs.BoundedDeclared.{DeclaredFits, declare-fits, ports-fit, env-fits, count-append, Grows-append}
-use Rattle.snap_names.proofs.BoundedReading.{read_policy-fits}
+use Rattle.snap_names.proofs.BoundedCore.{Grows, Grows-same, Grows-then}
+use Rattle.snap_names.proofs.BoundedDeclared.{DeclaredFits, scope_of, PolicyRead, policy-read, declare-fits, ports-fit, count-append, Grows-append}
 use Rattle.snap_names.proofs.BoundedSteps.{IfOk-after, IfOk-both, IfOk-unless_is, IfOk-within}
 use Rattle.snap_names.proofs.Faultless.{literal-number, or_fault-is}
-use Rattle.snap_names.proofs.FaultlessTrees.{Agrees, Agrees-before, policy-reads}
-use Rattle.snap_names.proofs.Filled.{HasSequence, PolicyFilled, DeclFilled, SourceFilled}
+use Rattle.snap_names.proofs.ReadTrees.{Agrees, Agrees-before}
+use Rattle.snap_names.proofs.Placed.{DeclWritten, SourceWritten}
 use Rattle.snap_names.proofs.InForm.{seen_or, greatest-bounds}
 use Rattle.snap_names.proofs.TreeReadings.{number, IsPolicy, IsLength, plain, split, Declares, field, array, const, body_of_let, DeclaresAll, no_more, one_more, IsProgramOf}
-
--- what is declared, as a scope
-abbrev pub scope_of : List ℕ → (ℕ → ℕ) → Declared → Scope
-scope_of text atoms d = record { text = text; atoms = atoms; fields = d.fields; arrays = d.arrays; lets = d.lets; names = d.names }
-
--- A policy behind declarations is read as `TreeReadings` says, where they are few.
-abbrev PolicyRead : List ℕ → (ℕ → ℕ) → Declared → PolicyTree → CorePolicy × Arities → Type 0
-PolicyRead text atoms d t x = Grows d.arities x.1 × (length d.arrays ≤ 64 → Agrees atoms x.1 → IsPolicy (scope_of text atoms d) t x.0)
-
-policy-read : (text : List ℕ) (atoms : ℕ → ℕ) (d : Declared) → DeclaredFits ⊥ d → (t : PolicyTree) → PolicyFilled t × HasSequence t → IfOk (read_policy (env_of text d) t d.arities) (PolicyRead text atoms d t)
-policy-read text atoms d h t w = by_size (cases_lt 64 (length d.arrays))
-  where
-    r : Result (CorePolicy × Arities) NameFault
-    r = read_policy (env_of text d) t d.arities
-
-    by_size : (64 < length d.arrays) ⊎ (length d.arrays ≤ 64) → IfOk r (PolicyRead text atoms d t)
-    by_size (inl many) =
-        IfOk-weaker r (λ x. Grows d.arities x.1 × PolicyFits ⊥ (count d.fields) (length d.arrays) x.1 x.0) (PolicyRead text atoms d t) (λ x k. (k.0, λ few agrees. absurd (omega (arith, many, few))))
-        (read_policy-fits ⊥ (count d.fields) (length d.arrays) (env_of text d) t (λ q. absurd q) d.arities (env-fits ⊥ text d h))
-    by_size (inr few) =
-        IfOk-weaker r (λ x. Grows d.arities x.1 × (Agrees atoms x.1 → IsPolicy (scope_of text atoms d) t x.0)) (PolicyRead text atoms d t) (λ x k. (k.0, λ _ agrees. k.1 agrees))
-        (policy-reads (count d.fields) (length d.arrays) (scope_of text atoms d) t w.0 w.1 d.arities (record { names = h.names; room = h.room; few = omega (arith, few) }))
 
 -- more is declared
 record Later (d f : Declared) : Type 0 where
@@ -151,19 +119,19 @@ with_constant-steps text atoms d at t l n new is = (
   },
 )
 
-with_let-steps : (text : List ℕ) (atoms : ℕ → ℕ) (d : Declared) (at : ℕ) (t : Span) (b : PolicyTree) (x : CorePolicy × Arities) → is_known d.names (word text t) ≡ false → PolicyRead text atoms d b x → Steps text atoms d (let_tree at t b) (with_let d (word text t) x)
+with_let-steps : (text : List ℕ) (atoms : ℕ → ℕ) (d : Declared) (at : ℕ) (t : Span) (b : PolicyTree) (x : CorePolicy × Arities) → is_known d.names (word text t) ≡ false → PolicyRead (Unit {0}) text atoms d b x → Steps text atoms d (let_tree at t b) (with_let d (word text t) x)
 with_let-steps text atoms d at t b x new read = (
   record { grows = read.0; fields = le_refl (count d.fields); arrays = le_refl (length d.arrays) },
   λ few. record {
     more = record (scope_of text atoms d) { lets = d.lets ++ x.0 ∷ [] };
     names = (word text t, Policy (length d.lets)) ∷ [];
-    declares = body_of_let (read.1 few.arrays few.agrees);
+    declares = body_of_let (read.1.1 tt (omega (arith, few.arrays)) few.agrees);
     new = one-known d.names (word text t) (Policy (length d.lets)) new;
     same = refl;
   },
 )
 
-declare-steps : (text : List ℕ) (atoms : ℕ → ℕ) (d : Declared) → DeclaredFits ⊥ d → (t : DeclTree) → DeclFilled t → IfOk (declare text d t) (Steps text atoms d t)
+declare-steps : (text : List ℕ) (atoms : ℕ → ℕ) (d : Declared) → DeclaredFits (Unit {0}) d → (t : DeclTree) → DeclWritten text t → IfOk (declare text d t) (Steps text atoms d t)
 declare-steps text atoms d h (field_tree at t l) w =
     IfOk-unless_is (Steps text atoms d (field_tree at t l)) (list_any (is_known d.names) (field_names (word text t) (is_some l))) (Twice t.from) _ (λ new.
     IfOk-after (LengthIs text l) (Steps text atoms d (field_tree at t l)) (prefix_length text l) _ (prefix_length-is text l) (λ n is. with_field-steps text atoms d at t l n new is))
@@ -174,19 +142,19 @@ declare-steps text atoms d h (const_tree at t l) w =
     IfOk-after (λ n. number text l ≡ Some n) (Steps text atoms d (const_tree at t l)) (literal text l) _ (literal-number text l) (λ n is. with_constant-steps text atoms d at t l n new is))
 declare-steps text atoms d h (let_tree at t b) w =
     IfOk-unless_is (Steps text atoms d (let_tree at t b)) (is_known d.names (word text t)) (Twice t.from) _ (λ new.
-    IfOk-after (PolicyRead text atoms d b) (Steps text atoms d (let_tree at t b)) (read_policy (env_of text d) b d.arities) _ (policy-read text atoms d h b w) (λ x read. with_let-steps text atoms d at t b x new read))
+    IfOk-after (PolicyRead (Unit {0}) text atoms d b) (Steps text atoms d (let_tree at t b)) (read_policy (env_of text d) b d.arities) _ (policy-read (Unit {0}) text atoms d h b (λ q. w)) (λ x read. with_let-steps text atoms d at t b x new read))
 
 abbrev AllSteps : List ℕ → (ℕ → ℕ) → Declared → List DeclTree → Declared → Type 0
-AllSteps text atoms d ts f = DeclaredFits ⊥ f × Later d f × (IsFew atoms f → DeclaresAll (scope_of text atoms d) ts (scope_of text atoms f))
+AllSteps text atoms d ts f = DeclaredFits (Unit {0}) f × Later d f × (IsFew atoms f → DeclaresAll (scope_of text atoms d) ts (scope_of text atoms f))
 
 step-more : (text : List ℕ) (atoms : ℕ → ℕ) (d : Declared) (t : DeclTree) (ts : List DeclTree) (e f : Declared) → Step text atoms d t e → DeclaresAll (scope_of text atoms e) ts (scope_of text atoms f) → DeclaresAll (scope_of text atoms d) (t ∷ ts) (scope_of text atoms f)
 step-more text atoms d t ts e f h k = one_more h.declares h.new (subst (λ s. DeclaresAll s ts (scope_of text atoms f)) h.same k)
 
-declare_all-steps : (text : List ℕ) (atoms : ℕ → ℕ) (ts : List DeclTree) (d : Declared) → DeclaredFits ⊥ d → AllByRecursion DeclFilled ts → IfOk (declare_all text ts d) (AllSteps text atoms d ts)
+declare_all-steps : (text : List ℕ) (atoms : ℕ → ℕ) (ts : List DeclTree) (d : Declared) → DeclaredFits (Unit {0}) d → AllByRecursion (DeclWritten text) ts → IfOk (declare_all text ts d) (AllSteps text atoms d ts)
 declare_all-steps text atoms [] d h w = (h, Later-same d, λ few. no_more)
 declare_all-steps text atoms (t ∷ ts) d h w =
-    IfOk-after (λ e. DeclaredFits ⊥ e × Steps text atoms d t e) (AllSteps text atoms d (t ∷ ts)) (declare text d t) (declare_all text ts)
-    (IfOk-both (DeclaredFits ⊥) (Steps text atoms d t) (declare text d t) (declare-fits ⊥ text d h t (λ q. absurd q)) (declare-steps text atoms d h t w.0))
+    IfOk-after (λ e. DeclaredFits (Unit {0}) e × Steps text atoms d t e) (AllSteps text atoms d (t ∷ ts)) (declare text d t) (declare_all text ts)
+    (IfOk-both (DeclaredFits (Unit {0})) (Steps text atoms d t) (declare text d t) (declare-fits (Unit {0}) text d h t (λ q. w.0)) (declare-steps text atoms d h t w.0))
     (λ e k. IfOk-weaker (declare_all text ts e) (AllSteps text atoms e ts) (AllSteps text atoms d (t ∷ ts))
     (λ f l. (l.0, Later-then d e f k.1.0 l.1, λ few. step-more text atoms d t ts e f (k.1.1 (IsFew-before atoms e f l.1 few)) (l.2 few)))
     (declare_all-steps text atoms ts e k.0 w.1))
@@ -229,7 +197,7 @@ after-ok (Err e) f y h = absurd (wrong h)
     wrong k = cc
 
 -- **A tree of a text that is read without a fault is of that program.**
-pub IsProgramOf-resolved : (text : List ℕ) (s : SourceTree) → SourceFilled s → (p : Program) → resolved text s ≡ Ok (core_program p) → IsProgramOf text s p
+pub IsProgramOf-resolved : (text : List ℕ) (s : SourceTree) → SourceWritten text s → (p : Program) → resolved text s ≡ Ok (core_program p) → IsProgramOf text s p
 IsProgramOf-resolved text s w p h = found (after-ok (declare_all text s.decls ports) _ (core_program p) h)
   where
     found : (d : Declared) × (declare_all text s.decls ports ≡ Ok d) × (after (read_policy (env_of text d) s.policy d.arities) (limited d) ≡ Ok (core_program p)) → IsProgramOf text s p
@@ -239,8 +207,8 @@ IsProgramOf-resolved text s w p h = found (after-ok (declare_all text s.decls po
         read (x, is, limit) =
             let atoms : ℕ → ℕ = atoms_in x.1 in
             let limits : IsLimited d x (core_program p) = subst (λ r. IfOk r (IsLimited d x)) limit (limited-is d x) in
-            let steps : AllSteps text atoms ports s.decls d = subst (λ r. IfOk r (AllSteps text atoms ports s.decls)) declared (declare_all-steps text atoms s.decls ports (ports-fit ⊥) w.0) in
-            let reads : PolicyRead text atoms d s.policy x = subst (λ r. IfOk r (PolicyRead text atoms d s.policy)) is (policy-read text atoms d steps.0 s.policy w.1) in
+            let steps : AllSteps text atoms ports s.decls d = subst (λ r. IfOk r (AllSteps text atoms ports s.decls)) declared (declare_all-steps text atoms s.decls ports (ports-fit (Unit {0})) w.0) in
+            let reads : PolicyRead (Unit {0}) text atoms d s.policy x = subst (λ r. IfOk r (PolicyRead (Unit {0}) text atoms d s.policy)) is (policy-read (Unit {0}) text atoms d steps.0 s.policy (λ q. w.1)) in
             let agrees : Agrees atoms x.1 = atoms_in-agree x.1 limits.most in
             let few : IsFew atoms d = record { agrees = Agrees-before atoms d.arities x.1 reads.0 agrees; fields = limits.components; arrays = limits.arrays } in
             record {
@@ -250,7 +218,7 @@ IsProgramOf-resolved text s w p h = found (after-ok (declare_all text s.decls po
               declared = steps.2 few;
               fields = limits.fields_are;
               arrays = limits.arrays_are;
-              body = subst (IsPolicy (scope_of text atoms d) s.policy) (sym limits.body_is) (reads.1 limits.arrays agrees);
+              body = subst (IsPolicy (scope_of text atoms d) s.policy) (sym limits.body_is) (reads.1.1 tt (omega (arith, limits.arrays)) agrees);
               few_components = subst (λ fs. count fs ≤ 64) (sym limits.fields_are) limits.components;
               few_arrays = subst (λ vs. length vs ≤ 64) (sym limits.arrays_are) limits.arrays;
               few_nodes = subst (λ q. nodes q ≤ 2000) (sym limits.body_is) limits.few_nodes;

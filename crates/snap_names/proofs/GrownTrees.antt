@@ -1,50 +1,38 @@
 -- Tokens that spell something derive a tree that reads as it.
 use Rattle.std.proofs.Common.{◌≡◌, ℕ, suc, ◌+◌, ◌<◌, ◌≤◌, Bool, true, List, [], ◌∷◌, ◌++◌, Option, None, Some, refl, sym, subst, arith, append_assoc}
 use Rattle.std.proofs.lemmas.List.{append-nil}
-use Rattle.snap_core.specs.declared.policy.Atom.{Atom}
-use Rattle.snap_core.specs.declared.policy.Atom.TheVariants.{Num}
-use Rattle.snap_lex.specs.declared.Token.{Token}
-use Rattle.snap_lex.specs.declared.Kind.TheVariants as kinds
-use Rattle.snap_lex.specs.declared.Key.TheVariants as keys
-use Rattle.snap_parse.specs.declared.tree.Span.{Span}
-use Rattle.snap_parse.specs.declared.tree.Literal.{Literal}
-use Rattle.snap_parse.specs.declared.tree.Literal.TheVariants as literals
-use Rattle.snap_parse.specs.declared.tree.Value.{Value}
-use Rattle.snap_parse.specs.declared.tree.Value.TheVariants as values
+use Rattle.snap_names.specs.Core.{Atom, Num, CorePolicy, filter}
 use Rattle.snap_parse.specs.Tree.{PolicyTree, policy_begin, policy_more, SequenceTree, sequence_begin, sequence_more, ChoiceTree, if_tree, plain_tree, EitherTree, either_begin, either_more, BothTree, both_begin, both_more, SingleTree, not_tree, id_tree, drop_tree, group_tree, atomic_tree, name_tree, test_tree, set_tree, bare_tree, array_test_tree, array_set_tree, up_tree, down_tree, array_add_tree, array_sub_tree, DeclTree, field_tree, array_tree, const_tree, let_tree, SourceTree, span_of}
 use Rattle.snap_parse.specs.Grammar as grammar
-use Rattle.snap_names.specs.declared.scope.Sense.{Sense}
-use Rattle.snap_names.specs.declared.scope.Sense.TheVariants.{Constant}
-use Rattle.snap_names.specs.Core.{CorePolicy, filter}
-use Rattle.snap_names.specs.Senses.{word, is_address}
-use Rattle.snap_names.specs.Spells.{Scope}
+use Rattle.snap_names.specs.Senses.{Span, Literal, Value, Sense, Constant, word, is_address}
+use Rattle.snap_names.specs.Spells.{Token, Kind, Key, Scope}
 use Rattle.snap_names.specs.Spells as spells
 use Rattle.snap_names.proofs.SpelledTrees.{deeper}
 use Rattle.snap_names.proofs.TreeReadings as readings
 
 -- ---- values
 literal-grown : (text : List ℕ) (t : Token) (n : ℕ) (b : Bool) → spells.IsLiteral text t n b → (rest : List Token) → (l : Literal) × grammar.IsLiteral (t ∷ rest) l rest × (readings.number text l ≡ Some n) × (is_address l ≡ b)
-literal-grown text t _ _ (spells.number a h) rest = (literals.Number (span_of t), grammar.number_literal t a, h, refl)
-literal-grown text t _ _ (spells.address a h) rest = (literals.Address (span_of t), grammar.address_literal t a, h, refl)
-literal-grown text t _ _ (spells.yes a) rest = (literals.True (span_of t), grammar.true_literal t a, refl, refl)
-literal-grown text t _ _ (spells.no a) rest = (literals.False (span_of t), grammar.false_literal t a, refl, refl)
+literal-grown text t _ _ (spells.number a h) rest = (Literal.Number (span_of t), grammar.number_literal t a, h, refl)
+literal-grown text t _ _ (spells.address a h) rest = (Literal.Address (span_of t), grammar.address_literal t a, h, refl)
+literal-grown text t _ _ (spells.yes a) rest = (Literal.True (span_of t), grammar.true_literal t a, refl, refl)
+literal-grown text t _ _ (spells.no a) rest = (Literal.False (span_of t), grammar.false_literal t a, refl, refl)
 
 -- the token is a value, of which this holds
 abbrev GrowsValue : (Value → Type 0) → Token → List Token → Type 0
 GrowsValue P t rest = (v : Value) × grammar.IsValue (t ∷ rest) v rest × P v
 
 number-grown : (e : Scope) (t : Token) (n : ℕ) (b : Bool) → spells.IsNumber e t n b → (rest : List Token) → GrowsValue (λ v. readings.HasAtoms e v (Num n ∷ [])) t rest
-number-grown e t n b (spells.literal h) rest = let l = literal-grown e.text t n b h rest in (values.Literal l.0, grammar.literal_value l.1, readings.literal l.2)
-number-grown e t n b (spells.constant m) rest = (values.Name (span_of t), grammar.name_value t m.name, readings.constant m.declared)
+number-grown e t n b (spells.literal h) rest = let l = literal-grown e.text t n b h rest in (Value.Literal l.0, grammar.literal_value l.1, readings.literal l.2)
+number-grown e t n b (spells.constant m) rest = (Value.Name (span_of t), grammar.name_value t m.name, readings.constant m.declared)
 
 atoms-grown : (e : Scope) (t : Token) (xs : List Atom) → spells.HasAtoms e t xs → (rest : List Token) → GrowsValue (λ v. readings.HasAtoms e v xs) t rest
 atoms-grown e t _ (spells.number {n = n} {b = b} h) rest = number-grown e t n b h rest
-atoms-grown e t _ (spells.component m) rest = (values.Name (span_of t), grammar.name_value t m.name, readings.component m.declared)
-atoms-grown e t _ (spells.components m) rest = (values.Name (span_of t), grammar.name_value t m.name, readings.components m.declared)
+atoms-grown e t _ (spells.component m) rest = (Value.Name (span_of t), grammar.name_value t m.name, readings.component m.declared)
+atoms-grown e t _ (spells.components m) rest = (Value.Name (span_of t), grammar.name_value t m.name, readings.components m.declared)
 
 address-grown : (e : Scope) (t : Token) (x : ℕ) → spells.IsNumber e t x true → (rest : List Token) → GrowsValue (λ v. readings.IsAddress e v x) t rest
-address-grown e t x (spells.literal (spells.address a h)) rest = (values.Literal (literals.Address (span_of t)), grammar.literal_value (grammar.address_literal t a), readings.address h)
-address-grown e t x (spells.constant m) rest = (values.Name (span_of t), grammar.name_value t m.name, readings.constant_address m.declared)
+address-grown e t x (spells.literal (spells.address a h)) rest = (Value.Literal (Literal.Address (span_of t)), grammar.literal_value (grammar.address_literal t a), readings.address h)
+address-grown e t x (spells.constant m) rest = (Value.Name (span_of t), grammar.name_value t m.name, readings.constant_address m.declared)
 
 -- ---- places
 places_rest-grown : (e : Scope) (ts : List Token) (xs : List Atom) (rest : List Token) → spells.HaveAtoms e ts xs rest → (vs : List Value) → (v : Value) × (us : List Value) × grammar.IsPlacesRest vs ts (vs ++ v ∷ us) rest × readings.HaveAtoms e (v ∷ us) xs
@@ -113,7 +101,7 @@ abbrev GrowsSingle : Scope → ℕ → List Token → CorePolicy → List Token 
 GrowsSingle e k ts p rest = (s : SingleTree) × grammar.IsSingle 128 0 k ts s rest × readings.IsSingle e s p
 
 with_place : (e : Scope) (k : ℕ) (ts : List Token) (p : CorePolicy) (rest us : List Token) (var : ℕ) (index : List Atom) → spells.IsPlace e ts var index us
-    → ((t : Token) (ts : List Token) (vs : List Value) → t.kind ≡ kinds.Word → grammar.IsPlaces ts vs us → readings.IsPlace e (span_of t) vs var index → GrowsSingle e k (t ∷ ts) p rest) → GrowsSingle e k ts p rest
+    → ((t : Token) (ts : List Token) (vs : List Value) → t.kind ≡ Kind.Word → grammar.IsPlaces ts vs us → readings.IsPlace e (span_of t) vs var index → GrowsSingle e k (t ∷ ts) p rest) → GrowsSingle e k ts p rest
 with_place e k _ p rest us var index (spells.place {t = t} {ts = ts} m h size) f =
     let r = places_rest-grown e ts index us h [] in
     f t ts (r.0 ∷ r.1) m.name (some_places ts r.0 r.1 us r.2) (record { array = m.declared; have = r.3; size = size })
@@ -184,10 +172,10 @@ mutual
   single-grown e _ _ _ rest (spells.test {n = n} {b = b} {t = t} {u = u} {v = v} m a h) k sum = let w = number-grown e v n b h rest in (test_tree (span_of t) w.0, grammar.test_single t u m.name a w.1, readings.test m.declared w.2)
   single-grown e _ _ _ rest (spells.test_split {x = x} {t = t} {u = u} {v = v} m a h) k sum = let w = address-grown e v x h rest in (test_tree (span_of t) w.0, grammar.test_single t u m.name a w.1, readings.test_split m.declared w.2)
   single-grown e _ _ _ rest (spells.test_net {t = t} {u = u} {v = v} {w = w} {l = l} m a (spells.address c x) f g n) k sum =
-      (test_tree (span_of t) (values.Prefix (span_of v) (span_of l)), grammar.test_single t u m.name a (grammar.prefix_value v w l c f g), readings.test_net m.declared x n)
+      (test_tree (span_of t) (Value.Prefix (span_of v) (span_of l)), grammar.test_single t u m.name a (grammar.prefix_value v w l c f g), readings.test_net m.declared x n)
   single-grown e _ _ _ rest (spells.gets {x = x} {t = t} {u = u} {v = v} m a h) k sum = let w = atoms-grown e v (x ∷ []) h rest in (set_tree (span_of t) w.0, grammar.set_single t u m.name a w.1, readings.gets m.declared w.2)
   single-grown e _ _ _ rest (spells.gets_address {x = x} {t = t} {u = u} {v = v} m a h) k sum = let w = address-grown e v x h rest in (set_tree (span_of t) w.0, grammar.set_single t u m.name a w.1, readings.gets_address m.declared w.2)
-  single-grown e _ _ _ rest (spells.gets_split {t = t} {u = u} {v = v} m a n) k sum = (set_tree (span_of t) (values.Name (span_of v)), grammar.set_single t u m.name a (grammar.name_value v n.name), readings.gets_split m.declared n.declared)
+  single-grown e _ _ _ rest (spells.gets_split {t = t} {u = u} {v = v} m a n) k sum = (set_tree (span_of t) (Value.Name (span_of v)), grammar.set_single t u m.name a (grammar.name_value v n.name), readings.gets_split m.declared n.declared)
   single-grown e _ ts p rest (spells.is_one {var = var} {index = index} h) k sum =
       with_place e k ts p rest rest var index h (λ t ts vs a ps r. (bare_tree (span_of t) vs, grammar.bare_single t a ps, readings.is_one r))
   single-grown e _ ts p rest (spells.test_array {var = var} {index = index} {x = x} {u = u} {v = v} h b y) k sum =
@@ -208,7 +196,7 @@ mutual
       with_place e k ts p rest (u ∷ v ∷ rest) var index h (λ t ts vs a ps r. (array_sub_tree (span_of t) vs w.0, grammar.array_sub_single t u a ps b w.1, readings.sub w.2 (var, index, r, refl)))
 
 -- ---- declarations
-length-grown : (text : List ℕ) (ts : List Token) (n : Option ℕ) (rest : List Token) → spells.IsLength text ts n rest → (t u : Token) → spells.IsKey keys.Field t → u.kind ≡ kinds.Word → (l : Option Span) × grammar.IsDecl 128 0 (t ∷ u ∷ ts) (field_tree t.from (span_of u) l) rest × readings.IsLength text l n
+length-grown : (text : List ℕ) (ts : List Token) (n : Option ℕ) (rest : List Token) → spells.IsLength text ts n rest → (t u : Token) → spells.IsKey Key.Field t → u.kind ≡ Kind.Word → (l : Option Span) × grammar.IsDecl 128 0 (t ∷ u ∷ ts) (field_tree t.from (span_of u) l) rest × readings.IsLength text l n
 length-grown text _ _ rest (spells.plain {t = v} c) t u a b = (None, grammar.field_decl t u v a b c, readings.plain)
 length-grown text _ _ rest (spells.split {t = v} {l = w} {u = x} c f h i j g) t u a b = (Some (span_of w), grammar.split_field_decl t u v w x a b c f g, readings.split h i j)
 

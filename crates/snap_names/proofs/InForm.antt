@@ -1,29 +1,19 @@
 -- A program that is resolved is in form.
-use Rattle.std.proofs.Common.{◌≡◌, ℕ, zero, suc, ◌≤◌, ◌++◌, min, max, List, [], ◌∷◌, length, slice_get, Option, None, Some, Result, Ok, IfOk, sym, ap, ◌∙◌, subst, arith}
+use Rattle.std.proofs.Common.{◌≡◌, ℕ, zero, suc, ◌≤◌, ◌++◌, min, max, List, [], ◌∷◌, length, slice_get, Option, None, Some, Result, Ok, IfOk, sym, ap, ◌∙◌, subst, arith, bytes_eq}
 use Rattle.std.proofs.Math.Nat.{le-max_left, le-max_right}
 use Rattle.std.proofs.lemmas.Result.{IfOk-weaker}
 use Rattle.std.specs.List.{AllByRecursion, IsDistinct}
-use Rattle.std.specs.Str.{bytes_eq}
 use Rattle.std.proofs.lemmas.List.Elements.{All-from_recursion}
-use Rattle.snap_core.specs.declared.policy.Atom.{Atom}
-use Rattle.snap_core.specs.declared.policy.Pol.{Pol}
-use Rattle.snap_core.specs.declared.policy.Pol.TheVariants.{Filter, Set, Change, Par', Seq', If', Atomic'}
-use Rattle.snap_core.specs.declared.policy.Pred.{Pred}
-use Rattle.snap_core.specs.declared.policy.Pred.TheVariants.{Id, Drop, Field, State, Not', And', Or'}
-use Rattle.snap_core.specs.declared.program.Program.{Program}
-use Rattle.snap_core.specs.declared.program.Which.TheVariants.{Components, Arrays, Atoms, Nodes, Weight}
+use Rattle.snap_names.specs.Core.{Atom, Pol, Filter, Set, Change, Par', Seq', If', Atomic', Pred, Id, Drop, Field, State, Not', And', Or', CorePolicy, core_test, core_policy, nodes, weight}
+use Rattle.snap_names.specs.Declarations.{Program, Components, Arrays, Atoms, Nodes, Weight, Declared, ports, env_of, declare, declare_all, CoreProgram, core_program, greatest, limited, resolved}
 use Rattle.snap_core.specs.Fields.{IsFields, count, names_of}
 use Rattle.snap_core.specs.Names.{IsName}
 use Rattle.snap_core.specs.Programs.{PredHasArity, HasArity, IsInForm, IsBounded}
 use Rattle.snap_parse.specs.Tree.{DeclTree, SourceTree}
-use Rattle.snap_names.specs.declared.fault.NameFault.{NameFault}
-use Rattle.snap_names.specs.Core.{CorePolicy, core_test, core_policy, nodes, weight}
-use Rattle.snap_names.specs.Senses.{Arities}
+use Rattle.snap_names.specs.Senses.{NameFault, Arities}
 use Rattle.snap_names.specs.Reading.{read_policy}
-use Rattle.snap_names.specs.Declarations.{Declared, ports, env_of, declare, declare_all, CoreProgram, core_program, greatest, limited, resolved}
-use Rattle.snap_names.proofs.BoundedCore.{IsIndexed, TestFits, PolicyFits, PolFits-core_policy, Grows}
-use Rattle.snap_names.proofs.BoundedDeclared.{DeclaredFits, declare-fits, ports-fit, env-fits}
-use Rattle.snap_names.proofs.BoundedReading.{read_policy-fits}
+use Rattle.snap_names.proofs.BoundedCore.{IsIndexed, TestFits, PolicyFits, PolFits-core_policy}
+use Rattle.snap_names.proofs.BoundedDeclared.{DeclaredFits, PolicyRead, policy-read, declare-fits, ports-fit}
 use Rattle.snap_names.proofs.BoundedSteps.{IfOk-after, IfOk-both, IfOk-within}
 use Rattle.snap_names.proofs.DeclaredFields.{FieldsStand, declare-stands, ports-stand, IsFields-stand}
 use Rattle.snap_names.proofs.Placed.{DeclWritten, SourceWritten}
@@ -61,13 +51,11 @@ arity-of_index W v seen w few most s es h =
     kept ∙ ap (λ o. max 1 (min 8 (seen_or o))) (sym here)
 
 PredHasArity-core_test : (W : Type 0) (c v : ℕ) (seen : Arities) → W → v ≤ 64 → greatest seen ≤ 8 → (x : Pred) → TestFits W c v seen (core_test x) → PredHasArity (arity_in seen) x
-PredHasArity-core_test W c v seen w few most Id h = tt
-PredHasArity-core_test W c v seen w few most Drop h = tt
-PredHasArity-core_test W c v seen w few most (Field i n) h = tt
 PredHasArity-core_test W c v seen w few most (State s es a) h = arity-of_index W v seen w few most s es h.0
 PredHasArity-core_test W c v seen w few most (Not' _ x) h = PredHasArity-core_test W c v seen w few most x h
 PredHasArity-core_test W c v seen w few most (And' _ x _ y) h = (PredHasArity-core_test W c v seen w few most x h.0, PredHasArity-core_test W c v seen w few most y h.1)
 PredHasArity-core_test W c v seen w few most (Or' _ x _ y) h = (PredHasArity-core_test W c v seen w few most x h.0, PredHasArity-core_test W c v seen w few most y h.1)
+PredHasArity-core_test W c v seen w few most _ h = tt
 
 HasArity-core_policy : (W : Type 0) (c v : ℕ) (seen : Arities) → W → v ≤ 64 → greatest seen ≤ 8 → (p : Pol) → PolicyFits W c v seen (core_policy p) → HasArity (arity_in seen) p
 HasArity-core_policy W c v seen w few most (Filter x) h = PredHasArity-core_test W c v seen w few most x h
@@ -112,9 +100,7 @@ resolved-stands : (text : List ℕ) (s : SourceTree) → IfOk (resolved text s) 
 resolved-stands text s =
     let W = SourceWritten text s in
     IfOk-after (Stands W) (CoreStands W) (declare_all text s.decls ports) _ (declare_all-stands W text s.decls ports (ports-fit W, ports-stand W) (λ q. q.0)) (λ d h.
-    IfOk-after (λ x. Grows d.arities x.1 × PolicyFits W (count d.fields) (length d.arrays) x.1 x.0) (CoreStands W) (read_policy (env_of text d) s.policy d.arities) (limited d)
-    (read_policy-fits W (count d.fields) (length d.arrays) (env_of text d) s.policy (λ q. q.1) d.arities (env-fits W text d h.0))
-    (λ x k. limited-stands W d h.1 x k.1))
+    IfOk-after (PolicyRead W text (λ i. i) d s.policy) (CoreStands W) (read_policy (env_of text d) s.policy d.arities) (limited d) (policy-read W text (λ i. i) d h.0 s.policy (λ q. q.1)) (λ x k. limited-stands W d h.1 x k.1.0))
 
 program-stands : (text : List ℕ) (s : SourceTree) (p : Program) → resolved text s ≡ Ok (core_program p) → CoreStands (SourceWritten text s) (core_program p)
 program-stands text s p e = subst (λ r. IfOk r (CoreStands (SourceWritten text s))) e (resolved-stands text s)

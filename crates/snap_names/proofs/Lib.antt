@@ -1,6 +1,6 @@
 pub mod BoundedCore
 pub mod BoundedDeclared
-pub mod BoundedReading
+pub mod ReadTrees
 pub mod BoundedSenses
 pub mod BoundedSteps
 pub mod Lookups
@@ -23,8 +23,6 @@ pub mod Addresses
 pub mod Limited
 pub mod TreeReadings
 pub mod Faultless
-pub mod Filled
-pub mod FaultlessTrees
 pub mod FaultlessDeclared
 pub mod Readable
 pub mod ReadableTrees

@@ -1,13 +1,10 @@
 -- A program of a scope within all limits.
 use Rattle.std.proofs.Common.{◌≡◌, ◌≤◌, ◌∙◌, IfOk, Result, Ok, Err, Some, None, Option, option_map, ap, sym}
-use Rattle.snap_core.specs.declared.program.Program.{Program}
+use Rattle.snap_names.specs.Declarations.{Program, core_program}
 use Rattle.snap_names.specs.Core.{CorePolicy, core_policy}
-use Rattle.snap_names.specs.Declarations.{CoreProgram, core_program}
 use Rattle.snap_names.specs.Scopes.{IsWithin, Limits}
-use Rattle.snap_names.specs.declared.fault.NameFault.{NameFault}
-use Rattle.snap_names.specs.declared.scope.Part.{Part}
-use Rattle.snap_names.specs.declared.scope.Scope.{Scope}
-use Rattle.snap_names.specs.declared.scope.Tally.{Tally}
+use Rattle.snap_names.specs.Senses.{NameFault}
+use Rattle.snap_names.specs.Parts.{Part, Scope, Tally}
 
 abbrev policy_or : CorePolicy → Option CorePolicy → CorePolicy
 policy_or p None = p

@@ -1,10 +1,7 @@
 -- Look-ups in a map of names, by the bytes of a name.
-use Rattle.std.proofs.Common.{◌≡◌, ℕ, List, [], ◌∷◌, refl, ap, cond, Some}
-use Rattle.std.specs.Prelude.{Vec}
-use Rattle.std.specs.declared.alloc.Global.{Global}
+use Rattle.std.proofs.Common.{◌≡◌, ℕ, List, [], ◌∷◌, refl, ap, cond, Some, Vec, Global, bytes_eq}
 use Rattle.std.specs.Map.{lookup}
-use Rattle.std.specs.Str.{bytes_eq}
-use Rattle.snap_names.specs.declared.scope.Sense.{Sense}
+use Rattle.snap_names.specs.Senses.{Sense}
 use Rattle.snap_names.specs.Parts.{names_in}
 
 pub lookup-names_in : (name : List ℕ) (es : List (Vec ℕ Global × Sense)) → lookup (bytes_eq name) (names_in es) ≡ lookup (λ k. bytes_eq name k.items) es

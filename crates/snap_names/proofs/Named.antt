@@ -1,19 +1,10 @@
 -- What a lone name reads as.
-use Rattle.std.proofs.Common.{◌≡◌, ℕ, ◌+◌, List, Some, None, Result, Ok, Err, ap, sym, ◌∙◌, slice_get, arith}
-use Rattle.std.specs.Prelude.{IfOk, IfErr, OnOk}
-use Rattle.snap_parse.specs.declared.tree.Span.{Span}
-use Rattle.snap_names.specs.declared.scope.Sense.TheVariants.{Policy}
-use Rattle.snap_names.specs.declared.scope.Part.{Part}
-use Rattle.snap_names.specs.declared.scope.Body.{Body}
-use Rattle.snap_names.specs.declared.scope.Tally.{Tally}
-use Rattle.snap_names.specs.declared.scope.Scope.{Scope}
-use Rattle.snap_names.specs.declared.fault.NameFault.{NameFault}
-use Rattle.snap_names.specs.declared.fault.NameFault.TheVariants.{Kind, NoMemory}
+use Rattle.std.proofs.Common.{◌≡◌, ℕ, ◌+◌, List, Some, None, Result, Ok, Err, ap, sym, ◌∙◌, slice_get, arith, IfOk, IfErr, OnOk}
+use Rattle.snap_names.specs.Senses.{Span, Policy, NameFault, Kind, NoMemory, after, or_fault, sense_of}
+use Rattle.snap_names.specs.Parts.{Part, Body, Tally, Scope, IsPart, IsBody, AreBodies, Reads, words_of, env_in}
 use Rattle.snap_names.specs.Core.{CorePolicy, nodes}
 use Rattle.snap_names.specs.Declarations.{capped}
-use Rattle.snap_names.specs.Senses.{after, or_fault, sense_of}
 use Rattle.snap_names.specs.Reading.{named, body_of, is_filter_or_fault}
-use Rattle.snap_names.specs.Parts.{IsPart, IsBody, AreBodies, Reads, words_of, env_in}
 use Rattle.snap_names.proofs.Operands.{body_at, no_body_at}
 
 -- a `let`

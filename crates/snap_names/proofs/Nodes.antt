@@ -1,8 +1,8 @@
 -- The trees of policies and of operands joined by `|`, from their parts.
 use Rattle.std.proofs.Common.{◌≡◌, map}
+use Rattle.snap_parse.specs.Tree.{PolicyTree, SequenceTree, ChoiceTree, EitherTree, BothTree, SingleTree, policy_tree, sequence_tree, either_tree, both_tree, policy_append, policy_begin, either_append, either_begin, choice_node, single_node, both_node, either_node, policy_node, sequence_node}
 use Rattle.snap_parse.specs.declared.tree.Policy.{Policy, out-Policy, fold_out-Policy}
 use Rattle.snap_parse.specs.declared.tree.Either.{Either, out-Either, fold_out-Either}
-use Rattle.snap_parse.specs.Tree.{PolicyTree, SequenceTree, ChoiceTree, EitherTree, BothTree, SingleTree, policy_tree, sequence_tree, either_tree, both_tree, policy_append, policy_begin, either_append, either_begin, choice_node, single_node, both_node, either_node, policy_node, sequence_node}
 
 pub policy_tree-out : (x : Policy) → policy_tree x ≡ policy_append (policy_begin (out-Policy x).at) (map sequence_tree (out-Policy x).parts.items)
 unfolding policy_tree sequence_tree

@@ -5,11 +5,9 @@ use Rattle.snap_parse.specs.declared.tree.Choice.{Choice}
 use Rattle.snap_parse.specs.declared.tree.Both.{Both}
 use Rattle.snap_parse.specs.declared.tree.Single.{Single}
 use Rattle.snap_parse.specs.Tree.{BothTree, both_begin, both_more, both_append, EitherTree, either_begin, either_more, either_append, SingleTree, SequenceTree, sequence_begin, sequence_more, sequence_append, ChoiceTree, PolicyTree, policy_begin, policy_more, policy_append, single_tree, both_tree, choice_tree, sequence_tree, both_at, either_at}
-use Rattle.snap_names.specs.declared.scope.Body.{Body}
-use Rattle.snap_names.specs.declared.fault.NameFault.TheVariants.{Kind}
+use Rattle.snap_names.specs.Parts.{Body, IsBody, AreBodies, no_bodies, more_bodies}
+use Rattle.snap_names.specs.Senses.{Kind, Words}
 use Rattle.snap_names.specs.Core.{CorePolicy}
-use Rattle.snap_names.specs.Senses.{Words}
-use Rattle.snap_names.specs.Parts.{IsBody, AreBodies, no_bodies, more_bodies}
 use Rattle.snap_names.specs.Reading.{Env, is_predicate, both_is_predicate, either_is_predicate, choice_is_predicate, sequence_is_predicate, policy_is_predicate, single_fault, both_fault, either_fault}
 
 pub both_is_predicate-many : (e : Env) (b : BothTree) (s t : SingleTree) (xs : List SingleTree) → both_is_predicate e (both_append (both_more (both_more b s) t) xs) ≡ true
@@ -57,9 +55,8 @@ both_none e at (x ∷ xs) h = absurd (omega arith)
 
 pub both_one : (e : Env) (at : ℕ) (xs : List Single) (x : Single) → length xs ≡ 1 → x ≡ get_or xs 0 x →
     both_is_predicate e (both_append (both_begin at) (map single_tree xs)) ≡ is_predicate e (single_tree x)
-both_one e at [] x h is = absurd (omega arith)
 both_one e at (y ∷ []) x h is = ap (λ z. is_predicate e (single_tree z)) (sym is)
-both_one e at (y ∷ z ∷ xs) x h is = absurd (omega arith)
+both_one e at _ x h is = absurd (omega arith)
 
 pub both_many : (e : Env) (at : ℕ) (xs : List Single) → length xs ≢ 0 → length xs ≢ 1 → both_is_predicate e (both_append (both_begin at) (map single_tree xs)) ≡ true
 both_many e at [] h k = absurd (h refl)
@@ -72,9 +69,8 @@ either_none e at (x ∷ xs) h = absurd (omega arith)
 
 pub either_one : (e : Env) (at : ℕ) (xs : List Both) (x : Both) → length xs ≡ 1 → x ≡ get_or xs 0 x →
     either_is_predicate e (either_append (either_begin at) (map both_tree xs)) ≡ both_is_predicate e (both_tree x)
-either_one e at [] x h is = absurd (omega arith)
 either_one e at (y ∷ []) x h is = ap (λ z. both_is_predicate e (both_tree z)) (sym is)
-either_one e at (y ∷ z ∷ xs) x h is = absurd (omega arith)
+either_one e at _ x h is = absurd (omega arith)
 
 pub either_many : (e : Env) (at : ℕ) (xs : List Both) → length xs ≢ 0 → length xs ≢ 1 → either_is_predicate e (either_append (either_begin at) (map both_tree xs)) ≡ true
 either_many e at [] h k = absurd (h refl)
@@ -83,9 +79,8 @@ either_many e at (x ∷ y ∷ xs) h k = either_is_predicate-many e (either_begin
 
 pub sequence_one : (e : Env) (at : ℕ) (xs : List Choice) (x : Choice) → length xs ≡ 1 → x ≡ get_or xs 0 x →
     sequence_is_predicate e (sequence_append (sequence_begin at) (map choice_tree xs)) ≡ choice_is_predicate e (choice_tree x)
-sequence_one e at [] x h is = absurd (omega arith)
 sequence_one e at (y ∷ []) x h is = ap (λ z. choice_is_predicate e (choice_tree z)) (sym is)
-sequence_one e at (y ∷ z ∷ xs) x h is = absurd (omega arith)
+sequence_one e at _ x h is = absurd (omega arith)
 
 pub sequence_other : (e : Env) (at : ℕ) (xs : List Choice) → length xs ≢ 1 → sequence_is_predicate e (sequence_append (sequence_begin at) (map choice_tree xs)) ≡ false
 sequence_other e at [] k = refl
@@ -94,9 +89,8 @@ sequence_other e at (x ∷ y ∷ xs) k = sequence_is_predicate-many e (sequence_
 
 pub policy_one : (e : Env) (at : ℕ) (xs : List Sequence) (x : Sequence) → length xs ≡ 1 → x ≡ get_or xs 0 x →
     policy_is_predicate e (policy_append (policy_begin at) (map sequence_tree xs)) ≡ sequence_is_predicate e (sequence_tree x)
-policy_one e at [] x h is = absurd (omega arith)
 policy_one e at (y ∷ []) x h is = ap (λ z. sequence_is_predicate e (sequence_tree z)) (sym is)
-policy_one e at (y ∷ z ∷ xs) x h is = absurd (omega arith)
+policy_one e at _ x h is = absurd (omega arith)
 
 pub policy_other : (e : Env) (at : ℕ) (xs : List Sequence) → length xs ≢ 1 → policy_is_predicate e (policy_append (policy_begin at) (map sequence_tree xs)) ≡ false
 policy_other e at [] k = refl
@@ -106,9 +100,8 @@ policy_other e at (x ∷ y ∷ xs) k = policy_is_predicate-many e (policy_begin 
 -- the fault at the first token, by the number of operands
 pub both_fault_one : (w : Words) (at : ℕ) (xs : List Single) (x : Single) → length xs ≡ 1 → x ≡ get_or xs 0 x →
     both_fault w (both_append (both_begin at) (map single_tree xs)) ≡ single_fault w (single_tree x)
-both_fault_one w at [] x h is = absurd (omega arith)
 both_fault_one w at (y ∷ []) x h is = ap (λ z. single_fault w (single_tree z)) (sym is)
-both_fault_one w at (y ∷ z ∷ xs) x h is = absurd (omega arith)
+both_fault_one w at _ x h is = absurd (omega arith)
 
 both_fault-many : (w : Words) (b : BothTree) (s t : SingleTree) (xs : List SingleTree) → both_fault w (both_append (both_more (both_more b s) t) xs) ≡ Kind (both_at b)
 both_fault-many w b s t [] = refl
@@ -121,9 +114,8 @@ both_fault_other w at (x ∷ y ∷ xs) k = both_fault-many w (both_begin at) (si
 
 pub either_fault_one : (w : Words) (at : ℕ) (xs : List Both) (x : Both) → length xs ≡ 1 → x ≡ get_or xs 0 x →
     either_fault w (either_append (either_begin at) (map both_tree xs)) ≡ both_fault w (both_tree x)
-either_fault_one w at [] x h is = absurd (omega arith)
 either_fault_one w at (y ∷ []) x h is = ap (λ z. both_fault w (both_tree z)) (sym is)
-either_fault_one w at (y ∷ z ∷ xs) x h is = absurd (omega arith)
+either_fault_one w at _ x h is = absurd (omega arith)
 
 either_fault-many : (w : Words) (d : EitherTree) (b c : BothTree) (xs : List BothTree) → either_fault w (either_append (either_more (either_more d b) c) xs) ≡ Kind (either_at d)
 either_fault-many w d b c [] = refl

@@ -4,23 +4,17 @@ use Rattle.snap_parse.specs.declared.tree.Either.{Either}
 use Rattle.snap_parse.specs.declared.tree.Both.{Both}
 use Rattle.snap_parse.specs.declared.tree.Single.{Single}
 use Rattle.snap_parse.specs.Tree.{EitherTree, BothTree, SingleTree, ChoiceTree, either_begin, either_more, either_append, both_begin, both_more, both_append, single_tree, both_tree, either_tree}
-use Rattle.snap_names.specs.declared.scope.Scope.{Scope}
-use Rattle.snap_names.specs.declared.scope.Part.{Part}
-use Rattle.snap_names.specs.declared.scope.Tally.{Tally}
-use Rattle.snap_names.specs.declared.fault.NameFault.{NameFault}
-use Rattle.snap_names.specs.declared.fault.NameFault.TheVariants.{NoMemory}
+use Rattle.snap_names.specs.Parts.{Scope, Part, Tally, AreBodies, HasRead, HasReadTest, Reads, env_in}
+use Rattle.snap_names.specs.Senses.{NameFault, NoMemory, Arities, after}
 use Rattle.snap_names.specs.Core.{CorePolicy, choice}
-use Rattle.snap_names.specs.Senses.{Arities, after}
 use Rattle.snap_names.specs.Reading.{Env, Reading, TestReading, operand, whole_test, either_is_predicate, either_fault, read_single, read_both, read_singles, read_either, read_boths, read_choice}
-use Rattle.snap_names.specs.Parts.{AreBodies, HasRead, HasReadTest, Reads, env_in}
 use Rattle.snap_names.proofs.Readings.{HasReadTest-operand, operand-no_test}
 
 -- One operand stands alone, and others are joined.
 pub read_both-one : (e : Env) (at : ℕ) (xs : List Single) (x : Single) (a : Arities) → length xs ≡ 1 → x ≡ get_or xs 0 x →
     read_both e (both_append (both_begin at) (map single_tree xs)) a ≡ read_single e (single_tree x) a
-read_both-one e at [] x a h is = absurd (omega arith)
 read_both-one e at (y ∷ []) x a h is = ap (λ z. read_single e (single_tree z) a) (sym is)
-read_both-one e at (y ∷ z ∷ xs) x a h is = absurd (omega arith)
+read_both-one e at _ x a h is = absurd (omega arith)
 
 read_both-many : (e : Env) (b : BothTree) (s t : SingleTree) (xs : List SingleTree) (a : Arities) →
     read_both e (both_append (both_more (both_more b s) t) xs) a ≡ after (read_singles e (both_append (both_more (both_more b s) t) xs) a) whole_test
@@ -35,9 +29,8 @@ read_both-other e at (x ∷ y ∷ xs) a k = read_both-many e (both_begin at) (si
 
 pub read_either-one : (e : Env) (at : ℕ) (xs : List Both) (x : Both) (a : Arities) → length xs ≡ 1 → x ≡ get_or xs 0 x →
     read_either e (either_append (either_begin at) (map both_tree xs)) a ≡ read_both e (both_tree x) a
-read_either-one e at [] x a h is = absurd (omega arith)
 read_either-one e at (y ∷ []) x a h is = ap (λ z. read_both e (both_tree z) a) (sym is)
-read_either-one e at (y ∷ z ∷ xs) x a h is = absurd (omega arith)
+read_either-one e at _ x a h is = absurd (omega arith)
 
 read_either-many : (e : Env) (d : EitherTree) (b c : BothTree) (xs : List BothTree) (a : Arities) →
     read_either e (either_append (either_more (either_more d b) c) xs) a ≡ after (read_boths e (either_append (either_more (either_more d b) c) xs) a) whole_test

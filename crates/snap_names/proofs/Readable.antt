@@ -2,19 +2,8 @@
 use Rattle.std.proofs.Common.{◌≡◌, ℕ, true, ◌==◌, List, [], ◌∷◌, ◌++◌, length, Option, Some, Result, Ok, Err, if◌then◌else◌, refl, sym, ap, ◌∙◌, arith, append_assoc, length-append}
 use Rattle.std.proofs.lemmas.List.{append-nil}
 use Rattle.snap_core.specs.Figures.{number_of, address_of}
-use Rattle.snap_core.specs.declared.policy.Atom.{Atom}
-use Rattle.snap_core.specs.declared.policy.Atom.TheVariants.{Num, Comp}
-use Rattle.snap_parse.specs.declared.tree.Span.{Span}
-use Rattle.snap_parse.specs.declared.tree.Literal.{Literal}
-use Rattle.snap_parse.specs.declared.tree.Literal.TheVariants as literals
-use Rattle.snap_parse.specs.declared.tree.Value.{Value}
-use Rattle.snap_parse.specs.declared.tree.Value.TheVariants as values
-use Rattle.snap_names.specs.declared.scope.Sense.{Sense}
-use Rattle.snap_names.specs.declared.scope.Sense.TheVariants.{Plain, Split, Constant}
-use Rattle.snap_names.specs.declared.fault.NameFault.{NameFault}
-use Rattle.snap_names.specs.declared.fault.NameFault.TheVariants.{Unknown, Wide, Kind, Prefix}
-use Rattle.snap_names.specs.Core.{field_test, set, seq, net, host, whole_test}
-use Rattle.snap_names.specs.Senses.{after, or_fault, word, sense_of, literal, constant, constant_of, field_atom, array_atom, atom_of, address_at, split_address, address_of_sense, split_of_sense, split_atoms, net_if, split_test, test_of_sense, field_equals, set_of_sense, field_gets, value_atoms, atoms_of_sense, atoms_behind, width_of, value_width, width}
+use Rattle.snap_names.specs.Core.{Atom, Num, Comp, field_test, set, seq, net, host, whole_test}
+use Rattle.snap_names.specs.Senses.{Span, Literal, Value, Sense, Plain, Split, Constant, NameFault, Unknown, Wide, Kind, Prefix, after, or_fault, word, sense_of, literal, constant, constant_of, field_atom, array_atom, atom_of, address_at, split_address, address_of_sense, split_of_sense, split_atoms, net_if, split_test, test_of_sense, field_equals, set_of_sense, field_gets, value_atoms, atoms_of_sense, atoms_behind, width_of, value_width, width}
 use Rattle.snap_names.specs.Spells.{Scope}
 use Rattle.snap_names.proofs.Faultless.{words}
 use Rattle.snap_names.proofs.TreeReadings.{Means, number, IsAddress, address, constant_address, HasAtoms, literal as a_literal, constant as a_constant, component, components, HaveAtoms, no_place, next_place}
@@ -30,10 +19,10 @@ pub after_sense-gives : {B : Type 0} (e : Scope) (t : Span) (s : Sense) (f : Sen
 after_sense-gives e t s f m = after-gives (sense_of (words e) t) f s (sense_of-gives e t s m)
 
 pub literal-gives : (text : List ℕ) (l : Literal) (n : ℕ) → number text l ≡ Some n → literal text l ≡ Ok n
-literal-gives text (literals.Number t) n h = ap (or_fault (Wide t.from)) h
-literal-gives text (literals.Address t) n h = ap (or_fault (Wide t.from)) h
-literal-gives text (literals.True t) n h = ap (or_fault (Wide t.from)) h
-literal-gives text (literals.False t) n h = ap (or_fault (Wide t.from)) h
+literal-gives text (Literal.Number t) n h = ap (or_fault (Wide t.from)) h
+literal-gives text (Literal.Address t) n h = ap (or_fault (Wide t.from)) h
+literal-gives text (Literal.True t) n h = ap (or_fault (Wide t.from)) h
+literal-gives text (Literal.False t) n h = ap (or_fault (Wide t.from)) h
 
 pub constant-gives : (e : Scope) (v : Value) (n : ℕ) → HasAtoms e v (Num n ∷ []) → constant (words e) v ≡ Ok n
 constant-gives e _ n (a_literal {l = l} h) = literal-gives e.text l n h
@@ -79,8 +68,8 @@ pub eqb-same : (n : ℕ) → (n == n) ≡ true
 eqb-same n = grind arith
 
 whole_test-gives : (e : Scope) (v : Value) (a b n x : ℕ) → IsAddress e v x → split_test (words e) a b n v ≡ Ok (whole_test a b n x)
-whole_test-gives e _ a b n x (address {t = t} h) = after-gives (split_address (words e) (values.Literal (literals.Address t))) (λ x. Ok (whole_test a b n x)) x (split_address-gives e _ x (address h))
-whole_test-gives e _ a b n x (constant_address {t = t} m) = after-gives (split_address (words e) (values.Name t)) (λ x. Ok (whole_test a b n x)) x (split_address-gives e _ x (constant_address m))
+whole_test-gives e _ a b n x (address {t = t} h) = after-gives (split_address (words e) (Value.Literal (Literal.Address t))) (λ x. Ok (whole_test a b n x)) x (split_address-gives e _ x (address h))
+whole_test-gives e _ a b n x (constant_address {t = t} m) = after-gives (split_address (words e) (Value.Name t)) (λ x. Ok (whole_test a b n x)) x (split_address-gives e _ x (constant_address m))
 
 net_if-gives : (e : Scope) (n : ℕ) (f : NameFault) (u : Span) (x : ℕ) (o : Option ℕ) → address_of (word e.text u) ≡ Some x → o ≡ Some n → net_if n f (address_at e.text u) o ≡ Ok (net n x)
 net_if-gives e n f u x o h k =
@@ -93,9 +82,9 @@ test-gives e t v c n m h = after_sense-gives e t (Plain c) (test_of_sense (words
 pub test_split-gives : (e : Scope) (t : Span) (v : Value) (a b n x : ℕ) → Means e t (Split a b n) → IsAddress e v x → field_equals (words e) t v ≡ Ok (whole_test a b n x)
 test_split-gives e t v a b n x m h = after_sense-gives e t (Split a b n) (test_of_sense (words e) t.from v) m ∙ whole_test-gives e v a b n x h
 
-pub test_net-gives : (e : Scope) (t u l : Span) (a b n x : ℕ) → Means e t (Split a b n) → address_of (word e.text u) ≡ Some x → number_of (word e.text l) ≡ Some n → field_equals (words e) t (values.Prefix u l) ≡ Ok (field_test a (net n x))
+pub test_net-gives : (e : Scope) (t u l : Span) (a b n x : ℕ) → Means e t (Split a b n) → address_of (word e.text u) ≡ Some x → number_of (word e.text l) ≡ Some n → field_equals (words e) t (Value.Prefix u l) ≡ Ok (field_test a (net n x))
 test_net-gives e t u l a b n x m h k =
-    after_sense-gives e t (Split a b n) (test_of_sense (words e) t.from (values.Prefix u l)) m
+    after_sense-gives e t (Split a b n) (test_of_sense (words e) t.from (Value.Prefix u l)) m
     ∙ ap (λ r. after r (λ y. Ok (field_test a y))) (net_if-gives e n (Prefix u.from) u x (number_of (word e.text l)) h k)
 
 pub gets-gives : (e : Scope) (t : Span) (v : Value) (c : ℕ) (x : Atom) → Means e t (Plain c) → HasAtoms e v (x ∷ []) → field_gets (words e) t v ≡ Ok (set c x)
@@ -110,8 +99,8 @@ gets_address-gives e t v a b n x m h =
     after_sense-gives e t (Split a b n) (set_of_sense (words e) t.from v) m
     ∙ after-gives (split_atoms (words e) n v) (λ x. Ok (seq (set a x.0) (set b x.1))) (Num (net n x), Num (host n x)) (address_atoms-gives e v n x h)
 
-pub gets_split-gives : (e : Scope) (t u : Span) (a b c d n : ℕ) → Means e t (Split a b n) → Means e u (Split c d n) → field_gets (words e) t (values.Name u) ≡ Ok (seq (set a (Comp c)) (set b (Comp d)))
+pub gets_split-gives : (e : Scope) (t u : Span) (a b c d n : ℕ) → Means e t (Split a b n) → Means e u (Split c d n) → field_gets (words e) t (Value.Name u) ≡ Ok (seq (set a (Comp c)) (set b (Comp d)))
 gets_split-gives e t u a b c d n m k =
-    after_sense-gives e t (Split a b n) (set_of_sense (words e) t.from (values.Name u)) m
-    ∙ after-gives (split_atoms (words e) n (values.Name u)) (λ x. Ok (seq (set a x.0) (set b x.1))) (Comp c, Comp d)
+    after_sense-gives e t (Split a b n) (set_of_sense (words e) t.from (Value.Name u)) m
+    ∙ after-gives (split_atoms (words e) n (Value.Name u)) (λ x. Ok (seq (set a x.0) (set b x.1))) (Comp c, Comp d)
     (after_sense-gives e u (Split c d n) (split_of_sense n u.from) k ∙ ap (λ z. if z then Ok (Comp c, Comp d) else Err (Kind u.from)) (eqb-same n))

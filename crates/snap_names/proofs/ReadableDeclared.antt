@@ -2,25 +2,17 @@
 use Rattle.std.proofs.Common.{◌≡◌, ℕ, zero, suc, ◌+◌, ◌≤◌, Bool, true, false, List, [], ◌∷◌, ◌++◌, length, slice_get, Option, None, Some, is_some, Result, Ok, Err, IfOk, if◌then◌else◌, ◌&&◌, nat_le, refl, sym, ap, ◌∙◌, subst, arith, le_refl, le_trans, length-append}
 use Rattle.std.proofs.lemmas.Bool.{le-leb, le-ltb}
 use Rattle.std.specs.List.{list_any}
-use Rattle.snap_core.specs.declared.program.Field.{Field}
-use Rattle.snap_core.specs.declared.program.Program.{Program}
+use Rattle.snap_names.specs.Declarations.{Field, Program, Components, Arrays, Atoms, Nodes, Weight, Declared, ports, env_of, field_names, field_senses, prefix_length, with_field, with_array, with_constant, with_let, declare, declare_all, core_program, greatest, capped, within, limited, resolved}
 use Rattle.snap_core.specs.declared.program.Which.{Which}
-use Rattle.snap_core.specs.declared.program.Which.TheVariants.{Components, Arrays, Atoms, Nodes, Weight}
 use Rattle.snap_core.specs.Fields.{count, width}
-use Rattle.snap_parse.specs.declared.tree.Span.{Span}
 use Rattle.snap_parse.specs.Tree.{DeclTree, SourceTree}
-use Rattle.snap_names.specs.declared.scope.Sense.{Sense}
-use Rattle.snap_names.specs.declared.scope.Sense.TheVariants.{Array, Constant, Policy}
-use Rattle.snap_names.specs.declared.fault.NameFault.{NameFault}
-use Rattle.snap_names.specs.declared.fault.NameFault.TheVariants.{Twice, Prefix, Wide, Limit}
+use Rattle.snap_names.specs.Senses.{Span, Sense, Array, Constant, Policy, NameFault, Twice, Prefix, Wide, Limit, Arities, after, or_fault, word, number_at, literal, is_address}
 use Rattle.snap_names.specs.Core.{CorePolicy, core_policy, nodes, weight}
-use Rattle.snap_names.specs.Senses.{Arities, after, or_fault, word, number_at, literal, is_address}
 use Rattle.snap_names.specs.Reading.{read_policy}
-use Rattle.snap_names.specs.Declarations.{Declared, ports, env_of, field_names, field_senses, prefix_length, with_field, with_array, with_constant, with_let, declare, declare_all, core_program, greatest, capped, within, limited, resolved}
 use Rattle.snap_names.specs.Spells.{Scope, senses, before_text, is_known}
 use Rattle.snap_names.proofs.BoundedDeclared.{DeclaredFits, declare-fits, ports-fit, count-append}
 use Rattle.snap_names.proofs.FaultlessDeclared.{fields-known, senses-short}
-use Rattle.snap_names.proofs.FaultlessTrees.{Agrees}
+use Rattle.snap_names.proofs.ReadTrees.{Agrees}
 use Rattle.snap_names.proofs.Readable.{after-gives, literal-gives}
 use Rattle.snap_names.proofs.ReadableTrees.{Gives, policy-gives}
 use Rattle.snap_names.proofs.TreeReadings.{IsLength, plain, split, Declares, field, array, const, body_of_let, DeclaresAll, no_more, one_more, IsProgramOf}
@@ -124,8 +116,7 @@ one-more e _ _ _ (field {t = t} {n = n} is) =
     let counted : count (e.fields ++ record { name = word e.text t; prefix = n } ∷ []) ≡ count e.fields + (width n + 0) = count-append e.fields (record { name = word e.text t; prefix = n } ∷ []) in
     (omega (arith, counted), le_refl (length e.arrays))
 one-more e _ _ _ (array {t = t}) = (le_refl (count e.fields), omega (arith, length-append e.arrays (word e.text t ∷ [])))
-one-more e _ _ _ (const is) = (le_refl (count e.fields), le_refl (length e.arrays))
-one-more e _ _ _ (body_of_let is) = (le_refl (count e.fields), le_refl (length e.arrays))
+one-more e _ _ _ _ = (le_refl (count e.fields), le_refl (length e.arrays))
 
 all-more : (e : Scope) (ts : List DeclTree) (f : Scope) → DeclaresAll e ts f → (count e.fields ≤ count f.fields) × (length e.arrays ≤ length f.arrays)
 all-more e _ _ no_more = (le_refl (count e.fields), le_refl (length e.arrays))

@@ -1,24 +1,15 @@
 -- A policy that `TreeReadings` knows is read without a fault, where arities so far agree.
 use Rattle.std.proofs.Common.{◌≡◌, ℕ, zero, suc, ◌-◌, ◌%◌, ◌^◌, ◌<◌, ◌≤◌, min, Bool, true, ◌==◌, List, [], ◌∷◌, slice_get, slice_set, Option, None, Some, Result, Ok, Err, if◌then◌else◌, refl, sym, ap, ◌∙◌, subst, arith, ◌⊎◌, inl, inr}
 use Rattle.std.proofs.lemmas.Bool.{false≢true}
-use Rattle.snap_core.specs.declared.policy.Atom.{Atom}
-use Rattle.snap_core.specs.declared.policy.Atom.TheVariants.{Num}
-use Rattle.snap_core.specs.declared.policy.Op.{Op}
-use Rattle.snap_core.specs.declared.policy.Op.TheVariants.{Put, Add}
-use Rattle.snap_parse.specs.declared.tree.Span.{Span}
-use Rattle.snap_parse.specs.declared.tree.Value.{Value}
+use Rattle.snap_names.specs.Core.{Atom, Num, Op, Put, Add, CoreTest, id_test, not_test, and_test, or_test, field_test, state_test, CorePolicy, filter, change, par, seq, choice, atomic, is_filter, net, whole_test}
 use Rattle.snap_parse.specs.Tree.{PolicyTree, SequenceTree, ChoiceTree, if_tree, EitherTree, either_begin, either_more, BothTree, both_begin, both_more, SingleTree}
-use Rattle.snap_names.specs.declared.scope.Sense.TheVariants.{Array, Policy}
-use Rattle.snap_names.specs.declared.fault.NameFault.{NameFault}
-use Rattle.snap_names.specs.declared.fault.NameFault.TheVariants.{Kind, Arity}
-use Rattle.snap_names.specs.Core.{CoreTest, id_test, not_test, and_test, or_test, field_test, state_test, CorePolicy, filter, change, par, seq, choice, atomic, is_filter, net, whole_test}
-use Rattle.snap_names.specs.Senses.{Arities, Place, after, or_fault, sense_of, constant, array_atom, field_equals, field_gets, array_of_sense, arity_seen, atoms_behind, width, place_of, place}
+use Rattle.snap_names.specs.Senses.{Span, Value, Array, Policy, NameFault, Kind, Arity, Arities, Place, after, or_fault, sense_of, constant, array_atom, field_equals, field_gets, array_of_sense, arity_seen, atoms_behind, width, place_of, place}
 use Rattle.snap_names.specs.Reading.{body_of, named, is_filter_or_fault, is_predicate, both_is_predicate, either_is_predicate, choice_is_predicate, sequence_is_predicate, policy_is_predicate, single_fault, both_fault, either_fault, Reading, TestReading, as_test, operand, joined, more, whole, whole_test as a_whole_test, changed, tested, read_sequences, read_choices, read_choice, read_either, read_boths, read_both, read_singles, read_single, read_policy}
 use Rattle.snap_names.specs.Spells.{Scope}
 use Rattle.snap_names.proofs.BoundedSenses.{NamesFit}
 use Rattle.snap_names.proofs.Faultless.{words, env}
-use Rattle.snap_names.proofs.FaultlessTrees.{Agrees, array-below}
-use Rattle.snap_names.proofs.Filled.{HasBoth, HasSingle}
+use Rattle.snap_names.proofs.ReadTrees.{Agrees, array-below}
+use Rattle.snap_names.proofs.Placed.{HasBoth, HasSingle}
 use Rattle.snap_names.proofs.Readable.{after-gives, after_sense-gives, constant-gives, array_atom-gives, atoms_behind-gives, width-is, eqb-same, test-gives, test_split-gives, test_net-gives, gets-gives, gets_address-gives, gets_split-gives}
 use Rattle.snap_names.proofs.TreeReadings.{Means, IsPlace, Changes, IsPolicy, sequence, plus, IsSequence, choose, semicolon, IsChoice, if_then, no_choice, IsEither, both, or, IsBoth, single, and, IsSingle, negation, identity, drop, group, undivided, body, test, test_split, test_net, gets, gets_address, gets_split, is_one, test_array, put, up, down, add, sub}
 

@@ -1,14 +1,10 @@
 -- How a reading goes on as more is read.
-use Rattle.std.proofs.Common.{◌≡◌, ℕ, ◌+◌, Bool, true, false, Option, Some, None, Result, Ok, Err, refl, ap, sym, ◌∙◌, arith, subst}
-use Rattle.std.specs.Prelude.{option_map, is_some, if◌then◌else◌}
-use Rattle.snap_names.specs.declared.scope.Part.{Part}
-use Rattle.snap_names.specs.declared.scope.Tally.{Tally}
-use Rattle.snap_names.specs.declared.fault.NameFault.{NameFault}
+use Rattle.std.proofs.Common.{◌≡◌, ℕ, ◌+◌, Bool, true, false, Option, Some, None, Result, Ok, Err, refl, ap, sym, ◌∙◌, arith, subst, option_map, is_some, if◌then◌else◌}
+use Rattle.snap_names.specs.Parts.{Part, Tally, IsPart, IsPartOf, HasRead, HasReadTest, HaveRead, HaveReadTests, nodes_of_all}
+use Rattle.snap_names.specs.Senses.{NameFault, Arities, after}
 use Rattle.snap_names.specs.Core.{CoreTest, CorePolicy, id_test, not_test, filter, set, change, par, seq, choice, atomic, is_filter, test_nodes, nodes}
-use Rattle.snap_names.specs.Senses.{Arities, after}
 use Rattle.snap_names.specs.Reading.{Reading, TestReading, joined, more, as_test, operand, whole, whole_test}
 use Rattle.snap_names.specs.Declarations.{capped}
-use Rattle.snap_names.specs.Parts.{IsPart, IsPartOf, HasRead, HasReadTest, HaveRead, HaveReadTests, nodes_of_all}
 use Rattle.snap_names.proofs.PartLemmas.{IsPart-later, IsPartOf-later}
 
 -- the nodes of joined operands
@@ -98,12 +94,7 @@ as_test_of f r old new part h t (filter x) is = record {
   counted = h.counted ∙ ap (λ p. capped (old.nodes + nodes p)) (sym is);
   stands = subst (λ p. IsPart p new.nodes part) (sym is) h.stands;
 }
-as_test_of f r old new part h t (set c a) is = absurd (let no : true ≡ false = sym t ∙ h.stands.is_test ∙ ap is_filter (sym is) in cc)
-as_test_of f r old new part h t (change u) is = absurd (let no : true ≡ false = sym t ∙ h.stands.is_test ∙ ap is_filter (sym is) in cc)
-as_test_of f r old new part h t (par p q) is = absurd (let no : true ≡ false = sym t ∙ h.stands.is_test ∙ ap is_filter (sym is) in cc)
-as_test_of f r old new part h t (seq p q) is = absurd (let no : true ≡ false = sym t ∙ h.stands.is_test ∙ ap is_filter (sym is) in cc)
-as_test_of f r old new part h t (choice x p q) is = absurd (let no : true ≡ false = sym t ∙ h.stands.is_test ∙ ap is_filter (sym is) in cc)
-as_test_of f r old new part h t (atomic p) is = absurd (let no : true ≡ false = sym t ∙ h.stands.is_test ∙ ap is_filter (sym is) in cc)
+as_test_of f r old new part h t _ is = absurd (let no : true ≡ false = sym t ∙ h.stands.is_test ∙ ap is_filter (sym is) in cc)
 
 pub HasReadTest-operand : (b : Bool) (f : NameFault) (r : Reading) (old new : Tally) (part : Part) → b ≡ true → HasRead r old new part → part.is_test ≡ true →
     HasReadTest (operand b f r) old new part
@@ -114,12 +105,7 @@ HasReadTest-operand b f r old new part sure h t =
 no_test_of : (f : NameFault) (r : Reading) (old new : Tally) (part : Part) (h : HasRead r old new part) → part.is_test ≡ false →
     (p : CorePolicy) → p ≡ h.policy → after r (as_test f) ≡ Err f
 no_test_of f r old new part h t (filter x) is = absurd (let no : false ≡ true = sym t ∙ h.stands.is_test ∙ ap is_filter (sym is) in cc)
-no_test_of f r old new part h t (set c a) is = ap (λ y. after y (as_test f)) h.reading ∙ ap (λ p. as_test f (p, new.arities.items)) (sym is)
-no_test_of f r old new part h t (change u) is = ap (λ y. after y (as_test f)) h.reading ∙ ap (λ p. as_test f (p, new.arities.items)) (sym is)
-no_test_of f r old new part h t (par p q) is = ap (λ y. after y (as_test f)) h.reading ∙ ap (λ p. as_test f (p, new.arities.items)) (sym is)
-no_test_of f r old new part h t (seq p q) is = ap (λ y. after y (as_test f)) h.reading ∙ ap (λ p. as_test f (p, new.arities.items)) (sym is)
-no_test_of f r old new part h t (choice x p q) is = ap (λ y. after y (as_test f)) h.reading ∙ ap (λ p. as_test f (p, new.arities.items)) (sym is)
-no_test_of f r old new part h t (atomic p) is = ap (λ y. after y (as_test f)) h.reading ∙ ap (λ p. as_test f (p, new.arities.items)) (sym is)
+no_test_of f r old new part h t _ is = ap (λ y. after y (as_test f)) h.reading ∙ ap (λ p. as_test f (p, new.arities.items)) (sym is)
 
 pub operand-no_test : (b : Bool) (f : NameFault) (r : Reading) (old new : Tally) (part : Part) → b ≡ true → HasRead r old new part → part.is_test ≡ false → operand b f r ≡ Err f
 operand-no_test b f r old new part sure h t = ap (λ c. operand c f r) sure ∙ no_test_of f r old new part h t h.policy refl
@@ -165,8 +151,7 @@ policies_of (Err f) = Err f
 whole-policies_of : (r : Result (Option CoreTest × Arities) NameFault) → after (policies_of r) whole ≡ after r whole_test
 unfolding policies_of
 whole-policies_of (Ok (None, a)) = refl
-whole-policies_of (Ok (Some x, a)) = refl
-whole-policies_of (Err f) = refl
+whole-policies_of _ = refl
 
 as_policies : (r : Result (Option CoreTest × Arities) NameFault) (old new : Tally) (parts : Option Part) → HaveReadTests r old new parts → HaveRead (policies_of r) old new parts
 unfolding policies_of

@@ -1,17 +1,12 @@
 -- A tree is resolved declaration by declaration.
-use Rattle.std.proofs.Common.{◌≡◌, ℕ, ◌≤◌, ◌<◌, ◌+◌, length, get_or, add-one, min, arith, List, [], ◌∷◌, map, drop, Result, Ok, Err, IfErr, refl, sym, ap, ◌∙◌, subst}
-use Rattle.std.specs.Result.{IsErrAnd}
+use Rattle.std.proofs.Common.{◌≡◌, ℕ, ◌≤◌, ◌<◌, ◌+◌, length, get_or, add-one, min, arith, List, [], ◌∷◌, map, drop, Result, Ok, Err, IfErr, refl, sym, ap, ◌∙◌, subst, IsErrAnd}
 use Rattle.std.proofs.lemmas.List.{drop_all}
 use Rattle.std.proofs.lemmas.Result.{err_from_is_err_and}
 use Rattle.std.proofs.Math.Seq.{drop-cons}
-use Rattle.snap_names.specs.declared.scope.Part.{Part}
-use Rattle.snap_names.specs.declared.scope.Tally.{Tally}
-use Rattle.snap_names.specs.Parts.{AreBodies, HasRead, env_in}
+use Rattle.snap_names.specs.Parts.{Part, Tally, AreBodies, HasRead, env_in, Scope}
 use Rattle.snap_parse.specs.Tree.{DeclTree, SourceTree}
-use Rattle.snap_names.specs.declared.scope.Scope.{Scope}
-use Rattle.snap_names.specs.declared.fault.NameFault.{NameFault}
+use Rattle.snap_names.specs.Senses.{NameFault, Arities, after}
 use Rattle.snap_names.specs.Core.{CorePolicy, nodes}
-use Rattle.snap_names.specs.Senses.{Arities, after}
 use Rattle.snap_names.specs.Reading.{read_policy}
 use Rattle.snap_names.specs.Declarations.{ports, env_of, capped, declare, declare_all, limited, resolved, CoreProgram}
 use Rattle.snap_names.specs.Scopes.{declared_in, IsScope, HasDeclared, Limits}

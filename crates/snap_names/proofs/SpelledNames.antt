@@ -1,24 +1,19 @@
 -- The words that a text spells are names.
-use Rattle.std.proofs.Common.{◌≡◌, ℕ, zero, suc, ◌+◌, ◌-◌, ◌<◌, ◌≤◌, ◌⊎◌, Bool, true, false, not, ◌&&◌, ◌||◌, List, [], ◌∷◌, length, take, drop, slice_index, nat_le, refl, sym, ap, ◌∙◌, subst, inl, inr, arith}
+use Rattle.std.proofs.Common.{◌≡◌, ℕ, zero, suc, ◌+◌, ◌-◌, ◌<◌, ◌≤◌, ◌⊎◌, Bool, true, false, not, ◌&&◌, ◌||◌, List, [], ◌∷◌, length, take, drop, slice_index, nat_le, refl, sym, ap, ◌∙◌, subst, inl, inr, arith, bytes_eq}
 use Rattle.std.specs.List.{AllByRecursion, list_any}
-use Rattle.std.specs.Str.{bytes_eq}
 use Rattle.std.proofs.lemmas.Slice.Eq.{bytes_eq-Decides}
 use Rattle.std.proofs.lemmas.Bool.Decides.{nat_tests}
 use Rattle.std.proofs.lemmas.List.{length-drop, drop-drop}
 use Rattle.std.proofs.lemmas.Bool.{or_right, or_left, and_from}
 use Rattle.snap_core.specs.Names.{is_letter, is_plain, is_joint, begins_plain, goes_on, is_word, keywords, is_keyword, IsName}
-use Rattle.snap_lex.specs.declared.Token.{Token}
-use Rattle.snap_lex.specs.declared.Kind.{Kind}
-use Rattle.snap_lex.specs.declared.Kind.TheVariants as kinds
-use Rattle.snap_lex.specs.declared.Key.{Key}
-use Rattle.snap_lex.specs.declared.Key.TheVariants as keys
+use Rattle.snap_names.specs.Spells.{Token, Kind, Key}
 use Rattle.snap_lex.specs.Lexemes.{IsWord, IsLexeme, a_name, a_key, a_number, an_address, a_sign, key_text, Spells, spells_nothing, spells_blank, spells_comment, spells_token, SpellsTokens, is_part}
 use Rattle.snap_parse.specs.Tree.{span_of}
 use Rattle.snap_names.specs.Senses.{word}
 
 -- a token that is a word spells a name
 abbrev pub IsNamed : List ℕ → Token → Type 0
-IsNamed text t = t.kind ≡ kinds.Word → IsName (word text (span_of t))
+IsNamed text t = t.kind ≡ Kind.Word → IsName (word text (span_of t))
 
 -- the byte at i of n goes on with a word
 abbrev GoesOn : List ℕ → ℕ → ℕ → Type 0
@@ -63,7 +58,7 @@ apart-list_any w (k ∷ ks) h = rw (apart (bytes_eq w k) refl) (apart-list_any w
 
 no_keyword : (w : List ℕ) → ((key : Key) → w ≡ key_text key → ⊥) → is_keyword w ≡ false
 no_keyword w h = apart-list_any w keywords
-    (h keys.Field, (h keys.Array, (h keys.Const, (h keys.Let, (h keys.If, (h keys.Then, (h keys.Else, (h keys.Id, (h keys.Drop, (h keys.Atomic, (h keys.True, (h keys.False, tt))))))))))))
+    (h Key.Field, (h Key.Array, (h Key.Const, (h Key.Let, (h Key.If, (h Key.Then, (h Key.Else, (h Key.Id, (h Key.Drop, (h Key.Atomic, (h Key.True, (h Key.False, tt))))))))))))
 
 IsName-word : (bytes : List ℕ) (n : ℕ) → IsWord bytes n → ((key : Key) → take n bytes ≡ key_text key → ⊥) → IsName (take n bytes)
 IsName-word bytes n w h = and_from _ _ (is_word-take bytes n w.some w.within w.first (goes_on-take bytes n w.within w.parts)) (ap not (no_keyword (take n bytes) h))
@@ -74,23 +69,23 @@ record IsSpelledName (bytes : List ℕ) (n : ℕ) : Type 0 where
   within : n ≤ length bytes
   name : IsName (take n bytes)
 
-lexeme-name : (bytes : List ℕ) (n : ℕ) (kind : Kind) → IsLexeme bytes n kind → kind ≡ kinds.Word → IsSpelledName bytes n
+lexeme-name : (bytes : List ℕ) (n : ℕ) (kind : Kind) → IsLexeme bytes n kind → kind ≡ Kind.Word → IsSpelledName bytes n
 lexeme-name bytes n _ (a_name w h) e = record { some = w.some; within = w.within; name = IsName-word bytes n w h }
 lexeme-name bytes n _ (a_key key w h) e = absurd (key_apart key e)
   where
-    key_apart : (k : Key) → kinds.Key k ≡ kinds.Word → ⊥
+    key_apart : (k : Key) → Kind.Key k ≡ Kind.Word → ⊥
     key_apart k d = cc
 lexeme-name bytes n _ (a_number f h) e = absurd (number_apart e)
   where
-    number_apart : kinds.Number ≡ kinds.Word → ⊥
+    number_apart : Kind.Number ≡ Kind.Word → ⊥
     number_apart d = cc
 lexeme-name bytes n _ (an_address f h) e = absurd (address_apart e)
   where
-    address_apart : kinds.Address ≡ kinds.Word → ⊥
+    address_apart : Kind.Address ≡ Kind.Word → ⊥
     address_apart d = cc
 lexeme-name bytes n _ (a_sign sign h) e = absurd (sign_apart sign e)
   where
-    sign_apart : (s : _) → kinds.Sign s ≡ kinds.Word → ⊥
+    sign_apart : (s : _) → Kind.Sign s ≡ Kind.Word → ⊥
     sign_apart s d = cc
 
 -- the bytes of a span that lies in the text

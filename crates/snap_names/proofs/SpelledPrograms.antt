@@ -1,15 +1,13 @@
 -- `Spells` says which program a text spells just as the reading with faults does.
 use Rattle.std.proofs.Common.{◌≡◌, ℕ, ◌≤◌, List, length, Ok}
-use Rattle.snap_core.specs.declared.program.Program.{Program}
-use Rattle.snap_lex.specs.declared.Token.{Token}
+use Rattle.snap_names.specs.Declarations.{Program, core_program, resolved}
 use Rattle.snap_lex.specs.Lexemes.{SpellsTokens}
 use Rattle.snap_parse.specs.Grammar.{DerivesWithin}
 use Rattle.snap_parse.specs.Tree.{SourceTree}
 use Rattle.snap_names.specs.Core.{core_policy}
-use Rattle.snap_names.specs.Declarations.{core_program, resolved}
-use Rattle.snap_names.specs.Spells.{before_text, SpellsProgram}
+use Rattle.snap_names.specs.Spells.{Token, before_text, SpellsProgram}
 use Rattle.snap_names.proofs.FaultlessDeclared.{IsProgramOf-resolved}
-use Rattle.snap_names.proofs.Filled.{program-filled}
+use Rattle.snap_names.proofs.DerivedTrees.{SourceWritten-text}
 use Rattle.snap_names.proofs.GrownTrees.{program-grown}
 use Rattle.snap_names.proofs.ReadableDeclared.{resolved-IsProgramOf}
 use Rattle.snap_names.proofs.SpelledTrees.{program-spelled}
@@ -20,7 +18,7 @@ IsReadAs text p = (length text ≤ 262144) × ((ts : List Token) × (s : SourceT
 
 pub SpellsProgram-read : (text : List ℕ) (p : Program) → IsReadAs text p → SpellsProgram text p
 SpellsProgram-read text p (short, (ts, s, spelled, derived, read)) =
-    let h = IsProgramOf-resolved text s (program-filled 128 0 _ ts s derived tt) p read in
+    let h = IsProgramOf-resolved text s (SourceWritten-text text s (ts, spelled, (128, derived))) p read in
     record {
       short = short;
       tokens = ts;

@@ -1,23 +1,14 @@
 -- What a tree of tokens reads as is what the tokens spell.
 use Rattle.std.proofs.Common.{◌≡◌, ℕ, zero, suc, ◌+◌, ◌<◌, ◌≤◌, Bool, true, false, List, [], ◌∷◌, ◌++◌, Some, refl, sym, subst, ◌∙◌, arith, append_assoc}
 use Rattle.std.proofs.lemmas.List.{append-nil}
-use Rattle.snap_core.specs.declared.policy.Atom.{Atom}
-use Rattle.snap_core.specs.declared.policy.Atom.TheVariants.{Num}
-use Rattle.snap_lex.specs.declared.Token.{Token}
-use Rattle.snap_lex.specs.declared.Kind.TheVariants as kinds
-use Rattle.snap_lex.specs.declared.Sign.TheVariants as signs
-use Rattle.snap_parse.specs.declared.tree.Literal.{Literal}
-use Rattle.snap_parse.specs.declared.tree.Value.{Value}
+use Rattle.snap_names.specs.Core.{Atom, Num, CorePolicy, filter}
 use Rattle.snap_parse.specs.Tree.{PolicyTree, policy_begin, policy_more, SequenceTree, sequence_begin, sequence_more, ChoiceTree, EitherTree, either_begin, either_more, BothTree, both_begin, both_more, SingleTree, test_tree, set_tree, DeclTree, SourceTree, span_of}
 use Rattle.snap_parse.specs.Grammar as grammar
-use Rattle.snap_names.specs.declared.scope.Sense.{Sense}
-use Rattle.snap_names.specs.declared.scope.Sense.TheVariants.{Constant}
-use Rattle.snap_names.specs.Core.{CorePolicy, filter}
-use Rattle.snap_names.specs.Senses.{word, is_address}
-use Rattle.snap_names.specs.Spells.{Scope}
+use Rattle.snap_names.specs.Senses.{Literal, Value, Sense, Constant, word, is_address}
+use Rattle.snap_names.specs.Spells.{Token, Kind, Sign, Scope}
 use Rattle.snap_names.specs.Spells as spells
 use Rattle.snap_names.proofs.TreeReadings as readings
-use Rattle.snap_names.proofs.Filled.{HasSequence, HasChoice, HasBoth, HasSingle}
+use Rattle.snap_names.proofs.Placed.{HasSequence, HasChoice, HasBoth, HasSingle}
 
 -- one token before the rest, of which this holds
 abbrev One : (Token → Type 0) → List Token → List Token → Type 0
@@ -55,14 +46,14 @@ data Remain (e : Scope) : List Token → List Atom → List Token → Type 0 whe
   none : {rest : List Token} → Remain e rest [] rest
   some : {ts rest : List Token} {xs : List Atom} → spells.HaveAtoms e ts xs rest → Remain e ts xs rest
 
-place-remain : (e : Scope) (t v u : Token) (xs ys : List Atom) (ts rest : List Token) → spells.IsSign signs.OpenSquare t → spells.HasAtoms e v xs → spells.IsSign signs.CloseSquare u → Remain e ts ys rest → spells.HaveAtoms e (t ∷ v ∷ u ∷ ts) (xs ++ ys) rest
+place-remain : (e : Scope) (t v u : Token) (xs ys : List Atom) (ts rest : List Token) → spells.IsSign Sign.OpenSquare t → spells.HasAtoms e v xs → spells.IsSign Sign.CloseSquare u → Remain e ts ys rest → spells.HaveAtoms e (t ∷ v ∷ u ∷ ts) (xs ++ ys) rest
 place-remain e t v u xs _ _ rest a h b none = subst (λ zs. spells.HaveAtoms e (t ∷ v ∷ u ∷ rest) zs rest) (sym (append-nil xs)) (spells.last a h b)
 place-remain e t v u xs _ _ _ a h b (some k) = spells.next a h b k
 
 no_place-remain : (e : Scope) (rest : List Token) (xs : List Atom) → readings.HaveAtoms e [] xs → Remain e rest xs rest
 no_place-remain e rest _ readings.no_place = none
 
-first_place-spelled : (e : Scope) (t u : Token) (ts us : List Token) (v : Value) (vs : List Value) (rest : List Token) → spells.IsSign signs.OpenSquare t → grammar.IsValue ts v (u ∷ us) → spells.IsSign signs.CloseSquare u
+first_place-spelled : (e : Scope) (t u : Token) (ts us : List Token) (v : Value) (vs : List Value) (rest : List Token) → spells.IsSign Sign.OpenSquare t → grammar.IsValue ts v (u ∷ us) → spells.IsSign Sign.CloseSquare u
     → ((xs : List Atom) → readings.HaveAtoms e vs xs → Remain e us xs rest) → (xs : List Atom) → readings.HaveAtoms e (v ∷ vs) xs → spells.HaveAtoms e (t ∷ ts) xs rest
 first_place-spelled e t u ts us v vs rest a value b more _ (readings.next_place {xs = xs} {ys = ys} h k) =
     from-one (λ ts. spells.HaveAtoms e (t ∷ ts) (xs ++ ys) rest) (atoms-spelled e v xs h ts (u ∷ us) value) (λ w g. place-remain e t w u xs ys us rest a g b (more ys k))
@@ -80,7 +71,7 @@ places-spelled e _ _ rest (grammar.places {v = v} t u a value b more) xs h =
     let r = places_rest-spelled e (v ∷ []) _ _ rest more in
     first_place-spelled e t u _ _ v r.0 rest a value b r.2 xs (subst (λ ws. readings.HaveAtoms e ws xs) r.1 h)
 
-place-spelled : (e : Scope) (t : Token) (ts : List Token) (vs : List Value) (rest : List Token) (var : ℕ) (index : List Atom) → t.kind ≡ kinds.Word → grammar.IsPlaces ts vs rest → readings.IsPlace e (span_of t) vs var index → spells.IsPlace e (t ∷ ts) var index rest
+place-spelled : (e : Scope) (t : Token) (ts : List Token) (vs : List Value) (rest : List Token) (var : ℕ) (index : List Atom) → t.kind ≡ Kind.Word → grammar.IsPlaces ts vs rest → readings.IsPlace e (span_of t) vs var index → spells.IsPlace e (t ∷ ts) var index rest
 place-spelled e t ts vs rest var index a ps h = spells.place (record { name = a; declared = h.array }) (places-spelled e ts vs rest ps index h.have) h.size
 
 -- what stands between a place and a value
@@ -88,12 +79,12 @@ with_value : {X : Type 0} {P : Token → Type 0} (e : Scope) (ts us rest : List 
 with_value e ts us rest t var index h w f = f w.0 (subst (λ us. spells.IsPlace e ts var index (t ∷ us)) w.1 h) w.2
 
 -- `name = value` and `name <- value` of a field
-test-spelled : (e : Scope) (d : ℕ) (t u : Token) (ts : List Token) (v : Value) (rest : List Token) → t.kind ≡ kinds.Word → spells.IsSign signs.Equals u → grammar.IsValue ts v rest → (p : CorePolicy) → readings.IsSingle e (test_tree (span_of t) v) p → spells.IsSingle e d (t ∷ u ∷ ts) p rest
+test-spelled : (e : Scope) (d : ℕ) (t u : Token) (ts : List Token) (v : Value) (rest : List Token) → t.kind ≡ Kind.Word → spells.IsSign Sign.Equals u → grammar.IsValue ts v rest → (p : CorePolicy) → readings.IsSingle e (test_tree (span_of t) v) p → spells.IsSingle e d (t ∷ u ∷ ts) p rest
 test-spelled e d t u ts v rest a b value p (readings.test {n = n} m h) = from-one (λ ts. spells.IsSingle e d (t ∷ u ∷ ts) p rest) (number-spelled e v n h ts rest value) (λ w x. spells.test (record { name = a; declared = m }) b x.1)
 test-spelled e d t u ts v rest a b value p (readings.test_split {x = x} m h) = from-one (λ ts. spells.IsSingle e d (t ∷ u ∷ ts) p rest) (address-spelled e v x h ts rest value) (λ w x. spells.test_split (record { name = a; declared = m }) b x)
 test-spelled e d t u _ _ rest a b (grammar.prefix_value v w l c f g) p (readings.test_net m x n) = spells.test_net (record { name = a; declared = m }) b (spells.address c x) f g n
 
-set-spelled : (e : Scope) (d : ℕ) (t u : Token) (ts : List Token) (v : Value) (rest : List Token) → t.kind ≡ kinds.Word → spells.IsSign signs.Arrow u → grammar.IsValue ts v rest → (p : CorePolicy) → readings.IsSingle e (set_tree (span_of t) v) p → spells.IsSingle e d (t ∷ u ∷ ts) p rest
+set-spelled : (e : Scope) (d : ℕ) (t u : Token) (ts : List Token) (v : Value) (rest : List Token) → t.kind ≡ Kind.Word → spells.IsSign Sign.Arrow u → grammar.IsValue ts v rest → (p : CorePolicy) → readings.IsSingle e (set_tree (span_of t) v) p → spells.IsSingle e d (t ∷ u ∷ ts) p rest
 set-spelled e d t u ts v rest a b value p (readings.gets {x = x} m h) = from-one (λ ts. spells.IsSingle e d (t ∷ u ∷ ts) p rest) (atoms-spelled e v (x ∷ []) h ts rest value) (λ w x. spells.gets (record { name = a; declared = m }) b x)
 set-spelled e d t u ts v rest a b value p (readings.gets_address {x = x} m h) = from-one (λ ts. spells.IsSingle e d (t ∷ u ∷ ts) p rest) (address-spelled e v x h ts rest value) (λ w x. spells.gets_address (record { name = a; declared = m }) b x)
 set-spelled e d t u _ _ rest a b (grammar.name_value v c) p (readings.gets_split m n) = spells.gets_split (record { name = a; declared = m }) b (record { name = c; declared = n })
@@ -104,7 +95,7 @@ one_sequence : (e : Scope) (d at : ℕ) (s : SequenceTree) (ts rest : List Token
 one_sequence e d at s ts rest own p (readings.sequence r) = spells.sequence (own p r)
 one_sequence e d at s ts rest own _ (readings.plus a b) = elim a [ ]
 
-more_sequences : (e : Scope) (d : ℕ) (q : PolicyTree) (s : SequenceTree) (us ts rest : List Token) (t : Token) → HasSequence q → ((p : CorePolicy) → readings.IsPolicy e q p → spells.IsPolicy e d us p (t ∷ ts)) → spells.IsSign signs.Plus t
+more_sequences : (e : Scope) (d : ℕ) (q : PolicyTree) (s : SequenceTree) (us ts rest : List Token) (t : Token) → HasSequence q → ((p : CorePolicy) → readings.IsPolicy e q p → spells.IsPolicy e d us p (t ∷ ts)) → spells.IsSign Sign.Plus t
     → ((p : CorePolicy) → readings.IsSequence e s p → spells.IsSequence e d ts p rest) → (p : CorePolicy) → readings.IsPolicy e (policy_more q s) p → spells.IsPolicy e d us p rest
 more_sequences e d _ s us ts rest t has before sign own p (readings.sequence r) = absurd has
 more_sequences e d q s us ts rest t has before sign own _ (readings.plus {p = p} {q = r} a b) = spells.plus (before p a) sign (own r b)
@@ -114,7 +105,7 @@ one_choice : (e : Scope) (d at : ℕ) (c : ChoiceTree) (ts rest : List Token) �
 one_choice e d at c ts rest own p (readings.choose r) = spells.choose (own p r)
 one_choice e d at c ts rest own _ (readings.semicolon a b) = elim a [ ]
 
-more_choices : (e : Scope) (d : ℕ) (q : SequenceTree) (c : ChoiceTree) (us ts rest : List Token) (t : Token) → HasChoice q → ((p : CorePolicy) → readings.IsSequence e q p → spells.IsSequence e d us p (t ∷ ts)) → spells.IsSign signs.Semicolon t
+more_choices : (e : Scope) (d : ℕ) (q : SequenceTree) (c : ChoiceTree) (us ts rest : List Token) (t : Token) → HasChoice q → ((p : CorePolicy) → readings.IsSequence e q p → spells.IsSequence e d us p (t ∷ ts)) → spells.IsSign Sign.Semicolon t
     → ((p : CorePolicy) → readings.IsChoice e c p → spells.IsChoice e d ts p rest) → (p : CorePolicy) → readings.IsSequence e (sequence_more q c) p → spells.IsSequence e d us p rest
 more_choices e d _ c us ts rest t has before sign own p (readings.choose r) = absurd has
 more_choices e d q c us ts rest t has before sign own _ (readings.semicolon {p = p} {q = r} a b) = spells.semicolon (before p a) sign (own r b)
@@ -124,7 +115,7 @@ one_both : (e : Scope) (d at : ℕ) (b : BothTree) (ts rest : List Token) → ((
 one_both e d at b ts rest own p (readings.both r) = spells.both (own p r)
 one_both e d at b ts rest own _ (readings.or h k) = elim h [ ]
 
-more_boths : (e : Scope) (d : ℕ) (q : EitherTree) (b : BothTree) (us ts rest : List Token) (t : Token) → HasBoth q → ((p : CorePolicy) → readings.IsEither e q p → spells.IsEither e d us p (t ∷ ts)) → spells.IsSign signs.Or t
+more_boths : (e : Scope) (d : ℕ) (q : EitherTree) (b : BothTree) (us ts rest : List Token) (t : Token) → HasBoth q → ((p : CorePolicy) → readings.IsEither e q p → spells.IsEither e d us p (t ∷ ts)) → spells.IsSign Sign.Or t
     → ((p : CorePolicy) → readings.IsBoth e b p → spells.IsBoth e d ts p rest) → (p : CorePolicy) → readings.IsEither e (either_more q b) p → spells.IsEither e d us p rest
 more_boths e d _ b us ts rest t has before sign own p (readings.both r) = absurd has
 more_boths e d q b us ts rest t has before sign own _ (readings.or {x = x} {y = y} h k) = spells.or (before (filter x) h) sign (own (filter y) k)
@@ -134,7 +125,7 @@ one_single : (e : Scope) (d at : ℕ) (s : SingleTree) (ts rest : List Token) �
 one_single e d at s ts rest own p (readings.single r) = spells.single (own p r)
 one_single e d at s ts rest own _ (readings.and h k) = elim h [ ]
 
-more_singles : (e : Scope) (d : ℕ) (q : BothTree) (s : SingleTree) (us ts rest : List Token) (t : Token) → HasSingle q → ((p : CorePolicy) → readings.IsBoth e q p → spells.IsBoth e d us p (t ∷ ts)) → spells.IsSign signs.And t
+more_singles : (e : Scope) (d : ℕ) (q : BothTree) (s : SingleTree) (us ts rest : List Token) (t : Token) → HasSingle q → ((p : CorePolicy) → readings.IsBoth e q p → spells.IsBoth e d us p (t ∷ ts)) → spells.IsSign Sign.And t
     → ((p : CorePolicy) → readings.IsSingle e s p → spells.IsSingle e d ts p rest) → (p : CorePolicy) → readings.IsBoth e (both_more q s) p → spells.IsBoth e d us p rest
 more_singles e d _ s us ts rest t has before sign own p (readings.single r) = absurd has
 more_singles e d q s us ts rest t has before sign own _ (readings.and {x = x} {y = y} h k) = spells.and (before (filter x) h) sign (own (filter y) k)

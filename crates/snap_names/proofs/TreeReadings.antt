@@ -1,25 +1,13 @@
 -- Which program a tree reads as: a case for each form of a part, without faults and their order.
-use Rattle.std.specs.Prelude.{◌≡◌, ℕ, ◌-◌, ◌%◌, ◌^◌, ◌≤◌, Bool, true, false, List, [], ◌∷◌, ◌++◌, length, slice_get, Option, None, Some}
+use Rattle.std.specs.Prelude.{◌≡◌, ℕ, ◌-◌, ◌%◌, ◌^◌, ◌≤◌, Bool, true, false, List, [], ◌∷◌, ◌++◌, length, slice_get, Option, None, Some, bytes_eq}
 use Rattle.std.specs.List.{list_any}
 use Rattle.std.specs.Map.{lookup}
-use Rattle.std.specs.Str.{bytes_eq}
 use Rattle.snap_core.specs.Figures.{number_of, address_of}
 use Rattle.snap_core.specs.Fields.{count}
-use Rattle.snap_core.specs.declared.policy.Atom.{Atom}
-use Rattle.snap_core.specs.declared.policy.Atom.TheVariants.{Num, Comp}
-use Rattle.snap_core.specs.declared.policy.Op.{Op}
-use Rattle.snap_core.specs.declared.policy.Op.TheVariants.{Put, Add}
-use Rattle.snap_core.specs.declared.program.Program.{Program}
-use Rattle.snap_parse.specs.declared.tree.Span.{Span}
-use Rattle.snap_parse.specs.declared.tree.Literal.{Literal}
-use Rattle.snap_parse.specs.declared.tree.Literal.TheVariants as literals
-use Rattle.snap_parse.specs.declared.tree.Value.{Value}
-use Rattle.snap_parse.specs.declared.tree.Value.TheVariants as values
+use Rattle.snap_names.specs.Core.{Atom, Num, Comp, Op, Put, Add, CorePolicy, id_test, drop_test, field_test, state_test, not_test, and_test, or_test, filter, set, change, par, seq, choice, atomic, core_policy, nodes, weight, net, host, whole_test}
+use Rattle.snap_names.specs.Declarations.{Program}
 use Rattle.snap_parse.specs.Tree.{PolicyTree, policy_begin, policy_more, SequenceTree, sequence_begin, sequence_more, ChoiceTree, if_tree, plain_tree, EitherTree, either_begin, either_more, BothTree, both_begin, both_more, SingleTree, not_tree, id_tree, drop_tree, group_tree, atomic_tree, name_tree, test_tree, set_tree, bare_tree, array_test_tree, array_set_tree, up_tree, down_tree, array_add_tree, array_sub_tree, DeclTree, field_tree, array_tree, const_tree, let_tree, SourceTree}
-use Rattle.snap_names.specs.declared.scope.Sense.{Sense}
-use Rattle.snap_names.specs.declared.scope.Sense.TheVariants.{Plain, Split, Array, Constant, Policy}
-use Rattle.snap_names.specs.Core.{CorePolicy, id_test, drop_test, field_test, state_test, not_test, and_test, or_test, filter, set, change, par, seq, choice, atomic, core_policy, nodes, weight, net, host, whole_test}
-use Rattle.snap_names.specs.Senses.{word, is_address}
+use Rattle.snap_names.specs.Senses.{Span, Literal, Value, Sense, Plain, Split, Array, Constant, Policy, word, is_address}
 use Rattle.snap_names.specs.Spells.{Scope, senses, before_text, is_known}
 
 -- the name was declared as this
@@ -28,22 +16,22 @@ Means e name s = lookup (bytes_eq (word e.text name)) e.names ≡ Some s
 
 -- the number of a literal
 abbrev pub number : List ℕ → Literal → Option ℕ
-number text (literals.Number t) = number_of (word text t)
-number text (literals.Address t) = address_of (word text t)
-number text (literals.True t) = Some 1
-number text (literals.False t) = Some 0
+number text (Literal.Number t) = number_of (word text t)
+number text (Literal.Address t) = address_of (word text t)
+number text (Literal.True t) = Some 1
+number text (Literal.False t) = Some 0
 
 -- an address, or a constant that is one
 pub data IsAddress (e : Scope) : Value → ℕ → Type 0 where
-  address : {t : Span} {a : ℕ} → address_of (word e.text t) ≡ Some a → IsAddress e (values.Literal (literals.Address t)) a
-  constant_address : {t : Span} {a : ℕ} → Means e t (Constant a true) → IsAddress e (values.Name t) a
+  address : {t : Span} {a : ℕ} → address_of (word e.text t) ≡ Some a → IsAddress e (Value.Literal (Literal.Address t)) a
+  constant_address : {t : Span} {a : ℕ} → Means e t (Constant a true) → IsAddress e (Value.Name t) a
 
 -- the atoms of a value: two of a split field, and one of all else
 pub data HasAtoms (e : Scope) : Value → List Atom → Type 0 where
-  literal : {l : Literal} {n : ℕ} → number e.text l ≡ Some n → HasAtoms e (values.Literal l) (Num n ∷ [])
-  constant : {t : Span} {n : ℕ} {b : Bool} → Means e t (Constant n b) → HasAtoms e (values.Name t) (Num n ∷ [])
-  component : {t : Span} {c : ℕ} → Means e t (Plain c) → HasAtoms e (values.Name t) (Comp c ∷ [])
-  components : {t : Span} {a b n : ℕ} → Means e t (Split a b n) → HasAtoms e (values.Name t) (Comp a ∷ Comp b ∷ [])
+  literal : {l : Literal} {n : ℕ} → number e.text l ≡ Some n → HasAtoms e (Value.Literal l) (Num n ∷ [])
+  constant : {t : Span} {n : ℕ} {b : Bool} → Means e t (Constant n b) → HasAtoms e (Value.Name t) (Num n ∷ [])
+  component : {t : Span} {c : ℕ} → Means e t (Plain c) → HasAtoms e (Value.Name t) (Comp c ∷ [])
+  components : {t : Span} {a b n : ℕ} → Means e t (Split a b n) → HasAtoms e (Value.Name t) (Comp a ∷ Comp b ∷ [])
 
 -- the atoms of places, in order
 pub data HaveAtoms (e : Scope) : List Value → List Atom → Type 0 where
@@ -94,10 +82,10 @@ mutual
     body : {t : Span} {i : ℕ} {p : CorePolicy} → Means e t (Policy i) → slice_get e.lets i ≡ Some p → IsSingle e (name_tree t) p
     test : {t : Span} {v : Value} {c n : ℕ} → Means e t (Plain c) → HasAtoms e v (Num n ∷ []) → IsSingle e (test_tree t v) (filter (field_test c n))
     test_split : {t : Span} {v : Value} {a b n x : ℕ} → Means e t (Split a b n) → IsAddress e v x → IsSingle e (test_tree t v) (filter (whole_test a b n x))
-    test_net : {t u l : Span} {a b n x : ℕ} → Means e t (Split a b n) → address_of (word e.text u) ≡ Some x → number_of (word e.text l) ≡ Some n → IsSingle e (test_tree t (values.Prefix u l)) (filter (field_test a (net n x)))
+    test_net : {t u l : Span} {a b n x : ℕ} → Means e t (Split a b n) → address_of (word e.text u) ≡ Some x → number_of (word e.text l) ≡ Some n → IsSingle e (test_tree t (Value.Prefix u l)) (filter (field_test a (net n x)))
     gets : {t : Span} {v : Value} {c : ℕ} {x : Atom} → Means e t (Plain c) → HasAtoms e v (x ∷ []) → IsSingle e (set_tree t v) (set c x)
     gets_address : {t : Span} {v : Value} {a b n x : ℕ} → Means e t (Split a b n) → IsAddress e v x → IsSingle e (set_tree t v) (seq (set a (Num (net n x))) (set b (Num (host n x))))
-    gets_split : {t u : Span} {a b c d n : ℕ} → Means e t (Split a b n) → Means e u (Split c d n) → IsSingle e (set_tree t (values.Name u)) (seq (set a (Comp c)) (set b (Comp d)))
+    gets_split : {t u : Span} {a b c d n : ℕ} → Means e t (Split a b n) → Means e u (Split c d n) → IsSingle e (set_tree t (Value.Name u)) (seq (set a (Comp c)) (set b (Comp d)))
     is_one : {t : Span} {vs : List Value} {var : ℕ} {index : List Atom} → IsPlace e t vs var index → IsSingle e (bare_tree t vs) (filter (state_test var index (Num 1)))
     test_array : {t : Span} {vs : List Value} {v : Value} {var : ℕ} {index : List Atom} {x : Atom} → IsPlace e t vs var index → HasAtoms e v (x ∷ []) → IsSingle e (array_test_tree t vs v) (filter (state_test var index x))
     put : {t : Span} {vs : List Value} {v : Value} {x : Atom} {p : CorePolicy} → HasAtoms e v (x ∷ []) → Changes e t vs (Put x) p → IsSingle e (array_set_tree t vs v) p

@@ -1,11 +1,14 @@
 -- The core language, without where a program lies in memory, and how large its parts are.
 use Rattle.std.specs.Prelude.{ℕ, ◌+◌, ◌*◌, Bool, true, false, List, ◌-◌, ◌/◌, ◌%◌, ◌^◌}
-use Rattle.snap_core.specs.declared.policy.Atom.{Atom}
+pub use Rattle.snap_core.specs.declared.policy.Atom.{Atom}
+pub use Rattle.snap_core.specs.declared.policy.Atom.TheVariants.{Num, Comp}
+pub use Rattle.snap_core.specs.declared.policy.Op.{Op}
+pub use Rattle.snap_core.specs.declared.policy.Op.TheVariants.{Put, Add}
 use Rattle.snap_core.specs.declared.policy.Update.{Update}
-use Rattle.snap_core.specs.declared.policy.Pol.{Pol}
-use Rattle.snap_core.specs.declared.policy.Pol.TheVariants.{Filter, Set, Change, Par', Seq', If', Atomic'}
-use Rattle.snap_core.specs.declared.policy.Pred.{Pred}
-use Rattle.snap_core.specs.declared.policy.Pred.TheVariants.{Id, Drop, Field, State, Not', And', Or'}
+pub use Rattle.snap_core.specs.declared.policy.Pol.{Pol}
+pub use Rattle.snap_core.specs.declared.policy.Pol.TheVariants.{Filter, Set, Change, Par', Seq', If', Atomic'}
+pub use Rattle.snap_core.specs.declared.policy.Pred.{Pred}
+pub use Rattle.snap_core.specs.declared.policy.Pred.TheVariants.{Id, Drop, Field, State, Not', And', Or'}
 
 pub data CoreTest : Type 0 where
   id_test : CoreTest

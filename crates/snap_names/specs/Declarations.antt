@@ -1,10 +1,10 @@
 -- What declarations declare, the reading of a whole tree, and its limits.
 use Rattle.std.specs.Prelude.{ℕ, ◌+◌, Bool, true, false, ◌&&◌, nat_le, nat_lt, if◌then◌else◌, List, [], ◌∷◌, ◌++◌, length, min, max, codes, Option, None, Some, is_some, Result, Ok, Err}
 use Rattle.std.specs.List.{list_any}
-use Rattle.snap_core.specs.declared.program.Field.{Field}
-use Rattle.snap_core.specs.declared.program.Program.{Program}
-use Rattle.snap_core.specs.declared.program.Which.{Which}
-use Rattle.snap_core.specs.declared.program.Which.TheVariants.{Components, Arrays, Atoms, Nodes, Weight}
+pub use Rattle.snap_core.specs.declared.program.Field.{Field}
+pub use Rattle.snap_core.specs.declared.program.Program.{Program}
+pub use Rattle.snap_core.specs.declared.program.Which.{Which}
+pub use Rattle.snap_core.specs.declared.program.Which.TheVariants.{Components, Arrays, Atoms, Nodes, Weight}
 use Rattle.snap_core.specs.Fields.{count, plain_field}
 use Rattle.snap_parse.specs.declared.tree.Span.{Span}
 use Rattle.snap_parse.specs.Tree.{DeclTree, field_tree, array_tree, const_tree, let_tree, SourceTree}

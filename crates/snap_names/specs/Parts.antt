@@ -7,10 +7,10 @@ use Rattle.snap_names.specs.declared.parts.TestJoin.TheVariants.{Both, Either}
 use Rattle.snap_names.specs.declared.parts.PolicyJoin.{PolicyJoin}
 use Rattle.snap_names.specs.declared.parts.PolicyJoin.TheVariants.{Beside, Behind}
 use Rattle.snap_names.specs.declared.scope.Sense.{Sense}
-use Rattle.snap_names.specs.declared.scope.Part.{Part}
-use Rattle.snap_names.specs.declared.scope.Body.{Body}
-use Rattle.snap_names.specs.declared.scope.Tally.{Tally}
-use Rattle.snap_names.specs.declared.scope.Scope.{Scope}
+pub use Rattle.snap_names.specs.declared.scope.Part.{Part}
+pub use Rattle.snap_names.specs.declared.scope.Body.{Body}
+pub use Rattle.snap_names.specs.declared.scope.Tally.{Tally}
+pub use Rattle.snap_names.specs.declared.scope.Scope.{Scope}
 use Rattle.snap_names.specs.declared.fault.NameFault.{NameFault}
 use Rattle.snap_names.specs.declared.fault.NameFault.TheVariants.{NoMemory}
 use Rattle.snap_names.specs.Core.{CoreTest, CorePolicy, filter, not_test, and_test, or_test, par, seq, choice, core_policy, is_filter, test_nodes, nodes, weight}

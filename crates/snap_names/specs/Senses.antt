@@ -5,15 +5,15 @@ use Rattle.std.specs.Str.{bytes_eq}
 use Rattle.snap_core.specs.Figures.{number_of, address_of}
 use Rattle.snap_core.specs.declared.policy.Atom.{Atom}
 use Rattle.snap_core.specs.declared.policy.Atom.TheVariants.{Num, Comp}
-use Rattle.snap_parse.specs.declared.tree.Span.{Span}
-use Rattle.snap_parse.specs.declared.tree.Literal.{Literal}
+pub use Rattle.snap_parse.specs.declared.tree.Span.{Span}
+pub use Rattle.snap_parse.specs.declared.tree.Literal.{Literal}
 use Rattle.snap_parse.specs.declared.tree.Literal.TheVariants as literals
-use Rattle.snap_parse.specs.declared.tree.Value.{Value}
+pub use Rattle.snap_parse.specs.declared.tree.Value.{Value}
 use Rattle.snap_parse.specs.declared.tree.Value.TheVariants as values
-use Rattle.snap_names.specs.declared.scope.Sense.{Sense}
-use Rattle.snap_names.specs.declared.scope.Sense.TheVariants.{Plain, Split, Array, Constant}
-use Rattle.snap_names.specs.declared.fault.NameFault.{NameFault}
-use Rattle.snap_names.specs.declared.fault.NameFault.TheVariants.{Unknown, Kind, Arity, Wide, Prefix}
+pub use Rattle.snap_names.specs.declared.scope.Sense.{Sense}
+pub use Rattle.snap_names.specs.declared.scope.Sense.TheVariants.{Plain, Split, Array, Constant, Policy}
+pub use Rattle.snap_names.specs.declared.fault.NameFault.{NameFault}
+pub use Rattle.snap_names.specs.declared.fault.NameFault.TheVariants.{Twice, Unknown, Kind, Arity, Wide, Prefix, Limit, NoMemory}
 use Rattle.snap_names.specs.Core.{CoreTest, CorePolicy, field_test, set, seq, host, net, whole_test}
 
 -- the text of a program, and what the names that are declared so far stand for

@@ -242,7 +242,7 @@ pub(crate) fn not(alloc: Global, tally: &mut Tally, part: Part) -> Result<Part, 
     ensures err { IfErr result (λ f. f ≡ NoMemory) }
 {
     let Part { weight, policy, .. } = part;
-    let _ = tally.has_room();
+    tally.count(1);
     let policy = negated(alloc, policy)?;
     Ok(Part {
         is_test: true,
@@ -259,7 +259,7 @@ pub(crate) fn atomic(alloc: Global, tally: &mut Tally, part: Part) -> Result<Par
     ensures err { IfErr result (λ f. f ≡ NoMemory) }
 {
     let Part { weight, policy, .. } = part;
-    let _ = tally.has_room();
+    tally.count(1);
     let policy = whole(alloc, policy)?;
     Ok(Part {
         is_test: false,

@@ -1,12 +1,10 @@
 -- The machine answers as the grammar says, each refusal at its place.
-use Rattle.std.proofs.Common.{◌≡◌, ℕ, suc, ◌+◌, ◌<◌, ◌≤◌, List, [], ◌∷◌, ◌++◌, length, Some, None, Ok, Err, Bool, true, false, cond, refl, sym, ap, ◌∙◌, subst, arith, append_assoc, append-nil, length-append}
-use Rattle.std.specs.Prelude.{nat_le}
+use Rattle.std.proofs.Common.{◌≡◌, ℕ, suc, ◌+◌, ◌<◌, ◌≤◌, List, [], ◌∷◌, ◌++◌, length, Some, None, Ok, Err, Bool, true, false, cond, refl, sym, ap, ◌∙◌, subst, arith, append_assoc, append-nil, length-append, nat_le}
 use Rattle.std.proofs.lemmas.Bool.{leb-true, le-leb}
-use Rattle.snap_lex.specs.declared.Token.{Token}
-use Rattle.snap_parse.specs.declared.fault.ParseFault.TheVariants.{Unexpected, TooDeep}
+use Rattle.snap_parse.specs.Kinds.{Token}
+use Rattle.snap_parse.specs.Machine.{Unexpected, TooDeep, State, at_decl, state_depth, Move, go, done, stuck, front, step, follow, run}
 use Rattle.snap_parse.specs.Tree.{SourceTree}
 use Rattle.snap_parse.specs.Grammar.{IsProgram, DerivesWithin, Derives, BeginsWithin, Begins, IsUnexpected, unexpected_token, unexpected_end, IsTooDeep, too_deep}
-use Rattle.snap_parse.specs.Machine.{State, at_decl, state_depth, Move, go, done, stuck, front, step, follow, run}
 use Rattle.snap_parse.proofs.Completion.{Completes, from_decl, Follows, follows_go, follows_done}
 use Rattle.snap_parse.proofs.Into.{into}
 use Rattle.snap_parse.proofs.Out.{out}

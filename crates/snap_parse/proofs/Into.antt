@@ -1,18 +1,10 @@
 -- A step leads from what completes a state to what completes the next.
 use Rattle.std.proofs.Common.{length, ◌≡◌, ℕ, ◌≤◌, List, [], ◌∷◌, ◌++◌, Some, cond, refl, sym, subst, arith}
-use Rattle.snap_lex.specs.declared.Token.{Token}
-use Rattle.snap_lex.specs.declared.Kind.{Kind}
-use Rattle.snap_lex.specs.declared.Kind.TheVariants as kinds
-use Rattle.snap_lex.specs.declared.Key.TheVariants as keys
-use Rattle.snap_lex.specs.declared.Sign.TheVariants as signs
-use Rattle.snap_parse.specs.declared.tree.Span.{Span}
-use Rattle.snap_parse.specs.declared.tree.Literal.{Literal}
-use Rattle.snap_parse.specs.declared.tree.Value.{Value}
-use Rattle.snap_parse.specs.declared.tree.Value.TheVariants as values
-use Rattle.snap_parse.specs.Tree.{PolicyTree, policy_begin, policy_more, SequenceTree, sequence_begin, sequence_more, ChoiceTree, if_tree, plain_tree, EitherTree, either_begin, either_more, BothTree, both_begin, both_more, SingleTree, not_tree, name_tree, test_tree, set_tree, bare_tree, array_test_tree, array_set_tree, up_tree, down_tree, array_add_tree, array_sub_tree, DeclTree, field_tree, const_tree, let_tree, SourceTree, span_of}
+use Rattle.snap_parse.specs.Kinds.{Token, Kind, Key, Sign}
+use Rattle.snap_parse.specs.Tree.{Span, Literal, Value, PolicyTree, policy_begin, policy_more, SequenceTree, sequence_begin, sequence_more, ChoiceTree, if_tree, plain_tree, EitherTree, either_begin, either_more, BothTree, both_begin, both_more, SingleTree, not_tree, name_tree, test_tree, set_tree, bare_tree, array_test_tree, array_set_tree, up_tree, down_tree, array_add_tree, array_sub_tree, DeclTree, field_tree, const_tree, let_tree, SourceTree, span_of}
 use Rattle.snap_parse.specs.Grammar.{IsLiteral, number_literal, address_literal, true_literal, false_literal, IsValue, literal_value, prefix_value, name_value, IsPlacesRest, places_end, places_more, places, IsPolicy, policy, policy_end, policy_plus, IsSequence, sequence, sequence_end, sequence_semicolon, IsChoice, if_choice, plain_choice, IsEither, either, either_end, either_or, IsBoth, both, both_end, both_and, IsSingle, not_single, id_single, drop_single, group_single, atomic_single, name_single, test_single, set_single, bare_single, array_test_single, array_set_single, up_single, down_single, array_add_single, array_sub_single, field_decl, split_field_decl, array_decl, const_decl, let_decl, IsProgramRest, last_policy, next_decl}
 use Rattle.snap_parse.specs.Machine.{AfterPolicy, the_end, else_part, AfterSequence, part_of_policy, AfterChoice, part_of_sequence, end_of_if, AfterEither, end_of_plain, AfterBoth, part_of_either, AfterSingle, part_of_both, AfterValue, end_of_value, close_place, policy_depth, sequence_depth, choice_depth, either_depth, both_depth, single_depth, value_depth, State, wants, at_decl, at_constant, at_policy, at_sequence, at_choice, at_both, at_single, at_value, past_value, past_places, past_single, state_depth, Move, go, stuck, front, on_next, after_policy, after_sequence, after_choice, after_either, after_both, after_single, after_value, placed, after_places, after_name, literal_of, begin_value, begin_single, begin_both, begin_either, begin_choice, begin_sequence, begin_policy, begin_decl, on_literal, in_constant_value, step}
-use Rattle.snap_parse.proofs.Completion.{IsPlaced, placed_alone, placed_equals, placed_arrow, placed_up, placed_down, placed_add, placed_sub, IsNamed, named_alone, named_equals, named_arrow, named_places, PolicyGoesOn, on_end, on_let, on_round, on_else, SequenceGoesOn, on_policy, ChoiceGoesOn, on_sequence, on_end_of_if, EitherGoesOn, on_then, on_plain, BothGoesOn, on_either, SingleGoesOn, on_both, on_end_of_not, ValueGoesOn, on_value, on_place, Completes, from_wants, from_open, from_decl, from_plain_field, from_split_field, from_constant, from_policy, from_sequence, from_choice, from_either, from_both, from_single, from_value, from_address, from_prefix, from_name, from_places, past_a_value, past_a_single, past_a_both, past_an_either, past_a_choice, past_a_sequence, past_a_policy, Follows, follows_go, follows_done}
+use Rattle.snap_parse.proofs.Completion.{again, IsPlaced, placed_alone, placed_equals, placed_arrow, placed_up, placed_down, placed_add, placed_sub, IsNamed, named_alone, named_equals, named_arrow, named_places, PolicyGoesOn, on_end, on_let, on_round, on_else, SequenceGoesOn, on_policy, ChoiceGoesOn, on_sequence, on_end_of_if, EitherGoesOn, on_then, on_plain, BothGoesOn, on_either, SingleGoesOn, on_both, on_end_of_not, ValueGoesOn, on_value, on_place, Completes, from_wants, from_open, from_decl, from_plain_field, from_split_field, from_constant, from_policy, from_sequence, from_choice, from_either, from_both, from_single, from_value, from_address, from_prefix, from_name, from_places, past_a_value, past_a_single, past_a_both, past_an_either, past_a_choice, past_a_sequence, past_a_policy, Follows, follows_go, follows_done}
 use Rattle.snap_parse.proofs.NextToken.{same_kind-same, Ends, ends_less, ends_kind, NotNext, not_next, not_next_of}
 
 module _ (limit free : ℕ) where
@@ -81,14 +73,14 @@ module _ (limit free : ℕ) where
   into_after_sequence : (k : AfterSequence) (s : SequenceTree) (ts : List Token) (r : SourceTree) → sequence_depth k ≤ limit →
       SequenceGoesOn limit free k s ts r → Follows limit free (after_sequence k s (front ts)) ts r
   into_after_sequence k s ts r fits (on_policy {k = k'} {q = q} policy_end on) =
-      skipped (kinds.Sign signs.Plus) (at_sequence (part_of_policy (policy_more q s) k')) _ ts r (not_next (kinds.Sign signs.Plus) ts (ends_policy k' _ ts r on)) (into_after_policy k' (policy_more q s) ts r fits on)
+      skipped (Kind.Sign Sign.Plus) (at_sequence (part_of_policy (policy_more q s) k')) _ ts r (not_next (Kind.Sign Sign.Plus) ts (ends_policy k' _ ts r on)) (into_after_policy k' (policy_more q s) ts r fits on)
   into_after_sequence k s ts r fits (on_policy {k = k'} {q = q} (policy_plus {ts = rest} t is s2 more) on) =
       met _ (at_sequence (part_of_policy (policy_more q s) k')) _ t rest r is (λ active. fits) (from_sequence s2 (on_policy more on))
 
   into_after_choice : (k : AfterChoice) (c : ChoiceTree) (ts : List Token) (r : SourceTree) → choice_depth k ≤ limit →
       ChoiceGoesOn limit free k c ts r → Follows limit free (after_choice k c (front ts)) ts r
   into_after_choice k c ts r fits (on_sequence {k = k'} {q = q} sequence_end on) =
-      skipped (kinds.Sign signs.Semicolon) (at_choice (part_of_sequence (sequence_more q c) k')) _ ts r (not_next (kinds.Sign signs.Semicolon) ts (ends_sequence k' _ ts r on)) (into_after_sequence k' (sequence_more q c) ts r fits on)
+      skipped (Kind.Sign Sign.Semicolon) (at_choice (part_of_sequence (sequence_more q c) k')) _ ts r (not_next (Kind.Sign Sign.Semicolon) ts (ends_sequence k' _ ts r on)) (into_after_sequence k' (sequence_more q c) ts r fits on)
   into_after_choice k c ts r fits (on_sequence {k = k'} {q = q} (sequence_semicolon {ts = rest} t is c2 more) on) =
       met _ (at_choice (part_of_sequence (sequence_more q c) k')) _ t rest r is (λ active. fits) (from_choice c2 (on_sequence more on))
   into_after_choice k c ts r fits (on_end_of_if {at = at} {e = e} {p = p} {k = k'} on) = into_after_choice k' (if_tree at e p c) ts r (omega arith) on
@@ -102,14 +94,14 @@ module _ (limit free : ℕ) where
   into_after_both : (k : AfterBoth) (b : BothTree) (ts : List Token) (r : SourceTree) → both_depth k ≤ limit →
       BothGoesOn limit free k b ts r → Follows limit free (after_both k b (front ts)) ts r
   into_after_both k b ts r fits (on_either {k = k'} {q = q} either_end on) =
-      skipped (kinds.Sign signs.Or) (at_both (part_of_either (either_more q b) k')) _ ts r (not_next (kinds.Sign signs.Or) ts (ends_either k' _ ts r on)) (into_after_either k' (either_more q b) ts r fits on)
+      skipped (Kind.Sign Sign.Or) (at_both (part_of_either (either_more q b) k')) _ ts r (not_next (Kind.Sign Sign.Or) ts (ends_either k' _ ts r on)) (into_after_either k' (either_more q b) ts r fits on)
   into_after_both k b ts r fits (on_either {k = k'} {q = q} (either_or {ts = rest} t is b2 more) on) =
       met _ (at_both (part_of_either (either_more q b) k')) _ t rest r is (λ active. fits) (from_both b2 (on_either more on))
 
   into_after_single : (k : AfterSingle) (s : SingleTree) (ts : List Token) (r : SourceTree) → single_depth k ≤ limit →
       SingleGoesOn limit free k s ts r → Follows limit free (after_single k s (front ts)) ts r
   into_after_single k s ts r fits (on_both {k = k'} {q = q} both_end on) =
-      skipped (kinds.Sign signs.And) (at_single (part_of_both (both_more q s) k')) _ ts r (not_next (kinds.Sign signs.And) ts (ends_both k' _ ts r on)) (into_after_both k' (both_more q s) ts r fits on)
+      skipped (Kind.Sign Sign.And) (at_single (part_of_both (both_more q s) k')) _ ts r (not_next (Kind.Sign Sign.And) ts (ends_both k' _ ts r on)) (into_after_both k' (both_more q s) ts r fits on)
   into_after_single k s ts r fits (on_both {k = k'} {q = q} (both_and {ts = rest} t is s2 more) on) =
       met _ (at_single (part_of_both (both_more q s) k')) _ t rest r is (λ active. fits) (from_single s2 (on_both more on))
   into_after_single k s ts r fits (on_end_of_not {at = at} {k = k'} on) = into_after_single k' (not_tree at s) ts r (omega arith) on
@@ -119,54 +111,34 @@ module _ (limit free : ℕ) where
       IsPlaced name vs ts s ts' → SingleGoesOn limit free k s ts' r → Follows limit free (placed name vs k (front ts)) ts r
   into_placed name vs k s ts ts' r fits placed_alone on =
       let no_sign : Ends 1 ts = ends_single k _ ts r on in
-      skipped (kinds.Sign signs.Equals) (at_value (end_of_value (array_test_tree name vs) k)) _ ts r (not_next (kinds.Sign signs.Equals) ts no_sign)
-      (skipped (kinds.Sign signs.Arrow) (at_value (end_of_value (array_set_tree name vs) k)) _ ts r (not_next (kinds.Sign signs.Arrow) ts no_sign)
-      (skipped (kinds.Sign signs.PlusPlus) (past_single (up_tree name vs) k) _ ts r (not_next (kinds.Sign signs.PlusPlus) ts no_sign)
-      (skipped (kinds.Sign signs.MinusMinus) (past_single (down_tree name vs) k) _ ts r (not_next (kinds.Sign signs.MinusMinus) ts no_sign)
-      (skipped (kinds.Sign signs.PlusEquals) (at_value (end_of_value (array_add_tree name vs) k)) _ ts r (not_next (kinds.Sign signs.PlusEquals) ts no_sign)
-      (skipped (kinds.Sign signs.MinusEquals) (at_value (end_of_value (array_sub_tree name vs) k)) _ ts r (not_next (kinds.Sign signs.MinusEquals) ts no_sign)
+      skipped (Kind.Sign Sign.Equals) (at_value (end_of_value (array_test_tree name vs) k)) _ ts r (not_next (Kind.Sign Sign.Equals) ts no_sign)
+      (skipped (Kind.Sign Sign.Arrow) (at_value (end_of_value (array_set_tree name vs) k)) _ ts r (not_next (Kind.Sign Sign.Arrow) ts no_sign)
+      (skipped (Kind.Sign Sign.PlusPlus) (past_single (up_tree name vs) k) _ ts r (not_next (Kind.Sign Sign.PlusPlus) ts no_sign)
+      (skipped (Kind.Sign Sign.MinusMinus) (past_single (down_tree name vs) k) _ ts r (not_next (Kind.Sign Sign.MinusMinus) ts no_sign)
+      (skipped (Kind.Sign Sign.PlusEquals) (at_value (end_of_value (array_add_tree name vs) k)) _ ts r (not_next (Kind.Sign Sign.PlusEquals) ts no_sign)
+      (skipped (Kind.Sign Sign.MinusEquals) (at_value (end_of_value (array_sub_tree name vs) k)) _ ts r (not_next (Kind.Sign Sign.MinusEquals) ts no_sign)
       (into_after_single k (bare_tree name vs) ts r fits on))))))
-  into_placed name vs k s ts ts' r fits (placed_equals {ts = rest} t is v) on = met _ _ _ t rest r is (λ active. fits) (from_value v (on_value on))
-  into_placed name vs k s ts ts' r fits (placed_arrow {ts = rest} t is v) on =
-      skipped (kinds.Sign signs.Equals) (at_value (end_of_value (array_test_tree name vs) k)) _ ts r (not_next_of (kinds.Sign signs.Equals) (kinds.Sign signs.Arrow) t is refl)
-      (met _ _ _ t rest r is (λ active. fits) (from_value v (on_value on)))
-  into_placed name vs k s ts ts' r fits (placed_up t is) on =
-      skipped (kinds.Sign signs.Equals) (at_value (end_of_value (array_test_tree name vs) k)) _ ts r (not_next_of (kinds.Sign signs.Equals) (kinds.Sign signs.PlusPlus) t is refl)
-      (skipped (kinds.Sign signs.Arrow) (at_value (end_of_value (array_set_tree name vs) k)) _ ts r (not_next_of (kinds.Sign signs.Arrow) (kinds.Sign signs.PlusPlus) t is refl)
-      (met _ _ _ t ts' r is (λ active. fits) (past_a_single on)))
-  into_placed name vs k s ts ts' r fits (placed_down t is) on =
-      skipped (kinds.Sign signs.Equals) (at_value (end_of_value (array_test_tree name vs) k)) _ ts r (not_next_of (kinds.Sign signs.Equals) (kinds.Sign signs.MinusMinus) t is refl)
-      (skipped (kinds.Sign signs.Arrow) (at_value (end_of_value (array_set_tree name vs) k)) _ ts r (not_next_of (kinds.Sign signs.Arrow) (kinds.Sign signs.MinusMinus) t is refl)
-      (skipped (kinds.Sign signs.PlusPlus) (past_single (up_tree name vs) k) _ ts r (not_next_of (kinds.Sign signs.PlusPlus) (kinds.Sign signs.MinusMinus) t is refl)
-      (met _ _ _ t ts' r is (λ active. fits) (past_a_single on))))
-  into_placed name vs k s ts ts' r fits (placed_add {ts = rest} t is v) on =
-      skipped (kinds.Sign signs.Equals) (at_value (end_of_value (array_test_tree name vs) k)) _ ts r (not_next_of (kinds.Sign signs.Equals) (kinds.Sign signs.PlusEquals) t is refl)
-      (skipped (kinds.Sign signs.Arrow) (at_value (end_of_value (array_set_tree name vs) k)) _ ts r (not_next_of (kinds.Sign signs.Arrow) (kinds.Sign signs.PlusEquals) t is refl)
-      (skipped (kinds.Sign signs.PlusPlus) (past_single (up_tree name vs) k) _ ts r (not_next_of (kinds.Sign signs.PlusPlus) (kinds.Sign signs.PlusEquals) t is refl)
-      (skipped (kinds.Sign signs.MinusMinus) (past_single (down_tree name vs) k) _ ts r (not_next_of (kinds.Sign signs.MinusMinus) (kinds.Sign signs.PlusEquals) t is refl)
-      (met _ _ _ t rest r is (λ active. fits) (from_value v (on_value on))))))
-  into_placed name vs k s ts ts' r fits (placed_sub {ts = rest} t is v) on =
-      skipped (kinds.Sign signs.Equals) (at_value (end_of_value (array_test_tree name vs) k)) _ ts r (not_next_of (kinds.Sign signs.Equals) (kinds.Sign signs.MinusEquals) t is refl)
-      (skipped (kinds.Sign signs.Arrow) (at_value (end_of_value (array_set_tree name vs) k)) _ ts r (not_next_of (kinds.Sign signs.Arrow) (kinds.Sign signs.MinusEquals) t is refl)
-      (skipped (kinds.Sign signs.PlusPlus) (past_single (up_tree name vs) k) _ ts r (not_next_of (kinds.Sign signs.PlusPlus) (kinds.Sign signs.MinusEquals) t is refl)
-      (skipped (kinds.Sign signs.MinusMinus) (past_single (down_tree name vs) k) _ ts r (not_next_of (kinds.Sign signs.MinusMinus) (kinds.Sign signs.MinusEquals) t is refl)
-      (skipped (kinds.Sign signs.PlusEquals) (at_value (end_of_value (array_add_tree name vs) k)) _ ts r (not_next_of (kinds.Sign signs.PlusEquals) (kinds.Sign signs.MinusEquals) t is refl)
-      (met _ _ _ t rest r is (λ active. fits) (from_value v (on_value on)))))))
+  into_placed name vs k s ts ts' r fits (placed_equals t is v) on = again limit free (placed name vs k) t (Kind.Sign Sign.Equals) _ r is (follows_go (λ active. fits) (from_value v (on_value on)))
+  into_placed name vs k s ts ts' r fits (placed_arrow t is v) on = again limit free (placed name vs k) t (Kind.Sign Sign.Arrow) _ r is (follows_go (λ active. fits) (from_value v (on_value on)))
+  into_placed name vs k s ts ts' r fits (placed_up t is) on = again limit free (placed name vs k) t (Kind.Sign Sign.PlusPlus) _ r is (follows_go (λ active. fits) (past_a_single on))
+  into_placed name vs k s ts ts' r fits (placed_down t is) on = again limit free (placed name vs k) t (Kind.Sign Sign.MinusMinus) _ r is (follows_go (λ active. fits) (past_a_single on))
+  into_placed name vs k s ts ts' r fits (placed_add t is v) on = again limit free (placed name vs k) t (Kind.Sign Sign.PlusEquals) _ r is (follows_go (λ active. fits) (from_value v (on_value on)))
+  into_placed name vs k s ts ts' r fits (placed_sub t is v) on = again limit free (placed name vs k) t (Kind.Sign Sign.MinusEquals) _ r is (follows_go (λ active. fits) (from_value v (on_value on)))
 
   placed_no_open : (name : Span) (vs : List Value) (k : AfterSingle) (s : SingleTree) (ts ts' : List Token) (r : SourceTree) →
-      IsPlaced name vs ts s ts' → SingleGoesOn limit free k s ts' r → NotNext (kinds.Sign signs.OpenSquare) ts
-  placed_no_open name vs k s ts ts' r placed_alone on = not_next (kinds.Sign signs.OpenSquare) ts (ends_single k _ ts r on)
-  placed_no_open name vs k s ts ts' r (placed_equals t is v) on = not_next_of (kinds.Sign signs.OpenSquare) (kinds.Sign signs.Equals) t is refl
-  placed_no_open name vs k s ts ts' r (placed_arrow t is v) on = not_next_of (kinds.Sign signs.OpenSquare) (kinds.Sign signs.Arrow) t is refl
-  placed_no_open name vs k s ts ts' r (placed_up t is) on = not_next_of (kinds.Sign signs.OpenSquare) (kinds.Sign signs.PlusPlus) t is refl
-  placed_no_open name vs k s ts ts' r (placed_down t is) on = not_next_of (kinds.Sign signs.OpenSquare) (kinds.Sign signs.MinusMinus) t is refl
-  placed_no_open name vs k s ts ts' r (placed_add t is v) on = not_next_of (kinds.Sign signs.OpenSquare) (kinds.Sign signs.PlusEquals) t is refl
-  placed_no_open name vs k s ts ts' r (placed_sub t is v) on = not_next_of (kinds.Sign signs.OpenSquare) (kinds.Sign signs.MinusEquals) t is refl
+      IsPlaced name vs ts s ts' → SingleGoesOn limit free k s ts' r → NotNext (Kind.Sign Sign.OpenSquare) ts
+  placed_no_open name vs k s ts ts' r placed_alone on = not_next (Kind.Sign Sign.OpenSquare) ts (ends_single k _ ts r on)
+  placed_no_open name vs k s ts ts' r (placed_equals t is v) on = not_next_of (Kind.Sign Sign.OpenSquare) (Kind.Sign Sign.Equals) t is refl
+  placed_no_open name vs k s ts ts' r (placed_arrow t is v) on = not_next_of (Kind.Sign Sign.OpenSquare) (Kind.Sign Sign.Arrow) t is refl
+  placed_no_open name vs k s ts ts' r (placed_up t is) on = not_next_of (Kind.Sign Sign.OpenSquare) (Kind.Sign Sign.PlusPlus) t is refl
+  placed_no_open name vs k s ts ts' r (placed_down t is) on = not_next_of (Kind.Sign Sign.OpenSquare) (Kind.Sign Sign.MinusMinus) t is refl
+  placed_no_open name vs k s ts ts' r (placed_add t is v) on = not_next_of (Kind.Sign Sign.OpenSquare) (Kind.Sign Sign.PlusEquals) t is refl
+  placed_no_open name vs k s ts ts' r (placed_sub t is v) on = not_next_of (Kind.Sign Sign.OpenSquare) (Kind.Sign Sign.MinusEquals) t is refl
 
   into_places : (name : Span) (vs ws : List Value) (k : AfterSingle) (s : SingleTree) (ts ts1 ts2 : List Token) (r : SourceTree) → single_depth k ≤ limit →
       IsPlacesRest vs ts ws ts1 → IsPlaced name ws ts1 s ts2 → SingleGoesOn limit free k s ts2 r → Follows limit free (after_places name vs k (front ts)) ts r
   into_places name vs ws k s ts ts1 ts2 r fits places_end pl on =
-      skipped (kinds.Sign signs.OpenSquare) (at_value (close_place name vs k)) _ ts r (placed_no_open name vs k s ts ts2 r pl on) (into_placed name vs k s ts ts2 r fits pl on)
+      skipped (Kind.Sign Sign.OpenSquare) (at_value (close_place name vs k)) _ ts r (placed_no_open name vs k s ts ts2 r pl on) (into_placed name vs k s ts ts2 r fits pl on)
   into_places name vs ws k s ts ts1 ts2 r fits (places_more {ts = rest} t t1 is v is1 more) pl on =
       met _ _ _ t rest r is (λ active. fits) (from_value v (on_place t1 is1 more pl on))
 
@@ -174,18 +146,13 @@ module _ (limit free : ℕ) where
       IsNamed name ts s ts' → SingleGoesOn limit free k s ts' r → Follows limit free (after_name name k (front ts)) ts r
   into_name name k s ts ts' r fits named_alone on =
       let no_sign : Ends 1 ts = ends_single k _ ts r on in
-      skipped (kinds.Sign signs.Equals) (at_value (end_of_value (test_tree name) k)) _ ts r (not_next (kinds.Sign signs.Equals) ts no_sign)
-      (skipped (kinds.Sign signs.Arrow) (at_value (end_of_value (set_tree name) k)) _ ts r (not_next (kinds.Sign signs.Arrow) ts no_sign)
-      (skipped (kinds.Sign signs.OpenSquare) (at_value (close_place name [] k)) _ ts r (not_next (kinds.Sign signs.OpenSquare) ts no_sign)
+      skipped (Kind.Sign Sign.Equals) (at_value (end_of_value (test_tree name) k)) _ ts r (not_next (Kind.Sign Sign.Equals) ts no_sign)
+      (skipped (Kind.Sign Sign.Arrow) (at_value (end_of_value (set_tree name) k)) _ ts r (not_next (Kind.Sign Sign.Arrow) ts no_sign)
+      (skipped (Kind.Sign Sign.OpenSquare) (at_value (close_place name [] k)) _ ts r (not_next (Kind.Sign Sign.OpenSquare) ts no_sign)
       (into_after_single k (name_tree name) ts r fits on)))
-  into_name name k s ts ts' r fits (named_equals {ts = rest} t is v) on = met _ _ _ t rest r is (λ active. fits) (from_value v (on_value on))
-  into_name name k s ts ts' r fits (named_arrow {ts = rest} t is v) on =
-      skipped (kinds.Sign signs.Equals) (at_value (end_of_value (test_tree name) k)) _ ts r (not_next_of (kinds.Sign signs.Equals) (kinds.Sign signs.Arrow) t is refl)
-      (met _ _ _ t rest r is (λ active. fits) (from_value v (on_value on)))
-  into_name name k s ts ts' r fits (named_places {ts = rest} t t1 is v is1 more pl) on =
-      skipped (kinds.Sign signs.Equals) (at_value (end_of_value (test_tree name) k)) _ ts r (not_next_of (kinds.Sign signs.Equals) (kinds.Sign signs.OpenSquare) t is refl)
-      (skipped (kinds.Sign signs.Arrow) (at_value (end_of_value (set_tree name) k)) _ ts r (not_next_of (kinds.Sign signs.Arrow) (kinds.Sign signs.OpenSquare) t is refl)
-      (met _ _ _ t rest r is (λ active. fits) (from_value v (on_place t1 is1 more pl on))))
+  into_name name k s ts ts' r fits (named_equals t is v) on = again limit free (after_name name k) t (Kind.Sign Sign.Equals) _ r is (follows_go (λ active. fits) (from_value v (on_value on)))
+  into_name name k s ts ts' r fits (named_arrow t is v) on = again limit free (after_name name k) t (Kind.Sign Sign.Arrow) _ r is (follows_go (λ active. fits) (from_value v (on_value on)))
+  into_name name k s ts ts' r fits (named_places t t1 is v is1 more pl) on = again limit free (after_name name k) t (Kind.Sign Sign.OpenSquare) _ r is (follows_go (λ active. fits) (from_value v (on_place t1 is1 more pl on)))
 
   -- values
   into_after_value : (k : AfterValue) (v : Value) (ts : List Token) (r : SourceTree) → value_depth k ≤ limit →
@@ -251,7 +218,7 @@ module _ (limit free : ℕ) where
   -- a choice that is no `if`
   plain_kind : (k : AfterChoice) (t : Token) (kind : Kind) (ts : List Token) (r : SourceTree) →
       Follows limit free (begin_either (end_of_plain k) t kind) ts r → Follows limit free (begin_choice k t kind) ts r
-  plain_kind k t (kinds.Key keys.If) ts r h = elim h [ ]
+  plain_kind k t (Kind.Key Key.If) ts r h = elim h [ ]
   plain_kind k t _ ts r h = h
 
   into_choice : (k : AfterChoice) (c : ChoiceTree) (t : Token) (ts ts' : List Token) (r : SourceTree) → choice_depth k ≤ limit →
@@ -271,10 +238,10 @@ module _ (limit free : ℕ) where
   -- what is no declaration begins the policy
   policy_kind : (ds : List DeclTree) (t : Token) (kind : Kind) (ts : List Token) (r : SourceTree) →
       Follows limit free (begin_policy (the_end ds) t kind) ts r → Follows limit free (begin_decl ds t kind) ts r
-  policy_kind ds t (kinds.Key keys.Field) ts r h = elim h [ ]
-  policy_kind ds t (kinds.Key keys.Array) ts r h = elim h [ ]
-  policy_kind ds t (kinds.Key keys.Const) ts r h = elim h [ ]
-  policy_kind ds t (kinds.Key keys.Let) ts r h = elim h [ ]
+  policy_kind ds t (Kind.Key Key.Field) ts r h = elim h [ ]
+  policy_kind ds t (Kind.Key Key.Array) ts r h = elim h [ ]
+  policy_kind ds t (Kind.Key Key.Const) ts r h = elim h [ ]
+  policy_kind ds t (Kind.Key Key.Let) ts r h = elim h [ ]
   policy_kind ds t _ ts r h = h
 
   into_program : (ds : List DeclTree) (ts : List Token) (r : SourceTree) → IsProgramRest limit free ds ts r → Follows limit free (step (at_decl ds) (front ts)) ts r
@@ -293,7 +260,7 @@ module _ (limit free : ℕ) where
       (follows_go (λ active. omega arith) (from_wants t1 is1 (λ active. omega arith) (from_open t2 is2 (λ active. omega (arith, below active)) p (on_let t3 is3 more))))
 
   into_constant : (ds : List DeclTree) (at : ℕ) (name : Span) (l : Literal) (t : Token) (ts ts' : List Token) (r : SourceTree) →
-      IsLiteral ts l (t ∷ ts') → t.kind ≡ kinds.Sign signs.Semicolon → IsProgramRest limit free (ds ++ const_tree at name l ∷ []) ts' r →
+      IsLiteral ts l (t ∷ ts') → t.kind ≡ Kind.Sign Sign.Semicolon → IsProgramRest limit free (ds ++ const_tree at name l ∷ []) ts' r →
       Follows limit free (step (at_constant ds at name) (front ts)) ts r
   into_constant ds at name l t ts ts' r (number_literal t0 is0) is more =
       by_kind (λ x. on_literal (literal_of x (span_of t0)) (in_constant_value ds at name)) t0 _ _ r is0 (follows_go (λ active. omega arith) (from_wants t is (λ active. omega arith) (from_decl more)))
@@ -310,7 +277,7 @@ module _ (limit free : ℕ) where
   into st ts r fits (from_open {k = k} {ts = rest} t is deep p on) = met _ (at_policy k) stuck t rest r is deep (from_policy p on)
   into st ts r fits (from_decl {ds = ds} more) = into_program ds ts r more
   into st ts r fits (from_plain_field {ds = ds} {at = at} {name = name} {ts = rest} t is more) =
-      skipped (kinds.Sign signs.Slash) (wants kinds.Number (λ n. wants (kinds.Sign signs.Semicolon) (λ e. at_decl (ds ++ field_tree at name (Some (span_of n)) ∷ [])))) _ (t ∷ rest) r (not_next_of (kinds.Sign signs.Slash) (kinds.Sign signs.Semicolon) t is refl) (met _ _ stuck t rest r is (λ active. omega arith) (from_decl more))
+      skipped (Kind.Sign Sign.Slash) (wants Kind.Number (λ n. wants (Kind.Sign Sign.Semicolon) (λ e. at_decl (ds ++ field_tree at name (Some (span_of n)) ∷ [])))) _ (t ∷ rest) r (not_next_of (Kind.Sign Sign.Slash) (Kind.Sign Sign.Semicolon) t is refl) (met _ _ stuck t rest r is (λ active. omega arith) (from_decl more))
   into st ts r fits (from_split_field {ds = ds} {at = at} {name = name} {ts = rest} t t1 t2 is is1 is2 more) =
       met _ _ _ t _ r is (λ active. omega arith) (from_wants t1 is1 (λ active. omega arith) (from_wants t2 is2 (λ active. omega arith) (from_decl more)))
   into st ts r fits (from_constant {ds = ds} {at = at} {name = name} {l = l} {ts' = rest} t literal is more) = into_constant ds at name l t ts rest r literal is more
@@ -329,7 +296,7 @@ module _ (limit free : ℕ) where
       into_single_front k s (t ∷ ts) ts' r fits single on = into_single k s t ts ts' r fits single on
   into st ts r fits (from_value {k = k} {v = v} {ts' = ts'} value on) = into_value_front k v ts ts' r fits value on
   into st ts r fits (from_address {address = a} {k = k} on) =
-      skipped (kinds.Sign signs.Slash) (wants kinds.Number (λ n. past_value (values.Prefix a (span_of n)) k)) _ ts r (not_next (kinds.Sign signs.Slash) ts (ends_value k _ ts r on)) (into_after_value k _ ts r fits on)
+      skipped (Kind.Sign Sign.Slash) (wants Kind.Number (λ n. past_value (Value.Prefix a (span_of n)) k)) _ ts r (not_next (Kind.Sign Sign.Slash) ts (ends_value k _ ts r on)) (into_after_value k _ ts r fits on)
   into st ts r fits (from_prefix {k = k} {ts = rest} t t1 is is1 on) = met _ _ _ t _ r is (λ active. fits) (from_wants t1 is1 (λ active. fits) (past_a_value on))
   into st ts r fits (from_name {name = name} {k = k} {s = s} {ts' = ts'} named on) = into_name name k s ts ts' r fits named on
   into st ts r fits (from_places {name = name} {vs = vs} {ws = ws} {k = k} {s = s} {ts1 = ts1} {ts2 = ts2} more pl on) = into_places name vs ws k s ts ts1 ts2 r fits more pl on

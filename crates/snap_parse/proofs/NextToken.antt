@@ -1,76 +1,36 @@
 -- Kinds are the same where their numbers are, and what may stand behind a part.
 use Rattle.std.proofs.Common.{◌≡◌, ◌≢◌, ℕ, suc, ◌≤◌, List, [], ◌∷◌, Bool, true, false, refl, sym, ap, ◌∙◌, subst, arith, get_or}
 use Rattle.std.proofs.lemmas.Bool.{eqb-true, eq-eqb}
-use Rattle.snap_lex.specs.declared.Token.{Token}
-use Rattle.snap_lex.specs.declared.Kind.{Kind}
-use Rattle.snap_lex.specs.declared.Kind.TheVariants as kinds
-use Rattle.snap_lex.specs.declared.Key.{Key}
-use Rattle.snap_lex.specs.declared.Key.TheVariants as keys
-use Rattle.snap_lex.specs.declared.Sign.{Sign}
-use Rattle.snap_lex.specs.declared.Sign.TheVariants as signs
-use Rattle.snap_parse.specs.Kinds.{key_code, sign_code, same_kind}
-
-abbrev all_keys : List Key
-all_keys = keys.Field ∷ keys.Array ∷ keys.Const ∷ keys.Let ∷ keys.If ∷ keys.Then ∷ keys.Else ∷ keys.Id ∷ keys.Drop ∷ keys.Atomic ∷ keys.True ∷ keys.False ∷ []
-
-abbrev all_signs : List Sign
-all_signs = signs.PlusPlus ∷ signs.MinusMinus ∷ signs.Arrow ∷ signs.OpenSquare ∷ signs.CloseSquare ∷ signs.OpenRound ∷ signs.CloseRound ∷ signs.OpenCurly ∷ signs.CloseCurly ∷ signs.Equals ∷ signs.Not ∷ signs.And ∷ signs.Or ∷ signs.Plus ∷ signs.Semicolon ∷ signs.Slash ∷ signs.PlusEquals ∷ signs.MinusEquals ∷ []
+use Rattle.snap_lex.proofs.Forms.{all_keys, all_signs}
+use Rattle.snap_parse.specs.Kinds.{Token, Kind, Key, Sign, key_code, sign_code, same_kind}
 
 -- a number tells its keyword, and its sign
-key_at-code : (k : Key) → get_or all_keys (key_code k) keys.If ≡ k
-key_at-code keys.Field = refl
-key_at-code keys.Array = refl
-key_at-code keys.Const = refl
-key_at-code keys.Let = refl
-key_at-code keys.If = refl
-key_at-code keys.Then = refl
-key_at-code keys.Else = refl
-key_at-code keys.Id = refl
-key_at-code keys.Drop = refl
-key_at-code keys.Atomic = refl
-key_at-code keys.True = refl
-key_at-code keys.False = refl
+key_at-code : (k : Key) → get_or all_keys (key_code k) Key.If ≡ k
+key_at-code Key.Field = refl
+key_at-code _ = refl
 
-sign_at-code : (s : Sign) → get_or all_signs (sign_code s) signs.Not ≡ s
-sign_at-code signs.PlusPlus = refl
-sign_at-code signs.MinusMinus = refl
-sign_at-code signs.Arrow = refl
-sign_at-code signs.OpenSquare = refl
-sign_at-code signs.CloseSquare = refl
-sign_at-code signs.OpenRound = refl
-sign_at-code signs.CloseRound = refl
-sign_at-code signs.OpenCurly = refl
-sign_at-code signs.CloseCurly = refl
-sign_at-code signs.Equals = refl
-sign_at-code signs.Not = refl
-sign_at-code signs.And = refl
-sign_at-code signs.Or = refl
-sign_at-code signs.Plus = refl
-sign_at-code signs.Semicolon = refl
-sign_at-code signs.Slash = refl
-sign_at-code signs.PlusEquals = refl
-sign_at-code signs.MinusEquals = refl
+sign_at-code : (s : Sign) → get_or all_signs (sign_code s) Sign.Not ≡ s
+sign_at-code Sign.PlusPlus = refl
+sign_at-code _ = refl
 
 key_code_injective : (a b : Key) → key_code a ≡ key_code b → a ≡ b
-key_code_injective a b e = sym (key_at-code a) ∙ (ap (λ n. get_or all_keys n keys.If) e ∙ key_at-code b)
+key_code_injective a b e = sym (key_at-code a) ∙ (ap (λ n. get_or all_keys n Key.If) e ∙ key_at-code b)
 
 sign_code_injective : (a b : Sign) → sign_code a ≡ sign_code b → a ≡ b
-sign_code_injective a b e = sym (sign_at-code a) ∙ (ap (λ n. get_or all_signs n signs.Not) e ∙ sign_at-code b)
+sign_code_injective a b e = sym (sign_at-code a) ∙ (ap (λ n. get_or all_signs n Sign.Not) e ∙ sign_at-code b)
 
 pub same_kind-true : (a b : Kind) → same_kind a b ≡ true → a ≡ b
-same_kind-true kinds.Word kinds.Word e = refl
-same_kind-true kinds.Number kinds.Number e = refl
-same_kind-true kinds.Address kinds.Address e = refl
-same_kind-true (kinds.Key a) (kinds.Key b) e = ap kinds.Key (key_code_injective a b (eqb-true _ _ e))
-same_kind-true (kinds.Sign a) (kinds.Sign b) e = ap kinds.Sign (sign_code_injective a b (eqb-true _ _ e))
+same_kind-true Kind.Word Kind.Word e = refl
+same_kind-true Kind.Number Kind.Number e = refl
+same_kind-true Kind.Address Kind.Address e = refl
+same_kind-true (Kind.Key a) (Kind.Key b) e = ap Kind.Key (key_code_injective a b (eqb-true _ _ e))
+same_kind-true (Kind.Sign a) (Kind.Sign b) e = ap Kind.Sign (sign_code_injective a b (eqb-true _ _ e))
 same_kind-true _ _ e = absurd (cc)
 
 same_kind-refl : (a : Kind) → same_kind a a ≡ true
-same_kind-refl kinds.Word = refl
-same_kind-refl kinds.Number = refl
-same_kind-refl kinds.Address = refl
-same_kind-refl (kinds.Key a) = eq-eqb (key_code a) (key_code a) refl
-same_kind-refl (kinds.Sign a) = eq-eqb (sign_code a) (sign_code a) refl
+same_kind-refl (Kind.Key a) = eq-eqb (key_code a) (key_code a) refl
+same_kind-refl (Kind.Sign a) = eq-eqb (sign_code a) (sign_code a) refl
+same_kind-refl _ = refl
 
 pub same_kind-same : (a b : Kind) → a ≡ b → same_kind a b ≡ true
 same_kind-same a b e = subst (λ x. same_kind a x ≡ true) e (same_kind-refl a)
@@ -85,15 +45,15 @@ same_kind-other a b other = decided (same_kind a b) refl
 -- How loose the part is that ends before a token of this kind: 1 a single, 2 a both, 3 an either, 4 a choice,
 -- 5 a sequence, 6 a policy.
 abbrev pub looseness : Kind → ℕ
-looseness (kinds.Sign signs.CloseSquare) = 1
-looseness (kinds.Sign signs.And) = 1
-looseness (kinds.Sign signs.Or) = 2
-looseness (kinds.Key keys.Then) = 3
-looseness (kinds.Sign signs.Semicolon) = 4
-looseness (kinds.Sign signs.Plus) = 5
-looseness (kinds.Sign signs.CloseRound) = 6
-looseness (kinds.Sign signs.CloseCurly) = 6
-looseness (kinds.Key keys.Else) = 6
+looseness (Kind.Sign Sign.CloseSquare) = 1
+looseness (Kind.Sign Sign.And) = 1
+looseness (Kind.Sign Sign.Or) = 2
+looseness (Kind.Key Key.Then) = 3
+looseness (Kind.Sign Sign.Semicolon) = 4
+looseness (Kind.Sign Sign.Plus) = 5
+looseness (Kind.Sign Sign.CloseRound) = 6
+looseness (Kind.Sign Sign.CloseCurly) = 6
+looseness (Kind.Key Key.Else) = 6
 looseness _ = 0
 
 -- the next token, if there is one, ends a part as loose as this

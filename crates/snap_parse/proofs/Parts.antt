@@ -1,100 +1,55 @@
 -- Steps of the machine at names, values, choices and declarations.
-use Rattle.std.proofs.Common.{◌≡◌, ◌≢◌, ℕ, ◌≤◌, List, [], ◌∷◌, ◌++◌, Option, Some, None, Result, Ok, Err, refl, sym, ap, ◌∙◌, subst, arith}
-use Rattle.std.specs.Prelude.{IsErrAnd, Vec}
-use Rattle.std.specs.Borrow.{Bor}
-use Rattle.std.specs.declared.alloc.Global.{Global}
+use Rattle.std.proofs.Common.{◌≡◌, ◌≢◌, ℕ, ◌≤◌, List, [], ◌∷◌, ◌++◌, Option, Some, None, Result, Ok, Err, refl, sym, ap, ◌∙◌, subst, arith, IsErrAnd, Vec, Bor, Global}
 use Rattle.std.proofs.lemmas.Result.{err_from_is_err_and}
-use Rattle.snap_lex.specs.declared.Token.{Token}
-use Rattle.snap_lex.specs.declared.Kind.{Kind}
-use Rattle.snap_lex.specs.declared.Kind.TheVariants as kinds
-use Rattle.snap_lex.specs.declared.Key.TheVariants as keys
-use Rattle.snap_lex.specs.declared.Sign.TheVariants as signs
-use Rattle.snap_parse.specs.declared.tree.Span.{Span}
-use Rattle.snap_parse.specs.declared.tree.Literal.{Literal}
-use Rattle.snap_parse.specs.declared.tree.Literal.TheVariants as literals
-use Rattle.snap_parse.specs.declared.tree.Value.{Value}
-use Rattle.snap_parse.specs.declared.tree.Value.TheVariants as values
-use Rattle.snap_parse.specs.Tree.{PolicyTree, name_tree, test_tree, set_tree, bare_tree, array_test_tree, array_set_tree, up_tree, down_tree, array_add_tree, array_sub_tree, DeclTree, span_of}
-use Rattle.snap_parse.specs.Machine.{the_end, AfterChoice, end_of_plain, AfterSingle, AfterValue, end_of_value, close_place, single_depth, value_depth, at_decl, at_constant, at_policy, at_choice, at_either, at_single, at_value, past_value, past_single, past_policy, Move, go, stuck, front, on_next, after_single, placed, after_name, literal_of, begin_value, begin_single, begin_either, begin_choice, begin_policy, begin_decl, on_literal, in_constant_value}
-use Rattle.snap_parse.specs.declared.tree.Decl.{Decl}
-use Rattle.snap_parse.specs.Tree.{decl_tree}
-use Rattle.snap_parse.specs.declared.fault.ParseFault.{ParseFault}
-use Rattle.snap_parse.specs.declared.fault.ParseFault.TheVariants.{Unexpected}
-use Rattle.snap_parse.specs.Machine.{follow, run, place}
+use Rattle.snap_parse.specs.Kinds.{Token, Kind, Key, Sign}
+use Rattle.snap_parse.specs.Tree.{Span, Literal, Value, PolicyTree, name_tree, bare_tree, DeclTree, span_of, Decl, decl_tree}
+use Rattle.snap_parse.specs.Machine.{State, state_depth, the_end, AfterChoice, end_of_plain, AfterSingle, AfterValue, close_place, single_depth, value_depth, at_decl, at_constant, at_policy, at_choice, at_either, at_single, at_value, past_value, past_policy, Move, go, stuck, front, after_single, placed, after_name, literal_of, begin_value, begin_single, begin_either, begin_choice, begin_policy, begin_decl, on_literal, in_constant_value, ParseFault, Unexpected, follow, run, place}
 use Rattle.snap_parse.specs.Reading.{Refuses, Lacks, ReadsPlaces, ReadsDeclaration}
-use Rattle.snap_parse.proofs.Steps.{goes, stays, met, missed, begins}
-
--- what is left of the tests behind a name
-abbrev placed_from_7 : Span → List Value → AfterSingle → Option Token → Move
-placed_from_7 name vs k o = after_single k (bare_tree name vs) o
-
-abbrev placed_from_6 : Span → List Value → AfterSingle → Option Token → Move
-placed_from_6 name vs k o = on_next (kinds.Sign signs.MinusEquals) o (at_value (end_of_value (array_sub_tree name vs) k)) (placed_from_7 name vs k o)
-
-abbrev placed_from_5 : Span → List Value → AfterSingle → Option Token → Move
-placed_from_5 name vs k o = on_next (kinds.Sign signs.PlusEquals) o (at_value (end_of_value (array_add_tree name vs) k)) (placed_from_6 name vs k o)
-
-abbrev placed_from_4 : Span → List Value → AfterSingle → Option Token → Move
-placed_from_4 name vs k o = on_next (kinds.Sign signs.MinusMinus) o (past_single (down_tree name vs) k) (placed_from_5 name vs k o)
-
-abbrev placed_from_3 : Span → List Value → AfterSingle → Option Token → Move
-placed_from_3 name vs k o = on_next (kinds.Sign signs.PlusPlus) o (past_single (up_tree name vs) k) (placed_from_4 name vs k o)
-
-abbrev placed_from_2 : Span → List Value → AfterSingle → Option Token → Move
-placed_from_2 name vs k o = on_next (kinds.Sign signs.Arrow) o (at_value (end_of_value (array_set_tree name vs) k)) (placed_from_3 name vs k o)
-
-abbrev after_name_from_4 : Span → AfterSingle → Option Token → Move
-after_name_from_4 name k o = after_single k (name_tree name) o
-
-abbrev after_name_from_3 : Span → AfterSingle → Option Token → Move
-after_name_from_3 name k o = on_next (kinds.Sign signs.OpenSquare) o (at_value (close_place name [] k)) (after_name_from_4 name k o)
-
-abbrev after_name_from_2 : Span → AfterSingle → Option Token → Move
-after_name_from_2 name k o = on_next (kinds.Sign signs.Arrow) o (at_value (end_of_value (set_tree name) k)) (after_name_from_3 name k o)
+use Rattle.snap_parse.proofs.Steps.{goes, stays, missed, begins}
 
 module _ (limit end : ℕ) where
   -- a choice that is no `if`
-  begins_plain : (kind : Kind) (t : Token) (k : AfterChoice) → kind ≢ kinds.Key keys.If → begin_choice k t kind ≡ begin_either (end_of_plain k) t kind
-  begins_plain (kinds.Key keys.If) t k other = absurd (other refl)
+  begins_plain : (kind : Kind) (t : Token) (k : AfterChoice) → kind ≢ Kind.Key Key.If → begin_choice k t kind ≡ begin_either (end_of_plain k) t kind
+  begins_plain (Kind.Key Key.If) t k other = absurd (other refl)
   begins_plain _ t k other = refl
 
-  pub plain : (k : AfterChoice) (ts : List Token) → Lacks (kinds.Key keys.If) ts → run limit end (at_choice k) ts ≡ run limit end (at_either (end_of_plain k)) ts
+  pub plain : (k : AfterChoice) (ts : List Token) → Lacks (Kind.Key Key.If) ts → run limit end (at_choice k) ts ≡ run limit end (at_either (end_of_plain k)) ts
   plain k [] other = refl
   plain k (t ∷ ts) other = ap (λ m. follow limit end m (t ∷ ts)) (begins_plain t.kind t k (other t ts refl))
 
   -- what is no declaration
-  begins_policy : (kind : Kind) (t : Token) (ds : List DeclTree) → kind ≢ kinds.Key keys.Field → kind ≢ kinds.Key keys.Array → kind ≢ kinds.Key keys.Const → kind ≢ kinds.Key keys.Let →
+  begins_policy : (kind : Kind) (t : Token) (ds : List DeclTree) → kind ≢ Kind.Key Key.Field → kind ≢ Kind.Key Key.Array → kind ≢ Kind.Key Key.Const → kind ≢ Kind.Key Key.Let →
       begin_decl ds t kind ≡ begin_policy (the_end ds) t kind
-  begins_policy (kinds.Key keys.Field) t ds a b c d = absurd (a refl)
-  begins_policy (kinds.Key keys.Array) t ds a b c d = absurd (b refl)
-  begins_policy (kinds.Key keys.Const) t ds a b c d = absurd (c refl)
-  begins_policy (kinds.Key keys.Let) t ds a b c d = absurd (d refl)
+  begins_policy (Kind.Key Key.Field) t ds a b c d = absurd (a refl)
+  begins_policy (Kind.Key Key.Array) t ds a b c d = absurd (b refl)
+  begins_policy (Kind.Key Key.Const) t ds a b c d = absurd (c refl)
+  begins_policy (Kind.Key Key.Let) t ds a b c d = absurd (d refl)
   begins_policy _ t ds a b c d = refl
 
-  pub no_decl : (ds : List DeclTree) (ts : List Token) → Lacks (kinds.Key keys.Field) ts → Lacks (kinds.Key keys.Array) ts → Lacks (kinds.Key keys.Const) ts → Lacks (kinds.Key keys.Let) ts →
+  pub no_decl : (ds : List DeclTree) (ts : List Token) → Lacks (Kind.Key Key.Field) ts → Lacks (Kind.Key Key.Array) ts → Lacks (Kind.Key Key.Const) ts → Lacks (Kind.Key Key.Let) ts →
       run limit end (at_decl ds) ts ≡ run limit end (at_policy (the_end ds)) ts
   no_decl ds [] a b c d = refl
   no_decl ds (t ∷ ts) a b c d = ap (λ m. follow limit end m (t ∷ ts)) (begins_policy t.kind t ds (a t ts refl) (b t ts refl) (c t ts refl) (d t ts refl))
 
   -- values
-  begins_no_value : (kind : Kind) (t : Token) (k : AfterValue) → kind ≢ kinds.Word → literal_of kind (span_of t) ≡ None → begin_value k t kind ≡ stuck
-  begins_no_value kinds.Word t k other none = absurd (other refl)
-  begins_no_value kinds.Number t k other none = absurd (cc)
-  begins_no_value kinds.Address t k other none = absurd (cc)
-  begins_no_value (kinds.Key keys.True) t k other none = absurd (cc)
-  begins_no_value (kinds.Key keys.False) t k other none = absurd (cc)
+  begins_no_value : (kind : Kind) (t : Token) (k : AfterValue) → kind ≢ Kind.Word → literal_of kind (span_of t) ≡ None → begin_value k t kind ≡ stuck
+  begins_no_value Kind.Word t k other none = absurd (other refl)
+  begins_no_value Kind.Number t k other none = absurd (cc)
+  begins_no_value Kind.Address t k other none = absurd (cc)
+  begins_no_value (Kind.Key Key.True) t k other none = absurd (cc)
+  begins_no_value (Kind.Key Key.False) t k other none = absurd (cc)
   begins_no_value _ t k other none = refl
 
-  begins_literal : (kind : Kind) (t : Token) (k : AfterValue) (l : Literal) → kind ≢ kinds.Address → literal_of kind (span_of t) ≡ Some l →
-      begin_value k t kind ≡ go (past_value (values.Literal l) k)
-  begins_literal kinds.Word t k l other is = absurd (cc)
-  begins_literal kinds.Number t k l other is = let same : literals.Number (span_of t) ≡ l = cc in ap (λ x. go (past_value (values.Literal x) k)) same
-  begins_literal kinds.Address t k l other is = absurd (other refl)
-  begins_literal (kinds.Key keys.True) t k l other is = let same : literals.True (span_of t) ≡ l = cc in ap (λ x. go (past_value (values.Literal x) k)) same
-  begins_literal (kinds.Key keys.False) t k l other is = let same : literals.False (span_of t) ≡ l = cc in ap (λ x. go (past_value (values.Literal x) k)) same
+  begins_literal : (kind : Kind) (t : Token) (k : AfterValue) (l : Literal) → kind ≢ Kind.Address → literal_of kind (span_of t) ≡ Some l →
+      begin_value k t kind ≡ go (past_value (Value.Literal l) k)
+  begins_literal Kind.Word t k l other is = absurd (cc)
+  begins_literal Kind.Number t k l other is = let same : Literal.Number (span_of t) ≡ l = cc in ap (λ x. go (past_value (Value.Literal x) k)) same
+  begins_literal Kind.Address t k l other is = absurd (other refl)
+  begins_literal (Kind.Key Key.True) t k l other is = let same : Literal.True (span_of t) ≡ l = cc in ap (λ x. go (past_value (Value.Literal x) k)) same
+  begins_literal (Kind.Key Key.False) t k l other is = let same : Literal.False (span_of t) ≡ l = cc in ap (λ x. go (past_value (Value.Literal x) k)) same
   begins_literal _ t k l other is = absurd (cc)
 
-  pub refuses_value : (k : AfterValue) (ts rest : List Token) (t : Token) (e : ParseFault) → ts ≡ t ∷ rest → t.kind ≢ kinds.Word →
+  pub refuses_value : (k : AfterValue) (ts rest : List Token) (t : Token) (e : ParseFault) → ts ≡ t ∷ rest → t.kind ≢ Kind.Word →
       (e ≡ Unexpected (place end ts)) × ((t : Token) (rest : List Token) → ts ≡ t ∷ rest → literal_of t.kind (span_of t) ≡ None) → Refuses e (run limit end (at_value k) ts)
   refuses_value k ts rest t e is other h =
       subst (λ x. Refuses x (run limit end (at_value k) ts)) (sym h.0)
@@ -104,15 +59,15 @@ module _ (limit end : ℕ) where
   first_same : (ts rest rest1 : List Token) (t t1 : Token) → ts ≡ t ∷ rest → ts ≡ t1 ∷ rest1 → t ≡ t1
   first_same ts rest rest1 t t1 a b = cc
 
-  pub reads_literal : (k : AfterValue) (ts rest1 : List Token) (t1 : Token) (l : Literal) (rest : List Token) → ts ≡ t1 ∷ rest1 → t1.kind ≢ kinds.Address →
+  pub reads_literal : (k : AfterValue) (ts rest1 : List Token) (t1 : Token) (l : Literal) (rest : List Token) → ts ≡ t1 ∷ rest1 → t1.kind ≢ Kind.Address →
       (t : Token) × (ts ≡ t ∷ rest) × (literal_of t.kind (span_of t) ≡ Some l) → value_depth k ≤ limit →
-      run limit end (at_value k) ts ≡ run limit end (past_value (values.Literal l) k) rest
+      run limit end (at_value k) ts ≡ run limit end (past_value (Value.Literal l) k) rest
   reads_literal k ts rest1 t1 l rest is other s fits =
       let t = s.0 in
       let same : t ≡ t1 = first_same ts rest rest1 t t1 s.1 is in
       begins limit end (begin_value k) ts rest t t.kind s.1 refl
       ∙ (ap (λ m. follow limit end m (t ∷ rest)) (begins_literal t.kind t k l (λ a. other (ap (λ (x : Token). x.kind) (sym same) ∙ a)) s.2)
-      ∙ goes limit end (past_value (values.Literal l) k) t rest fits)
+      ∙ goes limit end (past_value (Value.Literal l) k) t rest fits)
 
   -- the literal of a constant
   pub reads_constant : (ds : List DeclTree) (at : ℕ) (name : Span) (ts rest : List Token) (l : Literal) →
@@ -130,18 +85,18 @@ module _ (limit end : ℕ) where
       (ap (λ o. follow limit end (on_literal o (in_constant_value ds at name)) (t ∷ ts)) (h.1 t ts refl) ∙ stays limit end stuck (t ∷ ts) refl)
 
   -- what is no single
-  begins_no_single : (kind : Kind) (t : Token) (k : AfterSingle) → kind ≢ kinds.Sign signs.Not → kind ≢ kinds.Sign signs.OpenRound → kind ≢ kinds.Key keys.Id →
-      kind ≢ kinds.Key keys.Drop → kind ≢ kinds.Key keys.Atomic → kind ≢ kinds.Word → begin_single k t kind ≡ stuck
-  begins_no_single (kinds.Sign signs.Not) t k a b c d e f = absurd (a refl)
-  begins_no_single (kinds.Sign signs.OpenRound) t k a b c d e f = absurd (b refl)
-  begins_no_single (kinds.Key keys.Id) t k a b c d e f = absurd (c refl)
-  begins_no_single (kinds.Key keys.Drop) t k a b c d e f = absurd (d refl)
-  begins_no_single (kinds.Key keys.Atomic) t k a b c d e f = absurd (e refl)
-  begins_no_single kinds.Word t k a b c d e f = absurd (f refl)
+  begins_no_single : (kind : Kind) (t : Token) (k : AfterSingle) → kind ≢ Kind.Sign Sign.Not → kind ≢ Kind.Sign Sign.OpenRound → kind ≢ Kind.Key Key.Id →
+      kind ≢ Kind.Key Key.Drop → kind ≢ Kind.Key Key.Atomic → kind ≢ Kind.Word → begin_single k t kind ≡ stuck
+  begins_no_single (Kind.Sign Sign.Not) t k a b c d e f = absurd (a refl)
+  begins_no_single (Kind.Sign Sign.OpenRound) t k a b c d e f = absurd (b refl)
+  begins_no_single (Kind.Key Key.Id) t k a b c d e f = absurd (c refl)
+  begins_no_single (Kind.Key Key.Drop) t k a b c d e f = absurd (d refl)
+  begins_no_single (Kind.Key Key.Atomic) t k a b c d e f = absurd (e refl)
+  begins_no_single Kind.Word t k a b c d e f = absurd (f refl)
   begins_no_single _ t k a b c d e f = refl
 
-  pub refuses_single : (k : AfterSingle) (ts : List Token) (e : ParseFault) → Lacks (kinds.Sign signs.Not) ts → Lacks (kinds.Sign signs.OpenRound) ts → Lacks (kinds.Key keys.Id) ts →
-      Lacks (kinds.Key keys.Drop) ts → Lacks (kinds.Key keys.Atomic) ts → (e ≡ Unexpected (place end ts)) × Lacks kinds.Word ts → Refuses e (run limit end (at_single k) ts)
+  pub refuses_single : (k : AfterSingle) (ts : List Token) (e : ParseFault) → Lacks (Kind.Sign Sign.Not) ts → Lacks (Kind.Sign Sign.OpenRound) ts → Lacks (Kind.Key Key.Id) ts →
+      Lacks (Kind.Key Key.Drop) ts → Lacks (Kind.Key Key.Atomic) ts → (e ≡ Unexpected (place end ts)) × Lacks Kind.Word ts → Refuses e (run limit end (at_single k) ts)
   refuses_single k [] e a b c d g h = subst (λ x. Refuses x (run limit end (at_single k) [])) (sym h.0) (stays limit end stuck [] refl)
   refuses_single k (t ∷ ts) e a b c d g h =
       subst (λ x. Refuses x (run limit end (at_single k) (t ∷ ts))) (sym h.0)
@@ -180,84 +135,19 @@ module _ (limit end : ℕ) where
       let p = err_from_is_err_and r h in
       subst (λ x. ReadsDeclaration limit end ts x) (sym (p.1 ∙ ap Err p.2)) refused
 
-  -- behind a name and its places
-  pub placed-Equals : (name : Span) (vs : List Value) (k : AfterSingle) (ts rest : List Token) (t : Token) → (ts ≡ t ∷ rest) × (t.kind ≡ kinds.Sign signs.Equals) → single_depth k ≤ limit →
-      follow limit end (placed name vs k (front ts)) ts ≡ run limit end (at_value (end_of_value (array_test_tree name vs) k)) rest
-  placed-Equals name vs k ts rest t s fits =
-      met limit end (kinds.Sign signs.Equals) (at_value (end_of_value (array_test_tree name vs) k)) (placed_from_2 name vs k (front ts)) ts rest t s fits
+  -- where the next token is of a kind that leads on
+  pub led : (f : Option Token → Move) (st : State) (kind : Kind) (ts rest : List Token) (t : Token) → (ts ≡ t ∷ rest) × (t.kind ≡ kind) →
+      ((from to : ℕ) → f (Some (record { kind = kind; from = from; to = to })) ≡ go st) → state_depth st ≤ limit → follow limit end (f (front ts)) ts ≡ run limit end st rest
+  led f st kind ts rest t s is fits =
+      ap (λ x. follow limit end (f (front x)) x) s.0
+      ∙ (ap (λ m. follow limit end m (t ∷ rest)) (subst (λ x. f (Some (record { kind = x; from = t.from; to = t.to })) ≡ go st) (sym s.1) (is t.from t.to)) ∙ goes limit end st t rest fits)
 
-  pub placed-Arrow : (name : Span) (vs : List Value) (k : AfterSingle) (ts rest : List Token) (t : Token) → Lacks (kinds.Sign signs.Equals) ts → (ts ≡ t ∷ rest) × (t.kind ≡ kinds.Sign signs.Arrow) → single_depth k ≤ limit →
-      follow limit end (placed name vs k (front ts)) ts ≡ run limit end (at_value (end_of_value (array_set_tree name vs) k)) rest
-  placed-Arrow name vs k ts rest t no1 s fits =
-      missed limit end (kinds.Sign signs.Equals) (at_value (end_of_value (array_test_tree name vs) k)) (placed_from_2 name vs k (front ts)) ts no1
-      ∙ (met limit end (kinds.Sign signs.Arrow) (at_value (end_of_value (array_set_tree name vs) k)) (placed_from_3 name vs k (front ts)) ts rest t s fits)
-
-  pub placed-PlusPlus : (name : Span) (vs : List Value) (k : AfterSingle) (ts rest : List Token) (t : Token) → Lacks (kinds.Sign signs.Equals) ts → Lacks (kinds.Sign signs.Arrow) ts → (ts ≡ t ∷ rest) × (t.kind ≡ kinds.Sign signs.PlusPlus) → single_depth k ≤ limit →
-      follow limit end (placed name vs k (front ts)) ts ≡ run limit end (past_single (up_tree name vs) k) rest
-  placed-PlusPlus name vs k ts rest t no1 no2 s fits =
-      missed limit end (kinds.Sign signs.Equals) (at_value (end_of_value (array_test_tree name vs) k)) (placed_from_2 name vs k (front ts)) ts no1
-      ∙ (missed limit end (kinds.Sign signs.Arrow) (at_value (end_of_value (array_set_tree name vs) k)) (placed_from_3 name vs k (front ts)) ts no2
-      ∙ (met limit end (kinds.Sign signs.PlusPlus) (past_single (up_tree name vs) k) (placed_from_4 name vs k (front ts)) ts rest t s fits))
-
-  pub placed-MinusMinus : (name : Span) (vs : List Value) (k : AfterSingle) (ts rest : List Token) (t : Token) → Lacks (kinds.Sign signs.Equals) ts → Lacks (kinds.Sign signs.Arrow) ts → Lacks (kinds.Sign signs.PlusPlus) ts → (ts ≡ t ∷ rest) × (t.kind ≡ kinds.Sign signs.MinusMinus) → single_depth k ≤ limit →
-      follow limit end (placed name vs k (front ts)) ts ≡ run limit end (past_single (down_tree name vs) k) rest
-  placed-MinusMinus name vs k ts rest t no1 no2 no3 s fits =
-      missed limit end (kinds.Sign signs.Equals) (at_value (end_of_value (array_test_tree name vs) k)) (placed_from_2 name vs k (front ts)) ts no1
-      ∙ (missed limit end (kinds.Sign signs.Arrow) (at_value (end_of_value (array_set_tree name vs) k)) (placed_from_3 name vs k (front ts)) ts no2
-      ∙ (missed limit end (kinds.Sign signs.PlusPlus) (past_single (up_tree name vs) k) (placed_from_4 name vs k (front ts)) ts no3
-      ∙ (met limit end (kinds.Sign signs.MinusMinus) (past_single (down_tree name vs) k) (placed_from_5 name vs k (front ts)) ts rest t s fits)))
-
-  pub placed-PlusEquals : (name : Span) (vs : List Value) (k : AfterSingle) (ts rest : List Token) (t : Token) → Lacks (kinds.Sign signs.Equals) ts → Lacks (kinds.Sign signs.Arrow) ts → Lacks (kinds.Sign signs.PlusPlus) ts → Lacks (kinds.Sign signs.MinusMinus) ts → (ts ≡ t ∷ rest) × (t.kind ≡ kinds.Sign signs.PlusEquals) → single_depth k ≤ limit →
-      follow limit end (placed name vs k (front ts)) ts ≡ run limit end (at_value (end_of_value (array_add_tree name vs) k)) rest
-  placed-PlusEquals name vs k ts rest t no1 no2 no3 no4 s fits =
-      missed limit end (kinds.Sign signs.Equals) (at_value (end_of_value (array_test_tree name vs) k)) (placed_from_2 name vs k (front ts)) ts no1
-      ∙ (missed limit end (kinds.Sign signs.Arrow) (at_value (end_of_value (array_set_tree name vs) k)) (placed_from_3 name vs k (front ts)) ts no2
-      ∙ (missed limit end (kinds.Sign signs.PlusPlus) (past_single (up_tree name vs) k) (placed_from_4 name vs k (front ts)) ts no3
-      ∙ (missed limit end (kinds.Sign signs.MinusMinus) (past_single (down_tree name vs) k) (placed_from_5 name vs k (front ts)) ts no4
-      ∙ (met limit end (kinds.Sign signs.PlusEquals) (at_value (end_of_value (array_add_tree name vs) k)) (placed_from_6 name vs k (front ts)) ts rest t s fits))))
-
-  pub placed-MinusEquals : (name : Span) (vs : List Value) (k : AfterSingle) (ts rest : List Token) (t : Token) → Lacks (kinds.Sign signs.Equals) ts → Lacks (kinds.Sign signs.Arrow) ts → Lacks (kinds.Sign signs.PlusPlus) ts → Lacks (kinds.Sign signs.MinusMinus) ts → Lacks (kinds.Sign signs.PlusEquals) ts → (ts ≡ t ∷ rest) × (t.kind ≡ kinds.Sign signs.MinusEquals) → single_depth k ≤ limit →
-      follow limit end (placed name vs k (front ts)) ts ≡ run limit end (at_value (end_of_value (array_sub_tree name vs) k)) rest
-  placed-MinusEquals name vs k ts rest t no1 no2 no3 no4 no5 s fits =
-      missed limit end (kinds.Sign signs.Equals) (at_value (end_of_value (array_test_tree name vs) k)) (placed_from_2 name vs k (front ts)) ts no1
-      ∙ (missed limit end (kinds.Sign signs.Arrow) (at_value (end_of_value (array_set_tree name vs) k)) (placed_from_3 name vs k (front ts)) ts no2
-      ∙ (missed limit end (kinds.Sign signs.PlusPlus) (past_single (up_tree name vs) k) (placed_from_4 name vs k (front ts)) ts no3
-      ∙ (missed limit end (kinds.Sign signs.MinusMinus) (past_single (down_tree name vs) k) (placed_from_5 name vs k (front ts)) ts no4
-      ∙ (missed limit end (kinds.Sign signs.PlusEquals) (at_value (end_of_value (array_add_tree name vs) k)) (placed_from_6 name vs k (front ts)) ts no5
-      ∙ (met limit end (kinds.Sign signs.MinusEquals) (at_value (end_of_value (array_sub_tree name vs) k)) (placed_from_7 name vs k (front ts)) ts rest t s fits)))))
-
-  pub placed-alone : (name : Span) (vs : List Value) (k : AfterSingle) (ts : List Token) → Lacks (kinds.Sign signs.Equals) ts → Lacks (kinds.Sign signs.Arrow) ts → Lacks (kinds.Sign signs.PlusPlus) ts → Lacks (kinds.Sign signs.MinusMinus) ts → Lacks (kinds.Sign signs.PlusEquals) ts → Lacks (kinds.Sign signs.MinusEquals) ts →
+  -- and where it's of none
+  pub placed-alone : (name : Span) (vs : List Value) (k : AfterSingle) (ts : List Token) → Lacks (Kind.Sign Sign.Equals) ts → Lacks (Kind.Sign Sign.Arrow) ts → Lacks (Kind.Sign Sign.PlusPlus) ts → Lacks (Kind.Sign Sign.MinusMinus) ts → Lacks (Kind.Sign Sign.PlusEquals) ts → Lacks (Kind.Sign Sign.MinusEquals) ts →
       follow limit end (placed name vs k (front ts)) ts ≡ follow limit end (after_single k (bare_tree name vs) (front ts)) ts
   placed-alone name vs k ts no1 no2 no3 no4 no5 no6 =
-      missed limit end (kinds.Sign signs.Equals) (at_value (end_of_value (array_test_tree name vs) k)) (placed_from_2 name vs k (front ts)) ts no1
-      ∙ (missed limit end (kinds.Sign signs.Arrow) (at_value (end_of_value (array_set_tree name vs) k)) (placed_from_3 name vs k (front ts)) ts no2
-      ∙ (missed limit end (kinds.Sign signs.PlusPlus) (past_single (up_tree name vs) k) (placed_from_4 name vs k (front ts)) ts no3
-      ∙ (missed limit end (kinds.Sign signs.MinusMinus) (past_single (down_tree name vs) k) (placed_from_5 name vs k (front ts)) ts no4
-      ∙ (missed limit end (kinds.Sign signs.PlusEquals) (at_value (end_of_value (array_add_tree name vs) k)) (placed_from_6 name vs k (front ts)) ts no5
-      ∙ (missed limit end (kinds.Sign signs.MinusEquals) (at_value (end_of_value (array_sub_tree name vs) k)) (placed_from_7 name vs k (front ts)) ts no6)))))
+      missed limit end _ _ _ ts no1 ∙ (missed limit end _ _ _ ts no2 ∙ (missed limit end _ _ _ ts no3 ∙ (missed limit end _ _ _ ts no4 ∙ (missed limit end _ _ _ ts no5 ∙ missed limit end _ _ _ ts no6))))
 
-  -- behind a name
-  pub after_name-Equals : (name : Span) (k : AfterSingle) (ts rest : List Token) (t : Token) → (ts ≡ t ∷ rest) × (t.kind ≡ kinds.Sign signs.Equals) → single_depth k ≤ limit →
-      follow limit end (after_name name k (front ts)) ts ≡ run limit end (at_value (end_of_value (test_tree name) k)) rest
-  after_name-Equals name k ts rest t s fits =
-      met limit end (kinds.Sign signs.Equals) (at_value (end_of_value (test_tree name) k)) (after_name_from_2 name k (front ts)) ts rest t s fits
-
-  pub after_name-Arrow : (name : Span) (k : AfterSingle) (ts rest : List Token) (t : Token) → Lacks (kinds.Sign signs.Equals) ts → (ts ≡ t ∷ rest) × (t.kind ≡ kinds.Sign signs.Arrow) → single_depth k ≤ limit →
-      follow limit end (after_name name k (front ts)) ts ≡ run limit end (at_value (end_of_value (set_tree name) k)) rest
-  after_name-Arrow name k ts rest t no1 s fits =
-      missed limit end (kinds.Sign signs.Equals) (at_value (end_of_value (test_tree name) k)) (after_name_from_2 name k (front ts)) ts no1
-      ∙ (met limit end (kinds.Sign signs.Arrow) (at_value (end_of_value (set_tree name) k)) (after_name_from_3 name k (front ts)) ts rest t s fits)
-
-  pub after_name-OpenSquare : (name : Span) (k : AfterSingle) (ts rest : List Token) (t : Token) → Lacks (kinds.Sign signs.Equals) ts → Lacks (kinds.Sign signs.Arrow) ts → (ts ≡ t ∷ rest) × (t.kind ≡ kinds.Sign signs.OpenSquare) → single_depth k ≤ limit →
-      follow limit end (after_name name k (front ts)) ts ≡ run limit end (at_value (close_place name [] k)) rest
-  after_name-OpenSquare name k ts rest t no1 no2 s fits =
-      missed limit end (kinds.Sign signs.Equals) (at_value (end_of_value (test_tree name) k)) (after_name_from_2 name k (front ts)) ts no1
-      ∙ (missed limit end (kinds.Sign signs.Arrow) (at_value (end_of_value (set_tree name) k)) (after_name_from_3 name k (front ts)) ts no2
-      ∙ (met limit end (kinds.Sign signs.OpenSquare) (at_value (close_place name [] k)) (after_name_from_4 name k (front ts)) ts rest t s fits))
-
-  pub after_name-alone : (name : Span) (k : AfterSingle) (ts : List Token) → Lacks (kinds.Sign signs.Equals) ts → Lacks (kinds.Sign signs.Arrow) ts → Lacks (kinds.Sign signs.OpenSquare) ts →
+  pub after_name-alone : (name : Span) (k : AfterSingle) (ts : List Token) → Lacks (Kind.Sign Sign.Equals) ts → Lacks (Kind.Sign Sign.Arrow) ts → Lacks (Kind.Sign Sign.OpenSquare) ts →
       follow limit end (after_name name k (front ts)) ts ≡ follow limit end (after_single k (name_tree name) (front ts)) ts
-  after_name-alone name k ts no1 no2 no3 =
-      missed limit end (kinds.Sign signs.Equals) (at_value (end_of_value (test_tree name) k)) (after_name_from_2 name k (front ts)) ts no1
-      ∙ (missed limit end (kinds.Sign signs.Arrow) (at_value (end_of_value (set_tree name) k)) (after_name_from_3 name k (front ts)) ts no2
-      ∙ (missed limit end (kinds.Sign signs.OpenSquare) (at_value (close_place name [] k)) (after_name_from_4 name k (front ts)) ts no3))
+  after_name-alone name k ts no1 no2 no3 = missed limit end _ _ _ ts no1 ∙ (missed limit end _ _ _ ts no2 ∙ missed limit end _ _ _ ts no3)

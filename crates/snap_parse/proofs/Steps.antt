@@ -1,15 +1,11 @@
 -- One step of the machine, as an equation of what its moves come to.
-use Rattle.std.proofs.Common.{◌≡◌, ℕ, suc, ◌≤◌, List, [], ◌∷◌, Result, Ok, Err, Bool, true, false, cond, refl, sym, ap, ◌∙◌, subst, arith}
-use Rattle.std.specs.Prelude.{nat_le, IsErrAnd}
-use Rattle.std.specs.Borrow.{Bor}
+use Rattle.std.proofs.Common.{◌≡◌, ℕ, suc, ◌≤◌, List, [], ◌∷◌, Result, Ok, Err, Bool, true, false, cond, refl, sym, ap, ◌∙◌, subst, arith, nat_le, IsErrAnd, Bor}
 use Rattle.std.proofs.lemmas.Bool.{leb-true, le-leb}
 use Rattle.std.proofs.lemmas.Result.{err_from_is_err_and}
-use Rattle.snap_lex.specs.declared.Token.{Token}
-use Rattle.snap_lex.specs.declared.Kind.{Kind}
-use Rattle.snap_parse.specs.declared.fault.ParseFault.{ParseFault}
-use Rattle.snap_parse.specs.declared.fault.ParseFault.TheVariants.{Unexpected, TooDeep, NoMemory}
+use Rattle.snap_parse.specs.Kinds.{Token, Kind}
+use Rattle.snap_parse.specs.Machine.{ParseFault, Unexpected, TooDeep, State, wants, state_depth, Move, go, stuck, front, on_next, with_next, follow, run, place}
+use Rattle.snap_parse.specs.declared.fault.ParseFault.TheVariants.{NoMemory}
 use Rattle.snap_parse.specs.Tree.{SourceTree}
-use Rattle.snap_parse.specs.Machine.{State, wants, state_depth, Move, go, stuck, front, on_next, with_next, follow, run, place}
 use Rattle.snap_parse.specs.Reading.{Refuses, Comes, Lacks}
 use Rattle.snap_parse.proofs.NextToken.{same_kind-same, same_kind-other}
 
@@ -62,9 +58,8 @@ module _ (limit end : ℕ) where
 
   -- a refusal further on is one here
   pub refuses : (e : ParseFault) (r s : Result SourceTree ParseFault) → r ≡ s → Refuses e s → Refuses e r
-  refuses (Unexpected at) r s is h = is ∙ h
-  refuses (TooDeep at) r s is h = is ∙ h
   refuses NoMemory r s is h = tt
+  refuses _ r s is h = is ∙ h
 
   pub refuses_end : (f : Token → Move) (ts : List Token) (e : ParseFault) → (ts ≡ []) × (e ≡ Unexpected end) → Refuses e (follow limit end (with_next (front ts) f) ts)
   refuses_end f ts e h =

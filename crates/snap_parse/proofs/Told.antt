@@ -1,28 +1,23 @@
 -- What the answer tells, and where it comes.
-use Rattle.std.proofs.Common.{◌≡◌, ℕ, List, [], ◌∷◌, Result, Ok, Err, refl, subst, true, false, length, arith}
-use Rattle.std.specs.Prelude.{IfOk, ◌==◌}
-use Rattle.snap_lex.specs.declared.Token.{Token}
-use Rattle.snap_parse.specs.declared.tree.Source.{Source}
-use Rattle.snap_parse.specs.declared.fault.ParseFault.{ParseFault}
-use Rattle.snap_parse.specs.declared.fault.ParseFault.TheVariants.{Unexpected, TooDeep, NoMemory}
-use Rattle.snap_parse.specs.Tree.{SourceTree, source_tree}
+use Rattle.std.proofs.Common.{◌≡◌, ℕ, List, [], ◌∷◌, Result, Ok, Err, refl, subst, true, false, length, arith, IfOk, ◌==◌}
+use Rattle.snap_parse.specs.Kinds.{Token}
+use Rattle.snap_parse.specs.Tree.{Source, SourceTree, source_tree}
+use Rattle.snap_parse.specs.Machine.{ParseFault, Unexpected, TooDeep, run, at_decl}
+use Rattle.snap_parse.specs.declared.fault.ParseFault.TheVariants.{NoMemory}
 use Rattle.snap_parse.specs.Grammar.{DerivesWithin, IsUnexpected, IsTooDeep}
-use Rattle.snap_parse.specs.Machine.{run, at_decl}
 use Rattle.snap_parse.specs.Reading.{Answers}
 use Rattle.snap_parse.specs.Parsing.{GivesTree, GivesFault}
 use Rattle.snap_parse.proofs.Exact.{ok_derives, derives_ok, unexpected_tells, unexpected_gives, too_deep_tells, too_deep_gives}
 
 pub gives_tree : (r : Result Source ParseFault) (m : Result SourceTree ParseFault) (p : SourceTree) → Answers r m → m ≡ Ok p → GivesTree r p
 gives_tree (Ok x) m p h is = cc
-gives_tree (Err (Unexpected at)) m p h is = absurd (cc)
-gives_tree (Err (TooDeep at)) m p h is = absurd (cc)
 gives_tree (Err NoMemory) m p h is = tt
+gives_tree _ m p h is = absurd (cc)
 
 pub gives_fault : (r : Result Source ParseFault) (m : Result SourceTree ParseFault) (f : ParseFault) → Answers r m → m ≡ Err f → GivesFault r f
 gives_fault (Ok x) m f h is = absurd (cc)
-gives_fault (Err (Unexpected at)) m f h is = cc
-gives_fault (Err (TooDeep at)) m f h is = cc
 gives_fault (Err NoMemory) m f h is = tt
+gives_fault _ m f h is = cc
 
 module _ (limit end : ℕ) (ts : List Token) (r : Result Source ParseFault) (h : Answers r (run limit end (at_decl []) ts)) where
   pub told_only : (p : SourceTree) → DerivesWithin limit ts p → GivesTree r p

@@ -1,19 +1,16 @@
 -- The tree of each node.
-use Rattle.std.proofs.Common.{◌≡◌, ℕ, List, [], ◌∷◌, ◌++◌, refl, sym, ap, ◌∙◌, map, Box, Global}
-use Rattle.std.specs.Prelude.{Vec}
+use Rattle.std.proofs.Common.{◌≡◌, ℕ, List, [], ◌∷◌, ◌++◌, refl, sym, ap, ◌∙◌, map, Box, Global, Vec}
 use Rattle.std.proofs.lemmas.List.{map_push}
-use Rattle.snap_parse.specs.declared.tree.Single.{Single, fold-roll-Single}
-use Rattle.snap_parse.specs.declared.tree.Choice.{Choice, fold-roll-Choice}
-use Rattle.snap_parse.specs.declared.tree.Policy.{Policy, Policy-F, roll-Policy, fold-roll-Policy}
-use Rattle.snap_parse.specs.declared.tree.Sequence.{Sequence, fold_out-Sequence}
-use Rattle.snap_parse.specs.declared.tree.Either.{Either, Either-F, roll-Either, fold-roll-Either}
-use Rattle.snap_parse.specs.declared.tree.Both.{Both, fold_out-Both}
-use Rattle.snap_parse.specs.declared.tree.Span.{Span}
-use Rattle.snap_parse.specs.declared.tree.Value.{Value}
+use Rattle.snap_parse.specs.Tree.{Single, Choice, Policy, Sequence, Either, Both, Span, Value, PolicyTree, SequenceTree, ChoiceTree, EitherTree, BothTree, SingleTree, not_tree, id_tree, drop_tree, group_tree, atomic_tree, name_tree, test_tree, set_tree, bare_tree, array_test_tree, array_set_tree, up_tree, down_tree, array_add_tree, array_sub_tree, if_tree, plain_tree, policy_tree, sequence_tree, choice_tree, either_tree, both_tree, single_tree, policy_append, policy_begin, policy_more, sequence_append, sequence_begin, sequence_more, either_append, either_begin, either_more, both_append, both_begin, both_more, choice_node, single_node, both_node, either_node, policy_node, sequence_node}
+use Rattle.snap_parse.specs.declared.tree.Single.{fold-roll-Single}
+use Rattle.snap_parse.specs.declared.tree.Choice.{fold-roll-Choice}
+use Rattle.snap_parse.specs.declared.tree.Policy.{Policy-F, roll-Policy, fold-roll-Policy}
+use Rattle.snap_parse.specs.declared.tree.Sequence.{fold_out-Sequence}
+use Rattle.snap_parse.specs.declared.tree.Either.{Either-F, roll-Either, fold-roll-Either}
+use Rattle.snap_parse.specs.declared.tree.Both.{fold_out-Both}
 use Rattle.snap_parse.specs.declared.tree.Single.TheVariants as singles
 use Rattle.snap_parse.specs.declared.tree.Choice.TheVariants as choices
 use Rattle.snap_parse.specs.declared.tree.Choice.TheOpen as layers
-use Rattle.snap_parse.specs.Tree.{PolicyTree, SequenceTree, ChoiceTree, EitherTree, BothTree, SingleTree, not_tree, id_tree, drop_tree, group_tree, atomic_tree, name_tree, test_tree, set_tree, bare_tree, array_test_tree, array_set_tree, up_tree, down_tree, array_add_tree, array_sub_tree, if_tree, plain_tree, policy_tree, sequence_tree, choice_tree, either_tree, both_tree, single_tree, policy_append, policy_begin, policy_more, sequence_append, sequence_begin, sequence_more, either_append, either_begin, either_more, both_append, both_begin, both_more, choice_node, single_node, both_node, either_node, policy_node, sequence_node}
 
 pub single_tree-Not : (at : ℕ) (part : Box Single Global) → single_tree (singles.Not at part) ≡ not_tree at (single_tree part.value)
 unfolding single_tree

@@ -1,10 +1,11 @@
 -- Whether two tokens are of one kind.
 use Rattle.std.specs.Prelude.{ℕ, Bool, true, false, nat_eq}
-use Rattle.snap_lex.specs.declared.Kind.{Kind}
+pub use Rattle.snap_lex.specs.declared.Token.{Token}
+pub use Rattle.snap_lex.specs.declared.Kind.{Kind}
 use Rattle.snap_lex.specs.declared.Kind.TheVariants as kinds
-use Rattle.snap_lex.specs.declared.Key.{Key}
+pub use Rattle.snap_lex.specs.declared.Key.{Key}
 use Rattle.snap_lex.specs.declared.Key.TheVariants as keys
-use Rattle.snap_lex.specs.declared.Sign.{Sign}
+pub use Rattle.snap_lex.specs.declared.Sign.{Sign}
 use Rattle.snap_lex.specs.declared.Sign.TheVariants as signs
 
 -- numbers for keywords and signs

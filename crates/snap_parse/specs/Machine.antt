@@ -11,8 +11,8 @@ use Rattle.snap_parse.specs.declared.tree.Literal.{Literal}
 use Rattle.snap_parse.specs.declared.tree.Literal.TheVariants as literals
 use Rattle.snap_parse.specs.declared.tree.Value.{Value}
 use Rattle.snap_parse.specs.declared.tree.Value.TheVariants as values
-use Rattle.snap_parse.specs.declared.fault.ParseFault.{ParseFault}
-use Rattle.snap_parse.specs.declared.fault.ParseFault.TheVariants.{Unexpected, TooDeep}
+pub use Rattle.snap_parse.specs.declared.fault.ParseFault.{ParseFault}
+pub use Rattle.snap_parse.specs.declared.fault.ParseFault.TheVariants.{Unexpected, TooDeep}
 use Rattle.snap_parse.specs.Kinds.{same_kind}
 use Rattle.snap_parse.specs.Tree.{PolicyTree, policy_begin, policy_more, SequenceTree, sequence_begin, sequence_more, ChoiceTree, if_tree, plain_tree, EitherTree, either_begin, either_more, BothTree, both_begin, both_more, SingleTree, not_tree, id_tree, drop_tree, group_tree, atomic_tree, name_tree, test_tree, set_tree, bare_tree, array_test_tree, array_set_tree, up_tree, down_tree, array_add_tree, array_sub_tree, DeclTree, field_tree, array_tree, const_tree, let_tree, SourceTree, span_of}
 

@@ -1,19 +1,19 @@
 -- The tree of a program, without where it lies in memory.
 use Rattle.std.specs.Prelude.{ℕ, List, [], ◌∷◌, Option, map}
 use Rattle.snap_lex.specs.declared.Token.{Token}
-use Rattle.snap_parse.specs.declared.tree.Span.{Span}
-use Rattle.snap_parse.specs.declared.tree.Literal.{Literal}
-use Rattle.snap_parse.specs.declared.tree.Value.{Value}
-use Rattle.snap_parse.specs.declared.tree.Decl.{Decl}
+pub use Rattle.snap_parse.specs.declared.tree.Span.{Span}
+pub use Rattle.snap_parse.specs.declared.tree.Literal.{Literal}
+pub use Rattle.snap_parse.specs.declared.tree.Value.{Value}
+pub use Rattle.snap_parse.specs.declared.tree.Decl.{Decl}
 use Rattle.snap_parse.specs.declared.tree.Decl.TheVariants as decls
-use Rattle.snap_parse.specs.declared.tree.Source.{Source}
-use Rattle.snap_parse.specs.declared.tree.Policy.{Policy, Policy-F, fold-Policy}
-use Rattle.snap_parse.specs.declared.tree.Sequence.{Sequence, Sequence-F, fold-Sequence}
-use Rattle.snap_parse.specs.declared.tree.Choice.{Choice, Choice-F, fold-Choice}
+pub use Rattle.snap_parse.specs.declared.tree.Source.{Source}
+pub use Rattle.snap_parse.specs.declared.tree.Policy.{Policy, Policy-F, fold-Policy}
+pub use Rattle.snap_parse.specs.declared.tree.Sequence.{Sequence, Sequence-F, fold-Sequence}
+pub use Rattle.snap_parse.specs.declared.tree.Choice.{Choice, Choice-F, fold-Choice}
 use Rattle.snap_parse.specs.declared.tree.Choice.TheOpen.{If, Plain, Not, Id, Drop, Group, Atomic, Name, Test, Set, Bare, ArrayTest, ArraySet, Up, Down, ArrayAdd, ArraySub}
-use Rattle.snap_parse.specs.declared.tree.Either.{Either, Either-F, fold-Either}
-use Rattle.snap_parse.specs.declared.tree.Both.{Both, Both-F, fold-Both}
-use Rattle.snap_parse.specs.declared.tree.Single.{Single, Single-F, fold-Single}
+pub use Rattle.snap_parse.specs.declared.tree.Either.{Either, Either-F, fold-Either}
+pub use Rattle.snap_parse.specs.declared.tree.Both.{Both, Both-F, fold-Both}
+pub use Rattle.snap_parse.specs.declared.tree.Single.{Single, Single-F, fold-Single}
 
 -- A repeated part is the place of its first token, and the list of its operands, which grows at its end.
 mutual

@@ -1,13 +1,9 @@
 -- The pairs of a document with different keys, put in one after another.
-use Rattle.std.proofs.Common.{◌≡◌, ◌∙◌, ℕ, Bool, true, false, cond, List, [], ◌∷◌, map, fold, Option, Some, None, option_map, refl, sym, ap, inl, inr, ◌⊎◌}
-use Rattle.std.specs.List.{All, AllByRecursion, IsDistinct}
+use Rattle.std.proofs.Common.{◌≡◌, ◌∙◌, ℕ, Bool, true, false, cond, List, [], ◌∷◌, map, fold, Option, Some, None, option_map, refl, sym, ap, inl, inr, ◌⊎◌, All, is_eq, nat_cmp, bytes_eq, Ordering, Less, Equal, Greater}
+use Rattle.std.specs.List.{AllByRecursion, IsDistinct}
 use Rattle.std.specs.Map.{keys_of, lookup, values_of}
 use Rattle.std.specs.BTreeMap.{insert_entry}
-use Rattle.std.specs.Ordering.{is_eq, nat_cmp}
 use Rattle.std.specs.Cmp.Lexicographic.{slice_cmp}
-use Rattle.std.specs.Str.{bytes_eq}
-use Rattle.std.specs.declared.cmp.Ordering.{Ordering}
-use Rattle.std.specs.declared.cmp.Ordering.TheVariants.{Less, Equal, Greater}
 use Rattle.std.proofs.lemmas.Bool.{cases_Bool, false≢true}
 use Rattle.std.proofs.lemmas.List.Elements.{All-nil}
 use Rattle.std.proofs.lemmas.Map.Text.{is_eq-slice_cmp}
@@ -69,8 +65,8 @@ lookup_put q k p (e ∷ es) =
 
     swapped : (a b : Bool) (x y : List ℕ) (o : Option (List ℕ)) → (a ≡ true → b ≡ true → ⊥) → cond a (Some y) (cond b (Some x) o) ≡ cond b (Some x) (cond a (Some y) o)
     swapped true true x y o h = absurd (h refl refl)
-    swapped true false x y o h = refl
     swapped false true x y o h = refl
+    swapped true false x y o h = refl
     swapped false false x y o h = refl
 
 get_node-lookup : (k : List ℕ) (es : List Entry) → get_node k (nodes_of es) ≡ option_map (λ p. value (string p)) (lookup (bytes_eq k) es)

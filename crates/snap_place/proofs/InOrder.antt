@@ -1,23 +1,17 @@
 -- The entries of a table rise, so the first unknown name is the least.
-use Rattle.std.proofs.Common.{◌≡◌, ◌∙◌, ◌≢◌, ℕ, Bool, true, false, cond, List, [], ◌∷◌, map, find, string_bytes, ◌++◌, append-nil, option_map, Option, Some, None, Result, Ok, Err, refl, sym, ap, subst, String, Global}
+use Rattle.std.proofs.Common.{◌≡◌, ◌∙◌, ◌≢◌, ℕ, Bool, true, false, cond, List, [], ◌∷◌, map, find, string_bytes, ◌++◌, append-nil, option_map, Option, Some, None, Result, Ok, Err, refl, sym, ap, subst, String, Global, IsSomeAnd, nat_cmp, Ordering, Less, Equal, Greater}
 use Rattle.std.specs.List.{AllByRecursion}
 use Rattle.std.specs.Map.{keys_of}
 use Rattle.std.specs.List.Sorted.{IsStrictlySortedBy}
-use Rattle.std.specs.Option.{IsSomeAnd}
-use Rattle.std.specs.Ordering.{nat_cmp}
 use Rattle.std.specs.Cmp.Lexicographic.{slice_cmp}
-use Rattle.std.specs.declared.cmp.Ordering.{Ordering}
-use Rattle.std.specs.declared.cmp.Ordering.TheVariants.{Less, Equal, Greater}
 use Rattle.std.proofs.lemmas.Cmp.{nat_list_cmp_total, tied_itself}
 use Rattle.std.proofs.lemmas.List.Elements.{All-from_recursion}
 use Rattle.toml.specs.declared.value.Value.{Value}
 use Rattle.toml.specs.View.{members_view, view}
 use Rattle.snap_topo.specs.Shape.{name_in, with_first}
-use Rattle.snap_place.specs.declared.placement.PlaceFault.{PlaceFault}
-use Rattle.snap_place.specs.declared.placement.PlaceFault.TheVariants.{NotToml, Shape, NoVariable, Missing, NoSwitch, Apart, NoMemory}
+use Rattle.snap_place.specs.Shape.{PlaceFault, NotToml, Shape, NoVariable, Missing, NoSwitch, Apart, NoMemory, entries_in, entries_of, entry_of}
 use Rattle.snap_place.specs.Answer.{is_unknown, no_variable, missing, no_switch, owners, SwitchThen, MissingThen, VariableThen, IsAnswerFor}
 use Rattle.snap_place.specs.Order.{InByteOrder, IsLeast, TellsLeast, TellsLeastOf}
-use Rattle.snap_place.specs.Shape.{entries_in, entries_of, entry_of}
 use Rattle.snap_topo.specs.Spells.{document}
 use Rattle.snap_topo.proofs.TableLemmas.{names-rise}
 
@@ -82,21 +76,11 @@ named vars entries name None found order is = absurd is
 -- ---- at each exit
 pub least-not-toml : (vars : List (List ℕ)) (text : List ℕ) (e : PlaceFault) (X : Type 0) → (e ≢ NoMemory → (e ≡ NotToml) × X) → TellsLeast vars text e
 least-not-toml vars text (NoVariable name) X is = let same : NoVariable name ≡ NotToml = (is (λ e. cc)).0 in cc
-least-not-toml vars text NotToml X is = λ entries found. tt
-least-not-toml vars text (Shape rule) X is = λ entries found. tt
-least-not-toml vars text (Missing var) X is = λ entries found. tt
-least-not-toml vars text (NoSwitch var) X is = λ entries found. tt
-least-not-toml vars text (Apart a b) X is = λ entries found. tt
-least-not-toml vars text NoMemory X is = λ entries found. tt
+least-not-toml vars text _ X is = λ entries found. tt
 
 pub least-out-of-shape : (vars : List (List ℕ)) (text : List ℕ) (e : PlaceFault) → (e ≢ NoMemory → entries_of (document text) ≡ Err e) → TellsLeast vars text e
 least-out-of-shape vars text (NoVariable name) is = λ entries found. (let not-ok = is (λ e. cc) in cc)
-least-out-of-shape vars text NotToml is = λ entries found. tt
-least-out-of-shape vars text (Shape rule) is = λ entries found. tt
-least-out-of-shape vars text (Missing var) is = λ entries found. tt
-least-out-of-shape vars text (NoSwitch var) is = λ entries found. tt
-least-out-of-shape vars text (Apart a b) is = λ entries found. tt
-least-out-of-shape vars text NoMemory is = λ entries found. tt
+least-out-of-shape vars text _ is = λ entries found. tt
 
 not-later : (T : ℕ → ℕ → Type 0) (owned : List ℕ) (o : Option ℕ) (name : List ℕ) → SwitchThen T owned o (Err (NoVariable name)) → ⊥
 not-later T owned (Some var) name is = cc
@@ -118,12 +102,7 @@ of-variable T vars switches entries None name is = absurd (not-missing T vars sw
 
 told : (T : ℕ → ℕ → Type 0) (vars switches : List (List ℕ)) (entries : List Entry) (e : PlaceFault) → InByteOrder entries → (e ≢ NoMemory → IsAnswerFor T vars switches entries (Err e)) → TellsLeastOf vars entries e
 told T vars switches entries (NoVariable name) order is = named vars entries name (no_variable vars entries) refl order (of-variable T vars switches entries (no_variable vars entries) name (is (λ e. cc)))
-told T vars switches entries NotToml order is = tt
-told T vars switches entries (Shape rule) order is = tt
-told T vars switches entries (Missing var) order is = tt
-told T vars switches entries (NoSwitch var) order is = tt
-told T vars switches entries (Apart a b) order is = tt
-told T vars switches entries NoMemory order is = tt
+told T vars switches entries _ order is = tt
 
 abbrev entries-ok : List Entry → Result (List Entry) PlaceFault
 entries-ok x = Ok x

@@ -1,12 +1,11 @@
 -- What is answered at each stage of a reading, and what it gives.
-use Rattle.std.proofs.Common.{◌≡◌, ◌↔◌, ℕ, ◌+◌, ◌<◌, Bool, true, false, not, cond, List, [], ◌∷◌, length, Option, Some, None, Result, Ok, Err, refl, sym, subst, arith}
-use Rattle.std.specs.List.{All, position_from}
+use Rattle.std.proofs.Common.{◌≡◌, ◌↔◌, ℕ, ◌+◌, ◌<◌, Bool, true, false, not, cond, List, [], ◌∷◌, length, Option, Some, None, Result, Ok, Err, refl, sym, subst, arith, All}
+use Rattle.std.specs.List.{position_from}
 use Rattle.std.proofs.lemmas.List.{length-map}
 use Rattle.std.proofs.lemmas.List.Elements.{All-nil, All-cons}
 use Rattle.std.proofs.lemmas.Bool.{not-false}
 use Rattle.snap_topo.proofs.Forms.{number_of-below}
-use Rattle.snap_place.specs.declared.placement.PlaceFault.{PlaceFault}
-use Rattle.snap_place.specs.declared.placement.PlaceFault.TheVariants.{NotToml, Shape, NoVariable, Missing, NoSwitch, Apart, NoMemory}
+use Rattle.snap_place.specs.Shape.{PlaceFault, NotToml, Shape, NoVariable, Missing, NoSwitch, Apart, NoMemory}
 use Rattle.snap_place.specs.Answer.{place_of, is_at_switch, owner_at, no_variable, missing, no_switch, owners, OwnersThen, SwitchThen, MissingThen, VariableThen, IsAnswerFor, ShapeThen}
 use Rattle.snap_place.specs.Together.{IsTogether, IsFirstApart, TellsApart}
 
@@ -29,12 +28,7 @@ together-by T U owned same is a b lt low tied = is a b lt low ((same a b (omega 
 
 tells-by : (T U : ℕ → ℕ → Type 0) (owned : List ℕ) → ((a b : ℕ) → a < length owned → b < length owned → T a b ↔ U a b) → (e : PlaceFault) → TellsApart T owned e → TellsApart U owned e
 tells-by T U owned same (Apart a b) is = apart-by T U owned same a b is
-tells-by T U owned same NotToml is = absurd is
-tells-by T U owned same (Shape rule) is = absurd is
-tells-by T U owned same (NoVariable name) is = absurd is
-tells-by T U owned same (Missing var) is = absurd is
-tells-by T U owned same (NoSwitch var) is = absurd is
-tells-by T U owned same NoMemory is = absurd is
+tells-by T U owned same _ is = absurd is
 
 -- ---- by another relation
 owners-by : (T U : ℕ → ℕ → Type 0) (owned : List ℕ) (r : Answer) → ((a b : ℕ) → a < length owned → b < length owned → T a b ↔ U a b) → OwnersThen T owned r → OwnersThen U owned r

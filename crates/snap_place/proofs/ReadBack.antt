@@ -1,8 +1,8 @@
 -- The text of a placement is answered with this placement.
-use Rattle.std.proofs.Common.{◌≡◌, ◌∙◌, ℕ, zero, suc, ◌+◌, ◌<◌, Bool, true, false, not, ◌==◌, List, [], ◌∷◌, ◌++◌, length, codes, decimal, map, get_or, nat_lt, is_none, IsTrue, Some, None, Ok, refl, sym, ap, ap₂, subst, inl, inr, arith}
-use Rattle.std.specs.List.{All, AllByRecursion, IsDistinct, flat_map, list_all, list_any, position_from}
+use Rattle.std.proofs.Common.{◌≡◌, ◌∙◌, ℕ, zero, suc, ◌+◌, ◌<◌, Bool, true, false, not, ◌==◌, List, [], ◌∷◌, ◌++◌, length, codes, decimal, map, get_or, nat_lt, is_none, IsTrue, Some, None, Ok, refl, sym, ap, ap₂, subst, inl, inr, arith, All, flat_map, bytes_eq, IsAscii}
+use Rattle.std.specs.List.{AllByRecursion, IsDistinct, list_all, list_any, position_from}
 use Rattle.std.specs.Map.{keys_of, values_of}
-use Rattle.std.specs.Str.{bytes_eq, is_utf8}
+use Rattle.std.specs.Str.{is_utf8}
 use Rattle.std.proofs.lemmas.Bool.{and_parts, cases_Bool, false≢true}
 use Rattle.std.proofs.lemmas.Bool.Decides.{nat_tests}
 use Rattle.std.proofs.lemmas.Cmp.{nat_list_eq_equiv}
@@ -17,7 +17,6 @@ use Rattle.std.proofs.lemmas.Option.{unwrap_or-slice_get}
 use Rattle.std.proofs.lemmas.Slice.Eq.{bytes_eq-Decides}
 use Rattle.std.proofs.lemmas.Slice.Zip.{seconds-zip}
 use Rattle.std.proofs.lemmas.Str.{IsUtf8-from_ascii, is_utf8-from_IsUtf8}
-use Rattle.std.specs.Str.{IsAscii}
 use Rattle.toml.specs.Tables.{close}
 use Rattle.snap_core.specs.Names.{IsName, is_keyword, is_name, is_name_byte, is_switch_name, is_word}
 use Rattle.snap_core.specs.Fields.{names_of}

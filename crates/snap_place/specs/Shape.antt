@@ -3,8 +3,8 @@ use Rattle.std.specs.Prelude.{ℕ, Bool, true, ◌&&◌, List, [], Option, Some,
 use Rattle.toml.specs.Data.{Members, no_members, member}
 use Rattle.snap_core.specs.Names.{is_name}
 use Rattle.snap_topo.specs.Shape.{name_in, with_first}
-use Rattle.snap_place.specs.declared.placement.PlaceFault.{PlaceFault}
-use Rattle.snap_place.specs.declared.placement.PlaceFault.TheVariants.{NotToml, Shape}
+pub use Rattle.snap_place.specs.declared.placement.PlaceFault.{PlaceFault}
+pub use Rattle.snap_place.specs.declared.placement.PlaceFault.TheVariants.{NotToml, Shape, NoVariable, Missing, NoSwitch, Apart, NoMemory}
 
 -- each key is spelled like a name of a program
 abbrev pub has_names : Members → Bool

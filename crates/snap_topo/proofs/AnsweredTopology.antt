@@ -1,19 +1,12 @@
 -- A text that spells a topology is answered it.
-use Rattle.std.proofs.Common.{◌≡◌, ℕ, ◌≤◌, Bool, true, false, cond, List, [], ◌∷◌, ◌++◌, length, map, codes, find, not, Option, None, Some, Result, Ok, Err, option_map, refl, sym, ap, ◌∙◌, subst, arith, if◌then◌else◌, ◌||◌, nat_lt, append_assoc}
-use Rattle.std.proofs.lemmas.Bool.{le-ltb}
+use Rattle.std.proofs.Common.{◌≡◌, ℕ, ◌≤◌, true, false, cond, List, [], ◌∷◌, ◌++◌, length, map, codes, find, not, Option, None, Some, Result, Ok, Err, option_map, refl, sym, ap, ◌∙◌, subst, arith, if◌then◌else◌, nat_lt, append_assoc, flat_map, bytes_eq}
+use Rattle.std.proofs.lemmas.Bool.{le-ltb, or_from}
 use Rattle.std.proofs.lemmas.Cmp.{nat_list_eq_equiv}
-use Rattle.std.specs.List.{AllByRecursion, IsDistinct, flat_map}
-use Rattle.std.specs.Str.{bytes_eq}
+use Rattle.std.specs.List.{AllByRecursion, IsDistinct}
 use Rattle.toml.specs.Data.{string, array, Items, item, Members, get_member}
-use Rattle.snap_core.specs.declared.program.Which.{Which}
-use Rattle.snap_core.specs.declared.program.Which.TheVariants.{Switches, Links, Ports}
-use Rattle.snap_topo.specs.declared.topology.Topology.{Topology}
-use Rattle.snap_topo.specs.declared.topology.TopoFault.{TopoFault}
-use Rattle.snap_topo.specs.declared.topology.TopoFault.TheVariants.{Shape}
-use Rattle.snap_topo.specs.declared.topology.TheConstants.{MOST_SWITCHES, MOST_LINKS, MOST_PORTS}
-use Rattle.snap_topo.specs.Answer.{too_many, repeat_after, first_repeat, first_unknown, is_unknown, KnownThen, DifferentThen, WithinThen, SpelledThen, IsAnswer, IsTopologyOf}
-use Rattle.snap_topo.specs.Shape.{Spelled, spelled, name_in, with_first, names_in, switches_in, pair_of, links_listed, links_in, port_of, ports_listed, ports_in, ports_then, links_then, switches_then}
-use Rattle.snap_topo.specs.Spells.{AreNames, no_name, next_name, ArePairs, no_pair, next_pair, ArePorts, no_port, next_port, Holds, SpellsTopology, document, by_number, is_switch, ends, port_name}
+use Rattle.snap_topo.specs.Answer.{Which, Switches, Links, Ports, too_many, repeat_after, first_repeat, first_unknown, is_unknown, KnownThen, DifferentThen, WithinThen, SpelledThen, IsAnswer, IsTopologyOf}
+use Rattle.snap_topo.specs.Spells.{Topology, MOST_SWITCHES, MOST_LINKS, MOST_PORTS, AreNames, no_name, next_name, ArePairs, no_pair, next_pair, ArePorts, no_port, next_port, Holds, SpellsTopology, document, by_number, is_switch, ends, port_name}
+use Rattle.snap_topo.specs.Shape.{TopoFault, Shape, Spelled, spelled, name_in, with_first, names_in, switches_in, pair_of, links_listed, links_in, port_of, ports_listed, ports_in, ports_then, links_then, switches_then}
 
 names-give : (items : Items) (names : List (List ℕ)) → AreNames items names → names_in items ≡ Some names
 names-give _ _ no_name = refl
@@ -62,14 +55,11 @@ All-at : (P : List ℕ → Type 0) (xs ys : List (List ℕ)) (y : List ℕ) → 
 All-at P [] ys y h = h.0
 All-at P (x ∷ xs) ys y h = All-at P xs ys y h.1
 
-or-false : (a b : Bool) → a ≡ false → b ≡ false → (a || b) ≡ false
-or-false a b h k = rw (h, k) refl
-
 apart-before : (seen names : List (List ℕ)) (name : List ℕ) → IsDistinct bytes_eq (seen ++ name ∷ names) → is_switch seen name ≡ false
 unfolding IsDistinct
 apart-before [] names name h = refl
 apart-before (x ∷ seen) names name h =
-    or-false (bytes_eq name x) (is_switch seen name) (nat_list_eq_equiv.symm name x ∙ All-at (λ y. bytes_eq x y ≡ false) seen names name h.0) (apart-before seen names name h.1)
+    or_from (bytes_eq name x) (is_switch seen name) (nat_list_eq_equiv.symm name x ∙ All-at (λ y. bytes_eq x y ≡ false) seen names name h.0) (apart-before seen names name h.1)
 
 repeats-none : (seen names : List (List ℕ)) → IsDistinct bytes_eq (seen ++ names) → repeat_after seen names ≡ None
 repeats-none seen [] h = refl

@@ -1,4 +1,5 @@
 pub mod AnsweredTopology
+pub mod Shaped
 pub mod Forms
 pub mod NumberLemmas
 pub mod Numerals

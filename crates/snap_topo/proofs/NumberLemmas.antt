@@ -1,7 +1,6 @@
 -- Names of switches, by a set of strings.
-use Rattle.std.proofs.Common.{◌≡◌, ◌∙◌, ℕ, ◌+◌, Bool, true, false, ◌||◌, not, cond, List, [], ◌∷◌, Some, None, position, refl, sym, ap, String, string_bytes, Global}
+use Rattle.std.proofs.Common.{◌≡◌, ◌∙◌, ℕ, ◌+◌, Bool, true, false, ◌||◌, not, cond, List, [], ◌∷◌, Some, None, position, refl, sym, ap, String, string_bytes, Global, bytes_eq}
 use Rattle.std.specs.List.{list_any, position_or_len}
-use Rattle.std.specs.Str.{bytes_eq}
 use Rattle.snap_topo.specs.Listing.{string_texts}
 use Rattle.snap_topo.specs.Spells.{is_switch, number_of}
 

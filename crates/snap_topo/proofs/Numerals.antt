@@ -1,6 +1,5 @@
 -- Numbers of ports, as texts.
-use Rattle.std.proofs.Common.{◌≡◌, ◌∙◌, ℕ, ◌<◌, ◌≤◌, ◌^◌, List, Bool, true, false, ◌&&◌, cond, Some, None, refl, sym, ap, arith, decimal, nat_le, nat_lt}
-use Rattle.std.specs.Str.{bytes_eq}
+use Rattle.std.proofs.Common.{◌≡◌, ◌∙◌, ℕ, ◌<◌, ◌≤◌, ◌^◌, List, Bool, true, false, ◌&&◌, cond, Some, None, refl, sym, ap, arith, decimal, nat_le, nat_lt, bytes_eq}
 use Rattle.std.specs.Str.Parse.{digits_value}
 use Rattle.std.proofs.lemmas.Bool.{le-leb, lt-ltb, leb-true, ltb-true, and_from, and_parts}
 use Rattle.std.proofs.lemmas.Fmt.{decimal_is_IsNumeral}

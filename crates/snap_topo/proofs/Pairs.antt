@@ -1,9 +1,7 @@
 -- Pairs of numbers in their order.
-use Rattle.std.proofs.Common.{◌≡◌, ◌∙◌, ℕ, Bool, true, ◌&&◌, nat_eq, refl, sym, ap, arith}
+use Rattle.std.proofs.Common.{◌≡◌, ◌∙◌, ℕ, Bool, true, ◌&&◌, nat_eq, refl, sym, ap, arith, nat_cmp, is_eq, Ordering, Less}
 use Rattle.std.specs.Cmp.{IsEquivalence, IsTotalOrder}
-use Rattle.std.specs.Ordering.{nat_cmp, is_eq, eq_by_cmp, ordering_then}
-use Rattle.std.specs.declared.cmp.Ordering.{Ordering}
-use Rattle.std.specs.declared.cmp.Ordering.TheVariants.{Less, Equal, Greater}
+use Rattle.std.specs.Ordering.{eq_by_cmp, ordering_then}
 use Rattle.std.proofs.lemmas.Cmp.{nat_cmp_total, nat_eq_equiv, on_total, on_equiv, then_total, and_equiv}
 use Rattle.std.proofs.lemmas.Bool.{and_parts, eqb-true}
 use Rattle.std.proofs.Math.Path.{ap₂}
@@ -25,8 +23,7 @@ nat_tie a b = grind (arith, nat_tests)
 
 is_eq-then : (o p : Ordering) → is_eq (ordering_then o p) ≡ (is_eq o && is_eq p)
 is_eq-then Less p = refl
-is_eq-then Equal p = refl
-is_eq-then Greater p = refl
+is_eq-then _ p = refl
 
 pub link_eq-link_cmp : (x y : ℕ × ℕ) → link_eq x y ≡ eq_by_cmp link_cmp x y
 link_eq-link_cmp x y = ap (λ b. b && nat_eq x.1 y.1) (nat_tie x.0 y.0) ∙ ap (λ b. is_eq (nat_cmp x.0 y.0) && b) (nat_tie x.1 y.1) ∙ sym (is_eq-then (nat_cmp x.0 y.0) (nat_cmp x.1 y.1))

@@ -1,15 +1,10 @@
 -- What is answered at each stage of a reading.
-use Rattle.std.proofs.Common.{◌≡◌, ◌∙◌, ℕ, List, Option, Some, None, Result, Ok, Err, find, map, sym, ap, subst}
-use Rattle.std.specs.Option.{IsSomeAnd, option_or}
-use Rattle.std.specs.List.{flat_map}
+use Rattle.std.proofs.Common.{◌≡◌, ◌∙◌, ℕ, List, Option, Some, None, Result, Ok, Err, find, map, sym, ap, subst, IsSomeAnd, flat_map}
+use Rattle.std.specs.Option.{option_or}
 use Rattle.std.proofs.lemmas.List.Folds.{find-append}
-use Rattle.snap_core.specs.declared.program.Which.{Which}
-use Rattle.snap_topo.specs.declared.topology.Topology.{Topology}
-use Rattle.snap_topo.specs.declared.topology.TopoFault.{TopoFault}
-use Rattle.snap_topo.specs.declared.topology.TopoFault.TheVariants.{Unknown}
-use Rattle.snap_topo.specs.Shape.{Spelled}
-use Rattle.snap_topo.specs.Answer.{too_many, first_repeat, first_unknown, is_unknown, KnownThen, DifferentThen, WithinThen, IsTopologyOf}
-use Rattle.snap_topo.specs.Spells.{ends, port_name}
+use Rattle.snap_topo.specs.Answer.{Which, too_many, first_repeat, first_unknown, is_unknown, KnownThen, DifferentThen, WithinThen, IsTopologyOf}
+use Rattle.snap_topo.specs.Spells.{Topology, ends, port_name}
+use Rattle.snap_topo.specs.Shape.{TopoFault, Unknown, Spelled}
 
 -- once the counts are within the limits and the switches differ
 pub within-different : (s : Spelled) (r : Result Topology TopoFault) → too_many s ≡ None → first_repeat s.switches ≡ None → KnownThen s (first_unknown s) r → WithinThen s (too_many s) r

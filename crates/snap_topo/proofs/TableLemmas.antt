@@ -1,17 +1,13 @@
 -- Facts about the view of a table.
-use Rattle.std.proofs.Common.{◌∙◌, refl, ℕ, List, [], ◌∷◌, length, map, fold, string_bytes, Option, Some, None, is_some, option_map, ◌≡◌, sym, ap, arith, String}
+use Rattle.std.proofs.Common.{◌∙◌, refl, ℕ, List, [], ◌∷◌, length, map, fold, string_bytes, Option, Some, None, is_some, option_map, ◌≡◌, sym, ap, arith, String, nat_cmp, Ordering, Less, Greater, Bor, Global}
 use Rattle.std.specs.List.{AllByRecursion}
 use Rattle.std.specs.List.Sorted.{IsStrictlySortedBy}
-use Rattle.std.specs.Ordering.{nat_cmp, match_ordering}
-use Rattle.std.specs.declared.cmp.Ordering.{Ordering}
-use Rattle.std.specs.declared.cmp.Ordering.TheVariants.{Less, Equal, Greater}
+use Rattle.std.specs.Ordering.{match_ordering}
 use Rattle.std.specs.Cmp.Lexicographic.{slice_cmp}
-use Rattle.std.specs.Borrow.{Bor}
 use Rattle.std.specs.Map.{lookup}
 use Rattle.std.specs.BTreeMap.{is_at, insert_entry}
-use Rattle.std.specs.declared.alloc.Global.{Global}
 use Rattle.toml.specs.declared.value.Value.{Value}
-use Rattle.toml.specs.Data.{Data, Items, no_items, item, string, integer, float, boolean, datetime, array, table, as_array, get_member}
+use Rattle.toml.specs.Data.{Data, Items, no_items, item, string, array, table, as_array, get_member}
 use Rattle.toml.specs.View.{items_view, members_view, view}
 use Rattle.toml.proofs.Views.{view-lookup}
 use Rattle.snap_topo.specs.Shape.{link_in, name_in, names_in, port_of, ports_listed, switches_in, with_first}
@@ -36,19 +32,12 @@ array_switches (array (item e rest)) i n is some = ap names_in (same is)
     same : {A : Type 0} {x y : A} → Some x ≡ Some y → x ≡ y
     same e = cc
 array_switches (array no_items) i n is some = absurd (some (cc))
-array_switches (string s) i n is some = cc
-array_switches (integer z) i n is some = cc
-array_switches (float x) i n is some = cc
-array_switches (boolean b) i n is some = cc
-array_switches (datetime t) i n is some = cc
-array_switches (table m) i n is some = cc
+array_switches _ i n is some = cc
 
 -- an array of other than two values
 short_link : (vs : List Value) → (length vs ≡ 2 → ⊥) → None ≡ link_in (array (items_view vs))
-short_link [] not = refl
-short_link (a ∷ []) not = refl
 short_link (a ∷ (b ∷ [])) not = absurd (not refl)
-short_link (a ∷ (b ∷ (e ∷ vs))) not = refl
+short_link _ not = refl
 
 pub no_link : (d : Data) (vs : List Value) → Some (items_view vs) ≡ as_array d → (length vs ≡ 2 → ⊥) → None ≡ link_in d
 no_link (array i) vs is not = short_link vs not ∙ ap (λ (x : Items). link_in (array x)) (same is)
@@ -56,19 +45,14 @@ no_link (array i) vs is not = short_link vs not ∙ ap (λ (x : Items). link_in 
     same : {A : Type 0} {x y : A} → Some x ≡ Some y → x ≡ y
     same e = cc
 no_link (string s) vs is not = cc
-no_link (integer z) vs is not = cc
-no_link (float x) vs is not = cc
-no_link (boolean b) vs is not = cc
-no_link (datetime t) vs is not = cc
-no_link (table m) vs is not = cc
+no_link _ vs is not = cc
 
 -- ---- ports
 placed : (o : Ordering) (e : ℕ × Bor (List ℕ)) (es : List (ℕ × Bor (List ℕ))) (k : ℕ) (v : Bor (List ℕ)) → map port_text (insert_entry nat_cmp es k v) ≡ insert_entry nat_cmp (map port_text es) k (v.now)
     → map port_text (match_ordering o ((k, v) ∷ e ∷ es) ((e.0, v) ∷ es) (e ∷ insert_entry nat_cmp es k v))
     ≡ match_ordering o ((k, v.now) ∷ port_text e ∷ map port_text es) ((e.0, v.now) ∷ map port_text es) (port_text e ∷ insert_entry nat_cmp (map port_text es) k (v.now))
-placed Less e es k v rest = refl
-placed Equal e es k v rest = refl
 placed Greater e es k v rest = ap (λ t. port_text e ∷ t) rest
+placed _ e es k v rest = refl
 
 pub port_texts-insert_entry : (es : List (ℕ × Bor (List ℕ))) (k : ℕ) (v : Bor (List ℕ)) → map port_text (insert_entry nat_cmp es k v) ≡ put_port (map port_text es) (k, v.now)
 port_texts-insert_entry [] k v = refl

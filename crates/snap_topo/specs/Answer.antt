@@ -2,8 +2,8 @@
 use Rattle.std.specs.Prelude.{Bool, ◌≡◌, ◌↔◌, ℕ, not, List, [], ◌∷◌, ◌++◌, length, map, find, Contains, Option, Some, None, if◌then◌else◌, nat_lt, Result, Ok, Err, IsOkAnd}
 use Rattle.std.specs.List.{flat_map}
 use Rattle.std.specs.List.Sorted.{IsStrictlySortedBy}
-use Rattle.snap_core.specs.declared.program.Which.{Which}
-use Rattle.snap_core.specs.declared.program.Which.TheVariants.{Switches, Links, Ports}
+pub use Rattle.snap_core.specs.declared.program.Which.{Which}
+pub use Rattle.snap_core.specs.declared.program.Which.TheVariants.{Switches, Links, Ports}
 use Rattle.snap_topo.specs.declared.topology.Topology.{Topology}
 use Rattle.snap_topo.specs.declared.topology.TopoFault.{TopoFault}
 use Rattle.snap_topo.specs.declared.topology.TopoFault.TheVariants.{Limit, Twice, Unknown}

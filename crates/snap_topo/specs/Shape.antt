@@ -2,8 +2,8 @@
 use Rattle.std.specs.Prelude.{ℕ, List, [], ◌∷◌, codes, Option, Some, None, if◌then◌else◌, option_map, Result, Ok, Err}
 use Rattle.std.specs.Str.{bytes_eq}
 use Rattle.toml.specs.Data.{Data, string, array, table, Items, no_items, item, Members, no_members, member, get_member}
-use Rattle.snap_topo.specs.declared.topology.TopoFault.{TopoFault}
-use Rattle.snap_topo.specs.declared.topology.TopoFault.TheVariants.{NotToml, Shape}
+pub use Rattle.snap_topo.specs.declared.topology.TopoFault.{TopoFault}
+pub use Rattle.snap_topo.specs.declared.topology.TopoFault.TheVariants.{NotToml, Shape, Limit, Twice, Unknown, NoMemory}
 use Rattle.snap_core.specs.Names.{is_switch_name}
 use Rattle.snap_topo.specs.Spells.{by_number, has_keys, port_number}
 

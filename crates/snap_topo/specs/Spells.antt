@@ -10,9 +10,9 @@ use Rattle.std.specs.declared.cmp.Ordering.{Ordering}
 use Rattle.toml.specs.Data.{string, array, table, Items, no_items, item, Members, no_members, member, get_member}
 use Rattle.toml.specs.Parse.{parse_document}
 use Rattle.snap_core.specs.Names.{is_switch_name}
-use Rattle.snap_core.specs.declared.ports.PortAt.{PortAt}
-use Rattle.snap_topo.specs.declared.topology.Topology.{Topology}
-use Rattle.snap_topo.specs.declared.topology.TheConstants.{MOST_SWITCHES, MOST_LINKS, MOST_PORTS}
+pub use Rattle.snap_core.specs.declared.ports.PortAt.{PortAt}
+pub use Rattle.snap_topo.specs.declared.topology.Topology.{Topology}
+pub use Rattle.snap_topo.specs.declared.topology.TheConstants.{MOST_SWITCHES, MOST_LINKS, MOST_PORTS}
 
 -- links by the first number, then by the second
 abbrev pub link_cmp : ℕ × ℕ → ℕ × ℕ → Ordering

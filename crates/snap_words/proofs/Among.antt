@@ -1,13 +1,12 @@
 -- The names and values that words say are words, or ends of words.
 use Rattle.std.proofs.Common.{◌≡◌, ◌∙◌, refl, sym, ap, Bool, true, false, cond, List, [], ◌∷◌, ◌++◌, ◌==◌, ◌+◌, ℕ, Option, Some, None, is_some, option_and_then, option_map, unwrap_or, subst, take}
-use Rattle.std.specs.List.{after_first, before_first, list_any}
+use Rattle.std.specs.List.{after_first, before_first, list_any, position_or_len}
 use Rattle.std.specs.Option.{option_or}
 use Rattle.std.proofs.Math.Bool.{or-true}
 use Rattle.std.proofs.lemmas.Bool.Decides.{Decides-eqb}
 use Rattle.std.proofs.lemmas.List.{take-append-drop}
 use Rattle.std.proofs.lemmas.List.Folds.{list_all-append}
 use Rattle.std.proofs.lemmas.Slice.Eq.{ends_is}
-use Rattle.std.specs.List.{position_or_len}
 use Rattle.std.proofs.lemmas.Option.{same_Some}
 use Rattle.snap_words.specs.Said.{are_among, is_among, is_among_or_none, said_among}
 use Rattle.snap_words.specs.Words.{Flag, Text, Told, Valued, Word, add, behind_dashes, behind_hyphen, changes_option, checked, end_of_options, flag_named, flag_word, flagged, has_names, is_same_option, name_word, nothing, option_named, option_with, option_word, schedule_option, tell, told_by, value_in, value_word, valued, with_names, word_of, workers_option}

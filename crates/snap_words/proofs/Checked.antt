@@ -117,11 +117,8 @@ word_alike w ws t alike (option_case m some is met bad) = rw (is, met) (added_al
 word_alike w ws t alike (refused_case is met bad) = rw (is, met) (add_bad t w ws bad)
 
 not_taken : (o : Valued) (m : Word) (t : Told) (w : Text) (ws : List Text) (k : Option Valued → Told → Option Told) → m ≢ name_word → after (Some o) (Some m) t w ws k ≡ None
-not_taken o end_of_options t w ws k some = refl
-not_taken o (flag_word f) t w ws k some = refl
-not_taken o (option_word p) t w ws k some = refl
-not_taken o (value_word p v) t w ws k some = refl
 not_taken o name_word t w ws k some = absurd (some refl)
+not_taken o _ t w ws k some = refl
 
 wait_alike : (o : Valued) (w : Text) (ws : List Text) (t : Told) → Alike ws → Cases w
     → option_and_then checked (option_and_then (tell ws None) (with_value t o w)) ≡ option_and_then checked (after (Some o) (met_of w) t w ws (read ws))
@@ -130,7 +127,7 @@ wait_alike o w ws t alike (option_case m some is met bad) = rw met (value_bad t 
 wait_alike o w ws t alike (refused_case is met bad) = rw met (value_bad t o w ws (t.values o) bad)
 
 pub tell-read : (ws : List Text) (waits : Option Valued) (t : Told) → option_and_then checked (tell ws waits t) ≡ option_and_then checked (read ws waits t)
-tell-read [] None t = refl
-tell-read [] (Some o) t = refl
 tell-read (w ∷ ws) None t = word_alike w ws t (tell-read ws) (cases w)
 tell-read (w ∷ ws) (Some o) t = wait_alike o w ws t (tell-read ws) (cases w)
+tell-read [] None t = refl
+tell-read [] (Some o) t = refl

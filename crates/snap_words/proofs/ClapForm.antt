@@ -1,6 +1,5 @@
 -- What `clap` makes of the words behind a command, before our own tests.
-use Rattle.std.specs.Prelude.{◌≡◌, option_map, unwrap_or, cond, List, [], ◌∷◌, codes, Option, Some, None, option_and_then, if◌then◌else◌}
-use Rattle.std.specs.Str.{bytes_eq}
+use Rattle.std.specs.Prelude.{◌≡◌, option_map, unwrap_or, cond, List, [], ◌∷◌, codes, Option, Some, None, option_and_then, if◌then◌else◌, bytes_eq}
 use Rattle.clap.specs.Lexer.{long_of, short_of}
 use Rattle.clap.specs.Walk.{one_of}
 use Rattle.clap.specs.Words.{Row, all_of}

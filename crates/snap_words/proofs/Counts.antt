@@ -1,7 +1,6 @@
 -- When a text is a number from 1 to 64.
-use Rattle.std.proofs.Common.{arith, ◌≡◌, ◌≢◌, ◌∙◌, ◌≤◌, ◌<◌, ◌+◌, refl, sym, ap, Bool, true, false, cond, ℕ, zero, suc, Option, Some, None, decimal, find}
+use Rattle.std.proofs.Common.{arith, ◌≡◌, ◌≢◌, ◌∙◌, ◌≤◌, ◌<◌, ◌+◌, refl, sym, ap, Bool, true, false, cond, ℕ, zero, suc, Option, Some, None, decimal, find, bytes_eq}
 use Rattle.std.specs.List.{range_with_len}
-use Rattle.std.specs.Str.{bytes_eq}
 use Rattle.std.proofs.lemmas.Fmt.{decimal_injective}
 use Rattle.std.proofs.lemmas.Slice.Eq.{bytes_eq-Decides}
 use Rattle.snap_words.specs.Counts.{count_of}

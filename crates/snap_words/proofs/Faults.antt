@@ -9,7 +9,7 @@ use Rattle.clap.specs.declared.parser.matches.ValueSource.TheVariants.{DefaultVa
 use Rattle.clap.specs.declared.error.kind.ErrorKind.{ErrorKind}
 use Rattle.clap.specs.declared.error.kind.ErrorKind.TheVariants.{InvalidValue}
 use Rattle.clap.proofs.OnLiterals.{clap_on_literals}
-use Rattle.snap_words.specs.Words.{Flag, Valued, flag_text, hops_flag, on_demand_flag, ordered_flag, schedule_option, changes_option, workers_option}
+use Rattle.snap_words.specs.Words.{Flag, Valued, flag_text, hops_flag, ordered_flag, schedule_option, changes_option, workers_option}
 use Rattle.snap_words.proofs.Turns.{done, flag_built, held, settles, top, waits}
 
 or_else-nil : (k : Kinds) → or_else k [] ≡ k
@@ -49,13 +49,9 @@ defaults-by : (rows : List Row) (h o d : Bool) → has_row (codes "hops") rows �
     → defaults_fault rows top.rules ≡ []
 unfolding clap_on_literals
 defaults-by rows true true true hops ordered on_demand = simp (hops, ordered, on_demand, or-true) refl
-defaults-by rows true true false hops ordered on_demand = simp (hops, ordered, on_demand, or-true) refl
-defaults-by rows true false true hops ordered on_demand = simp (hops, ordered, on_demand, or-true) refl
-defaults-by rows true false false hops ordered on_demand = simp (hops, ordered, on_demand, or-true) refl
-defaults-by rows false true true hops ordered on_demand = simp (hops, ordered, on_demand, or-true) refl
-defaults-by rows false true false hops ordered on_demand = simp (hops, ordered, on_demand, or-true) refl
-defaults-by rows false false true hops ordered on_demand = simp (hops, ordered, on_demand, or-true) refl
-defaults-by rows false false false hops ordered on_demand = simp (hops, ordered, on_demand, or-true) refl
+defaults-by rows _ true true hops ordered on_demand = simp (hops, ordered, on_demand, or-true) refl
+defaults-by rows _ _ true hops ordered on_demand = simp (hops, ordered, on_demand, or-true) refl
+defaults-by rows _ _ _ hops ordered on_demand = simp (hops, ordered, on_demand, or-true) refl
 
 pub ends : (r : List Row) (q : Option (Text × List Text)) → ending (held r q) ≡ settles r q
 ends r q = ap (λ k. or_else (settles r q) (or_else k [])) (defaults-by (done r q) _ _ _ refl refl refl) ∙ or_else-nil (settles r q)
@@ -63,8 +59,7 @@ ends r q = ap (λ k. or_else (settles r q) (or_else k [])) (defaults-by (done r 
 pub waits-ends : (o : Valued) (r : List Row) (t : Bool) → ending (waits o r t).held ≡ InvalidValue ∷ []
 unfolding clap_on_literals
 waits-ends schedule_option r t = refl
-waits-ends changes_option r t = refl
-waits-ends workers_option r t = refl
+waits-ends _ r t = refl
 
 pub turn_nil : (w : Walk) (x : Text) (xs : List Text) → fault w (x ∷ xs) ≡ [] → turn_fault top [] w x ≡ []
 turn_nil w x xs none = first_nil _ _ (sym (fault-more w x xs) ∙ none)

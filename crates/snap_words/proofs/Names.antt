@@ -1,6 +1,5 @@
 -- The names of options.
-use Rattle.std.proofs.Common.{◌≡◌, refl, sym, Bool, true, false, codes, Option, Some, None}
-use Rattle.std.specs.Str.{bytes_eq}
+use Rattle.std.proofs.Common.{◌≡◌, refl, sym, Bool, true, false, codes, Option, Some, None, bytes_eq}
 use Rattle.std.proofs.lemmas.Slice.Eq.{bytes_eq-Decides}
 use Rattle.snap_words.specs.Words.{Flag, Text, Valued, changes_option, flag_text, flag_word, hops_flag, on_demand_flag, option_text, option_with, option_word, ordered_flag, schedule_option, value_word, workers_option}
 use Rattle.snap_words.proofs.Turns.{IsUnknown}
@@ -44,23 +43,19 @@ named name = by_hops name _ refl
 -- ---- what a name says
 pub flag_says : (f : Flag) → option_with (flag_text f) None ≡ Some (flag_word f)
 flag_says hops_flag = refl
-flag_says ordered_flag = refl
-flag_says on_demand_flag = refl
+flag_says _ = refl
 
 pub flag_takes_none : (f : Flag) (v : Text) → option_with (flag_text f) (Some v) ≡ None
 flag_takes_none hops_flag v = refl
-flag_takes_none ordered_flag v = refl
-flag_takes_none on_demand_flag v = refl
+flag_takes_none _ v = refl
 
 pub option_says : (o : Valued) → option_with (option_text o) None ≡ Some (option_word o)
 option_says schedule_option = refl
-option_says changes_option = refl
-option_says workers_option = refl
+option_says _ = refl
 
 pub value_says : (o : Valued) (v : Text) → option_with (option_text o) (Some v) ≡ Some (value_word o v)
 value_says schedule_option v = refl
-value_says changes_option v = refl
-value_says workers_option v = refl
+value_says _ v = refl
 
 pub unknown_says : (name : Text) (v : Option Text) → IsUnknown name → option_with name v ≡ None
 unknown_says name None u = rw (u.no_hops, u.no_ordered, u.no_on_demand, u.no_schedule, u.no_changes, u.no_workers) refl

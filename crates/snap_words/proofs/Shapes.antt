@@ -1,6 +1,5 @@
 -- Words as texts: each has a first character.
-use Rattle.std.proofs.Common.{arith, ◌≡◌, ◌∙◌, refl, sym, ap, subst, Bool, true, false, cond, List, [], ◌∷◌, ◌==◌, ℕ, Some, None, option_and_then, slice_get}
-use Rattle.std.specs.Str.{IsUtf8, chars}
+use Rattle.std.proofs.Common.{arith, ◌≡◌, ◌∙◌, refl, sym, ap, subst, Bool, true, false, cond, List, [], ◌∷◌, ◌==◌, ℕ, Some, None, option_and_then, slice_get, IsUtf8, chars}
 use lib.Utf8.{encodes}
 use Rattle.std.proofs.lemmas.Str.{IsCharBoundary-after_ascii, IsUtf8-drop, encodes-chars}
 use Rattle.std.proofs.lemmas.Bool.{eqb-true}

@@ -1,6 +1,5 @@
 -- The rows that `clap` keeps are those of what was told.
-use Rattle.std.proofs.Common.{subst, option_map, unwrap_or, ◌≡◌, ◌∙◌, refl, sym, ap, Bool, true, false, cond, List, [], ◌∷◌, ◌++◌, codes, Option, Some, None, is_some, fold}
-use Rattle.std.specs.Str.{bytes_eq}
+use Rattle.std.proofs.Common.{subst, option_map, unwrap_or, ◌≡◌, ◌∙◌, refl, sym, ap, Bool, true, false, cond, List, [], ◌∷◌, ◌++◌, codes, Option, Some, None, is_some, fold, bytes_eq}
 use Rattle.std.proofs.lemmas.Slice.Eq.{bytes_eq-Decides}
 use Rattle.clap.specs.Words.{Row, Text}
 use Rattle.clap.specs.Walk.{all_of, finished, has_row, one_of, reading_by, with_default, with_values}
@@ -13,67 +12,39 @@ use Rattle.snap_words.proofs.Turns.{done, flag_built, flag_used, held, name_buil
 -- ---- ids
 flags_apart : (f g : Flag) → bytes_eq (flag_text f) (flag_text g) ≡ is_same_flag f g
 flags_apart hops_flag hops_flag = refl
-flags_apart hops_flag ordered_flag = refl
-flags_apart hops_flag on_demand_flag = refl
-flags_apart ordered_flag hops_flag = refl
-flags_apart ordered_flag ordered_flag = refl
-flags_apart ordered_flag on_demand_flag = refl
-flags_apart on_demand_flag hops_flag = refl
-flags_apart on_demand_flag ordered_flag = refl
-flags_apart on_demand_flag on_demand_flag = refl
+flags_apart _ hops_flag = refl
+flags_apart _ _ = refl
 
 options_apart : (o p : Valued) → bytes_eq (option_text o) (option_text p) ≡ is_same_option o p
 options_apart schedule_option schedule_option = refl
-options_apart schedule_option changes_option = refl
-options_apart schedule_option workers_option = refl
-options_apart changes_option schedule_option = refl
-options_apart changes_option changes_option = refl
-options_apart changes_option workers_option = refl
-options_apart workers_option schedule_option = refl
-options_apart workers_option changes_option = refl
-options_apart workers_option workers_option = refl
+options_apart _ schedule_option = refl
+options_apart _ _ = refl
 
 flag_not_option : (f : Flag) (o : Valued) → bytes_eq (flag_text f) (option_text o) ≡ false
 flag_not_option hops_flag schedule_option = refl
-flag_not_option hops_flag changes_option = refl
-flag_not_option hops_flag workers_option = refl
-flag_not_option ordered_flag schedule_option = refl
-flag_not_option ordered_flag changes_option = refl
-flag_not_option ordered_flag workers_option = refl
-flag_not_option on_demand_flag schedule_option = refl
-flag_not_option on_demand_flag changes_option = refl
-flag_not_option on_demand_flag workers_option = refl
+flag_not_option _ schedule_option = refl
+flag_not_option _ _ = refl
 
 option_not_flag : (o : Valued) (f : Flag) → bytes_eq (option_text o) (flag_text f) ≡ false
 option_not_flag schedule_option hops_flag = refl
-option_not_flag schedule_option ordered_flag = refl
-option_not_flag schedule_option on_demand_flag = refl
-option_not_flag changes_option hops_flag = refl
-option_not_flag changes_option ordered_flag = refl
-option_not_flag changes_option on_demand_flag = refl
-option_not_flag workers_option hops_flag = refl
-option_not_flag workers_option ordered_flag = refl
-option_not_flag workers_option on_demand_flag = refl
+option_not_flag _ hops_flag = refl
+option_not_flag _ _ = refl
 
 flag_not_name : (f : Flag) → bytes_eq (flag_text f) name_id ≡ false
 flag_not_name hops_flag = refl
-flag_not_name ordered_flag = refl
-flag_not_name on_demand_flag = refl
+flag_not_name _ = refl
 
 option_not_name : (o : Valued) → bytes_eq (option_text o) name_id ≡ false
 option_not_name schedule_option = refl
-option_not_name changes_option = refl
-option_not_name workers_option = refl
+option_not_name _ = refl
 
 name_not_flag : (f : Flag) → bytes_eq name_id (flag_text f) ≡ false
 name_not_flag hops_flag = refl
-name_not_flag ordered_flag = refl
-name_not_flag on_demand_flag = refl
+name_not_flag _ = refl
 
 name_not_option : (o : Valued) → bytes_eq name_id (option_text o) ≡ false
 name_not_option schedule_option = refl
-name_not_option changes_option = refl
-name_not_option workers_option = refl
+name_not_option _ = refl
 
 itself : (id : Text) → bytes_eq id id ≡ true
 itself id = (bytes_eq-Decides id id).1 refl

@@ -1,7 +1,5 @@
 -- What `clap` makes of one word, where it stands between two words.
-use Rattle.std.proofs.Common.{◌≡◌, refl, Bool, true, false, cond, List, [], ◌∷◌, codes, ℕ, Option, Some, None, slice_get}
-use Rattle.std.specs.Str.{bytes_eq, chars}
-use Rattle.std.specs.Char.{encode_utf8}
+use Rattle.std.proofs.Common.{◌≡◌, refl, Bool, true, false, cond, List, [], ◌∷◌, codes, ℕ, Option, Some, None, slice_get, bytes_eq, chars, encode_utf8}
 use Rattle.std.proofs.Math.Bool.{and-false}
 use Rattle.clap.specs.Words.{Row, Rule, Shape, Text, built}
 use Rattle.clap.specs.Lexer.{long_of, short_of}
@@ -77,77 +75,46 @@ module _ (r : List Row) (q : Option (Text × List Text)) (w : Text) (single : by
   pub flag_turn : (f : Flag) (p b : Bool) → long_of w ≡ Some (flag_text f, None) → has_row (flag_text f) (done r q) ≡ b → turn_fault top [] (at (held r q) p false) w ≡ or_else (or_else (settles r q) (twice b)) []
   unfolding clap_on_literals
   flag_turn hops_flag true true long has = rw (single, long, has) refl
-  flag_turn hops_flag true false long has = rw (single, long, has) refl
-  flag_turn hops_flag false true long has = rw (single, long, has) refl
-  flag_turn hops_flag false false long has = rw (single, long, has) refl
-  flag_turn ordered_flag true true long has = rw (single, long, has) refl
-  flag_turn ordered_flag true false long has = rw (single, long, has) refl
-  flag_turn ordered_flag false true long has = rw (single, long, has) refl
-  flag_turn ordered_flag false false long has = rw (single, long, has) refl
-  flag_turn on_demand_flag true true long has = rw (single, long, has) refl
-  flag_turn on_demand_flag true false long has = rw (single, long, has) refl
-  flag_turn on_demand_flag false true long has = rw (single, long, has) refl
-  flag_turn on_demand_flag false false long has = rw (single, long, has) refl
+  flag_turn _ true true long has = rw (single, long, has) refl
+  flag_turn _ _ true long has = rw (single, long, has) refl
+  flag_turn _ _ _ long has = rw (single, long, has) refl
 
   pub flag_moves : (f : Flag) (p : Bool) → long_of w ≡ Some (flag_text f, None) → walked top.rules [] (at (held r q) p false) w ≡ at (held (flag_used f (done r q)) None) false false
   unfolding clap_on_literals
   flag_moves hops_flag true long = rw (single, long) refl
-  flag_moves hops_flag false long = rw (single, long) refl
-  flag_moves ordered_flag true long = rw (single, long) refl
-  flag_moves ordered_flag false long = rw (single, long) refl
-  flag_moves on_demand_flag true long = rw (single, long) refl
-  flag_moves on_demand_flag false long = rw (single, long) refl
+  flag_moves _ true long = rw (single, long) refl
+  flag_moves _ _ long = rw (single, long) refl
 
   pub flag_valued : (f : Flag) (p : Bool) (v : Text) → long_of w ≡ Some (flag_text f, Some v) → turn_fault top [] (at (held r q) p false) w ≡ TooManyValues ∷ []
   unfolding clap_on_literals
   flag_valued hops_flag true v long = rw (single, long) refl
-  flag_valued hops_flag false v long = rw (single, long) refl
-  flag_valued ordered_flag true v long = rw (single, long) refl
-  flag_valued ordered_flag false v long = rw (single, long) refl
-  flag_valued on_demand_flag true v long = rw (single, long) refl
-  flag_valued on_demand_flag false v long = rw (single, long) refl
+  flag_valued _ true v long = rw (single, long) refl
+  flag_valued _ _ v long = rw (single, long) refl
 
   pub wait_turn : (o : Valued) (p : Bool) → long_of w ≡ Some (option_text o, None) → turn_fault top [] (at (held r q) p false) w ≡ or_else (settles r q) []
   unfolding clap_on_literals
   wait_turn schedule_option true long = rw (single, long) refl
-  wait_turn schedule_option false long = rw (single, long) refl
-  wait_turn changes_option true long = rw (single, long) refl
-  wait_turn changes_option false long = rw (single, long) refl
-  wait_turn workers_option true long = rw (single, long) refl
-  wait_turn workers_option false long = rw (single, long) refl
+  wait_turn _ true long = rw (single, long) refl
+  wait_turn _ _ long = rw (single, long) refl
 
   pub wait_moves : (o : Valued) (p : Bool) → long_of w ≡ Some (option_text o, None) → walked top.rules [] (at (held r q) p false) w ≡ waits o (done r q) false
   unfolding clap_on_literals
   wait_moves schedule_option true long = rw (single, long) refl
-  wait_moves schedule_option false long = rw (single, long) refl
-  wait_moves changes_option true long = rw (single, long) refl
-  wait_moves changes_option false long = rw (single, long) refl
-  wait_moves workers_option true long = rw (single, long) refl
-  wait_moves workers_option false long = rw (single, long) refl
+  wait_moves _ true long = rw (single, long) refl
+  wait_moves _ _ long = rw (single, long) refl
 
   pub value_turn : (o : Valued) (p b : Bool) (v : Text) → long_of w ≡ Some (option_text o, Some v) → has_row (option_text o) (done r q) ≡ b → turn_fault top [] (at (held r q) p false) w ≡ or_else (or_else (settles r q) (twice b)) []
   unfolding clap_on_literals
   value_turn schedule_option true true v long has = rw (single, long, has) refl
-  value_turn schedule_option true false v long has = rw (single, long, has) refl
-  value_turn schedule_option false true v long has = rw (single, long, has) refl
-  value_turn schedule_option false false v long has = rw (single, long, has) refl
-  value_turn changes_option true true v long has = rw (single, long, has) refl
-  value_turn changes_option true false v long has = rw (single, long, has) refl
-  value_turn changes_option false true v long has = rw (single, long, has) refl
-  value_turn changes_option false false v long has = rw (single, long, has) refl
-  value_turn workers_option true true v long has = rw (single, long, has) refl
-  value_turn workers_option true false v long has = rw (single, long, has) refl
-  value_turn workers_option false true v long has = rw (single, long, has) refl
-  value_turn workers_option false false v long has = rw (single, long, has) refl
+  value_turn _ true true v long has = rw (single, long, has) refl
+  value_turn _ _ true v long has = rw (single, long, has) refl
+  value_turn _ _ _ v long has = rw (single, long, has) refl
 
   pub value_moves : (o : Valued) (p : Bool) (v : Text) → long_of w ≡ Some (option_text o, Some v) → walked top.rules [] (at (held r q) p false) w ≡ at (held (option_used o v (done r q)) None) false false
   unfolding clap_on_literals
   value_moves schedule_option true v long = rw (single, long) refl
-  value_moves schedule_option false v long = rw (single, long) refl
-  value_moves changes_option true v long = rw (single, long) refl
-  value_moves changes_option false v long = rw (single, long) refl
-  value_moves workers_option true v long = rw (single, long) refl
-  value_moves workers_option false v long = rw (single, long) refl
+  value_moves _ true v long = rw (single, long) refl
+  value_moves _ _ v long = rw (single, long) refl
 
   pub long_turn : (p : Bool) (name : Text) (v : Option Text) → long_of w ≡ Some (name, v) → IsUnknown name → turn_fault top [] (at (held r q) p false) w ≡ UnknownArgument ∷ []
   unfolding clap_on_literals
@@ -202,106 +169,71 @@ module _ (r : List Row) (w : Text) where
   pub got_turn : (o : Valued) → bytes_eq w (codes "--") ≡ false → long_of w ≡ None → short_of w ≡ None → turn_fault top [] (waits o r false) w ≡ []
   unfolding clap_on_literals
   got_turn schedule_option single long short = rw (single, long, short) refl
-  got_turn changes_option single long short = rw (single, long, short) refl
-  got_turn workers_option single long short = rw (single, long, short) refl
+  got_turn _ single long short = rw (single, long, short) refl
 
   pub got_moves : (o : Valued) → bytes_eq w (codes "--") ≡ false → long_of w ≡ None → short_of w ≡ None → walked top.rules [] (waits o r false) w ≡ at (held r (Some (option_text o, w ∷ []))) false false
   unfolding clap_on_literals
   got_moves schedule_option single long short = rw (single, long, short) refl
-  got_moves changes_option single long short = rw (single, long, short) refl
-  got_moves workers_option single long short = rw (single, long, short) refl
+  got_moves _ single long short = rw (single, long, short) refl
 
   pub val_settles : (o : Valued) (b : Bool) → has_row (option_text o) r ≡ b → settles r (Some (option_text o, w ∷ [])) ≡ twice b
   unfolding clap_on_literals
   val_settles schedule_option true has = rw has refl
-  val_settles schedule_option false has = rw has refl
-  val_settles changes_option true has = rw has refl
-  val_settles changes_option false has = rw has refl
-  val_settles workers_option true has = rw has refl
-  val_settles workers_option false has = rw has refl
+  val_settles _ true has = rw has refl
+  val_settles _ _ has = rw has refl
 
   pub val_done : (o : Valued) → done r (Some (option_text o, w ∷ [])) ≡ option_used o w r
   unfolding clap_on_literals
   val_done schedule_option = refl
-  val_done changes_option = refl
-  val_done workers_option = refl
+  val_done _ = refl
 
   pub wait_dashes_turn : (o : Valued) → bytes_eq w (codes "--") ≡ true → turn_fault top [] (waits o r false) w ≡ []
   unfolding clap_on_literals
   wait_dashes_turn schedule_option is = rw is refl
-  wait_dashes_turn changes_option is = rw is refl
-  wait_dashes_turn workers_option is = rw is refl
+  wait_dashes_turn _ is = rw is refl
 
   pub wait_dashes_moves : (o : Valued) → bytes_eq w (codes "--") ≡ true → walked top.rules [] (waits o r false) w ≡ waits o r true
   unfolding clap_on_literals
   wait_dashes_moves schedule_option is = rw is refl
-  wait_dashes_moves changes_option is = rw is refl
-  wait_dashes_moves workers_option is = rw is refl
+  wait_dashes_moves _ is = rw is refl
 
   pub wait_trail_turn : (o : Valued) → turn_fault top [] (waits o r true) w ≡ InvalidValue ∷ []
   unfolding clap_on_literals
   wait_trail_turn schedule_option = refl
-  wait_trail_turn changes_option = refl
-  wait_trail_turn workers_option = refl
+  wait_trail_turn _ = refl
 
 -- and gets no value
 module _ (r : List Row) (w : Text) (single : bytes_eq w (codes "--") ≡ false) where
   pub wait_flag : (o : Valued) (f : Flag) → long_of w ≡ Some (flag_text f, None) → turn_fault top [] (waits o r false) w ≡ InvalidValue ∷ []
   unfolding clap_on_literals
   wait_flag schedule_option hops_flag long = rw (single, long) refl
-  wait_flag schedule_option ordered_flag long = rw (single, long) refl
-  wait_flag schedule_option on_demand_flag long = rw (single, long) refl
-  wait_flag changes_option hops_flag long = rw (single, long) refl
-  wait_flag changes_option ordered_flag long = rw (single, long) refl
-  wait_flag changes_option on_demand_flag long = rw (single, long) refl
-  wait_flag workers_option hops_flag long = rw (single, long) refl
-  wait_flag workers_option ordered_flag long = rw (single, long) refl
-  wait_flag workers_option on_demand_flag long = rw (single, long) refl
+  wait_flag _ hops_flag long = rw (single, long) refl
+  wait_flag _ _ long = rw (single, long) refl
 
   pub wait_flag_valued : (o : Valued) (f : Flag) (v : Text) → long_of w ≡ Some (flag_text f, Some v) → turn_fault top [] (waits o r false) w ≡ TooManyValues ∷ []
   unfolding clap_on_literals
   wait_flag_valued schedule_option hops_flag v long = rw (single, long) refl
-  wait_flag_valued schedule_option ordered_flag v long = rw (single, long) refl
-  wait_flag_valued schedule_option on_demand_flag v long = rw (single, long) refl
-  wait_flag_valued changes_option hops_flag v long = rw (single, long) refl
-  wait_flag_valued changes_option ordered_flag v long = rw (single, long) refl
-  wait_flag_valued changes_option on_demand_flag v long = rw (single, long) refl
-  wait_flag_valued workers_option hops_flag v long = rw (single, long) refl
-  wait_flag_valued workers_option ordered_flag v long = rw (single, long) refl
-  wait_flag_valued workers_option on_demand_flag v long = rw (single, long) refl
+  wait_flag_valued _ hops_flag v long = rw (single, long) refl
+  wait_flag_valued _ _ v long = rw (single, long) refl
 
   pub wait_option : (o p : Valued) → long_of w ≡ Some (option_text p, None) → turn_fault top [] (waits o r false) w ≡ InvalidValue ∷ []
   unfolding clap_on_literals
   wait_option schedule_option schedule_option long = rw (single, long) refl
-  wait_option schedule_option changes_option long = rw (single, long) refl
-  wait_option schedule_option workers_option long = rw (single, long) refl
-  wait_option changes_option schedule_option long = rw (single, long) refl
-  wait_option changes_option changes_option long = rw (single, long) refl
-  wait_option changes_option workers_option long = rw (single, long) refl
-  wait_option workers_option schedule_option long = rw (single, long) refl
-  wait_option workers_option changes_option long = rw (single, long) refl
-  wait_option workers_option workers_option long = rw (single, long) refl
+  wait_option _ schedule_option long = rw (single, long) refl
+  wait_option _ _ long = rw (single, long) refl
 
   pub wait_option_valued : (o p : Valued) (v : Text) → long_of w ≡ Some (option_text p, Some v) → turn_fault top [] (waits o r false) w ≡ InvalidValue ∷ []
   unfolding clap_on_literals
   wait_option_valued schedule_option schedule_option v long = rw (single, long) refl
-  wait_option_valued schedule_option changes_option v long = rw (single, long) refl
-  wait_option_valued schedule_option workers_option v long = rw (single, long) refl
-  wait_option_valued changes_option schedule_option v long = rw (single, long) refl
-  wait_option_valued changes_option changes_option v long = rw (single, long) refl
-  wait_option_valued changes_option workers_option v long = rw (single, long) refl
-  wait_option_valued workers_option schedule_option v long = rw (single, long) refl
-  wait_option_valued workers_option changes_option v long = rw (single, long) refl
-  wait_option_valued workers_option workers_option v long = rw (single, long) refl
+  wait_option_valued _ schedule_option v long = rw (single, long) refl
+  wait_option_valued _ _ v long = rw (single, long) refl
 
   pub wait_long : (o : Valued) (name : Text) (v : Option Text) → long_of w ≡ Some (name, v) → IsUnknown name → turn_fault top [] (waits o r false) w ≡ UnknownArgument ∷ []
   unfolding clap_on_literals
   wait_long schedule_option name v long u = rw (single, long, u.no_hops, u.no_ordered, u.no_on_demand, u.no_schedule, u.no_changes, u.no_workers) refl
-  wait_long changes_option name v long u = rw (single, long, u.no_hops, u.no_ordered, u.no_on_demand, u.no_schedule, u.no_changes, u.no_workers) refl
-  wait_long workers_option name v long u = rw (single, long, u.no_hops, u.no_ordered, u.no_on_demand, u.no_schedule, u.no_changes, u.no_workers) refl
+  wait_long _ name v long u = rw (single, long, u.no_hops, u.no_ordered, u.no_on_demand, u.no_schedule, u.no_changes, u.no_workers) refl
 
   pub wait_short : (o : Valued) (y : ℕ) (ys : Text) (c : ℕ) → long_of w ≡ None → short_of w ≡ Some (y ∷ ys) → slice_get (chars (y ∷ ys)) 0 ≡ Some c → turn_fault top [] (waits o r false) w ≡ UnknownArgument ∷ []
   unfolding walked bundle_met encode_utf8 flags_pass walk_passes flags_fault walk_fault defaults_fault
   wait_short schedule_option y ys c long short first = rw (single, long, short, first) refl
-  wait_short changes_option y ys c long short first = rw (single, long, short, first) refl
-  wait_short workers_option y ys c long short first = rw (single, long, short, first) refl
+  wait_short _ y ys c long short first = rw (single, long, short, first) refl

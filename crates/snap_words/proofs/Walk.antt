@@ -1,6 +1,5 @@
 -- What `clap` makes of all the words: it takes them exactly where they are of its form.
-use Rattle.std.proofs.Common.{option_and_then, MatchOption, subst, append_assoc, append-nil, ◌≡◌, ◌∙◌, refl, sym, ap, Bool, true, false, cond, List, [], ◌∷◌, codes, Option, Some, None, is_some}
-use Rattle.std.specs.Str.{IsUtf8, bytes_eq}
+use Rattle.std.proofs.Common.{option_and_then, MatchOption, subst, append_assoc, append-nil, ◌≡◌, ◌∙◌, refl, sym, ap, Bool, true, false, cond, List, [], ◌∷◌, codes, Option, Some, None, is_some, IsUtf8, bytes_eq}
 use Rattle.clap.specs.Words.{matches_of, Row, Text, built, fault_of}
 use Rattle.clap.specs.Lexer.{long_of, short_of}
 use Rattle.clap.specs.Kinds.{or_else}

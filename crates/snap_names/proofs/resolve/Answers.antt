@@ -2,8 +2,7 @@
 use Rattle.std.proofs.Common.{◌≡◌, ◌≢◌, ◌≤◌, ◌<◌, length, get_or, [], Ok, Err, ap, ◌∙◌, subst}
 use Rattle.std.proofs.lemmas.Result.{IfOk-weaker}
 use Rattle.snap_parse.specs.Tree.{source_tree, decl_tree}
-use Rattle.snap_names.specs.declared.fault.NameFault.TheVariants.{NoMemory}
-use Rattle.snap_names.specs.Senses.{after}
+use Rattle.snap_names.specs.Senses.{NoMemory, after}
 use Rattle.snap_names.specs.Declarations.{core_program, limited}
 use Rattle.snap_names.specs.Scopes.{Limits, declared_in}
 use Rattle.snap_names.proofs.Resolving.{AreDeclared, AreDeclared-more, resolved-refused, AreDeclared-rest, map-drop, drop-all, IfErr-from, resolved-read, resolved-limited, IfErr-weaker}

@@ -1,6 +1,7 @@
 use Rattle.std.proofs.Common.{sym, refl}
+use Rattle.std.proofs.lemmas.Bool.{false≢true}
 use Rattle.snap_lex.specs.Lexemes.{a_key, a_name, a_number, an_address, a_sign}
-use Rattle.snap_lex.proofs.Forms.{longest_word, longest_figure, longest_sign, no_form, sign_some, sign_within, never}
+use Rattle.snap_lex.proofs.Forms.{longest_word, longest_figure, longest_sign, no_form, sign_some, sign_within}
 use Rattle.snap_lex.proofs.lexemes.token_at.Goals as goal
 
 pub returns-in-Some : goal.returns-in-Some
@@ -26,7 +27,7 @@ returns-then-is_address c =
 pub returns-else-is_address : goal.returns-else-is_address
 returns-else-is_address c =
     let f = c.figure_len-n.ensures in
-    (refl, record { size = c.figure_len-n.result; figure = f.figure; longest = longest_figure c.args.bytes.now c.figure_len-n.result f.figure f.longest; no_number = λ d. never (c.if-are_digits.ensures.1 d); no_address = λ d. never (c.if-is_address.ensures.1 d) })
+    (refl, record { size = c.figure_len-n.result; figure = f.figure; longest = longest_figure c.args.bytes.now c.figure_len-n.result f.figure f.longest; no_number = λ d. false≢true (c.if-are_digits.ensures.1 d); no_address = λ d. false≢true (c.if-is_address.ensures.1 d) })
 
 pub returns-in-Some-sign_at : goal.returns-in-Some-sign_at
 returns-in-Some-sign_at c =

@@ -2,7 +2,7 @@ use Rattle.std.proofs.Common.{◌≡◌, false, Some, is_some, [], ◌∷◌, �
 use Rattle.std.specs.List.{list_any}
 use Rattle.snap_names.specs.Declarations.{field_names, field_senses}
 use Rattle.snap_names.specs.Spells.{is_known}
-use Rattle.snap_names.specs.declared.scope.Sense.TheVariants.{Split}
+use Rattle.snap_names.specs.Senses.{Split}
 use Rattle.snap_names.specs.Parts.{names_in}
 use Rattle.snap_names.proofs.Declaring.{three_new, split_senses}
 use Rattle.snap_names.proofs.declarations.add_names.Goals as goal

@@ -1,9 +1,8 @@
 use Rattle.std.proofs.Common.{◌≡◌, ℕ, List, [], Result, Ok, Err}
-use Rattle.snap_lex.specs.declared.Token.{Token}
-use Rattle.snap_parse.specs.declared.fault.ParseFault.{ParseFault}
-use Rattle.snap_parse.specs.declared.fault.ParseFault.TheVariants.{Unexpected, TooDeep, NoMemory}
+use Rattle.snap_parse.specs.Kinds.{Token}
+use Rattle.snap_parse.specs.Machine.{ParseFault, Unexpected, TooDeep, at_decl, run}
+use Rattle.snap_parse.specs.declared.fault.ParseFault.TheVariants.{NoMemory}
 use Rattle.snap_parse.specs.Tree.{SourceTree}
-use Rattle.snap_parse.specs.Machine.{at_decl, run}
 use Rattle.snap_parse.specs.Laws.{Yields}
 use Rattle.snap_parse.proofs.Exact.{derives_ok, unexpected_gives, too_deep_gives}
 use Rattle.snap_parse.proofs.laws.yields_once.Goals as goal

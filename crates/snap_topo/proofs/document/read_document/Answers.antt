@@ -1,6 +1,6 @@
-use Rattle.std.proofs.Common.{◌≡◌, ◌∙◌, cond, Some, None, true, false, ℕ, List, refl, sym, Bool}
+use Rattle.std.proofs.Common.{◌≡◌, ◌∙◌, cond, Some, None, true, false, ℕ, List, refl, sym, Bool, IsUtf8}
 use Rattle.std.proofs.lemmas.Bool.{false≢true}
-use Rattle.std.specs.Str.{IsUtf8, is_utf8}
+use Rattle.std.specs.Str.{is_utf8}
 use Rattle.std.proofs.lemmas.Str.{is_utf8-from_IsUtf8, IsUtf8-from_is_utf8}
 use Rattle.toml.specs.Data.{Members}
 use Rattle.toml.specs.Parse.{parse_document}

@@ -1,14 +1,10 @@
-use Rattle.std.proofs.Common.{◌≡◌, ◌∙◌, decimal, Ok, arith, sym, ap, true, false, not, Bool, refl}
+use Rattle.std.proofs.Common.{◌≡◌, ◌∙◌, decimal, Ok, arith, sym, ap, true, false, not, bytes_eq}
+use Rattle.std.proofs.lemmas.Bool.{not-false}
 use Rattle.std.proofs.lemmas.Fmt.{parse-decimal}
 use Rattle.std.proofs.lemmas.Slice.Eq.{bytes_eq-Decides}
-use Rattle.std.specs.Str.{bytes_eq}
 use Rattle.snap_topo.proofs.Numerals.{port_number-decimal, port_number-none}
 use Rattle.snap_topo.proofs.names.port_of.Goals as goal
 use Rattle.snap_topo.proofs.names.port_of.Goals.{then-port-eq0-via-then-port-eq0, then-port-eq0-via-else-port-eq0+then-ne}
-
-not_false : (b : Bool) → not b ≡ false → b ≡ true
-not_false true e = refl
-not_false false e = sym e
 
 pub returns-in_default : goal.returns-in_default
 returns-in_default c = port_number-none c.args.text.now (λ p one small is. c.in_default.not-Ok p (parse-decimal 32 p c.args.text.now _ small (omega arith) is c.parse.ensures.value.0))
@@ -25,6 +21,6 @@ returns-then-port-eq0 c = port_number-none c.args.text.now (λ p one small is.
 
 pub returns : goal.returns
 returns c =
-    let equal : bytes_eq c.format-printed.result.now c.args.text.now ≡ true = not_false _ (sym c.ne.ensures ∙ c.if-ne.false) in
+    let equal : bytes_eq c.format-printed.result.now c.args.text.now ≡ true = not-false _ (sym c.ne.ensures ∙ c.if-ne.false) in
     let printed = (bytes_eq-Decides c.format-printed.result.now c.args.text.now).0 equal in
     port_number-decimal c.args.text.now c.in-Ok.port (omega arith) (omega arith) (sym printed ∙ c.format-printed.ensures.text)

@@ -1,6 +1,6 @@
 use Rattle.std.proofs.Common.{◌∙◌, sym, ap}
 use Rattle.snap_topo.proofs.NumberLemmas.{is_switch-texts, number-found}
-use Rattle.snap_topo.specs.declared.topology.TopoFault.TheVariants.{Unknown}
+use Rattle.snap_topo.specs.Shape.{Unknown}
 use Rattle.snap_topo.proofs.resolve.number.Goals as goal
 
 pub returns-in-Some-clause-ok : goal.returns-in-Some-clause-ok

@@ -1,5 +1,5 @@
 use Rattle.std.proofs.Common.{◌∙◌, sym, ap}
-use Rattle.snap_topo.specs.declared.topology.TopoFault.TheVariants.{Twice}
+use Rattle.snap_topo.specs.Shape.{Twice}
 use Rattle.snap_topo.proofs.Repeats.{repeats-here, repeats-on}
 use Rattle.snap_topo.proofs.resolve.numbers_of.Goals as goal
 

@@ -1,7 +1,6 @@
-use Rattle.std.proofs.Common.{◌≡◌, ◌∙◌, decimal, Ok, arith, sym, ap, true, false, not, Bool}
+use Rattle.std.proofs.Common.{◌≡◌, ◌∙◌, decimal, Ok, arith, sym, ap, true, false, not, bytes_eq}
 use Rattle.std.proofs.lemmas.Fmt.{parse-decimal}
 use Rattle.std.proofs.lemmas.Slice.Eq.{bytes_eq-Decides}
-use Rattle.std.specs.Str.{bytes_eq}
 use Rattle.std.proofs.lemmas.Bool.{not-false}
 use Rattle.snap_words.proofs.Counts.{count_of-decimal, count_of-none}
 use Rattle.snap_words.proofs.count.count_of.Goals as goal

@@ -11,65 +11,49 @@ use Rattle.snap_names.proofs.scope.Scope.+predicates.Goals as goal
 pub both_is_predicate-returns-in-0 : goal.both_is_predicate-returns-in-0
 both_is_predicate-returns-in-0 t c = λ lets are.
     let e = env_in c.args.self.now lets in
-    let n : length c.args.tree.now.parts.items ≡ 0 = search rules in
-    sym (ap (both_is_predicate e) (both_tree-out c.args.tree.now) ∙ both_none e c.args.tree.now.at c.args.tree.now.parts.items n)
+    sym (ap (both_is_predicate e) (both_tree-out c.args.tree.now) ∙ both_none e c.args.tree.now.at c.args.tree.now.parts.items (search rules))
 
 pub both_is_predicate-returns-in-1 : goal.both_is_predicate-returns-in-1
 both_is_predicate-returns-in-1 t c = λ lets are.
     let e = env_in c.args.self.now lets in
-    let n : length c.args.tree.now.parts.items ≡ 1 = search rules in
-    let is : c.index.result.now ≡ get_or c.args.tree.now.parts.items 0 c.index.result.now = search rules in
-    c.is_predicate.ensures lets are ∙ sym (ap (both_is_predicate e) (both_tree-out c.args.tree.now) ∙ both_one e c.args.tree.now.at c.args.tree.now.parts.items c.index.result.now n is)
+    c.is_predicate.ensures lets are ∙ sym (ap (both_is_predicate e) (both_tree-out c.args.tree.now) ∙ both_one e c.args.tree.now.at c.args.tree.now.parts.items c.index.result.now (search rules) (search rules))
 
 pub both_is_predicate-returns-in_default : goal.both_is_predicate-returns-in_default
 both_is_predicate-returns-in_default t c = λ lets are.
     let e = env_in c.args.self.now lets in
-    let n : length c.args.tree.now.parts.items ≢ 0 = search rules in
-    let m : length c.args.tree.now.parts.items ≢ 1 = search rules in
-    sym (ap (both_is_predicate e) (both_tree-out c.args.tree.now) ∙ both_many e c.args.tree.now.at c.args.tree.now.parts.items n m)
+    sym (ap (both_is_predicate e) (both_tree-out c.args.tree.now) ∙ both_many e c.args.tree.now.at c.args.tree.now.parts.items (search rules) (search rules))
 
 pub either_is_predicate-returns-in-0 : goal.either_is_predicate-returns-in-0
 either_is_predicate-returns-in-0 t c = λ lets are.
     let e = env_in c.args.self.now lets in
-    let n : length (out-Either c.args.tree.now).parts.items ≡ 0 = search rules in
-    sym (ap (either_is_predicate e) (either_tree-out c.args.tree.now) ∙ either_none e (out-Either c.args.tree.now).at (out-Either c.args.tree.now).parts.items n)
+    sym (ap (either_is_predicate e) (either_tree-out c.args.tree.now) ∙ either_none e (out-Either c.args.tree.now).at (out-Either c.args.tree.now).parts.items (search rules))
 
 pub either_is_predicate-returns-in-1 : goal.either_is_predicate-returns-in-1
 either_is_predicate-returns-in-1 t c = λ lets are.
     let e = env_in c.args.self.now lets in
-    let n : length (out-Either c.args.tree.now).parts.items ≡ 1 = search rules in
-    let is : c.index.result.now ≡ get_or (out-Either c.args.tree.now).parts.items 0 c.index.result.now = search rules in
-    c.both_is_predicate.ensures lets are ∙ sym (ap (either_is_predicate e) (either_tree-out c.args.tree.now) ∙ either_one e (out-Either c.args.tree.now).at (out-Either c.args.tree.now).parts.items c.index.result.now n is)
+    c.both_is_predicate.ensures lets are ∙ sym (ap (either_is_predicate e) (either_tree-out c.args.tree.now) ∙ either_one e (out-Either c.args.tree.now).at (out-Either c.args.tree.now).parts.items c.index.result.now (search rules) (search rules))
 
 pub either_is_predicate-returns-in_default : goal.either_is_predicate-returns-in_default
 either_is_predicate-returns-in_default t c = λ lets are.
     let e = env_in c.args.self.now lets in
-    let n : length (out-Either c.args.tree.now).parts.items ≢ 0 = search rules in
-    let m : length (out-Either c.args.tree.now).parts.items ≢ 1 = search rules in
-    sym (ap (either_is_predicate e) (either_tree-out c.args.tree.now) ∙ either_many e (out-Either c.args.tree.now).at (out-Either c.args.tree.now).parts.items n m)
+    sym (ap (either_is_predicate e) (either_tree-out c.args.tree.now) ∙ either_many e (out-Either c.args.tree.now).at (out-Either c.args.tree.now).parts.items (search rules) (search rules))
 
 pub sequence_is_predicate-returns-then-len-eq1 : goal.sequence_is_predicate-returns-then-len-eq1
 sequence_is_predicate-returns-then-len-eq1 t c = λ lets are.
     let e = env_in c.args.self.now lets in
-    let n : length c.args.tree.now.parts.items ≡ 1 = search rules in
-    let is : c.index.result.now ≡ get_or c.args.tree.now.parts.items 0 c.index.result.now = search rules in
-    c.choice_is_predicate.ensures lets are ∙ sym (ap (sequence_is_predicate e) (sequence_tree-out c.args.tree.now) ∙ sequence_one e c.args.tree.now.at c.args.tree.now.parts.items c.index.result.now n is)
+    c.choice_is_predicate.ensures lets are ∙ sym (ap (sequence_is_predicate e) (sequence_tree-out c.args.tree.now) ∙ sequence_one e c.args.tree.now.at c.args.tree.now.parts.items c.index.result.now (search rules) (search rules))
 
 pub sequence_is_predicate-returns-else-len-eq1 : goal.sequence_is_predicate-returns-else-len-eq1
 sequence_is_predicate-returns-else-len-eq1 t c = λ lets are.
     let e = env_in c.args.self.now lets in
-    let m : length c.args.tree.now.parts.items ≢ 1 = search rules in
-    sym (ap (sequence_is_predicate e) (sequence_tree-out c.args.tree.now) ∙ sequence_other e c.args.tree.now.at c.args.tree.now.parts.items m)
+    sym (ap (sequence_is_predicate e) (sequence_tree-out c.args.tree.now) ∙ sequence_other e c.args.tree.now.at c.args.tree.now.parts.items (search rules))
 
 pub policy_is_predicate-returns-then-len-eq1 : goal.policy_is_predicate-returns-then-len-eq1
 policy_is_predicate-returns-then-len-eq1 t c = λ lets are.
     let e = env_in c.args.self.now lets in
-    let n : length (out-Policy c.args.tree.now).parts.items ≡ 1 = search rules in
-    let is : c.index.result.now ≡ get_or (out-Policy c.args.tree.now).parts.items 0 c.index.result.now = search rules in
-    c.sequence_is_predicate.ensures lets are ∙ sym (ap (policy_is_predicate e) (policy_tree-out c.args.tree.now) ∙ policy_one e (out-Policy c.args.tree.now).at (out-Policy c.args.tree.now).parts.items c.index.result.now n is)
+    c.sequence_is_predicate.ensures lets are ∙ sym (ap (policy_is_predicate e) (policy_tree-out c.args.tree.now) ∙ policy_one e (out-Policy c.args.tree.now).at (out-Policy c.args.tree.now).parts.items c.index.result.now (search rules) (search rules))
 
 pub policy_is_predicate-returns-else-len-eq1 : goal.policy_is_predicate-returns-else-len-eq1
 policy_is_predicate-returns-else-len-eq1 t c = λ lets are.
     let e = env_in c.args.self.now lets in
-    let m : length (out-Policy c.args.tree.now).parts.items ≢ 1 = search rules in
-    sym (ap (policy_is_predicate e) (policy_tree-out c.args.tree.now) ∙ policy_other e (out-Policy c.args.tree.now).at (out-Policy c.args.tree.now).parts.items m)
+    sym (ap (policy_is_predicate e) (policy_tree-out c.args.tree.now) ∙ policy_other e (out-Policy c.args.tree.now).at (out-Policy c.args.tree.now).parts.items (search rules))

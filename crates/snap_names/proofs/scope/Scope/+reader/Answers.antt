@@ -20,31 +20,25 @@ policy-loop-part-init t c = λ lets are. HaveRead-none c.args.tally.now
 pub policy-loop-part-preserved : goal.policy-loop-part-preserved
 policy-loop-part-preserved t c = λ lets are.
     let items = (out-Policy c.args.tree.now).parts.items in
-    let within : c.loop-part.part-index < length items = search rules in
-    let is : c.part-item.result ≡ get_or items c.loop-part.part-index c.part-item.result = search rules in
     policy-step (env_in c.args.self.now lets) (out-Policy c.args.tree.now).at items c.loop-part.part-index c.part-item.result c.args.tally.now c.loop-part.tally c.sequence.new.tally c.join_policies.new.tally
-    c.loop-part.parts c.in_ok-next.next c.in_ok-joined.joined within is (c.loop-part.invariant lets are) (c.in_ok-next.ensures lets are)
+    c.loop-part.parts c.in_ok-next.next c.in_ok-joined.joined (search rules) (search rules) (c.loop-part.invariant lets are) (c.in_ok-next.ensures lets are)
     c.in_ok-joined.ensures.arities c.in_ok-joined.ensures.nodes c.in_ok-joined.ensures.part
 
 pub policy-returns-in_err-next : goal.policy-returns-in_err-next
 policy-returns-in_err-next t c =
     let items = (out-Policy c.args.tree.now).parts.items in
-    let within : c.loop-part.part-index < length items = search rules in
-    let is : c.part-item.result ≡ get_or items c.loop-part.part-index c.part-item.result = search rules in
-    let given : c.from_residual.result ≡ Err c.in_err-next.field-0.0 = search rules in
-    Reads-err c.args.self.now (λ e arities. read_policy e (policy_tree c.args.tree.now) arities) c.args.tally.now c.sequence.new.tally c.from_residual.result c.in_err-next.field-0.0 given
+    Reads-err c.args.self.now (λ e arities. read_policy e (policy_tree c.args.tree.now) arities) c.args.tally.now c.sequence.new.tally c.from_residual.result c.in_err-next.field-0.0 (search rules)
     (λ ne lets are.
     let e = env_in c.args.self.now lets in
     ap (λ t. after (read_sequences e t c.args.tally.now.arities.items) whole) (policy_tree-out c.args.tree.now)
-    ∙ ap (λ r. after r whole) (policy-refused e (out-Policy c.args.tree.now).at items c.loop-part.part-index c.part-item.result c.args.tally.now c.loop-part.tally c.loop-part.parts _ within is
+    ∙ ap (λ r. after r whole) (policy-refused e (out-Policy c.args.tree.now).at items c.loop-part.part-index c.part-item.result c.args.tally.now c.loop-part.tally c.loop-part.parts _ (search rules) (search rules)
     (c.loop-part.invariant lets are) (c.in_err-next.ensures ne lets are)))
 
 pub policy-returns : goal.policy-returns
 policy-returns t c = λ lets are.
     let e = env_in c.args.self.now lets in
     let items = (out-Policy c.args.tree.now).parts.items in
-    let past : length items ≤ c.loop-part.part-index = search rules in
-    let same : policy_of (out-Policy c.args.tree.now).at (take c.loop-part.part-index items) ≡ policy_tree c.args.tree.now = ap (policy_of (out-Policy c.args.tree.now).at) (take_all c.loop-part.part-index items past) ∙ sym (policy_tree-out c.args.tree.now) in
+    let same : policy_of (out-Policy c.args.tree.now).at (take c.loop-part.part-index items) ≡ policy_tree c.args.tree.now = ap (policy_of (out-Policy c.args.tree.now).at) (take_all c.loop-part.part-index items (search rules)) ∙ sym (policy_tree-out c.args.tree.now) in
     subst (λ t. HasRead (after (read_sequences e t c.args.tally.now.arities.items) whole) c.args.tally.now c.whole.new.self c.whole.result) same
     (c.whole.ensures.policies _ c.args.tally.now (c.loop-part.invariant lets are))
 
@@ -54,31 +48,25 @@ sequence-loop-part-init t c = λ lets are. HaveRead-none c.args.tally.now
 pub sequence-loop-part-preserved : goal.sequence-loop-part-preserved
 sequence-loop-part-preserved t c = λ lets are.
     let items = c.args.tree.now.parts.items in
-    let within : c.loop-part.part-index < length items = search rules in
-    let is : c.part-item.result ≡ get_or items c.loop-part.part-index c.part-item.result = search rules in
     sequence-step (env_in c.args.self.now lets) c.args.tree.now.at items c.loop-part.part-index c.part-item.result c.args.tally.now c.loop-part.tally c.choice.new.tally c.join_policies.new.tally
-    c.loop-part.parts c.in_ok-next.next c.in_ok-joined.joined within is (c.loop-part.invariant lets are) (c.in_ok-next.ensures lets are)
+    c.loop-part.parts c.in_ok-next.next c.in_ok-joined.joined (search rules) (search rules) (c.loop-part.invariant lets are) (c.in_ok-next.ensures lets are)
     c.in_ok-joined.ensures.arities c.in_ok-joined.ensures.nodes c.in_ok-joined.ensures.part
 
 pub sequence-returns-in_err-next : goal.sequence-returns-in_err-next
 sequence-returns-in_err-next t c =
     let items = c.args.tree.now.parts.items in
-    let within : c.loop-part.part-index < length items = search rules in
-    let is : c.part-item.result ≡ get_or items c.loop-part.part-index c.part-item.result = search rules in
-    let given : c.from_residual.result ≡ Err c.in_err-next.field-0.0 = search rules in
-    Reads-err c.args.self.now (λ e arities. read_sequence e (sequence_tree c.args.tree.now) arities) c.args.tally.now c.choice.new.tally c.from_residual.result c.in_err-next.field-0.0 given
+    Reads-err c.args.self.now (λ e arities. read_sequence e (sequence_tree c.args.tree.now) arities) c.args.tally.now c.choice.new.tally c.from_residual.result c.in_err-next.field-0.0 (search rules)
     (λ ne lets are.
     let e = env_in c.args.self.now lets in
     ap (λ t. after (read_choices e t c.args.tally.now.arities.items) whole) (sequence_tree-out c.args.tree.now)
-    ∙ ap (λ r. after r whole) (sequence-refused e c.args.tree.now.at items c.loop-part.part-index c.part-item.result c.args.tally.now c.loop-part.tally c.loop-part.parts _ within is
+    ∙ ap (λ r. after r whole) (sequence-refused e c.args.tree.now.at items c.loop-part.part-index c.part-item.result c.args.tally.now c.loop-part.tally c.loop-part.parts _ (search rules) (search rules)
     (c.loop-part.invariant lets are) (c.in_err-next.ensures ne lets are)))
 
 pub sequence-returns : goal.sequence-returns
 sequence-returns t c = λ lets are.
     let e = env_in c.args.self.now lets in
     let items = c.args.tree.now.parts.items in
-    let past : length items ≤ c.loop-part.part-index = search rules in
-    let same : sequence_of c.args.tree.now.at (take c.loop-part.part-index items) ≡ sequence_tree c.args.tree.now = ap (sequence_of c.args.tree.now.at) (take_all c.loop-part.part-index items past) ∙ sym (sequence_tree-out c.args.tree.now) in
+    let same : sequence_of c.args.tree.now.at (take c.loop-part.part-index items) ≡ sequence_tree c.args.tree.now = ap (sequence_of c.args.tree.now.at) (take_all c.loop-part.part-index items (search rules)) ∙ sym (sequence_tree-out c.args.tree.now) in
     subst (λ t. HasRead (after (read_choices e t c.args.tally.now.arities.items) whole) c.args.tally.now c.whole.new.self c.whole.result) same
     (c.whole.ensures.policies _ c.args.tally.now (c.loop-part.invariant lets are))
 
@@ -88,35 +76,27 @@ either-loop-part-init t c = λ lets are. HaveReadTests-none c.args.tally.now
 pub either-loop-part-preserved : goal.either-loop-part-preserved
 either-loop-part-preserved t c = λ lets are.
     let items = (out-Either c.args.tree.now).parts.items in
-    let within : c.loop-part.part-index < length items = search rules in
-    let is : c.part-item.result ≡ get_or items c.loop-part.part-index c.part-item.result = search rules in
     either-step (env_in c.args.self.now lets) (out-Either c.args.tree.now).at items c.loop-part.part-index c.part-item.result c.args.tally.now c.loop-part.tally c.both_operand.new.tally c.join_tests.new.tally
-    c.loop-part.parts c.in_ok-next.next c.in_ok-joined.joined within is (c.loop-part.invariant lets are) (c.in_ok-next.ensures lets are)
+    c.loop-part.parts c.in_ok-next.next c.in_ok-joined.joined (search rules) (search rules) (c.loop-part.invariant lets are) (c.in_ok-next.ensures lets are)
     c.in_ok-joined.ensures.arities c.in_ok-joined.ensures.nodes c.in_ok-joined.ensures.part
 
 pub either-returns-in_err-next : goal.either-returns-in_err-next
 either-returns-in_err-next t c =
     let items = (out-Either c.args.tree.now).parts.items in
-    let within : c.loop-part.part-index < length items = search rules in
-    let is : c.part-item.result ≡ get_or items c.loop-part.part-index c.part-item.result = search rules in
-    let given : c.from_residual.result ≡ Err c.in_err-next.field-0.0 = search rules in
-    let many : length items ≢ 1 = search rules in
-    Reads-err c.args.self.now (λ e arities. read_either e (either_tree c.args.tree.now) arities) c.args.tally.now c.both_operand.new.tally c.from_residual.result c.in_err-next.field-0.0 given
+    Reads-err c.args.self.now (λ e arities. read_either e (either_tree c.args.tree.now) arities) c.args.tally.now c.both_operand.new.tally c.from_residual.result c.in_err-next.field-0.0 (search rules)
     (λ ne lets are.
     let e = env_in c.args.self.now lets in
-    ap (λ t. read_either e t c.args.tally.now.arities.items) (either_tree-out c.args.tree.now) ∙ read_either-other e (out-Either c.args.tree.now).at items c.args.tally.now.arities.items many
-    ∙ ap (λ r. after r whole_test) (either-refused e (out-Either c.args.tree.now).at items c.loop-part.part-index c.part-item.result c.args.tally.now c.loop-part.tally c.loop-part.parts _ within is
+    ap (λ t. read_either e t c.args.tally.now.arities.items) (either_tree-out c.args.tree.now) ∙ read_either-other e (out-Either c.args.tree.now).at items c.args.tally.now.arities.items (search rules)
+    ∙ ap (λ r. after r whole_test) (either-refused e (out-Either c.args.tree.now).at items c.loop-part.part-index c.part-item.result c.args.tally.now c.loop-part.tally c.loop-part.parts _ (search rules) (search rules)
     (c.loop-part.invariant lets are) (c.in_err-next.ensures ne lets are)))
 
 pub either-returns : goal.either-returns
 either-returns t c = λ lets are.
     let e = env_in c.args.self.now lets in
     let items = (out-Either c.args.tree.now).parts.items in
-    let past : length items ≤ c.loop-part.part-index = search rules in
-    let many : length items ≢ 1 = search rules in
     let same : after (read_boths e (either_of (out-Either c.args.tree.now).at (take c.loop-part.part-index items)) c.args.tally.now.arities.items) whole_test ≡ read_either e (either_tree c.args.tree.now) c.args.tally.now.arities.items =
-    ap (λ xs. after (read_boths e (either_of (out-Either c.args.tree.now).at xs) c.args.tally.now.arities.items) whole_test) (take_all c.loop-part.part-index items past)
-    ∙ sym (ap (λ t. read_either e t c.args.tally.now.arities.items) (either_tree-out c.args.tree.now) ∙ read_either-other e (out-Either c.args.tree.now).at items c.args.tally.now.arities.items many) in
+    ap (λ xs. after (read_boths e (either_of (out-Either c.args.tree.now).at xs) c.args.tally.now.arities.items) whole_test) (take_all c.loop-part.part-index items (search rules))
+    ∙ sym (ap (λ t. read_either e t c.args.tally.now.arities.items) (either_tree-out c.args.tree.now) ∙ read_either-other e (out-Either c.args.tree.now).at items c.args.tally.now.arities.items (search rules)) in
     subst (λ r. HasRead r c.args.tally.now c.whole.new.self c.whole.result) same
     (c.whole.ensures.tests _ c.args.tally.now (c.loop-part.invariant lets are))
 
@@ -126,75 +106,61 @@ both-loop-part-init t c = λ lets are. HaveReadTests-none c.args.tally.now
 pub both-loop-part-preserved : goal.both-loop-part-preserved
 both-loop-part-preserved t c = λ lets are.
     let items = c.args.tree.now.parts.items in
-    let within : c.loop-part.part-index < length items = search rules in
-    let is : c.part-item.result ≡ get_or items c.loop-part.part-index c.part-item.result = search rules in
     both-step (env_in c.args.self.now lets) c.args.tree.now.at items c.loop-part.part-index c.part-item.result c.args.tally.now c.loop-part.tally c.single_operand.new.tally c.join_tests.new.tally
-    c.loop-part.parts c.in_ok-next.next c.in_ok-joined.joined within is (c.loop-part.invariant lets are) (c.in_ok-next.ensures lets are)
+    c.loop-part.parts c.in_ok-next.next c.in_ok-joined.joined (search rules) (search rules) (c.loop-part.invariant lets are) (c.in_ok-next.ensures lets are)
     c.in_ok-joined.ensures.arities c.in_ok-joined.ensures.nodes c.in_ok-joined.ensures.part
 
 pub both-returns-in_err-next : goal.both-returns-in_err-next
 both-returns-in_err-next t c =
     let items = c.args.tree.now.parts.items in
-    let within : c.loop-part.part-index < length items = search rules in
-    let is : c.part-item.result ≡ get_or items c.loop-part.part-index c.part-item.result = search rules in
-    let given : c.from_residual.result ≡ Err c.in_err-next.field-0.0 = search rules in
-    let many : length items ≢ 1 = search rules in
-    Reads-err c.args.self.now (λ e arities. read_both e (both_tree c.args.tree.now) arities) c.args.tally.now c.single_operand.new.tally c.from_residual.result c.in_err-next.field-0.0 given
+    Reads-err c.args.self.now (λ e arities. read_both e (both_tree c.args.tree.now) arities) c.args.tally.now c.single_operand.new.tally c.from_residual.result c.in_err-next.field-0.0 (search rules)
     (λ ne lets are.
     let e = env_in c.args.self.now lets in
-    ap (λ t. read_both e t c.args.tally.now.arities.items) (both_tree-out c.args.tree.now) ∙ read_both-other e c.args.tree.now.at items c.args.tally.now.arities.items many
-    ∙ ap (λ r. after r whole_test) (both-refused e c.args.tree.now.at items c.loop-part.part-index c.part-item.result c.args.tally.now c.loop-part.tally c.loop-part.parts _ within is
+    ap (λ t. read_both e t c.args.tally.now.arities.items) (both_tree-out c.args.tree.now) ∙ read_both-other e c.args.tree.now.at items c.args.tally.now.arities.items (search rules)
+    ∙ ap (λ r. after r whole_test) (both-refused e c.args.tree.now.at items c.loop-part.part-index c.part-item.result c.args.tally.now c.loop-part.tally c.loop-part.parts _ (search rules) (search rules)
     (c.loop-part.invariant lets are) (c.in_err-next.ensures ne lets are)))
 
 pub both-returns : goal.both-returns
 both-returns t c = λ lets are.
     let e = env_in c.args.self.now lets in
     let items = c.args.tree.now.parts.items in
-    let past : length items ≤ c.loop-part.part-index = search rules in
-    let many : length items ≢ 1 = search rules in
     let same : after (read_singles e (both_of c.args.tree.now.at (take c.loop-part.part-index items)) c.args.tally.now.arities.items) whole_test ≡ read_both e (both_tree c.args.tree.now) c.args.tally.now.arities.items =
-    ap (λ xs. after (read_singles e (both_of c.args.tree.now.at xs) c.args.tally.now.arities.items) whole_test) (take_all c.loop-part.part-index items past)
-    ∙ sym (ap (λ t. read_both e t c.args.tally.now.arities.items) (both_tree-out c.args.tree.now) ∙ read_both-other e c.args.tree.now.at items c.args.tally.now.arities.items many) in
+    ap (λ xs. after (read_singles e (both_of c.args.tree.now.at xs) c.args.tally.now.arities.items) whole_test) (take_all c.loop-part.part-index items (search rules))
+    ∙ sym (ap (λ t. read_both e t c.args.tally.now.arities.items) (both_tree-out c.args.tree.now) ∙ read_both-other e c.args.tree.now.at items c.args.tally.now.arities.items (search rules)) in
     subst (λ r. HasRead r c.args.tally.now c.whole.new.self c.whole.result) same
     (c.whole.ensures.tests _ c.args.tally.now (c.loop-part.invariant lets are))
 
 pub either-returns-then-len-eq1 : goal.either-returns-then-len-eq1
 either-returns-then-len-eq1 t c =
     let items = (out-Either c.args.tree.now).parts.items in
-    let n : length items ≡ 1 = search rules in
-    let is : c.index.result.now ≡ get_or items 0 c.index.result.now = search rules in
     Reads-same c.args.self.now (λ e arities. read_both e (both_tree c.index.result.now) arities) (λ e arities. read_either e (either_tree c.args.tree.now) arities) c.args.tally.now c.both.new.tally c.both.result
-    (λ e arities. sym (ap (λ t. read_either e t arities) (either_tree-out c.args.tree.now) ∙ read_either-one e (out-Either c.args.tree.now).at items c.index.result.now arities n is)) c.both.ensures
+    (λ e arities. sym (ap (λ t. read_either e t arities) (either_tree-out c.args.tree.now) ∙ read_either-one e (out-Either c.args.tree.now).at items c.index.result.now arities (search rules) (search rules))) c.both.ensures
 
 pub both-returns-then-len-eq1 : goal.both-returns-then-len-eq1
 both-returns-then-len-eq1 t c =
     let items = c.args.tree.now.parts.items in
-    let n : length items ≡ 1 = search rules in
-    let is : c.index.result.now ≡ get_or items 0 c.index.result.now = search rules in
     Reads-same c.args.self.now (λ e arities. read_single e (single_tree c.index.result.now) arities) (λ e arities. read_both e (both_tree c.args.tree.now) arities) c.args.tally.now c.single.new.tally c.single.result
-    (λ e arities. sym (ap (λ t. read_both e t arities) (both_tree-out c.args.tree.now) ∙ read_both-one e c.args.tree.now.at items c.index.result.now arities n is)) c.single.ensures
+    (λ e arities. sym (ap (λ t. read_both e t arities) (both_tree-out c.args.tree.now) ∙ read_both-one e c.args.tree.now.at items c.index.result.now arities (search rules) (search rules))) c.single.ensures
 
 pub choice-returns-in_err-test-in-If : goal.choice-returns-in_err-test-in-If
 choice-returns-in_err-test-in-If t c =
-    let given : c.from_residual.result ≡ Err c.in_err-test-in-If.field-0.0 = search rules in
     let tree = if_tree c.in-If.at (either_tree c.in-If.test) (policy_tree c.in-If.yes.value) (choice_tree c.in-If.no.value) in
     let same : choice_tree c.args.tree.now ≡ tree =
     ap choice_tree c.in-If.is ∙ choice_tree-If c.in-If.at c.in-If.test c.in-If.yes c.in-If.no in
     Reads-choice c.args.self.now c.args.tally.now c.either_operand.new.tally _ (choice_tree c.args.tree.now) tree same
-    (Reads-err c.args.self.now (λ e arities. read_choice e tree arities) c.args.tally.now c.either_operand.new.tally _ c.in_err-test-in-If.field-0.0 given
+    (Reads-err c.args.self.now (λ e arities. read_choice e tree arities) c.args.tally.now c.either_operand.new.tally c.from_residual.result c.in_err-test-in-If.field-0.0 (search rules)
     (λ ne lets are.
     let e = env_in c.args.self.now lets in
     after-refused (read_test e c.in-If.test c.args.tally.now.arities.items) _ _ (c.in_err-test-in-If.ensures ne lets are)))
 
 pub choice-returns-in_err-yes-in-If : goal.choice-returns-in_err-yes-in-If
 choice-returns-in_err-yes-in-If t c =
-    let given : c.from_residual-in_err-yes-in-If.result ≡ Err c.in_err-yes-in-If.field-0.0 = search rules in
     let tree = if_tree c.in-If.at (either_tree c.in-If.test) (policy_tree c.deref.result.now) (choice_tree c.in-If.no.value) in
     let same : choice_tree c.args.tree.now ≡ tree =
     ap choice_tree c.in-If.is ∙ choice_tree-If c.in-If.at c.in-If.test c.in-If.yes c.in-If.no
     ∙ ap (λ p. if_tree c.in-If.at (either_tree c.in-If.test) (policy_tree p) (choice_tree c.in-If.no.value)) (sym c.deref.ensures) in
     Reads-choice c.args.self.now c.args.tally.now c.policy.new.tally _ (choice_tree c.args.tree.now) tree same
-    (Reads-err c.args.self.now (λ e arities. read_choice e tree arities) c.args.tally.now c.policy.new.tally _ c.in_err-yes-in-If.field-0.0 given
+    (Reads-err c.args.self.now (λ e arities. read_choice e tree arities) c.args.tally.now c.policy.new.tally c.from_residual-in_err-yes-in-If.result c.in_err-yes-in-If.field-0.0 (search rules)
     (λ ne lets are.
     let e = env_in c.args.self.now lets in
     choice-met_refused (read_test e c.in-If.test c.args.tally.now.arities.items) (read_policy e (policy_tree c.deref.result.now)) (read_choice e (choice_tree c.in-If.no.value))
@@ -202,14 +168,13 @@ choice-returns-in_err-yes-in-If t c =
 
 pub choice-returns-in_err-no-in-If : goal.choice-returns-in_err-no-in-If
 choice-returns-in_err-no-in-If t c =
-    let given : c.from_residual-in_err-no-in-If.result ≡ Err c.in_err-no-in-If.field-0.0 = search rules in
     let tree = if_tree c.in-If.at (either_tree c.in-If.test) (policy_tree c.deref.result.now) (choice_tree c.deref-in-If.result.now) in
     let same : choice_tree c.args.tree.now ≡ tree =
     ap choice_tree c.in-If.is ∙ choice_tree-If c.in-If.at c.in-If.test c.in-If.yes c.in-If.no
     ∙ ap (λ p. if_tree c.in-If.at (either_tree c.in-If.test) (policy_tree p) (choice_tree c.in-If.no.value)) (sym c.deref.ensures)
     ∙ ap (λ q. if_tree c.in-If.at (either_tree c.in-If.test) (policy_tree c.deref.result.now) (choice_tree q)) (sym c.deref-in-If.ensures) in
     Reads-choice c.args.self.now c.args.tally.now c.choice.new.tally _ (choice_tree c.args.tree.now) tree same
-    (Reads-err c.args.self.now (λ e arities. read_choice e tree arities) c.args.tally.now c.choice.new.tally _ c.in_err-no-in-If.field-0.0 given
+    (Reads-err c.args.self.now (λ e arities. read_choice e tree arities) c.args.tally.now c.choice.new.tally c.from_residual-in_err-no-in-If.result c.in_err-no-in-If.field-0.0 (search rules)
     (λ ne lets are.
     let e = env_in c.args.self.now lets in
     choice-unmet_refused (read_test e c.in-If.test c.args.tally.now.arities.items) (read_policy e (policy_tree c.deref.result.now)) (read_choice e (choice_tree c.deref-in-If.result.now))
@@ -314,23 +279,21 @@ single-returns-in-Drop t c =
 
 pub single-returns-in_err-part-in-Not : goal.single-returns-in_err-part-in-Not
 single-returns-in_err-part-in-Not t c =
-    let given : c.from_residual.result ≡ Err c.in_err-part-in-Not.field-0.0 = search rules in
     let tree = not_tree c.in-Not.at (single_tree c.deref.result.now) in
     let same : single_tree c.args.tree.now ≡ tree = ap single_tree c.in-Not.is ∙ single_tree-Not c.in-Not.at c.in-Not.part ∙ ap (λ s. not_tree c.in-Not.at (single_tree s)) (sym c.deref.ensures) in
     Reads-single c.args.self.now c.args.tally.now c.single_operand.new.tally _ (single_tree c.args.tree.now) tree same
-    (Reads-err c.args.self.now (λ e arities. read_single e tree arities) c.args.tally.now c.single_operand.new.tally _ c.in_err-part-in-Not.field-0.0 given
+    (Reads-err c.args.self.now (λ e arities. read_single e tree arities) c.args.tally.now c.single_operand.new.tally c.from_residual.result c.in_err-part-in-Not.field-0.0 (search rules)
     (λ ne lets are.
     let e = env_in c.args.self.now lets in
     after-refused (both_operand e c.deref.result.now c.args.tally.now.arities.items) _ _ (c.in_err-part-in-Not.ensures ne lets are)))
 
 pub single-returns-in_err-body-in-Atomic : goal.single-returns-in_err-body-in-Atomic
 single-returns-in_err-body-in-Atomic t c =
-    let given : c.from_residual-in_err-body-in-Atomic.result ≡ Err c.in_err-body-in-Atomic.field-0.0 = search rules in
     let tree = atomic_tree c.in-Atomic.at (policy_tree c.deref-in-Atomic.result.now) in
     let same : single_tree c.args.tree.now ≡ tree =
     ap single_tree c.in-Atomic.is ∙ single_tree-Atomic c.in-Atomic.at c.in-Atomic.body ∙ ap (λ p. atomic_tree c.in-Atomic.at (policy_tree p)) (sym c.deref-in-Atomic.ensures) in
     Reads-single c.args.self.now c.args.tally.now c.policy-in-Atomic.new.tally _ (single_tree c.args.tree.now) tree same
-    (Reads-err c.args.self.now (λ e arities. read_single e tree arities) c.args.tally.now c.policy-in-Atomic.new.tally _ c.in_err-body-in-Atomic.field-0.0 given
+    (Reads-err c.args.self.now (λ e arities. read_single e tree arities) c.args.tally.now c.policy-in-Atomic.new.tally c.from_residual-in_err-body-in-Atomic.result c.in_err-body-in-Atomic.field-0.0 (search rules)
     (λ ne lets are.
     let e = env_in c.args.self.now lets in
     after-refused (read_policy e (policy_tree c.deref-in-Atomic.result.now) c.args.tally.now.arities.items) _ _ (c.in_err-body-in-Atomic.ensures ne lets are)))
@@ -360,46 +323,40 @@ pub single_operand-returns-then-part : goal.single_operand-returns-then-part
 single_operand-returns-then-part t c = λ lets are.
     let e = env_in c.args.self.now lets in
     let tree = single_tree c.args.tree.now in
-    let met : c.is_predicate-is_predicate.result ≡ true = search rules in
     operand_read (is_predicate e tree) c.is_predicate-is_predicate.result (single_fault e.words tree) (read_single e tree c.args.tally.now.arities.items) c.args.tally.now c.single.new.tally c.in_ok-part.part
-    (c.is_predicate-is_predicate.ensures lets are) met (c.in_ok-part.ensures lets are) c.if-part.true
+    (c.is_predicate-is_predicate.ensures lets are) (search rules) (c.in_ok-part.ensures lets are) c.if-part.true
 
 pub single_operand-returns-else-part : goal.single_operand-returns-else-part
 single_operand-returns-else-part t c = λ ne lets are.
     let e = env_in c.args.self.now lets in
     let tree = single_tree c.args.tree.now in
-    let met : c.is_predicate-is_predicate.result ≡ true = search rules in
     operand_no_test (is_predicate e tree) c.is_predicate-is_predicate.result (single_fault e.words tree) c.single_fault-fault.result (read_single e tree c.args.tally.now.arities.items) c.args.tally.now c.single.new.tally c.in_ok-part.part
-    (c.is_predicate-is_predicate.ensures lets are) met c.single_fault-fault.ensures (c.in_ok-part.ensures lets are) c.if-part.false
+    (c.is_predicate-is_predicate.ensures lets are) (search rules) c.single_fault-fault.ensures (c.in_ok-part.ensures lets are) c.if-part.false
 
 pub both_operand-returns-then-part : goal.both_operand-returns-then-part
 both_operand-returns-then-part t c = λ lets are.
     let e = env_in c.args.self.now lets in
     let tree = both_tree c.args.tree.now in
-    let met : c.both_is_predicate-is_predicate.result ≡ true = search rules in
     operand_read (both_is_predicate e tree) c.both_is_predicate-is_predicate.result (both_fault e.words tree) (read_both e tree c.args.tally.now.arities.items) c.args.tally.now c.both.new.tally c.in_ok-part.part
-    (c.both_is_predicate-is_predicate.ensures lets are) met (c.in_ok-part.ensures lets are) c.if-part.true
+    (c.both_is_predicate-is_predicate.ensures lets are) (search rules) (c.in_ok-part.ensures lets are) c.if-part.true
 
 pub both_operand-returns-else-part : goal.both_operand-returns-else-part
 both_operand-returns-else-part t c = λ ne lets are.
     let e = env_in c.args.self.now lets in
     let tree = both_tree c.args.tree.now in
-    let met : c.both_is_predicate-is_predicate.result ≡ true = search rules in
     operand_no_test (both_is_predicate e tree) c.both_is_predicate-is_predicate.result (both_fault e.words tree) c.both_fault-fault.result (read_both e tree c.args.tally.now.arities.items) c.args.tally.now c.both.new.tally c.in_ok-part.part
-    (c.both_is_predicate-is_predicate.ensures lets are) met c.both_fault-fault.ensures (c.in_ok-part.ensures lets are) c.if-part.false
+    (c.both_is_predicate-is_predicate.ensures lets are) (search rules) c.both_fault-fault.ensures (c.in_ok-part.ensures lets are) c.if-part.false
 
 pub either_operand-returns-then-part : goal.either_operand-returns-then-part
 either_operand-returns-then-part t c = λ lets are.
     let e = env_in c.args.self.now lets in
     let tree = either_tree c.args.tree.now in
-    let met : c.either_is_predicate-is_predicate.result ≡ true = search rules in
     operand_read (either_is_predicate e tree) c.either_is_predicate-is_predicate.result (either_fault e.words tree) (read_either e tree c.args.tally.now.arities.items) c.args.tally.now c.either.new.tally c.in_ok-part.part
-    (c.either_is_predicate-is_predicate.ensures lets are) met (c.in_ok-part.ensures lets are) c.if-part.true
+    (c.either_is_predicate-is_predicate.ensures lets are) (search rules) (c.in_ok-part.ensures lets are) c.if-part.true
 
 pub either_operand-returns-else-part : goal.either_operand-returns-else-part
 either_operand-returns-else-part t c = λ ne lets are.
     let e = env_in c.args.self.now lets in
     let tree = either_tree c.args.tree.now in
-    let met : c.either_is_predicate-is_predicate.result ≡ true = search rules in
     operand_no_test (either_is_predicate e tree) c.either_is_predicate-is_predicate.result (either_fault e.words tree) c.either_fault-fault.result (read_either e tree c.args.tally.now.arities.items) c.args.tally.now c.either.new.tally c.in_ok-part.part
-    (c.either_is_predicate-is_predicate.ensures lets are) met c.either_fault-fault.ensures (c.in_ok-part.ensures lets are) c.if-part.false
+    (c.either_is_predicate-is_predicate.ensures lets are) (search rules) c.either_fault-fault.ensures (c.in_ok-part.ensures lets are) c.if-part.false

@@ -8,12 +8,9 @@ use Rattle.snap_names.proofs.scope.Scope.both_fault.Goals as goal
 pub returns-then-len-eq1 : goal.returns-then-len-eq1
 returns-then-len-eq1 c =
     let w = words_of c.args.self.now in
-    let n : length c.args.tree.now.parts.items ≡ 1 = search rules in
-    let is : c.index.result.now ≡ get_or c.args.tree.now.parts.items 0 c.index.result.now = search rules in
-    c.single_fault.ensures ∙ sym (ap (both_fault w) (both_tree-out c.args.tree.now) ∙ both_fault_one w c.args.tree.now.at c.args.tree.now.parts.items c.index.result.now n is)
+    c.single_fault.ensures ∙ sym (ap (both_fault w) (both_tree-out c.args.tree.now) ∙ both_fault_one w c.args.tree.now.at c.args.tree.now.parts.items c.index.result.now (search rules) (search rules))
 
 pub returns-else-len-eq1 : goal.returns-else-len-eq1
 returns-else-len-eq1 c =
     let w = words_of c.args.self.now in
-    let m : length c.args.tree.now.parts.items ≢ 1 = search rules in
-    sym (ap (both_fault w) (both_tree-out c.args.tree.now) ∙ both_fault_other w c.args.tree.now.at c.args.tree.now.parts.items m)
+    sym (ap (both_fault w) (both_tree-out c.args.tree.now) ∙ both_fault_other w c.args.tree.now.at c.args.tree.now.parts.items (search rules))

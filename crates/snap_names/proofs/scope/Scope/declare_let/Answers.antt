@@ -1,7 +1,5 @@
 use Rattle.std.proofs.Common.{rules, ◌≡◌, Ok, false, [], ◌∷◌, ◌++◌, length, refl, subst}
-use Rattle.snap_names.specs.declared.scope.Sense.TheVariants.{Policy}
-use Rattle.snap_names.specs.declared.fault.NameFault.TheVariants.{Twice}
-use Rattle.snap_names.specs.Senses.{word}
+use Rattle.snap_names.specs.Senses.{Policy, Twice, word}
 use Rattle.snap_names.specs.Declarations.{with_let}
 use Rattle.snap_names.specs.Spells.{is_known}
 use Rattle.snap_names.specs.Parts.{names_in}

@@ -9,12 +9,9 @@ use Rattle.snap_names.proofs.scope.Scope.either_fault.Goals as goal
 pub returns-then-len-eq1 : goal.returns-then-len-eq1
 returns-then-len-eq1 c =
     let w = words_of c.args.self.now in
-    let n : length (out-Either c.args.tree.now).parts.items ≡ 1 = search rules in
-    let is : c.index.result.now ≡ get_or (out-Either c.args.tree.now).parts.items 0 c.index.result.now = search rules in
-    c.both_fault.ensures ∙ sym (ap (either_fault w) (either_tree-out c.args.tree.now) ∙ either_fault_one w (out-Either c.args.tree.now).at (out-Either c.args.tree.now).parts.items c.index.result.now n is)
+    c.both_fault.ensures ∙ sym (ap (either_fault w) (either_tree-out c.args.tree.now) ∙ either_fault_one w (out-Either c.args.tree.now).at (out-Either c.args.tree.now).parts.items c.index.result.now (search rules) (search rules))
 
 pub returns-else-len-eq1 : goal.returns-else-len-eq1
 returns-else-len-eq1 c =
     let w = words_of c.args.self.now in
-    let m : length (out-Either c.args.tree.now).parts.items ≢ 1 = search rules in
-    sym (ap (either_fault w) (either_tree-out c.args.tree.now) ∙ either_fault_other w (out-Either c.args.tree.now).at (out-Either c.args.tree.now).parts.items m)
+    sym (ap (either_fault w) (either_tree-out c.args.tree.now) ∙ either_fault_other w (out-Either c.args.tree.now).at (out-Either c.args.tree.now).parts.items (search rules))

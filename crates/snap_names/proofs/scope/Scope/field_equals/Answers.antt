@@ -1,9 +1,7 @@
-use Rattle.std.proofs.Common.{◌≡◌, ◌∙◌, sym, ap, Ok, subst}
-use Rattle.std.specs.Prelude.{IfOk}
-use Rattle.snap_names.specs.declared.scope.Sense.TheVariants.{Split}
+use Rattle.std.proofs.Common.{◌≡◌, ◌∙◌, sym, ap, Ok, subst, IfOk}
+use Rattle.snap_names.specs.Senses.{Split, after, sense_of, field_equals, split_test, test_of_sense}
 use Rattle.snap_names.specs.Core.{core_test}
 use Rattle.snap_names.specs.Parts.{words_of, Refuses}
-use Rattle.snap_names.specs.Senses.{after, sense_of, field_equals, split_test, test_of_sense}
 use Rattle.snap_names.proofs.scope.Scope.field_equals.Goals as goal
 
 pub returns-in-Split-clause-ok : goal.returns-in-Split-clause-ok

@@ -1,8 +1,7 @@
 use Rattle.std.proofs.Common.{◌≡◌, ◌∙◌, sym, ap, Ok, Some, None, slice_get}
 use Rattle.std.proofs.lemmas.Option.{slice_get-get_or, slice_get_past}
-use Rattle.snap_names.specs.declared.scope.Sense.TheVariants.{Policy}
+use Rattle.snap_names.specs.Senses.{Policy, after, sense_of}
 use Rattle.snap_names.specs.Parts.{words_of}
-use Rattle.snap_names.specs.Senses.{after, sense_of}
 use Rattle.snap_names.proofs.Named.{Reads-named, named-none}
 use Rattle.snap_names.proofs.scope.Scope.named.Goals as goal
 

@@ -1,6 +1,5 @@
 use Rattle.std.proofs.Common.{◌≡◌, [], refl, ap, sym}
-use Rattle.snap_names.specs.declared.scope.Scope.{Scope}
-use Rattle.snap_names.specs.Parts.{names_in, no_bodies}
+use Rattle.snap_names.specs.Parts.{Scope, names_in, no_bodies}
 use Rattle.snap_names.proofs.Declaring.{ports_declared, declared_in-is}
 use Rattle.snap_names.proofs.scope.Scope.ports.Goals as goal
 

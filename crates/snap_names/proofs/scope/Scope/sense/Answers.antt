@@ -1,8 +1,6 @@
-use Rattle.std.proofs.Common.{ap, sym, ◌∙◌}
+use Rattle.std.proofs.Common.{ap, sym, ◌∙◌, bytes_eq}
 use Rattle.std.specs.Map.{lookup}
-use Rattle.std.specs.Str.{bytes_eq}
-use Rattle.snap_names.specs.declared.fault.NameFault.TheVariants.{Unknown}
-use Rattle.snap_names.specs.Senses.{word, or_fault}
+use Rattle.snap_names.specs.Senses.{Unknown, word, or_fault}
 use Rattle.snap_names.proofs.Lookups.{lookup-names_in}
 use Rattle.snap_names.proofs.scope.Scope.sense.Goals as goal
 

@@ -1,6 +1,6 @@
 use Rattle.std.proofs.Common.{◌≡◌, ◌≤◌, [], length}
 use Rattle.snap_parse.specs.declared.cursor.TheConstants.{MAX_DEPTH}
-use Rattle.snap_parse.specs.declared.tree.Span.{Span}
+use Rattle.snap_parse.specs.Tree.{Span}
 use Rattle.snap_parse.specs.Machine.{AfterSingle, single_depth, at_value, close_place, run}
 use Rattle.snap_parse.proofs.cursor.Parser.places.Given as goal
 

@@ -1,9 +1,8 @@
 use Rattle.std.proofs.Common.{◌∙◌, ap, refl, sym, map, Err}
 use Rattle.std.proofs.lemmas.List.{map_push}
 use Rattle.snap_parse.specs.declared.cursor.TheConstants.{MAX_DEPTH}
-use Rattle.snap_parse.specs.declared.fault.ParseFault.TheVariants.{Unexpected}
+use Rattle.snap_parse.specs.Machine.{Unexpected, at_decl, the_end, run}
 use Rattle.snap_parse.specs.Tree.{decl_tree, policy_tree}
-use Rattle.snap_parse.specs.Machine.{at_decl, the_end, run}
 use Rattle.snap_parse.proofs.Told.{is_empty_tells, not_empty_tells}
 use Rattle.snap_parse.proofs.Parts.{some_decl, none_decl, ends, goes_past}
 use Rattle.snap_parse.proofs.cursor.Parser.program.Goals as goal
