@@ -1,5 +1,7 @@
 -- What `clap` makes of one word, where it stands between two words.
-use Rattle.std.proofs.Common.{◌≡◌, refl, Bool, true, false, cond, List, [], ◌∷◌, codes, ℕ, Option, Some, None, slice_get, bytes_eq, chars, encode_utf8}
+use Rattle.std.proofs.Common.{◌≡◌, refl, Bool, true, false, cond, List, [], ◌∷◌, codes, ℕ, Option, Some, None, slice_get}
+use Rattle.std.specs.Str.{bytes_eq, chars}
+use Rattle.std.specs.Char.{encode_utf8}
 use Rattle.std.proofs.Math.Bool.{and-false}
 use Rattle.clap.specs.Words.{Row, Rule, Shape, Text, built}
 use Rattle.clap.specs.Lexer.{long_of, short_of}
