@@ -31,9 +31,25 @@ use snap_fdd::pruning::{Part, part_of};
 use snap_join::joining::join;
 use std::alloc::Global;
 
-// A diagram behind each out and the updates, side by side, from a leaf that does nothing. Halves are joined with halves,
-// so each out's packets are copied once for each halving, and calls are no deeper than that. Where leaves log all that
-// they update, nothing is lost beside the leaf that does nothing.
+// The leaf that does nothing.
+fn idle(nodes: &mut Nodes<Leaf>, groups: &Groups, ctx: &Context) -> Result<u64, NoMemory>
+    ensures grew { Grew nodes.old nodes.new }
+    ensures diagram { IfOk result (IsArgument groups.now ctx.now nodes.new) }
+    ensures bare { IfOk result (λ d. diagram nodes.new d ≡ Only bare_leaf) }
+{
+    let alloc = nodes.allocator();
+    let nothing = Leaf::Go(Go {
+        outs: Outs::new(Vec::new(alloc)),
+        ups: Updates::new(Vec::new(alloc)),
+        reads: 0,
+        writes: 0,
+    });
+    only(nodes, groups, ctx, nothing)
+}
+
+// A diagram behind each out and the updates, side by side. Halves are joined with halves, so each out's packets are
+// copied once for each halving, and calls are no deeper than that. An out alone is joined with the leaf that does
+// nothing, which lets go of what isn't logged; where leaves log all that they update, that changes nothing.
 fn all_after(
     nodes: &mut Nodes<Leaf>,
     groups: &Groups,
@@ -41,11 +57,8 @@ fn all_after(
     marks: &Marks,
     outs: &[Out],
     ups: &[Update],
-    start: u64,
     d: u64,
 ) -> Result<u64, NoMemory>
-    requires start { IsArgument groups.now ctx.now nodes.old start }
-    requires bare { diagram nodes.old start ≡ Only bare_leaf }
     requires d { IsArgument groups.now ctx.now nodes.old d }
     requires outs { All (OutFits (sizes groups.now ctx.now).comps) outs.now }
     requires ups { All (UpdateIn (sizes groups.now ctx.now)) ups.now }
@@ -56,19 +69,20 @@ fn all_after(
 {
     if outs.len() <= 1 {
         return match outs.split_first() {
-            None => Ok(start),
+            None => idle(nodes, groups, ctx),
             Some((out, _)) => {
                 let one = after_marked(nodes, groups, ctx, marks, out, ups, d)?;
                 if marks.logs_updates(d) {
                     return Ok(one);
                 }
+                let start = idle(nodes, groups, ctx)?;
                 join(nodes, groups, ctx, start, one)
             }
         };
     }
     let (front, back) = outs.split_at(outs.len() / 2);
-    let first = all_after(nodes, groups, ctx, marks, front, ups, start, d)?;
-    let second = all_after(nodes, groups, ctx, marks, back, ups, start, d)?;
+    let first = all_after(nodes, groups, ctx, marks, front, ups, d)?;
+    let second = all_after(nodes, groups, ctx, marks, back, ups, d)?;
     join(nodes, groups, ctx, first, second)
 }
 
@@ -188,14 +202,6 @@ pub fn spread(
     ensures number { IfOk result (λ r. r < length nodes.new) }
     ensures spread { IfOk result (λ r. IsSpread groups.now ctx.now go.now (diagram nodes.old d) (diagram nodes.new r)) }
 {
-    let alloc = nodes.allocator();
-    let nothing = Leaf::Go(Go {
-        outs: Outs::new(Vec::new(alloc)),
-        ups: Updates::new(Vec::new(alloc)),
-        reads: 0,
-        writes: 0,
-    });
-    let start = only(nodes, groups, ctx, nothing)?;
     let all = all_after(
         nodes,
         groups,
@@ -203,7 +209,6 @@ pub fn spread(
         marks,
         go.outs.list(),
         go.ups.list(),
-        start,
         d,
     )?;
     put_behind(nodes, groups, ctx, go, all)

@@ -7,24 +7,31 @@ use Rattle.snap_core.specs.Tests.{OutFits}
 use Rattle.snap_fdd.specs.Picks.{sizes}
 use Rattle.snap_fdd.proofs.Cutting.{if_ok_both}
 use Rattle.snap_fdd.proofs.Shared.{kept, argument_kept}
+use Rattle.snap_chain.specs.Late.{IsLate}
 use Rattle.snap_chain.specs.Spread.{IsRun}
 use Rattle.snap_chain.proofs.Settled.{head_fits}
 use Rattle.snap_chain.proofs.Marked.{marked_kept}
-use Rattle.snap_chain.proofs.Sequel.{only_one, run_framed, run_one, run_both}
+use Rattle.snap_chain.proofs.Sequel.{only_one, run_none, run_framed, run_one, run_both}
 use Rattle.snap_chain.proofs.spreading.+all_after.Goals as goal
 
 pub after_marked-requires-clause-out : goal.after_marked-requires-clause-out
 after_marked-requires-clause-out t c = head_fits (sizes c.args.groups.now c.args.ctx.now).comps c.args.outs.now c.in-Some.field-0-1.now c.in-Some.out.now c.in-Some.ensures.cases.0 c.requires.outs
 
-pub join-requires-clause-a : goal.join-requires-clause-a
-join-requires-clause-a t c = argument_kept c.args.groups.now c.args.ctx.now c.args.nodes.now c.after_marked.new.nodes c.args.start c.after_marked.ensures.grew c.requires.start
+pub returns-in-None-clause-run : goal.returns-in-None-clause-run
+returns-in-None-clause-run t c =
+    if_ok_both c.idle.result _ _ _ (λ r a is. run_none c.args.groups.now c.args.ctx.now c.args.outs.now c.args.ups.now (diagram c.args.nodes.now c.args.d) (diagram c.idle.new.nodes r) c.in-None.ensures.cases is a.keeps) c.idle.ensures.diagram c.idle.ensures.bare
 
-pub returns-else-logs_updates-clause-run : goal.returns-else-logs_updates-clause-run
-returns-else-logs_updates-clause-run t c =
-    let ks = kept c.args.nodes.now c.after_marked.new.nodes c.args.start c.after_marked.ensures.grew c.requires.start.below in
+pub join-requires-clause-b : goal.join-requires-clause-b
+join-requires-clause-b t c =
+    argument_kept c.args.groups.now c.args.ctx.now c.after_marked.new.nodes c.idle-in-Some.new.nodes c.in_ok-one-in-Some.one c.idle-in-Some.ensures.grew (record { below = c.in_ok-one-in-Some.ensures.number; keeps = c.in_ok-one-in-Some.ensures.late.keeps })
+
+pub returns-in_ok-start-in-Some-clause-run : goal.returns-in_ok-start-in-Some-clause-run
+returns-in_ok-start-in-Some-clause-run t c =
+    let ko = kept c.after_marked.new.nodes c.idle-in-Some.new.nodes c.in_ok-one-in-Some.one c.idle-in-Some.ensures.grew c.in_ok-one-in-Some.ensures.number in
+    let late : IsLate c.args.groups.now c.args.ctx.now c.in-Some.out.now c.args.ups.now (diagram c.args.nodes.now c.args.d) (diagram c.idle-in-Some.new.nodes c.in_ok-one-in-Some.one) = rw ko c.in_ok-one-in-Some.ensures.late in
     let one = only_one c.args.outs.now c.in-Some.field-0-1.now c.in-Some.out.now c.in-Some.ensures.cases.0 (omega (arith, c.if-outs-le1.true)) in
-    if_ok_both c.join.result _ _ _ (λ r a w. run_one c.args.groups.now c.args.ctx.now c.in-Some.out.now c.args.outs.now c.args.ups.now (diagram c.args.nodes.now c.args.d) (diagram c.after_marked.new.nodes c.args.start)
-    (diagram c.after_marked.new.nodes c.in_ok-one-in-Some.one) (diagram c.join.new.nodes r) one (ks ∙ c.requires.bare) c.in_ok-one-in-Some.ensures.late.late (λ m k met small. w m k met) a.keeps) c.join.ensures.diagram c.join.ensures.answer
+    if_ok_both c.join.result _ _ _ (λ r a w. run_one c.args.groups.now c.args.ctx.now c.in-Some.out.now c.args.outs.now c.args.ups.now (diagram c.args.nodes.now c.args.d) (diagram c.idle-in-Some.new.nodes c.in_ok-start-in-Some.start)
+    (diagram c.idle-in-Some.new.nodes c.in_ok-one-in-Some.one) (diagram c.join.new.nodes r) one c.in_ok-start-in-Some.ensures.bare late.late (λ m k met small. w m k met) a.keeps) c.join.ensures.diagram c.join.ensures.answer
 
 pub returns-then-logs_updates-clause-run : goal.returns-then-logs_updates-clause-run
 returns-then-logs_updates-clause-run t c =
@@ -39,16 +46,10 @@ all_after-requires-2 t c =
     let g = c.all_after.ensures.grew in (
       omega (arith, f, n, c.decreases, c.if-outs-le1.false),
       (
-        argument_kept c.args.groups.now c.args.ctx.now c.args.nodes.now c.all_after.new.nodes c.args.start g c.requires.start,
+        argument_kept c.args.groups.now c.args.ctx.now c.args.nodes.now c.all_after.new.nodes c.args.d g c.requires.d,
         (
-          kept c.args.nodes.now c.all_after.new.nodes c.args.start g c.requires.start.below ∙ c.requires.bare,
-          (
-            argument_kept c.args.groups.now c.args.ctx.now c.args.nodes.now c.all_after.new.nodes c.args.d g c.requires.d,
-            (
-              subst (All (OutFits (sizes c.args.groups.now c.args.ctx.now).comps)) (sym c.split_at.ensures.back) (All-drop (OutFits (sizes c.args.groups.now c.args.ctx.now).comps) _ c.args.outs.now c.requires.outs),
-              (c.requires.ups, marked_kept c.args.nodes.now c.all_after.new.nodes c.args.marks.now g c.requires.marked),
-            ),
-          ),
+          subst (All (OutFits (sizes c.args.groups.now c.args.ctx.now).comps)) (sym c.split_at.ensures.back) (All-drop (OutFits (sizes c.args.groups.now c.args.ctx.now).comps) _ c.args.outs.now c.requires.outs),
+          (c.requires.ups, marked_kept c.args.nodes.now c.all_after.new.nodes c.args.marks.now g c.requires.marked),
         ),
       ),
     )
