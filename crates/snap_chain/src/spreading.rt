@@ -11,12 +11,13 @@ ghost use Rattle.snap_fdd.specs.declared.leaf.Leaf.TheVariants.{Go as Goes};
 ghost use Rattle.snap_fdd.specs.Picks.{IsArgument, sizes};
 ghost use Rattle.snap_chain.specs.Memoed.{PrefixedFor, IsAskedPrefix, SequelFor, IsAskedSequel};
 ghost use Rattle.snap_chain.specs.Marks.{AreMarked};
-ghost use Rattle.snap_chain.specs.Spread.{bare_leaf, IsBehindLeaf, IsRun, IsPrefixed, IsSpread, IsSequel, OnlySends};
+ghost use Rattle.snap_chain.specs.Spread.{bare_leaf, IsBehindLeaf, IsBehindOf, IsRun, IsPrefixed, IsSpread, IsSequel, OnlySends};
 
 use crate::late::after_marked;
 use crate::marks::Marks;
 use crate::settling::go_of;
 use crate::summing::{push_copies, push_updates};
+use snap_arena::node::Node;
 use snap_arena::nodes::Nodes;
 use snap_arena::pairs::Pairs;
 use snap_core::NoMemory;
@@ -26,7 +27,7 @@ use snap_ctx::context::Context;
 use snap_dep::groups::Groups;
 use snap_fdd::leaf::{Go, Leaf, Outs, Updates};
 use snap_fdd::only::only;
-use snap_fdd::pick::ite;
+use snap_fdd::pick::{ite, look};
 use snap_fdd::pruning::{Part, part_of};
 use snap_join::joining::join;
 use std::alloc::Global;
@@ -86,8 +87,9 @@ fn all_after(
     join(nodes, groups, ctx, first, second)
 }
 
-// A leaf behind the updates and logs of another. Leaves stay, so there is room for the updates of both and no more.
-fn leaf_behind(alloc: Global, go: &Go, later: &Go) -> Result<Leaf, NoMemory>
+// What a leaf does behind the updates and logs of another. Leaves stay, so there is room for the updates of both and no
+// more.
+fn go_behind(alloc: Global, go: &Go, later: &Go) -> Result<Leaf, NoMemory>
     ensures { IfOk result (IsBehindLeaf go.now later.now) }
 {
     let (first, second) = (go.ups.list(), later.ups.list());
@@ -100,6 +102,20 @@ fn leaf_behind(alloc: Global, go: &Go, later: &Go) -> Result<Leaf, NoMemory>
         reads: go.reads | later.reads,
         writes: go.writes | later.writes,
     }))
+}
+
+// A leaf behind the updates and logs of another, unless two parts race there.
+fn leaf_behind(nodes: &Nodes<Leaf>, go: &Go, d: u64) -> Result<Option<Leaf>, NoMemory>
+    requires { d < length nodes.now }
+    ensures { IfOk result (λ o. (l : Leaf) → diagram nodes.now d ≡ Only l → IsBehindOf go.now l o) }
+{
+    match look(nodes, d) {
+        Node::Ask { .. } => Ok(None),
+        Node::Leaf(leaf) => match leaf {
+            Leaf::Race => Ok(None),
+            Leaf::Go(later) => Ok(Some(go_behind(nodes.allocator(), go, later)?)),
+        },
+    }
 }
 
 // Each leaf behind the updates and logs of another, which may be remembered.
@@ -142,12 +158,9 @@ fn prefixed_anew(
     ensures memo { OnOk result (Remembers (PrefixedFor groups.now ctx.now go.now nodes.new) memo.new) }
 {
     match part_of(nodes, d)? {
-        Part::Whole => match go_of(nodes, d)? {
+        Part::Whole => match leaf_behind(nodes, go, d)? {
             None => Ok(d),
-            Some(later) => {
-                let leaf = leaf_behind(nodes.allocator(), go, &later)?;
-                only(nodes, groups, ctx, leaf)
-            }
+            Some(leaf) => only(nodes, groups, ctx, leaf),
         },
         Part::Split { test, yes, no } => {
             let y = prefixed(nodes, groups, ctx, memo, go, yes)?;
