@@ -3,7 +3,10 @@
 ghost use Rattle.std.specs.Prelude.{◌≡◌, ◌++◌, ◌<◌, IfOk, IsTrue, OnOk};
 ghost use Rattle.snap_core.specs.Laws.{PutsSmall, write_vars};
 ghost use Rattle.snap_arena.specs.Arena.{Grew};
+ghost use Rattle.snap_fdd.specs.Contexts.{Met};
+ghost use Rattle.snap_fdd.specs.Diagrams.{diagram};
 ghost use Rattle.snap_fdd.specs.Picks.{IsArgument, sizes};
+ghost use Rattle.snap_fdd.specs.Pruned.{IsLive};
 ghost use Rattle.snap_chain.specs.Additions.{AreSame};
 ghost use Rattle.snap_build.specs.Parts.{DoesAs, PolIn, UpdatesAlone, update_leaf, updates_of};
 
@@ -86,6 +89,7 @@ pub(crate) fn in_one(
     ensures diagram { IfOk result (IsArgument groups.now ctx.now nodes.new) }
     ensures small { IfOk result (λ d. PutsSmall pol.now) }
     ensures does { IfOk result (DoesAs ctx.now pol.now nodes.new) }
+    ensures live { IfOk result (λ d. IsLive (Met ctx.now) (diagram nodes.new d)) }
 {
     let alloc = nodes.allocator();
     let mut updates = Vec::new(alloc);

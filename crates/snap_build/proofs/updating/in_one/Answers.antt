@@ -3,9 +3,11 @@ use Rattle.std.proofs.Common.{◌∙◌, ◌++◌, List, sym, ap, subst}
 use Rattle.std.proofs.lemmas.Result.{IfOk-weaker}
 use Rattle.snap_core.specs.declared.policy.Update.{Update}
 use Rattle.snap_fdd.specs.Bounds.{LeafIn}
+use Rattle.snap_fdd.specs.Contexts.{Met}
 use Rattle.snap_fdd.specs.Diagrams.{walk}
 use Rattle.snap_fdd.specs.Leaves.{answer_of, outcome_of}
 use Rattle.snap_fdd.specs.Picks.{sizes}
+use Rattle.snap_fdd.specs.Pruned.{IsLive}
 use Rattle.snap_chain.specs.Additions.{AreSame}
 use Rattle.snap_build.specs.Parts.{update_leaf, updates_of}
 use Rattle.snap_build.proofs.Alone.{leaf_fits, leaf_evals}
@@ -29,3 +31,6 @@ returns-clause-does c =
     ∙ ap (λ l. outcome_of (answer_of l k) m) (c.in_ok-leaf.ensures ∙ ap (update_leaf us) c.in_ok-writes.ensures.writes)
     ∙ leaf_evals p us m k c.requires.alone
     (subst (λ (xs : List Update). AreSame us (xs ++ updates_of p)) c.new-updates.ensures.items c.in_ok-writes.ensures.same)) c.only.ensures.is
+
+pub returns-clause-live : goal.returns-clause-live
+returns-clause-live c = IfOk-weaker c.only.result _ _ (λ d only. subst (IsLive (Met c.args.ctx.now)) (sym only) tt) c.only.ensures.is
