@@ -21,15 +21,18 @@ pub struct Reached {
 // How many numbers a page has.
 const PAGE: usize = 64;
 
+// For how many numbers there is room at first: most diagrams that are looked at are of fewer nodes.
+const FEW: usize = 32;
+
 impl Reached {
     // No numbers.
-    fn new(alloc: Global) -> Reached
-        ensures { length result.ids.items ≡ 0 }
+    fn new(alloc: Global) -> Result<Reached, NoMemory>
+        ensures { IfOk result (λ reached. length reached.ids.items ≡ 0) }
     {
-        Reached {
-            ids: Vec::new(alloc),
+        Ok(Reached {
+            ids: Vec::with_capacity(alloc, FEW)?,
             pages: Vec::new(alloc),
-        }
+        })
     }
 
     /// The place of a number, where it is reached.
@@ -123,7 +126,7 @@ fn add(nodes: &Nodes<Leaf>, reached: &mut Reached, root: u64) -> Result<(), NoMe
     ensures { OnOk result (All (λ d. d < length nodes.now) reached.new.ids.items) }
 {
     let alloc = nodes.allocator();
-    let mut left = Vec::new(alloc);
+    let mut left = Vec::with_capacity(alloc, FEW)?;
     left.push(Step {
         id: root,
         ways_placed: false,
@@ -147,7 +150,7 @@ pub fn reach_from(nodes: &Nodes<Leaf>, roots: &[u64]) -> Result<Reached, NoMemor
     ensures { IfOk result (λ reached. All (λ d. d < length nodes.now) reached.ids.items) }
 {
     let alloc = nodes.allocator();
-    let mut reached = Reached::new(alloc);
+    let mut reached = Reached::new(alloc)?;
     for root in roots {
         add(nodes, &mut reached, *root)?;
     }
