@@ -1,5 +1,5 @@
 -- Atoms, terms, tests and nodes as lists of numbers.
-use Rattle.std.specs.Prelude.{ℕ, List, [], ◌∷◌, ◌++◌}
+use Rattle.std.specs.Prelude.{ℕ, List, [], ◌∷◌, ◌+◌, ◌++◌}
 use Rattle.snap_core.specs.declared.policy.Atom.{Atom}
 use Rattle.snap_core.specs.declared.policy.Atom.TheVariants.{Num as Number, Comp}
 use Rattle.snap_core.specs.declared.policy.Term.{Term}
@@ -9,9 +9,10 @@ use Rattle.snap_core.specs.declared.policy.Test.TheVariants.{Value, Equal, State
 use Rattle.snap_arena.specs.declared.node.Node.{Node}
 use Rattle.snap_arena.specs.declared.node.Node.TheVariants.{Ask, Leaf}
 
+-- a component's has one number, since most atoms are components
 abbrev pub atom_code : Atom → List ℕ
 atom_code (Number n) = 1 ∷ n ∷ []
-atom_code (Comp c) = 2 ∷ c ∷ []
+atom_code (Comp c) = (c + 2) ∷ []
 
 -- a 0 ends an index
 abbrev pub index_code : List Atom → List ℕ
@@ -25,7 +26,7 @@ term_code (Plus c p) = 1 ∷ c ∷ p ∷ []
 abbrev pub test_code : Test → List ℕ
 test_code (Value c n) = 0 ∷ c ∷ n ∷ []
 test_code (Equal l r p) = 1 ∷ l ∷ r ∷ p ∷ []
-test_code (State v ix t) = 2 ∷ v ∷ index_code ix ++ term_code t
+test_code (State v ix t) = (v + 2) ∷ index_code ix ++ term_code t
 
 -- a node's, by its leaf's
 abbrev pub node_code : {L : Type 0} → (L → List ℕ) → Node L → List ℕ

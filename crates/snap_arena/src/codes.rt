@@ -58,7 +58,7 @@ pub fn push_atom(code: &mut Vec<u64>, atom: Atom) -> Result<(), NoMemory>
 {
     match atom {
         Atom::Num(num) => push_two(code, 1, num),
-        Atom::Comp(comp) => push_two(code, 2, comp as u64),
+        Atom::Comp(comp) => push_one(code, comp as u64 + 2),
     }
 }
 
@@ -93,7 +93,7 @@ pub fn push_test(code: &mut Vec<u64>, test: &Test) -> Result<(), NoMemory>
             push_two(code, *right as u64, *plus)
         }
         Test::State { var, index, value } => {
-            push_two(code, 2, *var as u64)?;
+            push_one(code, *var as u64 + 2)?;
             push_index(code, index)?;
             push_term(code, *value)
         }
