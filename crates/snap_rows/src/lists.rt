@@ -1,14 +1,10 @@
 //! The lists of tables, which contracts see as lists.
 
-ghost use Rattle.std.specs.Prelude.{◌≡◌, IfOk, length};
-ghost use Rattle.snap_rows.specs.Copies.{copies_in};
+ghost use Rattle.std.specs.Prelude.{◌≡◌};
 
-use crate::head::Sent;
 use crate::tables::{ArrayAt, Hop, RowAt, Stage};
-use snap_core::NoMemory;
 use snap_core::lists::Out;
 use snap_core::policy::Update;
-use std::alloc::Global;
 use std::marker::Model;
 
 /// Updates, in the order in which they are done.
@@ -194,69 +190,5 @@ impl Rows {
         ensures { result.now ≡ self.now }
     {
         &self.rows
-    }
-}
-
-/// One packet on its way to a port, which takes no memory, or any number of them.
-#[derive(Drop)]
-pub enum OneOrMany {
-    One(Sent),
-    Many(Vec<Sent>),
-}
-
-/// Packets on their ways to ports.
-#[derive(Drop)]
-pub struct Copies {
-    copies: OneOrMany,
-}
-
-impl Model for Copies {
-    ghost use Rattle.std.specs.Prelude.{List};
-    ghost use Rattle.snap_rows.specs.declared.head.Sent.{Sent};
-
-    ghost Value = { List Sent };
-
-    ghost use Rattle.snap_rows.specs.Copies.{copies_in};
-
-    ghost view = { λ a. copies_in a.copies };
-}
-
-impl Copies {
-    /// The list of these. Takes no memory.
-    pub fn new(copies: OneOrMany) -> Copies
-        ensures { result ≡ copies_in copies }
-    {
-        Copies { copies }
-    }
-
-    /// How many these are. Takes no memory.
-    pub fn count(&self) -> u64
-        ensures { result ≡ length self.now }
-    {
-        match &self.copies {
-            OneOrMany::One(_) => 1,
-            OneOrMany::Many(copies) => copies.len() as u64,
-        }
-    }
-
-    /// Gives them back. Takes no memory.
-    pub fn into_one_or_many(self) -> OneOrMany
-        ensures { copies_in result ≡ self }
-    {
-        self.copies
-    }
-
-    /// Gives them back in a list. Refuses for memory alone.
-    pub fn into_items(self, alloc: Global) -> Result<Vec<Sent>, NoMemory>
-        ensures { IfOk result (λ copies. copies.items ≡ self) }
-    {
-        match self.copies {
-            OneOrMany::One(sent) => {
-                let mut copies = Vec::new(alloc);
-                copies.push(sent)?;
-                Ok(copies)
-            }
-            OneOrMany::Many(copies) => Ok(copies),
-        }
     }
 }
