@@ -1,11 +1,14 @@
 //! The lists of tables, which contracts see as lists.
 
-ghost use Rattle.std.specs.Prelude.{◌≡◌};
+ghost use Rattle.std.specs.Prelude.{◌≡◌, IfOk};
 
-use crate::tables::{ArrayAt, Hop, RowAt, Stage};
+use crate::tables::{ArrayAt, Hop, Row, RowAt, Stage};
+use snap_core::NoMemory;
 use snap_core::lists::Out;
 use snap_core::policy::Update;
+use std::alloc::Global;
 use std::marker::Model;
+use std::sync::Arc;
 
 /// Updates, in the order in which they are done.
 #[derive(Drop)]
@@ -159,6 +162,49 @@ impl Hops {
         ensures { result.now ≡ self.now }
     {
         &self.hops
+    }
+}
+
+/// What stands in a row, in memory that rows share.
+#[derive(Drop)]
+pub struct Body {
+    row: Arc<Row>,
+}
+
+impl Model for Body {
+    ghost use Rattle.snap_rows.specs.declared.tables.Row.{Row};
+
+    ghost Value = { Row };
+
+    ghost view = { λ b. b.row.value };
+}
+
+impl Body {
+    /// The body of a row. Refuses for memory alone.
+    pub fn new(alloc: Global, row: Row) -> Result<Body, NoMemory>
+        ensures { IfOk result (λ body. body ≡ row) }
+    {
+        match Arc::new(alloc, row) {
+            Ok(row) => Ok(Body { row }),
+            Err(_) => Err(NoMemory),
+        }
+    }
+
+    /// Lends what stands in the row. Takes no memory.
+    #[inline(always)]
+    pub fn row(&self) -> &Row
+        ensures { result.now ≡ self.now }
+    {
+        &self.row
+    }
+
+    /// The same body, in the same memory. Refuses for memory alone.
+    pub fn share(&self) -> Result<Body, NoMemory>
+        ensures { IfOk result (λ body. body ≡ self.now) }
+    {
+        Ok(Body {
+            row: self.row.clone()?,
+        })
     }
 }
 
