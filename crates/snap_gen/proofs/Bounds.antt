@@ -10,8 +10,7 @@ use Rattle.snap_core.specs.Packets.{PacketSet, listed}
 use Rattle.snap_core.specs.Switch.{delivered, goes_out}
 use Rattle.snap_core.specs.Tests.{results}
 use Rattle.snap_rows.specs.declared.tables.Tables.{Tables}
-use Rattle.snap_rows.specs.declared.head.Action.{Action}
-use Rattle.snap_rows.specs.declared.head.Action.TheVariants.{Forward, Deliver, Fork}
+use Rattle.snap_rows.specs.Actions.{Action, Forward, Deliver, Fork}
 use Rattle.snap_rows.specs.declared.head.Head.{Head}
 use Rattle.snap_rows.specs.declared.head.Head.TheVariants.{Walk, Stage, Out, Visit}
 use Rattle.snap_rows.specs.declared.head.Sent.{Sent}

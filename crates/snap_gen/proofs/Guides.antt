@@ -13,8 +13,7 @@ use Rattle.snap_core.specs.Packets.{PacketSet}
 use Rattle.snap_core.specs.Tests.{results}
 use Rattle.snap_rows.specs.declared.tables.Tables.{Tables}
 use Rattle.snap_rows.specs.declared.tables.Row.TheVariants.{Last}
-use Rattle.snap_rows.specs.declared.head.Action.{Action}
-use Rattle.snap_rows.specs.declared.head.Action.TheVariants.{Forward, Deliver, Fork}
+use Rattle.snap_rows.specs.Actions.{Action, Forward, Deliver, Fork}
 use Rattle.snap_rows.specs.declared.head.Head.{Head}
 use Rattle.snap_rows.specs.declared.head.Head.TheVariants.{Walk, Visit}
 use Rattle.snap_rows.specs.Entries.{Parts, row_at, next, rank_at, rank_of, ranks}

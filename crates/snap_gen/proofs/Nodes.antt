@@ -11,8 +11,7 @@ use Rattle.snap_rows.specs.declared.tables.Spot.TheVariants as spot
 use Rattle.snap_rows.specs.declared.tables.Row.{Row}
 use Rattle.snap_rows.specs.declared.tables.Row.TheVariants.{Field, State, Go, Leaf, Stop, Last}
 use Rattle.snap_rows.specs.declared.tables.Stage.{Stage as Turn}
-use Rattle.snap_rows.specs.declared.head.Action.{Action}
-use Rattle.snap_rows.specs.declared.head.Action.TheVariants.{Forward, Deliver}
+use Rattle.snap_rows.specs.Actions.{Action, Forward, Deliver}
 use Rattle.snap_rows.specs.declared.head.Head.TheVariants.{Walk, Out, Visit}
 use Rattle.snap_rows.specs.Entries.{Parts, row_at, node_of, is_node, ranks}
 use Rattle.snap_rows.specs.Form.{IsInForm, IsFieldTest}

@@ -71,12 +71,6 @@ sent xs i x c at head within read is =
     ∙ set_split xs i (record { number = c.number; at = at; head = head; packet = c.packet }) within
     ∙ ap (λ n. take i xs ++ (record { number = c.number; at = at; head = head; packet = c.packet } ∷ drop n xs)) (let e : suc i ≡ i + 1 = omega arith in e)
 
-pub replaced : (xs : List Flying) (i : ℕ) (y copy : Flying) → i < length xs → y ≡ copy → set xs i y ≡ spliced xs i 1 (copy ∷ [])
-replaced xs i y copy within is =
-    ap (set xs i) is
-    ∙ set_split xs i copy within
-    ∙ ap (λ n. take i xs ++ (copy ∷ drop n xs)) (let e : suc i ≡ i + 1 = omega arith in e)
-
 pub inserted : (bs : List (List Flying)) (s : Spot) (x b : List Flying) (copy : Flying) → IsSpot bs (number_at bs s) s → x ≡ get_or bs s.block x → b ≡ spliced x (s.place + 1) 0 (copy ∷ [])
     → joined (set bs s.block b) ≡ spliced (joined bs) (number_at bs s + 1) 0 (copy ∷ [])
 inserted bs s x b copy spot read put =

@@ -11,8 +11,7 @@ use Rattle.snap_core.specs.Cells.{Kept}
 use Rattle.snap_rows.specs.Aims.{aim_of}
 use Rattle.snap_rows.specs.declared.tables.Tables.{Tables}
 use Rattle.snap_rows.specs.declared.tables.Rule.TheVariants.{Loop}
-use Rattle.snap_rows.specs.declared.head.Action.{Action}
-use Rattle.snap_rows.specs.declared.head.Action.TheVariants.{Forward, Deliver, Fork}
+use Rattle.snap_rows.specs.Actions.{Action, Forward, Deliver, Fork}
 use Rattle.snap_rows.specs.declared.head.Fate.{Fate}
 use Rattle.snap_rows.specs.declared.head.Fate.TheVariants as fate
 use Rattle.snap_rows.specs.declared.head.Head.{Head}

@@ -1,9 +1,10 @@
 -- Edits of the list of copies, one after another.
-use Rattle.std.proofs.Common.{◌≡◌, ℕ, ◌+◌, ◌-◌, ◌<◌, ◌≤◌, List, [], ◌∷◌, ◌++◌, take, drop, length, sym, ap, ◌∙◌, arith, append_assoc, length-append, Some}
+use Rattle.std.proofs.Common.{◌≡◌, ℕ, suc, ◌+◌, ◌-◌, ◌<◌, ◌≤◌, List, [], ◌∷◌, ◌++◌, take, drop, length, sym, ap, ◌∙◌, arith, append_assoc, length-append, Some}
 use Rattle.std.specs.Prelude.{slice_get}
 use Rattle.std.proofs.Math.Seq.{drop-append-add}
 use Rattle.std.proofs.lemmas.List.{take_at, drop_at, drop-drop, take-append-drop, take_more, length-take-le, length-drop, append-nil}
 use Rattle.std.proofs.lemmas.Option.{slice_get_within, get_or_from_slice_get, same_Some}
+use Rattle.snap_rows.proofs.Arrives.{drop_get}
 use Rattle.snap_net.proofs.Blocks.{get_skip}
 use Rattle.snap_net.specs.declared.flying.Flying.{Flying}
 use Rattle.snap_net.specs.Flights.{spliced}
@@ -81,3 +82,13 @@ put_one old new new' k all left left' copy within has split more = record {
 -- what is copy k afterwards was it before
 pub was_there : (xs ys put : List Flying) (k : ℕ) (x y : Flying) → slice_get xs k ≡ Some x → ys ≡ spliced xs (k + 1) 0 put → slice_get ys k ≡ Some y → x ≡ y
 was_there xs ys put k x y is with_copies still = same_Some x y (sym (ap (λ l. slice_get l k) with_copies ∙ put_stays xs put k x is) ∙ still)
+
+-- another copy in the place of copy k
+pub there_now : (xs ys : List Flying) (k : ℕ) (c y : Flying) → slice_get xs k ≡ Some c → slice_get (take k xs ++ (y ∷ ys)) k ≡ Some y
+there_now xs ys k c y is =
+    ap (slice_get (take k xs ++ (y ∷ ys))) (let e : k ≡ length (take k xs) + 0 = sym (let h = before_length xs k c is in omega (arith, h)) in e)
+    ∙ get_skip (take k xs) (y ∷ ys) 0
+
+-- a copy in its own place
+pub same_place : (xs : List Flying) (k : ℕ) (c : Flying) → slice_get xs k ≡ Some c → xs ≡ spliced xs k 1 (c ∷ [])
+same_place xs k c is = sym (take-append-drop k xs) ∙ ap (λ l. take k xs ++ l) (drop_get xs k c is ∙ ap (λ n. c ∷ drop n xs) (let e : suc k ≡ k + 1 = omega arith in e))

@@ -1,6 +1,6 @@
 -- Steps of the network, on what the program holds.
 use Rattle.std.proofs.Common.{◌≡◌, ℕ, zero, suc, ◌+◌, ◌<◌, Bool, true, false, List, [], ◌∷◌, ◌++◌, map, take, drop, Option, Some, None, length, refl, sym, ap, subst, ◌∙◌}
-use Rattle.std.specs.Prelude.{slice_get, slice_index, ◌==◌, IfSome, IsSome, is_some, option_map, if◌then◌else◌}
+use Rattle.std.specs.Prelude.{slice_get, slice_index, get_or, ◌==◌, IfSome, IsSome, is_some, option_map, if◌then◌else◌}
 use Rattle.std.specs.List.{All}
 use Rattle.std.proofs.lemmas.Bool.{false≢true, eqb-true, eq-eqb}
 use Rattle.std.proofs.lemmas.List.{map-append, take-map, drop-map}
@@ -8,28 +8,32 @@ use Rattle.std.proofs.lemmas.List.Elements.{All-push, All-append, All-take, All-
 use Rattle.std.proofs.lemmas.Option.{slice_get-map}
 use Rattle.snap_core.specs.Arrays.{Arrays, updates, zero_arrays}
 use Rattle.snap_core.specs.Cells.{Kept, arrays_of}
+use Rattle.snap_core.specs.declared.policy.Update.{Update}
 use Rattle.snap_core.specs.declared.ports.PortAt.{PortAt}
-use Rattle.snap_rows.specs.declared.plan.Plan.{Plan}
-use Rattle.snap_rows.specs.declared.head.Head.TheVariants.{Walk, Out}
-use Rattle.snap_rows.specs.declared.head.Action.{Action}
-use Rattle.snap_rows.specs.declared.head.Action.TheVariants.{Forward, Deliver, Fork}
+use Rattle.snap_rows.specs.declared.head.Fate.{Fate}
+use Rattle.snap_rows.specs.declared.head.Fate.TheVariants as fate
+use Rattle.snap_rows.specs.declared.head.Head.TheVariants.{Walk, Out, Visit}
+use Rattle.snap_rows.specs.Actions.{Action, Forward, Deliver, Fork}
 use Rattle.snap_rows.specs.declared.head.Sent.{Sent}
 use Rattle.snap_rows.specs.declared.tables.Tables.{Tables}
 use Rattle.snap_rows.specs.declared.tables.Rule.TheVariants.{Missing}
 use Rattle.snap_rows.specs.declared.tables.Spot.TheVariants as spot
-use Rattle.snap_rows.specs.Entries.{port_in, port_at, row_at}
-use Rattle.snap_rows.specs.Form.{IsPortInForm, comps, switch_count}
+use Rattle.snap_rows.specs.Entries.{next, port_in, port_at, row_at}
+use Rattle.snap_rows.specs.Form.{IsInForm, IsPortInForm, comps, switch_count}
 use Rattle.snap_rows.specs.Home.{AtHome}
-use Rattle.snap_rows.specs.Handles.{Handles}
+use Rattle.snap_rows.specs.Handles.{Handles, forked}
 use Rattle.snap_rows.specs.Rules.{PortKeeps}
 use Rattle.snap_rows.specs.Steps.{Arrives}
-use Rattle.snap_rows.specs.Network.{Copy, Net, Inject, inject, injected, step, stepped, moved, happening}
+use Rattle.snap_rows.specs.Stepping.{ActsAs, FateArrives, StepsBy}
+use Rattle.snap_rows.specs.Network.{Copy, Net, Inject, Step, Happening, Crossed, Leads, inject, injected, step, stepped, moved, happening}
 use Rattle.snap_rows.proofs.Rows.{All-get, some_injective}
-use Rattle.snap_rows.proofs.Arrives.{arrives}
+use Rattle.snap_rows.proofs.Arrives.{fork_arrives, next_below}
+use Rattle.snap_rows.proofs.Stepping.{steps_plain}
 use Rattle.snap_net.specs.declared.flying.Flying.{Flying}
-use Rattle.snap_net.specs.Shown.{Held, IsHeld, Shows, IsDone, Nothing, SameArrays, store_of, flown, moving, happened}
-use Rattle.snap_net.specs.Moves.{CanBeDone, HasStepped, Changed, HasMoved, HasUpdated, flights, copies_in_flight, moved_of, with_frame, Frames, PlanAt}
-use Rattle.snap_net.specs.declared.happened.Happened.TheVariants as shown
+use Rattle.snap_net.specs.Flights.{spliced}
+use Rattle.snap_net.specs.Shown.{Held, IsHeld, Shows, IsDone, Nothing, SameArrays, StandsThere, TellsMoved, store_of, flown, moving}
+use Rattle.snap_net.specs.Moves.{AreHome, HasGone, HasMade, HasStepped, Changed, HasUpdated, MakesStep, StepsAt, flights, copies_in_flight, left_by, moved_of, told_by}
+use Rattle.snap_net.proofs.Splices.{there_now}
 use Rattle.snap_net.specs.declared.happened.Moved.{Moved}
 
 -- ---- stores
@@ -181,39 +185,7 @@ flights_held t c (Fork copies lost) below long arrives =
 pub three : (P : Flying → Type 0) (k : ℕ) (fl xs : List Flying) → All P fl → All P xs → All P (take k fl ++ (xs ++ drop (k + 1) fl))
 three P k fl xs all some = All-append P (take k fl) (xs ++ drop (k + 1) fl) (All-take P k fl all) (All-append P xs (drop (k + 1) fl) some (All-drop P (k + 1) fl all))
 
-pub held_left : (v new : Held) (k : ℕ) (c : Flying) (m : Arrays) (a : Action) → IsHeld v → Left v new k c m a → Arrives v.tables c.packet a → IsHeld new
-held_left v new k c m a held left arrives =
-    let t = v.tables in
-    let below : c.at < switch_count t = All-get (λ (c : Flying). c.at < switch_count t) v.flying k c held.places left.is in
-    let long : length c.packet ≡ comps t = All-get (λ (c : Flying). length c.packet ≡ comps t) v.flying k c held.packets left.is in
-    let f = flights_held t c a below long arrives in
-    subst (λ t'. IsHeld (record new { tables = t' })) (sym left.tables)
-    (subst (λ fl. IsHeld (record new { tables = t; flying = fl })) (sym left.flying) (record {
-      form = held.form;
-      valid = held.valid;
-      stores = left.stores.count ∙ held.stores;
-      places = three (λ (x : Flying). x.at < switch_count t) k v.flying (flights c a) held.places f.0;
-      packets = three (λ (x : Flying). length x.packet ≡ comps t) k v.flying (flights c a) held.packets f.1;
-      homes = three (λ (x : Flying). AtHome t x.at x.head) k v.flying (flights c a) held.homes f.2;
-    }))
-
--- the plan of a step can be done
-pub can_be_done : (v : Held) (k : ℕ) (p : Plan) → IsHeld v → PlanAt v k p → CanBeDone v k p
-can_be_done v k p held plan c is =
-    let t = v.tables in
-    let below : c.at < switch_count t = All-get (λ (c : Flying). c.at < switch_count t) v.flying k c held.places is in
-    let home : AtHome t c.at c.head = All-get (λ (c : Flying). AtHome t c.at c.head) v.flying k c held.homes is in (
-      (plan c is).reads,
-      arrives t held.valid held.form c.at below c.packet (store_of v.stores c.at) c.head (updates (store_of v.stores c.at) p.ups c.packet) p.action home (plan c is).handles,
-    )
-
--- what a plan that was carried out leaves
-pub carried : (v new : Held) (k : ℕ) (c : Flying) (p : Plan) (moved : Moved) → slice_get v.flying k ≡ Some c → new.tables ≡ v.tables → new.injected ≡ v.injected
-    → HasUpdated v.stores v.flying k p.ups new.stores → HasMoved v.flying k p.action new.flying moved
-    → Left v new k c (updates (store_of v.stores c.at) p.ups c.packet) p.action
-carried v new k c p moved is tables injected updated moves = record { is = is; tables = tables; injected = injected; stores = updated c is; flying = (moves c is).0 }
-
--- what a plan that was refused leaves
+-- what a step that was refused leaves
 pub held_same : (v : Held) (stores : List Kept) (flying : List Flying) → IsHeld v → flying ≡ v.flying → SameArrays v.stores stores → IsHeld (record v { stores = stores; flying = flying })
 held_same v stores flying held same arrays = subst (λ fl. IsHeld (record v { stores = stores; flying = fl })) (sym same) (record {
   form = held.form;
@@ -230,7 +202,83 @@ moving_of c (Forward to head) = refl
 moving_of c (Deliver port) = refl
 moving_of c (Fork copies lost) = refl
 
-pub framed_of : (c : Copy) (a : Action) (bytes : List ℕ) → Frames a c.packet bytes → with_frame (moved_of (flown c) a) bytes ≡ happened (happening c a)
-framed_of c (Forward to head) bytes e = ap (shown.Forwarded c.number c.at to) e
-framed_of c (Deliver port) bytes e = refl
-framed_of c (Fork copies lost) bytes e = refl
+-- ---- a step as far as its visits are admitted
+-- what becomes of a copy is in its place again
+left_home : (t : Tables) → IsInForm t → (c : Flying) (f : Fate) → c.at < switch_count t → length c.packet ≡ comps t → AtHome t c.at c.head → FateArrives t c.at f
+    → All (λ (x : Flying). x.at < switch_count t) (left_by t c f) × All (λ (x : Flying). length x.packet ≡ comps t) (left_by t c f) × All (λ (x : Flying). AtHome t x.at x.head) (left_by t c f)
+left_home t form c (fate.Seek x h) below long home arrives = flights_held t c (Forward (next t c.at x) h) below long (next_below t form c.at x below, arrives)
+left_home t form c (fate.Deliver port) below long home arrives = flights_held t c (Deliver port) below long tt
+left_home t form c (fate.Fork outs) below long home arrives = flights_held t c (forked t outs.now c.packet) below long (fork_arrives t c.packet outs.now)
+left_home t form c (fate.Stay r n) below long home arrives = flights_held t c (Forward c.at (Visit r n)) below long (below, arrives)
+left_home t form c (fate.Wait r) below long home arrives = flights_held t c (Forward c.at c.head) below long (below, home)
+
+-- and so are all
+pub home_left : (t : Tables) → IsInForm t → (from to : List Flying) (k : ℕ) (c : Flying) (f : Fate) → slice_get from k ≡ Some c → All (λ (x : Flying). x.at < switch_count t) from → All (λ (x : Flying). length x.packet ≡ comps t) from
+    → All (λ (x : Flying). AtHome t x.at x.head) from → FateArrives t c.at f → to ≡ spliced from k 1 (left_by t c f) → AreHome t to
+home_left t form from to k c f is places packets homes arrives gone =
+    let at : c.at < switch_count t = All-get (λ (x : Flying). x.at < switch_count t) from k c places is in
+    let long : length c.packet ≡ comps t = All-get (λ (x : Flying). length x.packet ≡ comps t) from k c packets is in
+    let h = left_home t form c f at long (All-get (λ (x : Flying). AtHome t x.at x.head) from k c homes is) arrives in
+    subst (AreHome t) (sym gone) (record {
+      places = three (λ (x : Flying). x.at < switch_count t) k from (left_by t c f) places h.0;
+      packets = three (λ (x : Flying). length x.packet ≡ comps t) k from (left_by t c f) packets h.1;
+      homes = three (λ (x : Flying). AtHome t x.at x.head) k from (left_by t c f) homes h.2;
+    })
+
+-- updates that were done, and a copy that made way
+pub step_made : (may : ℕ → Bool) (t : Tables) (k : ℕ) (old : List Kept) (from : List Flying) (new : List Kept) (to : List Flying) (moved : Moved) (x : Flying) (us done : List Update) (f : Fate) → slice_get from k ≡ Some x → done ≡ us
+    → StepsBy t x.at x.packet may (store_of old x.at) x.head us f → HasUpdated old from k done new → HasGone t from k f to moved → MakesStep may t k old from new to moved
+step_made may t k old from new to moved x us done f is all steps updated gone c at =
+    subst (λ c. HasMade may t c k old from new to moved) (some_injective _ _ (sym is ∙ at)) (record {
+      arrays = updates (store_of old x.at) us x.packet;
+      fate = f;
+      steps = steps.steps;
+      changed = subst (λ l. Changed old new x.at (updates (store_of old x.at) l x.packet)) all (updated x is);
+      flying = (gone x is).0;
+      tells = (gone x is).1;
+    })
+
+-- a fate that is an action leaves and tells what this does
+pub acts_leave : (t : Tables) (c : Flying) (f : Fate) (a : Action) → ActsAs t c.at c.packet f a → left_by t c f ≡ flights c a
+acts_leave t c (fate.Seek x h) a acts = ap (flights c) (sym acts)
+acts_leave t c (fate.Deliver port) a acts = ap (flights c) (sym acts)
+acts_leave t c (fate.Fork outs) a acts = ap (flights c) (sym acts)
+acts_leave t c (fate.Stay r n) a acts = absurd acts
+acts_leave t c (fate.Wait r) a acts = absurd acts
+
+pub acts_tell : (t : Tables) (c : Flying) (f : Fate) (a : Action) → ActsAs t c.at c.packet f a → told_by t c f ≡ moved_of c a
+acts_tell t c (fate.Seek x h) a acts = ap (moved_of c) (sym acts)
+acts_tell t c (fate.Deliver port) a acts = ap (moved_of c) (sym acts)
+acts_tell t c (fate.Fork outs) a acts = ap (moved_of c) (sym acts)
+acts_tell t c (fate.Stay r n) a acts = absurd acts
+acts_tell t c (fate.Wait r) a acts = absurd acts
+
+-- a step where all visits are admitted is one without order
+pub done_plain : (may : ℕ → Bool) (v new : Held) (k : ℕ) (c : Flying) (moved : Moved) → ((j : ℕ) → may j ≡ true) → slice_get v.flying k ≡ Some c → new.tables ≡ v.tables → new.injected ≡ v.injected → StepsAt may v k new moved
+    → IsDone v (Step k) new (TellsMoved moved)
+done_plain may v new k c moved all is tables injected made s shows =
+    let t = v.tables in
+    let h = made c is in
+    let plain = steps_plain h.steps all in
+    let a = plain.0 in
+    let left : Left v new k c h.arrays a = record { is = is; tables = tables; stores = h.changed; injected = injected; flying = h.flying ∙ ap (spliced v.flying k 1) (acts_leave t c h.fate a plain.1) } in
+    let b = has_stepped v new k c h.arrays a left plain.2 s shows in
+    let one : c ≡ flown b.copy = some_injective _ _ (sym is ∙ b.is) in (
+      b.state,
+      happening b.copy a ∷ [],
+      b.leads,
+      b.shows,
+      (happening b.copy a, refl, h.tells ∙ acts_tell t c h.fate a plain.1 ∙ ap (λ y. moved_of y a) one ∙ moving_of b.copy a),
+    )
+
+-- ---- where a copy stands that crossed a link
+pub replaced_there : (cs : List Copy) (k : ℕ) (c : Copy) (a : Action) → slice_get cs k ≡ Some c → StandsThere (map flown (take k cs ++ (moved c a ++ drop (k + 1) cs))) k (happening c a)
+replaced_there cs k c (Forward to head) is =
+    subst (λ l. StandsThere l k (Crossed c to head))
+    (sym (map-append flown (take k cs) (moved c (Forward to head) ++ drop (k + 1) cs) ∙ ap (λ l. l ++ (flights (flown c) (Forward to head) ++ map flown (drop (k + 1) cs))) (sym (take-map flown k cs))))
+    (there_now (map flown cs) (map flown (drop (k + 1) cs)) k (flown c) (record (flown c) { at = to; head = head }) (slice_get-map flown cs k ∙ ap (option_map flown) is))
+replaced_there cs k c (Deliver port) is = tt
+replaced_there cs k c (Fork copies lost) is = tt
+
+pub stands_there : {t : Tables} {s s' : Net} {k : ℕ} {hs : List Happening} (x : Happening) → Leads t s (Step k) s' hs → hs ≡ x ∷ [] → StandsThere (map flown s'.flying) k x
+stands_there {s = s} {s' = s'} x (step {i = k} {c = c} {a = a} is does) one = subst (StandsThere (map flown s'.flying) k) (ap (λ l. get_or l 0 x) one) (replaced_there s.flying k c a is)

@@ -3,7 +3,7 @@ use Rattle.std.specs.Prelude.{◌≡◌, ℕ, ◌+◌, true, Some, List, [], ◌
 use Rattle.std.specs.List.{All}
 use Rattle.snap_core.specs.Arrays.{Arrays}
 use Rattle.snap_core.specs.Cells.{Kept}
-use Rattle.snap_rows.specs.declared.head.Action.{Action}
+use Rattle.snap_rows.specs.Actions.{Action}
 use Rattle.snap_rows.specs.declared.head.Fate.{Fate}
 use Rattle.snap_rows.specs.declared.head.Fate.TheVariants as fate
 use Rattle.snap_rows.specs.declared.head.Head.{Head}

@@ -1,5 +1,5 @@
 -- A network of the program as a state of the network, whose counts of hops and steps it doesn't keep.
-use Rattle.std.specs.Prelude.{◌≡◌, ℕ, ◌<◌, List, [], ◌∷◌, map, length, get_or, option_map, unwrap_or}
+use Rattle.std.specs.Prelude.{◌≡◌, ℕ, ◌<◌, Some, List, [], ◌∷◌, map, length, get_or, slice_get, option_map, unwrap_or}
 use Rattle.std.specs.List.{All}
 use Rattle.snap_core.specs.Arrays.{Arrays}
 use Rattle.snap_core.specs.Cells.{Kept, arrays_of}
@@ -9,10 +9,7 @@ use Rattle.snap_rows.specs.Form.{IsInForm, comps, switch_count}
 use Rattle.snap_rows.specs.Home.{AtHome}
 use Rattle.snap_rows.specs.Rules.{IsValid}
 use Rattle.snap_rows.specs.Network.{Copy, Net, Happening, Crossed, Delivered, Forked, Event, Leads, start}
-use Rattle.snap_head.specs.Frames.{frame}
 use Rattle.snap_net.specs.declared.flying.Flying.{Flying}
-use Rattle.snap_net.specs.declared.happened.Happened.{Happened}
-use Rattle.snap_net.specs.declared.happened.Happened.TheVariants as shown
 use Rattle.snap_net.specs.declared.happened.Moved.{Moved}
 use Rattle.snap_net.specs.declared.happened.Moved.TheVariants as bare
 
@@ -62,15 +59,6 @@ abbrev pub Nothing : List Happening → Type 0
 Nothing hs = hs ≡ []
 
 -- what is told of a happening
-abbrev pub happened : Happening → Happened
-happened (Crossed c to head) = shown.Forwarded c.number c.at to (frame head c.packet)
-happened (Delivered c port) = shown.Delivered c.number port c.packet
-happened (Forked c copies lost) = shown.Forked c.number copies lost
-
-abbrev pub Tells : Happened → List Happening → Type 0
-Tells h hs = (x : Happening) × (hs ≡ x ∷ []) × (h ≡ happened x)
-
--- the same without the frame
 abbrev pub moving : Happening → Moved
 moving (Crossed c to head) = bare.Forwarded c.number c.at to
 moving (Delivered c port) = bare.Delivered c.number port c.packet
@@ -78,6 +66,12 @@ moving (Forked c copies lost) = bare.Forked c.number copies lost
 
 abbrev pub TellsMoved : Moved → List Happening → Type 0
 TellsMoved h hs = (x : Happening) × (hs ≡ x ∷ []) × (h ≡ moving x)
+
+-- a copy that crossed a link stands at this place
+abbrev pub StandsThere : List Flying → ℕ → Happening → Type 0
+StandsThere cs place (Crossed c to head) = slice_get cs place ≡ Some (record { number = c.number; at = to; head = head; packet = c.packet })
+StandsThere cs place (Delivered c port) = Unit {0}
+StandsThere cs place (Forked c copies lost) = Unit {0}
 
 -- at each switch the same number at each place
 pub record SameArrays (old new : List Kept) : Type 0 where

@@ -9,7 +9,6 @@ use snap_core::NoMemory;
 use snap_rows::head::Head;
 use std::alloc::Global;
 use std::marker::Model;
-use std::mem;
 
 /// Copies that stand next to each other in the list of all.
 #[derive(Drop)]
@@ -76,15 +75,6 @@ impl Block {
         let copy = &mut self.copies[place];
         copy.at = to;
         copy.head = head;
-    }
-
-    /// Puts a copy in the place of another, and hands that out.
-    pub(crate) fn replace(&mut self, place: usize, copy: Flying) -> Flying
-        requires { place < length self.old }
-        ensures gone { slice_get self.old place ≡ Some result }
-        ensures left { self.new ≡ spliced self.old place 1 (copy ∷ []) }
-    {
-        mem::replace(&mut self.copies[place], copy)
     }
 
     /// Takes a copy out.

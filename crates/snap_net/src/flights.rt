@@ -143,15 +143,6 @@ fn send_at(blocks: &mut Vec<Block>, spot: Spot, to: u16, head: Head)
     blocks[spot.block].send(spot.place, to, head);
 }
 
-// Puts a copy in the place of the one at a spot.
-fn replace_at(blocks: &mut Vec<Block>, spot: Spot, copy: Flying) -> Flying
-    requires { IsSpot blocks.old.items (number_at blocks.old.items spot) spot }
-    ensures gone { slice_get (joined blocks.old.items) (number_at blocks.old.items spot) ≡ Some result }
-    ensures left { joined blocks.new.items ≡ spliced (joined blocks.old.items) (number_at blocks.old.items spot) 1 (copy ∷ []) }
-{
-    blocks[spot.block].replace(spot.place, copy)
-}
-
 // Takes out the copy at a spot.
 #[inline(always)]
 fn remove_at(blocks: &mut Vec<Block>, spot: Spot) -> Flying
@@ -252,16 +243,6 @@ impl Flights {
     {
         let spot = spot_of(&self.blocks, self.count, k);
         send_at(&mut self.blocks, spot, to, head);
-    }
-
-    /// Puts a copy in the place of copy k, which it hands out. Takes no memory.
-    pub(crate) fn replace(&mut self, k: usize, copy: Flying) -> Flying
-        requires { k < length self.old }
-        ensures gone { slice_get self.old k ≡ Some result }
-        ensures left { self.new ≡ spliced self.old k 1 (copy ∷ []) }
-    {
-        let spot = spot_of(&self.blocks, self.count, k);
-        replace_at(&mut self.blocks, spot, copy)
     }
 
     /// Takes copy k out of the list. Takes no memory.

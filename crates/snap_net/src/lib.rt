@@ -11,5 +11,4 @@ pub mod net;
 pub mod parts;
 pub mod passing;
 mod rehousing;
-mod updates;
 pub mod watch;

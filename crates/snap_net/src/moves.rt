@@ -1,45 +1,57 @@
 //! What becomes of a copy in a step: all of it, or nothing.
 
-ghost use Rattle.std.specs.Prelude.{◌≡◌, ◌<◌, ◌+◌, [], ◌∷◌, Some, IfOk, OnOk, OnErr, length, slice_get, All};
+ghost use Rattle.std.specs.Prelude.{◌≡◌, ◌<◌, ◌+◌, Some, IfOk, OnOk, OnErr, length, slice_get, All};
 ghost use Rattle.snap_core.specs.Arrays.{updates};
 ghost use Rattle.snap_core.specs.Fits.{UpdateReads};
-ghost use Rattle.snap_rows.specs.declared.head.Action.TheVariants.{Forward, Deliver, Fork};
+ghost use Rattle.snap_core.specs.Tests.{OutFits};
+ghost use Rattle.snap_rows.specs.declared.tables.Tables.{Tables};
+ghost use Rattle.snap_rows.specs.declared.head.Fate.TheVariants.{Seek, Stay, Wait};
+ghost use Rattle.snap_rows.specs.Form.{comps, switch_count};
+ghost use Rattle.snap_rows.specs.Home.{AtHome};
+ghost use Rattle.snap_rows.specs.Stepping.{FateFits};
+ghost use Rattle.snap_rows.specs.Actions.{Forward, Deliver};
 ghost use Rattle.snap_net.specs.declared.flying.Flying.{Flying};
 ghost use Rattle.snap_net.specs.Flights.{spliced};
 ghost use Rattle.snap_net.specs.Shown.{SameArrays, store_of};
-ghost use Rattle.snap_net.specs.Moves.{Changed, copies_in_flight, HasMoved, HasUpdated, Frames, with_frame};
+ghost use Rattle.snap_net.specs.Moves.{AreHome, Changed, copies_in_flight, HasGone, HasMoved, HasParted, HasUpdated, MakesStep};
 
 use crate::flights::Flights;
 use crate::flying::Flying;
-use crate::happened::{Frame, Happened, Moved};
-use crate::updates::update_all;
+use crate::happened::Moved;
 use snap_core::NoMemory;
-use snap_core::packet::Packet;
-use snap_core::policy::Update;
+use snap_core::lists::Out;
 use snap_core::store::Store;
-use snap_head::encode::encode;
-use snap_rows::head::{Action, Head, Sent};
-use snap_rows::lists::{Copies, OneOrMany};
-use snap_rows::plan::Plan;
+use snap_rows::admit::Admit;
+use snap_rows::dues::Dues;
+use snap_rows::fork::{Spread, spread_out};
+use snap_rows::head::{Fate, Head, Sent};
+use snap_rows::plan::fate;
+use snap_rows::valid::Valid;
 use std::alloc::Global;
 
 // Does updates at the switch of a copy.
-fn update_at(stores: &mut Vec<Store>, copy: &Flying, ups: &[Update]) -> Result<(), NoMemory>
+fn update_at(
+    alloc: Global,
+    stores: &mut Vec<Store>,
+    copy: &Flying,
+    ups: &Dues<'_>,
+) -> Result<(), NoMemory>
     requires at { copy.now.at < length stores.old.items }
     requires reads { All (UpdateReads (length copy.now.packet)) ups.now }
     ensures ok { OnOk result (Changed stores.old.items stores.new.items copy.now.at (updates (store_of stores.old.items copy.now.at) ups.now copy.now.packet)) }
     ensures err { OnErr result (SameArrays stores.old.items stores.new.items) }
 {
-    update_all(&mut stores[copy.at as usize], &copy.packet, ups)
+    ups.apply_whole(alloc, &mut stores[copy.at as usize], &copy.packet)
 }
 
-// Does updates at the switch of copy k, which isn't looked up for none.
+// Does updates at the switch of copy k.
 #[inline(always)]
 fn update_for(
+    alloc: Global,
     stores: &mut Vec<Store>,
     flying: &Flights,
     k: usize,
-    ups: &[Update],
+    ups: &Dues<'_>,
 ) -> Result<(), NoMemory>
     requires k { k < length flying.now }
     requires at { (c : Flying) → slice_get flying.now k ≡ Some c → c.at < length stores.old.items }
@@ -47,10 +59,7 @@ fn update_for(
     ensures ok { OnOk result (HasUpdated stores.old.items flying.now k ups.now stores.new.items) }
     ensures err { OnErr result (SameArrays stores.old.items stores.new.items) }
 {
-    if ups.is_empty() {
-        return Ok(());
-    }
-    update_at(stores, flying.get(k), ups)
+    update_at(alloc, stores, flying.get(k), ups)
 }
 
 // Forwards copy k.
@@ -107,41 +116,14 @@ fn put_copies(
     Ok(())
 }
 
-// Does updates at the switch of copy k, and puts one copy in its place.
-fn turn(
-    stores: &mut Vec<Store>,
-    flying: &mut Flights,
-    k: usize,
-    ups: &[Update],
-    sent: Sent,
-) -> Result<Flying, NoMemory>
-    requires k { k < length flying.old }
-    requires at { (c : Flying) → slice_get flying.old k ≡ Some c → c.at < length stores.old.items }
-    requires reads { (c : Flying) → slice_get flying.old k ≡ Some c → All (UpdateReads (length c.packet)) ups.now }
-    ensures updated { OnOk result (HasUpdated stores.old.items flying.old k ups.now stores.new.items) }
-    ensures gone { IfOk result (λ gone. (slice_get flying.old k ≡ Some gone) × (flying.new ≡ spliced flying.old k 1 (copies_in_flight gone.number gone.at (sent ∷ [])))) }
-    ensures err { OnErr result ((flying.new ≡ flying.old) × SameArrays stores.old.items stores.new.items) }
-{
-    let from = flying.get(k);
-    let number = from.number;
-    let at = from.at;
-    update_at(stores, from, ups)?;
-    let copy = Flying {
-        number,
-        at,
-        head: Head::Out { port: sent.port },
-        packet: sent.packet,
-    };
-    Ok(flying.replace(k, copy))
-}
-
 // Does updates at the switch of copy k, and puts copies in its place.
 #[inline(never)]
 fn fork(
+    alloc: Global,
     stores: &mut Vec<Store>,
     flying: &mut Flights,
     k: usize,
-    ups: &[Update],
+    ups: &Dues<'_>,
     copies: Vec<Sent>,
 ) -> Result<Flying, NoMemory>
     requires k { k < length flying.old }
@@ -157,113 +139,145 @@ fn fork(
     let number = from.number;
     let at = from.at;
     put_copies(flying, k, number, at, copies)?;
-    if let Err(fault) = update_at(stores, flying.get(k), ups) {
+    if let Err(fault) = update_at(alloc, stores, flying.get(k), ups) {
         flying.cut(k + 1, count);
         return Err(fault);
     }
     Ok(flying.remove(k))
 }
 
-// The same, where one copy alone needs no room.
-fn split(
-    stores: &mut Vec<Store>,
-    flying: &mut Flights,
-    k: usize,
-    ups: &[Update],
-    copies: Copies,
-) -> Result<Flying, NoMemory>
-    requires k { k < length flying.old }
-    requires at { (c : Flying) → slice_get flying.old k ≡ Some c → c.at < length stores.old.items }
-    requires reads { (c : Flying) → slice_get flying.old k ≡ Some c → All (UpdateReads (length c.packet)) ups.now }
-    ensures updated { OnOk result (HasUpdated stores.old.items flying.old k ups.now stores.new.items) }
-    ensures gone { IfOk result (λ gone. (slice_get flying.old k ≡ Some gone) × (flying.new ≡ spliced flying.old k 1 (copies_in_flight gone.number gone.at copies))) }
-    ensures err { OnErr result ((flying.new ≡ flying.old) × SameArrays stores.old.items stores.new.items) }
+// Sends copy k to the next hop towards a switch.
+fn seek(tables: &Valid, flying: &mut Flights, k: usize, target: u16, head: Head) -> Moved
+    requires { k < length flying.old }
+    ensures { HasGone tables.now flying.old k (Seek target head) flying.new result }
 {
-    match copies.into_one_or_many() {
-        OneOrMany::One(sent) => turn(stores, flying, k, ups, sent),
-        OneOrMany::Many(copies) => fork(stores, flying, k, ups, copies),
+    let to = tables.next(flying.get(k).at, target);
+    forward(flying, k, to, head)
+}
+
+// Keeps copy k where it is, for its visit of a rank.
+fn stay(flying: &mut Flights, k: usize, rank: u16, node: u64) -> Moved
+    requires { k < length flying.old }
+    ensures { (t : Tables) → HasGone t flying.old k (Stay rank node) flying.new result }
+{
+    let copy = flying.get(k);
+    let owner = copy.number;
+    let at = copy.at;
+    flying.send(k, at, Head::Visit { rank, node });
+    Moved::Stayed { owner, rank }
+}
+
+// Keeps copy k as it is, before its visit of a rank.
+fn wait(flying: &Flights, k: usize, rank: u16) -> Moved
+    requires { k < length flying.now }
+    ensures { (t : Tables) → HasGone t flying.now k (Wait rank) flying.now result }
+{
+    Moved::Waited {
+        owner: flying.get(k).number,
+        rank,
     }
 }
 
-/// Does the plan of copy k's step.
-#[inline(always)]
-pub(crate) fn carry_out(
+// Does updates at the switch of copy k, and puts the copies that outs make of its packet in its place.
+fn part(
+    alloc: Global,
+    tables: &Valid,
     stores: &mut Vec<Store>,
     flying: &mut Flights,
     k: usize,
-    plan: Plan,
+    ups: &Dues<'_>,
+    outs: &[Out],
 ) -> Result<Moved, NoMemory>
     requires k { k < length flying.old }
     requires at { (c : Flying) → slice_get flying.old k ≡ Some c → c.at < length stores.old.items }
-    requires reads { (c : Flying) → slice_get flying.old k ≡ Some c → All (UpdateReads (length c.packet)) plan.ups }
-    ensures updated { OnOk result (HasUpdated stores.old.items flying.old k plan.ups stores.new.items) }
-    ensures moved { IfOk result (HasMoved flying.old k plan.action flying.new) }
+    requires packet { (c : Flying) → slice_get flying.old k ≡ Some c → length c.packet ≡ comps tables.now }
+    requires reads { (c : Flying) → slice_get flying.old k ≡ Some c → All (UpdateReads (length c.packet)) ups.now }
+    requires outs { All (OutFits (comps tables.now)) outs.now }
+    ensures updated { OnOk result (HasUpdated stores.old.items flying.old k ups.now stores.new.items) }
+    ensures parted { IfOk result (HasParted tables.now flying.old k outs.now flying.new) }
     ensures err { OnErr result ((flying.new ≡ flying.old) × SameArrays stores.old.items stores.new.items) }
 {
-    let Plan { ups, action } = plan;
-    match action {
-        Action::Forward { to, head } => {
-            update_for(stores, flying, k, ups.items())?;
-            Ok(forward(flying, k, to, head))
+    let Spread { copies, lost } = spread_out(alloc, tables, outs, &flying.get(k).packet)?;
+    let count = copies.len() as u64;
+    let gone = fork(alloc, stores, flying, k, ups, copies)?;
+    Ok(Moved::Forked {
+        owner: gone.number,
+        copies: count,
+        lost,
+    })
+}
+
+// Does updates at the switch of copy k, and puts what becomes of the copy in its place.
+fn fulfil(
+    alloc: Global,
+    tables: &Valid,
+    stores: &mut Vec<Store>,
+    flying: &mut Flights,
+    k: usize,
+    ups: &Dues<'_>,
+    fate: Fate<'_>,
+) -> Result<Moved, NoMemory>
+    requires k { k < length flying.old }
+    requires at { (c : Flying) → slice_get flying.old k ≡ Some c → c.at < length stores.old.items }
+    requires packet { (c : Flying) → slice_get flying.old k ≡ Some c → length c.packet ≡ comps tables.now }
+    requires reads { (c : Flying) → slice_get flying.old k ≡ Some c → All (UpdateReads (length c.packet)) ups.now }
+    requires fits { (c : Flying) → slice_get flying.old k ≡ Some c → FateFits tables.now c.at fate }
+    ensures updated { OnOk result (HasUpdated stores.old.items flying.old k ups.now stores.new.items) }
+    ensures gone { IfOk result (HasGone tables.now flying.old k fate.entry flying.new) }
+    ensures err { OnErr result ((flying.new ≡ flying.old) × SameArrays stores.old.items stores.new.items) }
+{
+    match fate {
+        Fate::Fork { outs } => part(alloc, tables, stores, flying, k, ups, outs),
+        Fate::Seek { target, head } => {
+            update_for(alloc, stores, flying, k, ups)?;
+            Ok(seek(tables, flying, k, target, head))
         }
-        Action::Deliver { port } => {
-            update_for(stores, flying, k, ups.items())?;
+        Fate::Deliver { port } => {
+            update_for(alloc, stores, flying, k, ups)?;
             Ok(deliver(flying, k, port))
         }
-        Action::Fork { copies, lost } => {
-            let count = copies.count();
-            let gone = split(stores, flying, k, ups.items(), copies)?;
-            Ok(Moved::Forked {
-                owner: gone.number,
-                copies: count,
-                lost,
-            })
+        Fate::Stay { rank, node } => {
+            update_for(alloc, stores, flying, k, ups)?;
+            Ok(stay(flying, k, rank, node))
+        }
+        Fate::Wait { rank } => {
+            update_for(alloc, stores, flying, k, ups)?;
+            Ok(wait(flying, k, rank))
         }
     }
 }
 
-/// The frame that crosses a link.
-pub(crate) fn frame_of(alloc: Global, action: &Action, packet: &Packet) -> Result<Frame, NoMemory>
-    ensures { IfOk result (Frames action.now packet.now) }
+/// Makes a step of copy k, as far as its visits are admitted: all of it, or nothing.
+pub(crate) fn step_in<A: Admit>(
+    alloc: Global,
+    tables: &Valid,
+    admit: &A,
+    stores: &mut Vec<Store>,
+    flying: &mut Flights,
+    k: usize,
+) -> Result<Moved, NoMemory>
+    requires stores { length stores.old.items ≡ switch_count tables.now }
+    requires k { k < length flying.old }
+    requires places { All (λ (c : Flying). c.at < switch_count tables.now) flying.old }
+    requires packets { All (λ (c : Flying). length c.packet ≡ comps tables.now) flying.old }
+    requires homes { All (λ (c : Flying). AtHome tables.now c.at c.head) flying.old }
+    ensures made { IfOk result (MakesStep (A.admits admit.now) tables.now k stores.old.items flying.old stores.new.items flying.new) }
+    ensures homes { OnOk result (AreHome tables.now flying.new) }
+    ensures err { OnErr result ((flying.new ≡ flying.old) × SameArrays stores.old.items stores.new.items) }
 {
-    match action {
-        Action::Forward { head, .. } => {
-            let bytes = encode(alloc, *head, packet)?;
-            Ok(Frame::new(bytes))
-        }
-        Action::Deliver { .. } => Ok(Frame::new(Vec::new(alloc))),
-        Action::Fork { .. } => Ok(Frame::new(Vec::new(alloc))),
-    }
-}
-
-/// What moved, with the frame where it crossed a link.
-pub fn framed(moved: Moved, frame: Frame) -> Happened
-    ensures { result ≡ with_frame moved frame }
-{
-    match moved {
-        Moved::Forwarded { owner, from, to } => Happened::Forwarded {
-            owner,
-            from,
-            to,
-            frame,
-        },
-        Moved::Delivered {
-            owner,
-            port,
-            packet,
-        } => Happened::Delivered {
-            owner,
-            port,
-            packet,
-        },
-        Moved::Forked {
-            owner,
-            copies,
-            lost,
-        } => Happened::Forked {
-            owner,
-            copies,
-            lost,
-        },
-    }
+    let _known = tables.tables();
+    let copy = flying.get(k);
+    let mut ups = Dues::new(alloc);
+    let fate = fate(
+        alloc,
+        tables,
+        admit,
+        copy.at,
+        &stores[copy.at as usize],
+        &copy.packet,
+        copy.head,
+        &mut ups,
+    )?;
+    let moved = fulfil(alloc, tables, stores, flying, k, &ups, fate)?;
+    Ok(moved)
 }

@@ -9,16 +9,16 @@ ghost use Rattle.snap_rows.specs.Form.{comps, array_count, switch_count};
 ghost use Rattle.snap_rows.specs.Network.{Net as State, start, whole, Inject, Step};
 ghost use Rattle.snap_net.specs.declared.flying.Flying.{Flying};
 ghost use Rattle.snap_net.specs.Passing.{IsHeard, Passes, lost_in, sent_in};
-ghost use Rattle.snap_net.specs.Shown.{IsHeld, Shows, IsDone, Nothing, Tells, TellsMoved, Same, store_of};
+ghost use Rattle.snap_net.specs.Shown.{IsHeld, Shows, IsDone, Nothing, TellsMoved, Same, store_of};
 ghost use Rattle.snap_net.specs.Parts.{held_of};
-ghost use Rattle.snap_net.specs.Moves.{CanBeDone, HasStepped, HasMoved, HasUpdated, PlanAt};
+ghost use Rattle.snap_net.specs.Moves.{StepsAt};
 ghost use Rattle.snap_net.specs.declared.net.InjectFault.{InjectFault};
 ghost use Rattle.snap_net.specs.declared.net.StepFault.{StepFault};
 
 use crate::flights::Flights;
 use crate::flying::Flying;
-use crate::happened::{Happened, Moved};
-use crate::moves::{carry_out, frame_of, framed};
+use crate::happened::Moved;
+use crate::moves::step_in;
 use crate::parts::Parts;
 use crate::passing::{Passed, carry};
 use crate::rehousing::move_arrays;
@@ -27,8 +27,8 @@ use snap_core::NoMemory;
 use snap_core::packet::Packet;
 use snap_core::place::{Entry, Listed};
 use snap_core::store::Store;
+use snap_rows::admit::{Admit, Every};
 use snap_rows::head::Head;
-use snap_rows::plan::{Plan, plan_step};
 use snap_rows::valid::Valid;
 use std::alloc::Global;
 use std::marker::Model;
@@ -194,56 +194,6 @@ impl Net {
         Ok(number)
     }
 
-    // What the step of a copy does.
-    #[inline(always)]
-    fn plan(&self, k: usize) -> Result<Plan, NoMemory>
-        requires { k < length self.now.flying }
-        ensures { IfOk result (PlanAt self.now k) }
-    {
-        let copy = self.flying.get(k);
-        let store = &self.stores[copy.at as usize];
-        plan_step(
-            self.alloc,
-            &self.tables,
-            copy.at,
-            store,
-            &copy.packet,
-            copy.head,
-        )
-    }
-
-    /// Does a plan for copy k, counted from 0: all of it, or nothing. A refusal leaves the network as it was, but for room
-    /// that its stores took. Refuses for memory alone.
-    #[inline(always)]
-    pub fn carry_out(&mut self, k: usize, plan: Plan) -> Result<Moved, NoMemory>
-        requires k { k < length self.old.flying }
-        requires plan { CanBeDone self.old k plan }
-        ensures updated { OnOk result (HasUpdated self.old.stores self.old.flying k plan.ups self.new.stores) }
-        ensures moved { IfOk result (HasMoved self.old.flying k plan.action self.new.flying) }
-        ensures tables { self.new.tables ≡ self.old.tables }
-        ensures injected { self.new.injected ≡ self.old.injected }
-        ensures refused { OnErr result (Same self.old self.new) }
-    {
-        let moved = carry_out(&mut self.stores, &mut self.flying, k, plan)?;
-        Ok(moved)
-    }
-
-    // Does the plan of a step, all or nothing.
-    #[inline(always)]
-    fn finish(&mut self, k: usize, plan: Plan) -> Result<Moved, NoMemory>
-        requires k { k < length self.old.flying }
-        requires plan { PlanAt self.old k plan }
-        ensures stepped { OnOk result ((s : State) → Shows self.old s → HasStepped self.old k plan.action self.new s) }
-        ensures moved { IfOk result (HasMoved self.old.flying k plan.action self.new.flying) }
-        ensures tables { self.new.tables ≡ self.old.tables }
-        ensures injected { self.new.injected ≡ self.old.injected }
-        ensures refused { OnErr result (Same self.old self.new) }
-    {
-        let _known = self.tables();
-        let moved = self.carry_out(k, plan)?;
-        Ok(moved)
-    }
-
     /// A packet comes in where nothing is in flight, and its copies make their steps, the first one at a time, until each is
     /// delivered: answers what went out. The packet is changed in its own memory, and stands in no list meanwhile. Where memory
     /// is short only the tables and the count of packets are sure to stay.
@@ -289,8 +239,28 @@ impl Net {
         Ok(passed)
     }
 
-    /// Makes a step of copy k, counted from 0, without a frame. A refusal leaves the network as it was, but for
-    /// room that its stores took.
+    /// Makes a step of copy k, counted from 0, as far as its visits are admitted. A refusal leaves the network as it was, but
+    /// for room that its stores took. Refuses for memory alone.
+    pub fn step<A: Admit>(&mut self, k: usize, admit: &A) -> Result<Moved, NoMemory>
+        requires { k < length self.old.flying }
+        ensures stepped { IfOk result (StepsAt (A.admits admit.now) self.old k self.new) }
+        ensures tables { self.new.tables ≡ self.old.tables }
+        ensures injected { self.new.injected ≡ self.old.injected }
+        ensures refused { OnErr result (Same self.old self.new) }
+    {
+        let moved = step_in(
+            self.alloc,
+            &self.tables,
+            admit,
+            &mut self.stores,
+            &mut self.flying,
+            k,
+        )?;
+        Ok(moved)
+    }
+
+    /// Makes a step of copy k, counted from 0, without order. A refusal leaves the network as it was, but for room that its
+    /// stores took.
     ///
     /// # Errors
     ///
@@ -306,31 +276,8 @@ impl Net {
         if k >= self.flying.count() {
             return Err(StepFault::NoCopy);
         }
-        let plan = self.plan(k)?;
-        let moved = self.finish(k, plan)?;
+        let moved = self.step(k, &Every)?;
         Ok(moved)
-    }
-
-    /// `advance` with the frame that crosses a link.
-    ///
-    /// # Errors
-    ///
-    /// As `advance`.
-    pub fn step(&mut self, k: usize) -> Result<Happened, StepFault>
-        ensures done { IfOk result (λ happened. IsDone self.old (Step k) self.new (Tells happened)) }
-        ensures tables { self.new.tables ≡ self.old.tables }
-        ensures injected { self.new.injected ≡ self.old.injected }
-        ensures copy { IfErr result (λ fault. fault ≡ StepFault.NoCopy → length self.old.flying ≤ k) }
-        ensures has_copy { length self.old.flying ≤ k → IfErr result (λ fault. fault ≡ StepFault.NoCopy) }
-        ensures refused { OnErr result (Same self.old self.new) }
-    {
-        if k >= self.flying.count() {
-            return Err(StepFault::NoCopy);
-        }
-        let plan = self.plan(k)?;
-        let frame = frame_of(self.alloc, &plan.action, &self.flying.get(k).packet)?;
-        let moved = self.finish(k, plan)?;
-        Ok(framed(moved, frame))
     }
 
     /// The number at a place of the whole store: each array is taken at its switch. Takes no memory.

@@ -7,7 +7,8 @@ use crate::texts::{FIRST_COME, PARTING, THREE_WAYS, TWO_OWNERS_1, valid};
 use snap_core::NoMemory;
 use snap_core::packet::Packet;
 use snap_core::place::Entry;
-use snap_net::happened::{Frame, Happened, Moved};
+use snap_head::encode::encode;
+use snap_net::happened::Moved;
 use snap_net::net::{InjectFault, Net, StepFault, open_net};
 use snap_net::passing::Passed;
 use snap_net::watch::Unwatched;
@@ -25,6 +26,12 @@ enum Told {
 
     /// Into so many copies, and so many are lost.
     Forked(u64, u64, u64),
+
+    /// For its visit of this rank.
+    Stayed(u64, u16),
+
+    /// Before its visit of this rank.
+    Waited(u64, u16),
 }
 
 fn summary(moved: &Moved) -> Told {
@@ -40,6 +47,8 @@ fn summary(moved: &Moved) -> Told {
             copies,
             lost,
         } => Told::Forked(*owner, *copies, *lost),
+        Moved::Stayed { owner, rank } => Told::Stayed(*owner, *rank),
+        Moved::Waited { owner, rank } => Told::Waited(*owner, *rank),
     }
 }
 
@@ -113,20 +122,15 @@ fn first_number(net: &Net) -> Option<u64> {
     Some(net.array(0, &[0]))
 }
 
-// The frame that crosses a link.
-fn frame(happened: Happened) -> Option<Frame> {
-    match happened {
-        Happened::Forwarded { frame, .. } => Some(frame),
-        Happened::Delivered { .. } => None,
-        Happened::Forked { .. } => None,
-    }
-}
-
-// Whether a step gives this frame, or none.
-fn gives(net: &mut Net, bytes: &[u8]) -> Result<bool, StepFault> {
-    match frame(net.step(0)?) {
-        Some(frame) => Ok(frame.bytes() == bytes),
-        None => Ok(bytes.is_empty()),
+// Whether a step of the first copy takes it over a link in this frame, or over none.
+fn gives(alloc: Global, net: &mut Net, bytes: &[u8]) -> Result<bool, StepFault> {
+    match net.advance(0)? {
+        Moved::Forwarded { .. } => {
+            let copy = net.copy(0);
+            let frame = encode(alloc, copy.head, &copy.packet)?;
+            Ok(frame.as_slice() == bytes)
+        }
+        _ => Ok(bytes.is_empty()),
     }
 }
 
@@ -139,9 +143,9 @@ const TO_A: &[u8] = &[
 ];
 
 // Whether the steps of the first copy give these frames, one after another.
-fn give(net: &mut Net, frames: &[&[u8]]) -> Result<bool, StepFault> {
+fn give(alloc: Global, net: &mut Net, frames: &[&[u8]]) -> Result<bool, StepFault> {
     for bytes in frames {
-        if !gives(net, *bytes)? {
+        if !gives(alloc, net, *bytes)? {
             return Ok(false);
         }
     }
@@ -151,7 +155,7 @@ fn give(net: &mut Net, frames: &[&[u8]]) -> Result<bool, StepFault> {
 // Whether the steps of a first packet give these frames, and the number that is left then.
 fn framed(alloc: Global, net: &mut Net, frames: &[&[u8]]) -> Result<(bool, Option<u64>), Fail> {
     inject(alloc, net, 1)?;
-    let are_given = give(net, frames)?;
+    let are_given = give(alloc, net, frames)?;
     Ok((are_given, first_number(net)))
 }
 

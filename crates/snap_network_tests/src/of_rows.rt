@@ -1,4 +1,4 @@
-//! A step at a switch: all of it, or nothing.
+//! A step at a switch.
 
 ghost use Rattle.std.specs.Prelude.{◌≡◌, length};
 ghost use Rattle.snap_rows.specs.Form.{comps};
@@ -7,8 +7,10 @@ use crate::texts::{MOVED, valid};
 use snap_core::NoMemory;
 use snap_core::packet::Packet;
 use snap_core::store::Store;
-use snap_rows::handle::handle;
-use snap_rows::head::{Action, Head};
+use snap_rows::admit::Every;
+use snap_rows::fork::{Spread, spread_out};
+use snap_rows::head::{Fate, Head};
+use snap_rows::plan::step;
 use snap_rows::valid::Valid;
 use std::alloc::Global;
 use std::test::Fail;
@@ -19,18 +21,6 @@ struct Outcome {
     copies: u64,
     lost: u64,
     number: u64,
-}
-
-fn told(action: &Action, store: &Store) -> Option<Outcome> {
-    match action {
-        Action::Fork { copies, lost } => Some(Outcome {
-            copies: copies.count(),
-            lost: *lost,
-            number: store.get(0, &[0]),
-        }),
-        Action::Forward { .. } => None,
-        Action::Deliver { .. } => None,
-    }
 }
 
 // What the switch of a port leaves of a packet that comes in there, where its store was empty.
@@ -47,15 +37,24 @@ fn forked(
         return Ok(None);
     };
     let mut store = Store::new(alloc);
-    let action = handle(
+    let fate = step(
         alloc,
         tables,
+        &Every,
         at,
         &mut store,
         packet,
         Head::Walk { node: 0 },
     )?;
-    Ok(told(&action, &store))
+    let Fate::Fork { outs } = fate else {
+        return Ok(None);
+    };
+    let Spread { copies, lost } = spread_out(alloc, tables, outs, packet)?;
+    Ok(Some(Outcome {
+        copies: copies.len() as u64,
+        lost,
+        number: store.get(0, &[0]),
+    }))
 }
 
 fn first_forked(alloc: Global) -> Result<Option<Outcome>, Fail> {

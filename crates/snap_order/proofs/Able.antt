@@ -5,7 +5,7 @@ use Rattle.std.proofs.lemmas.Bool.{both_ways, cases_eq}
 use Rattle.std.proofs.lemmas.Option.{same_Some}
 use Rattle.snap_core.specs.Arrays.{Arrays, updates}
 use Rattle.snap_core.specs.Tests.{results}
-use Rattle.snap_rows.specs.declared.head.Action.{Action}
+use Rattle.snap_rows.specs.Actions.{Action}
 use Rattle.snap_rows.specs.declared.head.Head.{Head}
 use Rattle.snap_rows.specs.declared.head.Head.TheVariants.{Walk, Stage, Out, Visit}
 use Rattle.snap_rows.specs.declared.tables.Tables.{Tables}

@@ -1,14 +1,12 @@
 pub mod Taking
-pub mod Turning
-pub mod Acting
 pub mod Doing
 pub mod Overlap
 pub mod Promises
 pub mod Near
 pub mod Hops
 pub mod Keeping
-pub mod Tallying
 pub mod Placed
+pub mod There
 pub mod Tallied
 pub mod Playing
 pub mod Obeying
@@ -31,6 +29,8 @@ pub mod Stepping
 pub mod RoundsWritten
 pub mod OneRounds
 pub mod Handling
+pub mod Stepped
+pub mod Here
 pub mod Weaving
 pub mod Dealing
 pub mod Teams

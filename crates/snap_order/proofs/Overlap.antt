@@ -16,8 +16,7 @@ use Rattle.snap_core.specs.Tests.{results}
 use Rattle.snap_topo.specs.declared.topology.Topology.{Topology}
 use Rattle.snap_rows.specs.declared.tables.Tables.{Tables}
 use Rattle.snap_rows.specs.declared.tables.Row.TheVariants.{Last}
-use Rattle.snap_rows.specs.declared.head.Action.{Action}
-use Rattle.snap_rows.specs.declared.head.Action.TheVariants.{Forward, Fork}
+use Rattle.snap_rows.specs.Actions.{Action, Forward, Fork}
 use Rattle.snap_rows.specs.declared.head.Head.{Head}
 use Rattle.snap_rows.specs.declared.head.Head.TheVariants.{Walk, Visit}
 use Rattle.snap_rows.specs.declared.head.Sent.{Sent}

@@ -1,29 +1,37 @@
 -- Copies stay in their places in runs in turn, and their packets as long as they are.
-use Rattle.std.proofs.Common.{◌≡◌, ℕ, ◌+◌, ◌<◌, List, [], ◌++◌, take, drop, length, refl, ◌∙◌}
+use Rattle.std.proofs.Common.{◌≡◌, ℕ, ◌+◌, ◌<◌, List, [], ◌++◌, Some, take, drop, length, refl, ◌∙◌}
 use Rattle.std.specs.List.{All}
 use Rattle.std.proofs.lemmas.List.Elements.{All-append, All-cons, All-drop, All-map, All-nil, All-take}
 use Rattle.snap_core.specs.Arrays.{Arrays}
-use Rattle.snap_rows.specs.declared.head.Action.{Action}
-use Rattle.snap_rows.specs.declared.head.Action.TheVariants.{Forward, Deliver, Fork}
+use Rattle.snap_rows.specs.Actions.{Action, Forward, Deliver, Fork}
+use Rattle.snap_rows.specs.declared.head.Head.{Head}
 use Rattle.snap_rows.specs.declared.head.Head.TheVariants.{Out, Visit}
 use Rattle.snap_rows.specs.declared.head.Sent.{Sent}
 use Rattle.snap_rows.specs.declared.tables.Tables.{Tables}
 use Rattle.snap_rows.specs.Form.{comps, switch_count}
 use Rattle.snap_rows.specs.Handles.{Handles}
-use Rattle.snap_rows.specs.Home.{AtHome}
+use Rattle.snap_rows.specs.Entries.{rank_at}
+use Rattle.snap_rows.specs.Home.{AtHome, IsVisitAtHome}
 use Rattle.snap_rows.specs.Network.{Copy, Inject, Step, moved}
 use Rattle.snap_rows.specs.Steps.{Arrives}
+use Rattle.snap_rows.specs.Stepping.{ComesTo, visit, walk}
 use Rattle.snap_rows.proofs.Arrives.{arrives}
 use Rattle.snap_rows.proofs.Bounded.{port_below, port_home}
+use Rattle.snap_rows.proofs.Later.{rank_is_below}
 use Rattle.snap_rows.proofs.Rows.{All-get}
 use Rattle.snap_net.specs.declared.flying.Flying.{Flying}
 use Rattle.snap_net.specs.Shown.{Held, IsHeld, Shows}
 use Rattle.snap_gen.specs.InTurn.{Becomes, SentOn, Waiting, Forks, TakesTurns}
+use Rattle.snap_gen.proofs.Chained.{home_first}
 use Rattle.snap_gen.proofs.Nodes.{IsTwo}
 use Rattle.snap_runs.proofs.Steps.{held-shown}
 use Rattle.snap_order.specs.Ordered.{Ordered, Turn, IsBefore, LeadsInTurn, left_by, injects, moves, visits, waits}
 use Rattle.snap_order.proofs.Taking.{stays_at_home, turn_handles}
-use Rattle.snap_order.proofs.Turning.{due_home}
+
+-- a head that comes to a visit is at home there
+due_home : {t : Tables} {w : ℕ} {k : List ℕ} {m : Arrays} {head : Head} {r n : ℕ} → IsTwo t → AtHome t w head → ComesTo t w k m head r n → rank_at t r ≡ Some w → IsVisitAtHome t r n
+due_home two home visit own = home.1
+due_home {t = t} {w = w} {k = k} {m = m} {n = n} two home (walk some on) own = home_first t two k m w _ n on (rank_is_below t 0 w own)
 
 -- a copy is in its place
 pub record Placed (t : Tables) (c : Copy) : Type 0 where

@@ -1,5 +1,5 @@
 -- How a run in turn goes on.
-use Rattle.std.proofs.Common.{◌≡◌, ◌⊎◌, inl, inr, ℕ, ◌+◌, ◌<◌, Bool, true, false, List, [], ◌∷◌, ◌++◌, Option, Some, take, drop, length, reverse, refl, sym, ap, subst, ◌∙◌, arith}
+use Rattle.std.proofs.Common.{◌≡◌, ◌⊎◌, inl, inr, ℕ, ◌+◌, ◌<◌, Bool, true, false, List, [], ◌∷◌, ◌++◌, Option, Some, get_or, take, drop, length, reverse, refl, sym, ap, subst, ◌∙◌, arith}
 use Rattle.std.specs.Prelude.{is_some, slice_get}
 use Rattle.std.specs.List.{All}
 use Rattle.std.proofs.lemmas.Bool.{false≢true}
@@ -7,8 +7,7 @@ use Rattle.std.proofs.lemmas.List.{length-append, length-map, length-reverse, re
 use Rattle.std.proofs.lemmas.List.Sorted.{All-permutation, IsPermutation-reverse}
 use Rattle.std.proofs.lemmas.List.Elements.{All-append, All-cons, All-drop, All-head, All-map, All-nil, All-pop, All-push, All-take, All-weaker}
 use Rattle.snap_core.specs.Arrays.{zero_arrays}
-use Rattle.snap_rows.specs.declared.head.Action.{Action}
-use Rattle.snap_rows.specs.declared.head.Action.TheVariants.{Forward, Deliver, Fork}
+use Rattle.snap_rows.specs.Actions.{Action, Forward, Deliver, Fork}
 use Rattle.snap_rows.specs.declared.head.Head.TheVariants.{Out, Visit, Walk}
 use Rattle.snap_rows.specs.declared.head.Sent.{Sent}
 use Rattle.snap_rows.specs.declared.tables.Tables.{Tables}
@@ -25,13 +24,15 @@ use Rattle.snap_runs.specs.Playing.{IsLong, IsReady, packets_in}
 use Rattle.snap_rows.specs.Happenings.{number_of}
 use Rattle.snap_runs.proofs.Blocks.{in_pushed}
 use Rattle.snap_runs.proofs.Steps.{held-shown}
-use Rattle.snap_runs.proofs.Playing.{elsewhere, tally_fresh}
+use Rattle.snap_runs.specs.Tallies.{IsThere, owner_by}
+use Rattle.snap_runs.proofs.Playing.{elsewhere, owner_by-moving, tally_fresh}
 use Rattle.snap_order.specs.declared.play.Play.{Play}
-use Rattle.snap_order.specs.declared.turned.Turned.{Turned}
+use Rattle.snap_net.specs.declared.happened.Moved.{Moved}
 use Rattle.snap_order.specs.Ordered.{Ordered, Turn, Happens, Stays, Waits, LeadsInTurn, begin, happenings, injects, left_by, moves, turn_of, visits, waits}
 use Rattle.snap_order.specs.Playing.{HasInjected, HasStepped, IsPlaying, IsTally, NotesTurn, OwnerIsBelow, Plays, left_in}
-use Rattle.snap_order.specs.Shown.{IsDoneInTurn, NoTurn, ShowsInTurn, TellsTurn, told_of}
-use Rattle.snap_order.proofs.Tallied.{Tallied, owner_of-happened, step_long, tallied_turn}
+use Rattle.snap_order.specs.Shown.{IsDoneInTurn, NoTurn, ShowsInTurn, StandsTurn, TellsTurn, told_of}
+use Rattle.snap_order.proofs.There.{turn_stands, turn_there}
+use Rattle.snap_order.proofs.Tallied.{Tallied, step_long, tallied_turn}
 
 -- ---- before the first event
 pub plays_first : (t : Tables) (hops : Bool) (packets : List Ready) (v : Play) → v.net.net.tables ≡ t → v.hops ≡ hops → ShowsInTurn v.net (begin t zero_arrays) → v.tallies.items ≡ [] → v.waiting.items ≡ reverse packets → All (IsReady t) packets
@@ -52,6 +53,27 @@ pub left_first : (packets : List Ready) (v : Play) → v.waiting.items ≡ rever
 left_first packets v waiting = ap packets_in (ap reverse waiting ∙ reverse-reverse packets)
 
 -- ---- numbers of packets
+-- of the copy to which a turn happens
+number_in : Turn → ℕ
+number_in (Happens h) = number_of h
+number_in (Stays c r) = c.number
+number_in (Waits c r) = c.number
+
+number_told : (u : Turn) → number_in u ≡ owner_by (told_of u)
+number_told (Happens h) = sym (owner_by-moving h)
+number_told (Stays c r) = refl
+number_told (Waits c r) = refl
+
+number_made : (c : Copy) (a : Action) → number_of (happening c a) ≡ c.number
+number_made c (Forward to head) = refl
+number_made c (Deliver port) = refl
+number_made c (Fork copies lost) = refl
+
+number_turned : (c : Copy) (b : Becomes) → number_in (turn_of c b) ≡ c.number
+number_turned c (SentOn to r n) = refl
+number_turned c (Waiting r n) = refl
+number_turned c (Forks copies lost) = refl
+
 module _ (P : ℕ → Type 0) where
   moved_numbers : (c : Copy) (a : Action) → P c.number → All (λ (d : Copy). P d.number) (moved c a)
   moved_numbers c (Forward to head) here = All-cons (λ (d : Copy). P d.number) _ [] here (All-nil (λ (d : Copy). P d.number))
@@ -88,6 +110,15 @@ module _ (P : ℕ → Type 0) where
       let here : P c.number = All-get (λ (c : Copy). P c.number) s.net.flying i c all is in
       (replaced s.net.flying i (left_by c b) all (left_numbers c b here), number_of-turn c b here)
   step_numbers all (waits is before early) = (all, All-nil (λ h. P (number_of h)))
+
+-- so does of the packet of which it is told
+turn_owner_of : (P : ℕ → Type 0) (u v : Turn) (c : Copy) → P c.number → number_in u ≡ c.number → u ∷ [] ≡ v ∷ [] → P (owner_by (told_of v))
+turn_owner_of P u v c here own same = subst P (sym own ∙ number_told u ∙ ap (λ w. owner_by (told_of w)) (ap (λ l. get_or l 0 v) same)) here
+
+pub turn_owner : (P : ℕ → Type 0) {t : Tables} {s s' : Ordered} {j : ℕ} {us : List Turn} → All (λ (c : Copy). P c.number) s.net.flying → LeadsInTurn t s (Step j) s' us → (u : Turn) → us ≡ u ∷ [] → P (owner_by (told_of u))
+turn_owner P {s = s} all (moves {i = i} {c = c} {a = a} is none handles) u one = turn_owner_of P (Happens (happening c a)) u c (All-get (λ (c : Copy). P c.number) s.net.flying i c all is) (number_made c a) one
+turn_owner P {s = s} all (visits {i = i} {c = c} {b = b} is before turn takes) u one = turn_owner_of P (turn_of c b) u c (All-get (λ (c : Copy). P c.number) s.net.flying i c all is) (number_turned c b) one
+turn_owner P {s = s} all (waits {i = i} {c = c} {r = r} is before early) u one = turn_owner_of P (Waits c r) u c (All-get (λ (c : Copy). P c.number) s.net.flying i c all is) refl one
 
 pub step_injected : {t : Tables} {s s' : Ordered} {j : ℕ} {us : List Turn} → LeadsInTurn t s (Step j) s' us → s'.net.injected ≡ s.net.injected
 step_injected (moves is none handles) = refl
@@ -138,7 +169,7 @@ module _ (old new : Play) (r : Ready) (rest : List Ready) (y : Tally) (stood : o
       long i z (inr k) = subst (IsLong (comps t)) k.1 (subst (All (λ x. length x ≡ comps t)) (sym d) (All-nil (λ x. length x ≡ comps t)))
 
 -- ---- a copy makes a step
-module _ (old new : Play) (place : ℕ) (told : Turned) (held : IsHeld old.net.net) (does : IsDoneInTurn old.net (Step place) new.net (TellsTurn told)) (notes : NotesTurn old.hops old.net.net.tables.switches told old.tallies.items new.tallies.items)
+module _ (old new : Play) (place : ℕ) (told : Moved) (held : IsHeld old.net.net) (does : IsDoneInTurn old.net (Step place) new.net (TellsTurn told)) (notes : NotesTurn old.hops old.net.net.tables.switches new.net.net.flying place told old.tallies.items new.tallies.items)
     (same : new.net.net.tables ≡ old.net.net.tables) (same_hops : new.hops ≡ old.hops) (still : new.waiting.items ≡ old.waiting.items) where
   module _ (t : Tables) (hops : Bool) (s : Ordered) (us : List Turn) (p : Plays t hops s us old) where
     abbrev n : ℕ
@@ -150,11 +181,11 @@ module _ (old new : Play) (place : ℕ) (told : Turned) (held : IsHeld old.net.n
     packets : All (λ (c : Copy). length c.packet ≡ comps t) s.net.flying
     packets = held-shown (λ (c : Flying). length c.packet ≡ comps t) old.net.net s.net p.shows.net (subst (λ t'. All (λ (c : Flying). length c.packet ≡ comps t') old.net.net.flying) p.tables held.packets)
 
-    on : (s' : Ordered) (ts : List Turn) → LeadsInTurn t s (Step place) s' ts → ShowsInTurn new.net s' → (u : Turn) → ts ≡ u ∷ [] → (x : Turned) → x ≡ told_of u → NotesTurn hops t.switches x old.tallies.items new.tallies.items → Plays t hops s' (us ++ ts) new
+    on : (s' : Ordered) (ts : List Turn) → LeadsInTurn t s (Step place) s' ts → ShowsInTurn new.net s' → (u : Turn) → ts ≡ u ∷ [] → (x : Moved) → x ≡ told_of u → NotesTurn hops t.switches new.net.net.flying place x old.tallies.items new.tallies.items → Plays t hops s' (us ++ ts) new
     on s' ts leads shows u what x is noted =
         let inj : s'.net.injected ≡ n = step_injected leads in
         let numbers = step_numbers (λ m. m < n) p.below leads in
-        let y = tallied_turn t hops n us old.tallies.items new.tallies.items tallied_now ts u what x is noted numbers.1 (step_long (comps t) packets leads) in
+        let y = tallied_turn t hops n us old.tallies.items new.tallies.items tallied_now ts u what new.net.net.flying place (subst (λ cs. StandsTurn cs place u) shows.net.flying (turn_stands leads u what)) x is noted numbers.1 (step_long (comps t) packets leads) in
         record {
           tables = same ∙ p.tables;
           hops_same = same_hops ∙ p.hops_same;
@@ -177,34 +208,25 @@ module _ (old new : Play) (place : ℕ) (told : Turned) (held : IsHeld old.net.n
         turns = a.1;
         leads = a.2;
         plays = on t hops s us p a.0 a.1 a.2 a.3 u.0 u.1 told u.2
-            (subst (λ b. NotesTurn b t.switches told old.tallies.items new.tallies.items) p.hops_same (subst (λ (t' : Tables). NotesTurn old.hops t'.switches told old.tallies.items new.tallies.items) p.tables notes));
+            (subst (λ b. NotesTurn b t.switches new.net.net.flying place told old.tallies.items new.tallies.items) p.hops_same (subst (λ (t' : Tables). NotesTurn old.hops t'.switches new.net.net.flying place told old.tallies.items new.tallies.items) p.tables notes));
       }
 
--- what was told of has a tally
-pub owner_below : (old new : Play) (place : ℕ) (told : Turned) → IsPlaying old → IsDoneInTurn old.net (Step place) new.net (TellsTurn told) → OwnerIsBelow (length old.tallies.items) told
-owner_below old new place told playing does = by u.0 u.1 told u.2
-  where
-    s : Ordered
-    s = playing.0
+-- what was told of has a tally, and stands at the place if it crossed a link
+module _ (old new : Play) (place : ℕ) (told : Moved) (playing : IsPlaying old) (does : IsDoneInTurn old.net (Step place) new.net (TellsTurn told)) where
+  pub owner_below : OwnerIsBelow (length old.tallies.items) told
+  owner_below =
+      let s = playing.0 in
+      let p = playing.2 in
+      let a = does s p.shows in
+      let u = a.4 in
+      subst (λ m. OwnerIsBelow (length old.tallies.items) m) (sym u.2) (subst (λ n. OwnerIsBelow n (told_of u.0)) (sym p.counted) (turn_owner (λ m. m < s.net.injected) p.below a.2 u.0 u.1))
 
-    p : Plays old.net.net.tables old.hops playing.0 playing.1 old
-    p = playing.2
-
-    a : (s' : Ordered) × (ts : List Turn) × LeadsInTurn old.net.net.tables s (Step place) s' ts × ShowsInTurn new.net s' × TellsTurn told ts
-    a = does s p.shows
-
-    u : TellsTurn told a.1
-    u = a.4
-
-    numbers : All (λ h. number_of h < s.net.injected) (happenings a.1)
-    numbers = (step_numbers (λ m. m < s.net.injected) p.below a.2).1
-
-    by : (u : Turn) → a.1 ≡ u ∷ [] → (x : Turned) → x ≡ told_of u → OwnerIsBelow (length old.tallies.items) x
-    by (Happens x) what y e =
-        let less : number_of x < s.net.injected = All-head (λ h. number_of h < s.net.injected) x [] (subst (All (λ h. number_of h < s.net.injected)) (ap happenings what) numbers) in
-        subst (OwnerIsBelow (length old.tallies.items)) (sym e) (subst (λ m. m < length old.tallies.items) (sym (owner_of-happened x)) (subst (λ m. number_of x < m) (sym p.counted) less))
-    by (Stays c r) what y e = subst (OwnerIsBelow (length old.tallies.items)) (sym e) tt
-    by (Waits c r) what y e = subst (OwnerIsBelow (length old.tallies.items)) (sym e) tt
+  pub moved_there : IsThere new.net.net.flying place told
+  moved_there =
+      let s = playing.0 in
+      let a = does s playing.2.shows in
+      let u = a.4 in
+      subst (IsThere new.net.net.flying place) (sym u.2) (turn_there new.net.net.flying place u.0 (subst (λ cs. StandsTurn cs place u.0) a.3.net.flying (turn_stands a.2 u.0 u.1)))
 
 pub playing_of : (t : Tables) (hops : Bool) (s : Ordered) (us : List Turn) (v : Play) → Plays t hops s us v → IsPlaying v
 playing_of t hops s us v p = (s, us, subst (λ t'. Plays t' v.hops s us v) (sym p.tables) (subst (λ h. Plays t h s us v) (sym p.hops_same) p))

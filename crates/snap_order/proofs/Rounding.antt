@@ -16,23 +16,24 @@ use Rattle.snap_runs.specs.Playing.{IsReady, packets_in}
 use Rattle.snap_rows.specs.Happenings.{number_of}
 use Rattle.snap_runs.proofs.Steps.{rests-shown}
 use Rattle.snap_order.specs.declared.play.Play.{Play}
-use Rattle.snap_order.specs.declared.turned.Turned.{Turned}
+use Rattle.snap_net.specs.declared.happened.Moved.{Moved}
 use Rattle.snap_order.specs.Ordered.{Ordered, Turn, begin, happenings}
 use Rattle.snap_order.specs.Playing.{HasInjected, IsPlaying, OwnerIsBelow, Plays, left_in}
 use Rattle.snap_order.specs.Reports.{IsRunReport}
-use Rattle.snap_order.specs.Rounding.{HasRounded, IsPaced, IsRoundDone, NoteTurns, PlaysRounds, toil}
+use Rattle.snap_order.specs.Rounding.{AreThere, HasRounded, IsPaced, IsRoundDone, NoteTurns, PlaysRounds, toil}
 use Rattle.snap_order.specs.Rounds.{GoesByRounds, injects, goes_on, rests, IsRound, IsRoundReport}
 use Rattle.snap_order.specs.Shown.{IsOrderedHeld, OrderedHeld, ShowsInTurn, told_of}
 use Rattle.snap_order.proofs.Placed.{IsLong, Placed, long_shown, placed_shown}
 use Rattle.snap_order.proofs.Rounds.{injects_one, round_injected, round_numbers, tallied_round, told_below}
 use Rattle.snap_order.proofs.Standing.{inject_pace, pace_first}
+use Rattle.snap_order.proofs.There.{StandFrom, round_stands, told_there}
 use Rattle.snap_order.proofs.Toiling.{round_falls, round_pace, toil_of, toil_shown}
 
 -- ---- a round
 two_held : (v : OrderedHeld) → IsHeld v.net → IsOrderedHeld v → IsTwo v.net.tables
 two_held v held ordered = record { form = held.form; valid = held.valid; version = ordered.version }
 
-module _ (old : Play) (now : OrderedHeld) (told : List Turned) (does : IsRoundDone old.net now told) where
+module _ (old : Play) (now : OrderedHeld) (told : List Moved) (does : IsRoundDone old.net now told) where
   -- the round of a state that was shown, over the tables at hand
   round_of : (t : Tables) (hops : Bool) (s : Ordered) (us : List Turn) → Plays t hops s us old → (s' : Ordered) × (es : List Event) × (ts : List Turn) × IsRound t s es s' ts × ShowsInTurn now s' × (told ≡ map told_of ts)
   round_of t hops s us p = subst (λ t'. (s' : Ordered) × (es : List Event) × (ts : List Turn) × IsRound t' s es s' ts × ShowsInTurn now s' × (told ≡ map told_of ts)) p.tables (does s p.shows)
@@ -42,10 +43,19 @@ module _ (old : Play) (now : OrderedHeld) (told : List Turned) (does : IsRoundDo
   told_all playing =
       let p = playing.2 in
       let a = round_of old.net.net.tables old.hops playing.0 playing.1 p in
-      let numbers = round_numbers playing.0.net.injected p.below a.3 in
-      subst (λ n. All (OwnerIsBelow n) told) (sym p.counted) (subst (All (OwnerIsBelow playing.0.net.injected)) (sym a.5) (told_below playing.0.net.injected a.2 numbers.1))
+      subst (λ n. All (OwnerIsBelow n) told) (sym p.counted) (subst (All (OwnerIsBelow playing.0.net.injected)) (sym a.5) (told_below playing.0.net.injected p.below a.3))
 
-  module _ (new : Play) (is : new.net ≡ now) (held : IsHeld old.net.net) (ordered : IsOrderedHeld old.net) (notes : NoteTurns old.hops old.net.net.tables.switches told old.tallies.items new.tallies.items)
+  -- where it left its copies
+  stands_of : (t : Tables) (hops : Bool) (s : Ordered) (us : List Turn) (p : Plays t hops s us old) → StandFrom 0 now.net.flying (round_of t hops s us p).2
+  stands_of t hops s us p = let a = round_of t hops s us p in subst (λ cs. StandFrom 0 cs a.2) a.4.net.flying (round_stands a.3)
+
+  pub there_all : IsPlaying old → AreThere 0 now.net.flying told
+  there_all playing =
+      let t = old.net.net.tables in
+      let a = round_of t old.hops playing.0 playing.1 playing.2 in
+      subst (AreThere 0 now.net.flying) (sym a.5) (told_there a.2 0 now.net.flying (stands_of t old.hops playing.0 playing.1 playing.2))
+
+  module _ (new : Play) (is : new.net ≡ now) (held : IsHeld old.net.net) (ordered : IsOrderedHeld old.net) (notes : NoteTurns old.hops old.net.net.tables.switches now.net.flying 0 told old.tallies.items new.tallies.items)
       (same : now.net.tables ≡ old.net.net.tables) (same_hops : new.hops ≡ old.hops) (still : new.waiting.items ≡ old.waiting.items) where
     pub plays_round : HasRounded old new
     plays_round t hops s us p =
@@ -56,9 +66,9 @@ module _ (old : Play) (now : OrderedHeld) (told : List Turned) (does : IsRoundDo
         let long = subst (λ t'. All (IsLong (comps t')) s.net.flying) p.tables (long_shown old.net.net s.net held p.shows.net) in
         let numbers = round_numbers n p.below a.3 in
         let inj : a.0.net.injected ≡ n = round_injected a.3 in
-        let noted = subst (λ l. NoteTurns hops t.switches l old.tallies.items new.tallies.items) a.5
-        (subst (λ b. NoteTurns b t.switches told old.tallies.items new.tallies.items) p.hops_same (subst (λ (t' : Tables). NoteTurns old.hops t'.switches told old.tallies.items new.tallies.items) p.tables notes)) in
-        let y = tallied_round t two hops n us old.tallies.items new.tallies.items a.3 p.below placed long (record { counted = p.counted; before = p.before; tallied = p.tallied; long = p.long }) noted in
+        let noted = subst (λ l. NoteTurns hops t.switches now.net.flying 0 l old.tallies.items new.tallies.items) a.5
+        (subst (λ b. NoteTurns b t.switches now.net.flying 0 told old.tallies.items new.tallies.items) p.hops_same (subst (λ (t' : Tables). NoteTurns old.hops t'.switches now.net.flying 0 told old.tallies.items new.tallies.items) p.tables notes)) in
+        let y = tallied_round t two hops n now.net.flying us 0 old.tallies.items new.tallies.items a.3 p.below placed long (record { counted = p.counted; before = p.before; tallied = p.tallied; long = p.long }) (stands_of t hops s us p) noted in
         record {
           left = ap (λ ws. packets_in (reverse ws)) still;
           state = a.0;

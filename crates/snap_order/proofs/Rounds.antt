@@ -1,33 +1,28 @@
 -- Rounds, and runs by rounds.
 use Rattle.std.proofs.Common.{◌≡◌, ℕ, ◌+◌, ◌<◌, Bool, List, [], ◌∷◌, ◌++◌, length, map, refl, sym, ap, subst, ◌∙◌, append-nil, append_assoc}
 use Rattle.std.specs.List.{All}
-use Rattle.std.proofs.lemmas.List.Elements.{All-append, All-cons, All-head, All-nil, All-tail}
+use Rattle.std.proofs.lemmas.List.Elements.{All-append, All-cons, All-nil}
 use Rattle.snap_rows.specs.declared.tables.Tables.{Tables}
 use Rattle.snap_rows.specs.Form.{comps}
-use Rattle.snap_rows.specs.Network.{Copy, Event, Inject, Step, happening, packets_of}
+use Rattle.snap_rows.specs.Network.{Copy, Event, Inject, packets_of}
 use Rattle.snap_gen.proofs.Nodes.{IsTwo}
 use Rattle.snap_runs.specs.declared.tally.Tally.{Tally}
 use Rattle.snap_rows.specs.Happenings.{number_of}
 use Rattle.snap_net.proofs.Told.{packets_of-append}
-use Rattle.snap_order.specs.declared.turned.Turned.{Turned}
-use Rattle.snap_order.specs.declared.turned.Turned.TheVariants.{Moved, Visited, Waited}
-use Rattle.snap_order.specs.Ordered.{Ordered, Turn, Happens, Stays, Waits, LeadsInTurn, RunsInTurn, done, on, happenings, injects as injecting, moves, turn_of, visits, waits}
+use Rattle.snap_net.specs.declared.flying.Flying.{Flying}
+use Rattle.snap_net.specs.declared.happened.Moved.{Moved}
+use Rattle.snap_order.specs.Ordered.{Ordered, Turn, LeadsInTurn, RunsInTurn, done, on, happenings, injects as injecting}
 use Rattle.snap_order.specs.Playing.{NotesTurn, OwnerIsBelow}
-use Rattle.snap_order.specs.Rounding.{NoteTurns, no_notes, notes}
+use Rattle.snap_order.specs.Rounding.{NoteTurns, no_notes, notes, width}
 use Rattle.snap_order.specs.Rounds.{GoesByRounds, rests, injects, goes_on, TakesFrom, ends, takes}
 use Rattle.snap_order.specs.Shown.{told_of}
 use Rattle.snap_order.proofs.Overlap.{happenings_more}
 use Rattle.snap_order.proofs.Placed.{IsLong, Placed, step_keeps_long, step_placed}
-use Rattle.snap_order.proofs.Playing.{step_injected, step_numbers}
-use Rattle.snap_order.proofs.Tallied.{Tallied, owner_of-happened, step_long, tallied_turn}
+use Rattle.snap_order.proofs.Playing.{step_injected, step_numbers, turn_owner}
+use Rattle.snap_order.proofs.Tallied.{Tallied, step_long, tallied_turn}
+use Rattle.snap_order.proofs.There.{StandFrom, one_turn}
 
 -- ---- a round
--- a step is one turn
-pub one_turn : {t : Tables} {s s' : Ordered} {j : ℕ} {us : List Turn} → LeadsInTurn t s (Step j) s' us → (u : Turn) × (us ≡ u ∷ [])
-one_turn (moves {c = c} {a = a} is none does) = (Happens (happening c a), refl)
-one_turn (visits {c = c} {b = b} is before turn taking) = (turn_of c b, refl)
-one_turn (waits {c = c} {r = r} is before early) = (Waits c r, refl)
-
 pub injects_one : {t : Tables} {s s' : Ordered} {port : ℕ} {k : List ℕ} {us : List Turn} → LeadsInTurn t s (Inject port k) s' us → s'.net.injected ≡ s.net.injected + 1
 injects_one (injecting at first) = refl
 
@@ -52,37 +47,33 @@ round_numbers n all (takes {u = u} {us = us} leads next rest) =
     (more.0, subst (All (λ h. number_of h < n)) (sym (happenings_more u us)) (All-append (λ h. number_of h < n) (happenings u) (happenings us) first.1 more.1))
 
 -- what is told is of these packets
-pub told_below : (n : ℕ) (us : List Turn) → All (λ h. number_of h < n) (happenings us) → All (OwnerIsBelow n) (map told_of us)
-told_below n [] all = All-nil (OwnerIsBelow n)
-told_below n (Happens h ∷ us) all =
-    All-cons (OwnerIsBelow n) (told_of (Happens h)) (map told_of us) (subst (λ m. m < n) (sym (owner_of-happened h)) (All-head (λ h. number_of h < n) h (happenings us) all))
-    (told_below n us (All-tail (λ h. number_of h < n) h (happenings us) all))
-told_below n (Stays c r ∷ us) all = All-cons (OwnerIsBelow n) (told_of (Stays c r)) (map told_of us) tt (told_below n us all)
-told_below n (Waits c r ∷ us) all = All-cons (OwnerIsBelow n) (told_of (Waits c r)) (map told_of us) tt (told_below n us all)
+pub told_below : {t : Tables} {i : ℕ} {s s' : Ordered} {es : List Event} {us : List Turn} (n : ℕ) → All (λ (c : Copy). c.number < n) s.net.flying → TakesFrom t i s es s' us → All (OwnerIsBelow n) (map told_of us)
+told_below n all (ends at) = All-nil (OwnerIsBelow n)
+told_below n all (takes {u = u} {us = us} leads next rest) =
+    let one = one_turn leads in
+    let first = step_numbers (λ m. m < n) all leads in
+    subst (λ l. All (OwnerIsBelow n) (map told_of (l ++ us))) (sym one.1) (All-cons (OwnerIsBelow n) (told_of one.0) (map told_of us) (turn_owner (λ m. m < n) all leads one.0 one.1) (told_below n first.0 rest))
 
 -- ---- notes
-nothing_noted : {hops : Bool} {switches : List (List ℕ)} {ys zs : List Tally} → NoteTurns hops switches [] ys zs → zs ≡ ys
+nothing_noted : {hops : Bool} {switches : List (List ℕ)} {cs : List Flying} {place : ℕ} {ys zs : List Tally} → NoteTurns hops switches cs place [] ys zs → zs ≡ ys
 nothing_noted no_notes = refl
 
-first_noted : {hops : Bool} {switches : List (List ℕ)} {x : Turned} {xs : List Turned} {ys end : List Tally} → NoteTurns hops switches (x ∷ xs) ys end → (zs : List Tally) × NotesTurn hops switches x ys zs × NoteTurns hops switches xs zs end
+first_noted : {hops : Bool} {switches : List (List ℕ)} {cs : List Flying} {place : ℕ} {x : Moved} {xs : List Moved} {ys end : List Tally} → NoteTurns hops switches cs place (x ∷ xs) ys end
+    → (zs : List Tally) × NotesTurn hops switches cs place x ys zs × NoteTurns hops switches cs (place + width x) xs zs end
 first_noted (notes {zs = zs} first rest) = (zs, first, rest)
 
--- there are as many tallies as before
-pub same_count : (hops : Bool) (switches : List (List ℕ)) (x : Turned) (ys zs : List Tally) → NotesTurn hops switches x ys zs → length zs ≡ length ys
-same_count hops switches (Moved h) ys zs noted = noted.count
-same_count hops switches (Visited owner rank) ys zs same = ap length same
-same_count hops switches (Waited owner rank) ys zs same = ap length same
-
-module _ (t : Tables) (two : IsTwo t) (hops : Bool) (n : ℕ) where
-  pub tallied_round : {i : ℕ} {s s' : Ordered} {es : List Event} {ts : List Turn} (us : List Turn) (ys zs : List Tally) → TakesFrom t i s es s' ts → All (λ (c : Copy). c.number < n) s.net.flying → All (Placed t) s.net.flying → All (IsLong (comps t)) s.net.flying
-      → Tallied t hops n us ys → NoteTurns hops t.switches (map told_of ts) ys zs → Tallied t hops n (us ++ ts) zs
-  tallied_round us ys zs (ends at) below placed long p noted = subst (λ l. Tallied t hops n l zs) (sym (append-nil us)) (subst (Tallied t hops n us) (sym (nothing_noted noted)) p)
-  tallied_round us ys zs (takes {s' = mid} {u = u} {us = ts} leads next rest) below placed long p noted =
+module _ (t : Tables) (two : IsTwo t) (hops : Bool) (n : ℕ) (cs : List Flying) where
+  pub tallied_round : {i : ℕ} {s s' : Ordered} {es : List Event} {ts : List Turn} (us : List Turn) (place : ℕ) (ys zs : List Tally) → TakesFrom t i s es s' ts → All (λ (c : Copy). c.number < n) s.net.flying → All (Placed t) s.net.flying → All (IsLong (comps t)) s.net.flying
+      → Tallied t hops n us ys → StandFrom place cs ts → NoteTurns hops t.switches cs place (map told_of ts) ys zs → Tallied t hops n (us ++ ts) zs
+  tallied_round us place ys zs (ends at) below placed long p stands noted = subst (λ l. Tallied t hops n l zs) (sym (append-nil us)) (subst (Tallied t hops n us) (sym (nothing_noted noted)) p)
+  tallied_round us place ys zs (takes {s' = mid} {u = u} {us = ts} leads next rest) below placed long p stands noted =
       let one = one_turn leads in
-      let first = first_noted (subst (λ l. NoteTurns hops t.switches (map told_of (l ++ ts)) ys zs) one.1 noted) in
+      let there = subst (λ l. StandFrom place cs (l ++ ts)) one.1 stands in
+      let first = first_noted (subst (λ l. NoteTurns hops t.switches cs place (map told_of (l ++ ts)) ys zs) one.1 noted) in
       let numbers = step_numbers (λ m. m < n) below leads in
-      let q = tallied_turn t hops n us ys first.0 p u one.0 one.1 (told_of one.0) refl first.1 numbers.1 (step_long (comps t) long leads) in
-      subst (λ l. Tallied t hops n l zs) (append_assoc us u ts) (tallied_round (us ++ u) first.0 zs rest numbers.0 (step_placed t two leads placed) (step_keeps_long t two (comps t) leads placed long) q first.2)
+      let q = tallied_turn t hops n us ys first.0 p u one.0 one.1 cs place there.0 (told_of one.0) refl first.1 numbers.1 (step_long (comps t) long leads) in
+      subst (λ l. Tallied t hops n l zs) (append_assoc us u ts)
+      (tallied_round (us ++ u) (place + width (told_of one.0)) first.0 zs rest numbers.0 (step_placed t two leads placed) (step_keeps_long t two (comps t) leads placed long) q there.1 first.2)
 
 -- ---- runs by rounds
 runs_then : (t : Tables) {s s' s'' : Ordered} {es fs : List Event} {us vs : List Turn} → RunsInTurn t s es s' us → RunsInTurn t s' fs s'' vs → RunsInTurn t s (es ++ fs) s'' (us ++ vs)

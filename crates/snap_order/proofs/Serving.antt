@@ -6,8 +6,7 @@ use Rattle.std.proofs.lemmas.Bool.{both_ways, cases_lt}
 use Rattle.std.proofs.lemmas.List.Elements.{All-append, All-cons, All-drop, All-map, All-nil, All-take}
 use Rattle.std.proofs.lemmas.Option.{none-some, same_Some}
 use Rattle.snap_core.specs.Arrays.{Arrays}
-use Rattle.snap_rows.specs.declared.head.Action.{Action}
-use Rattle.snap_rows.specs.declared.head.Action.TheVariants.{Forward, Fork}
+use Rattle.snap_rows.specs.Actions.{Action, Forward, Fork}
 use Rattle.snap_rows.specs.declared.head.Head.{Head}
 use Rattle.snap_rows.specs.declared.head.Head.TheVariants.{Walk, Stage, Out, Visit}
 use Rattle.snap_rows.specs.declared.head.Sent.{Sent}

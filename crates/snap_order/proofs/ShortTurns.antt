@@ -8,8 +8,7 @@ use Rattle.snap_dep.specs.Ranks.{IsRank}
 use Rattle.snap_topo.specs.declared.topology.Topology.{Topology}
 use Rattle.snap_route.specs.Walks.{IsDiameter, Linked}
 use Rattle.snap_rows.specs.declared.tables.Tables.{Tables}
-use Rattle.snap_rows.specs.declared.head.Action.{Action}
-use Rattle.snap_rows.specs.declared.head.Action.TheVariants.{Forward, Deliver, Fork}
+use Rattle.snap_rows.specs.Actions.{Action, Forward, Deliver, Fork}
 use Rattle.snap_rows.specs.declared.head.Head.TheVariants.{Visit}
 use Rattle.snap_rows.specs.Network.{Copy, Event, Inject, Step, happening, moved, packets_of}
 use Rattle.snap_rows.proofs.Rows.{All-get}

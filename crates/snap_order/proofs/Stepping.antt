@@ -7,7 +7,7 @@ use Rattle.snap_rows.specs.Network.{Copy, Step, moved}
 use Rattle.snap_net.specs.Shown.{flown}
 use Rattle.snap_gen.proofs.Leaving.{split_up}
 use Rattle.snap_runs.proofs.Steps.{shown}
-use Rattle.snap_order.specs.declared.turned.Turned.{Turned}
+use Rattle.snap_net.specs.declared.happened.Moved.{Moved}
 use Rattle.snap_order.specs.Ordered.{Ordered, Turn, LeadsInTurn, left_by, moves, visits, waits}
 use Rattle.snap_order.specs.Rounding.{HasRoundedTo, IsRoundDone}
 use Rattle.snap_order.specs.Rounds.{IsRound, ends, takes}
@@ -31,7 +31,7 @@ few_replaced list i c xs found =
     let e = length-append xs (drop (i + 1) list) in
     omega (arith, a, b, d, e)
 
-module _ (t : Tables) (s : Ordered) (place : ℕ) (mid new : OrderedHeld) (done : List Turned) (told : Turned) (same : mid.net.tables ≡ t) (does : IsDoneInTurn mid (Step place) new (TellsTurn told)) (below : place < length mid.net.flying) where
+module _ (t : Tables) (s : Ordered) (place : ℕ) (mid new : OrderedHeld) (done : List Moved) (told : Moved) (same : mid.net.tables ≡ t) (does : IsDoneInTurn mid (Step place) new (TellsTurn told)) (below : place < length mid.net.flying) where
   pub rounded_more : (next : ℕ) → next + length mid.net.flying ≡ place + 1 + length new.net.flying → HasRoundedTo t s place mid done → HasRoundedTo t s next new (done ++ told ∷ [])
   rounded_more next counted h =
       let d = subst (λ t'. (s' : Ordered) × (ts : List Turn) × LeadsInTurn t' h.state (Step place) s' ts × ShowsInTurn new s' × TellsTurn told ts) same (does h.state h.shows) in
@@ -50,7 +50,7 @@ module _ (t : Tables) (s : Ordered) (place : ℕ) (mid new : OrderedHeld) (done 
             (subst (IsRound t s (h.events ++ (Step place ∷ es)) s') (sym (append_assoc h.turns d.1 us)) (h.on s' (Step place ∷ es) (d.1 ++ us) (takes d.2 (omega (arith, a, b, counted)) rest)));
       }
 
-pub rounded_all : (old now : OrderedHeld) (done : List Turned) (place : ℕ) → length now.net.flying ≤ place → ((s : Ordered) → ShowsInTurn old s → HasRoundedTo old.net.tables s place now done) → IsRoundDone old now done
+pub rounded_all : (old now : OrderedHeld) (done : List Moved) (place : ℕ) → length now.net.flying ≤ place → ((s : Ordered) → ShowsInTurn old s → HasRoundedTo old.net.tables s place now done) → IsRoundDone old now done
 rounded_all old now done place over so s shows =
     let h = so s shows in
     let a = flying_shown now h.state h.shows in
@@ -70,7 +70,7 @@ few_lost {s = s} (moves {i = i} {c = c} {a = a} found none does) = few_replaced 
 few_lost {s = s} (visits {i = i} {c = c} {b = b} found before now taking) = few_replaced s.net.flying i c (left_by c b) found
 few_lost (waits found before late) = omega arith
 
-pub few_gone : (place : ℕ) (mid new : OrderedHeld) (told : Turned) → IsDoneInTurn mid (Step place) new (TellsTurn told) → place < length mid.net.flying → length mid.net.flying ≤ length new.net.flying + 1
+pub few_gone : (place : ℕ) (mid new : OrderedHeld) (told : Moved) → IsDoneInTurn mid (Step place) new (TellsTurn told) → place < length mid.net.flying → length mid.net.flying ≤ length new.net.flying + 1
 few_gone place mid new told does below =
     let s = some_state mid in
     let d = does s.0 s.1 in

@@ -7,8 +7,7 @@ use Rattle.snap_core.specs.Arrays.{Arrays}
 use Rattle.snap_rows.specs.declared.tables.Tables.{Tables}
 use Rattle.snap_rows.specs.declared.head.Head.{Head}
 use Rattle.snap_rows.specs.declared.head.Head.TheVariants.{Visit}
-use Rattle.snap_rows.specs.declared.head.Action.{Action}
-use Rattle.snap_rows.specs.declared.head.Action.TheVariants.{Forward, Fork}
+use Rattle.snap_rows.specs.Actions.{Action, Forward, Fork}
 use Rattle.snap_rows.specs.Entries.{rank_at, ranks}
 use Rattle.snap_rows.specs.Home.{IsVisitAtHome}
 use Rattle.snap_rows.specs.Handles as handles

@@ -57,7 +57,7 @@ drop_one l i y ys e = ap (λ n. drop n l) (add-one i) ∙ drop_suc l i y ys e
 -- the first step of a worker
 pub record First (t : Tables) (workers : ℕ) (p : Part) (c : Flying) (cs : List Flying) (r : Part) (x : Stepped) (xs : List Stepped) : Type 0 where
   pub part : Part
-  pub steps : StepsIn t workers c p part x.left.items x.turned
+  pub steps : StepsIn t workers c p part x.left.items x.moved
   pub rest : Works t workers part cs r xs
 
 module _ {t : Tables} {workers : ℕ} where
@@ -73,14 +73,14 @@ module _ (t : Tables) (workers : ℕ) (some_workers : 0 < workers) (busy : ℕ �
 
   -- copy i of the state steps, which is the next of its worker
   module _ (s : Ordered) (i : ℕ) (c : Flying) (cs : List Flying) (y : Copy) (ys : List Copy) (stands : drop i s.net.flying ≡ y ∷ ys) (shown : flown y ≡ c) (low : i ≤ length s.net.flying)
-      (parts : ℕ → Part) (agrees : Agrees t workers busy parts s) (mine : busy (c.at % workers) ≡ true) (q : Part) (x : Stepped) (steps : StepsIn t workers c (parts (c.at % workers)) q x.left.items x.turned) where
+      (parts : ℕ → Part) (agrees : Agrees t workers busy parts s) (mine : busy (c.at % workers) ≡ true) (q : Part) (x : Stepped) (steps : StepsIn t workers c (parts (c.at % workers)) q x.left.items x.moved) where
     abbrev j : ℕ
     j = c.at % workers
 
     is : slice_get s.net.flying i ≡ Some y
     is = get_dropped s.net.flying i y ys stands
 
-    pub step : StepsTo t c (q.stores c.at) q.counts x.left.items x.turned s i
+    pub step : StepsTo t c (q.stores c.at) q.counts x.left.items x.moved s i
     step = steps.here.steps s i y is shown (agrees.stores c.at mine) (λ r own. agrees.handled r c.at own mine)
 
     abbrev pub now : Ordered

@@ -9,7 +9,7 @@ use Rattle.std.proofs.lemmas.Grind.{flat_map-append}
 use Rattle.snap_net.specs.declared.flying.Flying.{Flying}
 use Rattle.snap_order.specs.declared.hand.Stepped.{Stepped}
 use Rattle.snap_order.specs.declared.job.Job.{Job}
-use Rattle.snap_order.specs.declared.turned.Turned.{Turned}
+use Rattle.snap_net.specs.declared.happened.Moved.{Moved}
 use Rattle.snap_order.specs.declared.weave.Web.{Web}
 use Rattle.snap_order.specs.Hands.{Woven, over, next}
 use Rattle.snap_order.specs.Weaving.{AreWoven, queues_of}
@@ -36,10 +36,10 @@ first_taken (Some x) old new q q' is e e' = e ∙ is ∙ ap (λ (l : List Steppe
 
 -- ---- steps
 -- the steps of the first n copies are put together
-pub record WovenSo (workers : ℕ) (cs : List Flying) (n : ℕ) (start now : ℕ → List Stepped) (turns : List Turned) (left : List Flying) : Type 0 where
+pub record WovenSo (workers : ℕ) (cs : List Flying) (n : ℕ) (start now : ℕ → List Stepped) (turns : List Moved) (left : List Flying) : Type 0 where
   pub steps : List Stepped
   pub on : (xs : List Stepped) → Woven workers (drop n cs) now xs → Woven workers cs start (steps ++ xs)
-  pub done : turns ≡ map (λ (x : Stepped). x.turned) steps
+  pub done : turns ≡ map (λ (x : Stepped). x.moved) steps
   pub flying : left ≡ flat_map (λ (x : Stepped). x.left.items) steps
 
 pub woven_first : (workers : ℕ) (cs : List Flying) (start : ℕ → List Stepped) → WovenSo workers cs 0 start start [] []
@@ -50,9 +50,9 @@ nth [] n low = absurd (let l : n < 0 = low in omega arith)
 nth (c ∷ cs) zero low = (c, refl, refl)
 nth (c ∷ cs) (suc n) low = let r = nth cs n (let l : suc n < suc (length cs) = low in omega arith) in (r.0, r.1, r.2)
 
-module _ (workers : ℕ) (cs : List Flying) (n : ℕ) (start now later : ℕ → List Stepped) (done : List Turned) (flying : List Flying) (so : WovenSo workers cs n start now done flying)
+module _ (workers : ℕ) (cs : List Flying) (n : ℕ) (start now later : ℕ → List Stepped) (done : List Moved) (flying : List Flying) (so : WovenSo workers cs n start now done flying)
     (at : ℕ) (within : n < length cs) (stands : at ≡ get_or (map (λ (x : Flying). x.at) cs) n 0) (x : Stepped) (took : now (at % workers) ≡ x ∷ later (at % workers)) (others : (j : ℕ) → j ≢ at % workers → later j ≡ now j) where
-  pub woven_more : WovenSo workers cs (n + 1) start later (done ++ x.turned ∷ []) (flying ++ x.left.items)
+  pub woven_more : WovenSo workers cs (n + 1) start later (done ++ x.moved ∷ []) (flying ++ x.left.items)
   woven_more =
       let c = nth cs n within in
       let own : at ≡ c.0.at = stands ∙ c.2 in
@@ -63,7 +63,7 @@ module _ (workers : ℕ) (cs : List Flying) (n : ℕ) (start now later : ℕ →
             (so.on (x ∷ xs) (subst (λ (l : List Flying). Woven workers l now (x ∷ xs)) (sym c.1)
             (next (subst (λ (k : ℕ). now (k % workers) ≡ x ∷ later (k % workers)) own took) (subst (λ (k : ℕ). (j : ℕ) → j ≢ k % workers → later j ≡ now j) own others)
             (subst (λ (m : ℕ). Woven workers (drop m cs) later xs) (add-one n) w))));
-        done = ap (λ (l : List Turned). l ++ x.turned ∷ []) so.done ∙ sym (map-append (λ (y : Stepped). y.turned) so.steps (x ∷ []));
+        done = ap (λ (l : List Moved). l ++ x.moved ∷ []) so.done ∙ sym (map-append (λ (y : Stepped). y.moved) so.steps (x ∷ []));
         flying = ap (λ (l : List Flying). l ++ x.left.items) so.flying
             ∙ ap (λ (l : List Flying). flat_map (λ (y : Stepped). y.left.items) so.steps ++ l) (sym (append-nil x.left.items))
             ∙ sym (flat_map-append (λ (y : Stepped). y.left.items) so.steps (x ∷ []));

@@ -12,7 +12,7 @@ use Rattle.snap_rows.specs.Network.{Copy, Event, Step}
 use Rattle.snap_net.specs.declared.flying.Flying.{Flying}
 use Rattle.snap_net.specs.Shown.{flown, store_of}
 use Rattle.snap_order.specs.declared.hand.Stepped.{Stepped}
-use Rattle.snap_order.specs.declared.turned.Turned.{Turned}
+use Rattle.snap_net.specs.declared.happened.Moved.{Moved}
 use Rattle.snap_order.specs.Ordered.{Ordered, Turn, LeadsInTurn}
 use Rattle.snap_order.specs.Rounds.{TakesFrom}
 use Rattle.snap_order.specs.Shown.{told_of}
@@ -39,7 +39,7 @@ pub record InPlace (t : Tables) (c : Flying) : Type 0 where
   pub home : AtHome t c.at c.head
 
 -- the step that copy i of a state makes, which leaves its switch these arrays and numbers, and these copies in its place
-pub record StepsTo (t : Tables) (c : Flying) (arrays : Arrays) (counts : List ℕ) (left : List Flying) (told : Turned) (s : Ordered) (i : ℕ) : Type 0 where
+pub record StepsTo (t : Tables) (c : Flying) (arrays : Arrays) (counts : List ℕ) (left : List Flying) (told : Moved) (s : Ordered) (i : ℕ) : Type 0 where
   pub state : Ordered
   pub turn : Turn
   pub leads : LeadsInTurn t s (Step i) state (turn ∷ [])
@@ -54,7 +54,7 @@ pub record StepsTo (t : Tables) (c : Flying) (arrays : Arrays) (counts : List �
   pub injected : state.net.injected ≡ s.net.injected
 
 -- At its switch a copy steps so in every state that has there such arrays and numbers, and these are those after it.
-pub record StepsHere (t : Tables) (c : Flying) (arrays : Arrays) (counts : List ℕ) (arrays' : Arrays) (counts' : List ℕ) (left : List Flying) (told : Turned) : Type 0 where
+pub record StepsHere (t : Tables) (c : Flying) (arrays : Arrays) (counts : List ℕ) (arrays' : Arrays) (counts' : List ℕ) (left : List Flying) (told : Moved) : Type 0 where
   pub others : (r : ℕ) → rank_at t r ≢ Some c.at → get_or counts' r 0 ≡ get_or counts r 0
   pub long : length counts' ≡ length counts
   pub placed : All (InPlace t) left
@@ -62,14 +62,14 @@ pub record StepsHere (t : Tables) (c : Flying) (arrays : Arrays) (counts : List 
       → StepsTo t c arrays' counts' left told s i
 
 -- so it steps at a worker, whose other switches keep their arrays
-pub record StepsIn (t : Tables) (workers : ℕ) (c : Flying) (old new : Part) (left : List Flying) (told : Turned) : Type 0 where
+pub record StepsIn (t : Tables) (workers : ℕ) (c : Flying) (old new : Part) (left : List Flying) (told : Moved) : Type 0 where
   pub here : StepsHere t c (old.stores c.at) old.counts (new.stores c.at) new.counts left told
   pub away : (w : ℕ) → w % workers ≡ c.at % workers → w ≢ c.at → new.stores w ≡ old.stores w
 
 -- copies step one after another
 pub data Works (t : Tables) (workers : ℕ) : Part → List Flying → Part → List Stepped → Type 0 where
   idles : {p : Part} → Works t workers p [] p []
-  works : {p q r : Part} {c : Flying} {cs : List Flying} {x : Stepped} {xs : List Stepped} → StepsIn t workers c p q x.left.items x.turned → Works t workers q cs r xs → Works t workers p (c ∷ cs) r (x ∷ xs)
+  works : {p q r : Part} {c : Flying} {cs : List Flying} {x : Stepped} {xs : List Stepped} → StepsIn t workers c p q x.left.items x.moved → Works t workers q cs r xs → Works t workers p (c ∷ cs) r (x ∷ xs)
 
 -- the copies at switches whose numbers have this remainder
 abbrev pub share : (workers rest : ℕ) → List Flying → List Flying
@@ -92,7 +92,7 @@ pub record WeavesTo (t : Tables) (workers : ℕ) (busy : ℕ → Bool) (ends : �
   pub events : List Event
   pub turns : List Turn
   pub round : TakesFrom t i s events state turns
-  pub told : map (λ (x : Stepped). x.turned) xs ≡ map told_of turns
+  pub told : map (λ (x : Stepped). x.moved) xs ≡ map told_of turns
   pub flying : map flown state.net.flying ≡ map flown (take i s.net.flying) ++ flat_map (λ (x : Stepped). x.left.items) xs
   pub injected : state.net.injected ≡ s.net.injected
   pub agrees : Agrees t workers busy ends state

@@ -1,18 +1,14 @@
 -- A network in which each rank handles the packets in the order of their injection.
 use Rattle.std.specs.Prelude.{◌≡◌, ◌≢◌, ℕ, ◌+◌, ◌==◌, Some, List, [], ◌∷◌, ◌++◌, take, drop, length, slice_get, slice_index, if◌then◌else◌}
-use Rattle.std.specs.Int.{to_be_bytes}
-use mir.Syntax.{w64}
 use Rattle.snap_core.specs.Arrays.{Arrays}
 use Rattle.snap_rows.specs.declared.tables.Tables.{Tables}
 use Rattle.snap_rows.specs.declared.head.Head.{Head}
 use Rattle.snap_rows.specs.declared.head.Head.TheVariants.{Visit}
-use Rattle.snap_rows.specs.declared.head.Action.{Action}
-use Rattle.snap_rows.specs.declared.head.Action.TheVariants.{Forward, Fork}
+use Rattle.snap_rows.specs.Actions.{Action, Forward, Fork}
 use Rattle.snap_rows.specs.Entries.{port_at, rank_at}
 use Rattle.snap_rows.specs.Handles.{Handles}
 use Rattle.snap_rows.specs.Stepping.{ComesTo}
 use Rattle.snap_rows.specs.Network.{Net, Copy, Event, Inject, Step, Happening, Crossed, Forked, start, injected, moved, happening, stepped}
-use Rattle.snap_head.specs.Frames.{frame}
 use Rattle.snap_gen.specs.InTurn.{Becomes, SentOn, Waiting, Forks, TakesTurns}
 
 -- a state of the network, and the number of packets that each rank has handled
@@ -85,7 +81,3 @@ happenings [] = []
 happenings (Happens h ∷ us) = h ∷ happenings us
 happenings (Stays c r ∷ us) = happenings us
 happenings (Waits c r ∷ us) = happenings us
-
--- the frame that crosses a link: the packet's number, and the frame of the head and the packet
-abbrev pub numbered_frame : ℕ → Head → List ℕ → List ℕ
-numbered_frame i head k = to_be_bytes w64 i ++ frame head k

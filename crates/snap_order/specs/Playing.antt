@@ -4,15 +4,14 @@ use Rattle.std.specs.List.{All}
 use Rattle.snap_rows.specs.declared.tables.Tables.{Tables}
 use Rattle.snap_rows.specs.Form.{comps}
 use Rattle.snap_rows.specs.Network.{Copy, Happening, Inject, Step}
-use Rattle.snap_net.specs.declared.happened.Happened.{Happened}
+use Rattle.snap_net.specs.declared.flying.Flying.{Flying}
 use Rattle.snap_runs.specs.declared.frames.Frames.TheVariants.{Numbered}
 use Rattle.snap_runs.specs.declared.tally.Tally.{Tally}
-use Rattle.snap_runs.specs.Playing.{IsLong, IsReady, owner_by, packets_in}
+use Rattle.snap_runs.specs.Playing.{HasNoted, IsLong, IsReady, packets_in}
 use Rattle.snap_rows.specs.Happenings.{number_of}
-use Rattle.snap_runs.specs.Tallies.{IsTally as IsTallyBy, bared, delivered_by, hop_by, lost_by}
+use Rattle.snap_runs.specs.Tallies.{IsTally as IsTallyBy, line_after, owner_by}
 use Rattle.snap_order.specs.declared.play.Play.{Play}
-use Rattle.snap_order.specs.declared.turned.Turned.{Turned}
-use Rattle.snap_order.specs.declared.turned.Turned.TheVariants.{Moved, Visited, Waited}
+use Rattle.snap_net.specs.declared.happened.Moved.{Moved}
 use Rattle.snap_order.specs.Ordered.{Ordered, Turn, LeadsInTurn, happenings}
 use Rattle.snap_order.specs.Shown.{ShowsInTurn}
 
@@ -66,26 +65,10 @@ abbrev pub HasStepped : ℕ → (old new : Play) → Bool → Type 0
 HasStepped k old new true = (t : Tables) (hops : Bool) (s : Ordered) (us : List Turn) → Plays t hops s us old → StepsOn t hops k s us old new
 HasStepped k old new false = (t : Tables) (hops : Bool) (s : Ordered) (us : List Turn) → Plays t hops s us old → length s.net.flying ≤ k
 
--- what is told was noted in its packet's tally
-pub record HasNoted (hops : Bool) (switches : List (List ℕ)) (h : Happened) (old new : List Tally) : Type 0 where
-  pub before : Tally
-  pub after : Tally
-  pub is : slice_get old (owner_by (bared h)) ≡ Some before
-  pub delivered : after.delivered.items ≡ before.delivered.items ++ delivered_by (bared h)
-  pub lost : after.lost ≡ before.lost + lost_by (bared h)
-  pub hops_told : after.hops.items ≡ before.hops.items ++ (if hops then hop_by switches h else [])
-  pub count : length new ≡ length old
-  pub here : slice_get new (owner_by (bared h)) ≡ Some after
-  pub others : (i : ℕ) → (i ≡ owner_by (bared h) → ⊥) → slice_get new i ≡ slice_get old i
+-- what is told of a step of the copy at a place was noted
+abbrev pub NotesTurn : Bool → List (List ℕ) → List Flying → ℕ → Moved → (old new : List Tally) → Type 0
+NotesTurn hops switches cs place m old new = HasNoted (if hops then line_after Numbered switches cs place m else []) m old new
 
--- what a step tells was noted
-abbrev pub NotesTurn : Bool → List (List ℕ) → Turned → (old new : List Tally) → Type 0
-NotesTurn hops switches (Moved h) old new = HasNoted hops switches h old new
-NotesTurn hops switches (Visited owner rank) old new = new ≡ old
-NotesTurn hops switches (Waited owner rank) old new = new ≡ old
-
--- what moved is a copy of one of the first n packets
-abbrev pub OwnerIsBelow : ℕ → Turned → Type 0
-OwnerIsBelow n (Moved h) = owner_by (bared h) < n
-OwnerIsBelow n (Visited owner rank) = Unit {0}
-OwnerIsBelow n (Waited owner rank) = Unit {0}
+-- it is a copy of one of the first n packets
+abbrev pub OwnerIsBelow : ℕ → Moved → Type 0
+OwnerIsBelow n m = owner_by m < n

@@ -9,8 +9,10 @@ use Rattle.snap_rows.specs.Network.{Copy, Event}
 use Rattle.snap_rows.specs.Weight.{weight}
 use Rattle.snap_net.specs.declared.flying.Flying.{Flying}
 use Rattle.snap_runs.specs.Plain.{entering}
+use Rattle.snap_runs.specs.Tallies.{IsThere}
 use Rattle.snap_order.specs.declared.play.Play.{Play}
-use Rattle.snap_order.specs.declared.turned.Turned.{Turned}
+use Rattle.snap_net.specs.declared.happened.Moved.{Moved}
+use Rattle.snap_net.specs.declared.happened.Moved.TheVariants as bare
 use Rattle.snap_order.specs.Ordered.{Ordered, Turn, begin}
 use Rattle.snap_order.specs.Playing.{NotesTurn, Plays, left_in}
 use Rattle.snap_order.specs.Rounds.{GoesByRounds, IsRound, TakesFrom}
@@ -20,11 +22,11 @@ use Rattle.snap_runs.specs.declared.tally.Tally.{Tally}
 
 -- ---- a round
 -- from each state that was shown a round leads to one that is shown now, and this was told of its steps
-abbrev pub IsRoundDone : OrderedHeld → OrderedHeld → List Turned → Type 0
+abbrev pub IsRoundDone : OrderedHeld → OrderedHeld → List Moved → Type 0
 IsRoundDone old new done = (s : Ordered) → ShowsInTurn old s → (s' : Ordered) × (es : List Event) × (us : List Turn) × IsRound old.net.tables s es s' us × ShowsInTurn new s' × (done ≡ map told_of us)
 
 -- the copies before a place have made their steps: what is done from there on makes a round
-pub record HasRoundedTo (t : Tables) (s : Ordered) (place : ℕ) (now : OrderedHeld) (done : List Turned) : Type 0 where
+pub record HasRoundedTo (t : Tables) (s : Ordered) (place : ℕ) (now : OrderedHeld) (done : List Moved) : Type 0 where
   pub state : Ordered
   pub events : List Event
   pub turns : List Turn
@@ -33,10 +35,23 @@ pub record HasRoundedTo (t : Tables) (s : Ordered) (place : ℕ) (now : OrderedH
   pub within : place ≤ length state.net.flying
   pub on : (s' : Ordered) (es : List Event) (us : List Turn) → TakesFrom t place state es s' us → IsRound t s (events ++ es) s' (turns ++ us)
 
--- what the steps told was noted, one after another
-pub data NoteTurns (hops : Bool) (switches : List (List ℕ)) : List Turned → List Tally → List Tally → Type 0 where
-  no_notes : {ys : List Tally} → NoteTurns hops switches [] ys ys
-  notes : {x : Turned} {xs : List Turned} {ys zs end : List Tally} → NotesTurn hops switches x ys zs → NoteTurns hops switches xs zs end → NoteTurns hops switches (x ∷ xs) ys end
+-- how many copies stand in the place of one after its step
+abbrev pub width : Moved → ℕ
+width (bare.Forwarded owner from to) = 1
+width (bare.Delivered owner port k) = 0
+width (bare.Forked owner copies lost) = copies
+width (bare.Stayed owner r) = 1
+width (bare.Waited owner r) = 1
+
+-- from a place on each step has left its copies, one behind another, to the end of the list
+abbrev pub AreThere : ℕ → List Flying → List Moved → Type 0
+AreThere place cs [] = place ≡ length cs
+AreThere place cs (m ∷ ms) = IsThere cs place m × AreThere (place + width m) cs ms
+
+-- what the steps told was noted, one after another, with the copies that they left from a place on
+pub data NoteTurns (hops : Bool) (switches : List (List ℕ)) (cs : List Flying) : ℕ → List Moved → List Tally → List Tally → Type 0 where
+  no_notes : {place : ℕ} {ys : List Tally} → NoteTurns hops switches cs place [] ys ys
+  notes : {place : ℕ} {x : Moved} {xs : List Moved} {ys zs end : List Tally} → NotesTurn hops switches cs place x ys zs → NoteTurns hops switches cs (place + width x) xs zs end → NoteTurns hops switches cs place (x ∷ xs) ys end
 
 -- a round was made
 pub record RoundsOn (t : Tables) (hops : Bool) (s : Ordered) (us : List Turn) (old new : Play) : Type 0 where

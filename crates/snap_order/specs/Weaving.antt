@@ -17,7 +17,7 @@ queues_of jobs j = get_or (map (λ (job : Job). job.done.items) jobs) j []
 pub record AreWoven (workers : ℕ) (copies : List Flying) (queues : ℕ → List Stepped) (web : Web) : Type 0 where
   pub steps : List Stepped
   pub woven : Woven workers copies queues steps
-  pub done : web.done.items ≡ map (λ (x : Stepped). x.turned) steps
+  pub done : web.done.items ≡ map (λ (x : Stepped). x.moved) steps
   pub flying : web.flying.items ≡ flat_map (λ (x : Stepped). x.left.items) steps
 
 -- rank r has handled so many packets, and had handled so many before

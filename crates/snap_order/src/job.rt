@@ -94,7 +94,7 @@ fn step_in(
     requires counts { length counts.old.items ≡ ranks tables.now }
     requires place { InPlace tables.now copy }
     ensures long { OnOk result (length stores.new.items ≡ length stores.old.items) }
-    ensures steps { IfOk result (λ stepped. StepsIn tables.now workers copy (part_of workers stores.old.items counts.old.items) (part_of workers stores.new.items counts.new.items) stepped.left.items stepped.turned) }
+    ensures steps { IfOk result (λ stepped. StepsIn tables.now workers copy (part_of workers stores.old.items counts.old.items) (part_of workers stores.new.items counts.new.items) stepped.left.items stepped.moved) }
 {
     let place = (copy.at / workers) as usize;
     step_here(alloc, tables, &mut stores[place], counts, copy)

@@ -1,7 +1,6 @@
 //! Overlap in order: each rank handles the packets in the order of their injection.
 #![tactic(auto)]
 
-mod acts;
 mod counts;
 mod deal;
 pub mod gate;
@@ -15,7 +14,5 @@ mod round;
 pub mod schedule;
 mod team;
 pub mod trace;
-mod turned;
-mod turns;
 mod weave;
 pub mod workers;

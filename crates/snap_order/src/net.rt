@@ -15,15 +15,13 @@ ghost use Rattle.snap_net.specs.Shown.{IsHeld};
 ghost use Rattle.snap_gen.specs.Faithful.{Faithful};
 ghost use Rattle.snap_order.specs.Laws.{KeepsOrder};
 ghost use Rattle.snap_order.specs.Ordered.{Ordered, begin};
-ghost use Rattle.snap_order.specs.Shown.{DueAt, IsDoneInTurn, IsOrderedHeld, NoTurn, SameInTurn, ShowsInTurn, TellsTurn};
+ghost use Rattle.snap_order.specs.Shown.{IsDoneInTurn, IsOrderedHeld, NoTurn, SameInTurn, ShowsInTurn, TellsTurn};
 
-use crate::acts::{act, due_at, plan_at, turn, turns_at};
-use crate::counts::{count, handled};
-use crate::turned::Turned;
-use crate::turns::Due;
+use crate::counts::{InTurn, count, first_rank, handled, rank_behind};
 use snap_core::NoMemory;
 use snap_core::packet::Packet;
 use snap_core::place::Entry;
+use snap_net::happened::Moved;
 use snap_net::net::{InjectFault, Net, StepFault, open_net};
 use snap_net::parts::Parts;
 use snap_rows::valid::Valid;
@@ -174,14 +172,14 @@ impl OrderedNet {
 
     /// Makes a step of copy k, counted from 0. A copy before a visit makes it only where the rank has handled just the
     /// packets before its own, and then those after it that are in turn too: `Waited` where it can't make the first,
-    /// `Visited` where it can't make a later one at this switch. A refusal leaves the network as it was, but for
+    /// `Stayed` where it can't make a later one at this switch. A refusal leaves the network as it was, but for
     /// room that its stores took.
     ///
     /// # Errors
     ///
     /// `NoCopy` exactly where there is no such copy; `NoMemory` for want of memory.
-    pub fn step(&mut self, k: usize) -> Result<Turned, StepFault>
-        ensures done { IfOk result (λ turned. IsDoneInTurn self.old (Step k) self.new (TellsTurn turned)) }
+    pub fn step(&mut self, k: usize) -> Result<Moved, StepFault>
+        ensures done { IfOk result (λ moved. IsDoneInTurn self.old (Step k) self.new (TellsTurn moved)) }
         ensures tables { self.new.net.tables ≡ self.old.net.tables }
         ensures injected { self.new.net.injected ≡ self.old.net.injected }
         ensures copy { IfErr result (λ fault. fault ≡ StepFault.NoCopy → length self.old.net.flying ≤ k) }
@@ -191,51 +189,31 @@ impl OrderedNet {
         if k >= self.net.flying() {
             return Err(StepFault::NoCopy);
         }
-        let turned = match due_at(&self.net, k) {
-            Some(due) => self.visit(k, due)?,
-            None => self.pass(k)?,
+        let moved = self.step_and_count(k)?;
+        Ok(moved)
+    }
+
+    // Makes a step of copy k, and counts its packet at the ranks that it visits.
+    fn step_and_count(&mut self, k: usize) -> Result<Moved, NoMemory>
+        requires { k < length self.old.net.flying }
+        ensures done { IfOk result (λ moved. IsDoneInTurn self.old (Step k) self.new (TellsTurn moved)) }
+        ensures tables { self.new.net.tables ≡ self.old.net.tables }
+        ensures injected { self.new.net.injected ≡ self.old.net.injected }
+        ensures refused { OnErr result (SameInTurn self.old self.new) }
+    {
+        let _known = self.net.tables();
+        let copy = self.net.copy(k);
+        let number = copy.number;
+        let first = first_rank(self.net.tables(), copy.head);
+        let next = number.checked_add(1).ok_or(NoMemory)?;
+        let admit = InTurn {
+            counts: &self.counts,
+            number,
         };
-        Ok(turned)
-    }
-
-    // Makes a step of copy k, which is before no visit.
-    fn pass(&mut self, k: usize) -> Result<Turned, NoMemory>
-        requires k { k < length self.old.net.flying }
-        requires not_due { DueAt self.old.net k None }
-        ensures done { IfOk result (λ turned. IsDoneInTurn self.old (Step k) self.new (TellsTurn turned)) }
-        ensures tables { self.new.net.tables ≡ self.old.net.tables }
-        ensures injected { self.new.net.injected ≡ self.old.net.injected }
-        ensures refused { OnErr result (SameInTurn self.old self.new) }
-    {
-        let _known = self.net.tables();
-        let plan = plan_at(self.alloc, &self.net, k)?;
-        let happened = act(self.alloc, &mut self.net, k, plan)?;
-        Ok(Turned::Moved(happened))
-    }
-
-    // Makes a step of copy k, which is before a visit.
-    fn visit(&mut self, k: usize, due: Due) -> Result<Turned, NoMemory>
-        requires k { k < length self.old.net.flying }
-        requires due { DueAt self.old.net k (Some due) }
-        ensures done { IfOk result (λ turned. IsDoneInTurn self.old (Step k) self.new (TellsTurn turned)) }
-        ensures tables { self.new.net.tables ≡ self.old.net.tables }
-        ensures injected { self.new.net.injected ≡ self.old.net.injected }
-        ensures refused { OnErr result (SameInTurn self.old self.new) }
-    {
-        let _known = self.net.tables();
-        let owner = self.net.copy(k).number;
-        if handled(&self.counts, due.rank) != owner {
-            return Ok(Turned::Waited {
-                owner,
-                rank: due.rank,
-            });
-        }
-        let number = owner.checked_add(1).ok_or(NoMemory)?;
-        let turns = turns_at(self.alloc, &self.net, k, &self.counts, due)?;
-        let behind = turns.behind;
-        let turned = turn(self.alloc, &mut self.net, k, turns)?;
-        count(&mut self.counts, due.rank, behind, number);
-        Ok(turned)
+        let moved = self.net.step(k, &admit)?;
+        let behind = rank_behind(&self.net, k, first, &moved);
+        count(&mut self.counts, first, behind, next);
+        Ok(moved)
     }
 
     /// Takes the network apart.

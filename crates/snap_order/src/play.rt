@@ -5,24 +5,22 @@ ghost use Rattle.std.specs.List.{All};
 ghost use Rattle.snap_core.specs.Arrays.{zero_arrays};
 ghost use Rattle.snap_rows.specs.declared.tables.Tables.{Tables};
 ghost use Rattle.snap_net.specs.Shown.{IsHeld};
-ghost use Rattle.snap_runs.specs.Playing.{IsReady, packets_in, owner_by};
-ghost use Rattle.snap_runs.specs.Tallies.{bared};
+ghost use Rattle.snap_runs.specs.Playing.{IsReady, packets_in};
 ghost use Rattle.snap_order.specs.Ordered.{Ordered, Turn, begin, happenings};
-ghost use Rattle.snap_order.specs.Playing.{HasInjected, HasStepped, HasNoted, IsPlaying, NotesTurn, OwnerIsBelow, Plays, left_in};
-ghost use Rattle.snap_order.specs.Rounding.{HasRounded, NoteTurns};
+ghost use Rattle.snap_order.specs.Playing.{HasInjected, HasStepped, IsPlaying, OwnerIsBelow, Plays, left_in};
+ghost use Rattle.snap_order.specs.Rounding.{AreThere, HasRounded, NoteTurns, width};
 ghost use Rattle.snap_order.specs.Shown.{IsOrderedHeld};
 ghost use Rattle.snap_order.specs.Reports.{IsRunReport};
 
 use crate::gate::Gate;
 use crate::net::{OrderedNet, open_ordered};
 use crate::round::{Rounded, round};
-use crate::turned::Turned;
 use snap_core::NoMemory;
-use snap_core::lists::Names;
-use snap_net::happened::{Happened, Moved};
+use snap_net::happened::Moved;
+use snap_net::net::Net;
 use snap_rows::valid::Valid;
 use snap_runs::frames::Frames;
-use snap_runs::play::{next_packet, owner_of, put_blocks, reversed};
+use snap_runs::play::{next_packet, note_step, put_blocks, reversed};
 use snap_runs::ready::Ready;
 use snap_runs::tail::put_end;
 use snap_runs::tally::Tally;
@@ -111,13 +109,20 @@ impl Play {
         if place >= self.net.flying() {
             return Ok(false);
         }
-        let turned = match self.net.step(place) {
-            Ok(turned) => turned,
+        let moved = match self.net.step(place) {
+            Ok(moved) => moved,
             // There is such a copy, so only memory can be short.
             Err(_) => return Err(NoMemory),
         };
-        let switches = &self.net.tables().tables().switches;
-        note_turn(&mut self.tallies, self.hops, switches, turned)?;
+        let net = self.net.network();
+        note_step(
+            &mut self.tallies,
+            self.hops,
+            Frames::Numbered,
+            net,
+            place,
+            moved,
+        )?;
         Ok(true)
     }
 
@@ -145,8 +150,7 @@ impl Play {
         let mut tallies = tallies;
         let rounded = round(rt, net, number, workers, gate)?;
         let Rounded { net, done } = rounded;
-        let switches = &net.tables().tables().switches;
-        match note_turns(&mut tallies, hops, switches, done) {
+        match note_turns(&mut tallies, hops, net.network(), done) {
             Ok(()) => Ok(Play {
                 alloc,
                 net,
@@ -175,87 +179,37 @@ impl Play {
     }
 }
 
-// Notes what steps tell, one after another.
+// Notes what the steps of a round tell, one after another: each has left its copies behind those of the one before.
 fn note_turns(
     tallies: &mut Vec<Tally>,
     hops: bool,
-    switches: &Names,
-    done: Vec<Turned>,
+    net: &Net,
+    done: Vec<Moved>,
 ) -> Result<(), NoMemory>
-    requires { All (OwnerIsBelow (length tallies.old.items)) done.items }
-    ensures { OnOk result (NoteTurns hops switches.now done.items tallies.old.items tallies.new.items) }
+    requires below { All (OwnerIsBelow (length tallies.old.items)) done.items }
+    requires there { AreThere 0 net.now.flying done.items }
+    ensures { OnOk result (NoteTurns hops net.now.tables.switches net.now.flying 0 done.items tallies.old.items tallies.new.items) }
 {
+    let _known = net.flying();
     let mut left = VecDeque::from(done);
-    while let Some(turned) = left.pop_front() {
-        note_turn(tallies, hops, switches, turned)?;
+    let mut place = 0usize;
+    while let Some(moved) = left.pop_front() {
+        let more = width(&moved);
+        note_step(tallies, hops, Frames::Numbered, net, place, moved)?;
+        place += more;
     }
     Ok(())
 }
 
-// Notes what a step tells in the tally of the packet whose copy moved.
-fn note_turn(
-    tallies: &mut Vec<Tally>,
-    hops: bool,
-    switches: &Names,
-    turned: Turned,
-) -> Result<(), NoMemory>
-    requires { OwnerIsBelow (length tallies.old.items) turned }
-    ensures { OnOk result (NotesTurn hops switches.now turned tallies.old.items tallies.new.items) }
+// How many copies stand in the place of one after its step.
+fn width(moved: &Moved) -> usize
+    ensures { result ≡ width moved.now }
 {
-    match turned {
-        Turned::Moved(happened) => note(tallies, hops, switches, happened),
-        Turned::Visited { .. } => Ok(()),
-        Turned::Waited { .. } => Ok(()),
-    }
-}
-
-// Notes what happened in the tally of the packet to whose copy it did.
-fn note(
-    tallies: &mut Vec<Tally>,
-    hops: bool,
-    switches: &Names,
-    happened: Happened,
-) -> Result<(), NoMemory>
-    requires { owner_by (bared happened) < length tallies.old.items }
-    ensures { OnOk result (HasNoted hops switches.now happened tallies.old.items tallies.new.items) }
-{
-    let owner = owner_of(&happened);
-    let tally = &mut tallies[owner as usize];
-    if hops {
-        tally.note_hop(Frames::Plain, switches, happened)
-    } else {
-        tally.note(bare(happened))
-    }
-}
-
-// What happened, without the frame.
-fn bare(happened: Happened) -> Moved
-    ensures { result ≡ bared happened }
-{
-    match happened {
-        Happened::Forwarded {
-            owner,
-            from,
-            to,
-            frame: _,
-        } => Moved::Forwarded { owner, from, to },
-        Happened::Delivered {
-            owner,
-            port,
-            packet,
-        } => Moved::Delivered {
-            owner,
-            port,
-            packet,
-        },
-        Happened::Forked {
-            owner,
-            copies,
-            lost,
-        } => Moved::Forked {
-            owner,
-            copies,
-            lost,
-        },
+    match moved {
+        Moved::Forwarded { .. } => 1,
+        Moved::Delivered { .. } => 0,
+        Moved::Forked { copies, .. } => *copies as usize,
+        Moved::Stayed { .. } => 1,
+        Moved::Waited { .. } => 1,
     }
 }

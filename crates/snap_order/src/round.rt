@@ -8,15 +8,15 @@ use crate::gate::Gate;
 use crate::job::pass_all;
 use crate::lent::{lend, settle, work_out};
 use crate::net::OrderedNet;
-use crate::turned::Turned;
 use snap_core::NoMemory;
+use snap_net::happened::Moved;
 use std::thread::Threads;
 
 /// An ordered network after a round, and what each step of the round gave, in their order.
 #[derive(Drop)]
 pub struct Rounded {
     pub net: OrderedNet,
-    pub done: Vec<Turned>,
+    pub done: Vec<Moved>,
 }
 
 /// Makes a round: each copy in flight makes a step, in the order of the list. A copy that a fork makes in the round isn't
@@ -55,7 +55,7 @@ fn pass_and_step<G: Gate>(
     net: &mut OrderedNet,
     number: u64,
     gate: &G,
-) -> Result<Vec<Turned>, NoMemory>
+) -> Result<Vec<Moved>, NoMemory>
     ensures done { IfOk result (λ done. IsRoundDone net.old net.new done.items) }
     ensures tables { net.new.net.tables ≡ net.old.net.tables }
     ensures injected { net.new.net.injected ≡ net.old.net.injected }
@@ -105,7 +105,7 @@ fn share_out<R: Threads + Sync, G: Gate>(
 }
 
 // Makes a step of each copy in flight, in the order of the list.
-fn step_all(net: &mut OrderedNet) -> Result<Vec<Turned>, NoMemory>
+fn step_all(net: &mut OrderedNet) -> Result<Vec<Moved>, NoMemory>
     ensures done { IfOk result (λ done. IsRoundDone net.old net.new done.items) }
     ensures tables { net.new.net.tables ≡ net.old.net.tables }
     ensures injected { net.new.net.injected ≡ net.old.net.injected }
@@ -115,12 +115,12 @@ fn step_all(net: &mut OrderedNet) -> Result<Vec<Turned>, NoMemory>
     while place < net.flying() {
         // So many copies haven't been taken.
         let left = net.flying() - place - 1;
-        let turned = match net.step(place) {
-            Ok(turned) => turned,
+        let moved = match net.step(place) {
+            Ok(moved) => moved,
             // There is such a copy, so only memory can be short.
             Err(_) => return Err(NoMemory),
         };
-        done.push(turned)?;
+        done.push(moved)?;
         place = net.flying() - left;
     }
     Ok(done)

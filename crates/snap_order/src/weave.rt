@@ -8,16 +8,16 @@ ghost use Rattle.snap_order.specs.Weaving.{AreWoven, HasCounts, queues_of};
 
 use crate::hand::Stepped;
 use crate::job::Job;
-use crate::turned::Turned;
 use snap_core::NoMemory;
 use snap_net::flying::Flying;
+use snap_net::happened::Moved;
 use snap_rows::valid::Valid;
 use std::alloc::Global;
 
 /// What the steps of a round gave, and the copies that they left, both in the order of the copies that stepped.
 #[derive(Drop)]
 pub(crate) struct Web {
-    pub done: Vec<Turned>,
+    pub done: Vec<Moved>,
     pub flying: Vec<Flying>,
 }
 
@@ -39,9 +39,9 @@ pub(crate) fn weave(
             // Each copy has made its step, so only memory can be short.
             return Err(NoMemory);
         };
-        let Stepped { turned, left } = stepped;
+        let Stepped { moved, left } = stepped;
         let mut left = left;
-        done.push(turned)?;
+        done.push(moved)?;
         flying.append(&mut left)?;
     }
     Ok(Web { done, flying })

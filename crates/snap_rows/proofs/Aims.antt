@@ -6,7 +6,7 @@ use Rattle.snap_core.specs.Arrays.{Arrays}
 use Rattle.snap_rows.specs.declared.tables.Tables.{Tables}
 use Rattle.snap_rows.specs.declared.head.Head.{Head}
 use Rattle.snap_rows.specs.declared.head.Head.TheVariants.{Walk, Stage, Out, Visit}
-use Rattle.snap_rows.specs.declared.head.Action.TheVariants.{Forward}
+use Rattle.snap_rows.specs.Actions.{Forward}
 use Rattle.snap_rows.specs.Aims.{aim_of}
 use Rattle.snap_rows.specs.Bound.{hops_within, left, longest, to_switch}
 use Rattle.snap_rows.specs.Entries.{next, ranks}

@@ -21,7 +21,7 @@ use Rattle.snap_rows.specs.declared.tables.Stage.{Stage as Turn}
 use Rattle.snap_rows.specs.declared.tables.Tables.{Tables}
 use Rattle.snap_rows.specs.declared.head.Head.{Head}
 use Rattle.snap_rows.specs.declared.head.Head.TheVariants.{Walk, Stage as AtStage, Visit}
-use Rattle.snap_rows.specs.declared.head.Action.{Action}
+use Rattle.snap_rows.specs.Actions.{Action}
 use Rattle.snap_rows.specs.Entries.{Parts, row_at, node_of, next, rank_at, hop_in, port_numbers}
 use Rattle.snap_rows.specs.Form.{IsInForm, IsTurnInForm, IsHopInForm, IsArrayInForm, switch_count}
 use Rattle.snap_rows.specs.Ways.{Way, here, on, Route, end, leg}

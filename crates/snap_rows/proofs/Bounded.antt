@@ -11,8 +11,7 @@ use Rattle.snap_rows.specs.declared.tables.Rule.TheVariants.{Loop, Missing}
 use Rattle.snap_rows.specs.declared.tables.Spot.TheVariants as spot
 use Rattle.snap_rows.specs.declared.head.Head.{Head}
 use Rattle.snap_rows.specs.declared.head.Head.TheVariants.{Walk, Out}
-use Rattle.snap_rows.specs.declared.head.Action.{Action}
-use Rattle.snap_rows.specs.declared.head.Action.TheVariants.{Forward, Deliver, Fork}
+use Rattle.snap_rows.specs.Actions.{Action, Forward, Deliver, Fork}
 use Rattle.snap_rows.specs.declared.head.Sent.{Sent}
 use Rattle.snap_rows.specs.Entries.{Parts, row_at, port_at, port_in, next}
 use Rattle.snap_rows.specs.Form.{IsInForm, IsPortInForm, switch_count}

@@ -15,7 +15,7 @@ use Rattle.snap_rows.specs.declared.tables.Row.TheVariants.{Field, State, Go, Le
 use Rattle.snap_rows.specs.declared.tables.Stage.{Stage as Turn}
 use Rattle.snap_rows.specs.declared.head.Head.{Head}
 use Rattle.snap_rows.specs.declared.head.Head.TheVariants.{Walk, Stage as AtStage}
-use Rattle.snap_rows.specs.declared.head.Action.{Action}
+use Rattle.snap_rows.specs.Actions.{Action}
 use Rattle.snap_rows.specs.Entries.{Parts, row_at, node_of, owner_of, port_at, next, ranks, var_of}
 use Rattle.snap_rows.specs.Form.{IsInForm, IsTurnInForm, switch_count}
 use Rattle.snap_rows.specs.Rules.{IsValid, IsStateRow}

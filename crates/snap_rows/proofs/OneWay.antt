@@ -10,8 +10,7 @@ use Rattle.snap_rows.specs.declared.tables.Row.TheVariants.{Go, Leaf, Last}
 use Rattle.snap_rows.specs.declared.tables.Stage.{Stage as Turn}
 use Rattle.snap_rows.specs.declared.head.Head.{Head}
 use Rattle.snap_rows.specs.declared.head.Head.TheVariants.{Walk, Stage as AtStage, Out, Visit}
-use Rattle.snap_rows.specs.declared.head.Action.{Action}
-use Rattle.snap_rows.specs.declared.head.Action.TheVariants.{Forward}
+use Rattle.snap_rows.specs.Actions.{Action, Forward}
 use Rattle.snap_rows.specs.Entries.{Parts, row_at, next, rank_of}
 use Rattle.snap_rows.specs.Form.{IsInForm}
 use Rattle.snap_rows.specs.Handles.{Handles, Follows, arrives, follows, Visits, side, forked, asks, goes, forks, begins, passes_on, goes_on, completes, enters, enters_last, seeks, visits, concludes, delivers, carries}

@@ -8,7 +8,7 @@ use Rattle.snap_core.specs.declared.policy.Test.TheVariants.{Value, Equal, State
 use Rattle.snap_core.specs.declared.policy.Update.{Update}
 use Rattle.snap_core.specs.Arrays.{Arrays, place_at, same_place, number_after, update, updates}
 use Rattle.snap_core.specs.Tests.{passes, term_value}
-use Rattle.snap_rows.specs.declared.head.Action.{Action}
+use Rattle.snap_rows.specs.Actions.{Action}
 use Rattle.snap_rows.specs.declared.head.Head.{Head}
 use Rattle.snap_rows.specs.declared.head.Head.TheVariants.{Walk, Stage as AtStage, Visit}
 use Rattle.snap_rows.specs.declared.tables.Row.{Row}

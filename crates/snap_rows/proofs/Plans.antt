@@ -11,8 +11,7 @@ use Rattle.snap_core.specs.Fits.{UpdateReads}
 use Rattle.snap_core.specs.Tests.{OutFits}
 use Rattle.snap_rows.specs.declared.head.Head.{Head}
 use Rattle.snap_rows.specs.declared.head.Head.TheVariants.{Stage as AtStage}
-use Rattle.snap_rows.specs.declared.head.Action.{Action}
-use Rattle.snap_rows.specs.declared.head.Action.TheVariants.{Forward}
+use Rattle.snap_rows.specs.Actions.{Action, Forward}
 use Rattle.snap_rows.specs.declared.head.Fate.{Fate}
 use Rattle.snap_rows.specs.declared.head.Fate.TheVariants.{Seek, Fork}
 use Rattle.snap_rows.specs.declared.tables.Row.{Row}

@@ -16,7 +16,7 @@ use Rattle.snap_core.specs.Switch.{goes_out}
 use Rattle.snap_core.specs.Tests.{after_out, results}
 use Rattle.snap_core.proofs.EvalLemmas.{listed-one}
 use Rattle.snap_rows.specs.declared.tables.Tables.{Tables}
-use Rattle.snap_rows.specs.declared.head.Action.TheVariants.{Fork}
+use Rattle.snap_rows.specs.Actions.{Fork}
 use Rattle.snap_rows.specs.declared.head.Sent.{Sent}
 use Rattle.snap_rows.specs.Entries.{Parts, port_in, port_numbers}
 use Rattle.snap_rows.specs.Handles.{sent, forked}

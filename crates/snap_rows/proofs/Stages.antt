@@ -17,7 +17,7 @@ use Rattle.snap_core.specs.Arrays.{Arrays}
 use Rattle.snap_rows.specs.declared.head.Head.TheVariants.{Walk, Stage as AtStage}
 use Rattle.snap_rows.specs.declared.tables.Row.TheVariants.{Leaf}
 use Rattle.snap_rows.specs.Entries.{row_at}
-use Rattle.snap_rows.specs.declared.head.Action.{Action}
+use Rattle.snap_rows.specs.Actions.{Action}
 use Rattle.snap_rows.specs.Handles.{Handles, Follows, arrives, follows, is_test, forked, forks, begins, asks}
 use Rattle.snap_rows.proofs.Rows.{All-get, some_injective}
 

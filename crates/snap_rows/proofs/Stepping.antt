@@ -7,8 +7,8 @@ use Rattle.snap_core.specs.declared.policy.Update.{Update}
 use Rattle.snap_core.specs.Arrays.{Arrays, updates}
 use Rattle.snap_core.specs.Fits.{UpdateReads}
 use Rattle.snap_core.specs.Tests.{OutFits}
-use Rattle.snap_rows.specs.declared.head.Action.{Action}
-use Rattle.snap_rows.specs.declared.head.Action.TheVariants as action
+use Rattle.snap_rows.specs.Actions.{Action}
+use Rattle.snap_rows.specs.Actions as action
 use Rattle.snap_rows.specs.declared.head.Fate.{Fate}
 use Rattle.snap_rows.specs.declared.head.Fate.TheVariants.{Seek, Deliver, Fork, Stay, Wait}
 use Rattle.snap_rows.specs.declared.head.Head.{Head}
@@ -30,14 +30,6 @@ use Rattle.snap_rows.proofs.Rows.{some_injective}
 use Rattle.snap_rows.proofs.Seen.{visits_later}
 
 -- ---- without order
--- a fate is one action at most
-pub acts_alone : (t : Tables) (w : ℕ) (k : List ℕ) (f : Fate) (a b : Action) → ActsAs t w k f a → ActsAs t w k f b → a ≡ b
-acts_alone t w k (Seek x h) a b p q = p ∙ sym q
-acts_alone t w k (Deliver port) a b p q = p ∙ sym q
-acts_alone t w k (Fork outs) a b p q = p ∙ sym q
-acts_alone t w k (Stay r n) a b p q = absurd p
-acts_alone t w k (Wait r) a b p q = absurd p
-
 -- what follows visits that were made follows the first
 handles_behind : {t : Tables} {w : ℕ} {k : List ℕ} {may : ℕ → Bool} {m : Arrays} {r n : ℕ} {m' : Arrays} {q v : ℕ} → Visiting t w k may m r n m' q v → q < ranks t → (m'' : Arrays) (a : Action) → Handles t w k m' (Visit q v) m'' a → Handles t w k m (Visit r n) m'' a
 handles_behind none low m'' a h = h
@@ -62,12 +54,6 @@ steps_plain (visits {f = f} two visit own visited) all = handles_visited f all v
 steps_plain (visits {f = f} two (walk some way) own visited) all =
     let done = handles_visited f all visited.made visited.ends in
     (done.0, done.1, enters two some way done.2)
-
--- and the action that it is follows from the fate
-pub plain_does : {t : Tables} {w : ℕ} {k : List ℕ} {may : ℕ → Bool} {m : Arrays} {h : Head} {us : List Update} {f : Fate} {a : Action} → StepsBy t w k may m h us f → ((j : ℕ) → may j ≡ true) → ActsAs t w k f a → Handles t w k m h (updates m us k) a
-plain_does {t = t} {w = w} {k = k} {m = m} {h = h} {us = us} {f = f} {a = a} made all acts =
-    let plain = steps_plain made.steps all in
-    subst (Handles t w k m h (updates m us k)) (acts_alone t w k f plain.0 a plain.1 acts) plain.2
 
 -- ---- what visits come to
 -- no visit was made, or the first one is due here

@@ -4,7 +4,7 @@ use Rattle.std.specs.List.{All}
 use Rattle.snap_core.specs.Arrays.{Arrays}
 use Rattle.snap_rows.specs.declared.tables.Tables.{Tables}
 use Rattle.snap_rows.specs.declared.head.Head.{Head}
-use Rattle.snap_rows.specs.declared.head.Action.{Action}
+use Rattle.snap_rows.specs.Actions.{Action}
 use Rattle.snap_rows.specs.Entries.{port_at}
 use Rattle.snap_rows.specs.Form.{IsInForm}
 use Rattle.snap_rows.specs.Rules.{IsValid}

@@ -5,8 +5,8 @@ use Rattle.snap_core.specs.declared.policy.Update.{Update}
 use Rattle.snap_core.specs.Arrays.{Arrays, updates}
 use Rattle.snap_core.specs.Fits.{UpdateReads}
 use Rattle.snap_core.specs.Tests.{OutFits}
-use Rattle.snap_rows.specs.declared.head.Action.{Action}
-use Rattle.snap_rows.specs.declared.head.Action.TheVariants as action
+use Rattle.snap_rows.specs.Actions.{Action}
+use Rattle.snap_rows.specs.Actions as action
 use Rattle.snap_rows.specs.declared.head.Fate.{Fate}
 use Rattle.snap_rows.specs.declared.head.Fate.TheVariants.{Seek, Deliver, Fork, Stay, Wait}
 use Rattle.snap_rows.specs.declared.head.Head.{Head}

@@ -4,7 +4,6 @@ use Rattle.std.specs.List.{All}
 use Rattle.snap_core.specs.Arrays.{Arrays, updates}
 use Rattle.snap_core.specs.Fits.{UpdateReads}
 use Rattle.snap_rows.specs.declared.head.Head.{Head}
-use Rattle.snap_rows.specs.declared.plan.Plan.{Plan}
 use Rattle.snap_core.specs.Tests.{TestFits}
 use Rattle.snap_rows.specs.declared.tables.Tables.{Tables}
 use Rattle.snap_rows.specs.declared.tables.Row.{Row}
@@ -14,8 +13,7 @@ use Rattle.snap_rows.specs.declared.head.Sent.{Sent}
 use Rattle.snap_core.specs.declared.policy.Update.{Update}
 use Rattle.snap_rows.specs.Form.{IsFieldTest, switch_count}
 use Rattle.snap_rows.specs.Home.{AtHome, IsVisited}
-use Rattle.snap_rows.specs.declared.head.Action.{Action}
-use Rattle.snap_rows.specs.declared.head.Action.TheVariants.{Forward, Deliver, Fork}
+use Rattle.snap_rows.specs.Actions.{Action, Forward, Deliver, Fork}
 use Rattle.snap_rows.specs.Handles.{Handles, Follows, Visits, forked}
 
 -- the components of a test row are below c
@@ -70,18 +68,6 @@ IsLast b = (us : List Update) × (os : List Parts) × (b ≡ Last us os)
 -- the number has a row at w that is a leaf of version 2
 abbrev pub HasLast : Tables → ℕ → ℕ → Type 0
 HasLast t w n = (us : List Update) × (os : List Parts) × (row_at t w n ≡ Some (Last us os))
-
-abbrev pub ForksAt : Tables → ℕ → List ℕ → ℕ → Action → Type 0
-ForksAt t w k n a = (us : List Update) × (os : List Parts) × (row_at t w n ≡ Some (Last us os)) × (a ≡ forked t os k)
-
--- these updates, and what becomes of the copy
-abbrev pub plan_of : List Update → Action → Plan
-plan_of us a = record { ups = us; action = a }
-
--- what a plan does, by the arrays m of the switch
-pub record Does (t : Tables) (w : ℕ) (k : List ℕ) (m : Arrays) (h : Head) (p : Plan) : Type 0 where
-  pub handles : Handles t w k m h (updates m p.ups k) p.action
-  pub reads : All (UpdateReads (length k)) p.ups
 
 -- the number has a row at w from which rank r can be visited
 abbrev pub IsVisitedAt : Tables → ℕ → ℕ → ℕ → Type 0

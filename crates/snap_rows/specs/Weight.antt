@@ -8,8 +8,7 @@ use Rattle.snap_rows.specs.declared.tables.Row.{Row}
 use Rattle.snap_rows.specs.declared.tables.Row.TheVariants.{Leaf, Last}
 use Rattle.snap_rows.specs.declared.head.Head.{Head}
 use Rattle.snap_rows.specs.declared.head.Head.TheVariants.{Out}
-use Rattle.snap_rows.specs.declared.head.Action.{Action}
-use Rattle.snap_rows.specs.declared.head.Action.TheVariants.{Forward, Deliver, Fork}
+use Rattle.snap_rows.specs.Actions.{Action, Forward, Deliver, Fork}
 use Rattle.snap_rows.specs.declared.head.Sent.{Sent}
 use Rattle.snap_rows.specs.Form.{IsInForm, switch_count}
 use Rattle.snap_rows.specs.Rules.{IsValid}

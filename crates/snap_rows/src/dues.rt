@@ -1,6 +1,6 @@
 //! Updates that are due, lent by the tables.
 
-ghost use Rattle.std.specs.Prelude.{◌≡◌, ◌++◌, ◌∷◌, [], IfOk, OnOk, OnErr, length, take, All};
+ghost use Rattle.std.specs.Prelude.{◌≡◌, ◌<◌, ◌++◌, ◌∷◌, [], IfOk, OnOk, OnErr, length, take, All};
 ghost use Rattle.snap_core.specs.Arrays.{updates};
 ghost use Rattle.snap_core.specs.Cells.{arrays_of};
 ghost use Rattle.snap_core.specs.Fits.{UpdateReads};
@@ -90,6 +90,20 @@ fn apply_first(first: First<'_>, store: &mut Store, packet: &Packet) -> Result<(
         }
     }
     Ok(())
+}
+
+// Does these, which are fewer than two.
+fn apply_few(first: First<'_>, store: &mut Store, packet: &Packet) -> Result<(), NoMemory>
+    requires few { length (first_of first) < 2 }
+    requires reads { All (UpdateReads (length packet.now)) (first_of first) }
+    ensures ok { OnOk result (arrays_of store.new ≡ updates (arrays_of store.old) (first_of first.entry) packet.now) }
+    ensures err { OnErr result (arrays_of store.new ≡ arrays_of store.old) }
+{
+    match first {
+        First::Nothing => Ok(()),
+        First::One(update) => store.update(packet, update),
+        First::Two(..) => unreachable!(),
+    }
 }
 
 // Does updates in order.
@@ -184,5 +198,26 @@ impl<'a> Dues<'a> {
     {
         apply_first(self.first, store, packet)?;
         apply_rest(&self.rest, store, packet)
+    }
+
+    /// Does these in order, all or none: fewer than two without copies of them. Refuses for memory alone.
+    #[inline(always)]
+    pub fn apply_whole(
+        &self,
+        alloc: Global,
+        store: &mut Store,
+        packet: &Packet,
+    ) -> Result<(), NoMemory>
+        requires { All (UpdateReads (length packet.now)) self.now }
+        ensures ok { OnOk result (arrays_of store.new ≡ updates (arrays_of store.old) self.now packet.now) }
+        ensures err { OnErr result (arrays_of store.new ≡ arrays_of store.old) }
+    {
+        if self.rest.is_empty() {
+            if count(self.first) < 2 {
+                return apply_few(self.first, store, packet);
+            }
+        }
+        let copies = self.copies(alloc)?;
+        store.apply(packet, copies.items())
     }
 }

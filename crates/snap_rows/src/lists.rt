@@ -1,15 +1,14 @@
 //! The lists of tables, which contracts see as lists.
 
-ghost use Rattle.std.specs.Prelude.{◌≡◌, IfOk, length};
-ghost use Rattle.snap_rows.specs.Copies.{copies_in};
+ghost use Rattle.std.specs.Prelude.{◌≡◌, IfOk};
 
-use crate::head::Sent;
-use crate::tables::{ArrayAt, Hop, RowAt, Stage};
+use crate::tables::{ArrayAt, Hop, Row, RowAt, Stage};
 use snap_core::NoMemory;
 use snap_core::lists::Out;
 use snap_core::policy::Update;
 use std::alloc::Global;
 use std::marker::Model;
+use std::sync::Arc;
 
 /// Updates, in the order in which they are done.
 #[derive(Drop)]
@@ -166,6 +165,49 @@ impl Hops {
     }
 }
 
+/// What stands in a row, in memory that rows share.
+#[derive(Drop)]
+pub struct Body {
+    row: Arc<Row>,
+}
+
+impl Model for Body {
+    ghost use Rattle.snap_rows.specs.declared.tables.Row.{Row};
+
+    ghost Value = { Row };
+
+    ghost view = { λ b. b.row.value };
+}
+
+impl Body {
+    /// The body of a row. Refuses for memory alone.
+    pub fn new(alloc: Global, row: Row) -> Result<Body, NoMemory>
+        ensures { IfOk result (λ body. body ≡ row) }
+    {
+        match Arc::new(alloc, row) {
+            Ok(row) => Ok(Body { row }),
+            Err(_) => Err(NoMemory),
+        }
+    }
+
+    /// Lends what stands in the row. Takes no memory.
+    #[inline(always)]
+    pub fn row(&self) -> &Row
+        ensures { result.now ≡ self.now }
+    {
+        &self.row
+    }
+
+    /// The same body, in the same memory. Refuses for memory alone.
+    pub fn share(&self) -> Result<Body, NoMemory>
+        ensures { IfOk result (λ body. body ≡ self.now) }
+    {
+        Ok(Body {
+            row: self.row.clone()?,
+        })
+    }
+}
+
 /// Rows of all switches.
 #[derive(Drop)]
 pub struct Rows {
@@ -194,69 +236,5 @@ impl Rows {
         ensures { result.now ≡ self.now }
     {
         &self.rows
-    }
-}
-
-/// One packet on its way to a port, which takes no memory, or any number of them.
-#[derive(Drop)]
-pub enum OneOrMany {
-    One(Sent),
-    Many(Vec<Sent>),
-}
-
-/// Packets on their ways to ports.
-#[derive(Drop)]
-pub struct Copies {
-    copies: OneOrMany,
-}
-
-impl Model for Copies {
-    ghost use Rattle.std.specs.Prelude.{List};
-    ghost use Rattle.snap_rows.specs.declared.head.Sent.{Sent};
-
-    ghost Value = { List Sent };
-
-    ghost use Rattle.snap_rows.specs.Copies.{copies_in};
-
-    ghost view = { λ a. copies_in a.copies };
-}
-
-impl Copies {
-    /// The list of these. Takes no memory.
-    pub fn new(copies: OneOrMany) -> Copies
-        ensures { result ≡ copies_in copies }
-    {
-        Copies { copies }
-    }
-
-    /// How many these are. Takes no memory.
-    pub fn count(&self) -> u64
-        ensures { result ≡ length self.now }
-    {
-        match &self.copies {
-            OneOrMany::One(_) => 1,
-            OneOrMany::Many(copies) => copies.len() as u64,
-        }
-    }
-
-    /// Gives them back. Takes no memory.
-    pub fn into_one_or_many(self) -> OneOrMany
-        ensures { copies_in result ≡ self }
-    {
-        self.copies
-    }
-
-    /// Gives them back in a list. Refuses for memory alone.
-    pub fn into_items(self, alloc: Global) -> Result<Vec<Sent>, NoMemory>
-        ensures { IfOk result (λ copies. copies.items ≡ self) }
-    {
-        match self.copies {
-            OneOrMany::One(sent) => {
-                let mut copies = Vec::new(alloc);
-                copies.push(sent)?;
-                Ok(copies)
-            }
-            OneOrMany::Many(copies) => Ok(copies),
-        }
     }
 }

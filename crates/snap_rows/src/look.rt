@@ -221,7 +221,7 @@ fn row_said(rows: &[RowAt], place: usize, at: u16, number: u64) -> Option<&Row>
     match rows.get(place) {
         Some(entry) => {
             if entry.at == at && entry.number == number {
-                Some(&entry.row)
+                Some(entry.row.row())
             } else {
                 None
             }
@@ -237,7 +237,7 @@ fn row_by_search(rows: &[RowAt], at: u16, number: u64) -> Option<&Row>
     ensures { option_map (λ r. r.now) result ≡ row_in rows.now at number }
 {
     match searched_row(rows, at, number) {
-        Some(place) => Some(&rows[place].row),
+        Some(place) => Some(rows[place].row.row()),
         None => None,
     }
 }

@@ -6,18 +6,15 @@ ghost use Rattle.snap_core.specs.declared.policy.Update.{Update};
 ghost use Rattle.snap_core.specs.Arrays.{Arrays};
 ghost use Rattle.snap_core.specs.Cells.{arrays_of};
 ghost use Rattle.snap_rows.specs.declared.tables.Row.TheVariants.{Leaf, Last};
-ghost use Rattle.snap_rows.specs.declared.head.Action.{Action};
 ghost use Rattle.snap_rows.specs.Entries.{row_at, rank_at, owner_of};
 ghost use Rattle.snap_rows.specs.Form.{IsInForm, comps, switch_count};
 ghost use Rattle.snap_rows.specs.Home.{AtHome};
-ghost use Rattle.snap_rows.specs.Steps.{IsGoOrLeaf, HasLast, Does};
-ghost use Rattle.snap_rows.specs.Stepping.{ActsAs, FateArrives, FateFits, GoesBy, Steps, StepsBy, VisitsBy, held_back};
+ghost use Rattle.snap_rows.specs.Steps.{IsGoOrLeaf, HasLast};
+ghost use Rattle.snap_rows.specs.Stepping.{FateArrives, FateFits, GoesBy, Steps, StepsBy, VisitsBy, held_back};
 
-use crate::admit::{Admit, Every};
+use crate::admit::Admit;
 use crate::dues::Dues;
-use crate::fork::fork_by;
-use crate::head::{Action, Fate, Head};
-use crate::lists::Updates;
+use crate::head::{Fate, Head};
 use crate::tables::{Row, Stage};
 use crate::valid::Valid;
 use crate::visit::visit;
@@ -28,13 +25,6 @@ use snap_core::packet::Packet;
 use snap_core::policy::Update;
 use snap_core::store::Store;
 use std::alloc::Global;
-
-/// What a step does: updates, which are done at once, and what becomes of the copy.
-#[derive(Drop)]
-pub struct Plan {
-    pub ups: Updates,
-    pub action: Action,
-}
 
 // Lends updates behind others.
 fn lend<'a>(lent: &'a [Update], ups: &mut Dues<'a>) -> Result<(), NoMemory>
@@ -385,54 +375,4 @@ pub fn step<'a, A: Admit>(
     let fate = fate(alloc, tables, admit, at, store, packet, head, &mut ups)?;
     ups.apply(store, packet)?;
     Ok(fate)
-}
-
-/// The action that a fate is, where it is one without order. Refuses for memory alone.
-#[inline(always)]
-pub(crate) fn action_in(
-    alloc: Global,
-    tables: &Valid,
-    at: u16,
-    packet: &Packet,
-    fate: Fate<'_>,
-) -> Result<Action, NoMemory>
-    requires packet { length packet.now ≡ comps tables.now }
-    requires fits { FateFits tables.now at fate }
-    requires plain { (a : Action) × ActsAs tables.now at packet.now fate a }
-    ensures { IfOk result (ActsAs tables.now at packet.now fate.entry) }
-{
-    match fate {
-        Fate::Seek { target, head } => {
-            Ok(Action::Forward {
-                to: tables.next(at, target),
-                head,
-            })
-        }
-        Fate::Deliver { port } => Ok(Action::Deliver { port }),
-        Fate::Fork { outs } => fork_by(alloc, tables, outs, packet),
-        Fate::Stay { .. } => unreachable!(),
-        Fate::Wait { .. } => unreachable!(),
-    }
-}
-
-/// What a step does as a plan, with copies of the updates and of the packet. Refuses for memory alone.
-#[inline(always)]
-pub fn plan_step(
-    alloc: Global,
-    tables: &Valid,
-    at: u16,
-    store: &Store,
-    packet: &Packet,
-    head: Head,
-) -> Result<Plan, NoMemory>
-    requires at { at < switch_count tables.now }
-    requires packet { length packet.now ≡ comps tables.now }
-    requires home { AtHome tables.now at head }
-    ensures does { IfOk result (Does tables.now at packet.now (arrays_of store.now) head) }
-{
-    let mut ups = Dues::new(alloc);
-    let fate = fate(alloc, tables, &Every, at, store, packet, head, &mut ups)?;
-    let ups = ups.copies(alloc)?;
-    let action = action_in(alloc, tables, at, packet, fate)?;
-    Ok(Plan { ups, action })
 }

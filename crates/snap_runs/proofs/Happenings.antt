@@ -10,7 +10,7 @@ use Rattle.snap_rows.specs.declared.tables.Tables.{Tables}
 use Rattle.snap_rows.specs.declared.head.Sent.{Sent}
 use Rattle.snap_rows.specs.Happenings.{deliveries_of, losses_of, number_of}
 use Rattle.snap_rows.specs.Network.{Happening, Crossed, Delivered, Forked}
-use Rattle.snap_net.specs.Shown.{happened, moving}
+use Rattle.snap_net.specs.Shown.{moving}
 use Rattle.snap_net.proofs.Told.{deliveries_of-append, losses_of-append}
 use Rattle.snap_runs.specs.declared.frames.Frames.{Frames}
 use Rattle.snap_runs.specs.declared.tally.Tally.{Tally}
@@ -91,12 +91,12 @@ module _ (i : ℕ) where
       ∙ sum_by-append (λ n. n) (losses_of i hs) (losses_of i (x ∷ []))
       ∙ ap (λ n. sum (losses_of i hs) + n) (lost_one x e)
 
-  hop_one : (f : Frames) (t : Tables) (x : Happening) → number_of x ≡ i → hop_lines f t i (x ∷ []) ≡ hop_told f t.switches (happened x)
+  hop_one : (f : Frames) (t : Tables) (x : Happening) → number_of x ≡ i → hop_lines f t i (x ∷ []) ≡ hop_told f t.switches x
   hop_one f t (Delivered c port) e = refl
   hop_one f t (Crossed c to head) e = ap (λ b. if b then hop_line f t c to head ++ [] else []) (eq-eqb c.number i e) ∙ append-nil (hop_line f t c to head)
   hop_one f t (Forked c copies lost) e = refl
 
-  pub hops_text-more : (f : Frames) (t : Tables) (hops : Bool) (hs : List Happening) (x : Happening) → number_of x ≡ i → hops_text f t hops i (hs ++ x ∷ []) ≡ hops_text f t hops i hs ++ (if hops then hop_told f t.switches (happened x) else [])
+  pub hops_text-more : (f : Frames) (t : Tables) (hops : Bool) (hs : List Happening) (x : Happening) → number_of x ≡ i → hops_text f t hops i (hs ++ x ∷ []) ≡ hops_text f t hops i hs ++ (if hops then hop_told f t.switches x else [])
   hops_text-more f t true hs x e = hop_lines-append f t i hs (x ∷ []) ∙ ap (λ l. hop_lines f t i hs ++ l) (hop_one f t x e)
   hops_text-more f t false hs x e = refl
 
@@ -105,5 +105,5 @@ pub tally-more : (f : Frames) (t : Tables) (hops : Bool) (i : ℕ) (hs : List Ha
 tally-more f t hops i hs x y y' e is notes = record {
   delivered = notes.delivered ∙ ap (λ l. l ++ delivered_by (moving x)) is.delivered ∙ sym (packets_delivered-more i hs x e);
   lost = notes.lost ∙ ap (λ n. n + lost_by (moving x)) is.lost ∙ sym (losses_of-more i hs x e);
-  hops_told = notes.hops_told ∙ ap (λ l. l ++ (if hops then hop_told f t.switches (happened x) else [])) is.hops_told ∙ sym (hops_text-more i f t hops hs x e);
+  hops_told = notes.hops_told ∙ ap (λ l. l ++ (if hops then hop_told f t.switches x else [])) is.hops_told ∙ sym (hops_text-more i f t hops hs x e);
 }

@@ -12,7 +12,6 @@ use Rattle.snap_rows.specs.Network.{Happening, Crossed, Delivered, Forked}
 use Rattle.snap_rows.specs.Ways.{Way, here, on}
 use Rattle.snap_head.specs.Frames.{frame}
 use Rattle.snap_net.specs.Passing.{crossings}
-use Rattle.snap_net.specs.Shown.{happened}
 use Rattle.snap_net.specs.Travels.{Crosses, ends, goes, Hears}
 use Rattle.snap_runs.specs.declared.frames.Frames.{Frames}
 use Rattle.snap_runs.specs.declared.tally.Tally.{Tally}
@@ -42,8 +41,8 @@ crosses_lines f switches i h p w ws hs (goes {v = v} {vs = vs} {hs = gs} {c = c}
 crossing_lines-append : (f : Frames) (switches : List (List ℕ)) (hs gs : List Happening) → crossing_lines f switches (hs ++ gs) ≡ crossing_lines f switches hs ++ crossing_lines f switches gs
 crossing_lines-append f switches [] gs = refl
 crossing_lines-append f switches (x ∷ hs) gs =
-    ap (λ l. hop_told f switches (happened x) ++ l) (crossing_lines-append f switches hs gs)
-    ∙ sym (append_assoc (hop_told f switches (happened x)) (crossing_lines f switches hs) (crossing_lines f switches gs))
+    ap (λ l. hop_told f switches x ++ l) (crossing_lines-append f switches hs gs)
+    ∙ sym (append_assoc (hop_told f switches x) (crossing_lines f switches hs) (crossing_lines f switches gs))
 
 -- what happens to packet i alone has the lines of its crossings
 pub hop_lines-crossings : (f : Frames) (t : Tables) (i : ℕ) (hs : List Happening) → HappenTo i hs → hop_lines f t i hs ≡ crossing_lines f t.switches (crossings hs)

@@ -1,13 +1,13 @@
 -- How the run of a schedule goes on.
 use Rattle.std.proofs.Common.{◌≡◌, ◌≢◌, ◌⊎◌, inl, inr, ℕ, zero, suc, ◌+◌, ◌<◌, ◌≤◌, Bool, true, false, List, [], ◌∷◌, ◌++◌, Option, Some, map, get_or, length, reverse, refl, sym, ap, subst, ◌∙◌, arith, append-nil}
-use Rattle.std.specs.Prelude.{◌==◌, is_some, slice_get, slice_index, sum}
+use Rattle.std.specs.Prelude.{◌==◌, is_some, slice_get, slice_index, sum, if◌then◌else◌}
 use Rattle.std.specs.List.{All}
 use Rattle.std.proofs.lemmas.Bool.{eqb-true, eq-eqb, false≢true}
 use Rattle.std.proofs.Math.ListN.{set}
 use Rattle.std.proofs.lemmas.List.{length-append, length-set, reverse-append, reverse-reverse}
 use Rattle.std.proofs.lemmas.List.Sorted.{All-permutation, IsPermutation-reverse}
 use Rattle.std.proofs.lemmas.List.Elements.{All-append, All-cons, All-head, All-map, All-nil, All-pop, All-weaker}
-use Rattle.std.proofs.lemmas.Option.{same_Some, slice_get_read}
+use Rattle.std.proofs.lemmas.Option.{same_Some, slice_get_read, slice_get_within}
 use Rattle.snap_core.specs.Arrays.{zero_arrays}
 use Rattle.snap_rows.specs.declared.tables.Tables.{Tables}
 use Rattle.snap_rows.specs.declared.head.Sent.{Sent}
@@ -15,9 +15,8 @@ use Rattle.snap_rows.specs.Form.{comps}
 use Rattle.snap_rows.specs.Happenings.{deliveries_of, losses_of, number_of}
 use Rattle.snap_rows.specs.Network.{Copy, Net, Inject, Step, Happening, Crossed, Delivered, Forked, Leads, Runs, done, start}
 use Rattle.snap_net.specs.declared.flying.Flying.{Flying}
-use Rattle.snap_net.specs.declared.happened.Happened.{Happened}
 use Rattle.snap_net.specs.declared.happened.Moved.{Moved}
-use Rattle.snap_net.specs.Shown.{Held, IsDone, IsHeld, Nothing, Shows, Tells, TellsMoved, flown, happened, moving}
+use Rattle.snap_net.specs.Shown.{Held, IsDone, IsHeld, Nothing, Shows, StandsThere, TellsMoved, flown, moving}
 use Rattle.snap_runs.specs.declared.frames.Frames.{Frames}
 use Rattle.snap_runs.specs.declared.frames.Frames.TheVariants.{Plain}
 use Rattle.snap_runs.specs.declared.event.Order.{Order}
@@ -25,11 +24,12 @@ use Rattle.snap_runs.specs.declared.event.Order.TheVariants as order
 use Rattle.snap_runs.specs.declared.play.Play.{Play}
 use Rattle.snap_runs.specs.declared.ready.Ready.{Ready}
 use Rattle.snap_runs.specs.declared.tally.Tally.{Tally}
-use Rattle.snap_runs.specs.Playing.{HasDone, HasObeyed, HasStepped, IsLong, IsPlaying, IsReady, NotesIn, Plays, left_in, owner_by, packets_in}
+use Rattle.snap_runs.specs.Playing.{HasDone, HasNoted, HasObeyed, HasStepped, IsLong, IsPlaying, IsReady, NotesIn, Plays, left_in, packets_in}
 use Rattle.snap_runs.specs.Reports.{hops_text}
 use Rattle.snap_runs.specs.Schedules.{CantBeDone, Spells, nothing, order_by}
-use Rattle.snap_runs.specs.Tallies.{IsTally, Notes, bared, delivered_by, hop_by, lost_by}
+use Rattle.snap_runs.specs.Tallies.{IsTally, IsThere, Notes, delivered_by, hop_told, line_after, line_of, lost_by, owner_by}
 use Rattle.snap_runs.proofs.Blocks.{in_pushed}
+use Rattle.snap_net.proofs.Steps.{stands_there}
 use Rattle.snap_net.proofs.Told.{deliveries_of-append, losses_of-append}
 use Rattle.snap_runs.proofs.Happenings.{HappenElsewhere, deliveries_of-others, losses_of-others, hops_text-append, hops_text-others, tally-more}
 use Rattle.snap_runs.proofs.Spelling.{spells-inject, spells-skip, spells-step, runs-then}
@@ -137,10 +137,10 @@ module _ (old new : Play) (r : Ready) (rest : List Ready) (y : Tally) (stood : o
 -- ---- a copy makes a step
 module _ (old new : Play) (place : ℕ) (held : IsHeld old.net) (does : HasStepped old.hops place old.net new.net old.tallies.items new.tallies.items) (same : new.net.tables ≡ old.net.tables) (same_hops : new.hops ≡ old.hops) (still : new.waiting.items ≡ old.waiting.items) where
   pub plays-step : HasObeyed (order.Step place) old new true
-  plays-step t hops ks lines line e p = go (subst (λ t'. (s' : Net) × (x : Happening) × Leads t' p.state (Step place) s' (x ∷ []) × Shows new.net s' × NotesIn t' hops x old.tallies.items new.tallies.items) p.tables
-      (subst (λ b. (s' : Net) × (x : Happening) × Leads old.net.tables p.state (Step place) s' (x ∷ []) × Shows new.net s' × NotesIn old.net.tables b x old.tallies.items new.tallies.items) p.hops_same (does p.state p.shows)))
+  plays-step t hops ks lines line e p = go (subst (λ t'. (s' : Net) × (x : Happening) × Leads t' p.state (Step place) s' (x ∷ []) × Shows new.net s' × NotesIn Plain t' hops x old.tallies.items new.tallies.items) p.tables
+      (subst (λ b. (s' : Net) × (x : Happening) × Leads old.net.tables p.state (Step place) s' (x ∷ []) × Shows new.net s' × NotesIn Plain old.net.tables b x old.tallies.items new.tallies.items) p.hops_same (does p.state p.shows)))
     where
-      go : (s' : Net) × (x : Happening) × Leads t p.state (Step place) s' (x ∷ []) × Shows new.net s' × NotesIn t hops x old.tallies.items new.tallies.items → Plays t hops ks (lines ++ line ∷ []) new
+      go : (s' : Net) × (x : Happening) × Leads t p.state (Step place) s' (x ∷ []) × Shows new.net s' × NotesIn Plain t hops x old.tallies.items new.tallies.items → Plays t hops ks (lines ++ line ∷ []) new
       go a =
           let n = p.state.injected in
           let x = a.1 in
@@ -166,7 +166,7 @@ module _ (old new : Play) (place : ℕ) (held : IsHeld old.net) (does : HasStepp
             ready = subst (All (IsReady t)) (sym still) p.ready;
           }
         where
-          tallied : (x : Happening) → NotesIn t hops x old.tallies.items new.tallies.items → (i : ℕ) (z : Tally) → slice_get new.tallies.items i ≡ Some z → (b : Bool) → (i == number_of x) ≡ b → IsTally Plain t hops i (p.happenings ++ x ∷ []) z
+          tallied : (x : Happening) → NotesIn Plain t hops x old.tallies.items new.tallies.items → (i : ℕ) (z : Tally) → slice_get new.tallies.items i ≡ Some z → (b : Bool) → (i == number_of x) ≡ b → IsTally Plain t hops i (p.happenings ++ x ∷ []) z
           tallied x notes i z is true f =
               let at : i ≡ number_of x = eqb-true i (number_of x) f in
               let what : notes.after ≡ z = same_Some notes.after z (sym notes.here ∙ ap (λ j. slice_get new.tallies.items j) (sym at) ∙ is) in
@@ -175,7 +175,7 @@ module _ (old new : Play) (place : ℕ) (held : IsHeld old.net) (does : HasStepp
               let other : i ≡ number_of x → ⊥ = λ g. false≢true (sym f ∙ eq-eqb i (number_of x) g) in
               tally_other Plain t hops i p.happenings (x ∷ []) z (All-cons (λ g. number_of g ≢ i) x [] (λ g. other (sym g)) (All-nil (λ g. number_of g ≢ i))) (p.tallied i z (sym (notes.others i other) ∙ is))
 
-          long : (a : (s' : Net) × (x : Happening) × Leads t p.state (Step place) s' (x ∷ []) × Shows new.net s' × NotesIn t hops x old.tallies.items new.tallies.items) → (i : ℕ) (z : Tally) → slice_get new.tallies.items i ≡ Some z → (b : Bool) → (i == number_of a.1) ≡ b → IsLong (comps t) z
+          long : (a : (s' : Net) × (x : Happening) × Leads t p.state (Step place) s' (x ∷ []) × Shows new.net s' × NotesIn Plain t hops x old.tallies.items new.tallies.items) → (i : ℕ) (z : Tally) → slice_get new.tallies.items i ≡ Some z → (b : Bool) → (i == number_of a.1) ≡ b → IsLong (comps t) z
           long a i z is true f =
               let notes = a.4 in
               let at : i ≡ number_of a.1 = eqb-true i (number_of a.1) f in
@@ -195,15 +195,22 @@ playing-below v playing =
     subst (All P) p.shows.flying (All-map P flown p.state.flying (subst (λ n. All (λ (c : Copy). c.number < n) p.state.flying) (sym p.counted) p.below))
 
 -- ---- a step that is noted in its packet's tally
-owner_by-moving : (x : Happening) → owner_by (moving x) ≡ number_of x
+pub owner_by-moving : (x : Happening) → owner_by (moving x) ≡ number_of x
 owner_by-moving (Crossed c to head) = refl
 owner_by-moving (Delivered c port) = refl
 owner_by-moving (Forked c copies lost) = refl
 
-bared-happened : (x : Happening) → bared (happened x) ≡ moving x
-bared-happened (Crossed c to head) = refl
-bared-happened (Delivered c port) = refl
-bared-happened (Forked c copies lost) = refl
+-- the line is that of the copy which stands there
+pub line-told : (f : Frames) (switches : List (List ℕ)) (cs : List Flying) (place : ℕ) (x : Happening) → StandsThere cs place x → line_after f switches cs place (moving x) ≡ hop_told f switches x
+line-told f switches cs place (Crossed c to head) there = ap (line_of f switches c.at) there
+line-told f switches cs place (Delivered c port) there = refl
+line-told f switches cs place (Forked c copies lost) there = refl
+
+-- if any, there is a copy
+pub is-there : (cs : List Flying) (place : ℕ) (x : Happening) → StandsThere cs place x → IsThere cs place (moving x)
+is-there cs place (Crossed c to head) there = slice_get_within cs place _ there
+is-there cs place (Delivered c port) there = tt
+is-there cs place (Forked c copies lost) there = tt
 
 pub set-same : (ys : List Tally) (i : ℕ) (y : Tally) → i < length ys → slice_get (set ys i y) i ≡ Some y
 set-same [] i y within = absurd (omega (arith, within))
@@ -217,52 +224,56 @@ set-other (z ∷ zs) zero (suc j) y other = refl
 set-other (z ∷ zs) (suc i) zero y other = refl
 set-other (z ∷ zs) (suc i) (suc j) y other = set-other zs i j y (λ e. other (ap suc e))
 
-module _ (ys : List Tally) (owner : ℕ) (y y' : Tally) (within : owner < length ys) (is : y ≡ get_or ys owner y) where
-  notes-in : (t : Tables) (hops : Bool) (x : Happening) → owner ≡ number_of x → Notes Plain t hops x y y' → NotesIn t hops x ys (set ys owner y')
-  notes-in t hops x e notes = record {
-    before = y;
-    after = y';
-    is = subst (λ i. slice_get ys i ≡ Some y) e (slice_get_read ys (length ys) owner y refl within is);
-    notes = notes;
-    count = length-set ys owner y';
-    here = subst (λ i. slice_get (set ys owner y') i ≡ Some y') e (set-same ys owner y' within);
-    others = λ i other. set-other ys owner i y' (λ f. other (f ∙ e));
-  }
+-- one tally of all was changed
+pub has-noted : (ys : List Tally) (owner : ℕ) (y y' : Tally) (lines : List ℕ) (m : Moved) → owner < length ys → y ≡ get_or ys owner y → owner ≡ owner_by m → y'.delivered.items ≡ y.delivered.items ++ delivered_by m → y'.lost ≡ y.lost + lost_by m
+    → y'.hops.items ≡ y.hops.items ++ lines → HasNoted lines m ys (set ys owner y')
+has-noted ys owner y y' lines m within is own d l told = record {
+  before = y;
+  after = y';
+  is = subst (λ i. slice_get ys i ≡ Some y) own (slice_get_read ys (length ys) owner y refl within is);
+  delivered = d;
+  lost = l;
+  hops_told = told;
+  count = length-set ys owner y';
+  here = subst (λ i. slice_get (set ys owner y') i ≡ Some y') own (set-same ys owner y' within);
+  others = λ i other. set-other ys owner i y' (λ e. other (e ∙ own));
+}
 
-  module _ (place : ℕ) (old new : Held) where
-    pub stepped-bare : (m : Moved) → IsDone old (Step place) new (TellsMoved m) → owner ≡ owner_by m → y'.delivered.items ≡ y.delivered.items ++ delivered_by m → y'.lost ≡ y.lost + lost_by m → y'.hops.items ≡ y.hops.items
-        → HasStepped false place old new ys (set ys owner y')
-    stepped-bare m does o d l h s shows =
-        let a = does s shows in
-        let x = a.4.0 in
-        let same : m ≡ moving x = a.4.2 in (
-          a.0,
-          x,
-          subst (Leads old.tables s (Step place) a.0) a.4.1 a.2,
-          a.3,
-          notes-in old.tables false x (o ∙ ap owner_by same ∙ owner_by-moving x) (record {
-            delivered = d ∙ ap (λ n. y.delivered.items ++ delivered_by n) same;
-            lost = l ∙ ap (λ n. y.lost + lost_by n) same;
-            hops_told = h ∙ sym (append-nil y.hops.items);
-          }),
-        )
+-- what was noted of a step is what happened
+pub notes-of : (f : Frames) (t : Tables) (hops : Bool) (cs : List Flying) (place : ℕ) (x : Happening) (ys zs : List Tally) → StandsThere cs place x → (n : HasNoted (if hops then line_after f t.switches cs place (moving x) else []) (moving x) ys zs) → Notes f t hops x n.before n.after
+notes-of f t hops cs place x ys zs there n = record { delivered = n.delivered; lost = n.lost; hops_told = n.hops_told ∙ ap (λ l. n.before.hops.items ++ (if hops then l else [])) (line-told f t.switches cs place x there) }
 
-    pub stepped-shown : (h : Happened) (switches : List (List ℕ)) → switches ≡ old.tables.switches → IsDone old (Step place) new (Tells h) → owner ≡ owner_by (bared h) → y'.delivered.items ≡ y.delivered.items ++ delivered_by (bared h) → y'.lost ≡ y.lost + lost_by (bared h)
-        → y'.hops.items ≡ y.hops.items ++ hop_by switches h → HasStepped true place old new ys (set ys owner y')
-    stepped-shown h switches names does o d l told s shows =
-        let a = does s shows in
-        let x = a.4.0 in
-        let same : bared h ≡ moving x = ap bared a.4.2 ∙ bared-happened x in (
-          a.0,
-          x,
-          subst (Leads old.tables s (Step place) a.0) a.4.1 a.2,
-          a.3,
-          notes-in old.tables true x (o ∙ ap owner_by same ∙ owner_by-moving x) (record {
-            delivered = d ∙ ap (λ n. y.delivered.items ++ delivered_by n) same;
-            lost = l ∙ ap (λ n. y.lost + lost_by n) same;
-            hops_told = told ∙ (λ i. y.hops.items ++ hop_by (names i) (a.4.2 i));
-          }),
-        )
+notes-in : (f : Frames) (t : Tables) (hops : Bool) (cs : List Flying) (place : ℕ) (x : Happening) (ys zs : List Tally) → StandsThere cs place x → HasNoted (if hops then line_after f t.switches cs place (moving x) else []) (moving x) ys zs → NotesIn f t hops x ys zs
+notes-in f t hops cs place x ys zs there n =
+    let own = owner_by-moving x in
+    record {
+      before = n.before;
+      after = n.after;
+      is = subst (λ i. slice_get ys i ≡ Some n.before) own n.is;
+      notes = notes-of f t hops cs place x ys zs there n;
+      count = n.count;
+      here = subst (λ i. slice_get zs i ≡ Some n.after) own n.here;
+      others = λ i other. n.others i (λ e. other (e ∙ own));
+    }
+
+module _ (place : ℕ) (old new : Held) where
+  -- a copy that crossed a link stands at the place, as the network shows it
+  pub stands : (s s' : Net) (hs : List Happening) (x : Happening) → Leads old.tables s (Step place) s' hs → hs ≡ x ∷ [] → Shows new s' → StandsThere new.flying place x
+  stands s s' hs x leads one shows = subst (λ cs. StandsThere cs place x) shows.flying (stands_there x leads one)
+
+  pub step-noted : (m : Moved) (hops : Bool) (ys zs : List Tally) → new.tables ≡ old.tables → IsDone old (Step place) new (TellsMoved m) → HasNoted (if hops then line_after Plain new.tables.switches new.flying place m else []) m ys zs
+      → HasStepped hops place old new ys zs
+  step-noted m hops ys zs same does noted s shows =
+      let a = does s shows in
+      let x = a.4.0 in
+      let there = stands s a.0 a.1 x a.2 a.4.1 a.3 in
+      let so = subst (λ (t : Tables). HasNoted (if hops then line_after Plain t.switches new.flying place m else []) m ys zs) same noted in (
+        a.0,
+        x,
+        subst (Leads old.tables s (Step place) a.0) a.4.1 a.2,
+        a.3,
+        notes-in Plain old.tables hops new.flying place x ys zs there (subst (λ n. HasNoted (if hops then line_after Plain old.tables.switches new.flying place n else []) n ys zs) a.4.2 so),
+      )
 
 -- the packet whose copy steps has a tally
 module _ (place n : ℕ) (old new : Held) (below : All (λ (c : Flying). c.number < n) old.flying) where
@@ -274,10 +285,10 @@ module _ (place n : ℕ) (old new : Held) (below : All (λ (c : Flying). c.numbe
       let a = does (shown old).0 (shown old).1 in
       subst (λ i. i < n) (sym (ap owner_by a.4.2 ∙ owner_by-moving a.4.0)) (step_below a.0 a.1 a.4.0 a.2 a.4.1)
 
-  pub owner-below : (h : Happened) → IsDone old (Step place) new (Tells h) → owner_by (bared h) < n
-  owner-below h does =
+  pub mover-there : (m : Moved) → IsDone old (Step place) new (TellsMoved m) → IsThere new.flying place m
+  mover-there m does =
       let a = does (shown old).0 (shown old).1 in
-      subst (λ i. i < n) (sym (ap owner_by (ap bared a.4.2 ∙ bared-happened a.4.0) ∙ owner_by-moving a.4.0)) (step_below a.0 a.1 a.4.0 a.2 a.4.1)
+      subst (IsThere new.flying place) (sym a.4.2) (is-there new.flying place a.4.0 (stands place old new (shown old).0 a.0 a.1 a.4.0 a.2 a.4.1 a.3))
 
 -- what a line orders was done, or can't be done
 pub obeyed-done : (order : Order) (line : List ℕ) (old new : Play) → order_by line ≡ Some order → (b : Bool) → HasObeyed order old new b → HasDone line old new b

@@ -6,7 +6,6 @@ use Rattle.snap_rows.specs.declared.tables.Tables.{Tables}
 use Rattle.snap_rows.specs.declared.head.Head.{Head}
 use Rattle.snap_rows.specs.Network.{Happening}
 use Rattle.snap_head.specs.Frames.{frame}
-use Rattle.snap_net.specs.Shown.{happened}
 use Rattle.snap_runs.specs.declared.frames.Frames.{Frames}
 use Rattle.snap_runs.specs.declared.tally.Tally.{Tally}
 use Rattle.snap_runs.specs.Reports.{lead_of}
@@ -36,7 +35,7 @@ way_text switches digits w (v ∷ vs) = line_text switches digits w v ++ way_tex
 -- the lines of crossings
 abbrev pub crossing_lines : Frames → List (List ℕ) → List Happening → List ℕ
 crossing_lines f switches [] = []
-crossing_lines f switches (x ∷ hs) = hop_told f switches (happened x) ++ crossing_lines f switches hs
+crossing_lines f switches (x ∷ hs) = hop_told f switches x ++ crossing_lines f switches hs
 
 -- the lines of these crossings were put behind those of others
 abbrev pub SeesLines : Tables → (first : Tally) → List Happening → (now : Tally) → Type 0

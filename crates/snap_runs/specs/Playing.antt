@@ -9,9 +9,9 @@ use Rattle.snap_rows.specs.Entries.{port_at}
 use Rattle.snap_rows.specs.Form.{comps}
 use Rattle.snap_rows.specs.Network.{Copy, Net, Happening, Leads, Step}
 use Rattle.snap_net.specs.declared.happened.Moved.{Moved}
-use Rattle.snap_net.specs.declared.happened.Moved.TheVariants as bare
 use Rattle.snap_net.specs.Shown.{Held, Shows}
 use Rattle.snap_runs.specs.declared.event.Order.{Order}
+use Rattle.snap_runs.specs.declared.frames.Frames.{Frames}
 use Rattle.snap_runs.specs.declared.frames.Frames.TheVariants.{Plain}
 use Rattle.snap_runs.specs.declared.play.Play.{Play}
 use Rattle.snap_runs.specs.declared.ready.Ready.{Ready}
@@ -26,13 +26,7 @@ use Rattle.snap_trace.specs.Spelled.{ended, refused}
 use Rattle.snap_runs.specs.Plain.{spelled_for}
 use Rattle.snap_runs.specs.Schedules.{CantBeDone, EndsEarly, IsReadWhole, Obeys, RefusesPackets, RefusesScheduleLine, StopsAt, lines_of, order_by}
 use Rattle.snap_rows.specs.Happenings.{number_of}
-use Rattle.snap_runs.specs.Tallies.{IsBlockText, IsTally, Notes}
-
--- the number of the packet whose copy steps
-abbrev pub owner_by : Moved → ℕ
-owner_by (bare.Forwarded owner from to) = owner
-owner_by (bare.Delivered owner port k) = owner
-owner_by (bare.Forked owner copies lost) = owner
+use Rattle.snap_runs.specs.Tallies.{IsBlockText, IsTally, Notes, delivered_by, lost_by, owner_by}
 
 abbrev pub packets_in : List Ready → List (List ℕ)
 packets_in rs = map (λ (r : Ready). r.packet) rs
@@ -82,18 +76,30 @@ abbrev pub HasDone : List ℕ → (old new : Play) → Bool → Type 0
 HasDone line old new true = (t : Tables) (hops : Bool) (ks lines : List (List ℕ)) → Plays t hops ks lines old → Plays t hops ks (lines ++ line ∷ []) new
 HasDone line old new false = (t : Tables) (hops : Bool) (ks lines : List (List ℕ)) (p : Plays t hops ks lines old) → CantBeDone (order_by line) (left_in old) p.state
 
+-- a step was noted in its packet's tally, with these lines
+pub record HasNoted (lines : List ℕ) (m : Moved) (old new : List Tally) : Type 0 where
+  pub before : Tally
+  pub after : Tally
+  pub is : slice_get old (owner_by m) ≡ Some before
+  pub delivered : after.delivered.items ≡ before.delivered.items ++ delivered_by m
+  pub lost : after.lost ≡ before.lost + lost_by m
+  pub hops_told : after.hops.items ≡ before.hops.items ++ lines
+  pub count : length new ≡ length old
+  pub here : slice_get new (owner_by m) ≡ Some after
+  pub others : (i : ℕ) → (i ≡ owner_by m → ⊥) → slice_get new i ≡ slice_get old i
+
 -- copy k has made a step, which was noted in its packet's tally
-pub record NotesIn (t : Tables) (hops : Bool) (x : Happening) (old new : List Tally) : Type 0 where
+pub record NotesIn (f : Frames) (t : Tables) (hops : Bool) (x : Happening) (old new : List Tally) : Type 0 where
   pub before : Tally
   pub after : Tally
   pub is : slice_get old (number_of x) ≡ Some before
-  pub notes : Notes Plain t hops x before after
+  pub notes : Notes f t hops x before after
   pub count : length new ≡ length old
   pub here : slice_get new (number_of x) ≡ Some after
   pub others : (i : ℕ) → (i ≡ number_of x → ⊥) → slice_get new i ≡ slice_get old i
 
 abbrev pub HasStepped : Bool → ℕ → (old new : Held) → (before after : List Tally) → Type 0
-HasStepped hops k old new before after = (s : Net) → Shows old s → (s' : Net) × (x : Happening) × Leads old.tables s (Step k) s' (x ∷ []) × Shows new s' × NotesIn old.tables hops x before after
+HasStepped hops k old new before after = (s : Net) → Shows old s → (s' : Net) × (x : Happening) × Leads old.tables s (Step k) s' (x ∷ []) × Shows new s' × NotesIn Plain old.tables hops x before after
 
 -- no line was done yet
 abbrev pub IsFresh : Play → Type 0

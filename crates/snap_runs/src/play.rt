@@ -1,13 +1,13 @@
 //! A run of the network in the order of a schedule.
 
-ghost use Rattle.std.specs.Prelude.{◌≡◌, ◌≤◌, ◌<◌, ◌+◌, ◌^◌, ◌++◌, ◌∷◌, [], ℕ, List, Bool, Some, true, false, length, reverse, slice_get, IfOk, OnOk, IfSome, MatchOption, MatchResult};
+ghost use Rattle.std.specs.Prelude.{◌≡◌, ◌≤◌, ◌<◌, ◌+◌, ◌^◌, ◌++◌, ◌∷◌, [], ℕ, List, Bool, Some, true, false, length, reverse, slice_get, IfOk, OnOk, IfSome, MatchOption, MatchResult, if◌then◌else◌};
 ghost use Rattle.std.specs.List.{All};
 ghost use Rattle.snap_core.specs.Fields.{count};
 ghost use Rattle.snap_rows.specs.declared.tables.Tables.{Tables};
-ghost use Rattle.snap_runs.specs.Playing.{HasDone, HasObeyed, HasRun, HasStepped, IsFresh, IsLong, IsPlaying, IsReady, Plays, PutsBlocks, Stops, owner_by, packets_in};
+ghost use Rattle.snap_runs.specs.Playing.{HasDone, HasNoted, HasObeyed, HasRun, HasStepped, IsFresh, IsLong, IsPlaying, IsReady, Plays, PutsBlocks, Stops, packets_in};
 ghost use Rattle.snap_net.specs.declared.flying.Flying.{Flying};
 ghost use Rattle.snap_runs.specs.Schedules.{IsScheduleReport, lines_of};
-ghost use Rattle.snap_runs.specs.Tallies.{bared};
+ghost use Rattle.snap_runs.specs.Tallies.{IsThere, line_after, owner_by};
 ghost use Rattle.snap_runs.specs.declared.event.Order.TheVariants.{Inject as Injects, Step as Steps};
 
 use crate::event::{Order, next_line, read_order};
@@ -18,9 +18,8 @@ use crate::tail::put_end;
 use crate::tally::Tally;
 use crate::tracer::fields_of;
 use snap_core::NoMemory;
-use snap_core::lists::Names;
 use snap_core::program::Fields;
-use snap_net::happened::{Happened, Moved};
+use snap_net::happened::Moved;
 use snap_net::net::{Net, open_net};
 use snap_rows::valid::Valid;
 use std::alloc::Global;
@@ -198,6 +197,29 @@ fn put_each(out: &mut Vec<u8>, fields: &Fields, tallies: &mut Vec<Tally>) -> Res
     Ok(())
 }
 
+/// Notes a step of the copy at a place in its packet's tally, with the line of the link that it has crossed if hops are told.
+/// Refuses for memory alone.
+pub fn note_step(
+    tallies: &mut Vec<Tally>,
+    hops: bool,
+    frames: Frames,
+    net: &Net,
+    place: usize,
+    moved: Moved,
+) -> Result<(), NoMemory>
+    requires owner { owner_by moved < length tallies.old.items }
+    requires there { IsThere net.now.flying place moved }
+    ensures { OnOk result (HasNoted (if hops then line_after frames net.now.tables.switches net.now.flying place moved else []) moved tallies.old.items tallies.new.items) }
+{
+    let owner = owner_of(&moved);
+    let tally = &mut tallies[owner as usize];
+    if hops {
+        tally.note_hop(frames, net, place, moved)
+    } else {
+        tally.note(moved)
+    }
+}
+
 // Makes a step of the copy at a place, and notes it in its packet's tally. There is such a copy, so only memory can be
 // short.
 fn step_at(
@@ -212,50 +234,12 @@ fn step_at(
     ensures tables { net.new.tables ≡ net.old.tables }
     ensures injected { net.new.injected ≡ net.old.injected }
 {
-    if hops {
-        step_shown(net, place, tallies)
-    } else {
-        step_bare(net, place, tallies)
-    }
-}
-
-// The same with the line of the link that the copy crosses.
-fn step_shown(net: &mut Net, place: usize, tallies: &mut Vec<Tally>) -> Result<(), NoMemory>
-    requires below { All (λ (c : Flying). c.number < length tallies.old.items) net.old.flying }
-    ensures stepped { OnOk result (HasStepped true place net.old net.new tallies.old.items tallies.new.items) }
-    ensures tables { net.new.tables ≡ net.old.tables }
-    ensures injected { net.new.injected ≡ net.old.injected }
-{
-    let happened = match net.step(place) {
-        Ok(happened) => happened,
-        Err(_) => return Err(NoMemory),
-    };
-    let owner = owner_of(&happened);
-    let switches = switches_of(net);
-    tallies[owner as usize].note_hop(Frames::Plain, switches, happened)?;
-    Ok(())
-}
-
-// The same without that line.
-fn step_bare(net: &mut Net, place: usize, tallies: &mut Vec<Tally>) -> Result<(), NoMemory>
-    requires below { All (λ (c : Flying). c.number < length tallies.old.items) net.old.flying }
-    ensures stepped { OnOk result (HasStepped false place net.old net.new tallies.old.items tallies.new.items) }
-    ensures tables { net.new.tables ≡ net.old.tables }
-    ensures injected { net.new.injected ≡ net.old.injected }
-{
     let moved = match net.advance(place) {
         Ok(moved) => moved,
         Err(_) => return Err(NoMemory),
     };
-    let owner = mover_of(&moved);
-    tallies[owner as usize].note(moved)?;
+    note_step(tallies, hops, Frames::Plain, net, place, moved)?;
     Ok(())
-}
-
-fn switches_of(net: &Net) -> &Names
-    ensures { result.now ≡ net.now.tables.switches }
-{
-    &net.tables().tables().switches
 }
 
 /// The packets with the next one last.
@@ -288,23 +272,14 @@ pub fn next_packet(waiting: &mut Vec<Ready>) -> Option<Ready>
 }
 
 // The number of the packet whose copy has made a step.
-fn mover_of(moved: &Moved) -> u64
+fn owner_of(moved: &Moved) -> u64
     ensures { result ≡ owner_by moved.now }
 {
     match moved {
         Moved::Forwarded { owner, .. } => *owner,
         Moved::Delivered { owner, .. } => *owner,
         Moved::Forked { owner, .. } => *owner,
-    }
-}
-
-/// The number of the packet whose copy has made a step that is told with its frame.
-pub fn owner_of(happened: &Happened) -> u64
-    ensures { result ≡ owner_by (bared happened.now) }
-{
-    match happened {
-        Happened::Forwarded { owner, .. } => *owner,
-        Happened::Delivered { owner, .. } => *owner,
-        Happened::Forked { owner, .. } => *owner,
+        Moved::Stayed { owner, .. } => *owner,
+        Moved::Waited { owner, .. } => *owner,
     }
 }

@@ -1,6 +1,6 @@
 //! What is noted of one packet while its copies are in flight.
 
-ghost use Rattle.std.specs.Prelude.{◌≡◌, ◌<◌, ◌≤◌, ◌+◌, ◌++◌, [], ◌∷◌, ℕ, List, drop, length, IfSome, OnOk};
+ghost use Rattle.std.specs.Prelude.{◌≡◌, ◌<◌, ◌≤◌, ◌+◌, ◌++◌, [], ◌∷◌, ℕ, List, drop, length, slice_get, IfSome, OnOk};
 ghost use Rattle.std.specs.List.{All};
 ghost use Rattle.std.specs.List.Sorted.{IsPermutation, IsSorted};
 ghost use Rattle.snap_core.specs.Fields.{count};
@@ -8,17 +8,18 @@ ghost use Rattle.snap_core.specs.Packets.{packet_cmp};
 ghost use Rattle.snap_rows.specs.Form.{switch_count};
 ghost use Rattle.snap_rows.specs.Ways.{Way};
 ghost use Rattle.snap_runs.specs.Crossings.{digits_of, line_text, way_text};
-ghost use Rattle.snap_runs.specs.Reports.{lead_of, packet_line};
+ghost use Rattle.snap_runs.specs.Reports.{packet_line};
 ghost use Rattle.snap_trace.specs.Reports.{out_lines, lost_line};
-ghost use Rattle.snap_runs.specs.Tallies.{bared, delivered_by, hop_told, IsBlockText, lost_by, packets_sent, PutsBlock};
+ghost use Rattle.snap_runs.specs.Tallies.{delivered_by, IsBlockText, IsThere, line_after, line_of, lost_by, packets_sent, PutsBlock};
 
 use crate::frames::Frames;
 use crate::links::{Tail, long_tail, put_long_line};
 use snap_core::NoMemory;
-use snap_core::lists::Names;
 use snap_core::packet::Packet;
 use snap_core::program::Fields;
-use snap_net::happened::{Happened, Moved};
+use snap_head::encode::encode;
+use snap_net::happened::Moved;
+use snap_net::net::Net;
 use snap_net::watch::Watch;
 use snap_rows::head::{Head, Sent};
 use snap_rows::valid::Valid;
@@ -77,38 +78,57 @@ impl Tally {
             Moved::Forwarded { .. } => Ok(()),
             Moved::Delivered { packet, .. } => self.deliver(packet),
             Moved::Forked { lost, .. } => self.lose(lost),
+            Moved::Stayed { .. } => Ok(()),
+            Moved::Waited { .. } => Ok(()),
         }
     }
 
-    /// Notes a step, with the line of the link that the copy crosses. Refuses for memory alone.
+    /// Notes a step, with the line of the link that the copy has crossed which now stands at a place of the network.
+    /// Refuses for memory alone.
     pub fn note_hop(
         &mut self,
         frames: Frames,
-        switches: &Names,
-        happened: Happened,
+        net: &Net,
+        place: usize,
+        moved: Moved,
     ) -> Result<(), NoMemory>
-        ensures delivered { OnOk result (self.new.delivered.items ≡ self.old.delivered.items ++ delivered_by (bared happened)) }
-        ensures lost { OnOk result (self.new.lost ≡ self.old.lost + lost_by (bared happened)) }
-        ensures hops { OnOk result (self.new.hops.items ≡ self.old.hops.items ++ hop_told frames switches.now happened) }
+        requires { IsThere net.now.flying place moved }
+        ensures delivered { OnOk result (self.new.delivered.items ≡ self.old.delivered.items ++ delivered_by moved) }
+        ensures lost { OnOk result (self.new.lost ≡ self.old.lost + lost_by moved) }
+        ensures hops { OnOk result (self.new.hops.items ≡ self.old.hops.items ++ line_after frames net.now.tables.switches net.now.flying place moved) }
     {
-        match happened {
-            Happened::Forwarded {
-                owner,
-                from,
-                to,
-                frame,
-            } => {
-                let tail = long_tail(self.alloc, frames, owner, frame.bytes())?;
-                put_long_line(
-                    &mut self.hops,
-                    name_at(switches, from),
-                    name_at(switches, to),
-                    &tail,
-                )
-            }
-            Happened::Delivered { packet, .. } => self.deliver(packet),
-            Happened::Forked { lost, .. } => self.lose(lost),
+        match moved {
+            Moved::Forwarded { from, .. } => self.put_hop(frames, net, place, from),
+            Moved::Delivered { packet, .. } => self.deliver(packet),
+            Moved::Forked { lost, .. } => self.lose(lost),
+            Moved::Stayed { .. } => Ok(()),
+            Moved::Waited { .. } => Ok(()),
         }
+    }
+
+    // Puts the line of the link from a switch that the copy at a place has crossed.
+    fn put_hop(
+        &mut self,
+        frames: Frames,
+        net: &Net,
+        place: usize,
+        from: u16,
+    ) -> Result<(), NoMemory>
+        requires { place < length net.now.flying }
+        ensures delivered { self.new.delivered.items ≡ self.old.delivered.items }
+        ensures lost { self.new.lost ≡ self.old.lost }
+        ensures line { OnOk result (self.new.hops.items ≡ self.old.hops.items ++ line_of frames net.now.tables.switches from (slice_get net.now.flying place)) }
+    {
+        let copy = net.copy(place);
+        let switches = &net.tables().tables().switches;
+        let frame = encode(self.alloc, copy.head, &copy.packet)?;
+        let tail = long_tail(self.alloc, frames, copy.number, &frame)?;
+        put_long_line(
+            &mut self.hops,
+            name_at(switches, from),
+            name_at(switches, copy.at),
+            &tail,
+        )
     }
 
     // Puts the lines of the links along next hops to a switch, which a copy of packet `number` crosses with this head. All have

@@ -15,3 +15,4 @@ pub mod Scan
 pub mod Shared
 pub mod RowParts
 pub mod Texts
+pub mod Known

@@ -244,6 +244,8 @@ impl Draft {
         requires { IsFields self.fields.items }
         ensures { IfOk result (λ tables. tables ≡ tables_of self) }
     {
+        let mut rows = self.rows;
+        rows.shrink_to_fit();
         Ok(Tables {
             version: self.version,
             fields: Fields::new(alloc, self.fields)?,
@@ -252,7 +254,7 @@ impl Draft {
             links: Links::new(self.links),
             ports: Ports::new(self.ports),
             hops: Hops::new(self.hops),
-            rows: Rows::new(self.rows),
+            rows: Rows::new(rows),
         })
     }
 

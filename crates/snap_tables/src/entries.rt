@@ -1,17 +1,18 @@
 //! Which entry a line says, behind those of a draft.
 
-ghost use Rattle.std.specs.Prelude.{◌≡◌, ◌≢◌, Some, None, length, IfOk, MatchOption};
+ghost use Rattle.std.specs.Prelude.{◌≡◌, ◌≢◌, Some, None, length, IfOk, OnOk, MatchOption};
 ghost use Rattle.snap_core.specs.Figures.{parts_by};
 ghost use Rattle.snap_tables.specs.Drafts.{IsItem, IsKept, IsNoRowLine, IsNoneBy, IsRowLine, is_above_at, may_come, tables_of};
 ghost use Rattle.snap_tables.specs.declared.item.Item.TheVariants as item;
 ghost use Rattle.snap_tables.specs.Entries.{array_fits, field_fits, hop_fits, is_above, is_field_at, is_new, is_plain_field, kept, link_fits, link_less, port_less};
+ghost use Rattle.snap_tables.specs.Known.{AreKnown, AreSaid};
 ghost use Rattle.snap_tables.specs.Reading.{array_said, field_said, hop_said, is_space, link_said, port_said, switch_said};
 
 use crate::draft::{Draft, are_new, declared, is_new};
 use crate::item::Item;
+use crate::known::Known;
 use crate::named::{array_said, field_said, switch_said};
 use crate::piece::Counts;
-use crate::row::row_of;
 use crate::taken::{hop_said, link_said, opened, port_said, take_below, take_u64};
 use snap_core::NoMemory;
 use snap_core::lists::Name;
@@ -264,13 +265,16 @@ fn is_above_rows(rows: &[RowAt], at: u16, number: u64) -> bool
 }
 
 // The row that a line says, behind those of a draft.
-fn row_line(
+fn row_line<'a>(
     alloc: Global,
     draft: &Draft,
     counts: Counts,
-    line: &[u8],
+    known: &mut Known<'a>,
+    line: &'a [u8],
 ) -> Result<Option<RowAt>, NoMemory>
-    ensures { IfOk result (λ said. MatchOption said (IsNoRowLine draft.now.version counts draft.now.arrays.items draft.now.rows.items line.now) (IsRowLine draft.now.version counts draft.now.arrays.items draft.now.rows.items line.now)) }
+    requires { AreSaid draft.now.version counts draft.now.arrays.items known.old.rows.items }
+    ensures known { OnOk result (AreSaid draft.now.version counts draft.now.arrays.items known.new.rows.items) }
+    ensures line { IfOk result (λ said. MatchOption said (IsNoRowLine draft.now.version counts draft.now.arrays.items draft.now.rows.items line.now) (IsRowLine draft.now.version counts draft.now.arrays.items draft.now.rows.items line.now)) }
 {
     let Some(rest) = opened(b"row", Some(line)) else {
         return Ok(None);
@@ -284,21 +288,28 @@ fn row_line(
     if !is_above_rows(&draft.rows, at, number) {
         return Ok(None);
     }
-    match row_of(alloc, draft.version, counts, &draft.arrays, rest)? {
+    match known.body_of(alloc, draft.version, counts, &draft.arrays, number, rest)? {
         None => Ok(None),
         Some(row) => Ok(Some(RowAt { at, number, row })),
     }
 }
 
 /// The row that a line says, if it is of its form after the lines before it.
-pub(crate) fn next_row(alloc: Global, draft: &Draft, line: &[u8]) -> Result<Option<RowAt>, NoMemory>
-    requires { IsKept draft.now }
-    ensures { IfOk result (λ said. MatchOption said (IsNoneBy 114 (tables_of draft.now) line.now) (λ row. IsItem (tables_of draft.now) line.now (item.Row row))) }
+pub(crate) fn next_row<'a>(
+    alloc: Global,
+    draft: &Draft,
+    known: &mut Known<'a>,
+    line: &'a [u8],
+) -> Result<Option<RowAt>, NoMemory>
+    requires kept { IsKept draft.now }
+    requires known { AreKnown (tables_of draft.now) known.old.rows.items }
+    ensures known { OnOk result (AreKnown (tables_of draft.now) known.new.rows.items) }
+    ensures line { IfOk result (λ said. MatchOption said (IsNoneBy 114 (tables_of draft.now) line.now) (λ row. IsItem (tables_of draft.now) line.now (item.Row row))) }
 {
     if !draft.may_come(7) {
         return Ok(None);
     }
-    row_line(alloc, draft, draft.counts(), line)
+    row_line(alloc, draft, draft.counts(), known, line)
 }
 
 // The link or port that a line says.

@@ -5,6 +5,7 @@ mod draft;
 mod entries;
 pub mod fault;
 mod item;
+mod known;
 pub mod laws;
 mod leaf;
 mod line;

@@ -62,7 +62,7 @@ fn know_rows(rows: &[RowAt])
 {
     for row in rows {
         know_number(row.number);
-        know_row(&row.row);
+        know_row(row.row.row());
     }
 }
 

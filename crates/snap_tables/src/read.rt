@@ -1,13 +1,15 @@
 //! The text of tables, read.
 
-ghost use Rattle.std.specs.Prelude.{◌≡◌, ◌≢◌, ◌⊎◌, ◌+◌, ◌^◌, ◌<◌, ◌≤◌, [], Err, ℕ, IfOk, IfErr, MatchOption, MatchResult};
+ghost use Rattle.std.specs.Prelude.{◌≡◌, ◌≢◌, ◌⊎◌, ◌+◌, ◌^◌, ◌<◌, ◌≤◌, [], Err, ℕ, IfOk, IfErr, OnOk, MatchOption, MatchResult};
 ghost use Rattle.snap_tables.specs.Drafts.{IsFirstSplit, IsKept, IsLed, IsLineFault, IsNoFirst, IsPutLine, IsReadTo, first_body, is_last, tables_of};
+ghost use Rattle.snap_tables.specs.Known.{AreKnown};
 ghost use Rattle.snap_tables.specs.Lines.{IsRead};
 ghost use Rattle.snap_tables.specs.declared.fault.TablesFault.TheVariants as fault;
 
 use crate::draft::Draft;
 use crate::entries::{next_hop, next_item, next_row};
 use crate::fault::TablesFault;
+use crate::known::Known;
 use crate::places::{Places, line_of};
 use crate::scan::{is_text, split_line};
 use snap_rows::calls::valid;
@@ -55,12 +57,20 @@ fn take_hop(draft: &mut Draft, number: u64, line: &[u8]) -> Result<(), TablesFau
 }
 
 // Takes the line of a row.
-fn take_row(alloc: Global, draft: &mut Draft, number: u64, line: &[u8]) -> Result<(), TablesFault>
+fn take_row<'a>(
+    alloc: Global,
+    draft: &mut Draft,
+    known: &mut Known<'a>,
+    number: u64,
+    line: &'a [u8],
+) -> Result<(), TablesFault>
     requires kept { IsKept draft.old }
+    requires known { AreKnown (tables_of draft.old) known.old.rows.items }
     requires first { IsLed 114 line.now }
-    ensures { MatchResult result (λ _. IsPutLine draft.old line.now draft.new) (IsLineFault draft.old number line.now) }
+    ensures known { OnOk result (AreKnown (tables_of draft.new) known.new.rows.items) }
+    ensures line { MatchResult result (λ _. IsPutLine draft.old line.now draft.new) (IsLineFault draft.old number line.now) }
 {
-    let Some(row) = next_row(alloc, draft, line)? else {
+    let Some(row) = next_row(alloc, draft, known, line)? else {
         return Err(TablesFault::Line { line: number });
     };
     draft.put_row(row)?;
@@ -91,19 +101,29 @@ fn take_other(
 }
 
 // Takes a line: puts the entry that it says.
-fn take_line(alloc: Global, draft: &mut Draft, number: u64, line: &[u8]) -> Result<(), TablesFault>
+fn take_line<'a>(
+    alloc: Global,
+    draft: &mut Draft,
+    known: &mut Known<'a>,
+    number: u64,
+    line: &'a [u8],
+) -> Result<(), TablesFault>
     requires kept { IsKept draft.old }
-    ensures { MatchResult result (λ _. IsPutLine draft.old line.now draft.new) (IsLineFault draft.old number line.now) }
+    requires known { AreKnown (tables_of draft.old) known.old.rows.items }
+    ensures known { OnOk result (AreKnown (tables_of draft.new) known.new.rows.items) }
+    ensures line { MatchResult result (λ _. IsPutLine draft.old line.now draft.new) (IsLineFault draft.old number line.now) }
 {
     let Some((first, _)) = line.split_first() else {
         return Err(TablesFault::Line { line: number });
     };
     let first = *first;
+    if first == b'r' {
+        return take_row(alloc, draft, known, number, line);
+    }
+    // What the text of a row says hangs on the entries before all rows.
+    known.forget();
     if first == b'h' {
         return take_hop(draft, number, line);
-    }
-    if first == b'r' {
-        return take_row(alloc, draft, number, line);
     }
     take_other(alloc, draft, number, first, line)
 }
@@ -137,13 +157,14 @@ fn read_lines(alloc: Global, text: &[u8]) -> Result<Draft, TablesFault>
         return Err(TablesFault::Line { line: 1 });
     };
     let mut draft = Draft::new(alloc, version);
+    let mut known = Known::none(alloc);
     let mut number = 1;
     let mut rest = first;
     while let Some((line, behind)) = split_line(rest) {
         if is_last(&draft, line) {
             return ended(draft, number + 2, behind);
         }
-        take_line(alloc, &mut draft, number + 1, line)?;
+        take_line(alloc, &mut draft, &mut known, number + 1, line)?;
         number += 1;
         rest = behind;
     }

@@ -1,4 +1,4 @@
-//! Rows that are shared, each with a body of its own.
+//! The rows of shared tables.
 
 ghost use Rattle.std.specs.Prelude.{◌≡◌, ◌<◌, IfOk, length, map};
 ghost use Rattle.std.specs.List.{All};
@@ -7,73 +7,36 @@ ghost use Rattle.snap_tables.specs.declared.shared.RowShare.{RowShare};
 
 use crate::shared::{RowShare, Share, SharedTables};
 use snap_core::NoMemory;
-use snap_core::outs::copy_outs;
-use snap_core::policy::copy_updates;
 use snap_rows::calls::proved_valid;
-use snap_rows::lists::{Outs, Rows, Stages, Updates};
-use snap_rows::tables::{Row, RowAt, Stage};
+use snap_rows::lists::{Body, Rows};
+use snap_rows::tables::{Row, RowAt};
 use snap_rows::valid::Valid;
 use std::alloc::Global;
 
-fn copy_stage(alloc: Global, stage: &Stage) -> Result<Stage, NoMemory>
-    ensures { IfOk result (λ copy. copy ≡ stage.now) }
+// Bodies of these rows, which rows of tables share.
+fn bodies_of(alloc: Global, rows: Vec<Row>) -> Result<Vec<Body>, NoMemory>
+    ensures { IfOk result (λ bodies. bodies.items ≡ rows.items) }
 {
-    Ok(Stage {
-        at: stage.at,
-        ups: Updates::new(copy_updates(alloc, stage.ups.items())?),
-    })
-}
-
-fn copy_stages(alloc: Global, stages: &[Stage]) -> Result<Stages, NoMemory>
-    ensures { IfOk result (λ copies. copies ≡ stages.now) }
-{
-    let mut copies = Vec::with_capacity(alloc, stages.len())?;
-    for stage in stages {
-        copies.push(copy_stage(alloc, stage)?)?;
+    let mut bodies = Vec::with_capacity(alloc, rows.len())?;
+    for row in rows {
+        bodies.push(Body::new(alloc, row)?)?;
     }
-    Ok(Stages::new(copies))
+    Ok(bodies)
 }
 
-fn copy_row(alloc: Global, row: &Row) -> Result<Row, NoMemory>
-    ensures { IfOk result (λ copy. copy ≡ row.now) }
-{
-    match row {
-        Row::Field { test, yes, no } => Ok(Row::Field {
-            test: test.copy()?,
-            yes: *yes,
-            no: *no,
-        }),
-        Row::State { test, yes, no } => Ok(Row::State {
-            test: test.copy()?,
-            yes: *yes,
-            no: *no,
-        }),
-        Row::Go { to } => Ok(Row::Go { to: *to }),
-        Row::Leaf { stages, outs } => Ok(Row::Leaf {
-            stages: copy_stages(alloc, stages.items())?,
-            outs: Outs::new(copy_outs(alloc, outs.items())?),
-        }),
-        Row::Stop => Ok(Row::Stop),
-        Row::Last { ups, outs } => Ok(Row::Last {
-            ups: Updates::new(copy_updates(alloc, ups.items())?),
-            outs: Outs::new(copy_outs(alloc, outs.items())?),
-        }),
-    }
-}
-
-// A copy of what stands in a row.
-fn said(alloc: Global, bodies: &[Row], share: RowShare) -> Result<Row, NoMemory>
+// What stands in a row.
+fn said(alloc: Global, bodies: &[Body], share: RowShare) -> Result<Body, NoMemory>
     requires { share.number < length bodies.now }
     ensures { IfOk result (λ row. row ≡ row_said bodies.now share.number share.share) }
 {
     match share.share {
-        Share::Body => copy_row(alloc, &bodies[share.number as usize]),
-        Share::Stop => Ok(Row::Stop),
-        Share::Go { to } => Ok(Row::Go { to }),
+        Share::Body => bodies[share.number as usize].share(),
+        Share::Stop => Body::new(alloc, Row::Stop),
+        Share::Go { to } => Body::new(alloc, Row::Go { to }),
     }
 }
 
-fn rows(alloc: Global, bodies: &[Row], shares: &[RowShare]) -> Result<Vec<RowAt>, NoMemory>
+fn rows(alloc: Global, bodies: &[Body], shares: &[RowShare]) -> Result<Vec<RowAt>, NoMemory>
     requires { All (λ (s : RowShare). s.number < length bodies.now) shares.now }
     ensures { IfOk result (λ rows. rows.items ≡ map (row_shared bodies.now) shares.now) }
 {
@@ -88,11 +51,12 @@ fn rows(alloc: Global, bodies: &[Row], shares: &[RowShare]) -> Result<Vec<RowAt>
     Ok(rows)
 }
 
-/// The same tables, each row with a body of its own. Refuses for memory alone.
+/// The same tables, whose rows share the bodies. Refuses for memory alone.
 pub fn unshared(alloc: Global, tables: SharedTables) -> Result<Valid, NoMemory>
     ensures { IfOk result (λ valid. valid ≡ tables) }
 {
     let (mut frame, bodies, shares) = tables.into_parts();
+    let bodies = bodies_of(alloc, bodies)?;
     frame.rows = Rows::new(rows(alloc, &bodies, &shares)?);
     proved_valid(alloc, frame)
 }

@@ -132,7 +132,7 @@ pub(crate) fn is_lone_one(alloc: Global, tables: &Tables) -> Result<bool, NoMemo
     let mut rest = nodes.into_map();
     let mut known = BTreeMap::new(alloc);
     while let Some((number, at)) = rest.pop_last() {
-        let node = &tables.rows.items()[at].row;
+        let node = tables.rows.items()[at].row.row();
         let standing = of_node(tables, &known, node);
         if splits(node, standing) {
             return Ok(false);

@@ -146,8 +146,9 @@ impl Search {
         ensures grows { OnOk result (Grows tables.now self.old.marks.items self.old.left.items self.new.marks.items self.new.left.items) }
         ensures marked { OnOk result (IsNextMarked tables.now self.new.marks.items entry.now) }
     {
-        self.mark_numbers(tables, guesses, entry.at, &entry.row)?;
-        led_next(tables, entry.at, &entry.row, over)?;
+        let row = entry.row.row();
+        self.mark_numbers(tables, guesses, entry.at, row)?;
+        led_next(tables, entry.at, row, over)?;
         self.mark_all(tables, guesses, over, entry.number)
     }
 }

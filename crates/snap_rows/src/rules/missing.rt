@@ -39,10 +39,11 @@ fn leads_have_rows(
     requires row { IsRowInForm tables.now entry.now.row }
     ensures { IfOk result (λ all. IsTrue all ↔ HaveRows tables.now entry.now.at entry.now.number entry.now.row) }
 {
-    if !numbers_have_rows(tables, guesses, entry.at, &entry.row) {
+    let row = entry.row.row();
+    if !numbers_have_rows(tables, guesses, entry.at, row) {
         return Ok(false);
     }
-    led_over(tables, entry.at, &entry.row, over)?;
+    led_over(tables, entry.at, row, over)?;
     Ok(all_have_rows(tables, guesses, over, entry.number))
 }
 
@@ -59,10 +60,11 @@ fn next_have_rows(
     requires row { IsRowInForm tables.now entry.now.row }
     ensures { IfOk result (λ all. IsTrue all → HaveNext tables.now entry.now.at entry.now.number entry.now.row) }
 {
-    if !numbers_have_rows(tables, guesses, entry.at, &entry.row) {
+    let row = entry.row.row();
+    if !numbers_have_rows(tables, guesses, entry.at, row) {
         return Ok(false);
     }
-    led_next(tables, entry.at, &entry.row, over)?;
+    led_next(tables, entry.at, row, over)?;
     Ok(all_have_rows(tables, guesses, over, entry.number))
 }
 

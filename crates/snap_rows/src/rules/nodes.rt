@@ -93,7 +93,7 @@ pub(crate) fn nodes(alloc: Global, tables: &Tables, below: usize) -> Result<Numb
     let mut nodes = Numbered::new(alloc, below)?;
     for turn in 0..rows.len() {
         let at = rows.len() - turn - 1;
-        if is_node(&rows[at].row) {
+        if is_node(rows[at].row.row()) {
             nodes.put(rows[at].number, at)?;
         }
     }
@@ -106,7 +106,7 @@ pub(crate) fn node<'a>(tables: &'a Tables, nodes: &Numbered, number: u64) -> Opt
     ensures { option_map (λ r. r.now) result ≡ node_of tables.now number }
 {
     match nodes.place(number) {
-        Some(place) => Some(&tables.rows.items()[place].row),
+        Some(place) => Some(tables.rows.items()[place].row.row()),
         None => None,
     }
 }
@@ -115,7 +115,7 @@ pub(crate) fn node<'a>(tables: &'a Tables, nodes: &Numbered, number: u64) -> Opt
 fn add_field(fields: &mut Numbered, entry: &RowAt, place: usize) -> Result<(), NoMemory>
     ensures { OnOk result ((n : ℕ) → (place_in fields.new n ≡ None) ↔ ((place_in fields.old n ≡ None) × (entry.now.number ≡ n → ¬ IsFieldRow entry.now.row))) }
 {
-    if is_field(&entry.row) {
+    if is_field(entry.row.row()) {
         fields.put(entry.number, place)?;
     }
     Ok(())

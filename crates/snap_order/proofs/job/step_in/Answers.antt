@@ -17,6 +17,6 @@ returns-clause-steps c =
     let k = c.index_mut.result.now in
     let k' = c.step_here.new.store in
     let counts' = c.step_here.new.counts.items in
-    IfOk-weaker c.step_here.result (λ (s : Stepped). StepsHere t x (arrays_of k) counts (arrays_of k') counts' s.left.items s.turned)
-    (λ (s : Stepped). StepsIn t n x (part_of n old counts) (part_of n (set old (x.at / n) k') counts') s.left.items s.turned)
-    (λ s steps. steps_in t n x old k k' counts counts' s.left.items s.turned c.requires.store c.index_mut.ensures.value steps) c.step_here.ensures
+    IfOk-weaker c.step_here.result (λ (s : Stepped). StepsHere t x (arrays_of k) counts (arrays_of k') counts' s.left.items s.moved)
+    (λ (s : Stepped). StepsIn t n x (part_of n old counts) (part_of n (set old (x.at / n) k') counts') s.left.items s.moved)
+    (λ s steps. steps_in t n x old k k' counts counts' s.left.items s.moved c.requires.store c.index_mut.ensures.value steps) c.step_here.ensures

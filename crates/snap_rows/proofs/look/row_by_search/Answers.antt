@@ -9,4 +9,4 @@ pub returns-in-Some : goal.returns-in-Some
 returns-in-Some c =
     let rows = c.args.rows.now in
     let place = c.in-Some.ensures.some in
-    ap (λ (r : RowAt). Some r.row) (sym c.index-rows-place.is) ∙ placed_row rows c.requires c.args.at c.args.number c.in-Some.place c.index-rows-place.result place (found rows c.in-Some.place c.index-rows-place.result c.index-rows-place.is (slice_get_within rows c.in-Some.place place.0 place.1))
+    ap Some c.row.ensures ∙ ap (λ (r : RowAt). Some r.row) (sym c.index-rows-place.is) ∙ placed_row rows c.requires c.args.at c.args.number c.in-Some.place c.index-rows-place.result place (found rows c.in-Some.place c.index-rows-place.result c.index-rows-place.is (slice_get_within rows c.in-Some.place place.0 place.1))

@@ -1,12 +1,13 @@
-use Rattle.std.proofs.Common.{subst, sym}
-use Rattle.std.proofs.lemmas.Result.{on_ok_weaker}
-use Rattle.snap_runs.specs.Playing.{HasStepped}
+use Rattle.std.proofs.Common.{length}
+use Rattle.snap_runs.proofs.Playing.{mover-below, mover-there, step-noted}
 use Rattle.snap_runs.proofs.play.step_at.Goals as goal
 
-pub returns-then-hops-clause-stepped : goal.returns-then-hops-clause-stepped
-returns-then-hops-clause-stepped c =
-    on_ok_weaker c.step_shown.result (subst (λ b. HasStepped b c.args.place c.args.net.now c.step_shown.new.net c.args.tallies.now.items c.step_shown.new.tallies.items) (sym c.if-hops.true)) c.step_shown.ensures.stepped
+pub note_step-requires-clause-owner : goal.note_step-requires-clause-owner
+note_step-requires-clause-owner c = mover-below c.args.place (length c.args.tallies.now.items) c.args.net.now c.advance.new.self c.requires.below c.in-Ok.moved c.in-Ok.ensures.done
 
-pub returns-else-hops-clause-stepped : goal.returns-else-hops-clause-stepped
-returns-else-hops-clause-stepped c =
-    on_ok_weaker c.step_bare.result (subst (λ b. HasStepped b c.args.place c.args.net.now c.step_bare.new.net c.args.tallies.now.items c.step_bare.new.tallies.items) (sym c.if-hops.false)) c.step_bare.ensures.stepped
+pub note_step-requires-clause-there : goal.note_step-requires-clause-there
+note_step-requires-clause-there c = mover-there c.args.place (length c.args.tallies.now.items) c.args.net.now c.advance.new.self c.requires.below c.in-Ok.moved c.in-Ok.ensures.done
+
+pub returns-clause-stepped : goal.returns-clause-stepped
+returns-clause-stepped c =
+    step-noted c.args.place c.args.net.now c.advance.new.self c.in-Ok.moved c.args.hops c.args.tallies.now.items c.note_step.new.tallies.items c.advance.ensures.tables c.in-Ok.ensures.done c.in_ok-note_step.ensures

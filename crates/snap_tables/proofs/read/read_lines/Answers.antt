@@ -38,7 +38,7 @@ returns-in_err-take_line-clause-err c =
     let split = c.in-Some-split_line.ensures.parts in
     let out = err_from_is_err_and c.from_residual.result c.from_residual.ensures.1 in
     let other = sym c.is_last.ensures ∙ c.if-is_last.false in
-    rw out.1 (subst (λ e. IsRead c.args.text.now (Err e)) (sym out.2) (fault-read c.args.text.now c.loop-line.rest.now d begins line behind split (c.loop-line.number + 1) (omega (arith, c.loop-line.invariant.lines)) other _ c.in_err-take_line.ensures))
+    rw out.1 (subst (λ e. IsRead c.args.text.now (Err e)) (sym out.2) (fault-read c.args.text.now c.loop-line.rest.now d begins line behind split (c.loop-line.number + 1) (omega (arith, c.loop-line.invariant.lines)) other _ c.in_err-take_line.ensures.line))
 
 pub loop-line-preserved : goal.loop-line-preserved
 loop-line-preserved c =
@@ -48,13 +48,14 @@ loop-line-preserved c =
     let behind = c.in-Some-split_line.behind.now in
     let split = c.in-Some-split_line.ensures.parts in
     let e = c.take_line.new.draft in
-    let put = c.in_ok-take_line.ensures in
+    let put = c.in_ok-take_line.ensures.line in
     let lines = put-lines c.args.text.now c.loop-line.rest.now d begins line behind split e put in
     record {
       begins = put-begins c.args.text.now c.loop-line.rest.now d begins line behind split e put;
       kept = put-kept c.args.text.now c.loop-line.rest.now d begins line behind split e put;
       lines = omega (arith, lines, c.loop-line.invariant.lines);
       few = omega (arith, lines, c.loop-line.invariant.few, c.in-Some-split_line.ensures.shorter);
+      known = c.in_ok-take_line.ensures.known;
     }
 
 pub returns-clause-err : goal.returns-clause-err

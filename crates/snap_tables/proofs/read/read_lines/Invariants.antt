@@ -1,5 +1,6 @@
 use Rattle.std.proofs.Common.{◌≡◌, ◌+◌, ◌≤◌, length}
 use Rattle.snap_tables.specs.Drafts.{IsKept, tables_of}
+use Rattle.snap_tables.specs.Known.{AreKnown}
 use Rattle.snap_tables.specs.Lines.{Begins, lines_of}
 use Rattle.snap_tables.proofs.read.read_lines.Given as goal
 
@@ -10,6 +11,7 @@ invariant-loop-line l = record {
   kept : IsKept l.draft;
   lines : l.number ≡ lines_of (tables_of l.draft);
   few : lines_of (tables_of l.draft) + length l.rest ≤ length l.fn.text;
+  known : AreKnown (tables_of l.draft) l.known.rows.items;
 }
 
 abbrev pub decreases-loop-line : goal.decreases-loop-line

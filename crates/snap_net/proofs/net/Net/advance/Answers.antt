@@ -1,11 +1,10 @@
-use Rattle.std.proofs.Common.{[], ◌∷◌, refl, ◌∙◌}
-use Rattle.snap_rows.specs.Network.{happening}
-use Rattle.snap_net.specs.Shown.{flown}
-use Rattle.snap_net.proofs.Steps.{moving_of}
+use Rattle.std.proofs.Common.{true, refl, rules}
+use Rattle.snap_net.proofs.Blocks.{found}
+use Rattle.snap_net.proofs.Steps.{done_plain}
 use Rattle.snap_net.proofs.net.Net.advance.Goals as goal
 
 pub returns-clause-done : goal.returns-clause-done
 returns-clause-done c = λ s shows.
-    let h = c.in_ok-moved.ensures.stepped s shows in
-    let a = c.in_ok-plan.plan.action in
-    (h.state, happening h.copy a ∷ [], h.leads, h.shows, (happening h.copy a, refl, (c.in_ok-moved.ensures.moved (flown h.copy) h.is).1 ∙ moving_of h.copy a))
+    let v = c.args.self.now in
+    let x = found v.flying c.args.k (first_of (search rules, cc)) in
+    done_plain (λ j. true) v c.step.new.self c.args.k x.0 c.in_ok-moved.moved (λ j. refl) x.1 c.step.ensures.tables c.step.ensures.injected c.in_ok-moved.ensures.stepped s shows

@@ -1,21 +1,29 @@
-use Rattle.std.proofs.Common.{ap, refl, subst, ◌∙◌}
+use Rattle.std.proofs.Common.{refl, subst, sym}
 use Rattle.snap_rows.specs.declared.tables.Tables.{Tables}
+use Rattle.snap_net.specs.Shown.{Held}
+use Rattle.snap_runs.specs.Tallies.{IsThere}
 use Rattle.snap_order.specs.declared.play.Play.{Play}
 use Rattle.snap_order.specs.Playing.{NotesTurn}
-use Rattle.snap_order.proofs.Playing.{owner_below, plays_step}
+use Rattle.snap_order.proofs.Playing.{moved_there, owner_below, plays_step}
 use Rattle.snap_order.proofs.play.Play.step.Goals as goal
 
-pub note_turn-requires : goal.note_turn-requires
-note_turn-requires c =
+pub note_step-requires-clause-owner : goal.note_step-requires-clause-owner
+note_step-requires-clause-owner c =
     let old = c.args.self.now in
     let new : Play = record { alloc = old.alloc; net = c.step.new.self; hops = old.hops; tallies = old.tallies; waiting = old.waiting } in
-    owner_below old new c.args.place c.in-Ok.turned c.requires.playing c.in-Ok.ensures.done
+    owner_below old new c.args.place c.in-Ok.moved c.requires.playing c.in-Ok.ensures.done
+
+pub note_step-requires-clause-there : goal.note_step-requires-clause-there
+note_step-requires-clause-there c =
+    let old = c.args.self.now in
+    let new : Play = record { alloc = old.alloc; net = c.step.new.self; hops = old.hops; tallies = old.tallies; waiting = old.waiting } in
+    subst (λ (v : Held). IsThere v.flying c.args.place c.in-Ok.moved) (sym c.network-net.ensures) (moved_there old new c.args.place c.in-Ok.moved c.requires.playing c.in-Ok.ensures.done)
 
 pub returns-clause-stepped : goal.returns-clause-stepped
 returns-clause-stepped c =
     let old = c.args.self.now in
-    let new : Play = record { alloc = old.alloc; net = c.step.new.self; hops = old.hops; tallies = c.note_turn.new.tallies; waiting = old.waiting } in
-    let names = ap (λ (t : Tables). t.switches) (c.tables.ensures.tables ∙ c.step.ensures.tables) in
-    let names' = ap (λ (t : Tables). t.switches) c.tables-2.ensures.tables ∙ names in
-    plays_step old new c.args.place c.in-Ok.turned c.flying.ensures.is_held c.in-Ok.ensures.done
-    (subst (λ s. NotesTurn old.hops s c.in-Ok.turned old.tallies.items new.tallies.items) names' c.in_ok-note_turn.ensures) c.step.ensures.tables refl refl
+    let new : Play = record { alloc = old.alloc; net = c.step.new.self; hops = old.hops; tallies = c.note_step.new.tallies; waiting = old.waiting } in
+    let m = c.in-Ok.moved in
+    let here = subst (λ (v : Held). NotesTurn old.hops v.tables.switches v.flying c.args.place m old.tallies.items new.tallies.items) c.network-net.ensures c.in_ok-note_step.ensures in
+    plays_step old new c.args.place m c.flying.ensures.is_held c.in-Ok.ensures.done
+    (subst (λ (t : Tables). NotesTurn old.hops t.switches new.net.net.flying c.args.place m old.tallies.items new.tallies.items) c.step.ensures.tables here) c.step.ensures.tables refl refl

@@ -5,6 +5,7 @@ use Rattle.std.specs.Ordering.{nat_cmp}
 use Rattle.std.proofs.lemmas.Bool.{false≢true, cases_lt}
 use Rattle.std.proofs.lemmas.Option.{slice_get_within, get_or_from_slice_get}
 use Rattle.snap_rows.specs.declared.rules.alone.Standing.{Standing}
+use Rattle.snap_rows.specs.declared.tables.Row.{Row}
 use Rattle.snap_rows.specs.declared.tables.RowAt.{RowAt}
 use Rattle.snap_rows.specs.Standing.{of_node, standing_in, Splits, AreNodesFrom, IsNodeFrom}
 use Rattle.snap_rows.specs.Entries.{node_of}
@@ -40,7 +41,8 @@ returns-then-splits c =
     let r = get_or c.items.result.now i c.index-items-at.result in
     let at = c.loop-number.invariant.nodes n i c.in-Some.ensures.value in
     let same : r ≡ at.entry = ap (λ rows. get_or rows i c.index-items-at.result) c.items.ensures ∙ get_or_from_slice_get t.rows i at.entry c.index-items-at.result at.is in
-    let split = subst (λ (r : RowAt). Splits r.row (of_node t (standing_in known) r.row)) same (subst (Splits r.row) c.of_node-standing.ensures (c.splits.ensures.0 c.if-splits.true)) in (
+    let node : c.row-node.result.now ≡ at.entry.row = c.row-node.ensures ∙ ap (λ (r : RowAt). r.row) same in
+    let split = subst (λ (b : Row). Splits b (of_node t (standing_in known) b)) node (subst (Splits c.row-node.result.now) c.of_node-standing.ensures (c.splits.ensures.0 c.if-splits.true)) in (
       λ h. absurd (false≢true h),
       λ lone. absurd (split_found t c.requires.valid c.requires.form c.requires.version rest known n i c.loop-number.invariant c.in-Some.ensures.greatest at split (lone.0 c.requires.version)),
     )
@@ -55,9 +57,10 @@ loop-number-preserved c =
     let r = get_or c.items.result.now i c.index-items-at.result in
     let at = c.loop-number.invariant.nodes n i c.in-Some.ensures.value in
     let same : r ≡ at.entry = ap (λ rows. get_or rows i c.index-items-at.result) c.items.ensures ∙ get_or_from_slice_get t.rows i at.entry c.index-items-at.result at.is in
+    let node : c.row-node.result.now ≡ at.entry.row = c.row-node.ensures ∙ ap (λ (r : RowAt). r.row) same in
     let whole = λ (split : Splits at.entry.row (of_node t (standing_in known) at.entry.row)).
-    false≢true (sym c.if-splits.false ∙ c.splits.ensures.1 (subst (Splits r.row) (sym c.of_node-standing.ensures) (subst (λ (r : RowAt). Splits r.row (of_node t (standing_in known) r.row)) (sym same) split))) in
-    let standing : c.of_node-standing.result ≡ of_node t (standing_in known) at.entry.row = c.of_node-standing.ensures ∙ ap (λ (r : RowAt). of_node t (standing_in known) r.row) same in
+    false≢true (sym c.if-splits.false ∙ c.splits.ensures.1 (subst (Splits c.row-node.result.now) (sym c.of_node-standing.ensures) (subst (λ (b : Row). Splits b (of_node t (standing_in known) b)) (sym node) split))) in
+    let standing : c.of_node-standing.result ≡ of_node t (standing_in known) at.entry.row = c.of_node-standing.ensures ∙ ap (of_node t (standing_in known)) node in
     grown_more t c.requires.valid c.requires.form c.requires.version rest c.pop_last.new.self known c.insert.new.self n i c.loop-number.invariant c.in-Some.ensures.greatest at whole c.in-Some.ensures.updates
     (subst (λ (s : Standing). Updates nat_cmp known c.insert.new.self n (Some s)) standing c.in_ok-insert.ensures.updates)
 

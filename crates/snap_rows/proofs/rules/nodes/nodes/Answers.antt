@@ -33,7 +33,7 @@ loop-turn-preserved c =
             let x = at w.index-rows-at-then-is_node.result in
             let same : r ≡ x = some_injective _ _ (sym (found c.index-rows-at.result) ∙ found w.index-rows-at-then-is_node.result) in
             subst (λ m. AreNodesFrom t k (place_in m)) (sym w.nodes-is)
-            (nodes_more t k x (place_in c.loop-turn.nodes) (place_in w.put.new.self) (found w.index-rows-at-then-is_node.result) (ap (λ (x : RowAt). is_node x.row) (sym same) ∙ sym c.is_node.ensures ∙ w.if-is_node.true) before w.in_ok-put.ensures.here w.in_ok-put.ensures.others)
-        | else-is_node w ↦ subst (λ m. AreNodesFrom t k (place_in m)) (sym w.nodes-is) (nodes_same t k r (place_in c.loop-turn.nodes) (found c.index-rows-at.result) (sym c.is_node.ensures ∙ w.if-is_node.false) before)
+            (nodes_more t k x (place_in c.loop-turn.nodes) (place_in w.put.new.self) (found w.index-rows-at-then-is_node.result) (ap (λ (x : RowAt). is_node x.row) (sym same) ∙ ap is_node (sym c.row.ensures) ∙ sym c.is_node.ensures ∙ w.if-is_node.true) before w.in_ok-put.ensures.here w.in_ok-put.ensures.others)
+        | else-is_node w ↦ subst (λ m. AreNodesFrom t k (place_in m)) (sym w.nodes-is) (nodes_same t k r (place_in c.loop-turn.nodes) (found c.index-rows-at.result) (ap is_node (sym c.row.ensures) ∙ sym c.is_node.ensures ∙ w.if-is_node.false) before)
       ]);
     }

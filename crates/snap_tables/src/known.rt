@@ -1,0 +1,138 @@
+//! Rows that were read, remembered by their texts: rows of one number are mostly equal, and then share their bodies.
+
+ghost use Rattle.std.specs.Prelude.{◌≡◌, ◌+◌, ◌<◌, ◌^◌, [], ℕ, List, IfOk, IfSome, MatchOption, OnOk};
+ghost use Rattle.snap_rows.specs.declared.tables.ArrayAt.{ArrayAt};
+ghost use Rattle.snap_tables.specs.Known.{AreSaid};
+ghost use Rattle.snap_tables.specs.Reading.{words_left};
+ghost use Rattle.snap_tables.specs.Rows.{IsNoRow, IsRowSaid};
+ghost use Rattle.snap_tables.specs.declared.piece.Counts.{Counts};
+
+use crate::piece::Counts;
+use crate::row::row_of;
+use crate::scan::is_text;
+use snap_core::NoMemory;
+use snap_rows::lists::Body;
+use snap_rows::tables::ArrayAt;
+use std::alloc::Global;
+
+// There are at most so many places for each row that is remembered, and a few more.
+const SPREAD: usize = 4;
+
+const FEW: usize = 256;
+
+/// The text of a row behind its number, and what it says.
+#[derive(Drop)]
+pub(crate) struct Said<'a> {
+    pub text: &'a [u8],
+    pub body: Body,
+}
+
+/// Rows that were read, one for each low number: the last of its rows.
+#[derive(Drop)]
+pub(crate) struct Known<'a> {
+    // Where the row of a number stands. What stands there may belong to another number, since only its text counts.
+    places: Vec<usize>,
+    rows: Vec<Said<'a>>,
+}
+
+impl<'a> Known<'a> {
+    /// No rows. Takes no memory.
+    pub(crate) fn none(alloc: Global) -> Known<'a>
+        ensures { result.rows.items ≡ [] }
+    {
+        Known {
+            places: Vec::new(alloc),
+            rows: Vec::new(alloc),
+        }
+    }
+
+    /// Forgets all rows.
+    pub(crate) fn forget(&mut self)
+        ensures { self.new.rows.items ≡ [] }
+    {
+        self.rows.clear();
+    }
+
+    // The row of a number.
+    fn row(&self, number: u64) -> Option<&Said<'a>>
+        ensures { (v : ℕ) (k : Counts) (ranked : List ArrayAt) → AreSaid v k ranked self.now.rows.items → IfSome result (λ row. IsRowSaid v k ranked (words_left (Some row.now.text)) row.now.body) }
+    {
+        let place = self.places.get(number as usize)?;
+        self.rows.get(*place)
+    }
+
+    // The body that these words say, where the row of a number has the same ones.
+    fn shared(&self, number: u64, rest: Option<&[u8]>) -> Result<Option<Body>, NoMemory>
+        ensures { (v : ℕ) (k : Counts) (ranked : List ArrayAt) → AreSaid v k ranked self.now.rows.items → IfOk result (λ said. IfSome said (IsRowSaid v k ranked (words_left rest.entry))) }
+    {
+        let Some(text) = rest else {
+            return Ok(None);
+        };
+        let Some(row) = self.row(number) else {
+            return Ok(None);
+        };
+        if is_text(row.text, text) {
+            Ok(Some(row.body.share()?))
+        } else {
+            Ok(None)
+        }
+    }
+
+    // Puts a row, instead of the one at the place of its number, where one stands there.
+    fn put(&mut self, number: usize, row: Said<'a>) -> Result<(), NoMemory>
+        requires { number + 1 < 2 ^ 64 }
+        ensures { (v : ℕ) (k : Counts) (ranked : List ArrayAt) → AreSaid v k ranked self.old.rows.items → IsRowSaid v k ranked (words_left (Some row.entry.text)) row.entry.body → OnOk result (AreSaid v k ranked self.new.rows.items) }
+    {
+        if self.places.len() <= number {
+            self.places.resize(number + 1, usize::MAX)?;
+        }
+        let place = self.places[number];
+        if place < self.rows.len() {
+            self.rows[place] = row;
+        } else {
+            self.places[number] = self.rows.len();
+            self.rows.push(row)?;
+        }
+        Ok(())
+    }
+
+    // Remembers that these words say this body, where the number is low.
+    fn remember(&mut self, number: u64, rest: Option<&'a [u8]>, body: &Body) -> Result<(), NoMemory>
+        ensures { (v : ℕ) (k : Counts) (ranked : List ArrayAt) → AreSaid v k ranked self.old.rows.items → IsRowSaid v k ranked (words_left rest.entry) body.now → OnOk result (AreSaid v k ranked self.new.rows.items) }
+    {
+        let Some(text) = rest else {
+            return Ok(());
+        };
+        let number = number as usize;
+        if number < self.rows.len().saturating_mul(SPREAD).saturating_add(FEW) {
+            let body = body.share()?;
+            self.put(number, Said { text, body })?;
+        }
+        Ok(())
+    }
+
+    /// The body of the row of a number that all words say. The same words of the number's last row say the same body.
+    pub(crate) fn body_of(
+        &mut self,
+        alloc: Global,
+        version: u8,
+        counts: Counts,
+        arrays: &[ArrayAt],
+        number: u64,
+        rest: Option<&'a [u8]>,
+    ) -> Result<Option<Body>, NoMemory>
+        requires { AreSaid version counts arrays.now self.old.rows.items }
+        ensures said { IfOk result (λ said. MatchOption said (IsNoRow version counts arrays.now (words_left rest.entry)) (IsRowSaid version counts arrays.now (words_left rest.entry))) }
+        ensures known { OnOk result (AreSaid version counts arrays.now self.new.rows.items) }
+    {
+        if let Some(body) = self.shared(number, rest)? {
+            return Ok(Some(body));
+        }
+        let Some(row) = row_of(alloc, version, counts, arrays, rest)? else {
+            return Ok(None);
+        };
+        let body = Body::new(alloc, row)?;
+        self.remember(number, rest, &body)?;
+        Ok(Some(body))
+    }
+}
