@@ -122,14 +122,19 @@ fn first_number(net: &Net) -> Option<u64> {
     Some(net.array(0, &[0]))
 }
 
+// The frame of the first copy; empty where none is in flight.
+fn first_frame(alloc: Global, net: &Net) -> Result<Vec<u8>, NoMemory> {
+    if net.flying() == 0 {
+        return Ok(Vec::new(alloc));
+    }
+    let copy = net.copy(0);
+    encode(alloc, copy.head, &copy.packet)
+}
+
 // Whether a step of the first copy takes it over a link in this frame, or over none.
 fn gives(alloc: Global, net: &mut Net, bytes: &[u8]) -> Result<bool, StepFault> {
     match net.advance(0)? {
-        Moved::Forwarded { .. } => {
-            let copy = net.copy(0);
-            let frame = encode(alloc, copy.head, &copy.packet)?;
-            Ok(frame.as_slice() == bytes)
-        }
+        Moved::Forwarded { .. } => Ok(first_frame(alloc, net)?.as_slice() == bytes),
         _ => Ok(bytes.is_empty()),
     }
 }

@@ -54,7 +54,7 @@ left_first packets v waiting = ap packets_in (ap reverse waiting ∙ reverse-rev
 
 -- ---- numbers of packets
 -- of the copy to which a turn happens
-number_in : Turn → ℕ
+abbrev number_in : Turn → ℕ
 number_in (Happens h) = number_of h
 number_in (Stays c r) = c.number
 number_in (Waits c r) = c.number

@@ -70,12 +70,14 @@ module _ {t : Tables} {w : ℕ} {k : List ℕ} {may : ℕ → Bool} {m : Arrays}
 
     -- those of ranks from the next on are the same
     raised_high : {m' : Arrays} {q v : ℕ} (made : Visiting t w k may m r n m' q v) (j : ℕ) → q ≤ j → raised made j ≡ h j
+    unfolding raised
     raised_high none j high = refl
     raised_high (more {q = q} before own admitted made) j high = more_other (raised before) q j (λ e. (omega (arith, high, e))) ∙ raised_high before j (omega (arith, high))
 
     module _ (i : ℕ) (turn : (j : ℕ) → may j ≡ true → h j ≡ i) where
       -- turns that follow visits follow the first
       turns_behind : {m' : Arrays} {q v : ℕ} (made : Visiting t w k may m r n m' q v) → q < ranks t → (m'' : Arrays) (h'' : ℕ → ℕ) (b : Becomes) → TakesTurns t w k i m' (raised made) q v m'' h'' b → TakesTurns t w k i m h r n m'' h'' b
+      unfolding raised
       turns_behind none low m'' h'' b takes = takes
       turns_behind (more {q = q} before own admitted made) low m'' h'' b takes =
           turns_behind before (rank_is_below t q w own) m'' h'' b (turns.visits own (raised_high before q (omega arith) ∙ turn q admitted) made low takes)
@@ -146,16 +148,16 @@ behind_by t first (Forward to head) = next_rank first head
 behind_by t first (Deliver port) = first
 behind_by t first (Fork copies lost) = ranks t
 
-no_leaf : (t : Tables) → IsTwo t → {w n : ℕ} {ss : List Stages} {os : List Parts} → row_at t w n ≡ Some (Leaf ss os) → ⊥
-no_leaf t two {w = w} {n = n} {ss = ss} {os = os} row = not_one t two.version (row_form t two.form w n (Leaf ss os) row).0
+no_leaf : (t : Tables) → IsTwo t → (w n : ℕ) {ss : List Stages} {os : List Parts} → row_at t w n ≡ Some (Leaf ss os) → ⊥
+no_leaf t two w n {ss = ss} {os = os} row = not_one t two.version (row_form t two.form w n (Leaf ss os) row).0
 
 pub no_visits : (t : Tables) → IsTwo t → {w : ℕ} {k : List ℕ} {m m' : Arrays} {head : Head} {a : Action} → IsBeforeNone t w k head → Handles t w k m head m' a → behind_by t (first_of t head) a ≡ first_of t head
 no_visits t two early (asks one row sides on) = absurd (not_one t two.version one)
 no_visits t two early (goes row) = refl
-no_visits t two early (forks row) = absurd (no_leaf t two row)
-no_visits t two early (begins row on) = absurd (no_leaf t two row)
+no_visits t two {w = w} early (forks {n = n} row) = absurd (no_leaf t two w n row)
+no_visits t two {w = w} early (begins {n = n} row on) = absurd (no_leaf t two w n row)
 no_visits t two early (passes_on row is away) = refl
-no_visits t two early (goes_on row is at few on) = absurd (no_leaf t two row)
+no_visits t two {w = w} early (goes_on {n = n} row is at few on) = absurd (no_leaf t two w n row)
 no_visits t two early (completes row is at last) = refl
 no_visits t two early (enters version some follow (seeks own away)) = refl
 no_visits t two {m = m} early (enters {v = v} version some follow (visits own made few on)) = absurd (early version m 0 v (stepping.walk some follow) own)
@@ -364,8 +366,8 @@ counted_order v new k c tells counted first behind held version found same made 
     (omega (arith, from, e, low), omega (arith, e, high))
 
 -- one that crossed a link stands in its place
-pub moved_stands : (t : Tables) (may : ℕ → Bool) (k : ℕ) (old : List Kept) (from : List Flying) (new : List Kept) (to : List Flying) (c : Flying) (tells : Moved) → slice_get from k ≡ Some c → HasMade may t c k old from new to tells → IsThere to k tells
-moved_stands t may k old from new to c tells found made = subst (IsThere to k) (sym made.tells) (by made.fate made.flying)
+pub moved_stands : (t : Tables) (may : ℕ → Bool) (k : ℕ) (held : List Kept) (from : List Flying) (new : List Kept) (to : List Flying) (c : Flying) (tells : Moved) → slice_get from k ≡ Some c → HasMade may t c k held from new to tells → IsThere to k tells
+moved_stands t may k held from new to c tells found made = subst (IsThere to k) (sym made.tells) (by made.fate made.flying)
   where
     by : (f : Fate) → to ≡ spliced from k 1 (left_by t c f) → IsThere to k (told_by t c f)
     by (fate.Seek x head) gone = slice_get_within to k _ (ap (λ l. slice_get l k) gone ∙ there_now from (drop (k + 1) from) k c (record c { at = next t c.at x; head = head }) found)
