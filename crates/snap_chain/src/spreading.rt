@@ -215,15 +215,7 @@ pub fn spread(
     ensures number { IfOk result (λ r. r < length nodes.new) }
     ensures spread { IfOk result (λ r. IsSpread groups.now ctx.now go.now (diagram nodes.old d) (diagram nodes.new r)) }
 {
-    let all = all_after(
-        nodes,
-        groups,
-        ctx,
-        marks,
-        go.outs.list(),
-        go.ups.list(),
-        d,
-    )?;
+    let all = all_after(nodes, groups, ctx, marks, go.outs.list(), go.ups.list(), d)?;
     put_behind(nodes, groups, ctx, go, all)
 }
 
