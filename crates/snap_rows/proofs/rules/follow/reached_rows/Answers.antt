@@ -24,7 +24,7 @@ bounds-items-place c =
 pub offset_bounds-items-place : goal.offset_bounds-items-place
 offset_bounds-items-place c =
     let within : c.in-Some.place < length c.items.result.now = bounds-items-place c in
-    let small : length c.items.result.now * 88 < 9223372036854775808 = c.items.type_inv.1 in
+    let small : length c.items.result.now * 24 < 9223372036854775808 = c.items.type_inv.1 in
     omega arith
 
 pub follow-requires-clause-entry : goal.follow-requires-clause-entry
