@@ -12,6 +12,9 @@ string_texts names = map string_bytes names
 abbrev pub texts : Vec (String Global) Global → List (List ℕ)
 texts v = string_texts v.items
 
+abbrev pub lent_texts : List (Bor (List ℕ)) → List (List ℕ)
+lent_texts names = map (λ (n : Bor (List ℕ)). n.now) names
+
 abbrev pub pair_text : Bor (List ℕ) × Bor (List ℕ) → List ℕ × List ℕ
 pair_text p = (p.0.now, p.1.now)
 

@@ -5,7 +5,7 @@ ghost use Rattle.std.specs.List.{flat_map};
 ghost use Rattle.std.specs.List.Sorted.{IsStrictlySortedBy};
 ghost use Rattle.indexmap.specs.IndexSet.{index_set_len};
 ghost use Rattle.snap_topo.specs.Answer.{first_repeat, first_unknown, is_unknown, too_many, WithinThen};
-ghost use Rattle.snap_topo.specs.Listing.{pair_text, pair_texts, port_texts, spelled_by, string_texts, texts};
+ghost use Rattle.snap_topo.specs.Listing.{lent_texts, pair_text, pair_texts, port_texts, spelled_by, string_texts, texts};
 ghost use Rattle.snap_topo.specs.Spells.{is_switch, number_of, numbered, port_at, ends, port_name, link_cmp};
 
 use crate::listing::Listing;
@@ -53,27 +53,27 @@ fn within_limits(listing: &Listing<'_>) -> Result<(), TopoFault>
 }
 
 /// The switches by their names, each of which stands once.
-fn numbers_of(alloc: Global, names: &[String]) -> Result<IndexSet<String>, TopoFault>
-    ensures ok { IfOk result (λ numbers. (first_repeat (string_texts names.now) ≡ None) × (string_texts numbers.keys ≡ string_texts names.now)) }
+fn numbers_of<'a>(alloc: Global, names: &'a [String]) -> Result<IndexSet<&'a str>, TopoFault>
+    ensures ok { IfOk result (λ numbers. (first_repeat (string_texts names.now) ≡ None) × (lent_texts numbers.keys ≡ string_texts names.now)) }
     ensures twice { IfErr result (λ e. e ≢ TopoFault.NoMemory → IsSomeAnd (first_repeat (string_texts names.now)) (λ name. e ≡ TopoFault.Twice name)) }
 {
-    let mut numbers = IndexSet::new(alloc);
+    let mut numbers = IndexSet::with_capacity(alloc, names.len())?;
     for name in names {
         if numbers.contains(name.as_str()) {
             return Err(TopoFault::Twice {
                 name: name_of(alloc, name.as_str())?,
             });
         }
-        numbers.insert(String::from_str(alloc, name.as_str())?)?;
+        numbers.insert(name.as_str())?;
     }
     Ok(numbers)
 }
 
 /// The number of a switch.
-fn number(alloc: Global, numbers: &IndexSet<String>, name: &str) -> Result<u16, TopoFault>
+fn number(alloc: Global, numbers: &IndexSet<&str>, name: &str) -> Result<u16, TopoFault>
     requires { index_set_len numbers.now ≤ MOST_SWITCHES }
-    ensures ok { IfOk result (λ n. (is_switch (string_texts numbers.now.keys) name.now ≡ true) × (n ≡ number_of (string_texts numbers.now.keys) name.now)) }
-    ensures unknown { IfErr result (λ e. e ≢ TopoFault.NoMemory → (is_switch (string_texts numbers.now.keys) name.now ≡ false) × (e ≡ TopoFault.Unknown name.now)) }
+    ensures ok { IfOk result (λ n. (is_switch (lent_texts numbers.now.keys) name.now ≡ true) × (n ≡ number_of (lent_texts numbers.now.keys) name.now)) }
+    ensures unknown { IfErr result (λ e. e ≢ TopoFault.NoMemory → (is_switch (lent_texts numbers.now.keys) name.now ≡ false) × (e ≡ TopoFault.Unknown name.now)) }
 {
     match numbers.get_index_of(name) {
         Some(i) => Ok(i as u16),
@@ -86,12 +86,12 @@ fn number(alloc: Global, numbers: &IndexSet<String>, name: &str) -> Result<u16, 
 /// A link by numbers, the lesser first.
 fn link_of(
     alloc: Global,
-    numbers: &IndexSet<String>,
+    numbers: &IndexSet<&str>,
     link: &(&str, &str),
 ) -> Result<(u16, u16), TopoFault>
     requires { index_set_len numbers.now ≤ MOST_SWITCHES }
-    ensures ok { IfOk result (λ pair. (find (is_unknown (string_texts numbers.now.keys)) (ends (pair_text link.now)) ≡ None) × (pair ≡ numbered (string_texts numbers.now.keys) (pair_text link.now))) }
-    ensures unknown { IfErr result (λ e. e ≢ TopoFault.NoMemory → IsSomeAnd (find (is_unknown (string_texts numbers.now.keys)) (ends (pair_text link.now))) (λ name. e ≡ TopoFault.Unknown name)) }
+    ensures ok { IfOk result (λ pair. (find (is_unknown (lent_texts numbers.now.keys)) (ends (pair_text link.now)) ≡ None) × (pair ≡ numbered (lent_texts numbers.now.keys) (pair_text link.now))) }
+    ensures unknown { IfErr result (λ e. e ≢ TopoFault.NoMemory → IsSomeAnd (find (is_unknown (lent_texts numbers.now.keys)) (ends (pair_text link.now))) (λ name. e ≡ TopoFault.Unknown name)) }
 {
     let a = number(alloc, numbers, link.0)?;
     let b = number(alloc, numbers, link.1)?;
@@ -101,12 +101,12 @@ fn link_of(
 /// The links by numbers, as listed.
 fn links_of(
     alloc: Global,
-    numbers: &IndexSet<String>,
+    numbers: &IndexSet<&str>,
     links: &[(&str, &str)],
 ) -> Result<Vec<(u16, u16)>, TopoFault>
     requires { index_set_len numbers.now ≤ MOST_SWITCHES }
-    ensures ok { IfOk result (λ pairs. (find (is_unknown (string_texts numbers.now.keys)) (flat_map ends (map pair_text links.now)) ≡ None) × (pairs.items ≡ map (numbered (string_texts numbers.now.keys)) (map pair_text links.now))) }
-    ensures unknown { IfErr result (λ e. e ≢ TopoFault.NoMemory → IsSomeAnd (find (is_unknown (string_texts numbers.now.keys)) (flat_map ends (map pair_text links.now))) (λ name. e ≡ TopoFault.Unknown name)) }
+    ensures ok { IfOk result (λ pairs. (find (is_unknown (lent_texts numbers.now.keys)) (flat_map ends (map pair_text links.now)) ≡ None) × (pairs.items ≡ map (numbered (lent_texts numbers.now.keys)) (map pair_text links.now))) }
+    ensures unknown { IfErr result (λ e. e ≢ TopoFault.NoMemory → IsSomeAnd (find (is_unknown (lent_texts numbers.now.keys)) (flat_map ends (map pair_text links.now))) (λ name. e ≡ TopoFault.Unknown name)) }
 {
     let mut pairs = Vec::with_capacity(alloc, links.len())?;
     for link in links {
@@ -118,12 +118,12 @@ fn links_of(
 /// The ports by numbers of their switches.
 fn ports_of(
     alloc: Global,
-    numbers: &IndexSet<String>,
+    numbers: &IndexSet<&str>,
     ports: &BTreeMap<u32, &str>,
 ) -> Result<Vec<PortAt>, TopoFault>
     requires { index_set_len numbers.now ≤ MOST_SWITCHES }
-    ensures ok { IfOk result (λ placed. (find (is_unknown (string_texts numbers.now.keys)) (map port_name (port_texts ports.now)) ≡ None) × (placed.items ≡ map (port_at (string_texts numbers.now.keys)) (port_texts ports.now))) }
-    ensures unknown { IfErr result (λ e. e ≢ TopoFault.NoMemory → IsSomeAnd (find (is_unknown (string_texts numbers.now.keys)) (map port_name (port_texts ports.now))) (λ name. e ≡ TopoFault.Unknown name)) }
+    ensures ok { IfOk result (λ placed. (find (is_unknown (lent_texts numbers.now.keys)) (map port_name (port_texts ports.now)) ≡ None) × (placed.items ≡ map (port_at (lent_texts numbers.now.keys)) (port_texts ports.now))) }
+    ensures unknown { IfErr result (λ e. e ≢ TopoFault.NoMemory → IsSomeAnd (find (is_unknown (lent_texts numbers.now.keys)) (map port_name (port_texts ports.now))) (λ name. e ≡ TopoFault.Unknown name)) }
 {
     let mut placed = Vec::new(alloc);
     for (port, name) in ports {
@@ -144,30 +144,41 @@ fn once(mut links: Vec<(u16, u16)>) -> Vec<(u16, u16)>
     links
 }
 
-fn switches_of(alloc: Global, names: &[String]) -> Result<Names, AllocError>
-    ensures { IfOk result (λ switches. switches ≡ string_texts names.now) }
+// The names of switches.
+fn switches_of(alloc: Global, names: Vec<String>) -> Result<Names, AllocError>
+    ensures { IfOk result (λ switches. switches ≡ texts names) }
 {
     let mut switches = Vec::with_capacity(alloc, names.len())?;
     for name in names {
-        switches.push(name_of(alloc, name.as_str())?)?;
+        switches.push(Name::new(name.into_bytes()))?;
     }
     Ok(Names::new(switches))
 }
 
-/// The topology of a listing, or its first fault.
-pub(crate) fn resolve(alloc: Global, listing: &Listing<'_>) -> Result<Topology, TopoFault>
-    ensures few { IfOk result (λ t. length t.links ≤ length (spelled_by listing.now).links) }
-    ensures answer { MatchResult result (λ t. WithinThen (spelled_by listing.now) (too_many (spelled_by listing.now)) (Ok t))
+// The links and the ports of a listing by numbers, or its first fault.
+fn numbered(alloc: Global, listing: &Listing<'_>) -> Result<(Links, Ports), TopoFault>
+    ensures few { IfOk result (λ r. length r.0 ≤ length (spelled_by listing.now).links) }
+    ensures answer { MatchResult result (λ r. WithinThen (spelled_by listing.now) (too_many (spelled_by listing.now)) (Ok (record { switches = texts listing.now.switches; links = r.0; ports = r.1 })))
         (λ e. e ≢ TopoFault.NoMemory → WithinThen (spelled_by listing.now) (too_many (spelled_by listing.now)) (Err e)) }
 {
     within_limits(listing)?;
     let numbers = numbers_of(alloc, &listing.switches)?;
     let links = links_of(alloc, &numbers, &listing.links)?;
     let ports = ports_of(alloc, &numbers, &listing.ports)?;
-    let switches = switches_of(alloc, &listing.switches)?;
+    Ok((Links::new(once(links)), Ports::new(ports)))
+}
+
+/// The topology of a listing, or its first fault.
+pub(crate) fn resolve(alloc: Global, listing: Listing<'_>) -> Result<Topology, TopoFault>
+    ensures few { IfOk result (λ t. length t.links ≤ length (spelled_by listing.entry).links) }
+    ensures answer { MatchResult result (λ t. WithinThen (spelled_by listing.entry) (too_many (spelled_by listing.entry)) (Ok t))
+        (λ e. e ≢ TopoFault.NoMemory → WithinThen (spelled_by listing.entry) (too_many (spelled_by listing.entry)) (Err e)) }
+{
+    let (links, ports) = numbered(alloc, &listing)?;
+    let switches = switches_of(alloc, listing.switches)?;
     Ok(Topology {
         switches,
-        links: Links::new(once(links)),
-        ports: Ports::new(ports),
+        links,
+        ports,
     })
 }

@@ -10,6 +10,6 @@ returns-then-contains-clause-twice c = λ _.
 
 pub loop-name-preserved : goal.loop-name-preserved
 loop-name-preserved c =
-    let step = repeats-on c.loop-name.numbers.keys c.insert.new.self.keys c.args.names.now c.loop-name.name-index c.name-item.result c.in_ok-from_str.field-0 c.as_str.result.now c.loop-name-test.true c.name-item.is c.as_str.ensures.value
-    (c.in_ok-from_str.ensures.ok ∙ c.as_str-in-loop-name.ensures.value ∙ sym c.as_str.ensures.value) (sym c.contains.ensures ∙ c.if-contains.false) c.in_ok-insert.ensures.keys in
+    let step = repeats-on c.loop-name.numbers.keys c.insert.new.self.keys c.args.names.now c.loop-name.name-index c.name-item.result c.as_str-in-loop-name.result c.as_str.result.now c.loop-name-test.true c.name-item.is c.as_str.ensures.value
+    (c.as_str-in-loop-name.ensures.value ∙ sym c.as_str.ensures.value) (sym c.contains.ensures ∙ c.if-contains.false) c.in_ok-insert.ensures.keys in
     record { all = step.0 ∙ c.loop-name.invariant.all; different = step.1 ∙ c.loop-name.invariant.different }
