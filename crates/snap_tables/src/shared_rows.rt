@@ -2,6 +2,7 @@
 
 ghost use Rattle.std.specs.Prelude.{◌≡◌, ◌<◌, IfOk, length, map};
 ghost use Rattle.std.specs.List.{All};
+ghost use Rattle.snap_rows.specs.declared.tables.Row.TheVariants as row;
 ghost use Rattle.snap_tables.specs.Shared.{row_said, row_shared};
 ghost use Rattle.snap_tables.specs.declared.shared.RowShare.{RowShare};
 
@@ -24,14 +25,20 @@ fn bodies_of(alloc: Global, rows: Vec<Row>) -> Result<Vec<Body>, NoMemory>
     Ok(bodies)
 }
 
-// What stands in a row.
-fn said(alloc: Global, bodies: &[Body], share: RowShare) -> Result<Body, NoMemory>
-    requires { share.number < length bodies.now }
-    ensures { IfOk result (λ row. row ≡ row_said bodies.now share.number share.share) }
+// What stands in a row. All rows that stop share one body.
+fn said(
+    alloc: Global,
+    bodies: &[Body],
+    stop: &Body,
+    share: RowShare,
+) -> Result<Body, NoMemory>
+    requires number { share.number < length bodies.now }
+    requires stop { stop.now ≡ row.Stop }
+    ensures { IfOk result (λ body. body ≡ row_said bodies.now share.number share.share) }
 {
     match share.share {
         Share::Body => bodies[share.number as usize].share(),
-        Share::Stop => Body::new(alloc, Row::Stop),
+        Share::Stop => stop.share(),
         Share::Go { to } => Body::new(alloc, Row::Go { to }),
     }
 }
@@ -40,12 +47,13 @@ fn rows(alloc: Global, bodies: &[Body], shares: &[RowShare]) -> Result<Vec<RowAt
     requires { All (λ (s : RowShare). s.number < length bodies.now) shares.now }
     ensures { IfOk result (λ rows. rows.items ≡ map (row_shared bodies.now) shares.now) }
 {
+    let stop = Body::new(alloc, Row::Stop)?;
     let mut rows = Vec::with_capacity(alloc, shares.len())?;
     for share in shares {
         rows.push(RowAt {
             at: share.at,
             number: share.number,
-            row: said(alloc, bodies, *share)?,
+            row: said(alloc, bodies, &stop, *share)?,
         })?;
     }
     Ok(rows)
