@@ -1,8 +1,9 @@
 -- No out or one, or both halves.
-use Rattle.std.proofs.Common.{◌≡◌, ◌++◌, ◌/◌, sym, ap, arith, length, subst, ◌∙◌, length-drop, take-append-drop}
+use Rattle.std.proofs.Common.{◌≡◌, ℕ, ◌++◌, ◌/◌, List, [], ◌∷◌, refl, sym, ap, arith, length, subst, ◌∙◌, length-drop, take-append-drop}
 use Rattle.std.specs.Prelude.{All}
 use Rattle.std.proofs.lemmas.List.Elements.{All-drop}
 use Rattle.snap_fdd.specs.Diagrams.{diagram}
+use Rattle.snap_core.specs.declared.policy.Atom.{Atom}
 use Rattle.snap_core.specs.Tests.{OutFits}
 use Rattle.snap_fdd.specs.Picks.{sizes}
 use Rattle.snap_fdd.proofs.Cutting.{if_ok_both}
@@ -17,9 +18,13 @@ use Rattle.snap_chain.proofs.spreading.+all_after.Goals as goal
 pub after_marked-requires-clause-out : goal.after_marked-requires-clause-out
 after_marked-requires-clause-out t c = head_fits (sizes c.args.groups.now c.args.ctx.now).comps c.args.outs.now c.in-Some.field-0-1.now c.in-Some.out.now c.in-Some.ensures.cases.0 c.requires.outs
 
+no_outs : (all : List (List (ℕ × Atom))) → length all ≡ 0 → all ≡ []
+no_outs [] e = refl
+no_outs (o ∷ more) e = absurd (grind arith)
+
 pub returns-in-None-clause-run : goal.returns-in-None-clause-run
 returns-in-None-clause-run t c =
-    if_ok_both c.idle.result _ _ _ (λ r a is. run_none c.args.groups.now c.args.ctx.now c.args.outs.now c.args.ups.now (diagram c.args.nodes.now c.args.d) (diagram c.idle.new.nodes r) c.in-None.ensures.cases is a.keeps) c.idle.ensures.diagram c.idle.ensures.bare
+    if_ok_both c.idle.result _ _ _ (λ r a is. run_none c.args.groups.now c.args.ctx.now c.args.outs.now c.args.ups.now (diagram c.args.nodes.now c.args.d) (diagram c.idle.new.nodes r) (no_outs c.args.outs.now c.in-None.ensures.cases) is a.keeps) c.idle.ensures.diagram c.idle.ensures.bare
 
 pub join-requires-clause-b : goal.join-requires-clause-b
 join-requires-clause-b t c =
