@@ -123,10 +123,6 @@ Settles-from graph target d ds level none levels = record {
   each = λ v lt. settled graph target v (distance_in ds v) (λ k is. levels.walks v k is) (λ xs walk. closed-walk graph target d ds level none levels xs v walk);
 }
 
--- what is written back through a slice of a list's length
-pub written-back : {X : Type 0} (n : ℕ) (new old : List X) → length new ≡ length old → n ≡ length old → take n (new ++ drop (length new) old) ≡ new
-written-back n new old same all = grind (arith, common_steps)
-
--- fewer are left once some more are reached
-pub left-less : (ds new : List (Option ℕ)) (left k : ℕ) → ds ≡ new → unreached new + k ≤ left → unreached ds ≤ left - k
-left-less ds new left k same few = subst (λ (xs : List (Option ℕ)). unreached xs ≤ left - k) (sym same) (omega arith)
+-- a list of n stays one where something is written back through a slice of it
+pub length-written_back : {X : Type 0} (n : ℕ) (new old : List X) → n ≡ length old → length (take n (new ++ drop (length new) old)) ≡ n
+length-written_back n new old all = grind (arith, common_steps)

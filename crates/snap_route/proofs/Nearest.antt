@@ -1,16 +1,16 @@
 -- The nearest of some switches in order, and the greatest of some distances.
-use Rattle.std.proofs.Common.{◌≡◌, ◌≢◌, ◌∙◌, ◌⊎◌, inl, inr, ℕ, ◌+◌, ◌<◌, ◌≤◌, max, List, [], ◌∷◌, ◌++◌, length, get_or, take, Option, Some, None, MatchOption, unwrap_or, sym, ap, subst, arith, slice_index}
+use Rattle.std.proofs.Common.{◌≡◌, ◌≢◌, ◌∙◌, ◌⊎◌, inl, inr, ℕ, ◌+◌, ◌<◌, ◌≤◌, max, List, [], ◌∷◌, ◌++◌, length, length-append, get_or, take, refl, Option, Some, None, MatchOption, unwrap_or, sym, ap, subst, arith, slice_index}
 use Rattle.std.specs.List.{Contains}
 use Rattle.std.specs.List.Sorted.{IsNonDecreasing}
 use Rattle.std.specs.Ordering.{nat_cmp, ord_max}
 use Rattle.std.proofs.lemmas.Bool.{cases_eq, cases_lt}
 use Rattle.std.proofs.lemmas.Bool.Decides.{nat_tests}
-use Rattle.std.proofs.lemmas.List.{take_more, get_or_push, get_or_append_left}
+use Rattle.std.proofs.lemmas.List.{take_more, get_or_push, get_or_append_left, length-map, map-append}
 use Rattle.std.proofs.lemmas.Grind.{common_steps, get_or_default_zero}
 use Rattle.snap_route.specs.Graphs.{Adjacent, IsGraph, neighbours_of}
 use Rattle.std.proofs.lemmas.List.Elements.{Contains-push_cases, Contains-get_or}
-use Rattle.snap_route.specs.Hops.{AreDistances, HasDistance, IsLeastNearer, IsNearest, NoneNearer}
-use Rattle.snap_route.specs.Tables.{Row, row_in}
+use Rattle.snap_route.specs.Hops.{AreDistances, AreNexts, HasDistance, IsLeastNearer, IsNearest, IsToward, NoneNearer}
+use Rattle.snap_route.specs.Tables.{Row, row_by, row_in}
 use Rattle.snap_route.specs.Walks.{IsWalk}
 
 -- none of the first i switches is nearer than d
@@ -116,6 +116,35 @@ nexts-more graph target distances nexts new n next count is before now a lt apar
           let at : slice_index new a ≡ slice_index nexts a = ap (λ (xs : List ℕ). slice_index xs a) is ∙ get_or_append_left nexts (next ∷ []) 0 a low in
           subst (λ (x : ℕ). IsNearest (neighbours_of graph a) distances x) (sym at) (before a (omega arith) apart)
     ]
+
+-- the first n switches have their hops
+pub record HopsUpTo (graph : List (List ℕ)) (target : ℕ) (distances : List ℕ) (hops : List (ℕ × ℕ)) (n : ℕ) : Type 0 where
+  pub count : length hops ≡ n
+  pub known : (row_by hops).distances ≡ take n distances
+  pub nexts : (a : ℕ) → a < n → a ≢ target → IsNearest (neighbours_of graph a) distances (slice_index (row_by hops).nexts a)
+
+pub HopsUpTo-none : (graph : List (List ℕ)) (target : ℕ) (distances : List ℕ) → HopsUpTo graph target distances [] 0
+HopsUpTo-none graph target distances = record { count = refl; known = refl; nexts = λ a lt apart. absurd (omega arith) }
+
+pub HopsUpTo-more : (graph : List (List ℕ)) (target : ℕ) (distances : List ℕ) (hops new : List (ℕ × ℕ)) (n next : ℕ) → n < length distances → new ≡ hops ++ (slice_index distances n, next) ∷ []
+    → HopsUpTo graph target distances hops n → (n ≢ target → IsNearest (neighbours_of graph n) distances next) → HopsUpTo graph target distances new (n + 1)
+HopsUpTo-more graph target distances hops new n next lt is before now =
+    let hop : ℕ × ℕ = (slice_index distances n, next) in
+    record {
+      count = ap (λ (hs : List (ℕ × ℕ)). length hs) is ∙ omega (arith, length-append hops (hop ∷ []), before.count);
+      known = ap (λ (hs : List (ℕ × ℕ)). (row_by hs).distances) is ∙ map-append (λ (h : ℕ × ℕ). h.0) hops (hop ∷ []) ∙ ap (λ ds. ds ++ slice_index distances n ∷ []) before.known ∙ sym (take_more distances n 0 lt);
+      nexts = nexts-more graph target distances (row_by hops).nexts (row_by new).nexts n next (length-map hops (λ (h : ℕ × ℕ). h.1) ∙ before.count)
+          (ap (λ (hs : List (ℕ × ℕ)). (row_by hs).nexts) is ∙ map-append (λ (h : ℕ × ℕ). h.1) hops (hop ∷ [])) before.nexts now;
+    }
+
+pub HopsUpTo-all : (graph : List (List ℕ)) (target : ℕ) (distances : List ℕ) (hops : List (ℕ × ℕ)) → AreDistances graph target distances → HopsUpTo graph target distances hops (length graph) → IsToward graph target (row_by hops)
+HopsUpTo-all graph target distances hops are all =
+    let same : (row_by hops).distances ≡ distances = all.known ∙ take-all distances (length graph) (omega (arith, are.count)) in
+    record {
+      distances = subst (λ ds. AreDistances graph target ds) (sym same) are;
+      count = length-map hops (λ (h : ℕ × ℕ). h.1) ∙ all.count;
+      nexts = subst (λ ds. AreNexts graph target ds (row_by hops).nexts) (sym same) (λ a lt apart. all.nexts a lt apart);
+    }
 
 pub ord_max-max : (a b : ℕ) → ord_max nat_cmp a b ≡ max a b
 ord_max-max a b = grind (arith, nat_tests)

@@ -1,5 +1,5 @@
 -- A table of routes, and when it is that of a topology.
-use Rattle.std.specs.Prelude.{◌≡◌, ◌≢◌, ◌<◌, ℕ, List, [], length, All, slice_index, slice_index_or}
+use Rattle.std.specs.Prelude.{◌≡◌, ◌≢◌, ◌<◌, ℕ, List, [], length, map, All, slice_index, slice_index_or}
 use Rattle.snap_topo.specs.declared.topology.Topology.{Topology}
 use Rattle.snap_route.specs.Walks.{Linked, IsDistance, IsNext, IsDiameter, IsFirstApart}
 
@@ -7,6 +7,10 @@ use Rattle.snap_route.specs.Walks.{Linked, IsDistance, IsNext, IsDiameter, IsFir
 pub record Row : Type 0 where
   pub distances : List ℕ
   pub nexts : List ℕ
+
+-- the row by each switch's distance and next hop
+abbrev pub row_by : List (ℕ × ℕ) → Row
+row_by hops = record { distances = map (λ (h : ℕ × ℕ). h.0) hops; nexts = map (λ (h : ℕ × ℕ). h.1) hops }
 
 -- a row for each target
 pub record Table : Type 0 where

@@ -3,7 +3,8 @@
 ghost use Rattle.std.specs.Prelude.{◌≡◌, ◌⊎◌, ◌<◌, ◌≤◌, ℕ, Contains, IfOk, MatchOption, length};
 ghost use Rattle.std.specs.List.Sorted.{IsNonDecreasing};
 ghost use Rattle.snap_route.specs.Graphs.{IsGraph};
-ghost use Rattle.snap_route.specs.Hops.{AreDistances, AreNexts, HasDistance, IsLeastNearer, NoneNearer};
+ghost use Rattle.snap_route.specs.Hops.{AreDistances, HasDistance, IsLeastNearer, IsToward, NoneNearer};
+ghost use Rattle.snap_route.specs.Tables.{row_by};
 
 use crate::graph::Neighbours;
 use crate::table::Toward;
@@ -24,35 +25,35 @@ fn first_nearer(switches: &[u16], distances: &[u32], distance: u32) -> Option<u1
     None
 }
 
-/// The next hop of each switch towards the target, and that of the target itself.
+/// The distance of each switch to the target with its next hop, and that of the target itself.
 ///
 /// Neighbours differ by at most one in their distances, so the first that is nearer is the nearest.
-pub(crate) fn next_hops(
+pub(crate) fn hops_toward(
     alloc: Global,
     graph: &[Neighbours],
     distances: &[u32],
     target: u16,
-) -> Result<Vec<u16>, NoMemory>
+) -> Result<Vec<(u32, u16)>, NoMemory>
     requires graph { IsGraph graph.now }
     requires distances { AreDistances graph.now target distances.now }
-    ensures count { IfOk result (λ nexts. length nexts.items ≡ length graph.now) }
-    ensures nexts { IfOk result (λ nexts. AreNexts graph.now target distances.now nexts.items) }
+    ensures { IfOk result (λ hops. IsToward graph.now target (row_by hops.items)) }
 {
-    let mut nexts = Vec::with_capacity(alloc, graph.len())?;
+    let mut hops = Vec::with_capacity(alloc, graph.len())?;
     for (at, neighbours) in graph.iter().enumerate() {
-        let next = first_nearer(neighbours.items(), distances, distances[at]).unwrap_or(target);
-        nexts.push(next)?;
+        let distance = distances[at];
+        let next = first_nearer(neighbours.items(), distances, distance).unwrap_or(target);
+        hops.push((distance, next))?;
     }
-    Ok(nexts)
+    Ok(hops)
 }
 
-/// The greatest of some distances.
-pub(crate) fn greatest(distances: &[u32]) -> u32
-    ensures reached { (result ≡ 0) ⊎ Contains distances.now result }
-    ensures bound { (d : ℕ) → Contains distances.now d → d ≤ result }
+/// The greatest of the distances of some hops.
+pub(crate) fn greatest(hops: &[(u32, u16)]) -> u32
+    ensures reached { (result ≡ 0) ⊎ Contains (row_by hops.now).distances result }
+    ensures bound { (d : ℕ) → Contains (row_by hops.now).distances d → d ≤ result }
 {
     let mut most = 0;
-    for distance in distances {
+    for (distance, _) in hops {
         most = most.max(*distance);
     }
     most
@@ -65,7 +66,7 @@ pub(crate) fn diameter_of(rows: &[Toward]) -> u32
 {
     let mut most = 0;
     for row in rows {
-        most = most.max(greatest(row.distances()));
+        most = most.max(greatest(row.hops()));
     }
     most
 }

@@ -1,6 +1,6 @@
 //! The routes to each switch.
 
-ghost use Rattle.std.specs.Prelude.{◌≡◌, ◌<◌, ◌^◌, ℕ, Some, IfErr, IfOk, length, map};
+ghost use Rattle.std.specs.Prelude.{◌≡◌, ◌<◌, ◌^◌, ℕ, Some, IfErr, IfOk, OnOk, length, map};
 ghost use Rattle.snap_route.specs.Faults.{IsCause};
 ghost use Rattle.snap_route.specs.Graphs.{Adjacent, IsGraph};
 ghost use Rattle.snap_route.specs.Hops.{IsFirstAway, IsFirstUnreached, IsToward};
@@ -8,18 +8,18 @@ ghost use Rattle.snap_route.specs.Tables.{row_in};
 ghost use Rattle.snap_route.specs.Walks.{IsFirstApart};
 
 use crate::graph::Neighbours;
-use crate::hops::next_hops;
+use crate::hops::hops_toward;
 use crate::search::distances_to;
 use crate::table::{RouteFault, Toward};
 use std::alloc::Global;
 
 /// The distances to the target, where each is known.
-fn settled(alloc: Global, distances: &[Option<u32>], target: u16) -> Result<Vec<u32>, RouteFault>
+fn settle(distances: &[Option<u32>], target: u16, known: &mut Vec<u32>) -> Result<(), RouteFault>
     requires { length distances.now < 2 ^ 16 }
-    ensures ok { IfOk result (λ known. map (λ d. Some d) known.items ≡ distances.now) }
+    ensures ok { OnOk result (map (λ d. Some d) known.new.items ≡ distances.now) }
     ensures unreached { IfErr result (IsCause (λ a b. (a ≡ target) × IsFirstUnreached distances.now b)) }
 {
-    let mut known = Vec::with_capacity(alloc, distances.len())?;
+    known.clear();
     for (switch, distance) in distances.iter().enumerate() {
         let Some(distance) = distance else {
             return Err(RouteFault::Unreachable {
@@ -29,26 +29,28 @@ fn settled(alloc: Global, distances: &[Option<u32>], target: u16) -> Result<Vec<
         };
         known.push(*distance)?;
     }
-    Ok(known)
+    Ok(())
 }
 
-/// The routes to the target. The two lists are room for the search.
+/// The routes to the target. The last four are room for the search, and what stands in them doesn't count.
 fn toward(
     alloc: Global,
     graph: &[Neighbours],
     target: u16,
+    distances: &mut [Option<u32>],
+    known: &mut Vec<u32>,
     level: &mut Vec<u16>,
     next: &mut Vec<u16>,
 ) -> Result<Toward, RouteFault>
     requires graph { IsGraph graph.now }
+    requires count { length distances.old ≡ length graph.now }
     requires target { target < length graph.now }
     ensures ok { IfOk result (IsToward graph.now target) }
     ensures away { IfErr result (IsCause (λ a b. (a ≡ target) × IsFirstAway graph.now target b)) }
 {
-    let found = distances_to(alloc, graph, target, level, next)?;
-    let distances = settled(alloc, found.as_slice(), target)?;
-    let nexts = next_hops(alloc, graph, distances.as_slice(), target)?;
-    Ok(Toward::new(distances, nexts))
+    distances_to(graph, target, distances, level, next)?;
+    settle(distances, target, known)?;
+    Ok(Toward::new(hops_toward(alloc, graph, known.as_slice(), target)?))
 }
 
 /// The routes to each switch, or the first two switches that no walk joins.
@@ -58,11 +60,21 @@ pub(crate) fn all_routes(alloc: Global, graph: &[Neighbours]) -> Result<Vec<Towa
     ensures rows { IfOk result (λ rows. (b : ℕ) → b < length graph.now → IsToward graph.now b (row_in rows.items b)) }
     ensures apart { IfErr result (IsCause (IsFirstApart (Adjacent graph.now) (length graph.now))) }
 {
+    let mut distances = vec![in alloc; None; graph.len()]?;
+    let mut known = Vec::with_capacity(alloc, graph.len())?;
     let mut level = Vec::with_capacity(alloc, graph.len())?;
     let mut next = Vec::with_capacity(alloc, graph.len())?;
     let mut rows = Vec::with_capacity(alloc, graph.len())?;
     for target in 0..graph.len() {
-        rows.push(toward(alloc, graph, target as u16, &mut level, &mut next)?)?;
+        rows.push(toward(
+            alloc,
+            graph,
+            target as u16,
+            distances.as_mut_slice(),
+            &mut known,
+            &mut level,
+            &mut next,
+        )?)?;
     }
     Ok(rows)
 }

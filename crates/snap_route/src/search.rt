@@ -7,7 +7,6 @@ ghost use Rattle.snap_route.specs.Search.{Reaches, Settles, unreached};
 
 use crate::graph::Neighbours;
 use snap_core::NoMemory;
-use std::alloc::Global;
 use std::mem;
 
 /// Reaches those of some switches that were not reached, at this distance, and adds them to the level.
@@ -57,35 +56,29 @@ fn next_level(
 }
 
 /// The distance of each switch to the target, or `None` where no walk leads there. The two lists are room for the
-/// search; what stands in them doesn't count.
+/// search; what stands in them and in the distances doesn't count.
 pub(crate) fn distances_to(
-    alloc: Global,
     graph: &[Neighbours],
     target: u16,
+    distances: &mut [Option<u32>],
     level: &mut Vec<u16>,
     next: &mut Vec<u16>,
-) -> Result<Vec<Option<u32>>, NoMemory>
+) -> Result<(), NoMemory>
     requires graph { IsGraph graph.now }
+    requires count { length distances.old ≡ length graph.now }
     requires target { target < length graph.now }
-    ensures { IfOk result (λ ds. Settles graph.now target ds.items) }
+    ensures { IfOk result (λ _. Settles graph.now target distances.new) }
 {
-    let mut distances = vec![in alloc; None; graph.len()]?;
+    distances.fill(None);
     let mut distance = 0;
     level.clear();
-    reach(&[target], distance, distances.as_mut_slice(), level)?;
+    reach(&[target], distance, distances, level)?;
     let mut left = graph.len() - level.len();
     'levels: while !level.is_empty() {
         distance += 1;
-        next_level(
-            graph,
-            level.as_slice(),
-            distance,
-            left,
-            distances.as_mut_slice(),
-            next,
-        )?;
+        next_level(graph, level.as_slice(), distance, left, distances, next)?;
         left -= next.len();
         mem::swap(level, next);
     }
-    Ok(distances)
+    Ok(())
 }

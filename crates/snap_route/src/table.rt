@@ -1,7 +1,7 @@
 //! Routes, and why a topology has none.
 
-ghost use Rattle.std.specs.Prelude.{◌≡◌, ◌≢◌, ◌<◌, length};
-ghost use Rattle.snap_route.specs.Tables.{IsSquare, distance_of, next_of, switch_count};
+ghost use Rattle.std.specs.Prelude.{◌≡◌, ◌≢◌, ◌<◌, length, slice_index};
+ghost use Rattle.snap_route.specs.Tables.{IsSquare, distance_of, next_of, row_by, switch_count};
 
 use snap_core::NoMemory;
 use std::alloc::{AllocError, AllocFailed};
@@ -19,39 +19,45 @@ pub enum RouteFault {
     NoMemory,
 }
 
-/// The distances and next hops from each switch to one target.
+/// The distance and the next hop from each switch to one target.
 #[derive(Drop)]
 pub(crate) struct Toward {
-    distances: Vec<u32>,
-    nexts: Vec<u16>,
+    hops: Vec<(u32, u16)>,
 }
 
 impl Model for Toward {
-    ghost use Rattle.snap_route.specs.Tables.{Row};
+    ghost use Rattle.snap_route.specs.Tables.{Row, row_by};
 
     ghost Value = { Row };
 
-    ghost view = { λ a. record { distances = a.distances.items; nexts = a.nexts.items } };
+    ghost view = { λ a. row_by a.hops.items };
 }
 
 impl Toward {
-    pub(crate) fn new(distances: Vec<u32>, nexts: Vec<u16>) -> Toward
-        ensures distances { result.distances ≡ distances.items }
-        ensures nexts { result.nexts ≡ nexts.items }
+    pub(crate) fn new(hops: Vec<(u32, u16)>) -> Toward
+        ensures { result ≡ row_by hops.items }
     {
-        Toward { distances, nexts }
+        Toward { hops }
     }
 
-    pub(crate) fn distances(&self) -> &[u32]
-        ensures { result.now ≡ self.now.distances }
+    pub(crate) fn distance(&self, from: u16) -> u32
+        requires { from < length self.now.distances }
+        ensures { result ≡ slice_index self.now.distances from }
     {
-        &self.distances
+        self.hops[from as usize].0
     }
 
-    pub(crate) fn nexts(&self) -> &[u16]
-        ensures { result.now ≡ self.now.nexts }
+    pub(crate) fn next(&self, from: u16) -> u16
+        requires { from < length self.now.nexts }
+        ensures { result ≡ slice_index self.now.nexts from }
     {
-        &self.nexts
+        self.hops[from as usize].1
+    }
+
+    pub(crate) fn hops(&self) -> &[(u32, u16)]
+        ensures { self.now ≡ row_by result.now }
+    {
+        &self.hops
     }
 }
 
@@ -86,7 +92,7 @@ impl Routes {
         requires to { b < switch_count self.now }
         ensures { result ≡ distance_of self.now a b }
     {
-        self.toward[b as usize].distances()[a as usize]
+        self.toward[b as usize].distance(a)
     }
 
     /// The next switch on the way from `a` to `b`: of the neighbours of `a` with the least distance to `b` the one of
@@ -97,7 +103,7 @@ impl Routes {
         requires different { a ≢ b }
         ensures { result ≡ next_of self.now a b }
     {
-        self.toward[b as usize].nexts()[a as usize]
+        self.toward[b as usize].next(a)
     }
 
     /// The greatest distance between two switches. Takes no memory.

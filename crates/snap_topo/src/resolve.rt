@@ -156,7 +156,7 @@ fn switches_of(alloc: Global, names: Vec<String>) -> Result<Names, AllocError>
 }
 
 // The links and the ports of a listing by numbers, or its first fault.
-fn numbered(alloc: Global, listing: &Listing<'_>) -> Result<(Links, Ports), TopoFault>
+fn borders_of(alloc: Global, listing: &Listing<'_>) -> Result<(Links, Ports), TopoFault>
     ensures few { IfOk result (λ r. length r.0 ≤ length (spelled_by listing.now).links) }
     ensures answer { MatchResult result (λ r. WithinThen (spelled_by listing.now) (too_many (spelled_by listing.now)) (Ok (record { switches = texts listing.now.switches; links = r.0; ports = r.1 })))
         (λ e. e ≢ TopoFault.NoMemory → WithinThen (spelled_by listing.now) (too_many (spelled_by listing.now)) (Err e)) }
@@ -174,7 +174,7 @@ pub(crate) fn resolve(alloc: Global, listing: Listing<'_>) -> Result<Topology, T
     ensures answer { MatchResult result (λ t. WithinThen (spelled_by listing.entry) (too_many (spelled_by listing.entry)) (Ok t))
         (λ e. e ≢ TopoFault.NoMemory → WithinThen (spelled_by listing.entry) (too_many (spelled_by listing.entry)) (Err e)) }
 {
-    let (links, ports) = numbered(alloc, &listing)?;
+    let (links, ports) = borders_of(alloc, &listing)?;
     let switches = switches_of(alloc, listing.switches)?;
     Ok(Topology {
         switches,

@@ -1,11 +1,11 @@
-use Rattle.std.proofs.Common.{◌∙◌, ◌∷◌, [], ℕ, List, ap, subst, sym, arith, length, length-append, MatchOption, slice_index}
+use Rattle.std.proofs.Common.{◌≡◌, [], ℕ, List, rules, subst, sym, arith, length, MatchOption, slice_index}
 use Rattle.std.specs.List.{Contains}
 use Rattle.std.specs.List.Sorted.{IsNonDecreasing}
 use Rattle.snap_route.specs.Graphs.{neighbours_of}
 use Rattle.snap_route.specs.Hops.{IsLeastNearer, IsNearest, NoneNearer}
 use Rattle.snap_route.proofs.Reaching.{neighbours_of-read}
-use Rattle.snap_route.proofs.Nearest.{next-nearest, nexts-more}
-use Rattle.snap_route.proofs.hops.next_hops.Goals as goal
+use Rattle.snap_route.proofs.Nearest.{HopsUpTo, HopsUpTo-all, HopsUpTo-more, HopsUpTo-none, next-nearest}
+use Rattle.snap_route.proofs.hops.hops_toward.Goals as goal
 
 pub first_nearer-requires-clause-below : goal.first_nearer-requires-clause-below
 first_nearer-requires-clause-below c =
@@ -17,6 +17,11 @@ first_nearer-requires-clause-rise c =
     let are = neighbours_of-read c.args.graph.now c.loop-at.at c.index-graph-at.result c.items.result.now c.loop-at-test.true c.index-graph-at.is c.items.ensures in
     subst (λ (xs : List ℕ). IsNonDecreasing xs) (sym are) (c.requires.graph.rise c.loop-at.at c.loop-at-test.true)
 
+pub loop-at-init : goal.loop-at-init
+loop-at-init c =
+    let none : c.in_ok-hops.hops.items ≡ [] = search rules in
+    subst (λ (hs : List (ℕ × ℕ)). HopsUpTo c.args.graph.now c.args.target c.args.distances.now hs 0) (sym none) (HopsUpTo-none c.args.graph.now c.args.target c.args.distances.now)
+
 pub loop-at-preserved : goal.loop-at-preserved
 loop-at-preserved c =
     let graph = c.args.graph.now in
@@ -25,12 +30,10 @@ loop-at-preserved c =
     let d = slice_index distances a in
     let are = neighbours_of-read graph a c.index-graph-at.result c.items.result.now c.loop-at-test.true c.index-graph-at.is c.items.ensures in
     let found = subst (λ (xs : List ℕ). MatchOption c.first_nearer.result (NoneNearer xs distances d) (IsLeastNearer xs distances d)) are c.first_nearer.ensures in
-    record {
-      count = ap (λ (xs : List ℕ). length xs) c.in_ok-push.ensures.items ∙ omega (arith, length-append c.loop-at.nexts.items (c.unwrap_or-next.result ∷ []), c.loop-at.invariant.count);
-      nexts = nexts-more graph c.args.target distances c.loop-at.nexts.items c.push.new.self.items a c.unwrap_or-next.result c.loop-at.invariant.count c.in_ok-push.ensures.items c.loop-at.invariant.nexts
-          (λ apart. subst (λ (n : ℕ). IsNearest (neighbours_of graph a) distances n) (sym c.unwrap_or-next.ensures)
-          (next-nearest graph c.args.target distances a c.first_nearer.result c.requires.graph c.requires.distances c.loop-at-test.true found apart));
-    }
+    HopsUpTo-more graph c.args.target distances c.loop-at.hops.items c.push.new.self.items a c.unwrap_or-next.result (omega (arith, c.loop-at-test.true, c.requires.distances.count)) c.in_ok-push.ensures.items c.loop-at.invariant
+    (λ apart. subst (λ (n : ℕ). IsNearest (neighbours_of graph a) distances n) (sym c.unwrap_or-next.ensures)
+    (next-nearest graph c.args.target distances a c.first_nearer.result c.requires.graph c.requires.distances c.loop-at-test.true found apart))
 
-pub returns-clause-nexts : goal.returns-clause-nexts
-returns-clause-nexts c = λ a lt. c.loop-at.invariant.nexts a (omega arith)
+pub returns : goal.returns
+returns c = HopsUpTo-all c.args.graph.now c.args.target c.args.distances.now c.loop-at.hops.items c.requires.distances
+    (subst (λ n. HopsUpTo c.args.graph.now c.args.target c.args.distances.now c.loop-at.hops.items n) (omega (arith, c.loop-at-test.false)) c.loop-at.invariant)

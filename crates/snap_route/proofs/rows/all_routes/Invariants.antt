@@ -6,6 +6,7 @@ use Rattle.snap_route.proofs.rows.all_routes.Given as goal
 -- the switches so far have their rows
 abbrev pub invariant-loop-target : goal.invariant-loop-target
 invariant-loop-target l = record {
+  room : length l.distances.items ≡ length l.graph;
   count : length l.rows.items ≡ l.target;
   rows : (b : ℕ) → b < l.target → IsToward l.graph b (row_in l.rows.items b);
 }

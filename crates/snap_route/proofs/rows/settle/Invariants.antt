@@ -1,5 +1,5 @@
 use Rattle.std.proofs.Common.{◌≡◌, ◌++◌, ℕ, Some, drop, length, map}
-use Rattle.snap_route.proofs.rows.settled.Given as goal
+use Rattle.snap_route.proofs.rows.settle.Given as goal
 
 -- the distances so far are known
 abbrev pub invariant-loop-switch : goal.invariant-loop-switch

@@ -3,7 +3,7 @@ use Rattle.std.specs.List.{Contains, flat_map}
 use Rattle.std.proofs.lemmas.Bool.{eqb-true, eq-eqb, false≢true}
 use Rattle.snap_route.specs.Graphs.{neighbours_of}
 use Rattle.snap_route.specs.Search.{Reaches}
-use Rattle.snap_route.proofs.Levels.{Levels, Levels-first, Levels-next, Settles-from, left-less, written-back}
+use Rattle.snap_route.proofs.Levels.{Levels, Levels-first, Levels-next, Settles-from}
 use Rattle.snap_route.proofs.search.distances_to.Goals as goal
 
 filled : (n : ℕ) → (n ≡ 0 → ⊥) → 0 < n
@@ -11,16 +11,15 @@ filled n some = omega (arith, some)
 
 pub levels-init : goal.levels-init
 levels-init c =
-    let old = c.as_mut_slice.result.now in
+    let graph = c.args.graph.now in
+    let old = c.fill.new.self in
     let new = c.reach.new.distances in
-    let nowhere : c.in_ok-distances.distances.items ≡ replicate (length c.args.graph.now) None = search rules in
-    let size = ap (λ (xs : List (Option ℕ)). length xs) c.as_mut_slice.ensures.value in
+    let nowhere : old ≡ replicate (length c.args.distances.now) None = search rules in
     let one = subst (λ (xs : List ℕ). Reaches (c.args.target ∷ []) 0 old new xs c.reach.new.level.items) c.clear.ensures.items c.in_ok-reach.ensures in
-    let first = Levels-first c.args.graph.now c.args.target old new c.reach.new.level.items c.requires.target (c.as_mut_slice.ensures.value ∙ nowhere) one in
-    let back = written-back c.in_ok-distances.distances.len new c.in_ok-distances.distances.items (one.count ∙ size) (sym c.as_mut_slice.ensures.len ∙ size) in
+    let first = Levels-first graph c.args.target old new c.reach.new.level.items c.requires.target (nowhere ∙ ap (λ n. replicate n None) c.requires.count) one in
     record {
-      levels = subst (λ (ds : List (Option ℕ)). Levels c.args.graph.now c.args.target 0 ds c.reach.new.level.items) (sym back) first;
-      left = left-less _ new (length c.args.graph.now) _ back (omega (arith, first.room, c.len.ensures, c.reach.new.level.ok.0));
+      levels = first;
+      left = omega (arith, first.room, c.len.ensures, c.reach.new.level.ok.0);
     }
 
 pub next_level-requires-clause-level : goal.next_level-requires-clause-level
@@ -29,22 +28,19 @@ next_level-requires-clause-level c = λ v h. (c.levels.invariant.levels.members 
 pub levels-preserved : goal.levels-preserved
 levels-preserved c =
     let graph = c.args.graph.now in
-    let old = c.levels.distances.items in
+    let old = c.levels.distances in
     let new = c.next_level.new.distances in
     let d = c.levels.distance in
     let next = c.next_level.new.next.items in
-    let at-level = subst (λ (xs : List ℕ). Reaches (flat_map (neighbours_of graph) xs) (d + 1) c.as_mut_slice-in-levels.result.now new [] next) c.as_slice.ensures.value c.in_ok-next_level.ensures in
-    let one = subst (λ (ds : List (Option ℕ)). Reaches (flat_map (neighbours_of graph) c.levels.level.items) (d + 1) ds new [] next) c.as_mut_slice-in-levels.ensures.value at-level in
+    let one = subst (λ (xs : List ℕ). Reaches (flat_map (neighbours_of graph) xs) (d + 1) old new [] next) c.as_slice.ensures.value c.in_ok-next_level.ensures in
     let some : 0 < length c.levels.level.items = filled (length c.levels.level.items) (λ none. false≢true (sym c.levels-test.true ∙ c.is_empty.ensures ∙ eq-eqb _ _ (c.levels.level.ok.0 ∙ none))) in
     let more = Levels-next graph c.args.target d old new c.levels.level.items next c.requires.graph some c.levels.invariant.levels one in
-    let size = ap (λ (xs : List (Option ℕ)). length xs) c.as_mut_slice-in-levels.ensures.value in
-    let back = written-back c.levels.distances.len new old one.count (sym c.as_mut_slice-in-levels.ensures.len ∙ size) in
     let swapped = ap (λ (v : Vec ℕ Global). v.items) c.swap.ensures.x_after in
     record {
-      levels = subst (λ (ds : List (Option ℕ)). Levels graph c.args.target (d + 1) ds c.swap.new.x.items) (sym back) (subst (λ (xs : List ℕ). Levels graph c.args.target (d + 1) new xs) (sym swapped) more);
-      left = left-less _ new c.levels.left _ back (omega (arith, one.fewer, c.levels.invariant.left, c.len-left.ensures, c.next_level.new.next.ok.0));
+      levels = subst (λ (xs : List ℕ). Levels graph c.args.target (d + 1) new xs) (sym swapped) more;
+      left = omega (arith, one.fewer, c.levels.invariant.left, c.len-left.ensures, c.next_level.new.next.ok.0);
     }
 
 pub returns : goal.returns
-returns c = Settles-from c.args.graph.now c.args.target c.levels.distance c.levels.distances.items c.levels.level.items
+returns c = Settles-from c.args.graph.now c.args.target c.levels.distance c.levels.distances c.levels.level.items
     (sym c.levels.level.ok.0 ∙ eqb-true _ _ (sym c.is_empty.ensures ∙ c.levels-test.false)) c.levels.invariant.levels

@@ -6,10 +6,10 @@ use Rattle.snap_route.proofs.search.distances_to.Given as goal
 -- at most `left` are not reached
 abbrev pub invariant-levels : goal.invariant-levels
 invariant-levels l = record {
-  levels : Levels l.graph l.target l.distance l.distances.items l.level.items;
-  left : unreached l.distances.items ≤ l.left;
+  levels : Levels l.graph l.target l.distance l.distances l.level.items;
+  left : unreached l.distances ≤ l.left;
 }
 
 -- each turn reaches a switch or leaves an empty level
 abbrev pub decreases-levels : goal.decreases-levels
-decreases-levels l = unreached l.distances.items + length l.level.items
+decreases-levels l = unreached l.distances + length l.level.items

@@ -5,7 +5,7 @@ use Rattle.snap_topo.specs.Answer.{first_repeat, is_unknown}
 use Rattle.snap_topo.specs.Listing.{lent_texts, pair_text, spelled_by, string_texts}
 use Rattle.snap_topo.specs.Spells.{numbered, port_at, ends, link_cmp}
 use Rattle.snap_topo.proofs.Stages.{all-known, unknown-links, unknown-ports}
-use Rattle.snap_topo.proofs.resolve.numbered.Goals as goal
+use Rattle.snap_topo.proofs.resolve.borders_of.Goals as goal
 
 pub returns-in_err-links-clause-answer : goal.returns-in_err-links-clause-answer
 returns-in_err-links-clause-answer c =
