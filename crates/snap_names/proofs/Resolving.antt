@@ -43,10 +43,6 @@ resolved-read text tree s arities h =
     ap (λ r. after r (λ d. after (read_policy (env_of text d) tree.policy d.arities) (limited d))) h.rest_is
     ∙ ap (λ w. after (read_policy (env_of w (declared_in s h.lets arities)) tree.policy arities) (limited (declared_in s h.lets arities))) (sym h.text_is)
 
-pub IfErr-weaker : {A : Type 0} (r : Result A NameFault) (P Q : NameFault → Type 0) → ((f : NameFault) → P f → Q f) → IfErr r P → IfErr r Q
-IfErr-weaker (Ok x) P Q g h = tt
-IfErr-weaker (Err f) P Q g h = g f h
-
 -- An error that is passed on is the one that was found.
 pub IfErr-from : {A : Type 0} (r : Result A NameFault) (f : NameFault) (Q : NameFault → Type 0) → IsErrAnd r (λ e. e ≡ f) → Q f → IfErr r Q
 IfErr-from r f Q h q =
