@@ -2,12 +2,14 @@
 use Rattle.std.proofs.Common.{◌≡◌, ℕ, zero, suc, ◌+◌, ◌<◌, ◌≤◌, Bool, true, false, List, [], ◌∷◌, ◌++◌, length, Option, None, Some, Result, Ok, Err, IfOk, if◌then◌else◌, ◌==◌, slice_get, slice_set, refl, sym, ap, ◌∙◌, arith, length-append, bytes_eq}
 use Rattle.std.proofs.lemmas.Bool.{eqb-true}
 use Rattle.std.proofs.lemmas.Result.{IfOk-weaker}
-use Rattle.std.specs.List.{AllByRecursion}
+use Rattle.std.specs.List.{All}
+use Rattle.std.proofs.lemmas.Map.Entries.{All-lookup}
+use Rattle.snap_core.proofs.Entries.{both}
 use Rattle.snap_names.specs.Core.{Atom, Comp}
 use Rattle.snap_core.specs.Fits.{AtomFits, IndexFits}
 use Rattle.snap_names.specs.Senses.{Span, Value, Sense, Plain, Split, Array, Constant, Policy, NameFault, Unknown, Kind, Arity, Words, Arities, Place, after, word, sense_of, literal, constant, atom_of, field_atom, array_atom, address_literal, split_of_sense, split_atoms, split_address, split_net, split_test, test_of_sense, field_equals, set_of_sense, field_gets, atoms_of_sense, value_atoms, atoms_behind, arity_seen, width_of, value_width, width}
 use Rattle.snap_names.proofs.BoundedCore.{IsIndexed, TestFits, PolicyFits, Grows, Grows-same}
-use Rattle.snap_names.proofs.BoundedSteps.{AllByRecursion-append, AllByRecursion-lookup, IfOk-or_fault, IfOk-after, IfOk-after_any, IfOk-if}
+use Rattle.snap_names.proofs.BoundedSteps.{IfOk-or_fault, IfOk-after, IfOk-after_any, IfOk-if}
 
 -- a component is one of c, and an array one of v
 abbrev pub SenseFits : ℕ → ℕ → Sense → Type 0
@@ -17,14 +19,14 @@ SenseFits c v (Array s) = s < v
 SenseFits c v _ = Unit {0}
 
 abbrev pub NamesFit : ℕ → ℕ → List (List ℕ × Sense) → Type 0
-NamesFit c v names = AllByRecursion (λ x. SenseFits c v x.1) names
+NamesFit c v names = All (λ x. SenseFits c v x.1) names
 
 -- an array that is indexed as it was before, and the arities behind it
 abbrev pub PlaceFits : Type 0 → ℕ → ℕ → Arities → Place → Type 0
 PlaceFits W c v before p = Grows before p.arities × IsIndexed W v p.arities p.var p.index × IndexFits c p.index
 
 sense_of-fits : (c v : ℕ) (e : Words) (name : Span) → NamesFit c v e.names → IfOk (sense_of e name) (SenseFits c v)
-sense_of-fits c v e name h = IfOk-or_fault (SenseFits c v) (Unknown name.from) _ (AllByRecursion-lookup (SenseFits c v) (bytes_eq (word e.text name)) e.names h)
+sense_of-fits c v e name h = IfOk-or_fault (SenseFits c v) (Unknown name.from) _ (All-lookup (SenseFits c v) (bytes_eq (word e.text name)) e.names h)
 
 atom_of-fits : (c v at : ℕ) (s : Sense) → SenseFits c v s → IfOk (atom_of at s) (AtomFits c)
 atom_of-fits c v at (Plain i) h = h
@@ -89,7 +91,7 @@ pub atoms_behind-fits : (c v : ℕ) (e : Words) → NamesFit c v e.names → (be
 atoms_behind-fits c v e w before [] h = h
 atoms_behind-fits c v e w before (x ∷ xs) h =
     IfOk-after (IndexFits c) (IndexFits c) (value_atoms e x) (λ es. atoms_behind e (before ++ es) xs) (value_atoms-fits c v e x w)
-    (λ es k. atoms_behind-fits c v e w (before ++ es) xs (AllByRecursion-append (AtomFits c) before es h k))
+    (λ es k. atoms_behind-fits c v e w (before ++ es) xs (both (AtomFits c) before es h k))
 
 -- A value gives as many atoms as its width says.
 atoms_of_sense-length : (at : ℕ) (r : Result Sense NameFault) → IfOk (after r (atoms_of_sense at)) (λ es. length es ≡ width_of r)
@@ -143,12 +145,9 @@ Grows-set seen s n e = record { size = longer seen s; kept = kept seen s e }
     longer (x ∷ xs) zero = omega arith
     longer (x ∷ xs) (suc i) = omega (arith, longer xs i)
 
-    none_is_some : (m : ℕ) → Some None ≡ Some (Some m) → ⊥
-    none_is_some m h = cc
-
     kept : (xs : Arities) (i : ℕ) → slice_get xs i ≡ Some None → (j m : ℕ) → slice_get xs j ≡ Some (Some m) → slice_get (slice_set xs i (Some n)) j ≡ Some (Some m)
     kept [] i e j m h = cc
-    kept (x ∷ xs) zero e zero m h = absurd (none_is_some m (sym e ∙ h))
+    kept (x ∷ xs) zero e zero m h = absurd (let no' : Some None ≡ Some (Some m) = sym e ∙ h in cc)
     kept (x ∷ xs) zero e (suc j) m h = h
     kept (x ∷ xs) (suc i) e zero m h = h
     kept (x ∷ xs) (suc i) e (suc j) m h = kept xs i e j m h

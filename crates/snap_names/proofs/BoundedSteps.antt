@@ -1,32 +1,15 @@
 -- What holds of each element, and of what a reading gives, step by step.
-use Rattle.std.proofs.Common.{◌≡◌, ℕ, zero, suc, ◌≤◌, Bool, true, false, List, [], ◌∷◌, ◌++◌, Option, None, Some, Result, Ok, Err, IfOk, IfSome, cond, if◌then◌else◌, slice_get, nat_lt, refl, ltb-false}
-use Rattle.std.specs.List.{AllByRecursion}
-use Rattle.std.specs.Map.{lookup}
+use Rattle.std.proofs.Common.{◌≡◌, ℕ, zero, suc, ◌≤◌, Bool, true, false, List, [], ◌∷◌, Option, None, Some, Result, Ok, Err, IfOk, IfSome, if◌then◌else◌, slice_get, nat_lt, refl, ltb-false}
+use Rattle.std.specs.List.{All}
+use Rattle.std.proofs.lemmas.List.Elements.{All-head, All-tail}
 use Rattle.snap_core.specs.declared.program.Which.{Which}
 use Rattle.snap_names.specs.Senses.{NameFault, after, or_fault}
 use Rattle.snap_names.specs.Declarations.{within}
 
-pub AllByRecursion-weaker : {X : Type 0} (P Q : X → Type 0) → ((x : X) → P x → Q x) → (xs : List X) → AllByRecursion P xs → AllByRecursion Q xs
-AllByRecursion-weaker P Q f [] h = tt
-AllByRecursion-weaker P Q f (x ∷ xs) h = (f x h.0, AllByRecursion-weaker P Q f xs h.1)
-
-pub AllByRecursion-append : {X : Type 0} (P : X → Type 0) (xs ys : List X) → AllByRecursion P xs → AllByRecursion P ys → AllByRecursion P (xs ++ ys)
-AllByRecursion-append P [] ys h k = k
-AllByRecursion-append P (x ∷ xs) ys h k = (h.0, AllByRecursion-append P xs ys h.1 k)
-
-pub AllByRecursion-slice_get : {X : Type 0} (P : X → Type 0) (xs : List X) (i : ℕ) → AllByRecursion P xs → IfSome (slice_get xs i) P
-AllByRecursion-slice_get P [] i h = tt
-AllByRecursion-slice_get P (x ∷ xs) zero h = h.0
-AllByRecursion-slice_get P (x ∷ xs) (suc i) h = AllByRecursion-slice_get P xs i h.1
-
-IfSome-cond : {X : Type 0} (P : X → Type 0) (b : Bool) (x : X) (o : Option X) → P x → IfSome o P → IfSome (cond b (Some x) o) P
-IfSome-cond P true x o h k = h
-IfSome-cond P false x o h k = k
-
--- what holds of each value holds of the one that a look-up finds
-pub AllByRecursion-lookup : {K X : Type 0} (P : X → Type 0) (test : K → Bool) (es : List (K × X)) → AllByRecursion (λ e. P e.1) es → IfSome (lookup test es) P
-AllByRecursion-lookup P test [] h = tt
-AllByRecursion-lookup P test (e ∷ es) h = IfSome-cond P (test e.0) e.1 (lookup test es) h.0 (AllByRecursion-lookup P test es h.1)
+pub All-slice_get : {X : Type 0} (P : X → Type 0) (xs : List X) (i : ℕ) → All P xs → IfSome (slice_get xs i) P
+All-slice_get P [] i h = tt
+All-slice_get P (x ∷ xs) zero h = All-head P x xs h
+All-slice_get P (x ∷ xs) (suc i) h = All-slice_get P xs i (All-tail P x xs h)
 
 pub IfOk-or_fault : {A : Type 0} (P : A → Type 0) (f : NameFault) (o : Option A) → IfSome o P → IfOk (or_fault f o) P
 IfOk-or_fault P f None h = tt

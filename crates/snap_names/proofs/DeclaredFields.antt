@@ -9,13 +9,15 @@ use Rattle.snap_names.specs.Senses.{Sense, Plain, Split, Array, after, word, lit
 use Rattle.snap_names.specs.Spells.{is_known}
 use Rattle.snap_names.specs.Reading.{read_policy}
 use Rattle.snap_parse.specs.Tree.{DeclTree, field_tree, array_tree, const_tree, let_tree}
+use Rattle.std.proofs.lemmas.Bool.{false_from_ne_true, false≢true, or_parts}
 use Rattle.std.proofs.lemmas.Bool.Decides.{nat_tests}
 use Rattle.snap_core.specs.Names.{IsName}
 use Rattle.snap_names.proofs.Placed.{DeclWritten}
 use Rattle.snap_names.proofs.NameParts.{IsName-field}
-use Rattle.snap_names.proofs.Declaring.{bytes_eq-apart, or_left, or_right}
-use Rattle.std.proofs.lemmas.List.Elements.{All-from_recursion}
-use Rattle.snap_names.proofs.BoundedSteps.{AllByRecursion-append, AllByRecursion-weaker, IfOk-after_any, IfOk-unless, IfOk-unless_is}
+use Rattle.snap_names.proofs.Declaring.{bytes_eq-apart}
+use Rattle.std.proofs.lemmas.List.Elements.{All-from_recursion, All-weaker, recursion_from_All}
+use Rattle.snap_core.proofs.Entries.{both}
+use Rattle.snap_names.proofs.BoundedSteps.{IfOk-after_any, IfOk-unless, IfOk-unless_is}
 
 abbrev names_from : ℕ → List Field → List (List ℕ)
 names_from c fs = map (λ e. e.0) (declared_from c fs)
@@ -42,38 +44,29 @@ is_known-more [] more n h = cc
 is_known-more (x ∷ names) more n h = known_step (bytes_eq n x.0) x.1 (lookup (bytes_eq n) names) (lookup (bytes_eq n) (names ++ more)) (is_known-more names more n) h
 
 different : (names : List (List ℕ × Sense)) (x y : List ℕ) → is_known names x ≡ true → is_known names y ≡ false → bytes_eq x y ≡ false
-different names x y h k = by_test (bytes_eq x y) refl
-  where
-    by_test : (b : Bool) → bytes_eq x y ≡ b → bytes_eq x y ≡ false
-    by_test true e =
-        let same : x ≡ y = (bytes_eq-Decides x y).0 e in
-        let wrong : is_known names x ≡ false = subst (λ w. is_known names w ≡ false) (sym same) k in
-        cc
-    by_test false e = e
+different names x y h k = false_from_ne_true (bytes_eq x y) (λ e. false≢true (sym k ∙ ap (is_known names) (sym ((bytes_eq-Decides x y).0 e)) ∙ h))
 
 different_all : (names : List (List ℕ × Sense)) (x : List ℕ) (ys : List (List ℕ)) → is_known names x ≡ true → list_any (is_known names) ys ≡ false → AllByRecursion (λ y. bytes_eq x y ≡ false) ys
 different_all names x [] h k = tt
-different_all names x (y ∷ ys) h k = (different names x y h (or_left _ _ k), different_all names x ys h (or_right (is_known names y) _ k))
+different_all names x (y ∷ ys) h k = (different names x y h (or_parts _ _ k).0, different_all names x ys h (or_parts (is_known names y) _ k).1)
 
 pub IsDistinct-append : (names : List (List ℕ × Sense)) (xs ys : List (List ℕ)) → AllByRecursion (λ x. is_known names x ≡ true) xs → list_any (is_known names) ys ≡ false
     → IsDistinct bytes_eq xs → IsDistinct bytes_eq ys → IsDistinct bytes_eq (xs ++ ys)
 unfolding IsDistinct
 IsDistinct-append names [] ys h k d e = e
 IsDistinct-append names (x ∷ xs) ys h k d e =
-    (AllByRecursion-append (λ y. bytes_eq x y ≡ false) xs ys d.0 (different_all names x ys h.0 k), IsDistinct-append names xs ys h.1 k d.1 e)
+    (both (λ y. bytes_eq x y ≡ false) xs ys d.0 (different_all names x ys h.0 k), IsDistinct-append names xs ys h.1 k d.1 e)
 
 different_back : (names : List (List ℕ × Sense)) (x : List ℕ) (ys : List (List ℕ)) → is_known names x ≡ false → AllByRecursion (λ y. is_known names y ≡ true) ys → AllByRecursion (λ y. bytes_eq x y ≡ false) ys
 different_back names x [] h k = tt
-different_back names x (y ∷ ys) h k = (apart (bytes_eq x y) refl, different_back names x ys h k.1)
-  where
-    apart : (b : Bool) → bytes_eq x y ≡ b → bytes_eq x y ≡ false
-    apart true e =
-        let wrong : is_known names x ≡ true = subst (λ w. is_known names w ≡ true) (sym ((bytes_eq-Decides x y).0 e)) k.0 in
-        cc
-    apart false e = e
+different_back names x (y ∷ ys) h k =
+    (false_from_ne_true (bytes_eq x y) (λ e. false≢true (sym h ∙ ap (is_known names) ((bytes_eq-Decides x y).0 e) ∙ k.0)), different_back names x ys h k.1)
+
+weaker : {X : Type 0} (P Q : X → Type 0) → ((x : X) → P x → Q x) → (xs : List X) → AllByRecursion P xs → AllByRecursion Q xs
+weaker P Q f xs h = recursion_from_All Q xs (All-weaker P Q f xs (All-from_recursion P xs h))
 
 AllByRecursion-between : {X : Type 0} (P : X → Type 0) (xs ys zs : List X) → AllByRecursion P (xs ++ zs) → AllByRecursion P ys → AllByRecursion P ((xs ++ ys) ++ zs)
-AllByRecursion-between P [] ys zs h k = AllByRecursion-append P ys zs k h
+AllByRecursion-between P [] ys zs h k = both P ys zs k h
 AllByRecursion-between P (x ∷ xs) ys zs h k = (h.0, AllByRecursion-between P xs ys zs h.1 k)
 
 -- new names before names that are known
@@ -81,7 +74,7 @@ IsDistinct-before : (names : List (List ℕ × Sense)) (ys zs : List (List ℕ))
 unfolding IsDistinct
 IsDistinct-before names [] zs h k d e = e
 IsDistinct-before names (y ∷ ys) zs h k d e =
-    (AllByRecursion-append (λ z. bytes_eq y z ≡ false) ys zs d.0 (different_back names y zs (or_left _ _ h) k), IsDistinct-before names ys zs (or_right (is_known names y) _ h) k d.1 e)
+    (both (λ z. bytes_eq y z ≡ false) ys zs d.0 (different_back names y zs (or_parts _ _ h).0 k), IsDistinct-before names ys zs (or_parts (is_known names y) _ h).1 k d.1 e)
 
 -- new names among names that are known
 IsDistinct-between : (names : List (List ℕ × Sense)) (xs ys zs : List (List ℕ)) → AllByRecursion (λ x. is_known names x ≡ true) (xs ++ zs) → list_any (is_known names) ys ≡ false
@@ -158,10 +151,10 @@ with_field-stands W d name prefix h k w fits =
       first = ap (λ (fs : List Field). fs ++ record { name = name; prefix = prefix } ∷ []) h.first;
       distinct = subst (IsDistinct bytes_eq) (sym e) (IsDistinct-between d.names old new d.arrays h.known k h.distinct (names_apart name (is_some prefix)));
       known = subst (AllByRecursion (λ n. is_known (d.names ++ more) n ≡ true)) (sym e) (AllByRecursion-between (λ n. is_known (d.names ++ more) n ≡ true) old new d.arrays
-          (AllByRecursion-weaker (λ n. is_known d.names n ≡ true) (λ n. is_known (d.names ++ more) n ≡ true) (is_known-more d.names more) _ h.known)
-          (AllByRecursion-weaker (λ n. is_known more n ≡ true) (λ n. is_known (d.names ++ more) n ≡ true) (known_behind d.names more) _ (known_new (count d.fields) name prefix)));
+          (weaker (λ n. is_known d.names n ≡ true) (λ n. is_known (d.names ++ more) n ≡ true) (is_known-more d.names more) _ h.known)
+          (weaker (λ n. is_known more n ≡ true) (λ n. is_known (d.names ++ more) n ≡ true) (known_behind d.names more) _ (known_new (count d.fields) name prefix)));
       named = λ q. subst (AllByRecursion IsName) (sym e) (AllByRecursion-between IsName old new d.arrays (h.named q) (IsName-field name (is_some prefix) (w q)));
-      prefixes = AllByRecursion-append (λ f. PrefixFits f.prefix) d.fields _ h.prefixes (fits, tt);
+      prefixes = both (λ f. PrefixFits f.prefix) d.fields _ h.prefixes (fits, tt);
     }
 
 with_array-stands : (W : Type 0) (d : Declared) (name : List ℕ) → FieldsStand W d → is_known d.names name ≡ false → (W → IsName name) → FieldsStand W (with_array d name)
@@ -172,10 +165,10 @@ with_array-stands W d name h k w =
       rest = h.rest;
       first = h.first;
       distinct = subst (IsDistinct bytes_eq) (sym e) (IsDistinct-append d.names _ (name ∷ []) h.known (rw k refl) h.distinct (IsDistinct-one name));
-      known = subst (AllByRecursion (λ n. is_known (d.names ++ more) n ≡ true)) (sym e) (AllByRecursion-append (λ n. is_known (d.names ++ more) n ≡ true) _ (name ∷ [])
-          (AllByRecursion-weaker (λ n. is_known d.names n ≡ true) (λ n. is_known (d.names ++ more) n ≡ true) (is_known-more d.names more) _ h.known)
+      known = subst (AllByRecursion (λ n. is_known (d.names ++ more) n ≡ true)) (sym e) (both (λ n. is_known (d.names ++ more) n ≡ true) _ (name ∷ [])
+          (weaker (λ n. is_known d.names n ≡ true) (λ n. is_known (d.names ++ more) n ≡ true) (is_known-more d.names more) _ h.known)
           (known_behind d.names more name (known_first name (Array (length d.arrays)) []), tt));
-      named = λ q. subst (AllByRecursion IsName) (sym e) (AllByRecursion-append IsName _ (name ∷ []) (h.named q) (w q, tt));
+      named = λ q. subst (AllByRecursion IsName) (sym e) (both IsName _ (name ∷ []) (h.named q) (w q, tt));
       prefixes = h.prefixes;
     }
 
@@ -187,7 +180,7 @@ named-stands W d e more fs as_is ns h = record {
   rest = h.rest;
   first = fs ∙ h.first;
   distinct = rw (fs, as_is) h.distinct;
-  known = rw (fs, as_is, ns) (AllByRecursion-weaker (λ n. is_known d.names n ≡ true) (λ n. is_known (d.names ++ more) n ≡ true) (is_known-more d.names more) _ h.known);
+  known = rw (fs, as_is, ns) (weaker (λ n. is_known d.names n ≡ true) (λ n. is_known (d.names ++ more) n ≡ true) (is_known-more d.names more) _ h.known);
   named = rw (fs, as_is) h.named;
   prefixes = rw fs h.prefixes;
 }

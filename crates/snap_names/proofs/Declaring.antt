@@ -2,6 +2,7 @@
 use Rattle.std.proofs.Common.{◌≡◌, ◌≢◌, ℕ, suc, ◌+◌, Bool, true, false, List, [], ◌∷◌, ◌++◌, length, codes, Option, None, Some, is_some, Result, Ok, Err, cond, if◌then◌else◌, min, refl, sym, ap, ◌∙◌, subst, arith, append_assoc, length-append, Vec, ◌||◌, Global, bytes_eq}
 use Rattle.std.specs.List.{list_any}
 use Rattle.std.specs.Map.{lookup}
+use Rattle.std.proofs.lemmas.Bool.{false_from_ne_true, or_parts}
 use Rattle.std.proofs.lemmas.Slice.Eq.{bytes_eq-Decides}
 use Rattle.indexmap.specs.IndexMap.{insert_entry}
 use Rattle.snap_names.specs.Declarations.{Field, Declared, ports, field_names, field_senses, short, capped, with_field, with_let}
@@ -37,19 +38,7 @@ is_known-append [] e name h k = rw k refl
 is_known-append (x ∷ names) e name h k = lookup_step (bytes_eq name x.0) x.1 (lookup (bytes_eq name) names) (lookup (bytes_eq name) (names ++ e ∷ [])) (λ w. is_known-append names e name w k) h
 
 pub bytes_eq-apart : (xs ys : List ℕ) → length xs ≢ length ys → bytes_eq xs ys ≡ false
-bytes_eq-apart xs ys h = by_test (bytes_eq xs ys) refl
-  where
-    by_test : (b : Bool) → bytes_eq xs ys ≡ b → bytes_eq xs ys ≡ false
-    by_test true e = absurd (h (ap length ((bytes_eq-Decides xs ys).0 e)))
-    by_test false e = e
-
-pub or_left : (a b : Bool) → (a || b) ≡ false → a ≡ false
-or_left true b h = h
-or_left false b h = refl
-
-pub or_right : (a b : Bool) → (a || b) ≡ false → b ≡ false
-or_right true b h = cc
-or_right false b h = h
+bytes_eq-apart xs ys h = false_from_ne_true (bytes_eq xs ys) (λ e. h (ap length ((bytes_eq-Decides xs ys).0 e)))
 
 pub three_new : (ns n1 n2 n3 : List (List ℕ × Sense)) (name net host : List ℕ) (s1 s2 s3 : Sense)
     → list_any (is_known ns) (field_names name true) ≡ false
@@ -59,10 +48,10 @@ pub three_new : (ns n1 n2 n3 : List (List ℕ × Sense)) (name net host : List �
     → (is_known n2 host ≡ false → n3 ≡ n2 ++ (host, s3) ∷ [])
     → n3 ≡ ns ++ (name, s1) ∷ (name ++ codes ".net", s2) ∷ (name ++ codes ".host", s3) ∷ []
 three_new ns n1 n2 n3 name net host s1 s2 s3 h en eh f1 f2 f3 =
-    let k1 : is_known ns name ≡ false = or_left (is_known ns name) _ h in
-    let r1 : (is_known ns (name ++ codes ".net") || (is_known ns (name ++ codes ".host") || false)) ≡ false = or_right (is_known ns name) _ h in
-    let k2 : is_known ns net ≡ false = rw en (or_left _ _ r1) in
-    let k3 : is_known ns host ≡ false = rw eh (or_left (is_known ns (name ++ codes ".host")) false (or_right (is_known ns (name ++ codes ".net")) _ r1)) in
+    let k1 : is_known ns name ≡ false = (or_parts (is_known ns name) _ h).0 in
+    let r1 : (is_known ns (name ++ codes ".net") || (is_known ns (name ++ codes ".host") || false)) ≡ false = (or_parts (is_known ns name) _ h).1 in
+    let k2 : is_known ns net ≡ false = rw en (or_parts _ _ r1).0 in
+    let k3 : is_known ns host ≡ false = rw eh (or_parts (is_known ns (name ++ codes ".host")) false (or_parts (is_known ns (name ++ codes ".net")) _ r1).1).0 in
     let ln : length net ≡ length name + 4 = ap length en ∙ length-append name (codes ".net") in
     let lh : length host ≡ length name + 5 = ap length eh ∙ length-append name (codes ".host") in
     let e1 : n1 ≡ ns ++ (name, s1) ∷ [] = f1 k1 in

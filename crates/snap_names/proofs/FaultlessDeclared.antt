@@ -191,10 +191,7 @@ atoms_in-agree seen most i n h =
 
 after-ok : {A B : Type 0} (r : Result A NameFault) (f : A → Result B NameFault) (y : B) → after r f ≡ Ok y → (x : A) × (r ≡ Ok x) × (f x ≡ Ok y)
 after-ok (Ok x) f y h = (x, refl, h)
-after-ok (Err e) f y h = absurd (wrong h)
-  where
-    wrong : Err e ≡ Ok y → ⊥
-    wrong k = cc
+after-ok (Err e) f y h = absurd (let no' : Err e ≡ Ok y = h in cc)
 
 -- **A tree of a text that is read without a fault is of that program.**
 pub IsProgramOf-resolved : (text : List ℕ) (s : SourceTree) → SourceWritten text s → (p : Program) → resolved text s ≡ Ok (core_program p) → IsProgramOf text s p

@@ -31,10 +31,7 @@ from_1_to_8 seen s = (omega arith, omega arith)
 
 pub greatest-bounds : (seen : Arities) (i n : ℕ) → slice_get seen i ≡ Some (Some n) → n ≤ greatest seen
 greatest-bounds [] i n h = cc
-greatest-bounds (None ∷ seen) zero n h = absurd (wrong h)
-  where
-    wrong : Some None ≡ Some (Some n) → ⊥
-    wrong e = cc
+greatest-bounds (None ∷ seen) zero n h = absurd (let no' : Some None ≡ Some (Some n) = h in cc)
 greatest-bounds (None ∷ seen) (suc i) n h = greatest-bounds seen i n h
 greatest-bounds (Some m ∷ seen) zero n h =
     let same : m ≡ n = cc h in

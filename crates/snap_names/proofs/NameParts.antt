@@ -2,7 +2,7 @@
 use Rattle.std.proofs.Common.{◌≡◌, ℕ, Bool, true, false, not, ◌&&◌, ◌||◌, ◌==◌, List, [], ◌∷◌, ◌++◌, codes, refl, sym, subst, ap, bytes_eq}
 use Rattle.std.specs.List.{AllByRecursion, list_any}
 use Rattle.std.proofs.lemmas.Slice.Eq.{bytes_eq-Decides}
-use Rattle.std.proofs.lemmas.Bool.{or_right, and_from, and_parts}
+use Rattle.std.proofs.lemmas.Bool.{or_right, or_from, and_from, and_parts, false_from_ne_true, false≢true}
 use Rattle.snap_core.specs.Names.{is_letter, is_plain, is_joint, begins_plain, goes_on, is_word, keywords, is_keyword, IsName}
 use Rattle.snap_names.specs.Declarations.{field_names}
 
@@ -23,13 +23,7 @@ has_dot-behind (b ∷ w) more h = or_right (b == 46) _ (has_dot-behind w more h)
 -- A word with a dot is none of the words that have no dot.
 dotted : (w : List ℕ) → has_dot w ≡ true → (ks : List (List ℕ)) → NoDots ks → list_any (bytes_eq w) ks ≡ false
 dotted w h [] k = refl
-dotted w h (x ∷ ks) k = rw (apart (bytes_eq w x) refl) (dotted w h ks k.1)
-  where
-    apart : (b : Bool) → bytes_eq w x ≡ b → bytes_eq w x ≡ false
-    apart true e =
-        let wrong : has_dot w ≡ false = subst (λ v. has_dot v ≡ false) (sym ((bytes_eq-Decides w x).0 e)) k.0 in
-        cc
-    apart false e = e
+dotted w h (x ∷ ks) k = or_from _ _ (false_from_ne_true (bytes_eq w x) (λ e. false≢true (sym k.0 ∙ ap has_dot (sym ((bytes_eq-Decides w x).0 e)) ∙ h))) (dotted w h ks k.1)
 
 no_keyword : (w : List ℕ) → has_dot w ≡ true → is_keyword w ≡ false
 no_keyword w h = dotted w h keywords (refl, (refl, (refl, (refl, (refl, (refl, (refl, (refl, (refl, (refl, (refl, (refl, tt))))))))))))

@@ -1,11 +1,32 @@
 -- What a lone name reads as.
-use Rattle.std.proofs.Common.{◌≡◌, ℕ, ◌+◌, List, Some, None, Result, Ok, Err, ap, sym, ◌∙◌, slice_get, arith, IfOk, IfErr, OnOk}
+use Rattle.std.proofs.Common.{◌≡◌, ℕ, zero, suc, ◌+◌, List, [], ◌∷◌, Some, None, Result, Ok, Err, refl, ap, sym, subst, ◌∙◌, slice_get, arith, IfOk, IfErr, OnOk}
 use Rattle.snap_names.specs.Senses.{Span, Policy, NameFault, Kind, NoMemory, after, or_fault, sense_of}
-use Rattle.snap_names.specs.Parts.{Part, Body, Tally, Scope, IsPart, IsBody, AreBodies, Reads, words_of, env_in}
+use Rattle.snap_names.specs.Parts.{Part, Body, Tally, Scope, IsPart, IsBody, AreBodies, no_bodies, more_bodies, Reads, words_of, env_in}
 use Rattle.snap_names.specs.Core.{CorePolicy, nodes}
 use Rattle.snap_names.specs.Declarations.{capped}
 use Rattle.snap_names.specs.Reading.{named, body_of, is_filter_or_fault}
-use Rattle.snap_names.proofs.Operands.{body_at, no_body_at}
+
+-- the body of a number
+record IsBodyAt (ps : List CorePolicy) (i : ℕ) (b : Body) : Type 0 where
+  policy : CorePolicy
+  at : slice_get ps i ≡ Some policy
+  stands : IsBody b policy
+
+body_at : (bs : List Body) (ps : List CorePolicy) → AreBodies bs ps → (i : ℕ) (b : Body) → slice_get bs i ≡ Some b → IsBodyAt ps i b
+body_at [] [] no_bodies i b e = absurd (let no : None ≡ Some b = e in cc)
+body_at [] (p ∷ ps) h i b e = elim h [ ]
+body_at (x ∷ bs) [] h i b e = elim h [ ]
+body_at (x ∷ bs) (p ∷ ps) (more_bodies h hs) zero b e =
+    record { policy = p; at = refl; stands = (let same : x ≡ b = cc in subst (λ y. IsBody y p) same h) }
+body_at (x ∷ bs) (p ∷ ps) (more_bodies h hs) (suc i) b e =
+    let at = body_at bs ps hs i b e in record { policy = at.policy; at = at.at; stands = at.stands }
+
+no_body_at : (bs : List Body) (ps : List CorePolicy) → AreBodies bs ps → (i : ℕ) → slice_get bs i ≡ None → slice_get ps i ≡ None
+no_body_at [] [] no_bodies i e = refl
+no_body_at [] (p ∷ ps) h i e = elim h [ ]
+no_body_at (x ∷ bs) [] h i e = elim h [ ]
+no_body_at (x ∷ bs) (p ∷ ps) (more_bodies h hs) zero e = cc
+no_body_at (x ∷ bs) (p ∷ ps) (more_bodies h hs) (suc i) e = no_body_at bs ps hs i e
 
 -- a `let`
 pub Reads-named : (s : Scope) (name : Span) (old new : Tally) (result : Result Part NameFault) (i : ℕ) (b : Body) →
@@ -18,7 +39,7 @@ Reads-named s name old new (Ok part) i b found at part_is counted arities none =
     let env = env_in s lets in
     let n = body.stands.nodes in
     record {
-      policy = body.policy;
+      value = body.policy;
       reading = ap (λ r. after (after r (body_of env name.from)) (λ p. Ok (p, old.arities.items))) found
           ∙ ap (λ o. after (or_fault (Kind name.from) o) (λ p. Ok (p, old.arities.items))) body.at
           ∙ ap (λ a. Ok (body.policy, a)) (sym arities);

@@ -1,127 +1,53 @@
--- Predicates of repeated parts, and the bodies of `let`.
-use Rattle.std.proofs.Common.{◌≡◌, ℕ, true, false, List, [], ◌∷◌, Some, None, refl, ap, sym, slice_get, zero, suc, subst, ◌≢◌, length, map, get_or, arith}
+-- Parts of trees with operands that stand one behind another.
+use Rattle.std.proofs.Common.{◌≡◌, ◌≢◌, List, [], ◌∷◌, ◌++◌, length, get_or, map, refl, ap, sym, ◌∙◌, subst, arith}
 use Rattle.snap_parse.specs.declared.tree.Sequence.{Sequence}
 use Rattle.snap_parse.specs.declared.tree.Choice.{Choice}
 use Rattle.snap_parse.specs.declared.tree.Both.{Both}
 use Rattle.snap_parse.specs.declared.tree.Single.{Single}
-use Rattle.snap_parse.specs.Tree.{BothTree, both_begin, both_more, both_append, EitherTree, either_begin, either_more, either_append, SingleTree, SequenceTree, sequence_begin, sequence_more, sequence_append, ChoiceTree, PolicyTree, policy_begin, policy_more, policy_append, single_tree, both_tree, choice_tree, sequence_tree, both_at, either_at}
-use Rattle.snap_names.specs.Parts.{Body, IsBody, AreBodies, no_bodies, more_bodies}
-use Rattle.snap_names.specs.Senses.{Kind, Words}
-use Rattle.snap_names.specs.Core.{CorePolicy}
-use Rattle.snap_names.specs.Reading.{Env, is_predicate, both_is_predicate, either_is_predicate, choice_is_predicate, sequence_is_predicate, policy_is_predicate, single_fault, both_fault, either_fault}
+use Rattle.snap_parse.specs.Tree.{PolicyTree, policy_begin, policy_more, policy_append, SequenceTree, sequence_begin, sequence_more, sequence_append, ChoiceTree, EitherTree, either_begin, either_more, either_append, BothTree, both_begin, both_more, both_append, SingleTree, sequence_tree, choice_tree, both_tree, single_tree}
 
-pub both_is_predicate-many : (e : Env) (b : BothTree) (s t : SingleTree) (xs : List SingleTree) → both_is_predicate e (both_append (both_more (both_more b s) t) xs) ≡ true
-both_is_predicate-many e b s t [] = refl
-both_is_predicate-many e b s t (x ∷ xs) = both_is_predicate-many e (both_more b s) t x xs
+-- the tree of an operand; a part without operands, with one more, and with more; and what these come to
+pub record Repeats (P X T : Type 0) : Type 0 where
+  pub tree : P → X
+  pub none : T
+  pub behind : T → X → T
+  pub append : T → List X → T
+  pub append_none : (t : T) → append t [] ≡ t
+  pub append_one : (t : T) (x : X) (xs : List X) → append t (x ∷ xs) ≡ append (behind t x) xs
 
-pub either_is_predicate-many : (e : Env) (d : EitherTree) (b c : BothTree) (xs : List BothTree) → either_is_predicate e (either_append (either_more (either_more d b) c) xs) ≡ true
-either_is_predicate-many e d b c [] = refl
-either_is_predicate-many e d b c (x ∷ xs) = either_is_predicate-many e (either_more d b) c x xs
+abbrev pub policies : ℕ → Repeats Sequence SequenceTree PolicyTree
+policies at = record { tree = sequence_tree; none = policy_begin at; behind = policy_more; append = policy_append; append_none = λ t. refl; append_one = λ t x xs. refl }
 
-pub sequence_is_predicate-many : (e : Env) (q : SequenceTree) (c d : ChoiceTree) (xs : List ChoiceTree) → sequence_is_predicate e (sequence_append (sequence_more (sequence_more q c) d) xs) ≡ false
-sequence_is_predicate-many e q c d [] = refl
-sequence_is_predicate-many e q c d (x ∷ xs) = sequence_is_predicate-many e (sequence_more q c) d x xs
+abbrev pub sequences : ℕ → Repeats Choice ChoiceTree SequenceTree
+sequences at = record { tree = choice_tree; none = sequence_begin at; behind = sequence_more; append = sequence_append; append_none = λ t. refl; append_one = λ t x xs. refl }
 
-pub policy_is_predicate-many : (e : Env) (p : PolicyTree) (s t : SequenceTree) (xs : List SequenceTree) → policy_is_predicate e (policy_append (policy_more (policy_more p s) t) xs) ≡ false
-policy_is_predicate-many e p s t [] = refl
-policy_is_predicate-many e p s t (x ∷ xs) = policy_is_predicate-many e (policy_more p s) t x xs
+abbrev pub eithers : ℕ → Repeats Both BothTree EitherTree
+eithers at = record { tree = both_tree; none = either_begin at; behind = either_more; append = either_append; append_none = λ t. refl; append_one = λ t x xs. refl }
 
--- the body of a number
-pub record IsBodyAt (ps : List CorePolicy) (i : ℕ) (b : Body) : Type 0 where
-  pub policy : CorePolicy
-  pub at : slice_get ps i ≡ Some policy
-  pub stands : IsBody b policy
+abbrev pub boths : ℕ → Repeats Single SingleTree BothTree
+boths at = record { tree = single_tree; none = both_begin at; behind = both_more; append = both_append; append_none = λ t. refl; append_one = λ t x xs. refl }
 
-pub body_at : (bs : List Body) (ps : List CorePolicy) → AreBodies bs ps → (i : ℕ) (b : Body) → slice_get bs i ≡ Some b → IsBodyAt ps i b
-body_at [] [] no_bodies i b e = absurd (let no : None ≡ Some b = e in cc)
-body_at [] (p ∷ ps) h i b e = elim h [ ]
-body_at (x ∷ bs) [] h i b e = elim h [ ]
-body_at (x ∷ bs) (p ∷ ps) (more_bodies h hs) zero b e =
-    record { policy = p; at = refl; stands = (let same : x ≡ b = cc in subst (λ y. IsBody y p) same h) }
-body_at (x ∷ bs) (p ∷ ps) (more_bodies h hs) (suc i) b e =
-    let at = body_at bs ps hs i b e in record { policy = at.policy; at = at.at; stands = at.stands }
+module _ {P X T : Type 0} (r : Repeats P X T) where
+  -- the tree of these operands
+  abbrev pub of : List P → T
+  of xs = r.append r.none (map r.tree xs)
 
-pub no_body_at : (bs : List Body) (ps : List CorePolicy) → AreBodies bs ps → (i : ℕ) → slice_get bs i ≡ None → slice_get ps i ≡ None
-no_body_at [] [] no_bodies i e = refl
-no_body_at [] (p ∷ ps) h i e = elim h [ ]
-no_body_at (x ∷ bs) [] h i e = elim h [ ]
-no_body_at (x ∷ bs) (p ∷ ps) (more_bodies h hs) zero e = cc
-no_body_at (x ∷ bs) (p ∷ ps) (more_bodies h hs) (suc i) e = no_body_at bs ps hs i e
+  -- what holds of one operand alone, and of none
+  pub alone : {A : Type 0} (f : T → A) (one : X → A) → ((x : X) → f (r.behind r.none x) ≡ one x) → (xs : List P) (x : P) → length xs ≡ 1 → x ≡ get_or xs 0 x → f (of xs) ≡ one (r.tree x)
+  alone f one is (y ∷ []) x h same = ap f (r.append_one r.none (r.tree y) [] ∙ r.append_none _) ∙ is (r.tree y) ∙ ap (λ z. one (r.tree z)) (sym same)
+  alone f one is _ x h same = absurd (omega arith)
 
--- A repeated part is a predicate by the number of its operands.
-pub both_none : (e : Env) (at : ℕ) (xs : List Single) → length xs ≡ 0 → both_is_predicate e (both_append (both_begin at) (map single_tree xs)) ≡ false
-both_none e at [] h = refl
-both_none e at (x ∷ xs) h = absurd (omega arith)
+  pub empty : {A : Type 0} (f : T → A) (xs : List P) → length xs ≡ 0 → f (of xs) ≡ f r.none
+  empty f [] h = ap f (r.append_none r.none)
+  empty f (x ∷ xs) h = absurd (omega arith)
 
-pub both_one : (e : Env) (at : ℕ) (xs : List Single) (x : Single) → length xs ≡ 1 → x ≡ get_or xs 0 x →
-    both_is_predicate e (both_append (both_begin at) (map single_tree xs)) ≡ is_predicate e (single_tree x)
-both_one e at (y ∷ []) x h is = ap (λ z. is_predicate e (single_tree z)) (sym is)
-both_one e at _ x h is = absurd (omega arith)
+  -- what holds of two operands and stays as one more comes
+  module _ (Q : T → Type 0) (next : (t : T) (x y z : X) → Q (r.behind (r.behind t x) y) → Q (r.behind (r.behind (r.behind t x) y) z)) where
+    many : (t : T) (x y : X) (xs : List X) → Q (r.behind (r.behind t x) y) → Q (r.append (r.behind (r.behind t x) y) xs)
+    many t x y [] h = subst Q (sym (r.append_none _)) h
+    many t x y (z ∷ xs) h = subst Q (sym (r.append_one _ z xs)) (many (r.behind t x) y z xs (next t x y z h))
 
-pub both_many : (e : Env) (at : ℕ) (xs : List Single) → length xs ≢ 0 → length xs ≢ 1 → both_is_predicate e (both_append (both_begin at) (map single_tree xs)) ≡ true
-both_many e at [] h k = absurd (h refl)
-both_many e at (x ∷ []) h k = absurd (k refl)
-both_many e at (x ∷ y ∷ xs) h k = both_is_predicate-many e (both_begin at) (single_tree x) (single_tree y) (map single_tree xs)
-
-pub either_none : (e : Env) (at : ℕ) (xs : List Both) → length xs ≡ 0 → either_is_predicate e (either_append (either_begin at) (map both_tree xs)) ≡ false
-either_none e at [] h = refl
-either_none e at (x ∷ xs) h = absurd (omega arith)
-
-pub either_one : (e : Env) (at : ℕ) (xs : List Both) (x : Both) → length xs ≡ 1 → x ≡ get_or xs 0 x →
-    either_is_predicate e (either_append (either_begin at) (map both_tree xs)) ≡ both_is_predicate e (both_tree x)
-either_one e at (y ∷ []) x h is = ap (λ z. both_is_predicate e (both_tree z)) (sym is)
-either_one e at _ x h is = absurd (omega arith)
-
-pub either_many : (e : Env) (at : ℕ) (xs : List Both) → length xs ≢ 0 → length xs ≢ 1 → either_is_predicate e (either_append (either_begin at) (map both_tree xs)) ≡ true
-either_many e at [] h k = absurd (h refl)
-either_many e at (x ∷ []) h k = absurd (k refl)
-either_many e at (x ∷ y ∷ xs) h k = either_is_predicate-many e (either_begin at) (both_tree x) (both_tree y) (map both_tree xs)
-
-pub sequence_one : (e : Env) (at : ℕ) (xs : List Choice) (x : Choice) → length xs ≡ 1 → x ≡ get_or xs 0 x →
-    sequence_is_predicate e (sequence_append (sequence_begin at) (map choice_tree xs)) ≡ choice_is_predicate e (choice_tree x)
-sequence_one e at (y ∷ []) x h is = ap (λ z. choice_is_predicate e (choice_tree z)) (sym is)
-sequence_one e at _ x h is = absurd (omega arith)
-
-pub sequence_other : (e : Env) (at : ℕ) (xs : List Choice) → length xs ≢ 1 → sequence_is_predicate e (sequence_append (sequence_begin at) (map choice_tree xs)) ≡ false
-sequence_other e at [] k = refl
-sequence_other e at (x ∷ []) k = absurd (k refl)
-sequence_other e at (x ∷ y ∷ xs) k = sequence_is_predicate-many e (sequence_begin at) (choice_tree x) (choice_tree y) (map choice_tree xs)
-
-pub policy_one : (e : Env) (at : ℕ) (xs : List Sequence) (x : Sequence) → length xs ≡ 1 → x ≡ get_or xs 0 x →
-    policy_is_predicate e (policy_append (policy_begin at) (map sequence_tree xs)) ≡ sequence_is_predicate e (sequence_tree x)
-policy_one e at (y ∷ []) x h is = ap (λ z. sequence_is_predicate e (sequence_tree z)) (sym is)
-policy_one e at _ x h is = absurd (omega arith)
-
-pub policy_other : (e : Env) (at : ℕ) (xs : List Sequence) → length xs ≢ 1 → policy_is_predicate e (policy_append (policy_begin at) (map sequence_tree xs)) ≡ false
-policy_other e at [] k = refl
-policy_other e at (x ∷ []) k = absurd (k refl)
-policy_other e at (x ∷ y ∷ xs) k = policy_is_predicate-many e (policy_begin at) (sequence_tree x) (sequence_tree y) (map sequence_tree xs)
-
--- the fault at the first token, by the number of operands
-pub both_fault_one : (w : Words) (at : ℕ) (xs : List Single) (x : Single) → length xs ≡ 1 → x ≡ get_or xs 0 x →
-    both_fault w (both_append (both_begin at) (map single_tree xs)) ≡ single_fault w (single_tree x)
-both_fault_one w at (y ∷ []) x h is = ap (λ z. single_fault w (single_tree z)) (sym is)
-both_fault_one w at _ x h is = absurd (omega arith)
-
-both_fault-many : (w : Words) (b : BothTree) (s t : SingleTree) (xs : List SingleTree) → both_fault w (both_append (both_more (both_more b s) t) xs) ≡ Kind (both_at b)
-both_fault-many w b s t [] = refl
-both_fault-many w b s t (x ∷ xs) = both_fault-many w (both_more b s) t x xs
-
-pub both_fault_other : (w : Words) (at : ℕ) (xs : List Single) → length xs ≢ 1 → both_fault w (both_append (both_begin at) (map single_tree xs)) ≡ Kind at
-both_fault_other w at [] k = refl
-both_fault_other w at (x ∷ []) k = absurd (k refl)
-both_fault_other w at (x ∷ y ∷ xs) k = both_fault-many w (both_begin at) (single_tree x) (single_tree y) (map single_tree xs)
-
-pub either_fault_one : (w : Words) (at : ℕ) (xs : List Both) (x : Both) → length xs ≡ 1 → x ≡ get_or xs 0 x →
-    either_fault w (either_append (either_begin at) (map both_tree xs)) ≡ both_fault w (both_tree x)
-either_fault_one w at (y ∷ []) x h is = ap (λ z. both_fault w (both_tree z)) (sym is)
-either_fault_one w at _ x h is = absurd (omega arith)
-
-either_fault-many : (w : Words) (d : EitherTree) (b c : BothTree) (xs : List BothTree) → either_fault w (either_append (either_more (either_more d b) c) xs) ≡ Kind (either_at d)
-either_fault-many w d b c [] = refl
-either_fault-many w d b c (x ∷ xs) = either_fault-many w (either_more d b) c x xs
-
-pub either_fault_other : (w : Words) (at : ℕ) (xs : List Both) → length xs ≢ 1 → either_fault w (either_append (either_begin at) (map both_tree xs)) ≡ Kind at
-either_fault_other w at [] k = refl
-either_fault_other w at (x ∷ []) k = absurd (k refl)
-either_fault_other w at (x ∷ y ∷ xs) k = either_fault-many w (either_begin at) (both_tree x) (both_tree y) (map both_tree xs)
+    pub several : ((x y : X) → Q (r.behind (r.behind r.none x) y)) → (xs : List P) → (length xs ≡ 0 → Q r.none) → length xs ≢ 1 → Q (of xs)
+    several two [] none k = subst Q (sym (r.append_none r.none)) (none refl)
+    several two (x ∷ []) none k = absurd (k refl)
+    several two (x ∷ y ∷ xs) none k = subst Q (sym (r.append_one r.none (r.tree x) _ ∙ r.append_one _ (r.tree y) (map r.tree xs))) (many r.none (r.tree x) (r.tree y) (map r.tree xs) (two (r.tree x) (r.tree y)))

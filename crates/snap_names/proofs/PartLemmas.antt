@@ -7,8 +7,8 @@ use Rattle.snap_names.specs.Declarations.{capped}
 pub IsPart-later : (p : CorePolicy) (all later n : ℕ) (part : Part) → capped later ≡ capped (all + n) → IsPart p all part → IsPart p later part
 IsPart-later p all later n part e h = record { is_test = h.is_test; weight = h.weight; built = λ small. h.built (omega arith) }
 
-pub IsPartOf-later : (p : Option CorePolicy) (all later n : ℕ) (part : Option Part) → capped later ≡ capped (all + n) → IsPartOf p all part → IsPartOf p later part
-IsPartOf-later None all later n (Some part) e h = h
-IsPartOf-later (Some p) all later n (Some part) e h = IsPart-later p all later n part e h
-IsPartOf-later None all later n None e h = h
-IsPartOf-later (Some p) all later n None e h = h
+pub IsPartOf-later : {A : Type 0} (form : A → CorePolicy) (x : Option A) (all later n : ℕ) (part : Option Part) → capped later ≡ capped (all + n) → IsPartOf form x all part → IsPartOf form x later part
+IsPartOf-later form (Some x) all later n (Some part) e h = IsPart-later (form x) all later n part e h
+IsPartOf-later form None all later n (Some part) e h = h
+IsPartOf-later form None all later n None e h = h
+IsPartOf-later form (Some x) all later n None e h = h

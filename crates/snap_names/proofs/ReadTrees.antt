@@ -1,16 +1,19 @@
 -- What each part of a tree reads as fits, where what is known does. Where the tree is as those of texts, arrays are few and arities agree, it is as `TreeReadings` says.
 use Rattle.std.proofs.Common.{◌≡◌, ℕ, ◌-◌, ◌%◌, ◌^◌, ◌<◌, ◌≤◌, min, Bool, true, false, List, [], ◌∷◌, length, slice_get, Option, None, Some, Result, Ok, Err, IfOk, IfSome, refl, sym, ap, ◌∙◌, subst, arith, le_refl, le_trans, lt_of_lt_of_le, bytes_eq}
 use Rattle.std.proofs.lemmas.Result.{IfOk-weaker}
-use Rattle.std.specs.List.{AllByRecursion}
+use Rattle.std.specs.List.{All}
+use Rattle.std.proofs.lemmas.List.Elements.{All-weaker}
+use Rattle.std.proofs.lemmas.Map.Entries.{All-lookup}
 use Rattle.snap_core.specs.Fits.{AtomFits, OpFits, IndexFits}
 use Rattle.snap_parse.specs.Tree.{PolicyTree, policy_begin, policy_more, SequenceTree, sequence_begin, sequence_more, ChoiceTree, if_tree, plain_tree, EitherTree, either_begin, either_more, BothTree, both_begin, both_more, SingleTree, not_tree, id_tree, drop_tree, group_tree, atomic_tree, name_tree, test_tree, set_tree, bare_tree, array_test_tree, array_set_tree, up_tree, down_tree, array_add_tree, array_sub_tree}
 use Rattle.snap_names.specs.Core.{Atom, Num, Op, Put, Add, CoreTest, not_test, and_test, or_test, state_test, CorePolicy, filter, set, change, par, seq, choice, atomic}
 use Rattle.snap_names.specs.Senses.{Span, Value, Sense, Plain, Split, Array, Constant, Policy, NameFault, Kind, Arities, Place, after, or_fault, word, sense_of, constant, array_atom, field_equals, field_gets, array_of_sense, arity_seen, atoms_behind, width, place_of, place}
-use Rattle.snap_names.specs.Reading.{Env, body_of, named, is_predicate, both_is_predicate, either_is_predicate, single_fault, both_fault, either_fault, Reading, TestReading, as_test, operand, more, whole, whole_test, changed, tested, read_sequences, read_choices, read_choice, read_either, read_boths, read_both, read_singles, read_single, read_policy}
+use Rattle.snap_names.specs.Reading.{Env, body_of, named, is_predicate, both_is_predicate, either_is_predicate, single_fault, both_fault, either_fault, Reading, TestReading, as_test, operand, more, whole, whole_as, changed, tested, read_sequences, read_choices, read_choice, read_either, read_boths, read_both, read_singles, read_single, read_policy}
+use Rattle.snap_names.specs.Parts.{itself}
 use Rattle.snap_names.specs.Spells.{Scope}
 use Rattle.snap_names.proofs.BoundedCore.{TestFits, PolicyFits, PolicyFits-more, Grows, Grows-same, Grows-then}
 use Rattle.snap_names.proofs.BoundedSenses.{SenseFits, NamesFit, PlaceFits, array_atom-fits, field_equals-fits, field_gets-fits, atoms_behind-fits, index-length, width-some, IsSeen, arity_seen-gives}
-use Rattle.snap_names.proofs.BoundedSteps.{AllByRecursion-weaker, AllByRecursion-slice_get, AllByRecursion-lookup, IfOk-or_fault, IfOk-after, IfOk-both}
+use Rattle.snap_names.proofs.BoundedSteps.{All-slice_get, IfOk-or_fault, IfOk-after, IfOk-both}
 use Rattle.snap_names.proofs.Faultless.{words, env, or_fault-is, sense_of-means, constant-atoms, array_atom-atoms, Behind, atoms_behind-atoms, field_equals-is, field_gets-is, array_of_sense-is}
 use Rattle.snap_names.proofs.Placed.{HasSequence, HasChoice, HasBoth, HasSingle, PolicyPlaced, SequencePlaced, ChoicePlaced, EitherPlaced, BothPlaced, SinglePlaced}
 use Rattle.snap_names.proofs.TreeReadings.{Means, HasAtoms, HaveAtoms, IsPlace, Changes, IsPolicy, sequence, plus, IsSequence, choose, semicolon, IsChoice, if_then, no_choice, IsEither, both, or, IsBoth, single, and, IsSingle, negation, identity, drop, group, undivided, body, is_one, test_array, put, up, down, add, sub}
@@ -23,18 +26,18 @@ pub Agrees-before : (atoms : ℕ → ℕ) (a b : Arities) → Grows a b → Agre
 Agrees-before atoms a b g k i n h = k i n (g.kept i n h)
 
 pub array-below : (c v : ℕ) (e : Scope) (t : Span) (i : ℕ) → NamesFit c v e.names → Means e t (Array i) → i < v
-array-below c v e t i h m = subst (λ o. IfSome o (SenseFits c v)) m (AllByRecursion-lookup (SenseFits c v) (bytes_eq (word e.text t)) e.names h)
+array-below c v e t i h m = subst (λ o. IfSome o (SenseFits c v)) m (All-lookup (SenseFits c v) (bytes_eq (word e.text t)) e.names h)
 
 -- What is known has no component beyond c and no array beyond v, and each array is indexed as was seen.
 pub record EnvFits (W : Type 0) (c v : ℕ) (e : Env) (seen : Arities) : Type 0 where
   pub names : NamesFit c v e.words.names
-  pub lets : AllByRecursion (PolicyFits W c v seen) e.lets
+  pub lets : All (PolicyFits W c v seen) e.lets
   pub room : v ≤ length seen
 
 EnvFits-grows : (W : Type 0) (c v : ℕ) (e : Env) (before behind : Arities) → EnvFits W c v e before → Grows before behind → EnvFits W c v e behind
 EnvFits-grows W c v e before behind h g = record {
   names = h.names;
-  lets = AllByRecursion-weaker (PolicyFits W c v before) (PolicyFits W c v behind) (PolicyFits-more W c c v v before behind (le_refl c) (le_refl v) g) e.lets h.lets;
+  lets = All-weaker (PolicyFits W c v before) (PolicyFits W c v behind) (PolicyFits-more W c c v v before behind (le_refl c) (le_refl v) g) e.lets h.lets;
   room = le_trans h.room g.size;
 }
 
@@ -84,17 +87,10 @@ more-reads {A = A} P Q R f before r read stays join h hr = Reads-after (Has P) (
     by_operand None seen g p = absurd p
     by_operand (Some x) seen g p = Reads-after Q (Has R) seen (read seen) (λ y. Ok (Some (f x y.0), y.1)) (hr seen g) (λ y late k q. (Grows-same late, join late x y (stays seen late k x p) q))
 
-whole-reads : (P : Arities → CorePolicy → Type 0) (before : Arities) (r : Result (Option CorePolicy × Arities) NameFault) → Reads before (Has P) r → Reads before P (after r whole)
-whole-reads P before r h = Reads-after (Has P) P before r whole h by_operand
+whole-reads : {A : Type 0} (form : A → CorePolicy) (P : Arities → CorePolicy → Type 0) (before : Arities) (r : Result (Option A × Arities) NameFault) → Reads before (Has (λ seen x. P seen (form x))) r → Reads before P (after r (whole_as form))
+whole-reads {A} form P before r h = Reads-after (Has (λ seen x. P seen (form x))) P before r (whole_as form) h by_operand
   where
-    by_operand : (o : Option CorePolicy) (seen : Arities) → Grows before seen → Has P seen o → Reads seen P (whole (o, seen))
-    by_operand None seen g p = absurd p
-    by_operand (Some x) seen g p = (Grows-same seen, p)
-
-whole_test-reads : (P : Arities → CorePolicy → Type 0) (before : Arities) (r : Result (Option CoreTest × Arities) NameFault) → Reads before (Has (λ seen x. P seen (filter x))) r → Reads before P (after r whole_test)
-whole_test-reads P before r h = Reads-after (Has (λ seen x. P seen (filter x))) P before r whole_test h by_operand
-  where
-    by_operand : (o : Option CoreTest) (seen : Arities) → Grows before seen → Has (λ late x. P late (filter x)) seen o → Reads seen P (whole_test (o, seen))
+    by_operand : (o : Option A) (seen : Arities) → Grows before seen → Has (λ late x. P late (form x)) seen o → Reads seen P (whole_as form (o, seen))
     by_operand None seen g p = absurd p
     by_operand (Some x) seen g p = (Grows-same seen, p)
 
@@ -134,7 +130,7 @@ module _ (W : Type 0) (c v : ℕ) (e : Scope) where
   body_of-reads : (t : Span) (seen : Arities) → EnvFits W c v (env e) seen → (s : Sense) → Means e t s → IfOk (body_of (env e) t.from s) (λ p. PolicyFits W c v seen p × IsSingle e (name_tree t) p)
   body_of-reads t seen h (Policy i) m =
       IfOk-both (PolicyFits W c v seen) (IsSingle e (name_tree t)) (or_fault (Kind t.from) (slice_get e.lets i))
-      (IfOk-or_fault (PolicyFits W c v seen) (Kind t.from) (slice_get e.lets i) (AllByRecursion-slice_get (PolicyFits W c v seen) e.lets i h.lets))
+      (IfOk-or_fault (PolicyFits W c v seen) (Kind t.from) (slice_get e.lets i) (All-slice_get (PolicyFits W c v seen) e.lets i h.lets))
       (IfOk-weaker (or_fault (Kind t.from) (slice_get e.lets i)) (λ p. slice_get e.lets i ≡ Some p) (IsSingle e (name_tree t)) (λ p k. body m k) (or_fault-is (Kind t.from) (slice_get e.lets i)))
   body_of-reads t seen h _ m = tt
 
@@ -197,11 +193,11 @@ module _ (W : Type 0) (c v : ℕ) (e : Scope) where
 
   whole_policy : (t : PolicyTree) → (W → HasSequence t) → (before : Arities) → Reads before (PolicyHas t) (read_sequences (env e) t before) → Reads before (Is (IsPolicy e t)) (read_policy (env e) t before)
   whole_policy (policy_begin at) some before h = (Grows-same before, (tt, λ w few g. absurd (some w)))
-  whole_policy (policy_more p s) some before h = whole-reads (Is (IsPolicy e (policy_more p s))) before (read_sequences (env e) (policy_more p s) before) h
+  whole_policy (policy_more p s) some before h = whole-reads itself (Is (IsPolicy e (policy_more p s))) before (read_sequences (env e) (policy_more p s) before) h
 
   whole_sequence : (t : SequenceTree) → (W → HasChoice t) → (before : Arities) → Reads before (SequenceHas t) (read_choices (env e) t before) → Reads before (Is (IsSequence e t)) (after (read_choices (env e) t before) whole)
   whole_sequence (sequence_begin at) some before h = (Grows-same before, (tt, λ w few g. absurd (some w)))
-  whole_sequence (sequence_more s d) some before h = whole-reads (Is (IsSequence e (sequence_more s d))) before (read_choices (env e) (sequence_more s d) before) h
+  whole_sequence (sequence_more s d) some before h = whole-reads itself (Is (IsSequence e (sequence_more s d))) before (read_choices (env e) (sequence_more s d) before) h
 
   choice-reads : (at : ℕ) (t : EitherTree) (y : PolicyTree) (n : ChoiceTree) (before : Arities) (test : TestReading) (met unmet : Arities → Reading)
       → Reads before (IsTest (IsEither e t)) test → ((seen : Arities) → Grows before seen → Reads seen (Is (IsPolicy e y)) (met seen)) → ((seen : Arities) → Grows before seen → Reads seen (Is (IsChoice e n)) (unmet seen))
@@ -268,7 +264,7 @@ module _ (W : Type 0) (c v : ℕ) (e : Scope) where
     either-read (either_more (either_begin at) b) w some before h =
         Reads-weaker (Is (IsBoth e b)) (Is (IsEither e (either_more (either_begin at) b))) before (read_both (env e) b before) (λ seen p k. (k.0, λ q few g. both (k.1 q few g))) (both-read b (λ q. (w q).1.0) (λ q. (w q).1.1) before h)
     either-read (either_more (either_more d a) b) w some before h =
-        whole_test-reads (Is (IsEither e (either_more (either_more d a) b))) before _ (or-read (either_more d a) b before (read_boths (env e) (either_more d a) before) (boths-read (either_more d a) (λ q. (w q).0) before h)
+        whole-reads filter (Is (IsEither e (either_more (either_more d a) b))) before _ (or-read (either_more d a) b before (read_boths (env e) (either_more d a) before) (boths-read (either_more d a) (λ q. (w q).0) before h)
         (λ seen g. both-read b (λ q. (w q).1.0) (λ q. (w q).1.1) seen (later before seen h g)))
 
     boths-read : (t : EitherTree) → (W → EitherPlaced t) → (before : Arities) → EnvFits W c v (env e) before → Reads before (EitherHas t) (read_boths (env e) t before)
@@ -284,7 +280,7 @@ module _ (W : Type 0) (c v : ℕ) (e : Scope) where
     both-read (both_more (both_begin at) s) w some before h =
         Reads-weaker (Is (IsSingle e s)) (Is (IsBoth e (both_more (both_begin at) s))) before (read_single (env e) s before) (λ seen p k. (k.0, λ q few g. single (k.1 q few g))) (single-read s (λ q. (w q).1) before h)
     both-read (both_more (both_more b a) s) w some before h =
-        whole_test-reads (Is (IsBoth e (both_more (both_more b a) s))) before _ (and-read (both_more b a) s before (read_singles (env e) (both_more b a) before) (singles-read (both_more b a) (λ q. (w q).0) before h)
+        whole-reads filter (Is (IsBoth e (both_more (both_more b a) s))) before _ (and-read (both_more b a) s before (read_singles (env e) (both_more b a) before) (singles-read (both_more b a) (λ q. (w q).0) before h)
         (λ seen g. single-read s (λ q. (w q).1) seen (later before seen h g)))
 
     singles-read : (t : BothTree) → (W → BothPlaced t) → (before : Arities) → EnvFits W c v (env e) before → Reads before (BothHas t) (read_singles (env e) t before)

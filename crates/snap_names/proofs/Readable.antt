@@ -1,5 +1,6 @@
 -- A value that `TreeReadings` knows is read without a fault.
 use Rattle.std.proofs.Common.{◌≡◌, ℕ, true, ◌==◌, List, [], ◌∷◌, ◌++◌, length, Option, Some, Result, Ok, Err, if◌then◌else◌, refl, sym, ap, ◌∙◌, arith, append_assoc, length-append}
+use Rattle.std.proofs.lemmas.Bool.{eq-eqb}
 use Rattle.std.proofs.lemmas.List.{append-nil}
 use Rattle.snap_core.specs.Figures.{number_of, address_of}
 use Rattle.snap_names.specs.Core.{Atom, Num, Comp, field_test, set, seq, net, host, whole_test}
@@ -64,16 +65,13 @@ split_address-gives : (e : Scope) (v : Value) (x : ℕ) → IsAddress e v x → 
 split_address-gives e _ x (address {t = t} h) = ap (or_fault (Wide t.from)) h
 split_address-gives e _ x (constant_address {t = t} m) = after_sense-gives e t (Constant x true) (address_of_sense t.from) m
 
-pub eqb-same : (n : ℕ) → (n == n) ≡ true
-eqb-same n = grind arith
-
 whole_test-gives : (e : Scope) (v : Value) (a b n x : ℕ) → IsAddress e v x → split_test (words e) a b n v ≡ Ok (whole_test a b n x)
 whole_test-gives e _ a b n x (address {t = t} h) = after-gives (split_address (words e) (Value.Literal (Literal.Address t))) (λ x. Ok (whole_test a b n x)) x (split_address-gives e _ x (address h))
 whole_test-gives e _ a b n x (constant_address {t = t} m) = after-gives (split_address (words e) (Value.Name t)) (λ x. Ok (whole_test a b n x)) x (split_address-gives e _ x (constant_address m))
 
 net_if-gives : (e : Scope) (n : ℕ) (f : NameFault) (u : Span) (x : ℕ) (o : Option ℕ) → address_of (word e.text u) ≡ Some x → o ≡ Some n → net_if n f (address_at e.text u) o ≡ Ok (net n x)
 net_if-gives e n f u x o h k =
-    ap (net_if n f (address_at e.text u)) k ∙ ap (λ b. if b then after (address_at e.text u) (λ a. Ok (net n a)) else Err f) (eqb-same n)
+    ap (net_if n f (address_at e.text u)) k ∙ ap (λ b. if b then after (address_at e.text u) (λ a. Ok (net n a)) else Err f) (eq-eqb n n refl)
     ∙ after-gives (address_at e.text u) (λ a. Ok (net n a)) x (ap (or_fault (Wide u.from)) h)
 
 pub test-gives : (e : Scope) (t : Span) (v : Value) (c n : ℕ) → Means e t (Plain c) → HasAtoms e v (Num n ∷ []) → field_equals (words e) t v ≡ Ok (field_test c n)
@@ -103,4 +101,4 @@ pub gets_split-gives : (e : Scope) (t u : Span) (a b c d n : ℕ) → Means e t 
 gets_split-gives e t u a b c d n m k =
     after_sense-gives e t (Split a b n) (set_of_sense (words e) t.from (Value.Name u)) m
     ∙ after-gives (split_atoms (words e) n (Value.Name u)) (λ x. Ok (seq (set a x.0) (set b x.1))) (Comp c, Comp d)
-    (after_sense-gives e u (Split c d n) (split_of_sense n u.from) k ∙ ap (λ z. if z then Ok (Comp c, Comp d) else Err (Kind u.from)) (eqb-same n))
+    (after_sense-gives e u (Split c d n) (split_of_sense n u.from) k ∙ ap (λ z. if z then Ok (Comp c, Comp d) else Err (Kind u.from)) (eq-eqb n n refl))

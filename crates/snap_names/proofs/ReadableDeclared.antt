@@ -1,6 +1,6 @@
 -- A tree of a program that `TreeReadings` knows is read without a fault.
 use Rattle.std.proofs.Common.{◌≡◌, ℕ, zero, suc, ◌+◌, ◌≤◌, Bool, true, false, List, [], ◌∷◌, ◌++◌, length, slice_get, Option, None, Some, is_some, Result, Ok, Err, IfOk, if◌then◌else◌, ◌&&◌, nat_le, refl, sym, ap, ◌∙◌, subst, arith, le_refl, le_trans, length-append}
-use Rattle.std.proofs.lemmas.Bool.{le-leb, le-ltb}
+use Rattle.std.proofs.lemmas.Bool.{le-leb, le-ltb, or_parts}
 use Rattle.std.specs.List.{list_any}
 use Rattle.snap_names.specs.Declarations.{Field, Program, Components, Arrays, Atoms, Nodes, Weight, Declared, ports, env_of, field_names, field_senses, prefix_length, with_field, with_array, with_constant, with_let, declare, declare_all, core_program, greatest, capped, within, limited, resolved}
 use Rattle.snap_core.specs.declared.program.Which.{Which}
@@ -25,14 +25,7 @@ unless-gives : {A : Type 0} (b : Bool) (f : NameFault) (r : Result A NameFault) 
 unless-gives b f r h = ap (λ a. if a then Err f else r) h
 
 one-unknown : (names : List (List ℕ × Sense)) (name : List ℕ) (s : Sense) → list_any {X = List ℕ × Sense} (λ x. is_known names x.0) ((name, s) ∷ []) ≡ false → is_known names name ≡ false
-one-unknown names name s h = by_test (is_known names name) refl
-  where
-    by_test : (b : Bool) → is_known names name ≡ b → is_known names name ≡ false
-    by_test false k = k
-    by_test true k = absurd (true_is_not (sym (ap (λ b. list_any (λ (y : Bool). y) (b ∷ [])) k) ∙ h))
-      where
-        true_is_not : true ≡ false → ⊥
-        true_is_not l = cc
+one-unknown names name s h = (or_parts (is_known names name) false h).0
 
 prefix_length-gives : (text : List ℕ) (l : Option Span) (n : Option ℕ) → IsLength text l n → prefix_length text l ≡ Ok n
 prefix_length-gives text _ _ plain = refl
@@ -82,10 +75,7 @@ one-given e _ _ _ (array {at = at} {t = t}) new few few_arrays seen fits agrees 
     }
   where
     kept : (xs : Arities) (i n : ℕ) → slice_get (xs ++ None ∷ []) i ≡ Some (Some n) → slice_get xs i ≡ Some (Some n)
-    kept [] zero n h = absurd (wrong h)
-      where
-        wrong : Some None ≡ Some (Some n) → ⊥
-        wrong k = cc
+    kept [] zero n h = absurd (let no' : Some None ≡ Some (Some n) = h in cc)
     kept [] (suc i) n h = h
     kept (x ∷ xs) zero n h = h
     kept (x ∷ xs) (suc i) n h = kept xs i n h

@@ -1,16 +1,17 @@
 -- A policy that `TreeReadings` knows is read without a fault, where arities so far agree.
 use Rattle.std.proofs.Common.{◌≡◌, ℕ, zero, suc, ◌-◌, ◌%◌, ◌^◌, ◌<◌, ◌≤◌, min, Bool, true, ◌==◌, List, [], ◌∷◌, slice_get, slice_set, Option, None, Some, Result, Ok, Err, if◌then◌else◌, refl, sym, ap, ◌∙◌, subst, arith, ◌⊎◌, inl, inr}
-use Rattle.std.proofs.lemmas.Bool.{false≢true}
+use Rattle.std.proofs.lemmas.Bool.{eq-eqb, false≢true}
 use Rattle.snap_names.specs.Core.{Atom, Num, Op, Put, Add, CoreTest, id_test, not_test, and_test, or_test, field_test, state_test, CorePolicy, filter, change, par, seq, choice, atomic, is_filter, net, whole_test}
 use Rattle.snap_parse.specs.Tree.{PolicyTree, SequenceTree, ChoiceTree, if_tree, EitherTree, either_begin, either_more, BothTree, both_begin, both_more, SingleTree}
 use Rattle.snap_names.specs.Senses.{Span, Value, Array, Policy, NameFault, Kind, Arity, Arities, Place, after, or_fault, sense_of, constant, array_atom, field_equals, field_gets, array_of_sense, arity_seen, atoms_behind, width, place_of, place}
-use Rattle.snap_names.specs.Reading.{body_of, named, is_filter_or_fault, is_predicate, both_is_predicate, either_is_predicate, choice_is_predicate, sequence_is_predicate, policy_is_predicate, single_fault, both_fault, either_fault, Reading, TestReading, as_test, operand, joined, more, whole, whole_test as a_whole_test, changed, tested, read_sequences, read_choices, read_choice, read_either, read_boths, read_both, read_singles, read_single, read_policy}
+use Rattle.snap_names.specs.Reading.{body_of, named, is_filter_or_fault, is_predicate, both_is_predicate, either_is_predicate, choice_is_predicate, sequence_is_predicate, policy_is_predicate, single_fault, both_fault, either_fault, Reading, TestReading, as_test, operand, joined, more, whole, whole_as, whole_test as a_whole_test, changed, tested, read_sequences, read_choices, read_choice, read_either, read_boths, read_both, read_singles, read_single, read_policy}
+use Rattle.snap_names.specs.Parts.{itself}
 use Rattle.snap_names.specs.Spells.{Scope}
 use Rattle.snap_names.proofs.BoundedSenses.{NamesFit}
 use Rattle.snap_names.proofs.Faultless.{words, env}
 use Rattle.snap_names.proofs.ReadTrees.{Agrees, array-below}
 use Rattle.snap_names.proofs.Placed.{HasBoth, HasSingle}
-use Rattle.snap_names.proofs.Readable.{after-gives, after_sense-gives, constant-gives, array_atom-gives, atoms_behind-gives, width-is, eqb-same, test-gives, test_split-gives, test_net-gives, gets-gives, gets_address-gives, gets_split-gives}
+use Rattle.snap_names.proofs.Readable.{after-gives, after_sense-gives, constant-gives, array_atom-gives, atoms_behind-gives, width-is, test-gives, test_split-gives, test_net-gives, gets-gives, gets_address-gives, gets_split-gives}
 use Rattle.snap_names.proofs.TreeReadings.{Means, IsPlace, Changes, IsPolicy, sequence, plus, IsSequence, choose, semicolon, IsChoice, if_then, no_choice, IsEither, both, or, IsBoth, single, and, IsSingle, negation, identity, drop, group, undivided, body, test, test_split, test_net, gets, gets_address, gets_split, is_one, test_array, put, up, down, add, sub}
 
 -- a reading gives this, and arities that agree
@@ -46,7 +47,7 @@ arity_seen-gives atoms before v n at same h None k = (before, refl, h)
 arity_seen-gives atoms before v n at same h (Some None) k = (slice_set before v (Some n), refl, Agrees-set atoms before v n same h)
 arity_seen-gives atoms before v n at same h (Some (Some m)) k =
     let m_is : m ≡ n = h v m k ∙ sym same in
-    (before, ap (λ j. if j == n then Ok before else Err (Arity at)) m_is ∙ ap (λ b. if b then Ok before else Err (Arity at)) (eqb-same n), h)
+    (before, ap (λ j. if j == n then Ok before else Err (Arity at)) m_is ∙ ap (λ b. if b then Ok before else Err (Arity at)) (eq-eqb n n refl), h)
 
 -- `name places`, and the arities behind it
 abbrev PlaceGives : Scope → Result Place NameFault → ℕ → List Atom → Type 0
@@ -93,11 +94,8 @@ more-gives atoms f r read x y h k =
     let g = k h.0 h.2 in
     (g.0, after-gives r (more f read) (Some x, h.0) h.1 ∙ after-gives (read h.0) (λ z. Ok (Some (joined f (Some x) z.0), z.1)) (y, g.0) g.1, g.2)
 
-whole-gives : (atoms : ℕ → ℕ) (r : Result (Option CorePolicy × Arities) NameFault) (p : CorePolicy) → Gives atoms r (Some p) → Gives atoms (after r whole) p
-whole-gives atoms r p h = (h.0, after-gives r whole (Some p, h.0) h.1, h.2)
-
-whole_test-gives : (atoms : ℕ → ℕ) (r : Result (Option CoreTest × Arities) NameFault) (x : CoreTest) → Gives atoms r (Some x) → Gives atoms (after r a_whole_test) (filter x)
-whole_test-gives atoms r x h = (h.0, after-gives r a_whole_test (Some x, h.0) h.1, h.2)
+whole-gives : {A : Type 0} (form : A → CorePolicy) (atoms : ℕ → ℕ) (r : Result (Option A × Arities) NameFault) (x : A) → Gives atoms r (Some x) → Gives atoms (after r (whole_as form)) (form x)
+whole-gives form atoms r x h = (h.0, after-gives r (whole_as form) (Some x, h.0) h.1, h.2)
 
 operand-gives : (atoms : ℕ → ℕ) (b : Bool) (f : NameFault) (r : Reading) (x : CoreTest) → b ≡ true → Gives atoms r (filter x) → Gives atoms (operand b f r) x
 operand-gives atoms b f r x k h = (h.0, ap (λ a. operand a f r) k ∙ after-gives r (as_test f) (filter x, h.0) h.1, h.2)
@@ -205,7 +203,7 @@ if-gives : (e : Scope) (at : ℕ) (t : EitherTree) (m : PolicyTree) (u : ChoiceT
 if-gives e at t m u x p q before is h k l =
     let test : TestReading = operand (either_is_predicate (env e) t) (either_fault (words e) t) (read_either (env e) t before) in
     let a : Gives e.atoms test x = operand-gives e.atoms (either_is_predicate (env e) t) (either_fault (words e) t) (read_either (env e) t before) x (either-is_predicate e t (filter x) is refl) h in
-    let b : Gives e.atoms (after (read_sequences (env e) m a.0) whole) p = whole-gives e.atoms (read_sequences (env e) m a.0) p (k a.0 a.2) in
+    let b : Gives e.atoms (after (read_sequences (env e) m a.0) whole) p = whole-gives itself e.atoms (read_sequences (env e) m a.0) p (k a.0 a.2) in
     let d = l b.0 b.2 in (
       d.0,
       after-gives test (λ y. after (after (read_sequences (env e) m y.1) whole) (λ p. after (read_choice (env e) u p.1) (λ q. Ok (choice y.0 p.0 q.0, q.1)))) (x, a.0) a.1
@@ -216,10 +214,10 @@ if-gives e at t m u x p q before is h k l =
 
 mutual
   sequences-gives : (c v : ℕ) (e : Scope) → Numbered c v e → (t : PolicyTree) (p : CorePolicy) → IsPolicy e t p → (before : Arities) → Agrees e.atoms before → Gives e.atoms (read_sequences (env e) t before) (Some p)
-  sequences-gives c v e w _ p (sequence {s = s} k) before h = first-gives e.atoms par (λ seen. after (read_choices (env e) s seen) whole) before p (whole-gives e.atoms (read_choices (env e) s before) p (choices-gives c v e w s p k before h))
+  sequences-gives c v e w _ p (sequence {s = s} k) before h = first-gives e.atoms par (λ seen. after (read_choices (env e) s seen) whole) before p (whole-gives itself e.atoms (read_choices (env e) s before) p (choices-gives c v e w s p k before h))
   sequences-gives c v e w _ _ (plus {t = t} {s = s} {p = p} {q = q} k l) before h =
       more-gives e.atoms par (read_sequences (env e) t before) (λ seen. after (read_choices (env e) s seen) whole) p q (sequences-gives c v e w t p k before h)
-      (λ seen agrees. whole-gives e.atoms (read_choices (env e) s seen) q (choices-gives c v e w s q l seen agrees))
+      (λ seen agrees. whole-gives itself e.atoms (read_choices (env e) s seen) q (choices-gives c v e w s q l seen agrees))
 
   choices-gives : (c v : ℕ) (e : Scope) → Numbered c v e → (t : SequenceTree) (p : CorePolicy) → IsSequence e t p → (before : Arities) → Agrees e.atoms before → Gives e.atoms (read_choices (env e) t before) (Some p)
   choices-gives c v e w _ p (choose {c = d} k) before h = first-gives e.atoms seq (read_choice (env e) d) before p (choice-gives c v e w d p k before h)
@@ -235,7 +233,7 @@ mutual
   either-gives c v e w _ p (both {b = b} k) before h = both-gives c v e w b p k before h
   either-gives c v e w _ _ (or {t = t} {b = b} {x = x} {y = y} k l) before h =
       Gives-by e.atoms (read_either (env e) (either_more t b) before) (after (read_boths (env e) (either_more t b) before) a_whole_test) (filter (or_test x y)) (several_either-reads e t b before (either-some e t (filter x) k))
-      (whole_test-gives e.atoms (read_boths (env e) (either_more t b) before) (or_test x y) (or-gives e t b x y before l (boths-gives c v e w t (filter x) k x refl before h) (λ seen agrees. both-gives c v e w b (filter y) l seen agrees)))
+      (whole-gives filter e.atoms (read_boths (env e) (either_more t b) before) (or_test x y) (or-gives e t b x y before l (boths-gives c v e w t (filter x) k x refl before h) (λ seen agrees. both-gives c v e w b (filter y) l seen agrees)))
 
   boths-gives : (c v : ℕ) (e : Scope) → Numbered c v e → (t : EitherTree) (p : CorePolicy) → IsEither e t p → (x : CoreTest) → p ≡ filter x → (before : Arities) → Agrees e.atoms before → Gives e.atoms (read_boths (env e) t before) (Some x)
   boths-gives c v e w _ p (both {b = b} k) x same before h =
@@ -249,7 +247,7 @@ mutual
   both-gives c v e w _ p (single {s = s} k) before h = single-gives c v e w s p k before h
   both-gives c v e w _ _ (and {t = t} {s = s} {x = x} {y = y} k l) before h =
       Gives-by e.atoms (read_both (env e) (both_more t s) before) (after (read_singles (env e) (both_more t s) before) a_whole_test) (filter (and_test x y)) (several_both-reads e t s before (both-some e t (filter x) k))
-      (whole_test-gives e.atoms (read_singles (env e) (both_more t s) before) (and_test x y) (and-gives e t s x y before l (singles-gives c v e w t (filter x) k x refl before h) (λ seen agrees. single-gives c v e w s (filter y) l seen agrees)))
+      (whole-gives filter e.atoms (read_singles (env e) (both_more t s) before) (and_test x y) (and-gives e t s x y before l (singles-gives c v e w t (filter x) k x refl before h) (λ seen agrees. single-gives c v e w s (filter y) l seen agrees)))
 
   singles-gives : (c v : ℕ) (e : Scope) → Numbered c v e → (t : BothTree) (p : CorePolicy) → IsBoth e t p → (x : CoreTest) → p ≡ filter x → (before : Arities) → Agrees e.atoms before → Gives e.atoms (read_singles (env e) t before) (Some x)
   singles-gives c v e w _ p (single {s = s} k) x same before h =
@@ -265,9 +263,9 @@ mutual
       (operand-gives e.atoms (is_predicate (env e) s) (single_fault (words e) s) (read_single (env e) s before) x (single-is_predicate e s (filter x) k refl) (single-gives c v e w s (filter x) k before h))
   single-gives c v e w _ _ identity before h = (before, refl, h)
   single-gives c v e w _ _ drop before h = (before, refl, h)
-  single-gives c v e w _ p (group {t = t} k) before h = whole-gives e.atoms (read_sequences (env e) t before) p (sequences-gives c v e w t p k before h)
+  single-gives c v e w _ p (group {t = t} k) before h = whole-gives itself e.atoms (read_sequences (env e) t before) p (sequences-gives c v e w t p k before h)
   single-gives c v e w _ _ (undivided {t = t} {p = p} k) before h =
-      then-gives e.atoms (after (read_sequences (env e) t before) whole) atomic p (whole-gives e.atoms (read_sequences (env e) t before) p (sequences-gives c v e w t p k before h))
+      then-gives e.atoms (after (read_sequences (env e) t before) whole) atomic p (whole-gives itself e.atoms (read_sequences (env e) t before) p (sequences-gives c v e w t p k before h))
   single-gives c v e w _ p (body {t = t} {i = i} m k) before h = plain-gives e.atoms before (named (env e) t) (λ q. q) p h (named-gives e t i p m k)
   single-gives c v e w _ _ (test {t = t} {v = y} {c = i} {n = n} m k) before h = plain-gives e.atoms before (field_equals (words e) t y) filter (field_test i n) h (test-gives e t y i n m k)
   single-gives c v e w _ _ (test_split {t = t} {v = y} {a = a} {b = b} {n = n} {x = x} m k) before h = plain-gives e.atoms before (field_equals (words e) t y) filter (whole_test a b n x) h (test_split-gives e t y a b n x m k)
@@ -288,4 +286,4 @@ mutual
       changed-gives c v e w before h t vs (after (constant (words e) y) (λ i. Ok (Add ((2 ^ 64 - i) % 2 ^ 64)))) (Add ((2 ^ 64 - n) % 2 ^ 64)) p (after-gives (constant (words e) y) (λ i. Ok (Add ((2 ^ 64 - i) % 2 ^ 64))) n (constant-gives e y n k)) l
 
 pub policy-gives : (c v : ℕ) (e : Scope) → NamesFit c v e.names → v ≤ 65535 → (t : PolicyTree) (p : CorePolicy) → IsPolicy e t p → (before : Arities) → Agrees e.atoms before → Gives e.atoms (read_policy (env e) t before) p
-policy-gives c v e names few t p k before h = whole-gives e.atoms (read_sequences (env e) t before) p (sequences-gives c v e (record { names = names; few = few }) t p k before h)
+policy-gives c v e names few t p k before h = whole-gives itself e.atoms (read_sequences (env e) t before) p (sequences-gives c v e (record { names = names; few = few }) t p k before h)

@@ -3,7 +3,7 @@ use Rattle.std.proofs.Common.{◌≡◌, ℕ, ◌≤◌, ◌<◌, ◌+◌, lengt
 use Rattle.std.proofs.lemmas.List.{drop_all}
 use Rattle.std.proofs.lemmas.Result.{err_from_is_err_and}
 use Rattle.std.proofs.Math.Seq.{drop-cons}
-use Rattle.snap_names.specs.Parts.{Part, Tally, AreBodies, HasRead, env_in, Scope}
+use Rattle.snap_names.specs.Parts.{Part, Tally, AreBodies, itself, HasRead, env_in, Scope}
 use Rattle.snap_parse.specs.Tree.{DeclTree, SourceTree}
 use Rattle.snap_names.specs.Senses.{NameFault, Arities, after}
 use Rattle.snap_names.specs.Core.{CorePolicy, nodes}
@@ -43,10 +43,6 @@ resolved-read text tree s arities h =
     ap (λ r. after r (λ d. after (read_policy (env_of text d) tree.policy d.arities) (limited d))) h.rest_is
     ∙ ap (λ w. after (read_policy (env_of w (declared_in s h.lets arities)) tree.policy arities) (limited (declared_in s h.lets arities))) (sym h.text_is)
 
-pub IfErr-weaker : {A : Type 0} (r : Result A NameFault) (P Q : NameFault → Type 0) → ((f : NameFault) → P f → Q f) → IfErr r P → IfErr r Q
-IfErr-weaker (Ok x) P Q g h = tt
-IfErr-weaker (Err f) P Q g h = g f h
-
 -- An error that is passed on is the one that was found.
 pub IfErr-from : {A : Type 0} (r : Result A NameFault) (f : NameFault) (Q : NameFault → Type 0) → IsErrAnd r (λ e. e ≡ f) → Q f → IfErr r Q
 IfErr-from r f Q h q =
@@ -65,12 +61,12 @@ drop-all f xs i h = ap (map f) (drop_all i xs h)
 
 pub resolved-limited : (text : List ℕ) (tree : SourceTree) (s : Scope) (arities : Arities) (old new : Tally) (part : Part) (a : Result CoreProgram NameFault)
     → AreDeclared text tree.decls [] s arities
-    → ((lets : List CorePolicy) → AreBodies s.lets.items lets → HasRead (read_policy (env_in s lets) tree.policy arities) (record old { nodes = 0 }) new part)
+    → ((lets : List CorePolicy) → AreBodies s.lets.items lets → HasRead itself (read_policy (env_in s lets) tree.policy arities) (record old { nodes = 0 }) new part)
     → Limits s new part (λ r. r ≡ a) → resolved text tree ≡ a
 resolved-limited text tree s arities old new part a h reads limits =
-    let r : HasRead (read_policy (env_in s h.lets) tree.policy arities) (record old { nodes = 0 }) new part = reads h.lets h.scope.bodies in
-    let counted : capped new.nodes ≡ capped (0 + nodes r.policy) = r.counted in
-    let same : min new.nodes 4294967295 ≡ min (nodes r.policy) 4294967295 = omega (arith, counted) in
+    let r : HasRead itself (read_policy (env_in s h.lets) tree.policy arities) (record old { nodes = 0 }) new part = reads h.lets h.scope.bodies in
+    let counted : capped new.nodes ≡ capped (0 + nodes r.value) = r.counted in
+    let same : min new.nodes 4294967295 ≡ min (nodes r.value) 4294967295 = omega (arith, counted) in
     resolved-read text tree s arities h
     ∙ ap (λ w. after w (limited (declared_in s h.lets arities))) r.reading
-    ∙ limits h.lets r.policy same r.stands
+    ∙ limits h.lets r.value same r.stands

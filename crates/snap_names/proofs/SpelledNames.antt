@@ -4,7 +4,7 @@ use Rattle.std.specs.List.{AllByRecursion, list_any}
 use Rattle.std.proofs.lemmas.Slice.Eq.{bytes_eq-Decides}
 use Rattle.std.proofs.lemmas.Bool.Decides.{nat_tests}
 use Rattle.std.proofs.lemmas.List.{length-drop, drop-drop}
-use Rattle.std.proofs.lemmas.Bool.{or_right, or_left, and_from}
+use Rattle.std.proofs.lemmas.Bool.{or_right, or_left, or_from, and_from, false_from_ne_true}
 use Rattle.snap_core.specs.Names.{is_letter, is_plain, is_joint, begins_plain, goes_on, is_word, keywords, is_keyword, IsName}
 use Rattle.snap_names.specs.Spells.{Token, Kind, Key}
 use Rattle.snap_lex.specs.Lexemes.{IsWord, IsLexeme, a_name, a_key, a_number, an_address, a_sign, key_text, Spells, spells_nothing, spells_blank, spells_comment, spells_token, SpellsTokens, is_part}
@@ -50,11 +50,7 @@ is_word-take (b ∷ bs) (suc n) k l h g = and_from (is_letter b) _ h (behind (is
 
 apart-list_any : (w : List ℕ) (ks : List (List ℕ)) → AllByRecursion (λ k. w ≡ k → ⊥) ks → list_any (bytes_eq w) ks ≡ false
 apart-list_any w [] h = refl
-apart-list_any w (k ∷ ks) h = rw (apart (bytes_eq w k) refl) (apart-list_any w ks h.1)
-  where
-    apart : (b : Bool) → bytes_eq w k ≡ b → bytes_eq w k ≡ false
-    apart true e = absurd (h.0 ((bytes_eq-Decides w k).0 e))
-    apart false e = e
+apart-list_any w (k ∷ ks) h = or_from _ _ (false_from_ne_true (bytes_eq w k) (λ e. h.0 ((bytes_eq-Decides w k).0 e))) (apart-list_any w ks h.1)
 
 no_keyword : (w : List ℕ) → ((key : Key) → w ≡ key_text key → ⊥) → is_keyword w ≡ false
 no_keyword w h = apart-list_any w keywords
@@ -71,22 +67,10 @@ record IsSpelledName (bytes : List ℕ) (n : ℕ) : Type 0 where
 
 lexeme-name : (bytes : List ℕ) (n : ℕ) (kind : Kind) → IsLexeme bytes n kind → kind ≡ Kind.Word → IsSpelledName bytes n
 lexeme-name bytes n _ (a_name w h) e = record { some = w.some; within = w.within; name = IsName-word bytes n w h }
-lexeme-name bytes n _ (a_key key w h) e = absurd (key_apart key e)
-  where
-    key_apart : (k : Key) → Kind.Key k ≡ Kind.Word → ⊥
-    key_apart k d = cc
-lexeme-name bytes n _ (a_number f h) e = absurd (number_apart e)
-  where
-    number_apart : Kind.Number ≡ Kind.Word → ⊥
-    number_apart d = cc
-lexeme-name bytes n _ (an_address f h) e = absurd (address_apart e)
-  where
-    address_apart : Kind.Address ≡ Kind.Word → ⊥
-    address_apart d = cc
-lexeme-name bytes n _ (a_sign sign h) e = absurd (sign_apart sign e)
-  where
-    sign_apart : (s : _) → Kind.Sign s ≡ Kind.Word → ⊥
-    sign_apart s d = cc
+lexeme-name bytes n _ (a_key key w h) e = absurd (let no' : Kind.Key key ≡ Kind.Word = e in cc)
+lexeme-name bytes n _ (a_number f h) e = absurd (let no' : Kind.Number ≡ Kind.Word = e in cc)
+lexeme-name bytes n _ (an_address f h) e = absurd (let no' : Kind.Address ≡ Kind.Word = e in cc)
+lexeme-name bytes n _ (a_sign sign h) e = absurd (let no' : Kind.Sign sign ≡ Kind.Word = e in cc)
 
 -- the bytes of a span that lies in the text
 word-take : (text : List ℕ) (at n : ℕ) → at + n ≤ length text → word text (record { from = at; to = at + n }) ≡ take n (drop at text)

@@ -13,7 +13,7 @@ pub use Rattle.snap_names.specs.declared.scope.Tally.{Tally}
 pub use Rattle.snap_names.specs.declared.scope.Scope.{Scope}
 use Rattle.snap_names.specs.declared.fault.NameFault.{NameFault}
 use Rattle.snap_names.specs.declared.fault.NameFault.TheVariants.{NoMemory}
-use Rattle.snap_names.specs.Core.{CoreTest, CorePolicy, filter, not_test, and_test, or_test, par, seq, choice, core_policy, is_filter, test_nodes, nodes, weight}
+use Rattle.snap_names.specs.Core.{CoreTest, CorePolicy, filter, not_test, and_test, or_test, par, seq, choice, core_policy, is_filter, nodes, weight}
 use Rattle.snap_names.specs.Declarations.{capped}
 use Rattle.snap_names.specs.Senses.{Words, Arities, Place}
 use Rattle.snap_names.specs.declared.places.Indexed.{Indexed}
@@ -25,11 +25,11 @@ pub record IsPart (p : CorePolicy) (all : ℕ) (part : Part) : Type 0 where
   pub weight : part.weight ≡ capped (weight p)
   pub built : all ≤ 2000 → option_map core_policy part.policy ≡ Some p
 
--- the operands so far, if there are any
-abbrev pub IsPartOf : Option CorePolicy → ℕ → Option Part → Type 0
-IsPartOf None all None = Unit {0}
-IsPartOf (Some p) all (Some part) = IsPart p all part
-IsPartOf _ all _ = ⊥
+-- the operands so far, if there are any, each the core policy that `form` says
+abbrev pub IsPartOf : {A : Type 0} → (A → CorePolicy) → Option A → ℕ → Option Part → Type 0
+IsPartOf form None all None = Unit {0}
+IsPartOf form (Some x) all (Some part) = IsPart (form x) all part
+IsPartOf form _ all _ = ⊥
 
 -- how policies that may not be built are joined
 abbrev pub filter_of : Option CorePolicy → Option CoreTest
@@ -82,36 +82,26 @@ words_of s = record { text = s.text.now; names = names_in s.names.entries }
 abbrev pub env_in : Scope → List CorePolicy → Env
 env_in s lets = record { words = words_of s; lets = lets }
 
--- a part was read, and its nodes counted
-pub record HasRead (r : Reading) (old new : Tally) (part : Part) : Type 0 where
-  pub policy : CorePolicy
-  pub reading : r ≡ Ok (policy, new.arities.items)
-  pub counted : capped new.nodes ≡ capped (old.nodes + nodes policy)
-  pub stands : IsPart policy new.nodes part
+abbrev pub itself : CorePolicy → CorePolicy
+itself p = p
 
--- a predicate was read, and its nodes counted
-pub record HasReadTest (r : TestReading) (old new : Tally) (part : Part) : Type 0 where
-  pub test : CoreTest
-  pub reading : r ≡ Ok (test, new.arities.items)
-  pub counted : capped new.nodes ≡ capped (old.nodes + test_nodes test)
-  pub stands : IsPart (filter test) new.nodes part
+-- What was read is the core policy that `form` says, and its nodes are counted.
+pub record HasRead {A : Type 0} (form : A → CorePolicy) (r : Result (A × Arities) NameFault) (old new : Tally) (part : Part) : Type 0 where
+  pub value : A
+  pub reading : r ≡ Ok (value, new.arities.items)
+  pub counted : capped new.nodes ≡ capped (old.nodes + nodes (form value))
+  pub stands : IsPart (form value) new.nodes part
 
 -- the operands so far were read, and their nodes counted
-abbrev pub nodes_of_all : Option CorePolicy → ℕ
-nodes_of_all None = 0
-nodes_of_all (Some p) = nodes p
+abbrev pub nodes_of_all : {A : Type 0} → (A → CorePolicy) → Option A → ℕ
+nodes_of_all form None = 0
+nodes_of_all form (Some x) = nodes (form x)
 
-pub record HaveRead (r : Result (Option CorePolicy × Arities) NameFault) (old new : Tally) (parts : Option Part) : Type 0 where
-  pub policy : Option CorePolicy
-  pub reading : r ≡ Ok (policy, new.arities.items)
-  pub counted : capped new.nodes ≡ capped (old.nodes + nodes_of_all policy)
-  pub stands : IsPartOf policy new.nodes parts
-
-pub record HaveReadTests (r : Result (Option CoreTest × Arities) NameFault) (old new : Tally) (parts : Option Part) : Type 0 where
-  pub test : Option CoreTest
-  pub reading : r ≡ Ok (test, new.arities.items)
-  pub counted : capped new.nodes ≡ capped (old.nodes + nodes_of_all (option_map filter test))
-  pub stands : IsPartOf (option_map filter test) new.nodes parts
+pub record HaveRead {A : Type 0} (form : A → CorePolicy) (r : Result (Option A × Arities) NameFault) (old new : Tally) (parts : Option Part) : Type 0 where
+  pub value : Option A
+  pub reading : r ≡ Ok (value, new.arities.items)
+  pub counted : capped new.nodes ≡ capped (old.nodes + nodes_of_all form value)
+  pub stands : IsPartOf form value new.nodes parts
 
 -- a refusal is that of the reading, but for want of memory
 abbrev pub Refuses : {A B : Type 0} → Result A NameFault → Result B NameFault → Type 0
@@ -119,11 +109,11 @@ Refuses r result = IfErr result (λ f. f ≢ NoMemory → r ≡ Err f)
 
 -- The answer is the reading's, but for want of memory, whatever core policies the bodies of `let` stand for.
 abbrev pub Reads : Scope → (Env → Arities → Reading) → Tally → Tally → Result Part NameFault → Type 0
-Reads s read old new (Ok part) = (lets : List CorePolicy) → AreBodies s.lets.items lets → HasRead (read (env_in s lets) old.arities.items) old new part
+Reads s read old new (Ok part) = (lets : List CorePolicy) → AreBodies s.lets.items lets → HasRead itself (read (env_in s lets) old.arities.items) old new part
 Reads s read old new (Err f) = f ≢ NoMemory → (lets : List CorePolicy) → AreBodies s.lets.items lets → read (env_in s lets) old.arities.items ≡ Err f
 
 abbrev pub ReadsTest : Scope → (Env → Arities → TestReading) → Tally → Tally → Result Part NameFault → Type 0
-ReadsTest s read old new (Ok part) = (lets : List CorePolicy) → AreBodies s.lets.items lets → HasReadTest (read (env_in s lets) old.arities.items) old new part
+ReadsTest s read old new (Ok part) = (lets : List CorePolicy) → AreBodies s.lets.items lets → HasRead filter (read (env_in s lets) old.arities.items) old new part
 ReadsTest s read old new (Err f) = f ≢ NoMemory → (lets : List CorePolicy) → AreBodies s.lets.items lets → read (env_in s lets) old.arities.items ≡ Err f
 
 -- a simple policy was read, without counting its nodes

@@ -113,13 +113,15 @@ abbrev pub more : {A : Type 0} → (A → A → A) → (Arities → Result (A ×
 more f read before = after (read before.1) (λ y. Ok (Some (joined f before.0 y.0), y.1))
 
 -- all operands of a repeated part
+abbrev pub whole_as : {A : Type 0} → (A → CorePolicy) → Option A × Arities → Reading
+whole_as form (None, arities) = Ok (filter id_test, arities)
+whole_as form (Some x, arities) = Ok (form x, arities)
+
 abbrev pub whole : Option CorePolicy × Arities → Reading
-whole (None, arities) = Ok (filter id_test, arities)
-whole (Some p, arities) = Ok (p, arities)
+whole = whole_as (λ p. p)
 
 abbrev pub whole_test : Option CoreTest × Arities → Reading
-whole_test (None, arities) = Ok (filter id_test, arities)
-whole_test (Some x, arities) = Ok (filter x, arities)
+whole_test = whole_as filter
 
 -- `name places` with an operation
 abbrev pub changed : Result Op NameFault → Place → Reading

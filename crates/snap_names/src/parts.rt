@@ -3,7 +3,7 @@
 ghost use Rattle.std.specs.Prelude.{◌≡◌, ◌≢◌, ◌+◌, ◌≤◌, ℕ, Bool, true, Option, option_map, is_some, if◌then◌else◌, IfOk, IfErr, OnOk};
 ghost use Rattle.snap_names.specs.Core.{CoreTest, CorePolicy, is_filter, core_test, core_policy, nodes, filter, not_test, choice, atomic};
 ghost use Rattle.snap_names.specs.Declarations.{capped};
-ghost use Rattle.snap_names.specs.Parts.{IsPart, IsPartOf, filter_of, negated_core, test_join, policy_join, joined_tests, joined_policies, chosen_policies, chosen_core};
+ghost use Rattle.snap_names.specs.Parts.{IsPart, IsPartOf, itself, filter_of, negated_core, test_join, policy_join, joined_tests, joined_policies, chosen_policies, chosen_core};
 ghost use Rattle.snap_names.specs.Reading.{joined};
 ghost use Rattle.snap_names.specs.declared.fault.NameFault.TheVariants.{NoMemory};
 
@@ -276,7 +276,7 @@ pub(crate) fn join_tests(
     before: Option<Part>,
     next: Part,
 ) -> Result<Part, NameFault>
-    ensures part { IfOk result (λ r. (x : Option CoreTest) (y : CoreTest) → IsPartOf (option_map filter x) tally.old.nodes before → IsPart (filter y) tally.old.nodes next → IsPart (filter (joined (test_join join) x y)) tally.new.nodes r) }
+    ensures part { IfOk result (λ r. (x : Option CoreTest) (y : CoreTest) → IsPartOf filter x tally.old.nodes before → IsPart (filter y) tally.old.nodes next → IsPart (filter (joined (test_join join) x y)) tally.new.nodes r) }
     ensures nodes { OnOk result (tally.new.nodes ≡ (if is_some before then capped (tally.old.nodes + 1) else tally.old.nodes)) }
     ensures arities { OnOk result (tally.new.arities.items ≡ tally.old.arities.items) }
     ensures err { IfErr result (λ f. f ≡ NoMemory) }
@@ -302,7 +302,7 @@ pub(crate) fn join_policies(
     before: Option<Part>,
     next: Part,
 ) -> Result<Part, NameFault>
-    ensures part { IfOk result (λ r. (p : Option CorePolicy) (q : CorePolicy) → IsPartOf p tally.old.nodes before → IsPart q tally.old.nodes next → IsPart (joined (policy_join join) p q) tally.new.nodes r) }
+    ensures part { IfOk result (λ r. (p : Option CorePolicy) (q : CorePolicy) → IsPartOf itself p tally.old.nodes before → IsPart q tally.old.nodes next → IsPart (joined (policy_join join) p q) tally.new.nodes r) }
     ensures nodes { OnOk result (tally.new.nodes ≡ (if is_some before then capped (tally.old.nodes + 1) else tally.old.nodes)) }
     ensures arities { OnOk result (tally.new.arities.items ≡ tally.old.arities.items) }
     ensures err { IfErr result (λ f. f ≡ NoMemory) }

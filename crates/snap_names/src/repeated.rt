@@ -1,8 +1,8 @@
 // Repeated parts.
 
 ghost use Rattle.std.specs.Prelude.{Option, Result};
-ghost use Rattle.snap_names.specs.Core.{CoreTest, CorePolicy};
-ghost use Rattle.snap_names.specs.Parts.{HasRead, HaveRead, HaveReadTests};
+ghost use Rattle.snap_names.specs.Core.{CoreTest, CorePolicy, filter};
+ghost use Rattle.snap_names.specs.Parts.{HasRead, HaveRead, itself};
 ghost use Rattle.snap_names.specs.Reading.{whole, whole_test};
 ghost use Rattle.snap_names.specs.Senses.{Arities, after};
 ghost use Rattle.snap_names.specs.declared.fault.NameFault.{NameFault};
@@ -14,8 +14,8 @@ use snap_core::policy::{Pol, Pred};
 impl Tally {
     /// A repeated part: its operands, or `id` where there are none.
     pub(crate) fn whole(&mut self, parts: Option<Part>) -> Part
-        ensures policies { (r : Result (Option CorePolicy × Arities) NameFault) (old : Tally) → HaveRead r old self.old parts → HasRead (after r whole) old self.new result }
-        ensures tests { (r : Result (Option CoreTest × Arities) NameFault) (old : Tally) → HaveReadTests r old self.old parts → HasRead (after r whole_test) old self.new result }
+        ensures policies { (r : Result (Option CorePolicy × Arities) NameFault) (old : Tally) → HaveRead itself r old self.old parts → HasRead itself (after r whole) old self.new result }
+        ensures tests { (r : Result (Option CoreTest × Arities) NameFault) (old : Tally) → HaveRead filter r old self.old parts → HasRead itself (after r whole_test) old self.new result }
     {
         match parts {
             Some(part) => part,

@@ -1,11 +1,11 @@
 -- A program that is resolved is the reading's, so it is bounded.
 use Rattle.std.proofs.Common.{◌≡◌, ◌≢◌, ◌≤◌, ◌<◌, length, get_or, [], Ok, Err, ap, ◌∙◌, subst}
-use Rattle.std.proofs.lemmas.Result.{IfOk-weaker}
+use Rattle.std.proofs.lemmas.Result.{IfErr-weaker, IfOk-weaker}
 use Rattle.snap_parse.specs.Tree.{source_tree, decl_tree}
 use Rattle.snap_names.specs.Senses.{NoMemory, after}
 use Rattle.snap_names.specs.Declarations.{core_program, limited}
 use Rattle.snap_names.specs.Scopes.{Limits, declared_in}
-use Rattle.snap_names.proofs.Resolving.{AreDeclared, AreDeclared-more, resolved-refused, AreDeclared-rest, map-drop, drop-all, IfErr-from, resolved-read, resolved-limited, IfErr-weaker}
+use Rattle.snap_names.proofs.Resolving.{AreDeclared, AreDeclared-more, resolved-refused, AreDeclared-rest, map-drop, drop-all, IfErr-from, resolved-read, resolved-limited}
 use Rattle.snap_names.proofs.InForm.{IfOk-bounded, IfOk-in_form, IsFields-declared}
 use Rattle.snap_names.proofs.DerivedTrees.{SourceWritten-text}
 use Rattle.snap_names.proofs.resolve.Goals as goal

@@ -17,9 +17,9 @@ returns c = λ at lets h.
     let counted : c.len-number.result ≡ length old.lets.items = search rules in
     let numbered = subst (λ i. is_known ns c.in_ok-word.word.items ≡ false → names_in c.add.new.names.entries ≡ ns ++ (c.in_ok-word.word.items, Policy i) ∷ []) counted c.in_ok-add.ensures.ok in
     let named = subst (λ w. is_known ns w ≡ false → names_in c.add.new.names.entries ≡ ns ++ (w, Policy (length old.lets.items)) ∷ []) c.in_ok-word.ensures.word numbered in
-    HasDeclared-is old.text.now _ (Ok (with_let (declared_in old lets c.args.tally.now.arities.items) name (r.policy, behind))) _ behind
+    HasDeclared-is old.text.now _ (Ok (with_let (declared_in old lets c.args.tally.now.arities.items) name (r.value, behind))) _ behind
     (is_new (is_known (names_in old.names.entries) name) (Twice c.args.name.from) _ _ c.in_ok-word.ensures.new (rw r.reading refl))
-    (let_declared old _ lets c.args.tally.now.arities.items behind name _ r.policy h
-    (IsBody-kept r.policy c.body.new.tally.nodes _ c.in_ok-part.part c.min-nodes.ensures r.counted r.stands)
+    (let_declared old _ lets c.args.tally.now.arities.items behind name _ r.value h
+    (IsBody-kept r.value c.body.new.tally.nodes _ c.in_ok-part.part c.min-nodes.ensures r.counted r.stands)
     refl c.in_ok-push.ensures.items refl refl refl
     (named c.in_ok-word.ensures.new))
