@@ -100,7 +100,7 @@ fn hops(alloc: Global, routes: &Routes, switches: usize) -> Result<Vec<Hop>, NoM
     requires few { switches ≤ 256 }
     ensures { IfOk result (λ r. map hop_entry r.items ≡ at_switches (hop_for routes.now) switches switches) }
 {
-    let mut hops = Vec::new(alloc);
+    let mut hops = Vec::with_capacity(alloc, switches * switches)?;
     for from in 0..switches {
         push_hops(&mut hops, routes, from as u16, switches)?;
     }
