@@ -26,12 +26,7 @@ fn bodies_of(alloc: Global, rows: Vec<Row>) -> Result<Vec<Body>, NoMemory>
 }
 
 // What stands in a row. All rows that stop share one body.
-fn said(
-    alloc: Global,
-    bodies: &[Body],
-    stop: &Body,
-    share: RowShare,
-) -> Result<Body, NoMemory>
+fn said(alloc: Global, bodies: &[Body], stop: &Body, share: RowShare) -> Result<Body, NoMemory>
     requires number { share.number < length bodies.now }
     requires stop { stop.now ≡ row.Stop }
     ensures { IfOk result (λ body. body ≡ row_said bodies.now share.number share.share) }
