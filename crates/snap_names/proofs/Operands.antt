@@ -1,5 +1,5 @@
 -- Parts of trees with operands that stand one behind another.
-use Rattle.std.proofs.Common.{◌≡◌, ◌≢◌, List, [], ◌∷◌, ◌++◌, length, get_or, map, refl, ap, sym, ◌∙◌, subst, arith}
+use Rattle.std.proofs.Common.{◌≡◌, ◌≢◌, ℕ, List, [], ◌∷◌, length, get_or, map, refl, ap, sym, ◌∙◌, subst, arith}
 use Rattle.snap_parse.specs.declared.tree.Sequence.{Sequence}
 use Rattle.snap_parse.specs.declared.tree.Choice.{Choice}
 use Rattle.snap_parse.specs.declared.tree.Both.{Both}

@@ -5,6 +5,7 @@ use Rattle.std.specs.Map.{keys_of, lookup, values_of}
 use Rattle.std.specs.BTreeMap.{insert_entry}
 use Rattle.std.specs.Cmp.Lexicographic.{slice_cmp}
 use Rattle.std.proofs.lemmas.Bool.{cases_Bool, false≢true}
+use Rattle.std.proofs.lemmas.Cmp.{nat_list_eq_equiv}
 use Rattle.std.proofs.lemmas.List.Elements.{All-nil}
 use Rattle.std.proofs.lemmas.Map.Text.{is_eq-slice_cmp}
 use Rattle.std.proofs.lemmas.Map.Views.{All-keys-insert_entry, All-values-insert_entry}
@@ -33,13 +34,6 @@ cases_ordering Equal = inr (inl refl)
 cases_ordering Greater = inr (inr refl)
 
 -- ---- what is found at a key
-
-apart_turned : (k l : List ℕ) → bytes_eq k l ≡ false → bytes_eq l k ≡ false
-apart_turned k l h =
-    elim (cases_Bool (bytes_eq l k)) [
-      | inl same ↦ absurd (false≢true (sym h ∙ (bytes_eq-Decides k l).1 (sym ((bytes_eq-Decides l k).0 same))))
-      | inr other ↦ other
-    ]
 
 eq_by_order : (k l : List ℕ) (o : Ordering) → slice_cmp nat_cmp k l ≡ o → bytes_eq k l ≡ is_eq o
 eq_by_order k l o h = sym (is_eq-slice_cmp k l) ∙ ap is_eq h
@@ -103,7 +97,7 @@ AreNew found ks = AllByRecursion (λ k. lookup (bytes_eq k) found ≡ None) ks
 still_new : (found : List Entry) (e : Entry) (ks : List (List ℕ)) → AreNew found ks → AllByRecursion (λ k. bytes_eq e.0 k ≡ false) ks → AreNew (put_entry found e) ks
 still_new found e [] new apart = tt
 still_new found e (k ∷ ks) new apart =
-    let other = apart_turned e.0 k apart.0 in
+    let other = nat_list_eq_equiv.symm k e.0 ∙ apart.0 in
     (lookup_put k e.0 e.1 found ∙ rw other new.0, still_new found e ks new.1 apart.1)
 
 run_from : (found es : List Entry) → IsDistinct bytes_eq (keys_of es) → AreNew found (keys_of es) → run (nodes_of found, []) (map pair_of es) ≡ Some (nodes_of (fold put_entry found es), [])

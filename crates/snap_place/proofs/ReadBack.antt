@@ -141,15 +141,8 @@ same_bytes x y = (bytes_eq-Decides x y).1
 number_at : (switches : List (List ℕ)) (n : ℕ) → IsDistinct bytes_eq switches → n < length switches → number_of switches (switch_at switches n) ≡ n
 number_at switches n apart below =
     position_or_len_is (bytes_eq (switch_at switches n)) switches n [] (omega arith)
-    (λ k less. subst (λ (x : List ℕ). bytes_eq x (get_or switches k []) ≡ false) (sym (is_at switches n)) (turned (get_or switches k []) (get_or switches n []) (apart_from_distinct bytes_eq switches k n [] apart less below)))
+    (λ k less. subst (λ (x : List ℕ). bytes_eq x (get_or switches k []) ≡ false) (sym (is_at switches n)) (nat_list_eq_equiv.symm (get_or switches n []) (get_or switches k []) ∙ apart_from_distinct bytes_eq switches k n [] apart less below))
     (λ there. same_bytes (switch_at switches n) (get_or switches n []) (is_at switches n))
-  where
-    turned : (x y : List ℕ) → bytes_eq x y ≡ false → bytes_eq y x ≡ false
-    turned x y h =
-        elim (cases_Bool (bytes_eq y x)) [
-          | inl same ↦ absurd (false≢true (sym h ∙ same_bytes x y (sym ((bytes_eq-Decides y x).0 same))))
-          | inr other ↦ other
-        ]
 
 switch_there : (switches : List (List ℕ)) (n : ℕ) → n < length switches → is_switch switches (switch_at switches n) ≡ true
 switch_there switches n below = list_any_at (bytes_eq (switch_at switches n)) switches n [] below (same_bytes (switch_at switches n) (get_or switches n []) (is_at switches n))

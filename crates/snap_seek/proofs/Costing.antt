@@ -1,8 +1,8 @@
 -- Sums of weights times lengths.
-use Rattle.std.proofs.Common.{◌≡◌, ◌∙◌, ℕ, zero, suc, ◌+◌, ◌*◌, ◌<◌, ◌≤◌, List, [], ◌∷◌, ◌++◌, length, get_or, set, take, replicate, refl, sym, ap, arith}
-use Rattle.std.specs.List.{All, AllByRecursion, sum_by}
+use Rattle.std.proofs.Common.{◌≡◌, ◌∙◌, ℕ, zero, suc, ◌+◌, ◌*◌, ◌<◌, ◌≤◌, List, [], ◌∷◌, ◌++◌, length, get_or, set, take, replicate, slice_index_or, refl, sym, ap, arith}
+use Rattle.std.specs.List.{All, sum_by}
 use Rattle.std.proofs.Math.Nat.{mul-add, add-mul}
-use Rattle.std.proofs.lemmas.List.Elements.{recursion_from_All}
+use Rattle.std.proofs.lemmas.List.Elements.{All-head, All-tail}
 use Rattle.std.proofs.lemmas.List.Sums.{sum_by-cons, sum_by_more}
 use Rattle.snap_seek.specs.declared.trips.Trip.{Trip}
 use Rattle.snap_seek.specs.Costs.{along, cost_from, cost_of}
@@ -23,23 +23,20 @@ sum_by-times f w k each (x ∷ xs) =
     let both : sum_by f (x ∷ xs) ≡ (w x + sum_by w xs) * k = omega arith in
     both ∙ ap (λ (n : ℕ). n * k) (sym (sum_by-cons w x xs))
 
-pub sum_by-same : {X : Type 0} (f g : X → ℕ) → ((x : X) → f x ≡ g x) → (xs : List X) → sum_by f xs ≡ sum_by g xs
-sum_by-same f g each [] = refl
-sum_by-same f g each (x ∷ xs) =
-    let rest = sum_by-same f g each xs in let here = each x in
+pub sum_by-each : {X : Type 0} (f g : X → ℕ) (xs : List X) → All (λ x. f x ≡ g x) xs → sum_by f xs ≡ sum_by g xs
+sum_by-each f g [] all = refl
+sum_by-each f g (x ∷ xs) all =
+    let here = All-head (λ x. f x ≡ g x) x xs all in let rest = sum_by-each f g xs (All-tail (λ x. f x ≡ g x) x xs all) in
     let a = sum_by-cons f x xs in let b = sum_by-cons g x xs in omega arith
 
-sum_by-within-steps : {X : Type 0} (P : X → Type 0) (f w : X → ℕ) (k : ℕ) → ((x : X) → P x → f x ≤ w x * k) → (xs : List X) → AllByRecursion P xs → sum_by f xs ≤ sum_by w xs * k
-sum_by-within-steps P f w k each [] all = omega arith
-sum_by-within-steps P f w k each (x ∷ xs) all =
-    let rest = sum_by-within-steps P f w k each xs all.1 in let here = each x all.0 in
+pub sum_by-within : {X : Type 0} (P : X → Type 0) (f w : X → ℕ) (k : ℕ) → ((x : X) → P x → f x ≤ w x * k) → (xs : List X) → All P xs → sum_by f xs ≤ sum_by w xs * k
+sum_by-within P f w k each [] all = omega arith
+sum_by-within P f w k each (x ∷ xs) all =
+    let rest = sum_by-within P f w k each xs (All-tail P x xs all) in let here = each x (All-head P x xs all) in
     let spread = add-mul (w x) (sum_by w xs) k in
     let a = sum_by-cons f x xs in
     let b : sum_by w (x ∷ xs) * k ≡ (w x + sum_by w xs) * k = ap (λ (n : ℕ). n * k) (sum_by-cons w x xs) in
     omega arith
-
-pub sum_by-within : {X : Type 0} (P : X → Type 0) (f w : X → ℕ) (k : ℕ) → ((x : X) → P x → f x ≤ w x * k) → (xs : List X) → All P xs → sum_by f xs ≤ sum_by w xs * k
-sum_by-within P f w k each xs all = sum_by-within-steps P f w k each xs (recursion_from_All P xs all)
 
 -- ---- costs
 abbrev pub weight_of : Trip → ℕ
@@ -58,7 +55,7 @@ alone : (w n : ℕ) → w * (n + 0) ≡ w * n
 alone w n = ap (λ (k : ℕ). w * k) (omega arith)
 
 pub cost_from-none : (d : ℕ → ℕ → ℕ) (trips : List Trip) (x : ℕ) → cost_from d trips x [] ≡ sum_by (λ (t : Trip). t.weight * d x t.to) trips
-cost_from-none d trips x = sum_by-same _ (λ (t : Trip). t.weight * d x t.to) (λ t. alone t.weight (d x t.to)) trips
+cost_from-none d trips x = sum_by-each _ (λ (t : Trip). t.weight * d x t.to) trips (λ k e lt. alone (slice_index_or trips k e).weight (d x (slice_index_or trips k e).to))
 
 -- ---- weights by place
 pub weighed-none : (f : ℕ → ℕ) (at n : ℕ) → weighed f at (replicate n 0) ≡ 0

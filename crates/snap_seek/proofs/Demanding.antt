@@ -45,13 +45,7 @@ module _ (g : Grouping) (vars switches : List (List ℕ)) (entries : Entries) (m
     nowhere = λ at lt there. h.nowhere at lt ((group-may v at lt).1 there);
     first = λ u lt. let w = h.first u lt in (w.0, w.1, (group-may u w.0 w.1).0 w.2);
   }
-  tells-nowhere NotToml h = absurd h
-  tells-nowhere (Shape rule) h = absurd h
-  tells-nowhere (Limit which n) h = absurd h
-  tells-nowhere (NoPort port) h = absurd h
-  tells-nowhere (NoVariable name) h = absurd h
-  tells-nowhere (NoSwitch name) h = absurd h
-  tells-nowhere NoMemory h = absurd h
+  tells-nowhere _ h = absurd h
 
   are-places : (places : List (List ℕ)) → length places ≡ length marks → ((v : ℕ) → v < length marks → Lists (GroupMarked g marks v) (length switches) (slice_index_or places v []))
       → ((v : ℕ) → v < length marks → slice_index_or places v [] ≢ []) → ArePlaces g vars switches entries places
@@ -104,13 +98,7 @@ variable-named (Some n) name is = cc
 variable-named None name is = cc
 
 fault-told : (g : Grouping) (vars switches : List (List ℕ)) (s : Spelled) (o : Option DemandFault) (name : List ℕ) → PlacesThen g vars switches s o (Err (NoVariable name)) → o ≡ Some (NoVariable name)
-fault-told g vars switches s (Some e) name is = ap (λ (x : DemandFault). Some x) (sym (inner is))
-  where
-    fault-err : DemandFault → Result Demand DemandFault
-    fault-err x = Err x
-
-    inner : {x y : DemandFault} → fault-err x ≡ fault-err y → x ≡ y
-    inner e = cc
+fault-told g vars switches s (Some e) name is = let same : e ≡ NoVariable name = cc is in ap (λ (x : DemandFault). Some x) same
 fault-told g vars switches s None name is = absurd is
 
 told-variable : (ports : List PortAt) (switches vars : List (List ℕ)) (s : Spelled) (name : List ℕ) → first_fault ports switches vars s ≡ Some (NoVariable name) → find (is_unknown vars) (keys_of s.allowed) ≡ Some name
@@ -125,13 +113,7 @@ told-least : (g : Grouping) (vars switches : List (List ℕ)) (ports : List Port
     → (e ≢ NoMemory → PlacesThen g vars switches s (first_fault ports switches vars s) (Err e)) → TellsLeastOf vars s.allowed e
 told-least g vars switches ports s (NoVariable name) rise is =
     least (is_unknown vars) (keys_of s.allowed) name rise (told-variable ports switches vars s name (fault-told g vars switches s (first_fault ports switches vars s) name (is (λ e. cc))))
-told-least g vars switches ports s NotToml rise is = tt
-told-least g vars switches ports s (Shape rule) rise is = tt
-told-least g vars switches ports s (Limit which n) rise is = tt
-told-least g vars switches ports s (NoPort port) rise is = tt
-told-least g vars switches ports s (NoSwitch name) rise is = tt
-told-least g vars switches ports s (Nowhere v) rise is = tt
-told-least g vars switches ports s NoMemory rise is = tt
+told-least g vars switches ports s _ rise is = tt
 
 abbrev spelled-ok : Spelled → Result Spelled DemandFault
 spelled-ok s = Ok s

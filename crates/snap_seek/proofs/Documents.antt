@@ -1,15 +1,16 @@
 -- Turns of loops over a demand's document.
 use Rattle.std.proofs.Common.{◌≡◌, ◌≢◌, ◌∙◌, ℕ, ◌+◌, ◌<◌, get_or, drop, Bool, true, false, cond, List, [], ◌∷◌, ◌++◌, append-nil, append_assoc, length, map, find, string_bytes, option_map, Option, Some, None, refl, sym, ap, subst, String, Global}
-use Rattle.std.specs.List.{All, AllByRecursion}
+use Rattle.std.specs.List.{All}
 use Rattle.std.specs.List.Sorted.{IsStrictlySortedBy}
 use Rattle.std.specs.Map.{keys_of}
 use Rattle.std.specs.Ordering.{nat_cmp}
 use Rattle.std.specs.Cmp.Lexicographic.{slice_cmp}
 use Rattle.std.specs.declared.cmp.Ordering.{Ordering}
 use Rattle.std.specs.declared.cmp.Ordering.TheVariants.{Less, Equal, Greater}
+use Rattle.std.proofs.lemmas.Bool.{cases_Bool, false≢true}
 use Rattle.std.proofs.lemmas.Cmp.{nat_list_cmp_total, tied_itself}
 use Rattle.std.proofs.lemmas.List.{drop_more, map-append}
-use Rattle.std.proofs.lemmas.List.Elements.{All-from_recursion}
+use Rattle.std.proofs.lemmas.List.Elements.{All-cons, All-from_recursion, All-nil, All-weaker}
 use Rattle.std.proofs.lemmas.Option.{same_Some}
 use Rattle.toml.specs.declared.value.Value.{Value}
 use Rattle.toml.specs.Data.{Data, Items, string, integer, float, boolean, datetime, array, table, as_array}
@@ -41,12 +42,7 @@ short_flow (a ∷ (b ∷ (e ∷ (f ∷ vs)))) not = refl
 
 pub no_flow : (d : Data) (vs : List Value) → Some (items_view vs) ≡ as_array d → (length vs ≡ 3 → ⊥) → None ≡ flow_in d
 no_flow (array i) vs is not = short_flow vs not ∙ ap (λ (x : Items). flow_in (array x)) (same_Some _ _ is)
-no_flow (string s) vs is not = cc
-no_flow (integer z) vs is not = cc
-no_flow (float x) vs is not = cc
-no_flow (boolean b) vs is not = cc
-no_flow (datetime t) vs is not = cc
-no_flow (table m) vs is not = cc
+no_flow _ vs is not = cc
 
 -- one more flow, before those that are left
 pub flows-turn : (items : List Value) (i : ℕ) (item : Value) (flow : Flow) (old new : List Flow) (whole : Option (List Flow)) → i < length items → item ≡ get_or items i item → Some flow ≡ flow_in (view item) → new ≡ old ++ flow ∷ []
@@ -104,26 +100,19 @@ in-order es xs sorted is = subst (λ (ks : List (List ℕ)). IsStrictlySortedBy 
 
 -- ---- the least of the names that pass a test
 
-before : (o : Ordering) → o ≡ Less → o ≢ Greater
-before o is = λ e. cc
+-- y isn't before k, where it passes
+abbrev IsNotBefore : (List ℕ → Bool) → List ℕ → List ℕ → Type 0
+IsNotBefore p k y = p y ≡ true → slice_cmp nat_cmp k y ≢ Greater
 
-at-equal : (o : Ordering) → o ≡ Equal → o ≢ Greater
-at-equal o is = λ e. cc
-
-all-after : (p : List ℕ → Bool) (k : List ℕ) (ks : List (List ℕ)) → AllByRecursion (λ (y : List ℕ). slice_cmp nat_cmp k y ≡ Less) ks → AllByRecursion (λ (y : List ℕ). p y ≡ true → slice_cmp nat_cmp k y ≢ Greater) ks
-all-after p k [] h = tt
-all-after p k (y ∷ ks) h = ((λ _. before (slice_cmp nat_cmp k y) h.0), all-after p k ks h.1)
-
-least-step : (p : List ℕ → Bool) (b : Bool) (x : List ℕ) (xs : List (List ℕ)) (k : List ℕ) → p x ≡ b → cond b (Some x) (find p xs) ≡ Some k → AllByRecursion (λ (y : List ℕ). slice_cmp nat_cmp x y ≡ Less) xs
-    → (find p xs ≡ Some k → AllByRecursion (λ (y : List ℕ). p y ≡ true → slice_cmp nat_cmp k y ≢ Greater) xs) → AllByRecursion (λ (y : List ℕ). p y ≡ true → slice_cmp nat_cmp k y ≢ Greater) (x ∷ xs)
-least-step p true x xs k is found after rest = subst (λ (z : List ℕ). AllByRecursion (λ (y : List ℕ). p y ≡ true → slice_cmp nat_cmp z y ≢ Greater) (x ∷ xs)) (same_Some _ _ found)
-    ((λ _. at-equal (slice_cmp nat_cmp x x) (tied_itself nat_list_cmp_total x)), all-after p x xs after)
-least-step p false x xs k is found after rest = ((λ yes'. cc), rest found)
-
-least-steps : (p : List ℕ → Bool) (ks : List (List ℕ)) (k : List ℕ) → IsStrictlySortedBy (slice_cmp nat_cmp) ks → find p ks ≡ Some k → AllByRecursion (λ (y : List ℕ). p y ≡ true → slice_cmp nat_cmp k y ≢ Greater) ks
-unfolding IsStrictlySortedBy
-least-steps p [] k order found = tt
-least-steps p (x ∷ xs) k order found = least-step p (p x) x xs k refl found order.0 (λ later. least-steps p xs k order.1 later)
+not-greater : (o p : Ordering) → p ≢ Greater → o ≡ p → o ≢ Greater
+not-greater o p not is = λ e. not (sym is ∙ e)
 
 pub least : (p : List ℕ → Bool) (ks : List (List ℕ)) (k : List ℕ) → IsStrictlySortedBy (slice_cmp nat_cmp) ks → find p ks ≡ Some k → All (λ (y : List ℕ). p y ≡ true → slice_cmp nat_cmp k y ≢ Greater) ks
-least p ks k order found = All-from_recursion (λ (y : List ℕ). p y ≡ true → slice_cmp nat_cmp k y ≢ Greater) ks (least-steps p ks k order found)
+unfolding IsStrictlySortedBy
+least p [] k order found = All-nil (IsNotBefore p k)
+least p (x ∷ xs) k order found =
+    elim (cases_Bool (p x)) [
+      | inl yes' ↦ subst (λ (z : List ℕ). All (IsNotBefore p z) (x ∷ xs)) (same_Some _ _ (rw yes' at found)) (All-cons (IsNotBefore p x) x xs (λ _. not-greater _ Equal (λ g. cc) (tied_itself nat_list_cmp_total x))
+          (All-weaker (λ y. slice_cmp nat_cmp x y ≡ Less) (IsNotBefore p x) (λ y h _. not-greater _ Less (λ g. cc) h) xs (All-from_recursion (λ y. slice_cmp nat_cmp x y ≡ Less) xs order.0)))
+      | inr no' ↦ All-cons (IsNotBefore p k) x xs (λ yes'. absurd (false≢true (sym no' ∙ yes'))) (least p xs k order.1 (rw no' at found))
+    ]

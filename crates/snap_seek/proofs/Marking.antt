@@ -7,10 +7,10 @@ use Rattle.std.specs.Ordering.{nat_cmp}
 use Rattle.std.specs.Option.{option_or}
 use Rattle.std.specs.Str.{bytes_eq}
 use Rattle.std.specs.declared.cmp.Ordering.TheVariants.{Less}
-use Rattle.std.proofs.lemmas.Bool.{cases_eq, eq-eqb, eqb-true, or_from}
+use Rattle.std.proofs.lemmas.Bool.{cases_eq, eq-eqb, ne_eqb, or_from}
 use Rattle.std.proofs.lemmas.Cmp.{nat_list_eq_equiv}
 use Rattle.std.proofs.lemmas.List.{drop_more, get_or-map, get_or-set_other, get_or-set_same, get_or_append_left, get_or_push, length-map, length_push, map-append}
-use Rattle.std.proofs.lemmas.List.Elements.{All-contains_itself, All-weaker, Contains-append_left, Contains-push, Contains-push_cases, recursion_from_All}
+use Rattle.std.proofs.lemmas.List.Elements.{All-contains, All-contains_itself, All-from_recursion, All-push, All-weaker, Contains-append_left, Contains-append_right, Contains-push, Contains-push_cases, recursion_from_All}
 use Rattle.std.proofs.lemmas.List.Folds.{find-append, list_any_more}
 use Rattle.std.proofs.Math.Bool.{or-false, or-true}
 use Rattle.snap_topo.specs.Answer.{is_unknown}
@@ -49,15 +49,13 @@ number-of name keys None is found within = is_switch-keys name keys ∙ sym foun
 
 -- ---- a set of names that differ
 
-middle : {X : Type 0} (P : X → Type 0) (xs : List X) (y : X) (ys : List X) → AllByRecursion P (xs ++ y ∷ ys) → P y
-middle P [] y ys all = all.0
-middle P (x ∷ xs) y ys all = middle P xs y ys all.1
-
 new-name : (seen : List (List ℕ)) (name : List ℕ) (rest : List (List ℕ)) → IsDistinct bytes_eq (seen ++ name ∷ rest) → list_any (bytes_eq name) seen ≡ false
 unfolding IsDistinct
 new-name [] name rest apart = refl
 new-name (x ∷ seen) name rest apart =
-    or_from (bytes_eq name x) (list_any (bytes_eq name) seen) (nat_list_eq_equiv.symm name x ∙ middle (λ (y : List ℕ). bytes_eq x y ≡ false) seen name rest apart.0) (new-name seen name rest apart.1)
+    let differs = λ (y : List ℕ). bytes_eq x y ≡ false in
+    let different = All-contains differs (seen ++ name ∷ rest) name (All-from_recursion differs (seen ++ name ∷ rest) apart.0) (Contains-append_right seen (name ∷ rest) name (0, omega arith, refl)) in
+    or_from (bytes_eq name x) (list_any (bytes_eq name) seen) (nat_list_eq_equiv.symm name x ∙ different) (new-name seen name rest apart.1)
 
 put-key : (b : Bool) (keys new : List (Vec ℕ Global)) (owned : Vec ℕ Global) → b ≡ false → new ≡ cond b keys (keys ++ owned ∷ []) → key_texts new ≡ key_texts keys ++ owned.items ∷ []
 put-key b keys new owned absent is =
@@ -91,12 +89,8 @@ marks-more switches names marks i n count text lt is inside number before at les
       | inl same ↦ ap (λ (k : ℕ). get_or (set marks n true) k false) same ∙ get_or-set_same marks n true false inside
           ∙ sym (more ∙ ap (λ (b : Bool). list_any p (take i names) || b) (here ∙ eq-eqb n at (sym same)) ∙ or-true (list_any p (take i names)))
       | inr other ↦ get_or-set_other marks n at true false other ∙ before at less
-          ∙ sym (more ∙ ap (λ (b : Bool). list_any p (take i names) || b) (here ∙ not-same n at (n == at) refl (λ e. other (sym e))) ∙ or-false (list_any p (take i names)))
+          ∙ sym (more ∙ ap (λ (b : Bool). list_any p (take i names) || b) (here ∙ ne_eqb n at (λ e. other (sym e))) ∙ or-false (list_any p (take i names)))
     ]
-  where
-    not-same : (a b : ℕ) (t : Bool) → (a == b) ≡ t → (a ≡ b → ⊥) → t ≡ false
-    not-same a b true is apart = absurd (apart (eqb-true a b is))
-    not-same a b false is apart = refl
 
 known-step : (b : Bool) (x : List ℕ) (o : Option (List ℕ)) → b ≡ true → cond (not b) (Some x) o ≡ o
 known-step true x o is = refl
@@ -146,14 +140,10 @@ variable-unknown switches vars entries i x name e lt is same before fault =
 
 -- ---- lists of numbers
 
-all-push : {X : Type 0} (P : X → Type 0) (xs : List X) (y : X) → AllByRecursion P xs → P y → AllByRecursion P (xs ++ y ∷ [])
-all-push P [] y all here = (here, tt)
-all-push P (x ∷ xs) y all here = (all.0, all-push P xs y all.1 here)
-
 rise-push : (xs : List ℕ) (n : ℕ) → IsStrictlySortedBy nat_cmp xs → AllByRecursion (λ (x : ℕ). x < n) xs → IsStrictlySortedBy nat_cmp (xs ++ n ∷ [])
 unfolding IsStrictlySortedBy
 rise-push [] n rise low = (tt, tt)
-rise-push (x ∷ xs) n rise low = (all-push (λ (y : ℕ). nat_cmp x y ≡ Less) xs n rise.0 (sym (nat_cmp_is x n Less low.0)), rise-push xs n rise.1 low.1)
+rise-push (x ∷ xs) n rise low = let below = λ (y : ℕ). nat_cmp x y ≡ Less in (recursion_from_All below (xs ++ n ∷ []) (All-push below xs n (All-from_recursion below xs rise.0) (sym (nat_cmp_is x n Less low.0))), rise-push xs n rise.1 low.1)
 
 rise-none : IsStrictlySortedBy nat_cmp []
 unfolding IsStrictlySortedBy

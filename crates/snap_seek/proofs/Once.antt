@@ -1,6 +1,5 @@
 -- A text has one answer, and a demand one best placement, whatever the groupings and tables of routes that tell the same.
-use Rattle.std.proofs.Common.{◌≡◌, ◌≢◌, ◌∙◌, inl, inr, ℕ, ◌+◌, ◌*◌, ◌<◌, List, [], ◌∷◌, ◌++◌, All, length, map, Option, Some, None, Result, Ok, Err, refl, sym, ap, ap₂, arith, slice_index}
-use Rattle.std.specs.List.{AllByRecursion, sum_by}
+use Rattle.std.proofs.Common.{◌≡◌, ◌≢◌, ◌∙◌, inl, inr, ℕ, ◌+◌, ◌*◌, ◌<◌, List, [], ◌∷◌, ◌++◌, All, length, map, Option, Some, None, Result, Ok, Err, refl, sym, ap, ap₂, arith, slice_index, slice_index_or}
 use Rattle.std.specs.Ordering.{nat_cmp, ordering_reverse}
 use Rattle.std.specs.Cmp.Lexicographic.{slice_cmp}
 use Rattle.std.specs.declared.cmp.Ordering.{Ordering}
@@ -10,8 +9,7 @@ use Rattle.std.proofs.lemmas.Bool.{cases_eq, cases_lt}
 use Rattle.std.proofs.lemmas.Cmp.{nat_list_cmp_total}
 use Rattle.std.proofs.lemmas.Grind.{same_number_lists}
 use Rattle.std.proofs.lemmas.List.{get_or-map}
-use Rattle.std.proofs.lemmas.List.Elements.{All-append, All-contains, All-from_get_or, All-map, All-cons, All-nil, recursion_from_All}
-use Rattle.std.proofs.lemmas.List.Sums.{sum_by-cons}
+use Rattle.std.proofs.lemmas.List.Elements.{All-contains, All-from_get_or, All-head, All-map, All-push, All-tail}
 use Rattle.std.proofs.lemmas.Map.Text.{is_eq-slice_cmp}
 use Rattle.std.proofs.lemmas.Slice.Eq.{bytes_eq-Decides}
 use Rattle.snap_core.specs.declared.program.Program.{Program}
@@ -33,6 +31,7 @@ use Rattle.snap_seek.specs.Answer.{GroupMay, IsAnswer, IsDemandOf, PlacesThen, S
 use Rattle.snap_seek.specs.Costs.{along, cost_of, trip_of}
 use Rattle.snap_seek.specs.Placements.{IsAllowed, IsBestOf, IsDemand, cost, places_of, stops}
 use Rattle.snap_seek.specs.Shape.{Spelled, spelled}
+use Rattle.snap_seek.proofs.Costing.{sum_by-each}
 use Rattle.snap_seek.proofs.Demanding.{demand-is, ok-none}
 use Rattle.snap_seek.proofs.Marking.{Lists-some}
 use Rattle.snap_seek.proofs.Ported.{trips-below}
@@ -87,31 +86,13 @@ nowhere-once P n count (Nowhere v) (Nowhere u) h k = elim (cases_lt v u) [
     | inr other ↦ (let w = h.first u (omega arith) in absurd (k.nowhere w.0 w.1 w.2))
   ]
 ]
-nowhere-once P n count (Nowhere v) NotToml h k = absurd k
-nowhere-once P n count (Nowhere v) (Shape rule) h k = absurd k
-nowhere-once P n count (Nowhere v) (Limit which m) h k = absurd k
-nowhere-once P n count (Nowhere v) (NoPort port) h k = absurd k
-nowhere-once P n count (Nowhere v) (NoVariable name) h k = absurd k
-nowhere-once P n count (Nowhere v) (NoSwitch name) h k = absurd k
-nowhere-once P n count (Nowhere v) NoMemory h k = absurd k
-nowhere-once P n count NotToml f h k = absurd h
-nowhere-once P n count (Shape rule) f h k = absurd h
-nowhere-once P n count (Limit which m) f h k = absurd h
-nowhere-once P n count (NoPort port) f h k = absurd h
-nowhere-once P n count (NoVariable name) f h k = absurd h
-nowhere-once P n count (NoSwitch name) f h k = absurd h
-nowhere-once P n count NoMemory f h k = absurd h
+nowhere-once P n count (Nowhere v) _ h k = absurd k
+nowhere-once P n count _ f h k = absurd h
 
 somewhere : (g : Grouping) (vars switches : List (List ℕ)) (s : Spelled) (d : Demand) (e : DemandFault) → IsDemandOf g vars switches s d → TellsNowhere (GroupMay g vars switches s.allowed) (length vars) (length switches) e → ⊥
 somewhere g vars switches s d (Nowhere v) is h =
     let w = Lists-some (GroupMay g vars switches s.allowed v) (length switches) (places_of d.allowed v) (is.places v h.below) (is.some v h.below) in h.nowhere w.0 w.1 w.2
-somewhere g vars switches s d NotToml is h = h
-somewhere g vars switches s d (Shape rule) is h = h
-somewhere g vars switches s d (Limit which m) is h = h
-somewhere g vars switches s d (NoPort port) is h = h
-somewhere g vars switches s d (NoVariable name) is h = h
-somewhere g vars switches s d (NoSwitch name) is h = h
-somewhere g vars switches s d NoMemory is h = h
+somewhere g vars switches s d _ is h = h
 
 abbrev fault-err : DemandFault → Result Demand DemandFault
 fault-err x = Err x
@@ -176,27 +157,16 @@ answer-same p g t text d e count h k = spelled-same p g t (spelled (document tex
 
 -- ---- one cost
 
-along-same : (d f : ℕ → ℕ → ℕ) (n : ℕ) → ((a b : ℕ) → a < n → b < n → d a b ≡ f a b) → (xs : List ℕ) (at : ℕ) → at < n → AllByRecursion (λ x. x < n) xs → along d at xs ≡ along f at xs
+along-same : (d f : ℕ → ℕ → ℕ) (n : ℕ) → ((a b : ℕ) → a < n → b < n → d a b ≡ f a b) → (xs : List ℕ) (at : ℕ) → at < n → All (λ x. x < n) xs → along d at xs ≡ along f at xs
 along-same d f n same [] at lt low = refl
-along-same d f n same (x ∷ xs) at lt low = ap₂ ◌+◌ (same at x lt low.0) (along-same d f n same xs x low.0 low.1)
-
-sum_by-each : {X : Type 0} (f g : X → ℕ) (xs : List X) → AllByRecursion (λ x. f x ≡ g x) xs → sum_by f xs ≡ sum_by g xs
-sum_by-each f g [] all = refl
-sum_by-each f g (x ∷ xs) all =
-    let here = all.0 in let rest = sum_by-each f g xs all.1 in
-    let a = sum_by-cons f x xs in let b = sum_by-cons g x xs in omega arith
-
-both-ends : (n : ℕ) (trips : List Trip) → AllByRecursion (λ (t : Trip). t.from < n) trips → AllByRecursion (λ (t : Trip). t.to < n) trips → (f g : Trip → ℕ) → ((t : Trip) → t.from < n → t.to < n → f t ≡ g t) → AllByRecursion (λ t. f t ≡ g t) trips
-both-ends n [] from to f g each = tt
-both-ends n (t ∷ trips) from to f g each = (each t from.0 to.0, both-ends n trips from.1 to.1 f g each)
+along-same d f n same (x ∷ xs) at lt low =
+    let here = All-head (λ x. x < n) x xs low in ap₂ ◌+◌ (same at x lt here) (along-same d f n same xs x here (All-tail (λ x. x < n) x xs low))
 
 cost-same : (d f : ℕ → ℕ → ℕ) (n : ℕ) (trips : List Trip) (xs : List ℕ) → ((a b : ℕ) → a < n → b < n → d a b ≡ f a b) → All (λ (t : Trip). t.from < n) trips → All (λ (t : Trip). t.to < n) trips → All (λ x. x < n) xs → cost_of d trips xs ≡ cost_of f trips xs
 cost-same d f n trips xs same from to low =
-    sum_by-each (λ (t : Trip). t.weight * along d t.from (xs ++ t.to ∷ [])) (λ (t : Trip). t.weight * along f t.from (xs ++ t.to ∷ [])) trips
-    (both-ends n trips (recursion_from_All (λ (t : Trip). t.from < n) trips from) (recursion_from_All (λ (t : Trip). t.to < n) trips to)
-    (λ (t : Trip). t.weight * along d t.from (xs ++ t.to ∷ [])) (λ (t : Trip). t.weight * along f t.from (xs ++ t.to ∷ []))
-    (λ t a b. ap (λ (k : ℕ). t.weight * k) (along-same d f n same (xs ++ t.to ∷ []) t.from a
-    (recursion_from_All (λ x. x < n) (xs ++ t.to ∷ []) (All-append (λ x. x < n) xs (t.to ∷ []) low (All-cons (λ x. x < n) t.to [] b (All-nil (λ x. x < n))))))))
+    sum_by-each (λ (t : Trip). t.weight * along d t.from (xs ++ t.to ∷ [])) (λ (t : Trip). t.weight * along f t.from (xs ++ t.to ∷ [])) trips (λ k e lt.
+    let t = slice_index_or trips k e in
+    ap (λ (m : ℕ). t.weight * m) (along-same d f n same (xs ++ t.to ∷ []) t.from (from k e lt) (All-push (λ x. x < n) xs t.to low (to k e lt))))
 
 module _ (g : Grouping) (t : Topology) (x y : Table) (ord : IsOrdered g) (form : IsInForm t) (rx : AreRoutes t x) (ry : AreRoutes t y) where
   same_distance : (a b : ℕ) → a < length t.switches → b < length t.switches → distance_of x a b ≡ distance_of y a b

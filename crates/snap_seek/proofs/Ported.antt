@@ -3,7 +3,7 @@ use Rattle.std.proofs.Common.{◌≡◌, ◌≢◌, ◌∙◌, inl, inr, ℕ, ze
 use Rattle.std.specs.List.{All}
 use Rattle.std.specs.List.Sorted.{IsStrictlySortedBy, IsSearchInRange, IsBinarySearchResult, IsNonDecreasingBy}
 use Rattle.std.specs.Ordering.{nat_cmp, ordering_index}
-use Rattle.std.proofs.lemmas.Bool.{cases_eq, cases_lt, eqb-true, eq-eqb, false≢true}
+use Rattle.std.proofs.lemmas.Bool.{cases_eq, cases_lt, eq-eqb, false≢true, ne_eqb}
 use Rattle.std.proofs.lemmas.Bool.Decides.{nat_tests}
 use Rattle.std.proofs.lemmas.Cmp.{ranked}
 use Rattle.std.proofs.lemmas.List.{get_or-map, length-map}
@@ -26,32 +26,16 @@ number p = p.port
 abbrev nowhere : PortAt
 nowhere = record { port = 0; at = 0 }
 
-found-step : (b : Bool) (o p : Option ℕ) → b ≡ true → cond b o p ≡ o
-found-step true o p is = refl
-found-step false o p is = cc
-
-past-step : (b : Bool) (o p : Option ℕ) → b ≡ false → cond b o p ≡ p
-past-step true o p is = cc
-past-step false o p is = refl
-
-not-same : (a b : ℕ) (t : Bool) → (a == b) ≡ t → a ≢ b → t ≡ false
-not-same a b true is apart = absurd (apart (eqb-true a b is))
-not-same a b false is apart = refl
-
 -- no port is the one that is looked for
 absent : (ports : List PortAt) (port : ℕ) → ((k : ℕ) → k < length ports → number (get_or ports k nowhere) ≢ port) → switch_at ports port ≡ None
 absent [] port apart = refl
-absent (p ∷ ports) port apart =
-    past-step (p.port == port) (Some p.at) (switch_at ports port) (not-same p.port port (p.port == port) refl (apart 0 (omega arith)))
-    ∙ absent ports port (λ k lt. apart (suc k) (omega arith))
+absent (p ∷ ports) port apart = rw (ne_eqb p.port port (apart 0 (omega arith))) (absent ports port (λ k lt. apart (suc k) (omega arith)))
 
 -- the port at an index is looked for, and none before it is the same
 present : (ports : List PortAt) (port i : ℕ) → i < length ports → number (get_or ports i nowhere) ≡ port → ((k : ℕ) → k < i → number (get_or ports k nowhere) ≢ port) → switch_at ports port ≡ Some (get_or ports i nowhere).at
 present [] port i lt is apart = absurd (omega arith)
-present (p ∷ ports) port zero lt is apart = found-step (p.port == port) (Some p.at) (switch_at ports port) (eq-eqb p.port port is)
-present (p ∷ ports) port (suc i) lt is apart =
-    past-step (p.port == port) (Some p.at) (switch_at ports port) (not-same p.port port (p.port == port) refl (apart 0 (omega arith)))
-    ∙ present ports port i (omega arith) is (λ k less. apart (suc k) (omega arith))
+present (p ∷ ports) port zero lt is apart = rw (eq-eqb p.port port is) refl
+present (p ∷ ports) port (suc i) lt is apart = rw (ne_eqb p.port port (apart 0 (omega arith))) (present ports port i (omega arith) is (λ k less. apart (suc k) (omega arith)))
 
 module _ (ports : List PortAt) (rise : IsStrictlySortedBy nat_cmp (map number ports)) (port : ℕ) where
   rises : (i j : ℕ) → i < j → j < length ports → number (get_or ports i nowhere) < number (get_or ports j nowhere)
