@@ -1,10 +1,10 @@
 -- Updates alone, one after another.
 use Rattle.std.proofs.Common.{◌≡◌, ℕ, ◌<◌, ◌^◌, List, [], ◌++◌, Some, map, refl, sym, ap, ◌∙◌, arith, bit_or}
 use Rattle.std.specs.Prelude.{All, option_map, option_and_then}
-use Rattle.std.specs.List.{AllByRecursion}
 use Rattle.std.proofs.Math.Pow.{pow-lt}
 use Rattle.std.proofs.lemmas.Nat.{or_lt}
-use Rattle.std.proofs.lemmas.List.Elements.{All-cons, All-nil, All-append, recursion_from_All, All-from_recursion}
+use Rattle.std.proofs.lemmas.List.Elements.{All-cons, All-nil, All-append}
+use Rattle.snap_core.proofs.Elements.{All-back, All-front}
 use Rattle.snap_core.specs.declared.policy.Pol.{Pol}
 use Rattle.snap_core.specs.declared.policy.Pol.TheVariants.{Filter, Set, Change, Par', Seq', If', Atomic'}
 use Rattle.snap_core.specs.declared.policy.Update.{Update}
@@ -14,7 +14,6 @@ use Rattle.snap_core.specs.Meaning.{eval, logged, all_together}
 use Rattle.snap_core.specs.Packets.{no_packets, with_packet, listed}
 use Rattle.snap_core.specs.Tests.{OutFits, PartFits}
 use Rattle.snap_core.proofs.EvalLemmas.{each_one}
-use Rattle.snap_ctx.proofs.Each.{Each-left, Each-right}
 use Rattle.snap_fdd.specs.Bounds.{Sizes, LeafIn, UpdateIn}
 use Rattle.snap_fdd.specs.Leaves.{answer_of, outcome_of}
 use Rattle.snap_chain.specs.Additions.{AreSame}
@@ -49,10 +48,7 @@ alone_fits s (Atomic' _ p) a h = absurd a
 pub same_appended : (ws us vs xs : List Update) → AreSame ws (us ++ xs) → AreSame us vs → AreSame ws (vs ++ xs)
 same_appended ws us vs xs a b = record {
   after = λ m k. a.after m k ∙ updates-append us xs m k ∙ ap (λ (n : Arrays). updates n xs k) (b.after m k) ∙ sym (updates-append vs xs m k);
-  fits = λ s h.
-      let P : Update → Type 0 = UpdateIn s in
-      let each : AllByRecursion P (vs ++ xs) = recursion_from_All P (vs ++ xs) h in
-      a.fits s (All-append P us xs (b.fits s (All-from_recursion P vs (Each-left P vs xs each))) (All-from_recursion P xs (Each-right P vs xs each)));
+  fits = λ s h. a.fits s (All-append (UpdateIn s) us xs (b.fits s (All-front (UpdateIn s) vs xs h)) (All-back (UpdateIn s) vs xs h));
 }
 
 -- ---- the leaf of such updates, or of updates that do the same

@@ -1,16 +1,16 @@
 -- Additions in any order do the same.
 use Rattle.std.proofs.Common.{◌≡◌, ℕ, ◌+◌, ◌%◌, ◌<◌, ◌^◌, Bool, true, false, cond, List, [], ◌∷◌, refl, sym, ap, subst, ◌∙◌, arith}
-use Rattle.std.specs.List.{AllByRecursion, sum_by}
+use Rattle.std.specs.List.{All, sum_by}
 use Rattle.std.specs.List.Sorted.{IsPermutation}
-use Rattle.std.proofs.lemmas.List.Elements.{All-from_recursion, recursion_from_All}
+use Rattle.std.proofs.lemmas.List.Elements.{All-tail}
 use Rattle.std.proofs.lemmas.List.Sorted.{All-permutation, sum_by-IsPermutation}
 use Rattle.std.proofs.lemmas.List.Sums.{sum_by-cons}
+use Rattle.snap_core.proofs.Places.{same_place-exact}
 use Rattle.snap_core.specs.declared.place.Place.{Place}
 use Rattle.snap_core.specs.declared.policy.Op.{Op}
 use Rattle.snap_core.specs.declared.policy.Op.TheVariants.{Put, Add}
 use Rattle.snap_core.specs.declared.policy.Update.{Update}
 use Rattle.snap_core.specs.Arrays.{Arrays, number_after, place_at, same_place, update, updates}
-use Rattle.snap_ctx.proofs.Places.{same_place-true}
 use Rattle.snap_core.specs.declared.policy.Atom.{Atom}
 use Rattle.snap_core.specs.Tests.{after_out}
 use Rattle.snap_core.specs.Inputs.{IsStore}
@@ -41,20 +41,21 @@ once m k p u h small = at (same_place q p) refl
     sum (Add n) i = refl
 
     at : (b : Bool) → same_place q p ≡ b → cond b (number_after u.op (m q) k) (m p) ≡ (m p + cond b (by u.op) 0) % 2 ^ 64
-    at true e = sum u.op h ∙ ap (λ (r : Place). (m r + by u.op) % 2 ^ 64) (same_place-true q p e)
+    at true e = sum u.op h ∙ ap (λ (r : Place). (m r + by u.op) % 2 ^ 64) (same_place-exact q p e)
     at false e = omega (arith, small)
 
-total : (us : List Update) (m : Arrays) (k : List ℕ) (p : Place) → AllByRecursion Adds us → IsStore m → updates m us k p ≡ (m p + sum_by (added k p) us) % 2 ^ 64
+total : (us : List Update) (m : Arrays) (k : List ℕ) (p : Place) → All Adds us → IsStore m → updates m us k p ≡ (m p + sum_by (added k p) us) % 2 ^ 64
 total [] m k p h small = let s = small p in omega (arith, s)
 total (u ∷ us) m k p h small =
-    let one = once m k p u h.0 (small p) in
-    let rest = total us (update m u k) k p h.1 (λ q. rw (once m k q u h.0 (small q)) (omega arith)) in
+    let first : Adds u = h 0 u (omega arith) in
+    let one = once m k p u first (small p) in
+    let rest = total us (update m u k) k p (All-tail Adds u us h) (λ q. rw (once m k q u first (small q)) (omega arith)) in
     let all = sum_by-cons (added k p) u us in
     omega (arith, one, rest, all)
 
 -- the law
-pub same_total : (us vs : List Update) → IsPermutation us vs → AllByRecursion Adds us → (m : Arrays) (k : List ℕ) → IsStore m → updates m vs k ≡ updates m us k
-same_total us vs perm h m k small = λ i p. (total vs m k p (recursion_from_All Adds vs (All-permutation Adds us vs perm (All-from_recursion Adds us h))) small
+pub same_total : (us vs : List Update) → IsPermutation us vs → All Adds us → (m : Arrays) (k : List ℕ) → IsStore m → updates m vs k ≡ updates m us k
+same_total us vs perm h m k small = λ i p. (total vs m k p (All-permutation Adds us vs perm h) small
     ∙ (ap (λ n. (m p + n) % 2 ^ 64) (sum_by-IsPermutation (added k p) us vs perm) ∙ sym (total us m k p h small))) i
 
 -- what is late behind updates is late behind those that do the same

@@ -1,21 +1,20 @@
 -- Tests that a leaf misses, asked before it.
-use Rattle.std.proofs.Common.{◌≡◌, ℕ, ◌<◌, ◌≤◌, arith, length, Bool, true, false, cond, List, [], ◌∷◌, Option, refl, sym, ap, subst, ◌∙◌}
-use Rattle.std.specs.Prelude.{map, option_map}
-use Rattle.std.specs.List.{AllByRecursion}
-use Rattle.std.specs.FinMap.Entries.{by_order}
-use Rattle.std.specs.declared.cmp.Ordering.{Ordering}
-use Rattle.std.specs.declared.cmp.Ordering.TheVariants.{Less, Equal, Greater}
+use Rattle.std.proofs.Common.{◌≡◌, ℕ, ◌<◌, ◌≤◌, arith, length, Bool, true, false, cond, List, [], ◌∷◌, Option, refl, sym, ap, subst, ◌∙◌, get_or}
+use Rattle.std.specs.Prelude.{option_map}
+use Rattle.std.specs.List.{All}
 use Rattle.std.proofs.lemmas.Bool.{cond-true, cond-false}
+use Rattle.std.proofs.lemmas.List.Elements.{All-nil, All-tail, All-weaker}
+use Rattle.snap_core.proofs.Elements.{map-agree}
 use Rattle.snap_dep.specs.Ranks.{Grouping}
 use Rattle.snap_core.specs.declared.policy.Atom.{Atom}
 use Rattle.snap_core.specs.declared.policy.Test.{Test}
 use Rattle.snap_core.specs.declared.policy.Update.{Update}
 use Rattle.snap_core.specs.Arrays.{Arrays, updates}
-use Rattle.snap_core.specs.Packets.{PacketSet, packet_cmp, listed, set_of, IsRising}
+use Rattle.snap_core.specs.Packets.{PacketSet, listed, set_of, IsRising}
 use Rattle.snap_core.specs.Tests.{after_out, results_from, results, passes}
 use Rattle.snap_core.specs.Meaning.{Meaning, logged, all_together}
 use Rattle.snap_core.proofs.Rising.{listed-set_of}
-use Rattle.snap_chain.proofs.Inserted.{inserted, set_of-none, rising_inserted, set_of-inserted}
+use Rattle.snap_chain.proofs.Inserted.{inserted, All-inserted, set_of-none, rising_inserted, set_of-inserted}
 use Rattle.snap_ctx.specs.View.{View}
 use Rattle.snap_fdd.specs.declared.leaf.Leaf.{Leaf}
 use Rattle.snap_fdd.specs.declared.leaf.Leaf.TheVariants.{Race, Go as Goes}
@@ -35,34 +34,21 @@ use Rattle.snap_chain.specs.Turns.{IsAlong, IsAskedFirst, IsLeft, SameWhere}
 use Rattle.snap_chain.proofs.Marked.{leaf_marked, test_missed}
 
 -- ---- what holds of each packet that outs give
-each_inserted : (P : List ℕ → Type 0) (p : List ℕ) (ks : List (List ℕ)) → P p → AllByRecursion P ks → AllByRecursion P (inserted p ks)
-each_inserted P p [] new old = (new, tt)
-each_inserted P p (x ∷ xs) new old = by (packet_cmp p x) (each_inserted P p xs new old.1)
-  where
-    by : (o : Ordering) → AllByRecursion P (inserted p xs) → AllByRecursion P (by_order o (p ∷ x ∷ xs) (x ∷ xs) (x ∷ inserted p xs))
-    by Less h = (new, old)
-    by Equal h = old
-    by Greater h = (old.0, h)
-
-each_result : (P : List ℕ → Type 0) (k : List ℕ) (os : List (List (ℕ × Atom))) (ks : List (List ℕ)) → IsRising ks → AllByRecursion P ks → AllByRecursion (λ o. P (after_out o k)) os → AllByRecursion P (listed (results_from (set_of ks) os k))
-each_result P k [] ks r old new = subst (AllByRecursion P) (sym (listed-set_of ks r)) old
+each_result : (P : List ℕ → Type 0) (k : List ℕ) (os : List (List (ℕ × Atom))) (ks : List (List ℕ)) → IsRising ks → All P ks → All (λ o. P (after_out o k)) os → All P (listed (results_from (set_of ks) os k))
+each_result P k [] ks r old new = subst (All P) (sym (listed-set_of ks r)) old
 each_result P k (o ∷ os) ks r old new =
     let p : List ℕ = after_out o k in
-    subst (λ (s : PacketSet). AllByRecursion P (listed (results_from s os k))) (set_of-inserted p ks (inserted p ks) r refl)
-    (each_result P k os (inserted p ks) (rising_inserted p ks (inserted p ks) r refl) (each_inserted P p ks new.0 old) new.1)
+    subst (λ (s : PacketSet). All P (listed (results_from s os k))) (set_of-inserted p ks (inserted p ks) r refl)
+    (each_result P k os (inserted p ks) (rising_inserted p ks (inserted p ks) r refl) (All-inserted P p ks (new 0 o (omega arith)) old)
+    (All-tail (λ o. P (after_out o k)) o os new))
 
-each_of_results : (P : List ℕ → Type 0) (k : List ℕ) (os : List (List (ℕ × Atom))) → AllByRecursion (λ o. P (after_out o k)) os → AllByRecursion P (listed (results os k))
-each_of_results P k os h = subst (λ (s : PacketSet). AllByRecursion P (listed (results_from s os k))) set_of-none (each_result P k os [] refl tt h)
-
-map_same : {X : Type 0} (P : List ℕ → Type 0) (f g : List ℕ → X) (ks : List (List ℕ)) → ((q : List ℕ) → P q → f q ≡ g q) → AllByRecursion P ks → map f ks ≡ map g ks
-map_same P f g [] same h = refl
-map_same P f g (k ∷ ks) same h = (λ i. same k h.0 i ∷ map_same P f g ks same h.1 i)
+each_of_results : (P : List ℕ → Type 0) (k : List ℕ) (os : List (List (ℕ × Atom))) → All (λ o. P (after_out o k)) os → All P (listed (results os k))
+each_of_results P k os h = subst (λ (s : PacketSet). All P (listed (results_from s os k))) set_of-none (each_result P k os [] refl (All-nil P) h)
 
 -- ---- a leaf, and then either of two diagrams that go alike where a test gives an answer
-outs_missed : (mk : Mark) (t : Test) (given : Bool) (us : List Update) (m : Arrays) (k : List ℕ) (os : List (List (ℕ × Atom))) → TestMissed mk t → AllByRecursion (SetsAmong mk.sets) os → UpdatesAmong mk.updates us → passes t m k ≡ given
-    → AllByRecursion (λ o. passes t (updates m us k) (after_out o k) ≡ given) os
-outs_missed mk t given us m k [] miss hs hu is = tt
-outs_missed mk t given us m k (o ∷ os) miss hs hu is = (test_missed mk t o us m k miss hs.0 hu ∙ is, outs_missed mk t given us m k os miss hs.1 hu is)
+outs_missed : (mk : Mark) (t : Test) (given : Bool) (us : List Update) (m : Arrays) (k : List ℕ) (os : List (List (ℕ × Atom))) → TestMissed mk t → All (SetsAmong mk.sets) os → UpdatesAmong mk.updates us → passes t m k ≡ given
+    → All (λ o. passes t (updates m us k) (after_out o k) ≡ given) os
+outs_missed mk t given us m k os miss hs hu is = λ i d l. test_missed mk t (get_or os i d) us m k miss (hs i d l) hu ∙ is
 
 pub leaf_then : (mk : Mark) (t : Test) (given : Bool) (l : Leaf) (d e : Diagram) (m : Arrays) (k : List ℕ) → LeafMarked mk l → TestMissed mk t → passes t m k ≡ given
     → ((n : Arrays) (q : List ℕ) → passes t n q ≡ given → walk e n q ≡ walk d n q)
@@ -71,9 +57,9 @@ leaf_then mk t given Race d e m k h miss is same = refl
 leaf_then mk t given (Goes g) d e m k h miss is same =
     let m1 : Arrays = updates m g.ups k in
     ap (λ (os : List (Option Meaning)). option_map (logged g.reads g.writes) (all_together m1 os))
-    (map_same (λ q. passes t m1 q ≡ given) (λ q. outcome_at e m1 q) (λ q. outcome_at d m1 q) (listed (results g.outs k))
-    (λ q p. ap (λ (l : Leaf). outcome_of (answer_of l q) m1) (same m1 q p))
-    (each_of_results (λ q. passes t m1 q ≡ given) k g.outs (outs_missed mk t given g.ups m k g.outs miss h.0 h.1 is)))
+    (map-agree (λ q. outcome_at e m1 q) (λ q. outcome_at d m1 q) (listed (results g.outs k))
+    (All-weaker (λ q. passes t m1 q ≡ given) (λ q. outcome_at e m1 q ≡ outcome_at d m1 q) (λ q p. ap (λ (l : Leaf). outcome_of (answer_of l q) m1) (same m1 q p)) (listed (results g.outs k))
+    (each_of_results (λ q. passes t m1 q ≡ given) k g.outs (outs_missed mk t given g.ups m k g.outs miss h.0 h.1 is))))
 
 pub along_missed : (ranks : List ℕ) (s : Sizes) (mk : Mark) (t : Test) (given : Bool) (d r : Diagram) → TestMissed mk t → IsSide ranks s t given d r → IsAlong ranks s mk t given d r
 along_missed ranks s mk t given d r miss side = record { keeps = side.keeps; same = λ l m k h is. leaf_then mk t given l d r m k h miss is side.walks }

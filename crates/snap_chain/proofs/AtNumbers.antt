@@ -1,7 +1,7 @@
 -- Updates at numbers do the same in any order that keeps those at one place in theirs.
-use Rattle.std.proofs.Common.{◌≡◌, ℕ, Bool, true, false, cond, not, ◌&&◌, List, [], ◌∷◌, ◌++◌, refl, sym, ap, ◌∙◌, subst}
+use Rattle.std.proofs.Common.{◌≡◌, ℕ, Bool, true, false, cond, not, ◌&&◌, List, [], ◌∷◌, ◌++◌, refl, sym, ap, ◌∙◌, subst, arith}
 use Rattle.std.specs.Prelude.{map}
-use Rattle.std.specs.List.{AllByRecursion, filter}
+use Rattle.std.specs.List.{All, filter}
 use Rattle.std.specs.List.Sorted.{IsPermutation, IsStableBy, ties}
 use Rattle.std.specs.declared.cmp.Ordering.{Ordering}
 use Rattle.std.specs.declared.cmp.Ordering.TheVariants.{Less, Equal, Greater}
@@ -10,17 +10,16 @@ use Rattle.std.specs.Cmp.{IsStrictWeakOrder}
 use Rattle.std.specs.Cmp.Lexicographic.{slice_cmp}
 use Rattle.std.proofs.lemmas.Cmp.{nat_list_cmp_total, tied_itself}
 use Rattle.std.proofs.lemmas.Bool.{false≢true}
-use Rattle.std.proofs.lemmas.List.Elements.{All-from_recursion, recursion_from_All}
+use Rattle.std.proofs.lemmas.List.Elements.{All-nil, All-push, All-tail}
 use Rattle.std.proofs.lemmas.List.{append-nil, append_assoc}
 use Rattle.std.proofs.lemmas.List.Sorted.{ranks_by, IsStrictWeakOrder-flip, All-permutation, IsPermutation-append_left, IsPermutation-append_right, IsPermutation-refl, IsPermutation-trans}
+use Rattle.snap_core.proofs.Places.{same_place-exact}
 use Rattle.snap_core.specs.declared.place.Place.{Place}
 use Rattle.snap_core.specs.declared.policy.Atom.{Atom}
 use Rattle.snap_core.specs.declared.policy.Atom.TheVariants.{Num as Number, Comp}
 use Rattle.snap_core.specs.declared.policy.Op.TheVariants.{Add}
 use Rattle.snap_core.specs.declared.policy.Update.{Update}
 use Rattle.snap_core.specs.Arrays.{Arrays, number_after, place_at, same_place, update, updates, value_of}
-use Rattle.snap_ctx.proofs.Each.{Each-append}
-use Rattle.snap_ctx.proofs.Places.{same_place-true}
 use Rattle.snap_arena.specs.Codes.{index_code}
 use Rattle.snap_ctx.specs.Known.{IsFixed}
 use Rattle.snap_chain.specs.Fixed.{AreReordered, EndInRun, IsFixedUpdate, falling}
@@ -33,15 +32,15 @@ module _ {X : Type 0} (P : X → Type 0) (p q : X → Bool) (within : (x : X) �
   next_within x xs h rest false true e f = absurd (false≢true (sym e ∙ within x h f))
   next_within x xs h rest false false e f = rest
 
-  filter-filter : (xs : List X) → AllByRecursion P xs → filter q (filter p xs) ≡ filter q xs
+  filter-filter : (xs : List X) → All P xs → filter q (filter p xs) ≡ filter q xs
   filter-filter [] h = refl
-  filter-filter (x ∷ xs) h = next_within x xs h.0 (filter-filter xs h.1) (p x) (q x) refl refl
+  filter-filter (x ∷ xs) h = next_within x xs (h 0 x (omega arith)) (filter-filter xs (All-tail P x xs h)) (p x) (q x) refl refl
 
 -- numbers are the index that they give
-fixed_values : (ix : List Atom) (k : List ℕ) → AllByRecursion IsFixed ix → map Number (map (λ a. value_of a k) ix) ≡ ix
+fixed_values : (ix : List Atom) (k : List ℕ) → All IsFixed ix → map Number (map (λ a. value_of a k) ix) ≡ ix
 fixed_values [] k h = refl
-fixed_values (Number n ∷ ix) k h = ap (λ (l : List Atom). Number n ∷ l) (fixed_values ix k h.1)
-fixed_values (Comp c ∷ ix) k h = absurd h.0
+fixed_values (Number n ∷ ix) k h = ap (λ (l : List Atom). Number n ∷ l) (fixed_values ix k (All-tail IsFixed (Number n) ix h))
+fixed_values (Comp c ∷ ix) k h = absurd (h 0 (Comp c) (omega arith))
 
 module _ (k : List ℕ) (p : Place) where
   abbrev is_at : Update → Bool
@@ -53,7 +52,7 @@ module _ (k : List ℕ) (p : Place) where
   -- an update of stores that agree at the place
   agree_after : (u : Update) (m n : Arrays) → m p ≡ n p → is_at u ≡ true → update m u k p ≡ update n u k p
   agree_after u m n e t =
-      let at : place_at u.var u.index k ≡ p = same_place-true (place_at u.var u.index k) p t in
+      let at : place_at u.var u.index k ≡ p = same_place-exact (place_at u.var u.index k) p t in
       hit u m k p at ∙ ap (λ x. number_after u.op x k) e ∙ sym (hit u n k p at)
 
   -- at a place only the updates there count
@@ -73,11 +72,11 @@ module _ (k : List ℕ) (p : Place) where
   -- updates at numbers that are at the place tie with that one
   at_place-ties : (u : Update) → IsFixedUpdate u → is_at u ≡ true → ties (λ x y. is_lt (falling x y)) here u ≡ true
   at_place-ties u h t =
-      let same : u.index ≡ map Number p.index = sym (fixed_values u.index k h) ∙ ap (λ (q : Place). map Number q.index) (same_place-true (place_at u.var u.index k) p t) in
+      let same : u.index ≡ map Number p.index = sym (fixed_values u.index k h) ∙ ap (λ (q : Place). map Number q.index) (same_place-exact (place_at u.var u.index k) p t) in
       (λ i. not (is_lt (slice_cmp nat_cmp (index_code (same i)) (index_code here.index))) && not (is_lt (slice_cmp nat_cmp (index_code here.index) (index_code (same i)))))
       ∙ (λ i. not (is_lt (tied_itself nat_list_cmp_total (index_code here.index) i)) && not (is_lt (tied_itself nat_list_cmp_total (index_code here.index) i)))
 
-  stay_at_place : (us vs : List Update) → AllByRecursion IsFixedUpdate us → AllByRecursion IsFixedUpdate vs → IsStableBy (λ x y. is_lt (falling x y)) us vs → at_place vs ≡ at_place us
+  stay_at_place : (us vs : List Update) → All IsFixedUpdate us → All IsFixedUpdate vs → IsStableBy (λ x y. is_lt (falling x y)) us vs → at_place vs ≡ at_place us
   stay_at_place us vs hu hv stable =
       let late : Update → Bool = ties (λ x y. is_lt (falling x y)) here in
       sym (filter-filter IsFixedUpdate late is_at at_place-ties vs hv)
@@ -85,9 +84,9 @@ module _ (k : List ℕ) (p : Place) where
       ∙ filter-filter IsFixedUpdate late is_at at_place-ties us hu
 
 -- the law
-pub fixed_same : (us vs : List Update) → IsPermutation us vs → IsStableBy (λ x y. is_lt (falling x y)) us vs → AllByRecursion IsFixedUpdate us → (m : Arrays) (k : List ℕ) → updates m vs k ≡ updates m us k
+pub fixed_same : (us vs : List Update) → IsPermutation us vs → IsStableBy (λ x y. is_lt (falling x y)) us vs → All IsFixedUpdate us → (m : Arrays) (k : List ℕ) → updates m vs k ≡ updates m us k
 fixed_same us vs perm stable h m k =
-    let hv : AllByRecursion IsFixedUpdate vs = recursion_from_All IsFixedUpdate vs (All-permutation IsFixedUpdate us vs perm (All-from_recursion IsFixedUpdate us h)) in
+    let hv = All-permutation IsFixedUpdate us vs perm h in
     λ i p. (updates-filter k p vs m m refl ∙ ap (λ (ws : List Update). updates m ws k p) (stay_at_place k p us vs h hv stable) ∙ sym (updates-filter k p us m m refl)) i
 
 -- ---- in another order
@@ -100,7 +99,7 @@ reordered_more us vs xs r = record {
 pub reordered-trans : (us vs ws : List Update) → AreReordered us vs → AreReordered vs ws → AreReordered us ws
 reordered-trans us vs ws a b = record { same = λ m k. b.same m k ∙ a.same m k; permuted = IsPermutation-trans us vs ws a.permuted b.permuted }
 
-pub run_sorted : (us run sorted : List Update) → IsPermutation run sorted → IsStableBy (λ x y. is_lt (falling x y)) run sorted → AllByRecursion IsFixedUpdate run → AreReordered (us ++ run) (us ++ sorted)
+pub run_sorted : (us run sorted : List Update) → IsPermutation run sorted → IsStableBy (λ x y. is_lt (falling x y)) run sorted → All IsFixedUpdate run → AreReordered (us ++ run) (us ++ sorted)
 run_sorted us run sorted perm stable fixed = record {
   same = λ m k. updates-append us sorted m k ∙ fixed_same run sorted perm stable fixed (updates m us k) k ∙ sym (updates-append us run m k);
   permuted = IsPermutation-append_right us run sorted perm;
@@ -109,18 +108,18 @@ run_sorted us run sorted perm stable fixed = record {
 -- ---- one update more
 pub run_longer : (us some run : List Update) (u : Update) → IsFixedUpdate u → EndInRun us some run → EndInRun (us ++ u ∷ []) some (run ++ u ∷ [])
 run_longer us some run u h e = record {
-  fixed = Each-append IsFixedUpdate run (u ∷ []) e.fixed (h, tt);
+  fixed = All-push IsFixedUpdate run u e.fixed h;
   same = subst (AreReordered (us ++ u ∷ [])) (append_assoc some run (u ∷ [])) (reordered_more us (some ++ run) (u ∷ []) e.same);
 }
 
 pub run_ended : (us some run new : List Update) (u : Update) → AreReordered (some ++ run) new → EndInRun us some run → EndInRun (us ++ u ∷ []) (new ++ u ∷ []) []
 run_ended us some run new u r e = record {
-  fixed = tt;
+  fixed = All-nil IsFixedUpdate;
   same = subst (AreReordered (us ++ u ∷ [])) (sym (append-nil (new ++ u ∷ []))) (reordered_more us new (u ∷ []) (reordered-trans us (some ++ run) new e.same r));
 }
 
 pub none_yet : EndInRun [] [] []
-none_yet = record { fixed = tt; same = record { same = λ m k. refl; permuted = IsPermutation-refl [] } }
+none_yet = record { fixed = All-nil IsFixedUpdate; same = record { same = λ m k. refl; permuted = IsPermutation-refl [] } }
 
 -- ---- the order is one
 pub falling-order : IsStrictWeakOrder (λ u v. is_lt (falling u v))

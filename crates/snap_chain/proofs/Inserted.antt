@@ -1,16 +1,29 @@
 -- A packet in its place among packets that rise.
-use Rattle.std.proofs.Common.{◌≡◌, ℕ, Bool, true, false, List, [], ◌∷◌, refl, sym, ap, subst, ◌∙◌}
+use Rattle.std.proofs.Common.{◌≡◌, ℕ, Bool, true, false, List, [], ◌∷◌, refl, sym, ap, subst, ◌∙◌, arith}
 use lib.Dec.{T}
 use Rattle.std.specs.Cmp.Lexicographic.{nat_list_cmp_total}
 use Rattle.std.specs.FinMap.{is_sorted, same_entries_map, entries-from_sorted, entries-insert, get-from_sorted, get-empty, same_map, slice_cmp-IsAntisymmetric, nat_cmp-IsAntisymmetric}
 use Rattle.std.specs.FinMap.Entries.{by_order, put, is_sorted-put}
 use Rattle.std.specs.declared.cmp.Ordering.TheVariants.{Less, Equal, Greater}
+use Rattle.std.specs.List.{All}
+use Rattle.std.proofs.lemmas.List.Elements.{All-cons, All-push, All-tail}
+use Rattle.std.specs.declared.cmp.Ordering.{Ordering}
 use Rattle.snap_core.specs.Packets.{packet_cmp, marked, IsRising, set_of, no_packets, with_packet}
 
 -- packets in rising order with k in its place, unless it is there
 abbrev pub inserted : List ℕ → List (List ℕ) → List (List ℕ)
 inserted k [] = k ∷ []
 inserted k (x ∷ xs) = by_order (packet_cmp k x) (k ∷ x ∷ xs) (x ∷ xs) (x ∷ inserted k xs)
+
+-- what holds of it and of the others holds of each
+pub All-inserted : (P : List ℕ → Type 0) (k : List ℕ) (ks : List (List ℕ)) → P k → All P ks → All P (inserted k ks)
+All-inserted P k [] new old = All-push P [] k old new
+All-inserted P k (x ∷ xs) new old = by (packet_cmp k x) (All-inserted P k xs new (All-tail P x xs old))
+  where
+    by : (o : Ordering) → All P (inserted k xs) → All P (by_order o (k ∷ x ∷ xs) (x ∷ xs) (x ∷ inserted k xs))
+    by Less h = All-cons P k (x ∷ xs) new old
+    by Equal h = old
+    by Greater h = All-cons P x (inserted k xs) (old 0 x (omega arith)) h
 
 pub set_of-none : set_of [] ≡ no_packets
 set_of-none = same_map nat_list_cmp_total (slice_cmp-IsAntisymmetric nat_cmp-IsAntisymmetric) _ _ (λ q. get-from_sorted packet_cmp [] q tt ∙ sym (get-empty packet_cmp q))

@@ -1,10 +1,12 @@
 -- What marks say of diagrams.
 use Rattle.std.proofs.Common.{◌≡◌, ℕ, ◌+◌, ◌-◌, ◌%◌, ◌<◌, ◌^◌, Bool, true, false, cond, ◌||◌, List, [], ◌∷◌, ◌++◌, length, take, get_or, refl, sym, ap, subst, ◌∙◌, arith, bit_or}
 use Rattle.std.specs.Prelude.{slice_index, slice_set, map, ◌==◌}
-use Rattle.std.specs.List.{AllByRecursion}
+use Rattle.std.specs.List.{All}
 use Rattle.std.proofs.lemmas.Bool.{or_parts, and_parts, both_ways, false≢true, ne_eqb, eq-eqb}
 use Rattle.std.proofs.lemmas.Nat.Bits.{bit_at_ones}
 use Rattle.std.proofs.lemmas.List.{take_more, get_or_default, get_or-set_other}
+use Rattle.std.proofs.lemmas.List.Elements.{All-push, All-tail, All-weaker}
+use Rattle.snap_ctx.proofs.Testing.{among_left, among_right}
 use Rattle.snap_core.specs.declared.policy.Atom.{Atom}
 use Rattle.snap_core.specs.declared.policy.Atom.TheVariants.{Num as Number, Comp}
 use Rattle.snap_core.specs.declared.policy.Term.{Term}
@@ -14,7 +16,6 @@ use Rattle.snap_core.specs.declared.policy.Test.TheVariants.{Value, Equal, State
 use Rattle.snap_core.specs.declared.policy.Update.{Update}
 use Rattle.snap_core.specs.Arrays.{Arrays, updates, value_of, has}
 use Rattle.snap_core.specs.Tests.{after_out, with_parts, passes, term_value}
-use Rattle.snap_ctx.proofs.Each.{Each-append, Each-weaker}
 use Rattle.snap_ctx.specs.Known.{IsAmong}
 use Rattle.snap_arena.specs.declared.node.Node.{Node}
 use Rattle.snap_arena.specs.Arena.{Grew}
@@ -22,7 +23,6 @@ use Rattle.snap_fdd.specs.declared.leaf.Leaf.{Leaf}
 use Rattle.snap_fdd.specs.declared.leaf.Leaf.TheVariants.{Race, Go as Goes}
 use Rattle.snap_fdd.specs.Diagrams.{Diagram, Only, Asks, walk}
 use Rattle.snap_fdd.proofs.Noted.{noted_kept}
-use Rattle.snap_fdd.proofs.Testing.{among_left, among_right}
 use Rattle.snap_chain.specs.declared.marks.Mark.{Mark}
 use Rattle.snap_chain.specs.declared.marks.Marks.{Marks}
 use Rattle.snap_chain.specs.Marks.{either_mark, AreMarked, AtomMissed, IsMarkedBy, IsMissed, LeafLogsUpdates, LeafMarked, LeafWritesNothing, LogsUpdates, SetsAmong, TermMissed, TestMarked, TestMissed, UpdatesAmong, WritesNothing}
@@ -35,20 +35,20 @@ missed_apart set n v h k = ne_eqb n v (λ e. both_ways _ k.1 (subst (λ (x : ℕ
 
 -- one more, with its own set
 each_more : {X : Type 0} (P : ℕ → X → Type 0) → ((a b : ℕ) (x : X) → P a x → P (bit_or a b) x) → ((a b : ℕ) (x : X) → P b x → P (bit_or a b) x)
-    → (a b : ℕ) (xs : List X) (i : ℕ) (x : X) → i < length xs → x ≡ get_or xs i x → AllByRecursion (P a) (take i xs) → P b x → AllByRecursion (P (bit_or a b)) (take (i + 1) xs)
+    → (a b : ℕ) (xs : List X) (i : ℕ) (x : X) → i < length xs → x ≡ get_or xs i x → All (P a) (take i xs) → P b x → All (P (bit_or a b)) (take (i + 1) xs)
 each_more P left right a b xs i x hi is h new = rw (take_more xs i x hi ∙ ap (λ y. take i xs ++ y ∷ []) (sym is))
-    (Each-append (P (bit_or a b)) (take i xs) (x ∷ []) (Each-weaker (P a) (P (bit_or a b)) (left a b) (take i xs) h) (right a b x new, tt))
+    (All-push (P (bit_or a b)) (take i xs) x (All-weaker (P a) (P (bit_or a b)) (left a b) (take i xs) h) (right a b x new))
 
 pub sets_left : (a b : ℕ) (o : List (ℕ × Atom)) → SetsAmong a o → SetsAmong (bit_or a b) o
-sets_left a b o h = Each-weaker (λ (p : ℕ × Atom). IsAmong a p.0) (λ (p : ℕ × Atom). IsAmong (bit_or a b) p.0) (λ p. among_left a b p.0) o h
+sets_left a b o h = All-weaker (λ (p : ℕ × Atom). IsAmong a p.0) (λ (p : ℕ × Atom). IsAmong (bit_or a b) p.0) (λ p. among_left a b p.0) o h
 
 pub sets_right : (a b : ℕ) (o : List (ℕ × Atom)) → SetsAmong b o → SetsAmong (bit_or a b) o
-sets_right a b o h = Each-weaker (λ (p : ℕ × Atom). IsAmong b p.0) (λ (p : ℕ × Atom). IsAmong (bit_or a b) p.0) (λ p. among_right a b p.0) o h
+sets_right a b o h = All-weaker (λ (p : ℕ × Atom). IsAmong b p.0) (λ (p : ℕ × Atom). IsAmong (bit_or a b) p.0) (λ p. among_right a b p.0) o h
 
 pub part_more : (a b : ℕ) (o : List (ℕ × Atom)) (i : ℕ) (d : ℕ × Atom) → i < length o → SetsAmong a (take i o) → IsAmong b (get_or o i d).0 → SetsAmong (bit_or a b) (take (i + 1) o)
 part_more a b o i d hi = each_more (λ (set : ℕ) (q : ℕ × Atom). IsAmong set q.0) (λ x y q. among_left x y q.0) (λ x y q. among_right x y q.0) a b o i (get_or o i d) hi (get_or_default o i d (get_or o i d) hi)
 
-pub out_more : (a b : ℕ) (os : List (List (ℕ × Atom))) (i : ℕ) (o : List (ℕ × Atom)) → i < length os → o ≡ get_or os i o → AllByRecursion (SetsAmong a) (take i os) → SetsAmong b o → AllByRecursion (SetsAmong (bit_or a b)) (take (i + 1) os)
+pub out_more : (a b : ℕ) (os : List (List (ℕ × Atom))) (i : ℕ) (o : List (ℕ × Atom)) → i < length os → o ≡ get_or os i o → All (SetsAmong a) (take i os) → SetsAmong b o → All (SetsAmong (bit_or a b)) (take (i + 1) os)
 out_more a b os i o = each_more SetsAmong sets_left sets_right a b os i o
 
 pub update_more : (a b : ℕ) (us : List Update) (i : ℕ) (u : Update) → i < length us → u ≡ get_or us i u → UpdatesAmong a (take i us) → IsAmong b u.var → UpdatesAmong (bit_or a b) (take (i + 1) us)
@@ -58,8 +58,8 @@ update_more a b us i u = each_more (λ (set : ℕ) (w : Update). IsAmong set w.v
 leaf_left : (a b : Mark) (l : Leaf) → LeafMarked a l → LeafMarked (either_mark a b) l
 leaf_left a b Race h = tt
 leaf_left a b (Goes g) h = (
-  Each-weaker (SetsAmong a.sets) (SetsAmong (bit_or a.sets b.sets)) (sets_left a.sets b.sets) g.outs h.0,
-  Each-weaker (λ (u : Update). IsAmong a.updates u.var) (λ (u : Update). IsAmong (bit_or a.updates b.updates) u.var) (λ u. among_left a.updates b.updates u.var) g.ups h.1,
+  All-weaker (SetsAmong a.sets) (SetsAmong (bit_or a.sets b.sets)) (sets_left a.sets b.sets) g.outs h.0,
+  All-weaker (λ (u : Update). IsAmong a.updates u.var) (λ (u : Update). IsAmong (bit_or a.updates b.updates) u.var) (λ u. among_left a.updates b.updates u.var) g.ups h.1,
   λ e. h.2 (or_parts a.writes b.writes e).0,
   λ e. h.3 (and_parts a.framed b.framed e).0,
 )
@@ -67,8 +67,8 @@ leaf_left a b (Goes g) h = (
 leaf_right : (a b : Mark) (l : Leaf) → LeafMarked b l → LeafMarked (either_mark a b) l
 leaf_right a b Race h = tt
 leaf_right a b (Goes g) h = (
-  Each-weaker (SetsAmong b.sets) (SetsAmong (bit_or a.sets b.sets)) (sets_right a.sets b.sets) g.outs h.0,
-  Each-weaker (λ (u : Update). IsAmong b.updates u.var) (λ (u : Update). IsAmong (bit_or a.updates b.updates) u.var) (λ u. among_right a.updates b.updates u.var) g.ups h.1,
+  All-weaker (SetsAmong b.sets) (SetsAmong (bit_or a.sets b.sets)) (sets_right a.sets b.sets) g.outs h.0,
+  All-weaker (λ (u : Update). IsAmong b.updates u.var) (λ (u : Update). IsAmong (bit_or a.updates b.updates) u.var) (λ u. among_right a.updates b.updates u.var) g.ups h.1,
   λ e. h.2 (or_parts a.writes b.writes e).1,
   λ e. h.3 (and_parts a.framed b.framed e).1,
 )
@@ -102,18 +102,14 @@ marked_asks s a b t y n d e ht hy hn = rw e (
 has_all : (n : ℕ) → n < 64 → has (2 ^ 64 - 1) n ≡ true
 has_all n h = ap (λ bit. bit == 1) (bit_at_ones 64 n h)
 
-each_is : {X : Type 0} (P : X → Type 0) → ((x : X) → P x) → (xs : List X) → AllByRecursion P xs
-each_is P f [] = tt
-each_is P f (x ∷ xs) = (f x, each_is P f xs)
-
 abbrev everything : Mark
 everything = record { sets = 2 ^ 64 - 1; updates = 2 ^ 64 - 1; tests = 2 ^ 64 - 1; writes = true; framed = false }
 
 leaf_in_everything : (l : Leaf) → LeafMarked everything l
 leaf_in_everything Race = tt
 leaf_in_everything (Goes g) = (
-  each_is (SetsAmong (2 ^ 64 - 1)) (each_is (λ (p : ℕ × Atom). IsAmong (2 ^ 64 - 1) p.0) (λ p. has_all p.0)) g.outs,
-  each_is (λ (u : Update). IsAmong (2 ^ 64 - 1) u.var) (λ u. has_all u.var) g.ups,
+  λ i o l j p m. has_all (get_or (get_or g.outs i o) j p).0,
+  λ i u l. has_all (get_or g.ups i u).var,
   λ e. absurd (false≢true (sym e)),
   λ e. absurd (false≢true e),
 )
@@ -135,20 +131,27 @@ marked_kept old new marks g h = noted_kept IsMarkedBy old new marks.reached.ids.
 parts_missed : (set : ℕ) (o : List (ℕ × Atom)) (k r : List ℕ) (c : ℕ) → SetsAmong set o → IsMissed set c → slice_index (with_parts o k r) c ≡ slice_index r c
 parts_missed set [] k r c h miss = refl
 parts_missed set (p ∷ ps) k r c h miss =
-    parts_missed set ps k (slice_set r p.0 (value_of p.1 k)) c h.1 miss
-    ∙ get_or-set_other r p.0 c (value_of p.1 k) 0 (λ e. both_ways _ (missed_apart set p.0 c h.0 miss) (eq-eqb p.0 c (sym e)))
+    let apart = missed_apart set p.0 c (h 0 p (omega arith)) miss in
+    parts_missed set ps k (slice_set r p.0 (value_of p.1 k)) c (All-tail (λ (q : ℕ × Atom). IsAmong set q.0) p ps h) miss
+    ∙ get_or-set_other r p.0 c (value_of p.1 k) 0 (λ e. both_ways _ apart (eq-eqb p.0 c (sym e)))
 
 out_missed : (set : ℕ) (o : List (ℕ × Atom)) (k : List ℕ) (c : ℕ) → SetsAmong set o → IsMissed set c → slice_index (after_out o k) c ≡ slice_index k c
 out_missed set o k c h miss = parts_missed set o k k c h miss
 
 updates_missed : (set : ℕ) (us : List Update) (v : ℕ) → UpdatesAmong set us → IsMissed set v → changes us v ≡ false
 updates_missed set [] v h miss = refl
-updates_missed set (u ∷ us) v h miss = (λ i. missed_apart set u.var v h.0 miss i || updates_missed set us v h.1 miss i)
+updates_missed set (u ∷ us) v h miss =
+    let first = missed_apart set u.var v (h 0 u (omega arith)) miss in
+    let rest = updates_missed set us v (All-tail (λ (w : Update). IsAmong set w.var) u us h) miss in
+    (λ i. first i || rest i)
 
-atoms_missed : (mk : Mark) (o : List (ℕ × Atom)) (k : List ℕ) (ix : List Atom) → SetsAmong mk.sets o → AllByRecursion (AtomMissed mk) ix → map (λ a. value_of a (after_out o k)) ix ≡ map (λ a. value_of a k) ix
+atoms_missed : (mk : Mark) (o : List (ℕ × Atom)) (k : List ℕ) (ix : List Atom) → SetsAmong mk.sets o → All (AtomMissed mk) ix → map (λ a. value_of a (after_out o k)) ix ≡ map (λ a. value_of a k) ix
 atoms_missed mk o k [] h miss = refl
-atoms_missed mk o k (Number n ∷ ix) h miss = ap (λ (xs : List ℕ). n ∷ xs) (atoms_missed mk o k ix h miss.1)
-atoms_missed mk o k (Comp c ∷ ix) h miss = (λ i. out_missed mk.sets o k c h miss.0 i ∷ atoms_missed mk o k ix h miss.1 i)
+atoms_missed mk o k (Number n ∷ ix) h miss = ap (λ (xs : List ℕ). n ∷ xs) (atoms_missed mk o k ix h (All-tail (AtomMissed mk) (Number n) ix miss))
+atoms_missed mk o k (Comp c ∷ ix) h miss =
+    let first = out_missed mk.sets o k c h (miss 0 (Comp c) (omega arith)) in
+    let rest = atoms_missed mk o k ix h (All-tail (AtomMissed mk) (Comp c) ix miss) in
+    (λ i. first i ∷ rest i)
 
 term_missed : (mk : Mark) (o : List (ℕ × Atom)) (k : List ℕ) (t : Term) → SetsAmong mk.sets o → TermMissed mk t → term_value t (after_out o k) ≡ term_value t k
 term_missed mk o k (Num n) h miss = refl
@@ -170,16 +173,20 @@ leaf_marked mk (Asks t y n) m k h =
     by (passes t m k)
 
 -- ---- diagrams that updates leave as they are, and that write nothing
-tests_missed : (mk : Mark) (t : Test) (us : List Update) → TestMarked mk t → AllByRecursion (λ (u : Update). IsMissed mk.tests u.var) us → tests_updated t us ≡ false
+tests_missed : (mk : Mark) (t : Test) (us : List Update) → TestMarked mk t → All (λ (u : Update). IsMissed mk.tests u.var) us → tests_updated t us ≡ false
 tests_missed mk (Value c n) us h miss = refl
 tests_missed mk (Equal l r p) us h miss = refl
 tests_missed mk (State v ix t) us h miss = none us miss
   where
-    none : (xs : List Update) → AllByRecursion (λ (u : Update). IsMissed mk.tests u.var) xs → changes xs v ≡ false
+    none : (xs : List Update) → All (λ (u : Update). IsMissed mk.tests u.var) xs → changes xs v ≡ false
     none [] k = refl
-    none (u ∷ xs) k = (λ i. ne_eqb u.var v (λ e. both_ways _ k.0.1 (subst (λ (x : ℕ). has mk.tests x ≡ true) (sym e) (h (rw (sym e) k.0.0)))) i || none xs k.1 i)
+    none (u ∷ xs) k =
+        let one : IsMissed mk.tests u.var = k 0 u (omega arith) in
+        let first = ne_eqb u.var v (λ e. both_ways _ one.1 (subst (λ (x : ℕ). has mk.tests x ≡ true) (sym e) (h (rw (sym e) one.0)))) in
+        let rest = none xs (All-tail (λ (w : Update). IsMissed mk.tests w.var) u xs k) in
+        (λ i. first i || rest i)
 
-pub marked_untouched : (mk : Mark) (us : List Update) (d : Diagram) → IsMarkedBy mk d → AllByRecursion (λ (u : Update). IsMissed mk.tests u.var) us → IsUntouched us d
+pub marked_untouched : (mk : Mark) (us : List Update) (d : Diagram) → IsMarkedBy mk d → All (λ (u : Update). IsMissed mk.tests u.var) us → IsUntouched us d
 marked_untouched mk us (Only l) h miss = tt
 marked_untouched mk us (Asks t y n) h miss = (tests_missed mk t us h.0 miss, marked_untouched mk us y h.1 miss, marked_untouched mk us n h.2 miss)
 

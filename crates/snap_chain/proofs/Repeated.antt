@@ -1,32 +1,33 @@
 -- A second part on the set of packets that outs give, and out by out.
-use Rattle.std.proofs.Common.{◌≡◌, ◌≢◌, ◌⊎◌, inl, inr, ℕ, List, [], ◌∷◌, Option, Some, refl, sym, ap, ◌∙◌}
+use Rattle.std.proofs.Common.{◌≡◌, ◌≢◌, ◌⊎◌, inl, inr, ℕ, List, [], ◌∷◌, Option, Some, refl, sym, ap, ◌∙◌, arith, get_or}
 use Rattle.std.specs.Prelude.{map}
-use Rattle.std.specs.List.{AllByRecursion}
+use Rattle.std.specs.List.{All}
 use Rattle.std.specs.FinMap.Entries.{by_order}
 use Rattle.std.specs.declared.cmp.Ordering.{Ordering}
 use Rattle.std.specs.declared.cmp.Ordering.TheVariants.{Less, Equal, Greater}
 use Rattle.std.proofs.lemmas.Map.Lookups.{exact_bytes}
+use Rattle.std.proofs.lemmas.List.Elements.{All-nil, All-tail}
 use Rattle.snap_core.specs.declared.policy.Atom.{Atom}
 use Rattle.snap_core.specs.Arrays.{Arrays}
 use Rattle.snap_core.specs.Packets.{PacketSet, packet_cmp, listed, set_of, IsRising}
 use Rattle.snap_core.specs.Tests.{after_out, results_from, results}
 use Rattle.snap_core.specs.Meaning.{Meaning, beside, all_together}
 use Rattle.snap_core.proofs.Rising.{listed-set_of}
-use Rattle.snap_chain.proofs.Inserted.{inserted, set_of-none, rising_inserted, set_of-inserted}
+use Rattle.snap_chain.proofs.Inserted.{inserted, All-inserted, set_of-none, rising_inserted, set_of-inserted}
 use Rattle.snap_chain.specs.Sequence.{AreDifferent}
 use Rattle.snap_chain.specs.Spread.{besides, nothing}
 use Rattle.snap_chain.proofs.Folding.{besides_front, all_together-is}
 use Rattle.snap_chain.proofs.Twice.{IsIdle, beside_twice}
 
 abbrev pub IsNew : List ℕ → List (List ℕ) → Type 0
-IsNew k ks = AllByRecursion (λ x. k ≢ x) ks
+IsNew k ks = All (λ x. k ≢ x) ks
 
 -- the packet isn't there, or what comes of it may be taken twice
 abbrev IsOnce : (List ℕ → Option Meaning) → List ℕ → List (List ℕ) → Type 0
 IsOnce f k ks = IsNew k ks ⊎ IsIdle (f k)
 
 once_more : (f : List ℕ → Option Meaning) (k x : List ℕ) (xs : List (List ℕ)) → IsOnce f k (x ∷ xs) → IsOnce f k xs
-once_more f k x xs (inl new) = inl new.1
+once_more f k x xs (inl new) = inl (All-tail (λ y. k ≢ y) x xs new)
 once_more f k x xs (inr idle) = inr idle
 
 besides_inserted : (f : List ℕ → Option Meaning) (a : Option Meaning) (k : List ℕ) (ks : List (List ℕ)) → IsOnce f k ks → besides a (map f (inserted k ks)) ≡ beside (besides a (map f ks)) (f k)
@@ -34,7 +35,7 @@ besides_inserted f a k [] once = refl
 besides_inserted f a k (x ∷ xs) once = by (packet_cmp k x) refl (besides_inserted f (beside a (f x)) k xs (once_more f k x xs once))
   where
     again : k ≡ x → IsOnce f k (x ∷ xs) → besides (beside a (f x)) (map f xs) ≡ beside (besides (beside a (f x)) (map f xs)) (f k)
-    again e (inl new) = absurd (new.0 e)
+    again e (inl new) = absurd (new 0 x (omega arith) e)
     again e (inr idle) =
         ap (λ b. besides b (map f xs)) (ap (beside a) (ap f (sym e)) ∙ sym (beside_twice a (f k) idle) ∙ ap (λ o. beside (beside a o) (f k)) (ap f e))
         ∙ besides_front (beside a (f x)) (f k) (map f xs)
@@ -67,35 +68,22 @@ results_once f m k os once =
     ∙ besides_results f (Some (nothing m)) k os [] refl once
 
 -- ---- packets that differ
-new_inserted : (p k : List ℕ) (ks : List (List ℕ)) → p ≢ k → IsNew p ks → IsNew p (inserted k ks)
-new_inserted p k [] d new = (d, tt)
-new_inserted p k (x ∷ xs) d new = by (packet_cmp k x) (new_inserted p k xs d new.1)
-  where
-    by : (o : Ordering) → IsNew p (inserted k xs) → IsNew p (by_order o (k ∷ x ∷ xs) (x ∷ xs) (x ∷ inserted k xs))
-    by Less h = (d, new)
-    by Equal h = new
-    by Greater h = (new.0, h)
-
 abbrev AllNew : List (List ℕ) → List (List ℕ) → Type 0
-AllNew ps ks = AllByRecursion (λ p. IsNew p ks) ps
+AllNew ps ks = All (λ p. IsNew p ks) ps
 
 all_new_inserted : (k : List ℕ) (ps ks : List (List ℕ)) → IsNew k ps → AllNew ps ks → AllNew ps (inserted k ks)
-all_new_inserted k [] ks d new = tt
-all_new_inserted k (p ∷ ps) ks d new = (new_inserted p k ks (λ e. d.0 (sym e)) new.0, all_new_inserted k ps ks d.1 new.1)
-
-all_new_none : (ps : List (List ℕ)) → AllNew ps []
-all_new_none [] = tt
-all_new_none (p ∷ ps) = (tt, all_new_none ps)
+all_new_inserted k ps ks d new = λ i e l. All-inserted (λ x. get_or ps i e ≢ x) k ks (λ same. d i e l (sym same)) (new i e l)
 
 different_once : (f : List ℕ → Option Meaning) (k : List ℕ) (os : List (List (ℕ × Atom))) (ks : List (List ℕ)) → AreDifferent (map (λ o. after_out o k) os) → AllNew (map (λ o. after_out o k) os) ks → AreOnce f k os ks
 different_once f k [] ks d new = tt
 different_once f k (o ∷ os) ks d new =
-    (inl new.0, different_once f k os (inserted (after_out o k) ks) d.1 (all_new_inserted (after_out o k) (map (λ x. after_out x k) os) ks d.0 new.1))
+    let p : List ℕ = after_out o k in let ps : List (List ℕ) = map (λ x. after_out x k) os in
+    (inl (new 0 p (omega arith)), different_once f k os (inserted p ks) d.1 (all_new_inserted p ps ks d.0 (All-tail (λ q. IsNew q ks) p ps new)))
 
 -- the sequence rule, packet by packet of a settled leaf
 pub together_results : (f : List ℕ → Option Meaning) (m : Arrays) (k : List ℕ) (os : List (List (ℕ × Atom))) → AreDifferent (map (λ o. after_out o k) os)
     → all_together m (map f (listed (results os k))) ≡ besides (Some (nothing m)) (map (λ o. f (after_out o k)) os)
-together_results f m k os d = results_once f m k os (different_once f k os [] d (all_new_none (map (λ o. after_out o k) os)))
+together_results f m k os d = results_once f m k os (different_once f k os [] d (λ i e l. All-nil (λ x. get_or (map (λ o. after_out o k) os) i e ≢ x)))
 
 -- ---- outcomes that write nothing
 idle_once : (f : List ℕ → Option Meaning) (k : List ℕ) (os : List (List (ℕ × Atom))) (ks : List (List ℕ)) → ((q : List ℕ) → IsIdle (f q)) → AreOnce f k os ks

@@ -1,15 +1,14 @@
 -- An addition behind others at its place does what one addition of the sum does.
 use Rattle.std.proofs.Common.{◌≡◌, ℕ, zero, suc, ◌+◌, ◌%◌, ◌<◌, ◌≤◌, ◌^◌, Bool, true, false, cond, List, [], ◌∷◌, ◌++◌, length, get_or, set, refl, sym, ap, ◌∙◌, subst, arith}
 use Rattle.std.specs.Prelude.{All, Some}
-use Rattle.std.specs.List.{AllByRecursion}
-use Rattle.std.proofs.lemmas.List.Elements.{All-pop, All-push, All-set, recursion_from_All}
+use Rattle.std.proofs.lemmas.List.Elements.{All-pop, All-push, All-set, All-tail}
+use Rattle.snap_core.proofs.Places.{same_place-exact}
 use Rattle.snap_core.specs.declared.place.Place.{Place}
 use Rattle.snap_core.specs.declared.policy.Op.{Op}
 use Rattle.snap_core.specs.declared.policy.Op.TheVariants.{Put, Add}
 use Rattle.snap_core.specs.declared.policy.Update.{Update}
 use Rattle.snap_core.specs.Arrays.{Arrays, number_after, place_at, same_place, update, updates}
 use Rattle.snap_core.specs.Fits.{OpFits}
-use Rattle.snap_ctx.proofs.Places.{same_place-true}
 use Rattle.snap_fdd.specs.Bounds.{Sizes, UpdateIn}
 use Rattle.snap_chain.specs.Additions.{added_up, Adds, AreSame, IsAddend, IsAddition, IsSpelledAt}
 use Rattle.snap_chain.proofs.Splitting.{updates_more}
@@ -38,7 +37,7 @@ module _ (k : List ℕ) where
       sum (Add n) i = refl
 
       at : (b : Bool) → same_place q p ≡ b → cond b (number_after u.op (m q) k) (m p) ≡ added_at b (by u.op) (m p)
-      at true e = sum u.op h ∙ ap (λ (r : Place). (m r + by u.op) % 2 ^ 64) (same_place-true q p e)
+      at true e = sum u.op h ∙ ap (λ (r : Place). (m r + by u.op) % 2 ^ 64) (same_place-exact q p e)
       at false e = refl
 
   both : (m : Arrays) (p : Place) (u v : Update) → Adds u → Adds v → update (update m u k) v k p ≡ added_at (is_at v p) (by v.op) (added_at (is_at u p) (by u.op) (m p))
@@ -53,9 +52,9 @@ module _ (k : List ℕ) where
   swapped m u v hu hv = λ i p. (both m p u v hu hv ∙ turned (is_at u p) (is_at v p) (by u.op) (by v.op) (m p) ∙ sym (both m p v u hv hu)) i
 
   -- an addition may come before others
-  last_first : (us : List Update) (v : Update) (m : Arrays) → AllByRecursion Adds us → Adds v → updates m (us ++ v ∷ []) k ≡ updates (update m v k) us k
+  last_first : (us : List Update) (v : Update) (m : Arrays) → All Adds us → Adds v → updates m (us ++ v ∷ []) k ≡ updates (update m v k) us k
   last_first [] v m h hv = refl
-  last_first (u ∷ us) v m h hv = last_first us v (update m u k) h.1 hv ∙ ap (λ (n : Arrays). updates n us k) (swapped m u v h.0 hv)
+  last_first (u ∷ us) v m h hv = last_first us v (update m u k) (All-tail Adds u us h) hv ∙ ap (λ (n : Arrays). updates n us k) (swapped m u v (h 0 u (omega arith)) hv)
 
   -- two additions at one place
   summed : (b : Bool) (x y n : ℕ) → added_at b y (added_at b x n) ≡ added_at b ((x + y) % 2 ^ 64) n
@@ -88,7 +87,7 @@ module _ (k : List ℕ) where
   sum_after (u ∷ us) zero n d v m l s h e =
       let rest : All Adds us = λ j x b. h (suc j) x (omega arith) (omega (arith, b)) in
       ap (λ (a : Arrays). updates a us k) (sym (two_at_one m u v n s (h 0 d (omega arith) l) e))
-      ∙ sym (last_first us v (update m u k) (recursion_from_All Adds us rest) (subst IsAddition (sym e) tt))
+      ∙ sym (last_first us v (update m u k) rest (subst IsAddition (sym e) tt))
   sum_after (u ∷ us) (suc i) n d v m l s h e =
       sum_after us i n d v (update m u k) (omega (arith, l)) s (λ j x a b. h (suc j) x (omega (arith, a)) (omega (arith, b))) e
 

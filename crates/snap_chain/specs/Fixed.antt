@@ -1,6 +1,6 @@
 -- Updates at numbers.
 use Rattle.std.specs.Prelude.{◌≡◌, ℕ, List, ◌++◌}
-use Rattle.std.specs.List.{AllByRecursion}
+use Rattle.std.specs.List.{All}
 use Rattle.std.specs.List.Sorted.{IsPermutation}
 use Rattle.std.specs.Ordering.{nat_cmp}
 use Rattle.std.specs.Cmp.Lexicographic.{slice_cmp}
@@ -12,7 +12,7 @@ use Rattle.snap_arena.specs.Codes.{index_code}
 
 -- an update at numbers alone
 abbrev pub IsFixedUpdate : Update → Type 0
-IsFixedUpdate u = AllByRecursion IsFixed u.index
+IsFixedUpdate u = All IsFixed u.index
 
 -- updates that do the same, in another order
 pub record AreReordered (us vs : List Update) : Type 0 where
@@ -21,7 +21,7 @@ pub record AreReordered (us vs : List Update) : Type 0 where
 
 -- some, and then a run of updates at numbers, do the same as us
 pub record EndInRun (us some run : List Update) : Type 0 where
-  pub fixed : AllByRecursion IsFixedUpdate run
+  pub fixed : All IsFixedUpdate run
   pub same : AreReordered us (some ++ run)
 
 -- the order of two updates' indices, the other way round

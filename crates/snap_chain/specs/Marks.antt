@@ -1,6 +1,6 @@
 -- What a diagram's leaves set, update and write, and which arrays it tests, as marks tell.
 use Rattle.std.specs.Prelude.{◌≡◌, ℕ, ◌<◌, true, false, List, bit_or, ◌||◌, ◌&&◌}
-use Rattle.std.specs.List.{AllByRecursion}
+use Rattle.std.specs.List.{All}
 use Rattle.snap_core.specs.declared.policy.Atom.{Atom}
 use Rattle.snap_core.specs.declared.policy.Atom.TheVariants.{Num as Number, Comp}
 use Rattle.snap_core.specs.declared.policy.Term.{Term}
@@ -23,14 +23,14 @@ abbrev pub IsMissed : ℕ → ℕ → Type 0
 IsMissed set n = (n < 64) × (has set n ≡ false)
 
 abbrev pub SetsAmong : ℕ → List (ℕ × Atom) → Type 0
-SetsAmong set o = AllByRecursion (λ (p : ℕ × Atom). IsAmong set p.0) o
+SetsAmong set o = All (λ (p : ℕ × Atom). IsAmong set p.0) o
 
 abbrev pub UpdatesAmong : ℕ → List Update → Type 0
-UpdatesAmong set us = AllByRecursion (λ (u : Update). IsAmong set u.var) us
+UpdatesAmong set us = All (λ (u : Update). IsAmong set u.var) us
 
 -- the variables that updates change are in a set
 abbrev pub AreLogged : ℕ → List Update → Type 0
-AreLogged set us = AllByRecursion (λ (u : Update). has set u.var ≡ true) us
+AreLogged set us = All (λ (u : Update). has set u.var ≡ true) us
 
 -- the leaf logs all that it updates
 abbrev pub LeafLogsUpdates : Leaf → Type 0
@@ -40,7 +40,7 @@ LeafLogsUpdates (Goes g) = AreLogged g.writes g.ups
 -- the leaf sets and updates no more than is marked, logs no write where none is marked, and all updates where that is marked
 abbrev pub LeafMarked : Mark → Leaf → Type 0
 LeafMarked k Race = Unit {0}
-LeafMarked k (Goes g) = AllByRecursion (SetsAmong k.sets) g.outs × UpdatesAmong k.updates g.ups × (k.writes ≡ false → g.writes ≡ 0) × (k.framed ≡ true → AreLogged g.writes g.ups)
+LeafMarked k (Goes g) = All (SetsAmong k.sets) g.outs × UpdatesAmong k.updates g.ups × (k.writes ≡ false → g.writes ≡ 0) × (k.framed ≡ true → AreLogged g.writes g.ups)
 
 abbrev pub TestMarked : Mark → Test → Type 0
 TestMarked k (Value c n) = Unit {0}
@@ -72,7 +72,7 @@ TermMissed k (Plus c p) = IsMissed k.sets c
 abbrev pub TestMissed : Mark → Test → Type 0
 TestMissed k (Value c n) = IsMissed k.sets c
 TestMissed k (Equal l r p) = IsMissed k.sets l × IsMissed k.sets r
-TestMissed k (State v ix t) = IsMissed k.updates v × AllByRecursion (AtomMissed k) ix × TermMissed k t
+TestMissed k (State v ix t) = IsMissed k.updates v × All (AtomMissed k) ix × TermMissed k t
 
 -- no leaf logs a write
 abbrev pub LeafWritesNothing : Leaf → Type 0

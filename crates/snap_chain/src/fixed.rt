@@ -1,7 +1,7 @@
 //! Updates at numbers: where two are at different numbers, it makes no difference which comes first.
 
 ghost use Rattle.std.specs.Prelude.{◌≡◌, ◌∷◌, ◌++◌, [], IfOk, List, OnOk};
-ghost use Rattle.std.specs.List.{AllByRecursion};
+ghost use Rattle.std.specs.List.{All};
 ghost use Rattle.snap_chain.specs.Fixed.{AreReordered, EndInRun, IsFixedUpdate};
 
 use crate::ordered::falling;
@@ -12,7 +12,7 @@ use std::alloc::Global;
 
 // Puts a run of updates at numbers behind others, those whose places are tested first at last, and empties it.
 fn push_run(ordered: &mut Vec<Update>, run: &mut Vec<Update>) -> Result<(), NoMemory>
-    requires { AllByRecursion IsFixedUpdate run.old.items }
+    requires { All IsFixedUpdate run.old.items }
     ensures empty { OnOk result (run.new.items ≡ []) }
     ensures reordered { OnOk result (AreReordered (ordered.old.items ++ run.old.items) ordered.new.items) }
 {
@@ -27,7 +27,7 @@ fn push_in_run(
     run: &mut Vec<Update>,
     update: &Update,
 ) -> Result<(), NoMemory>
-    requires { AllByRecursion IsFixedUpdate run.old.items }
+    requires { All IsFixedUpdate run.old.items }
     ensures { OnOk result ((us : List Update) → EndInRun us ordered.old.items run.old.items → EndInRun (us ++ update.now ∷ []) ordered.new.items run.new.items) }
 {
     let next = update.copy()?;

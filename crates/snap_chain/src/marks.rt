@@ -2,7 +2,6 @@
 //! left as it is.
 
 ghost use Rattle.std.specs.Prelude.{◌≡◌, ◌<◌, ℕ, List, All, true, false, IfOk, IfSome, IsTrue, length};
-ghost use Rattle.std.specs.List.{AllByRecursion};
 ghost use Rattle.snap_core.specs.Arrays.{has};
 ghost use Rattle.snap_core.specs.declared.policy.Update.{Update};
 ghost use Rattle.snap_arena.specs.declared.node.Node.{Node};
@@ -58,7 +57,7 @@ fn misses_term(mark: Mark, term: Term) -> bool
 }
 
 fn misses_index(mark: Mark, index: &Atoms) -> bool
-    ensures { IsTrue result → AllByRecursion (AtomMissed mark) index.now }
+    ensures { IsTrue result → All (AtomMissed mark) index.now }
 {
     index.list().iter().all(|atom| misses_atom(mark, *atom))
 }
@@ -82,7 +81,7 @@ pub fn misses_test(mark: Mark, test: &Test) -> bool
 
 /// Whether a diagram tests none of the arrays that updates change.
 pub fn misses_updates(mark: Mark, updates: &[Update]) -> bool
-    ensures { IsTrue result → AllByRecursion (λ (u : Update). IsMissed mark.tests u.var) updates.now }
+    ensures { IsTrue result → All (λ (u : Update). IsMissed mark.tests u.var) updates.now }
 {
     updates.iter().all(|update| misses(mark.tests, update.var))
 }
@@ -111,7 +110,7 @@ fn set_by(out: &Out) -> u64
 }
 
 fn set_by_all(outs: &[Out]) -> u64
-    ensures { AllByRecursion (SetsAmong result) outs.now }
+    ensures { All (SetsAmong result) outs.now }
 {
     let mut set = 0;
     for out in outs {

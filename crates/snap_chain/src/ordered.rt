@@ -1,7 +1,7 @@
 //! Updates in the order in which their tests come, where it makes no difference which comes first.
 
 ghost use Rattle.std.specs.Prelude.{◌≡◌, ℕ, IfOk, IsTrue, List};
-ghost use Rattle.std.specs.List.{AllByRecursion};
+ghost use Rattle.std.specs.List.{All};
 ghost use Rattle.std.specs.List.Sorted.{IsPermutation};
 ghost use Rattle.snap_core.specs.Arrays.{Arrays, updates};
 ghost use Rattle.snap_core.specs.Inputs.{IsStore};
@@ -25,7 +25,7 @@ pub(crate) fn adds(update: &Update) -> bool
 }
 
 fn all_add(ups: &[Update]) -> bool
-    ensures { IsTrue result → AllByRecursion Adds ups.now }
+    ensures { IsTrue result → All Adds ups.now }
 {
     ups.iter().all(|update| adds(update))
 }

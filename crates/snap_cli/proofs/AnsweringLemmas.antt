@@ -48,7 +48,8 @@ use Rattle.snap_cli.specs.TablesOf.{TablesOf}
 use Rattle.snap_cli.specs.Trace.{EndsTrace, NetworkRunsTo}
 use Rattle.snap_cli.proofs.ChangesOnce.{said_once}
 use Rattle.snap_cli.proofs.DueStatus.{due-status}
-use Rattle.snap_cli.proofs.EndedSchedule.{ended_or_refused, ended_or_refused_in_turn}
+use Rattle.snap_runs.proofs.OneSchedule.{ended_or_refused}
+use Rattle.snap_order.proofs.OneSchedule.{ended_or_refused as ended_or_refused_in_turn}
 use Rattle.snap_cli.proofs.OneTables.{answered, told}
 use Rattle.snap_cli.proofs.OneTopology.{topology_once}
 use Rattle.snap_cli.proofs.SameCore.{same_fields, same_names}

@@ -8,7 +8,6 @@ pub mod DemoOnce
 pub mod DepsLemmas
 pub mod DepsOnce
 pub mod DueStatus
-pub mod EndedSchedule
 pub mod EqualLemmas
 pub mod EqualOnce
 pub mod EqualPrograms

@@ -1,6 +1,7 @@
 -- A rising list is the only one with its elements.
-use Rattle.std.proofs.Common.{◌≡◌, zero, suc, ◌⊎◌, inl, inr, List, [], ◌∷◌, refl, sym, subst, ap₂, arith}
+use Rattle.std.proofs.Common.{◌≡◌, suc, ◌⊎◌, inl, inr, List, [], ◌∷◌, refl, sym, subst, ap₂, arith}
 use Rattle.std.specs.List.{AllPairs, Contains}
+use Rattle.snap_route.proofs.Joined.{Contains-cons_cases, Contains-head, Contains-tail}
 
 module _ {X : Type 0} (R : X → X → Type 0) (one_way : (a b : X) → R a b → R b a → ⊥) where
   head_below : (x : X) (xs : List X) → AllPairs R (x ∷ xs) → (z : X) → Contains xs z → R x z
@@ -8,16 +9,6 @@ module _ {X : Type 0} (R : X → X → Type 0) (one_way : (a b : X) → R a b �
 
   tail_rises : (x : X) (xs : List X) → AllPairs R (x ∷ xs) → AllPairs R xs
   tail_rises x xs rising i j d before below = rising (suc i) (suc j) d (omega arith) (omega arith)
-
-  at : (x : X) (xs : List X) (z : X) → Contains (x ∷ xs) z → (x ≡ z) ⊎ Contains xs z
-  at x xs z (zero, below, is) = inl is
-  at x xs z (suc k, below, is) = inr (k, omega arith, is)
-
-  head_in : (x : X) (xs : List X) → Contains (x ∷ xs) x
-  head_in x xs = (0, omega arith, refl)
-
-  behind_head : (x : X) (xs : List X) (z : X) → Contains xs z → Contains (x ∷ xs) z
-  behind_head x xs z c = let below = c.1 in (suc c.0, omega arith, c.2)
 
   same_head : (x y : X) (xs ys : List X) → AllPairs R (x ∷ xs) → AllPairs R (y ∷ ys) → (y ≡ x) ⊎ Contains ys x → (x ≡ y) ⊎ Contains xs y → x ≡ y
   same_head x y xs ys a b (inl e) found = sym e
@@ -31,10 +22,10 @@ module _ {X : Type 0} (R : X → X → Type 0) (one_way : (a b : X) → R a b �
 
   pub same_rising : (xs ys : List X) → AllPairs R xs → AllPairs R ys → ((z : X) → Contains xs z → Contains ys z) → ((z : X) → Contains ys z → Contains xs z) → xs ≡ ys
   same_rising [] [] a b into from = refl
-  same_rising [] (y ∷ ys) a b into from = let c = from y (head_in y ys) in let none = c.1 in absurd (omega arith)
-  same_rising (x ∷ xs) [] a b into from = let c = into x (head_in x xs) in let none = c.1 in absurd (omega arith)
+  same_rising [] (y ∷ ys) a b into from = let c = from y (Contains-head y ys) in let none = c.1 in absurd (omega arith)
+  same_rising (x ∷ xs) [] a b into from = let c = into x (Contains-head x xs) in let none = c.1 in absurd (omega arith)
   same_rising (x ∷ xs) (y ∷ ys) a b into from =
-      let e = same_head x y xs ys a b (at y ys x (into x (head_in x xs))) (at x xs y (from y (head_in y ys))) in
+      let e = same_head x y xs ys a b (Contains-cons_cases y ys x (into x (Contains-head x xs))) (Contains-cons_cases x xs y (from y (Contains-head y ys))) in
       ap₂ ◌∷◌ e (same_rising xs ys (tail_rises x xs a) (tail_rises y ys b)
-      (λ z c. behind x y xs ys a e z c (at y ys z (into z (behind_head x xs z c))))
-      (λ z c. behind y x ys xs b (sym e) z c (at x xs z (from z (behind_head y ys z c)))))
+      (λ z c. behind x y xs ys a e z c (Contains-cons_cases y ys z (into z (Contains-tail x xs z c))))
+      (λ z c. behind y x ys xs b (sym e) z c (Contains-cons_cases x xs z (from z (Contains-tail y ys z c)))))

@@ -1,5 +1,5 @@
 -- The packets that a file spells are packets of the fields; and tables that change take them all where reading comes to the end.
-use Rattle.std.proofs.Common.{◌≡◌, ℕ, zero, suc, ◌+◌, Bool, true, false, cond, eqb, List, [], ◌∷◌, map, Some, refl, sym, ◌∙◌, subst, arith, is_some}
+use Rattle.std.proofs.Common.{◌≡◌, ℕ, zero, suc, ◌+◌, true, false, cond, eqb, List, [], ◌∷◌, map, Some, refl, sym, ◌∙◌, subst, arith, is_some}
 use Rattle.std.specs.Prelude.{slice_get, slice_index}
 use Rattle.std.specs.List.{All}
 use Rattle.std.proofs.lemmas.Bool.{eq-eqb}
@@ -10,11 +10,11 @@ use Rattle.snap_core.specs.Inputs.{IsPacket}
 use Rattle.snap_io.specs.Lines.{Next, next_line, no_line, long_line, many_bytes, next_in}
 use Rattle.snap_rows.specs.declared.tables.Tables.{Tables}
 use Rattle.snap_rows.specs.Entries.{port_at, port_in}
-use Rattle.snap_trace.specs.declared.fault.TraceFault.TheVariants.{Packets}
 use Rattle.snap_trace.specs.PacketLines.{Said, skip, inject, bad, said_by}
-use Rattle.snap_trace.specs.Spelled.{Spelled, counted, ended, refused, spelled, spelled_behind, spelled_from, text_of, with_next, with_said}
+use Rattle.snap_trace.specs.Spelled.{Spelled, counted, ended, spelled, spelled_behind, spelled_from, text_of, with_next, with_said}
 use Rattle.snap_runs.specs.Laws.{SpelledPacketsFit}
 use Rattle.snap_runs.specs.Plain.{at_ports}
+use Rattle.snap_runs.proofs.SpelledPackets.{said_same}
 use Rattle.snap_move.specs.declared.later.Later.{Later}
 use Rattle.snap_move.specs.Changing.{in_force}
 use Rattle.snap_move.specs.Files.{spelled_under}
@@ -75,17 +75,8 @@ module _ (first : Tables) (later : List Later) (said : List ℕ → Said) where
   abbrev under : ℕ → List ℕ → Said
   under n line = at_ports (in_force first later n) (said line)
 
-  said_whole : (t : Tables) (line : ℕ) (s : Said) (a b : Spelled) → (with_said line (at_ports t s) a).stop ≡ ended → (a.stop ≡ ended → a ≡ b) → with_said line (at_ports t s) a ≡ with_said line s b
-  said_whole t line skip a b whole same = same whole
-  said_whole t line bad a b whole same = refl
-  said_whole t line (inject k) a b whole same = by (is_some (port_at t (slice_index k 0))) whole
-    where
-      by : (known : Bool) → (with_said line (cond known (inject k) bad) a).stop ≡ ended → with_said line (cond known (inject k) bad) a ≡ with_said line (inject k) b
-      by true stop = let e = same stop in λ i. record { packets = k ∷ (e i).packets; stop = (e i).stop }
-      by false stop = absurd (let apart : refused (Packets line) ≡ ended = stop in cc)
-
   next_whole : (n line : ℕ) (next : Next) (a b : ℕ → Spelled) → (with_next (under n) line next a).stop ≡ ended → ((behind : ℕ) → (a behind).stop ≡ ended → a behind ≡ b behind) → with_next (under n) line next a ≡ with_next said line next b
-  next_whole n line (next_line text behind) a b whole same = said_whole (in_force first later n) line (said text) (a behind) (b behind) whole (same behind)
+  next_whole n line (next_line text behind) a b whole same = said_same (in_force first later n) said line (said text) (a behind) (b behind) whole (same behind)
   next_whole n line no_line a b whole same = refl
   next_whole n line long_line a b whole same = refl
   next_whole n line many_bytes a b whole same = refl

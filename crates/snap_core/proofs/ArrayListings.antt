@@ -1,7 +1,7 @@
 -- The listing of one array behind those of the arrays before.
-use Rattle.std.proofs.Common.{◌≡◌, ◌≢◌, ℕ, ◌+◌, ◌<◌, ◌≤◌, Bool, true, false, cond, List, [], ◌∷◌, ◌++◌, map, take, drop, length, refl, sym, ap, subst, ◌∙◌, ⊎_elim, append-nil, take-append-drop, arith}
+use Rattle.std.proofs.Common.{◌≡◌, ◌≢◌, ℕ, ◌+◌, ◌<◌, ◌≤◌, Bool, true, false, cond, List, [], ◌∷◌, ◌++◌, map, take, drop, length, refl, sym, ap, subst, ◌∙◌, ⊎_elim, append-nil, take-append-drop, arith, get_or}
 use Rattle.std.specs.Prelude.{◌==◌, nat_eq, nat_lt, unwrap_or, if◌then◌else◌}
-use Rattle.std.specs.List.{All, AllByRecursion, IsDistinct}
+use Rattle.std.specs.List.{All, IsDistinct}
 use Rattle.std.specs.List.Sorted.{IsPermutation, IsSorted, IsStrictlySortedBy}
 use Rattle.std.specs.Map.{keys_of}
 use Rattle.std.specs.Ordering.{nat_cmp, ordering_then}
@@ -12,7 +12,7 @@ use Rattle.std.specs.declared.cmp.Ordering.TheVariants.{Less}
 use Rattle.std.proofs.Math.Seq.{take-append_seam, drop-append_seam}
 use Rattle.std.proofs.lemmas.Bool.{eqb-true, eqb-false, ne_eqb, lt-ltb, le-ltb, cases_lt}
 use Rattle.std.proofs.lemmas.List.{get_or_past, length-map, map-append, take-map, drop-map}
-use Rattle.std.proofs.lemmas.List.Elements.{All-append, All-nil, All-weaker, recursion_from_All}
+use Rattle.std.proofs.lemmas.List.Elements.{All-append, All-map, All-nil, All-tail, All-weaker, recursion_from_All}
 use Rattle.snap_core.specs.declared.place.Place.{Place}
 use Rattle.snap_core.specs.declared.place.Entry.{Entry}
 use Rattle.snap_core.specs.declared.place.Listed.{Listed}
@@ -23,10 +23,11 @@ use Rattle.snap_core.proofs.Entries.{both, places}
 use Rattle.snap_core.proofs.InOrder.{IsArrayListing-sorted}
 use Rattle.snap_core.proofs.Places.{apart-var}
 
-rising_append : (ps qs : List Place) → IsStrictlySortedBy place_cmp ps → IsStrictlySortedBy place_cmp qs → AllByRecursion (λ p. AllByRecursion (λ q. place_cmp p q ≡ Less) qs) ps → IsStrictlySortedBy place_cmp (ps ++ qs)
+rising_append : (ps qs : List Place) → IsStrictlySortedBy place_cmp ps → IsStrictlySortedBy place_cmp qs → All (λ p. All (λ q. place_cmp p q ≡ Less) qs) ps → IsStrictlySortedBy place_cmp (ps ++ qs)
 unfolding IsStrictlySortedBy
 rising_append [] qs a b less = b
-rising_append (p ∷ ps) qs a b less = (both (λ q. place_cmp p q ≡ Less) ps qs a.0 less.0, rising_append ps qs a.1 b less.1)
+rising_append (p ∷ ps) qs a b less =
+    (both (λ q. place_cmp p q ≡ Less) ps qs a.0 (recursion_from_All (λ q. place_cmp p q ≡ Less) qs (less 0 p (omega arith))), rising_append ps qs a.1 b (All-tail (λ p. All (λ q. place_cmp p q ≡ Less) qs) p ps less))
 
 var_less : (p q : Place) → p.var < q.var → place_cmp p q ≡ Less
 var_less p q low = ap (λ o. ordering_then o (slice_cmp nat_cmp p.index q.index)) (sym (nat_cmp_is p.var q.var Less low))
@@ -35,19 +36,17 @@ places_append : (es fs : List Entry) → places (es ++ fs) ≡ places es ++ plac
 places_append [] fs = refl
 places_append (e ∷ es) fs = ap (λ l. e.place ∷ l) (places_append es fs)
 
-each_less : (n : ℕ) (es fs : List Entry) → AllByRecursion (λ (e : Entry). e.place.var < n) es → AllByRecursion (λ (f : Entry). f.place.var ≡ n) fs → AllByRecursion (λ p. AllByRecursion (λ q. place_cmp p q ≡ Less) (places fs)) (places es)
-each_less n [] fs low same = tt
-each_less n (e ∷ es) fs low same = (here fs same, each_less n es fs low.1 same)
-  where
-    here : (fs : List Entry) → AllByRecursion (λ (f : Entry). f.place.var ≡ n) fs → AllByRecursion (λ q. place_cmp e.place q ≡ Less) (places fs)
-    here [] same = tt
-    here (f ∷ fs) same = (var_less e.place f.place (subst (λ x. e.place.var < x) (sym same.0) low.0), here fs same.1)
+each_less : (n : ℕ) (es fs : List Entry) → All (λ (e : Entry). e.place.var < n) es → All (λ (f : Entry). f.place.var ≡ n) fs → All (λ p. All (λ q. place_cmp p q ≡ Less) (places fs)) (places es)
+each_less n es fs low same =
+    All-map (λ p. All (λ q. place_cmp p q ≡ Less) (places fs)) (λ (e : Entry). e.place) es (λ i d l.
+    let e = get_or es i d in
+    All-map (λ q. place_cmp e.place q ≡ Less) (λ (f : Entry). f.place) fs (λ j c m. var_less e.place (get_or fs j c).place (subst (λ x. e.place.var < x) (sym (same j c m)) (low i d l))))
 
-number_behind : (es fs : List Entry) (p : Place) → AllByRecursion (λ (e : Entry). e.place.var < p.var) es → number_in (es ++ fs) p ≡ number_in fs p
+number_behind : (es fs : List Entry) (p : Place) → All (λ (e : Entry). e.place.var < p.var) es → number_in (es ++ fs) p ≡ number_in fs p
 number_behind [] fs p low = refl
 number_behind (e ∷ es) fs p low =
-    ap (λ t. if t then e.value else number_in (es ++ fs) p) (apart-var e.place.var e.place.index p (ne_eqb e.place.var p.var (λ e. omega (arith, low, e))))
-    ∙ number_behind es fs p low.1
+    ap (λ t. if t then e.value else number_in (es ++ fs) p) (apart-var e.place.var e.place.index p (ne_eqb e.place.var p.var (λ same. let lower : e.place.var < p.var = low 0 e (omega arith) in omega (arith, lower, same))))
+    ∙ number_behind es fs p (All-tail (λ (e : Entry). e.place.var < p.var) e es low)
 
 number_before : (es fs : List Entry) (p : Place) → number_in fs p ≡ 0 → number_in (es ++ fs) p ≡ number_in es p
 number_before [] fs p none = none
@@ -69,7 +68,7 @@ pub listing_more : (n : ℕ) (m other m' : Arrays) (es fs : List Entry) → AreB
 listing_more n m other m' es fs below array after = record {
   listing = record {
     rising = subst (IsStrictlySortedBy place_cmp) (sym (places_append es fs))
-        (rising_append (places es) (places fs) below.listing.rising array.listing.rising (each_less n es fs (recursion_from_All _ es below.vars) (recursion_from_All _ fs array.vars)));
+        (rising_append (places es) (places fs) below.listing.rising array.listing.rising (each_less n es fs below.vars array.vars));
     nonzero = All-append (λ (e : Entry). e.value ≢ 0) es fs below.listing.nonzero array.listing.nonzero;
     numbers = λ p. by p (n == p.var) refl ∙ sym (after p);
   };
@@ -81,7 +80,7 @@ listing_more n m other m' es fs below array after = record {
     by : (p : Place) (t : Bool) → (n == p.var) ≡ t → number_in (es ++ fs) p ≡ (if t then other p else m p)
     by p true e =
         let same : n ≡ p.var = eqb-true n p.var e in
-        number_behind es fs p (recursion_from_All _ es (subst (λ x. All (λ (e : Entry). e.place.var < x) es) same below.vars))
+        number_behind es fs p (subst (λ x. All (λ (e : Entry). e.place.var < x) es) same below.vars)
         ∙ array.listing.numbers p
         ∙ ap (λ t. if t then other p else 0) e
     by p false e =

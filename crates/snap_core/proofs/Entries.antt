@@ -33,11 +33,7 @@ IsDistinct-append eq (p ∷ ps) qs a b apart = (both (λ q. eq p q ≡ false) ps
 
 -- no entry holds 0
 abbrev pub NoZero : List Entry → Type 0
-NoZero es = AllByRecursion (λ e. e.value ≢ 0) es
-
-pub All-NoZero : (es : List Entry) → NoZero es → All (λ e. e.value ≢ 0) es
-All-NoZero [] h = All-nil (λ (e : Entry). e.value ≢ 0)
-All-NoZero (e ∷ es) h = All-cons (λ (e : Entry). e.value ≢ 0) e es h.0 (All-NoZero es h.1)
+NoZero es = All (λ e. e.value ≢ 0) es
 
 -- ---- one array
 pub number-other : (s : ℕ) (cs : Cells) (p : Place) → nat_eq s p.var ≡ false → number_in (entries_of s cs) p ≡ 0
@@ -83,12 +79,12 @@ number-here s (c ∷ cs) ix distinct =
     skipped false v es k p apart = ap (λ t. cond t v (number_in es p)) apart
 
 pub NoZero-entries_of : (s : ℕ) (cs : Cells) → NoZero (entries_of s cs)
-NoZero-entries_of s [] = tt
+NoZero-entries_of s [] = All-nil (λ (e : Entry). e.value ≢ 0)
 NoZero-entries_of s (c ∷ cs) = by_zero (nat_eq c.1 0) refl (NoZero-entries_of s cs)
   where
     by_zero : (t : Bool) → nat_eq c.1 0 ≡ t → NoZero (entries_of s cs) → NoZero (cond t (entries_of s cs) (entry s c.0 c.1 ∷ entries_of s cs))
     by_zero true z h = h
-    by_zero false z h = (eqb-false c.1 0 z, h)
+    by_zero false z h = All-cons (λ (e : Entry). e.value ≢ 0) (entry s c.0 c.1) (entries_of s cs) (eqb-false c.1 0 z) h
 
 pub vars-entries_of : (s : ℕ) (cs : Cells) → All (λ e. e.place.var ≡ s) (entries_of s cs)
 vars-entries_of s [] = All-nil (λ (e : Entry). e.place.var ≡ s)

@@ -22,12 +22,12 @@ use Rattle.snap_core.proofs.Kept.{Keeps, IfDefined, keeps, all_together_keeps}
 use Rattle.snap_core.proofs.Unwritten.{no_bit, without, updated_keeps}
 
 -- ---- sets of variables
-in_left : (a b v : ℕ) → has a v ≡ true → has (bit_or a b) v ≡ true
+pub in_left : (a b v : ℕ) → has a v ≡ true → has (bit_or a b) v ≡ true
 in_left a b v h =
     let here : bit_at a v ≡ 1 = eqb-true _ 1 h in let o = bit_at_or a b v in let l = bit_at-lt (bit_or a b) v in
     eq-eqb _ 1 (omega (arith, here, o, l))
 
-in_right : (a b v : ℕ) → has b v ≡ true → has (bit_or a b) v ≡ true
+pub in_right : (a b v : ℕ) → has b v ≡ true → has (bit_or a b) v ≡ true
 in_right a b v h =
     let here : bit_at b v ≡ 1 = eqb-true _ 1 h in let o = bit_at_or a b v in let l = bit_at-lt (bit_or a b) v in
     eq-eqb _ 1 (omega (arith, here, o, l))

@@ -20,7 +20,7 @@ use Rattle.snap_core.specs.Arrays.{Arrays, same_place}
 use Rattle.snap_core.specs.Cells.{Kept, array_at, arrays_of}
 use Rattle.snap_core.specs.Listing.{place_cmp, number_in, array_of, entries_of, entry_of, listed_cmp, IsListing, IsArrayListing}
 use Rattle.snap_core.proofs.CellMerge.{lookup-reordered, unwrap-cond}
-use Rattle.snap_core.proofs.Entries.{places, NoZero, All-NoZero, NoZero-entries_of, vars-entries_of, IsDistinct-entries_of, number-here, number-other}
+use Rattle.snap_core.proofs.Entries.{places, NoZero, NoZero-entries_of, vars-entries_of, IsDistinct-entries_of, number-here, number-other}
 use Rattle.snap_core.proofs.Places.{place_total, place_exact, same_place-exact, same_place-itself, same_place-flips, same_place_equiv}
 
 -- ---- lists of values with a key
@@ -97,7 +97,7 @@ IsListing-sorted m ls ms distinct some numbers moved sorted =
     let apart_listed = IsDistinct-unmapped entry_of (λ (e f : Entry). same_place e.place f.place) ms (IsDistinct-unmapped (λ (e : Entry). e.place) same_place fs apart) in
     record {
       rising = sorted-mapped (λ (e : Entry). e.place) place_cmp fs (sorted-mapped entry_of (λ (e f : Entry). place_cmp e.place f.place) ms (rising listed_total (λ a b. same_place (entry_of a).place (entry_of b).place) tied ms sorted apart_listed));
-      nonzero = All-permutation (λ (e : Entry). e.value ≢ 0) es fs reordered (All-NoZero es some);
+      nonzero = All-permutation (λ (e : Entry). e.value ≢ 0) es fs reordered some;
       numbers = λ p. number-reordered es fs reordered distinct p ∙ numbers p;
     }
 

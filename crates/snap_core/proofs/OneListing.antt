@@ -1,5 +1,5 @@
 -- A store has one listing at most.
-use Rattle.std.proofs.Common.{◌≡◌, ◌≢◌, Bool, true, false, cond, List, [], ◌∷◌, refl, sym, ap, subst, ◌∙◌}
+use Rattle.std.proofs.Common.{◌≡◌, ◌≢◌, Bool, true, false, cond, List, [], ◌∷◌, refl, sym, ap, subst, ◌∙◌, arith}
 use Rattle.std.specs.List.{AllByRecursion}
 use Rattle.std.specs.List.Sorted.{IsStrictlySortedBy}
 use Rattle.std.specs.Ordering.{ordering_reverse, is_eq}
@@ -7,6 +7,7 @@ use Rattle.std.specs.Cmp.{tied_itself}
 use Rattle.std.specs.declared.cmp.Ordering.{Ordering}
 use Rattle.std.specs.declared.cmp.Ordering.TheVariants.{Less, Equal, Greater}
 use Rattle.std.proofs.lemmas.Bool.{cond-true, cond-false, both_ways, false_from_ne_true}
+use Rattle.std.proofs.lemmas.List.Elements.{All-tail}
 use Rattle.snap_core.specs.declared.place.Place.{Place}
 use Rattle.snap_core.specs.declared.place.Entry.{Entry}
 use Rattle.snap_core.specs.Arrays.{same_place}
@@ -67,6 +68,8 @@ heads e f es fs a b x y same rest Equal h =
 pub one_listing : (es fs : List Entry) → IsStrictlySortedBy place_cmp (places es) → IsStrictlySortedBy place_cmp (places fs) → NoZero es → NoZero fs → ((p : Place) → number_in es p ≡ number_in fs p) → es ≡ fs
 unfolding IsStrictlySortedBy
 one_listing [] [] a b x y same = refl
-one_listing [] (f ∷ fs) a b x y same = absurd (y.0 (sym (number-head f fs) ∙ sym (same f.place)))
-one_listing (e ∷ es) [] a b x y same = absurd (x.0 (sym (number-head e es) ∙ same e.place))
-one_listing (e ∷ es) (f ∷ fs) a b x y same = heads e f es fs a.0 b.0 x.0 y.0 same (one_listing es fs a.1 b.1 x.1 y.1) (place_cmp e.place f.place) refl
+one_listing [] (f ∷ fs) a b x y same = absurd (y 0 f (omega arith) (sym (number-head f fs) ∙ sym (same f.place)))
+one_listing (e ∷ es) [] a b x y same = absurd (x 0 e (omega arith) (sym (number-head e es) ∙ same e.place))
+one_listing (e ∷ es) (f ∷ fs) a b x y same =
+    heads e f es fs a.0 b.0 (x 0 e (omega arith)) (y 0 f (omega arith)) same
+    (one_listing es fs a.1 b.1 (All-tail (λ (e : Entry). e.value ≢ 0) e es x) (All-tail (λ (e : Entry). e.value ≢ 0) f fs y)) (place_cmp e.place f.place) refl

@@ -1,14 +1,16 @@
 -- Numbers of 64 bits stay so.
-use Rattle.std.proofs.Common.{◌≡◌, ℕ, ◌^◌, ◌<◌, Bool, true, false, cond, ◌||◌, List, [], ◌∷◌, map, length, zero, suc, refl, sym, ap, subst, ◌∙◌, ⊎_elim, arith, lit<}
+use Rattle.std.proofs.Common.{◌≡◌, ℕ, ◌^◌, ◌<◌, Bool, true, false, cond, List, [], ◌∷◌, map, length, zero, suc, sym, subst, ◌∙◌, ⊎_elim, arith, lit<}
 use Rattle.std.specs.Prelude.{IsTrue, slice_index, slice_set}
-use Rattle.std.specs.List.{AllByRecursion, list_any}
+use Rattle.std.specs.List.{All, Contains}
 use Rattle.std.specs.FinMap.{contains_key, contains_key-keys}
-use Rattle.std.specs.Ordering.{is_eq, eq_by_cmp}
-use Rattle.std.specs.Cmp.{tied_itself}
+use Rattle.std.specs.Ordering.{eq_by_cmp}
 use Rattle.std.specs.Cmp.Lexicographic.{bytes_decides, nat_list_cmp_total}
 use Rattle.std.proofs.Math.ListN.{length-set}
 use Rattle.std.proofs.lemmas.Bool.{both_ways, or_cases}
 use Rattle.std.proofs.lemmas.Map.Text.{is_eq-slice_cmp}
+use Rattle.std.proofs.lemmas.Cmp.{eq_by_cmp_equiv}
+use Rattle.std.proofs.lemmas.List.Elements.{All-contains_itself, All-set, All-tail, All-weaker}
+use Rattle.std.proofs.lemmas.Map.Views.{list_any-from_Contains}
 use Rattle.snap_core.specs.declared.place.Place.{Place}
 use Rattle.snap_core.specs.declared.policy.Atom.{Atom}
 use Rattle.snap_core.specs.declared.policy.Atom.TheVariants.{Num, Comp}
@@ -23,19 +25,14 @@ use Rattle.snap_core.specs.Meaning.{Meaning, eval, truth, vars_of, merge, all_pa
 use Rattle.snap_core.specs.Laws.{OpIsSmall, PutsSmall, AreSmall, HoldSmall}
 use Rattle.snap_core.specs.Ranges.{AtomInRange}
 use Rattle.snap_core.proofs.Kept.{IfDefined}
-use Rattle.snap_core.proofs.Gathered.{beside_all, all_together_has, logged_has, then_has, either_has, each_has}
+use Rattle.snap_core.proofs.Gathered.{beside_all, all_together_has, two_together_have, logged_has, then_has, either_has, each_has}
 use Rattle.snap_core.proofs.PacketSets.{contains-no_packets, contains-with_packet, contains-union}
 
 -- ---- one number
 small-index : (k : List ℕ) (c : ℕ) → AreSmall k → slice_index k c < 2 ^ 64
 small-index [] c h = lit< tt
-small-index (x ∷ k) zero h = h.0
-small-index (x ∷ k) (suc c) h = small-index k c h.1
-
-small-set : (k : List ℕ) (c v : ℕ) → AreSmall k → v < 2 ^ 64 → AreSmall (slice_set k c v)
-small-set [] c v h s = tt
-small-set (x ∷ k) zero v h s = (s, h.1)
-small-set (x ∷ k) (suc c) v h s = (h.0, small-set k c v h.1 s)
+small-index (x ∷ k) zero h = h 0 x (omega arith)
+small-index (x ∷ k) (suc c) h = small-index k c (All-tail (λ n. n < 2 ^ 64) x k h)
 
 small-value : (a : Atom) (k : List ℕ) → AtomInRange a → AreSmall k → value_of a k < 2 ^ 64
 small-value (Num n) k a h = a
@@ -72,38 +69,29 @@ good-one n x good k h =
 good-union : (n : ℕ) (s t : PacketSet) → AllGood n s → AllGood n t → AllGood n (union s t)
 good-union n s t a b k h = ⊎_elim (λ x. a k x) (λ y. b k y) (or_cases (contains_key s k) (contains_key t k) (sym (contains-union s t k) ∙ h))
 
-members : (G : List ℕ → Type 0) (ks : List (List ℕ)) → ((k : List ℕ) → list_any (eq_by_cmp packet_cmp k) ks ≡ true → G k) → AllByRecursion G ks
-members G [] h = tt
-members G (x ∷ ks) h = (
-  h x (ap (λ b. b || list_any (eq_by_cmp packet_cmp x) ks) (ap is_eq (tied_itself nat_list_cmp_total x))),
-  members G ks (λ k e. h k (ap (λ b. eq_by_cmp packet_cmp k x || b) e ∙ or_true (eq_by_cmp packet_cmp k x))),
-)
-  where
-    or_true : (b : Bool) → (b || true) ≡ true
-    or_true true = refl
-    or_true false = refl
-
-good-listed : (n : ℕ) (s : PacketSet) → AllGood n s → AllByRecursion (Good n) (listed s)
-good-listed n s h = members (Good n) (listed s) (λ k e. h k (contains_key-keys s k ∙ e))
+pub good-listed : (n : ℕ) (s : PacketSet) → AllGood n s → All (Good n) (listed s)
+good-listed n s h =
+    All-weaker (Contains (listed s)) (Good n) (λ k there. h k (contains_key-keys s k ∙ list_any-from_Contains (eq_by_cmp_equiv nat_list_cmp_total) k (listed s) there))
+    (listed s) (All-contains_itself (listed s))
 
 -- ---- outcomes
 abbrev pub Fine : ℕ → Meaning → Type 0
 Fine n o = HoldSmall o.arrays × AllGood n o.packets
 
-fine-all : (n : ℕ) (m : Arrays) → HoldSmall m → (os : List Meaning) → AllByRecursion (Fine n) os → Fine n (beside_all m os)
+fine-all : (n : ℕ) (m : Arrays) → HoldSmall m → (os : List Meaning) → All (Fine n) os → Fine n (beside_all m os)
 fine-all n m small os h = (λ q. arrays q os h, packets os h)
   where
-    arrays : (q : Place) (xs : List Meaning) → AllByRecursion (Fine n) xs → merge m xs q < 2 ^ 64
+    arrays : (q : Place) (xs : List Meaning) → All (Fine n) xs → merge m xs q < 2 ^ 64
     arrays q [] k = small q
     arrays q (x ∷ xs) k =
         elim (has x.writes q.var) as (λ t. cond t (x.arrays q) (merge m xs q) < 2 ^ 64) [
-          | true ↦ k.0.0 q
-          | false ↦ arrays q xs k.1
+          | true ↦ (k 0 x (omega arith)).0 q
+          | false ↦ arrays q xs (All-tail (Fine n) x xs k)
         ]
 
-    packets : (xs : List Meaning) → AllByRecursion (Fine n) xs → AllGood n (all_packets xs)
+    packets : (xs : List Meaning) → All (Fine n) xs → AllGood n (all_packets xs)
     packets [] k = good-none n
-    packets (x ∷ xs) k = good-union n x.packets (all_packets xs) k.0.1 (packets xs k.1)
+    packets (x ∷ xs) k = good-union n x.packets (all_packets xs) (k 0 x (omega arith)).1 (packets xs (All-tail (Fine n) x xs k))
 
 filtered : (n : ℕ) (k : List ℕ) (t : Bool) → Good n k → AllGood n (cond t (with_packet no_packets k) no_packets)
 filtered n k true h = good-one n k h
@@ -111,9 +99,10 @@ filtered n k false h = good-none n
 
 pub stays_fine : (p : Pol) (m : Arrays) (k : List ℕ) (n : ℕ) → PutsSmall p → HoldSmall m → Good n k → IfDefined (Fine n) (eval p m k)
 stays_fine (Filter x) m k n s h a = (h, filtered n k (truth x m k) a)
-stays_fine (Set c b) m k n s h a = (h, good-one n (slice_set k c (value_of b k)) (length-set k c (value_of b k) ∙ a.0, small-set k c (value_of b k) a.1 (small-value b k s a.1)))
+stays_fine (Set c b) m k n s h a = (h, good-one n (slice_set k c (value_of b k)) (length-set k c (value_of b k) ∙ a.0, All-set (λ n. n < 2 ^ 64) k c (value_of b k) (small-value b k s a.1) a.1))
 stays_fine (Change u) m k n s h a = (small-update u m k s h a.1, good-one n k a)
-stays_fine (Par' _ p _ q) m k n s h a = all_together_has (Fine n) (Fine n) m (fine-all n m h) (eval p m k ∷ eval q m k ∷ []) (stays_fine p m k n s.0 h a, (stays_fine q m k n s.1 h a, tt))
+stays_fine (Par' _ p _ q) m k n s h a =
+    two_together_have (Fine n) (Fine n) m (fine-all n m h) (eval p m k) (eval q m k) (stays_fine p m k n s.0 h a) (stays_fine q m k n s.1 h a)
 stays_fine (Seq' _ p _ q) m k n s h a =
     then_has (Fine n) (Fine n) (eval p m k) _
     (λ o first.

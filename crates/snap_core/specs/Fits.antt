@@ -1,6 +1,6 @@
 -- Which programs fit a number of components and a number of variables.
 use Rattle.std.specs.Prelude.{ℕ, ◌<◌, List}
-use Rattle.std.specs.List.{AllByRecursion}
+use Rattle.std.specs.List.{All}
 use Rattle.snap_core.specs.declared.policy.Atom.{Atom}
 use Rattle.snap_core.specs.declared.policy.Atom.TheVariants.{Num, Comp}
 use Rattle.snap_core.specs.declared.policy.Op.{Op}
@@ -20,7 +20,7 @@ OpFits c (Put a) = AtomFits c a
 OpFits c (Add n) = Unit {0}
 
 abbrev pub IndexFits : ℕ → List Atom → Type 0
-IndexFits c es = AllByRecursion (AtomFits c) es
+IndexFits c es = All (AtomFits c) es
 
 pub record UpdateFits (c v : ℕ) (u : Update) : Type 0 where
   pub var : u.var < v

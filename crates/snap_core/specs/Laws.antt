@@ -1,6 +1,6 @@
 -- Laws of evaluation.
 use Rattle.std.specs.Prelude.{◌≡◌, ℕ, ◌<◌, ◌^◌, List, [], ◌∷◌, IsTrue, true, false, Some, bit_or, length, ⊤}
-use Rattle.std.specs.List.{AllByRecursion}
+use Rattle.std.specs.List.{All}
 use Rattle.std.specs.FinMap.{contains_key}
 use Rattle.snap_core.specs.declared.place.Place.{Place}
 use Rattle.snap_core.specs.declared.policy.Op.{Op}
@@ -84,7 +84,7 @@ PutsSmall (If' x _ p _ q) = PutsSmall p × PutsSmall q
 PutsSmall (Atomic' _ p) = PutsSmall p
 
 abbrev pub AreSmall : List ℕ → Type 0
-AreSmall k = AllByRecursion (λ n. n < 2 ^ 64) k
+AreSmall k = All (λ n. n < 2 ^ 64) k
 
 abbrev pub HoldSmall : Arrays → Type 0
 HoldSmall m = (q : Place) → m q < 2 ^ 64

@@ -1,8 +1,7 @@
 -- Members of lists of facts.
-use Rattle.std.proofs.Common.{◌≡◌, ◌⊎◌, inl, inr, List, [], ◌∷◌, ◌++◌, refl, sym, subst}
+use Rattle.std.proofs.Common.{◌≡◌, ◌⊎◌, inl, inr, List, [], ◌∷◌, ◌++◌, refl, sym, subst, arith}
 use Rattle.std.specs.Prelude.{All}
-use Rattle.std.specs.List.{AllByRecursion}
-use Rattle.std.proofs.lemmas.List.Elements.{All-from_recursion, recursion_from_All}
+use Rattle.std.proofs.lemmas.List.Elements.{All-cons, All-nil, All-tail}
 use Rattle.snap_ctx.specs.declared.fact.Fact.{Fact}
 use Rattle.snap_ctx.specs.Lean.{Among}
 
@@ -19,17 +18,11 @@ among_push f (y ∷ xs) x (inl (inl e)) = inl e
 among_push f (y ∷ xs) x (inl (inr a)) = inr (among_push f xs x (inl a))
 among_push f (y ∷ xs) x (inr e) = inr (among_push f xs x (inr e))
 
-among_all : (P : Fact → Type 0) (xs : List Fact) → ((f : Fact) → Among f xs → P f) → AllByRecursion P xs
-among_all P [] h = tt
-among_all P (x ∷ xs) h = (h x (inl refl), among_all P xs (λ f a. h f (inr a)))
-
 pub all_among : (P : Fact → Type 0) (xs : List Fact) → ((f : Fact) → Among f xs → P f) → All P xs
-all_among P xs h = All-from_recursion P xs (among_all P xs h)
-
-pub from_all : (P : Fact → Type 0) (xs : List Fact) → AllByRecursion P xs → (f : Fact) → Among f xs → P f
-from_all P [] h f a = absurd a
-from_all P (x ∷ xs) h f (inl e) = subst P (sym e) h.0
-from_all P (x ∷ xs) h f (inr a) = from_all P xs h.1 f a
+all_among P [] h = All-nil P
+all_among P (x ∷ xs) h = All-cons P x xs (h x (inl refl)) (all_among P xs (λ f a. h f (inr a)))
 
 pub among_at : (P : Fact → Type 0) (xs : List Fact) → All P xs → (f : Fact) → Among f xs → P f
-among_at P xs h = from_all P xs (recursion_from_All P xs h)
+among_at P [] h f a = absurd a
+among_at P (x ∷ xs) h f (inl e) = subst P (sym e) (h 0 x (omega arith))
+among_at P (x ∷ xs) h f (inr a) = among_at P xs (All-tail P x xs h) f a

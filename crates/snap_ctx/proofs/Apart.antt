@@ -1,16 +1,16 @@
 -- A root can be given a number that keeps a list of pairs of terms apart.
-use Rattle.std.proofs.Common.{◌≡◌, ◌≢◌, ℕ, ◌-◌, ◌^◌, ◌<◌, cond, true, false, Bool, List, length, map, refl, sym, arith}
+use Rattle.std.proofs.Common.{◌≡◌, ◌≢◌, ℕ, ◌-◌, ◌^◌, ◌<◌, cond, true, false, Bool, List, length, map, refl, sym, arith, get_or}
 use Rattle.std.specs.Prelude.{◌==◌}
-use Rattle.std.specs.List.{AllByRecursion}
+use Rattle.std.specs.List.{All}
 use Rattle.std.proofs.lemmas.Bool.Decides.{nat_tests}
 use Rattle.std.proofs.lemmas.List.{length-map}
+use Rattle.snap_core.proofs.Elements.{All-unmap}
 use Rattle.snap_core.specs.declared.policy.Term.{Term}
 use Rattle.snap_core.specs.declared.policy.Term.TheVariants.{Num, Plus}
 use Rattle.snap_ctx.specs.Classes.{wrap}
 use Rattle.snap_ctx.specs.Classes.{IsTerm}
 use Rattle.snap_ctx.specs.Closing.{replace}
 use Rattle.snap_ctx.proofs.Wrap.{wrap_cancel_right}
-use Rattle.snap_ctx.proofs.Each.{Each-unmap, Each-both, Each-weaker}
 use Rattle.snap_ctx.proofs.Fresh.{fresh_number}
 
 -- the number makes the two terms equal only where they are
@@ -54,15 +54,9 @@ apart_at count r n (Plus c p) (Plus d q) ha hb hn ne e =
     ]
     in by (c == r) (d == r) refl refl e
 
-pub apart_number : (count r : ℕ) (pairs : List (Term × Term)) → length pairs < 2 ^ 64 → AllByRecursion (λ q. IsTerm count q.0 × IsTerm count q.1) pairs → (n : ℕ) × (n < 2 ^ 64) × AllByRecursion (λ q. Apart r n q.0 q.1) pairs
+pub apart_number : (count r : ℕ) (pairs : List (Term × Term)) → length pairs < 2 ^ 64 → All (λ q. IsTerm count q.0 × IsTerm count q.1) pairs → (n : ℕ) × (n < 2 ^ 64) × All (λ q. Apart r n q.0 q.1) pairs
 apart_number count r pairs few terms =
-    let found : (n : ℕ) × (n < 2 ^ 64) × AllByRecursion (λ y. y ≢ n) (map (λ (q : Term × Term). clash r q.0 q.1) pairs)
-    = fresh_number (2 ^ 64) (map (λ (q : Term × Term). clash r q.0 q.1) pairs) (rw length-map few)
-    in (
-      found.0,
-      found.1,
-      Each-weaker (λ q. (IsTerm count q.0 × IsTerm count q.1) × (clash r q.0 q.1 ≢ found.0)) (λ q. Apart r found.0 q.0 q.1)
-          (λ q h. apart_at count r found.0 q.0 q.1 h.0.0 h.0.1 found.1 h.1) pairs
-          (Each-both (λ q. IsTerm count q.0 × IsTerm count q.1) (λ q. clash r q.0 q.1 ≢ found.0) pairs terms
-          (Each-unmap (λ y. y ≢ found.0) (λ q. clash r q.0 q.1) pairs found.2)),
-    )
+    let found : (n : ℕ) × (n < 2 ^ 64) × All (λ y. y ≢ n) (map (λ (q : Term × Term). clash r q.0 q.1) pairs)
+    = fresh_number (2 ^ 64) (map (λ (q : Term × Term). clash r q.0 q.1) pairs) (rw length-map few) in
+    let fresh = All-unmap (λ y. y ≢ found.0) (λ q. clash r q.0 q.1) pairs found.2 in
+    (found.0, found.1, λ i d l. let q = get_or pairs i d in apart_at count r found.0 q.0 q.1 (terms i d l).0 (terms i d l).1 found.1 (fresh i d l))

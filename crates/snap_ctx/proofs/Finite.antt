@@ -1,6 +1,7 @@
 -- Arrays that meet facts, cut down to the places of the facts.
 use Rattle.std.proofs.Common.{◌≡◌, ℕ, zero, suc, ◌^◌, ◌<◌, cond, true, false, Bool, List, [], ◌∷◌, length, get_or, refl, ap, ◌∙◌, arith}
 use Rattle.std.proofs.lemmas.Bool.{cond-true}
+use Rattle.snap_core.proofs.Places.{same_place-exact, same_place-itself}
 use Rattle.snap_core.specs.declared.place.Entry.{Entry}
 use Rattle.snap_core.specs.declared.place.Place.{Place}
 use Rattle.snap_core.specs.Arrays.{Arrays, same_place}
@@ -8,7 +9,7 @@ use Rattle.snap_core.specs.Listing.{number_in}
 use Rattle.snap_core.specs.Inputs.{IsStore, IsPacket}
 use Rattle.snap_ctx.specs.declared.fact.Fact.{Fact}
 use Rattle.snap_ctx.specs.Meets.{Meets, IsMet}
-use Rattle.snap_ctx.proofs.Places.{place_of, passes-like, same_place-true, same_place-refl}
+use Rattle.snap_ctx.proofs.Places.{place_of, passes-like}
 
 -- some arrays, not always a finite store, and a packet that meet the facts
 pub record HasModel (comps : ℕ) (facts : List Fact) : Type 0 where
@@ -31,12 +32,12 @@ entries_small m k (f ∷ fs) h p =
 -- at the place of a fact the entries are as the arrays
 number_in-entries_of : (m : Arrays) (k : List ℕ) (facts : List Fact) (i : ℕ) (d : Fact) → i < length facts → number_in (entries_of m k facts) (place_of (get_or facts i d).test k) ≡ m (place_of (get_or facts i d).test k)
 number_in-entries_of m k [] i d l = absurd (omega arith)
-number_in-entries_of m k (f ∷ fs) zero d l = cond-true _ _ _ (same_place-refl (place_of f.test k))
+number_in-entries_of m k (f ∷ fs) zero d l = cond-true _ _ _ (same_place-itself (place_of f.test k))
 number_in-entries_of m k (f ∷ fs) (suc i) d l =
     let p : Place = place_of (get_or fs i d).test k in
     let by : (b : Bool) → same_place (place_of f.test k) p ≡ b → cond b (m (place_of f.test k)) (number_in (entries_of m k fs) p) ≡ m p
     = λ b. elim b as (λ b. same_place (place_of f.test k) p ≡ b → cond b (m (place_of f.test k)) (number_in (entries_of m k fs) p) ≡ m p) [
-      | true ↦ λ e. ap m (same_place-true (place_of f.test k) p e)
+      | true ↦ λ e. ap m (same_place-exact (place_of f.test k) p e)
       | false ↦ λ e. number_in-entries_of m k fs i d (omega (arith, l))
     ]
     in by (same_place (place_of f.test k) p) refl

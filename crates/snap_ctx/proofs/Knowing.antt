@@ -1,10 +1,9 @@
 -- What facts about some components and arrays decide beside a context is decided by what the context knows about them.
 use Rattle.std.proofs.Common.{◌≡◌, ◌≢◌, ◌⊎◌, inl, inr, ℕ, ◌+◌, ◌-◌, ◌<◌, ◌≤◌, ◌^◌, Bool, true, false, cond, not, ◌&&◌, List, [], ◌∷◌, ◌++◌, length, map, get_or, refl, sym, ap, subst, ◌∙◌, arith, Option, Some, None}
 use Rattle.std.specs.Prelude.{◌==◌, nat_lt, All, slice_index}
-use Rattle.std.specs.List.{AllByRecursion}
 use Rattle.std.proofs.lemmas.Bool.{eqb-true, eqb-false, ne_eqb, cond-true, cond-false, and_parts, cases_Bool, both_ways}
-use Rattle.std.proofs.lemmas.List.{length-map, get_or_default}
-use Rattle.std.proofs.lemmas.List.Elements.{All-append, All-contains, All-from_recursion, recursion_from_All}
+use Rattle.std.proofs.lemmas.List.{length-map}
+use Rattle.std.proofs.lemmas.List.Elements.{All-append, All-cons, All-contains, All-nil, All-tail, Contains-get_or}
 use Rattle.snap_core.specs.declared.policy.Atom.{Atom}
 use Rattle.snap_core.specs.declared.policy.Atom.TheVariants.{Num as Number, Comp}
 use Rattle.snap_core.specs.declared.policy.Term.{Term}
@@ -38,13 +37,13 @@ abbrev SomeSaysSo : Arrays → List ℕ → Option Normal → Type 0
 SomeSaysSo m k None = Unit {0}
 SomeSaysSo m k (Some n) = SaysSo m k n
 
-with_said : (m : Arrays) (k : List ℕ) (o : Option Normal) (ns : List Normal) → SomeSaysSo m k o → AllByRecursion (SaysSo m k) ns → AllByRecursion (SaysSo m k) (with_some o ns)
+with_said : (m : Arrays) (k : List ℕ) (o : Option Normal) (ns : List Normal) → SomeSaysSo m k o → All (SaysSo m k) ns → All (SaysSo m k) (with_some o ns)
 with_said m k None ns h i = i
-with_said m k (Some n) ns h i = (h, i)
+with_said m k (Some n) ns h i = All-cons (SaysSo m k) n ns h i
 
-parts_said : (m : Arrays) (k : List ℕ) (o : Option Normal) (ns : List Normal) → AllByRecursion (SaysSo m k) (with_some o ns) → SomeSaysSo m k o × AllByRecursion (SaysSo m k) ns
+parts_said : (m : Arrays) (k : List ℕ) (o : Option Normal) (ns : List Normal) → All (SaysSo m k) (with_some o ns) → SomeSaysSo m k o × All (SaysSo m k) ns
 parts_said m k None ns h = (tt, h)
-parts_said m k (Some n) ns h = h
+parts_said m k (Some n) ns h = (h 0 n (omega arith), All-tail (SaysSo m k) n ns h)
 
 undo_num : (x y p : ℕ) → y < 2 ^ 64 → p < 2 ^ 64 → wrap x 0 ≡ wrap y (2 ^ 64 - p) → wrap x p ≡ y
 undo_num x y p hy hp e = omega arith
@@ -98,7 +97,7 @@ module _ (cl : List Term) (roots settled : ℕ) (m : Arrays) (k : List ℕ) wher
   asks_so : (t : Test) → IsTest (length cl) t → IsPacket (length cl) k → Fits cl k → is_state t ≡ true
       → passes t m k ≡ (m (record { var = var_of t; index = map (λ u. term_value u k) (spot cl t) }) == term_value (normal cl (left_of t)) k)
   asks_so t test p fits st =
-      let ix = index-values cl k (index_of t) p fits (recursion_from_All (IsAtom (length cl)) (index_of t) (index-atoms (length cl) t test)) in
+      let ix = index-values cl k (index_of t) p fits (index-atoms (length cl) t test) in
       let u = normal-value k cl (left_of t) fits (left-term (length cl) t test) in
       passes-state m k t st ∙ (λ i. m (record { var = var_of t; index = ix i }) == sym u i)
 
@@ -114,13 +113,27 @@ module _ (cl : List Term) (roots settled : ℕ) (m : Arrays) (k : List ℕ) wher
       by false st = apart_said f.yes (normal cl (left_of f.test)) (normal cl (right_of f.test))
           (normal_term cl (left_of f.test) classes (left-term (length cl) f.test test)) (normal_term cl (right_of f.test) classes (right-term (length cl) f.test test)) (alone_says cl f m k test st p h fits)
 
-  all_said : (facts : List Fact) → All (IsClass cl) cl → AllByRecursion (λ f. IsTest (length cl) f.test) facts → IsPacket (length cl) k → Fits cl k → AllByRecursion (λ f. passes f.test m k ≡ f.yes) facts → AllByRecursion (SaysSo m k) (all_known cl roots settled facts)
-  all_said [] classes t p fits h = tt
-  all_said (f ∷ fs) classes t p fits h = with_said m k (known cl roots settled f.test f.yes) (all_known cl roots settled fs) (known_said f classes t.0 p fits h.0) (all_said fs classes t.1 p fits h.1)
+  all_said : (facts : List Fact) → All (IsClass cl) cl → All (λ f. IsTest (length cl) f.test) facts → IsPacket (length cl) k → Fits cl k → All (λ f. passes f.test m k ≡ f.yes) facts → All (SaysSo m k) (all_known cl roots settled facts)
+  all_said [] classes t p fits h = All-nil (SaysSo m k)
+  all_said (f ∷ fs) classes t p fits h =
+      with_said m k (known cl roots settled f.test f.yes) (all_known cl roots settled fs) (known_said f classes (t 0 f (omega arith)) p fits (h 0 f (omega arith)))
+      (all_said fs classes (All-tail (λ f. IsTest (length cl) f.test) f fs t) p fits (All-tail (λ f. passes f.test m k ≡ f.yes) f fs h))
 
-  each_said : (facts : List Fact) → AllByRecursion (SaysSo m k) (all_known cl roots settled facts) → AllByRecursion (λ f. SomeSaysSo m k (known cl roots settled f.test f.yes)) facts
-  each_said [] h = tt
-  each_said (f ∷ fs) h = let p = parts_said m k (known cl roots settled f.test f.yes) (all_known cl roots settled fs) h in (p.0, each_said fs p.1)
+  each_said : (facts : List Fact) → All (SaysSo m k) (all_known cl roots settled facts) → All (λ f. SomeSaysSo m k (known cl roots settled f.test f.yes)) facts
+  each_said [] h = All-nil (λ f. SomeSaysSo m k (known cl roots settled f.test f.yes))
+  each_said (f ∷ fs) h =
+      let p = parts_said m k (known cl roots settled f.test f.yes) (all_known cl roots settled fs) h in
+      All-cons (λ f. SomeSaysSo m k (known cl roots settled f.test f.yes)) f fs p.0 (each_said fs p.1)
+
+pub over_array : (comps arrays : ℕ) (t : Test) → TestOver comps arrays t → is_state t ≡ true → IsAmong arrays (var_of t)
+over_array comps arrays (Value c n) o st = absurd (cc)
+over_array comps arrays (Equal l r q) o st = absurd (cc)
+over_array comps arrays (State v ix t) o st = o.0
+
+pub over_atoms : (comps arrays : ℕ) (t : Test) → TestOver comps arrays t → All (AtomOver comps) (index_of t)
+over_atoms comps arrays (Value c n) o = All-nil (AtomOver comps)
+over_atoms comps arrays (Equal l r q) o = All-nil (AtomOver comps)
+over_atoms comps arrays (State v ix t) o = o.1
 
 says_from : (y : Bool) (a b : ℕ) → (a == b) ≡ y → Says y (Num a) (Num b)
 says_from true a b e = ap Num (eqb-true a b e)
@@ -212,7 +225,7 @@ number_pinned roots k (Num n) h = refl
 number_pinned roots k (Plus r p) h = absurd (cc)
 
 module _ (w : View) (comps arrays : ℕ) (key : List ℕ) (is : IsSpelled w comps arrays key) (ctx : IsContext w) (m : Arrays) (k : List ℕ) (p : IsPacket (length w.classes) k)
-    (said : AllByRecursion (SaysSo m k) (all_known w.classes is.roots is.settled w.facts))
+    (said : All (SaysSo m k) (all_known w.classes is.roots is.settled w.facts))
     (fits : (c : ℕ) → c < length w.classes → has comps c ≡ true → term_value (class_of w.classes c) k ≡ term_value (Plus c 0) k) where
   abbrev new : List Term
   new = map (pinned is.roots k) w.classes
@@ -233,7 +246,7 @@ module _ (w : View) (comps arrays : ℕ) (key : List ℕ) (is : IsSpelled w comp
         numbers = map (λ u. term_value u k) (spot w.classes f.test);
         number = term_value (normal w.classes (left_of f.test)) k;
         free = fr;
-        index = index-pinned is.roots k w.classes (index_of f.test) (recursion_from_All (IsAtom (length w.classes)) (index_of f.test) (index-atoms (length w.classes) f.test test)) ∙ index_within is.roots k (spot w.classes f.test) parts.0;
+        index = index-pinned is.roots k w.classes (index_of f.test) (index-atoms (length w.classes) f.test test) ∙ index_within is.roots k (spot w.classes f.test) parts.0;
         term = normal-pinned is.roots k w.classes (left_of f.test) (left-term (length w.classes) f.test test) ∙ pinned_within is.roots k (normal w.classes (left_of f.test)) parts.1;
         holds = subst (SomeSaysSo m k) (held_is f st fr wi) so;
       })
@@ -243,7 +256,7 @@ module _ (w : View) (comps arrays : ℕ) (key : List ℕ) (is : IsSpelled w comp
       untied (record {
         free = fr;
         root = first.0;
-        index = index-pinned is.roots k w.classes (index_of f.test) (recursion_from_All (IsAtom (length w.classes)) (index_of f.test) (index-atoms (length w.classes) f.test test)) ∙ index_outside is.roots k (spot w.classes f.test) parts.0;
+        index = index-pinned is.roots k w.classes (index_of f.test) (index-atoms (length w.classes) f.test test) ∙ index_outside is.roots k (spot w.classes f.test) parts.0;
         term = normal-pinned is.roots k w.classes (left_of f.test) (left-term (length w.classes) f.test test) ∙ pinned_outside is.roots k (normal w.classes (left_of f.test)) parts.1;
       })
 
@@ -283,9 +296,11 @@ module _ (w : View) (comps arrays : ℕ) (key : List ℕ) (is : IsSpelled w comp
       let in' : has comps c ≡ true = o (let f = ctx.few in omega (arith, h, f)) in
       class_of-pinned is.roots k w.classes c h ∙ (pinned_within is.roots k (class_of w.classes c) (is.classes c h in') ∙ ap Num (fits c h in' ∙ wrap_zero (slice_index k c) small))
 
-  over_index : (ix : List Atom) → AllByRecursion (IsAtom (length w.classes)) ix → AllByRecursion (AtomOver comps) ix → map (atom_class new) ix ≡ map Num (map (λ z. value_of z k) ix)
+  over_index : (ix : List Atom) → All (IsAtom (length w.classes)) ix → All (AtomOver comps) ix → map (atom_class new) ix ≡ map Num (map (λ z. value_of z k) ix)
   over_index [] h o = refl
-  over_index (a ∷ ix) h o = let x = over_atom a h.0 o.0 in let y = over_index ix h.1 o.1 in (λ i. x i ∷ y i)
+  over_index (a ∷ ix) h o =
+      let x = over_atom a (h 0 a (omega arith)) (o 0 a (omega arith)) in
+      let y = over_index ix (All-tail (IsAtom (length w.classes)) a ix h) (All-tail (AtomOver comps) a ix o) in (λ i. x i ∷ y i)
 
   over_term : (t : Term) → IsTerm (length w.classes) t → TermOver comps t → normal new t ≡ Num (term_value t k)
   over_term (Num n) h o = refl
@@ -301,22 +316,12 @@ module _ (w : View) (comps arrays : ℕ) (key : List ℕ) (is : IsSpelled w comp
   over_right (Equal l r q) h o st = over_term (Plus r q) (h.1, h.2) o.1
   over_right (State v ix t) h o st = absurd (cc)
 
-  over_array : (t : Test) → TestOver comps arrays t → is_state t ≡ true → IsAmong arrays (var_of t)
-  over_array (Value c n) o st = absurd (cc)
-  over_array (Equal l r q) o st = absurd (cc)
-  over_array (State v ix t) o st = o.0
-
-  over_atoms : (t : Test) → TestOver comps arrays t → AllByRecursion (AtomOver comps) (index_of t)
-  over_atoms (Value c n) o = tt
-  over_atoms (Equal l r q) o = tt
-  over_atoms (State v ix t) o = o.1
-
   over_solid : (f : Fact) → IsTest (length w.classes) f.test → TestOver comps arrays f.test → passes f.test m k ≡ f.yes → is_state f.test ≡ true → IsSolid new is.settled m f
   over_solid f test o h st = record {
     numbers = map (λ z. value_of z k) (index_of f.test);
     number = term_value (left_of f.test) k;
-    free = elim (cases_Bool (has is.settled (var_of f.test))) [ inl se ↦ let q = is.calm (var_of f.test) se in absurd (both_ways _ q.1 (over_array f.test o st q.0)) | inr fr ↦ fr ];
-    index = over_index (index_of f.test) (recursion_from_All (IsAtom (length w.classes)) (index_of f.test) (index-atoms (length w.classes) f.test test)) (over_atoms f.test o);
+    free = elim (cases_Bool (has is.settled (var_of f.test))) [ inl se ↦ let q = is.calm (var_of f.test) se in absurd (both_ways _ q.1 (over_array comps arrays f.test o st q.0)) | inr fr ↦ fr ];
+    index = over_index (index_of f.test) (index-atoms (length w.classes) f.test test) (over_atoms comps arrays f.test o);
     term = over_left f.test test o;
     holds = sym (passes-state m k f.test st) ∙ h;
   }
@@ -328,7 +333,7 @@ module _ (w : View) (comps arrays : ℕ) (key : List ℕ) (is : IsSpelled w comp
 
   -- all rules of both
   facts_said : All (λ f. SomeSaysSo m k (known_by f)) w.facts
-  facts_said = All-from_recursion (λ f. SomeSaysSo m k (known_by f)) w.facts (each_said w.classes is.roots is.settled m k w.facts said)
+  facts_said = each_said w.classes is.roots is.settled m k w.facts said
 
   sorted : (i : ℕ) (d : Fact) → i < length w.facts → is_state (get_or w.facts i d).test ≡ true → Sort w.classes new is.settled m (get_or w.facts i d)
   sorted i d l st = sort_of (get_or w.facts i d) (ctx.rules.tests i d l) (is.facts i d l) (facts_said i d l)
@@ -366,8 +371,8 @@ module _ (w : View) (comps arrays : ℕ) (key : List ℕ) (is : IsSpelled w comp
     met_there short = subst (λ (n : ℕ). IsMet n (w.facts ++ path)) (length-map w.classes (pinned is.roots k)) (model (w.facts ++ path) new rules (rw length-map ctx.few) short)
 
 -- what holds of each fact of a list holds of each of one with the same facts
-all_same : (P : Normal → Type 0) (ns os : List Normal) → AreSame ns os → AllByRecursion P os → AllByRecursion P ns
-all_same P ns os same h = recursion_from_All P ns (λ i d l. All-contains P os (get_or ns i d) (All-from_recursion P os h) ((same (get_or ns i d)).0 (i, l, get_or_default ns i (get_or ns i d) d l)))
+all_same : (P : Normal → Type 0) (ns os : List Normal) → AreSame ns os → All P os → All P ns
+all_same P ns os same h = λ i d l. All-contains P os (get_or ns i d) h ((same (get_or ns i d)).0 (Contains-get_or ns i d l))
 
 -- beside contexts of which the same is known, the same facts about the components and arrays are met
 spelled_alike : (v w : View) (comps arrays : ℕ) (key : List ℕ) → IsContext v → IsContext w → length v.classes ≡ length w.classes → IsSpelled v comps arrays key → IsSpelled w comps arrays key
@@ -377,10 +382,10 @@ spelled_alike v w comps arrays key cv cw count kv kw m k p facts path tests over
     let both = same_classes comps 0 v.classes w.classes (normals_key kv.told) (normals_key kw.told) count (sym kv.is ∙ kw.is) in
     let normals = same_normals kv.told kw.told both.1 in
     let told = cv.told m k p facts in
-    let all_of_v : AllByRecursion (SaysSo m k) (all_known v.classes kv.roots kv.settled v.facts)
-    = all_said v.classes kv.roots kv.settled m k v.facts cv.rules.classes (recursion_from_All (λ f. IsTest (length v.classes) f.test) v.facts cv.rules.tests) p told (recursion_from_All (λ f. passes f.test m k ≡ f.yes) v.facts facts) in
-    let of_key : AllByRecursion (SaysSo m k) kw.told = subst (λ (ns : List Normal). AllByRecursion (SaysSo m k) ns) normals (all_same (SaysSo m k) kv.told (all_known v.classes kv.roots kv.settled v.facts) kv.same all_of_v) in
-    let said : AllByRecursion (SaysSo m k) (all_known w.classes kw.roots kw.settled w.facts)
+    let all_of_v : All (SaysSo m k) (all_known v.classes kv.roots kv.settled v.facts)
+    = all_said v.classes kv.roots kv.settled m k v.facts cv.rules.classes cv.rules.tests p told facts in
+    let of_key : All (SaysSo m k) kw.told = subst (λ (ns : List Normal). All (SaysSo m k) ns) normals (all_same (SaysSo m k) kv.told (all_known v.classes kv.roots kv.settled v.facts) kv.same all_of_v) in
+    let said : All (SaysSo m k) (all_known w.classes kw.roots kw.settled w.facts)
     = all_same (SaysSo m k) (all_known w.classes kw.roots kw.settled w.facts) kw.told (λ n. ((kw.same n).1, (kw.same n).0)) of_key in
     met_there w comps arrays key kw cw m k (record { long = p.long ∙ count; numbers = p.numbers }) said
     (λ c l h. ap (λ t. term_value t k) (sym (both.0 c (Plus c 0) (rw count l) (subst (λ (n : ℕ). has comps n ≡ true) (let e : c ≡ 0 + c = omega arith in e) h))) ∙ told c (rw count l))

@@ -1,7 +1,8 @@
 -- A store that meets the facts that stay, filled at the places of those that went, meets all.
 use Rattle.std.proofs.Common.{◌≡◌, ◌≢◌, inl, inr, ℕ, ◌<◌, ◌^◌, Bool, cond, true, false, List, [], ◌∷◌, length, map, refl, sym, ap, subst, ◌∙◌, arith}
 use Rattle.std.specs.Prelude.{◌==◌, All}
-use Rattle.std.specs.List.{AllByRecursion}
+use Rattle.std.proofs.lemmas.List.Elements.{All-tail}
+use Rattle.snap_core.proofs.Places.{same_place-itself, same_place-exact}
 use Rattle.snap_core.specs.declared.place.Entry.{Entry}
 use Rattle.snap_core.specs.declared.place.Place.{Place}
 use Rattle.snap_core.specs.declared.policy.Atom.{Atom}
@@ -14,31 +15,31 @@ use Rattle.snap_core.specs.Inputs.{IsStore, IsPacket}
 use Rattle.snap_core.specs.Listing.{number_in}
 use Rattle.snap_core.specs.Tests.{passes}
 use Rattle.snap_ctx.specs.declared.fact.Fact.{Fact}
-use Rattle.snap_ctx.specs.Classes.{Fits, IsTest, FactRule, PairRule, is_state, index_of}
+use Rattle.snap_ctx.specs.Classes.{IsTest, FactRule, PairRule, is_state, index_of}
 use Rattle.snap_ctx.specs.Known.{IsFixed}
 use Rattle.snap_ctx.specs.Lean.{Among, IsBeside, IsLean, IsPlain}
 use Rattle.snap_ctx.specs.Meets.{Meets}
 use Rattle.snap_ctx.specs.View.{View, IsContext}
-use Rattle.snap_ctx.proofs.Among.{all_among, among_at, from_all}
+use Rattle.snap_ctx.proofs.Among.{all_among, among_at}
 use Rattle.snap_ctx.proofs.Contexts.{context_met}
-use Rattle.snap_ctx.proofs.Places.{passes-like, place_of, same_place-refl, same_place-true}
+use Rattle.snap_ctx.proofs.Places.{passes-like, place_of}
 
 -- ---- places spelled by numbers
-fixed_values : (ix : List Atom) (k l : List ℕ) → AllByRecursion IsFixed ix → map (λ a. value_of a k) ix ≡ map (λ a. value_of a l) ix
+fixed_values : (ix : List Atom) (k l : List ℕ) → All IsFixed ix → map (λ a. value_of a k) ix ≡ map (λ a. value_of a l) ix
 fixed_values [] k l h = refl
-fixed_values (Number n ∷ ix) k l h = let r = fixed_values ix k l h.1 in (λ i. n ∷ r i)
-fixed_values (Comp c ∷ ix) k l h = absurd h.0
+fixed_values (Number n ∷ ix) k l h = let r = fixed_values ix k l (All-tail IsFixed (Number n) ix h) in (λ i. n ∷ r i)
+fixed_values (Comp c ∷ ix) k l h = absurd (h 0 (Comp c) (omega arith))
 
-fixed_index : (ix iy : List Atom) (k l : List ℕ) → AllByRecursion IsFixed ix → AllByRecursion IsFixed iy → map (λ a. value_of a k) ix ≡ map (λ a. value_of a l) iy → ix ≡ iy
+fixed_index : (ix iy : List Atom) (k l : List ℕ) → All IsFixed ix → All IsFixed iy → map (λ a. value_of a k) ix ≡ map (λ a. value_of a l) iy → ix ≡ iy
 fixed_index [] [] k l h i e = refl
 fixed_index [] (y ∷ iy) k l h i e = absurd (cc)
 fixed_index (x ∷ ix) [] k l h i e = absurd (cc)
-fixed_index (Comp c ∷ ix) (y ∷ iy) k l h i e = absurd h.0
-fixed_index (Number n ∷ ix) (Comp d ∷ iy) k l h i e = absurd i.0
+fixed_index (Comp c ∷ ix) (y ∷ iy) k l h i e = absurd (h 0 (Comp c) (omega arith))
+fixed_index (Number n ∷ ix) (Comp d ∷ iy) k l h i e = absurd (i 0 (Comp d) (omega arith))
 fixed_index (Number n ∷ ix) (Number o ∷ iy) k l h i e =
     let first : n ≡ o = cc in
     let rest : map (λ a. value_of a k) ix ≡ map (λ a. value_of a l) iy = cc in
-    let r = fixed_index ix iy k l h.1 i.1 rest in
+    let r = fixed_index ix iy k l (All-tail IsFixed (Number n) ix h) (All-tail IsFixed (Number o) iy i) rest in
     (λ j. Number (first j) ∷ r j)
 
 plain_place : (t : Test) (k l : List ℕ) → IsPlain t → place_of t k ≡ place_of t l
@@ -46,7 +47,7 @@ plain_place (Value c n) k l h = absurd h
 plain_place (Equal q r p) k l h = absurd h
 plain_place (State v ix t) k l h = let e = fixed_values ix k l h.0 in (λ i. record { var = v; index = e i })
 
-plain_fixed : (t : Test) → IsPlain t → AllByRecursion IsFixed (index_of t)
+plain_fixed : (t : Test) → IsPlain t → All IsFixed (index_of t)
 plain_fixed (Value c n) h = absurd h
 plain_fixed (Equal q r p) h = absurd h
 plain_fixed (State v ix t) h = h.0
@@ -67,11 +68,11 @@ fill_at (g ∷ fs) m n f k a h = by (λ b. fill_at fs m n f k b h) (same_place (
   where
     by : (Among f fs → fill fs m n (place_of f.test k) ≡ m (place_of f.test k))
         → (b : Bool) → same_place (place_of g.test []) (place_of f.test k) ≡ b → Among f (g ∷ fs) → cond b (m (place_of g.test [])) (fill fs m n (place_of f.test k)) ≡ m (place_of f.test k)
-    by rest true e i = ap m (same_place-true (place_of g.test []) (place_of f.test k) e)
+    by rest true e i = ap m (same_place-exact (place_of g.test []) (place_of f.test k) e)
     by rest false e (inr i) = rest i
     by rest false e (inl i) = absurd (
         let p : place_of g.test [] ≡ place_of f.test k = ap (λ (x : Fact). place_of x.test []) (sym i) ∙ plain_place f.test [] k h in
-        let s : same_place (place_of g.test []) (place_of f.test k) ≡ true = subst (λ (q : Place). same_place (place_of g.test []) q ≡ true) p (same_place-refl (place_of g.test [])) in
+        let s : same_place (place_of g.test []) (place_of f.test k) ≡ true = subst (λ (q : Place). same_place (place_of g.test []) q ≡ true) p (same_place-itself (place_of g.test [])) in
         cc
         )
 
@@ -80,7 +81,7 @@ fill_other [] m n p h = refl
 fill_other (f ∷ fs) m n p h = by (fill_other fs m n p (λ g a. h g (inr a))) (same_place (place_of f.test []) p) refl
   where
     by : fill fs m n p ≡ n p → (b : Bool) → same_place (place_of f.test []) p ≡ b → cond b (m (place_of f.test [])) (fill fs m n p) ≡ n p
-    by rest true e = absurd (h f (inl refl) (same_place-true (place_of f.test []) p e))
+    by rest true e = absurd (h f (inl refl) (same_place-exact (place_of f.test []) p e))
     by rest false e = rest
 
 fill_small : (fs : List Fact) (m n : Arrays) → IsStore m → IsStore n → IsStore (fill fs m n)
@@ -113,10 +114,10 @@ plain_passes m n k l (State v ix (Num x)) h e =
 
 module _ (facts stay gone : List Fact) (lean : IsLean facts stay gone) where
   each_plain : (f : Fact) → Among f gone → IsPlain f.test
-  each_plain = from_all (λ f. IsPlain f.test) gone lean.plain
+  each_plain = among_at (λ f. IsPlain f.test) gone lean.plain
 
   each_beside : (f g : Fact) → Among f gone → Among g stay → IsBeside f g
-  each_beside f g a b = from_all (IsBeside f) stay (from_all (λ f. AllByRecursion (IsBeside f) stay) gone lean.beside f a) g b
+  each_beside f g a b = among_at (IsBeside f) stay (among_at (λ f. All (IsBeside f) stay) gone lean.beside f a) g b
 
   filled_meets : (m n : Arrays) (k l : List ℕ) → Meets facts m l → Meets stay n k → Meets facts (fill gone m n) k
   filled_meets m n k l all some = all_among (λ f. passes f.test (fill gone m n) k ≡ f.yes) facts (λ f a. elim (lean.parted.each f a) [

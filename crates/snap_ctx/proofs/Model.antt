@@ -1,10 +1,11 @@
 -- Facts and classes that break no rule are met by some store and packet.
 use Rattle.std.proofs.Common.{◌≡◌, ◌≢◌, ℕ, ◌^◌, ◌<◌, ◌≤◌, ◌⊎◌, inl, inr, ⊎_elim, cond, true, false, ◌&&◌, Bool, List, [], ◌∷◌, length, map, get_or, refl, sym, ap, ◌∙◌, arith}
 use Rattle.std.specs.Prelude.{◌==◌, All, slice_index}
-use Rattle.std.specs.List.{AllByRecursion}
 use Rattle.std.proofs.lemmas.Bool.{eq-eqb, ne_eqb, and_parts, and_from, cases_Bool}
 use Rattle.std.proofs.lemmas.List.{length-map, get_or-map}
-use Rattle.std.proofs.lemmas.List.Elements.{All-from_recursion, recursion_from_All}
+use Rattle.std.proofs.lemmas.List.Elements.{All-cons, All-nil, All-tail}
+use Rattle.snap_core.proofs.Places.{same_place-exact, same_place-itself}
+use Rattle.snap_core.proofs.Elements.{All-unmap}
 use Rattle.snap_core.specs.declared.place.Place.{Place}
 use Rattle.snap_core.specs.declared.policy.Atom.{Atom}
 use Rattle.snap_core.specs.declared.policy.Atom.TheVariants.{Num as Number, Comp}
@@ -20,9 +21,8 @@ use Rattle.snap_ctx.specs.Meets.{IsMet}
 use Rattle.snap_ctx.specs.Classes.{wrap, class_of, normal, atom_class, IsTerm, IsAtom, IsTest, IsClass, is_state, left_of, right_of, index_of, Says, SamePlace, PairRule, Rules}
 use Rattle.snap_ctx.proofs.Wrap.{wrap_below, wrap_zero}
 use Rattle.snap_ctx.proofs.Roots.{left-term, index-atoms}
-use Rattle.snap_ctx.proofs.Each.{Each-unmap}
 use Rattle.snap_ctx.proofs.Fresh.{fresh_number}
-use Rattle.snap_ctx.proofs.Places.{place_of, passes-state, same_place-true, same_place-refl}
+use Rattle.snap_ctx.proofs.Places.{place_of, passes-state}
 use Rattle.snap_ctx.proofs.Finite.{HasModel, finite}
 use Rattle.snap_ctx.proofs.Numbered.{IsConst, Ties, tie_upto}
 
@@ -62,11 +62,11 @@ const_term : (cl : List Term) (k : List ℕ) (x : Term) → Tells cl k → IsTer
 const_term cl k (Num n) t h = refl
 const_term cl k (Plus c p) t h = rw (t c h.0) refl
 
-const_index : (cl : List Term) (k : List ℕ) (ix : List Atom) → Tells cl k → AllByRecursion (IsAtom (length cl)) ix → map (atom_class cl) ix ≡ map Num (map (λ z. value_of z k) ix)
+const_index : (cl : List Term) (k : List ℕ) (ix : List Atom) → Tells cl k → All (IsAtom (length cl)) ix → map (atom_class cl) ix ≡ map Num (map (λ z. value_of z k) ix)
 const_index cl k [] t h = refl
 const_index cl k (a ∷ ix) t h =
-    let x : atom_class cl a ≡ Num (value_of a k) = const_atom cl k a t h.0 in
-    let y : map (atom_class cl) ix ≡ map Num (map (λ z. value_of z k) ix) = const_index cl k ix t h.1 in
+    let x : atom_class cl a ≡ Num (value_of a k) = const_atom cl k a t (h 0 a (omega arith)) in
+    let y : map (atom_class cl) ix ≡ map Num (map (λ z. value_of z k) ix) = const_index cl k ix t (All-tail (IsAtom (length cl)) a ix h) in
     cc
 
 -- the fact says what the place holds
@@ -78,17 +78,17 @@ abbrev look_up : List Fact → List ℕ → ℕ → Arrays
 look_up [] k w p = w
 look_up (f ∷ fs) k w p = cond (says_at k p f) (term_value (left_of f.test) k) (look_up fs k w p)
 
-look_up_cases : (P : Fact → Type 0) (facts : List Fact) (k : List ℕ) (w : ℕ) (p : Place) → AllByRecursion P facts → ((f : Fact) × P f × (says_at k p f ≡ true) × (look_up facts k w p ≡ term_value (left_of f.test) k)) ⊎ ((look_up facts k w p ≡ w) × AllByRecursion (λ f. says_at k p f ≡ false) facts)
-look_up_cases P [] k w p h = inr (refl, tt)
+look_up_cases : (P : Fact → Type 0) (facts : List Fact) (k : List ℕ) (w : ℕ) (p : Place) → All P facts → ((f : Fact) × P f × (says_at k p f ≡ true) × (look_up facts k w p ≡ term_value (left_of f.test) k)) ⊎ ((look_up facts k w p ≡ w) × All (λ f. says_at k p f ≡ false) facts)
+look_up_cases P [] k w p h = inr (refl, All-nil (λ f. says_at k p f ≡ false))
 look_up_cases P (f ∷ fs) k w p h =
-    let Goal : Bool → Type 0 = λ b. ((g : Fact) × P g × (says_at k p g ≡ true) × (cond b (term_value (left_of f.test) k) (look_up fs k w p) ≡ term_value (left_of g.test) k)) ⊎ ((cond b (term_value (left_of f.test) k) (look_up fs k w p) ≡ w) × ((says_at k p f ≡ false) × AllByRecursion (λ g. says_at k p g ≡ false) fs)) in
+    let Goal : Bool → Type 0 = λ b. ((g : Fact) × P g × (says_at k p g ≡ true) × (cond b (term_value (left_of f.test) k) (look_up fs k w p) ≡ term_value (left_of g.test) k)) ⊎ ((cond b (term_value (left_of f.test) k) (look_up fs k w p) ≡ w) × All (λ g. says_at k p g ≡ false) (f ∷ fs)) in
     let by : (b : Bool) → says_at k p f ≡ b → Goal b
     = λ b. elim b as (λ b. says_at k p f ≡ b → Goal b) [
-      | true ↦ λ e. inl (f, h.0, e, refl)
+      | true ↦ λ e. inl (f, h 0 f (omega arith), e, refl)
       | false ↦ λ e. ⊎_elim
           (λ (r : (g : Fact) × P g × (says_at k p g ≡ true) × (look_up fs k w p ≡ term_value (left_of g.test) k)). inl (r.0, r.1, r.2, r.3))
-          (λ (r : (look_up fs k w p ≡ w) × AllByRecursion (λ g. says_at k p g ≡ false) fs). inr (r.0, (e, r.1)))
-          (look_up_cases P fs k w p h.1)
+          (λ (r : (look_up fs k w p ≡ w) × All (λ g. says_at k p g ≡ false) fs). inr (r.0, All-cons (λ g. says_at k p g ≡ false) f fs e r.1))
+          (look_up_cases P fs k w p (All-tail P f fs h))
     ]
     in by (says_at k p f) refl
 
@@ -115,25 +115,25 @@ alone_met cl k m (Equal l r q) y t p h st s =
 alone_met cl k m (State v ix u) y t p h st s = absurd (cc)
 
 -- a state fact is met, where w is not the number that it speaks of
-state_met : (cl : List Term) (facts : List Fact) (k : List ℕ) (w : ℕ) (g : Fact) → Tells cl k → IsTest (length cl) g.test → is_state g.test ≡ true → w ≢ term_value (left_of g.test) k → AllByRecursion (λ f. IsTest (length cl) f.test × PairRule cl f g) facts → (AllByRecursion (λ f. says_at k (place_of g.test k) f ≡ false) facts → says_at k (place_of g.test k) g ≡ false) → passes g.test (look_up facts k w) k ≡ g.yes
+state_met : (cl : List Term) (facts : List Fact) (k : List ℕ) (w : ℕ) (g : Fact) → Tells cl k → IsTest (length cl) g.test → is_state g.test ≡ true → w ≢ term_value (left_of g.test) k → All (λ f. IsTest (length cl) f.test × PairRule cl f g) facts → (All (λ f. says_at k (place_of g.test k) f ≡ false) facts → says_at k (place_of g.test k) g ≡ false) → passes g.test (look_up facts k w) k ≡ g.yes
 state_met cl facts k w g t h st ne rules here =
     passes-state (look_up facts k w) k g.test st ∙
     ⊎_elim
     (λ (r : (f : Fact) × (IsTest (length cl) f.test × PairRule cl f g) × (says_at k (place_of g.test k) f ≡ true) × (look_up facts k w (place_of g.test k) ≡ term_value (left_of f.test) k)).
     let a : (r.0.yes ≡ true) × ((is_state r.0.test && same_place (place_of r.0.test k) (place_of g.test k)) ≡ true) = and_parts r.0.yes _ r.2 in
     let b : (is_state r.0.test ≡ true) × (same_place (place_of r.0.test k) (place_of g.test k) ≡ true) = and_parts (is_state r.0.test) _ a.1 in
-    let e : place_of r.0.test k ≡ place_of g.test k = same_place-true (place_of r.0.test k) (place_of g.test k) b.1 in
+    let e : place_of r.0.test k ≡ place_of g.test k = same_place-exact (place_of r.0.test k) (place_of g.test k) b.1 in
     let same : SamePlace cl r.0.test g.test = record {
       first = b.0;
       second = st;
       var = ap (λ (p : Place). p.var) e;
-      index = const_index cl k (index_of r.0.test) t (recursion_from_All (IsAtom (length cl)) (index_of r.0.test) (index-atoms (length cl) r.0.test r.1.0))
-          ∙ (ap (λ (p : Place). map Num p.index) e ∙ sym (const_index cl k (index_of g.test) t (recursion_from_All (IsAtom (length cl)) (index_of g.test) (index-atoms (length cl) g.test h))));
+      index = const_index cl k (index_of r.0.test) t (index-atoms (length cl) r.0.test r.1.0)
+          ∙ (ap (λ (p : Place). map Num p.index) e ∙ sym (const_index cl k (index_of g.test) t (index-atoms (length cl) g.test h)));
     } in
     rw r.3 (says_terms cl k g.yes (left_of r.0.test) (left_of g.test) t (left-term (length cl) r.0.test r.1.0) (left-term (length cl) g.test h) (r.1.1 a.0 same)))
-    (λ (r : (look_up facts k w (place_of g.test k) ≡ w) × AllByRecursion (λ f. says_at k (place_of g.test k) f ≡ false) facts).
+    (λ (r : (look_up facts k w (place_of g.test k) ≡ w) × All (λ f. says_at k (place_of g.test k) f ≡ false) facts).
     let none : (g.yes && (is_state g.test && same_place (place_of g.test k) (place_of g.test k))) ≡ false = here r.1 in
-    let part : (is_state g.test && same_place (place_of g.test k) (place_of g.test k)) ≡ true = and_from (is_state g.test) _ st (same_place-refl (place_of g.test k)) in
+    let part : (is_state g.test && same_place (place_of g.test k) (place_of g.test k)) ≡ true = and_from (is_state g.test) _ st (same_place-itself (place_of g.test k)) in
     let denied : g.yes ≡ false = ⊎_elim (λ (y : g.yes ≡ true). let bad : (g.yes && (is_state g.test && same_place (place_of g.test k) (place_of g.test k))) ≡ true = and_from g.yes _ y part in cc) (λ (y : g.yes ≡ false). y) (cases_Bool g.yes) in
     rw r.0 (ne_eqb w (term_value (left_of g.test) k) ne ∙ sym denied))
     (look_up_cases (λ f. IsTest (length cl) f.test × PairRule cl f g) facts k w (place_of g.test k) rules)
@@ -142,34 +142,33 @@ term_small : (comps : ℕ) (k : List ℕ) (t : Term) → IsTerm comps t → term
 term_small comps k (Num n) h = h
 term_small comps k (Plus c p) h = wrap_below (slice_index k c) p
 
-look_up_small : (comps : ℕ) (facts : List Fact) (k : List ℕ) (w : ℕ) → w < 2 ^ 64 → AllByRecursion (λ f. IsTest comps f.test) facts → IsStore (look_up facts k w)
+look_up_small : (comps : ℕ) (facts : List Fact) (k : List ℕ) (w : ℕ) → w < 2 ^ 64 → All (λ f. IsTest comps f.test) facts → IsStore (look_up facts k w)
 look_up_small comps [] k w h t p = h
 look_up_small comps (f ∷ fs) k w h t p =
     elim (says_at k p f) as (λ b. cond b (term_value (left_of f.test) k) (look_up fs k w p) < 2 ^ 64)
-    [ true ↦ term_small comps k (left_of f.test) (left-term comps f.test t.0) | false ↦ look_up_small comps fs k w h t.1 p ]
+    [ true ↦ term_small comps k (left_of f.test) (left-term comps f.test (t 0 f (omega arith))) | false ↦ look_up_small comps fs k w h (All-tail (λ f. IsTest comps f.test) f fs t) p ]
 
 -- classes that are all numbers, and break no rule, have a model
 const_model : (facts : List Fact) (cl : List Term) → Rules facts cl → length facts ≤ 2 ^ 32 → ((c : ℕ) → c < length cl → IsConst (class_of cl c)) → HasModel (length cl) facts
 const_model facts cl rules few consts =
     let k : List ℕ = packet_of cl in
-    let found : (w : ℕ) × (w < 2 ^ 64) × AllByRecursion (λ y. y ≢ w) (map (λ (f : Fact). term_value (left_of f.test) (packet_of cl)) facts)
+    let found : (w : ℕ) × (w < 2 ^ 64) × All (λ y. y ≢ w) (map (λ (f : Fact). term_value (left_of f.test) (packet_of cl)) facts)
     = fresh_number (2 ^ 64) (map (λ (f : Fact). term_value (left_of f.test) (packet_of cl)) facts) (rw length-map (omega (arith, few))) in
-    let away : AllByRecursion (λ f. term_value (left_of f.test) (packet_of cl) ≢ found.0) facts = Each-unmap (λ y. y ≢ found.0) (λ f. term_value (left_of f.test) (packet_of cl)) facts found.2 in
+    let away : All (λ f. term_value (left_of f.test) (packet_of cl) ≢ found.0) facts
+    = All-unmap (λ y. y ≢ found.0) (λ f. term_value (left_of f.test) (packet_of cl)) facts found.2 in
     let t : Tells cl (packet_of cl) = tells cl consts in
     let p : IsPacket (length cl) (packet_of cl) = record { long = length-map cl const_of; numbers = small_packet cl rules.classes consts } in
     record {
       arrays = look_up facts (packet_of cl) found.0;
       packet = packet_of cl;
-      is_store = look_up_small (length cl) facts (packet_of cl) found.0 found.1 (recursion_from_All (λ f. IsTest (length cl) f.test) facts rules.tests);
+      is_store = look_up_small (length cl) facts (packet_of cl) found.0 found.1 rules.tests;
       is_packet = p;
       meets = λ i d l.
           ⊎_elim
           (λ (st : is_state (get_or facts i d).test ≡ true).
           state_met cl facts (packet_of cl) found.0 (get_or facts i d) t (rules.tests i d l) st
-          (λ e. All-from_recursion (λ f. term_value (left_of f.test) (packet_of cl) ≢ found.0) facts away i d l (sym e))
-          (recursion_from_All (λ f. IsTest (length cl) f.test × PairRule cl f (get_or facts i d)) facts
-          (λ j e m. (rules.tests j e m, rules.paired j e m i d l)))
-          (λ none. All-from_recursion (λ f. says_at (packet_of cl) (place_of (get_or facts i d).test (packet_of cl)) f ≡ false) facts none i d l))
+          (λ e. away i d l (sym e))
+          (λ j e m. (rules.tests j e m, rules.paired j e m i d l)) (λ none. none i d l))
           (λ (st : is_state (get_or facts i d).test ≡ false).
           alone_met cl (packet_of cl) (look_up facts (packet_of cl) found.0) (get_or facts i d).test (get_or facts i d).yes t p (rules.tests i d l) st (rules.alone i d l st))
           (cases_Bool (is_state (get_or facts i d).test));

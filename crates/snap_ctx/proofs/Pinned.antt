@@ -1,9 +1,9 @@
 -- Classes whose roots, of a set, have the numbers of a packet.
-use Rattle.std.proofs.Common.{◌≡◌, ◌≢◌, ℕ, ◌<◌, Bool, true, false, cond, not, List, [], ◌∷◌, length, map, get_or, refl, sym, ap, ◌∙◌}
+use Rattle.std.proofs.Common.{◌≡◌, ◌≢◌, ℕ, ◌<◌, Bool, true, false, cond, not, List, [], ◌∷◌, length, map, get_or, refl, sym, ap, ◌∙◌, arith}
 use Rattle.std.specs.Prelude.{All}
-use Rattle.std.specs.List.{AllByRecursion}
-use Rattle.std.proofs.lemmas.Bool.{cond-true, cond-false, and_parts}
+use Rattle.std.proofs.lemmas.Bool.{cond-true, cond-false, and_parts, not-true}
 use Rattle.std.proofs.lemmas.List.{length-map, get_or-map}
+use Rattle.std.proofs.lemmas.List.Elements.{All-tail}
 use Rattle.snap_core.specs.declared.policy.Atom.{Atom}
 use Rattle.snap_core.specs.declared.policy.Atom.TheVariants.{Num as Number, Comp}
 use Rattle.snap_core.specs.declared.policy.Term.{Term}
@@ -14,10 +14,6 @@ use Rattle.snap_ctx.specs.Classes.{wrap, shift, class_of, normal, atom_class, Is
 use Rattle.snap_ctx.specs.Known.{within, are_within, outside, are_outside, are_numbers}
 use Rattle.snap_ctx.proofs.Algebra.{term_value-shift}
 use Rattle.snap_ctx.proofs.Wrap.{wrap_below}
-
-not-true : (b : Bool) → not b ≡ true → b ≡ false
-not-true true e = absurd (cc)
-not-true false e = refl
 
 -- a class, with the packet's number where its root is in the set
 abbrev pub pinned : ℕ → List ℕ → Term → Term
@@ -51,9 +47,10 @@ pub atom-pinned : (roots : ℕ) (k : List ℕ) (cl : List Term) (a : Atom) → I
 atom-pinned roots k cl (Number n) h = refl
 atom-pinned roots k cl (Comp c) h = class_of-pinned roots k cl c h
 
-pub index-pinned : (roots : ℕ) (k : List ℕ) (cl : List Term) (ix : List Atom) → AllByRecursion (IsAtom (length cl)) ix → map (atom_class (map (pinned roots k) cl)) ix ≡ map (pinned roots k) (map (atom_class cl) ix)
+pub index-pinned : (roots : ℕ) (k : List ℕ) (cl : List Term) (ix : List Atom) → All (IsAtom (length cl)) ix → map (atom_class (map (pinned roots k) cl)) ix ≡ map (pinned roots k) (map (atom_class cl) ix)
 index-pinned roots k cl [] h = refl
-index-pinned roots k cl (a ∷ ix) h = let x = atom-pinned roots k cl a h.0 in let y = index-pinned roots k cl ix h.1 in (λ i. x i ∷ y i)
+index-pinned roots k cl (a ∷ ix) h =
+    let x = atom-pinned roots k cl a (h 0 a (omega arith)) in let y = index-pinned roots k cl ix (All-tail (IsAtom (length cl)) a ix h) in (λ i. x i ∷ y i)
 
 pub index_within : (roots : ℕ) (k : List ℕ) (ts : List Term) → are_within roots ts ≡ true → map (pinned roots k) ts ≡ map Num (map (λ t. term_value t k) ts)
 index_within roots k [] e = refl

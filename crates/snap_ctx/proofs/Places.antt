@@ -1,25 +1,12 @@
 -- Places, and the place of a test on a packet.
 use Rattle.std.proofs.Common.{◌≡◌, ℕ, true, List, refl, ap}
 use Rattle.std.specs.Prelude.{◌==◌}
-use Rattle.std.specs.Str.{bytes_eq}
-use Rattle.std.proofs.lemmas.Bool.{eqb-true, eq-eqb, and_parts, and_from}
-use Rattle.std.proofs.lemmas.Slice.Eq.{bytes_eq-Decides}
 use Rattle.snap_core.specs.declared.place.Place.{Place}
 use Rattle.snap_core.specs.declared.policy.Test.{Test}
 use Rattle.snap_core.specs.declared.policy.Test.TheVariants.{Value, Equal, State}
-use Rattle.snap_core.specs.Arrays.{Arrays, place_at, same_place}
+use Rattle.snap_core.specs.Arrays.{Arrays, place_at}
 use Rattle.snap_core.specs.Tests.{passes, term_value}
 use Rattle.snap_ctx.specs.Classes.{is_state, var_of, index_of, left_of}
-
-pub same_place-true : (p q : Place) → same_place p q ≡ true → p ≡ q
-same_place-true p q h =
-    let parts : ((p.var == q.var) ≡ true) × (bytes_eq p.index q.index ≡ true) = and_parts (p.var == q.var) (bytes_eq p.index q.index) h in
-    let var : p.var ≡ q.var = eqb-true p.var q.var parts.0 in
-    let index : p.index ≡ q.index = (bytes_eq-Decides p.index q.index).0 parts.1 in
-    λ i. record { var = var i; index = index i }
-
-pub same_place-refl : (p : Place) → same_place p p ≡ true
-same_place-refl p = and_from (p.var == p.var) (bytes_eq p.index p.index) (eq-eqb p.var p.var refl) ((bytes_eq-Decides p.index p.index).1 refl)
 
 -- the place of a state test
 abbrev pub place_of : Test → List ℕ → Place

@@ -1,10 +1,9 @@
 -- A class by another of its components.
 use Rattle.std.proofs.Common.{◌≡◌, ◌≢◌, ℕ, ◌-◌, ◌^◌, ◌<◌, cond, true, false, Bool, List, [], ◌∷◌, length, map, refl, sym, ap, subst, ◌∙◌, arith}
 use Rattle.std.specs.Prelude.{◌==◌, All, slice_index, get_or}
-use Rattle.std.specs.List.{AllByRecursion}
 use Rattle.std.proofs.lemmas.Bool.{eqb-true, eqb-false, eq-eqb, cond-true}
 use Rattle.std.proofs.lemmas.List.{length-map, get_or-map}
-use Rattle.std.proofs.lemmas.List.Elements.{recursion_from_All}
+use Rattle.std.proofs.lemmas.List.Elements.{All-tail}
 use Rattle.snap_core.specs.declared.policy.Atom.{Atom}
 use Rattle.snap_core.specs.declared.policy.Atom.TheVariants.{Num as Number, Comp}
 use Rattle.snap_core.specs.declared.policy.Term.{Term}
@@ -90,16 +89,18 @@ module _ (cl : List Term) (c r p : ℕ) (within : c < length cl) (other : c ≢ 
       ]
       in by (q == r) (s == r) refl refl e
 
-  index_once : (ix jx : List Atom) → AllByRecursion (IsAtom (length cl)) ix → AllByRecursion (IsAtom (length cl)) jx → map (atom_class (put cl r to)) ix ≡ map (atom_class (put cl r to)) jx → map (atom_class cl) ix ≡ map (atom_class cl) jx
+  index_once : (ix jx : List Atom) → All (IsAtom (length cl)) ix → All (IsAtom (length cl)) jx → map (atom_class (put cl r to)) ix ≡ map (atom_class (put cl r to)) jx → map (atom_class cl) ix ≡ map (atom_class cl) jx
   index_once [] [] hi hj e = refl
   index_once [] (b ∷ jx) hi hj e = absurd (cc)
   index_once (a ∷ ix) [] hi hj e = absurd (cc)
   index_once (a ∷ ix) (b ∷ jx) hi hj e =
+      let ha : IsAtom (length cl) a = hi 0 a (omega arith) in
+      let hb : IsAtom (length cl) b = hj 0 b (omega arith) in
       let he : atom_class (put cl r to) a ≡ atom_class (put cl r to) b = cc in
       let te : map (atom_class (put cl r to)) ix ≡ map (atom_class (put cl r to)) jx = cc in
-      let h : atom_class cl a ≡ atom_class cl b = once (atom_class cl a) (atom_class cl b) (atom-class cl a classes hi.0) (atom-class cl b classes hj.0)
-      (sym (atom_class-put cl r to a hi.0) ∙ he ∙ atom_class-put cl r to b hj.0) in
-      let t : map (atom_class cl) ix ≡ map (atom_class cl) jx = index_once ix jx hi.1 hj.1 te in
+      let h : atom_class cl a ≡ atom_class cl b = once (atom_class cl a) (atom_class cl b) (atom-class cl a classes ha) (atom-class cl b classes hb)
+      (sym (atom_class-put cl r to a ha) ∙ he ∙ atom_class-put cl r to b hb) in
+      let t : map (atom_class cl) ix ≡ map (atom_class cl) jx = index_once ix jx (All-tail (IsAtom (length cl)) a ix hi) (All-tail (IsAtom (length cl)) b jx hj) te in
       cc
 
   says-once : (y : Bool) (a b : Term) → IsClass cl a → IsClass cl b → Says y a b → Says y (replace r to a) (replace r to b)
@@ -121,8 +122,7 @@ module _ (cl : List Term) (c r p : ℕ) (within : c < length cl) (other : c ≢ 
         second = same.second;
         var = same.var;
         index = index_once (index_of f.test) (index_of g.test)
-            (recursion_from_All (IsAtom (length cl)) (index_of f.test) (index-atoms (length cl) f.test tf))
-            (recursion_from_All (IsAtom (length cl)) (index_of g.test) (index-atoms (length cl) g.test tg))
+            (index-atoms (length cl) f.test tf) (index-atoms (length cl) g.test tg)
             same.index;
       }))
 

@@ -1,9 +1,8 @@
 -- What facts say of the classes, where a packet fits them.
-use Rattle.std.proofs.Common.{◌≡◌, ℕ, ◌^◌, ◌<◌, true, false, Bool, List, [], ◌∷◌, length, map, refl, sym, ap, ◌∙◌}
+use Rattle.std.proofs.Common.{◌≡◌, ℕ, ◌^◌, ◌<◌, true, false, Bool, List, [], ◌∷◌, length, map, refl, sym, ap, ◌∙◌, arith}
 use Rattle.std.specs.Prelude.{◌==◌, All, slice_index, Result, Ok, Err, MatchResult}
-use Rattle.std.specs.List.{AllByRecursion}
 use Rattle.std.proofs.lemmas.Bool.{eqb-true, eqb-false}
-use Rattle.std.proofs.lemmas.List.Elements.{recursion_from_All}
+use Rattle.std.proofs.lemmas.List.Elements.{All-tail}
 use Rattle.snap_core.specs.declared.policy.Atom.{Atom}
 use Rattle.snap_core.specs.declared.policy.Atom.TheVariants.{Num as Number, Comp}
 use Rattle.snap_core.specs.declared.policy.Term.{Term}
@@ -29,17 +28,16 @@ atom_class-value cl k (Comp c) p f h =
     let lt : slice_index k c < 2 ^ 64 = p.numbers c 0 (rw p.long h) in
     sym (f c h ∙ wrap_zero (slice_index k c) lt)
 
-pub index-values : (cl : List Term) (k : List ℕ) (ix : List Atom) → IsPacket (length cl) k → Fits cl k → AllByRecursion (IsAtom (length cl)) ix → map (λ a. value_of a k) ix ≡ map (λ t. term_value t k) (map (atom_class cl) ix)
+pub index-values : (cl : List Term) (k : List ℕ) (ix : List Atom) → IsPacket (length cl) k → Fits cl k → All (IsAtom (length cl)) ix → map (λ a. value_of a k) ix ≡ map (λ t. term_value t k) (map (atom_class cl) ix)
 index-values cl k [] p f h = refl
 index-values cl k (a ∷ ix) p f h =
-    let x : value_of a k ≡ term_value (atom_class cl a) k = atom_class-value cl k a p f h.0 in
-    let y : map (λ a. value_of a k) ix ≡ map (λ t. term_value t k) (map (atom_class cl) ix) = index-values cl k ix p f h.1 in
+    let x : value_of a k ≡ term_value (atom_class cl a) k = atom_class-value cl k a p f (h 0 a (omega arith)) in
+    let y : map (λ a. value_of a k) ix ≡ map (λ t. term_value t k) (map (atom_class cl) ix) = index-values cl k ix p f (All-tail (IsAtom (length cl)) a ix h) in
     cc
 
 same_values : (cl : List Term) (k : List ℕ) (ix jx : List Atom) → IsPacket (length cl) k → Fits cl k → All (IsAtom (length cl)) ix → All (IsAtom (length cl)) jx → map (atom_class cl) ix ≡ map (atom_class cl) jx → map (λ a. value_of a k) ix ≡ map (λ a. value_of a k) jx
 same_values cl k ix jx p f hi hj e =
-    index-values cl k ix p f (recursion_from_All (IsAtom (length cl)) ix hi)
-    ∙ (ap (map (λ t. term_value t k)) e ∙ sym (index-values cl k jx p f (recursion_from_All (IsAtom (length cl)) jx hj)))
+    index-values cl k ix p f hi ∙ (ap (map (λ t. term_value t k)) e ∙ sym (index-values cl k jx p f hj))
 
 same_place_of : (cl : List Term) (k : List ℕ) (s t : Test) → IsPacket (length cl) k → Fits cl k → IsTest (length cl) s → IsTest (length cl) t → SamePlace cl s t → place_of s k ≡ place_of t k
 same_place_of cl k s t p fits hs ht same =

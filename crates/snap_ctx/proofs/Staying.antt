@@ -1,11 +1,11 @@
 -- Facts whose classes are what they were keep the rules that they kept.
 use Rattle.std.proofs.Common.{◌≡◌, ◌⊎◌, inl, inr, ℕ, ◌+◌, ◌<◌, ◌≤◌, Bool, true, false, not, List, [], ◌∷◌, length, map, get_or, refl, sym, ap, subst, ◌∙◌, arith, bit_and, bit_or}
 use Rattle.std.specs.Prelude.{All, nat_eq}
-use Rattle.std.specs.List.{AllByRecursion}
 use Rattle.std.specs.Int.{bit_at}
 use Rattle.std.proofs.lemmas.Bool.{eqb-true, cases_Bool, cases_eq, both_ways}
-use Rattle.std.proofs.lemmas.List.Elements.{All-head, All-tail, recursion_from_All}
+use Rattle.std.proofs.lemmas.List.Elements.{All-head, All-tail}
 use Rattle.std.proofs.lemmas.Nat.Bits.{bit_at_and, bit_at-zero}
+use Rattle.snap_core.proofs.Framed.{in_left}
 use Rattle.snap_core.specs.declared.policy.Atom.{Atom}
 use Rattle.snap_core.specs.declared.policy.Atom.TheVariants.{Num as Number, Comp}
 use Rattle.snap_core.specs.declared.policy.Term.{Term}
@@ -19,7 +19,7 @@ use Rattle.snap_ctx.specs.Classes.{shift, class_of, normal, atom_class, IsTerm, 
 use Rattle.snap_ctx.specs.Closing.{AgreeOutside, MeetsWith, Stays, RulesOf, RulesWith}
 use Rattle.snap_ctx.specs.Meets.{Meets}
 use Rattle.snap_ctx.specs.Known.{IsAmong, AtomOver, TermOver, TestOver}
-use Rattle.snap_ctx.proofs.Testing.{has-left, among_right}
+use Rattle.snap_ctx.proofs.Testing.{among_right}
 use Rattle.snap_ctx.proofs.Walks.{all_behind, others_are}
 
 -- a number of a set that has none in common with another isn't in that
@@ -51,9 +51,11 @@ module _ (set comps arrays : ℕ) (first cl : List Term) (few : length cl ≤ 64
   atom-stays (Number n) h o = refl
   atom-stays (Comp c) h o = class-stays c h o
 
-  index-stays : (ix : List Atom) → AllByRecursion (IsAtom (length cl)) ix → AllByRecursion (AtomOver comps) ix → map (atom_class first) ix ≡ map (atom_class cl) ix
+  index-stays : (ix : List Atom) → All (IsAtom (length cl)) ix → All (AtomOver comps) ix → map (atom_class first) ix ≡ map (atom_class cl) ix
   index-stays [] h o = refl
-  index-stays (a ∷ ix) h o = let x = atom-stays a h.0 o.0 in let y = index-stays ix h.1 o.1 in (λ i. x i ∷ y i)
+  index-stays (a ∷ ix) h o =
+      let x = atom-stays a (h 0 a (omega arith)) (o 0 a (omega arith)) in
+      let y = index-stays ix (All-tail (IsAtom (length cl)) a ix h) (All-tail (AtomOver comps) a ix o) in (λ i. x i ∷ y i)
 
   pub test-stays : (t : Test) → IsTest (length cl) t → TestOver comps arrays t → Stays first cl t
   test-stays (Value c n) h o = record { left = term-stays (Plus c 0) (h.0, omega arith) o; right = refl; index = refl }
@@ -61,7 +63,7 @@ module _ (set comps arrays : ℕ) (first cl : List Term) (few : length cl ≤ 64
   test-stays (State v ix t) h o = record {
     left = term-stays t h.2 o.2;
     right = term-stays t h.2 o.2;
-    index = index-stays ix (recursion_from_All (IsAtom (length cl)) ix h.1) o.1;
+    index = index-stays ix h.1 o.1;
   }
 
 -- the rules of all, by those of the first classes where a fact's stay
@@ -88,7 +90,7 @@ module _ (first cl : List Term) (facts : List Fact) (rules : RulesOf first facts
 -- ---- a set that grows by a component whose class changed
 left_out : (a b v : ℕ) → has (bit_or a b) v ≡ false → has a v ≡ false
 left_out a b v h = elim (cases_Bool (has a v)) [
-  | inl t ↦ absurd (both_ways _ h (has-left a b v t))
+  | inl t ↦ absurd (both_ways _ h (in_left a b v t))
   | inr f ↦ f
 ]
 

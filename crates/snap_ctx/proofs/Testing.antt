@@ -1,39 +1,24 @@
 -- What a test is about, with more besides.
-use Rattle.std.proofs.Common.{◌≡◌, ℕ, ◌+◌, ◌<◌, true, List, ◌∷◌, [], length, take, get_or, arith, bit_or}
+use Rattle.std.proofs.Common.{ℕ, ◌+◌, ◌<◌, List, ◌∷◌, length, take, get_or, bit_or}
 use Rattle.std.specs.Prelude.{All}
-use Rattle.std.specs.List.{AllByRecursion}
-use Rattle.std.specs.Int.{bit_at}
-use Rattle.std.proofs.lemmas.Bool.{eqb-true, eq-eqb}
 use Rattle.std.proofs.lemmas.List.{take_more}
-use Rattle.std.proofs.lemmas.List.Elements.{All-cons}
-use Rattle.std.proofs.lemmas.Nat.Bits.{bit_at_or, bit_at-lt}
+use Rattle.std.proofs.lemmas.List.Elements.{All-cons, All-push, All-weaker}
+use Rattle.snap_core.proofs.Framed.{in_left, in_right}
 use Rattle.snap_core.specs.declared.policy.Atom.{Atom}
 use Rattle.snap_core.specs.declared.policy.Atom.TheVariants.{Num as Number, Comp}
 use Rattle.snap_core.specs.declared.policy.Term.{Term}
 use Rattle.snap_core.specs.declared.policy.Term.TheVariants.{Num, Plus}
 use Rattle.snap_core.specs.declared.policy.Test.{Test}
 use Rattle.snap_core.specs.declared.policy.Test.TheVariants.{Value, Equal, State}
-use Rattle.snap_core.specs.Arrays.{has}
 use Rattle.snap_ctx.specs.declared.fact.Fact.{Fact}
 use Rattle.snap_ctx.specs.declared.tested.Tested.{Tested}
 use Rattle.snap_ctx.specs.Known.{IsAmong, AtomOver, TermOver, TestOver}
-use Rattle.snap_ctx.proofs.Each.{Each-append, Each-weaker}
-
-pub has-left : (a b v : ℕ) → has a v ≡ true → has (bit_or a b) v ≡ true
-has-left a b v h =
-    let here : bit_at a v ≡ 1 = eqb-true _ 1 h in let o = bit_at_or a b v in let l = bit_at-lt (bit_or a b) v in
-    eq-eqb _ 1 (omega (arith, here, o, l))
-
-has-right : (a b v : ℕ) → has b v ≡ true → has (bit_or a b) v ≡ true
-has-right a b v h =
-    let here : bit_at b v ≡ 1 = eqb-true _ 1 h in let o = bit_at_or a b v in let l = bit_at-lt (bit_or a b) v in
-    eq-eqb _ 1 (omega (arith, here, o, l))
 
 pub among_left : (a b n : ℕ) → IsAmong a n → IsAmong (bit_or a b) n
-among_left a b n h = λ l. has-left a b n (h l)
+among_left a b n h = λ l. in_left a b n (h l)
 
 pub among_right : (a b n : ℕ) → IsAmong b n → IsAmong (bit_or a b) n
-among_right a b n h = λ l. has-right a b n (h l)
+among_right a b n h = λ l. in_right a b n (h l)
 
 atom_left : (a b : ℕ) (x : Atom) → AtomOver a x → AtomOver (bit_or a b) x
 atom_left a b (Number n) h = tt
@@ -43,11 +28,11 @@ atom_right : (a b : ℕ) (x : Atom) → AtomOver b x → AtomOver (bit_or a b) x
 atom_right a b (Number n) h = tt
 atom_right a b (Comp c) h = among_right a b c h
 
-pub index_left : (a b : ℕ) (ix : List Atom) → AllByRecursion (AtomOver a) ix → AllByRecursion (AtomOver (bit_or a b)) ix
-index_left a b ix h = Each-weaker (AtomOver a) (AtomOver (bit_or a b)) (atom_left a b) ix h
+pub index_left : (a b : ℕ) (ix : List Atom) → All (AtomOver a) ix → All (AtomOver (bit_or a b)) ix
+index_left a b ix h = All-weaker (AtomOver a) (AtomOver (bit_or a b)) (atom_left a b) ix h
 
-index_right : (a b : ℕ) (ix : List Atom) → AllByRecursion (AtomOver b) ix → AllByRecursion (AtomOver (bit_or a b)) ix
-index_right a b ix h = Each-weaker (AtomOver b) (AtomOver (bit_or a b)) (atom_right a b) ix h
+index_right : (a b : ℕ) (ix : List Atom) → All (AtomOver b) ix → All (AtomOver (bit_or a b)) ix
+index_right a b ix h = All-weaker (AtomOver b) (AtomOver (bit_or a b)) (atom_right a b) ix h
 
 term_left : (a b : ℕ) (t : Term) → TermOver a t → TermOver (bit_or a b) t
 term_left a b (Num n) h = tt
@@ -57,9 +42,9 @@ pub term_right : (a b : ℕ) (t : Term) → TermOver b t → TermOver (bit_or a 
 term_right a b (Num n) h = tt
 term_right a b (Plus c p) h = among_right a b c h
 
-pub atom_more : (a b : ℕ) (ix : List Atom) (i : ℕ) (x : Atom) → i < length ix → AllByRecursion (AtomOver a) (take i ix) → AtomOver b (get_or ix i x) → AllByRecursion (AtomOver (bit_or a b)) (take (i + 1) ix)
+pub atom_more : (a b : ℕ) (ix : List Atom) (i : ℕ) (x : Atom) → i < length ix → All (AtomOver a) (take i ix) → AtomOver b (get_or ix i x) → All (AtomOver (bit_or a b)) (take (i + 1) ix)
 atom_more a b ix i x l h new = rw (take_more ix i x l)
-    (Each-append (AtomOver (bit_or a b)) (take i ix) (get_or ix i x ∷ []) (index_left a b (take i ix) h) (atom_right a b (get_or ix i x) new, tt))
+    (All-push (AtomOver (bit_or a b)) (take i ix) (get_or ix i x) (index_left a b (take i ix) h) (atom_right a b (get_or ix i x) new))
 
 pub test_left : (a b : Tested) (t : Test) → TestOver a.comps a.arrays t → TestOver (bit_or a.comps b.comps) (bit_or a.arrays b.arrays) t
 test_left a b (Value c n) h = among_left a.comps b.comps c h

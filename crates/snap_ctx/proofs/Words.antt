@@ -6,7 +6,7 @@ use Rattle.std.specs.List.{Contains}
 use Rattle.std.specs.List.Sorted.{IsPermutation}
 use Rattle.std.proofs.lemmas.Bool.{cases_eq}
 use Rattle.std.proofs.lemmas.List.{get_or_default}
-use Rattle.std.proofs.lemmas.List.Elements.{Contains-append_left, Contains-append_right, Contains-append_cases}
+use Rattle.std.proofs.lemmas.List.Elements.{Contains-append_left, Contains-append_right, Contains-append_cases, Contains-get_or}
 use Rattle.std.proofs.lemmas.List.Sorted.{Contains-permutation}
 use Rattle.snap_core.specs.declared.policy.Term.{Term}
 use Rattle.snap_ctx.specs.declared.fact.Fact.{Fact}
@@ -32,9 +32,6 @@ only_one n m (suc k, l, e) = absurd (omega (arith, l))
 
 the_one : {X : Type 0} (x : X) → Contains (x ∷ []) x
 the_one x = (0, omega arith, refl)
-
-at_index : {X : Type 0} (xs : List X) (i : ℕ) (d : X) → i < length xs → Contains xs (get_or xs i d)
-at_index xs i d l = (i, l, get_or_default xs i (get_or xs i d) d l)
 
 -- ---- words of facts
 pub no_words : HasWords [] []
@@ -67,7 +64,7 @@ words_same ws ns w (Some (Differ a b)) h e none = absurd (let l = ap length e in
 words_same ws ns w (Some (Held v ix t y)) h e none = absurd (let l = ap length e in omega (arith, l, none))
 
 pub each_is_word : (ws : List (Vec ℕ)) (ns : List Normal) → HasWords ws ns → All IsWord ws
-each_is_word ws ns h = λ i d l. (let k = h.only (get_or ws i d) (at_index ws i d l) in (k.0, k.2))
+each_is_word ws ns h = λ i d l. (let k = h.only (get_or ws i d) (Contains-get_or ws i d l) in (k.0, k.2))
 
 pub words_sorted : (ws us : List (Vec ℕ)) (ns : List Normal) → IsPermutation ws us → IsPermutation us ws → HasWords ws ns → HasWords us ns
 words_sorted ws us ns p q h = record {
@@ -104,7 +101,7 @@ pushed_more ws i old key new e l word is h = record {
   is = is ∙ ((λ j. h.is j ++ word.1 j) ∙ (append_assoc old (normals_key h.told) (normal_key word.0) ∙ ap (λ (xs : List ℕ). old ++ xs) (sym (normals_key-push h.told word.0))));
   each = λ n c. elim (Contains-append_cases h.told (word.0 ∷ []) n c) [
     | inl o ↦ h.each n o
-    | inr o ↦ (get_or ws i e, at_index ws i e l, word.1 ∙ ap normal_key (only_one word.0 n o))
+    | inr o ↦ (get_or ws i e, Contains-get_or ws i e l, word.1 ∙ ap normal_key (only_one word.0 n o))
   ];
   only = λ k d m. earlier_or_last (λ (k : ℕ). (n : Normal) × Contains (h.told ++ word.0 ∷ []) n × ((get_or ws k d).items ≡ normal_key n)) i k m
       (λ b. let o = h.only k d b in (o.0, Contains-append_left h.told (word.0 ∷ []) o.0 o.1, o.2))

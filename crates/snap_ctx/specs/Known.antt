@@ -1,7 +1,7 @@
 -- What is known about some components and arrays: the classes of the components, and the facts that bear on them.
 use Rattle.std.specs.Prelude.{◌≡◌, ◌⊎◌, ◌↔◌, ℕ, ◌+◌, ◌-◌, ◌^◌, ◌<◌, ◌==◌, nat_lt, ◌&&◌, not, Bool, true, false, if◌then◌else◌, List, [], ◌∷◌, ◌++◌, length, map, Option, None, Some, All}
 use Rattle.std.specs.Global.{Vec}
-use Rattle.std.specs.List.{AllByRecursion, Contains}
+use Rattle.std.specs.List.{Contains}
 use Rattle.snap_core.specs.declared.policy.Atom.{Atom}
 use Rattle.snap_core.specs.declared.policy.Atom.TheVariants.{Num as Number, Comp}
 use Rattle.snap_core.specs.declared.policy.Term.{Term}
@@ -30,7 +30,7 @@ TermOver comps (Plus c p) = IsAmong comps c
 abbrev pub TestOver : ℕ → ℕ → Test → Type 0
 TestOver comps arrays (Value c n) = IsAmong comps c
 TestOver comps arrays (Equal l r p) = IsAmong comps l × IsAmong comps r
-TestOver comps arrays (State v ix t) = IsAmong arrays v × AllByRecursion (AtomOver comps) ix × TermOver comps t
+TestOver comps arrays (State v ix t) = IsAmong arrays v × All (AtomOver comps) ix × TermOver comps t
 
 abbrev pub IsFixed : Atom → Type 0
 IsFixed (Number n) = Unit {0}

@@ -1,6 +1,6 @@
 -- Facts without those at places of numbers that the others leave alone.
 use Rattle.std.specs.Prelude.{◌≡◌, ◌≢◌, ◌⊎◌, ◌≤◌, true, List, [], ◌∷◌, length}
-use Rattle.std.specs.List.{AllByRecursion}
+use Rattle.std.specs.List.{All}
 use Rattle.snap_core.specs.declared.policy.Test.{Test}
 use Rattle.snap_core.specs.declared.policy.Test.TheVariants.{Value, Equal, State}
 use Rattle.snap_ctx.specs.declared.fact.Fact.{Fact}
@@ -15,11 +15,11 @@ Among f (g ∷ gs) = (f ≡ g) ⊎ Among f gs
 abbrev pub IsPlain : Test → Type 0
 IsPlain (Value c n) = ⊥
 IsPlain (Equal l r p) = ⊥
-IsPlain (State v ix t) = AllByRecursion IsFixed ix × (is_number t ≡ true)
+IsPlain (State v ix t) = All IsFixed ix × (is_number t ≡ true)
 
 -- if g is on the array of f, its index is of numbers, and another one
 abbrev pub IsBeside : Fact → Fact → Type 0
-IsBeside f g = is_state g.test ≡ true → var_of g.test ≡ var_of f.test → AllByRecursion IsFixed (index_of g.test) × (index_of g.test ≢ index_of f.test)
+IsBeside f g = is_state g.test ≡ true → var_of g.test ≡ var_of f.test → All IsFixed (index_of g.test) × (index_of g.test ≢ index_of f.test)
 
 -- the facts are those that stay and those that go
 pub record AreParted (facts stay gone : List Fact) : Type 0 where
@@ -30,5 +30,5 @@ pub record AreParted (facts stay gone : List Fact) : Type 0 where
 -- those that go are at places of numbers, for numbers, and those that stay are at none of these places
 pub record IsLean (facts stay gone : List Fact) : Type 0 where
   pub parted : AreParted facts stay gone
-  pub plain : AllByRecursion (λ f. IsPlain f.test) gone
-  pub beside : AllByRecursion (λ f. AllByRecursion (IsBeside f) stay) gone
+  pub plain : All (λ f. IsPlain f.test) gone
+  pub beside : All (λ f. All (IsBeside f) stay) gone

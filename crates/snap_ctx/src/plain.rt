@@ -1,7 +1,7 @@
 //! Which tests are of places that no packet moves.
 
 ghost use Rattle.std.specs.Prelude.{IsTrue};
-ghost use Rattle.std.specs.List.{AllByRecursion};
+ghost use Rattle.std.specs.List.{All};
 ghost use Rattle.snap_ctx.specs.Known.{IsFixed};
 ghost use Rattle.snap_ctx.specs.Lean.{IsPlain};
 
@@ -19,14 +19,9 @@ fn is_number(atom: Atom) -> bool
 
 /// Whether an index is of numbers alone. No clause says where it isn't told to be. Takes no memory.
 pub fn is_fixed(index: &[Atom]) -> bool
-    ensures { IsTrue result → AllByRecursion IsFixed index.now }
+    ensures { IsTrue result → All IsFixed index.now }
 {
-    for atom in index {
-        if !is_number(*atom) {
-            return false;
-        }
-    }
-    true
+    index.iter().all(|atom| is_number(*atom))
 }
 
 /// Whether a test is of a place of numbers, for a number. No clause says where it isn't told to be. Takes no memory.

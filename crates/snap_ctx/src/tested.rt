@@ -1,7 +1,7 @@
 //! Which components and arrays tests are about.
 
 ghost use Rattle.std.specs.Prelude.{◌≡◌};
-ghost use Rattle.std.specs.List.{AllByRecursion};
+ghost use Rattle.std.specs.List.{All};
 ghost use Rattle.snap_core.specs.Arrays.{meets};
 ghost use Rattle.snap_ctx.specs.Known.{AtomOver, TermOver, TestOver};
 ghost use Rattle.snap_core.specs.Ranges.{TestInRange};
@@ -39,7 +39,7 @@ fn atom_tested(atom: Atom) -> u64
 }
 
 fn index_tested(index: &Atoms) -> u64
-    ensures { AllByRecursion (AtomOver result) index.now }
+    ensures { All (AtomOver result) index.now }
 {
     let mut set = 0;
     for atom in index.list() {

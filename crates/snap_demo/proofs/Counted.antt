@@ -11,7 +11,7 @@ use Rattle.snap_rows.specs.Happenings.{deliveries_of, losses_of, number_of}
 use Rattle.snap_rows.specs.Network.{Happening, Inject, IsPlainRun, rests, start}
 use Rattle.snap_net.specs.Passing.{IsHeard, IsTold, Passes}
 use Rattle.snap_net.specs.Shown.{Held, Shows}
-use Rattle.snap_net.proofs.Told.{deliveries_of-append, losses_of-append}
+use Rattle.snap_rows.proofs.Happenings.{deliveries_of-append, losses_of-append}
 use Rattle.snap_runs.specs.Plain.{entering}
 use Rattle.snap_runs.specs.Reports.{packets_delivered}
 use Rattle.snap_runs.proofs.Blocks.{earlier-elsewhere, later-elsewhere}

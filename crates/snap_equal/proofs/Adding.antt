@@ -1,6 +1,6 @@
 -- What additions add.
 use Rattle.std.proofs.Common.{◌≡◌, ◌≢◌, ℕ, zero, suc, ◌^◌, ◌+◌, ◌<◌, Bool, true, false, cond, List, [], ◌∷◌, ◌++◌, length, get_or, set, take, bit_or, refl, sym, ap, ◌∙◌, subst, arith}
-use Rattle.std.specs.List.{AllByRecursion}
+use Rattle.std.specs.Prelude.{All}
 use Rattle.std.proofs.lemmas.List.Elements.{All-more}
 use Rattle.std.proofs.lemmas.List.{take_more}
 use Rattle.std.proofs.lemmas.Bool.{cond-true, cond-false, true≢false}
@@ -12,12 +12,13 @@ use Rattle.snap_core.specs.Arrays.{Arrays, same_place, place_at, number_after, u
 use Rattle.snap_core.proofs.Unwritten.{neither}
 use Rattle.snap_dep.proofs.Sets.{has-pow_same}
 use Rattle.snap_ctx.specs.Classes.{wrap}
-use Rattle.snap_ctx.proofs.Places.{same_place-true}
+use Rattle.snap_core.proofs.Places.{same_place-exact}
 use Rattle.snap_ctx.proofs.Wrap.{wrap_assoc, wrap_zero}
 use Rattle.snap_core.specs.declared.policy.Atom.{Atom}
 use Rattle.snap_equal.specs.declared.tally.Sign.{Sign}
 use Rattle.snap_equal.specs.declared.tally.Sign.TheVariants.{Plus, Minus}
-use Rattle.snap_equal.specs.Tally.{AddOutside, IsAddition, added, share, share_of, signed, signed_total, total, plus}
+use Rattle.snap_equal.specs.Tally.{AddOutside, added, share, share_of, signed, signed_total, total}
+use Rattle.snap_chain.specs.Additions.{IsAddition, added_up}
 use Rattle.snap_chain.proofs.Splitting.{hit, missed}
 
 -- ---- totals
@@ -36,7 +37,7 @@ total-append (u ∷ us) vs k q = ap (wrap (share u k q)) (total-append us vs k q
 module _ (k : List ℕ) (q : Place) where
   step : (u : Update) (m : Arrays) → (u.var ≡ q.var → IsAddition u.op) → m q < 2 ^ 64 → (b : Bool) → same_place (place_at u.var u.index k) q ≡ b → update m u k q ≡ wrap (m q) (share u k q)
   step u m adds small true e =
-      let at = same_place-true (place_at u.var u.index k) q e in
+      let at = same_place-exact (place_at u.var u.index k) q e in
       hit u m k q at ∙ by u.op (adds (ap (λ (p : Place). p.var) at)) ∙ ap (wrap (m q)) (sym (cond-true (same_place (place_at u.var u.index k) q) (added u.op) 0 e))
     where
       by : (op : Op) → IsAddition op → number_after op (m q) k ≡ wrap (m q) (added op)
@@ -45,23 +46,23 @@ module _ (k : List ℕ) (q : Place) where
   step u m adds small false e =
       missed u m k q e ∙ sym (wrap_zero (m q) small) ∙ ap (wrap (m q)) (sym (cond-false (same_place (place_at u.var u.index k) q) (added u.op) 0 e))
 
-  pub updates-add : (us : List Update) (m : Arrays) → AllByRecursion (λ u. u.var ≡ q.var → IsAddition u.op) us → m q < 2 ^ 64 → updates m us k q ≡ wrap (m q) (total us k q)
+  pub updates-add : (us : List Update) (m : Arrays) → All (λ u. u.var ≡ q.var → IsAddition u.op) us → m q < 2 ^ 64 → updates m us k q ≡ wrap (m q) (total us k q)
   updates-add [] m adds small = sym (wrap_zero (m q) small)
   updates-add (u ∷ us) m adds small =
-      let here : update m u k q ≡ wrap (m q) (share u k q) = step u m adds.0 small (same_place (place_at u.var u.index k) q) refl in
-      updates-add us (update m u k) adds.1 (rw here (omega arith))
+      let here : update m u k q ≡ wrap (m q) (share u k q) = step u m (adds 0 u (omega arith)) small (same_place (place_at u.var u.index k) q) refl in
+      updates-add us (update m u k) (λ i d l. adds (suc i) d (omega (arith, l))) (rw here (omega arith))
       ∙ ap (λ x. wrap x (total us k q)) here
       ∙ wrap_assoc (m q) (share u k q) (total us k q)
 
 -- ---- one sum changed
 module _ (k : List ℕ) (q : Place) (n : ℕ) where
-  plus_share : (b : Bool) (op : Op) → IsAddition op → cond b (added (plus op n)) 0 ≡ wrap (cond b (added op) 0) (cond b n 0)
+  plus_share : (b : Bool) (op : Op) → IsAddition op → cond b (added (added_up op n)) 0 ≡ wrap (cond b (added op) 0) (cond b n 0)
   plus_share true (Put a) h = absurd h
   plus_share true (Add x) h = refl
   plus_share false op h = omega arith
 
   pub total-set : (us : List Update) (i : ℕ) (d : Update) → i < length us → IsAddition (get_or us i d).op
-      → total (set us i (record (get_or us i d) { op = plus (get_or us i d).op n })) k q ≡ wrap (total us k q) (cond (same_place (place_at (get_or us i d).var (get_or us i d).index k) q) n 0)
+      → total (set us i (record (get_or us i d) { op = added_up (get_or us i d).op n })) k q ≡ wrap (total us k q) (cond (same_place (place_at (get_or us i d).var (get_or us i d).index k) q) n 0)
   total-set [] i d l h = absurd (omega (arith, l))
   total-set (u ∷ us) zero d l h =
       ap (λ x. wrap x (total us k q)) (plus_share (same_place (place_at u.var u.index k) q) u.op h)
@@ -124,7 +125,7 @@ pub share_other : (u : Update) (n : ℕ) (k : List ℕ) (q : Place) → u.var �
 share_other u n k q other = by (same_place (place_at u.var u.index k) q) refl
   where
     by : (b : Bool) → same_place (place_at u.var u.index k) q ≡ b → cond b n 0 ≡ 0
-    by true e = absurd (other (ap (λ (p : Place). p.var) (same_place-true (place_at u.var u.index k) q e)))
+    by true e = absurd (other (ap (λ (p : Place). p.var) (same_place-exact (place_at u.var u.index k) q e)))
     by false e = refl
 
 pub signed-none : (sign : Sign) → signed sign 0 ≡ 0

@@ -1,6 +1,5 @@
 -- When two diagrams surely do the same.
-use Rattle.std.proofs.Common.{◌≡◌, ℕ, Bool, true, List, [], ◌∷◌, length, sym, ◌∙◌, subst, arith}
-use Rattle.std.specs.Prelude.{Result, Ok, Err, IfOk}
+use Rattle.std.proofs.Common.{◌≡◌, ℕ, Bool, List, [], ◌∷◌, length, sym, ◌∙◌, subst, arith}
 use Rattle.snap_core.specs.declared.policy.Test.{Test}
 use Rattle.snap_core.specs.Arrays.{Arrays}
 use Rattle.snap_core.specs.Tests.{passes}
@@ -20,11 +19,6 @@ use Rattle.snap_equal.specs.Same.{IsCompared}
 use Rattle.snap_equal.specs.Told.{IsAnswer, On}
 use Rattle.snap_equal.specs.Weaker.{IsWeaker, facts_code}
 use Rattle.snap_equal.proofs.FactCodes.{same_facts}
-
--- ---- an answer that proves something where it is yes
-pub if_so : {E : Type 0} (A B : Type 0) (r : Result Bool E) → (A → B) → IfOk r (λ yes. yes ≡ true → A) → IfOk r (λ yes. yes ≡ true → B)
-if_so A B (Ok x) f a = λ e. f (a e)
-if_so A B (Err e) f a = tt
 
 -- ---- a context of fewer facts
 pub under_weaker : (v w : View) (P : Arrays → List ℕ → Type 0) → IsWeaker v w → On w P → On v P

@@ -1,10 +1,8 @@
 -- Updates make the same of a store where additions have no difference and the other places agree.
-use Rattle.std.proofs.Common.{◌≡◌, ℕ, Bool, true, false, List, [], ◌∷◌, length, take, drop, get_or, refl, sym, ap, ◌∙◌, subst, arith}
+use Rattle.std.proofs.Common.{◌≡◌, ℕ, Bool, true, false, List, [], length, take, drop, get_or, refl, sym, ap, ◌∙◌, subst, arith}
 use Rattle.std.specs.Prelude.{Some, None, All}
-use Rattle.std.specs.List.{AllByRecursion}
 use Rattle.std.proofs.Math.Path.{fun_ext}
 use Rattle.std.proofs.lemmas.List.{take-append-drop}
-use Rattle.std.proofs.lemmas.List.Elements.{recursion_from_All}
 use Rattle.snap_core.specs.declared.place.Place.{Place}
 use Rattle.snap_core.specs.declared.policy.Update.{Update}
 use Rattle.snap_core.specs.Arrays.{Arrays, place_at, updates, has}
@@ -12,24 +10,16 @@ use Rattle.snap_core.specs.Inputs.{IsStore}
 use Rattle.snap_ctx.specs.Classes.{wrap}
 use Rattle.snap_ctx.specs.View.{View}
 use Rattle.snap_ctx.proofs.Wrap.{wrap_zero, wrap_cancel, wrap_cancel_right}
+use Rattle.snap_chain.specs.Additions.{IsAddition}
 use Rattle.snap_chain.proofs.Splitting.{updates-append}
 use Rattle.snap_equal.specs.Held.{AgreeAlong}
-use Rattle.snap_equal.specs.Tally.{IsAddition, IsSum, AddOutside, IsDifference, total}
+use Rattle.snap_equal.specs.Tally.{IsSum, AddOutside, IsDifference, total}
 use Rattle.snap_equal.specs.Told.{IsModel, On}
 use Rattle.snap_equal.proofs.Adding.{updates-add, total_small, wrap_turn}
 use Rattle.snap_equal.proofs.AllPlaces.{agree_at}
 
-each_map : {X : Type 0} (P Q : X → Type 0) (xs : List X) → ((x : X) → P x → Q x) → AllByRecursion P xs → AllByRecursion Q xs
-each_map P Q [] f h = tt
-each_map P Q (x ∷ xs) f h = (f x h.0, each_map P Q xs f h.1)
-
-adds_at : (mixed : ℕ) (us : List Update) (q : Place) → AddOutside mixed us → has mixed q.var ≡ false → AllByRecursion (λ u. u.var ≡ q.var → IsAddition u.op) us
-adds_at mixed us q adds out =
-    let P : Update → Type 0 = λ u. has mixed u.var ≡ false → IsAddition u.op in
-    each_map P (λ u. u.var ≡ q.var → IsAddition u.op) us (λ u h e. h (ap (has mixed) e ∙ out)) (recursion_from_All P us adds)
-
-sums_add : (mixed comps vars : ℕ) (sums : List Update) (q : Place) → All (IsSum mixed comps vars) sums → AllByRecursion (λ u. u.var ≡ q.var → IsAddition u.op) sums
-sums_add mixed comps vars sums q are = each_map (IsSum mixed comps vars) (λ u. u.var ≡ q.var → IsAddition u.op) sums (λ u h e. h.adds) (recursion_from_All (IsSum mixed comps vars) sums are)
+adds_at : (mixed : ℕ) (us : List Update) (q : Place) → AddOutside mixed us → has mixed q.var ≡ false → All (λ u. u.var ≡ q.var → IsAddition u.op) us
+adds_at mixed us q adds out i d l e = adds i d l (ap (has mixed) e ∙ out)
 
 module _ (v : View) (mixed vars n : ℕ) (left right us vs sums : List Update) (is_left : us ≡ drop n left) (is_right : vs ≡ drop n right)
     (same : On v (λ m k. updates m (take n left) k ≡ updates m (take n right) k)) (small : On v (λ m k. IsStore (updates m (take n left) k)))
@@ -55,7 +45,7 @@ module _ (v : View) (mixed vars n : ℕ) (left right us vs sums : List Update) (
     right_at = ap (λ (x : Arrays). x q) right_from ∙ updates-add k q vs middle (adds_at mixed vs q add_right out) (small m k i q)
 
     sums_at : updates m sums k q ≡ wrap (m q) (total sums k q)
-    sums_at = updates-add k q sums m (sums_add mixed (length v.classes) vars sums q are) (i.store q)
+    sums_at = updates-add k q sums m (λ j d l e. (are j d l).adds) (i.store q)
 
     none_where_equal : updates m left k q ≡ updates m right k q → updates m sums k q ≡ m q
     none_where_equal e =

@@ -1,6 +1,6 @@
 -- Tests over so many components fit them.
-use Rattle.std.proofs.Common.{ℕ, ◌≤◌, length, arith}
-use Rattle.std.proofs.lemmas.List.Elements.{recursion_from_All}
+use Rattle.std.proofs.Common.{ℕ}
+use Rattle.std.proofs.lemmas.List.Elements.{All-weaker}
 use Rattle.snap_core.specs.declared.policy.Atom.{Atom}
 use Rattle.snap_core.specs.declared.policy.Atom.TheVariants.{Num as Number, Comp}
 use Rattle.snap_core.specs.declared.policy.Term.{Term}
@@ -9,8 +9,7 @@ use Rattle.snap_core.specs.declared.policy.Test.{Test}
 use Rattle.snap_core.specs.declared.policy.Test.TheVariants.{Value, Equal, State}
 use Rattle.snap_core.specs.Fits.{AtomFits}
 use Rattle.snap_core.specs.Tests.{TermFits, TestFits}
-use Rattle.snap_ctx.specs.Classes.{IsAtom, IsTerm, IsTest, index_of}
-use Rattle.snap_ctx.proofs.Each.{Each-weaker}
+use Rattle.snap_ctx.specs.Classes.{IsAtom, IsTerm, IsTest}
 
 atom_fits : (comps : ℕ) (a : Atom) → IsAtom comps a → AtomFits comps a
 atom_fits comps (Number n) h = tt
@@ -23,9 +22,4 @@ term_fits comps (Plus c p) h = h.0
 pub test_fits : (comps : ℕ) (t : Test) → IsTest comps t → TestFits comps t
 test_fits comps (Value c n) h = h.0
 test_fits comps (Equal l r p) h = (h.0, h.1)
-test_fits comps (State v ix t) h = (Each-weaker (IsAtom comps) (AtomFits comps) (atom_fits comps) ix (recursion_from_All (IsAtom comps) ix h.1), term_fits comps t h.2)
-
-pub test_short : (comps : ℕ) (t : Test) → IsTest comps t → length (index_of t) ≤ 8
-test_short comps (Value c n) h = omega arith
-test_short comps (Equal l r p) h = omega arith
-test_short comps (State v ix t) h = h.0
+test_fits comps (State v ix t) h = (All-weaker (IsAtom comps) (AtomFits comps) (atom_fits comps) ix h.1, term_fits comps t h.2)

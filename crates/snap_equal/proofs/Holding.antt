@@ -6,28 +6,28 @@ use Rattle.snap_core.specs.declared.place.Place.{Place}
 use Rattle.snap_core.specs.declared.policy.Atom.{Atom}
 use Rattle.snap_core.specs.declared.policy.Op.{Op}
 use Rattle.snap_core.specs.declared.policy.Op.TheVariants.{Put, Add}
-use Rattle.snap_core.specs.declared.policy.Atom.TheVariants.{Num as Number, Comp}
 use Rattle.snap_core.specs.declared.policy.Term.{Term}
 use Rattle.snap_core.specs.declared.policy.Term.TheVariants.{Num, Plus}
 use Rattle.snap_core.specs.declared.policy.Test.TheVariants.{State}
 use Rattle.snap_core.specs.declared.policy.Update.{Update}
 use Rattle.snap_core.specs.Arrays.{Arrays, same_place, place_at, number_after, update, updates}
 use Rattle.snap_core.specs.Fits.{OpFits}
-use Rattle.snap_core.specs.Tests.{TermFits, passes, term_value}
+use Rattle.snap_core.specs.Tests.{passes, term_value}
 use Rattle.snap_ctx.specs.Classes.{wrap, shift}
 use Rattle.snap_core.specs.Ranges.{TermInRange}
 use Rattle.snap_ctx.specs.View.{View}
 use Rattle.snap_ctx.proofs.Algebra.{term_value-shift}
-use Rattle.snap_ctx.proofs.Places.{same_place-true}
+use Rattle.snap_core.proofs.Places.{same_place-exact}
 use Rattle.snap_ctx.proofs.Wrap.{wrap_assoc}
+use Rattle.snap_chain.specs.Early.{term_of}
 use Rattle.snap_chain.proofs.Splitting.{hit, missed, updates-append}
+use Rattle.snap_chain.proofs.Values.{shift-fits, term_of-fits, term_of-value}
 use Rattle.snap_equal.specs.declared.held.Held.{Held}
 use Rattle.snap_equal.specs.declared.held.Held.TheVariants.{Is, Old}
 use Rattle.snap_equal.specs.declared.stop.Stop.{Stop}
-use Rattle.snap_equal.specs.Held.{term_of, held_value, HeldFits, more, changed, IsHeld}
+use Rattle.snap_equal.specs.Held.{held_value, HeldFits, more, changed, IsHeld}
 use Rattle.snap_equal.specs.Told.{IsModel, On, Tells, IsStop}
 use Rattle.snap_equal.proofs.Telling.{result_as}
-use Rattle.snap_equal.proofs.TermTests.{term_of-value}
 use Rattle.snap_equal.proofs.Wrapping.{moved, moved_back}
 
 -- ---- the old number and more against a term
@@ -50,7 +50,7 @@ updates_more us i u m k l is =
     ap (λ us. updates m us k) (take_more us i u l ∙ ap (λ x. take i us ++ x ∷ []) (sym is)) ∙ updates-append (take i us) (u ∷ []) m k
 
 pub not_same : (p q : Place) → (p ≡ q → ⊥) → (b : Bool) → same_place p q ≡ b → same_place p q ≡ false
-not_same p q h true e = absurd (h (same_place-true p q e))
+not_same p q h true e = absurd (h (same_place-exact p q e))
 not_same p q h false e = e
 
 more-value : (n : ℕ) (h : Held) (x : ℕ) (k : List ℕ) → held_value (more n h) x k ≡ wrap (held_value h x k) n
@@ -58,16 +58,8 @@ more-value n (Is t) x k = term_value-shift k t n
 more-value n (Old y) x k = sym (wrap_assoc x y n)
 
 changed-value : (comps : ℕ) (h : Held) (op : Op) (x : ℕ) (k : List ℕ) → OpFits comps op → (v : View) (m : Arrays) → length v.classes ≡ comps → IsModel v m k → held_value (changed h op) x k ≡ number_after op (held_value h x k) k
-changed-value comps h (Put a) x k f v m e i = term_of-value comps a k f (record { long = i.packet.long ∙ e; numbers = i.packet.numbers })
+changed-value comps h (Put a) x k f v m e i = term_of-value comps a k (record { long = i.packet.long ∙ e; numbers = i.packet.numbers }) f
 changed-value comps h (Add n) x k f v m e i = more-value n h x k
-
-shift-fits : (comps : ℕ) (t : Term) (n : ℕ) → TermFits comps t → TermFits comps (shift t n)
-shift-fits comps (Num x) n f = f
-shift-fits comps (Plus c p) n f = f
-
-term_of-fits : (comps : ℕ) (a : Atom) → OpFits comps (Put a) → TermFits comps (term_of a)
-term_of-fits comps (Number n) f = tt
-term_of-fits comps (Comp c) f = f
 
 more-fits : (comps : ℕ) (n : ℕ) (h : Held) → HeldFits comps h → HeldFits comps (more n h)
 more-fits comps n (Is t) f = shift-fits comps t n f
@@ -105,14 +97,14 @@ module _ (v : View) (us : List Update) (u : Update) (s : ℕ) (ix : List Atom) w
         ap (λ (n : Arrays). n (place_at s ix k)) (updates-append us (u ∷ []) m k)
         ∙ hit u (updates m us k) k (place_at s ix k) (at m k i)
         ∙ ap (λ op. number_after op (updates m us k (place_at s ix k)) k) e
-        ∙ sym (term_of-value (length v.classes) a k o i.packet);
+        ∙ sym (term_of-value (length v.classes) a k i.packet o);
     fits = term_of-fits (length v.classes) a o;
   }
 
   module _ (h : Held) (is : IsHeld v us s ix h) (o : OpFits (length v.classes) u.op) (e : changed h u.op ≡ h) where
     same_value : (m : Arrays) (k : List ℕ) → IsModel v m k → (b : Bool) → same_place (place_at u.var u.index k) (place_at s ix k) ≡ b → update (updates m us k) u k (place_at s ix k) ≡ held_value h (m (place_at s ix k)) k
     same_value m k i true at =
-        hit u (updates m us k) k (place_at s ix k) (same_place-true (place_at u.var u.index k) (place_at s ix k) at)
+        hit u (updates m us k) k (place_at s ix k) (same_place-exact (place_at u.var u.index k) (place_at s ix k) at)
         ∙ ap (λ x. number_after u.op x k) (is.value m k i)
         ∙ sym (changed-value (length v.classes) h u.op (m (place_at s ix k)) k o v m refl i)
         ∙ ap (λ g. held_value g (m (place_at s ix k)) k) e

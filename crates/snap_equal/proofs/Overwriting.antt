@@ -5,7 +5,7 @@ use Rattle.std.proofs.lemmas.List.{take-append-drop}
 use Rattle.snap_core.specs.declared.place.Place.{Place}
 use Rattle.snap_core.specs.declared.policy.Update.{Update}
 use Rattle.snap_core.specs.Arrays.{Arrays, same_place, place_at, number_after, update, updates}
-use Rattle.snap_ctx.proofs.Places.{same_place-true}
+use Rattle.snap_core.proofs.Places.{same_place-exact}
 use Rattle.snap_chain.proofs.Splitting.{hit, missed, updates-append}
 use Rattle.snap_equal.proofs.Turning.{cut}
 
@@ -19,7 +19,7 @@ module _ (k : List ℕ) (p : Place) where
     where
       by : (b : Bool) → same_place (place_at u.var u.index k) q ≡ b → update m u k q ≡ update n u k q
       by true e =
-          let is : place_at u.var u.index k ≡ q = same_place-true (place_at u.var u.index k) q e in
+          let is : place_at u.var u.index k ≡ q = same_place-exact (place_at u.var u.index k) q e in
           hit u m k q is ∙ ap (λ x. number_after u.op x k) (h q off) ∙ sym (hit u n k q is)
       by false e = missed u m k q e ∙ h q off ∙ sym (missed u n k q e)
 
@@ -32,7 +32,7 @@ module _ (k : List ℕ) (p : Place) where
     where
       by : (q : Place) (b : Bool) → same_place (place_at w.var w.index k) q ≡ b → update m w k q ≡ update n w k q
       by q true e =
-          let is : place_at w.var w.index k ≡ q = same_place-true (place_at w.var w.index k) q e in
+          let is : place_at w.var w.index k ≡ q = same_place-exact (place_at w.var w.index k) q e in
           hit w m k q is ∙ same (m q) (n q) ∙ sym (hit w n k q is)
       by q false e = missed w m k q e ∙ h q (subst (λ (r : Place). same_place r q ≡ false) at e) ∙ sym (missed w n k q e)
 

@@ -1,23 +1,22 @@
 -- Tests that say that two terms are equal.
-use Rattle.std.proofs.Common.{◌≡◌, ℕ, ◌-◌, ◌^◌, ◌<◌, Bool, true, List, length, refl, sym, ◌∙◌, subst, arith}
+use Rattle.std.proofs.Common.{◌≡◌, ℕ, ◌-◌, ◌^◌, ◌<◌, Bool, true, length, sym, ◌∙◌, subst, arith}
 use Rattle.std.specs.Prelude.{Result, MatchResult, slice_index}
 use Rattle.snap_core.specs.declared.policy.Atom.{Atom}
-use Rattle.snap_core.specs.declared.policy.Atom.TheVariants.{Num as Number, Comp}
 use Rattle.snap_core.specs.declared.policy.Term.{Term}
 use Rattle.snap_core.specs.declared.policy.Term.TheVariants.{Num, Plus}
 use Rattle.snap_core.specs.declared.policy.Test.TheVariants.{Value, Equal}
 use Rattle.snap_core.specs.Arrays.{value_of}
 use Rattle.snap_core.specs.Fits.{AtomFits}
 use Rattle.snap_core.specs.Tests.{TermFits, passes, term_value}
-use Rattle.snap_core.specs.Inputs.{IsPacket}
 use Rattle.snap_ctx.specs.Classes.{wrap}
 use Rattle.snap_core.specs.Ranges.{TermInRange}
 use Rattle.snap_ctx.specs.View.{View}
+use Rattle.snap_chain.specs.Early.{term_of}
+use Rattle.snap_chain.proofs.Values.{component_small, term_of-value}
 use Rattle.snap_equal.specs.declared.stop.Stop.{Stop}
-use Rattle.snap_equal.specs.Held.{term_of}
 use Rattle.snap_equal.specs.Told.{Tells, IsStop}
 use Rattle.snap_equal.proofs.Telling.{result_as}
-use Rattle.snap_equal.proofs.Wrapping.{moved, moved_back, component_small}
+use Rattle.snap_equal.proofs.Wrapping.{moved, moved_back}
 
 module _ (v : View) (r : Result Bool Stop) where
   pub number_first : (x y : Term) (n c p : ℕ) → x ≡ Num n → y ≡ Plus c p → TermInRange x → TermInRange y → TermFits (length v.classes) y
@@ -28,7 +27,7 @@ module _ (v : View) (r : Result Bool Stop) where
       let hc : c < length v.classes = subst (TermFits (length v.classes)) ey f in
       rw (ex, ey) (result_as v 0 (λ m k. passes (Value c (wrap n (2 ^ 64 - p))) m k ≡ true) (λ m k. term_value (Num n) k ≡ term_value (Plus c p) k)
       (λ m k i e. moved (slice_index k c) n p hn hp e)
-      (λ m k i e. moved_back (slice_index k c) n p (component_small (length v.classes) c k i.packet hc) hp e) r h)
+      (λ m k i e. moved_back (slice_index k c) n p (component_small (length v.classes) k c i.packet hc) hp e) r h)
 
   pub number_second : (x y : Term) (n c p : ℕ) → x ≡ Plus c p → y ≡ Num n → TermInRange x → TermInRange y → TermFits (length v.classes) x
       → MatchResult r (Tells v (λ m k. passes (Value c (wrap n (2 ^ 64 - p))) m k ≡ true)) (IsStop v 0) → MatchResult r (Tells v (λ m k. term_value x k ≡ term_value y k)) (IsStop v 0)
@@ -43,15 +42,11 @@ module _ (v : View) (r : Result Bool Stop) where
       let turn : (a : ℕ) → wrap a (wrap q (2 ^ 64 - p)) ≡ wrap (wrap a q) (2 ^ 64 - p) = λ a. omega arith in
       rw (ex, ey) (result_as v 0 (λ m k. passes (Equal c d (wrap q (2 ^ 64 - p))) m k ≡ true) (λ m k. term_value (Plus c p) k ≡ term_value (Plus d q) k)
       (λ m k i e. sym (moved (slice_index k c) (wrap (slice_index k d) q) p (omega arith) hp (rw (sym (turn (slice_index k d))) e)))
-      (λ m k i e. rw (turn (slice_index k d)) (moved_back (slice_index k c) (wrap (slice_index k d) q) p (component_small (length v.classes) c k i.packet hc) hp (sym e))) r h)
+      (λ m k i e. rw (turn (slice_index k d)) (moved_back (slice_index k c) (wrap (slice_index k d) q) p (component_small (length v.classes) k c i.packet hc) hp (sym e))) r h)
 
 -- an atom's term
-pub term_of-value : (comps : ℕ) (a : Atom) (k : List ℕ) → AtomFits comps a → IsPacket comps k → term_value (term_of a) k ≡ value_of a k
-term_of-value comps (Number n) k f p = refl
-term_of-value comps (Comp c) k f p = let h : slice_index k c < 2 ^ 64 = component_small comps c k p f in omega arith
-
 pub atoms : (v : View) (r : Result Bool Stop) (a b : Atom) → AtomFits (length v.classes) a → AtomFits (length v.classes) b
     → MatchResult r (Tells v (λ m k. term_value (term_of a) k ≡ term_value (term_of b) k)) (IsStop v 0) → MatchResult r (Tells v (λ m k. value_of a k ≡ value_of b k)) (IsStop v 0)
 atoms v r a b fa fb h = result_as v 0 (λ m k. term_value (term_of a) k ≡ term_value (term_of b) k) (λ m k. value_of a k ≡ value_of b k)
-    (λ m k i e. sym (term_of-value (length v.classes) a k fa i.packet) ∙ e ∙ term_of-value (length v.classes) b k fb i.packet)
-    (λ m k i e. term_of-value (length v.classes) a k fa i.packet ∙ e ∙ sym (term_of-value (length v.classes) b k fb i.packet)) r h
+    (λ m k i e. sym (term_of-value (length v.classes) a k i.packet fa) ∙ e ∙ term_of-value (length v.classes) b k i.packet fb)
+    (λ m k i e. term_of-value (length v.classes) a k i.packet fa ∙ e ∙ sym (term_of-value (length v.classes) b k i.packet fb)) r h

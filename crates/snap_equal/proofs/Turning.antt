@@ -1,15 +1,15 @@
 -- Updates that do the same in another order.
 use Rattle.std.proofs.Common.{◌≡◌, ℕ, Bool, true, false, List, [], ◌∷◌, ◌++◌, ◌+◌, ◌<◌, zero, suc, length, get_or, take, drop, refl, sym, ap, ◌∙◌, add-one}
 use Rattle.std.specs.Prelude.{All}
-use Rattle.std.specs.List.{AllByRecursion, remove}
+use Rattle.std.specs.List.{remove}
 use Rattle.std.proofs.Math.Path.{fun_ext}
 use Rattle.std.proofs.Math.Seq.{drop-cons}
 use Rattle.std.proofs.lemmas.List.{take-append-drop}
-use Rattle.std.proofs.lemmas.List.Elements.{All-from_recursion, recursion_from_All}
+use Rattle.std.proofs.lemmas.List.Elements.{All-cons, All-head, All-tail}
 use Rattle.snap_core.specs.declared.place.Place.{Place}
 use Rattle.snap_core.specs.declared.policy.Update.{Update}
 use Rattle.snap_core.specs.Arrays.{Arrays, same_place, place_at, number_after, update, updates}
-use Rattle.snap_ctx.proofs.Places.{same_place-true}
+use Rattle.snap_core.proofs.Places.{same_place-exact}
 use Rattle.snap_chain.proofs.Splitting.{hit, missed, updates-append}
 
 -- ---- two updates
@@ -17,17 +17,17 @@ module _ (k : List ℕ) (u w : Update) (n : Arrays)
     (both : place_at u.var u.index k ≡ place_at w.var w.index k → (x : ℕ) → number_after w.op (number_after u.op x k) k ≡ number_after u.op (number_after w.op x k) k) where
   at : (q : Place) (a b : Bool) → same_place (place_at u.var u.index k) q ≡ a → same_place (place_at w.var w.index k) q ≡ b → update (update n u k) w k q ≡ update (update n w k) u k q
   at q true true e f =
-      let p : place_at u.var u.index k ≡ q = same_place-true (place_at u.var u.index k) q e in
-      let r : place_at w.var w.index k ≡ q = same_place-true (place_at w.var w.index k) q f in
+      let p : place_at u.var u.index k ≡ q = same_place-exact (place_at u.var u.index k) q e in
+      let r : place_at w.var w.index k ≡ q = same_place-exact (place_at w.var w.index k) q f in
       hit w (update n u k) k q r ∙ ap (λ x. number_after w.op x k) (hit u n k q p)
       ∙ both (p ∙ sym r) (n q)
       ∙ sym (hit u (update n w k) k q p ∙ ap (λ x. number_after u.op x k) (hit w n k q r))
   at q true false e f =
-      let p : place_at u.var u.index k ≡ q = same_place-true (place_at u.var u.index k) q e in
+      let p : place_at u.var u.index k ≡ q = same_place-exact (place_at u.var u.index k) q e in
       missed w (update n u k) k q f ∙ hit u n k q p
       ∙ sym (hit u (update n w k) k q p ∙ ap (λ x. number_after u.op x k) (missed w n k q f))
   at q false true e f =
-      let r : place_at w.var w.index k ≡ q = same_place-true (place_at w.var w.index k) q f in
+      let r : place_at w.var w.index k ≡ q = same_place-exact (place_at w.var w.index k) q f in
       hit w (update n u k) k q r ∙ ap (λ x. number_after w.op x k) (missed u n k q e)
       ∙ sym (missed u (update n w k) k q e ∙ hit w n k q r)
   at q false false e f =
@@ -80,11 +80,8 @@ module _ (k : List ℕ) (m : Arrays) (left rest : List Update) where
       ∙ sym whole
 
 -- ---- all but one
-each_remove : {X : Type 0} (P : X → Type 0) (xs : List X) (i : ℕ) → AllByRecursion P xs → AllByRecursion P (remove xs i)
-each_remove P [] zero h = tt
-each_remove P [] (suc i) h = tt
-each_remove P (x ∷ xs) zero h = h.1
-each_remove P (x ∷ xs) (suc i) h = (h.0, each_remove P xs i h.1)
-
 pub All-remove : {X : Type 0} (P : X → Type 0) (xs : List X) (i : ℕ) → All P xs → All P (remove xs i)
-All-remove P xs i h = All-from_recursion P (remove xs i) (each_remove P xs i (recursion_from_All P xs h))
+All-remove P [] zero h = h
+All-remove P [] (suc i) h = h
+All-remove P (x ∷ xs) zero h = All-tail P x xs h
+All-remove P (x ∷ xs) (suc i) h = All-cons P x (remove xs i) (All-head P x xs h) (All-remove P xs i (All-tail P x xs h))

@@ -1,24 +1,18 @@
 -- What places hold after updates.
 use Rattle.std.specs.Prelude.{◌≡◌, ℕ, true, List, Option, length, All}
 use Rattle.snap_core.specs.declared.policy.Atom.{Atom}
-use Rattle.snap_core.specs.declared.policy.Atom.TheVariants.{Num as Number, Comp}
 use Rattle.snap_core.specs.declared.policy.Op.{Op}
 use Rattle.snap_core.specs.declared.policy.Op.TheVariants.{Put, Add}
-use Rattle.snap_core.specs.declared.policy.Term.{Term}
-use Rattle.snap_core.specs.declared.policy.Term.TheVariants.{Num, Plus}
 use Rattle.snap_core.specs.declared.policy.Update.{Update}
 use Rattle.snap_core.specs.Arrays.{Arrays, place_at, updates}
 use Rattle.snap_core.specs.Tests.{TermFits, term_value}
 use Rattle.snap_ctx.specs.Classes.{wrap, shift}
 use Rattle.snap_ctx.specs.View.{View}
+use Rattle.snap_chain.specs.Early.{term_of}
 use Rattle.snap_equal.specs.declared.held.Held.{Held}
 use Rattle.snap_equal.specs.declared.held.Held.TheVariants.{Is, Old}
 use Rattle.snap_equal.specs.Tally.{is_chosen}
 use Rattle.snap_equal.specs.Told.{On}
-
-abbrev pub term_of : Atom → Term
-term_of (Number n) = Num n
-term_of (Comp c) = Plus c 0
 
 -- the number that is held, where the old one is x
 abbrev pub held_value : Held → ℕ → List ℕ → ℕ

@@ -7,6 +7,7 @@ use Rattle.snap_core.specs.declared.policy.Update.{Update}
 use Rattle.snap_core.specs.Arrays.{same_place, place_at, has}
 use Rattle.snap_ctx.specs.Classes.{wrap}
 use Rattle.snap_ctx.specs.View.{View}
+use Rattle.snap_chain.specs.Additions.{IsAddition}
 use Rattle.snap_equal.specs.declared.tally.Sign.{Sign}
 use Rattle.snap_equal.specs.declared.tally.Sign.TheVariants.{Plus, Minus}
 use Rattle.snap_equal.specs.Inputs.{IsUpdate}
@@ -28,10 +29,6 @@ abbrev pub total : List Update → List ℕ → Place → ℕ
 total [] k q = 0
 total (u ∷ us) k q = wrap (share u k q) (total us k q)
 
-abbrev pub IsAddition : Op → Type 0
-IsAddition (Put a) = ⊥
-IsAddition (Add n) = Unit {0}
-
 -- all updates of variables outside the set are additions
 abbrev pub AddOutside : ℕ → List Update → Type 0
 AddOutside mixed us = All (λ u. has mixed u.var ≡ false → IsAddition u.op) us
@@ -43,11 +40,6 @@ pub record IsSum (mixed comps vars : ℕ) (u : Update) : Type 0 where
   pub small : added u.op < 2 ^ 64
   pub outside : has mixed u.var ≡ false
   pub var : u.var < vars
-
--- an operation with so much more added
-abbrev pub plus : Op → ℕ → Op
-plus (Put a) n = Put a
-plus (Add x) n = Add (wrap x n)
 
 -- a number with a sign, modulo 2^64
 abbrev pub signed : Sign → ℕ → ℕ

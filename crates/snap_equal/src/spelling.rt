@@ -4,7 +4,8 @@ ghost use Rattle.std.specs.Prelude.{◌≡◌, ◌<◌, All, IfOk, length, true}
 ghost use Rattle.snap_core.specs.Fits.{AtomFits};
 ghost use Rattle.snap_core.specs.Tests.{OutFits, after_out};
 ghost use Rattle.snap_core.specs.declared.policy.Atom.TheVariants.{Comp};
-ghost use Rattle.snap_equal.specs.Made.{AreSpelled, Makes, atom_in, packet_of};
+ghost use Rattle.snap_chain.specs.Early.{atom_from};
+ghost use Rattle.snap_equal.specs.Made.{AreSpelled, Makes, packet_of};
 ghost use Rattle.snap_equal.specs.Told.{On};
 
 use crate::terms::{read, term_of};
@@ -20,7 +21,7 @@ use std::alloc::Global;
 pub(crate) fn atom_in(parts: &[(u16, Atom)], comp: u16, comps: u16) -> Atom
     requires comp { comp < comps }
     requires fits { OutFits comps parts.now }
-    ensures atom { result ≡ atom_in (Comp comp) parts.now comp }
+    ensures atom { result ≡ atom_from (Comp comp) parts.now comp }
     ensures fits { AtomFits comps result }
 {
     let mut atom = Atom::Comp(comp);

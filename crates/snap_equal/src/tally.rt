@@ -6,8 +6,9 @@ ghost use Rattle.snap_core.specs.Arrays.{place_at, has};
 ghost use Rattle.snap_core.specs.declared.policy.Op.TheVariants.{Add};
 ghost use Rattle.snap_core.specs.declared.policy.Update.{Update as UpdateData};
 ghost use Rattle.snap_ctx.specs.Classes.{wrap};
+ghost use Rattle.snap_chain.specs.Additions.{added_up};
 ghost use Rattle.snap_equal.specs.Inputs.{AreOf, IsUpdate};
-ghost use Rattle.snap_equal.specs.Tally.{AddOutside, IsDifference, IsSum, plus, share_of, signed, signed_total, total};
+ghost use Rattle.snap_equal.specs.Tally.{AddOutside, IsDifference, IsSum, share_of, signed, signed_total, total};
 ghost use Rattle.snap_equal.specs.Told.{On};
 
 use crate::places::reads_place;
@@ -50,7 +51,7 @@ pub(crate) fn with_puts(set: u64, updates: &[Update]) -> u64
 
 // An addition with so much more, modulo 2^64.
 fn plus(op: Op, more: u64) -> Op
-    ensures { result ≡ plus op more }
+    ensures { result ≡ added_up op more }
 {
     match op {
         Op::Put(_) => op,

@@ -5,7 +5,7 @@ ghost use Rattle.snap_core.specs.Arrays.{value_of};
 ghost use Rattle.snap_core.specs.Fits.{AtomFits};
 ghost use Rattle.snap_core.specs.Tests.{TermFits, term_value};
 ghost use Rattle.snap_ctx.specs.Classes.{shift};
-ghost use Rattle.snap_equal.specs.Held.{term_of};
+ghost use Rattle.snap_chain.specs.Early.{term_of};
 ghost use Rattle.snap_equal.specs.Told.{IsStop, On, Tells};
 
 use crate::stop::{Stop, holds};

@@ -1,8 +1,8 @@
 -- What is pruned under one context is pruned under another of which the same is known about what the diagram tests.
 use Rattle.std.proofs.Common.{◌≡◌, ℕ, suc, ◌+◌, ◌<◌, ◌≤◌, ◌^◌, Bool, true, false, cond, List, [], ◌∷◌, ◌++◌, length, refl, sym, ap, subst, ◌∙◌, arith, append_assoc, length-append}
 use Rattle.std.specs.Prelude.{All, IfSome, Option, max}
-use Rattle.std.specs.List.{AllByRecursion}
-use Rattle.std.proofs.lemmas.List.Elements.{All-append, All-from_recursion, recursion_from_All, All-push}
+use Rattle.std.proofs.lemmas.List.Elements.{All-append, All-cons, All-nil, All-push, All-tail}
+use Rattle.snap_core.proofs.Elements.{All-back, All-front}
 use Rattle.snap_core.specs.declared.policy.Test.{Test}
 use Rattle.snap_core.specs.declared.policy.Test.TheVariants.{Value, Equal, State}
 use Rattle.snap_core.specs.Arrays.{Arrays}
@@ -15,7 +15,6 @@ use Rattle.snap_ctx.specs.Meets.{Meets, IsMet}
 use Rattle.snap_core.specs.Ranges.{TestInRange}
 use Rattle.snap_ctx.specs.View.{View, IsContext}
 use Rattle.snap_ctx.proofs.Last.{with_last, last_parts, Meets-with_last}
-use Rattle.snap_ctx.proofs.Each.{Each-left, Each-right}
 use Rattle.snap_ctx.proofs.Fitting.{is_test}
 use Rattle.snap_ctx.proofs.Knowing.{known_alike}
 use Rattle.snap_ctx.specs.declared.tested.Tested.{Tested}
@@ -55,21 +54,22 @@ way (Only l) m k = []
 way (Asks t y n) m k = record { test = t; yes = passes t m k } ∷ cond (passes t m k) (way y m k) (way n m k)
 
 -- what holds of each test holds on the way
-on_way : (P : Fact → Type 0) (d : Diagram) (m : Arrays) (k : List ℕ) (D : Diagram → Type 0) → ((t : Test) (y n : Diagram) → D (Asks t y n) → P (record { test = t; yes = passes t m k }) × D y × D n) → D d → AllByRecursion P (way d m k)
-on_way P (Only l) m k D f h = tt
-on_way P (Asks t y n) m k D f h = let p = f t y n h in (p.0, by (passes t m k) (on_way P y m k D f p.1) (on_way P n m k D f p.2))
+on_way : (P : Fact → Type 0) (d : Diagram) (m : Arrays) (k : List ℕ) (D : Diagram → Type 0) → ((t : Test) (y n : Diagram) → D (Asks t y n) → P (record { test = t; yes = passes t m k }) × D y × D n) → D d → All P (way d m k)
+on_way P (Only l) m k D f h = All-nil P
+on_way P (Asks t y n) m k D f h = let p = f t y n h in
+    All-cons P (record { test = t; yes = passes t m k }) (cond (passes t m k) (way y m k) (way n m k)) p.0 (by (passes t m k) (on_way P y m k D f p.1) (on_way P n m k D f p.2))
   where
-    by : (b : Bool) → AllByRecursion P (way y m k) → AllByRecursion P (way n m k) → AllByRecursion P (cond b (way y m k) (way n m k))
+    by : (b : Bool) → All P (way y m k) → All P (way n m k) → All P (cond b (way y m k) (way n m k))
     by true p q = p
     by false p q = q
 
-way_met : (d : Diagram) (m : Arrays) (k : List ℕ) → AllByRecursion (λ f. passes f.test m k ≡ f.yes) (way d m k)
+way_met : (d : Diagram) (m : Arrays) (k : List ℕ) → All (λ f. passes f.test m k ≡ f.yes) (way d m k)
 way_met d m k = on_way (λ f. passes f.test m k ≡ f.yes) d m k (λ d. Unit {0}) (λ t y n h. (refl, tt, tt)) tt
 
-way_tests : (s : Sizes) (e : Tested) (d : Diagram) (m : Arrays) (k : List ℕ) → IsIn s d → TestsOver e d → AllByRecursion (λ f. IsTest s.comps f.test) (way d m k)
+way_tests : (s : Sizes) (e : Tested) (d : Diagram) (m : Arrays) (k : List ℕ) → IsIn s d → TestsOver e d → All (λ f. IsTest s.comps f.test) (way d m k)
 way_tests s e d m k i o = on_way (λ f. IsTest s.comps f.test) d m k (λ d. IsIn s d × TestsOver e d) (λ t y n h. (test_is s t h.0.0 h.1.1, (h.0.1, h.1.2), (h.0.2, h.1.3))) (i, o)
 
-way_over : (e : Tested) (d : Diagram) (m : Arrays) (k : List ℕ) → TestsOver e d → AllByRecursion (λ f. TestOver e.comps e.arrays f.test) (way d m k)
+way_over : (e : Tested) (d : Diagram) (m : Arrays) (k : List ℕ) → TestsOver e d → All (λ f. TestOver e.comps e.arrays f.test) (way d m k)
 way_over e d m k o = on_way (λ f. TestOver e.comps e.arrays f.test) d m k (TestsOver e) (λ t y n h. (h.0, h.2, h.3)) o
 
 way_short : (d : Diagram) (m : Arrays) (k : List ℕ) → length (way d m k) ≤ depth d
@@ -81,12 +81,14 @@ way_short (Asks t y n) m k = by (passes t m k) (way_short y m k) (way_short n m 
     by false p q = omega (arith, q)
 
 -- those with the same answers go the same way
-same_way : (d : Diagram) (m n : Arrays) (k l : List ℕ) → AllByRecursion (λ f. passes f.test n l ≡ f.yes) (way d m k) → walk d n l ≡ walk d m k
+same_way : (d : Diagram) (m n : Arrays) (k l : List ℕ) → All (λ f. passes f.test n l ≡ f.yes) (way d m k) → walk d n l ≡ walk d m k
 same_way (Only x) m n k l h = refl
-same_way (Asks t y z) m n k l h = ap (λ b. cond b (walk y n l) (walk z n l)) h.0 ∙ by (passes t m k) (same_way y m n k l) (same_way z m n k l) h.1
+same_way (Asks t y z) m n k l h =
+    ap (λ b. cond b (walk y n l) (walk z n l)) (h 0 (record { test = t; yes = passes t m k }) (omega arith))
+    ∙ by (passes t m k) (same_way y m n k l) (same_way z m n k l) (All-tail (λ f. passes f.test n l ≡ f.yes) (record { test = t; yes = passes t m k }) (cond (passes t m k) (way y m k) (way z m k)) h)
   where
-    by : (b : Bool) → (AllByRecursion (λ f. passes f.test n l ≡ f.yes) (way y m k) → walk y n l ≡ walk y m k) → (AllByRecursion (λ f. passes f.test n l ≡ f.yes) (way z m k) → walk z n l ≡ walk z m k)
-        → AllByRecursion (λ f. passes f.test n l ≡ f.yes) (cond b (way y m k) (way z m k)) → cond b (walk y n l) (walk z n l) ≡ cond b (walk y m k) (walk z m k)
+    by : (b : Bool) → (All (λ f. passes f.test n l ≡ f.yes) (way y m k) → walk y n l ≡ walk y m k) → (All (λ f. passes f.test n l ≡ f.yes) (way z m k) → walk z n l ≡ walk z m k)
+        → All (λ f. passes f.test n l ≡ f.yes) (cond b (way y m k) (way z m k)) → cond b (walk y n l) (walk z n l) ≡ cond b (walk y m k) (walk z m k)
     by true p q g = p g
     by false p q g = q g
 
@@ -170,17 +172,16 @@ pruned_alike ranks s e key v w d r cv cw lv lw kv kw over diagram fv fw p = reco
         let lr = way_short r m k in
         let low = p.short in
         let met = met_beside s e key w v cw cv (lw ∙ sym lv) (sym lv) kw kv m k h path (
-          All-append (λ f. IsTest s.comps f.test) (way d m k) (way r m k) (All-from_recursion (λ f. IsTest s.comps f.test) (way d m k) (way_tests s e d m k diagram.bounds over)) (All-from_recursion (λ f. IsTest s.comps f.test) (way r m k) (way_tests s e r m k p.keeps.bounds (p.tests e over))),
-          All-append (λ f. TestOver e.comps e.arrays f.test) (way d m k) (way r m k) (All-from_recursion (λ f. TestOver e.comps e.arrays f.test) (way d m k) (way_over e d m k over)) (All-from_recursion (λ f. TestOver e.comps e.arrays f.test) (way r m k) (way_over e r m k (p.tests e over))),
+          All-append (λ f. IsTest s.comps f.test) (way d m k) (way r m k) (way_tests s e d m k diagram.bounds over) (way_tests s e r m k p.keeps.bounds (p.tests e over)),
+          All-append (λ f. TestOver e.comps e.arrays f.test) (way d m k) (way r m k) (way_over e d m k over) (way_over e r m k (p.tests e over)),
         )
-        (All-append (λ f. passes f.test m k ≡ f.yes) (way d m k) (way r m k) (All-from_recursion (λ f. passes f.test m k ≡ f.yes) (way d m k) (way_met d m k)) (All-from_recursion (λ f. passes f.test m k ≡ f.yes) (way r m k) (way_met r m k)))
+        (All-append (λ f. passes f.test m k ≡ f.yes) (way d m k) (way r m k) (way_met d m k) (way_met r m k))
         (omega (arith, fv, long, ld, lr, low)) in
         let n = number_in met.entries in
-        let all = recursion_from_All (λ f. passes f.test n met.packet ≡ f.yes) (v.facts ++ path) met.meets in
-        let ways = Each-right (λ f. passes f.test n met.packet ≡ f.yes) v.facts path all in
-        let facts = All-from_recursion (λ f. passes f.test n met.packet ≡ f.yes) v.facts (Each-left (λ f. passes f.test n met.packet ≡ f.yes) v.facts path all) in
-        let on_d = same_way d m n k met.packet (Each-left (λ f. passes f.test n met.packet ≡ f.yes) (way d m k) (way r m k) ways) in
-        let on_r = same_way r m n k met.packet (Each-right (λ f. passes f.test n met.packet ≡ f.yes) (way d m k) (way r m k) ways) in
+        let ways = All-back (λ f. passes f.test n met.packet ≡ f.yes) v.facts path met.meets in
+        let facts = All-front (λ f. passes f.test n met.packet ≡ f.yes) v.facts path met.meets in
+        let on_d = same_way d m n k met.packet (All-front (λ f. passes f.test n met.packet ≡ f.yes) (way d m k) (way r m k) ways) in
+        let on_r = same_way r m n k met.packet (All-back (λ f. passes f.test n met.packet ≡ f.yes) (way d m k) (way r m k) ways) in
         sym on_r ∙ (p.walks n met.packet (record { packet = met.is_packet; facts = facts }) ∙ on_d)
 
 -- ---- what a memo remembers of pruned diagrams

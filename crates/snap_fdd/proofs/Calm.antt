@@ -1,12 +1,12 @@
 -- Facts of numbers that don't contradict each other have a model.
 use Rattle.std.proofs.Common.{◌≡◌, ◌≢◌, inl, inr, ℕ, ◌<◌, ◌≤◌, ◌^◌, Bool, true, false, cond, List, [], ◌∷◌, length, map, get_or, Option, Some, None, refl, sym, ap, subst, ◌∙◌, arith}
 use Rattle.std.specs.Prelude.{◌==◌, All, if◌then◌else◌, slice_get, slice_index_or}
-use Rattle.std.specs.List.{AllByRecursion}
 use Rattle.std.specs.List.{range_with_len}
 use Rattle.std.proofs.lemmas.Bool.{eqb-true, eqb-false}
 use Rattle.std.proofs.lemmas.List.{length-map, get_or-map}
 use Rattle.std.proofs.lemmas.List.FromFn.{get_or-map-range_with_len, length-map-range_with_len}
-use Rattle.std.proofs.lemmas.List.Elements.{recursion_from_All}
+use Rattle.std.proofs.lemmas.List.Elements.{All-tail}
+use Rattle.snap_ctx.proofs.Wrap.{wrap_zero}
 use Rattle.snap_core.specs.declared.policy.Atom.{Atom}
 use Rattle.snap_core.specs.declared.policy.Atom.TheVariants.{Num as Number, Comp}
 use Rattle.snap_core.specs.declared.policy.Term.{Term}
@@ -16,7 +16,7 @@ use Rattle.snap_core.specs.declared.policy.Test.TheVariants.{Value, Equal, State
 use Rattle.snap_core.specs.Arrays.{has}
 use Rattle.snap_ctx.specs.declared.fact.Fact.{Fact}
 use Rattle.snap_ctx.specs.Meets.{IsMet}
-use Rattle.snap_ctx.specs.Classes.{wrap, shift, class_of, normal, atom_class, IsAtom, IsTest, IsClass, Says, FactRule, PairRule, Rules, is_state, left_of, right_of, var_of, index_of}
+use Rattle.snap_ctx.specs.Classes.{shift, class_of, normal, atom_class, IsAtom, IsTest, IsClass, Says, FactRule, PairRule, Rules, is_state, left_of, right_of, var_of, index_of}
 use Rattle.snap_ctx.specs.Lean.{Among}
 use Rattle.snap_ctx.proofs.Among.{all_among}
 use Rattle.snap_ctx.proofs.Model.{model}
@@ -122,13 +122,10 @@ classes_length facts comps = length-map-range_with_len (λ c. class_by (number_a
 class_at : (facts : List Fact) (comps c : ℕ) (d : Term) → c < comps → slice_index_or (classes_by facts comps) c d ≡ class_by (number_at facts c) c
 class_at facts comps c d l = get_or-map-range_with_len (λ c. class_by (number_at facts c) c) 0 comps c c d l (omega arith)
 
-wrapped : (n : ℕ) → n < 2 ^ 64 → wrap n 0 ≡ n
-wrapped n l = omega arith
-
 -- what a fact says of its component's class
 value_says : (y : Bool) (c n : ℕ) (o : Option ℕ) → (o ≡ None → y ≡ true → ⊥) → ((m : ℕ) → o ≡ Some m → Tells y (Num m) (Num n)) → ((m : ℕ) → o ≡ Some m → m < 2 ^ 64) → Says y (shift (class_by o c) 0) (Num n)
-value_says true c n (Some m) none some small = rw (wrapped m (small m refl)) (some m refl)
-value_says false c n (Some m) none some small = λ e. some m refl (let w = wrapped m (small m refl) in cc)
+value_says true c n (Some m) none some small = rw (wrap_zero m (small m refl)) (some m refl)
+value_says false c n (Some m) none some small = λ e. some m refl (let w = wrap_zero m (small m refl) in cc)
 value_says true c n None none some small = absurd (none refl refl)
 value_says false c n None none some small = λ e. absurd (cc)
 
@@ -172,7 +169,7 @@ module _ (comps : ℕ) (s : Survey) (clear : IsClear s) (facts : List Fact) (cal
           let fine : IsFine s (Value c n) = subst (IsFine s) w.test (calm.fine w.fact w.among) in
           let yes = fine.1 in cc)
 
-  atoms_apart : (ix iy : List Atom) → AllByRecursion (IsAtom comps) ix → AllByRecursion (IsAtom comps) iy → AllByRecursion (AtomIsFree s) ix → AllByRecursion (AtomIsFree s) iy
+  atoms_apart : (ix iy : List Atom) → All (IsAtom comps) ix → All (IsAtom comps) iy → All (AtomIsFree s) ix → All (AtomIsFree s) iy
       → map (atom_class (classes_by facts comps)) ix ≡ map (atom_class (classes_by facts comps)) iy → ix ≡ iy
   atoms_apart [] [] ax ay fx fy e = refl
   atoms_apart [] (y ∷ iy) ax ay fx fy e = absurd (cc)
@@ -180,8 +177,9 @@ module _ (comps : ℕ) (s : Survey) (clear : IsClear s) (facts : List Fact) (cal
   atoms_apart (x ∷ ix) (y ∷ iy) ax ay fx fy e =
       let first : atom_class (classes_by facts comps) x ≡ atom_class (classes_by facts comps) y = cc in
       let rest : map (atom_class (classes_by facts comps)) ix ≡ map (atom_class (classes_by facts comps)) iy = cc in
-      let i = atoms_apart ix iy ax.1 ay.1 fx.1 fy.1 rest in
-      (λ j. atom_apart x y ax.0 ay.0 fx.0 fy.0 first j ∷ i j)
+      let here : x ≡ y = atom_apart x y (ax 0 x (omega arith)) (ay 0 y (omega arith)) (fx 0 x (omega arith)) (fy 0 y (omega arith)) first in
+      let i = atoms_apart ix iy (All-tail (IsAtom comps) x ix ax) (All-tail (IsAtom comps) y iy ay) (All-tail (AtomIsFree s) x ix fx) (All-tail (AtomIsFree s) y iy fy) rest in
+      (λ j. here j ∷ i j)
     where
       atom_apart : (x y : Atom) → IsAtom comps x → IsAtom comps y → AtomIsFree s x → AtomIsFree s y → atom_class (classes_by facts comps) x ≡ atom_class (classes_by facts comps) y → x ≡ y
       atom_apart (Number n) (Number o) ax ay fx fy e = (let h : n ≡ o = cc in ap Number h)
@@ -226,7 +224,7 @@ module _ (comps : ℕ) (s : Survey) (clear : IsClear s) (facts : List Fact) (cal
     | inr h ↦ absurd (elim h [ inl p ↦ indices_differ ix iy ax ay p e | inr p ↦ indices_differ iy ix ay ax p (sym e) ])
   ]
   same_spelled ix iy t u (Some Many) c fx fy ax ay e =
-      (atoms_apart ix iy (recursion_from_All (IsAtom comps) ix ax) (recursion_from_All (IsAtom comps) iy ay) fx.0 fy.0 e, inr (fx.1, fy.1))
+      (atoms_apart ix iy ax ay fx.0 fy.0 e, inr (fx.1, fy.1))
   same_spelled ix iy t u None c fx fy ax ay e = absurd fx
 
   paired : (f g : Fact) → Among f facts → Among g facts → PairRule (classes_by facts comps) f g

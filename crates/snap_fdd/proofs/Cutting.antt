@@ -34,7 +34,7 @@ pub record IsMore (v w : View) (t : Test) (b : Bool) : Type 0 where
   pub count : length w.classes ≡ length v.classes
   pub met : IsMet (length v.classes) (with_fact v.facts t b)
 
-met_more : (v w : View) (t : Test) (b : Bool) → IsMore v w t b → (m : Arrays) (k : List ℕ) → Met v m k → Where t b m k → Met w m k
+pub met_more : (v w : View) (t : Test) (b : Bool) → IsMore v w t b → (m : Arrays) (k : List ℕ) → Met v m k → Where t b m k → Met w m k
 met_more v w t b i m k h p = record { packet = rw i.count h.packet; facts = rw i.facts (Meets-with_fact v.facts t b m k h.facts p) }
 
 met_less : (v w : View) (t : Test) (b : Bool) → IsMore v w t b → (m : Arrays) (k : List ℕ) → Met w m k → With (Met v) t b m k

@@ -1,7 +1,7 @@
 -- What is pruned under a context without facts that no test bears on is pruned under the context.
 use Rattle.std.proofs.Common.{◌≡◌, ◌≢◌, inl, inr, ℕ, ◌<◌, ◌≤◌, ◌^◌, Bool, true, false, List, [], ◌∷◌, ◌++◌, length, map, refl, sym, ap, subst, ◌∙◌, arith, length-append}
 use Rattle.std.specs.Prelude.{slice_index}
-use Rattle.std.specs.List.{AllByRecursion}
+use Rattle.std.specs.List.{All}
 use Rattle.std.specs.declared.cmp.Ordering.{Ordering}
 use Rattle.std.specs.declared.cmp.Ordering.TheVariants.{Less, Equal, Greater}
 use Rattle.snap_core.specs.declared.place.Entry.{Entry}
@@ -24,11 +24,12 @@ use Rattle.snap_ctx.specs.Classes.{Fits, IsAtom, IsTest, class_of, index_of, is_
 use Rattle.snap_ctx.specs.Known.{AtomOver, IsAmong, IsFixed, TestOver}
 use Rattle.snap_ctx.specs.Lean.{AreParted, IsPlain}
 use Rattle.snap_ctx.specs.View.{View}
-use Rattle.snap_ctx.proofs.Among.{all_among, among_at, among_last, among_push, from_all}
+use Rattle.snap_ctx.proofs.Among.{all_among, among_at, among_last, among_push}
 use Rattle.snap_ctx.proofs.Lean.{lean_context, refilled}
 use Rattle.snap_ctx.proofs.Roots.{index-atoms}
 use Rattle.snap_ctx.proofs.Wrap.{wrap_zero}
-use Rattle.std.proofs.lemmas.List.Elements.{recursion_from_All}
+use Rattle.std.proofs.lemmas.List.Elements.{All-tail}
+use Rattle.snap_ctx.proofs.Knowing.{over_array, over_atoms}
 use Rattle.snap_arena.specs.declared.node.Node.{Node}
 use Rattle.snap_arena.specs.Memos.{Remembers}
 use Rattle.snap_fdd.specs.declared.leaf.Leaf.{Leaf}
@@ -103,42 +104,33 @@ past_apart ranks t u f past after same = by (test_cmp ranks t u) refl after
 
 module _ (cl : List Term) (k : List ℕ) (set : ℕ) (few : length cl ≤ 64) (fits : Fits cl k) (packet : IsPacket (length cl) k) where
   -- where values are the same, so is the spelling
-  same_spelled : (ix iy : List Atom) → AllByRecursion IsFixed ix → AllByRecursion (IsAtom (length cl)) iy → AllByRecursion (AtomOver set) iy → AreMissed cl set ix
+  same_spelled : (ix iy : List Atom) → All IsFixed ix → All (IsAtom (length cl)) iy → All (AtomOver set) iy → AreMissed cl set ix
       → map (λ a. value_of a []) ix ≡ map (λ a. value_of a k) iy → ix ≡ iy
   same_spelled [] [] x i o m e = refl
   same_spelled [] (a ∷ iy) x i o m e = absurd (cc)
   same_spelled (a ∷ ix) [] x i o m e = absurd (cc)
-  same_spelled (Comp c ∷ ix) (a ∷ iy) x i o m e = absurd x.0
+  same_spelled (Comp c ∷ ix) (a ∷ iy) x i o m e = absurd (x 0 (Comp c) (omega arith))
   same_spelled (Number n ∷ ix) (Number y ∷ iy) x i o m e =
       let first : n ≡ y = cc in
       let rest : map (λ a. value_of a []) ix ≡ map (λ a. value_of a k) iy = cc in
-      let r = same_spelled ix iy x.1 i.1 o.1 (λ c l h. tail (class_of cl c) (m c l h)) rest in
+      let r = same_spelled ix iy (All-tail IsFixed (Number n) ix x) (All-tail (IsAtom (length cl)) (Number y) iy i) (All-tail (AtomOver set) (Number y) iy o) (λ c l h. tail (class_of cl c) (m c l h)) rest in
       (λ j. Number (first j) ∷ r j)
     where
       tail : (t : Term) → IsMissed (Number n ∷ ix) t → IsMissed ix t
-      tail (Num z) h = h.1
+      tail (Num z) h = All-tail (λ a. a ≢ Number z) (Number n) ix h
       tail (Plus d p) h = absurd h
   same_spelled (Number n ∷ ix) (Comp c ∷ iy) x i o m e =
       let first : n ≡ slice_index k c = cc in
-      let small : slice_index k c < 2 ^ 64 = packet.numbers c 0 (rw packet.long i.0) in
-      let among : has set c ≡ true = (let l = i.0 in o.0 (omega (arith, l, few))) in
-      absurd (by (class_of cl c) (m c i.0 among) (first ∙ (sym (wrap_zero (slice_index k c) small) ∙ sym (fits c i.0))))
+      let low : c < length cl = i 0 (Comp c) (omega arith) in
+      let small : slice_index k c < 2 ^ 64 = packet.numbers c 0 (rw packet.long low) in
+      let among : has set c ≡ true = o 0 (Comp c) (omega arith) (omega (arith, low, few)) in
+      absurd (by (class_of cl c) (m c low among) (first ∙ (sym (wrap_zero (slice_index k c) small) ∙ sym (fits c low))))
     where
       by : (t : Term) → IsMissed (Number n ∷ ix) t → n ≡ term_value t k → ⊥
-      by (Num z) h e = h.0 (ap Number e)
+      by (Num z) h e = h 0 (Number n) (omega arith) (ap Number e)
       by (Plus d p) h e = h
 
-over_array : (comps arrays : ℕ) (t : Test) → TestOver comps arrays t → is_state t ≡ true → IsAmong arrays (var_of t)
-over_array comps arrays (Value c n) o st = absurd (cc)
-over_array comps arrays (Same l r q) o st = absurd (cc)
-over_array comps arrays (State v ix t) o st = o.0
-
-over_atoms : (comps arrays : ℕ) (t : Test) → TestOver comps arrays t → AllByRecursion (AtomOver comps) (index_of t)
-over_atoms comps arrays (Value c n) o = tt
-over_atoms comps arrays (Same l r q) o = tt
-over_atoms comps arrays (State v ix t) o = o.1
-
-plain_state : (t : Test) → IsPlain t → (is_state t ≡ true) × AllByRecursion IsFixed (index_of t)
+plain_state : (t : Test) → IsPlain t → (is_state t ≡ true) × All IsFixed (index_of t)
 plain_state (Value c n) h = absurd h
 plain_state (Same l r q) h = absurd h
 plain_state (State v ix t) h = (refl, h.0)
@@ -163,7 +155,7 @@ done_apart ranks cl e t u f k few fits packet done follows st place = elim done.
   | inr past ↦
       let index : index_of f.test ≡ index_of u
       = same_spelled cl k e.comps few fits packet (index_of f.test) (index_of u) (plain_state f.test done.0).1
-      (recursion_from_All (IsAtom (length cl)) (index_of u) (index-atoms (length cl) u follows.test)) (over_atoms e.comps e.arrays u follows.over) past.1 (ap (λ (p : Place). p.index) place) in
+      (index-atoms (length cl) u follows.test) (over_atoms e.comps e.arrays u follows.over) past.1 (ap (λ (p : Place). p.index) place) in
       past_apart ranks t u f past.0 follows.after (one_subject f.test u (plain_state f.test done.0).0 st var index)
 ]
   where
@@ -247,7 +239,7 @@ module _ (g : Grouping) (v w : View) (d : Diagram) (f : IsForgotten g.ranks v w 
         r.0,
         r.1,
         record { packet = packet; facts = r.2 },
-        (λ u follows. r.3 u (λ x a st. done_apart g.ranks v.classes f.tested f.test u x k ctx.few fits packet (from_all (IsDone g.ranks v.classes f.tested f.test) f.leaner.gone f.leaner.done x a) follows st)),
+        (λ u follows. r.3 u (λ x a st. done_apart g.ranks v.classes f.tested f.test u x k ctx.few fits packet (among_at (IsDone g.ranks v.classes f.tested f.test) f.leaner.gone f.leaner.done x a) follows st)),
       )
 
   pub pruned_lean : (r : Diagram) → IsPruned g.ranks (sizes g w) w d r → IsPruned g.ranks (sizes g v) v d r

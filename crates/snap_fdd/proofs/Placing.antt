@@ -1,8 +1,8 @@
 -- Nothing is dead in a diagram that tests places alone, where those that are spelled differently differ.
-use Rattle.std.proofs.Common.{◌≡◌, ◌⊎◌, inl, inr, ℕ, ◌+◌, ◌<◌, ◌≤◌, ◌^◌, Bool, true, false, List, [], ◌∷◌, ◌++◌, length, map, refl, sym, ap, subst, ◌∙◌, arith, append_assoc, append-nil, length-append, bit_or}
+use Rattle.std.proofs.Common.{◌≡◌, ◌⊎◌, inl, inr, ℕ, ◌+◌, ◌<◌, ◌≤◌, ◌^◌, Bool, true, false, List, [], ◌∷◌, ◌++◌, length, map, refl, sym, ap, subst, ◌∙◌, arith, append_assoc, append-nil, length-append, bit_or, get_or}
 use Rattle.std.specs.Prelude.{All}
-use Rattle.std.specs.List.{AllByRecursion}
-use Rattle.std.proofs.lemmas.List.Elements.{All-append, recursion_from_All}
+use Rattle.std.proofs.lemmas.List.Elements.{All-append, All-tail}
+use Rattle.snap_core.proofs.Framed.{in_left}
 use Rattle.snap_core.specs.declared.policy.Atom.{Atom}
 use Rattle.snap_core.specs.declared.policy.Atom.TheVariants.{Num as Number, Comp}
 use Rattle.snap_core.specs.declared.policy.Term.{Term}
@@ -18,10 +18,9 @@ use Rattle.snap_ctx.specs.Known.{IsAmong, AtomOver, TermOver}
 use Rattle.snap_ctx.specs.Meets.{Meets}
 use Rattle.snap_ctx.specs.View.{View, IsContext}
 use Rattle.snap_ctx.specs.Lean.{Among}
-use Rattle.snap_ctx.proofs.Among.{all_among, among_last, from_all}
+use Rattle.snap_ctx.proofs.Among.{all_among, among_at, among_last}
 use Rattle.snap_ctx.proofs.Last.{with_last, last_parts}
 use Rattle.snap_ctx.proofs.Model.{model}
-use Rattle.snap_ctx.proofs.Testing.{has-left}
 use Rattle.snap_ctx.specs.declared.tested.Tested.{Tested}
 use Rattle.snap_dep.specs.Ranks.{Grouping}
 use Rattle.snap_fdd.specs.Bounds.{Sizes, IsIn}
@@ -42,11 +41,11 @@ use Rattle.snap_fdd.proofs.Quieting.{one_test, turned}
 
 -- ---- sets of bound components
 pub kept_more : (cl : List Term) (bound more c : ℕ) → IsKept cl bound (Comp c) → IsKept cl (bit_or bound more) (Comp c)
-kept_more cl bound more c h = elim h [ inl o ↦ inl o | inr b ↦ inr (has-left bound more c b) ]
+kept_more cl bound more c h = elim h [ inl o ↦ inl o | inr b ↦ inr (in_left bound more c b) ]
 
 -- ---- tests of own components are as they are spelled
 module _ (cl : List Term) (bound : ℕ) where
-  own_index : (ix iy : List Atom) → AllByRecursion (IsAtom (length cl)) ix → AllByRecursion (IsAtom (length cl)) iy → AllByRecursion (AtomIsOwn cl bound) ix → AllByRecursion (AtomIsOwn cl bound) iy
+  own_index : (ix iy : List Atom) → All (IsAtom (length cl)) ix → All (IsAtom (length cl)) iy → All (AtomIsOwn cl bound) ix → All (AtomIsOwn cl bound) iy
       → map (atom_class cl) ix ≡ map (atom_class cl) iy → ix ≡ iy
   own_index [] [] p q a b e = refl
   own_index [] (y ∷ iy) p q a b e = absurd (cc)
@@ -54,8 +53,9 @@ module _ (cl : List Term) (bound : ℕ) where
   own_index (x ∷ ix) (y ∷ iy) p q a b e =
       let first : atom_class cl x ≡ atom_class cl y = cc in
       let rest : map (atom_class cl) ix ≡ map (atom_class cl) iy = cc in
-      let i = own_index ix iy p.1 q.1 a.1 b.1 rest in
-      (λ j. own_atom x y p.0 q.0 a.0 b.0 first j ∷ i j)
+      let here : x ≡ y = own_atom x y (p 0 x (omega arith)) (q 0 y (omega arith)) (a 0 x (omega arith)) (b 0 y (omega arith)) first in
+      let i = own_index ix iy (All-tail (IsAtom (length cl)) x ix p) (All-tail (IsAtom (length cl)) y iy q) (All-tail (AtomIsOwn cl bound) x ix a) (All-tail (AtomIsOwn cl bound) y iy b) rest in
+      (λ j. here j ∷ i j)
     where
       own_atom : (x y : Atom) → IsAtom (length cl) x → IsAtom (length cl) y → AtomIsOwn cl bound x → AtomIsOwn cl bound y → atom_class cl x ≡ atom_class cl y → x ≡ y
       own_atom (Number n) (Number o) p q a b e = (let h : n ≡ o = cc in ap Number h)
@@ -86,7 +86,7 @@ module _ (cl : List Term) (bound : ℕ) where
           let var : v ≡ w = ap var_of (sym ef) ∙ same.var ∙ ap var_of eg in
           let idx : map (atom_class cl) ix ≡ map (atom_class cl) iy
           = ap (λ (t : Test). map (atom_class cl) (index_of t)) (sym ef) ∙ same.index ∙ ap (λ (t : Test). map (atom_class cl) (index_of t)) eg in
-          let subject : SameSubject f.test g.test = rw (ef, eg) (var, own_index ix iy (recursion_from_All (IsAtom (length cl)) ix af.1) (recursion_from_All (IsAtom (length cl)) iy ag.1) bf.0 bg.0 idx) in
+          let subject : SameSubject f.test g.test = rw (ef, eg) (var, own_index ix iy af.1 ag.1 bf.0 bg.0 idx) in
           let h : Tells g.yes (number_of f.test) (number_of g.test) = agree passed subject in
           rw (own_term (length cl) t af.2 bf.1, own_term (length cl) u ag.2 bg.1) (tells g.yes t u (rw (ef, eg) at h))
 
@@ -117,10 +117,10 @@ module _ (ranks : List ℕ) (v : View) (ctx : IsContext v) (bound arrays : ℕ) 
   BeforeAll path (Asks t y n) = Before path t
 
   all_tests : (f : Fact) → Among f v.facts → IsTest (length v.classes) f.test
-  all_tests = from_all (λ f. IsTest (length v.classes) f.test) v.facts (recursion_from_All (λ (f : Fact). IsTest (length v.classes) f.test) v.facts ctx.rules.tests)
+  all_tests = among_at (λ f. IsTest (length v.classes) f.test) v.facts ctx.rules.tests
 
   all_pairs : (f : Fact) → Among f v.facts → All (PairRule v.classes f) v.facts
-  all_pairs = from_all (λ f. All (PairRule v.classes f) v.facts) v.facts (recursion_from_All (λ f. All (PairRule v.classes f) v.facts) v.facts ctx.rules.paired)
+  all_pairs = among_at (λ f. All (PairRule v.classes f) v.facts) v.facts ctx.rules.paired
 
   rules : (path : List Fact) → IsPath path → Rules (v.facts ++ path) v.classes
   rules path h = record {
@@ -191,10 +191,9 @@ module _ (ranks : List ℕ) (v : View) (ctx : IsContext v) (bound arrays : ℕ) 
     own_number : (n : ℕ) → AtomIsWithin s (Number n) → AtomIsOwn v.classes bound (Number n)
     own_number n w = ((λ d l h e. absurd (elim (subst (IsOutside s) e ((apart d l).1 h).0) [ inl g ↦ omega (arith, g, w.0) | inr g ↦ omega (arith, g, w.1) ])), tt)
 
-    own_atoms : (ix : List Atom) → AllByRecursion (IsAtom (length v.classes)) ix → AllByRecursion (AtomOver e.comps) ix → AllByRecursion (AtomIsWithin s) ix → AllByRecursion (AtomIsOwn v.classes bound) ix
-    own_atoms [] i o w = tt
-    own_atoms (Number n ∷ ix) i o w = (own_number n w.0, own_atoms ix i.1 o.1 w.1)
-    own_atoms (Comp c ∷ ix) i o w = (own_comp c i.0 o.0, own_atoms ix i.1 o.1 w.1)
+    own_atom : (a : Atom) → IsAtom (length v.classes) a → AtomOver e.comps a → AtomIsWithin s a → AtomIsOwn v.classes bound a
+    own_atom (Number n) i o w = own_number n w
+    own_atom (Comp c) i o w = own_comp c i o
 
     own_of_term : (t : Term) → IsTerm (length v.classes) t → TermOver e.comps t → TermOver s.terms t → TermIsOwn v.classes t
     own_of_term (Num n) i o w = tt
@@ -225,7 +224,7 @@ module _ (ranks : List ℕ) (v : View) (ctx : IsContext v) (bound arrays : ℕ) 
         test = subst (λ (n : ℕ). IsTest n (State w ix t)) size (test_is sz (State w ix t) bounds.0 over.1)
 
         longer : (b : Bool) → IsPath (with_last path u b)
-        longer b = path_more path u b h test (refl, subst (λ (a : ℕ). IsAmong a w) set over.0.0) (own_atoms ix (recursion_from_All (IsAtom (length v.classes)) ix test.1) over.0.1 asks.0.0, own_of_term t test.2 over.0.2 asks.0.1) before
+        longer b = path_more path u b h test (refl, subst (λ (a : ℕ). IsAmong a w) set over.0.0) ((λ i d l. own_atom (get_or ix i d) (test.1 i d l) (over.0.1 i d l) (asks.0.0 i d l)), own_of_term t test.2 over.0.2 asks.0.1) before
 
         added : (b : Bool) → length (with_last path u b) ≡ length path + 1
         added b = length-append path (record { test = u; yes = b } ∷ [])
@@ -245,9 +244,9 @@ module _ (ranks : List ℕ) (v : View) (ctx : IsContext v) (bound arrays : ℕ) 
 -- the law
 pub places_live : (g : Grouping) (v : View) (ctx : IsContext v) (e : Tested) (s : Spelling) (bound : ℕ) (t : Test) (y n d : Diagram) → d ≡ Asks t y n
     → AreKept v.classes e.comps bound → AreApart v.classes e.comps bound s
-    → AllByRecursion (StandsAside g.ranks v.classes bound e.arrays t) v.facts → AsksPlaces s d → TestsOver e d → IsDiagram g.ranks (sizes g v) d → length v.facts + depth d ≤ 2 ^ 32 → IsLive (Met v) d
+    → All (StandsAside g.ranks v.classes bound e.arrays t) v.facts → AsksPlaces s d → TestsOver e d → IsDiagram g.ranks (sizes g v) d → length v.facts + depth d ≤ 2 ^ 32 → IsLive (Met v) d
 places_live g v ctx e s bound t y n d is kept apart aside asks over diagram short =
-    let stands = from_all (StandsAside g.ranks v.classes bound e.arrays t) v.facts aside in
+    let stands = among_at (StandsAside g.ranks v.classes bound e.arrays t) v.facts aside in
     let i : IsDiagram g.ranks (sizes g v) (Asks t y n) = subst (IsDiagram g.ranks (sizes g v)) is diagram in
     rw is (live_path g.ranks v ctx bound e.arrays (sizes g v) refl e refl s kept apart (Met v) [] (Asks t y n)
     (λ m k p meets. record { packet = p; facts = subst (λ (fs : List Fact). Meets fs m k) (append-nil v.facts) meets })

@@ -1,28 +1,25 @@
 -- Nothing is dead below calm facts in a quiet diagram.
-use Rattle.std.proofs.Common.{◌≡◌, inl, inr, ℕ, zero, suc, Option, Some, None, ◌+◌, ◌<◌, ◌≤◌, ◌^◌, Bool, true, false, List, [], ◌∷◌, length, refl, sym, ap, subst, ◌∙◌, arith, length-append}
+use Rattle.std.proofs.Common.{◌≡◌, inl, inr, ℕ, zero, suc, Option, Some, None, ◌+◌, ◌<◌, ◌≤◌, ◌^◌, Bool, true, false, List, [], ◌∷◌, length, refl, sym, ap, subst, ◌∙◌, arith, length-append, get_or}
 use Rattle.std.specs.declared.cmp.Ordering.TheVariants.{Less}
 use Rattle.snap_core.specs.declared.policy.Atom.{Atom}
 use Rattle.snap_core.specs.declared.policy.Term.{Term}
 use Rattle.snap_core.specs.declared.policy.Term.TheVariants.{Num, Plus}
 use Rattle.snap_core.specs.declared.policy.Test.{Test}
 use Rattle.snap_core.specs.declared.policy.Test.TheVariants.{Value, Equal as Same, State}
-use Rattle.std.specs.List.{AllByRecursion}
 use Rattle.std.specs.Prelude.{◌==◌, All, slice_get, slice_index}
 use Rattle.std.proofs.lemmas.Option.{slice_get-get_or}
 use Rattle.std.proofs.lemmas.Bool.{eqb-true, eqb-false}
-use Rattle.std.proofs.lemmas.List.Elements.{All-from_recursion, recursion_from_All}
-use Rattle.snap_core.specs.declared.policy.Atom.TheVariants.{Num as Number, Comp}
+use Rattle.std.proofs.lemmas.List.Elements.{All-weaker}
+use Rattle.snap_ctx.proofs.Fitting.{is_atom, is_term}
 use Rattle.snap_core.specs.Arrays.{Arrays, place_at}
-use Rattle.snap_core.specs.Fits.{AtomFits}
-use Rattle.snap_core.specs.Tests.{passes, TermFits}
-use Rattle.snap_core.specs.Ranges.{AtomInRange, TermInRange}
+use Rattle.snap_core.specs.Tests.{passes}
 use Rattle.snap_core.specs.Listing.{number_in}
 use Rattle.snap_core.specs.Inputs.{IsPacket}
 use Rattle.snap_ctx.specs.declared.fact.Fact.{Fact}
-use Rattle.snap_ctx.specs.Classes.{IsAtom, IsTerm, IsTest}
+use Rattle.snap_ctx.specs.Classes.{IsTest}
 use Rattle.snap_ctx.specs.Meets.{Meets, IsMet}
 use Rattle.snap_ctx.specs.Lean.{Among}
-use Rattle.snap_ctx.proofs.Among.{among_last, from_all}
+use Rattle.snap_ctx.proofs.Among.{among_at, among_last}
 use Rattle.snap_ctx.proofs.Last.{with_last, last_parts}
 use Rattle.snap_ctx.specs.View.{View}
 use Rattle.snap_dep.specs.Ranks.{Grouping}
@@ -114,19 +111,10 @@ before_more ranks facts t b (Asks u y n) before above other = λ f a. elim (amon
   | inr e ↦ rw e (above, other)
 ]
 
-atoms_are : (comps : ℕ) (ix : List Atom) → AllByRecursion (AtomFits comps) ix → AllByRecursion AtomInRange ix → AllByRecursion (IsAtom comps) ix
-atoms_are comps [] f r = tt
-atoms_are comps (Number n ∷ ix) f r = (r.0, atoms_are comps ix f.1 r.1)
-atoms_are comps (Comp c ∷ ix) f r = (f.0, atoms_are comps ix f.1 r.1)
-
-term_is : (comps : ℕ) (t : Term) → TermFits comps t → TermInRange t → IsTerm comps t
-term_is comps (Num n) f r = r
-term_is comps (Plus c p) f r = (f, r)
-
 test_is : (sz : Sizes) (s : Survey) (t : Test) → TestIn sz t → IsFine s t → IsTest sz.comps t
 test_is sz s (Value c n) i f = (i.0, f.0)
 test_is sz s (Same l r p) i f = absurd f
-test_is sz s (State v ix t) i f = (i.1.few, All-from_recursion (IsAtom sz.comps) ix (atoms_are sz.comps ix i.1.atoms (recursion_from_All AtomInRange ix f.1)), term_is sz.comps t i.2 f.0)
+test_is sz s (State v ix t) i f = (i.1.few, (λ j d l. is_atom sz.comps (get_or ix j d) (i.1.atoms j d l) (f.1 j d l)), is_term sz.comps t i.2 f.0)
 
 -- those that meet one fact more
 more : (P : Arrays → List ℕ → Type 0) (facts : List Fact) (t : Test) (b : Bool) (comps : ℕ) → ((m : Arrays) (k : List ℕ) → IsPacket comps k → Meets facts m k → P m k)
@@ -183,19 +171,15 @@ agree_on s clear (State v ix t) (State w iy u) y m k ft fu p q e = elim (both_as
     numbers (Num n) (Plus c x) i j p q = absurd j
     numbers (Plus c x) u i j p q = absurd i
 
-pub met_calm : (comps : ℕ) (s : Survey) → IsClear s → (facts : List Fact) → IsMet comps facts → All (λ f. IsTest comps f.test) facts → AllByRecursion (λ f. IsFine s f.test) facts → IsCalm comps s facts
+pub met_calm : (comps : ℕ) (s : Survey) → IsClear s → (facts : List Fact) → IsMet comps facts → All (λ f. IsTest comps f.test) facts → All (λ f. IsFine s f.test) facts → IsCalm comps s facts
 met_calm comps s clear facts met tests fine = record {
-  tests = from_all (λ f. IsTest comps f.test) facts (recursion_from_All (λ (f : Fact). IsTest comps f.test) facts tests);
-  fine = from_all (λ f. IsFine s f.test) facts fine;
+  tests = among_at (λ f. IsTest comps f.test) facts tests;
+  fine = among_at (λ f. IsFine s f.test) facts fine;
   agree = λ f g a b passed same.
       let m = number_in met.entries in
-      let meets = from_all (λ f. passes f.test m met.packet ≡ f.yes) facts (recursion_from_All (λ (f : Fact). passes f.test m met.packet ≡ f.yes) facts met.meets) in
-      agree_on s clear f.test g.test g.yes m met.packet (from_all (λ f. IsFine s f.test) facts fine f a) (from_all (λ f. IsFine s f.test) facts fine g b) (meets f a ∙ passed) (meets g b) same;
+      let meets = among_at (λ f. passes f.test m met.packet ≡ f.yes) facts met.meets in
+      agree_on s clear f.test g.test g.yes m met.packet (among_at (λ f. IsFine s f.test) facts fine f a) (among_at (λ f. IsFine s f.test) facts fine g b) (meets f a ∙ passed) (meets g b) same;
 }
-
-all_fine : (ranks : List ℕ) (s : Survey) (t : Test) (facts : List Fact) → AllByRecursion (StandsBefore ranks s t) facts → AllByRecursion (λ f. IsFine s f.test) facts
-all_fine ranks s t [] h = tt
-all_fine ranks s t (f ∷ fs) h = (h.0.0, all_fine ranks s t fs h.1)
 
 -- ---- the diagram of a number is no deeper than the number
 depth_under : (ns : List (Node Leaf)) → IsArena ns → (k d : ℕ) → d < k → d < length ns → depth (diagram ns d) ≤ d
@@ -214,11 +198,11 @@ pub depth_le : (ns : List (Node Leaf)) → IsArena ns → (d : ℕ) → d < leng
 depth_le ns a d h = depth_under ns a (d + 1) d (omega arith) h
 
 pub stays_live : (g : Grouping) (s : Survey) → IsClear s → (v : View) (t : Test) (y n d : Diagram) → d ≡ Asks t y n → length v.classes ≤ 64 → IsMet (length v.classes) v.facts → All (λ f. IsTest (length v.classes) f.test) v.facts
-    → AllByRecursion (StandsBefore g.ranks s t) v.facts → IsQuiet s d → IsDiagram g.ranks (sizes g v) d → length v.facts + depth d ≤ 2 ^ 32 → IsLive (Met v) d
+    → All (StandsBefore g.ranks s t) v.facts → IsQuiet s d → IsDiagram g.ranks (sizes g v) d → length v.facts + depth d ≤ 2 ^ 32 → IsLive (Met v) d
 stays_live g s clear v t y n d e few met tests before quiet diagram short =
-    let stands = from_all (StandsBefore g.ranks s t) v.facts before in
+    let stands = among_at (StandsBefore g.ranks s t) v.facts before in
     let q : IsQuiet s (Asks t y n) = subst (IsQuiet s) e quiet in
     let i : IsDiagram g.ranks (sizes g v) (Asks t y n) = subst (IsDiagram g.ranks (sizes g v)) e diagram in
     rw e (quiet_live g.ranks (sizes g v) s clear (Met v) v.facts (Asks t y n) few (λ m k p h. record { packet = p; facts = h })
-    (met_calm (length v.classes) s clear v.facts met tests (all_fine g.ranks s t v.facts before))
+    (met_calm (length v.classes) s clear v.facts met tests (All-weaker (StandsBefore g.ranks s t) (λ f. IsFine s f.test) (λ f h. h.0) v.facts before))
     (λ f a. ((stands f a).1, (stands f a).2)) q i.ordered i.bounds (subst (λ (x : Diagram). length v.facts + depth x ≤ 2 ^ 32) e short))

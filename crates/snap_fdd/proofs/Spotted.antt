@@ -1,11 +1,11 @@
 -- Places that are apart, and what is known of two of them.
 use Rattle.std.proofs.Common.{◌≡◌, ◌⊎◌, inl, inr, ℕ, zero, suc, ◌<◌, Option, Some, None, List, [], ◌∷◌, ◌++◌, length, get_or, refl, sym, subst, ◌∙◌, arith}
 use Rattle.std.specs.Prelude.{slice_get}
-use Rattle.std.specs.List.{AllByRecursion}
+use Rattle.std.specs.List.{All}
+use Rattle.std.proofs.lemmas.List.Elements.{All-nil, All-push, All-tail}
 use Rattle.snap_core.specs.declared.policy.Atom.{Atom}
 use Rattle.snap_core.specs.declared.policy.Atom.TheVariants.{Num as Number, Comp}
 use Rattle.snap_core.specs.declared.policy.Term.{Term}
-use Rattle.snap_ctx.proofs.Each.{Each-append}
 use Rattle.snap_fdd.specs.declared.spots.Asked.{Asked}
 use Rattle.snap_fdd.specs.declared.spots.Asked.TheVariants.{Numbers, Only}
 use Rattle.snap_fdd.specs.declared.spots.Spot.{Spot}
@@ -16,10 +16,10 @@ use Rattle.snap_fdd.specs.Quiet.{IndexIsFine, SeenClear, IsClear}
 use Rattle.snap_fdd.specs.Spots.{IsNumber, AskedFor, AtomsApart, IndicesApart, SpotsApart, IsAt}
 
 -- one place more, apart from all
-pub apart_push : (values : ℕ) (spots : List Spot) (x : Spot) → SpotsApart values spots → AllByRecursion (λ (b : Spot). IndicesApart values b.index x.index) spots → SpotsApart values (spots ++ x ∷ [])
-apart_push values [] x h a = (tt, tt)
+pub apart_push : (values : ℕ) (spots : List Spot) (x : Spot) → SpotsApart values spots → All (λ (b : Spot). IndicesApart values b.index x.index) spots → SpotsApart values (spots ++ x ∷ [])
+apart_push values [] x h a = (All-nil (λ (b : Spot). IndicesApart values x.index b.index), tt)
 apart_push values (y ∷ ys) x h a =
-    (Each-append (λ (b : Spot). IndicesApart values y.index b.index) ys (x ∷ []) h.0 (a.0, tt), apart_push values ys x h.1 a.1)
+    (All-push (λ (b : Spot). IndicesApart values y.index b.index) ys x h.0 (a 0 y (omega arith)), apart_push values ys x h.1 (All-tail (λ (b : Spot). IndicesApart values b.index x.index) y ys a))
 
 -- the spot of a number
 pub at_number : (spots : List Spot) (i : ℕ) (d : Spot) (ix : List Atom) (t : Term) → i < length spots → (get_or spots i d).index ≡ ix → AskedFor (get_or spots i d).asked t → IsAt spots ix t
@@ -39,10 +39,10 @@ both_asked (Only x) t u h i = inl (h ∙ sym i)
 abbrev pub OneOrApart : ℕ → List Atom → List Atom → Term → Term → Type 0
 OneOrApart values ix iy t u = ((ix ≡ iy) × BothAsked t u) ⊎ (IndicesApart values ix iy ⊎ IndicesApart values iy ix)
 
-apart_from : (values : ℕ) (iz : List Atom) (spots : List Spot) (ix : List Atom) (t : Term) → AllByRecursion (λ (b : Spot). IndicesApart values iz b.index) spots → IsAt spots ix t → IndicesApart values iz ix
+apart_from : (values : ℕ) (iz : List Atom) (spots : List Spot) (ix : List Atom) (t : Term) → All (λ (b : Spot). IndicesApart values iz b.index) spots → IsAt spots ix t → IndicesApart values iz ix
 apart_from values iz [] ix t h a = absurd a
-apart_from values iz (b ∷ spots) ix t h (inl e) = subst (IndicesApart values iz) e.0 h.0
-apart_from values iz (b ∷ spots) ix t h (inr a) = apart_from values iz spots ix t h.1 a
+apart_from values iz (b ∷ spots) ix t h (inl e) = subst (IndicesApart values iz) e.0 (h 0 b (omega arith))
+apart_from values iz (b ∷ spots) ix t h (inr a) = apart_from values iz spots ix t (All-tail (λ (b : Spot). IndicesApart values iz b.index) b spots h) a
 
 pub one_or_apart : (values : ℕ) (spots : List Spot) (ix iy : List Atom) (t u : Term) → SpotsApart values spots → IsAt spots ix t → IsAt spots iy u → OneOrApart values ix iy t u
 one_or_apart values [] ix iy t u h a b = absurd a
@@ -65,10 +65,10 @@ abbrev pub ClearAt : ℕ → Option Seen → Type 0
 ClearAt values (Some s) = SeenClear values s
 ClearAt values None = Unit {0}
 
-all_clear : (values : ℕ) (xs : List Seen) (v : ℕ) → AllByRecursion (SeenClear values) xs → ClearAt values (slice_get xs v)
+all_clear : (values : ℕ) (xs : List Seen) (v : ℕ) → All (SeenClear values) xs → ClearAt values (slice_get xs v)
 all_clear values [] v h = tt
-all_clear values (x ∷ xs) zero h = h.0
-all_clear values (x ∷ xs) (suc v) h = all_clear values xs v h.1
+all_clear values (x ∷ xs) zero h = h 0 x (omega arith)
+all_clear values (x ∷ xs) (suc v) h = all_clear values xs v (All-tail (SeenClear values) x xs h)
 
 pub clear_at : (s : Survey) (v : ℕ) → IsClear s → ClearAt s.values (slice_get s.arrays.items v)
 clear_at s v h = all_clear s.values s.arrays.items v h

@@ -1,20 +1,13 @@
 -- What marks of tests say of diagrams.
-use Rattle.std.proofs.Common.{◌≡◌, inl, inr, ℕ, bit_or}
+use Rattle.std.proofs.Common.{◌≡◌}
 use Rattle.snap_core.specs.declared.policy.Test.{Test}
 use Rattle.snap_ctx.proofs.Testing.{test_left, test_right}
-use Rattle.snap_ctx.specs.Known.{IsAmong, TestOver}
+use Rattle.snap_ctx.specs.Known.{TestOver}
 use Rattle.snap_core.specs.Ranges.{TestInRange}
 use Rattle.snap_ctx.specs.declared.tested.Tested.{Tested}
 use Rattle.snap_ctx.specs.Tested.{either_tested}
-use Rattle.snap_dep.proofs.Sets.{in_or}
 use Rattle.snap_fdd.specs.Diagrams.{Diagram, Only, Asks}
 use Rattle.snap_fdd.specs.Tested.{TestsOver}
-
-pub among_left : (a b n : ℕ) → IsAmong a n → IsAmong (bit_or a b) n
-among_left a b n h = λ l. (in_or a b n).1 (inl (h l))
-
-pub among_right : (a b n : ℕ) → IsAmong b n → IsAmong (bit_or a b) n
-among_right a b n h = λ l. (in_or a b n).1 (inr (h l))
 
 over_left : (a b : Tested) (d : Diagram) → TestsOver a d → TestsOver (either_tested a b) d
 over_left a b (Only l) h = tt

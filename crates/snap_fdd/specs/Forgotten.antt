@@ -1,7 +1,7 @@
 -- Facts that no test of a diagram bears on.
 use Rattle.std.specs.Prelude.{◌≡◌, ◌≢◌, ◌⊎◌, ℕ, ◌+◌, ◌<◌, ◌≤◌, true, List, length}
 use Rattle.std.specs.declared.cmp.Ordering.TheVariants.{Less}
-use Rattle.std.specs.List.{AllByRecursion}
+use Rattle.std.specs.List.{All}
 use Rattle.snap_core.specs.declared.policy.Atom.{Atom}
 use Rattle.snap_core.specs.declared.policy.Atom.TheVariants.{Num as Number}
 use Rattle.snap_core.specs.declared.policy.Term.{Term}
@@ -25,7 +25,7 @@ IsPast ranks t f = (test_cmp ranks f.test t ≡ Less) × (¬ (SameSubject f.test
 
 -- the class is a number, and no atom of the index is that one
 abbrev pub IsMissed : List Atom → Term → Type 0
-IsMissed ix (Num n) = AllByRecursion (λ a. a ≢ Number n) ix
+IsMissed ix (Num n) = All (λ a. a ≢ Number n) ix
 IsMissed ix (Plus c p) = ⊥
 
 -- so is the class of each component of the set
@@ -39,7 +39,7 @@ IsDone ranks cl e t f = IsPlain f.test × ((¬ (IsAmong e.arrays (var_of f.test)
 -- w is the context v without facts that are done
 pub record IsLeaner (ranks : List ℕ) (v w : View) (e : Tested) (t : Test) : Type 0 where
   pub gone : List Fact
-  pub done : AllByRecursion (IsDone ranks v.classes e t) gone
+  pub done : All (IsDone ranks v.classes e t) gone
   pub context : IsContext v
   pub classes : w.classes ≡ v.classes
   pub lean : IsLean v.facts w.facts gone

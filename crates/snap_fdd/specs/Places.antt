@@ -1,7 +1,7 @@
 -- Diagrams that test places alone, and facts that leave them as they are.
 use Rattle.std.specs.Prelude.{◌≡◌, ◌⊎◌, ℕ, ◌<◌, ◌≤◌, Bool, true, false, List, length}
 use Rattle.std.specs.declared.cmp.Ordering.TheVariants.{Less}
-use Rattle.std.specs.List.{AllByRecursion}
+use Rattle.std.specs.List.{All}
 use Rattle.snap_core.specs.declared.policy.Atom.{Atom}
 use Rattle.snap_core.specs.declared.policy.Atom.TheVariants.{Num as Number, Comp}
 use Rattle.snap_core.specs.declared.policy.Term.{Term}
@@ -28,7 +28,7 @@ AtomIsWithin s (Comp c) = Unit {0}
 abbrev pub IsWithin : Spelling → Test → Type 0
 IsWithin s (Value c n) = ⊥
 IsWithin s (Equal l r p) = ⊥
-IsWithin s (State v ix t) = AllByRecursion (AtomIsWithin s) ix × TermOver s.terms t
+IsWithin s (State v ix t) = All (AtomIsWithin s) ix × TermOver s.terms t
 
 -- each test is of a place, spelled so, and of another one than the test behind it where it passes
 abbrev pub AsksPlaces : Spelling → Diagram → Type 0
@@ -63,7 +63,7 @@ TermIsOwn cl (Plus c p) = class_of cl c ≡ Plus c 0
 abbrev pub IsOwn : List Term → ℕ → Test → Type 0
 IsOwn cl bound (Value c n) = ⊥
 IsOwn cl bound (Equal l r p) = ⊥
-IsOwn cl bound (State v ix t) = AllByRecursion (AtomIsOwn cl bound) ix × TermIsOwn cl t
+IsOwn cl bound (State v ix t) = All (AtomIsOwn cl bound) ix × TermIsOwn cl t
 
 -- no number of an index
 abbrev pub IsOutside : Spelling → Term → Type 0

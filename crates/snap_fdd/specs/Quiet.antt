@@ -1,7 +1,7 @@
 -- Diagrams in which nothing can be dead: they test components for numbers, and places for numbers or one term, and no place can turn out to be another.
 use Rattle.std.specs.Prelude.{◌≡◌, ℕ, ◌<◌, ◌^◌, Bool, true, false, Option, Some, None, List, slice_get}
 use Rattle.std.specs.declared.cmp.Ordering.TheVariants.{Less}
-use Rattle.std.specs.List.{All, AllByRecursion}
+use Rattle.std.specs.List.{All}
 use Rattle.snap_core.specs.declared.policy.Atom.{Atom}
 use Rattle.snap_core.specs.declared.policy.Atom.TheVariants.{Num as Number, Comp}
 use Rattle.snap_core.specs.declared.policy.Term.{Term}
@@ -26,7 +26,7 @@ SeenClear values (Few spots) = SpotsApart values spots.items
 SeenClear values Many = Unit {0}
 
 abbrev pub IsClear : Survey → Type 0
-IsClear s = AllByRecursion (SeenClear s.values) s.arrays.items
+IsClear s = All (SeenClear s.values) s.arrays.items
 
 -- an atom that no test of a component's number gives a number
 abbrev pub AtomIsFree : Survey → Atom → Type 0
@@ -36,7 +36,7 @@ AtomIsFree s (Comp c) = has s.values c ≡ false
 -- one of the places of the array, tested for the term, or an index of free atoms, tested for a number
 abbrev pub IndexIsFine : Survey → Option Seen → List Atom → Term → Type 0
 IndexIsFine s (Some (Few spots)) ix t = IsAt spots.items ix t
-IndexIsFine s (Some Many) ix t = AllByRecursion (AtomIsFree s) ix × IsNumber t
+IndexIsFine s (Some Many) ix t = All (AtomIsFree s) ix × IsNumber t
 IndexIsFine s None ix t = ⊥
 
 -- a test of a number, or of the one term that its place is tested for

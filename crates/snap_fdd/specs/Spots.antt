@@ -1,6 +1,6 @@
 -- Places of one array that no store and packet make one.
 use Rattle.std.specs.Prelude.{◌≡◌, ◌≢◌, ◌⊎◌, ℕ, ◌<◌, false, List, [], ◌∷◌, length, slice_index_or}
-use Rattle.std.specs.List.{AllByRecursion}
+use Rattle.std.specs.List.{All}
 use Rattle.snap_core.specs.declared.policy.Atom.{Atom}
 use Rattle.snap_core.specs.declared.policy.Atom.TheVariants.{Num as Number, Comp}
 use Rattle.snap_core.specs.declared.policy.Term.{Term}
@@ -31,7 +31,7 @@ IndicesApart values ix iy = (length ix ≢ length iy) ⊎ ((i : ℕ) × (i < len
 
 abbrev pub SpotsApart : ℕ → List Spot → Type 0
 SpotsApart values [] = Unit {0}
-SpotsApart values (a ∷ spots) = AllByRecursion (λ (b : Spot). IndicesApart values a.index b.index) spots × SpotsApart values spots
+SpotsApart values (a ∷ spots) = All (λ (b : Spot). IndicesApart values a.index b.index) spots × SpotsApart values spots
 
 -- one of the spots is at the index, and tested for the term
 abbrev pub IsAt : List Spot → List Atom → Term → Type 0

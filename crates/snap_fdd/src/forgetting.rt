@@ -2,7 +2,7 @@
 //! differ in such facts alone become one, where several ways lead to the diagram.
 
 ghost use Rattle.std.specs.Prelude.{◌≡◌, ◌≢◌, ◌∷◌, ◌↔◌, IfOk, IfSome, IsTrue, List, OnOk, [], length};
-ghost use Rattle.std.specs.List.{AllByRecursion};
+ghost use Rattle.std.specs.List.{All};
 ghost use Rattle.snap_core.specs.declared.policy.Atom.TheVariants.{Num as Number};
 ghost use Rattle.snap_ctx.specs.declared.fact.Fact.{Fact as AFact};
 ghost use Rattle.snap_ctx.specs.Classes.{index_of, var_of};
@@ -40,14 +40,9 @@ fn is_number(atom: Atom, num: u64) -> bool
 }
 
 fn has_no(index: &[Atom], num: u64) -> bool
-    ensures { IsTrue result → AllByRecursion (λ a. a ≢ Number num) index.now }
+    ensures { IsTrue result → All (λ a. a ≢ Number num) index.now }
 {
-    for atom in index {
-        if is_number(*atom, num) {
-            return false;
-        }
-    }
-    true
+    index.iter().all(|atom| !is_number(*atom, num))
 }
 
 fn is_missed(index: &[Atom], class: Term) -> bool
@@ -116,8 +111,8 @@ fn deal(
     gone: &mut Vec<Fact>,
 ) -> Result<(), NoMemory>
     requires rank { IsRanked (length groups.now.ranks) test.now }
-    requires done { AllByRecursion (IsDone groups.now.ranks ctx.now.classes mark test.now) gone.old.items }
-    ensures done { OnOk result (AllByRecursion (IsDone groups.now.ranks ctx.now.classes mark test.now) gone.new.items) }
+    requires done { All (IsDone groups.now.ranks ctx.now.classes mark test.now) gone.old.items }
+    ensures done { OnOk result (All (IsDone groups.now.ranks ctx.now.classes mark test.now) gone.new.items) }
     ensures dealt { OnOk result ((left others facts : List AFact) → left ≡ fact.now ∷ others → AreDealt left facts stay.old.items gone.old.items → AreDealt others facts stay.new.items gone.new.items) }
 {
     let copy = fact.copy()?;
@@ -141,7 +136,7 @@ fn deal_all(
     requires rank { IsRanked (length groups.now.ranks) test.now }
     requires stay { stay.old.items ≡ [] }
     requires gone { gone.old.items ≡ [] }
-    ensures done { OnOk result (AllByRecursion (IsDone groups.now.ranks ctx.now.classes mark test.now) gone.new.items) }
+    ensures done { OnOk result (All (IsDone groups.now.ranks ctx.now.classes mark test.now) gone.new.items) }
     ensures parted { OnOk result (AreParted ctx.now.facts stay.new.items gone.new.items) }
 {
     for fact in ctx.facts().iter() {
@@ -152,7 +147,7 @@ fn deal_all(
 
 // Whether a place of an array is another one than a test's, and is spelled by numbers.
 fn is_other_place(test: &Test, var: u16, index: &[Atom]) -> bool
-    ensures { IsTrue result → var ≡ var_of test.now → AllByRecursion IsFixed index.now × (index.now ≢ index_of test.now) }
+    ensures { IsTrue result → var ≡ var_of test.now → All IsFixed index.now × (index.now ≢ index_of test.now) }
 {
     match test {
         Test::State {
@@ -178,26 +173,16 @@ fn is_beside(fact: &Fact, other: &Fact) -> bool
 }
 
 fn is_beside_all(fact: &Fact, stay: &[Fact]) -> bool
-    ensures { IsTrue result → AllByRecursion (IsBeside fact.now) stay.now }
+    ensures { IsTrue result → All (IsBeside fact.now) stay.now }
 {
-    for other in stay {
-        if !is_beside(fact, other) {
-            return false;
-        }
-    }
-    true
+    stay.iter().all(|other| is_beside(fact, other))
 }
 
 // Whether the facts that stay are on other arrays than those that go, or at other numbers.
 fn are_beside(gone: &[Fact], stay: &[Fact]) -> bool
-    ensures { IsTrue result → AllByRecursion (λ f. AllByRecursion (IsBeside f) stay.now) gone.now }
+    ensures { IsTrue result → All (λ f. All (IsBeside f) stay.now) gone.now }
 {
-    for fact in gone {
-        if !is_beside_all(fact, stay) {
-            return false;
-        }
-    }
-    true
+    gone.iter().all(|fact| is_beside_all(fact, stay))
 }
 
 // The context without the facts that are done before a test, if there are any.

@@ -1,7 +1,6 @@
 //! Diagrams that test places alone: nothing is dead in them where a context leaves what is spelled differently different.
 
 ghost use Rattle.std.specs.Prelude.{◌≡◌, ◌<◌, All, IfOk, IsTrue, false, length, true};
-ghost use Rattle.std.specs.List.{AllByRecursion};
 ghost use Rattle.snap_core.specs.Arrays.{has};
 ghost use Rattle.snap_core.specs.declared.policy.Atom.TheVariants.{Comp as Component};
 ghost use Rattle.snap_core.specs.declared.policy.Term.TheVariants.{Plus};
@@ -93,14 +92,9 @@ fn atom_is_within(spelling: Spelling, atom: Atom) -> bool
 }
 
 fn index_is_within(spelling: Spelling, index: &[Atom]) -> bool
-    ensures { IsTrue result → AllByRecursion (AtomIsWithin spelling) index.now }
+    ensures { IsTrue result → All (AtomIsWithin spelling) index.now }
 {
-    for atom in index {
-        if !atom_is_within(spelling, *atom) {
-            return false;
-        }
-    }
-    true
+    index.iter().all(|atom| atom_is_within(spelling, *atom))
 }
 
 fn term_is_within(spelling: Spelling, term: Term) -> bool
@@ -312,14 +306,9 @@ fn term_is_own(ctx: &Context, term: Term) -> bool
 
 fn index_is_own(ctx: &Context, bound: u64, index: &[Atom]) -> bool
     requires { All (IsAtom (length ctx.now.classes)) index.now }
-    ensures { IsTrue result → AllByRecursion (AtomIsOwn ctx.now.classes bound) index.now }
+    ensures { IsTrue result → All (AtomIsOwn ctx.now.classes bound) index.now }
 {
-    for atom in index {
-        if !atom_is_own(ctx, bound, *atom) {
-            return false;
-        }
-    }
-    true
+    index.iter().all(|atom| atom_is_own(ctx, bound, *atom))
 }
 
 // Whether a test is of a place that is told apart from places that are spelled otherwise.
@@ -376,7 +365,7 @@ fn all_aside(
 ) -> bool
     requires rank { IsRanked (length groups.now.ranks) test.now }
     requires facts { All (λ f. IsTest (length ctx.now.classes) f.test) facts.now }
-    ensures { IsTrue result → AllByRecursion (StandsAside groups.now.ranks ctx.now.classes bound arrays test.now) facts.now }
+    ensures { IsTrue result → All (StandsAside groups.now.ranks ctx.now.classes bound arrays test.now) facts.now }
 {
     for fact in facts.iter() {
         if !stands_aside(groups, ctx, bound, arrays, fact, test) {

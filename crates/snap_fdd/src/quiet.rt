@@ -1,7 +1,6 @@
 //! Which diagrams nothing can be dead in, whatever comes before them.
 
 ghost use Rattle.std.specs.Prelude.{◌≡◌, ◌↔◌, ◌<◌, ◌≤◌, ℕ, All, IfOk, IsTrue, length, true};
-ghost use Rattle.std.specs.List.{AllByRecursion};
 ghost use Rattle.snap_ctx.specs.declared.fact.Fact.{Fact};
 ghost use Rattle.snap_fdd.specs.Contexts.{Met};
 ghost use Rattle.snap_fdd.specs.Diagrams.{diagram};
@@ -149,7 +148,7 @@ fn stands_before(groups: &Groups, survey: &Survey, fact: &Fact, test: &Test) -> 
 // Whether all facts are so.
 fn all_before(groups: &Groups, survey: &Survey, facts: &Facts, test: &Test) -> bool
     requires { IsRanked (length groups.now.ranks) test.now }
-    ensures { IsTrue result → AllByRecursion (StandsBefore groups.now.ranks survey.now test.now) facts.now }
+    ensures { IsTrue result → All (StandsBefore groups.now.ranks survey.now test.now) facts.now }
 {
     for fact in facts.iter() {
         if !stands_before(groups, survey, fact, test) {

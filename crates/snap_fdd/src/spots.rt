@@ -1,7 +1,7 @@
 //! Places of one array that no store and packet make one.
 
 ghost use Rattle.std.specs.Prelude.{◌≡◌, ◌↔◌, IsTrue, MatchOption};
-ghost use Rattle.std.specs.List.{AllByRecursion};
+ghost use Rattle.std.specs.List.{All};
 
 use snap_arena::equal::same_index;
 use snap_core::NoMemory;
@@ -123,14 +123,9 @@ fn indices_apart(values: u64, a: &[Atom], b: &[Atom]) -> bool
 }
 
 fn is_apart(values: u64, before: &[Spot], spot: &Spot) -> bool
-    ensures { IsTrue result → AllByRecursion (λ (other : Spot). IndicesApart values other.index spot.now.index) before.now }
+    ensures { IsTrue result → All (λ (other : Spot). IndicesApart values other.index spot.now.index) before.now }
 {
-    for other in before {
-        if !indices_apart(values, other.index.list(), spot.index.list()) {
-            return false;
-        }
-    }
-    true
+    before.iter().all(|other| indices_apart(values, other.index.list(), spot.index.list()))
 }
 
 /// Whether no two of the places turn out to be one, where the components of a set have numbers.

@@ -1,7 +1,6 @@
 //! What a diagram tests: a look before pruning, so that what can't be dead is left as it is.
 
 ghost use Rattle.std.specs.Prelude.{◌≡◌, ◌↔◌, ◌<◌, ◌≤◌, All, IfOk, IsTrue, length, slice_get};
-ghost use Rattle.std.specs.List.{AllByRecursion};
 ghost use Rattle.snap_fdd.specs.Quiet.{AtomIsFree, IndexIsFine, IsClear, IsFine, SeenClear};
 ghost use Rattle.snap_fdd.specs.Spots.{IsNumber};
 
@@ -86,7 +85,7 @@ impl Survey {
     }
 
     fn are_free(&self, index: &Atoms) -> bool
-        ensures { IsTrue result ↔ AllByRecursion (AtomIsFree self.now) index.now }
+        ensures { IsTrue result ↔ All (AtomIsFree self.now) index.now }
     {
         index.list().iter().all(|atom| self.is_free(*atom))
     }
@@ -147,7 +146,7 @@ fn judged(values: u64, seen: Seen) -> Seen
 }
 
 fn all_judged(alloc: Global, values: u64, arrays: Vec<Seen>) -> Result<Vec<Seen>, NoMemory>
-    ensures { IfOk result (λ arrays. AllByRecursion (SeenClear values) arrays.items) }
+    ensures { IfOk result (λ arrays. All (SeenClear values) arrays.items) }
 {
     let mut all = Vec::new(alloc);
     for seen in arrays {

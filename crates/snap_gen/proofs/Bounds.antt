@@ -17,8 +17,8 @@ use Rattle.snap_rows.specs.declared.head.Sent.{Sent}
 use Rattle.snap_rows.specs.Entries.{next, port_at, port_numbers, rank_at, ranks}
 use Rattle.snap_rows.specs.Form.{switch_count}
 use Rattle.snap_rows.specs.Handles.{Handles, seeks, visits, concludes, delivers, carries, sent}
-use Rattle.snap_rows.specs.Network as network
-use Rattle.snap_rows.specs.Network.{Net, Copy, Event, Happening, Crossed, Delivered, Forked, Leads, Runs, Run, inject, step, moved, happening}
+use Rattle.snap_rows.specs.Network.{Net, Copy, Event, Happening, Crossed, Delivered, Forked, Leads, Run, inject, step, moved, happening}
+use Rattle.snap_rows.proofs.Runs.{runs-tell}
 use Rattle.snap_rows.proofs.Rows.{some_injective, All-get}
 use Rattle.snap_rows.proofs.Ports.{port_is_found}
 use Rattle.snap_gen.specs.Agreement.{sent_of, lost_of}
@@ -141,17 +141,10 @@ module _ (t : Tables) (two : IsTwo t) (dist : ℕ → ℕ → ℕ) (d : ℕ) (fa
         happens_within c mine a,
       )
 
-  all_steps : {s s' : Net} {es : List Event} {hs : List Happening} → Runs t s es s' hs → All Within s.flying → All Within s'.flying × All (IsDeliveredWithin ((ranks t + 1) * d)) hs
-  all_steps network.done all = (all, All-nil (IsDeliveredWithin ((ranks t + 1) * d)))
-  all_steps (network.on {h = h} {hs = hs} leads rest) all =
-      let first = one_step leads all in
-      let more = all_steps rest first.0 in
-      (more.0, All-append (IsDeliveredWithin ((ranks t + 1) * d)) h hs first.1 more.1)
-
   -- after every list of events
   pub stays_within : (m : Arrays) (es : List Event) (s : Net) (hs : List Happening) → Run t m es s hs → IsWithin ((ranks t + 1) * d) s hs
   stays_within m es s hs run =
-      let all = all_steps run (All-nil Within) in record {
+      let all = runs-tell (λ (n : Net). All Within n.flying) (IsDeliveredWithin ((ranks t + 1) * d)) run (λ s s' e h leads kept. one_step leads kept) (All-nil Within) in record {
         flying = All-weaker Within (λ c. (c.hops ≤ (ranks t + 1) * d) × (c.steps ≤ (ranks t + 1) * d + 2)) (λ c i. (let f = few c.at c.hops c.steps c.head i.head in (f.0, (let l = f.1 in omega (arith, l))))) s.flying all.0;
         delivered = all.1;
       }

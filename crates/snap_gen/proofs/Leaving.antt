@@ -1,14 +1,15 @@
 -- The copies of a packet in flight, step by step, and how they leave the network.
-use Rattle.std.proofs.Common.{◌≡◌, ◌≢◌, ℕ, suc, ◌+◌, Bool, true, false, cond, List, [], ◌∷◌, ◌++◌, take, drop, map, Some, refl, sym, ap, subst, ◌∙◌, arith, append_assoc}
+use Rattle.std.proofs.Common.{◌≡◌, ◌≢◌, ℕ, suc, ◌+◌, cond, List, [], ◌∷◌, ◌++◌, take, drop, map, Some, refl, sym, ap, subst, ◌∙◌, arith, append_assoc}
 use Rattle.std.specs.Prelude.{slice_get, slice_index, nat_eq}
 use Rattle.std.specs.List.{All, filter}
 use Rattle.std.specs.List.Sorted.{IsPermutation}
 use Rattle.std.proofs.Math.Seq.{split_at}
 use Rattle.std.proofs.lemmas.Bool.{eq-eqb, ne_eqb}
 use Rattle.std.proofs.lemmas.List.{append-nil, map-append}
-use Rattle.std.proofs.lemmas.List.Elements.{All-nil, All-cons, All-head, All-tail, All-append, All-map, filter-append}
+use Rattle.std.proofs.lemmas.List.Elements.{All-cons, All-head, All-tail, All-append, All-map, filter-append}
 use Rattle.std.proofs.lemmas.List.Sorted.{IsPermutation-refl, IsPermutation-trans, IsPermutation-append_right, IsPermutation-middle, IsPermutation-sym}
 use Rattle.std.proofs.lemmas.Option.{slice_get_within, get_or_from_slice_get}
+use Rattle.snap_core.proofs.Elements.{All-back, All-front}
 use Rattle.snap_core.specs.Arrays.{Arrays}
 use Rattle.snap_core.specs.Packets.{PacketSet}
 use Rattle.snap_core.specs.Switch.{delivered}
@@ -18,32 +19,11 @@ use Rattle.snap_rows.specs.declared.head.Head.TheVariants.{Out}
 use Rattle.snap_rows.specs.declared.head.Sent.{Sent}
 use Rattle.snap_rows.specs.Entries.{port_numbers}
 use Rattle.snap_rows.specs.Handles.{sent}
-use Rattle.snap_rows.specs.Network.{Net, Copy, Happening, Crossed, Delivered, Forked, moved, happening, stepped}
+use Rattle.snap_rows.specs.Network.{Net, Copy, Happening, moved, happening, stepped}
 use Rattle.snap_rows.specs.Happenings.{deliveries_of, losses_of}
+use Rattle.snap_rows.proofs.Happenings.{deliveries_of-append, losses_of-append}
 use Rattle.snap_gen.specs.Agreement.{sent_of, lost_of, CameOut}
 use Rattle.snap_gen.proofs.Nodes.{OutDoes, is_delivered, is_carried}
-
--- ---- happenings one after another
-pub deliveries_more : (i : ℕ) (hs gs : List Happening) → deliveries_of i (hs ++ gs) ≡ deliveries_of i hs ++ deliveries_of i gs
-deliveries_more i [] gs = refl
-deliveries_more i (Delivered c port ∷ hs) gs = by (nat_eq c.number i) (deliveries_more i hs gs)
-  where
-    by : (b : Bool) → deliveries_of i (hs ++ gs) ≡ deliveries_of i hs ++ deliveries_of i gs
-        → cond b (record { port = port; packet = c.packet } ∷ deliveries_of i (hs ++ gs)) (deliveries_of i (hs ++ gs)) ≡ cond b (record { port = port; packet = c.packet } ∷ deliveries_of i hs) (deliveries_of i hs) ++ deliveries_of i gs
-    by true e = ap (λ l. record { port = port; packet = c.packet } ∷ l) e
-    by false e = e
-deliveries_more i (Crossed c to head ∷ hs) gs = deliveries_more i hs gs
-deliveries_more i (Forked c copies l ∷ hs) gs = deliveries_more i hs gs
-
-pub losses_more : (i : ℕ) (hs gs : List Happening) → losses_of i (hs ++ gs) ≡ losses_of i hs ++ losses_of i gs
-losses_more i [] gs = refl
-losses_more i (Delivered c port ∷ hs) gs = losses_more i hs gs
-losses_more i (Crossed c to head ∷ hs) gs = losses_more i hs gs
-losses_more i (Forked c copies l ∷ hs) gs = by (nat_eq c.number i) (losses_more i hs gs)
-  where
-    by : (b : Bool) → losses_of i (hs ++ gs) ≡ losses_of i hs ++ losses_of i gs → cond b (l ∷ losses_of i (hs ++ gs)) (losses_of i (hs ++ gs)) ≡ cond b (l ∷ losses_of i hs) (losses_of i hs) ++ losses_of i gs
-    by true e = ap (λ r. l ∷ r) e
-    by false e = e
 
 -- ---- copies
 -- those of packet i
@@ -71,7 +51,7 @@ pub record IsQuiet (i : ℕ) (hs : List Happening) : Type 0 where
   pub losses : losses_of i hs ≡ []
 
 pub quiet_more : (i : ℕ) (hs gs : List Happening) → IsQuiet i hs → IsQuiet i gs → IsQuiet i (hs ++ gs)
-quiet_more i hs gs q r = record { deliveries = deliveries_more i hs gs ∙ (λ y. q.deliveries y ++ r.deliveries y); losses = losses_more i hs gs ∙ (λ y. q.losses y ++ r.losses y) }
+quiet_more i hs gs q r = record { deliveries = deliveries_of-append i hs gs ∙ (λ y. q.deliveries y ++ r.deliveries y); losses = losses_of-append i hs gs ∙ (λ y. q.losses y ++ r.losses y) }
 
 -- packet i has become this set: what was delivered and what its copies will deliver is what is to be sent, and the others were counted
 pub record Leaving (t : Tables) (i : ℕ) (set : PacketSet) (s : Net) (hs : List Happening) : Type 0 where
@@ -98,8 +78,8 @@ leaving_still {t = t} {set = set} same l = record {
 -- what has come out stays so
 pub came_still : {t : Tables} {i : ℕ} {set : PacketSet} (hs gs : List Happening) → IsQuiet i gs → CameOut t i set hs → CameOut t i set (hs ++ gs)
 came_still {t = t} {i = i} {set = set} hs gs q came = record {
-  ports = subst (λ x. IsPermutation x (sent_of t set)) (sym (deliveries_more i hs gs ∙ ap (λ x. deliveries_of i hs ++ x) q.deliveries ∙ append-nil _)) came.ports;
-  loss = losses_more i hs gs ∙ ap (λ x. losses_of i hs ++ x) q.losses ∙ append-nil _ ∙ came.loss;
+  ports = subst (λ x. IsPermutation x (sent_of t set)) (sym (deliveries_of-append i hs gs ∙ ap (λ x. deliveries_of i hs ++ x) q.deliveries ∙ append-nil _)) came.ports;
+  loss = losses_of-append i hs gs ∙ ap (λ x. losses_of i hs ++ x) q.losses ∙ append-nil _ ∙ came.loss;
 }
 
 -- once no copy is left the packet has come out
@@ -115,14 +95,6 @@ split_up xs j c found = split_at xs j c (slice_get_within xs j c found) ∙ (λ 
   where
     next : suc j ≡ j + 1
     next = omega arith
-
-pub all_front : {X : Type 0} (P : X → Type 0) (xs ys : List X) → All P (xs ++ ys) → All P xs
-all_front P [] ys h = All-nil P
-all_front P (x ∷ xs) ys h = All-cons P x xs (All-head P x (xs ++ ys) h) (all_front P xs ys (All-tail P x (xs ++ ys) h))
-
-pub all_back : {X : Type 0} (P : X → Type 0) (xs ys : List X) → All P (xs ++ ys) → All P ys
-all_back P [] ys h = h
-all_back P (x ∷ xs) ys h = all_back P xs ys (All-tail P x (xs ++ ys) h)
 
 hands_over : {X : Type 0} (ds fs bs target : List X) (x : X) → IsPermutation (ds ++ (fs ++ x ∷ bs)) target → IsPermutation ((ds ++ x ∷ []) ++ (fs ++ bs)) target
 hands_over ds fs bs target x perm =
@@ -161,7 +133,7 @@ module _ (s : Net) (c : Copy) (j : ℕ) (found : slice_get s.flying j ≡ Some c
   abbrev pub back : List Copy
   back = copies_of c.number (drop (j + 1) s.flying)
 
-  copies_before : (i : ℕ) → copies_of i s.flying ≡ copies_of i (take j s.flying) ++ cond (nat_eq c.number i) (c ∷ copies_of i (drop (j + 1) s.flying)) (copies_of i (drop (j + 1) s.flying))
+  pub copies_before : (i : ℕ) → copies_of i s.flying ≡ copies_of i (take j s.flying) ++ cond (nat_eq c.number i) (c ∷ copies_of i (drop (j + 1) s.flying)) (copies_of i (drop (j + 1) s.flying))
   copies_before i = ap (copies_of i) (split_up s.flying j c found) ∙ filter-append (λ (c : Copy). nat_eq c.number i) (take j s.flying) (c ∷ drop (j + 1) s.flying)
 
   pub copies_own : copies_of c.number s.flying ≡ front ++ c ∷ back
@@ -187,12 +159,12 @@ module _ (s : Net) (c : Copy) (j : ℕ) (found : slice_get s.flying j ≡ Some c
   others_same i m a hs ne =
       let q = happens_elsewhere i c a ne in record {
         copies = copies_other i m a ne;
-        deliveries = deliveries_more i hs _ ∙ ap (λ l. deliveries_of i hs ++ l) q.deliveries ∙ append-nil _;
-        losses = losses_more i hs _ ∙ ap (λ l. losses_of i hs ++ l) q.losses ∙ append-nil _;
+        deliveries = deliveries_of-append i hs _ ∙ ap (λ l. deliveries_of i hs ++ l) q.deliveries ∙ append-nil _;
+        losses = losses_of-append i hs _ ∙ ap (λ l. losses_of i hs ++ l) q.losses ∙ append-nil _;
       }
 
   pub own_leaves : All IsLeaving (copies_of c.number s.flying) → IsLeaving c
-  own_leaves all = All-head IsLeaving c back (all_back IsLeaving front (c ∷ back) (subst (All IsLeaving) copies_own all))
+  own_leaves all = All-head IsLeaving c back (All-back IsLeaving front (c ∷ back) (subst (All IsLeaving) copies_own all))
 
   to_deliver_before : map to_deliver (copies_of c.number s.flying) ≡ map to_deliver front ++ to_deliver c ∷ map to_deliver back
   to_deliver_before = ap (map to_deliver) copies_own ∙ map-append to_deliver front (c ∷ back)
@@ -211,10 +183,10 @@ module _ (s : Net) (c : Copy) (j : ℕ) (found : slice_get s.flying j ≡ Some c
       mine = subst (All IsLeaving) copies_own all
 
       front_leaves : All IsLeaving front
-      front_leaves = all_front IsLeaving front (c ∷ back) mine
+      front_leaves = All-front IsLeaving front (c ∷ back) mine
 
       back_leaves : All IsLeaving back
-      back_leaves = All-tail IsLeaving c back (all_back IsLeaving front (c ∷ back) mine)
+      back_leaves = All-tail IsLeaving c back (All-back IsLeaving front (c ∷ back) mine)
 
       by : {m : Arrays} {a : Action} → OutDoes (slice_index c.packet 1) (s.stores c.at) m a → All IsLeaving (copies_of c.number (stepped s j c m a).flying)
       by is_delivered = subst (All IsLeaving) (sym after_delivery) (All-append IsLeaving front back front_leaves back_leaves)
@@ -228,19 +200,19 @@ module _ (s : Net) (c : Copy) (j : ℕ) (found : slice_get s.flying j ≡ Some c
           → IsPermutation (deliveries_of c.number (hs ++ happening c a ∷ []) ++ map to_deliver (copies_of c.number (stepped s j c m a).flying)) (sent_of t set)
       ports is_delivered =
           subst (λ x. IsPermutation x (sent_of t set))
-          (sym (λ y. (deliveries_more c.number hs (happening c (Deliver (slice_index c.packet 1)) ∷ []) ∙ ap (λ b. deliveries_of c.number hs ++ cond b (to_deliver c ∷ []) []) (eq-eqb c.number c.number refl)) y
+          (sym (λ y. (deliveries_of-append c.number hs (happening c (Deliver (slice_index c.packet 1)) ∷ []) ∙ ap (λ b. deliveries_of c.number hs ++ cond b (to_deliver c ∷ []) []) (eq-eqb c.number c.number refl)) y
           ++ (ap (map to_deliver) after_delivery ∙ map-append to_deliver front back) y))
           (hands_over (deliveries_of c.number hs) (map to_deliver front) (map to_deliver back) (sent_of t set) (to_deliver c)
           (subst (λ q. IsPermutation (deliveries_of c.number hs ++ q) (sent_of t set)) to_deliver_before l.ports))
       ports (is_carried {x = x}) =
           subst (λ q. IsPermutation q (sent_of t set))
-          (sym (λ y. (deliveries_more c.number hs (happening c (Forward x (Out (slice_index c.packet 1))) ∷ []) ∙ append-nil _) y
+          (sym (λ y. (deliveries_of-append c.number hs (happening c (Forward x (Out (slice_index c.packet 1))) ∷ []) ∙ append-nil _) y
           ++ (ap (map to_deliver) (after_crossing x) ∙ map-append to_deliver front (carried c x ∷ back) ∙ sym to_deliver_before) y))
           l.ports
 
       loss : {m : Arrays} {a : Action} → OutDoes (slice_index c.packet 1) (s.stores c.at) m a → losses_of c.number (hs ++ happening c a ∷ []) ≡ lost_of t set ∷ []
-      loss is_delivered = losses_more c.number hs _ ∙ append-nil _ ∙ l.loss
-      loss is_carried = losses_more c.number hs _ ∙ append-nil _ ∙ l.loss
+      loss is_delivered = losses_of-append c.number hs _ ∙ append-nil _ ∙ l.loss
+      loss is_carried = losses_of-append c.number hs _ ∙ append-nil _ ∙ l.loss
 
   -- the only copy of a packet forks
   pub leaving_begins : (t : Tables) (set : PacketSet) (hs : List Happening) (m : Arrays) → front ≡ [] → back ≡ [] → IsQuiet c.number hs
@@ -248,8 +220,8 @@ module _ (s : Net) (c : Copy) (j : ℕ) (found : slice_get s.flying j ≡ Some c
   leaving_begins t set hs m no_front no_back quiet = record {
     out = subst (All IsLeaving) (sym after) (All-map IsLeaving (split_off c) (sent_of t set) (All-map (λ x. IsLeaving (split_off c x)) sent (delivered (port_numbers t) set) (λ i d l. refl)));
     ports = subst (λ l. IsPermutation l (sent_of t set))
-        (sym ((λ y. (deliveries_more c.number hs (happening c (Fork (sent_of t set) (lost_of t set)) ∷ []) ∙ append-nil _ ∙ quiet.deliveries) y ++ map to_deliver (after y)) ∙ fork_sends c (delivered (port_numbers t) set))) (IsPermutation-refl (sent_of t set));
-    loss = losses_more c.number hs _ ∙ (λ y. quiet.losses y ++ cond (eq-eqb c.number c.number refl y) (lost_of t set ∷ []) []);
+        (sym ((λ y. (deliveries_of-append c.number hs (happening c (Fork (sent_of t set) (lost_of t set)) ∷ []) ∙ append-nil _ ∙ quiet.deliveries) y ++ map to_deliver (after y)) ∙ fork_sends c (delivered (port_numbers t) set))) (IsPermutation-refl (sent_of t set));
+    loss = losses_of-append c.number hs _ ∙ (λ y. quiet.losses y ++ cond (eq-eqb c.number c.number refl y) (lost_of t set ∷ []) []);
   }
     where
       after : copies_of c.number (stepped s j c m (Fork (sent_of t set) (lost_of t set))).flying ≡ map (split_off c) (sent_of t set)

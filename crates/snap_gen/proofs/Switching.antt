@@ -1,9 +1,9 @@
 -- One big switch over a list of packets, and the numbers of these.
-use Rattle.std.proofs.Common.{◌≡◌, ◌≢◌, ℕ, zero, suc, ◌+◌, ◌^◌, ◌<◌, ◌⊎◌, inl, inr, List, [], ◌∷◌, ◌++◌, length, Option, Some, None, refl, sym, ap, subst, ◌∙◌, arith, append_assoc}
+use Rattle.std.proofs.Common.{◌≡◌, ◌≢◌, ℕ, zero, suc, ◌+◌, ◌⊎◌, inl, inr, List, [], ◌∷◌, ◌++◌, length, Option, Some, None, refl, sym, ap, subst, ◌∙◌, arith, append_assoc}
 use Rattle.std.specs.Prelude.{slice_get, slice_index_or, option_map, option_and_then}
 use Rattle.std.specs.List.{All, range_with_len}
 use Rattle.std.proofs.lemmas.List.{length-append}
-use Rattle.std.proofs.lemmas.List.Elements.{recursion_from_All, All-head, All-tail}
+use Rattle.std.proofs.lemmas.List.Elements.{All-head, All-tail}
 use Rattle.std.proofs.lemmas.Option.{none-some, same_Some}
 use Rattle.snap_core.specs.declared.policy.Pol.{Pol}
 use Rattle.snap_core.specs.Arrays.{Arrays}
@@ -92,7 +92,7 @@ KeepsStores p c = (m : Arrays) (k : List ℕ) (o : Meaning) → IsStore m → Is
 
 pub keeps_stores : (p : Pol) (c : ℕ) → PutsSmall p → KeepsStores p c
 keeps_stores p c small m k o store packet e =
-    (subst (IfDefined (Fine (length k))) e (stays_fine p m k (length k) small store (refl, recursion_from_All (λ x. x < 2 ^ 64) k packet.numbers))).0
+    (subst (IfDefined (Fine (length k))) e (stays_fine p m k (length k) small store (refl, packet.numbers))).0
 
 keeps_zeros : (p : Pol) (n : ℕ) → UsesBelow n p → (m : Arrays) (k : List ℕ) (o : Meaning) → eval p m k ≡ Some o → IsZeroFrom n m → IsZeroFrom n o.arrays
 keeps_zeros p n uses m k o e zeros q l =

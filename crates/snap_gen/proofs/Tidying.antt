@@ -1,6 +1,5 @@
 -- What a tidied diagram keeps.
-use Rattle.std.proofs.Common.{ℕ, ◌<◌, ◌^◌, Bool, true, false, cond, List, length}
-use Rattle.std.proofs.lemmas.List.Elements.{recursion_from_All}
+use Rattle.std.proofs.Common.{ℕ, Bool, true, false, cond, List, length}
 use Rattle.snap_core.specs.declared.policy.Test.{Test}
 use Rattle.snap_core.specs.Arrays.{Arrays}
 use Rattle.snap_core.specs.Fields.{count}
@@ -63,7 +62,7 @@ pub tidying_keeps : TidyingIsSafe
 tidying_keeps ranks n d r h = record {
   walks = λ m k. walks ranks n m k h;
   outcome = λ p all outcome m k o store packet e.
-      gives ranks n (walk d m k) (walk r m k) m k o (walks ranks n m k h) (walks_to ranks n d m k all) store (recursion_from_All (λ x. x < 2 ^ 64) k packet.numbers) (outcome m k o store packet e);
+      gives ranks n (walk d m k) (walk r m k) m k o (walks ranks n m k h) (walks_to ranks n d m k all) store packet.numbers (outcome m k o store packet e);
   order = λ list o. order ranks n list h o;
   above = λ list low o a. above ranks n list low h o a;
   live = λ p l. live ranks n (IsInput (count p.fields) (length p.vars)) h l;

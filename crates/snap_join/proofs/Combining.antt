@@ -1,12 +1,10 @@
 -- Two diagrams combined.
 use Rattle.std.proofs.Common.{◌≡◌, inl, inr, ℕ, ◌<◌, ◌^◌, Bool, true, false, cond, List, [], ◌∷◌, ◌++◌, refl, sym, ap, subst, ◌∙◌, bit_or, arith, pow_pos}
 use Rattle.std.specs.Prelude.{All}
-use Rattle.std.proofs.lemmas.List.Elements.{All-append, All-nil, All-from_recursion, recursion_from_All}
+use Rattle.std.proofs.lemmas.List.Elements.{All-append, All-nil, All-filter}
 use Rattle.std.proofs.lemmas.Nat.{or_lt}
-use Rattle.std.specs.List.{AllByRecursion}
 use Rattle.std.specs.declared.cmp.Ordering.TheVariants.{Less, Greater}
 use Rattle.snap_core.specs.declared.policy.Test.{Test}
-use Rattle.snap_core.specs.declared.policy.Update.{Update}
 use Rattle.snap_core.specs.Arrays.{Arrays, has}
 use Rattle.snap_core.specs.declared.policy.Atom.{Atom}
 use Rattle.snap_fdd.specs.declared.leaf.Go.{Go}
@@ -31,14 +29,6 @@ use Rattle.snap_join.specs.Joined.{only, both_outs, either_outs, combined, IsJoi
 less_greater : Less ≡ Greater → ⊥
 less_greater e = absurd (cc)
 
-all_only : (P : Update → Type 0) (w : ℕ) (us : List Update) → AllByRecursion P us → AllByRecursion P (only w us)
-all_only P w [] a = a
-all_only P w (u ∷ us) a = by (has w u.var) (all_only P w us a.1)
-  where
-    by : (t : Bool) → AllByRecursion P (only w us) → AllByRecursion P (cond t (u ∷ only w us) (only w us))
-    by true r = (a.0, r)
-    by false r = r
-
 beside_in : (s : Sizes) (x y : Go) → LeafIn s (Goes x) → LeafIn s (Goes y) → LeafIn s (combined Beside (Goes x) (Goes y))
 beside_in s x y hx hy = by (logs_clash x.reads x.writes y.reads y.writes)
   where
@@ -50,8 +40,7 @@ beside_in s x y hx hy = by (logs_clash x.reads x.writes y.reads y.writes)
     by false = (
       all_united (OutFits s.comps) x.outs y.outs hx.0 hy.0,
       All-append (UpdateIn s) (only x.writes x.ups) (only y.writes y.ups)
-          (All-from_recursion (UpdateIn s) (only x.writes x.ups) (all_only (UpdateIn s) x.writes x.ups (recursion_from_All (UpdateIn s) x.ups hx.1)))
-          (All-from_recursion (UpdateIn s) (only y.writes y.ups) (all_only (UpdateIn s) y.writes y.ups (recursion_from_All (UpdateIn s) y.ups hy.1))),
+          (All-filter (λ u. has x.writes u.var) (UpdateIn s) x.ups hx.1) (All-filter (λ u. has y.writes u.var) (UpdateIn s) y.ups hy.1),
       or_lt s.vars x.reads y.reads hx.2 hy.2,
       or_lt s.vars x.writes y.writes hx.3 hy.3,
     )

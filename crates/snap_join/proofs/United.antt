@@ -1,13 +1,13 @@
 -- Outs each once give the packets of all.
-use Rattle.std.proofs.Common.{◌≡◌, ℕ, Bool, true, false, cond, ◌||◌, List, [], ◌∷◌, ◌++◌, refl, sym, ap, ◌∙◌, map}
+use Rattle.std.proofs.Common.{◌≡◌, ℕ, Bool, true, false, cond, ◌||◌, List, [], ◌∷◌, ◌++◌, refl, sym, ap, ◌∙◌, map, arith}
 use Rattle.std.specs.Prelude.{All}
-use Rattle.std.specs.List.{list_any, AllByRecursion}
+use Rattle.std.specs.List.{list_any}
 use Rattle.std.specs.Str.{bytes_eq}
 use Rattle.std.specs.Ordering.{is_eq, eq_by_cmp}
 use Rattle.std.specs.Cmp.{tied_itself}
 use Rattle.std.specs.Cmp.Lexicographic.{bytes_decides, nat_list_cmp_total}
 use Rattle.std.specs.FinMap.{contains_key}
-use Rattle.std.proofs.lemmas.List.Elements.{All-append, All-nil, All-from_recursion, recursion_from_All}
+use Rattle.std.proofs.lemmas.List.Elements.{All-nil, All-push, All-tail}
 use Rattle.std.proofs.lemmas.Map.Text.{is_eq-slice_cmp}
 use Rattle.std.proofs.lemmas.Slice.Eq.{bytes_eq-Decides}
 use Rattle.snap_core.specs.declared.policy.Atom.{Atom}
@@ -79,11 +79,11 @@ module _ (P : List (ℕ × Atom) → Type 0) where
     where
       by : (t : Bool) → All P (cond t os (os ++ o ∷ []))
       by true = a
-      by false = All-append P os (o ∷ []) a (All-from_recursion P (o ∷ []) (h, tt))
+      by false = All-push P os o a h
 
-  all_with_outs : (os ps : List (List (ℕ × Atom))) → All P os → AllByRecursion P ps → All P (with_outs os ps)
+  all_with_outs : (os ps : List (List (ℕ × Atom))) → All P os → All P ps → All P (with_outs os ps)
   all_with_outs os [] a h = a
-  all_with_outs os (p ∷ ps) a h = all_with_outs (with_out os p) ps (all_with os p a h.0) h.1
+  all_with_outs os (p ∷ ps) a h = all_with_outs (with_out os p) ps (all_with os p a (h 0 p (omega arith))) (All-tail P p ps h)
 
   pub all_united : (xs ys : List (List (ℕ × Atom))) → All P xs → All P ys → All P (united xs ys)
-  all_united xs ys a b = all_with_outs (with_outs [] xs) ys (all_with_outs [] xs (All-nil P) (recursion_from_All P xs a)) (recursion_from_All P ys b)
+  all_united xs ys a b = all_with_outs (with_outs [] xs) ys (all_with_outs [] xs (All-nil P) a) b

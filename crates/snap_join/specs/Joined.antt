@@ -1,5 +1,6 @@
 -- What two leaves become, and what two diagrams do, side by side.
 use Rattle.std.specs.Prelude.{◌≡◌, ◌⊎◌, ℕ, List, [], ◌∷◌, ◌++◌, bit_or, if◌then◌else◌}
+use Rattle.std.specs.List.{filter}
 use Rattle.snap_core.specs.declared.policy.Test.{Test}
 use Rattle.snap_core.specs.declared.policy.Update.{Update}
 use Rattle.snap_core.specs.Arrays.{Arrays, has}
@@ -20,8 +21,7 @@ use Rattle.snap_join.specs.declared.joining.Start.TheVariants.{Leaves, First}
 
 -- the updates of the variables of a set
 abbrev pub only : ℕ → List Update → List Update
-only w [] = []
-only w (u ∷ us) = if has w u.var then u ∷ only w us else only w us
+only w us = filter (λ u. has w u.var) us
 
 -- two leaves side by side
 abbrev pub beside_leaf : Leaf → Leaf → Leaf

@@ -39,7 +39,7 @@ use Rattle.snap_make.specs.Shares.{as_row, body_of, share_entry}
 use Rattle.snap_make.specs.Tidy.{IsTidy}
 use Rattle.snap_make.proofs.Demanding as demanding
 use Rattle.snap_make.proofs.Demanding.{wanted_row, made_on_demand}
-use Rattle.snap_make.proofs.Entries.{Each, each_at, Planned, all_planned}
+use Rattle.snap_make.proofs.Entries.{each_at, Planned, all_planned}
 use Rattle.snap_make.proofs.Given.{IsReady, ranks_below}
 use Rattle.snap_make.proofs.Making.{given}
 use Rattle.snap_make.proofs.Noded.{node_low}
@@ -73,7 +73,7 @@ demanded_is t marks nodes w i =
 pub numbers_low : (t : Tables) (ns : List (Node Leaf)) (root : ℕ) (bodies : List Row) (shares : List RowShare) → AreNumberedRows t ns root bodies shares → All (λ (s : RowShare). s.number < length bodies) shares
 numbers_low t ns root bodies shares numbered i d l =
     (each_at (share_entry bodies) (Planned (demanded t bodies numbered.rows.marks) (length bodies) (length t.switches)) shares i (get_or shares i d)
-    (subst (Each (Planned (demanded t bodies numbered.rows.marks) (length bodies) (length t.switches))) (sym numbered.rows.are) (all_planned (demanded t bodies numbered.rows.marks) (length bodies) (length t.switches)))
+    (subst (All (Planned (demanded t bodies numbered.rows.marks) (length bodies) (length t.switches))) (sym numbered.rows.are) (all_planned (demanded t bodies numbered.rows.marks) (length bodies) (length t.switches)))
     (slice_get-get_or shares i d l)).1
 
 module _ (p : Program) (t : Topology) (places : List ℕ) (routes : Table) (g : Grouping) (ns : List (Node Leaf)) (root : ℕ)

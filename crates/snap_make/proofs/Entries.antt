@@ -1,13 +1,17 @@
 -- Lists by pairs of numbers have each entry once, and rise.
-use Rattle.std.proofs.Common.{◌≡◌, ℕ, zero, suc, ◌<◌, ⊎_elim, Bool, true, false, cond, List, [], ◌∷◌, ◌++◌, map, Option, Some, None, refl, sym, ap, subst, ◌∙◌, arith}
+use Rattle.std.proofs.Common.{◌≡◌, ℕ, zero, suc, ◌<◌, ⊎_elim, Bool, true, false, cond, List, [], ◌∷◌, ◌++◌, map, Option, Some, None, refl, sym, ap, subst, ◌∙◌, arith, get_or}
 use Rattle.std.specs.Prelude.{slice_get, nat_eq, ◌&&◌, if◌then◌else◌}
-use Rattle.std.specs.List.{AllByRecursion}
+use Rattle.std.specs.List.{All, AllByRecursion}
 use Rattle.std.specs.List.Sorted.{IsStrictlySortedBy}
 use Rattle.std.specs.Ordering.{nat_cmp, ordering_then}
 use Rattle.std.specs.declared.cmp.Ordering.{Ordering}
 use Rattle.std.specs.declared.cmp.Ordering.TheVariants.{Less, Equal, Greater}
 use Rattle.std.proofs.lemmas.Bool.{eqb-true, eq-eqb, lt-ltb, le-ltb, cases_lt, and_parts}
 use Rattle.std.proofs.lemmas.Option.{none-some, same_Some}
+use Rattle.std.proofs.lemmas.List.Elements.{All-append, All-nil, All-push, All-tail, All-weaker, recursion_from_All}
+use Rattle.snap_rows.proofs.Rows.{All-get}
+use Rattle.snap_core.proofs.Elements.{All-unmap}
+use Rattle.snap_core.proofs.Entries.{both}
 use Rattle.snap_rows.specs.declared.tables.RowAt.{RowAt}
 use Rattle.snap_rows.specs.Entries.{row_in}
 use Rattle.snap_make.specs.Pairs.{Entry, row_entry, one_entry, at_switch, at_switches}
@@ -23,29 +27,18 @@ module _ {X : Type 0} where
   found [] w n = None
   found (e ∷ es) w n = if nat_eq e.0 w && nat_eq e.1 n then Some e.2 else found es w n
 
-  abbrev pub Each : (Entry X → Type 0) → List (Entry X) → Type 0
-  Each P es = AllByRecursion P es
-
-  each_append : (P : Entry X → Type 0) (xs ys : List (Entry X)) → Each P xs → Each P ys → Each P (xs ++ ys)
-  each_append P [] ys a b = b
-  each_append P (x ∷ xs) ys a b = (a.0, each_append P xs ys a.1 b)
-
-  each_weaker : (P Q : Entry X → Type 0) → ((e : Entry X) → P e → Q e) → (xs : List (Entry X)) → Each P xs → Each Q xs
-  each_weaker P Q f [] a = tt
-  each_weaker P Q f (x ∷ xs) a = (f x a.0, each_weaker P Q f xs a.1)
-
   -- what is found is an entry
-  each_found : (P : Entry X → Type 0) (es : List (Entry X)) (w n : ℕ) (b : X) → Each P es → found es w n ≡ Some b → P (w, n, b)
+  each_found : (P : Entry X → Type 0) (es : List (Entry X)) (w n : ℕ) (b : X) → All P es → found es w n ≡ Some b → P (w, n, b)
   each_found P [] w n b h e = absurd (none-some b e)
-  each_found P (x ∷ es) w n b h e = by (nat_eq x.0 w && nat_eq x.1 n) refl e (each_found P es w n b h.1)
+  each_found P (x ∷ es) w n b h e = by (nat_eq x.0 w && nat_eq x.1 n) refl e (each_found P es w n b (All-tail P x es h))
     where
       by : (c : Bool) → (nat_eq x.0 w && nat_eq x.1 n) ≡ c → cond c (Some x.2) (found es w n) ≡ Some b → (found es w n ≡ Some b → P (w, n, b)) → P (w, n, b)
       by true same f rest =
           let parts = and_parts (nat_eq x.0 w) (nat_eq x.1 n) same in
-          subst (λ z. P (w, n, z)) (same_Some x.2 b f) (subst (λ z. P (w, z, x.2)) (eqb-true x.1 n parts.1) (subst (λ z. P (z, x.1, x.2)) (eqb-true x.0 w parts.0) h.0))
+          subst (λ z. P (w, n, z)) (same_Some x.2 b f) (subst (λ z. P (w, z, x.2)) (eqb-true x.1 n parts.1) (subst (λ z. P (z, x.1, x.2)) (eqb-true x.0 w parts.0) (h 0 x (omega arith))))
       by false other f rest = rest f
 
-  found_none : (P : Entry X → Type 0) (es : List (Entry X)) (w n : ℕ) → Each P es → ((b : X) → P (w, n, b) → ⊥) → found es w n ≡ None
+  found_none : (P : Entry X → Type 0) (es : List (Entry X)) (w n : ℕ) → All P es → ((b : X) → P (w, n, b) → ⊥) → found es w n ≡ None
   found_none P es w n h never = by (found es w n) refl
     where
       by : (o : Option X) → found es w n ≡ o → found es w n ≡ None
@@ -76,15 +69,15 @@ module _ {X : Type 0} where
     abbrev pub Here : ℕ → Entry X → Type 0
     Here n e = (e.0 ≡ w) × (e.1 < n) × (g e.1 ≡ Some e.2)
 
-    one_here : (n : ℕ) (o : Option X) → g n ≡ o → Each (Here (suc n)) (one_entry w n o)
-    one_here n None e = tt
-    one_here n (Some b) e = ((refl, omega arith, e), tt)
+    one_here : (n : ℕ) (o : Option X) → g n ≡ o → All (Here (suc n)) (one_entry w n o)
+    one_here n None e = All-nil (Here (suc n))
+    one_here n (Some b) e = All-push (Here (suc n)) [] (w, n, b) (All-nil (Here (suc n))) (refl, omega arith, e)
 
-    pub all_here : (n : ℕ) → Each (Here n) (at_switch g w n)
-    all_here zero = tt
+    pub all_here : (n : ℕ) → All (Here n) (at_switch g w n)
+    all_here zero = All-nil (Here 0)
     all_here (suc n) =
-        each_append (Here (suc n)) (at_switch g w n) (one_entry w n (g n))
-        (each_weaker (Here n) (Here (suc n)) (λ e h. (h.0, (let l = h.1 in omega (arith, l)), h.2)) (at_switch g w n) (all_here n)) (one_here n (g n) refl)
+        All-append (Here (suc n)) (at_switch g w n) (one_entry w n (g n))
+        (All-weaker (Here n) (Here (suc n)) (λ e h. (h.0, (let l = h.1 in omega (arith, l)), h.2)) (at_switch g w n) (all_here n)) (one_here n (g n) refl)
 
     pub there : (n i : ℕ) (b : X) → i < n → g i ≡ Some b → found (at_switch g w n) w i ≡ Some b
     there zero i b l e = absurd (omega (arith, l))
@@ -100,12 +93,12 @@ module _ {X : Type 0} where
     abbrev pub Planned : ℕ → Entry X → Type 0
     Planned s e = (e.0 < s) × (e.1 < many) × (g e.0 e.1 ≡ Some e.2)
 
-    pub all_planned : (s : ℕ) → Each (Planned s) (at_switches g s many)
-    all_planned zero = tt
+    pub all_planned : (s : ℕ) → All (Planned s) (at_switches g s many)
+    all_planned zero = All-nil (Planned 0)
     all_planned (suc s) =
-        each_append (Planned (suc s)) (at_switches g s many) (at_switch (g s) s many)
-        (each_weaker (Planned s) (Planned (suc s)) (λ e h. ((let l = h.0 in omega (arith, l)), h.1, h.2)) (at_switches g s many) (all_planned s))
-        (each_weaker (Here (g s) s many) (Planned (suc s)) (λ e h. ((let l = h.0 in omega (arith, l)), h.1, ap (λ w. g w e.1) h.0 ∙ h.2)) (at_switch (g s) s many) (all_here (g s) s many))
+        All-append (Planned (suc s)) (at_switches g s many) (at_switch (g s) s many)
+        (All-weaker (Planned s) (Planned (suc s)) (λ e h. ((let l = h.0 in omega (arith, l)), h.1, h.2)) (at_switches g s many) (all_planned s))
+        (All-weaker (Here (g s) s many) (Planned (suc s)) (λ e h. ((let l = h.0 in omega (arith, l)), h.1, ap (λ w. g w e.1) h.0 ∙ h.2)) (at_switch (g s) s many) (all_here (g s) s many))
 
     pub present : (s w n : ℕ) (b : X) → w < s → n < many → g w n ≡ Some b → found (at_switches g s many) w n ≡ Some b
     present zero w n b l k e = absurd (omega (arith, l))
@@ -135,23 +128,23 @@ module _ {X : Type 0} where
   lower_number : (a b : Entry X) → a.0 ≡ b.0 → a.1 < b.1 → entry_cmp a b ≡ Less
   lower_number a b e l = ap (λ o. ordering_then o (nat_cmp a.1 b.1)) (nat_same a.0 b.0 e) ∙ nat_less a.1 b.1 l
 
-  sorted_append : (xs ys : List (Entry X)) → IsStrictlySortedBy entry_cmp xs → IsStrictlySortedBy entry_cmp ys → Each (λ x. Each (λ y. entry_cmp x y ≡ Less) ys) xs → IsStrictlySortedBy entry_cmp (xs ++ ys)
+  sorted_append : (xs ys : List (Entry X)) → IsStrictlySortedBy entry_cmp xs → IsStrictlySortedBy entry_cmp ys → All (λ x. All (λ y. entry_cmp x y ≡ Less) ys) xs → IsStrictlySortedBy entry_cmp (xs ++ ys)
   unfolding IsStrictlySortedBy
   sorted_append [] ys a b h = b
-  sorted_append (x ∷ xs) ys a b h = (each_append (λ y. entry_cmp x y ≡ Less) xs ys a.0 h.0, sorted_append xs ys a.1 b h.1)
+  sorted_append (x ∷ xs) ys a b h =
+      (both (λ y. entry_cmp x y ≡ Less) xs ys a.0 (recursion_from_All (λ y. entry_cmp x y ≡ Less) ys (h 0 x (omega arith))), sorted_append xs ys a.1 b (All-tail (λ x. All (λ y. entry_cmp x y ≡ Less) ys) x xs h))
 
-  each_pair : (P Q : Entry X → Type 0) → ((x y : Entry X) → P x → Q y → entry_cmp x y ≡ Less) → (xs ys : List (Entry X)) → Each P xs → Each Q ys → Each (λ x. Each (λ y. entry_cmp x y ≡ Less) ys) xs
-  each_pair P Q f [] ys a b = tt
-  each_pair P Q f (x ∷ xs) ys a b = (each_weaker Q (λ y. entry_cmp x y ≡ Less) (λ y q. f x y a.0 q) ys b, each_pair P Q f xs ys a.1 b)
+  each_pair : (P Q : Entry X → Type 0) → ((x y : Entry X) → P x → Q y → entry_cmp x y ≡ Less) → (xs ys : List (Entry X)) → All P xs → All Q ys → All (λ x. All (λ y. entry_cmp x y ≡ Less) ys) xs
+  each_pair P Q f xs ys a b = λ i d l j e m. f (get_or xs i d) (get_or ys j e) (a i d l) (b j e m)
 
   one_sorted : (w n : ℕ) (o : Option X) → IsStrictlySortedBy entry_cmp (one_entry w n o)
   unfolding IsStrictlySortedBy
   one_sorted w n None = tt
   one_sorted w n (Some b) = (tt, tt)
 
-  one_is : (w n : ℕ) (o : Option X) → Each (λ e. (e.0 ≡ w) × (e.1 ≡ n)) (one_entry w n o)
-  one_is w n None = tt
-  one_is w n (Some b) = ((refl, refl), tt)
+  one_is : (w n : ℕ) (o : Option X) → All (λ e. (e.0 ≡ w) × (e.1 ≡ n)) (one_entry w n o)
+  one_is w n None = All-nil (λ e. (e.0 ≡ w) × (e.1 ≡ n))
+  one_is w n (Some b) = All-push (λ e. (e.0 ≡ w) × (e.1 ≡ n)) [] (w, n, b) (All-nil (λ e. (e.0 ≡ w) × (e.1 ≡ n))) (refl, refl)
 
   switch_sorted : (g : ℕ → Option X) (w n : ℕ) → IsStrictlySortedBy entry_cmp (at_switch g w n)
   unfolding IsStrictlySortedBy
@@ -168,12 +161,10 @@ module _ {X : Type 0} where
       (each_pair (Planned g n s) (Here (g s) s n) (λ x y h k. lower_switch x y (let l = h.0 in let e = k.0 in omega (arith, l, e))) (at_switches g s n) (at_switch (g s) s n) (all_planned g n s) (all_here (g s) s n))
 
 module _ {X Y : Type 0} (f : Y → Entry X) where
-  pub each_at : (P : Entry X → Type 0) (rs : List Y) (i : ℕ) (r : Y) → Each P (map f rs) → slice_get rs i ≡ Some r → P (f r)
-  each_at P [] i r h e = absurd (none-some r e)
-  each_at P (x ∷ rs) zero r h e = subst (λ y. P (f y)) (same_Some x r e) h.0
-  each_at P (x ∷ rs) (suc i) r h e = each_at P rs i r h.1 e
+  pub each_at : (P : Entry X → Type 0) (rs : List Y) (i : ℕ) (r : Y) → All P (map f rs) → slice_get rs i ≡ Some r → P (f r)
+  each_at P rs i r h e = All-get (λ y. P (f y)) rs i r (All-unmap P f rs h) e
 
-  all_sorted : (r : Y) (rs : List Y) → Each (λ y. entry_cmp (f r) y ≡ Less) (map f rs) → AllByRecursion (λ y. entry_cmp (f r) (f y) ≡ Less) rs
+  all_sorted : (r : Y) (rs : List Y) → AllByRecursion (λ y. entry_cmp (f r) y ≡ Less) (map f rs) → AllByRecursion (λ y. entry_cmp (f r) (f y) ≡ Less) rs
   all_sorted r [] h = tt
   all_sorted r (x ∷ rs) h = (h.0, all_sorted r rs h.1)
 

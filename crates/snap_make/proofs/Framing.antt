@@ -9,6 +9,7 @@ use Rattle.std.proofs.lemmas.Bool.{ne_eqb, eqb-false, cond-false}
 use Rattle.std.proofs.lemmas.Option.{slice_get_within, slice_get-get_or, get_or_from_slice_get}
 use Rattle.std.proofs.lemmas.List.{take_all, length-map}
 use Rattle.std.proofs.lemmas.List.Elements.{All-map}
+use Rattle.snap_core.proofs.Elements.{All-back, All-front, All-unmap}
 use Rattle.snap_core.specs.declared.ports.PortAt.{PortAt}
 use Rattle.snap_core.specs.declared.program.Program.{Program}
 use Rattle.snap_core.specs.declared.program.Field.{Field as FieldNamed}
@@ -26,11 +27,11 @@ use Rattle.snap_gen.proofs.Far.{next_nearer}
 use Rattle.snap_make.specs.Framed.{IsFrame, told}
 use Rattle.snap_make.specs.Pairs.{hop_entry, hop_for, at_switches}
 use Rattle.snap_make.proofs.Counts.{hops_few}
-use Rattle.snap_make.proofs.Entries.{Each, found, each_at, Planned, all_planned, present, entry_cmp, switches_sorted, unmapped_sorted}
+use Rattle.snap_make.proofs.Entries.{found, each_at, Planned, all_planned, present, entry_cmp, switches_sorted, unmapped_sorted}
 use Rattle.snap_make.proofs.Given.{IsReady}
-use Rattle.snap_make.proofs.Hopped.{unmapped, hop_found, hop_at, hop_case}
-use Rattle.snap_place.proofs.Names.{back, distinct_back}
-use Rattle.snap_make.proofs.Names.{front, field_names}
+use Rattle.snap_make.proofs.Hopped.{hop_found, hop_at, hop_case}
+use Rattle.snap_place.proofs.Names.{distinct_back}
+use Rattle.snap_make.proofs.Names.{field_names}
 
 pub from_get : {X : Type 0} (P : X → Type 0) (xs : List X) → ((i : ℕ) (x : X) → slice_get xs i ≡ Some x → P x) → All P xs
 from_get P xs h = λ i d l. h i _ (slice_get-get_or xs i d l)
@@ -72,17 +73,17 @@ module _ (version : ℕ) (p : Program) (t : Topology) (places : List ℕ) (route
   all_named = ready.form.names
 
   fields_named : All (λ (f : FieldNamed). IsName f.name) n.fields
-  fields_named = subst (All (λ (f : FieldNamed). IsName f.name)) (sym frame.fields) (field_names IsName 0 p.fields (front IsName (names_of p.fields) p.vars all_named))
+  fields_named = subst (All (λ (f : FieldNamed). IsName f.name)) (sym frame.fields) (field_names IsName 0 p.fields (All-front IsName (names_of p.fields) p.vars all_named))
 
   arrays_named : All (λ (a : ArrayAt). IsName a.name) n.arrays
-  arrays_named = unmapped IsName (λ (a : ArrayAt). a.name) n.arrays (subst (All IsName) (sym names) (back IsName (names_of p.fields) p.vars all_named))
+  arrays_named = All-unmap IsName (λ (a : ArrayAt). a.name) n.arrays (subst (All IsName) (sym names) (All-back IsName (names_of p.fields) p.vars all_named))
 
   arrays_differ : IsDistinct bytes_eq (map (λ (a : ArrayAt). a.name) n.arrays)
   arrays_differ = subst (IsDistinct bytes_eq) (sym names) (distinct_back (names_of p.fields) p.vars ready.form.different)
 
   -- ---- arrays, links and ports stand at switches
   arrays_low : All (λ (a : ArrayAt). a.at < switch_count n) n.arrays
-  arrays_low = unmapped (λ w. w < switch_count n) (λ (a : ArrayAt). a.at) n.arrays (subst (All (λ w. w < switch_count n)) (sym owners) (subst (λ s. All (λ w. w < s) places) (sym switches) ready.placed))
+  arrays_low = All-unmap (λ w. w < switch_count n) (λ (a : ArrayAt). a.at) n.arrays (subst (All (λ w. w < switch_count n)) (sym owners) (subst (λ s. All (λ w. w < s) places) (sym switches) ready.placed))
 
   -- a rank is told where the version is 2
   abbrev IsTold : ℕ → Type 0
@@ -96,7 +97,7 @@ module _ (version : ℕ) (p : Program) (t : Topology) (places : List ℕ) (route
       by false e = ((let few = ready.few_groups in omega (arith, l, few)), λ one. absurd (eqb-false version 1 e one))
 
   ranks_told : All (λ (a : ArrayAt). IsTold a.rank) n.arrays
-  ranks_told = unmapped IsTold (λ (a : ArrayAt). a.rank) n.arrays (subst (All IsTold) (sym array_ranks) (All-map IsTold (told version) g.ranks (λ i d l. rank_told _ (ready.ranked i d l))))
+  ranks_told = All-unmap IsTold (λ (a : ArrayAt). a.rank) n.arrays (subst (All IsTold) (sym array_ranks) (All-map IsTold (told version) g.ranks (λ i d l. rank_told _ (ready.ranked i d l))))
 
   arrays_form : All (IsArrayInForm n) n.arrays
   arrays_form = λ i d l. (let r = ranks_told i d l in record { name = arrays_named i d l; at = arrays_low i d l; rank = r.0; one = λ e. r.1 (sym frame.version ∙ e) })
@@ -126,7 +127,7 @@ module _ (version : ℕ) (p : Program) (t : Topology) (places : List ℕ) (route
   hop_each : (i : ℕ) (h : Hop) → slice_get n.hops i ≡ Some h → (h.from < switch_count n) × (h.target < switch_count n) × (h.from ≢ h.target) × (next_of routes h.from h.target ≡ h.next)
   hop_each i h e =
       let x : Planned (hop_for routes) (switch_count n) (switch_count n) (hop_entry h) =
-      each_at hop_entry (Planned (hop_for routes) (switch_count n) (switch_count n)) n.hops i h (subst (Each (Planned (hop_for routes) (switch_count n) (switch_count n))) (sym hop_list) (all_planned (hop_for routes) (switch_count n) (switch_count n))) e in
+      each_at hop_entry (Planned (hop_for routes) (switch_count n) (switch_count n)) n.hops i h (subst (All (Planned (hop_for routes) (switch_count n) (switch_count n))) (sym hop_list) (all_planned (hop_for routes) (switch_count n) (switch_count n))) e in
       let c = hop_case routes h.from h.target h.next x.2 in (x.0, x.1, c.0, c.1)
 
   next_low : (a b : ℕ) → a < switch_count n → b < switch_count n → a ≢ b → next_of routes a b < switch_count n

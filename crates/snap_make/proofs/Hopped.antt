@@ -1,20 +1,13 @@
 -- Next hops by pairs of switches.
-use Rattle.std.proofs.Common.{◌≡◌, ◌≢◌, ℕ, suc, Bool, true, false, cond, List, [], ◌∷◌, map, Some, None, refl, ap, ◌∙◌}
-use Rattle.std.specs.Prelude.{slice_get, nat_eq, unwrap_or, ◌&&◌, option_map}
-use Rattle.std.specs.List.{All}
+use Rattle.std.proofs.Common.{◌≡◌, ◌≢◌, ℕ, suc, Bool, true, false, cond, List, [], ◌∷◌, map, Some, None, refl}
+use Rattle.std.specs.Prelude.{slice_get, nat_eq, unwrap_or, ◌&&◌}
 use Rattle.std.proofs.lemmas.Bool.{eqb-true, eqb-false, and_parts}
-use Rattle.std.proofs.lemmas.Option.{none-some, same_Some, slice_get-map, slice_get-get_or}
+use Rattle.std.proofs.lemmas.Option.{none-some, same_Some}
 use Rattle.snap_route.specs.Tables.{Table, next_of}
 use Rattle.snap_rows.specs.declared.tables.Hop.{Hop}
 use Rattle.snap_rows.specs.Entries.{hop_in}
-use Rattle.snap_rows.proofs.Rows.{All-get}
 use Rattle.snap_make.specs.Pairs.{hop_entry, hop_for}
 use Rattle.snap_make.proofs.Entries.{found}
-
-pub unmapped : {X Y : Type 0} (P : Y → Type 0) (f : X → Y) (xs : List X) → All P (map f xs) → All (λ x. P (f x)) xs
-unmapped P f xs h = λ i d l.
-    (let e = slice_get-get_or xs i d l in
-    All-get P (map f xs) i _ h (slice_get-map f xs i ∙ ap (option_map f) e))
 
 pub hop_found : (hs : List Hop) (a b : ℕ) → hop_in hs a b ≡ unwrap_or (found (map hop_entry hs) a b) a
 hop_found [] a b = refl

@@ -9,12 +9,12 @@ use Rattle.snap_rows.specs.declared.tables.Row.{Row}
 use Rattle.snap_rows.specs.Entries.{row_at}
 use Rattle.snap_rows.specs.Form.{IsRowInForm, IsRowAtInForm, switch_count, row_cmp}
 use Rattle.snap_make.specs.Pairs.{row_entry, at_switches}
-use Rattle.snap_make.proofs.Entries.{Each, found, row_found, each_at, Planned, all_planned, found_is, entry_cmp, switches_sorted, unmapped_sorted}
+use Rattle.snap_make.proofs.Entries.{found, row_found, each_at, Planned, all_planned, found_is, entry_cmp, switches_sorted, unmapped_sorted}
 use Rattle.snap_make.proofs.Framing.{from_get}
 
 module _ (n : Tables) (plan : ℕ → ℕ → Option Row) (many : ℕ) (rows : map row_entry n.rows ≡ at_switches plan (switch_count n) many) where
   row_each : (i : ℕ) (r : RowAt) → slice_get n.rows i ≡ Some r → Planned plan many (switch_count n) (row_entry r)
-  row_each i r e = each_at row_entry (Planned plan many (switch_count n)) n.rows i r (subst (Each (Planned plan many (switch_count n))) (sym rows) (all_planned plan many (switch_count n))) e
+  row_each i r e = each_at row_entry (Planned plan many (switch_count n)) n.rows i r (subst (All (Planned plan many (switch_count n))) (sym rows) (all_planned plan many (switch_count n))) e
 
   pub rows_rise : IsStrictlySortedBy row_cmp n.rows
   rows_rise = unmapped_sorted row_entry n.rows (subst (IsStrictlySortedBy entry_cmp) (sym rows) (switches_sorted plan (switch_count n) many))

@@ -3,16 +3,11 @@ use Rattle.std.proofs.Common.{ℕ, ◌+◌, List, [], ◌∷◌, ◌++◌, map, 
 use Rattle.std.specs.Prelude.{codes}
 use Rattle.std.specs.List.{All}
 use Rattle.std.proofs.lemmas.List.{map-append}
-use Rattle.std.proofs.lemmas.List.Elements.{All-nil, All-cons, All-head, All-tail}
+use Rattle.std.proofs.lemmas.List.Elements.{All-nil, All-cons, All-head}
+use Rattle.snap_core.proofs.Elements.{All-back, All-front}
 use Rattle.snap_core.specs.declared.program.Field.{Field}
 use Rattle.snap_core.specs.declared.program.Found.{Found}
 use Rattle.snap_core.specs.Fields.{width, declared_at, declared_from}
-use Rattle.snap_place.proofs.Names.{back}
-
-module _ {X : Type 0} (P : X → Type 0) where
-  pub front : (xs ys : List X) → All P (xs ++ ys) → All P xs
-  front [] ys h = All-nil P
-  front (x ∷ xs) ys h = All-cons P x xs (All-head P x (xs ++ ys) h) (front xs ys (All-tail P x (xs ++ ys) h))
 
 -- what holds of the names that fields declare holds of the fields' own names
 module _ (P : List ℕ → Type 0) where
@@ -29,5 +24,5 @@ module _ (P : List ℕ → Type 0) where
       let parts : All P (first_of (declared_at c f.name f.prefix) ++ first_of (declared_from (c + width f.prefix) fs)) =
       subst (All P) (map-append (λ (e : List ℕ × Found). e.0) (declared_at c f.name f.prefix) (declared_from (c + width f.prefix) fs)) h in
       All-cons (λ (f : Field). P f.name) f fs
-      (own c f.name f.prefix (front P (first_of (declared_at c f.name f.prefix)) (first_of (declared_from (c + width f.prefix) fs)) parts))
-      (field_names (c + width f.prefix) fs (back P (first_of (declared_at c f.name f.prefix)) (first_of (declared_from (c + width f.prefix) fs)) parts))
+      (own c f.name f.prefix (All-front P (first_of (declared_at c f.name f.prefix)) (first_of (declared_from (c + width f.prefix) fs)) parts))
+      (field_names (c + width f.prefix) fs (All-back P (first_of (declared_at c f.name f.prefix)) (first_of (declared_from (c + width f.prefix) fs)) parts))

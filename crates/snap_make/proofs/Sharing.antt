@@ -22,7 +22,7 @@ use Rattle.snap_make.specs.Fronts.{IsNumbered}
 use Rattle.snap_make.specs.Pairs.{at_switches, row_entry}
 use Rattle.snap_make.specs.Shares.{AreRows, as_row, body_of, share_entry, shown}
 use Rattle.snap_make.specs.Sites.{planned}
-use Rattle.snap_make.proofs.Entries.{Planned, all_planned, each_at, Each}
+use Rattle.snap_make.proofs.Entries.{Planned, all_planned, each_at}
 use Rattle.snap_make.proofs.Marking.{node_is}
 
 -- ---- what stands in a row
@@ -82,7 +82,7 @@ module _ (ns : List (Node Leaf)) (ids numbers : List ℕ) (num : IsNumbered ns i
       pub numbers_low : All (λ (s : RowShare). s.number < length bodies) shares
       numbers_low i d l =
           (each_at (share_entry bodies) (Planned (shown t bodies marks) (length bodies) many) shares i (get_or shares i d)
-          (subst (Each (Planned (shown t bodies marks) (length bodies) many)) (sym shown_are) (all_planned (shown t bodies marks) (length bodies) many))
+          (subst (All (Planned (shown t bodies marks) (length bodies) many)) (sym shown_are) (all_planned (shown t bodies marks) (length bodies) many))
           (slice_get-get_or shares i d l)).1
 
 -- the numbers of a diagram's rows are those of its bodies

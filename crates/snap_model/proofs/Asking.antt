@@ -1,9 +1,9 @@
 -- What a model answers is no impossible answer.
 use Rattle.std.proofs.Common.{◌≡◌, ℕ, ◌^◌, ◌<◌, ◌≤◌, true, List, [], ◌∷◌, length, map, refl, ap, ◌∙◌, arith}
 use Rattle.std.specs.Prelude.{◌==◌}
-use Rattle.std.specs.List.{AllByRecursion}
 use Rattle.std.proofs.lemmas.Bool.{eq-eqb}
 use Rattle.std.proofs.lemmas.List.{length-map}
+use Rattle.std.proofs.lemmas.List.Elements.{All-map}
 use Rattle.snap_core.specs.declared.place.Place.{Place}
 use Rattle.snap_core.specs.declared.policy.Atom.TheVariants.{Num as Number}
 use Rattle.snap_core.specs.Arrays.{Arrays, value_of}
@@ -19,13 +19,9 @@ use Rattle.snap_model.specs.declared.ask.Ask.{Ask}
 use Rattle.snap_model.specs.declared.ask.Ask.TheVariants.{Component, At}
 use Rattle.snap_model.specs.Asks.{test_of, answer_of, AskFits}
 
-numbers_fit : (comps : ℕ) (ix : List ℕ) → AllByRecursion (AtomFits comps) (map Number ix)
-numbers_fit comps [] = tt
-numbers_fit comps (x ∷ ix) = (tt, numbers_fit comps ix)
-
 pub ask_fits : (comps : ℕ) (ask : Ask) (n : ℕ) → AskFits comps ask → TestFits comps (test_of ask n)
 ask_fits comps (Component c) n h = h
-ask_fits comps (At p) n h = (numbers_fit comps p.index, tt)
+ask_fits comps (At p) n h = (All-map (AtomFits comps) Number p.index (λ i d l. tt), tt)
 
 pub ask_short : (comps : ℕ) (ask : Ask) (n : ℕ) → AskFits comps ask → length (index_of (test_of ask n)) ≤ 8
 ask_short comps (Component c) n h = omega arith

@@ -3,7 +3,8 @@ use Rattle.std.proofs.Common.{◌≡◌, ℕ, ◌^◌, ◌<◌, ⊎_elim, true, 
 use Rattle.std.specs.Prelude.{◌==◌, All}
 use Rattle.std.proofs.lemmas.Bool.{cases_Bool, cond-true}
 use Rattle.std.proofs.lemmas.Grind.{same_number_lists}
-use Rattle.std.proofs.lemmas.List.Elements.{All-nil, All-push}
+use Rattle.std.proofs.lemmas.List.Elements.{All-nil, All-pop, All-push}
+use Rattle.snap_core.proofs.Places.{same_place-itself, same_place-exact}
 use Rattle.snap_core.specs.declared.place.Place.{Place}
 use Rattle.snap_core.specs.declared.policy.Test.{Test}
 use Rattle.snap_core.specs.declared.policy.Test.TheVariants.{Value, Equal, State}
@@ -15,8 +16,6 @@ use Rattle.snap_ctx.specs.declared.fact.Fact.{Fact}
 use Rattle.snap_ctx.specs.Meets.{Meets, IsMet}
 use Rattle.snap_ctx.specs.Classes.{is_state, var_of, index_of}
 use Rattle.snap_ctx.specs.View.{View}
-use Rattle.std.specs.List.{AllByRecursion}
-use Rattle.snap_ctx.proofs.Places.{same_place-refl, same_place-true}
 use Rattle.snap_model.specs.declared.ask.Ask.TheVariants.{At}
 use Rattle.snap_model.specs.declared.ask.Settled.{Settled}
 use Rattle.snap_model.specs.declared.example.Draft.{Draft}
@@ -30,16 +29,11 @@ IsStore-put m n p x small lt e q =
     subst (λ (a : Arrays). a q < 2 ^ 64) (sym e)
     (elim (same_place p q) as (λ b. cond b x (m q) < 2 ^ 64) [ true ↦ lt | false ↦ small q ])
 
--- all, and one more
-front : {X : Type 0} (P : X → Type 0) (xs : List X) (x : X) → AllByRecursion P (xs ++ x ∷ []) → AllByRecursion P xs × P x
-front P [] x a = (tt, a.0)
-front P (y ∷ xs) x a = (let t = front P xs x a.1 in ((a.0, t.0), t.1))
-
 zero_put : (n : ℕ) (m w : Arrays) (p : Place) (x : ℕ) → p.var < n → w ≡ put m p x → IsZeroFrom n m → IsZeroFrom n w
 zero_put n m w p x low e z q l = subst (λ (a : Arrays). a q ≡ 0) (sym e) (by (same_place p q) refl)
   where
     by : (b : Bool) → same_place p q ≡ b → cond b x (m q) ≡ 0
-    by true f = (let v : p.var ≡ q.var = ap (λ (r : Place). r.var) (same_place-true p q f) in absurd (omega (arith, v, low, l)))
+    by true f = (let v : p.var ≡ q.var = ap (λ (r : Place). r.var) (same_place-exact p q f) in absurd (omega (arith, v, low, l)))
     by false f = z q l
 
 -- no facts yet
@@ -48,7 +42,7 @@ settles_none v y d h = record { draft = h; places = All-nil (λ g. g.yes ≡ y �
 
 -- a fact with the other answer, or not on a place
 pub settles_skip : (v : View) (y : Bool) (facts : List Fact) (old d : Draft) (f : Fact) → (f.yes ≡ y → Knows v d f) → Settles v y facts old d → Settles v y (facts ++ f ∷ []) old d
-settles_skip v y facts old d f here h = record { draft = h.draft; places = All-push (λ g. g.yes ≡ y → Knows v d g) facts f h.places here; kept = h.kept; only = λ n a z. h.only n (front (FactBelow n) facts f a).0 z }
+settles_skip v y facts old d f here h = record { draft = h.draft; places = All-push (λ g. g.yes ≡ y → Knows v d g) facts f h.places here; kept = h.kept; only = λ n a z. h.only n (All-pop (FactBelow n) (facts ++ f ∷ []) facts (Some f) refl a).0 z }
 
 -- a fact whose place was settled
 pub settles_more : (v : View) (y : Bool) (facts : List Fact) (old d : Draft) (f : Fact) (s : Settled) (store : Kept) → is_state f.test ≡ true → IsSettled (current v d.grown) (At (place_of f d.packet)) s → arrays_of store ≡ put (arrays_of d.store) (place_of f d.packet) s.num
@@ -59,7 +53,7 @@ settles_more v y facts old d f s store is settled written h =
     let new : Draft = record { packet = d.packet; store = store; grown = Some s.ctx } in
     let keeps : (g : Fact) → Knows v d g → Knows v new g = λ g k. fact_kept w p s d.packet (arrays_of d.store) (arrays_of store) g settled written k in
     let here : Knows v new f = λ st.
-    let number : arrays_of store p ≡ s.num = ap (λ (m : Arrays). m p) written ∙ cond-true (same_place p p) s.num (arrays_of d.store p) (same_place-refl p) in
+    let number : arrays_of store p ≡ s.num = ap (λ (m : Arrays). m p) written ∙ cond-true (same_place p p) s.num (arrays_of d.store p) (same_place-itself p) in
     subst (λ n. Forces s.ctx (At p) n) (sym number) (settled_new w (At p) s settled)
     in record {
       draft = record {
@@ -69,7 +63,7 @@ settles_more v y facts old d f s store is settled written h =
       };
       places = All-push (λ g. g.yes ≡ y → Knows v new g) facts f (λ i e l a. keeps (get_or facts i e) (h.places i e l a)) (λ _. here);
       kept = λ g k. keeps g (h.kept g k);
-      only = λ n a z. (let t = front (FactBelow n) facts f a in zero_put n (arrays_of d.store) (arrays_of store) p s.num (t.1 is) written (h.only n t.0 z));
+      only = λ n a z. (let t = All-pop (FactBelow n) (facts ++ f ∷ []) facts (Some f) refl a in zero_put n (arrays_of d.store) (arrays_of store) p s.num (t.1 is) written (h.only n t.0 z));
     }
 
 passes-where_state : (m n : Arrays) (k : List ℕ) (t : Test) → (is_state t ≡ true → n (place_at (var_of t) (index_of t) k) ≡ m (place_at (var_of t) (index_of t) k)) → passes t n k ≡ passes t m k

@@ -3,6 +3,7 @@ use Rattle.std.proofs.Common.{◌≡◌, ℕ, ◌+◌, ◌<◌, ◌≤◌, ⊎_e
 use Rattle.std.specs.Prelude.{slice_index}
 use Rattle.std.proofs.lemmas.Bool.{eqb-true, cases_lt}
 use Rattle.std.proofs.lemmas.Grind.{common_steps}
+use Rattle.snap_core.proofs.Places.{same_place-exact}
 use Rattle.snap_core.specs.declared.place.Place.{Place}
 use Rattle.snap_core.specs.Arrays.{Arrays, put, same_place}
 use Rattle.snap_core.specs.Tests.{passes}
@@ -10,7 +11,6 @@ use Rattle.snap_ctx.specs.declared.fact.Fact.{Fact}
 use Rattle.snap_ctx.specs.Meets.{Meets}
 use Rattle.snap_ctx.specs.View.{View}
 use Rattle.snap_ctx.proofs.Answers.{Meets-parts}
-use Rattle.snap_ctx.proofs.Places.{same_place-true}
 use Rattle.snap_model.specs.declared.ask.Ask.{Ask}
 use Rattle.snap_model.specs.declared.ask.Ask.TheVariants.{Component, At}
 use Rattle.snap_model.specs.declared.ask.Settled.{Settled}
@@ -69,7 +69,7 @@ fact_kept w p s k m n f settled e h st =
     let q : Place = place_of f k in
     let by : (b : Bool) → same_place p (place_of f k) ≡ b → Forces s.ctx (At (place_of f k)) (cond b s.num (m (place_of f k)))
     = λ b. elim b as (λ b. same_place p (place_of f k) ≡ b → Forces s.ctx (At (place_of f k)) (cond b s.num (m (place_of f k)))) [
-      | true ↦ λ t. subst (λ x. Forces s.ctx (At x) s.num) (same_place-true p (place_of f k) t) (settled_new w (At p) s settled)
+      | true ↦ λ t. subst (λ x. Forces s.ctx (At x) s.num) (same_place-exact p (place_of f k) t) (settled_new w (At p) s settled)
       | false ↦ λ t. settled_old w (At p) s settled (At (place_of f k)) (m (place_of f k)) (h st)
     ]
     in subst (λ (x : Arrays). Forces s.ctx (At (place_of f k)) (x (place_of f k))) (sym e) (by (same_place p (place_of f k)) refl)

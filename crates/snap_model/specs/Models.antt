@@ -1,6 +1,5 @@
 -- How a context grows until all its models agree on the packet and on the places of its facts.
 use Rattle.std.specs.Prelude.{◌≡◌, ℕ, ◌<◌, Bool, true, List, length, slice_index, All, Option, Some, None}
-use Rattle.std.specs.List.{AllByRecursion}
 use Rattle.snap_core.specs.declared.place.Place.{Place}
 use Rattle.snap_core.specs.Inputs.{IsStore, IsZeroFrom}
 use Rattle.snap_core.specs.Arrays.{Arrays, place_at}
@@ -63,4 +62,4 @@ pub record Settles (v : View) (yes : Bool) (facts : List Fact) (old new : Draft)
   pub draft : IsDraft v new
   pub places : All (λ f. f.yes ≡ yes → Knows v new f) facts
   pub kept : (f : Fact) → Knows v old f → Knows v new f
-  pub only : (n : ℕ) → AllByRecursion (FactBelow n) facts → IsZeroFrom n (arrays_of old.store) → IsZeroFrom n (arrays_of new.store)
+  pub only : (n : ℕ) → All (FactBelow n) facts → IsZeroFrom n (arrays_of old.store) → IsZeroFrom n (arrays_of new.store)

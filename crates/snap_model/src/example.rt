@@ -1,7 +1,7 @@
 //! Examples of contexts.
 
 ghost use Rattle.std.specs.Prelude.{◌≡◌, ◌<◌, ℕ, IfOk, MatchOption, true, false, length};
-ghost use Rattle.std.specs.List.{AllByRecursion};
+ghost use Rattle.std.specs.List.{All};
 ghost use Rattle.snap_core.specs.declared.place.Place.{Place};
 ghost use Rattle.snap_core.specs.Arrays.{put};
 ghost use Rattle.snap_core.specs.Cells.{arrays_of};
@@ -140,7 +140,7 @@ pub fn example(alloc: Global, ctx: &Context) -> Result<(Store, Packet), NoMemory
     ensures facts { IfOk result (λ e. Meets ctx.now.facts (arrays_of e.0) e.1) }
     ensures store { IfOk result (λ e. IsStore (arrays_of e.0)) }
     ensures packet { IfOk result (λ e. IsPacket (length ctx.now.classes) e.1) }
-    ensures only { IfOk result (λ e. (n : ℕ) → AllByRecursion (FactBelow n) ctx.now.facts → IsZeroFrom n (arrays_of e.0)) }
+    ensures only { IfOk result (λ e. (n : ℕ) → All (FactBelow n) ctx.now.facts → IsZeroFrom n (arrays_of e.0)) }
 {
     let draft = settle_packet(alloc, ctx)?;
     // What a fact denies may be what another says, so these come first.

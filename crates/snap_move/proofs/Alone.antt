@@ -14,12 +14,13 @@ use Rattle.snap_core.specs.Switch.{Switched, one_big_switch}
 use Rattle.snap_rows.specs.declared.tables.Tables.{Tables}
 use Rattle.snap_rows.specs.Entries.{owner_of}
 use Rattle.snap_rows.specs.Network.{Net, Event, Inject, Happening, Run, packets_of, start, whole}
+use Rattle.snap_rows.proofs.Runs.{calm-run}
 use Rattle.snap_net.specs.Laws.{HoldsOwnAlone}
 use Rattle.snap_net.proofs.Home.{arrays_stay_home}
 use Rattle.snap_gen.specs.Agreement.{Agrees, CameOut, numbered}
 use Rattle.snap_gen.specs.Faithful.{IsPacketOf, IsStoreOf, packets_in}
 use Rattle.snap_gen.proofs.Switching.{only_outcome, picks_all, switched_first}
-use Rattle.snap_whole.proofs.Entered.{IsOfProgram, all_enter, calm_run}
+use Rattle.snap_whole.proofs.Entered.{IsOfProgram, all_enter}
 use Rattle.snap_move.specs.Changing.{GoesThrough}
 use Rattle.snap_move.specs.Laws.{IsFaithfulTo}
 use Rattle.snap_move.proofs.Earlier.{Earlier, came-later, earlier, later_happening, later_net, none_flies}
@@ -82,7 +83,7 @@ module _ (p : Program) (t : Tables) (f : IsFaithfulTo p t) (m : Arrays) (store :
 
   agrees : Agrees p t m (k ∷ []) (numbered (k ∷ [])) run.end run.happenings
   agrees = subst (λ l. Agrees p t m l (numbered l) run.end run.happenings) (ap packets_in enters)
-      (f.faithful.calm_runs m (Inject port k ∷ through.events) run.end run.happenings store (all_enter t p fits (calm_run t run.run)) run.run
+      (f.faithful.calm_runs m (Inject port k ∷ through.events) run.end run.happenings store (all_enter t p fits (calm-run run.run)) run.run
       (none_flies s.injected run.end.flying (sym (ap (λ (x : Net). x.flying) run.is) ∙ through.rests)))
 
   switched : one_big_switch p.body m (k ∷ []) ≡ Some agrees.end
@@ -98,7 +99,7 @@ module _ (p : Program) (t : Tables) (f : IsFaithfulTo p t) (m : Arrays) (store :
   whole_same q = ap (λ (x : Net). whole t x q) run.is ∙ agrees.arrays q ∙ sym (ap (λ (x : Arrays). x q) made.2)
 
   own : HoldsOwnAlone t s'
-  own = subst (HoldsOwnAlone t) (sym run.is) (arrays_stay_home t f.faithful.shape.valid f.faithful.shape.form m (Inject port k ∷ through.events) run.end run.happenings (calm_run t run.run))
+  own = subst (HoldsOwnAlone t) (sym run.is) (arrays_stay_home t f.faithful.shape.valid f.faithful.shape.form m (Inject port k ∷ through.events) run.end run.happenings (calm-run run.run))
 
   left_store : IsStoreOf p made.0.arrays
   left_store =
@@ -118,6 +119,6 @@ module _ (p : Program) (t : Tables) (f : IsFaithfulTo p t) (m : Arrays) (store :
     fits = fits;
     end = run.end;
     earlier_hs = run.happenings;
-    run = calm_run t run.run;
+    run = calm-run run.run;
     happen = run.happen;
   }

@@ -16,27 +16,13 @@ use Rattle.snap_rows.specs.declared.head.Sent.{Sent}
 use Rattle.snap_rows.specs.Handles.{Handles}
 use Rattle.snap_rows.specs.Happenings.{deliveries_of, losses_of}
 use Rattle.snap_rows.specs.Network.{Copy, Net, Event, Inject, Step, Happening, Crossed, Delivered, Forked, Leads, inject, step, RunsCalmly, rests, injects, steps, happening, injected, moved, packets_of, stepped}
+use Rattle.snap_rows.proofs.Runs.{calm-run, runs-count}
 use Rattle.snap_gen.specs.Agreement.{CameOut, sent_of}
+use Rattle.snap_runs.proofs.Played.{leads-count}
 use Rattle.snap_whole.specs.Laws.{IsHopWithin}
 
--- each injection is counted
-counts_in : (t : Tables) (s s' : Net) (port : ℕ) (k : List ℕ) (h : List Happening) → Leads t s (Inject port k) s' h → s'.injected ≡ s.injected + 1
-counts_in t s s' port k h (inject own names) = refl
-
-counts_on : (t : Tables) (s s' : Net) (i : ℕ) (h : List Happening) → Leads t s (Step i) s' h → s'.injected ≡ s.injected
-counts_on t s s' i h (step is handles) = refl
-
 pub counts : (t : Tables) {s s' : Net} {es : List Event} {hs : List Happening} → RunsCalmly t s es s' hs → s'.injected ≡ s.injected + length (packets_of es)
-counts t rests = omega arith
-counts t (injects {s = s} {s' = s1} {port = port} {k = k} {es = es} {h = h} still leads on) =
-    let one = counts_in t s s1 port k h leads in
-    let more = counts t on in
-    let long : length ((port, k) ∷ packets_of es) ≡ length (packets_of es) + 1 = omega arith in
-    omega (arith, one, more, long)
-counts t (steps {s = s} {s' = s1} {i = i} {h = h} leads on) =
-    let one = counts_on t s s1 i h leads in
-    let more = counts t on in
-    omega (arith, one, more)
+counts t run = runs-count (λ (s : Net). s) (Leads t) (leads-count t) (calm-run run)
 
 module _ (n : ℕ) where
   abbrev pub later_copy : Copy → Copy

@@ -6,13 +6,14 @@ use Rattle.snap_core.specs.Arrays.{zero_arrays}
 use Rattle.snap_core.specs.Listing.{IsListing}
 use Rattle.snap_rows.specs.declared.tables.Tables.{Tables}
 use Rattle.snap_rows.specs.Form.{IsInForm}
-use Rattle.snap_rows.specs.Network.{Net, Event, Inject, Happening, StepsFirst, start, whole}
+use Rattle.snap_rows.specs.Network.{Net, Event, Inject, Happening, Leads, StepsFirst, start, whole}
+use Rattle.snap_rows.proofs.Runs.{calm-one}
 use Rattle.snap_trace.specs.Reports.{end_text}
 use Rattle.snap_runs.specs.declared.frames.Frames.TheVariants.{Plain}
 use Rattle.snap_runs.specs.Reports.{array_names}
 use Rattle.snap_runs.specs.Tracing.{changed}
 use Rattle.snap_runs.proofs.OneReport.{block_one, listings_one}
-use Rattle.snap_runs.proofs.OneRun.{runs_one}
+use Rattle.snap_runs.proofs.OneRun.{leads_one, steps_copies}
 use Rattle.snap_move.specs.declared.later.Later.{Later}
 use Rattle.snap_move.specs.Changing.{AreBlocksFrom, GoesThrough, IsAhead, RunsThrough, Turn, rests, changes, goes}
 use Rattle.snap_move.specs.Laws.{AreInForm, ChangedBlocksAreOne, ChangedReportsAreOne}
@@ -21,9 +22,9 @@ use Rattle.snap_move.specs.Laws.{AreInForm, ChangedBlocksAreOne, ChangedReportsA
 goes_one : (t : Tables) → IsInForm t → (k : List ℕ) (s n n' : Net) (hs hs' : List Happening) → GoesThrough t k s n hs → GoesThrough t k s n' hs' → (n ≡ n') × (hs ≡ hs')
 goes_one t form k s n n' hs hs' a b =
     let e : Event = Inject (slice_index k 0) k in
-    let r = runs_one t form s s n n' (e ∷ a.events) (e ∷ b.events) hs hs' refl (ap (λ l. (slice_index k 0, k) ∷ l) (a.no_packets ∙ sym b.no_packets))
+    let r = calm-one (Leads t) (λ (s : Net). s) (leads_one t form) (steps_copies t) (e ∷ a.events) (e ∷ b.events) (ap (λ l. (slice_index k 0, k) ∷ l) (a.no_packets ∙ sym b.no_packets))
     (All-cons StepsFirst e a.events tt a.first) (All-cons StepsFirst e b.events tt b.first) a.rests b.rests a.run b.run in
-    (r.ends, r.happenings)
+    (r.1, r.2)
 
 -- ---- the run
 no_turns : {end : Tables} {left : List Later} {last : Net} {t : Tables} {ls : List Later} {s : Net} {ks : List (List ℕ)} {turns : List Turn} → RunsThrough end left last t ls s ks turns → ks ≡ [] → turns ≡ []

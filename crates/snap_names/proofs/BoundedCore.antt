@@ -5,7 +5,7 @@ use Rattle.std.proofs.Math.Nat.{min-le_left}
 use Rattle.snap_names.specs.Core.{Atom, Num, Comp, Op, Put, Add, Pol, Filter, Set, Change, Par', Seq', If', Atomic', Pred, Id, Drop, Field, State, Not', And', Or', CoreTest, id_test, drop_test, field_test, state_test, not_test, and_test, or_test, core_test, CorePolicy, filter, set, change, par, seq, choice, atomic, core_policy}
 use Rattle.snap_core.specs.Fits.{AtomFits, OpFits, IndexFits, PredFits, PolFits}
 use Rattle.snap_names.specs.Senses.{Arities}
-use Rattle.std.proofs.lemmas.List.Elements.{All-from_recursion, All-weaker, recursion_from_All}
+use Rattle.std.proofs.lemmas.List.Elements.{All-weaker}
 
 -- an array with its number in 16 bits, and an index of as many atoms as its first one
 pub record IsIndexed (W : Type 0) (v : ℕ) (seen : Arities) (s : ℕ) (es : List Atom) : Type 0 where
@@ -74,7 +74,7 @@ OpFits-more c d k (Put a) h = AtomFits-more c d k a h
 OpFits-more c d k (Add n) h = tt
 
 IndexFits-more : (c d : ℕ) → c ≤ d → (es : List Atom) → IndexFits c es → IndexFits d es
-IndexFits-more c d k es h = recursion_from_All (AtomFits d) es (All-weaker (AtomFits c) (AtomFits d) (AtomFits-more c d k) es (All-from_recursion (AtomFits c) es h))
+IndexFits-more c d k es h = All-weaker (AtomFits c) (AtomFits d) (AtomFits-more c d k) es h
 
 IsIndexed-more : (W : Type 0) (v w : ℕ) (seen now : Arities) → v ≤ w → Grows seen now → (s : ℕ) (es : List Atom) → IsIndexed W v seen s es → IsIndexed W w now s es
 IsIndexed-more W v w seen now l g s es h = record { array = h.array; below = lt_of_lt_of_le h.below l; number = h.number; arity = g.kept h.array (length es) h.arity; some = h.some }

@@ -4,8 +4,8 @@ use Rattle.std.proofs.lemmas.Bool.{eqb-true}
 use Rattle.std.proofs.lemmas.Result.{IfOk-weaker}
 use Rattle.std.specs.List.{All}
 use Rattle.std.proofs.lemmas.Map.Entries.{All-lookup}
-use Rattle.snap_core.proofs.Entries.{both}
-use Rattle.snap_names.specs.Core.{Atom, Comp}
+use Rattle.std.proofs.lemmas.List.Elements.{All-append, All-from_recursion}
+use Rattle.snap_names.specs.Core.{Atom, Num, Comp}
 use Rattle.snap_core.specs.Fits.{AtomFits, IndexFits}
 use Rattle.snap_names.specs.Senses.{Span, Value, Sense, Plain, Split, Array, Constant, Policy, NameFault, Unknown, Kind, Arity, Words, Arities, Place, after, word, sense_of, literal, constant, atom_of, field_atom, array_atom, address_literal, split_of_sense, split_atoms, split_address, split_net, split_test, test_of_sense, field_equals, set_of_sense, field_gets, atoms_of_sense, value_atoms, atoms_behind, arity_seen, width_of, value_width, width}
 use Rattle.snap_names.proofs.BoundedCore.{IsIndexed, TestFits, PolicyFits, Grows, Grows-same}
@@ -77,13 +77,13 @@ pub field_gets-fits : (W : Type 0) (c v : ℕ) (seen : Arities) (e : Words) (nam
 field_gets-fits W c v seen e name x h = IfOk-after (SenseFits c v) (PolicyFits W c v seen) (sense_of e name) (set_of_sense e name.from x) (sense_of-fits c v e name h) (set_of_sense-fits W c v seen e name.from x h)
 
 atoms_of_sense-fits : (c v at : ℕ) (s : Sense) → SenseFits c v s → IfOk (atoms_of_sense at s) (IndexFits c)
-atoms_of_sense-fits c v at (Plain i) h = (h, tt)
-atoms_of_sense-fits c v at (Split a b n) h = (h.0, (h.1, tt))
-atoms_of_sense-fits c v at (Constant n b) h = (tt, tt)
+atoms_of_sense-fits c v at (Plain i) h = All-from_recursion (AtomFits c) (Comp i ∷ []) (h, tt)
+atoms_of_sense-fits c v at (Split a b n) h = All-from_recursion (AtomFits c) (Comp a ∷ Comp b ∷ []) (h.0, (h.1, tt))
+atoms_of_sense-fits c v at (Constant n b) h = All-from_recursion (AtomFits c) (Num n ∷ []) (tt, tt)
 atoms_of_sense-fits c v at _ h = tt
 
 value_atoms-fits : (c v : ℕ) (e : Words) (x : Value) → NamesFit c v e.names → IfOk (value_atoms e x) (IndexFits c)
-value_atoms-fits c v e (Value.Literal l) h = IfOk-after_any (IndexFits c) (literal e.text l) _ (λ n. (tt, tt))
+value_atoms-fits c v e (Value.Literal l) h = IfOk-after_any (IndexFits c) (literal e.text l) _ (λ n. All-from_recursion (AtomFits c) (Num n ∷ []) (tt, tt))
 value_atoms-fits c v e (Value.Prefix a l) h = tt
 value_atoms-fits c v e (Value.Name t) h = IfOk-after (SenseFits c v) (IndexFits c) (sense_of e t) (atoms_of_sense t.from) (sense_of-fits c v e t h) (atoms_of_sense-fits c v t.from)
 
@@ -91,7 +91,7 @@ pub atoms_behind-fits : (c v : ℕ) (e : Words) → NamesFit c v e.names → (be
 atoms_behind-fits c v e w before [] h = h
 atoms_behind-fits c v e w before (x ∷ xs) h =
     IfOk-after (IndexFits c) (IndexFits c) (value_atoms e x) (λ es. atoms_behind e (before ++ es) xs) (value_atoms-fits c v e x w)
-    (λ es k. atoms_behind-fits c v e w (before ++ es) xs (both (AtomFits c) before es h k))
+    (λ es k. atoms_behind-fits c v e w (before ++ es) xs (All-append (AtomFits c) before es h k))
 
 -- A value gives as many atoms as its width says.
 atoms_of_sense-length : (at : ℕ) (r : Result Sense NameFault) → IfOk (after r (atoms_of_sense at)) (λ es. length es ≡ width_of r)

@@ -2,7 +2,7 @@
 use Rattle.std.proofs.Common.{◌≡◌, ℕ, ◌-◌, ◌%◌, ◌^◌, ◌<◌, ◌≤◌, min, Bool, true, false, List, [], ◌∷◌, length, slice_get, Option, None, Some, Result, Ok, Err, IfOk, IfSome, refl, sym, ap, ◌∙◌, subst, arith, le_refl, le_trans, lt_of_lt_of_le, bytes_eq}
 use Rattle.std.proofs.lemmas.Result.{IfOk-weaker}
 use Rattle.std.specs.List.{All}
-use Rattle.std.proofs.lemmas.List.Elements.{All-weaker}
+use Rattle.std.proofs.lemmas.List.Elements.{All-nil, All-weaker}
 use Rattle.std.proofs.lemmas.Map.Entries.{All-lookup}
 use Rattle.snap_core.specs.Fits.{AtomFits, OpFits, IndexFits}
 use Rattle.snap_parse.specs.Tree.{PolicyTree, policy_begin, policy_more, SequenceTree, sequence_begin, sequence_more, ChoiceTree, if_tree, plain_tree, EitherTree, either_begin, either_more, BothTree, both_begin, both_more, SingleTree, not_tree, id_tree, drop_tree, group_tree, atomic_tree, name_tree, test_tree, set_tree, bare_tree, array_test_tree, array_set_tree, up_tree, down_tree, array_add_tree, array_sub_tree}
@@ -151,7 +151,7 @@ module _ (W : Type 0) (c v : ℕ) (e : Scope) where
       IfOk-after (λ behind. IsSeen before behind i (width w vs)) (PlaceIs before t vs) (arity_seen before i (width w vs) t.from (slice_get before i)) _
       (arity_seen-gives before i (width w vs) t.from (lt_of_lt_of_le below h.room) (slice_get before i) refl) (λ arities seen.
       IfOk-after (λ es. IndexLong vs es × Behind e [] vs es) (PlaceIs before t vs) (atoms_behind w [] vs) _
-      (IfOk-both (IndexLong vs) (Behind e [] vs) (atoms_behind w [] vs) (IfOk-both (IndexFits c) (λ es. length es ≡ width w vs) (atoms_behind w [] vs) (atoms_behind-fits c v w h.names [] vs tt) (index-length w vs)) (atoms_behind-atoms e [] vs)) (λ index k.
+      (IfOk-both (IndexLong vs) (Behind e [] vs) (atoms_behind w [] vs) (IfOk-both (IndexFits c) (λ es. length es ≡ width w vs) (atoms_behind w [] vs) (atoms_behind-fits c v w h.names [] vs (All-nil (AtomFits c))) (index-length w vs)) (atoms_behind-atoms e [] vs)) (λ index k.
       let arity : slice_get arities i ≡ Some (Some (length index)) = seen.arity ∙ ap (λ n. Some (Some n)) (sym k.0.1) in (
         (seen.grows, record { array = i; below = below; number = refl; arity = arity; some = λ q. omega (arith, width-some w vs (some q), k.0.1) }, k.0.0),
         λ q few agrees. short-array e t vs i index (omega (arith, below, few)) (record { array = m; have = subst (HaveAtoms e vs) (sym k.1.2) k.1.1; size = agrees i (length index) arity }),

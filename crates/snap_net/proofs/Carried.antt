@@ -39,7 +39,8 @@ use Rattle.snap_net.specs.Passing.{Comes, Goes, GoOut, none, next_one, IsHeard, 
 use Rattle.snap_net.specs.Shown.{Held, Shows, flown, store_of}
 use Rattle.snap_net.specs.Travels.{Crosses, ends, goes, Hears, WayOf}
 use Rattle.snap_net.proofs.Steps.{Left, done_fresh, has_stepped, with_fresh}
-use Rattle.snap_net.proofs.Told.{calm-then, crossings-append, deliveries_of-append, losses_of-append, packets_of-append}
+use Rattle.snap_net.proofs.Told.{calm-then, crossings-append, packets_of-append}
+use Rattle.snap_rows.proofs.Happenings.{deliveries_of-append, losses_of-append}
 
 -- ---- steps of the first copy
 goes_none : (t : Tables) (s : Net) → Goes t s [] s
@@ -325,7 +326,7 @@ parts_long t i w os k saw old new sent lost parts =
     subst (All (λ l. length l ≡ length k)) parts.sent_is (All-map (λ l. length l ≡ length k) (λ (x : Sent). x.packet) parts.copies (λ j d within. (arrive j d within).long))
 
 -- ---- a packet
-rests_shown : (cs : List Copy) → map flown cs ≡ [] → cs ≡ []
+pub rests_shown : (cs : List Copy) → map flown cs ≡ [] → cs ≡ []
 rests_shown [] e = refl
 rests_shown (c ∷ cs) e = absurd (cc)
 

@@ -8,7 +8,8 @@ use Rattle.snap_rows.specs.declared.tables.Tables.{Tables}
 use Rattle.snap_rows.specs.Entries.{owner_of}
 use Rattle.snap_rows.specs.Form.{IsInForm}
 use Rattle.snap_rows.specs.Rules.{IsValid}
-use Rattle.snap_rows.specs.Network.{Net, Event, Happening, Leads, inject, step, Runs, done, on, start}
+use Rattle.snap_rows.specs.Network.{Net, Event, Happening, Leads, inject, step, start}
+use Rattle.snap_rows.proofs.Runs.{runs-keep}
 use Rattle.snap_rows.proofs.Own.{handles_own}
 use Rattle.snap_net.specs.Laws.{HoldsOwnAlone, ArraysStayHome}
 
@@ -33,9 +34,5 @@ leads_own t valid form s s' e hs (step {i = i} {c = c} {m = m} {a = a} is handle
         ⊎_elim (λ mine. absurd (other (mine ∙ ap Some (sym same)))) (λ kept. kept ∙ own c.at p (λ mine. other (mine ∙ ap Some (sym same)))) (handles_own t valid form c.at c.packet (s.stores c.at) c.head m a handles p)
     by w p other false away = own w p other
 
-runs_own : (t : Tables) → IsValid t → IsInForm t → (s : Net) (es : List Event) (s' : Net) (hs : List Happening) → Runs t s es s' hs → HoldsOwnAlone t s → HoldsOwnAlone t s'
-runs_own t valid form s es s' hs done own = own
-runs_own t valid form s es s' hs (on leads rest) own = runs_own t valid form _ _ s' _ rest (leads_own t valid form s _ _ _ leads own)
-
 pub arrays_stay_home : ArraysStayHome
-arrays_stay_home t valid form m es s hs run = runs_own t valid form (start t m) es s hs run (start_own t m)
+arrays_stay_home t valid form m es s hs run = runs-keep (HoldsOwnAlone t) run (leads_own t valid form) (start_own t m)

@@ -5,10 +5,11 @@ use Rattle.std.specs.List.{All}
 use Rattle.std.proofs.lemmas.List.Elements.{All-nil}
 use Rattle.snap_core.specs.Arrays.{Arrays}
 use Rattle.snap_rows.specs.declared.tables.Tables.{Tables}
-use Rattle.snap_rows.specs.Network.{Copy, Event, Inject, Step, happening}
+use Rattle.snap_rows.specs.Network.{Copy, Event, Inject, Step, done, on, happening}
+use Rattle.snap_rows.proofs.Runs.{runs-keep}
 use Rattle.snap_rows.proofs.Rows.{All-get}
 use Rattle.snap_gen.proofs.Nodes.{IsTwo}
-use Rattle.snap_order.specs.Ordered.{Ordered, Turn, Happens, Waits, LeadsInTurn, RunsInTurn, RunInTurn, begin, done, on, moves, turn_of, visits, waits}
+use Rattle.snap_order.specs.Ordered.{Ordered, Turn, Happens, Waits, LeadsInTurn, RunInTurn, begin, moves, turn_of, visits, waits}
 use Rattle.snap_order.specs.Progress.{CanEnd, CanGoOn, CanStep, RunsInTurnCanEnd, SomeCopyGoesOn, StepsInTurnCanBeMade}
 use Rattle.snap_order.specs.Rounding.{KeepsPace}
 use Rattle.snap_order.proofs.Able.{can_step, no_wait, visits_on}
@@ -27,12 +28,8 @@ module _ (t : Tables) (two : IsTwo t) where
   keeps (Inject port k) leads kept = record { placed = inject_placed t two leads kept.placed; pace = inject_pace leads kept.pace }
   keeps (Step i) leads kept = record { placed = step_placed t two leads kept.placed; pace = step_pace t two leads kept.placed kept.pace }
 
-  keeps_on : {s s' : Ordered} {es : List Event} {us : List Turn} → RunsInTurn t s es s' us → Keeps t s → Keeps t s'
-  keeps_on done kept = kept
-  keeps_on (on {e = e} leads rest) kept = keeps_on rest (keeps e leads kept)
-
   reached : (m : Arrays) (es : List Event) (s : Ordered) (us : List Turn) → RunInTurn t m es s us → Keeps t s
-  reached m es s us run = keeps_on run (record { placed = All-nil (Placed t); pace = pace_first t (begin t m) refl refl (λ q. refl) })
+  reached m es s us run = runs-keep (Keeps t) run (λ s s' e us leads kept. keeps e leads kept) (record { placed = All-nil (Placed t); pace = pace_first t (begin t m) refl refl (λ q. refl) })
 
   -- ---- steps
   each : (s : Ordered) → Keeps t s → (i : ℕ) (c : Copy) → slice_get s.net.flying i ≡ Some c → CanStep t s i

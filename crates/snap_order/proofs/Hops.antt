@@ -5,7 +5,7 @@ use Rattle.std.specs.List.{All}
 use Rattle.std.proofs.Math.Nat.{suc-mul}
 use Rattle.std.proofs.lemmas.Nat.{mul-le}
 use Rattle.std.proofs.lemmas.List.{length-map}
-use Rattle.std.proofs.lemmas.List.Elements.{All-nil, All-cons, All-head, All-tail, All-append, All-take, All-drop}
+use Rattle.std.proofs.lemmas.List.Elements.{All-nil, All-cons, All-head, All-tail, All-append, All-take, All-drop, All-weaker}
 use Rattle.std.proofs.lemmas.Option.{slice_get_within}
 use Rattle.snap_core.specs.declared.program.Program.{Program}
 use Rattle.snap_core.specs.Arrays.{Arrays}
@@ -21,7 +21,7 @@ use Rattle.snap_rows.specs.declared.head.Sent.{Sent}
 use Rattle.snap_rows.specs.Entries.{next, rank_at, ranks}
 use Rattle.snap_rows.specs.Form.{switch_count}
 use Rattle.snap_rows.specs.Handles.{Handles}
-use Rattle.snap_rows.specs.Network.{Net, Copy, Event, Happening, Crossed, Delivered, Forked, step, moved, happening}
+use Rattle.snap_rows.specs.Network.{Net, Copy, Event, Happening, Crossed, Delivered, Forked, done, on, step, moved, happening}
 use Rattle.snap_rows.proofs.Later.{rank_is_below}
 use Rattle.snap_rows.proofs.Rows.{All-get}
 use Rattle.snap_gen.specs.Faithful.{Faithful}
@@ -31,8 +31,7 @@ use Rattle.snap_gen.proofs.Far.{ranks_few}
 use Rattle.snap_gen.proofs.Leaving.{split_off}
 use Rattle.snap_gen.proofs.Nodes.{IsTwo}
 use Rattle.snap_rows.specs.Stepping.{ComesTo, visit, walk}
-use Rattle.snap_order.specs.Ordered.{Ordered, Turn, left_by, turn_of, LeadsInTurn, injects, moves, visits, waits, RunsInTurn, RunInTurn, happenings}
-use Rattle.snap_order.specs.Ordered as ordered
+use Rattle.snap_order.specs.Ordered.{Ordered, Turn, left_by, turn_of, LeadsInTurn, injects, moves, visits, waits, RunsInTurn, happenings}
 use Rattle.snap_order.specs.Laws.{IsDeliveredWithin, Overlaps}
 use Rattle.snap_order.proofs.Near.{near, distances}
 use Rattle.snap_order.proofs.Overlap.{happenings_more}
@@ -137,14 +136,11 @@ module _ (t : Tables) (two : IsTwo t) (dist : ℕ → ℕ → ℕ) (d : ℕ) (fa
   leads_within (waits found at early) all = (all, All-nil (IsDeliveredWithin most))
 
   runs_within : {s s' : Ordered} {es : List Event} {us : List Turn} → RunsInTurn t s es s' us → All Within s.net.flying → All Within s'.net.flying × All (IsDeliveredWithin most) (happenings us)
-  runs_within ordered.done all = (all, All-nil (IsDeliveredWithin most))
-  runs_within (ordered.on {u = u} {us = us} leads rest) all =
+  runs_within done all = (all, All-nil (IsDeliveredWithin most))
+  runs_within (on {h = u} {hs = us} leads rest) all =
       let first = leads_within leads all in
       let more = runs_within rest first.0 in
       (more.0, subst (All (IsDeliveredWithin most)) (sym (happenings_more u us)) (All-append (IsDeliveredWithin most) (happenings u) (happenings us) first.1 more.1))
-
-each : {X : Type 0} (P Q : X → Type 0) → ((x : X) → P x → Q x) → (xs : List X) → All P xs → All Q xs
-each P Q f xs all = λ i z l. f _ (all i z l)
 
 still_within : (a b : ℕ) → a ≤ b → (h : Happening) → IsDeliveredWithin a h → IsDeliveredWithin b h
 still_within a b le (Delivered c port) i = let x : c.hops ≤ a = i in omega (arith, x, le)
@@ -167,6 +163,6 @@ few_hops_made p topology places t f version order d rank diameter m es s us o =
     let low = (f.shape.ranks version order rank).below i (let l = slice_get_within t.arrays i a e in omega (arith, l, many)) in
     subst (λ x. x < length order) (ap (λ o. unwrap_or (option_map (λ (a : ArrayAt). a.rank) o) 0) e) low)) in
     let more = mul-le (ranks t + 1) d (length order + 1) d (omega (arith, fewer)) (omega arith) in (
-      each (λ c. CopyWithin t dist d (unstayed c)) (λ (c : Copy). c.hops ≤ (length order + 1) * d) (λ c i. (let x = few_hops t two dist d far c i in omega (arith, x, more))) s.net.flying within.0,
-      each (IsDeliveredWithin ((ranks t + 1) * d)) (IsDeliveredWithin ((length order + 1) * d)) (still_within ((ranks t + 1) * d) ((length order + 1) * d) more) (happenings us) within.1,
+      All-weaker (λ c. CopyWithin t dist d (unstayed c)) (λ (c : Copy). c.hops ≤ (length order + 1) * d) (λ c i. (let x = few_hops t two dist d far c i in omega (arith, x, more))) s.net.flying within.0,
+      All-weaker (IsDeliveredWithin ((ranks t + 1) * d)) (IsDeliveredWithin ((length order + 1) * d)) (still_within ((ranks t + 1) * d) ((length order + 1) * d) more) (happenings us) within.1,
     )

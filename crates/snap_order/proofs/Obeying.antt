@@ -4,12 +4,14 @@ use Rattle.std.specs.Prelude.{slice_index}
 use Rattle.std.proofs.lemmas.List.{length-append, length-map, length-reverse}
 use Rattle.snap_core.specs.Arrays.{zero_arrays}
 use Rattle.snap_rows.specs.declared.tables.Tables.{Tables}
-use Rattle.snap_rows.specs.Network.{Event, Inject, Step, packets_of}
+use Rattle.snap_rows.specs.Network.{Event, Inject, Step, done, packets_of}
+use Rattle.snap_rows.proofs.Runs.{runs-count, runs-then}
 use Rattle.snap_net.specs.Shown.{flown}
 use Rattle.snap_runs.specs.declared.event.Order.TheVariants as order
 use Rattle.snap_runs.specs.declared.ready.Ready.{Ready}
 use Rattle.snap_runs.specs.Playing.{packets_in}
-use Rattle.snap_runs.specs.Schedules.{CantBeDone, Spells, nothing, skips, injects, steps, lines_of, order_by}
+use Rattle.snap_runs.specs.Schedules.{CantBeDone, Spells, nothing, lines_of, order_by}
+use Rattle.snap_runs.proofs.Played.{spells-count}
 use Rattle.snap_runs.proofs.Spelling.{spells-inject, spells-skip, spells-step}
 use Rattle.snap_runs.proofs.Steps.{rests-shown}
 use Rattle.snap_order.specs.declared.play.Play.{Play}
@@ -21,19 +23,13 @@ use Rattle.snap_order.specs.Reports.{IsRunReport}
 use Rattle.snap_order.specs.Runs.{EndsEarly, IsScheduleReport, Obeys, StopsAt}
 use Rattle.snap_order.proofs.Playing.{playing_of}
 
--- a run, and one event more
-pub run_then : (t : Tables) {s s' : Ordered} {es : List Event} {us : List Turn} (e : Event) (s'' : Ordered) (u : List Turn) → RunsInTurn t s es s' us → LeadsInTurn t s' e s'' u → RunsInTurn t s (es ++ e ∷ []) s'' (us ++ u)
-run_then t e s'' u (ordered.done {s = s}) leads = subst (λ l. RunsInTurn t s (e ∷ []) s'' l) (append-nil u) (ordered.on leads ordered.done)
-run_then t e s'' u (ordered.on {s = s} {e = f} {es = es} {u = v} {us = us} first rest) leads =
-    subst (λ l. RunsInTurn t s (f ∷ (es ++ e ∷ [])) s'' l) (sym (append_assoc v us u)) (ordered.on first (run_then t e s'' u rest leads))
-
 -- before the first line
 pub lines_first : (t : Tables) (hops : Bool) (ks : List (List ℕ)) (v : Play) → Plays t hops (begin t zero_arrays) [] v → left_in v ≡ ks → PlaysLines t hops ks [] v
 lines_first t hops ks v plays left = record {
   state = begin t zero_arrays;
   turns = [];
   plays = plays;
-  obeys = record { events = []; spells = subst (Spells [] ks []) (sym left) nothing; run = ordered.done };
+  obeys = record { events = []; spells = subst (Spells [] ks []) (sym left) nothing; run = done };
 }
 
 pub fresh_of : (t : Tables) (hops : Bool) (ks : List (List ℕ)) (v : Play) → PlaysLines t hops ks [] v → IsFresh v
@@ -62,7 +58,7 @@ done_inject line old new e true does = λ t hops ks lines p.
         events = p.obeys.events ++ Inject (slice_index a.packet 0) a.packet ∷ [];
         spells = spells-inject line a.packet (left_in new) e a.next p.obeys.spells;
         run = subst (λ us. RunsInTurn t (begin t zero_arrays) (p.obeys.events ++ Inject (slice_index a.packet 0) a.packet ∷ []) a.state us) (append-nil p.turns)
-            (run_then t (Inject (slice_index a.packet 0) a.packet) a.state [] p.obeys.run a.leads);
+            (runs-then (Inject (slice_index a.packet 0) a.packet) a.state [] p.obeys.run a.leads);
       };
     }
 done_inject line old new e false none = λ t hops ks lines p. subst (λ o. CantBeDone o (left_in old) p.state.net) (sym e) none
@@ -77,7 +73,7 @@ done_step line place old new e true does = λ t hops ks lines p.
       obeys = record {
         events = p.obeys.events ++ Step place ∷ [];
         spells = subst (Spells (lines ++ line ∷ []) ks (p.obeys.events ++ Step place ∷ [])) (sym a.left) (spells-step line place e p.obeys.spells);
-        run = run_then t (Step place) a.state a.turns p.obeys.run a.leads;
+        run = runs-then (Step place) a.state a.turns p.obeys.run a.leads;
       };
     }
 done_step line place old new e false none = λ t hops ks lines p. subst (λ o. CantBeDone o (left_in old) p.state.net) (sym e) (none t hops p.state p.turns p.plays)
@@ -103,7 +99,7 @@ module _ (t : Tables) (hops : Bool) (ks : List (List ℕ)) where
         is = ap (λ n. n + 1) s.is;
         left = left_in v;
         state = s.plays.state;
-        turns = s.plays.turns;
+        told = s.plays.turns;
         obeys = s.plays.obeys;
         stuck = does t hops ks s.done s.plays;
       }
@@ -120,7 +116,7 @@ module _ (t : Tables) (hops : Bool) (ks : List (List ℕ)) where
         is = ap (λ n. n + 1) (s.is ∙ ap length (sym all));
         left = left_in v;
         state = s.plays.state;
-        turns = s.plays.turns;
+        told = s.plays.turns;
         obeys = subst (λ l. Obeys t ks l (left_in v) s.plays.state s.plays.turns) (sym all) s.plays.obeys;
         some = some;
       }
@@ -137,32 +133,18 @@ module _ (t : Tables) (hops : Bool) (ks : List (List ℕ)) where
           omega (arith, some, same)))
 
 -- ---- the report
-spells_count : {lines ks left : List (List ℕ)} {es : List Event} → Spells lines ks es left → length ks ≡ length (packets_of es) + length left
-spells_count (nothing {ks = ks}) = omega arith
-spells_count (skips e rest) = spells_count rest
-spells_count (injects e rest) = let h = spells_count rest in omega (arith, h)
-spells_count (steps e rest) = spells_count rest
-
 leads_count : (t : Tables) (s s' : Ordered) (e : Event) (u : List Turn) → LeadsInTurn t s e s' u → s'.net.injected ≡ s.net.injected + length (packets_of (e ∷ []))
 leads_count t s s' e u (ordered.injects at first) = refl
 leads_count t s s' e u (ordered.moves is none handles) = omega arith
 leads_count t s s' e u (ordered.visits is before turn takes) = omega arith
 leads_count t s s' e u (ordered.waits is before early) = omega arith
 
-pub run_count : (t : Tables) {s s' : Ordered} {es : List Event} {us : List Turn} → RunsInTurn t s es s' us → s'.net.injected ≡ s.net.injected + length (packets_of es)
-run_count t ordered.done = omega arith
-run_count t {s' = s''} (ordered.on {s = s} {s' = s'} {e = e} {es = es} {u = u} leads rest) = by e (leads_count t s s' e u leads) (run_count t rest)
-  where
-    by : (e : Event) → s'.net.injected ≡ s.net.injected + length (packets_of (e ∷ [])) → s''.net.injected ≡ s'.net.injected + length (packets_of es) → s''.net.injected ≡ s.net.injected + length (packets_of (e ∷ es))
-    by (Inject port k) f g = omega (arith, f, g)
-    by (Step i) f g = omega (arith, f, g)
-
 pub schedule_report : (t : Tables) (hops : Bool) (ks lines : List (List ℕ)) (v : Play) (text : List ℕ) (p : PlaysLines t hops ks lines v) → v.waiting.items ≡ [] → v.net.net.flying ≡ []
     → IsRunReport t hops p.state.net.injected p.state.net (happenings p.turns) text → IsScheduleReport t hops ks lines text
 schedule_report t hops ks lines v text p none rests report =
     let left : left_in v ≡ [] = ap (λ ws. packets_in (reverse ws)) none in
-    let a = spells_count p.obeys.spells in
-    let b = run_count t p.obeys.run in
+    let a = spells-count p.obeys.spells in
+    let b = runs-count (λ (o : Ordered). o.net) (LeadsInTurn t) (leads_count t) p.obeys.run in
     let c : length (left_in v) ≡ 0 = ap length left in
     let count : p.state.net.injected ≡ length ks = omega (arith, a, b, c) in
     record {

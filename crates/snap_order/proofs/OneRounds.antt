@@ -1,28 +1,21 @@
 -- The run by rounds of packets is one, and has one report.
-use Rattle.std.proofs.Common.{◌≡◌, ℕ, ◌<◌, List, [], ◌++◌, length, refl, sym, ap, subst, ◌∙◌, arith}
-use Rattle.std.proofs.lemmas.Option.{slice_get_within}
+use Rattle.std.proofs.Common.{◌≡◌, ℕ, List, [], ◌++◌, length, refl, sym, ap, subst, ◌∙◌, arith}
 use Rattle.snap_rows.specs.declared.tables.Tables.{Tables}
 use Rattle.snap_rows.specs.Form.{IsInForm}
 use Rattle.snap_rows.specs.Network.{Event, Inject, Step}
 use Rattle.snap_order.specs.OneRounds.{RoundReportsAreOne, RoundsRunToEnds}
-use Rattle.snap_order.specs.Ordered.{Ordered, Turn, LeadsInTurn, happenings, moves, visits, waits}
+use Rattle.snap_order.specs.Ordered.{Ordered, Turn, LeadsInTurn, happenings}
 use Rattle.snap_order.specs.Reports.{IsRunReport}
 use Rattle.snap_order.specs.Rounds.{GoesByRounds, rests, injects, goes_on, TakesFrom, ends, takes}
 use Rattle.snap_runs.specs.declared.frames.Frames.TheVariants.{Numbered}
 use Rattle.snap_runs.proofs.OneReport.{reports_one}
-use Rattle.snap_order.proofs.OneRun.{leads_one}
+use Rattle.snap_order.proofs.OneRun.{leads_one, steps_copies}
 use Rattle.snap_order.proofs.Rounds.{by_rounds_runs}
-
--- a step is of a copy in flight
-within : {t : Tables} {s s' : Ordered} {j : ℕ} {us : List Turn} → LeadsInTurn t s (Step j) s' us → j < length s.net.flying
-within {s = s} {j = j} (moves {c = c} found none does) = slice_get_within s.net.flying j c found
-within {s = s} {j = j} (visits {c = c} found before now taking) = slice_get_within s.net.flying j c found
-within {s = s} {j = j} (waits {c = c} found before early) = slice_get_within s.net.flying j c found
 
 round_one : (t : Tables) → IsInForm t → {i j : ℕ} {s s' n n' : Ordered} {es es' : List Event} {us us' : List Turn} → i ≡ j → s ≡ s' → TakesFrom t i s es n us → TakesFrom t j s' es' n' us' → (n ≡ n') × (us ≡ us')
 round_one t form at same (ends a) (ends b) = (same, refl)
-round_one t form at same (ends a) (takes leads next rest) = absurd (let w = within leads in let long = ap (λ (x : Ordered). length x.net.flying) same in omega (arith, a, at, w, long))
-round_one t form at same (takes leads next rest) (ends b) = absurd (let w = within leads in let long = ap (λ (x : Ordered). length x.net.flying) same in omega (arith, b, at, w, long))
+round_one t form {i = i} {j = j} {s = s} {s' = s'} at same (ends a) (takes {s' = n} {u = u} leads next rest) = absurd (let w = steps_copies t s' n j u leads in let long = ap (λ (x : Ordered). length x.net.flying) same in omega (arith, a, at, w, long))
+round_one t form {i = i} {j = j} {s = s} {s' = s'} at same (takes {s' = n} {u = u} leads next rest) (ends b) = absurd (let w = steps_copies t s n i u leads in let long = ap (λ (x : Ordered). length x.net.flying) same in omega (arith, b, at, w, long))
 round_one t form {i = i} {j = j} {s = s} at same (takes {s' = s1} {u = u} leads next rest) (takes {s' = s2} {u = v} leads' next' rest') =
     let one = leads_one t form s (Step i) s1 s2 u v leads (subst (λ x. LeadsInTurn t s (Step x) s2 v) (sym at) (subst (λ x. LeadsInTurn t x (Step j) s2 v) (sym same) leads')) in
     let long = ap (λ (x : Ordered). length x.net.flying) same in

@@ -25,6 +25,7 @@ use Rattle.snap_rows.specs.Handles.{Handles, Follows, is_field, forked}
 use Rattle.snap_rows.specs.Handles as handles
 use Rattle.snap_rows.specs.Happenings.{deliveries_of, losses_of}
 use Rattle.snap_rows.specs.Network.{Net, Copy, Event, Inject, Step, Happening, stepped, injected, happening, packets_of}
+use Rattle.snap_rows.specs.Network as network
 use Rattle.snap_rows.proofs.Rows.{some_injective}
 use Rattle.snap_gen.specs.Agreement.{sent_of, lost_of}
 use Rattle.snap_gen.specs.Chains.{Chain}
@@ -32,14 +33,13 @@ use Rattle.snap_gen.specs.Faithful.{Faithful, IsStoreOf, IsPacketOf, CanEnter, A
 use Rattle.snap_gen.specs.InTurn.{StandsAt, Becomes, SentOn, Waiting, Forks, TakesTurns, HoldsInTurn, IsOnItsChain}
 use Rattle.snap_gen.specs.Visits.{Enters, Chained, begun}
 use Rattle.snap_gen.proofs.Chained.{enters_one, fields_alike}
-use Rattle.snap_gen.proofs.Leaving.{IsQuiet, Leaving, Same, copies_of, copies_own, copies_moved, front, back, leaving_begins, leaving_on, leaving_still, others_same, own_leaves, quiet_more, quiet_still, split_up}
+use Rattle.snap_gen.proofs.Leaving.{IsQuiet, Leaving, Same, copies_before, copies_of, copies_own, copies_moved, front, back, leaving_begins, leaving_on, leaving_still, others_same, own_leaves, quiet_more, quiet_still}
 use Rattle.snap_gen.proofs.LoneRuns.{is_early, only_one}
 use Rattle.snap_gen.proofs.Nodes.{IsTwo, WalkDoes, visits_first, forks_at_once, walk_does, OutDoes, is_delivered, is_carried, out_does}
 use Rattle.snap_gen.proofs.Switching.{behind, in_pushed, picked_at, switched_more}
 use Rattle.snap_gen.proofs.Turning.{faithful_chains, faithful_stores, faithful_turns}
 use Rattle.snap_rows.specs.Stepping.{ComesTo, visit, walk}
 use Rattle.snap_order.specs.Ordered.{Ordered, Turn, Happens, Stays, Waits, IsBefore, turn_of, visited, LeadsInTurn, injects, moves, visits, waits, RunsInTurn, happenings}
-use Rattle.snap_order.specs.Ordered as ordered
 use Rattle.snap_order.specs.Turning.{rank_behind}
 use Rattle.snap_order.proofs.Taking.{Counts, counts}
 
@@ -74,9 +74,6 @@ module _ (s : Net) (c : Copy) (j : ℕ) (found : slice_get s.flying j ≡ Some c
   abbrev replaced : List Copy
   replaced = take j s.flying ++ (y ∷ [] ++ drop (j + 1) s.flying)
 
-  before_is : (i : ℕ) → copies_of i s.flying ≡ copies_of i (take j s.flying) ++ cond (nat_eq c.number i) (c ∷ copies_of i (drop (j + 1) s.flying)) (copies_of i (drop (j + 1) s.flying))
-  before_is i = ap (copies_of i) (split_up s.flying j c found) ∙ filter-append (λ (c : Copy). nat_eq c.number i) (take j s.flying) (c ∷ drop (j + 1) s.flying)
-
   after_is : (i : ℕ) → copies_of i replaced ≡ copies_of i (take j s.flying) ++ cond (nat_eq y.number i) (y ∷ copies_of i (drop (j + 1) s.flying)) (copies_of i (drop (j + 1) s.flying))
   after_is i = filter-append (λ (c : Copy). nat_eq c.number i) (take j s.flying) (y ∷ drop (j + 1) s.flying)
 
@@ -87,7 +84,7 @@ module _ (s : Net) (c : Copy) (j : ℕ) (found : slice_get s.flying j ≡ Some c
   replaced_other i ne =
       after_is i
       ∙ ap (λ b. copies_of i (take j s.flying) ++ cond b (y ∷ copies_of i (drop (j + 1) s.flying)) (copies_of i (drop (j + 1) s.flying))) (ne_eqb y.number i (λ e. ne (sym own ∙ e)))
-      ∙ sym (before_is i ∙ ap (λ b. copies_of i (take j s.flying) ++ cond b (c ∷ copies_of i (drop (j + 1) s.flying)) (copies_of i (drop (j + 1) s.flying))) (ne_eqb c.number i ne))
+      ∙ sym (copies_before s c j found i ∙ ap (λ b. copies_of i (take j s.flying) ++ cond b (c ∷ copies_of i (drop (j + 1) s.flying)) (copies_of i (drop (j + 1) s.flying))) (ne_eqb c.number i ne))
 
 -- ---- numbers handled
 -- the ranks below r have handled packet i, and the others haven't
@@ -474,13 +471,13 @@ module _ (p : Program) (topology : Topology) (places : List ℕ) (t : Tables) (f
 
   pub all_events : (pre : List (List ℕ)) (hs : List Happening) {s s' : Ordered} {es : List Event} {us : List Turn} → pre ++ packets_in (packets_of es) ≡ all → State (length pre) s.net s.handled hs → RunsInTurn t s es s' us
       → State (length all) s'.net s'.handled (hs ++ happenings us)
-  all_events pre hs {s = s} is st ordered.done =
+  all_events pre hs {s = s} is st network.done =
       subst (λ n. State n s.net s.handled (hs ++ [])) (ap length (sym (append-nil pre) ∙ is)) (subst (State (length pre) s.net s.handled) (sym (append-nil hs)) st)
-  all_events pre hs {s = s} {s' = s'} is st (ordered.on {e = Inject port k} {es = es} {us = us} (injects {w = w} own names) rest) =
+  all_events pre hs {s = s} {s' = s'} is st (network.on {e = Inject port k} {es = es} {hs = us} (injects {w = w} own names) rest) =
       all_events (pre ++ k ∷ []) hs (append_assoc pre (k ∷ []) (packets_in (packets_of es)) ∙ is)
       (subst (λ n. State n (injected s.net w port k) s.handled hs) (sym (length-append pre (k ∷ [])))
       (enter (length pre) s.net s.handled hs st w port k (ap (λ l. slice_index_or l (length pre) []) (sym is) ∙ picked_at pre k (packets_in (packets_of es))) own names)) rest
-  all_events pre hs {s = s} {s' = s'} is st (ordered.on {s' = s1} {e = Step j} {es = es} {u = u} {us = us} leads rest) =
+  all_events pre hs {s = s} {s' = s'} is st (network.on {s' = s1} {e = Step j} {es = es} {h = u} {hs = us} leads rest) =
       subst (State (length all) s'.net s'.handled) (append_assoc hs (happenings u) (happenings us) ∙ ap (λ l. hs ++ l) (sym (happenings_more u us)))
       (all_events pre (hs ++ happenings u) is
       (one_step (length pre) (let e = ap length is in let g = length-append pre (packets_in (packets_of es)) in omega (arith, e, g)) s s1 hs u j st leads) rest)

@@ -5,11 +5,10 @@ use Rattle.std.specs.List.{All}
 use Rattle.std.proofs.lemmas.Bool.{false≢true}
 use Rattle.std.proofs.lemmas.List.{length-append, length-map, length-reverse, reverse-append, reverse-reverse}
 use Rattle.std.proofs.lemmas.List.Sorted.{All-permutation, IsPermutation-reverse}
-use Rattle.std.proofs.lemmas.List.Elements.{All-append, All-cons, All-drop, All-head, All-map, All-nil, All-pop, All-push, All-take, All-weaker}
+use Rattle.std.proofs.lemmas.List.Elements.{All-append, All-cons, All-drop, All-nil, All-pop, All-push, All-take, All-weaker}
 use Rattle.snap_core.specs.Arrays.{zero_arrays}
 use Rattle.snap_rows.specs.Actions.{Action, Forward, Deliver, Fork}
-use Rattle.snap_rows.specs.declared.head.Head.TheVariants.{Out, Visit, Walk}
-use Rattle.snap_rows.specs.declared.head.Sent.{Sent}
+use Rattle.snap_rows.specs.declared.head.Head.TheVariants.{Visit, Walk}
 use Rattle.snap_rows.specs.declared.tables.Tables.{Tables}
 use Rattle.snap_rows.specs.Form.{comps}
 use Rattle.snap_rows.specs.Network.{Copy, Inject, Step, Crossed, Forked, happening, moved}
@@ -23,7 +22,7 @@ use Rattle.snap_runs.specs.declared.tally.Tally.{Tally}
 use Rattle.snap_runs.specs.Playing.{IsLong, IsReady, packets_in}
 use Rattle.snap_rows.specs.Happenings.{number_of}
 use Rattle.snap_runs.proofs.Blocks.{in_pushed}
-use Rattle.snap_runs.proofs.Steps.{held-shown}
+use Rattle.snap_runs.proofs.Steps.{held-shown, moved_numbers, number_of-happening}
 use Rattle.snap_runs.specs.Tallies.{IsThere, owner_by}
 use Rattle.snap_runs.proofs.Playing.{elsewhere, owner_by-moving, tally_fresh}
 use Rattle.snap_order.specs.declared.play.Play.{Play}
@@ -75,20 +74,10 @@ number_turned c (Waiting r n) = refl
 number_turned c (Forks copies lost) = refl
 
 module _ (P : ℕ → Type 0) where
-  moved_numbers : (c : Copy) (a : Action) → P c.number → All (λ (d : Copy). P d.number) (moved c a)
-  moved_numbers c (Forward to head) here = All-cons (λ (d : Copy). P d.number) _ [] here (All-nil (λ (d : Copy). P d.number))
-  moved_numbers c (Deliver port) here = All-nil (λ (d : Copy). P d.number)
-  moved_numbers c (Fork copies lost) here = All-map (λ (d : Copy). P d.number) (λ (x : Sent). record c { head = Out x.port; packet = x.packet; steps = c.steps + 1 }) copies (λ k d within. here)
-
   left_numbers : (c : Copy) (b : Becomes) → P c.number → All (λ (d : Copy). P d.number) (left_by c b)
-  left_numbers c (SentOn to r n) here = moved_numbers c (Forward to (Visit r n)) here
+  left_numbers c (SentOn to r n) here = moved_numbers P c (Forward to (Visit r n)) here
   left_numbers c (Waiting r n) here = All-cons (λ (d : Copy). P d.number) _ [] here (All-nil (λ (d : Copy). P d.number))
-  left_numbers c (Forks copies lost) here = moved_numbers c (Fork copies lost) here
-
-  number_of-happening : (c : Copy) (a : Action) → P c.number → P (number_of (happening c a))
-  number_of-happening c (Forward to head) here = here
-  number_of-happening c (Deliver port) here = here
-  number_of-happening c (Fork copies lost) here = here
+  left_numbers c (Forks copies lost) here = moved_numbers P c (Fork copies lost) here
 
   -- of what happens in a turn
   number_of-turn : (c : Copy) (b : Becomes) → P c.number → All (λ h. P (number_of h)) (happenings (turn_of c b ∷ []))
@@ -105,7 +94,7 @@ module _ (P : ℕ → Type 0) where
   pub step_numbers : {t : Tables} {s s' : Ordered} {j : ℕ} {us : List Turn} → All (λ (c : Copy). P c.number) s.net.flying → LeadsInTurn t s (Step j) s' us → All (λ (c : Copy). P c.number) s'.net.flying × All (λ h. P (number_of h)) (happenings us)
   step_numbers {s = s} all (moves {i = i} {c = c} {a = a} is none handles) =
       let here : P c.number = All-get (λ (c : Copy). P c.number) s.net.flying i c all is in
-      (replaced s.net.flying i (moved c a) all (moved_numbers c a here), All-cons (λ h. P (number_of h)) (happening c a) [] (number_of-happening c a here) (All-nil (λ h. P (number_of h))))
+      (replaced s.net.flying i (moved c a) all (moved_numbers P c a here), All-cons (λ h. P (number_of h)) (happening c a) [] (number_of-happening P c a here) (All-nil (λ h. P (number_of h))))
   step_numbers {s = s} all (visits {i = i} {c = c} {b = b} is before turn takes) =
       let here : P c.number = All-get (λ (c : Copy). P c.number) s.net.flying i c all is in
       (replaced s.net.flying i (left_by c b) all (left_numbers c b here), number_of-turn c b here)

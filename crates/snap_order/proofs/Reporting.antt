@@ -1,6 +1,5 @@
 -- The report of a run in turn, as its tallies tell it.
-use Rattle.std.proofs.Common.{◌≡◌, ℕ, zero, suc, ◌+◌, ◌<◌, Bool, List, [], ◌∷◌, ◌++◌, Some, length, refl, subst, ◌∙◌, arith}
-use Rattle.std.specs.Prelude.{slice_get}
+use Rattle.std.proofs.Common.{◌≡◌, ℕ, ◌+◌, ◌<◌, Bool, List, [], ◌++◌, length, subst, ◌∙◌, arith}
 use Rattle.std.proofs.lemmas.Option.{slice_get_within}
 use Rattle.snap_core.specs.declared.place.Entry.{Entry}
 use Rattle.snap_core.specs.Listing.{IsListing}
@@ -9,20 +8,14 @@ use Rattle.snap_rows.specs.Network.{Net, whole}
 use Rattle.snap_net.specs.Shown.{Shows}
 use Rattle.snap_trace.specs.Reports.{end_text}
 use Rattle.snap_runs.specs.declared.frames.Frames.TheVariants.{Numbered}
-use Rattle.snap_runs.specs.declared.tally.Tally.{Tally}
 use Rattle.snap_runs.specs.Playing.{PutsBlocks}
 use Rattle.snap_runs.specs.Reports.{PutsEnd, array_names}
 use Rattle.snap_runs.specs.Tallies.{IsBlockText}
-use Rattle.snap_runs.proofs.Played.{block-of}
+use Rattle.snap_runs.proofs.Played.{block-of, some-within}
 use Rattle.snap_order.specs.declared.play.Play.{Play}
 use Rattle.snap_order.specs.Ordered.{Ordered, Turn, happenings}
 use Rattle.snap_order.specs.Playing.{Plays}
 use Rattle.snap_order.specs.Reports.{AreBlocks, IsRunReport}
-
-some_within : (ys : List Tally) (i : ℕ) → i < length ys → (y : Tally) × (slice_get ys i ≡ Some y)
-some_within [] i within = absurd (omega (arith, within))
-some_within (y ∷ ys) zero within = (y, refl)
-some_within (y ∷ ys) (suc i) within = some_within ys i (omega (arith, within))
 
 module _ (t : Tables) (hops : Bool) (s : Ordered) (us : List Turn) (v : Play) (p : Plays t hops s us v) (mid : List ℕ) (puts : PutsBlocks v.net.net.tables.fields v.tallies.items [] mid) where
   pub blocks_told : AreBlocks t hops s.net.injected (happenings us) mid
@@ -32,7 +25,7 @@ module _ (t : Tables) (hops : Bool) (s : Ordered) (us : List Turn) (v : Play) (p
     blocks = λ i text is.
         (let at : i < length puts.each = slice_get_within puts.each i text is in
         let e = puts.as_many in
-        let y = some_within v.tallies.items i (omega (arith, at, e)) in
+        let y = some-within v.tallies.items i (omega (arith, at, e)) in
         block-of Numbered t hops i (happenings us) y.0 text (p.tallied i y.0 y.1) (subst (λ (x : Tables). IsBlockText x.fields (i + 1) y.0 [] text) p.tables (puts.blocks i y.0 text y.1 is)));
     is = puts.is;
   }

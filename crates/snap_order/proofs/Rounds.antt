@@ -1,17 +1,18 @@
 -- Rounds, and runs by rounds.
-use Rattle.std.proofs.Common.{◌≡◌, ℕ, ◌+◌, ◌<◌, Bool, List, [], ◌∷◌, ◌++◌, length, map, refl, sym, ap, subst, ◌∙◌, append-nil, append_assoc}
+use Rattle.std.proofs.Common.{◌≡◌, ℕ, ◌+◌, ◌<◌, Bool, List, [], ◌∷◌, ◌++◌, map, refl, sym, ap, subst, ◌∙◌, append-nil, append_assoc}
 use Rattle.std.specs.List.{All}
 use Rattle.std.proofs.lemmas.List.Elements.{All-append, All-cons, All-nil}
 use Rattle.snap_rows.specs.declared.tables.Tables.{Tables}
 use Rattle.snap_rows.specs.Form.{comps}
-use Rattle.snap_rows.specs.Network.{Copy, Event, Inject, packets_of}
+use Rattle.snap_rows.specs.Network.{Copy, Event, Inject, done, on, packets_of}
+use Rattle.snap_rows.proofs.Runs.{runs-behind}
 use Rattle.snap_gen.proofs.Nodes.{IsTwo}
 use Rattle.snap_runs.specs.declared.tally.Tally.{Tally}
 use Rattle.snap_rows.specs.Happenings.{number_of}
 use Rattle.snap_net.proofs.Told.{packets_of-append}
 use Rattle.snap_net.specs.declared.flying.Flying.{Flying}
 use Rattle.snap_net.specs.declared.happened.Moved.{Moved}
-use Rattle.snap_order.specs.Ordered.{Ordered, Turn, LeadsInTurn, RunsInTurn, done, on, happenings, injects as injecting}
+use Rattle.snap_order.specs.Ordered.{Ordered, Turn, LeadsInTurn, RunsInTurn, happenings, injects as injecting}
 use Rattle.snap_order.specs.Playing.{NotesTurn, OwnerIsBelow}
 use Rattle.snap_order.specs.Rounding.{NoteTurns, no_notes, notes, width}
 use Rattle.snap_order.specs.Rounds.{GoesByRounds, rests, injects, goes_on, TakesFrom, ends, takes}
@@ -76,16 +77,12 @@ module _ (t : Tables) (two : IsTwo t) (hops : Bool) (n : ℕ) (cs : List Flying)
       (tallied_round (us ++ u) (place + width (told_of one.0)) first.0 zs rest numbers.0 (step_placed t two leads placed) (step_keeps_long t two (comps t) leads placed long) q there.1 first.2)
 
 -- ---- runs by rounds
-runs_then : (t : Tables) {s s' s'' : Ordered} {es fs : List Event} {us vs : List Turn} → RunsInTurn t s es s' us → RunsInTurn t s' fs s'' vs → RunsInTurn t s (es ++ fs) s'' (us ++ vs)
-runs_then t done more = more
-runs_then t {s = s} {s'' = s''} {fs = fs} {vs = vs} (on {e = e} {es = es} {u = u} {us = us} leads rest) more = subst (RunsInTurn t s (e ∷ (es ++ fs)) s'') (sym (append_assoc u us vs)) (on leads (runs_then t rest more))
-
 -- each is a run of its packets to an end
 pub by_rounds_runs : (t : Tables) {ks : List (ℕ × List ℕ)} {s s' : Ordered} {es : List Event} {us : List Turn} → GoesByRounds t ks s es s' us → RunsInTurn t s es s' us × (packets_of es ≡ ks) × (s'.net.flying ≡ [])
 by_rounds_runs t (rests none) = (done, refl, none)
 by_rounds_runs t (injects {port = port} {k = k} {es = es} {fs = fs} leads round rest) =
     let more = by_rounds_runs t rest in
-    (on leads (runs_then t (round_runs round) more.0), ap (λ l. (port, k) ∷ l) (packets_of-append es fs ∙ ap (λ l. l ++ packets_of fs) (round_packets round) ∙ more.1), more.2)
+    (on leads (runs-behind (round_runs round) more.0), ap (λ l. (port, k) ∷ l) (packets_of-append es fs ∙ ap (λ l. l ++ packets_of fs) (round_packets round) ∙ more.1), more.2)
 by_rounds_runs t (goes_on {es = es} {fs = fs} some round rest) =
     let more = by_rounds_runs t rest in
-    (runs_then t (round_runs round) more.0, packets_of-append es fs ∙ ap (λ l. l ++ packets_of fs) (round_packets round) ∙ more.1, more.2)
+    (runs-behind (round_runs round) more.0, packets_of-append es fs ∙ ap (λ l. l ++ packets_of fs) (round_packets round) ∙ more.1, more.2)

@@ -2,6 +2,7 @@
 use Rattle.std.proofs.Common.{◌≡◌, ℕ, ◌+◌, ◌*◌, ◌≤◌, List, [], ◌∷◌, ◌++◌, length, take, drop, sym, subst, append_assoc}
 use Rattle.std.specs.List.{All}
 use Rattle.std.proofs.lemmas.List.Elements.{All-nil, All-cons, All-head, All-tail, All-append}
+use Rattle.snap_core.proofs.Elements.{All-back}
 use Rattle.snap_core.specs.declared.program.Program.{Program}
 use Rattle.snap_core.specs.Arrays.{zero_arrays}
 use Rattle.snap_dep.specs.Ranks.{IsRank}
@@ -10,19 +11,17 @@ use Rattle.snap_route.specs.Walks.{IsDiameter, Linked}
 use Rattle.snap_rows.specs.declared.tables.Tables.{Tables}
 use Rattle.snap_rows.specs.Actions.{Action, Forward, Deliver, Fork}
 use Rattle.snap_rows.specs.declared.head.Head.TheVariants.{Visit}
-use Rattle.snap_rows.specs.Network.{Copy, Event, Inject, Step, happening, moved, packets_of}
+use Rattle.snap_rows.specs.Network.{Copy, Event, Inject, Step, done, on, happening, moved, packets_of}
 use Rattle.snap_rows.proofs.Rows.{All-get}
+use Rattle.snap_rows.proofs.Runs.{calm-run, runs-then}
 use Rattle.snap_gen.specs.Faithful.{AllCanEnter, CanEnter, Faithful}
 use Rattle.snap_gen.specs.InTurn.{Becomes, SentOn, Waiting, Forks}
 use Rattle.snap_whole.specs.Laws.{IsHopWithin}
 use Rattle.snap_whole.proofs.Entered.{IsOfProgram, entering-fits, no_numbers}
-use Rattle.snap_whole.proofs.Short.{last_part}
 use Rattle.snap_order.specs.Ordered.{LeadsInTurn, Ordered, RunInTurn, RunsInTurn, Turn, happenings, injects, left_by, moves, turn_of, visits, waits}
-use Rattle.snap_order.specs.Ordered as ordered
 use Rattle.snap_order.specs.ShortTurns.{PlainRunsInTurnAreShort, RunsInTurnAreShort}
 use Rattle.snap_order.proofs.Keeping.{keeps_order}
-use Rattle.snap_order.proofs.Obeying.{run_then}
-use Rattle.snap_order.proofs.OneSwitch.{all_enter, calm_run}
+use Rattle.snap_order.proofs.OneSwitch.{all_enter}
 use Rattle.snap_order.proofs.Overlap.{happenings_more}
 
 -- the packets of some first events are among all
@@ -40,7 +39,7 @@ module _ (most : ℕ) where
   behind_moved : (before after : List Copy) (c : Copy) (a : Action) → c.hops ≤ most → All IsNear (before ++ (moved c a ++ after)) → IsHopWithin most (happening c a)
   behind_moved before after c (Forward to head) here near =
       let one : Copy = record c { at = to; head = head; hops = c.hops + 1; steps = c.steps + 1 } in
-      All-head IsNear one after (last_part IsNear before (one ∷ after) near)
+      All-head IsNear one after (All-back IsNear before (one ∷ after) near)
   behind_moved before after c (Deliver port) here near = here
   behind_moved before after c (Fork copies lost) here near = here
 
@@ -71,9 +70,9 @@ module _ (p : Program) (topology : Topology) (places : List ℕ) (t : Tables) (f
   -- after some events have led here
   from_here : {s s' : Ordered} {es : List Event} {us : List Turn} (first : List Event) (turned : List Turn) → AllCanEnter p t (packets_of (first ++ es)) → RunInTurn t zero_arrays first s turned → RunsInTurn t s es s' us
       → All (IsHopWithin most) (happenings us)
-  from_here first turned enter run ordered.done = All-nil (IsHopWithin most)
-  from_here first turned enter run (ordered.on {s = s} {s' = s1} {e = e} {es = es} {u = u} {us = us} leads onward) =
-      let more : RunInTurn t zero_arrays (first ++ e ∷ []) s1 (turned ++ u) = run_then t e s1 u run leads in
+  from_here first turned enter run done = All-nil (IsHopWithin most)
+  from_here first turned enter run (on {s = s} {s' = s1} {e = e} {es = es} {h = u} {hs = us} leads onward) =
+      let more : RunInTurn t zero_arrays (first ++ e ∷ []) s1 (turned ++ u) = runs-then e s1 u run leads in
       let enters : AllCanEnter p t (packets_of ((first ++ e ∷ []) ++ es)) = subst (λ l. AllCanEnter p t (packets_of l)) (sym (append_assoc first (e ∷ []) es)) enter in
       subst (All (IsHopWithin most)) (sym (happenings_more u us))
       (All-append (IsHopWithin most) (happenings u) (happenings us)
@@ -83,8 +82,8 @@ module _ (p : Program) (topology : Topology) (places : List ℕ) (t : Tables) (f
 pub short_turns : RunsInTurnAreShort
 short_turns p topology places t faithful version order d rank greatest ks packets es s us enter run =
     let fits = subst (All (IsOfProgram p)) (sym enter) (entering-fits p ks packets) in
-    from_here p topology places t faithful version order d rank greatest [] [] (all_enter t p fits run) ordered.done run
+    from_here p topology places t faithful version order d rank greatest [] [] (all_enter t p fits run) done run
 
 pub short_plain_turns : PlainRunsInTurnAreShort
 short_plain_turns p topology places t faithful version order d rank greatest ks packets es s us plain =
-    short_turns p topology places t faithful version order d rank greatest ks packets es s us plain.packets (calm_run t plain.run)
+    short_turns p topology places t faithful version order d rank greatest ks packets es s us plain.packets (calm-run plain.run)

@@ -5,11 +5,10 @@ use Rattle.std.specs.List.{All}
 use Rattle.std.proofs.lemmas.Bool.{eqb-true, eq-eqb, false≢true}
 use Rattle.std.proofs.lemmas.List.Elements.{All-append, All-cons, All-nil, All-weaker}
 use Rattle.std.proofs.lemmas.Option.{none-some, same_Some}
-use Rattle.snap_rows.specs.Actions.{Action, Forward, Deliver, Fork}
 use Rattle.snap_rows.specs.declared.tables.Tables.{Tables}
 use Rattle.snap_rows.specs.Form.{comps}
 use Rattle.snap_rows.specs.Happenings.{number_of}
-use Rattle.snap_rows.specs.Network.{Copy, Step, Happening, happening}
+use Rattle.snap_rows.specs.Network.{Copy, Step, Happening}
 use Rattle.snap_rows.proofs.Rows.{All-get}
 use Rattle.snap_net.specs.declared.flying.Flying.{Flying}
 use Rattle.snap_net.specs.declared.happened.Moved.{Moved}
@@ -21,16 +20,11 @@ use Rattle.snap_runs.specs.Playing.{HasNoted, IsLong}
 use Rattle.snap_runs.specs.Tallies.{delivered_by, line_after, lost_by, owner_by}
 use Rattle.snap_runs.proofs.Happenings.{tally-more}
 use Rattle.snap_runs.proofs.Playing.{notes-of, owner_by-moving, tally_other}
+use Rattle.snap_runs.proofs.Steps.{delivered_long}
 use Rattle.snap_order.specs.Ordered.{Ordered, Turn, Happens, Stays, Waits, LeadsInTurn, happenings, moves, turn_of, visits, waits}
 use Rattle.snap_order.specs.Playing.{IsTally, NotesTurn}
 use Rattle.snap_order.specs.Shown.{StandsTurn, told_of}
 use Rattle.snap_order.proofs.Overlap.{happenings_more}
-
--- ---- lengths of packets
-delivered_long : (n : ℕ) (c : Copy) (a : Action) → length c.packet ≡ n → All (λ k. length k ≡ n) (delivered_by (moving (happening c a)))
-delivered_long n c (Forward to head) long = All-nil (λ k. length k ≡ n)
-delivered_long n c (Deliver port) long = All-cons (λ k. length k ≡ n) c.packet [] long (All-nil (λ k. length k ≡ n))
-delivered_long n c (Fork copies lost) long = All-nil (λ k. length k ≡ n)
 
 -- what happens in a list of one turn
 abbrev happening_in : List Turn → Option Happening

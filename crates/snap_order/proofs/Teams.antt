@@ -1,11 +1,12 @@
 -- Jobs that are done side by side.
-use Rattle.std.proofs.Common.{◌≡◌, ⊎_elim, ℕ, ◌+◌, ◌<◌, ◌≤◌, zero, suc, List, [], ◌∷◌, ◌++◌, get_or, length, take, refl, sym, ap, subst, ◌∙◌, arith}
+use Rattle.std.proofs.Common.{◌≡◌, ⊎_elim, ℕ, ◌+◌, ◌<◌, ◌≤◌, suc, List, [], ◌∷◌, ◌++◌, get_or, length, take, refl, sym, ap, subst, ◌∙◌, arith}
 use Rattle.std.specs.List.{All, AllZip}
 use Rattle.std.proofs.Math.ListN.{set}
 use Rattle.std.proofs.Math.ListN.{get_or-eq_default}
 use Rattle.std.proofs.lemmas.Bool.{cases_lt}
 use Rattle.std.proofs.lemmas.List.{get_or_default, nil_from_length, take_more}
 use Rattle.std.proofs.lemmas.List.Elements.{All-append, All-cons, All-head, All-nil, All-tail}
+use Rattle.snap_core.proofs.Elements.{All-back, All-front}
 use Rattle.snap_rows.specs.declared.tables.Tables.{Tables}
 use Rattle.snap_order.specs.declared.job.Job.{Job}
 use Rattle.snap_order.specs.Hands.{Works, idles, part_of}
@@ -14,14 +15,6 @@ use Rattle.snap_order.specs.Jobs.{AreReady, HasWorked, IsJob, counts_after}
 -- one more has the property
 pub all_more : {X : Type 0} (P : X → Type 0) (xs : List X) (i : ℕ) (x : X) → i < length xs → x ≡ get_or xs i x → All P (take i xs) → P x → All P (take (i + 1) xs)
 all_more P xs i x lt is h p = subst (All P) (ap (λ z. take i xs ++ z ∷ []) is ∙ sym (take_more xs i x lt)) (All-append P (take i xs) (x ∷ []) h (All-cons P x [] p (All-nil P)))
-
-pub all_front : {X : Type 0} (P : X → Type 0) (xs ys : List X) → All P (xs ++ ys) → All P xs
-all_front P [] ys all = All-nil P
-all_front P (x ∷ xs) ys all = All-cons P x xs (All-head P x (xs ++ ys) all) (all_front P xs ys (All-tail P x (xs ++ ys) all))
-
-pub all_back : {X : Type 0} (P : X → Type 0) (xs ys : List X) → All P (xs ++ ys) → All P ys
-all_back P [] ys all = all
-all_back P (x ∷ xs) ys all = all_back P xs ys (All-tail P x (xs ++ ys) all)
 
 pub zip_append : {X : Type 0} (R : X → X → Type 0) (xs xs' ys ys' : List X) → AllZip R xs xs' → AllZip R ys ys' → AllZip R (xs ++ ys) (xs' ++ ys')
 zip_append R [] [] ys ys' h k = k
@@ -36,10 +29,10 @@ zip_one R (z ∷ (v ∷ xs)) x y one r = absurd (let o : suc (suc (length xs)) �
 
 -- jobs of which some are such
 pub ready_front : (t : Tables) (counts : List ℕ) (xs ys zs : List Job) → zs ≡ xs ++ ys → AreReady t counts zs → AreReady t counts xs
-ready_front t counts xs ys zs e r = record { tables = r.tables; long = r.long; each = all_front (IsJob t) xs ys (subst (All (IsJob t)) e r.each) }
+ready_front t counts xs ys zs e r = record { tables = r.tables; long = r.long; each = All-front (IsJob t) xs ys (subst (All (IsJob t)) e r.each) }
 
 pub ready_back : (t : Tables) (counts : List ℕ) (xs ys zs : List Job) → zs ≡ xs ++ ys → AreReady t counts zs → AreReady t counts ys
-ready_back t counts xs ys zs e r = record { tables = r.tables; long = r.long; each = all_back (IsJob t) xs ys (subst (All (IsJob t)) e r.each) }
+ready_back t counts xs ys zs e r = record { tables = r.tables; long = r.long; each = All-back (IsJob t) xs ys (subst (All (IsJob t)) e r.each) }
 
 -- numbers of as many ranks
 pub after_same : (counts own : List ℕ) → length own ≡ length counts → counts_after counts own ≡ own

@@ -2,7 +2,7 @@
 use Rattle.std.proofs.Common.{◌≡◌, ◌≢◌, ◌⊎◌, inl, inr, ⊎_elim, ℕ, zero, suc, ◌+◌, ◌-◌, ◌*◌, ◌<◌, ◌≤◌, List, [], ◌∷◌, ◌++◌, map, take, drop, length, Some, refl, sym, ap, subst, ◌∙◌, arith}
 use Rattle.std.specs.Prelude.{slice_get, sum_by, ◌==◌, if◌then◌else◌}
 use Rattle.std.specs.List.{All}
-use Rattle.std.proofs.lemmas.Bool.{cases_lt, eq-eqb}
+use Rattle.std.proofs.lemmas.Bool.{cases_lt}
 use Rattle.std.proofs.lemmas.List.Sums.{sum_by-append, sum_by-cons}
 use Rattle.std.proofs.lemmas.Nat.{mul-le}
 use Rattle.std.proofs.lemmas.Option.{same_Some, slice_get_within}
@@ -12,12 +12,13 @@ use Rattle.snap_rows.specs.declared.head.Head.{Head}
 use Rattle.snap_rows.specs.declared.head.Head.TheVariants.{Walk, Stage, Out, Visit}
 use Rattle.snap_rows.specs.declared.head.Sent.{Sent}
 use Rattle.snap_rows.specs.declared.tables.Tables.{Tables}
-use Rattle.snap_rows.specs.Bound.{hops_within, left, longest, most_stages, states_above, to_decision, to_switch}
+use Rattle.snap_rows.specs.Bound.{left, longest, most_stages, states_above, to_decision, to_switch}
 use Rattle.snap_rows.specs.Entries.{next, rank_at, ranks, row_at}
 use Rattle.snap_rows.specs.Form.{switch_count}
 use Rattle.snap_rows.specs.Handles.{Handles}
 use Rattle.snap_rows.specs.Network.{Copy, Event, Step, moved}
 use Rattle.snap_rows.specs.Weight.{most_outs, weight, weight_after}
+use Rattle.snap_rows.proofs.Aims.{no_hops}
 use Rattle.snap_rows.proofs.Later.{rank_is_below}
 use Rattle.snap_rows.proofs.Lighter.{lighter}
 use Rattle.snap_rows.proofs.Rows.{All-get}
@@ -83,10 +84,6 @@ stands_left t (Visit x n) r q stands le = let s : r ≡ x = stands in omega (ari
 stands_left t (Stage n i) r q stands le = absurd stands
 stands_left t (Out p) r q stands le = absurd stands
 
-no_way : (t : Tables) (n w : ℕ) → hops_within t n w w ≡ 0
-no_way t zero w = refl
-no_way t (suc n) w = ap (λ b. if b then 0 else suc (hops_within t n (next t w w) w)) (eq-eqb w w refl)
-
 module _ (t : Tables) (two : IsTwo t) where
   acts_lighter : (c : Copy) (s m : Arrays) (a : Action) → Placed t c → Handles t c.at c.packet s c.head m a → weight_after t c.at a < weight t c.at c.head
   acts_lighter c s m a p does = lighter t two.valid two.form c.at p.at c.packet s c.head m a p.home does
@@ -115,7 +112,7 @@ module _ (t : Tables) (two : IsTwo t) where
 
   -- a copy that stays at an owner of a greater rank
   to_own : (w q : ℕ) → rank_at t q ≡ Some w → to_switch t w (rank_at t q) ≡ 0
-  to_own w q own = ap (to_switch t w) own ∙ no_way t (switch_count t) w
+  to_own w q own = ap (to_switch t w) own ∙ no_hops t (switch_count t) w
 
   far : (q r : ℕ) → r ≤ q → (ranks t - q) * longest t ≤ (ranks t - r) * longest t
   far q r le = mul-le (ranks t - q) (longest t) (ranks t - r) (longest t) (omega (arith, le)) (omega arith)

@@ -5,22 +5,21 @@ use Rattle.std.specs.List.{All, flat_map}
 use Rattle.std.proofs.Math.Nat.{mod-lt}
 use Rattle.std.proofs.Math.Seq.{drop-append_seam, take-append_seam}
 use Rattle.std.proofs.lemmas.Bool.{both_ways, cond-false, cond-true, eq-eqb, eqb-false, eqb-true, ne_eqb}
-use Rattle.std.proofs.lemmas.List.{length-append, length-drop, length-map, length-take, map-append, take-append-drop}
+use Rattle.std.proofs.lemmas.List.{length-append, length-drop, map-append, take-append-drop}
 use Rattle.std.proofs.lemmas.List.Concat.{flat_map-cons}
 use Rattle.std.proofs.lemmas.List.Elements.{All-head, All-tail}
-use Rattle.std.proofs.lemmas.Option.{slice_get_within}
 use Rattle.snap_rows.specs.declared.tables.Tables.{Tables}
 use Rattle.snap_rows.specs.Entries.{rank_at}
 use Rattle.snap_rows.specs.Network.{Copy, Step}
 use Rattle.snap_rows.proofs.Rows.{some_injective}
 use Rattle.snap_net.specs.declared.flying.Flying.{Flying}
 use Rattle.snap_net.specs.Shown.{flown}
+use Rattle.snap_net.proofs.Carried.{rests_shown}
 use Rattle.snap_order.specs.declared.hand.Stepped.{Stepped}
 use Rattle.snap_order.specs.Hands.{Agrees, Part, StepsIn, StepsTo, WeavesTo, Works, idles, works, Woven, over, next, share}
 use Rattle.snap_order.specs.Ordered.{Ordered}
 use Rattle.snap_order.specs.Rounds.{takes}
 use Rattle.snap_order.specs.Rounds as rounds
-use Rattle.snap_order.specs.Shown.{told_of}
 
 -- ---- shares
 pub share_own : (workers j : ℕ) (c : Flying) (cs : List Flying) → c.at % workers ≡ j → share workers j (c ∷ cs) ≡ c ∷ share workers j cs
@@ -33,10 +32,6 @@ share_other workers j c cs ne = cond-false _ _ _ (ne_eqb (c.at % workers) j ne)
 first_flown : (l : List Copy) (c : Flying) (cs : List Flying) → map flown l ≡ c ∷ cs → (y : Copy) × (ys : List Copy) × (l ≡ y ∷ ys) × (flown y ≡ c) × (map flown ys ≡ cs)
 first_flown [] c cs e = absurd (cc)
 first_flown (y ∷ ys) c cs e = (y, ys, refl, cc, cc)
-
-none_flown : (l : List Copy) → map flown l ≡ [] → l ≡ []
-none_flown [] e = refl
-none_flown (y ∷ ys) e = absurd (cc)
 
 get_dropped : {A : Type 0} (l : List A) (i : ℕ) (y : A) (ys : List A) → drop i l ≡ y ∷ ys → slice_get l i ≡ Some y
 get_dropped [] zero y ys e = absurd (cc)
@@ -185,7 +180,7 @@ module _ (t : Tables) (workers : ℕ) (some_workers : 0 < workers) (busy : ℕ �
   weaves_none : (parts : ℕ → Part) (queues : ℕ → List Stepped) (s : Ordered) (i : ℕ) → map flown (drop i s.net.flying) ≡ [] → i ≤ length s.net.flying → ((k : ℕ) → k < workers → Works t workers (parts k) [] (last k) (queues k)) → Agrees t workers busy parts s
       → WeavesTo t workers busy last [] s i
   weaves_none parts queues s i none low all agrees =
-      let empty : drop i s.net.flying ≡ [] = none_flown (drop i s.net.flying) none in
+      let empty : drop i s.net.flying ≡ [] = rests_shown (drop i s.net.flying) none in
       let whole : take i s.net.flying ≡ s.net.flying = sym (append-nil (take i s.net.flying)) ∙ ap (λ l. take i s.net.flying ++ l) (sym empty) ∙ take-append-drop i s.net.flying in
       record {
         state = s;

@@ -1,5 +1,5 @@
 -- What goes out of runs in turn.
-use Rattle.std.proofs.Common.{◌≡◌, ◌⊎◌, ℕ, ◌≤◌, Bool, List, Option, Ok, Err, inl, inr, refl, sym, ap, subst}
+use Rattle.std.proofs.Common.{◌≡◌, ℕ, ◌≤◌, Bool, List, Option, Ok, Err, inl, inr, sym, subst}
 use Rattle.std.specs.Prelude.{length, take}
 use Rattle.snap_core.specs.Arrays.{zero_arrays}
 use Rattle.snap_rows.specs.declared.tables.Tables.{Tables}
@@ -7,40 +7,25 @@ use Rattle.snap_rows.specs.Form.{IsInForm}
 use Rattle.snap_rows.specs.Rules.{IsValid}
 use Rattle.snap_trace.specs.declared.fault.TraceFault.TheVariants as trace
 use Rattle.snap_trace.specs.OneSwitch.{RunEnding}
-use Rattle.snap_trace.specs.Spelled.{Spelled, Stop, ended, refused}
+use Rattle.snap_trace.specs.Spelled.{Stop, ended, refused}
 use Rattle.snap_runs.specs.declared.frames.Frames.TheVariants.{Numbered}
 use Rattle.snap_runs.specs.declared.ready.Ready.{Ready}
 use Rattle.snap_runs.specs.declared.schedule.ScheduleFault.{ScheduleFault}
-use Rattle.snap_runs.specs.declared.schedule.ScheduleFault.TheVariants.{Packets, Read, TooLong, Line, Write, NoMemory}
 use Rattle.snap_runs.specs.Plain.{ArePlainBlocksBy, AreTraceBlocksBy, EndsAsReadBy, IsPlainReportBy, IsTraceBy, Writes, WritesTraceBy, entering, spelled_for}
 use Rattle.snap_runs.specs.Playing.{AreAll, packets_in}
-use Rattle.snap_runs.specs.Schedules.{AreBothRead, IsReadWhole, lines_of}
+use Rattle.snap_runs.specs.Schedules.{lines_of}
+use Rattle.snap_runs.proofs.Scheduled.{schedule-refused, stopped}
 use Rattle.snap_order.specs.Obeying.{Stops}
 use Rattle.snap_order.specs.Ordered.{happenings}
 use Rattle.snap_order.specs.Reports.{AreBlocks, IsRunReport}
-use Rattle.snap_order.specs.Runs.{ArePlainBlocks, AreTraceBlocks, EndsAsRead, EndsEarly, IsPlainReport, IsTrace, StopsAt, WritesSchedule, WritesTrace}
+use Rattle.snap_order.specs.Runs.{ArePlainBlocks, AreTraceBlocks, EndsAsRead, HasScheduleReport, IsPlainReport, IsTrace, RefusesLine, RefusesScheduleLine, WritesSchedule, WritesTrace}
 use Rattle.snap_order.proofs.PlainTurns.{plain_turns}
 
-module _ (t : Tables) (hops : Bool) (file schedule : List ℕ) (rs : List Ready) (all : AreAll t file rs) (old : Option (List ℕ)) where
-  whole : IsReadWhole t file
-  whole = ap (λ (s : Spelled). s.stop) all
-
-  packets : (spelled_for t file).packets ≡ packets_in rs
-  packets = ap (λ (s : Spelled). s.packets) all
-
-  module _ (text : List ℕ) (few : length text ≤ 67108864) (is : text ≡ schedule) where
-    both : AreBothRead t file schedule
-    both = (whole, subst (λ x. length x ≤ 67108864) is few)
-
-    -- a line can't be done, or something is left
-    pub schedule-stopped : (e : ScheduleFault) → Stops t (packets_in rs) (lines_of text) e → WritesSchedule t hops file schedule (Err e) old old
-    schedule-stopped (Line line) h =
-        (refl, (both, subst (λ ks. StopsAt t ks (lines_of schedule) line ⊎ EndsEarly t ks (lines_of schedule) line) (sym packets) (subst (λ x. StopsAt t (packets_in rs) (lines_of x) line ⊎ EndsEarly t (packets_in rs) (lines_of x) line) is h)))
-    schedule-stopped NoMemory h = refl
-    schedule-stopped (Packets fault) h = absurd h
-    schedule-stopped Read h = absurd h
-    schedule-stopped TooLong h = absurd h
-    schedule-stopped Write h = absurd h
+-- where a line can't be done, or something is left, nothing goes out
+pub schedule-stopped : (t : Tables) (hops : Bool) (file schedule : List ℕ) (rs : List Ready) → AreAll t file rs → (old : Option (List ℕ)) (text : List ℕ) → length text ≤ 67108864 → text ≡ schedule
+    → (e : ScheduleFault) → Stops t (packets_in rs) (lines_of text) e → WritesSchedule t hops file schedule (Err e) old old
+schedule-stopped t hops file schedule rs all old text few is e h =
+    schedule-refused (HasScheduleReport t hops file schedule) (RefusesScheduleLine t file schedule) t file schedule old e (stopped t file schedule rs all text few is (RefusesLine t) e h)
 
 -- ---- the plain run
 -- what is written where other blocks and ends are told

@@ -1,13 +1,13 @@
 -- How far the run in turn of a schedule has come.
-use Rattle.std.specs.Prelude.{◌≡◌, ◌⊎◌, ℕ, Bool, true, false, List, [], ◌∷◌, ◌++◌, length, Result, Ok, Err}
+use Rattle.std.specs.Prelude.{◌≡◌, ℕ, Bool, true, false, List, [], ◌∷◌, ◌++◌, length, Result, Ok, Err}
 use Rattle.snap_rows.specs.declared.tables.Tables.{Tables}
 use Rattle.snap_runs.specs.declared.schedule.ScheduleFault.{ScheduleFault}
-use Rattle.snap_runs.specs.declared.schedule.ScheduleFault.TheVariants.{Packets, Read, TooLong, Line, Write, NoMemory}
+use Rattle.snap_runs.specs.Playing.{StopsBy}
 use Rattle.snap_runs.specs.Schedules.{CantBeDone, lines_of, order_by}
 use Rattle.snap_order.specs.declared.play.Play.{Play}
 use Rattle.snap_order.specs.Ordered.{Ordered, Turn}
 use Rattle.snap_order.specs.Playing.{Plays, left_in}
-use Rattle.snap_order.specs.Runs.{EndsEarly, Obeys, StopsAt}
+use Rattle.snap_order.specs.Runs.{Obeys, RefusesLine}
 
 -- so many lines of the schedule were done
 pub record PlaysLines (t : Tables) (hops : Bool) (ks lines : List (List ℕ)) (v : Play) : Type 0 where
@@ -34,12 +34,7 @@ pub record SoFar (t : Tables) (hops : Bool) (ks lines : List (List ℕ)) (rest :
 
 -- a line can't be done, or something is left behind the last
 abbrev pub Stops : Tables → (ks lines : List (List ℕ)) → ScheduleFault → Type 0
-Stops t ks lines (Line number) = StopsAt t ks lines number ⊎ EndsEarly t ks lines number
-Stops t ks lines NoMemory = Unit {0}
-Stops t ks lines (Packets fault) = ⊥
-Stops t ks lines Read = ⊥
-Stops t ks lines TooLong = ⊥
-Stops t ks lines Write = ⊥
+Stops t ks lines fault = StopsBy (RefusesLine t ks lines) fault
 
 -- all lines were done and nothing is left, or not
 abbrev pub HasRun : Tables → (hops : Bool) → (ks lines : List (List ℕ)) → (new : Play) → Result (Unit {0}) ScheduleFault → Type 0

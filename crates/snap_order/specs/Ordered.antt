@@ -2,13 +2,12 @@
 use Rattle.std.specs.Prelude.{◌≡◌, ◌≢◌, ℕ, ◌+◌, ◌==◌, Some, List, [], ◌∷◌, ◌++◌, take, drop, length, slice_get, slice_index, if◌then◌else◌}
 use Rattle.snap_core.specs.Arrays.{Arrays}
 use Rattle.snap_rows.specs.declared.tables.Tables.{Tables}
-use Rattle.snap_rows.specs.declared.head.Head.{Head}
 use Rattle.snap_rows.specs.declared.head.Head.TheVariants.{Visit}
 use Rattle.snap_rows.specs.Actions.{Action, Forward, Fork}
 use Rattle.snap_rows.specs.Entries.{port_at, rank_at}
 use Rattle.snap_rows.specs.Handles.{Handles}
 use Rattle.snap_rows.specs.Stepping.{ComesTo}
-use Rattle.snap_rows.specs.Network.{Net, Copy, Event, Inject, Step, Happening, Crossed, Forked, start, injected, moved, happening, stepped}
+use Rattle.snap_rows.specs.Network.{Net, Copy, Event, Inject, Step, Happening, Crossed, Forked, RunsBy, start, injected, moved, happening, stepped}
 use Rattle.snap_gen.specs.InTurn.{Becomes, SentOn, Waiting, Forks, TakesTurns}
 
 -- a state of the network, and the number of packets that each rank has handled
@@ -68,9 +67,8 @@ pub data LeadsInTurn (t : Tables) (s : Ordered) : Event → Ordered → List Tur
   waits : {i : ℕ} {c : Copy} {r n : ℕ} → slice_get s.net.flying i ≡ Some c → IsBefore t s.net c r n → s.handled r ≢ c.number → LeadsInTurn t s (Step i) s (Waits c r ∷ [])
 
 -- the events lead from s to s'
-pub data RunsInTurn (t : Tables) : Ordered → List Event → Ordered → List Turn → Type 0 where
-  done : {s : Ordered} → RunsInTurn t s [] s []
-  on : {s s' s'' : Ordered} {e : Event} {es : List Event} {u us : List Turn} → LeadsInTurn t s e s' u → RunsInTurn t s' es s'' us → RunsInTurn t s (e ∷ es) s'' (u ++ us)
+abbrev pub RunsInTurn : Tables → Ordered → List Event → Ordered → List Turn → Type 0
+RunsInTurn t s es s' us = RunsBy (LeadsInTurn t) s es s' us
 
 abbrev pub RunInTurn : Tables → Arrays → List Event → Ordered → List Turn → Type 0
 RunInTurn t m es s us = RunsInTurn t (begin t m) es s us

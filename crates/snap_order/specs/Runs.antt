@@ -1,36 +1,25 @@
 -- Runs in turn over a packets file: by the plain schedule, and in the order of a schedule's lines.
-use Rattle.std.specs.Prelude.{◌≡◌, ◌≢◌, ◌⊎◌, ℕ, ◌+◌, ◌<◌, Bool, List, [], ◌∷◌, ◌++◌, length, take, Result, Ok, Err}
+use Rattle.std.specs.Prelude.{◌≡◌, ◌⊎◌, ℕ, Bool, List, [], length, take, Result}
 use Rattle.std.specs.declared.option.Option.{Option}
-use Rattle.std.specs.List.{All}
-use Rattle.std.specs.Io.KnownBytes.{Appends}
 use Rattle.snap_core.specs.Arrays.{Arrays, zero_arrays}
-use Rattle.snap_io.specs.Sinks.{AppendsSome}
 use Rattle.snap_rows.specs.declared.tables.Tables.{Tables}
-use Rattle.snap_rows.specs.Network.{Event, Inject, Step, StepsFirst, packets_of}
+use Rattle.snap_rows.specs.Network.{Event, IsPlainRunBy, RunsCalmlyBy}
 use Rattle.snap_trace.specs.OneSwitch.{RunEnding}
 use Rattle.snap_trace.specs.Spelled.{Stop}
 use Rattle.snap_runs.specs.declared.schedule.ScheduleFault.{ScheduleFault}
-use Rattle.snap_runs.specs.declared.schedule.ScheduleFault.TheVariants.{Packets, Read, TooLong, Line, Write, NoMemory}
 use Rattle.snap_runs.specs.Plain.{EndsAs, Writes, entering, spelled_for}
-use Rattle.snap_runs.specs.Schedules.{AreBothRead, CantBeDone, IsReadWhole, RefusesPackets, Spells, lines_of, order_by}
-use Rattle.snap_order.specs.Ordered.{Ordered, Turn, LeadsInTurn, RunInTurn, begin, happenings}
+use Rattle.snap_runs.specs.Schedules.{AreBothRead, EndsEarlyBy, ObeysBy, StopsAtBy, WritesScheduleBy, lines_of}
+use Rattle.snap_order.specs.Ordered.{Ordered, Turn, LeadsInTurn, begin, happenings}
 use Rattle.snap_order.specs.Reports.{AreBlocks, IsRunReport}
 
 -- ---- the plain schedule
 -- the events lead in turn from s to s', and each injection comes with no copy in flight
-pub data RunsCalmlyInTurn (t : Tables) : Ordered → List Event → Ordered → List Turn → Type 0 where
-  rests : {s : Ordered} → RunsCalmlyInTurn t s [] s []
-  injects : {s s' s'' : Ordered} {port : ℕ} {k : List ℕ} {es : List Event} {u us : List Turn} → s.net.flying ≡ [] → LeadsInTurn t s (Inject port k) s' u
-      → RunsCalmlyInTurn t s' es s'' us → RunsCalmlyInTurn t s (Inject port k ∷ es) s'' (u ++ us)
-  steps : {s s' s'' : Ordered} {i : ℕ} {es : List Event} {u us : List Turn} → LeadsInTurn t s (Step i) s' u
-      → RunsCalmlyInTurn t s' es s'' us → RunsCalmlyInTurn t s (Step i ∷ es) s'' (u ++ us)
+abbrev pub RunsCalmlyInTurn : Tables → Ordered → List Event → Ordered → List Turn → Type 0
+RunsCalmlyInTurn t s es s' us = RunsCalmlyBy (λ (o : Ordered). o.net) (LeadsInTurn t) s es s' us
 
 -- a run of the plain schedule of these packets: each is injected once the one before has finished, and each step is of the first copy
-pub record IsPlainRun (t : Tables) (m : Arrays) (ks : List (ℕ × List ℕ)) (es : List Event) (s : Ordered) (us : List Turn) : Type 0 where
-  pub packets : packets_of es ≡ ks
-  pub first : All StepsFirst es
-  pub run : RunsCalmlyInTurn t (begin t m) es s us
-  pub ended : s.net.flying ≡ []
+abbrev pub IsPlainRun : Tables → Arrays → List (ℕ × List ℕ) → List Event → Ordered → List Turn → Type 0
+IsPlainRun t m ks es s us = IsPlainRunBy (λ (o : Ordered). o.net) (LeadsInTurn t) (begin t m) ks es s us
 
 -- from empty arrays the plain run of these packets has this report,
 pub record IsPlainReport (t : Tables) (hops : Bool) (ks : List (List ℕ)) (text : List ℕ) : Type 0 where
@@ -69,32 +58,16 @@ WritesTrace t hops file ending old new = Writes (AreTraceBlocks t hops file) (Is
 
 -- ---- schedules
 -- a run from empty arrays does the events of these lines
-pub record Obeys (t : Tables) (ks lines left : List (List ℕ)) (s : Ordered) (us : List Turn) : Type 0 where
-  pub events : List Event
-  pub spells : Spells lines ks events left
-  pub run : RunInTurn t zero_arrays events s us
+abbrev pub Obeys : Tables → (ks lines left : List (List ℕ)) → Ordered → List Turn → Type 0
+Obeys t ks lines left s us = ObeysBy (LeadsInTurn t) (begin t zero_arrays) ks lines left s us
 
 -- the first line that isn't in form or can't be done has this number, counted from 1
-pub record StopsAt (t : Tables) (ks lines : List (List ℕ)) (number : ℕ) : Type 0 where
-  pub before : List (List ℕ)
-  pub line : List ℕ
-  pub behind : List (List ℕ)
-  pub are : lines ≡ before ++ line ∷ behind
-  pub is : number ≡ length before + 1
-  pub left : List (List ℕ)
-  pub state : Ordered
-  pub turns : List Turn
-  pub obeys : Obeys t ks before left state turns
-  pub stuck : CantBeDone (order_by line) left state.net
+abbrev pub StopsAt : Tables → (ks lines : List (List ℕ)) → (number : ℕ) → Type 0
+StopsAt t ks lines number = StopsAtBy (λ (o : Ordered). o.net) (LeadsInTurn t) (begin t zero_arrays) ks lines number
 
 -- all lines are done, and a packet or a copy is left: this is the number of the line behind
-pub record EndsEarly (t : Tables) (ks lines : List (List ℕ)) (number : ℕ) : Type 0 where
-  pub is : number ≡ length lines + 1
-  pub left : List (List ℕ)
-  pub state : Ordered
-  pub turns : List Turn
-  pub obeys : Obeys t ks lines left state turns
-  pub some : (left ≢ []) ⊎ (state.net.flying ≢ [])
+abbrev pub EndsEarly : Tables → (ks lines : List (List ℕ)) → (number : ℕ) → Type 0
+EndsEarly t ks lines number = EndsEarlyBy (λ (o : Ordered). o.net) (LeadsInTurn t) (begin t zero_arrays) ks lines number
 
 -- the line with this number can't be done, or all lines are done too early
 abbrev pub RefusesLine : Tables → (ks lines : List (List ℕ)) → (number : ℕ) → Type 0
@@ -116,13 +89,6 @@ RefusesScheduleLine t file schedule number = AreBothRead t file schedule × Refu
 abbrev pub HasScheduleReport : Tables → (hops : Bool) → (file schedule : List ℕ) → List ℕ → Type 0
 HasScheduleReport t hops file schedule text = AreBothRead t file schedule × IsScheduleReport t hops (spelled_for t file).packets (lines_of schedule) text
 
--- The whole report went out, or nothing, or some first bytes where the sink failed. The packets file is read to its end
--- before the schedule, and the schedule before its lines are done.
+-- what goes out for a packets file and a schedule
 abbrev pub WritesSchedule : Tables → (hops : Bool) → (file schedule : List ℕ) → Result (Unit {0}) ScheduleFault → Option (List ℕ) → Option (List ℕ) → Type 0
-WritesSchedule t hops file schedule (Ok u) old new = (text : List ℕ) × HasScheduleReport t hops file schedule text × Appends old new text
-WritesSchedule t hops file schedule (Err Write) old new = AppendsSome (HasScheduleReport t hops file schedule) old new
-WritesSchedule t hops file schedule (Err (Packets fault)) old new = (new ≡ old) × RefusesPackets t file fault
-WritesSchedule t hops file schedule (Err Read) old new = (new ≡ old) × IsReadWhole t file
-WritesSchedule t hops file schedule (Err NoMemory) old new = new ≡ old
-WritesSchedule t hops file schedule (Err TooLong) old new = (new ≡ old) × IsReadWhole t file × (67108864 < length schedule)
-WritesSchedule t hops file schedule (Err (Line line)) old new = (new ≡ old) × RefusesScheduleLine t file schedule line
+WritesSchedule t hops file schedule result old new = WritesScheduleBy (HasScheduleReport t hops file schedule) (RefusesScheduleLine t file schedule) t file schedule result old new

@@ -5,7 +5,7 @@ use Rattle.snap_rows.specs.Network.{Event}
 use Rattle.snap_net.specs.declared.flying.Flying.{Flying}
 use Rattle.snap_net.specs.declared.happened.Moved.{Moved}
 use Rattle.snap_net.specs.declared.happened.Moved.TheVariants as bare
-use Rattle.snap_net.specs.Shown.{Held, Same, Shows, StandsThere, moving}
+use Rattle.snap_net.specs.Shown.{DoneBy, Held, Same, Shows, StandsThere, moving}
 use Rattle.snap_order.specs.Ordered.{Ordered, Turn, Happens, Stays, Waits, LeadsInTurn}
 
 -- what an ordered network of the program holds: a network, and how many packets each rank has handled
@@ -23,9 +23,9 @@ pub record ShowsInTurn (v : OrderedHeld) (s : Ordered) : Type 0 where
   pub net : Shows v.net s.net
   pub handled : (r : ℕ) → s.handled r ≡ get_or v.counts r 0
 
--- from each state that was shown the event leads to one that is shown now, with turns of which this holds
+-- the event leads from each state that was shown to one that is shown now, with turns of which this holds
 abbrev pub IsDoneInTurn : OrderedHeld → Event → OrderedHeld → (List Turn → Type 0) → Type 0
-IsDoneInTurn old e new told = (s : Ordered) → ShowsInTurn old s → (s' : Ordered) × (us : List Turn) × LeadsInTurn old.net.tables s e s' us × ShowsInTurn new s' × told us
+IsDoneInTurn old e new told = DoneBy ShowsInTurn (LeadsInTurn old.net.tables) old e new told
 
 abbrev pub NoTurn : List Turn → Type 0
 NoTurn us = us ≡ []

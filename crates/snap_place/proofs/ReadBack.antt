@@ -3,7 +3,7 @@ use Rattle.std.proofs.Common.{◌≡◌, ◌∙◌, ℕ, zero, suc, ◌+◌, ◌
 use Rattle.std.specs.List.{AllByRecursion, IsDistinct, list_all, list_any, position_from}
 use Rattle.std.specs.Map.{keys_of, values_of}
 use Rattle.std.specs.Str.{is_utf8}
-use Rattle.std.proofs.lemmas.Bool.{and_parts, cases_Bool, false≢true}
+use Rattle.std.proofs.lemmas.Bool.{and_parts, cases_Bool}
 use Rattle.std.proofs.lemmas.Bool.Decides.{nat_tests}
 use Rattle.std.proofs.lemmas.Cmp.{nat_list_eq_equiv}
 use Rattle.std.proofs.lemmas.List.{length-map}
@@ -17,6 +17,7 @@ use Rattle.std.proofs.lemmas.Option.{unwrap_or-slice_get}
 use Rattle.std.proofs.lemmas.Slice.Eq.{bytes_eq-Decides}
 use Rattle.std.proofs.lemmas.Slice.Zip.{seconds-zip}
 use Rattle.std.proofs.lemmas.Str.{IsUtf8-from_ascii, is_utf8-from_IsUtf8}
+use Rattle.snap_core.proofs.Elements.{All-back}
 use Rattle.toml.specs.Tables.{close}
 use Rattle.snap_core.specs.Names.{IsName, is_keyword, is_name, is_name_byte, is_switch_name, is_word}
 use Rattle.snap_core.specs.Fields.{names_of}
@@ -29,7 +30,7 @@ use Rattle.snap_place.specs.Shape.{entries_in, entries_of, has_names}
 use Rattle.snap_place.specs.Together.{IsTogether}
 use Rattle.snap_place.proofs.Filled.{each_found, nodes_of, run_pairs, sorted, sorted_keys, sorted_values}
 use Rattle.snap_place.proofs.Lines.{Entry, IsPlain, decimal_shown, document_of_lines, is_shown}
-use Rattle.snap_place.proofs.Names.{back, distinct_back}
+use Rattle.snap_place.proofs.Names.{distinct_back}
 use Rattle.snap_place.proofs.Plain.{name_bytes}
 
 -- ---- the bytes are ASCII
@@ -186,4 +187,4 @@ answered tied vars switches owned cost named apart spots different count below t
 
 pub printed_is_read : PrintedIsRead
 printed_is_read p t owned cost form well gives =
-    answered (Tied p.body) p.vars t.switches owned cost (back IsName (names_of p.fields) p.vars form.names) (distinct_back (names_of p.fields) p.vars form.different) well.names well.different gives.count gives.below gives.together
+    answered (Tied p.body) p.vars t.switches owned cost (All-back IsName (names_of p.fields) p.vars form.names) (distinct_back (names_of p.fields) p.vars form.different) well.names well.different gives.count gives.below gives.together

@@ -38,7 +38,7 @@ aim_home t (Visit r n) x w e home = home
 aim_home t (Walk n) x w e home = absurd (no_aim x e)
 aim_home t (Stage n i) x w e home = absurd (no_aim x e)
 
-no_hops : (t : Tables) (n x : ℕ) → hops_within t n x x ≡ 0
+pub no_hops : (t : Tables) (n x : ℕ) → hops_within t n x x ≡ 0
 no_hops t zero x = refl
 no_hops t (suc most) x = ap (λ b. if b then 0 else suc (hops_within t most (next t x x) x)) (eq-eqb x x refl)
 

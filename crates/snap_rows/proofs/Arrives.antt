@@ -3,7 +3,7 @@ use Rattle.std.proofs.Common.{◌≡◌, ◌≢◌, ℕ, zero, suc, add-one, ◌
 use Rattle.std.specs.Prelude.{slice_get, ◌==◌, ◌&&◌, if◌then◌else◌, slice_index, slice_set, IfSome, IsSome, is_some, Contains}
 use Rattle.std.specs.List.{All, filter}
 use Rattle.std.proofs.lemmas.Bool.{eqb-true, eq-eqb, false≢true}
-use Rattle.std.proofs.lemmas.List.Elements.{All-contains_itself, All-cons}
+use Rattle.std.proofs.lemmas.List.Elements.{All-contains_itself, All-cons, All-tail}
 use Rattle.std.proofs.lemmas.Option.{slice_get_within, slice_get-get_or}
 use Rattle.snap_core.specs.Arrays.{Arrays, value_of}
 use Rattle.snap_core.specs.Switch.{goes_out}
@@ -11,7 +11,7 @@ use Rattle.snap_core.specs.Packets.{PacketSet, AllLong, listed, no_packets, with
 use Rattle.snap_core.specs.Tests.{results, results_from, after_out, with_parts}
 use Rattle.snap_core.proofs.Lengths.{All-listed, AllLong-no_packets, AllLong-with_packet}
 use Rattle.std.proofs.lemmas.List.{length-set}
-use Rattle.snap_rows.proofs.Own.{All-tail, rank_entry}
+use Rattle.snap_rows.proofs.Own.{rank_entry}
 use Rattle.snap_rows.specs.declared.tables.Hop.{Hop}
 use Rattle.snap_rows.specs.declared.tables.Row.{Row}
 use Rattle.snap_rows.specs.declared.tables.Row.TheVariants.{Field, State, Go, Leaf, Stop, Last}
@@ -35,10 +35,6 @@ use Rattle.snap_rows.proofs.Ports.{port_is_found}
 use Rattle.snap_rows.proofs.Visited.{visit_end}
 use Rattle.snap_rows.proofs.Later.{next_home, enter_home}
 use Rattle.snap_rows.proofs.Plans.{way_end}
-
--- a member of a list that satisfies P
-pub All-in : {X : Type 0} (P : X → Type 0) (xs : List X) (x : X) → All P xs → Contains xs x → P x
-All-in P xs x all is = subst P is.2 (all is.0 x is.1)
 
 hop_keeps : (t : Tables) → IsFirstSpot t Loop None → (h : Hop) → Contains t.hops h → HopKeeps t Loop h
 hop_keeps t loops h is = subst (λ o. IfSome o (HopKeeps t Loop)) (slice_get-get_or t.hops is.0 h is.1 ∙ ap Some is.2) (loops (spot.Hop is.0))

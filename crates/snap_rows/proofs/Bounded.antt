@@ -20,7 +20,8 @@ use Rattle.snap_rows.specs.Rules.{IsValid, PortKeeps}
 use Rattle.snap_rows.specs.Home.{AtHome}
 use Rattle.snap_rows.specs.Steps.{Arrives, IsSent}
 use Rattle.snap_rows.specs.Handles.{Handles, forked}
-use Rattle.snap_rows.specs.Network.{Copy, Net, Event, Happening, Leads, inject, step, Runs, done, on as after, moved, start}
+use Rattle.snap_rows.specs.Network.{Copy, Net, Event, Happening, Leads, inject, step, Runs, moved, start}
+use Rattle.snap_rows.proofs.Runs.{runs-keep}
 use Rattle.snap_rows.specs.Bound.{hops_within, distance, longest, to_switch, left, most_hops, IsBounded}
 use Rattle.snap_rows.proofs.Rows.{All-get, some_injective}
 use Rattle.snap_rows.proofs.Arrives.{way_to, arrives, fork_arrives, next_below}
@@ -126,19 +127,15 @@ moved_bounded t c (Deliver port) is arrives f = λ i d within. absurd (let h : i
 moved_bounded t c (Fork copies lost) is arrives f = All-map (IsBounded t) (λ (x : Sent). record c { head = Out x.port; packet = x.packet; steps = c.steps + 1 }) copies
     (λ i d within. record { at = is.at; home = (arrives i d within).port; most = (let h = f i d within in let g = is.most in omega arith) })
 
-leads_bounded : (t : Tables) → IsValid t → IsInForm t → Measures t → (s s' : Net) (e : Event) (hs : List Happening) → All (IsBounded t) s.flying → Leads t s e s' hs → All (IsBounded t) s'.flying
-leads_bounded t valid form measures s s' e hs all (inject {port = p} {w = w} at first) =
+leads_bounded : (t : Tables) → IsValid t → IsInForm t → Measures t → (s s' : Net) (e : Event) (hs : List Happening) → Leads t s e s' hs → All (IsBounded t) s.flying → All (IsBounded t) s'.flying
+leads_bounded t valid form measures s s' e hs (inject {port = p} {w = w} at first) all =
     All-push (IsBounded t) s.flying _ all (record { at = port_below t form p w at; home = port_home t valid p w at; most = (let h = measures.starts p w at in omega arith) })
-leads_bounded t valid form measures s s' e hs all (step {i = i} {c = c} {m = m} {a = a} is handles) =
+leads_bounded t valid form measures s s' e hs (step {i = i} {c = c} {m = m} {a = a} is handles) all =
     let b = All-get (IsBounded t) s.flying i c all is in
     let arr = arrives t valid form c.at b.at c.packet (s.stores c.at) c.head m a b.home handles in
     let f = measures.falls c.at b.at c.packet (s.stores c.at) c.head m a b.home handles in
     All-append (IsBounded t) (take i s.flying) (moved c a ++ drop (i + 1) s.flying) (All-take (IsBounded t) i s.flying all)
     (All-append (IsBounded t) (moved c a) (drop (i + 1) s.flying) (moved_bounded t c a b arr f) (All-drop (IsBounded t) (i + 1) s.flying all))
 
-runs_bounded : (t : Tables) → IsValid t → IsInForm t → Measures t → (s s' : Net) (es : List Event) (hs : List Happening) → All (IsBounded t) s.flying → Runs t s es s' hs → All (IsBounded t) s'.flying
-runs_bounded t valid form measures s s' es hs all done = all
-runs_bounded t valid form measures s s'' es hs all (after {s' = s'} {e = e} {h = h} lead run) = runs_bounded t valid form measures s' s'' _ _ (leads_bounded t valid form measures s s' e h all lead) run
-
 pub bounded : (t : Tables) → IsValid t → IsInForm t → Measures t → (m : Arrays) (es : List Event) (s : Net) (hs : List Happening) → Runs t (start t m) es s hs → All (IsBounded t) s.flying
-bounded t valid form measures m es s hs run = runs_bounded t valid form measures (start t m) s es hs (λ i d within. absurd (let h : i < 0 = within in omega arith)) run
+bounded t valid form measures m es s hs run = runs-keep (λ (n : Net). All (IsBounded t) n.flying) run (leads_bounded t valid form measures) (λ i d within. absurd (let h : i < 0 = within in omega arith))

@@ -17,17 +17,18 @@ use Rattle.snap_rows.specs.declared.head.Head.{Head}
 use Rattle.snap_rows.specs.declared.head.Head.TheVariants.{Walk, Stage as AtStage}
 use Rattle.snap_rows.specs.Actions.{Action}
 use Rattle.snap_rows.specs.Entries.{Parts, row_at, node_of, owner_of, port_at, next, ranks, var_of}
-use Rattle.snap_rows.specs.Form.{IsInForm, IsTurnInForm, switch_count}
+use Rattle.snap_rows.specs.Form.{IsInForm, switch_count}
 use Rattle.snap_rows.specs.Rules.{IsValid, IsStateRow}
 use Rattle.snap_rows.specs.Home.{AtHome}
 use Rattle.snap_rows.specs.Handles.{Handles, asks, goes, forks, begins, passes_on, goes_on, completes, enters, enters_last, seeks, visits, concludes, delivers, carries}
 use Rattle.snap_rows.specs.Bound.{distance, longest, is_state, states, states_above, stages_of, most_stages, most_stages_in, to_switch, to_decision, from_stage, left, most_hops}
-use Rattle.snap_rows.proofs.Rows.{row_keeps, row_form, entry_of, All-get, some_injective}
+use Rattle.snap_rows.proofs.Rows.{row_keeps, row_form, entry_of, some_injective}
 use Rattle.snap_rows.proofs.Ways.{side_goes}
 use Rattle.snap_rows.proofs.Growing.{not_two}
 use Rattle.snap_rows.proofs.Arrives.{same_leaf, arrives, stage_first, stage_next}
 use Rattle.snap_rows.proofs.Bounded.{Falls, Measures, port_below, port_home, far_short, nearer, wider, fork_falls, carry_falls}
 use Rattle.snap_rows.proofs.Falls.{visit_bound, conclude_bound}
+use Rattle.snap_rows.proofs.Plans.{turn_below}
 
 -- ---- counts
 pub one_more : (p : RowAt → Bool) (x : RowAt) (xs : List RowAt) → count_by p (x ∷ xs) ≡ cond (p x) 1 0 + count_by p xs
@@ -195,9 +196,6 @@ walk_left t one w n = ap (λ b. if b then to_decision t w (row_at t w n) + (stat
 stage_left : (t : Tables) (w n i : ℕ) (s : Turn) (ss : List Turn) (os : List Parts) → row_at t w n ≡ Some (Leaf ss os) → slice_get ss i ≡ Some s → left t w (AtStage n i) ≡ distance t w s.at + (length ss - i) * longest t
 stage_left t w n i s ss os row is =
     ap (λ o. from_stage t w o i) row ∙ ap (λ (o : Option Turn). to_switch t w (option_map (λ (s : Turn). s.at) o) + (length ss - i) * longest t) is
-
-turn_below : (t : Tables) → IsInForm t → (w n i : ℕ) (s : Turn) (ss : List Turn) (os : List Parts) → row_at t w n ≡ Some (Leaf ss os) → slice_get ss i ≡ Some s → s.at < switch_count t
-turn_below t form w n i s ss os row is = (All-get (IsTurnInForm t) ss i s (row_form t form w n (Leaf ss os) row).2 is).at
 
 -- ---- steps
 falls : (t : Tables) → IsValid t → IsInForm t → t.version ≡ 1 → (w : ℕ) → w < switch_count t → (k : List ℕ) (m : Arrays) (h : Head) (m' : Arrays) (a : Action) → AtHome t w h → Handles t w k m h m' a → Falls t w (left t w h) a

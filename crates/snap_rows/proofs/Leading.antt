@@ -4,7 +4,7 @@ use Rattle.std.specs.Prelude.{◌↔◌, Contains}
 use Rattle.std.specs.List.{All}
 use Rattle.std.proofs.lemmas.Bool.{cases_lt}
 use Rattle.std.proofs.lemmas.List.{append_assoc, at_drop_more}
-use Rattle.std.proofs.lemmas.List.Elements.{All-contains_itself}
+use Rattle.std.proofs.lemmas.List.Elements.{All-contains, All-contains_itself}
 use Rattle.snap_rows.specs.declared.tables.Row.{Row}
 use Rattle.snap_rows.specs.declared.tables.Row.TheVariants.{Field, State, Go, Leaf, Stop, Last}
 use Rattle.snap_rows.specs.declared.tables.Stage.{Stage as Turn}
@@ -13,7 +13,6 @@ use Rattle.snap_rows.specs.Entries.{next, rank_at}
 use Rattle.snap_rows.specs.Form.{switch_count}
 use Rattle.snap_rows.specs.Leads.{IsNumberAfter, LeadsOver, AreLedOver}
 use Rattle.snap_rows.specs.Ways.{Way, here, on, Route, end, leg, OwnsBelow, LeadsTo}
-use Rattle.snap_rows.proofs.Arrives.{All-in}
 
 -- ---- owners of ranks
 pub no_owners : (t : Tables) (x : ℕ) → OwnsBelow t 0 x ↔ Contains [] x
@@ -113,4 +112,4 @@ join_leads t w n (Last us os) P own over x k l = subst (λ i. P x i) (sym l.0) (
 
 -- what holds of each member of a list that has exactly what passes L
 pub each_over : (L : ℕ → Type 0) (P : ℕ → Type 0) (xs : List ℕ) → ((x : ℕ) → L x ↔ Contains xs x) → All P xs ↔ ((x : ℕ) → L x → P x)
-each_over L P xs are = (λ all x l. All-in P xs x all ((are x).0 l), λ all i d within. all (get_or xs i d) ((are (get_or xs i d)).1 (All-contains_itself xs i d within)))
+each_over L P xs are = (λ all x l. All-contains P xs x all ((are x).0 l), λ all i d within. all (get_or xs i d) ((are (get_or xs i d)).1 (All-contains_itself xs i d within)))

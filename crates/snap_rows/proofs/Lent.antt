@@ -1,8 +1,8 @@
 -- What references to updates lend.
-use Rattle.std.proofs.Common.{◌≡◌, ℕ, zero, suc, ◌+◌, ◌-◌, ◌<◌, List, [], ◌∷◌, ◌++◌, length, map, take, drop, get_or, refl, sym, ap, subst, ◌∙◌, arith, Bor}
+use Rattle.std.proofs.Common.{◌≡◌, ℕ, zero, suc, ◌+◌, ◌-◌, ◌<◌, List, [], ◌∷◌, ◌++◌, length, take, drop, get_or, refl, sym, ap, subst, ◌∙◌, arith, Bor}
 use Rattle.std.specs.List.{All}
 use Rattle.std.proofs.lemmas.List.{length-map, get_or-map, take_more, drop_more}
-use Rattle.std.proofs.lemmas.List.Elements.{All-nil, All-cons, All-head, All-tail, All-get_or}
+use Rattle.std.proofs.lemmas.List.Elements.{All-get_or}
 use Rattle.snap_core.specs.declared.policy.Update.{Update}
 use Rattle.snap_rows.specs.Dues.{seen}
 
@@ -23,14 +23,6 @@ pub lent_next : (xs : List (Bor Update)) (us : List Update) (i : ℕ) (x : Bor U
 lent_next xs us i x e lt is = drop_more us i x.now (within xs us i e lt) ∙ ap (λ u. u ∷ drop (i + 1) us) (lent xs us i x e lt is)
 
 -- ---- lists in two parts
-pub all_front : (P : Update → Type 0) (us vs : List Update) → All P (us ++ vs) → All P us
-all_front P [] vs all = All-nil P
-all_front P (u ∷ us) vs all = All-cons P u us (All-head P u (us ++ vs) all) (all_front P us vs (All-tail P u (us ++ vs) all))
-
-pub all_back : (P : Update → Type 0) (us vs : List Update) → All P (us ++ vs) → All P vs
-all_back P [] vs all = all
-all_back P (u ∷ us) vs all = all_back P us vs (All-tail P u (us ++ vs) all)
-
 pub take_both : (n : ℕ) (us vs : List Update) → take n us ++ take (n - length us) vs ≡ take n (us ++ vs)
 take_both zero [] vs = refl
 take_both zero (u ∷ us) vs = let none : zero - suc (length us) ≡ zero = omega arith in ap (λ i. take i vs) none

@@ -30,6 +30,8 @@ pub mod Nodes
 pub mod Able
 pub mod OneWay
 pub mod Ending
+pub mod Runs
+pub mod Happenings
 pub mod Lighter
 pub mod Aims
 pub mod Lent

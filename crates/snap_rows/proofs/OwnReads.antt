@@ -1,7 +1,8 @@
 -- A step reads arrays of its switch alone.
-use Rattle.std.proofs.Common.{◌≡◌, ℕ, ◌+◌, ◌<◌, Bool, true, false, List, [], ◌∷◌, Option, Some, length, refl, sym, ap, subst, ◌∙◌, arith}
+use Rattle.std.proofs.Common.{◌≡◌, ℕ, ◌+◌, ◌<◌, Bool, true, List, [], ◌∷◌, Option, Some, length, refl, sym, ap, subst, ◌∙◌, arith}
 use Rattle.std.specs.Prelude.{nat_eq, IfSome, IsSome, if◌then◌else◌}
 use Rattle.std.specs.List.{All}
+use Rattle.std.proofs.lemmas.List.Elements.{All-tail}
 use Rattle.std.proofs.lemmas.Bool.{eqb-true, false≢true}
 use Rattle.snap_core.specs.declared.policy.Test.{Test}
 use Rattle.snap_core.specs.declared.policy.Test.TheVariants.{Value, Equal, State as StateTest}
@@ -16,14 +17,14 @@ use Rattle.snap_rows.specs.declared.tables.Row.TheVariants.{Field, State, Go, Le
 use Rattle.snap_rows.specs.declared.tables.Rule.TheVariants.{Owner}
 use Rattle.snap_rows.specs.declared.tables.Tables.{Tables}
 use Rattle.snap_rows.specs.Entries.{row_at, owner_of, rank_of, rank_at, var_of}
-use Rattle.snap_rows.specs.Form.{IsInForm, IsFieldTest, IsStateTest, array_count, switch_count}
+use Rattle.snap_rows.specs.Form.{IsInForm, IsFieldTest, switch_count}
 use Rattle.snap_rows.specs.Handles.{Handles, Follows, arrives, follows, Visits, side, is_field, is_ranked, asks, goes, forks, begins, passes_on, goes_on, completes, enters, enters_last, seeks, visits, concludes, delivers, carries}
 use Rattle.snap_rows.specs.Home.{AtHome, IsVisitAtHome}
 use Rattle.snap_rows.specs.Laws.{AgreeAt}
 use Rattle.snap_rows.specs.Rules.{IsValid}
 use Rattle.snap_rows.proofs.Arrives.{stage_first, stage_next}
-use Rattle.snap_rows.proofs.Later.{next_home, enter_home}
-use Rattle.snap_rows.proofs.Own.{All-tail, rank_owner, stage_own, visit_own}
+use Rattle.snap_rows.proofs.Later.{enter_home, next_home, var_ok}
+use Rattle.snap_rows.proofs.Own.{rank_owner, stage_own, visit_own}
 use Rattle.snap_rows.proofs.Plans.{way_end}
 use Rattle.snap_rows.proofs.Rows.{row_keeps, row_form, nodes, some_injective}
 use Rattle.snap_rows.proofs.Visited.{visit_end, walk_cut_same}
@@ -75,14 +76,9 @@ field_way : (t : Tables) → IsInForm t → (w : ℕ) (k : List ℕ) (m o : Arra
 field_way t form w k m o n v (arrives row test) = arrives row test
 field_way t form w k m o n v (follows {x = x} {b = b} row test side' f) = follows row test (sym (field_side t form w m o k n b row test) ∙ side') (field_way t form w k m o x v f)
 
-var_within : (t : Tables) (test : Test) → IsStateTest t test → var_of test < array_count t
-var_within t (StateTest s es x) fits = fits.0
-var_within t (Value c n) fits = absurd fits
-var_within t (Equal a b n) fits = absurd fits
-
 ranked_side : (t : Tables) → IsValid t → IsInForm t → t.version ≡ 2 → (w r : ℕ) (m o : Arrays) (k : List ℕ) → rank_at t r ≡ Some w → AgreeAt t w m o → (n : ℕ) (b : Row) → row_at t w n ≡ Some b → is_ranked t r b ≡ true → side b m k ≡ side b o k
 ranked_side t valid form two w r m o k at agree n (State test y z) row e =
-    let within = var_within t test (row_form t form w n (State test y z) row).1 in
+    let within = var_ok t test (row_form t form w n (State test y z) row).1 in
     ap (λ b. to b y z) (passes_agree t w m o k agree test (rank_owner t valid two (var_of test) r w within (eqb-true (rank_of t (var_of test)) r e) at))
 ranked_side t valid form two w r m o k at agree n (Field test y z) row e = absurd (false≢true e)
 ranked_side t valid form two w r m o k at agree n (Go x) row e = refl

@@ -49,7 +49,7 @@ bare_goes t w k m h us f a none acts fits step = record {
 }
 
 -- a stage stands at a switch
-turn_below : (t : Tables) → IsInForm t → (w n i : ℕ) (s : Turn) (ss : List Turn) (os : List Parts) → row_at t w n ≡ Some (Leaf ss os) → slice_get ss i ≡ Some s → s.at < switch_count t
+pub turn_below : (t : Tables) → IsInForm t → (w n i : ℕ) (s : Turn) (ss : List Turn) (os : List Parts) → row_at t w n ≡ Some (Leaf ss os) → slice_get ss i ≡ Some s → s.at < switch_count t
 turn_below t form w n i s ss os row is = (All-get (IsTurnInForm t) ss i s (row_form t form w n (Leaf ss os) row).2 is).at
 
 -- a stage that isn't here

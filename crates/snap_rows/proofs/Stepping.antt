@@ -1,27 +1,25 @@
 -- What steps come to: without order, at home, and with the switch's own arrays alone.
-use Rattle.std.proofs.Common.{◌≡◌, ◌≢◌, ◌⊎◌, inl, inr, ⊎_elim, ℕ, ◌+◌, ◌<◌, Bool, true, Some, List, [], length, refl, sym, ap, subst, ◌∙◌, arith, Bor}
-use Rattle.std.specs.List.{All, AllByRecursion}
+use Rattle.std.proofs.Common.{◌≡◌, ◌≢◌, ◌⊎◌, inl, inr, ⊎_elim, ℕ, ◌+◌, ◌<◌, Bool, true, Some, List, refl, sym, ap, subst, ◌∙◌, arith, Bor}
+use Rattle.std.specs.List.{All}
 use Rattle.std.proofs.lemmas.Bool.{false≢true}
 use Rattle.snap_core.specs.declared.place.Place.{Place}
 use Rattle.snap_core.specs.declared.policy.Update.{Update}
 use Rattle.snap_core.specs.Arrays.{Arrays, updates}
-use Rattle.snap_core.specs.Fits.{UpdateReads}
-use Rattle.snap_core.specs.Tests.{OutFits}
 use Rattle.snap_rows.specs.Actions.{Action}
 use Rattle.snap_rows.specs.Actions as action
 use Rattle.snap_rows.specs.declared.head.Fate.{Fate}
 use Rattle.snap_rows.specs.declared.head.Fate.TheVariants.{Seek, Deliver, Fork, Stay, Wait}
 use Rattle.snap_rows.specs.declared.head.Head.{Head}
-use Rattle.snap_rows.specs.declared.head.Head.TheVariants.{Walk, Stage, Out, Visit}
+use Rattle.snap_rows.specs.declared.head.Head.TheVariants.{Walk, Out, Visit}
 use Rattle.snap_rows.specs.declared.tables.Tables.{Tables}
 use Rattle.snap_rows.specs.Entries.{Parts, next, rank_at, rank_of, ranks}
-use Rattle.snap_rows.specs.Form.{IsInForm, comps, switch_count}
-use Rattle.snap_rows.specs.Handles.{Handles, forked, enters, seeks, concludes}
+use Rattle.snap_rows.specs.Form.{IsInForm, switch_count}
+use Rattle.snap_rows.specs.Handles.{Handles, enters, seeks, concludes}
 use Rattle.snap_rows.specs.Handles as handles
 use Rattle.snap_rows.specs.Home.{AtHome, IsVisitAtHome}
 use Rattle.snap_rows.specs.Rules.{IsValid}
 use Rattle.snap_rows.specs.Steps.{AppendsVisit, Arrives}
-use Rattle.snap_rows.specs.Stepping.{ActsAs, AimsAt, ComesTo, visit, walk, EndsVisits, FateArrives, FateFits, GoesBy, HasVisited, IsBeforeNone, Steps, goes, visits, StepsBy, Visiting, none, more, VisitsBy}
+use Rattle.snap_rows.specs.Stepping.{ActsAs, AimsAt, ComesTo, visit, walk, EndsVisits, FateArrives, FateFits, GoesBy, IsBeforeNone, Steps, goes, visits, StepsBy, Visiting, none, more, VisitsBy}
 use Rattle.snap_rows.proofs.Arrives.{arrives, owner_below}
 use Rattle.snap_rows.proofs.Later.{not_one, rank_is_below}
 use Rattle.snap_rows.proofs.Own.{OwnOrSame, handles_own, then_own, updates_own, visit_own}
@@ -109,7 +107,7 @@ steps_visited {t = t} {w = w} {may = may} {r = r} {f = f} form two comes made = 
 
 -- one more visit, worked out on the arrays as they were
 pub visiting_on : (t : Tables) → IsValid t → IsInForm t → t.version ≡ 2 → (w : ℕ) (k : List ℕ) (m : Arrays) {may : ℕ → Bool} {r0 n0 : ℕ} (r n v : ℕ) (before after : List Update) (home : IsVisitAtHome t r n) → home.owner ≡ w
-    → AllByRecursion (λ (u : Update). rank_of t u.var < r) before → AppendsVisit t w k m r n v before after → may r ≡ true → Visiting t w k may m r0 n0 (updates m before k) r n → Visiting t w k may m r0 n0 (updates m after k) (r + 1) v
+    → All (λ (u : Update). rank_of t u.var < r) before → AppendsVisit t w k m r n v before after → may r ≡ true → Visiting t w k may m r0 n0 (updates m before k) r n → Visiting t w k may m r0 n0 (updates m after k) (r + 1) v
 visiting_on t valid form two w k m {may = may} {r0 = r0} {n0 = n0} r n v before after home own below appends admitted made =
     let later = visits_later t valid form two w k m r n v before after home own below appends in
     subst (λ m'. Visiting t w k may m r0 n0 m' (r + 1) v) later.2 (more made (home.rank ∙ ap Some own) admitted later.1)

@@ -74,21 +74,28 @@ pub data Leads (t : Tables) (s : Net) : Event → Net → List Happening → Typ
   step : {i : ℕ} {c : Copy} {m : Arrays} {a : Action} → slice_get s.flying i ≡ Some c → Handles t c.at c.packet (s.stores c.at) c.head m a
       → Leads t s (Step i) (stepped s i c m a) (happening c a ∷ [])
 
--- the events lead from s to s'
-pub data Runs (t : Tables) : Net → List Event → Net → List Happening → Type 0 where
-  done : {s : Net} → Runs t s [] s []
-  on : {s s' s'' : Net} {e : Event} {es : List Event} {h hs : List Happening} → Leads t s e s' h → Runs t s' es s'' hs → Runs t s (e ∷ es) s'' (h ++ hs)
+-- the events lead from s to s', where each leads as it says here
+pub data RunsBy {S L : Type 0} (leads : S → Event → S → List L → Type 0) : S → List Event → S → List L → Type 0 where
+  done : {s : S} → RunsBy leads s [] s []
+  on : {s s' s'' : S} {e : Event} {es : List Event} {h hs : List L} → leads s e s' h → RunsBy leads s' es s'' hs → RunsBy leads s (e ∷ es) s'' (h ++ hs)
+
+-- so they do in the network
+abbrev pub Runs : Tables → Net → List Event → Net → List Happening → Type 0
+Runs t s es s' hs = RunsBy (Leads t) s es s' hs
 
 abbrev pub Run : Tables → Arrays → List Event → Net → List Happening → Type 0
 Run t m es s hs = Runs t (start t m) es s hs
 
 -- the events lead from s to s', and each injection comes with no copy in flight
-pub data RunsCalmly (t : Tables) : Net → List Event → Net → List Happening → Type 0 where
-  rests : {s : Net} → RunsCalmly t s [] s []
-  injects : {s s' s'' : Net} {port : ℕ} {k : List ℕ} {es : List Event} {h hs : List Happening} → s.flying ≡ [] → Leads t s (Inject port k) s' h
-      → RunsCalmly t s' es s'' hs → RunsCalmly t s (Inject port k ∷ es) s'' (h ++ hs)
-  steps : {s s' s'' : Net} {i : ℕ} {es : List Event} {h hs : List Happening} → Leads t s (Step i) s' h
-      → RunsCalmly t s' es s'' hs → RunsCalmly t s (Step i ∷ es) s'' (h ++ hs)
+pub data RunsCalmlyBy {S L : Type 0} (net : S → Net) (leads : S → Event → S → List L → Type 0) : S → List Event → S → List L → Type 0 where
+  rests : {s : S} → RunsCalmlyBy net leads s [] s []
+  injects : {s s' s'' : S} {port : ℕ} {k : List ℕ} {es : List Event} {h hs : List L} → (net s).flying ≡ [] → leads s (Inject port k) s' h
+      → RunsCalmlyBy net leads s' es s'' hs → RunsCalmlyBy net leads s (Inject port k ∷ es) s'' (h ++ hs)
+  steps : {s s' s'' : S} {i : ℕ} {es : List Event} {h hs : List L} → leads s (Step i) s' h
+      → RunsCalmlyBy net leads s' es s'' hs → RunsCalmlyBy net leads s (Step i ∷ es) s'' (h ++ hs)
+
+abbrev pub RunsCalmly : Tables → Net → List Event → Net → List Happening → Type 0
+RunsCalmly t s es s' hs = RunsCalmlyBy (λ (n : Net). n) (Leads t) s es s' hs
 
 -- the packets that are injected, each with its port
 abbrev pub packets_of : List Event → List (ℕ × List ℕ)
@@ -102,11 +109,14 @@ StepsFirst (Inject port k) = Unit {0}
 StepsFirst (Step i) = i ≡ 0
 
 -- a run of the plain schedule of these packets: each is injected once the one before has finished, and each step is of the first copy
-pub record IsPlainRun (t : Tables) (m : Arrays) (ks : List (ℕ × List ℕ)) (es : List Event) (s : Net) (hs : List Happening) : Type 0 where
+pub record IsPlainRunBy {S L : Type 0} (net : S → Net) (leads : S → Event → S → List L → Type 0) (begin : S) (ks : List (ℕ × List ℕ)) (es : List Event) (s : S) (hs : List L) : Type 0 where
   pub packets : packets_of es ≡ ks
   pub first : All StepsFirst es
-  pub run : RunsCalmly t (start t m) es s hs
-  pub ended : s.flying ≡ []
+  pub run : RunsCalmlyBy net leads begin es s hs
+  pub ended : (net s).flying ≡ []
+
+abbrev pub IsPlainRun : Tables → Arrays → List (ℕ × List ℕ) → List Event → Net → List Happening → Type 0
+IsPlainRun t m ks es s hs = IsPlainRunBy (λ (n : Net). n) (Leads t) (start t m) ks es s hs
 
 -- each variable as at the switch of its array
 abbrev pub whole : Tables → Net → Arrays

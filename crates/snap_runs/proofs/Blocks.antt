@@ -14,7 +14,7 @@ use Rattle.snap_trace.specs.Reports.{out_lines, lost_line}
 use Rattle.snap_runs.specs.declared.frames.Frames.{Frames}
 use Rattle.snap_runs.specs.Reports.{AreBlocksBy, IsBlockBy, hops_text, packet_line}
 use Rattle.snap_runs.specs.Tracing.{HappenTo}
-use Rattle.snap_net.proofs.Told.{deliveries_of-append, losses_of-append}
+use Rattle.snap_rows.proofs.Happenings.{deliveries_of-append, losses_of-append}
 use Rattle.snap_runs.proofs.Happenings.{HappenElsewhere, deliveries_of-others, losses_of-others, hops_text-append, hops_text-others}
 
 module _ (f : Frames) (t : Tables) (hops : Bool) (i : ℕ) (text : List ℕ) where

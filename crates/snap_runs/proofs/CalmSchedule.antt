@@ -5,9 +5,10 @@ use Rattle.snap_core.specs.Arrays.{zero_arrays}
 use Rattle.snap_rows.specs.declared.tables.Tables.{Tables}
 use Rattle.snap_rows.specs.Network.{Net, Event, Inject, Step, Happening, Runs, done, on, RunsCalmly, rests, packets_of, start}
 use Rattle.snap_rows.specs.Network as net
+use Rattle.snap_rows.proofs.Runs.{runs-then}
 use Rattle.snap_runs.specs.Plain.{entering}
 use Rattle.snap_runs.specs.Schedules.{IsCalm, Obeys, Spells, nothing, skips, injects, steps}
-use Rattle.snap_runs.proofs.Spelling.{runs-then, spells-inject, spells-skip, spells-step}
+use Rattle.snap_runs.proofs.Spelling.{spells-inject, spells-skip, spells-step}
 
 module _ (t : Tables) (ks lines : List (List ℕ)) (calm : IsCalm t ks lines) where
   -- some lines were done, and the others go on from there
@@ -20,14 +21,14 @@ module _ (t : Tables) (ks lines : List (List ℕ)) (calm : IsCalm t ks lines) wh
       let now : Obeys t ks (first ++ line ∷ []) left s' (gs ++ h) = record {
         events = so.events ++ Inject (slice_index k 0) k ∷ [];
         spells = spells-inject line k left e refl so.spells;
-        run = runs-then t (Inject (slice_index k 0) k) s' h so.run leads;
+        run = runs-then (Inject (slice_index k 0) k) s' h so.run leads;
       } in
       net.injects (calm first more line are e mid s gs so) leads (goes_on (first ++ line ∷ []) s' (gs ++ h) (are ∙ sym (append_assoc first (line ∷ []) more)) now spells ran)
   goes_on first {mid = mid} s gs are so (steps {line = line} {lines = more} {i = i} e spells) (on {s' = s'} {h = h} leads ran) =
       let now : Obeys t ks (first ++ line ∷ []) mid s' (gs ++ h) = record {
         events = so.events ++ Step i ∷ [];
         spells = spells-step line i e so.spells;
-        run = runs-then t (Step i) s' h so.run leads;
+        run = runs-then (Step i) s' h so.run leads;
       } in
       net.steps leads (goes_on (first ++ line ∷ []) s' (gs ++ h) (are ∙ sym (append_assoc first (line ∷ []) more)) now spells ran)
 

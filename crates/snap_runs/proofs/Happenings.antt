@@ -11,7 +11,7 @@ use Rattle.snap_rows.specs.declared.head.Sent.{Sent}
 use Rattle.snap_rows.specs.Happenings.{deliveries_of, losses_of, number_of}
 use Rattle.snap_rows.specs.Network.{Happening, Crossed, Delivered, Forked}
 use Rattle.snap_net.specs.Shown.{moving}
-use Rattle.snap_net.proofs.Told.{deliveries_of-append, losses_of-append}
+use Rattle.snap_rows.proofs.Happenings.{deliveries_of-append, losses_of-append}
 use Rattle.snap_runs.specs.declared.frames.Frames.{Frames}
 use Rattle.snap_runs.specs.declared.tally.Tally.{Tally}
 use Rattle.snap_runs.specs.Reports.{hop_line, hop_lines, hops_text, packets_delivered}

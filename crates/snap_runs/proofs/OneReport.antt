@@ -1,7 +1,6 @@
 -- A run has one report.
 use Rattle.std.proofs.Common.{◌≡◌, ℕ, ◌+◌, Bool, List, ◌++◌, sym, ap, ◌∙◌, IsPermutation, sum}
 use Rattle.std.specs.List.{concat}
-use Rattle.std.proofs.lemmas.List.Elements.{recursion_from_All}
 use Rattle.std.proofs.lemmas.List.Sorted.{IsPermutation-sym, IsPermutation-trans}
 use Rattle.snap_core.specs.declared.place.Entry.{Entry}
 use Rattle.snap_core.specs.Listing.{IsListing}
@@ -30,7 +29,7 @@ blocks_one f t hops count hs a b x y =
     x.is ∙ ap concat each ∙ sym y.is
 
 pub listings_one : (m : Arrays) (es fs : List Entry) → IsListing m es → IsListing m fs → es ≡ fs
-listings_one m es fs a b = one_listing es fs a.rising b.rising (recursion_from_All _ es a.nonzero) (recursion_from_All _ fs b.nonzero) (λ p. a.numbers p ∙ sym (b.numbers p))
+listings_one m es fs a b = one_listing es fs a.rising b.rising a.nonzero b.nonzero (λ p. a.numbers p ∙ sym (b.numbers p))
 
 pub reports_one : (f : Frames) (t : Tables) (hops : Bool) (count : ℕ) (s : Net) (hs : List Happening) (a b : List ℕ) → IsRunReportBy f t hops count s hs a → IsRunReportBy f t hops count s hs b → a ≡ b
 reports_one f t hops count s hs a b x y =

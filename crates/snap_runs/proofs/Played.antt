@@ -2,13 +2,14 @@
 use Rattle.std.proofs.Common.{◌≡◌, ◌≢◌, ◌⊎◌, inl, inr, ℕ, zero, suc, ◌+◌, ◌<◌, Bool, true, false, List, [], ◌∷◌, ◌++◌, Some, Ok, map, length, reverse, refl, sym, ap, subst, ◌∙◌, arith, append_assoc, append-nil}
 use Rattle.std.specs.Prelude.{slice_get, IsPermutation}
 use Rattle.std.specs.List.{concat}
-use Rattle.std.proofs.lemmas.List.{length-append, length-map, length-reverse, reverse-append}
+use Rattle.std.proofs.lemmas.List.{length-append, length-map, length-reverse, nil_from_length, reverse-append}
 use Rattle.std.proofs.lemmas.Option.{slice_get_within}
 use Rattle.snap_core.specs.declared.place.Entry.{Entry}
 use Rattle.snap_core.specs.declared.program.Field.{Field}
 use Rattle.snap_core.specs.Listing.{IsListing}
 use Rattle.snap_rows.specs.declared.tables.Tables.{Tables}
-use Rattle.snap_rows.specs.Network.{Net, Event, Inject, Step, Happening, Leads, inject, step, Runs, done, on, packets_of, whole}
+use Rattle.snap_rows.specs.Network.{Net, Event, Happening, Leads, inject, step, packets_of, whole}
+use Rattle.snap_rows.proofs.Runs.{runs-count}
 use Rattle.snap_net.specs.Shown.{Shows, flown}
 use Rattle.snap_trace.specs.Reports.{end_text, out_lines, lost_line}
 use Rattle.snap_runs.specs.declared.frames.Frames.{Frames}
@@ -22,10 +23,6 @@ use Rattle.snap_runs.specs.Schedules.{EndsEarly, IsScheduleReport, Obeys, Spells
 use Rattle.snap_runs.specs.Tallies.{IsBlockText, IsTally}
 use Rattle.snap_runs.proofs.Blocks.{concat-push, in_pushed}
 use Rattle.snap_runs.proofs.Steps.{rests-shown}
-
-none-in : {A : Type 0} (xs : List A) → length xs ≡ 0 → xs ≡ []
-none-in [] e = refl
-none-in (x ∷ xs) e = absurd (omega (arith, e))
 
 pub playing-of : (t : Tables) (hops : Bool) (ks lines : List (List ℕ)) (v : Play) → Plays t hops ks lines v → IsPlaying v
 playing-of t hops ks lines v p = (ks, lines, subst (λ t'. Plays t' v.hops ks lines v) (sym p.tables) (subst (λ h. Plays t h ks lines v) (sym p.hops_same) p))
@@ -50,7 +47,7 @@ module _ (t : Tables) (hops : Bool) (ks : List (List ℕ)) where
         is = ap (λ n. n + 1) s.is;
         left = left_in v;
         state = s.plays.state;
-        happenings = s.plays.happenings;
+        told = s.plays.happenings;
         obeys = s.plays.obeys;
         stuck = does t hops ks s.done s.plays;
       }
@@ -64,7 +61,7 @@ module _ (t : Tables) (hops : Bool) (ks : List (List ℕ)) where
         is = ap (λ n. n + 1) (s.is ∙ ap length (sym all));
         left = left_in v;
         state = s.plays.state;
-        happenings = s.plays.happenings;
+        told = s.plays.happenings;
         obeys = subst (λ l. Obeys t ks l (left_in v) s.plays.state s.plays.happenings) (sym all) s.plays.obeys;
         some = some;
       }
@@ -82,7 +79,7 @@ module _ (t : Tables) (hops : Bool) (ks : List (List ℕ)) where
 
       -- nothing is left
       pub run-through : length v.waiting.items ≡ 0 → length v.net.flying ≡ 0 → HasRun t hops ks lines v (Ok tt)
-      run-through none rests = (subst (λ l. Plays t hops ks l v) (sym all) s.plays, none-in v.waiting.items none, none-in v.net.flying rests)
+      run-through none rests = (subst (λ l. Plays t hops ks l v) (sym all) s.plays, nil_from_length v.waiting.items none, nil_from_length v.net.flying rests)
 
 -- ---- blocks
 pub so_put-more : (fields : List Field) (ys left rest : List Tally) (y : Tally) (number : ℕ) (before mid after : List ℕ) → SoPut fields ys left number before mid → reverse left ≡ y ∷ reverse rest → IsBlockText fields (number + 1) y mid after
@@ -110,7 +107,7 @@ so_put-more fields ys left rest y number before mid after s e put =
         subst (λ w. IsBlockText fields (i + 1) w [] x) a.1 (subst (λ j. IsBlockText fields (j + 1) y [] x) (sym (a.0 ∙ sym s.is))
         (record { outs = put.outs; rising = put.rising; delivered = put.delivered; is = sym b.1 }))
 
-some-within : (ys : List Tally) (i : ℕ) → i < length ys → (y : Tally) × (slice_get ys i ≡ Some y)
+pub some-within : (ys : List Tally) (i : ℕ) → i < length ys → (y : Tally) × (slice_get ys i ≡ Some y)
 some-within [] i within = absurd (omega (arith, within))
 some-within (y ∷ ys) zero within = (y, refl)
 some-within (y ∷ ys) (suc i) within = some-within ys i (omega (arith, within))
@@ -124,30 +121,22 @@ block-of f t hops i hs y text is put = record {
 }
 
 -- ---- counts
-spells-count : {lines ks left : List (List ℕ)} {es : List Event} → Spells lines ks es left → length ks ≡ length (packets_of es) + length left
+pub spells-count : {lines ks left : List (List ℕ)} {es : List Event} → Spells lines ks es left → length ks ≡ length (packets_of es) + length left
 spells-count (nothing {ks = ks}) = omega arith
 spells-count (skips e rest) = spells-count rest
 spells-count (injects e rest) = let h = spells-count rest in omega (arith, h)
 spells-count (steps e rest) = spells-count rest
 
-leads-count : (t : Tables) (s s' : Net) (e : Event) (h : List Happening) → Leads t s e s' h → s'.injected ≡ s.injected + length (packets_of (e ∷ []))
+pub leads-count : (t : Tables) (s s' : Net) (e : Event) (h : List Happening) → Leads t s e s' h → s'.injected ≡ s.injected + length (packets_of (e ∷ []))
 leads-count t s s' e h (inject at first) = refl
 leads-count t s s' e h (step is handles) = omega arith
-
-runs-count : (t : Tables) {s s' : Net} {es : List Event} {hs : List Happening} → Runs t s es s' hs → s'.injected ≡ s.injected + length (packets_of es)
-runs-count t done = omega arith
-runs-count t {s' = s''} (on {s = s} {s' = s'} {e = e} {es = es} {h = h} leads rest) = by e (leads-count t s s' e h leads) (runs-count t rest)
-  where
-    by : (e : Event) → s'.injected ≡ s.injected + length (packets_of (e ∷ [])) → s''.injected ≡ s'.injected + length (packets_of es) → s''.injected ≡ s.injected + length (packets_of (e ∷ es))
-    by (Inject port k) f g = omega (arith, f, g)
-    by (Step i) f g = omega (arith, f, g)
 
 pub schedule-report : (t : Tables) (hops : Bool) (ks lines : List (List ℕ)) (v : Play) (mid out : List ℕ) → PutsBlocks v.net.tables.fields v.tallies.items [] mid → PutsEnd v.net mid out
     → Plays t hops ks lines v → v.waiting.items ≡ [] → v.net.flying ≡ [] → IsScheduleReport t hops ks lines out
 schedule-report t hops ks lines v mid out puts end p none rests =
     let left : left_in v ≡ [] = ap (λ ws. packets_in (reverse ws)) none in
     let a = spells-count p.obeys.spells in
-    let b = runs-count t p.obeys.run in
+    let b = runs-count (λ (s : Net). s) (Leads t) (leads-count t) p.obeys.run in
     let c : length (left_in v) ≡ 0 = ap length left in
     let d = p.counted in
     let e = puts.as_many in

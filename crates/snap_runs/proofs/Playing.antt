@@ -14,6 +14,7 @@ use Rattle.snap_rows.specs.declared.head.Sent.{Sent}
 use Rattle.snap_rows.specs.Form.{comps}
 use Rattle.snap_rows.specs.Happenings.{deliveries_of, losses_of, number_of}
 use Rattle.snap_rows.specs.Network.{Copy, Net, Inject, Step, Happening, Crossed, Delivered, Forked, Leads, Runs, done, start}
+use Rattle.snap_rows.proofs.Runs.{runs-then}
 use Rattle.snap_net.specs.declared.flying.Flying.{Flying}
 use Rattle.snap_net.specs.declared.happened.Moved.{Moved}
 use Rattle.snap_net.specs.Shown.{Held, IsDone, IsHeld, Nothing, Shows, StandsThere, TellsMoved, flown, moving}
@@ -30,9 +31,9 @@ use Rattle.snap_runs.specs.Schedules.{CantBeDone, Spells, nothing, order_by}
 use Rattle.snap_runs.specs.Tallies.{IsTally, IsThere, Notes, delivered_by, hop_told, line_after, line_of, lost_by, owner_by}
 use Rattle.snap_runs.proofs.Blocks.{in_pushed}
 use Rattle.snap_net.proofs.Steps.{stands_there}
-use Rattle.snap_net.proofs.Told.{deliveries_of-append, losses_of-append}
+use Rattle.snap_rows.proofs.Happenings.{deliveries_of-append, losses_of-append}
 use Rattle.snap_runs.proofs.Happenings.{HappenElsewhere, deliveries_of-others, losses_of-others, hops_text-append, hops_text-others, tally-more}
-use Rattle.snap_runs.proofs.Spelling.{spells-inject, spells-skip, spells-step, runs-then}
+use Rattle.snap_runs.proofs.Spelling.{spells-inject, spells-skip, spells-step}
 use Rattle.snap_runs.proofs.Steps.{held-shown, inject-numbers, shown, step-injected, step-long, step-numbers}
 
 -- ---- tallies
@@ -106,7 +107,7 @@ module _ (old new : Play) (r : Ready) (rest : List Ready) (y : Tally) (stood : o
       let a = subst (λ t'. (s' : Net) × (hs : List Happening) × Leads t' p.state (Inject r.port r.packet) s' hs × Shows new.net s' × (hs ≡ [])) p.tables (does p.state p.shows) in
       let numbers = inject-numbers t p.state a.0 r.port r.packet a.1 p.below a.2 in
       let popped = All-pop (IsReady t) old.waiting.items rest (Some r) stood p.ready in
-      let ran = subst (λ q. Runs t (start t zero_arrays) (p.obeys.events ++ Inject q r.packet ∷ []) a.0 (p.happenings ++ a.1)) (sym popped.1.first) (runs-then t (Inject r.port r.packet) a.0 a.1 p.obeys.run a.2) in
+      let ran = subst (λ q. Runs t (start t zero_arrays) (p.obeys.events ++ Inject q r.packet ∷ []) a.0 (p.happenings ++ a.1)) (sym popped.1.first) (runs-then (Inject r.port r.packet) a.0 a.1 p.obeys.run a.2) in
       record {
         tables = same ∙ p.tables;
         hops_same = same_hops ∙ p.hops_same;
@@ -155,7 +156,7 @@ module _ (old new : Play) (place : ℕ) (held : IsHeld old.net) (does : HasStepp
             obeys = record {
               events = p.obeys.events ++ Step place ∷ [];
               spells = subst (Spells (lines ++ line ∷ []) ks (p.obeys.events ++ Step place ∷ [])) (ap (λ ws. packets_in (reverse ws)) (sym still)) (spells-step line place e p.obeys.spells);
-              run = runs-then t (Step place) a.0 (x ∷ []) p.obeys.run a.2;
+              run = runs-then (Step place) a.0 (x ∷ []) p.obeys.run a.2;
             };
             shows = a.3;
             counted = notes.count ∙ p.counted ∙ sym inj;

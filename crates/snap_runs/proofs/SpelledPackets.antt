@@ -8,7 +8,7 @@ use Rattle.std.proofs.lemmas.Bool.{leb-true}
 use Rattle.std.proofs.lemmas.List.{length-replicate}
 use Rattle.std.proofs.lemmas.List.Elements.{All-nil, All-cons, All-set, All-replicate}
 use Rattle.std.proofs.lemmas.Nat.{shr_le, shr_split}
-use Rattle.std.proofs.lemmas.Option.{none-some, option_and_then_some}
+use Rattle.std.proofs.lemmas.Option.{cond_some, none-some, option_and_then_some}
 use Rattle.snap_core.specs.declared.program.Field.{Field}
 use Rattle.snap_core.specs.declared.program.Found.{Found}
 use Rattle.snap_core.specs.declared.program.Found.TheVariants.{Plain, Split}
@@ -26,10 +26,6 @@ use Rattle.snap_trace.specs.Spelled.{ended, refused, spelled, Spelled, with_said
 use Rattle.snap_runs.specs.Plain.{at_ports, spelled_for}
 
 -- ---- numbers
-first_of : {X : Type 0} (b : Bool) (x y : X) → cond b (Some x) None ≡ Some y → (b ≡ true) × (x ≡ y)
-first_of true x y is = (refl, some_injective x y is)
-first_of false x y is = absurd (none-some y is)
-
 second_of : {X : Type 0} (b : Bool) (x y : X) → cond b None (Some x) ≡ Some y → x ≡ y
 second_of true x y is = absurd (none-some y is)
 second_of false x y is = some_injective x y is
@@ -42,7 +38,7 @@ number-within : (most : ℕ) (text : List ℕ) (n : ℕ) → number_up_to most t
 number-within most [] n is = absurd (none-some n is)
 number-within most (d ∷ ds) n is =
     let v = value_of_digits (d ∷ ds) in
-    let e = first_of (list_all is_ascii_digit (d ∷ ds) && nat_le v most) v n is in
+    let e = cond_some (list_all is_ascii_digit (d ∷ ds) && nat_le v most) v n is in
     subst (λ x. x ≤ most) e.1 (leb-true v most (and_right' (list_all is_ascii_digit (d ∷ ds)) (nat_le v most) e.0))
   where
     and_right' : (a b : Bool) → (a && b) ≡ true → b ≡ true
@@ -55,7 +51,7 @@ number-small text n is = let h : n ≤ 2 ^ 64 - 1 = number-within (2 ^ 64 - 1) t
 octet-within : (text : List ℕ) (n : ℕ) → octet_of text ≡ Some n → n ≤ 255
 octet-within text n is = number-within 255 text n (behind_test (nat_le (length text) 3) (number_up_to 255 text) n is)
 
-mapped : {X Y : Type 0} (f : X → Y) (o : Option X) (y : Y) → option_map f o ≡ Some y → (x : X) × (o ≡ Some x) × (f x ≡ y)
+pub mapped : {X Y : Type 0} (f : X → Y) (o : Option X) (y : Y) → option_map f o ≡ Some y → (x : X) × (o ≡ Some x) × (f x ≡ y)
 mapped f None y is = absurd (none-some y is)
 mapped f (Some x) y is = (x, refl, some_injective _ y is)
 
@@ -208,7 +204,7 @@ module _ (t : Tables) (said : List ℕ → Said) where
   abbrev at_them : List ℕ → Said
   at_them line = at_ports t (said line)
 
-  said_same : (line : ℕ) (s : Said) (a b : Spelled) → (with_said line (at_ports t s) a).stop ≡ ended → (a.stop ≡ ended → a ≡ b) → with_said line (at_ports t s) a ≡ with_said line s b
+  pub said_same : (line : ℕ) (s : Said) (a b : Spelled) → (with_said line (at_ports t s) a).stop ≡ ended → (a.stop ≡ ended → a ≡ b) → with_said line (at_ports t s) a ≡ with_said line s b
   said_same line skip a b whole same = same whole
   said_same line bad a b whole same = refl
   said_same line (inject k) a b whole same = by (is_some (port_at t (slice_index k 0))) whole

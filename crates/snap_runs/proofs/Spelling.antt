@@ -1,8 +1,7 @@
 -- Events of a schedule, one behind another.
-use Rattle.std.proofs.Common.{◌≡◌, ℕ, List, [], ◌∷◌, ◌++◌, Some, sym, subst, append_assoc, append-nil}
+use Rattle.std.proofs.Common.{◌≡◌, ℕ, List, [], ◌∷◌, ◌++◌, Some, sym, subst}
 use Rattle.std.specs.Prelude.{slice_index}
-use Rattle.snap_rows.specs.declared.tables.Tables.{Tables}
-use Rattle.snap_rows.specs.Network.{Net, Event, Inject, Step, Happening, Leads, Runs, done, on}
+use Rattle.snap_rows.specs.Network.{Event, Inject, Step}
 use Rattle.snap_runs.specs.declared.event.Order.TheVariants as order
 use Rattle.snap_runs.specs.Schedules.{Spells, nothing, skips, injects, steps, order_by}
 
@@ -24,9 +23,3 @@ spells-step line i e nothing = steps e nothing
 spells-step line i e (skips f rest) = skips f (spells-step line i e rest)
 spells-step line i e (injects f rest) = injects f (spells-step line i e rest)
 spells-step line i e (steps f rest) = steps f (spells-step line i e rest)
-
--- a run, and one event more
-pub runs-then : (t : Tables) {s s' : Net} {es : List Event} {hs : List Happening} (e : Event) (s'' : Net) (h : List Happening) → Runs t s es s' hs → Leads t s' e s'' h → Runs t s (es ++ e ∷ []) s'' (hs ++ h)
-runs-then t e s'' h (done {s = s}) leads = subst (λ l. Runs t s (e ∷ []) s'' l) (append-nil h) (on leads done)
-runs-then t e s'' h (on {s = s} {e = f} {es = es} {h = g} {hs = hs} first rest) leads =
-    subst (λ l. Runs t s (f ∷ (es ++ e ∷ [])) s'' l) (sym (append_assoc g hs h)) (on first (runs-then t e s'' h rest leads))

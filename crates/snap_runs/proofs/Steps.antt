@@ -10,6 +10,7 @@ use Rattle.snap_rows.specs.Network.{Copy, Net, Inject, Step, Happening, Leads, i
 use Rattle.snap_rows.proofs.Rows.{All-get}
 use Rattle.snap_net.specs.declared.flying.Flying.{Flying}
 use Rattle.snap_net.specs.Shown.{Held, Shows, flown, moving, store_of}
+use Rattle.snap_net.proofs.Carried.{rests_shown}
 use Rattle.snap_rows.specs.Happenings.{number_of}
 use Rattle.snap_runs.specs.Tallies.{delivered_by}
 
@@ -67,11 +68,7 @@ held-shown P v s shows all = all_shown P s.flying (subst (All P) (sym shows.flyi
 
 -- nothing is in flight where nothing is held
 pub rests-shown : (v : Held) (s : Net) → Shows v s → v.flying ≡ [] → s.flying ≡ []
-rests-shown v s shows none = by s.flying (shows.flying ∙ none)
-  where
-    by : (cs : List Copy) → map flown cs ≡ [] → cs ≡ []
-    by [] e = refl
-    by (c ∷ cs) e = absurd (cc)
+rests-shown v s shows none = rests_shown s.flying (shows.flying ∙ none)
 
 -- ---- lengths of packets
 pub delivered_long : (n : ℕ) (c : Copy) (a : Action) → length c.packet ≡ n → All (λ k. length k ≡ n) (delivered_by (moving (happening c a)))

@@ -1,5 +1,5 @@
 -- How far the run of a schedule has come.
-use Rattle.std.specs.Prelude.{◌≡◌, ℕ, ◌+◌, ◌<◌, ◌⊎◌, Bool, true, false, List, [], ◌∷◌, ◌++◌, map, length, reverse, slice_get, slice_index, IsSome, Some, Result, Ok, Err}
+use Rattle.std.specs.Prelude.{◌≡◌, ℕ, ◌+◌, ◌<◌, Bool, true, false, List, [], ◌∷◌, ◌++◌, map, length, reverse, slice_get, slice_index, IsSome, Some, Result, Ok, Err}
 use Rattle.std.specs.List.{All, concat}
 use Rattle.snap_core.specs.declared.program.Field.{Field}
 use Rattle.snap_io.specs.declared.read.ReadRefusal.{ReadRefusal}
@@ -24,7 +24,7 @@ use Rattle.snap_trace.specs.declared.line.Line.{Line as Read_line}
 use Rattle.snap_trace.specs.declared.line.Line.TheVariants as read
 use Rattle.snap_trace.specs.Spelled.{ended, refused}
 use Rattle.snap_runs.specs.Plain.{spelled_for}
-use Rattle.snap_runs.specs.Schedules.{CantBeDone, EndsEarly, IsReadWhole, Obeys, RefusesPackets, RefusesScheduleLine, StopsAt, lines_of, order_by}
+use Rattle.snap_runs.specs.Schedules.{CantBeDone, IsReadWhole, Obeys, RefusesLine, RefusesPackets, RefusesScheduleLine, lines_of, order_by}
 use Rattle.snap_rows.specs.Happenings.{number_of}
 use Rattle.snap_runs.specs.Tallies.{IsBlockText, IsTally, Notes, delivered_by, lost_by, owner_by}
 
@@ -113,13 +113,16 @@ pub record SoFar (t : Tables) (hops : Bool) (ks lines : List (List ℕ)) (rest :
   pub plays : Plays t hops ks done v
 
 -- a line can't be done, or something is left behind the last
+abbrev pub StopsBy : (Refuses : ℕ → Type 0) → ScheduleFault → Type 0
+StopsBy Refuses (Line number) = Refuses number
+StopsBy Refuses NoMemory = Unit {0}
+StopsBy Refuses (Packets fault) = ⊥
+StopsBy Refuses Read = ⊥
+StopsBy Refuses TooLong = ⊥
+StopsBy Refuses Write = ⊥
+
 abbrev pub Stops : Tables → (ks lines : List (List ℕ)) → ScheduleFault → Type 0
-Stops t ks lines (Line number) = StopsAt t ks lines number ⊎ EndsEarly t ks lines number
-Stops t ks lines NoMemory = Unit {0}
-Stops t ks lines (Packets fault) = ⊥
-Stops t ks lines Read = ⊥
-Stops t ks lines TooLong = ⊥
-Stops t ks lines Write = ⊥
+Stops t ks lines fault = StopsBy (RefusesLine t ks lines) fault
 
 -- all lines were done and nothing is left, or not
 abbrev pub HasRun : Tables → (hops : Bool) → (ks lines : List (List ℕ)) → (new : Play) → Result (Unit {0}) ScheduleFault → Type 0
@@ -133,13 +136,16 @@ schedule_refusal refusal.TooLong = TooLong
 schedule_refusal refusal.NoMemory = NoMemory
 
 -- why there is no report of a packets file and a schedule
+abbrev pub RefusesBy : (Refuses : ℕ → Type 0) → Tables → (file schedule : List ℕ) → ScheduleFault → Type 0
+RefusesBy Refuses t file schedule (Packets fault) = RefusesPackets t file fault
+RefusesBy Refuses t file schedule Read = IsReadWhole t file
+RefusesBy Refuses t file schedule TooLong = IsReadWhole t file × (67108864 < length schedule)
+RefusesBy Refuses t file schedule (Line line) = Refuses line
+RefusesBy Refuses t file schedule NoMemory = Unit {0}
+RefusesBy Refuses t file schedule Write = ⊥
+
 abbrev pub Refuses : Tables → (file schedule : List ℕ) → ScheduleFault → Type 0
-Refuses t file schedule (Packets fault) = RefusesPackets t file fault
-Refuses t file schedule Read = IsReadWhole t file
-Refuses t file schedule TooLong = IsReadWhole t file × (67108864 < length schedule)
-Refuses t file schedule (Line line) = RefusesScheduleLine t file schedule line
-Refuses t file schedule NoMemory = Unit {0}
-Refuses t file schedule Write = ⊥
+Refuses t file schedule fault = RefusesBy (RefusesScheduleLine t file schedule) t file schedule fault
 
 -- the blocks of packets were put, one after another, as their tallies tell them
 pub record PutsBlocks (fields : List Field) (ys : List Tally) (before after : List ℕ) : Type 0 where

@@ -7,7 +7,7 @@ use Rattle.snap_core.specs.Arrays.{zero_arrays}
 use Rattle.snap_core.specs.Figures.{number_of, parts_by}
 use Rattle.snap_io.specs.Sinks.{AppendsSome}
 use Rattle.snap_rows.specs.declared.tables.Tables.{Tables}
-use Rattle.snap_rows.specs.Network.{Net, Event, Inject, Step, Happening, Run}
+use Rattle.snap_rows.specs.Network.{Net, Event, Inject, Step, Happening, Leads, RunsBy, start}
 use Rattle.snap_trace.specs.PacketLines.{is_some_text, without_return, words_of}
 use Rattle.snap_trace.specs.declared.fault.TraceFault.{TraceFault}
 use Rattle.snap_trace.specs.declared.fault.TraceFault.TheVariants as trace
@@ -58,11 +58,15 @@ pub data Spells : List (List ℕ) → (ks : List (List ℕ)) → List Event → 
   steps : {line : List ℕ} {lines ks left : List (List ℕ)} {i : ℕ} {es : List Event} → order_by line ≡ Some (order.Step i) → Spells lines ks es left
       → Spells (line ∷ lines) ks (Step i ∷ es) left
 
--- a run from empty arrays does the events of these lines
-pub record Obeys (t : Tables) (ks lines left : List (List ℕ)) (s : Net) (hs : List Happening) : Type 0 where
+-- a run does the events of these lines
+pub record ObeysBy {S L : Type 0} (leads : S → Event → S → List L → Type 0) (begin : S) (ks lines left : List (List ℕ)) (s : S) (told : List L) : Type 0 where
   pub events : List Event
   pub spells : Spells lines ks events left
-  pub run : Run t zero_arrays events s hs
+  pub run : RunsBy leads begin events s told
+
+-- so does one of the network from empty arrays
+abbrev pub Obeys : Tables → (ks lines left : List (List ℕ)) → Net → List Happening → Type 0
+Obeys t ks lines left s hs = ObeysBy (Leads t) (start t zero_arrays) ks lines left s hs
 
 -- what a line orders isn't in form, or can't be done
 abbrev pub CantBeDone : Option Order → (left : List (List ℕ)) → Net → Type 0
@@ -72,26 +76,32 @@ CantBeDone (Some order.Inject) left s = left ≡ []
 CantBeDone (Some (order.Step i)) left s = length s.flying ≤ i
 
 -- the first line that isn't in form or can't be done has this number, counted from 1
-pub record StopsAt (t : Tables) (ks lines : List (List ℕ)) (number : ℕ) : Type 0 where
+pub record StopsAtBy {S L : Type 0} (net : S → Net) (leads : S → Event → S → List L → Type 0) (begin : S) (ks lines : List (List ℕ)) (number : ℕ) : Type 0 where
   pub before : List (List ℕ)
   pub line : List ℕ
   pub behind : List (List ℕ)
   pub are : lines ≡ before ++ line ∷ behind
   pub is : number ≡ length before + 1
   pub left : List (List ℕ)
-  pub state : Net
-  pub happenings : List Happening
-  pub obeys : Obeys t ks before left state happenings
-  pub stuck : CantBeDone (order_by line) left state
+  pub state : S
+  pub told : List L
+  pub obeys : ObeysBy leads begin ks before left state told
+  pub stuck : CantBeDone (order_by line) left (net state)
+
+abbrev pub StopsAt : Tables → (ks lines : List (List ℕ)) → (number : ℕ) → Type 0
+StopsAt t ks lines number = StopsAtBy (λ (s : Net). s) (Leads t) (start t zero_arrays) ks lines number
 
 -- all lines are done, and a packet or a copy is left: this is the number of the line behind
-pub record EndsEarly (t : Tables) (ks lines : List (List ℕ)) (number : ℕ) : Type 0 where
+pub record EndsEarlyBy {S L : Type 0} (net : S → Net) (leads : S → Event → S → List L → Type 0) (begin : S) (ks lines : List (List ℕ)) (number : ℕ) : Type 0 where
   pub is : number ≡ length lines + 1
   pub left : List (List ℕ)
-  pub state : Net
-  pub happenings : List Happening
-  pub obeys : Obeys t ks lines left state happenings
-  pub some : (left ≢ []) ⊎ (state.flying ≢ [])
+  pub state : S
+  pub told : List L
+  pub obeys : ObeysBy leads begin ks lines left state told
+  pub some : (left ≢ []) ⊎ ((net state).flying ≢ [])
+
+abbrev pub EndsEarly : Tables → (ks lines : List (List ℕ)) → (number : ℕ) → Type 0
+EndsEarly t ks lines number = EndsEarlyBy (λ (s : Net). s) (Leads t) (start t zero_arrays) ks lines number
 
 -- the line with this number can't be done, or all lines are done too early
 abbrev pub RefusesLine : Tables → (ks lines : List (List ℕ)) → (number : ℕ) → Type 0
@@ -138,14 +148,17 @@ RefusesPackets t file (trace.Undefined packet) = ⊥
 
 -- The whole report went out, or nothing, or some first bytes where the sink failed. The packets file is read to its end
 -- before the schedule, and the schedule before its lines are done.
+abbrev pub WritesScheduleBy : (HasReport : List ℕ → Type 0) → (Refuses : ℕ → Type 0) → Tables → (file schedule : List ℕ) → Result (Unit {0}) ScheduleFault → Option (List ℕ) → Option (List ℕ) → Type 0
+WritesScheduleBy HasReport Refuses t file schedule (Ok u) old new = (text : List ℕ) × HasReport text × Appends old new text
+WritesScheduleBy HasReport Refuses t file schedule (Err Write) old new = AppendsSome HasReport old new
+WritesScheduleBy HasReport Refuses t file schedule (Err (Packets fault)) old new = (new ≡ old) × RefusesPackets t file fault
+WritesScheduleBy HasReport Refuses t file schedule (Err Read) old new = (new ≡ old) × IsReadWhole t file
+WritesScheduleBy HasReport Refuses t file schedule (Err NoMemory) old new = new ≡ old
+WritesScheduleBy HasReport Refuses t file schedule (Err TooLong) old new = (new ≡ old) × IsReadWhole t file × (67108864 < length schedule)
+WritesScheduleBy HasReport Refuses t file schedule (Err (Line line)) old new = (new ≡ old) × Refuses line
+
 abbrev pub WritesSchedule : Tables → (hops : Bool) → (file schedule : List ℕ) → Result (Unit {0}) ScheduleFault → Option (List ℕ) → Option (List ℕ) → Type 0
-WritesSchedule t hops file schedule (Ok u) old new = (text : List ℕ) × HasScheduleReport t hops file schedule text × Appends old new text
-WritesSchedule t hops file schedule (Err Write) old new = AppendsSome (HasScheduleReport t hops file schedule) old new
-WritesSchedule t hops file schedule (Err (Packets fault)) old new = (new ≡ old) × RefusesPackets t file fault
-WritesSchedule t hops file schedule (Err Read) old new = (new ≡ old) × IsReadWhole t file
-WritesSchedule t hops file schedule (Err NoMemory) old new = new ≡ old
-WritesSchedule t hops file schedule (Err TooLong) old new = (new ≡ old) × IsReadWhole t file × (67108864 < length schedule)
-WritesSchedule t hops file schedule (Err (Line line)) old new = (new ≡ old) × RefusesScheduleLine t file schedule line
+WritesSchedule t hops file schedule result old new = WritesScheduleBy (HasScheduleReport t hops file schedule) (RefusesScheduleLine t file schedule) t file schedule result old new
 
 -- a call tells of this line, unless a device failed or memory was short
 abbrev pub TellsOfLine : Result (Unit {0}) ScheduleFault → ℕ → Type 0

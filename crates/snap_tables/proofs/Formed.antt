@@ -1,13 +1,13 @@
 -- A whole beginning is tables in form.
 use Rattle.std.proofs.Common.{◌≡◌, ◌≢◌, ℕ, zero, suc, ◌+◌, ◌<◌, ◌≤◌, Bool, true, false, List, [], ◌∷◌, ◌++◌, Option, Some, None, length, map, take, get_or, refl, sym, ap, subst, ◌∙◌, arith, append-nil, append_assoc, inl, inr}
 use Rattle.std.specs.Prelude.{◌⊎◌, ◌==◌, ◌&&◌, ◌||◌, codes, is_some, nat_le, nat_lt, not}
-use Rattle.std.specs.List.{All, AllByRecursion, IsDistinct, list_all, list_any}
+use Rattle.std.specs.List.{IsDistinct, list_all, list_any, AllByRecursion}
 use Rattle.std.specs.List.Sorted.{IsStrictlySortedBy}
 use Rattle.std.specs.Ordering.{nat_cmp}
 use Rattle.std.specs.Str.{bytes_eq}
 use Rattle.std.proofs.lemmas.Bool.{and_from, and_parts, eqb-true, leb-true, or_cases}
 use Rattle.std.proofs.lemmas.List.{map-append}
-use Rattle.std.proofs.lemmas.List.Elements.{All-from_recursion}
+use Rattle.std.proofs.lemmas.List.Elements.{All-weaker}
 use Rattle.std.proofs.lemmas.Slice.Eq.{bytes_eq-Decides}
 use Rattle.snap_core.specs.declared.policy.Atom.{Atom}
 use Rattle.snap_core.specs.declared.policy.Atom.TheVariants.{Num, Comp}
@@ -42,13 +42,6 @@ use Rattle.snap_tables.proofs.HopTurns.{IsGood, hops-all, hops-few, hops-good, h
 use Rattle.snap_tables.proofs.PieceLaws.{rising-out}
 use Rattle.snap_tables.proofs.PieceLemmas.{false-true, flat_map-push}
 use Rattle.snap_tables.proofs.Turns.{adjacent-sorted, bytes-other, distinct-push, each-turn, in-turn, link-total, on-total, parts-total, row-total, sorted-push}
-
-all-weaker : {X : Type 0} (P Q : X → Type 0) → ((x : X) → P x → Q x) → (xs : List X) → AllByRecursion P xs → AllByRecursion Q xs
-all-weaker P Q f [] h = tt
-all-weaker P Q f (x ∷ xs) h = (f x h.0, all-weaker P Q f xs h.1)
-
-all-of : {X : Type 0} (P Q : X → Type 0) → ((x : X) → P x → Q x) → (xs : List X) → AllByRecursion P xs → All Q xs
-all-of P Q f xs h = All-from_recursion Q xs (all-weaker P Q f xs h)
 
 -- ---- fields
 StartsPorts : List Field → Type 0
@@ -151,7 +144,7 @@ are-fields fs turn few some =
     record {
       ports = starts-take fs a.starts some;
       different = subst (IsDistinct bytes_eq) (sym (names-declared 0 fs)) a.differ;
-      prefixes = All-from_recursion (λ f. PrefixFits f.prefix) fs (each-turn IsNextField (λ f. PrefixFits f.prefix) (λ ys x n. n.1) fs turn);
+      prefixes = each-turn IsNextField (λ f. PrefixFits f.prefix) (λ ys x n. n.1) fs turn;
       few = few;
     }
 
@@ -200,7 +193,7 @@ module _ (t : Tables) where
   atom-fits (Comp c) f = f
 
   index-fits : (es : List Atom) → IsIndex (comps t) es → IndexFits (comps t) es
-  index-fits es f = all-weaker (IsAtom (comps t)) (AtomFits (comps t)) atom-fits es f.0
+  index-fits es f = All-weaker (IsAtom (comps t)) (AtomFits (comps t)) atom-fits es f.0
 
   op-fits : (o : Op) → IsOp (comps t) o → OpFits (comps t) o
   op-fits (Put a) f = atom-fits a f
@@ -218,16 +211,16 @@ module _ (t : Tables) where
 
   out-form : (o : Parts) → IsOut (counts_of t) o → IsPartsInForm t o
   out-form o f = record {
-    fits = all-of (IsPart (comps t)) (PartFits (comps t)) part-fits o f.0;
+    fits = All-weaker (IsPart (comps t)) (PartFits (comps t)) part-fits o f.0;
     rising = rising-out o f.1;
-    changes = all-of (IsPart (comps t)) (λ p. p.1 ≢ Comp p.0) (λ p h. h.2) o f.0;
+    changes = All-weaker (IsPart (comps t)) (λ p. p.1 ≢ Comp p.0) (λ p h. h.2) o f.0;
   }
 
   outs-form : (os : List Parts) → AreOuts (counts_of t) os → AreOutsInForm t os
-  outs-form os f = record { each = all-of (IsOut (counts_of t)) (IsPartsInForm t) out-form os f.0; rising = adjacent-sorted parts_cmp parts-total os f.1 }
+  outs-form os f = record { each = All-weaker (IsOut (counts_of t)) (IsPartsInForm t) out-form os f.0; rising = adjacent-sorted parts_cmp parts-total os f.1 }
 
   stage-form : (s : Turn) → IsStage (counts_of t) s → IsTurnInForm t s
-  stage-form s f = record { at = f.0; some = f.1; each = all-of (IsUpdateOf (comps t) (length t.arrays)) (IsUpdateInForm t) update-form s.ups f.2 }
+  stage-form s f = record { at = f.0; some = f.1; each = All-weaker (IsUpdateOf (comps t) (length t.arrays)) (IsUpdateInForm t) update-form s.ups f.2 }
 
   apart : (a b : ℕ) → not (a == b) ≡ true → b ≢ a
   apart a b e same = false-true (sym (ap not (Rattle.std.proofs.lemmas.Bool.eq-eqb a b (sym same))) ∙ e)
@@ -288,9 +281,9 @@ module _ (t : Tables) where
   row-form (row.Field x y z) f = (test-fits x f.0, field-test x f.0 f.1)
   row-form (row.State x y z) f = (test-fits x f.0, state-test x f.0 f.1)
   row-form (row.Go x) f = (eqb-true t.version 1 f.0, f.1)
-  row-form (row.Leaf ss os) f = (eqb-true t.version 1 f.0, f.1.2, all-of (IsStage (counts_of t)) (IsTurnInForm t) stage-form ss f.1.0, alternates ss f.1.1, outs-form os f.2)
+  row-form (row.Leaf ss os) f = (eqb-true t.version 1 f.0, f.1.2, All-weaker (IsStage (counts_of t)) (IsTurnInForm t) stage-form ss f.1.0, alternates ss f.1.1, outs-form os f.2)
   row-form row.Stop f = eqb-true t.version 2 f
-  row-form (row.Last us os) f = (eqb-true t.version 2 f.0, all-of (IsUpdateOf (comps t) (length t.arrays)) (IsUpdateInForm t) update-form us f.1.0, ranks-rise us f.1.1, outs-form os f.2)
+  row-form (row.Last us os) f = (eqb-true t.version 2 f.0, All-weaker (IsUpdateOf (comps t) (length t.arrays)) (IsUpdateInForm t) update-form us f.1.0, ranks-rise us f.1.1, outs-form os f.2)
 
 -- ---- the whole
 some-has : {X : Type 0} (xs : List X) → has xs ≡ true → 1 ≤ length xs
@@ -340,24 +333,24 @@ module _ (t : Tables) (b : IsBeginning t) (w : IsWhole t) where
   in-form = record {
     version = b.version;
     fields = are-fields t.fields b.fields b.few_comps (leb-true 2 (length t.fields) parts.0);
-    field_names = All-from_recursion (λ f. IsName f.name) t.fields (each-turn IsNextField (λ f. IsName f.name) (λ ys x f. f.0) t.fields b.fields);
+    field_names = each-turn IsNextField (λ f. IsName f.name) (λ ys x f. f.0) t.fields b.fields;
     some_switch = some-has t.switches (and_parts (has t.switches) (has_all_hops t) parts.1).0;
     few_switches = b.few_switches;
-    switch_names = All-from_recursion (λ name. Rattle.std.specs.Prelude.IsTrue (is_switch_name name)) t.switches (each-turn IsNextSwitch (λ name. Rattle.std.specs.Prelude.IsTrue (is_switch_name name)) (λ ys x f. f.0) t.switches b.switches);
+    switch_names = each-turn IsNextSwitch (λ name. Rattle.std.specs.Prelude.IsTrue (is_switch_name name)) (λ ys x f. f.0) t.switches b.switches;
     switches_differ = in-turn IsNextSwitch (IsDistinct bytes_eq) (λ ys x d f. distinct-push ys x d f.1) no-names t.switches b.switches;
     few_arrays = b.few_arrays;
-    arrays = All-from_recursion (IsArrayInForm t) t.arrays (each-turn (IsNextArray t.version (length t.switches)) (IsArrayInForm t) array-form t.arrays b.arrays);
+    arrays = each-turn (IsNextArray t.version (length t.switches)) (IsArrayInForm t) array-form t.arrays b.arrays;
     arrays_differ = arrays-differ t.version (length t.switches) t.arrays b.arrays;
     few_links = b.few_links;
-    links = All-from_recursion (IsLinkInForm t) t.links (each-turn (IsNextLink (length t.switches)) (IsLinkInForm t) link-form t.links b.links);
+    links = each-turn (IsNextLink (length t.switches)) (IsLinkInForm t) link-form t.links b.links;
     links_rise = links-rise;
     few_ports = b.few_ports;
-    ports = All-from_recursion (IsPortInForm t) t.ports (each-turn (IsNextPort (length t.switches)) (IsPortInForm t) port-form t.ports b.ports);
+    ports = each-turn (IsNextPort (length t.switches)) (IsPortInForm t) port-form t.ports b.ports;
     ports_rise = ports-rise;
     few_hops = hops-few (length t.switches) b.few_switches t.hops b.hops;
     hops = Rattle.std.proofs.lemmas.List.Elements.All-weaker (IsGood (length t.switches)) (Rattle.snap_rows.specs.Form.IsHopInForm t) hop-form t.hops (hops-good (length t.switches) b.few_switches t.hops b.hops);
     hops_rise = hops-rise (length t.switches) b.few_switches t.hops b.hops;
     all_hops = λ a x la lx o. hops-all (length t.switches) b.few_switches t.hops b.hops over-hops a x la lx o;
-    rows = All-from_recursion (IsRowAtInForm t) t.rows (each-turn (IsNextRow t.version (counts_of t) t.arrays) (IsRowAtInForm t) row-at-form t.rows b.rows);
+    rows = each-turn (IsNextRow t.version (counts_of t) t.arrays) (IsRowAtInForm t) row-at-form t.rows b.rows;
     rows_rise = rows-rise;
   }

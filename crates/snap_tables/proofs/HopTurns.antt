@@ -1,7 +1,7 @@
 -- Next hops that came in turn: they rise, and none is left out.
-use Rattle.std.proofs.Common.{◌≡◌, ◌≢◌, ℕ, zero, suc, ◌+◌, ◌-◌, ◌*◌, ◌<◌, ◌≤◌, Bool, true, false, cond, List, [], ◌∷◌, ◌++◌, Option, Some, None, length, refl, sym, ap, subst, ◌∙◌, arith, add-one, append_assoc, inl, inr}
+use Rattle.std.proofs.Common.{◌≡◌, ◌≢◌, ℕ, ◌+◌, ◌-◌, ◌*◌, ◌<◌, ◌≤◌, Bool, true, false, cond, List, [], ◌∷◌, ◌++◌, Some, length, refl, sym, ap, subst, ◌∙◌, arith, add-one, append_assoc, inl, inr, get_or}
 use Rattle.std.specs.Prelude.{◌⊎◌, ◌==◌, ◌||◌, Contains, nat_le, nat_lt, slice_get}
-use Rattle.std.specs.List.{All, AllByRecursion}
+use Rattle.std.specs.List.{All}
 use Rattle.std.specs.List.Sorted.{IsStrictlySortedBy}
 use Rattle.std.specs.Option.{option_map_or}
 use Rattle.std.specs.Ordering.{nat_cmp, ordering_then}
@@ -10,12 +10,13 @@ use Rattle.std.specs.declared.cmp.Ordering.TheVariants.{Less, Equal, Greater}
 use Rattle.std.proofs.lemmas.Bool.{and_from, and_parts, cases_lt, cases_order, eq-eqb, eqb-false, eqb-true, le-leb, ltb-false, ltb-true, or_left, or_right}
 use Rattle.std.proofs.lemmas.Nat.{mul-le}
 use Rattle.std.proofs.Math.Nat.{suc-mul}
-use Rattle.std.proofs.lemmas.List.Elements.{All-contains, All-from_recursion, Contains-append_left, Contains-push}
+use Rattle.std.proofs.lemmas.List.Elements.{All-append, All-cons, All-contains, All-from_recursion, All-head, All-nil, All-push, All-tail, Contains-append_left, Contains-push}
+use Rattle.snap_core.proofs.Elements.{All-back, All-front}
 use Rattle.snap_rows.specs.declared.tables.Hop.{Hop}
 use Rattle.snap_rows.specs.Form.{hop_cmp}
 use Rattle.snap_tables.specs.Entries.{AllFrom, AreInTurn, IsNextHop, next_pair, pair_from, turn}
 use Rattle.snap_tables.proofs.PieceLemmas.{all-push}
-use Rattle.snap_tables.proofs.Splits.{all-back, all-front, all-join, all-middle, sorted-before, sorted-behind}
+use Rattle.snap_tables.proofs.Splits.{sorted-before, sorted-behind}
 use Rattle.snap_tables.proofs.Turns.{in-turn}
 
 -- pairs by one number, in their order
@@ -136,9 +137,9 @@ pub record IsGood (n : ℕ) (h : Hop) : Type 0 where
   pub next : h.next < n
 
 record SoFar (n : ℕ) (hs : List Hop) : Type 0 where
-  each : AllByRecursion (IsGood n) hs
+  each : All (IsGood n) hs
   sorted : IsStrictlySortedBy hop_cmp hs
-  below : AllByRecursion (λ (h : Hop). code h.from h.target < code (turn n hs).0 (turn n hs).1) hs
+  below : All (λ (h : Hop). code h.from h.target < code (turn n hs).0 (turn n hs).1) hs
   full : (a x : ℕ) → a < n → x < n → a ≢ x → code a x < code (turn n hs).0 (turn n hs).1 → HasPair hs a x
   apart : (turn n hs).0 ≢ (turn n hs).1
   count : length hs + cut (turn n hs).0 (turn n hs).1 ≡ (turn n hs).0 * (n - 1) + (turn n hs).1
@@ -154,10 +155,10 @@ hop-less g h gt ht lt = Rattle.std.proofs.Common.⊎_elim
     (λ l. ap (λ r. ordering_then r (nat_cmp g.target h.target)) (sym (nat_cmp_is g.from h.from Less l)))
     (λ b. absurd (omega (arith, lt, b, gt, ht))) o) (cases_order g.from h.from)
 
-sorted-above : (hs : List Hop) (h : Hop) → IsStrictlySortedBy hop_cmp hs → AllByRecursion (λ g. hop_cmp g h ≡ Less) hs → IsStrictlySortedBy hop_cmp (hs ++ (h ∷ []))
+sorted-above : (hs : List Hop) (h : Hop) → IsStrictlySortedBy hop_cmp hs → All (λ g. hop_cmp g h ≡ Less) hs → IsStrictlySortedBy hop_cmp (hs ++ (h ∷ []))
 unfolding IsStrictlySortedBy
 sorted-above [] h s all = (tt, tt)
-sorted-above (g ∷ gs) h s all = (all-push (λ q. hop_cmp g q ≡ Less) gs h s.0 all.0, sorted-above gs h s.1 all.1)
+sorted-above (g ∷ gs) h s all = (all-push (λ q. hop_cmp g q ≡ Less) gs h s.0 (all 0 g (omega arith)), sorted-above gs h s.1 (All-tail (λ q. hop_cmp q h ≡ Less) g gs all))
 
 has-more : (hs : List Hop) (h : Hop) (a x : ℕ) → HasPair hs a x → HasPair (hs ++ (h ∷ [])) a x
 has-more hs h a x p = (p.0, Contains-append_left hs (h ∷ []) p.0 p.1, p.2, p.3)
@@ -175,9 +176,9 @@ module _ (n : ℕ) (few : n ≤ 256) where
   none-yet : SoFar n []
   unfolding code cut IsStrictlySortedBy
   none-yet = record {
-    each = tt;
+    each = All-nil (IsGood n);
     sorted = tt;
-    below = tt;
+    below = All-nil (λ (h : Hop). code h.from h.target < code (turn n []).0 (turn n []).1);
     full = λ a x la lx o lt. absurd (o (omega (arith, lt)));
     apart = λ e. omega (arith, e);
     count = omega arith;
@@ -205,13 +206,11 @@ module _ (n : ℕ) (few : n ≤ 256) where
     good-below : (g : Hop) → code g.from g.target < code (turn n hs).0 (turn n hs).1 → code g.from g.target < code (next_pair n (h.from, h.target)).0 (next_pair n (h.from, h.target)).1
     good-below g lt = omega (arith, lt, here, step.above)
 
-    lesses : (gs : List Hop) → AllByRecursion (IsGood n) gs → AllByRecursion (λ (g : Hop). code g.from g.target < code (turn n hs).0 (turn n hs).1) gs → AllByRecursion (λ g. hop_cmp g h ≡ Less) gs
-    lesses [] a b = tt
-    lesses (g ∷ gs) a b = (hop-less g h (omega (arith, a.0.target, few)) (omega (arith, next.1, few)) (omega (arith, b.0, here)), lesses gs a.1 b.1)
+    lesses : (gs : List Hop) → All (IsGood n) gs → All (λ (g : Hop). code g.from g.target < code (turn n hs).0 (turn n hs).1) gs → All (λ g. hop_cmp g h ≡ Less) gs
+    lesses gs a b = λ i d l. hop-less (get_or gs i d) h (omega (arith, (a i d l).target, few)) (omega (arith, next.1, few)) (omega (arith, b i d l, here))
 
-    all-below : (gs : List Hop) → AllByRecursion (λ (g : Hop). code g.from g.target < code (turn n hs).0 (turn n hs).1) gs → AllByRecursion (λ (g : Hop). code g.from g.target < code (next_pair n (h.from, h.target)).0 (next_pair n (h.from, h.target)).1) gs
-    all-below [] b = tt
-    all-below (g ∷ gs) b = (good-below g b.0, all-below gs b.1)
+    all-below : (gs : List Hop) → All (λ (g : Hop). code g.from g.target < code (turn n hs).0 (turn n hs).1) gs → All (λ (g : Hop). code g.from g.target < code (next_pair n (h.from, h.target)).0 (next_pair n (h.from, h.target)).1) gs
+    all-below gs b = λ i d l. good-below (get_or gs i d) (b i d l)
 
     filled : (a x : ℕ) → a < n → x < n → a ≢ x → code a x < code (next_pair n (h.from, h.target)).0 (next_pair n (h.from, h.target)).1 → HasPair (hs ++ (h ∷ [])) a x
     filled a x la lx o lt = Rattle.std.proofs.Common.⊎_elim
@@ -228,10 +227,10 @@ module _ (n : ℕ) (few : n ≤ 256) where
     one-more =
         let t = turn-push n hs h in
         record {
-          each = all-push (IsGood n) hs h s.each (record { from = next.0; target = next.1; other = differ; next = next.2 });
+          each = All-push (IsGood n) hs h s.each (record { from = next.0; target = next.1; other = differ; next = next.2 });
           sorted = sorted-above hs h s.sorted (lesses hs s.each s.below);
-          below = subst (λ (q : ℕ × ℕ). AllByRecursion (λ (g : Hop). code g.from g.target < code q.0 q.1) (hs ++ (h ∷ []))) (sym t)
-              (all-push (λ (g : Hop). code g.from g.target < code (next_pair n (h.from, h.target)).0 (next_pair n (h.from, h.target)).1) hs h (all-below hs s.below) step.above);
+          below = subst (λ (q : ℕ × ℕ). All (λ (g : Hop). code g.from g.target < code q.0 q.1) (hs ++ (h ∷ []))) (sym t)
+              (All-push (λ (g : Hop). code g.from g.target < code (next_pair n (h.from, h.target)).0 (next_pair n (h.from, h.target)).1) hs h (all-below hs s.below) step.above);
           full = λ a x la lx o lt. filled a x la lx o (subst (λ (q : ℕ × ℕ). code a x < code q.0 q.1) t lt);
           apart = λ e. step.apart (sym (ap (λ (q : ℕ × ℕ). q.0) t) ∙ e ∙ ap (λ (q : ℕ × ℕ). q.1) t);
           count = subst (λ (q : ℕ × ℕ). length (hs ++ (h ∷ [])) + cut q.0 q.1 ≡ q.0 * (n - 1) + q.1) (sym t) counted;
@@ -244,7 +243,7 @@ module _ (n : ℕ) (few : n ≤ 256) where
   so-far hs turn' = in-turn (IsNextHop n) (SoFar n) one-more none-yet hs turn'
 
   pub hops-good : (hs : List Hop) → AreInTurn (IsNextHop n) hs → All (IsGood n) hs
-  hops-good hs t = Rattle.std.proofs.lemmas.List.Elements.All-from_recursion (IsGood n) hs (so-far hs t).each
+  hops-good hs t = (so-far hs t).each
 
   pub hops-rise : (hs : List Hop) → AreInTurn (IsNextHop n) hs → IsStrictlySortedBy hop_cmp hs
   hops-rise hs t = (so-far hs t).sorted
@@ -299,43 +298,39 @@ less-code g h gt ht lt = Rattle.std.proofs.Common.⊎_elim
     greater-less : Greater ≡ Less → ⊥
     greater-less e = cc
 
-below-not : (k : ℕ) (gs : List Hop) → AllByRecursion (λ (g : Hop). code g.from g.target < k) gs → AllByRecursion (λ (g : Hop). code g.from g.target ≢ k) gs
-below-not k [] a = tt
-below-not k (g ∷ gs) a = (λ e. omega (arith, e, a.0), below-not k gs a.1)
+below-not : (k : ℕ) (gs : List Hop) → All (λ (g : Hop). code g.from g.target < k) gs → All (λ (g : Hop). code g.from g.target ≢ k) gs
+below-not k gs a = λ i d l e. omega (arith, e, a i d l)
 
-module _ (n : ℕ) (few : n ≤ 256) (hs : List Hop) (good : AllByRecursion (IsGood n) hs) (rise : IsStrictlySortedBy hop_cmp hs)
+module _ (n : ℕ) (few : n ≤ 256) (hs : List Hop) (good : All (IsGood n) hs) (rise : IsStrictlySortedBy hop_cmp hs)
     (every : (a x : ℕ) → a < n → x < n → a ≢ x → HasPair hs a x) where
   -- no hop of a list is this pair's
-  none-is : (gs : List Hop) (a x : ℕ) → AllByRecursion (λ (g : Hop). code g.from g.target ≢ code a x) gs → HasPair gs a x → ⊥
-  none-is gs a x all p = All-contains (λ (g : Hop). code g.from g.target ≢ code a x) gs p.0 (All-from_recursion (λ (g : Hop). code g.from g.target ≢ code a x) gs all) p.1 (λ i. code (p.2 i) (p.3 i))
+  none-is : (gs : List Hop) (a x : ℕ) → All (λ (g : Hop). code g.from g.target ≢ code a x) gs → HasPair gs a x → ⊥
+  none-is gs a x all p = All-contains (λ (g : Hop). code g.from g.target ≢ code a x) gs p.0 all p.1 (λ i. code (p.2 i) (p.3 i))
 
   module _ (ys : List Hop) (h : Hop) (zs : List Hop) (e : hs ≡ ys ++ (h ∷ zs)) (s : SoFar n ys) where
-    all-good : AllByRecursion (IsGood n) (ys ++ (h ∷ zs))
-    all-good = subst (AllByRecursion (IsGood n)) e good
+    all-good : All (IsGood n) (ys ++ (h ∷ zs))
+    all-good = subst (All (IsGood n)) e good
 
     in-order : IsStrictlySortedBy hop_cmp (ys ++ (h ∷ zs))
     in-order = subst (IsStrictlySortedBy hop_cmp) e rise
 
     is-good : IsGood n h
-    is-good = all-middle (IsGood n) ys h zs all-good
+    is-good = All-head (IsGood n) h zs (All-back (IsGood n) ys (h ∷ zs) all-good)
 
-    lower : (gs : List Hop) → AllByRecursion (IsGood n) gs → AllByRecursion (λ g. hop_cmp g h ≡ Less) gs → AllByRecursion (λ (g : Hop). code g.from g.target < code h.from h.target) gs
-    lower [] a b = tt
-    lower (g ∷ gs) a b = (less-code g h (omega (arith, a.0.target, few)) (omega (arith, is-good.target, few)) b.0, lower gs a.1 b.1)
+    lower : (gs : List Hop) → All (IsGood n) gs → All (λ g. hop_cmp g h ≡ Less) gs → All (λ (g : Hop). code g.from g.target < code h.from h.target) gs
+    lower gs a b = λ i d l. less-code (get_or gs i d) h (omega (arith, (a i d l).target, few)) (omega (arith, is-good.target, few)) (b i d l)
 
-    upper : (gs : List Hop) → AllByRecursion (IsGood n) gs → AllByRecursion (λ g. hop_cmp h g ≡ Less) gs → AllByRecursion (λ (g : Hop). code h.from h.target < code g.from g.target) gs
-    upper [] a b = tt
-    upper (g ∷ gs) a b = (less-code h g (omega (arith, is-good.target, few)) (omega (arith, a.0.target, few)) b.0, upper gs a.1 b.1)
+    upper : (gs : List Hop) → All (IsGood n) gs → All (λ g. hop_cmp h g ≡ Less) gs → All (λ (g : Hop). code h.from h.target < code g.from g.target) gs
+    upper gs a b = λ i d l. less-code h (get_or gs i d) (omega (arith, is-good.target, few)) (omega (arith, (a i d l).target, few)) (b i d l)
 
-    lowers : AllByRecursion (λ (g : Hop). code g.from g.target < code h.from h.target) ys
-    lowers = lower ys (all-front (IsGood n) ys (h ∷ zs) all-good) (sorted-before hop_cmp ys h zs in-order)
+    lowers : All (λ (g : Hop). code g.from g.target < code h.from h.target) ys
+    lowers = lower ys (All-front (IsGood n) ys (h ∷ zs) all-good) (All-from_recursion (λ g. hop_cmp g h ≡ Less) ys (sorted-before hop_cmp ys h zs in-order))
 
-    uppers : AllByRecursion (λ (g : Hop). code h.from h.target < code g.from g.target) zs
-    uppers = upper zs (all-back (IsGood n) ys (h ∷ zs) all-good).1 (sorted-behind hop_cmp ys h zs in-order)
+    uppers : All (λ (g : Hop). code h.from h.target < code g.from g.target) zs
+    uppers = upper zs (All-tail (IsGood n) h zs (All-back (IsGood n) ys (h ∷ zs) all-good)) (All-from_recursion (λ g. hop_cmp h g ≡ Less) zs (sorted-behind hop_cmp ys h zs in-order))
 
-    above-not : (k : ℕ) (gs : List Hop) → k < code h.from h.target → AllByRecursion (λ (g : Hop). code h.from h.target < code g.from g.target) gs → AllByRecursion (λ (g : Hop). code g.from g.target ≢ k) gs
-    above-not k [] lt a = tt
-    above-not k (g ∷ gs) lt a = (λ e. omega (arith, e, a.0, lt), above-not k gs lt a.1)
+    above-not : (k : ℕ) (gs : List Hop) → k < code h.from h.target → All (λ (g : Hop). code h.from h.target < code g.from g.target) gs → All (λ (g : Hop). code g.from g.target ≢ k) gs
+    above-not k gs lt a = λ i d l e. omega (arith, e, a i d l, lt)
 
     not-before : code h.from h.target < code (turn n ys).0 (turn n ys).1 → ⊥
     not-before lt = none-is ys h.from h.target (below-not (code h.from h.target) ys lowers) (s.full h.from h.target is-good.from is-good.target is-good.other lt)
@@ -350,8 +345,8 @@ module _ (n : ℕ) (few : n ≤ 256) (hs : List Hop) (good : AllByRecursion (IsG
 
     not-behind : code (turn n ys).0 (turn n ys).1 < code h.from h.target → ⊥
     not-behind lt = none-is (ys ++ (h ∷ zs)) (turn n ys).0 (turn n ys).1
-        (all-join (λ (g : Hop). code g.from g.target ≢ code (turn n ys).0 (turn n ys).1) ys (h ∷ zs) (below-not (code (turn n ys).0 (turn n ys).1) ys s.below)
-        (λ same. omega (arith, same, lt), above-not (code (turn n ys).0 (turn n ys).1) zs lt uppers))
+        (All-append (λ (g : Hop). code g.from g.target ≢ code (turn n ys).0 (turn n ys).1) ys (h ∷ zs) (below-not (code (turn n ys).0 (turn n ys).1) ys s.below)
+        (All-cons (λ (g : Hop). code g.from g.target ≢ code (turn n ys).0 (turn n ys).1) h zs (λ same. omega (arith, same, lt)) (above-not (code (turn n ys).0 (turn n ys).1) zs lt uppers)))
         (subst (λ gs. HasPair gs (turn n ys).0 (turn n ys).1) e (every (turn n ys).0 (turn n ys).1 (turn-from lt) turn-target s.apart))
 
     same-code : code h.from h.target ≡ code (turn n ys).0 (turn n ys).1

@@ -1,8 +1,9 @@
 -- Which words say indices, exactly.
 use Rattle.std.proofs.Common.{◌≡◌, ◌≢◌, ℕ, ◌^◌, ◌<◌, ◌≤◌, Bool, true, false, cond, List, [], ◌∷◌, ◌++◌, Option, Some, None, length, map, refl, sym, ap, subst, ◌∙◌, arith, inl, inr}
 use Rattle.std.specs.Prelude.{◌==◌, ◌⊎◌, codes, nat_le, option_and_then, option_map}
-use Rattle.std.specs.List.{AllByRecursion, flat_map}
+use Rattle.std.specs.List.{All, flat_map}
 use Rattle.std.proofs.lemmas.Bool.{eqb-true, leb-true, le-leb}
+use Rattle.std.proofs.lemmas.List.Elements.{All-cons, All-nil, All-tail}
 use Rattle.snap_core.specs.Figures.{parts_by}
 use Rattle.snap_core.specs.declared.policy.Atom.{Atom}
 use Rattle.snap_tables.specs.Joins.{behind, join, Lacks, AllLack}
@@ -26,30 +27,30 @@ Lacks-append s [] b la lb = lb
 Lacks-append s (x ∷ a) b la lb = (la.0, Lacks-append s a b la.1 lb)
 
 module _ (comps : ℕ) (fits : comps < 2 ^ 64) where
-  atoms-said : (ws : Words) (es : List Atom) → atoms_said comps ws ≡ Some es → (ws ≡ map atom_word es) × AllByRecursion (IsAtom comps) es
-  atoms-said [] [] e = (refl, tt)
+  atoms-said : (ws : Words) (es : List Atom) → atoms_said comps ws ≡ Some es → (ws ≡ map atom_word es) × All (IsAtom comps) es
+  atoms-said [] [] e = (refl, All-nil (IsAtom comps))
   atoms-said [] (a ∷ es) e = absurd (cc)
   atoms-said (w ∷ ws) es e =
       let k = and-some (λ a. option_map (λ (es : List Atom). a ∷ es) (atoms_said comps ws)) (atom_said comps w) es e in
       let a = atom-said comps k.0 w fits k.1 in
       let m = map-some (λ (es : List Atom). k.0 ∷ es) (atoms_said comps ws) es k.2 in
       let h = atoms-said ws m.0 m.1 in
-      rw m.2 ((λ i. a.0 i ∷ h.0 i), (a.1, h.1))
+      rw m.2 ((λ i. a.0 i ∷ h.0 i), All-cons (IsAtom comps) k.0 m.0 a.1 h.1)
 
-  said-atoms : (es : List Atom) → AllByRecursion (IsAtom comps) es → atoms_said comps (map atom_word es) ≡ Some es
+  said-atoms : (es : List Atom) → All (IsAtom comps) es → atoms_said comps (map atom_word es) ≡ Some es
   said-atoms [] h = refl
   said-atoms (a ∷ es) h =
-      ap (option_and_then (λ a. option_map (λ (es : List Atom). a ∷ es) (atoms_said comps (map atom_word es)))) (said-atom comps a fits h.0)
-      ∙ ap (option_map (λ (es : List Atom). a ∷ es)) (said-atoms es h.1)
+      ap (option_and_then (λ a. option_map (λ (es : List Atom). a ∷ es) (atoms_said comps (map atom_word es)))) (said-atom comps a fits (h 0 a (omega arith)))
+      ∙ ap (option_map (λ (es : List Atom). a ∷ es)) (said-atoms es (All-tail (IsAtom comps) a es h))
 
-  lack : (s : ℕ) → s ≢ 35 → s ≢ 99 → (s < 48) ⊎ (57 < s) → (es : List Atom) → AllByRecursion (IsAtom comps) es → AllLack s (map atom_word es)
+  lack : (s : ℕ) → s ≢ 35 → s ≢ 99 → (s < 48) ⊎ (57 < s) → (es : List Atom) → All (IsAtom comps) es → AllLack s (map atom_word es)
   lack s hash letter out [] h = tt
-  lack s hash letter out (a ∷ es) h = (Lacks-atom comps s a fits hash letter out h.0, lack s hash letter out es h.1)
+  lack s hash letter out (a ∷ es) h = (Lacks-atom comps s a fits hash letter out (h 0 a (omega arith)), lack s hash letter out es (All-tail (IsAtom comps) a es h))
 
-  lack-behind : (es : List Atom) → AllByRecursion (IsAtom comps) es → Lacks 93 (behind 44 (map atom_word es))
+  lack-behind : (es : List Atom) → All (IsAtom comps) es → Lacks 93 (behind 44 (map atom_word es))
   lack-behind [] h = tt
   lack-behind (a ∷ es) h =
-      (refl, Lacks-append 93 (atom_word a) (behind 44 (map atom_word es)) (Lacks-atom comps 93 a fits (λ e. omega (arith, e)) (λ e. omega (arith, e)) (inr (omega arith)) h.0) (lack-behind es h.1))
+      (refl, Lacks-append 93 (atom_word a) (behind 44 (map atom_word es)) (Lacks-atom comps 93 a fits (λ e. omega (arith, e)) (λ e. omega (arith, e)) (inr (omega arith)) (h 0 a (omega arith))) (lack-behind es (All-tail (IsAtom comps) a es h)))
 
   few-said : (o : Option (List Atom)) (es : List Atom) → few o ≡ Some es → (o ≡ Some es) × (length es ≤ 8)
   few-said None es e = absurd (cc)
@@ -76,7 +77,7 @@ module _ (comps : ℕ) (fits : comps < 2 ^ 64) where
       shape : (inner : List ℕ) (es : List Atom) → parts_by is_comma inner ≡ map atom_word es → inner ≡ join 44 (map atom_word es)
       shape inner es e = sym (join-parts 44 inner) ∙ ap (join 44) e
 
-      whole : (es : List Atom) (inner : List ℕ) → b ≡ 91 → bs ≡ inner ++ (93 ∷ []) → inner ≡ join 44 (map atom_word es) → parts_by is_comma inner ≡ map atom_word es → AllByRecursion (IsAtom comps) es → length es ≤ 8 → (b ∷ bs ≡ atoms_word es) × IsIndex comps es
+      whole : (es : List Atom) (inner : List ℕ) → b ≡ 91 → bs ≡ inner ++ (93 ∷ []) → inner ≡ join 44 (map atom_word es) → parts_by is_comma inner ≡ map atom_word es → All (IsAtom comps) es → length es ≤ 8 → (b ∷ bs ≡ atoms_word es) × IsIndex comps es
       whole [] inner is text shape parts all less = absurd (some inner parts)
         where
           some : (inner : List ℕ) → parts_by is_comma inner ≡ [] → ⊥
@@ -95,9 +96,11 @@ module _ (comps : ℕ) (fits : comps < 2 ^ 64) where
   said-index [] h = absurd (omega (arith, h.1))
   said-index (a ∷ es) h =
       let inner = atom_word a ++ behind 44 (map atom_word es) in
+      let first : IsAtom comps a = h.0 0 a (omega arith) in
+      let rest : All (IsAtom comps) es = All-tail (IsAtom comps) a es h.0 in
       ap (λ l. inner_said comps (parts_by is_close l)) (sym (text_of a es))
-      ∙ ap (inner_said comps) (parts-join 93 inner ([] ∷ []) (Lacks-append 93 (atom_word a) (behind 44 (map atom_word es)) (Lacks-atom comps 93 a fits (λ e. omega (arith, e)) (λ e. omega (arith, e)) (inr (omega arith)) h.0.0) (lack-behind es h.0.1)) (tt, tt))
-      ∙ ap (λ ws. few (atoms_said comps ws)) (parts-join 44 (atom_word a) (map atom_word es) (Lacks-atom comps 44 a fits (λ e. omega (arith, e)) (λ e. omega (arith, e)) (inl (omega arith)) h.0.0) (lack 44 (λ e. omega (arith, e)) (λ e. omega (arith, e)) (inl (omega arith)) es h.0.1))
+      ∙ ap (inner_said comps) (parts-join 93 inner ([] ∷ []) (Lacks-append 93 (atom_word a) (behind 44 (map atom_word es)) (Lacks-atom comps 93 a fits (λ e. omega (arith, e)) (λ e. omega (arith, e)) (inr (omega arith)) first) (lack-behind es rest)) (tt, tt))
+      ∙ ap (λ ws. few (atoms_said comps ws)) (parts-join 44 (atom_word a) (map atom_word es) (Lacks-atom comps 44 a fits (λ e. omega (arith, e)) (λ e. omega (arith, e)) (inl (omega arith)) first) (lack 44 (λ e. omega (arith, e)) (λ e. omega (arith, e)) (inl (omega arith)) es rest))
       ∙ ap few (said-atoms (a ∷ es) h.0)
       ∙ ap (λ z. cond z (Some (a ∷ es)) None) (le-leb (length (a ∷ es)) 8 h.2)
 

@@ -1,8 +1,9 @@
 -- No word of an entry's line has a blank or an LF.
 use Rattle.std.proofs.Common.{◌≡◌, ℕ, ◌<◌, ◌^◌, Bool, true, false, cond, List, [], ◌∷◌, ◌++◌, Option, Some, None, map, refl, arith, decimal}
 use Rattle.std.specs.Prelude.{◌==◌, ◌&&◌, codes, nat_le, nat_lt}
-use Rattle.std.specs.List.{AllByRecursion, flat_map, list_all}
+use Rattle.std.specs.List.{All, flat_map, list_all}
 use Rattle.std.proofs.lemmas.Bool.{and_parts, leb-true, ltb-true}
+use Rattle.std.proofs.lemmas.List.Elements.{All-tail}
 use Rattle.snap_core.specs.declared.policy.Atom.{Atom}
 use Rattle.snap_core.specs.declared.policy.Atom.TheVariants.{Num, Comp}
 use Rattle.snap_core.specs.declared.policy.Op.{Op}
@@ -40,9 +41,9 @@ pub are-append : (ws vs : Words) → AreInk ws → AreInk vs → AreInk (ws ++ v
 are-append [] vs h g = g
 are-append (w ∷ ws) vs h g = (h.0, are-append ws vs h.1 g)
 
-are-map : {X : Type 0} (f : X → Words) (P : X → Type 0) → ((x : X) → P x → AreInk (f x)) → (xs : List X) → AllByRecursion P xs → AreInk (flat_map f xs)
+are-map : {X : Type 0} (f : X → Words) (P : X → Type 0) → ((x : X) → P x → AreInk (f x)) → (xs : List X) → All P xs → AreInk (flat_map f xs)
 are-map f P h [] all = tt
-are-map f P h (x ∷ xs) all = are-append (f x) (flat_map f xs) (h x all.0) (are-map f P h xs all.1)
+are-map f P h (x ∷ xs) all = are-append (f x) (flat_map f xs) (h x (all 0 x (omega arith))) (are-map f P h xs (All-tail P x xs all))
 
 module _ (comps : ℕ) (fits : comps < 2 ^ 64) where
   atom-ink : (a : Atom) → IsAtom comps a → IsInk (atom_word a)
@@ -58,24 +59,24 @@ module _ (comps : ℕ) (fits : comps < 2 ^ 64) where
   term-ink (Plus c n) f =
       append-ink (codes "c" ++ decimal c) (cond (n == 0) [] (codes "+" ++ decimal n)) (append-ink (codes "c") (decimal c) (ink-if (codes "c") refl) (decimal-ink c (omega (arith, f.0, fits)))) (plus-ink n f.1 (n == 0))
 
-  more-ink : (es : List Atom) → AllByRecursion (IsAtom comps) es → IsInk (flat_map (λ (b : Atom). codes "," ++ atom_word b) es)
+  more-ink : (es : List Atom) → All (IsAtom comps) es → IsInk (flat_map (λ (b : Atom). codes "," ++ atom_word b) es)
   more-ink [] h = tt
-  more-ink (e ∷ es) h = append-ink (codes "," ++ atom_word e) (flat_map (λ (b : Atom). codes "," ++ atom_word b) es) (append-ink (codes ",") (atom_word e) (ink-if (codes ",") refl) (atom-ink e h.0)) (more-ink es h.1)
+  more-ink (e ∷ es) h = append-ink (codes "," ++ atom_word e) (flat_map (λ (b : Atom). codes "," ++ atom_word b) es) (append-ink (codes ",") (atom_word e) (ink-if (codes ",") refl) (atom-ink e (h 0 e (omega arith)))) (more-ink es (All-tail (IsAtom comps) e es h))
 
-  atoms-ink : (es : List Atom) → AllByRecursion (IsAtom comps) es → IsInk (atoms_word es)
+  atoms-ink : (es : List Atom) → All (IsAtom comps) es → IsInk (atoms_word es)
   atoms-ink [] h = ink-if (codes "[]") refl
   atoms-ink (e ∷ es) h =
       append-ink (codes "[" ++ atom_word e ++ flat_map (λ (b : Atom). codes "," ++ atom_word b) es) (codes "]")
-      (append-ink (codes "[" ++ atom_word e) (flat_map (λ (b : Atom). codes "," ++ atom_word b) es) (append-ink (codes "[") (atom_word e) (ink-if (codes "[") refl) (atom-ink e h.0)) (more-ink es h.1)) (ink-if (codes "]") refl)
+      (append-ink (codes "[" ++ atom_word e) (flat_map (λ (b : Atom). codes "," ++ atom_word b) es) (append-ink (codes "[") (atom_word e) (ink-if (codes "[") refl) (atom-ink e (h 0 e (omega arith)))) (more-ink es (All-tail (IsAtom comps) e es h))) (ink-if (codes "]") refl)
 
   part-ink : (p : ℕ × Atom) → IsPart comps p → IsInk (part_word p)
   part-ink p f =
       append-ink (codes "c" ++ decimal p.0 ++ codes "=") (atom_word p.1)
       (append-ink (codes "c" ++ decimal p.0) (codes "=") (append-ink (codes "c") (decimal p.0) (ink-if (codes "c") refl) (decimal-ink p.0 (omega (arith, f.0, fits)))) (ink-if (codes "=") refl)) (atom-ink p.1 f.1)
 
-  parts-ink : (o : Parts) → AllByRecursion (IsPart comps) o → AreInk (map part_word o)
+  parts-ink : (o : Parts) → All (IsPart comps) o → AreInk (map part_word o)
   parts-ink [] h = tt
-  parts-ink (p ∷ o) h = (part-ink p h.0, parts-ink o h.1)
+  parts-ink (p ∷ o) h = (part-ink p (h 0 p (omega arith)), parts-ink o (All-tail (IsPart comps) p o h))
 
   op-ink : (o : Op) → IsInk (op_word o)
   op-ink (Put a) = ink-if (codes "put") refl

@@ -1,6 +1,6 @@
 -- What words behind `leaf` say, exactly.
 use Rattle.std.proofs.Common.{◌≡◌, ◌<◌, ◌≤◌, ◌^◌, Bool, true, false, List, [], ◌∷◌, length, refl, sym, ap, subst, ◌∙◌, append-nil}
-use Rattle.std.specs.List.{AllByRecursion, flat_map}
+use Rattle.std.specs.List.{All, flat_map}
 use Rattle.snap_core.specs.declared.policy.Update.{Update}
 use Rattle.snap_rows.specs.declared.tables.ArrayAt.{ArrayAt}
 use Rattle.snap_rows.specs.declared.tables.Stage.{Stage as Turn}
@@ -23,7 +23,7 @@ outs-no-update [] = refl
 outs-no-update (o ∷ os) = refl
 
 -- a list of pieces in front of outs
-module _ {X : Type 0} (spelled : X → Words) (Fits : X → Type 0) (opens goes_on : Words → Bool) (apart : AreApart spelled Fits opens goes_on) (Are : List X → Type 0) (each : (xs : List X) → Are xs → AllByRecursion Fits xs)
+module _ {X : Type 0} (spelled : X → Words) (Fits : X → Type 0) (opens goes_on : Words → Bool) (apart : AreApart spelled Fits opens goes_on) (Are : List X → Type 0) (each : (xs : List X) → Are xs → All Fits xs)
     (k : Counts) (shut : (os : List Parts) → opens (flat_map out_words os) ≡ false) (quiet : (os : List Parts) → goes_on (flat_map out_words os) ≡ false) (ws : Words) where
   front-fails : FailsAfter spelled Fits opens goes_on ws → IsNoFront spelled Are out_words (AreOuts k) ws
   front-fails fails us os f g e = fails-none spelled Fits opens goes_on apart ws fails us (flat_map out_words os) (each us f) (shut os) (quiet os) e

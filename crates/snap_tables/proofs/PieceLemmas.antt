@@ -1,8 +1,9 @@
 -- Pieces of a line, one behind another: words are those of one list of pieces.
 use Rattle.std.proofs.Common.{◌≡◌, ◌≢◌, ◌<◌, Bool, true, false, List, [], ◌∷◌, ◌++◌, Option, Some, None, length, refl, sym, ap, ◌∙◌, arith, append_assoc, append-nil}
 use Rattle.std.specs.Prelude.{MatchOption}
-use Rattle.std.specs.List.{AllByRecursion, flat_map}
+use Rattle.std.specs.List.{All, AllByRecursion, flat_map}
 use Rattle.std.proofs.lemmas.List.Concat.{flat_map-append}
+use Rattle.std.proofs.lemmas.List.Elements.{All-push, All-tail}
 use Rattle.snap_tables.specs.Text.{Words}
 use Rattle.snap_tables.specs.Pieces.{FailsAfter, IsPiece, TakesAll}
 
@@ -26,14 +27,14 @@ flat_map-push f xs x = flat_map-append f xs (x ∷ []) ∙ ap (λ l. flat_map f 
 
 -- one more piece behind others
 module _ {X : Type 0} (spelled : X → Words) (Fits : X → Type 0) (goes_on : Words → Bool) (ws left more : Words) (xs : List X) (x : X)
-    (words : ws ≡ flat_map spelled xs ++ left) (each : AllByRecursion Fits xs) (piece : IsPiece spelled Fits goes_on left x more) where
+    (words : ws ≡ flat_map spelled xs ++ left) (each : All Fits xs) (piece : IsPiece spelled Fits goes_on left x more) where
   pub pieces-words : ws ≡ flat_map spelled (xs ++ (x ∷ [])) ++ more
   pieces-words =
       words ∙ ap (λ l. flat_map spelled xs ++ l) piece.words ∙ sym (append_assoc (flat_map spelled xs) (spelled x) more)
       ∙ ap (λ l. l ++ more) (sym (flat_map-push spelled xs x))
 
-  pub pieces-each : AllByRecursion Fits (xs ++ (x ∷ []))
-  pieces-each = all-push Fits xs x each piece.fits
+  pub pieces-each : All Fits (xs ++ (x ∷ []))
+  pieces-each = All-push Fits xs x each piece.fits
 
 -- what is asked of pieces: their beginning shows, words spell one of them, and a beginning goes on no other
 pub record AreApart {X : Type 0} (spelled : X → Words) (Fits : X → Type 0) (opens goes_on : Words → Bool) : Type 0 where
@@ -50,30 +51,30 @@ module _ {X : Type 0} (spelled : X → Words) (Fits : X → Type 0) (opens goes_
   record Behind (xs ys : List X) (l r : Words) : Type 0 where
     more : List X
     whole : ys ≡ xs ++ more
-    fits : AllByRecursion Fits more
+    fits : All Fits more
     left : l ≡ flat_map spelled more ++ r
 
-  cancel : (xs ys : List X) (l r : Words) → AllByRecursion Fits xs → AllByRecursion Fits ys → (0 < length xs → goes_on l ≡ false) → opens r ≡ false → goes_on r ≡ false
+  cancel : (xs ys : List X) (l r : Words) → All Fits xs → All Fits ys → (0 < length xs → goes_on l ≡ false) → opens r ≡ false → goes_on r ≡ false
       → flat_map spelled xs ++ l ≡ flat_map spelled ys ++ r → Behind xs ys l r
   cancel [] ys l r hx hy last ends quiet e = record { more = ys; whole = refl; fits = hy; left = e }
   cancel (x ∷ xs) [] l r hx hy last ends quiet e =
       absurd (false-true (sym ends ∙ ap opens (sym e ∙ append_assoc (spelled x) (flat_map spelled xs) l) ∙ apart.shows x (flat_map spelled xs ++ l)))
   cancel (x ∷ xs) (y ∷ ys) l r hx hy last ends quiet e =
       let same = sym (append_assoc (spelled x) (flat_map spelled xs) l) ∙ e ∙ append_assoc (spelled y) (flat_map spelled ys) r in
-      let k = apart.one x y (flat_map spelled xs ++ l) (flat_map spelled ys ++ r) hx.0 hy.0 (stopped xs l (last (omega arith))) (stopped ys r quiet) same in
-      let b = cancel xs ys l r hx.1 hy.1 (λ some. last (omega arith)) ends quiet k.1 in
+      let k = apart.one x y (flat_map spelled xs ++ l) (flat_map spelled ys ++ r) (hx 0 x (omega arith)) (hy 0 y (omega arith)) (stopped xs l (last (omega arith))) (stopped ys r quiet) same in
+      let b = cancel xs ys l r (All-tail Fits x xs hx) (All-tail Fits y ys hy) (λ some. last (omega arith)) ends quiet k.1 in
       record { more = b.more; whole = (λ i. sym k.0 i ∷ b.whole i); fits = b.fits; left = b.left }
 
-  pub fails-none : (ws : Words) → FailsAfter spelled Fits opens goes_on ws → (ys : List X) (r : Words) → AllByRecursion Fits ys → opens r ≡ false → goes_on r ≡ false → ws ≢ flat_map spelled ys ++ r
+  pub fails-none : (ws : Words) → FailsAfter spelled Fits opens goes_on ws → (ys : List X) (r : Words) → All Fits ys → opens r ≡ false → goes_on r ≡ false → ws ≢ flat_map spelled ys ++ r
   fails-none ws f ys r hy ends quiet e =
       let b = cancel f.done ys f.left r f.each hy (λ some. apart.stops f.left f.begins) ends quiet (sym f.words ∙ e) in
       at b.more b.fits b.left
     where
-      at : (more : List X) → AllByRecursion Fits more → f.left ≡ flat_map spelled more ++ r → ⊥
+      at : (more : List X) → All Fits more → f.left ≡ flat_map spelled more ++ r → ⊥
       at [] h e = false-true (sym ends ∙ ap opens (sym e) ∙ f.begins)
-      at (z ∷ zs) h e = f.none z (flat_map spelled zs ++ r) h.0 (stopped zs r quiet) (e ∙ append_assoc (spelled z) (flat_map spelled zs) r)
+      at (z ∷ zs) h e = f.none z (flat_map spelled zs ++ r) (h 0 z (omega arith)) (stopped zs r quiet) (e ∙ append_assoc (spelled z) (flat_map spelled zs) r)
 
-  pub takes-one : (ws left : Words) (xs : List X) → TakesAll spelled Fits opens goes_on ws xs left → (ys : List X) (r : Words) → AllByRecursion Fits ys → opens r ≡ false → goes_on r ≡ false
+  pub takes-one : (ws left : Words) (xs : List X) → TakesAll spelled Fits opens goes_on ws xs left → (ys : List X) (r : Words) → All Fits ys → opens r ≡ false → goes_on r ≡ false
       → ws ≡ flat_map spelled ys ++ r → (xs ≡ ys) × (left ≡ r)
   takes-one ws left xs t ys r hy ends quiet e =
       let b = cancel xs ys left r t.each hy t.last ends quiet (sym t.words ∙ e) in
@@ -83,6 +84,6 @@ module _ {X : Type 0} (spelled : X → Words) (Fits : X → Type 0) (opens goes_
       at [] whole e = (sym (whole ∙ append-nil xs), e)
       at (z ∷ zs) whole e = absurd (false-true (sym t.ends ∙ ap opens (e ∙ append_assoc (spelled z) (flat_map spelled zs) r) ∙ apart.shows z (flat_map spelled zs ++ r)))
 
-  pub lists-one : (xs ys : List X) (l r : Words) → AllByRecursion Fits xs → AllByRecursion Fits ys → opens l ≡ false → goes_on l ≡ false → opens r ≡ false → goes_on r ≡ false
+  pub lists-one : (xs ys : List X) (l r : Words) → All Fits xs → All Fits ys → opens l ≡ false → goes_on l ≡ false → opens r ≡ false → goes_on r ≡ false
       → flat_map spelled xs ++ l ≡ flat_map spelled ys ++ r → (xs ≡ ys) × (l ≡ r)
   lists-one xs ys l r hx hy el ql er qr e = takes-one (flat_map spelled xs ++ l) l xs (record { words = refl; each = hx; last = λ some. ql; ends = el }) ys r hy er qr e

@@ -1,9 +1,8 @@
 -- Rows in form, with numbers of 64 bits, are what lines of rows spell.
-use Rattle.std.proofs.Common.{◌≡◌, ◌≢◌, ℕ, suc, ◌+◌, ◌<◌, ◌≤◌, true, false, List, [], ◌∷◌, length, map, refl, sym, ap, subst, arith}
+use Rattle.std.proofs.Common.{◌≡◌, ◌≢◌, ℕ, suc, ◌+◌, ◌<◌, ◌≤◌, true, false, List, [], ◌∷◌, length, map, refl, sym, ap, subst, arith, get_or}
 use Rattle.std.specs.Prelude.{◌==◌, nat_le, nat_lt, not, slice_index}
-use Rattle.std.specs.List.{All, AllByRecursion}
+use Rattle.std.specs.List.{All}
 use Rattle.std.proofs.lemmas.Bool.{and_from, eq-eqb, le-leb, lt-ltb, ne_eqb}
-use Rattle.std.proofs.lemmas.List.Elements.{recursion_from_All}
 use Rattle.snap_core.specs.declared.policy.Atom.{Atom}
 use Rattle.snap_core.specs.declared.policy.Atom.TheVariants.{Num, Comp}
 use Rattle.snap_core.specs.declared.policy.Op.{Op}
@@ -14,7 +13,7 @@ use Rattle.snap_core.specs.declared.policy.Test.{Test}
 use Rattle.snap_core.specs.declared.policy.Test.TheVariants.{Value, Equal, State as StateTest}
 use Rattle.snap_core.specs.declared.policy.Update.{Update}
 use Rattle.snap_core.specs.Fits.{AtomFits, IndexFits, OpFits}
-use Rattle.snap_core.specs.Tests.{IsRisingOut, PartFits, TermFits, TestFits}
+use Rattle.snap_core.specs.Tests.{IsRisingOut, TermFits, TestFits}
 use Rattle.snap_rows.specs.declared.tables.Row.{Row}
 use Rattle.snap_rows.specs.declared.tables.Row.TheVariants as row
 use Rattle.snap_rows.specs.declared.tables.Stage.{Stage as Turn}
@@ -23,11 +22,11 @@ use Rattle.snap_rows.specs.Entries.{Parts}
 use Rattle.snap_rows.specs.Form.{Alternate, AlternateFrom, AreOutsInForm, IsFieldTest, IsIndexInForm, IsOpInForm, IsPartsInForm, IsRowInForm, IsStateTest, IsTurnInForm, IsUpdateInForm, RanksRise, comps, parts_cmp}
 use Rattle.snap_core.specs.Ranges.{AtomInRange, OpInRange, OutInRange, TermInRange, TestInRange, UpdateInRange}
 use Rattle.snap_tables.specs.Ranges.{RowInRange, UpsInRange}
-use Rattle.snap_tables.specs.Laws.{IsAtom, IsIndex, IsOp, IsPart, IsTerm, IsTestOf, IsUpdateOf}
+use Rattle.snap_tables.specs.Laws.{IsAtom, IsIndex, IsOp, IsTerm, IsTestOf, IsUpdateOf}
 use Rattle.snap_tables.specs.Lines.{counts_of}
 use Rattle.snap_tables.specs.Pieces.{is_adjacent}
 use Rattle.snap_tables.specs.Rows.{AreOuts, IsOut, IsRowOf, IsStage, is_field_test, part_less, rank_among, rises_from, stands_apart}
-use Rattle.snap_tables.proofs.Splits.{both, sorted-adjacent}
+use Rattle.snap_tables.proofs.Splits.{sorted-adjacent}
 
 -- components that rise
 rises : (o : Parts) → IsRisingOut o → is_adjacent part_less o ≡ true
@@ -56,12 +55,8 @@ module _ (t : Tables) where
   atom-is (Num n) f s = s
   atom-is (Comp c) f s = f
 
-  atoms-are : (es : List Atom) → AllByRecursion (AtomFits (comps t)) es → AllByRecursion AtomInRange es → AllByRecursion (IsAtom (comps t)) es
-  atoms-are [] f s = tt
-  atoms-are (a ∷ es) f s = (atom-is a f.0 s.0, atoms-are es f.1 s.1)
-
   index-is : (es : List Atom) → IndexFits (comps t) es → IsIndexInForm es → All AtomInRange es → IsIndex (comps t) es
-  index-is es f l s = (atoms-are es f (recursion_from_All AtomInRange es s), l.0, l.1)
+  index-is es f l s = ((λ i d m. atom-is (get_or es i d) (f i d m) (s i d m)), l.0, l.1)
 
   op-is : (o : Op) → OpFits (comps t) o → IsOpInForm o → OpInRange o → IsOp (comps t) o
   op-is (Put a) f l s = atom-is a f s
@@ -70,21 +65,17 @@ module _ (t : Tables) where
   update-is : (u : Update) → IsUpdateInForm t u → UpdateInRange u → IsUpdateOf (comps t) (length t.arrays) u
   update-is u f s = (f.fits.var, index-is u.index f.fits.index f.index s.index, op-is u.op f.fits.op f.op s.op)
 
-  parts-are : (o : Parts) → AllByRecursion (PartFits (comps t)) o → AllByRecursion (λ (p : ℕ × Atom). p.1 ≢ Comp p.0) o → AllByRecursion (λ (p : ℕ × Atom). AtomInRange p.1) o → AllByRecursion (IsPart (comps t)) o
-  parts-are [] f c s = tt
-  parts-are (p ∷ o) f c s = ((f.0.comp, atom-is p.1 f.0.atom s.0, c.0), parts-are o f.1 c.1 s.1)
-
   out-is : (o : Parts) → IsPartsInForm t o → OutInRange o → IsOut (counts_of t) o
   out-is o f s = (
-    parts-are o (recursion_from_All (PartFits (comps t)) o f.fits) (recursion_from_All (λ (p : ℕ × Atom). p.1 ≢ Comp p.0) o f.changes) (recursion_from_All (λ (p : ℕ × Atom). AtomInRange p.1) o s),
+    (λ i d l. ((f.fits i d l).comp, atom-is (get_or o i d).1 (f.fits i d l).atom (s i d l), f.changes i d l)),
     rises o f.rising,
   )
 
   outs-are : (os : List Parts) → AreOutsInForm t os → All OutInRange os → AreOuts (counts_of t) os
-  outs-are os f s = (both (IsPartsInForm t) OutInRange (IsOut (counts_of t)) out-is os f.each s, sorted-adjacent parts_cmp os f.rising)
+  outs-are os f s = ((λ i d l. out-is (get_or os i d) (f.each i d l) (s i d l)), sorted-adjacent parts_cmp os f.rising)
 
-  ups-are : (us : List Update) → All (IsUpdateInForm t) us → All UpdateInRange us → AllByRecursion (IsUpdateOf (comps t) (length t.arrays)) us
-  ups-are us f s = both (IsUpdateInForm t) UpdateInRange (IsUpdateOf (comps t) (length t.arrays)) update-is us f s
+  ups-are : (us : List Update) → All (IsUpdateInForm t) us → All UpdateInRange us → All (IsUpdateOf (comps t) (length t.arrays)) us
+  ups-are us f s = λ i d l. update-is (get_or us i d) (f i d l) (s i d l)
 
   stage-is : (s : Turn) → IsTurnInForm t s → UpsInRange s → IsStage (counts_of t) s
   stage-is s f b = (f.at, f.some, ups-are s.ups f.each b)
@@ -129,6 +120,6 @@ module _ (t : Tables) where
   row-is (row.Field x y z) f s = let k = field-test x f.0 f.1 s.0 in (k.0, k.1, s.1, s.2)
   row-is (row.State x y z) f s = let k = state-test x f.0 f.1 s.0 in (k.0, k.1, s.1, s.2)
   row-is (row.Go x) f s = (eq-eqb t.version 1 f.0, f.1)
-  row-is (row.Leaf ss os) f s = (eq-eqb t.version 1 f.0, (both (IsTurnInForm t) UpsInRange (IsStage (counts_of t)) stage-is ss f.2 s.0, stand-apart ss f.3, f.1), outs-are os f.4 s.1)
+  row-is (row.Leaf ss os) f s = (eq-eqb t.version 1 f.0, ((λ i d l. stage-is (get_or ss i d) (f.2 i d l) (s.0 i d l)), stand-apart ss f.3, f.1), outs-are os f.4 s.1)
   row-is row.Stop f s = eq-eqb t.version 2 f
   row-is (row.Last us os) f s = (eq-eqb t.version 2 f.0, (ups-are us f.1 s.0, rise-up us f.2), outs-are os f.3 s.1)

@@ -11,7 +11,7 @@ use Rattle.std.proofs.lemmas.Str.{IsUtf8-from_ascii}
 use Rattle.std.proofs.lemmas.Str.Ascii.{IsAscii-from_all}
 use Rattle.snap_core.specs.Names.{begins_plain, goes_on, is_joint, is_keyword, is_letter, is_name, is_name_byte, is_plain, is_switch_name, is_word}
 use Rattle.snap_tables.proofs.Readings.{model}
-use Rattle.std.proofs.lemmas.List.Elements.{All-from_recursion}
+use Rattle.std.proofs.lemmas.List.Elements.{All-from_recursion, All-weaker}
 use Rattle.snap_tables.specs.Joins.{AllLack, Lacks}
 
 -- each byte is printed, and no blank
@@ -82,11 +82,9 @@ ink-all-lack s low (w ∷ ws) h = (ink-lacks s low w h.0, ink-all-lack s low ws 
 
 -- names are text
 pub name-utf8 : (w : List ℕ) → is_name w ≡ true → IsUtf8 w
-name-utf8 w e = IsUtf8-from_ascii w (IsAscii-from_all w (All-from_recursion (λ b. b < 128) w (small w (name-ink w e))))
-  where
-    small : (w : List ℕ) → IsInk w → AllByRecursion (λ b. b < 128) w
-    small [] h = tt
-    small (b ∷ bs) h = (h.0.1, small bs h.1)
+name-utf8 w e =
+    let P = λ (b : ℕ). (35 ≤ b) × (b < 128) in
+    IsUtf8-from_ascii w (IsAscii-from_all w (All-weaker P (λ b. b < 128) (λ b h. h.1) w (All-from_recursion P w (name-ink w e))))
 
 pub other-no-name : (w : List ℕ) → ¬ (IsUtf8 w) → false ≡ is_name w
 other-no-name w other = at (is_name w) refl

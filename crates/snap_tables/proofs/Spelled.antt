@@ -9,14 +9,13 @@ use Rattle.std.proofs.lemmas.Bool.{and_from, lt-ltb, le-leb, ne_eqb, or_right}
 use Rattle.std.proofs.lemmas.Cmp.{nat_cmp_total}
 use Rattle.std.proofs.lemmas.List.{map-append}
 use Rattle.std.proofs.lemmas.List.Concat.{flat_map-append}
-use Rattle.std.proofs.lemmas.List.Elements.{recursion_from_All}
+use Rattle.std.proofs.lemmas.List.Elements.{All-weaker}
 use Rattle.std.proofs.lemmas.Slice.Eq.{bytes_eq-Decides}
 use Rattle.snap_core.specs.declared.ports.PortAt.{PortAt}
 use Rattle.snap_core.specs.declared.program.Field.{Field}
 use Rattle.snap_core.specs.Fields.{IsFields, PrefixFits, names_of, plain_field, the_ports}
 use Rattle.snap_core.specs.Names.{IsName, is_switch_name}
 use Rattle.snap_rows.specs.declared.tables.ArrayAt.{ArrayAt}
-use Rattle.snap_rows.specs.declared.tables.Hop.{Hop}
 use Rattle.snap_rows.specs.declared.tables.Tables.{Tables}
 use Rattle.snap_rows.specs.Form.{IsArrayInForm, IsHopInForm, IsInForm, IsLinkInForm, IsPortInForm, IsRowAtInForm, link_cmp, row_cmp}
 use Rattle.snap_tables.specs.Ranges.{RowAtInRange, TablesInRange}
@@ -113,12 +112,8 @@ module _ (t : Tables) (f : IsInForm t) (b : TablesInRange t) where
       let bits = all-at RowAtInRange t.rows ys r zs e b.rows in
       (form.at, bits.number, row-is t r.row form.row bits.row, sorted-above row_cmp row-total ys r zs (subst (IsStrictlySortedBy row_cmp) e f.rows_rise)))
 
-  good-hops : AllByRecursion (IsGood (length t.switches)) t.hops
-  good-hops = each t.hops (recursion_from_All (IsHopInForm t) t.hops f.hops)
-    where
-      each : (hs : List Hop) → AllByRecursion (IsHopInForm t) hs → AllByRecursion (IsGood (length t.switches)) hs
-      each [] h = tt
-      each (g ∷ gs) h = (record { from = h.0.from; target = h.0.target; other = h.0.other; next = h.0.next }, each gs h.1)
+  good-hops : All (IsGood (length t.switches)) t.hops
+  good-hops = All-weaker (IsHopInForm t) (IsGood (length t.switches)) (λ g h. record { from = h.from; target = h.target; other = h.other; next = h.next }) t.hops f.hops
 
   ready : (n : ℕ) → is_ready t n ≡ true
   ready n =

@@ -8,7 +8,8 @@ use Rattle.std.specs.declared.cmp.Ordering.{Ordering}
 use Rattle.std.specs.declared.cmp.Ordering.TheVariants.{Less}
 use Rattle.std.specs.Str.{bytes_eq}
 use Rattle.std.proofs.lemmas.Bool.{and_from}
-use Rattle.std.proofs.lemmas.List.Elements.{recursion_from_All}
+use Rattle.std.proofs.lemmas.List.Elements.{All-head}
+use Rattle.snap_core.proofs.Elements.{All-back}
 use Rattle.snap_tables.specs.Entries.{AllFrom, AreInTurn, are_new, is_above, is_new}
 use Rattle.snap_tables.specs.Pieces.{is_adjacent}
 use Rattle.snap_tables.proofs.Turns.{above-tail, bytes-other}
@@ -27,32 +28,11 @@ all-middle P [] x zs h = h.0
 all-middle P (y ∷ ys) x zs h = all-middle P ys x zs h.1
 
 pub all-at : {X : Type 0} (P : X → Type 0) (xs ys : List X) (x : X) (zs : List X) → xs ≡ ys ++ (x ∷ zs) → All P xs → P x
-all-at P xs ys x zs e h = all-middle P ys x zs (subst (AllByRecursion P) e (recursion_from_All P xs h))
-
-pub all-front : {X : Type 0} (P : X → Type 0) (ys zs : List X) → AllByRecursion P (ys ++ zs) → AllByRecursion P ys
-all-front P [] zs h = tt
-all-front P (y ∷ ys) zs h = (h.0, all-front P ys zs h.1)
-
-pub all-back : {X : Type 0} (P : X → Type 0) (ys zs : List X) → AllByRecursion P (ys ++ zs) → AllByRecursion P zs
-all-back P [] zs h = h
-all-back P (y ∷ ys) zs h = all-back P ys zs h.1
-
-pub all-join : {X : Type 0} (P : X → Type 0) (ys zs : List X) → AllByRecursion P ys → AllByRecursion P zs → AllByRecursion P (ys ++ zs)
-all-join P [] zs h k = k
-all-join P (y ∷ ys) zs h k = (h.0, all-join P ys zs h.1 k)
+all-at P xs ys x zs e h = All-head P x zs (All-back P ys (x ∷ zs) (subst (All P) e h))
 
 all-without : {X : Type 0} (P : X → Type 0) (ys : List X) (x : X) (zs : List X) → AllByRecursion P (ys ++ (x ∷ zs)) → AllByRecursion P (ys ++ zs)
 all-without P [] x zs h = h.1
 all-without P (y ∷ ys) x zs h = (h.0, all-without P ys x zs h.1)
-
--- of two facts of each entry a third
-module _ {X : Type 0} (P Q R : X → Type 0) (f : (x : X) → P x → Q x → R x) where
-  both-by : (xs : List X) → AllByRecursion P xs → AllByRecursion Q xs → AllByRecursion R xs
-  both-by [] p q = tt
-  both-by (x ∷ xs) p q = (f x p.0 q.0, both-by xs p.1 q.1)
-
-  pub both : (xs : List X) → All P xs → All Q xs → AllByRecursion R xs
-  both xs p q = both-by xs (recursion_from_All P xs p) (recursion_from_All Q xs q)
 
 -- lists in order
 module _ {X : Type 0} (c : X → X → Ordering) where

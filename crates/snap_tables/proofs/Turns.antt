@@ -1,7 +1,7 @@
 -- Lists of entries that came in turn: what holds of each, and of the whole.
 use Rattle.std.proofs.Common.{◌≡◌, ℕ, suc, ◌-◌, Bool, true, false, List, [], ◌∷◌, ◌++◌, length, refl, sym, ap, subst, ◌∙◌, arith, append-nil, append_assoc}
 use Rattle.std.specs.Prelude.{◌||◌, not, slice_get}
-use Rattle.std.specs.List.{AllByRecursion, IsDistinct, list_any}
+use Rattle.std.specs.List.{All, AllByRecursion, IsDistinct, list_any}
 use Rattle.std.specs.List.Sorted.{IsStrictlySortedBy}
 use Rattle.std.specs.Option.{option_map_or}
 use Rattle.std.specs.Ordering.{is_lt}
@@ -12,6 +12,7 @@ use Rattle.std.specs.Str.{bytes_eq}
 use Rattle.std.proofs.lemmas.Bool.{and_parts, not-true}
 use Rattle.std.proofs.lemmas.Slice.Eq.{bytes_eq-Decides}
 use Rattle.std.proofs.lemmas.Cmp.{lists_total, nat_cmp_total, then_total}
+use Rattle.std.proofs.lemmas.List.Elements.{All-nil, All-push}
 use Rattle.snap_core.specs.declared.policy.Atom.{Atom}
 use Rattle.snap_core.specs.declared.policy.Atom.TheVariants.{Num, Comp}
 use Rattle.snap_rows.specs.declared.tables.RowAt.{RowAt}
@@ -36,8 +37,8 @@ module _ {X : Type 0} (IsNext : List X → X → Type 0) where
     pub in-turn : P [] → (xs : List X) → AreInTurn IsNext xs → P xs
     in-turn p xs all = grown [] xs p all
 
-  pub each-turn : (Q : X → Type 0) → ((ys : List X) (x : X) → IsNext ys x → Q x) → (xs : List X) → AreInTurn IsNext xs → AllByRecursion Q xs
-  each-turn Q f xs all = in-turn (AllByRecursion Q) (λ ys x p n. all-push Q ys x p (f ys x n)) tt xs all
+  pub each-turn : (Q : X → Type 0) → ((ys : List X) (x : X) → IsNext ys x → Q x) → (xs : List X) → AreInTurn IsNext xs → All Q xs
+  each-turn Q f xs all = in-turn (All Q) (λ ys x p n. All-push Q ys x p (f ys x n)) (All-nil Q) xs all
 
 -- orders
 pub on-total : {K X : Type 0} (f : X → K) {R : K → K → Ordering} → IsTotalOrder R → IsTotalOrder (λ (a b : X). R (f a) (f b))

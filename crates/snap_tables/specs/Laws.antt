@@ -8,7 +8,7 @@ use Rattle.snap_core.specs.declared.policy.Test.{Test}
 use Rattle.snap_core.specs.declared.policy.Test.TheVariants.{Value, Equal, State as StateTest}
 use Rattle.snap_core.specs.declared.policy.Update.{Update}
 use Rattle.snap_rows.specs.declared.tables.Hop.{Hop}
-use Rattle.std.specs.List.{AllByRecursion}
+use Rattle.std.specs.List.{All}
 use Rattle.snap_core.specs.declared.policy.Atom.{Atom}
 use Rattle.snap_core.specs.declared.policy.Atom.TheVariants.{Num, Comp}
 use Rattle.snap_core.specs.declared.policy.Term.{Term}
@@ -48,7 +48,7 @@ PartsAreSaid = (comps : ℕ) (p : ℕ × Atom) (w : List ℕ) → comps < 2 ^ 64
 
 -- one to eight atoms
 abbrev pub IsIndex : (comps : ℕ) → List Atom → Type 0
-IsIndex comps es = AllByRecursion (IsAtom comps) es × (1 ≤ length es) × (length es ≤ 8)
+IsIndex comps es = All (IsAtom comps) es × (1 ≤ length es) × (length es ≤ 8)
 
 abbrev pub IndexesAreSaid : Type 0
 IndexesAreSaid = (comps : ℕ) (es : List Atom) (w : List ℕ) → comps < 2 ^ 64 → (index_said comps w ≡ Some es) ↔ ((w ≡ atoms_word es) × IsIndex comps es)

@@ -1,6 +1,6 @@
 -- Pieces of a line: words that stand together, and lists of such pieces.
 use Rattle.std.specs.Prelude.{◌≡◌, ◌≢◌, ◌<◌, Bool, true, false, ◌&&◌, List, [], ◌∷◌, ◌++◌, length}
-use Rattle.std.specs.List.{AllByRecursion, flat_map}
+use Rattle.std.specs.List.{All, flat_map}
 use Rattle.snap_tables.specs.Text.{Words}
 
 -- a piece stands at the front of words, and they don't go on with more of it
@@ -17,7 +17,7 @@ IsNoPiece {X} spelled Fits goes_on ws = (x : X) (left : Words) → Fits x → go
 -- these pieces stand at the front of words, and no other begins behind them
 pub record TakesAll {X : Type 0} (spelled : X → Words) (Fits : X → Type 0) (opens goes_on : Words → Bool) (ws : Words) (xs : List X) (left : Words) : Type 0 where
   pub words : ws ≡ flat_map spelled xs ++ left
-  pub each : AllByRecursion Fits xs
+  pub each : All Fits xs
   pub last : 0 < length xs → goes_on left ≡ false
   pub ends : opens left ≡ false
 
@@ -26,7 +26,7 @@ pub record FailsAfter {X : Type 0} (spelled : X → Words) (Fits : X → Type 0)
   pub done : List X
   pub left : Words
   pub words : ws ≡ flat_map spelled done ++ left
-  pub each : AllByRecursion Fits done
+  pub each : All Fits done
   pub begins : opens left ≡ true
   pub none : IsNoPiece spelled Fits goes_on left
 

@@ -1,6 +1,6 @@
 -- Rows in form, and what the words of rows say.
 use Rattle.std.specs.Prelude.{◌≡◌, ◌≢◌, ℕ, ◌<◌, ◌≤◌, ◌^◌, Bool, true, false, ◌&&◌, ◌==◌, nat_lt, nat_le, if◌then◌else◌, Option, Some, None, List, [], ◌∷◌, ◌++◌, length, codes, slice_get, option_map, option_and_then, unwrap_or, not}
-use Rattle.std.specs.List.{AllByRecursion, flat_map}
+use Rattle.std.specs.List.{All, flat_map}
 use Rattle.std.specs.Ordering.{is_lt}
 use Rattle.std.specs.Str.{bytes_eq}
 use Rattle.snap_core.specs.declared.policy.Atom.{Atom}
@@ -57,16 +57,16 @@ abbrev pub stands_apart : Turn → Turn → Bool
 stands_apart a b = not (a.at == b.at)
 
 abbrev pub IsOut : Counts → Parts → Type 0
-IsOut k o = AllByRecursion (IsPart k.comps) o × (is_adjacent part_less o ≡ true)
+IsOut k o = All (IsPart k.comps) o × (is_adjacent part_less o ≡ true)
 
 abbrev pub AreOuts : Counts → List Parts → Type 0
-AreOuts k os = AllByRecursion (IsOut k) os × (is_adjacent parts_less os ≡ true)
+AreOuts k os = All (IsOut k) os × (is_adjacent parts_less os ≡ true)
 
 abbrev pub IsStage : Counts → Turn → Type 0
-IsStage k s = (s.at < k.switches) × (0 < length s.ups) × AllByRecursion (IsUpdateOf k.comps k.arrays) s.ups
+IsStage k s = (s.at < k.switches) × (0 < length s.ups) × All (IsUpdateOf k.comps k.arrays) s.ups
 
 abbrev pub AreStages : Counts → List Turn → Type 0
-AreStages k ss = AllByRecursion (IsStage k) ss × (is_adjacent stands_apart ss ≡ true) × (length ss ≤ 65535)
+AreStages k ss = All (IsStage k) ss × (is_adjacent stands_apart ss ≡ true) × (length ss ≤ 65535)
 
 -- the rank of an array
 abbrev pub rank_among : List ArrayAt → ℕ → ℕ
@@ -78,7 +78,7 @@ rises_from ranked r [] = true
 rises_from ranked r (u ∷ us) = nat_le r (rank_among ranked u.var) && rises_from ranked (rank_among ranked u.var) us
 
 abbrev pub AreUpdates : Counts → List ArrayAt → List Update → Type 0
-AreUpdates k ranked us = AllByRecursion (IsUpdateOf k.comps k.arrays) us × (rises_from ranked 0 us ≡ true)
+AreUpdates k ranked us = All (IsUpdateOf k.comps k.arrays) us × (rises_from ranked 0 us ≡ true)
 
 -- a test other than the state test
 abbrev pub is_field_test : Test → Bool

@@ -2,7 +2,8 @@
 use Rattle.std.proofs.Common.{◌≡◌, ℕ, ◌≤◌, true, false, cond, List, [], ◌∷◌, ◌++◌, length, map, codes, find, not, Option, None, Some, Result, Ok, Err, option_map, refl, sym, ap, ◌∙◌, subst, arith, if◌then◌else◌, nat_lt, append_assoc, flat_map, bytes_eq}
 use Rattle.std.proofs.lemmas.Bool.{le-ltb, or_from}
 use Rattle.std.proofs.lemmas.Cmp.{nat_list_eq_equiv}
-use Rattle.std.specs.List.{AllByRecursion, IsDistinct}
+use Rattle.std.specs.List.{All, AllByRecursion, IsDistinct}
+use Rattle.std.proofs.lemmas.List.Elements.{All-tail}
 use Rattle.toml.specs.Data.{string, array, Items, item, Members, get_member}
 use Rattle.snap_topo.specs.Answer.{Which, Switches, Links, Ports, too_many, repeat_after, first_repeat, first_unknown, is_unknown, KnownThen, DifferentThen, WithinThen, SpelledThen, IsAnswer, IsTopologyOf}
 use Rattle.snap_topo.specs.Spells.{Topology, MOST_SWITCHES, MOST_LINKS, MOST_PORTS, AreNames, no_name, next_name, ArePairs, no_pair, next_pair, ArePorts, no_port, next_port, Holds, SpellsTopology, document, by_number, is_switch, ends, port_name}
@@ -67,9 +68,9 @@ repeats-none seen (name ∷ names) h =
     ap (λ b. cond b (Some name) (repeat_after (seen ++ name ∷ []) names)) (apart-before seen names name h)
     ∙ repeats-none (seen ++ name ∷ []) names (subst (λ (ns : List (List ℕ)). IsDistinct bytes_eq ns) (sym (append_assoc seen (name ∷ []) names)) h)
 
-known-none : (switches names : List (List ℕ)) → AllByRecursion (λ name. is_switch switches name ≡ true) names → find (is_unknown switches) names ≡ None
+known-none : (switches names : List (List ℕ)) → All (λ name. is_switch switches name ≡ true) names → find (is_unknown switches) names ≡ None
 known-none switches [] h = refl
-known-none switches (name ∷ names) h = ap (λ b. cond (not b) (Some name) (find (is_unknown switches) names)) h.0 ∙ known-none switches names h.1
+known-none switches (name ∷ names) h = ap (λ b. cond (not b) (Some name) (find (is_unknown switches) names)) (h 0 name (omega arith)) ∙ known-none switches names (All-tail (λ name. is_switch switches name ≡ true) name names h)
 
 abbrev answer : Topology → Result Topology TopoFault
 answer t = Ok t

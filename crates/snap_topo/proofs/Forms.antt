@@ -1,6 +1,6 @@
 -- What a listing of the right shape and known names is like, and that its topology is in form.
-use Rattle.std.proofs.Common.{append_assoc, codes, nat_lt, MatchResult, IfOk, ◌≡◌, ◌∙◌, ℕ, ◌+◌, ◌<◌, ◌≤◌, Bool, true, false, not, cond, ◌||◌, List, [], ◌∷◌, ◌++◌, length, map, find, Option, Some, None, Result, Ok, Err, IsTrue, refl, sym, ap, subst, arith, min, max, All, Contains, flat_map, nat_cmp, bytes_eq}
-use Rattle.std.specs.List.{AllByRecursion, IsDistinct}
+use Rattle.std.proofs.Common.{append_assoc, codes, nat_lt, MatchResult, IfOk, ◌≡◌, ◌∙◌, ℕ, ◌+◌, ◌<◌, ◌≤◌, Bool, true, false, not, cond, ◌||◌, List, [], ◌∷◌, ◌++◌, length, map, find, Option, Some, None, Result, Ok, Err, IsTrue, refl, sym, ap, subst, arith, min, max, All, Contains, flat_map, nat_cmp, bytes_eq, get_or}
+use Rattle.std.specs.List.{IsDistinct}
 use Rattle.std.specs.List.Sorted.{IsStrictlySortedBy}
 use Rattle.std.specs.Map.{keys_of}
 use Rattle.std.proofs.lemmas.Bool.{and_parts, false≢true, leb-true, ltb-false}
@@ -17,7 +17,7 @@ use Rattle.snap_core.specs.Names.{is_switch_name}
 use Rattle.snap_topo.specs.Form.{IsInForm, IsLink, IsPort}
 use Rattle.std.specs.Option.{option_or}
 use Rattle.std.proofs.lemmas.List.Folds.{find-append}
-use Rattle.std.proofs.lemmas.List.Elements.{All-nil, All-cons, All-head, All-tail, All-weaker, All-contains, All-contains_itself, All-from_recursion}
+use Rattle.std.proofs.lemmas.List.Elements.{All-nil, All-cons, All-head, All-tail, All-weaker, All-contains, All-contains_itself, All-map}
 use Rattle.snap_topo.proofs.Ports.{by_number-rise, by_number-keys}
 use Rattle.snap_topo.proofs.Shaped.{IsSwitches, IsPorts, InShape, switches_in-is, links_in-is, ports_in-is, in-shape}
 
@@ -49,8 +49,8 @@ Port = ℕ × List ℕ
 -- what a document of the right shape spells
 pub record IsShaped (s : Spelled) : Type 0 where
   pub some : 1 ≤ length s.switches
-  pub names : AllByRecursion (λ name. IsTrue (is_switch_name name)) s.switches
-  pub links : AllByRecursion (λ (link : List ℕ × List ℕ). bytes_eq link.0 link.1 ≡ false) s.links
+  pub names : All (λ name. IsTrue (is_switch_name name)) s.switches
+  pub links : All (λ (link : List ℕ × List ℕ). bytes_eq link.0 link.1 ≡ false) s.links
   pub ports : All (λ n. 1 ≤ n) (keys_of s.ports)
   pub ports_rise : IsStrictlySortedBy nat_cmp (keys_of s.ports)
 
@@ -61,17 +61,17 @@ number-test false m n one is = cc
 port_number-some : (text : List ℕ) (n : ℕ) → port_number text ≡ Some n → 1 ≤ n
 port_number-some text n is = number-test _ (digits_value 10 text) n (λ e. leb-true 1 (digits_value 10 text) (and_parts _ _ e).0) is
 
-names-hold : (items : Items) (names : List (List ℕ)) → AreNames items names → AllByRecursion (λ name. IsTrue (is_switch_name name)) names
-names-hold _ _ no_name = tt
-names-hold _ _ (next_name h k) = (h, names-hold _ _ k)
+names-hold : (items : Items) (names : List (List ℕ)) → AreNames items names → All (λ name. IsTrue (is_switch_name name)) names
+names-hold _ _ no_name = All-nil (λ name. IsTrue (is_switch_name name))
+names-hold _ _ (next_name {name = name} {names = names} h k) = All-cons (λ name. IsTrue (is_switch_name name)) name names h (names-hold _ names k)
 
-pairs-hold : (items : Items) (pairs : List (List ℕ × List ℕ)) → ArePairs items pairs → AllByRecursion Apart pairs
-pairs-hold _ _ no_pair = tt
-pairs-hold _ _ (next_pair h k apart more) = (apart, pairs-hold _ _ more)
+pairs-hold : (items : Items) (pairs : List (List ℕ × List ℕ)) → ArePairs items pairs → All Apart pairs
+pairs-hold _ _ no_pair = All-nil Apart
+pairs-hold _ _ (next_pair {a = a} {b = b} {pairs = pairs} h k apart more) = All-cons Apart (a, b) pairs apart (pairs-hold _ pairs more)
 
-ports-hold : (members : Members) (ports : List Port) → ArePorts members ports → AllByRecursion (λ (p : Port). 1 ≤ p.0) ports
-ports-hold _ _ no_port = tt
-ports-hold _ _ (next_port {key = key} {port = port} n h k) = (port_number-some key port n, ports-hold _ _ k)
+ports-hold : (members : Members) (ports : List Port) → ArePorts members ports → All (λ (p : Port). 1 ≤ p.0) ports
+ports-hold _ _ no_port = All-nil (λ (p : Port). 1 ≤ p.0)
+ports-hold _ _ (next_port {key = key} {name = name} {port = port} {ports = ports} n h k) = All-cons (λ (p : Port). 1 ≤ p.0) (port, name) ports (port_number-some key port n) (ports-hold _ ports k)
 
 pub shaped : (o : Option Members) (s : Spelled) → spelled o ≡ Ok s → IsShaped s
 shaped o s h =
@@ -96,20 +96,20 @@ find-step : (switches names : List (List ℕ)) (name : List ℕ) (b : Bool) → 
 find-step switches names name true is none = (is, none)
 find-step switches names name false is none = cc
 
-pub known-names : (switches names : List (List ℕ)) → find (is_unknown switches) names ≡ None → AllByRecursion (Known switches) names
-known-names switches [] none = tt
+pub known-names : (switches names : List (List ℕ)) → find (is_unknown switches) names ≡ None → All (Known switches) names
+known-names switches [] none = All-nil (Known switches)
 known-names switches (name ∷ names) none =
-    let parts = find-step switches names name (is_switch switches name) refl none in (parts.0, known-names switches names parts.1)
+    let parts = find-step switches names name (is_switch switches name) refl none in All-cons (Known switches) name names parts.0 (known-names switches names parts.1)
 
 abbrev KnownLink : List (List ℕ) → List ℕ × List ℕ → Type 0
 KnownLink switches link = Known switches link.0 × Known switches link.1
 
-known-links : (switches : List (List ℕ)) (links : List (List ℕ × List ℕ)) → find (is_unknown switches) (flat_map ends links) ≡ None → AllByRecursion (KnownLink switches) links
-known-links switches [] none = tt
+known-links : (switches : List (List ℕ)) (links : List (List ℕ × List ℕ)) → find (is_unknown switches) (flat_map ends links) ≡ None → All (KnownLink switches) links
+known-links switches [] none = All-nil (KnownLink switches)
 known-links switches (link ∷ links) none =
     let first = find-step switches (link.1 ∷ flat_map ends links) link.0 (is_switch switches link.0) refl none in
     let second = find-step switches (flat_map ends links) link.1 (is_switch switches link.1) refl first.1 in
-    ((first.0, second.0), known-links switches links second.1)
+    All-cons (KnownLink switches) link links (first.0, second.0) (known-links switches links second.1)
 
 -- the number of a known name is below the count
 number-step : (b : Bool) (p n : ℕ) → (b ≡ false → p < n) → cond (not b) (1 + p) 0 < 1 + n
@@ -152,16 +152,14 @@ link-numbered switches link apart known =
     is_link (number_of switches link.0) (number_of switches link.1) (length switches) (number_of-below switches link.0 known.0) (number_of-below switches link.1 known.1)
     (λ same. false≢true (sym apart ∙ number_of-same switches link.0 link.1 known.0 known.1 same))
 
-links-numbered : (switches : List (List ℕ)) (links : List (List ℕ × List ℕ)) → AllByRecursion Apart links → AllByRecursion (KnownLink switches) links → All (IsLink (length switches)) (map (numbered switches) links)
-links-numbered switches [] apart known = All-nil (IsLink (length switches))
-links-numbered switches (link ∷ links) apart known =
-    All-cons (IsLink (length switches)) (numbered switches link) (map (numbered switches) links) (link-numbered switches link apart.0 known.0) (links-numbered switches links apart.1 known.1)
+links-numbered : (switches : List (List ℕ)) (links : List (List ℕ × List ℕ)) → All Apart links → All (KnownLink switches) links → All (IsLink (length switches)) (map (numbered switches) links)
+links-numbered switches links apart known = All-map (IsLink (length switches)) (numbered switches) links (λ i d l. link-numbered switches (get_or links i d) (apart i d l) (known i d l))
 
-ports-numbered : (switches : List (List ℕ)) (ports : List Port) → All (λ n. 1 ≤ n) (keys_of ports) → AllByRecursion (Known switches) (map port_name ports) → All (IsPort (length switches)) (map (port_at switches) ports)
+ports-numbered : (switches : List (List ℕ)) (ports : List Port) → All (λ n. 1 ≤ n) (keys_of ports) → All (Known switches) (map port_name ports) → All (IsPort (length switches)) (map (port_at switches) ports)
 ports-numbered switches [] some known = All-nil (IsPort (length switches))
 ports-numbered switches (p ∷ ports) some known =
-    All-cons (IsPort (length switches)) (port_at switches p) (map (port_at switches) ports) (record { some = All-head (λ n. 1 ≤ n) p.0 (keys_of ports) some; below = number_of-below switches p.1 known.0 })
-    (ports-numbered switches ports (All-tail (λ n. 1 ≤ n) p.0 (keys_of ports) some) known.1)
+    All-cons (IsPort (length switches)) (port_at switches p) (map (port_at switches) ports) (record { some = All-head (λ n. 1 ≤ n) p.0 (keys_of ports) some; below = number_of-below switches p.1 (known 0 p.1 (omega arith)) })
+    (ports-numbered switches ports (All-tail (λ n. 1 ≤ n) p.0 (keys_of ports) some) (All-tail (Known switches) p.1 (map port_name ports) known))
 
 ports-keys : (switches : List (List ℕ)) (ports : List Port) → map (λ (p : PortAt). p.port) (map (port_at switches) ports) ≡ keys_of ports
 ports-keys switches [] = refl
@@ -219,11 +217,10 @@ form s t shape a fewer =
     let ports_count : length t.ports ≡ length s.ports = ap (λ (ps : List PortAt). length ps) is.ports ∙ length-map s.ports (port_at s.switches) in
     let links = all-within (IsLink (length s.switches)) t.links (map (numbered s.switches) s.links) (λ link. (is.links link).0) (links-numbered s.switches s.links shape.links (known-links s.switches s.links split.0)) in
     let ports = ports-numbered s.switches s.ports shape.ports (known-names s.switches (map port_name s.ports) split.1) in
-    let names = All-from_recursion (λ name. IsTrue (is_switch_name name)) s.switches shape.names in
     record {
       some = omega (arith, shape.some);
       switches = omega arith;
-      names = subst (λ (ns : List (List ℕ)). All (λ name. IsTrue (is_switch_name name)) ns) (sym is.switches) names;
+      names = subst (λ (ns : List (List ℕ)). All (λ name. IsTrue (is_switch_name name)) ns) (sym is.switches) shape.names;
       different = subst (λ (ns : List (List ℕ)). IsDistinct bytes_eq ns) (sym is.switches) (different s.switches a.apart);
       links = subst (λ (n : ℕ). All (IsLink n) t.links) (sym count) links;
       links_rise = is.links_rise;

@@ -7,7 +7,7 @@ use Rattle.std.specs.BTreeMap.{insert_entry}
 use Rattle.std.specs.Ordering.{match_ordering}
 use Rattle.std.specs.Cmp.{nat_cmp_is}
 use Rattle.std.proofs.lemmas.Cmp.{by_ranked, ranked}
-use Rattle.std.proofs.lemmas.List.Elements.{All-nil, All-from_recursion, recursion_from_All, All-weaker}
+use Rattle.std.proofs.lemmas.List.Elements.{All-nil, All-from_recursion, recursion_from_All, All-weaker, All-tail}
 use Rattle.std.proofs.lemmas.Map.Views.{All-keys-insert_entry}
 use Rattle.snap_topo.specs.Spells.{put_port, by_number}
 
@@ -47,9 +47,9 @@ pub by_number-rise : (ps : List (ℕ × List ℕ)) → IsStrictlySortedBy nat_cm
 unfolding IsStrictlySortedBy
 by_number-rise ps = fold-rise [] ps tt
 
-fold-keys : (P : ℕ → Type 0) (so_far ps : List Port) → All P (keys_of so_far) → AllByRecursion (λ (p : Port). P p.0) ps → All P (keys_of (fold put_port so_far ps))
+fold-keys : (P : ℕ → Type 0) (so_far ps : List Port) → All P (keys_of so_far) → All (λ (p : Port). P p.0) ps → All P (keys_of (fold put_port so_far ps))
 fold-keys P so_far [] all more = all
-fold-keys P so_far (p ∷ ps) all more = fold-keys P (put_port so_far p) ps (All-keys-insert_entry nat_cmp p.0 p.1 P so_far all more.0) more.1
+fold-keys P so_far (p ∷ ps) all more = fold-keys P (put_port so_far p) ps (All-keys-insert_entry nat_cmp p.0 p.1 P so_far all (more 0 p (omega arith))) (All-tail (λ (p : Port). P p.0) p ps more)
 
-pub by_number-keys : (P : ℕ → Type 0) (ps : List (ℕ × List ℕ)) → AllByRecursion (λ (p : ℕ × List ℕ). P p.0) ps → All P (keys_of (by_number ps))
+pub by_number-keys : (P : ℕ → Type 0) (ps : List (ℕ × List ℕ)) → All (λ (p : ℕ × List ℕ). P p.0) ps → All P (keys_of (by_number ps))
 by_number-keys P ps all = fold-keys P [] ps (All-nil P) all

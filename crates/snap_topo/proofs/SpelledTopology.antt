@@ -1,6 +1,6 @@
 -- What a text is answered is the topology that `Spells` says.
 use Rattle.std.proofs.Common.{◌≡◌, ℕ, ◌≤◌, true, List, ◌++◌, length, map, codes, Result, Ok, Err, refl, sym, ap, ◌∙◌, subst, ◌↔◌, Contains, flat_map, bytes_eq}
-use Rattle.std.specs.List.{AllByRecursion, IsDistinct}
+use Rattle.std.specs.List.{All, IsDistinct}
 use Rattle.toml.specs.Data.{get_member}
 use Rattle.snap_topo.specs.Answer.{too_many, WithinThen, SpelledThen, IsAnswer}
 use Rattle.snap_topo.specs.Spells.{Topology, MOST_SWITCHES, MOST_PORTS, AreNames, SpellsTopology, document, by_number, is_switch, numbered, port_at, ends, port_name}
@@ -36,8 +36,8 @@ SpellsTopology-answer text t short h =
       holds = record { keys = shape.keys; names = x.items; links = y.0; numbers = z.members; names_at = x.at; links_at = y.1; numbers_at = z.at; are_names = subst (AreNames x.items) same x.are; are_pairs = y.2; are_ports = z.are };
       some = subst (λ ns. 1 ≤ length ns) same x.some;
       different = subst (λ ns. IsDistinct bytes_eq ns) same (different s.switches b.apart);
-      known = subst (λ ns. AllByRecursion (λ name. is_switch ns name ≡ true) (flat_map ends s.links ++ map port_name (by_number z.ports))) same
-          (subst (λ ps. AllByRecursion (λ name. is_switch s.switches name ≡ true) (flat_map ends s.links ++ map port_name ps)) z.by (known-names s.switches (flat_map ends s.links ++ map port_name s.ports) b.known));
+      known = subst (λ ns. All (λ name. is_switch ns name ≡ true) (flat_map ends s.links ++ map port_name (by_number z.ports))) same
+          (subst (λ ps. All (λ name. is_switch s.switches name ≡ true) (flat_map ends s.links ++ map port_name ps)) z.by (known-names s.switches (flat_map ends s.links ++ map port_name s.ports) b.known));
       few_switches = subst (λ ns. length ns ≤ MOST_SWITCHES) same limits.switches;
       few_links = limits.links;
       few_ports = subst (λ ps. length ps ≤ MOST_PORTS) z.by limits.ports;

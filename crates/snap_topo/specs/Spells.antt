@@ -1,6 +1,6 @@
 -- Which topology a text spells: its document has three keys, and what they hold. Nothing is said here of faults and their order.
 use Rattle.std.specs.Prelude.{◌≡◌, ◌↔◌, ℕ, ◌≤◌, true, false, List, [], ◌∷◌, ◌++◌, length, map, codes, Some, Contains, Option, None, if◌then◌else◌, Bool, ◌+◌, ◌&&◌, ◌==◌, is_some, fold, nat_le, nat_lt, ◌^◌, decimal, min, max}
-use Rattle.std.specs.List.{AllByRecursion, IsDistinct, flat_map, list_any, position_or_len}
+use Rattle.std.specs.List.{All, IsDistinct, flat_map, list_any, position_or_len}
 use Rattle.std.specs.List.Sorted.{IsStrictlySortedBy}
 use Rattle.std.specs.Str.{bytes_eq, is_utf8}
 use Rattle.std.specs.Ordering.{nat_cmp, ordering_then}
@@ -102,7 +102,7 @@ pub record SpellsTopology (text : List ℕ) (t : Topology) : Type 0 where
   pub holds : Holds toml t.switches pairs ports
   pub some : 1 ≤ length t.switches
   pub different : IsDistinct bytes_eq t.switches
-  pub known : AllByRecursion (λ name. is_switch t.switches name ≡ true) (flat_map ends pairs ++ map port_name (by_number ports))
+  pub known : All (λ name. is_switch t.switches name ≡ true) (flat_map ends pairs ++ map port_name (by_number ports))
   pub few_switches : length t.switches ≤ MOST_SWITCHES
   pub few_links : length pairs ≤ MOST_LINKS
   pub few_ports : length (by_number ports) ≤ MOST_PORTS

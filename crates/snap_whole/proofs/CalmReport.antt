@@ -6,12 +6,13 @@ use Rattle.snap_core.specs.Arrays.{zero_arrays}
 use Rattle.snap_topo.specs.declared.topology.Topology.{Topology}
 use Rattle.snap_rows.specs.declared.tables.Tables.{Tables}
 use Rattle.snap_rows.specs.Network.{Event, Happening, Net, RunsCalmly, packets_of, start}
+use Rattle.snap_rows.proofs.Runs.{calm-run}
 use Rattle.snap_gen.specs.Agreement.{Agrees, numbered}
 use Rattle.snap_gen.specs.Faithful.{Faithful, IsPacketOf, packets_in}
 use Rattle.snap_runs.specs.Plain.{entering, IsPlainReport}
 use Rattle.snap_runs.specs.Reports.{IsRunReport}
 use Rattle.snap_whole.specs.OneSwitch.{IsSwitchReport, ports_of}
-use Rattle.snap_whole.proofs.Entered.{no_numbers, entering-packets, entering-fits, calm_run, all_enter}
+use Rattle.snap_whole.proofs.Entered.{no_numbers, entering-packets, entering-fits, all_enter}
 use Rattle.snap_whole.proofs.InOrder.{agrees_report}
 
 -- a calm run of packets of the program agrees with one big switch
@@ -20,7 +21,7 @@ pub calm_agrees : (p : Program) (topology : Topology) (places : List ℕ) (t : T
     → Agrees p t zero_arrays ks (numbered ks) s hs
 calm_agrees p topology places t faithful ks packets es s hs enter run none =
     let fits = subst (All (λ (e : ℕ × List ℕ). IsPacketOf p e.1)) (sym enter) (entering-fits p ks packets) in
-    let agrees = faithful.calm_runs zero_arrays es s hs (no_numbers p) (all_enter t p fits (calm_run t run)) run none in
+    let agrees = faithful.calm_runs zero_arrays es s hs (no_numbers p) (all_enter t p fits (calm-run run)) run none in
     let same : packets_in (packets_of es) ≡ ks = ap packets_in enter ∙ entering-packets ks in
     subst (λ l. Agrees p t zero_arrays l (numbered l) s hs) same agrees
 

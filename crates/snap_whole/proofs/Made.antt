@@ -1,16 +1,13 @@
 -- One big switch makes a set of each packet, and packets have numbers.
-use Rattle.std.proofs.Common.{◌≡◌, ℕ, zero, suc, ◌+◌, ◌<◌, List, [], ◌∷◌, length, Option, Some, None, refl, ap, ◌∙◌, arith}
+use Rattle.std.proofs.Common.{◌≡◌, ℕ, zero, suc, ◌+◌, ◌<◌, List, [], ◌∷◌, length, Some, ap, ◌∙◌, arith}
 use Rattle.std.specs.Prelude.{slice_get, option_map}
 use Rattle.std.specs.List.{range_with_len}
-use Rattle.std.proofs.lemmas.Option.{none-some, same_Some, option_and_then_some}
+use Rattle.std.proofs.lemmas.Option.{same_Some, option_and_then_some}
 use Rattle.snap_core.specs.declared.policy.Pol.{Pol}
 use Rattle.snap_core.specs.Arrays.{Arrays}
 use Rattle.snap_core.specs.Meaning.{eval}
 use Rattle.snap_core.specs.Switch.{Switched, one_big_switch}
-
-mapped : {X Y : Type 0} (f : X → Y) (o : Option X) (y : Y) → option_map f o ≡ Some y → (x : X) × (o ≡ Some x) × (f x ≡ y)
-mapped f None y is = absurd (none-some y is)
-mapped f (Some x) y is = (x, refl, same_Some _ y is)
+use Rattle.snap_runs.proofs.SpelledPackets.{mapped}
 
 pub as_many : (p : Pol) (m : Arrays) (ks : List (List ℕ)) (made : Switched) → one_big_switch p m ks ≡ Some made → length ks ≡ length made.packets
 as_many p m [] made e = ap (λ (s : Switched). length s.packets) (same_Some _ made e)

@@ -1,7 +1,8 @@
 -- Copies of faithful tables make few hops.
-use Rattle.std.proofs.Common.{◌≡◌, ℕ, ◌+◌, ◌≤◌, List, [], ◌∷◌, ◌++◌, length, take, drop, sym, subst, append_assoc}
+use Rattle.std.proofs.Common.{◌≡◌, ℕ, ◌+◌, ◌≤◌, List, [], ◌∷◌, ◌++◌, length, take, drop, sym, subst}
 use Rattle.std.specs.List.{All}
 use Rattle.std.proofs.lemmas.List.Elements.{All-nil, All-cons, All-head, All-tail, All-append}
+use Rattle.snap_core.proofs.Elements.{All-back}
 use Rattle.snap_core.specs.declared.program.Program.{Program}
 use Rattle.snap_core.specs.Arrays.{Arrays, zero_arrays}
 use Rattle.snap_dep.specs.Ranks.{IsRank}
@@ -11,20 +12,11 @@ use Rattle.snap_rows.specs.declared.tables.Tables.{Tables}
 use Rattle.snap_rows.specs.Actions.{Action, Forward, Deliver, Fork}
 use Rattle.snap_rows.specs.Network.{Copy, Event, Inject, Step, Happening, IsPlainRun, Leads, inject, step, happening, stepped, Net, Run, Runs, done, on, packets_of}
 use Rattle.snap_rows.proofs.Rows.{All-get}
+use Rattle.snap_rows.proofs.Runs.{calm-run, runs-then}
 use Rattle.snap_gen.specs.Faithful.{Faithful, IsPacketOf, IsStoreOf, IsWithin, most_hops}
 use Rattle.snap_runs.specs.Plain.{entering}
 use Rattle.snap_whole.specs.Laws.{IsHopWithin}
-use Rattle.snap_whole.proofs.Entered.{IsOfProgram, no_numbers, entering-fits, calm_run, all_enter}
-
--- one run behind another
-behind : {t : Tables} {s s' s'' : Net} {es es' : List Event} {hs hs' : List Happening} → Runs t s es s' hs → Runs t s' es' s'' hs' → Runs t s (es ++ es') s'' (hs ++ hs')
-behind done more = more
-behind {t = t} {s = s} {s'' = s''} {es' = es'} {hs' = hs'} (on {e = e} {es = es} {h = h} {hs = hs} leads onward) more =
-    subst (λ x. Runs t s (e ∷ (es ++ es')) s'' x) (sym (append_assoc h hs hs')) (on leads (behind onward more))
-
-pub last_part : {X : Type 0} (P : X → Type 0) (xs ys : List X) → All P (xs ++ ys) → All P ys
-last_part P [] ys all = all
-last_part P (x ∷ xs) ys all = last_part P xs ys (All-tail P x (xs ++ ys) all)
+use Rattle.snap_whole.proofs.Entered.{IsOfProgram, no_numbers, entering-fits, all_enter}
 
 module _ (p : Program) where
   -- an event that lets a packet in lets one of the program in
@@ -57,7 +49,7 @@ module _ (most : ℕ) where
       by : (a : Action) → All IsNear (stepped s i c m a).flying → IsHopWithin most (happening c a)
       by (Forward to head) near =
           let moved : Copy = record c { at = to; head = head; hops = c.hops + 1; steps = c.steps + 1 } in
-          (All-head IsNear moved (drop (i + 1) s.flying) (last_part IsNear (take i s.flying) (moved ∷ drop (i + 1) s.flying) near)).0
+          (All-head IsNear moved (drop (i + 1) s.flying) (All-back IsNear (take i s.flying) (moved ∷ drop (i + 1) s.flying) near)).0
       by (Deliver port) near = here
       by (Fork copies lost) near = here
 
@@ -73,11 +65,11 @@ module _ (p : Program) (topology : Topology) (places : List ℕ) (t : Tables) (f
   from_here : {s s' : Net} {es : List Event} {hs : List Happening} (first : List Event) (happened : List Happening) → All (Fits p) first → All (Fits p) es → Run t m first s happened → Runs t s es s' hs → All (IsHopWithin most) hs
   from_here first happened fits later run done = All-nil (IsHopWithin most)
   from_here first happened fits later run (on {s = s} {s' = s1} {e = e} {es = es} {h = h} {hs = hs} leads onward) =
-      let more : Run t m (first ++ e ∷ []) s1 (happened ++ (h ++ [])) = behind run (on leads done) in
+      let more : Run t m (first ++ e ∷ []) s1 (happened ++ h) = runs-then e s1 h run leads in
       let all : All (Fits p) (first ++ e ∷ []) = All-append (Fits p) first (e ∷ []) fits (All-cons (Fits p) e [] (All-head (Fits p) e es later) (All-nil (Fits p))) in
       All-append (IsHopWithin most) h hs
-      (one_hop most (within first s happened fits run).flying (within (first ++ e ∷ []) s1 (happened ++ (h ++ [])) all more).flying leads)
-      (from_here (first ++ e ∷ []) (happened ++ (h ++ [])) all (All-tail (Fits p) e es later) more onward)
+      (one_hop most (within first s happened fits run).flying (within (first ++ e ∷ []) s1 (happened ++ h) all more).flying leads)
+      (from_here (first ++ e ∷ []) (happened ++ h) all (All-tail (Fits p) e es later) more onward)
 
   -- from each store
   pub short_from : (es : List Event) (s : Net) (hs : List Happening) → All (IsOfProgram p) (packets_of es) → Run t m es s hs → All (IsHopWithin (most_hops t.version (length order) d)) hs
@@ -90,4 +82,4 @@ module _ (p : Program) (topology : Topology) (places : List ℕ) (t : Tables) (f
       short_from p topology places t faithful order d rank greatest zero_arrays (no_numbers p) es s hs (subst (All (IsOfProgram p)) (sym enter) (entering-fits p ks packets)) run
 
   pub short_plain : (ks : List (List ℕ)) → All (IsPacketOf p) ks → (es : List Event) (s : Net) (hs : List Happening) → IsPlainRun t zero_arrays (entering ks) es s hs → All (IsHopWithin (most_hops t.version (length order) d)) hs
-  short_plain ks packets es s hs plain = short_runs ks packets es s hs plain.packets (calm_run t plain.run)
+  short_plain ks packets es s hs plain = short_runs ks packets es s hs plain.packets (calm-run plain.run)

@@ -2,19 +2,19 @@
 use Rattle.std.proofs.Common.{◌≡◌, ◌<◌, ◌++◌, ◌∷◌, [], false, true, sym, ap, subst, ◌∙◌, arith, bit_or, rules}
 use Rattle.std.specs.Prelude.{All, not}
 use Rattle.std.proofs.lemmas.Result.{IfOk-weaker}
+use Rattle.std.proofs.lemmas.Nat.{pow_below}
 use Rattle.snap_core.specs.declared.policy.Pred.{size-Pred, the_lemmas}
 use Rattle.snap_core.specs.Meaning.{truth, vars_of}
 use Rattle.snap_fdd.specs.Picks.{sizes}
 use Rattle.snap_build.specs.Chains.{AreLinks, IsLink, IsSplit, joined}
 use Rattle.snap_build.specs.Parts.{PredIn}
 use Rattle.snap_build.proofs.Chained.{chain_told, one_link, own_kept, own_link, pair_told, pushed_all, pushed_links, true_link, turned_told}
-use Rattle.snap_build.proofs.Doing.{bit_below}
 use Rattle.snap_build.proofs.predicates.+link.Goals as goal
 
 pub link-tested-requires-in-State-clause-reads : goal.link-tested-requires-in-State-clause-reads
 link-tested-requires-in-State-clause-reads t c =
     let h = subst (PredIn (sizes c.args.groups.now c.args.ctx.now)) c.in-State.is c.requires in
-    rw c.bit.ensures (bit_below c.in-State.var _ h.0)
+    rw c.bit.ensures (pow_below c.in-State.var _ h.0)
 
 pub link-turned-requires : goal.link-turned-requires
 link-turned-requires t c = own_link c.args.groups.now c.args.ctx.now _ _ c.link.new.nodes c.in_ok-part-in-Not.part c.in_ok-part-in-Not.ensures.link

@@ -1,5 +1,4 @@
 -- The update that writes the place.
-use Rattle.std.proofs.Common.{◌≡◌}
 use Rattle.snap_equal.proofs.Overwriting.{lost}
 use Rattle.snap_equal.proofs.overwritten.is_overwritten.Goals as goal
 

@@ -1,12 +1,11 @@
 -- One answer of a test.
 use Rattle.std.proofs.Common.{ℕ, List, subst}
+use Rattle.std.proofs.lemmas.Result.{IfOk-weaker}
 use Rattle.snap_core.specs.Arrays.{Arrays}
 use Rattle.snap_ctx.specs.Answers.{IsAssumed}
 use Rattle.snap_equal.specs.declared.comparing.Compared.TheVariants.{Same}
 use Rattle.snap_equal.specs.Leaves.{LeavesDoSame}
-use Rattle.snap_equal.specs.Told.{On, Where}
 use Rattle.snap_equal.proofs.Answering.{nowhere, under_more}
-use Rattle.snap_equal.proofs.Alike.{if_so}
 use Rattle.snap_equal.proofs.sure.+leaves_same.Goals as goal
 
 pub leaves_same_where-returns-in-Impossible : goal.leaves_same_where-returns-in-Impossible
@@ -16,5 +15,5 @@ leaves_same_where-returns-in-Impossible t c = λ e.
 pub leaves_same_where-returns-in-More : goal.leaves_same_where-returns-in-More
 leaves_same_where-returns-in-More t c =
     let P : Arrays → List ℕ → Type 0 = LeavesDoSame c.args.left.now c.args.right.now in
-    if_so (On c.in-More.more P) (On c.args.ctx.now (Where c.args.test.now c.args.yes P)) c.leaves_same.result
-    (under_more c.args.ctx.now c.args.vars c.args.test.now c.args.yes P c.in-More.more (subst (IsAssumed c.args.ctx.now c.args.test.now c.args.yes) c.in-More.is c.in_ok-assume.ensures) Same) c.leaves_same.ensures
+    IfOk-weaker c.leaves_same.result _ _ (λ yes h e. under_more c.args.ctx.now c.args.vars c.args.test.now c.args.yes P c.in-More.more
+    (subst (IsAssumed c.args.ctx.now c.args.test.now c.args.yes) c.in-More.is c.in_ok-assume.ensures) Same (h e)) c.leaves_same.ensures

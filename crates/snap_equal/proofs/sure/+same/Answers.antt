@@ -1,6 +1,7 @@
 -- One answer of a test, and fewer facts.
 use Rattle.std.proofs.Common.{◌∷◌, arith, ℕ, List, length, sym, ap, ◌∙◌, subst}
 use Rattle.std.specs.Prelude.{IfSome, OnOk}
+use Rattle.std.proofs.lemmas.Result.{IfOk-weaker}
 use Rattle.snap_core.specs.Arrays.{Arrays}
 use Rattle.snap_ctx.specs.declared.fact.Fact.{Fact}
 use Rattle.snap_ctx.specs.Answers.{IsAssumed}
@@ -9,10 +10,9 @@ use Rattle.snap_fdd.specs.Diagrams.{diagram}
 use Rattle.snap_equal.specs.declared.comparing.Compared.TheVariants.{Same}
 use Rattle.snap_equal.specs.Inputs.{IsComparable}
 use Rattle.snap_equal.specs.Leaves.{ArePairsKnown, ArePairsMet, AreRemembered, DiagramsDoSame, PairMet}
-use Rattle.snap_equal.specs.Told.{On, Where}
 use Rattle.snap_equal.specs.Weaker.{IsWeaker, facts_code}
 use Rattle.snap_equal.proofs.Answering.{nowhere, under_more}
-use Rattle.snap_equal.proofs.Alike.{if_so, pair_met, under_weaker}
+use Rattle.snap_equal.proofs.Alike.{pair_met, under_weaker}
 use Rattle.snap_equal.proofs.sure.+same.Goals as goal
 
 pub same_where-returns-in-Impossible : goal.same_where-returns-in-Impossible
@@ -27,8 +27,7 @@ same_where-returns-in-More t c =
     let a = subst (IsAssumed c.args.ctx.now c.args.test.now c.args.yes) c.in-More.is c.in_ok-assume.ensures in
     let P : Arrays → List ℕ → Type 0 = DiagramsDoSame (diagram c.args.left.now c.args.first) (diagram c.args.right.now c.args.second) in
     record {
-      same = if_so (On c.in-More.more P) (On c.args.ctx.now (Where c.args.test.now c.args.yes P)) c.same.result
-          (under_more c.args.ctx.now c.args.vars c.args.test.now c.args.yes P c.in-More.more a Same) c.same.ensures.same;
+      same = IfOk-weaker c.same.result _ _ (λ yes h e. under_more c.args.ctx.now c.args.vars c.args.test.now c.args.yes P c.in-More.more a Same (h e)) c.same.ensures.same;
       memos = subst (λ n. OnOk c.same.result (AreRemembered n c.args.left.now c.args.right.now c.same.new.memos)) a.1 c.same.ensures.memos;
     }
 
@@ -68,7 +67,7 @@ pub same-returns-in-Some-clause-same : goal.same-returns-in-Some-clause-same
 same-returns-in-Some-clause-same t c =
     let is : IsWeaker c.args.ctx.now c.in-Some.weak = subst (λ o. IfSome o (IsWeaker c.args.ctx.now)) c.in-Some.is c.in_ok-weaker.ensures in
     let P : Arrays → List ℕ → Type 0 = DiagramsDoSame (diagram c.args.left.now c.args.first) (diagram c.args.right.now c.args.second) in
-    if_so (On c.in-Some.weak P) (On c.args.ctx.now P) c.same_met.result (under_weaker c.args.ctx.now c.in-Some.weak P is) c.same_met.ensures.same
+    IfOk-weaker c.same_met.result _ _ (λ yes h e. under_weaker c.args.ctx.now c.in-Some.weak P is (h e)) c.same_met.ensures.same
 
 -- ---- what is found is remembered
 pub same_met-returns-clause-memos : goal.same_met-returns-clause-memos

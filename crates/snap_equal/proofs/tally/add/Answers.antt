@@ -5,7 +5,8 @@ use Rattle.snap_core.specs.declared.place.Place.{Place}
 use Rattle.snap_core.specs.declared.policy.Update.{Update}
 use Rattle.snap_core.specs.Arrays.{place_at, same_place}
 use Rattle.snap_ctx.specs.Classes.{wrap}
-use Rattle.snap_equal.specs.Tally.{plus, total}
+use Rattle.snap_chain.specs.Additions.{added_up}
+use Rattle.snap_equal.specs.Tally.{total}
 use Rattle.snap_equal.proofs.Adding.{total-push, total-set}
 use Rattle.snap_equal.proofs.tally.add.Goals as goal
 
@@ -15,8 +16,8 @@ returns-in-Some-clause-total c = λ m k i q.
     let d : Update = c.index_mut.result.now in
     let at : Update = get_or us c.in-Some.i d in
     let below : c.in-Some.i < length us = subst (λ (xs : List Update). c.in-Some.i < length xs) c.deref.ensures.value c.in-Some.ensures.below in
-    let op : c.plus.result ≡ plus at.op c.args.num = c.plus.ensures ∙ ap (λ (u : Update). plus u.op c.args.num) (c.index.ensures ∙ get_or_default us c.in-Some.i c.index.result.now d below) in
-    let grown : record { var = d.var; index = d.index; op = c.plus.result } ≡ record at { op = plus at.op c.args.num } =
+    let op : c.plus.result ≡ added_up at.op c.args.num = c.plus.ensures ∙ ap (λ (u : Update). added_up u.op c.args.num) (c.index.ensures ∙ get_or_default us c.in-Some.i c.index.result.now d below) in
+    let grown : record { var = d.var; index = d.index; op = c.plus.result } ≡ record at { op = added_up at.op c.args.num } =
     λ j. record { var = (c.index_mut.ensures.value j).var; index = (c.index_mut.ensures.value j).index; op = op j } in
     let place : place_at at.var at.index k ≡ place_at c.args.update.now.var c.args.update.now.index k =
     subst (λ (xs : List Update). place_at (get_or xs c.in-Some.i d).var (get_or xs c.in-Some.i d).index k ≡ place_at c.args.update.now.var c.args.update.now.index k) c.deref.ensures.value (c.in-Some.ensures.place d m k i) in

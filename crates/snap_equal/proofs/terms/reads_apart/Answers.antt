@@ -2,7 +2,7 @@
 use Rattle.std.proofs.Common.{ℕ, length, sym, ap, ◌∙◌}
 use Rattle.snap_core.specs.declared.policy.Term.{Term}
 use Rattle.snap_core.specs.Tests.{term_value}
-use Rattle.snap_equal.proofs.TermTests.{term_of-value}
+use Rattle.snap_chain.proofs.Values.{term_of-value}
 use Rattle.snap_equal.proofs.terms.reads_apart.Goals as goal
 
 pub returns : goal.returns
@@ -11,8 +11,8 @@ returns c = λ e m k i same.
     c.are_other_numbers.ensures e k
     (c.read.ensures.value m k i
     ∙ ap value c.term_of.ensures
-    ∙ term_of-value (length c.args.ctx.now.classes) c.args.left k c.requires.left i.packet
+    ∙ term_of-value (length c.args.ctx.now.classes) c.args.left k i.packet c.requires.left
     ∙ same
-    ∙ sym (term_of-value (length c.args.ctx.now.classes) c.args.right k c.requires.right i.packet)
+    ∙ sym (term_of-value (length c.args.ctx.now.classes) c.args.right k i.packet c.requires.right)
     ∙ sym (ap value c.term_of-2.ensures)
     ∙ sym (c.read-2.ensures.value m k i))

@@ -2,16 +2,16 @@
 use Rattle.std.proofs.Common.{ℕ, length, sym, ap, ◌∙◌}
 use Rattle.snap_core.specs.declared.policy.Term.{Term}
 use Rattle.snap_core.specs.Tests.{term_value}
-use Rattle.snap_equal.proofs.TermTests.{term_of-value}
+use Rattle.snap_chain.proofs.Values.{term_of-value}
 use Rattle.snap_equal.proofs.terms.reads_same.Goals as goal
 
 pub returns : goal.returns
 returns c = λ e m k i.
     let value : Term → ℕ = λ t. term_value t k in
-    sym (term_of-value (length c.args.ctx.now.classes) c.args.left k c.requires.left i.packet)
+    sym (term_of-value (length c.args.ctx.now.classes) c.args.left k i.packet c.requires.left)
     ∙ sym (ap value c.term_of.ensures)
     ∙ sym (c.read.ensures.value m k i)
     ∙ ap value (c.are_spelled_same.ensures.0 e)
     ∙ c.read-2.ensures.value m k i
     ∙ ap value c.term_of-2.ensures
-    ∙ term_of-value (length c.args.ctx.now.classes) c.args.right k c.requires.right i.packet
+    ∙ term_of-value (length c.args.ctx.now.classes) c.args.right k i.packet c.requires.right

@@ -1,8 +1,7 @@
 -- The fact goes behind those that stay, or those that go.
 use Rattle.std.proofs.Common.{◌≡◌, ◌++◌, ◌∷◌, [], List, ap, subst, sym, ◌∙◌}
-use Rattle.std.specs.List.{AllByRecursion}
+use Rattle.std.proofs.lemmas.List.Elements.{All-push, All-same}
 use Rattle.snap_ctx.specs.declared.fact.Fact.{Fact}
-use Rattle.snap_ctx.proofs.Each.{Each-append}
 use Rattle.snap_fdd.specs.Forgotten.{AreDealt, IsDone}
 use Rattle.snap_fdd.proofs.Forgotten.{dealt_gone, dealt_stay}
 use Rattle.snap_fdd.proofs.forgetting.deal.Goals as goal
@@ -11,7 +10,7 @@ pub returns-then-is_done-clause-done : goal.returns-then-is_done-clause-done
 returns-then-is_done-clause-done c =
     let P : Fact → Type 0 = IsDone c.args.groups.now.ranks c.args.ctx.now.classes c.args.mark c.args.test.now in
     let added : c.push.new.self.items ≡ c.args.gone.now.items ++ c.args.fact.now ∷ [] = c.in_ok-push.ensures.items ∙ ap (λ (f : Fact). c.args.gone.now.items ++ f ∷ []) c.in_ok-copy.ensures in
-    subst (AllByRecursion P) (sym added) (Each-append P c.args.gone.now.items (c.args.fact.now ∷ []) c.requires.done (c.is_done.ensures c.if-is_done.true, tt))
+    All-same P c.push.new.self.items (c.args.gone.now.items ++ c.args.fact.now ∷ []) added (All-push P c.args.gone.now.items c.args.fact.now c.requires.done (c.is_done.ensures c.if-is_done.true))
 
 pub returns-then-is_done-clause-dealt : goal.returns-then-is_done-clause-dealt
 returns-then-is_done-clause-dealt c left others facts e h =

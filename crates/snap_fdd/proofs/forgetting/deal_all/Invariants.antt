@@ -1,10 +1,10 @@
 -- Those left are to be dealt out.
-use Rattle.std.specs.List.{AllByRecursion}
+use Rattle.std.specs.List.{All}
 use Rattle.snap_fdd.specs.Forgotten.{AreDealt, IsDone}
 use Rattle.snap_fdd.proofs.forgetting.deal_all.Given as goal
 
 abbrev pub invariant-loop-fact : goal.invariant-loop-fact
 invariant-loop-fact l = record {
-  done : AllByRecursion (IsDone l.groups.ranks l.ctx.classes l.mark l.test) l.gone.items;
+  done : All (IsDone l.groups.ranks l.ctx.classes l.mark l.test) l.gone.items;
   dealt : AreDealt l.fact-iterator.left.now l.ctx.facts l.stay.items l.gone.items;
 }

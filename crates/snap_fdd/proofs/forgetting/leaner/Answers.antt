@@ -1,9 +1,9 @@
 -- Those that go are done, and so plain.
 use Rattle.std.proofs.Common.{List, subst, sym}
-use Rattle.std.specs.List.{AllByRecursion}
+use Rattle.std.specs.List.{All}
+use Rattle.std.proofs.lemmas.List.Elements.{All-weaker}
 use Rattle.snap_ctx.specs.declared.fact.Fact.{Fact}
 use Rattle.snap_ctx.specs.Lean.{IsBeside, IsLean, IsPlain}
-use Rattle.snap_ctx.proofs.Each.{Each-weaker}
 use Rattle.snap_fdd.specs.Forgotten.{IsDone}
 use Rattle.snap_fdd.proofs.forgetting.leaner.Goals as goal
 use Rattle.snap_fdd.proofs.forgetting.leaner.Goals.{Else-not-are_beside}
@@ -14,9 +14,9 @@ lean c =
     let P : Fact → Type 0 = IsDone c.args.groups.now.ranks c.args.ctx.now.classes c.args.mark c.args.test.now in
     record {
       parted = c.in_ok-deal_all.ensures.parted;
-      plain = Each-weaker P (λ f. IsPlain f.test) (λ f h. h.0) gone c.in_ok-deal_all.ensures.done;
-      beside = subst (λ (fs : List Fact). AllByRecursion (λ f. AllByRecursion (IsBeside f) c.deal_all.new.stay.items) fs) c.deref.ensures.value
-          (subst (λ (fs : List Fact). AllByRecursion (λ f. AllByRecursion (IsBeside f) fs) c.deref.result.now) c.deref-2.ensures.value (c.are_beside.ensures c.if-not-are_beside.false));
+      plain = All-weaker P (λ f. IsPlain f.test) (λ f h. h.0) gone c.in_ok-deal_all.ensures.done;
+      beside = subst (λ (fs : List Fact). All (λ f. All (IsBeside f) c.deal_all.new.stay.items) fs) c.deref.ensures.value
+          (subst (λ (fs : List Fact). All (λ f. All (IsBeside f) fs) c.deref.result.now) c.deref-2.ensures.value (c.are_beside.ensures c.if-not-are_beside.false));
     }
 
 pub with_only-requires : goal.with_only-requires

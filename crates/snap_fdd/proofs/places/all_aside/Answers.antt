@@ -1,9 +1,8 @@
 -- One fact more.
-use Rattle.std.proofs.Common.{◌≡◌, ◌∷◌, length, sym, subst}
-use Rattle.std.specs.List.{AllByRecursion}
+use Rattle.std.proofs.Common.{◌≡◌, ◌∷◌, length}
 use Rattle.snap_ctx.specs.declared.fact.Fact.{Fact}
 use Rattle.snap_ctx.specs.Classes.{IsTest}
-use Rattle.snap_ctx.proofs.Walks.{others_are}
+use Rattle.snap_ctx.proofs.Walks.{all_behind, others_are}
 use Rattle.snap_fdd.specs.Places.{StandsAside}
 use Rattle.snap_fdd.proofs.places.all_aside.Goals as goal
 
@@ -14,6 +13,5 @@ loop-fact-preserved c =
     let others = c.next.new.self.left.now in
     let next : left ≡ f ∷ others = c.in-Some.ensures.steps in (
       others_are (λ (g : Fact). IsTest (length c.args.ctx.now.classes) g.test) f left others next c.loop-fact.invariant.0,
-      (λ rest. c.loop-fact.invariant.1
-          (subst (AllByRecursion (StandsAside c.args.groups.now.ranks c.args.ctx.now.classes c.args.bound c.args.arrays c.args.test.now)) (sym next) (c.stands_aside.ensures c.if-not-stands_aside.false, rest))),
+      all_behind (StandsAside c.args.groups.now.ranks c.args.ctx.now.classes c.args.bound c.args.arrays c.args.test.now) f left others c.args.facts.now next (c.stands_aside.ensures c.if-not-stands_aside.false) c.loop-fact.invariant.1,
     )

@@ -1,7 +1,6 @@
 -- If those left do, all do.
 use Rattle.std.proofs.Common.{length}
 use Rattle.std.specs.Prelude.{All}
-use Rattle.std.specs.List.{AllByRecursion}
 use Rattle.snap_ctx.specs.Classes.{IsTest}
 use Rattle.snap_fdd.specs.Places.{StandsAside}
 use Rattle.snap_fdd.proofs.places.all_aside.Given as goal
@@ -9,4 +8,4 @@ use Rattle.snap_fdd.proofs.places.all_aside.Given as goal
 abbrev pub invariant-loop-fact : goal.invariant-loop-fact
 invariant-loop-fact l =
     All (λ f. IsTest (length l.ctx.classes) f.test) l.fact-iterator.left.now
-    × (AllByRecursion (StandsAside l.groups.ranks l.ctx.classes l.bound l.arrays l.test) l.fact-iterator.left.now → AllByRecursion (StandsAside l.groups.ranks l.ctx.classes l.bound l.arrays l.test) l.facts)
+    × (All (StandsAside l.groups.ranks l.ctx.classes l.bound l.arrays l.test) l.fact-iterator.left.now → All (StandsAside l.groups.ranks l.ctx.classes l.bound l.arrays l.test) l.facts)

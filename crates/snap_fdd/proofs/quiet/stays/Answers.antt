@@ -1,6 +1,6 @@
 -- Quiet below calm facts.
 use Rattle.std.proofs.Common.{◌+◌, ◌≤◌, ◌^◌, List, length, sym, subst, arith}
-use Rattle.std.specs.List.{AllByRecursion}
+use Rattle.std.specs.List.{All}
 use Rattle.snap_ctx.specs.declared.fact.Fact.{Fact}
 use Rattle.snap_fdd.specs.Diagrams.{diagram, depth, IsNodeOf}
 use Rattle.snap_fdd.specs.Quiet.{StandsBefore}
@@ -16,5 +16,5 @@ returns-in-Ask c =
     let short : length c.args.ctx.now.facts + depth (diagram c.args.nodes.now c.args.d) ≤ 2 ^ 32
     = rw (sym c.facts-facts.ensures.facts) (omega (arith, low, count, c.if-d-gt-MOST.false)) in
     λ t. stays_live c.args.groups.now c.args.survey.now c.requires.marked.clear c.args.ctx.now c.in-Ask.test _ _ (diagram c.args.nodes.now c.args.d) l.0 few c.facts-facts.ensures.met c.facts-facts.ensures.tests
-    (subst (λ (fs : List Fact). AllByRecursion (StandsBefore c.args.groups.now.ranks c.args.survey.now c.in-Ask.test) fs) c.facts-facts.ensures.facts (c.all_before.ensures t))
+    (subst (λ (fs : List Fact). All (StandsBefore c.args.groups.now.ranks c.args.survey.now c.in-Ask.test) fs) c.facts-facts.ensures.facts (c.all_before.ensures t))
     (c.is_noted.ensures c.if-not-is_noted.false) c.requires.d.keeps short

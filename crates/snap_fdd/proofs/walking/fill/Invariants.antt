@@ -1,11 +1,7 @@
 -- The numbers so far.
-use Rattle.std.proofs.Common.{◌≡◌, take, drop, map, length}
+use Rattle.std.proofs.Common.{◌≡◌, take, map}
 use Rattle.snap_core.specs.Arrays.{value_of}
-use Rattle.snap_core.specs.Fits.{IndexFits}
 use Rattle.snap_fdd.proofs.walking.fill.Given as goal
 
 abbrev pub invariant-loop-at : goal.invariant-loop-at
-invariant-loop-at l = record {
-  filled : take l.at l.numbers ≡ map (λ a. value_of a l.packet) (take l.at l.index);
-  rest : IndexFits (length l.packet) (drop l.at l.index);
-}
+invariant-loop-at l = take l.at l.numbers ≡ map (λ a. value_of a l.packet) (take l.at l.index)

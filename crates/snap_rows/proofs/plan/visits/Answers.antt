@@ -1,11 +1,12 @@
-use Rattle.std.proofs.Common.{rules, ◌≡◌, ◌≢◌, ◌<◌, ◌≤◌, ◌+◌, Some, true, length, refl, sym, ap, subst, ◌∙◌, arith}
-use Rattle.std.specs.List.{All, AllByRecursion}
+use Rattle.std.proofs.Common.{rules, ◌≡◌, ◌≢◌, ◌<◌, ◌+◌, true, length, sym, ap, subst, ◌∙◌, arith}
+use Rattle.std.specs.List.{All}
 use Rattle.std.specs.Prelude.{is_some}
+use Rattle.std.proofs.lemmas.List.Elements.{All-nil}
 use Rattle.snap_core.specs.declared.policy.Update.{Update}
 use Rattle.snap_core.specs.Arrays.{updates}
 use Rattle.snap_core.specs.Cells.{arrays_of}
 use Rattle.snap_core.specs.Fits.{UpdateReads}
-use Rattle.snap_rows.specs.Entries.{rank_at, rank_of, ranks}
+use Rattle.snap_rows.specs.Entries.{rank_of, ranks}
 use Rattle.snap_rows.specs.Stepping.{Visiting, none}
 use Rattle.snap_rows.proofs.Seen.{last_here, after_visit}
 use Rattle.snap_rows.proofs.Later.{rank_small}
@@ -21,7 +22,7 @@ loop-owner-init g c =
     let m = arrays_of c.args.store.now in record {
       home = c.requires.home.1;
       owner = c.owner_of_rank-owner.ensures;
-      below = subst (AllByRecursion (λ (u : Update). rank_of t u.var < c.args.rank)) (sym c.requires.none) tt;
+      below = subst (All (λ (u : Update). rank_of t u.var < c.args.rank)) (sym c.requires.none) (All-nil (λ (u : Update). rank_of t u.var < c.args.rank));
       reads = subst (All (UpdateReads (length k))) (sym c.requires.none) (no_updates (length k));
       first = omega arith;
       made = subst (λ us. Visiting t c.args.at k (g.A.Admit.admits c.args.admit.now) m c.args.rank c.args.node (updates m us k) c.args.rank c.args.node) (sym c.requires.none) none;

@@ -1,5 +1,5 @@
 use Rattle.std.proofs.Common.{◌≡◌, ◌<◌, ◌≤◌, ◌-◌, ◌^◌, Some, length}
-use Rattle.std.specs.List.{All, AllByRecursion}
+use Rattle.std.specs.List.{All}
 use Rattle.snap_core.specs.declared.policy.Update.{Update}
 use Rattle.snap_core.specs.Arrays.{updates}
 use Rattle.snap_core.specs.Cells.{arrays_of}
@@ -13,7 +13,7 @@ abbrev pub invariant-loop-owner : goal.invariant-loop-owner
 invariant-loop-owner g l = record {
   home : IsVisitAtHome l.tables l.due l.number;
   owner : rank_at l.tables l.due ≡ Some l.owner;
-  below : AllByRecursion (λ (u : Update). rank_of l.tables u.var < l.due) l.ups;
+  below : All (λ (u : Update). rank_of l.tables u.var < l.due) l.ups;
   reads : All (UpdateReads (length l.packet)) l.ups;
   first : l.rank ≤ l.due;
   made : Visiting l.tables l.at l.packet (g.A.Admit.admits l.admit) (arrays_of l.store) l.rank l.node (updates (arrays_of l.store) l.ups l.packet) l.due l.number;

@@ -16,5 +16,5 @@ returns-clause-report g c =
     let ks = packets_in rs in
     let ran = subst (λ x. MatchResult c.played.result (λ v. IsScheduleReport t hops ks (lines_of x) v.items) (Stops t ks (lines_of x))) c.deref.ensures.value c.played.ensures in
     where_told (g.S.Shelf.files c.args.shelf.now) _ _
-    (λ files both. schedule-played t hops (file_of files c.args.packets.now) (file_of files c.args.schedule.now) rs both.0 text c.in-Ok.ensures.few both.1 c.played.result (λ v. v.items) ran)
+    (λ files both. schedule-played t (file_of files c.args.packets.now) (file_of files c.args.schedule.now) rs both.0 text c.in-Ok.ensures.few both.1 hops c.played.result (λ v. v.items) ran)
     c.in-Ok.ensures.both

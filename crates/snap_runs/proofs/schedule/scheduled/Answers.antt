@@ -3,14 +3,18 @@ use Rattle.std.proofs.lemmas.Result.{err_from_is_err_and}
 use Rattle.snap_io.specs.Files.{file_of}
 use Rattle.snap_io.specs.Sinks.{AppendsPart}
 use Rattle.snap_trace.proofs.StepLemmas.{where_told}
-use Rattle.snap_runs.specs.Schedules.{WritesSchedule}
+use Rattle.snap_runs.specs.Schedules.{HasScheduleReport, RefusesScheduleLine, WritesSchedule}
 use Rattle.snap_runs.proofs.Scheduled.{schedule-refused}
 use Rattle.snap_runs.proofs.schedule.scheduled.Goals as goal
 
 pub returns-in-Err-clause-report : goal.returns-in-Err-clause-report
 returns-in-Err-clause-report g c =
+    let t = c.args.tables in
     where_told (g.S.Shelf.files c.args.shelf.now) _ _
-    (λ files refuses. schedule-refused c.args.tables c.args.hops (file_of files c.args.packets.now) (file_of files c.args.schedule.now) (g.K.Sink.taken c.args.sink.now) c.in-Err.fault refuses)
+    (λ files refuses.
+    let p = file_of files c.args.packets.now in
+    let s = file_of files c.args.schedule.now in
+    schedule-refused (HasScheduleReport t c.args.hops p s) (RefusesScheduleLine t p s) t p s (g.K.Sink.taken c.args.sink.now) c.in-Err.fault refuses)
     c.in-Err.ensures.report
 
 pub returns-in_err-write_whole-clause-report : goal.returns-in_err-write_whole-clause-report

@@ -1,5 +1,5 @@
 use Rattle.std.proofs.Common.{◌≡◌, ◌++◌, sym, subst, ◌∙◌}
-use Rattle.std.specs.List.{AllByRecursion, flat_map}
+use Rattle.std.specs.List.{All, flat_map}
 use Rattle.std.proofs.lemmas.Option.{MatchOption-at_none, MatchOption-at_some}
 use Rattle.snap_tables.specs.Reading.{words_left}
 use Rattle.snap_tables.proofs.PieceLemmas.{pieces-each, pieces-words}
@@ -28,7 +28,7 @@ loop-alloc-preserved g c =
     record {
       words = subst (λ us. words_left c.args.rest ≡ flat_map spelled us ++ words_left c.in-Some.behind) (sym grown)
           (pieces-words spelled (g.T.Piece.fits c.args.counts) g.T.Piece.goes_on (words_left c.args.rest) (words_left c.loop-alloc.left) (words_left c.in-Some.behind) xs c.in-Some.piece c.loop-alloc.invariant.words c.loop-alloc.invariant.each piece);
-      each = subst (AllByRecursion (g.T.Piece.fits c.args.counts)) (sym grown)
+      each = subst (All (g.T.Piece.fits c.args.counts)) (sym grown)
           (pieces-each spelled (g.T.Piece.fits c.args.counts) g.T.Piece.goes_on (words_left c.args.rest) (words_left c.loop-alloc.left) (words_left c.in-Some.behind) xs c.in-Some.piece c.loop-alloc.invariant.words c.loop-alloc.invariant.each piece);
       last = λ some. piece.ends;
     }
