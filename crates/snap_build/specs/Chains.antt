@@ -29,7 +29,8 @@ reading ns [] m k = 0
 reading ns (l ∷ ls) m k = bit_or (reads ns l.diagram m k) (reading ns ls m k)
 
 -- the link passes the packet where P is true, and reads R
-pub record IsLinkOf (g : Grouping) (v : View) (P : Arrays → List ℕ → Bool) (R : Arrays → List ℕ → ℕ) (ns : List (Node Leaf)) (l : Link) : Type 0 where
+pub record IsLinkOf (g : Grouping) (v : View) (P : Arrays → List ℕ → Bool)
+    (R : Arrays → List ℕ → ℕ) (ns : List (Node Leaf)) (l : Link) : Type 0 where
   pub diagram : IsArgument g v ns l.diagram
   pub last : IsArgument g v ns l.last
   pub told : IsTold v P R ns l.diagram

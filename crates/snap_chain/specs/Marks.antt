@@ -40,7 +40,8 @@ LeafLogsUpdates (Goes g) = AreLogged g.writes g.ups
 -- the leaf sets and updates no more than is marked, logs no write where none is marked, and all updates where that is marked
 abbrev pub LeafMarked : Mark → Leaf → Type 0
 LeafMarked k Race = Unit {0}
-LeafMarked k (Goes g) = All (SetsAmong k.sets) g.outs × UpdatesAmong k.updates g.ups × (k.writes ≡ false → g.writes ≡ 0) × (k.framed ≡ true → AreLogged g.writes g.ups)
+LeafMarked k (Goes g) = All (SetsAmong k.sets) g.outs × UpdatesAmong k.updates g.ups
+    × (k.writes ≡ false → g.writes ≡ 0) × (k.framed ≡ true → AreLogged g.writes g.ups)
 
 abbrev pub TestMarked : Mark → Test → Type 0
 TestMarked k (Value c n) = Unit {0}
@@ -58,7 +59,9 @@ AreMarked ns marks = AreNoted IsMarkedBy ns marks.reached.ids.items marks.noted.
 
 -- what either of two marks says
 abbrev pub either_mark : Mark → Mark → Mark
-either_mark a b = record { sets = bit_or a.sets b.sets; updates = bit_or a.updates b.updates; tests = bit_or a.tests b.tests; writes = a.writes || b.writes; framed = a.framed && b.framed }
+either_mark a b = record
+    { sets = bit_or a.sets b.sets; updates = bit_or a.updates b.updates; tests = bit_or a.tests b.tests; writes = a.writes
+    || b.writes; framed = a.framed && b.framed }
 
 -- a test of nothing that the marked leaves set or update
 abbrev pub AtomMissed : Mark → Atom → Type 0

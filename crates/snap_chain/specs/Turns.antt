@@ -21,12 +21,14 @@ use Rattle.snap_chain.specs.declared.turning.Turn.TheVariants.{Whole, Asked}
 
 -- where a test gives an answer, b and then e do what a and then d do
 abbrev pub SameWhere : Test → Bool → Diagram → Diagram → Diagram → Diagram → Type 0
-SameWhere t given a d b e = (m : Arrays) (k : List ℕ) → passes t m k ≡ given → in_sequence (outcome_at b m k) (outcome_at e) ≡ in_sequence (outcome_at a m k) (outcome_at d)
+SameWhere t given a d b e = (m : Arrays) (k : List ℕ) → passes t m k ≡ given
+    → in_sequence (outcome_at b m k) (outcome_at e) ≡ in_sequence (outcome_at a m k) (outcome_at d)
 
 -- each marked leaf, and then r, does what the leaf and then d do where a test gives an answer
 pub record IsAlong (ranks : List ℕ) (s : Sizes) (mk : Mark) (t : Test) (given : Bool) (d r : Diagram) : Type 0 where
   pub keeps : IsDiagram ranks s r
-  pub same : (l : Leaf) (m : Arrays) (k : List ℕ) → LeafMarked mk l → passes t m k ≡ given → in_sequence (outcome_of (answer_of l k) m) (outcome_at r) ≡ in_sequence (outcome_of (answer_of l k) m) (outcome_at d)
+  pub same : (l : Leaf) (m : Arrays) (k : List ℕ) → LeafMarked mk l → passes t m k ≡ given
+      → in_sequence (outcome_of (answer_of l k) m) (outcome_at r) ≡ in_sequence (outcome_of (answer_of l k) m) (outcome_at d)
 
 -- what is left of two diagrams where a test gives an answer
 pub record IsLeft (groups : Grouping) (v : View) (ns : List (Node Leaf)) (t : Test) (given : Bool) (a d : ℕ) (p : Pair) : Type 0 where

@@ -25,10 +25,13 @@ number_so_far r = r.front * 256 + r.part
 
 abbrev pub with_digit : Reading → ℕ → Option Reading
 with_digit r b =
-    if is_ascii_digit b && nat_lt r.digits 3 then Some (record { front = r.front; part = r.part * 10 + (b - 48); digits = r.digits + 1; dots = r.dots }) else None
+    if is_ascii_digit b && nat_lt r.digits 3
+        then Some (record { front = r.front; part = r.part * 10 + (b - 48); digits = r.digits + 1; dots = r.dots })
+        else None
 
 abbrev pub with_dot : Reading → Option Reading
-with_dot r = if is_octet r && nat_lt r.dots 3 then Some (record { front = number_so_far r; part = 0; digits = 0; dots = r.dots + 1 }) else None
+with_dot r = if is_octet r && nat_lt r.dots 3 then Some (record { front = number_so_far r; part = 0; digits = 0; dots = r.dots + 1 })
+    else None
 
 abbrev pub with_byte : Reading → ℕ → Option Reading
 with_byte r b = if b == 46 then with_dot r else with_digit r b
@@ -72,4 +75,5 @@ pub record IsNoPart (text : List ℕ) : Type 0 where
   pub none : (front dots : ℕ) → dots < 3 → address_left (part_begins front dots) text ≡ None
 
 pub record IsPartFront (text : List ℕ) (n : ℕ) (rest : List ℕ) : Type 0 where
-  pub left : (front dots : ℕ) → dots < 3 → address_left (part_begins front dots) text ≡ address_left (part_begins (front * 256 + n) (dots + 1)) rest
+  pub left : (front dots : ℕ) → dots < 3
+      → address_left (part_begins front dots) text ≡ address_left (part_begins (front * 256 + n) (dots + 1)) rest

@@ -25,7 +25,8 @@ value_of_digits ds = value_after 0 ds
 -- the number that a text spells in digits, if it has at most this value
 abbrev pub number_up_to : ℕ → List ℕ → Option ℕ
 number_up_to most [] = None
-number_up_to most (d ∷ ds) = if list_all is_ascii_digit (d ∷ ds) && nat_le (value_of_digits (d ∷ ds)) most then Some (value_of_digits (d ∷ ds)) else None
+number_up_to most (d ∷ ds) = if list_all is_ascii_digit (d ∷ ds)
+    && nat_le (value_of_digits (d ∷ ds)) most then Some (value_of_digits (d ∷ ds)) else None
 
 -- a number of 64 bits
 abbrev pub number_of : List ℕ → Option ℕ

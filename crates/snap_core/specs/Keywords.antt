@@ -9,4 +9,5 @@ abbrev pub belongs_to_choice : List ℕ → Bool
 belongs_to_choice w = bytes_eq w (codes "if") || bytes_eq w (codes "then") || bytes_eq w (codes "else")
 
 abbrev pub is_constant : List ℕ → Bool
-is_constant w = bytes_eq w (codes "id") || bytes_eq w (codes "drop") || bytes_eq w (codes "atomic") || bytes_eq w (codes "True") || bytes_eq w (codes "False")
+is_constant w = bytes_eq w (codes "id") || bytes_eq w (codes "drop")
+    || bytes_eq w (codes "atomic") || bytes_eq w (codes "True") || bytes_eq w (codes "False")

@@ -14,13 +14,15 @@ use Rattle.snap_core.specs.Ranges.{AtomInRange}
 
 -- a variable that is not in the log of writes is as it was
 abbrev pub KeepsUnwritten : Type 0
-KeepsUnwritten = (p : Pol) (m : Arrays) (k : List ℕ) (o : Meaning) → eval p m k ≡ Some o → (q : Place) → has o.writes q.var ≡ false → o.arrays q ≡ m q
+KeepsUnwritten = (p : Pol) (m : Arrays) (k : List ℕ) (o : Meaning)
+    → eval p m k ≡ Some o → (q : Place) → has o.writes q.var ≡ false → o.arrays q ≡ m q
 
 -- n is as m is at each variable of a set
 abbrev pub AgreesOn : ℕ → Arrays → Arrays → Type 0
 AgreesOn vars m n = (q : Place) → has vars q.var ≡ true → n q ≡ m q
 
--- an evaluation depends on the variables of its logs alone: from other arrays that agree on them it does the same, and leaves the rest of these as it is
+-- an evaluation depends on the variables of its logs alone: from other arrays that agree on them it does the same, and leaves
+-- the rest of these as it is
 abbrev pub DependsOnLogged : Type 0
 DependsOnLogged = (p : Pol) (m n : Arrays) (k : List ℕ) (o : Meaning) → eval p m k ≡ Some o → AgreesOn (bit_or o.reads o.writes) m n
     → eval p n k ≡ Some (record o { arrays = taken n o.arrays o.writes })
@@ -66,7 +68,8 @@ IsWithin a b = (v : ℕ) → has a v ≡ true → has b v ≡ true
 
 -- what is read stands in predicates, and what is written stands in updates
 abbrev pub LogsWhatStands : Type 0
-LogsWhatStands = (p : Pol) (m : Arrays) (k : List ℕ) (o : Meaning) → eval p m k ≡ Some o → IsWithin o.reads (read_vars p) × IsWithin o.writes (write_vars p)
+LogsWhatStands = (p : Pol) (m : Arrays) (k : List ℕ) (o : Meaning)
+    → eval p m k ≡ Some o → IsWithin o.reads (read_vars p) × IsWithin o.writes (write_vars p)
 
 -- ---- 64 bits
 abbrev pub OpIsSmall : Op → Type 0

@@ -87,7 +87,8 @@ abbrev pub logged : ℕ → ℕ → Meaning → Meaning
 logged r w o = record o { reads = bit_or r o.reads; writes = bit_or w o.writes }
 
 abbrev pub eval : Pol → Arrays → List ℕ → Option Meaning
-eval (Filter x) m k = Some (record { arrays = m; packets = if truth x m k then with_packet no_packets k else no_packets; reads = vars_of x; writes = 0 })
+eval (Filter x) m k = Some
+    (record { arrays = m; packets = if truth x m k then with_packet no_packets k else no_packets; reads = vars_of x; writes = 0 })
 eval (Set c a) m k = Some (record { arrays = m; packets = with_packet no_packets (slice_set k c (value_of a k)); reads = 0; writes = 0 })
 eval (Change u) m k = Some (record { arrays = update m u k; packets = with_packet no_packets k; reads = 0; writes = 2 ^ u.var })
 eval (Par' _ p _ q) m k = all_together m (eval p m k ∷ eval q m k ∷ [])

@@ -52,7 +52,8 @@ IsName w = IsTrue (is_name w)
 -- ---- names of switches
 -- a letter, a digit, `_`, `.` or `-`
 abbrev pub is_name_byte : ℕ → Bool
-is_name_byte b = (nat_le 48 b && nat_le b 57) || ((nat_le 65 b && nat_le b 90) || ((nat_le 97 b && nat_le b 122) || (b == 95 || (b == 46 || b == 45))))
+is_name_byte b = (nat_le 48 b && nat_le b 57)
+    || ((nat_le 65 b && nat_le b 90) || ((nat_le 97 b && nat_le b 122) || (b == 95 || (b == 46 || b == 45))))
 
 -- one or more of these
 abbrev pub is_switch_name : List ℕ → Bool

@@ -36,7 +36,8 @@ pub record HasOneArity (p : Pol) : Type 0 where
   pub from_1_to_8 : (s : ℕ) → (1 ≤ arity s) × (arity s ≤ 8)
   pub of_each : HasArity arity p
 
--- a program in form: its fields are fields, its names are different names of the language, its body has no other component or variable, and each variable is indexed in one way
+-- a program in form: its fields are fields, its names are different names of the language, its body has no other component or
+-- variable, and each variable is indexed in one way
 pub record IsInForm (p : Program) : Type 0 where
   pub fields : IsFields p.fields
   pub names : All IsName (names_of p.fields ++ p.vars)

@@ -51,7 +51,8 @@ after_first q o = option_map (logged o.reads o.writes) (all_together o.arrays (m
 
 -- ---- parts side by side, done one after the other: b began where a left the arrays
 abbrev pub after_both : Meaning → Meaning → Meaning
-after_both a b = record { arrays = b.arrays; packets = union a.packets b.packets; reads = bit_or a.reads b.reads; writes = bit_or a.writes b.writes }
+after_both a b = record
+    { arrays = b.arrays; packets = union a.packets b.packets; reads = bit_or a.reads b.reads; writes = bit_or a.writes b.writes }
 
 abbrev pub begun_behind : Meaning → Meaning → Option Meaning
 begun_behind a b = if clash a b then None else Some (after_both a b)

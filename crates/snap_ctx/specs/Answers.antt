@@ -12,7 +12,8 @@ use Rattle.snap_ctx.specs.View.{View}
 -- no store and packet meet the facts and the new one, or some do, and there is a context of them all
 abbrev pub IsAssumed : View → Test → Bool → Assumed → Type 0
 IsAssumed v t y Impossible = NoneMeets (length v.classes) (with_fact v.facts t y)
-IsAssumed v t y (More w) = (w.facts ≡ with_fact v.facts t y) × (length w.classes ≡ length v.classes) × IsMet (length v.classes) (with_fact v.facts t y)
+IsAssumed v t y (More w) = (w.facts ≡ with_fact v.facts t y)
+    × (length w.classes ≡ length v.classes) × IsMet (length v.classes) (with_fact v.facts t y)
 
 -- all that meet the facts pass the test, or none of them does, or some do and some do not. Some meet the facts
 abbrev pub IsVerdict : View → Test → Verdict → Type 0

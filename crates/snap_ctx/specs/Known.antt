@@ -84,7 +84,8 @@ difference (Num x) (Plus d q) = Some (Differ (Plus d 0) (Num (wrap x (2 ^ 64 - q
 difference (Plus c p) (Num y) = Some (Differ (Plus c 0) (Num (wrap y (2 ^ 64 - p))))
 difference (Plus c p) (Plus d q) =
     if c == d then None
-    else (if nat_lt c d then Some (Differ (Plus c 0) (Plus d (wrap q (2 ^ 64 - p)))) else Some (Differ (Plus d 0) (Plus c (wrap p (2 ^ 64 - q)))))
+    else (if nat_lt c d then Some (Differ (Plus c 0) (Plus d (wrap q (2 ^ 64 - p))))
+    else Some (Differ (Plus d 0) (Plus c (wrap p (2 ^ 64 - q)))))
 
 abbrev pub apart_of : ℕ → Bool → Term → Term → Option Normal
 apart_of roots true a b = None
@@ -179,7 +180,8 @@ pub record IsSpelled (v : View) (comps arrays : ℕ) (key : List ℕ) : Type 0 w
 
 -- the same classes by other names: a context still, of the same facts
 abbrev pub AreRenamed : List Term → List Term → Type 0
-AreRenamed cl new = (length new ≡ length cl) × ((facts : List Fact) → IsContext (record { facts = facts; classes = cl }) → IsContext (record { facts = facts; classes = new }))
+AreRenamed cl new = (length new ≡ length cl)
+    × ((facts : List Fact) → IsContext (record { facts = facts; classes = cl }) → IsContext (record { facts = facts; classes = new }))
 
 -- the numbers of a key tell what a context knows about components and arrays, by some names of its classes
 pub record IsKnown (v : View) (comps arrays : ℕ) (key : List ℕ) : Type 0 where

@@ -79,10 +79,14 @@ pub record HandsOn (place : ℕ → ℕ) (b : Row) (s : Switches) (old new : Lis
 -- the marks of number n are closed under single steps
 pub record IsClosedAt (t : Tables) (nodes : ℕ → Option Row) (has : ℕ → ℕ → Bool) (n : ℕ) : Type 0 where
   pub fields : (w y z : ℕ) (test : Test) → nodes n ≡ Some (Field test y z) → has w n ≡ true → (has w y ≡ true) × (has w z ≡ true)
-  pub owners : (w y z : ℕ) (test : Test) → nodes n ≡ Some (State test y z) → place_of t (var_of test) ≡ w → has w n ≡ true → (has w y ≡ true) × (has w z ≡ true)
-  pub others : (w y z : ℕ) (test : Test) → nodes n ≡ Some (State test y z) → place_of t (var_of test) ≢ w → has w n ≡ true → has (next t w (place_of t (var_of test))) n ≡ true
-  pub first : (w : ℕ) (us : List Update) (os : List Parts) (s : Turn) (ss : List Turn) → nodes n ≡ Some (Last us os) → stages_of (place_of t) us ≡ s ∷ ss → w ≢ s.at → has w n ≡ true → has (next t w s.at) n ≡ true
-  pub rest : (w : ℕ) (us : List Update) (os : List Parts) (s : Turn) (ss : List Turn) → nodes n ≡ Some (Last us os) → stages_of (place_of t) us ≡ s ∷ ss → has w n ≡ true
+  pub owners : (w y z : ℕ) (test : Test) → nodes n ≡ Some (State test y z)
+      → place_of t (var_of test) ≡ w → has w n ≡ true → (has w y ≡ true) × (has w z ≡ true)
+  pub others : (w y z : ℕ) (test : Test) → nodes n ≡ Some (State test y z)
+      → place_of t (var_of test) ≢ w → has w n ≡ true → has (next t w (place_of t (var_of test))) n ≡ true
+  pub first : (w : ℕ) (us : List Update) (os : List Parts) (s : Turn) (ss : List Turn) → nodes n ≡ Some (Last us os)
+      → stages_of (place_of t) us ≡ s ∷ ss → w ≢ s.at → has w n ≡ true → has (next t w s.at) n ≡ true
+  pub rest : (w : ℕ) (us : List Update) (os : List Parts) (s : Turn) (ss : List Turn)
+      → nodes n ≡ Some (Last us os) → stages_of (place_of t) us ≡ s ∷ ss → has w n ≡ true
       → (ws : List ℕ) → Route t s.at (map (λ (u : Turn). u.at) ss) ws → (x : ℕ) → Contains ws x → has x n ≡ true
 
 -- marks of so many numbers, of wanted pairs alone, at the ports, and closed for the numbers below i

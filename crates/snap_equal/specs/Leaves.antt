@@ -37,7 +37,8 @@ DoSameWhere comps fs d e = (m : Arrays) (k : List ℕ) → IsStore m → IsPacke
 
 -- a 1 for two numbers and facts says that their diagrams do the same where the facts are met
 abbrev pub PairMet : ℕ → List (Node Leaf) → List (Node Leaf) → List ℕ → ℕ → Type 0
-PairMet comps ns os q d = (x y : ℕ) (fs : List Fact) → q ≡ x ∷ y ∷ facts_code fs → d ≡ 1 → DoSameWhere comps fs (diagram ns x) (diagram os y)
+PairMet comps ns os q d = (x y : ℕ) (fs : List Fact) → q ≡ x ∷ y ∷ facts_code fs
+    → d ≡ 1 → DoSameWhere comps fs (diagram ns x) (diagram os y)
 
 abbrev pub ArePairsMet : ℕ → List (Node Leaf) → List (Node Leaf) → Cells → Type 0
 ArePairsMet comps ns os = Remembers (PairMet comps ns os)

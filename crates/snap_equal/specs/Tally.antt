@@ -53,7 +53,8 @@ signed_total sign (u ∷ us) k q = wrap (share_of u (signed sign (added u.op)) k
 
 -- at each place of a variable outside the set, sums add what the first updates add beyond the others
 abbrev pub IsDifference : View → ℕ → List Update → List Update → List Update → Type 0
-IsDifference v mixed left right sums = On v (λ m k. (q : Place) → has mixed q.var ≡ false → wrap (total sums k q) (total right k q) ≡ total left k q)
+IsDifference v mixed left right sums = On v
+    (λ m k. (q : Place) → has mixed q.var ≡ false → wrap (total sums k q) (total right k q) ≡ total left k q)
 
 -- the variables that are looked at: all, or those of a set
 abbrev pub is_chosen : Option ℕ → ℕ → Bool

@@ -34,7 +34,8 @@ AreMissed cl set ix = (c : ℕ) → c < length cl → has set c ≡ true → IsM
 
 -- a fact at a place of numbers, at which no test is from t on that is about the components and arrays of a mark
 abbrev pub IsDone : List ℕ → List Term → Tested → Test → Fact → Type 0
-IsDone ranks cl e t f = IsPlain f.test × ((¬ (IsAmong e.arrays (var_of f.test))) ⊎ (IsPast ranks t f × AreMissed cl e.comps (index_of f.test)))
+IsDone ranks cl e t f = IsPlain f.test
+    × ((¬ (IsAmong e.arrays (var_of f.test))) ⊎ (IsPast ranks t f × AreMissed cl e.comps (index_of f.test)))
 
 -- w is the context v without facts that are done
 pub record IsLeaner (ranks : List ℕ) (v w : View) (e : Tested) (t : Test) : Type 0 where

@@ -72,7 +72,8 @@ IsOutside s (Plus r p) = Unit {0}
 
 -- a component of the first set has no class of another of the second, and one of the second is spelled by itself alone
 abbrev pub IsApart : List Term → ℕ → ℕ → Spelling → ℕ → Type 0
-IsApart cl comps bound s c = (has comps c ≡ true → IsAlone cl bound (Comp c)) × (has bound c ≡ true → IsOutside s (class_of cl c) × (has s.terms c ≡ false))
+IsApart cl comps bound s c = (has comps c ≡ true → IsAlone cl bound (Comp c))
+    × (has bound c ≡ true → IsOutside s (class_of cl c) × (has s.terms c ≡ false))
 
 abbrev pub AreApart : List Term → ℕ → ℕ → Spelling → Type 0
 AreApart cl comps bound s = (c : ℕ) → c < length cl → IsApart cl comps bound s c
@@ -84,4 +85,5 @@ ComesBefore ranks t f = (test_cmp ranks f.test t ≡ Less) × (f.yes ≡ true �
 
 -- if it is on an array of the set, its place is spelled as no other, and it comes before t
 abbrev pub StandsAside : List ℕ → List Term → ℕ → ℕ → Test → Fact → Type 0
-StandsAside ranks cl bound arrays t f = is_state f.test ≡ true → IsAmong arrays (var_of f.test) → IsOwn cl bound f.test × ComesBefore ranks t f
+StandsAside ranks cl bound arrays t f = is_state f.test ≡ true
+    → IsAmong arrays (var_of f.test) → IsOwn cl bound f.test × ComesBefore ranks t f

@@ -1,4 +1,5 @@
--- Diagrams in which nothing can be dead: they test components for numbers, and places for numbers or one term, and no place can turn out to be another.
+-- Diagrams in which nothing can be dead: they test components for numbers, and places for numbers or one term, and no place can
+-- turn out to be another.
 use Rattle.std.specs.Prelude.{◌≡◌, ℕ, ◌<◌, ◌^◌, Bool, true, false, Option, Some, None, List, slice_get}
 use Rattle.std.specs.declared.cmp.Ordering.TheVariants.{Less}
 use Rattle.std.specs.List.{All}

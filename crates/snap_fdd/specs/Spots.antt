@@ -27,7 +27,8 @@ AtomsApart values (Comp c) (Comp d) = (c ≢ d) × ((has values c ≡ false) ⊎
 
 -- of other lengths, or apart at some atom
 abbrev pub IndicesApart : ℕ → List Atom → List Atom → Type 0
-IndicesApart values ix iy = (length ix ≢ length iy) ⊎ ((i : ℕ) × (i < length ix) × (i < length iy) × AtomsApart values (slice_index_or ix i (Number 0)) (slice_index_or iy i (Number 0)))
+IndicesApart values ix iy = (length ix ≢ length iy)
+    ⊎ ((i : ℕ) × (i < length ix) × (i < length iy) × AtomsApart values (slice_index_or ix i (Number 0)) (slice_index_or iy i (Number 0)))
 
 abbrev pub SpotsApart : ℕ → List Spot → Type 0
 SpotsApart values [] = Unit {0}

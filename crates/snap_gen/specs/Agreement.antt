@@ -35,8 +35,10 @@ numbered ks = range_with_len 0 (length ks)
 abbrev pub in_order : List (List ℕ) → List ℕ → List (List ℕ)
 in_order ks order = map (λ i. slice_index_or ks i []) order
 
--- one big switch, from the arrays m over all packets in this order, is defined; each packet came out as its set, and the switches hold its arrays
-pub record Agrees (p : Program) (t : Tables) (m : Arrays) (ks : List (List ℕ)) (order : List ℕ) (s : Net) (hs : List Happening) : Type 0 where
+-- one big switch, from the arrays m over all packets in this order, is defined; each packet came out as its set, and the
+-- switches hold its arrays
+pub record Agrees (p : Program) (t : Tables) (m : Arrays) (ks : List (List ℕ))
+    (order : List ℕ) (s : Net) (hs : List Happening) : Type 0 where
   pub each_once : IsPermutation order (numbered ks)
   pub end : Switched
   pub switched : one_big_switch p.body m (in_order ks order) ≡ Some end

@@ -18,7 +18,8 @@ use Rattle.snap_gen.specs.Agreement.{sent_of, lost_of}
 use Rattle.snap_gen.specs.Faithful.{Faithful, IsStoreOf, IsPacketOf, CanEnter}
 use Rattle.snap_gen.specs.Visits.{Enters, Chained}
 
--- the chain of a packet's visits, each by the arrays m at its own rank, ends at a leaf; each visit leaves its rank as the outcome has it, and the leaf's copies are the outcome's
+-- the chain of a packet's visits, each by the arrays m at its own rank, ends at a leaf; each visit leaves its rank as the
+-- outcome has it, and the leaf's copies are the outcome's
 pub record Chain (t : Tables) (k : List ℕ) (m : Arrays) (o : Meaning) : Type 0 where
   pub first : ℕ
   pub last : ℕ
@@ -45,14 +46,16 @@ FaithfulKeepsStores = (p : Program) (topology : Topology) (places : List ℕ) (t
 
 -- a visit's number and updates are determined, and so is where a chain comes
 abbrev pub VisitsAreOne : Type 0
-VisitsAreOne = (t : Tables) (w : ℕ) (k : List ℕ) (m : Arrays) (r n v x : ℕ) (us vs : List Update) → Visits t w k m r n v us → Visits t w k m r n x vs → (v ≡ x) × (us ≡ vs)
+VisitsAreOne = (t : Tables) (w : ℕ) (k : List ℕ) (m : Arrays) (r n v x : ℕ) (us vs : List Update)
+    → Visits t w k m r n v us → Visits t w k m r n x vs → (v ≡ x) × (us ≡ vs)
 
 abbrev pub ChainsAreOne : Type 0
 ChainsAreOne = (t : Tables) (k : List ℕ) (m : Arrays) (n r v x : ℕ) → Chained t k m n r v → Chained t k m n r x → v ≡ x
 
 -- field rows lead on by the packet alone
 abbrev pub FieldsGoAlike : Type 0
-FieldsGoAlike = (t : Tables) → IsInForm t → (w : ℕ) (k : List ℕ) (m s : Arrays) (n v : ℕ) → Follows t w k is_field m n v → Follows t w k is_field s n v
+FieldsGoAlike = (t : Tables) → IsInForm t → (w : ℕ) (k : List ℕ) (m s : Arrays) (n v : ℕ)
+    → Follows t w k is_field m n v → Follows t w k is_field s n v
 
 -- the next visit of a chain is at home
 abbrev pub ChainsAreAtHome : Type 0

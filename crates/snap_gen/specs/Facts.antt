@@ -28,7 +28,8 @@ HasMeaning p comps t = (m : Arrays) (k : List ℕ) → IsStore m → IsPacket co
     → (n : ℕ) (ups : List Update) (outs : List Parts) → Comes t k is_test m 0 n → node_of t n ≡ Some (Last ups outs)
     → (o : Meaning) → eval p m k ≡ Some o → (o.packets ≡ results outs k) × ((q : Place) → o.arrays q ≡ updates m ups k q)
 
--- a program within its bounds, a topology with its routes, and five facts: tables of version 2 have the shape for these, they mean the program,
+-- a program within its bounds, a topology with its routes, and five facts: tables of version 2 have the shape for these, they
+-- mean the program,
 -- which never races, its numbers have 64 bits, and the tables are live and reduced
 pub record Facts (p : Program) (topology : Topology) (places : List ℕ) (routes : Table) (t : Tables) : Type 0 where
   pub fits : PolFits (count p.fields) (length p.vars) p.body
@@ -42,4 +43,5 @@ pub record Facts (p : Program) (topology : Topology) (places : List ℕ) (routes
   pub live_and_reduced : IsLiveAndReduced p t
 
 abbrev pub FactsMakeFaithful : Type 0
-FactsMakeFaithful = (p : Program) (topology : Topology) (places : List ℕ) (routes : Table) (t : Tables) → Facts p topology places routes t → Faithful p topology places t
+FactsMakeFaithful = (p : Program) (topology : Topology) (places : List ℕ) (routes : Table) (t : Tables)
+    → Facts p topology places routes t → Faithful p topology places t

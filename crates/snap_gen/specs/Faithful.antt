@@ -51,7 +51,8 @@ abbrev pub AgreesAsInjected : Program → Tables → Arrays → List (ℕ × Lis
 AgreesAsInjected p t m ks s hs = Agrees p t m (packets_in ks) (numbered (packets_in ks)) s hs
 
 -- ---- the seven parts
--- 1: the tables are valid, and those of the program, the topology and the placement; their next hops are as defined, and in version 2 so are their ranks
+-- 1: the tables are valid, and those of the program, the topology and the placement; their next hops are as defined, and in
+-- version 2 so are their ranks
 pub record HasShape (p : Program) (topology : Topology) (places : List ℕ) (t : Tables) : Type 0 where
   pub form : IsInForm t
   pub valid : IsValid t
@@ -62,7 +63,8 @@ pub record HasShape (p : Program) (topology : Topology) (places : List ℕ) (t :
   pub switches : t.switches ≡ topology.switches
   pub links : t.links ≡ topology.links
   pub ports : t.ports ≡ topology.ports
-  pub hops : (a b : ℕ) → a < length topology.switches → b < length topology.switches → a ≢ b → IsNext (Linked topology.links) a b (next t a b)
+  pub hops : (a b : ℕ) → a < length topology.switches → b < length topology.switches
+      → a ≢ b → IsNext (Linked topology.links) a b (next t a b)
 
 -- 2: one big switch is defined on every list of packets from every store, and leaves a store
 abbrev pub IsDefined : Program → Type 0
@@ -81,10 +83,12 @@ CalmRunsAgree p t = (m : Arrays) (es : List Event) (s : Net) (hs : List Happenin
 
 -- 5: where all arrays stand at one switch so does every run to an end, in the order of the forks
 abbrev pub LoneRunsAgree : Program → Tables → Type 0
-LoneRunsAgree p t = IsLone t → (m : Arrays) (es : List Event) (s : Net) (hs : List Happening) → IsStoreOf p m → AllCanEnter p t (packets_of es)
+LoneRunsAgree p t = IsLone t → (m : Arrays) (es : List Event) (s : Net) (hs : List Happening)
+    → IsStoreOf p m → AllCanEnter p t (packets_of es)
     → Run t m es s hs → s.flying ≡ [] → Agrees p t m (packets_in (packets_of es)) (commits hs) s hs
 
--- 6: after every list of events each copy, in flight or delivered, has made at most so many hops, and two more own steps. A happening has the copy before its step
+-- 6: after every list of events each copy, in flight or delivered, has made at most so many hops, and two more own steps. A
+-- happening has the copy before its step
 abbrev pub IsDeliveredWithin : ℕ → Happening → Type 0
 IsDeliveredWithin most (Delivered c port) = (c.hops ≤ most) × (c.steps + 1 ≤ most + 2)
 IsDeliveredWithin most (Crossed c to head) = Unit {0}
@@ -94,13 +98,15 @@ pub record IsWithin (most : ℕ) (s : Net) (hs : List Happening) : Type 0 where
   pub flying : All (λ (c : Copy). (c.hops ≤ most) × (c.steps ≤ most + 2)) s.flying
   pub delivered : All (IsDeliveredWithin most) hs
 
--- the bound, for so many groups and this diameter: in version 2 a packet walks to each group's switch and then to its port; in version 1 it may walk to
+-- the bound, for so many groups and this diameter: in version 2 a packet walks to each group's switch and then to its port; in
+-- version 1 it may walk to
 -- each group's switch twice, for tests and for a stage
 abbrev pub most_hops : (version groups diameter : ℕ) → ℕ
 most_hops version groups d = if version == 1 then (2 * groups + 1) * d else (groups + 1) * d
 
 abbrev pub HopsAreBounded : Program → Topology → Tables → Type 0
-HopsAreBounded p topology t = (order : List ℕ) (d : ℕ) → IsRank p.body (length p.vars) order → IsDiameter (Linked topology.links) (length topology.switches) d
+HopsAreBounded p topology t = (order : List ℕ) (d : ℕ) → IsRank p.body (length p.vars) order
+    → IsDiameter (Linked topology.links) (length topology.switches) d
     → (m : Arrays) (es : List Event) (s : Net) (hs : List Happening) → IsStoreOf p m → AllCanEnter p t (packets_of es) → Run t m es s hs
     → IsWithin (most_hops t.version (length order) d) s hs
 

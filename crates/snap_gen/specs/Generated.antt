@@ -31,7 +31,8 @@ use Rattle.snap_gen.specs.Shown.{row_of, IsNumbering, IsOutcomeOf, HasBareLeaves
 abbrev pub numbered_nodes : List (Node Leaf) → List ℕ → (ℕ → ℕ) → ℕ → Option Row
 numbered_nodes ns ids number i = option_and_then (λ d. option_map (row_of number) (slice_get ns d)) (slice_get ids i)
 
--- a program in form that never races, a topology in form with its routes, and a place below the count of switches for each variable, tied ones together
+-- a program in form that never races, a topology in form with its routes, and a place below the count of switches for each
+-- variable, tied ones together
 pub record AreInputs (p : Program) (t : Topology) (places : List ℕ) (routes : Table) (ranks : List ℕ) : Type 0 where
   pub fits : PolFits (count p.fields) (length p.vars) p.body
   pub small : PutsSmall p.body
@@ -40,7 +41,8 @@ pub record AreInputs (p : Program) (t : Topology) (places : List ℕ) (routes : 
   pub paths : AreRoutes t routes
   pub as_many : length ranks ≡ length p.vars
   pub ranked : (order : List ℕ) → IsRank p.body (length p.vars) order → IsRankIn p.body (length p.vars) order (slice_index ranks)
-  pub together : (v w : ℕ) → v < length p.vars → w < length p.vars → slice_index ranks v ≡ slice_index ranks w → slice_index places v ≡ slice_index places w
+  pub together : (v w : ℕ) → v < length p.vars → w < length p.vars
+      → slice_index ranks v ≡ slice_index ranks w → slice_index places v ≡ slice_index places w
 
 -- the diagram of the program, in order and within bounds, live, and with bare leaves
 pub record IsBareDiagram (p : Program) (ranks : List ℕ) (ns : List (Node Leaf)) (root : ℕ) : Type 0 where
@@ -52,7 +54,8 @@ pub record IsBareDiagram (p : Program) (ranks : List ℕ) (ns : List (Node Leaf)
   pub bare : HasBareLeaves (diagram ns root)
 
 -- what is written of them: the lists, a hop for each pair, and the planned rows
-pub record IsWritten (p : Program) (t : Topology) (places : List ℕ) (routes : Table) (ranks : List ℕ) (nodes : ℕ → Option Row) (front : ℕ → Bool) (n : Tables) : Type 0 where
+pub record IsWritten (p : Program) (t : Topology) (places : List ℕ) (routes : Table)
+    (ranks : List ℕ) (nodes : ℕ → Option Row) (front : ℕ → Bool) (n : Tables) : Type 0 where
   pub form : IsInForm n
   pub version : n.version ≡ 2
   pub fields : n.fields ≡ p.fields
@@ -70,5 +73,7 @@ pub record IsWritten (p : Program) (t : Topology) (places : List ℕ) (routes : 
 
 -- written tables are faithful
 abbrev pub WrittenIsFaithful : Type 0
-WrittenIsFaithful = (p : Program) (t : Topology) (places : List ℕ) (routes : Table) (ranks : List ℕ) (ns : List (Node Leaf)) (root : ℕ) (ids : List ℕ) (number : ℕ → ℕ) (front : ℕ → Bool) (n : Tables)
-    → AreInputs p t places routes ranks → IsBareDiagram p ranks ns root → IsNumbering ns root ids number → IsWritten p t places routes ranks (numbered_nodes ns ids number) front n → Faithful p t places n
+WrittenIsFaithful = (p : Program) (t : Topology) (places : List ℕ) (routes : Table) (ranks : List ℕ)
+    (ns : List (Node Leaf)) (root : ℕ) (ids : List ℕ) (number : ℕ → ℕ) (front : ℕ → Bool) (n : Tables)
+    → AreInputs p t places routes ranks → IsBareDiagram p ranks ns root → IsNumbering ns root ids number
+    → IsWritten p t places routes ranks (numbered_nodes ns ids number) front n → Faithful p t places n

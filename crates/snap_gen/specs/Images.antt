@@ -17,7 +17,8 @@ pub record HasImage (g : Grouping) (ns : List (Node Leaf)) (images : List ℕ) (
   pub tidied : Tidies g.ranks (length g.order) (diagram ns d) (diagram ns (slice_index images d))
 
 abbrev pub WaysHaveImages : Grouping → List (Node Leaf) → List ℕ → ℕ → Type 0
-WaysHaveImages g ns images d = (y z : ℕ) (t : Test) → slice_get ns d ≡ Some (node.Ask t y z) → HasImage g ns images y × HasImage g ns images z
+WaysHaveImages g ns images d = (y z : ℕ) (t : Test)
+    → slice_get ns d ≡ Some (node.Ask t y z) → HasImage g ns images y × HasImage g ns images z
 
 -- what holds once all numbered nodes from number i on have images, among nodes that grew
 pub record HaveImages (g : Grouping) (old new : List (Node Leaf)) (ids images : List ℕ) (i : ℕ) : Type 0 where

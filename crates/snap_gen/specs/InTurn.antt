@@ -34,10 +34,13 @@ handled_more h r j = if j == r then h j + 1 else h j
 pub data TakesTurns (t : Tables) (w : ℕ) (k : List ℕ) (i : ℕ) : Arrays → (ℕ → ℕ) → ℕ → ℕ → Arrays → (ℕ → ℕ) → Becomes → Type 0 where
   seeks : {s : Arrays} {h : ℕ → ℕ} {r n x : ℕ} → rank_at t r ≡ Some x → x ≢ w → TakesTurns t w k i s h r n s h (SentOn (next t w x) r n)
   waits : {s : Arrays} {h : ℕ → ℕ} {r n : ℕ} → rank_at t r ≡ Some w → h r ≢ i → TakesTurns t w k i s h r n s h (Waiting r n)
-  visits : {s s' : Arrays} {h h' : ℕ → ℕ} {r n v : ℕ} {us : List Update} {b : Becomes} → rank_at t r ≡ Some w → h r ≡ i → Visits t w k s r n v us → r + 1 < ranks t
+  visits : {s s' : Arrays} {h h' : ℕ → ℕ} {r n v : ℕ} {us : List Update} {b : Becomes}
+      → rank_at t r ≡ Some w → h r ≡ i → Visits t w k s r n v us → r + 1 < ranks t
       → TakesTurns t w k i (updates s us k) (handled_more h r) (r + 1) v s' h' b → TakesTurns t w k i s h r n s' h' b
-  concludes : {s : Arrays} {h : ℕ → ℕ} {r n v : ℕ} {us ups : List Update} {os : List Parts} → rank_at t r ≡ Some w → h r ≡ i → Visits t w k s r n v us → r + 1 ≡ ranks t
-      → row_at t w v ≡ Some (Last ups os) → TakesTurns t w k i s h r n (updates s us k) (handled_more h r) (Forks (sent_of t (results os k)) (lost_of t (results os k)))
+  concludes : {s : Arrays} {h : ℕ → ℕ} {r n v : ℕ} {us ups : List Update} {os : List Parts}
+      → rank_at t r ≡ Some w → h r ≡ i → Visits t w k s r n v us → r + 1 ≡ ranks t
+      → row_at t w v ≡ Some (Last ups os)
+      → TakesTurns t w k i s h r n (updates s us k) (handled_more h r) (Forks (sent_of t (results os k)) (lost_of t (results os k)))
 
 -- each array is as after the packets that its rank has handled; m i is the store before packet i
 abbrev pub HoldsInTurn : Tables → (ℕ → Arrays) → ℕ → Arrays → (ℕ → ℕ) → Type 0
@@ -53,7 +56,9 @@ IsOnItsChain t k m o n (Forks copies number) = (copies ≡ sent_of t o.packets) 
 abbrev pub FaithfulTurnsKeep : Type 0
 FaithfulTurnsKeep =
     (p : Program) (topology : Topology) (places : List ℕ) (t : Tables) → Faithful p topology places t → t.version ≡ 2
-    → (m : ℕ → Arrays) (i port : ℕ) (k : List ℕ) (o : Meaning) → IsStoreOf p (m i) → CanEnter p t (port, k) → eval p.body (m i) k ≡ Some o → ((q : Place) → o.arrays q ≡ m (i + 1) q)
+    → (m : ℕ → Arrays) (i port : ℕ) (k : List ℕ) (o : Meaning) → IsStoreOf p (m i)
+    → CanEnter p t (port, k) → eval p.body (m i) k ≡ Some o → ((q : Place) → o.arrays q ≡ m (i + 1) q)
     → (first : ℕ) → Enters t k (m i) first
-    → (w r v : ℕ) (s s' : Arrays) (h h' : ℕ → ℕ) (b : Becomes) → Chained t k (m i) first r v → HoldsInTurn t m w s h → TakesTurns t w k i s h r v s' h' b
+    → (w r v : ℕ) (s s' : Arrays) (h h' : ℕ → ℕ) (b : Becomes)
+    → Chained t k (m i) first r v → HoldsInTurn t m w s h → TakesTurns t w k i s h r v s' h' b
     → HoldsInTurn t m w s' h' × IsOnItsChain t k (m i) o first b × ((q : Place) → (StandsAt t w q.var → ⊥) → s' q ≡ s q)

@@ -1,4 +1,5 @@
--- Leaves as tables have them: no logs, no update that changes nothing, updates by rank, and outs in rising order, each once, without parts that change nothing.
+-- Leaves as tables have them: no logs, no update that changes nothing, updates by rank, and outs in rising order, each once,
+-- without parts that change nothing.
 use Rattle.std.specs.Prelude.{◌≡◌, ◌↔◌, ℕ, zero, suc, Bool, false, not, ◌&&◌, ◌==◌, List, [], ◌++◌, map, slice_index, Contains}
 use Rattle.std.specs.List.{filter}
 use Rattle.std.specs.List.Sorted.{IsStrictlySortedBy}

@@ -32,8 +32,11 @@ stop_at t w front = if has_port t w && front then Some Stop else None
 abbrev pub row_for : Tables → ℕ → Bool → Option Row → Option Row
 row_for t w front None = None
 row_for t w front (Some (Field test y z)) = if has_port t w then Some (Field test y z) else None
-row_for t w front (Some (State test y z)) = if has_ports t && holds t w (rank_of t (var_of test)) then Some (State test y z) else stop_at t w front
-row_for t w front (Some (Last us os)) = if (if ranks t == 0 then has_port t w else has_ports t && holds t w (ranks t)) then Some (Last us os) else stop_at t w front
+row_for t w front (Some (State test y z)) = if has_ports t
+    && holds t w (rank_of t (var_of test)) then Some (State test y z) else stop_at t w front
+row_for t w front (Some (Last us os)) = if (if ranks t == 0 then has_port t w else has_ports t && holds t w (ranks t))
+    then Some (Last us os)
+    else stop_at t w front
 row_for t w front (Some b) = None
 
 -- a way of a test row
@@ -61,7 +64,8 @@ pub record AreNodes (t : Tables) (nodes : ℕ → Option Row) (front : ℕ → B
   pub kinds : (n : ℕ) (b : Row) → nodes n ≡ Some b → IsNodeKind b
   pub vars : (n : ℕ) (test : Test) (y z : ℕ) → nodes n ≡ Some (State test y z) → var_of test < array_count t
   pub ways : (n x : ℕ) (b : Row) → nodes n ≡ Some b → IsWay b x → (n < x) × (nodes x ≢ None)
-  pub order : (n x y z : ℕ) (test : Test) → nodes n ≡ Some (State test y z) → IsWay (State test y z) x → IfSome (nodes x) (MayFollow t (rank_of t (var_of test)))
+  pub order : (n x y z : ℕ) (test : Test) → nodes n ≡ Some (State test y z)
+      → IsWay (State test y z) x → IfSome (nodes x) (MayFollow t (rank_of t (var_of test)))
   pub parents : (n : ℕ) (b : Row) → nodes n ≡ Some b → (n ≡ 0) ⊎ ((m : ℕ) × (c : Row) × (nodes m ≡ Some c) × IsWay c n)
   pub is_front : (n : ℕ) → IsFront nodes n → front n ≡ true
   pub front_is : (n : ℕ) → front n ≡ true → IsFront nodes n
@@ -74,9 +78,11 @@ pub record ArePlaced (t : Tables) : Type 0 where
 -- each next hop is a neighbour, and nearer
 pub record AreHops (t : Tables) : Type 0 where
   pub distance : ℕ → ℕ → ℕ
-  pub each : (i : ℕ) (h : Hop) → slice_get t.hops i ≡ Some h → (h.from < switch_count t) × (h.target < switch_count t) × (next t h.from h.target ≡ h.next) × (h.from ≢ h.target)
+  pub each : (i : ℕ) (h : Hop) → slice_get t.hops i ≡ Some h → (h.from < switch_count t)
+      × (h.target < switch_count t) × (next t h.from h.target ≡ h.next) × (h.from ≢ h.target)
   pub linked : (a b : ℕ) → a < switch_count t → b < switch_count t → a ≢ b → IsLinked t a (next t a b)
-  pub nearer : (a b : ℕ) → a < switch_count t → b < switch_count t → a ≢ b → (next t a b < switch_count t) × (distance (next t a b) b < distance a b)
+  pub nearer : (a b : ℕ) → a < switch_count t → b < switch_count t → a ≢ b
+      → (next t a b < switch_count t) × (distance (next t a b) b < distance a b)
 
 -- the rows are the planned ones, and no pair of switch and number stands twice
 pub record ArePlanned (t : Tables) (nodes : ℕ → Option Row) (front : ℕ → Bool) : Type 0 where
@@ -85,4 +91,5 @@ pub record ArePlanned (t : Tables) (nodes : ℕ → Option Row) (front : ℕ →
 
 -- planned tables are valid, and their nodes are these
 abbrev pub PlannedIsValid : Type 0
-PlannedIsValid = (t : Tables) (nodes : ℕ → Option Row) (front : ℕ → Bool) → t.version ≡ 2 → AreNodes t nodes front → ArePlaced t → AreHops t → ArePlanned t nodes front → IsValid t
+PlannedIsValid = (t : Tables) (nodes : ℕ → Option Row) (front : ℕ → Bool) → t.version ≡ 2
+    → AreNodes t nodes front → ArePlaced t → AreHops t → ArePlanned t nodes front → IsValid t

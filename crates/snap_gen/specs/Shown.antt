@@ -42,8 +42,10 @@ pub record IsNumbering (ns : List (Node Leaf)) (root : ℕ) (ids : List ℕ) (nu
   pub first : slice_get ids 0 ≡ Some root
   pub own : (i d : ℕ) → slice_get ids i ≡ Some d → number d ≡ i
   pub nodes : (i d : ℕ) → slice_get ids i ≡ Some d → d < length ns
-  pub yes_side : (i d y z : ℕ) (t : Test) → slice_get ids i ≡ Some d → slice_get ns d ≡ Some (node.Ask t y z) → (i < number y) × (slice_get ids (number y) ≡ Some y)
-  pub no_side : (i d y z : ℕ) (t : Test) → slice_get ids i ≡ Some d → slice_get ns d ≡ Some (node.Ask t y z) → (i < number z) × (slice_get ids (number z) ≡ Some z)
+  pub yes_side : (i d y z : ℕ) (t : Test) → slice_get ids i ≡ Some d
+      → slice_get ns d ≡ Some (node.Ask t y z) → (i < number y) × (slice_get ids (number y) ≡ Some y)
+  pub no_side : (i d y z : ℕ) (t : Test) → slice_get ids i ≡ Some d
+      → slice_get ns d ≡ Some (node.Ask t y z) → (i < number z) × (slice_get ids (number z) ≡ Some z)
   pub reached : (i d : ℕ) → slice_get ids i ≡ Some d → Leads ns root d
 
 -- the row of the node that has this number
@@ -66,11 +68,13 @@ LeafGives (Goes g) m k o = (o.packets ≡ results g.outs k) × ((q : Place) → 
 
 -- the diagram does what the program does
 abbrev pub IsOutcomeOf : Program → Diagram → Type 0
-IsOutcomeOf p d = (m : Arrays) (k : List ℕ) (o : Meaning) → IsStore m → IsPacket (count p.fields) k → eval p.body m k ≡ Some o → LeafGives (walk d m k) m k o
+IsOutcomeOf p d = (m : Arrays) (k : List ℕ) (o : Meaning) → IsStore m
+    → IsPacket (count p.fields) k → eval p.body m k ≡ Some o → LeafGives (walk d m k) m k o
 
 -- tables that show the diagram mean the program
 abbrev pub ShownTablesMean : Type 0
-ShownTablesMean = (p : Program) (ns : List (Node Leaf)) (root : ℕ) (ids : List ℕ) (number : ℕ → ℕ) (t : Tables) → IsArena ns → IsNumbering ns root ids number → Shows ns ids number t
+ShownTablesMean = (p : Program) (ns : List (Node Leaf)) (root : ℕ) (ids : List ℕ) (number : ℕ → ℕ) (t : Tables)
+    → IsArena ns → IsNumbering ns root ids number → Shows ns ids number t
     → IsOutcomeOf p (diagram ns root) → HasMeaning p.body (count p.fields) t
 
 -- no race, and no logs
@@ -84,5 +88,6 @@ HasBareLeaves (Asks t y n) = HasBareLeaves y × HasBareLeaves n
 
 -- tables that show a live diagram with bare leaves are live and reduced
 abbrev pub ShownTablesAreLive : Type 0
-ShownTablesAreLive = (p : Program) (ns : List (Node Leaf)) (root : ℕ) (ids : List ℕ) (number : ℕ → ℕ) (t : Tables) → IsArena ns → IsNumbering ns root ids number → Shows ns ids number t
+ShownTablesAreLive = (p : Program) (ns : List (Node Leaf)) (root : ℕ) (ids : List ℕ) (number : ℕ → ℕ) (t : Tables)
+    → IsArena ns → IsNumbering ns root ids number → Shows ns ids number t
     → IsLive (IsInput (count p.fields) (length p.vars)) (diagram ns root) → HasBareLeaves (diagram ns root) → IsLiveAndReduced p t

@@ -21,4 +21,5 @@ pub record Enters (t : Tables) (k : List ℕ) (m : Arrays) (n : ℕ) : Type 0 wh
 -- from number n on, by the arrays m, the visits of the ranks below r come to number v
 pub data Chained (t : Tables) (k : List ℕ) (m : Arrays) (n : ℕ) : ℕ → ℕ → Type 0 where
   begun : Chained t k m n 0 n
-  visited : {w r v x : ℕ} {us : List Update} → Chained t k m n r v → rank_at t r ≡ Some w → Visits t w k m r v x us → Chained t k m n (r + 1) x
+  visited : {w r v x : ℕ} {us : List Update} → Chained t k m n r v
+      → rank_at t r ≡ Some w → Visits t w k m r v x us → Chained t k m n (r + 1) x

@@ -130,8 +130,10 @@ pub record IsComment (bytes : List ℕ) (n : ℕ) : Type 0 where
 -- The bytes, which begin at `at`, spell the tokens up to the rest, which begins at `end`.
 pub data Spells : ℕ → List ℕ → List Token → ℕ → List ℕ → Type 0 where
   spells_nothing : {at : ℕ} {rest : List ℕ} → Spells at rest [] at rest
-  spells_blank : {at end b : ℕ} {bytes rest : List ℕ} {ts : List Token} → is_blank b ≡ true → Spells (at + 1) bytes ts end rest → Spells at (b ∷ bytes) ts end rest
-  spells_comment : {at end : ℕ} {bytes rest : List ℕ} {ts : List Token} (n : ℕ) → IsComment bytes n → Spells (at + n) (drop n bytes) ts end rest → Spells at bytes ts end rest
+  spells_blank : {at end b : ℕ} {bytes rest : List ℕ} {ts : List Token}
+      → is_blank b ≡ true → Spells (at + 1) bytes ts end rest → Spells at (b ∷ bytes) ts end rest
+  spells_comment : {at end : ℕ} {bytes rest : List ℕ} {ts : List Token} (n : ℕ)
+      → IsComment bytes n → Spells (at + n) (drop n bytes) ts end rest → Spells at bytes ts end rest
   spells_token : {at end : ℕ} {bytes rest : List ℕ} {ts : List Token} (n : ℕ) (kind : Kind) → IsLexeme bytes n kind → IsLongest bytes n →
       Spells (at + n) (drop n bytes) ts end rest → Spells at bytes (record { kind = kind; from = at; to = at + n } ∷ ts) end rest
 

@@ -26,7 +26,8 @@ share_on place w b = share.Body
 
 -- the row of a switch and number, where their pair is marked
 abbrev pub demanded : Tables → List Row → List Switches → ℕ → ℕ → Option Row
-demanded t bodies marks w n = if has_pair marks w n then option_map (λ b. as_row b (share_on (place_of t) w b)) (slice_get bodies n) else None
+demanded t bodies marks w n = if has_pair marks w n then option_map (λ b. as_row b (share_on (place_of t) w b)) (slice_get bodies n)
+    else None
 
 -- of numbers with these nodes the bodies, and the rows of all pairs that are demanded
 pub record AreDemandedRows (t : Tables) (nodes bodies : List Row) (shares : List RowShare) : Type 0 where
@@ -45,4 +46,5 @@ pub record AreNumberedRows (t : Tables) (ns : List (Node Leaf)) (root : ℕ) (bo
 
 -- however the nodes below a root of an arena are numbered, they are nodes for the tables
 abbrev pub CanBeNumbered : Tables → List (Node Leaf) → ℕ → Type 0
-CanBeNumbered t ns root = IsArena ns → (ids : List ℕ) (number : ℕ → ℕ) → IsNumbering ns root ids number → HasNodes t (numbered_nodes ns ids number)
+CanBeNumbered t ns root = IsArena ns → (ids : List ℕ) (number : ℕ → ℕ)
+    → IsNumbering ns root ids number → HasNodes t (numbered_nodes ns ids number)

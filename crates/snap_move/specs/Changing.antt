@@ -53,14 +53,17 @@ pub data RunsThrough (end : Tables) (left : List Later) (last : Net) : Tables �
   rests : RunsThrough end left last end left last [] []
   changes : {t : Tables} {l : Later} {ls : List Later} {s : Net} {ks : List (List ℕ)} {turns : List Turn} → l.after ≡ s.injected
       → RunsThrough end left last l.tables ls (changed l.tables t s) ks turns → RunsThrough end left last t (l ∷ ls) s ks turns
-  goes : {t : Tables} {ls : List Later} {s s' : Net} {k : List ℕ} {ks : List (List ℕ)} {hs : List Happening} {turns : List Turn} → IsAhead ls s.injected
-      → GoesThrough t k s s' hs → RunsThrough end left last t ls s' ks turns → RunsThrough end left last t ls s (k ∷ ks) (record { tables = t; happenings = hs } ∷ turns)
+  goes : {t : Tables} {ls : List Later} {s s' : Net} {k : List ℕ} {ks : List (List ℕ)} {hs : List Happening} {turns : List Turn}
+      → IsAhead ls s.injected
+      → GoesThrough t k s s' hs → RunsThrough end left last t ls s' ks turns
+      → RunsThrough end left last t ls s (k ∷ ks) (record { tables = t; happenings = hs } ∷ turns)
 
 -- ---- reports
 -- the blocks of packets, of which the first has this number, counted from 0; the switches of each are named by the tables then in force
 abbrev pub AreBlocksFrom : (hops : Bool) → (i : ℕ) → List Turn → List ℕ → Type 0
 AreBlocksFrom hops i [] text = text ≡ []
-AreBlocksFrom hops i (x ∷ xs) text = (block : List ℕ) × (rest : List ℕ) × IsBlock x.tables hops i x.happenings block × AreBlocksFrom hops (i + 1) xs rest × (text ≡ block ++ rest)
+AreBlocksFrom hops i (x ∷ xs) text = (block : List ℕ) × (rest : List ℕ)
+    × IsBlock x.tables hops i x.happenings block × AreBlocksFrom hops (i + 1) xs rest × (text ≡ block ++ rest)
 
 -- from empty arrays the run of these packets has these blocks,
 pub record AreChangedBlocks (first : Tables) (later : List Later) (hops : Bool) (ks : List (List ℕ)) (text : List ℕ) : Type 0 where

@@ -24,12 +24,15 @@ EndsAsRead first later hops ks (refused fault) ending text = (ending ≡ Err fau
 
 -- how a run over a file ends, and what is reported
 abbrev pub IsChangedTrace : Tables → List Later → (hops : Bool) → (file : List ℕ) → RunEnding → List ℕ → Type 0
-IsChangedTrace first later hops file ending text = EndsAsRead first later hops (spelled_under first later file).packets (spelled_under first later file).stop ending text
+IsChangedTrace first later hops file ending text = EndsAsRead first later hops
+    (spelled_under first later file).packets (spelled_under first later file).stop ending text
 
 -- the blocks of some first packets that the file spells
 abbrev pub AreChangedTraceBlocks : Tables → List Later → (hops : Bool) → (file : List ℕ) → List ℕ → Type 0
-AreChangedTraceBlocks first later hops file text = (count : ℕ) × AreChangedBlocks first later hops (take count (spelled_under first later file).packets) text
+AreChangedTraceBlocks first later hops file text = (count : ℕ)
+    × AreChangedBlocks first later hops (take count (spelled_under first later file).packets) text
 
 -- the run ended as the file deserves, with its whole report, or some first bytes of it have gone out
 abbrev pub WritesChanged : Tables → List Later → (hops : Bool) → (file : List ℕ) → RunEnding → Option (List ℕ) → Option (List ℕ) → Type 0
-WritesChanged first later hops file ending old new = Writes (AreChangedTraceBlocks first later hops file) (IsChangedTrace first later hops file) ending old new
+WritesChanged first later hops file ending old new = Writes
+    (AreChangedTraceBlocks first later hops file) (IsChangedTrace first later hops file) ending old new

@@ -32,10 +32,12 @@ AreInForm first later = IsInForm first × All (λ (l : Later). IsInForm l.tables
 
 -- packets have one report, and the same blocks, in the run with these changes
 abbrev pub ChangedReportsAreOne : Type 0
-ChangedReportsAreOne = (first : Tables) (later : List Later) → AreInForm first later → (hops : Bool) (ks : List (List ℕ)) (a b : List ℕ) → IsChangedReport first later hops ks a → IsChangedReport first later hops ks b → a ≡ b
+ChangedReportsAreOne = (first : Tables) (later : List Later) → AreInForm first later → (hops : Bool) (ks : List (List ℕ)) (a b : List ℕ)
+    → IsChangedReport first later hops ks a → IsChangedReport first later hops ks b → a ≡ b
 
 abbrev pub ChangedBlocksAreOne : Type 0
-ChangedBlocksAreOne = (first : Tables) (later : List Later) → AreInForm first later → (hops : Bool) (ks : List (List ℕ)) (a b : List ℕ) → AreChangedBlocks first later hops ks a → AreChangedBlocks first later hops ks b → a ≡ b
+ChangedBlocksAreOne = (first : Tables) (later : List Later) → AreInForm first later → (hops : Bool) (ks : List (List ℕ)) (a b : List ℕ)
+    → AreChangedBlocks first later hops ks a → AreChangedBlocks first later hops ks b → a ≡ b
 
 -- turns with a report have one without hops, which is the same where none are told
 abbrev pub TurnsReportWithoutHops : Type 0
@@ -61,22 +63,26 @@ ChangedRunsReportOneSwitch = (p : Program) (first : Tables) (later : List Later)
     → (ks : List (List ℕ)) → All (IsPacketOf p) ks → (text : List ℕ) → IsChangedReport first later false ks text
     → IsSwitchReportUnder p (λ i. port_numbers (in_force first later i)) ks text
 
--- each copy makes few hops: at most (groups + 1) times the diameter of the topology that is in force, where the tables in force are of version 2, and
+-- each copy makes few hops: at most (groups + 1) times the diameter of the topology that is in force, where the tables in force
+-- are of version 2, and
 -- (2 groups + 1) times where they are of version 1
 abbrev pub IsTurnShort : (groups : ℕ) → Turn → Type 0
-IsTurnShort groups x = (d : ℕ) → IsDiameter (Linked x.tables.links) (length x.tables.switches) d → All (IsHopWithin (most_hops x.tables.version groups d)) x.happenings
+IsTurnShort groups x = (d : ℕ) → IsDiameter (Linked x.tables.links) (length x.tables.switches) d
+    → All (IsHopWithin (most_hops x.tables.version groups d)) x.happenings
 
 -- **so it does in each run with changes of faithful tables**
 abbrev pub ChangedRunsAreShort : Type 0
 ChangedRunsAreShort = (p : Program) (first : Tables) (later : List Later) → AreFaithful p first later
     → IsRising later → (order : List ℕ) → IsRank p.body (length p.vars) order → (ks : List (List ℕ)) → All (IsPacketOf p) ks
-    → (end : Tables) (left : List Later) (s : Net) (turns : List Turn) → RunsThrough end left s first later (start first zero_arrays) ks turns
+    → (end : Tables) (left : List Later) (s : Net) (turns : List Turn)
+    → RunsThrough end left s first later (start first zero_arrays) ks turns
     → All (IsTurnShort (length order)) turns
 
 -- ---- one big switch whose program changes
 -- while one program is in force it is one big switch of that program
 abbrev pub PieceIsOneSwitch : Type 0
-PieceIsOneSwitch = (programs : ℕ → Program) (p : Program) (i : ℕ) (m : Arrays) (ks : List (List ℕ)) → ((j : ℕ) → i ≤ j → j < i + length ks → programs j ≡ p)
+PieceIsOneSwitch = (programs : ℕ → Program) (p : Program) (i : ℕ) (m : Arrays) (ks : List (List ℕ))
+    → ((j : ℕ) → i ≤ j → j < i + length ks → programs j ≡ p)
     → changing_switch programs i m ks ≡ one_big_switch p.body m ks
 
 -- packets behind others begin with the arrays that those left
@@ -85,14 +91,17 @@ then_switched a b = record { packets = a.packets ++ b.packets; arrays = b.arrays
 
 abbrev pub PiecesFollow : Type 0
 PiecesFollow = (programs : ℕ → Program) (i : ℕ) (m : Arrays) (ks more : List (List ℕ))
-    → changing_switch programs i m (ks ++ more) ≡ option_and_then (λ a. option_map (then_switched a) (changing_switch programs (i + length ks) a.arrays more)) (changing_switch programs i m ks)
+    → changing_switch programs i m (ks ++ more) ≡ option_and_then
+    (λ a. option_map (then_switched a) (changing_switch programs (i + length ks) a.arrays more)) (changing_switch programs i m ks)
 
 -- with one program the report is that of one big switch, and conversely
 abbrev pub OneProgramReportsOneSwitch : Type 0
-OneProgramReportsOneSwitch = (p : Program) (ports : ℕ → List ℕ) (ks : List (List ℕ)) (text : List ℕ) → IsChangingReport (λ i. p) ports ks text → IsSwitchReportUnder p ports ks text
+OneProgramReportsOneSwitch = (p : Program) (ports : ℕ → List ℕ) (ks : List (List ℕ)) (text : List ℕ)
+    → IsChangingReport (λ i. p) ports ks text → IsSwitchReportUnder p ports ks text
 
 abbrev pub OneSwitchIsReported : Type 0
-OneSwitchIsReported = (p : Program) (ports : ℕ → List ℕ) (ks : List (List ℕ)) (text : List ℕ) → IsSwitchReportUnder p ports ks text → IsChangingReport (λ i. p) ports ks text
+OneSwitchIsReported = (p : Program) (ports : ℕ → List ℕ) (ks : List (List ℕ)) (text : List ℕ)
+    → IsSwitchReportUnder p ports ks text → IsChangingReport (λ i. p) ports ks text
 
 -- ---- tables of a program that changes
 -- the tables that are in force for each packet are faithful to the program of its number, for some topology and placement
@@ -102,11 +111,13 @@ AreFaithfulTo programs first later = (i : ℕ) → IsFaithfulTo (programs i) (in
 -- **Where the tables in force are always faithful to the program in force, and have one shape, the run with changes reports
 -- exactly what one big switch does whose program changes,** at the ports that are in force
 abbrev pub UpgradedRunsReportOneSwitch : Type 0
-UpgradedRunsReportOneSwitch = (programs : ℕ → Program) (first : Tables) (later : List Later) → AreFaithfulTo programs first later → HaveShapeOf first later → IsRising later
+UpgradedRunsReportOneSwitch = (programs : ℕ → Program) (first : Tables) (later : List Later)
+    → AreFaithfulTo programs first later → HaveShapeOf first later → IsRising later
     → (ks : List (List ℕ)) → All (IsPacket (count first.fields)) ks → (text : List ℕ) → IsChangedReport first later false ks text
     → IsChangingReport programs (λ i. port_numbers (in_force first later i)) ks text
 
--- each copy makes few hops, by the groups of the program, the tables and the topology that are in force. The first of the turns has number i
+-- each copy makes few hops, by the groups of the program, the tables and the topology that are in force. The first of the turns
+-- has number i
 abbrev pub IsTurnShortFor : Program → Turn → Type 0
 IsTurnShortFor p x = (order : List ℕ) → IsRank p.body (length p.vars) order → IsTurnShort (length order) x
 
@@ -116,7 +127,9 @@ AreTurnsShort programs i (x ∷ xs) = IsTurnShortFor (programs i) x × AreTurnsS
 
 -- **so it does in each such run**
 abbrev pub UpgradedRunsAreShort : Type 0
-UpgradedRunsAreShort = (programs : ℕ → Program) (first : Tables) (later : List Later) → AreFaithfulTo programs first later → HaveShapeOf first later → IsRising later
+UpgradedRunsAreShort = (programs : ℕ → Program) (first : Tables) (later : List Later)
+    → AreFaithfulTo programs first later → HaveShapeOf first later → IsRising later
     → (ks : List (List ℕ)) → All (IsPacket (count first.fields)) ks
-    → (end : Tables) (left : List Later) (s : Net) (turns : List Turn) → RunsThrough end left s first later (start first zero_arrays) ks turns
+    → (end : Tables) (left : List Later) (s : Net) (turns : List Turn)
+    → RunsThrough end left s first later (start first zero_arrays) ks turns
     → AreTurnsShort programs 0 turns

@@ -19,7 +19,8 @@ is_file_name (b ∷ bs) = not (b == 45) && not (list_any (λ x. x == 13) (b ∷ 
 -- `after N NAME`, where a fourth word may stand behind
 abbrev pub after_words : (word figures name : List ℕ) → (more : Bool) → Option (ℕ × List ℕ)
 after_words word figures name more =
-    if more || not (bytes_eq word (codes "after")) || not (is_file_name name) then None else option_map (λ n. (n, name)) (number_up_to 1000000 figures)
+    if more || not (bytes_eq word (codes "after")) || not (is_file_name name) then None
+        else option_map (λ n. (n, name)) (number_up_to 1000000 figures)
 
 abbrev pub change_of_words : List (List ℕ) → Option (ℕ × List ℕ)
 change_of_words (word ∷ figures ∷ name ∷ words) = after_words word figures name (is_some_list words)
@@ -40,7 +41,8 @@ behind before (Ok changes) = Ok (before ++ changes)
 behind before (Err fault) = Err fault
 
 -- a line of this number, whose change may come behind `least` packets at the earliest, and before which so many changes stand
-abbrev pub with_change : (line least count : ℕ) → Option (ℕ × List ℕ) → Result (List Change) ChangesFault → Result (List Change) ChangesFault
+abbrev pub with_change : (line least count : ℕ) → Option (ℕ × List ℕ)
+    → Result (List Change) ChangesFault → Result (List Change) ChangesFault
 with_change line least count None rest = Err (Line line)
 with_change line least count (Some said) rest =
     if nat_lt said.0 least then Err (Line line) else

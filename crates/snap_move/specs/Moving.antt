@@ -31,7 +31,8 @@ TakesChange line old new (Err NoMemory) = Unit {0}
 -- a change stands behind the others, or there are too many
 abbrev pub AddsChange : (after : ℕ) → (name : List ℕ) → (old new : Read) → Result (Unit {0}) ChangesFault → Type 0
 AddsChange after name old new (Ok u) =
-    (length old.changes.items ≢ 16) × (new.changes.items ≡ old.changes.items ++ record { after = after; line = old.lines; name = name } ∷ []) × (new.least ≡ after + 1)
+    (length old.changes.items ≢ 16)
+        × (new.changes.items ≡ old.changes.items ++ record { after = after; line = old.lines; name = name } ∷ []) × (new.least ≡ after + 1)
 AddsChange after name old new (Err (Line number)) = ⊥
 AddsChange after name old new (Err (Limit which count)) = (length old.changes.items ≡ 16) × (which ≡ Changes) × (count ≡ 17)
 AddsChange after name old new (Err NoMemory) = Unit {0}
@@ -73,7 +74,8 @@ IsSettled m = IsAhead (left_in m) m.tracer.net.injected
 
 -- a change that was due is made
 abbrev pub HasSettled : (old new : Mover) → Type 0
-HasSettled old new = (first : Tables) (later : List Later) (packets : List (List ℕ)) (turns : List Turn) → Stands first later packets turns old → Stands first later packets turns new
+HasSettled old new = (first : Tables) (later : List Later) (packets : List (List ℕ)) (turns : List Turn)
+    → Stands first later packets turns old → Stands first later packets turns new
 
 -- In a run that began with the first of these networks these packets were taken, of which these are the blocks.
 pub record StandsBehind (first : Mover) (packets : List (List ℕ)) (text : List ℕ) (m : Mover) : Type 0 where

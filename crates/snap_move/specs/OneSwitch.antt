@@ -42,4 +42,5 @@ pub record IsChangingReport (programs : ℕ → Program) (ports : ℕ → List �
   pub defined : changing_switch programs 0 zero_arrays ks ≡ Some made
   pub entries : List Entry
   pub listed : IsListing made.arrays entries
-  pub is : text ≡ blocks_under (λ i. port_lines (programs i).fields (ports i)) 0 made.packets ++ end_text (programs (length ks)).vars entries
+  pub is : text ≡ blocks_under (λ i. port_lines (programs i).fields (ports i)) 0 made.packets
+      ++ end_text (programs (length ks)).vars entries

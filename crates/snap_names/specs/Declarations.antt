@@ -50,7 +50,8 @@ short n = min n 65535
 -- what the names of a field stand for, where its components begin at c
 abbrev pub field_senses : ℕ → List ℕ → Option ℕ → List (List ℕ × Sense)
 field_senses c name None = (name, Plain (short c)) ∷ []
-field_senses c name (Some n) = (name, Split (short c) (short (c + 1)) n) ∷ (name ++ codes ".net", Plain (short c)) ∷ (name ++ codes ".host", Plain (short (c + 1))) ∷ []
+field_senses c name (Some n) = (name, Split (short c) (short (c + 1)) n)
+    ∷ (name ++ codes ".net", Plain (short c)) ∷ (name ++ codes ".host", Plain (short (c + 1))) ∷ []
 
 -- the length of a split field's prefix, from 1 to 31
 abbrev pub prefix_length : List ℕ → Option Span → Result (Option ℕ) NameFault
@@ -58,10 +59,12 @@ prefix_length text None = Ok None
 prefix_length text (Some t) = after (number_at text t) (λ n. if nat_le 1 n && nat_le n 31 then Ok (Some n) else Err (Prefix t.from))
 
 abbrev pub with_field : Declared → List ℕ → Option ℕ → Declared
-with_field d name prefix = record d { fields = d.fields ++ record { name = name; prefix = prefix } ∷ []; names = d.names ++ field_senses (count d.fields) name prefix }
+with_field d name prefix = record d
+    { fields = d.fields ++ record { name = name; prefix = prefix } ∷ []; names = d.names ++ field_senses (count d.fields) name prefix }
 
 abbrev pub with_array : Declared → List ℕ → Declared
-with_array d name = record d { arrays = d.arrays ++ name ∷ []; names = d.names ++ (name, Array (length d.arrays)) ∷ []; arities = d.arities ++ None ∷ [] }
+with_array d name = record d
+    { arrays = d.arrays ++ name ∷ []; names = d.names ++ (name, Array (length d.arrays)) ∷ []; arities = d.arities ++ None ∷ [] }
 
 abbrev pub with_constant : Declared → List ℕ → ℕ → Bool → Declared
 with_constant d name n b = record d { names = d.names ++ (name, Constant n b) ∷ [] }

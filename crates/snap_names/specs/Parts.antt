@@ -70,7 +70,8 @@ pub record IsBody (body : Body) (p : CorePolicy) : Type 0 where
 
 pub data AreBodies : List Body → List CorePolicy → Type 0 where
   no_bodies : AreBodies [] []
-  more_bodies : {b : Body} {p : CorePolicy} {bs : List Body} {ps : List CorePolicy} → IsBody b p → AreBodies bs ps → AreBodies (b ∷ bs) (p ∷ ps)
+  more_bodies : {b : Body} {p : CorePolicy} {bs : List Body} {ps : List CorePolicy}
+      → IsBody b p → AreBodies bs ps → AreBodies (b ∷ bs) (p ∷ ps)
 
 abbrev pub names_in : List (Vec ℕ Global × Sense) → List (List ℕ × Sense)
 names_in es = map (λ e. (e.0.items, e.1)) es
@@ -97,7 +98,8 @@ abbrev pub nodes_of_all : {A : Type 0} → (A → CorePolicy) → Option A → �
 nodes_of_all form None = 0
 nodes_of_all form (Some x) = nodes (form x)
 
-pub record HaveRead {A : Type 0} (form : A → CorePolicy) (r : Result (Option A × Arities) NameFault) (old new : Tally) (parts : Option Part) : Type 0 where
+pub record HaveRead {A : Type 0} (form : A → CorePolicy)
+    (r : Result (Option A × Arities) NameFault) (old new : Tally) (parts : Option Part) : Type 0 where
   pub value : Option A
   pub reading : r ≡ Ok (value, new.arities.items)
   pub counted : capped new.nodes ≡ capped (old.nodes + nodes_of_all form value)
@@ -109,12 +111,16 @@ Refuses r result = IfErr result (λ f. f ≢ NoMemory → r ≡ Err f)
 
 -- The answer is the reading's, but for want of memory, whatever core policies the bodies of `let` stand for.
 abbrev pub Reads : Scope → (Env → Arities → Reading) → Tally → Tally → Result Part NameFault → Type 0
-Reads s read old new (Ok part) = (lets : List CorePolicy) → AreBodies s.lets.items lets → HasRead itself (read (env_in s lets) old.arities.items) old new part
-Reads s read old new (Err f) = f ≢ NoMemory → (lets : List CorePolicy) → AreBodies s.lets.items lets → read (env_in s lets) old.arities.items ≡ Err f
+Reads s read old new (Ok part) = (lets : List CorePolicy) → AreBodies s.lets.items lets
+    → HasRead itself (read (env_in s lets) old.arities.items) old new part
+Reads s read old new (Err f) = f ≢ NoMemory → (lets : List CorePolicy)
+    → AreBodies s.lets.items lets → read (env_in s lets) old.arities.items ≡ Err f
 
 abbrev pub ReadsTest : Scope → (Env → Arities → TestReading) → Tally → Tally → Result Part NameFault → Type 0
-ReadsTest s read old new (Ok part) = (lets : List CorePolicy) → AreBodies s.lets.items lets → HasRead filter (read (env_in s lets) old.arities.items) old new part
-ReadsTest s read old new (Err f) = f ≢ NoMemory → (lets : List CorePolicy) → AreBodies s.lets.items lets → read (env_in s lets) old.arities.items ≡ Err f
+ReadsTest s read old new (Ok part) = (lets : List CorePolicy) → AreBodies s.lets.items lets
+    → HasRead filter (read (env_in s lets) old.arities.items) old new part
+ReadsTest s read old new (Err f) = f ≢ NoMemory → (lets : List CorePolicy)
+    → AreBodies s.lets.items lets → read (env_in s lets) old.arities.items ≡ Err f
 
 -- a simple policy was read, without counting its nodes
 abbrev pub ReadsSimple : Reading → Tally → Result Pol NameFault → Type 0

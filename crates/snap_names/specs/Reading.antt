@@ -109,7 +109,8 @@ joined f None y = y
 joined f (Some x) y = f x y
 
 -- operands before, and one more
-abbrev pub more : {A : Type 0} → (A → A → A) → (Arities → Result (A × Arities) NameFault) → Option A × Arities → Result (Option A × Arities) NameFault
+abbrev pub more : {A : Type 0} → (A → A → A) → (Arities → Result (A × Arities) NameFault)
+    → Option A × Arities → Result (Option A × Arities) NameFault
 more f read before = after (read before.1) (λ y. Ok (Some (joined f before.0 y.0), y.1))
 
 -- all operands of a repeated part
@@ -134,7 +135,8 @@ abbrev mutual
   -- sequences joined by `+`
   pub read_sequences : Env → PolicyTree → Arities → Result (Option CorePolicy × Arities) NameFault
   read_sequences e (policy_begin at) before = Ok (None, before)
-  read_sequences e (policy_more p s) before = after (read_sequences e p before) (more par (λ arities. after (read_choices e s arities) whole))
+  read_sequences e (policy_more p s) before = after (read_sequences e p before)
+      (more par (λ arities. after (read_choices e s arities) whole))
 
   -- choices joined by `;`
   pub read_choices : Env → SequenceTree → Arities → Result (Option CorePolicy × Arities) NameFault
@@ -161,7 +163,8 @@ abbrev mutual
   pub read_boths : Env → EitherTree → Arities → Result (Option CoreTest × Arities) NameFault
   read_boths e (either_begin at) before = Ok (None, before)
   read_boths e (either_more d b) before =
-      after (read_boths e d before) (more or_test (λ arities. operand (both_is_predicate e b) (both_fault e.words b) (read_both e b arities)))
+      after (read_boths e d before)
+          (more or_test (λ arities. operand (both_is_predicate e b) (both_fault e.words b) (read_both e b arities)))
 
   -- one operand, or several predicates joined by `&`
   pub read_both : Env → BothTree → Arities → Reading
@@ -176,7 +179,8 @@ abbrev mutual
   pub read_singles : Env → BothTree → Arities → Result (Option CoreTest × Arities) NameFault
   read_singles e (both_begin at) before = Ok (None, before)
   read_singles e (both_more b s) before =
-      after (read_singles e b before) (more and_test (λ arities. operand (is_predicate e s) (single_fault e.words s) (read_single e s arities)))
+      after (read_singles e b before)
+          (more and_test (λ arities. operand (is_predicate e s) (single_fault e.words s) (read_single e s arities)))
 
   pub read_single : Env → SingleTree → Arities → Reading
   read_single e (not_tree at s) before =
@@ -190,11 +194,14 @@ abbrev mutual
   read_single e (set_tree name v) before = after (field_gets e.words name v) (λ p. Ok (p, before))
   read_single e (bare_tree name vs) before = after (place e.words before name vs) (tested (Ok (Num 1)))
   read_single e (array_test_tree name vs v) before = after (place e.words before name vs) (tested (array_atom e.words v))
-  read_single e (array_set_tree name vs v) before = after (place e.words before name vs) (changed (after (array_atom e.words v) (λ a. Ok (Put a))))
+  read_single e (array_set_tree name vs v) before = after
+      (place e.words before name vs) (changed (after (array_atom e.words v) (λ a. Ok (Put a))))
   read_single e (up_tree name vs) before = after (place e.words before name vs) (changed (Ok (Add 1)))
   read_single e (down_tree name vs) before = after (place e.words before name vs) (changed (Ok (Add (2 ^ 64 - 1))))
-  read_single e (array_add_tree name vs v) before = after (place e.words before name vs) (changed (after (constant e.words v) (λ n. Ok (Add n))))
-  read_single e (array_sub_tree name vs v) before = after (place e.words before name vs) (changed (after (constant e.words v) (λ n. Ok (Add ((2 ^ 64 - n) % 2 ^ 64)))))
+  read_single e (array_add_tree name vs v) before = after
+      (place e.words before name vs) (changed (after (constant e.words v) (λ n. Ok (Add n))))
+  read_single e (array_sub_tree name vs v) before = after (place e.words before name vs)
+      (changed (after (constant e.words v) (λ n. Ok (Add ((2 ^ 64 - n) % 2 ^ 64)))))
 
 abbrev pub read_policy : Env → PolicyTree → Arities → Reading
 read_policy e p before = after (read_sequences e p before) whole

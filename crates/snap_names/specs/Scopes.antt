@@ -14,7 +14,8 @@ use Rattle.snap_names.specs.Parts.{AreBodies, IsPart, names_in}
 
 -- what is declared in a scope, with what the bodies of `let` stand for
 abbrev pub declared_in : Scope → List CorePolicy → Arities → Declared
-declared_in s lets arities = record { fields = s.fields.items; arrays = s.arrays.items; lets = lets; names = names_in s.names.entries; arities = arities }
+declared_in s lets arities = record
+    { fields = s.fields.items; arrays = s.arrays.items; lets = lets; names = names_in s.names.entries; arities = arities }
 
 -- The bodies of `let` stand for these policies, and the components are counted.
 pub record IsScope (s : Scope) (lets : List CorePolicy) : Type 0 where
@@ -30,8 +31,10 @@ pub record HasDeclared (text : List ℕ) (r : Result Declared NameFault) (s : Sc
 
 -- The declaration is declared in the scope, or refused as it says, but for want of memory.
 abbrev pub Declares : DeclTree → Scope → Scope → Arities → Arities → Result Unit NameFault → Type 0
-Declares t old new before behind (Ok u) = (lets : List CorePolicy) → IsScope old lets → HasDeclared old.text.now (declare old.text.now (declared_in old lets before) t) new behind
-Declares t old new before behind (Err f) = f ≢ NoMemory → (lets : List CorePolicy) → IsScope old lets → declare old.text.now (declared_in old lets before) t ≡ Err f
+Declares t old new before behind (Ok u) = (lets : List CorePolicy) → IsScope old lets
+    → HasDeclared old.text.now (declare old.text.now (declared_in old lets before) t) new behind
+Declares t old new before behind (Err f) = f ≢ NoMemory → (lets : List CorePolicy)
+    → IsScope old lets → declare old.text.now (declared_in old lets before) t ≡ Err f
 
 -- The fields of a scope are those of a program, but for their number.
 abbrev pub AreFields : Scope → Type 0
@@ -39,8 +42,11 @@ AreFields s = count s.fields.items ≤ 64 → IsFields s.fields.items
 
 -- The program of a scope is within all limits, where a part stands for its body.
 abbrev pub IsWithin : Scope → Tally → Part → Type 0
-IsWithin s tally part = (lets : List CorePolicy) (p : CorePolicy) → capped tally.nodes ≡ capped (nodes p) → IsPart p tally.nodes part → limited (declared_in s lets tally.arities.items) (p, tally.arities.items) ≡ Ok (record { fields = s.fields.items; vars = s.arrays.items; body = p })
+IsWithin s tally part = (lets : List CorePolicy) (p : CorePolicy) → capped tally.nodes ≡ capped (nodes p)
+    → IsPart p tally.nodes part → limited (declared_in s lets tally.arities.items) (p, tally.arities.items)
+    ≡ Ok (record { fields = s.fields.items; vars = s.arrays.items; body = p })
 
 -- what `limited` gives for a scope, where a part stands for a whole body
 abbrev pub Limits : Scope → Tally → Part → (Result CoreProgram NameFault → Type 0) → Type 0
-Limits s tally part Q = (lets : List CorePolicy) (p : CorePolicy) → capped tally.nodes ≡ capped (nodes p) → IsPart p tally.nodes part → Q (limited (declared_in s lets tally.arities.items) (p, tally.arities.items))
+Limits s tally part Q = (lets : List CorePolicy) (p : CorePolicy) → capped tally.nodes ≡ capped (nodes p)
+    → IsPart p tally.nodes part → Q (limited (declared_in s lets tally.arities.items) (p, tally.arities.items))

@@ -14,4 +14,5 @@ HoldsOwnAlone t s = (w : ℕ) (p : Place) → owner_of t p.var ≢ Some w → s.
 
 -- after every list of events that is so
 abbrev pub ArraysStayHome : Type 0
-ArraysStayHome = (t : Tables) → IsValid t → IsInForm t → (m : Arrays) (es : List Event) (s : Net) (hs : List Happening) → Run t m es s hs → HoldsOwnAlone t s
+ArraysStayHome = (t : Tables) → IsValid t → IsInForm t
+    → (m : Arrays) (es : List Event) (s : Net) (hs : List Happening) → Run t m es s hs → HoldsOwnAlone t s

@@ -86,10 +86,12 @@ HasGone t old k f new moved = (c : Flying) → slice_get old k ≡ Some c → (n
 
 -- the same of one that is forked by these outs
 abbrev pub HasParted : Tables → List Flying → ℕ → List Parts → List Flying → Moved → Type 0
-HasParted t old k os new moved = (c : Flying) → slice_get old k ≡ Some c → (new ≡ spliced old k 1 (flights c (forked t os c.packet))) × (moved ≡ moved_of c (forked t os c.packet))
+HasParted t old k os new moved = (c : Flying) → slice_get old k ≡ Some c
+    → (new ≡ spliced old k 1 (flights c (forked t os c.packet))) × (moved ≡ moved_of c (forked t os c.packet))
 
 -- copy c at place k has made its step, with the visits that may be made
-pub record HasMade (may : ℕ → Bool) (t : Tables) (c : Flying) (k : ℕ) (old : List Kept) (from : List Flying) (new : List Kept) (to : List Flying) (moved : Moved) : Type 0 where
+pub record HasMade (may : ℕ → Bool) (t : Tables) (c : Flying) (k : ℕ) (old : List Kept)
+    (from : List Flying) (new : List Kept) (to : List Flying) (moved : Moved) : Type 0 where
   pub arrays : Arrays
   pub fate : Fate
   pub steps : Steps t c.at c.packet may (store_of old c.at) c.head arrays fate
@@ -97,7 +99,8 @@ pub record HasMade (may : ℕ → Bool) (t : Tables) (c : Flying) (k : ℕ) (old
   pub flying : to ≡ spliced from k 1 (left_by t c fate)
   pub tells : moved ≡ told_by t c fate
 
-abbrev pub MakesStep : (may : ℕ → Bool) → Tables → ℕ → (old : List Kept) → (from : List Flying) → (new : List Kept) → (to : List Flying) → Moved → Type 0
+abbrev pub MakesStep : (may : ℕ → Bool) → Tables → ℕ → (old : List Kept)
+    → (from : List Flying) → (new : List Kept) → (to : List Flying) → Moved → Type 0
 MakesStep may t k old from new to moved = (c : Flying) → slice_get from k ≡ Some c → HasMade may t c k old from new to moved
 
 -- copy k of a network has made its step

@@ -1,4 +1,5 @@
--- How a packet passes through the network: it comes in, and then its copies make their steps, the first one at a time, until each is delivered.
+-- How a packet passes through the network: it comes in, and then its copies make their steps, the first one at a time, until
+-- each is delivered.
 use Rattle.std.specs.Prelude.{◌≡◌, ℕ, ◌+◌, true, Some, List, [], ◌∷◌, ◌++◌, map, sum}
 use Rattle.std.specs.List.{All}
 use Rattle.snap_core.specs.Arrays.{Arrays}
@@ -38,7 +39,8 @@ pub record IsTold (i : ℕ) (sent : List (List ℕ)) (lost : ℕ) (hs : List Hap
   pub lost_is : sum (losses_of i hs) ≡ lost
 
 -- the same, and the links that were crossed were told to one who saw others before
-pub record IsHeard {V : Type 0} (saw : V → List Happening → V → Type 0) (i : ℕ) (old new : V) (sent : List (List ℕ)) (lost : ℕ) (hs : List Happening) : Type 0 where
+pub record IsHeard {V : Type 0} (saw : V → List Happening → V → Type 0) (i : ℕ)
+    (old new : V) (sent : List (List ℕ)) (lost : ℕ) (hs : List Happening) : Type 0 where
   pub told : IsTold i sent lost hs
   pub heard : Hears saw old new (crossings hs)
 
@@ -100,21 +102,26 @@ pub record Goes (t : Tables) (s : Net) (hs : List Happening) (s' : Net) : Type 0
   pub run : RunsCalmly t s events s' hs
 
 -- from each state with the first stores and copies, where n packets were injected, such steps lead to one with the others, and this is told
-abbrev pub Comes : Tables → ℕ → (old : List Kept) (from : List Flying) (new : List Kept) (to : List Flying) → (List Happening → Type 0) → Type 0
-Comes t n old from new to told = (s : Net) → Shows (held t n old from) s → (s' : Net) × (hs : List Happening) × Goes t s hs s' × Shows (held t n new to) s' × told hs
+abbrev pub Comes : Tables → ℕ → (old : List Kept) (from : List Flying) (new : List Kept) (to : List Flying)
+    → (List Happening → Type 0) → Type 0
+Comes t n old from new to told = (s : Net) → Shows (held t n old from) s
+    → (s' : Net) × (hs : List Happening) × Goes t s hs s' × Shows (held t n new to) s' × told hs
 
 -- copy c alone comes to switch w, and its step there changes the stores to the new ones, and this becomes of it
 abbrev pub LandsWith : Tables → (old : List Kept) → Flying → (new : List Kept) → (w : ℕ) → Fate → (List Happening → Type 0) → Type 0
-LandsWith t old c new w f told = (mid : List Kept) × (h : Head) × Comes t (c.number + 1) old (c ∷ []) mid (record c { at = w; head = h } ∷ []) told × StepsSo t w c.packet h mid new f
+LandsWith t old c new w f told = (mid : List Kept) × (h : Head)
+    × Comes t (c.number + 1) old (c ∷ []) mid (record c { at = w; head = h } ∷ []) told × StepsSo t w c.packet h mid new f
 
 -- copies of packet i cross these links on their ways from switch w to their ports, one copy after another
 pub data GoOut (t : Tables) (i w : ℕ) : List Sent → List Happening → Type 0 where
   none : GoOut t i w [] []
-  next_one : {x : Sent} {xs : List Sent} {v : ℕ} {ws : List ℕ} {hs gs : List Happening} → port_at t x.port ≡ Some v → Way t v w ws → Crosses i (Out x.port) x.packet w ws hs → GoOut t i w xs gs
+  next_one : {x : Sent} {xs : List Sent} {v : ℕ} {ws : List ℕ} {hs gs : List Happening}
+      → port_at t x.port ≡ Some v → Way t v w ws → Crosses i (Out x.port) x.packet w ws hs → GoOut t i w xs gs
       → GoOut t i w (x ∷ xs) (hs ++ gs)
 
 -- these packets are sent and so many lost of what outs make of packet k of number i at switch w, and the links that they cross were told
-pub record PartsInto {V : Type 0} (t : Tables) (i w : ℕ) (os : List Parts) (k : List ℕ) (saw : V → List Happening → V → Type 0) (old new : V) (sent : List (List ℕ)) (lost : ℕ) : Type 0 where
+pub record PartsInto {V : Type 0} (t : Tables) (i w : ℕ) (os : List Parts) (k : List ℕ)
+    (saw : V → List Happening → V → Type 0) (old new : V) (sent : List (List ℕ)) (lost : ℕ) : Type 0 where
   pub copies : List Sent
   pub spread : IsSpread t os k copies lost
   pub sent_is : map (λ (x : Sent). x.packet) copies ≡ sent

@@ -52,8 +52,10 @@ pub record Shows (v : Held) (s : Net) : Type 0 where
   pub flying : map flown s.flying ≡ v.flying
 
 -- from each state that was shown the event leads to one that is shown now, and this holds of what is told
-abbrev pub DoneBy : {V S L : Type 0} → (shows : V → S → Type 0) → (leads : S → Event → S → List L → Type 0) → V → Event → V → (List L → Type 0) → Type 0
-DoneBy {S = S} {L = L} shows leads old e new told = (s : S) → shows old s → (s' : S) × (hs : List L) × leads s e s' hs × shows new s' × told hs
+abbrev pub DoneBy : {V S L : Type 0} → (shows : V → S → Type 0)
+    → (leads : S → Event → S → List L → Type 0) → V → Event → V → (List L → Type 0) → Type 0
+DoneBy {S = S} {L = L} shows leads old e new told = (s : S) → shows old s
+    → (s' : S) × (hs : List L) × leads s e s' hs × shows new s' × told hs
 
 abbrev pub IsDone : Held → Event → Held → (List Happening → Type 0) → Type 0
 IsDone old e new told = DoneBy Shows (Leads old.tables) old e new told

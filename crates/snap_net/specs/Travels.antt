@@ -10,7 +10,8 @@ use Rattle.snap_rows.specs.Ways.{Way}
 -- a copy of packet number i, which now is p, crosses links with head h, from a switch to each of these in turn
 pub data Crosses (i : ℕ) (h : Head) (p : List ℕ) : ℕ → List ℕ → List Happening → Type 0 where
   ends : {w : ℕ} → Crosses i h p w [] []
-  goes : {w v : ℕ} {vs : List ℕ} {hs : List Happening} {c : Copy} → c.number ≡ i → c.at ≡ w → c.packet ≡ p → Crosses i h p v vs hs → Crosses i h p w (v ∷ vs) (Crossed c v h ∷ hs)
+  goes : {w v : ℕ} {vs : List ℕ} {hs : List Happening} {c : Copy} → c.number ≡ i → c.at ≡ w
+      → c.packet ≡ p → Crosses i h p v vs hs → Crosses i h p w (v ∷ vs) (Crossed c v h ∷ hs)
 
 -- the switches to which a copy with this head comes on its way from w to x: all, or, where it doesn't say where it goes, the next one
 abbrev pub WayOf : Tables → Head → (w x : ℕ) → List ℕ → Type 0

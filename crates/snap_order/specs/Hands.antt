@@ -39,7 +39,8 @@ pub record InPlace (t : Tables) (c : Flying) : Type 0 where
   pub home : AtHome t c.at c.head
 
 -- the step that copy i of a state makes, which leaves its switch these arrays and numbers, and these copies in its place
-pub record StepsTo (t : Tables) (c : Flying) (arrays : Arrays) (counts : List ℕ) (left : List Flying) (told : Moved) (s : Ordered) (i : ℕ) : Type 0 where
+pub record StepsTo (t : Tables) (c : Flying) (arrays : Arrays) (counts : List ℕ)
+    (left : List Flying) (told : Moved) (s : Ordered) (i : ℕ) : Type 0 where
   pub state : Ordered
   pub turn : Turn
   pub leads : LeadsInTurn t s (Step i) state (turn ∷ [])
@@ -54,11 +55,13 @@ pub record StepsTo (t : Tables) (c : Flying) (arrays : Arrays) (counts : List �
   pub injected : state.net.injected ≡ s.net.injected
 
 -- At its switch a copy steps so in every state that has there such arrays and numbers, and these are those after it.
-pub record StepsHere (t : Tables) (c : Flying) (arrays : Arrays) (counts : List ℕ) (arrays' : Arrays) (counts' : List ℕ) (left : List Flying) (told : Moved) : Type 0 where
+pub record StepsHere (t : Tables) (c : Flying) (arrays : Arrays) (counts : List ℕ)
+    (arrays' : Arrays) (counts' : List ℕ) (left : List Flying) (told : Moved) : Type 0 where
   pub others : (r : ℕ) → rank_at t r ≢ Some c.at → get_or counts' r 0 ≡ get_or counts r 0
   pub long : length counts' ≡ length counts
   pub placed : All (InPlace t) left
-  pub steps : (s : Ordered) (i : ℕ) (x : Copy) → slice_get s.net.flying i ≡ Some x → flown x ≡ c → s.net.stores c.at ≡ arrays → ((r : ℕ) → rank_at t r ≡ Some c.at → s.handled r ≡ get_or counts r 0)
+  pub steps : (s : Ordered) (i : ℕ) (x : Copy) → slice_get s.net.flying i ≡ Some x → flown x ≡ c
+      → s.net.stores c.at ≡ arrays → ((r : ℕ) → rank_at t r ≡ Some c.at → s.handled r ≡ get_or counts r 0)
       → StepsTo t c arrays' counts' left told s i
 
 -- so it steps at a worker, whose other switches keep their arrays
@@ -69,7 +72,8 @@ pub record StepsIn (t : Tables) (workers : ℕ) (c : Flying) (old new : Part) (l
 -- copies step one after another
 pub data Works (t : Tables) (workers : ℕ) : Part → List Flying → Part → List Stepped → Type 0 where
   idles : {p : Part} → Works t workers p [] p []
-  works : {p q r : Part} {c : Flying} {cs : List Flying} {x : Stepped} {xs : List Stepped} → StepsIn t workers c p q x.left.items x.moved → Works t workers q cs r xs → Works t workers p (c ∷ cs) r (x ∷ xs)
+  works : {p q r : Part} {c : Flying} {cs : List Flying} {x : Stepped} {xs : List Stepped}
+      → StepsIn t workers c p q x.left.items x.moved → Works t workers q cs r xs → Works t workers p (c ∷ cs) r (x ∷ xs)
 
 -- the copies at switches whose numbers have this remainder
 abbrev pub share : (workers rest : ℕ) → List Flying → List Flying
@@ -78,7 +82,8 @@ share workers rest cs = filter (λ (c : Flying). nat_eq (c.at % workers) rest) c
 -- what the workers' steps gave, in the order of the copies: that of a copy is the next of its switch's worker
 pub data Woven (workers : ℕ) : List Flying → (ℕ → List Stepped) → List Stepped → Type 0 where
   over : {queues : ℕ → List Stepped} → Woven workers [] queues []
-  next : {c : Flying} {cs : List Flying} {queues later : ℕ → List Stepped} {x : Stepped} {xs : List Stepped} → queues (c.at % workers) ≡ x ∷ later (c.at % workers) → ((j : ℕ) → j ≢ c.at % workers → later j ≡ queues j)
+  next : {c : Flying} {cs : List Flying} {queues later : ℕ → List Stepped} {x : Stepped} {xs : List Stepped}
+      → queues (c.at % workers) ≡ x ∷ later (c.at % workers) → ((j : ℕ) → j ≢ c.at % workers → later j ≡ queues j)
       → Woven workers cs later xs → Woven workers (c ∷ cs) queues (x ∷ xs)
 
 -- the state has what the workers have at their switches; of some workers nothing is said
@@ -101,6 +106,8 @@ pub record WeavesTo (t : Tables) (workers : ℕ) (busy : ℕ → Bool) (ends : �
 
 -- **what workers make of the copies at their own switches, put in the order of the copies, is a round**
 abbrev pub SharesMakeARound : Type 0
-SharesMakeARound = (t : Tables) (workers : ℕ) → 0 < workers → (busy : ℕ → Bool) (parts ends : ℕ → Part) (cs : List Flying) (queues : ℕ → List Stepped) (xs : List Stepped) → Woven workers cs queues xs
-    → (s : Ordered) (i : ℕ) → map flown (drop i s.net.flying) ≡ cs → i ≤ length s.net.flying → ((k : ℕ) → k < workers → Works t workers (parts k) (share workers k cs) (ends k) (queues k)) → Agrees t workers busy parts s
+SharesMakeARound = (t : Tables) (workers : ℕ) → 0 < workers → (busy : ℕ → Bool) (parts ends : ℕ → Part)
+    (cs : List Flying) (queues : ℕ → List Stepped) (xs : List Stepped) → Woven workers cs queues xs
+    → (s : Ordered) (i : ℕ) → map flown (drop i s.net.flying) ≡ cs → i ≤ length s.net.flying
+    → ((k : ℕ) → k < workers → Works t workers (parts k) (share workers k cs) (ends k) (queues k)) → Agrees t workers busy parts s
     → All (λ (c : Flying). busy (c.at % workers) ≡ true) cs → WeavesTo t workers busy ends xs s i

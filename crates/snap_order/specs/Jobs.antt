@@ -22,7 +22,8 @@ counts_after counts (n ∷ own) = n ∷ own
 
 -- its copies have made their steps, from these numbers on
 pub record WorkedOn (t : Tables) (counts : List ℕ) (old new : Job) : Type 0 where
-  pub works : Works t old.workers (part_of old.workers old.stores.items counts) old.copies.items (part_of old.workers new.stores.items (counts_after counts new.counts.items)) new.done.items
+  pub works : Works t old.workers (part_of old.workers old.stores.items counts) old.copies.items
+      (part_of old.workers new.stores.items (counts_after counts new.counts.items)) new.done.items
   pub counted : (r : ℕ) → get_or (counts_after counts new.counts.items) r 0 ≡ get_or new.counts.items r (get_or counts r 0)
   pub long : length new.stores.items ≡ length old.stores.items
 

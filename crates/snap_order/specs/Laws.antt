@@ -24,7 +24,9 @@ pub record Overlaps (p : Program) (t : Tables) (m : Arrays) (es : List Event) (s
 -- after every list of events each array is as one big switch leaves it after the packets that its rank has handled
 abbrev pub ArraysAreInTurn : Program → Tables → Type 0
 ArraysAreInTurn p t = (m : Arrays) (es : List Event) (s : Ordered) (us : List Turn) → Overlaps p t m es s us
-    → (q : Place) → (end : Switched) × (one_big_switch p.body m (take (s.handled (rank_of t q.var)) (packets_in (packets_of es))) ≡ Some end) × (whole t s.net q ≡ end.arrays q)
+    → (q : Place) → (end : Switched)
+    × (one_big_switch p.body m (take (s.handled (rank_of t q.var)) (packets_in (packets_of es))) ≡ Some end)
+    × (whole t s.net q ≡ end.arrays q)
 
 -- every run to an end agrees with one big switch over the packets in the order of their injection
 abbrev pub EndedRunsAgree : Program → Tables → Type 0
@@ -38,11 +40,13 @@ IsDeliveredWithin most (Crossed c to head) = Unit {0}
 IsDeliveredWithin most (Forked c copies lost) = Unit {0}
 
 abbrev pub HopsAreFew : Program → Topology → Tables → Type 0
-HopsAreFew p topology t = (order : List ℕ) (d : ℕ) → IsRank p.body (length p.vars) order → IsDiameter (Linked topology.links) (length topology.switches) d
+HopsAreFew p topology t = (order : List ℕ) (d : ℕ) → IsRank p.body (length p.vars) order
+    → IsDiameter (Linked topology.links) (length topology.switches) d
     → (m : Arrays) (es : List Event) (s : Ordered) (us : List Turn) → Overlaps p t m es s us
     → All (λ (c : Copy). c.hops ≤ (length order + 1) * d) s.net.flying × All (IsDeliveredWithin ((length order + 1) * d)) (happenings us)
 
--- a step waits, and then changes nothing, exactly where the copy is before a visit of a rank that has handled fewer packets than came before it
+-- a step waits, and then changes nothing, exactly where the copy is before a visit of a rank that has handled fewer packets
+-- than came before it
 pub record IsBehind (t : Tables) (s : Ordered) (c : Copy) : Type 0 where
   pub rank : ℕ
   pub number : ℕ
@@ -63,7 +67,8 @@ IsLeast s c = (i : ℕ) (x : Copy) → slice_get s.net.flying i ≡ Some x → �
 
 abbrev pub LeastGoesOn : Program → Tables → Type 0
 LeastGoesOn p t = (m : Arrays) (es : List Event) (s : Ordered) (us : List Turn) → Overlaps p t m es s us
-    → (i : ℕ) (c : Copy) (s' : Ordered) (vs : List Turn) → slice_get s.net.flying i ≡ Some c → IsLeast s c → LeadsInTurn t s (Step i) s' vs → (r : ℕ) → ¬ (vs ≡ Waits c r ∷ [])
+    → (i : ℕ) (c : Copy) (s' : Ordered) (vs : List Turn) → slice_get s.net.flying i ≡ Some c
+    → IsLeast s c → LeadsInTurn t s (Step i) s' vs → (r : ℕ) → ¬ (vs ≡ Waits c r ∷ [])
 
 -- **overlap in order**: what faithful tables of version 2 promise
 pub record KeepsOrder (p : Program) (topology : Topology) (t : Tables) : Type 0 where
@@ -74,4 +79,5 @@ pub record KeepsOrder (p : Program) (topology : Topology) (t : Tables) : Type 0 
   pub least : LeastGoesOn p t
 
 abbrev pub FaithfulKeepsOrder : Type 0
-FaithfulKeepsOrder = (p : Program) (topology : Topology) (places : List ℕ) (t : Tables) → Faithful p topology places t → t.version ≡ 2 → KeepsOrder p topology t
+FaithfulKeepsOrder = (p : Program) (topology : Topology) (places : List ℕ) (t : Tables)
+    → Faithful p topology places t → t.version ≡ 2 → KeepsOrder p topology t

@@ -12,7 +12,8 @@ use Rattle.snap_order.specs.Jobs.{HasWorked}
 use Rattle.snap_order.specs.Shown.{IsOrderedHeld, OrderedHeld}
 
 -- the jobs have the copies of an ordered network and the stores of its switches, and here are the stores that jobs had
-pub record IsLent (workers : ℕ) (v : OrderedHeld) (t : Tables) (packets : ℕ) (numbers : List ℕ) (left : List Kept) (given : List Job) : Type 0 where
+pub record IsLent (workers : ℕ) (v : OrderedHeld) (t : Tables) (packets : ℕ)
+    (numbers : List ℕ) (left : List Kept) (given : List Job) : Type 0 where
   pub held : IsHeld v.net
   pub ordered : IsOrderedHeld v
   pub tables : v.net.tables ≡ t
@@ -23,7 +24,8 @@ pub record IsLent (workers : ℕ) (v : OrderedHeld) (t : Tables) (packets : ℕ)
   pub lent : AreExchanged workers (length v.net.stores) v.net.stores jobs left given
 
 -- and they have done their work
-pub record IsWorked (workers : ℕ) (v : OrderedHeld) (t : Tables) (packets : ℕ) (numbers : List ℕ) (left : List Kept) (given : List Job) : Type 0 where
+pub record IsWorked (workers : ℕ) (v : OrderedHeld) (t : Tables) (packets : ℕ)
+    (numbers : List ℕ) (left : List Kept) (given : List Job) : Type 0 where
   pub before : List Job
   pub begun : IsLent workers v t packets numbers left before
   pub worked : AllZip (HasWorked t numbers) before given

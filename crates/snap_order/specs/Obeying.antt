@@ -22,8 +22,10 @@ IsFresh v = (ks : List (List ℕ)) × PlaysLines v.net.net.tables v.hops ks [] v
 
 -- a line was done, or it can't be done
 abbrev pub HasDone : List ℕ → (old new : Play) → Bool → Type 0
-HasDone line old new true = (t : Tables) (hops : Bool) (ks lines : List (List ℕ)) → PlaysLines t hops ks lines old → PlaysLines t hops ks (lines ++ line ∷ []) new
-HasDone line old new false = (t : Tables) (hops : Bool) (ks lines : List (List ℕ)) (p : PlaysLines t hops ks lines old) → CantBeDone (order_by line) (left_in old) p.state.net
+HasDone line old new true = (t : Tables) (hops : Bool) (ks lines : List (List ℕ))
+    → PlaysLines t hops ks lines old → PlaysLines t hops ks (lines ++ line ∷ []) new
+HasDone line old new false = (t : Tables) (hops : Bool) (ks lines : List (List ℕ)) (p : PlaysLines t hops ks lines old)
+    → CantBeDone (order_by line) (left_in old) p.state.net
 
 -- so many lines were done, and these are left
 pub record SoFar (t : Tables) (hops : Bool) (ks lines : List (List ℕ)) (rest : List ℕ) (number : ℕ) (v : Play) : Type 0 where

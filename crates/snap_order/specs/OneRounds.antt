@@ -10,7 +10,8 @@ use Rattle.snap_order.specs.Rounds.{GoesByRounds, IsRoundReport}
 
 -- packets have one report by rounds
 abbrev pub RoundReportsAreOne : Type 0
-RoundReportsAreOne = (t : Tables) → IsInForm t → (hops : Bool) (ks : List (List ℕ)) (a b : List ℕ) → IsRoundReport t hops ks a → IsRoundReport t hops ks b → a ≡ b
+RoundReportsAreOne = (t : Tables) → IsInForm t → (hops : Bool) (ks : List (List ℕ)) (a b : List ℕ)
+    → IsRoundReport t hops ks a → IsRoundReport t hops ks b → a ≡ b
 
 -- a run of these packets to an end
 pub record RunsToEnd (t : Tables) (ks : List (ℕ × List ℕ)) (es : List Event) (s : Ordered) (us : List Turn) : Type 0 where
@@ -20,4 +21,5 @@ pub record RunsToEnd (t : Tables) (ks : List (ℕ × List ℕ)) (es : List Event
 
 -- such is the run by rounds
 abbrev pub RoundsRunToEnds : Type 0
-RoundsRunToEnds = (t : Tables) (ks : List (List ℕ)) (es : List Event) (s : Ordered) (us : List Turn) → GoesByRounds t (entering ks) (begin t zero_arrays) es s us → RunsToEnd t (entering ks) es s us
+RoundsRunToEnds = (t : Tables) (ks : List (List ℕ)) (es : List Event) (s : Ordered) (us : List Turn)
+    → GoesByRounds t (entering ks) (begin t zero_arrays) es s us → RunsToEnd t (entering ks) es s us

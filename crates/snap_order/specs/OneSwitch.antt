@@ -17,22 +17,29 @@ use Rattle.snap_whole.specs.OneSwitch.{IsSwitchReport, ports_of}
 -- **Each run in turn of faithful tables of version 2 to an end reports exactly what one big switch does over the packets in the order of
 -- their injection**, whatever the order of the events.
 abbrev pub RunsInTurnReportOneSwitch : Type 0
-RunsInTurnReportOneSwitch = (p : Program) (topology : Topology) (places : List ℕ) (t : Tables) → Faithful p topology places t → t.version ≡ 2
+RunsInTurnReportOneSwitch = (p : Program) (topology : Topology) (places : List ℕ) (t : Tables)
+    → Faithful p topology places t → t.version ≡ 2
     → (ks : List (List ℕ)) → All (IsPacketOf p) ks
     → (es : List Event) (s : Ordered) (us : List Turn) → packets_of es ≡ entering ks → RunInTurn t zero_arrays es s us → s.net.flying ≡ []
     → (text : List ℕ) → IsRunReport t false (length ks) s.net (happenings us) text → IsSwitchReport p (ports_of topology) ks text
 
 -- so does the plain run in turn
 abbrev pub PlainRunsInTurnReportOneSwitch : Type 0
-PlainRunsInTurnReportOneSwitch = (p : Program) (topology : Topology) (places : List ℕ) (t : Tables) → Faithful p topology places t → t.version ≡ 2
-    → (ks : List (List ℕ)) → All (IsPacketOf p) ks → (text : List ℕ) → IsPlainReport t false ks text → IsSwitchReport p (ports_of topology) ks text
+PlainRunsInTurnReportOneSwitch = (p : Program) (topology : Topology) (places : List ℕ) (t : Tables)
+    → Faithful p topology places t → t.version ≡ 2
+    → (ks : List (List ℕ)) → All (IsPacketOf p) ks → (text : List ℕ)
+    → IsPlainReport t false ks text → IsSwitchReport p (ports_of topology) ks text
 
 -- and each schedule that is done to its end
 abbrev pub SchedulesInTurnReportOneSwitch : Type 0
-SchedulesInTurnReportOneSwitch = (p : Program) (topology : Topology) (places : List ℕ) (t : Tables) → Faithful p topology places t → t.version ≡ 2
-    → (ks : List (List ℕ)) → All (IsPacketOf p) ks → (lines : List (List ℕ)) (text : List ℕ) → IsScheduleReport t false ks lines text → IsSwitchReport p (ports_of topology) ks text
+SchedulesInTurnReportOneSwitch = (p : Program) (topology : Topology) (places : List ℕ) (t : Tables)
+    → Faithful p topology places t → t.version ≡ 2
+    → (ks : List (List ℕ)) → All (IsPacketOf p) ks → (lines : List (List ℕ)) (text : List ℕ)
+    → IsScheduleReport t false ks lines text → IsSwitchReport p (ports_of topology) ks text
 
 -- and the run by rounds
 abbrev pub RunsByRoundsReportOneSwitch : Type 0
-RunsByRoundsReportOneSwitch = (p : Program) (topology : Topology) (places : List ℕ) (t : Tables) → Faithful p topology places t → t.version ≡ 2
-    → (ks : List (List ℕ)) → All (IsPacketOf p) ks → (text : List ℕ) → IsRoundReport t false ks text → IsSwitchReport p (ports_of topology) ks text
+RunsByRoundsReportOneSwitch = (p : Program) (topology : Topology) (places : List ℕ) (t : Tables)
+    → Faithful p topology places t → t.version ≡ 2
+    → (ks : List (List ℕ)) → All (IsPacketOf p) ks → (text : List ℕ)
+    → IsRoundReport t false ks text → IsSwitchReport p (ports_of topology) ks text

@@ -56,15 +56,20 @@ visited s i c m h b = record {
 
 -- the event can be done, and leads from s to s'; an injection is no turn
 pub data LeadsInTurn (t : Tables) (s : Ordered) : Event → Ordered → List Turn → Type 0 where
-  injects : {port w : ℕ} {k : List ℕ} → port_at t port ≡ Some w → slice_index k 0 ≡ port → LeadsInTurn t s (Inject port k) (record s { net = injected s.net w port k }) []
+  injects : {port w : ℕ} {k : List ℕ} → port_at t port ≡ Some w → slice_index k 0 ≡ port
+      → LeadsInTurn t s (Inject port k) (record s { net = injected s.net w port k }) []
   -- a copy that isn't before a visit steps as it does without order
-  moves : {i : ℕ} {c : Copy} {m : Arrays} {a : Action} → slice_get s.net.flying i ≡ Some c → ((r n : ℕ) → ¬ IsBefore t s.net c r n) → Handles t c.at c.packet (s.net.stores c.at) c.head m a
+  moves : {i : ℕ} {c : Copy} {m : Arrays} {a : Action} → slice_get s.net.flying i ≡ Some c
+      → ((r n : ℕ) → ¬ IsBefore t s.net c r n) → Handles t c.at c.packet (s.net.stores c.at) c.head m a
       → LeadsInTurn t s (Step i) (record s { net = stepped s.net i c m a }) (Happens (happening c a) ∷ [])
   -- one before a visit makes it if the rank has handled just the packets before its own, and those after it that are in turn too
-  visits : {i : ℕ} {c : Copy} {r n : ℕ} {m : Arrays} {h : ℕ → ℕ} {b : Becomes} → slice_get s.net.flying i ≡ Some c → IsBefore t s.net c r n → s.handled r ≡ c.number
-      → TakesTurns t c.at c.packet c.number (s.net.stores c.at) s.handled r n m h b → LeadsInTurn t s (Step i) (visited s i c m h b) (turn_of c b ∷ [])
+  visits : {i : ℕ} {c : Copy} {r n : ℕ} {m : Arrays} {h : ℕ → ℕ} {b : Becomes}
+      → slice_get s.net.flying i ≡ Some c → IsBefore t s.net c r n → s.handled r ≡ c.number
+      → TakesTurns t c.at c.packet c.number (s.net.stores c.at) s.handled r n m h b
+      → LeadsInTurn t s (Step i) (visited s i c m h b) (turn_of c b ∷ [])
   -- else it waits, and nothing changes
-  waits : {i : ℕ} {c : Copy} {r n : ℕ} → slice_get s.net.flying i ≡ Some c → IsBefore t s.net c r n → s.handled r ≢ c.number → LeadsInTurn t s (Step i) s (Waits c r ∷ [])
+  waits : {i : ℕ} {c : Copy} {r n : ℕ} → slice_get s.net.flying i ≡ Some c
+      → IsBefore t s.net c r n → s.handled r ≢ c.number → LeadsInTurn t s (Step i) s (Waits c r ∷ [])
 
 -- the events lead from s to s'
 abbrev pub RunsInTurn : Tables → Ordered → List Event → Ordered → List Turn → Type 0

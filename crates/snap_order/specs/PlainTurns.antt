@@ -20,4 +20,5 @@ pub record TakesTurns (t : Tables) (m : Arrays) (ks : List (ℕ × List ℕ)) (e
 -- **In a plain run nobody waits**: over valid tables of version 2 it is one in turn.
 abbrev pub PlainRunsTakeTurns : Type 0
 PlainRunsTakeTurns = (t : Tables) → IsInForm t → IsValid t → t.version ≡ 2
-    → (m : Arrays) (ks : List (ℕ × List ℕ)) (es : List Event) (s : Net) (hs : List Happening) → network.IsPlainRun t m ks es s hs → TakesTurns t m ks es s hs
+    → (m : Arrays) (ks : List (ℕ × List ℕ)) (es : List Event) (s : Net) (hs : List Happening)
+    → network.IsPlainRun t m ks es s hs → TakesTurns t m ks es s hs

@@ -62,7 +62,8 @@ pub record StepsOn (t : Tables) (hops : Bool) (k : ℕ) (s : Ordered) (us : List
 
 -- or there is no such copy
 abbrev pub HasStepped : ℕ → (old new : Play) → Bool → Type 0
-HasStepped k old new true = (t : Tables) (hops : Bool) (s : Ordered) (us : List Turn) → Plays t hops s us old → StepsOn t hops k s us old new
+HasStepped k old new true = (t : Tables) (hops : Bool) (s : Ordered) (us : List Turn)
+    → Plays t hops s us old → StepsOn t hops k s us old new
 HasStepped k old new false = (t : Tables) (hops : Bool) (s : Ordered) (us : List Turn) → Plays t hops s us old → length s.net.flying ≤ k
 
 -- what is told of a step of the copy at a place was noted

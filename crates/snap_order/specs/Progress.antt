@@ -32,7 +32,8 @@ pub record CanEnd (t : Tables) (s : Ordered) : Type 0 where
 
 -- so it is in every state to which events lead in turn
 abbrev pub WhereverItRuns : (Tables → Ordered → Type 0) → Type 0
-WhereverItRuns P = (t : Tables) → IsValid t → IsInForm t → t.version ≡ 2 → (m : Arrays) (es : List Event) (s : Ordered) (us : List Turn) → RunInTurn t m es s us → P t s
+WhereverItRuns P = (t : Tables) → IsValid t → IsInForm t → t.version ≡ 2
+    → (m : Arrays) (es : List Event) (s : Ordered) (us : List Turn) → RunInTurn t m es s us → P t s
 
 -- a step of each copy in flight can be made
 abbrev pub StepsInTurnCanBeMade : Type 0

@@ -23,7 +23,8 @@ use Rattle.snap_runs.specs.declared.tally.Tally.{Tally}
 -- ---- a round
 -- from each state that was shown a round leads to one that is shown now, and this was told of its steps
 abbrev pub IsRoundDone : OrderedHeld → OrderedHeld → List Moved → Type 0
-IsRoundDone old new done = (s : Ordered) → ShowsInTurn old s → (s' : Ordered) × (es : List Event) × (us : List Turn) × IsRound old.net.tables s es s' us × ShowsInTurn new s' × (done ≡ map told_of us)
+IsRoundDone old new done = (s : Ordered) → ShowsInTurn old s → (s' : Ordered) × (es : List Event)
+    × (us : List Turn) × IsRound old.net.tables s es s' us × ShowsInTurn new s' × (done ≡ map told_of us)
 
 -- the copies before a place have made their steps: what is done from there on makes a round
 pub record HasRoundedTo (t : Tables) (s : Ordered) (place : ℕ) (now : OrderedHeld) (done : List Moved) : Type 0 where
@@ -33,7 +34,8 @@ pub record HasRoundedTo (t : Tables) (s : Ordered) (place : ℕ) (now : OrderedH
   pub shows : ShowsInTurn now state
   pub told : done ≡ map told_of turns
   pub within : place ≤ length state.net.flying
-  pub on : (s' : Ordered) (es : List Event) (us : List Turn) → TakesFrom t place state es s' us → IsRound t s (events ++ es) s' (turns ++ us)
+  pub on : (s' : Ordered) (es : List Event) (us : List Turn)
+      → TakesFrom t place state es s' us → IsRound t s (events ++ es) s' (turns ++ us)
 
 -- how many copies stand in the place of one after its step
 abbrev pub width : Moved → ℕ
@@ -51,7 +53,8 @@ AreThere place cs (m ∷ ms) = IsThere cs place m × AreThere (place + width m) 
 -- what the steps told was noted, one after another, with the copies that they left from a place on
 pub data NoteTurns (hops : Bool) (switches : List (List ℕ)) (cs : List Flying) : ℕ → List Moved → List Tally → List Tally → Type 0 where
   no_notes : {place : ℕ} {ys : List Tally} → NoteTurns hops switches cs place [] ys ys
-  notes : {place : ℕ} {x : Moved} {xs : List Moved} {ys zs end : List Tally} → NotesTurn hops switches cs place x ys zs → NoteTurns hops switches cs (place + width x) xs zs end → NoteTurns hops switches cs place (x ∷ xs) ys end
+  notes : {place : ℕ} {x : Moved} {xs : List Moved} {ys zs end : List Tally} → NotesTurn hops switches cs place x ys zs
+      → NoteTurns hops switches cs (place + width x) xs zs end → NoteTurns hops switches cs place (x ∷ xs) ys end
 
 -- a round was made
 pub record RoundsOn (t : Tables) (hops : Bool) (s : Ordered) (us : List Turn) (old new : Play) : Type 0 where
@@ -115,7 +118,8 @@ pub record PlaysRounds (t : Tables) (hops : Bool) (ks : List (List ℕ)) (v : Pl
   pub plays : Plays t hops state turns v
   pub pace : KeepsPace t state
   pub injected : state.net.injected + length (left_in v) ≡ length ks
-  pub on : (es : List Event) (end : Ordered) (us : List Turn) → GoesByRounds t (entering (left_in v)) state es end us → GoesByRounds t (entering ks) (begin t zero_arrays) (events ++ es) end (turns ++ us)
+  pub on : (es : List Event) (end : Ordered) (us : List Turn) → GoesByRounds t (entering (left_in v)) state es end us
+      → GoesByRounds t (entering ks) (begin t zero_arrays) (events ++ es) end (turns ++ us)
 
 abbrev pub IsPaced : Play → Type 0
 IsPaced v = (ks : List (List ℕ)) × PlaysRounds v.net.net.tables v.hops ks v

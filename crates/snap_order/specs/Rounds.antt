@@ -17,19 +17,23 @@ use Rattle.snap_order.specs.Reports.{IsRunReport}
 -- copy's place, so what a fork puts there isn't taken.
 pub data TakesFrom (t : Tables) : ℕ → Ordered → List Event → Ordered → List Turn → Type 0 where
   ends : {i : ℕ} {s : Ordered} → i ≡ length s.net.flying → TakesFrom t i s [] s []
-  takes : {i j : ℕ} {s s' s'' : Ordered} {es : List Event} {u us : List Turn} → LeadsInTurn t s (Step i) s' u → j + length s.net.flying ≡ i + 1 + length s'.net.flying
+  takes : {i j : ℕ} {s s' s'' : Ordered} {es : List Event} {u us : List Turn}
+      → LeadsInTurn t s (Step i) s' u → j + length s.net.flying ≡ i + 1 + length s'.net.flying
       → TakesFrom t j s' es s'' us → TakesFrom t i s (Step i ∷ es) s'' (u ++ us)
 
 -- each copy in flight makes a step
 abbrev pub IsRound : Tables → Ordered → List Event → Ordered → List Turn → Type 0
 IsRound t s es s' us = TakesFrom t 0 s es s' us
 
--- The next packet is injected, where one is left, and then a round is made, again and again, until no packet is left and nothing is in flight.
+-- The next packet is injected, where one is left, and then a round is made, again and again, until no packet is left and
+-- nothing is in flight.
 pub data GoesByRounds (t : Tables) : List (ℕ × List ℕ) → Ordered → List Event → Ordered → List Turn → Type 0 where
   rests : {s : Ordered} → s.net.flying ≡ [] → GoesByRounds t [] s [] s []
-  injects : {port : ℕ} {k : List ℕ} {ks : List (ℕ × List ℕ)} {s s' s'' end : Ordered} {es fs : List Event} {us vs : List Turn} → LeadsInTurn t s (Inject port k) s' [] → IsRound t s' es s'' us
+  injects : {port : ℕ} {k : List ℕ} {ks : List (ℕ × List ℕ)} {s s' s'' end : Ordered} {es fs : List Event} {us vs : List Turn}
+      → LeadsInTurn t s (Inject port k) s' [] → IsRound t s' es s'' us
       → GoesByRounds t ks s'' fs end vs → GoesByRounds t ((port, k) ∷ ks) s (Inject port k ∷ (es ++ fs)) end (us ++ vs)
-  goes_on : {s s' end : Ordered} {es fs : List Event} {us vs : List Turn} → s.net.flying ≢ [] → IsRound t s es s' us → GoesByRounds t [] s' fs end vs → GoesByRounds t [] s (es ++ fs) end (us ++ vs)
+  goes_on : {s s' end : Ordered} {es fs : List Event} {us vs : List Turn} → s.net.flying ≢ []
+      → IsRound t s es s' us → GoesByRounds t [] s' fs end vs → GoesByRounds t [] s (es ++ fs) end (us ++ vs)
 
 -- from empty arrays the run of the round schedule of these packets has this report
 pub record IsRoundReport (t : Tables) (hops : Bool) (ks : List (List ℕ)) (text : List ℕ) : Type 0 where

@@ -83,12 +83,16 @@ pub record IsScheduleReport (t : Tables) (hops : Bool) (ks lines : List (List �
 
 -- the line of a schedule that is refused
 abbrev pub RefusesScheduleLine : Tables → (file schedule : List ℕ) → (number : ℕ) → Type 0
-RefusesScheduleLine t file schedule number = AreBothRead t file schedule × RefusesLine t (spelled_for t file).packets (lines_of schedule) number
+RefusesScheduleLine t file schedule number = AreBothRead t file schedule
+    × RefusesLine t (spelled_for t file).packets (lines_of schedule) number
 
 -- the report of a packets file and a schedule
 abbrev pub HasScheduleReport : Tables → (hops : Bool) → (file schedule : List ℕ) → List ℕ → Type 0
-HasScheduleReport t hops file schedule text = AreBothRead t file schedule × IsScheduleReport t hops (spelled_for t file).packets (lines_of schedule) text
+HasScheduleReport t hops file schedule text = AreBothRead t file schedule
+    × IsScheduleReport t hops (spelled_for t file).packets (lines_of schedule) text
 
 -- what goes out for a packets file and a schedule
-abbrev pub WritesSchedule : Tables → (hops : Bool) → (file schedule : List ℕ) → Result (Unit {0}) ScheduleFault → Option (List ℕ) → Option (List ℕ) → Type 0
-WritesSchedule t hops file schedule result old new = WritesScheduleBy (HasScheduleReport t hops file schedule) (RefusesScheduleLine t file schedule) t file schedule result old new
+abbrev pub WritesSchedule : Tables → (hops : Bool) → (file schedule : List ℕ)
+    → Result (Unit {0}) ScheduleFault → Option (List ℕ) → Option (List ℕ) → Type 0
+WritesSchedule t hops file schedule result old new = WritesScheduleBy
+    (HasScheduleReport t hops file schedule) (RefusesScheduleLine t file schedule) t file schedule result old new

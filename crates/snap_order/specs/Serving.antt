@@ -18,7 +18,8 @@ StandsBefore (Out p) r = ⊥
 
 -- packet i alone is on its way: the ranks before its next visit have handled it, and the others the packets before it; or it has forked
 pub data Serves (t : Tables) (i : ℕ) (s : Ordered) : Type 0 where
-  comes : {c : Copy} {r : ℕ} → s.net.flying ≡ c ∷ [] → c.number ≡ i → StandsBefore c.head r → ((q : ℕ) → q < r → s.handled q ≡ i + 1) → ((q : ℕ) → r ≤ q → q < ranks t → s.handled q ≡ i) → Serves t i s
+  comes : {c : Copy} {r : ℕ} → s.net.flying ≡ c ∷ [] → c.number ≡ i → StandsBefore c.head r
+      → ((q : ℕ) → q < r → s.handled q ≡ i + 1) → ((q : ℕ) → r ≤ q → q < ranks t → s.handled q ≡ i) → Serves t i s
   leaves : All HasForked s.net.flying → ((q : ℕ) → q < ranks t → s.handled q ≡ i + 1) → Serves t i s
 
 -- each rank has handled all packets

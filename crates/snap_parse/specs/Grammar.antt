@@ -74,7 +74,8 @@ mutual
         t1.kind ≡ kinds.Key keys.Then → IsPolicy limit free (suc d) ts1 p (t2 ∷ ts2) →
         t2.kind ≡ kinds.Key keys.Else → IsChoice limit free (suc d) ts2 c rest →
         IsChoice limit free d (t ∷ ts) (if_tree t.from e p c) rest
-    plain_choice : {d : ℕ} {ts rest : List Token} {e : EitherTree} → IsEither limit free d ts e rest → IsChoice limit free d ts (plain_tree e) rest
+    plain_choice : {d : ℕ} {ts rest : List Token} {e : EitherTree}
+        → IsEither limit free d ts e rest → IsChoice limit free d ts (plain_tree e) rest
 
   -- either = both { "|" both }
   pub data IsEither (limit free : ℕ) : ℕ → List Token → EitherTree → List Token → Type 0 where
@@ -108,8 +109,10 @@ mutual
     not_single : {d : ℕ} {ts rest : List Token} {s : SingleTree} (t : Token) →
         t.kind ≡ kinds.Sign signs.Not → (free ≤ length ts → d < limit) → IsSingle limit free (suc d) ts s rest →
         IsSingle limit free d (t ∷ ts) (not_tree t.from s) rest
-    id_single : {d : ℕ} {rest : List Token} (t : Token) → t.kind ≡ kinds.Key keys.Id → IsSingle limit free d (t ∷ rest) (id_tree t.from) rest
-    drop_single : {d : ℕ} {rest : List Token} (t : Token) → t.kind ≡ kinds.Key keys.Drop → IsSingle limit free d (t ∷ rest) (drop_tree t.from) rest
+    id_single : {d : ℕ} {rest : List Token} (t : Token)
+        → t.kind ≡ kinds.Key keys.Id → IsSingle limit free d (t ∷ rest) (id_tree t.from) rest
+    drop_single : {d : ℕ} {rest : List Token} (t : Token)
+        → t.kind ≡ kinds.Key keys.Drop → IsSingle limit free d (t ∷ rest) (drop_tree t.from) rest
     group_single : {d : ℕ} {ts rest : List Token} {p : PolicyTree} (t t1 : Token) →
         t.kind ≡ kinds.Sign signs.OpenRound → (free ≤ length ts → d < limit) → IsPolicy limit free (suc d) ts p (t1 ∷ rest) →
         t1.kind ≡ kinds.Sign signs.CloseRound → IsSingle limit free d (t ∷ ts) (group_tree t.from p) rest
@@ -117,7 +120,8 @@ mutual
         t.kind ≡ kinds.Key keys.Atomic → t1.kind ≡ kinds.Sign signs.OpenRound → (free ≤ length ts → d < limit) →
         IsPolicy limit free (suc d) ts p (t2 ∷ rest) → t2.kind ≡ kinds.Sign signs.CloseRound →
         IsSingle limit free d (t ∷ t1 ∷ ts) (atomic_tree t.from p) rest
-    name_single : {d : ℕ} {rest : List Token} (t : Token) → t.kind ≡ kinds.Word → IsSingle limit free d (t ∷ rest) (name_tree (span_of t)) rest
+    name_single : {d : ℕ} {rest : List Token} (t : Token) → t.kind ≡ kinds.Word
+        → IsSingle limit free d (t ∷ rest) (name_tree (span_of t)) rest
     test_single : {d : ℕ} {ts rest : List Token} {v : Value} (t t1 : Token) →
         t.kind ≡ kinds.Word → t1.kind ≡ kinds.Sign signs.Equals → IsValue ts v rest →
         IsSingle limit free d (t ∷ t1 ∷ ts) (test_tree (span_of t) v) rest

@@ -6,7 +6,8 @@ use Rattle.snap_parse.specs.declared.fault.ParseFault.TheVariants.{Unexpected, T
 use Rattle.snap_parse.specs.Tree.{SourceTree}
 use Rattle.snap_parse.specs.Grammar.{DerivesWithin, IsUnexpected, IsTooDeep}
 
--- what becomes of the tokens of a text that ends at `end`: a tree within the limit, or a token that is unexpected, or too deep, at its place
+-- what becomes of the tokens of a text that ends at `end`: a tree within the limit, or a token that is unexpected, or too deep,
+-- at its place
 abbrev pub Yields : (limit end : ℕ) → List Token → Result SourceTree ParseFault → Type 0
 Yields limit end ts (Ok s) = DerivesWithin limit ts s
 Yields limit end ts (Err (Unexpected at)) = IsUnexpected limit end ts at

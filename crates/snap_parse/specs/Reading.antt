@@ -36,22 +36,27 @@ abbrev pub Reads : {X : Type 0} → ℕ → ℕ → State → List Token → (X 
 Reads limit end st ts past r = Comes limit end (step st (front ts)) ts past r
 
 abbrev pub ReadsPolicy : ℕ → ℕ → ℕ → List Token → Result (Policy × Bor (List Token)) ParseFault → Type 0
-ReadsPolicy limit end depth ts r = (k : AfterPolicy) → policy_depth k ≡ depth → Reads limit end (at_policy k) ts (λ p. past_policy (policy_tree p) k) r
+ReadsPolicy limit end depth ts r = (k : AfterPolicy) → policy_depth k ≡ depth
+    → Reads limit end (at_policy k) ts (λ p. past_policy (policy_tree p) k) r
 
 abbrev pub ReadsSequence : ℕ → ℕ → ℕ → List Token → Result (Sequence × Bor (List Token)) ParseFault → Type 0
-ReadsSequence limit end depth ts r = (k : AfterSequence) → sequence_depth k ≡ depth → Reads limit end (at_sequence k) ts (λ s. past_sequence (sequence_tree s) k) r
+ReadsSequence limit end depth ts r = (k : AfterSequence) → sequence_depth k ≡ depth
+    → Reads limit end (at_sequence k) ts (λ s. past_sequence (sequence_tree s) k) r
 
 abbrev pub ReadsChoice : ℕ → ℕ → ℕ → List Token → Result (Choice × Bor (List Token)) ParseFault → Type 0
-ReadsChoice limit end depth ts r = (k : AfterChoice) → choice_depth k ≡ depth → Reads limit end (at_choice k) ts (λ c. past_choice (choice_tree c) k) r
+ReadsChoice limit end depth ts r = (k : AfterChoice) → choice_depth k ≡ depth
+    → Reads limit end (at_choice k) ts (λ c. past_choice (choice_tree c) k) r
 
 abbrev pub ReadsEither : ℕ → ℕ → ℕ → List Token → Result (Either × Bor (List Token)) ParseFault → Type 0
-ReadsEither limit end depth ts r = (k : AfterEither) → either_depth k ≡ depth → Reads limit end (at_either k) ts (λ e. past_either (either_tree e) k) r
+ReadsEither limit end depth ts r = (k : AfterEither) → either_depth k ≡ depth
+    → Reads limit end (at_either k) ts (λ e. past_either (either_tree e) k) r
 
 abbrev pub ReadsBoth : ℕ → ℕ → ℕ → List Token → Result (Both × Bor (List Token)) ParseFault → Type 0
 ReadsBoth limit end depth ts r = (k : AfterBoth) → both_depth k ≡ depth → Reads limit end (at_both k) ts (λ b. past_both (both_tree b) k) r
 
 abbrev pub ReadsSingle : ℕ → ℕ → ℕ → List Token → Result (Single × Bor (List Token)) ParseFault → Type 0
-ReadsSingle limit end depth ts r = (k : AfterSingle) → single_depth k ≡ depth → Reads limit end (at_single k) ts (λ s. past_single (single_tree s) k) r
+ReadsSingle limit end depth ts r = (k : AfterSingle) → single_depth k ≡ depth
+    → Reads limit end (at_single k) ts (λ s. past_single (single_tree s) k) r
 
 -- behind the `if` at `at`
 abbrev pub ReadsBranches : ℕ → ℕ → ℕ → ℕ → List Token → Result (Choice × Bor (List Token)) ParseFault → Type 0
@@ -65,14 +70,16 @@ ReadsNegation limit end at depth ts r = (k : AfterSingle) (t : Token) → single
 
 -- behind a bracket at `at`, up to one of this kind, which leads to the next state
 abbrev pub ReadsEnclosed : ℕ → ℕ → ℕ → Kind → ℕ → List Token → Result (Policy × Bor (List Token)) ParseFault → Type 0
-ReadsEnclosed limit end at close depth ts r = (k : AfterPolicy) (next : PolicyTree → State) (t : Token) → policy_depth k ≡ depth + 1 → t.from ≡ at →
+ReadsEnclosed limit end at close depth ts r = (k : AfterPolicy) (next : PolicyTree → State) (t : Token)
+    → policy_depth k ≡ depth + 1 → t.from ≡ at →
     ((p : PolicyTree) (ts : List Token) → step (past_policy p k) (front ts) ≡ on_next close (front ts) (next p) stuck) →
     ((p : PolicyTree) → state_depth (next p) ≤ limit) →
     Comes limit end (go (at_policy k)) (t ∷ ts) (λ p. next (policy_tree p)) r
 
 -- behind a name
 abbrev pub ReadsNamed : ℕ → ℕ → Span → List Token → Result (Single × Bor (List Token)) ParseFault → Type 0
-ReadsNamed limit end name ts r = (k : AfterSingle) → single_depth k ≤ limit → Reads limit end (past_name name k) ts (λ s. past_single (single_tree s) k) r
+ReadsNamed limit end name ts r = (k : AfterSingle) → single_depth k ≤ limit
+    → Reads limit end (past_name name k) ts (λ s. past_single (single_tree s) k) r
 
 -- behind a name and its places
 abbrev pub ReadsPlaced : ℕ → ℕ → Span → List Value → List Token → Result (Single × Bor (List Token)) ParseFault → Type 0
@@ -83,14 +90,16 @@ ReadsPlaced limit end name vs ts r = (k : AfterSingle) → single_depth k ≤ li
 abbrev pub ReadsPlaces : ℕ → ℕ → List Token → Result (Vec Value Global × Bor (List Token)) ParseFault → Type 0
 ReadsPlaces limit end ts (Ok x) = (name : Span) (k : AfterSingle) → single_depth k ≤ limit →
     run limit end (at_value (close_place name [] k)) ts ≡ follow limit end (placed name (x.0).items k (front (x.1).now)) (x.1).now
-ReadsPlaces limit end ts (Err e) = (name : Span) (k : AfterSingle) → single_depth k ≤ limit → Refuses e (run limit end (at_value (close_place name [] k)) ts)
+ReadsPlaces limit end ts (Err e) = (name : Span) (k : AfterSingle)
+    → single_depth k ≤ limit → Refuses e (run limit end (at_value (close_place name [] k)) ts)
 
 abbrev pub ReadsValue : ℕ → ℕ → List Token → Result (Value × Bor (List Token)) ParseFault → Type 0
 ReadsValue limit end ts r = (k : AfterValue) → value_depth k ≤ limit → Reads limit end (at_value k) ts (λ v. past_value v k) r
 
 -- behind an address
 abbrev pub ReadsAddress : ℕ → ℕ → Span → List Token → Result (Value × Bor (List Token)) ParseFault → Type 0
-ReadsAddress limit end address ts r = (k : AfterValue) → value_depth k ≤ limit → Reads limit end (past_address address k) ts (λ v. past_value v k) r
+ReadsAddress limit end address ts r = (k : AfterValue) → value_depth k ≤ limit
+    → Reads limit end (past_address address k) ts (λ v. past_value v k) r
 
 -- behind the keyword of a declaration
 abbrev pub ReadsDecl : ℕ → ℕ → (List DeclTree → State) → List Token → Result (Decl × Bor (List Token)) ParseFault → Type 0
@@ -98,7 +107,8 @@ ReadsDecl limit end from ts r = (ds : List DeclTree) → Reads limit end (from d
 
 -- a declaration, or none where the policy begins
 abbrev pub ReadsDeclaration : ℕ → ℕ → List Token → Result (Option (Decl × Bor (List Token))) ParseFault → Type 0
-ReadsDeclaration limit end ts (Ok (Some x)) = (ds : List DeclTree) → run limit end (at_decl ds) ts ≡ run limit end (at_decl (ds ++ decl_tree x.0 ∷ [])) (x.1).now
+ReadsDeclaration limit end ts (Ok (Some x)) = (ds : List DeclTree)
+    → run limit end (at_decl ds) ts ≡ run limit end (at_decl (ds ++ decl_tree x.0 ∷ [])) (x.1).now
 ReadsDeclaration limit end ts (Ok None) = (ds : List DeclTree) → run limit end (at_decl ds) ts ≡ run limit end (at_policy (the_end ds)) ts
 ReadsDeclaration limit end ts (Err e) = (ds : List DeclTree) → Refuses e (run limit end (at_decl ds) ts)
 
@@ -134,7 +144,8 @@ IsNextIf kind ts None = Lacks kind ts
 -- a literal, and the tokens behind it; or where none stands
 abbrev pub ReadsLiteral : ℕ → List Token → Result (Literal × Bor (List Token)) ParseFault → Type 0
 ReadsLiteral end ts (Ok x) = (t : Token) × (ts ≡ t ∷ (x.1).now) × (literal_of t.kind (span_of t) ≡ Some x.0)
-ReadsLiteral end ts (Err e) = (e ≡ Unexpected (place end ts)) × ((t : Token) (rest : List Token) → ts ≡ t ∷ rest → literal_of t.kind (span_of t) ≡ None)
+ReadsLiteral end ts (Err e) = (e ≡ Unexpected (place end ts))
+    × ((t : Token) (rest : List Token) → ts ≡ t ∷ rest → literal_of t.kind (span_of t) ≡ None)
 
 -- the answer is the machine's
 abbrev pub Answers : Result Source ParseFault → Result SourceTree ParseFault → Type 0

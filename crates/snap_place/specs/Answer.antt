@@ -51,11 +51,13 @@ abbrev pub SwitchThen : (ℕ → ℕ → Type 0) → List ℕ → Option ℕ →
 SwitchThen tied owned (Some var) r = r ≡ Err (NoSwitch var)
 SwitchThen tied owned None r = OwnersThen tied owned r
 
-abbrev pub MissingThen : (ℕ → ℕ → Type 0) → List (List ℕ) → List (List ℕ) → List (List ℕ × List ℕ) → Option ℕ → Result (List ℕ) PlaceFault → Type 0
+abbrev pub MissingThen : (ℕ → ℕ → Type 0) → List (List ℕ) → List (List ℕ)
+    → List (List ℕ × List ℕ) → Option ℕ → Result (List ℕ) PlaceFault → Type 0
 MissingThen tied vars switches entries (Some var) r = r ≡ Err (Missing var)
 MissingThen tied vars switches entries None r = SwitchThen tied (owners vars switches entries) (no_switch vars switches entries) r
 
-abbrev pub VariableThen : (ℕ → ℕ → Type 0) → List (List ℕ) → List (List ℕ) → List (List ℕ × List ℕ) → Option (List ℕ × List ℕ) → Result (List ℕ) PlaceFault → Type 0
+abbrev pub VariableThen : (ℕ → ℕ → Type 0) → List (List ℕ) → List (List ℕ)
+    → List (List ℕ × List ℕ) → Option (List ℕ × List ℕ) → Result (List ℕ) PlaceFault → Type 0
 VariableThen tied vars switches entries (Some entry) r = r ≡ Err (NoVariable entry.0)
 VariableThen tied vars switches entries None r = MissingThen tied vars switches entries (missing vars entries) r
 
@@ -63,7 +65,8 @@ VariableThen tied vars switches entries None r = MissingThen tied vars switches 
 abbrev pub IsAnswerFor : (ℕ → ℕ → Type 0) → List (List ℕ) → List (List ℕ) → List (List ℕ × List ℕ) → Result (List ℕ) PlaceFault → Type 0
 IsAnswerFor tied vars switches entries r = VariableThen tied vars switches entries (no_variable vars entries) r
 
-abbrev pub ShapeThen : (ℕ → ℕ → Type 0) → List (List ℕ) → List (List ℕ) → Result (List (List ℕ × List ℕ)) PlaceFault → Result (List ℕ) PlaceFault → Type 0
+abbrev pub ShapeThen : (ℕ → ℕ → Type 0) → List (List ℕ) → List (List ℕ)
+    → Result (List (List ℕ × List ℕ)) PlaceFault → Result (List ℕ) PlaceFault → Type 0
 ShapeThen tied vars switches (Ok entries) r = IsAnswerFor tied vars switches entries r
 ShapeThen tied vars switches (Err e) r = r ≡ Err e
 

@@ -17,7 +17,8 @@ InByteOrder entries = IsStrictlySortedBy (slice_cmp nat_cmp) (keys_of entries)
 
 -- no unknown name is before the one that is told
 abbrev pub IsLeast : List (List ℕ) → List (List ℕ × List ℕ) → List ℕ → Type 0
-IsLeast vars entries name = All (λ (entry : List ℕ × List ℕ). is_unknown vars entry ≡ true → slice_cmp nat_cmp name entry.0 ≢ Greater) entries
+IsLeast vars entries name = All
+    (λ (entry : List ℕ × List ℕ). is_unknown vars entry ≡ true → slice_cmp nat_cmp name entry.0 ≢ Greater) entries
 
 abbrev pub TellsLeastOf : List (List ℕ) → List (List ℕ × List ℕ) → PlaceFault → Type 0
 TellsLeastOf vars entries (NoVariable name) = IsLeast vars entries name

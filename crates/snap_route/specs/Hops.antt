@@ -28,7 +28,8 @@ NoneNearer ms distances d = (m : ℕ) → Contains ms m → d ≤ slice_index di
 
 -- from each switch but the target the next hop is its nearest neighbour
 abbrev pub AreNexts : (graph : List (List ℕ)) (target : ℕ) (distances nexts : List ℕ) → Type 0
-AreNexts graph target distances nexts = (a : ℕ) → a < length graph → a ≢ target → IsNearest (neighbours_of graph a) distances (slice_index nexts a)
+AreNexts graph target distances nexts = (a : ℕ) → a < length graph
+    → a ≢ target → IsNearest (neighbours_of graph a) distances (slice_index nexts a)
 
 -- v is the first switch that was not reached
 pub record IsFirstUnreached (ds : List (Option ℕ)) (v : ℕ) : Type 0 where

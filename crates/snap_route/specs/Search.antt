@@ -14,7 +14,8 @@ unreached ds = count_by is_none ds
 -- each distance to the target is known, or there is no walk
 pub record Settles (graph : List (List ℕ)) (target : ℕ) (ds : List (Option ℕ)) : Type 0 where
   pub count : length ds ≡ length graph
-  pub each : (v : ℕ) → v < length graph → MatchOption (distance_in ds v) (HasWalk (Adjacent graph) v target → ⊥) (IsDistance (Adjacent graph) v target)
+  pub each : (v : ℕ) → v < length graph
+      → MatchOption (distance_in ds v) (HasWalk (Adjacent graph) v target → ⊥) (IsDistance (Adjacent graph) v target)
 
 -- the switches of vs that were not reached are so at distance d, and are the next level
 pub record Reaches (vs : List ℕ) (d : ℕ) (old new : List (Option ℕ)) (level further : List ℕ) : Type 0 where

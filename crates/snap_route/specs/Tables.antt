@@ -43,8 +43,10 @@ pub record IsSquare (t : Table) : Type 0 where
 -- the routes of a topology: distances, next hops and the diameter
 pub record AreRoutes (topology : Topology) (t : Table) : Type 0 where
   pub count : switch_count t ≡ length topology.switches
-  pub distances : (a b : ℕ) → a < length topology.switches → b < length topology.switches → IsDistance (Linked topology.links) a b (distance_of t a b)
-  pub nexts : (a b : ℕ) → a < length topology.switches → b < length topology.switches → a ≢ b → IsNext (Linked topology.links) a b (next_of t a b)
+  pub distances : (a b : ℕ) → a < length topology.switches → b < length topology.switches
+      → IsDistance (Linked topology.links) a b (distance_of t a b)
+  pub nexts : (a b : ℕ) → a < length topology.switches → b < length topology.switches
+      → a ≢ b → IsNext (Linked topology.links) a b (next_of t a b)
   pub diameter : IsDiameter (Linked topology.links) (length topology.switches) t.diameter
 
 -- the least pair of switches between which there is no walk

@@ -70,21 +70,26 @@ pub data Handles (t : Tables) (w : ℕ) (k : List ℕ) : Arrays → Head → Arr
   forks : {m : Arrays} {n : ℕ} {os : List Parts} → row_at t w n ≡ Some (Leaf [] os) → Handles t w k m (Walk n) m (forked t os k)
   begins : {m m' : Arrays} {n : ℕ} {s : Turn} {ss : List Turn} {os : List Parts} {a : Action} → row_at t w n ≡ Some (Leaf (s ∷ ss) os)
       → Handles t w k m (Stage n 0) m' a → Handles t w k m (Walk n) m' a
-  passes_on : {m : Arrays} {n i : ℕ} {s : Turn} {ss : List Turn} {os : List Parts} → row_at t w n ≡ Some (Leaf ss os) → slice_get ss i ≡ Some s → s.at ≢ w
+  passes_on : {m : Arrays} {n i : ℕ} {s : Turn} {ss : List Turn} {os : List Parts}
+      → row_at t w n ≡ Some (Leaf ss os) → slice_get ss i ≡ Some s → s.at ≢ w
       → Handles t w k m (Stage n i) m (Forward (next t w s.at) (Stage n i))
-  goes_on : {m m' : Arrays} {n i : ℕ} {s : Turn} {ss : List Turn} {os : List Parts} {a : Action} → row_at t w n ≡ Some (Leaf ss os) → slice_get ss i ≡ Some s → s.at ≡ w
+  goes_on : {m m' : Arrays} {n i : ℕ} {s : Turn} {ss : List Turn} {os : List Parts} {a : Action}
+      → row_at t w n ≡ Some (Leaf ss os) → slice_get ss i ≡ Some s → s.at ≡ w
       → i + 1 < length ss → Handles t w k (updates m s.ups k) (Stage n (i + 1)) m' a → Handles t w k m (Stage n i) m' a
-  completes : {m : Arrays} {n i : ℕ} {s : Turn} {ss : List Turn} {os : List Parts} → row_at t w n ≡ Some (Leaf ss os) → slice_get ss i ≡ Some s → s.at ≡ w
+  completes : {m : Arrays} {n i : ℕ} {s : Turn} {ss : List Turn} {os : List Parts}
+      → row_at t w n ≡ Some (Leaf ss os) → slice_get ss i ≡ Some s → s.at ≡ w
       → i + 1 ≡ length ss → Handles t w k m (Stage n i) (updates m s.ups k) (forked t os k)
   -- version 2
   enters : {m m' : Arrays} {n v : ℕ} {a : Action} → t.version ≡ 2 → ranks t ≢ 0 → Follows t w k is_field m n v
       → Handles t w k m (Visit 0 v) m' a → Handles t w k m (Walk n) m' a
-  enters_last : {m : Arrays} {n v : ℕ} {us : List Update} {os : List Parts} → t.version ≡ 2 → ranks t ≡ 0 → Follows t w k is_field m n v → row_at t w v ≡ Some (Last us os)
+  enters_last : {m : Arrays} {n v : ℕ} {us : List Update} {os : List Parts} → t.version ≡ 2
+      → ranks t ≡ 0 → Follows t w k is_field m n v → row_at t w v ≡ Some (Last us os)
       → Handles t w k m (Walk n) m (forked t os k)
   seeks : {m : Arrays} {r n x : ℕ} → rank_at t r ≡ Some x → x ≢ w → Handles t w k m (Visit r n) m (Forward (next t w x) (Visit r n))
   visits : {m m' : Arrays} {r n v : ℕ} {us : List Update} {a : Action} → rank_at t r ≡ Some w → Visits t w k m r n v us → r + 1 < ranks t
       → Handles t w k (updates m us k) (Visit (r + 1) v) m' a → Handles t w k m (Visit r n) m' a
-  concludes : {m : Arrays} {r n v : ℕ} {us ups : List Update} {os : List Parts} → rank_at t r ≡ Some w → Visits t w k m r n v us → r + 1 ≡ ranks t → row_at t w v ≡ Some (Last ups os)
+  concludes : {m : Arrays} {r n v : ℕ} {us ups : List Update} {os : List Parts}
+      → rank_at t r ≡ Some w → Visits t w k m r n v us → r + 1 ≡ ranks t → row_at t w v ≡ Some (Last ups os)
       → Handles t w k m (Visit r n) (updates m us k) (forked t os k)
   -- both
   delivers : {m : Arrays} {p : ℕ} → port_at t p ≡ Some w → Handles t w k m (Out p) m (Deliver p)

@@ -12,7 +12,8 @@ number_of (Forked c copies lost) = c.number
 -- the deliveries of packet i, each with its port
 abbrev pub deliveries_of : ℕ → List Happening → List Sent
 deliveries_of i [] = []
-deliveries_of i (Delivered c port ∷ hs) = if c.number == i then (record { port = port; packet = c.packet } ∷ deliveries_of i hs) else deliveries_of i hs
+deliveries_of i (Delivered c port ∷ hs) = if c.number == i then (record { port = port; packet = c.packet } ∷ deliveries_of i hs)
+    else deliveries_of i hs
 deliveries_of i (Crossed c to head ∷ hs) = deliveries_of i hs
 deliveries_of i (Forked c copies lost ∷ hs) = deliveries_of i hs
 

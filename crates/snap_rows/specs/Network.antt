@@ -77,7 +77,8 @@ pub data Leads (t : Tables) (s : Net) : Event → Net → List Happening → Typ
 -- the events lead from s to s', where each leads as it says here
 pub data RunsBy {S L : Type 0} (leads : S → Event → S → List L → Type 0) : S → List Event → S → List L → Type 0 where
   done : {s : S} → RunsBy leads s [] s []
-  on : {s s' s'' : S} {e : Event} {es : List Event} {h hs : List L} → leads s e s' h → RunsBy leads s' es s'' hs → RunsBy leads s (e ∷ es) s'' (h ++ hs)
+  on : {s s' s'' : S} {e : Event} {es : List Event} {h hs : List L}
+      → leads s e s' h → RunsBy leads s' es s'' hs → RunsBy leads s (e ∷ es) s'' (h ++ hs)
 
 -- so they do in the network
 abbrev pub Runs : Tables → Net → List Event → Net → List Happening → Type 0
@@ -109,7 +110,8 @@ StepsFirst (Inject port k) = Unit {0}
 StepsFirst (Step i) = i ≡ 0
 
 -- a run of the plain schedule of these packets: each is injected once the one before has finished, and each step is of the first copy
-pub record IsPlainRunBy {S L : Type 0} (net : S → Net) (leads : S → Event → S → List L → Type 0) (begin : S) (ks : List (ℕ × List ℕ)) (es : List Event) (s : S) (hs : List L) : Type 0 where
+pub record IsPlainRunBy {S L : Type 0} (net : S → Net) (leads : S → Event → S → List L → Type 0)
+    (begin : S) (ks : List (ℕ × List ℕ)) (es : List Event) (s : S) (hs : List L) : Type 0 where
   pub packets : packets_of es ≡ ks
   pub first : All StepsFirst es
   pub run : RunsCalmlyBy net leads begin es s hs

@@ -14,11 +14,13 @@ use Rattle.snap_rows.specs.Network.{Net, Event, Happening, IsPlainRun}
 
 -- a head at home can be handled
 abbrev pub CanBeHandled : Type 0
-CanBeHandled = (t : Tables) → IsValid t → IsInForm t → (w : ℕ) (k : List ℕ) (m : Arrays) (h : Head) → AtHome t w h → (m' : Arrays) × (a : Action) × Handles t w k m h m' a
+CanBeHandled = (t : Tables) → IsValid t → IsInForm t → (w : ℕ) (k : List ℕ) (m : Arrays) (h : Head)
+    → AtHome t w h → (m' : Arrays) × (a : Action) × Handles t w k m h m' a
 
 -- and in one way alone
 abbrev pub IsHandledOneWay : Type 0
-IsHandledOneWay = (t : Tables) → IsInForm t → (w : ℕ) (k : List ℕ) (m : Arrays) (h : Head) (m' m'' : Arrays) (a b : Action) → Handles t w k m h m' a → Handles t w k m h m'' b → (m' ≡ m'') × (a ≡ b)
+IsHandledOneWay = (t : Tables) → IsInForm t → (w : ℕ) (k : List ℕ) (m : Arrays) (h : Head) (m' m'' : Arrays) (a b : Action)
+    → Handles t w k m h m' a → Handles t w k m h m'' b → (m' ≡ m'') × (a ≡ b)
 
 -- the packet can be injected at the port
 pub record CanBeInjected (t : Tables) (p : ℕ × List ℕ) : Type 0 where
@@ -27,4 +29,5 @@ pub record CanBeInjected (t : Tables) (p : ℕ × List ℕ) : Type 0 where
 
 -- the plain schedule of each list of packets comes to its end
 abbrev pub PlainRunsEnd : Type 0
-PlainRunsEnd = (t : Tables) → IsValid t → IsInForm t → (m : Arrays) (ks : List (ℕ × List ℕ)) → All (CanBeInjected t) ks → (es : List Event) × (s : Net) × (hs : List Happening) × IsPlainRun t m ks es s hs
+PlainRunsEnd = (t : Tables) → IsValid t → IsInForm t → (m : Arrays) (ks : List (ℕ × List ℕ))
+    → All (CanBeInjected t) ks → (es : List Event) × (s : Net) × (hs : List Happening) × IsPlainRun t m ks es s hs

@@ -80,7 +80,8 @@ AreNodesFrom t k at = (n : ℕ) → MatchOption (at n) (node_in (drop k t.rows) 
 
 -- the numbers that have field rows among the first k
 abbrev pub AreFieldsTo : Tables → ℕ → (ℕ → Option ℕ) → Type 0
-AreFieldsTo t k at = (n : ℕ) → (at n ≡ None) ↔ ((i : ℕ) (r : RowAt) → i < k → slice_get t.rows i ≡ Some r → r.number ≡ n → ¬ IsFieldRow r.row)
+AreFieldsTo t k at = (n : ℕ)
+    → (at n ≡ None) ↔ ((i : ℕ) (r : RowAt) → i < k → slice_get t.rows i ≡ Some r → r.number ≡ n → ¬ IsFieldRow r.row)
 
 abbrev pub standing_in : BTreeMap ℕ Standing → ℕ → Standing
 standing_in known n = unwrap_or (get nat_cmp known n) Nowhere

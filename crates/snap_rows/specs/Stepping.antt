@@ -45,10 +45,12 @@ abbrev pub lost_to : Option ℕ → ℕ
 lost_to None = 1
 lost_to (Some port) = 0
 
--- From rank r and number n on, a packet has made visits at switch w that were admitted, one after another; the next is of rank q at number v.
+-- From rank r and number n on, a packet has made visits at switch w that were admitted, one after another; the next is of rank
+-- q at number v.
 pub data Visiting (t : Tables) (w : ℕ) (k : List ℕ) (may : ℕ → Bool) (m : Arrays) (r n : ℕ) : Arrays → ℕ → ℕ → Type 0 where
   none : Visiting t w k may m r n m r n
-  more : {m' : Arrays} {q v x : ℕ} {us : List Update} → Visiting t w k may m r n m' q v → rank_at t q ≡ Some w → may q ≡ true → Visits t w k m' q v x us
+  more : {m' : Arrays} {q v x : ℕ} {us : List Update} → Visiting t w k may m r n m' q v
+      → rank_at t q ≡ Some w → may q ≡ true → Visits t w k m' q v x us
       → Visiting t w k may m r n (updates m' us k) (q + 1) x
 
 -- how visits from rank r on end, where the next is of rank q at number v
@@ -77,8 +79,10 @@ IsBeforeNone t w k h = t.version ≡ 2 → (m : Arrays) (r n : ℕ) → ComesTo 
 -- what a step of a copy with this head does at switch w, where these visits are admitted
 pub data Steps (t : Tables) (w : ℕ) (k : List ℕ) (may : ℕ → Bool) (m : Arrays) : Head → Arrays → Fate → Type 0 where
   -- before no visit there: what it does without order
-  goes : {h : Head} {m' : Arrays} {f : Fate} {a : Action} → IsBeforeNone t w k h → ActsAs t w k f a → Handles t w k m h m' a → Steps t w k may m h m' f
-  visits : {h : Head} {r n : ℕ} {m' : Arrays} {f : Fate} → t.version ≡ 2 → ComesTo t w k m h r n → rank_at t r ≡ Some w → HasVisited t w k may m r n m' f → Steps t w k may m h m' f
+  goes : {h : Head} {m' : Arrays} {f : Fate} {a : Action} → IsBeforeNone t w k h
+      → ActsAs t w k f a → Handles t w k m h m' a → Steps t w k may m h m' f
+  visits : {h : Head} {r n : ℕ} {m' : Arrays} {f : Fate} → t.version ≡ 2 → ComesTo t w k m h r n
+      → rank_at t r ≡ Some w → HasVisited t w k may m r n m' f → Steps t w k may m h m' f
 
 -- a head that says where it goes from switch w says this switch, another one
 abbrev pub AimsAt : Tables → (w : ℕ) → Head → ℕ → Type 0

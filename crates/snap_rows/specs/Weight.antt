@@ -45,11 +45,13 @@ weight_after t w (Deliver port) = 0
 weight_after t w (Fork copies lost) = sum_by (λ (x : Sent). weight t w (Out x.port)) copies
 
 abbrev pub EachStepIsLighter : Type 0
-EachStepIsLighter = (t : Tables) → IsValid t → IsInForm t → (w : ℕ) → w < switch_count t → (k : List ℕ) (m : Arrays) (h : Head) (m' : Arrays) (a : Action) → AtHome t w h → Handles t w k m h m' a → weight_after t w a < weight t w h
+EachStepIsLighter = (t : Tables) → IsValid t → IsInForm t → (w : ℕ) → w < switch_count t → (k : List ℕ) (m : Arrays)
+    (h : Head) (m' : Arrays) (a : Action) → AtHome t w h → Handles t w k m h m' a → weight_after t w a < weight t w h
 
 -- the steps that copies can still make, at most
 abbrev pub steps_left : Tables → List Copy → ℕ
 steps_left t cs = sum_by (λ (c : Copy). weight t c.at c.head) cs
 
 abbrev pub StepsFall : Type 0
-StepsFall = (t : Tables) → IsValid t → IsInForm t → (s s' : Net) (i : ℕ) (hs : List Happening) → All (IsBounded t) s.flying → Leads t s (Step i) s' hs → steps_left t s'.flying < steps_left t s.flying
+StepsFall = (t : Tables) → IsValid t → IsInForm t → (s s' : Net) (i : ℕ) (hs : List Happening)
+    → All (IsBounded t) s.flying → Leads t s (Step i) s' hs → steps_left t s'.flying < steps_left t s.flying

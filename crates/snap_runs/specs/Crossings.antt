@@ -21,7 +21,8 @@ digits_of f i h k = encode_lower (bytes_of f i h k)
 
 -- `hop FROM TO DIGITS`
 abbrev pub line_text : List (List ℕ) → (digits : List ℕ) → (from to : ℕ) → List ℕ
-line_text switches digits from to = concat (codes "hop " ∷ name_in switches from ∷ codes " " ∷ name_in switches to ∷ codes " " ∷ digits ∷ codes "\n" ∷ [])
+line_text switches digits from to = concat
+    (codes "hop " ∷ name_in switches from ∷ codes " " ∷ name_in switches to ∷ codes " " ∷ digits ∷ codes "\n" ∷ [])
 
 -- `hop FROM TO `
 abbrev pub link_of : (from to : List ℕ) → List ℕ

@@ -17,27 +17,33 @@ use Rattle.snap_runs.specs.Schedules.{IsCalm, IsScheduleReport, Obeys, RefusesLi
 
 -- the plain run of packets is one: the same events, the same end and the same happenings
 abbrev pub PlainRunsAreOne : Type 0
-PlainRunsAreOne = (t : Tables) → IsInForm t → (m : Arrays) (ks : List (ℕ × List ℕ)) (es es' : List Event) (s s' : Net) (hs hs' : List Happening)
+PlainRunsAreOne = (t : Tables) → IsInForm t
+    → (m : Arrays) (ks : List (ℕ × List ℕ)) (es es' : List Event) (s s' : Net) (hs hs' : List Happening)
     → IsPlainRun t m ks es s hs → IsPlainRun t m ks es' s' hs' → (es ≡ es') × (s ≡ s') × (hs ≡ hs')
 
 -- a run has one report, and happenings have the same blocks
 abbrev pub RunReportsAreOne : Type 0
-RunReportsAreOne = (t : Tables) (hops : Bool) (count : ℕ) (s : Net) (hs : List Happening) (a b : List ℕ) → IsRunReport t hops count s hs a → IsRunReport t hops count s hs b → a ≡ b
+RunReportsAreOne = (t : Tables) (hops : Bool) (count : ℕ) (s : Net) (hs : List Happening) (a b : List ℕ)
+    → IsRunReport t hops count s hs a → IsRunReport t hops count s hs b → a ≡ b
 
 abbrev pub RunBlocksAreOne : Type 0
-RunBlocksAreOne = (t : Tables) (hops : Bool) (count : ℕ) (hs : List Happening) (a b : List ℕ) → AreBlocks t hops count hs a → AreBlocks t hops count hs b → a ≡ b
+RunBlocksAreOne = (t : Tables) (hops : Bool) (count : ℕ) (hs : List Happening) (a b : List ℕ)
+    → AreBlocks t hops count hs a → AreBlocks t hops count hs b → a ≡ b
 
 -- and a run with a report has one without hops, which is the same where none are told
 abbrev pub RunsReportWithoutHops : Type 0
-RunsReportWithoutHops = (f : Frames) (t : Tables) (hops : Bool) (count : ℕ) (s : Net) (hs : List Happening) (text : List ℕ) → IsRunReportBy f t hops count s hs text
+RunsReportWithoutHops = (f : Frames) (t : Tables) (hops : Bool) (count : ℕ) (s : Net) (hs : List Happening) (text : List ℕ)
+    → IsRunReportBy f t hops count s hs text
     → (plain : List ℕ) × IsRunReportBy f t false count s hs plain × (hops ≡ false → plain ≡ text)
 
 -- so packets have one report, and the same blocks, in the plain run
 abbrev pub PlainReportsAreOne : Type 0
-PlainReportsAreOne = (t : Tables) → IsInForm t → (hops : Bool) (ks : List (List ℕ)) (a b : List ℕ) → IsPlainReport t hops ks a → IsPlainReport t hops ks b → a ≡ b
+PlainReportsAreOne = (t : Tables) → IsInForm t → (hops : Bool) (ks : List (List ℕ)) (a b : List ℕ)
+    → IsPlainReport t hops ks a → IsPlainReport t hops ks b → a ≡ b
 
 abbrev pub PlainBlocksAreOne : Type 0
-PlainBlocksAreOne = (t : Tables) → IsInForm t → (hops : Bool) (ks : List (List ℕ)) (a b : List ℕ) → ArePlainBlocks t hops ks a → ArePlainBlocks t hops ks b → a ≡ b
+PlainBlocksAreOne = (t : Tables) → IsInForm t → (hops : Bool) (ks : List (List ℕ)) (a b : List ℕ)
+    → ArePlainBlocks t hops ks a → ArePlainBlocks t hops ks b → a ≡ b
 
 -- ---- schedules
 -- the run that lines tell is one
@@ -47,17 +53,21 @@ ScheduledRunsAreOne = (t : Tables) → IsInForm t → (ks lines left left' : Lis
 
 -- so lines tell one report, or are refused at one line, and not both
 abbrev pub ScheduleReportsAreOne : Type 0
-ScheduleReportsAreOne = (t : Tables) → IsInForm t → (hops : Bool) (ks lines : List (List ℕ)) (a b : List ℕ) → IsScheduleReport t hops ks lines a → IsScheduleReport t hops ks lines b → a ≡ b
+ScheduleReportsAreOne = (t : Tables) → IsInForm t → (hops : Bool) (ks lines : List (List ℕ)) (a b : List ℕ)
+    → IsScheduleReport t hops ks lines a → IsScheduleReport t hops ks lines b → a ≡ b
 
 abbrev pub RefusedLinesAreOne : Type 0
-RefusedLinesAreOne = (t : Tables) → IsInForm t → (ks lines : List (List ℕ)) (a b : ℕ) → RefusesLine t ks lines a → RefusesLine t ks lines b → a ≡ b
+RefusedLinesAreOne = (t : Tables) → IsInForm t → (ks lines : List (List ℕ)) (a b : ℕ)
+    → RefusesLine t ks lines a → RefusesLine t ks lines b → a ≡ b
 
 abbrev pub ReportedOrRefused : Type 0
-ReportedOrRefused = (t : Tables) → IsInForm t → (hops : Bool) (ks lines : List (List ℕ)) (text : List ℕ) (number : ℕ) → IsScheduleReport t hops ks lines text → RefusesLine t ks lines number → ⊥
+ReportedOrRefused = (t : Tables) → IsInForm t → (hops : Bool) (ks lines : List (List ℕ)) (text : List ℕ) (number : ℕ)
+    → IsScheduleReport t hops ks lines text → RefusesLine t ks lines number → ⊥
 
 -- and a call that writes the report of a schedule tells of the line that is refused, and of no other
 abbrev pub RefusedLinesAreTold : Type 0
-RefusedLinesAreTold = (t : Tables) → IsInForm t → (hops : Bool) (file schedule : List ℕ) (result : Result (Unit {0}) ScheduleFault) (old new : Option (List ℕ)) → WritesSchedule t hops file schedule result old new
+RefusedLinesAreTold = (t : Tables) → IsInForm t → (hops : Bool) (file schedule : List ℕ)
+    (result : Result (Unit {0}) ScheduleFault) (old new : Option (List ℕ)) → WritesSchedule t hops file schedule result old new
     → (number : ℕ) → RefusesScheduleLine t file schedule number → TellsOfLine result number
 
 -- the run that a calm schedule tells is calm

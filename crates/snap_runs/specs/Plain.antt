@@ -83,7 +83,8 @@ HasTrace t hops file text = (ending : RunEnding) × IsTrace t hops file ending t
 
 -- The run ended as the file deserves, and its whole report went out. Or a device failed or memory was short, and some
 -- first bytes of blocks have gone out; where the sink failed, perhaps of what stands behind them too.
-abbrev pub Writes : (Blocks : List ℕ → Type 0) → (Ends : RunEnding → List ℕ → Type 0) → RunEnding → Option (List ℕ) → Option (List ℕ) → Type 0
+abbrev pub Writes : (Blocks : List ℕ → Type 0) → (Ends : RunEnding → List ℕ → Type 0)
+    → RunEnding → Option (List ℕ) → Option (List ℕ) → Type 0
 Writes Blocks Ends (Err Read) old new = AppendsSome Blocks old new
 Writes Blocks Ends (Err NoMemory) old new = AppendsSome Blocks old new
 Writes Blocks Ends (Err Write) old new = AppendsSome Blocks old new ⊎ AppendsSome (λ text. (ending : RunEnding) × Ends ending text) old new

@@ -68,13 +68,17 @@ IsPlaying v = (ks : List (List ℕ)) × (lines : List (List ℕ)) × Plays v.net
 -- a line that orders this was done, or it can't be done
 abbrev pub HasObeyed : Order → (old new : Play) → Bool → Type 0
 HasObeyed order old new true =
-    (t : Tables) (hops : Bool) (ks lines : List (List ℕ)) (line : List ℕ) → order_by line ≡ Some order → Plays t hops ks lines old → Plays t hops ks (lines ++ line ∷ []) new
-HasObeyed order old new false = (t : Tables) (hops : Bool) (ks lines : List (List ℕ)) (p : Plays t hops ks lines old) → CantBeDone (Some order) (left_in old) p.state
+    (t : Tables) (hops : Bool) (ks lines : List (List ℕ)) (line : List ℕ)
+        → order_by line ≡ Some order → Plays t hops ks lines old → Plays t hops ks (lines ++ line ∷ []) new
+HasObeyed order old new false = (t : Tables) (hops : Bool) (ks lines : List (List ℕ)) (p : Plays t hops ks lines old)
+    → CantBeDone (Some order) (left_in old) p.state
 
 -- the same of the line itself
 abbrev pub HasDone : List ℕ → (old new : Play) → Bool → Type 0
-HasDone line old new true = (t : Tables) (hops : Bool) (ks lines : List (List ℕ)) → Plays t hops ks lines old → Plays t hops ks (lines ++ line ∷ []) new
-HasDone line old new false = (t : Tables) (hops : Bool) (ks lines : List (List ℕ)) (p : Plays t hops ks lines old) → CantBeDone (order_by line) (left_in old) p.state
+HasDone line old new true = (t : Tables) (hops : Bool) (ks lines : List (List ℕ))
+    → Plays t hops ks lines old → Plays t hops ks (lines ++ line ∷ []) new
+HasDone line old new false = (t : Tables) (hops : Bool) (ks lines : List (List ℕ)) (p : Plays t hops ks lines old)
+    → CantBeDone (order_by line) (left_in old) p.state
 
 -- a step was noted in its packet's tally, with these lines
 pub record HasNoted (lines : List ℕ) (m : Moved) (old new : List Tally) : Type 0 where
@@ -99,7 +103,8 @@ pub record NotesIn (f : Frames) (t : Tables) (hops : Bool) (x : Happening) (old 
   pub others : (i : ℕ) → (i ≡ number_of x → ⊥) → slice_get new i ≡ slice_get old i
 
 abbrev pub HasStepped : Bool → ℕ → (old new : Held) → (before after : List Tally) → Type 0
-HasStepped hops k old new before after = (s : Net) → Shows old s → (s' : Net) × (x : Happening) × Leads old.tables s (Step k) s' (x ∷ []) × Shows new s' × NotesIn Plain old.tables hops x before after
+HasStepped hops k old new before after = (s : Net) → Shows old s → (s' : Net) × (x : Happening)
+    × Leads old.tables s (Step k) s' (x ∷ []) × Shows new s' × NotesIn Plain old.tables hops x before after
 
 -- no line was done yet
 abbrev pub IsFresh : Play → Type 0
@@ -151,7 +156,8 @@ Refuses t file schedule fault = RefusesBy (RefusesScheduleLine t file schedule) 
 pub record PutsBlocks (fields : List Field) (ys : List Tally) (before after : List ℕ) : Type 0 where
   pub each : List (List ℕ)
   pub as_many : length each ≡ length ys
-  pub blocks : (i : ℕ) (y : Tally) (text : List ℕ) → slice_get ys i ≡ Some y → slice_get each i ≡ Some text → IsBlockText fields (i + 1) y [] text
+  pub blocks : (i : ℕ) (y : Tally) (text : List ℕ) → slice_get ys i ≡ Some y
+      → slice_get each i ≡ Some text → IsBlockText fields (i + 1) y [] text
   pub is : after ≡ before ++ concat each
 
 -- the blocks of some first tallies were put, and these are left, the next one last
@@ -182,4 +188,5 @@ HasRead t file rs (Err (trace.Undefined packet)) = ⊥
 -- a packet of the line stands behind the others, and its port is one of the tables'
 abbrev pub TakesLine : Tables → (packet : List ℕ) → Read_line → (before after : List Ready) → Type 0
 TakesLine t packet read.Skip before after = after ≡ before
-TakesLine t packet (read.Inject port) before after = (after ≡ before ++ record { port = port; packet = packet } ∷ []) × IsSome (port_at t port)
+TakesLine t packet (read.Inject port) before after = (after ≡ before ++ record { port = port; packet = packet } ∷ [])
+    × IsSome (port_at t port)

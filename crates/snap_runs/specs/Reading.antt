@@ -31,7 +31,8 @@ left_of said file reader = left_behind said file reader.read (lines_given reader
 
 -- the next line stands before the others, or none is left, or reading has stopped
 abbrev pub GivesLine : Tables → (file : List ℕ) → (old new : PacketLines) → Result (Option Line) TraceFault → Type 0
-GivesLine t file old new (Ok (Some line)) = left_of (said_at t) file old ≡ with_said new.read (at_ports t (said_of (packet_in new) line)) (left_of (said_at t) file new)
+GivesLine t file old new (Ok (Some line)) = left_of (said_at t) file old
+    ≡ with_said new.read (at_ports t (said_of (packet_in new) line)) (left_of (said_at t) file new)
 GivesLine t file old new (Ok None) = left_of (said_at t) file old ≡ stops ended
 GivesLine t file old new (Err Read) = Unit {0}
 GivesLine t file old new (Err NoMemory) = ⊥

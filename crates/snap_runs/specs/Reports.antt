@@ -29,7 +29,8 @@ lead_of Numbered i = to_be_bytes w64 i
 
 -- `hop FROM TO FRAME`: a copy crosses a link with this head
 abbrev pub hop_line : Frames → Tables → Copy → (to : ℕ) → Head → List ℕ
-hop_line f t c to head = concat (codes "hop " ∷ switch_name t c.at ∷ codes " " ∷ switch_name t to ∷ codes " " ∷ encode_lower (lead_of f c.number ++ frame head c.packet) ∷ codes "\n" ∷ [])
+hop_line f t c to head = concat (codes "hop " ∷ switch_name t c.at ∷ codes " " ∷ switch_name t to
+    ∷ codes " " ∷ encode_lower (lead_of f c.number ++ frame head c.packet) ∷ codes "\n" ∷ [])
 
 -- a line for each link that a copy of packet i crosses, in the order of the steps
 abbrev pub hop_lines : Frames → Tables → (i : ℕ) → List Happening → List ℕ
@@ -90,4 +91,5 @@ IsRunReport t hops count s hs text = IsRunReportBy Plain t hops count s hs text
 
 -- the end of a network's report was put behind a text
 abbrev pub PutsEnd : Held → (before after : List ℕ) → Type 0
-PutsEnd v before after = (s : Net) → Shows v s → (entries : List Entry) × IsListing (whole v.tables s) entries × (after ≡ before ++ end_text (array_names v.tables) entries)
+PutsEnd v before after = (s : Net) → Shows v s → (entries : List Entry)
+    × IsListing (whole v.tables s) entries × (after ≡ before ++ end_text (array_names v.tables) entries)

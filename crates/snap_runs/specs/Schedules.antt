@@ -52,14 +52,18 @@ order_by (b ∷ bs) = if b == 35 then Some order.Skip else order_of_words (words
 -- the lines spell these events, with these packets, of which some are left
 pub data Spells : List (List ℕ) → (ks : List (List ℕ)) → List Event → (left : List (List ℕ)) → Type 0 where
   nothing : {ks : List (List ℕ)} → Spells [] ks [] ks
-  skips : {line : List ℕ} {lines ks left : List (List ℕ)} {es : List Event} → order_by line ≡ Some order.Skip → Spells lines ks es left → Spells (line ∷ lines) ks es left
-  injects : {line k : List ℕ} {lines ks left : List (List ℕ)} {es : List Event} → order_by line ≡ Some order.Inject → Spells lines ks es left
+  skips : {line : List ℕ} {lines ks left : List (List ℕ)} {es : List Event}
+      → order_by line ≡ Some order.Skip → Spells lines ks es left → Spells (line ∷ lines) ks es left
+  injects : {line k : List ℕ} {lines ks left : List (List ℕ)} {es : List Event}
+      → order_by line ≡ Some order.Inject → Spells lines ks es left
       → Spells (line ∷ lines) (k ∷ ks) (Inject (slice_index k 0) k ∷ es) left
-  steps : {line : List ℕ} {lines ks left : List (List ℕ)} {i : ℕ} {es : List Event} → order_by line ≡ Some (order.Step i) → Spells lines ks es left
+  steps : {line : List ℕ} {lines ks left : List (List ℕ)} {i : ℕ} {es : List Event}
+      → order_by line ≡ Some (order.Step i) → Spells lines ks es left
       → Spells (line ∷ lines) ks (Step i ∷ es) left
 
 -- a run does the events of these lines
-pub record ObeysBy {S L : Type 0} (leads : S → Event → S → List L → Type 0) (begin : S) (ks lines left : List (List ℕ)) (s : S) (told : List L) : Type 0 where
+pub record ObeysBy {S L : Type 0} (leads : S → Event → S → List L → Type 0)
+    (begin : S) (ks lines left : List (List ℕ)) (s : S) (told : List L) : Type 0 where
   pub events : List Event
   pub spells : Spells lines ks events left
   pub run : RunsBy leads begin events s told
@@ -76,7 +80,8 @@ CantBeDone (Some order.Inject) left s = left ≡ []
 CantBeDone (Some (order.Step i)) left s = length s.flying ≤ i
 
 -- the first line that isn't in form or can't be done has this number, counted from 1
-pub record StopsAtBy {S L : Type 0} (net : S → Net) (leads : S → Event → S → List L → Type 0) (begin : S) (ks lines : List (List ℕ)) (number : ℕ) : Type 0 where
+pub record StopsAtBy {S L : Type 0} (net : S → Net) (leads : S → Event → S → List L → Type 0)
+    (begin : S) (ks lines : List (List ℕ)) (number : ℕ) : Type 0 where
   pub before : List (List ℕ)
   pub line : List ℕ
   pub behind : List (List ℕ)
@@ -92,7 +97,8 @@ abbrev pub StopsAt : Tables → (ks lines : List (List ℕ)) → (number : ℕ) 
 StopsAt t ks lines number = StopsAtBy (λ (s : Net). s) (Leads t) (start t zero_arrays) ks lines number
 
 -- all lines are done, and a packet or a copy is left: this is the number of the line behind
-pub record EndsEarlyBy {S L : Type 0} (net : S → Net) (leads : S → Event → S → List L → Type 0) (begin : S) (ks lines : List (List ℕ)) (number : ℕ) : Type 0 where
+pub record EndsEarlyBy {S L : Type 0} (net : S → Net) (leads : S → Event → S → List L → Type 0)
+    (begin : S) (ks lines : List (List ℕ)) (number : ℕ) : Type 0 where
   pub is : number ≡ length lines + 1
   pub left : List (List ℕ)
   pub state : S
@@ -131,11 +137,13 @@ AreBothRead t file schedule = IsReadWhole t file × (length schedule ≤ 6710886
 
 -- the report of a packets file and a schedule
 abbrev pub HasScheduleReport : Tables → (hops : Bool) → (file schedule : List ℕ) → List ℕ → Type 0
-HasScheduleReport t hops file schedule text = AreBothRead t file schedule × IsScheduleReport t hops (spelled_for t file).packets (lines_of schedule) text
+HasScheduleReport t hops file schedule text = AreBothRead t file schedule
+    × IsScheduleReport t hops (spelled_for t file).packets (lines_of schedule) text
 
 -- the line of a schedule that is refused
 abbrev pub RefusesScheduleLine : Tables → (file schedule : List ℕ) → (number : ℕ) → Type 0
-RefusesScheduleLine t file schedule number = AreBothRead t file schedule × RefusesLine t (spelled_for t file).packets (lines_of schedule) number
+RefusesScheduleLine t file schedule number = AreBothRead t file schedule
+    × RefusesLine t (spelled_for t file).packets (lines_of schedule) number
 
 -- why the packets file isn't read to its end
 abbrev pub RefusesPackets : Tables → (file : List ℕ) → TraceFault → Type 0
@@ -148,7 +156,8 @@ RefusesPackets t file (trace.Undefined packet) = ⊥
 
 -- The whole report went out, or nothing, or some first bytes where the sink failed. The packets file is read to its end
 -- before the schedule, and the schedule before its lines are done.
-abbrev pub WritesScheduleBy : (HasReport : List ℕ → Type 0) → (Refuses : ℕ → Type 0) → Tables → (file schedule : List ℕ) → Result (Unit {0}) ScheduleFault → Option (List ℕ) → Option (List ℕ) → Type 0
+abbrev pub WritesScheduleBy : (HasReport : List ℕ → Type 0) → (Refuses : ℕ → Type 0) → Tables
+    → (file schedule : List ℕ) → Result (Unit {0}) ScheduleFault → Option (List ℕ) → Option (List ℕ) → Type 0
 WritesScheduleBy HasReport Refuses t file schedule (Ok u) old new = (text : List ℕ) × HasReport text × Appends old new text
 WritesScheduleBy HasReport Refuses t file schedule (Err Write) old new = AppendsSome HasReport old new
 WritesScheduleBy HasReport Refuses t file schedule (Err (Packets fault)) old new = (new ≡ old) × RefusesPackets t file fault
@@ -157,8 +166,10 @@ WritesScheduleBy HasReport Refuses t file schedule (Err NoMemory) old new = new 
 WritesScheduleBy HasReport Refuses t file schedule (Err TooLong) old new = (new ≡ old) × IsReadWhole t file × (67108864 < length schedule)
 WritesScheduleBy HasReport Refuses t file schedule (Err (Line line)) old new = (new ≡ old) × Refuses line
 
-abbrev pub WritesSchedule : Tables → (hops : Bool) → (file schedule : List ℕ) → Result (Unit {0}) ScheduleFault → Option (List ℕ) → Option (List ℕ) → Type 0
-WritesSchedule t hops file schedule result old new = WritesScheduleBy (HasScheduleReport t hops file schedule) (RefusesScheduleLine t file schedule) t file schedule result old new
+abbrev pub WritesSchedule : Tables → (hops : Bool) → (file schedule : List ℕ)
+    → Result (Unit {0}) ScheduleFault → Option (List ℕ) → Option (List ℕ) → Type 0
+WritesSchedule t hops file schedule result old new = WritesScheduleBy
+    (HasScheduleReport t hops file schedule) (RefusesScheduleLine t file schedule) t file schedule result old new
 
 -- a call tells of this line, unless a device failed or memory was short
 abbrev pub TellsOfLine : Result (Unit {0}) ScheduleFault → ℕ → Type 0

@@ -51,7 +51,8 @@ name_in switches w = unwrap_or (slice_get switches w) []
 
 -- `hop FROM TO FRAME`
 abbrev pub hop_text : List (List ℕ) → (from to : ℕ) → (frame : List ℕ) → List ℕ
-hop_text switches from to frame = concat (codes "hop " ∷ name_in switches from ∷ codes " " ∷ name_in switches to ∷ codes " " ∷ encode_lower frame ∷ codes "\n" ∷ [])
+hop_text switches from to frame = concat
+    (codes "hop " ∷ name_in switches from ∷ codes " " ∷ name_in switches to ∷ codes " " ∷ encode_lower frame ∷ codes "\n" ∷ [])
 
 -- the line of the link that the copy crosses, if it crosses one
 abbrev pub hop_told : Frames → List (List ℕ) → Happening → List ℕ
@@ -86,7 +87,8 @@ pub record IsTally (f : Frames) (t : Tables) (hops : Bool) (i : ℕ) (hs : List 
   pub lost : y.lost ≡ sum (losses_of i hs)
   pub hops_told : y.hops.items ≡ hops_text f t hops i hs
 
--- the block of the packet with this number was put: these lines of links, the packets that were sent, in rising order, and how many were lost
+-- the block of the packet with this number was put: these lines of links, the packets that were sent, in rising order, and how
+-- many were lost
 pub record PutsBlock (fields : List Field) (number : ℕ) (hops : List ℕ) (sent : List (List ℕ)) (lost : ℕ) (old new : List ℕ) : Type 0 where
   pub outs : List (List ℕ)
   pub rising : IsSorted packet_cmp outs

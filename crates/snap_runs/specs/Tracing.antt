@@ -25,12 +25,14 @@ abbrev pub HappenTo : ℕ → List Happening → Type 0
 HappenTo i hs = All (λ h. number_of h ≡ i) hs
 
 -- this was told of packet i, and the lines of the links that its copies crossed were put, where hops are told
-pub record IsTraced (f : Frames) (t : Tables) (hops : Bool) (i : ℕ) (y : Tally) (sent : List (List ℕ)) (lost : ℕ) (hs : List Happening) : Type 0 where
+pub record IsTraced (f : Frames) (t : Tables) (hops : Bool) (i : ℕ) (y : Tally)
+    (sent : List (List ℕ)) (lost : ℕ) (hs : List Happening) : Type 0 where
   pub told : IsTold i sent lost hs
   pub lines : y.hops.items ≡ hops_text f t hops i hs
 
 -- a packet was injected with nothing in flight, all its copies have come to rest, and its block stands behind the text
-pub record HasTaken (f : Frames) (t : Tables) (hops : Bool) (port : ℕ) (k : List ℕ) (s : Net) (new : Held) (before after : List ℕ) : Type 0 where
+pub record HasTaken (f : Frames) (t : Tables) (hops : Bool) (port : ℕ)
+    (k : List ℕ) (s : Net) (new : Held) (before after : List ℕ) : Type 0 where
   pub events : List Event
   pub no_packets : packets_of events ≡ []
   pub first : All StepsFirst events
@@ -47,7 +49,8 @@ pub record HasTaken (f : Frames) (t : Tables) (hops : Bool) (port : ℕ) (k : Li
 
 -- a packet of the line with this number was taken
 abbrev pub TakesPacket : (line port : ℕ) → (k : List ℕ) → (old new : Tracer) → (before after : List ℕ) → RunEnding → Type 0
-TakesPacket line port k old new before after (Ok u) = IsSome (port_at old.net.tables port) × ((s : Net) → Shows old.net s → s.flying ≡ [] → HasTaken old.frames old.net.tables old.hops port k s new.net before after)
+TakesPacket line port k old new before after (Ok u) = IsSome (port_at old.net.tables port)
+    × ((s : Net) → Shows old.net s → s.flying ≡ [] → HasTaken old.frames old.net.tables old.hops port k s new.net before after)
 TakesPacket line port k old new before after (Err (Packets l)) = (l ≡ line) × (port_at old.net.tables port ≡ None) × (after ≡ before)
 TakesPacket line port k old new before after (Err NoMemory) = Unit {0}
 TakesPacket line port k old new before after (Err Read) = ⊥

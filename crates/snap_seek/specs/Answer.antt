@@ -53,7 +53,8 @@ no_switch switches vars entries = option_map (λ name. NoSwitch name) (find (is_
 
 -- the first of these faults
 abbrev pub first_fault : List PortAt → List (List ℕ) → List (List ℕ) → Spelled → Option DemandFault
-first_fault ports switches vars s = option_or (too_many s.flows) (option_or (no_port ports s.flows) (option_or (no_variable vars s.allowed) (no_switch switches vars s.allowed)))
+first_fault ports switches vars s = option_or (too_many s.flows)
+    (option_or (no_port ports s.flows) (option_or (no_variable vars s.allowed) (no_switch switches vars s.allowed)))
 
 -- an array may stand at a switch that its entry names, and anywhere without an entry
 abbrev pub may_by : List (List ℕ) → Option (List (List ℕ)) → ℕ → Bool
@@ -65,7 +66,8 @@ may switches entries name at = may_by switches (entry_for entries name) at
 
 -- so may each array of the variable's group
 abbrev pub GroupMay : Grouping → List (List ℕ) → List (List ℕ) → List (List ℕ × List (List ℕ)) → ℕ → ℕ → Type 0
-GroupMay g vars switches entries v at = (u : ℕ) → u < length vars → rank_of g u ≡ rank_of g v → may switches entries (slice_index_or vars u []) at ≡ true
+GroupMay g vars switches entries v at = (u : ℕ) → u < length vars
+    → rank_of g u ≡ rank_of g v → may switches entries (slice_index_or vars u []) at ≡ true
 
 -- the numbers below n with a property, rising
 pub record Lists (P : ℕ → Type 0) (n : ℕ) (numbers : List ℕ) : Type 0 where
@@ -92,10 +94,12 @@ TellsNowhere P n count _ = ⊥
 -- what is answered once the shape is right
 abbrev pub PlacesThen : Grouping → List (List ℕ) → List (List ℕ) → Spelled → Option DemandFault → Result Demand DemandFault → Type 0
 PlacesThen g vars switches s (Some e) r = r ≡ Err e
-PlacesThen g vars switches s None r = MatchResult r (IsDemandOf g vars switches s) (TellsNowhere (GroupMay g vars switches s.allowed) (length vars) (length switches))
+PlacesThen g vars switches s None r = MatchResult r (IsDemandOf g vars switches s)
+    (TellsNowhere (GroupMay g vars switches s.allowed) (length vars) (length switches))
 
 abbrev pub SpelledThen : Program → Grouping → Topology → Result Spelled DemandFault → Result Demand DemandFault → Type 0
-SpelledThen program g topology (Ok s) r = PlacesThen g program.vars topology.switches s (first_fault topology.ports topology.switches program.vars s) r
+SpelledThen program g topology (Ok s) r = PlacesThen g program.vars topology.switches s
+    (first_fault topology.ports topology.switches program.vars s) r
 SpelledThen program g topology (Err e) r = r ≡ Err e
 
 -- the one answer for a text, memory aside
@@ -104,7 +108,8 @@ IsAnswer program g topology text r = SpelledThen program g topology (spelled (do
 
 -- no unknown name is before the one that is told
 abbrev pub TellsLeastOf : List (List ℕ) → List (List ℕ × List (List ℕ)) → DemandFault → Type 0
-TellsLeastOf vars entries (NoVariable name) = All (λ key. is_unknown vars key ≡ true → slice_cmp nat_cmp name key ≢ Greater) (keys_of entries)
+TellsLeastOf vars entries (NoVariable name) = All
+    (λ key. is_unknown vars key ≡ true → slice_cmp nat_cmp name key ≢ Greater) (keys_of entries)
 TellsLeastOf vars entries _ = Unit {0}
 
 -- a name that is told as unknown is the least such name of the text

@@ -9,7 +9,8 @@ use Rattle.snap_seek.specs.Answer.{GroupMay, Lists, TellsNowhere, no_port, no_va
 
 -- the first fault of flows and entries, where the last one is that of the switch names
 abbrev pub fault_before : List PortAt → List (List ℕ) → List Flow → List (List ℕ × List (List ℕ)) → Option DemandFault → Option DemandFault
-fault_before ports vars flows entries last = option_or (too_many flows) (option_or (no_port ports flows) (option_or (no_variable vars entries) last))
+fault_before ports vars flows entries last = option_or (too_many flows)
+    (option_or (no_port ports flows) (option_or (no_variable vars entries) last))
 
 -- the flows and the names of arrays have no fault
 pub record IsKnown (ports : List PortAt) (vars : List (List ℕ)) (flows : List Flow) (entries : List (List ℕ × List (List ℕ))) : Type 0 where
@@ -18,12 +19,14 @@ pub record IsKnown (ports : List PortAt) (vars : List (List ℕ)) (flows : List 
   pub names : no_variable vars entries ≡ None
 
 -- for each variable the switches at which its group may stand, at least one
-pub record ArePlaces (g : Grouping) (vars switches : List (List ℕ)) (entries : List (List ℕ × List (List ℕ))) (places : List (List ℕ)) : Type 0 where
+pub record ArePlaces (g : Grouping) (vars switches : List (List ℕ))
+    (entries : List (List ℕ × List (List ℕ))) (places : List (List ℕ)) : Type 0 where
   pub count : length places ≡ length vars
   pub each : (v : ℕ) → v < length vars → Lists (GroupMay g vars switches entries v) (length switches) (slice_index_or places v [])
   pub some : (v : ℕ) → v < length vars → slice_index_or places v [] ≢ []
 
 -- what is told where there are no such switches: the fault of the switch names, or else a variable whose group may stand nowhere
-abbrev pub TellsPlaces : Grouping → List (List ℕ) → List (List ℕ) → List (List ℕ × List (List ℕ)) → Option DemandFault → DemandFault → Type 0
+abbrev pub TellsPlaces : Grouping → List (List ℕ) → List (List ℕ)
+    → List (List ℕ × List (List ℕ)) → Option DemandFault → DemandFault → Type 0
 TellsPlaces g vars switches entries (Some fault) e = fault ≡ e
 TellsPlaces g vars switches entries None e = TellsNowhere (GroupMay g vars switches entries) (length vars) (length switches) e

@@ -31,7 +31,8 @@ stops g owners = map (λ v. slice_index owners v) g.order
 pub record IsAllowed (g : Grouping) (allowed : List (List ℕ)) (owners : List ℕ) : Type 0 where
   pub count : length owners ≡ length g.ranks
   pub may : (v : ℕ) → v < length g.ranks → Contains (places_of allowed v) (slice_index owners v)
-  pub together : (a b : ℕ) → a < length g.ranks → b < length g.ranks → rank_of g a ≡ rank_of g b → slice_index owners a ≡ slice_index owners b
+  pub together : (a b : ℕ) → a < length g.ranks → b < length g.ranks
+      → rank_of g a ≡ rank_of g b → slice_index owners a ≡ slice_index owners b
 
 -- the cost of a placement
 abbrev pub cost : Table → List PortAt → List Flow → Grouping → List ℕ → ℕ
@@ -41,7 +42,8 @@ cost routes ports flows g owners = cost_of (distance_of routes) (map (trip_of po
 pub record IsLeast (g : Grouping) (allowed : List (List ℕ)) (price : List ℕ → ℕ) (owners : List ℕ) : Type 0 where
   pub fits : IsAllowed g allowed owners
   pub least : (other : List ℕ) → IsAllowed g allowed other → price owners ≤ price other
-  pub first : (other : List ℕ) → IsAllowed g allowed other → price other ≡ price owners → slice_cmp nat_cmp (stops g owners) (stops g other) ≢ Greater
+  pub first : (other : List ℕ) → IsAllowed g allowed other → price other ≡ price owners
+      → slice_cmp nat_cmp (stops g owners) (stops g other) ≢ Greater
 
 -- a placement of least cost, with its cost
 pub record IsBestOf (g : Grouping) (topology : Topology) (routes : Table) (demand : Demand) (best : Best) : Type 0 where
@@ -60,4 +62,5 @@ pub record IsDemand (g : Grouping) (topology : Topology) (demand : Demand) : Typ
   pub some : (v : ℕ) → v < length g.ranks → 1 ≤ length (places_of demand.allowed v)
   pub below : (v : ℕ) → v < length g.ranks → All (λ s. s < length topology.switches) (places_of demand.allowed v)
   pub rise : (v : ℕ) → v < length g.ranks → IsStrictlySortedBy nat_cmp (places_of demand.allowed v)
-  pub together : (a b : ℕ) → a < length g.ranks → b < length g.ranks → rank_of g a ≡ rank_of g b → (at : ℕ) → Contains (places_of demand.allowed a) at → Contains (places_of demand.allowed b) at
+  pub together : (a b : ℕ) → a < length g.ranks → b < length g.ranks → rank_of g a ≡ rank_of g b
+      → (at : ℕ) → Contains (places_of demand.allowed a) at → Contains (places_of demand.allowed b) at

@@ -85,7 +85,8 @@ pub record IsRow (n : ℕ) (nexts : List ℕ) : Type 0 where
   pub below : (x : ℕ) → x < n → slice_index nexts x < n
 
 -- for each of n switches the best way on through some choices, and its cost
-pub record IsPlan (d : ℕ → ℕ → ℕ) (trips : List Trip) (choices : List (List ℕ)) (n : ℕ) (nexts : List (List ℕ)) (costs : List ℕ) : Type 0 where
+pub record IsPlan (d : ℕ → ℕ → ℕ) (trips : List Trip) (choices : List (List ℕ))
+    (n : ℕ) (nexts : List (List ℕ)) (costs : List ℕ) : Type 0 where
   pub count : length costs ≡ n
   pub rows : All (IsRow n) nexts
   pub best : (x : ℕ) → x < n → IsBest (cost_from d trips x) choices (path nexts x)

@@ -88,7 +88,8 @@ IsNoRowLine v k ranked rs line = (r : RowAt) → IsNextRow v k ranked rs r → l
 
 -- a row of this switch and number stands behind these rows
 abbrev pub is_above_at : List RowAt → ℕ → ℕ → Bool
-is_above_at rs a n = option_map_or (λ (y : RowAt). is_lt (ordering_then (nat_cmp y.at a) (nat_cmp y.number n))) (slice_get rs (length rs - 1)) true
+is_above_at rs a n = option_map_or
+    (λ (y : RowAt). is_lt (ordering_then (nat_cmp y.at a) (nat_cmp y.number n))) (slice_get rs (length rs - 1)) true
 
 -- the first line, without its LF
 abbrev pub first_body : ℕ → List ℕ
@@ -114,7 +115,8 @@ pub record IsReadTo (bytes : List ℕ) (d : Draft) : Type 0 where
 -- the lines of the first array, port, next hop and row
 abbrev pub ArePlaces : Tables → Places → Type 0
 ArePlaces t p =
-    (p.arrays ≡ 2 + length t.fields + length t.switches) × (p.ports ≡ 2 + length t.fields + length t.switches + length t.arrays + length t.links)
+    (p.arrays ≡ 2 + length t.fields + length t.switches)
+        × (p.ports ≡ 2 + length t.fields + length t.switches + length t.arrays + length t.links)
     × (p.hops ≡ 2 + length t.fields + length t.switches + length t.arrays + length t.links + length t.ports)
     × (p.rows ≡ 2 + length t.fields + length t.switches + length t.arrays + length t.links + length t.ports + length t.hops)
 
@@ -131,6 +133,7 @@ IsPutLine d line e = (it : Item) × IsItem (tables_of d) line it × IsPut d it N
 -- why a line of this number isn't taken
 abbrev pub IsLineFault : Draft → ℕ → List ℕ → TablesFault → Type 0
 IsLineFault d number line (fault.Line l) = (l ≡ number) × IsNone (tables_of d) line
-IsLineFault d number line (fault.Limit which n) = (it : Item) × IsItem (tables_of d) line it × (passed (with_item (tables_of d) it) it ≡ Some (which, n))
+IsLineFault d number line (fault.Limit which n) = (it : Item)
+    × IsItem (tables_of d) line it × (passed (with_item (tables_of d) it) it ≡ Some (which, n))
 IsLineFault d number line (fault.Broken rule l) = ⊥
 IsLineFault d number line fault.NoMemory = Unit {0}

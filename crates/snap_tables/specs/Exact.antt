@@ -12,7 +12,9 @@ SpellsOne = (t u : Tables) → IsBeginning t → IsWhole t → IsBeginning u →
 
 -- what is read of a text is one answer, memory aside
 abbrev pub ReadsOneWay : Type 0
-ReadsOneWay = (bytes : List ℕ) (a b : Result Tables TablesFault) → IsRead bytes a → IsRead bytes b → a ≢ Err NoMemory → b ≢ Err NoMemory → a ≡ b
+ReadsOneWay = (bytes : List ℕ) (a b : Result Tables TablesFault)
+    → IsRead bytes a → IsRead bytes b → a ≢ Err NoMemory → b ≢ Err NoMemory → a ≡ b
 
 abbrev pub ReadsEach : Type 0
-ReadsEach = (t : Tables) (r : Result Tables TablesFault) → IsBeginning t → IsWhole t → IsValid t → IsRead (text t) r → (r ≡ Ok t) ⊎ (r ≡ Err NoMemory)
+ReadsEach = (t : Tables) (r : Result Tables TablesFault) → IsBeginning t
+    → IsWhole t → IsValid t → IsRead (text t) r → (r ≡ Ok t) ⊎ (r ≡ Err NoMemory)

@@ -44,26 +44,31 @@ abbrev pub IsPart : (comps : ℕ) → ℕ × Atom → Type 0
 IsPart comps p = (p.0 < comps) × IsAtom comps p.1 × (p.1 ≢ Comp p.0)
 
 abbrev pub PartsAreSaid : Type 0
-PartsAreSaid = (comps : ℕ) (p : ℕ × Atom) (w : List ℕ) → comps < 2 ^ 64 → (part_said comps w ≡ Some p) ↔ ((w ≡ part_word p) × IsPart comps p)
+PartsAreSaid = (comps : ℕ) (p : ℕ × Atom) (w : List ℕ) → comps < 2 ^ 64
+    → (part_said comps w ≡ Some p) ↔ ((w ≡ part_word p) × IsPart comps p)
 
 -- one to eight atoms
 abbrev pub IsIndex : (comps : ℕ) → List Atom → Type 0
 IsIndex comps es = All (IsAtom comps) es × (1 ≤ length es) × (length es ≤ 8)
 
 abbrev pub IndexesAreSaid : Type 0
-IndexesAreSaid = (comps : ℕ) (es : List Atom) (w : List ℕ) → comps < 2 ^ 64 → (index_said comps w ≡ Some es) ↔ ((w ≡ atoms_word es) × IsIndex comps es)
+IndexesAreSaid = (comps : ℕ) (es : List Atom) (w : List ℕ) → comps < 2 ^ 64
+    → (index_said comps w ≡ Some es) ↔ ((w ≡ atoms_word es) × IsIndex comps es)
 
 -- a line without its LF says a link exactly where it is the link's line
 abbrev pub LinksAreSaid : Type 0
-LinksAreSaid = (n : ℕ) (l : ℕ × ℕ) (w : List ℕ) → n < 2 ^ 64 → (link_said n (parts_by is_space w) ≡ Some l) ↔ ((w ≡ codes "link" ++ spaced (link_words l)) × (l.0 < n) × (l.1 < n))
+LinksAreSaid = (n : ℕ) (l : ℕ × ℕ) (w : List ℕ) → n < 2 ^ 64
+    → (link_said n (parts_by is_space w) ≡ Some l) ↔ ((w ≡ codes "link" ++ spaced (link_words l)) × (l.0 < n) × (l.1 < n))
 
 abbrev pub PortsAreSaid : Type 0
 PortsAreSaid = (n : ℕ) (p : PortAt) (w : List ℕ) → n < 2 ^ 64
-    → (port_said n (parts_by is_space w) ≡ Some p) ↔ ((w ≡ codes "port" ++ spaced (port_words p)) × (1 ≤ p.port) × (p.port < 2 ^ 32) × (p.at < n))
+    → (port_said n (parts_by is_space w) ≡ Some p) ↔
+    ((w ≡ codes "port" ++ spaced (port_words p)) × (1 ≤ p.port) × (p.port < 2 ^ 32) × (p.at < n))
 
 abbrev pub HopsAreSaid : Type 0
 HopsAreSaid = (n : ℕ) (h : Hop) (w : List ℕ) → n < 2 ^ 64
-    → (hop_said n (parts_by is_space w) ≡ Some h) ↔ ((w ≡ codes "hop" ++ spaced (hop_words h)) × (h.from < n) × (h.target < n) × (h.next < n))
+    → (hop_said n (parts_by is_space w) ≡ Some h) ↔
+    ((w ≡ codes "hop" ++ spaced (hop_words h)) × (h.from < n) × (h.target < n) × (h.next < n))
 
 abbrev pub IsOp : (comps : ℕ) → Op → Type 0
 IsOp comps (Put a) = IsAtom comps a
@@ -83,7 +88,8 @@ IsTestOf comps arrays (Equal a b n) = (a < b) × (b < comps) × (n < 2 ^ 64)
 IsTestOf comps arrays (StateTest v es x) = (v < arrays) × IsIndex comps es × IsTerm comps x
 
 abbrev pub SwitchesAreSaid : Type 0
-SwitchesAreSaid = (name w : List ℕ) → (switch_said (parts_by is_space w) ≡ Some name) ↔ ((w ≡ codes "switch" ++ spaced (name ∷ [])) × IsTrue (is_switch_name name))
+SwitchesAreSaid = (name w : List ℕ)
+    → (switch_said (parts_by is_space w) ≡ Some name) ↔ ((w ≡ codes "switch" ++ spaced (name ∷ [])) × IsTrue (is_switch_name name))
 
 -- the words of a test behind its first
 abbrev pub ValuesAreTaken : Type 0
@@ -92,11 +98,13 @@ ValuesAreTaken = (comps c n : ℕ) (ws rest : Words) → comps < 2 ^ 64
 
 abbrev pub EqualsAreTaken : Type 0
 EqualsAreTaken = (comps a b n : ℕ) (ws rest : Words) → comps < 2 ^ 64
-    → (equal_taken comps ws ≡ Some (Equal a b n, rest)) ↔ ((ws ≡ decimal a ∷ decimal b ∷ decimal n ∷ rest) × (a < b) × (b < comps) × (n < 2 ^ 64))
+    → (equal_taken comps ws ≡ Some (Equal a b n, rest)) ↔
+    ((ws ≡ decimal a ∷ decimal b ∷ decimal n ∷ rest) × (a < b) × (b < comps) × (n < 2 ^ 64))
 
 abbrev pub StatesAreTaken : Type 0
 StatesAreTaken = (comps arrays v : ℕ) (es : List Atom) (x : Term) (ws rest : Words) → comps < 2 ^ 64 → arrays < 2 ^ 64
-    → (state_taken comps arrays ws ≡ Some (StateTest v es x, rest)) ↔ ((ws ≡ decimal v ∷ atoms_word es ∷ term_word x ∷ rest) × (v < arrays) × IsIndex comps es × IsTerm comps x)
+    → (state_taken comps arrays ws ≡ Some (StateTest v es x, rest)) ↔
+    ((ws ≡ decimal v ∷ atoms_word es ∷ term_word x ∷ rest) × (v < arrays) × IsIndex comps es × IsTerm comps x)
 
 -- an array's rank stands in version 2, and is 0 otherwise
 abbrev pub IsRankIf : Bool → ℕ → Type 0
@@ -108,8 +116,10 @@ IsRank v r = IsRankIf (v == 2) r
 
 abbrev pub ArraysAreSaid : Type 0
 ArraysAreSaid = (v n : ℕ) (a : ArrayAt) (w : List ℕ) → n < 2 ^ 64
-    → (array_said v n (parts_by is_space w) ≡ Some a) ↔ ((w ≡ codes "array" ++ spaced (a.name ∷ decimal a.at ∷ rank_words v a.rank)) × IsName a.name × (a.at < n) × IsRank v a.rank)
+    → (array_said v n (parts_by is_space w) ≡ Some a) ↔
+    ((w ≡ codes "array" ++ spaced (a.name ∷ decimal a.at ∷ rank_words v a.rank)) × IsName a.name × (a.at < n) × IsRank v a.rank)
 
 abbrev pub FieldsAreSaid : Type 0
 FieldsAreSaid = (f : Field) (w : List ℕ)
-    → (field_said (parts_by is_space w) ≡ Some f) ↔ ((w ≡ codes "field" ++ spaced ((f.name ++ prefix_text f.prefix) ∷ [])) × IsName f.name × PrefixFits f.prefix)
+    → (field_said (parts_by is_space w) ≡ Some f) ↔
+    ((w ≡ codes "field" ++ spaced ((f.name ++ prefix_text f.prefix) ∷ [])) × IsName f.name × PrefixFits f.prefix)

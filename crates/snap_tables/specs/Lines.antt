@@ -74,7 +74,8 @@ last_section t =
 
 -- no pair of switches is without its next hop
 abbrev pub has_all_hops : Tables → Bool
-has_all_hops t = nat_le (length t.switches) (turn (length t.switches) t.hops).0 || nat_le (length t.switches) (turn (length t.switches) t.hops).1
+has_all_hops t = nat_le (length t.switches) (turn (length t.switches) t.hops).0
+    || nat_le (length t.switches) (turn (length t.switches) t.hops).1
 
 -- the sections that must be whole before a section are: two fields, a switch, all next hops. The last line counts as the eighth.
 abbrev pub is_ready : Tables → ℕ → Bool
@@ -137,7 +138,8 @@ IsWhole t = is_ready t 8 ≡ true
 -- of an entry that follows, and not the last line; or one behind the last line
 pub data IsBadLine (bytes : List ℕ) : ℕ → Type 0 where
   at_first : ((v : ℕ) (more : List ℕ) → (v ≡ 1) ⊎ (v ≡ 2) → bytes ≢ first_line v ++ more) → IsBadLine bytes 1
-  behind_beginning : (t : Tables) (rest : List ℕ) → Begins bytes t rest → ((it : Item) (more : List ℕ) → Follows t it → rest ≢ item_line t.version it ++ more)
+  behind_beginning : (t : Tables) (rest : List ℕ) → Begins bytes t rest
+      → ((it : Item) (more : List ℕ) → Follows t it → rest ≢ item_line t.version it ++ more)
       → ((more : List ℕ) → IsWhole t → rest ≢ last_line ++ more) → IsBadLine bytes (lines_of t + 1)
   behind_last : (t : Tables) (more : List ℕ) → Begins bytes t (last_line ++ more) → IsWhole t → more ≢ [] → IsBadLine bytes (lines_of t + 2)
 

@@ -4,7 +4,8 @@ use Rattle.std.specs.List.{All, flat_map}
 use Rattle.snap_tables.specs.Text.{Words}
 
 -- a piece stands at the front of words, and they don't go on with more of it
-pub record IsPiece {X : Type 0} (spelled : X → Words) (Fits : X → Type 0) (goes_on : Words → Bool) (ws : Words) (x : X) (left : Words) : Type 0 where
+pub record IsPiece {X : Type 0} (spelled : X → Words) (Fits : X → Type 0)
+    (goes_on : Words → Bool) (ws : Words) (x : X) (left : Words) : Type 0 where
   pub words : ws ≡ spelled x ++ left
   pub fits : Fits x
   pub ends : goes_on left ≡ false
@@ -15,7 +16,8 @@ abbrev pub IsNoPiece : {X : Type 0} → (spelled : X → Words) → (Fits : X �
 IsNoPiece {X} spelled Fits goes_on ws = (x : X) (left : Words) → Fits x → goes_on left ≡ false → ws ≢ spelled x ++ left
 
 -- these pieces stand at the front of words, and no other begins behind them
-pub record TakesAll {X : Type 0} (spelled : X → Words) (Fits : X → Type 0) (opens goes_on : Words → Bool) (ws : Words) (xs : List X) (left : Words) : Type 0 where
+pub record TakesAll {X : Type 0} (spelled : X → Words) (Fits : X → Type 0)
+    (opens goes_on : Words → Bool) (ws : Words) (xs : List X) (left : Words) : Type 0 where
   pub words : ws ≡ flat_map spelled xs ++ left
   pub each : All Fits xs
   pub last : 0 < length xs → goes_on left ≡ false
@@ -37,11 +39,15 @@ is_adjacent r (x ∷ []) = true
 is_adjacent r (x ∷ y ∷ ys) = r x y && is_adjacent r (y ∷ ys)
 
 -- a list of pieces stands at the front of words, and one of these lists stands behind it; no other two lists make these words
-pub record IsFront {X Y : Type 0} (spelled : X → Words) (Are : List X → Type 0) (behind : Y → Words) (AreBehind : List Y → Type 0) (ws : Words) (xs : List X) (left : Words) : Type 0 where
+pub record IsFront {X Y : Type 0} (spelled : X → Words) (Are : List X → Type 0) (behind : Y → Words)
+    (AreBehind : List Y → Type 0) (ws : Words) (xs : List X) (left : Words) : Type 0 where
   pub words : ws ≡ flat_map spelled xs ++ left
   pub fits : Are xs
-  pub one : (us : List X) (ys : List Y) → Are us → AreBehind ys → ws ≡ flat_map spelled us ++ flat_map behind ys → (xs ≡ us) × (left ≡ flat_map behind ys)
+  pub one : (us : List X) (ys : List Y) → Are us → AreBehind ys
+      → ws ≡ flat_map spelled us ++ flat_map behind ys → (xs ≡ us) × (left ≡ flat_map behind ys)
 
 -- no two lists make these words
-abbrev pub IsNoFront : {X Y : Type 0} → (spelled : X → Words) → (Are : List X → Type 0) → (behind : Y → Words) → (AreBehind : List Y → Type 0) → Words → Type 0
-IsNoFront {X} {Y} spelled Are behind AreBehind ws = (us : List X) (ys : List Y) → Are us → AreBehind ys → ws ≢ flat_map spelled us ++ flat_map behind ys
+abbrev pub IsNoFront : {X Y : Type 0} → (spelled : X → Words) → (Are : List X → Type 0)
+    → (behind : Y → Words) → (AreBehind : List Y → Type 0) → Words → Type 0
+IsNoFront {X} {Y} spelled Are behind AreBehind ws = (us : List X) (ys : List Y)
+    → Are us → AreBehind ys → ws ≢ flat_map spelled us ++ flat_map behind ys

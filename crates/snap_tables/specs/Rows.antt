@@ -149,14 +149,17 @@ abbrev pub IsNoLeaf : Counts → Words → Type 0
 IsNoLeaf k ws = (ss : List Turn) (os : List Parts) → AreStages k ss → AreOuts k os → ws ≢ flat_map stage_words ss ++ flat_map out_words os
 
 abbrev pub IsLeafSaid : Counts → Words → Row → Type 0
-IsLeafSaid k ws b = (ss : List Turn) × (os : List Parts) × (b ≡ row.Leaf ss os) × (ws ≡ flat_map stage_words ss ++ flat_map out_words os) × AreStages k ss × AreOuts k os
+IsLeafSaid k ws b = (ss : List Turn) × (os : List Parts) × (b ≡ row.Leaf ss os)
+    × (ws ≡ flat_map stage_words ss ++ flat_map out_words os) × AreStages k ss × AreOuts k os
 
 -- a leaf of version 2
 abbrev pub IsNoLast : Counts → List ArrayAt → Words → Type 0
-IsNoLast k ranked ws = (us : List Update) (os : List Parts) → AreUpdates k ranked us → AreOuts k os → ws ≢ flat_map update_words us ++ flat_map out_words os
+IsNoLast k ranked ws = (us : List Update) (os : List Parts) → AreUpdates k ranked us
+    → AreOuts k os → ws ≢ flat_map update_words us ++ flat_map out_words os
 
 abbrev pub IsLastSaid : Counts → List ArrayAt → Words → Row → Type 0
-IsLastSaid k ranked ws b = (us : List Update) × (os : List Parts) × (b ≡ row.Last us os) × (ws ≡ flat_map update_words us ++ flat_map out_words os) × AreUpdates k ranked us × AreOuts k os
+IsLastSaid k ranked ws b = (us : List Update) × (os : List Parts) × (b ≡ row.Last us os)
+    × (ws ≡ flat_map update_words us ++ flat_map out_words os) × AreUpdates k ranked us × AreOuts k os
 
 -- words say a row, or none
 abbrev pub IsRowSaid : (version : ℕ) → Counts → List ArrayAt → Words → Row → Type 0

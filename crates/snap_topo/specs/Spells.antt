@@ -66,18 +66,21 @@ document bytes = if is_utf8 bytes then parse_document bytes else None
 -- names of switches
 pub data AreNames : Items → List (List ℕ) → Type 0 where
   no_name : AreNames no_items []
-  next_name : {name : List ℕ} {rest : Items} {names : List (List ℕ)} → is_switch_name name ≡ true → AreNames rest names → AreNames (item (string name) rest) (name ∷ names)
+  next_name : {name : List ℕ} {rest : Items} {names : List (List ℕ)} → is_switch_name name ≡ true
+      → AreNames rest names → AreNames (item (string name) rest) (name ∷ names)
 
 -- pairs of two different names of switches
 pub data ArePairs : Items → List (List ℕ × List ℕ) → Type 0 where
   no_pair : ArePairs no_items []
-  next_pair : {a b : List ℕ} {rest : Items} {pairs : List (List ℕ × List ℕ)} → is_switch_name a ≡ true → is_switch_name b ≡ true → bytes_eq a b ≡ false → ArePairs rest pairs
+  next_pair : {a b : List ℕ} {rest : Items} {pairs : List (List ℕ × List ℕ)}
+      → is_switch_name a ≡ true → is_switch_name b ≡ true → bytes_eq a b ≡ false → ArePairs rest pairs
       → ArePairs (item (array (item (string a) (item (string b) no_items))) rest) ((a, b) ∷ pairs)
 
 -- numbers of ports, each with the name of a switch
 pub data ArePorts : Members → List (ℕ × List ℕ) → Type 0 where
   no_port : ArePorts no_members []
-  next_port : {key name : List ℕ} {port : ℕ} {rest : Members} {ports : List (ℕ × List ℕ)} → port_number key ≡ Some port → is_switch_name name ≡ true → ArePorts rest ports → ArePorts (member key (string name) rest) ((port, name) ∷ ports)
+  next_port : {key name : List ℕ} {port : ℕ} {rest : Members} {ports : List (ℕ × List ℕ)} → port_number key ≡ Some port
+      → is_switch_name name ≡ true → ArePorts rest ports → ArePorts (member key (string name) rest) ((port, name) ∷ ports)
 
 -- what the three keys hold
 pub record Holds (m : Members) (switches : List (List ℕ)) (pairs : List (List ℕ × List ℕ)) (ports : List (ℕ × List ℕ)) : Type 0 where
@@ -92,7 +95,8 @@ pub record Holds (m : Members) (switches : List (List ℕ)) (pairs : List (List 
   pub are_pairs : ArePairs links pairs
   pub are_ports : ArePorts numbers ports
 
--- **The text has at most 1,048,576 bytes, and spells this topology: some switches, all different; each link once, the lesser number first; and the ports by rising number.**
+-- **The text has at most 1,048,576 bytes, and spells this topology: some switches, all different; each link once, the lesser
+-- number first; and the ports by rising number.**
 pub record SpellsTopology (text : List ℕ) (t : Topology) : Type 0 where
   pub short : length text ≤ 1048576
   pub toml : Members

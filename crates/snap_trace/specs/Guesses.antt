@@ -20,7 +20,8 @@ whole_of c (Some n) = Split c (c + 1) n
 -- The first word of a text sets what its name stands for to a value that begins the rest.
 pub record Sets (fields : List Field) (text : List ℕ) (found : Found) (rest : List ℕ) : Type 0 where
   pub set : (value behind : List ℕ) (draft : Draft) → IsUntilBlank rest value behind
-      → with_words fields (words_of text) draft ≡ option_and_then (with_words fields (words_of behind)) (with_value (Some found) value draft)
+      → with_words fields (words_of text) draft
+      ≡ option_and_then (with_words fields (words_of behind)) (with_value (Some found) value draft)
 
 -- The first word of a text has no name that stands for something.
 pub record SetsNothing (fields : List Field) (text : List ℕ) : Type 0 where

@@ -39,13 +39,17 @@ pub record IsUndefinedAfter (program : Program) (packets : List (List ℕ)) (bef
 abbrev pub IsReport : Program → (file : List ℕ) → RunEnding → List ℕ → Type 0
 IsReport program file ending text =
     let read = spelled program.fields file in
-    ((made : Switched) × (one_big_switch program.body zero_arrays read.packets ≡ Some made) × EndsAsRead program.fields program.vars read.stop made ending text)
-    ⊎ ((before : ℕ) × (made : Switched) × IsUndefinedAfter program read.packets before made × (ending ≡ Err (Undefined (before + 1))) × (text ≡ made_text program.fields made))
+    ((made : Switched) × (one_big_switch program.body zero_arrays read.packets ≡ Some made)
+        × EndsAsRead program.fields program.vars read.stop made ending text)
+    ⊎ ((before : ℕ) × (made : Switched) × IsUndefinedAfter program read.packets before made
+    × (ending ≡ Err (Undefined (before + 1))) × (text ≡ made_text program.fields made))
 
 -- the blocks of some first packets that the file spells, on which one big switch is defined
 abbrev pub AreBlocks : Program → (file : List ℕ) → List ℕ → Type 0
 AreBlocks program file text =
-    (count : ℕ) × (made : Switched) × (one_big_switch program.body zero_arrays (take count (spelled program.fields file).packets) ≡ Some made) × (text ≡ made_text program.fields made)
+    (count : ℕ) × (made : Switched)
+        × (one_big_switch program.body zero_arrays (take count (spelled program.fields file).packets) ≡ Some made)
+        × (text ≡ made_text program.fields made)
 
 -- the file has this report
 abbrev pub HasReport : Program → (file : List ℕ) → List ℕ → Type 0

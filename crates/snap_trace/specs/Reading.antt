@@ -53,7 +53,8 @@ ReadsNext read next new (Err fault) = RefusesNext read next fault
 
 -- the same of a line that says what is given
 abbrev pub SaysNext : List Field → (read : ℕ) → Next → (new : PacketLines) → Said → Type 0
-SaysNext fields read next new said = (read < 1000000) × ((text : List ℕ) × (next ≡ next_line text (lines_given new.lines)) × (said_by fields text ≡ said))
+SaysNext fields read next new said = (read < 1000000)
+    × ((text : List ℕ) × (next ≡ next_line text (lines_given new.lines)) × (said_by fields text ≡ said))
 
 -- and of a refusal, which a line that isn't in form makes too
 abbrev pub StopsNext : List Field → (read : ℕ) → Next → (new : PacketLines) → TraceFault → Type 0
@@ -116,16 +117,22 @@ abbrev pub left_for : List Field → (accepts : ℕ → List ℕ → Bool) → (
 left_for fields accepts file reader before = left_where fields accepts file before reader.read (lines_given reader.lines)
 
 -- a line of this number that says this, before what is left behind it
-abbrev pub with_line : (accepts : ℕ → List ℕ → Bool) → (number : ℕ) → (packet : List ℕ) → Line → (rest : ℕ → Spelled) → (before : ℕ) → Spelled
-with_line accepts number packet line rest before = let said = where_accepted (accepts before) (said_of packet line) in with_said number said (rest (counted said before))
+abbrev pub with_line : (accepts : ℕ → List ℕ → Bool) → (number : ℕ)
+    → (packet : List ℕ) → Line → (rest : ℕ → Spelled) → (before : ℕ) → Spelled
+with_line accepts number packet line rest before = let said = where_accepted
+    (accepts before) (said_of packet line) in with_said number said (rest (counted said before))
 
 -- the next line stands before the others, or none is left, or reading has stopped
-abbrev pub LeavesLine : List Field → (accepts : ℕ → List ℕ → Bool) → (before : ℕ) → (file : List ℕ) → (old new : PacketLines) → Result (Option Line) TraceFault → Type 0
-LeavesLine fields accepts before file old new (Ok (Some line)) = left_for fields accepts file old before ≡ with_line accepts new.read (packet_in new) line (left_for fields accepts file new) before
+abbrev pub LeavesLine : List Field → (accepts : ℕ → List ℕ → Bool) → (before : ℕ)
+    → (file : List ℕ) → (old new : PacketLines) → Result (Option Line) TraceFault → Type 0
+LeavesLine fields accepts before file old new (Ok (Some line)) = left_for fields accepts file old before
+    ≡ with_line accepts new.read (packet_in new) line (left_for fields accepts file new) before
 LeavesLine fields accepts before file old new (Ok None) = left_for fields accepts file old before ≡ stops ended
 LeavesLine fields accepts before file old new (Err Read) = Unit {0}
 LeavesLine fields accepts before file old new (Err NoMemory) = ⊥
-LeavesLine fields accepts before file old new (Err (Limit which count)) = left_for fields accepts file old before ≡ stops (refused (Limit which count))
-LeavesLine fields accepts before file old new (Err (Packets line)) = left_for fields accepts file old before ≡ stops (refused (Packets line))
+LeavesLine fields accepts before file old new (Err (Limit which count)) = left_for fields accepts file old before
+    ≡ stops (refused (Limit which count))
+LeavesLine fields accepts before file old new (Err (Packets line)) = left_for fields accepts file old before
+    ≡ stops (refused (Packets line))
 LeavesLine fields accepts before file old new (Err Write) = ⊥
 LeavesLine fields accepts before file old new (Err (Undefined packet)) = ⊥

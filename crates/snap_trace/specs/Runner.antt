@@ -29,13 +29,15 @@ pub record FirstBlocks {M : Type 0} (stands : List (List ℕ) → List ℕ → M
   pub stood : stands (take count all.packets) text machine
 
 -- all packets that were read were taken, and this stopped reading
-pub record IsStopped {M : Type 0} (stands : List (List ℕ) → List ℕ → M → Type 0) (all : Spelled) (fault : TraceFault) (text : List ℕ) : Type 0 where
+pub record IsStopped {M : Type 0} (stands : List (List ℕ) → List ℕ → M → Type 0)
+    (all : Spelled) (fault : TraceFault) (text : List ℕ) : Type 0 where
   pub machine : M
   pub stood : stands all.packets text machine
   pub stop : all.stop ≡ refused fault
 
 -- behind some packets the next one was refused
-pub record IsCut {M : Type 0} (stands : List (List ℕ) → List ℕ → M → Type 0) (refuses : List (List ℕ) → List ℕ → TraceFault → Type 0) (packets : List (List ℕ)) (fault : TraceFault) (text : List ℕ) : Type 0 where
+pub record IsCut {M : Type 0} (stands : List (List ℕ) → List ℕ → M → Type 0)
+    (refuses : List (List ℕ) → List ℕ → TraceFault → Type 0) (packets : List (List ℕ)) (fault : TraceFault) (text : List ℕ) : Type 0 where
   pub before : List (List ℕ)
   pub packet : List ℕ
   pub behind : List (List ℕ)
@@ -45,64 +47,86 @@ pub record IsCut {M : Type 0} (stands : List (List ℕ) → List ℕ → M → T
   pub refused_so : refuses before packet fault
 
 -- the run over what a file spells ends so, with this report
-abbrev pub Ends : {M : Type 0} → (stands : List (List ℕ) → List ℕ → M → Type 0) → (reports : List (List ℕ) → List ℕ → Type 0) → (refuses : List (List ℕ) → List ℕ → TraceFault → Type 0) → Spelled → RunEnding → List ℕ → Type 0
+abbrev pub Ends : {M : Type 0} → (stands : List (List ℕ) → List ℕ → M → Type 0) → (reports : List (List ℕ) → List ℕ → Type 0)
+    → (refuses : List (List ℕ) → List ℕ → TraceFault → Type 0) → Spelled → RunEnding → List ℕ → Type 0
 Ends stands reports refuses all (Ok u) text = (all.stop ≡ ended) × reports all.packets text
 Ends stands reports refuses all (Err fault) text = IsStopped stands all fault text ⊎ IsCut stands refuses all.packets fault text
 
 -- The run has ended, and what is left of its text waits. Or a device failed or memory was short, and some first bytes of
 -- blocks have gone out; where the sink failed, perhaps of what stands behind them too.
-abbrev pub EndsRun : (Blocks : List ℕ → Type 0) → (Ended : RunEnding → List ℕ → Type 0) → RunEnding → (old now : Option (List ℕ)) → (waiting : List ℕ) → Type 0
+abbrev pub EndsRun : (Blocks : List ℕ → Type 0) → (Ended : RunEnding → List ℕ → Type 0)
+    → RunEnding → (old now : Option (List ℕ)) → (waiting : List ℕ) → Type 0
 EndsRun Blocks Ended (Err Read) old now waiting = AppendsSome Blocks old now
 EndsRun Blocks Ended (Err NoMemory) old now waiting = AppendsSome Blocks old now
-EndsRun Blocks Ended (Err Write) old now waiting = AppendsSome Blocks old now ⊎ AppendsSome (λ text. (ending : RunEnding) × Ended ending text) old now
+EndsRun Blocks Ended (Err Write) old now waiting = AppendsSome Blocks old now
+    ⊎ AppendsSome (λ text. (ending : RunEnding) × Ended ending text) old now
 EndsRun Blocks Ended ending old now waiting = (text : List ℕ) × Ended ending text × Waits old now text waiting
 
 -- the same where nothing waits any more
 abbrev pub WritesOut : (Blocks : List ℕ → Type 0) → (Ended : RunEnding → List ℕ → Type 0) → RunEnding → (old now : Option (List ℕ)) → Type 0
 WritesOut Blocks Ended (Err Read) old now = AppendsSome Blocks old now
 WritesOut Blocks Ended (Err NoMemory) old now = AppendsSome Blocks old now
-WritesOut Blocks Ended (Err Write) old now = AppendsSome Blocks old now ⊎ AppendsSome (λ text. (ending : RunEnding) × Ended ending text) old now
+WritesOut Blocks Ended (Err Write) old now = AppendsSome Blocks old now
+    ⊎ AppendsSome (λ text. (ending : RunEnding) × Ended ending text) old now
 WritesOut Blocks Ended ending old now = (text : List ℕ) × Ended ending text × Appends old now text
 
-abbrev pub WritesRun : {M : Type 0} → (stands : List (List ℕ) → List ℕ → M → Type 0) → (reports : List (List ℕ) → List ℕ → Type 0) → (refuses : List (List ℕ) → List ℕ → TraceFault → Type 0) → Spelled → RunEnding → (old now : Option (List ℕ)) → Type 0
+abbrev pub WritesRun : {M : Type 0} → (stands : List (List ℕ) → List ℕ → M → Type 0) → (reports : List (List ℕ) → List ℕ → Type 0)
+    → (refuses : List (List ℕ) → List ℕ → TraceFault → Type 0) → Spelled → RunEnding → (old now : Option (List ℕ)) → Type 0
 WritesRun stands reports refuses all ending old now = WritesOut (FirstBlocks stands all) (Ends stands reports refuses all) ending old now
 
 -- ---- how far it has come
 -- packets were taken, of whose blocks the last part waits, and this is left behind them
-pub record Comes {M : Type 0} (stands : List (List ℕ) → List ℕ → M → Type 0) (all : Spelled) (left : ℕ → Spelled) (machine : M) (old now : Option (List ℕ)) (waiting : List ℕ) : Type 0 where
+pub record Comes {M : Type 0} (stands : List (List ℕ) → List ℕ → M → Type 0) (all : Spelled)
+    (left : ℕ → Spelled) (machine : M) (old now : Option (List ℕ)) (waiting : List ℕ) : Type 0 where
   pub packets : List (List ℕ)
   pub spelled : all ≡ record { packets = packets ++ (left (length packets)).packets; stop = (left (length packets)).stop }
   pub text : List ℕ
   pub stood : stands packets text machine
   pub waits : Waits old now text waiting
 
-abbrev pub Closes : {M : Type 0} → (stands : List (List ℕ) → List ℕ → M → Type 0) → (reports : List (List ℕ) → List ℕ → Type 0) → (refuses : List (List ℕ) → List ℕ → TraceFault → Type 0) → Spelled → RunEnding → (old now : Option (List ℕ)) → (waiting : List ℕ) → Type 0
-Closes stands reports refuses all ending old now waiting = EndsRun (FirstBlocks stands all) (Ends stands reports refuses all) ending old now waiting
+abbrev pub Closes : {M : Type 0} → (stands : List (List ℕ) → List ℕ → M → Type 0) → (reports : List (List ℕ) → List ℕ → Type 0)
+    → (refuses : List (List ℕ) → List ℕ → TraceFault → Type 0) → Spelled
+    → RunEnding → (old now : Option (List ℕ)) → (waiting : List ℕ) → Type 0
+Closes stands reports refuses all ending old now waiting = EndsRun
+    (FirstBlocks stands all) (Ends stands reports refuses all) ending old now waiting
 
 -- the line was taken, or the run has ended
-abbrev pub ComesOn : {M : Type 0} → (stands : List (List ℕ) → List ℕ → M → Type 0) → (reports : List (List ℕ) → List ℕ → Type 0) → (refuses : List (List ℕ) → List ℕ → TraceFault → Type 0) → Spelled → (rest : ℕ → Spelled) → M → (old now : Option (List ℕ)) → (waiting : List ℕ) → RunEnding → Type 0
+abbrev pub ComesOn : {M : Type 0} → (stands : List (List ℕ) → List ℕ → M → Type 0)
+    → (reports : List (List ℕ) → List ℕ → Type 0) → (refuses : List (List ℕ) → List ℕ → TraceFault → Type 0)
+    → Spelled → (rest : ℕ → Spelled) → M → (old now : Option (List ℕ)) → (waiting : List ℕ) → RunEnding → Type 0
 ComesOn stands reports refuses all rest machine old now waiting (Ok u) = Comes stands all rest machine old now waiting
 ComesOn stands reports refuses all rest machine old now waiting (Err fault) = Closes stands reports refuses all (Err fault) old now waiting
 
 -- the next line stands before the others, or none is left, or the run has ended
-abbrev pub Follows : {M : Type 0} → (stands : List (List ℕ) → List ℕ → M → Type 0) → (reports : List (List ℕ) → List ℕ → Type 0) → (refuses : List (List ℕ) → List ℕ → TraceFault → Type 0) → Spelled → List Field → (accepts : ℕ → List ℕ → Bool) → (file : List ℕ) → PacketLines → M → (old now : Option (List ℕ)) → (waiting : List ℕ) → Result (Option Line) TraceFault → Type 0
-Follows stands reports refuses all fields accepts file reader machine old now waiting (Ok (Some line)) = Comes stands all (with_line accepts reader.read (packet_in reader) line (left_for fields accepts file reader)) machine old now waiting
-Follows stands reports refuses all fields accepts file reader machine old now waiting (Ok None) = Comes stands all (λ before. stops ended) machine old now waiting
-Follows stands reports refuses all fields accepts file reader machine old now waiting (Err fault) = Closes stands reports refuses all (Err fault) old now waiting
+abbrev pub Follows : {M : Type 0} → (stands : List (List ℕ) → List ℕ → M → Type 0) → (reports : List (List ℕ) → List ℕ → Type 0)
+    → (refuses : List (List ℕ) → List ℕ → TraceFault → Type 0) → Spelled → List Field → (accepts : ℕ → List ℕ → Bool)
+    → (file : List ℕ) → PacketLines → M → (old now : Option (List ℕ)) → (waiting : List ℕ) → Result (Option Line) TraceFault → Type 0
+Follows stands reports refuses all fields accepts file reader machine old now waiting (Ok (Some line)) = Comes stands all
+    (with_line accepts reader.read (packet_in reader) line (left_for fields accepts file reader)) machine old now waiting
+Follows stands reports refuses all fields accepts file reader machine old now waiting
+    (Ok None) = Comes stands all (λ before. stops ended) machine old now waiting
+Follows stands reports refuses all fields accepts file reader machine old now waiting
+    (Err fault) = Closes stands reports refuses all (Err fault) old now waiting
 
 -- ---- what a machine does
 -- a packet of the line with this number was taken behind these packets with these blocks, or it can't be
-abbrev pub Takes : {M : Type 0} → (stands : List (List ℕ) → List ℕ → M → Type 0) → (refuses : List (List ℕ) → List ℕ → TraceFault → Type 0) → (accepts : List ℕ → Bool) → (line : ℕ) → (packet : List ℕ) → (packets : List (List ℕ)) → (text : List ℕ) → (new : M) → (before after : List ℕ) → RunEnding → Type 0
-Takes stands refuses accepts line packet packets text new before after (Ok u) = (accepts packet ≡ true) × ((block : List ℕ) × stands (packets ++ packet ∷ []) (text ++ block) new × (after ≡ before ++ block))
-Takes stands refuses accepts line packet packets text new before after (Err (Packets l)) = (l ≡ line) × (accepts packet ≡ false) × (after ≡ before)
-Takes stands refuses accepts line packet packets text new before after (Err (Undefined n)) = (accepts packet ≡ true) × refuses packets packet (Undefined n) × (after ≡ before)
+abbrev pub Takes : {M : Type 0} → (stands : List (List ℕ) → List ℕ → M → Type 0)
+    → (refuses : List (List ℕ) → List ℕ → TraceFault → Type 0) → (accepts : List ℕ → Bool) → (line : ℕ)
+    → (packet : List ℕ) → (packets : List (List ℕ)) → (text : List ℕ) → (new : M) → (before after : List ℕ) → RunEnding → Type 0
+Takes stands refuses accepts line packet packets text new before after (Ok u) = (accepts packet ≡ true)
+    × ((block : List ℕ) × stands (packets ++ packet ∷ []) (text ++ block) new × (after ≡ before ++ block))
+Takes stands refuses accepts line packet packets text new before after (Err (Packets l)) = (l ≡ line)
+    × (accepts packet ≡ false) × (after ≡ before)
+Takes stands refuses accepts line packet packets text new before after (Err (Undefined n)) = (accepts packet ≡ true)
+    × refuses packets packet (Undefined n) × (after ≡ before)
 Takes stands refuses accepts line packet packets text new before after (Err NoMemory) = Unit {0}
 Takes stands refuses accepts line packet packets text new before after (Err Read) = ⊥
 Takes stands refuses accepts line packet packets text new before after (Err Write) = ⊥
 Takes stands refuses accepts line packet packets text new before after (Err (Limit which count)) = ⊥
 
 -- the end of the report was put behind what waited, or some first bytes of both went out, or nothing did
-abbrev pub PutsEnd : (Report : List ℕ → Type 0) → (text : List ℕ) → (old now : Option (List ℕ)) → (before after : List ℕ) → RunEnding → Type 0
+abbrev pub PutsEnd : (Report : List ℕ → Type 0) → (text : List ℕ)
+    → (old now : Option (List ℕ)) → (before after : List ℕ) → RunEnding → Type 0
 PutsEnd Report text old now before after (Ok u) = (tail : List ℕ) × Report (text ++ tail) × Waits old now (before ++ tail) after
 PutsEnd Report text old now before after (Err Write) = (tail : List ℕ) × Report (text ++ tail) × AppendsPart old now (before ++ tail)
 PutsEnd Report text old now before after (Err NoMemory) = now ≡ old

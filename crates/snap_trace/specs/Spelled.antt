@@ -42,7 +42,8 @@ after_last next = stops (refused (Limit Lines 1000001))
 -- at most 67,108,864 bytes, and a line 65,536.
 unfoldable pub spelled_from : (said : List ℕ → Said) → (file : List ℕ) → (left line at : ℕ) → Spelled
 spelled_from said file zero line at = after_last (next_in 67108864 65536 file at)
-spelled_from said file (suc left) line at = with_next said line (next_in 67108864 65536 file at) (λ behind. spelled_from said file left (line + 1) behind)
+spelled_from said file (suc left) line at = with_next said line
+    (next_in 67108864 65536 file at) (λ behind. spelled_from said file left (line + 1) behind)
 
 -- what a file of at most 1,000,000 lines spells, where lines say this
 abbrev pub spelled_by : (said : List ℕ → Said) → List ℕ → Spelled

@@ -24,7 +24,8 @@ IsReady switch = IsBounded switch.program.now × (switch.laid ≡ switch.program
 pub record Stands (first : Switch) (packets : List (List ℕ)) (text : List ℕ) (now : Switch) : Type 0 where
   pub program : now.program.now ≡ first.program.now
   pub made : Switched
-  pub goes_on : (more : List (List ℕ)) → one_big_switch first.program.now.body zero_arrays (packets ++ more) ≡ option_map (after made) (one_big_switch first.program.now.body made.arrays more)
+  pub goes_on : (more : List (List ℕ)) → one_big_switch first.program.now.body zero_arrays (packets ++ more)
+      ≡ option_map (after made) (one_big_switch first.program.now.body made.arrays more)
   pub arrays : arrays_of now.store ≡ made.arrays
   pub as_many : length made.packets ≡ length packets
   pub number : now.number ≡ length packets + 1
@@ -34,8 +35,10 @@ pub record Stands (first : Switch) (packets : List (List ℕ)) (text : List ℕ)
 abbrev pub Reports : (first : Switch) → (packets : List (List ℕ)) → (text : List ℕ) → Type 0
 Reports first packets text =
     (made : Switched) × (one_big_switch first.program.now.body zero_arrays packets ≡ Some made)
-    × ((entries : List Entry) × IsListing made.arrays entries × (text ≡ made_text first.program.now.fields made ++ end_text first.program.now.vars entries))
+    × ((entries : List Entry) × IsListing made.arrays entries
+    × (text ≡ made_text first.program.now.fields made ++ end_text first.program.now.vars entries))
 
 -- the program is undefined on the packet behind these
 abbrev pub Refuses : (first : Switch) → (packets : List (List ℕ)) → (packet : List ℕ) → TraceFault → Type 0
-Refuses first packets packet fault = (fault ≡ Undefined (length packets + 1)) × (one_big_switch first.program.now.body zero_arrays (packets ++ packet ∷ []) ≡ None)
+Refuses first packets packet fault = (fault ≡ Undefined (length packets + 1))
+    × (one_big_switch first.program.now.body zero_arrays (packets ++ packet ∷ []) ≡ None)

@@ -39,14 +39,17 @@ pub record IsSwitchReportIn (p : Program) (ports : List ℕ) (ks : List (List �
 -- ---- what such reports are
 -- in each order there is one report at most
 abbrev pub OrdersHaveOneReport : Type 0
-OrdersHaveOneReport = (p : Program) (ports : List ℕ) (ks : List (List ℕ)) (order a b : List ℕ) → IsSwitchReportIn p ports ks order a → IsSwitchReportIn p ports ks order b → a ≡ b
+OrdersHaveOneReport = (p : Program) (ports : List ℕ) (ks : List (List ℕ)) (order a b : List ℕ)
+    → IsSwitchReportIn p ports ks order a → IsSwitchReportIn p ports ks order b → a ≡ b
 
 -- in the order of their numbers it is the report of one big switch over the packets as they stand, and conversely
 abbrev pub InTurnItIsTheReport : Type 0
-InTurnItIsTheReport = (p : Program) (ports : List ℕ) (ks : List (List ℕ)) (text : List ℕ) → IsSwitchReportIn p ports ks (numbered ks) text → IsSwitchReport p ports ks text
+InTurnItIsTheReport = (p : Program) (ports : List ℕ) (ks : List (List ℕ)) (text : List ℕ)
+    → IsSwitchReportIn p ports ks (numbered ks) text → IsSwitchReport p ports ks text
 
 abbrev pub TheReportIsInTurn : Type 0
-TheReportIsInTurn = (p : Program) (ports : List ℕ) (ks : List (List ℕ)) (text : List ℕ) → IsSwitchReport p ports ks text → IsSwitchReportIn p ports ks (numbered ks) text
+TheReportIsInTurn = (p : Program) (ports : List ℕ) (ks : List (List ℕ)) (text : List ℕ)
+    → IsSwitchReport p ports ks text → IsSwitchReportIn p ports ks (numbered ks) text
 
 -- ---- lone tables
 -- **Where all arrays stand at one switch, each run of faithful tables to an end reports exactly what one big switch does over

@@ -18,13 +18,15 @@ use Rattle.snap_whole.specs.OneSwitch.{IsSwitchReport, ports_of}
 abbrev pub CalmRunsReportOneSwitch : Type 0
 CalmRunsReportOneSwitch = (p : Program) (topology : Topology) (places : List ℕ) (t : Tables) → Faithful p topology places t
     → (ks : List (List ℕ)) → All (IsPacketOf p) ks
-    → (es : List Event) (s : Net) (hs : List Happening) → packets_of es ≡ entering ks → RunsCalmly t (start t zero_arrays) es s hs → s.flying ≡ []
+    → (es : List Event) (s : Net) (hs : List Happening) → packets_of es ≡ entering ks
+    → RunsCalmly t (start t zero_arrays) es s hs → s.flying ≡ []
     → (text : List ℕ) → IsRunReport t false (length ks) s hs text → IsSwitchReport p (ports_of topology) ks text
 
 -- so does the plain run
 abbrev pub PlainRunsReportOneSwitch : Type 0
 PlainRunsReportOneSwitch = (p : Program) (topology : Topology) (places : List ℕ) (t : Tables) → Faithful p topology places t
-    → (ks : List (List ℕ)) → All (IsPacketOf p) ks → (text : List ℕ) → IsPlainReport t false ks text → IsSwitchReport p (ports_of topology) ks text
+    → (ks : List (List ℕ)) → All (IsPacketOf p) ks → (text : List ℕ)
+    → IsPlainReport t false ks text → IsSwitchReport p (ports_of topology) ks text
 
 -- a copy that crosses a link has made at most so many hops with it, and one that is delivered or forks has made no more
 abbrev pub IsHopWithin : (most : ℕ) → Happening → Type 0
@@ -32,7 +34,8 @@ IsHopWithin most (Crossed c to head) = c.hops + 1 ≤ most
 IsHopWithin most (Delivered c port) = c.hops ≤ most
 IsHopWithin most (Forked c copies lost) = c.hops ≤ most
 
--- **Each copy makes few hops, whatever the order of the events**: at most (groups + 1) times the diameter over tables of version 2, and (2 groups + 1)
+-- **Each copy makes few hops, whatever the order of the events**: at most (groups + 1) times the diameter over tables of
+-- version 2, and (2 groups + 1)
 -- times over those of version 1
 abbrev pub RunsAreShort : Type 0
 RunsAreShort = (p : Program) (topology : Topology) (places : List ℕ) (t : Tables) → Faithful p topology places t

@@ -19,7 +19,8 @@ ports_of topology = map (λ (x : PortAt). x.port) topology.ports
 abbrev pub port_lines : List Field → (ports : List ℕ) → PacketSet → List ℕ
 port_lines fields ports set = out_lines fields (delivered ports set) ++ lost_line (lost ports set)
 
--- The report of one big switch over packets, from empty arrays: the set that each packet became, and then the places of the arrays that aren't 0.
+-- The report of one big switch over packets, from empty arrays: the set that each packet became, and then the places of the
+-- arrays that aren't 0.
 pub record IsSwitchReport (p : Program) (ports : List ℕ) (ks : List (List ℕ)) (text : List ℕ) : Type 0 where
   pub made : Switched
   pub defined : one_big_switch p.body zero_arrays ks ≡ Some made

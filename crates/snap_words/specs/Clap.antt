@@ -21,7 +21,8 @@ abbrev pub with_flags : App
 with_flags = with_rule (with_rule (with_rule bare (flag_rule (codes "hops"))) (flag_rule (codes "ordered"))) (flag_rule (codes "on-demand"))
 
 abbrev pub with_options : App
-with_options = with_rule (with_rule (with_rule with_flags (option_rule (codes "schedule"))) (option_rule (codes "changes"))) (option_rule (codes "workers"))
+with_options = with_rule (with_rule (with_rule with_flags (option_rule (codes "schedule"))) (option_rule (codes "changes")))
+    (option_rule (codes "workers"))
 
 abbrev pub app : App
 app = with_rule with_options name_rule

@@ -29,7 +29,8 @@ pub data Command : Type 0 where
 
 -- an option of `trace` was there
 abbrev pub has_trace_options : Told → Bool
-has_trace_options t = t.flags hops_flag || t.flags ordered_flag || is_some (t.values schedule_option) || is_some (t.values changes_option) || is_some (t.values workers_option)
+has_trace_options t = t.flags hops_flag || t.flags ordered_flag || is_some (t.values schedule_option)
+    || is_some (t.values changes_option) || is_some (t.values workers_option)
 
 -- an option was there
 abbrev pub has_options : Told → Bool

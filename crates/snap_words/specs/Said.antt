@@ -32,7 +32,8 @@ is_among_or_none words None = true
 is_among_or_none words (Some name) = is_among words name
 
 abbrev pub has_values_among : List Text → Told → Bool
-has_values_among words t = is_among_or_none words (t.values schedule_option) && is_among_or_none words (t.values changes_option) && is_among_or_none words (t.values workers_option)
+has_values_among words t = is_among_or_none words (t.values schedule_option)
+    && is_among_or_none words (t.values changes_option) && is_among_or_none words (t.values workers_option)
 
 -- all names and values that were told end some word
 abbrev pub said_among : List Text → Told → Bool

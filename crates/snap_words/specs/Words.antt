@@ -138,7 +138,8 @@ is_name_or_none None = true
 is_name_or_none (Some value) = is_name value
 
 abbrev pub has_values : Told → Bool
-has_values t = is_name_or_none (t.values schedule_option) && is_name_or_none (t.values changes_option) && is_name_or_none (t.values workers_option)
+has_values t = is_name_or_none (t.values schedule_option)
+    && is_name_or_none (t.values changes_option) && is_name_or_none (t.values workers_option)
 
 abbrev pub has_names : Told → Bool
 has_names t = list_all is_name t.names && has_values t
