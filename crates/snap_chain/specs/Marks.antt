@@ -59,9 +59,13 @@ AreMarked ns marks = AreNoted IsMarkedBy ns marks.reached.ids.items marks.noted.
 
 -- what either of two marks says
 abbrev pub either_mark : Mark → Mark → Mark
-either_mark a b = record
-    { sets = bit_or a.sets b.sets; updates = bit_or a.updates b.updates; tests = bit_or a.tests b.tests; writes = a.writes
-    || b.writes; framed = a.framed && b.framed }
+either_mark a b = record {
+  sets = bit_or a.sets b.sets;
+  updates = bit_or a.updates b.updates;
+  tests = bit_or a.tests b.tests;
+  writes = a.writes || b.writes;
+  framed = a.framed && b.framed;
+}
 
 -- a test of nothing that the marked leaves set or update
 abbrev pub AtomMissed : Mark → Atom → Type 0

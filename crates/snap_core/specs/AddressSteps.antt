@@ -26,8 +26,8 @@ number_so_far r = r.front * 256 + r.part
 abbrev pub with_digit : Reading → ℕ → Option Reading
 with_digit r b =
     if is_ascii_digit b && nat_lt r.digits 3
-        then Some (record { front = r.front; part = r.part * 10 + (b - 48); digits = r.digits + 1; dots = r.dots })
-        else None
+    then Some (record { front = r.front; part = r.part * 10 + (b - 48); digits = r.digits + 1; dots = r.dots })
+    else None
 
 abbrev pub with_dot : Reading → Option Reading
 with_dot r = if is_octet r && nat_lt r.dots 3 then Some (record { front = number_so_far r; part = 0; digits = 0; dots = r.dots + 1 })

@@ -18,6 +18,9 @@ beside None b = None
 beside (Some x) None = None
 beside (Some x) (Some y) =
     if logs_clash x.reads x.writes y.reads y.writes then None else
-    Some (record
-        { packets = union x.packets y.packets; reads = bit_or x.reads y.reads; writes = bit_or x.writes y.writes; change = λ m. merged m
-        (x.change m) x.writes (y.change m) y.writes })
+    Some (record {
+      packets = union x.packets y.packets;
+      reads = bit_or x.reads y.reads;
+      writes = bit_or x.writes y.writes;
+      change = λ m. merged m (x.change m) x.writes (y.change m) y.writes;
+    })

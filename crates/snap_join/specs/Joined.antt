@@ -29,8 +29,12 @@ beside_leaf Race y = Race
 beside_leaf (Goes x) Race = Race
 beside_leaf (Goes x) (Goes y) =
     if logs_clash x.reads x.writes y.reads y.writes then Race else
-    Goes (record { outs = united x.outs y.outs; ups = only x.writes x.ups
-        ++ only y.writes y.ups; reads = bit_or x.reads y.reads; writes = bit_or x.writes y.writes })
+    Goes (record {
+      outs = united x.outs y.outs;
+      ups = only x.writes x.ups ++ only y.writes y.ups;
+      reads = bit_or x.reads y.reads;
+      writes = bit_or x.writes y.writes;
+    })
 
 -- a predicate's packets: those of both, or of either
 abbrev pub both_outs : List (List (ℕ × Atom)) → List (List (ℕ × Atom)) → List (List (ℕ × Atom))

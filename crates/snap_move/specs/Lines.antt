@@ -20,7 +20,7 @@ is_file_name (b ∷ bs) = not (b == 45) && not (list_any (λ x. x == 13) (b ∷ 
 abbrev pub after_words : (word figures name : List ℕ) → (more : Bool) → Option (ℕ × List ℕ)
 after_words word figures name more =
     if more || not (bytes_eq word (codes "after")) || not (is_file_name name) then None
-        else option_map (λ n. (n, name)) (number_up_to 1000000 figures)
+    else option_map (λ n. (n, name)) (number_up_to 1000000 figures)
 
 abbrev pub change_of_words : List (List ℕ) → Option (ℕ × List ℕ)
 change_of_words (word ∷ figures ∷ name ∷ words) = after_words word figures name (is_some_list words)

@@ -32,7 +32,7 @@ TakesChange line old new (Err NoMemory) = Unit {0}
 abbrev pub AddsChange : (after : ℕ) → (name : List ℕ) → (old new : Read) → Result (Unit {0}) ChangesFault → Type 0
 AddsChange after name old new (Ok u) =
     (length old.changes.items ≢ 16)
-        × (new.changes.items ≡ old.changes.items ++ record { after = after; line = old.lines; name = name } ∷ []) × (new.least ≡ after + 1)
+    × (new.changes.items ≡ old.changes.items ++ record { after = after; line = old.lines; name = name } ∷ []) × (new.least ≡ after + 1)
 AddsChange after name old new (Err (Line number)) = ⊥
 AddsChange after name old new (Err (Limit which count)) = (length old.changes.items ≡ 16) × (which ≡ Changes) × (count ≡ 17)
 AddsChange after name old new (Err NoMemory) = Unit {0}

@@ -164,7 +164,7 @@ abbrev mutual
   read_boths e (either_begin at) before = Ok (None, before)
   read_boths e (either_more d b) before =
       after (read_boths e d before)
-          (more or_test (λ arities. operand (both_is_predicate e b) (both_fault e.words b) (read_both e b arities)))
+      (more or_test (λ arities. operand (both_is_predicate e b) (both_fault e.words b) (read_both e b arities)))
 
   -- one operand, or several predicates joined by `&`
   pub read_both : Env → BothTree → Arities → Reading
@@ -180,7 +180,7 @@ abbrev mutual
   read_singles e (both_begin at) before = Ok (None, before)
   read_singles e (both_more b s) before =
       after (read_singles e b before)
-          (more and_test (λ arities. operand (is_predicate e s) (single_fault e.words s) (read_single e s arities)))
+      (more and_test (λ arities. operand (is_predicate e s) (single_fault e.words s) (read_single e s arities)))
 
   pub read_single : Env → SingleTree → Arities → Reading
   read_single e (not_tree at s) before =

@@ -186,7 +186,7 @@ after_value (close_place name vs k) v o = on_next (kinds.Sign signs.CloseSquare)
 abbrev pub after_address : Span → AfterValue → Option Token → Move
 after_address a k o =
     on_next (kinds.Sign signs.Slash) o (wants kinds.Number (λ n. past_value (values.Prefix a (span_of n)) k))
-        (after_value k (values.Literal (literals.Address a)) o)
+    (after_value k (values.Literal (literals.Address a)) o)
 
 -- what may follow a name and its places
 abbrev pub placed : Span → List Value → AfterSingle → Option Token → Move
@@ -273,7 +273,7 @@ begin_decl ds t kind = begin_policy (the_end ds) t kind
 abbrev pub after_field : List DeclTree → ℕ → Span → Option Token → Move
 after_field ds at name o =
     on_next (kinds.Sign signs.Slash) o
-        (wants kinds.Number (λ n. wants (kinds.Sign signs.Semicolon) (λ e. at_decl (ds ++ field_tree at name (Some (span_of n)) ∷ []))))
+    (wants kinds.Number (λ n. wants (kinds.Sign signs.Semicolon) (λ e. at_decl (ds ++ field_tree at name (Some (span_of n)) ∷ []))))
     (on_next (kinds.Sign signs.Semicolon) o (at_decl (ds ++ field_tree at name None ∷ [])) stuck)
 
 abbrev pub on_literal : Option Literal → (Literal → State) → Move

@@ -69,7 +69,7 @@ IsPlaying v = (ks : List (List ℕ)) × (lines : List (List ℕ)) × Plays v.net
 abbrev pub HasObeyed : Order → (old new : Play) → Bool → Type 0
 HasObeyed order old new true =
     (t : Tables) (hops : Bool) (ks lines : List (List ℕ)) (line : List ℕ)
-        → order_by line ≡ Some order → Plays t hops ks lines old → Plays t hops ks (lines ++ line ∷ []) new
+    → order_by line ≡ Some order → Plays t hops ks lines old → Plays t hops ks (lines ++ line ∷ []) new
 HasObeyed order old new false = (t : Tables) (hops : Bool) (ks lines : List (List ℕ)) (p : Plays t hops ks lines old)
     → CantBeDone (Some order) (left_in old) p.state
 

@@ -116,7 +116,7 @@ pub record IsReadTo (bytes : List ℕ) (d : Draft) : Type 0 where
 abbrev pub ArePlaces : Tables → Places → Type 0
 ArePlaces t p =
     (p.arrays ≡ 2 + length t.fields + length t.switches)
-        × (p.ports ≡ 2 + length t.fields + length t.switches + length t.arrays + length t.links)
+    × (p.ports ≡ 2 + length t.fields + length t.switches + length t.arrays + length t.links)
     × (p.hops ≡ 2 + length t.fields + length t.switches + length t.arrays + length t.links + length t.ports)
     × (p.rows ≡ 2 + length t.fields + length t.switches + length t.arrays + length t.links + length t.ports + length t.hops)
 

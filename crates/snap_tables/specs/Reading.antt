@@ -218,8 +218,8 @@ abbrev pub declared_said : Words → Option Field
 declared_said (name ∷ []) = if is_name name then Some (record { name = name; prefix = None }) else None
 declared_said (name ∷ w ∷ []) =
     if is_name name
-        then option_and_then (λ n. if nat_lt 0 n then Some (record { name = name; prefix = Some n }) else None) (number_said 31 w)
-        else None
+    then option_and_then (λ n. if nat_lt 0 n then Some (record { name = name; prefix = Some n }) else None) (number_said 31 w)
+    else None
 declared_said ws = None
 
 abbrev pub field_said : Words → Option Field

@@ -40,7 +40,7 @@ abbrev pub IsReport : Program → (file : List ℕ) → RunEnding → List ℕ �
 IsReport program file ending text =
     let read = spelled program.fields file in
     ((made : Switched) × (one_big_switch program.body zero_arrays read.packets ≡ Some made)
-        × EndsAsRead program.fields program.vars read.stop made ending text)
+    × EndsAsRead program.fields program.vars read.stop made ending text)
     ⊎ ((before : ℕ) × (made : Switched) × IsUndefinedAfter program read.packets before made
     × (ending ≡ Err (Undefined (before + 1))) × (text ≡ made_text program.fields made))
 
@@ -48,8 +48,8 @@ IsReport program file ending text =
 abbrev pub AreBlocks : Program → (file : List ℕ) → List ℕ → Type 0
 AreBlocks program file text =
     (count : ℕ) × (made : Switched)
-        × (one_big_switch program.body zero_arrays (take count (spelled program.fields file).packets) ≡ Some made)
-        × (text ≡ made_text program.fields made)
+    × (one_big_switch program.body zero_arrays (take count (spelled program.fields file).packets) ≡ Some made)
+    × (text ≡ made_text program.fields made)
 
 -- the file has this report
 abbrev pub HasReport : Program → (file : List ℕ) → List ℕ → Type 0

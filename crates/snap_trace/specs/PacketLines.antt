@@ -104,7 +104,7 @@ draft_at_first fields = record { numbers = replicate (count fields) 0; named = 1
 abbrev pub packet_at : List Field → List (List ℕ) → ℕ → Option (List ℕ)
 packet_at fields words port =
     if is_port port then option_map (λ (draft : Draft). slice_set draft.numbers 0 port) (with_words fields words (draft_at_first fields))
-        else None
+    else None
 
 abbrev pub packet_of_words : List Field → List (List ℕ) → Option (List ℕ)
 packet_of_words fields [] = None

@@ -17,7 +17,7 @@ lost_line n = concat (codes "lost " ∷ decimal n ∷ codes "\n" ∷ [])
 abbrev pub address_text : ℕ → List ℕ
 address_text a =
     concat (decimal (a / 2 ^ 24) ∷ codes "." ∷ decimal (a / 2 ^ 16 % 256)
-        ∷ codes "." ∷ decimal (a / 2 ^ 8 % 256) ∷ codes "." ∷ decimal (a % 256) ∷ [])
+    ∷ codes "." ∷ decimal (a / 2 ^ 8 % 256) ∷ codes "." ∷ decimal (a % 256) ∷ [])
 
 -- the value of a split field with this prefix length: an address where its parts fit, else `NET:HOST`
 abbrev pub split_text : (prefix net host : ℕ) → List ℕ
