@@ -25,14 +25,15 @@ use Rattle.snap_rows.specs.Handles.{Handles, forked}
 use Rattle.snap_rows.specs.Rules.{PortKeeps}
 use Rattle.snap_rows.specs.Steps.{Arrives}
 use Rattle.snap_rows.specs.Stepping.{ActsAs, FateArrives, StepsBy}
-use Rattle.snap_rows.specs.Network.{Copy, Net, Inject, Step, Happening, Crossed, Leads, inject, injected, step, stepped, moved, happening}
+use Rattle.snap_rows.specs.Network.{Copy, Net, Inject, Step, Happening, Crossed, Delivered, Forked, Leads, inject, injected, step, stepped, moved, happening}
 use Rattle.snap_rows.proofs.Rows.{All-get, some_injective}
 use Rattle.snap_rows.proofs.Arrives.{fork_arrives, next_below}
 use Rattle.snap_rows.proofs.Stepping.{steps_plain}
+use Rattle.snap_head.specs.Frames.{frame}
 use Rattle.snap_net.specs.declared.flying.Flying.{Flying}
 use Rattle.snap_net.specs.Flights.{spliced}
-use Rattle.snap_net.specs.Shown.{Held, IsHeld, Shows, IsDone, Nothing, SameArrays, StandsThere, TellsMoved, store_of, flown, moving}
-use Rattle.snap_net.specs.Moves.{AreHome, HasGone, HasMade, HasStepped, Changed, HasUpdated, MakesStep, StepsAt, flights, copies_in_flight, left_by, moved_of, told_by}
+use Rattle.snap_net.specs.Shown.{HasFrame, Held, IsHeld, IsUnheld, Shows, IsDone, Nothing, SameArrays, StandsThere, TellsMoved, frame_of, frame_with, store_of, flown, moving}
+use Rattle.snap_net.specs.Moves.{AreHome, HasGone, HasMade, HasStepped, Changed, HasUpdated, IsFrameBy, MakesStep, StepsAt, flights, copies_in_flight, left_by, moved_of, told_by}
 use Rattle.snap_net.proofs.Splices.{there_now}
 use Rattle.snap_net.specs.declared.happened.Moved.{Moved}
 
@@ -271,6 +272,17 @@ done_plain may v new k c moved all is tables injected made s shows =
       (happening b.copy a, refl, h.tells ∙ acts_tell t c h.fate a plain.1 ∙ ap (λ y. moved_of y a) one ∙ moving_of b.copy a),
     )
 
+-- and holds no visit back
+unheld : (c : Flying) (a : Action) → IsUnheld (moved_of c a)
+unheld c (Forward to head) = tt
+unheld c (Deliver port) = tt
+unheld c (Fork copies lost) = tt
+
+pub made_unheld : {may : ℕ → Bool} {t : Tables} {c : Flying} {k : ℕ} {old new : List Kept} {from to : List Flying} {moved : Moved} → HasMade may t c k old from new to moved → ((j : ℕ) → may j ≡ true) → IsUnheld moved
+made_unheld {t = t} {c = c} made all =
+    let plain = steps_plain made.steps all in
+    subst IsUnheld (sym (made.tells ∙ acts_tell t c made.fate plain.0 plain.1)) (unheld c plain.0)
+
 -- ---- where a copy stands that crossed a link
 pub replaced_there : (cs : List Copy) (k : ℕ) (c : Copy) (a : Action) → slice_get cs k ≡ Some c → StandsThere (map flown (take k cs ++ (moved c a ++ drop (k + 1) cs))) k (happening c a)
 replaced_there cs k c (Forward to head) is =
@@ -282,3 +294,27 @@ replaced_there cs k c (Fork copies lost) is = tt
 
 pub stands_there : {t : Tables} {s s' : Net} {k : ℕ} {hs : List Happening} (x : Happening) → Leads t s (Step k) s' hs → hs ≡ x ∷ [] → StandsThere (map flown s'.flying) k x
 stands_there {s = s} {s' = s'} x (step {i = k} {c = c} {a = a} is does) one = subst (StandsThere (map flown s'.flying) k) (ap (λ l. get_or l 0 x) one) (replaced_there s.flying k c a is)
+
+-- ---- its frame
+frame_left : (t : Tables) (from : List Flying) (k : ℕ) (c : Flying) (f : Fate) (bytes : List ℕ) → slice_get from k ≡ Some c → IsFrameBy f c.packet bytes → HasFrame (spliced from k 1 (left_by t c f)) k (told_by t c f) bytes
+frame_left t from k c (fate.Seek x h) bytes is framed = λ y there.
+    let same : record c { at = next t c.at x; head = h } ≡ y = some_injective _ _ (sym (there_now from (drop (k + 1) from) k c (record c { at = next t c.at x; head = h }) is) ∙ there) in
+    framed ∙ ap (λ (y : Flying). frame y.head y.packet) same
+frame_left t from k c (fate.Deliver port) bytes is framed = tt
+frame_left t from k c (fate.Fork outs) bytes is framed = tt
+frame_left t from k c (fate.Stay r n) bytes is framed = tt
+frame_left t from k c (fate.Wait r) bytes is framed = tt
+
+pub frame_gone : (t : Tables) (from to : List Flying) (k : ℕ) (c : Flying) (f : Fate) (moved : Moved) (bytes : List ℕ) → slice_get from k ≡ Some c → to ≡ spliced from k 1 (left_by t c f) → moved ≡ told_by t c f → IsFrameBy f c.packet bytes
+    → HasFrame to k moved bytes
+frame_gone t from to k c f moved bytes is gone tells framed =
+    subst (λ l. HasFrame l k moved bytes) (sym gone) (subst (λ m. HasFrame (spliced from k 1 (left_by t c f)) k m bytes) (sym tells) (frame_left t from k c f bytes is framed))
+
+-- a frame that is told is that of what crossed
+frame_there : (cs : List Flying) (k : ℕ) (x : Happening) (bytes : List ℕ) → StandsThere cs k x → HasFrame cs k (moving x) bytes → frame_with (moving x) bytes ≡ frame_of x
+frame_there cs k (Crossed c to head) bytes stands framed = framed _ stands
+frame_there cs k (Delivered c port) bytes stands framed = refl
+frame_there cs k (Forked c copies lost) bytes stands framed = refl
+
+pub frame_told : (cs : List Flying) (k : ℕ) (x : Happening) (moved : Moved) (bytes : List ℕ) → moved ≡ moving x → StandsThere cs k x → HasFrame cs k moved bytes → frame_with moved bytes ≡ frame_of x
+frame_told cs k x moved bytes tells stands framed = ap (λ m. frame_with m bytes) tells ∙ frame_there cs k x bytes stands (subst (λ m. HasFrame cs k m bytes) tells framed)

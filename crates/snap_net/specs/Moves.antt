@@ -16,6 +16,7 @@ use Rattle.snap_rows.specs.Handles.{forked}
 use Rattle.snap_rows.specs.Home.{AtHome}
 use Rattle.snap_rows.specs.Stepping.{Steps}
 use Rattle.snap_rows.specs.Network.{Copy, Net, Step, Leads, happening}
+use Rattle.snap_head.specs.Frames.{frame}
 use Rattle.snap_net.specs.declared.flying.Flying.{Flying}
 use Rattle.snap_net.specs.declared.happened.Moved.{Moved}
 use Rattle.snap_net.specs.declared.happened.Moved.TheVariants as bare
@@ -79,6 +80,11 @@ told_by t c (fate.Deliver port) = moved_of c (Deliver port)
 told_by t c (fate.Fork outs) = moved_of c (forked t outs.now c.packet)
 told_by t c (fate.Stay r n) = bare.Stayed c.number r
 told_by t c (fate.Wait r) = bare.Waited c.number r
+
+-- these bytes are the frame of a copy that crosses a link, if it does
+abbrev pub IsFrameBy : Fate → List ℕ → List ℕ → Type 0
+IsFrameBy (fate.Seek x h) k bytes = bytes ≡ frame h k
+IsFrameBy _ k bytes = Unit {0}
 
 -- in the list, copy k has made way for what becomes of it
 abbrev pub HasGone : Tables → List Flying → ℕ → Fate → List Flying → Moved → Type 0

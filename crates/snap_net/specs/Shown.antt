@@ -10,6 +10,9 @@ use Rattle.snap_rows.specs.Home.{AtHome}
 use Rattle.snap_rows.specs.Rules.{IsValid}
 use Rattle.snap_rows.specs.Network.{Copy, Net, Happening, Crossed, Delivered, Forked, Event, Leads, start}
 use Rattle.snap_net.specs.declared.flying.Flying.{Flying}
+use Rattle.snap_head.specs.Frames.{frame}
+use Rattle.snap_net.specs.declared.happened.Happened.{Happened}
+use Rattle.snap_net.specs.declared.happened.Happened.TheVariants as framed
 use Rattle.snap_net.specs.declared.happened.Moved.{Moved}
 use Rattle.snap_net.specs.declared.happened.Moved.TheVariants as bare
 
@@ -71,6 +74,40 @@ moving (Forked c copies lost) = bare.Forked c.number copies lost
 
 abbrev pub TellsMoved : Moved → List Happening → Type 0
 TellsMoved h hs = (x : Happening) × (hs ≡ x ∷ []) × (h ≡ moving x)
+
+-- no visit was held back
+abbrev pub IsUnheld : Moved → Type 0
+IsUnheld (bare.Stayed owner rank) = ⊥
+IsUnheld (bare.Waited owner rank) = ⊥
+IsUnheld _ = Unit {0}
+
+-- the same with a frame, taken apart
+abbrev pub moved_in : Happened → Moved
+moved_in (framed.Forwarded owner from to bytes) = bare.Forwarded owner from to
+moved_in (framed.Delivered owner port packet) = bare.Delivered owner port packet
+moved_in (framed.Forked owner copies lost) = bare.Forked owner copies lost
+
+abbrev pub frame_in : Happened → List ℕ
+frame_in (framed.Forwarded owner from to bytes) = bytes.items
+frame_in _ = []
+
+-- these bytes, if a link was crossed
+abbrev pub frame_with : Moved → List ℕ → List ℕ
+frame_with (bare.Forwarded owner from to) bytes = bytes
+frame_with _ bytes = []
+
+-- the frame of what crosses a link
+abbrev pub frame_of : Happening → List ℕ
+frame_of (Crossed c to head) = frame head c.packet
+frame_of _ = []
+
+abbrev pub Tells : Happened → List Happening → Type 0
+Tells h hs = (x : Happening) × (hs ≡ x ∷ []) × (moved_in h ≡ moving x) × (frame_in h ≡ frame_of x)
+
+-- if a link was crossed, these bytes are the frame of the copy at this place
+abbrev pub HasFrame : List Flying → ℕ → Moved → List ℕ → Type 0
+HasFrame cs place (bare.Forwarded owner from to) bytes = (c : Flying) → slice_get cs place ≡ Some c → bytes ≡ frame c.head c.packet
+HasFrame cs place _ bytes = Unit {0}
 
 -- a copy that crossed a link stands at this place
 abbrev pub StandsThere : List Flying → ℕ → Happening → Type 0

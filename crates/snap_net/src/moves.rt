@@ -1,6 +1,6 @@
 //! What becomes of a copy in a step: all of it, or nothing.
 
-ghost use Rattle.std.specs.Prelude.{◌≡◌, ◌<◌, ◌+◌, Some, IfOk, OnOk, OnErr, length, slice_get, All};
+ghost use Rattle.std.specs.Prelude.{◌≡◌, ◌<◌, ◌+◌, Some, IfOk, IsTrue, OnOk, OnErr, length, slice_get, All};
 ghost use Rattle.snap_core.specs.Arrays.{updates};
 ghost use Rattle.snap_core.specs.Fits.{UpdateReads};
 ghost use Rattle.snap_core.specs.Tests.{OutFits};
@@ -12,15 +12,17 @@ ghost use Rattle.snap_rows.specs.Stepping.{FateFits};
 ghost use Rattle.snap_rows.specs.Actions.{Forward, Deliver};
 ghost use Rattle.snap_net.specs.declared.flying.Flying.{Flying};
 ghost use Rattle.snap_net.specs.Flights.{spliced};
-ghost use Rattle.snap_net.specs.Shown.{SameArrays, store_of};
-ghost use Rattle.snap_net.specs.Moves.{AreHome, Changed, copies_in_flight, HasGone, HasMoved, HasParted, HasUpdated, MakesStep};
+ghost use Rattle.snap_net.specs.Shown.{HasFrame, SameArrays, store_of};
+ghost use Rattle.snap_net.specs.Moves.{AreHome, Changed, copies_in_flight, HasGone, HasMoved, HasParted, HasUpdated, IsFrameBy, MakesStep};
 
 use crate::flights::Flights;
 use crate::flying::Flying;
-use crate::happened::Moved;
+use crate::happened::{Framed, Moved};
 use snap_core::NoMemory;
 use snap_core::lists::Out;
+use snap_core::packet::Packet;
 use snap_core::store::Store;
+use snap_head::encode::encode;
 use snap_rows::admit::Admit;
 use snap_rows::dues::Dues;
 use snap_rows::fork::{Spread, spread_out};
@@ -247,7 +249,24 @@ fn fulfil(
     }
 }
 
-/// Makes a step of copy k, as far as its visits are admitted: all of it, or nothing.
+// The frame of a copy that crosses a link, if it is wanted; empty otherwise.
+fn frame_of(
+    alloc: Global,
+    fate: Fate<'_>,
+    packet: &Packet,
+    framed: bool,
+) -> Result<Vec<u8>, NoMemory>
+    ensures { IfOk result (λ bytes. IsTrue framed → IsFrameBy fate.entry packet.now bytes.items) }
+{
+    if framed {
+        if let Fate::Seek { target: _, head } = fate {
+            return encode(alloc, head, packet);
+        }
+    }
+    Ok(Vec::new(alloc))
+}
+
+/// Makes a step of copy k, as far as its visits are admitted: all of it, or nothing. `framed` asks for the frame.
 pub(crate) fn step_in<A: Admit>(
     alloc: Global,
     tables: &Valid,
@@ -255,13 +274,15 @@ pub(crate) fn step_in<A: Admit>(
     stores: &mut Vec<Store>,
     flying: &mut Flights,
     k: usize,
-) -> Result<Moved, NoMemory>
+    framed: bool,
+) -> Result<Framed, NoMemory>
     requires stores { length stores.old.items ≡ switch_count tables.now }
     requires k { k < length flying.old }
     requires places { All (λ (c : Flying). c.at < switch_count tables.now) flying.old }
     requires packets { All (λ (c : Flying). length c.packet ≡ comps tables.now) flying.old }
     requires homes { All (λ (c : Flying). AtHome tables.now c.at c.head) flying.old }
-    ensures made { IfOk result (MakesStep (A.admits admit.now) tables.now k stores.old.items flying.old stores.new.items flying.new) }
+    ensures made { IfOk result (λ told. MakesStep (A.admits admit.now) tables.now k stores.old.items flying.old stores.new.items flying.new told.moved) }
+    ensures frame { IfOk result (λ told. IsTrue framed → HasFrame flying.new k told.moved told.frame.items) }
     ensures homes { OnOk result (AreHome tables.now flying.new) }
     ensures err { OnErr result ((flying.new ≡ flying.old) × SameArrays stores.old.items stores.new.items) }
 {
@@ -278,6 +299,7 @@ pub(crate) fn step_in<A: Admit>(
         copy.head,
         &mut ups,
     )?;
+    let frame = frame_of(alloc, fate, &copy.packet, framed)?;
     let moved = fulfil(alloc, tables, stores, flying, k, &ups, fate)?;
-    Ok(moved)
+    Ok(Framed { moved, frame })
 }

@@ -1,6 +1,6 @@
 //! The network.
 
-ghost use Rattle.std.specs.Prelude.{◌≡◌, ◌≢◌, ◌≤◌, ◌<◌, ◌+◌, ◌^◌, None, Some, ℕ, IfOk, IfErr, OnOk, OnErr, IsSome, [], length, map, slice_get, slice_index, All};
+ghost use Rattle.std.specs.Prelude.{◌≡◌, ◌≢◌, ◌≤◌, ◌<◌, ◌+◌, ◌^◌, None, Some, ℕ, IfOk, IfErr, OnOk, OnErr, IsSome, IsTrue, [], length, map, slice_get, slice_index, All};
 ghost use Rattle.snap_core.specs.Arrays.{zero_arrays};
 ghost use Rattle.snap_core.specs.Cells.{arrays_of};
 ghost use Rattle.snap_core.specs.Listing.{IsListing, entry_of, number_in};
@@ -9,7 +9,7 @@ ghost use Rattle.snap_rows.specs.Form.{comps, array_count, switch_count};
 ghost use Rattle.snap_rows.specs.Network.{Net as State, start, whole, Inject, Step};
 ghost use Rattle.snap_net.specs.declared.flying.Flying.{Flying};
 ghost use Rattle.snap_net.specs.Passing.{IsHeard, Passes, lost_in, sent_in};
-ghost use Rattle.snap_net.specs.Shown.{IsHeld, Shows, IsDone, Nothing, TellsMoved, Same, store_of};
+ghost use Rattle.snap_net.specs.Shown.{HasFrame, IsHeld, Shows, IsDone, Nothing, Tells, TellsMoved, Same, store_of};
 ghost use Rattle.snap_net.specs.Parts.{held_of};
 ghost use Rattle.snap_net.specs.Moves.{StepsAt};
 ghost use Rattle.snap_net.specs.declared.net.InjectFault.{InjectFault};
@@ -17,7 +17,7 @@ ghost use Rattle.snap_net.specs.declared.net.StepFault.{StepFault};
 
 use crate::flights::Flights;
 use crate::flying::Flying;
-use crate::happened::Moved;
+use crate::happened::{Framed, Happened, Moved, happened};
 use crate::moves::step_in;
 use crate::parts::Parts;
 use crate::passing::{Passed, carry};
@@ -239,32 +239,59 @@ impl Net {
         Ok(passed)
     }
 
-    /// Makes a step of copy k, counted from 0, as far as its visits are admitted. A refusal leaves the network as it was, but
-    /// for room that its stores took. Refuses for memory alone.
-    pub fn step<A: Admit>(&mut self, k: usize, admit: &A) -> Result<Moved, NoMemory>
+    /// Makes a step of copy k, counted from 0, as far as its visits are admitted, and tells the frame that crosses a link, if
+    /// `framed` asks for it. A refusal leaves the network as it was, but for room that its stores took. Refuses for memory alone.
+    pub fn step_admitted<A: Admit>(
+        &mut self,
+        k: usize,
+        admit: &A,
+        framed: bool,
+    ) -> Result<Framed, NoMemory>
         requires { k < length self.old.flying }
-        ensures stepped { IfOk result (StepsAt (A.admits admit.now) self.old k self.new) }
+        ensures stepped { IfOk result (λ told. StepsAt (A.admits admit.now) self.old k self.new told.moved) }
+        ensures frame { IfOk result (λ told. IsTrue framed → HasFrame self.new.flying k told.moved told.frame.items) }
         ensures tables { self.new.tables ≡ self.old.tables }
         ensures injected { self.new.injected ≡ self.old.injected }
         ensures refused { OnErr result (Same self.old self.new) }
     {
-        let moved = step_in(
+        let told = step_in(
             self.alloc,
             &self.tables,
             admit,
             &mut self.stores,
             &mut self.flying,
             k,
+            framed,
         )?;
-        Ok(moved)
+        Ok(told)
     }
 
-    /// Makes a step of copy k, counted from 0, without order. A refusal leaves the network as it was, but for room that its
-    /// stores took.
+    /// Makes a step of copy k, counted from 0, without order, and tells the frame that crosses a link. A refusal leaves the
+    /// network as it was, but for room that its stores took.
     ///
     /// # Errors
     ///
     /// `NoCopy` exactly where there is no such copy; `NoMemory` for want of memory.
+    pub fn step(&mut self, k: usize) -> Result<Happened, StepFault>
+        ensures done { IfOk result (λ happened. IsDone self.old (Step k) self.new (Tells happened)) }
+        ensures tables { self.new.tables ≡ self.old.tables }
+        ensures injected { self.new.injected ≡ self.old.injected }
+        ensures copy { IfErr result (λ fault. fault ≡ StepFault.NoCopy → length self.old.flying ≤ k) }
+        ensures has_copy { length self.old.flying ≤ k → IfErr result (λ fault. fault ≡ StepFault.NoCopy) }
+        ensures refused { OnErr result (Same self.old self.new) }
+    {
+        if k >= self.flying.count() {
+            return Err(StepFault::NoCopy);
+        }
+        let told = self.step_admitted(k, &Every, true)?;
+        Ok(happened(told))
+    }
+
+    /// The same without the frame.
+    ///
+    /// # Errors
+    ///
+    /// As `step`.
     pub fn advance(&mut self, k: usize) -> Result<Moved, StepFault>
         ensures done { IfOk result (λ moved. IsDone self.old (Step k) self.new (TellsMoved moved)) }
         ensures tables { self.new.tables ≡ self.old.tables }
@@ -276,8 +303,8 @@ impl Net {
         if k >= self.flying.count() {
             return Err(StepFault::NoCopy);
         }
-        let moved = self.step(k, &Every)?;
-        Ok(moved)
+        let told = self.step_admitted(k, &Every, false)?;
+        Ok(told.moved)
     }
 
     /// The number at a place of the whole store: each array is taken at its switch. Takes no memory.

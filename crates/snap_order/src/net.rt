@@ -210,7 +210,7 @@ impl OrderedNet {
             counts: &self.counts,
             number,
         };
-        let moved = self.net.step(k, &admit)?;
+        let moved = self.net.step_admitted(k, &admit, false)?;
         let behind = rank_behind(&self.net, k, first, &moved);
         count(&mut self.counts, first, behind, next);
         Ok(moved)

@@ -53,6 +53,20 @@ steps_plain (visits {f = f} two (walk some way) own visited) all =
     let done = handles_visited f all visited.made visited.ends in
     (done.0, done.1, enters two some way done.2)
 
+-- a fate is one action at most
+acts_alone : (t : Tables) (w : ℕ) (k : List ℕ) (f : Fate) (a b : Action) → ActsAs t w k f a → ActsAs t w k f b → a ≡ b
+acts_alone t w k (Seek x h) a b p q = p ∙ sym q
+acts_alone t w k (Deliver port) a b p q = p ∙ sym q
+acts_alone t w k (Fork outs) a b p q = p ∙ sym q
+acts_alone t w k (Stay r n) a b p q = absurd p
+acts_alone t w k (Wait r) a b p q = absurd p
+
+-- and the action that it is follows from the fate
+pub plain_does : {t : Tables} {w : ℕ} {k : List ℕ} {may : ℕ → Bool} {m : Arrays} {h : Head} {us : List Update} {f : Fate} {a : Action} → StepsBy t w k may m h us f → ((j : ℕ) → may j ≡ true) → ActsAs t w k f a → Handles t w k m h (updates m us k) a
+plain_does {t = t} {w = w} {k = k} {m = m} {h = h} {us = us} {f = f} {a = a} made all acts =
+    let plain = steps_plain made.steps all in
+    subst (Handles t w k m h (updates m us k)) (acts_alone t w k f plain.0 a plain.1 acts) plain.2
+
 -- ---- what visits come to
 -- no visit was made, or the first one is due here
 first_here : {t : Tables} {w : ℕ} {k : List ℕ} {may : ℕ → Bool} {m : Arrays} {r n : ℕ} {m' : Arrays} {q v : ℕ} → Visiting t w k may m r n m' q v → ((m' ≡ m) × (q ≡ r) × (v ≡ n)) ⊎ (rank_at t r ≡ Some w)

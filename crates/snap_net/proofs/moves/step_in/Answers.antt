@@ -6,7 +6,7 @@ use Rattle.snap_rows.specs.Stepping.{StepsBy}
 use Rattle.snap_rows.proofs.Rows.{All-get}
 use Rattle.snap_net.specs.declared.flying.Flying.{Flying}
 use Rattle.snap_net.specs.Shown.{store_of}
-use Rattle.snap_net.proofs.Steps.{home_left, step_made}
+use Rattle.snap_net.proofs.Steps.{frame_gone, home_left, step_made}
 use Rattle.snap_net.proofs.moves.step_in.Goals as goal
 
 pub returns-clause-made : goal.returns-clause-made
@@ -29,3 +29,9 @@ returns-clause-homes g c =
     let x = c.get-copy.result.now in
     home_left c.args.tables.now c.tables-known.ensures.form c.args.flying.now c.fulfil.new.flying c.args.k x c.in_ok-fate.fate c.get-copy.ensures c.requires.places c.requires.packets c.requires.homes c.in_ok-fate.ensures.arrives
     (c.in_ok-moved.ensures.gone x c.get-copy.ensures).0
+
+pub returns-clause-frame : goal.returns-clause-frame
+returns-clause-frame g c = λ framed.
+    let x = c.get-copy.result.now in
+    let gone = c.in_ok-moved.ensures.gone x c.get-copy.ensures in
+    frame_gone c.args.tables.now c.args.flying.now c.fulfil.new.flying c.args.k x c.in_ok-fate.fate c.in_ok-moved.moved c.in_ok-frame.frame.items c.get-copy.ensures gone.0 gone.1 (c.in_ok-frame.ensures framed)

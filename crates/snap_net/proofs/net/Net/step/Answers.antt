@@ -1,46 +1,23 @@
-use Rattle.std.proofs.Common.{◌<◌, Result, Ok, Err, length, refl, sym, subst, ◌∙◌}
-use Rattle.std.specs.Prelude.{OnErr}
-use Rattle.std.proofs.lemmas.Result.{IfOk-weaker}
-use Rattle.snap_net.specs.Moves.{StepsAt}
-use Rattle.snap_net.specs.Shown.{Held, Same}
+use Rattle.std.proofs.Common.{true, refl, rules, subst, ◌∙◌}
+use Rattle.snap_net.specs.Shown.{StandsThere}
 use Rattle.snap_net.proofs.Blocks.{found}
-use Rattle.snap_net.proofs.Steps.{held_same}
+use Rattle.snap_net.proofs.Steps.{done_plain, frame_told, made_unheld, stands_there}
 use Rattle.snap_net.proofs.net.Net.step.Goals as goal
 
-on_err : {X Y : Type 0} (r : Result X Y) (P : Type 0) → P → OnErr r P
-on_err (Ok x) P p = tt
-on_err (Err e) P p = p
+pub happened-requires : goal.happened-requires
+happened-requires c =
+    let v = c.args.self.now in
+    let x = found v.flying c.args.k (first_of (search rules, cc)) in
+    made_unheld (c.in_ok-told.ensures.stepped x.0 x.1) (λ j. refl)
 
-pub invariant_of-self : goal.invariant_of-self
-invariant_of-self g c =
-    let v : Held = record { tables = c.self.inside.tables; stores = c.self.inside.stores.items; injected = c.self.inside.injected; flying = c.self.inside.flying } in
-    held_same v c.step_in.new.stores.items c.step_in.new.flying c.self.invariant c.in_err-moved.ensures.err.0 c.in_err-moved.ensures.err.1
-
-pub returns-in_err-moved-clause-refused : goal.returns-in_err-moved-clause-refused
-returns-in_err-moved-clause-refused g c =
-    let v : Held = record { tables = c.self.inside.tables; stores = c.self.inside.stores.items; injected = c.self.inside.injected; flying = c.self.inside.flying } in
-    let new : Held = record v { stores = c.step_in.new.stores.items; flying = c.step_in.new.flying } in
-    on_err c.from_residual.result (Same c.args.self.now new)
-    (subst (λ (o : Held). Same o new) c.self.view_is (record { tables = refl; stores = c.in_err-moved.ensures.err.1; injected = refl; flying = c.in_err-moved.ensures.err.0 }))
-
-pub invariant_of-self-2 : goal.invariant_of-self-2
-invariant_of-self-2 g c =
-    let v : Held = record { tables = c.self.inside.tables; stores = c.self.inside.stores.items; injected = c.self.inside.injected; flying = c.self.inside.flying } in
-    let within : c.args.k < length v.flying = subst (λ (v : Held). c.args.k < length v.flying) (sym c.self.view_is) c.requires in
-    let x = found v.flying c.args.k within in
-    let made = c.in_ok-moved.ensures.made x.0 x.1 in
-    let home = c.in_ok-moved.ensures.homes in
-    record {
-      form = c.self.invariant.form;
-      valid = c.self.invariant.valid;
-      stores = made.changed.count ∙ c.self.invariant.stores;
-      places = home.places;
-      packets = home.packets;
-      homes = home.homes;
-    }
-
-pub returns-clause-stepped : goal.returns-clause-stepped
-returns-clause-stepped g c =
-    let v : Held = record { tables = c.self.inside.tables; stores = c.self.inside.stores.items; injected = c.self.inside.injected; flying = c.self.inside.flying } in
-    let new : Held = record v { stores = c.step_in.new.stores.items; flying = c.step_in.new.flying } in
-    subst (λ (o : Held). StepsAt (g.A.Admit.admits c.args.admit.now) o c.args.k new c.in_ok-moved.moved) c.self.view_is c.in_ok-moved.ensures.made
+pub returns-clause-done : goal.returns-clause-done
+returns-clause-done c = λ s shows.
+    let v = c.args.self.now in
+    let new = c.step_admitted.new.self in
+    let k = c.args.k in
+    let told = c.in_ok-told.told in
+    let x = found v.flying k (first_of (search rules, cc)) in
+    let done = done_plain (λ j. true) v new k x.0 told.moved (λ j. refl) x.1 c.step_admitted.ensures.tables c.step_admitted.ensures.injected c.in_ok-told.ensures.stepped s shows in
+    let y = done.4.0 in
+    let stands = subst (λ l. StandsThere l k y) done.3.flying (stands_there y done.2 done.4.1) in
+    (done.0, done.1, done.2, done.3, (y, done.4.1, c.happened.ensures.moved ∙ done.4.2, c.happened.ensures.frame ∙ frame_told new.flying k y told.moved told.frame.items done.4.2 stands (c.in_ok-told.ensures.frame refl)))
