@@ -1,6 +1,8 @@
 -- The names and the components of fields.
-use Rattle.std.proofs.Common.{suc, zero-add, codes, subst, add_assoc, ◌≡◌, ℕ, ◌+◌, ◌≤◌, Bool, true, false, ◌&&◌, List, [], ◌∷◌, ◌++◌, Option, None, Some, cond, length, take, drop, refl, sym, ap, ◌∙◌, arith}
+use Rattle.std.proofs.Common.{suc, zero-add, codes, subst, add_assoc, ◌≡◌, ℕ, ◌+◌, ◌≤◌, Bool, true, false, ◌&&◌, List, [], ◌∷◌, ◌++◌, Option, None, Some, cond, length, take, drop, refl, sym, ap, ◌∙◌, arith, ◌≢◌}
 use Rattle.std.proofs.Math.Bool.{and_assoc}
+use Rattle.std.proofs.lemmas.Bool.{false_from_ne_true}
+use Rattle.std.proofs.lemmas.Slice.Eq.{bytes_eq-Decides}
 use Rattle.std.specs.Prelude.{nat_eq}
 use Rattle.std.specs.Map.{lookup}
 use Rattle.std.specs.Str.{bytes_eq}
@@ -9,6 +11,13 @@ use Rattle.snap_core.specs.declared.program.Found.{Found}
 use Rattle.snap_core.specs.declared.program.Found.TheVariants.{Plain, Split}
 use Rattle.std.specs.List.{All}
 use Rattle.snap_core.specs.Fields.{count, width, declared_at, declared_from, FoundFits, PrefixFits, IsFields, found}
+
+pub count-append : (fs gs : List Field) → count (fs ++ gs) ≡ count fs + count gs
+count-append [] gs = omega arith
+count-append (f ∷ fs) gs = ap (λ n. width f.prefix + n) (count-append fs gs) ∙ sym (add_assoc (width f.prefix) (count fs) (count gs))
+
+pub bytes_eq-apart : (xs ys : List ℕ) → length xs ≢ length ys → bytes_eq xs ys ≡ false
+bytes_eq-apart xs ys h = false_from_ne_true (bytes_eq xs ys) (λ e. h (ap length ((bytes_eq-Decides xs ys).0 e)))
 
 -- a text is two others joined, if its front and its rest are these
 pub bytes_eq-joined : (front back text : List ℕ) → length front ≤ length text → bytes_eq text (front ++ back) ≡ (bytes_eq (take (length front) text) front && bytes_eq (drop (length front) text) back)

@@ -32,16 +32,16 @@ in_right a b v h =
     let here : bit_at b v ≡ 1 = eqb-true _ 1 h in let o = bit_at_or a b v in let l = bit_at-lt (bit_or a b) v in
     eq-eqb _ 1 (omega (arith, here, o, l))
 
-pub in_neither : (a b v : ℕ) → has a v ≡ false → has b v ≡ false → has (bit_or a b) v ≡ false
-in_neither a b v h k =
+pub has-or_neither : (a b v : ℕ) → has a v ≡ false → has b v ≡ false → has (bit_or a b) v ≡ false
+has-or_neither a b v h k =
     let x = no_bit a v h in let y = no_bit b v k in let o = bit_at_or a b v in
     without (bit_or a b) v (omega (arith, x, y, o))
 
-in_none : (v : ℕ) → has 0 v ≡ false
-in_none v = ap (λ b. Rattle.std.specs.Prelude.nat_eq b 1) (bit_at-zero v)
+pub has-zero : (v : ℕ) → has 0 v ≡ false
+has-zero v = ap (λ b. Rattle.std.specs.Prelude.nat_eq b 1) (bit_at-zero v)
 
-in_itself : (v : ℕ) → has (2 ^ v) v ≡ true
-in_itself v = eq-eqb _ 1 (bit_at-pow_same v)
+pub has-pow_same : (v : ℕ) → has (2 ^ v) v ≡ true
+has-pow_same v = eq-eqb _ 1 (bit_at-pow_same v)
 
 -- ---- the same outcome from other arrays
 abbrev pub from : Arrays → Meaning → Meaning
@@ -55,14 +55,14 @@ abbrev pub Follows : Arrays → Arrays → Option Meaning → Option Meaning →
 Follows m n x y = IfDefined (λ o. AgreesOn (logs o) m n → y ≡ Some (from n o)) x
 
 nothing_taken : (n m : Arrays) → n ≡ taken n m 0
-nothing_taken n m = λ i q. sym (cond-false (has 0 q.var) (m q) (n q) (in_none q.var)) i
+nothing_taken n m = λ i q. sym (cond-false (has 0 q.var) (m q) (n q) (has-zero q.var)) i
 
 -- ---- predicates
 truth-agrees : (x : Pred) (m n : Arrays) (k : List ℕ) → AgreesOn (vars_of x) m n → truth x n k ≡ truth x m k
 truth-agrees Id m n k h = refl
 truth-agrees Drop m n k h = refl
 truth-agrees (Field c v) m n k h = refl
-truth-agrees (State s es a) m n k h = ap (λ v. Rattle.std.specs.Prelude.nat_eq v (value_of a k)) (h (place_at s es k) (in_itself s))
+truth-agrees (State s es a) m n k h = ap (λ v. Rattle.std.specs.Prelude.nat_eq v (value_of a k)) (h (place_at s es k) (has-pow_same s))
 truth-agrees (Not' _ x) m n k h = ap Rattle.std.specs.Prelude.not (truth-agrees x m n k h)
 truth-agrees (And' _ x _ y) m n k h = λ i.
     Rattle.std.specs.Prelude.◌&&◌ (truth-agrees x m n k (λ q e. h q (in_left (vars_of x) (vars_of y) q.var e)) i) (truth-agrees y m n k (λ q e. h q (in_right (vars_of x) (vars_of y) q.var e)) i)
@@ -76,7 +76,7 @@ update-agrees u m n k h = λ i q. by_var q (has (2 ^ u.var) q.var) refl i
     by_var : (q : Place) (t : Bool) → has (2 ^ u.var) q.var ≡ t → update n u k q ≡ cond (has (2 ^ u.var) q.var) (update m u k q) (n q)
     by_var q true e =
         let p = place_at u.var u.index k in
-        (λ i. cond (same_place p q) (number_after u.op (h p (in_itself u.var) i) k) (h q e i))
+        (λ i. cond (same_place p q) (number_after u.op (h p (has-pow_same u.var) i) k) (h q e i))
         ∙ sym (cond-true (has (2 ^ u.var) q.var) (update m u k q) (n q) e)
     by_var q false e = updated_keeps u n k q e ∙ sym (cond-false (has (2 ^ u.var) q.var) (update m u k q) (n q) e)
 
@@ -97,7 +97,7 @@ joined-from n a b = λ i. record { arrays = λ q. at q (has b.writes q.var) (has
     at q false false e f =
         let v = q.var in
         cond-false (has b.writes v) _ _ e ∙ cond-false (has a.writes v) (a.arrays q) (n q) f
-        ∙ sym (cond-false (has (bit_or a.writes b.writes) v) (taken a.arrays b.arrays b.writes q) (n q) (in_neither a.writes b.writes v f e))
+        ∙ sym (cond-false (has (bit_or a.writes b.writes) v) (taken a.arrays b.arrays b.writes q) (n q) (has-or_neither a.writes b.writes v f e))
 
 -- the logs of both have those of each
 logs_left : (r s w z v : ℕ) → has (bit_or r w) v ≡ true → has (bit_or (bit_or r s) (bit_or w z)) v ≡ true
@@ -160,7 +160,7 @@ writes-from n [] = refl
 writes-from n (o ∷ os) = ap (bit_or o.writes) (writes-from n os)
 
 merge-from : (m n : Arrays) (os : List Meaning) (q : Place) → merge n (map (from n) os) q ≡ taken n (merge m os) (all_writes os) q
-merge-from m n [] q = sym (cond-false (has 0 q.var) (m q) (n q) (in_none q.var))
+merge-from m n [] q = sym (cond-false (has 0 q.var) (m q) (n q) (has-zero q.var))
 merge-from m n (o ∷ os) q = by_write (merge-from m n os q) (has o.writes q.var) (has (all_writes os) q.var) refl refl
   where
     by_write : merge n (map (from n) os) q ≡ taken n (merge m os) (all_writes os) q → (s t : Bool) → has o.writes q.var ≡ s → has (all_writes os) q.var ≡ t → merge n (map (from n) (o ∷ os)) q ≡ taken n (merge m (o ∷ os)) (bit_or o.writes (all_writes os)) q
@@ -175,7 +175,7 @@ merge-from m n (o ∷ os) q = by_write (merge-from m n os q) (has o.writes q.var
     by_write rest false false e f =
         let v = q.var in
         cond-false (has o.writes v) _ _ e ∙ rest ∙ cond-false (has (all_writes os) v) (merge m os q) (n q) f
-        ∙ sym (cond-false (has (bit_or o.writes (all_writes os)) v) (merge m (o ∷ os) q) (n q) (in_neither o.writes (all_writes os) v e f))
+        ∙ sym (cond-false (has (bit_or o.writes (all_writes os)) v) (merge m (o ∷ os) q) (n q) (has-or_neither o.writes (all_writes os) v e f))
 
 together-from : (m n : Arrays) (os : List Meaning) → together n (map (from n) os) ≡ option_map (from n) (together m os)
 together-from m n os =
@@ -220,7 +220,7 @@ logged-from n o t kept = λ i. record { arrays = λ q. at q (has t.writes q.var)
     at q false false e f =
         let v = q.var in
         cond-false (has t.writes v) (t.arrays q) _ e ∙ cond-false (has o.writes v) (o.arrays q) (n q) f
-        ∙ sym (cond-false (has (bit_or o.writes t.writes) v) (t.arrays q) (n q) (in_neither o.writes t.writes v f e))
+        ∙ sym (cond-false (has (bit_or o.writes t.writes) v) (t.arrays q) (n q) (has-or_neither o.writes t.writes v f e))
 
 abbrev behind_first : (Meaning → Option Meaning) → Option Meaning → Option Meaning
 behind_first g x = option_and_then (λ o. option_map (logged o.reads o.writes) (g o)) x

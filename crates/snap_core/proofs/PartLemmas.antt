@@ -4,7 +4,7 @@ use Rattle.std.proofs.lemmas.List.{take_all}
 use Rattle.snap_core.specs.Figures.{onto_first, parts_by}
 
 module _ (p : ℕ → Bool) where
-  parts_by-step : (b : ℕ) (bs : List ℕ) (t : Bool) → p b ≡ t → parts_by p (b ∷ bs) ≡ cond t ([] ∷ parts_by p bs) (onto_first b (parts_by p bs))
+  pub parts_by-step : (b : ℕ) (bs : List ℕ) (t : Bool) → p b ≡ t → parts_by p (b ∷ bs) ≡ cond t ([] ∷ parts_by p bs) (onto_first b (parts_by p bs))
   parts_by-step b bs t e = ap (λ t. cond t ([] ∷ parts_by p bs) (onto_first b (parts_by p bs))) e
 
   -- the first separator is at i

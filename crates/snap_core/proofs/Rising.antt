@@ -1,5 +1,5 @@
 -- Packets that rise, as a set.
-use Rattle.std.proofs.Common.{◌≡◌, ℕ, Bool, true, false, ◌&&◌, List, [], ◌∷◌, map, refl, sym, ap, subst, ◌∙◌, is_lt}
+use Rattle.std.proofs.Common.{◌≡◌, ℕ, true, ◌&&◌, List, [], ◌∷◌, map, refl, sym, ap, subst, ◌∙◌, is_lt}
 use lib.Dec.{T}
 use Rattle.std.specs.List.{AllByRecursion, Contains, list_any, dedup}
 use Rattle.std.specs.List.Sorted.{IsPermutation, IsSorted, IsStrictlySortedBy}
@@ -15,6 +15,7 @@ use Rattle.std.proofs.lemmas.Map.Text.{is_eq-slice_cmp}
 use Rattle.std.proofs.lemmas.Map.Views.{Contains-from_any, list_any-from_Contains}
 use Rattle.snap_core.specs.Packets.{packet_cmp, marked, IsRising, set_of, listed, no_packets, with_packets}
 use Rattle.snap_core.proofs.PacketSets.{same_packets, contains-listed}
+use Rattle.snap_core.proofs.Truths.{both_or_neither}
 
 keys-marked : (ks : List (List ℕ)) → map (λ e. e.0) (marked ks) ≡ ks
 keys-marked [] = refl
@@ -43,11 +44,6 @@ set_of-same ks xs rising same = same_packets _ _ (λ q.
 -- ---- a list that was sorted, each packet once
 exact : (x y : List ℕ) → eq_by_cmp packet_cmp x y ≡ true → x ≡ y
 exact x y h = (bytes_decides x y).0 (sym (is_eq-slice_cmp x y) ∙ h)
-
-both_or_neither : (a b : Bool) → (a ≡ true → b ≡ true) → (b ≡ true → a ≡ true) → a ≡ b
-both_or_neither true b f g = sym (f refl)
-both_or_neither false true f g = g refl
-both_or_neither false false f g = refl
 
 any-same : (ks xs : List (List ℕ)) → ((k : List ℕ) → Contains ks k → Contains xs k) → ((k : List ℕ) → Contains xs k → Contains ks k) → (q : List ℕ) → list_any (eq_by_cmp packet_cmp q) ks ≡ list_any (eq_by_cmp packet_cmp q) xs
 any-same ks xs here there q =

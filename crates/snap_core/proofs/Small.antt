@@ -22,8 +22,9 @@ use Rattle.snap_core.specs.declared.policy.Pol.TheVariants.{Filter, Set, Change,
 use Rattle.snap_core.specs.Arrays.{Arrays, same_place, place_at, value_of, number_after, update, has}
 use Rattle.snap_core.specs.Packets.{PacketSet, packet_cmp, no_packets, with_packet, union, listed}
 use Rattle.snap_core.specs.Meaning.{Meaning, eval, truth, vars_of, merge, all_packets}
-use Rattle.snap_core.specs.Laws.{OpIsSmall, PutsSmall, AreSmall, HoldSmall}
+use Rattle.snap_core.specs.Laws.{OpIsSmall, PutsSmall, AreSmall}
 use Rattle.snap_core.specs.Ranges.{AtomInRange}
+use Rattle.snap_core.specs.Inputs.{IsStore}
 use Rattle.snap_core.proofs.Kept.{IfDefined}
 use Rattle.snap_core.proofs.Gathered.{beside_all, all_together_has, two_together_have, logged_has, then_has, either_has, each_has}
 use Rattle.snap_core.proofs.PacketSets.{contains-no_packets, contains-with_packet, contains-union}
@@ -42,7 +43,7 @@ small-number : (o : Op) (old : ℕ) (k : List ℕ) → OpIsSmall o → AreSmall 
 small-number (Put a) old k s h = small-value a k s h
 small-number (Add n) old k s h = let positive : 0 < 2 ^ 64 = lit< tt in omega arith
 
-small-update : (u : Update) (m : Arrays) (k : List ℕ) → OpIsSmall u.op → HoldSmall m → AreSmall k → HoldSmall (update m u k)
+small-update : (u : Update) (m : Arrays) (k : List ℕ) → OpIsSmall u.op → IsStore m → AreSmall k → IsStore (update m u k)
 small-update u m k s h a q =
     elim (same_place (place_at u.var u.index k) q) as (λ t. cond t (number_after u.op (m (place_at u.var u.index k)) k) (m q) < 2 ^ 64) [
       | true ↦ small-number u.op (m (place_at u.var u.index k)) k s a
@@ -76,9 +77,9 @@ good-listed n s h =
 
 -- ---- outcomes
 abbrev pub Fine : ℕ → Meaning → Type 0
-Fine n o = HoldSmall o.arrays × AllGood n o.packets
+Fine n o = IsStore o.arrays × AllGood n o.packets
 
-fine-all : (n : ℕ) (m : Arrays) → HoldSmall m → (os : List Meaning) → All (Fine n) os → Fine n (beside_all m os)
+fine-all : (n : ℕ) (m : Arrays) → IsStore m → (os : List Meaning) → All (Fine n) os → Fine n (beside_all m os)
 fine-all n m small os h = (λ q. arrays q os h, packets os h)
   where
     arrays : (q : Place) (xs : List Meaning) → All (Fine n) xs → merge m xs q < 2 ^ 64
@@ -97,7 +98,7 @@ filtered : (n : ℕ) (k : List ℕ) (t : Bool) → Good n k → AllGood n (cond 
 filtered n k true h = good-one n k h
 filtered n k false h = good-none n
 
-pub stays_fine : (p : Pol) (m : Arrays) (k : List ℕ) (n : ℕ) → PutsSmall p → HoldSmall m → Good n k → IfDefined (Fine n) (eval p m k)
+pub stays_fine : (p : Pol) (m : Arrays) (k : List ℕ) (n : ℕ) → PutsSmall p → IsStore m → Good n k → IfDefined (Fine n) (eval p m k)
 stays_fine (Filter x) m k n s h a = (h, filtered n k (truth x m k) a)
 stays_fine (Set c b) m k n s h a = (h, good-one n (slice_set k c (value_of b k)) (length-set k c (value_of b k) ∙ a.0, All-set (λ n. n < 2 ^ 64) k c (value_of b k) (small-value b k s a.1) a.1))
 stays_fine (Change u) m k n s h a = (small-update u m k s h a.1, good-one n k a)

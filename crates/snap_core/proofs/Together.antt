@@ -108,17 +108,17 @@ any_clash-push (o ∷ os) b =
     ∙ four (list_any (clash o) os) (clash o b) (any_clash os) (list_any (λ x. clash x b) os)
 
 -- ---- the arrays
-apart : {A : Type 0} (s t : Bool) (x y z : A) → (s ≡ true → t ≡ true → ⊥) → cond s x (cond t y z) ≡ cond t y (cond s x z)
-apart true true x y z h = absurd (h refl refl)
-apart true false x y z h = refl
-apart false t x y z h = refl
+pub cond-swap : {A : Type 0} (s t : Bool) (x y z : A) → (s ≡ true → t ≡ true → ⊥) → cond s x (cond t y z) ≡ cond t y (cond s x z)
+cond-swap true true x y z h = absurd (h refl refl)
+cond-swap true false x y z h = refl
+cond-swap false t x y z h = refl
 
 merge-push : (m : Arrays) (os : List Meaning) (b : Meaning) → list_any (λ o. clash o b) os ≡ false → merge m (os ++ b ∷ []) ≡ taken (merge m os) b.arrays b.writes
 merge-push m [] b h = refl
 merge-push m (o ∷ os) b h =
     let parts = or_parts (clash o b) (list_any (λ x. clash x b) os) h in
     λ i p. (ap (λ n. cond (has o.writes p.var) (o.arrays p) n) (λ j. merge-push m os b parts.1 j p)
-    ∙ apart (has o.writes p.var) (has b.writes p.var) (o.arrays p) (b.arrays p) (merge m os p) (λ x y. both o b p.var parts.0 x y)) i
+    ∙ cond-swap (has o.writes p.var) (has b.writes p.var) (o.arrays p) (b.arrays p) (merge m os p) (λ x y. both o b p.var parts.0 x y)) i
   where
     both : (a c : Meaning) (v : ℕ) → clash a c ≡ false → has a.writes v ≡ true → has c.writes v ≡ true → ⊥
     both a c v none x y =

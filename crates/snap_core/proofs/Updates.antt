@@ -1,11 +1,15 @@
 -- Updates of variables: what they keep, and what they depend on.
-use Rattle.std.proofs.Common.{◌≡◌, ℕ, ◌^◌, Bool, true, false, List, [], ◌∷◌, refl, sym, ap, ◌∙◌}
+use Rattle.std.proofs.Common.{◌≡◌, ℕ, ◌^◌, Bool, true, false, List, [], ◌∷◌, refl, sym, ap, ◌∙◌, ◌++◌}
 use Rattle.std.proofs.lemmas.Bool.{eqb-true, cond-true, cond-false, and_parts}
 use Rattle.snap_core.specs.declared.place.Place.{Place}
 use Rattle.snap_core.specs.declared.policy.Update.{Update}
 use Rattle.snap_core.specs.Arrays.{Arrays, same_place, place_at, number_after, update, updates, has}
 use Rattle.snap_core.specs.Laws.{written_by}
 use Rattle.snap_core.proofs.Unwritten.{neither, updated_keeps}
+
+pub updates-append : (us vs : List Update) (m : Arrays) (k : List ℕ) → updates m (us ++ vs) k ≡ updates (updates m us k) vs k
+updates-append [] vs m k = refl
+updates-append (u ∷ us) vs m k = updates-append us vs (update m u k) k
 
 -- the arrays agree at a variable
 abbrev pub Agree : ℕ → Arrays → Arrays → Type 0

@@ -1,7 +1,7 @@
 -- Outcomes within a run, one part after another.
 use Rattle.std.proofs.Common.{◌≡◌, ℕ, Bool, true, false, cond, List, Option, Some, None, map, refl, sym, ap, subst, ◌∙◌, bit_or}
 use Rattle.std.specs.Prelude.{option_and_then, option_map, unwrap_or}
-use Rattle.std.specs.Int.Bits.{or_zero_r}
+use Rattle.std.specs.Int.Bits.{or_zero_r, or_zero_l}
 use Rattle.snap_core.specs.declared.policy.Pol.{Pol}
 use Rattle.snap_core.specs.declared.policy.Pred.{Pred}
 use Rattle.snap_core.specs.declared.run.Logs.{Logs}
@@ -25,7 +25,11 @@ within-logged l r w (Some o) = λ i. Some (record o { reads = or_assoc l.reads r
 pub within-read : (l : Logs) (r : ℕ) (o : Option Meaning) → within l (option_map (logged r 0) o) ≡ within (record { reads = bit_or l.reads r; writes = l.writes }) o
 within-read l r o = within-logged l r 0 o ∙ (λ i. within (record { reads = bit_or l.reads r; writes = or_zero_r l.writes i }) o)
 
-eval-cond : (t : Bool) (a b : Pol) (m : Arrays) (k : List ℕ) → cond t (eval a m k) (eval b m k) ≡ eval (cond t a b) m k
+pub logged-nothing : (o : Option Meaning) → option_map (logged 0 0) o ≡ o
+logged-nothing None = refl
+logged-nothing (Some o) = λ i. Some (record o { reads = or_zero_l o.reads i; writes = or_zero_l o.writes i })
+
+pub eval-cond : (t : Bool) (a b : Pol) (m : Arrays) (k : List ℕ) → cond t (eval a m k) (eval b m k) ≡ eval (cond t a b) m k
 eval-cond true a b m k = refl
 eval-cond false a b m k = refl
 

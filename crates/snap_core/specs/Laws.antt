@@ -11,6 +11,7 @@ use Rattle.snap_core.specs.declared.policy.Update.{Update}
 use Rattle.snap_core.specs.Arrays.{Arrays, taken, updates, has}
 use Rattle.snap_core.specs.Meaning.{Meaning, eval, vars_of}
 use Rattle.snap_core.specs.Ranges.{AtomInRange}
+use Rattle.snap_core.specs.Inputs.{IsStore}
 
 -- a variable that is not in the log of writes is as it was
 abbrev pub KeepsUnwritten : Type 0
@@ -89,10 +90,7 @@ PutsSmall (Atomic' _ p) = PutsSmall p
 abbrev pub AreSmall : List ℕ → Type 0
 AreSmall k = All (λ n. n < 2 ^ 64) k
 
-abbrev pub HoldSmall : Arrays → Type 0
-HoldSmall m = (q : Place) → m q < 2 ^ 64
-
 -- numbers stay within 64 bits, and packets keep their length
 abbrev pub StaysSmall : Type 0
-StaysSmall = (p : Pol) (m : Arrays) (k : List ℕ) (o : Meaning) → PutsSmall p → HoldSmall m → AreSmall k → eval p m k ≡ Some o
-    → HoldSmall o.arrays × ((k' : List ℕ) → IsTrue (contains_key o.packets k') → (length k' ≡ length k) × AreSmall k')
+StaysSmall = (p : Pol) (m : Arrays) (k : List ℕ) (o : Meaning) → PutsSmall p → IsStore m → AreSmall k → eval p m k ≡ Some o
+    → IsStore o.arrays × ((k' : List ℕ) → IsTrue (contains_key o.packets k') → (length k' ≡ length k) × AreSmall k')
