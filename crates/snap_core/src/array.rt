@@ -45,6 +45,7 @@ impl Array {
     }
 
     /// The number in the cell at an index, if there is one.
+    #[inline(always)]
     pub(crate) fn get(&self, index: &[u64]) -> Option<u64>
         ensures { result ≡ cell self.now.0 index.now }
     {

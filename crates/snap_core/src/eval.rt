@@ -13,7 +13,7 @@ ghost use Rattle.snap_core.specs.Packets.{AllLong, listed, no_packets, with_pack
 ghost use Rattle.snap_core.specs.Runs.{after_first, chosen, flown, meaning_with, ran_with, set_after, set_in, within};
 
 use crate::NoMemory;
-use crate::atoms::{index_on, short_index};
+use crate::atoms::{fill_index, index_on};
 use crate::copies::Flow;
 use crate::lists::Atoms;
 use crate::outcome::{EvalFault, Outcome};
@@ -22,6 +22,7 @@ use crate::packets::Packets;
 use crate::policy::{Atom, Pol, Pred, Update};
 use crate::run::{Logs, Ran, Run};
 use crate::store::Store;
+use arrayvec::ArrayVec;
 use std::alloc::Global;
 
 /// The meaning of a policy on a store and a packet. It copies the store; `run` changes it in place.
@@ -445,11 +446,29 @@ pub(crate) fn number_at(
     requires { IndexFits (length packet.now) index.now }
     ensures { IfOk result (λ number. number ≡ arrays_of store.now (place_at var index.now packet.now)) }
 {
-    let number = match short_index(index, packet) {
-        Some(index) => store.get(var, index.as_slice()),
-        None => store.get(var, &index_on(alloc, index, packet)?),
-    };
-    Ok(number)
+    match index.list() {
+        [atom] => Ok(store.get(var, &[atom.value(packet)])),
+        _ => number_at_any(alloc, var, index, store, packet),
+    }
+}
+
+// The same for an index of any number of atoms.
+fn number_at_any(
+    alloc: Global,
+    var: u16,
+    index: &Atoms,
+    store: &Store,
+    packet: &Packet,
+) -> Result<u64, NoMemory>
+    requires { IndexFits (length packet.now) index.now }
+    ensures { IfOk result (λ number. number ≡ arrays_of store.now (place_at var index.now packet.now)) }
+{
+    let mut short = ArrayVec::new();
+    if fill_index(index, packet, &mut short) {
+        return Ok(store.get(var, short.as_slice()));
+    }
+    let long = index_on(alloc, index, packet)?;
+    Ok(store.get(var, &long))
 }
 
 // The variables that stand in a predicate, a bit each.

@@ -11,13 +11,14 @@ ghost use Rattle.snap_core.specs.Listing.{IsListing, ListsArray, entry_of, liste
 
 use crate::NoMemory;
 use crate::array::Array;
-use crate::atoms::{index_on, short_index};
+use crate::atoms::{fill_index, index_on};
 use crate::changes::Changes;
 use crate::packet::Packet;
 use crate::patch::Patch;
 use crate::place::{Entry, Listed};
 use crate::policy::Update;
 use crate::write::Write;
+use arrayvec::ArrayVec;
 use std::alloc::Global;
 use std::marker::Model;
 use std::mem;
@@ -126,14 +127,30 @@ impl Store {
         ensures ok { OnOk result (arrays_of self.new ≡ update (arrays_of self.old) change.now packet.now) }
         ensures err { OnErr result (arrays_of self.new ≡ arrays_of self.old) }
     {
-        let written = change.op.write(packet);
-        match short_index(&change.index, packet) {
-            Some(index) => self.write(change.var, index.as_slice(), written)?,
-            None => {
-                let index = index_on(self.alloc, &change.index, packet)?;
-                self.write(change.var, &index, written)?
+        match change.index.list() {
+            [atom] => {
+                let index = [atom.value(packet)];
+                self.write(change.var, &index, change.op.write(packet))?;
+                Ok(())
             }
-        };
+            _ => self.update_any(packet, change),
+        }
+    }
+
+    // The same of an index of any number of atoms.
+    fn update_any(&mut self, packet: &Packet, change: &Update) -> Result<(), NoMemory>
+        requires { UpdateReads (length packet.now) change.now }
+        ensures ok { OnOk result (arrays_of self.new ≡ update (arrays_of self.old) change.now packet.now) }
+        ensures err { OnErr result (arrays_of self.new ≡ arrays_of self.old) }
+    {
+        let written = change.op.write(packet);
+        let mut short = ArrayVec::new();
+        if fill_index(&change.index, packet, &mut short) {
+            self.write(change.var, short.as_slice(), written)?;
+        } else {
+            let long = index_on(self.alloc, &change.index, packet)?;
+            self.write(change.var, &long, written)?;
+        }
         Ok(())
     }
 

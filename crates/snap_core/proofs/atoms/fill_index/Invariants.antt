@@ -1,7 +1,7 @@
 use Rattle.std.proofs.Common.{◌≡◌, ◌≤◌, take, map}
 use Rattle.arrayvec.specs.ArrayVec.{array_vec_len}
 use Rattle.snap_core.specs.Arrays.{value_of}
-use Rattle.snap_core.proofs.atoms.short_index.Given as goal
+use Rattle.snap_core.proofs.atoms.fill_index.Given as goal
 
 abbrev pub invariant-loop-atom : goal.invariant-loop-atom
 invariant-loop-atom l = record {
