@@ -14,10 +14,10 @@ use Rattle.snap_core.specs.Meaning.{eval, logged, all_together}
 use Rattle.snap_core.specs.Packets.{no_packets, with_packet, listed}
 use Rattle.snap_core.specs.Tests.{OutFits, PartFits}
 use Rattle.snap_core.proofs.EvalLemmas.{each_one}
+use Rattle.snap_core.proofs.Updates.{updates-append}
 use Rattle.snap_fdd.specs.Bounds.{Sizes, LeafIn, UpdateIn}
 use Rattle.snap_fdd.specs.Leaves.{answer_of, outcome_of}
 use Rattle.snap_chain.specs.Additions.{AreSame}
-use Rattle.snap_chain.proofs.Splitting.{updates-append}
 use Rattle.snap_build.specs.Parts.{PolIn, UpdatesAlone, update_leaf, updates_of}
 
 pub alone_evals : (p : Pol) → UpdatesAlone p → (m : Arrays) (k : List ℕ) → eval p m k ≡ Some (record { arrays = updates m (updates_of p) k; packets = with_packet no_packets k; reads = 0; writes = write_vars p })

@@ -4,7 +4,6 @@ use Rattle.std.specs.Prelude.{map}
 use Rattle.std.specs.List.{All, filter}
 use Rattle.std.specs.List.Sorted.{IsPermutation, IsStableBy, ties}
 use Rattle.std.specs.declared.cmp.Ordering.{Ordering}
-use Rattle.std.specs.declared.cmp.Ordering.TheVariants.{Less, Equal, Greater}
 use Rattle.std.specs.Ordering.{nat_cmp, is_lt, ordering_then}
 use Rattle.std.specs.Cmp.{IsStrictWeakOrder}
 use Rattle.std.specs.Cmp.Lexicographic.{slice_cmp}
@@ -14,6 +13,8 @@ use Rattle.std.proofs.lemmas.List.Elements.{All-nil, All-push, All-tail}
 use Rattle.std.proofs.lemmas.List.{append-nil, append_assoc}
 use Rattle.std.proofs.lemmas.List.Sorted.{ranks_by, IsStrictWeakOrder-flip, All-permutation, IsPermutation-append_left, IsPermutation-append_right, IsPermutation-refl, IsPermutation-trans}
 use Rattle.snap_core.proofs.Places.{same_place-exact}
+use Rattle.snap_core.proofs.Orders.{then-Equal}
+use Rattle.snap_core.proofs.Updates.{updates-append}
 use Rattle.snap_core.specs.declared.place.Place.{Place}
 use Rattle.snap_core.specs.declared.policy.Atom.{Atom}
 use Rattle.snap_core.specs.declared.policy.Atom.TheVariants.{Num as Number, Comp}
@@ -23,7 +24,7 @@ use Rattle.snap_core.specs.Arrays.{Arrays, number_after, place_at, same_place, u
 use Rattle.snap_arena.specs.Codes.{index_code}
 use Rattle.snap_ctx.specs.Known.{IsFixed}
 use Rattle.snap_chain.specs.Fixed.{AreReordered, EndInRun, IsFixedUpdate, falling}
-use Rattle.snap_chain.proofs.Splitting.{hit, missed, updates-append}
+use Rattle.snap_chain.proofs.Splitting.{hit, missed}
 
 -- a second test of two keeps the same, where the first lets through all that it does
 module _ {X : Type 0} (P : X → Type 0) (p q : X → Bool) (within : (x : X) → P x → q x ≡ true → p x ≡ true) where
@@ -124,11 +125,6 @@ none_yet = record { fixed = All-nil IsFixedUpdate; same = record { same = λ m k
 -- ---- the order is one
 pub falling-order : IsStrictWeakOrder (λ u v. is_lt (falling u v))
 falling-order = IsStrictWeakOrder-flip (λ u v. is_lt (slice_cmp nat_cmp (index_code u.index) (index_code v.index))) (ranks_by nat_list_cmp_total (λ (u : Update). index_code u.index))
-
-then-Equal : (o : Ordering) → ordering_then o Equal ≡ o
-then-Equal Less = refl
-then-Equal Equal = refl
-then-Equal Greater = refl
 
 pub falling_is : (u v : Update) (o : Ordering) → ((s t : List ℕ) → slice_cmp nat_cmp (index_code v.index ++ s) (index_code u.index ++ t) ≡ ordering_then o (slice_cmp nat_cmp s t)) → o ≡ falling u v
 falling_is u v o h = sym (then-Equal o) ∙ sym (h [] []) ∙ (λ i. slice_cmp nat_cmp (append-nil (index_code v.index) i) (append-nil (index_code u.index) i))

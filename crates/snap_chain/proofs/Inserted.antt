@@ -1,5 +1,5 @@
 -- A packet in its place among packets that rise.
-use Rattle.std.proofs.Common.{◌≡◌, ℕ, Bool, true, false, List, [], ◌∷◌, refl, sym, ap, subst, ◌∙◌, arith}
+use Rattle.std.proofs.Common.{◌≡◌, ℕ, List, [], ◌∷◌, refl, sym, ap, subst, ◌∙◌, arith}
 use lib.Dec.{T}
 use Rattle.std.specs.Cmp.Lexicographic.{nat_list_cmp_total}
 use Rattle.std.specs.FinMap.{is_sorted, same_entries_map, entries-from_sorted, entries-insert, get-from_sorted, get-empty, same_map, slice_cmp-IsAntisymmetric, nat_cmp-IsAntisymmetric}
@@ -9,6 +9,7 @@ use Rattle.std.specs.List.{All}
 use Rattle.std.proofs.lemmas.List.Elements.{All-cons, All-push, All-tail}
 use Rattle.std.specs.declared.cmp.Ordering.{Ordering}
 use Rattle.snap_core.specs.Packets.{packet_cmp, marked, IsRising, set_of, no_packets, with_packet}
+use Rattle.snap_core.proofs.Truths.{true-from_T}
 
 -- packets in rising order with k in its place, unless it is there
 abbrev pub inserted : List ℕ → List (List ℕ) → List (List ℕ)
@@ -37,15 +38,11 @@ marked-inserted k (x ∷ xs) =
       | Greater ↦ ap (λ es. (x, tt) ∷ es) (marked-inserted k xs)
     ]
 
-is_true : (b : Bool) → T b → b ≡ true
-is_true true t = refl
-is_true false t = absurd t
-
 -- packets still rise with one more in its place, and make the set with one more
 pub rising_inserted : (k : List ℕ) (xs ys : List (List ℕ)) → IsRising xs → ys ≡ inserted k xs → IsRising ys
 rising_inserted k xs ys rising e =
     ap (is_sorted packet_cmp) (ap marked e ∙ marked-inserted k xs)
-    ∙ is_true _ (is_sorted-put packet_cmp nat_list_cmp_total k tt (marked xs) (subst T (sym rising) tt))
+    ∙ true-from_T _ (is_sorted-put packet_cmp nat_list_cmp_total k tt (marked xs) (subst T (sym rising) tt))
 
 pub set_of-inserted : (k : List ℕ) (xs ys : List (List ℕ)) → IsRising xs → ys ≡ inserted k xs → set_of ys ≡ with_packet (set_of xs) k
 set_of-inserted k xs ys rising e =

@@ -10,13 +10,8 @@ use Rattle.snap_core.specs.declared.policy.Update.{Update}
 use Rattle.snap_core.specs.Arrays.{Arrays, number_after, place_at, same_place, update, updates}
 use Rattle.snap_core.specs.Fits.{OpFits}
 use Rattle.snap_fdd.specs.Bounds.{Sizes, UpdateIn}
-use Rattle.snap_chain.specs.Additions.{added_up, Adds, AreSame, IsAddend, IsAddition, IsSpelledAt}
+use Rattle.snap_chain.specs.Additions.{added_up, Adds, AreSame, IsAddend, IsAddition, IsSpelledAt, added}
 use Rattle.snap_chain.proofs.Splitting.{updates_more}
-
--- what an operation adds
-abbrev by : Op → ℕ
-by (Put a) = 0
-by (Add n) = n
 
 -- a number after an addition at its place, or at another
 abbrev added_at : Bool → ℕ → ℕ → ℕ
@@ -26,22 +21,22 @@ module _ (k : List ℕ) where
   abbrev is_at : Update → Place → Bool
   is_at u p = same_place (place_at u.var u.index k) p
 
-  once : (m : Arrays) (p : Place) (u : Update) → Adds u → update m u k p ≡ added_at (is_at u p) (by u.op) (m p)
+  once : (m : Arrays) (p : Place) (u : Update) → Adds u → update m u k p ≡ added_at (is_at u p) (added u.op) (m p)
   once m p u h = at (is_at u p) refl
     where
       q : Place
       q = place_at u.var u.index k
 
-      sum : (o : Op) → IsAddition o → number_after o (m q) k ≡ (m q + by o) % 2 ^ 64
+      sum : (o : Op) → IsAddition o → number_after o (m q) k ≡ (m q + added o) % 2 ^ 64
       sum (Put a) i = absurd i
       sum (Add n) i = refl
 
-      at : (b : Bool) → same_place q p ≡ b → cond b (number_after u.op (m q) k) (m p) ≡ added_at b (by u.op) (m p)
-      at true e = sum u.op h ∙ ap (λ (r : Place). (m r + by u.op) % 2 ^ 64) (same_place-exact q p e)
+      at : (b : Bool) → same_place q p ≡ b → cond b (number_after u.op (m q) k) (m p) ≡ added_at b (added u.op) (m p)
+      at true e = sum u.op h ∙ ap (λ (r : Place). (m r + added u.op) % 2 ^ 64) (same_place-exact q p e)
       at false e = refl
 
-  both : (m : Arrays) (p : Place) (u v : Update) → Adds u → Adds v → update (update m u k) v k p ≡ added_at (is_at v p) (by v.op) (added_at (is_at u p) (by u.op) (m p))
-  both m p u v hu hv = once (update m u k) p v hv ∙ ap (added_at (is_at v p) (by v.op)) (once m p u hu)
+  both : (m : Arrays) (p : Place) (u v : Update) → Adds u → Adds v → update (update m u k) v k p ≡ added_at (is_at v p) (added v.op) (added_at (is_at u p) (added u.op) (m p))
+  both m p u v hu hv = once (update m u k) p v hv ∙ ap (added_at (is_at v p) (added v.op)) (once m p u hu)
 
   turned : (b c : Bool) (x y n : ℕ) → added_at c y (added_at b x n) ≡ added_at b x (added_at c y n)
   turned true true x y n = omega arith
@@ -49,7 +44,7 @@ module _ (k : List ℕ) where
   turned false c x y n = refl
 
   swapped : (m : Arrays) (u v : Update) → Adds u → Adds v → update (update m u k) v k ≡ update (update m v k) u k
-  swapped m u v hu hv = λ i p. (both m p u v hu hv ∙ turned (is_at u p) (is_at v p) (by u.op) (by v.op) (m p) ∙ sym (both m p v u hv hu)) i
+  swapped m u v hu hv = λ i p. (both m p u v hu hv ∙ turned (is_at u p) (is_at v p) (added u.op) (added v.op) (m p) ∙ sym (both m p v u hv hu)) i
 
   -- an addition may come before others
   last_first : (us : List Update) (v : Update) (m : Arrays) → All Adds us → Adds v → updates m (us ++ v ∷ []) k ≡ updates (update m v k) us k
@@ -61,7 +56,7 @@ module _ (k : List ℕ) where
   summed true x y n = omega arith
   summed false x y n = refl
 
-  by_both : (o : Op) (n : ℕ) → IsAddition o → by (added_up o n) ≡ (by o + n) % 2 ^ 64
+  by_both : (o : Op) (n : ℕ) → IsAddition o → added (added_up o n) ≡ (added o + n) % 2 ^ 64
   by_both (Put a) n h = absurd h
   by_both (Add x) n h = refl
 
@@ -75,9 +70,9 @@ module _ (k : List ℕ) where
       let index = sym s.index in
       λ i p. (
       both m p u v hu (subst IsAddition (sym e) tt)
-      ∙ ap (λ (b : Bool). added_at b (by v.op) (added_at (is_at u p) (by u.op) (m p))) (λ j. same_place (place_at (var j) (index j) k) p)
-      ∙ ap (λ (o : Op). added_at (is_at u p) (by o) (added_at (is_at u p) (by u.op) (m p))) e
-      ∙ summed (is_at u p) (by u.op) n (m p)
+      ∙ ap (λ (b : Bool). added_at b (added v.op) (added_at (is_at u p) (added u.op) (m p))) (λ j. same_place (place_at (var j) (index j) k) p)
+      ∙ ap (λ (o : Op). added_at (is_at u p) (added o) (added_at (is_at u p) (added u.op) (m p))) e
+      ∙ summed (is_at u p) (added u.op) n (m p)
       ∙ ap (λ (x : ℕ). added_at (is_at u p) x (m p)) (sym (by_both u.op n hu))
       ∙ sym (once m p (record u { op = added_up u.op n }) (still_adds u.op n hu))) i
 

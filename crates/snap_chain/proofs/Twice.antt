@@ -1,5 +1,6 @@
 -- An outcome that writes nothing, taken twice beside others.
 use Rattle.std.proofs.Common.{◌≡◌, ℕ, Bool, true, false, cond, ◌||◌, Option, Some, None, refl, sym, ap, ◌∙◌, bit_or}
+use Rattle.std.proofs.lemmas.Bool.{or_from}
 use Rattle.std.specs.FinMap.{contains_key}
 use Rattle.std.specs.Int.Bits.{or_self}
 use Rattle.snap_core.specs.Arrays.{has, meets}
@@ -7,7 +8,6 @@ use Rattle.snap_core.specs.Packets.{PacketSet, union}
 use Rattle.snap_core.specs.Meaning.{Meaning, clash, joined, beside}
 use Rattle.snap_core.proofs.PacketSets.{same_packets, contains-union}
 use Rattle.snap_core.proofs.Together.{or_assoc, clash-joined}
-use Rattle.snap_chain.proofs.Folding.{or_none}
 
 -- it isn't defined, or writes nothing
 abbrev pub IsIdle : Option Meaning → Type 0
@@ -52,6 +52,6 @@ beside_twice (Some u) (Some o) h = by (clash u o) refl
         ∙ sym (ap (λ z. cond z None (Some (joined u o))) e)
     by false e =
         ap (λ z. beside (cond z None (Some (joined u o))) (Some o)) e
-        ∙ ap (λ z. cond z None (Some (joined (joined u o) o))) (clash-joined u o o ∙ or_none _ _ e (idle_clash o h))
+        ∙ ap (λ z. cond z None (Some (joined (joined u o) o))) (clash-joined u o o ∙ or_from _ _ e (idle_clash o h))
         ∙ ap Some (joined_twice u o)
         ∙ sym (ap (λ z. cond z None (Some (joined u o))) e)

@@ -6,6 +6,11 @@ use Rattle.snap_core.specs.declared.policy.Update.{Update}
 use Rattle.snap_core.specs.Arrays.{Arrays, updates}
 use Rattle.snap_fdd.specs.Bounds.{Sizes, UpdateIn}
 
+-- what an operation adds
+abbrev pub added : Op → ℕ
+added (Put a) = 0
+added (Add n) = n
+
 abbrev pub IsAddition : Op → Type 0
 IsAddition (Put a) = ⊥
 IsAddition (Add n) = Unit {0}

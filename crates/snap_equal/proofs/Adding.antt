@@ -17,8 +17,8 @@ use Rattle.snap_ctx.proofs.Wrap.{wrap_assoc, wrap_zero}
 use Rattle.snap_core.specs.declared.policy.Atom.{Atom}
 use Rattle.snap_equal.specs.declared.tally.Sign.{Sign}
 use Rattle.snap_equal.specs.declared.tally.Sign.TheVariants.{Plus, Minus}
-use Rattle.snap_equal.specs.Tally.{AddOutside, added, share, share_of, signed, signed_total, total}
-use Rattle.snap_chain.specs.Additions.{IsAddition, added_up}
+use Rattle.snap_equal.specs.Tally.{AddOutside, share, share_of, signed, signed_total, total}
+use Rattle.snap_chain.specs.Additions.{IsAddition, added_up, added}
 use Rattle.snap_chain.proofs.Splitting.{hit, missed}
 
 -- ---- totals

@@ -11,12 +11,12 @@ use Rattle.snap_ctx.specs.Classes.{wrap}
 use Rattle.snap_ctx.specs.View.{View}
 use Rattle.snap_ctx.proofs.Wrap.{wrap_zero, wrap_cancel, wrap_cancel_right}
 use Rattle.snap_chain.specs.Additions.{IsAddition}
-use Rattle.snap_chain.proofs.Splitting.{updates-append}
 use Rattle.snap_equal.specs.Held.{AgreeAlong}
 use Rattle.snap_equal.specs.Tally.{IsSum, AddOutside, IsDifference, total}
 use Rattle.snap_equal.specs.Told.{IsModel, On}
 use Rattle.snap_equal.proofs.Adding.{updates-add, total_small, wrap_turn}
 use Rattle.snap_equal.proofs.AllPlaces.{agree_at}
+use Rattle.snap_core.proofs.Updates.{updates-append}
 
 adds_at : (mixed : ℕ) (us : List Update) (q : Place) → AddOutside mixed us → has mixed q.var ≡ false → All (λ u. u.var ≡ q.var → IsAddition u.op) us
 adds_at mixed us q adds out i d l e = adds i d l (ap (has mixed) e ∙ out)

@@ -18,9 +18,10 @@ use Rattle.snap_core.specs.Ranges.{TermInRange}
 use Rattle.snap_ctx.specs.View.{View}
 use Rattle.snap_ctx.proofs.Algebra.{term_value-shift}
 use Rattle.snap_core.proofs.Places.{same_place-exact}
+use Rattle.snap_core.proofs.Updates.{updates-append}
 use Rattle.snap_ctx.proofs.Wrap.{wrap_assoc}
 use Rattle.snap_chain.specs.Early.{term_of}
-use Rattle.snap_chain.proofs.Splitting.{hit, missed, updates-append}
+use Rattle.snap_chain.proofs.Splitting.{hit, missed}
 use Rattle.snap_chain.proofs.Values.{shift-fits, term_of-fits, term_of-value}
 use Rattle.snap_equal.specs.declared.held.Held.{Held}
 use Rattle.snap_equal.specs.declared.held.Held.TheVariants.{Is, Old}

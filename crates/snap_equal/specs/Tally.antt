@@ -1,21 +1,15 @@
 -- What additions add to a place.
 use Rattle.std.specs.Prelude.{◌≡◌, ℕ, ◌-◌, ◌%◌, ◌^◌, ◌<◌, Bool, true, false, List, [], ◌∷◌, Option, Some, None, All, if◌then◌else◌}
 use Rattle.snap_core.specs.declared.place.Place.{Place}
-use Rattle.snap_core.specs.declared.policy.Op.{Op}
-use Rattle.snap_core.specs.declared.policy.Op.TheVariants.{Put, Add}
 use Rattle.snap_core.specs.declared.policy.Update.{Update}
 use Rattle.snap_core.specs.Arrays.{same_place, place_at, has}
 use Rattle.snap_ctx.specs.Classes.{wrap}
 use Rattle.snap_ctx.specs.View.{View}
-use Rattle.snap_chain.specs.Additions.{IsAddition}
+use Rattle.snap_chain.specs.Additions.{IsAddition, added}
 use Rattle.snap_equal.specs.declared.tally.Sign.{Sign}
 use Rattle.snap_equal.specs.declared.tally.Sign.TheVariants.{Plus, Minus}
 use Rattle.snap_equal.specs.Inputs.{IsUpdate}
 use Rattle.snap_equal.specs.Told.{On}
-
-abbrev pub added : Op → ℕ
-added (Put a) = 0
-added (Add n) = n
 
 -- a number at the place of an update, and 0 at others
 abbrev pub share_of : Update → ℕ → List ℕ → Place → ℕ
