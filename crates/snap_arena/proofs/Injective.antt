@@ -8,7 +8,8 @@ use Rattle.snap_core.specs.declared.policy.Test.{Test}
 use Rattle.snap_core.specs.declared.policy.Test.TheVariants.{Value, Equal, State}
 use Rattle.snap_arena.specs.declared.node.Node.{Node}
 use Rattle.snap_arena.specs.declared.node.Node.TheVariants.{Ask, Leaf}
-use Rattle.snap_arena.specs.Codes.{index_code, term_code, test_code, node_code}
+use Rattle.snap_core.specs.Terms.{term_code}
+use Rattle.snap_arena.specs.Codes.{index_code, test_code, node_code}
 
 pub same_term : (a b : Term) → term_code a ≡ term_code b → a ≡ b
 same_term (Num n) (Num o) e = grind arith

@@ -12,21 +12,21 @@ use Rattle.snap_arena.specs.Codes.{node_code}
 use Rattle.snap_arena.specs.Arena.{IsLower, IsNoted, IsNumbered, StandsAt}
 use Rattle.snap_arena.proofs.Injective.{same_node}
 
-at_left : {X : Type 0} (xs ys : List X) (i : ℕ) (x : X) → slice_get xs i ≡ Some x → slice_get (xs ++ ys) i ≡ Some x
-at_left [] ys i x e = absurd (cc)
-at_left (y ∷ xs) ys zero x e = e
-at_left (y ∷ xs) ys (suc i) x e = at_left xs ys i x e
+pub slice_get-append : {X : Type 0} (xs ys : List X) (i : ℕ) (x : X) → slice_get xs i ≡ Some x → slice_get (xs ++ ys) i ≡ Some x
+slice_get-append [] ys i x e = absurd (cc)
+slice_get-append (y ∷ xs) ys zero x e = e
+slice_get-append (y ∷ xs) ys (suc i) x e = slice_get-append xs ys i x e
 
-at_last : {X : Type 0} (xs : List X) (x : X) → slice_get (xs ++ x ∷ []) (length xs) ≡ Some x
-at_last [] x = refl
-at_last (y ∷ xs) x = at_last xs x
+pub slice_get-append_last : {X : Type 0} (xs : List X) (x : X) → slice_get (xs ++ x ∷ []) (length xs) ≡ Some x
+slice_get-append_last [] x = refl
+slice_get-append_last (y ∷ xs) x = slice_get-append_last xs x
 
 -- an element is an old one, or the last
-old_or_last : {X : Type 0} (xs : List X) (y : X) (i : ℕ) (x : X) → slice_get (xs ++ y ∷ []) i ≡ Some x → (slice_get xs i ≡ Some x) ⊎ ((i ≡ length xs) × (y ≡ x))
-old_or_last [] y zero x e = inr (refl, cc)
-old_or_last [] y (suc i) x e = absurd (cc)
-old_or_last (z ∷ xs) y zero x e = inl e
-old_or_last (z ∷ xs) y (suc i) x e = elim (old_or_last xs y i x e) [ inl f ↦ inl f | inr p ↦ inr (ap suc p.0, p.1) ]
+pub slice_get-push_cases : {X : Type 0} (xs : List X) (y : X) (i : ℕ) (x : X) → slice_get (xs ++ y ∷ []) i ≡ Some x → (slice_get xs i ≡ Some x) ⊎ ((i ≡ length xs) × (y ≡ x))
+slice_get-push_cases [] y zero x e = inr (refl, cc)
+slice_get-push_cases [] y (suc i) x e = absurd (cc)
+slice_get-push_cases (z ∷ xs) y zero x e = inl e
+slice_get-push_cases (z ∷ xs) y (suc i) x e = elim (slice_get-push_cases xs y i x e) [ inl f ↦ inl f | inr p ↦ inr (ap suc p.0, p.1) ]
 
 -- the last one taken away again
 pub undone : {X : Type 0} (xs ys zs : List X) (x : X) (k : ℕ) → ys ≡ xs ++ x ∷ [] → k ≡ length xs → zs ≡ take k ys → zs ≡ xs
@@ -45,17 +45,17 @@ noted_old code one ns numbers i n d e =
     record { at = at; known = λ l. refl; next = λ l. absurd (omega (arith, w, l)) }
 
 pub noted_new : {L : Type 0} (ns : List (Node L)) (n : Node L) → IsNoted ns n (ns ++ n ∷ []) (length ns)
-noted_new ns n = record { at = at_last ns n; known = λ l. absurd (omega (arith, l)); next = λ l. (refl, refl) }
+noted_new ns n = record { at = slice_get-append_last ns n; known = λ l. absurd (omega (arith, l)); next = λ l. (refl, refl) }
 
 module _ {L : Type 0} (code : L → List ℕ) (ns : List (Node L)) (n : Node L) (old new : Cells) (i : IsNumbered code ns old) (none : cell old (node_code code n) ≡ None)
     (more : (q : List ℕ) → cell new q ≡ (if bytes_eq (node_code code n) q then Some (length ns) else cell old q)) where
   found_now : (q : List ℕ) (d : ℕ) (b : Bool) → bytes_eq (node_code code n) q ≡ b → cell new q ≡ Some d → StandsAt code (ns ++ n ∷ []) d q
   found_now q d true t e =
       let same : length ns ≡ d = (let m = more q ∙ cond-true (bytes_eq (node_code code n) q) (Some (length ns)) (cell old q) t in cc) in
-      record { node = n; at = subst (λ (j : ℕ). slice_get (ns ++ n ∷ []) j ≡ Some n) same (at_last ns n); is = (bytes_eq-Decides (node_code code n) q).0 t }
+      record { node = n; at = subst (λ (j : ℕ). slice_get (ns ++ n ∷ []) j ≡ Some n) same (slice_get-append_last ns n); is = (bytes_eq-Decides (node_code code n) q).0 t }
   found_now q d false f e =
       let s = i.found q d (sym (more q ∙ cond-false (bytes_eq (node_code code n) q) (Some (length ns)) (cell old q) f) ∙ e) in
-      record { node = s.node; at = at_left ns (n ∷ []) d s.node s.at; is = s.is }
+      record { node = s.node; at = slice_get-append ns (n ∷ []) d s.node s.at; is = s.is }
 
   -- an old node has another code
   all_now : (d : ℕ) (o : Node L) (b : Bool) → bytes_eq (node_code code n) (node_code code o) ≡ b → slice_get ns d ≡ Some o → cell new (node_code code o) ≡ Some d
@@ -70,7 +70,7 @@ module _ {L : Type 0} (code : L → List ℕ) (ns : List (Node L)) (n : Node L) 
 
   pub numbered_more : IsLower (length ns) n → IsNumbered code (ns ++ n ∷ []) new
   numbered_more low = record {
-    lower = λ d o e. elim (old_or_last ns n d o e) [ inl f ↦ i.lower d o f | inr p ↦ rw (p.0, sym p.1) low ];
+    lower = λ d o e. elim (slice_get-push_cases ns n d o e) [ inl f ↦ i.lower d o f | inr p ↦ rw (p.0, sym p.1) low ];
     found = λ q d e. found_now q d (bytes_eq (node_code code n) q) refl e;
-    all = λ d o e. elim (old_or_last ns n d o e) [ inl f ↦ all_now d o (bytes_eq (node_code code n) (node_code code o)) refl f | inr p ↦ rw (p.0, sym p.1) last_now ];
+    all = λ d o e. elim (slice_get-push_cases ns n d o e) [ inl f ↦ all_now d o (bytes_eq (node_code code n) (node_code code o)) refl f | inr p ↦ rw (p.0, sym p.1) last_now ];
   }

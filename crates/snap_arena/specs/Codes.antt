@@ -2,10 +2,9 @@
 use Rattle.std.specs.Prelude.{ℕ, List, [], ◌∷◌, ◌+◌, ◌++◌}
 use Rattle.snap_core.specs.declared.policy.Atom.{Atom}
 use Rattle.snap_core.specs.declared.policy.Atom.TheVariants.{Num as Number, Comp}
-use Rattle.snap_core.specs.declared.policy.Term.{Term}
-use Rattle.snap_core.specs.declared.policy.Term.TheVariants.{Num, Plus}
 use Rattle.snap_core.specs.declared.policy.Test.{Test}
 use Rattle.snap_core.specs.declared.policy.Test.TheVariants.{Value, Equal, State}
+use Rattle.snap_core.specs.Terms.{term_code}
 use Rattle.snap_arena.specs.declared.node.Node.{Node}
 use Rattle.snap_arena.specs.declared.node.Node.TheVariants.{Ask, Leaf}
 
@@ -18,10 +17,6 @@ atom_code (Comp c) = (c + 2) ∷ []
 abbrev pub index_code : List Atom → List ℕ
 index_code [] = 0 ∷ []
 index_code (a ∷ ix) = atom_code a ++ index_code ix
-
-abbrev pub term_code : Term → List ℕ
-term_code (Num n) = 0 ∷ n ∷ []
-term_code (Plus c p) = 1 ∷ c ∷ p ∷ []
 
 abbrev pub test_code : Test → List ℕ
 test_code (Value c n) = 0 ∷ c ∷ n ∷ []

@@ -1,7 +1,8 @@
 //! Atoms, terms and tests as lists of numbers. Different ones have different lists.
 
 ghost use Rattle.std.specs.Prelude.{◌≡◌, ◌≤◌, ◌+◌, ◌++◌, ◌∷◌, [], OnOk, vec_capacity, vec_len};
-ghost use Rattle.snap_arena.specs.Codes.{atom_code, index_code, term_code, test_code};
+ghost use Rattle.snap_core.specs.Terms.{term_code};
+ghost use Rattle.snap_arena.specs.Codes.{atom_code, index_code, test_code};
 
 use snap_core::NoMemory;
 use snap_core::lists::Atoms;

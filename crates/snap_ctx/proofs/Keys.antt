@@ -3,9 +3,10 @@ use Rattle.std.proofs.Common.{◌≡◌, ℕ, zero, suc, ◌+◌, ◌<◌, Bool,
 use Rattle.snap_core.specs.declared.policy.Term.{Term}
 use Rattle.snap_core.specs.declared.policy.Term.TheVariants.{Num, Plus}
 use Rattle.snap_core.specs.Arrays.{has}
-use Rattle.snap_ctx.specs.Known.{Normal, Differ, Held, term_key, spot_key, normal_key, normals_key, classes_key}
+use Rattle.snap_core.specs.Terms.{term_code}
+use Rattle.snap_ctx.specs.Known.{Normal, Differ, Held, spot_key, normal_key, normals_key, classes_key}
 
-same_term : (a b : Term) (r s : List ℕ) → term_key a ++ r ≡ term_key b ++ s → (a ≡ b) × (r ≡ s)
+same_term : (a b : Term) (r s : List ℕ) → term_code a ++ r ≡ term_code b ++ s → (a ≡ b) × (r ≡ s)
 same_term (Num n) (Num o) r s e = ((let h : n ≡ o = grind arith in ap Num h), grind arith)
 same_term (Num n) (Plus c p) r s e = absurd (grind arith)
 same_term (Plus c p) (Num o) r s e = absurd (grind arith)
@@ -30,17 +31,17 @@ same_flag false false e = refl
 
 same_normal : (a b : Normal) (r s : List ℕ) → normal_key a ++ r ≡ normal_key b ++ s → (a ≡ b) × (r ≡ s)
 same_normal (Differ a b) (Differ c d) r s e =
-    let inner : (term_key a ++ term_key b) ++ r ≡ (term_key c ++ term_key d) ++ s = grind arith in
-    let i = same_term a c (term_key b ++ r) (term_key d ++ s) (sym (append_assoc (term_key a) (term_key b) r) ∙ (inner ∙ append_assoc (term_key c) (term_key d) s)) in
+    let inner : (term_code a ++ term_code b) ++ r ≡ (term_code c ++ term_code d) ++ s = grind arith in
+    let i = same_term a c (term_code b ++ r) (term_code d ++ s) (sym (append_assoc (term_code a) (term_code b) r) ∙ (inner ∙ append_assoc (term_code c) (term_code d) s)) in
     let j = same_term b d r s i.1 in
     ((λ l. Differ (i.0 l) (j.0 l)), j.1)
 same_normal (Differ a b) (Held v ix t y) r s e = absurd (grind arith)
 same_normal (Held v ix t y) (Differ a b) r s e = absurd (grind arith)
 same_normal (Held v ix t y) (Held w iy u z) r s e =
-    let inner : (spot_key ix ++ (term_key t ++ cond y 1 0 ∷ [])) ++ r ≡ (spot_key iy ++ (term_key u ++ cond z 1 0 ∷ [])) ++ s = grind arith in
+    let inner : (spot_key ix ++ (term_code t ++ cond y 1 0 ∷ [])) ++ r ≡ (spot_key iy ++ (term_code u ++ cond z 1 0 ∷ [])) ++ s = grind arith in
     let var : v ≡ w = grind arith in
-    let i = same_spot ix iy ((term_key t ++ cond y 1 0 ∷ []) ++ r) ((term_key u ++ cond z 1 0 ∷ []) ++ s) (sym (append_assoc (spot_key ix) (term_key t ++ cond y 1 0 ∷ []) r) ∙ (inner ∙ append_assoc (spot_key iy) (term_key u ++ cond z 1 0 ∷ []) s)) in
-    let j = same_term t u (cond y 1 0 ∷ r) (cond z 1 0 ∷ s) (sym (append_assoc (term_key t) (cond y 1 0 ∷ []) r) ∙ (i.1 ∙ append_assoc (term_key u) (cond z 1 0 ∷ []) s)) in
+    let i = same_spot ix iy ((term_code t ++ cond y 1 0 ∷ []) ++ r) ((term_code u ++ cond z 1 0 ∷ []) ++ s) (sym (append_assoc (spot_key ix) (term_code t ++ cond y 1 0 ∷ []) r) ∙ (inner ∙ append_assoc (spot_key iy) (term_code u ++ cond z 1 0 ∷ []) s)) in
+    let j = same_term t u (cond y 1 0 ∷ r) (cond z 1 0 ∷ s) (sym (append_assoc (term_code t) (cond y 1 0 ∷ []) r) ∙ (i.1 ∙ append_assoc (term_code u) (cond z 1 0 ∷ []) s)) in
     let k = j.1 in
     let flags : ◌≡◌ {A = ℕ} (cond y 1 0) (cond z 1 0) = grind arith in
     let flag = same_flag y z flags in
@@ -66,7 +67,7 @@ same_classes comps i [] [] r s l e = ((λ j d h t. refl), e)
 same_classes comps i [] (y ∷ ys) r s l e = absurd (omega (arith, l))
 same_classes comps i (x ∷ xs) [] r s l e = absurd (omega (arith, l))
 same_classes comps i (x ∷ xs) (y ∷ ys) r s l e = by (λ f. same_classes comps (i + 1) xs ys r s (omega (arith, l)) f) (has comps i) refl
-    (sym (append_assoc (cond (has comps i) (term_key x) []) (classes_key comps (i + 1) xs) r) ∙ (e ∙ append_assoc (cond (has comps i) (term_key y) []) (classes_key comps (i + 1) ys) s))
+    (sym (append_assoc (cond (has comps i) (term_code x) []) (classes_key comps (i + 1) xs) r) ∙ (e ∙ append_assoc (cond (has comps i) (term_code y) []) (classes_key comps (i + 1) ys) s))
   where
     Same : Type 0
     Same = ((j : ℕ) (d : Term) → j < length xs → has comps ((i + 1) + j) ≡ true → get_or xs j d ≡ get_or ys j d) × (r ≡ s)
@@ -97,6 +98,6 @@ same_classes comps i (x ∷ xs) (y ∷ ys) r s l e = by (λ f. same_classes comp
         at zero d h t = absurd (let z : has comps i ≡ true = subst (λ (n : ℕ). has comps n ≡ true) (omega arith) t in cc)
         at (suc j) d h t = later k.0 j d h t
 
-    by : (Rest → Same) → (b : Bool) → has comps i ≡ b → cond b (term_key x) [] ++ (classes_key comps (i + 1) xs ++ r) ≡ cond b (term_key y) [] ++ (classes_key comps (i + 1) ys ++ s) → Goal
+    by : (Rest → Same) → (b : Bool) → has comps i ≡ b → cond b (term_code x) [] ++ (classes_key comps (i + 1) xs ++ r) ≡ cond b (term_code y) [] ++ (classes_key comps (i + 1) ys ++ s) → Goal
     by again true q f = (let k = same_term x y (classes_key comps (i + 1) xs ++ r) (classes_key comps (i + 1) ys ++ s) f in both k.0 (again k.1))
     by again false q f = skip q (again f)

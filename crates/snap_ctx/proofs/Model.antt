@@ -24,14 +24,15 @@ use Rattle.snap_ctx.proofs.Roots.{left-term, index-atoms}
 use Rattle.snap_ctx.proofs.Fresh.{fresh_number}
 use Rattle.snap_ctx.proofs.Places.{place_of, passes-state}
 use Rattle.snap_ctx.proofs.Finite.{HasModel, finite}
-use Rattle.snap_ctx.proofs.Numbered.{IsConst, Ties, tie_upto}
+use Rattle.snap_core.specs.Terms.{IsNumber}
+use Rattle.snap_ctx.proofs.Numbered.{Ties, tie_upto}
 
 -- the numbers of classes that are all numbers
 abbrev const_of : Term → ℕ
 const_of (Num n) = n
 const_of (Plus c p) = 0
 
-const_is : (t : Term) → IsConst t → t ≡ Num (const_of t)
+const_is : (t : Term) → IsNumber t → t ≡ Num (const_of t)
 const_is (Num n) h = refl
 const_is (Plus c p) h = absurd h
 
@@ -42,15 +43,15 @@ packet_of cl = map const_of cl
 abbrev Tells : List Term → List ℕ → Type 0
 Tells cl k = (c : ℕ) → c < length cl → class_of cl c ≡ Num (slice_index k c)
 
-tells : (cl : List Term) → ((c : ℕ) → c < length cl → IsConst (class_of cl c)) → Tells cl (packet_of cl)
+tells : (cl : List Term) → ((c : ℕ) → c < length cl → IsNumber (class_of cl c)) → Tells cl (packet_of cl)
 tells cl h c l = const_is (class_of cl c) (h c l) ∙ ap Num (sym (get_or-map const_of cl c (Plus c 0) 0 l))
 
-pub small_packet : (cl : List Term) → All (IsClass cl) cl → ((c : ℕ) → c < length cl → IsConst (class_of cl c)) → All (λ n. n < 2 ^ 64) (packet_of cl)
+pub small_packet : (cl : List Term) → All (IsClass cl) cl → ((c : ℕ) → c < length cl → IsNumber (class_of cl c)) → All (λ n. n < 2 ^ 64) (packet_of cl)
 small_packet cl a h k d l =
     let l' : k < length cl = rw length-map at l in
     rw (get_or-map const_of cl k (Plus k 0) d l') (small (class_of cl k) (h k l') (a k (Plus k 0) l'))
   where
-    small : (t : Term) → IsConst t → IsClass cl t → const_of t < 2 ^ 64
+    small : (t : Term) → IsNumber t → IsClass cl t → const_of t < 2 ^ 64
     small (Num n) h i = i
     small (Plus c p) h i = absurd h
 
@@ -149,7 +150,7 @@ look_up_small comps (f ∷ fs) k w h t p =
     [ true ↦ term_small comps k (left_of f.test) (left-term comps f.test (t 0 f (omega arith))) | false ↦ look_up_small comps fs k w h (All-tail (λ f. IsTest comps f.test) f fs t) p ]
 
 -- classes that are all numbers, and break no rule, have a model
-const_model : (facts : List Fact) (cl : List Term) → Rules facts cl → length facts ≤ 2 ^ 32 → ((c : ℕ) → c < length cl → IsConst (class_of cl c)) → HasModel (length cl) facts
+const_model : (facts : List Fact) (cl : List Term) → Rules facts cl → length facts ≤ 2 ^ 32 → ((c : ℕ) → c < length cl → IsNumber (class_of cl c)) → HasModel (length cl) facts
 const_model facts cl rules few consts =
     let k : List ℕ = packet_of cl in
     let found : (w : ℕ) × (w < 2 ^ 64) × All (λ y. y ≢ w) (map (λ (f : Fact). term_value (left_of f.test) (packet_of cl)) facts)

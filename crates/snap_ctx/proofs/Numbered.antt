@@ -4,28 +4,25 @@ use Rattle.std.proofs.lemmas.Bool.{eq-eqb, cases_eq}
 use Rattle.std.proofs.lemmas.List.{length-map}
 use Rattle.snap_core.specs.declared.policy.Term.{Term}
 use Rattle.snap_core.specs.declared.policy.Term.TheVariants.{Num, Plus}
+use Rattle.snap_core.specs.Terms.{IsNumber}
 use Rattle.snap_ctx.specs.declared.fact.Fact.{Fact}
 use Rattle.snap_ctx.specs.Classes.{class_of, Rules}
 use Rattle.snap_ctx.specs.Closing.{replace, put}
 use Rattle.snap_ctx.proofs.Algebra.{class_of-put}
 use Rattle.snap_ctx.proofs.Tying.{tied}
 
-abbrev pub IsConst : Term → Type 0
-IsConst (Num n) = Unit {0}
-IsConst (Plus c p) = ⊥
-
-const_replace : (r n : ℕ) (x : Term) → IsConst x → IsConst (replace r (Num n) x)
+const_replace : (r n : ℕ) (x : Term) → IsNumber x → IsNumber (replace r (Num n) x)
 const_replace r n (Num m) h = tt
 const_replace r n (Plus c p) h = absurd h
 
-const_root : (r n p : ℕ) → IsConst (replace r (Num n) (Plus r p))
+const_root : (r n p : ℕ) → IsNumber (replace r (Num n) (Plus r p))
 const_root r n p = rw (eq-eqb r r refl) tt
 
 -- the classes with the first so many components tied
 pub record Ties (facts : List Fact) (cl : List Term) (i : ℕ) (new : List Term) : Type 0 where
   pub same : length new ≡ length cl
   pub rules : Rules facts new
-  pub done : (c : ℕ) → c < i → IsConst (class_of new c)
+  pub done : (c : ℕ) → c < i → IsNumber (class_of new c)
 
 tie_one : (facts : List Fact) (cl : List Term) (i : ℕ) (old : List Term) → suc i ≤ length cl → length cl ≤ 64 → length facts ≤ 2 ^ 32 → Ties facts cl i old → (t : Term) → class_of old i ≡ t → (new : List Term) × Ties facts cl (suc i) new
 tie_one facts cl i old lt few many h (Num n) e =

@@ -9,6 +9,7 @@ use Rattle.snap_core.specs.declared.policy.Term.TheVariants.{Num, Plus}
 use Rattle.snap_core.specs.declared.policy.Test.{Test}
 use Rattle.snap_core.specs.declared.policy.Test.TheVariants.{Value, Equal, State}
 use Rattle.snap_core.specs.Arrays.{has}
+use Rattle.snap_core.specs.Terms.{term_code}
 use Rattle.snap_ctx.specs.declared.fact.Fact.{Fact}
 use Rattle.snap_ctx.specs.Classes.{wrap, class_of, normal, atom_class, is_state, var_of, index_of, left_of, right_of}
 use Rattle.snap_ctx.specs.View.{View, IsContext}
@@ -109,18 +110,14 @@ all_known cl roots settled [] = []
 all_known cl roots settled (f ∷ fs) = with_some (known cl roots settled f.test f.yes) (all_known cl roots settled fs)
 
 -- ---- as lists of numbers
-abbrev pub term_key : Term → List ℕ
-term_key (Num n) = 0 ∷ n ∷ []
-term_key (Plus c p) = 1 ∷ c ∷ p ∷ []
-
 -- a 2 ends an index
 abbrev pub spot_key : List Term → List ℕ
 spot_key [] = 2 ∷ []
-spot_key (t ∷ ts) = term_key t ++ spot_key ts
+spot_key (t ∷ ts) = term_code t ++ spot_key ts
 
 abbrev pub normal_key : Normal → List ℕ
-normal_key (Differ a b) = 0 ∷ term_key a ++ term_key b
-normal_key (Held v ix t y) = 1 ∷ v ∷ spot_key ix ++ (term_key t ++ (if y then 1 else 0) ∷ [])
+normal_key (Differ a b) = 0 ∷ term_code a ++ term_code b
+normal_key (Held v ix t y) = 1 ∷ v ∷ spot_key ix ++ (term_code t ++ (if y then 1 else 0) ∷ [])
 
 abbrev pub some_key : Option Normal → List ℕ
 some_key None = []
@@ -146,7 +143,7 @@ AreSame ns os = (n : Normal) → Contains ns n ↔ Contains os n
 -- the classes of the components of a set, from the component i on
 abbrev pub classes_key : ℕ → ℕ → List Term → List ℕ
 classes_key comps i [] = []
-classes_key comps i (t ∷ ts) = (if has comps i then term_key t else []) ++ classes_key comps (i + 1) ts
+classes_key comps i (t ∷ ts) = (if has comps i then term_code t else []) ++ classes_key comps (i + 1) ts
 
 -- ---- sets of roots and arrays that can be taken by themselves
 -- none of them in the set, and the index is no number's

@@ -2,7 +2,8 @@
 
 ghost use Rattle.std.specs.Prelude.{◌≡◌, ◌≤◌, ◌∷◌, ◌++◌, ℕ, All, IfOk, IfSome, IsTrue, List, OnOk, length, map};
 ghost use Rattle.snap_ctx.specs.Classes.{atom_class, normal, IsAtom, IsTerm, IsTest};
-ghost use Rattle.snap_ctx.specs.Known.{all_known, apart_of, classes_key, difference, held_of, known, normal_key, normals_key, some_key, spot_key, term_key, HasWords, IsSpelled, IsWord, Normal, Differ};
+ghost use Rattle.snap_core.specs.Terms.{term_code};
+ghost use Rattle.snap_ctx.specs.Known.{all_known, apart_of, classes_key, difference, held_of, known, normal_key, normals_key, some_key, spot_key, HasWords, IsSpelled, IsWord, Normal, Differ};
 ghost use Rattle.snap_core.specs.declared.policy.Term.TheVariants.{Plus};
 
 use crate::classes::{atom_at, class_at, normal_at};
@@ -20,7 +21,7 @@ const MANY_WORDS: usize = 128;
 
 // Adds the numbers of a class.
 fn push_term(key: &mut Vec<u64>, term: Term) -> Result<(), NoMemory>
-    ensures { OnOk result (key.new.items ≡ key.old.items ++ term_key term) }
+    ensures { OnOk result (key.new.items ≡ key.old.items ++ term_code term) }
 {
     match term {
         Term::Num(num) => {

@@ -4,7 +4,8 @@ use Rattle.snap_core.specs.declared.policy.Term.{Term}
 use Rattle.snap_core.specs.declared.policy.Term.TheVariants.{Num, Plus}
 use Rattle.snap_core.specs.declared.policy.Test.{Test}
 use Rattle.snap_core.specs.declared.policy.Test.TheVariants.{Value, Equal, State}
-use Rattle.snap_arena.specs.Codes.{term_code, test_code}
+use Rattle.snap_core.specs.Terms.{term_code}
+use Rattle.snap_arena.specs.Codes.{test_code}
 use Rattle.snap_arena.proofs.Injective.{same_index}
 use Rattle.snap_ctx.specs.declared.fact.Fact.{Fact}
 use Rattle.snap_equal.specs.Weaker.{fact_code, facts_code}

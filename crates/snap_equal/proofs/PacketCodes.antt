@@ -5,7 +5,7 @@ use Rattle.std.specs.Prelude.{Option, Some, None, is_some}
 use Rattle.snap_core.specs.declared.policy.Term.{Term}
 use Rattle.snap_core.specs.declared.policy.Term.TheVariants.{Num, Plus}
 use Rattle.snap_core.specs.Tests.{term_value}
-use Rattle.snap_arena.specs.Codes.{term_code}
+use Rattle.snap_core.specs.Terms.{term_code}
 use Rattle.snap_equal.specs.Made.{packet_of}
 
 packet_of-term_code : (t : Term) (q k : List ℕ) → packet_of (term_code t ++ q) k ≡ term_value t k ∷ packet_of q k

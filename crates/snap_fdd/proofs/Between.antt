@@ -11,7 +11,8 @@ use Rattle.snap_core.specs.declared.policy.Atom.{Atom}
 use Rattle.snap_core.specs.declared.policy.Term.{Term}
 use Rattle.snap_core.specs.declared.policy.Test.{Test}
 use Rattle.snap_core.specs.declared.policy.Test.TheVariants.{Value, Equal as Same, State}
-use Rattle.snap_arena.specs.Codes.{index_code, term_code}
+use Rattle.snap_core.specs.Terms.{term_code}
+use Rattle.snap_arena.specs.Codes.{index_code}
 use Rattle.snap_arena.proofs.Injective.{same_index}
 use Rattle.snap_fdd.specs.Order.{key, test_cmp}
 use Rattle.snap_fdd.specs.Quiet.{SameSubject}

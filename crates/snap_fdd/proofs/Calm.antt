@@ -24,7 +24,8 @@ use Rattle.snap_fdd.specs.declared.survey.Seen.{Seen}
 use Rattle.snap_fdd.specs.declared.survey.Seen.TheVariants.{Few, Many}
 use Rattle.snap_fdd.specs.declared.survey.Survey.{Survey}
 use Rattle.snap_fdd.specs.Quiet.{AtomIsFree, IndexIsFine, IsClear, IsFine, SameSubject}
-use Rattle.snap_fdd.specs.Spots.{IsNumber, AtomsApart, IndicesApart}
+use Rattle.snap_core.specs.Terms.{IsNumber}
+use Rattle.snap_fdd.specs.Spots.{AtomsApart, IndicesApart}
 use Rattle.snap_fdd.proofs.Spotted.{BothAsked, ClearAt, clear_at, one_or_apart}
 
 -- ---- facts that don't contradict each other
@@ -33,13 +34,9 @@ number_of (Value c n) = Num n
 number_of (Equal l r p) = Num 0
 number_of (State v ix t) = t
 
-abbrev pub Tells : Bool → Term → Term → Type 0
-Tells true a b = a ≡ b
-Tells false a b = a ≢ b
-
 -- what a subject is, the other fact agrees with
 abbrev pub Agree : Fact → Fact → Type 0
-Agree f g = f.yes ≡ true → SameSubject f.test g.test → Tells g.yes (number_of f.test) (number_of g.test)
+Agree f g = f.yes ≡ true → SameSubject f.test g.test → Says g.yes (number_of f.test) (number_of g.test)
 
 pub record IsCalm (comps : ℕ) (s : Survey) (facts : List Fact) : Type 0 where
   pub tests : (f : Fact) → Among f facts → IsTest comps f.test
@@ -123,7 +120,7 @@ class_at : (facts : List Fact) (comps c : ℕ) (d : Term) → c < comps → slic
 class_at facts comps c d l = get_or-map-range_with_len (λ c. class_by (number_at facts c) c) 0 comps c c d l (omega arith)
 
 -- what a fact says of its component's class
-value_says : (y : Bool) (c n : ℕ) (o : Option ℕ) → (o ≡ None → y ≡ true → ⊥) → ((m : ℕ) → o ≡ Some m → Tells y (Num m) (Num n)) → ((m : ℕ) → o ≡ Some m → m < 2 ^ 64) → Says y (shift (class_by o c) 0) (Num n)
+value_says : (y : Bool) (c n : ℕ) (o : Option ℕ) → (o ≡ None → y ≡ true → ⊥) → ((m : ℕ) → o ≡ Some m → Says y (Num m) (Num n)) → ((m : ℕ) → o ≡ Some m → m < 2 ^ 64) → Says y (shift (class_by o c) 0) (Num n)
 value_says true c n (Some m) none some small = rw (wrap_zero m (small m refl)) (some m refl)
 value_says false c n (Some m) none some small = λ e. some m refl (let w = wrap_zero m (small m refl) in cc)
 value_says true c n None none some small = absurd (none refl refl)
@@ -137,11 +134,11 @@ module _ (comps : ℕ) (s : Survey) (clear : IsClear s) (facts : List Fact) (cal
       let t : IsTest comps (Value c n) = subst (IsTest comps) w.test (calm.tests w.fact w.among) in
       t.1
 
-  agrees : (f : Fact) (c n o : ℕ) → number_at facts c ≡ Some n → Among f facts → f.test ≡ Value c o → Tells f.yes (Num n) (Num o)
+  agrees : (f : Fact) (c n o : ℕ) → number_at facts c ≡ Some n → Among f facts → f.test ≡ Value c o → Says f.yes (Num n) (Num o)
   agrees f c n o e a t =
       let w = said facts c n e in
       let same : SameSubject w.fact.test f.test = rw (w.test, t) refl in
-      let g : Tells f.yes (number_of w.fact.test) (number_of f.test) = calm.agree w.fact f w.among a w.yes same in
+      let g : Says f.yes (number_of w.fact.test) (number_of f.test) = calm.agree w.fact f w.among a w.yes same in
       rw (w.test, t) at g
 
   alone : (f : Fact) → Among f facts → FactRule (classes_by facts comps) f
@@ -235,7 +232,7 @@ module _ (comps : ℕ) (s : Survey) (clear : IsClear s) (facts : List Fact) (cal
       numbers (Num n) (Plus d q) i j h = absurd j
       numbers (Plus c p) u i j h = absurd i
 
-      tells : (y : Bool) (t u : Term) → BothAsked t u → Tells y t u → Says y (normal (classes_by facts comps) t) (normal (classes_by facts comps) u)
+      tells : (y : Bool) (t u : Term) → BothAsked t u → Says y t u → Says y (normal (classes_by facts comps) t) (normal (classes_by facts comps) u)
       tells true t u both h = ap (normal (classes_by facts comps)) h
       tells false t u (inl e) h = absurd (h e)
       tells false t u (inr n) h = numbers t u n.0 n.1 h
@@ -251,7 +248,7 @@ module _ (comps : ℕ) (s : Survey) (clear : IsClear s) (facts : List Fact) (cal
           = ap (λ (t : Test). map (atom_class (classes_by facts comps)) (index_of t)) (sym ef) ∙ same.index ∙ ap (λ (t : Test). map (atom_class (classes_by facts comps)) (index_of t)) eg in
           let one : (ix ≡ iy) × BothAsked t u = same_spelled ix iy t u (slice_get s.arrays.items v) (clear_at s v clear) ff.2 (subst (λ (z : ℕ). IndexIsFine s (slice_get s.arrays.items z) iy u) (sym var) fg.2) tf.1 tg.1 idx in
           let subject : SameSubject f.test g.test = rw (ef, eg) (var, one.0) in
-          let h : Tells g.yes (number_of f.test) (number_of g.test) = calm.agree f g a b passed subject in
+          let h : Says g.yes (number_of f.test) (number_of g.test) = calm.agree f g a b passed subject in
           tells g.yes t u one.1 (rw (ef, eg) at h)
 
       by : (t u : Test) → f.test ≡ t → g.test ≡ u → Says g.yes (normal (classes_by facts comps) (left_of f.test)) (normal (classes_by facts comps) (left_of g.test))

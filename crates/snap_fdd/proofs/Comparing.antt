@@ -7,7 +7,7 @@ use Rattle.std.specs.declared.cmp.Ordering.{Ordering}
 use Rattle.std.specs.declared.cmp.Ordering.TheVariants.{Less, Equal, Greater}
 use Rattle.snap_core.specs.declared.policy.Test.{Test}
 use Rattle.snap_core.specs.declared.policy.Test.TheVariants.{Value, Equal as Same, State}
-use Rattle.snap_arena.specs.Codes.{term_code}
+use Rattle.snap_core.specs.Terms.{term_code}
 use Rattle.snap_arena.proofs.Injective.{same_index, same_term}
 use Rattle.snap_fdd.specs.Diagrams.{Diagram, Only, Asks}
 use Rattle.snap_fdd.specs.Order.{key, test_cmp, Above, NotBelow}

@@ -1,5 +1,5 @@
 -- What is noted of the nodes that are reached.
-use Rattle.std.proofs.Common.{◌≡◌, ◌⊎◌, inl, inr, ℕ, ◌<◌, List, [], ◌∷◌, ◌++◌, length, arith, refl, subst, suc, zero}
+use Rattle.std.proofs.Common.{◌≡◌, inl, inr, ℕ, ◌<◌, List, [], ◌∷◌, ◌++◌, length, subst}
 use Rattle.std.specs.Prelude.{Some, slice_get}
 use Rattle.snap_arena.specs.declared.node.Node.{Node}
 use Rattle.snap_arena.specs.Arena.{Grew}
@@ -7,18 +7,12 @@ use Rattle.snap_fdd.specs.declared.leaf.Leaf.{Leaf}
 use Rattle.snap_fdd.specs.Diagrams.{Diagram, diagram}
 use Rattle.snap_fdd.specs.Reached.{AreNoted}
 use Rattle.snap_fdd.proofs.Shared.{kept, still_below}
-
--- an element of a list and one more
-slice_get_push : {X : Type 0} (xs : List X) (x : X) (p : ℕ) (y : X) → slice_get (xs ++ x ∷ []) p ≡ Some y → (slice_get xs p ≡ Some y) ⊎ ((p ≡ length xs) × (x ≡ y))
-slice_get_push [] x zero y e = inr (refl, cc)
-slice_get_push [] x (suc p) y e = absurd (cc)
-slice_get_push (z ∷ xs) x zero y e = inl e
-slice_get_push (z ∷ xs) x (suc p) y e = elim (slice_get_push xs x p y e) [ inl h ↦ inl h | inr h ↦ inr (omega (arith, h.0), h.1) ]
+use Rattle.snap_arena.proofs.Numbered.{slice_get-push_cases}
 
 -- a note of the next number
 pub noted_more : {X : Type 0} (Is : X → Diagram → Type 0) (ns : List (Node Leaf)) (ids : List ℕ) (notes : List X) (d : ℕ) (x : X) → slice_get ids (length notes) ≡ Some d → d < length ns → Is x (diagram ns d)
     → AreNoted Is ns ids notes → AreNoted Is ns ids (notes ++ x ∷ [])
-noted_more Is ns ids notes d x at low new old p b y ep ey = elim (slice_get_push notes x p y ey) [
+noted_more Is ns ids notes d x at low new old p b y ep ey = elim (slice_get-push_cases notes x p y ey) [
   | inl h ↦ old p b y ep h
   | inr h ↦
       let place : slice_get ids (length notes) ≡ Some b = subst (λ (q : ℕ). slice_get ids q ≡ Some b) h.0 ep in

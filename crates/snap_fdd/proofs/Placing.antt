@@ -35,7 +35,7 @@ use Rattle.snap_fdd.specs.Tested.{TestsOver}
 use Rattle.snap_fdd.specs.declared.places.Spelling.{Spelling}
 use Rattle.snap_fdd.proofs.Alike.{test_is}
 use Rattle.snap_fdd.proofs.Between.{same_between}
-use Rattle.snap_fdd.proofs.Calm.{Agree, Tells, number_of}
+use Rattle.snap_fdd.proofs.Calm.{Agree, number_of}
 use Rattle.snap_fdd.proofs.Comparing.{less_trans, not_itself}
 use Rattle.snap_fdd.proofs.Quieting.{one_test, turned}
 
@@ -73,7 +73,7 @@ module _ (cl : List Term) (bound : ℕ) where
   own_pair : (f g : Fact) → IsTest (length cl) f.test → IsTest (length cl) g.test → IsOwn cl bound f.test → IsOwn cl bound g.test → Agree f g → PairRule cl f g
   own_pair f g tf tg hf hg agree passed same = by f.test g.test refl refl
     where
-      tells : (y : Bool) (t u : Term) → Tells y t u → Says y t u
+      tells : (y : Bool) (t u : Term) → Says y t u → Says y t u
       tells true t u h = h
       tells false t u h = h
 
@@ -87,7 +87,7 @@ module _ (cl : List Term) (bound : ℕ) where
           let idx : map (atom_class cl) ix ≡ map (atom_class cl) iy
           = ap (λ (t : Test). map (atom_class cl) (index_of t)) (sym ef) ∙ same.index ∙ ap (λ (t : Test). map (atom_class cl) (index_of t)) eg in
           let subject : SameSubject f.test g.test = rw (ef, eg) (var, own_index ix iy af.1 ag.1 bf.0 bg.0 idx) in
-          let h : Tells g.yes (number_of f.test) (number_of g.test) = agree passed subject in
+          let h : Says g.yes (number_of f.test) (number_of g.test) = agree passed subject in
           rw (own_term (length cl) t af.2 bf.1, own_term (length cl) u ag.2 bg.1) (tells g.yes t u (rw (ef, eg) at h))
 
       by : (t u : Test) → f.test ≡ t → g.test ≡ u → Says g.yes (normal cl (left_of f.test)) (normal cl (left_of g.test))
@@ -155,7 +155,7 @@ module _ (ranks : List ℕ) (v : View) (ctx : IsContext v) (bound arrays : ℕ) 
   new_agrees : (f : Fact) (t : Test) (b : Bool) → ComesBefore ranks t f → Agree f (record { test = t; yes = b }) × Agree (record { test = t; yes = b }) f
   new_agrees f t b before = ((λ passed same. absurd (before.1 passed same)), (λ passed same. old f.yes refl same))
     where
-      old : (y : Bool) → f.yes ≡ y → SameSubject t f.test → Tells y (number_of t) (number_of f.test)
+      old : (y : Bool) → f.yes ≡ y → SameSubject t f.test → Says y (number_of t) (number_of f.test)
       old true e same = absurd (before.1 e (turned t f.test same))
       old false e same = λ n. not_itself ranks f.test t before.0 (sym (one_test t f.test same n))
 

@@ -16,7 +16,7 @@ use Rattle.snap_core.specs.Tests.{passes}
 use Rattle.snap_core.specs.Listing.{number_in}
 use Rattle.snap_core.specs.Inputs.{IsPacket}
 use Rattle.snap_ctx.specs.declared.fact.Fact.{Fact}
-use Rattle.snap_ctx.specs.Classes.{IsTest}
+use Rattle.snap_ctx.specs.Classes.{IsTest, Says}
 use Rattle.snap_ctx.specs.Meets.{Meets, IsMet}
 use Rattle.snap_ctx.specs.Lean.{Among}
 use Rattle.snap_ctx.proofs.Among.{among_at, among_last}
@@ -36,10 +36,10 @@ use Rattle.snap_fdd.specs.Order.{test_cmp, Above, IsOrdered}
 use Rattle.snap_fdd.specs.Picks.{IsDiagram, sizes}
 use Rattle.snap_fdd.specs.Pruned.{Someone, With, IsLive}
 use Rattle.snap_fdd.specs.Quiet.{IndexIsFine, IsClear, IsFine, SameSubject, BeginsElsewhere, IsQuiet, StandsBefore}
-use Rattle.snap_fdd.specs.Spots.{IsNumber}
+use Rattle.snap_core.specs.Terms.{IsNumber}
 use Rattle.snap_fdd.proofs.Spotted.{BothAsked, clear_at, same_asked}
 use Rattle.snap_fdd.proofs.Between.{same_between}
-use Rattle.snap_fdd.proofs.Calm.{Tells, number_of, IsCalm, calm_is_met}
+use Rattle.snap_fdd.proofs.Calm.{number_of, IsCalm, calm_is_met}
 use Rattle.snap_fdd.proofs.Comparing.{less_trans, not_itself}
 use Rattle.snap_fdd.proofs.Shared.{node_of}
 
@@ -95,11 +95,11 @@ calm_more ranks comps s facts t b calm test fine before = record {
     new : Fact
     new = record { test = t; yes = b }
 
-    own : (b : Bool) → b ≡ true → Tells b (number_of t) (number_of t)
+    own : (b : Bool) → b ≡ true → Says b (number_of t) (number_of t)
     own true e = refl
     own false e = absurd (cc)
 
-    old : (g : Fact) → Among g facts → (y : Bool) → g.yes ≡ y → SameSubject t g.test → Tells y (number_of t) (number_of g.test)
+    old : (g : Fact) → Among g facts → (y : Bool) → g.yes ≡ y → SameSubject t g.test → Says y (number_of t) (number_of g.test)
     old g p true e same = absurd ((before g p).1 e (turned t g.test same))
     old g p false f same = λ e. not_itself ranks g.test t (before g p).0 (sym (one_test t g.test same e))
 
@@ -145,16 +145,16 @@ quiet_live ranks sz s clear P facts (Asks t y n) few covers calm before quiet or
     )
 
 -- ---- facts that some store and packet meet
-tells_by : (x n o : ℕ) (y : Bool) → (x == n) ≡ true → (x == o) ≡ y → Tells y (Num n) (Num o)
+tells_by : (x n o : ℕ) (y : Bool) → (x == n) ≡ true → (x == o) ≡ y → Says y (Num n) (Num o)
 tells_by x n o true p q = ap Num (sym (eqb-true x n p) ∙ eqb-true x o q)
 tells_by x n o false p q = λ e. (let h : n ≡ o = cc in eqb-false x o q (eqb-true x n p ∙ h))
 
 -- a test that passes tells its own answer
-tells_itself : (t u : Test) (y : Bool) (m : Arrays) (k : List ℕ) → t ≡ u → passes t m k ≡ true → passes u m k ≡ y → number_of t ≡ number_of u → Tells y (number_of t) (number_of u)
+tells_itself : (t u : Test) (y : Bool) (m : Arrays) (k : List ℕ) → t ≡ u → passes t m k ≡ true → passes u m k ≡ y → number_of t ≡ number_of u → Says y (number_of t) (number_of u)
 tells_itself t u true m k e p q h = h
 tells_itself t u false m k e p q h = absurd (let r : passes u m k ≡ true = ap (λ (t : Test). passes t m k) (sym e) ∙ p in cc)
 
-agree_on : (s : Survey) → IsClear s → (t u : Test) (y : Bool) (m : Arrays) (k : List ℕ) → IsFine s t → IsFine s u → passes t m k ≡ true → passes u m k ≡ y → SameSubject t u → Tells y (number_of t) (number_of u)
+agree_on : (s : Survey) → IsClear s → (t u : Test) (y : Bool) (m : Arrays) (k : List ℕ) → IsFine s t → IsFine s u → passes t m k ≡ true → passes u m k ≡ y → SameSubject t u → Says y (number_of t) (number_of u)
 agree_on s clear (Value c n) (Value d o) y m k ft fu p q e = tells_by (slice_index k c) n o y p (rw e q)
 agree_on s clear (Value c n) (Same l r x) y m k ft fu p q e = absurd e
 agree_on s clear (Value c n) (State v ix x) y m k ft fu p q e = absurd e
@@ -166,7 +166,7 @@ agree_on s clear (State v ix t) (State w iy u) y m k ft fu p q e = elim (both_as
   | inr n ↦ numbers t u n.0 n.1 p q
 ]
   where
-    numbers : (t u : Term) → IsNumber t → IsNumber u → passes (State v ix t) m k ≡ true → passes (State w iy u) m k ≡ y → Tells y t u
+    numbers : (t u : Term) → IsNumber t → IsNumber u → passes (State v ix t) m k ≡ true → passes (State w iy u) m k ≡ y → Says y t u
     numbers (Num n) (Num o) i j p q = tells_by (m (place_at v ix k)) n o y p (rw (e.0, e.1) q)
     numbers (Num n) (Plus c x) i j p q = absurd j
     numbers (Plus c x) u i j p q = absurd i

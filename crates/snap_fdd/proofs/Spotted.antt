@@ -13,7 +13,8 @@ use Rattle.snap_fdd.specs.declared.survey.Seen.{Seen}
 use Rattle.snap_fdd.specs.declared.survey.Seen.TheVariants.{Few, Many}
 use Rattle.snap_fdd.specs.declared.survey.Survey.{Survey}
 use Rattle.snap_fdd.specs.Quiet.{IndexIsFine, SeenClear, IsClear}
-use Rattle.snap_fdd.specs.Spots.{IsNumber, AskedFor, AtomsApart, IndicesApart, SpotsApart, IsAt}
+use Rattle.snap_core.specs.Terms.{IsNumber}
+use Rattle.snap_fdd.specs.Spots.{AskedFor, AtomsApart, IndicesApart, SpotsApart, IsAt}
 
 -- one place more, apart from all
 pub apart_push : (values : ℕ) (spots : List Spot) (x : Spot) → SpotsApart values spots → All (λ (b : Spot). IndicesApart values b.index x.index) spots → SpotsApart values (spots ++ x ∷ [])

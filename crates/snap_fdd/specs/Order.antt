@@ -6,7 +6,8 @@ use Rattle.std.specs.declared.cmp.Ordering.{Ordering}
 use Rattle.std.specs.declared.cmp.Ordering.TheVariants.{Less, Greater}
 use Rattle.snap_core.specs.declared.policy.Test.{Test}
 use Rattle.snap_core.specs.declared.policy.Test.TheVariants.{Value, Equal, State}
-use Rattle.snap_arena.specs.Codes.{index_code, term_code}
+use Rattle.snap_core.specs.Terms.{term_code}
+use Rattle.snap_arena.specs.Codes.{index_code}
 use Rattle.snap_fdd.specs.Diagrams.{Diagram, Only, Asks}
 
 -- kind, then for a state test its variable's rank, then the parts

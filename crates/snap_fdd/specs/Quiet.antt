@@ -19,7 +19,8 @@ use Rattle.snap_fdd.specs.declared.leaf.Leaf.{Leaf}
 use Rattle.snap_fdd.specs.Diagrams.{Diagram, Only, Asks}
 use Rattle.snap_fdd.specs.Order.{test_cmp}
 use Rattle.snap_fdd.specs.Reached.{AreNoted}
-use Rattle.snap_fdd.specs.Spots.{SpotsApart, IsAt, IsNumber}
+use Rattle.snap_core.specs.Terms.{IsNumber}
+use Rattle.snap_fdd.specs.Spots.{SpotsApart, IsAt}
 
 -- no two places of an array turn out to be one
 abbrev pub SeenClear : ℕ → Seen → Type 0

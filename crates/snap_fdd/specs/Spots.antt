@@ -4,15 +4,11 @@ use Rattle.std.specs.List.{All}
 use Rattle.snap_core.specs.declared.policy.Atom.{Atom}
 use Rattle.snap_core.specs.declared.policy.Atom.TheVariants.{Num as Number, Comp}
 use Rattle.snap_core.specs.declared.policy.Term.{Term}
-use Rattle.snap_core.specs.declared.policy.Term.TheVariants.{Num, Plus}
 use Rattle.snap_core.specs.Arrays.{has}
+use Rattle.snap_core.specs.Terms.{IsNumber}
 use Rattle.snap_fdd.specs.declared.spots.Asked.{Asked}
 use Rattle.snap_fdd.specs.declared.spots.Asked.TheVariants.{Numbers, Only}
 use Rattle.snap_fdd.specs.declared.spots.Spot.{Spot}
-
-abbrev pub IsNumber : Term → Type 0
-IsNumber (Num n) = Unit {0}
-IsNumber (Plus c p) = ⊥
 
 abbrev pub AskedFor : Asked → Term → Type 0
 AskedFor Numbers t = IsNumber t

@@ -3,7 +3,8 @@
 ghost use Rattle.std.specs.Prelude.{◌≡◌, ◌<◌, ◌++◌, ℕ, List, length};
 ghost use Rattle.std.specs.Ordering.{nat_cmp, ordering_then};
 ghost use Rattle.std.specs.Cmp.Lexicographic.{slice_cmp};
-ghost use Rattle.snap_arena.specs.Codes.{atom_code, index_code, term_code};
+ghost use Rattle.snap_core.specs.Terms.{term_code};
+ghost use Rattle.snap_arena.specs.Codes.{atom_code, index_code};
 ghost use Rattle.snap_core.specs.declared.policy.Test.TheVariants.{Value, Equal, State};
 ghost use Rattle.snap_fdd.specs.Order.{test_cmp, IsRanked};
 

@@ -2,7 +2,7 @@
 
 ghost use Rattle.std.specs.Prelude.{◌≡◌, ◌↔◌, ◌<◌, ◌≤◌, All, IfOk, IsTrue, length, slice_get};
 ghost use Rattle.snap_fdd.specs.Quiet.{AtomIsFree, IndexIsFine, IsClear, IsFine, SeenClear};
-ghost use Rattle.snap_fdd.specs.Spots.{IsNumber};
+ghost use Rattle.snap_core.specs.Terms.{IsNumber};
 
 use crate::leaf::Leaf;
 use crate::reach::Reached;

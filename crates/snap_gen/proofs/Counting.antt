@@ -12,20 +12,12 @@ use Rattle.snap_fdd.specs.declared.leaf.Leaf.{Leaf}
 use Rattle.snap_gen.specs.Marked.{Marked, Marks, with_ways}
 use Rattle.snap_gen.specs.Shown.{Leads, here, yes_way, no_way, IsNumbering}
 use Rattle.snap_gen.proofs.Switching.{in_pushed}
+use Rattle.snap_arena.proofs.Numbered.{slice_get-append, slice_get-append_last}
 
 pub leads_low : (ns : List (Node Leaf)) (root : ℕ) → IsArena ns → {d : ℕ} → Leads ns root d → d ≤ root
 leads_low ns root arena here = omega arith
 leads_low ns root arena (yes_way {d = d} {y = y} {z = z} {t = t} chain is) = let l = leads_low ns root arena chain in let w = (arena.lower d (node.Ask t y z) is).0 in omega (arith, l, w)
 leads_low ns root arena (no_way {d = d} {y = y} {z = z} {t = t} chain is) = let l = leads_low ns root arena chain in let w = (arena.lower d (node.Ask t y z) is).1 in omega (arith, l, w)
-
-kept_at : {A : Type 0} (xs ys : List A) (i : ℕ) (x : A) → slice_get xs i ≡ Some x → slice_get (xs ++ ys) i ≡ Some x
-kept_at [] ys i x e = absurd (none-some x e)
-kept_at (y ∷ xs) ys zero x e = e
-kept_at (y ∷ xs) ys (suc i) x e = kept_at xs ys i x e
-
-pushed_at : {A : Type 0} (xs : List A) (x : A) → slice_get (xs ++ x ∷ []) (length xs) ≡ Some x
-pushed_at [] x = refl
-pushed_at (y ∷ xs) x = pushed_at xs x
 
 module _ (ns : List (Node Leaf)) (root : ℕ) (arena : IsArena ns) (id : ℕ) (ids numbers : List ℕ) (reached : List Bool) (m : Marks ns root (suc id) ids numbers reached) where
   pub skip : slice_index_or reached id false ≡ false → Marks ns root id ids numbers reached
@@ -70,10 +62,10 @@ module _ (ns : List (Node Leaf)) (root : ℕ) (arena : IsArena ns) (id : ℕ) (i
       seen_at : (d : ℕ) → Marked reached d → id ≤ d → (b : Bool) → nat_eq d id ≡ b → slice_get (ids ++ id ∷ []) (slice_index (slice_set numbers id (length ids)) d) ≡ Some d
       seen_at d marked l true e =
           let same = eqb-true d id e in
-          subst (λ x. slice_get (ids ++ id ∷ []) (slice_index (slice_set numbers id (length ids)) x) ≡ Some x) (sym same) (ap (slice_get (ids ++ id ∷ [])) here_is ∙ pushed_at ids id)
+          subst (λ x. slice_get (ids ++ id ∷ []) (slice_index (slice_set numbers id (length ids)) x) ≡ Some x) (sym same) (ap (slice_get (ids ++ id ∷ [])) here_is ∙ slice_get-append_last ids id)
       seen_at d marked l false e =
           let ne = eqb-false d id e in
-          ap (slice_get (ids ++ id ∷ [])) (there_is d ne) ∙ kept_at ids (id ∷ []) (slice_index numbers d) d (m.seen d marked (omega (arith, l, ne)))
+          ap (slice_get (ids ++ id ∷ [])) (there_is d ne) ∙ slice_get-append ids (id ∷ []) (slice_index numbers d) d (m.seen d marked (omega (arith, l, ne)))
 
       owned : (i d : ℕ) → (slice_get ids i ≡ Some d) ⊎ ((i ≡ length ids) × (id ≡ d)) → (slice_index (slice_set numbers id (length ids)) d ≡ i) × (id ≤ d) × (d < length ns) × Marked after d
       owned i d (inl e) = let o = m.own i d e in let l = o.1 in (there_is d (λ s. (omega (arith, s, l))) ∙ o.0, omega (arith, l), o.2, more d o.3)
@@ -93,7 +85,7 @@ module _ (ns : List (Node Leaf)) (root : ℕ) (arena : IsArena ns) (id : ℕ) (i
       at_first l true e =
           let same = eqb-true id root e in
           ap (λ (xs : List ℕ). slice_get (xs ++ id ∷ []) 0) (m.none (omega (arith, same))) ∙ ap Some same
-      at_first l false e = let ne = eqb-false id root e in kept_at ids (id ∷ []) 0 root (m.first (omega (arith, l, ne)))
+      at_first l false e = let ne = eqb-false id root e in slice_get-append ids (id ∷ []) 0 root (m.first (omega (arith, l, ne)))
 
   -- the marks of the ways of the node
   push_node : id < length ns → Marked reached id → (n : Node Leaf) → slice_get ns id ≡ Some n → Marks ns root id (ids ++ id ∷ []) (slice_set numbers id (length ids)) (with_ways n reached)

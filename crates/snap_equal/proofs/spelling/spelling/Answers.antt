@@ -7,7 +7,7 @@ use Rattle.snap_core.specs.declared.policy.Term.{Term}
 use Rattle.snap_core.specs.Arrays.{value_of}
 use Rattle.snap_core.specs.Fits.{AtomFits}
 use Rattle.snap_core.specs.Tests.{after_out, term_value}
-use Rattle.snap_arena.specs.Codes.{term_code}
+use Rattle.snap_core.specs.Terms.{term_code}
 use Rattle.snap_chain.specs.Early.{atom_from}
 use Rattle.snap_equal.specs.Made.{packet_of}
 use Rattle.snap_equal.proofs.Making.{after_out-at}
