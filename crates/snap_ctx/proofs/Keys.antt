@@ -6,7 +6,7 @@ use Rattle.snap_core.specs.Arrays.{has}
 use Rattle.snap_core.specs.Terms.{term_code}
 use Rattle.snap_ctx.specs.Known.{Normal, Differ, Held, spot_key, normal_key, normals_key, classes_key}
 
-same_term : (a b : Term) (r s : List ℕ) → term_code a ++ r ≡ term_code b ++ s → (a ≡ b) × (r ≡ s)
+pub same_term : (a b : Term) (r s : List ℕ) → term_code a ++ r ≡ term_code b ++ s → (a ≡ b) × (r ≡ s)
 same_term (Num n) (Num o) r s e = ((let h : n ≡ o = grind arith in ap Num h), grind arith)
 same_term (Num n) (Plus c p) r s e = absurd (grind arith)
 same_term (Plus c p) (Num o) r s e = absurd (grind arith)

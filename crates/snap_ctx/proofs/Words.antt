@@ -12,6 +12,7 @@ use Rattle.snap_core.specs.declared.policy.Term.{Term}
 use Rattle.snap_ctx.specs.declared.fact.Fact.{Fact}
 use Rattle.snap_ctx.specs.Known.{Normal, Differ, Held, all_known, known, normal_key, normals_key, some_key, with_some, AreSame, HasWords, IsWord}
 use Rattle.snap_ctx.proofs.Keys.{same_word}
+use Rattle.snap_core.proofs.Members.{Contains-here}
 
 with_some-append : (o : Option Normal) (ns os : List Normal) → with_some o (ns ++ os) ≡ with_some o ns ++ os
 with_some-append None ns os = refl
@@ -30,9 +31,6 @@ only_one : (n m : Normal) → Contains (n ∷ []) m → n ≡ m
 only_one n m (zero, l, e) = e
 only_one n m (suc k, l, e) = absurd (omega (arith, l))
 
-the_one : {X : Type 0} (x : X) → Contains (x ∷ []) x
-the_one x = (0, omega arith, refl)
-
 -- ---- words of facts
 pub no_words : HasWords [] []
 no_words = record { each = λ n h. absurd (omega (arith, h.1)); only = λ w h. absurd (omega (arith, h.1)) }
@@ -42,11 +40,11 @@ word_more : (ws : List (Vec ℕ)) (ns : List Normal) (w : Vec ℕ) (n : Normal) 
 word_more ws ns w n h e = record {
   each = λ m c. elim (Contains-append_cases ns (n ∷ []) m c) [
     | inl o ↦ (let k = h.each m o in (k.0, Contains-append_left ws (w ∷ []) k.0 k.1, k.2))
-    | inr o ↦ (w, Contains-append_right ws (w ∷ []) w (the_one w), e ∙ ap normal_key (only_one n m o))
+    | inr o ↦ (w, Contains-append_right ws (w ∷ []) w (Contains-here w []), e ∙ ap normal_key (only_one n m o))
   ];
   only = λ u c. elim (Contains-append_cases ws (w ∷ []) u c) [
     | inl o ↦ (let k = h.only u o in (k.0, Contains-append_left ns (n ∷ []) k.0 k.1, k.2))
-    | inr o ↦ (n, Contains-append_right ns (n ∷ []) n (the_one n), subst (λ (v : Vec ℕ). v.items ≡ normal_key n) (one_word w u o) e)
+    | inr o ↦ (n, Contains-append_right ns (n ∷ []) n (Contains-here n []), subst (λ (v : Vec ℕ). v.items ≡ normal_key n) (one_word w u o) e)
   ];
 }
   where
@@ -105,7 +103,7 @@ pushed_more ws i old key new e l word is h = record {
   ];
   only = λ k d m. earlier_or_last (λ (k : ℕ). (n : Normal) × Contains (h.told ++ word.0 ∷ []) n × ((get_or ws k d).items ≡ normal_key n)) i k m
       (λ b. let o = h.only k d b in (o.0, Contains-append_left h.told (word.0 ∷ []) o.0 o.1, o.2))
-      (word.0, Contains-append_right h.told (word.0 ∷ []) word.0 (the_one word.0), ap (λ (w : Vec ℕ). w.items) (get_or_default ws i d e l) ∙ word.1);
+      (word.0, Contains-append_right h.told (word.0 ∷ []) word.0 (Contains-here word.0 []), ap (λ (w : Vec ℕ). w.items) (get_or_default ws i d e l) ∙ word.1);
 }
 
 pub pushed_skip : (ws : List (Vec ℕ)) (i : ℕ) (old key : List ℕ) (e f : Vec ℕ) → i < length ws → 1 ≤ i → (get_or ws i e).items ≡ (get_or ws (i - 1) f).items → IsPushed ws i old key → IsPushed ws (i + 1) old key

@@ -5,7 +5,8 @@ use Rattle.std.proofs.lemmas.Bool.{eqb-true, eqb-false, eq-eqb, ne_eqb}
 use Rattle.std.proofs.lemmas.List.{get_or-set_same, get_or-set_other}
 use Rattle.std.proofs.Math.ListN.{get_or-eq_default}
 use Rattle.snap_core.specs.Arrays.{has}
-use Rattle.snap_dep.proofs.Sets.{has-or, has-zero, has-pow_same, has-pow_other}
+use Rattle.snap_core.proofs.Framed.{has-zero, has-pow_same}
+use Rattle.snap_dep.proofs.Sets.{has-or, has-pow_other}
 use Rattle.snap_demand.specs.Marks.{has_switch}
 
 zeros : (i : ℕ) → slice_index (0 ∷ 0 ∷ 0 ∷ 0 ∷ []) i ≡ 0

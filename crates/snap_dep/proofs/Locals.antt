@@ -1,7 +1,7 @@
 -- Evaluation from arrays that agree on a set of variables closed under dependencies.
 use Rattle.std.proofs.Common.{◌≡◌, ◌||◌, ℕ, Bool, true, false, cond, ◌⊎◌, inl, inr, List, [], ◌∷◌, Option, Some, None, map, refl, sym, ap, subst, ◌∙◌, bit_or}
 use Rattle.std.specs.Prelude.{option_and_then, option_map}
-use Rattle.std.proofs.lemmas.Bool.{cond-false, or_from}
+use Rattle.std.proofs.lemmas.Bool.{cond-false}
 use Rattle.snap_core.specs.declared.place.Place.{Place}
 use Rattle.snap_core.specs.declared.policy.Pol.{Pol}
 use Rattle.snap_core.specs.declared.policy.Pol.TheVariants.{Filter, Set, Change, Par', Seq', If', Atomic'}
@@ -13,14 +13,11 @@ use Rattle.snap_dep.specs.Dependencies.{Reads, Writes}
 use Rattle.snap_dep.specs.Locality.{AgreeOn, IsClosed}
 use Rattle.snap_dep.proofs.Chains.{dec_writes}
 use Rattle.snap_dep.proofs.Choices.{dec_either}
-use Rattle.snap_dep.proofs.Sets.{has-or, has-zero, has-pow_other}
+use Rattle.snap_core.proofs.Framed.{has-zero, has-or_neither}
+use Rattle.snap_dep.proofs.Sets.{has-or, has-pow_other}
 use Rattle.snap_dep.proofs.Agreement.{SameOn, Alike, Each, same_truth, update_agrees, reads_decide}
 
--- ---- logs of one variable
-has-or_neither : (a b v : ℕ) → has a v ≡ false → has b v ≡ false → has (bit_or a b) v ≡ false
-has-or_neither a b v p q = has-or a b v ∙ or_from (has a v) (has b v) p q
-
--- both sets or neither
+-- ---- logs of one variable: both sets or neither
 has-or_same : (a b c d v : ℕ) → has a v ≡ has c v → has b v ≡ has d v → has (bit_or a b) v ≡ has (bit_or c d) v
 has-or_same a b c d v p q = has-or a b v ∙ (λ i. p i || q i) ∙ sym (has-or c d v)
 

@@ -5,7 +5,7 @@ use Rattle.std.specs.Int.{bit_at, bit_not}
 use Rattle.std.proofs.lemmas.Nat.{and_le_l}
 use mir.Syntax.{w64}
 use Rattle.std.proofs.lemmas.Bool.{eqb-false, ltb-true, ltb-false, or_cases, or_left, or_right, and_parts, and_from, false≢true}
-use Rattle.std.proofs.lemmas.Nat.Bits.{bit_at_or, bit_at_and, bit_at-lt, bit_at-pow_same, bit_at-pow_other, bit_at-zero, bit_at_above, bit_at_clear_same, bit_at_clear_other, same_from_bits}
+use Rattle.std.proofs.lemmas.Nat.Bits.{bit_at_or, bit_at_and, bit_at-lt, bit_at-pow_other, bit_at-zero, bit_at_above, bit_at_clear_same, bit_at_clear_other, same_from_bits}
 use Rattle.snap_core.specs.declared.policy.Pred.{Pred}
 use Rattle.snap_core.specs.declared.policy.Pred.TheVariants.{Id, Drop, Field, State, Not', And', Or'}
 use Rattle.snap_core.specs.Fits.{VarsBelow}
@@ -13,6 +13,7 @@ use Rattle.snap_core.specs.Meaning.{vars_of}
 use Rattle.snap_core.specs.Arrays.{has}
 use Rattle.snap_dep.specs.Dependencies.{Tests}
 use Rattle.snap_dep.specs.Relations.{IsSetOf}
+use Rattle.snap_core.proofs.Framed.{has-zero, has-pow_same}
 
 or_bits : (x y : ℕ) → x < 2 → y < 2 → nat_eq (max x y) 1 ≡ (nat_eq x 1 || nat_eq y 1)
 or_bits zero zero p q = refl
@@ -37,12 +38,6 @@ has-or a b v = ap (λ n. nat_eq n 1) (bit_at_or a b v) ∙ or_bits (bit_at a v) 
 
 pub has-and : (a b v : ℕ) → has (bit_and a b) v ≡ (has a v && has b v)
 has-and a b v = ap (λ n. nat_eq n 1) (bit_at_and a b v) ∙ and_bits (bit_at a v) (bit_at b v) (bit_at-lt a v) (bit_at-lt b v)
-
-pub has-zero : (v : ℕ) → has 0 v ≡ false
-has-zero v = ap (λ n. nat_eq n 1) (bit_at-zero v)
-
-pub has-pow_same : (v : ℕ) → has (2 ^ v) v ≡ true
-has-pow_same v = ap (λ n. nat_eq n 1) (bit_at-pow_same v)
 
 pub has-pow_other : (s v : ℕ) → s ≢ v → has (2 ^ s) v ≡ false
 has-pow_other s v ne = ap (λ n. nat_eq n 1) (bit_at-pow_other s v (λ e. ne (sym e)))

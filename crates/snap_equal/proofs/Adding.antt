@@ -10,7 +10,7 @@ use Rattle.snap_core.specs.declared.policy.Op.TheVariants.{Put, Add}
 use Rattle.snap_core.specs.declared.policy.Update.{Update}
 use Rattle.snap_core.specs.Arrays.{Arrays, same_place, place_at, number_after, update, updates, has}
 use Rattle.snap_core.proofs.Unwritten.{neither}
-use Rattle.snap_dep.proofs.Sets.{has-pow_same}
+use Rattle.snap_core.proofs.Framed.{has-pow_same}
 use Rattle.snap_ctx.specs.Classes.{wrap}
 use Rattle.snap_core.proofs.Places.{same_place-exact}
 use Rattle.snap_ctx.proofs.Wrap.{wrap_assoc, wrap_zero}

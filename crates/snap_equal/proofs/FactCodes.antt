@@ -1,7 +1,5 @@
 -- Different facts have different codes.
 use Rattle.std.proofs.Common.{◌≡◌, ℕ, Bool, true, false, cond, List, [], ◌∷◌, ◌++◌, refl, arith, append_assoc}
-use Rattle.snap_core.specs.declared.policy.Term.{Term}
-use Rattle.snap_core.specs.declared.policy.Term.TheVariants.{Num, Plus}
 use Rattle.snap_core.specs.declared.policy.Test.{Test}
 use Rattle.snap_core.specs.declared.policy.Test.TheVariants.{Value, Equal, State}
 use Rattle.snap_core.specs.Terms.{term_code}
@@ -9,12 +7,7 @@ use Rattle.snap_arena.specs.Codes.{test_code}
 use Rattle.snap_arena.proofs.Injective.{same_index}
 use Rattle.snap_ctx.specs.declared.fact.Fact.{Fact}
 use Rattle.snap_equal.specs.Weaker.{fact_code, facts_code}
-
-term_then : (a b : Term) (r s : List ℕ) → term_code a ++ r ≡ term_code b ++ s → (a ≡ b) × (r ≡ s)
-term_then (Num n) (Num o) r s e = (grind arith, grind arith)
-term_then (Num n) (Plus c p) r s e = absurd (grind arith)
-term_then (Plus c p) (Num o) r s e = absurd (grind arith)
-term_then (Plus c p) (Plus d q) r s e = (grind arith, grind arith)
+use Rattle.snap_ctx.proofs.Keys.{same_term}
 
 test_then : (a b : Test) (r s : List ℕ) → test_code a ++ r ≡ test_code b ++ s → (a ≡ b) × (r ≡ s)
 test_then (Value c n) (Value d o) r s e = (grind arith, grind arith)
@@ -28,7 +21,7 @@ test_then (State v ix t) (Equal l q p) r s e = absurd (grind arith)
 test_then (State v ix t) (State w iy u) r s e =
     let hv : v ≡ w = grind arith in
     let i = same_index ix iy (term_code t ++ r) (term_code u ++ s) (grind (arith, append_assoc)) in
-    let ht = term_then t u r s i.1 in
+    let ht = same_term t u r s i.1 in
     (rw (hv, i.0, ht.0) refl, ht.1)
 
 code_then : (a b : Bool) (t u : Test) (r s : List ℕ) → cond a 1 0 ∷ (test_code t ++ r) ≡ cond b 1 0 ∷ (test_code u ++ s) → (a ≡ b) × (t ≡ u) × (r ≡ s)

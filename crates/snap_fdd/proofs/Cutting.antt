@@ -50,7 +50,7 @@ someone v w t b i =
     let r = Meets-parts v.facts t b (number_in i.met.entries) i.met.packet i.met.meets in
     record { entries = i.met.entries; packet = i.met.packet; store = i.met.is_store; is = (record { packet = i.met.is_packet; facts = r.0 }, r.1) }
 
-live_weaker : (P Q : Arrays → List ℕ → Type 0) → ((m : Arrays) (k : List ℕ) → P m k → Q m k) → (d : Diagram) → IsLive P d → IsLive Q d
+pub live_weaker : (P Q : Arrays → List ℕ → Type 0) → ((m : Arrays) (k : List ℕ) → P m k → Q m k) → (d : Diagram) → IsLive P d → IsLive Q d
 live_weaker P Q f (Only l) h = tt
 live_weaker P Q f (Asks t y n) h = (
   record { entries = h.0.entries; packet = h.0.packet; store = h.0.store; is = (f _ _ h.0.is.0, h.0.is.1) },
@@ -127,7 +127,3 @@ ask_shape t old new y n (Ok d) g hy hn both two low =
       | false ↦ λ e. (let differ : y ≢ n = eqb-false y n e in let p = two differ in let l = low differ in inl (new_ask old new d t y n g hy hn l.0 l.1 p.at))
     ] in
     by (y == n) refl
-
-pub if_ok_both : {X E : Type 0} (r : Result X E) (P Q R : X → Type 0) → ((x : X) → P x → Q x → R x) → IfOk r P → IfOk r Q → IfOk r R
-if_ok_both (Ok x) P Q R f p q = f x p q
-if_ok_both (Err e) P Q R f p q = tt

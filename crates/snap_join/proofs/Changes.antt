@@ -2,13 +2,14 @@
 use Rattle.std.proofs.Common.{◌≡◌, ◌≢◌, ℕ, Bool, true, false, cond, not, ◌||◌, List, [], ◌∷◌, ◌++◌, refl, sym, ap, ◌∙◌, arith, bit_or, bit_and, Some, None}
 use Rattle.std.specs.Prelude.{nat_eq, ◌==◌}
 use Rattle.std.specs.Int.{bit_at}
-use Rattle.std.proofs.lemmas.Bool.{eqb-true, ne_eqb, and_left, cond-true, cond-false, and_parts, false≢true}
+use Rattle.std.proofs.lemmas.Bool.{eqb-true, ne_eqb, and_left, cond-true, cond-false, false≢true}
 use Rattle.std.proofs.lemmas.Nat.Bits.{bit_at_or, bit_at_and, bit_at-lt, bit_at-zero}
 use Rattle.snap_core.specs.declared.place.Place.{Place}
 use Rattle.snap_core.specs.declared.policy.Update.{Update}
-use Rattle.snap_core.specs.Arrays.{Arrays, same_place, place_at, number_after, update, updates, taken, has, meets}
+use Rattle.snap_core.specs.Arrays.{Arrays, same_place, place_at, update, updates, taken, has, meets}
 use Rattle.snap_core.specs.Packets.{union}
 use Rattle.snap_core.proofs.Unwritten.{without}
+use Rattle.snap_core.proofs.Updates.{agree-updates}
 use Rattle.snap_fdd.specs.declared.leaf.Leaf.{Leaf}
 use Rattle.snap_fdd.specs.declared.leaf.Leaf.TheVariants.{Race, Go as Goes}
 use Rattle.snap_core.specs.Tests.{results}
@@ -19,24 +20,7 @@ use Rattle.snap_join.specs.United.{united}
 use Rattle.snap_join.proofs.Results.{all_packets}
 use Rattle.snap_join.proofs.United.{results-united}
 
--- the arrays agree at a variable
-abbrev Agree : ℕ → Arrays → Arrays → Type 0
-Agree v m n = (q : Place) → q.var ≡ v → m q ≡ n q
-
 module _ (k : List ℕ) where
-  one : (u : Update) (v : ℕ) (m n : Arrays) → Agree v m n → Agree v (update m u k) (update n u k)
-  one u v m n h q e = by_place (same_place (place_at u.var u.index k) q) refl
-    where
-      by_place : (t : Bool) → same_place (place_at u.var u.index k) q ≡ t → update m u k q ≡ update n u k q
-      by_place true s =
-          let var : u.var ≡ v = eqb-true u.var q.var (and_parts _ _ s).0 ∙ e in
-          cond-true _ _ _ s ∙ ap (λ x. number_after u.op x k) (h (place_at u.var u.index k) var) ∙ sym (cond-true _ _ _ s)
-      by_place false s = cond-false _ _ _ s ∙ h q e ∙ sym (cond-false _ _ _ s)
-
-  all : (us : List Update) (v : ℕ) (m n : Arrays) → Agree v m n → Agree v (updates m us k) (updates n us k)
-  all [] v m n h = h
-  all (u ∷ us) v m n h = all us v (update m u k) (update n u k) (one u v m n h)
-
   elsewhere : (u : Update) (m : Arrays) (q : Place) → u.var ≢ q.var → update m u k q ≡ m q
   elsewhere u m q differ = cond-false (same_place (place_at u.var u.index k) q) _ (m q) (and_left (nat_eq u.var q.var) _ (ne_eqb u.var q.var differ))
 
@@ -58,7 +42,7 @@ module _ (k : List ℕ) where
       by : (t : Bool) → has w u.var ≡ t → updates (update m u k) (only w us) k q ≡ updates (update m u k) us k q → updates m (only w us) k q ≡ updates m us k q
           → updates m (cond t (u ∷ only w us) (only w us)) k q ≡ updates (update m u k) us k q
       by true e i j = i
-      by false e i j = j ∙ all us q.var m (update m u k) (λ p var. sym (elsewhere u m p (λ s. differs w q.var u.var h e (sym (s ∙ var))))) q refl
+      by false e i j = j ∙ agree-updates k us q.var m (update m u k) (λ p var. sym (elsewhere u m p (λ s. differs w q.var u.var h e (sym (s ∙ var))))) q refl
 
   in_order : (us vs : List Update) (m : Arrays) → updates m (us ++ vs) k ≡ updates (updates m us k) vs k
   in_order [] vs m = refl
@@ -75,7 +59,7 @@ module _ (k : List ℕ) where
       by : (t : Bool) → has x p.var ≡ t → updates (updates m (only w us) k) (only x vs) k p ≡ merged m (updates m us k) w (updates m vs k) x p
       by true e =
           keeps_in x vs (updates m (only w us) k) p e
-          ∙ all vs p.var (updates m (only w us) k) m (λ q var. keeps_out w us m q (ap (has w) var ∙ apart p.var e)) p refl
+          ∙ agree-updates k vs p.var (updates m (only w us) k) m (λ q var. keeps_out w us m q (ap (has w) var ∙ apart p.var e)) p refl
           ∙ sym (cond-true _ _ _ e)
       by false e = keeps_out x vs (updates m (only w us) k) p e ∙ first (has w p.var) refl ∙ sym (cond-false _ _ _ e)
 

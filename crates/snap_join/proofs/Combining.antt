@@ -1,5 +1,5 @@
 -- Two diagrams combined.
-use Rattle.std.proofs.Common.{◌≡◌, inl, inr, ℕ, ◌<◌, ◌^◌, Bool, true, false, cond, List, [], ◌∷◌, ◌++◌, refl, sym, ap, subst, ◌∙◌, bit_or, arith, pow_pos}
+use Rattle.std.proofs.Common.{◌≡◌, inl, inr, ℕ, Bool, true, false, cond, List, [], ◌∷◌, ◌++◌, refl, sym, ap, subst, ◌∙◌, bit_or, pow_pos}
 use Rattle.std.specs.Prelude.{All}
 use Rattle.std.proofs.lemmas.List.Elements.{All-append, All-nil, All-filter}
 use Rattle.std.proofs.lemmas.Nat.{or_lt}
@@ -53,19 +53,16 @@ either_in : (P : List (ℕ × Atom) → Type 0) (xs ys : List (List (ℕ × Atom
 either_in P [] ys a b = b
 either_in P (x ∷ xs) ys a b = a
 
-pow_above : (n : ℕ) → 0 < 2 ^ n
-pow_above n = omega (arith, pow_pos n)
-
 pub combined_in : (s : Sizes) (how : How) (x y : Leaf) → LeafIn s x → LeafIn s y → LeafIn s (combined how x y)
 combined_in s Beside Race y hx hy = tt
 combined_in s Beside (Goes x) Race hx hy = tt
 combined_in s Beside (Goes x) (Goes y) hx hy = beside_in s x y hx hy
 combined_in s AndBoth Race y hx hy = tt
 combined_in s AndBoth (Goes x) Race hx hy = tt
-combined_in s AndBoth (Goes x) (Goes y) hx hy = (both_in (OutFits s.comps) x.outs y.outs hx.0 hy.0, All-nil (UpdateIn s), or_lt s.vars x.reads y.reads hx.2 hy.2, pow_above s.vars)
+combined_in s AndBoth (Goes x) (Goes y) hx hy = (both_in (OutFits s.comps) x.outs y.outs hx.0 hy.0, All-nil (UpdateIn s), or_lt s.vars x.reads y.reads hx.2 hy.2, pow_pos s.vars)
 combined_in s OrEither Race y hx hy = tt
 combined_in s OrEither (Goes x) Race hx hy = tt
-combined_in s OrEither (Goes x) (Goes y) hx hy = (either_in (OutFits s.comps) x.outs y.outs hx.0 hy.0, All-nil (UpdateIn s), or_lt s.vars x.reads y.reads hx.2 hy.2, pow_above s.vars)
+combined_in s OrEither (Goes x) (Goes y) hx hy = (either_in (OutFits s.comps) x.outs y.outs hx.0 hy.0, All-nil (UpdateIn s), or_lt s.vars x.reads y.reads hx.2 hy.2, pow_pos s.vars)
 combined_in s Logged Race y hx hy = tt
 combined_in s Logged (Goes x) Race hx hy = tt
 combined_in s Logged (Goes x) (Goes y) hx hy = (hy.0, hy.1, or_lt s.vars x.reads y.reads hx.2 hy.2, hy.3)

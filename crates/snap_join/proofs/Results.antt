@@ -1,29 +1,22 @@
 -- The packets of outs.
-use Rattle.std.proofs.Common.{◌≡◌, ℕ, Bool, true, false, ◌||◌, List, [], ◌∷◌, ◌++◌, refl, sym, ap, ◌∙◌, map}
+use Rattle.std.proofs.Common.{◌≡◌, ℕ, ◌||◌, List, [], ◌∷◌, ◌++◌, sym, ap, ◌∙◌, map}
 use Rattle.std.specs.List.{list_any}
 use Rattle.std.specs.Ordering.{eq_by_cmp}
 use Rattle.std.specs.FinMap.{contains_key}
 use Rattle.std.proofs.lemmas.List.{map-append}
+use Rattle.std.proofs.Math.Bool.{or-false}
 use Rattle.snap_core.specs.declared.policy.Atom.{Atom}
 use Rattle.snap_core.specs.Packets.{PacketSet, packet_cmp, no_packets, with_packet, with_packets, union}
 use Rattle.snap_core.specs.Tests.{after_out, results_from, results}
 use Rattle.snap_core.proofs.PacketSets.{same_packets, contains-with_packet, contains-no_packets, contains-listed, union-with_packets}
-
-swapped_out : (a b c : Bool) → ((a || b) || c) ≡ (b || (a || c))
-swapped_out true true c = refl
-swapped_out true false c = refl
-swapped_out false b c = refl
-
-or-none : (a : Bool) → a ≡ (a || false)
-or-none true = refl
-or-none false = refl
+use Rattle.snap_core.proofs.Truths.{or-or_swap}
 
 pub contains-results : (s : PacketSet) (os : List (List (ℕ × Atom))) (k q : List ℕ) → contains_key (results_from s os k) q ≡ (contains_key s q || list_any (eq_by_cmp packet_cmp q) (map (λ o. after_out o k) os))
-contains-results s [] k q = or-none (contains_key s q)
+contains-results s [] k q = sym (or-false (contains_key s q))
 contains-results s (o ∷ os) k q =
     contains-results (with_packet s (after_out o k)) os k q
     ∙ ap (λ b. b || list_any (eq_by_cmp packet_cmp q) (map (λ o. after_out o k) os)) (contains-with_packet s (after_out o k) q)
-    ∙ swapped_out (eq_by_cmp packet_cmp q (after_out o k)) (contains_key s q) (list_any (eq_by_cmp packet_cmp q) (map (λ o. after_out o k) os))
+    ∙ or-or_swap (eq_by_cmp packet_cmp q (after_out o k)) (contains_key s q) (list_any (eq_by_cmp packet_cmp q) (map (λ o. after_out o k) os))
 
 results-is : (os : List (List (ℕ × Atom))) (k : List ℕ) → results os k ≡ with_packets no_packets (map (λ o. after_out o k) os)
 results-is os k = same_packets _ _ (λ q.

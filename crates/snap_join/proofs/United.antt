@@ -10,6 +10,7 @@ use Rattle.std.specs.FinMap.{contains_key}
 use Rattle.std.proofs.lemmas.List.Elements.{All-nil, All-push, All-tail}
 use Rattle.std.proofs.lemmas.Map.Text.{is_eq-slice_cmp}
 use Rattle.std.proofs.lemmas.Slice.Eq.{bytes_eq-Decides}
+use Rattle.std.proofs.lemmas.Bool.{or_right}
 use Rattle.snap_core.specs.declared.policy.Atom.{Atom}
 use Rattle.snap_core.specs.Packets.{PacketSet, packet_cmp, no_packets, with_packet}
 use Rattle.snap_core.specs.Tests.{after_out, results_from, results}
@@ -20,10 +21,6 @@ use Rattle.snap_join.specs.United.{has_code, with_out, with_outs, united}
 use Rattle.snap_join.proofs.Results.{contains-results}
 
 module _ (k : List ℕ) where
-  or_more : (a b : Bool) → b ≡ true → (a || b) ≡ true
-  or_more true b e = refl
-  or_more false b e = e
-
   -- a packet is among those of outs one of which is spelled as its own
   gives : (o : List (ℕ × Atom)) (os : List (List (ℕ × Atom))) → has_code (out_code o) os ≡ true → list_any (eq_by_cmp packet_cmp (after_out o k)) (map (λ p. after_out p k) os) ≡ true
   gives o [] e = e
@@ -36,7 +33,7 @@ module _ (k : List ℕ) where
       by true t rest =
           let same : p ≡ o = (same_out p o [] [] (ap (λ c. c ++ []) ((bytes_eq-Decides (out_code p) (out_code o)).0 t))).0 in
           ap more (ap (λ q. eq_by_cmp packet_cmp (after_out o k) (after_out q k)) same ∙ ap is_eq (tied_itself nat_list_cmp_total (after_out o k)))
-      by false t rest = or_more _ _ (rest (sym (ap (λ b. b || has_code (out_code o) os) t) ∙ e))
+      by false t rest = or_right _ _ (rest (sym (ap (λ b. b || has_code (out_code o) os) t) ∙ e))
 
   with_more : (s : PacketSet) (os : List (List (ℕ × Atom))) (o : List (ℕ × Atom)) → results_from s (os ++ o ∷ []) k ≡ with_packet (results_from s os k) (after_out o k)
   with_more s [] o = refl
@@ -48,7 +45,7 @@ module _ (k : List ℕ) where
       at : (q : List ℕ) (t : Bool) → eq_by_cmp packet_cmp q (after_out o k) ≡ t → (t || contains_key (results os k) q) ≡ contains_key (results os k) q
       at q true t =
           let same : q ≡ after_out o k = (bytes_decides q (after_out o k)).0 (sym (is_eq-slice_cmp q (after_out o k)) ∙ t) in
-          sym (ap (contains_key (results os k)) same ∙ contains-results no_packets os k (after_out o k) ∙ or_more (contains_key no_packets (after_out o k)) _ (gives o os e))
+          sym (ap (contains_key (results os k)) same ∙ contains-results no_packets os k (after_out o k) ∙ or_right (contains_key no_packets (after_out o k)) _ (gives o os e))
       at q false t = refl
 
   results-with_out : (os : List (List (ℕ × Atom))) (o : List (ℕ × Atom)) → results (with_out os o) k ≡ with_packet (results os k) (after_out o k)

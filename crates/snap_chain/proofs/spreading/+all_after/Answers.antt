@@ -6,7 +6,7 @@ use Rattle.snap_fdd.specs.Diagrams.{diagram}
 use Rattle.snap_core.specs.declared.policy.Atom.{Atom}
 use Rattle.snap_core.specs.Tests.{OutFits}
 use Rattle.snap_fdd.specs.Picks.{sizes}
-use Rattle.snap_fdd.proofs.Cutting.{if_ok_both}
+use Rattle.snap_core.proofs.Results.{IfOk-both}
 use Rattle.snap_fdd.proofs.Shared.{kept, argument_kept}
 use Rattle.snap_chain.specs.Late.{IsLate}
 use Rattle.snap_chain.specs.Spread.{IsRun}
@@ -24,7 +24,7 @@ no_outs (o ∷ more) e = absurd (grind arith)
 
 pub returns-in-None-clause-run : goal.returns-in-None-clause-run
 returns-in-None-clause-run t c =
-    if_ok_both c.idle.result _ _ _ (λ r a is. run_none c.args.groups.now c.args.ctx.now c.args.outs.now c.args.ups.now (diagram c.args.nodes.now c.args.d) (diagram c.idle.new.nodes r) (no_outs c.args.outs.now c.in-None.ensures.cases) is a.keeps) c.idle.ensures.diagram c.idle.ensures.bare
+    IfOk-both c.idle.result _ _ _ (λ r a is. run_none c.args.groups.now c.args.ctx.now c.args.outs.now c.args.ups.now (diagram c.args.nodes.now c.args.d) (diagram c.idle.new.nodes r) (no_outs c.args.outs.now c.in-None.ensures.cases) is a.keeps) c.idle.ensures.diagram c.idle.ensures.bare
 
 pub join-requires-clause-b : goal.join-requires-clause-b
 join-requires-clause-b t c =
@@ -35,7 +35,7 @@ returns-in_ok-start-in-Some-clause-run t c =
     let ko = kept c.after_marked.new.nodes c.idle-in-Some.new.nodes c.in_ok-one-in-Some.one c.idle-in-Some.ensures.grew c.in_ok-one-in-Some.ensures.number in
     let late : IsLate c.args.groups.now c.args.ctx.now c.in-Some.out.now c.args.ups.now (diagram c.args.nodes.now c.args.d) (diagram c.idle-in-Some.new.nodes c.in_ok-one-in-Some.one) = rw ko c.in_ok-one-in-Some.ensures.late in
     let one = only_one c.args.outs.now c.in-Some.field-0-1.now c.in-Some.out.now c.in-Some.ensures.cases.0 (omega (arith, c.if-outs-le1.true)) in
-    if_ok_both c.join.result _ _ _ (λ r a w. run_one c.args.groups.now c.args.ctx.now c.in-Some.out.now c.args.outs.now c.args.ups.now (diagram c.args.nodes.now c.args.d) (diagram c.idle-in-Some.new.nodes c.in_ok-start-in-Some.start)
+    IfOk-both c.join.result _ _ _ (λ r a w. run_one c.args.groups.now c.args.ctx.now c.in-Some.out.now c.args.outs.now c.args.ups.now (diagram c.args.nodes.now c.args.d) (diagram c.idle-in-Some.new.nodes c.in_ok-start-in-Some.start)
     (diagram c.idle-in-Some.new.nodes c.in_ok-one-in-Some.one) (diagram c.join.new.nodes r) one c.in_ok-start-in-Some.ensures.bare late.late (λ m k met small. w m k met) a.keeps) c.join.ensures.diagram c.join.ensures.answer
 
 pub returns-then-logs_updates-clause-run : goal.returns-then-logs_updates-clause-run
@@ -70,5 +70,5 @@ returns-clause-run t c =
     let first : IsRun c.args.groups.now c.args.ctx.now c.split_at.result.0.now c.args.ups.now (diagram c.args.nodes.now c.args.d) (diagram c.all_after-2.new.nodes c.in_ok-first.first) = rw kf c.in_ok-first.ensures.run in
     let second : IsRun c.args.groups.now c.args.ctx.now c.split_at.result.1.now c.args.ups.now (diagram c.args.nodes.now c.args.d) (diagram c.all_after-2.new.nodes c.in_ok-second.second) = rw (sym kd) c.in_ok-second.ensures.run in
     let whole : c.args.outs.now ≡ c.split_at.result.0.now ++ c.split_at.result.1.now = sym ((λ i. c.split_at.ensures.front i ++ c.split_at.ensures.back i) ∙ take-append-drop _ c.args.outs.now) in
-    if_ok_both c.join-2.result _ _ _ (λ r a w. run_both c.args.groups.now c.args.ctx.now c.split_at.result.0.now c.split_at.result.1.now c.args.outs.now c.args.ups.now (diagram c.args.nodes.now c.args.d) (diagram c.all_after-2.new.nodes c.in_ok-first.first)
+    IfOk-both c.join-2.result _ _ _ (λ r a w. run_both c.args.groups.now c.args.ctx.now c.split_at.result.0.now c.split_at.result.1.now c.args.outs.now c.args.ups.now (diagram c.args.nodes.now c.args.d) (diagram c.all_after-2.new.nodes c.in_ok-first.first)
     (diagram c.all_after-2.new.nodes c.in_ok-second.second) (diagram c.join-2.new.nodes r) whole first second (λ m k met small. w m k met) a.keeps) c.join-2.ensures.diagram c.join-2.ensures.answer

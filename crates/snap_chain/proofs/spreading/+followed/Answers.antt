@@ -6,7 +6,7 @@ use Rattle.snap_fdd.specs.Diagrams.{diagram}
 use Rattle.snap_fdd.specs.Picks.{IsDiagram, IsArgument, sizes}
 use Rattle.snap_fdd.specs.Pruned.{IsPart}
 use Rattle.snap_fdd.proofs.Picking.{no_part}
-use Rattle.snap_fdd.proofs.Cutting.{if_ok_both}
+use Rattle.snap_core.proofs.Results.{IfOk-both}
 use Rattle.snap_fdd.proofs.Shared.{kept, argument_kept}
 use Rattle.snap_chain.specs.Memoed.{SequelFor}
 use Rattle.snap_chain.specs.Spread.{IsSequel}
@@ -56,7 +56,7 @@ followed_anew-returns-in_ok-n-in-Split-clause-sequel t c =
     let kd = kept c.args.nodes.now c.followed.new.nodes c.args.d c.followed.ensures.grew c.requires.second.below in
     let ky = kept c.followed.new.nodes c.followed-in-Split.new.nodes c.in_ok-y-in-Split.y c.followed-in-Split.ensures.grew c.in_ok-y-in-Split.ensures.number in
     let sn : IsSequel c.args.groups.now c.args.ctx.now (diagram c.args.nodes.now c.args.d) (diagram c.args.nodes.now c.in-Split.no) (diagram c.followed-in-Split.new.nodes c.in_ok-n-in-Split.n) = rw (sym kd, sym kn) c.in_ok-n-in-Split.ensures.sequel in
-    if_ok_both c.ite.result _ _ _ (λ r a w. sequel_split c.args.groups.now c.args.ctx.now c.in-Split.test (diagram c.args.nodes.now c.args.d) (diagram c.args.nodes.now c.in-Split.yes) (diagram c.args.nodes.now c.in-Split.no) (diagram c.args.nodes.now c.args.a)
+    IfOk-both c.ite.result _ _ _ (λ r a w. sequel_split c.args.groups.now c.args.ctx.now c.in-Split.test (diagram c.args.nodes.now c.args.d) (diagram c.args.nodes.now c.in-Split.yes) (diagram c.args.nodes.now c.in-Split.no) (diagram c.args.nodes.now c.args.a)
     (diagram c.followed.new.nodes c.in_ok-y-in-Split.y) (diagram c.followed-in-Split.new.nodes c.in_ok-n-in-Split.n) (diagram c.ite.new.nodes r) part.0 c.in_ok-y-in-Split.ensures.sequel sn (rw (sym ky) w) a.keeps) c.ite.ensures.diagram c.ite.ensures.walks
 
 pub followed_anew-returns-in_ok-n-in-Split-clause-memo : goal.followed_anew-returns-in_ok-n-in-Split-clause-memo

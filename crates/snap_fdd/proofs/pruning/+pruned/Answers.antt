@@ -15,7 +15,8 @@ use Rattle.snap_fdd.specs.Pruned.{IsPart, IsPruned}
 use Rattle.snap_fdd.proofs.Picking.{no_part, yes_part}
 use Rattle.snap_fdd.proofs.Alike.{memo_back, memo_under, plan_kept, pruned_before, pruned_memo_kept, pruned_now}
 use Rattle.snap_fdd.proofs.Shared.{kept, still_below, argument_kept}
-use Rattle.snap_fdd.proofs.Cutting.{IsMore, under_more, keeps_of, pruned_no, pruned_yes, pruned_both, if_ok_both}
+use Rattle.snap_core.proofs.Results.{IfOk-both}
+use Rattle.snap_fdd.proofs.Cutting.{IsMore, under_more, keeps_of, pruned_no, pruned_yes, pruned_both}
 use Rattle.snap_fdd.proofs.pruning.+pruned.Goals as goal
 
 pub pruned_anew-pruned-requires-in-More-2-2 : goal.pruned_anew-pruned-requires-in-More-2-2
@@ -106,7 +107,7 @@ pruned_anew-returns-in_ok-n-in-More-2-clause-pruned t c =
     let ky = kept c.pruned-in-More-2.new.nodes c.pruned-in-More-2-2.new.nodes c.in_ok-y-in-More-2.y c.pruned-in-More-2-2.ensures.grew c.in_ok-y-in-More-2.ensures.number in
     let pn : IsPruned c.args.groups.now.ranks (sizes c.args.groups.now c.in-More-2.no_ctx) c.in-More-2.no_ctx (diagram c.args.nodes.now c.in-Split.no) (diagram c.pruned-in-More-2-2.new.nodes c.in_ok-n-in-More-2.n)
     = rw (sym kn) c.in_ok-n-in-More-2.ensures.pruned in
-    if_ok_both c.ask.result _ _ _ (λ r p h. pruned_both c.args.groups.now.ranks (sizes c.args.groups.now c.args.ctx.now) _ _ c.args.ctx.now c.in-More.yes_ctx c.in-More-2.no_ctx c.in-Split.test (diagram c.args.nodes.now c.in-Split.yes) (diagram c.args.nodes.now c.in-Split.no) (diagram c.args.nodes.now c.args.d)
+    IfOk-both c.ask.result _ _ _ (λ r p h. pruned_both c.args.groups.now.ranks (sizes c.args.groups.now c.args.ctx.now) _ _ c.args.ctx.now c.in-More.yes_ctx c.in-More-2.no_ctx c.in-Split.test (diagram c.args.nodes.now c.in-Split.yes) (diagram c.args.nodes.now c.in-Split.no) (diagram c.args.nodes.now c.args.d)
     (diagram c.pruned-in-More-2.new.nodes c.in_ok-y-in-More-2.y) (diagram c.pruned-in-More-2-2.new.nodes c.in_ok-n-in-More-2.n) (diagram c.ask.new.nodes r) part.0 c.requires.first.keeps m1 m2 c.in_ok-y-in-More-2.ensures.pruned pn (rw (sym ky) p) (rw (sym ky) h)) c.ask.ensures.pick c.ask.ensures.shape
 
 pub pruned_anew-returns-in_ok-n-in-More-2-clause-memo : goal.pruned_anew-returns-in_ok-n-in-More-2-clause-memo
