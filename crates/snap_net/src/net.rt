@@ -17,7 +17,7 @@ ghost use Rattle.snap_net.specs.declared.net.StepFault.{StepFault};
 
 use crate::flights::Flights;
 use crate::flying::Flying;
-use crate::happened::{Framed, Happened, Moved, happened};
+use crate::happened::{Framed, Happened, Moved};
 use crate::moves::step_in;
 use crate::parts::Parts;
 use crate::passing::{Passed, carry};
@@ -284,7 +284,7 @@ impl Net {
             return Err(StepFault::NoCopy);
         }
         let told = self.step_admitted(k, &Every, true)?;
-        Ok(happened(told))
+        Ok(Happened::of(told))
     }
 
     /// The same without the frame.

@@ -7,8 +7,7 @@ use crate::texts::{FIRST_COME, PARTING, THREE_WAYS, TWO_OWNERS_1, valid};
 use snap_core::NoMemory;
 use snap_core::packet::Packet;
 use snap_core::place::Entry;
-use snap_head::encode::encode;
-use snap_net::happened::Moved;
+use snap_net::happened::{Happened, Moved};
 use snap_net::net::{InjectFault, Net, StepFault, open_net};
 use snap_net::passing::Passed;
 use snap_net::watch::Unwatched;
@@ -122,19 +121,10 @@ fn first_number(net: &Net) -> Option<u64> {
     Some(net.array(0, &[0]))
 }
 
-// The frame of the first copy; empty where none is in flight.
-fn first_frame(alloc: Global, net: &Net) -> Result<Vec<u8>, NoMemory> {
-    if net.flying() == 0 {
-        return Ok(Vec::new(alloc));
-    }
-    let copy = net.copy(0);
-    encode(alloc, copy.head, &copy.packet)
-}
-
 // Whether a step of the first copy takes it over a link in this frame, or over none.
-fn gives(alloc: Global, net: &mut Net, bytes: &[u8]) -> Result<bool, StepFault> {
-    match net.advance(0)? {
-        Moved::Forwarded { .. } => Ok(first_frame(alloc, net)?.as_slice() == bytes),
+fn gives(net: &mut Net, bytes: &[u8]) -> Result<bool, StepFault> {
+    match net.step(0)? {
+        Happened::Forwarded { frame, .. } => Ok(frame.as_slice() == bytes),
         _ => Ok(bytes.is_empty()),
     }
 }
@@ -148,9 +138,9 @@ const TO_A: &[u8] = &[
 ];
 
 // Whether the steps of the first copy give these frames, one after another.
-fn give(alloc: Global, net: &mut Net, frames: &[&[u8]]) -> Result<bool, StepFault> {
+fn give(net: &mut Net, frames: &[&[u8]]) -> Result<bool, StepFault> {
     for bytes in frames {
-        if !gives(alloc, net, *bytes)? {
+        if !gives(net, *bytes)? {
             return Ok(false);
         }
     }
@@ -160,7 +150,7 @@ fn give(alloc: Global, net: &mut Net, frames: &[&[u8]]) -> Result<bool, StepFaul
 // Whether the steps of a first packet give these frames, and the number that is left then.
 fn framed(alloc: Global, net: &mut Net, frames: &[&[u8]]) -> Result<(bool, Option<u64>), Fail> {
     inject(alloc, net, 1)?;
-    let are_given = give(alloc, net, frames)?;
+    let are_given = give(net, frames)?;
     Ok((are_given, first_number(net)))
 }
 
@@ -202,7 +192,7 @@ fn packets_are_numbered(rt: HostRuntime) -> Result<(), Fail> {
 fn refuses_a_third(alloc: Global, net: &mut Net) -> Result<bool, Fail> {
     inject(alloc, net, 1)?;
     inject(alloc, net, 2)?;
-    Ok(net.advance(2).is_err())
+    Ok(net.advance(2).is_err() && net.step(2).is_err())
 }
 
 fn lacks_a_third(alloc: Global) -> Result<bool, Fail> {

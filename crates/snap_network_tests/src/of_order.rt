@@ -2,6 +2,7 @@
 
 ghost use Rattle.std.specs.Prelude.{◌≡◌, IfOk};
 
+mod steps;
 mod workers;
 
 use crate::texts::{TWO_OWNERS, shelf, sink, valid};

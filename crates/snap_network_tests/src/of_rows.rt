@@ -7,10 +7,8 @@ use crate::texts::{MOVED, valid};
 use snap_core::NoMemory;
 use snap_core::packet::Packet;
 use snap_core::store::Store;
-use snap_rows::admit::Every;
-use snap_rows::fork::{Spread, spread_out};
-use snap_rows::head::{Fate, Head};
-use snap_rows::plan::step;
+use snap_rows::handle::handle;
+use snap_rows::head::{Action, Head};
 use snap_rows::valid::Valid;
 use std::alloc::Global;
 use std::test::Fail;
@@ -37,19 +35,17 @@ fn forked(
         return Ok(None);
     };
     let mut store = Store::new(alloc);
-    let fate = step(
+    let action = handle(
         alloc,
         tables,
-        &Every,
         at,
         &mut store,
         packet,
         Head::Walk { node: 0 },
     )?;
-    let Fate::Fork { outs } = fate else {
+    let Action::Fork { copies, lost } = action else {
         return Ok(None);
     };
-    let Spread { copies, lost } = spread_out(alloc, tables, outs, packet)?;
     Ok(Some(Outcome {
         copies: copies.len() as u64,
         lost,

@@ -9,8 +9,8 @@ use Rattle.snap_rows.specs.declared.tables.Tables.{Tables}
 use Rattle.snap_rows.specs.Network.{Copy, Event, Step, Crossed, Delivered, Forked, happening, moved}
 use Rattle.snap_net.specs.declared.flying.Flying.{Flying}
 use Rattle.snap_net.specs.declared.happened.Moved.{Moved}
-use Rattle.snap_net.specs.Shown.{flown, moving}
-use Rattle.snap_net.proofs.Steps.{replaced_there}
+use Rattle.snap_net.specs.Shown.{HasFrame, StandsThere, flown, frame_with, moving}
+use Rattle.snap_net.proofs.Steps.{frame_told, replaced_there}
 use Rattle.snap_gen.proofs.Leaving.{split_up}
 use Rattle.snap_gen.specs.InTurn.{Becomes, SentOn, Waiting, Forks}
 use Rattle.snap_runs.specs.Tallies.{IsThere}
@@ -18,7 +18,7 @@ use Rattle.snap_runs.proofs.Playing.{is-there}
 use Rattle.snap_order.specs.Ordered.{Ordered, Turn, Happens, Stays, Waits, LeadsInTurn, left_by, moves, turn_of, visits, waits}
 use Rattle.snap_order.specs.Rounding.{AreThere, width}
 use Rattle.snap_order.specs.Rounds.{TakesFrom, ends, takes}
-use Rattle.snap_order.specs.Shown.{StandsTurn, told_of}
+use Rattle.snap_order.specs.Shown.{StandsTurn, frame_of_turn, told_of}
 
 -- ---- one step
 -- a step is one turn
@@ -46,6 +46,12 @@ pub turn_there : (cs : List Flying) (place : ℕ) (u : Turn) → StandsTurn cs p
 turn_there cs place (Happens h) stands = is-there cs place h stands
 turn_there cs place (Stays c r) stands = tt
 turn_there cs place (Waits c r) stands = tt
+
+-- a frame that is told is that of what crossed
+pub turn_framed : (cs : List Flying) (k : ℕ) (u : Turn) (moved : Moved) (bytes : List ℕ) → moved ≡ told_of u → StandsTurn cs k u → HasFrame cs k moved bytes → frame_with moved bytes ≡ frame_of_turn u
+turn_framed cs k (Happens h) moved bytes tells stands framed = frame_told cs k h moved bytes tells stands framed
+turn_framed cs k (Stays c r) moved bytes tells stands framed = ap (λ m. frame_with m bytes) tells
+turn_framed cs k (Waits c r) moved bytes tells stands framed = ap (λ m. frame_with m bytes) tells
 
 -- ---- how many copies stand there
 replaced_length : (cs : List Copy) (i : ℕ) (c : Copy) (xs : List Copy) → slice_get cs i ≡ Some c → length (take i cs ++ (xs ++ drop (i + 1) cs)) + 1 ≡ length cs + length xs

@@ -5,7 +5,9 @@ use Rattle.snap_rows.specs.Network.{Event}
 use Rattle.snap_net.specs.declared.flying.Flying.{Flying}
 use Rattle.snap_net.specs.declared.happened.Moved.{Moved}
 use Rattle.snap_net.specs.declared.happened.Moved.TheVariants as bare
-use Rattle.snap_net.specs.Shown.{DoneBy, Held, Same, Shows, StandsThere, moving}
+use Rattle.snap_net.specs.Shown.{DoneBy, Held, Same, Shows, StandsThere, frame_in, frame_of, moved_in, moving}
+use Rattle.snap_order.specs.declared.turned.Turned.{Turned}
+use Rattle.snap_order.specs.declared.turned.Turned.TheVariants as framed
 use Rattle.snap_order.specs.Ordered.{Ordered, Turn, Happens, Stays, Waits, LeadsInTurn}
 
 -- what an ordered network of the program holds: a network, and how many packets each rank has handled
@@ -38,6 +40,24 @@ told_of (Waits c r) = bare.Waited c.number r
 
 abbrev pub TellsTurn : Moved → List Turn → Type 0
 TellsTurn told us = (u : Turn) × (us ≡ u ∷ []) × (told ≡ told_of u)
+
+-- the same with a frame, taken apart
+abbrev pub moved_turned : Turned → Moved
+moved_turned (framed.Moved h) = moved_in h
+moved_turned (framed.Visited owner rank) = bare.Stayed owner rank
+moved_turned (framed.Waited owner rank) = bare.Waited owner rank
+
+abbrev pub frame_turned : Turned → List ℕ
+frame_turned (framed.Moved h) = frame_in h
+frame_turned _ = []
+
+-- the frame of what crosses a link
+abbrev pub frame_of_turn : Turn → List ℕ
+frame_of_turn (Happens h) = frame_of h
+frame_of_turn _ = []
+
+abbrev pub TellsFrame : Turned → List Turn → Type 0
+TellsFrame told us = (u : Turn) × (us ≡ u ∷ []) × (moved_turned told ≡ told_of u) × (frame_turned told ≡ frame_of_turn u)
 
 -- a copy that crossed a link stands at this place
 abbrev pub StandsTurn : List Flying → ℕ → Turn → Type 0

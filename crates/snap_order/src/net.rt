@@ -1,6 +1,6 @@
 //! The ordered network.
 
-ghost use Rattle.std.specs.Prelude.{◌≡◌, ◌≢◌, ◌≤◌, ◌<◌, ◌+◌, ◌^◌, ℕ, List, Some, None, IfOk, IfErr, OnOk, OnErr, IsSome, get_or, length, slice_index};
+ghost use Rattle.std.specs.Prelude.{◌≡◌, ◌≢◌, ◌≤◌, ◌<◌, ◌+◌, ◌^◌, ℕ, List, Some, None, IfOk, IfErr, OnOk, OnErr, IsSome, IsTrue, get_or, length, slice_index};
 ghost use Rattle.snap_core.specs.Arrays.{zero_arrays};
 ghost use Rattle.snap_core.specs.Listing.{IsListing};
 ghost use Rattle.snap_core.specs.declared.program.Program.{Program};
@@ -11,17 +11,18 @@ ghost use Rattle.snap_rows.specs.Network.{Inject, Step, whole};
 ghost use Rattle.snap_net.specs.declared.net.InjectFault.{InjectFault};
 ghost use Rattle.snap_net.specs.declared.net.StepFault.{StepFault};
 ghost use Rattle.snap_net.specs.Parts.{held_of};
-ghost use Rattle.snap_net.specs.Shown.{IsHeld};
+ghost use Rattle.snap_net.specs.Shown.{HasFrame, IsHeld};
 ghost use Rattle.snap_gen.specs.Faithful.{Faithful};
 ghost use Rattle.snap_order.specs.Laws.{KeepsOrder};
 ghost use Rattle.snap_order.specs.Ordered.{Ordered, begin};
-ghost use Rattle.snap_order.specs.Shown.{IsDoneInTurn, IsOrderedHeld, NoTurn, SameInTurn, ShowsInTurn, TellsTurn};
+ghost use Rattle.snap_order.specs.Shown.{IsDoneInTurn, IsOrderedHeld, NoTurn, SameInTurn, ShowsInTurn, TellsFrame, TellsTurn};
 
 use crate::counts::{InTurn, count, first_rank, handled, rank_behind};
+use crate::turned::Turned;
 use snap_core::NoMemory;
 use snap_core::packet::Packet;
 use snap_core::place::Entry;
-use snap_net::happened::Moved;
+use snap_net::happened::{Framed, Moved};
 use snap_net::net::{InjectFault, Net, StepFault, open_net};
 use snap_net::parts::Parts;
 use snap_rows::valid::Valid;
@@ -170,15 +171,35 @@ impl OrderedNet {
         self.net.inject(port, packet)
     }
 
-    /// Makes a step of copy k, counted from 0. A copy before a visit makes it only where the rank has handled just the
-    /// packets before its own, and then those after it that are in turn too: `Waited` where it can't make the first,
-    /// `Stayed` where it can't make a later one at this switch. A refusal leaves the network as it was, but for
-    /// room that its stores took.
+    /// Makes a step of copy k, counted from 0, and tells the frame that crosses a link. A copy before a visit makes it only
+    /// where the rank has handled just the packets before its own, and then those after it that are in turn too: `Waited`
+    /// where it can't make the first, `Visited` where it can't make a later one at this switch. A refusal leaves the network
+    /// as it was, but for room that its stores took.
     ///
     /// # Errors
     ///
     /// `NoCopy` exactly where there is no such copy; `NoMemory` for want of memory.
-    pub fn step(&mut self, k: usize) -> Result<Moved, StepFault>
+    pub fn step(&mut self, k: usize) -> Result<Turned, StepFault>
+        ensures done { IfOk result (λ turned. IsDoneInTurn self.old (Step k) self.new (TellsFrame turned)) }
+        ensures tables { self.new.net.tables ≡ self.old.net.tables }
+        ensures injected { self.new.net.injected ≡ self.old.net.injected }
+        ensures copy { IfErr result (λ fault. fault ≡ StepFault.NoCopy → length self.old.net.flying ≤ k) }
+        ensures has_copy { length self.old.net.flying ≤ k → IfErr result (λ fault. fault ≡ StepFault.NoCopy) }
+        ensures refused { OnErr result (SameInTurn self.old self.new) }
+    {
+        if k >= self.net.flying() {
+            return Err(StepFault::NoCopy);
+        }
+        let told = self.step_and_count(k, true)?;
+        Ok(Turned::of(told))
+    }
+
+    /// The same without the frame: `Stayed` in the place of `Visited`.
+    ///
+    /// # Errors
+    ///
+    /// As `step`.
+    pub fn advance(&mut self, k: usize) -> Result<Moved, StepFault>
         ensures done { IfOk result (λ moved. IsDoneInTurn self.old (Step k) self.new (TellsTurn moved)) }
         ensures tables { self.new.net.tables ≡ self.old.net.tables }
         ensures injected { self.new.net.injected ≡ self.old.net.injected }
@@ -189,14 +210,15 @@ impl OrderedNet {
         if k >= self.net.flying() {
             return Err(StepFault::NoCopy);
         }
-        let moved = self.step_and_count(k)?;
-        Ok(moved)
+        let told = self.step_and_count(k, false)?;
+        Ok(told.moved)
     }
 
-    // Makes a step of copy k, and counts its packet at the ranks that it visits.
-    fn step_and_count(&mut self, k: usize) -> Result<Moved, NoMemory>
+    // Makes a step of copy k, and counts its packet at the ranks that it visits. `framed` asks for the frame.
+    fn step_and_count(&mut self, k: usize, framed: bool) -> Result<Framed, NoMemory>
         requires { k < length self.old.net.flying }
-        ensures done { IfOk result (λ moved. IsDoneInTurn self.old (Step k) self.new (TellsTurn moved)) }
+        ensures done { IfOk result (λ told. IsDoneInTurn self.old (Step k) self.new (TellsTurn told.moved)) }
+        ensures frame { IfOk result (λ told. IsTrue framed → HasFrame self.new.net.flying k told.moved told.frame.items) }
         ensures tables { self.new.net.tables ≡ self.old.net.tables }
         ensures injected { self.new.net.injected ≡ self.old.net.injected }
         ensures refused { OnErr result (SameInTurn self.old self.new) }
@@ -210,10 +232,10 @@ impl OrderedNet {
             counts: &self.counts,
             number,
         };
-        let moved = self.net.step_admitted(k, &admit, false)?;
-        let behind = rank_behind(&self.net, k, first, &moved);
+        let told = self.net.step_admitted(k, &admit, framed)?;
+        let behind = rank_behind(&self.net, k, first, &told.moved);
         count(&mut self.counts, first, behind, next);
-        Ok(moved)
+        Ok(told)
     }
 
     /// Takes the network apart.

@@ -109,7 +109,7 @@ impl Play {
         if place >= self.net.flying() {
             return Ok(false);
         }
-        let moved = match self.net.step(place) {
+        let moved = match self.net.advance(place) {
             Ok(moved) => moved,
             // There is such a copy, so only memory can be short.
             Err(_) => return Err(NoMemory),

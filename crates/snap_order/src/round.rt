@@ -115,7 +115,7 @@ fn step_all(net: &mut OrderedNet) -> Result<Vec<Moved>, NoMemory>
     while place < net.flying() {
         // So many copies haven't been taken.
         let left = net.flying() - place - 1;
-        let moved = match net.step(place) {
+        let moved = match net.advance(place) {
             Ok(moved) => moved,
             // There is such a copy, so only memory can be short.
             Err(_) => return Err(NoMemory),

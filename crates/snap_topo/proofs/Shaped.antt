@@ -2,7 +2,7 @@
 use Rattle.std.proofs.Common.{◌≡◌, ℕ, ◌≤◌, Bool, true, false, cond, List, [], ◌∷◌, length, codes, Option, None, Some, Result, Ok, Err, option_map, refl, sym, ap, ◌∙◌, subst, arith, if◌then◌else◌, bytes_eq}
 use Rattle.toml.specs.Data.{Data, string, array, table, Items, no_items, item, Members, no_members, member, get_member}
 use Rattle.snap_core.specs.Names.{is_switch_name}
-use Rattle.snap_topo.specs.Spells.{AreNames, no_name, next_name, ArePairs, no_pair, next_pair, ArePorts, no_port, next_port, document, has_keys, by_number, port_number}
+use Rattle.snap_topo.specs.Spells.{AreNames, no_name, next_name, ArePairs, no_pair, next_pair, ArePorts, no_port, next_port, has_keys, by_number, port_number}
 use Rattle.snap_topo.specs.Shape.{TopoFault, Shape, Spelled, spelled, name_in, with_first, names_in, switches_in, pair_of, link_in, links_listed, links_in, port_of, ports_listed, ports_in, ports_then, links_then, switches_then}
 
 -- ---- what each part holds

@@ -7,7 +7,7 @@ use Rattle.std.specs.Cmp.Lexicographic.{slice_cmp}
 use Rattle.std.specs.Map.{lookup}
 use Rattle.std.specs.BTreeMap.{is_at, insert_entry}
 use Rattle.toml.specs.declared.value.Value.{Value}
-use Rattle.toml.specs.Data.{Data, Items, no_items, item, string, array, table, as_array, get_member}
+use Rattle.toml.specs.Data.{Data, Items, no_items, item, string, array, as_array, get_member}
 use Rattle.toml.specs.View.{items_view, members_view, view}
 use Rattle.toml.proofs.Views.{view-lookup}
 use Rattle.snap_topo.specs.Shape.{link_in, name_in, names_in, port_of, ports_listed, switches_in, with_first}

@@ -18,7 +18,7 @@ overflow_sub-place c =
     let test = c.loop-place-test.true in
     let count = c.flying.ensures.held in
     let within : l.place < length l.net.net.flying = omega (arith, test, count) in
-    let few = few_gone l.place l.net c.step.new.self c.in-Ok.moved c.in-Ok.ensures.done within in
+    let few = few_gone l.place l.net c.advance.new.self c.in-Ok.moved c.in-Ok.ensures.done within in
     omega (arith, before, after, few, within)
 
 pub loop-place-preserved : goal.loop-place-preserved
@@ -30,12 +30,12 @@ loop-place-preserved c =
     let test = c.loop-place-test.true in
     let count = c.flying.ensures.held in
     let within : l.place < length l.net.net.flying = omega (arith, test, count) in
-    let few = few_gone l.place l.net c.step.new.self c.in-Ok.moved c.in-Ok.ensures.done within in
+    let few = few_gone l.place l.net c.advance.new.self c.in-Ok.moved c.in-Ok.ensures.done within in
     record {
-      rounded = λ s shows. subst (HasRoundedTo c.args.net.now.net.tables s (c.flying-in-loop-place-2.result - (c.flying-in-loop-place.result - l.place - 1)) c.step.new.self) (sym c.in_ok-push.ensures.items)
-          (rounded_more c.args.net.now.net.tables s l.place l.net c.step.new.self l.done.items c.in-Ok.moved i.tables c.in-Ok.ensures.done within (c.flying-in-loop-place-2.result - (c.flying-in-loop-place.result - l.place - 1)) (omega (arith, before, after, few, within)) (i.rounded s shows));
-      tables = c.step.ensures.tables ∙ i.tables;
-      injected = c.step.ensures.injected ∙ i.injected;
+      rounded = λ s shows. subst (HasRoundedTo c.args.net.now.net.tables s (c.flying-in-loop-place-2.result - (c.flying-in-loop-place.result - l.place - 1)) c.advance.new.self) (sym c.in_ok-push.ensures.items)
+          (rounded_more c.args.net.now.net.tables s l.place l.net c.advance.new.self l.done.items c.in-Ok.moved i.tables c.in-Ok.ensures.done within (c.flying-in-loop-place-2.result - (c.flying-in-loop-place.result - l.place - 1)) (omega (arith, before, after, few, within)) (i.rounded s shows));
+      tables = c.advance.ensures.tables ∙ i.tables;
+      injected = c.advance.ensures.injected ∙ i.injected;
     }
 
 pub returns-clause-done : goal.returns-clause-done

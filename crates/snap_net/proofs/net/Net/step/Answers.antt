@@ -4,8 +4,8 @@ use Rattle.snap_net.proofs.Blocks.{found}
 use Rattle.snap_net.proofs.Steps.{done_plain, frame_told, made_unheld, stands_there}
 use Rattle.snap_net.proofs.net.Net.step.Goals as goal
 
-pub happened-requires : goal.happened-requires
-happened-requires c =
+pub of-requires : goal.of-requires
+of-requires c =
     let v = c.args.self.now in
     let x = found v.flying c.args.k (first_of (search rules, cc)) in
     made_unheld (c.in_ok-told.ensures.stepped x.0 x.1) (λ j. refl)
@@ -20,4 +20,4 @@ returns-clause-done c = λ s shows.
     let done = done_plain (λ j. true) v new k x.0 told.moved (λ j. refl) x.1 c.step_admitted.ensures.tables c.step_admitted.ensures.injected c.in_ok-told.ensures.stepped s shows in
     let y = done.4.0 in
     let stands = subst (λ l. StandsThere l k y) done.3.flying (stands_there y done.2 done.4.1) in
-    (done.0, done.1, done.2, done.3, (y, done.4.1, c.happened.ensures.moved ∙ done.4.2, c.happened.ensures.frame ∙ frame_told new.flying k y told.moved told.frame.items done.4.2 stands (c.in_ok-told.ensures.frame refl)))
+    (done.0, done.1, done.2, done.3, (y, done.4.1, c.of.ensures.moved ∙ done.4.2, c.of.ensures.frame ∙ frame_told new.flying k y told.moved told.frame.items done.4.2 stands (c.in_ok-told.ensures.frame refl)))
