@@ -1,6 +1,5 @@
 -- Which pairs are wanted and how marks are closed doesn't depend on the rows.
-use Rattle.std.proofs.Common.{◌≡◌, ℕ, inl, inr, Bool, true, List, Option, Some, cond}
-use Rattle.std.specs.Prelude.{nat_eq}
+use Rattle.std.proofs.Common.{ℕ, Bool, List, Option}
 use Rattle.snap_rows.specs.declared.tables.RowAt.{RowAt}
 use Rattle.snap_rows.specs.declared.tables.Tables.{Tables}
 use Rattle.snap_rows.specs.declared.tables.Row.{Row}
@@ -8,7 +7,7 @@ use Rattle.snap_rows.specs.declared.tables.Row.TheVariants.{Field, State, Go, Le
 use Rattle.snap_rows.specs.Ways.{Way, here, on, Route, end, leg, LeadsTo}
 use Rattle.snap_demand.specs.Closed.{IsClosed}
 use Rattle.snap_demand.specs.Derived.{IsWanted, at_port, onward}
-use Rattle.snap_demand.specs.OnDemand.{row_on, place_of, HasNodes}
+use Rattle.snap_demand.specs.OnDemand.{row_on, place_of}
 
 module _ (t : Tables) (rs : List RowAt) where
   abbrev with_rows : Tables

@@ -1,9 +1,8 @@
 -- A step of a copy at its switch, whatever the other switches hold.
-use Rattle.std.proofs.Common.{◌≡◌, ◌≢◌, ⊎_elim, ℕ, ◌+◌, ◌<◌, List, [], ◌∷◌, ◌++◌, cond, get_or, Some, refl, sym, ap, subst, ◌∙◌}
+use Rattle.std.proofs.Common.{◌≡◌, ◌≢◌, ⊎_elim, ℕ, ◌+◌, List, [], ◌∷◌, cond, get_or, Some, refl, sym, ap, subst, ◌∙◌}
 use Rattle.std.specs.Prelude.{nat_eq, slice_get}
 use Rattle.std.specs.List.{All}
 use Rattle.std.proofs.lemmas.Bool.{cond-false, cond-true, eqb-false, eqb-true, eq-eqb, ne_eqb}
-use Rattle.std.proofs.lemmas.List.Elements.{All-cons, All-nil}
 use Rattle.snap_core.specs.Arrays.{Arrays}
 use Rattle.snap_rows.specs.Actions.{Action, Forward, Deliver}
 use Rattle.snap_rows.specs.declared.head.Fate.{Fate}

@@ -1,10 +1,10 @@
 -- A step whose visits are in turn is one of the ordered network.
-use Rattle.std.proofs.Common.{Bor, ◌≡◌, ◌≢◌, ◌⊎◌, inl, inr, ⊎_elim, ℕ, ◌+◌, ◌<◌, ◌≤◌, Bool, true, false, List, [], ◌∷◌, ◌++◌, map, take, drop, get_or, Option, Some, refl, sym, ap, subst, ◌∙◌, arith}
+use Rattle.std.proofs.Common.{Bor, ◌≡◌, ◌≢◌, ◌⊎◌, inl, inr, ⊎_elim, ℕ, ◌+◌, ◌<◌, ◌≤◌, Bool, true, false, List, [], ◌∷◌, ◌++◌, map, take, drop, get_or, Some, refl, sym, ap, subst, ◌∙◌, arith}
 use Rattle.std.specs.Prelude.{slice_get, ◌==◌, if◌then◌else◌}
 use Rattle.std.proofs.lemmas.Option.{slice_get_within}
-use Rattle.std.proofs.lemmas.Bool.{cases_lt, eqb-false, eqb-true, eq-eqb, ne_eqb, cond-false, cond-true}
+use Rattle.std.proofs.lemmas.Bool.{cases_lt, eqb-false, eqb-true}
 use Rattle.snap_core.specs.declared.policy.Update.{Update}
-use Rattle.snap_core.specs.Arrays.{Arrays, updates}
+use Rattle.snap_core.specs.Arrays.{Arrays}
 use Rattle.snap_core.specs.Cells.{Kept}
 use Rattle.snap_core.specs.Tests.{results}
 use Rattle.snap_rows.specs.Actions.{Action, Forward, Deliver, Fork}
@@ -26,7 +26,7 @@ use Rattle.snap_rows.proofs.Rows.{All-get, row_form, some_injective}
 use Rattle.snap_net.specs.declared.flying.Flying.{Flying}
 use Rattle.snap_net.specs.declared.happened.Moved.{Moved}
 use Rattle.snap_net.specs.Flights.{spliced}
-use Rattle.snap_net.specs.Moves.{Changed, HasMade, StepsAt, flights, left_by, moved_of, told_by}
+use Rattle.snap_net.specs.Moves.{Changed, HasMade, StepsAt, flights, left_by, told_by}
 use Rattle.snap_net.specs.Shown.{Held, IsHeld, flown, store_of}
 use Rattle.snap_net.proofs.Splices.{same_place, there_now}
 use Rattle.snap_net.proofs.Steps.{acts_leave, acts_tell, copy_shown, flown_moved, moving_of, shows_replaced}
@@ -35,7 +35,7 @@ use Rattle.snap_gen.specs.Agreement.{lost_of, sent_of}
 use Rattle.snap_gen.specs.InTurn.{Becomes, SentOn, Waiting, Forks, TakesTurns, handled_more}
 use Rattle.snap_gen.specs.InTurn as turns
 use Rattle.snap_gen.proofs.Nodes.{IsTwo}
-use Rattle.snap_order.specs.Ordered.{Ordered, Turn, Happens, Waits, IsBefore, LeadsInTurn, turn_of, visited}
+use Rattle.snap_order.specs.Ordered.{Ordered, Turn, Happens, Waits, LeadsInTurn, turn_of, visited}
 use Rattle.snap_order.specs.Ordered as ordered
 use Rattle.snap_order.specs.Shown.{IsDoneInTurn, OrderedHeld, ShowsInTurn, TellsTurn, told_of}
 use Rattle.snap_order.specs.Turning.{HasCounted, behind_after, behind_at, fate_behind, first_of, next_rank, rank_behind}

@@ -5,12 +5,11 @@ use Rattle.std.proofs.lemmas.List.{length-append, length-map, length-take-le, ta
 use Rattle.std.proofs.lemmas.Option.{slice_get_within}
 use Rattle.snap_rows.specs.Actions.{Action, Forward, Deliver, Fork}
 use Rattle.snap_rows.specs.declared.head.Head.TheVariants.{Visit}
-use Rattle.snap_rows.specs.declared.head.Sent.{Sent}
 use Rattle.snap_rows.specs.declared.tables.Tables.{Tables}
-use Rattle.snap_rows.specs.Network.{Copy, Event, Step, Happening, Crossed, Delivered, Forked, happening, moved}
+use Rattle.snap_rows.specs.Network.{Copy, Event, Step, Crossed, Delivered, Forked, happening, moved}
 use Rattle.snap_net.specs.declared.flying.Flying.{Flying}
 use Rattle.snap_net.specs.declared.happened.Moved.{Moved}
-use Rattle.snap_net.specs.Shown.{HasFrame, StandsThere, flown, frame_with, moving}
+use Rattle.snap_net.specs.Shown.{HasFrame, flown, frame_with, moving}
 use Rattle.snap_net.proofs.Steps.{frame_told, replaced_there}
 use Rattle.snap_gen.proofs.Leaving.{split_up}
 use Rattle.snap_gen.specs.InTurn.{Becomes, SentOn, Waiting, Forks}

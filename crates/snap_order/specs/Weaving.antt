@@ -1,5 +1,5 @@
 -- What the workers of a round made, put together.
-use Rattle.std.specs.Prelude.{◌≡◌, ℕ, ◌%◌, ◌<◌, Some, None, List, [], get_or, length, map}
+use Rattle.std.specs.Prelude.{◌≡◌, ℕ, ◌%◌, Some, None, List, [], get_or, map}
 use Rattle.std.specs.List.{flat_map}
 use Rattle.snap_rows.specs.declared.tables.Tables.{Tables}
 use Rattle.snap_rows.specs.Entries.{rank_at}

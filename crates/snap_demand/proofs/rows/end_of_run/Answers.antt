@@ -1,4 +1,4 @@
-use Rattle.std.proofs.Common.{◌≡◌, ◌<◌, length, sym, subst, ◌∙◌, arith}
+use Rattle.std.proofs.Common.{◌≡◌, length, sym, subst, ◌∙◌, arith}
 use Rattle.snap_demand.specs.OnDemand.{place_of}
 use Rattle.snap_demand.proofs.Runs.{AreAt, run_begins, run_on, run_ends}
 use Rattle.snap_demand.proofs.rows.end_of_run.Goals as goal

@@ -1,5 +1,4 @@
-use Rattle.std.proofs.Common.{◌≡◌, ◌++◌, ◌∷◌, [], ap, ◌∙◌}
-use Rattle.snap_rows.specs.declared.tables.Stage.{Stage as Turn}
+use Rattle.std.proofs.Common.{◌∙◌}
 use Rattle.snap_demand.specs.OnDemand.{place_of, stages_of}
 use Rattle.snap_demand.proofs.Runs.{stages_more, stages_end}
 use Rattle.snap_demand.proofs.rows.stages.Goals as goal

@@ -1,4 +1,4 @@
-use Rattle.std.proofs.Common.{◌<◌, ◌/◌, ◌%◌, get_or, length, refl, ◌∙◌, arith}
+use Rattle.std.proofs.Common.{◌<◌, ◌%◌, length, refl, arith}
 use Rattle.std.proofs.Math.Nat.{mod-lt}
 use Rattle.snap_order.specs.declared.job.Job.{Job}
 use Rattle.snap_order.proofs.Dealing.{exchanged_more, some_of}

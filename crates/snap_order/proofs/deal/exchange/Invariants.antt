@@ -1,4 +1,3 @@
-use Rattle.std.proofs.Common.{◌≡◌, ℕ, ◌<◌, get_or, length}
 use Rattle.snap_order.specs.Dealing.{AreExchanged}
 use Rattle.snap_order.proofs.deal.exchange.Given as goal
 

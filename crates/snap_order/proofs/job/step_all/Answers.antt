@@ -3,7 +3,7 @@ use Rattle.std.specs.List.{All}
 use Rattle.std.proofs.lemmas.List.Elements.{All-head, All-tail}
 use Rattle.snap_net.specs.declared.flying.Flying.{Flying}
 use Rattle.snap_order.specs.declared.hand.Stepped.{Stepped}
-use Rattle.snap_order.specs.Hands.{InPlace, Part, Works, idles, works, part_of}
+use Rattle.snap_order.specs.Hands.{InPlace, Works, idles, works, part_of}
 use Rattle.snap_order.specs.Jobs.{counts_after}
 use Rattle.snap_order.proofs.Teams.{after_counted, after_same}
 use Rattle.snap_order.proofs.job.step_all.Goals as goal

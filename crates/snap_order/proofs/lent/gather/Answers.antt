@@ -1,4 +1,4 @@
-use Rattle.std.proofs.Common.{◌≡◌, ℕ, ◌<◌, List, get_or, length, subst, arith}
+use Rattle.std.proofs.Common.{List, get_or, subst, arith}
 use Rattle.snap_order.specs.declared.job.Job.{Job}
 use Rattle.snap_order.specs.Weaving.{HasCounts}
 use Rattle.snap_order.proofs.Dealing.{some_of}

@@ -1,4 +1,4 @@
-use Rattle.std.proofs.Common.{◌≡◌, ℕ, get_or, length, refl, sym, ap, subst, ◌∙◌, arith}
+use Rattle.std.proofs.Common.{◌≡◌, ℕ, get_or, length, sym, ap, subst, arith}
 use Rattle.snap_net.specs.Shown.{Held}
 use Rattle.snap_order.specs.Dealing.{AreDealt, AreExchanged, ArePlaces}
 use Rattle.snap_order.proofs.lent.lend.Goals as goal

@@ -1,4 +1,4 @@
-use Rattle.std.proofs.Common.{rules, ◌≡◌, [], ◌++◌, length, sym, subst, All}
+use Rattle.std.proofs.Common.{rules, ◌++◌, sym, subst}
 use Rattle.std.specs.List.{AllZip}
 use Rattle.snap_order.specs.Jobs.{HasWorked}
 use Rattle.snap_order.proofs.Teams.{idle_zip, ready_back, ready_front, zip_append, zip_one}

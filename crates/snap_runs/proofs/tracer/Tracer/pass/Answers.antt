@@ -1,9 +1,9 @@
-use Rattle.std.proofs.Common.{◌≡◌, ◌≤◌, ◌+◌, true, false, sym, subst, arith}
+use Rattle.std.proofs.Common.{true, sym, subst}
 use Rattle.std.proofs.lemmas.Result.{IfOk-weaker}
 use Rattle.snap_net.specs.Passing.{IsHeard, lost_in, sent_in}
 use Rattle.snap_runs.specs.Crossings.{SeesLines}
 use Rattle.snap_runs.specs.Tracing.{IsTraced}
-use Rattle.snap_runs.proofs.Taken.{passes-so, traced-bare, traced-seen}
+use Rattle.snap_runs.proofs.Taken.{passes-so, traced-seen}
 use Rattle.snap_runs.proofs.tracer.Tracer.pass.Goals as goal
 
 pub returns-then-self-clause-passes : goal.returns-then-self-clause-passes
