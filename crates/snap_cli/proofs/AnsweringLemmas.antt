@@ -10,7 +10,7 @@ use Rattle.snap_core.specs.declared.ports.PortAt.{PortAt}
 use Rattle.snap_core.specs.declared.program.Field.{Field}
 use Rattle.snap_io.specs.Files.{Files, file_of}
 use Rattle.snap_rows.specs.declared.tables.Tables.{Tables}
-use Rattle.snap_rows.specs.Entries.{port_in}
+use Rattle.snap_core.specs.Ports.{port_in}
 use Rattle.snap_rows.specs.Form.{IsInForm}
 use Rattle.snap_rows.proofs.Ports.{port_is_found}
 use Rattle.snap_tables.specs.Lines.{IsRead}

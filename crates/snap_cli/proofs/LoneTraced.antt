@@ -18,7 +18,8 @@ use Rattle.snap_rows.specs.Form.{IsInForm, IsTurnInForm}
 use Rattle.snap_rows.specs.Happenings.{commits}
 use Rattle.snap_rows.specs.Lone.{Chain, IsLone, IsLone1, field, leaf, state}
 use Rattle.snap_rows.specs.Rules.{IsValid, RowKeeps}
-use Rattle.snap_rows.proofs.Rows.{All-get, node_entry, nodes, some_injective}
+use Rattle.std.proofs.lemmas.Option.{same_Some}
+use Rattle.snap_rows.proofs.Rows.{All-get, node_entry, nodes}
 use Rattle.snap_words.specs.Commands.{schedule}
 use Rattle.snap_cli.specs.Headline.{LonePlacementsTraceInOrder, LoneTablesTraceInOrder, TracesInOrder}
 use Rattle.snap_cli.specs.Laws.{AnswersExactly, CompilesExactly}
@@ -36,7 +37,7 @@ module _ (t : Tables) (w : ℕ) (at : All (λ (a : ArrayAt). a.at ≡ w) t.array
     where
       by : (o : Option ArrayAt) → slice_get t.arrays v ≡ o → option_map (λ (a : ArrayAt). a.at) o ≡ Some x → x ≡ w
       by None is e = absurd (cc)
-      by (Some a) is e = sym (some_injective a.at x e) ∙ All-get (λ (a : ArrayAt). a.at ≡ w) t.arrays v a at is
+      by (Some a) is e = sym (same_Some a.at x e) ∙ All-get (λ (a : ArrayAt). a.at ≡ w) t.arrays v a at is
 
   -- a stage has an update
   turn_at : (s : Turn) → IsTurnInForm t s → All (λ (u : Update). owner_of t u.var ≡ Some s.at) s.ups → s.at ≡ w

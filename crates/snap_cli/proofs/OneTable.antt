@@ -6,7 +6,8 @@ use Rattle.std.proofs.lemmas.Bool.{cases_eq, cases_lt}
 use Rattle.std.proofs.lemmas.Bool.Decides.{eqb_tells}
 use Rattle.snap_topo.specs.declared.topology.Topology.{Topology}
 use Rattle.snap_route.specs.Tables.{Table, AreRoutes, IsUnreachable, distance_of, next_of}
-use Rattle.snap_route.specs.Walks.{HasWalk, IsBefore, IsDiameter, IsDistance, IsFirstApart, IsNext, IsWalk, Linked}
+use Rattle.snap_topo.specs.Pairs.{IsBefore}
+use Rattle.snap_route.specs.Walks.{HasWalk, IsDiameter, IsDistance, IsFirstApart, IsNext, IsWalk, Linked}
 use Rattle.snap_route.proofs.Walking.{distance-same, distance-walk}
 use Rattle.snap_cli.specs.Refusals.{name_at}
 use Rattle.snap_cli.specs.Routes.{end_text, line_between, lines_from, routes_text}

@@ -12,7 +12,8 @@ use Rattle.snap_topo.specs.declared.topology.Topology.{Topology}
 use Rattle.snap_topo.specs.declared.topology.TopoFault.{TopoFault}
 use Rattle.snap_topo.specs.declared.topology.TopoFault.TheVariants as topo
 use Rattle.snap_topo.specs.Answer.{DifferentThen, IsAnswer, IsTopologyOf, KnownThen, SpelledThen, WithinThen, first_repeat, first_unknown, too_many}
-use Rattle.snap_topo.specs.Spells.{document, link_cmp}
+use Rattle.snap_core.specs.Ports.{link_cmp}
+use Rattle.snap_topo.specs.Spells.{document}
 use Rattle.snap_topo.specs.Shape.{Spelled, spelled}
 use Rattle.snap_topo.proofs.Pairs.{link_cmp_total}
 use Rattle.snap_cli.specs.declared.refusal.Refusal.{Refusal}

@@ -10,7 +10,8 @@ use Rattle.snap_place.specs.declared.placement.PlaceFault.{PlaceFault}
 use Rattle.snap_place.specs.declared.placement.PlaceFault.TheVariants.{Apart}
 use Rattle.snap_place.specs.Answer.{IsAnswer, MissingThen, OwnersThen, ShapeThen, SwitchThen, VariableThen, missing, no_switch, no_variable, owners}
 use Rattle.snap_place.specs.Shape.{entries_of}
-use Rattle.snap_place.specs.Together.{IsBefore, IsFirstApart, IsTogether, TellsApart}
+use Rattle.snap_topo.specs.Pairs.{IsBefore}
+use Rattle.snap_place.specs.Together.{IsFirstApart, IsTogether, TellsApart}
 use Rattle.snap_cli.specs.declared.refusal.Refusal.{Refusal}
 use Rattle.snap_cli.specs.PlacementOf.{PlacementOf, SpellsPlacement, refusal_of_placement}
 use Rattle.snap_cli.proofs.SameCore.{same_names}

@@ -9,7 +9,8 @@ use Rattle.snap_core.specs.Fields.{count}
 use Rattle.snap_core.specs.Inputs.{IsPacket}
 use Rattle.snap_io.specs.Lines.{Next, next_line, no_line, long_line, many_bytes, next_in}
 use Rattle.snap_rows.specs.declared.tables.Tables.{Tables}
-use Rattle.snap_rows.specs.Entries.{port_at, port_in}
+use Rattle.snap_core.specs.Ports.{port_in}
+use Rattle.snap_rows.specs.Entries.{port_at}
 use Rattle.snap_trace.specs.PacketLines.{Said, skip, inject, bad, said_by}
 use Rattle.snap_trace.specs.Spelled.{Spelled, counted, ended, spelled, spelled_behind, spelled_from, text_of, with_next, with_said}
 use Rattle.snap_runs.specs.Laws.{SpelledPacketsFit}

@@ -10,7 +10,8 @@ use Rattle.snap_core.specs.declared.policy.Test.{Test}
 use Rattle.snap_core.specs.declared.policy.Update.{Update}
 use Rattle.snap_core.specs.declared.ports.PortAt.{PortAt}
 use Rattle.snap_route.specs.Tables.{Table, next_of}
-use Rattle.snap_route.proofs.Joined.{Contains-nil, Contains-cons_cases, Contains-head, Contains-tail}
+use Rattle.snap_core.proofs.Members.{Contains-here}
+use Rattle.snap_route.proofs.Joined.{Contains-nil, Contains-cons_cases, Contains-tail}
 use Rattle.snap_rows.specs.declared.tables.Tables.{Tables}
 use Rattle.snap_rows.specs.declared.tables.Row.{Row}
 use Rattle.snap_rows.specs.declared.tables.Row.TheVariants.{Field, State, Go, Leaf, Stop, Last}
@@ -64,7 +65,7 @@ any_port (q ∷ ps) v e = by (nat_eq v q.at) refl e (any_port ps v)
   where
     by : (b : Bool) → nat_eq v q.at ≡ b → (b || list_any (λ (p : PortAt). nat_eq v p.at) ps) ≡ true
         → (list_any (λ (p : PortAt). nat_eq v p.at) ps ≡ true → (p : ℕ) × Contains ps (record { port = p; at = v })) → (p : ℕ) × Contains (q ∷ ps) (record { port = p; at = v })
-    by true same f rest = (q.port, subst (λ x. Contains (q ∷ ps) (record { port = q.port; at = x })) (sym (eqb-true v q.at same)) (Contains-head q ps))
+    by true same f rest = (q.port, subst (λ x. Contains (q ∷ ps) (record { port = q.port; at = x })) (sym (eqb-true v q.at same)) (Contains-here q ps))
     by false other f rest = let r = rest f in (r.0, Contains-tail q ps (record { port = r.0; at = v }) r.1)
 
 port_any : (ps : List PortAt) (p v : ℕ) → Contains ps (record { port = p; at = v }) → list_any (λ (p : PortAt). nat_eq v p.at) ps ≡ true

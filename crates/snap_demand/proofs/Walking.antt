@@ -5,7 +5,8 @@ use Rattle.std.proofs.lemmas.Bool.{eqb-true, eqb-false}
 use Rattle.std.proofs.lemmas.List.Elements.{Contains-append_left, Contains-append_right, Contains-append_cases}
 use Rattle.snap_core.specs.declared.policy.Update.{Update}
 use Rattle.snap_route.specs.Tables.{Table, distance_of, next_of}
-use Rattle.snap_route.proofs.Joined.{Contains-nil, Contains-cons_cases, Contains-head, Contains-tail}
+use Rattle.snap_core.proofs.Members.{Contains-here}
+use Rattle.snap_route.proofs.Joined.{Contains-nil, Contains-cons_cases, Contains-tail}
 use Rattle.snap_rows.specs.declared.tables.ArrayAt.{ArrayAt}
 use Rattle.snap_rows.specs.declared.tables.Tables.{Tables}
 use Rattle.snap_rows.specs.declared.tables.Stage.{Stage as Turn}
@@ -63,7 +64,7 @@ module _ (t : Tables) (routes : Table) (s : IsSetting t routes) where
   pub behind_way : (b : ℕ) → b < switch_count t → {a v : ℕ} → a < switch_count t → IsBehind routes b a v → (ws : List ℕ) × Way t b a ws × Contains ws v
   behind_way b lb {a = a} la (next_one apart) =
       let rest = some_way (next_of routes a b) b (near a b la lb apart).0 lb in
-      (next t a b ∷ rest.0, longer a b la lb apart rest.1, subst (Contains (next t a b ∷ rest.0)) (s.hops a b la lb apart) (Contains-head (next t a b) rest.0))
+      (next t a b ∷ rest.0, longer a b la lb apart rest.1, subst (Contains (next t a b ∷ rest.0)) (s.hops a b la lb apart) (Contains-here (next t a b) rest.0))
   behind_way b lb {a = a} {v = v} la (later_one apart more) =
       let rest = behind_way b lb (near a b la lb apart).0 more in
       (next t a b ∷ rest.0, longer a b la lb apart rest.1, Contains-tail (next t a b) rest.0 v rest.2)

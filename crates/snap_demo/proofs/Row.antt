@@ -15,11 +15,10 @@ use Rattle.std.proofs.lemmas.Simd.{map-map}
 use Rattle.std.proofs.lemmas.Slice.Eq.{bytes_eq-Decides}
 use Rattle.snap_core.specs.declared.ports.PortAt.{PortAt}
 use Rattle.snap_core.specs.Names.{is_name_byte, is_switch_name}
-use Rattle.snap_rows.specs.Entries.{port_in}
+use Rattle.snap_core.specs.Ports.{port_in, link_cmp}
 use Rattle.snap_route.specs.Tables.{IsUnreachable}
 use Rattle.snap_route.specs.Walks.{IsWalk, Linked}
 use Rattle.snap_topo.specs.Form.{IsInForm, IsLink, IsPort}
-use Rattle.snap_topo.specs.Spells.{link_cmp}
 use Rattle.snap_demo.specs.Row.{link_of, links, port_of, ports, stated_topology, switch_name, switches}
 use Rattle.snap_demo.proofs.Ranges.{apart, each, rising}
 

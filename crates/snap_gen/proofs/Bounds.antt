@@ -19,7 +19,8 @@ use Rattle.snap_rows.specs.Form.{switch_count}
 use Rattle.snap_rows.specs.Handles.{Handles, seeks, visits, concludes, delivers, carries, sent}
 use Rattle.snap_rows.specs.Network.{Net, Copy, Event, Happening, Crossed, Delivered, Forked, Leads, Run, inject, step, moved, happening}
 use Rattle.snap_rows.proofs.Runs.{runs-tell}
-use Rattle.snap_rows.proofs.Rows.{some_injective, All-get}
+use Rattle.std.proofs.lemmas.Option.{same_Some}
+use Rattle.snap_rows.proofs.Rows.{All-get}
 use Rattle.snap_rows.proofs.Ports.{port_is_found}
 use Rattle.snap_gen.specs.Agreement.{sent_of, lost_of}
 use Rattle.snap_gen.specs.Faithful.{IsWithin, IsDeliveredWithin}
@@ -95,8 +96,8 @@ module _ (t : Tables) (two : IsTwo t) (dist : ℕ → ℕ → ℕ) (d : ℕ) (fa
   gets : (w h st : ℕ) (k : List ℕ) (s s' : Arrays) (a : Action) (head : Head) → HeadWithin t dist d w h st head → Handles t w k s head s' a → Gets w h st a
   gets w h st k s s' a (Walk n) within does = subst (λ x. Gets w h x a) (sym within.1) (subst (λ x. Gets w x 0 a) (sym within.0) (at_walk (walk_does t two does)))
   gets w h st k s s' a (Stage n i) within does = absurd within
-  gets w h st k s s' a (Visit r n) within does = at_visit {h = h} {st = st} within.0 within.1 (λ x own. subst (λ y. h + dist w y + (ranks t - r) * d ≤ (ranks t + 1) * d) (some_injective within.2.0 x (sym within.2.1 ∙ own)) within.2.2) does
-  gets w h st k s s' a (Out p) within does = at_out within.0 (λ x own. subst (λ y. h + dist w y ≤ (ranks t + 1) * d) (some_injective within.1.0 x (sym within.1.1 ∙ own)) within.1.2) does
+  gets w h st k s s' a (Visit r n) within does = at_visit {h = h} {st = st} within.0 within.1 (λ x own. subst (λ y. h + dist w y + (ranks t - r) * d ≤ (ranks t + 1) * d) (same_Some within.2.0 x (sym within.2.1 ∙ own)) within.2.2) does
+  gets w h st k s s' a (Out p) within does = at_out within.0 (λ x own. subst (λ y. h + dist w y ≤ (ranks t + 1) * d) (same_Some within.1.0 x (sym within.1.1 ∙ own)) within.1.2) does
 
   abbrev Within : Copy → Type 0
   Within c = CopyWithin t dist d c

@@ -5,7 +5,7 @@ use Rattle.std.specs.List.{All}
 use Rattle.std.proofs.lemmas.Bool.{eqb-true, eqb-false}
 use Rattle.std.proofs.lemmas.List.{append-nil}
 use Rattle.std.proofs.lemmas.List.Elements.{All-head, All-tail, All-filter}
-use Rattle.std.proofs.lemmas.Option.{none-some}
+use Rattle.std.proofs.lemmas.Option.{none-some, same_Some}
 use Rattle.snap_core.specs.declared.place.Place.{Place}
 use Rattle.snap_core.specs.declared.policy.Update.{Update}
 use Rattle.snap_core.specs.Arrays.{Arrays, update, updates}
@@ -22,7 +22,7 @@ use Rattle.snap_rows.specs.Form.{array_count, IsUpdateInForm}
 use Rattle.snap_rows.specs.Home.{IsVisitAtHome}
 use Rattle.snap_rows.specs.Handles.{Follows, Visits, is_field}
 use Rattle.snap_rows.specs.Network.{Net, Event, Happening, inject, step, RunsCalmly, rests, injects, steps, packets_of}
-use Rattle.snap_rows.proofs.Rows.{row_form, nodes, some_injective}
+use Rattle.snap_rows.proofs.Rows.{row_form, nodes}
 use Rattle.snap_rows.proofs.Visited.{visits_same}
 use Rattle.snap_rows.proofs.Later.{rank_is_below}
 use Rattle.snap_gen.specs.Visits.{Enters, Chained, begun, visited}
@@ -50,7 +50,7 @@ module _ (t : Tables) (two : IsTwo t) (k : List ℕ) where
   -- a visit by arrays that are the same at its rank
   pub same_visit : (w r v x : ℕ) (s a : Arrays) (us : List Update) → IsVisitAtHome t r v → rank_at t r ≡ Some w → ((q : Place) → rank_of t q.var ≡ r → s q ≡ a q) → Visits t w k s r v x us → Visits t w k a r v x us
   same_visit w r v x s a us home own same visit =
-      let there : home.owner ≡ w = some_injective _ _ (sym home.rank ∙ own) in
+      let there : home.owner ≡ w = same_Some _ _ (sym home.rank ∙ own) in
       visits_same t two.valid two.form two.version (nodes t two.form) w k s a r v x us home.body (subst (λ y. row_at t y v ≡ Some home.body) there home.row) home.visited same visit
 
   fit : (w r v x : ℕ) (s : Arrays) (us : List Update) → Visits t w k s r v x us → All (λ (u : Update). u.var < array_count t) us
@@ -81,7 +81,7 @@ module _ (t : Tables) (two : IsTwo t) (k : List ℕ) where
           by true e =
               let same : q ≡ r = eqb-true q r e in
               let place : x' ≡ v = chains_one t k m n r x' v (subst (λ z. Chained t k m n z x') same c) behind.chained in
-              let there : w' ≡ w = some_injective _ _ (sym own' ∙ ap (rank_at t) same ∙ own) in
+              let there : w' ≡ w = same_Some _ _ (sym own' ∙ ap (rank_at t) same ∙ own) in
               let v1 : Visits t w k m r v y us' = subst (λ z. Visits t w k m r z y us') place (subst (λ z. Visits t w k m z x' y us') same (subst (λ z. Visits t z k m q x' y us') there visit')) in
               let ups : us' ≡ us = (visits_one t w k m r v y x us' us v1 by_m).1 in
               ap (λ l. updates m l k p) ups ∙ sym (same_updates visit s m level p (at ∙ same)) ∙ sym (after_own t k r s us a p (at ∙ same))

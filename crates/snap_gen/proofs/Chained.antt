@@ -11,7 +11,8 @@ use Rattle.snap_rows.specs.declared.tables.Row.TheVariants.{Field, Last}
 use Rattle.snap_rows.specs.Entries.{row_at, rank_at, rank_of, ranks}
 use Rattle.snap_rows.specs.Home.{IsVisitAtHome}
 use Rattle.snap_rows.specs.Handles.{side, is_field, is_test, is_ranked, Follows, arrives, follows, Visits, cut}
-use Rattle.snap_rows.proofs.Rows.{row_form, nodes, some_injective}
+use Rattle.std.proofs.lemmas.Option.{same_Some}
+use Rattle.snap_rows.proofs.Rows.{row_form, nodes}
 use Rattle.snap_rows.proofs.Visited.{visit_end}
 use Rattle.snap_rows.proofs.Later.{next_home, enter_home}
 use Rattle.snap_gen.specs.Visits.{Enters, Chained, begun, visited}
@@ -21,10 +22,10 @@ use Rattle.snap_gen.proofs.Walks.{field_passes, stops}
 
 follows_one : (t : Tables) (w : ℕ) (k : List ℕ) (p : Row → Bool) (m : Arrays) {n v x : ℕ} → Follows t w k p m n v → Follows t w k p m n x → v ≡ x
 follows_one t w k p m (arrives row no_p) (arrives row' no_p') = refl
-follows_one t w k p m (arrives row no_p) (follows row' yes_p way rest) = absurd (both_ways _ (ap p (some_injective _ _ (sym row' ∙ row)) ∙ no_p) yes_p)
-follows_one t w k p m (follows row yes_p way rest) (arrives row' no_p) = absurd (both_ways _ (ap p (some_injective _ _ (sym row ∙ row')) ∙ no_p) yes_p)
+follows_one t w k p m (arrives row no_p) (follows row' yes_p way rest) = absurd (both_ways _ (ap p (same_Some _ _ (sym row' ∙ row)) ∙ no_p) yes_p)
+follows_one t w k p m (follows row yes_p way rest) (arrives row' no_p) = absurd (both_ways _ (ap p (same_Some _ _ (sym row ∙ row')) ∙ no_p) yes_p)
 follows_one t w k p m {x = x} (follows {x = a} row yes_p way rest) (follows {x = b} row' yes_p' way' rest') =
-    let same = some_injective _ _ (sym way ∙ ap (λ y. side y m k) (some_injective _ _ (sym row ∙ row')) ∙ way') in
+    let same = same_Some _ _ (sym way ∙ ap (λ y. side y m k) (same_Some _ _ (sym row ∙ row')) ∙ way') in
     follows_one t w k p m rest (subst (λ y. Follows t w k p m y x) (sym same) rest')
 
 last_ups : List Update → Row → List Update
@@ -36,7 +37,7 @@ unfolding last_ups
 visits_one t w k m r n v x us vs a b =
     let same = follows_one t w k (is_ranked t r) m a.number b.number in
     let leaf = follows_one t w k is_test (cut t r m) a.walk (subst (λ y. Follows t w k is_test (cut t r m) y b.leaf) (sym same) b.walk) in
-    let rows = some_injective (Last a.ups a.outs) (Last b.ups b.outs) (sym a.row ∙ ap (row_at t w) leaf ∙ b.row) in
+    let rows = same_Some (Last a.ups a.outs) (Last b.ups b.outs) (sym a.row ∙ ap (row_at t w) leaf ∙ b.row) in
     (same, a.updates ∙ ap (filter (λ (u : Update). nat_eq (rank_of t u.var) r)) (ap (last_ups []) rows) ∙ sym b.updates)
 
 module _ (t : Tables) (k : List ℕ) (m : Arrays) (n : ℕ) where
@@ -47,7 +48,7 @@ module _ (t : Tables) (k : List ℕ) (m : Arrays) (n : ℕ) where
   by_rank e (visited {w = w} {r = r} {v = v} {x = x} {us = us} c own visit) (visited {w = w'} {r = q} {v = v'} {x = x'} {us = us'} c' own' visit') =
       let same : r ≡ q = (let f : r + 1 ≡ q + 1 = e in omega arith) in
       let at : v ≡ v' = by_rank same c c' in
-      let there : w ≡ w' = some_injective _ _ (sym own ∙ ap (rank_at t) same ∙ own') in
+      let there : w ≡ w' = same_Some _ _ (sym own ∙ ap (rank_at t) same ∙ own') in
       let v1 : Visits t w k m r v' x' us' = subst (λ y. Visits t y k m r v' x' us') (sym there) (subst (λ y. Visits t w' k m y v' x' us') (sym same) visit') in
       (visits_one t w k m r v x x' us us' visit (subst (λ y. Visits t w k m r y x' us') (sym at) v1)).0
 
@@ -64,13 +65,13 @@ fields_alike t form w k m s n v (follows {x = x} {b = b} row yes_p way rest) = f
 
 -- where a packet's chain begins is determined
 pub enters_one : (t : Tables) (k : List ℕ) (m : Arrays) (n x : ℕ) → Enters t k m n → Enters t k m x → n ≡ x
-enters_one t k m n x a b = follows_one t a.at k is_field m a.fields (subst (λ y. Follows t y k is_field m 0 x) (some_injective _ _ (sym b.port ∙ a.port)) b.fields)
+enters_one t k m n x a b = follows_one t a.at k is_field m a.fields (subst (λ y. Follows t y k is_field m 0 x) (same_Some _ _ (sym b.port ∙ a.port)) b.fields)
 
 module _ (t : Tables) (two : IsTwo t) (k : List ℕ) where
   -- a visit at home leads to one at home
   pub home_on : (m : Arrays) (w r v x : ℕ) (us : List Update) → IsVisitAtHome t r v → rank_at t r ≡ Some w → Visits t w k m r v x us → r + 1 < ranks t → IsVisitAtHome t (r + 1) x
   home_on m w r v x us home own visit more =
-      let there : home.owner ≡ w = some_injective _ _ (sym home.rank ∙ own) in
+      let there : home.owner ≡ w = same_Some _ _ (sym home.rank ∙ own) in
       let end = visit_end t two.valid two.form two.version (nodes t two.form) w k r m v x home.body (subst (λ y. row_at t y v ≡ Some home.body) there home.row) home.visited visit.number in
       next_home t two.valid two.version w x (r + 1) end.0 end.1 end.2 more
 

@@ -12,7 +12,8 @@ use Rattle.snap_route.specs.Walks.{Linked, IsWalk, IsNext, IsDiameter}
 use Rattle.snap_route.specs.Tables.{Table, AreRoutes, distance_of}
 use Rattle.snap_rows.specs.declared.tables.ArrayAt.{ArrayAt}
 use Rattle.snap_rows.specs.declared.tables.Tables.{Tables}
-use Rattle.snap_rows.specs.Entries.{next, port_in, ranks_in}
+use Rattle.snap_core.specs.Ports.{port_in}
+use Rattle.snap_rows.specs.Entries.{next, ranks_in}
 use Rattle.snap_rows.specs.Form.{IsInForm, IsPortInForm, switch_count}
 use Rattle.snap_rows.proofs.Arrives.{owner_below}
 use Rattle.snap_gen.proofs.Bounds.{HasDistances}

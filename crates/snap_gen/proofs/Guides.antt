@@ -5,7 +5,7 @@ use Rattle.std.specs.List.{All}
 use Rattle.std.proofs.lemmas.Bool.{eqb-true, eqb-false, eq-eqb, ne_eqb, cond-true, cond-false}
 use Rattle.std.proofs.lemmas.List.{append-nil}
 use Rattle.std.proofs.lemmas.List.Elements.{All-nil, All-cons, All-append, All-take, All-drop, All-map}
-use Rattle.std.proofs.lemmas.Option.{none-some}
+use Rattle.std.proofs.lemmas.Option.{none-some, same_Some}
 use Rattle.snap_core.specs.declared.place.Place.{Place}
 use Rattle.snap_core.specs.declared.policy.Update.{Update}
 use Rattle.snap_core.specs.Arrays.{Arrays, updates}
@@ -19,7 +19,7 @@ use Rattle.snap_rows.specs.declared.head.Head.TheVariants.{Walk, Visit}
 use Rattle.snap_rows.specs.Entries.{Parts, row_at, next, rank_at, rank_of, ranks}
 use Rattle.snap_rows.specs.Handles.{Handles, seeks, visits, concludes, Visits, Follows, is_field}
 use Rattle.snap_rows.specs.Network.{Net, Copy, Step, Happening, Leads, step, moved, happening, stepped}
-use Rattle.snap_rows.proofs.Rows.{some_injective, All-get}
+use Rattle.snap_rows.proofs.Rows.{All-get}
 use Rattle.snap_gen.specs.Agreement.{sent_of, lost_of, CameOut}
 use Rattle.snap_gen.specs.InTurn.{StandsAt}
 use Rattle.snap_gen.proofs.Nodes.{IsTwo, WalkDoes, visits_first, forks_at_once, walk_does, OutDoes, is_delivered, is_carried, out_does}
@@ -47,7 +47,7 @@ holds_after t s c j m a old new held here far w q at = by (nat_eq w c.at) refl
     by false isnt = ap (λ (x : Arrays). x q) (cond-false (nat_eq w c.at) m (s.stores w) isnt) ∙ held w q at ∙ sym (far w (eqb-false w c.at isnt) q at)
 
 elsewhere : (t : Tables) (w : ℕ) (old new : Arrays) → IsElsewhere t w old new → (w' : ℕ) → w' ≢ w → (q : Place) → StandsAt t w' q.var → new q ≡ old q
-elsewhere t w old new far w' ne q at = far q (λ own. ne (some_injective w' w (sym at ∙ own)))
+elsewhere t w old new far w' ne q at = far q (λ own. ne (same_Some w' w (sym at ∙ own)))
 
 -- the arrays a, but those of rank r as the updates leave them at the switch
 abbrev pub after : Tables → List ℕ → ℕ → Arrays → List Update → Arrays → Arrays
@@ -113,7 +113,7 @@ same_store t s c a held is_carried = held c.at
 
 -- ---- the only copy
 pub only_one : (c0 c : Copy) (j : ℕ) → slice_get (c0 ∷ []) j ≡ Some c → (j ≡ zero) × (c0 ≡ c)
-only_one c0 c zero e = (refl, some_injective c0 c e)
+only_one c0 c zero e = (refl, same_Some c0 c e)
 only_one c0 c (suc j) e = absurd (none-some c e)
 
 pub not_both : {A : Type 0} (x : A) (l : List A) → l ≡ x ∷ [] → l ≡ [] → ⊥

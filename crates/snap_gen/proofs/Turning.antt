@@ -33,7 +33,6 @@ use Rattle.snap_rows.specs.Entries.{Parts, node_of, port_numbers, rank_at, rank_
 use Rattle.snap_rows.specs.Form.{array_count}
 use Rattle.snap_rows.specs.Handles.{Visits, sent}
 use Rattle.snap_rows.specs.Network.{Net, Happening}
-use Rattle.snap_rows.proofs.Rows.{some_injective}
 use Rattle.snap_rows.proofs.Later.{rank_is_below}
 use Rattle.snap_gen.specs.Agreement.{sent_of, lost_of, CameOut, Agrees}
 use Rattle.snap_gen.specs.Faithful.{Faithful, IsStoreOf, IsPacketOf, CanEnter}
@@ -124,7 +123,7 @@ module _ (p : Program) (topology : Topology) (places : List ℕ) (t : Tables) (f
     leaves = λ w r x y us c own visit q at'. at.behind.own w r x y us (rank_is_below t r w own) c own visit q at' ∙ same q;
     forks = λ w v us os c row.
         (let number : v ≡ at.last = chains_one t k m at.first (ranks t) v at.last c at.behind.chained in
-        let rows : Last us os ≡ Last at.ups at.outs = some_injective _ _ (sym (own_node t two w v (Last us os) row refl) ∙ ap (node_of t) number ∙ own_node t two at.at at.last (Last at.ups at.outs) at.leaf refl) in
+        let rows : Last us os ≡ Last at.ups at.outs = same_Some _ _ (sym (own_node t two w v (Last us os) row refl) ∙ ap (node_of t) number ∙ own_node t two at.at at.last (Last at.ups at.outs) at.leaf refl) in
         let set : results os k ≡ end.set = ap (λ l. results l k) (same_outs us at.ups os at.outs rows) ∙ at.made in (
           ap (sent_of t) set ∙ same_sent t end.set o.packets (IsPermutation-trans _ _ _ (IsPermutation-sym _ _ end.came.ports) came.ports),
           ap (lost_of t) set ∙ ap (λ l. slice_index l 0) (sym end.came.loss ∙ came.loss),

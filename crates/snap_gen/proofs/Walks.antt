@@ -20,7 +20,7 @@ use Rattle.snap_rows.specs.Entries.{Parts, row_at, node_of, rank_of, var_of, is_
 use Rattle.snap_rows.specs.Form.{IsFieldTest}
 use Rattle.snap_rows.specs.Rules.{MayFollow}
 use Rattle.snap_rows.specs.Handles.{side, is_field, is_test, is_ranked, Follows, arrives, follows}
-use Rattle.snap_rows.proofs.Rows.{some_injective}
+use Rattle.std.proofs.lemmas.Option.{same_Some}
 use Rattle.snap_gen.specs.Visits.{Comes, here, on}
 use Rattle.snap_gen.proofs.Nodes.{IsTwo, AsksFields, own_node, asks_fields, in_order}
 
@@ -152,8 +152,8 @@ module _ (t : Tables) (k : List ℕ) (two : IsTwo t) where
   weaker_if r q l (Some b) f = weaker r q l b f
 
   side_is : (c : Bool) (y z x : ℕ) (P : ℕ → Type 0) → P y × P z → Some (cond c y z) ≡ Some x → P x
-  side_is true y z x P h e = subst P (some_injective y x e) h.0
-  side_is false y z x P h e = subst P (some_injective z x e) h.1
+  side_is true y z x P h e = subst P (same_Some y x e) h.0
+  side_is false y z x P h e = subst P (same_Some z x e) h.1
 
   -- a state row of at least rank r leads to none that may not follow r
   pub steps_on : (r a x : ℕ) (m : Arrays) (b : Row) → node_of t a ≡ Some b → is_test b ≡ true → IfSome (node_of t a) (MayFollow t r) → side b m k ≡ Some x → IfSome (node_of t x) (MayFollow t r)
@@ -176,7 +176,7 @@ module _ (t : Tables) (k : List ℕ) (two : IsTwo t) where
   pub goes_beyond : (r w v : ℕ) (b x : Row) → row_at t w v ≡ Some b → is_node b ≡ true → row_at t w v ≡ Some x → is_ranked t r x ≡ false → IfSome (node_of t v) (MayFollow t r) → IfSome (node_of t v) (MayFollow t (r + 1))
   goes_beyond r w v b x row inner other no_p f =
       let node = own_node t two w v b row inner in
-      let same : b ≡ x = some_injective b x (sym row ∙ other) in
+      let same : b ≡ x = same_Some b x (sym row ∙ other) in
       subst (λ o. IfSome o (MayFollow t (r + 1))) (sym node) (greater r b (subst (λ o. IfSome o (MayFollow t r)) node f) (ap (is_ranked t r) same ∙ no_p))
 
   -- past rank r a walk with greater ranks as 0 is the same from any arrays

@@ -22,7 +22,8 @@ use Rattle.snap_rows.specs.declared.tables.ArrayAt.{ArrayAt}
 use Rattle.snap_rows.specs.declared.tables.Hop.{Hop}
 use Rattle.snap_rows.specs.declared.tables.Tables.{Tables}
 use Rattle.snap_rows.specs.Entries.{next}
-use Rattle.snap_rows.specs.Form.{IsInForm, IsRowAtInForm, IsArrayInForm, IsPortInForm, IsLinkInForm, IsHopInForm, comps, switch_count, array_count, row_cmp, hop_cmp, link_cmp}
+use Rattle.snap_core.specs.Ports.{link_cmp}
+use Rattle.snap_rows.specs.Form.{IsInForm, IsRowAtInForm, IsArrayInForm, IsPortInForm, IsLinkInForm, IsHopInForm, comps, switch_count, array_count, row_cmp, hop_cmp}
 use Rattle.snap_gen.proofs.Far.{next_nearer}
 use Rattle.snap_make.specs.Framed.{IsFrame, told}
 use Rattle.snap_make.specs.Pairs.{hop_entry, hop_for, at_switches}

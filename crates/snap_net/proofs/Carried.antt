@@ -31,7 +31,7 @@ use Rattle.snap_rows.specs.Weight.{weight}
 use Rattle.snap_rows.proofs.Aims.{aim_below, aim_lighter, goes_on}
 use Rattle.snap_rows.proofs.Arrives.{fork_arrives, next_below, way_to}
 use Rattle.snap_rows.proofs.Lighter.{lighter}
-use Rattle.snap_rows.proofs.Rows.{some_injective}
+use Rattle.std.proofs.lemmas.Option.{same_Some}
 use Rattle.snap_rows.proofs.Stepping.{steps_plain}
 use Rattle.snap_net.specs.declared.flying.Flying.{Flying}
 use Rattle.snap_net.specs.Moves.{copies_in_flight, flights}
@@ -87,7 +87,7 @@ comes_step t n old new d xs a made s shows =
     let v' = holding t n new (flights d a ++ xs) in
     let left : Left v v' 0 d made.arrays a = record { is = refl; tables = refl; stores = made.changed; injected = refl; flying = refl } in
     let b = has_stepped v v' 0 d made.arrays a left made.handles s shows in
-    (b.state, happening b.copy a ∷ [], goes_once t s b.state (happening b.copy a) b.leads, b.shows, (b.copy, sym (some_injective _ _ b.is), refl))
+    (b.state, happening b.copy a ∷ [], goes_once t s b.state (happening b.copy a) b.leads, b.shows, (b.copy, sym (same_Some _ _ b.is), refl))
 
 -- a copy at switch w with a head
 abbrev pub there : Flying → ℕ → Head → Flying

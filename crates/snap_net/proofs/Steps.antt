@@ -5,7 +5,7 @@ use Rattle.std.specs.List.{All}
 use Rattle.std.proofs.lemmas.Bool.{false≢true, eqb-true, eq-eqb}
 use Rattle.std.proofs.lemmas.List.{map-append, take-map, drop-map}
 use Rattle.std.proofs.lemmas.List.Elements.{All-push, All-append, All-take, All-drop, All-map, All-cons, All-nil}
-use Rattle.std.proofs.lemmas.Option.{slice_get-map}
+use Rattle.std.proofs.lemmas.Option.{slice_get-map, same_Some}
 use Rattle.snap_core.specs.Arrays.{Arrays, updates, zero_arrays}
 use Rattle.snap_core.specs.Cells.{Kept, arrays_of}
 use Rattle.snap_core.specs.declared.policy.Update.{Update}
@@ -18,7 +18,8 @@ use Rattle.snap_rows.specs.declared.head.Sent.{Sent}
 use Rattle.snap_rows.specs.declared.tables.Tables.{Tables}
 use Rattle.snap_rows.specs.declared.tables.Rule.TheVariants.{Missing}
 use Rattle.snap_rows.specs.declared.tables.Spot.TheVariants as spot
-use Rattle.snap_rows.specs.Entries.{next, port_in, port_at, row_at}
+use Rattle.snap_core.specs.Ports.{port_in}
+use Rattle.snap_rows.specs.Entries.{next, port_at, row_at}
 use Rattle.snap_rows.specs.Form.{IsInForm, IsPortInForm, comps, switch_count}
 use Rattle.snap_rows.specs.Home.{AtHome}
 use Rattle.snap_rows.specs.Handles.{Handles, forked}
@@ -26,7 +27,7 @@ use Rattle.snap_rows.specs.Rules.{PortKeeps}
 use Rattle.snap_rows.specs.Steps.{Arrives}
 use Rattle.snap_rows.specs.Stepping.{ActsAs, FateArrives, StepsBy}
 use Rattle.snap_rows.specs.Network.{Copy, Net, Inject, Step, Happening, Crossed, Delivered, Forked, Leads, inject, injected, step, stepped, moved, happening}
-use Rattle.snap_rows.proofs.Rows.{All-get, some_injective}
+use Rattle.snap_rows.proofs.Rows.{All-get}
 use Rattle.snap_rows.proofs.Arrives.{fork_arrives, next_below}
 use Rattle.snap_rows.proofs.Stepping.{steps_plain}
 use Rattle.snap_head.specs.Frames.{frame}
@@ -56,7 +57,7 @@ port_entry [] p w e = absurd (false≢true (subst (λ (o : Option ℕ). IsSome o
 port_entry (q ∷ ps) p w e = by (q.port == p) e (port_entry ps p w)
   where
     by : (b : Bool) → (if b then Some q.at else port_in ps p) ≡ Some w → (port_in ps p ≡ Some w → PortEntry ps w) → PortEntry (q ∷ ps) w
-    by true h rest = record { place = 0; entry = q; is = refl; at = some_injective _ _ h }
+    by true h rest = record { place = 0; entry = q; is = refl; at = same_Some _ _ h }
     by false h rest = let i = rest h in record { place = suc i.place; entry = i.entry; is = i.is; at = i.at }
 
 abbrev pub fresh : ℕ → ℕ → List ℕ → Flying
@@ -103,7 +104,7 @@ done_fresh v p w k at first s shows =
 -- ---- a step
 unmapped : (o : Option Copy) (c : Flying) → option_map flown o ≡ Some c → (x : Copy) × (o ≡ Some x) × (flown x ≡ c)
 unmapped None c e = absurd (false≢true (ap (λ (o : Option Flying). is_some o) e))
-unmapped (Some x) c e = (x, refl, some_injective _ _ e)
+unmapped (Some x) c e = (x, refl, same_Some _ _ e)
 
 moved_flights : (c : Copy) (copies : List Sent) → map flown (map (λ (x : Sent). record c { head = Out x.port; packet = x.packet; steps = c.steps + 1 }) copies) ≡ copies_in_flight c.number c.at copies
 moved_flights c [] = refl
@@ -230,7 +231,7 @@ home_left t form from to k c f is places packets homes arrives gone =
 pub step_made : (may : ℕ → Bool) (t : Tables) (k : ℕ) (old : List Kept) (from : List Flying) (new : List Kept) (to : List Flying) (moved : Moved) (x : Flying) (us done : List Update) (f : Fate) → slice_get from k ≡ Some x → done ≡ us
     → StepsBy t x.at x.packet may (store_of old x.at) x.head us f → HasUpdated old from k done new → HasGone t from k f to moved → MakesStep may t k old from new to moved
 step_made may t k old from new to moved x us done f is all steps updated gone c at =
-    subst (λ c. HasMade may t c k old from new to moved) (some_injective _ _ (sym is ∙ at)) (record {
+    subst (λ c. HasMade may t c k old from new to moved) (same_Some _ _ (sym is ∙ at)) (record {
       arrays = updates (store_of old x.at) us x.packet;
       fate = f;
       steps = steps.steps;
@@ -264,7 +265,7 @@ done_plain may v new k c moved all is tables injected made s shows =
     let a = plain.0 in
     let left : Left v new k c h.arrays a = record { is = is; tables = tables; stores = h.changed; injected = injected; flying = h.flying ∙ ap (spliced v.flying k 1) (acts_leave t c h.fate a plain.1) } in
     let b = has_stepped v new k c h.arrays a left plain.2 s shows in
-    let one : c ≡ flown b.copy = some_injective _ _ (sym is ∙ b.is) in (
+    let one : c ≡ flown b.copy = same_Some _ _ (sym is ∙ b.is) in (
       b.state,
       happening b.copy a ∷ [],
       b.leads,
@@ -298,7 +299,7 @@ stands_there {s = s} {s' = s'} x (step {i = k} {c = c} {a = a} is does) one = su
 -- ---- its frame
 frame_left : (t : Tables) (from : List Flying) (k : ℕ) (c : Flying) (f : Fate) (bytes : List ℕ) → slice_get from k ≡ Some c → IsFrameBy f c.packet bytes → HasFrame (spliced from k 1 (left_by t c f)) k (told_by t c f) bytes
 frame_left t from k c (fate.Seek x h) bytes is framed = λ y there.
-    let same : record c { at = next t c.at x; head = h } ≡ y = some_injective _ _ (sym (there_now from (drop (k + 1) from) k c (record c { at = next t c.at x; head = h }) is) ∙ there) in
+    let same : record c { at = next t c.at x; head = h } ≡ y = same_Some _ _ (sym (there_now from (drop (k + 1) from) k c (record c { at = next t c.at x; head = h }) is) ∙ there) in
     framed ∙ ap (λ (y : Flying). frame y.head y.packet) same
 frame_left t from k c (fate.Deliver port) bytes is framed = tt
 frame_left t from k c (fate.Fork outs) bytes is framed = tt

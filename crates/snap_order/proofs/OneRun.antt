@@ -1,13 +1,12 @@
 -- The plain run in turn of packets is one, and has one report.
 use Rattle.std.proofs.Common.{◌≡◌, ℕ, List, [], ◌∷◌, length, refl, sym, ap, subst, ◌∙◌}
-use Rattle.std.proofs.lemmas.Option.{slice_get_within}
+use Rattle.std.proofs.lemmas.Option.{slice_get_within, same_Some}
 use Rattle.snap_core.specs.Arrays.{zero_arrays}
 use Rattle.snap_rows.specs.declared.tables.Tables.{Tables}
 use Rattle.snap_rows.specs.Form.{IsInForm}
 use Rattle.snap_rows.specs.Handles.{Handles}
 use Rattle.snap_rows.specs.Network.{Copy, Event, Inject, Step, happening, injected, stepped}
 use Rattle.snap_rows.proofs.OneWay.{one_way}
-use Rattle.snap_rows.proofs.Rows.{some_injective}
 use Rattle.snap_rows.proofs.Runs.{StepsCopies, plain-one}
 use Rattle.snap_gen.specs.InTurn.{TakesTurns}
 use Rattle.snap_runs.specs.declared.frames.Frames.TheVariants.{Numbered}
@@ -22,15 +21,15 @@ use Rattle.snap_order.proofs.Taking.{same_rank}
 -- ---- one event leads to one state
 step_one : (t : Tables) → IsInForm t → {s n n' : Ordered} {j : ℕ} {us us' : List Turn} → LeadsInTurn t s (Step j) n us → LeadsInTurn t s (Step j) n' us' → (n ≡ n') × (us ≡ us')
 step_one t form {s = s} {j = j} (moves {c = c} {m = m} {a = a} found none does) (moves {c = c'} {m = m'} {a = a'} found' none' does') =
-    let copy : c ≡ c' = some_injective _ _ (sym found ∙ found') in
+    let copy : c ≡ c' = same_Some _ _ (sym found ∙ found') in
     let again : Handles t c.at c.packet (s.net.stores c.at) c.head m' a' = subst (λ (x : Copy). Handles t x.at x.packet (s.net.stores x.at) x.head m' a') (sym copy) does' in
     let one = one_way t form c.at c.packet (s.net.stores c.at) c.head m m' a a' does again in
     (λ i. record s { net = stepped s.net j (copy i) (one.0 i) (one.1 i) }, λ i. Happens (happening (copy i) (one.1 i)) ∷ [])
-step_one t form {s = s} (moves {c = c} found none does) (visits {c = c'} {r = r} {n = n} found' before turn takes) = absurd (none r n (subst (λ x. IsBefore t s.net x r n) (sym (some_injective c c' (sym found ∙ found'))) before))
-step_one t form {s = s} (moves {c = c} found none does) (waits {c = c'} {r = r} {n = n} found' before early) = absurd (none r n (subst (λ x. IsBefore t s.net x r n) (sym (some_injective c c' (sym found ∙ found'))) before))
-step_one t form {s = s} (visits {c = c} {r = r} {n = n} found before turn takes) (moves {c = c'} found' none does) = absurd (none r n (subst (λ x. IsBefore t s.net x r n) (some_injective c c' (sym found ∙ found')) before))
+step_one t form {s = s} (moves {c = c} found none does) (visits {c = c'} {r = r} {n = n} found' before turn takes) = absurd (none r n (subst (λ x. IsBefore t s.net x r n) (sym (same_Some c c' (sym found ∙ found'))) before))
+step_one t form {s = s} (moves {c = c} found none does) (waits {c = c'} {r = r} {n = n} found' before early) = absurd (none r n (subst (λ x. IsBefore t s.net x r n) (sym (same_Some c c' (sym found ∙ found'))) before))
+step_one t form {s = s} (visits {c = c} {r = r} {n = n} found before turn takes) (moves {c = c'} found' none does) = absurd (none r n (subst (λ x. IsBefore t s.net x r n) (same_Some c c' (sym found ∙ found')) before))
 step_one t form {s = s} {j = j} (visits {c = c} {r = r} {n = n} {m = m} {h = h} {b = b} found before turn takes) (visits {c = c'} {r = r'} {n = n'} {m = m'} {h = h'} {b = b'} found' before' turn' takes') =
-    let copy : c ≡ c' = some_injective _ _ (sym found ∙ found') in
+    let copy : c ≡ c' = same_Some _ _ (sym found ∙ found') in
     let before2 : IsBefore t s.net c r' n' = subst (λ x. IsBefore t s.net x r' n') (sym copy) before' in
     let rank : r ≡ r' = same_rank before.comes before2.comes in
     let number : n ≡ n' = comes_one t c.at c.packet (s.net.stores c.at) before.comes before2.comes in
@@ -41,21 +40,21 @@ step_one t form {s = s} {j = j} (visits {c = c} {r = r} {n = n} {m = m} {h = h} 
     let one = turns_one t c.at c.packet c.number takes again in
     (λ i. visited s j (copy i) (one.arrays i) (one.handled i) (one.becomes i), λ i. turn_of (copy i) (one.becomes i) ∷ [])
 step_one t form {s = s} (visits {c = c} {r = r} found before turn takes) (waits {c = c'} {r = r'} {n = n'} found' before' early) =
-    let copy : c ≡ c' = some_injective _ _ (sym found ∙ found') in
+    let copy : c ≡ c' = same_Some _ _ (sym found ∙ found') in
     let before2 : IsBefore t s.net c r' n' = subst (λ x. IsBefore t s.net x r' n') (sym copy) before' in
     absurd (early (ap s.handled (sym (same_rank before.comes before2.comes)) ∙ turn ∙ ap (λ (x : Copy). x.number) copy))
-step_one t form {s = s} (waits {c = c} {r = r} {n = n} found before early) (moves {c = c'} found' none does) = absurd (none r n (subst (λ x. IsBefore t s.net x r n) (some_injective c c' (sym found ∙ found')) before))
+step_one t form {s = s} (waits {c = c} {r = r} {n = n} found before early) (moves {c = c'} found' none does) = absurd (none r n (subst (λ x. IsBefore t s.net x r n) (same_Some c c' (sym found ∙ found')) before))
 step_one t form {s = s} (waits {c = c} {r = r} found before early) (visits {c = c'} {r = r'} {n = n'} found' before' turn takes) =
-    let copy : c ≡ c' = some_injective _ _ (sym found ∙ found') in
+    let copy : c ≡ c' = same_Some _ _ (sym found ∙ found') in
     let before2 : IsBefore t s.net c r' n' = subst (λ x. IsBefore t s.net x r' n') (sym copy) before' in
     absurd (early (ap s.handled (same_rank before.comes before2.comes) ∙ turn ∙ ap (λ (x : Copy). x.number) (sym copy)))
 step_one t form {s = s} (waits {c = c} {r = r} found before early) (waits {c = c'} {r = r'} {n = n'} found' before' early') =
-    let copy : c ≡ c' = some_injective _ _ (sym found ∙ found') in
+    let copy : c ≡ c' = same_Some _ _ (sym found ∙ found') in
     let before2 : IsBefore t s.net c r' n' = subst (λ x. IsBefore t s.net x r' n') (sym copy) before' in
     (refl, λ i. Waits (copy i) (same_rank before.comes before2.comes i) ∷ [])
 
 inject_one : (t : Tables) {s n n' : Ordered} {port : ℕ} {k : List ℕ} {us us' : List Turn} → LeadsInTurn t s (Inject port k) n us → LeadsInTurn t s (Inject port k) n' us' → (n ≡ n') × (us ≡ us')
-inject_one t {s = s} {port = port} {k = k} (injects {w = w} own names) (injects {w = w'} own' names') = ((λ i. record s { net = injected s.net (some_injective w w' (sym own ∙ own') i) port k }), refl)
+inject_one t {s = s} {port = port} {k = k} (injects {w = w} own names) (injects {w = w'} own' names') = ((λ i. record s { net = injected s.net (same_Some w w' (sym own ∙ own') i) port k }), refl)
 
 pub leads_one : StepsAreOne
 leads_one t form s (Inject port k) n n' us us' a b = inject_one t a b

@@ -5,7 +5,7 @@ use Rattle.snap_rows.specs.declared.head.Head.{Head}
 use Rattle.snap_rows.specs.declared.tables.Row.TheVariants.{Last}
 use Rattle.snap_rows.specs.declared.tables.Tables.{Tables}
 use Rattle.snap_rows.specs.Entries.{Parts, next, row_at}
-use Rattle.snap_rows.proofs.Rows.{some_injective}
+use Rattle.std.proofs.lemmas.Option.{same_Some}
 use Rattle.snap_rows.proofs.OneWay.{follows_one, visits_one}
 use Rattle.snap_core.specs.Tests.{results}
 use Rattle.snap_gen.specs.Agreement.{lost_of, sent_of}
@@ -30,25 +30,25 @@ module _ (t : Tables) (w : ℕ) (k : List ℕ) (i : ℕ) where
   moved_over {s = s} {s' = s'} {m = m} {h = h} {h' = h'} {r = r} {n = n} {n' = n'} {b = b} same at takes = subst (λ x. TakesTurns t w k i s' h r x m h' b) at (subst (λ x. TakesTurns t w k i x h r n m h' b) same takes)
 
   pub turns_one : {s m m' : Arrays} {h g g' : ℕ → ℕ} {r n : ℕ} {b b' : Becomes} → TakesTurns t w k i s h r n m g b → TakesTurns t w k i s h r n m' g' b' → SameTurn m m' g g' b b'
-  turns_one {r = r} {n = n} (seeks {x = x} own away) (seeks {x = y} own' away') = record { arrays = refl; handled = refl; becomes = ap (λ z. SentOn (next t w z) r n) (some_injective x y (sym own ∙ own')) }
-  turns_one (seeks {x = x} own away) (waits own' early) = absurd (away (some_injective x w (sym own ∙ own')))
-  turns_one (seeks {x = x} own away) (visits own' turn made more rest) = absurd (away (some_injective x w (sym own ∙ own')))
-  turns_one (seeks {x = x} own away) (concludes own' turn made last row) = absurd (away (some_injective x w (sym own ∙ own')))
-  turns_one (waits own early) (seeks {x = x} own' away) = absurd (away (some_injective x w (sym own' ∙ own)))
+  turns_one {r = r} {n = n} (seeks {x = x} own away) (seeks {x = y} own' away') = record { arrays = refl; handled = refl; becomes = ap (λ z. SentOn (next t w z) r n) (same_Some x y (sym own ∙ own')) }
+  turns_one (seeks {x = x} own away) (waits own' early) = absurd (away (same_Some x w (sym own ∙ own')))
+  turns_one (seeks {x = x} own away) (visits own' turn made more rest) = absurd (away (same_Some x w (sym own ∙ own')))
+  turns_one (seeks {x = x} own away) (concludes own' turn made last row) = absurd (away (same_Some x w (sym own ∙ own')))
+  turns_one (waits own early) (seeks {x = x} own' away) = absurd (away (same_Some x w (sym own' ∙ own)))
   turns_one (waits own early) (waits own' early') = record { arrays = refl; handled = refl; becomes = refl }
   turns_one (waits own early) (visits own' turn made more rest) = absurd (early turn)
   turns_one (waits own early) (concludes own' turn made last row) = absurd (early turn)
-  turns_one (visits own turn made more rest) (seeks {x = x} own' away) = absurd (away (some_injective x w (sym own' ∙ own)))
+  turns_one (visits own turn made more rest) (seeks {x = x} own' away) = absurd (away (same_Some x w (sym own' ∙ own)))
   turns_one (visits own turn made more rest) (waits own' early) = absurd (early turn)
   turns_one {s = s} {r = r} {n = n} (visits {v = v} {us = us} own turn made more rest) (visits {v = v'} {us = us'} own' turn' made' more' rest') =
       let one = visits_one t w k s r n v v' us us' made made' in
       turns_one rest (moved_over (ap (λ l. updates s l k) (sym one.1)) (sym one.0) rest')
   turns_one (visits own turn made more rest) (concludes own' turn' made' last row) = absurd (omega (arith, more, last))
-  turns_one (concludes own turn made last row) (seeks {x = x} own' away) = absurd (away (some_injective x w (sym own' ∙ own)))
+  turns_one (concludes own turn made last row) (seeks {x = x} own' away) = absurd (away (same_Some x w (sym own' ∙ own)))
   turns_one (concludes own turn made last row) (waits own' early) = absurd (early turn)
   turns_one (concludes own turn made last row) (visits own' turn' made' more rest) = absurd (omega (arith, more, last))
   turns_one {s = s} {r = r} {n = n} (concludes {v = v} {us = us} {ups = ups} {os = os} own turn made last row) (concludes {v = v'} {us = us'} {ups = ups'} {os = os'} own' turn' made' last' row') =
       let one = visits_one t w k s r n v v' us us' made made' in
-      let leaf : Last ups os ≡ Last ups' os' = some_injective _ _ (sym row ∙ ap (row_at t w) one.0 ∙ row') in
+      let leaf : Last ups os ≡ Last ups' os' = same_Some _ _ (sym row ∙ ap (row_at t w) one.0 ∙ row') in
       let outs : os ≡ os' = cc in
       record { arrays = ap (λ l. updates s l k) one.1; handled = refl; becomes = ap (λ (o : List Parts). Forks (sent_of t (results o k)) (lost_of t (results o k))) outs }

@@ -26,7 +26,6 @@ use Rattle.snap_rows.specs.Handles as handles
 use Rattle.snap_rows.specs.Happenings.{deliveries_of, losses_of}
 use Rattle.snap_rows.specs.Network.{Net, Copy, Event, Inject, Step, Happening, stepped, injected, happening, packets_of}
 use Rattle.snap_rows.specs.Network as network
-use Rattle.snap_rows.proofs.Rows.{some_injective}
 use Rattle.snap_gen.specs.Agreement.{sent_of, lost_of}
 use Rattle.snap_gen.specs.Chains.{Chain}
 use Rattle.snap_gen.specs.Faithful.{Faithful, IsStoreOf, IsPacketOf, CanEnter, AllCanEnter, packets_in}
@@ -117,7 +116,7 @@ module _ {t : Tables} {w : ℕ} {k : List ℕ} {x r e : ℕ} {h h' : ℕ → ℕ
 
   -- ranks of other switches have handled what they had
   elsewhere : (w' q : ℕ) → w' ≢ w → rank_at t q ≡ Some w' → h' q ≡ h q
-  elsewhere w' q ne at = ⊎_elim (λ s. s) (λ m. absurd (ne (some_injective w' w (sym at ∙ m.0)))) (at_rank q)
+  elsewhere w' q ne at = ⊎_elim (λ s. s) (λ m. absurd (ne (same_Some w' w (sym at ∙ m.0)))) (at_rank q)
 
 module _ (p : Program) (topology : Topology) (places : List ℕ) (t : Tables) (f : Faithful p topology places t) (version : t.version ≡ 2) (m0 : Arrays) (store0 : IsStoreOf p m0) (ks : List (ℕ × List ℕ)) (can : AllCanEnter p t ks) where
   two : IsTwo t

@@ -1,7 +1,7 @@
 -- A step whose visits are in turn is one of the ordered network.
 use Rattle.std.proofs.Common.{Bor, ◌≡◌, ◌≢◌, ◌⊎◌, inl, inr, ⊎_elim, ℕ, ◌+◌, ◌<◌, ◌≤◌, Bool, true, false, List, [], ◌∷◌, ◌++◌, map, take, drop, get_or, Some, refl, sym, ap, subst, ◌∙◌, arith}
 use Rattle.std.specs.Prelude.{slice_get, ◌==◌, if◌then◌else◌}
-use Rattle.std.proofs.lemmas.Option.{slice_get_within}
+use Rattle.std.proofs.lemmas.Option.{slice_get_within, same_Some}
 use Rattle.std.proofs.lemmas.Bool.{cases_lt, eqb-false, eqb-true}
 use Rattle.snap_core.specs.declared.policy.Update.{Update}
 use Rattle.snap_core.specs.Arrays.{Arrays}
@@ -22,7 +22,7 @@ use Rattle.snap_rows.specs.Network.{Copy, Step, happening, moved, stepped}
 use Rattle.snap_rows.specs.Stepping.{ActsAs, ComesTo, HasVisited, IsBeforeNone, Steps, Visiting, none, more}
 use Rattle.snap_rows.specs.Stepping as stepping
 use Rattle.snap_rows.proofs.Later.{not_one, rank_is_below}
-use Rattle.snap_rows.proofs.Rows.{All-get, row_form, some_injective}
+use Rattle.snap_rows.proofs.Rows.{All-get, row_form}
 use Rattle.snap_net.specs.declared.flying.Flying.{Flying}
 use Rattle.snap_net.specs.declared.happened.Moved.{Moved}
 use Rattle.snap_net.specs.Flights.{spliced}
@@ -113,7 +113,7 @@ module _ (t : Tables) (w : ℕ) (k : List ℕ) (i : ℕ) (may : ℕ → Bool) (h
       let q = did.last in
       let v = did.number in
       let ends = did.ends in
-      let away : q ≢ r = λ e. ends.1 (some_injective _ _ (sym ends.0 ∙ ap (rank_at t) e ∙ here)) in
+      let away : q ≢ r = λ e. ends.1 (same_Some _ _ (sym ends.0 ∙ ap (rank_at t) e ∙ here)) in
       inr (
         first_made did.made away,
         (

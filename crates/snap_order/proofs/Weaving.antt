@@ -11,7 +11,7 @@ use Rattle.std.proofs.lemmas.List.Elements.{All-head, All-tail}
 use Rattle.snap_rows.specs.declared.tables.Tables.{Tables}
 use Rattle.snap_rows.specs.Entries.{rank_at}
 use Rattle.snap_rows.specs.Network.{Copy, Step}
-use Rattle.snap_rows.proofs.Rows.{some_injective}
+use Rattle.std.proofs.lemmas.Option.{same_Some}
 use Rattle.snap_net.specs.declared.flying.Flying.{Flying}
 use Rattle.snap_net.specs.Shown.{flown}
 use Rattle.snap_net.proofs.Carried.{rests_shown}
@@ -108,10 +108,10 @@ module _ (t : Tables) (workers : ℕ) (some_workers : 0 < workers) (busy : ℕ �
         step.counted r (own ∙ ap Some at) ∙ ap (λ (p : Part). get_or p.counts r 0) (sym (after_own (w % workers) (ap (λ v. v % workers) at)))
     handled_now r w own some false true away e =
         let same : w % workers ≡ j = eqb-true (w % workers) j e in
-        let ne : rank_at t r ≢ Some c.at = λ o. eqb-false w c.at away (some_injective w c.at (sym own ∙ o)) in
+        let ne : rank_at t r ≢ Some c.at = λ o. eqb-false w c.at away (same_Some w c.at (sym own ∙ o)) in
         step.others r ne ∙ agrees.handled r w own some ∙ ap (λ k. get_or (parts k).counts r 0) same ∙ sym (steps.here.others r ne) ∙ ap (λ (p : Part). get_or p.counts r 0) (sym (after_own (w % workers) same))
     handled_now r w own some false false away e =
-        step.others r (λ o. eqb-false w c.at away (some_injective w c.at (sym own ∙ o))) ∙ agrees.handled r w own some ∙ ap (λ (p : Part). get_or p.counts r 0) (sym (after_other (w % workers) (eqb-false (w % workers) j e)))
+        step.others r (λ o. eqb-false w c.at away (same_Some w c.at (sym own ∙ o))) ∙ agrees.handled r w own some ∙ ap (λ (p : Part). get_or p.counts r 0) (sym (after_other (w % workers) (eqb-false (w % workers) j e)))
 
     pub agrees_now : Agrees t workers busy after now
     agrees_now = record {

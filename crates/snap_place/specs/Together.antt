@@ -1,12 +1,9 @@
 -- Tied variables at one switch.
-use Rattle.std.specs.Prelude.{◌≡◌, ◌≢◌, ◌<◌, ◌⊎◌, ℕ, List, length, slice_index}
+use Rattle.std.specs.Prelude.{◌≡◌, ◌≢◌, ◌<◌, ℕ, List, length, slice_index}
 use Rattle.snap_dep.specs.Ranks.{Grouping, rank_of}
 use Rattle.snap_place.specs.declared.placement.PlaceFault.{PlaceFault}
 use Rattle.snap_place.specs.declared.placement.PlaceFault.TheVariants.{Apart}
-
--- the pair of c and d comes before that of a and b
-abbrev pub IsBefore : ℕ → ℕ → ℕ → ℕ → Type 0
-IsBefore c d a b = (c < a) ⊎ ((c ≡ a) × (d < b))
+use Rattle.snap_topo.specs.Pairs.{IsBefore}
 
 -- tied variables have one owner
 abbrev pub IsTogether : (ℕ → ℕ → Type 0) → List ℕ → Type 0

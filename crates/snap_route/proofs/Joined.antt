@@ -8,6 +8,8 @@ use Rattle.snap_route.specs.Graphs.{Adjacent, neighbours_of}
 use Rattle.std.proofs.lemmas.List.Elements.{Contains-append_left, Contains-append_right, Contains-append_cases}
 use Rattle.std.proofs.lemmas.List.Sorted.{Contains-permutation, IsPermutation-sym}
 use Rattle.snap_route.specs.Walks.{Linked}
+use Rattle.snap_topo.proofs.Pairs.{pair}
+use Rattle.snap_core.proofs.Members.{Contains-here}
 
 at-only : {X : Type 0} (x y : X) (k : ℕ) → k < 1 → slice_index_or (x ∷ []) k y ≡ y → x ≡ y
 at-only x y zero lt is = is
@@ -25,9 +27,6 @@ Contains-nil y h = omega (arith, h.1)
 pub Contains-cons_cases : {X : Type 0} (x : X) (xs : List X) (y : X) → Contains (x ∷ xs) y → (x ≡ y) ⊎ Contains xs y
 Contains-cons_cases x xs y h = elim (Contains-append_cases (x ∷ []) xs y h) [ inl a ↦ inl (Contains-only x y a) | inr b ↦ inr b ]
 
-pub Contains-head : {X : Type 0} (x : X) (xs : List X) → Contains (x ∷ xs) x
-Contains-head x xs = Contains-append_left (x ∷ []) xs x (Contains-one x)
-
 pub Contains-tail : {X : Type 0} (x : X) (xs : List X) (y : X) → Contains xs y → Contains (x ∷ xs) y
 Contains-tail x xs y h = Contains-append_right (x ∷ []) xs y h
 
@@ -43,7 +42,7 @@ Contains-flat_map {Y = Y} f (z ∷ zs) x y in' here = elim (Contains-cons_cases 
 pub flat_map-Contains : {X Y : Type 0} (f : X → List Y) (xs : List X) (y : Y) → Contains (flat_map f xs) y → (x : X) × (Contains xs x × Contains (f x) y)
 flat_map-Contains f [] y h = absurd (Contains-nil y h)
 flat_map-Contains f (z ∷ zs) y h = elim (Contains-append_cases (f z) (flat_map f zs) y h) [
-  | inl here ↦ (z, (Contains-head z zs, here))
+  | inl here ↦ (z, (Contains-here z zs, here))
   | inr later ↦ let w = flat_map-Contains f zs y later in (w.0, (Contains-tail z zs w.0 w.1.0, w.1.1))
 ]
 
@@ -63,9 +62,6 @@ one_if-Contains false x m h = absurd (Contains-nil m h)
 Contains-one_if : (b : Bool) (x m : ℕ) → b ≡ true → x ≡ m → Contains (one_if b x) m
 Contains-one_if true x m is same = subst (λ (y : ℕ). Contains (x ∷ []) y) same (Contains-one x)
 Contains-one_if false x m is same = cc
-
-abbrev pair : ℕ → ℕ → ℕ × ℕ
-pair a b = (a, b)
 
 joined-Contains : (v m : ℕ) (link : ℕ × ℕ) → Contains (joined v link) m → (link ≡ pair v m) ⊎ (link ≡ pair m v)
 joined-Contains v m link h = elim (Contains-append_cases (one_if (link.0 == v) link.1) (one_if (link.1 == v) link.0) m h) [

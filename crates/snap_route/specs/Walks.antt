@@ -1,5 +1,6 @@
 -- Walks, and what is least or greatest among them. A step leads from a switch to one that is linked to it.
 use Rattle.std.specs.Prelude.{◌≡◌, ◌≤◌, ◌<◌, ◌⊎◌, ℕ, List, [], ◌∷◌, length, Contains}
+use Rattle.snap_topo.specs.Pairs.{IsBefore}
 
 -- a link of the list joins the two
 abbrev pub Linked : List (ℕ × ℕ) → ℕ → ℕ → Type 0
@@ -29,10 +30,6 @@ pub record IsNext (step : ℕ → ℕ → Type 0) (a b n : ℕ) : Type 0 where
 pub record IsDiameter (step : ℕ → ℕ → Type 0) (count d : ℕ) : Type 0 where
   pub reached : (a : ℕ) × ((b : ℕ) × ((a < count) × ((b < count) × IsDistance step a b d)))
   pub greatest : (a b e : ℕ) → a < count → b < count → IsDistance step a b e → e ≤ d
-
--- the pair of c and d comes before that of a and b
-abbrev pub IsBefore : ℕ → ℕ → ℕ → ℕ → Type 0
-IsBefore c d a b = (c < a) ⊎ ((c ≡ a) × (d < b))
 
 -- no walk joins a and b, the first such pair of count switches
 pub record IsFirstApart (step : ℕ → ℕ → Type 0) (count a b : ℕ) : Type 0 where

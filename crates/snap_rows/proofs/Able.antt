@@ -18,7 +18,8 @@ use Rattle.snap_rows.specs.Rules.{IsValid}
 use Rattle.snap_rows.specs.Home.{AtHome, IsVisited, IsVisitAtHome}
 use Rattle.snap_rows.specs.Steps.{IsGoOrLeaf}
 use Rattle.snap_rows.specs.Handles.{Handles, Follows, arrives, follows, Visits, is_field, is_test, is_ranked, side, cut, goes, forks, begins, passes_on, goes_on, completes, enters, enters_last, seeks, visits, concludes, delivers, carries}
-use Rattle.snap_rows.proofs.Rows.{row_form, entry_of, some_injective, nodes}
+use Rattle.std.proofs.lemmas.Option.{same_Some}
+use Rattle.snap_rows.proofs.Rows.{row_form, entry_of, nodes}
 use Rattle.snap_rows.proofs.Own.{past}
 use Rattle.snap_rows.proofs.Ways.{side_goes, is_test-side}
 use Rattle.snap_rows.proofs.Stages.{asked}
@@ -38,7 +39,7 @@ above_rows (r ∷ rs) = max (r.number + 1) (above_rows rs)
 number_below : (rs : List RowAt) (i : ℕ) (r : RowAt) → slice_get rs i ≡ Some r → r.number < above_rows rs
 unfolding above_rows
 number_below [] i r is = absurd (false≢true (ap (λ (o : Option RowAt). is_some o) is))
-number_below (x ∷ xs) zero r is = let e : x.number ≡ r.number = ap (λ (r : RowAt). r.number) (some_injective _ _ is) in omega arith
+number_below (x ∷ xs) zero r is = let e : x.number ≡ r.number = ap (λ (r : RowAt). r.number) (same_Some _ _ is) in omega arith
 number_below (x ∷ xs) (suc i) r is = let h : r.number < above_rows xs = number_below xs i r is in omega arith
 
 row_below : (t : Tables) (w n : ℕ) (b : Row) → row_at t w n ≡ Some b → n < above_rows t.rows
@@ -74,7 +75,7 @@ follows_on t valid w k p m tests (suc fuel) n enough some = by (row_at t w n) re
 pub follows_some : (t : Tables) → IsValid t → (w : ℕ) (k : List ℕ) (p : Row → Bool) (m : Arrays) → ((b : Row) → p b ≡ true → is_test b ≡ true) → (n : ℕ) → IsSome (row_at t w n) → (v : ℕ) × Follows t w k p m n v
 follows_some t valid w k p m tests n some = follows_on t valid w k p m tests (above_rows t.rows) n (omega arith) some
 
-field_tests : (b : Row) → is_field b ≡ true → is_test b ≡ true
+pub field_tests : (b : Row) → is_field b ≡ true → is_test b ≡ true
 field_tests (Field test y z) e = refl
 field_tests (State test y z) e = refl
 field_tests (Go x) e = e
@@ -82,7 +83,7 @@ field_tests (Leaf ss os) e = e
 field_tests Stop e = e
 field_tests (Last us os) e = e
 
-ranked_tests : (t : Tables) (r : ℕ) (b : Row) → is_ranked t r b ≡ true → is_test b ≡ true
+pub ranked_tests : (t : Tables) (r : ℕ) (b : Row) → is_ranked t r b ≡ true → is_test b ≡ true
 ranked_tests t r (Field test y z) e = refl
 ranked_tests t r (State test y z) e = refl
 ranked_tests t r (Go x) e = e

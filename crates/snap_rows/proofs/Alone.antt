@@ -12,15 +12,10 @@ use Rattle.snap_rows.specs.Entries.{Parts, node_of, owner_of, var_of}
 use Rattle.snap_rows.specs.Form.{Alternate}
 use Rattle.snap_rows.specs.Lone.{Chain, field, state, leaf, IsLoneFrom}
 use Rattle.snap_rows.specs.Standing.{StandsAt, AreSo, beside, both, of_stages}
-use Rattle.snap_rows.proofs.Rows.{some_injective}
+use Rattle.std.proofs.lemmas.Option.{same_Some}
+use Rattle.snap_core.proofs.Members.{Contains-here, Contains-later}
 
 -- ---- members
-Contains-here : (x : ℕ) (xs : List ℕ) → Contains (x ∷ xs) x
-Contains-here x xs = (0, (let n = length xs in omega arith), refl)
-
-Contains-later : (x y : ℕ) (xs : List ℕ) → Contains xs x → Contains (y ∷ xs) x
-Contains-later x y xs h = (suc h.0, (let below : h.0 < length xs = h.1 in omega arith), h.2)
-
 Contains-cases : (x y : ℕ) (xs : List ℕ) → Contains (y ∷ xs) x → (x ≡ y) ⊎ Contains xs x
 Contains-cases x y xs h = by h.0 h.1 h.2
   where
@@ -51,7 +46,7 @@ both_so P Q R Apart b from to two q = (two.0, two.1, two.2, to two.0 (inl two.3)
 -- ---- chains from a number whose node is known
 pub from_field : (t : Tables) (n y z : ℕ) (test : Test) (ws : List ℕ) → node_of t n ≡ Some (Field test y z) → Chain t n ws → Chain t y ws ⊎ Chain t z ws
 from_field t n y z test ws node (field {y = y'} {z = z'} {test = test'} node' way c) =
-    let same : Field test' y' z' ≡ Field test y z = some_injective _ _ (sym node' ∙ node) in
+    let same : Field test' y' z' ≡ Field test y z = same_Some _ _ (sym node' ∙ node) in
     let yes : y' ≡ y = cc in
     let else' : z' ≡ z = cc in
     ⊎_elim (λ e. inl (subst (λ x. Chain t x ws) (e ∙ yes) c)) (λ e. inr (subst (λ x. Chain t x ws) (e ∙ else') c)) way
@@ -67,11 +62,11 @@ pub record AfterState (t : Tables) (w y z : ℕ) (ws : List ℕ) : Type 0 where
 
 pub from_state : (t : Tables) (n w y z : ℕ) (test : Test) (ws : List ℕ) → node_of t n ≡ Some (State test y z) → owner_of t (var_of test) ≡ Some w → Chain t n ws → AfterState t w y z ws
 from_state t n w y z test ws node own (state {y = y'} {z = z'} {w = w'} {test = test'} {ws = vs} node' own' way c) =
-    let same : State test' y' z' ≡ State test y z = some_injective _ _ (sym node' ∙ node) in
+    let same : State test' y' z' ≡ State test y z = same_Some _ _ (sym node' ∙ node) in
     let yes : y' ≡ y = cc in
     let else' : z' ≡ z = cc in
     let asked : test' ≡ test = cc in
-    let at : w' ≡ w = some_injective _ _ (sym own' ∙ ap (λ (test : Test). owner_of t (var_of test)) asked ∙ own) in
+    let at : w' ≡ w = same_Some _ _ (sym own' ∙ ap (λ (test : Test). owner_of t (var_of test)) asked ∙ own) in
     record {
       rest = vs;
       is = ap (λ w. w ∷ vs) at;
@@ -84,7 +79,7 @@ from_state t n w y z test ws node own (leaf {ss = ss} {os = os} node') =
 
 pub from_leaf : (t : Tables) (n : ℕ) (ss : List Turn) (os : List Parts) (ws : List ℕ) → node_of t n ≡ Some (Leaf ss os) → Chain t n ws → ws ≡ map (λ (s : Turn). s.at) ss
 from_leaf t n ss os ws node (leaf {ss = ss'} {os = os'} node') =
-    let same : Leaf ss' os' ≡ Leaf ss os = some_injective _ _ (sym node' ∙ node) in
+    let same : Leaf ss' os' ≡ Leaf ss os = same_Some _ _ (sym node' ∙ node) in
     let stages : ss' ≡ ss = cc in
     ap (map (λ (s : Turn). s.at)) stages
 from_leaf t n ss os ws node (field {y = y'} {z = z'} {test = test'} node' way c) =

@@ -4,7 +4,7 @@ use Rattle.std.specs.Prelude.{slice_get, ◌==◌, ◌&&◌, if◌then◌else◌
 use Rattle.std.specs.List.{All, filter}
 use Rattle.std.proofs.lemmas.Bool.{eqb-true, eq-eqb, false≢true}
 use Rattle.std.proofs.lemmas.List.Elements.{All-contains_itself, All-cons, All-tail}
-use Rattle.std.proofs.lemmas.Option.{slice_get_within, slice_get-get_or}
+use Rattle.std.proofs.lemmas.Option.{slice_get_within, slice_get-get_or, same_Some}
 use Rattle.snap_core.specs.Arrays.{Arrays, value_of}
 use Rattle.snap_core.specs.Switch.{goes_out}
 use Rattle.snap_core.specs.Packets.{PacketSet, AllLong, listed, no_packets, with_packet}
@@ -29,7 +29,7 @@ use Rattle.snap_rows.specs.Rules.{IsValid, HopKeeps, IsStateRow, IsFirstSpot}
 use Rattle.snap_rows.specs.Handles.{Handles, asks, goes, forks, begins, passes_on, goes_on, completes, enters, enters_last, seeks, visits, concludes, delivers, carries, is_field, sent, forked}
 use Rattle.snap_rows.specs.Home.{AtHome, IsStageAtHome}
 use Rattle.snap_rows.specs.Steps.{Arrives, IsSent}
-use Rattle.snap_rows.proofs.Rows.{row_keeps, rule_keeps, row_form, All-get, some_injective, nodes}
+use Rattle.snap_rows.proofs.Rows.{row_keeps, rule_keeps, row_form, All-get, nodes}
 use Rattle.snap_rows.proofs.Ways.{side_goes}
 use Rattle.snap_rows.proofs.Ports.{port_is_found}
 use Rattle.snap_rows.proofs.Visited.{visit_end}
@@ -74,7 +74,7 @@ same_leaf t kind form one w x n ss os row some = by (row_at t x n) refl some
     not_two two = let h : 1 ≡ 2 = sym one ∙ two in omega arith
 
     state_there : (y : ℕ) (b : Row) → row_at t y n ≡ Some b → IsStateRow b → ⊥
-    state_there y (State test u v) e h = leaf_or (some_injective _ _ (sym node ∙ (rule_keeps t Kind kind y n (State test u v) e).0 one))
+    state_there y (State test u v) e h = leaf_or (same_Some _ _ (sym node ∙ (rule_keeps t Kind kind y n (State test u v) e).0 one))
       where
         leaf_or : Leaf ss os ≡ State test u v → ⊥
         leaf_or e = cc
@@ -98,7 +98,7 @@ same_leaf t kind form one w x n ss os row some = by (row_at t x n) refl some
 
 pub drop_get : {X : Type 0} (xs : List X) (i : ℕ) (x : X) → slice_get xs i ≡ Some x → drop i xs ≡ x ∷ drop (suc i) xs
 drop_get [] i x e = absurd (false≢true (ap (λ o. is_some o) e))
-drop_get (y ∷ ys) zero x e = ap (λ z. z ∷ ys) (some_injective _ _ e)
+drop_get (y ∷ ys) zero x e = ap (λ z. z ∷ ys) (same_Some _ _ e)
 drop_get (y ∷ ys) (suc i) x e = drop_get ys i x e
 
 no_way : (t : Tables) (y w : ℕ) (vs : List ℕ) → Way t y w vs → y ≡ w → vs ≡ []
@@ -135,7 +135,7 @@ passed t w x xs ws P away route all = passed_from t w x (x ∷ xs) xs ws P refl 
 -- a stage is at home at the next hop towards it
 stage_passes : (t : Tables) → IsValid t → IsInForm t → t.version ≡ 1 → (w n i : ℕ) (s : Turn) (ss : List Turn) (os : List Parts) → row_at t w n ≡ Some (Leaf ss os) → slice_get ss i ≡ Some s → s.at ≢ w → IsStageAtHome t w n i → IsStageAtHome t (next t w s.at) n i
 stage_passes t valid form one w n i s ss os row is away home =
-    let same : Leaf home.stages home.outs ≡ Leaf ss os = some_injective _ _ (sym home.row ∙ row) in
+    let same : Leaf home.stages home.outs ≡ Leaf ss os = same_Some _ _ (sym home.row ∙ row) in
     let stages : home.stages ≡ ss = cc in
     let route : Route t w (map (λ (s : Turn). s.at) (s ∷ drop (suc i) ss)) home.ws = subst (λ ss'. Route t w (map (λ (s : Turn). s.at) ss') home.ws) (ap (drop i) stages ∙ drop_get ss i s is) home.route in
     let p = passed t w s.at (map (λ (s : Turn). s.at) (drop (suc i) ss)) home.ws (λ x. IsSome (row_at t x n)) away route home.rows in
@@ -152,7 +152,7 @@ stage_passes t valid form one w n i s ss os row is away home =
 -- the next stage is at home where this one is done
 pub stage_next : (t : Tables) (w n i : ℕ) (s : Turn) (ss : List Turn) (os : List Parts) → row_at t w n ≡ Some (Leaf ss os) → slice_get ss i ≡ Some s → s.at ≡ w → i + 1 < length ss → IsStageAtHome t w n i → IsStageAtHome t w n (i + 1)
 stage_next t w n i s ss os row is stands more home =
-    let same : Leaf home.stages home.outs ≡ Leaf ss os = some_injective _ _ (sym home.row ∙ row) in
+    let same : Leaf home.stages home.outs ≡ Leaf ss os = same_Some _ _ (sym home.row ∙ row) in
     let stages : home.stages ≡ ss = cc in
     let route : Route t w (map (λ (s : Turn). s.at) (drop i ss)) home.ws = subst (λ ss'. Route t w (map (λ (s : Turn). s.at) ss') home.ws) (ap (drop i) stages) home.route in
     record {
@@ -241,7 +241,7 @@ arrives t valid form w below k m h m' a home (enters_last {os = os} two none way
 arrives t valid form w below k m h m' a home (seeks {x = x} rank away) = (next_below t form w x below, home)
 arrives t valid form w below k m h m' a home (visits {r = r} {n = n} {v = v} rank visit more f) =
     let h = home.1 in
-    let owner : h.owner ≡ w = some_injective _ _ (sym h.rank ∙ rank) in
+    let owner : h.owner ≡ w = same_Some _ _ (sym h.rank ∙ rank) in
     let e = visit_end t valid form home.0 (nodes t form) w k r m n v h.body (subst (λ x. row_at t x n ≡ Some h.body) owner h.row) h.visited visit.number in
     arrives t valid form w below k _ (Visit (r + 1) v) m' a (home.0, next_home t valid home.0 w v (r + 1) e.0 e.1 e.2 more) f
 arrives t valid form w below k m h m' a home (concludes {os = os} rank visit last row) = fork_arrives t k os

@@ -13,7 +13,8 @@ use Rattle.snap_rows.specs.declared.head.Head.{Head}
 use Rattle.snap_rows.specs.declared.head.Head.TheVariants.{Walk, Out}
 use Rattle.snap_rows.specs.Actions.{Action, Forward, Deliver, Fork}
 use Rattle.snap_rows.specs.declared.head.Sent.{Sent}
-use Rattle.snap_rows.specs.Entries.{Parts, row_at, port_at, port_in, next}
+use Rattle.snap_core.specs.Ports.{port_in}
+use Rattle.snap_rows.specs.Entries.{Parts, row_at, port_at, next}
 use Rattle.snap_rows.specs.Form.{IsInForm, IsPortInForm, switch_count}
 use Rattle.snap_rows.specs.Ways.{Way, here, on}
 use Rattle.snap_rows.specs.Rules.{IsValid, PortKeeps}
@@ -23,7 +24,8 @@ use Rattle.snap_rows.specs.Handles.{Handles, forked}
 use Rattle.snap_rows.specs.Network.{Copy, Net, Event, Happening, Leads, inject, step, Runs, moved, start}
 use Rattle.snap_rows.proofs.Runs.{runs-keep}
 use Rattle.snap_rows.specs.Bound.{hops_within, distance, longest, to_switch, left, most_hops, IsBounded}
-use Rattle.snap_rows.proofs.Rows.{All-get, some_injective}
+use Rattle.std.proofs.lemmas.Option.{same_Some}
+use Rattle.snap_rows.proofs.Rows.{All-get}
 use Rattle.snap_rows.proofs.Arrives.{way_to, arrives, fork_arrives, next_below}
 use Rattle.snap_rows.proofs.Short.{short}
 
@@ -38,7 +40,7 @@ port_entry [] p w e = absurd (false≢true (ap (λ (o : Option ℕ). is_some o) 
 port_entry (q ∷ ps) p w e = by (q.port == p) e (port_entry ps p w)
   where
     by : (b : Bool) → (if b then Some q.at else port_in ps p) ≡ Some w → (port_in ps p ≡ Some w → PortEntry ps p w) → PortEntry (q ∷ ps) p w
-    by true h rest = record { place = 0; entry = q; is = refl; at = some_injective _ _ h }
+    by true h rest = record { place = 0; entry = q; is = refl; at = same_Some _ _ h }
     by false h rest = let i = rest h in record { place = suc i.place; entry = i.entry; is = i.is; at = i.at }
 
 pub port_below : (t : Tables) → IsInForm t → (p w : ℕ) → port_at t p ≡ Some w → w < switch_count t

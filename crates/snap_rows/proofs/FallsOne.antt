@@ -2,7 +2,7 @@
 use Rattle.std.proofs.Common.{◌≡◌, ◌≢◌, ℕ, zero, suc, ◌+◌, ◌-◌, ◌*◌, ◌<◌, ◌≤◌, Bool, true, false, cond, List, [], ◌∷◌, Option, Some, None, length, refl, sym, ap, subst, ◌∙◌, arith, inl, inr, ⊎_elim, ◌⊎◌}
 use Rattle.std.specs.Prelude.{slice_get, get_or, IsSome, IfSome, is_some, option_map, ◌&&◌, nat_lt, count_by, if◌then◌else◌}
 use Rattle.std.proofs.lemmas.Bool.{false≢true, ltb-true, lt-ltb, le-ltb, eq-eqb, and_parts, and_from, and_right}
-use Rattle.std.proofs.lemmas.Option.{slice_get-get_or}
+use Rattle.std.proofs.lemmas.Option.{slice_get-get_or, same_Some}
 use Rattle.std.proofs.lemmas.List.Sums.{sum_by-cons}
 use Rattle.std.proofs.Math.Nat.{suc-mul, mul-le-mul_right}
 use Rattle.snap_core.specs.declared.policy.Test.{Test}
@@ -22,7 +22,7 @@ use Rattle.snap_rows.specs.Rules.{IsValid, IsStateRow}
 use Rattle.snap_rows.specs.Home.{AtHome}
 use Rattle.snap_rows.specs.Handles.{Handles, asks, goes, forks, begins, passes_on, goes_on, completes, enters, enters_last, seeks, visits, concludes, delivers, carries}
 use Rattle.snap_rows.specs.Bound.{distance, longest, is_state, states, states_above, stages_of, most_stages, most_stages_in, to_switch, to_decision, from_stage, left, most_hops}
-use Rattle.snap_rows.proofs.Rows.{row_keeps, row_form, entry_of, some_injective}
+use Rattle.snap_rows.proofs.Rows.{row_keeps, row_form, entry_of}
 use Rattle.snap_rows.proofs.Ways.{side_goes}
 use Rattle.snap_rows.proofs.Growing.{not_two}
 use Rattle.snap_rows.proofs.Arrives.{same_leaf, arrives, stage_first, stage_next}
@@ -56,7 +56,7 @@ count_lt p q [] i r is e f h = absurd (false≢true (ap (λ (o : Option RowAt). 
 count_lt p q (x ∷ xs) zero r is e f h = more_lt p q x xs (by (p x) (q x) (ap p same ∙ e) (ap q same ∙ f) (count_le p q xs h))
   where
     same : x ≡ r
-    same = some_injective _ _ is
+    same = same_Some _ _ is
 
     by : (a b : Bool) → a ≡ false → b ≡ true → count_by p xs ≤ count_by q xs → cond a 1 0 + count_by p xs + 1 ≤ cond b 1 0 + count_by q xs
     by false true e f le = omega arith
@@ -93,9 +93,9 @@ decided t valid one w n x row = let g = (row_keeps t valid Kind w n (Go x) row).
 -- state rows of a number stand at one switch
 pub one_decision : (t : Tables) (n x y : ℕ) → Decided t n x → Decided t n y → x ≡ y
 one_decision t n x y d e =
-    let same : State d.test d.yes' d.no' ≡ State e.test e.yes' e.no' = some_injective _ _ (sym d.node ∙ e.node) in
+    let same : State d.test d.yes' d.no' ≡ State e.test e.yes' e.no' = same_Some _ _ (sym d.node ∙ e.node) in
     let test : d.test ≡ e.test = cc in
-    some_injective _ _ (sym d.own ∙ ap (λ (test : Test). owner_of t (var_of test)) test ∙ e.own)
+    same_Some _ _ (sym d.own ∙ ap (λ (test : Test). owner_of t (var_of test)) test ∙ e.own)
 
 above_more : (n x : ℕ) → n < x → (r : RowAt) → (is_state r.row && nat_lt x r.number) ≡ true → (is_state r.row && nat_lt n r.number) ≡ true
 above_more n x less r e =
@@ -159,7 +159,7 @@ decided_near t valid one w n x there (Some (Last us os)) e = omega arith
 -- ---- the stages of a leaf
 stages_in : (rs : List RowAt) (i : ℕ) (r : RowAt) → slice_get rs i ≡ Some r → stages_of r.row ≤ most_stages_in rs
 stages_in [] i r is = absurd (false≢true (ap (λ (o : Option RowAt). is_some o) is))
-stages_in (x ∷ xs) zero r is = let e : stages_of x.row ≡ stages_of r.row = ap (λ (r : RowAt). stages_of r.row) (some_injective _ _ is) in omega arith
+stages_in (x ∷ xs) zero r is = let e : stages_of x.row ≡ stages_of r.row = ap (λ (r : RowAt). stages_of r.row) (same_Some _ _ is) in omega arith
 stages_in (x ∷ xs) (suc i) r is = let h : stages_of r.row ≤ most_stages_in xs = stages_in xs i r is in omega arith
 
 few_stages : (t : Tables) (w n : ℕ) (ss : List Turn) (os : List Parts) → row_at t w n ≡ Some (Leaf ss os) → length ss ≤ most_stages t

@@ -7,7 +7,7 @@ use Rattle.std.proofs.lemmas.Bool.{false≢true, cases_lt}
 use Rattle.std.proofs.lemmas.List.{append_assoc, get_or_default, get_or-set_same, get_or-set_other, length-set, length-append}
 use Rattle.std.proofs.lemmas.List.Elements.{Contains-append_left, Contains-append_right, Contains-append_cases, Contains-push, Contains-push_cases}
 use Rattle.std.proofs.lemmas.List.Sums.{sum_by-set}
-use Rattle.std.proofs.lemmas.Option.{slice_get-get_or}
+use Rattle.std.proofs.lemmas.Option.{slice_get-get_or, same_Some}
 use Rattle.snap_core.specs.declared.ports.PortAt.{PortAt}
 use Rattle.snap_rows.specs.declared.tables.Row.{Row}
 use Rattle.snap_rows.specs.declared.tables.RowAt.{RowAt}
@@ -24,7 +24,7 @@ use Rattle.snap_rows.specs.Ways.{LeadsTo, Reached, port, lead}
 use Rattle.snap_rows.proofs.Marking.{set_true}
 use Rattle.snap_rows.proofs.Nexts.{leads_hold, next_is_over}
 use Rattle.snap_rows.proofs.Places.{row_here}
-use Rattle.snap_rows.proofs.Rows.{some_injective, All-get}
+use Rattle.snap_rows.proofs.Rows.{All-get}
 use Rattle.snap_rows.proofs.Search.{one_place}
 
 same_or_other : (i j : ℕ) → (i ≡ j) ⊎ (j ≢ i)
@@ -95,7 +95,7 @@ not_left t marks left i r is leads f = record {
   sound = f.sound;
   closed = λ j s there m. ⊎_elim
       (λ c. ⊎_elim
-      (λ one. let same : i ≡ j = only one in inr (subst (IsNextMarked t marks) (some_injective _ _ (sym is ∙ ap (slice_get t.rows) same ∙ there)) leads))
+      (λ one. let same : i ≡ j = only one in inr (subst (IsNextMarked t marks) (same_Some _ _ (sym is ∙ ap (slice_get t.rows) same ∙ there)) leads))
       (λ other. inl other)
       (Contains-append_cases (i ∷ []) left j c))
       (λ done. inr done)
@@ -138,9 +138,9 @@ row_has_rows t missing i r is = subst (λ o. IfSome o (λ (r : RowAt). RowKeeps 
 pub contained : {X : Type 0} (xs : List X) (x : X) → (c : Contains xs x) → slice_get xs c.0 ≡ Some x
 contained xs x c = slice_get-get_or xs c.0 x c.1 ∙ ap Some c.2
 
-pub both_ok : {X Y A B C : Type 0} (r : Result X Y) → (A → B → C) → OnOk r A → OnOk r B → OnOk r C
-both_ok (Ok x) f a b = f a b
-both_ok (Err e) f a b = tt
+pub OnOk-both : {X Y A B C : Type 0} (r : Result X Y) → (A → B → C) → OnOk r A → OnOk r B → OnOk r C
+OnOk-both (Ok x) f a b = f a b
+OnOk-both (Err e) f a b = tt
 
 -- what an entry leads to at once it leads to
 pub entry_over : (t : Tables) → IsFirstSpot t Loop None → IsInForm t → (r : RowAt) → Contains t.rows r → (x : ℕ) → LeadsNext t r.at r.row x → LeadsOver t r.at r.row x
@@ -178,7 +178,7 @@ none_left : (t : Tables) → IsInForm t → (marks : List Bool) → IsFollowed t
 none_left t form marks f w n b row m =
     let r = m.1.0 in
     let P = IsMarked t marks in
-    let body : r.row ≡ b = some_injective _ _ (sym (marked_row t form marks w n m) ∙ row) in
+    let body : r.row ≡ b = same_Some _ _ (sym (marked_row t form marks w n m) ∙ row) in
     ⊎_elim
     (λ c. absurd (let h : c.0 < 0 = c.1 in omega arith))
     (λ leads. subst (λ c. HoldsNext P t w n c) body (subst (λ j. HoldsNext P t w j r.row) m.1.3 (subst (λ v. HoldsNext P t v r.number r.row) m.1.2 leads)))

@@ -174,9 +174,9 @@ not_lone t i r so given split lone =
 apart : (a b : ℕ) → a ≢ b → is_eq (nat_cmp a b) ≡ false
 apart a b other = grind (arith, nat_tests)
 
-match_weaker : {X : Type 0} (o : Option X) (A A' : Type 0) (B B' : X → Type 0) → (A → A') → ((x : X) → B x → B' x) → MatchOption o A B → MatchOption o A' B'
-match_weaker None A A' B B' f g h = f h
-match_weaker (Some x) A A' B B' f g h = g x h
+pub MatchOption-weaker : {X : Type 0} (o : Option X) {A A' : Type 0} {B B' : X → Type 0} → (A → A') → ((x : X) → B x → B' x) → MatchOption o A B → MatchOption o A' B'
+MatchOption-weaker None f g h = f h
+MatchOption-weaker (Some x) f g h = g x h
 
 -- one row more before those from k + 1 on
 node_before : (t : Tables) (k n : ℕ) (r : RowAt) → slice_get t.rows k ≡ Some r → node_in (drop k t.rows) n ≡ (if (r.number == n) && is_node r.row then Some r.row else node_in (drop (k + 1) t.rows) n)
@@ -184,7 +184,7 @@ node_before t k n r is = ap (λ rs. node_in rs n) (drop_get t.rows k r is ∙ ap
 
 before_same : (t : Tables) (k n : ℕ) (at : ℕ → Option ℕ) → node_in (drop k t.rows) n ≡ node_in (drop (k + 1) t.rows) n → MatchOption (at n) (node_in (drop (k + 1) t.rows) n ≡ None) (IsNodeFrom t (k + 1) n)
     → MatchOption (at n) (node_in (drop k t.rows) n ≡ None) (IsNodeFrom t k n)
-before_same t k n at same = match_weaker (at n) _ _ _ _ (λ e. same ∙ e) (λ i h. record { entry = h.entry; is = h.is; number = h.number; node = same ∙ h.node })
+before_same t k n at same = MatchOption-weaker (at n) (λ e. same ∙ e) (λ i h. record { entry = h.entry; is = h.is; number = h.number; node = same ∙ h.node })
 
 pub nodes_same : (t : Tables) (k : ℕ) (r : RowAt) (m : ℕ → Option ℕ) → slice_get t.rows k ≡ Some r → is_node r.row ≡ false → AreNodesFrom t (k + 1) m → AreNodesFrom t k m
 nodes_same t k r m is other before n = before_same t k n m (node_before t k n r is ∙ by (r.number == n) (is_node r.row) other) (before n)

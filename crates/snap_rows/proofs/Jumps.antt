@@ -19,12 +19,13 @@ use Rattle.snap_rows.specs.Form.{IsInForm, comps}
 use Rattle.snap_rows.specs.Handles.{side}
 use Rattle.snap_rows.specs.Rules.{IsValid, IsStateRow, IsFieldRow, IsKind1, IsKind2}
 use Rattle.snap_rows.specs.Steps.{IsFieldRowInForm, GoesOn, IsStep}
-use Rattle.snap_rows.proofs.Rows.{All-get, node_entry, nodes, row_form, row_keeps, some_injective}
+use Rattle.std.proofs.lemmas.Option.{same_Some}
+use Rattle.snap_rows.proofs.Rows.{All-get, node_entry, nodes, row_form, row_keeps}
 use Rattle.snap_rows.proofs.Ways.{field_row_form, goes_on_by_test}
 
 -- ---- the row of a number whose node is a field row is that node, at each switch
 same_node : (t : Tables) (n : ℕ) (a b : Row) → node_of t n ≡ Some a → node_of t n ≡ Some b → b ≡ a
-same_node t n a b e f = some_injective b a (sym f ∙ e)
+same_node t n a b e f = same_Some b a (sym f ∙ e)
 
 state_node : (t : Tables) (w n : ℕ) (b : Row) → IsStateRow b → IsKind1 t w n b → node_of t n ≡ Some b
 state_node t w n (State test y z) h kind = kind

@@ -29,7 +29,8 @@ use Rattle.snap_rows.specs.Handles.{Handles, sent, forked, asks, goes, forks, be
 use Rattle.snap_rows.specs.Network.{Copy, step, moved}
 use Rattle.snap_rows.specs.Bound.{longest, left, IsBounded}
 use Rattle.snap_rows.specs.Weight.{outs_of, most_outs, most_outs_in, is_out, weight, weight_after, EachStepIsLighter, steps_left, StepsFall}
-use Rattle.snap_rows.proofs.Rows.{entry_of, All-get, some_injective}
+use Rattle.std.proofs.lemmas.Option.{same_Some}
+use Rattle.snap_rows.proofs.Rows.{entry_of, All-get}
 use Rattle.snap_rows.proofs.Arrives.{arrives, drop_get}
 use Rattle.snap_rows.proofs.Bounded.{Falls, port_short, carry_falls}
 use Rattle.snap_rows.proofs.Measured.{measures}
@@ -67,7 +68,7 @@ copies_few t os k =
 
 outs_in : (rs : List RowAt) (i : ℕ) (r : RowAt) → slice_get rs i ≡ Some r → outs_of r.row ≤ most_outs_in rs
 outs_in [] i r is = absurd (false≢true (ap (λ (o : Option RowAt). is_some o) is))
-outs_in (x ∷ xs) zero r is = let e : outs_of x.row ≡ outs_of r.row = ap (λ (r : RowAt). outs_of r.row) (some_injective _ _ is) in omega arith
+outs_in (x ∷ xs) zero r is = let e : outs_of x.row ≡ outs_of r.row = ap (λ (r : RowAt). outs_of r.row) (same_Some _ _ is) in omega arith
 outs_in (x ∷ xs) (suc i) r is = let h : outs_of r.row ≤ most_outs_in xs = outs_in xs i r is in omega arith
 
 few_outs : (t : Tables) (w n : ℕ) (b : Row) → row_at t w n ≡ Some b → outs_of b ≤ most_outs t

@@ -14,25 +14,26 @@ use Rattle.snap_rows.specs.Actions.{Action, Forward}
 use Rattle.snap_rows.specs.Entries.{Parts, row_at, next, rank_of}
 use Rattle.snap_rows.specs.Form.{IsInForm}
 use Rattle.snap_rows.specs.Handles.{Handles, Follows, arrives, follows, Visits, side, forked, asks, goes, forks, begins, passes_on, goes_on, completes, enters, enters_last, seeks, visits, concludes, delivers, carries}
-use Rattle.snap_rows.proofs.Rows.{row_form, some_injective}
+use Rattle.std.proofs.lemmas.Option.{same_Some}
+use Rattle.snap_rows.proofs.Rows.{row_form}
 use Rattle.snap_rows.proofs.Growing.{not_two}
 
 -- ---- ways along rows
 pub follows_one : (t : Tables) (w : ℕ) (k : List ℕ) (p : Row → Bool) (m : Arrays) (n n' v v' : ℕ) → n ≡ n' → Follows t w k p m n v → Follows t w k p m n' v' → v ≡ v'
 follows_one t w k p m n n' v v' e (arrives row test) (arrives row' test') = e
 follows_one t w k p m n n' v v' e (arrives {b = b} row test) (follows {b = b'} row' test' to f) =
-    let same : b ≡ b' = some_injective _ _ (sym row ∙ ap (row_at t w) e ∙ row') in absurd (false≢true (sym test ∙ ap p same ∙ test'))
+    let same : b ≡ b' = same_Some _ _ (sym row ∙ ap (row_at t w) e ∙ row') in absurd (false≢true (sym test ∙ ap p same ∙ test'))
 follows_one t w k p m n n' v v' e (follows {b = b} row test to f) (arrives {b = b'} row' test') =
-    let same : b' ≡ b = some_injective _ _ (sym row' ∙ ap (row_at t w) (sym e) ∙ row) in absurd (false≢true (sym test' ∙ ap p same ∙ test))
+    let same : b' ≡ b = same_Some _ _ (sym row' ∙ ap (row_at t w) (sym e) ∙ row) in absurd (false≢true (sym test' ∙ ap p same ∙ test))
 follows_one t w k p m n n' v v' e (follows {x = x} {b = b} row test to f) (follows {x = x'} {b = b'} row' test' to' f') =
-    let same : b ≡ b' = some_injective _ _ (sym row ∙ ap (row_at t w) e ∙ row') in
-    follows_one t w k p m x x' v v' (some_injective _ _ (sym to ∙ ap (λ b. side b m k) same ∙ to')) f f'
+    let same : b ≡ b' = same_Some _ _ (sym row ∙ ap (row_at t w) e ∙ row') in
+    follows_one t w k p m x x' v v' (same_Some _ _ (sym to ∙ ap (λ b. side b m k) same ∙ to')) f f'
 
 pub visits_one : (t : Tables) (w : ℕ) (k : List ℕ) (m : Arrays) (r n v v' : ℕ) (us us' : List Update) → Visits t w k m r n v us → Visits t w k m r n v' us' → (v ≡ v') × (us ≡ us')
 visits_one t w k m r n v v' us us' x y =
     let number : v ≡ v' = follows_one t w k _ m n n v v' refl x.number y.number in
     let leaf : x.leaf ≡ y.leaf = follows_one t w k _ _ v v' x.leaf y.leaf number x.walk y.walk in
-    let same : Last x.ups x.outs ≡ Last y.ups y.outs = some_injective _ _ (sym x.row ∙ ap (row_at t w) leaf ∙ y.row) in
+    let same : Last x.ups x.outs ≡ Last y.ups y.outs = same_Some _ _ (sym x.row ∙ ap (row_at t w) leaf ∙ y.row) in
     let ups : x.ups ≡ y.ups = cc in
     (number, x.updates ∙ ap (filter (λ (u : Update). rank_of t u.var == r)) ups ∙ sym y.updates)
 
@@ -42,7 +43,7 @@ Same m m' a b = (m ≡ m') × (a ≡ b)
 
 -- a row that isn't a test has no side
 no_side : (o : Option Row) (b b' : Row) (m : Arrays) (k : List ℕ) (x : ℕ) → o ≡ Some b → o ≡ Some b' → side b m k ≡ Some x → side b' m k ≡ None → ⊥
-no_side o b b' m k x e e' to none = false≢true (ap (λ (o : Option ℕ). is_some o) (sym none ∙ ap (λ b. side b m k) (some_injective _ _ (sym e' ∙ e)) ∙ to))
+no_side o b b' m k x e e' to none = false≢true (ap (λ (o : Option ℕ). is_some o) (sym none ∙ ap (λ b. side b m k) (same_Some _ _ (sym e' ∙ e)) ∙ to))
 
 -- the row of a number is of version 1 alone
 go_one : (t : Tables) → IsInForm t → (w n x : ℕ) → row_at t w n ≡ Some (Go x) → t.version ≡ 2 → ⊥
@@ -61,14 +62,14 @@ record SameStage (ss ss' : List Turn) (os os' : List Parts) (s s' : Turn) : Type
 
 same_stage : (o : Option Row) (i : ℕ) (ss ss' : List Turn) (os os' : List Parts) (s s' : Turn) → o ≡ Some (Leaf ss os) → o ≡ Some (Leaf ss' os') → slice_get ss i ≡ Some s → slice_get ss' i ≡ Some s' → SameStage ss ss' os os' s s'
 same_stage o i ss ss' os os' s s' e e' is is' =
-    let same : Leaf ss os ≡ Leaf ss' os' = some_injective _ _ (sym e ∙ e') in
+    let same : Leaf ss os ≡ Leaf ss' os' = same_Some _ _ (sym e ∙ e') in
     let stages : ss ≡ ss' = cc in
-    record { stages = stages; outs = cc; turn = some_injective _ _ (sym is ∙ ap (λ ss. slice_get ss i) stages ∙ is') }
+    record { stages = stages; outs = cc; turn = same_Some _ _ (sym is ∙ ap (λ ss. slice_get ss i) stages ∙ is') }
 
 pub one_way : (t : Tables) → IsInForm t → (w : ℕ) (k : List ℕ) (m : Arrays) (h : Head) (m' m'' : Arrays) (a b : Action) → Handles t w k m h m' a → Handles t w k m h m'' b → (m' ≡ m'') × (a ≡ b)
 -- walks
 one_way t form w k m h m' m'' a b (asks {n = n} {x = x} {b = c} one row to f) (asks {x = x'} {b = c'} one' row' to' g) =
-    let same : x ≡ x' = some_injective _ _ (sym to ∙ ap (λ c. side c m k) (some_injective _ _ (sym row ∙ row')) ∙ to') in
+    let same : x ≡ x' = same_Some _ _ (sym to ∙ ap (λ c. side c m k) (same_Some _ _ (sym row ∙ row')) ∙ to') in
     one_way t form w k m (Walk x) m' m'' a b f (subst (λ x. Handles t w k m (Walk x) m'' b) (sym same) g)
 one_way t form w k m h m' m'' a b (asks {x = x} {b = c} one row to f) (goes {x = y} row') = absurd (no_side _ c (Go y) m k x row row' to refl)
 one_way t form w k m h m' m'' a b (asks {x = x} {b = c} one row to f) (forks {os = os} row') = absurd (no_side _ c (Leaf [] os) m k x row row' to refl)
@@ -77,7 +78,7 @@ one_way t form w k m h m' m'' a b (asks one row to f) (enters two some way g) = 
 one_way t form w k m h m' m'' a b (asks one row to f) (enters_last two none way row') = absurd (not_two t one two)
 one_way t form w k m h m' m'' a b (goes {x = y} row) (asks {x = x} {b = c} one row' to g) = absurd (no_side _ c (Go y) m k x row' row to refl)
 one_way t form w k m h m' m'' a b (goes {n = n} {x = x} row) (goes {x = y} row') =
-    let same : Go x ≡ Go y = some_injective _ _ (sym row ∙ row') in
+    let same : Go x ≡ Go y = same_Some _ _ (sym row ∙ row') in
     let to : x ≡ y = cc in
     (refl, ap (λ x. Forward (next t w x) (Walk n)) to)
 one_way t form w k m h m' m'' a b (goes {x = x} row) (forks {os = os} row') = let e : Some (Go x) ≡ Some (Leaf [] os) = sym row ∙ row' in absurd (cc)
@@ -87,7 +88,7 @@ one_way t form w k m h m' m'' a b (goes {n = n} {x = x} row) (enters_last two no
 one_way t form w k m h m' m'' a b (forks {os = os} row) (asks {x = x} {b = c} one row' to g) = absurd (no_side _ c (Leaf [] os) m k x row' row to refl)
 one_way t form w k m h m' m'' a b (forks {os = os} row) (goes {x = x} row') = let e : Some (Leaf [] os) ≡ Some (Go x) = sym row ∙ row' in absurd (cc)
 one_way t form w k m h m' m'' a b (forks {os = os} row) (forks {os = os'} row') =
-    let same : Leaf [] os ≡ Leaf [] os' = some_injective _ _ (sym row ∙ row') in
+    let same : Leaf [] os ≡ Leaf [] os' = same_Some _ _ (sym row ∙ row') in
     forked_same t k m os os' (cc)
 one_way t form w k m h m' m'' a b (forks {os = os} row) (begins {s = s} {ss = ss} {os = os'} row' g) = let e : Some (Leaf [] os) ≡ Some (Leaf (s ∷ ss) os') = sym row ∙ row' in absurd (cc)
 one_way t form w k m h m' m'' a b (forks {n = n} {os = os} row) (enters two some way g) = absurd (leaf_one t form w n [] os row two)
@@ -113,7 +114,7 @@ one_way t form w k m h m' m'' a b (enters_last two none way row) (begins {n = n}
 one_way t form w k m h m' m'' a b (enters_last two none way row) (enters two' some way' g) = absurd (some none)
 one_way t form w k m h m' m'' a b (enters_last {n = n} {v = v} {us = us} {os = os} two none way row) (enters_last {v = v'} {us = us'} {os = os'} two' none' way' row') =
     let number : v ≡ v' = follows_one t w k _ m n n v v' refl way way' in
-    let same : Last us os ≡ Last us' os' = some_injective _ _ (sym row ∙ ap (row_at t w) number ∙ row') in
+    let same : Last us os ≡ Last us' os' = same_Some _ _ (sym row ∙ ap (row_at t w) number ∙ row') in
     forked_same t k m os os' (cc)
 -- stages
 one_way t form w k m h m' m'' a b (passes_on {n = n} {i = i} {s = s} {ss = ss} {os = os} row is away) (passes_on {s = s'} {ss = ss'} {os = os'} row' is' away') =
@@ -138,24 +139,24 @@ one_way t form w k m h m' m'' a b (completes {i = i} {s = s} {ss = ss} {os = os}
     let e = same_stage _ i ss ss' os os' s s' row row' is is' in
     (ap (λ (s : Turn). updates m s.ups k) e.turn, ap (λ os. forked t os k) e.outs)
 -- visits
-one_way t form w k m h m' m'' a b (seeks {r = r} {n = n} rank away) (seeks rank' away') = (refl, ap (λ x. Forward (next t w x) (Visit r n)) (some_injective _ _ (sym rank ∙ rank')))
-one_way t form w k m h m' m'' a b (seeks rank away) (visits rank' visit more g) = absurd (away (some_injective _ _ (sym rank ∙ rank')))
-one_way t form w k m h m' m'' a b (seeks rank away) (concludes rank' visit last row') = absurd (away (some_injective _ _ (sym rank ∙ rank')))
-one_way t form w k m h m' m'' a b (visits rank visit more f) (seeks rank' away) = absurd (away (some_injective _ _ (sym rank' ∙ rank)))
+one_way t form w k m h m' m'' a b (seeks {r = r} {n = n} rank away) (seeks rank' away') = (refl, ap (λ x. Forward (next t w x) (Visit r n)) (same_Some _ _ (sym rank ∙ rank')))
+one_way t form w k m h m' m'' a b (seeks rank away) (visits rank' visit more g) = absurd (away (same_Some _ _ (sym rank ∙ rank')))
+one_way t form w k m h m' m'' a b (seeks rank away) (concludes rank' visit last row') = absurd (away (same_Some _ _ (sym rank ∙ rank')))
+one_way t form w k m h m' m'' a b (visits rank visit more f) (seeks rank' away) = absurd (away (same_Some _ _ (sym rank' ∙ rank)))
 one_way t form w k m h m' m'' a b (visits {r = r} {n = n} {v = v} {us = us} rank visit more f) (visits {v = v'} {us = us'} rank' visit' more' g) =
     let e = visits_one t w k m r n v v' us us' visit visit' in
     one_way t form w k (updates m us k) (Visit (r + 1) v) m' m'' a b f
     (subst (λ us. Handles t w k (updates m us k) (Visit (r + 1) v) m'' b) (sym e.1) (subst (λ v. Handles t w k (updates m us' k) (Visit (r + 1) v) m'' b) (sym e.0) g))
 one_way t form w k m h m' m'' a b (visits rank visit more f) (concludes rank' visit' last row') = absurd (omega arith)
-one_way t form w k m h m' m'' a b (concludes rank visit last row) (seeks rank' away) = absurd (away (some_injective _ _ (sym rank' ∙ rank)))
+one_way t form w k m h m' m'' a b (concludes rank visit last row) (seeks rank' away) = absurd (away (same_Some _ _ (sym rank' ∙ rank)))
 one_way t form w k m h m' m'' a b (concludes rank visit last row) (visits rank' visit' more g) = absurd (omega arith)
 one_way t form w k m h m' m'' a b (concludes {r = r} {n = n} {v = v} {us = us} {ups = ups} {os = os} rank visit last row) (concludes {v = v'} {us = us'} {ups = ups'} {os = os'} rank' visit' last' row') =
     let e = visits_one t w k m r n v v' us us' visit visit' in
-    let same : Last ups os ≡ Last ups' os' = some_injective _ _ (sym row ∙ ap (row_at t w) e.0 ∙ row') in
+    let same : Last ups os ≡ Last ups' os' = same_Some _ _ (sym row ∙ ap (row_at t w) e.0 ∙ row') in
     let outs : os ≡ os' = cc in
     (ap (λ us. updates m us k) e.1, ap (λ os. forked t os k) outs)
 -- ways to ports
 one_way t form w k m h m' m'' a b (delivers at) (delivers at') = (refl, refl)
-one_way t form w k m h m' m'' a b (delivers at) (carries at' away) = absurd (away (some_injective _ _ (sym at' ∙ at)))
-one_way t form w k m h m' m'' a b (carries at away) (delivers at') = absurd (away (some_injective _ _ (sym at ∙ at')))
-one_way t form w k m h m' m'' a b (carries {p = p} at away) (carries at' away') = (refl, ap (λ x. Forward (next t w x) (Out p)) (some_injective _ _ (sym at ∙ at')))
+one_way t form w k m h m' m'' a b (delivers at) (carries at' away) = absurd (away (same_Some _ _ (sym at' ∙ at)))
+one_way t form w k m h m' m'' a b (carries at away) (delivers at') = absurd (away (same_Some _ _ (sym at ∙ at')))
+one_way t form w k m h m' m'' a b (carries {p = p} at away) (carries at' away') = (refl, ap (λ x. Forward (next t w x) (Out p)) (same_Some _ _ (sym at ∙ at')))

@@ -26,7 +26,8 @@ use Rattle.snap_rows.proofs.Arrives.{stage_first, stage_next}
 use Rattle.snap_rows.proofs.Later.{enter_home, next_home, var_ok}
 use Rattle.snap_rows.proofs.Own.{rank_owner, stage_own, visit_own}
 use Rattle.snap_rows.proofs.Plans.{way_end}
-use Rattle.snap_rows.proofs.Rows.{row_keeps, row_form, nodes, some_injective}
+use Rattle.std.proofs.lemmas.Option.{same_Some}
+use Rattle.snap_rows.proofs.Rows.{row_keeps, row_form, nodes}
 use Rattle.snap_rows.proofs.Visited.{visit_end, walk_cut_same}
 use Rattle.snap_rows.proofs.Ways.{side_goes}
 
@@ -47,16 +48,16 @@ passes_agree t w m o k agree (Value c n) own = refl
 passes_agree t w m o k agree (Equal a b n) own = refl
 passes_agree t w m o k agree (StateTest s es x) own = ap (λ n. nat_eq n (term_value x k)) (agree (place_at s es k) own)
 
-field_same : (m o : Arrays) (k : List ℕ) (test : Test) → IsFieldTest test → passes test m k ≡ passes test o k
-field_same m o k (Value c n) fits = refl
-field_same m o k (Equal a b n) fits = refl
-field_same m o k (StateTest s es x) fits = absurd fits
+pub field_passes : (m o : Arrays) (k : List ℕ) (test : Test) → IsFieldTest test → passes test m k ≡ passes test o k
+field_passes m o k (Value c n) fits = refl
+field_passes m o k (Equal a b n) fits = refl
+field_passes m o k (StateTest s es x) fits = absurd fits
 
 abbrev pub to : Bool → ℕ → ℕ → Option ℕ
 to b y z = Some (if b then y else z)
 
 side_agrees : (t : Tables) → IsValid t → IsInForm t → t.version ≡ 1 → (w : ℕ) (m o : Arrays) (k : List ℕ) → AgreeAt t w m o → (n : ℕ) (b : Row) → row_at t w n ≡ Some b → side b m k ≡ side b o k
-side_agrees t valid form one w m o k agree n (Field test y z) row = ap (λ b. to b y z) (field_same m o k test (row_form t form w n (Field test y z) row).1)
+side_agrees t valid form one w m o k agree n (Field test y z) row = ap (λ b. to b y z) (field_passes m o k test (row_form t form w n (Field test y z) row).1)
 side_agrees t valid form one w m o k agree n (State test y z) row = ap (λ b. to b y z) (passes_agree t w m o k agree test (row_keeps t valid Owner w n (State test y z) row one))
 side_agrees t valid form one w m o k agree n (Go x) row = refl
 side_agrees t valid form one w m o k agree n (Leaf ss os) row = refl
@@ -65,7 +66,7 @@ side_agrees t valid form one w m o k agree n (Last us os) row = refl
 
 -- ---- ways of version 2
 field_side : (t : Tables) → IsInForm t → (w : ℕ) (m o : Arrays) (k : List ℕ) (n : ℕ) (b : Row) → row_at t w n ≡ Some b → is_field b ≡ true → side b m k ≡ side b o k
-field_side t form w m o k n (Field test y z) row e = ap (λ b. to b y z) (field_same m o k test (row_form t form w n (Field test y z) row).1)
+field_side t form w m o k n (Field test y z) row e = ap (λ b. to b y z) (field_passes m o k test (row_form t form w n (Field test y z) row).1)
 field_side t form w m o k n (State test y z) row e = absurd (false≢true e)
 field_side t form w m o k n (Go x) row e = refl
 field_side t form w m o k n (Leaf ss os) row e = refl
@@ -94,7 +95,7 @@ ranked_way t valid form two w k r m o at agree n v (follows {x = x} {b = b} row 
 -- what a visit at its rank's owner comes to
 visit_agrees : (t : Tables) → IsValid t → IsInForm t → t.version ≡ 2 → (w : ℕ) (k : List ℕ) (r n v : ℕ) (us : List Update) (m o : Arrays) → rank_at t r ≡ Some w → IsVisitAtHome t r n → AgreeAt t w m o → Visits t w k m r n v us → Visits t w k o r n v us
 visit_agrees t valid form two w k r n v us m o at home agree visit =
-    let owner : home.owner ≡ w = some_injective _ _ (sym home.rank ∙ at) in
+    let owner : home.owner ≡ w = same_Some _ _ (sym home.rank ∙ at) in
     let row = subst (λ x. row_at t x n ≡ Some home.body) owner home.row in
     let end = visit_end t valid form two (nodes t form) w k r m n v home.body row home.visited visit.number in
     record {
@@ -138,7 +139,7 @@ reads_own t valid form w below k h home m o m' a agree (enters_last {n = n} {v =
 reads_own t valid form w below k h home m o m' a agree (seeks rank away) = (o, seeks rank away, agree)
 reads_own t valid form w below k h home m o m' a agree (visits {r = r} {n = n} {v = v} {us = us} rank visit more f) =
     let there = home.1 in
-    let owner : there.owner ≡ w = some_injective _ _ (sym there.rank ∙ rank) in
+    let owner : there.owner ≡ w = same_Some _ _ (sym there.rank ∙ rank) in
     let e = visit_end t valid form home.0 (nodes t form) w k r m n v there.body (subst (λ x. row_at t x n ≡ Some there.body) owner there.row) there.visited visit.number in
     let own = visit_own t valid form w k m r n v us rank visit in
     let rest = reads_own t valid form w below k (Visit (r + 1) v) (home.0, next_home t valid home.0 w v (r + 1) e.0 e.1 e.2 more) (updates m us k) (updates o us k) m' a (updates_agree t w us m o k own agree) f in

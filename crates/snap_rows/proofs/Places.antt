@@ -7,10 +7,11 @@ use Rattle.snap_rows.specs.declared.tables.Hop.{Hop}
 use Rattle.snap_rows.specs.declared.tables.Row.{Row}
 use Rattle.snap_rows.specs.declared.tables.RowAt.{RowAt}
 use Rattle.snap_rows.specs.Entries.{row_in, hop_in}
-use Rattle.snap_rows.specs.Form.{row_cmp, hop_cmp, link_cmp}
+use Rattle.snap_core.specs.Ports.{link_cmp}
+use Rattle.snap_rows.specs.Form.{row_cmp, hop_cmp}
 use Rattle.snap_rows.specs.Places.{is_before, IsRowPlace, hop_said}
-use Rattle.std.proofs.lemmas.Option.{slice_get-get_or, slice_get_within, get_or_from_slice_get}
-use Rattle.snap_rows.proofs.Rows.{entry_of, some_injective}
+use Rattle.std.proofs.lemmas.Option.{slice_get-get_or, slice_get_within, get_or_from_slice_get, same_Some}
+use Rattle.snap_rows.proofs.Rows.{entry_of}
 use Rattle.snap_rows.proofs.Search.{one_place, found_there}
 
 row_absent : (rs : List RowAt) (w n i : ℕ) → row_in rs w n ≡ None → IsRowPlace rs w n i → ⊥
@@ -20,9 +21,9 @@ row_absent (r ∷ rs) w n i none place = by (r.at == w) (r.number == n) refl ref
     by : (s t : Bool) → (r.at == w) ≡ s → (r.number == n) ≡ t → (if s && t then Some r.row else row_in rs w n) ≡ None → (i : ℕ) → IsRowPlace (r ∷ rs) w n i
         → ((j : ℕ) → row_in rs w n ≡ None → IsRowPlace rs w n j → ⊥) → ⊥
     by true true p q e i place rest = false≢true (sym (ap (λ (o : Option Row). elim o [ None ↦ false | Some b ↦ true ]) e))
-    by true false p q e zero place rest = false≢true (sym q ∙ eq-eqb r.number n (ap (λ (x : RowAt). x.number) (some_injective _ _ place.1) ∙ place.3))
+    by true false p q e zero place rest = false≢true (sym q ∙ eq-eqb r.number n (ap (λ (x : RowAt). x.number) (same_Some _ _ place.1) ∙ place.3))
     by true false p q e (suc j) place rest = rest j e place
-    by false t p q e zero place rest = false≢true (sym p ∙ eq-eqb r.at w (ap (λ (x : RowAt). x.at) (some_injective _ _ place.1) ∙ place.2))
+    by false t p q e zero place rest = false≢true (sym p ∙ eq-eqb r.at w (ap (λ (x : RowAt). x.at) (same_Some _ _ place.1) ∙ place.2))
     by false t p q e (suc j) place rest = rest j e place
 
 -- the row at a place is that of its switch and number
@@ -34,7 +35,7 @@ row_here rs rise w n i r is at number = by (row_in rs w n) refl
     by (Some b) e =
         let there = entry_of rs w n b e in
         let same : there.place ≡ i = one_place (λ (x : RowAt). x.at) (λ (x : RowAt). x.number) rs rise there.place i there.entry r there.is is (there.at ∙ sym at) (there.number ∙ sym number) in
-        let entry : there.entry ≡ r = some_injective _ _ (sym there.is ∙ ap (slice_get rs) same ∙ is) in
+        let entry : there.entry ≡ r = same_Some _ _ (sym there.is ∙ ap (slice_get rs) same ∙ is) in
         e ∙ ap Some (sym there.body ∙ ap (λ (x : RowAt). x.row) entry)
 
 -- where a search doesn't end at a row of the numbers, there is none
@@ -53,7 +54,7 @@ no_row rs rise w n i point other = by (row_in rs w n) refl
 -- the row of a place that was found
 pub placed_row : (rs : List RowAt) → IsStrictlySortedBy row_cmp rs → (w n i : ℕ) (r : RowAt) → IsRowPlace rs w n i → slice_get rs i ≡ Some r → Some r.row ≡ row_in rs w n
 placed_row rs rise w n i r place is =
-    let same : r ≡ place.0 = some_injective _ _ (sym is ∙ place.1) in
+    let same : r ≡ place.0 = same_Some _ _ (sym is ∙ place.1) in
     sym (row_here rs rise w n i r is (ap (λ (x : RowAt). x.at) same ∙ place.2) (ap (λ (x : RowAt). x.number) same ∙ place.3))
 
 -- ---- next hops
@@ -83,7 +84,7 @@ hop_entry (g ∷ hs) w x = by (g.from == w) (g.target == x) refl refl (hop_entry
         found
       where
         absent : IsAbsent hs w x → IsAbsent (g ∷ hs) w x
-        absent never zero h is from target = let same : g ≡ h = some_injective _ _ is in other (ap (λ (y : Hop). y.from) same ∙ from) (ap (λ (y : Hop). y.target) same ∙ target)
+        absent never zero h is from target = let same : g ≡ h = same_Some _ _ is in other (ap (λ (y : Hop). y.from) same ∙ from) (ap (λ (y : Hop). y.target) same ∙ target)
         absent never (suc i) h is from target = never i h is from target
 
     by : (a b : Bool) → (g.from == w) ≡ a → (g.target == x) ≡ b → HopEntry hs w x ⊎ ((hop_in hs w x ≡ w) × IsAbsent hs w x)
@@ -128,7 +129,7 @@ pub hop_here : (hs : List Hop) → IsStrictlySortedBy hop_cmp hs → (w x i : �
 hop_here hs rise w x i h is from target = ⊎_elim
     (λ r.
     let same : r.place ≡ i = one_place (λ (h : Hop). h.from) (λ (h : Hop). h.target) hs rise r.place i r.hop h r.is is (r.from ∙ sym from) (r.target ∙ sym target) in
-    ap (λ (h : Hop). h.next) (some_injective _ _ (sym is ∙ ap (slice_get hs) (sym same) ∙ r.is)) ∙ sym r.next)
+    ap (λ (h : Hop). h.next) (same_Some _ _ (sym is ∙ ap (slice_get hs) (sym same) ∙ r.is)) ∙ sym r.next)
     (λ r. absurd (r.1 i h is from target))
     (hop_entry hs w x)
 

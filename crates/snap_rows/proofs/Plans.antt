@@ -26,7 +26,8 @@ use Rattle.snap_rows.specs.Stepping.{ActsAs, FateFits, GoesBy}
 use Rattle.snap_rows.specs.Rules.{IsValid}
 use Rattle.snap_rows.specs.Home.{IsVisited}
 use Rattle.snap_rows.proofs.Visited.{next_visited, row_of}
-use Rattle.snap_rows.proofs.Rows.{All-get, row_form, nodes, some_injective}
+use Rattle.std.proofs.lemmas.Option.{same_Some}
+use Rattle.snap_rows.proofs.Rows.{All-get, row_form, nodes}
 use Rattle.snap_rows.proofs.Stages.{alternates, outs_fit, reads_own, ups_fit}
 
 pub no_updates : (n : ℕ) → All (UpdateReads n) []
@@ -120,7 +121,7 @@ end_one t form one w k m n v f = let e = way_end t w k is_test m n v f in subst 
 
 -- a walk from a row that can be visited ends at a leaf
 pub end_two : (t : Tables) → IsValid t → IsInForm t → t.version ≡ 2 → (w : ℕ) (k : List ℕ) (r : ℕ) (m : Arrays) (n v : ℕ) (b : Row) → row_at t w n ≡ Some b → IsVisited t r b → Follows t w k is_test m n v → HasLast t w v
-end_two t valid form two w k r m n v b row at (arrives {b = b'} row' test) = by b' row' test (subst (IsVisited t r) (some_injective _ _ (sym row ∙ row')) at)
+end_two t valid form two w k r m n v b row at (arrives {b = b'} row' test) = by b' row' test (subst (IsVisited t r) (same_Some _ _ (sym row ∙ row')) at)
   where
     by : (b : Row) → row_at t w n ≡ Some b → is_test b ≡ false → IsVisited t r b → HasLast t w n
     by (Field test y z) e q h = absurd h
@@ -130,7 +131,7 @@ end_two t valid form two w k r m n v b row at (arrives {b = b'} row' test) = by 
     by Stop e q h = absurd h
     by (Last us os) e q h = (us, os, e)
 end_two t valid form two w k r m n v b row at (follows {x = x} {b = b'} row' test goes f) =
-    let at' : IsVisited t r b' = subst (IsVisited t r) (some_injective _ _ (sym row ∙ row')) at in
+    let at' : IsVisited t r b' = subst (IsVisited t r) (same_Some _ _ (sym row ∙ row')) at in
     let there = row_of t w k is_test m x v f in
     end_two t valid form two w k r m x v there.0 there.1 (next_visited t valid form two (nodes t form) w n r b' row' at' m k x goes there.0 there.1) f
 

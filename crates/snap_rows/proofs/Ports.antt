@@ -7,7 +7,7 @@ use Rattle.std.specs.Ordering.{nat_cmp}
 use Rattle.std.proofs.lemmas.Bool.{eqb-true, eq-eqb, false≢true, cases_lt}
 use Rattle.std.proofs.lemmas.Bool.Decides.{nat_tests}
 use Rattle.std.proofs.lemmas.Map.Keys.{below_from_sorted}
-use Rattle.std.proofs.lemmas.Option.{slice_get_within, get_or_from_slice_get}
+use Rattle.std.proofs.lemmas.Option.{slice_get_within, get_or_from_slice_get, same_Some}
 use Rattle.std.proofs.lemmas.List.{length-map, get_or-map}
 use Rattle.std.proofs.lemmas.List.Filters.{length-filter_both}
 use Rattle.snap_core.specs.declared.ports.PortAt.{PortAt}
@@ -18,11 +18,11 @@ use Rattle.snap_core.proofs.EvalLemmas.{listed-one}
 use Rattle.snap_rows.specs.declared.tables.Tables.{Tables}
 use Rattle.snap_rows.specs.Actions.{Fork}
 use Rattle.snap_rows.specs.declared.head.Sent.{Sent}
-use Rattle.snap_rows.specs.Entries.{Parts, port_in, port_numbers}
+use Rattle.snap_core.specs.Ports.{port_in}
+use Rattle.snap_rows.specs.Entries.{Parts, port_numbers}
 use Rattle.snap_rows.specs.Handles.{sent, forked}
 use Rattle.snap_rows.specs.Places.{port_said}
 use Rattle.snap_rows.specs.Stepping.{IsSpread, lost_to, sent_to}
-use Rattle.snap_rows.proofs.Rows.{some_injective}
 
 -- a number is that of a port where it has a switch
 pub port_is_found : (ps : List PortAt) (n : ℕ) → list_any (λ port. port == n) (map (λ (p : PortAt). p.port) ps) ≡ is_some (port_in ps n)
@@ -41,7 +41,7 @@ port_entry (q ∷ ps) n w e = by (q.port == n) refl e (port_entry ps n w)
   where
     by : (b : Bool) → (q.port == n) ≡ b → (if b then Some q.at else port_in ps n) ≡ Some w → (port_in ps n ≡ Some w → (i : ℕ) × (p : PortAt) × (slice_get ps i ≡ Some p) × (p.port ≡ n) × (p.at ≡ w))
         → (i : ℕ) × (p : PortAt) × (slice_get (q ∷ ps) i ≡ Some p) × (p.port ≡ n) × (p.at ≡ w)
-    by true c h rest = (0, q, refl, eqb-true q.port n c, some_injective _ _ h)
+    by true c h rest = (0, q, refl, eqb-true q.port n c, same_Some _ _ h)
     by false c h rest = let r = rest h in (suc r.0, r.1, r.2, r.3, r.4)
 
 port_absent : (ps : List PortAt) (n i : ℕ) (p : PortAt) → port_in ps n ≡ None → slice_get ps i ≡ Some p → p.port ≡ n → ⊥
@@ -50,7 +50,7 @@ port_absent (q ∷ ps) n i p none is e = by (q.port == n) refl none i is (λ j. 
   where
     by : (b : Bool) → (q.port == n) ≡ b → (if b then Some q.at else port_in ps n) ≡ None → (i : ℕ) → slice_get (q ∷ ps) i ≡ Some p → ((j : ℕ) → port_in ps n ≡ None → slice_get ps j ≡ Some p → p.port ≡ n → ⊥) → ⊥
     by true c h i is rest = false≢true (sym (ap (λ (o : Option ℕ). is_some o) h))
-    by false c h zero is rest = false≢true (sym c ∙ eq-eqb q.port n (ap (λ (x : PortAt). x.port) (some_injective _ _ is) ∙ e))
+    by false c h zero is rest = false≢true (sym c ∙ eq-eqb q.port n (ap (λ (x : PortAt). x.port) (same_Some _ _ is) ∙ e))
     by false c h (suc j) is rest = rest j h is e
 
 port_below : (ps : List PortAt) → IsStrictlySortedBy nat_cmp (map (λ (p : PortAt). p.port) ps) → (i j : ℕ) (d : PortAt) → i < j → j < length ps → (get_or ps i d).port < (get_or ps j d).port
@@ -121,14 +121,14 @@ port_here ps rise n i p said = by (slice_get ps i) refl said
     one q is number (Some w) e =
         let r = port_entry ps n w e in
         let same : r.0 ≡ i = one_port ps rise r.0 i r.1 q r.2 is (r.3 ∙ sym number) in
-        ap Some (ap (λ (x : PortAt). x.at) (some_injective _ _ (sym is ∙ ap (slice_get ps) (sym same) ∙ r.2)) ∙ r.4)
+        ap Some (ap (λ (x : PortAt). x.at) (same_Some _ _ (sym is ∙ ap (slice_get ps) (sym same) ∙ r.2)) ∙ r.4)
 
     by : (o : Option PortAt) → slice_get ps i ≡ o → port_said o n ≡ Some p → Some p.at ≡ port_in ps n
     by None is e = absurd (false≢true (ap (λ (o : Option PortAt). is_some o) e))
     by (Some q) is e = case (q.port == n) refl e
       where
         case : (b : Bool) → (q.port == n) ≡ b → (if b then Some q else None) ≡ Some p → Some p.at ≡ port_in ps n
-        case true c f = ap (λ (x : PortAt). Some x.at) (sym (some_injective _ _ f)) ∙ one q is (eqb-true q.port n c) (port_in ps n) refl
+        case true c f = ap (λ (x : PortAt). Some x.at) (sym (same_Some _ _ f)) ∙ one q is (eqb-true q.port n c) (port_in ps n) refl
         case false c f = absurd (false≢true (ap (λ (o : Option PortAt). is_some o) f))
 
 -- the packets that don't go to a port are lost

@@ -3,7 +3,7 @@ use Rattle.std.proofs.Common.{◌≡◌, ◌≢◌, ℕ, zero, suc, add-one, ◌
 use Rattle.std.specs.Prelude.{slice_get, IsSome}
 use Rattle.std.specs.List.{All}
 use Rattle.std.proofs.lemmas.Bool.{false≢true}
-use Rattle.std.proofs.lemmas.Option.{slice_get-get_or}
+use Rattle.std.proofs.lemmas.Option.{slice_get-get_or, same_Some}
 use Rattle.std.proofs.lemmas.List.Elements.{All-weaker}
 use Rattle.snap_core.specs.declared.policy.Update.{Update}
 use Rattle.snap_core.specs.Fits.{UpdateReads}
@@ -19,7 +19,7 @@ use Rattle.snap_rows.specs.declared.tables.Row.TheVariants.{Leaf}
 use Rattle.snap_rows.specs.Entries.{row_at}
 use Rattle.snap_rows.specs.Actions.{Action}
 use Rattle.snap_rows.specs.Handles.{Handles, Follows, arrives, follows, is_test, forked, forks, begins, asks}
-use Rattle.snap_rows.proofs.Rows.{All-get, some_injective}
+use Rattle.snap_rows.proofs.Rows.{All-get}
 
 pub turn_there : (stages : List Turn) (i : ℕ) (s : Turn) → i < length stages → s ≡ get_or stages i s → slice_get stages i ≡ Some s
 turn_there stages i s within e = slice_get-get_or stages i s within ∙ ap Some (sym e)
@@ -38,15 +38,15 @@ outs_fit t os h = All-weaker (IsPartsInForm t) (OutFits (comps t)) (λ o p. p.fi
 
 alternates_from : (w : ℕ) (ss : List Turn) (s' : Turn) → AlternateFrom w ss → slice_get ss 0 ≡ Some s' → s'.at ≢ w
 alternates_from w [] s' a e = λ _. false≢true (subst (λ (o : Option Turn). IsSome o) (sym e) refl)
-alternates_from w (x ∷ xs) s' a e = subst (λ (y : Turn). y.at ≢ w) (some_injective _ _ e) a.0
+alternates_from w (x ∷ xs) s' a e = subst (λ (y : Turn). y.at ≢ w) (same_Some _ _ e) a.0
 
 alternate_on : (w : ℕ) (ss : List Turn) → AlternateFrom w ss → Alternate ss
 alternate_on w [] a = tt
 alternate_on w (x ∷ xs) a = a.1
 
-alternates_next : (ss : List Turn) (i : ℕ) (s s' : Turn) → Alternate ss → slice_get ss i ≡ Some s → slice_get ss (suc i) ≡ Some s' → s'.at ≢ s.at
+pub alternates_next : (ss : List Turn) (i : ℕ) (s s' : Turn) → Alternate ss → slice_get ss i ≡ Some s → slice_get ss (suc i) ≡ Some s' → s'.at ≢ s.at
 alternates_next [] i s s' a e f = λ _. false≢true (subst (λ (o : Option Turn). IsSome o) (sym e) refl)
-alternates_next (x ∷ xs) zero s s' a e f = subst (λ (y : Turn). s'.at ≢ y.at) (some_injective _ _ e) (alternates_from x.at xs s' a f)
+alternates_next (x ∷ xs) zero s s' a e f = subst (λ (y : Turn). s'.at ≢ y.at) (same_Some _ _ e) (alternates_from x.at xs s' a f)
 alternates_next (x ∷ xs) (suc i) s s' a e f = alternates_next xs i s s' (alternate_on x.at xs a) e f
 
 pub alternates : (ss : List Turn) (i : ℕ) (s s' : Turn) → Alternate ss → slice_get ss i ≡ Some s → slice_get ss (i + 1) ≡ Some s' → s'.at ≢ s.at

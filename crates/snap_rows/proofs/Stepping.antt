@@ -24,7 +24,7 @@ use Rattle.snap_rows.proofs.Arrives.{arrives, owner_below}
 use Rattle.snap_rows.proofs.Later.{not_one, rank_is_below}
 use Rattle.snap_rows.proofs.Own.{OwnOrSame, handles_own, then_own, updates_own, visit_own}
 use Rattle.snap_rows.proofs.Plans.{last_outs_fit}
-use Rattle.snap_rows.proofs.Rows.{some_injective}
+use Rattle.std.proofs.lemmas.Option.{same_Some}
 use Rattle.snap_rows.proofs.Seen.{visits_later}
 
 -- ---- without order
@@ -75,8 +75,8 @@ first_here {t = t} {w = w} (more before own may made) = ⊎_elim (λ same. inr (
 
 -- a head that comes to a visit at another switch is before none
 before_none : {t : Tables} {w : ℕ} {k : List ℕ} {m : Arrays} {h : Head} {r n x : ℕ} → ComesTo t w k m h r n → rank_at t r ≡ Some x → x ≢ w → IsBeforeNone t w k h
-before_none visit own away two m' r' n' visit here = away (some_injective _ _ (sym own ∙ here))
-before_none (walk some way) own away two m' r' n' (walk some' way') here = away (some_injective _ _ (sym own ∙ here))
+before_none visit own away two m' r' n' visit here = away (same_Some _ _ (sym own ∙ here))
+before_none (walk some way) own away two m' r' n' (walk some' way') here = away (same_Some _ _ (sym own ∙ here))
 
 -- and it seeks that switch
 seek_first : {t : Tables} {w : ℕ} {k : List ℕ} {m : Arrays} {h : Head} {r n x : ℕ} → t.version ≡ 2 → ComesTo t w k m h r n → rank_at t r ≡ Some x → x ≢ w → Handles t w k m h m (action.Forward (next t w x) (Visit r n))

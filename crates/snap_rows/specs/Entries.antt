@@ -4,6 +4,7 @@ use Rattle.snap_core.specs.declared.policy.Atom.{Atom}
 use Rattle.snap_core.specs.declared.policy.Test.{Test}
 use Rattle.snap_core.specs.declared.policy.Test.TheVariants.{State as StateTest}
 use Rattle.snap_core.specs.declared.ports.PortAt.{PortAt}
+use Rattle.snap_core.specs.Ports.{port_in}
 use Rattle.snap_rows.specs.declared.tables.ArrayAt.{ArrayAt}
 use Rattle.snap_rows.specs.declared.tables.Hop.{Hop}
 use Rattle.snap_rows.specs.declared.tables.RowAt.{RowAt}
@@ -44,10 +45,6 @@ hop_in (h ∷ hs) w x = if (h.from == w) && (h.target == x) then h.next else hop
 -- the next hop of w towards x; w itself where there is no entry
 abbrev pub next : Tables → ℕ → ℕ → ℕ
 next t w x = hop_in t.hops w x
-
-abbrev pub port_in : List PortAt → ℕ → Option ℕ
-port_in [] p = None
-port_in (q ∷ qs) p = if q.port == p then Some q.at else port_in qs p
 
 -- the switch of a port
 abbrev pub port_at : Tables → ℕ → Option ℕ

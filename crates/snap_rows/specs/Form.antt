@@ -19,6 +19,7 @@ use Rattle.snap_core.specs.Fields.{IsFields, count}
 use Rattle.snap_core.specs.Names.{IsName, is_switch_name}
 use Rattle.snap_core.specs.Fits.{UpdateFits}
 use Rattle.snap_core.specs.Tests.{TestFits, OutFits, IsRisingOut}
+use Rattle.snap_core.specs.Ports.{link_cmp}
 use Rattle.snap_rows.specs.declared.tables.ArrayAt.{ArrayAt}
 use Rattle.snap_rows.specs.declared.tables.Hop.{Hop}
 use Rattle.snap_rows.specs.declared.tables.RowAt.{RowAt}
@@ -130,9 +131,6 @@ pub record IsHopInForm (t : Tables) (h : Hop) : Type 0 where
 pub record IsRowAtInForm (t : Tables) (r : RowAt) : Type 0 where
   pub at : r.at < switch_count t
   pub row : IsRowInForm t r.row
-
-abbrev pub link_cmp : ℕ × ℕ → ℕ × ℕ → Ordering
-link_cmp a b = ordering_then (nat_cmp a.0 b.0) (nat_cmp a.1 b.1)
 
 abbrev pub hop_cmp : Hop → Hop → Ordering
 hop_cmp a b = ordering_then (nat_cmp a.from b.from) (nat_cmp a.target b.target)

@@ -13,7 +13,8 @@ ghost use Rattle.snap_rows.specs.Form.{IsRowInForm, IsInForm, row_cmp, hop_cmp, 
 ghost use Rattle.snap_rows.specs.Places.{is_before, IsRowPlace, hop_said, port_said};
 ghost use Rattle.snap_rows.specs.Rules.{IsValid};
 ghost use Rattle.snap_rows.specs.Aims.{aim_of};
-ghost use Rattle.snap_rows.specs.Entries.{row_in, row_at, hop_in, next, port_in, port_at, rank_in, rank_at, rank_of, ranks_in, var_of, owner_of};
+ghost use Rattle.snap_core.specs.Ports.{port_in};
+ghost use Rattle.snap_rows.specs.Entries.{row_in, row_at, hop_in, next, port_at, rank_in, rank_at, rank_of, ranks_in, var_of, owner_of};
 
 use crate::head::Head;
 use crate::tables::{ArrayAt, Hop, Row, RowAt, Tables};

@@ -8,7 +8,7 @@ use Rattle.std.proofs.lemmas.Bool.{leb-true}
 use Rattle.std.proofs.lemmas.List.{length-replicate}
 use Rattle.std.proofs.lemmas.List.Elements.{All-nil, All-cons, All-set, All-replicate}
 use Rattle.std.proofs.lemmas.Nat.{shr_le, shr_split}
-use Rattle.std.proofs.lemmas.Option.{cond_some, none-some, option_and_then_some}
+use Rattle.std.proofs.lemmas.Option.{cond_some, none-some, option_and_then_some, same_Some}
 use Rattle.snap_core.specs.declared.program.Field.{Field}
 use Rattle.snap_core.specs.declared.program.Found.{Found}
 use Rattle.snap_core.specs.declared.program.Found.TheVariants.{Plain, Split}
@@ -19,7 +19,6 @@ use Rattle.snap_core.specs.Arrays.{has}
 use Rattle.snap_io.specs.Lines.{Next, next_line, no_line, long_line, many_bytes, next_in}
 use Rattle.snap_rows.specs.declared.tables.Tables.{Tables}
 use Rattle.snap_rows.specs.Entries.{port_at}
-use Rattle.snap_rows.proofs.Rows.{some_injective}
 use Rattle.snap_trace.specs.PacketLines.{Said, skip, inject, bad, Draft, plain_or, plain_value, both_numbers, split_or, split_value, with_number, with_value, with_parts, with_word, with_words, is_port, draft_at_first, packet_at, packet_of_words, said_or_bad, said_by_words, said_by, words_of, without_return}
 use Rattle.snap_trace.specs.declared.fault.TraceFault.TheVariants.{Packets}
 use Rattle.snap_trace.specs.Spelled.{ended, refused, spelled, Spelled, with_said, with_next, after_last, spelled_from}
@@ -28,7 +27,7 @@ use Rattle.snap_runs.specs.Plain.{at_ports, spelled_for}
 -- ---- numbers
 second_of : {X : Type 0} (b : Bool) (x y : X) → cond b None (Some x) ≡ Some y → x ≡ y
 second_of true x y is = absurd (none-some y is)
-second_of false x y is = some_injective x y is
+second_of false x y is = same_Some x y is
 
 behind_test : {X : Type 0} (b : Bool) (o : Option X) (y : X) → cond b o None ≡ Some y → o ≡ Some y
 behind_test true o y is = is
@@ -53,7 +52,7 @@ octet-within text n is = number-within 255 text n (behind_test (nat_le (length t
 
 pub mapped : {X Y : Type 0} (f : X → Y) (o : Option X) (y : Y) → option_map f o ≡ Some y → (x : X) × (o ≡ Some x) × (f x ≡ y)
 mapped f None y is = absurd (none-some y is)
-mapped f (Some x) y is = (x, refl, some_injective _ y is)
+mapped f (Some x) y is = (x, refl, same_Some _ y is)
 
 behind-within : (text : List ℕ) (front n : ℕ) → address_behind front (octet_of text) ≡ Some n → n ≤ front * 256 + 255
 behind-within text front n is = let m = mapped (λ x. front * 256 + x) (octet_of text) n is in let h = octet-within text m.0 m.1 in omega (arith, h, m.2)
@@ -101,7 +100,7 @@ split-small : (prefix : ℕ) (o : Option ℕ) (q : Option (ℕ × ℕ)) (p : ℕ
 split-small prefix None q p a b is = b p is
 split-small prefix (Some x) q p a b is =
     let small : x < 2 ^ 64 = a x refl in let net = shr_le x (32 - prefix) in let whole = shr_split x (32 - prefix) in
-    subst AreSmall (some_injective _ p is) (omega arith, omega arith)
+    subst AreSmall (same_Some _ p is) (omega arith, omega arith)
 
 -- ---- drafts
 module _ (m : ℕ) where
@@ -131,7 +130,7 @@ module _ (m : ℕ) where
   parts-fit fields (name ∷ value ∷ []) d d' fits is = value-fits (found fields name) value d d' fits is
 
   words-fit : (fields : List Field) (words : List (List ℕ)) (d d' : Draft) → Fits d → with_words fields words d ≡ Some d' → Fits d'
-  words-fit fields [] d d' fits is = subst Fits (some_injective d d' is) fits
+  words-fit fields [] d d' fits is = subst Fits (same_Some d d' is) fits
   words-fit fields (word ∷ words) d d' fits is =
       option_and_then_some (with_words fields words) (with_word fields word d) d' is (λ d1 e1 rest.
       words-fit fields words d1 d' (parts-fit fields (parts_by (λ b. eqb b 61) word) d d1 fits e1) rest)

@@ -21,6 +21,7 @@ use Rattle.snap_seek.specs.declared.demand.DemandFault.TheVariants.{NoSwitch}
 use Rattle.snap_seek.specs.Answer.{Lists, entry_for, named, no_switch}
 use Rattle.snap_seek.specs.Listing.{key_texts}
 use Rattle.snap_route.proofs.Joined.{Contains-nil}
+use Rattle.snap_topo.proofs.NumberLemmas.{chosen}
 
 -- ---- switches by name
 
@@ -34,10 +35,6 @@ is_switch-keys name (k ∷ keys) = ap (λ (b : Bool). bytes_eq name k.items || b
 number_of-keys : (name : List ℕ) (keys : List (Vec ℕ Global)) → number_of (key_texts keys) name ≡ position_or_len (is_text name) keys
 number_of-keys name [] = refl
 number_of-keys name (k ∷ keys) = ap (λ (n : ℕ). cond (not (bytes_eq name k.items)) (1 + n) 0) (number_of-keys name keys)
-
-chosen : (b : Bool) (n i : ℕ) → Some i ≡ cond b (Some n) None → i ≡ n
-chosen true n i is = cc
-chosen false n i is = cc
 
 -- what a look-up in a set of names says
 pub number-of : (name : List ℕ) (keys : List (Vec ℕ Global)) (r : Option ℕ) → r ≡ position (is_text name) keys → is_some r ≡ list_any (is_text name) keys → IfSome r (λ i. i < length keys)

@@ -32,7 +32,8 @@ use Rattle.snap_rows.specs.declared.tables.Row.TheVariants as row
 use Rattle.snap_rows.specs.declared.tables.Stage.{Stage as Turn}
 use Rattle.snap_rows.specs.declared.tables.Tables.{Tables}
 use Rattle.snap_rows.specs.Entries.{Parts, rank_of}
-use Rattle.snap_rows.specs.Form.{Alternate, AlternateFrom, AreOutsInForm, IsArrayInForm, IsFieldTest, IsInForm, IsLinkInForm, IsOpInForm, IsPartsInForm, IsPortInForm, IsRowAtInForm, IsRowInForm, IsStateTest, IsTurnInForm, IsUpdateInForm, RanksRise, comps, link_cmp, parts_cmp, row_cmp}
+use Rattle.snap_core.specs.Ports.{link_cmp}
+use Rattle.snap_rows.specs.Form.{Alternate, AlternateFrom, AreOutsInForm, IsArrayInForm, IsFieldTest, IsInForm, IsLinkInForm, IsOpInForm, IsPartsInForm, IsPortInForm, IsRowAtInForm, IsRowInForm, IsStateTest, IsTurnInForm, IsUpdateInForm, RanksRise, comps, parts_cmp, row_cmp}
 use Rattle.snap_tables.specs.Laws.{IsAtom, IsIndex, IsOp, IsPart, IsRank, IsRankIf, IsTerm, IsTestOf, IsUpdateOf}
 use Rattle.snap_tables.specs.Entries.{AreInTurn, IsNextArray, IsNextField, IsNextLink, IsNextPort, IsNextRow, IsNextSwitch, all_declared, are_new, array_fits, declared, is_field_at, is_new, is_plain_field}
 use Rattle.snap_tables.specs.Lines.{IsBeginning, IsWhole, counts_of, has, has_all_hops}

@@ -17,7 +17,8 @@ use Rattle.snap_core.specs.Fields.{IsFields, PrefixFits, names_of, plain_field, 
 use Rattle.snap_core.specs.Names.{IsName, is_switch_name}
 use Rattle.snap_rows.specs.declared.tables.ArrayAt.{ArrayAt}
 use Rattle.snap_rows.specs.declared.tables.Tables.{Tables}
-use Rattle.snap_rows.specs.Form.{IsArrayInForm, IsHopInForm, IsInForm, IsLinkInForm, IsPortInForm, IsRowAtInForm, link_cmp, row_cmp}
+use Rattle.snap_core.specs.Ports.{link_cmp}
+use Rattle.snap_rows.specs.Form.{IsArrayInForm, IsHopInForm, IsInForm, IsLinkInForm, IsPortInForm, IsRowAtInForm, row_cmp}
 use Rattle.snap_tables.specs.Ranges.{RowAtInRange, TablesInRange}
 use Rattle.snap_tables.specs.Entries.{AreInTurn, IsNextArray, IsNextField, IsNextLink, IsNextPort, IsNextRow, IsNextSwitch, all_declared, are_new, array_fits, declared, is_above, is_field_at, is_plain_field, link_less}
 use Rattle.snap_tables.specs.ReadBack.{AreSpelled}

@@ -16,7 +16,8 @@ use Rattle.std.proofs.lemmas.List.Elements.{All-nil, All-push}
 use Rattle.snap_core.specs.declared.policy.Atom.{Atom}
 use Rattle.snap_core.specs.declared.policy.Atom.TheVariants.{Num, Comp}
 use Rattle.snap_rows.specs.declared.tables.RowAt.{RowAt}
-use Rattle.snap_rows.specs.Form.{atom_cmp, link_cmp, parts_cmp, row_cmp}
+use Rattle.snap_core.specs.Ports.{link_cmp}
+use Rattle.snap_rows.specs.Form.{atom_cmp, parts_cmp, row_cmp}
 use Rattle.snap_tables.specs.Entries.{AllFrom, AreInTurn, is_above, is_new}
 use Rattle.snap_tables.specs.Pieces.{is_adjacent}
 use Rattle.snap_tables.proofs.PieceLemmas.{all-push, false-true}

@@ -10,7 +10,8 @@ use Rattle.snap_core.specs.Names.{IsName, is_switch_name}
 use Rattle.snap_rows.specs.declared.tables.ArrayAt.{ArrayAt}
 use Rattle.snap_rows.specs.declared.tables.Hop.{Hop}
 use Rattle.snap_rows.specs.declared.tables.RowAt.{RowAt}
-use Rattle.snap_rows.specs.Form.{link_cmp, row_cmp}
+use Rattle.snap_core.specs.Ports.{link_cmp}
+use Rattle.snap_rows.specs.Form.{row_cmp}
 use Rattle.std.specs.Ordering.{is_lt, nat_cmp}
 use Rattle.snap_tables.specs.Laws.{IsRank}
 use Rattle.snap_tables.specs.Rows.{IsRowOf}

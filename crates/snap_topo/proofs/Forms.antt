@@ -1,5 +1,5 @@
 -- What a listing of the right shape and known names is like, and that its topology is in form.
-use Rattle.std.proofs.Common.{append_assoc, codes, nat_lt, MatchResult, IfOk, ◌≡◌, ◌∙◌, ℕ, ◌+◌, ◌<◌, ◌≤◌, Bool, true, false, not, cond, ◌||◌, List, [], ◌∷◌, ◌++◌, length, map, find, Option, Some, None, Result, Ok, Err, IsTrue, refl, sym, ap, subst, arith, min, max, All, Contains, flat_map, nat_cmp, bytes_eq, get_or}
+use Rattle.std.proofs.Common.{append_assoc, codes, nat_lt, MatchResult, IfOk, ◌≡◌, ◌∙◌, ℕ, ◌+◌, ◌<◌, ◌≤◌, Bool, true, false, not, cond, List, [], ◌∷◌, ◌++◌, length, map, find, Option, Some, None, Result, Ok, Err, IsTrue, refl, sym, ap, subst, arith, min, max, All, Contains, flat_map, nat_cmp, bytes_eq, get_or}
 use Rattle.std.specs.List.{IsDistinct}
 use Rattle.std.specs.List.Sorted.{IsStrictlySortedBy}
 use Rattle.std.specs.Map.{keys_of}
@@ -20,6 +20,7 @@ use Rattle.std.proofs.lemmas.List.Folds.{find-append}
 use Rattle.std.proofs.lemmas.List.Elements.{All-nil, All-cons, All-head, All-tail, All-weaker, All-contains, All-contains_itself, All-map}
 use Rattle.snap_topo.proofs.Ports.{by_number-rise, by_number-keys}
 use Rattle.snap_topo.proofs.Shaped.{IsSwitches, IsPorts, InShape, switches_in-is, links_in-is, ports_in-is, in-shape}
+use Rattle.snap_core.proofs.Truths.{or_rest}
 
 -- ---- the names differ
 
@@ -116,14 +117,10 @@ number-step : (b : Bool) (p n : ℕ) → (b ≡ false → p < n) → cond (not b
 number-step true p n rest = omega arith
 number-step false p n rest = let lt = rest refl in omega arith
 
-known-rest : (b d : Bool) → (b || d) ≡ true → b ≡ false → d ≡ true
-known-rest true d is not = cc
-known-rest false d is not = is
-
 pub number_of-below : (switches : List (List ℕ)) (name : List ℕ) → Known switches name → number_of switches name < length switches
 number_of-below [] name known = cc
 number_of-below (x ∷ xs) name known =
-    let step = number-step (bytes_eq name x) (number_of xs name) (length xs) (λ other. number_of-below xs name (known-rest _ _ known other)) in omega (arith, step)
+    let step = number-step (bytes_eq name x) (number_of xs name) (length xs) (λ other. number_of-below xs name (or_rest _ _ known other)) in omega (arith, step)
 
 -- known names of one number are equal
 abbrev place : Bool → ℕ → ℕ
@@ -139,7 +136,7 @@ number_of-same : (switches : List (List ℕ)) (a b : List ℕ) → Known switche
 number_of-same [] a b known also same = cc
 number_of-same (x ∷ xs) a b known also same =
     apart-step a b x (number_of xs a) (number_of xs b) (bytes_eq a x) (bytes_eq b x) refl refl same
-    (λ r t e. number_of-same xs a b (known-rest _ _ known r) (known-rest _ _ also t) e)
+    (λ r t e. number_of-same xs a b (or_rest _ _ known r) (or_rest _ _ also t) e)
 
 -- ---- the topology
 

@@ -13,7 +13,7 @@ pub number_of-texts : (name : List ℕ) (keys : List (Bor (List ℕ))) → numbe
 number_of-texts name [] = refl
 number_of-texts name (k ∷ keys) = ap (λ n. cond (not (bytes_eq name k.now)) (1 + n) 0) (number_of-texts name keys)
 
-chosen : (b : Bool) (n i : ℕ) → Some i ≡ cond b (Some n) None → i ≡ n
+pub chosen : (b : Bool) (n i : ℕ) → Some i ≡ cond b (Some n) None → i ≡ n
 chosen true n i is = cc
 chosen false n i is = cc
 

@@ -5,20 +5,14 @@ use Rattle.std.specs.List.Sorted.{IsStrictlySortedBy}
 use Rattle.std.specs.Map.{keys_of}
 use Rattle.std.specs.BTreeMap.{insert_entry}
 use Rattle.std.specs.Ordering.{match_ordering}
-use Rattle.std.specs.Cmp.{nat_cmp_is}
 use Rattle.std.proofs.lemmas.Cmp.{by_ranked, ranked}
 use Rattle.std.proofs.lemmas.List.Elements.{All-nil, All-from_recursion, recursion_from_All, All-weaker, All-tail}
 use Rattle.std.proofs.lemmas.Map.Views.{All-keys-insert_entry}
 use Rattle.snap_topo.specs.Spells.{put_port, by_number}
+use Rattle.snap_core.proofs.Orders.{nat_cmp-Less, lt-from_Less}
 
 abbrev Port : Type 0
 Port = ℕ × List ℕ
-
-less : (x y : ℕ) → x < y → nat_cmp x y ≡ Less
-less x y lt = sym (nat_cmp_is x y Less lt)
-
-below : (x y : ℕ) → nat_cmp x y ≡ Less → x < y
-below x y is = by_ranked (x < y) (x ≡ y) (y < x) (nat_cmp x y) (ranked x y (nat_cmp x y) refl) (λ _ lt. lt) (λ e _. absurd (cc (e, is))) (λ e _. absurd (cc (e, is)))
 
 abbrev Rise : List Port → Type 0
 Rise ps = IsStrictlySortedBy nat_cmp (keys_of ps)
@@ -28,7 +22,7 @@ abbrev Over : ℕ → List Port → Type 0
 Over x ps = AllByRecursion (λ y. nat_cmp x y ≡ Less) (keys_of ps)
 
 over-further : (x k : ℕ) (ps : List Port) → k < x → Over x ps → Over k ps
-over-further x k ps lt over = recursion_from_All _ (keys_of ps) (All-weaker (λ y. nat_cmp x y ≡ Less) (λ y. nat_cmp k y ≡ Less) (λ y h. let up = below x y h in less k y (omega arith)) (keys_of ps) (All-from_recursion _ (keys_of ps) over))
+over-further x k ps lt over = recursion_from_All _ (keys_of ps) (All-weaker (λ y. nat_cmp x y ≡ Less) (λ y. nat_cmp k y ≡ Less) (λ y h. let up = lt-from_Less x y h in nat_cmp-Less k y (omega arith)) (keys_of ps) (All-from_recursion _ (keys_of ps) over))
 
 rise-insert : (ps : List Port) (k : ℕ) (v : List ℕ) → Rise ps → Rise (insert_entry nat_cmp ps k v)
 unfolding IsStrictlySortedBy
@@ -37,7 +31,7 @@ rise-insert (p ∷ ps) k v rise = by_ranked (k < p.0) (k ≡ p.0) (p.0 < k) (nat
     (λ is lt. subst (λ (o : Ordering). Rise (match_ordering o ((k, v) ∷ p ∷ ps) ((p.0, v) ∷ ps) (p ∷ insert_entry nat_cmp ps k v))) (sym is) ((is, over-further p.0 k ps lt rise.0), rise))
     (λ is same. subst (λ (o : Ordering). Rise (match_ordering o ((k, v) ∷ p ∷ ps) ((p.0, v) ∷ ps) (p ∷ insert_entry nat_cmp ps k v))) (sym is) rise)
     (λ is lt. subst (λ (o : Ordering). Rise (match_ordering o ((k, v) ∷ p ∷ ps) ((p.0, v) ∷ ps) (p ∷ insert_entry nat_cmp ps k v))) (sym is)
-    (recursion_from_All _ (keys_of (insert_entry nat_cmp ps k v)) (All-keys-insert_entry nat_cmp k v (λ y. nat_cmp p.0 y ≡ Less) ps (All-from_recursion _ (keys_of ps) rise.0) (less p.0 k lt)), rise-insert ps k v rise.1))
+    (recursion_from_All _ (keys_of (insert_entry nat_cmp ps k v)) (All-keys-insert_entry nat_cmp k v (λ y. nat_cmp p.0 y ≡ Less) ps (All-from_recursion _ (keys_of ps) rise.0) (nat_cmp-Less p.0 k lt)), rise-insert ps k v rise.1))
 
 fold-rise : (so_far ps : List Port) → Rise so_far → Rise (fold put_port so_far ps)
 fold-rise so_far [] rise = rise

@@ -8,7 +8,8 @@ use Rattle.snap_topo.specs.declared.topology.Topology.{Topology}
 use Rattle.snap_topo.specs.declared.topology.TopoFault.{TopoFault}
 use Rattle.snap_topo.specs.declared.topology.TopoFault.TheVariants.{Limit, Twice, Unknown}
 use Rattle.snap_topo.specs.declared.topology.TheConstants.{MOST_SWITCHES, MOST_LINKS, MOST_PORTS}
-use Rattle.snap_topo.specs.Spells.{document, is_switch, numbered, port_at, ends, port_name, link_cmp}
+use Rattle.snap_core.specs.Ports.{link_cmp}
+use Rattle.snap_topo.specs.Spells.{document, is_switch, numbered, port_at, ends, port_name}
 use Rattle.snap_topo.specs.Shape.{Spelled, spelled}
 
 -- the first count that passes its limit

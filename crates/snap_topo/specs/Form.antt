@@ -7,7 +7,7 @@ use Rattle.std.specs.Str.{bytes_eq}
 use Rattle.snap_core.specs.declared.ports.PortAt.{PortAt}
 use Rattle.snap_topo.specs.declared.topology.Topology.{Topology}
 use Rattle.snap_topo.specs.declared.topology.TheConstants.{MOST_SWITCHES, MOST_LINKS, MOST_PORTS}
-use Rattle.snap_topo.specs.Spells.{link_cmp}
+use Rattle.snap_core.specs.Ports.{link_cmp}
 use Rattle.snap_core.specs.Names.{is_switch_name}
 
 -- a link between two of n switches, the lesser first

@@ -6,7 +6,8 @@ ghost use Rattle.std.specs.List.Sorted.{IsStrictlySortedBy};
 ghost use Rattle.indexmap.specs.IndexSet.{index_set_len};
 ghost use Rattle.snap_topo.specs.Answer.{first_repeat, first_unknown, is_unknown, too_many, WithinThen};
 ghost use Rattle.snap_topo.specs.Listing.{lent_texts, pair_text, pair_texts, port_texts, spelled_by, string_texts, texts};
-ghost use Rattle.snap_topo.specs.Spells.{is_switch, number_of, numbered, port_at, ends, port_name, link_cmp};
+ghost use Rattle.snap_core.specs.Ports.{link_cmp};
+ghost use Rattle.snap_topo.specs.Spells.{is_switch, number_of, numbered, port_at, ends, port_name};
 
 use crate::listing::Listing;
 use crate::topology::{MOST_LINKS, MOST_PORTS, MOST_SWITCHES, TopoFault, Topology};

@@ -2,7 +2,8 @@ use Rattle.std.proofs.Common.{◌≡◌, ℕ, ◌+◌, ◌%◌, ◌<◌, List, [
 use Rattle.std.specs.List.{range_with_len}
 use Rattle.std.proofs.lemmas.List.FromFn.{map-range_with_len_more}
 use Rattle.snap_rows.specs.declared.tables.Tables.{Tables}
-use Rattle.snap_rows.specs.Entries.{port_at, port_in}
+use Rattle.snap_core.specs.Ports.{port_in}
+use Rattle.snap_rows.specs.Entries.{port_at}
 use Rattle.snap_demo.specs.Packets.{packet_of}
 use Rattle.snap_demo.specs.Row.{ports}
 use Rattle.snap_demo.specs.Runs.{HasRun}

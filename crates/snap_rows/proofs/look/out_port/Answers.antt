@@ -1,7 +1,7 @@
 use Rattle.std.proofs.Common.{◌∙◌, ap, sym}
 use Rattle.std.specs.Prelude.{is_some, option_map, slice_index}
 use Rattle.snap_core.specs.declared.ports.PortAt.{PortAt}
-use Rattle.snap_rows.specs.Entries.{port_in}
+use Rattle.snap_core.specs.Ports.{port_in}
 use Rattle.snap_rows.proofs.Ports.{port_is_found}
 use Rattle.snap_rows.proofs.look.out_port.Goals as goal
 

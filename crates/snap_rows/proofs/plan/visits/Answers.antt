@@ -10,7 +10,7 @@ use Rattle.snap_rows.specs.Entries.{rank_of, ranks}
 use Rattle.snap_rows.specs.Stepping.{Visiting, none}
 use Rattle.snap_rows.proofs.Seen.{last_here, after_visit}
 use Rattle.snap_rows.proofs.Later.{rank_small}
-use Rattle.snap_rows.proofs.Rows.{some_injective}
+use Rattle.std.proofs.lemmas.Option.{same_Some}
 use Rattle.snap_rows.proofs.Plans.{append_fits, no_updates}
 use Rattle.snap_rows.proofs.Stepping.{visiting_on}
 use Rattle.snap_rows.proofs.plan.visits.Goals as goal
@@ -38,7 +38,7 @@ pub last_outs-outs-requires : goal.last_outs-outs-requires
 last_outs-outs-requires g c =
     let t = c.args.tables.now in
     let home = c.loop-owner.invariant.home in
-    let owner : home.owner ≡ c.args.at = some_injective _ _ (sym home.rank ∙ c.loop-owner.invariant.owner) ∙ c.loop-owner-test.true in
+    let owner : home.owner ≡ c.args.at = same_Some _ _ (sym home.rank ∙ c.loop-owner.invariant.owner) ∙ c.loop-owner-test.true in
     last_here t c.tables-known.ensures.valid c.tables-known.ensures.form c.requires.home.0 c.args.at c.args.packet.now (arrays_of c.args.store.now) c.loop-owner.due c.loop-owner.number c.in_ok-number.number _ home owner c.in_ok-number.ensures.visit.1 (c.if-due-ranks.true ∙ c.ranks.ensures)
 
 pub returns-then-due-ranks : goal.returns-then-due-ranks
@@ -48,7 +48,7 @@ returns-then-due-ranks g c =
     let m = arrays_of c.args.store.now in
     let loop = c.loop-owner.invariant in
     let may : g.A.Admit.admits c.args.admit.now c.loop-owner.due ≡ true = first_of (search rules, cc) in
-    let owner : loop.home.owner ≡ c.args.at = some_injective _ _ (sym loop.home.rank ∙ loop.owner) ∙ c.loop-owner-test.true in
+    let owner : loop.home.owner ≡ c.args.at = same_Some _ _ (sym loop.home.rank ∙ loop.owner) ∙ c.loop-owner-test.true in
     let first = loop.first in
     record {
       visited = record {
@@ -65,7 +65,7 @@ pub owner_of_rank-owner-requires-in-loop-owner : goal.owner_of_rank-owner-requir
 owner_of_rank-owner-requires-in-loop-owner g c =
     let t = c.args.tables.now in
     let loop = c.loop-owner.invariant in
-    let owner : loop.home.owner ≡ c.args.at = some_injective _ _ (sym loop.home.rank ∙ loop.owner) ∙ c.loop-owner-test.true in
+    let owner : loop.home.owner ≡ c.args.at = same_Some _ _ (sym loop.home.rank ∙ loop.owner) ∙ c.loop-owner-test.true in
     let more : c.loop-owner.due + 1 ≢ ranks t = λ e. c.if-due-ranks.false (e ∙ sym c.ranks.ensures) in
     let then = after_visit t c.tables-known.ensures.valid c.tables-known.ensures.form c.requires.home.0 c.args.at c.args.packet.now (arrays_of c.args.store.now) c.loop-owner.due c.loop-owner.number c.in_ok-number.number c.loop-owner.ups c.visit.new.ups loop.home owner loop.below c.in_ok-number.ensures.visit more in
     ap is_some then.0.rank
@@ -79,7 +79,7 @@ loop-owner-preserved g c =
     let valid = c.tables-known.ensures.valid in
     let form = c.tables-known.ensures.form in
     let may : g.A.Admit.admits c.args.admit.now c.loop-owner.due ≡ true = first_of (search rules, cc) in
-    let owner : loop.home.owner ≡ c.args.at = some_injective _ _ (sym loop.home.rank ∙ loop.owner) ∙ c.loop-owner-test.true in
+    let owner : loop.home.owner ≡ c.args.at = same_Some _ _ (sym loop.home.rank ∙ loop.owner) ∙ c.loop-owner-test.true in
     let more : c.loop-owner.due + 1 ≢ ranks t = λ e. c.if-due-ranks.false (e ∙ sym c.ranks.ensures) in
     let then = after_visit t valid form c.requires.home.0 c.args.at k m c.loop-owner.due c.loop-owner.number c.in_ok-number.number c.loop-owner.ups c.visit.new.ups loop.home owner loop.below c.in_ok-number.ensures.visit more in
     let first = loop.first in

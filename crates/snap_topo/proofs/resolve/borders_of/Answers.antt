@@ -3,7 +3,8 @@ use Rattle.std.specs.List.Sorted.{IsStrictlySortedBy}
 use Rattle.std.proofs.lemmas.Result.{err_from_is_err_and}
 use Rattle.snap_topo.specs.Answer.{first_repeat, is_unknown}
 use Rattle.snap_topo.specs.Listing.{lent_texts, pair_text, spelled_by, string_texts}
-use Rattle.snap_topo.specs.Spells.{numbered, port_at, ends, link_cmp}
+use Rattle.snap_core.specs.Ports.{link_cmp}
+use Rattle.snap_topo.specs.Spells.{numbered, port_at, ends}
 use Rattle.snap_topo.proofs.Stages.{all-known, unknown-links, unknown-ports}
 use Rattle.snap_topo.proofs.resolve.borders_of.Goals as goal
 

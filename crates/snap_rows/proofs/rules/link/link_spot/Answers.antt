@@ -1,11 +1,11 @@
-use Rattle.std.proofs.Common.{◌≡◌, ◌⊎◌, ◌<◌, ◌≤◌, ℕ, List, length, get_or, ap, subst, ◌∙◌, arith}
+use Rattle.std.proofs.Common.{◌≡◌, ◌⊎◌, ◌<◌, ◌≤◌, ℕ, List, length, get_or, ap, subst, ◌∙◌, arith, below_more}
 use Rattle.std.specs.Prelude.{Contains}
 use Rattle.std.proofs.lemmas.List.{get_or_default}
 use Rattle.snap_rows.specs.declared.tables.Hop.{Hop}
 use Rattle.snap_rows.specs.declared.tables.Rule.TheVariants.{Link}
 use Rattle.snap_rows.specs.declared.tables.Spot.TheVariants as spot
 use Rattle.snap_rows.specs.Rules.{Keeps, HopKeeps, IsLinked}
-use Rattle.snap_rows.proofs.Spots.{one_up, at_some, hops_all}
+use Rattle.snap_rows.proofs.Spots.{at_some, hops_all}
 use Rattle.snap_rows.proofs.rules.link.link_spot.Goals as goal
 
 abbrev none : Hop
@@ -21,7 +21,7 @@ loop-at-preserved c =
     let is : h ≡ get_or t.hops n h = ap (λ (l : List Hop). get_or l n none) c.loop-at.invariant.items ∙ get_or_default t.hops n none h within in
     let linked : IsLinked t h.from h.next = subst (λ (ls : List (ℕ × ℕ)). Contains ls (h.from, h.next) ⊎ Contains ls (h.next, h.from)) c.items.ensures (c.linked_as.ensures.0 c.if-not-linked_as.false) in
     record {
-      kept = one_up (λ i. Keeps t Link (spot.Hop i)) n c.loop-at.invariant.kept (at_some (HopKeeps t Link) t.hops n h is within linked);
+      kept = below_more (λ i. Keeps t Link (spot.Hop i)) n c.loop-at.invariant.kept (at_some (HopKeeps t Link) t.hops n h is within linked);
       items = c.loop-at.invariant.items;
       known = linked;
     }

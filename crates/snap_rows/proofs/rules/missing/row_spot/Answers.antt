@@ -1,10 +1,10 @@
-use Rattle.std.proofs.Common.{rules, ◌≡◌, ◌<◌, ◌≤◌, List, length, get_or, ap, subst, ◌∙◌, arith}
+use Rattle.std.proofs.Common.{rules, ◌≡◌, ◌<◌, ◌≤◌, List, length, get_or, ap, subst, ◌∙◌, arith, below_more}
 use Rattle.snap_rows.specs.declared.tables.RowAt.{RowAt}
 use Rattle.snap_rows.specs.declared.tables.Rule.TheVariants.{Missing}
 use Rattle.snap_rows.specs.declared.tables.Spot.TheVariants as spot
 use Rattle.snap_rows.specs.Leads.{HaveRows}
 use Rattle.snap_rows.specs.Rules.{Keeps}
-use Rattle.snap_rows.proofs.Spots.{one_up, at_some, RowAtKeeps, rows_all}
+use Rattle.snap_rows.proofs.Spots.{at_some, RowAtKeeps, rows_all}
 use Rattle.snap_rows.proofs.rules.missing.row_spot.Goals as goal
 
 pub loop-at-preserved : goal.loop-at-preserved
@@ -16,7 +16,7 @@ loop-at-preserved c =
     let is : r ≡ get_or t.rows n r = c.entry-item.is ∙ ap (λ l. get_or l n r) c.loop-at.invariant.items in
     let keeps : HaveRows t r.at r.number r.row = search rules in
     record {
-      kept = one_up (λ i. Keeps t Missing (spot.Row i)) n c.loop-at.invariant.kept (at_some (RowAtKeeps t Missing) t.rows n r is within keeps);
+      kept = below_more (λ i. Keeps t Missing (spot.Row i)) n c.loop-at.invariant.kept (at_some (RowAtKeeps t Missing) t.rows n r is within keeps);
       items = c.loop-at.invariant.items;
     }
 

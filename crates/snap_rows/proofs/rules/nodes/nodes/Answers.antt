@@ -1,11 +1,10 @@
 use Rattle.std.proofs.Common.{◌≡◌, ◌+◌, ◌-◌, ◌<◌, length, get_or, sym, ap, subst, ◌∙◌, arith}
 use Rattle.std.specs.Prelude.{slice_get}
-use Rattle.std.proofs.lemmas.Option.{slice_get-get_or}
+use Rattle.std.proofs.lemmas.Option.{slice_get-get_or, same_Some}
 use Rattle.snap_rows.specs.declared.tables.RowAt.{RowAt}
 use Rattle.snap_rows.specs.Entries.{is_node}
 use Rattle.snap_rows.specs.Standing.{AreNodesFrom, place_in}
 use Rattle.snap_rows.proofs.Growing.{nodes_same, nodes_more}
-use Rattle.snap_rows.proofs.Rows.{some_injective}
 use Rattle.snap_rows.proofs.rules.nodes.nodes.Goals.{then-is_node+in_ok-put, else-is_node}
 use Rattle.snap_rows.proofs.rules.nodes.nodes.Goals as goal
 
@@ -31,7 +30,7 @@ loop-turn-preserved c =
       nodes = subst (λ j. AreNodesFrom t j (place_in c.if-is_node.nodes)) down (elim c.if-is_node.branch [
         | then-is_node+in_ok-put w ↦
             let x = at w.index-rows-at-then-is_node.result in
-            let same : r ≡ x = some_injective _ _ (sym (found c.index-rows-at.result) ∙ found w.index-rows-at-then-is_node.result) in
+            let same : r ≡ x = same_Some _ _ (sym (found c.index-rows-at.result) ∙ found w.index-rows-at-then-is_node.result) in
             subst (λ m. AreNodesFrom t k (place_in m)) (sym w.nodes-is)
             (nodes_more t k x (place_in c.loop-turn.nodes) (place_in w.put.new.self) (found w.index-rows-at-then-is_node.result) (ap (λ (x : RowAt). is_node x.row) (sym same) ∙ ap is_node (sym c.row.ensures) ∙ sym c.is_node.ensures ∙ w.if-is_node.true) before w.in_ok-put.ensures.here w.in_ok-put.ensures.others)
         | else-is_node w ↦ subst (λ m. AreNodesFrom t k (place_in m)) (sym w.nodes-is) (nodes_same t k r (place_in c.loop-turn.nodes) (found c.index-rows-at.result) (ap is_node (sym c.row.ensures) ∙ sym c.is_node.ensures ∙ w.if-is_node.false) before)

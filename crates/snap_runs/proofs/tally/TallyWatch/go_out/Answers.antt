@@ -6,7 +6,7 @@ use Rattle.snap_rows.specs.declared.head.Head.TheVariants.{Out}
 use Rattle.snap_rows.specs.Entries.{port_at}
 use Rattle.snap_rows.specs.Ways.{Way}
 use Rattle.snap_rows.proofs.Bounded.{port_below}
-use Rattle.snap_rows.proofs.Rows.{some_injective}
+use Rattle.std.proofs.lemmas.Option.{same_Some}
 use Rattle.snap_runs.proofs.Passing.{sees-way}
 use Rattle.snap_runs.proofs.tally.TallyWatch.go_out.Goals as goal
 
@@ -19,7 +19,7 @@ returns-in-Some c =
     let w = c.args.from in
     let at : port_at t c.args.port ≡ Some c.in-Some.to = sym c.port_at.ensures ∙ c.in-Some.is in
     on_ok_weaker c.put_way.result
-    (λ put x ws gs is way crosses. sees-way t c.args.self.now c.put_way.new.self c.args.number (Out c.args.port) c.args.packet.now w ws gs crosses c.put_way.ensures.frames (put ws (subst (λ v. Way t v w ws) (some_injective x c.in-Some.to (sym is ∙ at)) way)))
+    (λ put x ws gs is way crosses. sees-way t c.args.self.now c.put_way.new.self c.args.number (Out c.args.port) c.args.packet.now w ws gs crosses c.put_way.ensures.frames (put ws (subst (λ v. Way t v w ws) (same_Some x c.in-Some.to (sym is ∙ at)) way)))
     c.put_way.ensures.lines
 
 pub returns-in-None : goal.returns-in-None

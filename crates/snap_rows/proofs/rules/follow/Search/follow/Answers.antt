@@ -6,7 +6,7 @@ use Rattle.snap_rows.specs.Entries.{row_at}
 use Rattle.snap_rows.specs.Following.{IsMarked}
 use Rattle.snap_rows.specs.Leads.{AreLedNext, IsNumberAfter, LeadsNext}
 use Rattle.snap_rows.specs.Ways.{Reached}
-use Rattle.snap_rows.proofs.Following.{contained, entry_over, row_has_rows, leads_reached, next_marked, marked_more, both_ok}
+use Rattle.snap_rows.proofs.Following.{contained, entry_over, row_has_rows, leads_reached, next_marked, marked_more, OnOk-both}
 use Rattle.snap_rows.proofs.Leading.{split_leads, each_over}
 use Rattle.snap_rows.proofs.rules.follow.Search.follow.Goals as goal
 
@@ -50,6 +50,6 @@ returns-clause-marked c =
     let marks = c.mark_all.new.self.marks.items in
     let led : AreLedNext t r.at r.row c.led_next.new.over.items = subst (λ (b : Row). AreLedNext t r.at b c.led_next.new.over.items) c.row-row.ensures c.in_ok-led_next.ensures in
     let own : (k : ℕ) → IsNumberAfter r.row k → IsMarked t before r.at k = λ k after. c.in_ok-mark_numbers.ensures.marked k (subst (λ (b : Row). IsNumberAfter b k) (sym c.row-row.ensures) after) in
-    both_ok c.mark_all.result
+    OnOk-both c.mark_all.result
     (λ grows all. next_marked t marks r c.led_next.new.over.items led (λ k after. marked_more t before marks r.at k grows.kept (own k after)) (subst (All (λ x. IsMarked t marks x r.number)) c.deref.ensures.value all))
     c.mark_all.ensures.grows c.mark_all.ensures.marked
