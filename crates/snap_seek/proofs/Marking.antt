@@ -21,7 +21,7 @@ use Rattle.snap_seek.specs.declared.demand.DemandFault.TheVariants.{NoSwitch}
 use Rattle.snap_seek.specs.Answer.{Lists, entry_for, named, no_switch}
 use Rattle.snap_seek.specs.Listing.{key_texts}
 use Rattle.snap_route.proofs.Joined.{Contains-nil}
-use Rattle.snap_topo.proofs.NumberLemmas.{chosen}
+use Rattle.snap_topo.proofs.NumberLemmas.{Some-cond}
 
 -- ---- switches by name
 
@@ -41,7 +41,7 @@ pub number-of : (name : List ℕ) (keys : List (Vec ℕ Global)) (r : Option ℕ
     → MatchOption r (is_switch (key_texts keys) name ≡ false) (λ n. (n < length (key_texts keys)) × (is_switch (key_texts keys) name ≡ true) × (n ≡ number_of (key_texts keys) name))
 number-of name keys (Some i) is found within =
     let size = length-map keys (λ (k : Vec ℕ Global). k.items) in
-    ((omega arith), is_switch-keys name keys ∙ sym found, chosen _ _ i is ∙ sym (number_of-keys name keys))
+    ((omega arith), is_switch-keys name keys ∙ sym found, Some-cond _ _ i is ∙ sym (number_of-keys name keys))
 number-of name keys None is found within = is_switch-keys name keys ∙ sym found
 
 -- ---- a set of names that differ

@@ -13,11 +13,11 @@ pub number_of-texts : (name : List ℕ) (keys : List (Bor (List ℕ))) → numbe
 number_of-texts name [] = refl
 number_of-texts name (k ∷ keys) = ap (λ n. cond (not (bytes_eq name k.now)) (1 + n) 0) (number_of-texts name keys)
 
-pub chosen : (b : Bool) (n i : ℕ) → Some i ≡ cond b (Some n) None → i ≡ n
-chosen true n i is = cc
-chosen false n i is = cc
+pub Some-cond : (b : Bool) (n i : ℕ) → Some i ≡ cond b (Some n) None → i ≡ n
+Some-cond true n i is = cc
+Some-cond false n i is = cc
 
 -- what a look-up found
 pub number-found : (name : List ℕ) (keys : List (Bor (List ℕ))) (i : ℕ) → Some i ≡ position (λ (k : Bor (List ℕ)). bytes_eq name k.now) keys → true ≡ list_any (λ (k : Bor (List ℕ)). bytes_eq name k.now) keys
     → (is_switch (lent_texts keys) name ≡ true) × (i ≡ number_of (lent_texts keys) name)
-number-found name keys i is found = (is_switch-texts name keys ∙ sym found, chosen _ _ i is ∙ sym (number_of-texts name keys))
+number-found name keys i is found = (is_switch-texts name keys ∙ sym found, Some-cond _ _ i is ∙ sym (number_of-texts name keys))
