@@ -16,7 +16,6 @@ use Rattle.snap_rows.specs.declared.tables.Rule.TheVariants.{Kind}
 use Rattle.snap_rows.specs.Chains.{PassesFields, Jumps, LeadsOn}
 use Rattle.snap_rows.specs.Entries.{row_at, node_of}
 use Rattle.snap_rows.specs.Form.{IsInForm, comps}
-use Rattle.snap_rows.specs.Handles.{side}
 use Rattle.snap_rows.specs.Rules.{IsValid, IsStateRow, IsFieldRow, IsKind1, IsKind2}
 use Rattle.snap_rows.specs.Steps.{IsFieldRowInForm, GoesOn, IsStep}
 use Rattle.std.proofs.lemmas.Option.{same_Some}

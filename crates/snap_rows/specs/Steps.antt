@@ -1,9 +1,7 @@
 -- What the parts of a step answer.
 use Rattle.std.specs.Prelude.{◌≡◌, ℕ, ◌<◌, Bool, Option, Some, List, ◌++◌, IsSome, IfSome, is_some, length}
 use Rattle.std.specs.List.{All}
-use Rattle.snap_core.specs.Arrays.{Arrays, updates}
-use Rattle.snap_core.specs.Fits.{UpdateReads}
-use Rattle.snap_rows.specs.declared.head.Head.{Head}
+use Rattle.snap_core.specs.Arrays.{Arrays}
 use Rattle.snap_core.specs.Tests.{TestFits}
 use Rattle.snap_rows.specs.declared.tables.Tables.{Tables}
 use Rattle.snap_rows.specs.declared.tables.Row.{Row}
@@ -14,7 +12,7 @@ use Rattle.snap_core.specs.declared.policy.Update.{Update}
 use Rattle.snap_rows.specs.Form.{IsFieldTest, switch_count}
 use Rattle.snap_rows.specs.Home.{AtHome, IsVisited}
 use Rattle.snap_rows.specs.Actions.{Action, Forward, Deliver, Fork}
-use Rattle.snap_rows.specs.Handles.{Handles, Follows, Visits, forked}
+use Rattle.snap_rows.specs.Handles.{Follows, Visits, forked}
 
 -- the components of a test row are below c
 abbrev pub TestRowFits : ℕ → Row → Type 0
@@ -68,6 +66,10 @@ IsLast b = (us : List Update) × (os : List Parts) × (b ≡ Last us os)
 -- the number has a row at w that is a leaf of version 2
 abbrev pub HasLast : Tables → ℕ → ℕ → Type 0
 HasLast t w n = (us : List Update) × (os : List Parts) × (row_at t w n ≡ Some (Last us os))
+
+-- the action is the fork at that leaf
+abbrev pub ForksAt : Tables → ℕ → List ℕ → ℕ → Action → Type 0
+ForksAt t w k n a = (us : List Update) × (os : List Parts) × (row_at t w n ≡ Some (Last us os)) × (a ≡ forked t os k)
 
 -- the number has a row at w from which rank r can be visited
 abbrev pub IsVisitedAt : Tables → ℕ → ℕ → ℕ → Type 0

@@ -219,7 +219,7 @@ fn owner_of_rank(tables: &Valid, rank: u16) -> u16
 }
 
 // The outs of a leaf of version 2 that has a row at the switch.
-fn last_outs(tables: &Valid, at: u16, leaf: u64) -> &[Out]
+pub(crate) fn last_outs(tables: &Valid, at: u16, leaf: u64) -> &[Out]
     requires { HasLast tables.now at leaf }
     ensures { (us : List Update) × (row_at tables.now at leaf ≡ Some (Last us result.now)) }
 {

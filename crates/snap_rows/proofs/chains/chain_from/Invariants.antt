@@ -1,4 +1,4 @@
-use Rattle.std.proofs.Common.{ℕ, ◌<◌, ◌-◌, length}
+use Rattle.std.proofs.Common.{◌<◌, ◌-◌, length}
 use Rattle.snap_rows.specs.Form.{comps}
 use Rattle.snap_rows.proofs.Jumps.{CasesLead}
 use Rattle.snap_rows.proofs.chains.chain_from.Given as goal

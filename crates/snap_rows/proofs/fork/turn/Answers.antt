@@ -1,5 +1,5 @@
-use Rattle.std.proofs.Common.{◌≡◌, ◌≤◌, ◌∷◌, [], Option, Some, None, Bool, true, false, map, ap, sym, subst, ◌∙◌, arith}
-use Rattle.std.specs.Prelude.{IfSome, is_some, slice_index}
+use Rattle.std.proofs.Common.{◌≡◌, ◌≤◌, map, ap, ◌∙◌, arith}
+use Rattle.std.specs.Prelude.{is_some}
 use Rattle.snap_core.specs.declared.ports.PortAt.{PortAt}
 use Rattle.snap_core.specs.Switch.{goes_out}
 use Rattle.snap_core.proofs.FieldLemmas.{count-fields}
