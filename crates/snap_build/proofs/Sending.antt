@@ -25,10 +25,10 @@ use Rattle.snap_fdd.specs.declared.leaf.Leaf.{Leaf}
 use Rattle.snap_fdd.proofs.Shared.{kept}
 use Rattle.snap_chain.specs.Late.{OnStores, outcome, outcome_at}
 use Rattle.snap_chain.specs.Sequence.{in_sequence}
-use Rattle.snap_chain.specs.Spread.{besides, nothing}
+use Rattle.snap_chain.specs.Spread.{besides}
 use Rattle.snap_chain.proofs.Folding.{besides_front, all_together-is}
 use Rattle.snap_build.specs.Parts.{DoesAs, IsSet, Sends, sent}
-use Rattle.snap_build.proofs.Doing.{does_kept, same_sequence}
+use Rattle.snap_build.proofs.Doing.{same_sequence}
 
 -- ---- packets of a list of packets
 abbrev eq : List ℕ → List ℕ → Bool

@@ -1,7 +1,8 @@
 -- Answers under a test's two answers, and of leaves.
 use Rattle.std.proofs.Common.{◌≡◌, ℕ, Bool, true, false, List, length, sym, ◌∙◌, subst}
 use Rattle.std.specs.Prelude.{Result, MatchResult}
-use Rattle.std.specs.List.{AllByRecursion}
+use Rattle.std.specs.List.{All}
+use Rattle.std.proofs.lemmas.List.Elements.{All-cons}
 use Rattle.snap_core.specs.declared.policy.Test.{Test}
 use Rattle.snap_core.specs.Arrays.{Arrays, updates}
 use Rattle.snap_core.specs.Cells.{arrays_of}
@@ -25,7 +26,7 @@ use Rattle.snap_equal.proofs.Telling.{result_as}
 
 -- the facts of a context with one more
 pub below_more : (n : ℕ) (v w : View) (t : Test) (y : Bool) → IsTest (space v n) t → IsAssumed v t y (More w) → AreBelow n v → AreBelow n w
-below_more n v w t y is a h = subst (AllByRecursion (FactBelow n)) (sym a.0) (is.var, h)
+below_more n v w t y is a h = subst (All (FactBelow n)) (sym a.0) (All-cons (FactBelow n) (record { test = t; yes = y }) v.facts is.var h)
 
 module _ (v : View) (vars : ℕ) (t : Test) (y : Bool) (P : Arrays → List ℕ → Type 0) where
   -- none gives the answer

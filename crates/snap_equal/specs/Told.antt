@@ -1,6 +1,6 @@
 -- What a context tells of questions on a store and a packet.
 use Rattle.std.specs.Prelude.{◌≡◌, ℕ, Bool, true, false, List, length}
-use Rattle.std.specs.List.{AllByRecursion}
+use Rattle.std.specs.List.{All}
 use Rattle.snap_core.specs.Arrays.{Arrays}
 use Rattle.snap_core.specs.Cells.{arrays_of}
 use Rattle.snap_core.specs.Inputs.{IsStore, IsPacket, IsZeroFrom}
@@ -38,7 +38,7 @@ Where t y P m k = passes t m k ≡ y → P m k
 
 -- the facts are on so many variables
 abbrev pub AreBelow : ℕ → View → Type 0
-AreBelow vars v = AllByRecursion (FactBelow vars) v.facts
+AreBelow vars v = All (FactBelow vars) v.facts
 
 -- a test that some of them pass and some do not
 abbrev pub IsStop : View → ℕ → Stop → Type 0

@@ -1,5 +1,5 @@
 -- Out by out.
-use Rattle.std.proofs.Common.{◌≡◌, ℕ, [], get_or, sym, ap, ◌∙◌, arith, below_more}
+use Rattle.std.proofs.Common.{◌≡◌, [], get_or, sym, ap, ◌∙◌, arith, below_more}
 use Rattle.std.proofs.lemmas.List.{get_or_default}
 use Rattle.snap_core.specs.Tests.{after_out}
 use Rattle.snap_equal.specs.Told.{On}
