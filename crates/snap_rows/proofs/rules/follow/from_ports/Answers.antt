@@ -4,14 +4,11 @@ use Rattle.snap_rows.specs.Following.{IsMarked}
 use Rattle.snap_rows.proofs.Following.{marked_more, more_hold, port_has_row, port_reached}
 use Rattle.snap_rows.proofs.rules.follow.from_ports.Goals as goal
 
-abbrev none : PortAt
-none = record { port = 0; at = 0 }
-
 pub mark-requires-clause-row : goal.mark-requires-clause-row
-mark-requires-clause-row c = port_has_row c.args.tables.now c.requires.missing c.items-port-items.result.now c.loop-port.invariant.items c.loop-port.port-index none c.loop-port-test.true
+mark-requires-clause-row c = port_has_row c.args.tables.now c.requires.missing c.items-port-items.result.now c.loop-port.invariant.items c.loop-port.port-index (record { port = 0; at = 0 }) c.loop-port-test.true
 
 pub mark-requires-clause-reached : goal.mark-requires-clause-reached
-mark-requires-clause-reached c = port_reached c.args.tables.now c.items-port-items.result.now c.loop-port.invariant.items c.loop-port.port-index none c.loop-port-test.true
+mark-requires-clause-reached c = port_reached c.args.tables.now c.items-port-items.result.now c.loop-port.invariant.items c.loop-port.port-index (record { port = 0; at = 0 }) c.loop-port-test.true
 
 pub loop-port-preserved : goal.loop-port-preserved
 loop-port-preserved c =
@@ -23,7 +20,7 @@ loop-port-preserved c =
     record {
       long = grows.long ∙ c.loop-port.invariant.long;
       followed = grows.followed [] c.loop-port.invariant.followed;
-      marked = more_hold (λ (p : PortAt). IsMarked t more p.at 0) ps c.loop-port.port-index none c.loop-port-test.true (λ i d below. marked_more t marks more (get_or ps i d).at 0 grows.kept (c.loop-port.invariant.marked i d below)) c.in_ok-mark.ensures.marked;
+      marked = more_hold (λ (p : PortAt). IsMarked t more p.at 0) ps c.loop-port.port-index (record { port = 0; at = 0 }) c.loop-port-test.true (λ i d below. marked_more t marks more (get_or ps i d).at 0 grows.kept (c.loop-port.invariant.marked i d below)) c.in_ok-mark.ensures.marked;
       items = c.loop-port.invariant.items;
     }
 
