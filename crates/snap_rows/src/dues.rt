@@ -197,6 +197,9 @@ impl<'a> Dues<'a> {
         ensures { OnOk result (arrays_of store.new ≡ updates (arrays_of store.old) self.now packet.now) }
     {
         apply_first(self.first, store, packet)?;
+        if self.rest.is_empty() {
+            return Ok(());
+        }
         apply_rest(&self.rest, store, packet)
     }
 

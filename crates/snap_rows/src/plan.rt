@@ -1,6 +1,6 @@
 //! What one step does, worked out before anything is changed.
 
-ghost use Rattle.std.specs.Prelude.{◌≡◌, ◌≢◌, ◌<◌, ◌++◌, ℕ, List, [], IfOk, OnOk, IsSome, Some, length};
+ghost use Rattle.std.specs.Prelude.{◌≡◌, ◌≢◌, ◌<◌, ◌++◌, ℕ, List, [], IfOk, IfSome, OnOk, IsSome, Some, length};
 ghost use Rattle.snap_core.specs.declared.place.Place.{Place};
 ghost use Rattle.snap_core.specs.declared.policy.Update.{Update};
 ghost use Rattle.snap_core.specs.Arrays.{Arrays};
@@ -9,7 +9,7 @@ ghost use Rattle.snap_rows.specs.declared.tables.Row.TheVariants.{Leaf, Last};
 ghost use Rattle.snap_rows.specs.Entries.{row_at, rank_at, owner_of};
 ghost use Rattle.snap_rows.specs.Form.{IsInForm, comps, switch_count};
 ghost use Rattle.snap_rows.specs.Home.{AtHome};
-ghost use Rattle.snap_rows.specs.Steps.{IsGoOrLeaf, HasLast};
+ghost use Rattle.snap_rows.specs.Steps.{IsGoOrLeaf, IsLast};
 ghost use Rattle.snap_rows.specs.Stepping.{FateArrives, FateFits, GoesBy, Steps, StepsBy, VisitsBy, held_back};
 
 use crate::admit::Admit;
@@ -17,8 +17,8 @@ use crate::dues::Dues;
 use crate::head::{Fate, Head};
 use crate::tables::{Row, Stage};
 use crate::valid::Valid;
-use crate::visit::visit;
-use crate::walk::{enter, walk};
+use crate::visit::visit_from;
+use crate::walk::{enter_row, walk};
 use snap_core::NoMemory;
 use snap_core::lists::Out;
 use snap_core::packet::Packet;
@@ -218,14 +218,27 @@ fn owner_of_rank(tables: &Valid, rank: u16) -> u16
     }
 }
 
-// The outs of a leaf of version 2 that has a row at the switch.
-pub(crate) fn last_outs(tables: &Valid, at: u16, leaf: u64) -> &[Out]
-    requires { HasLast tables.now at leaf }
-    ensures { (us : List Update) × (row_at tables.now at leaf ≡ Some (Last us result.now)) }
+// The outs of a leaf of version 2.
+pub(crate) fn last_outs(leaf: &Row) -> &[Out]
+    requires { IsLast leaf.now }
+    ensures { (us : List Update) × (leaf.now ≡ Last us result.now) }
 {
-    match tables.row(at, leaf) {
-        Some(Row::Last { ups: _, outs }) => outs.items(),
+    match leaf {
+        Row::Last { ups: _, outs } => outs.items(),
         _ => unreachable!(),
+    }
+}
+
+// The row of a number that has one, which may be known.
+#[inline(always)]
+fn row_of<'a>(tables: &'a Valid, at: u16, number: u64, known: Option<&'a Row>) -> &'a Row
+    requires row { IsSome (row_at tables.now at number) }
+    requires known { IfSome known (λ row. row_at tables.now at number ≡ Some row.now) }
+    ensures { row_at tables.now at number ≡ Some result.now }
+{
+    match known {
+        Some(row) => row,
+        None => tables.row_there(tables.shift(at), at, number),
     }
 }
 
@@ -243,7 +256,7 @@ fn held_back<'a>(rank: u16, due: u16, number: u64) -> Fate<'a>
     }
 }
 
-// What becomes of a copy from a visit on. The updates of all visits of the step are lent. All visits read the store as it
+// What becomes of a copy from a visit on, at a number whose row may be known. The updates of all visits of the step are lent. All visits read the store as it
 // was, since none reads what one of lesser rank changes.
 #[inline(always)]
 fn visits<'a, A: Admit>(
@@ -255,25 +268,31 @@ fn visits<'a, A: Admit>(
     packet: &Packet,
     rank: u16,
     node: u64,
+    known: Option<&'a Row>,
     ups: &mut Dues<'a>,
 ) -> Result<Fate<'a>, NoMemory>
     requires packet { length packet.now ≡ comps tables.now }
     requires home { AtHome tables.now at (Head.Visit rank node) }
+    requires known { IfSome known (λ row. row_at tables.now at node ≡ Some row.now) }
     requires none { ups.old ≡ [] }
     ensures { IfOk result (VisitsBy tables.now at packet.now (A.admits admit.now) (arrays_of store.now) rank node ups.new) }
 {
     let _known = tables.tables();
     let mut due = rank;
     let mut number = node;
+    let mut known = known;
     let mut owner = owner_of_rank(tables, rank);
     while owner == at {
         if !admit.admits(due) {
             return Ok(held_back(rank, due, number));
         }
-        number = visit(alloc, tables, at, store, packet, due, number, ups)?;
+        let first = row_of(tables, at, number, known);
+        let (next, row) = visit_from(alloc, tables, at, store, packet, due, number, first, ups)?;
+        number = next;
+        known = Some(row);
         due += 1;
         if due == tables.ranks() {
-            let outs = last_outs(tables, at, number);
+            let outs = last_outs(row);
             return Ok(Fate::Fork { outs });
         }
         owner = owner_of_rank(tables, due);
@@ -306,12 +325,23 @@ fn walk_two<'a, A: Admit>(
     ensures { IfOk result (StepsBy tables.now at packet.now (A.admits admit.now) (arrays_of store.now) (Head.Walk node) ups.new) }
 {
     let _known = tables.tables();
-    let number = enter(tables, at, packet, node);
+    let (number, row) = enter_row(tables, at, packet, node);
     if tables.ranks() == 0 {
-        let outs = last_outs(tables, at, number);
+        let outs = last_outs(row);
         return Ok(Fate::Fork { outs });
     }
-    visits(alloc, tables, admit, at, store, packet, 0, number, ups)
+    visits(
+        alloc,
+        tables,
+        admit,
+        at,
+        store,
+        packet,
+        0,
+        number,
+        Some(row),
+        ups,
+    )
 }
 
 /// What a step of a copy does, by a store that stays as it is: answers what becomes of the copy, and lends the updates to a
@@ -345,7 +375,9 @@ pub fn fate<'a, A: Admit>(
         Head::Stage { leaf, stage } => at_stage(tables, at, packet, leaf, stage, ups),
         Head::Out { port } => Ok(to_port(tables, at, port)),
         Head::Visit { rank, node } => {
-            visits(alloc, tables, admit, at, store, packet, rank, node, ups)
+            visits(
+                alloc, tables, admit, at, store, packet, rank, node, None, ups,
+            )
         }
     }
 }

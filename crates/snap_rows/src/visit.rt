@@ -3,7 +3,7 @@
 ghost use Rattle.std.specs.Prelude.{◌≡◌, ◌++◌, ◌==◌, List, Some, IfOk, OnOk, OnErr, filter, length};
 ghost use Rattle.snap_core.specs.declared.policy.Update.{Update};
 ghost use Rattle.snap_core.specs.Cells.{arrays_of};
-ghost use Rattle.snap_rows.specs.Entries.{Parts, rank_at, rank_of};
+ghost use Rattle.snap_rows.specs.Entries.{Parts, rank_at, rank_of, row_at};
 ghost use Rattle.snap_rows.specs.Form.{comps};
 ghost use Rattle.snap_rows.specs.Home.{AtHome};
 ghost use Rattle.snap_rows.specs.Steps.{AppendsVisit, IsLast, IsVisitedAt};
@@ -54,9 +54,10 @@ fn last_updates(leaf: &Row) -> &[Update]
     }
 }
 
-// Makes a visit at a number from which the rank can be visited.
+/// Makes a visit at a number with this row, from which the rank can be visited: answers its number with that one's row, and
+/// lends its updates, behind those before. Refuses for memory alone.
 #[inline(always)]
-fn visit_from<'a>(
+pub(crate) fn visit_from<'a>(
     alloc: Global,
     tables: &'a Valid,
     at: u16,
@@ -64,24 +65,26 @@ fn visit_from<'a>(
     packet: &Packet,
     rank: u16,
     node: u64,
+    first: &'a Row,
     ups: &mut Dues<'a>,
-) -> Result<u64, NoMemory>
+) -> Result<(u64, &'a Row), NoMemory>
     requires version { tables.now.version ≡ 2 }
     requires packet { length packet.now ≡ comps tables.now }
     requires home { IsVisitedAt tables.now at rank node }
-    ensures visit { IfOk result (λ v. AppendsVisit tables.now at packet.now (arrays_of store.now) rank node v ups.old ups.new) }
+    requires row { row_at tables.now at node ≡ Some first.now }
+    ensures visit { IfOk result (λ v. AppendsVisit tables.now at packet.now (arrays_of store.now) rank node v.0 ups.old ups.new) }
+    ensures row { IfOk result (λ v. row_at tables.now at v.0 ≡ Some v.1.now) }
     ensures memory { OnErr result (ups.new ≡ ups.old) }
 {
     let _known = tables.tables();
-    let (number, row) = walk_ranked(alloc, tables, at, store, packet, rank, node)?;
+    let (number, row) = walk_ranked(alloc, tables, at, store, packet, rank, node, first)?;
     let (_, leaf) = walk_cut(alloc, tables, at, store, packet, rank, number, row)?;
     push_ranked(tables, last_updates(leaf), rank, ups)?;
-    Ok(number)
+    Ok((number, row))
 }
 
 /// Makes a visit: answers its number and lends its updates, behind those before.
 /// Refuses for memory alone.
-#[inline(always)]
 pub fn visit<'a>(
     alloc: Global,
     tables: &'a Valid,
@@ -98,5 +101,7 @@ pub fn visit<'a>(
     ensures visit { IfOk result (λ v. AppendsVisit tables.now at packet.now (arrays_of store.now) rank node v ups.old ups.new) }
     ensures memory { OnErr result (ups.new ≡ ups.old) }
 {
-    visit_from(alloc, tables, at, store, packet, rank, node, ups)
+    let first = tables.row_there(tables.shift(at), at, node);
+    let (number, _) = visit_from(alloc, tables, at, store, packet, rank, node, first, ups)?;
+    Ok(number)
 }
