@@ -1,7 +1,6 @@
 -- The topology is in form, and each two of its switches are joined.
 use Rattle.std.proofs.Common.{◌≡◌, ℕ, zero, suc, ◌+◌, ◌-◌, ◌%◌, ◌^◌, ◌<◌, ◌≤◌, Bool, true, false, [], ◌∷◌, map, length, ◌≢◌, Some, Less, refl, sym, ap, subst, ◌∙◌, inl, arith}
 use Rattle.std.specs.Prelude.{IsTrue, decimal, nat_le, nat_lt, ◌&&◌, ◌||◌, ◌==◌, if◌then◌else◌}
-use Rattle.std.specs.Cmp.{nat_cmp_is}
 use Rattle.std.specs.List.{Contains, list_all, range_with_len}
 use Rattle.std.specs.Ordering.{nat_cmp, ordering_then}
 use Rattle.std.specs.List.Sorted.{IsStrictlySortedBy}
@@ -21,6 +20,7 @@ use Rattle.snap_route.specs.Walks.{IsWalk, Linked}
 use Rattle.snap_topo.specs.Form.{IsInForm, IsLink, IsPort}
 use Rattle.snap_demo.specs.Row.{link_of, links, port_of, ports, stated_topology, switch_name, switches}
 use Rattle.snap_demo.proofs.Ranges.{apart, each, rising}
+use Rattle.snap_core.proofs.Orders.{nat_cmp-Less}
 
 -- ---- names
 digit_byte : (d : ℕ) → d < 10 → is_name_byte (48 + d) ≡ true
@@ -43,11 +43,8 @@ other_names i j less small = apart_by (bytes_eq (decimal i) (decimal j)) refl
     apart_by true e = let same : i ≡ j = decimal_injective i j (omega arith) (omega arith) ((bytes_eq-Decides (decimal i) (decimal j)).0 e) in absurd (omega (arith, same))
 
 -- ---- links and ports
-number_rises : (i j : ℕ) → i < j → nat_cmp i j ≡ Less
-number_rises i j less = sym (nat_cmp_is i j Less less)
-
 links_rise : (i j : ℕ) → i < j → link_cmp (link_of i) (link_of j) ≡ Less
-links_rise i j less = ap (λ o. ordering_then o (nat_cmp (i + 1) (j + 1))) (number_rises i j less)
+links_rise i j less = ap (λ o. ordering_then o (nat_cmp (i + 1) (j + 1))) (nat_cmp-Less i j less)
 
 -- each port of the row is at its switch
 pub port_in-row : (a k p : ℕ) → a ≤ p → p < a + k → port_in (map port_of (range_with_len a k)) (p + 1) ≡ Some p
@@ -72,7 +69,7 @@ module _ (n : ℕ) (some : 1 ≤ n) (few : n ≤ 64) where
     links_rise = rising link_of (n - 1) link_cmp (λ i j less within. links_rise i j less) 0 (n - 1) (omega arith);
     few_links = (let l = length-map-range_with_len link_of 0 (n - 1) in omega (arith, l));
     ports = All-from_recursion (IsPort (length (switches n))) (ports n) (each port_of n (IsPort (length (switches n))) (λ i less. record { some = omega arith; below = omega (arith, count) }) 0 n (omega arith));
-    ports_rise = subst (IsStrictlySortedBy nat_cmp) (sym (map-map (λ (p : PortAt). p.port) port_of (range_with_len 0 n))) (rising (λ i. i + 1) n nat_cmp (λ i j less within. number_rises (i + 1) (j + 1) (omega (arith, less))) 0 n (omega arith));
+    ports_rise = subst (IsStrictlySortedBy nat_cmp) (sym (map-map (λ (p : PortAt). p.port) port_of (range_with_len 0 n))) (rising (λ i. i + 1) n nat_cmp (λ i j less within. nat_cmp-Less (i + 1) (j + 1) (omega (arith, less))) 0 n (omega arith));
     few_ports = (let l = length-map-range_with_len port_of 0 n in omega (arith, l));
   }
 

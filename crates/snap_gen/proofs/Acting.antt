@@ -21,7 +21,8 @@ use Rattle.snap_rows.specs.Handles.{Visits, is_test, is_ranked}
 use Rattle.snap_gen.specs.Facts.{HasMeaning}
 use Rattle.snap_gen.specs.Visits.{Comes}
 use Rattle.snap_gen.proofs.Nodes.{IsTwo, own_node}
-use Rattle.snap_gen.proofs.Walks.{is_early, moved, joined, along, stops, begins, early_goes, ranked_goes, early_is_test, ranked_is_test, ranked_is_node, early_more, ranked_is_early, keeps_order, goes_beyond, tail, rank_updates, rank_keeps}
+use Rattle.snap_gen.proofs.Walks.{is_early, moved, joined, along, stops, begins, early_goes, ranked_goes, early_is_test, ranked_is_node, early_more, ranked_is_early, keeps_order, goes_beyond, tail, rank_updates, rank_keeps}
+use Rattle.snap_rows.proofs.Able.{ranked_tests}
 
 -- a program, and valid tables of version 2 that mean it
 pub record Means (p : Pol) (c n : ℕ) (order : List ℕ) (t : Tables) : Type 0 where
@@ -66,7 +67,7 @@ visit_acts p c n order t means m s k store packet w r i v us at agree visit =
     let begin = begins t k w (cut (rank_of t) r s) visit.ups visit.outs visit.walk visit.row in
     let beyond = goes_beyond t k two r w v begin.0 stop.0 begin.1 begin.2 stop.1 stop.2 (keeps_order t k two r w s at.next visit.number) in
     let first = moved t k two (is_early t r) is_test m ct (early_goes t k r m ct lower is_test (early_is_test t k r)) at.walk in
-    let second = moved t k two (is_ranked t r) is_test s ct (ranked_goes t k r s ct level is_test (ranked_is_test t k r)) number in
+    let second = moved t k two (is_ranked t r) is_test s ct (ranked_goes t k r s ct level is_test (ranked_tests t r)) number in
     let third = tail t k two r w m s beyond visit.walk in
     let whole = joined t k is_test ct (joined t k is_test ct first second) third in
     record {

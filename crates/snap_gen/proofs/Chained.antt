@@ -18,7 +18,8 @@ use Rattle.snap_rows.proofs.Later.{next_home, enter_home}
 use Rattle.snap_gen.specs.Visits.{Enters, Chained, begun, visited}
 use Rattle.snap_gen.specs.Chains.{VisitsAreOne, ChainsAreOne, FieldsGoAlike, ChainsAreAtHome}
 use Rattle.snap_gen.proofs.Nodes.{IsTwo}
-use Rattle.snap_gen.proofs.Walks.{field_passes, stops}
+use Rattle.snap_rows.proofs.OwnReads.{field_passes}
+use Rattle.snap_gen.proofs.Walks.{stops}
 
 follows_one : (t : Tables) (w : ℕ) (k : List ℕ) (p : Row → Bool) (m : Arrays) {n v x : ℕ} → Follows t w k p m n v → Follows t w k p m n x → v ≡ x
 follows_one t w k p m (arrives row no_p) (arrives row' no_p') = refl

@@ -7,7 +7,7 @@ use Rattle.std.specs.Ordering.{nat_cmp, eq_by_cmp, is_eq, ordering_then}
 use Rattle.std.specs.Cmp.{IsTotalOrder, on_total, then_total, nat_cmp_total, tied_then, unsigned_tied}
 use Rattle.std.specs.Cmp.Lexicographic.{slice_cmp, lists_total, on_texts}
 use Rattle.std.specs.declared.cmp.Ordering.{Ordering}
-use Rattle.std.specs.declared.cmp.Ordering.TheVariants.{Less, Equal as Same, Greater}
+use Rattle.std.specs.declared.cmp.Ordering.TheVariants.{Less, Greater}
 use Rattle.std.proofs.lemmas.Bool.{and_parts, eqb-true, false≢true}
 use Rattle.std.proofs.lemmas.Cmp.{eq_by_cmp_equiv}
 use Rattle.std.proofs.lemmas.List.Kept.{Contains-dedup, Contains-from_dedup, IsStrictlySortedBy-dedup}
@@ -17,23 +17,19 @@ use Rattle.snap_core.specs.declared.policy.Atom.TheVariants.{Num, Comp}
 use Rattle.snap_rows.specs.Entries.{Parts}
 use Rattle.snap_rows.specs.Form.{atom_cmp, parts_cmp}
 use Rattle.snap_gen.specs.Leaves.{AreInOrder}
+use Rattle.snap_core.proofs.Orders.{then-Equal}
 
 -- ---- the order's laws
 text : Atom → List ℕ
 text (Num n) = 0 ∷ n ∷ []
 text (Comp c) = 1 ∷ c ∷ []
 
-then_same : (r : Ordering) → ordering_then r Same ≡ r
-then_same Less = refl
-then_same Same = refl
-then_same Greater = refl
-
 as_texts : (a b : Atom) → slice_cmp nat_cmp (text a) (text b) ≡ atom_cmp a b
 unfolding text
-as_texts (Num a) (Num b) = then_same (nat_cmp a b)
+as_texts (Num a) (Num b) = then-Equal (nat_cmp a b)
 as_texts (Num a) (Comp b) = refl
 as_texts (Comp a) (Num b) = refl
-as_texts (Comp a) (Comp b) = then_same (nat_cmp a b)
+as_texts (Comp a) (Comp b) = then-Equal (nat_cmp a b)
 
 atom_total : IsTotalOrder atom_cmp
 atom_total = subst IsTotalOrder (λ i a b. as_texts a b i) (on_texts text)

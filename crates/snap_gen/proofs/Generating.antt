@@ -36,10 +36,10 @@ use Rattle.snap_rows.specs.Form.{switch_count, array_count, IsHopInForm}
 use Rattle.snap_rows.specs.Rules.{IsValid, MayFollow}
 use Rattle.snap_rows.proofs.Rows.{All-get}
 use Rattle.snap_rows.proofs.Own.{rank_entry}
-use Rattle.snap_rows.proofs.Later.{var_array}
-use Rattle.snap_gen.proofs.Owners.{rank_some}
+use Rattle.snap_rows.proofs.Later.{var_array, rank_some}
 use Rattle.snap_gen.specs.Faithful.{HasShape}
-use Rattle.snap_gen.specs.Planned.{IsWay, IsNodeKind, IsFront, AreNodes, ArePlaced, AreHops}
+use Rattle.snap_rows.specs.Leads.{IsNumberAfter}
+use Rattle.snap_gen.specs.Planned.{IsNodeKind, IsFront, AreNodes, ArePlaced, AreHops}
 use Rattle.snap_gen.specs.Shown as shown
 use Rattle.snap_gen.specs.Shown.{row_of, Leads, yes_way, no_way, IsNumbering, IsOf, Shows}
 use Rattle.snap_gen.specs.Generated.{numbered_nodes, AreInputs, IsBareDiagram, IsWritten, WrittenIsFaithful}
@@ -113,17 +113,17 @@ module _ (p : Program) (ranks_list : List ℕ) (ns : List (Node Leaf)) (top : �
   below (yes_way {d = x} {y = y} {z = z} {t = t} chain is) = below_yes x y z t (below chain) is
   below (no_way {d = x} {y = y} {z = z} {t = t} chain is) = below_no x y z t (below chain) is
 
-  ask_way : (t : Test) (y z : ℕ) (x : ℕ) → IsWay (row_of number (node.Ask t y z)) x → (x ≡ number y) ⊎ (x ≡ number z)
+  ask_way : (t : Test) (y z : ℕ) (x : ℕ) → IsNumberAfter (row_of number (node.Ask t y z)) x → (x ≡ number y) ⊎ (x ≡ number z)
   ask_way (Value c n) y z x w = w
   ask_way (Equal a b n) y z x w = w
   ask_way (StateTest v ix u) y z x w = w
 
-  way_ask : (t : Test) (y z : ℕ) (x : ℕ) → (x ≡ number y) ⊎ (x ≡ number z) → IsWay (row_of number (node.Ask t y z)) x
+  way_ask : (t : Test) (y z : ℕ) (x : ℕ) → (x ≡ number y) ⊎ (x ≡ number z) → IsNumberAfter (row_of number (node.Ask t y z)) x
   way_ask (Value c n) y z x w = w
   way_ask (Equal a b n) y z x w = w
   way_ask (StateTest v ix u) y z x w = w
 
-  leaf_way : (l : Leaf) (x : ℕ) → IsWay (row_of number (node.Leaf l)) x → ⊥
+  leaf_way : (l : Leaf) (x : ℕ) → IsNumberAfter (row_of number (node.Leaf l)) x → ⊥
   leaf_way Race x w = w
   leaf_way (Goes g) x w = w
 
@@ -170,12 +170,12 @@ module _ (p : Program) (ranks_list : List ℕ) (ns : List (Node Leaf)) (top : �
         (λ e. subst (λ k. IfSome (numbered_nodes ns ids number k) (MayFollow t (rank_of t v))) (sym e) (follows_at v ix u (number z) z (num.no_side i x y z (StateTest v ix u) at is).1 o.1))
         way
 
-    parent_of : (i x : ℕ) → slice_get ids i ≡ Some x → Leads ns top x → (i ≡ 0) ⊎ ((m : ℕ) × (c : Row) × (numbered_nodes ns ids number m ≡ Some c) × IsWay c i)
+    parent_of : (i x : ℕ) → slice_get ids i ≡ Some x → Leads ns top x → (i ≡ 0) ⊎ ((m : ℕ) × (c : Row) × (numbered_nodes ns ids number m ≡ Some c) × IsNumberAfter c i)
     parent_of i x at shown.here = inl (sym (num.own i top at) ∙ num.own 0 top num.first)
     parent_of i x at (yes_way {d = w} {y = y} {z = z} {t = test} chain is) = inr (number w, row_of number (node.Ask test y z), node_at (number w) w (node.Ask test y z) (below chain).at is, way_ask test y z i (inl (sym (num.own i x at))))
     parent_of i x at (no_way {d = w} {y = y} {z = z} {t = test} chain is) = inr (number w, row_of number (node.Ask test y z), node_at (number w) w (node.Ask test y z) (below chain).at is, way_ask test y z i (inr (sym (num.own i x at))))
 
-    ways_up : (i k x : ℕ) (n : Node Leaf) → slice_get ids i ≡ Some x → slice_get ns x ≡ Some n → IsWay (row_of number n) k → (i < k) × (numbered_nodes ns ids number k ≢ None)
+    ways_up : (i k x : ℕ) (n : Node Leaf) → slice_get ids i ≡ Some x → slice_get ns x ≡ Some n → IsNumberAfter (row_of number n) k → (i < k) × (numbered_nodes ns ids number k ≢ None)
     ways_up i k x (node.Leaf l) at is way = absurd (leaf_way l k way)
     ways_up i k x (node.Ask test y z) at is way = ⊎_elim
         (λ e. (let s = num.yes_side i x y z test at is in (subst (λ k. i < k) (sym e) s.0, some_node k y (subst (λ k. slice_get ids k ≡ Some y) (sym e) s.1))))
@@ -195,11 +195,11 @@ module _ (p : Program) (ranks_list : List ℕ) (ns : List (Node Leaf)) (top : �
       vars = λ i test y z e.
           (let o = of_node i (State test y z) e in let s = state_node test y z o.node o.row in
           subst (λ (x : Test). var_of x < array_count t) (sym s.6) (var_low s.0 s.1 s.2 i o.id s.3 s.4 o.at (o.is ∙ ap Some s.5)));
-      ways = λ i x b e way. (let o = of_node i b e in ways_up i x o.id o.node o.at o.is (subst (λ b. IsWay b x) o.row way));
+      ways = λ i x b e way. (let o = of_node i b e in ways_up i x o.id o.node o.at o.is (subst (λ b. IsNumberAfter b x) o.row way));
       order = λ i x y z test e way.
           (let o = of_node i (State test y z) e in let s = state_node test y z o.node o.row in
           subst (λ (u : Test). IfSome (numbered_nodes ns ids number x) (MayFollow t (rank_of t (var_of u)))) (sym s.6)
-          (ordered_ways s.0 s.1 s.2 i o.id s.3 s.4 x o.at (o.is ∙ ap Some s.5) (ask_way (StateTest s.0 s.1 s.2) s.3 s.4 x (subst (λ b. IsWay b x) (o.row ∙ ap (row_of number) s.5) way))));
+          (ordered_ways s.0 s.1 s.2 i o.id s.3 s.4 x o.at (o.is ∙ ap Some s.5) (ask_way (StateTest s.0 s.1 s.2) s.3 s.4 x (subst (λ b. IsNumberAfter b x) (o.row ∙ ap (row_of number) s.5) way))));
       parents = λ i b e. (let o = of_node i b e in parent_of i o.id o.at (num.reached i o.id o.at));
       is_front = to;
       front_is = from;

@@ -1,5 +1,4 @@
 pub mod Nodes
-pub mod Owners
 pub mod Walks
 pub mod Acting
 pub mod Leaving

@@ -7,12 +7,14 @@ use Rattle.std.specs.FinMap.{contains_key}
 use Rattle.std.proofs.lemmas.Bool.{eqb-true, false≢true}
 use Rattle.std.proofs.lemmas.List.Elements.{All-head, All-tail}
 use Rattle.std.proofs.lemmas.List.Folds.{Any-from_list_any, list_any-from_Any}
+use Rattle.std.proofs.Math.Bool.{or-false}
 use Rattle.snap_core.specs.declared.policy.Atom.{Atom}
 use Rattle.snap_core.specs.declared.policy.Atom.TheVariants.{Num, Comp}
 use Rattle.snap_core.specs.Arrays.{value_of}
 use Rattle.snap_core.specs.Packets.{PacketSet, packet_cmp, no_packets, with_packet}
 use Rattle.snap_core.specs.Tests.{IsRisingOut, with_parts, after_out, results_from, results}
 use Rattle.snap_core.proofs.PacketSets.{same_packets, contains-with_packet}
+use Rattle.snap_core.proofs.Truths.{or-or_swap, both_or_neither}
 use Rattle.snap_rows.specs.Entries.{Parts}
 use Rattle.snap_gen.specs.Leaves.{is_itself, changes, AreTidyOuts}
 use Rattle.snap_gen.proofs.Changing.{Above, Rising, rising_from}
@@ -61,20 +63,6 @@ after_changes : (o : Parts) (k : List ℕ) → IsRisingOut o → after_out (chan
 after_changes o k h = parts_same o k k 0 (starts_zero o) (rising_from o h) (λ i l. refl)
 
 -- ---- the packets that outs make
-or_none : (b : Bool) → b ≡ (b || false)
-or_none true = refl
-or_none false = refl
-
-or_first : (a b c : Bool) → ((a || b) || c) ≡ (b || (a || c))
-or_first true true c = refl
-or_first true false c = refl
-or_first false b c = refl
-
-same_answers : (a b : Bool) → (a ≡ true → b ≡ true) → (b ≡ true → a ≡ true) → a ≡ b
-same_answers true b f g = sym (f refl)
-same_answers false true f g = g refl
-same_answers false false f g = refl
-
 found : (p : Parts → Bool) (xs ys : List Parts) → ((o : Parts) → Contains xs o → Contains ys o) → list_any p xs ≡ true → list_any p ys ≡ true
 found p xs ys within h = let a = Any-from_list_any p xs h in let c = within a.1 (a.0, a.2, a.3) in list_any-from_Any p ys (c.0, a.1, c.1, c.2, a.4)
 
@@ -83,11 +71,11 @@ module _ (k q : List ℕ) where
   makes o = eq_by_cmp packet_cmp q (after_out o k)
 
   contains-results : (s : PacketSet) (os : List Parts) → contains_key (results_from s os k) q ≡ (contains_key s q || list_any makes os)
-  contains-results s [] = or_none (contains_key s q)
+  contains-results s [] = sym (or-false (contains_key s q))
   contains-results s (o ∷ os) =
       contains-results (with_packet s (after_out o k)) os
       ∙ ap (λ b. b || list_any makes os) (contains-with_packet s (after_out o k) q)
-      ∙ or_first (makes o) (contains_key s q) (list_any makes os)
+      ∙ or-or_swap (makes o) (contains_key s q) (list_any makes os)
 
   makes-changes : (os : List Parts) → All IsRisingOut os → list_any makes (map changes os) ≡ list_any makes os
   makes-changes [] h = refl
@@ -96,5 +84,5 @@ module _ (k q : List ℕ) where
 pub same_results : (os rs : List Parts) (k : List ℕ) → All IsRisingOut os → AreTidyOuts os rs → results rs k ≡ results os k
 same_results os rs k h tidy = same_packets _ _ (λ q.
     contains-results k q no_packets rs
-    ∙ ap (λ b. contains_key no_packets q || b) (same_answers _ _ (found (makes k q) rs (map changes os) (λ o. (tidy.same o).0)) (found (makes k q) (map changes os) rs (λ o. (tidy.same o).1)) ∙ makes-changes k q os h)
+    ∙ ap (λ b. contains_key no_packets q || b) (both_or_neither _ _ (found (makes k q) rs (map changes os) (λ o. (tidy.same o).0)) (found (makes k q) (map changes os) rs (λ o. (tidy.same o).1)) ∙ makes-changes k q os h)
     ∙ sym (contains-results k q no_packets os))

@@ -3,7 +3,7 @@ use Rattle.std.proofs.Common.{◌≡◌, ◌≢◌, ℕ, zero, suc, ◌+◌, ◌
 use Rattle.std.specs.Prelude.{slice_get, nat_eq, nat_le, IfSome, IsSome, option_map, Contains, ◌||◌}
 use Rattle.std.specs.List.{All, list_any}
 use Rattle.std.proofs.lemmas.List.Elements.{All-take}
-use Rattle.std.proofs.lemmas.Bool.{eqb-true, eqb-false, eq-eqb, le-leb, leb-true, and_parts, cond-true, both_ways, false≢true}
+use Rattle.std.proofs.lemmas.Bool.{eqb-true, eqb-false, eq-eqb, le-leb, leb-true, and_parts, cond-true, both_ways, false≢true, and_from}
 use Rattle.std.proofs.lemmas.Option.{none-some, same_Some, slice_get_within, slice_get-get_or, get_or_from_slice_get}
 use Rattle.std.proofs.lemmas.Map.Keys.{any_passes_from_place}
 use Rattle.snap_core.specs.declared.ports.PortAt.{PortAt}
@@ -24,9 +24,9 @@ use Rattle.snap_rows.specs.Ways as ways
 use Rattle.snap_rows.specs.Rules.{IsValid, RowKeeps, HopKeeps, PortKeeps, ArrayKeeps, IsKind2, IsDue, HoldsUpTo, Rises, IsInOrder, MayFollow, IsFieldRow, IsLinked}
 use Rattle.snap_rows.proofs.Rows.{node_entry}
 use Rattle.snap_rows.proofs.Own.{rank_entry}
-use Rattle.snap_rows.proofs.Later.{var_array}
-use Rattle.snap_gen.proofs.Owners.{ranks_above}
-use Rattle.snap_gen.specs.Planned.{has_port, has_ports, holds, row_for, IsWay, IsNodeKind, IsFront, AreNodes, ArePlaced, AreHops, ArePlanned, PlannedIsValid}
+use Rattle.snap_rows.proofs.Later.{var_array, ranks_above, not_one, rank_is_below}
+use Rattle.snap_rows.specs.Leads.{IsNumberAfter}
+use Rattle.snap_gen.specs.Planned.{has_port, has_ports, holds, row_for, IsNodeKind, IsFront, AreNodes, ArePlaced, AreHops, ArePlanned, PlannedIsValid}
 
 -- ---- lists
 
@@ -58,9 +58,6 @@ node_found (r ∷ rs) w n b e inner = by (nat_eq r.at w) (nat_eq r.number n) (is
     by false false v p q h rest = λ none. rest (sym (ap (λ c. cond (c && nat_eq r.number n) (Some r.row) (row_in rs w n)) p) ∙ e) inner (sym (ap (λ c. cond (c && is_node r.row) (Some r.row) (node_in rs n)) q) ∙ none)
 
 module _ (t : Tables) (nodes : ℕ → Option Row) (front : ℕ → Bool) (two : t.version ≡ 2) (good : AreNodes t nodes front) (placed : ArePlaced t) (hops : AreHops t) (plan : ArePlanned t nodes front) where
-  no_one : t.version ≡ 1 → ⊥
-  no_one e = let f : 1 ≡ 2 = sym e ∙ two in omega (arith, f)
-
   -- ---- arrays and ports
   held : (w q : ℕ) → holds t w q ≡ true → (r : ℕ) × (r ≤ q) × (rank_at t r ≡ Some w)
   held w q e =
@@ -77,11 +74,8 @@ module _ (t : Tables) (nodes : ℕ → Option Row) (front : ℕ → Bool) (two :
         subst (λ x. x ≤ q) (sym (ap (λ o. Rattle.std.specs.Prelude.unwrap_or (option_map (λ (a : ArrayAt). a.rank) o) 0) s.2)) (leb-true s.1.rank q parts.1),
       )
 
-  both_true : (a b : Bool) → a ≡ true → b ≡ true → (a && b) ≡ true
-  both_true a b e f = ap (λ x. x && b) e ∙ f
-
   array_holds : (v w q : ℕ) (a : ArrayAt) → slice_get t.arrays v ≡ Some a → a.at ≡ w → a.rank ≤ q → holds t w q ≡ true
-  array_holds v w q a e at l = any_passes_from_place (λ (a : ArrayAt). nat_eq a.at w && nat_le a.rank q) t.arrays v a e (both_true (nat_eq a.at w) (nat_le a.rank q) (eq-eqb a.at w at) (le-leb a.rank q l))
+  array_holds v w q a e at l = any_passes_from_place (λ (a : ArrayAt). nat_eq a.at w && nat_le a.rank q) t.arrays v a e (and_from (nat_eq a.at w) (nat_le a.rank q) (eq-eqb a.at w at) (le-leb a.rank q l))
 
   rank_holds : (r x q : ℕ) → rank_at t r ≡ Some x → r ≤ q → holds t x q ≡ true
   rank_holds r x q e l = let i = rank_entry t.arrays r x e in array_holds i.place x q i.entry i.is i.at (let f = i.rank in omega (arith, f, l))
@@ -114,7 +108,7 @@ module _ (t : Tables) (nodes : ℕ → Option Row) (front : ℕ → Bool) (two :
   field_row w n y z test node at = plan.rows w n ∙ ap (row_for t w (front n)) node ∙ cond-true _ _ _ at
 
   state_row : (w n y z : ℕ) (test : Test) → nodes n ≡ Some (State test y z) → has_ports t ≡ true → holds t w (rank_of t (var_of test)) ≡ true → row_at t w n ≡ Some (State test y z)
-  state_row w n y z test node some at = plan.rows w n ∙ ap (row_for t w (front n)) node ∙ cond-true _ _ _ (both_true (has_ports t) (holds t w (rank_of t (var_of test))) some at)
+  state_row w n y z test node some at = plan.rows w n ∙ ap (row_for t w (front n)) node ∙ cond-true _ _ _ (and_from (has_ports t) (holds t w (rank_of t (var_of test))) some at)
 
   last_row : (w n : ℕ) (us : _) (os : _) → nodes n ≡ Some (Last us os) → (b : Bool) → nat_eq (ranks t) 0 ≡ b → cond b (has_port t w) (has_ports t && holds t w (ranks t)) ≡ true → row_at t w n ≡ Some (Last us os)
   last_row w n us os node b e at = plan.rows w n ∙ ap (row_for t w (front n)) node ∙ cond-true _ _ _ (ap (λ c. cond c (has_port t w) (has_ports t && holds t w (ranks t))) e ∙ at)
@@ -127,7 +121,7 @@ module _ (t : Tables) (nodes : ℕ → Option Row) (front : ℕ → Bool) (two :
 
       by : (b : Bool) → nat_eq (ranks t) 0 ≡ b → row_at t w n ≡ Some (Last us os)
       by true e = absurd (let z = eqb-true (ranks t) 0 e in let l = low in omega (arith, z, l))
-      by false e = last_row w n us os node false e (both_true (has_ports t) (holds t w (ranks t)) some (rank_holds r w (ranks t) own (let l = low in omega (arith, l))))
+      by false e = last_row w n us os node false e (and_from (has_ports t) (holds t w (ranks t)) some (rank_holds r w (ranks t) own (let l = low in omega (arith, l))))
 
   -- a front number has a row at each port's switch
   front_row : (w n : ℕ) → has_port t w ≡ true → IsFront nodes n → IsSome (row_at t w n)
@@ -135,7 +129,7 @@ module _ (t : Tables) (nodes : ℕ → Option Row) (front : ℕ → Bool) (two :
     where
       stops : (c g : Bool) (b : Row) → g ≡ true → IsSome (cond c (Some b) (cond (has_port t w && g) (Some Stop) None))
       stops true g b e = refl
-      stops false g b e = subst (λ x. IsSome (cond x (Some Stop) None)) (sym (both_true (has_port t w) g at e)) refl
+      stops false g b e = subst (λ x. IsSome (cond x (Some Stop) None)) (sym (and_from (has_port t w) g at e)) refl
 
       by : (b : Row) → (IsFieldRow b → ⊥) → IsNodeKind b → (g : Bool) → g ≡ true → IsSome (row_for t w g (Some b))
       by (Field test y z) other kind g e = absurd (other tt)
@@ -283,7 +277,7 @@ module _ (t : Tables) (nodes : ℕ → Option Row) (front : ℕ → Bool) (two :
   ordered w n b (stops_last node at f r h) = tt
 
   -- ---- missing
-  field_child : (w n k y z : ℕ) (test : Test) → nodes n ≡ Some (Field test y z) → has_port t w ≡ true → IsWay (Field test y z) k → IsSome (row_at t w k)
+  field_child : (w n k y z : ℕ) (test : Test) → nodes n ≡ Some (Field test y z) → has_port t w ≡ true → IsNumberAfter (Field test y z) k → IsSome (row_at t w k)
   field_child w n k y z test node at way = by c.0 c.1
     where
       c : (b : Row) × (nodes k ≡ Some b)
@@ -297,7 +291,7 @@ module _ (t : Tables) (nodes : ℕ → Option Row) (front : ℕ → Bool) (two :
       by (Leaf ss os) is = absurd (good.kinds k (Leaf ss os) is)
       by Stop is = absurd (good.kinds k Stop is)
 
-  state_child : (w n k y z : ℕ) (test : Test) → nodes n ≡ Some (State test y z) → has_ports t ≡ true → holds t w (rank_of t (var_of test)) ≡ true → IsWay (State test y z) k → IsSome (row_at t w k)
+  state_child : (w n k y z : ℕ) (test : Test) → nodes n ≡ Some (State test y z) → has_ports t ≡ true → holds t w (rank_of t (var_of test)) ≡ true → IsNumberAfter (State test y z) k → IsSome (row_at t w k)
   state_child w n k y z test node some h way = by c.0 c.1
     where
       c : (b : Row) × (nodes k ≡ Some b)
@@ -345,7 +339,7 @@ module _ (t : Tables) (nodes : ℕ → Option Row) (front : ℕ → Bool) (two :
   field_reached zero n w y z test l at node = absurd (omega (arith, l))
   field_reached (suc fuel) n w y z test l at node = ⊎_elim (λ e. at_root w n at e) (λ q. by q.0 q.1 q.2 q.3 (λ a b u low is. field_reached fuel q.0 w a b u low at is)) (good.parents n (Field test y z) node)
     where
-      by : (m : ℕ) (c : Row) → nodes m ≡ Some c → IsWay c n → ((a b : ℕ) (u : Test) → m < fuel → nodes m ≡ Some (Field u a b) → Reached t w m) → Reached t w n
+      by : (m : ℕ) (c : Row) → nodes m ≡ Some c → IsNumberAfter c n → ((a b : ℕ) (u : Test) → m < fuel → nodes m ≡ Some (Field u a b) → Reached t w m) → Reached t w n
       by m (Field u a b) is way again = lead (again a b u (let s = (good.ways m n (Field u a b) is way).0 in omega (arith, s, l)) is) (field_row w m a b u is at) (refl, way)
       by m (State u a b) is way again = absurd (subst (λ o. IfSome o (MayFollow t (rank_of t (var_of u)))) node (good.order m n a b u is way))
       by m (Go x) is way again = absurd way
@@ -393,7 +387,7 @@ module _ (t : Tables) (nodes : ℕ → Option Row) (front : ℕ → Bool) (two :
       (λ q. by q.0 q.1 q.2 q.3 (λ c low is field'. owner_reached fuel q.0 x c low some is field' own))
       (good.parents n b node)
     where
-      by : (m : ℕ) (c : Row) → nodes m ≡ Some c → IsWay c n → ((c : Row) → m < fuel → nodes m ≡ Some c → (IsFieldRow c → ⊥) → Reached t x m) → Reached t x n
+      by : (m : ℕ) (c : Row) → nodes m ≡ Some c → IsNumberAfter c n → ((c : Row) → m < fuel → nodes m ≡ Some c → (IsFieldRow c → ⊥) → Reached t x m) → Reached t x n
       by m (Field u a d) is way again = from_front x n some (record { body = b; is = node; no_field = other; from = inr (m, u, a, d, is, way) }) own
       by m (State u a d) is way again =
           lead (again (State u a d) (let s = (good.ways m n (State u a d) is way).0 in omega (arith, s, l)) is (λ y. y))
@@ -406,9 +400,6 @@ module _ (t : Tables) (nodes : ℕ → Option Row) (front : ℕ → Bool) (two :
   first_owner : (r x : ℕ) → rank_at t r ≡ Some x → (y : ℕ) × (rank_at t 0 ≡ Some y)
   first_owner r x own = placed.every 0 (let i = rank_entry t.arrays r x own in let l = ranks_above t.arrays i.place i.entry i.is in omega (arith, l))
 
-  below_ranks : (r x : ℕ) → rank_at t r ≡ Some x → r < ranks t
-  below_ranks r x own = let i = rank_entry t.arrays r x own in let l = ranks_above t.arrays i.place i.entry i.is in let e = i.rank in omega (arith, l, e)
-
   state_reached : (w n y z r : ℕ) (test : Test) → nodes n ≡ Some (State test y z) → has_ports t ≡ true → r ≤ rank_of t (var_of test) → rank_at t r ≡ Some w → Reached t w n
   state_reached w n y z r test node some l own =
       let o = first_owner r w own in
@@ -418,12 +409,12 @@ module _ (t : Tables) (nodes : ℕ → Option Row) (front : ℕ → Bool) (two :
   last_reached : (w n r : ℕ) (us : _) (os : _) → nodes n ≡ Some (Last us os) → has_ports t ≡ true → rank_at t r ≡ Some w → Reached t w n
   last_reached w n r us os node some own =
       let o = first_owner r w own in
-      lead (owner_reached (suc n) n o.0 (Last us os) (omega arith) some node (λ x. x) o.1) (last_at o.0 n 0 us os node some o.1) (refl, (r, below_ranks r w own, own))
+      lead (owner_reached (suc n) n o.0 (Last us os) (omega arith) some node (λ x. x) o.1) (last_at o.0 n 0 us os node some o.1) (refl, (r, rank_is_below t r w own, own))
 
   flat_reached : (w n : ℕ) (us : _) (os : _) → ranks t ≡ 0 → nodes n ≡ Some (Last us os) → has_port t w ≡ true → Reached t w n
   flat_reached w n us os none node at = front_reached w n at (record { body = Last us os; is = node; no_field = λ x. x; from = ⊎_elim (λ e. inl e) (λ q. inr (by q.0 q.1 q.2 q.3)) (good.parents n (Last us os) node) })
     where
-      by : (m : ℕ) (c : Row) → nodes m ≡ Some c → IsWay c n → (m : ℕ) × (test : Test) × (y : ℕ) × (z : ℕ) × (nodes m ≡ Some (Field test y z)) × IsWay (Field test y z) n
+      by : (m : ℕ) (c : Row) → nodes m ≡ Some c → IsNumberAfter c n → (m : ℕ) × (test : Test) × (y : ℕ) × (z : ℕ) × (nodes m ≡ Some (Field test y z)) × IsNumberAfter (Field test y z) n
       by m (Field u a d) is way = (m, u, a, d, is, way)
       by m (State u a d) is way = absurd (let v = var_array t (var_of u) (good.vars m u a d is) in let l = ranks_above t.arrays (var_of u) v.0 v.1 in omega (arith, l, none))
       by m (Go y) is way = absurd way
@@ -487,8 +478,8 @@ module _ (t : Tables) (nodes : ℕ → Option Row) (front : ℕ → Bool) (two :
   port_keeps Spare i p e = tt
 
   row_keeps : (rule : Rule) (w n : ℕ) (b : Row) → row_at t w n ≡ Some b → RowKeeps t rule w n b
-  row_keeps Kind w n b e = ((λ one. absurd (no_one one)), λ v. kind2 w n b e (row_is w n b e))
-  row_keeps Owner w n b e = λ one. absurd (no_one one)
+  row_keeps Kind w n b e = ((λ one. absurd (not_one t two one)), λ v. kind2 w n b e (row_is w n b e))
+  row_keeps Owner w n b e = λ one. absurd (not_one t two one)
   row_keeps Rise w n b e = rises w n b (row_is w n b e)
   row_keeps Order w n b e = λ v. ordered w n b (row_is w n b e)
   row_keeps Missing w n b e = missing w n b (row_is w n b e)

@@ -18,9 +18,10 @@ use Rattle.snap_arena.specs.declared.node.Node.TheVariants as node
 use Rattle.snap_arena.specs.Arena.{IsArena}
 use Rattle.snap_fdd.specs.declared.leaf.Leaf.{Leaf}
 use Rattle.snap_fdd.specs.declared.leaf.Leaf.TheVariants.{Race, Go as Goes}
-use Rattle.snap_fdd.specs.Diagrams.{Diagram, Only, Asks, diagram, walk, IsNodeOf}
+use Rattle.snap_fdd.specs.Diagrams.{Diagram, Asks, diagram, walk, IsNodeOf}
 use Rattle.snap_fdd.specs.Pruned.{Someone, With, IsLive}
 use Rattle.snap_fdd.proofs.Shared as shared
+use Rattle.snap_fdd.proofs.Cutting.{live_weaker}
 use Rattle.snap_rows.specs.declared.tables.Tables.{Tables}
 use Rattle.snap_rows.specs.declared.tables.Row.{Row}
 use Rattle.snap_rows.specs.declared.tables.Row.TheVariants.{Last}
@@ -36,15 +37,6 @@ use Rattle.snap_gen.proofs.Walks.{joined}
 -- of a larger set a diagram is live too
 someone_more : (P Q : Arrays → List ℕ → Type 0) → ((m : Arrays) (k : List ℕ) → P m k → Q m k) → Someone P → Someone Q
 someone_more P Q f s = record { entries = s.entries; packet = s.packet; store = s.store; is = f (number_in s.entries) s.packet s.is }
-
-pub live_more : (P Q : Arrays → List ℕ → Type 0) → ((m : Arrays) (k : List ℕ) → P m k → Q m k) → (d : Diagram) → IsLive P d → IsLive Q d
-live_more P Q f (Only l) h = tt
-live_more P Q f (Asks test y n) h = (
-  someone_more (With P test true) (With Q test true) (λ m k g. (f m k g.0, g.1)) h.0,
-  someone_more (With P test false) (With Q test false) (λ m k g. (f m k g.0, g.1)) h.1,
-  live_more (With P test true) (With Q test true) (λ m k g. (f m k g.0, g.1)) y h.2,
-  live_more (With P test false) (With Q test false) (λ m k g. (f m k g.0, g.1)) n h.3,
-)
 
 -- ---- rows of nodes
 module _ (number : ℕ → ℕ) where
@@ -186,7 +178,7 @@ module _ (p : Program) (ns : List (Node Leaf)) (top : ℕ) (ids : List ℕ) (num
         let zero_is = num.own 0 top num.first in
         record {
           at = subst (λ i. slice_get ids i ≡ Some top) (sym zero_is) num.first;
-          live = subst (λ i. IsLive (Coming i) (diagram ns top)) (sym zero_is) (live_more (IsInput (count p.fields) (length p.vars)) (Coming 0) (λ m k input. (input, here)) (diagram ns top) live);
+          live = subst (λ i. IsLive (Coming i) (diagram ns top)) (sym zero_is) (live_weaker (IsInput (count p.fields) (length p.vars)) (Coming 0) (λ m k input. (input, here)) (diagram ns top) live);
           bare = bare;
         }
     reaches live bare (yes_way {d = d} {y = y} {z = z} {t = test} chain is) =
@@ -196,7 +188,7 @@ module _ (p : Program) (ns : List (Node Leaf)) (top : ℕ) (ids : List ℕ) (num
         let b : HasBareLeaves (Asks test (diagram ns y) (diagram ns z)) = subst HasBareLeaves shape c.bare in
         record {
           at = (num.yes_side (number d) d y z test c.at is).1;
-          live = live_more (With (Coming (number d)) test true) (Coming (number y)) (one_way d y test y z true refl c.at is) (diagram ns y) l.2;
+          live = live_weaker (With (Coming (number d)) test true) (Coming (number y)) (one_way d y test y z true refl c.at is) (diagram ns y) l.2;
           bare = b.0;
         }
     reaches live bare (no_way {d = d} {y = y} {z = z} {t = test} chain is) =
@@ -206,7 +198,7 @@ module _ (p : Program) (ns : List (Node Leaf)) (top : ℕ) (ids : List ℕ) (num
         let b : HasBareLeaves (Asks test (diagram ns y) (diagram ns z)) = subst HasBareLeaves shape c.bare in
         record {
           at = (num.no_side (number d) d y z test c.at is).1;
-          live = live_more (With (Coming (number d)) test false) (Coming (number z)) (one_way d z test y z false refl c.at is) (diagram ns z) l.3;
+          live = live_weaker (With (Coming (number d)) test false) (Coming (number z)) (one_way d z test y z false refl c.at is) (diagram ns z) l.3;
           bare = b.1;
         }
 

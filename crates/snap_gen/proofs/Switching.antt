@@ -13,6 +13,7 @@ use Rattle.snap_core.specs.Meaning.{Meaning, eval}
 use Rattle.snap_core.specs.Switch.{Switched, one_big_switch}
 use Rattle.snap_core.proofs.Kept.{IfDefined}
 use Rattle.snap_core.proofs.Small.{Fine, stays_fine}
+use Rattle.snap_core.proofs.Switching.{in_front}
 use Rattle.snap_dep.specs.Dependencies.{UsesBelow}
 use Rattle.snap_dep.specs.Locality.{NeverRaces}
 use Rattle.snap_dep.proofs.Below.{writes_below}
@@ -21,9 +22,6 @@ use Rattle.snap_dep.proofs.Locals.{Untouched, untouched}
 use Rattle.snap_gen.specs.Agreement.{in_order, numbered}
 
 -- ---- one more packet
-abbrev in_front : Meaning → Switched → Switched
-in_front o a = record { packets = o.packets ∷ a.packets; arrays = a.arrays }
-
 abbrev pub behind : Switched → Meaning → Switched
 behind a o = record { packets = a.packets ++ o.packets ∷ []; arrays = o.arrays }
 

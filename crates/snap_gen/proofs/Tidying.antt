@@ -10,7 +10,7 @@ use Rattle.snap_fdd.specs.Diagrams.{Diagram, Only, Asks, walk}
 use Rattle.snap_fdd.specs.Order.{Above, IsOrdered}
 use Rattle.snap_fdd.specs.Pruned.{With, IsLive}
 use Rattle.snap_fdd.proofs.Comparing.{above_trans}
-use Rattle.snap_gen.proofs.Showing.{live_more}
+use Rattle.snap_fdd.proofs.Cutting.{live_weaker}
 use Rattle.snap_gen.specs.Leaves.{IsTidy}
 use Rattle.snap_gen.specs.Shown.{HasBareLeaves}
 use Rattle.snap_gen.proofs.Giving.{gives, becomes_bare}
@@ -43,7 +43,7 @@ module _ (ranks : List ℕ) (n : ℕ) where
   live : (P : Arrays → List ℕ → Type 0) {d r : Diagram} → Tidies ranks n d r → IsLive P d → IsLive P r
   live P (leaf e) h = tt
   live P (test {t = t} hy hz) h = (h.0, h.1, live (With P t true) hy h.2, live (With P t false) hz h.3)
-  live P (merged {t = t} {a = a} hy hz) h = live_more (With P t true) P (λ m k g. g.0) a (live (With P t true) hy h.2)
+  live P (merged {t = t} {a = a} hy hz) h = live_weaker (With P t true) P (λ m k g. g.0) a (live (With P t true) hy h.2)
 
   bare : {d r : Diagram} → Tidies ranks n d r → HasLeavesOf ranks n d → HasBareLeaves r
   bare (leaf {l = l} {r = r} e) h = becomes_bare ranks n l r e h

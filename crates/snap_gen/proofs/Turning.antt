@@ -6,7 +6,6 @@ use Rattle.std.specs.List.Sorted.{IsPermutation}
 use Rattle.std.specs.Ordering.{eq_by_cmp}
 use Rattle.std.specs.FinMap.{entries, entries_sorted, is_sorted, contains_key-keys}
 use Rattle.std.specs.FinMap.Entries.{is_sorted-where_key}
-use lib.Dec.{T}
 use Rattle.std.proofs.lemmas.Bool.{eqb-true, eqb-false, cond-true, cond-false}
 use Rattle.std.proofs.lemmas.Option.{same_Some}
 use Rattle.std.proofs.lemmas.List.{length-map}
@@ -23,6 +22,7 @@ use Rattle.snap_core.specs.Meaning.{Meaning, eval}
 use Rattle.snap_core.specs.Tests.{results}
 use Rattle.snap_core.proofs.PacketSets.{same_packets}
 use Rattle.snap_core.proofs.Rising.{listed-set_of}
+use Rattle.snap_core.proofs.Truths.{true-from_T}
 use Rattle.snap_topo.specs.declared.topology.Topology.{Topology}
 use Rattle.snap_rows.specs.declared.tables.ArrayAt.{ArrayAt}
 use Rattle.snap_rows.specs.declared.tables.Tables.{Tables}
@@ -56,12 +56,8 @@ marked_kept p (e ∷ es) = by (p e.0) (marked_kept p es)
     by true h = ap (λ l. e ∷ l) h
     by false h = h
 
-is_true : (b : Bool) → T b → b ≡ true
-is_true true t = refl
-is_true false t = absurd t
-
 rising_kept : (s : PacketSet) (p : List ℕ → Bool) → IsRising (filter p (listed s))
-rising_kept s p = ap (is_sorted packet_cmp) (marked_kept p (entries s)) ∙ is_true _ (is_sorted-where_key packet_cmp p (entries s) (entries_sorted s))
+rising_kept s p = ap (is_sorted packet_cmp) (marked_kept p (entries s)) ∙ true-from_T _ (is_sorted-where_key packet_cmp p (entries s) (entries_sorted s))
 
 same_rising : (xs ys : List (List ℕ)) → IsRising xs → IsRising ys → IsPermutation xs ys → xs ≡ ys
 same_rising xs ys rx ry perm =

@@ -17,12 +17,13 @@ use Rattle.snap_rows.specs.declared.tables.Tables.{Tables}
 use Rattle.snap_rows.specs.declared.tables.Row.{Row}
 use Rattle.snap_rows.specs.declared.tables.Row.TheVariants.{Field, State, Last}
 use Rattle.snap_rows.specs.Entries.{Parts, row_at, node_of, rank_of, var_of, is_node}
-use Rattle.snap_rows.specs.Form.{IsFieldTest}
 use Rattle.snap_rows.specs.Rules.{MayFollow}
 use Rattle.snap_rows.specs.Handles.{side, is_field, is_test, is_ranked, Follows, arrives, follows}
 use Rattle.std.proofs.lemmas.Option.{same_Some}
 use Rattle.snap_gen.specs.Visits.{Comes, here, on}
 use Rattle.snap_gen.proofs.Nodes.{IsTwo, AsksFields, own_node, asks_fields, in_order}
+use Rattle.snap_rows.proofs.OwnReads.{field_passes}
+use Rattle.snap_rows.proofs.Able.{ranked_tests}
 
 -- a field row, or a state row of a rank below r
 abbrev pub is_early : Tables → ℕ → Row → Bool
@@ -36,10 +37,9 @@ same_passes S m n k h (Value c v) e = refl
 same_passes S m n k h (Equal a b v) e = refl
 same_passes S m n k h (StateTest s es v) e = ap (λ x. nat_eq x (term_value v k)) (h (place_at s es k) e)
 
-pub field_passes : (m n : Arrays) (k : List ℕ) (test : Test) → IsFieldTest test → passes test m k ≡ passes test n k
-field_passes m n k (Value c v) f = refl
-field_passes m n k (Equal a b v) f = refl
-field_passes m n k (StateTest s es v) f = absurd f
+pub side_is : (c : Bool) (y z x : ℕ) (P : ℕ → Type 0) → P y × P z → Some (cond c y z) ≡ Some x → P x
+side_is true y z x P h e = subst P (same_Some y x e) h.0
+side_is false y z x P h e = subst P (same_Some z x e) h.1
 
 -- where p lets a row pass so does p', and the row goes the same way by both arrays
 abbrev pub GoesSame : Tables → List ℕ → (Row → Bool) → (Row → Bool) → Arrays → Arrays → Type 0
@@ -68,10 +68,6 @@ module _ (t : Tables) (k : List ℕ) where
   early_is_test r (State test y z) e = refl
   early_is_test r _ e = absurd (both_ways _ refl e)
 
-  pub ranked_is_test : (r : ℕ) (b : Row) → is_ranked t r b ≡ true → is_test b ≡ true
-  ranked_is_test r (State test y z) e = refl
-  ranked_is_test r _ e = absurd (both_ways _ refl e)
-
   pub test_is_node : (b : Row) → is_test b ≡ true → is_node b ≡ true
   test_is_node (Field test y z) e = refl
   test_is_node (State test y z) e = refl
@@ -82,7 +78,7 @@ module _ (t : Tables) (k : List ℕ) where
   field_is_node _ e = absurd (both_ways _ refl e)
 
   pub ranked_is_node : (r : ℕ) (b : Row) → is_ranked t r b ≡ true → is_node b ≡ true
-  ranked_is_node r b e = test_is_node b (ranked_is_test r b e)
+  ranked_is_node r b e = test_is_node b (ranked_tests t r b e)
 
   pub early_more : (r : ℕ) (b : Row) → is_early t r b ≡ true → is_early t (r + 1) b ≡ true
   early_more r (Field test y z) e = refl
@@ -151,10 +147,6 @@ module _ (t : Tables) (k : List ℕ) (two : IsTwo t) where
   weaker_if r q l None f = tt
   weaker_if r q l (Some b) f = weaker r q l b f
 
-  side_is : (c : Bool) (y z x : ℕ) (P : ℕ → Type 0) → P y × P z → Some (cond c y z) ≡ Some x → P x
-  side_is true y z x P h e = subst P (same_Some y x e) h.0
-  side_is false y z x P h e = subst P (same_Some z x e) h.1
-
   -- a state row of at least rank r leads to none that may not follow r
   pub steps_on : (r a x : ℕ) (m : Arrays) (b : Row) → node_of t a ≡ Some b → is_test b ≡ true → IfSome (node_of t a) (MayFollow t r) → side b m k ≡ Some x → IfSome (node_of t x) (MayFollow t r)
   steps_on r a x m (Field test y z) node e f way = absurd (subst (λ o. IfSome o (MayFollow t r)) node f)
@@ -166,7 +158,7 @@ module _ (t : Tables) (k : List ℕ) (two : IsTwo t) where
   pub keeps_order : (r : ℕ) (w : ℕ) (m : Arrays) {a v : ℕ} → IfSome (node_of t a) (MayFollow t r) → Follows t w k (is_ranked t r) m a v → IfSome (node_of t v) (MayFollow t r)
   keeps_order r w m f (arrives row no_p) = f
   keeps_order r w m f (follows {n = a} {x = x} {b = body} row yes_p way rest) =
-      keeps_order r w m (steps_on r a x m body (own_node t two w a body row (ranked_is_node t k r body yes_p)) (ranked_is_test t k r body yes_p) f way) rest
+      keeps_order r w m (steps_on r a x m body (own_node t two w a body row (ranked_is_node t k r body yes_p)) (ranked_tests t r body yes_p) f way) rest
 
   greater : (r : ℕ) (b : Row) → MayFollow t r b → is_ranked t r b ≡ false → MayFollow t (r + 1) b
   greater r (Field test y z) f e = f

@@ -32,13 +32,12 @@ use Rattle.snap_rows.proofs.Ending.{plain_runs_end}
 use Rattle.snap_rows.proofs.Rows.{All-get}
 use Rattle.snap_rows.proofs.Own.{rank_entry, rank_owner}
 use Rattle.snap_rows.specs.Happenings.{commits}
-use Rattle.snap_rows.proofs.Later.{var_array}
+use Rattle.snap_rows.proofs.Later.{var_array, rank_some}
 use Rattle.snap_gen.specs.Agreement.{numbered, in_order}
 use Rattle.snap_gen.specs.Facts.{Facts, FactsMakeFaithful}
 use Rattle.snap_gen.specs.Faithful.{IsStoreOf, IsPacketOf, AllCanEnter, packets_in, AgreesAsInjected, IsDefined, PlainRunsAgree, CalmRunsAgree, LoneRunsAgree, IsWithin, most_hops, HopsAreBounded}
 use Rattle.snap_gen.specs.InTurn.{StandsAt}
 use Rattle.snap_gen.proofs.Nodes.{IsTwo}
-use Rattle.snap_gen.proofs.Owners.{rank_some}
 use Rattle.snap_gen.proofs.Acting.{Means}
 use Rattle.snap_gen.proofs.Leaving.{came_out}
 use Rattle.snap_gen.proofs.Guides.{NetHolds}

@@ -12,6 +12,7 @@ use Rattle.snap_rows.specs.declared.tables.Row.TheVariants.{Field, State, Go, Le
 use Rattle.snap_rows.specs.Entries.{row_at, next, rank_of, rank_at, ranks, var_of}
 use Rattle.snap_rows.specs.Form.{switch_count, array_count}
 use Rattle.snap_rows.specs.Rules.{IsValid, MayFollow, IsFieldRow, IsLinked}
+use Rattle.snap_rows.specs.Leads.{IsNumberAfter}
 
 -- some port is at the switch
 abbrev pub has_port : Tables → ℕ → Bool
@@ -39,12 +40,6 @@ row_for t w front (Some (Last us os)) = if (if ranks t == 0 then has_port t w el
     else stop_at t w front
 row_for t w front (Some b) = None
 
--- a way of a test row
-abbrev pub IsWay : Row → ℕ → Type 0
-IsWay (Field test y z) x = (x ≡ y) ⊎ (x ≡ z)
-IsWay (State test y z) x = (x ≡ y) ⊎ (x ≡ z)
-IsWay b x = ⊥
-
 abbrev pub IsNodeKind : Row → Type 0
 IsNodeKind (Go x) = ⊥
 IsNodeKind (Leaf ss os) = ⊥
@@ -56,17 +51,17 @@ pub record IsFront (nodes : ℕ → Option Row) (n : ℕ) : Type 0 where
   pub body : Row
   pub is : nodes n ≡ Some body
   pub no_field : ¬ IsFieldRow body
-  pub from : (n ≡ 0) ⊎ ((m : ℕ) × (test : Test) × (y : ℕ) × (z : ℕ) × (nodes m ≡ Some (Field test y z)) × IsWay (Field test y z) n)
+  pub from : (n ≡ 0) ⊎ ((m : ℕ) × (test : Test) × (y : ℕ) × (z : ℕ) × (nodes m ≡ Some (Field test y z)) × IsNumberAfter (Field test y z) n)
 
 -- nodes from a root on, whose numbers rise, in the order of ranks
 pub record AreNodes (t : Tables) (nodes : ℕ → Option Row) (front : ℕ → Bool) : Type 0 where
   pub root : nodes 0 ≢ None
   pub kinds : (n : ℕ) (b : Row) → nodes n ≡ Some b → IsNodeKind b
   pub vars : (n : ℕ) (test : Test) (y z : ℕ) → nodes n ≡ Some (State test y z) → var_of test < array_count t
-  pub ways : (n x : ℕ) (b : Row) → nodes n ≡ Some b → IsWay b x → (n < x) × (nodes x ≢ None)
+  pub ways : (n x : ℕ) (b : Row) → nodes n ≡ Some b → IsNumberAfter b x → (n < x) × (nodes x ≢ None)
   pub order : (n x y z : ℕ) (test : Test) → nodes n ≡ Some (State test y z)
-      → IsWay (State test y z) x → IfSome (nodes x) (MayFollow t (rank_of t (var_of test)))
-  pub parents : (n : ℕ) (b : Row) → nodes n ≡ Some b → (n ≡ 0) ⊎ ((m : ℕ) × (c : Row) × (nodes m ≡ Some c) × IsWay c n)
+      → IsNumberAfter (State test y z) x → IfSome (nodes x) (MayFollow t (rank_of t (var_of test)))
+  pub parents : (n : ℕ) (b : Row) → nodes n ≡ Some b → (n ≡ 0) ⊎ ((m : ℕ) × (c : Row) × (nodes m ≡ Some c) × IsNumberAfter c n)
   pub is_front : (n : ℕ) → IsFront nodes n → front n ≡ true
   pub front_is : (n : ℕ) → front n ≡ true → IsFront nodes n
 

@@ -6,18 +6,16 @@ use Rattle.std.specs.List.Sorted.{IsStrictlySortedBy}
 use Rattle.std.specs.Ordering.{nat_cmp, ordering_then}
 use Rattle.std.specs.declared.cmp.Ordering.{Ordering}
 use Rattle.std.specs.declared.cmp.Ordering.TheVariants.{Less, Equal, Greater}
-use Rattle.std.proofs.lemmas.Bool.{eqb-true, eq-eqb, lt-ltb, le-ltb, cases_lt, and_parts}
+use Rattle.std.proofs.lemmas.Bool.{eqb-true, eq-eqb, le-ltb, cases_lt, and_parts}
 use Rattle.std.proofs.lemmas.Option.{none-some, same_Some}
 use Rattle.std.proofs.lemmas.List.Elements.{All-append, All-nil, All-push, All-tail, All-weaker, recursion_from_All}
 use Rattle.snap_rows.proofs.Rows.{All-get}
 use Rattle.snap_core.proofs.Elements.{All-unmap}
 use Rattle.snap_core.proofs.Entries.{both}
+use Rattle.snap_core.proofs.Orders.{nat_cmp-Less}
 use Rattle.snap_rows.specs.declared.tables.RowAt.{RowAt}
 use Rattle.snap_rows.specs.Entries.{row_in}
 use Rattle.snap_make.specs.Pairs.{Entry, row_entry, one_entry, at_switch, at_switches}
-
-nat_less : (a b : ℕ) → a < b → nat_cmp a b ≡ Less
-nat_less a b l = ap (λ c. cond c Less (cond (nat_eq a b) Equal Greater)) (lt-ltb a b l)
 
 nat_same : (a b : ℕ) → a ≡ b → nat_cmp a b ≡ Equal
 nat_same a b e = ap (λ c. cond c Less (cond (nat_eq a b) Equal Greater)) (le-ltb a b (omega (arith, e))) ∙ ap (λ c. cond c Equal Greater) (eq-eqb a b e)
@@ -123,10 +121,10 @@ module _ {X : Type 0} where
   entry_cmp a b = ordering_then (nat_cmp a.0 b.0) (nat_cmp a.1 b.1)
 
   lower_switch : (a b : Entry X) → a.0 < b.0 → entry_cmp a b ≡ Less
-  lower_switch a b l = ap (λ o. ordering_then o (nat_cmp a.1 b.1)) (nat_less a.0 b.0 l)
+  lower_switch a b l = ap (λ o. ordering_then o (nat_cmp a.1 b.1)) (nat_cmp-Less a.0 b.0 l)
 
   lower_number : (a b : Entry X) → a.0 ≡ b.0 → a.1 < b.1 → entry_cmp a b ≡ Less
-  lower_number a b e l = ap (λ o. ordering_then o (nat_cmp a.1 b.1)) (nat_same a.0 b.0 e) ∙ nat_less a.1 b.1 l
+  lower_number a b e l = ap (λ o. ordering_then o (nat_cmp a.1 b.1)) (nat_same a.0 b.0 e) ∙ nat_cmp-Less a.1 b.1 l
 
   sorted_append : (xs ys : List (Entry X)) → IsStrictlySortedBy entry_cmp xs → IsStrictlySortedBy entry_cmp ys → All (λ x. All (λ y. entry_cmp x y ≡ Less) ys) xs → IsStrictlySortedBy entry_cmp (xs ++ ys)
   unfolding IsStrictlySortedBy

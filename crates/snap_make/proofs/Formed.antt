@@ -1,5 +1,5 @@
 -- Tidied diagrams can be spelled.
-use Rattle.std.proofs.Common.{◌≡◌, ◌≢◌, ℕ, zero, suc, ◌^◌, ◌<◌, ◌≤◌, Bool, true, false, not, List, [], ◌∷◌, ◌++◌, map, length, refl, sym, ap, subst, arith}
+use Rattle.std.proofs.Common.{◌≡◌, ◌≢◌, ℕ, zero, suc, ◌^◌, ◌<◌, ◌≤◌, Bool, true, false, not, List, [], ◌∷◌, ◌++◌, map, length, refl, sym, ap, subst, arith, pow_pos}
 use Rattle.std.specs.Prelude.{nat_eq, slice_index, slice_index_or, ◌&&◌, Contains}
 use Rattle.std.specs.List.{All}
 use Rattle.std.specs.List.Sorted.{IsStrictlySortedBy, IsNonDecreasingBy}
@@ -137,14 +137,10 @@ formed s ranks n (leaf {l = l} {r = r} tidy) inside leaves = leaf_formed s ranks
 formed s ranks n (test a b) inside leaves = (inside.0, formed s ranks n a inside.1 leaves.0, formed s ranks n b inside.2 leaves.1)
 formed s ranks n (merged a b) inside leaves = formed s ranks n a inside.1 leaves.0
 
-two_pow : (n : ℕ) → 0 < 2 ^ n
-two_pow zero = omega arith
-two_pow (suc n) = let h = two_pow n in omega (arith, h)
-
 leaf_in : (s : Sizes) (ranks : List ℕ) (l : Leaf) → LeafFormed s ranks l → LeafIn s l
 leaf_in s ranks Race h = tt
 leaf_in s ranks (Goes g) h =
-    ((λ i d l. (h.outs i d l).fits), h.ups, subst (λ x. x < 2 ^ s.vars) (sym h.reads) (two_pow s.vars), subst (λ x. x < 2 ^ s.vars) (sym h.writes) (two_pow s.vars))
+    ((λ i d l. (h.outs i d l).fits), h.ups, subst (λ x. x < 2 ^ s.vars) (sym h.reads) (pow_pos s.vars), subst (λ x. x < 2 ^ s.vars) (sym h.writes) (pow_pos s.vars))
 
 pub formed_in : (s : Sizes) (ranks : List ℕ) (d : Diagram) → IsFormed s ranks d → IsIn s d
 formed_in s ranks (Only l) h = leaf_in s ranks l h

@@ -7,7 +7,7 @@ use Rattle.snap_arena.specs.declared.node.Node.TheVariants as node
 use Rattle.snap_fdd.specs.declared.leaf.Leaf.{Leaf}
 use Rattle.snap_rows.specs.declared.tables.Row.{Row}
 use Rattle.snap_rows.specs.declared.tables.Row.TheVariants.{Field}
-use Rattle.snap_gen.specs.Planned.{IsWay}
+use Rattle.snap_rows.specs.Leads.{IsNumberAfter}
 use Rattle.snap_gen.specs.Shown.{IsNumbering}
 
 -- the numbers of some root's nodes
@@ -41,7 +41,7 @@ pub record IsBehind (nodes : ℕ → Option Row) (b i : ℕ) : Type 0 where
   pub no : ℕ
   pub low : from < b
   pub is : nodes from ≡ Some (Field test yes no)
-  pub way : IsWay (Field test yes no) i
+  pub way : IsNumberAfter (Field test yes no) i
 
 -- of so many numbers the root and the ways of the field rows of numbers below b are marked
 pub record AreMarked (nodes : ℕ → Option Row) (b many : ℕ) (marks : List Bool) : Type 0 where

@@ -7,9 +7,7 @@ use Rattle.snap_core.specs.Meaning.{Meaning, eval}
 use Rattle.snap_core.specs.Switch.{Switched}
 use Rattle.snap_move.specs.Laws.{OneProgramReportsOneSwitch, OneSwitchIsReported, PieceIsOneSwitch, PiecesFollow, then_switched}
 use Rattle.snap_move.specs.OneSwitch.{changing_switch}
-
-abbrev in_front : Meaning → Switched → Switched
-in_front o r = record { packets = o.packets ∷ r.packets; arrays = r.arrays }
+use Rattle.snap_core.proofs.Switching.{in_front}
 
 pub changing_first : (programs : ℕ → Program) (i : ℕ) (m : Arrays) (k : List ℕ) (ks : List (List ℕ)) (o : Meaning) (a : Switched) → eval (programs i).body m k ≡ Some o → changing_switch programs (i + 1) o.arrays ks ≡ Some a → changing_switch programs i m (k ∷ ks) ≡ Some (in_front o a)
 changing_first programs i m k ks o a e f =

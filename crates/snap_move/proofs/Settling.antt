@@ -1,6 +1,6 @@
 -- Changes that are due, and packets that go through.
 use Rattle.std.proofs.Common.{◌≡◌, ◌≢◌, ℕ, ◌+◌, ◌≤◌, Bool, true, List, [], ◌∷◌, ◌++◌, length, reverse, refl, sym, ap, subst, ◌∙◌, arith, append-nil, length-append}
-use Rattle.std.specs.Prelude.{OnOk, Result, Ok, Err, nat_le, slice_index, if◌then◌else◌}
+use Rattle.std.specs.Prelude.{nat_le, slice_index, if◌then◌else◌}
 use Rattle.std.proofs.lemmas.Bool.{le-leb, lt-leb}
 use Rattle.std.proofs.lemmas.List.{length-map, reverse-append, reverse-reverse}
 use Rattle.std.proofs.lemmas.List.Elements.{All-head, All-tail, All-weaker}
@@ -31,11 +31,6 @@ shape-then a b c x y = record { fields = x.fields ∙ y.fields; names = x.names 
 
 pub shape-count : (a b : Tables) → HaveOneShape a b → array_count a ≡ array_count b
 shape-count a b x = sym (length-map a.arrays (λ (y : ArrayAt). y.name)) ∙ ap (λ (l : List (List ℕ)). length l) x.names ∙ length-map b.arrays (λ (y : ArrayAt). y.name)
-
--- two facts of what a call gives
-pub on-both : {T E P Q R : Type 0} (r : Result T E) → (P → Q → R) → OnOk r P → OnOk r Q → OnOk r R
-on-both (Ok x) f p q = f p q
-on-both (Err e) f p q = tt
 
 -- ---- the next change
 -- the next one stands last

@@ -20,13 +20,12 @@ use Rattle.snap_rows.specs.declared.head.Head.TheVariants.{Out}
 use Rattle.snap_rows.specs.Entries.{rank_of, ranks}
 use Rattle.snap_rows.specs.Form.{array_count}
 use Rattle.snap_rows.specs.Network.{Copy, Event, Step, Happening, happening, packets_of, start, whole}
-use Rattle.snap_rows.proofs.Later.{rank_is_below, var_array}
+use Rattle.snap_rows.proofs.Later.{rank_is_below, var_array, ranks_above}
 use Rattle.snap_gen.specs.Agreement.{CameOut, numbered}
 use Rattle.snap_gen.specs.Faithful.{Faithful, IsStoreOf, packets_in, AgreesAsInjected}
 use Rattle.snap_gen.proofs.Leaving.{copies_of, came_out, own_leaves}
 use Rattle.snap_gen.proofs.LoneRuns.{is_early}
 use Rattle.snap_gen.proofs.Nodes.{IsTwo}
-use Rattle.snap_gen.proofs.Owners.{ranks_above}
 use Rattle.snap_gen.proofs.Switching.{number_at, picks_all}
 use Rattle.snap_gen.proofs.Whole.{starts, whole_holds}
 use Rattle.snap_rows.specs.Stepping.{ComesTo}

@@ -43,6 +43,7 @@ use Rattle.snap_tables.proofs.HopTurns.{IsGood, hops-all, hops-few, hops-good, h
 use Rattle.snap_tables.proofs.PieceLaws.{rising-out}
 use Rattle.snap_tables.proofs.PieceLemmas.{false-true, flat_map-push}
 use Rattle.snap_tables.proofs.Turns.{adjacent-sorted, bytes-other, distinct-push, each-turn, in-turn, link-total, on-total, parts-total, row-total, sorted-push}
+use Rattle.snap_core.proofs.FieldLemmas.{bytes_eq-apart}
 
 -- ---- fields
 StartsPorts : List Field → Type 0
@@ -80,21 +81,14 @@ names-declared c (f ∷ fs) = at c f.name f.prefix (declared_from (c + width f.p
     at c name None rest e = ap (λ l. name ∷ l) e
     at c name (Some n) rest e = ap (λ l. name ∷ (name ++ codes ".net") ∷ (name ++ codes ".host") ∷ l) e
 
-longer : (a b : List ℕ) → length a ≢ length b → bytes_eq a b ≡ false
-longer a b other = at (bytes_eq a b) refl
-  where
-    at : (t : Bool) → bytes_eq a b ≡ t → t ≡ false
-    at false is = refl
-    at true is = absurd (other (ap length ((bytes_eq-Decides a b).0 is)))
-
 declared-differ : (name : List ℕ) (p : Option ℕ) → IsDistinct bytes_eq (declared name p)
 unfolding IsDistinct
 declared-differ name None = (tt, tt)
 declared-differ name (Some n) =
     let net = Rattle.std.proofs.Common.length-append name (codes ".net") in
     let host = Rattle.std.proofs.Common.length-append name (codes ".host") in (
-      (longer name (name ++ codes ".net") (λ e. omega (arith, e, net)), (longer name (name ++ codes ".host") (λ e. omega (arith, e, host)), tt)),
-      ((longer (name ++ codes ".net") (name ++ codes ".host") (λ e. omega (arith, e, net, host)), tt), (tt, tt)),
+      (bytes_eq-apart name (name ++ codes ".net") (λ e. omega (arith, e, net)), (bytes_eq-apart name (name ++ codes ".host") (λ e. omega (arith, e, host)), tt)),
+      ((bytes_eq-apart (name ++ codes ".net") (name ++ codes ".host") (λ e. omega (arith, e, net, host)), tt), (tt, tt)),
     )
 
 -- lists of names, one behind the other

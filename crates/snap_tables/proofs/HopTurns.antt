@@ -12,6 +12,7 @@ use Rattle.std.proofs.lemmas.Nat.{mul-le}
 use Rattle.std.proofs.Math.Nat.{suc-mul}
 use Rattle.std.proofs.lemmas.List.Elements.{All-append, All-cons, All-contains, All-from_recursion, All-head, All-nil, All-push, All-tail, Contains-append_left, Contains-push}
 use Rattle.snap_core.proofs.Elements.{All-back, All-front}
+use Rattle.snap_core.proofs.Orders.{lt-from_Less}
 use Rattle.snap_rows.specs.declared.tables.Hop.{Hop}
 use Rattle.snap_rows.specs.Form.{hop_cmp}
 use Rattle.snap_tables.specs.Entries.{AllFrom, AreInTurn, IsNextHop, next_pair, pair_from, turn}
@@ -278,20 +279,10 @@ module _ (n : ℕ) (few : n ≤ 256) where
           none (g ∷ gs) t w = absurd (let f = t.0.3 in let d = and_parts (g.from == 0) (g.target == 1) f in let e = eqb-true g.target 1 d.1 in omega (arith, t.0.1, w, e))
 
 -- ---- the other way: next hops that rise and leave no pair out came in turn
-less-lt : (a b : ℕ) → nat_cmp a b ≡ Less → a < b
-less-lt a b e = Rattle.std.proofs.Common.⊎_elim (λ s. absurd (other-less (nat_cmp_is a b Equal s ∙ e)))
-    (λ o. Rattle.std.proofs.Common.⊎_elim (λ l. l) (λ g. absurd (greater-less (nat_cmp_is a b Greater g ∙ e))) o) (cases_order a b)
-  where
-    other-less : Equal ≡ Less → ⊥
-    other-less e = cc
-
-    greater-less : Greater ≡ Less → ⊥
-    greater-less e = cc
-
 less-code : (g h : Hop) → g.target < 65536 → h.target < 65536 → hop_cmp g h ≡ Less → code g.from g.target < code h.from h.target
 unfolding code
 less-code g h gt ht lt = Rattle.std.proofs.Common.⊎_elim
-    (λ e. omega (arith, e, less-lt g.target h.target (ap (λ r. ordering_then r (nat_cmp g.target h.target)) (nat_cmp_is g.from h.from Equal e) ∙ lt)))
+    (λ e. omega (arith, e, lt-from_Less g.target h.target (ap (λ r. ordering_then r (nat_cmp g.target h.target)) (nat_cmp_is g.from h.from Equal e) ∙ lt)))
     (λ o. Rattle.std.proofs.Common.⊎_elim (λ l. omega (arith, l, gt))
     (λ b. absurd (greater-less (ap (λ r. ordering_then r (nat_cmp g.target h.target)) (nat_cmp_is g.from h.from Greater b) ∙ lt))) o) (cases_order g.from h.from)
   where

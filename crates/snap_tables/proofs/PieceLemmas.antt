@@ -7,10 +7,6 @@ use Rattle.std.proofs.lemmas.List.Elements.{All-push, All-tail}
 use Rattle.snap_tables.specs.Text.{Words}
 use Rattle.snap_tables.specs.Pieces.{FailsAfter, IsPiece, TakesAll}
 
-pub option-weaker : {A : Type 0} (o : Option A) {P R : Type 0} {Q S : A → Type 0} → (P → R) → ((x : A) → Q x → S x) → MatchOption o P Q → MatchOption o R S
-option-weaker None f g m = f m
-option-weaker (Some x) f g m = g x m
-
 pub option-cases : {A : Type 0} (o : Option A) {P : Type 0} {Q : A → Type 0} → (o ≡ None → P) → ((x : A) → o ≡ Some x → Q x) → MatchOption o P Q
 option-cases None f g = f refl
 option-cases (Some x) f g = g x refl

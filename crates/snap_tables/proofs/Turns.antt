@@ -21,6 +21,7 @@ use Rattle.snap_rows.specs.Form.{atom_cmp, parts_cmp, row_cmp}
 use Rattle.snap_tables.specs.Entries.{AllFrom, AreInTurn, is_above, is_new}
 use Rattle.snap_tables.specs.Pieces.{is_adjacent}
 use Rattle.snap_tables.proofs.PieceLemmas.{all-push, false-true}
+use Rattle.snap_core.proofs.Orders.{is_lt-true}
 
 module _ {X : Type 0} (IsNext : List X → X → Type 0) where
   push-from : (before xs : List X) (x : X) → AllFrom IsNext before xs → IsNext (before ++ xs) x → AllFrom IsNext before (xs ++ (x ∷ []))
@@ -86,11 +87,6 @@ atom-congr (Comp a) (Comp b) (Comp c) e = nat_cmp_total.congr a b c e
 pub parts-total : IsTotalOrder parts_cmp
 parts-total = lists_total (then_total (on-total (λ (p : ℕ × Atom). p.0) nat_cmp_total) (on-total (λ (p : ℕ × Atom). p.1) (record { antisymm = atom-antisymm; trans = atom-trans; congr = atom-congr })))
 
-lt-Less : (r : Ordering) → is_lt r ≡ true → r ≡ Less
-lt-Less Less e = refl
-lt-Less Equal e = absurd (false-true e)
-lt-Less Greater e = absurd (false-true e)
-
 all-last : {X : Type 0} (P : X → Type 0) (zs : List X) (x : X) → AllByRecursion P (zs ++ (x ∷ [])) → P x
 all-last P [] x h = h.0
 all-last P (z ∷ zs) x h = all-last P zs x h.1
@@ -109,7 +105,7 @@ module _ {X : Type 0} (c : X → X → Ordering) (o : IsTotalOrder c) where
   pub sorted-push : (xs : List X) (x : X) → IsStrictlySortedBy c xs → is_above less xs x ≡ true → IsStrictlySortedBy c (xs ++ (x ∷ []))
   unfolding IsStrictlySortedBy
   sorted-push [] x s e = (tt, tt)
-  sorted-push (y ∷ []) x s e = ((lt-Less (c y x) e, tt), (tt, tt))
+  sorted-push (y ∷ []) x s e = ((is_lt-true (c y x) e, tt), (tt, tt))
   sorted-push (y ∷ z ∷ zs) x s e =
       let rest = sorted-push (z ∷ zs) x s.1 (sym (above-tail y z zs x) ∙ e) in
       (all-push (λ q. c y q ≡ Less) (z ∷ zs) x s.0 (o.trans y z x s.0.0 (all-last (λ q. c z q ≡ Less) zs x rest.0)), rest)
@@ -126,7 +122,7 @@ module _ {X : Type 0} (c : X → X → Ordering) (o : IsTotalOrder c) where
   adjacent-sorted (x ∷ y ∷ ys) e =
       let k = and_parts (less x y) (is_adjacent less (y ∷ ys)) e in
       let rest = adjacent-sorted (y ∷ ys) k.1 in
-      let first = lt-Less (c x y) k.0 in
+      let first = is_lt-true (c x y) k.0 in
       ((first, all-trans x y ys first rest.0), rest)
 
 pub bytes-other : (a b : List ℕ) → bytes_eq a b ≡ false → bytes_eq b a ≡ false

@@ -1,6 +1,5 @@
 -- The block of a packet that came out as a set is the block of that set.
-use Rattle.std.proofs.Common.{◌≡◌, ℕ, suc, ◌+◌, Bool, true, false, List, [], ◌∷◌, ◌++◌, map, length, get_or, Some, refl, sym, ap, subst, ◌∙◌, arith, append_assoc, append-nil, sum, is_lt, Ordering, Less, Equal, Greater, IsPermutation, IsSorted}
-use lib.Dec.{T}
+use Rattle.std.proofs.Common.{◌≡◌, ℕ, suc, ◌+◌, true, false, List, [], ◌∷◌, ◌++◌, map, length, get_or, Some, refl, ap, subst, ◌∙◌, arith, append_assoc, append-nil, sum, is_lt, Less, IsPermutation, IsSorted}
 use Rattle.std.specs.Prelude.{slice_get}
 use Rattle.std.specs.List.{AllByRecursion, concat}
 use Rattle.std.specs.List.Sorted.{IsStrictlySortedBy}
@@ -26,20 +25,13 @@ use Rattle.snap_runs.specs.declared.frames.Frames.TheVariants.{Plain}
 use Rattle.snap_runs.specs.Reports.{IsBlock, packet_line, hops_text, packets_delivered}
 use Rattle.snap_runs.proofs.InOrder.{same_packets_in_order}
 use Rattle.snap_whole.specs.OneSwitch.{port_lines}
+use Rattle.snap_core.proofs.Truths.{true-from_T}
+use Rattle.snap_core.proofs.Orders.{is_lt-true}
 
 -- ---- the packets of a set are listed in order
-true_of : (b : Bool) → T b → b ≡ true
-true_of true h = refl
-true_of false h = absurd h
-
-less : (o : Ordering) → is_lt o ≡ true → o ≡ Less
-less Less e = refl
-less Equal e = absurd (subst T (sym e) tt)
-less Greater e = absurd (subst T (sym e) tt)
-
 below-keys : (k : List ℕ) (es : List (List ℕ × Unit {0})) → below_all packet_cmp k es ≡ true → AllByRecursion (λ x. packet_cmp k x ≡ Less) (map (λ e. e.0) es)
 below-keys k [] h = tt
-below-keys k (e ∷ es) h = let b = and_parts (is_lt (packet_cmp k e.0)) (below_all packet_cmp k es) h in (less (packet_cmp k e.0) b.0, below-keys k es b.1)
+below-keys k (e ∷ es) h = let b = and_parts (is_lt (packet_cmp k e.0)) (below_all packet_cmp k es) h in (is_lt-true (packet_cmp k e.0) b.0, below-keys k es b.1)
 
 keys-sorted : (es : List (List ℕ × Unit {0})) → is_sorted packet_cmp es ≡ true → IsStrictlySortedBy packet_cmp (map (λ e. e.0) es)
 unfolding IsStrictlySortedBy
@@ -52,7 +44,7 @@ strictly ks rising i d low within =
 
 delivered-rising : (ports : List ℕ) (set : PacketSet) → IsSorted packet_cmp (delivered ports set)
 delivered-rising ports set =
-    strictly (delivered ports set) (IsStrictlySortedBy-filter packet_cmp (goes_out ports) (listed set) (keys-sorted (entries set) (true_of _ (entries_sorted set))))
+    strictly (delivered ports set) (IsStrictlySortedBy-filter packet_cmp (goes_out ports) (listed set) (keys-sorted (entries set) (true-from_T _ (entries_sorted set))))
 
 -- ---- one block
 packets-sent : (ks : List (List ℕ)) → map (λ (x : Sent). x.packet) (map sent ks) ≡ ks

@@ -5,7 +5,8 @@ use Rattle.snap_move.specs.declared.later.Later.{Later}
 use Rattle.snap_move.specs.declared.mover.Mover.{Mover}
 use Rattle.snap_move.specs.Changing.{IsAhead}
 use Rattle.snap_move.specs.Moving.{IsNotDue}
-use Rattle.snap_move.proofs.Settling.{keeps-changed, next-shape, on-both, settled-not_due, shape-count, stands-changed}
+use Rattle.snap_rows.proofs.Following.{OnOk-both}
+use Rattle.snap_move.proofs.Settling.{keeps-changed, next-shape, settled-not_due, shape-count, stands-changed}
 use Rattle.snap_move.proofs.mover.Mover.settle.Goals as goal
 
 pub change-requires : goal.change-requires
@@ -18,14 +19,14 @@ returns-in-Some-clause-stands c =
     let m = c.args.self.now in
     let m' : Mover = record { alloc = m.alloc; tracer = c.change.new.self; later = c.next_due.new.later } in
     let l = c.in-Some.next in
-    on-both c.change.result (λ tables shown. stands-changed m m' l c.in-Some.ensures.0 (c.in-Some.ensures.1 ∙ c.taken.ensures) tables c.change.ensures.injected c.requires shown) c.change.ensures.tables c.change.ensures.changed
+    OnOk-both c.change.result (λ tables shown. stands-changed m m' l c.in-Some.ensures.0 (c.in-Some.ensures.1 ∙ c.taken.ensures) tables c.change.ensures.injected c.requires shown) c.change.ensures.tables c.change.ensures.changed
 
 pub returns-in-Some-clause-keeps : goal.returns-in-Some-clause-keeps
 returns-in-Some-clause-keeps c =
     let m = c.args.self.now in
     let m' : Mover = record { alloc = m.alloc; tracer = c.change.new.self; later = c.next_due.new.later } in
     let l = c.in-Some.next in
-    on-both c.change.result (λ tables shown. keeps-changed m m' l c.in-Some.ensures.0 (c.in-Some.ensures.1 ∙ c.taken.ensures) tables c.change.ensures.injected c.requires) c.change.ensures.tables c.change.ensures.changed
+    OnOk-both c.change.result (λ tables shown. keeps-changed m m' l c.in-Some.ensures.0 (c.in-Some.ensures.1 ∙ c.taken.ensures) tables c.change.ensures.injected c.requires) c.change.ensures.tables c.change.ensures.changed
 
 pub returns-in-None-clause-settled : goal.returns-in-None-clause-settled
 returns-in-None-clause-settled c =
