@@ -23,7 +23,7 @@ pub far : Table → ℕ → ℕ → ℕ → ℕ
 far routes n a b = cond (nat_lt a n && nat_lt b n) (distance_of routes a b) 0
 
 module _ (topology : Topology) (form : topo.IsInForm topology) (routes : Table) (paths : AreRoutes topology routes) where
-  linked_below : (a b : ℕ) → Linked topology.links a b → b < length topology.switches
+  pub linked_below : (a b : ℕ) → Linked topology.links a b → b < length topology.switches
   linked_below a b (inl c) = (All-contains (topo.IsLink (length topology.switches)) topology.links (a, b) form.links c).below
   linked_below a b (inr c) = let l = All-contains (topo.IsLink (length topology.switches)) topology.links (b, a) form.links c in let x = l.lesser in let y = l.below in omega (arith, x, y)
 
@@ -46,7 +46,7 @@ module _ (topology : Topology) (form : topo.IsInForm topology) (routes : Table) 
       by false e = subst (λ z. z ≤ d) (sym (cond-false _ _ _ e)) (omega arith)
 
   -- a neighbour on a least walk is nearer
-  nearer : (a b : ℕ) → a < length topology.switches → b < length topology.switches → a ≢ b → (y : ℕ) × Linked topology.links a y × (distance_of routes y b < distance_of routes a b)
+  pub nearer : (a b : ℕ) → a < length topology.switches → b < length topology.switches → a ≢ b → (y : ℕ) × Linked topology.links a y × (distance_of routes y b < distance_of routes a b)
   nearer a b la lb apart = by (paths.distances a b la lb).walk.0 (paths.distances a b la lb).walk.1.0 (paths.distances a b la lb).walk.1.1
     where
       by : (xs : List ℕ) → length xs ≡ distance_of routes a b → IsWalk (Linked topology.links) a xs b → (y : ℕ) × Linked topology.links a y × (distance_of routes y b < distance_of routes a b)

@@ -52,6 +52,14 @@ range_more a (suc n) = ap (λ l. a ∷ l) (range_more (a + 1) n ∙ ap (λ x. ra
 pub one_longer : {A : Type 0} (xs : List A) (x : A) → length (xs ++ x ∷ []) ≡ suc (length xs)
 one_longer xs x = length-append xs (x ∷ []) ∙ omega arith
 
+-- of one number and of the others, something is so of each
+pub split_by : (x i : ℕ) (P : ℕ → Type 0) → P x → (x ≢ i → P i) → P i
+split_by x i P own other = by (nat_eq x i) refl
+  where
+    by : (b : Bool) → nat_eq x i ≡ b → P i
+    by true is = subst P (eqb-true x i is) own
+    by false isnt = other (eqb-false x i isnt)
+
 -- one number of the second list goes over to the first
 pub commits_one : (ds fs bs target : List ℕ) (x : ℕ) → IsPermutation (ds ++ (fs ++ x ∷ bs)) target → IsPermutation ((ds ++ x ∷ []) ++ (fs ++ bs)) target
 commits_one ds fs bs target x perm =
@@ -83,17 +91,17 @@ commits_more (Crossed c x h ∷ hs) gs = commits_more hs gs
 commits_more (Delivered c port ∷ hs) gs = commits_more hs gs
 
 module _ (s : Net) (c : Copy) (j : ℕ) (found : slice_get s.flying j ≡ Some c) where
-  early_before : early_in s.flying ≡ early_in (take j s.flying) ++ early_in (c ∷ drop (j + 1) s.flying)
+  pub early_before : early_in s.flying ≡ early_in (take j s.flying) ++ early_in (c ∷ drop (j + 1) s.flying)
   early_before = ap early_in (split_up s.flying j c found) ∙ early_more (take j s.flying) (c ∷ drop (j + 1) s.flying)
 
-  early_after : (m : Arrays) (a : Action) → early_in (stepped s j c m a).flying ≡ early_in (take j s.flying) ++ (early_in (moved c a) ++ early_in (drop (j + 1) s.flying))
+  pub early_after : (m : Arrays) (a : Action) → early_in (stepped s j c m a).flying ≡ early_in (take j s.flying) ++ (early_in (moved c a) ++ early_in (drop (j + 1) s.flying))
   early_after m a = early_more (take j s.flying) (moved c a ++ drop (j + 1) s.flying) ∙ ap (λ l. early_in (take j s.flying) ++ l) (early_more (moved c a) (drop (j + 1) s.flying))
 
-  abbrev first_of : Bool → List ℕ
+  abbrev pub first_of : Bool → List ℕ
   first_of b = map (λ (c : Copy). c.number) (cond b (c ∷ filter (λ (c : Copy). is_early c.head) (drop (j + 1) s.flying)) (filter (λ (c : Copy). is_early c.head) (drop (j + 1) s.flying)))
 
   -- where the copy is early, and where it isn't
-  early_before_is : (b : Bool) → is_early c.head ≡ b → early_in s.flying ≡ early_in (take j s.flying) ++ first_of b
+  pub early_before_is : (b : Bool) → is_early c.head ≡ b → early_in s.flying ≡ early_in (take j s.flying) ++ first_of b
   early_before_is b e = early_before ∙ ap (λ x. early_in (take j s.flying) ++ first_of x) e
 
 module _ (p : Pol) (c n : ℕ) (order : List ℕ) (t : Tables) (means : Means p c n order t) (keeps : KeepsStores p c) (w0 : ℕ) (alone : AllStandAt t w0) (m0 : Arrays) (all : List (List ℕ)) where
@@ -266,14 +274,6 @@ module _ (p : Pol) (c n : ℕ) (order : List ℕ) (t : Tables) (means : Means p 
         all_gone [] e = e
         all_gone (f ∷ fs) e = absurd (let n : suc (length (fs ++ x ∷ back s x j found)) ≡ 0 = ap length e in omega (arith, n))
 
-    -- for each number: what is so for the copy's own, and what stays for the others
-    split_by : (a : Action) (i : ℕ) (P : ℕ → Type 0) → P x.number → (x.number ≢ i → P i) → P i
-    split_by a i P own other = by (nat_eq x.number i) refl
-      where
-        by : (b : Bool) → nat_eq x.number i ≡ b → P i
-        by true is = subst P (eqb-true x.number i is) own
-        by false isnt = other (eqb-false x.number i isnt)
-
     -- a step that commits nothing
     quietly : (a : Action) → commits (happening x a ∷ []) ≡ [] → NetHolds t (stepped s j x m a) st.end.arrays → early_in (stepped s j x m a).flying ≡ early_in s.flying
         → ((y : ℕ) (set : PacketSet) → slice_get (commits hs) y ≡ Some x.number → Leaving t x.number set s hs → Leaving t x.number set (stepped s j x m a) (hs ++ happening x a ∷ []))
@@ -289,7 +289,7 @@ module _ (p : Pol) (c n : ℕ) (order : List ℕ) (t : Tables) (means : Means p 
       shuffled = subst (λ l. IsPermutation l (numbered pre)) (sym (λ y. none y ++ early y)) st.shuffled;
       came = λ y i set e f. came_on y i set (subst (λ l. slice_get l y ≡ Some i) none e) f;
       each = λ i l.
-          split_by a i (λ y. Waits y (stepped s j x m a) (hs ++ happening x a ∷ []) ⊎ Leaves y (stepped s j x m a)) own
+          split_by x.number i (λ y. Waits y (stepped s j x m a) (hs ++ happening x a ∷ []) ⊎ Leaves y (stepped s j x m a)) own
           (λ ne. each_still i s (stepped s j x m a) hs (hs ++ happening x a ∷ []) (others a i ne) (st.each i l));
       fresh = λ i l. unseen_still i s (stepped s j x m a) hs (hs ++ happening x a ∷ []) (others a i (λ y. (let z = below in omega (arith, y, z, l)))) (st.fresh i l);
     }
@@ -362,7 +362,7 @@ module _ (p : Pol) (c n : ℕ) (order : List ℕ) (t : Tables) (means : Means p 
           (subst (λ l. IsPermutation (commits hs ++ l) (numbered pre)) (early_before_is s x j found true (early_head early)) st.shuffled));
       came = λ y i set' e f. by_place y i set' (in_pushed (commits hs) x.number i y (subst (λ l. slice_get l y ≡ Some i) committed e)) (in_pushed st.end.packets o.packets set' y f);
       each = λ i l.
-          split_by (fork_of set) i (λ y. Waits y (stepped s j x m (fork_of set)) (hs ++ happening x (fork_of set) ∷ []) ⊎ Leaves y (stepped s j x m (fork_of set))) (inr leaving.out) (λ ne. each_still i s (stepped s j x m (fork_of set)) hs (hs ++ happening x (fork_of set) ∷ []) (others (fork_of set) i ne) (st.each i l));
+          split_by x.number i (λ y. Waits y (stepped s j x m (fork_of set)) (hs ++ happening x (fork_of set) ∷ []) ⊎ Leaves y (stepped s j x m (fork_of set))) (inr leaving.out) (λ ne. each_still i s (stepped s j x m (fork_of set)) hs (hs ++ happening x (fork_of set) ∷ []) (others (fork_of set) i ne) (st.each i l));
       fresh = λ i l. unseen_still i s (stepped s j x m (fork_of set)) hs (hs ++ happening x (fork_of set) ∷ []) (others (fork_of set) i (λ y. (let z = below in omega (arith, y, z, l)))) (st.fresh i l);
     }
       where

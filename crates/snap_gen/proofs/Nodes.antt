@@ -50,7 +50,7 @@ module _ (t : Tables) (two : IsTwo t) where
   no_go : (w n x : ℕ) → row_at t w n ≡ Some (Go x) → ⊥
   no_go w n x row = not_one t two.version (row_form t two.form w n (Go x) row).0
 
-  no_leaf : (w n : ℕ) (ss : List Turn) (os : List Parts) → row_at t w n ≡ Some (Leaf ss os) → ⊥
+  pub no_leaf : (w n : ℕ) (ss : List Turn) (os : List Parts) → row_at t w n ≡ Some (Leaf ss os) → ⊥
   no_leaf w n ss os row = not_one t two.version (row_form t two.form w n (Leaf ss os) row).0
 
   pub walk_does : {w : ℕ} {k : List ℕ} {s s' : Arrays} {n : ℕ} {a : Action} → Handles t w k s (Walk n) s' a → WalkDoes t w k s n s' a

@@ -57,6 +57,31 @@ node_found (r ∷ rs) w n b e inner = by (nat_eq r.at w) (nat_eq r.number n) (is
     by true false v p q h rest = λ none. rest (sym (ap (λ c. cond (c && nat_eq r.number n) (Some r.row) (row_in rs w n)) p ∙ ap (λ c. cond c (Some r.row) (row_in rs w n)) q) ∙ e) inner (sym (ap (λ c. cond (c && is_node r.row) (Some r.row) (node_in rs n)) q) ∙ none)
     by false false v p q h rest = λ none. rest (sym (ap (λ c. cond (c && nat_eq r.number n) (Some r.row) (row_in rs w n)) p) ∙ e) inner (sym (ap (λ c. cond (c && is_node r.row) (Some r.row) (node_in rs n)) q) ∙ none)
 
+pub if_there : {X : Type 0} (o : Option X) (P : X → Type 0) → ((x : X) → o ≡ Some x → P x) → IfSome o P
+if_there None P h = tt
+if_there (Some x) P h = h x refl
+
+-- ---- next hops
+module _ (t : Tables) (hops : AreHops t) where
+  a_way : (fuel a b : ℕ) → hops.distance a b < fuel → a < switch_count t → b < switch_count t → (c : Bool) → nat_eq a b ≡ c → (ws : List ℕ) × Way t b a ws
+  a_way fuel a b l x y true e = ([], subst (λ z. Way t z a []) (eqb-true a b e) ways.here)
+  a_way zero a b l x y false e = absurd (omega (arith, l))
+  a_way (suc fuel) a b l x y false e =
+      let apart = eqb-false a b e in
+      let near = hops.nearer a b x y apart in
+      let rest = a_way fuel (next t a b) b (let n = near.1 in omega (arith, l, n)) near.0 y (nat_eq (next t a b) b) refl in
+      (next t a b ∷ rest.0, ways.on apart rest.1)
+
+  pub hop_keeps : (rule : Rule) (i : ℕ) (h : Hop) → slice_get t.hops i ≡ Some h → HopKeeps t rule h
+  hop_keeps Link i h e = let k = hops.each i h e in subst (IsLinked t h.from) k.2 (hops.linked h.from h.target k.0 k.1 k.3)
+  hop_keeps Loop i h e = let k = hops.each i h e in a_way (suc (hops.distance h.from h.target)) h.from h.target (omega arith) k.0 k.1 (nat_eq h.from h.target) refl
+  hop_keeps Kind i h e = tt
+  hop_keeps Owner i h e = tt
+  hop_keeps Rise i h e = tt
+  hop_keeps Order i h e = tt
+  hop_keeps Missing i h e = tt
+  hop_keeps Spare i h e = tt
+
 module _ (t : Tables) (nodes : ℕ → Option Row) (front : ℕ → Bool) (two : t.version ≡ 2) (good : AreNodes t nodes front) (placed : ArePlaced t) (hops : AreHops t) (plan : ArePlanned t nodes front) where
   -- ---- arrays and ports
   held : (w q : ℕ) → holds t w q ≡ true → (r : ℕ) × (r ≤ q) × (rank_at t r ≡ Some w)
@@ -433,26 +458,6 @@ module _ (t : Tables) (nodes : ℕ → Option Row) (front : ℕ → Bool) (two :
   reached w n b (stops_state node at f h) = front_reached w n at (good.front_is n f)
   reached w n b (stops_last node at f r h) = front_reached w n at (good.front_is n f)
 
-  -- ---- next hops
-  a_way : (fuel a b : ℕ) → hops.distance a b < fuel → a < switch_count t → b < switch_count t → (c : Bool) → nat_eq a b ≡ c → (ws : List ℕ) × Way t b a ws
-  a_way fuel a b l x y true e = ([], subst (λ z. Way t z a []) (eqb-true a b e) ways.here)
-  a_way zero a b l x y false e = absurd (omega (arith, l))
-  a_way (suc fuel) a b l x y false e =
-      let apart = eqb-false a b e in
-      let near = hops.nearer a b x y apart in
-      let rest = a_way fuel (next t a b) b (let n = near.1 in omega (arith, l, n)) near.0 y (nat_eq (next t a b) b) refl in
-      (next t a b ∷ rest.0, ways.on apart rest.1)
-
-  hop_keeps : (rule : Rule) (i : ℕ) (h : Hop) → slice_get t.hops i ≡ Some h → HopKeeps t rule h
-  hop_keeps Link i h e = let k = hops.each i h e in subst (IsLinked t h.from) k.2 (hops.linked h.from h.target k.0 k.1 k.3)
-  hop_keeps Loop i h e = let k = hops.each i h e in a_way (suc (hops.distance h.from h.target)) h.from h.target (omega arith) k.0 k.1 (nat_eq h.from h.target) refl
-  hop_keeps Kind i h e = tt
-  hop_keeps Owner i h e = tt
-  hop_keeps Rise i h e = tt
-  hop_keeps Order i h e = tt
-  hop_keeps Missing i h e = tt
-  hop_keeps Spare i h e = tt
-
   root_row : (w : ℕ) → has_port t w ≡ true → IsSome (row_at t w 0)
   root_row w at = by c.0 c.1
     where
@@ -547,12 +552,8 @@ module _ (t : Tables) (nodes : ℕ → Option Row) (front : ℕ → Bool) (two :
       by (Leaf ss os) node = absurd (good.kinds n (Leaf ss os) node)
       by Stop node = absurd (good.kinds n Stop node)
 
-  if_there : {X : Type 0} (o : Option X) (P : X → Type 0) → ((x : X) → o ≡ Some x → P x) → IfSome o P
-  if_there None P h = tt
-  if_there (Some x) P h = h x refl
-
   pub planned_valid : IsValid t
-  planned_valid rule (spot.Hop i) = if_there (slice_get t.hops i) (HopKeeps t rule) (λ h e. hop_keeps rule i h e)
+  planned_valid rule (spot.Hop i) = if_there (slice_get t.hops i) (HopKeeps t rule) (λ h e. hop_keeps t hops rule i h e)
   planned_valid rule (spot.Port i) = if_there (slice_get t.ports i) (PortKeeps t rule) (λ p e. port_keeps rule i p e)
   planned_valid rule (spot.Row i) = if_there (slice_get t.rows i) (λ (r : RowAt). RowKeeps t rule r.at r.number r.row) (λ r e. row_keeps rule r.at r.number r.row (plan.once i r e))
   planned_valid rule (spot.Array i) = if_there (slice_get t.arrays i) (ArrayKeeps t rule i) (λ a e. array_keeps rule i a e)

@@ -69,7 +69,7 @@ same_rising xs ys rx ry perm =
     ∙ sym (contains_key-keys (set_of ys) q ∙ ap (list_any (eq_by_cmp packet_cmp q)) (listed-set_of ys ry))))
     ∙ listed-set_of ys ry
 
-packets_sent : (ks : List (List ℕ)) → map (λ (x : Sent). x.packet) (map sent ks) ≡ ks
+pub packets_sent : (ks : List (List ℕ)) → map (λ (x : Sent). x.packet) (map sent ks) ≡ ks
 packets_sent [] = refl
 packets_sent (k ∷ ks) = ap (λ l. k ∷ l) (packets_sent ks)
 
@@ -95,9 +95,12 @@ faithful_stores p topology places t f m k store packet =
     let o = only_outcome p.body m k end.0 end.1 in
     (o.0, o.1, subst (IsStoreOf p) (sym o.2) end.2)
 
+pub faithful-two : {p : Program} {topology : Topology} {places : List ℕ} {t : Tables} → Faithful p topology places t → t.version ≡ 2 → IsTwo t
+faithful-two f version = record { form = f.shape.form; valid = f.shape.valid; version = version }
+
 module _ (p : Program) (topology : Topology) (places : List ℕ) (t : Tables) (f : Faithful p topology places t) (version : t.version ≡ 2) where
   two : IsTwo t
-  two = record { form = f.shape.form; valid = f.shape.valid; version = version }
+  two = faithful-two f version
 
   zeros : (m : Arrays) → IsStoreOf p m → IsZeroFrom (array_count t) m
   zeros m store q l = store.only q (let e = sym (length-map t.arrays (λ (a : ArrayAt). a.name)) ∙ ap length f.shape.names in omega (arith, l, e))

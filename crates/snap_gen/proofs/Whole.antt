@@ -48,6 +48,12 @@ use Rattle.snap_gen.proofs.CalmRuns.{ActedAsOne, calm_runs}
 use Rattle.snap_gen.proofs.LoneRuns.{AllStandAt, State, all_events, early_in}
 
 -- ---- what the switches hold
+pub no_owner : (t : Tables) (v : ℕ) → array_count t ≤ v → owner_of t v ≡ None
+no_owner t v l = ap (option_map (λ (a : ArrayAt). a.at)) (slice_get_past t.arrays v l)
+
+pub packets_fit : (p : Program) (t : Tables) (ks : List (ℕ × List ℕ)) → AllCanEnter p t ks → All (IsPacketOf p) (packets_in ks)
+packets_fit p t ks can = All-map (IsPacketOf p) (λ e. e.1) ks (λ i e l. (can i e l).packet)
+
 module _ (t : Tables) (two : IsTwo t) where
   stands : (v : ℕ) → v < array_count t → (w : ℕ) × (owner_of t v ≡ Some w) × StandsAt t w v
   stands v within =
@@ -55,14 +61,11 @@ module _ (t : Tables) (two : IsTwo t) where
       let at = rank_some t.arrays v (rank_of t v) a.0 a.1 a.2 in
       (at.0, rank_owner t two.valid two.version v (rank_of t v) at.0 within refl at.1, at.1)
 
-  no_owner : (v : ℕ) → array_count t ≤ v → owner_of t v ≡ None
-  no_owner v l = ap (option_map (λ (a : ArrayAt). a.at)) (slice_get_past t.arrays v l)
-
   pub whole_holds : (s : Net) (m : Arrays) → NetHolds t s m → IsZeroFrom (array_count t) m → (q : Place) → whole t s q ≡ m q
   whole_holds s m held zeros q =
       ⊎_elim
       (λ within. (let w = stands q.var within in ap (λ o. unwrap_or (option_map (λ w. s.stores w q) o) 0) w.1 ∙ held w.0 q w.2))
-      (λ beyond. ap (λ o. unwrap_or (option_map (λ w. s.stores w q) o) 0) (no_owner q.var beyond) ∙ sym (zeros q beyond))
+      (λ beyond. ap (λ o. unwrap_or (option_map (λ w. s.stores w q) o) 0) (no_owner t q.var beyond) ∙ sym (zeros q beyond))
       (cases_lt q.var (array_count t))
 
   pub starts : (m : Arrays) → IsZeroFrom (array_count t) m → NetHolds t (start t m) m
@@ -72,7 +75,7 @@ module _ (t : Tables) (two : IsTwo t) where
       (let o = stands q.var within in
       let same : o.0 ≡ w = same_Some o.0 w (sym o.2 ∙ at) in
       ap (λ x. cond (unwrap_or (option_map (λ y. nat_eq y w) x) false) (m q) 0) o.1 ∙ ap (λ b. cond b (m q) 0) (eq-eqb o.0 w same)))
-      (λ beyond. ap (λ x. cond (unwrap_or (option_map (λ y. nat_eq y w) x) false) (m q) 0) (no_owner q.var beyond) ∙ sym (zeros q beyond))
+      (λ beyond. ap (λ x. cond (unwrap_or (option_map (λ y. nat_eq y w) x) false) (m q) 0) (no_owner t q.var beyond) ∙ sym (zeros q beyond))
       (cases_lt q.var (array_count t))
 
 module _ (p : Program) (topology : Topology) (places : List ℕ) (routes : Table) (t : Tables) (f : Facts p topology places routes t) where
@@ -107,9 +110,6 @@ module _ (p : Program) (topology : Topology) (places : List ℕ) (routes : Table
   defined m ks store packets = let e = ending m ks store packets in (e.end, e.is, record { numbers = e.store; only = e.zeros })
 
   -- ---- calm runs
-  packets_fit : (ks : List (ℕ × List ℕ)) → AllCanEnter p t ks → All (IsPacketOf p) (packets_in ks)
-  packets_fit ks can = All-map (IsPacketOf p) (λ e. e.1) ks (λ i e l. (can i e l).packet)
-
   holds_at_end : (m : Arrays) (ks : List (List ℕ)) (s : Net) (end : Switched) → IsStoreOf p m → All (IsPacketOf p) ks → one_big_switch p.body m ks ≡ Some end → NetHolds t s end.arrays → (q : Place) → whole t s q ≡ end.arrays q
   holds_at_end m ks s end store packets is held =
       let e = ending m ks store packets in
@@ -117,7 +117,7 @@ module _ (p : Program) (topology : Topology) (places : List ℕ) (routes : Table
 
   calmly : CalmRunsAgree p t
   calmly m es s hs store can run none =
-      let fits = packets_fit (packets_of es) can in
+      let fits = packets_fit p t (packets_of es) can in
       let acted : ActedAsOne p.body t m (packets_in (packets_of es)) s hs =
       calm_runs p.body (count p.fields) (length p.vars) order t means keeps m (start t m) store.numbers (starts t two m (in_tables m store.only)) refl refl es s hs fits run none in
       record {
@@ -172,7 +172,7 @@ module _ (p : Program) (topology : Topology) (places : List ℕ) (routes : Table
   lonely : LoneRunsAgree p t
   lonely lone m es s hs store can run none =
       let at = alone_at lone in
-      let fits = packets_fit (packets_of es) can in
+      let fits = packets_fit p t (packets_of es) can in
       let st : LoneState at.0 at.1 m (packets_in (packets_of es)) (packets_in (packets_of es)) s hs =
       all_events p.body (count p.fields) (length p.vars) order t means keeps at.0 at.1 m (packets_in (packets_of es)) [] [] fits refl (first_state at.0 at.1 m (packets_in (packets_of es)) store) run in
       let perm : IsPermutation (commits hs) (numbered (packets_in (packets_of es))) =

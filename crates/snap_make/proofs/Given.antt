@@ -1,5 +1,5 @@
 -- What is given is ready.
-use Rattle.std.proofs.Common.{◌≡◌, ℕ, ◌<◌, ◌≤◌, inl, inr, ⊎_elim, List, length, sym, ap, subst, arith}
+use Rattle.std.proofs.Common.{◌≡◌, ℕ, ◌<◌, ◌≤◌, ⊎_elim, List, length, sym, ap, subst, arith}
 use Rattle.std.specs.Prelude.{slice_index}
 use Rattle.std.specs.List.{All}
 use Rattle.std.proofs.lemmas.Bool.{eqb-true, eq-eqb, cases_lt}
@@ -11,7 +11,6 @@ use Rattle.snap_core.specs.declared.program.Program.{Program}
 use Rattle.snap_core.specs.Fields.{count}
 use Rattle.snap_core.specs.Laws.{PutsSmall}
 use Rattle.snap_core.specs.Programs as programs
-use Rattle.snap_dep.specs.Dependencies.{Tied}
 use Rattle.snap_dep.specs.Locality.{NeverRaces}
 use Rattle.snap_dep.specs.Ranks.{Grouping, IsGrouping, IsRankIn, HasOneRank}
 use Rattle.snap_dep.proofs.Below.{UsesBelow-fits}
@@ -21,6 +20,7 @@ use Rattle.snap_topo.specs.Form as topo
 use Rattle.snap_route.specs.Tables.{Table, AreRoutes}
 use Rattle.snap_place.specs.Answer.{GivesSwitches}
 use Rattle.snap_gen.specs.Generated.{AreInputs}
+use Rattle.snap_gen.proofs.Generating.{Tied-sym}
 
 -- a program in form that never races, its groups, a topology with its routes, and a placement
 pub record IsReady (p : Program) (t : Topology) (places : List ℕ) (routes : Table) (g : Grouping) : Type 0 where
@@ -47,16 +47,12 @@ module _ (p : Program) (g : Grouping) (form : programs.IsInForm p) (groups : IsG
   ranks_below = λ i d l. subst (λ r. r < length g.order) (get_or_default g.ranks i 0 d l) (groups.ranks.below i (let e = groups.count in omega (arith, e, l)))
 
   module _ (t : Topology) (places : List ℕ) (routes : Table) (small : PutsSmall p.body) (never : NeverRaces p.body (count p.fields)) (topology : topo.IsInForm t) (paths : AreRoutes t routes) (switches : GivesSwitches p t places) where
-    tied_back : (a b : ℕ) → Tied p.body a b → Tied p.body b a
-    tied_back a b (inl e) = inl (sym e)
-    tied_back a b (inr r) = inr (r.1, r.0)
-
     together : (v w : ℕ) → v < length p.vars → w < length p.vars → slice_index g.ranks v ≡ slice_index g.ranks w → slice_index places v ≡ slice_index places w
     together v w lv lw e =
         let tied = (groups.tied v w lv lw).0 e in
         let many = switches.count in
         ⊎_elim (λ l. switches.together v w l (omega (arith, lw, many)) tied)
-        (λ m. ⊎_elim (λ l. sym (switches.together w v l (omega (arith, lv, many)) (tied_back v w tied))) (λ k. ap (slice_index places) (let s : v ≡ w = omega (arith, m, k) in s)) (cases_lt w v)) (cases_lt v w)
+        (λ m. ⊎_elim (λ l. sym (switches.together w v l (omega (arith, lv, many)) (Tied-sym p.body v w tied))) (λ k. ap (slice_index places) (let s : v ≡ w = omega (arith, m, k) in s)) (cases_lt w v)) (cases_lt v w)
 
     pub ready : IsReady p t places routes g
     ready = record {

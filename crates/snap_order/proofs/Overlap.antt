@@ -36,7 +36,7 @@ use Rattle.snap_gen.proofs.Leaving.{IsQuiet, Leaving, Same, copies_before, copie
 use Rattle.snap_gen.proofs.LoneRuns.{is_early, only_one}
 use Rattle.snap_gen.proofs.Nodes.{IsTwo, WalkDoes, visits_first, forks_at_once, walk_does, OutDoes, is_delivered, is_carried, out_does}
 use Rattle.snap_gen.proofs.Switching.{behind, in_pushed, picked_at, switched_more}
-use Rattle.snap_gen.proofs.Turning.{faithful_chains, faithful_stores, faithful_turns}
+use Rattle.snap_gen.proofs.Turning.{faithful_chains, faithful_stores, faithful_turns, faithful-two}
 use Rattle.snap_rows.specs.Stepping.{ComesTo, visit, walk}
 use Rattle.snap_order.specs.Ordered.{Ordered, Turn, Happens, Stays, Waits, IsBefore, turn_of, visited, LeadsInTurn, injects, moves, visits, waits, RunsInTurn, happenings}
 use Rattle.snap_order.specs.Turning.{rank_behind}
@@ -120,7 +120,7 @@ module _ {t : Tables} {w : ℕ} {k : List ℕ} {x r e : ℕ} {h h' : ℕ → ℕ
 
 module _ (p : Program) (topology : Topology) (places : List ℕ) (t : Tables) (f : Faithful p topology places t) (version : t.version ≡ 2) (m0 : Arrays) (store0 : IsStoreOf p m0) (ks : List (ℕ × List ℕ)) (can : AllCanEnter p t ks) where
   two : IsTwo t
-  two = record { form = f.shape.form; valid = f.shape.valid; version = version }
+  two = faithful-two f version
 
   -- ---- one big switch, packet by packet
   abbrev pub all : List (List ℕ)

@@ -28,6 +28,7 @@ use Rattle.snap_gen.proofs.LoneRuns.{is_early}
 use Rattle.snap_gen.proofs.Nodes.{IsTwo}
 use Rattle.snap_gen.proofs.Switching.{number_at, picks_all}
 use Rattle.snap_gen.proofs.Whole.{starts, whole_holds}
+use Rattle.snap_gen.proofs.Turning.{faithful-two}
 use Rattle.snap_rows.specs.Stepping.{ComesTo}
 use Rattle.snap_order.specs.Ordered.{Ordered, Turn, Happens, Waits, IsBefore, turn_of, LeadsInTurn, moves, visits, waits, happenings}
 use Rattle.snap_order.specs.Laws.{Overlaps, IsBehind, IsLeast}
@@ -55,7 +56,7 @@ late early out = both_ways _ (ap is_early out.1) early
 
 module _ (p : Program) (topology : Topology) (places : List ℕ) (t : Tables) (f : Faithful p topology places t) (version : t.version ≡ 2) (m : Arrays) (es : List Event) (s : Ordered) (us : List Turn) (o : Overlaps p t m es s us) where
   two : IsTwo t
-  two = record { form = f.shape.form; valid = f.shape.valid; version = version }
+  two = faithful-two f version
 
   abbrev all : List (List ℕ)
   all = packets_in (packets_of es)

@@ -12,8 +12,7 @@ use Rattle.snap_rows.specs.declared.head.Fate.{Fate}
 use Rattle.snap_rows.specs.declared.head.Fate.TheVariants as fate
 use Rattle.snap_rows.specs.declared.head.Head.{Head}
 use Rattle.snap_rows.specs.declared.head.Head.TheVariants.{Walk, Stage, Out, Visit}
-use Rattle.snap_rows.specs.declared.tables.Row.TheVariants.{Leaf, Last}
-use Rattle.snap_rows.specs.declared.tables.Stage.{Stage as Stages}
+use Rattle.snap_rows.specs.declared.tables.Row.TheVariants.{Last}
 use Rattle.snap_rows.specs.declared.tables.Tables.{Tables}
 use Rattle.snap_rows.specs.Entries.{Parts, next, rank_at, ranks, row_at}
 use Rattle.snap_rows.specs.Handles.{Handles, asks, goes, forks, begins, passes_on, goes_on, completes, enters, enters_last, seeks, visits, concludes, delivers, carries}
@@ -22,7 +21,7 @@ use Rattle.snap_rows.specs.Network.{Copy, Step, happening, moved, stepped}
 use Rattle.snap_rows.specs.Stepping.{ActsAs, ComesTo, HasVisited, IsBeforeNone, Steps, Visiting, none, more}
 use Rattle.snap_rows.specs.Stepping as stepping
 use Rattle.snap_rows.proofs.Later.{not_one, rank_is_below}
-use Rattle.snap_rows.proofs.Rows.{All-get, row_form}
+use Rattle.snap_rows.proofs.Rows.{All-get}
 use Rattle.snap_net.specs.declared.flying.Flying.{Flying}
 use Rattle.snap_net.specs.declared.happened.Moved.{Moved}
 use Rattle.snap_net.specs.Flights.{spliced}
@@ -34,7 +33,7 @@ use Rattle.snap_runs.specs.Tallies.{IsThere}
 use Rattle.snap_gen.specs.Agreement.{lost_of, sent_of}
 use Rattle.snap_gen.specs.InTurn.{Becomes, SentOn, Waiting, Forks, TakesTurns, handled_more}
 use Rattle.snap_gen.specs.InTurn as turns
-use Rattle.snap_gen.proofs.Nodes.{IsTwo}
+use Rattle.snap_gen.proofs.Nodes.{IsTwo, no_leaf}
 use Rattle.snap_order.specs.Ordered.{Ordered, Turn, Happens, Waits, LeadsInTurn, turn_of, visited}
 use Rattle.snap_order.specs.Ordered as ordered
 use Rattle.snap_order.specs.Shown.{IsDoneInTurn, OrderedHeld, ShowsInTurn, TellsTurn, told_of}
@@ -148,16 +147,13 @@ behind_by t first (Forward to head) = next_rank first head
 behind_by t first (Deliver port) = first
 behind_by t first (Fork copies lost) = ranks t
 
-no_leaf : (t : Tables) → IsTwo t → (w n : ℕ) {ss : List Stages} {os : List Parts} → row_at t w n ≡ Some (Leaf ss os) → ⊥
-no_leaf t two w n {ss = ss} {os = os} row = not_one t two.version (row_form t two.form w n (Leaf ss os) row).0
-
 pub no_visits : (t : Tables) → IsTwo t → {w : ℕ} {k : List ℕ} {m m' : Arrays} {head : Head} {a : Action} → IsBeforeNone t w k head → Handles t w k m head m' a → behind_by t (first_of t head) a ≡ first_of t head
 no_visits t two early (asks one row sides on) = absurd (not_one t two.version one)
 no_visits t two early (goes row) = refl
-no_visits t two {w = w} early (forks {n = n} row) = absurd (no_leaf t two w n row)
-no_visits t two {w = w} early (begins {n = n} row on) = absurd (no_leaf t two w n row)
+no_visits t two {w = w} early (forks {n = n} row) = absurd (no_leaf t two w n _ _ row)
+no_visits t two {w = w} early (begins {n = n} row on) = absurd (no_leaf t two w n _ _ row)
 no_visits t two early (passes_on row is away) = refl
-no_visits t two {w = w} early (goes_on {n = n} row is at few on) = absurd (no_leaf t two w n row)
+no_visits t two {w = w} early (goes_on {n = n} row is at few on) = absurd (no_leaf t two w n _ _ row)
 no_visits t two early (completes row is at last) = refl
 no_visits t two early (enters version some follow (seeks own away)) = refl
 no_visits t two {m = m} early (enters {v = v} version some follow (visits own made few on)) = absurd (early version m 0 v (stepping.walk some follow) own)

@@ -27,6 +27,7 @@ use Rattle.snap_runs.proofs.InOrder.{same_packets_in_order}
 use Rattle.snap_whole.specs.OneSwitch.{port_lines}
 use Rattle.snap_core.proofs.Truths.{true-from_T}
 use Rattle.snap_core.proofs.Orders.{is_lt-true}
+use Rattle.snap_gen.proofs.Turning.{packets_sent}
 
 -- ---- the packets of a set are listed in order
 below-keys : (k : List ℕ) (es : List (List ℕ × Unit {0})) → below_all packet_cmp k es ≡ true → AllByRecursion (λ x. packet_cmp k x ≡ Less) (map (λ e. e.0) es)
@@ -47,14 +48,10 @@ delivered-rising ports set =
     strictly (delivered ports set) (IsStrictlySortedBy-filter packet_cmp (goes_out ports) (listed set) (keys-sorted (entries set) (true-from_T _ (entries_sorted set))))
 
 -- ---- one block
-packets-sent : (ks : List (List ℕ)) → map (λ (x : Sent). x.packet) (map sent ks) ≡ ks
-packets-sent [] = refl
-packets-sent (k ∷ ks) = ap (λ l. k ∷ l) (packets-sent ks)
-
 pub one_block : (t : Tables) (i : ℕ) (set : PacketSet) (hs : List Happening) (text : List ℕ) → CameOut t i set hs → IsBlock t false i hs text → text ≡ block (port_lines t.fields (port_numbers t)) (i + 1) set
 one_block t i set hs text came is =
     let there : IsPermutation (packets_delivered i hs) (delivered (port_numbers t) set) =
-    subst (IsPermutation (packets_delivered i hs)) (packets-sent (delivered (port_numbers t) set)) (IsPermutation-map (λ (x : Sent). x.packet) (deliveries_of i hs) (map sent (delivered (port_numbers t) set)) came.ports) in
+    subst (IsPermutation (packets_delivered i hs)) (packets_sent (delivered (port_numbers t) set)) (IsPermutation-map (λ (x : Sent). x.packet) (deliveries_of i hs) (map sent (delivered (port_numbers t) set)) came.ports) in
     let outs : is.outs ≡ delivered (port_numbers t) set =
     same_packets_in_order is.outs (delivered (port_numbers t) set) is.rising (delivered-rising (port_numbers t) set) (IsPermutation-trans is.outs (packets_delivered i hs) (delivered (port_numbers t) set) is.delivered there) in
     let loss : sum (losses_of i hs) ≡ lost (port_numbers t) set = ap sum came.loss ∙ omega arith in
