@@ -18,6 +18,7 @@ use Rattle.snap_core.specs.Packets.{PacketSet, packet_cmp, no_packets, with_pack
 use Rattle.snap_core.proofs.EvalLemmas.{listed-one}
 use Rattle.snap_core.proofs.PacketSets.{same_packets, contains-listed, union-one}
 use Rattle.snap_core.proofs.Small.{stays_fine}
+use Rattle.snap_core.proofs.Truths.{both_or_neither}
 use Rattle.snap_ctx.specs.View.{View}
 use Rattle.snap_arena.specs.declared.node.Node.{Node}
 use Rattle.snap_arena.specs.Arena.{Grew}
@@ -56,15 +57,10 @@ met g x (y ∷ ys) h =
     (λ there. or_right (eq (g x) (g y)) (list_any (eq (g x)) (map g ys)) (met g x ys there))
     (or_cases (eq x y) (list_any (eq x) ys) h)
 
-alike : (a b : Bool) → (a ≡ true → b ≡ true) → (b ≡ true → a ≡ true) → a ≡ b
-alike true b f g = sym (f refl)
-alike false true f g = g refl
-alike false false f g = refl
-
 twice : (f g : List ℕ → List ℕ) (ks : List (List ℕ)) → with_packets no_packets (map g (listed (with_packets no_packets (map f ks)))) ≡ with_packets no_packets (map (λ k. g (f k)) ks)
 twice f g ks = same_packets _ _ (λ q.
     contains-listed (map g (listed first)) q
-    ∙ alike (list_any (eq q) (map g (listed first))) (list_any (eq q) (map (λ k. g (f k)) ks))
+    ∙ both_or_neither (list_any (eq q) (map g (listed first))) (list_any (eq q) (map (λ k. g (f k)) ks))
     (λ h.
     let a = found q g (listed first) h in
     let b = found a.0 f ks (sym (within a.0) ∙ a.1) in

@@ -5,12 +5,13 @@ use Rattle.std.specs.List.{concat, flat_map, range_with_len}
 use Rattle.std.proofs.lemmas.Bool.{cases_eq, cases_lt}
 use Rattle.std.proofs.lemmas.Bool.Decides.{eqb_tells}
 use Rattle.snap_topo.specs.declared.topology.Topology.{Topology}
-use Rattle.snap_route.specs.Tables.{Table, AreRoutes, IsUnreachable, distance_of, next_of}
+use Rattle.snap_route.specs.Tables.{Table, AreRoutes, IsUnreachable, next_of}
 use Rattle.snap_topo.specs.Pairs.{IsBefore}
 use Rattle.snap_route.specs.Walks.{HasWalk, IsDiameter, IsDistance, IsFirstApart, IsNext, IsWalk, Linked}
-use Rattle.snap_route.proofs.Walking.{distance-same, distance-walk}
-use Rattle.snap_cli.specs.Refusals.{name_at}
+use Rattle.snap_route.proofs.Walking.{distance-walk}
 use Rattle.snap_cli.specs.Routes.{end_text, line_between, lines_from, routes_text}
+use Rattle.snap_seek.proofs.Once.{same_distance}
+use Rattle.snap_runs.specs.Tallies.{name_in}
 
 -- a property that has no least number has none
 module _ (P : ℕ → Type 0) (no_least : (d : ℕ) → P d → ((e : ℕ) → P e → d ≤ e) → ⊥) where
@@ -86,9 +87,6 @@ module _ (t : Topology) (x y : Table) (rx : AreRoutes t x) (ry : AreRoutes t y) 
   walk_by : (a b m : ℕ) → a < length t.switches → b < length t.switches → Linked t.links a m → HasWalk (Linked t.links) m b
   walk_by a b m la lb step = let walk = distance-walk (Linked t.links) a b _ (rx.distances a b la lb) in (a ∷ walk.0, (linked_back a m step, walk.1))
 
-  same_distance : (a b : ℕ) → a < length t.switches → b < length t.switches → distance_of x a b ≡ distance_of y a b
-  same_distance a b la lb = distance-same (Linked t.links) a b _ _ (rx.distances a b la lb) (ry.distances a b la lb)
-
   same_next : (a b : ℕ) → a < length t.switches → b < length t.switches → a ≢ b → next_of x a b ≡ next_of y a b
   same_next a b la lb ne =
       let n = rx.nexts a b la lb ne in
@@ -102,8 +100,8 @@ module _ (t : Topology) (x y : Table) (rx : AreRoutes t x) (ry : AreRoutes t y) 
       from (inl e) = rw e.0 refl
       from (inr e) =
           rw e.0
-          (ap₂ (λ d n. concat (codes "route " ∷ name_at t.switches a ∷ codes " " ∷ name_at t.switches b ∷ codes " " ∷ decimal d ∷ codes " " ∷ name_at t.switches n ∷ codes "\n" ∷ []))
-          (same_distance a b la lb) (same_next a b la lb e.1))
+          (ap₂ (λ d n. concat (codes "route " ∷ name_in t.switches a ∷ codes " " ∷ name_in t.switches b ∷ codes " " ∷ decimal d ∷ codes " " ∷ name_in t.switches n ∷ codes "\n" ∷ []))
+          (same_distance t x y rx ry a b la lb) (same_next a b la lb e.1))
 
   pub same_routes : routes_text t.switches x ≡ routes_text t.switches y
   same_routes =

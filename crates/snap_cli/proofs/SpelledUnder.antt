@@ -15,7 +15,7 @@ use Rattle.snap_trace.specs.PacketLines.{Said, skip, inject, bad, said_by}
 use Rattle.snap_trace.specs.Spelled.{Spelled, counted, ended, spelled, spelled_behind, spelled_from, text_of, with_next, with_said}
 use Rattle.snap_runs.specs.Laws.{SpelledPacketsFit}
 use Rattle.snap_runs.specs.Plain.{at_ports}
-use Rattle.snap_runs.proofs.SpelledPackets.{said_same}
+use Rattle.snap_runs.proofs.SpelledPackets.{said_same, at_them}
 use Rattle.snap_move.specs.declared.later.Later.{Later}
 use Rattle.snap_move.specs.Changing.{in_force}
 use Rattle.snap_move.specs.Files.{spelled_under}
@@ -26,9 +26,6 @@ abbrev pub IsKnown : List PortAt → List ℕ → Type 0
 IsKnown ports k = is_some (port_in ports (slice_index k 0)) ≡ true
 
 module _ (t : Tables) (said : List ℕ → Said) where
-  abbrev at_them : List ℕ → Said
-  at_them line = at_ports t (said line)
-
   said_known : (line : ℕ) (s : Said) (a b : Spelled) → All (IsKnown t.ports) (with_said line s b).packets → (All (IsKnown t.ports) b.packets → a ≡ b) → with_said line (at_ports t s) a ≡ with_said line s b
   said_known line skip a b known same = same known
   said_known line bad a b known same = refl
@@ -37,17 +34,17 @@ module _ (t : Tables) (said : List ℕ → Said) where
       let rest = same (All-tail (IsKnown t.ports) k b.packets known) in
       (λ i. with_said line (cond (here i) (inject k) bad) a) ∙ (λ i. record { packets = k ∷ (rest i).packets; stop = (rest i).stop })
 
-  next_known : (line : ℕ) (next : Next) (a b : ℕ → Spelled) → All (IsKnown t.ports) (with_next said line next b).packets → ((behind : ℕ) → All (IsKnown t.ports) (b behind).packets → a behind ≡ b behind) → with_next at_them line next a ≡ with_next said line next b
+  next_known : (line : ℕ) (next : Next) (a b : ℕ → Spelled) → All (IsKnown t.ports) (with_next said line next b).packets → ((behind : ℕ) → All (IsKnown t.ports) (b behind).packets → a behind ≡ b behind) → with_next (at_them t said) line next a ≡ with_next said line next b
   next_known line (next_line text behind) a b known same = said_known line (said text) (a behind) (b behind) known (same behind)
   next_known line no_line a b known same = refl
   next_known line long_line a b known same = refl
   next_known line many_bytes a b known same = refl
 
-  pub spelled_known : (file : List ℕ) (left line at : ℕ) → All (IsKnown t.ports) (spelled_from said file left line at).packets → spelled_from at_them file left line at ≡ spelled_from said file left line at
+  pub spelled_known : (file : List ℕ) (left line at : ℕ) → All (IsKnown t.ports) (spelled_from said file left line at).packets → spelled_from (at_them t said) file left line at ≡ spelled_from said file left line at
   unfolding spelled_from
   spelled_known file zero line at known = refl
   spelled_known file (suc left) line at known =
-      next_known line (next_in 67108864 65536 file at) (λ behind. spelled_from at_them file left (line + 1) behind) (λ behind. spelled_from said file left (line + 1) behind) known
+      next_known line (next_in 67108864 65536 file at) (λ behind. spelled_from (at_them t said) file left (line + 1) behind) (λ behind. spelled_from said file left (line + 1) behind) known
       (λ behind rest. spelled_known file left (line + 1) behind rest)
 
 abbrev door : List ℕ → PortAt

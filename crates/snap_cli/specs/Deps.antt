@@ -13,11 +13,12 @@ use Rattle.snap_io.specs.Sinks.{AppendsPart}
 use Rattle.snap_cli.specs.declared.refusal.Refusal.{Refusal}
 use Rattle.snap_cli.specs.declared.refusal.Refusal.TheVariants.{Write, NoMemory}
 use Rattle.snap_cli.specs.ProgramOf.{ProgramOf}
-use Rattle.snap_cli.specs.Refusals.{Ending, name_at}
+use Rattle.snap_cli.specs.Refusals.{Ending}
+use Rattle.snap_runs.specs.Tallies.{name_in}
 
 -- `dep S T`, for a dependency from the first array to the second
 abbrev pub dep_line : List (List ℕ) → ℕ × ℕ → List ℕ
-dep_line names d = concat (codes "dep " ∷ name_at names d.0 ∷ codes " " ∷ name_at names d.1 ∷ codes "\n" ∷ [])
+dep_line names d = concat (codes "dep " ∷ name_in names d.0 ∷ codes " " ∷ name_in names d.1 ∷ codes "\n" ∷ [])
 
 -- the arrays of a rank, in rising order
 abbrev pub members_of : Grouping → (rank : ℕ) → List ℕ
@@ -25,7 +26,7 @@ members_of g rank = filter (λ v. rank_of g v == rank) (range_with_len 0 (length
 
 -- ` V`, for an array of a group
 abbrev pub member_text : List (List ℕ) → ℕ → List ℕ
-member_text names v = codes " " ++ name_at names v
+member_text names v = codes " " ++ name_in names v
 
 -- `group V1 V2 ..`, for the arrays of a rank
 abbrev pub group_line : List (List ℕ) → Grouping → (rank : ℕ) → List ℕ

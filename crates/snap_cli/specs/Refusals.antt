@@ -1,5 +1,5 @@
 -- The status and the message of each ending.
-use Rattle.std.specs.Prelude.{ℕ, List, [], ◌∷◌, Ok, Err, Result, codes, decimal, slice_get, unwrap_or}
+use Rattle.std.specs.Prelude.{ℕ, List, [], ◌∷◌, Ok, Err, Result, codes, decimal}
 use Rattle.std.specs.List.{concat}
 use Rattle.snap_core.specs.declared.program.Which.{Which}
 use Rattle.snap_core.specs.declared.program.Which.TheVariants as which
@@ -20,6 +20,7 @@ use Rattle.snap_cli.specs.declared.refusal.NoTables.TheVariants.{Line, Broken}
 use Rattle.snap_cli.specs.declared.refusal.TopologyFault.{TopologyFault}
 use Rattle.snap_cli.specs.declared.refusal.TopologyFault.TheVariants.{NotToml, Shape, SwitchTwice, UnknownSwitch}
 use Rattle.snap_cli.specs.declared.spot.Spot.{Spot}
+use Rattle.snap_runs.specs.Tallies.{name_in}
 
 -- how a command ends
 abbrev pub Ending : Type 0
@@ -101,12 +102,8 @@ message_of_topology (Shape rule) = message_with (codes "topology: shape") rule
 message_of_topology (SwitchTwice name) = message_naming (codes "topology: switch twice") name
 message_of_topology (UnknownSwitch name) = message_naming (codes "topology: unknown switch") name
 
--- the name of the array or the switch with this number
-abbrev pub name_at : List (List ℕ) → ℕ → List ℕ
-name_at names number = unwrap_or (slice_get names number) []
-
 abbrev pub message_apart : List (List ℕ) → ℕ → ℕ → List ℕ
-message_apart switches a b = concat (codes "snapc: unreachable: " ∷ name_at switches a ∷ codes " " ∷ name_at switches b ∷ codes "\n" ∷ [])
+message_apart switches a b = concat (codes "snapc: unreachable: " ∷ name_in switches a ∷ codes " " ∷ name_in switches b ∷ codes "\n" ∷ [])
 
 abbrev pub message_of_demand : NoDemand → List ℕ
 message_of_demand none.NotToml = message_text (codes "demand: not TOML")
@@ -114,17 +111,17 @@ message_of_demand (none.Shape rule) = message_with (codes "demand: shape") rule
 message_of_demand (none.NoPort port) = message_with (codes "demand: no port") port
 message_of_demand (none.NoArray name) = message_naming (codes "demand: no array") name
 message_of_demand (none.NoSwitch name) = message_naming (codes "demand: no switch") name
-message_of_demand (none.Nowhere arrays array) = message_naming (codes "demand: nowhere") (name_at arrays array)
+message_of_demand (none.Nowhere arrays array) = message_naming (codes "demand: nowhere") (name_in arrays array)
 
 abbrev pub message_torn : List (List ℕ) → ℕ → ℕ → List ℕ
-message_torn arrays a b = concat (codes "snapc: placement: apart " ∷ name_at arrays a ∷ codes " " ∷ name_at arrays b ∷ codes "\n" ∷ [])
+message_torn arrays a b = concat (codes "snapc: placement: apart " ∷ name_in arrays a ∷ codes " " ∷ name_in arrays b ∷ codes "\n" ∷ [])
 
 abbrev pub message_of_placement : NoPlacement → List ℕ
 message_of_placement nowhere.NotToml = message_text (codes "placement: not TOML")
 message_of_placement (nowhere.Shape rule) = message_with (codes "placement: shape") rule
 message_of_placement (nowhere.NoArray name) = message_naming (codes "placement: no array") name
-message_of_placement (nowhere.NoPlace arrays array) = message_naming (codes "placement: no place for") (name_at arrays array)
-message_of_placement (nowhere.NoSwitch arrays array) = message_naming (codes "placement: no switch for") (name_at arrays array)
+message_of_placement (nowhere.NoPlace arrays array) = message_naming (codes "placement: no place for") (name_in arrays array)
+message_of_placement (nowhere.NoSwitch arrays array) = message_naming (codes "placement: no switch for") (name_in arrays array)
 message_of_placement (nowhere.Apart arrays a b) = message_torn arrays a b
 
 abbrev pub rule_text : Rule → List ℕ

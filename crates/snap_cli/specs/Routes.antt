@@ -6,14 +6,15 @@ use Rattle.snap_topo.specs.declared.topology.Topology.{Topology}
 use Rattle.snap_route.specs.Tables.{Table, AreRoutes, IsUnreachable, distance_of, next_of}
 use Rattle.snap_cli.specs.declared.refusal.Refusal.{Refusal}
 use Rattle.snap_cli.specs.declared.refusal.Refusal.TheVariants.{Unreachable}
-use Rattle.snap_cli.specs.Refusals.{Ending, name_at}
+use Rattle.snap_cli.specs.Refusals.{Ending}
 use Rattle.snap_cli.specs.TopologyOf.{TopologyOf}
+use Rattle.snap_runs.specs.Tallies.{name_in}
 
 -- `route A B DISTANCE NEXT`
 abbrev pub route_line : List (List ℕ) → Table → (a b : ℕ) → List ℕ
 route_line names table a b =
-    concat (codes "route " ∷ name_at names a ∷ codes " " ∷ name_at names b ∷ codes " " ∷ decimal (distance_of table a b)
-    ∷ codes " " ∷ name_at names (next_of table a b) ∷ codes "\n" ∷ [])
+    concat (codes "route " ∷ name_in names a ∷ codes " " ∷ name_in names b ∷ codes " " ∷ decimal (distance_of table a b)
+    ∷ codes " " ∷ name_in names (next_of table a b) ∷ codes "\n" ∷ [])
 
 -- the line of two switches, where they are different
 abbrev pub line_between : List (List ℕ) → Table → (a b : ℕ) → List ℕ

@@ -4,9 +4,10 @@ ghost use Rattle.std.specs.Prelude.{◌≡◌, Err, OnOk, OnErr};
 ghost use Rattle.std.specs.Io.KnownBytes.{Appends};
 ghost use Rattle.snap_io.specs.Causes.{HasCause};
 ghost use Rattle.snap_io.specs.Sinks.{AppendsPart};
+ghost use Rattle.snap_runs.specs.Tallies.{name_in};
 ghost use Rattle.snap_cli.specs.declared.refusal.Refusal.TheVariants as refused;
 ghost use Rattle.snap_cli.specs.Messages.{bytes_of};
-ghost use Rattle.snap_cli.specs.Refusals.{message_naming, message_of, message_of_demand, message_of_placement, message_of_tables, message_of_topology, message_text, message_with, name_at, naming_text, rule_text, status_of, syntax_text, which_text};
+ghost use Rattle.snap_cli.specs.Refusals.{message_naming, message_of, message_of_demand, message_of_placement, message_of_tables, message_of_topology, message_text, message_with, naming_text, rule_text, status_of, syntax_text, which_text};
 
 use crate::spot::Spot;
 use itoa::Buffer;
@@ -334,7 +335,7 @@ fn topology_message(fault: &TopologyFault) -> Message<'_>
 
 /// The name of the array or the switch with this number, or nothing where there is none.
 pub(crate) fn name_at(names: &Names, number: u16) -> &[u8]
-    ensures { result.now ≡ name_at names.now number }
+    ensures { result.now ≡ name_in names.now number }
 {
     match names.items().get(number as usize) {
         Some(name) => name.bytes(),

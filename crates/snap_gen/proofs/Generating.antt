@@ -11,12 +11,12 @@ use Rattle.snap_core.specs.declared.policy.Test.{Test}
 use Rattle.snap_core.specs.declared.policy.Test.TheVariants.{Value, Equal, State as StateTest}
 use Rattle.snap_core.specs.declared.program.Program.{Program}
 use Rattle.snap_core.specs.Fields.{count}
-use Rattle.snap_core.specs.declared.policy.Pol.{Pol}
 use Rattle.snap_dep.specs.Dependencies.{Tied}
 use Rattle.snap_dep.specs.Ranks.{IsRank, IsGroup}
 use Rattle.snap_dep.proofs.Taking.{begun_once}
 use Rattle.snap_dep.proofs.OneRank.{has_one}
 use Rattle.snap_dep.proofs.Below.{UsesBelow-fits}
+use Rattle.snap_dep.proofs.Chains.{tied_back}
 use Rattle.snap_topo.specs.declared.topology.Topology.{Topology}
 use Rattle.snap_route.specs.Walks.{Linked, IsNext}
 use Rattle.snap_route.specs.Tables.{Table}
@@ -65,10 +65,6 @@ rank_le r q rest e = by (nat_lt r q) refl (nat_eq r q) refl
     by false f false g = absurd (false≢true (sym (ap is_less (ap (λ b. ordering_then (cond b Less (cond (nat_eq r q) Same Greater)) rest) f ∙ ap (λ c. ordering_then (cond c Same Greater) rest) g)) ∙ ap is_less e))
 
 -- ---- a node of a number
-pub Tied-sym : (p : Pol) (a b : ℕ) → Tied p a b → Tied p b a
-Tied-sym p a b (inl e) = inl (sym e)
-Tied-sym p a b (inr r) = inr (r.1, r.0)
-
 module _ (p : Program) (ranks_list : List ℕ) (ns : List (Node Leaf)) (top : ℕ) (ids : List ℕ) (number : ℕ → ℕ) (d : IsBareDiagram p ranks_list ns top) (num : IsNumbering ns top ids number) where
   pub of_node : (i : ℕ) (b : Row) → numbered_nodes ns ids number i ≡ Some b → IsOf ns ids number i b
   of_node i b e = by (slice_get ids i) refl
@@ -265,7 +261,7 @@ module _ (p : Program) (t : Topology) (places : List ℕ) (routes : Table) (rank
         other = (rank.steps (slice_index ranks_list (slice_index order r)) ql).group
 
         same : slice_index order (slice_index ranks_list (slice_index order r)) ≡ slice_index order r
-        same = let a = other.least (slice_index order r) group.below tied in let b = group.least (slice_index order (slice_index ranks_list (slice_index order r))) other.below (Tied-sym p.body _ _ tied) in omega (arith, a, b)
+        same = let a = other.least (slice_index order r) group.below tied in let b = group.least (slice_index order (slice_index ranks_list (slice_index order r))) other.below (tied_back p.body _ _ tied) in omega (arith, a, b)
 
         by_order : (a b : ℕ) → a ≤ b → (a ≡ b) ⊎ (a < b)
         by_order a b le = ⊎_elim (λ x. inr x) (λ y. inl (omega (arith, le, y))) (cases_lt a b)

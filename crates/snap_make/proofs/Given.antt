@@ -15,12 +15,12 @@ use Rattle.snap_dep.specs.Locality.{NeverRaces}
 use Rattle.snap_dep.specs.Ranks.{Grouping, IsGrouping, IsRankIn, HasOneRank}
 use Rattle.snap_dep.proofs.Below.{UsesBelow-fits}
 use Rattle.snap_dep.proofs.OneRank.{has_one}
+use Rattle.snap_dep.proofs.Chains.{tied_back}
 use Rattle.snap_topo.specs.declared.topology.Topology.{Topology}
 use Rattle.snap_topo.specs.Form as topo
 use Rattle.snap_route.specs.Tables.{Table, AreRoutes}
 use Rattle.snap_place.specs.Answer.{GivesSwitches}
 use Rattle.snap_gen.specs.Generated.{AreInputs}
-use Rattle.snap_gen.proofs.Generating.{Tied-sym}
 
 -- a program in form that never races, its groups, a topology with its routes, and a placement
 pub record IsReady (p : Program) (t : Topology) (places : List ℕ) (routes : Table) (g : Grouping) : Type 0 where
@@ -52,7 +52,7 @@ module _ (p : Program) (g : Grouping) (form : programs.IsInForm p) (groups : IsG
         let tied = (groups.tied v w lv lw).0 e in
         let many = switches.count in
         ⊎_elim (λ l. switches.together v w l (omega (arith, lw, many)) tied)
-        (λ m. ⊎_elim (λ l. sym (switches.together w v l (omega (arith, lv, many)) (Tied-sym p.body v w tied))) (λ k. ap (slice_index places) (let s : v ≡ w = omega (arith, m, k) in s)) (cases_lt w v)) (cases_lt v w)
+        (λ m. ⊎_elim (λ l. sym (switches.together w v l (omega (arith, lv, many)) (tied_back p.body v w tied))) (λ k. ap (slice_index places) (let s : v ≡ w = omega (arith, m, k) in s)) (cases_lt w v)) (cases_lt v w)
 
     pub ready : IsReady p t places routes g
     ready = record {

@@ -10,6 +10,7 @@ use Rattle.std.proofs.lemmas.Bool.{both_ways}
 use Rattle.std.proofs.lemmas.List.Sorted.{ranks_by, sorted_far, sum_by-IsPermutation}
 use Rattle.std.proofs.lemmas.List.Sums.{sum_by-cons}
 use Rattle.std.proofs.lemmas.Option.{get_or_from_slice_get, slice_get_within}
+use Rattle.snap_core.proofs.Orders.{is_eq-true}
 
 -- lists that are equal at each place are equal
 pub same_lists : {X : Type 0} (xs ys : List X) → length xs ≡ length ys → ((i : ℕ) (x y : X) → slice_get xs i ≡ Some x → slice_get ys i ≡ Some y → x ≡ y) → xs ≡ ys
@@ -53,17 +54,12 @@ module _ {X : Type 0} (cmp : X → X → Ordering) (order : IsTotalOrder cmp) (e
   times-itself : (x : X) (xs : List X) → times x (x ∷ xs) ≡ 1 + times x xs
   times-itself x xs = times-here x x xs (ap is_eq (tied_itself order x))
 
-  tie : (o : Ordering) → is_eq o ≡ true → o ≡ Equal
-  tie Equal e = refl
-  tie Less e = absurd (both_ways false refl e)
-  tie Greater e = absurd (both_ways false refl e)
-
   not_below : (x y : X) (ys : List X) → 1 ≤ times x ys → Above y ys → is_lt (cmp x y) ≡ false
   not_below x y [] some above = absurd (let h : 1 ≤ 0 = some in omega arith)
   not_below x y (z ∷ zs) some above = by (is_eq (cmp x z)) refl (λ h. not_below x y zs h above.1)
     where
       by : (b : Bool) → is_eq (cmp x z) ≡ b → (1 ≤ times x zs → is_lt (cmp x y) ≡ false) → is_lt (cmp x y) ≡ false
-      by true e rest = subst (λ w. is_lt (cmp w y) ≡ false) (sym (exact x z (tie (cmp x z) e))) above.0
+      by true e rest = subst (λ w. is_lt (cmp w y) ≡ false) (sym (exact x z (is_eq-true (cmp x z) e))) above.0
       by false e rest = rest (omega (arith, times-other x z zs e))
 
   equal : (x y : X) (o : Ordering) → cmp x y ≡ o → is_lt (cmp x y) ≡ false → is_lt (cmp y x) ≡ false → x ≡ y

@@ -200,7 +200,7 @@ spelled_packets_fit t file = spelled-fits (count t.fields) (λ line. at_ports t 
 
 -- ---- files that are read to their end
 module _ (t : Tables) (said : List ℕ → Said) where
-  abbrev at_them : List ℕ → Said
+  abbrev pub at_them : List ℕ → Said
   at_them line = at_ports t (said line)
 
   pub said_same : (line : ℕ) (s : Said) (a b : Spelled) → (with_said line (at_ports t s) a).stop ≡ ended → (a.stop ≡ ended → a ≡ b) → with_said line (at_ports t s) a ≡ with_said line s b

@@ -46,6 +46,7 @@ owner_by (bare.Forked owner copies lost) = owner
 owner_by (bare.Stayed owner rank) = owner
 owner_by (bare.Waited owner rank) = owner
 
+-- the name of the array or the switch with this number
 abbrev pub name_in : List (List ℕ) → ℕ → List ℕ
 name_in switches w = unwrap_or (slice_get switches w) []
 

@@ -11,6 +11,7 @@ use Rattle.std.proofs.lemmas.Bool.{ltb-false}
 use Rattle.std.proofs.lemmas.List.Elements.{All-contains_itself, All-from_recursion, All-weaker}
 use Rattle.snap_core.specs.declared.ports.PortAt.{PortAt}
 use Rattle.snap_core.specs.declared.program.Which.TheVariants.{Demands}
+use Rattle.snap_core.specs.Ports.{port_in}
 use Rattle.snap_dep.specs.Ranks.{Grouping}
 use Rattle.snap_topo.specs.Answer.{is_unknown}
 use Rattle.snap_topo.specs.declared.topology.Topology.{Topology}
@@ -21,16 +22,12 @@ use Rattle.snap_seek.specs.declared.demand.DemandFault.TheVariants.{NotToml, Sha
 use Rattle.snap_seek.specs.declared.demand.Flow.{Flow}
 use Rattle.snap_seek.specs.declared.demand.TheConstants.{MOST_DEMANDS}
 use Rattle.snap_seek.specs.Answer.{GroupMay, IsDemandOf, Lists, PlacesThen, TellsLeast, TellsLeastOf, TellsNowhere, ends, first_fault, may, named, no_port, no_switch, no_variable, too_many}
-use Rattle.snap_seek.specs.Costs.{switch_at}
 use Rattle.snap_seek.specs.Faults.{ArePlaces, TellsPlaces}
 use Rattle.snap_seek.specs.Marks.{GroupMarked, mark_at}
 use Rattle.snap_seek.specs.Placements.{HasPorts, IsDemand, places_of}
 use Rattle.snap_seek.specs.Shape.{Spelled, spelled}
 use Rattle.snap_seek.proofs.Documents.{least}
-use Rattle.snap_seek.proofs.Marking.{Lists-by}
-
-abbrev Entries : Type 0
-Entries = List (List ℕ × List (List ℕ))
+use Rattle.snap_seek.proofs.Marking.{Lists-by, Entries}
 
 -- ---- marks stand for where arrays may stand
 
@@ -105,7 +102,7 @@ told-variable : (ports : List PortAt) (switches vars : List (List ℕ)) (s : Spe
 told-variable ports switches vars s name is =
     let e = NoVariable name in
     let second = or-later (too_many s.flows) (option_or (no_port ports s.flows) (option_or (no_variable vars s.allowed) (no_switch switches vars s.allowed))) e is (limit-test (nat_lt MOST_DEMANDS (length s.flows)) (length s.flows) name) in
-    let third = or-later (no_port ports s.flows) (option_or (no_variable vars s.allowed) (no_switch switches vars s.allowed)) e second (port-named (find (λ port. is_none (switch_at ports port)) (flat_map ends s.flows)) name) in
+    let third = or-later (no_port ports s.flows) (option_or (no_variable vars s.allowed) (no_switch switches vars s.allowed)) e second (port-named (find (λ port. is_none (port_in ports port)) (flat_map ends s.flows)) name) in
     let here = or-sooner (no_variable vars s.allowed) (no_switch switches vars s.allowed) e third (switch-named (find (is_unknown switches) (named vars s.allowed)) name) in
     variable-named (find (is_unknown vars) (keys_of s.allowed)) name here
 
@@ -146,11 +143,11 @@ port-step : (o : Option ℕ) (port : ℕ) (rest : Option ℕ) → cond (is_none 
 port-step (Some at) port rest is = (refl, is)
 port-step None port rest is = cc
 
-known-flows : (ports : List PortAt) (flows : List Flow) → find (λ port. is_none (switch_at ports port)) (flat_map ends flows) ≡ None → AllByRecursion (HasPorts ports) flows
+known-flows : (ports : List PortAt) (flows : List Flow) → find (λ port. is_none (port_in ports port)) (flat_map ends flows) ≡ None → AllByRecursion (HasPorts ports) flows
 known-flows ports [] none = tt
 known-flows ports (f ∷ flows) none =
-    let first = port-step (switch_at ports f.from) f.from (find (λ port. is_none (switch_at ports port)) (f.to ∷ flat_map ends flows)) none in
-    let second = port-step (switch_at ports f.to) f.to (find (λ port. is_none (switch_at ports port)) (flat_map ends flows)) first.1 in
+    let first = port-step (port_in ports f.from) f.from (find (λ port. is_none (port_in ports port)) (f.to ∷ flat_map ends flows)) none in
+    let second = port-step (port_in ports f.to) f.to (find (λ port. is_none (port_in ports port)) (flat_map ends flows)) first.1 in
     ((first.0, second.0), known-flows ports flows second.1)
 
 more-than-none : (xs : List ℕ) → xs ≢ [] → 1 ≤ length xs

@@ -5,7 +5,6 @@ use Rattle.std.specs.List.Sorted.{IsStrictlySortedBy}
 use Rattle.std.specs.Map.{keys_of}
 use Rattle.std.specs.Ordering.{nat_cmp}
 use Rattle.std.specs.Cmp.Lexicographic.{slice_cmp}
-use Rattle.std.specs.declared.cmp.Ordering.{Ordering}
 use Rattle.std.specs.declared.cmp.Ordering.TheVariants.{Less, Equal, Greater}
 use Rattle.std.proofs.lemmas.Bool.{cases_Bool, false≢true}
 use Rattle.std.proofs.lemmas.Cmp.{nat_list_cmp_total, tied_itself}
@@ -104,15 +103,12 @@ in-order es xs sorted is = subst (λ (ks : List (List ℕ)). IsStrictlySortedBy 
 abbrev IsNotBefore : (List ℕ → Bool) → List ℕ → List ℕ → Type 0
 IsNotBefore p k y = p y ≡ true → slice_cmp nat_cmp k y ≢ Greater
 
-not-greater : (o p : Ordering) → p ≢ Greater → o ≡ p → o ≢ Greater
-not-greater o p not is = λ e. not (sym is ∙ e)
-
 pub least : (p : List ℕ → Bool) (ks : List (List ℕ)) (k : List ℕ) → IsStrictlySortedBy (slice_cmp nat_cmp) ks → find p ks ≡ Some k → All (λ (y : List ℕ). p y ≡ true → slice_cmp nat_cmp k y ≢ Greater) ks
 unfolding IsStrictlySortedBy
 least p [] k order found = All-nil (IsNotBefore p k)
 least p (x ∷ xs) k order found =
     elim (cases_Bool (p x)) [
-      | inl yes' ↦ subst (λ (z : List ℕ). All (IsNotBefore p z) (x ∷ xs)) (same_Some _ _ (rw yes' at found)) (All-cons (IsNotBefore p x) x xs (λ _. not-greater _ Equal (λ g. cc) (tied_itself nat_list_cmp_total x))
-          (All-weaker (λ y. slice_cmp nat_cmp x y ≡ Less) (IsNotBefore p x) (λ y h _. not-greater _ Less (λ g. cc) h) xs (All-from_recursion (λ y. slice_cmp nat_cmp x y ≡ Less) xs order.0)))
+      | inl yes' ↦ subst (λ (z : List ℕ). All (IsNotBefore p z) (x ∷ xs)) (same_Some _ _ (rw yes' at found)) (All-cons (IsNotBefore p x) x xs (λ _ e. let other : Equal ≡ Greater = sym (tied_itself nat_list_cmp_total x) ∙ e in cc)
+          (All-weaker (λ y. slice_cmp nat_cmp x y ≡ Less) (IsNotBefore p x) (λ y h _ e. let other : Less ≡ Greater = sym h ∙ e in cc) xs (All-from_recursion (λ y. slice_cmp nat_cmp x y ≡ Less) xs order.0)))
       | inr no' ↦ All-cons (IsNotBefore p k) x xs (λ yes'. absurd (false≢true (sym no' ∙ yes'))) (least p xs k order.1 (rw no' at found))
     ]

@@ -103,7 +103,7 @@ known-more switches names i x text lt is same known =
 
 -- ---- names by variable
 
-abbrev Entries : Type 0
+abbrev pub Entries : Type 0
 Entries = List (List ℕ × List (List ℕ))
 
 abbrev names_for : Entries → List ℕ → List (List ℕ)

@@ -168,10 +168,10 @@ cost-same d f n trips xs same from to low =
     let t = slice_index_or trips k e in
     ap (λ (m : ℕ). t.weight * m) (along-same d f n same (xs ++ t.to ∷ []) t.from (from k e lt) (All-push (λ x. x < n) xs t.to low (to k e lt))))
 
-module _ (g : Grouping) (t : Topology) (x y : Table) (ord : IsOrdered g) (form : IsInForm t) (rx : AreRoutes t x) (ry : AreRoutes t y) where
-  same_distance : (a b : ℕ) → a < length t.switches → b < length t.switches → distance_of x a b ≡ distance_of y a b
-  same_distance a b la lb = distance-same (Linked t.links) a b (distance_of x a b) (distance_of y a b) (rx.distances a b la lb) (ry.distances a b la lb)
+pub same_distance : (t : Topology) (x y : Table) → AreRoutes t x → AreRoutes t y → (a b : ℕ) → a < length t.switches → b < length t.switches → distance_of x a b ≡ distance_of y a b
+same_distance t x y rx ry a b la lb = distance-same (Linked t.links) a b (distance_of x a b) (distance_of y a b) (rx.distances a b la lb) (ry.distances a b la lb)
 
+module _ (g : Grouping) (t : Topology) (x y : Table) (ord : IsOrdered g) (form : IsInForm t) (rx : AreRoutes t x) (ry : AreRoutes t y) where
   stops-below : (d : Demand) (owners : List ℕ) → IsDemand g t d → IsAllowed g d.allowed owners → All (λ s. s < length t.switches) (stops g owners)
   stops-below d owners is fits = All-map (λ s. s < length t.switches) (λ (v : ℕ). slice_index owners v) g.order
       (All-from_get_or (λ (v : ℕ). slice_index owners v < length t.switches) g.order 0 (λ i lt.
@@ -181,7 +181,7 @@ module _ (g : Grouping) (t : Topology) (x y : Table) (ord : IsOrdered g) (form :
   same-cost : (d : Demand) (owners : List ℕ) → IsDemand g t d → IsAllowed g d.allowed owners → cost x t.ports d.flows g owners ≡ cost y t.ports d.flows g owners
   same-cost d owners is fits =
       let n = length t.switches in
-      cost-same (distance_of x) (distance_of y) n (map (trip_of t.ports) d.flows) (stops g owners) same_distance (trips-below From n t.ports d.flows form.ports is.ports) (trips-below To n t.ports d.flows form.ports is.ports) (stops-below d owners is fits)
+      cost-same (distance_of x) (distance_of y) n (map (trip_of t.ports) d.flows) (stops g owners) (same_distance t x y rx ry) (trips-below From n t.ports d.flows form.ports is.ports) (trips-below To n t.ports d.flows form.ports is.ports) (stops-below d owners is fits)
 
   reversed : (o r : Ordering) → o ≢ Greater → r ≢ Greater → o ≡ ordering_reverse r → o ≡ Equal
   reversed Equal r a b is = refl

@@ -11,12 +11,13 @@ use Rattle.std.proofs.lemmas.List.Elements.{All-head, All-map, All-tail, All-wea
 use Rattle.std.proofs.lemmas.List.Sorted.{IsNonDecreasingBy-from_default}
 use Rattle.std.proofs.lemmas.Map.Keys.{below_from_sorted}
 use Rattle.snap_core.specs.declared.ports.PortAt.{PortAt}
+use Rattle.snap_core.specs.Ports.{port_in}
 use Rattle.snap_topo.specs.Form.{IsPort}
 use Rattle.snap_seek.specs.declared.demand.Flow.{Flow}
 use Rattle.snap_seek.specs.declared.trips.End.{End}
 use Rattle.snap_seek.specs.declared.trips.End.TheVariants.{From, To}
 use Rattle.snap_seek.specs.declared.trips.Trip.{Trip}
-use Rattle.snap_seek.specs.Costs.{switch_at, switch_of, trip_of}
+use Rattle.snap_seek.specs.Costs.{switch_of, trip_of}
 use Rattle.snap_seek.specs.Placements.{HasPorts}
 use Rattle.snap_seek.specs.Steps.{end_of}
 
@@ -27,12 +28,12 @@ abbrev nowhere : PortAt
 nowhere = record { port = 0; at = 0 }
 
 -- no port is the one that is looked for
-absent : (ports : List PortAt) (port : ℕ) → ((k : ℕ) → k < length ports → number (get_or ports k nowhere) ≢ port) → switch_at ports port ≡ None
+absent : (ports : List PortAt) (port : ℕ) → ((k : ℕ) → k < length ports → number (get_or ports k nowhere) ≢ port) → port_in ports port ≡ None
 absent [] port apart = refl
 absent (p ∷ ports) port apart = rw (ne_eqb p.port port (apart 0 (omega arith))) (absent ports port (λ k lt. apart (suc k) (omega arith)))
 
 -- the port at an index is looked for, and none before it is the same
-present : (ports : List PortAt) (port i : ℕ) → i < length ports → number (get_or ports i nowhere) ≡ port → ((k : ℕ) → k < i → number (get_or ports k nowhere) ≢ port) → switch_at ports port ≡ Some (get_or ports i nowhere).at
+present : (ports : List PortAt) (port i : ℕ) → i < length ports → number (get_or ports i nowhere) ≡ port → ((k : ℕ) → k < i → number (get_or ports k nowhere) ≢ port) → port_in ports port ≡ Some (get_or ports i nowhere).at
 present [] port i lt is apart = absurd (omega arith)
 present (p ∷ ports) port zero lt is apart = rw (eq-eqb p.port port is) refl
 present (p ∷ ports) port (suc i) lt is apart = rw (ne_eqb p.port port (apart 0 (omega arith))) (present ports port i (omega arith) is (λ k less. apart (suc k) (omega arith)))
@@ -54,33 +55,33 @@ module _ (ports : List PortAt) (rise : IsStrictlySortedBy nat_cmp (map number po
       grind (arith, nat_tests))
 
   -- the port at an index is the one that is looked for
-  found-there : (at : ℕ) → at < length ports → number (get_or ports at nowhere) ≡ port → switch_at ports port ≡ Some (get_or ports at nowhere).at
+  found-there : (at : ℕ) → at < length ports → number (get_or ports at nowhere) ≡ port → port_in ports port ≡ Some (get_or ports at nowhere).at
   found-there at in_range is = present ports port at in_range is (λ k lt same. let low = rises k at lt in_range in omega arith)
 
   -- what a search by number found
-  pub found-at : (at : ℕ) → IsSearchInRange (Ok at) (length ports) → IsBinarySearchResult (λ (p : PortAt). nat_cmp p.port port) ports (Ok at) → switch_at ports port ≡ Some (get_or ports at nowhere).at
+  pub found-at : (at : ℕ) → IsSearchInRange (Ok at) (length ports) → IsBinarySearchResult (λ (p : PortAt). nat_cmp p.port port) ports (Ok at) → port_in ports port ≡ Some (get_or ports at nowhere).at
   found-at at in_range equal =
       let is : number (get_or ports at nowhere) ≡ port = ranked _ port _ (sym (equal nowhere)) in
       found-there at in_range is
 
-  pub found-none : (at : ℕ) → IsSearchInRange (Err at) (length ports) → IsBinarySearchResult (λ (p : PortAt). nat_cmp p.port port) ports (Err at) → switch_at ports port ≡ None
+  pub found-none : (at : ℕ) → IsSearchInRange (Err at) (length ports) → IsBinarySearchResult (λ (p : PortAt). nat_cmp p.port port) ports (Err at) → port_in ports port ≡ None
   found-none at in_range parted =
       let before : (k : ℕ) → k < at → number (get_or ports k nowhere) < port = λ k lt. ranked _ port _ (sym ((parted compared).0 k nowhere (omega arith) lt)) in
       let after : (k : ℕ) → at ≤ k → k < length ports → port < number (get_or ports k nowhere) = λ k le lt. ranked _ port _ (sym ((parted compared).1 k nowhere le lt)) in
       absent ports port (λ k lt same. elim (cases_lt k at) [ inl less ↦ let low = before k less in omega arith | inr more ↦ let high = after k more lt in omega arith ])
 
 -- the port that a guess found
-pub found_near : (ports : List PortAt) (port place : ℕ) (entry : PortAt) → IsStrictlySortedBy nat_cmp (map number ports) → place < length ports → ((d : PortAt) → entry ≡ get_or ports place d) → entry.port ≡ port → switch_at ports port ≡ Some entry.at
+pub found_near : (ports : List PortAt) (port place : ℕ) (entry : PortAt) → IsStrictlySortedBy nat_cmp (map number ports) → place < length ports → ((d : PortAt) → entry ≡ get_or ports place d) → entry.port ≡ port → port_in ports port ≡ Some entry.at
 found_near ports port place entry rise within found is =
     let here = sym (found nowhere) in
     found-there ports rise port place within (ap number here ∙ is) ∙ ap (λ (p : PortAt). Some p.at) here
 
 -- the switch of a port that is there is one of the switches
-pub switch_of-below : (n : ℕ) (ports : List PortAt) (port : ℕ) → All (IsPort n) ports → IsSome (switch_at ports port) → switch_of ports port < n
+pub switch_of-below : (n : ℕ) (ports : List PortAt) (port : ℕ) → All (IsPort n) ports → IsSome (port_in ports port) → switch_of ports port < n
 switch_of-below n [] port all some = absurd (false≢true some)
 switch_of-below n (p ∷ ports) port all some = by-test (p.port == port) (All-head (IsPort n) p ports all).below (λ rest. switch_of-below n ports port (All-tail (IsPort n) p ports all) rest) some
   where
-    by-test : (b : Bool) → p.at < n → (IsSome (switch_at ports port) → switch_of ports port < n) → IsSome (cond b (Some p.at) (switch_at ports port)) → unwrap_or (cond b (Some p.at) (switch_at ports port)) 0 < n
+    by-test : (b : Bool) → p.at < n → (IsSome (port_in ports port) → switch_of ports port < n) → IsSome (cond b (Some p.at) (port_in ports port)) → unwrap_or (cond b (Some p.at) (port_in ports port)) 0 < n
     by-test true here rest some = here
     by-test false here rest some = rest some
 

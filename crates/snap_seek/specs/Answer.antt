@@ -11,6 +11,7 @@ use Rattle.std.specs.declared.cmp.Ordering.TheVariants.{Greater}
 use Rattle.snap_core.specs.declared.ports.PortAt.{PortAt}
 use Rattle.snap_core.specs.declared.program.Program.{Program}
 use Rattle.snap_core.specs.declared.program.Which.TheVariants.{Demands}
+use Rattle.snap_core.specs.Ports.{port_in}
 use Rattle.snap_dep.specs.Ranks.{Grouping, rank_of}
 use Rattle.snap_topo.specs.Answer.{is_unknown}
 use Rattle.snap_topo.specs.declared.topology.Topology.{Topology}
@@ -20,7 +21,6 @@ use Rattle.snap_seek.specs.declared.demand.DemandFault.{DemandFault}
 use Rattle.snap_seek.specs.declared.demand.DemandFault.TheVariants.{Limit, NoPort, NoVariable, NoSwitch, Nowhere}
 use Rattle.snap_seek.specs.declared.demand.Flow.{Flow}
 use Rattle.snap_seek.specs.declared.demand.TheConstants.{MOST_DEMANDS}
-use Rattle.snap_seek.specs.Costs.{switch_at}
 use Rattle.snap_seek.specs.Placements.{places_of}
 use Rattle.snap_seek.specs.Shape.{Spelled, spelled}
 
@@ -33,7 +33,7 @@ ends f = f.from ∷ f.to ∷ []
 
 -- the first port, as read, that isn't there
 abbrev pub no_port : List PortAt → List Flow → Option DemandFault
-no_port ports flows = option_map (λ port. NoPort port) (find (λ port. is_none (switch_at ports port)) (flat_map ends flows))
+no_port ports flows = option_map (λ port. NoPort port) (find (λ port. is_none (port_in ports port)) (flat_map ends flows))
 
 -- the first name, in the order of the entries, that is no array
 abbrev pub no_variable : List (List ℕ) → List (List ℕ × List (List ℕ)) → Option DemandFault

@@ -1,7 +1,8 @@
 -- What a placement costs.
-use Rattle.std.specs.Prelude.{ℕ, ◌+◌, ◌*◌, ◌++◌, ◌==◌, List, [], ◌∷◌, Option, Some, None, unwrap_or, if◌then◌else◌}
+use Rattle.std.specs.Prelude.{ℕ, ◌+◌, ◌*◌, ◌++◌, List, [], ◌∷◌, unwrap_or}
 use Rattle.std.specs.List.{sum_by}
 use Rattle.snap_core.specs.declared.ports.PortAt.{PortAt}
+use Rattle.snap_core.specs.Ports.{port_in}
 use Rattle.snap_seek.specs.declared.demand.Flow.{Flow}
 use Rattle.snap_seek.specs.declared.trips.Trip.{Trip}
 
@@ -10,13 +11,8 @@ abbrev pub along : (ℕ → ℕ → ℕ) → ℕ → List ℕ → ℕ
 along d at [] = 0
 along d at (next ∷ rest) = d at next + along d next rest
 
--- the switch at which a port is
-abbrev pub switch_at : List PortAt → ℕ → Option ℕ
-switch_at [] port = None
-switch_at (p ∷ ps) port = if p.port == port then Some p.at else switch_at ps port
-
 abbrev pub switch_of : List PortAt → ℕ → ℕ
-switch_of ports port = unwrap_or (switch_at ports port) 0
+switch_of ports port = unwrap_or (port_in ports port) 0
 
 -- a flow between the switches of its ports
 abbrev pub trip_of : List PortAt → Flow → Trip

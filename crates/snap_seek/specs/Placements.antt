@@ -6,6 +6,7 @@ use Rattle.std.specs.Cmp.Lexicographic.{slice_cmp}
 use Rattle.std.specs.declared.cmp.Ordering.TheVariants.{Greater}
 use Rattle.snap_core.specs.declared.policy.Pol.{Pol}
 use Rattle.snap_core.specs.declared.ports.PortAt.{PortAt}
+use Rattle.snap_core.specs.Ports.{port_in}
 use Rattle.snap_dep.specs.Ranks.{Grouping, IsGrouping, rank_of}
 use Rattle.snap_topo.specs.declared.topology.Topology.{Topology}
 use Rattle.snap_route.specs.Tables.{Table, distance_of}
@@ -13,7 +14,7 @@ use Rattle.snap_seek.specs.declared.best.Best.{Best}
 use Rattle.snap_seek.specs.declared.demand.Demand.{Demand}
 use Rattle.snap_seek.specs.declared.demand.Flow.{Flow}
 use Rattle.snap_seek.specs.declared.demand.TheConstants.{MOST_DEMANDS}
-use Rattle.snap_seek.specs.Costs.{cost_of, switch_at, trip_of}
+use Rattle.snap_seek.specs.Costs.{cost_of, trip_of}
 
 -- the groups are those of a program
 abbrev pub AreGroups : Grouping → Type 0
@@ -52,7 +53,7 @@ pub record IsBestOf (g : Grouping) (topology : Topology) (routes : Table) (deman
 
 -- both ports of a flow are there
 abbrev pub HasPorts : List PortAt → Flow → Type 0
-HasPorts ports f = IsSome (switch_at ports f.from) × IsSome (switch_at ports f.to)
+HasPorts ports f = IsSome (port_in ports f.from) × IsSome (port_in ports f.to)
 
 -- a demand that can be met: few flows between ports of the topology, and for each group switches at which it may stand
 pub record IsDemand (g : Grouping) (topology : Topology) (demand : Demand) : Type 0 where

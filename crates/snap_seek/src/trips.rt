@@ -5,7 +5,8 @@ ghost use Rattle.std.specs.List.{sum_by};
 ghost use Rattle.std.specs.List.Sorted.{IsStrictlySortedBy};
 ghost use Rattle.std.specs.Ordering.{nat_cmp};
 ghost use Rattle.snap_core.specs.declared.ports.PortAt.{PortAt};
-ghost use Rattle.snap_seek.specs.Costs.{switch_at, switch_of, trip_of};
+ghost use Rattle.snap_core.specs.Ports.{port_in};
+ghost use Rattle.snap_seek.specs.Costs.{switch_of, trip_of};
 ghost use Rattle.snap_seek.specs.Steps.{end_of};
 
 use crate::demand::Flow;
@@ -50,7 +51,7 @@ impl Trip {
 // does where numbers have no gaps.
 fn switch_near(ports: &[PortAt], port: u32) -> Option<u16>
     requires { IsStrictlySortedBy nat_cmp (map (λ (p : PortAt). p.port) ports.now) }
-    ensures { IfSome result (λ at. switch_at ports.now port ≡ Some at) }
+    ensures { IfSome result (λ at. port_in ports.now port ≡ Some at) }
 {
     let first = ports.first()?;
     let place = port.checked_sub(first.port)?;
@@ -65,7 +66,7 @@ fn switch_near(ports: &[PortAt], port: u32) -> Option<u16>
 /// The switch at which a port is. The ports rise.
 pub(crate) fn switch_at(ports: &[PortAt], port: u32) -> Option<u16>
     requires { IsStrictlySortedBy nat_cmp (map (λ (p : PortAt). p.port) ports.now) }
-    ensures { result ≡ switch_at ports.now port }
+    ensures { result ≡ port_in ports.now port }
 {
     if let Some(at) = switch_near(ports, port) {
         return Some(at);

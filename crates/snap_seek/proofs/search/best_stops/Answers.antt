@@ -1,4 +1,4 @@
-use Rattle.std.proofs.Common.{◌≡◌, ◌∙◌, ◌<◌, ◌∷◌, ℕ, IfOk, List, All, Result, Ok, Err, ap, subst}
+use Rattle.std.proofs.Common.{◌≡◌, ◌∙◌, ◌<◌, ◌∷◌, ℕ, List, All, ap, subst}
 use Rattle.std.proofs.lemmas.List.Elements.{All-contains, All-get_or}
 use Rattle.std.proofs.lemmas.Result.{IfOk-weaker}
 use Rattle.std.specs.List.{Contains}
@@ -8,6 +8,7 @@ use Rattle.snap_seek.specs.Placements.{places_of}
 use Rattle.snap_seek.specs.Steps.{IsBest, choices, over, path}
 use Rattle.snap_seek.proofs.Bests.{follows, found-first}
 use Rattle.snap_seek.proofs.search.best_stops.Goals as goal
+use Rattle.snap_core.proofs.Results.{IfOk-both}
 
 pub stops_from-requires-clause-rows : goal.stops_from-requires-clause-rows
 stops_from-requires-clause-rows c =
@@ -26,14 +27,10 @@ returns-clause-best c =
     c.of.result.now c.deref.result.now c.deref-2.result.now found.switches.items c.requires.some c.of.ensures c.deref.ensures.value c.deref-2.ensures.value c.in_ok-near.ensures.costs c.requires.below
     c.cheapest-first.ensures c.in_ok-plan.ensures.plan is).0) c.stops_from.ensures.way
 
-both-ok : {X E : Type 0} (r : Result X E) (P Q R : X → Type 0) → ((x : X) → P x → Q x → R x) → IfOk r P → IfOk r Q → IfOk r R
-both-ok (Ok x) P Q R step p q = step x p q
-both-ok (Err e) P Q R step p q = tt
-
 pub returns-clause-cost : goal.returns-clause-cost
 returns-clause-cost c =
     let first = c.cheapest-first.result in
-    both-ok c.stops_from.result (λ found. found.switches.items ≡ first ∷ path c.in_ok-plan.plan.nexts.items first) (λ found. found.cost ≡ over c.deref-3.result.now c.in_ok-plan.plan.costs.items first)
+    IfOk-both c.stops_from.result (λ found. found.switches.items ≡ first ∷ path c.in_ok-plan.plan.nexts.items first) (λ found. found.cost ≡ over c.deref-3.result.now c.in_ok-plan.plan.costs.items first)
     (λ found. found.cost ≡ cost_of (distance_of c.args.routes.now) c.args.trips.now found.switches.items)
     (λ found is costs. costs ∙ ap (λ (xs : List ℕ). over xs c.in_ok-plan.plan.costs.items first) c.deref-3.ensures.value
     ∙ (found-first c.args.routes.now c.args.trips.now c.args.order.now c.args.allowed.now c.args.count first c.in_ok-plan.plan.nexts.items c.in_ok-near.near.items c.in_ok-plan.plan.costs.items
