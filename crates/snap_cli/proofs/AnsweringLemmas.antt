@@ -101,7 +101,7 @@ module _ (spells : SpellsOneProgram) (exactly : AnswersExactly) (compiles : Comp
       let made = compiled exactly compiles c.files c.program c.topology c.placement c.on_demand file wrote.did in
       let of = made.1 in
       let core = spells (file_of c.files c.program) (Ok of.0) (Ok c.p) of.3.the_program c.the_program in
-      let topology : of.1 ≡ c.t = (let e = topology_once (file_of c.files c.topology) (Ok of.1) (Ok c.t) of.3.the_topology c.the_topology in cc) in
+      let topology : of.1 ≡ c.t = topology_once (file_of c.files c.topology) (Ok of.1) (Ok c.t) of.3.the_topology c.the_topology in
       let shape = of.4.0.shape in (
         made.0,
         record {

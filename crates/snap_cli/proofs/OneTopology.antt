@@ -22,6 +22,7 @@ use Rattle.snap_cli.specs.declared.refusal.TopologyFault.{TopologyFault}
 use Rattle.snap_cli.specs.declared.refusal.TopologyFault.TheVariants.{NotToml, Shape, SwitchTwice, UnknownSwitch}
 use Rattle.snap_cli.specs.RoutesSteps.{refusal_of_topology}
 use Rattle.snap_cli.specs.TopologyOf.{SpellsTopology, TopologyOf, fault_of}
+use Rattle.snap_cli.proofs.Pipeline.{Agree, Alike, alike, within_once}
 use Rattle.snap_cli.proofs.Rising.{same_rising}
 
 abbrev Rises : ℕ × ℕ → ℕ × ℕ → Type 0
@@ -84,8 +85,5 @@ spells_once text a b h k =
     let y = answered text b k in
     x.2 ∙ (ap told (spelled_once (spelled (document text)) x.0 y.0 x.1 y.1) ∙ sym y.2)
 
-pub topology_once : (file : List ℕ) (a b : Result Topology Refusal) → TopologyOf file a → TopologyOf file b → a ≡ b
-topology_once file a b (inl h) (inl k) = h.1 ∙ sym k.1
-topology_once file a b (inl h) (inr k) = let long = h.0 in let short = k.0 in absurd (omega (arith, long, short))
-topology_once file a b (inr h) (inl k) = let short = h.0 in let long = k.0 in absurd (omega (arith, long, short))
-topology_once file a b (inr h) (inr k) = spells_once file a b h.1 k.1
+pub topology_once : (file : List ℕ) → Agree (Alike ◌≡◌) (TopologyOf file) (TopologyOf file)
+topology_once file = alike (within_once _ _ _ _ _ (spells_once file))
