@@ -51,9 +51,7 @@ judged_once p q same (Ok u) (Ok v) h k = inl refl
 judged_once p q same (Ok u) (Err (Race text)) h k = absurd (never_both p q same h k.0 k.1 k.2)
 judged_once p q same (Err (Race text)) (Ok v) h k = absurd (never_both q p (sym same) k h.0 h.1 h.2)
 judged_once p q same (Err (Race text)) (Err (Race other)) h k = inr tt
-judged_once p q same (Ok u) (Err e) h k = absurd k
-judged_once p q same (Err (Race text)) (Err e) h k = absurd k
-judged_once p q same (Err e) b h k = absurd h
+judged_once p q same a b h k = absurd search
 
 pub text_judged_once : (p q : Program) → core_program p ≡ core_program q → Agree ◌≡◌ (IsJudgedText p) (IsJudgedText q)
 text_judged_once p q same a b =

@@ -53,12 +53,18 @@ module _ (p q : Program) (same : core_program p ≡ core_program q) where
 -- ---- the command
 
 module _ (files : Files) (program topology placement : List ℕ) (on_demand : Bool) where
-  -- the text of tables for a program, a topology with routes and a placement, or why there is none
+  abbrev Fails : Refusal → Result (List ℕ) Refusal → Type 0
+  Fails e r = r ≡ Err e
+
+  -- the text of tables for a placement, a topology with routes and a program, or why there is none
+  abbrev WithPlacement : Program → Topology → Result (List ℕ) Refusal → Type 0
+  WithPlacement p t = After (PlacementOf p t (file_of files placement)) Fails (Made p t on_demand)
+
+  abbrev WithTopology : Program → Result (List ℕ) Refusal → Type 0
+  WithTopology p = After (Routed (file_of files topology)) Fails (WithPlacement p)
+
   abbrev pub GivesTables : Result (List ℕ) Refusal → Type 0
-  GivesTables =
-      After (ProgramOf (file_of files program)) (λ e r. r ≡ Err e)
-      (λ p. After (Routed (file_of files topology)) (λ e r. r ≡ Err e)
-      (λ t. After (PlacementOf p t (file_of files placement)) (λ e r. r ≡ Err e) (Made p t on_demand)))
+  GivesTables = After (ProgramOf (file_of files program)) Fails WithTopology
 
   pub no_tables : (e : Refusal) → HasNoTables files program topology placement e → GivesTables (Err e)
   no_tables e (inl h) = inl (e, h, refl)
@@ -70,37 +76,37 @@ module _ (files : Files) (program topology placement : List ℕ) (on_demand : Bo
   tables_text_of text (tables, (p, t, places, is, made), back, same) =
       inr (p, is.the_program, inr (t, (is.has_routes.0, is.the_topology, is.has_routes.1), inr (places, is.the_placement, (tables, made, back, same))))
 
-module _ (spells : SpellsOneProgram) (files : Files) (program topology placement : List ℕ) (on_demand : Bool) where
-  pub tables_once : Agree (IsSameOutcome (λ a b. Unit {0})) (GivesTables files program topology placement on_demand) (GivesTables files program topology placement on_demand)
-  tables_once =
-      after_once (one_program spells (file_of files program)) _ _ _ _ (refused_alike _)
-      (λ p q same h k. next_once (routed_once (file_of files topology)) _ _ _ _ (refused_alike _)
-      (λ t is. after_once (placement_once p q same t (file_of files placement)) _ _ _ _ (refused_alike _) (λ places others alike m n. made_once p q same t on_demand places others)))
+  module _ (spells : SpellsOneProgram) where
+    pub tables_once : Agree (IsSameOutcome (λ a b. Unit {0})) GivesTables GivesTables
+    tables_once =
+        after_once (one_program spells (file_of files program)) _ _ _ _ (refused_alike _)
+        (λ p q same h k. next_once (routed_once (file_of files topology)) _ _ _ _ (refused_alike _)
+        (λ t is. after_once (placement_once p q same t (file_of files placement)) _ _ _ _ (refused_alike _) (λ places others alike m n. made_once p q same t on_demand places others)))
 
-  -- what came of a program, a topology with routes and a placement
-  module _ (p : Program) (t : Topology) (places : List ℕ) (spelled : AreSpelled files program topology placement p t places) where
-    told-race : (e : Refusal) → HasNoTables files program topology placement e → Races p × (status_of (Err e) ≡ 10)
-    told-race e h =
-        let (q, same, is, on) = past (one_program spells (file_of files program)) _ _ p spelled.the_program (Err e) (no_tables files program topology placement on_demand e h) in
-        let (u, at, was, rest) = past (routed_once (file_of files topology)) _ _ t (spelled.has_routes.0, spelled.the_topology, spelled.has_routes.1) (Err e) on in
-        let here = subst (λ (v : Topology). PlacementOf p v (file_of files placement) (Ok places)) at spelled.the_placement in
-        judged_race q p (sym same) e (past (placement_once p q same u (file_of files placement)) _ _ places here (Err e) rest).3
+    -- what came of a program, a topology with routes and a placement
+    module _ (p : Program) (t : Topology) (places : List ℕ) (spelled : AreSpelled files program topology placement p t places) where
+      told-race : (e : Refusal) → HasNoTables files program topology placement e → Races p × (status_of (Err e) ≡ 10)
+      told-race e h =
+          let (q, same, is, on) = past (one_program spells (file_of files program)) Fails WithTopology p spelled.the_program (Err e) (no_tables e h) in
+          let (u, at, was, rest) = past (routed_once (file_of files topology)) Fails (WithPlacement q) t (spelled.has_routes.0, spelled.the_topology, spelled.has_routes.1) (Err e) on in
+          let here = subst (λ (v : Topology). PlacementOf p v (file_of files placement) (Ok places)) at spelled.the_placement in
+          judged_race q p (sym same) e (past (placement_once p q same u (file_of files placement)) Fails (Made q u on_demand) places here (Err e) rest).3
 
-    no-race : (text : List ℕ) → IsCompiled files program topology placement on_demand text → Races p → ⊥
-    no-race text (tables, (q, u, also, is, made), back, same) (m, k, race) =
-        never_races q made.0.defined m k (same_race p q (spells (file_of files program) (Ok p) (Ok q) spelled.the_program is.the_program) m k race)
+      no-race : (text : List ℕ) → IsCompiled files program topology placement on_demand text → Races p → ⊥
+      no-race text (tables, (q, u, also, is, made), back, same) (m, k, race) =
+          never_races q made.0.defined m k (same_race p q (spells (file_of files program) (Ok p) (Ok q) spelled.the_program is.the_program) m k race)
 
-    module _ (status : ℕ) (out_old out_new : Option (List ℕ)) (err_before err_now : ℕ) (err_old err_new : Option (List ℕ)) where
-      abbrev pub Came : Type 0
-      Came =
-          ((status ≡ 0) × (Races p → ⊥) × ((text : List ℕ) × IsCompiled files program topology placement on_demand text × Appends out_old out_new text))
-          ⊎ ((status ≡ 10) × Races p × Appends out_old out_new [])
+      module _ (status : ℕ) (out_old out_new : Option (List ℕ)) (err_before err_now : ℕ) (err_old err_new : Option (List ℕ)) where
+        abbrev pub Came : Type 0
+        Came =
+            ((status ≡ 0) × (Races p → ⊥) × ((text : List ℕ) × IsCompiled files program topology placement on_demand text × Appends out_old out_new text))
+            ⊎ ((status ≡ 10) × Races p × Appends out_old out_new [])
 
-      with-text : (e : Ending) (text : List ℕ) → EndsCompile files program topology placement on_demand e → IsCompileText files program topology placement on_demand text → status ≡ status_of e → Appends out_old out_new text → Came
-      with-text (Ok u) text h (inl k) is out = absurd (tables_once (Ok h.0) (Err k.0) (tables_text_of files program topology placement on_demand h.0 h.1) (no_tables files program topology placement on_demand k.0 k.1))
-      with-text (Ok u) text h (inr k) is out = inl (is, no-race text k, (text, k, out))
-      with-text (Err e) text h (inl k) is out = let race = told-race e h in inr (is ∙ race.1, race.0, subst (Appends out_old out_new) k.2 out)
-      with-text (Err e) text h (inr k) is out = absurd (tables_once (Ok text) (Err e) (tables_text_of files program topology placement on_demand text k) (no_tables files program topology placement on_demand e h))
+        with-text : (e : Ending) (text : List ℕ) → EndsCompile files program topology placement on_demand e → IsCompileText files program topology placement on_demand text → status ≡ status_of e → Appends out_old out_new text → Came
+        with-text (Ok u) text h (inl k) is out = absurd (tables_once (Ok h.0) (Err k.0) (tables_text_of h.0 h.1) (no_tables k.0 k.1))
+        with-text (Ok u) text h (inr k) is out = inl (is, no-race text k, (text, k, out))
+        with-text (Err e) text h (inl k) is out = let race = told-race e h in inr (is ∙ race.1, race.0, subst (Appends out_old out_new) k.2 out)
+        with-text (Err e) text h (inr k) is out = absurd (tables_once (Ok text) (Err e) (tables_text_of text k) (no_tables e h))
 
-      pub came : (e : Ending) (text : List ℕ) → IsDue files (compile program topology placement on_demand) e text → IsExact e text status out_old out_new err_before err_now err_old err_new → Came
-      came e text due exact = with-text e text due.ends due.has_text exact.status_is exact.out
+        pub came : (e : Ending) (text : List ℕ) → IsDue files (compile program topology placement on_demand) e text → IsExact e text status out_old out_new err_before err_now err_old err_new → Came
+        came e text due exact = with-text e text due.ends due.has_text exact.status_is exact.out

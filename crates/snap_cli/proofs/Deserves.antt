@@ -1,5 +1,5 @@
 -- Each command deserves one ending and one text: its steps give one result each.
-use Rattle.std.proofs.Common.{◌≡◌, ℕ, List, Ok, Err, sym, ◌∙◌, inl, inr}
+use Rattle.std.proofs.Common.{ℕ, Ok, sym, ◌∙◌, inl, inr}
 use Rattle.snap_core.specs.declared.policy.Pol.{Pol}
 use Rattle.snap_core.specs.Listing.{HasOneListing}
 use Rattle.snap_dep.specs.Dependencies.{TiedIsEquivalence, UsesBelow}
@@ -51,7 +51,7 @@ module _ (one : StepsAreOne) (files : Files) where
       ends_once (places_once files program topology demand one.spells one.tied one.ranks) (EndsPlace files program topology demand)
       (λ h. (h.0, placement_text_of files program topology demand h.0 h.1)) (no_placement files program topology demand)
   ending_once (compile program topology placement on_demand) =
-      ends_once (tables_once one.spells files program topology placement on_demand) (EndsCompile files program topology placement on_demand)
+      ends_once (tables_once files program topology placement on_demand one.spells) (EndsCompile files program topology placement on_demand)
       (λ h. (h.0, tables_text_of files program topology placement on_demand h.0 h.1)) (no_tables files program topology placement on_demand)
   ending_once (trace tables packets hops order) =
       let file = file_of files tables in
@@ -78,7 +78,7 @@ module _ (one : StepsAreOne) (files : Files) where
       let text = placement_text_of files program topology demand in
       text_once once _ _ (no_placement files program topology demand) text (λ a b h k. inl (h ∙ sym k)) (λ a b h k. inl (once (Ok a) (Ok b) (text a h) (text b k)))
   text_of_once (compile program topology placement on_demand) =
-      text_once (tables_once one.spells files program topology placement on_demand) _ _ (no_tables files program topology placement on_demand)
+      text_once (tables_once files program topology placement on_demand one.spells) _ _ (no_tables files program topology placement on_demand)
       (tables_text_of files program topology placement on_demand) (λ a b h k. inl (h ∙ sym k)) (λ a b h k. inr (h, k))
   text_of_once (trace tables packets hops order) =
       let file = file_of files tables in

@@ -79,11 +79,7 @@ module _ (p q r s : Program) (left : core_program p ≡ core_program r) (right :
   compared_once (Err (Differ text)) (Err Declarations) h k = absurd (k (alike p q r s left right h.0.declared))
   compared_once (Err (Differ text)) (Err (Race other)) h k = absurd (race_never r s p q (sym left) (sym right) other.items k.1 h.0)
   compared_once (Err (Differ text)) (Err (Differ other)) h k = inr tt
-  compared_once (Ok u) (Err e) h k = absurd k
-  compared_once (Err Declarations) (Err e) h k = absurd k
-  compared_once (Err (Race text)) (Err e) h k = absurd k
-  compared_once (Err (Differ text)) (Err e) h k = absurd k
-  compared_once (Err e) b h k = absurd h
+  compared_once a b h k = absurd search
 
   text_compared_once : Agree ◌≡◌ (IsComparedText p q) (IsComparedText r s)
   text_compared_once a b =
@@ -99,6 +95,12 @@ module _ (p q r s : Program) (left : core_program p ≡ core_program r) (right :
   compared_status calm (Err e) h = absurd h
 
 -- ---- the command
+abbrev Fails : Refusal → Ending → Type 0
+Fails e ending = ending ≡ Err e
+
+abbrev Empty : Refusal → List ℕ → Type 0
+Empty e text = text ≡ []
+
 -- the first program, the second, and what is made of both
 module _ {Y : Type 0} (files : Files) (left right : List ℕ) (Refuses : Refusal → Y → Type 0) (Both : Program → Program → Y → Type 0) where
   abbrev pub Reads : Y → Type 0
@@ -119,15 +121,15 @@ module _ (spells : SpellsOneProgram) (files : Files) (left right : List ℕ) whe
       (λ p r first h k. after_once (one_program spells (file_of files right)) _ _ _ _ refused (λ q s second m n. both p q r s first second))
 
   pub ends_equal_once : Agree IsSameEnding (EndsEqual files left right) (EndsEqual files left right)
-  ends_equal_once a b h k = both_once (λ e x. x ≡ Err e) EndsCompared relayed compared_once a b (reads files left right _ _ a h) (reads files left right _ _ b k)
+  ends_equal_once a b h k = both_once Fails EndsCompared relayed compared_once a b (reads files left right Fails EndsCompared a h) (reads files left right Fails EndsCompared b k)
 
   pub equal_text_once : Agree ◌≡◌ (IsEqualText files left right) (IsEqualText files left right)
-  equal_text_once a b h k = both_once (λ e x. x ≡ []) IsComparedText (λ e x y m n. m ∙ sym n) text_compared_once a b (reads files left right _ _ a h) (reads files left right _ _ b k)
+  equal_text_once a b h k = both_once Empty IsComparedText (λ e x y m n. m ∙ sym n) text_compared_once a b (reads files left right Empty IsComparedText a h) (reads files left right Empty IsComparedText b k)
 
   -- the status of two programs that were read
   pub equal_status : (p q : Program) → ProgramOf (file_of files left) (Ok p) → ProgramOf (file_of files right) (Ok q) → AreComparable p q → (e : Ending) → EndsEqual files left right e
       → ((status_of e ≡ 0) × MeanSame p q) ⊎ ((status_of e ≡ 18) × Differs p q)
   equal_status p q l r calm e h =
-      let (other, first, is, rest) = past (one_program spells (file_of files left)) _ _ p l e (reads files left right (λ f x. x ≡ Err f) EndsCompared e h) in
-      let (another, second, was, compared) = past (one_program spells (file_of files right)) _ _ q r e rest in
+      let (other, first, is, rest) = past (one_program spells (file_of files left)) Fails (λ p. After (ProgramOf (file_of files right)) Fails (EndsCompared p)) p l e (reads files left right Fails EndsCompared e h) in
+      let (another, second, was, compared) = past (one_program spells (file_of files right)) Fails (EndsCompared other) q r e rest in
       compared_status other another p q (sym first) (sym second) calm e compared

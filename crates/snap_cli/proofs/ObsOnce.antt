@@ -1,5 +1,5 @@
 -- A run on one big switch ends in one way, with one text.
-use Rattle.std.proofs.Common.{◌≡◌, ◌++◌, ◌+◌, ◌<◌, ℕ, Bool, true, false, ltb, List, take, Option, Some, Ok, Err, refl, sym, ◌∙◌, ap, subst, inl, inr, arith}
+use Rattle.std.proofs.Common.{◌≡◌, ◌++◌, ◌+◌, ◌<◌, ℕ, Bool, true, false, ltb, List, take, Option, Some, Err, refl, sym, ◌∙◌, ap, subst, inl, inr, arith}
 use Rattle.std.specs.Option.{unwrap_or}
 use Rattle.std.proofs.lemmas.Bool.{ltb-false, ltb-true}
 use Rattle.std.proofs.lemmas.List.{take-take}
@@ -16,11 +16,8 @@ use Rattle.snap_cli.specs.Refusals.{Ending}
 use Rattle.snap_trace.proofs.SwitchLemmas.{switch-take}
 
 pub run_ends_once : (r : RunEnding) (a b : Ending) → IsRunEnding r a → IsRunEnding r b → a ≡ b
-run_ends_once (Ok u) a b h k = h ∙ sym k
-run_ends_once (Err (run.Limit which count)) a b h k = h ∙ sym k
-run_ends_once (Err (run.Packets line)) a b h k = h ∙ sym k
-run_ends_once (Err (run.Undefined packet)) a b h k = h ∙ sym k
-run_ends_once (Err fault) a b h k = absurd h
+run_ends_once (Err run.Read) a b h k = absurd h
+run_ends_once r a b h k = search
 
 -- a run's ending and its text are one
 abbrev pub AreOne : {E : Type 0} → (E → List ℕ → Type 0) → Type 0

@@ -1,5 +1,5 @@
 -- A file spells one topology at most, or is refused for one reason.
-use Rattle.std.proofs.Common.{◌≡◌, ℕ, List, [], ◌∷◌, Option, Some, None, Result, Ok, Err, refl, sym, ◌∙◌, ap, inl, inr, arith}
+use Rattle.std.proofs.Common.{◌≡◌, ℕ, List, [], ◌∷◌, Option, Some, None, Result, Ok, Err, refl, sym, ◌∙◌, ap, arith}
 use Rattle.std.specs.List.{AllPairs}
 use Rattle.std.specs.List.Sorted.{IsStrictlySortedBy}
 use Rattle.std.specs.Ordering.{ordering_reverse}
@@ -19,7 +19,7 @@ use Rattle.snap_topo.proofs.Pairs.{link_cmp_total}
 use Rattle.snap_cli.specs.declared.refusal.Refusal.{Refusal}
 use Rattle.snap_cli.specs.declared.refusal.Refusal.TheVariants as refused
 use Rattle.snap_cli.specs.declared.refusal.TopologyFault.{TopologyFault}
-use Rattle.snap_cli.specs.declared.refusal.TopologyFault.TheVariants.{NotToml, Shape, SwitchTwice, UnknownSwitch}
+use Rattle.snap_cli.specs.declared.refusal.TopologyFault.TheVariants.{NotToml}
 use Rattle.snap_cli.specs.RoutesSteps.{refusal_of_topology}
 use Rattle.snap_cli.specs.TopologyOf.{SpellsTopology, TopologyOf, fault_of}
 use Rattle.snap_cli.proofs.Pipeline.{Agree, Alike, alike, within_once}
@@ -69,9 +69,7 @@ told (Err fault) = Err (refusal_of_topology fault)
 
 fault_told : (fault : TopologyFault) → Err (refused.Topology fault) ≡ told (Err (fault_of fault))
 fault_told NotToml = refl
-fault_told (Shape rule) = refl
-fault_told (SwitchTwice name) = refl
-fault_told (UnknownSwitch name) = refl
+fault_told fault = refl
 
 answered : (text : List ℕ) (a : Result Topology Refusal) → SpellsTopology text a → (x : Result Topology TopoFault) × IsAnswer text x × (a ≡ told x)
 answered text (Ok t) h = (Ok t, h, refl)

@@ -1,6 +1,5 @@
 -- Where each step of a command gives one result at most, the command ends in one way.
 use Rattle.std.proofs.Common.{◌≡◌, ◌⊎◌, ℕ, ◌<◌, ◌≤◌, List, [], Result, Ok, Err, refl, sym, ◌∙◌, subst, inl, inr, arith}
-use Rattle.snap_core.specs.declared.program.Program.{Program}
 use Rattle.snap_names.specs.Declarations.{core_program}
 use Rattle.snap_cli.specs.declared.refusal.Refusal.{Refusal}
 use Rattle.snap_cli.specs.Laws.{IsSameEnding, SpellsOneProgram}

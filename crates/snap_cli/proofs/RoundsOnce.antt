@@ -1,5 +1,5 @@
 -- A run by rounds ends in one way, with one text.
-use Rattle.std.proofs.Common.{◌≡◌, Bool, sym, ◌∙◌, List, ℕ}
+use Rattle.std.proofs.Common.{Bool, sym, ◌∙◌, List, ℕ}
 use Rattle.snap_io.specs.Files.{Files, file_of}
 use Rattle.snap_rows.specs.declared.tables.Tables.{Tables}
 use Rattle.snap_rows.specs.Form.{IsInForm}

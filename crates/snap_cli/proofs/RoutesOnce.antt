@@ -27,13 +27,19 @@ module _ (file : List ℕ) where
   Routed (Ok t) = (table : Table) × TopologyOf file (Ok t) × AreRoutes t table
   Routed (Err e) = HasNoRoutes file e
 
-  searched : (r : Result Topology Refusal) → Routed r → After (TopologyOf file) (λ e s. s ≡ Err e) Searched r
+  abbrev Reads : Result Topology Refusal → Type 0
+  Reads = After (TopologyOf file) (λ e r. r ≡ Err e) Searched
+
+  reads_once : Agree ◌≡◌ Reads Reads
+  reads_once = next_once (topology_once file) _ _ _ _ (λ e a b h k. h ∙ sym k) (λ t is. searched_once t)
+
+  searched : (r : Result Topology Refusal) → Routed r → Reads r
   searched (Ok t) h = inr (t, h.1, inl ((h.0, h.2), refl))
   searched (Err (Unreachable switches a b)) h = inr (h.0, h.1, inr (a, b, h.2, ap (λ names. Err (Unreachable names a b)) h.3))
   searched (Err e) h = inl (e, h, refl)
 
   pub routed_once : Agree (Alike ◌≡◌) Routed Routed
-  routed_once = alike (λ r s h k. next_once (topology_once file) _ _ _ _ (λ e a b m n. m ∙ sym n) (λ t is. searched_once t) r s (searched r h) (searched s k))
+  routed_once = alike (λ r s h k. reads_once r s (searched r h) (searched s k))
 
   -- the text of its routes, or why there is none
   abbrev pub GivesRoutes : Result (List ℕ) Refusal → Type 0

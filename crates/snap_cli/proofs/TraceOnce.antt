@@ -84,7 +84,7 @@ module _ (one : ReadsOneWay) (files : Files) (tables packets : List ℕ) (hops :
   module _ (order : Order) (ending : Ending) (text : List ℕ) (due : IsDue files (trace tables packets hops order) ending text) where
     due_runs : NetworkRunsTo files t packets hops order ending text
     due_runs =
-        let (u, same, read, (other, ran)) = past (one_tables one (file_of files tables)) _ _ t spelled ending due.ends in
+        let (u, same, read, (other, ran)) = past (one_tables one (file_of files tables)) (λ e a. a ≡ Err e) (λ u a. (x : List ℕ) × NetworkRunsTo files u packets hops order a x) t spelled ending due.ends in
         let ours = subst (λ v. NetworkRunsTo files v packets hops order ending other) (sym same) ran in
         subst (NetworkRunsTo files t packets hops order ending) (same_text files tables packets hops order other text (due.no_other_text other (inr (t, spelled, text_of order ending other ours)))) ours
 
