@@ -55,21 +55,29 @@ module _ (one : ReadsOneWay) (files : Files) (first : Tables) where
   pub tables_once : (lines : List ℕ) → Agree (Alike ◌≡◌) (ChangedTables files first lines) (ChangedTables files first lines)
   tables_once lines = alike (next_once (alike (said_once (file_of files lines))) _ _ _ _ (λ e a b h k. h ∙ sym k) (λ cs is. later_once cs))
 
-  -- tables that were read are in form
-  later_form : (cs : List Change) (r : Result (List Later) Refusal) → LaterOf files first cs r → (ls : List Later) → r ≡ Ok ls → All (λ (l : Later). IsInForm l.tables) ls
-  later_form [] r h ls is = let none : ◌≡◌ {A = List Later} [] ls = cc in subst (All (λ (l : Later). IsInForm l.tables)) none (All-nil (λ (l : Later). IsInForm l.tables))
-  later_form (c ∷ cs) r (inl h) ls is = absurd (let e = h.2 in cc)
-  later_form (c ∷ cs) r (inr h) ls is = by h.2.0 (later_form cs h.2.0 h.2.1) (sym h.2.2 ∙ is)
+-- ---- what was read
+module _ (files : Files) (first : Tables) where
+  -- all were read, so each of them can come into force
+  pub data AreRead : List Change → List Later → Type 0 where
+    read_none : AreRead [] []
+    read_one : {c : Change} {cs : List Change} {l : Later} {ls : List Later} → l.after ≡ c.after → TablesOf (file_of files c.name) (Ok l.tables) → HaveOneShape l.tables first → AreRead cs ls → AreRead (c ∷ cs) (l ∷ ls)
+
+  all_read : (cs : List Change) (r : Result (List Later) Refusal) → LaterOf files first cs r → (ls : List Later) → r ≡ Ok ls → AreRead cs ls
+  all_read [] r h ls is = let e : ◌≡◌ {A = List Later} [] ls = cc in subst (AreRead []) e read_none
+  all_read (c ∷ cs) r (inl h) ls is = absurd (let e = h.2 in cc)
+  all_read (c ∷ cs) r (inr h) ls is = by h.2.0 (all_read cs h.2.0 h.2.1) (sym h.2.2 ∙ is)
     where
-      by : (o : Result (List Later) Refusal) → ((ms : List Later) → o ≡ Ok ms → All (λ (l : Later). IsInForm l.tables) ms) → before (h.0 ∷ []) o ≡ Ok ls → All (λ (l : Later). IsInForm l.tables) ls
-      by (Ok ms) f e =
-          let same : h.0 ∷ ms ≡ ls = cc in
-          subst (All (λ (l : Later). IsInForm l.tables)) same (All-cons (λ (l : Later). IsInForm l.tables) h.0 ms (spelled_form (file_of files c.name) h.0.tables h.1.spelled) (f ms refl))
+      by : (o : Result (List Later) Refusal) → ((ms : List Later) → o ≡ Ok ms → AreRead cs ms) → before (h.0 ∷ []) o ≡ Ok ls → AreRead (c ∷ cs) ls
+      by (Ok ms) f e = let same : h.0 ∷ ms ≡ ls = cc in subst (AreRead (c ∷ cs)) same (read_one h.1.after h.1.spelled h.1.shape (f ms refl))
       by (Err x) f e = absurd (cc)
 
-  forms : (lines : List ℕ) (later : List Later) → ChangedTables files first lines (Ok later) → All (λ (l : Later). IsInForm l.tables) later
-  forms lines later (inl h) = absurd (let e = h.2 in cc)
-  forms lines later (inr h) = later_form h.0 (Ok later) h.2 later refl
+  pub changes_read : (lines : List ℕ) (ls : List Later) → ChangedTables files first lines (Ok ls) → (cs : List Change) × ChangesOf (file_of files lines) (Ok cs) × AreRead cs ls
+  changes_read lines ls (inl h) = absurd (let e = h.2 in cc)
+  changes_read lines ls (inr h) = (h.0, h.1, all_read h.0 (Ok ls) h.2 ls refl)
+
+  read_forms : {cs : List Change} {ls : List Later} → AreRead cs ls → All (λ (x : Later). IsInForm x.tables) ls
+  read_forms read_none = All-nil (λ (x : Later). IsInForm x.tables)
+  read_forms (read_one {c = c} {l = l} {ls = ls} after is shape rest) = All-cons (λ (x : Later). IsInForm x.tables) l ls (spelled_form (file_of files c.name) l.tables is) (read_forms rest)
 
 module _ (one : ReadsOneWay) (reports : ChangedReportsAreOne) (blocks : ChangedBlocksAreOne) (files : Files) (t : Tables) (form : IsInForm t) (packets : List ℕ) (hops : Bool) (lines : List ℕ) where
   read_once : (later : List Later) → AreInForm t later → (ks : List (List ℕ)) (stop : Stop) → AreOne (EndsAsRead t later hops ks stop)
@@ -77,7 +85,7 @@ module _ (one : ReadsOneWay) (reports : ChangedReportsAreOne) (blocks : ChangedB
   read_once later all ks (refused fault) a b e f h k = (h.0 ∙ sym k.0, blocks t later all hops ks a b h.1 k.1)
 
   trace_once : (later : List Later) → ChangedTables files t lines (Ok later) → AreOne (IsChangedTrace t later hops (file_of files packets))
-  trace_once later h = let read = spelled_under t later (file_of files packets) in read_once later (form, forms one files t lines later h) read.packets read.stop
+  trace_once later h = let read = spelled_under t later (file_of files packets) in read_once later (form, read_forms files t (changes_read files t lines later h).2) read.packets read.stop
 
   abbrev Ran : List Later → Ending → List ℕ → Type 0
   Ran later e x = (run : RunEnding) × IsChangedTrace t later hops (file_of files packets) run x × IsRunEnding run e
