@@ -1,6 +1,6 @@
 -- `trace` of what `compile` wrote answers 0.
 use Rattle.std.proofs.Common.{◌≡◌, ◌⊎◌, ◌≤◌, ℕ, Bool, true, false, List, [], ◌∷◌, Option, Some, Result, Ok, Err, get_or, length, map, refl, sym, ap, subst, ◌∙◌, inl, inr, ⊎_elim, arith, is_some}
-use Rattle.std.specs.Prelude.{◌==◌, None, if◌then◌else◌, nat_le, option_map, slice_get, slice_index}
+use Rattle.std.specs.Prelude.{◌==◌, None, option_map, slice_get, slice_index}
 use Rattle.std.specs.List.{All, Contains}
 use Rattle.std.proofs.lemmas.Bool.{eq-eqb}
 use Rattle.std.proofs.lemmas.List.Elements.{All-head, All-tail}
@@ -200,122 +200,7 @@ changed_well : (first : Tables) (later : List Later) (hops : Bool) (ks : List (L
 changed_well first later hops ks ended run ending text at h ends = subst (λ r. IsRunEnding r ending) h.0 ends
 changed_well first later hops ks (refused fault) run ending text at h ends = absurd (cc)
 
-module _ (spells : SpellsOneProgram) (exactly : AnswersExactly) (compiles : CompilesExactly) where
-  written : (c : CompileCall) (file : List ℕ) → Wrote c file → (n : Tables) × IsFileOf c file n
-  written c file wrote =
-      let made = compiled exactly compiles c.files c.program c.topology c.placement c.on_demand file wrote.did in
-      let of = made.1 in
-      let core = spells (file_of c.files c.program) (Ok of.0) (Ok c.p) of.3.the_program c.the_program in
-      let topology : of.1 ≡ c.t = topology_once (file_of c.files c.topology) (Ok of.1) (Ok c.t) of.3.the_topology c.the_topology in
-      let shape = of.4.0.shape in (
-        made.0,
-        record {
-          only = only_read made.0 file made.2 made.3 wrote.short;
-          form = shape.form;
-          version = of.4.1;
-          fields = shape.fields ∙ same_fields of.0 c.p core;
-          names = shape.names ∙ same_names of.0 c.p core;
-          ports = shape.ports ∙ (λ i. (topology i).ports);
-        },
-      )
-
--- the command ends as the run of these tables does
-ran : (c : CompileCall) (later : Files) (tables packets : List ℕ) (hops : Bool) (order : Order) (n : Tables) → IsFileOf c (file_of later tables) n → (e : Ending) → EndsTrace later tables packets hops order e
-    → TablesOf (file_of later tables) (Ok n) × ((text : List ℕ) × NetworkRunsTo later n packets hops order e text)
-ran c later tables packets hops order n of e (inl (refusal, why, same)) = absurd (let x = of.only (Err refusal) why in cc)
-ran c later tables packets hops order n of e (inr (u, read, (text, run))) =
-    let same : u ≡ n = (let x = of.only (Ok u) read in cc) in
-    (subst (λ x. TablesOf (file_of later tables) (Ok x)) same read, (text, subst (λ x. NetworkRunsTo later x packets hops order e text) same run))
-
--- ---- packets
-has_port : (ps : List PortAt) (n : ℕ) → Contains (map (λ (x : PortAt). x.port) ps) n → is_some (port_in ps n) ≡ true
-has_port ps n there = sym (port_is_found ps n) ∙ list_any_at (λ port. port == n) (map (λ (x : PortAt). x.port) ps) there.0 n there.1 (eq-eqb _ n there.2)
-
-module _ (fields : List Field) (packets : List ℕ) where
-  abbrev here : List (List ℕ)
-  here = (spelled fields packets).packets
-
-  -- tables of these ports, or those in force, take each packet that names one
-  taken_whole : (n : Tables) (ports : List PortAt) → n.fields ≡ fields → n.ports ≡ ports → NamePorts fields (λ i. map (λ (x : PortAt). x.port) ports) packets → (spelled_for n packets).stop ≡ ended
-  taken_whole n ports same at names =
-      let known : All (IsKnown n.ports) here = λ i d within.
-      let k = get_or here i d in subst (λ ps. IsKnown ps k) (sym at) (has_port ports (slice_index k 0) (names.named i k (slice_get-get_or here i d within))) in
-      let all : All (IsKnown n.ports) (spelled n.fields packets).packets = subst (λ fs. All (IsKnown n.ports) (spelled fs packets).packets) (sym same) known in
-      ap (λ (s : Spelled). s.stop) (spelled_known n (said_by n.fields) packets 1000000 1 0 all) ∙ ap (λ fs. (spelled fs packets).stop) same ∙ names.form
-
-  taken_under : (first : Tables) (later : List Later) (ports : ℕ → List PortAt) → first.fields ≡ fields → ((i : ℕ) → (in_force first later i).ports ≡ ports i)
-      → NamePorts fields (λ i. map (λ (x : PortAt). x.port) (ports i)) packets → (spelled_under first later packets).stop ≡ ended
-  taken_under first later ports same at names =
-      let known : (i : ℕ) (k : List ℕ) → slice_get here i ≡ Some k → IsKnown (in_force first later i).ports k = λ i k is.
-      subst (λ ps. IsKnown ps k) (sym (at i)) (has_port (ports i) (slice_index k 0) (names.named i k is)) in
-      let all = subst (λ fs. (i : ℕ) (k : List ℕ) → slice_get (spelled fs packets).packets i ≡ Some k → IsKnown (in_force first later i).ports k) (sym same) known in
-      ap (λ (s : Spelled). s.stop) (under_known first later packets all) ∙ ap (λ fs. (spelled fs packets).stop) same ∙ names.form
-
--- ---- runs
--- a run over a file that is read to its end ends well
-ends_well : (Blocks Report : List (List ℕ) → List ℕ → Type 0) (ks : List (List ℕ)) (stop : Stop) (run : RunEnding) (ending : Ending) (text : List ℕ) → stop ≡ ended → EndsAs Blocks Report ks stop run text → IsRunEnding run ending → ending ≡ Ok tt
-ends_well Blocks Report ks ended run ending text at h ends = subst (λ r. IsRunEnding r ending) h.0 ends
-ends_well Blocks Report ks (refused fault) run ending text at h ends = absurd (cc)
-
-module _ (n : Tables) (file : List ℕ) (whole : (spelled_for n file).stop ≡ ended) (ending : Ending) (text : List ℕ) where
-  -- so does that of a schedule of which no line is refused
-  schedule_well : (lines : List ℕ) (Reports : List ℕ → Type 0) (Refuses : ℕ → Type 0) → length lines ≤ 67108864 → ((line : ℕ) → Refuses line → ⊥) → EndsBySchedule n file lines Reports Refuses ending text → ending ≡ Ok tt
-  schedule_well lines Reports Refuses short none (inl h) = h.0
-  schedule_well lines Reports Refuses short none (inr (empty, inl h)) = absurd (let e : refused h.0 ≡ ended = sym h.1 ∙ whole in cc)
-  schedule_well lines Reports Refuses short none (inr (empty, inr (inl h))) = absurd (let long = h.1 in omega (arith, long, short))
-  schedule_well lines Reports Refuses short none (inr (empty, inr (inr h))) = absurd (none h.0 h.1)
-
-  rounds_well : (hops : Bool) → RoundsTo n hops file ending text → ending ≡ Ok tt
-  rounds_well hops (inl h) = h.0
-  rounds_well hops (inr h) = absurd (let e : refused h.1.0 ≡ ended = sym h.1.1 ∙ whole in cc)
-
--- tables without `--on-demand` are of version 2
-in_turn_two : (on_demand : Bool) (version : ℕ) → version ≡ version_of on_demand → on_demand ≡ false → version ≡ 1 → ⊥
-in_turn_two on_demand version is without one = let two : version ≡ 2 = is ∙ ap version_of without in omega (arith, one, two)
-
-module _ (later : Files) (tables packets : List ℕ) (on_demand hops : Bool) (n : Tables) (form : IsInForm n) (version : n.version ≡ version_of on_demand)
-    (is : TablesOf (file_of later tables) (Ok n)) (whole : (spelled_for n (file_of later packets)).stop ≡ ended) (ending : Ending) (text : List ℕ) where
-  abbrev file : List ℕ
-  file = file_of later packets
-
-  abbrev ks : List (List ℕ)
-  ks = (spelled_for n file).packets
-
-  turns_well : (lines : Option (List ℕ)) → TurnsCanBeDone later tables packets lines → TurnsTo n hops file (option_map (file_of later) lines) ending text → ending ≡ Ok tt
-  turns_well None can h = ends_well (turns.ArePlainBlocks n hops) (turns.IsPlainReport n hops) ks (spelled_for n file).stop h.0 ending text whole h.1 h.2
-  turns_well (Some lines) can h =
-      let done = can.lead n is in
-      schedule_well n file whole ending text (file_of later lines) (turns.HasScheduleReport n hops file (file_of later lines)) (turns.RefusesScheduleLine n file (file_of later lines)) can.short
-      (λ line stuck. ended_or_refused_in_turn n form ks (lines_of (file_of later lines)) done.0 done.1 done.2 done.3 line stuck.1) h
-
-  ran_well : (order : Order) → OrderCanBeDone on_demand later tables packets order → NetworkRunsTo later n packets hops order ending text → ending ≡ Ok tt
-  ran_well plain can h = ends_well (ArePlainBlocks n hops) (IsPlainReport n hops) ks (spelled_for n file).stop h.0 ending text whole h.1 h.2
-  ran_well (schedule lines) can h =
-      let done = can.lead n is in
-      schedule_well n file whole ending text (file_of later lines) (HasScheduleReport n hops file (file_of later lines)) (RefusesScheduleLine n file (file_of later lines)) can.short
-      (λ line stuck. ended_or_refused n form ks (lines_of (file_of later lines)) done.0 done.1 done.2 done.3 line stuck.1) h
-  ran_well (changes lines) can h = absurd can
-  ran_well (in_turn lines) can (inl h) = absurd (in_turn_two on_demand n.version version can.0 h.0)
-  ran_well (in_turn lines) can (inr h) = turns_well lines can.1 h.1
-  ran_well (rounds workers) can (inl h) = absurd (in_turn_two on_demand n.version version can h.0)
-  ran_well (rounds workers) can (inr h) = rounds_well n file whole ending text hops h.1
-
-changed_well : (first : Tables) (later : List Later) (hops : Bool) (ks : List (List ℕ)) (stop : Stop) (run : RunEnding) (ending : Ending) (text : List ℕ) → stop ≡ ended → EndsAsRead first later hops ks stop run text → IsRunEnding run ending → ending ≡ Ok tt
-changed_well first later hops ks ended run ending text at h ends = subst (λ r. IsRunEnding r ending) h.0 ends
-changed_well first later hops ks (refused fault) run ending text at h ends = absurd (cc)
-
--- ---- changes
-module _ (call : List ℕ → CompileCall) where
-  -- where the first tables have the ports of the topology of their file, so have those in force
-  abbrev AreAtPorts : List Change → List Later → Type 0
-  AreAtPorts cs ls = (i : ℕ) (name : List ℕ) (t : Tables) → t.ports ≡ (call name).t.ports → (in_force t ls i).ports ≡ (call (file_in_force name cs i)).t.ports
-
-  at_ports-cons : (c : Change) (cs : List Change) (l : Later) (ls : List Later) → l.after ≡ c.after → l.tables.ports ≡ (call c.name).t.ports → AreAtPorts cs ls → AreAtPorts (c ∷ cs) (l ∷ ls)
-  at_ports-cons c cs l ls after here rest i name t at =
-      let then_on = rest i c.name l.tables here in
-      subst (λ n. (if nat_le l.after i then in_force l.tables ls i else t).ports ≡ (call (if nat_le n i then file_in_force c.name cs i else name)).t.ports) after
-      (elim (nat_le l.after i) as (λ b. (if b then in_force l.tables ls i else t).ports ≡ (call (if b then file_in_force c.name cs i else name)).t.ports) [ true ↦ then_on | false ↦ at ])
-
+-- ---- the command
 module _ (spells : SpellsOneProgram) (exactly : AnswersExactly) (compiles : CompilesExactly) where
   pub traces_answer : TracesAnswer
   traces_answer c later tables packets wrote names order can hops =
@@ -359,8 +244,8 @@ module _ (spells : SpellsOneProgram) (exactly : AnswersExactly) (compiles : Comp
       is_said cs also = let e = said_once (file_of later lines) (Ok cs) (Ok said) also says in cc
 
       tables_well : (e : Refusal) → ChangedTables later first lines (Err e) → ⊥
-      tables_well e (inl h) = absurd (let x = said_once (file_of later lines) (Ok said) (Err h.0) says h.1 in cc)
-      tables_well e (inr h) = absurd (let x = (later_well said all (Err e) (subst (λ cs. LaterOf later first cs (Err e)) (is_said h.0 h.1) h.2)).1 in cc)
+      tables_well e (inl h) = let x = said_once (file_of later lines) (Ok said) (Err h.0) says h.1 in absurd (cc)
+      tables_well e (inr h) = let x = (later_well said all (Err e) (subst (λ cs. LaterOf later first cs (Err e)) (is_said h.0 h.1) h.2)).1 in absurd (cc)
 
       changes_well : (packets : List ℕ) → NamePorts (call tables).p.fields (λ i. ports_of (call (file_in_force tables said i)).t) (file_of later packets) → (hops : Bool) (e : Ending) (text : List ℕ)
           → ChangesTo later first packets hops lines e text → e ≡ Ok tt

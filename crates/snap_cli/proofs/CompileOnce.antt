@@ -44,6 +44,7 @@ module _ (p q : Program) (same : core_program p ≡ core_program q) where
   told-never : IsDefined p → (e : Refusal) → EndsJudged q (Err e) → ⊥
   told-never defined e h = let race = (judged_race q p (sym same) e h).0 in never_races p defined race.0 race.1 race.2
 
+module _ (p q : Program) (same : core_program p ≡ core_program q) where
   made_once : (t : Topology) (on_demand : Bool) (places others : List ℕ) → Agree (IsSameOutcome (λ a b. Unit {0})) (Made p t on_demand places) (Made q t on_demand others)
   made_once t on_demand places others (Ok a) (Ok b) h k = tt
   made_once t on_demand places others (Ok a) (Err f) h k = told-never p q same h.1.0.defined f k

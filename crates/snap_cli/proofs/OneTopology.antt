@@ -54,12 +54,12 @@ different_once : (s : Spelled) (name : Option (List ℕ)) (a b : Result Topology
 different_once s (Some name) a b h k = h ∙ sym k
 different_once s None a b h k = known_once s (first_unknown s) a b h k
 
-within_once : (s : Spelled) (many : Option (Which × ℕ)) (a b : Result Topology TopoFault) → WithinThen s many a → WithinThen s many b → a ≡ b
-within_once s (Some many) a b h k = h ∙ sym k
-within_once s None a b h k = different_once s (first_repeat s.switches) a b h k
+counted_once : (s : Spelled) (many : Option (Which × ℕ)) (a b : Result Topology TopoFault) → WithinThen s many a → WithinThen s many b → a ≡ b
+counted_once s (Some many) a b h k = h ∙ sym k
+counted_once s None a b h k = different_once s (first_repeat s.switches) a b h k
 
 spelled_once : (r : Result Spelled TopoFault) (a b : Result Topology TopoFault) → SpelledThen r a → SpelledThen r b → a ≡ b
-spelled_once (Ok s) a b h k = within_once s (too_many s) a b h k
+spelled_once (Ok s) a b h k = counted_once s (too_many s) a b h k
 spelled_once (Err e) a b h k = h ∙ sym k
 
 -- an answer, as the command tells it
