@@ -1,6 +1,6 @@
 -- `trace` of what `compile` wrote answers 0.
 use Rattle.std.proofs.Common.{◌≡◌, ◌⊎◌, ◌≤◌, ℕ, Bool, true, false, List, [], ◌∷◌, Option, Some, Result, Ok, Err, get_or, length, map, refl, sym, ap, subst, ◌∙◌, inl, inr, ⊎_elim, arith, is_some}
-use Rattle.std.specs.Prelude.{◌==◌, None, if◌then◌else◌, nat_le, option_map, slice_get, slice_index}
+use Rattle.std.specs.Prelude.{◌==◌, None, option_map, slice_get, slice_index}
 use Rattle.std.specs.List.{All, Contains}
 use Rattle.std.proofs.lemmas.Bool.{eq-eqb}
 use Rattle.std.proofs.lemmas.List.Elements.{All-head, All-tail}
@@ -46,7 +46,8 @@ use Rattle.snap_cli.specs.Rounds.{RoundsTo}
 use Rattle.snap_cli.specs.Schedule.{EndsBySchedule}
 use Rattle.snap_cli.specs.TablesOf.{TablesOf}
 use Rattle.snap_cli.specs.Trace.{EndsTrace, NetworkRunsTo}
-use Rattle.snap_cli.proofs.ChangesOnce.{said_once}
+use Rattle.snap_cli.proofs.ChangesOnce.{AreRead, changes_read, said_once}
+use Rattle.snap_cli.proofs.ChangesTraced.{read_in_force}
 use Rattle.snap_cli.proofs.DueStatus.{due-status}
 use Rattle.snap_runs.proofs.OneSchedule.{ended_or_refused}
 use Rattle.snap_order.proofs.OneSchedule.{ended_or_refused as ended_or_refused_in_turn}
@@ -101,7 +102,7 @@ module _ (spells : SpellsOneProgram) (exactly : AnswersExactly) (compiles : Comp
       let made = compiled exactly compiles c.files c.program c.topology c.placement c.on_demand file wrote.did in
       let of = made.1 in
       let core = spells (file_of c.files c.program) (Ok of.0) (Ok c.p) of.3.the_program c.the_program in
-      let topology : of.1 ≡ c.t = (let e = topology_once (file_of c.files c.topology) (Ok of.1) (Ok c.t) of.3.the_topology c.the_topology in cc) in
+      let topology : of.1 ≡ c.t = topology_once (file_of c.files c.topology) (Ok of.1) (Ok c.t) of.3.the_topology c.the_topology in
       let shape = of.4.0.shape in (
         made.0,
         record {
@@ -199,18 +200,7 @@ changed_well : (first : Tables) (later : List Later) (hops : Bool) (ks : List (L
 changed_well first later hops ks ended run ending text at h ends = subst (λ r. IsRunEnding r ending) h.0 ends
 changed_well first later hops ks (refused fault) run ending text at h ends = absurd (cc)
 
--- ---- changes
-module _ (call : List ℕ → CompileCall) where
-  -- where the first tables have the ports of the topology of their file, so have those in force
-  abbrev AreAtPorts : List Change → List Later → Type 0
-  AreAtPorts cs ls = (i : ℕ) (name : List ℕ) (t : Tables) → t.ports ≡ (call name).t.ports → (in_force t ls i).ports ≡ (call (file_in_force name cs i)).t.ports
-
-  at_ports-cons : (c : Change) (cs : List Change) (l : Later) (ls : List Later) → l.after ≡ c.after → l.tables.ports ≡ (call c.name).t.ports → AreAtPorts cs ls → AreAtPorts (c ∷ cs) (l ∷ ls)
-  at_ports-cons c cs l ls after here rest i name t at =
-      let then_on = rest i c.name l.tables here in
-      subst (λ n. (if nat_le l.after i then in_force l.tables ls i else t).ports ≡ (call (if nat_le n i then file_in_force c.name cs i else name)).t.ports) after
-      (elim (nat_le l.after i) as (λ b. (if b then in_force l.tables ls i else t).ports ≡ (call (if b then file_in_force c.name cs i else name)).t.ports) [ true ↦ then_on | false ↦ at ])
-
+-- ---- the command
 module _ (spells : SpellsOneProgram) (exactly : AnswersExactly) (compiles : CompilesExactly) where
   pub traces_answer : TracesAnswer
   traces_answer c later tables packets wrote names order can hops =
@@ -220,13 +210,16 @@ module _ (spells : SpellsOneProgram) (exactly : AnswersExactly) (compiles : Comp
       (λ e ends. let run = ran c later tables packets hops order n.0 n.1 e ends in ran_well later tables packets c.on_demand hops n.0 n.1.form n.1.version run.0 whole e run.1.0 order can run.1.1)
 
   module _ (call : List ℕ → CompileCall) (later : Files) (tables : List ℕ) (first : Tables) (of : IsFileOf (call tables) (file_of later tables) first) where
-    abbrev Follows : Change → Type 0
-    Follows c = CanFollow (call tables) (call c.name) (file_of later c.name)
+    abbrev Follows : (name : List ℕ) → Type 0
+    Follows name = CanFollow (call tables) (call name) (file_of later name)
+
+    abbrev AllFollow : List Change → Type 0
+    AllFollow cs = All (λ (c : Change). Follows c.name) cs
 
     -- the tables of a change have the shape of the first, and the ports of the topology
-    follows : (c : Change) → Follows c → (t : Tables) → TablesOf (file_of later c.name) (Ok t) → HaveOneShape t first × (t.ports ≡ (call c.name).t.ports)
-    follows c can t read =
-        let n = written spells exactly compiles (call c.name) (file_of later c.name) can.wrote in
+    follows : (name : List ℕ) → Follows name → (t : Tables) → TablesOf (file_of later name) (Ok t) → HaveOneShape t first × (t.ports ≡ (call name).t.ports)
+    follows name can t read =
+        let n = written spells exactly compiles (call name) (file_of later name) can.wrote in
         let same : t ≡ n.0 = (let e = n.1.only (Ok t) read in cc) in (
           record {
             fields = ap (λ (x : Tables). x.fields) same ∙ n.1.fields ∙ can.alike.fields ∙ sym of.fields;
@@ -235,34 +228,36 @@ module _ (spells : SpellsOneProgram) (exactly : AnswersExactly) (compiles : Comp
           ap (λ (x : Tables). x.ports) same ∙ n.1.ports,
         )
 
-    not_refused : (c : Change) → Follows c → (e : Refusal) → RefusesLater later first c e → ⊥
+    not_refused : (c : Change) → Follows c.name → (e : Refusal) → RefusesLater later first c e → ⊥
     not_refused c can e (inl why) = absurd (let x = (written spells exactly compiles (call c.name) (file_of later c.name) can.wrote).1.only (Err e) why in cc)
-    not_refused c can e (inr (t, read, apart, is)) = apart (follows c can t read).0
+    not_refused c can e (inr (t, read, apart, is)) = apart (follows c.name can t read).0
 
-    later_well : (cs : List Change) → All Follows cs → (r : Result (List Later) Refusal) → LaterOf later first cs r → (ls : List Later) × (r ≡ Ok ls) × AreAtPorts call cs ls
-    later_well [] all r h = ([], h, λ i name t at. at)
-    later_well (c ∷ cs) all r (inl h) = absurd (not_refused c (All-head Follows c cs all) h.0 h.1)
+    later_well : (cs : List Change) → AllFollow cs → (r : Result (List Later) Refusal) → LaterOf later first cs r → (ls : List Later) × (r ≡ Ok ls)
+    later_well [] all r h = ([], h)
+    later_well (c ∷ cs) all r (inl h) = absurd (not_refused c (All-head (λ (x : Change). Follows x.name) c cs all) h.0 h.1)
     later_well (c ∷ cs) all r (inr (l, is, (others, rest, same))) =
-        let on = later_well cs (All-tail Follows c cs all) others rest in
-        (l ∷ on.0, same ∙ ap (before (l ∷ [])) on.1, at_ports-cons call c cs l on.0 is.after (follows c (All-head Follows c cs all) l.tables is.spelled).1 on.2)
+        let on = later_well cs (All-tail (λ (x : Change). Follows x.name) c cs all) others rest in
+        (l ∷ on.0, same ∙ ap (before (l ∷ [])) on.1)
 
-    module _ (lines : List ℕ) (said : List Change) (says : ChangesOf (file_of later lines) (Ok said)) (all : All Follows said) where
-      tables_well : (r : Result (List Later) Refusal) → ChangedTables later first lines r → (ls : List Later) × (r ≡ Ok ls) × AreAtPorts call said ls
-      tables_well r (inl h) = absurd (let e = said_once (file_of later lines) (Ok said) (Err h.0) says h.1 in cc)
-      tables_well r (inr h) =
-          let same : h.0 ≡ said = (let e = said_once (file_of later lines) (Ok h.0) (Ok said) h.1 says in cc) in
-          later_well said all r (subst (λ cs. LaterOf later first cs r) same h.2)
+    module _ (lines : List ℕ) (said : List Change) (says : ChangesOf (file_of later lines) (Ok said)) (all : AllFollow said) where
+      is_said : (cs : List Change) → ChangesOf (file_of later lines) (Ok cs) → cs ≡ said
+      is_said cs also = let e = said_once (file_of later lines) (Ok cs) (Ok said) also says in cc
+
+      tables_well : (e : Refusal) → ChangedTables later first lines (Err e) → ⊥
+      tables_well e (inl h) = let x = said_once (file_of later lines) (Ok said) (Err h.0) says h.1 in absurd (cc)
+      tables_well e (inr h) = let x = (later_well said all (Err e) (subst (λ cs. LaterOf later first cs (Err e)) (is_said h.0 h.1) h.2)).1 in absurd (cc)
 
       changes_well : (packets : List ℕ) → NamePorts (call tables).p.fields (λ i. ports_of (call (file_in_force tables said i)).t) (file_of later packets) → (hops : Bool) (e : Ending) (text : List ℕ)
           → ChangesTo later first packets hops lines e text → e ≡ Ok tt
-      changes_well packets names hops e text (inl h) = absurd (let x = (tables_well (Err h.0) h.1).1 in cc)
+      changes_well packets names hops e text (inl h) = absurd (tables_well h.0 h.1)
       changes_well packets names hops e text (inr h) =
-          let well = tables_well (Ok h.0) h.1 in
-          let same : well.0 ≡ h.0 = (let x = well.1 in cc) in
-          let ports = subst (AreAtPorts call said) same well.2 in
+          let known = changes_read later first lines h.0 h.1 in
+          let was = subst (λ cs. AreRead later first cs h.0) (is_said known.0 known.1) known.2 in
+          let ports : (i : ℕ) → (in_force first h.0 i).ports ≡ (call (file_in_force tables said i)).t.ports = λ i.
+          read_in_force later first (λ name t. t.ports ≡ (call name).t.ports) i was Follows all (λ name can t is. (follows name can t is).1) tables first of.ports in
           let read = spelled_under first h.0 (file_of later packets) in
           changed_well first h.0 hops read.packets read.stop h.2.0 e text
-          (taken_under (call tables).p.fields (file_of later packets) first h.0 (λ i. (call (file_in_force tables said i)).t.ports) of.fields (λ i. ports i tables first of.ports) names) h.2.1 h.2.2
+          (taken_under (call tables).p.fields (file_of later packets) first h.0 (λ i. (call (file_in_force tables said i)).t.ports) of.fields ports names) h.2.1 h.2.2
 
   pub changes_answer : ChangesAnswer
   changes_answer call later tables packets lines said wrote says all names hops =

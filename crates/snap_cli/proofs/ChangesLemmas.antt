@@ -34,9 +34,8 @@ use Rattle.snap_cli.proofs.RefusedBy.{by-map, meets-by}
 
 -- ---- the changes file
 read-refused : (text : List ℕ) (e : ChangesFault) → (e ≢ fault.NoMemory → changes_of text ≡ Err e) → ReadsChanges text (Err (refusal_of_changes e))
-read-refused text (fault.Line line) h = ap said_changes (h (λ x. absurd (cc)))
-read-refused text (fault.Limit which count) h = ap said_changes (h (λ x. absurd (cc)))
 read-refused text fault.NoMemory h = tt
+read-refused text e h = ap said_changes (h (λ x. absurd (cc)))
 
 pub reads-told : (text : List ℕ) (e : ChangesFault) (r : Refusal) → r ≡ refusal_of_changes e → (e ≢ fault.NoMemory → changes_of text ≡ Err e) → ReadsChanges text (Err r)
 reads-told text e r is h = subst (λ x. ReadsChanges text (Err x)) (sym is) (read-refused text e h)

@@ -1,5 +1,5 @@
 -- A run with the changes of a file ends in one way, with one text.
-use Rattle.std.proofs.Common.{◌≡◌, ◌⊎◌, ℕ, ◌<◌, ◌≤◌, Bool, List, [], ◌∷◌, ◌++◌, Result, Ok, Err, length, refl, sym, ◌∙◌, ap, subst, inl, inr, arith}
+use Rattle.std.proofs.Common.{◌≡◌, ℕ, Bool, List, [], ◌∷◌, Result, Ok, Err, refl, sym, ◌∙◌, ap, subst, inl, inr}
 use Rattle.std.specs.List.{All}
 use Rattle.std.proofs.lemmas.List.Elements.{All-cons, All-nil}
 use Rattle.snap_io.specs.Files.{Files, file_of}
@@ -14,105 +14,88 @@ use Rattle.snap_move.specs.Files.{EndsAsRead, IsChangedTrace, spelled_under}
 use Rattle.snap_move.specs.Laws.{AreInForm, ChangedBlocksAreOne, ChangedReportsAreOne}
 use Rattle.snap_move.specs.Shapes.{HaveOneShape}
 use Rattle.snap_cli.specs.declared.refusal.Refusal.{Refusal}
-use Rattle.snap_cli.specs.declared.refusal.Refusal.TheVariants.{Changes}
 use Rattle.snap_cli.specs.Changes.{ChangedTables, ChangesOf, ChangesTo, IsChangesText, IsLater, LaterOf, RefusesLater, before}
 use Rattle.snap_cli.specs.Obs.{IsRunEnding}
 use Rattle.snap_cli.specs.Refusals.{Ending}
 use Rattle.snap_cli.specs.TablesOf.{TablesOf}
-use Rattle.snap_cli.proofs.ObsOnce.{run_ends_once}
-use Rattle.snap_cli.proofs.OneTables.{one_fault, one_tables, spelled_form, spelled_well}
+use Rattle.snap_cli.proofs.ObsOnce.{AreOne, run_once}
+use Rattle.snap_cli.proofs.OneTables.{one_tables, spelled_form}
+use Rattle.snap_cli.proofs.Pipeline.{Agree, Alike, alike, cases_once, next_once, within_once}
 
 -- a file says its changes in one way
-pub said_once : (file : List ℕ) (a b : Result (List Change) Refusal) → ChangesOf file a → ChangesOf file b → a ≡ b
-said_once file a b (inl h) (inl k) = h.1 ∙ sym k.1
-said_once file a b (inl h) (inr k) = absurd (let long = h.0 in let short = k.0 in omega (arith, long, short))
-said_once file a b (inr h) (inl k) = absurd (let long = k.0 in let short = h.0 in omega (arith, long, short))
-said_once file a b (inr h) (inr k) = h.1 ∙ sym k.1
+pub said_once : (file : List ℕ) → Agree ◌≡◌ (ChangesOf file) (ChangesOf file)
+said_once file = within_once _ _ _ _ _ (λ a b h k. h ∙ sym k)
 
 module _ (one : ReadsOneWay) (files : Files) (first : Tables) where
-  refused_once : (c : Change) (e f : Refusal) → RefusesLater files first c e → RefusesLater files first c f → e ≡ f
-  refused_once c e f (inl h) (inl k) = one_fault one (file_of files c.name) e f h k
-  refused_once c e f (inl h) (inr k) = absurd (spelled_well one (file_of files c.name) k.0 e k.1 h)
-  refused_once c e f (inr h) (inl k) = absurd (spelled_well one (file_of files c.name) h.0 f h.1 k)
-  refused_once c e f (inr h) (inr k) = h.3 ∙ sym k.3
+  -- the tables of a change, or why they can't come into force
+  abbrev Loads : Change → Result Later Refusal → Type 0
+  Loads c (Ok l) = IsLater files first c l
+  Loads c (Err e) = RefusesLater files first c e
 
-  apart : (c : Change) (e : Refusal) (l : Later) → RefusesLater files first c e → IsLater files first c l → ⊥
-  apart c e l (inl h) is = spelled_well one (file_of files c.name) l.tables e is.spelled h
-  apart c e l (inr h) is = h.2 (subst (λ t. HaveOneShape t first) (one_tables one (file_of files c.name) l.tables h.0 is.spelled h.1) is.shape)
+  module _ (c : Change) where
+    once : Agree (Alike ◌≡◌) (TablesOf (file_of files c.name)) (TablesOf (file_of files c.name))
+    once = one_tables one (file_of files c.name)
 
-  one_later : (c : Change) (l m : Later) → IsLater files first c l → IsLater files first c m → l ≡ m
-  one_later c l m a b =
-      let tables = one_tables one (file_of files c.name) l.tables m.tables a.spelled b.spelled in
-      λ i. record { after = (a.after ∙ sym b.after) i; tables = tables i }
+    apart : (e : Refusal) (l : Later) → RefusesLater files first c e → IsLater files first c l → ⊥
+    apart e l (inl h) is = once (Err e) (Ok l.tables) h is.spelled
+    apart e l (inr h) is = h.2 (subst (λ t. HaveOneShape t first) (once (Ok l.tables) (Ok h.0) is.spelled h.1) is.shape)
 
-  later_once : (cs : List Change) (a b : Result (List Later) Refusal) → LaterOf files first cs a → LaterOf files first cs b → a ≡ b
-  later_once [] a b h k = h ∙ sym k
-  later_once (c ∷ cs) a b (inl h) (inl k) = h.2 ∙ ap Err (refused_once c h.0 k.0 h.1 k.1) ∙ sym k.2
-  later_once (c ∷ cs) a b (inl h) (inr k) = absurd (apart c h.0 k.0 h.1 k.1)
-  later_once (c ∷ cs) a b (inr h) (inl k) = absurd (apart c k.0 h.0 k.1 h.1)
-  later_once (c ∷ cs) a b (inr h) (inr k) =
-      let l = one_later c h.0 k.0 h.1 k.1 in
-      let others = later_once cs h.2.0 k.2.0 h.2.1 k.2.1 in
-      h.2.2 ∙ (λ i. before (l i ∷ []) (others i)) ∙ sym k.2.2
+    loads_once : Agree (Alike ◌≡◌) (Loads c) (Loads c)
+    loads_once (Ok l) (Ok m) a b = let tables = once (Ok l.tables) (Ok m.tables) a.spelled b.spelled in λ i. record { after = (a.after ∙ sym b.after) i; tables = tables i }
+    loads_once (Ok l) (Err f) h k = apart f l k h
+    loads_once (Err e) (Ok m) h k = apart e m h k
+    loads_once (Err e) (Err f) h k =
+        cases_once (once (Err e) (Err f)) (λ a b. once (Err e) (Ok b.0) a b.1) (λ a b. once (Err f) (Ok b.0) a b.1) (λ a b. a.3 ∙ sym b.3) h k
 
-  pub tables_once : (lines : List ℕ) (a b : Result (List Later) Refusal) → ChangedTables files first lines a → ChangedTables files first lines b → a ≡ b
-  tables_once lines a b (inl h) (inl k) =
-      let e = said_once (file_of files lines) (Err h.0) (Err k.0) h.1 k.1 in
-      let same : h.0 ≡ k.0 = cc in
-      h.2 ∙ ap Err same ∙ sym k.2
-  tables_once lines a b (inl h) (inr k) = absurd (let e = said_once (file_of files lines) (Err h.0) (Ok k.0) h.1 k.1 in cc)
-  tables_once lines a b (inr h) (inl k) = absurd (let e = said_once (file_of files lines) (Ok h.0) (Err k.0) h.1 k.1 in cc)
-  tables_once lines a b (inr h) (inr k) =
-      let e = said_once (file_of files lines) (Ok h.0) (Ok k.0) h.1 k.1 in
-      let same : h.0 ≡ k.0 = cc in
-      later_once k.0 a b (subst (λ cs. LaterOf files first cs a) same h.2) k.2
+  later_once : (cs : List Change) → Agree ◌≡◌ (LaterOf files first cs) (LaterOf files first cs)
+  later_once [] = λ a b h k. h ∙ sym k
+  later_once (c ∷ cs) =
+      next_once (loads_once c) _ _ _ _ (λ e x y m n. m ∙ sym n) (λ l is x y m n. m.2 ∙ (ap (before (l ∷ [])) (later_once cs m.0 n.0 m.1 n.1) ∙ sym n.2))
 
-  -- tables that were read are in form
-  later_form : (cs : List Change) (r : Result (List Later) Refusal) → LaterOf files first cs r → (ls : List Later) → r ≡ Ok ls → All (λ (l : Later). IsInForm l.tables) ls
-  later_form [] r h ls is = let none : ◌≡◌ {A = List Later} [] ls = cc in subst (All (λ (l : Later). IsInForm l.tables)) none (All-nil (λ (l : Later). IsInForm l.tables))
-  later_form (c ∷ cs) r (inl h) ls is = absurd (let e = h.2 in cc)
-  later_form (c ∷ cs) r (inr h) ls is = by h.2.0 (later_form cs h.2.0 h.2.1) (sym h.2.2 ∙ is)
+  pub tables_once : (lines : List ℕ) → Agree (Alike ◌≡◌) (ChangedTables files first lines) (ChangedTables files first lines)
+  tables_once lines = alike (next_once (alike (said_once (file_of files lines))) _ _ _ _ (λ e a b h k. h ∙ sym k) (λ cs is. later_once cs))
+
+-- ---- what was read
+module _ (files : Files) (first : Tables) where
+  -- all were read, so each of them can come into force
+  pub data AreRead : List Change → List Later → Type 0 where
+    read_none : AreRead [] []
+    read_one : {c : Change} {cs : List Change} {l : Later} {ls : List Later} → l.after ≡ c.after → TablesOf (file_of files c.name) (Ok l.tables) → HaveOneShape l.tables first → AreRead cs ls → AreRead (c ∷ cs) (l ∷ ls)
+
+  all_read : (cs : List Change) (r : Result (List Later) Refusal) → LaterOf files first cs r → (ls : List Later) → r ≡ Ok ls → AreRead cs ls
+  all_read [] r h ls is = let e : ◌≡◌ {A = List Later} [] ls = cc in subst (AreRead []) e read_none
+  all_read (c ∷ cs) r (inl h) ls is = absurd (let e = h.2 in cc)
+  all_read (c ∷ cs) r (inr h) ls is = by h.2.0 (all_read cs h.2.0 h.2.1) (sym h.2.2 ∙ is)
     where
-      by : (o : Result (List Later) Refusal) → ((ms : List Later) → o ≡ Ok ms → All (λ (l : Later). IsInForm l.tables) ms) → before (h.0 ∷ []) o ≡ Ok ls → All (λ (l : Later). IsInForm l.tables) ls
-      by (Ok ms) f e =
-          let same : h.0 ∷ ms ≡ ls = cc in
-          subst (All (λ (l : Later). IsInForm l.tables)) same (All-cons (λ (l : Later). IsInForm l.tables) h.0 ms (spelled_form (file_of files c.name) h.0.tables h.1.spelled) (f ms refl))
+      by : (o : Result (List Later) Refusal) → ((ms : List Later) → o ≡ Ok ms → AreRead cs ms) → before (h.0 ∷ []) o ≡ Ok ls → AreRead (c ∷ cs) ls
+      by (Ok ms) f e = let same : h.0 ∷ ms ≡ ls = cc in subst (AreRead (c ∷ cs)) same (read_one h.1.after h.1.spelled h.1.shape (f ms refl))
       by (Err x) f e = absurd (cc)
 
-  forms : (lines : List ℕ) (later : List Later) → ChangedTables files first lines (Ok later) → All (λ (l : Later). IsInForm l.tables) later
-  forms lines later (inl h) = absurd (let e = h.2 in cc)
-  forms lines later (inr h) = later_form h.0 (Ok later) h.2 later refl
+  pub changes_read : (lines : List ℕ) (ls : List Later) → ChangedTables files first lines (Ok ls) → (cs : List Change) × ChangesOf (file_of files lines) (Ok cs) × AreRead cs ls
+  changes_read lines ls (inl h) = absurd (let e = h.2 in cc)
+  changes_read lines ls (inr h) = (h.0, h.1, all_read h.0 (Ok ls) h.2 ls refl)
+
+  read_forms : {cs : List Change} {ls : List Later} → AreRead cs ls → All (λ (x : Later). IsInForm x.tables) ls
+  read_forms read_none = All-nil (λ (x : Later). IsInForm x.tables)
+  read_forms (read_one {c = c} {l = l} {ls = ls} after is shape rest) = All-cons (λ (x : Later). IsInForm x.tables) l ls (spelled_form (file_of files c.name) l.tables is) (read_forms rest)
 
 module _ (one : ReadsOneWay) (reports : ChangedReportsAreOne) (blocks : ChangedBlocksAreOne) (files : Files) (t : Tables) (form : IsInForm t) (packets : List ℕ) (hops : Bool) (lines : List ℕ) where
-  abbrev file : List ℕ
-  file = file_of files packets
+  read_once : (later : List Later) → AreInForm t later → (ks : List (List ℕ)) (stop : Stop) → AreOne (EndsAsRead t later hops ks stop)
+  read_once later all ks ended a b e f h k = (h.0 ∙ sym k.0, reports t later all hops ks a b h.1 k.1)
+  read_once later all ks (refused fault) a b e f h k = (h.0 ∙ sym k.0, blocks t later all hops ks a b h.1 k.1)
 
-  read_once : (later : List Later) → AreInForm t later → (ks : List (List ℕ)) (stop : Stop) (e f : RunEnding) (a b : List ℕ) → EndsAsRead t later hops ks stop e a → EndsAsRead t later hops ks stop f b → (e ≡ f) × (a ≡ b)
-  read_once later all ks ended e f a b h k = (h.0 ∙ sym k.0, reports t later all hops ks a b h.1 k.1)
-  read_once later all ks (refused fault) e f a b h k = (h.0 ∙ sym k.0, blocks t later all hops ks a b h.1 k.1)
+  trace_once : (later : List Later) → ChangedTables files t lines (Ok later) → AreOne (IsChangedTrace t later hops (file_of files packets))
+  trace_once later h = let read = spelled_under t later (file_of files packets) in read_once later (form, read_forms files t (changes_read files t lines later h).2) read.packets read.stop
 
-  same_later : (later others : List Later) → ChangedTables files t lines (Ok later) → ChangedTables files t lines (Ok others) → later ≡ others
-  same_later later others h k = let e = tables_once one files t lines (Ok later) (Ok others) h k in cc
+  abbrev Ran : List Later → Ending → List ℕ → Type 0
+  Ran later e x = (run : RunEnding) × IsChangedTrace t later hops (file_of files packets) run x × IsRunEnding run e
 
-  run_once : (later others : List Later) → ChangedTables files t lines (Ok later) → ChangedTables files t lines (Ok others) → (e f : RunEnding) (a b : List ℕ) → IsChangedTrace t later hops file e a → IsChangedTrace t others hops file f b → (e ≡ f) × (a ≡ b)
-  run_once later others h k e f a b x y =
-      let same = same_later later others h k in
-      let read = spelled_under t others file in
-      read_once others (form, forms one files t lines others k) read.packets read.stop e f a b (subst (λ l. IsChangedTrace t l hops file e a) same x) y
+  pub changes_once : AreOne (ChangesTo files t packets hops lines)
+  changes_once x y a b =
+      let once = tables_once one files t lines in
+      cases_once (λ h k. (h.2 ∙ (ap Err (once (Err h.0) (Err k.0) h.1 k.1) ∙ sym k.2), h.3 ∙ sym k.3)) (λ h k. once (Err h.0) (Ok k.0) h.1 k.1) (λ h k. once (Err h.0) (Ok k.0) h.1 k.1)
+      (λ h k. run_once (IsChangedTrace t k.0 hops (file_of files packets)) (trace_once k.0 k.1) x y a b (subst (λ later. Ran later a x) (once (Ok h.0) (Ok k.0) h.1 k.1) h.2) k.2)
 
-  pub changes_end_once : (a b : Ending) (x y : List ℕ) → ChangesTo files t packets hops lines a x → ChangesTo files t packets hops lines b y → a ≡ b
-  changes_end_once a b x y (inl h) (inl k) =
-      let e = tables_once one files t lines (Err h.0) (Err k.0) h.1 k.1 in
-      let same : h.0 ≡ k.0 = cc in
-      h.2 ∙ ap Err same ∙ sym k.2
-  changes_end_once a b x y (inl h) (inr k) = absurd (let e = tables_once one files t lines (Err h.0) (Ok k.0) h.1 k.1 in cc)
-  changes_end_once a b x y (inr h) (inl k) = absurd (let e = tables_once one files t lines (Ok h.0) (Err k.0) h.1 k.1 in cc)
-  changes_end_once a b x y (inr h) (inr k) =
-      let run = (run_once h.0 k.0 h.1 k.1 h.2.0 k.2.0 x y h.2.1 k.2.1).0 in
-      run_ends_once k.2.0 a b (subst (λ r. IsRunEnding r a) run h.2.2) k.2.2
-
-  pub changes_text_once : (x y : List ℕ) → IsChangesText files t packets hops lines x → IsChangesText files t packets hops lines y → x ≡ y
-  changes_text_once x y (inl h) (inl k) = h.2 ∙ sym k.2
-  changes_text_once x y (inl h) (inr k) = absurd (let e = tables_once one files t lines (Err h.0) (Ok k.0) h.1 k.1 in cc)
-  changes_text_once x y (inr h) (inl k) = absurd (let e = tables_once one files t lines (Ok h.0) (Err k.0) h.1 k.1 in cc)
-  changes_text_once x y (inr h) (inr k) = (run_once h.0 k.0 h.1 k.1 h.2.0 k.2.0 x y h.2.1 k.2.1).1
+  pub changes_text_once : Agree ◌≡◌ (IsChangesText files t packets hops lines) (IsChangesText files t packets hops lines)
+  changes_text_once =
+      next_once (tables_once one files t lines) _ _ _ _ (λ e x y h k. h ∙ sym k) (λ later h x y m n. (trace_once later h x y m.0 n.0 m.1 n.1).1)

@@ -22,7 +22,7 @@ use Rattle.snap_move.specs.Lines.{changes_of}
 use Rattle.snap_move.specs.Shapes.{HaveOneShape}
 use Rattle.snap_words.specs.Commands.{changes, trace}
 use Rattle.snap_cli.specs.declared.refusal.Refusal.{Refusal}
-use Rattle.snap_cli.specs.Changes.{ChangedTables, ChangesOf, ChangesTo, LaterOf, before, said_changes}
+use Rattle.snap_cli.specs.Changes.{ChangedTables, ChangesOf, ChangesTo, said_changes}
 use Rattle.snap_cli.specs.ChangesSteps.{afters, afters_of}
 use Rattle.snap_cli.specs.Headline.{Did}
 use Rattle.snap_cli.specs.Laws.{AnswersExactly, ChangesExactly, CompilesExactly}
@@ -32,6 +32,7 @@ use Rattle.snap_cli.specs.Refusals.{Ending, status_of}
 use Rattle.snap_cli.specs.TablesOf.{TablesOf}
 use Rattle.snap_cli.specs.Upgrades.{AreGivenUnder, AreOutputsOf, IsOutputFor, UpgradesTraceAsOneSwitch, file_in_force}
 use Rattle.snap_cli.proofs.ChangesLemmas.{rising-changes}
+use Rattle.snap_cli.proofs.ChangesOnce.{AreRead, changes_read, read_none, read_one}
 use Rattle.snap_cli.proofs.SpelledUnder.{spelled_fit, under_whole}
 use Rattle.snap_cli.proofs.Traced.{compiled, no_failure, read_tables, refused_apart, run_apart, same_tables}
 use Rattle.snap_move.proofs.Settling.{shape-same}
@@ -39,34 +40,20 @@ use Rattle.snap_move.proofs.Report.{force-shape}
 
 -- ---- the tables of the changes
 module _ (files : Files) (first : Tables) where
-  -- all were read, so each of them can come into force
-  pub data AreRead : List Change → List Later → Type 0 where
-    none : AreRead [] []
-    one : {c : Change} {cs : List Change} {l : Later} {ls : List Later} → l.after ≡ c.after → TablesOf (file_of files c.name) (Ok l.tables) → HaveOneShape l.tables first → AreRead cs ls → AreRead (c ∷ cs) (l ∷ ls)
+  read_afters : {cs : List Change} {ls : List Later} → AreRead files first cs ls → afters ls ≡ afters_of cs
+  read_afters read_none = refl
+  read_afters (read_one after is shape rest) = λ i. after i ∷ read_afters rest i
 
-  all_read : (cs : List Change) (r : Result (List Later) Refusal) → LaterOf files first cs r → (ls : List Later) → r ≡ Ok ls → AreRead cs ls
-  all_read [] r h ls is = let e : ◌≡◌ {A = List Later} [] ls = cc in subst (AreRead []) e none
-  all_read (c ∷ cs) r (inl h) ls is = absurd (let e = h.2 in cc)
-  all_read (c ∷ cs) r (inr h) ls is = by h.2.0 (all_read cs h.2.0 h.2.1) (sym h.2.2 ∙ is)
-    where
-      by : (o : Result (List Later) Refusal) → ((ms : List Later) → o ≡ Ok ms → AreRead cs ms) → before (h.0 ∷ []) o ≡ Ok ls → AreRead (c ∷ cs) ls
-      by (Ok ms) f e = let same : h.0 ∷ ms ≡ ls = cc in subst (AreRead (c ∷ cs)) same (one h.1.after h.1.spelled h.1.shape (f ms refl))
-      by (Err x) f e = absurd (cc)
-
-  read_afters : {cs : List Change} {ls : List Later} → AreRead cs ls → afters ls ≡ afters_of cs
-  read_afters none = refl
-  read_afters (one after is shape rest) = λ i. after i ∷ read_afters rest i
-
-  read_shapes : {cs : List Change} {ls : List Later} → AreRead cs ls → HaveShapeOf first ls
-  read_shapes none = All-nil (λ (x : Later). HaveOneShape x.tables first)
-  read_shapes (one {l = l} {ls = ls} after is shape rest) = All-cons (λ (x : Later). HaveOneShape x.tables first) l ls shape (read_shapes rest)
+  read_shapes : {cs : List Change} {ls : List Later} → AreRead files first cs ls → HaveShapeOf first ls
+  read_shapes read_none = All-nil (λ (x : Later). HaveOneShape x.tables first)
+  read_shapes (read_one {l = l} {ls = ls} after is shape rest) = All-cons (λ (x : Later). HaveOneShape x.tables first) l ls shape (read_shapes rest)
 
   -- what holds of each file's tables holds of those in force, and the file in force
   module _ (Q : List ℕ → Tables → Type 0) (i : ℕ) where
-    read_in_force : {cs : List Change} {ls : List Later} → AreRead cs ls → (P : List ℕ → Type 0) → All (λ (c : Change). P c.name) cs → ((name : List ℕ) → P name → (t : Tables) → TablesOf (file_of files name) (Ok t) → Q name t)
+    pub read_in_force : {cs : List Change} {ls : List Later} → AreRead files first cs ls → (P : List ℕ → Type 0) → All (λ (c : Change). P c.name) cs → ((name : List ℕ) → P name → (t : Tables) → TablesOf (file_of files name) (Ok t) → Q name t)
         → (name : List ℕ) (t : Tables) → Q name t → Q (file_in_force name cs i) (in_force t ls i)
-    read_in_force none P all holds name t here = here
-    read_in_force (one {c = c} {cs = cs} {l = l} {ls = ls} after is shape rest) P all holds name t here =
+    read_in_force read_none P all holds name t here = here
+    read_in_force (read_one {c = c} {cs = cs} {l = l} {ls = ls} after is shape rest) P all holds name t here =
         let then_on = read_in_force rest P (All-tail (λ (x : Change). P x.name) c cs all) holds c.name l.tables (holds c.name (All-head (λ (x : Change). P x.name) c cs all) l.tables is) in
         subst (λ n. Q (if nat_le n i then file_in_force c.name cs i else name) (if nat_le l.after i then in_force l.tables ls i else t)) after
         (elim (nat_le l.after i) as (λ b. Q (if b then file_in_force c.name cs i else name) (if b then in_force l.tables ls i else t)) [ true ↦ then_on | false ↦ here ])
@@ -82,10 +69,6 @@ said_changes_of file cs (inr h) = said_by_lines (changes_of file) cs h.1
 
 -- ---- the run
 module _ (files : Files) (first : Tables) (lines : List ℕ) where
-  changes_read : (ls : List Later) → ChangedTables files first lines (Ok ls) → (cs : List Change) × ChangesOf (file_of files lines) (Ok cs) × AreRead files first cs ls
-  changes_read ls (inl h) = absurd (let e = h.2 in cc)
-  changes_read ls (inr h) = (h.0, h.1, all_read files first h.0 (Ok ls) h.2 ls refl)
-
   module _ (packets : List ℕ) (hops : Bool) (ending : Ending) (text : List ℕ) (well : 0 ≡ status_of ending) where
     -- a run that ended with status 0 read all packets, and has a report
     abbrev Reported : List Later → Type 0

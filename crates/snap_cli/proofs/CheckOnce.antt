@@ -1,18 +1,18 @@
--- `check` deserves one ending and one text, but that each pair on which a program races may be told.
-use Rattle.std.proofs.Common.{◌≡◌, ◌≤◌, ◌⊎◌, ℕ, List, length, Ok, Err, refl, sym, ◌∙◌, ap, subst, inl, inr}
+-- A program that was read is judged in one way, but that each pair on which it races may be told.
+use Rattle.std.proofs.Common.{◌≡◌, ◌≤◌, ◌⊎◌, ℕ, List, length, Ok, Err, refl, sym, ◌∙◌, subst, inl, inr}
 use Rattle.snap_core.specs.declared.program.Program.{Program}
 use Rattle.snap_core.specs.declared.place.Place.{Place}
 use Rattle.snap_core.specs.Arrays.{Arrays}
 use Rattle.snap_core.specs.Fields.{count}
 use Rattle.snap_core.specs.Inputs.{IsPacket}
 use Rattle.snap_build.specs.Whole.{IsRaceOf}
-use Rattle.snap_io.specs.Files.{Files, file_of}
 use Rattle.snap_names.specs.Declarations.{core_program}
 use Rattle.snap_cli.specs.declared.refusal.Refusal.{Refusal}
 use Rattle.snap_cli.specs.declared.refusal.Refusal.TheVariants.{Race}
-use Rattle.snap_cli.specs.Check.{EndsCheck, EndsJudged, IsCheckText, IsJudgedText, NeverRaces, Races}
-use Rattle.snap_cli.specs.Laws.{IsSameEnding, SpellsOneProgram}
+use Rattle.snap_cli.specs.Check.{EndsJudged, IsJudgedText, NeverRaces, Races}
+use Rattle.snap_cli.specs.Laws.{IsSameEnding}
 use Rattle.snap_cli.specs.Refusals.{Ending, status_of}
+use Rattle.snap_cli.proofs.Pipeline.{Agree, cases_once}
 use Rattle.snap_cli.proofs.SameCore.{same_eval, same_fields, same_names}
 
 -- two programs with one core program: where the one never races, the other doesn't
@@ -51,25 +51,8 @@ judged_once p q same (Ok u) (Ok v) h k = inl refl
 judged_once p q same (Ok u) (Err (Race text)) h k = absurd (never_both p q same h k.0 k.1 k.2)
 judged_once p q same (Err (Race text)) (Ok v) h k = absurd (never_both q p (sym same) k h.0 h.1 h.2)
 judged_once p q same (Err (Race text)) (Err (Race other)) h k = inr tt
-judged_once p q same (Ok u) (Err e) h k = absurd k
-judged_once p q same (Err (Race text)) (Err e) h k = absurd k
-judged_once p q same (Err e) b h k = absurd h
+judged_once p q same a b h k = absurd search
 
-text_judged_once : (p q : Program) → core_program p ≡ core_program q → (a b : List ℕ) → IsJudgedText p a → IsJudgedText q b → a ≡ b
-text_judged_once p q same a b (inl h) (inl k) = h.1 ∙ sym k.1
-text_judged_once p q same a b (inr h) (inr k) = h.1 ∙ sym k.1
-text_judged_once p q same a b (inl h) (inr k) = absurd (never_both p q same h.0 k.0.0 k.0.1 k.0.2)
-text_judged_once p q same a b (inr h) (inl k) = absurd (never_both q p (sym same) k.0 h.0.0 h.0.1 h.0.2)
-
-module _ (spells : SpellsOneProgram) (files : Files) (program : List ℕ) where
-  pub ends_check_once : (a b : Ending) → EndsCheck files program a → EndsCheck files program b → IsSameEnding a b
-  ends_check_once a b (inl h) (inl k) = inl (h.2 ∙ (ap (λ e. Err e) (spells (file_of files program) (Err h.0) (Err k.0) h.1 k.1) ∙ sym k.2))
-  ends_check_once a b (inl h) (inr k) = absurd (spells (file_of files program) (Err h.0) (Ok k.0) h.1 k.1)
-  ends_check_once a b (inr h) (inl k) = absurd (spells (file_of files program) (Ok h.0) (Err k.0) h.1 k.1)
-  ends_check_once a b (inr h) (inr k) = judged_once h.0 k.0 (spells (file_of files program) (Ok h.0) (Ok k.0) h.1 k.1) a b h.2 k.2
-
-  pub check_text_once : (a b : List ℕ) → IsCheckText files program a → IsCheckText files program b → a ≡ b
-  check_text_once a b (inl h) (inl k) = h.2 ∙ sym k.2
-  check_text_once a b (inl h) (inr k) = absurd (spells (file_of files program) (Err h.0) (Ok k.0) h.1 k.1)
-  check_text_once a b (inr h) (inl k) = absurd (spells (file_of files program) (Ok h.0) (Err k.0) h.1 k.1)
-  check_text_once a b (inr h) (inr k) = text_judged_once h.0 k.0 (spells (file_of files program) (Ok h.0) (Ok k.0) h.1 k.1) a b h.2 k.2
+pub text_judged_once : (p q : Program) → core_program p ≡ core_program q → Agree ◌≡◌ (IsJudgedText p) (IsJudgedText q)
+text_judged_once p q same a b =
+    cases_once (λ h k. h.1 ∙ sym k.1) (λ h k. never_both p q same h.0 k.0.0 k.0.1 k.0.2) (λ h k. never_both q p (sym same) h.0 k.0.0 k.0.1 k.0.2) (λ h k. h.1 ∙ sym k.1)

@@ -1,5 +1,5 @@
 -- `equal` deserves one ending and one text, but that each pair on which a program races, or two differ, may be told.
-use Rattle.std.proofs.Common.{◌≡◌, ◌≤◌, ◌⊎◌, ℕ, List, length, Ok, Err, refl, sym, ◌∙◌, ap, subst, inl, inr}
+use Rattle.std.proofs.Common.{◌≡◌, ◌≤◌, ◌⊎◌, ℕ, List, [], length, Ok, Err, refl, sym, ◌∙◌, subst, inl, inr}
 use Rattle.snap_core.specs.declared.program.Program.{Program}
 use Rattle.snap_core.specs.declared.place.Place.{Place}
 use Rattle.snap_core.specs.Arrays.{Arrays}
@@ -16,6 +16,7 @@ use Rattle.snap_cli.specs.Laws.{IsSameEnding, SpellsOneProgram}
 use Rattle.snap_cli.specs.ProgramOf.{ProgramOf}
 use Rattle.snap_cli.specs.Refusals.{Ending, status_of}
 use Rattle.snap_cli.proofs.CheckOnce.{never_both, same_never}
+use Rattle.snap_cli.proofs.Pipeline.{After, Agree, after_once, cases_once, one_program, past, relayed}
 use Rattle.snap_cli.proofs.SameCore.{same_eval, same_fields, same_names}
 
 -- p and q have the core programs of r and s
@@ -78,17 +79,12 @@ module _ (p q r s : Program) (left : core_program p ≡ core_program r) (right :
   compared_once (Err (Differ text)) (Err Declarations) h k = absurd (k (alike p q r s left right h.0.declared))
   compared_once (Err (Differ text)) (Err (Race other)) h k = absurd (race_never r s p q (sym left) (sym right) other.items k.1 h.0)
   compared_once (Err (Differ text)) (Err (Differ other)) h k = inr tt
-  compared_once (Ok u) (Err e) h k = absurd k
-  compared_once (Err Declarations) (Err e) h k = absurd k
-  compared_once (Err (Race text)) (Err e) h k = absurd k
-  compared_once (Err (Differ text)) (Err e) h k = absurd k
-  compared_once (Err e) b h k = absurd h
+  compared_once a b h k = absurd search
 
-  text_compared_once : (a b : List ℕ) → IsComparedText p q a → IsComparedText r s b → a ≡ b
-  text_compared_once a b (inl h) (inl k) = h.2 ∙ sym k.2
-  text_compared_once a b (inr h) (inr k) = h.1 ∙ sym k.1
-  text_compared_once a b (inl h) (inr k) = absurd (k.0 (comparable p q r s left right h.0) (mean_same p q r s left right h.1))
-  text_compared_once a b (inr h) (inl k) = absurd (h.0 (comparable r s p q (sym left) (sym right) k.0) (mean_same r s p q (sym left) (sym right) k.1))
+  text_compared_once : Agree ◌≡◌ (IsComparedText p q) (IsComparedText r s)
+  text_compared_once a b =
+      cases_once (λ h k. h.2 ∙ sym k.2) (λ h k. k.0 (comparable p q r s left right h.0) (mean_same p q r s left right h.1))
+      (λ h k. k.0 (comparable r s p q (sym left) (sym right) h.0) (mean_same r s p q (sym left) (sym right) h.1)) (λ h k. h.1 ∙ sym k.1)
 
   -- the status of comparable programs that were read
   pub compared_status : AreComparable r s → (e : Ending) → EndsCompared p q e → ((status_of e ≡ 0) × MeanSame r s) ⊎ ((status_of e ≡ 18) × Differs r s)
@@ -98,33 +94,42 @@ module _ (p q r s : Program) (left : core_program p ≡ core_program r) (right :
   compared_status calm (Err (Differ text)) h = inr (refl, differs p q r s left right (h.1.0, h.1.1, h.1.2))
   compared_status calm (Err e) h = absurd h
 
+-- ---- the command
+abbrev Fails : Refusal → Ending → Type 0
+Fails e ending = ending ≡ Err e
+
+abbrev Empty : Refusal → List ℕ → Type 0
+Empty e text = text ≡ []
+
+-- the first program, the second, and what is made of both
+module _ {Y : Type 0} (files : Files) (left right : List ℕ) (Refuses : Refusal → Y → Type 0) (Both : Program → Program → Y → Type 0) where
+  abbrev pub Reads : Y → Type 0
+  Reads = After (ProgramOf (file_of files left)) Refuses (λ p. After (ProgramOf (file_of files right)) Refuses (Both p))
+
+  pub reads : (y : Y) → ((e : Refusal) × IsFirstRefusal files left right e × Refuses e y) ⊎ ((p : Program) × (q : Program) × ProgramOf (file_of files left) (Ok p) × ProgramOf (file_of files right) (Ok q) × Both p q y) → Reads y
+  reads y (inl (e, inl h, is)) = inl (e, h, is)
+  reads y (inl (e, inr (p, h, k), is)) = inr (p, h, inl (e, k, is))
+  reads y (inr (p, q, h, k, is)) = inr (p, h, inr (q, k, is))
+
 module _ (spells : SpellsOneProgram) (files : Files) (left right : List ℕ) where
-  first_once : (a b : Refusal) → IsFirstRefusal files left right a → IsFirstRefusal files left right b → a ≡ b
-  first_once a b (inl h) (inl k) = spells (file_of files left) (Err a) (Err b) h k
-  first_once a b (inl h) (inr k) = absurd (spells (file_of files left) (Err a) (Ok k.0) h k.1)
-  first_once a b (inr h) (inl k) = absurd (spells (file_of files left) (Ok h.0) (Err b) h.1 k)
-  first_once a b (inr h) (inr k) = spells (file_of files right) (Err a) (Err b) h.2 k.2
+  -- what is made of two programs agrees, where it does for those with one core program
+  pub both_once : {Y : Type 0} {S : Y → Y → Type 0} (Refuses : Refusal → Y → Type 0) (Both : Program → Program → Y → Type 0)
+      → ((e : Refusal) → Agree S (Refuses e) (Refuses e)) → ((p q r s : Program) → core_program p ≡ core_program r → core_program q ≡ core_program s → Agree S (Both p q) (Both r s))
+      → Agree S (Reads files left right Refuses Both) (Reads files left right Refuses Both)
+  both_once Refuses Both refused both =
+      after_once (one_program spells (file_of files left)) _ _ _ _ refused
+      (λ p r first h k. after_once (one_program spells (file_of files right)) _ _ _ _ refused (λ q s second m n. both p q r s first second))
 
-  none_read : (a : Refusal) (p q : Program) → IsFirstRefusal files left right a → ProgramOf (file_of files left) (Ok p) → ProgramOf (file_of files right) (Ok q) → ⊥
-  none_read a p q (inl h) l r = spells (file_of files left) (Err a) (Ok p) h l
-  none_read a p q (inr h) l r = spells (file_of files right) (Err a) (Ok q) h.2 r
+  pub ends_equal_once : Agree IsSameEnding (EndsEqual files left right) (EndsEqual files left right)
+  ends_equal_once a b h k = both_once Fails EndsCompared relayed compared_once a b (reads files left right Fails EndsCompared a h) (reads files left right Fails EndsCompared b k)
 
-  pub ends_equal_once : (a b : Ending) → EndsEqual files left right a → EndsEqual files left right b → IsSameEnding a b
-  ends_equal_once a b (inl h) (inl k) = inl (h.2 ∙ (ap (λ e. Err e) (first_once h.0 k.0 h.1 k.1) ∙ sym k.2))
-  ends_equal_once a b (inl h) (inr k) = absurd (none_read h.0 k.0 k.1 h.1 k.2 k.3)
-  ends_equal_once a b (inr h) (inl k) = absurd (none_read k.0 h.0 h.1 k.1 h.2 h.3)
-  ends_equal_once a b (inr h) (inr k) =
-      compared_once h.0 h.1 k.0 k.1 (spells (file_of files left) (Ok h.0) (Ok k.0) h.2 k.2) (spells (file_of files right) (Ok h.1) (Ok k.1) h.3 k.3) a b h.4 k.4
-
-  pub equal_text_once : (a b : List ℕ) → IsEqualText files left right a → IsEqualText files left right b → a ≡ b
-  equal_text_once a b (inl h) (inl k) = h.2 ∙ sym k.2
-  equal_text_once a b (inl h) (inr k) = absurd (none_read h.0 k.0 k.1 h.1 k.2 k.3)
-  equal_text_once a b (inr h) (inl k) = absurd (none_read k.0 h.0 h.1 k.1 h.2 h.3)
-  equal_text_once a b (inr h) (inr k) =
-      text_compared_once h.0 h.1 k.0 k.1 (spells (file_of files left) (Ok h.0) (Ok k.0) h.2 k.2) (spells (file_of files right) (Ok h.1) (Ok k.1) h.3 k.3) a b h.4 k.4
+  pub equal_text_once : Agree ◌≡◌ (IsEqualText files left right) (IsEqualText files left right)
+  equal_text_once a b h k = both_once Empty IsComparedText (λ e x y m n. m ∙ sym n) text_compared_once a b (reads files left right Empty IsComparedText a h) (reads files left right Empty IsComparedText b k)
 
   -- the status of two programs that were read
   pub equal_status : (p q : Program) → ProgramOf (file_of files left) (Ok p) → ProgramOf (file_of files right) (Ok q) → AreComparable p q → (e : Ending) → EndsEqual files left right e
       → ((status_of e ≡ 0) × MeanSame p q) ⊎ ((status_of e ≡ 18) × Differs p q)
-  equal_status p q l r calm e (inl h) = absurd (none_read h.0 p q h.1 l r)
-  equal_status p q l r calm e (inr h) = compared_status h.0 h.1 p q (spells (file_of files left) (Ok h.0) (Ok p) h.2 l) (spells (file_of files right) (Ok h.1) (Ok q) h.3 r) calm e h.4
+  equal_status p q l r calm e h =
+      let (other, first, is, rest) = past (one_program spells (file_of files left)) Fails (λ p. After (ProgramOf (file_of files right)) Fails (EndsCompared p)) p l e (reads files left right Fails EndsCompared e h) in
+      let (another, second, was, compared) = past (one_program spells (file_of files right)) Fails (EndsCompared other) q r e rest in
+      compared_status other another p q (sym first) (sym second) calm e compared

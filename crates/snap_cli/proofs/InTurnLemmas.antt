@@ -8,7 +8,6 @@ use Rattle.snap_rows.specs.declared.tables.Tables.{Tables}
 use Rattle.snap_trace.specs.declared.fault.TraceFault.TheVariants as run
 use Rattle.snap_trace.specs.OneSwitch.{RunEnding}
 use Rattle.snap_runs.specs.declared.schedule.ScheduleFault.{ScheduleFault}
-use Rattle.snap_runs.specs.declared.schedule.ScheduleFault.TheVariants as order
 use Rattle.snap_order.specs.Runs.{HasScheduleReport, IsTrace, RefusesScheduleLine, WritesSchedule, WritesTrace}
 use Rattle.snap_words.specs.Commands.{Command, in_turn, trace}
 use Rattle.snap_cli.specs.declared.refusal.Refusal.TheVariants.{Limit, Packets, VersionOne}
@@ -18,7 +17,7 @@ use Rattle.snap_cli.specs.Obs.{IsRunEnding}
 use Rattle.snap_cli.specs.Refusals.{Ending}
 use Rattle.snap_cli.specs.RunSteps.{ending_of_run, ending_of_schedule}
 use Rattle.snap_cli.specs.TablesOf.{TablesOf}
-use Rattle.snap_cli.proofs.ScheduleLemmas.{EndsSo, line_refused, lines_too_long, lines_unread, memory_short, nothing_out, packets_refused, part_went, whole_went}
+use Rattle.snap_cli.proofs.ScheduleLemmas.{EndsSo, meets-scheduled, nothing_out}
 
 module _ (files : Files) (name : List ℕ) (packets : Bor (List ℕ)) (hops : Bool) (t : Tables) (spelled : TablesOf (file_of files name) (Ok t)) (old new : Option (List ℕ)) where
   abbrev file : List ℕ
@@ -71,13 +70,7 @@ module _ (files : Files) (name : List ℕ) (packets : Bor (List ℕ)) (hops : Bo
       }
 
       meets-lines : (r : Result (Unit {0}) ScheduleFault) → WritesSchedule t hops file text r old new → Meets files command (ending_of_schedule packets lines r) old new
-      meets-lines (Ok u) m = whole_went files command packets lines t Reports Refuses so old new m.0 m.1 m.2
-      meets-lines (Err (order.Packets fault)) m = packets_refused files command packets lines t Reports Refuses so old new fault m.0 m.1
-      meets-lines (Err order.Read) m = lines_unread files command packets lines t Reports Refuses so old new m.0 m.1
-      meets-lines (Err order.TooLong) m = lines_too_long files command packets lines t Reports Refuses so old new m.0 m.1 m.2
-      meets-lines (Err (order.Line line)) m = line_refused files command packets lines t Reports Refuses so old new line m.0 m.1
-      meets-lines (Err order.Write) m = part_went files command packets lines t Reports Refuses so old new m
-      meets-lines (Err order.NoMemory) m = memory_short files command packets lines t Reports Refuses so old new m
+      meets-lines r m = meets-scheduled files command packets lines t Reports Refuses so old new r m
 
     meets-turns : (lines : Option (Bor (List ℕ))) (e : Ending) → MeetsTurns files t hops packets lines e old new → Meets files (ordered (option_map (λ l. l.now) lines)) e old new
     meets-turns None e m = subst (λ x. Meets files each x old new) (sym m.2) (meets-each m.0 m.1)

@@ -6,7 +6,7 @@ pub mod CompileOnce
 pub mod DemoLemmas
 pub mod DemoOnce
 pub mod DepsLemmas
-pub mod DepsOnce
+pub mod Deserves
 pub mod DueStatus
 pub mod EqualLemmas
 pub mod EqualOnce
@@ -24,6 +24,7 @@ pub mod OneTables
 pub mod OneTopology
 pub mod PairText
 pub mod Parts
+pub mod Pipeline
 pub mod PlaceLemmas
 pub mod PlaceOnce
 pub mod PlaceSpelled

@@ -1,5 +1,5 @@
--- `obs` deserves one ending and one text.
-use Rattle.std.proofs.Common.{◌≡◌, ◌++◌, ◌+◌, ◌<◌, ℕ, Bool, true, false, ltb, List, take, Option, Some, Ok, Err, refl, sym, ◌∙◌, ap, subst, inl, inr, arith}
+-- A run on one big switch ends in one way, with one text.
+use Rattle.std.proofs.Common.{◌≡◌, ◌++◌, ◌+◌, ◌<◌, ℕ, Bool, true, false, ltb, List, take, Option, Some, Err, refl, sym, ◌∙◌, ap, subst, inl, inr, arith}
 use Rattle.std.specs.Option.{unwrap_or}
 use Rattle.std.proofs.lemmas.Bool.{ltb-false, ltb-true}
 use Rattle.std.proofs.lemmas.List.{take-take}
@@ -7,23 +7,27 @@ use Rattle.snap_core.specs.declared.program.Program.{Program}
 use Rattle.snap_core.specs.Arrays.{zero_arrays}
 use Rattle.snap_core.specs.Listing.{HasOneListing}
 use Rattle.snap_core.specs.Switch.{Switched, one_big_switch}
-use Rattle.snap_io.specs.Files.{Files, file_of}
 use Rattle.snap_trace.specs.declared.fault.TraceFault.TheVariants as run
 use Rattle.snap_trace.specs.OneSwitch.{EndsAsRead, IsReport, IsUndefinedAfter, made_text, RunEnding}
 use Rattle.snap_trace.specs.Reports.{end_text}
 use Rattle.snap_trace.specs.Spelled.{Stop, ended, refused, spelled}
-use Rattle.snap_cli.specs.Laws.{SpellsOneProgram}
-use Rattle.snap_cli.specs.Obs.{EndsObs, IsObsText, IsRunEnding}
+use Rattle.snap_cli.specs.Obs.{IsRunEnding}
 use Rattle.snap_cli.specs.Refusals.{Ending}
 use Rattle.snap_trace.proofs.SwitchLemmas.{switch-take}
-use Rattle.snap_cli.proofs.SameCore.{same_report}
 
 pub run_ends_once : (r : RunEnding) (a b : Ending) → IsRunEnding r a → IsRunEnding r b → a ≡ b
-run_ends_once (Ok u) a b h k = h ∙ sym k
-run_ends_once (Err (run.Limit which count)) a b h k = h ∙ sym k
-run_ends_once (Err (run.Packets line)) a b h k = h ∙ sym k
-run_ends_once (Err (run.Undefined packet)) a b h k = h ∙ sym k
-run_ends_once (Err fault) a b h k = absurd h
+run_ends_once (Err run.Read) a b h k = absurd h
+run_ends_once r a b h k = search
+
+-- a run's ending and its text are one
+abbrev pub AreOne : {E : Type 0} → (E → List ℕ → Type 0) → Type 0
+AreOne {E} Runs = (a b : List ℕ) (e f : E) → Runs e a → Runs f b → (e ≡ f) × (a ≡ b)
+
+-- so are those of the command
+pub run_once : (Runs : RunEnding → List ℕ → Type 0) → AreOne Runs → AreOne (λ (ending : Ending) text. (run : RunEnding) × Runs run text × IsRunEnding run ending)
+run_once Runs one x y a b h k =
+    let both = one x y h.0 k.0 h.1 k.1 in
+    (run_ends_once k.0 a b (subst (λ r. IsRunEnding r a) both.0 h.2) k.2, both.1)
 
 module _ (lists : HasOneListing) (p : Program) where
   abbrev Switch : List (List ℕ) → Option Switched
@@ -56,39 +60,17 @@ module _ (lists : HasOneListing) (p : Program) where
       from false e true f = absurd (not_before packets cut made b a k h (ltb-true b a f))
       from false e false f = omega (arith, ltb-false a b e, ltb-false b a f)
 
-  pub reports_once : (file : List ℕ) (e f : RunEnding) (a b : List ℕ) → IsReport p file e a → IsReport p file f b → (e ≡ f) × (a ≡ b)
-  reports_once file e f a b (inl h) (inl k) =
+  pub reports_once : (file : List ℕ) → AreOne (IsReport p file)
+  reports_once file a b e f (inl h) (inl k) =
       let read = spelled p.fields file in
       let same = made_once (Switch read.packets) h.0 k.0 h.1 k.1 in
       read_once read.stop k.0 e f a b (subst (λ made. EndsAsRead p.fields p.vars read.stop made e a) same h.2) k.2
-  reports_once file e f a b (inl h) (inr k) = absurd (never_after (spelled p.fields file).packets h.0 k.1 k.0 h.1 k.2)
-  reports_once file e f a b (inr h) (inl k) = absurd (never_after (spelled p.fields file).packets k.0 h.1 h.0 k.1 h.2)
-  reports_once file e f a b (inr h) (inr k) =
+  reports_once file a b e f (inl h) (inr k) = absurd (never_after (spelled p.fields file).packets h.0 k.1 k.0 h.1 k.2)
+  reports_once file a b e f (inr h) (inl k) = absurd (never_after (spelled p.fields file).packets k.0 h.1 h.0 k.1 h.2)
+  reports_once file a b e f (inr h) (inr k) =
       let packets = (spelled p.fields file).packets in
       let at = after_once packets h.1 k.1 h.0 k.0 h.2 k.2 in
       let same = made_once (Switch (take k.0 packets)) h.1 k.1 (subst (λ n. Switch (take n packets) ≡ Some h.1) at h.2.some) k.2.some in (
         h.3 ∙ (ap (λ n. Err (run.Undefined (n + 1))) at ∙ sym k.3),
         h.4 ∙ (ap (made_text p.fields) same ∙ sym k.4),
       )
-
-module _ (spells : SpellsOneProgram) (lists : HasOneListing) (files : Files) (program packets : List ℕ) where
-  pub ends_obs_once : (a b : Ending) → EndsObs files program packets a → EndsObs files program packets b → a ≡ b
-  ends_obs_once a b (inl h) (inl k) = h.2 ∙ (ap (λ e. Err e) (spells (file_of files program) (Err h.0) (Err k.0) h.1 k.1) ∙ sym k.2)
-  ends_obs_once a b (inl h) (inr k) = absurd (spells (file_of files program) (Err h.0) (Ok k.0) h.1 k.1)
-  ends_obs_once a b (inr h) (inl k) = absurd (spells (file_of files program) (Ok h.0) (Err k.0) h.1 k.1)
-  ends_obs_once a b (inr h) (inr k) =
-      let file = file_of files packets in
-      let same = spells (file_of files program) (Ok h.0) (Ok k.0) h.1 k.1 in
-      let mine = h.2.1 in
-      let other = k.2.1 in
-      let one = (reports_once lists k.0 file mine.0 other.0 h.2.0 k.2.0 (same_report h.0 k.0 same file mine.0 h.2.0 mine.1) other.1).0 in
-      run_ends_once other.0 a b (subst (λ r. IsRunEnding r a) one mine.2) other.2
-
-  pub obs_text_once : (a b : List ℕ) → IsObsText files program packets a → IsObsText files program packets b → a ≡ b
-  obs_text_once a b (inl h) (inl k) = h.2 ∙ sym k.2
-  obs_text_once a b (inl h) (inr k) = absurd (spells (file_of files program) (Err h.0) (Ok k.0) h.1 k.1)
-  obs_text_once a b (inr h) (inl k) = absurd (spells (file_of files program) (Ok h.0) (Err k.0) h.1 k.1)
-  obs_text_once a b (inr h) (inr k) =
-      let file = file_of files packets in
-      let same = spells (file_of files program) (Ok h.0) (Ok k.0) h.1 k.1 in
-      (reports_once lists k.0 file h.2.0 k.2.0 a b (same_report h.0 k.0 same file h.2.0 a h.2.1) k.2.1).1

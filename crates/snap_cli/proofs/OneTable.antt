@@ -6,10 +6,10 @@ use Rattle.std.proofs.lemmas.Bool.{cases_eq, cases_lt}
 use Rattle.std.proofs.lemmas.Bool.Decides.{eqb_tells}
 use Rattle.snap_topo.specs.declared.topology.Topology.{Topology}
 use Rattle.snap_route.specs.Tables.{Table, AreRoutes, IsUnreachable, next_of}
-use Rattle.snap_topo.specs.Pairs.{IsBefore}
-use Rattle.snap_route.specs.Walks.{HasWalk, IsDiameter, IsDistance, IsFirstApart, IsNext, IsWalk, Linked}
+use Rattle.snap_route.specs.Walks.{HasWalk, IsDiameter, IsDistance, IsNext, IsWalk, Linked}
 use Rattle.snap_route.proofs.Walking.{distance-walk}
 use Rattle.snap_cli.specs.Routes.{end_text, line_between, lines_from, routes_text}
+use Rattle.snap_cli.proofs.Pipeline.{least_once}
 use Rattle.snap_seek.proofs.Once.{same_distance}
 use Rattle.snap_runs.specs.Tallies.{name_in}
 
@@ -51,19 +51,8 @@ module _ (step : ℕ → ℕ → Type 0) where
       let down = x.greatest y.reached.0 y.reached.1.0 e y.reached.1.1.0 y.reached.1.1.1.0 y.reached.1.1.1.1 in
       omega (arith, up, down)
 
-  walk_between : (count a b c d : ℕ) → IsFirstApart step count a b → IsFirstApart step count c d → IsBefore c d a b → ⊥
-  walk_between count a b c d x y before = y.apart (x.first c d y.lesser y.below before)
-
-  apart_at : (count a b c d : ℕ) → IsFirstApart step count a b → IsFirstApart step count c d → (a < c) ⊎ (c ≤ a) → (c < a) ⊎ (a ≤ c) → (b < d) ⊎ (d ≤ b) → (d < b) ⊎ (b ≤ d)
-      → (a ≡ c) × (b ≡ d)
-  apart_at count a b c d x y (inl l) p q r = absurd (walk_between count c d a b y x (inl l))
-  apart_at count a b c d x y (inr l) (inl m) q r = absurd (walk_between count a b c d x y (inl m))
-  apart_at count a b c d x y (inr l) (inr m) (inl q) r = absurd (walk_between count c d a b y x (inr (omega (arith, l, m), q)))
-  apart_at count a b c d x y (inr l) (inr m) (inr q) (inl r) = absurd (walk_between count a b c d x y (inr (omega (arith, l, m), r)))
-  apart_at count a b c d x y (inr l) (inr m) (inr q) (inr r) = (omega (arith, l, m), omega (arith, q, r))
-
 pub apart_once : (t : Topology) (a b c d : ℕ) → IsUnreachable t a b → IsUnreachable t c d → (a ≡ c) × (b ≡ d)
-apart_once t a b c d x y = apart_at (Linked t.links) (length t.switches) a b c d x y (cases_lt a c) (cases_lt c a) (cases_lt b d) (cases_lt d b)
+apart_once t a b c d x y = least_once a b c d (λ before. y.apart (x.first c d y.lesser y.below before)) (λ before. x.apart (y.first a b x.lesser x.below before))
 
 -- a topology with routes has no pair apart
 pub none_apart : (t : Topology) (table : Table) (a b : ℕ) → AreRoutes t table → IsUnreachable t a b → ⊥

@@ -1,5 +1,5 @@
 -- A file spells one topology at most, or is refused for one reason.
-use Rattle.std.proofs.Common.{◌≡◌, ℕ, List, [], ◌∷◌, Option, Some, None, Result, Ok, Err, refl, sym, ◌∙◌, ap, inl, inr, arith}
+use Rattle.std.proofs.Common.{◌≡◌, ℕ, List, [], ◌∷◌, Option, Some, None, Result, Ok, Err, refl, sym, ◌∙◌, ap, arith}
 use Rattle.std.specs.List.{AllPairs}
 use Rattle.std.specs.List.Sorted.{IsStrictlySortedBy}
 use Rattle.std.specs.Ordering.{ordering_reverse}
@@ -19,9 +19,10 @@ use Rattle.snap_topo.proofs.Pairs.{link_cmp_total}
 use Rattle.snap_cli.specs.declared.refusal.Refusal.{Refusal}
 use Rattle.snap_cli.specs.declared.refusal.Refusal.TheVariants as refused
 use Rattle.snap_cli.specs.declared.refusal.TopologyFault.{TopologyFault}
-use Rattle.snap_cli.specs.declared.refusal.TopologyFault.TheVariants.{NotToml, Shape, SwitchTwice, UnknownSwitch}
+use Rattle.snap_cli.specs.declared.refusal.TopologyFault.TheVariants.{NotToml}
 use Rattle.snap_cli.specs.RoutesSteps.{refusal_of_topology}
 use Rattle.snap_cli.specs.TopologyOf.{SpellsTopology, TopologyOf, fault_of}
+use Rattle.snap_cli.proofs.Pipeline.{Agree, Alike, alike, within_once}
 use Rattle.snap_cli.proofs.Rising.{same_rising}
 
 abbrev Rises : ℕ × ℕ → ℕ × ℕ → Type 0
@@ -53,12 +54,12 @@ different_once : (s : Spelled) (name : Option (List ℕ)) (a b : Result Topology
 different_once s (Some name) a b h k = h ∙ sym k
 different_once s None a b h k = known_once s (first_unknown s) a b h k
 
-within_once : (s : Spelled) (many : Option (Which × ℕ)) (a b : Result Topology TopoFault) → WithinThen s many a → WithinThen s many b → a ≡ b
-within_once s (Some many) a b h k = h ∙ sym k
-within_once s None a b h k = different_once s (first_repeat s.switches) a b h k
+counted_once : (s : Spelled) (many : Option (Which × ℕ)) (a b : Result Topology TopoFault) → WithinThen s many a → WithinThen s many b → a ≡ b
+counted_once s (Some many) a b h k = h ∙ sym k
+counted_once s None a b h k = different_once s (first_repeat s.switches) a b h k
 
 spelled_once : (r : Result Spelled TopoFault) (a b : Result Topology TopoFault) → SpelledThen r a → SpelledThen r b → a ≡ b
-spelled_once (Ok s) a b h k = within_once s (too_many s) a b h k
+spelled_once (Ok s) a b h k = counted_once s (too_many s) a b h k
 spelled_once (Err e) a b h k = h ∙ sym k
 
 -- an answer, as the command tells it
@@ -68,9 +69,7 @@ told (Err fault) = Err (refusal_of_topology fault)
 
 fault_told : (fault : TopologyFault) → Err (refused.Topology fault) ≡ told (Err (fault_of fault))
 fault_told NotToml = refl
-fault_told (Shape rule) = refl
-fault_told (SwitchTwice name) = refl
-fault_told (UnknownSwitch name) = refl
+fault_told fault = refl
 
 answered : (text : List ℕ) (a : Result Topology Refusal) → SpellsTopology text a → (x : Result Topology TopoFault) × IsAnswer text x × (a ≡ told x)
 answered text (Ok t) h = (Ok t, h, refl)
@@ -84,8 +83,5 @@ spells_once text a b h k =
     let y = answered text b k in
     x.2 ∙ (ap told (spelled_once (spelled (document text)) x.0 y.0 x.1 y.1) ∙ sym y.2)
 
-pub topology_once : (file : List ℕ) (a b : Result Topology Refusal) → TopologyOf file a → TopologyOf file b → a ≡ b
-topology_once file a b (inl h) (inl k) = h.1 ∙ sym k.1
-topology_once file a b (inl h) (inr k) = let long = h.0 in let short = k.0 in absurd (omega (arith, long, short))
-topology_once file a b (inr h) (inl k) = let short = h.0 in let long = k.0 in absurd (omega (arith, long, short))
-topology_once file a b (inr h) (inr k) = spells_once file a b h.1 k.1
+pub topology_once : (file : List ℕ) → Agree (Alike ◌≡◌) (TopologyOf file) (TopologyOf file)
+topology_once file = alike (within_once _ _ _ _ _ (spells_once file))

@@ -1,5 +1,5 @@
--- `place` deserves one ending and one text.
-use Rattle.std.proofs.Common.{◌≡◌, ℕ, List, [], length, Result, Ok, Err, refl, sym, ◌∙◌, ap, ap₂, subst, inl, inr, arith}
+-- `place` gives one text, or one reason why there is none.
+use Rattle.std.proofs.Common.{◌≡◌, ℕ, List, length, Result, Ok, Err, refl, sym, ◌∙◌, ap, ap₂, subst, inl, inr, arith}
 use Rattle.snap_core.specs.declared.policy.Pol.{Pol}
 use Rattle.snap_core.specs.declared.program.Program.{Program}
 use Rattle.snap_core.specs.Fields.{count}
@@ -23,13 +23,18 @@ use Rattle.snap_seek.proofs.Once.{answer-apart, answer-once, answer-same, bare, 
 use Rattle.snap_seek.proofs.Ranked.{ordered}
 use Rattle.snap_cli.specs.declared.refusal.Refusal.{Refusal}
 use Rattle.snap_cli.specs.Laws.{SpellsOneProgram}
-use Rattle.snap_cli.specs.Place.{EndsPlace, HasNoDemand, HasNoPlacement, HasNoPlacementOn, IsPlaceText, IsPlaced, IsPlacedOn, IsPlacementOf, SpellsNoDemand, refusal_of_demand}
-use Rattle.snap_cli.specs.Refusals.{Ending}
-use Rattle.snap_cli.specs.Routes.{routes_text}
-use Rattle.snap_cli.proofs.RoutesOnce.{one_topology, refused_once, routed_well, why}
+use Rattle.snap_cli.specs.Place.{HasNoDemand, HasNoPlacement, IsPlaced, IsPlacementOf, SpellsNoDemand, refusal_of_demand}
+use Rattle.snap_cli.specs.ProgramOf.{ProgramOf}
+use Rattle.snap_cli.proofs.Pipeline.{After, Agree, IsSameOutcome, after_once, next_once, one_program, refused_alike, within_once}
+use Rattle.snap_cli.proofs.RoutesOnce.{Routed, routed_once}
 use Rattle.snap_cli.proofs.SameCore.{same_names}
 use Rattle.snap_cli.proofs.SameUses.{grouped}
 use Rattle.snap_cli.proofs.TextLemmas.{one_grouping}
+
+-- the text of the best placement on a topology that was read, or why there is none
+abbrev Placed : (file : List ℕ) → Program → Topology → Result (List ℕ) Refusal → Type 0
+Placed file p t (Ok text) = (table : Table) × AreRoutes t table × IsPlacementOf p t table file text
+Placed file p t (Err e) = HasNoDemand p t file e
 
 -- ---- programs with one core program
 
@@ -64,16 +69,10 @@ module _ (p q : Program) (same : core_program p ≡ core_program q) where
     is = h.is ∙ ap (λ (vs : List (List ℕ)). refusal_of_demand vs h.fault) (same_names p q same);
   }
 
-  has-none-by : (t : Topology) (file : List ℕ) (e : Refusal) → HasNoDemand p t file e → HasNoDemand q t file e
-  has-none-by t file e (inl h) = inl h
-  has-none-by t file e (inr h) = inr (h.0, spells-none-by t file e h.1)
-
-  pub no-placement-by : (files : Files) (topology demand : List ℕ) (e : Refusal) → HasNoPlacementOn files p topology demand e → HasNoPlacementOn files q topology demand e
-  no-placement-by files topology demand e (inl h) = inl h
-  no-placement-by files topology demand e (inr (t, table, h, r, none)) = inr (t, table, h, r, has-none-by t (file_of files demand) e none)
-
-  pub placed-by : (files : Files) (topology demand text : List ℕ) → IsPlacedOn files p topology demand text → IsPlacedOn files q topology demand text
-  placed-by files topology demand text (t, table, h, r, is) = (t, table, h, r, placement-by t table (file_of files demand) text is)
+  placed-by : (t : Topology) (file : List ℕ) (r : Result (List ℕ) Refusal) → Placed file p t r → Placed file q t r
+  placed-by t file (Ok text) h = (h.0, h.1, placement-by t h.0 file text h.2)
+  placed-by t file (Err e) (inl h) = inl h
+  placed-by t file (Err e) (inr h) = inr (h.0, spells-none-by t file e h.1)
 
 -- ---- one program
 
@@ -92,11 +91,8 @@ module _ (tied : (p : Pol) → TiedIsEquivalence p) (one : (p : Pol) (n : ℕ) �
       let y = subst (λ (g : Grouping). IsAnswer p g t text (Err k.fault)) (sym same) (bare-answer p k.grouping t text (Err k.fault) k.answer) in
       h.is ∙ (ap (refusal_of_demand p.vars) (answer-once p (bare h.grouping) t text h.fault k.fault x y) ∙ sym k.is)
 
-  has-none-once : (t : Topology) (file : List ℕ) (e f : Refusal) → HasNoDemand p t file e → HasNoDemand p t file f → e ≡ f
-  has-none-once t file e f (inl h) (inl k) = h.1 ∙ sym k.1
-  has-none-once t file e f (inl h) (inr k) = let long = h.0 in let short = k.0 in absurd (omega arith)
-  has-none-once t file e f (inr h) (inl k) = let short = h.0 in let long = k.0 in absurd (omega arith)
-  has-none-once t file e f (inr h) (inr k) = spells-none-once t file e f h.1 k.1
+  has-none-once : (t : Topology) (file : List ℕ) → Agree ◌≡◌ (HasNoDemand p t file) (HasNoDemand p t file)
+  has-none-once t file = within_once _ _ _ _ _ (spells-none-once t file)
 
   placement-apart : (t : Topology) (table : Table) (file text : List ℕ) (e : Refusal) → IsPlacementOf p t table file text → HasNoDemand p t file e → ⊥
   placement-apart t table file text e h (inl k) = let short = h.short in let long = k.0 in omega arith
@@ -119,58 +115,28 @@ module _ (tied : (p : Pol) → TiedIsEquivalence p) (one : (p : Pol) (n : ℕ) �
       (bare-best g t x h.demand h.best h.is_best) best in
       h.is ∙ (ap (λ (b : Best). placement_text p.vars t.switches b.owners b.cost) bests ∙ sym k.is)
 
-  module _ (files : Files) (topology demand : List ℕ) where
-    pub no-placement-once : (e f : Refusal) → HasNoPlacementOn files p topology demand e → HasNoPlacementOn files p topology demand f → e ≡ f
-    no-placement-once e f (inl h) (inl k) = let file = file_of files topology in refused_once file e f (why file e h) (why file f k)
-    no-placement-once e f (inl h) (inr (u, y, k, s, none)) =
-        let file = file_of files topology in absurd (routed_well file (routes_text u.switches y) e (u, y, k, s, refl) (why file e h))
-    no-placement-once e f (inr (t, x, h, r, none)) (inl k) =
-        let file = file_of files topology in absurd (routed_well file (routes_text t.switches x) f (t, x, h, r, refl) (why file f k))
-    no-placement-once e f (inr (t, x, h, r, none)) (inr (u, y, k, s, never)) =
-        let same = one_topology (file_of files topology) t u h k in
-        has-none-once u (file_of files demand) e f (subst (λ (v : Topology). HasNoDemand p v (file_of files demand) e) same none) never
-
-    pub placed-apart : (text : List ℕ) (e : Refusal) → IsPlacedOn files p topology demand text → HasNoPlacementOn files p topology demand e → ⊥
-    placed-apart text e (t, x, h, r, is) (inl k) = let file = file_of files topology in routed_well file (routes_text t.switches x) e (t, x, h, r, refl) (why file e k)
-    placed-apart text e (t, x, h, r, is) (inr (u, y, k, s, none)) =
-        let same = one_topology (file_of files topology) u t k h in
-        placement-apart t x (file_of files demand) text e is (subst (λ (v : Topology). HasNoDemand p v (file_of files demand) e) same none)
-
-    pub placed-once : (a b : List ℕ) → IsPlacedOn files p topology demand a → IsPlacedOn files p topology demand b → a ≡ b
-    placed-once a b (t, x, h, r, is) (u, y, k, s, was) =
-        let same = one_topology (file_of files topology) t u h k in
-        placement-once u x y (file_of files demand) a b (subst (λ (v : Topology). AreRoutes v x) same r) s (subst (λ (v : Topology). IsPlacementOf p v x (file_of files demand) a) same is) was
+  placed-once : (t : Topology) (file : List ℕ) → Agree (IsSameOutcome ◌≡◌) (Placed file p t) (Placed file p t)
+  placed-once t file (Ok a) (Ok b) h k = placement-once t h.0 k.0 file a b h.1 k.1 h.2 k.2
+  placed-once t file (Ok a) (Err f) h k = placement-apart t h.0 file a f h.2 k
+  placed-once t file (Err e) (Ok b) h k = placement-apart t k.0 file b e k.2 h
+  placed-once t file (Err e) (Err f) h k = inl (ap Err (has-none-once t file e f h k))
 
 -- ---- the command
 
-module _ (spells : SpellsOneProgram) (tied : (p : Pol) → TiedIsEquivalence p) (one : (p : Pol) (n : ℕ) → UsesBelow n p → HasOneRank p n) (files : Files) (program topology demand : List ℕ) where
-  refusal-once : (e f : Refusal) → HasNoPlacement files program topology demand e → HasNoPlacement files program topology demand f → e ≡ f
-  refusal-once e f (inl h) (inl k) = spells (file_of files program) (Err e) (Err f) h k
-  refusal-once e f (inl h) (inr (q, k, none)) = absurd (spells (file_of files program) (Err e) (Ok q) h k)
-  refusal-once e f (inr (p, h, none)) (inl k) = absurd (spells (file_of files program) (Ok p) (Err f) h k)
-  refusal-once e f (inr (p, h, none)) (inr (q, k, never)) =
-      let same = spells (file_of files program) (Ok p) (Ok q) h k in
-      no-placement-once tied one q k.2 files topology demand e f (no-placement-by p q same files topology demand e none) never
+module _ (files : Files) (program topology demand : List ℕ) where
+  abbrev pub GivesPlacement : Result (List ℕ) Refusal → Type 0
+  GivesPlacement = After (ProgramOf (file_of files program)) (λ e r. r ≡ Err e) (λ p. After (Routed (file_of files topology)) (λ e r. r ≡ Err e) (Placed (file_of files demand) p))
 
-  placed-or-not : (text : List ℕ) (e : Refusal) → IsPlaced files program topology demand text → HasNoPlacement files program topology demand e → ⊥
-  placed-or-not text e (p, h, is) (inl k) = absurd (spells (file_of files program) (Ok p) (Err e) h k)
-  placed-or-not text e (p, h, is) (inr (q, k, none)) =
-      let same = spells (file_of files program) (Ok p) (Ok q) h k in
-      placed-apart tied one q k.2 files topology demand text e (placed-by p q same files topology demand text is) none
+  pub no_placement : (e : Refusal) → HasNoPlacement files program topology demand e → GivesPlacement (Err e)
+  no_placement e (inl h) = inl (e, h, refl)
+  no_placement e (inr (p, h, inl k)) = inr (p, h, inl (e, k, refl))
+  no_placement e (inr (p, h, inr (t, table, k, r, none))) = inr (p, h, inr (t, (table, k, r), none))
 
-  one-text : (a b : List ℕ) → IsPlaced files program topology demand a → IsPlaced files program topology demand b → a ≡ b
-  one-text a b (p, h, is) (q, k, was) =
-      let same = spells (file_of files program) (Ok p) (Ok q) h k in
-      placed-once tied one q k.2 files topology demand a b (placed-by p q same files topology demand a is) was
+  pub placement_text_of : (text : List ℕ) → IsPlaced files program topology demand text → GivesPlacement (Ok text)
+  placement_text_of text (p, h, (t, table, k, r, is)) = inr (p, h, inr (t, (table, k, r), (table, r, is)))
 
-  pub ends_place_once : (a b : Ending) → EndsPlace files program topology demand a → EndsPlace files program topology demand b → a ≡ b
-  ends_place_once (Ok u) (Ok v) h k = refl
-  ends_place_once (Ok u) (Err f) h k = absurd (placed-or-not h.0 f h.1 k)
-  ends_place_once (Err e) (Ok v) h k = absurd (placed-or-not k.0 e k.1 h)
-  ends_place_once (Err e) (Err f) h k = ap (λ x. Err x) (refusal-once e f h k)
-
-  pub place_text_once : (a b : List ℕ) → IsPlaceText files program topology demand a → IsPlaceText files program topology demand b → a ≡ b
-  place_text_once a b (inl h) (inl k) = h.2 ∙ sym k.2
-  place_text_once a b (inl h) (inr k) = absurd (placed-or-not b h.0 k h.1)
-  place_text_once a b (inr h) (inl k) = absurd (placed-or-not a k.0 h k.1)
-  place_text_once a b (inr h) (inr k) = one-text a b h k
+  pub places_once : SpellsOneProgram → ((p : Pol) → TiedIsEquivalence p) → ((p : Pol) (n : ℕ) → UsesBelow n p → HasOneRank p n) → Agree (IsSameOutcome ◌≡◌) GivesPlacement GivesPlacement
+  places_once spells tied one =
+      after_once (one_program spells (file_of files program)) _ _ _ _ (refused_alike _)
+      (λ p q same h k. next_once (routed_once (file_of files topology)) _ _ _ _ (refused_alike _)
+      (λ t is a b m n. placed-once tied one q k.2 t (file_of files demand) a b (placed-by p q same t (file_of files demand) a m) n))

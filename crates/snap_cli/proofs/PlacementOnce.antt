@@ -1,6 +1,5 @@
 -- A file spells one placement for programs with one core program, or is refused for one reason.
-use Rattle.std.proofs.Common.{◌≡◌, ◌⊎◌, ◌<◌, ◌≤◌, ℕ, List, Option, Some, None, Result, Ok, Err, sym, ◌∙◌, ap, ap₂, subst, inl, inr, arith}
-use Rattle.std.proofs.lemmas.Bool.{cases_lt}
+use Rattle.std.proofs.Common.{◌≡◌, ℕ, List, Option, Some, None, Result, Ok, Err, sym, ◌∙◌, ap, ap₂, subst}
 use Rattle.snap_core.specs.declared.program.Program.{Program}
 use Rattle.snap_dep.specs.Dependencies.{Tied}
 use Rattle.snap_names.specs.Declarations.{core_program}
@@ -10,33 +9,20 @@ use Rattle.snap_place.specs.declared.placement.PlaceFault.{PlaceFault}
 use Rattle.snap_place.specs.declared.placement.PlaceFault.TheVariants.{Apart}
 use Rattle.snap_place.specs.Answer.{IsAnswer, MissingThen, OwnersThen, ShapeThen, SwitchThen, VariableThen, missing, no_switch, no_variable, owners}
 use Rattle.snap_place.specs.Shape.{entries_of}
-use Rattle.snap_topo.specs.Pairs.{IsBefore}
-use Rattle.snap_place.specs.Together.{IsFirstApart, IsTogether, TellsApart}
+use Rattle.snap_place.specs.Together.{IsTogether, TellsApart}
 use Rattle.snap_cli.specs.declared.refusal.Refusal.{Refusal}
 use Rattle.snap_cli.specs.PlacementOf.{PlacementOf, SpellsPlacement, refusal_of_placement}
+use Rattle.snap_cli.proofs.Pipeline.{Agree, Alike, alike, least_once, within_once}
 use Rattle.snap_cli.proofs.SameCore.{same_names}
 use Rattle.snap_cli.proofs.SameUses.{same_tied}
 
 -- what is tied for the one is tied for the other
 module _ (P Q : ℕ → ℕ → Type 0) (to : (a b : ℕ) → P a b → Q a b) (from : (a b : ℕ) → Q a b → P a b) where
   module _ (owned : List ℕ) where
-    none-before : (a b c d : ℕ) → IsFirstApart P owned a b → IsFirstApart Q owned c d → IsBefore c d a b → ⊥
-    none-before a b c d x y before = y.apart (x.first c d y.lesser y.below before (from c d y.together))
-
-    none-behind : (a b c d : ℕ) → IsFirstApart P owned a b → IsFirstApart Q owned c d → IsBefore a b c d → ⊥
-    none-behind a b c d x y before = x.apart (y.first a b x.lesser x.below before (to a b x.together))
-
-    apart-at : (a b c d : ℕ) → IsFirstApart P owned a b → IsFirstApart Q owned c d → (a < c) ⊎ (c ≤ a) → (c < a) ⊎ (a ≤ c) → (b < d) ⊎ (d ≤ b) → (d < b) ⊎ (b ≤ d)
-        → (a ≡ c) × (b ≡ d)
-    apart-at a b c d x y (inl l) p q r = absurd (none-behind a b c d x y (inl l))
-    apart-at a b c d x y (inr l) (inl m) q r = absurd (none-before a b c d x y (inl m))
-    apart-at a b c d x y (inr l) (inr m) (inl q) r = absurd (none-behind a b c d x y (inr (omega (arith, l, m), q)))
-    apart-at a b c d x y (inr l) (inr m) (inr q) (inl r) = absurd (none-before a b c d x y (inr (omega (arith, l, m), r)))
-    apart-at a b c d x y (inr l) (inr m) (inr q) (inr r) = (omega (arith, l, m), omega (arith, q, r))
-
     faults-once : (e f : PlaceFault) → TellsApart P owned e → TellsApart Q owned f → e ≡ f
     faults-once (Apart a b) (Apart c d) h k =
-        let both = apart-at a b c d h k (cases_lt a c) (cases_lt c a) (cases_lt b d) (cases_lt d b) in ap₂ (λ x y. Apart x y) both.0 both.1
+        let both = least_once a b c d (λ before. k.apart (h.first c d k.lesser k.below before (from c d k.together))) (λ before. h.apart (k.first a b h.lesser h.below before (to a b h.together))) in
+        ap₂ (λ x y. Apart x y) both.0 both.1
     faults-once (Apart a b) f h k = absurd k
     faults-once e f h k = absurd h
 
@@ -89,8 +75,5 @@ module _ (p q : Program) (same : core_program p ≡ core_program q) (t : Topolog
       let faults : one ≡ other = cc in
       ap (λ y. Err y) (is ∙ (ap₂ refusal_of_placement (same_names p q same) faults ∙ sym was))
 
-  pub placement_once : (file : List ℕ) (r s : Result (List ℕ) Refusal) → PlacementOf p t file r → PlacementOf q t file s → r ≡ s
-  placement_once file r s (inl h) (inl k) = h.1 ∙ sym k.1
-  placement_once file r s (inl h) (inr k) = let long = h.0 in let short = k.0 in absurd (omega arith)
-  placement_once file r s (inr h) (inl k) = let short = h.0 in let long = k.0 in absurd (omega arith)
-  placement_once file r s (inr h) (inr k) = spelled-once file r s h.1 k.1
+  pub placement_once : (file : List ℕ) → Agree (Alike ◌≡◌) (PlacementOf p t file) (PlacementOf q t file)
+  placement_once file = alike (within_once _ _ _ _ _ (spelled-once file))

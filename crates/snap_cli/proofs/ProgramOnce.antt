@@ -19,7 +19,7 @@ use Rattle.snap_cli.specs.declared.refusal.Refusal.{Refusal}
 use Rattle.snap_cli.specs.declared.refusal.Refusal.TheVariants.{Syntax, Naming, Limit}
 use Rattle.snap_cli.specs.declared.refusal.SyntaxFault.TheVariants.{BadByte, BadNumber, UnexpectedToken, TooDeep}
 use Rattle.snap_cli.specs.declared.refusal.NamingFault.{NamingFault}
-use Rattle.snap_cli.specs.declared.refusal.NamingFault.TheVariants.{UnknownName, DeclaredTwice, WrongKind, WrongArity, TooWide, WrongPrefix}
+use Rattle.snap_cli.specs.declared.refusal.NamingFault.TheVariants.{UnknownName}
 use Rattle.snap_cli.specs.Laws.{IsSame}
 use Rattle.snap_cli.specs.ProgramOf.{ProgramOf, ReadsAs, IsShort, naming_at}
 use Rattle.snap_cli.specs.Spots.{spot_of}
@@ -49,11 +49,7 @@ Gives text reading r = ⊥
 
 named_so : (text : List ℕ) (fault : NamingFault) (at : ℕ) → Naming fault (spot_of text at) ≡ refusal_of_names text (naming_at fault at)
 named_so text UnknownName at = refl
-named_so text DeclaredTwice at = refl
-named_so text WrongKind at = refl
-named_so text WrongArity at = refl
-named_so text TooWide at = refl
-named_so text WrongPrefix at = refl
+named_so text fault at = refl
 
 -- each result comes of a reading
 reading : (text : List ℕ) (r : Result Program Refusal) → ProgramOf text r → (x : Reading) × Comes text x × Gives text x r
@@ -74,16 +70,7 @@ gives_once text (lexed fault) (Err e) (Err f) h k = h ∙ sym k
 gives_once text (parsed fault) (Err e) (Err f) h k = h ∙ sym k
 gives_once text (named (Ok core)) (Ok p) (Ok q) h k = sym h ∙ k
 gives_once text (named (Err fault)) (Err e) (Err f) h k = h ∙ sym k
-gives_once text long (Ok p) b h k = absurd h
-gives_once text long (Err e) (Ok q) h k = absurd k
-gives_once text (lexed fault) (Ok p) b h k = absurd h
-gives_once text (lexed fault) (Err e) (Ok q) h k = absurd k
-gives_once text (parsed fault) (Ok p) b h k = absurd h
-gives_once text (parsed fault) (Err e) (Ok q) h k = absurd k
-gives_once text (named (Ok core)) (Err e) b h k = absurd h
-gives_once text (named (Ok core)) (Ok p) (Err f) h k = absurd k
-gives_once text (named (Err fault)) (Ok p) b h k = absurd h
-gives_once text (named (Err fault)) (Err e) (Ok q) h k = absurd k
+gives_once text x a b h k = absurd search
 
 module _ (finds : FindsOnce) (yields : YieldsOnce) (text : List ℕ) where
   one_spelling : (ts us : List Token) → SpellsTokens text ts → SpellsTokens text us → ts ≡ us
@@ -112,18 +99,14 @@ module _ (finds : FindsOnce) (yields : YieldsOnce) (text : List ℕ) where
 
   comes_once : (x y : Reading) → Comes text x → Comes text y → x ≡ y
   comes_once long long h k = refl
-  comes_once long (lexed g) h k = absurd (omega (arith, k.0))
-  comes_once long (parsed g) h k = absurd (omega (arith, k.0))
-  comes_once long (named b) h k = absurd (omega (arith, k.0))
-  comes_once (lexed f) long h k = absurd (omega (arith, h.0))
+  comes_once long y h k = absurd (omega (arith, k.0))
+  comes_once x long h k = absurd (omega (arith, h.0))
   comes_once (lexed f) (lexed g) h k = let e = finds text (Err f) (Err g) h.1 k.1 in cc
   comes_once (lexed f) (parsed g) h k = absurd (spelled_well k.1.0 f k.1.1 h.1)
   comes_once (lexed f) (named b) h k = absurd (spelled_well k.1.0 f k.1.2 h.1)
-  comes_once (parsed f) long h k = absurd (omega (arith, h.0))
   comes_once (parsed f) (lexed g) h k = absurd (spelled_well h.1.0 g h.1.1 k.1)
   comes_once (parsed f) (parsed g) h k = ap (λ x. parsed x) (one_refusal f g h.1.0 k.1.0 h.1.1 k.1.1 h.1.2 k.1.2)
   comes_once (parsed f) (named b) h k = absurd (derived_well k.1.0 h.1.0 k.1.1 f k.1.2 h.1.1 k.1.3 h.1.2)
-  comes_once (named a) long h k = absurd (omega (arith, h.0))
   comes_once (named a) (lexed g) h k = absurd (spelled_well h.1.0 g h.1.2 k.1)
   comes_once (named a) (parsed g) h k = absurd (derived_well h.1.0 k.1.0 h.1.1 g h.1.2 k.1.1 h.1.3 k.1.2)
   comes_once (named a) (named b) h k = ap (λ x. named x) (one_reading a b h.1 k.1)

@@ -4,7 +4,7 @@ use Rattle.std.proofs.KnownBytes.{Appends-nil}
 use Rattle.snap_io.specs.Files.{Files, file_of}
 use Rattle.snap_words.specs.Commands.{Command}
 use Rattle.snap_cli.specs.declared.refusal.Refusal.{Refusal}
-use Rattle.snap_cli.specs.declared.refusal.Refusal.TheVariants.{Read, ReadChange, Syntax, Naming, Limit, NoMemory}
+use Rattle.snap_cli.specs.declared.refusal.Refusal.TheVariants.{Read, ReadChange, Write, NoMemory}
 use Rattle.snap_cli.specs.Deserved.{Ends, IsText, MayPrecede, MayPrecedeRead, Meets}
 use Rattle.snap_cli.specs.ProgramOf.{ProgramOf}
 use Rattle.snap_cli.specs.Steps.{GivesProgram}
@@ -21,7 +21,5 @@ pub meets-refused : (files : Files) (command : Command) (program : List ℕ) (ou
 meets-refused files command program out (Read name) r h = ([], subst (λ n. MayPrecedeRead files command n []) (sym h) r.read, (0, Appends-nil out))
 meets-refused files command program out (ReadChange name) r h = ([], subst (λ n. MayPrecedeRead files command n []) (sym h) r.read, (0, Appends-nil out))
 meets-refused files command program out NoMemory r h = ([], r.memory, (0, Appends-nil out))
-meets-refused files command program out (Syntax fault spot) r h = (r.ends (Syntax fault spot) h, ([], r.text (Syntax fault spot) h, Appends-nil out))
-meets-refused files command program out (Naming fault spot) r h = (r.ends (Naming fault spot) h, ([], r.text (Naming fault spot) h, Appends-nil out))
-meets-refused files command program out (Limit which count) r h = (r.ends (Limit which count) h, ([], r.text (Limit which count) h, Appends-nil out))
-meets-refused files command program out e r h = absurd h
+meets-refused files command program out Write r h = absurd h
+meets-refused files command program out e r h = (r.ends e h, ([], r.text e h, Appends-nil out))

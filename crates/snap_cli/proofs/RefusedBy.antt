@@ -18,9 +18,7 @@ by-map reads also why because f g NoMemory h = tt
 by-map reads also why because f g e h = g e h
 
 pub by-program : (name file : List ℕ) (e : Refusal) → GivesProgram name file (Err e) → RefusesBy (λ failed. failed ≡ name) (λ refusal. ProgramOf file (Err refusal)) e
-by-program name file (Read failed) h = h
 by-program name file NoMemory h = tt
-by-program name file (ReadChange failed) h = h
 by-program name file e h = h
 
 -- what a command did that was refused before anything went out

@@ -4,7 +4,7 @@ use Rattle.std.specs.Prelude.{if◌then◌else◌, not, ◌&&◌, ◌||◌, ◌=
 use Rattle.snap_core.specs.declared.policy.Pol.{Pol}
 use Rattle.snap_core.specs.declared.policy.Pol.TheVariants.{Filter, Set, Change, Par', Seq', If', Atomic'}
 use Rattle.snap_core.specs.declared.policy.Pred.{Pred}
-use Rattle.snap_core.specs.declared.policy.Pred.TheVariants.{Id, Drop, Field, State, Not', And', Or'}
+use Rattle.snap_core.specs.declared.policy.Pred.TheVariants.{Not', And', Or'}
 use Rattle.snap_core.specs.declared.program.Field.{Field as FieldData}
 use Rattle.snap_core.specs.declared.program.Program.{Program}
 use Rattle.snap_core.specs.Arrays.{Arrays, zero_arrays, update, place_at, value_of}
@@ -28,13 +28,11 @@ core_truth (and_test x y) m k = core_truth x m k && core_truth y m k
 core_truth (or_test x y) m k = core_truth x m k || core_truth y m k
 
 abbrev core_vars : CoreTest → ℕ
-core_vars id_test = 0
-core_vars drop_test = 0
-core_vars (field_test c n) = 0
 core_vars (state_test s es a) = 2 ^ s
 core_vars (not_test x) = core_vars x
 core_vars (and_test x y) = bit_or (core_vars x) (core_vars y)
 core_vars (or_test x y) = bit_or (core_vars x) (core_vars y)
+core_vars x = 0
 
 abbrev core_eval : CorePolicy → Arrays → List ℕ → Option Meaning
 core_eval (filter x) m k =
@@ -51,22 +49,16 @@ core_eval (choice x p q) m k = option_map (logged (core_vars x) 0) (if core_trut
 core_eval (atomic p) m k = core_eval p m k
 
 same_truth : (x : Pred) (m : Arrays) (k : List ℕ) → truth x m k ≡ core_truth (core_test x) m k
-same_truth Id m k = refl
-same_truth Drop m k = refl
-same_truth (Field c n) m k = refl
-same_truth (State s es a) m k = refl
 same_truth (Not' _ x) m k = ap not (same_truth x m k)
 same_truth (And' _ x _ y) m k = λ i. same_truth x m k i && same_truth y m k i
 same_truth (Or' _ x _ y) m k = λ i. same_truth x m k i || same_truth y m k i
+same_truth x m k = refl
 
 same_vars : (x : Pred) → vars_of x ≡ core_vars (core_test x)
-same_vars Id = refl
-same_vars Drop = refl
-same_vars (Field c n) = refl
-same_vars (State s es a) = refl
 same_vars (Not' _ x) = same_vars x
 same_vars (And' _ x _ y) = λ i. bit_or (same_vars x i) (same_vars y i)
 same_vars (Or' _ x _ y) = λ i. bit_or (same_vars x i) (same_vars y i)
+same_vars x = refl
 
 by_core : (p : Pol) (m : Arrays) (k : List ℕ) → eval p m k ≡ core_eval (core_policy p) m k
 by_core (Filter x) m k = λ i.

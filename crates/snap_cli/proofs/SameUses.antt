@@ -1,28 +1,26 @@
 -- Arrays depend on one another as the core program says, wherever its parts lie in memory.
-use Rattle.std.proofs.Common.{◌≡◌, ◌⊎◌, ℕ, List, ◌∷◌, [], length, sym, ◌∙◌, ap, subst, inl, inr}
+use Rattle.std.proofs.Common.{◌≡◌, ◌⊎◌, ℕ, List, ◌∷◌, [], length, refl, sym, ◌∙◌, ap, subst, inl, inr}
 use Rattle.std.proofs.Math.Path.{transport}
 use Rattle.std.specs.Prelude.{codes}
 use Rattle.std.specs.List.{concat, flat_map}
 use Rattle.snap_core.specs.declared.policy.Pol.{Pol}
 use Rattle.snap_core.specs.declared.policy.Pol.TheVariants.{Filter, Set, Change, Par', Seq', If', Atomic'}
 use Rattle.snap_core.specs.declared.policy.Pred.{Pred}
-use Rattle.snap_core.specs.declared.policy.Pred.TheVariants.{Id, Drop, Field, State, Not', And', Or'}
+use Rattle.snap_core.specs.declared.policy.Pred.TheVariants.{Not', And', Or'}
 use Rattle.snap_core.specs.declared.program.Program.{Program}
 use Rattle.snap_dep.specs.Dependencies.{Depends, Reaches, Reads, Tests, Tied, Writes, one, more}
 use Rattle.snap_dep.specs.Ranks.{Grouping, IsGroup, IsGrouping, IsNext, IsRank, IsRankIn, IsReady, Precedes, rank_of}
-use Rattle.snap_names.specs.Core.{CoreTest, id_test, drop_test, field_test, state_test, not_test, and_test, or_test, CorePolicy, filter, set, change, par, seq, choice, atomic, core_test, core_policy}
+use Rattle.snap_names.specs.Core.{CoreTest, state_test, not_test, and_test, or_test, CorePolicy, filter, set, change, par, seq, choice, atomic, core_test, core_policy}
 use Rattle.snap_names.specs.Declarations.{CoreProgram, core_program}
 use Rattle.snap_cli.specs.Deps.{IsTextOf, dep_line, groups_text}
 
 -- which arrays stand where in the core language
 abbrev core_tests : CoreTest → ℕ → Type 0
-core_tests id_test v = ⊥
-core_tests drop_test v = ⊥
-core_tests (field_test c n) v = ⊥
 core_tests (state_test s es a) v = s ≡ v
 core_tests (not_test x) v = core_tests x v
 core_tests (and_test x y) v = core_tests x v ⊎ core_tests y v
 core_tests (or_test x y) v = core_tests x v ⊎ core_tests y v
+core_tests x v = ⊥
 
 abbrev core_reads : CorePolicy → ℕ → Type 0
 core_reads (filter x) v = core_tests x v
@@ -34,31 +32,25 @@ core_reads (choice x p q) v = core_tests x v ⊎ (core_reads p v ⊎ core_reads 
 core_reads (atomic p) v = core_reads p v
 
 abbrev core_writes : CorePolicy → ℕ → Type 0
-core_writes (filter x) v = ⊥
-core_writes (set c a) v = ⊥
 core_writes (change u) v = u.var ≡ v
 core_writes (par p q) v = core_writes p v ⊎ core_writes q v
 core_writes (seq p q) v = core_writes p v ⊎ core_writes q v
 core_writes (choice x p q) v = core_writes p v ⊎ core_writes q v
 core_writes (atomic p) v = core_writes p v
+core_writes p v = ⊥
 
 abbrev core_depends : CorePolicy → ℕ → ℕ → Type 0
-core_depends (filter x) s t = ⊥
-core_depends (set c a) s t = ⊥
-core_depends (change u) s t = ⊥
 core_depends (par p q) s t = core_depends p s t ⊎ core_depends q s t
 core_depends (seq p q) s t = (core_depends p s t ⊎ core_depends q s t) ⊎ (core_reads p s × core_writes q t)
 core_depends (choice x p q) s t = (core_depends p s t ⊎ core_depends q s t) ⊎ (core_tests x s × (core_writes p t ⊎ core_writes q t))
 core_depends (atomic p) s t = (core_reads p s ⊎ core_writes p s) × (core_reads p t ⊎ core_writes p t)
+core_depends p s t = ⊥
 
 by_tests : (x : Pred) (v : ℕ) → Tests x v ≡ core_tests (core_test x) v
-by_tests Id v = λ i. ⊥
-by_tests Drop v = λ i. ⊥
-by_tests (Field c n) v = λ i. ⊥
-by_tests (State s es a) v = λ i. s ≡ v
 by_tests (Not' _ x) v = by_tests x v
 by_tests (And' _ x _ y) v = λ i. by_tests x v i ⊎ by_tests y v i
 by_tests (Or' _ x _ y) v = λ i. by_tests x v i ⊎ by_tests y v i
+by_tests x v = refl
 
 by_reads : (p : Pol) (v : ℕ) → Reads p v ≡ core_reads (core_policy p) v
 by_reads (Filter x) v = by_tests x v
@@ -70,22 +62,18 @@ by_reads (If' x _ p _ q) v = λ i. by_tests x v i ⊎ (by_reads p v i ⊎ by_rea
 by_reads (Atomic' _ p) v = by_reads p v
 
 by_writes : (p : Pol) (v : ℕ) → Writes p v ≡ core_writes (core_policy p) v
-by_writes (Filter x) v = λ i. ⊥
-by_writes (Set c a) v = λ i. ⊥
-by_writes (Change u) v = λ i. u.var ≡ v
 by_writes (Par' _ p _ q) v = λ i. by_writes p v i ⊎ by_writes q v i
 by_writes (Seq' _ p _ q) v = λ i. by_writes p v i ⊎ by_writes q v i
 by_writes (If' x _ p _ q) v = λ i. by_writes p v i ⊎ by_writes q v i
 by_writes (Atomic' _ p) v = by_writes p v
+by_writes p v = refl
 
 by_depends : (p : Pol) (s t : ℕ) → Depends p s t ≡ core_depends (core_policy p) s t
-by_depends (Filter x) s t = λ i. ⊥
-by_depends (Set c a) s t = λ i. ⊥
-by_depends (Change u) s t = λ i. ⊥
 by_depends (Par' _ p _ q) s t = λ i. by_depends p s t i ⊎ by_depends q s t i
 by_depends (Seq' _ p _ q) s t = λ i. (by_depends p s t i ⊎ by_depends q s t i) ⊎ (by_reads p s i × by_writes q t i)
 by_depends (If' x _ p _ q) s t = λ i. (by_depends p s t i ⊎ by_depends q s t i) ⊎ (by_tests x s i × (by_writes p t i ⊎ by_writes q t i))
 by_depends (Atomic' _ p) s t = λ i. (by_reads p s i ⊎ by_writes p s i) × (by_reads p t i ⊎ by_writes p t i)
+by_depends p s t = refl
 
 -- what is tied by dependencies is tied where these stand too
 module _ (p q : Pol) (to : (s t : ℕ) → Depends p s t → Depends q s t) where

@@ -1,5 +1,5 @@
 -- What a command did whose run is ordered by a schedule, from what the run wrote.
-use Rattle.std.proofs.Common.{◌≡◌, ℕ, ◌<◌, List, [], Option, Ok, Err, length, refl, sym, subst, inl, inr}
+use Rattle.std.proofs.Common.{◌≡◌, ℕ, List, [], Option, Result, Ok, Err, refl, sym, subst, inl, inr}
 use Rattle.std.specs.Borrow.{Bor}
 use Rattle.std.specs.Prelude.{IsErrOf}
 use Rattle.std.specs.Io.KnownBytes.{Appends}
@@ -13,7 +13,7 @@ use Rattle.snap_trace.specs.declared.fault.TraceFault.{TraceFault}
 use Rattle.snap_trace.specs.declared.fault.TraceFault.TheVariants as run
 use Rattle.snap_trace.specs.Spelled.{refused}
 use Rattle.snap_runs.specs.Plain.{spelled_for}
-use Rattle.snap_runs.specs.Schedules.{IsReadWhole, RefusesPackets}
+use Rattle.snap_runs.specs.Schedules.{WritesScheduleBy}
 use Rattle.snap_runs.specs.declared.schedule.ScheduleFault.{ScheduleFault}
 use Rattle.snap_runs.specs.declared.schedule.ScheduleFault.TheVariants as order
 use Rattle.snap_words.specs.Commands.{Command}
@@ -22,7 +22,7 @@ use Rattle.snap_cli.specs.declared.refusal.Refusal.TheVariants.{Limit, NoMemory,
 use Rattle.snap_cli.specs.Deserved.{Ends, IsText, MayPrecede, MayPrecedeRead, Meets}
 use Rattle.snap_cli.specs.Obs.{IsRunEnding}
 use Rattle.snap_cli.specs.Refusals.{Ending}
-use Rattle.snap_cli.specs.RunSteps.{ending_of_run, refusal_of_schedule}
+use Rattle.snap_cli.specs.RunSteps.{ending_of_schedule, refusal_of_schedule}
 use Rattle.snap_cli.specs.Schedule.{EndsBySchedule, IsOfSchedule}
 
 -- ---- nothing went out
@@ -50,34 +50,24 @@ module _ (files : Files) (command : Command) (packets lines : Bor (List ℕ)) (t
   ended_so : (e : Ending) (out : List ℕ) → EndsBySchedule t file text Reports Refuses e out → Appends old new out → Ends files command e × ((text : List ℕ) × IsText files command text × Appends old new text)
   ended_so e out h m = let x = so.ends e out h in (x.0, (out, x.1, m))
 
-  pub whole_went : (out : List ℕ) → Reports out → Appends old new out → Meets files command (Ok tt) old new
-  whole_went out h m = ended_so (Ok tt) out (inl (refl, h)) m
-
-  pub part_went : AppendsSome Reports old new → Meets files command (Err Write) old new
-  part_went m = inr (m.0, (so.ends (Ok tt) m.0 (inl (refl, m.1))).1, m.2)
-
-  pub memory_short : new ≡ old → Meets files command (Err NoMemory) old new
+  memory_short : new ≡ old → Meets files command (Err NoMemory) old new
   memory_short same = none_of (MayPrecede files command) old new so.memory same
 
   stops_at : (fault : TraceFault) (e : Ending) → new ≡ old → (spelled_for t file).stop ≡ refused fault → IsRunEnding (Err fault) e → Ends files command e × ((text : List ℕ) × IsText files command text × Appends old new text)
   stops_at fault e same stop is = ended_so e [] (inr (refl, inl (fault, stop, is))) (nothing_out old new same)
 
-  pub packets_refused : (fault : TraceFault) → new ≡ old → RefusesPackets t file fault → Meets files command (ending_of_run packets (Err fault)) old new
-  packets_refused run.Read same m = none_of (MayPrecedeRead files command packets.now) old new (so.read packets.now (inl refl)) same
-  packets_refused run.NoMemory same m = memory_short same
-  packets_refused (run.Limit which count) same m = stops_at (run.Limit which count) (Err (Limit which count)) same m refl
-  packets_refused (run.Packets line) same m = stops_at (run.Packets line) (Err (Packets line)) same m refl
-  packets_refused run.Write same m = absurd m
-  packets_refused (run.Undefined packet) same m = absurd m
-
-  pub lines_unread : new ≡ old → IsReadWhole t file → Meets files command (Err (Read lines)) old new
-  lines_unread same m = none_of (MayPrecedeRead files command lines.now) old new (so.read lines.now (inr (refl, m))) same
-
-  pub lines_too_long : new ≡ old → IsReadWhole t file → 67108864 < length text → Meets files command (Err (Limit Bytes 67108865)) old new
-  lines_too_long same m long = ended_so (Err (Limit Bytes 67108865)) [] (inr (refl, inr (inl (m, long, refl)))) (nothing_out old new same)
-
-  pub line_refused : (line : ℕ) → new ≡ old → Refuses line → Meets files command (Err (Schedule line)) old new
-  line_refused line same m = ended_so (Err (Schedule line)) [] (inr (refl, inr (inr (line, m, refl)))) (nothing_out old new same)
+  pub meets-scheduled : (r : Result (Unit {0}) ScheduleFault) → WritesScheduleBy Reports Refuses t file text r old new → Meets files command (ending_of_schedule packets lines r) old new
+  meets-scheduled (Ok u) m = ended_so (Ok tt) m.0 (inl (refl, m.1)) m.2
+  meets-scheduled (Err order.Write) m = inr (m.0, (so.ends (Ok tt) m.0 (inl (refl, m.1))).1, m.2)
+  meets-scheduled (Err order.NoMemory) m = memory_short m
+  meets-scheduled (Err (order.Packets run.Read)) m = none_of (MayPrecedeRead files command packets.now) old new (so.read packets.now (inl refl)) m.0
+  meets-scheduled (Err (order.Packets run.NoMemory)) m = memory_short m.0
+  meets-scheduled (Err (order.Packets (run.Limit which count))) m = stops_at (run.Limit which count) (Err (Limit which count)) m.0 m.1 refl
+  meets-scheduled (Err (order.Packets (run.Packets line))) m = stops_at (run.Packets line) (Err (Packets line)) m.0 m.1 refl
+  meets-scheduled (Err (order.Packets fault)) m = absurd m.1
+  meets-scheduled (Err order.Read) m = none_of (MayPrecedeRead files command lines.now) old new (so.read lines.now (inr (refl, m.1))) m.0
+  meets-scheduled (Err order.TooLong) m = ended_so (Err (Limit Bytes 67108865)) [] (inr (refl, inr (inl (m.1, m.2, refl)))) (nothing_out old new m.0)
+  meets-scheduled (Err (order.Line line)) m = ended_so (Err (Schedule line)) [] (inr (refl, inr (inr (line, m.1, refl)))) (nothing_out old new m.0)
 
 -- why a device's refusal of a schedule's run is told
 module _ (shelf_before shelf_now : List ℕ → ℕ) (out_before out_now : ℕ) (packets lines : Bor (List ℕ)) where
@@ -88,12 +78,6 @@ module _ (shelf_before shelf_now : List ℕ → ℕ) (out_before out_now : ℕ) 
       → HasCauses shelf_before shelf_now out_before out_now (Err (refusal_of_schedule packets lines fault))
   because (order.Packets run.Read) never of_packets of_lines of_out = record { read = λ name is. subst (λ n. Rose (shelf_before n) (shelf_now n)) is (of_packets refl); write = λ e. absurd (cc) }
   because (order.Packets run.Write) never of_packets of_lines of_out = absurd (never refl)
-  because (order.Packets (run.Limit which count)) never of_packets of_lines of_out = record { read = λ name is. absurd is; write = λ e. absurd (cc) }
-  because (order.Packets (run.Packets line)) never of_packets of_lines of_out = record { read = λ name is. absurd is; write = λ e. absurd (cc) }
-  because (order.Packets (run.Undefined packet)) never of_packets of_lines of_out = record { read = λ name is. absurd is; write = λ e. absurd (cc) }
-  because (order.Packets run.NoMemory) never of_packets of_lines of_out = record { read = λ name is. absurd is; write = λ e. absurd (cc) }
   because order.Read never of_packets of_lines of_out = record { read = λ name is. subst (λ n. Rose (shelf_before n) (shelf_now n)) is (of_lines refl); write = λ e. absurd (cc) }
-  because order.TooLong never of_packets of_lines of_out = record { read = λ name is. absurd is; write = λ e. absurd (cc) }
-  because (order.Line line) never of_packets of_lines of_out = record { read = λ name is. absurd is; write = λ e. absurd (cc) }
   because order.Write never of_packets of_lines of_out = record { read = λ name is. absurd is; write = λ e. of_out refl }
-  because order.NoMemory never of_packets of_lines of_out = record { read = λ name is. absurd is; write = λ e. absurd (cc) }
+  because fault never of_packets of_lines of_out = record { read = λ name is. absurd is; write = λ e. absurd (cc) }

@@ -11,7 +11,8 @@ use Rattle.snap_cli.specs.declared.refusal.Refusal.TheVariants.{Schedule}
 use Rattle.snap_cli.specs.Obs.{IsRunEnding}
 use Rattle.snap_cli.specs.Refusals.{Ending}
 use Rattle.snap_cli.specs.Schedule.{EndsBySchedule, SchedulesTo, StopsAtLength, StopsAtLine, StopsAtPackets}
-use Rattle.snap_cli.proofs.ObsOnce.{run_ends_once}
+use Rattle.snap_cli.proofs.ObsOnce.{AreOne, run_ends_once}
+use Rattle.snap_cli.proofs.Pipeline.{cases_once}
 
 -- the files have one report, or one line that is refused, and not both
 pub record IsOne (t : Tables) (file text : List ℕ) (Reports : List ℕ → Type 0) (Refuses : ℕ → Type 0) : Type 0 where
@@ -35,27 +36,24 @@ module _ (t : Tables) (file text : List ℕ) (Reports : List ℕ → Type 0) (Re
   abbrev Refused : Ending → Type 0
   Refused e = StopsAtPackets t file e ⊎ (StopsAtLength t file text e ⊎ StopsAtLine Refuses e)
 
+  rest_read : (e : Ending) → StopsAtLength t file text e ⊎ StopsAtLine Refuses e → IsReadWhole t file
+  rest_read e (inl h) = h.0
+  rest_read e (inr h) = (one.read h.0 h.1).0
+
   refused_once : (a b : Ending) → Refused a → Refused b → a ≡ b
-  refused_once a b (inl h) (inl k) = packets_once t file a b h k
-  refused_once a b (inl h) (inr (inl k)) = absurd (whole_or_not t file h.0 h.1 k.0)
-  refused_once a b (inl h) (inr (inr k)) = absurd (whole_or_not t file h.0 h.1 (one.read k.0 k.1).0)
-  refused_once a b (inr (inl h)) (inl k) = absurd (whole_or_not t file k.0 k.1 h.0)
-  refused_once a b (inr (inl h)) (inr (inl k)) = h.2 ∙ sym k.2
-  refused_once a b (inr (inl h)) (inr (inr k)) = absurd (let long = h.1 in let few = (one.read k.0 k.1).1 in omega (arith, long, few))
-  refused_once a b (inr (inr h)) (inl k) = absurd (whole_or_not t file k.0 k.1 (one.read h.0 h.1).0)
-  refused_once a b (inr (inr h)) (inr (inl k)) = absurd (let long = k.1 in let few = (one.read h.0 h.1).1 in omega (arith, long, few))
-  refused_once a b (inr (inr h)) (inr (inr k)) = h.2 ∙ (ap (λ line. Err (Schedule line)) (one.line h.0 k.0 h.1 k.1) ∙ sym k.2)
+  refused_once a b =
+      cases_once (packets_once t file a b) (λ h k. whole_or_not t file h.0 h.1 (rest_read b k)) (λ h k. whole_or_not t file h.0 h.1 (rest_read a k))
+      (cases_once (λ h k. h.2 ∙ sym k.2) (λ h k. omega (arith, h.1, (one.read k.0 k.1).1)) (λ h k. omega (arith, h.1, (one.read k.0 k.1).1))
+      (λ h k. h.2 ∙ (ap (λ line. Err (Schedule line)) (one.line h.0 k.0 h.1 k.1) ∙ sym k.2)))
 
   reported_apart : (report : List ℕ) (e : Ending) → Reports report → Refused e → ⊥
   reported_apart report e h (inl k) = whole_or_not t file k.0 k.1 (one.whole report h).0
   reported_apart report e h (inr (inl k)) = let long = k.1 in let few = (one.whole report h).1 in omega (arith, long, few)
   reported_apart report e h (inr (inr k)) = one.apart report k.0 h k.1
 
-  pub ends_by_schedule_once : (e f : Ending) (a b : List ℕ) → EndsBySchedule t file text Reports Refuses e a → EndsBySchedule t file text Reports Refuses f b → (e ≡ f) × (a ≡ b)
-  ends_by_schedule_once e f a b (inl h) (inl k) = (h.0 ∙ sym k.0, one.report a b h.1 k.1)
-  ends_by_schedule_once e f a b (inl h) (inr k) = absurd (reported_apart a f h.1 k.1)
-  ends_by_schedule_once e f a b (inr h) (inl k) = absurd (reported_apart b e k.1 h.1)
-  ends_by_schedule_once e f a b (inr h) (inr k) = (refused_once e f h.1 k.1, h.0 ∙ sym k.0)
+  pub ends_by_schedule_once : AreOne (EndsBySchedule t file text Reports Refuses)
+  ends_by_schedule_once a b e f =
+      cases_once (λ h k. (h.0 ∙ sym k.0, one.report a b h.1 k.1)) (λ h k. reported_apart a f h.1 k.1) (λ h k. reported_apart b e h.1 k.1) (λ h k. (refused_once e f h.1 k.1, h.0 ∙ sym k.0))
 
 -- of a run without turns
 module _ (t : Tables) (form : IsInForm t) (hops : Bool) (file text : List ℕ) (reports : ScheduleReportsAreOne) (lines : RefusedLinesAreOne) (apart : ReportedOrRefused) where
@@ -68,5 +66,5 @@ module _ (t : Tables) (form : IsInForm t) (hops : Bool) (file text : List ℕ) (
     apart = λ report line h k. apart t form hops (spelled_for t file).packets (lines_of text) report line h.1 k.1;
   }
 
-  pub schedules_once : (e f : Ending) (a b : List ℕ) → SchedulesTo t hops file text e a → SchedulesTo t hops file text f b → (e ≡ f) × (a ≡ b)
-  schedules_once e f a b h k = ends_by_schedule_once t file text (HasScheduleReport t hops file text) (RefusesScheduleLine t file text) schedule_is_one e f a b h k
+  pub schedules_once : AreOne (SchedulesTo t hops file text)
+  schedules_once = ends_by_schedule_once t file text (HasScheduleReport t hops file text) (RefusesScheduleLine t file text) schedule_is_one

@@ -7,7 +7,7 @@ use Rattle.std.proofs.lemmas.List.Elements.{All-cons, All-head, All-nil, All-tai
 use Rattle.snap_core.specs.declared.ports.PortAt.{PortAt}
 use Rattle.snap_core.specs.Fields.{count}
 use Rattle.snap_core.specs.Inputs.{IsPacket}
-use Rattle.snap_io.specs.Lines.{Next, next_line, no_line, long_line, many_bytes, next_in}
+use Rattle.snap_io.specs.Lines.{Next, next_line, next_in}
 use Rattle.snap_rows.specs.declared.tables.Tables.{Tables}
 use Rattle.snap_core.specs.Ports.{port_in}
 use Rattle.snap_rows.specs.Entries.{port_at}
@@ -36,9 +36,7 @@ module _ (t : Tables) (said : List ℕ → Said) where
 
   next_known : (line : ℕ) (next : Next) (a b : ℕ → Spelled) → All (IsKnown t.ports) (with_next said line next b).packets → ((behind : ℕ) → All (IsKnown t.ports) (b behind).packets → a behind ≡ b behind) → with_next (at_them t said) line next a ≡ with_next said line next b
   next_known line (next_line text behind) a b known same = said_known line (said text) (a behind) (b behind) known (same behind)
-  next_known line no_line a b known same = refl
-  next_known line long_line a b known same = refl
-  next_known line many_bytes a b known same = refl
+  next_known line next a b known same = refl
 
   pub spelled_known : (file : List ℕ) (left line at : ℕ) → All (IsKnown t.ports) (spelled_from said file left line at).packets → spelled_from (at_them t said) file left line at ≡ spelled_from said file left line at
   unfolding spelled_from
@@ -75,9 +73,7 @@ module _ (first : Tables) (later : List Later) (said : List ℕ → Said) where
 
   next_whole : (n line : ℕ) (next : Next) (a b : ℕ → Spelled) → (with_next (under n) line next a).stop ≡ ended → ((behind : ℕ) → (a behind).stop ≡ ended → a behind ≡ b behind) → with_next (under n) line next a ≡ with_next said line next b
   next_whole n line (next_line text behind) a b whole same = said_same (in_force first later n) said line (said text) (a behind) (b behind) whole (same behind)
-  next_whole n line no_line a b whole same = refl
-  next_whole n line long_line a b whole same = refl
-  next_whole n line many_bytes a b whole same = refl
+  next_whole n line next a b whole same = refl
 
   behind_whole : (file : List ℕ) (left line at before : ℕ) → (spelled_behind under file left line at before).stop ≡ ended → spelled_behind under file left line at before ≡ spelled_from said file left line at
   unfolding spelled_behind spelled_from
@@ -113,9 +109,7 @@ module _ (first : Tables) (later : List Later) (said : List ℕ → Said) where
   next_known_under : (n line : ℕ) (next : Next) (a : ℕ → ℕ → Spelled) (b : ℕ → Spelled) → AreKnown n (with_next said line next b).packets → ((behind m : ℕ) → AreKnown m (b behind).packets → a behind m ≡ b behind)
       → with_next (under first later said n) line next (λ behind. a behind (counted (under first later said n (text_of next)) n)) ≡ with_next said line next b
   next_known_under n line (next_line text behind) a b known same = said_known_under n line (said text) (a behind) (b behind) known (same behind)
-  next_known_under n line no_line a b known same = refl
-  next_known_under n line long_line a b known same = refl
-  next_known_under n line many_bytes a b known same = refl
+  next_known_under n line next a b known same = refl
 
   behind_known : (file : List ℕ) (left line at n : ℕ) → AreKnown n (spelled_from said file left line at).packets → spelled_behind (under first later said) file left line at n ≡ spelled_from said file left line at
   unfolding spelled_behind spelled_from

@@ -26,7 +26,7 @@ use Rattle.snap_trace.specs.declared.fault.TraceFault.{TraceFault}
 use Rattle.snap_trace.specs.declared.fault.TraceFault.TheVariants as run
 use Rattle.snap_words.specs.Commands.{Command, plain, schedule}
 use Rattle.snap_cli.specs.declared.refusal.Refusal.{Refusal}
-use Rattle.snap_cli.specs.declared.refusal.Refusal.TheVariants.{Read, ReadChange, Write, Syntax, Naming, Limit, Race, NoMemory, Declarations, Differ, Tables}
+use Rattle.snap_cli.specs.declared.refusal.Refusal.TheVariants.{Read, ReadChange, Race, NoMemory}
 use Rattle.snap_cli.specs.Changes.{said_changes}
 use Rattle.snap_cli.specs.ChangesSteps.{ReadsChanges}
 use Rattle.snap_cli.specs.Check.{EndsJudged, MeetsCheck}
@@ -77,34 +77,20 @@ ends-more some more ending all h = wider (0 ∷ 3 ∷ 14 ∷ some) (0 ∷ 3 ∷ 
 
 -- ---- refusals of steps that read
 pub of-program : (text : List ℕ) (r : Result Program Refusal) → SpellsProgram text r → IfErr r (RefusesWith (2 ∷ 4 ∷ 5 ∷ 6 ∷ []))
-of-program text (Ok p) h = tt
-of-program text (Err (Syntax fault spot)) h = refl
-of-program text (Err (Naming fault spot)) h = refl
-of-program text (Err (Limit which count)) h = refl
 of-program text (Err NoMemory) h = refl
-of-program text (Err e) h = absurd h
+of-program text r h = search
 
 pub of-topology : (fault : TopoFault) → RefusesWith (2 ∷ 6 ∷ 7 ∷ []) (refusal_of_topology fault)
-of-topology topo.NotToml = refl
-of-topology (topo.Shape rule) = refl
-of-topology (topo.Limit which count) = refl
-of-topology (topo.Twice name) = refl
-of-topology (topo.Unknown name) = refl
 of-topology topo.NoMemory = refl
+of-topology fault = refl
 
 pub of-routes : (switches : List (List ℕ)) (fault : RouteFault) → RefusesWith (2 ∷ 6 ∷ 7 ∷ 8 ∷ []) (refusal_of_routes switches fault)
 of-routes switches (route.Unreachable a b) = refl
 of-routes switches route.NoMemory = refl
 
 of-demand : (arrays : List (List ℕ)) (fault : DemandFault) → RefusesWith (2 ∷ 6 ∷ 19 ∷ []) (refusal_of_demand arrays fault)
-of-demand arrays seek.NotToml = refl
-of-demand arrays (seek.Shape rule) = refl
-of-demand arrays (seek.Limit which count) = refl
-of-demand arrays (seek.NoPort port) = refl
-of-demand arrays (seek.NoVariable name) = refl
-of-demand arrays (seek.NoSwitch name) = refl
-of-demand arrays (seek.Nowhere array) = refl
 of-demand arrays seek.NoMemory = refl
+of-demand arrays fault = refl
 
 pub of-places : (p : Program) (t : Topology) (table : Table) (text : List ℕ) (r : Result (Vec ℕ) Refusal) → Places p t table text r → IfErr r (RefusesWith (2 ∷ 6 ∷ 19 ∷ []))
 of-places p t table text (Ok made) h = tt
@@ -114,13 +100,8 @@ of-places p t table text (Err (ReadChange name)) h = absurd h
 of-places p t table text (Err e) h = subst (RefusesWith (2 ∷ 6 ∷ 19 ∷ [])) (sym h.is) (of-demand p.vars h.fault)
 
 of-placement : (arrays : List (List ℕ)) (fault : PlaceFault) → RefusesWith (2 ∷ 6 ∷ 9 ∷ 10 ∷ []) (refusal_of_placement arrays fault)
-of-placement arrays place.NotToml = refl
-of-placement arrays (place.Shape rule) = refl
-of-placement arrays (place.NoVariable name) = refl
-of-placement arrays (place.Missing array) = refl
-of-placement arrays (place.NoSwitch array) = refl
-of-placement arrays (place.Apart a b) = refl
 of-placement arrays place.NoMemory = refl
+of-placement arrays fault = refl
 
 -- a program that was read races
 of-judged : (p : Program) (e : Refusal) → EndsJudged p (Err e) → RefusesWith (2 ∷ 6 ∷ 9 ∷ 10 ∷ []) e
@@ -140,17 +121,13 @@ of-compiles p t text on_demand (Err (ReadChange name)) h = absurd h
 of-compiles p t text on_demand (Err e) h = of-no_tables p t text e h
 
 pub of-tables : (text : List ℕ) (r : Result Made Refusal) → ReadsTables text r → IfErr r (RefusesWith (2 ∷ 6 ∷ 11 ∷ []))
-of-tables text (Ok made) h = tt
-of-tables text (Err (Tables fault)) h = refl
-of-tables text (Err (Limit which count)) h = refl
 of-tables text (Err NoMemory) h = refl
-of-tables text (Err e) h = absurd h
+of-tables text r h = search
 
 of-change : (said : Result (List Change) ChangesFault) → IfErr (said_changes said) (RefusesWith (2 ∷ 6 ∷ 20 ∷ []))
 of-change (Ok changes) = tt
-of-change (Err (change.Line line)) = refl
-of-change (Err (change.Limit which count)) = refl
 of-change (Err change.NoMemory) = refl
+of-change (Err fault) = refl
 
 pub of-changes : (text : List ℕ) (r : Result (Vec Change) Refusal) → ReadsChanges text r → IfErr r (RefusesWith (2 ∷ 6 ∷ 20 ∷ []))
 of-changes text (Ok changes) h = tt
@@ -161,65 +138,36 @@ of-changes text (Err e) h = subst (λ r. IfErr r (RefusesWith (2 ∷ 6 ∷ 20 �
 
 -- ---- endings of runs
 pub of-run : (packets : Bor (List ℕ)) (fault : TraceFault) → EndsWith (2 ∷ 6 ∷ 12 ∷ 15 ∷ []) (Err (refusal_of_run packets fault))
-of-run packets run.Read = refl
-of-run packets run.Write = refl
-of-run packets (run.Limit which count) = refl
-of-run packets (run.Packets line) = refl
-of-run packets (run.Undefined packet) = refl
 of-run packets run.NoMemory = refl
+of-run packets fault = refl
 
 -- evaluation is no part of a run of tables
 pub of-traced : (packets : Bor (List ℕ)) (fault : TraceFault) → ((packet : ℕ) → IsErrOf {T = Unit {0}} (Err fault) (run.Undefined packet) → ⊥)
     → EndsWith (statuses_of_trace plain) (Err (refusal_of_run packets fault))
-of-traced packets run.Read defined = refl
-of-traced packets run.Write defined = refl
-of-traced packets (run.Limit which count) defined = refl
-of-traced packets (run.Packets line) defined = refl
 of-traced packets (run.Undefined packet) defined = absurd (defined packet refl)
-of-traced packets run.NoMemory defined = refl
+of-traced packets fault defined = refl
 
 pub of-scheduled : (packets lines : Bor (List ℕ)) (fault : ScheduleFault) → ((packet : ℕ) → IsErrOf {T = Unit {0}} (Err fault) (lined.Packets (run.Undefined packet)) → ⊥)
     → EndsWith (statuses_of_trace (schedule lines.now)) (Err (refusal_of_schedule packets lines fault))
-of-scheduled packets lines (lined.Packets run.Read) defined = refl
-of-scheduled packets lines (lined.Packets run.Write) defined = refl
-of-scheduled packets lines (lined.Packets (run.Limit which count)) defined = refl
-of-scheduled packets lines (lined.Packets (run.Packets line)) defined = refl
 of-scheduled packets lines (lined.Packets (run.Undefined packet)) defined = absurd (defined packet refl)
-of-scheduled packets lines (lined.Packets run.NoMemory) defined = refl
-of-scheduled packets lines lined.Read defined = refl
-of-scheduled packets lines lined.TooLong defined = refl
-of-scheduled packets lines (lined.Line line) defined = refl
-of-scheduled packets lines lined.Write defined = refl
-of-scheduled packets lines lined.NoMemory defined = refl
+of-scheduled packets lines fault defined = refl
 
 -- ---- endings of steps that write
 pub ends-text : (p : Program) (ending : Ending) (old new : Option (List ℕ)) → MeetsText p ending old new → EndsWith (2 ∷ 4 ∷ 5 ∷ 6 ∷ []) ending
-ends-text p (Ok u) old new h = refl
-ends-text p (Err Write) old new h = refl
 ends-text p (Err NoMemory) old new h = refl
-ends-text p ending old new h = absurd h
+ends-text p ending old new h = search
 
 pub ends-check : (p : Program) (ending : Ending) (old new : Option (List ℕ)) → MeetsCheck p ending old new → EndsWith (2 ∷ 4 ∷ 5 ∷ 6 ∷ 10 ∷ []) ending
-ends-check p (Ok u) old new h = refl
-ends-check p (Err Write) old new h = refl
-ends-check p (Err (Race text)) old new h = refl
 ends-check p (Err NoMemory) old new h = refl
-ends-check p ending old new h = absurd h
+ends-check p ending old new h = search
 
 pub ends-equal : (p q : Program) (ending : Ending) (old new : Option (List ℕ)) → MeetsEqual p q ending old new → EndsWith (2 ∷ 4 ∷ 5 ∷ 6 ∷ 10 ∷ 17 ∷ 18 ∷ []) ending
-ends-equal p q (Ok u) old new h = refl
-ends-equal p q (Err Write) old new h = refl
 ends-equal p q (Err NoMemory) old new h = refl
-ends-equal p q (Err Declarations) old new h = refl
-ends-equal p q (Err (Race text)) old new h = refl
-ends-equal p q (Err (Differ text)) old new h = refl
-ends-equal p q ending old new h = absurd h.0
+ends-equal p q ending old new h = search
 
 pub ends-written : (text : List ℕ) (more : List ℕ) (ending : Ending) (old new : Option (List ℕ)) → Writes text ending old new → EndsWith more ending
-ends-written text more (Ok u) old new h = refl
-ends-written text more (Err Write) old new h = refl
 ends-written text more (Err NoMemory) old new h = refl
-ends-written text more ending old new h = absurd h
+ends-written text more ending old new h = search
 
 pub ends-routes : (t : Topology) (ending : Ending) (old new : Option (List ℕ)) → MeetsTopology t ending old new → EndsWith (2 ∷ 6 ∷ 7 ∷ 8 ∷ []) ending
 ends-routes t ending old new (inl (table, are, written)) = ends-written (routes_text t.switches table) (2 ∷ 6 ∷ 7 ∷ 8 ∷ []) ending old new written
@@ -227,10 +175,8 @@ ends-routes t ending old new (inr (inl apart)) = subst (EndsWith (2 ∷ 6 ∷ 7 
 ends-routes t ending old new (inr (inr short)) = subst (EndsWith (2 ∷ 6 ∷ 7 ∷ 8 ∷ [])) (sym short.0) refl
 
 pub ends-summary : (switches : ℕ) (ending : Ending) (old new : Option (List ℕ)) → MeetsSummary switches ending old new → EndsWith [] ending
-ends-summary switches (Ok u) old new h = refl
-ends-summary switches (Err Write) old new h = refl
 ends-summary switches (Err NoMemory) old new h = refl
-ends-summary switches ending old new h = absurd h
+ends-summary switches ending old new h = search
 
 -- ---- the top call
 -- memory may be short whatever the words say

@@ -9,7 +9,7 @@ use Rattle.snap_io.specs.Causes.{HasCause}
 use Rattle.snap_io.specs.Sinks.{AppendsPart}
 use Rattle.snap_cli.specs.declared.refusal.Refusal.{Refusal}
 use Rattle.snap_io.specs.Files.{Files}
-use Rattle.snap_words.specs.Commands.{Command, command_of, obs, deps, check, equal, routes, place, compile, trace, demo, plain, schedule, changes, in_turn, rounds}
+use Rattle.snap_words.specs.Commands.{Command, command_of, obs, routes, compile, trace, demo, in_turn}
 use Rattle.snap_cli.specs.Answers.{MeetsWords}
 use Rattle.snap_cli.specs.declared.refusal.Refusal.TheVariants.{Read, ReadChange, Usage, NoMemory}
 use Rattle.snap_cli.specs.Causes.{HasCauses, IsReadOf}
@@ -41,14 +41,11 @@ read-rose before now out_before out_now refusal causes e = let named = unread re
 -- nothing may have gone out where memory is short
 nothing_first : (files : Files) (command : Command) → MayPrecede files command []
 nothing_first files (obs program packets) = inl refl
-nothing_first files (deps program) = refl
-nothing_first files (check program) = refl
-nothing_first files (equal left right) = refl
 nothing_first files (routes topology) = inl refl
-nothing_first files (place program topology demand) = refl
 nothing_first files (compile program topology placement on_demand) = inl refl
 nothing_first files (trace tables packets hops order) = inl refl
 nothing_first files (demo switches) = refl
+nothing_first files command = refl
 
 pub meets_any : (files : Files) (out : Option (List ℕ)) (said : Option Command) (ending : Ending) → ending ≡ Err NoMemory
     → MatchOption said (((ending ≡ Err Usage) ⊎ (ending ≡ Err NoMemory)) × Appends out out []) (λ command. Meets files command ending out out)
@@ -62,20 +59,8 @@ meets-short (Some files) words out ending is = meets_any files out (command_of w
 
 -- no command ends as words of no form do
 never_usage : (command : Command) → CanAnswer command 1 → ⊥
-never_usage (obs program packets) can = cc
-never_usage (deps program) can = cc
-never_usage (check program) can = cc
-never_usage (equal left right) can = cc
-never_usage (routes topology) can = cc
-never_usage (place program topology demand) can = cc
-never_usage (compile program topology placement on_demand) can = cc
-never_usage (trace tables packets hops plain) can = cc
-never_usage (trace tables packets hops (schedule lines)) can = cc
-never_usage (trace tables packets hops (changes lines)) can = cc
 never_usage (trace tables packets hops (in_turn None)) can = cc
-never_usage (trace tables packets hops (in_turn (Some lines))) can = cc
-never_usage (trace tables packets hops (rounds workers)) can = cc
-never_usage (demo switches) can = cc
+never_usage command can = cc
 
 -- so 1 is answered to such words alone
 pub only-usage : (said : Option Command) (status : ℕ) → IfSome said (λ command. CanAnswer command status) → status ≡ 1 → said ≡ None

@@ -12,7 +12,6 @@ use Rattle.snap_trace.specs.OneSwitch.{RunEnding}
 use Rattle.snap_runs.specs.Plain.{IsTrace, WritesTrace}
 use Rattle.snap_runs.specs.Schedules.{HasScheduleReport, RefusesScheduleLine, WritesSchedule}
 use Rattle.snap_runs.specs.declared.schedule.ScheduleFault.{ScheduleFault}
-use Rattle.snap_runs.specs.declared.schedule.ScheduleFault.TheVariants as order
 use Rattle.snap_words.specs.declared.command.Order.{Order as Given}
 use Rattle.snap_words.specs.declared.command.Order.TheVariants as given
 use Rattle.snap_words.specs.Commands.{Command, Order, plain, schedule, trace}
@@ -31,15 +30,13 @@ use Rattle.snap_cli.proofs.ChangesLemmas.{meets-changes}
 use Rattle.snap_cli.proofs.InTurnLemmas.{meets-in_turn}
 use Rattle.snap_cli.proofs.RoundsLemmas.{meets-by_rounds}
 use Rattle.snap_cli.proofs.RefusedBy.{by-map, meets-by}
-use Rattle.snap_cli.proofs.ScheduleLemmas.{EndsSo, line_refused, lines_too_long, lines_unread, memory_short, packets_refused, part_went, whole_went}
+use Rattle.snap_cli.proofs.ScheduleLemmas.{EndsSo, meets-scheduled}
 
 -- ---- the tables of a file
 
 reads-refused : (text : List ℕ) (fault : TablesFault) → IsRead text (Err fault) → ReadsTables text (Err (refusal_of_tables fault))
-reads-refused text (tables.Line line) h = h
-reads-refused text (tables.Limit which count) h = h
-reads-refused text (tables.Broken rule line) h = h
 reads-refused text tables.NoMemory h = tt
+reads-refused text fault h = h
 
 pub reads-told : (text : List ℕ) (fault : TablesFault) (e : Refusal) → e ≡ refusal_of_tables fault → IsRead text (Err fault) → ReadsTables text (Err e)
 reads-told text fault e is h = subst (λ x. ReadsTables text (Err x)) (sym is) (reads-refused text fault h)
@@ -96,13 +93,7 @@ module _ (files : Files) (name : List ℕ) (packets lines : Bor (List ℕ)) (hop
   }
 
   meets-schedule : (r : Result (Unit {0}) ScheduleFault) → WritesSchedule t hops file text r old new → Meets files command (ending_of_schedule packets lines r) old new
-  meets-schedule (Ok u) m = whole_went files command packets lines t Reports Refuses so old new m.0 m.1 m.2
-  meets-schedule (Err (order.Packets fault)) m = packets_refused files command packets lines t Reports Refuses so old new fault m.0 m.1
-  meets-schedule (Err order.Read) m = lines_unread files command packets lines t Reports Refuses so old new m.0 m.1
-  meets-schedule (Err order.TooLong) m = lines_too_long files command packets lines t Reports Refuses so old new m.0 m.1 m.2
-  meets-schedule (Err (order.Line line)) m = line_refused files command packets lines t Reports Refuses so old new line m.0 m.1
-  meets-schedule (Err order.Write) m = part_went files command packets lines t Reports Refuses so old new m
-  meets-schedule (Err order.NoMemory) m = memory_short files command packets lines t Reports Refuses so old new m
+  meets-schedule r m = meets-scheduled files command packets lines t Reports Refuses so old new r m
 
 pub meets-order : (files : Files) (name : List ℕ) (packets : Bor (List ℕ)) (hops : Bool) (o : Given) (t : Tables) → TablesOf (file_of files name) (Ok t) → (old new : Option (List ℕ)) (e : Ending)
     → MeetsOrder files t hops packets o e old new → Meets files (trace name packets.now hops (shown_order o)) e old new

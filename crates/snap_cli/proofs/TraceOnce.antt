@@ -1,4 +1,4 @@
--- `trace` deserves one ending and one text.
+-- A run of tables ends in one way, with one text.
 use Rattle.std.proofs.Common.{◌≡◌, ◌⊎◌, ℕ, Bool, List, Option, Ok, Err, refl, sym, ◌∙◌, ap, subst, inl, inr}
 use Rattle.std.specs.Io.KnownBytes.{Appends}
 use Rattle.snap_io.specs.Files.{Files, file_of}
@@ -8,7 +8,7 @@ use Rattle.snap_tables.specs.Exact.{ReadsOneWay}
 use Rattle.snap_trace.specs.OneSwitch.{RunEnding}
 use Rattle.snap_trace.specs.Spelled.{Spelled, Stop, ended, refused}
 use Rattle.snap_runs.specs.Laws.{PlainBlocksAreOne, PlainReportsAreOne, RefusedLinesAreOne, ReportedOrRefused, ScheduleReportsAreOne}
-use Rattle.snap_runs.specs.Plain.{EndsAsRead, IsTrace, spelled_for}
+use Rattle.snap_runs.specs.Plain.{ArePlainBlocks, EndsAsRead, IsPlainReport, IsTrace, spelled_for}
 use Rattle.snap_order.specs.OneRounds.{RoundReportsAreOne}
 use Rattle.snap_move.specs.Laws.{ChangedBlocksAreOne, ChangedReportsAreOne}
 use Rattle.snap_words.specs.Commands.{Order, plain, schedule, changes, in_turn, rounds, trace}
@@ -16,13 +16,14 @@ use Rattle.snap_cli.specs.Laws.{IsDue, IsExact, IsFailure, IsSameText, TracesAs}
 use Rattle.snap_cli.specs.Obs.{IsRunEnding}
 use Rattle.snap_cli.specs.Refusals.{Ending, status_of}
 use Rattle.snap_cli.specs.TablesOf.{TablesOf}
-use Rattle.snap_cli.specs.Trace.{EndsTrace, IsRunText, IsTraceText, NetworkRunsTo}
-use Rattle.snap_cli.proofs.ChangesOnce.{changes_end_once, changes_text_once}
-use Rattle.snap_cli.proofs.InTurnOnce.{TurnsAreOne, in_turn_ends_once, in_turn_text, in_turn_text_once}
-use Rattle.snap_cli.proofs.ObsOnce.{run_ends_once}
+use Rattle.snap_cli.specs.Trace.{IsRunText, NetworkRunsTo}
+use Rattle.snap_cli.proofs.ChangesOnce.{changes_once, changes_text_once}
+use Rattle.snap_cli.proofs.InTurnOnce.{TurnsAreOne, in_turn_once, in_turn_text, in_turn_text_once, read_once}
+use Rattle.snap_cli.proofs.ObsOnce.{AreOne, run_once}
+use Rattle.snap_cli.proofs.OneTables.{one_tables}
+use Rattle.snap_cli.proofs.Pipeline.{Agree, past}
 use Rattle.snap_cli.proofs.RoundsOnce.{by_rounds_once}
 use Rattle.snap_cli.proofs.ScheduleOnce.{schedules_once}
-use Rattle.snap_cli.proofs.OneTables.{one_fault, one_tables, spelled_form, spelled_well}
 
 -- what is known of texts of tables and of their runs
 pub record RunsAreOne : Type 0 where
@@ -38,50 +39,25 @@ pub record RunsAreOne : Type 0 where
   pub by_rounds : RoundReportsAreOne
 
 module _ (one : RunsAreOne) (files : Files) (t : Tables) (form : IsInForm t) (packets : List ℕ) (hops : Bool) where
-  read_once : (ks : List (List ℕ)) (stop : Stop) (e f : RunEnding) (a b : List ℕ) → EndsAsRead t hops ks stop e a → EndsAsRead t hops ks stop f b → (e ≡ f) × (a ≡ b)
-  read_once ks ended e f a b h k = (h.0 ∙ sym k.0, one.reports t form hops ks a b h.1 k.1)
-  read_once ks (refused fault) e f a b h k = (h.0 ∙ sym k.0, one.blocks t form hops ks a b h.1 k.1)
+  traced_once : AreOne (IsTrace t hops (file_of files packets))
+  traced_once =
+      let read = spelled_for t (file_of files packets) in
+      read_once (ArePlainBlocks t hops) (IsPlainReport t hops) read.packets (one.blocks t form hops read.packets) (one.reports t form hops read.packets) read.stop
 
-  traced_once : (file : List ℕ) (e f : RunEnding) (a b : List ℕ) → IsTrace t hops file e a → IsTrace t hops file f b → (e ≡ f) × (a ≡ b)
-  traced_once file e f a b h k = let read = spelled_for t file in read_once read.packets read.stop e f a b h k
+  -- a run of tables ends in one way, with one text
+  pub network_once : (order : Order) → AreOne (NetworkRunsTo files t packets hops order)
+  network_once plain = run_once (IsTrace t hops (file_of files packets)) traced_once
+  network_once (schedule name) = schedules_once t form hops (file_of files packets) (file_of files name) one.schedules one.lines one.apart
+  network_once (changes name) = changes_once one.read one.changed one.parts files t form packets hops name
+  network_once (in_turn lines) = in_turn_once one.turns files t form packets hops lines
+  network_once (rounds workers) = by_rounds_once one.by_rounds t form hops files packets
 
-  -- a run of tables ends in one way
-  run_once : (order : Order) (a b : Ending) (x y : List ℕ) → NetworkRunsTo files t packets hops order a x → NetworkRunsTo files t packets hops order b y → a ≡ b
-  run_once plain a b x y h k =
-      let run = (traced_once (file_of files packets) h.0 k.0 x y h.1 k.1).0 in
-      run_ends_once k.0 a b (subst (λ r. IsRunEnding r a) run h.2) k.2
-  run_once (schedule name) a b x y h k = (schedules_once t form hops (file_of files packets) (file_of files name) one.schedules one.lines one.apart a b x y h k).0
-  run_once (changes name) a b x y h k = changes_end_once one.read one.changed one.parts files t form packets hops name a b x y h k
-  run_once (in_turn lines) a b x y h k = in_turn_ends_once one.turns files t form packets hops lines a b x y h k
-  run_once (rounds workers) a b x y h k = (by_rounds_once one.by_rounds t form hops files packets a b x y h k).0
-
-  -- and has one text
-  run_text_once : (order : Order) (a b : List ℕ) → IsRunText files t packets hops order a → IsRunText files t packets hops order b → a ≡ b
-  run_text_once plain a b h k = (traced_once (file_of files packets) h.0 k.0 a b h.1 k.1).1
-  run_text_once (schedule name) a b h k = (schedules_once t form hops (file_of files packets) (file_of files name) one.schedules one.lines one.apart h.0 k.0 a b h.1 k.1).1
-  run_text_once (changes name) a b h k = changes_text_once one.read one.changed one.parts files t form packets hops name a b h k
-  run_text_once (in_turn lines) a b h k = in_turn_text_once one.turns files t form packets hops lines a b h k
-  run_text_once (rounds workers) a b h k = (by_rounds_once one.by_rounds t form hops files packets h.0 k.0 a b h.1 k.1).1
-
-module _ (one : RunsAreOne) (files : Files) (tables packets : List ℕ) (hops : Bool) (order : Order) where
-  abbrev text : List ℕ
-  text = file_of files tables
-
-  pub ends_trace_once : (a b : Ending) → EndsTrace files tables packets hops order a → EndsTrace files tables packets hops order b → a ≡ b
-  ends_trace_once a b (inl h) (inl k) = h.2 ∙ (ap (λ e. Err e) (one_fault one.read text h.0 k.0 h.1 k.1) ∙ sym k.2)
-  ends_trace_once a b (inl h) (inr k) = absurd (spelled_well one.read text k.0 h.0 k.1 h.1)
-  ends_trace_once a b (inr h) (inl k) = absurd (spelled_well one.read text h.0 k.0 h.1 k.1)
-  ends_trace_once a b (inr h) (inr k) =
-      let same = one_tables one.read text h.0 k.0 h.1 k.1 in
-      run_once one files k.0 (spelled_form text k.0 k.1) packets hops order a b h.2.0 k.2.0 (subst (λ t. NetworkRunsTo files t packets hops order a h.2.0) same h.2.1) k.2.1
-
-  pub trace_text_once : (a b : List ℕ) → IsTraceText files tables packets hops order a → IsTraceText files tables packets hops order b → a ≡ b
-  trace_text_once a b (inl h) (inl k) = h.2 ∙ sym k.2
-  trace_text_once a b (inl h) (inr k) = absurd (spelled_well one.read text k.0 h.0 k.1 h.1)
-  trace_text_once a b (inr h) (inl k) = absurd (spelled_well one.read text h.0 k.0 h.1 k.1)
-  trace_text_once a b (inr h) (inr k) =
-      let same = one_tables one.read text h.0 k.0 h.1 k.1 in
-      run_text_once one files k.0 (spelled_form text k.0 k.1) packets hops order a b (subst (λ t. IsRunText files t packets hops order a) same h.2) k.2
+  pub run_text_once : (order : Order) → Agree ◌≡◌ (IsRunText files t packets hops order) (IsRunText files t packets hops order)
+  run_text_once plain = λ a b h k. (traced_once a b h.0 k.0 h.1 k.1).1
+  run_text_once (schedule name) = λ a b h k. (network_once (schedule name) a b h.0 k.0 h.1 k.1).1
+  run_text_once (changes name) = changes_text_once one.read one.changed one.parts files t form packets hops name
+  run_text_once (in_turn lines) = in_turn_text_once one.turns files t form packets hops lines
+  run_text_once (rounds workers) = λ a b h k. (network_once (rounds workers) a b h.0 k.0 h.1 k.1).1
 
 -- ---- what a call did that answers what is due
 
@@ -106,16 +82,11 @@ module _ (one : ReadsOneWay) (files : Files) (tables packets : List ℕ) (hops :
 
   -- what is due is how the run ends, and its text
   module _ (order : Order) (ending : Ending) (text : List ℕ) (due : IsDue files (trace tables packets hops order) ending text) where
-    by_ending : EndsTrace files tables packets hops order ending → NetworkRunsTo files t packets hops order ending text
-    by_ending (inl h) = absurd (spelled_well one (file_of files tables) t h.0 spelled h.1)
-    by_ending (inr (u, read, (other, ran))) =
-        let same = one_tables one (file_of files tables) u t read spelled in
-        let ours = subst (λ v. NetworkRunsTo files v packets hops order ending other) same ran in
-        let texts = same_text files tables packets hops order other text (due.no_other_text other (inr (t, spelled, text_of order ending other ours))) in
-        subst (NetworkRunsTo files t packets hops order ending) texts ours
-
     due_runs : NetworkRunsTo files t packets hops order ending text
-    due_runs = by_ending due.ends
+    due_runs =
+        let (u, same, read, (other, ran)) = past (one_tables one (file_of files tables)) (λ e a. a ≡ Err e) (λ u a. (x : List ℕ) × NetworkRunsTo files u packets hops order a x) t spelled ending due.ends in
+        let ours = subst (λ v. NetworkRunsTo files v packets hops order ending other) (sym same) ran in
+        subst (NetworkRunsTo files t packets hops order ending) (same_text files tables packets hops order other text (due.no_other_text other (inr (t, spelled, text_of order ending other ours)))) ours
 
   module _ (status : ℕ) (old new : Option (List ℕ)) (err_before err_now : ℕ) (err_old err_new : Option (List ℕ)) where
     -- the call failed, or answered this

@@ -19,7 +19,7 @@ use Rattle.snap_runs.specs.Laws.{SpelledForIsSpelled, SpelledPacketsFit}
 use Rattle.snap_runs.specs.Plain.{IsPlainReport, spelled_for}
 use Rattle.snap_words.specs.Commands.{Command, Order, compile, plain, trace}
 use Rattle.snap_cli.specs.declared.refusal.Refusal.{Refusal}
-use Rattle.snap_cli.specs.declared.refusal.Refusal.TheVariants.{Usage, Read, Write, Syntax, Naming, Limit, Topology as Network, Unreachable, Race, Packets, NoMemory, Undefined, Declarations, Differ, Demand, Placement, Tables as Unread, Schedule, Changes, ReadChange, VersionOne}
+use Rattle.snap_cli.specs.declared.refusal.Refusal.TheVariants.{Limit, Packets, Undefined, VersionOne}
 use Rattle.snap_cli.specs.Compile.{IsCompiled, version_of}
 use Rattle.snap_cli.specs.Deserved.{Ends}
 use Rattle.snap_cli.specs.Headline.{AreGiven, Did}
@@ -31,45 +31,22 @@ use Rattle.snap_cli.proofs.SpelledSources.{SpellsProgram-ProgramOf, SpellsTopolo
 
 -- ---- status 0
 pub refused_apart : (e : Refusal) → 0 ≡ status_of (Err e) → ⊥
-refused_apart Usage h = omega (arith, h)
-refused_apart (Read name) h = omega (arith, h)
-refused_apart Write h = omega (arith, h)
-refused_apart (Syntax fault spot) h = omega (arith, h)
-refused_apart (Naming fault spot) h = omega (arith, h)
-refused_apart (Limit which count) h = omega (arith, h)
-refused_apart (Network fault) h = omega (arith, h)
-refused_apart (Unreachable switches a b) h = omega (arith, h)
-refused_apart (Race text) h = omega (arith, h)
-refused_apart (Packets line) h = omega (arith, h)
-refused_apart NoMemory h = omega (arith, h)
-refused_apart (Undefined packet) h = omega (arith, h)
-refused_apart Declarations h = omega (arith, h)
-refused_apart (Differ text) h = omega (arith, h)
-refused_apart (Demand fault) h = omega (arith, h)
-refused_apart (Placement fault) h = omega (arith, h)
-refused_apart (Unread fault) h = omega (arith, h)
-refused_apart (Schedule line) h = omega (arith, h)
-refused_apart (Changes line) h = omega (arith, h)
-refused_apart (ReadChange name) h = omega (arith, h)
 refused_apart VersionOne h = omega (arith, h)
+refused_apart e h = omega (arith, h)
 
 ended_well : (e : Ending) → 0 ≡ status_of e → e ≡ Ok tt
 ended_well (Ok u) h = refl
 ended_well (Err e) h = absurd (refused_apart e h)
 
 pub no_failure : {X : Type 0} → IsFailure 0 ⊎ X → X
-no_failure (inl (inl h)) = absurd (omega (arith, h))
-no_failure (inl (inr (inl h))) = absurd (omega (arith, h))
-no_failure (inl (inr (inr h))) = absurd (omega (arith, h))
 no_failure (inr x) = x
+no_failure (inl h) = absurd (grind (arith, h))
 
 pub run_apart : (fault : TraceFault) (e : Ending) → IsRunEnding (Err fault) e → 0 ≡ status_of e → ⊥
 run_apart (run.Limit which count) e is h = refused_apart (Limit which count) (h ∙ ap status_of is)
 run_apart (run.Packets line) e is h = refused_apart (Packets line) (h ∙ ap status_of is)
 run_apart (run.Undefined packet) e is h = refused_apart (Undefined packet) (h ∙ ap status_of is)
-run_apart run.Read e is h = is
-run_apart run.Write e is h = is
-run_apart run.NoMemory e is h = is
+run_apart fault e is h = is
 
 -- a text of tables that is read back is no other's
 pub same_tables : (file : List ℕ) (n u : Tables) → IsReadBack n → file ≡ tables_text n → TablesOf file (Ok u) → u ≡ n

@@ -12,9 +12,9 @@ use Rattle.snap_cli.proofs.laws.compiles_exactly.Goals as goal
 module _ (spells : SpellsOneProgram) (files : Files) (program topology placement : List ℕ) (on_demand : Bool) (p : Program) (t : Topology) (places : List ℕ) (spelled : AreSpelled files program topology placement p t places)
     (status : ℕ) (out_old out_new : Option (List ℕ)) (err_before err_now : ℕ) (err_old err_new : Option (List ℕ)) where
   exactly : IsFailure status ⊎ ((ending : Ending) × (text : List ℕ) × IsDue files (compile program topology placement on_demand) ending text × IsExact ending text status out_old out_new err_before err_now err_old err_new)
-      → IsFailure status ⊎ Came spells files program topology placement on_demand p t places spelled status out_old out_new err_before err_now err_old err_new
+      → IsFailure status ⊎ Came files program topology placement on_demand spells p t places spelled status out_old out_new err_before err_now err_old err_new
   exactly (inl failed) = inl failed
-  exactly (inr (ending, text, due, exact)) = inr (came spells files program topology placement on_demand p t places spelled status out_old out_new err_before err_now err_old err_new ending text due exact)
+  exactly (inr (ending, text, due, exact)) = inr (came files program topology placement on_demand spells p t places spelled status out_old out_new err_before err_now err_old err_new ending text due exact)
 
 pub returns : goal.returns
 returns c = λ words files program topology placement on_demand p t places status shelf_before shelf_now out_before out_now out_old out_new err_before err_now err_old err_new is spelled a.
