@@ -15,7 +15,7 @@ use Rattle.snap_names.specs.Core.{CoreTest, id_test, drop_test, field_test, stat
 use Rattle.snap_names.specs.Declarations.{CoreProgram, core_program}
 use Rattle.snap_trace.specs.OneSwitch.{EndsAsRead, IsReport, made_text, RunEnding}
 use Rattle.snap_trace.specs.Spelled.{spelled}
-use Rattle.snap_trace.proofs.SwitchLemmas.{behind}
+use Rattle.snap_core.proofs.Switching.{in_front}
 
 -- evaluation of the core language
 abbrev core_truth : CoreTest → Arrays → List ℕ → Bool
@@ -88,7 +88,7 @@ module _ (p q : Program) (same : core_program p ≡ core_program q) where
 
   pub same_switch : (packets : List (List ℕ)) (m : Arrays) → one_big_switch p.body m packets ≡ one_big_switch q.body m packets
   same_switch [] m = refl
-  same_switch (packet ∷ packets) m = λ i. option_and_then (λ o. option_map (behind o) (same_switch packets o.arrays i)) (same_eval m packet i)
+  same_switch (packet ∷ packets) m = λ i. option_and_then (λ o. option_map (in_front o) (same_switch packets o.arrays i)) (same_eval m packet i)
 
   module _ (file : List ℕ) (ending : RunEnding) (text : List ℕ) where
     pub same_report : IsReport p file ending text → IsReport q file ending text

@@ -1,6 +1,6 @@
 -- What stands next in a file, by the bytes of it that are held.
 use Rattle.std.proofs.Common.{◌≡◌, ℕ, ◌+◌, ◌-◌, ◌<◌, ◌≤◌, min, Bool, true, false, not, ◌&&◌, leb, ltb, eqb, if◌then◌else◌, List, ◌++◌, length, take, drop, refl, sym, ap, ◌∙◌, ◌⊎◌, inl, inr, arith, length-drop, IsTrue}
-use Rattle.std.proofs.lemmas.Bool.{le-leb, lt-leb, lt-ltb, le-ltb, eq-eqb, false≢true, ltb-true, ltb-false, leb-true, eqb-true}
+use Rattle.std.proofs.lemmas.Bool.{le-leb, lt-leb, lt-ltb, le-ltb, eq-eqb, false≢true, ltb-true, ltb-false, leb-true, eqb-true, and_parts}
 use Rattle.std.proofs.lemmas.List.{length-take, take-take, drop-drop, drop-take, drop_min}
 use Rattle.std.proofs.lemmas.List.Folds.{length-prefix_len}
 use Rattle.std.proofs.Math.Bool.{and-false}
@@ -85,10 +85,6 @@ pub settled : (ended : Bool) (before len most : ℕ) → (not ended && (eqb befo
 settled true before len most closed within few = inr refl
 settled false before len most closed within few =
     inl (settled_false before len most (ltb before len) refl closed within few)
-
-and_parts : (a b : Bool) → (a && b) ≡ true → (a ≡ true) × (b ≡ true)
-and_parts true b is = (refl, is)
-and_parts false b is = absurd (false≢true is)
 
 -- a reader that must read on has few bytes and no LF
 pub open_parts : (ended : Bool) (before len most : ℕ) → (not ended && (eqb before len && leb len most)) ≡ true → (before ≡ len) × (len ≤ most)

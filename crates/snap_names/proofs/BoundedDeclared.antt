@@ -1,5 +1,5 @@
 -- What is declared fits.
-use Rattle.std.proofs.Common.{◌≡◌, ℕ, zero, suc, ◌+◌, ◌<◌, ◌≤◌, List, [], ◌∷◌, ◌++◌, length, slice_get, Option, None, Some, is_some, Ok, IfOk, sym, ap, ◌∙◌, arith, add_assoc, le_refl, le_trans, lt_of_le_of_lt, lt_of_lt_of_le, length-append}
+use Rattle.std.proofs.Common.{◌≡◌, ℕ, zero, suc, ◌+◌, ◌<◌, ◌≤◌, List, [], ◌∷◌, ◌++◌, length, slice_get, Option, None, Some, is_some, Ok, IfOk, arith, le_refl, le_trans, lt_of_le_of_lt, lt_of_lt_of_le, length-append}
 use Rattle.std.proofs.Math.Nat.{min-le_left}
 use Rattle.std.specs.List.{All, list_any}
 use Rattle.std.proofs.lemmas.List.Elements.{All-append, All-from_recursion, All-nil, All-push, All-weaker}
@@ -16,16 +16,13 @@ use Rattle.snap_names.proofs.TreeReadings.{IsPolicy}
 use Rattle.snap_names.proofs.BoundedSenses.{SenseFits, NamesFit}
 use Rattle.snap_names.proofs.BoundedSteps.{IfOk-after, IfOk-after_any, IfOk-unless}
 use Rattle.snap_names.proofs.Placed.{DeclWritten, PolicyPlaced, HasSequence}
+use Rattle.snap_core.proofs.FieldLemmas.{count-append}
 
 -- what the names stand for, and the bodies of `let`, have no component and no array beyond those that are declared
 pub record DeclaredFits (W : Type 0) (d : Declared) : Type 0 where
   pub names : NamesFit (count d.fields) (length d.arrays) d.names
   pub lets : All (PolicyFits W (count d.fields) (length d.arrays) d.arities) d.lets
   pub room : length d.arrays ≤ length d.arities
-
-pub count-append : (fs gs : List Field) → count (fs ++ gs) ≡ count fs + count gs
-count-append [] gs = omega arith
-count-append (f ∷ fs) gs = ap (λ n. width f.prefix + n) (count-append fs gs) ∙ sym (add_assoc (width f.prefix) (count fs) (count gs))
 
 SenseFits-more : (c d v w : ℕ) → c ≤ d → v ≤ w → (s : Sense) → SenseFits c v s → SenseFits d w s
 SenseFits-more c d v w k l (Plain i) h = lt_of_lt_of_le h k

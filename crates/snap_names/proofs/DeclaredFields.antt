@@ -14,7 +14,7 @@ use Rattle.std.proofs.lemmas.Bool.Decides.{nat_tests}
 use Rattle.snap_core.specs.Names.{IsName}
 use Rattle.snap_names.proofs.Placed.{DeclWritten}
 use Rattle.snap_names.proofs.NameParts.{IsName-field}
-use Rattle.snap_names.proofs.Declaring.{bytes_eq-apart}
+use Rattle.snap_core.proofs.FieldLemmas.{bytes_eq-apart}
 use Rattle.std.proofs.lemmas.List.Elements.{All-from_recursion, All-weaker, recursion_from_All}
 use Rattle.snap_core.proofs.Entries.{both}
 use Rattle.snap_names.proofs.BoundedSteps.{IfOk-after_any, IfOk-unless, IfOk-unless_is}

@@ -1,9 +1,8 @@
 -- What a declaration adds to a scope.
-use Rattle.std.proofs.Common.{◌≡◌, ◌≢◌, ℕ, suc, ◌+◌, Bool, true, false, List, [], ◌∷◌, ◌++◌, length, codes, Option, None, Some, is_some, Result, Ok, Err, cond, if◌then◌else◌, min, refl, sym, ap, ◌∙◌, subst, arith, append_assoc, length-append, Vec, ◌||◌, Global, bytes_eq}
+use Rattle.std.proofs.Common.{◌≡◌, ℕ, suc, ◌+◌, Bool, true, false, List, [], ◌∷◌, ◌++◌, length, codes, Option, None, Some, is_some, Result, Ok, Err, cond, if◌then◌else◌, min, refl, sym, ap, ◌∙◌, subst, arith, append_assoc, length-append, Vec, ◌||◌, Global, bytes_eq}
 use Rattle.std.specs.List.{list_any}
 use Rattle.std.specs.Map.{lookup}
-use Rattle.std.proofs.lemmas.Bool.{false_from_ne_true, or_parts}
-use Rattle.std.proofs.lemmas.Slice.Eq.{bytes_eq-Decides}
+use Rattle.std.proofs.lemmas.Bool.{or_parts}
 use Rattle.indexmap.specs.IndexMap.{insert_entry}
 use Rattle.snap_names.specs.Declarations.{Field, Declared, ports, field_names, field_senses, short, capped, with_field, with_let}
 use Rattle.snap_core.specs.Fields.{count, width}
@@ -13,7 +12,7 @@ use Rattle.snap_names.specs.Core.{CorePolicy, nodes}
 use Rattle.snap_names.specs.Spells.{is_known}
 use Rattle.snap_names.specs.Scopes.{declared_in, IsScope, HasDeclared}
 use Rattle.snap_names.proofs.PartLemmas.{IsPart-later}
-use Rattle.snap_names.proofs.BoundedDeclared.{count-append}
+use Rattle.snap_core.proofs.FieldLemmas.{count-append, bytes_eq-apart}
 
 insert_step : (b : Bool) (e : Vec ℕ Global × Sense) (es more : List (Vec ℕ Global × Sense)) (name : Vec ℕ Global) (s : Sense)
     → (is_known (names_in es) name.items ≡ false → names_in more ≡ names_in es ++ (name.items, s) ∷ [])
@@ -36,9 +35,6 @@ lookup_step false x o p rest h = rest h
 pub is_known-append : (names : List (List ℕ × Sense)) (e : List ℕ × Sense) (name : List ℕ) → is_known names name ≡ false → bytes_eq name e.0 ≡ false → is_known (names ++ e ∷ []) name ≡ false
 is_known-append [] e name h k = rw k refl
 is_known-append (x ∷ names) e name h k = lookup_step (bytes_eq name x.0) x.1 (lookup (bytes_eq name) names) (lookup (bytes_eq name) (names ++ e ∷ [])) (λ w. is_known-append names e name w k) h
-
-pub bytes_eq-apart : (xs ys : List ℕ) → length xs ≢ length ys → bytes_eq xs ys ≡ false
-bytes_eq-apart xs ys h = false_from_ne_true (bytes_eq xs ys) (λ e. h (ap length ((bytes_eq-Decides xs ys).0 e)))
 
 pub three_new : (ns n1 n2 n3 : List (List ℕ × Sense)) (name net host : List ℕ) (s1 s2 s3 : Sense)
     → list_any (is_known ns) (field_names name true) ≡ false

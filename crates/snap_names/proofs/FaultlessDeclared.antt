@@ -12,7 +12,8 @@ use Rattle.snap_names.specs.Core.{CorePolicy, nodes, weight}
 use Rattle.snap_names.specs.Reading.{read_policy}
 use Rattle.snap_names.specs.Spells.{Scope, senses, is_known}
 use Rattle.snap_names.proofs.BoundedCore.{Grows, Grows-same, Grows-then}
-use Rattle.snap_names.proofs.BoundedDeclared.{DeclaredFits, scope_of, PolicyRead, policy-read, declare-fits, ports-fit, count-append, Grows-append}
+use Rattle.snap_core.proofs.FieldLemmas.{count-append}
+use Rattle.snap_names.proofs.BoundedDeclared.{DeclaredFits, scope_of, PolicyRead, policy-read, declare-fits, ports-fit, Grows-append}
 use Rattle.snap_names.proofs.BoundedSteps.{IfOk-after, IfOk-both, IfOk-unless_is, IfOk-within}
 use Rattle.snap_names.proofs.Faultless.{literal-number, or_fault-is}
 use Rattle.snap_names.proofs.ReadTrees.{Agrees, Agrees-before}

@@ -10,7 +10,8 @@ use Rattle.snap_names.specs.Senses.{Span, Sense, Array, Constant, Policy, NameFa
 use Rattle.snap_names.specs.Core.{CorePolicy, core_policy, nodes, weight}
 use Rattle.snap_names.specs.Reading.{read_policy}
 use Rattle.snap_names.specs.Spells.{Scope, senses, before_text, is_known}
-use Rattle.snap_names.proofs.BoundedDeclared.{DeclaredFits, declare-fits, ports-fit, count-append}
+use Rattle.snap_core.proofs.FieldLemmas.{count-append}
+use Rattle.snap_names.proofs.BoundedDeclared.{DeclaredFits, declare-fits, ports-fit}
 use Rattle.snap_names.proofs.FaultlessDeclared.{fields-known, senses-short}
 use Rattle.snap_names.proofs.ReadTrees.{Agrees}
 use Rattle.snap_names.proofs.Readable.{after-gives, literal-gives}

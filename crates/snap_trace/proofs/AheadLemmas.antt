@@ -5,6 +5,7 @@ use Rattle.std.specs.List.{list_all}
 use Rattle.std.specs.Char.{is_ascii_digit}
 use Rattle.std.proofs.lemmas.Bool.Decides.{nat_tests}
 use Rattle.std.proofs.lemmas.List.{append-nil}
+use Rattle.std.proofs.lemmas.Bool.{and_parts}
 use Rattle.snap_core.specs.Figures.{address_behind, address_of_parts, octet_of, number_up_to, value_of_digits, onto_first, parts_by}
 use Rattle.snap_core.proofs.FigureLemmas.{number_up_to-digits}
 use Rattle.snap_trace.specs.Ahead.{IsAddressFront, IsOctetAhead}
@@ -48,15 +49,11 @@ module _ (text rest : List ℕ) (a : ℕ) (e : text ≡ (48 + a) ∷ rest) (smal
 
 -- no digit separates, so digits belong to the first part
 module _ (p : ℕ → Bool) (apart : (b : ℕ) → is_ascii_digit b ≡ true → p b ≡ false) where
-  both : (a b : Bool) → (a && b) ≡ true → (a ≡ true) × (b ≡ true)
-  both true b e = (refl, e)
-  both false b e = absurd (cc)
-
   digits-first : (digits rest part : List ℕ) (more : List (List ℕ)) → list_all is_ascii_digit digits ≡ true → parts_by p rest ≡ part ∷ more
       → parts_by p (digits ++ rest) ≡ (digits ++ part) ∷ more
   digits-first [] rest part more all e = e
   digits-first (d ∷ ds) rest part more all e =
-      let each = both (is_ascii_digit d) (list_all is_ascii_digit ds) all in
+      let each = and_parts (is_ascii_digit d) (list_all is_ascii_digit ds) all in
       ap (λ t. cond t ([] ∷ parts_by p (ds ++ rest)) (onto_first d (parts_by p (ds ++ rest)))) (apart d each.0) ∙ ap (onto_first d) (digits-first ds rest part more each.1 e)
 
 no_blank : (b : ℕ) → is_ascii_digit b ≡ true → is_blank b ≡ false

@@ -2,7 +2,6 @@
 use Rattle.std.proofs.Common.{◌≡◌, ◌<◌, ◌+◌, ℕ, suc, zero, Bool, true, false, ◌==◌, cond, List, [], ◌∷◌, ◌++◌, Option, Some, None, length, map, drop, refl, ap, sym, subst, ◌∙◌, slice_get, slice_index, slice_index_or, option_and_then, option_map, Bor}
 use Rattle.std.specs.Prelude.{unwrap_or, MatchOption}
 use Rattle.std.specs.Cmp.{nat_eq_equiv}
-use Rattle.std.specs.Int.Bits.{or_zero_l}
 use Rattle.std.specs.Option.{option_or}
 use Rattle.std.proofs.lemmas.List.{drop_more, length-map, map-append}
 use Rattle.std.proofs.lemmas.Option.{none-some}
@@ -12,11 +11,12 @@ use Rattle.snap_core.specs.Cases.{case_at}
 use Rattle.snap_core.specs.Fits.{PolFits}
 use Rattle.snap_core.specs.declared.copies.Flow.TheVariants.{Same}
 use Rattle.snap_core.specs.declared.run.Ran.{Ran}
-use Rattle.snap_core.specs.Meaning.{Meaning, all_together, eval, logged}
+use Rattle.snap_core.specs.Meaning.{all_together, eval, logged}
 use Rattle.snap_core.specs.Packets.{listed}
 use Rattle.snap_core.specs.Runs.{after_first, ran_with, set_after}
 use Rattle.snap_core.proofs.CaseLemmas.{case_at-append}
 use Rattle.snap_core.proofs.EvalLemmas.{each_one}
+use Rattle.snap_core.proofs.WithinLemmas.{logged-nothing, eval-cond}
 use Rattle.snap_trace.specs.declared.laid.Part.{Part}
 use Rattle.snap_trace.specs.Choices.{ComesTo, IsTest, AreParts, seen}
 
@@ -27,14 +27,6 @@ pub comes-on : (p q r : Pol) (k : List ℕ) → ComesTo p q k → ComesTo q r k 
 comes-on p q r k a b = record { fits = λ n v f. b.fits n v (a.fits n v f); same = λ m. a.same m ∙ b.same m }
 
 -- ---- a test of a component reads no array
-logged-nothing : (o : Option Meaning) → option_map (logged 0 0) o ≡ o
-logged-nothing None = refl
-logged-nothing (Some o) = λ i. Some (record o { reads = or_zero_l o.reads i; writes = or_zero_l o.writes i })
-
-eval-cond : (t : Bool) (p q : Pol) (m : Arrays) (k : List ℕ) → cond t (eval p m k) (eval q m k) ≡ eval (cond t p q) m k
-eval-cond true p q m k = refl
-eval-cond false p q m k = refl
-
 -- what a test of a component gives
 pub tested : (t : Bool) (p q : Pol) (m : Arrays) (k : List ℕ) → option_map (logged 0 0) (cond t (eval p m k) (eval q m k)) ≡ eval (cond t p q) m k
 tested t p q m k = logged-nothing (cond t (eval p m k) (eval q m k)) ∙ eval-cond t p q m k

@@ -1,13 +1,15 @@
 -- A text's first word, cut at its first `=`.
-use Rattle.std.proofs.Common.{◌≡◌, ℕ, ◌+◌, ◌-◌, ◌<◌, ◌||◌, ◌≤◌, zero, suc, Bool, true, false, cond, None, Some, List, [], ◌∷◌, ◌++◌, length, take, drop, get_or, refl, sym, ap, subst, ◌∙◌, arith, add-one, length-take}
+use Rattle.std.proofs.Common.{◌≡◌, ℕ, ◌+◌, ◌-◌, ◌<◌, ◌≤◌, zero, suc, Bool, true, false, cond, None, Some, List, [], ◌∷◌, ◌++◌, length, take, drop, get_or, refl, sym, ap, subst, ◌∙◌, arith, add-one, length-take}
 use Rattle.std.specs.Prelude.{filter, position}
-use Rattle.std.proofs.lemmas.List.{get_or-take, take_all}
+use Rattle.std.proofs.lemmas.List.{get_or-take, take_all, take_rest}
 use Rattle.std.proofs.lemmas.List.Quantifiers.{position-Some}
+use Rattle.std.proofs.lemmas.Bool.{or_parts}
 use Rattle.snap_core.specs.Figures.{onto_first, parts_by}
-use Rattle.snap_core.proofs.PartLemmas.{parts_by-first, parts_by-none}
+use Rattle.snap_core.proofs.PartLemmas.{parts_by-first, parts_by-none, parts_by-step}
+use Rattle.snap_core.proofs.Truths.{or_rest}
 use Rattle.snap_trace.specs.Cuts.{HasNoName, IsFirstCut, IsNameFront, IsUntilBlank, is_equals, is_mark}
 use Rattle.snap_trace.specs.PacketLines.{BeginsWord, is_blank, is_some_text, words_of}
-use Rattle.snap_trace.proofs.WordLemmas.{position-None, back}
+use Rattle.snap_trace.proofs.WordLemmas.{position-None}
 
 -- the first blank stands at n
 until-at : (text : List ℕ) (n : ℕ) → n < length text → ((k : ℕ) → k < n → is_blank (get_or text k 0) ≡ false) → is_blank (get_or text n 0) ≡ true
@@ -16,7 +18,7 @@ until-at text n lt before here =
     record {
       more = parts_by is_blank (drop (suc n) text);
       parts = parts_by-first is_blank text n lt before here;
-      words = sym (ap words_of (back text (n + 1)) ∙ ap (λ k. words_of (drop k text)) (add-one n));
+      words = sym (ap words_of (take_rest text (n + 1)) ∙ ap (λ k. words_of (drop k text)) (add-one n));
     }
 
 -- there is none
@@ -53,28 +55,21 @@ begins-word text value behind h until =
     ap (filter is_some_text) until.parts ∙ with_front value until.more (begins-some text value until.more h until.parts) ∙ ap (λ words. value ∷ words) until.words
 
 module _ (p : ℕ → Bool) where
-  step : (b : ℕ) (bs : List ℕ) (t : Bool) → p b ≡ t → parts_by p (b ∷ bs) ≡ cond t ([] ∷ parts_by p bs) (onto_first b (parts_by p bs))
-  step b bs t e = ap (λ t. cond t ([] ∷ parts_by p bs) (onto_first b (parts_by p bs))) e
-
   -- the first separator is at i, whatever stands behind it
   cut-at : (text : List ℕ) (i : ℕ) → i < length text → ((k : ℕ) → k < i → p (get_or text k 0) ≡ false) → p (get_or text i 0) ≡ true
       → (value : List ℕ) → parts_by p (take (suc i) text ++ value) ≡ take i text ∷ parts_by p value
   cut-at [] i lt before here value = absurd (omega arith)
-  cut-at (b ∷ bs) zero lt before here value = step b value true here
+  cut-at (b ∷ bs) zero lt before here value = parts_by-step p b value true here
   cut-at (b ∷ bs) (suc i) lt before here value =
-      step b (take (suc i) bs ++ value) false (before 0 (omega arith)) ∙ ap (onto_first b) (cut-at bs i (omega arith) (λ k l. before (suc k) (omega arith)) here value)
+      parts_by-step p b (take (suc i) bs ++ value) false (before 0 (omega arith)) ∙ ap (onto_first b) (cut-at bs i (omega arith) (λ k l. before (suc k) (omega arith)) here value)
 
   -- no byte up to i separates, so they belong to the first part
   first-part : (text : List ℕ) (i : ℕ) → i < length text → ((k : ℕ) → k < i → p (get_or text k 0) ≡ false) → p (get_or text i 0) ≡ false
       → (value : List ℕ) (more : List (List ℕ)) → parts_by p (drop (suc i) text) ≡ value ∷ more → parts_by p text ≡ (take (suc i) text ++ value) ∷ more
   first-part [] i lt before here value more e = absurd (omega arith)
-  first-part (b ∷ bs) zero lt before here value more e = step b bs false here ∙ ap (onto_first b) e
+  first-part (b ∷ bs) zero lt before here value more e = parts_by-step p b bs false here ∙ ap (onto_first b) e
   first-part (b ∷ bs) (suc i) lt before here value more e =
-      step b bs false (before 0 (omega arith)) ∙ ap (onto_first b) (first-part bs i (omega arith) (λ k l. before (suc k) (omega arith)) here value more e)
-
-neither : (a b : Bool) → (a || b) ≡ false → (a ≡ false) × (b ≡ false)
-neither true b e = absurd (cc)
-neither false b e = (refl, e)
+      parts_by-step p b bs false (before 0 (omega arith)) ∙ ap (onto_first b) (first-part bs i (omega arith) (λ k l. before (suc k) (omega arith)) here value more e)
 
 some_front : (text : List ℕ) (i : ℕ) (value : List ℕ) → i < length text → is_some_text (take (suc i) text ++ value) ≡ true
 some_front [] i value lt = absurd (omega arith)
@@ -84,8 +79,8 @@ some_front (b ∷ bs) i value lt = refl
 cut-first : (text : List ℕ) (i : ℕ) → i < length text → ((k : ℕ) → k < i → is_mark (get_or text k 0) ≡ false) → get_or text i 0 ≡ 61 → (value behind : List ℕ)
     → IsUntilBlank (take (length text - (i + 1)) (drop (i + 1) text)) value behind → IsFirstCut text (Some (take i text, value)) behind
 cut-first text i lt none equals value behind until =
-    let before = λ (k : ℕ) (l : k < i). neither (is_equals (get_or text k 0)) (is_blank (get_or text k 0)) (none k l) in
-    let rest : take (length text - (i + 1)) (drop (i + 1) text) ≡ drop (suc i) text = back text (i + 1) ∙ ap (λ k. drop k text) (add-one i) in
+    let before = λ (k : ℕ) (l : k < i). or_parts (is_equals (get_or text k 0)) (is_blank (get_or text k 0)) (none k l) in
+    let rest : take (length text - (i + 1)) (drop (i + 1) text) ≡ drop (suc i) text = take_rest text (i + 1) ∙ ap (λ k. drop k text) (add-one i) in
     let word = take (suc i) text ++ value in
     record {
       word = word;
@@ -109,14 +104,10 @@ name-same text name lt same none equals =
     let whole : take (length name) text ≡ name = same ∙ take_all (length name) name (omega arith) in
     subst (λ n. IsNameFront text n (take (length text - (length name + 1)) (drop (length name + 1) text))) whole (name-front text (length name) lt none equals)
 
-other : (a b : Bool) → (a || b) ≡ true → a ≡ false → b ≡ true
-other true b e f = absurd (cc)
-other false b e f = e
-
 -- no mark stands in the first word, or the first is a blank
 pub no_name-none : (text : List ℕ) → BeginsWord text → position is_mark text ≡ None → HasNoName text
 no_name-none text h e =
-    let before = λ (k : ℕ) (l : k < length text). neither (is_equals (get_or text k 0)) (is_blank (get_or text k 0)) (position-None is_mark text e k l) in
+    let before = λ (k : ℕ) (l : k < length text). or_parts (is_equals (get_or text k 0)) (is_blank (get_or text k 0)) (position-None is_mark text e k l) in
     record {
       behind = [];
       cut = record { word = text; words = begins-word text text [] h (until-none text (λ k l. (before k l).1)); parts = parts_by-none is_equals text (λ k l. (before k l).0) };
@@ -125,8 +116,8 @@ no_name-none text h e =
 pub no_name-blank : (text : List ℕ) (i : ℕ) → BeginsWord text → position is_mark text ≡ Some i → is_equals (get_or text i 0) ≡ false → HasNoName text
 no_name-blank text i h e differs =
     let at = position-Some is_mark text i 0 e in
-    let before = λ (k : ℕ) (l : k < i). neither (is_equals (get_or text k 0)) (is_blank (get_or text k 0)) (at.2 k l) in
-    let blank = other (is_equals (get_or text i 0)) (is_blank (get_or text i 0)) at.1 differs in
+    let before = λ (k : ℕ) (l : k < i). or_parts (is_equals (get_or text k 0)) (is_blank (get_or text k 0)) (at.2 k l) in
+    let blank = or_rest (is_equals (get_or text i 0)) (is_blank (get_or text i 0)) at.1 differs in
     let short : length (take i text) ≤ i = omega (arith, length-take i text) in
     let behind = take (length text - (i + 1)) (drop (i + 1) text) in
     record {

@@ -15,9 +15,6 @@ decimal-behind n rest more fits = rw (decimal_step n more fits, append_assoc)
 pub length-decimal_step : (n : ℕ) → 10 ≤ n → n < 2 ^ 64 → length (decimal n) ≡ length (decimal (n / 10)) + 1
 length-decimal_step n more fits = ap length (decimal_step n more fits) ∙ length-append (decimal (n / 10)) ((48 + n % 10) ∷ [])
 
-pub length-decimal_digit : (n : ℕ) → n < 10 → length (decimal n) ≡ 1
-length-decimal_digit n less = ap length (decimal_digit n less)
-
 -- a byte has three digits at most
 pub length-decimal_byte : (n : ℕ) → n < 256 → length (decimal n) ≤ 3
 length-decimal_byte n less = length-decimal-le 3 n (omega arith) (omega arith) (omega arith)

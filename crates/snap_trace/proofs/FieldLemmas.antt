@@ -4,10 +4,7 @@ use Rattle.std.proofs.lemmas.List.{drop_more, take_more}
 use Rattle.snap_core.specs.declared.program.Field.{Field}
 use Rattle.snap_core.specs.Fields.{count, width}
 use Rattle.snap_trace.specs.Reports.{field_text, fields_text}
-
-count-append : (fs gs : List Field) → count (fs ++ gs) ≡ count fs + count gs
-count-append [] gs = omega arith
-count-append (f ∷ fs) gs = let rest = count-append fs gs in omega (arith, rest)
+use Rattle.snap_core.proofs.FieldLemmas.{count-append}
 
 -- the components of one field more
 pub count-take_more : (fs : List Field) (i : ℕ) (f : Field) → i < length fs → f ≡ get_or fs i f → count (take (i + 1) fs) ≡ count (take i fs) + width f.prefix

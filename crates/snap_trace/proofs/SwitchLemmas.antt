@@ -25,10 +25,7 @@ use Rattle.snap_trace.specs.Spelled.{Spelled, spelled, spelled_behind}
 use Rattle.snap_trace.specs.Switching.{Stands, Reports, Refuses, after}
 use Rattle.snap_trace.proofs.Readers.{spelled_behind-const}
 use Rattle.snap_trace.proofs.Running.{written-as}
-
--- what a packet became, before what those behind it became
-abbrev pub behind : Meaning → Switched → Switched
-behind o made = record { packets = o.packets ∷ made.packets; arrays = made.arrays }
+use Rattle.snap_core.proofs.Switching.{in_front}
 
 some_of_map : (f : Switched → Switched) (o : Option Switched) (r : Switched) → option_map f o ≡ Some r → (s : Switched) × (o ≡ Some s)
 some_of_map f None r e = absurd (cc)
@@ -46,12 +43,12 @@ switch-take p (packet ∷ packets) m zero made e none = absurd (cc)
 switch-take p (packet ∷ packets) m (suc count) made e none = from (eval p m packet) (λ o. switch-take p packets o.arrays count) e none
   where
     from : (o : Option Meaning) → ((x : Meaning) (r : Switched) → one_big_switch p x.arrays packets ≡ Some r → one_big_switch p x.arrays (take count packets) ≡ None → ⊥)
-        → option_and_then (λ x. option_map (behind x) (one_big_switch p x.arrays packets)) o ≡ Some made
-        → option_and_then (λ x. option_map (behind x) (one_big_switch p x.arrays (take count packets))) o ≡ None → ⊥
+        → option_and_then (λ x. option_map (in_front x) (one_big_switch p x.arrays packets)) o ≡ Some made
+        → option_and_then (λ x. option_map (in_front x) (one_big_switch p x.arrays (take count packets))) o ≡ None → ⊥
     from None later f g = absurd (cc)
     from (Some x) later f g =
-        let some = some_of_map (behind x) (one_big_switch p x.arrays packets) made f in
-        later x some.0 some.1 (none_of_map (behind x) (one_big_switch p x.arrays (take count packets)) g)
+        let some = some_of_map (in_front x) (one_big_switch p x.arrays packets) made f in
+        later x some.0 some.1 (none_of_map (in_front x) (one_big_switch p x.arrays (take count packets)) g)
 
 blocks-append : (shown : PacketSet → List ℕ) (number : ℕ) (a b : List PacketSet) → blocks shown number (a ++ b) ≡ blocks shown number a ++ blocks shown (number + length a) b
 blocks-append shown number [] b = ap (λ n. blocks shown n b) (let e : number ≡ number + 0 = omega arith in e)
@@ -107,7 +104,7 @@ module _ (first : Switch) (packets : List (List ℕ)) (text : List ℕ) (now : S
         made = made;
         goes_on = λ more.
             ap (one_big_switch body zero_arrays) (append_assoc packets (packet ∷ []) more) ∙ s.goes_on (packet ∷ more)
-            ∙ ap (λ x. option_map (after s.made) (option_and_then (λ (x : Meaning). option_map (behind x) (one_big_switch body x.arrays more)) x)) here ∙ both (one_big_switch body o.arrays more);
+            ∙ ap (λ x. option_map (after s.made) (option_and_then (λ (x : Meaning). option_map (in_front x) (one_big_switch body x.arrays more)) x)) here ∙ both (one_big_switch body o.arrays more);
         arrays = arrays;
         as_many = length-append s.made.packets (o.packets ∷ []) ∙ ap (λ n. n + 1) s.as_many ∙ sym longer;
         number = number ∙ ap (λ n. n + 1) (s.number ∙ sym longer);
@@ -117,7 +114,7 @@ module _ (first : Switch) (packets : List (List ℕ)) (text : List ℕ) (now : S
       made : Switched
       made = record { packets = s.made.packets ++ o.packets ∷ []; arrays = o.arrays }
 
-      both : (x : Option Switched) → option_map (after s.made) (option_map (behind o) x) ≡ option_map (after made) x
+      both : (x : Option Switched) → option_map (after s.made) (option_map (in_front o) x) ≡ option_map (after made) x
       both None = refl
       both (Some r) = ap (λ l. Some (record { packets = l; arrays = r.arrays })) (sym (append_assoc s.made.packets (o.packets ∷ []) r.packets))
 

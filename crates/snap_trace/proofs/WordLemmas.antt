@@ -4,8 +4,9 @@ use Rattle.std.specs.Prelude.{filter, position, nat_lt}
 use Rattle.std.specs.List.{position_or_len}
 use Rattle.std.proofs.lemmas.List.Sums.{prefix_len_passes}
 use Rattle.std.proofs.lemmas.Bool.Decides.{nat_tests}
-use Rattle.std.proofs.lemmas.List.{take_all, drop_all, at_drop_more}
+use Rattle.std.proofs.lemmas.List.{drop_all, at_drop_more, take_rest}
 use Rattle.std.proofs.lemmas.List.Quantifiers.{position-Some}
+use Rattle.std.proofs.lemmas.Bool.{not-true}
 use Rattle.snap_core.specs.Figures.{onto_first, parts_by}
 use Rattle.snap_trace.specs.PacketLines.{is_blank, is_inked, is_some_text, words_of, BeginsWord, both_numbers}
 
@@ -37,26 +38,18 @@ some_or_none : (b : Bool) (n : ℕ) → cond b (Some n) None ≡ None → b ≡ 
 some_or_none true n e = absurd (cc)
 some_or_none false n e = refl
 
-fails : (b : Bool) → not b ≡ true → b ≡ false
-fails true e = sym e
-fails false e = refl
-
 -- where no element is found, none passes
 pub position-None : (p : ℕ → Bool) (xs : List ℕ) → position p xs ≡ None → (k : ℕ) → k < length xs → p (get_or xs k 0) ≡ false
 position-None p xs e k within =
     let no : nat_lt (position_or_len p xs) (length xs) ≡ false = some_or_none (nat_lt (position_or_len p xs) (length xs)) (position_or_len p xs) e in
     let before : k < position_or_len p xs = grind (arith, nat_tests) in
-    fails (p (get_or xs k 0)) (prefix_len_passes (λ x. not (p x)) xs k 0 before)
-
--- the rest of a slice from n on, as a program's `&text[n..]` is seen
-pub back : (text : List ℕ) (n : ℕ) → take (length text - n) (drop n text) ≡ drop n text
-back text n = take_all (length text - n) (drop n text) (omega (arith, length-drop n text))
+    not-true (p (get_or xs k 0)) (prefix_len_passes (λ x. not (p x)) xs k 0 before)
 
 -- behind the blanks at the front
 pub words_of-inked : (text : List ℕ) (n : ℕ) → position is_inked text ≡ Some n → words_of text ≡ words_of (take (length text - n) (drop n text))
 words_of-inked text n e =
     let at = position-Some is_inked text n 0 e in
-    words_of-blanks text n (omega (arith, at.0)) at.2 ∙ ap words_of (sym (back text n))
+    words_of-blanks text n (omega (arith, at.0)) at.2 ∙ ap words_of (sym (take_rest text n))
 
 pub words_of-none : (text : List ℕ) → position is_inked text ≡ None → words_of text ≡ []
 words_of-none text e = words_of-blanks text (length text) (omega arith) (position-None is_inked text e) ∙ ap words_of (drop_all (length text) text (omega arith))
@@ -69,5 +62,5 @@ pub BeginsWord-inked : (text : List ℕ) (n : ℕ) → position is_inked text �
 BeginsWord-inked text n e =
     let at = position-Some is_inked text n 0 e in
     let rest = take (length text - n) (drop n text) in
-    let first : get_or rest 0 0 ≡ get_or text n 0 = ap (λ l. get_or l 0 0) (back text n) ∙ at_drop_more (λ l. get_or l 0 0) text n 0 at.0 in
-    begins rest (omega (arith, ap length (back text n), length-drop n text, at.0)) (ap is_inked first ∙ at.1)
+    let first : get_or rest 0 0 ≡ get_or text n 0 = ap (λ l. get_or l 0 0) (take_rest text n) ∙ at_drop_more (λ l. get_or l 0 0) text n 0 at.0 in
+    begins rest (omega (arith, ap length (take_rest text n), length-drop n text, at.0)) (ap is_inked first ∙ at.1)

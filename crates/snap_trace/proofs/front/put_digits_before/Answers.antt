@@ -1,6 +1,7 @@
 use Rattle.std.proofs.Common.{◌∙◌, ◌++◌, drop, sym, ap, arith}
 use Rattle.std.proofs.lemmas.Fmt.{decimal_digit}
-use Rattle.snap_trace.proofs.DigitLemmas.{decimal-behind, length-decimal_digit, length-decimal_step}
+use Rattle.itoa.proofs.Decimal.{length_one}
+use Rattle.snap_trace.proofs.DigitLemmas.{decimal-behind, length-decimal_step}
 use Rattle.snap_trace.proofs.front.put_digits_before.Goals as goal
 
 pub put_byte_before-begin-requires-clause-room : goal.put_byte_before-begin-requires-clause-room
@@ -18,10 +19,10 @@ loop-left-preserved c =
     }
 
 pub put_byte_before-requires-clause-room : goal.put_byte_before-requires-clause-room
-put_byte_before-requires-clause-room c = omega (arith, length-decimal_digit c.loop-left.left c.loop-left-test.false)
+put_byte_before-requires-clause-room c = omega (arith, length_one c.loop-left.left c.loop-left-test.false)
 
 pub returns-clause-begin : goal.returns-clause-begin
-returns-clause-begin c = omega (arith, length-decimal_digit c.loop-left.left c.loop-left-test.false)
+returns-clause-begin c = omega (arith, length_one c.loop-left.left c.loop-left-test.false)
 
 pub returns-clause-text : goal.returns-clause-text
 returns-clause-text c =
