@@ -8,7 +8,7 @@ use Rattle.snap_cli.specs.Check.{MeetsCheck}
 use Rattle.snap_cli.specs.Deserved.{Meets}
 use Rattle.snap_cli.specs.ProgramOf.{ProgramOf}
 use Rattle.snap_cli.specs.Refusals.{Ending}
-use Rattle.snap_cli.proofs.Refused.{Refuses}
+use Rattle.snap_cli.proofs.RefusedBy.{Refuses}
 
 pub check-refuses : (p : List ℕ) (files : Files) → Refuses files (check p) p
 check-refuses p files = record { ends = λ e h. inl (e, h, refl); text = λ e h. inl (e, h, refl); read = (refl, refl); memory = refl }

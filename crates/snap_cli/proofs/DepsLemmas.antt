@@ -8,7 +8,7 @@ use Rattle.snap_cli.specs.Deps.{MeetsText}
 use Rattle.snap_cli.specs.Deserved.{Meets}
 use Rattle.snap_cli.specs.ProgramOf.{ProgramOf}
 use Rattle.snap_cli.specs.Refusals.{Ending}
-use Rattle.snap_cli.proofs.Refused.{Refuses}
+use Rattle.snap_cli.proofs.RefusedBy.{Refuses}
 
 pub deps-refuses : (p : List ℕ) (files : Files) → Refuses files (deps p) p
 deps-refuses p files = record { ends = λ e h. inl (e, h, refl); text = λ e h. inl (e, h, refl); read = (refl, refl); memory = refl }

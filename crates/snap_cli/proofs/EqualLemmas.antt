@@ -9,7 +9,7 @@ use Rattle.snap_cli.specs.Equal.{MeetsEqual}
 use Rattle.snap_cli.specs.ProgramOf.{ProgramOf}
 use Rattle.snap_cli.specs.Refusals.{Ending}
 use Rattle.snap_cli.proofs.EqualOnce.{race_never, differ_same}
-use Rattle.snap_cli.proofs.Refused.{Refuses}
+use Rattle.snap_cli.proofs.RefusedBy.{Refuses}
 
 module _ (files : Files) (l r : List ℕ) where
   pub equal-refuses : Refuses files (equal l r) l

@@ -30,7 +30,6 @@ pub mod PlaceOnce
 pub mod PlaceSpelled
 pub mod PlacementOnce
 pub mod ProgramOnce
-pub mod Refused
 pub mod RefusedBy
 pub mod Relayed
 pub mod Rising

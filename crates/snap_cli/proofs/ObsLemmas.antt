@@ -14,7 +14,7 @@ use Rattle.snap_cli.specs.Obs.{EndsObs, IsObsText, MeetsRun, RunsTo}
 use Rattle.snap_cli.specs.ProgramOf.{ProgramOf}
 use Rattle.snap_cli.specs.Refusals.{Ending}
 use Rattle.snap_cli.specs.Steps.{refusal_of_run}
-use Rattle.snap_cli.proofs.Refused.{Refuses}
+use Rattle.snap_cli.proofs.RefusedBy.{Refuses}
 
 pub obs-refuses : (p q : List ℕ) (files : Files) → Refuses files (obs p q) p
 obs-refuses p q files = record { ends = λ e h. inl (e, h, refl); text = λ e h. inl (e, h, refl); read = inl (refl, refl); memory = inl refl }

@@ -1,7 +1,6 @@
 -- A run on one big switch ends in one way, with one text.
-use Rattle.std.proofs.Common.{◌≡◌, ◌++◌, ◌+◌, ◌<◌, ℕ, Bool, true, false, ltb, List, take, Option, Some, Err, refl, sym, ◌∙◌, ap, subst, inl, inr, arith}
-use Rattle.std.specs.Option.{unwrap_or}
-use Rattle.std.proofs.lemmas.Bool.{ltb-false, ltb-true}
+use Rattle.std.proofs.Common.{◌≡◌, ◌++◌, ◌+◌, ◌<◌, ℕ, List, take, Option, Some, Err, sym, ◌∙◌, ap, subst, inl, inr, arith}
+use Rattle.std.proofs.lemmas.Option.{same_Some}
 use Rattle.std.proofs.lemmas.List.{take-take}
 use Rattle.snap_core.specs.declared.program.Program.{Program}
 use Rattle.snap_core.specs.Arrays.{zero_arrays}
@@ -33,10 +32,6 @@ module _ (lists : HasOneListing) (p : Program) where
   abbrev Switch : List (List ℕ) → Option Switched
   Switch packets = one_big_switch p.body zero_arrays packets
 
-  -- what one big switch made is one
-  made_once : (o : Option Switched) (a b : Switched) → o ≡ Some a → o ≡ Some b → a ≡ b
-  made_once o a b h k = ap (λ x. unwrap_or x a) (sym h ∙ k)
-
   read_once : (stop : Stop) (made : Switched) (e f : RunEnding) (a b : List ℕ) → EndsAsRead p.fields p.vars stop made e a → EndsAsRead p.fields p.vars stop made f b → (e ≡ f) × (a ≡ b)
   read_once ended made e f a b h k =
       (h.0 ∙ sym k.0, h.1.2 ∙ (ap (λ entries. made_text p.fields made ++ end_text p.vars entries) (lists made.arrays h.1.0 k.1.0 h.1.1 k.1.1) ∙ sym k.1.2))
@@ -53,24 +48,20 @@ module _ (lists : HasOneListing) (p : Program) where
       switch-take p.body (take b packets) zero_arrays (a + 1) cut k.some (ap Switch same ∙ h.none)
 
   after_once : (packets : List (List ℕ)) (made cut : Switched) (a b : ℕ) → IsUndefinedAfter p packets a made → IsUndefinedAfter p packets b cut → a ≡ b
-  after_once packets made cut a b h k = from (ltb a b) refl (ltb b a) refl
-    where
-      from : (t : Bool) → ltb a b ≡ t → (u : Bool) → ltb b a ≡ u → a ≡ b
-      from true e u f = absurd (not_before packets made cut a b h k (ltb-true a b e))
-      from false e true f = absurd (not_before packets cut made b a k h (ltb-true b a f))
-      from false e false f = omega (arith, ltb-false a b e, ltb-false b a f)
+  after_once packets made cut a b h k =
+      let up : a < b → ⊥ = not_before packets made cut a b h k in let down : b < a → ⊥ = not_before packets cut made b a k h in omega (arith, up, down)
 
   pub reports_once : (file : List ℕ) → AreOne (IsReport p file)
   reports_once file a b e f (inl h) (inl k) =
       let read = spelled p.fields file in
-      let same = made_once (Switch read.packets) h.0 k.0 h.1 k.1 in
+      let same = same_Some h.0 k.0 (sym h.1 ∙ k.1) in
       read_once read.stop k.0 e f a b (subst (λ made. EndsAsRead p.fields p.vars read.stop made e a) same h.2) k.2
   reports_once file a b e f (inl h) (inr k) = absurd (never_after (spelled p.fields file).packets h.0 k.1 k.0 h.1 k.2)
   reports_once file a b e f (inr h) (inl k) = absurd (never_after (spelled p.fields file).packets k.0 h.1 h.0 k.1 h.2)
   reports_once file a b e f (inr h) (inr k) =
       let packets = (spelled p.fields file).packets in
       let at = after_once packets h.1 k.1 h.0 k.0 h.2 k.2 in
-      let same = made_once (Switch (take k.0 packets)) h.1 k.1 (subst (λ n. Switch (take n packets) ≡ Some h.1) at h.2.some) k.2.some in (
+      let same = same_Some h.1 k.1 (sym (subst (λ n. Switch (take n packets) ≡ Some h.1) at h.2.some) ∙ k.2.some) in (
         h.3 ∙ (ap (λ n. Err (run.Undefined (n + 1))) at ∙ sym k.3),
         h.4 ∙ (ap (made_text p.fields) same ∙ sym k.4),
       )

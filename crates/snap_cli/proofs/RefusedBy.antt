@@ -1,7 +1,7 @@
 -- Refusals and what explains them.
-use Rattle.std.proofs.Common.{◌≡◌, ℕ, List, [], Option, Err, inl}
+use Rattle.std.proofs.Common.{◌≡◌, ℕ, List, [], Option, Err, inl, sym, subst}
 use Rattle.std.proofs.KnownBytes.{Appends-nil}
-use Rattle.snap_io.specs.Files.{Files}
+use Rattle.snap_io.specs.Files.{Files, file_of}
 use Rattle.snap_words.specs.Commands.{Command}
 use Rattle.snap_cli.specs.declared.refusal.Refusal.{Refusal}
 use Rattle.snap_cli.specs.declared.refusal.Refusal.TheVariants.{Read, ReadChange, Write, NoMemory}
@@ -29,3 +29,17 @@ meets-by files command out (ReadChange name) memory h = ([], h, (0, Appends-nil 
 meets-by files command out NoMemory memory h = ([], memory, (0, Appends-nil out))
 meets-by files command out Write memory h = inl ([], memory, (0, Appends-nil out))
 meets-by files command out e memory h = (h.0, ([], h.1, Appends-nil out))
+
+-- what a command deserves where the program with this name isn't read
+pub record Refuses (files : Files) (command : Command) (program : List ℕ) : Type 0 where
+  pub ends : (e : Refusal) → ProgramOf (file_of files program) (Err e) → Ends files command (Err e)
+  pub text : (e : Refusal) → ProgramOf (file_of files program) (Err e) → IsText files command []
+  pub read : MayPrecedeRead files command program []
+  pub memory : MayPrecede files command []
+
+pub meets-refused : (files : Files) (command : Command) (program : List ℕ) (out : Option (List ℕ)) (e : Refusal) → Refuses files command program
+    → GivesProgram program (file_of files program) (Err e) → Meets files command (Err e) out out
+meets-refused files command program out e r h =
+    meets-by files command out e r.memory
+    (by-map (λ failed. failed ≡ program) (λ name. MayPrecedeRead files command name []) (λ x. ProgramOf (file_of files program) (Err x)) (λ x. Ends files command (Err x) × IsText files command [])
+    (λ name is. subst (λ n. MayPrecedeRead files command n []) (sym is) r.read) (λ x no. (r.ends x no, r.text x no)) e (by-program program (file_of files program) e h))

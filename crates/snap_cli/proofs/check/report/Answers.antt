@@ -1,6 +1,6 @@
 use Rattle.snap_words.specs.Commands.{check}
 use Rattle.snap_cli.proofs.CheckLemmas.{check-refuses, meets-check}
-use Rattle.snap_cli.proofs.Refused.{meets-refused}
+use Rattle.snap_cli.proofs.RefusedBy.{meets-refused}
 use Rattle.std.proofs.Common.{[], ◌∷◌, refl}
 use Rattle.snap_cli.proofs.StatusLemmas.{ends-check, ends-refused}
 use Rattle.std.proofs.lemmas.Option.{IfSome_then}

@@ -1,6 +1,6 @@
 use Rattle.snap_words.specs.Commands.{deps}
 use Rattle.snap_cli.proofs.DepsLemmas.{deps-refuses, meets-text}
-use Rattle.snap_cli.proofs.Refused.{meets-refused}
+use Rattle.snap_cli.proofs.RefusedBy.{meets-refused}
 use Rattle.std.proofs.Common.{[], ◌∷◌, refl}
 use Rattle.snap_cli.proofs.StatusLemmas.{ends-refused, ends-text}
 use Rattle.std.proofs.lemmas.Option.{IfSome_then}

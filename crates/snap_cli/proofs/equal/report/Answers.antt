@@ -2,7 +2,7 @@
 use Rattle.std.proofs.Common.{[], ◌∷◌, refl}
 use Rattle.snap_words.specs.Commands.{equal}
 use Rattle.snap_cli.proofs.EqualLemmas.{equal-refuses, equal-refuses-second, meets-equal}
-use Rattle.snap_cli.proofs.Refused.{meets-refused}
+use Rattle.snap_cli.proofs.RefusedBy.{meets-refused}
 use Rattle.snap_cli.proofs.StatusLemmas.{ends-equal, ends-refused}
 use Rattle.std.proofs.lemmas.Option.{IfSome_then}
 use Rattle.snap_cli.proofs.Relayed.{IfSome_both}
