@@ -17,7 +17,7 @@ use Rattle.snap_core.specs.Meaning.{Meaning, beside, eval, logged}
 use Rattle.snap_core.specs.Packets.{PacketSet, packet_cmp, no_packets, with_packet, with_packets, listed}
 use Rattle.snap_core.proofs.EvalLemmas.{listed-one}
 use Rattle.snap_core.proofs.PacketSets.{same_packets, contains-listed, union-one}
-use Rattle.snap_core.proofs.Small.{stays_fine}
+use Rattle.snap_core.proofs.Small.{Good, stays_fine}
 use Rattle.snap_core.proofs.Truths.{both_or_neither}
 use Rattle.snap_ctx.specs.View.{View}
 use Rattle.snap_arena.specs.declared.node.Node.{Node}
@@ -28,7 +28,7 @@ use Rattle.snap_chain.specs.Late.{OnStores, outcome, outcome_at}
 use Rattle.snap_chain.specs.Sequence.{in_sequence}
 use Rattle.snap_chain.specs.Spread.{besides}
 use Rattle.snap_chain.proofs.Folding.{besides_front, all_together-is}
-use Rattle.snap_build.specs.Parts.{DoesAs, IsSet, Sends, sent}
+use Rattle.snap_build.specs.Parts.{DoesAs, EndsInSet, IsSet, Sends, sent}
 use Rattle.snap_build.proofs.Doing.{same_sequence}
 
 -- ---- packets of a list of packets
@@ -135,40 +135,43 @@ set_sends (Atomic' _ p) s m k = absurd s
 pub sends_set : (v : View) (q : Pol) (ns : List (Node Leaf)) (d : ℕ) → IsSet q → DoesAs v q ns d → Sends v ns d
 sends_set v q ns d s does = (put q, λ m k met small. does m k met small ∙ set_sends q s m k)
 
-pub sends_kept : (v : View) (old new : List (Node Leaf)) (d : ℕ) → Grew old new → d < length old → Sends v old d → Sends v new d
-sends_kept v old new d g h s = (s.0, λ m k met small. ap (λ y. outcome_at y m k) (kept old new d g h) ∙ s.1 m k met small)
-
 -- a component is set, and then more
-both_send : (v : View) (q : Pol) (old new : List (Node Leaf)) (a b d : ℕ) → v.facts ≡ [] → IsSet q → PutsSmall q → DoesAs v q old a → (s : Sends v old b)
-    → OnStores v (λ m k. outcome new d m k ≡ in_sequence (outcome old a m k) (outcome old b))
+both_send : (v : View) (q : Pol) (old new : List (Node Leaf)) (b d : ℕ) → v.facts ≡ [] → IsSet q → PutsSmall q → (s : Sends v old b)
+    → OnStores v (λ m k. outcome new d m k ≡ in_sequence (eval q m k) (outcome old b))
     → OnStores v (λ m k. outcome new d m k ≡ sending (λ x. s.0 (put q x)) m k)
-both_send v q old new a b d free is puts does s w m k met small =
+both_send v q old new b d free is puts s w m k met small =
     w m k met small
-    ∙ ap (λ x. in_sequence x (outcome old b)) (does m k met small)
     ∙ same_sequence v (outcome old b) (sending s.0) (eval q m k) k free met.packet (stays_fine q m k (length k) puts small (refl, met.packet.numbers)) s.1
     ∙ ap (λ x. in_sequence x (sending s.0)) (set_sends q is m k)
     ∙ one_sent s.0 m (put q k)
 
-pub sends_both : (v : View) (q : Pol) (old new : List (Node Leaf)) (a b d : ℕ) → v.facts ≡ [] → IsSet q → PutsSmall q → DoesAs v q old a → Sends v old b
-    → OnStores v (λ m k. outcome new d m k ≡ in_sequence (outcome old a m k) (outcome old b)) → Sends v new d
-sends_both v q old new a b d free is puts does s w = ((λ x. s.0 (put q x)), both_send v q old new a b d free is puts does s w)
+pub sends_both : (v : View) (q : Pol) (old new : List (Node Leaf)) (b d : ℕ) → v.facts ≡ [] → IsSet q → PutsSmall q → Sends v old b
+    → OnStores v (λ m k. outcome new d m k ≡ in_sequence (eval q m k) (outcome old b)) → Sends v new d
+sends_both v q old new b d free is puts s w = ((λ x. s.0 (put q x)), both_send v q old new b d free is puts s w)
 
 -- a part, what sets a component, and then more
-pub then_does : (v : View) (p q : Pol) (old mid new : List (Node Leaf)) (a b c d : ℕ) → v.facts ≡ [] → IsSet q → PutsSmall p → PutsSmall q → DoesAs v q old a → Sends v old b
-    → OnStores v (λ m k. outcome mid c m k ≡ in_sequence (outcome old a m k) (outcome old b))
+pub then_does : (v : View) (pol p q : Pol) (old mid new : List (Node Leaf)) (b c d : ℕ) → v.facts ≡ [] → EndsInSet pol p q → PutsSmall p → PutsSmall q → Sends v old b
+    → OnStores v (λ m k. outcome mid c m k ≡ in_sequence (eval q m k) (outcome old b))
     → OnStores v (λ m k. outcome new d m k ≡ in_sequence (eval p m k) (outcome mid c))
-    → OnStores v (λ m k. outcome new d m k ≡ in_sequence (in_sequence (eval p m k) (eval q)) (outcome old b))
-then_does v p q old mid new a b c d free is small_p small_q does s w all m k met small =
+    → OnStores v (λ m k. outcome new d m k ≡ in_sequence (eval pol m k) (outcome old b))
+then_does v pol p q old mid new b c d free e small_p small_q s w all m k met small =
+    let good : Good (length k) k = (refl, met.packet.numbers) in
     all m k met small
-    ∙ same_sequence v (outcome mid c) (sending (λ x. s.0 (put q x))) (eval p m k) k free met.packet (stays_fine p m k (length k) small_p small (refl, met.packet.numbers)) (both_send v q old mid a b c free is small_q does s w)
+    ∙ same_sequence v (outcome mid c) (sending (λ x. s.0 (put q x))) (eval p m k) k free met.packet (stays_fine p m k (length k) small_p small good) (both_send v q old mid b c free e.set small_q s w)
     ∙ sym (then_sends (put q) s.0 (eval p m k))
-    ∙ sym (ap (λ (f : Arrays → List ℕ → Option Meaning). in_sequence (in_sequence (eval p m k) f) (sending s.0)) (λ i m k. set_sends q is m k i))
-    ∙ sym (same_sequence v (outcome old b) (sending s.0) (in_sequence (eval p m k) (eval q)) k free met.packet (stays_fine both m k (length k) (small_p, small_q) small (refl, met.packet.numbers)) s.1)
-  where
-    both : Pol
-    both = Seq' _ p _ q
+    ∙ sym (ap (λ (f : Arrays → List ℕ → Option Meaning). in_sequence (in_sequence (eval p m k) f) (sending s.0)) (λ i m k. set_sends q e.set m k i))
+    ∙ sym (ap (λ x. in_sequence x (sending s.0)) (e.evals m k))
+    ∙ sym (same_sequence v (outcome old b) (sending s.0) (eval pol m k) k free met.packet (stays_fine pol m k (length k) (e.small small_p small_q) small good) s.1)
 
--- a part, and then more
+-- a part, and then another by its diagram
+pub then_part : (v : View) (pol p q : Pol) (old new : List (Node Leaf)) (b d : ℕ) → v.facts ≡ [] → EndsInSet pol p q → PutsSmall p → DoesAs v q old b
+    → OnStores v (λ m k. outcome new d m k ≡ in_sequence (eval p m k) (outcome old b)) → DoesAs v pol new d
+then_part v pol p q old new b d free e puts does w m k met small =
+    w m k met small
+    ∙ same_sequence v (outcome old b) (eval q) (eval p m k) k free met.packet (stays_fine p m k (length k) puts small (refl, met.packet.numbers)) does
+    ∙ sym (e.evals m k)
+
+-- a part by its diagram, and then another that stood before it
 pub turn_does : (v : View) (p : Pol) (old mid new : List (Node Leaf)) (a b d : ℕ) → Grew old mid → b < length old → DoesAs v p mid a
     → OnStores v (λ m k. outcome new d m k ≡ in_sequence (outcome mid a m k) (outcome mid b))
     → OnStores v (λ m k. outcome new d m k ≡ in_sequence (eval p m k) (outcome old b))

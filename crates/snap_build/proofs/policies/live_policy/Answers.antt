@@ -1,8 +1,17 @@
--- Pruned now, or before.
-use Rattle.std.proofs.lemmas.Result.{IfOk-weaker}
-use Rattle.snap_build.proofs.Doing.{does_answered}
+-- A run of sets, or a policy pruned.
+use Rattle.snap_fdd.specs.Picks.{sizes}
+use Rattle.snap_fdd.proofs.Cutting.{if_ok_both}
+use Rattle.snap_build.specs.Parts.{EndsInSet}
+use Rattle.snap_build.proofs.Sending.{sends_set, then_part}
 use Rattle.snap_build.proofs.policies.live_policy.Goals as goal
 
-pub returns-clause-does : goal.returns-clause-does
-returns-clause-does c =
-    IfOk-weaker c.prune.result _ _ (λ r same. does_answered c.args.ctx.now c.args.pol.now c.policy.new.nodes c.prune.new.nodes c.in_ok-d.d r c.in_ok-d.ensures.does same) c.prune.ensures.answer
+pub before_run-requires-clause-sends : goal.before_run-requires-clause-sends
+before_run-requires-clause-sends c =
+    let parts : EndsInSet c.args.pol.now c.in-Some.first.now c.in-Some.second.now = c.in-Some.ensures in
+    sends_set c.args.ctx.now c.in-Some.second.now c.policy.new.nodes c.in_ok-last-in-Some.last parts.set c.in_ok-last-in-Some.ensures.does
+
+pub returns-in_ok-last-in-Some-clause-does : goal.returns-in_ok-last-in-Some-clause-does
+returns-in_ok-last-in-Some-clause-does c =
+    let parts : EndsInSet c.args.pol.now c.in-Some.first.now c.in-Some.second.now = c.in-Some.ensures in
+    if_ok_both c.before_run.result _ _ _ (λ d small w. then_part c.args.ctx.now c.args.pol.now c.in-Some.first.now c.in-Some.second.now c.policy.new.nodes c.before_run.new.nodes c.in_ok-last-in-Some.last d
+    c.requires.free parts small c.in_ok-last-in-Some.ensures.does w) c.before_run.ensures.small c.before_run.ensures.does
