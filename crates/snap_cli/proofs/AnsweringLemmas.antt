@@ -1,56 +1,34 @@
 -- `trace` of what `compile` wrote answers 0.
 use Rattle.std.proofs.Common.{◌≡◌, ◌⊎◌, ◌≤◌, ℕ, Bool, true, false, List, [], ◌∷◌, Option, Some, Result, Ok, Err, get_or, length, map, refl, sym, ap, subst, ◌∙◌, inl, inr, ⊎_elim, arith, is_some}
-use Rattle.std.specs.Prelude.{◌==◌, None, option_map, slice_get, slice_index}
-use Rattle.std.specs.List.{All, Contains}
+use Rattle.std.specs.Prelude.{◌==◌, None}
+use Rattle.std.specs.List.{Contains}
 use Rattle.std.proofs.lemmas.Bool.{eq-eqb}
-use Rattle.std.proofs.lemmas.List.Elements.{All-head, All-tail}
 use Rattle.std.proofs.lemmas.List.Folds.{list_any_at}
 use Rattle.std.proofs.lemmas.Option.{slice_get-get_or}
 use Rattle.snap_core.specs.declared.ports.PortAt.{PortAt}
 use Rattle.snap_core.specs.declared.program.Field.{Field}
-use Rattle.snap_io.specs.Files.{Files, file_of}
-use Rattle.snap_rows.specs.declared.tables.Tables.{Tables}
 use Rattle.snap_core.specs.Ports.{port_in}
-use Rattle.snap_rows.specs.Form.{IsInForm}
 use Rattle.snap_rows.proofs.Ports.{port_is_found}
-use Rattle.snap_tables.specs.Lines.{IsRead}
-use Rattle.snap_tables.specs.ReadBack.{IsReadBack}
 use Rattle.snap_tables.specs.Text.{text as tables_text}
-use Rattle.snap_trace.specs.OneSwitch.{RunEnding}
 use Rattle.snap_trace.specs.PacketLines.{said_by}
-use Rattle.snap_trace.specs.Spelled.{Spelled, Stop, ended, refused, spelled}
-use Rattle.snap_runs.specs.Plain.{ArePlainBlocks, EndsAs, IsPlainReport, spelled_for}
+use Rattle.snap_runs.specs.Plain.{ArePlainBlocks, EndsAs}
 use Rattle.snap_runs.specs.Reports.{array_names}
-use Rattle.snap_runs.specs.Schedules.{HasScheduleReport, RefusesScheduleLine, lines_of}
-use Rattle.snap_move.specs.declared.change.Change.{Change}
-use Rattle.snap_move.specs.declared.later.Later.{Later}
-use Rattle.snap_move.specs.Changing.{in_force}
-use Rattle.snap_move.specs.Files.{EndsAsRead, spelled_under}
+use Rattle.snap_move.specs.Files.{EndsAsRead}
 use Rattle.snap_move.specs.Shapes.{HaveOneShape}
 use Rattle.snap_order.specs.Runs as turns
-use Rattle.snap_whole.specs.OneSwitch.{ports_of}
-use Rattle.snap_words.specs.Commands.{Command, Order, changes, in_turn, plain, rounds, schedule, trace}
-use Rattle.snap_cli.specs.declared.refusal.Refusal.{Refusal}
-use Rattle.snap_cli.specs.declared.refusal.Refusal.TheVariants.{Write}
 use Rattle.snap_cli.specs.Answering.{AnswersZero, CanFollow, ChangesAnswer, CompileCall, NamePorts, NoDeviceFailed, OrderCanBeDone, TracesAnswer, TurnsCanBeDone, Wrote}
 use Rattle.snap_cli.specs.Causes.{HasCauses}
-use Rattle.snap_cli.specs.Changes.{ChangedTables, ChangesOf, ChangesTo, LaterOf, RefusesLater, before}
+use Rattle.snap_cli.specs.Changes.{ChangesTo, LaterOf, RefusesLater, before}
 use Rattle.snap_cli.specs.Compile.{version_of}
-use Rattle.snap_cli.specs.Deserved.{Ends}
 use Rattle.snap_cli.specs.Upgrades.{file_in_force}
 use Rattle.snap_cli.specs.InTurn.{TurnsTo}
-use Rattle.snap_cli.specs.Laws.{AnswersExactly, CompilesExactly, IsFailure, SpellsOneProgram}
-use Rattle.snap_cli.specs.Obs.{IsRunEnding}
-use Rattle.snap_cli.specs.Refusals.{Ending, status_of}
-use Rattle.snap_cli.specs.Rounds.{RoundsTo}
-use Rattle.snap_cli.specs.Schedule.{EndsBySchedule}
-use Rattle.snap_cli.specs.TablesOf.{TablesOf}
 use Rattle.snap_cli.specs.Trace.{EndsTrace, NetworkRunsTo}
 use Rattle.snap_cli.proofs.ChangesOnce.{AreRead, changes_read, said_once}
 use Rattle.snap_cli.proofs.ChangesTraced.{read_in_force}
 use Rattle.snap_cli.proofs.DueStatus.{due-status}
 use Rattle.snap_runs.proofs.OneSchedule.{ended_or_refused}
 use Rattle.snap_order.proofs.OneSchedule.{ended_or_refused as ended_or_refused_in_turn}
+use Rattle.snap_cli.proofs.Shared.{All, All-head, All-tail, AnswersExactly, Change, ChangedTables, changes, ChangesOf, Command, CompilesExactly, ended, Ending, Ends, EndsBySchedule, file_of, Files, HasScheduleReport, in_force, in_turn, IsFailure, IsInForm, IsPlainReport, IsRead, IsReadBack, IsRunEnding, Later, lines_of, option_map, Order, plain, ports_of, Refusal, refused, RefusesScheduleLine, rounds, RoundsTo, RunEnding, schedule, slice_get, slice_index, Spelled, spelled, spelled_for, spelled_under, SpellsOneProgram, status_of, Stop, Tables, TablesOf, trace, Write}
 use Rattle.snap_cli.proofs.OneTables.{answered, told}
 use Rattle.snap_cli.proofs.OneTopology.{topology_once}
 use Rattle.snap_cli.proofs.SameCore.{same_fields, same_names}

@@ -1,14 +1,10 @@
 -- Where no hops are told the text is what one big switch does.
 use Rattle.std.proofs.Common.{ℕ, Bool, false, List, Option, refl, subst, inl}
-use Rattle.snap_core.specs.declared.program.Program.{Program}
-use Rattle.snap_io.specs.Files.{Files, file_of}
-use Rattle.snap_topo.specs.declared.topology.Topology.{Topology}
 use Rattle.snap_gen.specs.Agreement.{numbered}
-use Rattle.snap_trace.specs.Spelled.{spelled}
 use Rattle.snap_whole.specs.InOrder.{InTurnItIsTheReport}
-use Rattle.snap_whole.specs.OneSwitch.{IsSwitchReport, ports_of}
-use Rattle.snap_words.specs.Commands.{Order, in_turn, plain, rounds, schedule}
+use Rattle.snap_whole.specs.OneSwitch.{IsSwitchReport}
 use Rattle.snap_cli.specs.Headline.{RoundsTraceAsOneSwitch, SchedulesTraceAsOneSwitch, TakeEffectIn, TellsInOrder, TracesAsOneSwitch, TracesInOrder, TurnsTraceAsOneSwitch}
+use Rattle.snap_cli.proofs.Shared.{file_of, Files, in_turn, Order, plain, ports_of, Program, rounds, schedule, spelled, Topology}
 
 module _ (in_turn_it_is : InTurnItIsTheReport) where
   -- where packets take effect as they come in

@@ -3,33 +3,18 @@ use Rattle.std.proofs.Common.{◌≡◌, ◌≢◌, ℕ, ◌+◌, ◌<◌, ◌�
 use Rattle.std.proofs.Math.Seq.{drop-cons}
 use Rattle.std.proofs.lemmas.List.Elements.{All-more}
 use Rattle.std.proofs.lemmas.Option.{slice_get-get_or}
-use Rattle.std.specs.List.{All}
-use Rattle.std.specs.Borrow.{Bor}
-use Rattle.std.specs.Prelude.{Vec, slice_get}
-use Rattle.std.specs.Io.KnownBytes.{Appends}
+use Rattle.std.specs.Prelude.{Vec}
 use Rattle.std.specs.declared.alloc.Global.{Global}
-use Rattle.snap_io.specs.Files.{Files, file_of}
-use Rattle.snap_rows.specs.declared.tables.Tables.{Tables}
 use Rattle.snap_trace.specs.declared.fault.TraceFault.TheVariants as run
-use Rattle.snap_trace.specs.OneSwitch.{RunEnding}
-use Rattle.snap_move.specs.declared.change.Change.{Change}
 use Rattle.snap_move.specs.declared.change.ChangesFault.{ChangesFault}
 use Rattle.snap_move.specs.declared.change.ChangesFault.TheVariants as fault
-use Rattle.snap_move.specs.declared.later.Later.{Later}
 use Rattle.snap_move.specs.Changing.{IsAhead, IsRising}
 use Rattle.snap_move.specs.Files.{IsChangedTrace, WritesChanged}
 use Rattle.snap_move.specs.Lines.{AreRising, IsBehind, changes_of}
-use Rattle.snap_words.specs.Commands.{Command, changes, trace}
-use Rattle.snap_cli.specs.declared.refusal.Refusal.{Refusal}
-use Rattle.snap_cli.specs.declared.refusal.Refusal.TheVariants.{Limit, NoMemory, Packets}
-use Rattle.snap_cli.specs.Changes.{ChangedTables, ChangesOf, HasLater, IsLater, IsReachedByChanges, IsReachedChange, LaterOf, RefusesLater, before, refusal_of_changes, said_changes}
+use Rattle.snap_cli.specs.Changes.{HasLater, IsLater, IsReachedByChanges, IsReachedChange, LaterOf, RefusesLater, before, refusal_of_changes, said_changes}
 use Rattle.snap_cli.specs.ChangesSteps.{GivesChanges, LoadsChanges, LoadsLater, LoadsLaters, MeetsChanges, ReadsChanges, afters, afters_of}
-use Rattle.snap_cli.specs.Deserved.{Ends, IsText, MayPrecedeRead, Meets}
-use Rattle.snap_cli.specs.Obs.{IsRunEnding}
-use Rattle.snap_cli.specs.Refusals.{Ending}
-use Rattle.snap_cli.specs.RunSteps.{ending_of_run}
-use Rattle.snap_cli.specs.TablesOf.{TablesOf}
-use Rattle.snap_cli.specs.Texts.{GivesText, IsTooLong, RefusesBy}
+use Rattle.snap_cli.specs.Texts.{GivesText, RefusesBy}
+use Rattle.snap_cli.proofs.Shared.{All, Appends, Bor, Change, ChangedTables, changes, ChangesOf, Command, Ending, ending_of_run, Ends, file_of, Files, IsRunEnding, IsText, IsTooLong, Later, Limit, MayPrecedeRead, Meets, NoMemory, Packets, Refusal, RunEnding, slice_get, Tables, TablesOf, trace}
 use Rattle.snap_cli.proofs.RefusedBy.{by-map, meets-by}
 
 -- ---- the changes file

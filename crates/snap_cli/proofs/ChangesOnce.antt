@@ -1,23 +1,11 @@
 -- A run with the changes of a file ends in one way, with one text.
 use Rattle.std.proofs.Common.{◌≡◌, ℕ, Bool, List, [], ◌∷◌, Result, Ok, Err, refl, sym, ◌∙◌, ap, subst, inl, inr}
-use Rattle.std.specs.List.{All}
-use Rattle.std.proofs.lemmas.List.Elements.{All-cons, All-nil}
-use Rattle.snap_io.specs.Files.{Files, file_of}
-use Rattle.snap_rows.specs.declared.tables.Tables.{Tables}
-use Rattle.snap_rows.specs.Form.{IsInForm}
 use Rattle.snap_tables.specs.Exact.{ReadsOneWay}
-use Rattle.snap_trace.specs.OneSwitch.{RunEnding}
-use Rattle.snap_trace.specs.Spelled.{Stop, ended, refused}
-use Rattle.snap_move.specs.declared.change.Change.{Change}
-use Rattle.snap_move.specs.declared.later.Later.{Later}
-use Rattle.snap_move.specs.Files.{EndsAsRead, IsChangedTrace, spelled_under}
+use Rattle.snap_move.specs.Files.{EndsAsRead, IsChangedTrace}
 use Rattle.snap_move.specs.Laws.{AreInForm, ChangedBlocksAreOne, ChangedReportsAreOne}
 use Rattle.snap_move.specs.Shapes.{HaveOneShape}
-use Rattle.snap_cli.specs.declared.refusal.Refusal.{Refusal}
-use Rattle.snap_cli.specs.Changes.{ChangedTables, ChangesOf, ChangesTo, IsChangesText, IsLater, LaterOf, RefusesLater, before}
-use Rattle.snap_cli.specs.Obs.{IsRunEnding}
-use Rattle.snap_cli.specs.Refusals.{Ending}
-use Rattle.snap_cli.specs.TablesOf.{TablesOf}
+use Rattle.snap_cli.specs.Changes.{ChangesTo, IsChangesText, IsLater, LaterOf, RefusesLater, before}
+use Rattle.snap_cli.proofs.Shared.{All, All-cons, All-nil, Change, ChangedTables, ChangesOf, ended, Ending, file_of, Files, IsInForm, IsRunEnding, Later, Refusal, refused, RunEnding, spelled_under, Stop, Tables, TablesOf}
 use Rattle.snap_cli.proofs.ObsOnce.{AreOne, run_once}
 use Rattle.snap_cli.proofs.OneTables.{one_tables, spelled_form}
 use Rattle.snap_cli.proofs.Pipeline.{Agree, Alike, alike, cases_once, next_once, within_once}

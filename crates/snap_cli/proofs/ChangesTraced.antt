@@ -1,35 +1,15 @@
 -- What is compiled for programs of one shape, and then traced with changes of tables, is what one big switch does whose program changes.
 use Rattle.std.proofs.Common.{◌≡◌, ℕ, Bool, true, false, List, [], ◌∷◌, Some, Result, Ok, Err, refl, sym, ◌∙◌, ap, subst, inl, inr}
 use Rattle.std.specs.Prelude.{nat_le, if◌then◌else◌}
-use Rattle.std.specs.List.{All}
-use Rattle.std.proofs.lemmas.List.Elements.{All-cons, All-head, All-nil, All-tail}
-use Rattle.snap_core.specs.declared.program.Program.{Program}
-use Rattle.snap_core.specs.Fields.{count}
-use Rattle.snap_core.specs.Inputs.{IsPacket}
-use Rattle.snap_io.specs.Files.{Files, file_of}
-use Rattle.snap_rows.specs.declared.tables.Tables.{Tables}
-use Rattle.snap_trace.specs.OneSwitch.{RunEnding}
-use Rattle.snap_trace.specs.Spelled.{Spelled, Stop, ended, refused, spelled}
-use Rattle.snap_gen.specs.Faithful.{Faithful}
-use Rattle.snap_runs.specs.Laws.{SpelledPacketsFit}
-use Rattle.snap_move.specs.declared.change.Change.{Change}
 use Rattle.snap_move.specs.declared.change.ChangesFault.{ChangesFault}
-use Rattle.snap_move.specs.declared.later.Later.{Later}
-use Rattle.snap_move.specs.Changing.{HaveShapeOf, IsChangedReport, IsRising, in_force}
-use Rattle.snap_move.specs.Files.{EndsAsRead, spelled_under}
+use Rattle.snap_move.specs.Changing.{HaveShapeOf, IsChangedReport, IsRising}
+use Rattle.snap_move.specs.Files.{EndsAsRead}
 use Rattle.snap_move.specs.Laws.{AreFaithfulTo, IsFaithfulTo, SaidChangesRise, TurnsReportWithoutHops, UpgradedRunsAreShort, UpgradedRunsReportOneSwitch}
 use Rattle.snap_move.specs.Lines.{changes_of}
 use Rattle.snap_move.specs.Shapes.{HaveOneShape}
-use Rattle.snap_words.specs.Commands.{changes, trace}
-use Rattle.snap_cli.specs.declared.refusal.Refusal.{Refusal}
-use Rattle.snap_cli.specs.Changes.{ChangedTables, ChangesOf, ChangesTo, said_changes}
+use Rattle.snap_cli.specs.Changes.{ChangesTo, said_changes}
 use Rattle.snap_cli.specs.ChangesSteps.{afters, afters_of}
-use Rattle.snap_cli.specs.Headline.{Did}
-use Rattle.snap_cli.specs.Laws.{AnswersExactly, ChangesExactly, CompilesExactly}
-use Rattle.snap_cli.specs.Obs.{IsRunEnding}
-use Rattle.snap_cli.specs.ProgramOf.{ProgramOf}
-use Rattle.snap_cli.specs.Refusals.{Ending, status_of}
-use Rattle.snap_cli.specs.TablesOf.{TablesOf}
+use Rattle.snap_cli.specs.Laws.{ChangesExactly}
 use Rattle.snap_cli.specs.Upgrades.{AreGivenUnder, AreOutputsOf, IsOutputFor, UpgradesTraceAsOneSwitch, file_in_force}
 use Rattle.snap_cli.proofs.ChangesLemmas.{rising-changes}
 use Rattle.snap_cli.proofs.ChangesOnce.{AreRead, changes_read, read_none, read_one}
@@ -37,6 +17,7 @@ use Rattle.snap_cli.proofs.SpelledUnder.{spelled_fit, under_whole}
 use Rattle.snap_cli.proofs.Traced.{compiled, no_failure, read_tables, refused_apart, run_apart, same_tables}
 use Rattle.snap_move.proofs.Settling.{shape-same}
 use Rattle.snap_move.proofs.Report.{force-shape}
+use Rattle.snap_cli.proofs.Shared.{All, All-cons, All-head, All-nil, All-tail, AnswersExactly, Change, ChangedTables, changes, ChangesOf, CompilesExactly, count, Did, ended, Ending, Faithful, file_of, Files, in_force, IsPacket, IsRunEnding, Later, Program, ProgramOf, Refusal, refused, RunEnding, Spelled, spelled, spelled_under, SpelledPacketsFit, status_of, Stop, Tables, TablesOf, trace}
 
 -- ---- the tables of the changes
 module _ (files : Files) (first : Tables) where

@@ -1,17 +1,9 @@
 -- A program that was read is judged in one way, but that each pair on which it races may be told.
 use Rattle.std.proofs.Common.{◌≡◌, ◌≤◌, ◌⊎◌, ℕ, List, length, Ok, Err, refl, sym, ◌∙◌, subst, inl, inr}
-use Rattle.snap_core.specs.declared.program.Program.{Program}
 use Rattle.snap_core.specs.declared.place.Place.{Place}
-use Rattle.snap_core.specs.Arrays.{Arrays}
-use Rattle.snap_core.specs.Fields.{count}
-use Rattle.snap_core.specs.Inputs.{IsPacket}
 use Rattle.snap_build.specs.Whole.{IsRaceOf}
-use Rattle.snap_names.specs.Declarations.{core_program}
-use Rattle.snap_cli.specs.declared.refusal.Refusal.{Refusal}
-use Rattle.snap_cli.specs.declared.refusal.Refusal.TheVariants.{Race}
-use Rattle.snap_cli.specs.Check.{EndsJudged, IsJudgedText, NeverRaces, Races}
-use Rattle.snap_cli.specs.Laws.{IsSameEnding}
-use Rattle.snap_cli.specs.Refusals.{Ending, status_of}
+use Rattle.snap_cli.specs.Check.{IsJudgedText, NeverRaces, Races}
+use Rattle.snap_cli.proofs.Shared.{Arrays, core_program, count, Ending, EndsJudged, IsPacket, IsSameEnding, Program, Race, Refusal, status_of}
 use Rattle.snap_cli.proofs.Pipeline.{Agree, cases_once}
 use Rattle.snap_cli.proofs.SameCore.{same_eval, same_fields, same_names}
 

@@ -1,26 +1,14 @@
 -- What `compile` did, from what its steps did.
 use Rattle.std.proofs.Common.{◌⊎◌, ◌≤◌, ℕ, Bool, List, [], Option, Result, Ok, Err, length, refl, ap, inl, inr}
-use Rattle.snap_core.specs.declared.program.Program.{Program}
-use Rattle.snap_io.specs.Files.{Files, file_of}
-use Rattle.snap_topo.specs.declared.topology.Topology.{Topology}
-use Rattle.snap_route.specs.Tables.{Table}
 use Rattle.snap_place.specs.Answer.{IsAnswer}
-use Rattle.snap_rows.specs.declared.tables.Tables.{Tables}
-use Rattle.snap_tables.specs.ReadBack.{IsReadBack}
 use Rattle.snap_tables.specs.Text.{text as tables_text}
-use Rattle.snap_words.specs.Commands.{Command, compile}
 use Rattle.snap_cli.specs.declared.inputs.Inputs.{Inputs}
-use Rattle.snap_cli.specs.declared.refusal.Refusal.{Refusal}
-use Rattle.snap_cli.specs.declared.refusal.Refusal.TheVariants.{Write, NoMemory}
-use Rattle.snap_cli.specs.Check.{EndsJudged}
 use Rattle.snap_cli.specs.Compile.{AreSpelled, AreTables, HasNoTables, HasNoTablesFor, IsCompiled}
 use Rattle.snap_cli.specs.CompileSteps.{Compiles, GivesTables, MakesTables, WritesTables}
-use Rattle.snap_cli.specs.Deserved.{Ends, IsText, MayPrecedeRead, Meets}
 use Rattle.snap_cli.specs.InputsSteps.{AreInputs, GivesInputs, IsStopped}
 use Rattle.snap_cli.specs.PlacementOf.{SpellsPlacement}
 use Rattle.snap_cli.specs.Reached.{IsReached}
-use Rattle.snap_cli.specs.Refusals.{Ending}
-use Rattle.snap_cli.specs.Texts.{IsTooLong}
+use Rattle.snap_cli.proofs.Shared.{Command, compile, Ending, Ends, EndsJudged, file_of, Files, IsReadBack, IsText, IsTooLong, MayPrecedeRead, Meets, NoMemory, Program, Refusal, Table, Tables, Topology, Write}
 use Rattle.snap_cli.proofs.InputsLemmas.{stopped-map}
 use Rattle.snap_cli.proofs.RefusedBy.{by-map, meets-by}
 

@@ -1,25 +1,12 @@
 -- `compile` gives tables, or one reason why there are none, but that each pair on which the program races may be told.
 use Rattle.std.proofs.Common.{◌≡◌, ◌⊎◌, ℕ, Bool, List, [], ◌∷◌, Option, Result, Ok, Err, refl, sym, ◌∙◌, subst, inl, inr}
-use Rattle.std.specs.Io.KnownBytes.{Appends}
-use Rattle.std.proofs.lemmas.List.Elements.{All-nil, All-cons}
-use Rattle.snap_core.specs.declared.program.Program.{Program}
-use Rattle.snap_core.specs.Arrays.{Arrays}
-use Rattle.snap_io.specs.Files.{Files, file_of}
-use Rattle.snap_names.specs.Declarations.{core_program}
-use Rattle.snap_topo.specs.declared.topology.Topology.{Topology}
-use Rattle.snap_rows.specs.declared.tables.Tables.{Tables}
-use Rattle.snap_tables.specs.ReadBack.{IsReadBack}
 use Rattle.snap_tables.specs.Text.{text as tables_text}
 use Rattle.snap_build.specs.Whole.{IsRaceOf}
-use Rattle.snap_gen.specs.Faithful.{IsDefined, IsPacketOf}
-use Rattle.snap_words.specs.Commands.{compile}
-use Rattle.snap_cli.specs.declared.refusal.Refusal.{Refusal}
-use Rattle.snap_cli.specs.Check.{EndsJudged, Races}
+use Rattle.snap_gen.specs.Faithful.{IsDefined}
+use Rattle.snap_cli.specs.Check.{Races}
 use Rattle.snap_cli.specs.Compile.{AreMade, AreSpelled, EndsCompile, HasNoTables, IsCompileText, IsCompiled}
-use Rattle.snap_cli.specs.Laws.{IsDue, IsExact, SpellsOneProgram}
 use Rattle.snap_cli.specs.PlacementOf.{PlacementOf}
-use Rattle.snap_cli.specs.ProgramOf.{ProgramOf}
-use Rattle.snap_cli.specs.Refusals.{Ending, status_of}
+use Rattle.snap_cli.proofs.Shared.{All-cons, All-nil, Appends, Arrays, compile, core_program, Ending, EndsJudged, file_of, Files, IsDue, IsExact, IsPacketOf, IsReadBack, Program, ProgramOf, Refusal, SpellsOneProgram, status_of, Tables, Topology}
 use Rattle.snap_cli.proofs.CheckOnce.{judged_once, judged_race, same_race}
 use Rattle.snap_cli.proofs.Pipeline.{After, Agree, IsSameOutcome, after_once, next_once, one_program, past, refused_alike}
 use Rattle.snap_cli.proofs.PlacementOnce.{placement_once}

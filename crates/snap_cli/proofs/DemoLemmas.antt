@@ -1,11 +1,8 @@
 -- What `demo` did, from what its steps did.
 use Rattle.std.proofs.Common.{ℕ, List, [], Option, Ok, Err, refl, inr}
-use Rattle.snap_io.specs.Files.{Files}
 use Rattle.snap_words.specs.Commands.{demo}
-use Rattle.snap_cli.specs.declared.refusal.Refusal.TheVariants.{Write, NoMemory}
 use Rattle.snap_cli.specs.Demo.{MeetsSummary}
-use Rattle.snap_cli.specs.Deserved.{Meets}
-use Rattle.snap_cli.specs.Refusals.{Ending}
+use Rattle.snap_cli.proofs.Shared.{Ending, Files, Meets, NoMemory, Write}
 
 pub meets-summary : (files : Files) (switches : ℕ) (old new : Option (List ℕ)) (e : Ending) → MeetsSummary switches e old new → Meets files (demo switches) e old new
 meets-summary files switches old new (Ok u) m = (refl, (m.0, m.1, m.2))

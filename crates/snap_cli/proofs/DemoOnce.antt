@@ -1,13 +1,11 @@
 -- `demo` deserves one text.
 use Rattle.std.proofs.Common.{◌≡◌, ℕ, List, length, sym, subst, ◌∙◌}
 use Rattle.std.proofs.lemmas.Option.{same_Some}
-use Rattle.snap_core.specs.Arrays.{zero_arrays}
-use Rattle.snap_core.specs.Listing.{HasOneListing, IsListing}
-use Rattle.snap_core.specs.Switch.{Switched}
-use Rattle.snap_whole.specs.OneSwitch.{ports_of}
+use Rattle.snap_core.specs.Listing.{IsListing}
 use Rattle.snap_demo.specs.Packets.{stated_packets}
 use Rattle.snap_demo.specs.Row.{stated_topology}
 use Rattle.snap_demo.specs.Summary.{IsSummary, all_delivered, all_lost, text_of, total_in}
+use Rattle.snap_cli.proofs.Shared.{HasOneListing, ports_of, Switched, zero_arrays}
 use Rattle.snap_cli.proofs.SameCore.{same_switch}
 
 pub demo_text_once : HasOneListing → (switches : ℕ) (a b : List ℕ) → IsSummary switches a → IsSummary switches b → a ≡ b

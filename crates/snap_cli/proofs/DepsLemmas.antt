@@ -1,13 +1,8 @@
 -- What `deps` did, from what its steps did.
 use Rattle.std.proofs.Common.{ℕ, List, [], Option, Ok, Err, refl, inl, inr}
-use Rattle.snap_core.specs.declared.program.Program.{Program}
-use Rattle.snap_io.specs.Files.{Files, file_of}
 use Rattle.snap_words.specs.Commands.{deps}
-use Rattle.snap_cli.specs.declared.refusal.Refusal.TheVariants.{Write, NoMemory}
 use Rattle.snap_cli.specs.Deps.{MeetsText}
-use Rattle.snap_cli.specs.Deserved.{Meets}
-use Rattle.snap_cli.specs.ProgramOf.{ProgramOf}
-use Rattle.snap_cli.specs.Refusals.{Ending}
+use Rattle.snap_cli.proofs.Shared.{Ending, file_of, Files, Meets, NoMemory, Program, ProgramOf, Write}
 use Rattle.snap_cli.proofs.RefusedBy.{Refuses}
 
 pub deps-refuses : (p : List ℕ) (files : Files) → Refuses files (deps p) p

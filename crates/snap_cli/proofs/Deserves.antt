@@ -1,18 +1,15 @@
 -- Each command deserves one ending and one text: its steps give one result each.
 use Rattle.std.proofs.Common.{ℕ, Ok, sym, ◌∙◌, inl, inr}
-use Rattle.snap_core.specs.declared.policy.Pol.{Pol}
-use Rattle.snap_core.specs.Listing.{HasOneListing}
 use Rattle.snap_dep.specs.Dependencies.{TiedIsEquivalence, UsesBelow}
 use Rattle.snap_dep.specs.Ranks.{HasOneRank}
-use Rattle.snap_io.specs.Files.{Files, file_of}
 use Rattle.snap_trace.specs.OneSwitch.{IsReport}
-use Rattle.snap_words.specs.Commands.{Command, check, compile, demo, deps, equal, obs, routes, place, trace}
+use Rattle.snap_words.specs.Commands.{check, demo, deps, equal, obs, routes, place}
 use Rattle.snap_cli.specs.Compile.{EndsCompile}
 use Rattle.snap_cli.specs.Deps.{HasOneText}
-use Rattle.snap_cli.specs.Deserved.{Ends, IsText}
-use Rattle.snap_cli.specs.Laws.{IsSameEnding, IsSameText, SpellsOneProgram}
+use Rattle.snap_cli.specs.Laws.{IsSameText}
 use Rattle.snap_cli.specs.Place.{EndsPlace}
 use Rattle.snap_cli.specs.Routes.{EndsRoutes}
+use Rattle.snap_cli.proofs.Shared.{Command, compile, Ends, file_of, Files, HasOneListing, IsSameEnding, IsText, Pol, SpellsOneProgram, trace}
 use Rattle.snap_cli.proofs.CheckOnce.{judged_once, text_judged_once}
 use Rattle.snap_cli.proofs.CompileOnce.{no_tables, tables_once, tables_text_of}
 use Rattle.snap_cli.proofs.DemoOnce.{demo_text_once}

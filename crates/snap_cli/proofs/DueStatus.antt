@@ -1,10 +1,6 @@
 -- The status of a call, from what holds of each ending that its command deserves.
 use Rattle.std.proofs.Common.{◌⊎◌, ℕ, List, Option, sym, subst, inl, inr}
-use Rattle.snap_io.specs.Files.{Files}
-use Rattle.snap_words.specs.Commands.{Command}
-use Rattle.snap_cli.specs.Deserved.{Ends}
-use Rattle.snap_cli.specs.Laws.{IsDue, IsExact, IsFailure}
-use Rattle.snap_cli.specs.Refusals.{Ending, status_of}
+use Rattle.snap_cli.proofs.Shared.{Command, Ending, Ends, Files, IsDue, IsExact, IsFailure, status_of}
 
 pub due-status : (Holds : ℕ → Type 0) (files : Files) (command : Command) → ((e : Ending) → Ends files command e → Holds (status_of e))
     → (status : ℕ) (out_old out_new : Option (List ℕ)) (err_before err_now : ℕ) (err_old err_new : Option (List ℕ))

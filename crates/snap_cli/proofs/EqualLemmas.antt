@@ -1,13 +1,9 @@
 -- What `equal` did, from what its steps did.
 use Rattle.std.proofs.Common.{ℕ, List, [], Option, Ok, Err, refl, inl, inr, codes}
-use Rattle.snap_core.specs.declared.program.Program.{Program}
-use Rattle.snap_io.specs.Files.{Files, file_of}
 use Rattle.snap_words.specs.Commands.{equal}
-use Rattle.snap_cli.specs.declared.refusal.Refusal.TheVariants.{Write, NoMemory, Race, Declarations, Differ}
-use Rattle.snap_cli.specs.Deserved.{Meets}
+use Rattle.snap_cli.specs.declared.refusal.Refusal.TheVariants.{Declarations, Differ}
 use Rattle.snap_cli.specs.Equal.{MeetsEqual}
-use Rattle.snap_cli.specs.ProgramOf.{ProgramOf}
-use Rattle.snap_cli.specs.Refusals.{Ending}
+use Rattle.snap_cli.proofs.Shared.{Ending, file_of, Files, Meets, NoMemory, Program, ProgramOf, Race, Write}
 use Rattle.snap_cli.proofs.EqualOnce.{race_never, differ_same}
 use Rattle.snap_cli.proofs.RefusedBy.{Refuses}
 

@@ -1,20 +1,11 @@
 -- `equal` deserves one ending and one text, but that each pair on which a program races, or two differ, may be told.
 use Rattle.std.proofs.Common.{◌≡◌, ◌≤◌, ◌⊎◌, ℕ, List, [], length, Ok, Err, refl, sym, ◌∙◌, subst, inl, inr}
-use Rattle.snap_core.specs.declared.program.Program.{Program}
 use Rattle.snap_core.specs.declared.place.Place.{Place}
-use Rattle.snap_core.specs.Arrays.{Arrays}
-use Rattle.snap_core.specs.Fields.{count}
 use Rattle.snap_core.specs.Meaning.{eval}
-use Rattle.snap_core.specs.Inputs.{IsPacket}
 use Rattle.snap_equal.specs.Same.{MeanSame, SameOutcome, TellApart}
-use Rattle.snap_io.specs.Files.{Files, file_of}
-use Rattle.snap_names.specs.Declarations.{core_program}
-use Rattle.snap_cli.specs.declared.refusal.Refusal.{Refusal}
-use Rattle.snap_cli.specs.declared.refusal.Refusal.TheVariants.{Declarations, Differ, Race}
+use Rattle.snap_cli.specs.declared.refusal.Refusal.TheVariants.{Declarations, Differ}
 use Rattle.snap_cli.specs.Equal.{AreComparable, AreDeclaredAlike, Differs, EndsCompared, EndsEqual, IsComparedText, IsEqualText, IsFirstRefusal, TellsOneRace}
-use Rattle.snap_cli.specs.Laws.{IsSameEnding, SpellsOneProgram}
-use Rattle.snap_cli.specs.ProgramOf.{ProgramOf}
-use Rattle.snap_cli.specs.Refusals.{Ending, status_of}
+use Rattle.snap_cli.proofs.Shared.{Arrays, core_program, count, Ending, file_of, Files, IsPacket, IsSameEnding, Program, ProgramOf, Race, Refusal, SpellsOneProgram, status_of}
 use Rattle.snap_cli.proofs.CheckOnce.{never_both, same_never}
 use Rattle.snap_cli.proofs.Pipeline.{After, Agree, after_once, cases_once, one_program, past, relayed}
 use Rattle.snap_cli.proofs.SameCore.{same_eval, same_fields, same_names}

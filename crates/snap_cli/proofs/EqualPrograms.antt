@@ -1,20 +1,17 @@
 -- Two programs from the comparison of their diagrams.
 use Rattle.std.proofs.Common.{◌≡◌, ◌<◌, ◌+◌, ℕ, List, [], ◌∷◌, ◌++◌, length, take, get_or, Err, sym, ap, ◌∙◌, subst, inl, inr}
-use Rattle.snap_core.specs.declared.program.Program.{Program}
-use Rattle.snap_core.specs.Arrays.{Arrays}
-use Rattle.snap_core.specs.Fields.{count}
 use Rattle.snap_core.specs.Meaning.{eval}
-use Rattle.snap_core.specs.Inputs.{IsStore, IsPacket}
+use Rattle.snap_core.specs.Inputs.{IsStore}
 use Rattle.snap_arena.specs.declared.node.Node.{Node}
 use Rattle.snap_fdd.specs.declared.leaf.Leaf.{Leaf}
 use Rattle.snap_fdd.specs.Diagrams.{diagram}
 use Rattle.snap_chain.specs.Late.{outcome}
 use Rattle.snap_equal.proofs.Comparable.{comparable}
 use Rattle.snap_equal.specs.Same.{CanBeCompared, DoApart, DoSame, MeanSame, SameOutcome, TellApart}
-use Rattle.snap_cli.specs.declared.refusal.Refusal.{Refusal}
-use Rattle.snap_cli.specs.declared.refusal.Refusal.TheVariants.{Differ, Race}
+use Rattle.snap_cli.specs.declared.refusal.Refusal.TheVariants.{Differ}
 use Rattle.snap_cli.specs.Check.{HasWhole, IsRaceTold, NeverRaces}
 use Rattle.snap_cli.specs.Equal.{AreComparable, AreDeclaredAlike, Compares, IsDifferenceTold}
+use Rattle.snap_cli.proofs.Shared.{Arrays, count, IsPacket, Program, Race, Refusal}
 
 -- the refusal of the second program, or of both
 pub second_told : (p q : Program) → AreDeclaredAlike p q → NeverRaces p → (e : Refusal) → IsRaceTold q e → Compares p q (Err e)

@@ -1,22 +1,10 @@
 -- What a run in turn did, as the command tells it.
 use Rattle.std.proofs.Common.{◌≡◌, ℕ, Bool, List, [], Option, Some, None, Result, Ok, Err, refl, sym, subst, inl, inr}
-use Rattle.std.specs.Borrow.{Bor}
-use Rattle.std.specs.Prelude.{option_map}
-use Rattle.std.specs.Io.KnownBytes.{Appends}
-use Rattle.snap_io.specs.Files.{Files, file_of}
-use Rattle.snap_rows.specs.declared.tables.Tables.{Tables}
 use Rattle.snap_trace.specs.declared.fault.TraceFault.TheVariants as run
-use Rattle.snap_trace.specs.OneSwitch.{RunEnding}
-use Rattle.snap_runs.specs.declared.schedule.ScheduleFault.{ScheduleFault}
 use Rattle.snap_order.specs.Runs.{HasScheduleReport, IsTrace, RefusesScheduleLine, WritesSchedule, WritesTrace}
-use Rattle.snap_words.specs.Commands.{Command, in_turn, trace}
-use Rattle.snap_cli.specs.declared.refusal.Refusal.TheVariants.{Limit, Packets, VersionOne}
-use Rattle.snap_cli.specs.Deserved.{Ends, IsText, Meets}
 use Rattle.snap_cli.specs.InTurnSteps.{MeetsInTurn, MeetsTurns}
-use Rattle.snap_cli.specs.Obs.{IsRunEnding}
-use Rattle.snap_cli.specs.Refusals.{Ending}
-use Rattle.snap_cli.specs.RunSteps.{ending_of_run, ending_of_schedule}
-use Rattle.snap_cli.specs.TablesOf.{TablesOf}
+use Rattle.snap_cli.specs.RunSteps.{ending_of_schedule}
+use Rattle.snap_cli.proofs.Shared.{Appends, Bor, Command, Ending, ending_of_run, Ends, file_of, Files, in_turn, IsRunEnding, IsText, Limit, Meets, option_map, Packets, RunEnding, ScheduleFault, Tables, TablesOf, trace, VersionOne}
 use Rattle.snap_cli.proofs.ScheduleLemmas.{EndsSo, meets-scheduled, nothing_out}
 
 module _ (files : Files) (name : List ℕ) (packets : Bor (List ℕ)) (hops : Bool) (t : Tables) (spelled : TablesOf (file_of files name) (Ok t)) (old new : Option (List ℕ)) where

@@ -1,18 +1,11 @@
 -- A run in turn ends in one way, with one text.
 use Rattle.std.proofs.Common.{◌≡◌, ◌⊎◌, ℕ, Bool, List, [], Option, Some, None, Err, sym, ◌∙◌, inl, inr, arith}
-use Rattle.std.specs.Prelude.{option_map}
-use Rattle.snap_io.specs.Files.{Files, file_of}
-use Rattle.snap_rows.specs.declared.tables.Tables.{Tables}
-use Rattle.snap_rows.specs.Form.{IsInForm}
-use Rattle.snap_trace.specs.Spelled.{Stop, ended, refused}
-use Rattle.snap_runs.specs.Plain.{EndsAs, spelled_for}
-use Rattle.snap_runs.specs.Schedules.{lines_of}
+use Rattle.snap_runs.specs.Plain.{EndsAs}
 use Rattle.snap_order.specs.OneRun.{PlainBlocksAreOne, PlainReportsAreOne}
 use Rattle.snap_order.specs.OneSchedule.{RefusedLinesAreOne, ReportedOrRefused, ScheduleReportsAreOne}
 use Rattle.snap_order.specs.Runs.{ArePlainBlocks, HasScheduleReport, IsPlainReport, IsTrace, RefusesScheduleLine}
-use Rattle.snap_cli.specs.declared.refusal.Refusal.TheVariants.{VersionOne}
 use Rattle.snap_cli.specs.InTurn.{IsInTurnText, IsTurnsText, RunsInTurnTo, TurnsTo}
-use Rattle.snap_cli.specs.Refusals.{Ending}
+use Rattle.snap_cli.proofs.Shared.{ended, Ending, file_of, Files, IsInForm, lines_of, option_map, refused, spelled_for, Stop, Tables, VersionOne}
 use Rattle.snap_cli.proofs.ObsOnce.{AreOne, run_once}
 use Rattle.snap_cli.proofs.Pipeline.{cases_once}
 use Rattle.snap_cli.proofs.ScheduleOnce.{IsOne, ends_by_schedule_once}

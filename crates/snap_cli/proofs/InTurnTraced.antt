@@ -1,33 +1,16 @@
 -- A run in turn that ended with status 0 has a report, which is that of the plain run.
 use Rattle.std.proofs.Common.{◌≡◌, ℕ, Bool, false, List, [], ◌++◌, Option, Some, None, Ok, refl, sym, ◌∙◌, ap, subst, inl, inr}
-use Rattle.std.specs.Prelude.{option_map}
-use Rattle.std.specs.List.{All}
-use Rattle.snap_core.specs.declared.program.Program.{Program}
-use Rattle.snap_core.specs.Listing.{HasOneListing, IsListing}
-use Rattle.snap_core.specs.Switch.{Switched}
-use Rattle.snap_io.specs.Files.{Files, file_of}
-use Rattle.snap_topo.specs.declared.topology.Topology.{Topology}
-use Rattle.snap_rows.specs.declared.tables.Tables.{Tables}
-use Rattle.snap_gen.specs.Faithful.{Faithful, IsPacketOf}
-use Rattle.snap_trace.specs.OneSwitch.{RunEnding}
+use Rattle.snap_core.specs.Listing.{IsListing}
 use Rattle.snap_trace.specs.Reports.{blocks, end_text}
-use Rattle.snap_trace.specs.Spelled.{Stop, ended, refused, spelled}
-use Rattle.snap_runs.specs.Laws.{SpelledForIsSpelled, SpelledPacketsFit}
-use Rattle.snap_runs.specs.Plain.{spelled_for}
 use Rattle.snap_runs.specs.Plain as plain_run
-use Rattle.snap_runs.specs.Schedules.{lines_of}
 use Rattle.snap_order.specs.OneSwitch.{PlainRunsInTurnReportOneSwitch, SchedulesInTurnReportOneSwitch}
 use Rattle.snap_order.specs.Runs.{EndsAsRead, HasScheduleReport, IsPlainReport, IsScheduleReport, RefusesScheduleLine}
 use Rattle.snap_whole.specs.Laws.{PlainRunsReportOneSwitch}
-use Rattle.snap_whole.specs.OneSwitch.{IsSwitchReport, port_lines, ports_of}
-use Rattle.snap_words.specs.Commands.{in_turn, trace}
-use Rattle.snap_cli.specs.declared.refusal.Refusal.TheVariants.{VersionOne}
-use Rattle.snap_cli.specs.Headline.{Did, TurnsTraceAsPlain}
+use Rattle.snap_whole.specs.OneSwitch.{IsSwitchReport, port_lines}
+use Rattle.snap_cli.specs.Headline.{TurnsTraceAsPlain}
 use Rattle.snap_cli.specs.InTurn.{RunsInTurnTo, TurnsTo}
-use Rattle.snap_cli.specs.Laws.{AnswersExactly, CompilesExactly, TracesExactly, TurnsExactly}
-use Rattle.snap_cli.specs.Obs.{IsRunEnding}
-use Rattle.snap_cli.specs.Refusals.{Ending, status_of}
-use Rattle.snap_cli.specs.TablesOf.{TablesOf}
+use Rattle.snap_cli.specs.Laws.{TurnsExactly}
+use Rattle.snap_cli.proofs.Shared.{All, AnswersExactly, CompilesExactly, Did, ended, Ending, Faithful, file_of, Files, HasOneListing, in_turn, IsPacketOf, IsRunEnding, lines_of, option_map, ports_of, Program, refused, RunEnding, spelled, spelled_for, SpelledForIsSpelled, SpelledPacketsFit, status_of, Stop, Switched, Tables, TablesOf, Topology, trace, TracesExactly, VersionOne}
 use Rattle.snap_cli.proofs.ScheduleTraced.{reported_by}
 use Rattle.snap_cli.proofs.Traced.{no_failure, plain_ran, refused_apart, run_apart, told}
 

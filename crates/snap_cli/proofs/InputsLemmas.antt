@@ -2,19 +2,14 @@
 use Rattle.std.proofs.Common.{◌≡◌, ℕ, List, Ok, Err, inl, inr}
 use Rattle.std.specs.Prelude.{Vec}
 use Rattle.std.specs.declared.alloc.Global.{Global}
-use Rattle.snap_core.specs.declared.program.Program.{Program}
-use Rattle.snap_io.specs.Files.{Files, file_of}
-use Rattle.snap_topo.specs.declared.topology.Topology.{Topology}
-use Rattle.snap_route.specs.Tables.{Table}
 use Rattle.snap_cli.specs.declared.network.Network.{Network}
-use Rattle.snap_cli.specs.declared.refusal.Refusal.{Refusal}
 use Rattle.snap_cli.specs.InputsSteps.{GivesInputs, IsStopped}
 use Rattle.snap_cli.specs.NetworkSteps.{GivesNetwork}
-use Rattle.snap_cli.specs.ProgramOf.{ProgramOf}
 use Rattle.snap_cli.specs.Reached.{IsReached}
 use Rattle.snap_cli.specs.Routes.{HasNoRoutes}
 use Rattle.snap_cli.specs.Steps.{GivesProgram}
-use Rattle.snap_cli.specs.Texts.{GivesText, IsTooLong}
+use Rattle.snap_cli.specs.Texts.{GivesText}
+use Rattle.snap_cli.proofs.Shared.{file_of, Files, IsTooLong, Program, ProgramOf, Refusal, Table, Topology}
 use Rattle.snap_cli.proofs.RefusedBy.{by-map, by-program}
 
 -- a command that is stopped for one reason is for another

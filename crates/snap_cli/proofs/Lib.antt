@@ -44,6 +44,7 @@ pub mod SameUses
 pub mod ScheduleLemmas
 pub mod ScheduleOnce
 pub mod ScheduleTraced
+pub mod Shared
 pub mod SpelledSources
 pub mod SpelledUnder
 pub mod StatusLemmas

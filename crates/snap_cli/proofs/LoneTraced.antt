@@ -1,10 +1,8 @@
 -- What is compiled onto one switch and then traced by a schedule is what one big switch does in the order of the forks.
 use Rattle.std.proofs.Common.{◌≡◌, ℕ, ◌≤◌, List, [], ◌∷◌, Option, Some, None, length, map, refl, sym, subst, ◌∙◌, inr, arith}
-use Rattle.std.specs.Prelude.{IfSome, option_map, slice_get}
-use Rattle.std.specs.List.{All}
-use Rattle.std.proofs.lemmas.List.Elements.{All-contains, All-nil, All-cons, All-head, All-tail}
+use Rattle.std.specs.Prelude.{IfSome}
+use Rattle.std.proofs.lemmas.List.Elements.{All-contains}
 use Rattle.snap_core.specs.declared.policy.Update.{Update}
-use Rattle.snap_io.specs.Files.{file_of}
 use Rattle.snap_rows.specs.declared.tables.ArrayAt.{ArrayAt}
 use Rattle.snap_rows.specs.declared.tables.Row.{Row}
 use Rattle.snap_rows.specs.declared.tables.Row.TheVariants.{Leaf}
@@ -12,17 +10,15 @@ use Rattle.snap_rows.specs.declared.tables.RowAt.{RowAt}
 use Rattle.snap_rows.specs.declared.tables.Rule.TheVariants.{Owner}
 use Rattle.snap_rows.specs.declared.tables.Spot.TheVariants as spot
 use Rattle.snap_rows.specs.declared.tables.Stage.{Stage as Turn}
-use Rattle.snap_rows.specs.declared.tables.Tables.{Tables}
 use Rattle.snap_rows.specs.Entries.{Parts, node_of, owner_of}
-use Rattle.snap_rows.specs.Form.{IsInForm, IsTurnInForm}
+use Rattle.snap_rows.specs.Form.{IsTurnInForm}
 use Rattle.snap_rows.specs.Happenings.{commits}
 use Rattle.snap_rows.specs.Lone.{Chain, IsLone, IsLone1, field, leaf, state}
 use Rattle.snap_rows.specs.Rules.{IsValid, RowKeeps}
 use Rattle.std.proofs.lemmas.Option.{same_Some}
 use Rattle.snap_rows.proofs.Rows.{All-get, node_entry, nodes}
-use Rattle.snap_words.specs.Commands.{schedule}
 use Rattle.snap_cli.specs.Headline.{LonePlacementsTraceInOrder, LoneTablesTraceInOrder, TracesInOrder}
-use Rattle.snap_cli.specs.Laws.{AnswersExactly, CompilesExactly}
+use Rattle.snap_cli.proofs.Shared.{All, All-cons, All-head, All-nil, All-tail, AnswersExactly, CompilesExactly, file_of, IsInForm, option_map, schedule, slice_get, Tables}
 use Rattle.snap_cli.proofs.Traced.{compiled, same_tables}
 
 all_at : (arrays : List ArrayAt) (w : ℕ) → All (λ x. x ≡ w) (map (λ (a : ArrayAt). a.at) arrays) → All (λ (a : ArrayAt). a.at ≡ w) arrays

@@ -6,9 +6,10 @@ use Rattle.std.specs.Str.{is_utf8, IsAscii}
 use Rattle.std.proofs.lemmas.Bool.{false≢true, and_parts, ltb-true}
 use Rattle.std.proofs.lemmas.Str.{IsUtf8-from_ascii, is_utf8-from_IsUtf8}
 use Rattle.std.proofs.lemmas.Str.Ascii.{IsAscii-nil, IsAscii-cons}
-use Rattle.snap_words.specs.Commands.{Command, command_of, command_for, command_in, compile, plain, trace}
+use Rattle.snap_words.specs.Commands.{command_of, command_for, command_in}
 use Rattle.snap_words.specs.Words.{Told, add, checked, flagged, is_name, name_word, nothing, on_demand_flag, tell, with_names, word_of}
 use Rattle.snap_cli.specs.Headline.{CanName, compile_words, trace_words}
+use Rattle.snap_cli.proofs.Shared.{Command, compile, plain, trace}
 
 -- words of ASCII alone
 ascii : (bs : List ℕ) → list_all (λ b. nat_lt b 128) bs ≡ true → IsAscii bs

@@ -1,19 +1,11 @@
 -- What `obs` did, from what its steps did.
 use Rattle.std.proofs.Common.{ℕ, List, Option, Ok, Err, refl, inl, inr}
-use Rattle.snap_core.specs.declared.program.Program.{Program}
-use Rattle.snap_io.specs.Files.{Files, file_of}
-use Rattle.std.specs.Borrow.{Bor}
-use Rattle.std.specs.Io.KnownBytes.{Appends}
-use Rattle.snap_trace.specs.declared.fault.TraceFault.{TraceFault}
 use Rattle.snap_trace.specs.declared.fault.TraceFault.TheVariants as run
 use Rattle.snap_trace.specs.OneSwitch.{WritesReport}
 use Rattle.snap_words.specs.Commands.{obs}
-use Rattle.snap_cli.specs.declared.refusal.Refusal.TheVariants.{Read, ReadChange, Write, NoMemory}
-use Rattle.snap_cli.specs.Deserved.{Meets}
 use Rattle.snap_cli.specs.Obs.{EndsObs, IsObsText, MeetsRun, RunsTo}
-use Rattle.snap_cli.specs.ProgramOf.{ProgramOf}
-use Rattle.snap_cli.specs.Refusals.{Ending}
 use Rattle.snap_cli.specs.Steps.{refusal_of_run}
+use Rattle.snap_cli.proofs.Shared.{Appends, Bor, Ending, file_of, Files, Meets, NoMemory, Program, ProgramOf, Read, ReadChange, TraceFault, Write}
 use Rattle.snap_cli.proofs.RefusedBy.{Refuses}
 
 pub obs-refuses : (p q : List ℕ) (files : Files) → Refuses files (obs p q) p

@@ -2,17 +2,12 @@
 use Rattle.std.proofs.Common.{◌≡◌, ◌++◌, ◌+◌, ◌<◌, ℕ, List, take, Option, Some, Err, sym, ◌∙◌, ap, subst, inl, inr, arith}
 use Rattle.std.proofs.lemmas.Option.{same_Some}
 use Rattle.std.proofs.lemmas.List.{take-take}
-use Rattle.snap_core.specs.declared.program.Program.{Program}
-use Rattle.snap_core.specs.Arrays.{zero_arrays}
-use Rattle.snap_core.specs.Listing.{HasOneListing}
-use Rattle.snap_core.specs.Switch.{Switched, one_big_switch}
+use Rattle.snap_core.specs.Switch.{one_big_switch}
 use Rattle.snap_trace.specs.declared.fault.TraceFault.TheVariants as run
-use Rattle.snap_trace.specs.OneSwitch.{EndsAsRead, IsReport, IsUndefinedAfter, made_text, RunEnding}
+use Rattle.snap_trace.specs.OneSwitch.{EndsAsRead, IsReport, IsUndefinedAfter, made_text}
 use Rattle.snap_trace.specs.Reports.{end_text}
-use Rattle.snap_trace.specs.Spelled.{Stop, ended, refused, spelled}
-use Rattle.snap_cli.specs.Obs.{IsRunEnding}
-use Rattle.snap_cli.specs.Refusals.{Ending}
 use Rattle.snap_trace.proofs.SwitchLemmas.{switch-take}
+use Rattle.snap_cli.proofs.Shared.{ended, Ending, HasOneListing, IsRunEnding, Program, refused, RunEnding, spelled, Stop, Switched, zero_arrays}
 
 pub run_ends_once : (r : RunEnding) (a b : Ending) → IsRunEnding r a → IsRunEnding r b → a ≡ b
 run_ends_once (Err run.Read) a b h k = absurd h

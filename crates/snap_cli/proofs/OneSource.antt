@@ -1,23 +1,17 @@
 -- Where all sources are one.
 use Rattle.std.proofs.Common.{◌≡◌, ℕ, ◌+◌, List, [], ◌∷◌, ◌++◌, false, length, Ok, refl, sym, subst, ◌∙◌}
-use Rattle.std.specs.Prelude.{option_and_then, option_map}
-use Rattle.snap_core.specs.declared.program.Program.{Program}
-use Rattle.snap_core.specs.Arrays.{Arrays, zero_arrays}
+use Rattle.std.specs.Prelude.{option_and_then}
 use Rattle.snap_core.specs.Meaning.{Meaning}
 use Rattle.snap_core.specs.Packets.{PacketSet}
-use Rattle.snap_core.specs.Switch.{Switched, one_big_switch}
-use Rattle.snap_io.specs.Files.{file_of}
-use Rattle.snap_names.specs.Declarations.{core_program}
+use Rattle.snap_core.specs.Switch.{one_big_switch}
 use Rattle.snap_trace.specs.Reports.{block, end_text}
-use Rattle.snap_trace.specs.Spelled.{spelled}
 use Rattle.snap_whole.specs.OneSwitch.{port_lines}
 use Rattle.snap_rows.specs.Entries.{port_numbers}
-use Rattle.snap_move.specs.Changing.{in_force}
 use Rattle.snap_move.specs.OneSwitch.{IsSwitchReportUnder, blocks_under}
-use Rattle.snap_cli.specs.Laws.{SpellsOneProgram}
 use Rattle.snap_cli.proofs.SameCore.{same_eval, same_fields, same_names}
 use Rattle.snap_move.specs.OneSwitch.{IsChangingReport, changing_switch}
 use Rattle.snap_cli.specs.Upgrades.{ChangesTraceAsOneSwitch, UpgradesTraceAsOneSwitch}
+use Rattle.snap_cli.proofs.Shared.{Arrays, core_program, file_of, in_force, option_map, Program, spelled, SpellsOneProgram, Switched, zero_arrays}
 
 module _ (programs : ℕ → Program) (p : Program) (same : (i : ℕ) → core_program (programs i) ≡ core_program p) where
   one_switch : (i : ℕ) (m : Arrays) (ks : List (List ℕ)) → changing_switch programs i m ks ≡ one_big_switch p.body m ks

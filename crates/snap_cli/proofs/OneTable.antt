@@ -1,17 +1,17 @@
 -- A topology has one text of routes, and one first pair apart.
 use Rattle.std.proofs.Common.{◌≡◌, ℕ, zero, suc, ◌+◌, ◌==◌, ◌<◌, ◌≤◌, ◌⊎◌, inl, inr, true, false, List, [], ◌∷◌, ◌++◌, length, refl, sym, subst, ap, ap₂, arith}
 use Rattle.std.specs.Prelude.{◌≢◌, codes, decimal}
-use Rattle.std.specs.List.{concat, flat_map, range_with_len}
+use Rattle.std.specs.List.{concat, range_with_len}
 use Rattle.std.proofs.lemmas.Bool.{cases_eq, cases_lt}
 use Rattle.std.proofs.lemmas.Bool.Decides.{eqb_tells}
-use Rattle.snap_topo.specs.declared.topology.Topology.{Topology}
-use Rattle.snap_route.specs.Tables.{Table, AreRoutes, IsUnreachable, next_of}
+use Rattle.snap_route.specs.Tables.{next_of}
 use Rattle.snap_route.specs.Walks.{HasWalk, IsDiameter, IsDistance, IsNext, IsWalk, Linked}
 use Rattle.snap_route.proofs.Walking.{distance-walk}
-use Rattle.snap_cli.specs.Routes.{end_text, line_between, lines_from, routes_text}
+use Rattle.snap_cli.specs.Routes.{end_text, line_between, lines_from}
 use Rattle.snap_cli.proofs.Pipeline.{least_once}
 use Rattle.snap_seek.proofs.Once.{same_distance}
 use Rattle.snap_runs.specs.Tallies.{name_in}
+use Rattle.snap_cli.proofs.Shared.{AreRoutes, flat_map, IsUnreachable, routes_text, Table, Topology}
 
 -- a property that has no least number has none
 module _ (P : ℕ → Type 0) (no_least : (d : ℕ) → P d → ((e : ℕ) → P e → d ≤ e) → ⊥) where

@@ -1,16 +1,13 @@
 -- A file spells one tables at most, or is refused for one reason.
 use Rattle.std.proofs.Common.{◌≡◌, ◌≢◌, ℕ, List, Result, Ok, Err, refl, sym, ◌∙◌, ap, inl, inr}
-use Rattle.snap_rows.specs.declared.tables.Tables.{Tables}
-use Rattle.snap_rows.specs.Form.{IsInForm}
 use Rattle.snap_tables.specs.Exact.{ReadsOneWay}
-use Rattle.snap_tables.specs.Lines.{IsRead}
 use Rattle.snap_tables.specs.declared.fault.TablesFault.{TablesFault}
 use Rattle.snap_tables.specs.declared.fault.TablesFault.TheVariants as tables
 use Rattle.snap_cli.specs.declared.refusal.NoTables.TheVariants.{Line, Broken}
-use Rattle.snap_cli.specs.declared.refusal.Refusal.{Refusal}
 use Rattle.snap_cli.specs.declared.refusal.Refusal.TheVariants as refused
-use Rattle.snap_cli.specs.TablesOf.{SpellsTables, TablesOf}
+use Rattle.snap_cli.specs.TablesOf.{SpellsTables}
 use Rattle.snap_cli.specs.TraceSteps.{refusal_of_tables}
+use Rattle.snap_cli.proofs.Shared.{IsInForm, IsRead, Refusal, Tables, TablesOf}
 use Rattle.snap_cli.proofs.Pipeline.{Agree, Alike, alike, within_once}
 
 -- what is read of a text, as the command tells it

@@ -8,20 +8,18 @@ use Rattle.std.proofs.lemmas.List.Kept.{AllPairs-cons}
 use Rattle.std.proofs.lemmas.Map.Keys.{sorted_tail}
 use Rattle.std.proofs.lemmas.Map.Views.{All-after_first}
 use Rattle.snap_core.specs.declared.program.Which.{Which}
-use Rattle.snap_topo.specs.declared.topology.Topology.{Topology}
 use Rattle.snap_topo.specs.declared.topology.TopoFault.{TopoFault}
 use Rattle.snap_topo.specs.declared.topology.TopoFault.TheVariants as topo
 use Rattle.snap_topo.specs.Answer.{DifferentThen, IsAnswer, IsTopologyOf, KnownThen, SpelledThen, WithinThen, first_repeat, first_unknown, too_many}
 use Rattle.snap_core.specs.Ports.{link_cmp}
-use Rattle.snap_topo.specs.Spells.{document}
 use Rattle.snap_topo.specs.Shape.{Spelled, spelled}
 use Rattle.snap_topo.proofs.Pairs.{link_cmp_total}
-use Rattle.snap_cli.specs.declared.refusal.Refusal.{Refusal}
 use Rattle.snap_cli.specs.declared.refusal.Refusal.TheVariants as refused
 use Rattle.snap_cli.specs.declared.refusal.TopologyFault.{TopologyFault}
 use Rattle.snap_cli.specs.declared.refusal.TopologyFault.TheVariants.{NotToml}
 use Rattle.snap_cli.specs.RoutesSteps.{refusal_of_topology}
-use Rattle.snap_cli.specs.TopologyOf.{SpellsTopology, TopologyOf, fault_of}
+use Rattle.snap_cli.specs.TopologyOf.{SpellsTopology, fault_of}
+use Rattle.snap_cli.proofs.Shared.{document, Refusal, Topology, TopologyOf}
 use Rattle.snap_cli.proofs.Pipeline.{Agree, Alike, alike, within_once}
 use Rattle.snap_cli.proofs.Rising.{same_rising}
 

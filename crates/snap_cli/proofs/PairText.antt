@@ -1,12 +1,11 @@
 -- The text of a store and a packet, put together part by part.
 use Rattle.std.proofs.Common.{◌≡◌, ℕ, List, [], ◌++◌, map, codes, append-nil, append_assoc, ap, sym, ◌∙◌}
-use Rattle.std.specs.List.{flat_map}
 use Rattle.std.proofs.lemmas.List.Folds.{flat_map-map}
 use Rattle.snap_core.specs.declared.place.Listed.{Listed}
-use Rattle.snap_core.specs.declared.program.Program.{Program}
 use Rattle.snap_core.specs.Listing.{entry_of}
 use Rattle.snap_trace.specs.Reports.{array_line, fields_text, listed_line}
 use Rattle.snap_cli.specs.Pairs.{packet_line, pair_text}
+use Rattle.snap_cli.proofs.Shared.{flat_map, Program}
 
 module _ (Front : List ℕ) (p : Program) (listed : List Listed) (k : List ℕ) where
   abbrev Fields : List ℕ

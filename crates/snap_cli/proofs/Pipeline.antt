@@ -1,10 +1,6 @@
 -- Where each step of a command gives one result at most, the command ends in one way.
 use Rattle.std.proofs.Common.{◌≡◌, ◌⊎◌, ℕ, ◌<◌, ◌≤◌, List, [], Result, Ok, Err, refl, sym, ◌∙◌, subst, inl, inr, arith}
-use Rattle.snap_names.specs.Declarations.{core_program}
-use Rattle.snap_cli.specs.declared.refusal.Refusal.{Refusal}
-use Rattle.snap_cli.specs.Laws.{IsSameEnding, SpellsOneProgram}
-use Rattle.snap_cli.specs.ProgramOf.{ProgramOf}
-use Rattle.snap_cli.specs.Refusals.{Ending}
+use Rattle.snap_cli.proofs.Shared.{core_program, Ending, IsSameEnding, ProgramOf, Refusal, SpellsOneProgram}
 
 -- whatever has the one property and whatever has the other are related
 abbrev pub Agree : {A B : Type 0} → (A → B → Type 0) → (A → Type 0) → (B → Type 0) → Type 0

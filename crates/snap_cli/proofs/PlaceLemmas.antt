@@ -1,23 +1,15 @@
 -- What `place` did, from what its steps did.
 use Rattle.std.proofs.Common.{ℕ, List, [], Option, Result, Ok, Err, refl, inl, inr}
-use Rattle.std.proofs.KnownBytes.{Appends-nil}
 use Rattle.std.specs.Prelude.{Vec}
 use Rattle.std.specs.declared.alloc.Global.{Global}
-use Rattle.snap_core.specs.declared.program.Program.{Program}
-use Rattle.snap_io.specs.Files.{Files, file_of}
-use Rattle.snap_topo.specs.declared.topology.Topology.{Topology}
-use Rattle.snap_route.specs.Tables.{Table}
 use Rattle.snap_seek.specs.declared.demand.DemandFault.TheVariants as seek
 use Rattle.snap_words.specs.Commands.{place}
 use Rattle.snap_cli.specs.declared.inputs.Inputs.{Inputs}
-use Rattle.snap_cli.specs.declared.refusal.Refusal.{Refusal}
-use Rattle.snap_cli.specs.declared.refusal.Refusal.TheVariants.{Read, ReadChange, Write, NoMemory}
-use Rattle.snap_cli.specs.Deserved.{Meets}
 use Rattle.snap_cli.specs.InputsSteps.{AreInputs, GivesInputs, IsStopped}
 use Rattle.snap_cli.specs.Place.{HasNoDemand, HasNoPlacement, IsPlacementOf, SpellsNoDemand}
 use Rattle.snap_cli.specs.PlaceSteps.{GivesPlacement, Places}
 use Rattle.snap_cli.specs.Reached.{IsReached}
-use Rattle.snap_cli.specs.Texts.{IsTooLong}
+use Rattle.snap_cli.proofs.Shared.{Appends-nil, file_of, Files, IsTooLong, Meets, NoMemory, Program, Read, ReadChange, Refusal, Table, Topology, Write}
 use Rattle.snap_cli.proofs.InputsLemmas.{stopped-map}
 use Rattle.snap_cli.proofs.RefusedBy.{by-map}
 

@@ -1,17 +1,9 @@
 -- `place` gives one text, or one reason why there is none.
 use Rattle.std.proofs.Common.{◌≡◌, ℕ, List, length, Result, Ok, Err, refl, sym, ◌∙◌, ap, ap₂, subst, inl, inr, arith}
-use Rattle.snap_core.specs.declared.policy.Pol.{Pol}
-use Rattle.snap_core.specs.declared.program.Program.{Program}
-use Rattle.snap_core.specs.Fields.{count}
 use Rattle.snap_core.specs.Programs.{IsBounded}
 use Rattle.snap_dep.specs.Dependencies.{TiedIsEquivalence, UsesBelow}
-use Rattle.snap_dep.specs.Ranks.{Grouping, HasOneRank, IsGrouping}
+use Rattle.snap_dep.specs.Ranks.{HasOneRank}
 use Rattle.snap_dep.proofs.Below.{UsesBelow-fits}
-use Rattle.snap_io.specs.Files.{Files, file_of}
-use Rattle.snap_names.specs.Declarations.{core_program}
-use Rattle.snap_topo.specs.declared.topology.Topology.{Topology}
-use Rattle.snap_topo.specs.Spells.{document}
-use Rattle.snap_route.specs.Tables.{AreRoutes, Table}
 use Rattle.snap_place.specs.Printed.{placement_text}
 use Rattle.snap_seek.specs.declared.best.Best.{Best}
 use Rattle.snap_seek.specs.declared.demand.Demand.{Demand}
@@ -21,10 +13,8 @@ use Rattle.snap_seek.specs.Placements.{AreGroups, IsBestOf}
 use Rattle.snap_seek.specs.Shape.{Spelled, spelled}
 use Rattle.snap_seek.proofs.Once.{answer-apart, answer-once, answer-same, bare, bare-answer, bare-best, bare-ordered, best-once}
 use Rattle.snap_seek.proofs.Ranked.{ordered}
-use Rattle.snap_cli.specs.declared.refusal.Refusal.{Refusal}
-use Rattle.snap_cli.specs.Laws.{SpellsOneProgram}
 use Rattle.snap_cli.specs.Place.{HasNoDemand, HasNoPlacement, IsPlaced, IsPlacementOf, SpellsNoDemand, refusal_of_demand}
-use Rattle.snap_cli.specs.ProgramOf.{ProgramOf}
+use Rattle.snap_cli.proofs.Shared.{AreRoutes, core_program, count, document, file_of, Files, Grouping, IsGrouping, Pol, Program, ProgramOf, Refusal, SpellsOneProgram, Table, Topology}
 use Rattle.snap_cli.proofs.Pipeline.{After, Agree, IsSameOutcome, after_once, next_once, one_program, refused_alike, within_once}
 use Rattle.snap_cli.proofs.RoutesOnce.{Routed, routed_once}
 use Rattle.snap_cli.proofs.SameCore.{same_names}

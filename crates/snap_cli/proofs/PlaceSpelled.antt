@@ -2,15 +2,9 @@
 use Rattle.std.proofs.Common.{◌≡◌, ◌∙◌, ◌<◌, ℕ, List, length, slice_index, Result, Ok, Err, sym, subst, inr, arith}
 use Rattle.std.proofs.lemmas.Grind.{get_or_default_zero}
 use Rattle.std.proofs.lemmas.List.Elements.{All-contains}
-use Rattle.snap_core.specs.declared.program.Program.{Program}
 use Rattle.snap_core.specs.Programs.{IsInForm}
-use Rattle.snap_dep.specs.Ranks.{Grouping, IsGrouping}
-use Rattle.snap_io.specs.Files.{file_of}
-use Rattle.snap_topo.specs.declared.topology.Topology.{Topology}
-use Rattle.snap_topo.specs.Spells.{document}
 use Rattle.snap_names.proofs.DerivedTrees.{SourceWritten-text}
 use Rattle.snap_names.proofs.InForm.{IfOk-in_form}
-use Rattle.snap_route.specs.Tables.{Table}
 use Rattle.snap_place.specs.Answer.{GivesSwitches, IsAnswer}
 use Rattle.snap_place.specs.Laws.{PrintedIsRead}
 use Rattle.snap_seek.specs.declared.demand.Demand.{Demand}
@@ -22,8 +16,7 @@ use Rattle.snap_seek.proofs.Demanding.{demand-is, ok-none}
 use Rattle.snap_cli.specs.Laws.{PlacementsAreSpelled}
 use Rattle.snap_cli.specs.Place.{IsPlacementOf}
 use Rattle.snap_cli.specs.PlacementOf.{PlacementOf}
-use Rattle.snap_cli.specs.ProgramOf.{ProgramOf}
-use Rattle.snap_cli.specs.TopologyOf.{TopologyOf}
+use Rattle.snap_cli.proofs.Shared.{document, file_of, Grouping, IsGrouping, Program, ProgramOf, Table, Topology, TopologyOf}
 
 demand-of : (p : Program) (g : Grouping) (t : Topology) (x : Result Spelled DemandFault) (d : Demand) → length g.ranks ≡ length p.vars → SpelledThen p g t x (Ok d) → IsDemand g t d
 demand-of p g t (Ok s) d count h =

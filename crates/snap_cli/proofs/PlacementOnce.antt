@@ -1,17 +1,13 @@
 -- A file spells one placement for programs with one core program, or is refused for one reason.
 use Rattle.std.proofs.Common.{◌≡◌, ℕ, List, Option, Some, None, Result, Ok, Err, sym, ◌∙◌, ap, ap₂, subst}
-use Rattle.snap_core.specs.declared.program.Program.{Program}
 use Rattle.snap_dep.specs.Dependencies.{Tied}
-use Rattle.snap_names.specs.Declarations.{core_program}
-use Rattle.snap_topo.specs.declared.topology.Topology.{Topology}
-use Rattle.snap_topo.specs.Spells.{document}
 use Rattle.snap_place.specs.declared.placement.PlaceFault.{PlaceFault}
 use Rattle.snap_place.specs.declared.placement.PlaceFault.TheVariants.{Apart}
 use Rattle.snap_place.specs.Answer.{IsAnswer, MissingThen, OwnersThen, ShapeThen, SwitchThen, VariableThen, missing, no_switch, no_variable, owners}
 use Rattle.snap_place.specs.Shape.{entries_of}
 use Rattle.snap_place.specs.Together.{IsTogether, TellsApart}
-use Rattle.snap_cli.specs.declared.refusal.Refusal.{Refusal}
 use Rattle.snap_cli.specs.PlacementOf.{PlacementOf, SpellsPlacement, refusal_of_placement}
+use Rattle.snap_cli.proofs.Shared.{core_program, document, Program, Refusal, Topology}
 use Rattle.snap_cli.proofs.Pipeline.{Agree, Alike, alike, least_once, within_once}
 use Rattle.snap_cli.proofs.SameCore.{same_names}
 use Rattle.snap_cli.proofs.SameUses.{same_tied}

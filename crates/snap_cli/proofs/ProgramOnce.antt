@@ -1,6 +1,5 @@
 -- A text spells one program at most, or is refused for one reason.
 use Rattle.std.proofs.Common.{◌≡◌, ◌<◌, ℕ, List, length, Result, Ok, Err, refl, sym, ◌∙◌, ap, subst, inl, inr, arith}
-use Rattle.snap_core.specs.declared.program.Program.{Program}
 use Rattle.snap_core.specs.declared.program.Which.TheVariants.{Bytes}
 use Rattle.snap_lex.specs.declared.Token.{Token}
 use Rattle.snap_lex.specs.declared.LexFault.{LexFault}
@@ -14,16 +13,16 @@ use Rattle.snap_parse.specs.declared.fault.ParseFault.TheVariants as tree
 use Rattle.snap_parse.specs.Laws.{Yields, YieldsOnce}
 use Rattle.snap_names.specs.declared.fault.NameFault.{NameFault}
 use Rattle.snap_names.specs.declared.fault.NameFault.TheVariants as name
-use Rattle.snap_names.specs.Declarations.{CoreProgram, core_program, resolved}
-use Rattle.snap_cli.specs.declared.refusal.Refusal.{Refusal}
-use Rattle.snap_cli.specs.declared.refusal.Refusal.TheVariants.{Syntax, Naming, Limit}
+use Rattle.snap_names.specs.Declarations.{CoreProgram, resolved}
+use Rattle.snap_cli.specs.declared.refusal.Refusal.TheVariants.{Syntax, Naming}
 use Rattle.snap_cli.specs.declared.refusal.SyntaxFault.TheVariants.{BadByte, BadNumber, UnexpectedToken, TooDeep}
 use Rattle.snap_cli.specs.declared.refusal.NamingFault.{NamingFault}
 use Rattle.snap_cli.specs.declared.refusal.NamingFault.TheVariants.{UnknownName}
 use Rattle.snap_cli.specs.Laws.{IsSame}
-use Rattle.snap_cli.specs.ProgramOf.{ProgramOf, ReadsAs, IsShort, naming_at}
+use Rattle.snap_cli.specs.ProgramOf.{ReadsAs, IsShort, naming_at}
 use Rattle.snap_cli.specs.Spots.{spot_of}
 use Rattle.snap_cli.specs.Steps.{refusal_of_names, refusal_of_tokens, refusal_of_tree}
+use Rattle.snap_cli.proofs.Shared.{core_program, Limit, Program, ProgramOf, Refusal}
 
 -- how far the reading of a text comes
 data Reading : Type 0 where

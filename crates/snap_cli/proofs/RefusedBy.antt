@@ -1,14 +1,8 @@
 -- Refusals and what explains them.
 use Rattle.std.proofs.Common.{◌≡◌, ℕ, List, [], Option, Err, inl, sym, subst}
-use Rattle.std.proofs.KnownBytes.{Appends-nil}
-use Rattle.snap_io.specs.Files.{Files, file_of}
-use Rattle.snap_words.specs.Commands.{Command}
-use Rattle.snap_cli.specs.declared.refusal.Refusal.{Refusal}
-use Rattle.snap_cli.specs.declared.refusal.Refusal.TheVariants.{Read, ReadChange, Write, NoMemory}
-use Rattle.snap_cli.specs.Deserved.{Ends, IsText, MayPrecede, MayPrecedeRead, Meets}
-use Rattle.snap_cli.specs.ProgramOf.{ProgramOf}
 use Rattle.snap_cli.specs.Steps.{GivesProgram}
 use Rattle.snap_cli.specs.Texts.{RefusesBy}
+use Rattle.snap_cli.proofs.Shared.{Appends-nil, Command, Ends, file_of, Files, IsText, MayPrecede, MayPrecedeRead, Meets, NoMemory, ProgramOf, Read, ReadChange, Refusal, Write}
 
 -- a refusal for one reason is one for another
 pub by-map : (reads also : List ℕ → Type 0) (why because : Refusal → Type 0) → ((name : List ℕ) → reads name → also name) → ((e : Refusal) → why e → because e) → (e : Refusal) → RefusesBy reads why e → RefusesBy also because e

@@ -1,7 +1,7 @@
 -- What one step told, and the next behind it.
 use Rattle.std.proofs.Common.{◌≡◌, Option, Some, None, IfSome, Result, Ok, Err, sym, subst}
 use Rattle.std.specs.Prelude.{IsErrAnd}
-use Rattle.snap_cli.specs.declared.refusal.Refusal.{Refusal}
+use Rattle.snap_cli.proofs.Shared.{Refusal}
 
 -- a `?` answers the refusal that it met
 pub relayed : {X : Type 0} (P : Result X Refusal → Type 0) (r : Result X Refusal) (e : Refusal) → IsErrAnd r (λ y. y ≡ e) → P (Err e) → P r

@@ -1,24 +1,9 @@
 -- What a run by rounds did, as the command tells it.
 use Rattle.std.proofs.Common.{◌≡◌, ℕ, Bool, List, [], Option, Ok, Err, refl, sym, subst, inl, inr}
-use Rattle.std.specs.Borrow.{Bor}
-use Rattle.std.specs.Io.KnownBytes.{Appends}
-use Rattle.snap_io.specs.Files.{Files, file_of}
-use Rattle.snap_rows.specs.declared.tables.Tables.{Tables}
-use Rattle.snap_trace.specs.declared.fault.TraceFault.{TraceFault}
 use Rattle.snap_trace.specs.declared.fault.TraceFault.TheVariants as run
-use Rattle.snap_trace.specs.OneSwitch.{RunEnding}
-use Rattle.snap_trace.specs.Spelled.{refused}
-use Rattle.snap_runs.specs.Plain.{spelled_for}
 use Rattle.snap_order.specs.Rounds.{WritesRounds}
-use Rattle.snap_words.specs.Commands.{Command, rounds, trace}
-use Rattle.snap_cli.specs.declared.refusal.Refusal.TheVariants.{Limit, Packets, VersionOne}
-use Rattle.snap_cli.specs.Deserved.{Ends, IsText, MayPrecede, MayPrecedeRead, Meets}
-use Rattle.snap_cli.specs.Obs.{IsRunEnding}
-use Rattle.snap_cli.specs.Refusals.{Ending}
-use Rattle.snap_cli.specs.Rounds.{RoundsTo}
 use Rattle.snap_cli.specs.RoundsSteps.{MeetsByRounds}
-use Rattle.snap_cli.specs.RunSteps.{ending_of_run}
-use Rattle.snap_cli.specs.TablesOf.{TablesOf}
+use Rattle.snap_cli.proofs.Shared.{Appends, Bor, Command, Ending, ending_of_run, Ends, file_of, Files, IsRunEnding, IsText, Limit, MayPrecede, MayPrecedeRead, Meets, Packets, refused, rounds, RoundsTo, RunEnding, spelled_for, Tables, TablesOf, trace, TraceFault, VersionOne}
 use Rattle.snap_cli.proofs.ScheduleLemmas.{none_of, nothing_out}
 
 module _ (files : Files) (name : List ℕ) (packets : Bor (List ℕ)) (hops : Bool) (workers : ℕ) (t : Tables) (spelled : TablesOf (file_of files name) (Ok t)) (old new : Option (List ℕ)) where

@@ -1,11 +1,8 @@
 -- A run by rounds ends in one way, with one text.
 use Rattle.std.proofs.Common.{Bool, sym, ◌∙◌, List, ℕ}
-use Rattle.snap_io.specs.Files.{Files, file_of}
-use Rattle.snap_rows.specs.declared.tables.Tables.{Tables}
-use Rattle.snap_rows.specs.Form.{IsInForm}
-use Rattle.snap_runs.specs.Plain.{spelled_for}
 use Rattle.snap_order.specs.OneRounds.{RoundReportsAreOne}
-use Rattle.snap_cli.specs.Rounds.{RoundsTo, RunsByRoundsTo}
+use Rattle.snap_cli.specs.Rounds.{RunsByRoundsTo}
+use Rattle.snap_cli.proofs.Shared.{file_of, Files, IsInForm, RoundsTo, spelled_for, Tables}
 use Rattle.snap_cli.proofs.InTurnOnce.{by_version_once}
 use Rattle.snap_cli.proofs.ObsOnce.{AreOne}
 use Rattle.snap_cli.proofs.Pipeline.{cases_once}

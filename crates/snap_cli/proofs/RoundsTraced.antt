@@ -1,23 +1,13 @@
 -- A run by rounds that ended with status 0 has a report, which is that of the plain run, for every number of workers.
 use Rattle.std.proofs.Common.{◌≡◌, ℕ, Bool, false, List, [], Some, Ok, sym, ◌∙◌, ap, subst, inl, inr}
-use Rattle.snap_core.specs.Listing.{HasOneListing}
-use Rattle.snap_io.specs.Files.{Files, file_of}
-use Rattle.snap_rows.specs.declared.tables.Tables.{Tables}
-use Rattle.snap_trace.specs.Spelled.{ended, spelled}
-use Rattle.snap_runs.specs.Laws.{SpelledForIsSpelled, SpelledPacketsFit}
-use Rattle.snap_runs.specs.Plain.{spelled_for}
 use Rattle.snap_runs.specs.Plain as plain_run
 use Rattle.snap_order.specs.OneSwitch.{RunsByRoundsReportOneSwitch}
 use Rattle.snap_order.specs.Rounds.{HasRoundReport, IsRoundReport}
 use Rattle.snap_whole.specs.Laws.{PlainRunsReportOneSwitch}
-use Rattle.snap_whole.specs.OneSwitch.{ports_of}
-use Rattle.snap_words.specs.Commands.{rounds, trace}
-use Rattle.snap_cli.specs.declared.refusal.Refusal.TheVariants.{VersionOne}
-use Rattle.snap_cli.specs.Headline.{Did, RoundsTraceAlike, RoundsTraceAsPlain}
-use Rattle.snap_cli.specs.Laws.{AnswersExactly, CompilesExactly, RoundsExactly, TracesExactly}
-use Rattle.snap_cli.specs.Refusals.{Ending, status_of}
-use Rattle.snap_cli.specs.Rounds.{RoundsTo, RunsByRoundsTo}
-use Rattle.snap_cli.specs.TablesOf.{TablesOf}
+use Rattle.snap_cli.specs.Headline.{RoundsTraceAlike, RoundsTraceAsPlain}
+use Rattle.snap_cli.specs.Laws.{RoundsExactly}
+use Rattle.snap_cli.specs.Rounds.{RunsByRoundsTo}
+use Rattle.snap_cli.proofs.Shared.{AnswersExactly, CompilesExactly, Did, ended, Ending, file_of, Files, HasOneListing, ports_of, rounds, RoundsTo, spelled, spelled_for, SpelledForIsSpelled, SpelledPacketsFit, status_of, Tables, TablesOf, trace, TracesExactly, VersionOne}
 use Rattle.snap_cli.proofs.InTurnTraced.{switch_report_once}
 use Rattle.snap_cli.proofs.TraceOnce.{same_text}
 use Rattle.snap_cli.proofs.Traced.{no_failure, plain_ran, refused_apart, run_apart, told}

@@ -1,20 +1,13 @@
 -- What `routes` did, from what its steps did.
 use Rattle.std.proofs.Common.{ℕ, List, [], Option, Ok, Err, refl, sym, subst, inl, inr}
-use Rattle.std.proofs.KnownBytes.{Appends-nil}
-use Rattle.snap_io.specs.Files.{Files, file_of}
-use Rattle.snap_topo.specs.declared.topology.Topology.{Topology}
 use Rattle.snap_route.specs.declared.table.RouteFault.{RouteFault}
 use Rattle.snap_route.specs.declared.table.RouteFault.TheVariants as route
 use Rattle.snap_route.specs.Faults.{IsCause}
-use Rattle.snap_route.specs.Tables.{Table, AreRoutes, IsUnreachable}
 use Rattle.snap_words.specs.Commands.{routes}
-use Rattle.snap_cli.specs.declared.refusal.Refusal.{Refusal}
-use Rattle.snap_cli.specs.declared.refusal.Refusal.TheVariants.{Read, ReadChange, Write, Unreachable, NoMemory}
-use Rattle.snap_cli.specs.Deserved.{Meets}
-use Rattle.snap_cli.specs.Refusals.{Ending}
-use Rattle.snap_cli.specs.Routes.{HasNoRoutes, IsTextOf, routes_text}
+use Rattle.snap_cli.specs.declared.refusal.Refusal.TheVariants.{Unreachable}
+use Rattle.snap_cli.specs.Routes.{HasNoRoutes, IsTextOf}
 use Rattle.snap_cli.specs.RoutesSteps.{GivesTopology, IsApart, MeetsTopology, Writes, refusal_of_routes}
-use Rattle.snap_cli.specs.TopologyOf.{TopologyOf}
+use Rattle.snap_cli.proofs.Shared.{Appends-nil, AreRoutes, Ending, file_of, Files, IsUnreachable, Meets, NoMemory, Read, ReadChange, Refusal, routes_text, Table, Topology, TopologyOf, Write}
 
 module _ (files : Files) (name : List ℕ) (out : Option (List ℕ)) where
   pub meets-refused : (e : Refusal) → GivesTopology name (file_of files name) (Err e) → Meets files (routes name) (Err e) out out

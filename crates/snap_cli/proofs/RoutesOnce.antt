@@ -1,11 +1,8 @@
 -- A file has one topology with routes and one text of these, or one reason why it has none.
 use Rattle.std.proofs.Common.{◌≡◌, ◌⊎◌, ℕ, List, Result, Ok, Err, refl, sym, ◌∙◌, ap, inl, inr}
-use Rattle.snap_topo.specs.declared.topology.Topology.{Topology}
-use Rattle.snap_route.specs.Tables.{AreRoutes, IsUnreachable, Table}
-use Rattle.snap_cli.specs.declared.refusal.Refusal.{Refusal}
 use Rattle.snap_cli.specs.declared.refusal.Refusal.TheVariants.{Unreachable}
-use Rattle.snap_cli.specs.Routes.{HasNoRoutes, IsTextOf, routes_text}
-use Rattle.snap_cli.specs.TopologyOf.{TopologyOf}
+use Rattle.snap_cli.specs.Routes.{HasNoRoutes, IsTextOf}
+use Rattle.snap_cli.proofs.Shared.{AreRoutes, IsUnreachable, Refusal, routes_text, Table, Topology, TopologyOf}
 use Rattle.snap_cli.proofs.OneTable.{apart_once, none_apart, same_routes}
 use Rattle.snap_cli.proofs.OneTopology.{topology_once}
 use Rattle.snap_cli.proofs.Pipeline.{After, Agree, Alike, IsSameOutcome, alike, cases_once, next_once, refused_alike}

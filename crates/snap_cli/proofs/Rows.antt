@@ -1,10 +1,11 @@
 -- Texts of the numbers below a bound, put one after another.
 use Rattle.std.proofs.Common.{◌≡◌, ◌==◌, ℕ, suc, ◌+◌, ◌⊎◌, inl, inr, true, false, List, [], ◌∷◌, ◌++◌, refl, ◌∙◌, append_assoc, append-nil, arith}
-use Rattle.std.specs.List.{filter, flat_map, range_with_len}
+use Rattle.std.specs.List.{filter, range_with_len}
 use Rattle.std.proofs.lemmas.Bool.Decides.{eqb_tells}
 use Rattle.std.proofs.lemmas.List.Concat.{flat_map-append}
 use Rattle.std.proofs.lemmas.List.Elements.{filter-append}
 use Rattle.snap_gen.proofs.LoneRuns.{range_more as range_from}
+use Rattle.snap_cli.proofs.Shared.{flat_map}
 
 range_more : (n : ℕ) → range_with_len 0 (n + 1) ≡ range_with_len 0 n ++ n ∷ []
 range_more n = let e : n + 1 ≡ suc n = omega arith in let same : 0 + n ≡ n = omega arith in rw e (range_from 0 n ∙ rw same refl)

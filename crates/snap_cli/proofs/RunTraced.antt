@@ -1,34 +1,25 @@
 -- What is compiled and then traced is what one big switch does, in each order of events, with hops or without.
 use Rattle.std.proofs.Common.{◌≡◌, ◌⊎◌, ℕ, Bool, false, List, [], length, Option, Some, None, Ok, refl, sym, subst, ◌∙◌, inl, inr}
-use Rattle.std.specs.Prelude.{option_map}
-use Rattle.std.specs.List.{All}
-use Rattle.snap_core.specs.declared.program.Program.{Program}
-use Rattle.snap_io.specs.Files.{Files, file_of}
-use Rattle.snap_topo.specs.declared.topology.Topology.{Topology}
-use Rattle.snap_rows.specs.declared.tables.Tables.{Tables}
 use Rattle.snap_rows.specs.Happenings.{commits}
 use Rattle.snap_rows.specs.Lone.{IsLone}
 use Rattle.snap_rows.specs.Network.{Happening}
 use Rattle.snap_gen.specs.Agreement.{numbered}
-use Rattle.snap_gen.specs.Faithful.{Faithful, IsPacketOf, most_hops}
-use Rattle.snap_trace.specs.Spelled.{ended, spelled}
-use Rattle.snap_runs.specs.Laws.{CalmSchedulesRunCalmly, RunsReportWithoutHops, SchedulesKeepOrder, SpelledForIsSpelled, SpelledPacketsFit}
-use Rattle.snap_runs.specs.Plain.{IsPlainReport}
+use Rattle.snap_gen.specs.Faithful.{most_hops}
+use Rattle.snap_runs.specs.Laws.{CalmSchedulesRunCalmly, RunsReportWithoutHops, SchedulesKeepOrder}
 use Rattle.snap_runs.specs.Reports.{IsRunReportBy}
-use Rattle.snap_runs.specs.Schedules.{IsCalm, IsScheduleReport, lines_of}
+use Rattle.snap_runs.specs.Schedules.{IsCalm, IsScheduleReport}
 use Rattle.snap_whole.specs.InOrder.{IsSwitchReportIn, LoneRunsReportInOrder, TheReportIsInTurn}
 use Rattle.snap_whole.specs.Laws.{CalmRunsReportOneSwitch, IsHopWithin, PlainRunsAreShort, PlainRunsReportOneSwitch, RunsAreShort}
-use Rattle.snap_whole.specs.OneSwitch.{IsSwitchReport, ports_of}
+use Rattle.snap_whole.specs.OneSwitch.{IsSwitchReport}
 use Rattle.snap_order.specs.OneRounds.{RoundsRunToEnds}
 use Rattle.snap_order.specs.OneSwitch.{PlainRunsInTurnReportOneSwitch, RunsByRoundsReportOneSwitch, SchedulesInTurnReportOneSwitch}
 use Rattle.snap_order.specs.Ordered.{happenings}
 use Rattle.snap_order.specs.Rounds.{IsRoundReport}
 use Rattle.snap_order.specs.ShortTurns.{PlainRunsInTurnAreShort, RunsInTurnAreShort}
-use Rattle.snap_words.specs.Commands.{Order, in_turn, plain, rounds, schedule}
 use Rattle.snap_cli.specs.Compile.{version_of}
 use Rattle.snap_cli.specs.Headline.{MakesFewHops, RunInOrder, TakeEffectIn, TellsInOrder, TracesInOrder, frames_of}
-use Rattle.snap_cli.specs.Laws.{AnswersExactly, CompilesExactly, RoundsExactly, SchedulesExactly, TracesExactly, TurnsExactly}
-use Rattle.snap_cli.specs.TablesOf.{TablesOf}
+use Rattle.snap_cli.specs.Laws.{RoundsExactly, SchedulesExactly, TurnsExactly}
+use Rattle.snap_cli.proofs.Shared.{All, AnswersExactly, CompilesExactly, ended, Faithful, file_of, Files, in_turn, IsPacketOf, IsPlainReport, lines_of, option_map, Order, plain, ports_of, Program, rounds, schedule, spelled, SpelledForIsSpelled, SpelledPacketsFit, Tables, TablesOf, Topology, TracesExactly}
 use Rattle.snap_cli.proofs.InTurnTraced.{IsTurnsReport, in_turn_ran}
 use Rattle.snap_cli.proofs.RoundsTraced.{rounds_ran}
 use Rattle.snap_cli.proofs.ScheduleTraced.{scheduled}

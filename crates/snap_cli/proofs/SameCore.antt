@@ -1,21 +1,19 @@
 -- A program does what its core program says, wherever its parts lie in memory.
 use Rattle.std.proofs.Common.{◌≡◌, ◌+◌, ℕ, Bool, true, false, List, [], ◌∷◌, map, take, Option, Some, None, refl, sym, ◌∙◌, ap, subst, inl, inr}
-use Rattle.std.specs.Prelude.{if◌then◌else◌, not, ◌&&◌, ◌||◌, ◌==◌, ◌^◌, option_and_then, option_map, bit_or, slice_index, slice_set}
-use Rattle.snap_core.specs.declared.policy.Pol.{Pol}
+use Rattle.std.specs.Prelude.{if◌then◌else◌, not, ◌&&◌, ◌||◌, ◌==◌, ◌^◌, option_and_then, bit_or, slice_set}
 use Rattle.snap_core.specs.declared.policy.Pol.TheVariants.{Filter, Set, Change, Par', Seq', If', Atomic'}
 use Rattle.snap_core.specs.declared.policy.Pred.{Pred}
 use Rattle.snap_core.specs.declared.policy.Pred.TheVariants.{Not', And', Or'}
 use Rattle.snap_core.specs.declared.program.Field.{Field as FieldData}
-use Rattle.snap_core.specs.declared.program.Program.{Program}
-use Rattle.snap_core.specs.Arrays.{Arrays, zero_arrays, update, place_at, value_of}
+use Rattle.snap_core.specs.Arrays.{update, place_at, value_of}
 use Rattle.snap_core.specs.Packets.{no_packets, with_packet, listed}
 use Rattle.snap_core.specs.Switch.{one_big_switch}
 use Rattle.snap_core.specs.Meaning.{Meaning, eval, truth, vars_of, all_together, logged}
 use Rattle.snap_names.specs.Core.{CoreTest, id_test, drop_test, field_test, state_test, not_test, and_test, or_test, CorePolicy, filter, set, change, par, seq, choice, atomic, core_test, core_policy}
-use Rattle.snap_names.specs.Declarations.{CoreProgram, core_program}
-use Rattle.snap_trace.specs.OneSwitch.{EndsAsRead, IsReport, made_text, RunEnding}
-use Rattle.snap_trace.specs.Spelled.{spelled}
+use Rattle.snap_names.specs.Declarations.{CoreProgram}
+use Rattle.snap_trace.specs.OneSwitch.{EndsAsRead, IsReport, made_text}
 use Rattle.snap_core.proofs.Switching.{in_front}
+use Rattle.snap_cli.proofs.Shared.{Arrays, core_program, option_map, Pol, Program, RunEnding, slice_index, spelled, zero_arrays}
 
 -- evaluation of the core language
 abbrev core_truth : CoreTest → Arrays → List ℕ → Bool

@@ -2,17 +2,16 @@
 use Rattle.std.proofs.Common.{◌≡◌, ◌⊎◌, ℕ, List, ◌∷◌, [], length, refl, sym, ◌∙◌, ap, subst, inl, inr}
 use Rattle.std.proofs.Math.Path.{transport}
 use Rattle.std.specs.Prelude.{codes}
-use Rattle.std.specs.List.{concat, flat_map}
-use Rattle.snap_core.specs.declared.policy.Pol.{Pol}
+use Rattle.std.specs.List.{concat}
 use Rattle.snap_core.specs.declared.policy.Pol.TheVariants.{Filter, Set, Change, Par', Seq', If', Atomic'}
 use Rattle.snap_core.specs.declared.policy.Pred.{Pred}
 use Rattle.snap_core.specs.declared.policy.Pred.TheVariants.{Not', And', Or'}
-use Rattle.snap_core.specs.declared.program.Program.{Program}
 use Rattle.snap_dep.specs.Dependencies.{Depends, Reaches, Reads, Tests, Tied, Writes, one, more}
-use Rattle.snap_dep.specs.Ranks.{Grouping, IsGroup, IsGrouping, IsNext, IsRank, IsRankIn, IsReady, Precedes, rank_of}
+use Rattle.snap_dep.specs.Ranks.{IsGroup, IsNext, IsRank, IsRankIn, IsReady, Precedes, rank_of}
 use Rattle.snap_names.specs.Core.{CoreTest, state_test, not_test, and_test, or_test, CorePolicy, filter, set, change, par, seq, choice, atomic, core_test, core_policy}
-use Rattle.snap_names.specs.Declarations.{CoreProgram, core_program}
+use Rattle.snap_names.specs.Declarations.{CoreProgram}
 use Rattle.snap_cli.specs.Deps.{IsTextOf, dep_line, groups_text}
+use Rattle.snap_cli.proofs.Shared.{core_program, flat_map, Grouping, IsGrouping, Pol, Program}
 
 -- which arrays stand where in the core language
 abbrev core_tests : CoreTest → ℕ → Type 0

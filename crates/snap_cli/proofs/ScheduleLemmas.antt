@@ -1,29 +1,17 @@
 -- What a command did whose run is ordered by a schedule, from what the run wrote.
 use Rattle.std.proofs.Common.{◌≡◌, ℕ, List, [], Option, Result, Ok, Err, refl, sym, subst, inl, inr}
-use Rattle.std.specs.Borrow.{Bor}
 use Rattle.std.specs.Prelude.{IsErrOf}
-use Rattle.std.specs.Io.KnownBytes.{Appends}
-use Rattle.std.proofs.KnownBytes.{Appends-nil}
 use Rattle.snap_core.specs.declared.program.Which.TheVariants.{Bytes}
 use Rattle.snap_io.specs.Causes.{Rose}
-use Rattle.snap_io.specs.Files.{Files, file_of}
 use Rattle.snap_io.specs.Sinks.{AppendsSome}
-use Rattle.snap_rows.specs.declared.tables.Tables.{Tables}
-use Rattle.snap_trace.specs.declared.fault.TraceFault.{TraceFault}
 use Rattle.snap_trace.specs.declared.fault.TraceFault.TheVariants as run
-use Rattle.snap_trace.specs.Spelled.{refused}
-use Rattle.snap_runs.specs.Plain.{spelled_for}
 use Rattle.snap_runs.specs.Schedules.{WritesScheduleBy}
-use Rattle.snap_runs.specs.declared.schedule.ScheduleFault.{ScheduleFault}
 use Rattle.snap_runs.specs.declared.schedule.ScheduleFault.TheVariants as order
-use Rattle.snap_words.specs.Commands.{Command}
 use Rattle.snap_cli.specs.Causes.{HasCauses}
-use Rattle.snap_cli.specs.declared.refusal.Refusal.TheVariants.{Limit, NoMemory, Packets, Read, Schedule, Write}
-use Rattle.snap_cli.specs.Deserved.{Ends, IsText, MayPrecede, MayPrecedeRead, Meets}
-use Rattle.snap_cli.specs.Obs.{IsRunEnding}
-use Rattle.snap_cli.specs.Refusals.{Ending}
+use Rattle.snap_cli.specs.declared.refusal.Refusal.TheVariants.{Schedule}
 use Rattle.snap_cli.specs.RunSteps.{ending_of_schedule, refusal_of_schedule}
-use Rattle.snap_cli.specs.Schedule.{EndsBySchedule, IsOfSchedule}
+use Rattle.snap_cli.specs.Schedule.{IsOfSchedule}
+use Rattle.snap_cli.proofs.Shared.{Appends, Appends-nil, Bor, Command, Ending, Ends, EndsBySchedule, file_of, Files, IsRunEnding, IsText, Limit, MayPrecede, MayPrecedeRead, Meets, NoMemory, Packets, Read, refused, ScheduleFault, spelled_for, Tables, TraceFault, Write}
 
 -- ---- nothing went out
 pub nothing_out : (old new : Option (List ℕ)) → new ≡ old → Appends old new []

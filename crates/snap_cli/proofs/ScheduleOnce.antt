@@ -1,16 +1,10 @@
 -- A schedule's run over a packets file ends in one way, with one text.
 use Rattle.std.proofs.Common.{◌≡◌, ◌⊎◌, ℕ, Bool, List, Err, sym, ◌∙◌, ap, subst, inl, inr, arith}
-use Rattle.snap_rows.specs.declared.tables.Tables.{Tables}
-use Rattle.snap_rows.specs.Form.{IsInForm}
-use Rattle.snap_trace.specs.declared.fault.TraceFault.{TraceFault}
-use Rattle.snap_trace.specs.Spelled.{ended, refused}
 use Rattle.snap_runs.specs.Laws.{RefusedLinesAreOne, ReportedOrRefused, ScheduleReportsAreOne}
-use Rattle.snap_runs.specs.Plain.{spelled_for}
-use Rattle.snap_runs.specs.Schedules.{AreBothRead, HasScheduleReport, IsReadWhole, RefusesScheduleLine, lines_of}
+use Rattle.snap_runs.specs.Schedules.{AreBothRead, IsReadWhole}
 use Rattle.snap_cli.specs.declared.refusal.Refusal.TheVariants.{Schedule}
-use Rattle.snap_cli.specs.Obs.{IsRunEnding}
-use Rattle.snap_cli.specs.Refusals.{Ending}
-use Rattle.snap_cli.specs.Schedule.{EndsBySchedule, SchedulesTo, StopsAtLength, StopsAtLine, StopsAtPackets}
+use Rattle.snap_cli.specs.Schedule.{SchedulesTo, StopsAtLength, StopsAtLine, StopsAtPackets}
+use Rattle.snap_cli.proofs.Shared.{ended, Ending, EndsBySchedule, HasScheduleReport, IsInForm, IsRunEnding, lines_of, refused, RefusesScheduleLine, spelled_for, Tables, TraceFault}
 use Rattle.snap_cli.proofs.ObsOnce.{AreOne, run_ends_once}
 use Rattle.snap_cli.proofs.Pipeline.{cases_once}
 

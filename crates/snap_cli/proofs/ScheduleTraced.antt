@@ -1,18 +1,10 @@
 -- A schedule's run that ended with status 0 has a report.
 use Rattle.std.proofs.Common.{◌≡◌, ℕ, Bool, List, [], Some, Ok, sym, ◌∙◌, ap, subst, inl, inr}
-use Rattle.snap_io.specs.Files.{Files, file_of}
-use Rattle.snap_rows.specs.declared.tables.Tables.{Tables}
-use Rattle.snap_trace.specs.Spelled.{ended}
-use Rattle.snap_runs.specs.Plain.{spelled_for}
-use Rattle.snap_runs.specs.Schedules.{HasScheduleReport, IsScheduleReport, RefusesScheduleLine, lines_of}
-use Rattle.snap_words.specs.Commands.{schedule, trace}
-use Rattle.snap_cli.specs.declared.refusal.Refusal.TheVariants.{Limit, Schedule}
+use Rattle.snap_runs.specs.Schedules.{IsScheduleReport}
+use Rattle.snap_cli.specs.declared.refusal.Refusal.TheVariants.{Schedule}
 use Rattle.snap_core.specs.declared.program.Which.TheVariants.{Bytes}
-use Rattle.snap_cli.specs.Headline.{Did}
 use Rattle.snap_cli.specs.Laws.{SchedulesExactly}
-use Rattle.snap_cli.specs.Refusals.{Ending, status_of}
-use Rattle.snap_cli.specs.Schedule.{EndsBySchedule}
-use Rattle.snap_cli.specs.TablesOf.{TablesOf}
+use Rattle.snap_cli.proofs.Shared.{Did, ended, Ending, EndsBySchedule, file_of, Files, HasScheduleReport, Limit, lines_of, RefusesScheduleLine, schedule, spelled_for, status_of, Tables, TablesOf, trace}
 use Rattle.snap_cli.proofs.Traced.{no_failure, refused_apart, run_apart}
 
 pub reported_by : (t : Tables) (file lines : List ℕ) (Reports : List ℕ → Type 0) (Refuses : ℕ → Type 0) (ending : Ending) (text : List ℕ) → EndsBySchedule t file lines Reports Refuses ending text → 0 ≡ status_of ending → Reports text

@@ -1,17 +1,13 @@
 -- A file is read as a program, and as a topology, exactly where it spells them.
 use Rattle.std.proofs.Common.{◌≡◌, ℕ, List, Result, Ok, Err, ◌⊎◌, inl, inr}
-use Rattle.snap_core.specs.declared.program.Program.{Program}
 use Rattle.snap_core.specs.Programs.{IsBounded}
 use Rattle.snap_names.specs.Spells.{SpellsProgram}
 use Rattle.snap_names.proofs.InForm.{IsBounded-resolved}
 use Rattle.snap_names.proofs.SpelledPrograms.{SpellsProgram-read, read-SpellsProgram}
-use Rattle.snap_topo.specs.declared.topology.Topology.{Topology}
 use Rattle.snap_topo.specs.Spells.{SpellsTopology}
 use Rattle.snap_topo.proofs.AnsweredTopology.{answer-SpellsTopology}
 use Rattle.snap_topo.proofs.SpelledTopology.{SpellsTopology-answer}
-use Rattle.snap_cli.specs.declared.refusal.Refusal.{Refusal}
-use Rattle.snap_cli.specs.ProgramOf.{ProgramOf}
-use Rattle.snap_cli.specs.TopologyOf.{TopologyOf}
+use Rattle.snap_cli.proofs.Shared.{Program, ProgramOf, Refusal, Topology, TopologyOf}
 
 pub SpellsProgram-ProgramOf : (text : List ℕ) (p : Program) → ProgramOf text (Ok p) → SpellsProgram text p
 SpellsProgram-ProgramOf text p h = SpellsProgram-read text p (h.0, h.1)

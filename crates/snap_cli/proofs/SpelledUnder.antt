@@ -1,24 +1,16 @@
 -- The packets that a file spells are packets of the fields; and tables that change take them all where reading comes to the end.
 use Rattle.std.proofs.Common.{◌≡◌, ℕ, zero, suc, ◌+◌, true, false, cond, eqb, List, [], ◌∷◌, map, Some, refl, sym, ◌∙◌, subst, arith, is_some}
-use Rattle.std.specs.Prelude.{slice_get, slice_index}
-use Rattle.std.specs.List.{All}
 use Rattle.std.proofs.lemmas.Bool.{eq-eqb}
-use Rattle.std.proofs.lemmas.List.Elements.{All-cons, All-head, All-nil, All-tail, All-weaker}
+use Rattle.std.proofs.lemmas.List.Elements.{All-weaker}
 use Rattle.snap_core.specs.declared.ports.PortAt.{PortAt}
-use Rattle.snap_core.specs.Fields.{count}
-use Rattle.snap_core.specs.Inputs.{IsPacket}
 use Rattle.snap_io.specs.Lines.{Next, next_line, next_in}
-use Rattle.snap_rows.specs.declared.tables.Tables.{Tables}
 use Rattle.snap_core.specs.Ports.{port_in}
 use Rattle.snap_rows.specs.Entries.{port_at}
 use Rattle.snap_trace.specs.PacketLines.{Said, skip, inject, bad, said_by}
-use Rattle.snap_trace.specs.Spelled.{Spelled, counted, ended, spelled, spelled_behind, spelled_from, text_of, with_next, with_said}
-use Rattle.snap_runs.specs.Laws.{SpelledPacketsFit}
+use Rattle.snap_trace.specs.Spelled.{counted, spelled_behind, spelled_from, text_of, with_next, with_said}
 use Rattle.snap_runs.specs.Plain.{at_ports}
 use Rattle.snap_runs.proofs.SpelledPackets.{said_same, at_them}
-use Rattle.snap_move.specs.declared.later.Later.{Later}
-use Rattle.snap_move.specs.Changing.{in_force}
-use Rattle.snap_move.specs.Files.{spelled_under}
+use Rattle.snap_cli.proofs.Shared.{All, All-cons, All-head, All-nil, All-tail, count, ended, in_force, IsPacket, Later, slice_get, slice_index, Spelled, spelled, spelled_under, SpelledPacketsFit, Tables}
 
 -- ---- tables with a port for each packet
 -- the packet comes in at a port of these

@@ -1,11 +1,8 @@
 -- The statuses of refusals and of endings.
 use Rattle.std.proofs.Common.{◌≡◌, ◌⊎◌, ◌||◌, ◌==◌, ℕ, Bool, true, false, List, [], ◌∷◌, Option, Some, None, Result, Ok, Err, IfErr, IfSome, IsErrOf, inl, inr, refl, sym, subst}
 use Rattle.std.proofs.lemmas.Bool.{and_parts, eqb-true}
-use Rattle.std.specs.Borrow.{Bor}
 use Rattle.std.specs.Global.{Vec}
 use Rattle.std.specs.List.{list_all, list_any}
-use Rattle.snap_core.specs.declared.program.Program.{Program}
-use Rattle.snap_move.specs.declared.change.Change.{Change}
 use Rattle.snap_move.specs.declared.change.ChangesFault.{ChangesFault}
 use Rattle.snap_move.specs.declared.change.ChangesFault.TheVariants as change
 use Rattle.snap_move.specs.Lines.{changes_of}
@@ -13,23 +10,16 @@ use Rattle.snap_place.specs.declared.placement.PlaceFault.{PlaceFault}
 use Rattle.snap_place.specs.declared.placement.PlaceFault.TheVariants as place
 use Rattle.snap_route.specs.declared.table.RouteFault.{RouteFault}
 use Rattle.snap_route.specs.declared.table.RouteFault.TheVariants as route
-use Rattle.snap_route.specs.Tables.{Table}
 use Rattle.snap_rows.specs.declared.tables.Tables.{Tables as Made}
-use Rattle.snap_runs.specs.declared.schedule.ScheduleFault.{ScheduleFault}
 use Rattle.snap_runs.specs.declared.schedule.ScheduleFault.TheVariants as lined
 use Rattle.snap_seek.specs.declared.demand.DemandFault.{DemandFault}
 use Rattle.snap_seek.specs.declared.demand.DemandFault.TheVariants as seek
 use Rattle.snap_topo.specs.declared.topology.TopoFault.{TopoFault}
 use Rattle.snap_topo.specs.declared.topology.TopoFault.TheVariants as topo
-use Rattle.snap_topo.specs.declared.topology.Topology.{Topology}
-use Rattle.snap_trace.specs.declared.fault.TraceFault.{TraceFault}
 use Rattle.snap_trace.specs.declared.fault.TraceFault.TheVariants as run
-use Rattle.snap_words.specs.Commands.{Command, plain, schedule}
-use Rattle.snap_cli.specs.declared.refusal.Refusal.{Refusal}
-use Rattle.snap_cli.specs.declared.refusal.Refusal.TheVariants.{Read, ReadChange, Race, NoMemory}
 use Rattle.snap_cli.specs.Changes.{said_changes}
 use Rattle.snap_cli.specs.ChangesSteps.{ReadsChanges}
-use Rattle.snap_cli.specs.Check.{EndsJudged, MeetsCheck}
+use Rattle.snap_cli.specs.Check.{MeetsCheck}
 use Rattle.snap_cli.specs.CompileSteps.{Compiles}
 use Rattle.snap_cli.specs.Demo.{MeetsSummary}
 use Rattle.snap_cli.specs.Deps.{MeetsText}
@@ -37,13 +27,12 @@ use Rattle.snap_cli.specs.Equal.{MeetsEqual}
 use Rattle.snap_cli.specs.Place.{refusal_of_demand}
 use Rattle.snap_cli.specs.PlaceSteps.{Places}
 use Rattle.snap_cli.specs.PlacementOf.{SpellsPlacement, refusal_of_placement}
-use Rattle.snap_cli.specs.Refusals.{Ending, status_of}
-use Rattle.snap_cli.specs.Routes.{routes_text}
 use Rattle.snap_cli.specs.RoutesSteps.{MeetsTopology, Writes, refusal_of_routes, refusal_of_topology}
 use Rattle.snap_cli.specs.RunSteps.{refusal_of_schedule}
 use Rattle.snap_cli.specs.Statuses.{CanAnswer, EndsWith, IsOneOf, RefusesWith, statuses_of_trace}
 use Rattle.snap_cli.specs.Steps.{SpellsProgram, refusal_of_run}
 use Rattle.snap_cli.specs.TraceSteps.{ReadsTables}
+use Rattle.snap_cli.proofs.Shared.{Bor, Change, Command, Ending, EndsJudged, NoMemory, plain, Program, Race, Read, ReadChange, Refusal, routes_text, schedule, ScheduleFault, status_of, Table, Topology, TraceFault}
 
 -- ---- lists
 -- all of these are among those

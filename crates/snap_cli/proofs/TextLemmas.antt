@@ -1,15 +1,13 @@
 -- A program has but one text.
 use Rattle.std.proofs.Common.{◌≡◌, ℕ, ◌<◌, ◌≤◌, ◌⊎◌, inl, inr, List, [], length, take, sym, subst, ap₂, ◌∙◌, arith}
-use Rattle.std.specs.Prelude.{slice_index}
 use Rattle.std.proofs.lemmas.Bool.{cases_eq, cases_lt}
 use Rattle.std.proofs.lemmas.Grind.{same_number_lists}
-use Rattle.snap_core.specs.declared.policy.Pol.{Pol}
-use Rattle.snap_core.specs.Fields.{count}
 use Rattle.snap_dep.specs.Dependencies.{Depends, Tied, TiedIsEquivalence, UsesBelow}
-use Rattle.snap_dep.specs.Ranks.{Grouping, HasOneRank, IsGrouping, IsNext, IsRank, IsRankIn, rank_of}
+use Rattle.snap_dep.specs.Ranks.{HasOneRank, IsNext, IsRank, IsRankIn, rank_of}
 use Rattle.snap_dep.specs.Relations.{IsBefore, Lists}
 use Rattle.snap_dep.proofs.Below.{UsesBelow-fits}
 use Rattle.snap_cli.specs.Deps.{HasOneText, groups_text}
+use Rattle.snap_cli.proofs.Shared.{count, Grouping, IsGrouping, Pol, slice_index}
 use Rattle.snap_cli.proofs.Rising.{same_rising}
 
 one_way : (a b : ℕ × ℕ) → IsBefore a b → IsBefore b a → ⊥

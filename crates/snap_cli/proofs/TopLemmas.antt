@@ -2,21 +2,17 @@
 use Rattle.std.proofs.Common.{◌≡◌, ◌⊎◌, ℕ, List, [], length, Result, Ok, Err, None, Some, IfSome, OnOk, OnErr, refl, sym, subst, inl, inr, arith}
 use Rattle.std.specs.Prelude.{MatchOption}
 use Rattle.std.specs.declared.option.Option.{Option}
-use Rattle.std.specs.Io.KnownBytes.{Appends}
-use Rattle.std.proofs.KnownBytes.{Appends-nil}
 use Rattle.std.proofs.lemmas.List.{take_all}
 use Rattle.snap_io.specs.Causes.{HasCause}
 use Rattle.snap_io.specs.Sinks.{AppendsPart}
-use Rattle.snap_cli.specs.declared.refusal.Refusal.{Refusal}
-use Rattle.snap_io.specs.Files.{Files}
-use Rattle.snap_words.specs.Commands.{Command, command_of, obs, routes, compile, trace, demo, in_turn}
+use Rattle.snap_words.specs.Commands.{command_of, obs, routes, demo}
 use Rattle.snap_cli.specs.Answers.{MeetsWords}
-use Rattle.snap_cli.specs.declared.refusal.Refusal.TheVariants.{Read, ReadChange, Usage, NoMemory}
+use Rattle.snap_cli.specs.declared.refusal.Refusal.TheVariants.{Usage}
 use Rattle.snap_cli.specs.Causes.{HasCauses, IsReadOf}
-use Rattle.snap_cli.specs.Deserved.{MayPrecede, Meets, Tells}
-use Rattle.snap_cli.specs.Refusals.{Ending, status_of}
+use Rattle.snap_cli.specs.Deserved.{Tells}
 use Rattle.snap_io.specs.Causes.{Rose}
 use Rattle.snap_cli.specs.Statuses.{CanAnswer}
+use Rattle.snap_cli.proofs.Shared.{Appends, Appends-nil, Command, compile, Ending, Files, in_turn, MayPrecede, Meets, NoMemory, Read, ReadChange, Refusal, status_of, trace}
 
 pub tells : {E : Type 0} (before now : ℕ) (old new : Option (List ℕ)) (message : List ℕ) (r : Result (Unit {0}) E)
     → OnOk r (Appends old new message) → OnErr r (AppendsPart old new message) → HasCause before now r → Tells before now old new message

@@ -1,31 +1,19 @@
 -- What `trace` did, from what its steps did.
 use Rattle.std.proofs.Common.{◌≡◌, ◌≤◌, ℕ, Bool, List, [], Option, Result, Ok, Err, length, refl, sym, ap, subst, inl, inr}
-use Rattle.std.specs.Borrow.{Bor}
-use Rattle.std.specs.Io.KnownBytes.{Appends}
-use Rattle.snap_io.specs.Files.{Files, file_of}
-use Rattle.snap_rows.specs.declared.tables.Tables.{Tables}
-use Rattle.snap_tables.specs.Lines.{IsRead}
 use Rattle.snap_tables.specs.declared.fault.TablesFault.{TablesFault}
 use Rattle.snap_tables.specs.declared.fault.TablesFault.TheVariants as tables
 use Rattle.snap_trace.specs.declared.fault.TraceFault.TheVariants as run
-use Rattle.snap_trace.specs.OneSwitch.{RunEnding}
 use Rattle.snap_runs.specs.Plain.{IsTrace, WritesTrace}
-use Rattle.snap_runs.specs.Schedules.{HasScheduleReport, RefusesScheduleLine, WritesSchedule}
-use Rattle.snap_runs.specs.declared.schedule.ScheduleFault.{ScheduleFault}
+use Rattle.snap_runs.specs.Schedules.{WritesSchedule}
 use Rattle.snap_words.specs.declared.command.Order.{Order as Given}
 use Rattle.snap_words.specs.declared.command.Order.TheVariants as given
-use Rattle.snap_words.specs.Commands.{Command, Order, plain, schedule, trace}
 use Rattle.snap_words.specs.Said.{shown_order}
-use Rattle.snap_cli.specs.declared.refusal.Refusal.{Refusal}
-use Rattle.snap_cli.specs.declared.refusal.Refusal.TheVariants.{Limit, Packets}
-use Rattle.snap_cli.specs.Deserved.{Ends, IsText, MayPrecedeRead, Meets}
-use Rattle.snap_cli.specs.Obs.{IsRunEnding}
-use Rattle.snap_cli.specs.Refusals.{Ending}
-use Rattle.snap_cli.specs.RunSteps.{ending_of_run, ending_of_schedule}
-use Rattle.snap_cli.specs.TablesOf.{SpellsTables, TablesOf}
-use Rattle.snap_cli.specs.Texts.{GivesText, IsTooLong}
+use Rattle.snap_cli.specs.RunSteps.{ending_of_schedule}
+use Rattle.snap_cli.specs.TablesOf.{SpellsTables}
+use Rattle.snap_cli.specs.Texts.{GivesText}
 use Rattle.snap_cli.specs.Trace.{EndsTrace, IsTraceText}
 use Rattle.snap_cli.specs.TraceSteps.{LoadsTables, MeetsOrder, ReadsTables, refusal_of_tables}
+use Rattle.snap_cli.proofs.Shared.{Appends, Bor, Command, Ending, ending_of_run, Ends, file_of, Files, HasScheduleReport, IsRead, IsRunEnding, IsText, IsTooLong, Limit, MayPrecedeRead, Meets, Order, Packets, plain, Refusal, RefusesScheduleLine, RunEnding, schedule, ScheduleFault, Tables, TablesOf, trace}
 use Rattle.snap_cli.proofs.ChangesLemmas.{meets-changes}
 use Rattle.snap_cli.proofs.InTurnLemmas.{meets-in_turn}
 use Rattle.snap_cli.proofs.RoundsLemmas.{meets-by_rounds}

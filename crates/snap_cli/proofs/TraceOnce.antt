@@ -1,22 +1,13 @@
 -- A run of tables ends in one way, with one text.
 use Rattle.std.proofs.Common.{◌≡◌, ◌⊎◌, ℕ, Bool, List, Option, Ok, Err, refl, sym, ◌∙◌, ap, subst, inl, inr}
-use Rattle.std.specs.Io.KnownBytes.{Appends}
-use Rattle.snap_io.specs.Files.{Files, file_of}
-use Rattle.snap_rows.specs.declared.tables.Tables.{Tables}
-use Rattle.snap_rows.specs.Form.{IsInForm}
 use Rattle.snap_tables.specs.Exact.{ReadsOneWay}
-use Rattle.snap_trace.specs.OneSwitch.{RunEnding}
-use Rattle.snap_trace.specs.Spelled.{Spelled, Stop, ended, refused}
 use Rattle.snap_runs.specs.Laws.{PlainBlocksAreOne, PlainReportsAreOne, RefusedLinesAreOne, ReportedOrRefused, ScheduleReportsAreOne}
-use Rattle.snap_runs.specs.Plain.{ArePlainBlocks, EndsAsRead, IsPlainReport, IsTrace, spelled_for}
+use Rattle.snap_runs.specs.Plain.{ArePlainBlocks, EndsAsRead, IsTrace}
 use Rattle.snap_order.specs.OneRounds.{RoundReportsAreOne}
 use Rattle.snap_move.specs.Laws.{ChangedBlocksAreOne, ChangedReportsAreOne}
-use Rattle.snap_words.specs.Commands.{Order, plain, schedule, changes, in_turn, rounds, trace}
-use Rattle.snap_cli.specs.Laws.{IsDue, IsExact, IsFailure, IsSameText, TracesAs}
-use Rattle.snap_cli.specs.Obs.{IsRunEnding}
-use Rattle.snap_cli.specs.Refusals.{Ending, status_of}
-use Rattle.snap_cli.specs.TablesOf.{TablesOf}
+use Rattle.snap_cli.specs.Laws.{IsSameText, TracesAs}
 use Rattle.snap_cli.specs.Trace.{IsRunText, NetworkRunsTo}
+use Rattle.snap_cli.proofs.Shared.{Appends, changes, ended, Ending, file_of, Files, in_turn, IsDue, IsExact, IsFailure, IsInForm, IsPlainReport, IsRunEnding, Order, plain, refused, rounds, RunEnding, schedule, Spelled, spelled_for, status_of, Stop, Tables, TablesOf, trace}
 use Rattle.snap_cli.proofs.ChangesOnce.{changes_once, changes_text_once}
 use Rattle.snap_cli.proofs.InTurnOnce.{TurnsAreOne, in_turn_once, in_turn_text, in_turn_text_once, read_once}
 use Rattle.snap_cli.proofs.ObsOnce.{AreOne, run_once}

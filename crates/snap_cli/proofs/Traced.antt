@@ -1,32 +1,12 @@
 -- What is compiled and then traced is what one big switch does.
 use Rattle.std.proofs.Common.{◌≡◌, ◌⊎◌, ℕ, Bool, List, [], Some, Ok, Err, refl, sym, ◌∙◌, ap, subst, inl, inr, ⊎_elim, arith}
-use Rattle.std.specs.List.{All}
-use Rattle.std.specs.Io.KnownBytes.{Appends}
-use Rattle.snap_core.specs.declared.program.Program.{Program}
-use Rattle.snap_core.specs.Fields.{count}
-use Rattle.snap_core.specs.Inputs.{IsPacket}
-use Rattle.snap_io.specs.Files.{Files, file_of}
-use Rattle.snap_topo.specs.declared.topology.Topology.{Topology}
-use Rattle.snap_rows.specs.declared.tables.Tables.{Tables}
-use Rattle.snap_gen.specs.Faithful.{Faithful, IsPacketOf}
-use Rattle.snap_trace.specs.declared.fault.TraceFault.{TraceFault}
 use Rattle.snap_trace.specs.declared.fault.TraceFault.TheVariants as run
-use Rattle.snap_trace.specs.Spelled.{Spelled, ended, spelled}
 use Rattle.snap_tables.specs.Text.{text as tables_text}
-use Rattle.snap_tables.specs.Lines.{IsRead}
-use Rattle.snap_tables.specs.ReadBack.{IsReadBack}
-use Rattle.snap_runs.specs.Laws.{SpelledForIsSpelled, SpelledPacketsFit}
-use Rattle.snap_runs.specs.Plain.{IsPlainReport, spelled_for}
-use Rattle.snap_words.specs.Commands.{Command, Order, compile, plain, trace}
-use Rattle.snap_cli.specs.declared.refusal.Refusal.{Refusal}
-use Rattle.snap_cli.specs.declared.refusal.Refusal.TheVariants.{Limit, Packets, Undefined, VersionOne}
+use Rattle.snap_cli.specs.declared.refusal.Refusal.TheVariants.{Undefined}
 use Rattle.snap_cli.specs.Compile.{IsCompiled, version_of}
-use Rattle.snap_cli.specs.Deserved.{Ends}
-use Rattle.snap_cli.specs.Headline.{AreGiven, Did}
-use Rattle.snap_cli.specs.Laws.{AnswersExactly, CompilesExactly, IsDue, IsExact, IsFailure, TracesAs, TracesExactly}
-use Rattle.snap_cli.specs.Obs.{IsRunEnding}
-use Rattle.snap_cli.specs.Refusals.{Ending, status_of}
-use Rattle.snap_cli.specs.TablesOf.{TablesOf}
+use Rattle.snap_cli.specs.Headline.{AreGiven}
+use Rattle.snap_cli.specs.Laws.{TracesAs}
+use Rattle.snap_cli.proofs.Shared.{All, AnswersExactly, Appends, Command, compile, CompilesExactly, count, Did, ended, Ending, Ends, Faithful, file_of, Files, IsDue, IsExact, IsFailure, IsPacket, IsPacketOf, IsPlainReport, IsRead, IsReadBack, IsRunEnding, Limit, Order, Packets, plain, Program, Refusal, Spelled, spelled, spelled_for, SpelledForIsSpelled, SpelledPacketsFit, status_of, Tables, TablesOf, Topology, trace, TraceFault, TracesExactly, VersionOne}
 use Rattle.snap_cli.proofs.SpelledSources.{SpellsProgram-ProgramOf, SpellsTopology-TopologyOf}
 
 -- ---- status 0
