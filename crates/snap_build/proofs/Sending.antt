@@ -156,10 +156,11 @@ pub then_does : (v : View) (pol p q : Pol) (old mid new : List (Node Leaf)) (b c
     → OnStores v (λ m k. outcome new d m k ≡ in_sequence (eval pol m k) (outcome old b))
 then_does v pol p q old mid new b c d free e small_p small_q s w all m k met small =
     let good : Good (length k) k = (refl, met.packet.numbers) in
+    let sends : eval q ≡ sending (put q) = λ i n x. set_sends q e.set n x i in
     all m k met small
     ∙ same_sequence v (outcome mid c) (sending (λ x. s.0 (put q x))) (eval p m k) k free met.packet (stays_fine p m k (length k) small_p small good) (both_send v q old mid b c free e.set small_q s w)
     ∙ sym (then_sends (put q) s.0 (eval p m k))
-    ∙ sym (ap (λ (f : Arrays → List ℕ → Option Meaning). in_sequence (in_sequence (eval p m k) f) (sending s.0)) (λ i m k. set_sends q e.set m k i))
+    ∙ sym (ap (λ (f : Arrays → List ℕ → Option Meaning). in_sequence (in_sequence (eval p m k) f) (sending s.0)) sends)
     ∙ sym (ap (λ x. in_sequence x (sending s.0)) (e.evals m k))
     ∙ sym (same_sequence v (outcome old b) (sending s.0) (eval pol m k) k free met.packet (stays_fine pol m k (length k) (e.small small_p small_q) small good) s.1)
 
