@@ -1,5 +1,5 @@
 -- Two programs from the comparison of their diagrams.
-use Rattle.std.proofs.Common.{◌≡◌, ◌<◌, ◌+◌, ℕ, List, [], ◌∷◌, ◌++◌, length, take, get_or, Err, sym, ap, ◌∙◌, subst, inl, inr}
+use Rattle.std.proofs.Common.{◌≡◌, ℕ, List, length, Err, sym, subst, inl, inr}
 use Rattle.snap_core.specs.Meaning.{eval}
 use Rattle.snap_core.specs.Inputs.{IsStore}
 use Rattle.snap_arena.specs.declared.node.Node.{Node}

@@ -9,7 +9,7 @@ use Rattle.std.proofs.lemmas.Str.Ascii.{IsAscii-nil, IsAscii-cons}
 use Rattle.snap_words.specs.Commands.{command_of, command_for, command_in}
 use Rattle.snap_words.specs.Words.{Told, add, checked, flagged, is_name, name_word, nothing, on_demand_flag, tell, with_names, word_of}
 use Rattle.snap_cli.specs.Headline.{CanName, compile_words, trace_words}
-use Rattle.snap_cli.proofs.Shared.{Command, compile, plain, trace}
+use Rattle.snap_cli.proofs.Shared.{compile, plain, trace}
 
 -- words of ASCII alone
 ascii : (bs : List ℕ) → list_all (λ b. nat_lt b 128) bs ≡ true → IsAscii bs

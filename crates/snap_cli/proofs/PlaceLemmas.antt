@@ -2,7 +2,6 @@
 use Rattle.std.proofs.Common.{ℕ, List, [], Option, Result, Ok, Err, refl, inl, inr}
 use Rattle.std.specs.Prelude.{Vec}
 use Rattle.std.specs.declared.alloc.Global.{Global}
-use Rattle.snap_seek.specs.declared.demand.DemandFault.TheVariants as seek
 use Rattle.snap_words.specs.Commands.{place}
 use Rattle.snap_cli.specs.declared.inputs.Inputs.{Inputs}
 use Rattle.snap_cli.specs.InputsSteps.{AreInputs, GivesInputs, IsStopped}

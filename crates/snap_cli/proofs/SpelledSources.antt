@@ -1,6 +1,5 @@
 -- A file is read as a program, and as a topology, exactly where it spells them.
-use Rattle.std.proofs.Common.{◌≡◌, ℕ, List, Result, Ok, Err, ◌⊎◌, inl, inr}
-use Rattle.snap_core.specs.Programs.{IsBounded}
+use Rattle.std.proofs.Common.{◌≡◌, ℕ, List, Ok, Err, inl, inr}
 use Rattle.snap_names.specs.Spells.{SpellsProgram}
 use Rattle.snap_names.proofs.InForm.{IsBounded-resolved}
 use Rattle.snap_names.proofs.SpelledPrograms.{SpellsProgram-read, read-SpellsProgram}
