@@ -326,6 +326,7 @@ impl Watch for Tally {
 }
 
 // Puts the lines of a block, with the packets in this order: mostly all at once.
+#[inline(always)]
 fn put_lines(
     out: &mut Vec<u8>,
     fields: &Fields,
