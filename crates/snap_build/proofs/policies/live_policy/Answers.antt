@@ -1,6 +1,6 @@
 -- A run of sets, or a policy pruned.
 use Rattle.snap_fdd.specs.Picks.{sizes}
-use Rattle.snap_fdd.proofs.Cutting.{if_ok_both}
+use Rattle.snap_core.proofs.Results.{IfOk-both}
 use Rattle.snap_build.specs.Parts.{EndsInSet}
 use Rattle.snap_build.proofs.Sending.{sends_set, then_part}
 use Rattle.snap_build.proofs.policies.live_policy.Goals as goal
@@ -13,5 +13,5 @@ before_run-requires-clause-sends c =
 pub returns-in_ok-last-in-Some-clause-does : goal.returns-in_ok-last-in-Some-clause-does
 returns-in_ok-last-in-Some-clause-does c =
     let parts : EndsInSet c.args.pol.now c.in-Some.first.now c.in-Some.second.now = c.in-Some.ensures in
-    if_ok_both c.before_run.result _ _ _ (λ d small w. then_part c.args.ctx.now c.args.pol.now c.in-Some.first.now c.in-Some.second.now c.policy.new.nodes c.before_run.new.nodes c.in_ok-last-in-Some.last d
+    IfOk-both c.before_run.result _ _ _ (λ d small w. then_part c.args.ctx.now c.args.pol.now c.in-Some.first.now c.in-Some.second.now c.policy.new.nodes c.before_run.new.nodes c.in_ok-last-in-Some.last d
     c.requires.free parts small c.in_ok-last-in-Some.ensures.does w) c.before_run.ensures.small c.before_run.ensures.does
