@@ -77,7 +77,8 @@ LeadToEndInTurn t ks lines = (s : Ordered) × (us : List Turn) × turns.Obeys t 
 -- the schedule isn't too long, and its lines lead to an end in the network of the tables of a file
 pub record CanBeDone (Lead : Tables → (ks lines : List (List ℕ)) → Type 0) (files : Files) (tables packets lines : List ℕ) : Type 0 where
   pub short : length (file_of files lines) ≤ 67108864
-  pub lead : (t : Tables) → TablesOf (file_of files tables) (Ok t) → Lead t (spelled_for t (file_of files packets)).packets (lines_of (file_of files lines))
+  pub lead : (t : Tables) → TablesOf (file_of files tables) (Ok t)
+      → Lead t (spelled_for t (file_of files packets)).packets (lines_of (file_of files lines))
 
 -- the schedule of an order in turn, if it has one, can be done
 abbrev pub TurnsCanBeDone : Files → (tables packets : List ℕ) → Option (List ℕ) → Type 0
@@ -98,7 +99,8 @@ OrderCanBeDone on_demand files tables packets (rounds workers) = on_demand ≡ f
 abbrev pub TracesAnswer : Type 0
 TracesAnswer = (c : CompileCall) (later : Files) (tables packets : List ℕ) → Wrote c (file_of later tables)
     → NamePorts c.p.fields (λ i. ports_of c.t) (file_of later packets)
-    → (order : Order) → OrderCanBeDone c.on_demand later tables packets order → (hops : Bool) → AnswersZero later (trace tables packets hops order)
+    → (order : Order) → OrderCanBeDone c.on_demand later tables packets order
+    → (hops : Bool) → AnswersZero later (trace tables packets hops order)
 
 -- ---- changes
 -- a call whose program is declared like that of the first wrote this

@@ -12,7 +12,8 @@ use Rattle.snap_cli.specs.Refusals.{Ending, status_of, message_of}
 -- Words of no command's form are usage, and nothing goes out. Memory may be short before they are read.
 abbrev pub MeetsWords : Files → List (List ℕ) → Ending → Option (List ℕ) → Option (List ℕ) → Type 0
 MeetsWords files words ending old new =
-    MatchOption (command_of words) (((ending ≡ Err Usage) ⊎ (ending ≡ Err NoMemory)) × Appends old new []) (λ command. Meets files command ending old new)
+    MatchOption (command_of words) (((ending ≡ Err Usage) ⊎ (ending ≡ Err NoMemory)) × Appends old new [])
+    (λ command. Meets files command ending old new)
 
 -- The status, the output and the message are those of one ending. Where the shelf tells its files, it is one that the
 -- words deserve on them, or a device's or memory's. A device's has its cause: counts of faults rose.

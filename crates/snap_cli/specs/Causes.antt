@@ -35,7 +35,8 @@ BlamesNoDevice refusal = Unit {0}
 
 -- A step that only reads: the shelf's files stay and no count of faults falls, a file that can't be read is one at whose name the
 -- count rose, and the output isn't blamed.
-pub record OnlyReads {X : Type 0} (files_before files_now : Option Files) (before now : List ℕ → ℕ) (result : Result X Refusal) : Type 0 where
+pub record OnlyReads {X : Type 0} (files_before files_now : Option Files)
+    (before now : List ℕ → ℕ) (result : Result X Refusal) : Type 0 where
   pub files : files_now ≡ files_before
   pub later : NoneFell before now
   pub read : (name : List ℕ) → IsReadOf name result → Rose (before name) (now name)
@@ -48,7 +49,8 @@ pub record OnlyWrites (before now : ℕ) (ending : Ending) : Type 0 where
   pub write : IsErrOf ending Write → Rose before now
 
 -- A step that does both.
-pub record ReadsAndWrites (files_before files_now : Option Files) (shelf_before shelf_now : List ℕ → ℕ) (out_before out_now : ℕ) (ending : Ending) : Type 0 where
+pub record ReadsAndWrites (files_before files_now : Option Files)
+    (shelf_before shelf_now : List ℕ → ℕ) (out_before out_now : ℕ) (ending : Ending) : Type 0 where
   pub files : files_now ≡ files_before
   pub later : NoneFell shelf_before shelf_now
   pub out_later : out_before ≤ out_now

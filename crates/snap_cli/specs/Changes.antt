@@ -57,7 +57,8 @@ abbrev pub LaterOf : Files → Tables → List Change → Result (List Later) Re
 LaterOf files first [] result = result ≡ Ok []
 LaterOf files first (c ∷ cs) result =
     ((refusal : Refusal) × RefusesLater files first c refusal × (result ≡ Err refusal))
-    ⊎ ((l : Later) × IsLater files first c l × ((others : Result (List Later) Refusal) × LaterOf files first cs others × (result ≡ before (l ∷ []) others)))
+    ⊎ ((l : Later) × IsLater files first c l
+    × ((others : Result (List Later) Refusal) × LaterOf files first cs others × (result ≡ before (l ∷ []) others)))
 
 -- those of the changes file with this name
 abbrev pub ChangedTables : Files → Tables → (lines : List ℕ) → Result (List Later) Refusal → Type 0
@@ -84,14 +85,17 @@ IsReachedByChanges files first lines name =
 abbrev pub ChangesTo : Files → Tables → (packets : List ℕ) → (hops : Bool) → (lines : List ℕ) → Ending → List ℕ → Type 0
 ChangesTo files t packets hops lines ending text =
     ((refusal : Refusal) × ChangedTables files t lines (Err refusal) × (ending ≡ Err refusal) × (text ≡ []))
-    ⊎ ((later : List Later) × ChangedTables files t lines (Ok later) × ((run : RunEnding) × IsChangedTrace t later hops (file_of files packets) run text × IsRunEnding run ending))
+    ⊎ ((later : List Later) × ChangedTables files t lines (Ok later)
+    × ((run : RunEnding) × IsChangedTrace t later hops (file_of files packets) run text × IsRunEnding run ending))
 
 -- the text that has gone out then
 abbrev pub IsChangesText : Files → Tables → (packets : List ℕ) → (hops : Bool) → (lines : List ℕ) → List ℕ → Type 0
 IsChangesText files t packets hops lines text =
     ((refusal : Refusal) × ChangedTables files t lines (Err refusal) × (text ≡ []))
-    ⊎ ((later : List Later) × ChangedTables files t lines (Ok later) × ((run : RunEnding) × IsChangedTrace t later hops (file_of files packets) run text))
+    ⊎ ((later : List Later) × ChangedTables files t lines (Ok later)
+    × ((run : RunEnding) × IsChangedTrace t later hops (file_of files packets) run text))
 
 -- some first blocks of it
 abbrev pub AreBlocksOfChanges : Files → Tables → (packets : List ℕ) → (hops : Bool) → (lines : List ℕ) → List ℕ → Type 0
-AreBlocksOfChanges files t packets hops lines text = (later : List Later) × ChangedTables files t lines (Ok later) × AreChangedTraceBlocks t later hops (file_of files packets) text
+AreBlocksOfChanges files t packets hops lines text = (later : List Later)
+    × ChangedTables files t lines (Ok later) × AreChangedTraceBlocks t later hops (file_of files packets) text

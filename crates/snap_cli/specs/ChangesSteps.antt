@@ -36,12 +36,14 @@ LoadsLater files first c (Err e) = RefusesBy (λ failed. failed ≡ c.name) (Ref
 -- those of changes
 abbrev pub LoadsLaters : Files → Tables → List Change → Result (Vec Later) Refusal → Type 0
 LoadsLaters files first changes (Ok later) = LaterOf files first changes (Ok later.items)
-LoadsLaters files first changes (Err e) = RefusesBy (IsReachedChange files first changes) (λ refusal. LaterOf files first changes (Err refusal)) e
+LoadsLaters files first changes (Err e) = RefusesBy (IsReachedChange files first changes)
+    (λ refusal. LaterOf files first changes (Err refusal)) e
 
 -- those of the changes file with this name
 abbrev pub LoadsChanges : Files → Tables → (name : List ℕ) → Result (Vec Later) Refusal → Type 0
 LoadsChanges files first name (Ok later) = ChangedTables files first name (Ok later.items)
-LoadsChanges files first name (Err e) = RefusesBy (IsReachedByChanges files first name) (λ refusal. ChangedTables files first name (Err refusal)) e
+LoadsChanges files first name (Err e) = RefusesBy (IsReachedByChanges files first name)
+    (λ refusal. ChangedTables files first name (Err refusal)) e
 
 -- the numbers of packets of later tables, and of changes
 abbrev pub afters : List Later → List ℕ
@@ -52,11 +54,16 @@ afters_of changes = map (λ (c : Change). c.after) changes
 
 -- ---- the run
 -- what the run of tables that were all read did, over the packets file with this name
-abbrev pub MeetsLater : Tables → List Later → (hops : Bool) → (packets : Bor (List ℕ)) → (file : List ℕ) → Ending → Option (List ℕ) → Option (List ℕ) → Type 0
-MeetsLater t later hops packets file ending old new = (run : RunEnding) × WritesChanged t later hops file run old new × (ending ≡ ending_of_run packets run)
+abbrev pub MeetsLater : Tables → List Later → (hops : Bool) → (packets : Bor (List ℕ))
+    → (file : List ℕ) → Ending → Option (List ℕ) → Option (List ℕ) → Type 0
+MeetsLater t later hops packets file ending old new = (run : RunEnding)
+    × WritesChanged t later hops file run old new × (ending ≡ ending_of_run packets run)
 
 -- what the run with the changes of the file with this name did
-abbrev pub MeetsChanges : Files → Tables → (hops : Bool) → (packets : Bor (List ℕ)) → (lines : List ℕ) → Ending → Option (List ℕ) → Option (List ℕ) → Type 0
+abbrev pub MeetsChanges : Files → Tables → (hops : Bool) → (packets : Bor (List ℕ))
+    → (lines : List ℕ) → Ending → Option (List ℕ) → Option (List ℕ) → Type 0
 MeetsChanges files t hops packets lines ending old new =
-    ((refusal : Refusal) × RefusesBy (IsReachedByChanges files t lines) (λ r. ChangedTables files t lines (Err r)) refusal × (ending ≡ Err refusal) × (new ≡ old))
-    ⊎ ((later : List Later) × ChangedTables files t lines (Ok later) × MeetsLater t later hops packets (file_of files packets.now) ending old new)
+    ((refusal : Refusal) × RefusesBy (IsReachedByChanges files t lines) (λ r. ChangedTables files t lines (Err r)) refusal
+    × (ending ≡ Err refusal) × (new ≡ old))
+    ⊎ ((later : List Later) × ChangedTables files t lines (Ok later)
+    × MeetsLater t later hops packets (file_of files packets.now) ending old new)

@@ -36,11 +36,13 @@ AreMade p t places on_demand tables = Faithful p t places tables × (tables.vers
 -- **the tables are of that version, and faithful to the program, the topology and the placement that the files spell**
 abbrev pub AreTables : Files → (program topology placement : List ℕ) → (on_demand : Bool) → Tables → Type 0
 AreTables files program topology placement on_demand tables =
-    (p : Program) × (t : Topology) × (places : List ℕ) × AreSpelled files program topology placement p t places × AreMade p t places on_demand tables
+    (p : Program) × (t : Topology) × (places : List ℕ)
+    × AreSpelled files program topology placement p t places × AreMade p t places on_demand tables
 
 -- the text of such tables, of which these are read
 abbrev pub IsCompiled : Files → (program topology placement : List ℕ) → (on_demand : Bool) → List ℕ → Type 0
-IsCompiled files program topology placement on_demand text = (tables : Tables) × AreTables files program topology placement on_demand tables × IsReadBack tables × (text ≡ tables_text tables)
+IsCompiled files program topology placement on_demand text = (tables : Tables)
+    × AreTables files program topology placement on_demand tables × IsReadBack tables × (text ≡ tables_text tables)
 
 -- a topology was read, but no placement; or one was, and the program races, as is told
 abbrev pub HasNoTablesFor : Program → Topology → (file : List ℕ) → Refusal → Type 0
@@ -52,7 +54,8 @@ HasNoTablesFor p t file refusal =
 abbrev pub HasNoTablesOn : Files → Program → (topology placement : List ℕ) → Refusal → Type 0
 HasNoTablesOn files p topology placement refusal =
     HasNoRoutes (file_of files topology) refusal
-    ⊎ ((t : Topology) × (table : Table) × TopologyOf (file_of files topology) (Ok t) × AreRoutes t table × HasNoTablesFor p t (file_of files placement) refusal)
+    ⊎ ((t : Topology) × (table : Table) × TopologyOf (file_of files topology) (Ok t)
+    × AreRoutes t table × HasNoTablesFor p t (file_of files placement) refusal)
 
 -- the same, or not even a program was read
 abbrev pub HasNoTables : Files → (program topology placement : List ℕ) → Refusal → Type 0

@@ -25,12 +25,14 @@ abbrev pub Compiles : Program → Topology → (text : List ℕ) → (on_demand 
 Compiles p t text on_demand (Ok tables) = (places : List ℕ) × SpellsPlacement p t text (Ok places) × AreMade p t places on_demand tables
 Compiles p t text on_demand (Err e) =
     RefusesBy (λ failed. ⊥)
-    (λ refusal. SpellsPlacement p t text (Err refusal) ⊎ ((places : List ℕ) × SpellsPlacement p t text (Ok places) × EndsJudged p (Err refusal))) e
+    (λ refusal. SpellsPlacement p t text (Err refusal)
+    ⊎ ((places : List ℕ) × SpellsPlacement p t text (Ok places) × EndsJudged p (Err refusal))) e
 
 -- the same for the files of a program, a topology and a placement
 abbrev pub GivesTables : Files → (program topology placement : List ℕ) → (on_demand : Bool) → Result Tables Refusal → Type 0
 GivesTables files program topology placement on_demand (Ok tables) = AreTables files program topology placement on_demand tables
-GivesTables files program topology placement on_demand (Err e) = RefusesBy (IsReached files program topology placement) (HasNoTables files program topology placement) e
+GivesTables files program topology placement on_demand (Err e) = RefusesBy
+    (IsReached files program topology placement) (HasNoTables files program topology placement) e
 
 -- the whole text of tables went out, or the sink failed or memory was short, and some first bytes did
 abbrev pub WritesTables : Tables → Ending → Option (List ℕ) → Option (List ℕ) → Type 0

@@ -63,7 +63,8 @@ MayPrecedeRead files (check program) name text = (name ≡ program) × (text ≡
 MayPrecedeRead files (equal left right) name text = MayPrecedeReadEqual files left right name text
 MayPrecedeRead files (routes topology) name text = (name ≡ topology) × (text ≡ [])
 MayPrecedeRead files (place program topology demand) name text = IsReached files program topology demand name × (text ≡ [])
-MayPrecedeRead files (compile program topology placement on_demand) name text = IsReached files program topology placement name × (text ≡ [])
+MayPrecedeRead files (compile program topology placement on_demand) name text = IsReached files program topology placement name
+    × (text ≡ [])
 MayPrecedeRead files (trace tables packets hops order) name text = MayPrecedeReadTrace files tables packets hops order name text
 MayPrecedeRead files (demo switches) name text = ⊥
 

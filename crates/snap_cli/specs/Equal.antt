@@ -69,7 +69,8 @@ EndsEqual files left right ending =
 
 -- `equal` where two programs are declared alike, never race and mean the same, else nothing
 abbrev pub IsComparedText : Program → Program → List ℕ → Type 0
-IsComparedText p q text = (AreComparable p q × MeanSame p q × (text ≡ codes "equal\n")) ⊎ ((AreComparable p q → MeanSame p q → ⊥) × (text ≡ []))
+IsComparedText p q text = (AreComparable p q × MeanSame p q × (text ≡ codes "equal\n"))
+    ⊎ ((AreComparable p q → MeanSame p q → ⊥) × (text ≡ []))
 
 -- the text that has gone out then: nothing where a program isn't read
 abbrev pub IsEqualText : Files → (left right : List ℕ) → List ℕ → Type 0

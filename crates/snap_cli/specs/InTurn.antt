@@ -13,7 +13,8 @@ use Rattle.snap_cli.specs.Schedule.{EndsBySchedule, IsOfSchedule}
 -- how the run in turn over a file ends, and its report: one packet after the other, or exactly the events that a schedule orders
 abbrev pub TurnsTo : Tables → (hops : Bool) → (file : List ℕ) → (schedule : Option (List ℕ)) → Ending → List ℕ → Type 0
 TurnsTo t hops file None ending text = (run : RunEnding) × IsTrace t hops file run text × IsRunEnding run ending
-TurnsTo t hops file (Some schedule) ending text = EndsBySchedule t file schedule (HasScheduleReport t hops file schedule) (RefusesScheduleLine t file schedule) ending text
+TurnsTo t hops file (Some schedule) ending text = EndsBySchedule t file schedule
+    (HasScheduleReport t hops file schedule) (RefusesScheduleLine t file schedule) ending text
 
 -- its report
 abbrev pub IsTurnsText : Tables → (hops : Bool) → (file : List ℕ) → (schedule : Option (List ℕ)) → List ℕ → Type 0
@@ -38,6 +39,7 @@ MayPrecedeTurns files t packets hops None text = AreTraceBlocks t hops (file_of 
 MayPrecedeTurns files t packets hops (Some lines) text = text ≡ []
 
 -- and where it can't read the file with this name: the packets, or the schedule once these are read
-abbrev pub MayPrecedeReadTurns : Files → Tables → (packets : List ℕ) → (hops : Bool) → (lines : Option (List ℕ)) → (name : List ℕ) → List ℕ → Type 0
+abbrev pub MayPrecedeReadTurns : Files → Tables → (packets : List ℕ)
+    → (hops : Bool) → (lines : Option (List ℕ)) → (name : List ℕ) → List ℕ → Type 0
 MayPrecedeReadTurns files t packets hops None name text = (name ≡ packets) × AreTraceBlocks t hops (file_of files packets) text
 MayPrecedeReadTurns files t packets hops (Some lines) name text = IsOfSchedule t (file_of files packets) packets lines name × (text ≡ [])

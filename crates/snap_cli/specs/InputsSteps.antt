@@ -32,4 +32,5 @@ IsStopped why files program topology refusal =
 abbrev pub GivesInputs : Files → (program topology last : List ℕ) → Result Inputs Refusal → Type 0
 GivesInputs files program topology last (Ok inputs) = AreInputs files program topology last inputs
 GivesInputs files program topology last (Err e) =
-    RefusesBy (IsReached files program topology last) (IsStopped (λ p t table. IsTooLong 1048576 (file_of files last)) files program topology) e
+    RefusesBy (IsReached files program topology last)
+    (IsStopped (λ p t table. IsTooLong 1048576 (file_of files last)) files program topology) e

@@ -65,7 +65,8 @@ DeservesOneEnding = (files : Files) (command : Command) (a b : Ending) → Ends 
 
 -- both are texts of tables of one version that are faithful to what the files of `compile` spell
 abbrev pub AreBothCompiled : Files → Command → List ℕ → List ℕ → Type 0
-AreBothCompiled files (compile program topology placement on_demand) a b = IsCompiled files program topology placement on_demand a × IsCompiled files program topology placement on_demand b
+AreBothCompiled files (compile program topology placement on_demand) a b = IsCompiled files program topology placement on_demand a
+    × IsCompiled files program topology placement on_demand b
 AreBothCompiled files command a b = ⊥
 
 -- One text. Of `compile` it is that of any tables that are faithful: not these are determined, but what networks do with them.
@@ -74,7 +75,8 @@ IsSameText files command a b = (a ≡ b) ⊎ AreBothCompiled files command a b
 
 -- and one text, but that each faithful tables may be written.
 abbrev pub DeservesOneText : Type 0
-DeservesOneText = (files : Files) (command : Command) (a b : List ℕ) → IsText files command a → IsText files command b → IsSameText files command a b
+DeservesOneText = (files : Files) (command : Command) (a b : List ℕ)
+    → IsText files command a → IsText files command b → IsSameText files command a b
 
 -- the command deserves this ending and this text, and no others, but for a race or a difference that another store and packet
 -- tell, and for other tables that are faithful
@@ -99,8 +101,10 @@ IsFailure status = (status ≡ 2) ⊎ ((status ≡ 3) ⊎ (status ≡ 14))
 abbrev pub AnswersExactly : Type 0
 AnswersExactly = (words : List (List ℕ)) (files : Files) (command : Command) (status : ℕ) (shelf_before shelf_now : List ℕ → ℕ)
     (out_before out_now : ℕ) (out_old out_new : Option (List ℕ)) (err_before err_now : ℕ) (err_old err_new : Option (List ℕ))
-    → command_of words ≡ Some command → Answers words (Some files) status shelf_before shelf_now out_before out_now out_old out_new err_before err_now err_old err_new
-    → IsFailure status ⊎ ((ending : Ending) × (text : List ℕ) × IsDue files command ending text × IsExact ending text status out_old out_new err_before err_now err_old err_new)
+    → command_of words ≡ Some command
+    → Answers words (Some files) status shelf_before shelf_now out_before out_now out_old out_new err_before err_now err_old err_new
+    → IsFailure status ⊎ ((ending : Ending) × (text : List ℕ) × IsDue files command ending text
+    × IsExact ending text status out_old out_new err_before err_now err_old err_new)
 
 -- Where no device failed and memory was there, `check` of a program answers 0 just where its evaluation is undefined on no
 -- store and packet, and 10 just where it is on some.
@@ -114,9 +118,11 @@ ChecksExactly = (words : List (List ℕ)) (files : Files) (program : List ℕ) (
 -- Where no device failed and memory was there, `equal` of two programs with equal declarations that never race answers 0
 -- just where they mean the same, and 18 just where they don't on some store and packet.
 abbrev pub EqualsExactly : Type 0
-EqualsExactly = (words : List (List ℕ)) (files : Files) (left right : List ℕ) (p q : Program) (status : ℕ) (shelf_before shelf_now : List ℕ → ℕ)
+EqualsExactly = (words : List (List ℕ)) (files : Files) (left right : List ℕ)
+    (p q : Program) (status : ℕ) (shelf_before shelf_now : List ℕ → ℕ)
     (out_before out_now : ℕ) (out_old out_new : Option (List ℕ)) (err_before err_now : ℕ) (err_old err_new : Option (List ℕ))
-    → command_of words ≡ Some (equal left right) → ProgramOf (file_of files left) (Ok p) → ProgramOf (file_of files right) (Ok q) → AreComparable p q
+    → command_of words ≡ Some (equal left right) → ProgramOf (file_of files left) (Ok p)
+    → ProgramOf (file_of files right) (Ok q) → AreComparable p q
     → Answers words (Some files) status shelf_before shelf_now out_before out_now out_old out_new err_before err_now err_old err_new
     → IsFailure status ⊎ (((status ≡ 0) × MeanSame p q) ⊎ ((status ≡ 18) × Differs p q))
 
@@ -124,12 +130,14 @@ EqualsExactly = (words : List (List ℕ)) (files : Files) (left right : List ℕ
 -- where the program never races, and has then written the text of tables that are faithful to them, of version 2 or with
 -- `--on-demand` of version 1; and 10 just where it races, and nothing has gone out.**
 abbrev pub CompilesExactly : Type 0
-CompilesExactly = (words : List (List ℕ)) (files : Files) (program topology placement : List ℕ) (on_demand : Bool) (p : Program) (t : Topology) (places : List ℕ) (status : ℕ) (shelf_before shelf_now : List ℕ → ℕ)
+CompilesExactly = (words : List (List ℕ)) (files : Files) (program topology placement : List ℕ) (on_demand : Bool)
+    (p : Program) (t : Topology) (places : List ℕ) (status : ℕ) (shelf_before shelf_now : List ℕ → ℕ)
     (out_before out_now : ℕ) (out_old out_new : Option (List ℕ)) (err_before err_now : ℕ) (err_old err_new : Option (List ℕ))
     → command_of words ≡ Some (compile program topology placement on_demand) → AreSpelled files program topology placement p t places
     → Answers words (Some files) status shelf_before shelf_now out_before out_now out_old out_new err_before err_now err_old err_new
     → IsFailure status
-    ⊎ (((status ≡ 0) × (Races p → ⊥) × ((text : List ℕ) × IsCompiled files program topology placement on_demand text × Appends out_old out_new text))
+    ⊎ (((status ≡ 0) × (Races p → ⊥)
+    × ((text : List ℕ) × IsCompiled files program topology placement on_demand text × Appends out_old out_new text))
     ⊎ ((status ≡ 10) × Races p × Appends out_old out_new []))
 
 -- a packets file was read to its end, and the report of the plain run of its packets went out; or reading stopped at what is
@@ -143,7 +151,8 @@ TracesAs t hops read status old new =
 -- **Where no device failed and memory was there, `trace` of tables that a file spells answers 0 just where all lines of the
 -- packets file are in form, and has then written the report of the plain run of its packets.**
 abbrev pub TracesExactly : Type 0
-TracesExactly = (words : List (List ℕ)) (files : Files) (tables packets : List ℕ) (hops : Bool) (t : Tables) (status : ℕ) (shelf_before shelf_now : List ℕ → ℕ)
+TracesExactly = (words : List (List ℕ)) (files : Files) (tables packets : List ℕ)
+    (hops : Bool) (t : Tables) (status : ℕ) (shelf_before shelf_now : List ℕ → ℕ)
     (out_before out_now : ℕ) (out_old out_new : Option (List ℕ)) (err_before err_now : ℕ) (err_old err_new : Option (List ℕ))
     → command_of words ≡ Some (trace tables packets hops plain) → TablesOf (file_of files tables) (Ok t)
     → Answers words (Some files) status shelf_before shelf_now out_before out_now out_old out_new err_before err_now err_old err_new
@@ -153,7 +162,8 @@ TracesExactly = (words : List (List ℕ)) (files : Files) (tables packets : List
 -- where all lines of the packets file are in form and all lines of the schedule can be done to an end, and has then written the
 -- report of exactly their events. It answers 13 just where a line of the schedule is the first that can't, and nothing has gone out.**
 abbrev pub SchedulesExactly : Type 0
-SchedulesExactly = (words : List (List ℕ)) (files : Files) (tables packets lines : List ℕ) (hops : Bool) (t : Tables) (status : ℕ) (shelf_before shelf_now : List ℕ → ℕ)
+SchedulesExactly = (words : List (List ℕ)) (files : Files) (tables packets lines : List ℕ)
+    (hops : Bool) (t : Tables) (status : ℕ) (shelf_before shelf_now : List ℕ → ℕ)
     (out_before out_now : ℕ) (out_old out_new : Option (List ℕ)) (err_before err_now : ℕ) (err_old err_new : Option (List ℕ))
     → command_of words ≡ Some (trace tables packets hops (schedule lines)) → TablesOf (file_of files tables) (Ok t)
     → Answers words (Some files) status shelf_before shelf_now out_before out_now out_old out_new err_before err_now err_old err_new
@@ -166,7 +176,8 @@ SchedulesExactly = (words : List (List ℕ)) (files : Files) (tables packets lin
 -- and has then written the report of the run with these changes. Where the changes or their tables are refused nothing has gone
 -- out; at a line of packets that isn't in form the blocks of the packets before it have.**
 abbrev pub ChangesExactly : Type 0
-ChangesExactly = (words : List (List ℕ)) (files : Files) (tables packets lines : List ℕ) (hops : Bool) (t : Tables) (status : ℕ) (shelf_before shelf_now : List ℕ → ℕ)
+ChangesExactly = (words : List (List ℕ)) (files : Files) (tables packets lines : List ℕ)
+    (hops : Bool) (t : Tables) (status : ℕ) (shelf_before shelf_now : List ℕ → ℕ)
     (out_before out_now : ℕ) (out_old out_new : Option (List ℕ)) (err_before err_now : ℕ) (err_old err_new : Option (List ℕ))
     → command_of words ≡ Some (trace tables packets hops (changes lines)) → TablesOf (file_of files tables) (Ok t)
     → Answers words (Some files) status shelf_before shelf_now out_before out_now out_old out_new err_before err_now err_old err_new
@@ -178,7 +189,8 @@ ChangesExactly = (words : List (List ℕ)) (files : Files) (tables packets lines
 -- version 1, and nothing has gone out; and else 0 just where all lines of the packets file are in form and all lines of the schedule,
 -- if there is one, can be done to an end, and has then written the report of that run in turn.**
 abbrev pub TurnsExactly : Type 0
-TurnsExactly = (words : List (List ℕ)) (files : Files) (tables packets : List ℕ) (lines : Option (List ℕ)) (hops : Bool) (t : Tables) (status : ℕ) (shelf_before shelf_now : List ℕ → ℕ)
+TurnsExactly = (words : List (List ℕ)) (files : Files) (tables packets : List ℕ)
+    (lines : Option (List ℕ)) (hops : Bool) (t : Tables) (status : ℕ) (shelf_before shelf_now : List ℕ → ℕ)
     (out_before out_now : ℕ) (out_old out_new : Option (List ℕ)) (err_before err_now : ℕ) (err_old err_new : Option (List ℕ))
     → command_of words ≡ Some (trace tables packets hops (in_turn lines)) → TablesOf (file_of files tables) (Ok t)
     → Answers words (Some files) status shelf_before shelf_now out_before out_now out_old out_new err_before err_now err_old err_new
@@ -190,7 +202,8 @@ TurnsExactly = (words : List (List ℕ)) (files : Files) (tables packets : List 
 -- are of version 1, and else 0 just where all lines of the packets file are in form, and has then written the report of the run by
 -- rounds. Where it answers something else nothing has gone out. So it is for every number of workers.**
 abbrev pub RoundsExactly : Type 0
-RoundsExactly = (words : List (List ℕ)) (files : Files) (tables packets : List ℕ) (workers : ℕ) (hops : Bool) (t : Tables) (status : ℕ) (shelf_before shelf_now : List ℕ → ℕ)
+RoundsExactly = (words : List (List ℕ)) (files : Files) (tables packets : List ℕ)
+    (workers : ℕ) (hops : Bool) (t : Tables) (status : ℕ) (shelf_before shelf_now : List ℕ → ℕ)
     (out_before out_now : ℕ) (out_old out_new : Option (List ℕ)) (err_before err_now : ℕ) (err_old err_new : Option (List ℕ))
     → command_of words ≡ Some (trace tables packets hops (rounds workers)) → TablesOf (file_of files tables) (Ok t)
     → Answers words (Some files) status shelf_before shelf_now out_before out_now out_old out_new err_before err_now err_old err_new
@@ -213,4 +226,5 @@ abbrev pub PlacementsAreSpelled : Type 0
 PlacementsAreSpelled = (files later : Files) (program topology demand placement text : List ℕ)
     → IsPlaced files program topology demand text → length text ≤ 1048576
     → file_of later program ≡ file_of files program → file_of later topology ≡ file_of files topology → file_of later placement ≡ text
-    → (p : Program) × (t : Topology) × (table : Table) × (made : IsPlacementOf p t table (file_of files demand) text) × AreSpelled later program topology placement p t made.best.owners
+    → (p : Program) × (t : Topology) × (table : Table) × (made : IsPlacementOf p t table (file_of files demand) text)
+    × AreSpelled later program topology placement p t made.best.owners

@@ -38,7 +38,8 @@ IsObsText files program packets text =
 
 -- the blocks of a program that was read, before the packets are all read
 abbrev pub AreObsBlocks : Files → (program packets : List ℕ) → List ℕ → Type 0
-AreObsBlocks files program packets text = (p : Program) × ProgramOf (file_of files program) (Ok p) × AreBlocks p (file_of files packets) text
+AreObsBlocks files program packets text = (p : Program)
+    × ProgramOf (file_of files program) (Ok p) × AreBlocks p (file_of files packets) text
 
 -- of this text some first bytes may have gone out where memory is short
 abbrev pub MayPrecedeObs : Files → (program packets : List ℕ) → List ℕ → Type 0

@@ -64,7 +64,8 @@ HasNoDemand p t file refusal =
 abbrev pub HasNoPlacementOn : Files → Program → (topology demand : List ℕ) → Refusal → Type 0
 HasNoPlacementOn files p topology demand refusal =
     HasNoRoutes (file_of files topology) refusal
-    ⊎ ((t : Topology) × (table : Table) × TopologyOf (file_of files topology) (Ok t) × AreRoutes t table × HasNoDemand p t (file_of files demand) refusal)
+    ⊎ ((t : Topology) × (table : Table) × TopologyOf (file_of files topology) (Ok t)
+    × AreRoutes t table × HasNoDemand p t (file_of files demand) refusal)
 
 -- a program was read, but nothing behind it, or not even a program
 abbrev pub HasNoPlacement : Files → (program topology demand : List ℕ) → Refusal → Type 0
@@ -75,10 +76,12 @@ HasNoPlacement files program topology demand refusal =
 -- the files spell a topology with routes and a demand, for which this is the text of the best placement
 abbrev pub IsPlacedOn : Files → Program → (topology demand : List ℕ) → List ℕ → Type 0
 IsPlacedOn files p topology demand text =
-    (t : Topology) × (table : Table) × TopologyOf (file_of files topology) (Ok t) × AreRoutes t table × IsPlacementOf p t table (file_of files demand) text
+    (t : Topology) × (table : Table) × TopologyOf (file_of files topology) (Ok t)
+    × AreRoutes t table × IsPlacementOf p t table (file_of files demand) text
 
 abbrev pub IsPlaced : Files → (program topology demand : List ℕ) → List ℕ → Type 0
-IsPlaced files program topology demand text = (p : Program) × ProgramOf (file_of files program) (Ok p) × IsPlacedOn files p topology demand text
+IsPlaced files program topology demand text = (p : Program)
+    × ProgramOf (file_of files program) (Ok p) × IsPlacedOn files p topology demand text
 
 -- how the command ends where no device fails and memory is there
 abbrev pub EndsPlace : Files → (program topology demand : List ℕ) → Ending → Type 0

@@ -35,4 +35,5 @@ Places p t table text (Err e) = RefusesBy (λ failed. ⊥) (SpellsNoDemand p t t
 -- the same for the files of a program, a topology and a demand
 abbrev pub GivesPlacement : Files → (program topology demand : List ℕ) → Result (Vec ℕ Global) Refusal → Type 0
 GivesPlacement files program topology demand (Ok made) = IsPlaced files program topology demand made.items
-GivesPlacement files program topology demand (Err e) = RefusesBy (IsReached files program topology demand) (HasNoPlacement files program topology demand) e
+GivesPlacement files program topology demand (Err e) = RefusesBy
+    (IsReached files program topology demand) (HasNoPlacement files program topology demand) e

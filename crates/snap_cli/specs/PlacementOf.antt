@@ -23,7 +23,8 @@ refusal_of_placement arrays place.NoMemory = refused.NoMemory
 -- the text spells this placement of the program's arrays at switches of the topology, or it doesn't for this reason
 abbrev pub SpellsPlacement : Program → Topology → List ℕ → Result (List ℕ) Refusal → Type 0
 SpellsPlacement p t text (Ok places) = IsAnswer p t text (Ok places)
-SpellsPlacement p t text (Err refusal) = (fault : PlaceFault) × IsAnswer p t text (Err fault) × (refusal ≡ refusal_of_placement p.vars fault)
+SpellsPlacement p t text (Err refusal) = (fault : PlaceFault)
+    × IsAnswer p t text (Err fault) × (refusal ≡ refusal_of_placement p.vars fault)
 
 -- A file of more than 1,048,576 bytes is refused, whatever it spells.
 abbrev pub PlacementOf : Program → Topology → (file : List ℕ) → Result (List ℕ) Refusal → Type 0

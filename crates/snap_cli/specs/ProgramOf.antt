@@ -39,8 +39,11 @@ abbrev pub ProgramOf : List ℕ → Result Program Refusal → Type 0
 ProgramOf text (Ok program) = IsShort text × ReadsAs text (Ok (core_program program)) × IsBounded program
 ProgramOf text (Err (Syntax BadByte spot)) = (at : ℕ) × IsShort text × IsBadByte text at × (spot ≡ spot_of text at)
 ProgramOf text (Err (Syntax BadNumber spot)) = (at : ℕ) × IsShort text × IsBadNumber text at × (spot ≡ spot_of text at)
-ProgramOf text (Err (Syntax UnexpectedToken spot)) = (ts : List Token) × (at : ℕ) × IsShort text × SpellsTokens text ts × IsUnexpected 128 (length text) ts at × (spot ≡ spot_of text at)
-ProgramOf text (Err (Syntax TooDeep spot)) = (ts : List Token) × (at : ℕ) × IsShort text × SpellsTokens text ts × IsTooDeep 128 ts at × (spot ≡ spot_of text at)
+ProgramOf text (Err (Syntax UnexpectedToken spot)) = (ts : List Token) × (at : ℕ) × IsShort text
+    × SpellsTokens text ts × IsUnexpected 128 (length text) ts at × (spot ≡ spot_of text at)
+ProgramOf text (Err (Syntax TooDeep spot)) = (ts : List Token) × (at : ℕ)
+    × IsShort text × SpellsTokens text ts × IsTooDeep 128 ts at × (spot ≡ spot_of text at)
 ProgramOf text (Err (Naming fault spot)) = (at : ℕ) × IsShort text × ReadsAs text (Err (naming_at fault at)) × (spot ≡ spot_of text at)
-ProgramOf text (Err (Limit which count)) = ((which ≡ Bytes) × (count ≡ 262145) × (262144 < length text)) ⊎ (IsShort text × ReadsAs text (Err (name.Limit which count)))
+ProgramOf text (Err (Limit which count)) = ((which ≡ Bytes) × (count ≡ 262145) × (262144 < length text))
+    ⊎ (IsShort text × ReadsAs text (Err (name.Limit which count)))
 ProgramOf text (Err refusal) = ⊥

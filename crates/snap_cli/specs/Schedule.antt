@@ -23,14 +23,16 @@ abbrev pub StopsAtLine : (Refuses : ℕ → Type 0) → Ending → Type 0
 StopsAtLine Refuses ending = (line : ℕ) × Refuses line × (ending ≡ Err (Schedule line))
 
 -- A report goes out, or nothing where one of the files is refused. The packets file comes first.
-abbrev pub EndsBySchedule : Tables → (file schedule : List ℕ) → (Reports : List ℕ → Type 0) → (Refuses : ℕ → Type 0) → Ending → List ℕ → Type 0
+abbrev pub EndsBySchedule : Tables → (file schedule : List ℕ)
+    → (Reports : List ℕ → Type 0) → (Refuses : ℕ → Type 0) → Ending → List ℕ → Type 0
 EndsBySchedule t file schedule Reports Refuses ending text =
     ((ending ≡ Ok tt) × Reports text)
     ⊎ ((text ≡ []) × (StopsAtPackets t file ending ⊎ (StopsAtLength t file schedule ending ⊎ StopsAtLine Refuses ending)))
 
 -- it is that of exactly the events that the schedule orders
 abbrev pub SchedulesTo : Tables → (hops : Bool) → (file schedule : List ℕ) → Ending → List ℕ → Type 0
-SchedulesTo t hops file schedule ending text = EndsBySchedule t file schedule (HasScheduleReport t hops file schedule) (RefusesScheduleLine t file schedule) ending text
+SchedulesTo t hops file schedule ending text = EndsBySchedule t file schedule
+    (HasScheduleReport t hops file schedule) (RefusesScheduleLine t file schedule) ending text
 
 -- the packets file, or the schedule once that was read
 abbrev pub IsOfSchedule : Tables → (file packets lines name : List ℕ) → Type 0

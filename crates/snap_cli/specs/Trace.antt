@@ -22,7 +22,8 @@ TracesTo t hops file ending text = (run : RunEnding) × IsTrace t hops file run 
 -- the same of a run in this order
 abbrev pub NetworkRunsTo : Files → Tables → (packets : List ℕ) → (hops : Bool) → Order → Ending → List ℕ → Type 0
 NetworkRunsTo files t packets hops plain ending text = TracesTo t hops (file_of files packets) ending text
-NetworkRunsTo files t packets hops (schedule lines) ending text = SchedulesTo t hops (file_of files packets) (file_of files lines) ending text
+NetworkRunsTo files t packets hops (schedule lines) ending text = SchedulesTo t hops
+    (file_of files packets) (file_of files lines) ending text
 NetworkRunsTo files t packets hops (changes lines) ending text = ChangesTo files t packets hops lines ending text
 NetworkRunsTo files t packets hops (in_turn lines) ending text = RunsInTurnTo files t packets hops lines ending text
 NetworkRunsTo files t packets hops (rounds workers) ending text = RunsByRoundsTo files t packets hops ending text
@@ -30,7 +31,8 @@ NetworkRunsTo files t packets hops (rounds workers) ending text = RunsByRoundsTo
 -- its report
 abbrev pub IsRunText : Files → Tables → (packets : List ℕ) → (hops : Bool) → Order → List ℕ → Type 0
 IsRunText files t packets hops plain text = HasTrace t hops (file_of files packets) text
-IsRunText files t packets hops (schedule lines) text = (ending : Ending) × SchedulesTo t hops (file_of files packets) (file_of files lines) ending text
+IsRunText files t packets hops (schedule lines) text = (ending : Ending)
+    × SchedulesTo t hops (file_of files packets) (file_of files lines) ending text
 IsRunText files t packets hops (changes lines) text = IsChangesText files t packets hops lines text
 IsRunText files t packets hops (in_turn lines) text = IsInTurnText files t packets hops lines text
 IsRunText files t packets hops (rounds workers) text = (ending : Ending) × RunsByRoundsTo files t packets hops ending text
@@ -50,7 +52,8 @@ MayPrecedeReadRun files t packets hops plain name text = (name ≡ packets) × A
 MayPrecedeReadRun files t packets hops (schedule lines) name text = IsOfSchedule t (file_of files packets) packets lines name × (text ≡ [])
 MayPrecedeReadRun files t packets hops (changes lines) name text =
     (IsReachedByChanges files t lines name × (text ≡ [])) ⊎ ((name ≡ packets) × AreBlocksOfChanges files t packets hops lines text)
-MayPrecedeReadRun files t packets hops (in_turn lines) name text = (t.version ≡ 2) × MayPrecedeReadTurns files t packets hops lines name text
+MayPrecedeReadRun files t packets hops (in_turn lines) name text = (t.version ≡ 2)
+    × MayPrecedeReadTurns files t packets hops lines name text
 MayPrecedeReadRun files t packets hops (rounds workers) name text = (t.version ≡ 2) × (name ≡ packets) × (text ≡ [])
 
 -- ---- the command

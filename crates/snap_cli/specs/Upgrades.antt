@@ -35,7 +35,8 @@ file_in_force name (c ∷ cs) i = if nat_le c.after i then file_in_force c.name 
 
 -- Each file of tables that a changes file names is what a call of `compile` wrote for the source of its name.
 abbrev pub AreOutputsOf : (source : List ℕ → List ℕ) → Files → (lines : List ℕ) → Type 0
-AreOutputsOf source later lines = (changes : List Change) → ChangesOf (file_of later lines) (Ok changes) → All (λ (c : Change). IsOutputFor (source c.name) (file_of later c.name)) changes
+AreOutputsOf source later lines = (changes : List Change) → ChangesOf (file_of later lines) (Ok changes)
+    → All (λ (c : Change). IsOutputFor (source c.name) (file_of later c.name)) changes
 
 -- What the files spell: the changes, the tables and those of the changes, and for each packet a program, that of the source of
 -- the file in force; and all lines of the packets file are in form.
@@ -53,12 +54,14 @@ pub record AreGivenUnder (source : List ℕ → List ℕ) (later : Files) (table
 -- The text tells a run of these packets with these changes; and one big switch whose program changes does the same, each packet at
 -- the ports of the tables that are in force then. No copy makes more than (groups + 1) times the greatest distance hops, or where the
 -- tables in force are of version 1 (2 groups + 1) times, by the groups of the program and the topology that are in force.
-abbrev pub TellsChangingSwitch : (source : List ℕ → List ℕ) → Files → (tables lines packets : List ℕ) → (hops : Bool) → (text : List ℕ) → Type 0
+abbrev pub TellsChangingSwitch : (source : List ℕ → List ℕ) → Files
+    → (tables lines packets : List ℕ) → (hops : Bool) → (text : List ℕ) → Type 0
 TellsChangingSwitch source later tables lines packets hops text =
     (g : AreGivenUnder source later tables lines packets)
     × TellsRun (ChangedRun g.first g.others (spelled (g.programs 0).fields (file_of later packets)).packets)
     (λ r. IsTurnsReport r.end r.state r.turns)
-    (λ r. IsChangingReport g.programs (λ i. port_numbers (in_force g.first g.others i)) (spelled (g.programs 0).fields (file_of later packets)).packets)
+    (λ r. IsChangingReport g.programs (λ i. port_numbers (in_force g.first g.others i))
+    (spelled (g.programs 0).fields (file_of later packets)).packets)
     (λ r. AreTurnsShort g.programs 0 r.turns) hops text
 
 -- **The first file of tables and those that the changes name are what calls of `compile` wrote, each for a source, a topology and
@@ -66,7 +69,8 @@ TellsChangingSwitch source later tables lines packets hops text =
 -- does whose program changes.** That the programs have the same fields and arrays is no premise: else the call would have answered 20.
 abbrev pub UpgradesTraceAsOneSwitch : Type 0
 UpgradesTraceAsOneSwitch = (source : List ℕ → List ℕ) (later : Files) (tables packets lines : List ℕ) (hops : Bool) (report : List ℕ)
-    → IsOutputFor (source tables) (file_of later tables) → AreOutputsOf source later lines → Did later (trace tables packets hops (changes lines)) report
+    → IsOutputFor (source tables) (file_of later tables) → AreOutputsOf source later lines
+    → Did later (trace tables packets hops (changes lines)) report
     → TellsChangingSwitch source later tables lines packets hops report
 
 -- ---- one program
@@ -90,5 +94,6 @@ pub record TellsOneSwitchUnder (source : List ℕ) (later : Files) (tables lines
 -- for its own topology and placement, and a call of `trace --changes` answered 0. Then what it wrote is what one big switch does.**
 abbrev pub ChangesTraceAsOneSwitch : Type 0
 ChangesTraceAsOneSwitch = (source : List ℕ) (later : Files) (tables packets lines : List ℕ) (report : List ℕ)
-    → IsOutputFor source (file_of later tables) → AreOutputsFor source later lines → Did later (trace tables packets false (changes lines)) report
+    → IsOutputFor source (file_of later tables) → AreOutputsFor source later lines
+    → Did later (trace tables packets false (changes lines)) report
     → TellsOneSwitchUnder source later tables lines packets report
