@@ -6,18 +6,16 @@ use Rattle.snap_build.specs.Parts.{EndsInSet}
 use Rattle.snap_build.proofs.Sending.{then_does}
 use Rattle.snap_build.proofs.policies.+before_run.Goals as goal
 
+pub set_before-requires-clause-fits : goal.set_before-requires-clause-fits
+set_before-requires-clause-fits t c =
+    let parts : EndsInSet c.args.pol.now c.in-Some.first.now c.in-Some.second.now = c.in-Some.ensures in
+    (parts.fits (sizes c.args.groups.now c.args.ctx.now) c.requires.fits).1
+
 pub before_run-requires : goal.before_run-requires
 before_run-requires t c =
     let parts : EndsInSet c.args.pol.now c.in-Some.first.now c.in-Some.second.now = c.in-Some.ensures in
-    let less = parts.less in (
-      omega (arith, less, c.decreases),
-      record {
-        fits = (parts.fits (sizes c.args.groups.now c.args.ctx.now) c.requires.fits).0;
-        free = c.requires.free;
-        last = c.in_ok-both-in-Some.ensures.diagram;
-        sends = c.in_ok-both-in-Some.ensures.sends;
-      },
-    )
+    let less = parts.less in
+    (omega (arith, less, c.decreases), ((parts.fits (sizes c.args.groups.now c.args.ctx.now) c.requires.fits).0, (c.requires.free, (c.in_ok-both-in-Some.ensures.diagram, c.in_ok-both-in-Some.ensures.sends))))
 
 pub returns-in_ok-both-in-Some-clause-does : goal.returns-in_ok-both-in-Some-clause-does
 returns-in_ok-both-in-Some-clause-does t c =

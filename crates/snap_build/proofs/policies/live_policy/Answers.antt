@@ -5,6 +5,16 @@ use Rattle.snap_build.specs.Parts.{EndsInSet}
 use Rattle.snap_build.proofs.Sending.{sends_set, then_part}
 use Rattle.snap_build.proofs.policies.live_policy.Goals as goal
 
+pub policy-requires-clause-fits : goal.policy-requires-clause-fits
+policy-requires-clause-fits c =
+    let parts : EndsInSet c.args.pol.now c.in-Some.first.now c.in-Some.second.now = c.in-Some.ensures in
+    (parts.fits (sizes c.args.groups.now c.args.ctx.now) c.requires.fits).1
+
+pub before_run-requires-clause-fits : goal.before_run-requires-clause-fits
+before_run-requires-clause-fits c =
+    let parts : EndsInSet c.args.pol.now c.in-Some.first.now c.in-Some.second.now = c.in-Some.ensures in
+    (parts.fits (sizes c.args.groups.now c.args.ctx.now) c.requires.fits).0
+
 pub before_run-requires-clause-sends : goal.before_run-requires-clause-sends
 before_run-requires-clause-sends c =
     let parts : EndsInSet c.args.pol.now c.in-Some.first.now c.in-Some.second.now = c.in-Some.ensures in
