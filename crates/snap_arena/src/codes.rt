@@ -67,7 +67,7 @@ pub fn push_atom(code: &mut Vec<u64>, atom: Atom) -> Result<(), NoMemory>
 pub fn push_index(code: &mut Vec<u64>, index: &Atoms) -> Result<(), NoMemory>
     ensures { OnOk result (code.new.items ≡ code.old.items ++ index_code index.now) }
 {
-    for atom in index.list() {
+    for atom in index.items() {
         push_atom(code, *atom)?;
     }
     push_one(code, 0)

@@ -39,7 +39,7 @@ pub fn same_test(a: &Test, b: &Test) -> bool
                 var: v,
                 index: i,
                 value: t,
-            } => *var == *v && same_index(index.list(), i.list()) && same_term(*value, *t),
+            } => *var == *v && same_index(index.items(), i.items()) && same_term(*value, *t),
             _ => false,
         },
     }

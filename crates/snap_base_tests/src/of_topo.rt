@@ -10,7 +10,7 @@ fn are_names(names: &Names, wanted: &[&[u8]]) -> bool {
             .items()
             .iter()
             .zip(wanted.iter())
-            .all(|(name, bytes)| name.bytes() == *bytes)
+            .all(|(name, bytes)| name.items() == *bytes)
 }
 
 // Whether ports are these, each at its switch.

@@ -15,11 +15,11 @@ use snap_arena::nodes::Nodes;
 use snap_chain::summing::push_update;
 use snap_core::NoMemory;
 use snap_core::bits::op_is_small;
-use snap_core::lists::Out;
+use snap_core::lists::{Out, Outs, Updates};
 use snap_core::policy::{Pol, Update};
 use snap_ctx::context::Context;
 use snap_dep::groups::Groups;
-use snap_fdd::leaf::{Go, Leaf, Outs, Updates};
+use snap_fdd::leaf::{Go, Leaf};
 use snap_fdd::only::only;
 use std::alloc::Global;
 

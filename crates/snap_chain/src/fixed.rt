@@ -31,7 +31,7 @@ fn push_in_run(
     ensures { OnOk result ((us : List Update) → EndInRun us ordered.old.items run.old.items → EndInRun (us ++ update.now ∷ []) ordered.new.items run.new.items) }
 {
     let next = update.copy()?;
-    if is_fixed(update.index.list()) {
+    if is_fixed(update.index.items()) {
         run.push(next)?;
         return Ok(());
     }

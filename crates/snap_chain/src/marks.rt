@@ -59,7 +59,7 @@ fn misses_term(mark: Mark, term: Term) -> bool
 fn misses_index(mark: Mark, index: &Atoms) -> bool
     ensures { IsTrue result → All (AtomMissed mark) index.now }
 {
-    index.list().iter().all(|atom| misses_atom(mark, *atom))
+    index.items().iter().all(|atom| misses_atom(mark, *atom))
 }
 
 /// Whether the leaves leave as it is what a test asks.
@@ -149,11 +149,11 @@ fn leaf_mark(leaf: &Leaf) -> Mark
             framed: true,
         },
         Leaf::Go(go) => Mark {
-            sets: set_by_all(go.outs.list()),
-            updates: updated_by(go.ups.list()),
+            sets: set_by_all(go.outs.items()),
+            updates: updated_by(go.ups.items()),
             tests: 0,
             writes: go.writes != 0,
-            framed: are_logged(go.writes, go.ups.list()),
+            framed: are_logged(go.writes, go.ups.items()),
         },
     }
 }

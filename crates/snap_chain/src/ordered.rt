@@ -34,7 +34,7 @@ fn all_add(ups: &[Update]) -> bool
 pub(crate) fn falling(a: &Update, b: &Update) -> Ordering
     ensures { result ≡ falling a.now b.now }
 {
-    compare_indices(b.index.list(), a.index.list())
+    compare_indices(b.index.items(), a.index.items())
 }
 
 /// Updates that do the same. Where all are additions, and in each run of updates at numbers, those whose places are tested

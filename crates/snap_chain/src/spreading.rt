@@ -21,11 +21,11 @@ use snap_arena::node::Node;
 use snap_arena::nodes::Nodes;
 use snap_arena::pairs::Pairs;
 use snap_core::NoMemory;
-use snap_core::lists::Out;
+use snap_core::lists::{Out, Outs, Updates};
 use snap_core::policy::Update;
 use snap_ctx::context::Context;
 use snap_dep::groups::Groups;
-use snap_fdd::leaf::{Go, Leaf, Outs, Updates};
+use snap_fdd::leaf::{Go, Leaf};
 use snap_fdd::only::only;
 use snap_fdd::pick::{ite, look};
 use snap_fdd::pruning::{Part, part_of};
@@ -92,7 +92,7 @@ fn all_after(
 fn go_behind(alloc: Global, go: &Go, later: &Go) -> Result<Leaf, NoMemory>
     ensures { IfOk result (IsBehindLeaf go.now later.now) }
 {
-    let (first, second) = (go.ups.list(), later.ups.list());
+    let (first, second) = (go.ups.items(), later.ups.items());
     let mut ups = Vec::with_capacity(alloc, first.len().saturating_add(second.len()))?;
     push_copies(&mut ups, first)?;
     push_updates(&mut ups, second)?;
@@ -174,7 +174,7 @@ fn prefixed_anew(
 fn only_sends(go: &Go) -> bool
     ensures { IsTrue result → OnlySends go.now }
 {
-    go.reads == 0 && go.writes == 0 && go.ups.list().is_empty()
+    go.reads == 0 && go.writes == 0 && go.ups.items().is_empty()
 }
 
 // Each leaf behind the updates and logs of another: as it is where that one has none.
@@ -215,7 +215,15 @@ pub fn spread(
     ensures number { IfOk result (λ r. r < length nodes.new) }
     ensures spread { IfOk result (λ r. IsSpread groups.now ctx.now go.now (diagram nodes.old d) (diagram nodes.new r)) }
 {
-    let all = all_after(nodes, groups, ctx, marks, go.outs.list(), go.ups.list(), d)?;
+    let all = all_after(
+        nodes,
+        groups,
+        ctx,
+        marks,
+        go.outs.items(),
+        go.ups.items(),
+        d,
+    )?;
     put_behind(nodes, groups, ctx, go, all)
 }
 

@@ -16,7 +16,7 @@ const MOST_PASSED: usize = 64;
 fn is_spelled_at(left: &Update, right: &Update) -> bool
     ensures { IsTrue result → IsSpelledAt left.now right.now }
 {
-    left.var == right.var && same_index(left.index.list(), right.index.list())
+    left.var == right.var && same_index(left.index.items(), right.index.items())
 }
 
 // The last addition at the place of an update, where additions alone come after it.

@@ -218,7 +218,7 @@ fn load_bytes<'a, S: Shelf>(
     ensures devices { OnlyReads (S.files shelf.old) (S.files shelf.new) (S.faults shelf.old) (S.faults shelf.new) result }
     ensures statuses { IfErr result (RefusesWith (2 ∷ 6 ∷ [])) }
 {
-    match read_whole(alloc, shelf, change.name.bytes(), MOST_TABLES) {
+    match read_whole(alloc, shelf, change.name.items(), MOST_TABLES) {
         Ok(text) => Ok(text),
         Err(ReadRefusal::Failed) => match change.name.copy() {
             Ok(name) => Err(Refusal::ReadChange { name }),

@@ -328,8 +328,8 @@ fn topology_message(fault: &TopologyFault) -> Message<'_>
     match fault {
         TopologyFault::NotToml => text(b"topology: not TOML"),
         TopologyFault::Shape { rule } => number(b"topology: shape", *rule as u64),
-        TopologyFault::SwitchTwice { name } => named(b"topology: switch twice", name.bytes()),
-        TopologyFault::UnknownSwitch { name } => named(b"topology: unknown switch", name.bytes()),
+        TopologyFault::SwitchTwice { name } => named(b"topology: switch twice", name.items()),
+        TopologyFault::UnknownSwitch { name } => named(b"topology: unknown switch", name.items()),
     }
 }
 
@@ -338,7 +338,7 @@ pub(crate) fn name_at(names: &Names, number: u16) -> &[u8]
     ensures { result.now ≡ name_in names.now number }
 {
     match names.items().get(number as usize) {
-        Some(name) => name.bytes(),
+        Some(name) => name.items(),
         None => &[],
     }
 }
@@ -351,8 +351,8 @@ fn demand_message(fault: &NoDemand) -> Message<'_>
         NoDemand::NotToml => text(b"demand: not TOML"),
         NoDemand::Shape { rule } => number(b"demand: shape", *rule as u64),
         NoDemand::NoPort { port } => number(b"demand: no port", *port as u64),
-        NoDemand::NoArray { name } => named(b"demand: no array", name.bytes()),
-        NoDemand::NoSwitch { name } => named(b"demand: no switch", name.bytes()),
+        NoDemand::NoArray { name } => named(b"demand: no array", name.items()),
+        NoDemand::NoSwitch { name } => named(b"demand: no switch", name.items()),
         NoDemand::Nowhere { arrays, array } => named(b"demand: nowhere", name_at(arrays, *array)),
     }
 }
@@ -364,7 +364,7 @@ fn placement_message(fault: &NoPlacement) -> Message<'_>
     match fault {
         NoPlacement::NotToml => text(b"placement: not TOML"),
         NoPlacement::Shape { rule } => number(b"placement: shape", *rule as u64),
-        NoPlacement::NoArray { name } => named(b"placement: no array", name.bytes()),
+        NoPlacement::NoArray { name } => named(b"placement: no array", name.items()),
         NoPlacement::NoPlace { arrays, array } => {
             named(b"placement: no place for", name_at(arrays, *array))
         }
@@ -478,7 +478,7 @@ impl Refusal<'_> {
             Refusal::Tables { fault } => tables_message(*fault),
             Refusal::Schedule { line } => number(b"schedule: line", *line),
             Refusal::Changes { line } => number(b"changes: line", *line),
-            Refusal::ReadChange { name } => named(b"cannot read", name.bytes()),
+            Refusal::ReadChange { name } => named(b"cannot read", name.items()),
             Refusal::VersionOne => text(b"tables: version 1"),
         }
     }

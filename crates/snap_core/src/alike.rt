@@ -45,5 +45,5 @@ pub fn same_names(left: &[Name], right: &[Name]) -> bool
 pub fn is_same_name(left: &Name, right: &Name) -> bool
     ensures { IsTrue result ↔ (left.now ≡ right.now) }
 {
-    left.bytes() == right.bytes()
+    left.items() == right.items()
 }

@@ -40,7 +40,7 @@ pub fn know_test(test: &Test)
         Test::Value { num, .. } => know_number(*num),
         Test::Equal { plus, .. } => know_number(*plus),
         Test::State { index, value, .. } => {
-            know_index(index.list());
+            know_index(index.items());
             know_term(*value);
         }
     }
@@ -51,7 +51,7 @@ pub fn know_updates(updates: &[Update])
     ensures { All UpdateInRange updates.now }
 {
     for update in updates {
-        know_index(update.index.list());
+        know_index(update.index.items());
         know_op(update.op);
     }
 }

@@ -446,7 +446,7 @@ pub(crate) fn number_at(
     requires { IndexFits (length packet.now) index.now }
     ensures { IfOk result (λ number. number ≡ arrays_of store.now (place_at var index.now packet.now)) }
 {
-    match index.list() {
+    match index.items() {
         [atom] => Ok(store.get(var, &[atom.value(packet)])),
         _ => number_at_any(alloc, var, index, store, packet),
     }

@@ -4,7 +4,7 @@ ghost use Rattle.std.specs.Prelude.{◌≡◌, ◌↔◌, IfOk, IsTrue};
 ghost use Rattle.snap_core.specs.Fits.{AtomFits, OpFits, IndexFits, UpdateFits, PredFits, PolFits};
 
 use crate::NoMemory;
-use crate::lists::Atoms;
+use crate::lists::{Atoms, Updates};
 use std::alloc::Global;
 
 /// A number, or a component of the packet.
@@ -83,7 +83,7 @@ impl Atom {
 fn index_fits(index: &Atoms, comps: usize) -> bool
     ensures { IsTrue result ↔ IndexFits comps index.now }
 {
-    index.list().iter().all(|atom| atom.fits(comps))
+    index.items().iter().all(|atom| atom.fits(comps))
 }
 
 impl Pred {
@@ -166,6 +166,15 @@ pub fn copy_updates(alloc: Global, updates: &[Update]) -> Result<Vec<Update>, No
         copies.push(update.copy()?)?;
     }
     Ok(copies)
+}
+
+impl Updates {
+    /// The same updates. Refuses for memory alone.
+    pub fn copy(&self, alloc: Global) -> Result<Updates, NoMemory>
+        ensures { IfOk result (λ copy. copy ≡ self.now) }
+    {
+        Ok(Updates::new(copy_updates(alloc, self.items())?))
+    }
 }
 
 impl Test {

@@ -127,7 +127,7 @@ impl Store {
         ensures ok { OnOk result (arrays_of self.new ≡ update (arrays_of self.old) change.now packet.now) }
         ensures err { OnErr result (arrays_of self.new ≡ arrays_of self.old) }
     {
-        match change.index.list() {
+        match change.index.items() {
             [atom] => {
                 let index = [atom.value(packet)];
                 self.write(change.var, &index, change.op.write(packet))?;

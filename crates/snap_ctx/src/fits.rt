@@ -11,7 +11,7 @@ use snap_core::policy::{Term, Test};
 fn index_fits(index: &Atoms, comps: u16) -> bool
     ensures { IsTrue result ↔ (IndexFits comps index.now × (length index.now ≤ 8)) }
 {
-    index.list().len() <= 8 && index.list().iter().all(|atom| atom.fits(comps as usize))
+    index.items().len() <= 8 && index.items().iter().all(|atom| atom.fits(comps as usize))
 }
 
 fn term_fits(term: Term, comps: u16) -> bool

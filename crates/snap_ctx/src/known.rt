@@ -149,7 +149,7 @@ fn push_fact(
             if is_in(settled, *var) {
                 return Ok(());
             }
-            push_held(key, classes, roots, *var, index.list(), *value, fact.yes)
+            push_held(key, classes, roots, *var, index.items(), *value, fact.yes)
         }
         Test::Value { comp, num } => {
             let left = normal_at(

@@ -117,7 +117,7 @@ fn look_pair(classes: &[Term], first: &Fact, second: &Fact) -> Result<(), Breach
     else {
         return Ok(());
     };
-    if *var != *other_var || !same_index(classes, index.list(), other_index.list()) {
+    if *var != *other_var || !same_index(classes, index.items(), other_index.items()) {
         return Ok(());
     }
     let left = normal_at(classes, *value);

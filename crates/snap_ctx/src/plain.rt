@@ -33,7 +33,7 @@ pub fn is_plain(test: &Test) -> bool
             var: _,
             index,
             value,
-        } => is_fixed(index.list()) && rooted::is_plain(*value),
+        } => is_fixed(index.items()) && rooted::is_plain(*value),
         Test::Value { .. } | Test::Equal { .. } => false,
     }
 }

@@ -101,8 +101,8 @@ fn fact_rooted(classes: &[Term], roots: u64, settled: u64, fact: &Fact) -> bool
     match fact.test.test() {
         Test::State { var, index, value } => {
             is_in(settled, *var)
-                || is_tied(classes, roots, index.list(), *value)
-                || is_loose(classes, roots, index.list(), *value)
+                || is_tied(classes, roots, index.items(), *value)
+                || is_loose(classes, roots, index.items(), *value)
         }
         _ => true,
     }
@@ -166,8 +166,8 @@ fn widened(classes: &[Term], roots: u64, settled: u64, facts: &Facts) -> u64
     let mut set = roots;
     for fact in facts.iter() {
         if let Test::State { var, index, value } = fact.test.test() {
-            if !is_in(settled, *var) && !is_loose(classes, set, index.list(), *value) {
-                set = with_roots(classes, set, index.list(), *value);
+            if !is_in(settled, *var) && !is_loose(classes, set, index.items(), *value) {
+                set = with_roots(classes, set, index.items(), *value);
             }
         }
     }

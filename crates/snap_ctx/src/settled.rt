@@ -25,7 +25,7 @@ fn is_at(classes: &[Term], var: u16, index: &[Atom], fact: &Fact) -> bool
             value,
         } => {
             *other != var
-                || (same_index(classes, place.list(), index)
+                || (same_index(classes, place.items(), index)
                     && is_plain(normal_at(classes, *value)))
         }
         _ => true,
@@ -58,7 +58,7 @@ fn is_settled(classes: &[Term], var: u16, facts: &Facts) -> bool
         } = fact.test.test()
         {
             if *other == var {
-                return all_at(classes, var, index.list(), facts);
+                return all_at(classes, var, index.items(), facts);
             }
         }
     }

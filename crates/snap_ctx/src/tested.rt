@@ -42,7 +42,7 @@ fn index_tested(index: &Atoms) -> u64
     ensures { All (AtomOver result) index.now }
 {
     let mut set = 0;
-    for atom in index.list() {
+    for atom in index.items() {
         set |= atom_tested(*atom);
     }
     set

@@ -7,9 +7,9 @@ ghost use Rattle.snap_demand.specs.OnDemand.{place_of, staged, stages_of};
 ghost use Rattle.snap_demand.specs.Runs.{IsRun};
 
 use snap_core::NoMemory;
-use snap_core::outs::copy_outs;
+use snap_core::lists::Updates;
 use snap_core::policy::{Test, Update, copy_updates};
-use snap_rows::lists::{Outs, Stages, Updates};
+use snap_rows::lists::Stages;
 use snap_rows::tables::{Row, Stage, Tables};
 use std::alloc::Global;
 
@@ -83,7 +83,7 @@ pub fn staged(alloc: Global, tables: &Tables, node: &Row) -> Result<Row, NoMemor
         }),
         Row::Last { ups, outs } => Ok(Row::Leaf {
             stages: Stages::new(stages(alloc, tables, ups.items())?),
-            outs: Outs::new(copy_outs(alloc, outs.items())?),
+            outs: outs.copy(alloc)?,
         }),
         Row::Go { .. } => unreachable!(),
         Row::Leaf { .. } => unreachable!(),

@@ -39,7 +39,7 @@ fn same_entries(left: &[Entry], right: &[Entry]) -> bool {
     }
     for (a, b) in left.iter().zip(right.iter()) {
         if a.place.var != b.place.var
-            || a.place.index.list() != b.place.index.list()
+            || a.place.index.items() != b.place.index.items()
             || a.value != b.value
         {
             return false;
@@ -119,8 +119,8 @@ fn gives(
         Leaf::Go(go) => Ok(
             go.reads == outcome.reads
                 && go.writes == outcome.writes
-                && makes(alloc, go.outs.list(), packet, &outcome.packets)?
-                && leaves(store, go.ups.list(), packet, &outcome.store)?,
+                && makes(alloc, go.outs.items(), packet, &outcome.packets)?
+                && leaves(store, go.ups.items(), packet, &outcome.store)?,
         ),
     }
 }

@@ -63,12 +63,12 @@ fn made(
     packet: &Packet,
     comps: [u64; 4],
 ) -> Result<Gives, Fail> {
-    if !updates_fit(go.ups.list(), packet) {
+    if !updates_fit(go.ups.items(), packet) {
         return Err("the updates don't fit")?;
     }
-    store.apply(packet, go.ups.list())?;
+    store.apply(packet, go.ups.items())?;
     Ok((
-        sent(alloc, go.outs.list(), packet)?,
+        sent(alloc, go.outs.items(), packet)?,
         store.get(0, &[comps[0]]),
         store.get(0, &[comps[2]]),
     ))

@@ -7,14 +7,14 @@ use crate::given::{
 };
 use snap_arena::node::Node;
 use snap_arena::nodes::Nodes;
-use snap_core::lists::Out;
+use snap_core::lists::{Out, Outs, Updates};
 use snap_core::packet::Packet;
 use snap_core::policy::{Atom, Term, Test};
 use snap_ctx::context::Context;
 use snap_dep::calls::groups;
 use snap_dep::groups::Groups;
 use snap_fdd::bounds::{leaf_fits, test_fits};
-use snap_fdd::leaf::{Go, Leaf, Outs, Updates};
+use snap_fdd::leaf::{Go, Leaf};
 use snap_fdd::only::only;
 use snap_fdd::pick::ite;
 use snap_fdd::pruning::prune;
@@ -115,7 +115,7 @@ fn asked(alloc: Global, facts: &[(Asks, bool)], tests: &[Asks]) -> Result<Made, 
 fn marked(leaf: &Leaf) -> Option<u64> {
     match leaf {
         Leaf::Race => None,
-        Leaf::Go(go) => match go.outs.list().first()?.parts().first()?.1 {
+        Leaf::Go(go) => match go.outs.items().first()?.parts().first()?.1 {
             Atom::Num(num) => Some(num),
             Atom::Comp(_) => None,
         },

@@ -17,9 +17,9 @@ fn is_pass(leaf: &Leaf) -> bool {
         Leaf::Go(go) => {
             go.reads == 0
                 && go.writes == 0
-                && go.ups.list().is_empty()
-                && go.outs.list().len() == 1
-                && go.outs.list().iter().all(|out| out.parts().is_empty())
+                && go.ups.items().is_empty()
+                && go.outs.items().len() == 1
+                && go.outs.items().iter().all(|out| out.parts().is_empty())
         }
     }
 }

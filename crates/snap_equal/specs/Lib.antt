@@ -1,3 +1,4 @@
+pub mod Asked
 pub mod Held
 pub mod Inputs
 pub mod Leaves

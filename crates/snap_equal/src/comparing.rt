@@ -1,8 +1,9 @@
 //! The comparison of two diagrams.
 
-ghost use Rattle.std.specs.Prelude.{◌≡◌, ◌<◌, ◌≤◌, [], IfOk, OnOk, length, true};
+ghost use Rattle.std.specs.Prelude.{◌≡◌, ◌≤◌, IfOk, OnOk, length, true};
 ghost use Rattle.snap_fdd.specs.Diagrams.{diagram};
-ghost use Rattle.snap_equal.specs.Inputs.{IsComparable, IsLeaf, IsTest, space};
+ghost use Rattle.snap_equal.specs.Asked.{AreAsked};
+ghost use Rattle.snap_equal.specs.Inputs.{IsLeaf, IsTest, space};
 ghost use Rattle.snap_equal.specs.Leaves.{AreRemembered, DiagramsDoSame, LeavesDoSame};
 ghost use Rattle.snap_equal.specs.Same.{CanBeCompared, IsCompared};
 ghost use Rattle.snap_equal.specs.Told.{AreBelow, IsAnswer, On, Where};
@@ -113,14 +114,7 @@ fn are_same(
     right: &Nodes<Leaf>,
     second: u64,
 ) -> Result<bool, NoMemory>
-    requires few { vars ≤ 64 }
-    requires plain { plan.now.plain.facts ≡ [] }
-    requires comps { length plan.now.plain.classes ≡ length ctx.now.classes }
-    requires first { first < length left.now }
-    requires second { second < length right.now }
-    requires left { IsComparable (space ctx.now vars) (diagram left.now first) }
-    requires right { IsComparable (space ctx.now vars) (diagram right.now second) }
-    requires memos { AreRemembered (length ctx.now.classes) left.now right.now memos.old }
+    requires { AreAsked ctx.now vars plan.now left.now right.now first second memos.old }
     ensures same { IfOk result (λ yes. yes ≡ true → On ctx.now (DiagramsDoSame (diagram left.now first) (diagram right.now second))) }
     ensures memos { OnOk result (AreRemembered (length ctx.now.classes) left.now right.now memos.new) }
 {
@@ -151,15 +145,8 @@ fn compare_under(
     right: &Nodes<Leaf>,
     second: u64,
 ) -> Result<Compared, NoMemory>
-    requires few { vars ≤ 64 }
-    requires plain { plan.now.plain.facts ≡ [] }
-    requires comps { length plan.now.plain.classes ≡ length ctx.now.classes }
     requires facts { AreBelow vars ctx.now }
-    requires first { first < length left.now }
-    requires second { second < length right.now }
-    requires left { IsComparable (space ctx.now vars) (diagram left.now first) }
-    requires right { IsComparable (space ctx.now vars) (diagram right.now second) }
-    requires memos { AreRemembered (length ctx.now.classes) left.now right.now memos.old }
+    requires asked { AreAsked ctx.now vars plan.now left.now right.now first second memos.old }
     ensures compared { IfOk result (IsAnswer ctx.now vars (DiagramsDoSame (diagram left.now first) (diagram right.now second))) }
     ensures memos { OnOk result (AreRemembered (length ctx.now.classes) left.now right.now memos.new) }
 {
@@ -207,16 +194,9 @@ fn compare_where(
     right: &Nodes<Leaf>,
     second: u64,
 ) -> Result<Compared, NoMemory>
-    requires few { vars ≤ 64 }
-    requires plain { plan.now.plain.facts ≡ [] }
-    requires comps { length plan.now.plain.classes ≡ length ctx.now.classes }
     requires facts { AreBelow vars ctx.now }
     requires test { IsTest (space ctx.now vars) test.now }
-    requires first { first < length left.now }
-    requires second { second < length right.now }
-    requires left { IsComparable (space ctx.now vars) (diagram left.now first) }
-    requires right { IsComparable (space ctx.now vars) (diagram right.now second) }
-    requires memos { AreRemembered (length ctx.now.classes) left.now right.now memos.old }
+    requires asked { AreAsked ctx.now vars plan.now left.now right.now first second memos.old }
     ensures compared { IfOk result (IsAnswer ctx.now vars (Where test.now yes (DiagramsDoSame (diagram left.now first) (diagram right.now second)))) }
     ensures memos { OnOk result (AreRemembered (length ctx.now.classes) left.now right.now memos.new) }
 {

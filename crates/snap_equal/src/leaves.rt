@@ -30,10 +30,10 @@ pub(crate) fn same_leaves(
         Leaf::Go(first) => match right {
             Leaf::Race => Ok(true),
             Leaf::Go(second) => {
-                if !same_packets(alloc, ctx, first.outs.list(), second.outs.list())? {
+                if !same_packets(alloc, ctx, first.outs.items(), second.outs.items())? {
                     return Ok(false);
                 }
-                same_stores(alloc, ctx, vars, first.ups.list(), second.ups.list())
+                same_stores(alloc, ctx, vars, first.ups.items(), second.ups.items())
             }
         },
     }

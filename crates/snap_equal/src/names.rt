@@ -36,7 +36,7 @@ fn atom_names(atom: Atom) -> u64 {
 /// The components of an index.
 pub(crate) fn index_names(index: &Atoms) -> u64 {
     let mut comps = 0;
-    for atom in index.list() {
+    for atom in index.items() {
         comps |= atom_names(*atom);
     }
     comps
@@ -100,10 +100,10 @@ pub(crate) fn leaf_names(leaf: &Leaf) -> Names {
         return NOTHING;
     };
     let mut names = NOTHING;
-    for out in go.outs.list() {
+    for out in go.outs.items() {
         names.comps |= out_names(out);
     }
-    for update in go.ups.list() {
+    for update in go.ups.items() {
         names = either(names, update_names(update));
     }
     names

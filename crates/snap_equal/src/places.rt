@@ -45,7 +45,7 @@ pub(crate) fn is_at(ctx: &Context, update: &Update, var: u16, index: &Atoms) -> 
     if update.var != var {
         return Ok(false);
     }
-    same_index(ctx, update.index.list(), index.list())
+    same_index(ctx, update.index.items(), index.items())
 }
 
 // Whether a context tells at once that two indices are equal.
@@ -71,7 +71,7 @@ pub(crate) fn reads_place(ctx: &Context, left: &Update, right: &Update) -> bool
     requires right { IsUpdate (length ctx.now.classes) right.now }
     ensures { result ≡ true → On ctx.now (λ m k. place_at left.now.var left.now.index k ≡ place_at right.now.var right.now.index k) }
 {
-    left.var == right.var && reads_index(ctx, left.index.list(), right.index.list())
+    left.var == right.var && reads_index(ctx, left.index.items(), right.index.items())
 }
 
 // Whether a context tells at once that two indices differ.
@@ -97,7 +97,7 @@ fn apart_places(ctx: &Context, left: &Update, right: &Update) -> bool
     requires right { IsUpdate (length ctx.now.classes) right.now }
     ensures { result ≡ true → On ctx.now (λ m k. place_at left.now.var left.now.index k ≢ place_at right.now.var right.now.index k) }
 {
-    left.var != right.var || apart_index(ctx, left.index.list(), right.index.list())
+    left.var != right.var || apart_index(ctx, left.index.items(), right.index.items())
 }
 
 // Whether a context tells at once that two operations at one place may change places: both add, or put the same number.

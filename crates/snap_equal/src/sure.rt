@@ -1,8 +1,9 @@
 //! Whether diagrams surely do the same under a context. What was found of a pair is remembered beside the facts that bear on it.
 
-ghost use Rattle.std.specs.Prelude.{◌≡◌, ◌<◌, ◌≤◌, [], IfOk, OnOk, false, length, true};
+ghost use Rattle.std.specs.Prelude.{◌≡◌, ◌≤◌, IfOk, OnOk, false, length, true};
 ghost use Rattle.snap_fdd.specs.Diagrams.{diagram};
-ghost use Rattle.snap_equal.specs.Inputs.{IsComparable, IsLeaf, IsTest, space};
+ghost use Rattle.snap_equal.specs.Asked.{AreAsked};
+ghost use Rattle.snap_equal.specs.Inputs.{IsLeaf, IsTest, space};
 ghost use Rattle.snap_equal.specs.Leaves.{AreRemembered, DiagramsDoSame, LeavesDoSame};
 ghost use Rattle.snap_equal.specs.Told.{AreBelow, On, Where};
 
@@ -113,14 +114,7 @@ pub(crate) fn same(
     right: &Nodes<Leaf>,
     second: u64,
 ) -> Result<bool, NoMemory>
-    requires few { vars ≤ 64 }
-    requires plain { plan.now.plain.facts ≡ [] }
-    requires comps { length plan.now.plain.classes ≡ length ctx.now.classes }
-    requires first { first < length left.now }
-    requires second { second < length right.now }
-    requires left { IsComparable (space ctx.now vars) (diagram left.now first) }
-    requires right { IsComparable (space ctx.now vars) (diagram right.now second) }
-    requires memos { AreRemembered (length ctx.now.classes) left.now right.now memos.old }
+    requires { AreAsked ctx.now vars plan.now left.now right.now first second memos.old }
     ensures same { IfOk result (λ yes. yes ≡ true → On ctx.now (DiagramsDoSame (diagram left.now first) (diagram right.now second))) }
     ensures memos { OnOk result (AreRemembered (length ctx.now.classes) left.now right.now memos.new) }
 {
@@ -164,14 +158,7 @@ fn same_met(
     right: &Nodes<Leaf>,
     second: u64,
 ) -> Result<bool, NoMemory>
-    requires few { vars ≤ 64 }
-    requires plain { plan.now.plain.facts ≡ [] }
-    requires comps { length plan.now.plain.classes ≡ length ctx.now.classes }
-    requires first { first < length left.now }
-    requires second { second < length right.now }
-    requires left { IsComparable (space ctx.now vars) (diagram left.now first) }
-    requires right { IsComparable (space ctx.now vars) (diagram right.now second) }
-    requires memos { AreRemembered (length ctx.now.classes) left.now right.now memos.old }
+    requires { AreAsked ctx.now vars plan.now left.now right.now first second memos.old }
     ensures same { IfOk result (λ yes. yes ≡ true → On ctx.now (DiagramsDoSame (diagram left.now first) (diagram right.now second))) }
     ensures memos { OnOk result (AreRemembered (length ctx.now.classes) left.now right.now memos.new) }
 {
@@ -196,14 +183,7 @@ fn same_anew(
     right: &Nodes<Leaf>,
     second: u64,
 ) -> Result<bool, NoMemory>
-    requires few { vars ≤ 64 }
-    requires plain { plan.now.plain.facts ≡ [] }
-    requires comps { length plan.now.plain.classes ≡ length ctx.now.classes }
-    requires first { first < length left.now }
-    requires second { second < length right.now }
-    requires left { IsComparable (space ctx.now vars) (diagram left.now first) }
-    requires right { IsComparable (space ctx.now vars) (diagram right.now second) }
-    requires memos { AreRemembered (length ctx.now.classes) left.now right.now memos.old }
+    requires { AreAsked ctx.now vars plan.now left.now right.now first second memos.old }
     ensures same { IfOk result (λ yes. yes ≡ true → On ctx.now (DiagramsDoSame (diagram left.now first) (diagram right.now second))) }
     ensures memos { OnOk result (AreRemembered (length ctx.now.classes) left.now right.now memos.new) }
 {
@@ -254,15 +234,9 @@ fn same_ways(
     right_yes: u64,
     right_no: u64,
 ) -> Result<bool, NoMemory>
-    requires few { vars ≤ 64 }
-    requires plain { plan.now.plain.facts ≡ [] }
-    requires comps { length plan.now.plain.classes ≡ length ctx.now.classes }
     requires test { IsTest (space ctx.now vars) test.now }
-    requires below_left { (left_yes < length left.now) × (left_no < length left.now) }
-    requires below_right { (right_yes < length right.now) × (right_no < length right.now) }
-    requires left { IsComparable (space ctx.now vars) (diagram left.now left_yes) × IsComparable (space ctx.now vars) (diagram left.now left_no) }
-    requires right { IsComparable (space ctx.now vars) (diagram right.now right_yes) × IsComparable (space ctx.now vars) (diagram right.now right_no) }
-    requires memos { AreRemembered (length ctx.now.classes) left.now right.now memos.old }
+    requires yes { AreAsked ctx.now vars plan.now left.now right.now left_yes right_yes memos.old }
+    requires no { AreAsked ctx.now vars plan.now left.now right.now left_no right_no memos.old }
     ensures yes { IfOk result (λ same. same ≡ true → On ctx.now (Where test.now true (DiagramsDoSame (diagram left.now left_yes) (diagram right.now right_yes)))) }
     ensures no { IfOk result (λ same. same ≡ true → On ctx.now (Where test.now false (DiagramsDoSame (diagram left.now left_no) (diagram right.now right_no)))) }
     ensures memos { OnOk result (AreRemembered (length ctx.now.classes) left.now right.now memos.new) }
@@ -291,15 +265,8 @@ fn same_where(
     right: &Nodes<Leaf>,
     second: u64,
 ) -> Result<bool, NoMemory>
-    requires few { vars ≤ 64 }
-    requires plain { plan.now.plain.facts ≡ [] }
-    requires comps { length plan.now.plain.classes ≡ length ctx.now.classes }
     requires test { IsTest (space ctx.now vars) test.now }
-    requires first { first < length left.now }
-    requires second { second < length right.now }
-    requires left { IsComparable (space ctx.now vars) (diagram left.now first) }
-    requires right { IsComparable (space ctx.now vars) (diagram right.now second) }
-    requires memos { AreRemembered (length ctx.now.classes) left.now right.now memos.old }
+    requires asked { AreAsked ctx.now vars plan.now left.now right.now first second memos.old }
     ensures same { IfOk result (λ same. same ≡ true → On ctx.now (Where test.now yes (DiagramsDoSame (diagram left.now first) (diagram right.now second)))) }
     ensures memos { OnOk result (AreRemembered (length ctx.now.classes) left.now right.now memos.new) }
 {

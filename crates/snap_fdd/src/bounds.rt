@@ -17,13 +17,13 @@ use snap_dep::groups::Groups;
 fn atoms_fit(index: &Atoms, comps: u16) -> bool
     ensures { IsTrue result ↔ IndexFits comps index.now }
 {
-    index.list().iter().all(|atom| atom.fits(comps as usize))
+    index.items().iter().all(|atom| atom.fits(comps as usize))
 }
 
 fn index_fits(index: &Atoms, comps: u16) -> bool
     ensures { IsTrue result ↔ IsIndex comps index.now }
 {
-    let atoms = index.list().len();
+    let atoms = index.items().len();
     1 <= atoms && atoms <= 8 && atoms_fit(index, comps)
 }
 
@@ -81,8 +81,8 @@ fn is_set_of(set: u64, vars: usize) -> bool
 fn go_fits(groups: &Groups, ctx: &Context, go: &Go) -> bool
     ensures { IsTrue result ↔ LeafIn (sizes groups.now ctx.now) (Goes go.now) }
 {
-    outs_fit(go.outs.list(), ctx.comps())
-        && updates_fit(groups, ctx, go.ups.list())
+    outs_fit(go.outs.items(), ctx.comps())
+        && updates_fit(groups, ctx, go.ups.items())
         && is_set_of(go.reads, groups.count())
         && is_set_of(go.writes, groups.count())
 }

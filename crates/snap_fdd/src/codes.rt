@@ -64,8 +64,8 @@ impl Coded for Leaf {
             Leaf::Race => push_one(out, 0),
             Leaf::Go(go) => {
                 push_three(out, 1, go.reads, go.writes)?;
-                push_outs(out, go.outs.list())?;
-                push_updates(out, go.ups.list())
+                push_outs(out, go.outs.items())?;
+                push_updates(out, go.ups.items())
             }
         }
     }

@@ -71,7 +71,7 @@ fn misses(ctx: &Context, comps: u64, test: &Test) -> bool
     ensures { IsTrue result → AreMissed ctx.now.classes comps (index_of test.now) }
 {
     match test {
-        Test::State { index, .. } => are_missed(ctx, comps, index.list()),
+        Test::State { index, .. } => are_missed(ctx, comps, index.items()),
         Test::Value { .. } | Test::Equal { .. } => false,
     }
 }
@@ -154,7 +154,7 @@ fn is_other_place(test: &Test, var: u16, index: &[Atom]) -> bool
             var: own,
             index: place,
             value: _,
-        } => var != *own || (is_fixed(index) && !same_index(index, place.list())),
+        } => var != *own || (is_fixed(index) && !same_index(index, place.items())),
         Test::Value { .. } | Test::Equal { .. } => false,
     }
 }
@@ -167,7 +167,7 @@ fn is_beside(fact: &Fact, other: &Fact) -> bool
             var,
             index,
             value: _,
-        } => is_other_place(fact.test.test(), *var, index.list()),
+        } => is_other_place(fact.test.test(), *var, index.items()),
         Test::Value { .. } | Test::Equal { .. } => true,
     }
 }

@@ -94,7 +94,7 @@ fn compare_states(
         .rank(a.0)
         .cmp(&groups.rank(b.0))
         .then(a.0.cmp(&b.0))
-        .then(compare_indices(index.list(), other.list()))
+        .then(compare_indices(index.items(), other.items()))
         .then(compare_terms(a.1, b.1))
 }
 

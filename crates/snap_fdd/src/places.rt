@@ -55,7 +55,7 @@ impl Spelling {
             value,
         } = test
         {
-            for atom in index.list() {
+            for atom in index.items() {
                 self.note_atom(*atom);
             }
             if let Term::Plus { comp, plus: _ } = *value {
@@ -115,7 +115,7 @@ fn is_within(spelling: Spelling, test: &Test) -> bool
             var: _,
             index,
             value,
-        } => index_is_within(spelling, index.list()) && term_is_within(spelling, *value),
+        } => index_is_within(spelling, index.items()) && term_is_within(spelling, *value),
         Test::Value { .. } | Test::Equal { .. } => false,
     }
 }
@@ -321,7 +321,7 @@ fn test_is_own(ctx: &Context, bound: u64, test: &Test) -> bool
             var: _,
             index,
             value,
-        } => index_is_own(ctx, bound, index.list()) && term_is_own(ctx, *value),
+        } => index_is_own(ctx, bound, index.items()) && term_is_own(ctx, *value),
         Test::Value { .. } | Test::Equal { .. } => false,
     }
 }

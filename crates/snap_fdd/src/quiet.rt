@@ -46,7 +46,7 @@ fn same_subject(a: &Test, b: &Test) -> bool
                 var: v,
                 index: i,
                 value: _,
-            } => *var == *v && same_index(index.list(), i.list()),
+            } => *var == *v && same_index(index.items(), i.items()),
             _ => false,
         },
     }

@@ -64,7 +64,7 @@ pub(crate) fn note_spot(
     term: Term,
 ) -> Result<bool, NoMemory> {
     for spot in spots.iter() {
-        if same_index(spot.index.list(), index.list()) {
+        if same_index(spot.index.items(), index.items()) {
             return Ok(spot.asked.is_for(term));
         }
     }
@@ -78,7 +78,7 @@ pub(crate) fn note_spot(
 fn is_spot(spot: &Spot, index: &Atoms, term: Term) -> bool
     ensures { IsTrue result → ((spot.now.index ≡ index.now) × AskedFor spot.now.asked term) }
 {
-    same_index(spot.index.list(), index.list()) && spot.asked.is_for(term)
+    same_index(spot.index.items(), index.items()) && spot.asked.is_for(term)
 }
 
 // Whether a place is among the spots, and tested for the term.
@@ -125,7 +125,7 @@ fn indices_apart(values: u64, a: &[Atom], b: &[Atom]) -> bool
 fn is_apart(values: u64, before: &[Spot], spot: &Spot) -> bool
     ensures { IsTrue result → All (λ (other : Spot). IndicesApart values other.index spot.now.index) before.now }
 {
-    before.iter().all(|other| indices_apart(values, other.index.list(), spot.index.list()))
+    before.iter().all(|other| indices_apart(values, other.index.items(), spot.index.items()))
 }
 
 /// Whether no two of the places turn out to be one, where the components of a set have numbers.

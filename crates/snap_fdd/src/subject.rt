@@ -47,7 +47,7 @@ fn excludes(a: &Test, b: &Test) -> bool
                 var: v,
                 index: i,
                 value: t,
-            } => *var == *v && same_index(index.list(), i.list()) && apart(*value, *t),
+            } => *var == *v && same_index(index.items(), i.items()) && apart(*value, *t),
             _ => false,
         },
     }

@@ -87,7 +87,7 @@ impl Survey {
     fn are_free(&self, index: &Atoms) -> bool
         ensures { IsTrue result ↔ All (AtomIsFree self.now) index.now }
     {
-        index.list().iter().all(|atom| self.is_free(*atom))
+        index.items().iter().all(|atom| self.is_free(*atom))
     }
 
     fn has_place(&self, var: u16, index: &Atoms, term: Term) -> bool
@@ -113,7 +113,7 @@ impl Survey {
             Test::Equal { .. } => false,
             Test::State { var, index, value } => {
                 know_term(*value);
-                know_index(index.list());
+                know_index(index.items());
                 self.has_place(*var, index, *value)
             }
         }

@@ -40,7 +40,7 @@ fn passes_at(test: &Test, store: &Store, packet: &Packet) -> bool
         }
         Test::State { var, index, value } => {
             let mut numbers = [0u64; 8];
-            let index = index.list();
+            let index = index.items();
             fill(&mut numbers, index, packet);
             store.get(*var, &numbers[..index.len()]) == value.value(packet)
         }

@@ -16,12 +16,11 @@ use Rattle.snap_core.proofs.Unwritten.{updated_keeps}
 use Rattle.snap_dep.proofs.Sets.{has-pow_other}
 use Rattle.snap_rows.specs.declared.tables.Tables.{Tables}
 use Rattle.snap_rows.specs.declared.tables.Row.TheVariants.{Last}
-use Rattle.snap_rows.specs.declared.head.Head.TheVariants.{Walk}
 use Rattle.snap_rows.specs.Entries.{Parts, row_at, port_at, rank_at, rank_of, ranks}
 use Rattle.snap_rows.specs.Form.{array_count, IsUpdateInForm}
 use Rattle.snap_rows.specs.Home.{IsVisitAtHome}
 use Rattle.snap_rows.specs.Handles.{Follows, Visits, is_field}
-use Rattle.snap_rows.specs.Network.{Net, Event, Happening, inject, step, RunsCalmly, rests, injects, steps, packets_of}
+use Rattle.snap_rows.specs.Network.{Net, Event, Inject, Happening, Leads, step, RunsCalmly, rests, injects, steps, packets_of}
 use Rattle.snap_rows.proofs.Rows.{row_form, nodes}
 use Rattle.snap_rows.proofs.Visited.{visits_same}
 use Rattle.snap_rows.proofs.Later.{rank_is_below}
@@ -29,7 +28,9 @@ use Rattle.snap_gen.specs.Visits.{Enters, Chained, begun, visited}
 use Rattle.snap_gen.proofs.Nodes.{IsTwo}
 use Rattle.snap_gen.proofs.Walks.{rank_updates}
 use Rattle.snap_gen.proofs.Chained.{visits_one, chains_one, fields_alike, home_on, home_first}
-use Rattle.snap_gen.proofs.Guides.{Guide, Holds, NetHolds, after, after_own, after_other, Journey, walking, journey_on}
+use Rattle.snap_gen.proofs.Trips as trips
+use Rattle.snap_gen.proofs.Trips.{Trip, trip_on}
+use Rattle.snap_gen.proofs.Guides.{Guide, Holds, NetHolds, standing, after, after_own, after_other, walking, guided}
 
 -- updates of variables below n leave places from n on
 beyond : (us : List Update) (s : Arrays) (k : List ℕ) (n : ℕ) (q : Place) → n ≤ q.var → All (λ (u : Update). u.var < n) us → updates s us k q ≡ s q
@@ -153,23 +154,23 @@ module _ (t : Tables) (two : IsTwo t) (k : List ℕ) where
     by_chain = record { AtWalk = Begins; AtVisit = Stands; AtEnd = ForkedAt; enters = start; goes_on = on; ends = fork }
 
   -- ---- the run of one packet
-  during : (g : Guide t k) {s s' : Net} {es : List Event} {hs : List Happening} (gs : List Happening) → packets_of es ≡ [] → Journey t k g 0 s gs → RunsCalmly t s es s' hs → Journey t k g 0 s' (gs ++ hs)
-  during g {s = s} gs no_more state rests = subst (Journey t k g 0 s) (sym (append-nil gs)) state
+  abbrev pub Travels : Guide t k → Net → List Happening → Type 0
+  Travels g s hs = Trip t (standing t) k (guided t two k g) 0 s hs
+
+  during : (g : Guide t k) {s s' : Net} {es : List Event} {hs : List Happening} (gs : List Happening) → packets_of es ≡ [] → Travels g s gs → RunsCalmly t s es s' hs → Travels g s' (gs ++ hs)
+  during g {s = s} gs no_more state rests = subst (Travels g s) (sym (append-nil gs)) state
   during g gs no_more state (injects {es = es} e leads more) = absurd (let f : suc (length (packets_of es)) ≡ 0 = ap length no_more in omega (arith, f))
   during g {s' = s'} gs no_more state (steps {s = s} {s' = s1} {i = j} {h = h} {hs = hs} leads rest) =
-      subst (Journey t k g 0 s') (append_assoc gs h hs) (during g (gs ++ h) no_more (journey_on t two k g 0 j s s1 gs h state leads) rest)
+      subst (Travels g s') (append_assoc gs h hs) (during g (gs ++ h) no_more (trip_on t (standing t) k (guided t two k g) 0 j s s1 gs h state leads) rest)
 
   pub one_run : (g : Guide t k) (a : Arrays) → ((w : ℕ) → port_at t (slice_index k 0) ≡ Some w → g.AtWalk w a) → (port : ℕ) {s s' : Net} {es : List Event} {hs : List Happening}
-      → packets_of es ≡ (port, k) ∷ [] → s.flying ≡ [] → s.injected ≡ 0 → NetHolds t s a → RunsCalmly t s es s' hs → Journey t k g 0 s' hs
+      → packets_of es ≡ (port, k) ∷ [] → s.flying ≡ [] → s.injected ≡ 0 → NetHolds t s a → RunsCalmly t s es s' hs → Travels g s' hs
   one_run g a begin port one none none_injected held rests = absurd (let f : 0 ≡ 1 = ap length one in omega (arith, f))
   one_run g a begin port one none none_injected held (steps {i = j} (step {c = c} found does) more) = absurd (none-some c (subst (λ f. slice_get f j ≡ Some c) none found))
-  one_run g a begin port one none none_injected held (injects {s = s} {s' = s1} {port = port'} {k = k'} {es = es} {hs = hs} e (inject {w = w} own names) rest) =
-      let same : k' ≡ k = ap (λ l. (head_first l).1) one in
-      during g [] (ap (λ l. drop 1 l) one)
-      (walking
-      (λ x. none x ++ record { number = none_injected x; at = w; head = Walk 0; packet = same x; hops = 0; steps = 0 } ∷ [])
-      (begin w (subst (λ y. port_at t y ≡ Some w) (sym names ∙ ap (λ y. slice_index y 0) same) own))
-      held (record { deliveries = refl; losses = refl }))
+  one_run g a begin port one none none_injected held (injects {s = s} {s' = s1} {port = port'} {k = k'} {es = es} {h = h} {hs = hs} e leads rest) =
+      during g h (ap (λ l. drop 1 l) one)
+      (trips.begun t (standing t) k (guided t two k g) 0 s s1 [] h port' a none (λ w at. walking (begin w at)) held none_injected (record { deliveries = refl; losses = refl })
+      (subst (λ y. Leads t s (Inject port' y) s1 h) (ap (λ l. (head_first l).1) one) leads))
       rest
     where
       head_first : List (ℕ × List ℕ) → ℕ × List ℕ

@@ -1,5 +1,5 @@
--- Calm runs act as one big switch.
-use Rattle.std.proofs.Common.{◌≡◌, ℕ, zero, suc, ◌+◌, ◌≤◌, ◌⊎◌, inl, inr, List, [], ◌∷◌, ◌++◌, length, Some, refl, sym, ap, subst, ◌∙◌, arith, append_assoc}
+-- Calm runs act as one big switch where each packet alone does.
+use Rattle.std.proofs.Common.{◌≡◌, ℕ, zero, suc, ◌+◌, ◌≤◌, ◌⊎◌, inl, inr, List, [], ◌∷◌, ◌++◌, length, Option, Some, refl, sym, ap, subst, ◌∙◌, arith, append_assoc}
 use Rattle.std.specs.Prelude.{slice_get}
 use Rattle.std.specs.List.{All}
 use Rattle.std.proofs.lemmas.List.{append-nil, length-append}
@@ -11,25 +11,32 @@ use Rattle.snap_core.specs.Inputs.{IsStore, IsPacket}
 use Rattle.snap_core.specs.Packets.{PacketSet}
 use Rattle.snap_core.specs.Meaning.{Meaning, eval}
 use Rattle.snap_core.specs.Switch.{Switched, one_big_switch}
+use Rattle.snap_dep.specs.Locality.{NeverRaces}
 use Rattle.snap_rows.specs.declared.tables.Tables.{Tables}
 use Rattle.snap_rows.specs.declared.head.Head.TheVariants.{Walk}
 use Rattle.snap_rows.specs.Network.{Net, Event, Inject, Step, Happening, Leads, RunsCalmly, rests, injects, steps, inject, step, happening, packets_of}
 use Rattle.snap_gen.specs.Agreement.{CameOut}
 use Rattle.snap_gen.specs.Faithful.{packets_in}
-use Rattle.snap_gen.proofs.Acting.{Means}
 use Rattle.snap_gen.proofs.Leaving.{IsQuiet, quiet_more, happens_elsewhere, came_still}
-use Rattle.snap_gen.proofs.Guides.{NetHolds, Journey, walking, journey_on, numbers, Ended, ended}
-use Rattle.snap_gen.proofs.ByMeaning.{by_meaning}
+use Rattle.snap_gen.proofs.Holding.{HoldsOf, NetHoldsOf}
+use Rattle.snap_gen.proofs.Trips.{Way, Trip, trip_on, numbers, Ended, ended, begun}
 use Rattle.snap_gen.proofs.Switching.{behind, switched_more, in_pushed, some_eval, KeepsStores}
 
+-- ways of all packets, from the arrays m before each; where one is over, the arrays that have an owner are the outcome's
+pub record Ways (p : Pol) (c : ℕ) (t : Tables) (owner : ℕ → Option ℕ) : Type 1 where
+  pub way : (k : List ℕ) (m : Arrays) (o : Meaning) → IsStore m → IsPacket c k → eval p m k ≡ Some o → Way t owner k
+  pub enters : (k : List ℕ) (m : Arrays) (o : Meaning) (store : IsStore m) (packet : IsPacket c k) (outcome : eval p m k ≡ Some o) (w : ℕ) → (way k m o store packet outcome).Ahead w (Walk 0) m
+  pub ends : (k : List ℕ) (m : Arrays) (o : Meaning) (store : IsStore m) (packet : IsPacket c k) (outcome : eval p m k ≡ Some o) (set : PacketSet) (a : Arrays)
+      → (way k m o store packet outcome).IsOver set a → (o.packets ≡ set) × ((w : ℕ) → HoldsOf owner w a o.arrays)
+
 -- the packets came out as of one big switch, and the switches hold what it holds
-pub record ActedAsOne (p : Pol) (t : Tables) (m : Arrays) (ks : List (List ℕ)) (s : Net) (hs : List Happening) : Type 0 where
+pub record ActedAsOne (p : Pol) (t : Tables) (owner : ℕ → Option ℕ) (m : Arrays) (ks : List (List ℕ)) (s : Net) (hs : List Happening) : Type 0 where
   pub answer : Switched
   pub switched : one_big_switch p m ks ≡ Some answer
   pub came : (i : ℕ) (set : PacketSet) → slice_get answer.packets i ≡ Some set → CameOut t i set hs
-  pub held : NetHolds t s answer.arrays
+  pub held : NetHoldsOf owner s answer.arrays
 
-module _ (p : Pol) (c n : ℕ) (order : List ℕ) (t : Tables) (means : Means p c n order t) (keeps : KeepsStores p c) (m0 : Arrays) where
+module _ (p : Pol) (c : ℕ) (t : Tables) (owner : ℕ → Option ℕ) (never : NeverRaces p c) (ways : Ways p c t owner) (keeps : KeepsStores p c) (m0 : Arrays) where
   -- what the finished packets have become; nothing is told of a number from f on
   record Past (ks : List (List ℕ)) (a : Switched) (f : ℕ) (hs : List Happening) : Type 0 where
     switched : one_big_switch p m0 ks ≡ Some a
@@ -40,7 +47,7 @@ module _ (p : Pol) (c n : ℕ) (order : List ℕ) (t : Tables) (means : Means p 
   record Idle (ks : List (List ℕ)) (s : Net) (hs : List Happening) : Type 0 where
     answer : Switched
     past : Past ks answer (length answer.packets) hs
-    held : NetHolds t s answer.arrays
+    held : NetHoldsOf owner s answer.arrays
     injected : s.injected ≡ length answer.packets
     flying : s.flying ≡ []
 
@@ -53,7 +60,7 @@ module _ (p : Pol) (c n : ℕ) (order : List ℕ) (t : Tables) (means : Means p 
     packet : IsPacket c k
     outcome : eval p answer.arrays k ≡ Some o
     injected : s.injected ≡ suc (length answer.packets)
-    one : Journey t k (by_meaning p c n order t means answer.arrays k o past.store packet outcome) (length answer.packets) s hs
+    one : Trip t owner k (ways.way k answer.arrays o past.store packet outcome) (length answer.packets) s hs
     all : ks ≡ before ++ k ∷ []
 
   to_idle : (ks : List (List ℕ)) (s : Net) (hs : List Happening) → Idle ks s hs ⊎ Busy ks s hs → s.flying ≡ [] → Idle ks s hs
@@ -66,24 +73,27 @@ module _ (p : Pol) (c n : ℕ) (order : List ℕ) (t : Tables) (means : Means p 
       came = λ i set is. by i set (in_pushed b.answer.packets b.o.packets set i is);
       fresh = λ i low. b.past.fresh i (subst (λ x. x ≤ i) longer low);
     };
-    held = λ w q at. end.held w q at ∙ end.end.1.stands w q at;
+    held = λ w q at. end.held w q at ∙ over.1 w q at;
     injected = b.injected ∙ sym longer;
     flying = none;
   }
     where
-      end : Ended t b.k (by_meaning p c n order t means b.answer.arrays b.k b.o b.past.store b.packet b.outcome) (length b.answer.packets) s hs
-      end = ended t means.two b.k (by_meaning p c n order t means b.answer.arrays b.k b.o b.past.store b.packet b.outcome) (length b.answer.packets) s hs none b.one
+      end : Ended t owner b.k (ways.way b.k b.answer.arrays b.o b.past.store b.packet b.outcome) (length b.answer.packets) s hs
+      end = ended t owner b.k (ways.way b.k b.answer.arrays b.o b.past.store b.packet b.outcome) (length b.answer.packets) s hs none b.one
+
+      over : (b.o.packets ≡ end.set) × ((w : ℕ) → HoldsOf owner w end.arrays b.o.arrays)
+      over = ways.ends b.k b.answer.arrays b.o b.past.store b.packet b.outcome end.set end.arrays end.end
 
       longer : length (b.answer.packets ++ b.o.packets ∷ []) ≡ suc (length b.answer.packets)
       longer = length-append b.answer.packets (b.o.packets ∷ []) ∙ omega arith
 
       by : (i : ℕ) (set : PacketSet) → (slice_get b.answer.packets i ≡ Some set) ⊎ ((i ≡ length b.answer.packets) × (b.o.packets ≡ set)) → CameOut t i set hs
       by i set (inl old) = b.past.came i set old
-      by i set (inr new) = subst (λ y. CameOut t i y hs) (sym end.end.0 ∙ new.1) (subst (λ j. CameOut t j end.set hs) (sym new.0) end.came)
+      by i set (inr new) = subst (λ y. CameOut t i y hs) (sym over.0 ∙ new.1) (subst (λ j. CameOut t j end.set hs) (sym new.0) end.came)
 
   begin : (ks : List (List ℕ)) (s s' : Net) (hs h : List Happening) (port : ℕ) (k : List ℕ) → IsPacket c k → Idle ks s hs → Leads t s (Inject port k) s' h → Busy (ks ++ k ∷ []) s' (hs ++ h)
   begin ks s s' hs h port k packet i (inject {w = w} own names) =
-      let o = some_eval p i.answer.arrays k (means.never i.answer.arrays k i.past.store packet) in
+      let o = some_eval p i.answer.arrays k (never i.answer.arrays k i.past.store packet) in
       let same : hs ++ [] ≡ hs = append-nil hs in
       record {
         before = ks;
@@ -99,8 +109,8 @@ module _ (p : Pol) (c n : ℕ) (order : List ℕ) (t : Tables) (means : Means p 
         packet = packet;
         outcome = o.1;
         injected = ap (λ x. x + 1) i.injected ∙ omega arith;
-        one = walking (λ x. i.flying x ++ record { number = i.injected x; at = w; head = Walk 0; packet = k; hops = 0; steps = 0 } ∷ []) (λ q. refl) i.held
-            (subst (IsQuiet (length i.answer.packets)) (sym same) (i.past.fresh (length i.answer.packets) (omega arith)));
+        one = begun t owner k (ways.way k i.answer.arrays o.0 i.past.store packet o.1) (length i.answer.packets) s _ hs [] port i.answer.arrays i.flying (λ w at. ways.enters k i.answer.arrays o.0 i.past.store packet o.1 w) i.held i.injected
+            (i.past.fresh (length i.answer.packets) (omega arith)) (inject own names);
         all = refl;
       }
 
@@ -119,12 +129,12 @@ module _ (p : Pol) (c n : ℕ) (order : List ℕ) (t : Tables) (means : Means p 
     packet = b.packet;
     outcome = b.outcome;
     injected = b.injected;
-    one = journey_on t means.two b.k (by_meaning p c n order t means b.answer.arrays b.k b.o b.past.store b.packet b.outcome) (length b.answer.packets) j s _ hs (happening x a ∷ []) b.one (step found does);
+    one = trip_on t owner b.k (ways.way b.k b.answer.arrays b.o b.past.store b.packet b.outcome) (length b.answer.packets) j s _ hs (happening x a ∷ []) b.one (step found does);
     all = b.all;
   }
     where
       own : x.number ≡ length b.answer.packets
-      own = numbers t means.two b.k (by_meaning p c n order t means b.answer.arrays b.k b.o b.past.store b.packet b.outcome) (length b.answer.packets) s hs j x b.one found
+      own = numbers t owner b.k (ways.way b.k b.answer.arrays b.o b.past.store b.packet b.outcome) (length b.answer.packets) s hs j x b.one found
 
   stepped_on : (ks : List (List ℕ)) (s s' : Net) (hs h : List Happening) (j : ℕ) → Idle ks s hs ⊎ Busy ks s hs → Leads t s (Step j) s' h → Busy ks s' (hs ++ h)
   stepped_on ks s s' hs h j (inl i) (step {c = x} found does) = absurd (none-some x (subst (λ f. slice_get f j ≡ Some x) i.flying found))
@@ -142,8 +152,8 @@ module _ (p : Pol) (c n : ℕ) (order : List ℕ) (t : Tables) (means : Means p 
       subst (λ y. Idle (ks ++ packets_in (packets_of es)) s' y ⊎ Busy (ks ++ packets_in (packets_of es)) s' y) (append_assoc gs h hs)
       (all_runs ks (gs ++ h) packets rest (inr (stepped_on ks s s1 gs h j state leads)))
 
-  pub calm_runs : (s : Net) → IsStore m0 → NetHolds t s m0 → s.injected ≡ zero → s.flying ≡ [] → (es : List Event) (s' : Net) (hs : List Happening) → All (IsPacket c) (packets_in (packets_of es))
-      → RunsCalmly t s es s' hs → s'.flying ≡ [] → ActedAsOne p t m0 (packets_in (packets_of es)) s' hs
+  pub calm_runs : (s : Net) → IsStore m0 → NetHoldsOf owner s m0 → s.injected ≡ zero → s.flying ≡ [] → (es : List Event) (s' : Net) (hs : List Happening) → All (IsPacket c) (packets_in (packets_of es))
+      → RunsCalmly t s es s' hs → s'.flying ≡ [] → ActedAsOne p t owner m0 (packets_in (packets_of es)) s' hs
   calm_runs s store held none_injected none es s' hs packets run last =
       let start : Idle [] s [] = record {
         answer = record { packets = []; arrays = m0 };

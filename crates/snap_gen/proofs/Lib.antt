@@ -2,6 +2,8 @@ pub mod Nodes
 pub mod Walks
 pub mod Acting
 pub mod Leaving
+pub mod Holding
+pub mod Trips
 pub mod Guides
 pub mod ByMeaning
 pub mod Switching
@@ -9,6 +11,8 @@ pub mod CalmRuns
 pub mod Bounds
 pub mod Far
 pub mod LoneRuns
+pub mod Alone
+pub mod Agreeing
 pub mod Whole
 pub mod Chained
 pub mod ByChain

@@ -1,5 +1,5 @@
--- Runs over tables whose arrays all stand at one switch, in any order of events.
-use Rattle.std.proofs.Common.{◌≡◌, ◌≢◌, ℕ, zero, suc, ◌+◌, ◌<◌, ◌≤◌, ◌⊎◌, inl, inr, ⊎_elim, Bool, true, false, cond, List, [], ◌∷◌, ◌++◌, take, drop, length, map, Some, refl, sym, ap, subst, ◌∙◌, arith, append_assoc}
+-- Runs in any order of events, over tables where a copy does in one step all that the program does.
+use Rattle.std.proofs.Common.{◌≡◌, ◌≢◌, ℕ, zero, suc, ◌+◌, ◌<◌, ◌≤◌, ◌⊎◌, inl, inr, ⊎_elim, Bool, true, false, cond, List, [], ◌∷◌, ◌++◌, take, drop, length, map, Option, Some, refl, sym, ap, subst, ◌∙◌, arith, append_assoc}
 use Rattle.std.specs.Prelude.{slice_get, slice_index, slice_index_or, nat_eq}
 use Rattle.std.specs.List.{All, filter, range_with_len}
 use Rattle.std.specs.List.Sorted.{IsPermutation}
@@ -8,7 +8,6 @@ use Rattle.std.proofs.lemmas.List.{append-nil, length-append, map-append}
 use Rattle.std.proofs.lemmas.List.Elements.{filter-append}
 use Rattle.std.proofs.lemmas.List.Sorted.{IsPermutation-trans, IsPermutation-append_right, IsPermutation-append_left, IsPermutation-middle, IsPermutation-sym}
 use Rattle.std.proofs.lemmas.Option.{none-some, slice_get_within, same_Some}
-use Rattle.snap_core.specs.declared.place.Place.{Place}
 use Rattle.snap_core.specs.declared.policy.Pol.{Pol}
 use Rattle.snap_core.specs.Arrays.{Arrays}
 use Rattle.snap_core.specs.Inputs.{IsStore, IsPacket}
@@ -18,27 +17,19 @@ use Rattle.snap_core.specs.Switch.{Switched, one_big_switch}
 use Rattle.snap_rows.specs.declared.tables.Tables.{Tables}
 use Rattle.snap_rows.specs.Actions.{Action, Forward, Deliver, Fork}
 use Rattle.snap_rows.specs.declared.head.Head.{Head}
-use Rattle.snap_rows.specs.declared.head.Head.TheVariants.{Walk, Out, Visit}
+use Rattle.snap_rows.specs.declared.head.Head.TheVariants.{Walk, Out}
 use Rattle.snap_rows.specs.declared.head.Sent.{Sent}
-use Rattle.snap_rows.specs.Entries.{rank_at, rank_of}
-use Rattle.snap_rows.specs.Handles.{Handles, seeks, visits, concludes}
+use Rattle.snap_rows.specs.Handles.{Handles}
 use Rattle.snap_rows.specs.Network as network
 use Rattle.snap_rows.specs.Network.{Net, Copy, Event, Inject, Step, Happening, Crossed, Delivered, Forked, Leads, inject, step, Runs, moved, happening, stepped, injected, packets_of}
-use Rattle.snap_rows.proofs.Later.{rank_is_below}
 use Rattle.snap_rows.specs.Happenings.{commits}
 use Rattle.snap_gen.specs.Agreement.{sent_of, lost_of, numbered, in_order}
 use Rattle.snap_gen.specs.Faithful.{packets_in}
-use Rattle.snap_gen.specs.InTurn.{StandsAt}
-use Rattle.snap_gen.proofs.Nodes.{WalkDoes, visits_first, forks_at_once, walk_does, OutDoes, is_delivered, is_carried, out_does}
-use Rattle.snap_gen.proofs.Acting.{Means, IsAt}
+use Rattle.snap_dep.specs.Locality.{NeverRaces}
+use Rattle.snap_gen.proofs.Holding.{HoldsOf, NetHoldsOf, OthersOf, held_after, same_store}
+use Rattle.snap_gen.proofs.Nodes.{OutDoes, is_delivered, is_carried, out_does}
 use Rattle.snap_gen.proofs.Leaving.{copies_of, IsLeaving, IsQuiet, quiet_still, quiet_more, Leaving, leaving_still, Same, split_off, split_up, front, back, copies_own, copies_moved, others_same, own_leaves, leaves_on, leaving_on, leaving_begins}
-use Rattle.snap_gen.proofs.Guides.{Holds, NetHolds, holds_after, same_store, Goes, sends, forks, visit_goes}
-use Rattle.snap_gen.proofs.ByMeaning.{entered, IsMixed, by_meaning, ends}
 use Rattle.snap_gen.proofs.Switching.{KeepsStores, behind, switched_more, in_pushed, some_eval, picked_at}
-
--- all ranks have one owner
-abbrev pub AllStandAt : Tables → ℕ → Type 0
-AllStandAt t w = (r x : ℕ) → rank_at t r ≡ Some x → x ≡ w
 
 -- ---- lists
 pub only_one : {A : Type 0} (xs : List A) (c d : A) (ys : List A) → xs ++ c ∷ ys ≡ d ∷ [] → (xs ≡ []) × (c ≡ d) × (ys ≡ [])
@@ -104,45 +95,20 @@ module _ (s : Net) (c : Copy) (j : ℕ) (found : slice_get s.flying j ≡ Some c
   pub early_before_is : (b : Bool) → is_early c.head ≡ b → early_in s.flying ≡ early_in (take j s.flying) ++ first_of b
   early_before_is b e = early_before ∙ ap (λ x. early_in (take j s.flying) ++ first_of x) e
 
-module _ (p : Pol) (c n : ℕ) (order : List ℕ) (t : Tables) (means : Means p c n order t) (keeps : KeepsStores p c) (w0 : ℕ) (alone : AllStandAt t w0) (m0 : Arrays) (all : List (List ℕ)) where
-  -- ---- the step of a copy that hasn't forked
-  pub data IsEarly (k : List ℕ) : Head → Type 0 where
-    walking : IsEarly k (Walk 0)
-    standing : {v : ℕ} → ((m : Arrays) → IsAt t k m 0 v) → IsEarly k (Visit 0 v)
+-- ---- what is known of them
+-- the step at w of such a copy: it moves on, or does all that the program does with the packet
+pub data EarlyDoes (t : Tables) (owner : ℕ → Option ℕ) (IsEarly : Head → Type 0) (m : Arrays) (o : Meaning) (w : ℕ) (s : Arrays) : Arrays → Action → Type 0 where
+  moves_on : {s' : Arrays} {x : ℕ} {head : Head} → s' ≡ s → IsEarly head → EarlyDoes t owner IsEarly m o w s s' (Forward x head)
+  does_all : {s' : Arrays} {set : PacketSet} → o.packets ≡ set → HoldsOf owner w s' o.arrays → OthersOf owner w m o.arrays → EarlyDoes t owner IsEarly m o w s s' (Fork (sent_of t set) (lost_of t set))
 
-  -- it moves on, or does all that the program does with the packet
-  data EarlyDoes (w : ℕ) (k : List ℕ) (o : Meaning) (s : Arrays) : Arrays → Action → Type 0 where
-    moves_on : {s' : Arrays} {x v : ℕ} → s' ≡ s → ((m : Arrays) → IsAt t k m 0 v) → EarlyDoes w k o s s' (Forward x (Visit 0 v))
-    does_all : {s' : Arrays} {set : PacketSet} → o.packets ≡ set → Holds t w s' o.arrays → ((w' : ℕ) → w' ≢ w → (q : Place) → StandsAt t w' q.var → ⊥)
-        → EarlyDoes w k o s s' (Fork (sent_of t set) (lost_of t set))
+pub record Early (p : Pol) (c : ℕ) (t : Tables) (owner : ℕ → Option ℕ) : Type 1 where
+  pub IsEarly : List ℕ → Head → Type 0
+  pub enters : (k : List ℕ) → IsEarly k (Walk 0)
+  pub before : {k : List ℕ} {head : Head} → IsEarly k head → is_early head ≡ true
+  pub does : (k : List ℕ) (m : Arrays) (o : Meaning) → IsStore m → IsPacket c k → eval p m k ≡ Some o
+      → {w : ℕ} {head : Head} {s s' : Arrays} {a : Action} → IsEarly k head → HoldsOf owner w s m → Handles t w k s head s' a → EarlyDoes t owner (IsEarly k) m o w s s' a
 
-  module _ (w : ℕ) (k : List ℕ) (m : Arrays) (o : Meaning) (store : IsStore m) (packet : IsPacket c k) (outcome : eval p m k ≡ Some o) where
-    at_start : {v : ℕ} → ((m : Arrays) → IsAt t k m 0 v) → IsAt t k m 0 v × IsMixed t m o 0 m
-    at_start at = (at m, record { done = λ q l. absurd (omega (arith, l)); left = λ q l. refl })
-
-    commit : {s s' : Arrays} {a : Action} → rank_at t 0 ≡ Some w → Goes t k (by_meaning p c n order t means m k o store packet outcome) w m s' a → EarlyDoes w k o s s' a
-    commit here (sends {x = x} own away at held far) = absurd (away (alone _ x own ∙ sym (alone 0 w here)))
-    commit here (forks {a' = a'} end held far) =
-        does_all end.0 (λ q at. held q at ∙ end.1.stands w q at) (λ w' ne q stands. ne (alone (rank_of t q.var) w' stands ∙ sym (alone 0 w here)))
-
-    at_visit : {v : ℕ} {s s' : Arrays} {a : Action} → ((m : Arrays) → IsAt t k m 0 v) → Holds t w s m → Handles t w k s (Visit 0 v) s' a → EarlyDoes w k o s s' a
-    at_visit at held (seeks own away) = moves_on refl at
-    at_visit at held (visits own visit more rest) =
-        commit own (visit_goes t means.two k (by_meaning p c n order t means m k o store packet outcome) (at_start at) held (visits own visit more rest))
-    at_visit at held (concludes own visit last row) =
-        commit own (visit_goes t means.two k (by_meaning p c n order t means m k o store packet outcome) (at_start at) held (concludes own visit last row))
-
-    at_walk : {s s' : Arrays} {a : Action} → Holds t w s m → WalkDoes t w k s 0 s' a → EarlyDoes w k o s s' a
-    at_walk {s = s} held (visits_first {v = v} some follow rest) = at_visit (entered t means.two k w v s follow) held rest
-    at_walk {s = s} held (forks_at_once {v = v} {us = us} {os = os} none follow row) =
-        let at = at_start (entered t means.two k w v s follow) in
-        let end = ends p c n order t means m k o store packet outcome w v m us os (subst (λ r. IsAt t k m r v × IsMixed t m o r m) (sym none) at) row in
-        does_all end.0 (λ q at. held q at ∙ end.1.stands w q at) (λ w' ne q stands. (let b = rank_is_below t (rank_of t q.var) w' stands in omega (arith, b, none)))
-
-    early_does : (head : Head) (s s' : Arrays) (a : Action) → IsEarly k head → Holds t w s m → Handles t w k s head s' a → EarlyDoes w k o s s' a
-    early_does head s s' a walking held does = at_walk held (walk_does t means.two does)
-    early_does head s s' a (standing at) held does = at_visit at held does
-
+module _ (p : Pol) (c : ℕ) (t : Tables) (owner : ℕ → Option ℕ) (never : NeverRaces p c) (copies : Early p c t owner) (keeps : KeepsStores p c) (m0 : Arrays) (all : List (List ℕ)) where
   -- ---- where the packets are
   abbrev pick : ℕ → List ℕ
   pick i = slice_index_or all i []
@@ -161,7 +127,7 @@ module _ (p : Pol) (c n : ℕ) (order : List ℕ) (t : Tables) (means : Means p 
     pub new : IsNew i hs
     pub copy : Copy
     pub only : copies_of i s.flying ≡ copy ∷ []
-    pub early : IsEarly (pick i) copy.head
+    pub early : copies.IsEarly (pick i) copy.head
     pub packet : copy.packet ≡ pick i
 
   -- all its copies are on their way out
@@ -174,7 +140,7 @@ module _ (p : Pol) (c n : ℕ) (order : List ℕ) (t : Tables) (means : Means p 
     pub switched : one_big_switch p m0 (in_order all (commits hs)) ≡ Some end
     pub long : length end.packets ≡ length (commits hs)
     pub store : IsStore end.arrays
-    pub held : NetHolds t s end.arrays
+    pub held : NetHoldsOf owner s end.arrays
     pub count : s.injected ≡ length pre
     pub shuffled : IsPermutation (commits hs ++ early_in s.flying) (numbered pre)
     pub came : (j i : ℕ) (set : PacketSet) → slice_get (commits hs) j ≡ Some i → slice_get end.packets j ≡ Some set → Leaving t i set s hs
@@ -204,12 +170,12 @@ module _ (p : Pol) (c n : ℕ) (order : List ℕ) (t : Tables) (means : Means p 
   enter : (pre : List (List ℕ)) (s s' : Net) (hs h : List Happening) (port : ℕ) (k : List ℕ) → pick (length pre) ≡ k → State pre s hs → Leads t s (Inject port k) s' h → State (pre ++ k ∷ []) s' (hs ++ h)
   enter pre s s' hs h port k is st (inject {w = w} own names) = subst (State (pre ++ k ∷ []) (injected s w port k)) (sym (append-nil hs)) state
     where
-      copies : (i : ℕ) → copies_of i (injected s w port k).flying ≡ copies_of i s.flying ++ cond (nat_eq s.injected i) (entering s w k ∷ []) []
-      copies i = filter-append (λ (c : Copy). nat_eq c.number i) s.flying (entering s w k ∷ [])
+      injects : (i : ℕ) → copies_of i (injected s w port k).flying ≡ copies_of i s.flying ++ cond (nat_eq s.injected i) (entering s w k ∷ []) []
+      injects i = filter-append (λ (c : Copy). nat_eq c.number i) s.flying (entering s w k ∷ [])
 
       others : (i : ℕ) → s.injected ≢ i → SameOf i s (injected s w port k) hs hs
       others i ne = record {
-        same = record { copies = copies i ∙ ap (λ b. copies_of i s.flying ++ cond b (entering s w k ∷ []) []) (ne_eqb s.injected i ne) ∙ append-nil _; deliveries = refl; losses = refl };
+        same = record { copies = injects i ∙ ap (λ b. copies_of i s.flying ++ cond b (entering s w k ∷ []) []) (ne_eqb s.injected i ne) ∙ append-nil _; deliveries = refl; losses = refl };
         commits = λ j e. e;
       }
 
@@ -223,8 +189,8 @@ module _ (p : Pol) (c n : ℕ) (order : List ℕ) (t : Tables) (means : Means p 
       waits = record {
         new = here.new;
         copy = entering s w k;
-        only = copies (length pre) ∙ (λ x. here.none x ++ cond (eq-eqb s.injected (length pre) st.count x) (entering s w k ∷ []) []);
-        early = walking;
+        only = injects (length pre) ∙ (λ x. here.none x ++ cond (eq-eqb s.injected (length pre) st.count x) (entering s w k ∷ []) []);
+        early = copies.enters (pick (length pre));
         packet = sym is;
       }
 
@@ -275,7 +241,7 @@ module _ (p : Pol) (c n : ℕ) (order : List ℕ) (t : Tables) (means : Means p 
         all_gone (f ∷ fs) e = absurd (let n : suc (length (fs ++ x ∷ back s x j found)) ≡ 0 = ap length e in omega (arith, n))
 
     -- a step that commits nothing
-    quietly : (a : Action) → commits (happening x a ∷ []) ≡ [] → NetHolds t (stepped s j x m a) st.end.arrays → early_in (stepped s j x m a).flying ≡ early_in s.flying
+    quietly : (a : Action) → commits (happening x a ∷ []) ≡ [] → NetHoldsOf owner (stepped s j x m a) st.end.arrays → early_in (stepped s j x m a).flying ≡ early_in s.flying
         → ((y : ℕ) (set : PacketSet) → slice_get (commits hs) y ≡ Some x.number → Leaving t x.number set s hs → Leaving t x.number set (stepped s j x m a) (hs ++ happening x a ∷ []))
         → (Waits x.number (stepped s j x m a) (hs ++ happening x a ∷ []) ⊎ Leaves x.number (stepped s j x m a))
         → State pre (stepped s j x m a) (hs ++ happening x a ∷ [])
@@ -309,7 +275,7 @@ module _ (p : Pol) (c n : ℕ) (order : List ℕ) (t : Tables) (means : Means p 
     -- ---- a copy on its way to a port
     out_step : Leaves x.number s → {a : Action} → OutDoes (slice_index x.packet 1) (s.stores x.at) m a → State pre (stepped s j x m a) (hs ++ happening x a ∷ [])
     out_step leaves {a = a} out =
-        quietly a (nothing out) (holds_after t s x j m a st.end.arrays st.end.arrays st.held (same_store t s x st.end.arrays st.held out) (λ w ne q at. refl))
+        quietly a (nothing out) (held_after owner s x j m a st.end.arrays st.end.arrays st.held (same_store owner s x st.end.arrays st.held out) (λ w' ne q at. refl))
         (early_after s x j found m a ∙ ap (λ l. early_in (take j s.flying) ++ (l ++ early_in (drop (j + 1) s.flying))) (late out) ∙ sym (early_before_is s x j found false (ap is_early (own_leaves s x j found leaves))))
         (λ y set e left. leaving_on s x j found out left) (inr (leaves_on s x j found out leaves))
       where
@@ -322,21 +288,20 @@ module _ (p : Pol) (c n : ℕ) (order : List ℕ) (t : Tables) (means : Means p 
         late is_carried = refl
 
     -- ---- a copy that hasn't forked
-    abbrev waiting : ℕ → ℕ → Copy
-    waiting y v = record x { at = y; head = Visit 0 v; hops = x.hops + 1; steps = x.steps + 1 }
+    abbrev waiting : ℕ → Head → Copy
+    waiting y v = record x { at = y; head = v; hops = x.hops + 1; steps = x.steps + 1 }
+
+    early_one : (y : ℕ) (v : Head) → is_early v ≡ true → early_in (moved x (Forward y v)) ≡ x.number ∷ []
+    early_one y v e = ap (λ b. map (λ (c : Copy). c.number) (cond b (waiting y v ∷ []) [])) e
 
     abbrev fork_of : PacketSet → Action
     fork_of set = Fork (sent_of t set) (lost_of t set)
 
-    early_head : {k : List ℕ} {h : Head} → IsEarly k h → is_early h ≡ true
-    early_head walking = refl
-    early_head (standing at) = refl
-
-    early_step : (w : Waits x.number s hs) → IsEarly (pick x.number) x.head → x.packet ≡ pick x.number → front s x j found ≡ [] → back s x j found ≡ []
-        → (o : Meaning) → eval p st.end.arrays (pick x.number) ≡ Some o → {a : Action} → EarlyDoes x.at (pick x.number) o (s.stores x.at) m a → State pre (stepped s j x m a) (hs ++ happening x a ∷ [])
-    early_step w early packet no_front no_back o outcome (moves_on {x = y} {v = v} same at) =
-        quietly (Forward y (Visit 0 v)) refl (holds_after t s x j m (Forward y (Visit 0 v)) st.end.arrays st.end.arrays st.held (λ q at. (λ z. same z q) ∙ st.held x.at q at) (λ w ne q at. refl))
-        (early_after s x j found m (Forward y (Visit 0 v)) ∙ sym (early_before_is s x j found true (early_head early)))
+    early_step : (w : Waits x.number s hs) → copies.IsEarly (pick x.number) x.head → x.packet ≡ pick x.number → front s x j found ≡ [] → back s x j found ≡ []
+        → (o : Meaning) → eval p st.end.arrays (pick x.number) ≡ Some o → {a : Action} → EarlyDoes t owner (copies.IsEarly (pick x.number)) st.end.arrays o x.at (s.stores x.at) m a → State pre (stepped s j x m a) (hs ++ happening x a ∷ [])
+    early_step w early packet no_front no_back o outcome (moves_on {x = y} {head = v} same at) =
+        quietly (Forward y v) refl (held_after owner s x j m (Forward y v) st.end.arrays st.end.arrays st.held (λ q at. (λ z. same z q) ∙ st.held x.at q at) (λ w' ne q at. refl))
+        (early_after s x j found m (Forward y v) ∙ ap (λ l. early_in (take j s.flying) ++ (l ++ early_in (drop (j + 1) s.flying))) (early_one y v (copies.before at)) ∙ sym (early_before_is s x j found true (copies.before early)))
         (λ z set e left. absurd (w.new.uncommitted z e))
         (inl (record {
           new = record {
@@ -344,8 +309,8 @@ module _ (p : Pol) (c n : ℕ) (order : List ℕ) (t : Tables) (means : Means p 
             uncommitted = λ z e. w.new.uncommitted z (subst (λ l. slice_get l z ≡ Some x.number) (commits_more hs _ ∙ append-nil _) e);
           };
           copy = waiting y v;
-          only = copies_moved s x j found m (Forward y (Visit 0 v)) (waiting y v ∷ []) (ap (λ b. cond b (waiting y v ∷ []) []) (eq-eqb x.number x.number refl)) ∙ (λ z. no_front z ++ waiting y v ∷ no_back z);
-          early = standing at;
+          only = copies_moved s x j found m (Forward y v) (waiting y v ∷ []) (ap (λ b. cond b (waiting y v ∷ []) []) (eq-eqb x.number x.number refl)) ∙ (λ z. no_front z ++ waiting y v ∷ no_back z);
+          early = at;
           packet = packet;
         }))
     early_step w early packet no_front no_back o outcome (does_all {set = set} is held away) = record {
@@ -354,12 +319,12 @@ module _ (p : Pol) (c n : ℕ) (order : List ℕ) (t : Tables) (means : Means p 
           ∙ switched_more p (in_order all (commits hs)) m0 (pick x.number) st.end o st.switched outcome;
       long = one_longer st.end.packets o.packets ∙ ap suc st.long ∙ sym (one_longer (commits hs) x.number) ∙ ap length (sym committed);
       store = keeps st.end.arrays (pick x.number) o st.store (packets x.number below) outcome;
-      held = holds_after t s x j m (fork_of set) st.end.arrays o.arrays st.held held (λ w' ne q stands. absurd (away w' ne q stands));
+      held = held_after owner s x j m (fork_of set) st.end.arrays o.arrays st.held held away;
       count = st.count;
       shuffled = subst (λ l. IsPermutation l (numbered pre))
           (sym (λ y. committed y ++ (early_after s x j found m (fork_of set) ∙ ap (λ l. early_in (take j s.flying) ++ (l ++ early_in (drop (j + 1) s.flying))) (forks_late x (sent_of t set))) y))
           (commits_one (commits hs) (early_in (take j s.flying)) (early_in (drop (j + 1) s.flying)) (numbered pre) x.number
-          (subst (λ l. IsPermutation (commits hs ++ l) (numbered pre)) (early_before_is s x j found true (early_head early)) st.shuffled));
+          (subst (λ l. IsPermutation (commits hs ++ l) (numbered pre)) (early_before_is s x j found true (copies.before early)) st.shuffled));
       came = λ y i set' e f. by_place y i set' (in_pushed (commits hs) x.number i y (subst (λ l. slice_get l y ≡ Some i) committed e)) (in_pushed st.end.packets o.packets set' y f);
       each = λ i l.
           split_by x.number i (λ y. Waits y (stepped s j x m (fork_of set)) (hs ++ happening x (fork_of set) ∷ []) ⊎ Leaves y (stepped s j x m (fork_of set))) (inr leaving.out) (λ ne. each_still i s (stepped s j x m (fork_of set)) hs (hs ++ happening x (fork_of set) ∷ []) (others (fork_of set) i ne) (st.each i l));
@@ -383,13 +348,13 @@ module _ (p : Pol) (c n : ℕ) (order : List ℕ) (t : Tables) (means : Means p 
 
     goes_on : {a : Action} → Handles t x.at x.packet (s.stores x.at) x.head m a → Waits x.number s hs ⊎ Leaves x.number s → State pre (stepped s j x m a) (hs ++ happening x a ∷ [])
     goes_on {a = a} does (inl w) =
-        let one = only_one (front s x j found) x w.copy (back s x j found) (sym (copies_own s x j found) ∙ w.only) in
-        let early : IsEarly (pick x.number) x.head = subst (λ (y : Copy). IsEarly (pick x.number) y.head) (sym one.1) w.early in
-        let packet : x.packet ≡ pick x.number = ap (λ (y : Copy). y.packet) one.1 ∙ w.packet in
+        let sole = only_one (front s x j found) x w.copy (back s x j found) (sym (copies_own s x j found) ∙ w.only) in
+        let early : copies.IsEarly (pick x.number) x.head = subst (λ (y : Copy). copies.IsEarly (pick x.number) y.head) (sym sole.1) w.early in
+        let packet : x.packet ≡ pick x.number = ap (λ (y : Copy). y.packet) sole.1 ∙ w.packet in
         let fit = packets x.number below in
-        let o = some_eval p st.end.arrays (pick x.number) (means.never st.end.arrays (pick x.number) st.store fit) in
-        early_step w early packet one.0 one.2 o.0 o.1
-        (early_does x.at (pick x.number) st.end.arrays o.0 st.store fit o.1 x.head (s.stores x.at) m a early (st.held x.at) (subst (λ k. Handles t x.at k (s.stores x.at) x.head m a) packet does))
+        let o = some_eval p st.end.arrays (pick x.number) (never st.end.arrays (pick x.number) st.store fit) in
+        early_step w early packet sole.0 sole.2 o.0 o.1
+        (copies.does (pick x.number) st.end.arrays o.0 st.store fit o.1 early (st.held x.at) (subst (λ k. Handles t x.at k (s.stores x.at) x.head m a) packet does))
     goes_on {a = a} does (inr l) = out_step l (out_does (subst (λ y. Handles t x.at x.packet (s.stores x.at) y m a) (own_leaves s x j found l) does))
 
     pub stays : {a : Action} → Handles t x.at x.packet (s.stores x.at) x.head m a → State pre (stepped s j x m a) (hs ++ happening x a ∷ [])

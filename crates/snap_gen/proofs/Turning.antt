@@ -40,7 +40,8 @@ use Rattle.snap_gen.specs.Visits.{Enters, Chained, visited}
 use Rattle.snap_gen.specs.Chains.{Chain, FaithfulKeepsStores, FaithfulChains}
 use Rattle.snap_gen.specs.InTurn.{StandsAt, Becomes, handled_more, TakesTurns, seeks, waits, visits, concludes, HoldsInTurn, IsOnItsChain, FaithfulTurnsKeep}
 use Rattle.snap_gen.proofs.Nodes.{IsTwo, own_node}
-use Rattle.snap_gen.proofs.Guides.{visit_keeps, Ended, ended}
+use Rattle.snap_gen.proofs.Trips.{Ended, ended}
+use Rattle.snap_gen.proofs.Guides.{standing, guided, visit_keeps}
 use Rattle.snap_gen.proofs.Switching.{switched_first, only_outcome}
 use Rattle.snap_gen.proofs.Whole.{whole_holds, starts}
 use Rattle.snap_gen.proofs.Chained.{chains_one, chain_home, enters_one}
@@ -109,7 +110,7 @@ module _ (p : Program) (topology : Topology) (places : List ℕ) (t : Tables) (f
   only_out k m o e = switched_first p.body m k [] o (record { packets = []; arrays = o.arrays }) e refl
 
   -- ---- the chain
-  made : (m : Arrays) (k : List ℕ) (o : Meaning) → eval p.body m k ≡ Some o → (s : Net) (hs : List Happening) → Agrees p t m (k ∷ []) (zero ∷ []) s hs → Ended t k (by_chain t two k m) 0 s hs → Chain t k m o
+  made : (m : Arrays) (k : List ℕ) (o : Meaning) → eval p.body m k ≡ Some o → (s : Net) (hs : List Happening) → Agrees p t m (k ∷ []) (zero ∷ []) s hs → Ended t (standing t) k (guided t two k (by_chain t two k m)) 0 s hs → Chain t k m o
   made m k o e s hs agrees end = record {
     first = at.first;
     last = at.last;
@@ -145,7 +146,7 @@ module _ (p : Program) (topology : Topology) (places : List ℕ) (t : Tables) (f
   chain m port k o store can e =
       let run = f.plain_runs m ((port, k) ∷ []) store (All-cons (CanEnter p t) (port, k) [] can (All-nil (CanEnter p t))) in
       made m k o e run.1 run.2 run.4
-      (ended t two k (by_chain t two k m) 0 run.1 run.2 run.3.ended
+      (ended t (standing t) k (guided t two k (by_chain t two k m)) 0 run.1 run.2 run.3.ended
       (one_run t two k (by_chain t two k m) m (λ w at. record { port = at; same = λ q. refl; zeros = zeros m store }) port run.3.packets refl refl (starts t two m (zeros m store)) run.3.run))
 
   -- ---- steps in turn

@@ -7,10 +7,10 @@ ghost use Rattle.snap_rows.specs.Form.{atom_cmp, parts_cmp};
 ghost use Rattle.snap_gen.specs.Leaves.{AreInOrder, AreTidyOuts, IsTidy, by_ranks, changes, is_itself, is_still, of_rank};
 
 use snap_core::NoMemory;
-use snap_core::lists::Out;
+use snap_core::lists::{Out, Outs, Updates};
 use snap_core::policy::{Atom, Op, Update};
 use snap_dep::groups::Groups;
-use snap_fdd::leaf::{Go, Leaf, Outs, Updates};
+use snap_fdd::leaf::{Go, Leaf};
 use std::alloc::Global;
 use std::cmp::Ordering;
 
@@ -181,8 +181,8 @@ pub fn tidy_of(alloc: Global, groups: &Groups, leaf: &Leaf) -> Result<Leaf, NoMe
     match leaf {
         Leaf::Race => Ok(Leaf::Race),
         Leaf::Go(go) => Ok(Leaf::Go(Go {
-            outs: tidy_outs(alloc, go.outs.list())?,
-            ups: ups_by_rank(alloc, groups, go.ups.list())?,
+            outs: tidy_outs(alloc, go.outs.items())?,
+            ups: ups_by_rank(alloc, groups, go.ups.items())?,
             reads: 0,
             writes: 0,
         })),

@@ -34,7 +34,7 @@ fn leaf_passes(nodes: &Nodes<Leaf>, x: u64) -> bool
         Node::Ask { .. } => false,
         Node::Leaf(leaf) => match leaf {
             Leaf::Race => false,
-            Leaf::Go(go) => !go.outs.list().is_empty(),
+            Leaf::Go(go) => !go.outs.items().is_empty(),
         },
     }
 }

@@ -8,10 +8,10 @@ ghost use Rattle.snap_join.specs.Joined.{only, beside_leaf, both_leaf, either_le
 
 use crate::uniting::unite;
 use snap_core::NoMemory;
-use snap_core::lists::Out;
+use snap_core::lists::{Out, Outs, Updates};
 use snap_core::policy::Update;
 use snap_ctx::sets::is_in;
-use snap_fdd::leaf::{Go, Leaf, Outs, Updates};
+use snap_fdd::leaf::{Go, Leaf};
 use std::alloc::Global;
 
 /// How two leaves are combined.
@@ -52,10 +52,10 @@ fn go_beside(alloc: Global, a: &Go, b: &Go) -> Result<Leaf, NoMemory>
     if clash(a, b) {
         return Ok(Leaf::Race);
     }
-    let outs = unite(alloc, a.outs.list(), b.outs.list())?;
+    let outs = unite(alloc, a.outs.items(), b.outs.items())?;
     let mut ups = Vec::new(alloc);
-    push_updates(&mut ups, a.writes, a.ups.list())?;
-    push_updates(&mut ups, b.writes, b.ups.list())?;
+    push_updates(&mut ups, a.writes, a.ups.items())?;
+    push_updates(&mut ups, b.writes, b.ups.items())?;
     Ok(Leaf::Go(Go {
         outs: Outs::new(outs),
         ups: Updates::new(ups),
@@ -67,7 +67,7 @@ fn go_beside(alloc: Global, a: &Go, b: &Go) -> Result<Leaf, NoMemory>
 fn outs_of_both(alloc: Global, a: &Outs, b: &Outs) -> Result<Outs, NoMemory>
     ensures { IfOk result (λ o. o ≡ both_outs a.now b.now) }
 {
-    if a.list().is_empty() {
+    if a.items().is_empty() {
         return a.copy(alloc);
     }
     b.copy(alloc)
@@ -76,7 +76,7 @@ fn outs_of_both(alloc: Global, a: &Outs, b: &Outs) -> Result<Outs, NoMemory>
 fn outs_of_either(alloc: Global, a: &Outs, b: &Outs) -> Result<Outs, NoMemory>
     ensures { IfOk result (λ o. o ≡ either_outs a.now b.now) }
 {
-    if a.list().is_empty() {
+    if a.items().is_empty() {
         return b.copy(alloc);
     }
     a.copy(alloc)
@@ -136,7 +136,7 @@ pub fn negate_of(alloc: Global, leaf: &Leaf) -> Result<Leaf, NoMemory>
     match leaf {
         Leaf::Race => Ok(Leaf::Race),
         Leaf::Go(go) => {
-            let outs = turned(alloc, go.outs.list())?;
+            let outs = turned(alloc, go.outs.items())?;
             Ok(Leaf::Go(Go {
                 outs,
                 ups: Updates::new(Vec::new(alloc)),

@@ -10,11 +10,10 @@ ghost use Rattle.snap_make.specs.Shares.{body_of};
 use snap_arena::node::Node;
 use snap_arena::nodes::Nodes;
 use snap_core::NoMemory;
-use snap_core::outs::copy_outs;
-use snap_core::policy::{Test, copy_updates};
+use snap_core::lists::{Outs, Updates};
+use snap_core::policy::Test;
 use snap_fdd::leaf::Leaf;
 use snap_gen::numbering::Numbering;
-use snap_rows::lists::{Outs, Updates};
 use snap_rows::tables::Row;
 use std::alloc::Global;
 
@@ -27,8 +26,8 @@ fn last_row(alloc: Global, leaf: &Leaf, numbers: &[u64]) -> Result<Row, NoMemory
             outs: Outs::new(Vec::new(alloc)),
         }),
         Leaf::Go(go) => Ok(Row::Last {
-            ups: Updates::new(copy_updates(alloc, go.ups.list())?),
-            outs: Outs::new(copy_outs(alloc, go.outs.list())?),
+            ups: go.ups.copy(alloc)?,
+            outs: go.outs.copy(alloc)?,
         }),
     }
 }

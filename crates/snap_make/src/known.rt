@@ -39,8 +39,8 @@ fn know_leaf(leaf: &Leaf)
     match leaf {
         Leaf::Race => {}
         Leaf::Go(go) => {
-            know_updates(go.ups.list());
-            know_outs(go.outs.list());
+            know_updates(go.ups.items());
+            know_outs(go.outs.items());
         }
     }
 }

@@ -42,7 +42,7 @@ fn test_for(alloc: Global, ask: &Ask, num: u64) -> Result<Test, NoMemory>
     match ask {
         Ask::Component(comp) => Ok(Test::Value { comp: *comp, num }),
         Ask::At(place) => {
-            let atoms = atoms(alloc, place.index.list())?;
+            let atoms = atoms(alloc, place.index.items())?;
             Ok(Test::State {
                 var: place.var,
                 index: Atoms::new(atoms),

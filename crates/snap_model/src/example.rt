@@ -96,12 +96,12 @@ fn settle_fact(
     let guess = if fact.yes {
         value.value(packet)
     } else {
-        store.get(*var, index.list())
+        store.get(*var, index.items())
     };
     let ask = Ask::At(Place { var: *var, index });
     let settled = settle(alloc, ctx, &ask, guess)?;
     if let Ask::At(place) = &ask {
-        store.put(place.var, place.index.list(), settled.num)?;
+        store.put(place.var, place.index.items(), settled.num)?;
     }
     Ok(Some(settled))
 }

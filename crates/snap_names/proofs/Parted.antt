@@ -17,11 +17,7 @@ read_both-several e at xs a = several (boths at) (λ t. read_both e t a ≡ afte
 pub read_either-several : (e : Env) (at : ℕ) (xs : List Both) (a : Arities) → length xs ≢ 1 → read_either e (of (eithers at) xs) a ≡ after (read_boths e (of (eithers at) xs) a) whole_test
 read_either-several e at xs a = several (eithers at) (λ t. read_either e t a ≡ after (read_boths e t a) whole_test) (λ t x y z h. refl) (λ x y. refl) xs (λ _. refl)
 
--- The reading of a form is that of its tree.
-pub Reads-tree : {T : Type 0} (read : Env → T → Arities → Reading) (s : Scope) (old new : Tally) (result : Result Part NameFault) (t u : T) → t ≡ u →
-    Reads s (λ e arities. read e u arities) old new result → Reads s (λ e arities. read e t arities) old new result
-Reads-tree read s old new result t u is h = subst (λ v. Reads s (λ e arities. read e v arities) old new result) (sym is) h
-
+-- Equal readings read the same.
 pub Reads-same : (s : Scope) (read same : Env → Arities → Reading) (old new : Tally) (result : Result Part NameFault) → ((e : Env) (arities : Arities) → read e arities ≡ same e arities) →
     Reads s read old new result → Reads s same old new result
 Reads-same s read same old new result is h = subst (λ r. Reads s r old new result) (λ i. λ e arities. is e arities i) h

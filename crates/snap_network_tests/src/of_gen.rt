@@ -1,12 +1,12 @@
 use snap_arena::node::Node;
 use snap_arena::nodes::Nodes;
 use snap_core::NoMemory;
-use snap_core::lists::{Atoms, Name, Names, Out};
+use snap_core::lists::{Atoms, Name, Names, Out, Outs, Updates};
 use snap_core::policy::{Atom, Op, Pol, Pred, Test, Update};
 use snap_core::program::{Fields, Program};
 use snap_dep::calls::groups;
 use snap_dep::groups::Groups;
-use snap_fdd::leaf::{Go, Leaf, Outs, Updates};
+use snap_fdd::leaf::{Go, Leaf};
 use snap_gen::images::tidied;
 use snap_gen::leaves::tidy_of;
 use snap_gen::numbering::number;
@@ -138,9 +138,9 @@ fn is_tidy(leaf: &Leaf) -> bool {
         Leaf::Race => false,
         Leaf::Go(go) => {
             have_parts(
-                go.outs.list(),
+                go.outs.items(),
                 &[&[], &[(0, Atom::Num(3))], &[(1, Atom::Num(2))]],
-            ) && adds_one(go.ups.list())
+            ) && adds_one(go.ups.items())
                 && go.reads == 0
                 && go.writes == 0
         }

@@ -72,7 +72,7 @@ fn an_array_is_moved(rt: HostRuntime) -> Result<(), Fail> {
 fn are(changes: &[Change], wanted: &[(u64, u64, &[u8])]) -> bool {
     changes.len() == wanted.len()
         && changes.iter().zip(wanted.iter()).all(|(change, (after, line, name))| {
-            change.after == *after && change.line == *line && change.name.bytes() == *name
+            change.after == *after && change.line == *line && change.name.items() == *name
         })
 }
 

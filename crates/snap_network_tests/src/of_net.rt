@@ -210,7 +210,7 @@ fn copies_that_are_not_there_make_no_step(rt: HostRuntime) -> Result<(), Fail> {
 fn lone_number(entries: &[Entry]) -> Option<u64> {
     match entries {
         [entry] => {
-            if entry.place.var == 0 && entry.place.index.list() == [0].as_slice() {
+            if entry.place.var == 0 && entry.place.index.items() == [0].as_slice() {
                 Some(entry.value)
             } else {
                 None

@@ -50,7 +50,7 @@ fn put_places(
     ensures { OnOk result (text.new.items ≡ text.old.items ++ flat_map place_line (places arrays.now switches.now owners.now)) }
 {
     for (array, name) in arrays.iter().enumerate() {
-        put_place(text, name.bytes(), switch_at(switches, owners[array]))?;
+        put_place(text, name.items(), switch_at(switches, owners[array]))?;
     }
     Ok(())
 }
@@ -60,7 +60,7 @@ fn switch_at(switches: &[Name], number: u16) -> &[u8]
     ensures { result.now ≡ switch_at switches.now number }
 {
     match switches.get(number as usize) {
-        Some(name) => name.bytes(),
+        Some(name) => name.items(),
         None => &[],
     }
 }

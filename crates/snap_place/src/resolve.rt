@@ -54,7 +54,7 @@ fn placed(entries: &[(String, String)], vars: &[Name]) -> Result<(), PlaceFault>
     ensures missing { IfErr result (λ e. IsSomeAnd (missing vars.now (entry_texts entries.now)) (λ var. e ≡ PlaceFault.Missing var)) }
 {
     for (var, name) in vars.iter().enumerate() {
-        if place_of(entries, name.bytes()).is_none() {
+        if place_of(entries, name.items()).is_none() {
             return Err(PlaceFault::Missing { var: var as u16 });
         }
     }
@@ -67,7 +67,7 @@ fn switch_number(switches: &[Name], name: &[u8]) -> Option<u16>
     ensures { MatchOption result (is_switch switches.now name.now ≡ false) (λ n. (is_switch switches.now name.now ≡ true) × (n ≡ number_of switches.now name.now)) }
 {
     for (at, switch) in switches.iter().enumerate() {
-        if name == switch.bytes() {
+        if name == switch.items() {
             return Some(at as u16);
         }
     }
@@ -100,7 +100,7 @@ fn owners(
 {
     let mut owned = Vec::new(alloc);
     for (var, name) in vars.iter().enumerate() {
-        match owner(entries, switches, name.bytes()) {
+        match owner(entries, switches, name.items()) {
             Some(at) => owned.push(at)?,
             None => return Err(PlaceFault::NoSwitch { var: var as u16 }),
         }

@@ -6,30 +6,11 @@ ghost use Rattle.snap_route.specs.Graphs.{Adjacent, neighbours_of};
 ghost use Rattle.snap_route.specs.Walks.{Linked};
 
 use snap_core::NoMemory;
+use snap_core::lists::List;
 use std::alloc::Global;
-use std::marker::Model;
 
 /// The neighbours of a switch, in order.
-#[derive(Drop)]
-pub(crate) struct Neighbours {
-    switches: Vec<u16>,
-}
-
-impl Model for Neighbours {
-    ghost use Rattle.std.specs.Prelude.{List, ℕ};
-
-    ghost Value = { List ℕ };
-
-    ghost view = { λ a. a.switches.items };
-}
-
-impl Neighbours {
-    pub(crate) fn items(&self) -> &[u16]
-        ensures { result.now ≡ self.now }
-    {
-        &self.switches
-    }
-}
+pub(crate) type Neighbours = List<u16>;
 
 /// The switches to which links join a switch, in order.
 fn neighbours_of(alloc: Global, links: &[(u16, u16)], switch: u16) -> Result<Neighbours, NoMemory>
@@ -46,7 +27,7 @@ fn neighbours_of(alloc: Global, links: &[(u16, u16)], switch: u16) -> Result<Nei
         }
     }
     switches.sort_unstable();
-    Ok(Neighbours { switches })
+    Ok(Neighbours::new(switches))
 }
 
 /// The neighbours of each of `count` switches.

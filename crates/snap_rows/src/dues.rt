@@ -6,8 +6,8 @@ ghost use Rattle.snap_core.specs.Cells.{arrays_of};
 ghost use Rattle.snap_core.specs.Fits.{UpdateReads};
 ghost use Rattle.snap_rows.specs.Dues.{first_of, seen};
 
-use crate::lists::Updates;
 use snap_core::NoMemory;
+use snap_core::lists::Updates;
 use snap_core::packet::Packet;
 use snap_core::policy::Update;
 use snap_core::store::Store;

@@ -4,166 +4,19 @@ ghost use Rattle.std.specs.Prelude.{◌≡◌, IfOk};
 
 use crate::tables::{ArrayAt, Hop, Row, RowAt, Stage};
 use snap_core::NoMemory;
-use snap_core::lists::Out;
-use snap_core::policy::Update;
+use snap_core::lists::List;
 use std::alloc::Global;
 use std::marker::Model;
 use std::sync::Arc;
 
-/// Updates, in the order in which they are done.
-#[derive(Drop)]
-pub struct Updates {
-    updates: Vec<Update>,
-}
-
-impl Model for Updates {
-    ghost use Rattle.std.specs.Prelude.{List};
-    ghost use Rattle.snap_core.specs.declared.policy.Update.{Update};
-
-    ghost Value = { List Update };
-
-    ghost view = { λ a. a.updates.items };
-}
-
-impl Updates {
-    /// The list of these. Takes no memory.
-    pub fn new(updates: Vec<Update>) -> Updates
-        ensures { result ≡ updates.items }
-    {
-        Updates { updates }
-    }
-
-    /// Lends the list. Takes no memory.
-    pub fn items(&self) -> &[Update]
-        ensures { result.now ≡ self.now }
-    {
-        &self.updates
-    }
-}
-
 /// The stages of a leaf, in order.
-#[derive(Drop)]
-pub struct Stages {
-    stages: Vec<Stage>,
-}
-
-impl Model for Stages {
-    ghost use Rattle.std.specs.Prelude.{List};
-    ghost use Rattle.snap_rows.specs.declared.tables.Stage.{Stage};
-
-    ghost Value = { List Stage };
-
-    ghost view = { λ a. a.stages.items };
-}
-
-impl Stages {
-    /// The list of these. Takes no memory.
-    pub fn new(stages: Vec<Stage>) -> Stages
-        ensures { result ≡ stages.items }
-    {
-        Stages { stages }
-    }
-
-    /// Lends the list. Takes no memory.
-    pub fn items(&self) -> &[Stage]
-        ensures { result.now ≡ self.now }
-    {
-        &self.stages
-    }
-}
-
-/// The outs of a leaf.
-#[derive(Drop)]
-pub struct Outs {
-    outs: Vec<Out>,
-}
-
-impl Model for Outs {
-    ghost use Rattle.std.specs.Prelude.{List, ℕ};
-    ghost use Rattle.snap_core.specs.declared.policy.Atom.{Atom};
-
-    ghost Value = { List (List (ℕ × Atom)) };
-
-    ghost view = { λ a. a.outs.items };
-}
-
-impl Outs {
-    /// The list of these. Takes no memory.
-    pub fn new(outs: Vec<Out>) -> Outs
-        ensures { result ≡ outs.items }
-    {
-        Outs { outs }
-    }
-
-    /// Lends the list. Takes no memory.
-    pub fn items(&self) -> &[Out]
-        ensures { result.now ≡ self.now }
-    {
-        &self.outs
-    }
-}
+pub type Stages = List<Stage>;
 
 /// Arrays, each with its switch. An array's number is its position.
-#[derive(Drop)]
-pub struct ArraysAt {
-    arrays: Vec<ArrayAt>,
-}
-
-impl Model for ArraysAt {
-    ghost use Rattle.std.specs.Prelude.{List};
-    ghost use Rattle.snap_rows.specs.declared.tables.ArrayAt.{ArrayAt};
-
-    ghost Value = { List ArrayAt };
-
-    ghost view = { λ a. a.arrays.items };
-}
-
-impl ArraysAt {
-    /// The list of these. Takes no memory.
-    pub fn new(arrays: Vec<ArrayAt>) -> ArraysAt
-        ensures { result ≡ arrays.items }
-    {
-        ArraysAt { arrays }
-    }
-
-    /// Lends the list. Takes no memory.
-    pub fn items(&self) -> &[ArrayAt]
-        ensures { result.now ≡ self.now }
-    {
-        &self.arrays
-    }
-}
+pub type ArraysAt = List<ArrayAt>;
 
 /// Next hops.
-#[derive(Drop)]
-pub struct Hops {
-    hops: Vec<Hop>,
-}
-
-impl Model for Hops {
-    ghost use Rattle.std.specs.Prelude.{List};
-    ghost use Rattle.snap_rows.specs.declared.tables.Hop.{Hop};
-
-    ghost Value = { List Hop };
-
-    ghost view = { λ a. a.hops.items };
-}
-
-impl Hops {
-    /// The list of these. Takes no memory.
-    pub fn new(hops: Vec<Hop>) -> Hops
-        ensures { result ≡ hops.items }
-    {
-        Hops { hops }
-    }
-
-    /// Lends the list. Takes no memory.
-    pub fn items(&self) -> &[Hop]
-        ensures { result.now ≡ self.now }
-    {
-        &self.hops
-    }
-}
+pub type Hops = List<Hop>;
 
 /// What stands in a row, in memory that rows share.
 #[derive(Drop)]

@@ -1,7 +1,7 @@
 //! The lists of tables.
 
-use crate::lists::{ArraysAt, Body, Hops, Outs, Rows, Stages, Updates};
-use snap_core::lists::{Name, Names};
+use crate::lists::{ArraysAt, Body, Hops, Rows, Stages};
+use snap_core::lists::{Name, Names, Outs, Updates};
 use snap_core::policy::Test;
 use snap_core::ports::{Links, Ports};
 use snap_core::program::Fields;

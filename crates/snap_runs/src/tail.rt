@@ -88,7 +88,7 @@ fn array_name(arrays: &ArraysAt, var: u16) -> &[u8]
     ensures { result.now ≡ unwrap_or (slice_get (names_of arrays.now) var) [] }
 {
     match arrays.items().get(var as usize) {
-        Some(array) => array.name.bytes(),
+        Some(array) => array.name.items(),
         None => &[],
     }
 }

@@ -3,7 +3,7 @@
 ghost use Rattle.std.specs.Prelude.{◌≡◌, ◌<◌, [], length, slice_index_or};
 
 use snap_core::NoMemory;
-use snap_core::lists::Name;
+use snap_core::lists::{List, Name};
 use snap_core::program::Which;
 use std::alloc::{AllocError, AllocFailed};
 use std::marker::Model;
@@ -21,65 +21,10 @@ pub struct Flow {
 }
 
 /// Flows, in the order of a file.
-#[derive(Drop)]
-pub struct Flows {
-    flows: Vec<Flow>,
-}
-
-impl Model for Flows {
-    ghost use Rattle.std.specs.Prelude.{List};
-    ghost use Rattle.snap_seek.specs.declared.demand.Flow.{Flow};
-
-    ghost Value = { List Flow };
-
-    ghost view = { λ a. a.flows.items };
-}
-
-impl Flows {
-    /// The list of these flows. Takes no memory.
-    pub fn new(flows: Vec<Flow>) -> Flows
-        ensures { result ≡ flows.items }
-    {
-        Flows { flows }
-    }
-
-    /// The flows. Takes no memory.
-    pub fn items(&self) -> &[Flow]
-        ensures { result.now ≡ self.now }
-    {
-        &self.flows
-    }
-}
+pub type Flows = List<Flow>;
 
 /// Numbers of switches.
-#[derive(Drop)]
-pub struct Switches {
-    numbers: Vec<u16>,
-}
-
-impl Model for Switches {
-    ghost use Rattle.std.specs.Prelude.{List, ℕ};
-
-    ghost Value = { List ℕ };
-
-    ghost view = { λ a. a.numbers.items };
-}
-
-impl Switches {
-    /// The list of these numbers. Takes no memory.
-    pub fn new(numbers: Vec<u16>) -> Switches
-        ensures { result ≡ numbers.items }
-    {
-        Switches { numbers }
-    }
-
-    /// The numbers. Takes no memory.
-    pub fn items(&self) -> &[u16]
-        ensures { result.now ≡ self.now }
-    {
-        &self.numbers
-    }
-}
+pub type Switches = List<u16>;
 
 /// Switches for each variable of a program.
 #[derive(Drop)]

@@ -57,7 +57,7 @@ pub(crate) fn numbers_of(alloc: Global, switches: &[Name]) -> Result<IndexSet<Ve
 {
     let mut numbers = IndexSet::new(alloc);
     for switch in switches {
-        numbers.insert(Vec::from_slice(alloc, switch.bytes())?)?;
+        numbers.insert(Vec::from_slice(alloc, switch.items())?)?;
     }
     Ok(numbers)
 }
@@ -144,7 +144,7 @@ pub(crate) fn all_marks(
 {
     let mut marks = Vec::new(alloc);
     for name in vars {
-        marks.push(Marks::new(marks_for(alloc, numbers, entries, name.bytes(), count)?))?;
+        marks.push(Marks::new(marks_for(alloc, numbers, entries, name.items(), count)?))?;
     }
     Ok(marks)
 }

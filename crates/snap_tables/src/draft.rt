@@ -40,7 +40,7 @@ pub(crate) fn is_new(names: &[Name], name: &[u8]) -> bool
 {
     let mut rest = names;
     while let Some((other, more)) = rest.split_first() {
-        if name == other.bytes() {
+        if name == other.items() {
             return false;
         }
         rest = more;
@@ -54,7 +54,7 @@ pub(crate) fn are_new(names: &[Name], more: &[Name]) -> bool
 {
     let mut rest = more;
     while let Some((name, behind)) = rest.split_first() {
-        if !is_new(names, name.bytes()) {
+        if !is_new(names, name.items()) {
             return false;
         }
         rest = behind;
@@ -264,7 +264,7 @@ impl Draft {
         requires { IsKept self.old }
         ensures { IfOk result (λ past. IsPut self.old (item.Field field) past self.new) }
     {
-        add_names(alloc, &mut self.names, field.name.bytes(), field.prefix)?;
+        add_names(alloc, &mut self.names, field.name.items(), field.prefix)?;
         self.comps += field.width();
         self.fields.push(field)?;
         Ok(over(Which::Components, 64, u64::from(self.comps)))

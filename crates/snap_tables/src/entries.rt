@@ -107,7 +107,7 @@ fn is_new_array(arrays: &[ArrayAt], name: &[u8], at: u16, rank: u16) -> bool
 {
     let mut rest = arrays;
     while let Some((array, more)) = rest.split_first() {
-        if name == array.name.bytes() {
+        if name == array.name.items() {
             return false;
         }
         rest = more;

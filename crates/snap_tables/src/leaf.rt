@@ -9,9 +9,9 @@ ghost use Rattle.snap_tables.specs.Rows.{AreOutsSaid, AreStagesTaken, AreUpdates
 use crate::piece::{Counts, take_all};
 use crate::taken::no_words;
 use snap_core::NoMemory;
-use snap_core::lists::Out;
+use snap_core::lists::{Out, Outs, Updates};
 use snap_core::policy::{Atom, Update};
-use snap_rows::lists::{Outs, Stages, Updates};
+use snap_rows::lists::Stages;
 use snap_rows::tables::{ArrayAt, Stage};
 use std::alloc::Global;
 use std::cmp::Ordering;

@@ -26,7 +26,7 @@ pub fn is_among(names: &[Name], name: &[u8]) -> bool
     ensures { result ≡ is_switch names.now name.now }
 {
     for known in names {
-        if name == known.bytes() {
+        if name == known.items() {
             return true;
         }
     }

@@ -96,7 +96,7 @@ impl Guess {
             let begin = comp;
             place += 1;
             comp += field.width();
-            if let Some(rest) = behind_name(text, field.name.bytes()) {
+            if let Some(rest) = behind_name(text, field.name.items()) {
                 *self = Guess { place, comp };
                 return Some((whole(field, begin), rest));
             }

@@ -132,7 +132,7 @@ fn put_field_before(
 {
     let begin = put_value_before(buffer, end, field.prefix, comp, packet);
     let begin = put_byte_before(buffer, begin, b'=');
-    let begin = put_bytes_before(buffer, begin, field.name.bytes());
+    let begin = put_bytes_before(buffer, begin, field.name.items());
     put_byte_before(buffer, begin, b' ')
 }
 
@@ -158,7 +158,7 @@ fn put_fields_before(
     let mut begin = end;
     for i in (0..fields.len()).rev() {
         let field = &fields[i];
-        if begin < field.name.bytes().len() + 43 {
+        if begin < field.name.items().len() + 43 {
             return None;
         }
         comp -= field.width();
@@ -295,7 +295,7 @@ fn put_long_field(
     ensures { OnOk result (out.new.items ≡ out.old.items ++ field_text field.now comp packet.now) }
 {
     out.push(b' ')?;
-    out.extend_from_slice(field.name.bytes())?;
+    out.extend_from_slice(field.name.items())?;
     out.push(b'=')?;
     put_value(out, field.prefix, comp, packet)
 }
@@ -597,7 +597,7 @@ pub fn name_at(names: &Names, var: u16) -> &[u8]
     ensures { result.now ≡ unwrap_or (slice_get names.now var) [] }
 {
     match names.items().get(var as usize) {
-        Some(name) => name.bytes(),
+        Some(name) => name.items(),
         None => &[],
     }
 }

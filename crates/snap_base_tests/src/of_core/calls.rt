@@ -45,7 +45,7 @@ fn a_listing_rises_and_leaves_out_zeros(rt: HostRuntime) -> Result<(), Fail> {
     let entries = store.entries()?;
     assert_eq!(rt; entries.len(), LISTED.len());
     for (found, (var, index, value)) in entries.iter().zip(LISTED.iter()) {
-        assert!(rt; found.place.var == *var && found.place.index.list() == *index);
+        assert!(rt; found.place.var == *var && found.place.index.items() == *index);
         assert!(rt; found.value == *value);
     }
     Ok(())

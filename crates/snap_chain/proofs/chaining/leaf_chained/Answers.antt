@@ -7,7 +7,7 @@ use Rattle.snap_fdd.proofs.Shared.{kept, argument_kept}
 use Rattle.snap_chain.specs.Marks.{WritesNothing}
 use Rattle.snap_chain.proofs.Marked.{marked_kept, marked_writes_nothing}
 use Rattle.snap_chain.proofs.Sequel.{chained_leaf, chained_once, goes_at}
-use Rattle.snap_chain.proofs.chaining.leaf_chained.Goals.{then-list-le1-via-then-list-le1, then-list-le1-via-else-list-le1+then-not-of}
+use Rattle.snap_chain.proofs.chaining.leaf_chained.Goals.{then-items-le1-via-then-items-le1, then-items-le1-via-else-items-le1+then-not-of}
 use Rattle.snap_chain.proofs.chaining.leaf_chained.Goals as goal
 
 pub spread_on-requires-clause-d : goal.spread_on-requires-clause-d
@@ -23,11 +23,11 @@ returns-in_ok-settled-in-Some-clause-chained c =
     IfOk-weaker c.spread_on.result _ _ (λ r s. chained_leaf c.args.groups.now c.args.ctx.now c.in-Some.go (diagram c.args.nodes.now c.args.d) (diagram c.args.nodes.now c.args.a) (diagram c.settle.new.nodes c.in_ok-settled-in-Some.settled) (diagram c.spread_on.new.nodes r) e
     c.in_ok-settled-in-Some.ensures.answer c.in_ok-settled-in-Some.ensures.settled (rw (sym kd) s)) c.spread_on.ensures.sequel
 
-pub returns-then-list-le1-clause-chained : goal.returns-then-list-le1-clause-chained
-returns-then-list-le1-clause-chained c =
+pub returns-then-items-le1-clause-chained : goal.returns-then-items-le1-clause-chained
+returns-then-items-le1-clause-chained c =
     let e = goes_at (diagram c.args.nodes.now c.args.a) c.requires.leaf.0 c.in_ok-go_of.field-0 c.in-Some.go c.requires.leaf.1 c.in_ok-go_of.ensures c.in-Some.is in
-    let once : (length c.in-Some.go.outs ≤ 1) ⊎ WritesNothing (diagram c.args.nodes.now c.args.d) = elim c.then-list-le1.branch [
-      | then-list-le1-via-then-list-le1 w ↦ inl (rw (sym c.list.ensures) (omega (arith, w.if-list-le1.true)))
-      | then-list-le1-via-else-list-le1+then-not-of w ↦ inr (marked_writes_nothing w.of.result (diagram c.args.nodes.now c.args.d) (w.of.ensures c.args.nodes.now c.requires.marked) (not-true w.of.result.writes w.if-not-of.true))
+    let once : (length c.in-Some.go.outs ≤ 1) ⊎ WritesNothing (diagram c.args.nodes.now c.args.d) = elim c.then-items-le1.branch [
+      | then-items-le1-via-then-items-le1 w ↦ inl (rw (sym c.items.ensures) (omega (arith, w.if-items-le1.true)))
+      | then-items-le1-via-else-items-le1+then-not-of w ↦ inr (marked_writes_nothing w.of.result (diagram c.args.nodes.now c.args.d) (w.of.ensures c.args.nodes.now c.requires.marked) (not-true w.of.result.writes w.if-not-of.true))
     ] in
     IfOk-weaker c.spread.result _ _ (λ r s. chained_once c.args.groups.now c.args.ctx.now c.in-Some.go (diagram c.args.nodes.now c.args.d) (diagram c.args.nodes.now c.args.a) (diagram c.spread.new.nodes r) e once s) c.spread.ensures.spread

@@ -11,7 +11,7 @@ returns-then-is_fixed c = λ us e.
     let run : List Update = c.args.run.now.items in
     let u : Update = c.args.update.now in
     subst (EndInRun (us ++ u ∷ []) some) (sym (c.in_ok-push.ensures.items ∙ ap (λ (x : Update). run ++ x ∷ []) c.in_ok-next.ensures))
-    (run_longer us some run u (rw (sym c.list.ensures) (c.is_fixed.ensures c.if-is_fixed.true)) e)
+    (run_longer us some run u (rw (sym c.items.ensures) (c.is_fixed.ensures c.if-is_fixed.true)) e)
 
 pub returns : goal.returns
 returns c = λ us e.

@@ -17,7 +17,7 @@ returns c =
       second = ap is_state two;
       var = ap var_of one ∙ (omega arith) ∙ sym (ap var_of two);
       index = ap (λ (t : Test). map (atom_class c.args.classes.now) (index_of t)) one
-          ∙ (rw (← c.list.ensures, ← c.list-else-var-other_var.ensures) (c.same_index.ensures.0 c.if-not-same_index.false))
+          ∙ (rw (← c.items.ensures, ← c.items-else-var-other_var.ensures) (c.same_index.ensures.0 c.if-not-same_index.false))
           ∙ sym (ap (λ (t : Test). map (atom_class c.args.classes.now) (index_of t)) two);
     } in
     let left : c.normal_at-left.result ≡ normal c.args.classes.now (left_of c.args.first.now.test)

@@ -7,7 +7,7 @@ use Rattle.snap_ctx.proofs.Testing.{atom_more}
 use Rattle.snap_ctx.proofs.tested.index_tested.Goals as goal
 
 pub loop-atom-preserved : goal.loop-atom-preserved
-loop-atom-preserved c = atom_more c.loop-atom.set c.atom_tested-set.result c.list-atom-items.result.now c.loop-atom.atom-index _ c.loop-atom-test.true c.loop-atom.invariant c.atom_tested-set.ensures
+loop-atom-preserved c = atom_more c.loop-atom.set c.atom_tested-set.result c.items-atom-items.result.now c.loop-atom.atom-index _ c.loop-atom-test.true c.loop-atom.invariant c.atom_tested-set.ensures
 
 pub returns : goal.returns
-returns c = subst (All (AtomOver c.loop-atom.set)) (take_all c.loop-atom.atom-index c.list-atom-items.result.now c.loop-atom-test.false ∙ c.list-atom-items.ensures) c.loop-atom.invariant
+returns c = subst (All (AtomOver c.loop-atom.set)) (take_all c.loop-atom.atom-index c.items-atom-items.result.now c.loop-atom-test.false ∙ c.items-atom-items.ensures) c.loop-atom.invariant

@@ -8,4 +8,4 @@ use Rattle.snap_equal.proofs.places.apart_places.Goals as goal
 pub returns-else-left-right : goal.returns-else-left-right
 returns-else-left-right c = λ e m k i same.
     let number : Atom → ℕ = λ a. value_of a k in
-    c.apart_index.ensures e m k i (ap (map number) c.list.ensures ∙ ap (λ (p : Place). p.index) same ∙ sym (ap (map number) c.list-else-left-right.ensures))
+    c.apart_index.ensures e m k i (ap (map number) c.items.ensures ∙ ap (λ (p : Place). p.index) same ∙ sym (ap (map number) c.items-else-left-right.ensures))

@@ -19,7 +19,7 @@ pub same_where-returns-in-Impossible : goal.same_where-returns-in-Impossible
 same_where-returns-in-Impossible t c = record {
   same = λ e. nowhere c.args.ctx.now c.args.vars c.args.test.now c.args.yes (DiagramsDoSame (diagram c.args.left.now c.args.first) (diagram c.args.right.now c.args.second))
       (subst (IsAssumed c.args.ctx.now c.args.test.now c.args.yes) c.in-Impossible.is c.in_ok-assume.ensures);
-  memos = c.requires.memos;
+  memos = c.requires.asked.memos;
 }
 
 pub same_where-returns-in-More : goal.same_where-returns-in-More
@@ -36,31 +36,19 @@ pub same-same_met-requires : goal.same-same_met-requires
 same-same_met-requires t c =
     let is : IsWeaker c.args.ctx.now c.in-Some.weak = subst (λ o. IfSome o (IsWeaker c.args.ctx.now)) c.in-Some.is c.in_ok-weaker.ensures in (
       omega (arith, c.decreases),
-      (
-        c.requires.few,
-        (
-          c.requires.plain,
-          (
-            c.requires.comps ∙ sym is.same,
-            (
-              c.requires.first,
-              (
-                c.requires.second,
-                (
-                  subst (λ n. IsComparable (record { comps = n; vars = c.args.vars }) (diagram c.args.left.now c.args.first)) (sym is.same) c.requires.left,
-                  (
-                    subst (λ n. IsComparable (record { comps = n; vars = c.args.vars }) (diagram c.args.right.now c.args.second)) (sym is.same) c.requires.right,
-                    record {
-                      agreed = subst (λ n. ArePairsKnown n c.args.left.now c.args.right.now c.agree.new.known) (c.requires.comps ∙ sym is.same) c.in_ok-agree.ensures.known;
-                      met = subst (λ n. ArePairsMet n c.args.left.now c.args.right.now c.args.memos.now.met) (sym is.same) c.requires.memos.met;
-                    },
-                  ),
-                ),
-              ),
-            ),
-          ),
-        ),
-      ),
+      record {
+        few = c.requires.few;
+        plain = c.requires.plain;
+        comps = c.requires.comps ∙ sym is.same;
+        first = c.requires.first;
+        second = c.requires.second;
+        left = subst (λ n. IsComparable (record { comps = n; vars = c.args.vars }) (diagram c.args.left.now c.args.first)) (sym is.same) c.requires.left;
+        right = subst (λ n. IsComparable (record { comps = n; vars = c.args.vars }) (diagram c.args.right.now c.args.second)) (sym is.same) c.requires.right;
+        memos = record {
+          agreed = subst (λ n. ArePairsKnown n c.args.left.now c.args.right.now c.agree.new.known) (c.requires.comps ∙ sym is.same) c.in_ok-agree.ensures.known;
+          met = subst (λ n. ArePairsMet n c.args.left.now c.args.right.now c.args.memos.now.met) (sym is.same) c.requires.memos.met;
+        };
+      },
     )
 
 pub same-returns-in-Some-clause-same : goal.same-returns-in-Some-clause-same

@@ -12,8 +12,8 @@ read vars i x name lt is same = get_or_default vars i [] x lt ∙ sym is ∙ sym
 pub returns-in_err-marks_for-clause-fault : goal.returns-in_err-marks_for-clause-fault
 returns-in_err-marks_for-clause-fault c =
     let p = err_from_is_err_and c.from_residual.result c.from_residual.ensures.1 in
-    rw (p.1, p.2) (λ memory. variable-unknown (key_texts c.args.numbers.now.keys) c.args.vars.now (entry_texts c.args.entries.now) c.loop-name.name-index c.name-item.result c.bytes.result.now c.in_err-marks_for.field-0.0
-    c.loop-name-test.true c.name-item.is c.bytes.ensures c.loop-name.invariant.known (c.in_err-marks_for.ensures.fault memory))
+    rw (p.1, p.2) (λ memory. variable-unknown (key_texts c.args.numbers.now.keys) c.args.vars.now (entry_texts c.args.entries.now) c.loop-name.name-index c.name-item.result c.items.result.now c.in_err-marks_for.field-0.0
+    c.loop-name-test.true c.name-item.is c.items.ensures c.loop-name.invariant.known (c.in_err-marks_for.ensures.fault memory))
 
 pub loop-name-preserved : goal.loop-name-preserved
 loop-name-preserved c =
@@ -28,11 +28,11 @@ loop-name-preserved c =
     let here = c.in_ok-marks_for.field-0.items in
     let made = c.in_ok-marks_for.ensures in
     let lt = c.loop-name-test.true in
-    let name : slice_index_or vars i [] ≡ c.bytes.result.now = read vars i c.name-item.result c.bytes.result.now lt c.name-item.is c.bytes.ensures in
+    let name : slice_index_or vars i [] ≡ c.items.result.now = read vars i c.name-item.result c.items.result.now lt c.name-item.is c.items.ensures in
     record {
       count = count-more old new i c.new.result before.count put;
       widths = each-more [] (λ (v : ℕ) (l : List Bool). length l ≡ c.args.count) old new i c.new.result here before.count put c.new.ensures made.count before.widths;
       marks = each-more [] (λ (v : ℕ) (l : List Bool). (at : ℕ) → at < c.args.count → slice_index_or l at false ≡ may switches entries (slice_index_or vars v []) at) old new i c.new.result here before.count put c.new.ensures
           (λ at less. made.marks at less ∙ ap (λ (n : List ℕ). may switches entries n at) (sym name)) before.marks;
-      known = variable-known switches vars entries i c.name-item.result c.bytes.result.now lt c.name-item.is c.bytes.ensures made.fault ∙ before.known;
+      known = variable-known switches vars entries i c.name-item.result c.items.result.now lt c.name-item.is c.items.ensures made.fault ∙ before.known;
     }

@@ -19,5 +19,5 @@ pub returns-in-Some-clause-found : goal.returns-in-Some-clause-found
 returns-in-Some-clause-found c =
     let fields = c.args.fields.now in
     let there = found_there fields c.list-list.result.now c.loop-place.place c.loop-place.comp c.index-list-place.result c.list-list.ensures.fields c.list-list.ensures.list c.loop-place-test.true c.index-list-place.is c.loop-place.invariant.comps in
-    sets-named fields c.args.text.now c.bytes.result.now c.in-Some.rest.now c.whole.result c.in-Some.ensures.front
-    (ap (found fields) c.bytes.ensures ∙ there ∙ ap Some (sym c.whole.ensures))
+    sets-named fields c.args.text.now c.items.result.now c.in-Some.rest.now c.whole.result c.in-Some.ensures.front
+    (ap (found fields) c.items.ensures ∙ there ∙ ap Some (sym c.whole.ensures))
