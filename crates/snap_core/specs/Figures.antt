@@ -14,6 +14,10 @@ abbrev pub parts_by : (ℕ → Bool) → List ℕ → List (List ℕ)
 parts_by separates [] = [] ∷ []
 parts_by separates (b ∷ bs) = if separates b then [] ∷ parts_by separates bs else onto_first b (parts_by separates bs)
 
+-- the parts between the bytes that are this one
+abbrev pub parts_at : ℕ → List ℕ → List (List ℕ)
+parts_at separator = parts_by (λ b. b == separator)
+
 -- what digits are worth behind a number that was read
 abbrev pub value_after : ℕ → List ℕ → ℕ
 value_after n [] = n
@@ -49,4 +53,4 @@ address_of_parts parts = None
 
 -- the number of the address that a text spells, as `10.0.6.1`
 abbrev pub address_of : List ℕ → Option ℕ
-address_of text = address_of_parts (parts_by (λ b. b == 46) text)
+address_of text = address_of_parts (parts_at 46 text)

@@ -1,5 +1,5 @@
 -- What an evaluation in place means.
-use Rattle.std.specs.Prelude.{ℕ, List, Option, Some, None, map, bit_or, option_map, if◌then◌else◌}
+use Rattle.std.specs.Prelude.{ℕ, List, [], ◌∷◌, Option, Some, None, map, bit_or, option_map, option_and_then, if◌then◌else◌}
 use Rattle.snap_core.specs.declared.copies.Copies.{Copies}
 use Rattle.snap_core.specs.declared.copies.Copies.TheVariants.{One, Many}
 use Rattle.snap_core.specs.declared.copies.Flow.{Flow}
@@ -44,10 +44,25 @@ within l o = option_map (logged l.reads l.writes) o
 abbrev pub chosen : Pred → (yes no : Option Meaning) → Arrays → List ℕ → Option Meaning
 chosen x a b m k = option_map (logged (vars_of x) 0) (if truth x m k then a else b)
 
+-- the outcome of the branch that a predicate picks
+abbrev pub choice_of : Pred → (yes no : Pol) → Arrays → List ℕ → Option Meaning
+choice_of x p q m k = chosen x (eval p m k) (eval q m k) m k
+
+-- ---- parts side by side
+abbrev pub both_of : (left right : Pol) → Arrays → List ℕ → Option Meaning
+both_of p q m k = all_together m (eval p m k ∷ eval q m k ∷ [])
+
+-- a policy on each of these packets
+abbrev pub each_of : Pol → Arrays → List (List ℕ) → Option Meaning
+each_of p m ks = all_together m (map (λ k. eval p m k) ks)
+
 -- ---- one part after another
 -- the second part on the packets of the first, from the arrays that it left
 abbrev pub after_first : Pol → Meaning → Option Meaning
-after_first q o = option_map (logged o.reads o.writes) (all_together o.arrays (map (λ k. eval q o.arrays k) (listed o.packets)))
+after_first q o = option_map (logged o.reads o.writes) (each_of q o.arrays (listed o.packets))
+
+abbrev pub sequence_of : (first second : Pol) → Arrays → List ℕ → Option Meaning
+sequence_of p q m k = option_and_then (after_first q) (eval p m k)
 
 -- ---- parts side by side, done one after the other: b began where a left the arrays
 abbrev pub after_both : Meaning → Meaning → Meaning

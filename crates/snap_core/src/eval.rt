@@ -1,16 +1,16 @@
 //! Evaluation.
 
-ghost use Rattle.std.specs.Prelude.{◌≡◌, ◌<◌, ◌≤◌, ◌^◌, IfOk, IfErr, [], ◌∷◌, if◌then◌else◌, option_and_then, option_map, true, false, None, Some, Err, map, max, length, bit_or, All};
+ghost use Rattle.std.specs.Prelude.{◌≡◌, ◌<◌, ◌≤◌, ◌^◌, IfOk, IfErr, if◌then◌else◌, option_map, true, false, None, Some, Err, max, length, bit_or, All};
 ghost use Rattle.snap_core.specs.Arrays.{Arrays, place_at};
 ghost use Rattle.snap_core.specs.Cells.{arrays_of};
 ghost use Rattle.snap_core.specs.Fits.{AtomFits, IndexFits, PredFits, PolFits, UpdateFits, VarsBelow};
 ghost use Rattle.snap_core.specs.declared.policy.Pol.{size-Pol};
 ghost use Rattle.snap_core.specs.declared.policy.Pol.TheVariants.{Filter, Set, Change};
-ghost use Rattle.snap_core.specs.Meaning.{truth, vars_of, eval, all_together, logged};
+ghost use Rattle.snap_core.specs.Meaning.{truth, vars_of, eval, logged};
 ghost use Rattle.snap_core.specs.declared.run.Logs.{Logs as LogsData};
 ghost use Rattle.snap_core.specs.Outcomes.{meaning_of};
 ghost use Rattle.snap_core.specs.Packets.{AllLong, listed, no_packets, with_packets};
-ghost use Rattle.snap_core.specs.Runs.{after_first, chosen, flown, meaning_with, ran_with, set_after, set_in, within};
+ghost use Rattle.snap_core.specs.Runs.{after_first, both_of, choice_of, each_of, flown, meaning_with, ran_with, sequence_of, set_after, set_in, within};
 
 use crate::NoMemory;
 use crate::atoms::{fill_index, index_on};
@@ -162,8 +162,8 @@ fn both(
 ) -> Result<Flow, EvalFault>
     requires left { PolFits (length packet.now) 64 left.now }
     requires right { PolFits (length packet.now) 64 right.now }
-    ensures ok { IfOk result (λ f. within logs.old (all_together (arrays_of store.old) (eval left.now (arrays_of store.old) packet.now ∷ eval right.now (arrays_of store.old) packet.now ∷ [])) ≡ Some (flown (arrays_of store.new) f packet.now logs.new)) }
-    ensures undefined { result ≡ Err EvalFault.Undefined → all_together (arrays_of store.old) (eval left.now (arrays_of store.old) packet.now ∷ eval right.now (arrays_of store.old) packet.now ∷ []) ≡ None }
+    ensures ok { IfOk result (λ f. within logs.old (both_of left.now right.now (arrays_of store.old) packet.now) ≡ Some (flown (arrays_of store.new) f packet.now logs.new)) }
+    ensures undefined { result ≡ Err EvalFault.Undefined → both_of left.now right.now (arrays_of store.old) packet.now ≡ None }
     ensures lengths { IfOk result (λ f. AllLong (length packet.now) (set_after f packet.now)) }
 {
     let done = run_both(alloc, left, right, store, packet)?;
@@ -181,8 +181,8 @@ fn run_both(
 ) -> Result<Run, EvalFault>
     requires left { PolFits (length packet.now) 64 left.now }
     requires right { PolFits (length packet.now) 64 right.now }
-    ensures ok { IfOk result (λ r. all_together (arrays_of store.old) (eval left.now (arrays_of store.old) packet.now ∷ eval right.now (arrays_of store.old) packet.now ∷ []) ≡ Some (meaning_with (arrays_of store.new) r)) }
-    ensures undefined { result ≡ Err EvalFault.Undefined → all_together (arrays_of store.old) (eval left.now (arrays_of store.old) packet.now ∷ eval right.now (arrays_of store.old) packet.now ∷ []) ≡ None }
+    ensures ok { IfOk result (λ r. both_of left.now right.now (arrays_of store.old) packet.now ≡ Some (meaning_with (arrays_of store.new) r)) }
+    ensures undefined { result ≡ Err EvalFault.Undefined → both_of left.now right.now (arrays_of store.old) packet.now ≡ None }
     ensures lengths { IfOk result (λ r. AllLong (length packet.now) (set_in r.copies)) }
 {
     let left = run(alloc, left, store, packet.copy()?)?;
@@ -202,8 +202,8 @@ fn in_turn(
 ) -> Result<Flow, EvalFault>
     requires first { PolFits (length packet.old) 64 first.now }
     requires second { PolFits (length packet.old) 64 second.now }
-    ensures ok { IfOk result (λ f. within logs.old (option_and_then (after_first second.now) (eval first.now (arrays_of store.old) packet.old)) ≡ Some (flown (arrays_of store.new) f packet.new logs.new)) }
-    ensures undefined { result ≡ Err EvalFault.Undefined → option_and_then (after_first second.now) (eval first.now (arrays_of store.old) packet.old) ≡ None }
+    ensures ok { IfOk result (λ f. within logs.old (sequence_of first.now second.now (arrays_of store.old) packet.old) ≡ Some (flown (arrays_of store.new) f packet.new logs.new)) }
+    ensures undefined { result ≡ Err EvalFault.Undefined → sequence_of first.now second.now (arrays_of store.old) packet.old ≡ None }
     ensures lengths { IfOk result (λ f. AllLong (length packet.old) (set_after f packet.new)) }
     ensures length { length packet.new ≡ length packet.old }
 {
@@ -225,7 +225,7 @@ fn last_branch<'a>(
     requires yes { PolFits (length packet.now) 64 yes.now }
     requires no { PolFits (length packet.now) 64 no.now }
     ensures fits { IfOk result (λ p. PolFits (length packet.now) 64 p.now) }
-    ensures same { IfOk result (λ p. within logs.old (chosen test.now (eval yes.now (arrays_of store.now) packet.now) (eval no.now (arrays_of store.now) packet.now) (arrays_of store.now) packet.now) ≡ within logs.new (eval p.now (arrays_of store.now) packet.now)) }
+    ensures same { IfOk result (λ p. within logs.old (choice_of test.now yes.now no.now (arrays_of store.now) packet.now) ≡ within logs.new (eval p.now (arrays_of store.now) packet.now)) }
     ensures inner { IfOk result (λ p. size-Pol p.now ≤ max (size-Pol yes.now) (size-Pol no.now)) }
 {
     let mut pol = picked_branch(alloc, test, yes, no, store, packet, logs)?;
@@ -289,8 +289,8 @@ fn each(
 ) -> Result<Flow, EvalFault>
     requires fits { PolFits (length packet.old) 64 pol.now }
     requires lengths { AllLong (length packet.old) (set_after flow packet.old) }
-    ensures ok { IfOk result (λ f. within logs.old (all_together (arrays_of store.old) (map (λ k. eval pol.now (arrays_of store.old) k) (listed (set_after flow packet.old)))) ≡ Some (flown (arrays_of store.new) f packet.new logs.new)) }
-    ensures undefined { result ≡ Err EvalFault.Undefined → all_together (arrays_of store.old) (map (λ k. eval pol.now (arrays_of store.old) k) (listed (set_after flow packet.old))) ≡ None }
+    ensures ok { IfOk result (λ f. within logs.old (each_of pol.now (arrays_of store.old) (listed (set_after flow packet.old))) ≡ Some (flown (arrays_of store.new) f packet.new logs.new)) }
+    ensures undefined { result ≡ Err EvalFault.Undefined → each_of pol.now (arrays_of store.old) (listed (set_after flow packet.old)) ≡ None }
     ensures lengths { IfOk result (λ f. AllLong (length packet.old) (set_after f packet.new)) }
     ensures length { length packet.new ≡ length packet.old }
 {
@@ -313,8 +313,8 @@ fn on_all(
 ) -> Result<Flow, EvalFault>
     requires fits { PolFits (length packet.now) 64 pol.now }
     requires lengths { AllLong (length packet.now) (with_packets no_packets packets.items) }
-    ensures ok { IfOk result (λ f. within logs.old (all_together (arrays_of store.old) (map (λ k. eval pol.now (arrays_of store.old) k) (listed (with_packets no_packets packets.items)))) ≡ Some (flown (arrays_of store.new) f packet.now logs.new)) }
-    ensures undefined { result ≡ Err EvalFault.Undefined → all_together (arrays_of store.old) (map (λ k. eval pol.now (arrays_of store.old) k) (listed (with_packets no_packets packets.items))) ≡ None }
+    ensures ok { IfOk result (λ f. within logs.old (each_of pol.now (arrays_of store.old) (listed (with_packets no_packets packets.items))) ≡ Some (flown (arrays_of store.new) f packet.now logs.new)) }
+    ensures undefined { result ≡ Err EvalFault.Undefined → each_of pol.now (arrays_of store.old) (listed (with_packets no_packets packets.items)) ≡ None }
     ensures lengths { IfOk result (λ f. AllLong (length packet.now) (set_after f packet.now)) }
 {
     let comps = packet.comps().len();
@@ -334,8 +334,8 @@ fn side_by_side(
 ) -> Result<Run, EvalFault>
     requires fits { PolFits comps 64 pol.now }
     requires lengths { All (λ k. length k ≡ comps) packets.now }
-    ensures ok { IfOk result (λ r. all_together (arrays_of store.old) (map (λ k. eval pol.now (arrays_of store.old) k) packets.now) ≡ Some (meaning_with (arrays_of store.new) r)) }
-    ensures undefined { result ≡ Err EvalFault.Undefined → all_together (arrays_of store.old) (map (λ k. eval pol.now (arrays_of store.old) k) packets.now) ≡ None }
+    ensures ok { IfOk result (λ r. each_of pol.now (arrays_of store.old) packets.now ≡ Some (meaning_with (arrays_of store.new) r)) }
+    ensures undefined { result ≡ Err EvalFault.Undefined → each_of pol.now (arrays_of store.old) packets.now ≡ None }
     ensures lengths { IfOk result (λ r. AllLong comps (set_in r.copies)) }
 {
     let mut all = Run::blank(alloc);

@@ -4,7 +4,7 @@ use Rattle.std.specs.declared.option.Option.{Option}
 use Rattle.std.specs.Str.{bytes_eq}
 use Rattle.std.specs.Io.KnownBytes.{Appends}
 use Rattle.snap_core.specs.Arrays.{zero_arrays}
-use Rattle.snap_core.specs.Figures.{number_of, parts_by}
+use Rattle.snap_core.specs.Figures.{number_of, parts_at}
 use Rattle.snap_io.specs.Sinks.{AppendsSome}
 use Rattle.snap_rows.specs.declared.tables.Tables.{Tables}
 use Rattle.snap_rows.specs.Network.{Net, Event, Inject, Step, Happening, Leads, RunsBy, start}
@@ -28,7 +28,7 @@ whole_lines (part ∷ next ∷ parts) = part ∷ whole_lines (next ∷ parts)
 
 -- the lines of a text, each ended by an LF, which the last may lack
 abbrev pub lines_of : List ℕ → List (List ℕ)
-lines_of text = whole_lines (parts_by (λ b. b == 10) text)
+lines_of text = whole_lines (parts_at 10 text)
 
 -- `step K`, where no word stands behind
 abbrev pub step_order : (word figures : List ℕ) → (more : Bool) → Option Order

@@ -6,7 +6,7 @@ use Rattle.snap_core.specs.declared.program.Field.{Field}
 use Rattle.snap_core.specs.declared.program.Found.{Found}
 use Rattle.snap_core.specs.declared.program.Found.TheVariants.{Plain, Split}
 use Rattle.snap_core.specs.Fields.{count, found}
-use Rattle.snap_core.specs.Figures.{number_up_to, number_of, address_of, parts_by}
+use Rattle.snap_core.specs.Figures.{number_up_to, number_of, address_of, parts_at, parts_by}
 use Rattle.snap_core.specs.Arrays.{has}
 
 -- what a line says: nothing, a packet that comes in at the port of its first component, or nothing in form
@@ -60,7 +60,7 @@ split_or prefix (Some address) numbers = Some (address / 2 ^ (32 - prefix), addr
 split_or prefix None numbers = numbers
 
 abbrev pub split_value : (prefix : ℕ) → List ℕ → Option (ℕ × ℕ)
-split_value prefix text = split_or prefix (address_of text) (both_numbers (parts_by (λ b. b == 58) text))
+split_value prefix text = split_or prefix (address_of text) (both_numbers (parts_at 58 text))
 
 -- A packet as far as it is read: its numbers, and the set of components that were named.
 pub record Draft : Type 0 where
@@ -86,7 +86,7 @@ with_parts fields parts draft = None
 
 -- the draft with a word `NAME=VALUE`
 abbrev pub with_word : List Field → List ℕ → Draft → Option Draft
-with_word fields word draft = with_parts fields (parts_by (λ b. b == 61) word) draft
+with_word fields word draft = with_parts fields (parts_at 61 word) draft
 
 abbrev pub with_words : List Field → List (List ℕ) → Draft → Option Draft
 with_words fields [] draft = Some draft

@@ -2,7 +2,7 @@
 
 ghost use Rattle.std.specs.Prelude.{◌≡◌, ◌==◌, ◌+◌, ◌-◌, ◌^◌, ◌/◌, ◌%◌, ◌<◌, ◌≤◌, [], ◌∷◌, length, IfSome, MatchOption, position};
 ghost use Rattle.snap_trace.specs.PacketLines.{BeginsWord, both_numbers, ends_with_return, is_blank, is_inked, plain_value, split_value, without_return, words_of};
-ghost use Rattle.snap_core.specs.Figures.{parts_by};
+ghost use Rattle.snap_core.specs.Figures.{parts_at};
 ghost use Rattle.snap_trace.specs.Cuts.{HasNoName, IsNameFront, IsUntilBlank, is_mark};
 
 use snap_core::figures::{address, number};
@@ -164,7 +164,7 @@ pub(crate) fn split_address(prefix: u8, address: u32) -> (u64, u64)
 
 // `NET:HOST`.
 fn both_numbers(text: &[u8]) -> Option<(u64, u64)>
-    ensures { result ≡ both_numbers (parts_by (λ b. b == 58) text.now) }
+    ensures { result ≡ both_numbers (parts_at 58 text.now) }
 {
     let (net, host) = split_at_first(text, b':')?;
     match split_at_first(host, b':') {
