@@ -1,7 +1,7 @@
 -- The places of rows, next hops and links among entries that rise.
 use Rattle.std.proofs.Common.{◌≡◌, ℕ, suc, zero, ◌⊎◌, inl, inr, ⊎_elim, Bool, true, false, List, [], ◌∷◌, Option, Some, None, refl, sym, ap, ◌∙◌}
 use Rattle.std.specs.Prelude.{slice_get, Contains, ◌==◌, ◌&&◌, if◌then◌else◌}
-use Rattle.std.specs.List.Sorted.{IsStrictlySortedBy, IsPartitionPoint}
+use Rattle.std.specs.List.Sorted.{IsStrictlySortedBy}
 use Rattle.std.proofs.lemmas.Bool.{eq-eqb, eqb-true, false≢true}
 use Rattle.snap_rows.specs.declared.tables.Hop.{Hop}
 use Rattle.snap_rows.specs.declared.tables.Row.{Row}
@@ -9,7 +9,7 @@ use Rattle.snap_rows.specs.declared.tables.RowAt.{RowAt}
 use Rattle.snap_rows.specs.Entries.{row_in, hop_in}
 use Rattle.snap_core.specs.Ports.{link_cmp}
 use Rattle.snap_rows.specs.Form.{row_cmp, hop_cmp}
-use Rattle.snap_rows.specs.Places.{is_before, IsRowPlace, hop_said}
+use Rattle.snap_rows.specs.Places.{IsRowPlace, StandBefore, hop_said}
 use Rattle.std.proofs.lemmas.Option.{slice_get-get_or, slice_get_within, get_or_from_slice_get, same_Some}
 use Rattle.snap_rows.proofs.Rows.{entry_of}
 use Rattle.snap_rows.proofs.Search.{one_place, found_there}
@@ -40,7 +40,7 @@ row_here rs rise w n i r is at number = by (row_in rs w n) refl
 
 -- where a search doesn't end at a row of the numbers, there is none
 pub no_row : (rs : List RowAt) → IsStrictlySortedBy row_cmp rs → (w n i : ℕ)
-    → IsPartitionPoint (λ (r : RowAt). is_before (λ (r : RowAt). r.at) (λ (r : RowAt). r.number) w n r ≡ true) (λ (r : RowAt). is_before (λ (r : RowAt). r.at) (λ (r : RowAt). r.number) w n r ≡ false) rs i
+    → StandBefore (λ (r : RowAt). r.at) (λ (r : RowAt). r.number) w n rs i
     → (IsRowPlace rs w n i → ⊥) → row_in rs w n ≡ None
 no_row rs rise w n i point other = by (row_in rs w n) refl
   where
@@ -102,7 +102,7 @@ hop_entry (g ∷ hs) w x = by (g.from == w) (g.target == x) refl refl (hop_entry
 
 -- the entry where a search ends says the next hop
 pub hop_there : (hs : List Hop) → IsStrictlySortedBy hop_cmp hs → (w x i : ℕ)
-    → IsPartitionPoint (λ (h : Hop). is_before (λ (h : Hop). h.from) (λ (h : Hop). h.target) w x h ≡ true) (λ (h : Hop). is_before (λ (h : Hop). h.from) (λ (h : Hop). h.target) w x h ≡ false) hs i
+    → StandBefore (λ (h : Hop). h.from) (λ (h : Hop). h.target) w x hs i
     → hop_in hs w x ≡ hop_said (slice_get hs i) w x
 hop_there hs rise w x i point = ⊎_elim here elsewhere (hop_entry hs w x)
   where
@@ -135,7 +135,7 @@ hop_here hs rise w x i h is from target = ⊎_elim
 
 -- ---- links
 pub link_there : (ls : List (ℕ × ℕ)) → IsStrictlySortedBy link_cmp ls → (a b i : ℕ)
-    → IsPartitionPoint (λ (l : ℕ × ℕ). is_before (λ (l : ℕ × ℕ). l.0) (λ (l : ℕ × ℕ). l.1) a b l ≡ true) (λ (l : ℕ × ℕ). is_before (λ (l : ℕ × ℕ). l.0) (λ (l : ℕ × ℕ). l.1) a b l ≡ false) ls i
+    → StandBefore (λ (l : ℕ × ℕ). l.0) (λ (l : ℕ × ℕ). l.1) a b ls i
     → Contains ls (a, b) → slice_get ls i ≡ Some (a, b)
 link_there ls rise a b i point c =
     let is : slice_get ls c.0 ≡ Some (a, b) = slice_get-get_or ls c.0 (a, b) c.1 ∙ ap Some c.2 in

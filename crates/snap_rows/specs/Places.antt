@@ -1,7 +1,7 @@
 -- Entries that rise by two numbers, and their places.
-use Rattle.std.specs.Prelude.{◌≡◌, ℕ, Bool, ◌&&◌, ◌||◌, ◌==◌, nat_lt, Option, Some, None, List, slice_get, if◌then◌else◌}
+use Rattle.std.specs.Prelude.{◌≡◌, ℕ, Bool, true, false, ◌&&◌, ◌||◌, ◌==◌, nat_lt, Option, Some, None, List, slice_get, if◌then◌else◌}
 use Rattle.std.specs.Ordering.{nat_cmp, ordering_then}
-use Rattle.std.specs.List.Sorted.{IsStrictlySortedBy}
+use Rattle.std.specs.List.Sorted.{IsStrictlySortedBy, IsPartitionPoint}
 use Rattle.snap_core.specs.declared.ports.PortAt.{PortAt}
 use Rattle.snap_rows.specs.declared.tables.Hop.{Hop}
 use Rattle.snap_rows.specs.declared.tables.RowAt.{RowAt}
@@ -13,6 +13,10 @@ Rising f g xs = IsStrictlySortedBy (λ x y. ordering_then (nat_cmp (f x) (f y)) 
 -- an entry stands before those of the numbers a and b
 abbrev pub is_before : {X : Type 0} → (X → ℕ) → (X → ℕ) → ℕ → ℕ → X → Bool
 is_before f g a b x = nat_lt (f x) a || ((f x == a) && nat_lt (g x) b)
+
+-- so many of the entries stand before those of the numbers a and b, and no other does
+abbrev pub StandBefore : {X : Type 0} → (X → ℕ) → (X → ℕ) → ℕ → ℕ → List X → ℕ → Type 0
+StandBefore f g a b xs n = IsPartitionPoint (λ x. is_before f g a b x ≡ true) (λ x. is_before f g a b x ≡ false) xs n
 
 -- the row at this place is that of switch w and number n
 abbrev pub IsRowPlace : List RowAt → ℕ → ℕ → ℕ → Type 0

@@ -10,7 +10,7 @@ ghost use Rattle.snap_rows.specs.declared.tables.Row.{Row};
 ghost use Rattle.snap_rows.specs.declared.tables.RowAt.{RowAt};
 ghost use Rattle.snap_rows.specs.declared.tables.Hop.{Hop};
 ghost use Rattle.snap_rows.specs.Form.{IsRowInForm, IsInForm, row_cmp, hop_cmp, array_count, switch_count};
-ghost use Rattle.snap_rows.specs.Places.{is_before, IsRowPlace, hop_said, port_said};
+ghost use Rattle.snap_rows.specs.Places.{IsRowPlace, StandBefore, hop_said, is_before, port_said};
 ghost use Rattle.snap_rows.specs.Rules.{IsValid};
 ghost use Rattle.snap_rows.specs.Aims.{aim_of};
 ghost use Rattle.snap_core.specs.Ports.{port_in};
@@ -159,7 +159,7 @@ fn row_is_before(entry: &RowAt, at: u16, number: u64) -> bool
 // How many rows stand before that of a switch and number.
 fn rows_before(rows: &[RowAt], at: u16, number: u64) -> usize
     requires { IsStrictlySortedBy row_cmp rows.now }
-    ensures { IsPartitionPoint (λ (r : RowAt). is_before (λ (r : RowAt). r.at) (λ (r : RowAt). r.number) at number r ≡ true) (λ (r : RowAt). is_before (λ (r : RowAt). r.at) (λ (r : RowAt). r.number) at number r ≡ false) rows.now result }
+    ensures { StandBefore (λ (r : RowAt). r.at) (λ (r : RowAt). r.number) at number rows.now result }
 {
     rows.partition_point(|entry| row_is_before(entry, at, number))
 }
@@ -253,7 +253,7 @@ fn hop_is_before(hop: &Hop, at: u16, target: u16) -> bool
 // How many next hops stand before that of a switch towards another.
 fn hops_before(hops: &[Hop], at: u16, target: u16) -> usize
     requires { IsStrictlySortedBy hop_cmp hops.now }
-    ensures { IsPartitionPoint (λ (h : Hop). is_before (λ (h : Hop). h.from) (λ (h : Hop). h.target) at target h ≡ true) (λ (h : Hop). is_before (λ (h : Hop). h.from) (λ (h : Hop). h.target) at target h ≡ false) hops.now result }
+    ensures { StandBefore (λ (h : Hop). h.from) (λ (h : Hop). h.target) at target hops.now result }
 {
     hops.partition_point(|hop| hop_is_before(hop, at, target))
 }
