@@ -16,7 +16,7 @@ use Rattle.snap_fdd.specs.Contexts.{Under}
 use Rattle.snap_fdd.specs.Diagrams.{Only, diagram, walk}
 use Rattle.snap_fdd.specs.Leaves.{answer_of}
 use Rattle.snap_fdd.proofs.Shared.{kept, argument_kept}
-use Rattle.snap_join.specs.Predicates.{IsPredicateLeaf, passed, reads_of, holds, reads, test_answer}
+use Rattle.snap_join.specs.Predicates.{IsPredicateLeaf, passed, reads_of, holds, reads, test_answer, reads_of_both}
 use Rattle.snap_join.proofs.Tested.{answer_is}
 use Rattle.snap_build.specs.declared.chains.Link.{Link}
 use Rattle.snap_build.specs.Chains.{joined, holding, reading, AreLinks, IsLink, IsLinkOf, IsSplit, IsTrueLink}
@@ -79,7 +79,7 @@ joined_end false false = refl
 -- what two links say together, by what each says
 pub two_links : (any : Bool) (g : Grouping) (v : View) (P Q : Arrays → List ℕ → Bool) (R S : Arrays → List ℕ → ℕ) (old new : List (Node Leaf)) (a b l : Link)
     → IsLinkOf g v P R old a → IsLinkOf g v Q S old b
-    → IsLinkOf g v (λ m k. joined any (holds old a.diagram m k) (holds old b.diagram m k)) (λ m k. bit_or (reads old a.diagram m k) (reads old b.diagram m k)) new l
+    → IsLinkOf g v (λ m k. joined any (holds old a.diagram m k) (holds old b.diagram m k)) (reads_of_both old a.diagram b.diagram) new l
     → IsLinkOf g v (λ m k. joined any (P m k) (Q m k)) (λ m k. bit_or (R m k) (S m k)) new l
 two_links any g v P Q R S old new a b l ha hb h =
     link_same g v _ (λ m k. joined any (P m k) (Q m k)) _ (λ m k. bit_or (R m k) (S m k)) new l
@@ -188,7 +188,7 @@ chain_told any g v x y old new last ls items l r more h t e k =
     (ap (λ is. holding any new is m k) e ∙ tell.0, ap (λ is. reading new is m k) e ∙ tell.1)) k
 
 pub pair_told : (any : Bool) (g : Grouping) (v : View) (x y : Pred) (old new last : List (Node Leaf)) (a b r : Link) → Grew old new → IsTrueLink g v x old a → IsTrueLink g v y new b
-    → IsLinkOf g v (λ m k. joined any (holds new a.diagram m k) (holds new b.diagram m k)) (λ m k. bit_or (reads new a.diagram m k) (reads new b.diagram m k)) last r
+    → IsLinkOf g v (λ m k. joined any (holds new a.diagram m k) (holds new b.diagram m k)) (reads_of_both new a.diagram b.diagram) last r
     → IsLinkOf g v (λ m k. joined any (truth x m k) (truth y m k)) (λ m k. bit_or (vars_of x) (vars_of y)) last r
 pair_told any g v x y old new last a b r more ha hb h =
     two_links any g v (truth x) (truth y) (λ m k. vars_of x) (λ m k. vars_of y) new last a b r (link_kept g v (truth x) (λ m k. vars_of x) old new a more ha) hb h

@@ -4,10 +4,10 @@
 //! their join has the nodes of both, and halves are joined with halves. What stands before a run is joined with the whole
 //! of it: where tests lie between one another, what is known of the parts before may keep a diagram small.
 
-ghost use Rattle.std.specs.Prelude.{◌≡◌, ◌<◌, IfOk, length, All, bit_or};
+ghost use Rattle.std.specs.Prelude.{◌<◌, IfOk, length, All};
 ghost use Rattle.snap_arena.specs.Arena.{Grew};
 ghost use Rattle.snap_fdd.specs.Picks.{IsArgument};
-ghost use Rattle.snap_join.specs.Predicates.{IsPredicate, holds, reads};
+ghost use Rattle.snap_join.specs.Predicates.{IsPredicate, holds, reads_of_both};
 ghost use Rattle.snap_build.specs.Chains.{joined, holding, reading, IsLink, IsLinkOf};
 ghost use Rattle.snap_build.specs.Parts.{IsTold};
 
@@ -81,7 +81,7 @@ fn two_joined(
     requires second { IsPredicate nodes.old b }
     ensures grew { Grew nodes.old nodes.new }
     ensures diagram { IfOk result (IsArgument groups.now ctx.now nodes.new) }
-    ensures told { IfOk result (IsTold ctx.now (λ m k. joined any (holds nodes.old a m k) (holds nodes.old b m k)) (λ m k. bit_or (reads nodes.old a m k) (reads nodes.old b m k)) nodes.new) }
+    ensures told { IfOk result (IsTold ctx.now (λ m k. joined any (holds nodes.old a m k) (holds nodes.old b m k)) (reads_of_both nodes.old a b) nodes.new) }
 {
     if any {
         either(nodes, groups, ctx, a, b)
@@ -102,7 +102,7 @@ pub(crate) fn join_two(
     requires a { IsLink groups.now ctx.now nodes.old a }
     requires b { IsLink groups.now ctx.now nodes.old b }
     ensures grew { Grew nodes.old nodes.new }
-    ensures link { IfOk result (IsLinkOf groups.now ctx.now (λ m k. joined any (holds nodes.old a.diagram m k) (holds nodes.old b.diagram m k)) (λ m k. bit_or (reads nodes.old a.diagram m k) (reads nodes.old b.diagram m k)) nodes.new) }
+    ensures link { IfOk result (IsLinkOf groups.now ctx.now (λ m k. joined any (holds nodes.old a.diagram m k) (holds nodes.old b.diagram m k)) (reads_of_both nodes.old a.diagram b.diagram) nodes.new) }
 {
     let last = later(nodes, groups, ctx, a.last, b.last);
     let diagram = two_joined(nodes, groups, ctx, any, a.diagram, b.diagram)?;

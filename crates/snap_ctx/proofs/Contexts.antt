@@ -10,7 +10,8 @@ use Rattle.snap_core.specs.declared.policy.Test.{Test}
 use Rattle.snap_core.specs.Tests.{passes, term_value}
 use Rattle.snap_core.specs.Inputs.{IsPacket}
 use Rattle.snap_ctx.specs.declared.fact.Fact.{Fact}
-use Rattle.snap_ctx.specs.Meets.{Under, IsMet, NoneMeets, with_fact}
+use Rattle.snap_ctx.specs.Answers.{NoneMeetsWith, IsMetWith}
+use Rattle.snap_ctx.specs.Meets.{Under, IsMet, with_fact}
 use Rattle.snap_ctx.specs.Classes.{class_of, IsTest, IsClass, FactRule, PairRule, Says, Rules, left_of, normal}
 use Rattle.snap_ctx.specs.Closing.{IsClosed, IsBroken, MeetsWith, RulesFor, RulesOf, AllRules}
 use Rattle.snap_ctx.specs.View.{View, IsContext, AreFirst}
@@ -63,7 +64,7 @@ swapped : {A B : Type 0} → A × B → B × A
 swapped h = (h.1, h.0)
 
 module _ (v : View) (t : Test) (y : Bool) (ctx : IsContext v) where
-  pub none_meets : IsBroken (MeetsWith (record { test = t; yes = y }) v.facts) v.classes → NoneMeets (length v.classes) (with_fact v.facts t y)
+  pub none_meets : IsBroken (MeetsWith (record { test = t; yes = y }) v.facts) v.classes → NoneMeetsWith v t y
   none_meets broken m k p meets =
       let both : MeetsWith (record { test = t; yes = y }) v.facts m k = swapped (Meets-parts v.facts t y m k meets) in
       broken m k p both (ctx.told m k p both.1)
@@ -72,7 +73,7 @@ module _ (v : View) (t : Test) (y : Bool) (ctx : IsContext v) where
     more_rules : Rules (with_fact v.facts t y) new
     more_rules = all_rules new v.facts (record { test = t; yes = y }) closed.classes (rw closed.same ctx.rules.tests) (rw closed.same test) closed.rules
 
-    pub more_met : IsMet (length v.classes) (with_fact v.facts t y)
+    pub more_met : IsMetWith v t y
     more_met =
         subst (λ n. IsMet n (with_fact v.facts t y)) closed.same
         (model (with_fact v.facts t y) new more_rules (rw closed.same ctx.few) (omega (arith, ctx.many)))
@@ -89,10 +90,10 @@ module _ (v : View) (t : Test) (y : Bool) (ctx : IsContext v) where
     }
 
 -- where no answer is possible, the other always comes
-pub never_passes : (v : View) (t : Test) → NoneMeets (length v.classes) (with_fact v.facts t true) → Under (length v.classes) v.facts (λ m k. passes t m k ≡ false)
+pub never_passes : (v : View) (t : Test) → NoneMeetsWith v t true → Under (length v.classes) v.facts (λ m k. passes t m k ≡ false)
 never_passes v t none m k p h = false_from_ne_true (passes t m k) (λ y. none m k p (Meets-with_fact v.facts t true m k h y))
 
-pub always_passes : (v : View) (t : Test) → NoneMeets (length v.classes) (with_fact v.facts t false) → Under (length v.classes) v.facts (λ m k. passes t m k ≡ true)
+pub always_passes : (v : View) (t : Test) → NoneMeetsWith v t false → Under (length v.classes) v.facts (λ m k. passes t m k ≡ true)
 always_passes v t none m k p h = true_from_ne_false (passes t m k) (λ y. none m k p (Meets-with_fact v.facts t false m k h y))
 
 pub class_told : (v : View) (c : ℕ) → IsContext v → c < length v.classes → Under (length v.classes) v.facts (λ m k. term_value (class_of v.classes c) k ≡ slice_index k c)

@@ -6,7 +6,7 @@ ghost use Rattle.snap_ctx.specs.Classes.{IsClass, IsTest, class_of, index_of};
 ghost use Rattle.snap_ctx.specs.declared.fact.Fact.{Fact as AFact};
 ghost use Rattle.snap_ctx.specs.Known.{IsKnown};
 ghost use Rattle.snap_ctx.specs.Lean.{IsLean};
-ghost use Rattle.snap_ctx.specs.Meets.{IsMet, NoneMeets, Under, with_fact};
+ghost use Rattle.snap_ctx.specs.Meets.{IsMet, Under};
 ghost use Rattle.snap_ctx.specs.View.{IsContext};
 
 use crate::classes::{class_at, first_classes};
@@ -85,7 +85,7 @@ fn list_of(alloc: Global, mut list: Vec<Fact>) -> Result<Rc<Facts>, NoMemory>
 }
 
 impl Context {
-    ghost use Rattle.snap_ctx.specs.Answers.{IsAssumed, IsVerdict};
+    ghost use Rattle.snap_ctx.specs.Answers.{IsAssumed, IsMetWith, IsVerdict, NoneMeetsWith};
 
     /// No facts over so many components. Refuses for memory alone.
     pub fn empty(alloc: Global, comps: u16) -> Result<Context, NoMemory>
@@ -155,7 +155,7 @@ impl Context {
     // Whether nothing meets the facts and a new one.
     fn refutes(&self, fact: &Fact) -> Result<bool, NoMemory>
         requires fits { IsTest (length self.now.classes) fact.now.test }
-        ensures { IfOk result (λ none. MatchBool none (NoneMeets (length self.now.classes) (with_fact self.now.facts fact.now.test fact.now.yes)) (IsMet (length self.now.classes) (with_fact self.now.facts fact.now.test fact.now.yes))) }
+        ensures { IfOk result (λ none. MatchBool none (NoneMeetsWith self.now fact.now.test fact.now.yes) (IsMetWith self.now fact.now.test fact.now.yes)) }
     {
         let alloc = *self.classes.allocator();
         match closed(alloc, &self.classes, &self.facts, fact)? {

@@ -1,5 +1,5 @@
 -- Answers under a test's two answers, and of leaves.
-use Rattle.std.proofs.Common.{◌≡◌, ℕ, Bool, true, false, List, length, sym, ◌∙◌, subst}
+use Rattle.std.proofs.Common.{◌≡◌, ℕ, Bool, true, false, List, sym, ◌∙◌, subst}
 use Rattle.std.specs.Prelude.{Result, MatchResult}
 use Rattle.std.specs.List.{All}
 use Rattle.std.proofs.lemmas.List.Elements.{All-cons}
@@ -10,7 +10,8 @@ use Rattle.snap_core.specs.Tests.{passes, results}
 use Rattle.snap_ctx.specs.declared.context.Assumed.TheVariants.{More}
 use Rattle.snap_ctx.specs.declared.fact.Fact.{Fact}
 use Rattle.snap_ctx.specs.Answers.{IsAssumed}
-use Rattle.snap_ctx.specs.Meets.{Meets, NoneMeets, with_fact}
+use Rattle.snap_ctx.specs.Answers.{NoneMeetsWith}
+use Rattle.snap_ctx.specs.Meets.{Meets}
 use Rattle.snap_ctx.specs.View.{View}
 use Rattle.snap_ctx.proofs.Answers.{Meets-with_fact, Meets-parts}
 use Rattle.snap_model.specs.Models.{FactBelow}
@@ -30,7 +31,7 @@ below_more n v w t y is a h = subst (All (FactBelow n)) (sym a.0) (All-cons (Fac
 
 module _ (v : View) (vars : ℕ) (t : Test) (y : Bool) (P : Arrays → List ℕ → Type 0) where
   -- none gives the answer
-  pub nowhere : NoneMeets (length v.classes) (with_fact v.facts t y) → On v (Where t y P)
+  pub nowhere : NoneMeetsWith v t y → On v (Where t y P)
   nowhere none m k i e = absurd (none m k i.packet (Meets-with_fact v.facts t y m k i.facts e))
 
   -- the context where the test has the answer

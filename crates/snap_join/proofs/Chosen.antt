@@ -29,9 +29,9 @@ logged_answer Race y k h = absurd h
 logged_answer (Goes x) Race k h = refl
 logged_answer (Goes x) (Goes y) k h = refl
 
-pub chosen_answer : (ranks : List ℕ) (s : Sizes) (x p q r : Diagram) (m : Arrays) (k : List ℕ) → IsChosen ranks s x p q r → IsPredicateLeaf (walk x m k)
+pub answer_of-chosen : (ranks : List ℕ) (s : Sizes) (x p q r : Diagram) (m : Arrays) (k : List ℕ) → IsChosen ranks s x p q r → IsPredicateLeaf (walk x m k)
     → answer_of (walk r m k) k ≡ more_reads (reads_of (walk x m k)) (cond (passed (walk x m k)) (answer_of (walk p m k) k) (answer_of (walk q m k) k))
-chosen_answer ranks s x p q r m k c h =
+answer_of-chosen ranks s x p q r m k c h =
     ap (λ (l : Leaf). answer_of l k) (c.walks m k)
     ∙ logged_answer (walk x m k) (cond (passed (walk x m k)) (walk p m k) (walk q m k)) k h
     ∙ (let Goal : Bool → Type 0 = λ b. more_reads (reads_of (walk x m k)) (answer_of (cond b (walk p m k) (walk q m k)) k) ≡ more_reads (reads_of (walk x m k)) (cond b (answer_of (walk p m k) k) (answer_of (walk q m k) k)) in

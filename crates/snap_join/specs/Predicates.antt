@@ -41,6 +41,10 @@ holds ns d m k = passed (walk (diagram ns d) m k)
 abbrev pub reads : List (Node Leaf) → ℕ → Arrays → List ℕ → ℕ
 reads ns d m k = reads_of (walk (diagram ns d) m k)
 
+-- what two predicates read
+abbrev pub reads_of_both : List (Node Leaf) → ℕ → ℕ → Arrays → List ℕ → ℕ
+reads_of_both ns a b m k = bit_or (reads ns a m k) (reads ns b m k)
+
 -- the answer of a predicate
 abbrev pub test_answer : Bool → ℕ → List ℕ → Option Answer
 test_answer b r k = Some (record { packets = if b then with_packet no_packets k else no_packets; reads = r; writes = 0; change = λ m. m })

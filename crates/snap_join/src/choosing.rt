@@ -1,6 +1,6 @@
 //! One of two diagrams, by a predicate.
 
-ghost use Rattle.std.specs.Prelude.{◌≡◌, ◌<◌, ℕ, List, length, IfOk, IsTrue, OnOk, if◌then◌else◌};
+ghost use Rattle.std.specs.Prelude.{◌≡◌, ◌<◌, ℕ, List, length, IfOk, IsTrue, OnOk};
 ghost use Rattle.snap_arena.specs.Arena.{Grew};
 ghost use Rattle.snap_arena.specs.Memos.{Remembers};
 ghost use Rattle.snap_fdd.specs.Contexts.{Under};
@@ -8,8 +8,8 @@ ghost use Rattle.snap_core.specs.Arrays.{Arrays};
 ghost use Rattle.snap_fdd.specs.Diagrams.{diagram, walk, answer, Only};
 ghost use Rattle.snap_fdd.specs.declared.leaf.Leaf.{Leaf};
 ghost use Rattle.snap_fdd.specs.Picks.{sizes, IsArgument};
-ghost use Rattle.snap_join.specs.Predicates.{IsPredicate, holds, reads, more_reads, passed};
-ghost use Rattle.snap_join.specs.Chosen.{IsChosen};
+ghost use Rattle.snap_join.specs.Predicates.{IsPredicate, passed};
+ghost use Rattle.snap_join.specs.Chosen.{IsChosen, chosen_answer, chosen_leaf};
 ghost use Rattle.snap_join.specs.Joined.{logged_leaf};
 ghost use Rattle.snap_join.specs.Memoed.{DecidedFor, IsAskedChoice};
 
@@ -127,8 +127,8 @@ pub fn choose(
     requires q { IsArgument groups.now ctx.now nodes.old q }
     ensures grew { Grew nodes.old nodes.new }
     ensures diagram { IfOk result (IsArgument groups.now ctx.now nodes.new) }
-    ensures walks { IfOk result (λ d. (m : Arrays) (k : List ℕ) → walk (diagram nodes.new d) m k ≡ logged_leaf (walk (diagram nodes.old x) m k) (if holds nodes.old x m k then walk (diagram nodes.old p) m k else walk (diagram nodes.old q) m k)) }
-    ensures answer { IfOk result (λ d. Under ctx.now (λ m k. answer nodes.new d m k ≡ more_reads (reads nodes.old x m k) (if holds nodes.old x m k then answer nodes.old p m k else answer nodes.old q m k))) }
+    ensures walks { IfOk result (λ d. (m : Arrays) (k : List ℕ) → walk (diagram nodes.new d) m k ≡ chosen_leaf (diagram nodes.old x) (diagram nodes.old p) (diagram nodes.old q) m k) }
+    ensures answer { IfOk result (λ d. Under ctx.now (λ m k. answer nodes.new d m k ≡ chosen_answer nodes.old x p q m k)) }
 {
     let mut memo = Pairs::new(nodes.allocator());
     chosen(nodes, groups, ctx, &mut memo, x, p, q)

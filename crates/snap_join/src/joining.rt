@@ -1,6 +1,6 @@
 //! Two diagrams combined: side by side, and predicates.
 
-ghost use Rattle.std.specs.Prelude.{◌≡◌, ◌<◌, ℕ, List, length, IfOk, OnOk, ◌&&◌, ◌||◌, bit_or};
+ghost use Rattle.std.specs.Prelude.{◌≡◌, ◌<◌, ℕ, List, length, IfOk, OnOk, ◌&&◌, ◌||◌};
 ghost use Rattle.snap_arena.specs.Arena.{Grew};
 ghost use Rattle.snap_arena.specs.Memos.{Remembers};
 ghost use Rattle.snap_fdd.specs.Contexts.{Under};
@@ -8,7 +8,7 @@ ghost use Rattle.snap_core.specs.Arrays.{Arrays};
 ghost use Rattle.snap_fdd.specs.Diagrams.{diagram, walk, answer};
 ghost use Rattle.snap_fdd.specs.Picks.{sizes, IsArgument};
 ghost use Rattle.snap_join.specs.Beside.{beside};
-ghost use Rattle.snap_join.specs.Predicates.{IsPredicate, holds, reads, test_answer};
+ghost use Rattle.snap_join.specs.Predicates.{IsPredicate, holds, reads_of_both, test_answer};
 ghost use Rattle.snap_join.specs.Joined.{IsJoined, IsStart, beside_leaf, both_leaf, either_leaf};
 ghost use Rattle.snap_join.specs.Memoed.{CombinedFor, IsAskedJoin};
 
@@ -178,7 +178,7 @@ pub fn both(
     ensures diagram { IfOk result (IsArgument groups.now ctx.now nodes.new) }
     ensures predicate { IfOk result (IsPredicate nodes.new) }
     ensures walks { IfOk result (λ d. (m : Arrays) (k : List ℕ) → walk (diagram nodes.new d) m k ≡ both_leaf (walk (diagram nodes.old a) m k) (walk (diagram nodes.old b) m k)) }
-    ensures answer { IfOk result (λ d. Under ctx.now (λ m k. answer nodes.new d m k ≡ test_answer (holds nodes.old a m k && holds nodes.old b m k) (bit_or (reads nodes.old a m k) (reads nodes.old b m k)) k)) }
+    ensures answer { IfOk result (λ d. Under ctx.now (λ m k. answer nodes.new d m k ≡ test_answer (holds nodes.old a m k && holds nodes.old b m k) (reads_of_both nodes.old a b m k) k)) }
 {
     combine(nodes, groups, ctx, How::AndBoth, a, b)
 }
@@ -199,7 +199,7 @@ pub fn either(
     ensures diagram { IfOk result (IsArgument groups.now ctx.now nodes.new) }
     ensures predicate { IfOk result (IsPredicate nodes.new) }
     ensures walks { IfOk result (λ d. (m : Arrays) (k : List ℕ) → walk (diagram nodes.new d) m k ≡ either_leaf (walk (diagram nodes.old a) m k) (walk (diagram nodes.old b) m k)) }
-    ensures answer { IfOk result (λ d. Under ctx.now (λ m k. answer nodes.new d m k ≡ test_answer (holds nodes.old a m k || holds nodes.old b m k) (bit_or (reads nodes.old a m k) (reads nodes.old b m k)) k)) }
+    ensures answer { IfOk result (λ d. Under ctx.now (λ m k. answer nodes.new d m k ≡ test_answer (holds nodes.old a m k || holds nodes.old b m k) (reads_of_both nodes.old a b m k) k)) }
 {
     combine(nodes, groups, ctx, How::OrEither, a, b)
 }

@@ -11,13 +11,13 @@ use Rattle.snap_core.specs.Fits.{AtomFits}
 use Rattle.snap_core.specs.Listing.{number_in}
 use Rattle.snap_core.specs.Tests.{passes, TestFits}
 use Rattle.snap_core.specs.Inputs.{IsStore, IsPacket}
-use Rattle.snap_ctx.specs.Meets.{IsMet, NoneMeets, with_fact}
+use Rattle.snap_ctx.specs.Meets.{IsMet}
 use Rattle.snap_ctx.specs.Classes.{index_of}
 use Rattle.snap_ctx.specs.View.{View}
 use Rattle.snap_ctx.proofs.Answers.{Meets-with_fact}
 use Rattle.snap_model.specs.declared.ask.Ask.{Ask}
 use Rattle.snap_model.specs.declared.ask.Ask.TheVariants.{Component, At}
-use Rattle.snap_model.specs.Asks.{test_of, answer_of, AskFits}
+use Rattle.snap_model.specs.Asks.{IsNever, test_of, answer_of, AskFits}
 
 pub ask_fits : (comps : ℕ) (ask : Ask) (n : ℕ) → AskFits comps ask → TestFits comps (test_of ask n)
 ask_fits comps (Component c) n h = h
@@ -41,7 +41,7 @@ answer_small comps m k (Component c) o s p = p.numbers c 0 (rw p.long o)
 answer_small comps m k (At q) o s p = s q
 
 -- a context that is met has an answer that is possible
-pub some_answer : (v : View) (ask : Ask) → AskFits (length v.classes) ask → IsMet (length v.classes) v.facts → ((j : ℕ) → j < 2 ^ 64 → NoneMeets (length v.classes) (with_fact v.facts (test_of ask j) true)) → ⊥
+pub some_answer : (v : View) (ask : Ask) → AskFits (length v.classes) ask → IsMet (length v.classes) v.facts → ((j : ℕ) → j < 2 ^ 64 → IsNever v ask j) → ⊥
 some_answer v ask o met none =
     let n : ℕ = answer_of ask (number_in met.entries) met.packet in
     none (answer_of ask (number_in met.entries) met.packet) (answer_small (length v.classes) (number_in met.entries) met.packet ask o met.is_store met.is_packet)

@@ -5,7 +5,8 @@ use Rattle.snap_core.specs.declared.policy.Term.TheVariants.{Num}
 use Rattle.snap_core.specs.declared.policy.Test.{Test}
 use Rattle.snap_core.specs.declared.policy.Test.TheVariants.{Value, State}
 use Rattle.snap_core.specs.Arrays.{Arrays}
-use Rattle.snap_ctx.specs.Meets.{NoneMeets, with_fact}
+use Rattle.snap_ctx.specs.Answers.{NoneMeetsWith}
+use Rattle.snap_ctx.specs.Meets.{with_fact}
 use Rattle.snap_ctx.specs.View.{View}
 use Rattle.snap_model.specs.declared.ask.Ask.{Ask}
 use Rattle.snap_model.specs.declared.ask.Ask.TheVariants.{Component, At}
@@ -33,7 +34,7 @@ pub record IsSettled (v : View) (ask : Ask) (s : Settled) : Type 0 where
 
 -- no store and packet that meet the context answer so
 abbrev pub IsNever : View → Ask → ℕ → Type 0
-IsNever v ask n = NoneMeets (length v.classes) (with_fact v.facts (test_of ask n) true)
+IsNever v ask n = NoneMeetsWith v (test_of ask n) true
 
 -- the guess, or the least possible answer where the guess is none
 abbrev pub IsGuessOrLeast : View → Ask → ℕ → ℕ → Type 0

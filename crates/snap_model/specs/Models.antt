@@ -1,17 +1,18 @@
 -- How a context grows until all its models agree on the packet and on the places of its facts.
-use Rattle.std.specs.Prelude.{◌≡◌, ℕ, ◌<◌, Bool, true, List, length, slice_index, All, Option, Some, None}
+use Rattle.std.specs.Prelude.{◌≡◌, ℕ, ◌<◌, Bool, true, false, List, length, slice_index, All, Option, Some, None, MatchOption}
 use Rattle.snap_core.specs.declared.place.Place.{Place}
 use Rattle.snap_core.specs.Inputs.{IsStore, IsZeroFrom}
-use Rattle.snap_core.specs.Arrays.{Arrays, place_at}
-use Rattle.snap_core.specs.Cells.{arrays_of}
+use Rattle.snap_core.specs.Arrays.{Arrays, place_at, put}
+use Rattle.snap_core.specs.Cells.{Kept, arrays_of}
 use Rattle.snap_ctx.specs.declared.fact.Fact.{Fact}
 use Rattle.snap_ctx.specs.Meets.{Meets, Under}
 use Rattle.snap_ctx.specs.Classes.{is_state, var_of, index_of}
 use Rattle.snap_ctx.specs.View.{View}
 use Rattle.snap_model.specs.declared.ask.Ask.{Ask}
 use Rattle.snap_model.specs.declared.ask.Ask.TheVariants.{Component, At}
+use Rattle.snap_model.specs.declared.ask.Settled.{Settled}
 use Rattle.snap_model.specs.declared.example.Draft.{Draft}
-use Rattle.snap_model.specs.Asks.{answer_of}
+use Rattle.snap_model.specs.Asks.{answer_of, IsSettled}
 
 -- a context, or what it grew to
 abbrev pub current : View → Option View → View
@@ -56,6 +57,12 @@ Knows v e f = ForcesFact (current v e.grown) e.packet (arrays_of e.store) f
 -- a fact on a place is on a variable below n
 abbrev pub FactBelow : ℕ → Fact → Type 0
 FactBelow n f = is_state f.test ≡ true → var_of f.test < n
+
+-- a fact at no place leaves the store; for one at a place, the context grows by the place's number, which the store then has
+abbrev pub SettlesFact : View → Fact → List ℕ → Kept → Kept → Option Settled → Type 0
+SettlesFact v f k old new o = MatchOption o
+    ((is_state f.test ≡ false) × (new ≡ old))
+    (λ s. (is_state f.test ≡ true) × IsSettled v (At (place_of f k)) s × (arrays_of new ≡ put (arrays_of old) (place_of f k) s.num))
 
 -- the places of those of the facts that have the answer are settled, and what was settled stays so
 pub record Settles (v : View) (yes : Bool) (facts : List Fact) (old new : Draft) : Type 0 where

@@ -1,11 +1,11 @@
 //! Examples of contexts.
 
-ghost use Rattle.std.specs.Prelude.{◌≡◌, ◌<◌, ℕ, IfOk, MatchOption, true, false, length};
+ghost use Rattle.std.specs.Prelude.{◌≡◌, ◌<◌, ℕ, IfOk, true, false, length};
 ghost use Rattle.std.specs.List.{All};
 ghost use Rattle.snap_core.specs.declared.place.Place.{Place};
 ghost use Rattle.snap_core.specs.Arrays.{put};
 ghost use Rattle.snap_core.specs.Cells.{arrays_of};
-ghost use Rattle.snap_ctx.specs.Classes.{IsTest, is_state};
+ghost use Rattle.snap_ctx.specs.Classes.{IsTest};
 ghost use Rattle.snap_ctx.specs.Meets.{IsMet, Meets};
 ghost use Rattle.snap_model.specs.declared.ask.Ask.TheVariants.{Component, At};
 ghost use Rattle.snap_model.specs.Asks.{IsSettled};
@@ -32,7 +32,7 @@ pub struct Draft {
 }
 
 ghost use Rattle.snap_core.specs.Inputs.{IsStore, IsPacket, IsZeroFrom};
-ghost use Rattle.snap_model.specs.Models.{current, place_of, FactBelow, IsDraft, IsRun, Settles};
+ghost use Rattle.snap_model.specs.Models.{current, FactBelow, IsDraft, Settles, SettlesFact};
 
 // A context, or what it grew to.
 fn current<'a>(ctx: &'a Context, grown: &'a Option<Context>) -> &'a Context
@@ -85,9 +85,7 @@ fn settle_fact(
 ) -> Result<Option<Settled>, NoMemory>
     requires packet { length packet.now ≡ length ctx.now.classes }
     requires test { IsTest (length packet.now) fact.now.test }
-    ensures { IfOk result (λ o. MatchOption o
-        ((is_state fact.now.test ≡ false) × (store.new ≡ store.old))
-        (λ s. (is_state fact.now.test ≡ true) × IsSettled ctx.now (At (place_of fact.now packet.now)) s × (arrays_of store.new ≡ put (arrays_of store.old) (place_of fact.now packet.now) s.num))) }
+    ensures { IfOk result (SettlesFact ctx.now fact.now packet.now store.old store.new) }
 {
     let Test::State { var, index, value } = fact.test.test() else {
         return Ok(None);

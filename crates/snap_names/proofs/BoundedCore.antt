@@ -2,7 +2,7 @@
 -- W tells that no index is empty, as none is where a text derives the tree.
 use Rattle.std.proofs.Common.{◌≡◌, ℕ, ◌<◌, ◌≤◌, min, length, List, Some, slice_get, arith, le_refl, le_trans, lt_of_lt_of_le}
 use Rattle.std.proofs.Math.Nat.{min-le_left}
-use Rattle.snap_names.specs.Core.{Atom, Num, Comp, Op, Put, Add, Pol, Filter, Set, Change, Par', Seq', If', Atomic', Pred, Id, Drop, Field, State, Not', And', Or', CoreTest, id_test, drop_test, field_test, state_test, not_test, and_test, or_test, core_test, CorePolicy, filter, set, change, par, seq, choice, atomic, core_policy}
+use Rattle.snap_names.specs.Core.{Atom, Num, Comp, Op, Put, Add, Pol, Filter, Set, Change, Par', Seq', If', Atomic', Pred, Field, State, Not', And', Or', CoreTest, field_test, state_test, not_test, and_test, or_test, core_test, CorePolicy, filter, set, change, par, seq, choice, atomic, core_policy}
 use Rattle.snap_core.specs.Fits.{AtomFits, OpFits, IndexFits, PredFits, PolFits}
 use Rattle.snap_names.specs.Senses.{Arities}
 use Rattle.std.proofs.lemmas.List.Elements.{All-weaker}

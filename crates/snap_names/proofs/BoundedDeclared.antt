@@ -1,9 +1,9 @@
 -- What is declared fits.
 use Rattle.std.proofs.Common.{◌≡◌, ℕ, zero, suc, ◌+◌, ◌<◌, ◌≤◌, List, [], ◌∷◌, ◌++◌, length, slice_get, Option, None, Some, is_some, Ok, IfOk, arith, le_refl, le_trans, lt_of_le_of_lt, lt_of_lt_of_le, length-append}
 use Rattle.std.proofs.Math.Nat.{min-le_left}
-use Rattle.std.specs.List.{All, list_any}
+use Rattle.std.specs.List.{All}
 use Rattle.std.proofs.lemmas.List.Elements.{All-append, All-from_recursion, All-nil, All-push, All-weaker}
-use Rattle.snap_names.specs.Declarations.{Field, Declared, ports, env_of, field_names, short, field_senses, prefix_length, with_field, with_array, with_constant, with_let, declare}
+use Rattle.snap_names.specs.Declarations.{Field, Declared, ports, env_of, short, field_senses, prefix_length, with_field, with_array, with_constant, with_let, declare, is_field_known}
 use Rattle.snap_core.specs.Fields.{count, width}
 use Rattle.snap_parse.specs.Tree.{PolicyTree, DeclTree, field_tree, array_tree, const_tree, let_tree}
 use Rattle.snap_names.specs.Senses.{Sense, Plain, Split, Array, Constant, Policy, Twice, Arities, word, literal, is_address}
@@ -107,7 +107,7 @@ policy-read W text atoms d h t w = policy-reads W (count d.fields) (length d.arr
 
 pub declare-fits : (W : Type 0) (text : List ℕ) (d : Declared) → DeclaredFits W d → (t : DeclTree) → (W → DeclWritten text t) → IfOk (declare text d t) (DeclaredFits W)
 declare-fits W text d h (field_tree at t p) w =
-    IfOk-unless (DeclaredFits W) (list_any (is_known d.names) (field_names (word text t) (is_some p))) (Twice t.from) _
+    IfOk-unless (DeclaredFits W) (is_field_known d.names (word text t) (is_some p)) (Twice t.from) _
     (IfOk-after_any (DeclaredFits W) (prefix_length text p) _ (λ n. with_field-fits W d (word text t) n h))
 declare-fits W text d h (array_tree at t) w = IfOk-unless (DeclaredFits W) (is_known d.names (word text t)) (Twice t.from) (Ok (with_array d (word text t))) (with_array-fits W d (word text t) h)
 declare-fits W text d h (const_tree at t l) w =

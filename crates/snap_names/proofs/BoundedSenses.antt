@@ -7,7 +7,7 @@ use Rattle.std.proofs.lemmas.Map.Entries.{All-lookup}
 use Rattle.std.proofs.lemmas.List.Elements.{All-append, All-from_recursion}
 use Rattle.snap_names.specs.Core.{Atom, Num, Comp}
 use Rattle.snap_core.specs.Fits.{AtomFits, IndexFits}
-use Rattle.snap_names.specs.Senses.{Span, Value, Sense, Plain, Split, Array, Constant, Policy, NameFault, Unknown, Kind, Arity, Words, Arities, Place, after, word, sense_of, literal, constant, atom_of, field_atom, array_atom, address_literal, split_of_sense, split_atoms, split_address, split_net, split_test, test_of_sense, field_equals, set_of_sense, field_gets, atoms_of_sense, value_atoms, atoms_behind, arity_seen, width_of, value_width, width}
+use Rattle.snap_names.specs.Senses.{Span, Value, Sense, Plain, Split, Array, Constant, NameFault, Unknown, Kind, Arity, Words, Arities, Place, after, word, sense_of, literal, constant, atom_of, field_atom, array_atom, address_literal, split_of_sense, split_atoms, split_address, split_net, split_test, test_of_sense, field_equals, set_of_sense, field_gets, atoms_of_sense, value_atoms, atoms_behind, arity_seen, width_of, value_width, width}
 use Rattle.snap_names.proofs.BoundedCore.{IsIndexed, TestFits, PolicyFits, Grows, Grows-same}
 use Rattle.snap_names.proofs.BoundedSteps.{IfOk-or_fault, IfOk-after, IfOk-after_any, IfOk-if}
 

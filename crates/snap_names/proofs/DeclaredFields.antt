@@ -3,7 +3,7 @@ use Rattle.std.proofs.Common.{◌≡◌, ℕ, ◌+◌, ◌≤◌, Bool, true, fa
 use Rattle.std.specs.List.{AllByRecursion, IsDistinct, list_any}
 use Rattle.std.specs.Map.{lookup}
 use Rattle.std.proofs.lemmas.Slice.Eq.{bytes_eq-Decides}
-use Rattle.snap_names.specs.Declarations.{Field, Declared, ports, field_names, with_field, field_senses, prefix_length, short, with_array, with_constant, with_let, declare, env_of}
+use Rattle.snap_names.specs.Declarations.{Field, Declared, ports, field_names, with_field, field_senses, prefix_length, short, with_array, with_constant, with_let, declare, env_of, is_field_known}
 use Rattle.snap_core.specs.Fields.{count, width, declared_at, declared_from, names_of, plain_field, PrefixFits, IsFields}
 use Rattle.snap_names.specs.Senses.{Sense, Plain, Split, Array, after, word, literal, is_address, number_at, NameFault, Twice, Prefix}
 use Rattle.snap_names.specs.Spells.{is_known}
@@ -140,7 +140,7 @@ pub record FieldsStand (W : Type 0) (d : Declared) : Type 0 where
   pub named : W → AllByRecursion IsName (names_of d.fields ++ d.arrays)
   pub prefixes : AllByRecursion (λ f. PrefixFits f.prefix) d.fields
 
-with_field-stands : (W : Type 0) (d : Declared) (name : List ℕ) (prefix : Option ℕ) → FieldsStand W d → list_any (is_known d.names) (field_names name (is_some prefix)) ≡ false → (W → IsName name) → PrefixFits prefix → FieldsStand W (with_field d name prefix)
+with_field-stands : (W : Type 0) (d : Declared) (name : List ℕ) (prefix : Option ℕ) → FieldsStand W d → is_field_known d.names name (is_some prefix) ≡ false → (W → IsName name) → PrefixFits prefix → FieldsStand W (with_field d name prefix)
 with_field-stands W d name prefix h k w fits =
     let more = field_senses (count d.fields) name prefix in
     let old : List (List ℕ) = names_of d.fields in
@@ -185,21 +185,21 @@ named-stands W d e more fs as_is ns h = record {
   prefixes = rw fs h.prefixes;
 }
 
-IfOk-split : (W : Type 0) (d : Declared) (name : List ℕ) (b : Bool) (n : ℕ) (f : NameFault) → FieldsStand W d → list_any (is_known d.names) (field_names name true) ≡ false → (W → IsName name) → (b ≡ true → PrefixFits (Some n))
+IfOk-split : (W : Type 0) (d : Declared) (name : List ℕ) (b : Bool) (n : ℕ) (f : NameFault) → FieldsStand W d → is_field_known d.names name true ≡ false → (W → IsName name) → (b ≡ true → PrefixFits (Some n))
     → IfOk (after (if b then Ok (Some n) else Err f) (λ w. Ok (with_field d name w))) (FieldsStand W)
 IfOk-split W d name true n f h k w fits = with_field-stands W d name (Some n) h k w (fits refl)
 IfOk-split W d name false n f h k w fits = tt
 
-IfOk-split_after : (W : Type 0) (d : Declared) (name : List ℕ) (r : Result ℕ NameFault) (f : NameFault) → FieldsStand W d → list_any (is_known d.names) (field_names name true) ≡ false → (W → IsName name)
+IfOk-split_after : (W : Type 0) (d : Declared) (name : List ℕ) (r : Result ℕ NameFault) (f : NameFault) → FieldsStand W d → is_field_known d.names name true ≡ false → (W → IsName name)
     → IfOk (after (after r (λ n. if nat_le 1 n && nat_le n 31 then Ok (Some n) else Err f)) (λ w. Ok (with_field d name w))) (FieldsStand W)
 IfOk-split_after W d name (Err e) f h k w = tt
 IfOk-split_after W d name (Ok n) f h k w = IfOk-split W d name (nat_le 1 n && nat_le n 31) n f h k w (within_31 n)
 
 pub declare-stands : (W : Type 0) (text : List ℕ) (d : Declared) → FieldsStand W d → (t : DeclTree) → (W → DeclWritten text t) → IfOk (declare text d t) (FieldsStand W)
 declare-stands W text d h (field_tree at t p) w =
-    IfOk-unless_is (FieldsStand W) (list_any (is_known d.names) (field_names (word text t) (is_some p))) (Twice t.from) _ (λ k. field_step p k)
+    IfOk-unless_is (FieldsStand W) (is_field_known d.names (word text t) (is_some p)) (Twice t.from) _ (λ k. field_step p k)
   where
-    field_step : (q : _) → list_any (is_known d.names) (field_names (word text t) (is_some q)) ≡ false → IfOk (after (prefix_length text q) (λ n. Ok (with_field d (word text t) n))) (FieldsStand W)
+    field_step : (q : _) → is_field_known d.names (word text t) (is_some q) ≡ false → IfOk (after (prefix_length text q) (λ n. Ok (with_field d (word text t) n))) (FieldsStand W)
     field_step None k = with_field-stands W d (word text t) None h k w tt
     field_step (Some s) k = IfOk-split_after W d (word text t) (number_at text s) (Prefix s.from) h k w
 declare-stands W text d h (array_tree at t) w = IfOk-unless_is (FieldsStand W) (is_known d.names (word text t)) (Twice t.from) _ (λ k. with_array-stands W d (word text t) h k w)

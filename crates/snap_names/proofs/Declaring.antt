@@ -1,16 +1,15 @@
 -- What a declaration adds to a scope.
 use Rattle.std.proofs.Common.{◌≡◌, ℕ, suc, ◌+◌, Bool, true, false, List, [], ◌∷◌, ◌++◌, length, codes, Option, None, Some, is_some, Result, Ok, Err, cond, if◌then◌else◌, min, refl, sym, ap, ◌∙◌, subst, arith, append_assoc, length-append, Vec, ◌||◌, Global, bytes_eq}
-use Rattle.std.specs.List.{list_any}
 use Rattle.std.specs.Map.{lookup}
 use Rattle.std.proofs.lemmas.Bool.{or_parts}
 use Rattle.indexmap.specs.IndexMap.{insert_entry}
-use Rattle.snap_names.specs.Declarations.{Field, Declared, ports, field_names, field_senses, short, capped, with_field, with_let}
+use Rattle.snap_names.specs.Declarations.{Field, Declared, ports, field_senses, short, capped, with_field, with_let, is_field_known}
 use Rattle.snap_core.specs.Fields.{count, width}
 use Rattle.snap_names.specs.Senses.{Sense, Plain, Split, Policy, NameFault, Arities}
 use Rattle.snap_names.specs.Parts.{Body, Part, Scope, names_in, AreBodies, no_bodies, more_bodies, IsBody, IsPart}
 use Rattle.snap_names.specs.Core.{CorePolicy, nodes}
 use Rattle.snap_names.specs.Spells.{is_known}
-use Rattle.snap_names.specs.Scopes.{declared_in, IsScope, HasDeclared}
+use Rattle.snap_names.specs.Scopes.{declared_in, IsScope, HasDeclared, FieldDeclared}
 use Rattle.snap_names.proofs.PartLemmas.{IsPart-later}
 use Rattle.snap_core.proofs.FieldLemmas.{count-append, bytes_eq-apart}
 
@@ -37,7 +36,7 @@ is_known-append [] e name h k = rw k refl
 is_known-append (x ∷ names) e name h k = lookup_step (bytes_eq name x.0) x.1 (lookup (bytes_eq name) names) (lookup (bytes_eq name) (names ++ e ∷ [])) (λ w. is_known-append names e name w k) h
 
 pub three_new : (ns n1 n2 n3 : List (List ℕ × Sense)) (name net host : List ℕ) (s1 s2 s3 : Sense)
-    → list_any (is_known ns) (field_names name true) ≡ false
+    → is_field_known ns name true ≡ false
     → net ≡ name ++ codes ".net" → host ≡ name ++ codes ".host"
     → (is_known ns name ≡ false → n1 ≡ ns ++ (name, s1) ∷ [])
     → (is_known n1 net ≡ false → n2 ≡ n1 ++ (net, s2) ∷ [])
@@ -126,20 +125,17 @@ IsBody-kept p n kept part e counted h =
     let later : min kept 4294967295 ≡ min (n + 0) 4294967295 = omega (arith, e) in
     record { nodes = here; part = IsPart-later p n kept 0 part later h }
 
-second_new : (d : Declared) → with_field (declared_with [] [] [] [] []) (codes "inport") None ≡ d → list_any (is_known d.names) (field_names (codes "outport") false) ≡ false
-second_new d e = subst (λ w. list_any (is_known w.names) (field_names (codes "outport") false) ≡ false) e refl
+second_new : (d : Declared) → with_field (declared_with [] [] [] [] []) (codes "inport") None ≡ d → is_field_known d.names (codes "outport") false ≡ false
+second_new d e = subst (λ w. is_field_known w.names (codes "outport") false ≡ false) e refl
 
 with_ports : (d : Declared) → with_field (declared_with [] [] [] [] []) (codes "inport") None ≡ d → with_field d (codes "outport") None ≡ ports
 with_ports d e = subst (λ w. with_field w (codes "outport") None ≡ ports) e refl
 
-abbrev FieldDeclared : Scope → Scope → List ℕ → Type 0
-FieldDeclared old new name = list_any (is_known (names_in old.names.entries)) (field_names name false) ≡ false → (lets : List CorePolicy) → IsScope old lets → (arities : Arities) → HasDeclared old.text.now (Ok (with_field (declared_in old lets arities) name None)) new arities
-
 -- The two plain fields that are declared before a text.
 pub ports_declared : (text : List ℕ) (s0 s1 s2 : Scope) → declared_in s0 [] [] ≡ declared_with [] [] [] [] [] → s0.text.now ≡ text → IsScope s0 []
-    → FieldDeclared s0 s1 (codes "inport") → FieldDeclared s1 s2 (codes "outport") → HasDeclared text (Ok ports) s2 []
+    → FieldDeclared s0 s1 (codes "inport") None → FieldDeclared s1 s2 (codes "outport") None → HasDeclared text (Ok ports) s2 []
 ports_declared text s0 s1 s2 e t h a b =
-    let k : list_any (is_known (names_in s0.names.entries)) (field_names (codes "inport") false) ≡ false = subst (λ w. list_any (is_known w.names) (field_names (codes "inport") false) ≡ false) (sym e) refl in
+    let k : is_field_known (names_in s0.names.entries) (codes "inport") false ≡ false = subst (λ w. is_field_known w.names (codes "inport") false ≡ false) (sym e) refl in
     let first : HasDeclared s0.text.now (Ok (with_field (declared_in s0 [] []) (codes "inport") None)) s1 [] = a k [] h [] in
     let f : with_field (declared_in s0 [] []) (codes "inport") None ≡ declared_in s1 first.lets [] = cc first.declares in
     let g : with_field (declared_with [] [] [] [] []) (codes "inport") None ≡ declared_in s1 first.lets [] = subst (λ w. with_field w (codes "inport") None ≡ declared_in s1 first.lets []) e f in

@@ -4,7 +4,7 @@ use Rattle.std.specs.List.{AllByRecursion}
 use Rattle.snap_names.specs.Spells.{Token}
 use Rattle.snap_names.specs.Senses.{Literal, Value}
 use Rattle.snap_parse.specs.Tree.{PolicyTree, SequenceTree, ChoiceTree, EitherTree, BothTree, SingleTree, DeclTree, SourceTree}
-use Rattle.snap_parse.specs.Grammar.{IsLiteral, number_literal, address_literal, true_literal, false_literal, IsValue, literal_value, prefix_value, name_value, IsPlacesRest, places_end, places_more, IsPlaces, places, IsPolicy, policy, IsPolicyRest, policy_end, policy_plus, IsSequence, sequence, IsSequenceRest, sequence_end, sequence_semicolon, IsChoice, if_choice, plain_choice, IsEither, either, IsEitherRest, either_end, either_or, IsBoth, both, IsBothRest, both_end, both_and, IsSingle, not_single, id_single, drop_single, group_single, atomic_single, name_single, test_single, set_single, bare_single, array_test_single, array_set_single, up_single, down_single, array_add_single, array_sub_single, IsDecl, field_decl, split_field_decl, array_decl, const_decl, let_decl, IsProgramRest, last_policy, next_decl}
+use Rattle.snap_parse.specs.Grammar.{IsLiteral, number_literal, IsValue, literal_value, prefix_value, name_value, IsPlacesRest, places_end, places_more, IsPlaces, places, IsPolicy, policy, IsPolicyRest, policy_end, policy_plus, IsSequence, sequence, IsSequenceRest, sequence_end, sequence_semicolon, IsChoice, if_choice, plain_choice, IsEither, either, IsEitherRest, either_end, either_or, IsBoth, both, IsBothRest, both_end, both_and, IsSingle, not_single, id_single, drop_single, group_single, atomic_single, name_single, test_single, set_single, bare_single, array_test_single, array_set_single, up_single, down_single, array_add_single, array_sub_single, IsDecl, field_decl, split_field_decl, array_decl, const_decl, let_decl, IsProgramRest, last_policy, next_decl}
 use Rattle.snap_names.specs.Texts.{HasTree}
 use Rattle.snap_core.proofs.Entries.{both as AllByRecursion-append}
 use Rattle.snap_names.proofs.Placed.{HasSequence, HasChoice, HasBoth, HasSingle, PolicyPlaced, SequencePlaced, ChoicePlaced, EitherPlaced, BothPlaced, SinglePlaced, DeclWritten, SourceWritten}

@@ -6,7 +6,7 @@ use Rattle.std.specs.Map.{lookup}
 use Rattle.snap_core.specs.Figures.{number_of, address_of}
 use Rattle.snap_names.specs.Core.{Atom, Num, Comp, CoreTest, field_test, filter, set, seq, net, whole_test}
 use Rattle.snap_parse.specs.Tree.{test_tree, set_tree}
-use Rattle.snap_names.specs.Senses.{Span, Literal, Value, Sense, Plain, Split, Array, Constant, Policy, NameFault, Unknown, Wide, Kind, Prefix, Words, after, or_fault, word, sense_of, literal, address_at, constant, constant_of, field_atom, array_atom, atom_of, address_literal, address_of_sense, split_address, split_of_sense, split_atoms, split_net, net_if, split_test, test_of_sense, field_equals, set_of_sense, field_gets, value_atoms, atoms_of_sense, atoms_behind, array_of_sense}
+use Rattle.snap_names.specs.Senses.{Span, Literal, Value, Sense, Plain, Split, Array, Constant, NameFault, Unknown, Wide, Kind, Prefix, Words, after, or_fault, word, sense_of, literal, address_at, constant, constant_of, field_atom, array_atom, atom_of, address_literal, address_of_sense, split_address, split_of_sense, split_atoms, split_net, net_if, split_test, test_of_sense, field_equals, set_of_sense, field_gets, value_atoms, atoms_of_sense, atoms_behind, array_of_sense}
 use Rattle.snap_names.specs.Spells.{Scope}
 use Rattle.snap_names.specs.Reading.{Env}
 use Rattle.snap_names.proofs.BoundedSteps.{IfOk-after}

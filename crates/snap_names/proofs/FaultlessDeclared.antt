@@ -3,7 +3,7 @@ use Rattle.std.proofs.Common.{◌≡◌, ℕ, ◌+◌, ◌≤◌, min, Bool, tru
 use Rattle.std.proofs.lemmas.Bool.{leb-true}
 use Rattle.std.proofs.lemmas.Result.{IfOk-weaker}
 use Rattle.std.specs.List.{AllByRecursion, list_any}
-use Rattle.snap_names.specs.Declarations.{Field, Program, Components, Arrays, Atoms, Nodes, Weight, Declared, ports, env_of, field_names, short, field_senses, prefix_length, with_field, with_array, with_constant, with_let, declare, declare_all, CoreProgram, core_program, greatest, limited, resolved}
+use Rattle.snap_names.specs.Declarations.{Field, Program, Components, Arrays, Atoms, Nodes, Weight, Declared, ports, env_of, short, field_senses, prefix_length, with_field, with_array, with_constant, with_let, declare, declare_all, CoreProgram, core_program, greatest, limited, resolved, is_field_known}
 use Rattle.snap_core.specs.Fields.{count, width}
 use Rattle.snap_core.specs.Figures.{number_of}
 use Rattle.snap_parse.specs.Tree.{DeclTree, field_tree, array_tree, const_tree, let_tree, PolicyTree, SourceTree}
@@ -56,7 +56,7 @@ Steps text atoms d t f = Later d f × (IsFew atoms f → Step text atoms d t f)
 one-known : (names : List (List ℕ × Sense)) (name : List ℕ) (s : Sense) → is_known names name ≡ false → list_any {X = List ℕ × Sense} (λ x. is_known names x.0) ((name, s) ∷ []) ≡ false
 one-known names name s h = rw h refl
 
-pub fields-known : (names : List (List ℕ × Sense)) (c : ℕ) (name : List ℕ) (n : Option ℕ) → list_any (is_known names) (field_names name (is_some n)) ≡ list_any {X = List ℕ × Sense} (λ x. is_known names x.0) (senses c name n)
+pub fields-known : (names : List (List ℕ × Sense)) (c : ℕ) (name : List ℕ) (n : Option ℕ) → is_field_known names name (is_some n) ≡ list_any {X = List ℕ × Sense} (λ x. is_known names x.0) (senses c name n)
 fields-known names c name None = refl
 fields-known names c name (Some n) = refl
 
@@ -80,7 +80,7 @@ prefix_length-is text (Some t) =
     by_test n h true k false l = tt
     by_test n h false k b l = tt
 
-with_field-steps : (text : List ℕ) (atoms : ℕ → ℕ) (d : Declared) (at : ℕ) (t : Span) (l : Option Span) (n : Option ℕ) → list_any (is_known d.names) (field_names (word text t) (is_some l)) ≡ false → LengthIs text l n
+with_field-steps : (text : List ℕ) (atoms : ℕ → ℕ) (d : Declared) (at : ℕ) (t : Span) (l : Option Span) (n : Option ℕ) → is_field_known d.names (word text t) (is_some l) ≡ false → LengthIs text l n
     → Steps text atoms d (field_tree at t l) (with_field d (word text t) n)
 with_field-steps text atoms d at t l n new is =
     let f : Field = record { name = word text t; prefix = n } in
@@ -91,7 +91,7 @@ with_field-steps text atoms d at t l n new is =
         more = record (scope_of text atoms d) { fields = d.fields ++ f ∷ [] };
         names = added;
         declares = field is.0;
-        new = sym (fields-known d.names (count d.fields) (word text t) n) ∙ ap (λ b. list_any (is_known d.names) (field_names (word text t) b)) (sym is.1) ∙ new;
+        new = sym (fields-known d.names (count d.fields) (word text t) n) ∙ ap (λ b. is_field_known d.names (word text t) b) (sym is.1) ∙ new;
         same = ap (λ more. scope_of text atoms (record d { fields = d.fields ++ f ∷ []; names = d.names ++ more })) (senses-short (count d.fields) (word text t) n (omega (arith, counted, few.fields)));
       },
     )
@@ -134,7 +134,7 @@ with_let-steps text atoms d at t b x new read = (
 
 declare-steps : (text : List ℕ) (atoms : ℕ → ℕ) (d : Declared) → DeclaredFits (Unit {0}) d → (t : DeclTree) → DeclWritten text t → IfOk (declare text d t) (Steps text atoms d t)
 declare-steps text atoms d h (field_tree at t l) w =
-    IfOk-unless_is (Steps text atoms d (field_tree at t l)) (list_any (is_known d.names) (field_names (word text t) (is_some l))) (Twice t.from) _ (λ new.
+    IfOk-unless_is (Steps text atoms d (field_tree at t l)) (is_field_known d.names (word text t) (is_some l)) (Twice t.from) _ (λ new.
     IfOk-after (LengthIs text l) (Steps text atoms d (field_tree at t l)) (prefix_length text l) _ (prefix_length-is text l) (λ n is. with_field-steps text atoms d at t l n new is))
 declare-steps text atoms d h (array_tree at t) w =
     IfOk-unless_is (Steps text atoms d (array_tree at t)) (is_known d.names (word text t)) (Twice t.from) (Ok (with_array d (word text t))) (with_array-steps text atoms d at t)

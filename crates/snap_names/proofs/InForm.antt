@@ -4,7 +4,7 @@ use Rattle.std.proofs.Math.Nat.{le-max_left, le-max_right}
 use Rattle.std.proofs.lemmas.Result.{IfOk-weaker}
 use Rattle.std.specs.List.{AllByRecursion, IsDistinct}
 use Rattle.std.proofs.lemmas.List.Elements.{All-from_recursion}
-use Rattle.snap_names.specs.Core.{Atom, Pol, Filter, Set, Change, Par', Seq', If', Atomic', Pred, Id, Drop, Field, State, Not', And', Or', CorePolicy, core_test, core_policy, nodes, weight}
+use Rattle.snap_names.specs.Core.{Atom, Pol, Filter, Set, Change, Par', Seq', If', Atomic', Pred, State, Not', And', Or', CorePolicy, core_test, core_policy, nodes, weight}
 use Rattle.snap_names.specs.Declarations.{Program, Components, Arrays, Atoms, Nodes, Weight, Declared, ports, env_of, declare, declare_all, CoreProgram, core_program, greatest, limited, resolved}
 use Rattle.snap_core.specs.Fields.{IsFields, count, names_of}
 use Rattle.snap_core.specs.Names.{IsName}

@@ -2,16 +2,11 @@
 use Rattle.std.proofs.Common.{◌≡◌, ℕ, ◌+◌, ◌<◌, List, [], ◌∷◌, ◌++◌, length, take, drop, get_or, map, Option, Some, Result, Ok, Err, refl, ap, sym, ◌∙◌, subst, add-one, is_some, if◌then◌else◌}
 use Rattle.std.proofs.lemmas.List.{take_more, take-append-drop, map-append}
 use Rattle.std.proofs.Math.Seq.{drop-cons}
-use Rattle.snap_parse.specs.declared.tree.Sequence.{Sequence}
-use Rattle.snap_parse.specs.declared.tree.Choice.{Choice}
-use Rattle.snap_parse.specs.declared.tree.Both.{Both}
-use Rattle.snap_parse.specs.declared.tree.Single.{Single}
-use Rattle.snap_parse.specs.Tree.{PolicyTree, SequenceTree, ChoiceTree, EitherTree, BothTree, SingleTree, single_tree}
-use Rattle.snap_names.specs.Parts.{Part, Tally, IsPart, IsPartOf, itself, HasRead, HaveRead}
+use Rattle.snap_names.specs.Parts.{Part, Tally, itself, HasRead, HaveRead, JoinsParts}
 use Rattle.snap_names.specs.Senses.{NameFault, Arities, after}
 use Rattle.snap_names.specs.Core.{CoreTest, CorePolicy, filter, par, seq, and_test, or_test, nodes}
 use Rattle.snap_names.specs.Declarations.{capped}
-use Rattle.snap_names.specs.Reading.{Env, TestReading, joined, more, operand, read_sequences, read_sequence, read_choices, read_choice, read_boths, read_both, read_singles, read_single, both_is_predicate, both_fault, is_predicate, single_fault}
+use Rattle.snap_names.specs.Reading.{Env, joined, more, read_sequences, read_sequence, read_choices, read_choice, read_boths, read_singles, both_as_test, single_as_test}
 use Rattle.snap_names.proofs.Readings.{HaveRead-more}
 use Rattle.snap_names.proofs.Operands.{Repeats, policies, sequences, eithers, boths, of}
 
@@ -30,18 +25,11 @@ in_policy e at = record { form = itself; join = par; read = read_sequences e; on
 abbrev pub in_sequence : Env → (at : ℕ) → InOrder (sequences at) CorePolicy
 in_sequence e at = record { form = itself; join = seq; read = read_choices e; one = read_choice e; read_one = λ t x a. refl; cost = λ x y. refl }
 
--- the reading of an operand of `|`, and of `&`
-abbrev pub either_operand : Env → BothTree → Arities → TestReading
-either_operand e t arities = operand (both_is_predicate e t) (both_fault e.words t) (read_both e t arities)
-
-abbrev pub both_operand : Env → SingleTree → Arities → TestReading
-both_operand e t arities = operand (is_predicate e t) (single_fault e.words t) (read_single e t arities)
-
 abbrev pub in_either : Env → (at : ℕ) → InOrder (eithers at) CoreTest
-in_either e at = record { form = filter; join = or_test; read = read_boths e; one = either_operand e; read_one = λ t x a. refl; cost = λ x y. refl }
+in_either e at = record { form = filter; join = or_test; read = read_boths e; one = both_as_test e; read_one = λ t x a. refl; cost = λ x y. refl }
 
 abbrev pub in_both : Env → (at : ℕ) → InOrder (boths at) CoreTest
-in_both e at = record { form = filter; join = and_test; read = read_singles e; one = both_operand e; read_one = λ t x a. refl; cost = λ x y. refl }
+in_both e at = record { form = filter; join = and_test; read = read_singles e; one = single_as_test e; read_one = λ t x a. refl; cost = λ x y. refl }
 
 -- the items up to i, the item at i, and those behind it
 parted : {A : Type 0} (xs : List A) (i : ℕ) (x : A) → i < length xs → x ≡ get_or xs i x → xs ≡ take i xs ++ (x ∷ drop (i + 1) xs)
@@ -63,7 +51,7 @@ module _ {P X T A : Type 0} (r : Repeats P X T) (o : InOrder r A) where
   pub step : (items : List P) (i : ℕ) (part : P) (old before mid new : Tally) (parts : Option Part) (next p : Part) → i < length items → part ≡ get_or items i part →
       HaveRead o.form (o.read (of r (take i items)) old.arities.items) old before parts → HasRead o.form (o.one (r.tree part) before.arities.items) before mid next →
       new.arities.items ≡ mid.arities.items → new.nodes ≡ (if is_some parts then capped (mid.nodes + 1) else mid.nodes) →
-      ((acc : Option A) (y : A) → IsPartOf o.form acc mid.nodes parts → IsPart (o.form y) mid.nodes next → IsPart (o.form (joined o.join acc y)) new.nodes p) →
+      JoinsParts o.form o.join mid.nodes new.nodes parts next p →
       HaveRead o.form (o.read (of r (take (i + 1) items)) old.arities.items) old new (Some p)
   step items i part old before mid new parts next p within is h k arities count join =
       let so_far = of r (take i items) in

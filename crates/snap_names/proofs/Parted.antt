@@ -1,13 +1,11 @@
 -- Readings by the form of a tree, and the faults of a choice.
 use Rattle.std.proofs.Common.{◌≡◌, ◌≢◌, ℕ, List, length, Result, Ok, Err, refl, ap, sym, ◌∙◌, subst}
-use Rattle.snap_parse.specs.declared.tree.Either.{Either}
 use Rattle.snap_parse.specs.declared.tree.Both.{Both}
 use Rattle.snap_parse.specs.declared.tree.Single.{Single}
-use Rattle.snap_parse.specs.Tree.{either_tree}
 use Rattle.snap_names.specs.Parts.{Scope, Part, Tally, AreBodies, itself, HasRead, Reads, env_in}
 use Rattle.snap_names.specs.Senses.{NameFault, NoMemory, Arities, after}
 use Rattle.snap_names.specs.Core.{CorePolicy, choice, filter}
-use Rattle.snap_names.specs.Reading.{Env, Reading, TestReading, operand, whole_test, either_is_predicate, either_fault, read_both, read_singles, read_either, read_boths}
+use Rattle.snap_names.specs.Reading.{Env, Reading, TestReading, whole_test, read_both, read_singles, read_either, read_boths}
 use Rattle.snap_names.proofs.Operands.{eithers, boths, of, several}
 
 -- One operand stands alone, and others are joined.
@@ -26,10 +24,6 @@ Reads-same s read same old new result is h = subst (λ r. Reads s r old new resu
 pub Reads-err : (s : Scope) (read : Env → Arities → Reading) (old new : Tally) (result : Result Part NameFault) (f : NameFault) → result ≡ Err f →
     (f ≢ NoMemory → (lets : List CorePolicy) → AreBodies s.lets.items lets → read (env_in s lets) old.arities.items ≡ Err f) → Reads s read old new result
 Reads-err s read old new result f is h = subst (λ r. Reads s read old new r) (sym is) h
-
--- the reading of the test of a choice
-abbrev pub read_test : Env → Either → Arities → TestReading
-read_test e test arities = operand (either_is_predicate e (either_tree test)) (either_fault e.words (either_tree test)) (read_either e (either_tree test) arities)
 
 -- The faults of the two sides of a choice.
 pub choice-met_refused : (test : TestReading) (met unmet : Arities → Reading) (old a : Tally) (x : Part) (f : NameFault) →

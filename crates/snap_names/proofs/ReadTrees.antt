@@ -1,14 +1,14 @@
 -- What each part of a tree reads as fits, where what is known does. Where the tree is as those of texts, arrays are few and arities agree, it is as `TreeReadings` says.
-use Rattle.std.proofs.Common.{◌≡◌, ℕ, ◌-◌, ◌%◌, ◌^◌, ◌<◌, ◌≤◌, min, Bool, true, false, List, [], ◌∷◌, length, slice_get, Option, None, Some, Result, Ok, Err, IfOk, IfSome, refl, sym, ap, ◌∙◌, subst, arith, le_refl, le_trans, lt_of_lt_of_le, bytes_eq}
+use Rattle.std.proofs.Common.{◌≡◌, ℕ, ◌-◌, ◌^◌, ◌%◌, ◌<◌, ◌≤◌, min, Bool, true, false, List, [], ◌∷◌, length, slice_get, Option, None, Some, Result, Ok, Err, IfOk, IfSome, refl, sym, ap, ◌∙◌, subst, arith, le_refl, le_trans, lt_of_lt_of_le, bytes_eq}
 use Rattle.std.proofs.lemmas.Result.{IfOk-weaker}
 use Rattle.std.specs.List.{All}
 use Rattle.std.proofs.lemmas.List.Elements.{All-nil, All-weaker}
 use Rattle.std.proofs.lemmas.Map.Entries.{All-lookup}
 use Rattle.snap_core.specs.Fits.{AtomFits, OpFits, IndexFits}
 use Rattle.snap_parse.specs.Tree.{PolicyTree, policy_begin, policy_more, SequenceTree, sequence_begin, sequence_more, ChoiceTree, if_tree, plain_tree, EitherTree, either_begin, either_more, BothTree, both_begin, both_more, SingleTree, not_tree, id_tree, drop_tree, group_tree, atomic_tree, name_tree, test_tree, set_tree, bare_tree, array_test_tree, array_set_tree, up_tree, down_tree, array_add_tree, array_sub_tree}
-use Rattle.snap_names.specs.Core.{Atom, Num, Op, Put, Add, CoreTest, not_test, and_test, or_test, state_test, CorePolicy, filter, set, change, par, seq, choice, atomic}
-use Rattle.snap_names.specs.Senses.{Span, Value, Sense, Plain, Split, Array, Constant, Policy, NameFault, Kind, Arities, Place, after, or_fault, word, sense_of, constant, array_atom, field_equals, field_gets, array_of_sense, arity_seen, atoms_behind, width, place_of, place}
-use Rattle.snap_names.specs.Reading.{Env, body_of, named, is_predicate, both_is_predicate, either_is_predicate, single_fault, both_fault, either_fault, Reading, TestReading, as_test, operand, more, whole, whole_as, changed, tested, read_sequences, read_choices, read_choice, read_either, read_boths, read_both, read_singles, read_single, read_policy}
+use Rattle.snap_names.specs.Core.{Atom, Num, Op, Put, Add, CoreTest, not_test, and_test, or_test, state_test, CorePolicy, filter, par, seq, choice, atomic}
+use Rattle.snap_names.specs.Senses.{Span, Value, Sense, Array, Policy, NameFault, Kind, Arities, Place, after, or_fault, word, sense_of, constant, array_atom, field_equals, field_gets, array_of_sense, arity_seen, atoms_behind, width, place_of, place}
+use Rattle.snap_names.specs.Reading.{Env, body_of, named, is_predicate, both_is_predicate, either_is_predicate, single_fault, both_fault, either_fault, Reading, TestReading, as_test, operand, more, whole, whole_as, changed, tested, read_sequences, read_choices, read_choice, read_either, read_boths, read_both, read_singles, read_single, read_policy, either_as_test, both_as_test, single_as_test, subtraction}
 use Rattle.snap_names.specs.Parts.{itself}
 use Rattle.snap_names.specs.Spells.{Scope}
 use Rattle.snap_names.proofs.BoundedCore.{TestFits, PolicyFits, PolicyFits-more, Grows, Grows-same, Grows-then}
@@ -211,16 +211,16 @@ module _ (W : Type 0) (c v : ℕ) (e : Scope) where
       (Grows-same d, ((i.0, j.0, hq.0), λ w few g. if_then (i.1 w few g) (j.1 w few g) (hq.1 w few g))))))
 
   or-read : (d : EitherTree) (b : BothTree) (before : Arities) (r : Result (Option CoreTest × Arities) NameFault) → Reads before (Has (IsTest (IsEither e d))) r → ((seen : Arities) → Grows before seen → Reads seen (Is (IsBoth e b)) (read_both (env e) b seen))
-      → Reads before (Has (IsTest (IsEither e (either_more d b)))) (after r (more or_test (λ seen. operand (both_is_predicate (env e) b) (both_fault (words e) b) (read_both (env e) b seen))))
+      → Reads before (Has (IsTest (IsEither e (either_more d b)))) (after r (more or_test (both_as_test (env e) b)))
   or-read d b before r hr hb =
-      more-reads (IsTest (IsEither e d)) (IsTest (IsBoth e b)) (IsTest (IsEither e (either_more d b))) or_test before r (λ seen. operand (both_is_predicate (env e) b) (both_fault (words e) b) (read_both (env e) b seen))
+      more-reads (IsTest (IsEither e d)) (IsTest (IsBoth e b)) (IsTest (IsEither e (either_more d b))) or_test before r (both_as_test (env e) b)
       (IsTest-more (IsEither e d)) (λ seen x y k l. ((k.0, l.0), λ w few g. or (k.1 w few g) (l.1 w few g))) hr
       (λ seen g. operand-reads (Is (IsBoth e b)) seen (both_is_predicate (env e) b) (both_fault (words e) b) (read_both (env e) b seen) (hb seen g))
 
   and-read : (b : BothTree) (s : SingleTree) (before : Arities) (r : Result (Option CoreTest × Arities) NameFault) → Reads before (Has (IsTest (IsBoth e b))) r → ((seen : Arities) → Grows before seen → Reads seen (Is (IsSingle e s)) (read_single (env e) s seen))
-      → Reads before (Has (IsTest (IsBoth e (both_more b s)))) (after r (more and_test (λ seen. operand (is_predicate (env e) s) (single_fault (words e) s) (read_single (env e) s seen))))
+      → Reads before (Has (IsTest (IsBoth e (both_more b s)))) (after r (more and_test (single_as_test (env e) s)))
   and-read b s before r hr hs =
-      more-reads (IsTest (IsBoth e b)) (IsTest (IsSingle e s)) (IsTest (IsBoth e (both_more b s))) and_test before r (λ seen. operand (is_predicate (env e) s) (single_fault (words e) s) (read_single (env e) s seen))
+      more-reads (IsTest (IsBoth e b)) (IsTest (IsSingle e s)) (IsTest (IsBoth e (both_more b s))) and_test before r (single_as_test (env e) s)
       (IsTest-more (IsBoth e b)) (λ seen x y k l. ((k.0, l.0), λ w few g. and (k.1 w few g) (l.1 w few g))) hr
       (λ seen g. operand-reads (Is (IsSingle e s)) seen (is_predicate (env e) s) (single_fault (words e) s) (read_single (env e) s seen) (hs seen g))
 
@@ -254,7 +254,7 @@ module _ (W : Type 0) (c v : ℕ) (e : Scope) where
     choice-read (plain_tree d) w before h =
         Reads-weaker (Is (IsEither e d)) (Is (IsChoice e (plain_tree d))) before (read_either (env e) d before) (λ seen p k. (k.0, λ q few g. no_choice (k.1 q few g))) (either-read d (λ q. (w q).0) (λ q. (w q).1) before h)
     choice-read (if_tree at test met unmet) w before h =
-        choice-reads at test met unmet before (operand (either_is_predicate (env e) test) (either_fault (words e) test) (read_either (env e) test before)) (λ seen. after (read_sequences (env e) met seen) whole) (read_choice (env e) unmet)
+        choice-reads at test met unmet before (either_as_test (env e) test before) (λ seen. after (read_sequences (env e) met seen) whole) (read_choice (env e) unmet)
         (operand-reads (Is (IsEither e test)) before (either_is_predicate (env e) test) (either_fault (words e) test) (read_either (env e) test before) (either-read test (λ q. (w q).0.0) (λ q. (w q).0.1) before h))
         (λ seen g. whole_policy met (λ q. (w q).1.1) seen (sequences-read met (λ q. (w q).1.0) seen (later before seen h g)))
         (λ seen g. choice-read unmet (λ q. (w q).2) seen (later before seen h g))
@@ -270,7 +270,7 @@ module _ (W : Type 0) (c v : ℕ) (e : Scope) where
     boths-read : (t : EitherTree) → (W → EitherPlaced t) → (before : Arities) → EnvFits W c v (env e) before → Reads before (EitherHas t) (read_boths (env e) t before)
     boths-read (either_begin at) w before h = (Grows-same before, tt)
     boths-read (either_more (either_begin at) b) w before h =
-        first-reads (IsTest (IsBoth e b)) (IsTest (IsEither e (either_more (either_begin at) b))) or_test before (λ seen. operand (both_is_predicate (env e) b) (both_fault (words e) b) (read_both (env e) b seen)) (λ seen x k. (k.0, λ q few g. both (k.1 q few g)))
+        first-reads (IsTest (IsBoth e b)) (IsTest (IsEither e (either_more (either_begin at) b))) or_test before (both_as_test (env e) b) (λ seen x k. (k.0, λ q few g. both (k.1 q few g)))
         (operand-reads (Is (IsBoth e b)) before (both_is_predicate (env e) b) (both_fault (words e) b) (read_both (env e) b before) (both-read b (λ q. (w q).1.0) (λ q. (w q).1.1) before h))
     boths-read (either_more (either_more d a) b) w before h =
         or-read (either_more d a) b before (read_boths (env e) (either_more d a) before) (boths-read (either_more d a) (λ q. (w q).0) before h) (λ seen g. both-read b (λ q. (w q).1.0) (λ q. (w q).1.1) seen (later before seen h g))
@@ -286,14 +286,14 @@ module _ (W : Type 0) (c v : ℕ) (e : Scope) where
     singles-read : (t : BothTree) → (W → BothPlaced t) → (before : Arities) → EnvFits W c v (env e) before → Reads before (BothHas t) (read_singles (env e) t before)
     singles-read (both_begin at) w before h = (Grows-same before, tt)
     singles-read (both_more (both_begin at) s) w before h =
-        first-reads (IsTest (IsSingle e s)) (IsTest (IsBoth e (both_more (both_begin at) s))) and_test before (λ seen. operand (is_predicate (env e) s) (single_fault (words e) s) (read_single (env e) s seen)) (λ seen x k. (k.0, λ q few g. single (k.1 q few g)))
+        first-reads (IsTest (IsSingle e s)) (IsTest (IsBoth e (both_more (both_begin at) s))) and_test before (single_as_test (env e) s) (λ seen x k. (k.0, λ q few g. single (k.1 q few g)))
         (operand-reads (Is (IsSingle e s)) before (is_predicate (env e) s) (single_fault (words e) s) (read_single (env e) s before) (single-read s (λ q. (w q).1) before h))
     singles-read (both_more (both_more b a) s) w before h =
         and-read (both_more b a) s before (read_singles (env e) (both_more b a) before) (singles-read (both_more b a) (λ q. (w q).0) before h) (λ seen g. single-read s (λ q. (w q).1) seen (later before seen h g))
 
     single-read : (t : SingleTree) → (W → SinglePlaced t) → (before : Arities) → EnvFits W c v (env e) before → Reads before (Is (IsSingle e t)) (read_single (env e) t before)
     single-read (not_tree at s) w before h =
-        Reads-then (IsTest (IsSingle e s)) (Is (IsSingle e (not_tree at s))) before (λ x. filter (not_test x)) (operand (is_predicate (env e) s) (single_fault (words e) s) (read_single (env e) s before)) (λ seen x k. (k.0, λ q few g. negation (k.1 q few g)))
+        Reads-then (IsTest (IsSingle e s)) (Is (IsSingle e (not_tree at s))) before (λ x. filter (not_test x)) (single_as_test (env e) s before) (λ seen x k. (k.0, λ q few g. negation (k.1 q few g)))
         (operand-reads (Is (IsSingle e s)) before (is_predicate (env e) s) (single_fault (words e) s) (read_single (env e) s before) (single-read s w before h))
     single-read (id_tree at) w before h = (Grows-same before, (tt, λ q few g. identity))
     single-read (drop_tree at) w before h = (Grows-same before, (tt, λ q few g. drop))
@@ -321,7 +321,7 @@ module _ (W : Type 0) (c v : ℕ) (e : Scope) where
         changed-reads (array_add_tree t ys y) before t ys (Makes (λ n. HasAtoms e y (Num n ∷ [])) (λ n. Add n)) (after (constant (words e) y) (λ n. Ok (Add n))) h w
         (makes c (λ n. HasAtoms e y (Num n ∷ [])) (λ n. Add n) (constant (words e) y) (λ n k. tt) (constant-atoms e y)) (λ o p m k. add m.1 (subst (λ o'. Changes e t ys o' p) m.2 k))
     single-read (array_sub_tree t ys y) w before h =
-        changed-reads (array_sub_tree t ys y) before t ys (Makes (λ n. HasAtoms e y (Num n ∷ [])) (λ n. Add ((2 ^ 64 - n) % 2 ^ 64))) (after (constant (words e) y) (λ n. Ok (Add ((2 ^ 64 - n) % 2 ^ 64)))) h w
+        changed-reads (array_sub_tree t ys y) before t ys (Makes (λ n. HasAtoms e y (Num n ∷ [])) (λ n. Add ((2 ^ 64 - n) % 2 ^ 64))) (subtraction (words e) y) h w
         (makes c (λ n. HasAtoms e y (Num n ∷ [])) (λ n. Add ((2 ^ 64 - n) % 2 ^ 64)) (constant (words e) y) (λ n k. tt) (constant-atoms e y)) (λ o p m k. sub m.1 (subst (λ o'. Changes e t ys o' p) m.2 k))
 
   pub policy-reads : (t : PolicyTree) → (W → PolicyPlaced t × HasSequence t) → (before : Arities) → EnvFits W c v (env e) before → Reads before (Is (IsPolicy e t)) (read_policy (env e) t before)

@@ -1,8 +1,8 @@
 -- A tree of a program that `TreeReadings` knows is read without a fault.
-use Rattle.std.proofs.Common.{◌≡◌, ℕ, zero, suc, ◌+◌, ◌≤◌, Bool, true, false, List, [], ◌∷◌, ◌++◌, length, slice_get, Option, None, Some, is_some, Result, Ok, Err, IfOk, if◌then◌else◌, ◌&&◌, nat_le, refl, sym, ap, ◌∙◌, subst, arith, le_refl, le_trans, length-append}
+use Rattle.std.proofs.Common.{◌≡◌, ℕ, zero, suc, ◌+◌, ◌≤◌, Bool, false, List, [], ◌∷◌, ◌++◌, length, slice_get, Option, None, Some, is_some, Result, Ok, Err, IfOk, if◌then◌else◌, ◌&&◌, nat_le, refl, sym, ap, ◌∙◌, subst, arith, le_refl, le_trans, length-append}
 use Rattle.std.proofs.lemmas.Bool.{le-leb, le-ltb, or_parts}
 use Rattle.std.specs.List.{list_any}
-use Rattle.snap_names.specs.Declarations.{Field, Program, Components, Arrays, Atoms, Nodes, Weight, Declared, ports, env_of, field_names, field_senses, prefix_length, with_field, with_array, with_constant, with_let, declare, declare_all, core_program, greatest, capped, within, limited, resolved}
+use Rattle.snap_names.specs.Declarations.{Field, Program, Components, Arrays, Atoms, Nodes, Weight, Declared, ports, env_of, field_senses, prefix_length, with_field, with_array, with_constant, with_let, declare, declare_all, core_program, greatest, capped, within, limited, resolved, is_field_known}
 use Rattle.snap_core.specs.declared.program.Which.{Which}
 use Rattle.snap_core.specs.Fields.{count, width}
 use Rattle.snap_parse.specs.Tree.{DeclTree, SourceTree}
@@ -53,13 +53,13 @@ one-given e _ _ _ (field {at = at} {t = t} {l = l} {n = n} is) new few few_array
     let name : List ℕ = word e.text t in
     let f : Field = record { name = name; prefix = n } in
     let counted : count (e.fields ++ f ∷ []) ≡ count e.fields + (width n + 0) = count-append e.fields (f ∷ []) in
-    let unknown : list_any (is_known e.names) (field_names name (is_some l)) ≡ false =
-    ap (λ b. list_any (is_known e.names) (field_names name b)) (IsLength-some e.text l n is) ∙ fields-known e.names (count e.fields) name n ∙ new in
+    let unknown : is_field_known e.names name (is_some l) ≡ false =
+    ap (λ b. is_field_known e.names name b) (IsLength-some e.text l n is) ∙ fields-known e.names (count e.fields) name n ∙ new in
     let same : field_senses (count e.fields) name n ≡ senses (count e.fields) name n = senses-short (count e.fields) name n (omega (arith, counted, few)) in
     record {
       behind = seen;
       gives =
-          unless-gives (list_any (is_known e.names) (field_names name (is_some l))) (Twice t.from) (after (prefix_length e.text l) (λ n. Ok (with_field (declared_of e seen) name n))) unknown
+          unless-gives (is_field_known e.names name (is_some l)) (Twice t.from) (after (prefix_length e.text l) (λ n. Ok (with_field (declared_of e seen) name n))) unknown
           ∙ after-gives (prefix_length e.text l) (λ n. Ok (with_field (declared_of e seen) name n)) n (prefix_length-gives e.text l n is)
           ∙ ap (λ more. Ok (declared_of (record e { fields = e.fields ++ f ∷ []; names = e.names ++ more }) seen)) same;
       text = refl;

@@ -1,10 +1,10 @@
 -- A policy that `TreeReadings` knows is read without a fault, where arities so far agree.
-use Rattle.std.proofs.Common.{◌≡◌, ℕ, zero, suc, ◌-◌, ◌%◌, ◌^◌, ◌<◌, ◌≤◌, min, Bool, true, ◌==◌, List, [], ◌∷◌, slice_get, slice_set, Option, None, Some, Result, Ok, Err, if◌then◌else◌, refl, sym, ap, ◌∙◌, subst, arith, ◌⊎◌, inl, inr}
+use Rattle.std.proofs.Common.{◌≡◌, ℕ, zero, suc, ◌-◌, ◌^◌, ◌%◌, ◌<◌, ◌≤◌, min, Bool, true, ◌==◌, List, [], ◌∷◌, slice_get, slice_set, Option, None, Some, Result, Ok, Err, if◌then◌else◌, refl, sym, ap, ◌∙◌, subst, arith, ◌⊎◌, inl, inr}
 use Rattle.std.proofs.lemmas.Bool.{eq-eqb, false≢true}
 use Rattle.snap_names.specs.Core.{Atom, Num, Op, Put, Add, CoreTest, id_test, not_test, and_test, or_test, field_test, state_test, CorePolicy, filter, change, par, seq, choice, atomic, is_filter, net, whole_test}
 use Rattle.snap_parse.specs.Tree.{PolicyTree, SequenceTree, ChoiceTree, if_tree, EitherTree, either_begin, either_more, BothTree, both_begin, both_more, SingleTree}
 use Rattle.snap_names.specs.Senses.{Span, Value, Array, Policy, NameFault, Kind, Arity, Arities, Place, after, or_fault, sense_of, constant, array_atom, field_equals, field_gets, array_of_sense, arity_seen, atoms_behind, width, place_of, place}
-use Rattle.snap_names.specs.Reading.{body_of, named, is_filter_or_fault, is_predicate, both_is_predicate, either_is_predicate, choice_is_predicate, sequence_is_predicate, policy_is_predicate, single_fault, both_fault, either_fault, Reading, TestReading, as_test, operand, joined, more, whole, whole_as, whole_test as a_whole_test, changed, tested, read_sequences, read_choices, read_choice, read_either, read_boths, read_both, read_singles, read_single, read_policy}
+use Rattle.snap_names.specs.Reading.{body_of, named, is_filter_or_fault, is_predicate, both_is_predicate, either_is_predicate, choice_is_predicate, sequence_is_predicate, policy_is_predicate, single_fault, both_fault, either_fault, Reading, TestReading, as_test, operand, joined, more, whole, whole_as, whole_test as a_whole_test, changed, tested, read_sequences, read_choices, read_choice, read_either, read_boths, read_both, read_singles, read_single, read_policy, either_as_test, both_as_test, single_as_test, subtraction}
 use Rattle.snap_names.specs.Parts.{itself}
 use Rattle.snap_names.specs.Spells.{Scope}
 use Rattle.snap_names.proofs.BoundedSenses.{NamesFit}
@@ -188,20 +188,20 @@ Gives-by atoms r s x same h = (h.0, same ∙ h.1, h.2)
 or-gives : (e : Scope) (t : EitherTree) (b : BothTree) (x y : CoreTest) (before : Arities) → IsBoth e b (filter y) → Gives e.atoms (read_boths (env e) t before) (Some x) → ((seen : Arities) → Agrees e.atoms seen → Gives e.atoms (read_both (env e) b seen) (filter y))
     → Gives e.atoms (read_boths (env e) (either_more t b) before) (Some (or_test x y))
 or-gives e t b x y before is h k =
-    more-gives e.atoms or_test (read_boths (env e) t before) (λ seen. operand (both_is_predicate (env e) b) (both_fault (words e) b) (read_both (env e) b seen)) x y h
+    more-gives e.atoms or_test (read_boths (env e) t before) (both_as_test (env e) b) x y h
     (λ seen agrees. operand-gives e.atoms (both_is_predicate (env e) b) (both_fault (words e) b) (read_both (env e) b seen) y (both-is_predicate e b (filter y) is refl) (k seen agrees))
 
 and-gives : (e : Scope) (t : BothTree) (s : SingleTree) (x y : CoreTest) (before : Arities) → IsSingle e s (filter y) → Gives e.atoms (read_singles (env e) t before) (Some x) → ((seen : Arities) → Agrees e.atoms seen → Gives e.atoms (read_single (env e) s seen) (filter y))
     → Gives e.atoms (read_singles (env e) (both_more t s) before) (Some (and_test x y))
 and-gives e t s x y before is h k =
-    more-gives e.atoms and_test (read_singles (env e) t before) (λ seen. operand (is_predicate (env e) s) (single_fault (words e) s) (read_single (env e) s seen)) x y h
+    more-gives e.atoms and_test (read_singles (env e) t before) (single_as_test (env e) s) x y h
     (λ seen agrees. operand-gives e.atoms (is_predicate (env e) s) (single_fault (words e) s) (read_single (env e) s seen) y (single-is_predicate e s (filter y) is refl) (k seen agrees))
 
 if-gives : (e : Scope) (at : ℕ) (t : EitherTree) (m : PolicyTree) (u : ChoiceTree) (x : CoreTest) (p q : CorePolicy) (before : Arities) → IsEither e t (filter x) → Gives e.atoms (read_either (env e) t before) (filter x)
     → ((seen : Arities) → Agrees e.atoms seen → Gives e.atoms (read_sequences (env e) m seen) (Some p)) → ((seen : Arities) → Agrees e.atoms seen → Gives e.atoms (read_choice (env e) u seen) q)
     → Gives e.atoms (read_choice (env e) (if_tree at t m u) before) (choice x p q)
 if-gives e at t m u x p q before is h k l =
-    let test : TestReading = operand (either_is_predicate (env e) t) (either_fault (words e) t) (read_either (env e) t before) in
+    let test : TestReading = either_as_test (env e) t before in
     let a : Gives e.atoms test x = operand-gives e.atoms (either_is_predicate (env e) t) (either_fault (words e) t) (read_either (env e) t before) x (either-is_predicate e t (filter x) is refl) h in
     let b : Gives e.atoms (after (read_sequences (env e) m a.0) whole) p = whole-gives itself e.atoms (read_sequences (env e) m a.0) p (k a.0 a.2) in
     let d = l b.0 b.2 in (
@@ -237,7 +237,7 @@ mutual
 
   boths-gives : (c v : ℕ) (e : Scope) → Numbered c v e → (t : EitherTree) (p : CorePolicy) → IsEither e t p → (x : CoreTest) → p ≡ filter x → (before : Arities) → Agrees e.atoms before → Gives e.atoms (read_boths (env e) t before) (Some x)
   boths-gives c v e w _ p (both {b = b} k) x same before h =
-      first-gives e.atoms or_test (λ seen. operand (both_is_predicate (env e) b) (both_fault (words e) b) (read_both (env e) b seen)) before x
+      first-gives e.atoms or_test (both_as_test (env e) b) before x
       (operand-gives e.atoms (both_is_predicate (env e) b) (both_fault (words e) b) (read_both (env e) b before) x (both-is_predicate e b p k (ap is_filter same)) (subst (Gives e.atoms (read_both (env e) b before)) same (both-gives c v e w b p k before h)))
   boths-gives c v e w _ _ (or {t = t} {b = b} {x = x} {y = y} k l) z same before h =
       subst (λ u. Gives e.atoms (read_boths (env e) (either_more t b) before) (Some u)) (ap test_in same)
@@ -251,7 +251,7 @@ mutual
 
   singles-gives : (c v : ℕ) (e : Scope) → Numbered c v e → (t : BothTree) (p : CorePolicy) → IsBoth e t p → (x : CoreTest) → p ≡ filter x → (before : Arities) → Agrees e.atoms before → Gives e.atoms (read_singles (env e) t before) (Some x)
   singles-gives c v e w _ p (single {s = s} k) x same before h =
-      first-gives e.atoms and_test (λ seen. operand (is_predicate (env e) s) (single_fault (words e) s) (read_single (env e) s seen)) before x
+      first-gives e.atoms and_test (single_as_test (env e) s) before x
       (operand-gives e.atoms (is_predicate (env e) s) (single_fault (words e) s) (read_single (env e) s before) x (single-is_predicate e s p k (ap is_filter same)) (subst (Gives e.atoms (read_single (env e) s before)) same (single-gives c v e w s p k before h)))
   singles-gives c v e w _ _ (and {t = t} {s = s} {x = x} {y = y} k l) z same before h =
       subst (λ u. Gives e.atoms (read_singles (env e) (both_more t s) before) (Some u)) (ap test_in same)
@@ -259,7 +259,7 @@ mutual
 
   single-gives : (c v : ℕ) (e : Scope) → Numbered c v e → (t : SingleTree) (p : CorePolicy) → IsSingle e t p → (before : Arities) → Agrees e.atoms before → Gives e.atoms (read_single (env e) t before) p
   single-gives c v e w _ _ (negation {s = s} {x = x} k) before h =
-      then-gives e.atoms (operand (is_predicate (env e) s) (single_fault (words e) s) (read_single (env e) s before)) (λ y. filter (not_test y)) x
+      then-gives e.atoms (single_as_test (env e) s before) (λ y. filter (not_test y)) x
       (operand-gives e.atoms (is_predicate (env e) s) (single_fault (words e) s) (read_single (env e) s before) x (single-is_predicate e s (filter x) k refl) (single-gives c v e w s (filter x) k before h))
   single-gives c v e w _ _ identity before h = (before, refl, h)
   single-gives c v e w _ _ drop before h = (before, refl, h)
@@ -283,7 +283,7 @@ mutual
   single-gives c v e w _ p (add {t = t} {vs = vs} {v = y} {n = n} k l) before h =
       changed-gives c v e w before h t vs (after (constant (words e) y) (λ i. Ok (Add i))) (Add n) p (after-gives (constant (words e) y) (λ i. Ok (Add i)) n (constant-gives e y n k)) l
   single-gives c v e w _ p (sub {t = t} {vs = vs} {v = y} {n = n} k l) before h =
-      changed-gives c v e w before h t vs (after (constant (words e) y) (λ i. Ok (Add ((2 ^ 64 - i) % 2 ^ 64)))) (Add ((2 ^ 64 - n) % 2 ^ 64)) p (after-gives (constant (words e) y) (λ i. Ok (Add ((2 ^ 64 - i) % 2 ^ 64))) n (constant-gives e y n k)) l
+      changed-gives c v e w before h t vs (subtraction (words e) y) (Add ((2 ^ 64 - n) % 2 ^ 64)) p (after-gives (constant (words e) y) (λ i. Ok (Add ((2 ^ 64 - i) % 2 ^ 64))) n (constant-gives e y n k)) l
 
 pub policy-gives : (c v : ℕ) (e : Scope) → NamesFit c v e.names → v ≤ 65535 → (t : PolicyTree) (p : CorePolicy) → IsPolicy e t p → (before : Arities) → Agrees e.atoms before → Gives e.atoms (read_policy (env e) t before) p
 policy-gives c v e names few t p k before h = whole-gives itself e.atoms (read_sequences (env e) t before) p (sequences-gives c v e (record { names = names; few = few }) t p k before h)

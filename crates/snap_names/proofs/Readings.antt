@@ -1,8 +1,8 @@
 -- How a reading goes on as more is read.
 use Rattle.std.proofs.Common.{◌≡◌, ℕ, ◌+◌, Bool, true, false, Option, Some, None, Result, Ok, Err, refl, ap, sym, ◌∙◌, arith, subst, is_some, if◌then◌else◌}
-use Rattle.snap_names.specs.Parts.{Part, Tally, IsPart, IsPartOf, itself, HasRead, HaveRead, nodes_of_all}
+use Rattle.snap_names.specs.Parts.{Part, Tally, IsPart, IsPartOf, itself, HasRead, HaveRead, nodes_of_all, JoinsParts, JoinsChoice}
 use Rattle.snap_names.specs.Senses.{NameFault, Arities, after}
-use Rattle.snap_names.specs.Core.{CoreTest, CorePolicy, id_test, filter, choice, is_filter, test_nodes, nodes}
+use Rattle.snap_names.specs.Core.{CorePolicy, id_test, filter, choice, is_filter, test_nodes, nodes}
 use Rattle.snap_names.specs.Reading.{Reading, TestReading, joined, more, as_test, operand, whole_as}
 use Rattle.snap_names.specs.Declarations.{capped}
 use Rattle.snap_names.proofs.PartLemmas.{IsPart-later, IsPartOf-later}
@@ -31,7 +31,7 @@ module _ {A : Type 0} (form : A → CorePolicy) where
       (r : Result (Option A × Arities) NameFault) (read : Arities → Result (A × Arities) NameFault) (old before mid new : Tally) (parts : Option Part) (next part : Part) →
       HaveRead form r old before parts → HasRead form (read before.arities.items) before mid next →
       new.arities.items ≡ mid.arities.items → new.nodes ≡ (if is_some parts then capped (mid.nodes + 1) else mid.nodes) →
-      ((acc : Option A) (y : A) → IsPartOf form acc mid.nodes parts → IsPart (form y) mid.nodes next → IsPart (form (joined f acc y)) new.nodes part) →
+      JoinsParts form f mid.nodes new.nodes parts next part →
       HaveRead form (after r (more f read)) old new (Some part)
   HaveRead-more f cost r read old before mid new parts next part h k arities count join =
       let acc = h.value in
@@ -126,7 +126,7 @@ operand-no_test b found f g r old new part is met same h t = ap (λ c. operand c
 pub HasRead-choice : (test : TestReading) (met unmet : Arities → Reading) (old a b c new : Tally) (x p q r : Part) →
     HasRead filter test old a x → HasRead itself (met a.arities.items) a b p → HasRead itself (unmet b.arities.items) b c q →
     new.arities.items ≡ c.arities.items → new.nodes ≡ capped (c.nodes + 1) →
-    ((x' : CoreTest) (p' q' : CorePolicy) → IsPart (filter x') c.nodes x → IsPart p' c.nodes p → IsPart q' c.nodes q → IsPart (choice x' p' q') new.nodes r) →
+    JoinsChoice c.nodes new.nodes x p q r →
     HasRead itself (after test (λ x. after (met x.1) (λ p. after (unmet p.1) (λ q. Ok (choice x.0 p.0 q.0, q.1))))) old new r
 HasRead-choice test met unmet old a b c new x p q r h k l arities count join = record {
   value = choice h.value k.value l.value;

@@ -43,6 +43,10 @@ abbrev pub field_names : List ℕ → Bool → List (List ℕ)
 field_names name false = name ∷ []
 field_names name true = name ∷ (name ++ codes ".net") ∷ (name ++ codes ".host") ∷ []
 
+-- one of them is known
+abbrev pub is_field_known : List (List ℕ × Sense) → List ℕ → Bool → Bool
+is_field_known names name is_split = list_any (is_known names) (field_names name is_split)
+
 -- Programs number components in 16 bits; one with more is refused.
 abbrev pub short : ℕ → ℕ
 short n = min n 65535
@@ -52,6 +56,10 @@ abbrev pub field_senses : ℕ → List ℕ → Option ℕ → List (List ℕ × 
 field_senses c name None = (name, Plain (short c)) ∷ []
 field_senses c name (Some n) = (name, Split (short c) (short (c + 1)) n)
     ∷ (name ++ codes ".net", Plain (short c)) ∷ (name ++ codes ".host", Plain (short (c + 1))) ∷ []
+
+-- the names of a new field, whose components begin at c, stand behind those before
+abbrev pub AddsField : List (List ℕ × Sense) → List (List ℕ × Sense) → ℕ → List ℕ → Option ℕ → Type 0
+AddsField old new c name prefix = is_field_known old name (is_some prefix) ≡ false → new ≡ old ++ field_senses c name prefix
 
 -- the length of a split field's prefix, from 1 to 31
 abbrev pub prefix_length : List ℕ → Option Span → Result (Option ℕ) NameFault
@@ -75,7 +83,7 @@ with_let d name x = record d { lets = d.lets ++ x.0 ∷ []; names = d.names ++ (
 -- what is declared behind a declaration
 abbrev pub declare : List ℕ → Declared → DeclTree → Result Declared NameFault
 declare text d (field_tree at t p) =
-    if list_any (is_known d.names) (field_names (word text t) (is_some p)) then Err (Twice t.from)
+    if is_field_known d.names (word text t) (is_some p) then Err (Twice t.from)
     else after (prefix_length text p) (λ n. Ok (with_field d (word text t) n))
 declare text d (array_tree at t) = if is_known d.names (word text t) then Err (Twice t.from) else Ok (with_array d (word text t))
 declare text d (const_tree at t l) =

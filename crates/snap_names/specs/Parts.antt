@@ -1,7 +1,9 @@
 -- How the parts that are built stand for core policies.
 use Rattle.std.specs.Prelude.{◌≡◌, ◌≢◌, ℕ, ◌+◌, ◌≤◌, List, [], ◌∷◌, map, Option, None, Some, option_map, Result, Ok, Err, IfErr, Vec}
 use Rattle.std.specs.declared.alloc.Global.{Global}
+use Rattle.std.specs.Global.{Box}
 use Rattle.snap_core.specs.declared.policy.Pol.{Pol}
+use Rattle.snap_core.specs.declared.policy.Pred.{Pred}
 use Rattle.snap_names.specs.declared.parts.TestJoin.{TestJoin}
 use Rattle.snap_names.specs.declared.parts.TestJoin.TheVariants.{Both, Either}
 use Rattle.snap_names.specs.declared.parts.PolicyJoin.{PolicyJoin}
@@ -13,11 +15,11 @@ pub use Rattle.snap_names.specs.declared.scope.Tally.{Tally}
 pub use Rattle.snap_names.specs.declared.scope.Scope.{Scope}
 use Rattle.snap_names.specs.declared.fault.NameFault.{NameFault}
 use Rattle.snap_names.specs.declared.fault.NameFault.TheVariants.{NoMemory}
-use Rattle.snap_names.specs.Core.{CoreTest, CorePolicy, filter, not_test, and_test, or_test, par, seq, choice, core_policy, is_filter, nodes, weight}
+use Rattle.snap_names.specs.Core.{CoreTest, CorePolicy, filter, not_test, and_test, or_test, par, seq, choice, core_policy, core_test, is_filter, nodes, weight}
 use Rattle.snap_names.specs.Declarations.{capped}
 use Rattle.snap_names.specs.Senses.{Words, Arities, Place}
 use Rattle.snap_names.specs.declared.places.Indexed.{Indexed}
-use Rattle.snap_names.specs.Reading.{Env, Reading, TestReading}
+use Rattle.snap_names.specs.Reading.{Env, Reading, TestReading, joined}
 
 -- The part stands for the core policy. `all` core nodes are counted with it, and it is built as long as these are within the limit.
 pub record IsPart (p : CorePolicy) (all : ℕ) (part : Part) : Type 0 where
@@ -30,6 +32,13 @@ abbrev pub IsPartOf : {A : Type 0} → (A → CorePolicy) → Option A → ℕ �
 IsPartOf form None all None = Unit {0}
 IsPartOf form (Some x) all (Some part) = IsPart (form x) all part
 IsPartOf form _ all _ = ⊥
+
+-- what stands in a box
+abbrev pub boxed_test : Option (Box Pred) → Option CoreTest
+boxed_test b = option_map (λ test. core_test test.value) b
+
+abbrev pub boxed_policy : Option (Box Pol) → Option CorePolicy
+boxed_policy b = option_map (λ policy. core_policy policy.value) b
 
 -- how policies that may not be built are joined
 abbrev pub filter_of : Option CorePolicy → Option CoreTest
@@ -85,6 +94,16 @@ env_in s lets = record { words = words_of s; lets = lets }
 
 abbrev pub itself : CorePolicy → CorePolicy
 itself p = p
+
+-- The part stands for operands so far, if there are any, and one more, joined as `join` says, where theirs do.
+abbrev pub JoinsParts : {A : Type 0} → (A → CorePolicy) → (A → A → A) → ℕ → ℕ → Option Part → Part → Part → Type 0
+JoinsParts {A} form join before all parts next part = (x : Option A) (y : A) → IsPartOf form x before parts → IsPart (form y) before next
+    → IsPart (form (joined join x y)) all part
+
+-- The part stands for a choice, where those of its test and of its two policies do.
+abbrev pub JoinsChoice : ℕ → ℕ → Part → Part → Part → Part → Type 0
+JoinsChoice before all test yes no part = (x : CoreTest) (p q : CorePolicy) → IsPart (filter x) before test → IsPart p before yes → IsPart q before no
+    → IsPart (choice x p q) all part
 
 -- What was read is the core policy that `form` says, and its nodes are counted.
 pub record HasRead {A : Type 0} (form : A → CorePolicy) (r : Result (A × Arities) NameFault) (old new : Tally) (part : Part) : Type 0 where

@@ -11,7 +11,7 @@ use Rattle.snap_names.specs.declared.scope.Sense.TheVariants.{Policy}
 use Rattle.snap_names.specs.declared.fault.NameFault.{NameFault}
 use Rattle.snap_names.specs.declared.fault.NameFault.TheVariants.{Kind}
 use Rattle.snap_names.specs.Core.{CoreTest, CorePolicy, id_test, drop_test, state_test, not_test, and_test, or_test, filter, change, par, seq, choice, atomic, is_filter}
-use Rattle.snap_names.specs.Senses.{Words, Arities, Place, or_fault, after, sense_of, constant, array_atom, field_equals, field_gets, place}
+use Rattle.snap_names.specs.Senses.{Words, Value, Arities, Place, or_fault, after, sense_of, constant, array_atom, field_equals, field_gets, place}
 
 -- what is known where a policy is read: the text with its names, and the bodies of `let`
 pub record Env : Type 0 where
@@ -124,6 +124,10 @@ whole = whole_as (λ p. p)
 abbrev pub whole_test : Option CoreTest × Arities → Reading
 whole_test = whole_as filter
 
+-- the operation of `-=`
+abbrev pub subtraction : Words → Value → Result Op NameFault
+subtraction e v = after (constant e v) (λ n. Ok (Add ((2 ^ 64 - n) % 2 ^ 64)))
+
 -- `name places` with an operation
 abbrev pub changed : Result Op NameFault → Place → Reading
 changed op p = after op (λ o. Ok (change (record { var = p.var; index = p.index; op = o }), p.arities))
@@ -200,11 +204,20 @@ abbrev mutual
   read_single e (down_tree name vs) before = after (place e.words before name vs) (changed (Ok (Add (2 ^ 64 - 1))))
   read_single e (array_add_tree name vs v) before = after
       (place e.words before name vs) (changed (after (constant e.words v) (λ n. Ok (Add n))))
-  read_single e (array_sub_tree name vs v) before = after (place e.words before name vs)
-      (changed (after (constant e.words v) (λ n. Ok (Add ((2 ^ 64 - n) % 2 ^ 64)))))
+  read_single e (array_sub_tree name vs v) before = after (place e.words before name vs) (changed (subtraction e.words v))
 
 abbrev pub read_policy : Env → PolicyTree → Arities → Reading
 read_policy e p before = after (read_sequences e p before) whole
 
 abbrev pub read_sequence : Env → SequenceTree → Arities → Reading
 read_sequence e s before = after (read_choices e s before) whole
+
+-- each operand that must be a predicate
+abbrev pub either_as_test : Env → EitherTree → Arities → TestReading
+either_as_test e t before = operand (either_is_predicate e t) (either_fault e.words t) (read_either e t before)
+
+abbrev pub both_as_test : Env → BothTree → Arities → TestReading
+both_as_test e t before = operand (both_is_predicate e t) (both_fault e.words t) (read_both e t before)
+
+abbrev pub single_as_test : Env → SingleTree → Arities → TestReading
+single_as_test e t before = operand (is_predicate e t) (single_fault e.words t) (read_single e t before)

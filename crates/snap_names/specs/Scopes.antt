@@ -1,5 +1,5 @@
 -- How a scope stands for what is declared.
-use Rattle.std.specs.Prelude.{◌≡◌, ◌≢◌, ℕ, ◌≤◌, List, Result, Ok, Err}
+use Rattle.std.specs.Prelude.{◌≡◌, ◌≢◌, ℕ, ◌≤◌, false, List, Option, Result, Ok, Err, is_some}
 use Rattle.snap_core.specs.Fields.{count, IsFields}
 use Rattle.snap_parse.specs.Tree.{DeclTree}
 use Rattle.snap_names.specs.declared.scope.Part.{Part}
@@ -9,7 +9,7 @@ use Rattle.snap_names.specs.declared.fault.NameFault.{NameFault}
 use Rattle.snap_names.specs.declared.fault.NameFault.TheVariants.{NoMemory}
 use Rattle.snap_names.specs.Core.{CorePolicy, nodes}
 use Rattle.snap_names.specs.Senses.{Arities}
-use Rattle.snap_names.specs.Declarations.{Declared, short, capped, declare, CoreProgram, limited}
+use Rattle.snap_names.specs.Declarations.{Declared, short, capped, declare, CoreProgram, is_field_known, limited, with_field}
 use Rattle.snap_names.specs.Parts.{AreBodies, IsPart, names_in}
 
 -- what is declared in a scope, with what the bodies of `let` stand for
@@ -28,6 +28,11 @@ pub record HasDeclared (text : List ℕ) (r : Result Declared NameFault) (s : Sc
   pub scope : IsScope s lets
   pub text_is : s.text.now ≡ text
   pub declares : r ≡ Ok (declared_in s lets arities)
+
+-- A field whose names are new is declared behind all else.
+abbrev pub FieldDeclared : Scope → Scope → List ℕ → Option ℕ → Type 0
+FieldDeclared old new name prefix = is_field_known (names_in old.names.entries) name (is_some prefix) ≡ false → (lets : List CorePolicy) → IsScope old lets
+    → (arities : Arities) → HasDeclared old.text.now (Ok (with_field (declared_in old lets arities) name prefix)) new arities
 
 -- The declaration is declared in the scope, or refused as it says, but for want of memory.
 abbrev pub Declares : DeclTree → Scope → Scope → Arities → Arities → Result Unit NameFault → Type 0

@@ -1,16 +1,13 @@
 // Declarations.
 
-ghost use Rattle.std.specs.Prelude.{◌≡◌, ◌≢◌, ◌++◌, List, [], ◌∷◌, IfOk, IfErr, OnOk, Ok, Err, ℕ, true, false, is_some};
-ghost use Rattle.std.specs.List.{list_any};
-ghost use Rattle.snap_core.specs.Fields.{plain_field};
+ghost use Rattle.std.specs.Prelude.{◌≡◌, ◌≢◌, ◌++◌, [], ◌∷◌, IfOk, IfErr, OnOk, Ok, Err, ℕ, true, false, is_some};
 ghost use Rattle.snap_parse.specs.Tree.{policy_tree, decl_tree, field_tree, array_tree, const_tree, let_tree};
-ghost use Rattle.snap_names.specs.Core.{CorePolicy};
 ghost use Rattle.snap_names.specs.Senses.{Arities, word};
 ghost use Rattle.snap_names.specs.Reading.{read_policy};
-ghost use Rattle.snap_names.specs.Declarations.{ports, field_names, short, field_senses, prefix_length, with_field};
+ghost use Rattle.snap_names.specs.Declarations.{ports, short, prefix_length, is_field_known, AddsField};
 ghost use Rattle.snap_names.specs.Spells.{is_known};
 ghost use Rattle.snap_names.specs.Parts.{Reads, names_in};
-ghost use Rattle.snap_names.specs.Scopes.{IsScope, HasDeclared, Declares, declared_in};
+ghost use Rattle.snap_names.specs.Scopes.{HasDeclared, Declares, FieldDeclared};
 ghost use Rattle.snap_names.specs.declared.fault.NameFault.TheVariants.{NoMemory, Twice};
 
 use crate::fault::NameFault;
@@ -50,7 +47,7 @@ fn add_names(
     name: &[u8],
     prefix: Option<u8>,
 ) -> Result<(), NameFault>
-    ensures ok { OnOk result ((c : ℕ) → comp ≡ short c → list_any (is_known (names_in names.old.entries)) (field_names name.now (is_some prefix)) ≡ false → names_in names.new.entries ≡ names_in names.old.entries ++ field_senses c name.now prefix) }
+    ensures ok { OnOk result ((c : ℕ) → comp ≡ short c → AddsField (names_in names.old.entries) (names_in names.new.entries) c name.now prefix) }
     ensures err { IfErr result (λ f. f ≡ NoMemory) }
 {
     let whole = Vec::from_slice(alloc, name)?;
@@ -94,7 +91,7 @@ impl<'a> Scope<'a> {
 
     // Declares a field whose names are new.
     fn add_field(&mut self, name: &[u8], prefix: Option<u8>) -> Result<(), NameFault>
-        ensures ok { OnOk result (list_any (is_known (names_in self.old.names.entries)) (field_names name.now (is_some prefix)) ≡ false → (lets : List CorePolicy) → IsScope self.old lets → (arities : Arities) → HasDeclared self.old.text.now (Ok (with_field (declared_in self.old lets arities) name.now prefix)) self.new arities) }
+        ensures ok { OnOk result (FieldDeclared self.old self.new name.now prefix) }
         ensures err { IfErr result (λ f. f ≡ NoMemory) }
     {
         add_names(self.alloc, &mut self.names, self.comps, name, prefix)?;
@@ -114,7 +111,7 @@ impl<'a> Scope<'a> {
 
     // Whether a name that a field would declare is declared.
     fn is_field_known(&self, name: &[u8], is_split: bool) -> Result<bool, NameFault>
-        ensures ok { IfOk result (λ known. list_any (is_known (names_in self.now.names.entries)) (field_names name.now is_split) ≡ known) }
+        ensures ok { IfOk result (λ known. is_field_known (names_in self.now.names.entries) name.now is_split ≡ known) }
         ensures err { IfErr result (λ f. f ≡ NoMemory) }
     {
         if self.is_known(name) {

@@ -1,10 +1,9 @@
 // Parts of a program, joined and counted.
 
-ghost use Rattle.std.specs.Prelude.{◌≡◌, ◌≢◌, ◌+◌, ◌≤◌, ℕ, Bool, true, Option, option_map, is_some, if◌then◌else◌, IfOk, IfErr, OnOk};
+ghost use Rattle.std.specs.Prelude.{◌≡◌, ◌+◌, ◌≤◌, true, Option, option_map, is_some, if◌then◌else◌, IfOk, IfErr, OnOk};
 ghost use Rattle.snap_names.specs.Core.{CoreTest, CorePolicy, is_filter, core_test, core_policy, nodes, filter, not_test, choice, atomic};
 ghost use Rattle.snap_names.specs.Declarations.{capped};
-ghost use Rattle.snap_names.specs.Parts.{IsPart, IsPartOf, itself, filter_of, negated_core, test_join, policy_join, joined_tests, joined_policies, chosen_policies, chosen_core};
-ghost use Rattle.snap_names.specs.Reading.{joined};
+ghost use Rattle.snap_names.specs.Parts.{IsPart, itself, filter_of, negated_core, test_join, policy_join, joined_tests, joined_policies, chosen_policies, chosen_core, JoinsParts, JoinsChoice, boxed_test, boxed_policy};
 ghost use Rattle.snap_names.specs.declared.fault.NameFault.TheVariants.{NoMemory};
 
 use crate::fault::NameFault;
@@ -74,7 +73,7 @@ fn test_of(policy: Option<Pol>) -> Option<Pred>
 
 // The predicate of a filter, in a box of its own.
 fn boxed_test(alloc: Global, policy: Option<Pol>) -> Result<Option<Box<Pred>>, NameFault>
-    ensures ok { IfOk result (λ r. option_map (λ test. core_test test.value) r ≡ filter_of (option_map core_policy policy)) }
+    ensures ok { IfOk result (λ r. boxed_test r ≡ filter_of (option_map core_policy policy)) }
     ensures err { IfErr result (λ f. f ≡ NoMemory) }
 {
     match test_of(policy) {
@@ -85,7 +84,7 @@ fn boxed_test(alloc: Global, policy: Option<Pol>) -> Result<Option<Box<Pred>>, N
 
 // A policy in a box of its own.
 fn boxed(alloc: Global, policy: Option<Pol>) -> Result<Option<Box<Pol>>, NameFault>
-    ensures ok { IfOk result (λ r. option_map (λ policy. core_policy policy.value) r ≡ option_map core_policy policy) }
+    ensures ok { IfOk result (λ r. boxed_policy r ≡ option_map core_policy policy) }
     ensures err { IfErr result (λ f. f ≡ NoMemory) }
 {
     match policy {
@@ -128,7 +127,7 @@ pub enum PolicyJoin {
 impl TestJoin {
     // Two predicates joined, where both are there and there is room for them.
     fn of(self, room: bool, left: Option<Box<Pred>>, right: Option<Box<Pred>>) -> Option<Pol>
-        ensures { room ≡ true → option_map core_policy result ≡ joined_tests (test_join self) (option_map (λ test. core_test test.value) left) (option_map (λ test. core_test test.value) right) }
+        ensures { room ≡ true → option_map core_policy result ≡ joined_tests (test_join self) (boxed_test left) (boxed_test right) }
     {
         if !room {
             return None;
@@ -145,7 +144,7 @@ impl TestJoin {
 impl PolicyJoin {
     // Two policies joined, where both are there and there is room for them.
     fn of(self, room: bool, left: Option<Box<Pol>>, right: Option<Box<Pol>>) -> Option<Pol>
-        ensures { room ≡ true → option_map core_policy result ≡ joined_policies (policy_join self) (option_map (λ policy. core_policy policy.value) left) (option_map (λ policy. core_policy policy.value) right) }
+        ensures { room ≡ true → option_map core_policy result ≡ joined_policies (policy_join self) (boxed_policy left) (boxed_policy right) }
     {
         if !room {
             return None;
@@ -166,7 +165,7 @@ fn branched(
     yes: Option<Box<Pol>>,
     no: Option<Box<Pol>>,
 ) -> Option<Pol>
-    ensures { room ≡ true → option_map core_policy result ≡ chosen_policies (option_map core_test test) (option_map (λ policy. core_policy policy.value) yes) (option_map (λ policy. core_policy policy.value) no) }
+    ensures { room ≡ true → option_map core_policy result ≡ chosen_policies (option_map core_test test) (boxed_policy yes) (boxed_policy no) }
 {
     if !room {
         return None;
@@ -276,7 +275,7 @@ pub(crate) fn join_tests(
     before: Option<Part>,
     next: Part,
 ) -> Result<Part, NameFault>
-    ensures part { IfOk result (λ r. (x : Option CoreTest) (y : CoreTest) → IsPartOf filter x tally.old.nodes before → IsPart (filter y) tally.old.nodes next → IsPart (filter (joined (test_join join) x y)) tally.new.nodes r) }
+    ensures part { IfOk result (JoinsParts filter (test_join join) tally.old.nodes tally.new.nodes before next) }
     ensures nodes { OnOk result (tally.new.nodes ≡ (if is_some before then capped (tally.old.nodes + 1) else tally.old.nodes)) }
     ensures arities { OnOk result (tally.new.arities.items ≡ tally.old.arities.items) }
     ensures err { IfErr result (λ f. f ≡ NoMemory) }
@@ -302,7 +301,7 @@ pub(crate) fn join_policies(
     before: Option<Part>,
     next: Part,
 ) -> Result<Part, NameFault>
-    ensures part { IfOk result (λ r. (p : Option CorePolicy) (q : CorePolicy) → IsPartOf itself p tally.old.nodes before → IsPart q tally.old.nodes next → IsPart (joined (policy_join join) p q) tally.new.nodes r) }
+    ensures part { IfOk result (JoinsParts itself (policy_join join) tally.old.nodes tally.new.nodes before next) }
     ensures nodes { OnOk result (tally.new.nodes ≡ (if is_some before then capped (tally.old.nodes + 1) else tally.old.nodes)) }
     ensures arities { OnOk result (tally.new.arities.items ≡ tally.old.arities.items) }
     ensures err { IfErr result (λ f. f ≡ NoMemory) }
@@ -328,7 +327,7 @@ pub(crate) fn choice(
     yes: Part,
     no: Part,
 ) -> Result<Part, NameFault>
-    ensures part { IfOk result (λ r. (x : CoreTest) (p q : CorePolicy) → IsPart (filter x) tally.old.nodes test → IsPart p tally.old.nodes yes → IsPart q tally.old.nodes no → IsPart (choice x p q) tally.new.nodes r) }
+    ensures part { IfOk result (JoinsChoice tally.old.nodes tally.new.nodes test yes no) }
     ensures nodes { OnOk result (tally.new.nodes ≡ capped (tally.old.nodes + 1)) }
     ensures arities { OnOk result (tally.new.arities.items ≡ tally.old.arities.items) }
     ensures err { IfErr result (λ f. f ≡ NoMemory) }

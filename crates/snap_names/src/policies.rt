@@ -2,7 +2,7 @@
 
 ghost use Rattle.snap_parse.specs.Tree.{single_tree, both_tree, either_tree, choice_tree, sequence_tree, policy_tree};
 ghost use Rattle.snap_names.specs.Parts.{Reads, ReadsTest};
-ghost use Rattle.snap_names.specs.Reading.{read_policy, read_sequence, read_choice, read_either, read_both, read_single, operand, single_fault, both_fault, either_fault, is_predicate, both_is_predicate, either_is_predicate};
+ghost use Rattle.snap_names.specs.Reading.{read_policy, read_sequence, read_choice, read_either, read_both, read_single, single_fault, both_fault, either_fault, is_predicate, both_is_predicate, either_is_predicate, either_as_test, both_as_test, single_as_test};
 
 use crate::fault::NameFault;
 use crate::parts::{self, PolicyJoin, TestJoin};
@@ -56,7 +56,7 @@ impl Scope<'_> {
 
     #[cycle(reader)]
     fn either_operand(&self, tally: &mut Tally, tree: &Either) -> Result<Part, NameFault>
-        ensures { ReadsTest self.now (λ e arities. operand (either_is_predicate e (either_tree tree.now)) (either_fault e.words (either_tree tree.now)) (read_either e (either_tree tree.now) arities)) tally.old tally.new result }
+        ensures { ReadsTest self.now (λ e. either_as_test e (either_tree tree.now)) tally.old tally.new result }
     {
         let fault = self.either_fault(tree);
         let is_predicate = self.either_is_predicate(tree);
@@ -85,7 +85,7 @@ impl Scope<'_> {
 
     #[cycle(reader)]
     fn both_operand(&self, tally: &mut Tally, tree: &Both) -> Result<Part, NameFault>
-        ensures { ReadsTest self.now (λ e arities. operand (both_is_predicate e (both_tree tree.now)) (both_fault e.words (both_tree tree.now)) (read_both e (both_tree tree.now) arities)) tally.old tally.new result }
+        ensures { ReadsTest self.now (λ e. both_as_test e (both_tree tree.now)) tally.old tally.new result }
     {
         let fault = self.both_fault(tree);
         let is_predicate = self.both_is_predicate(tree);
@@ -114,7 +114,7 @@ impl Scope<'_> {
 
     #[cycle(reader)]
     fn single_operand(&self, tally: &mut Tally, tree: &Single) -> Result<Part, NameFault>
-        ensures { ReadsTest self.now (λ e arities. operand (is_predicate e (single_tree tree.now)) (single_fault e.words (single_tree tree.now)) (read_single e (single_tree tree.now) arities)) tally.old tally.new result }
+        ensures { ReadsTest self.now (λ e. single_as_test e (single_tree tree.now)) tally.old tally.new result }
     {
         let fault = self.single_fault(tree);
         let is_predicate = self.is_predicate(tree);

@@ -1,12 +1,12 @@
 // Tests, assignments and updates, and the bodies that lone names stand for.
 
-ghost use Rattle.std.specs.Prelude.{◌≡◌, ◌+◌, ◌-◌, ◌%◌, ◌^◌, Ok, Err, true, option_map, IfOk, IfErr, OnOk};
+ghost use Rattle.std.specs.Prelude.{◌≡◌, ◌+◌, ◌-◌, Ok, Err, true, option_map, IfOk, IfErr, OnOk};
 ghost use Rattle.snap_core.specs.declared.policy.Atom.TheVariants.{Num};
 ghost use Rattle.snap_core.specs.declared.policy.Op.TheVariants.{Put, Add};
-ghost use Rattle.snap_names.specs.Core.{CorePolicy, core_test, core_policy, and_test, field_test, set, seq, whole_test};
+ghost use Rattle.snap_names.specs.Core.{CorePolicy, core_test, core_policy, set, seq, whole_test};
 ghost use Rattle.snap_names.specs.Declarations.{capped};
 ghost use Rattle.snap_names.specs.Parts.{IsPart, IsBody, words_of, Refuses, Reads, ReadsSimple};
-ghost use Rattle.snap_names.specs.Reading.{named, tested, changed};
+ghost use Rattle.snap_names.specs.Reading.{named, tested, changed, subtraction};
 ghost use Rattle.snap_names.specs.Senses.{after, split_test, field_equals, field_gets, place, constant, array_atom};
 ghost use Rattle.snap_names.specs.declared.fault.NameFault.TheVariants.{NoMemory};
 
@@ -260,7 +260,7 @@ impl Scope<'_> {
         places: &[Value],
         value: Value,
     ) -> Result<Pol, NameFault>
-        ensures policy { ReadsSimple (after (place (words_of self.now) tally.old.arities.items name places.now) (changed (after (constant (words_of self.now) value) (λ n. Ok (Add ((2 ^ 64 - n) % 2 ^ 64)))))) tally.new result }
+        ensures policy { ReadsSimple (after (place (words_of self.now) tally.old.arities.items name places.now) (changed (subtraction (words_of self.now) value))) tally.new result }
         ensures nodes { tally.new.nodes ≡ tally.old.nodes }
     {
         let place = self.place(tally, name, places)?;

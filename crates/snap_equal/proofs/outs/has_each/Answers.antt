@@ -1,5 +1,5 @@
 -- Out by out.
-use Rattle.std.proofs.Common.{◌≡◌, ◌<◌, ℕ, [], List, get_or, sym, ◌∙◌, subst, arith, below_more}
+use Rattle.std.proofs.Common.{◌≡◌, ℕ, [], List, get_or, sym, ◌∙◌, subst, arith, below_more}
 use Rattle.std.proofs.lemmas.List.{get_or_default}
 use Rattle.snap_core.specs.declared.policy.Atom.{Atom}
 use Rattle.snap_core.specs.Tests.{after_out}

@@ -1,5 +1,5 @@
 -- The out of the same code.
-use Rattle.std.proofs.Common.{◌≡◌, List, ℕ, sym, ap, ◌∙◌, subst}
+use Rattle.std.proofs.Common.{List, ℕ, sym, ap, ◌∙◌, subst}
 use Rattle.snap_core.specs.Tests.{after_out}
 use Rattle.snap_equal.specs.Made.{Makes, packet_of}
 use Rattle.snap_equal.specs.Told.{On}

@@ -3,7 +3,7 @@ use Rattle.std.proofs.Common.{true, length, sym, subst, ◌≤◌}
 use Rattle.snap_core.specs.declared.policy.Test.{Test}
 use Rattle.snap_core.specs.Tests.{TestFits}
 use Rattle.snap_ctx.specs.Classes.{index_of}
-use Rattle.snap_ctx.specs.Meets.{NoneMeets, with_fact}
+use Rattle.snap_ctx.specs.Answers.{NoneMeetsWith}
 use Rattle.snap_model.proofs.Asking.{ask_fits, ask_short}
 use Rattle.snap_model.proofs.ask.attempt.Goals as goal
 
@@ -18,4 +18,4 @@ assume-requires-clause-short c =
 pub returns : goal.returns
 returns c =
     let none = rw c.in-Impossible.is at c.in_ok-ctx.ensures in
-    subst (λ (t : Test). NoneMeets (length c.args.ctx.now.classes) (with_fact c.args.ctx.now.facts t true)) c.in_ok-test.ensures none
+    subst (λ (t : Test). NoneMeetsWith c.args.ctx.now t true) c.in_ok-test.ensures none

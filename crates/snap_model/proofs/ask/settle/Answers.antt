@@ -1,20 +1,19 @@
 -- One of all numbers is possible.
-use Rattle.std.proofs.Common.{◌≡◌, ◌<◌, ◌≤◌, inr, ℕ, true, length, subst, arith, below_more}
-use Rattle.snap_ctx.specs.Meets.{NoneMeets, with_fact}
-use Rattle.snap_model.specs.Asks.{test_of}
+use Rattle.std.proofs.Common.{◌≡◌, ◌<◌, ◌≤◌, inr, ℕ, subst, arith, below_more}
+use Rattle.snap_model.specs.Asks.{IsNever}
 use Rattle.snap_model.proofs.Asking.{some_answer}
 use Rattle.snap_model.proofs.ask.settle.Goals as goal
 
 pub loop-num-preserved : goal.loop-num-preserved
 loop-num-preserved c =
     let none = rw c.in_default-2.is at c.in_ok-settled-2.ensures in
-    below_more (λ j. NoneMeets (length c.args.ctx.now.classes) (with_fact c.args.ctx.now.facts (test_of c.args.ask.now j) true)) c.loop-num.num c.loop-num.invariant none
+    below_more (IsNever c.args.ctx.now c.args.ask.now) c.loop-num.num c.loop-num.invariant none
 
 pub unreachable-requires : goal.unreachable-requires
 unreachable-requires c =
     let none = rw c.in-None.is at c.in_ok-settled-3.ensures in
     some_answer c.args.ctx.now c.args.ask.now c.requires c.facts-met.ensures.met
-    (below_more (λ j. NoneMeets (length c.args.ctx.now.classes) (with_fact c.args.ctx.now.facts (test_of c.args.ask.now j) true)) 18446744073709551615
+    (below_more (IsNever c.args.ctx.now c.args.ask.now) 18446744073709551615
     (λ j l. c.loop-num.invariant j (let m : 18446744073709551615 ≤ c.loop-num.num = c.loop-num-test.false in omega (arith, l, m))) none)
 
 pub returns-in-Some-2-clause-least : goal.returns-in-Some-2-clause-least

@@ -1,4 +1,4 @@
-use Rattle.std.proofs.Common.{rules, ◌≡◌, ◌≢◌, ◌∙◌, sym, ap, true, false, length, get_or, refl}
+use Rattle.std.proofs.Common.{rules, ◌≡◌, ◌≢◌, ◌∙◌, sym, ap, true, false, length, refl}
 use Rattle.snap_parse.specs.declared.tree.Policy.{out-Policy}
 use Rattle.snap_parse.specs.declared.tree.Either.{out-Either}
 use Rattle.snap_parse.proofs.Trees.{sequence_tree-out, both_tree-out}

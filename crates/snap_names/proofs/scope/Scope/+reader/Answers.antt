@@ -1,4 +1,4 @@
-use Rattle.std.proofs.Common.{rules, true, ◌∙◌, Ok, ap, sym, refl}
+use Rattle.std.proofs.Common.{rules, ◌∙◌, Ok, ap, sym, refl}
 use Rattle.std.proofs.lemmas.List.{take_all}
 use Rattle.snap_parse.specs.declared.tree.Policy.{out-Policy}
 use Rattle.snap_parse.specs.declared.tree.Either.{out-Either}
@@ -7,12 +7,12 @@ use Rattle.snap_parse.proofs.Trees.{sequence_tree-out, both_tree-out, choice_tre
 use Rattle.snap_names.specs.Core.{id_test, drop_test, filter, not_test, atomic}
 use Rattle.snap_names.specs.Parts.{itself, env_in}
 use Rattle.snap_names.specs.Senses.{after}
-use Rattle.snap_names.specs.Reading.{read_policy, read_sequence, read_sequences, read_choices, read_choice, read_either, read_both, read_single, whole, whole_test}
+use Rattle.snap_names.specs.Reading.{read_policy, read_sequence, read_sequences, read_choices, read_choice, read_either, read_both, read_single, whole, whole_test, either_as_test}
 use Rattle.snap_names.proofs.Nodes.{policy_tree-out, either_tree-out}
 use Rattle.snap_names.proofs.Readings.{HaveRead-none, HasRead-choice, HasRead-round, HasRead-operand, HasRead-leaf, operand-no_test, after-refused}
-use Rattle.snap_names.proofs.Parted.{read_test, Reads-err, Reads-same, read_either-several, read_both-several, choice-met_refused, choice-unmet_refused}
+use Rattle.snap_names.proofs.Parted.{Reads-err, Reads-same, read_either-several, read_both-several, choice-met_refused, choice-unmet_refused}
 use Rattle.snap_names.proofs.Operands.{policies, sequences, eithers, boths, alone}
-use Rattle.snap_names.proofs.Loops.{both_operand, in_policy, in_sequence, in_either, in_both, step, refused}
+use Rattle.snap_names.proofs.Loops.{in_policy, in_sequence, in_either, in_both, step, refused}
 use Rattle.snap_names.proofs.scope.Scope.+reader.Goals as goal
 
 pub policy-loop-part-init : goal.policy-loop-part-init
@@ -141,7 +141,7 @@ choice-returns-in_err-yes-in-If t c =
     (Reads-err c.args.self.now (λ e arities. read_choice e tree arities) c.args.tally.now c.policy.new.tally c.from_residual-in_err-yes-in-If.result c.in_err-yes-in-If.field-0.0 (search rules)
     (λ ne lets are.
     let e = env_in c.args.self.now lets in
-    choice-met_refused (read_test e c.in-If.test c.args.tally.now.arities.items) (read_policy e (policy_tree c.deref.result.now)) (read_choice e (choice_tree c.in-If.no.value))
+    choice-met_refused (either_as_test e (either_tree c.in-If.test) c.args.tally.now.arities.items) (read_policy e (policy_tree c.deref.result.now)) (read_choice e (choice_tree c.in-If.no.value))
     c.args.tally.now c.either_operand.new.tally c.in_ok-test-in-If.test _ (c.in_ok-test-in-If.ensures lets are) (c.in_err-yes-in-If.ensures ne lets are)))
 
 pub choice-returns-in_err-no-in-If : goal.choice-returns-in_err-no-in-If
@@ -151,7 +151,7 @@ choice-returns-in_err-no-in-If t c =
     (Reads-err c.args.self.now (λ e arities. read_choice e tree arities) c.args.tally.now c.choice.new.tally c.from_residual-in_err-no-in-If.result c.in_err-no-in-If.field-0.0 (search rules)
     (λ ne lets are.
     let e = env_in c.args.self.now lets in
-    choice-unmet_refused (read_test e c.in-If.test c.args.tally.now.arities.items) (read_policy e (policy_tree c.deref.result.now)) (read_choice e (choice_tree c.deref-in-If.result.now))
+    choice-unmet_refused (either_as_test e (either_tree c.in-If.test) c.args.tally.now.arities.items) (read_policy e (policy_tree c.deref.result.now)) (read_choice e (choice_tree c.deref-in-If.result.now))
     c.args.tally.now c.either_operand.new.tally c.policy.new.tally c.in_ok-test-in-If.test c.in_ok-yes-in-If.yes _
     (c.in_ok-test-in-If.ensures lets are) (c.in_ok-yes-in-If.ensures lets are) (c.in_err-no-in-If.ensures ne lets are)))
 
@@ -160,7 +160,7 @@ choice-returns-in_ok-joined-in-If t c =
     rw (ap choice_tree c.in-If.is ∙ choice_tree-If c.in-If.at c.in-If.test c.in-If.yes c.in-If.no ∙ ap (λ p. if_tree c.in-If.at (either_tree c.in-If.test) (policy_tree p) (choice_tree c.in-If.no.value)) (sym c.deref.ensures) ∙ ap (λ q. if_tree c.in-If.at (either_tree c.in-If.test) (policy_tree c.deref.result.now) (choice_tree q)) (sym c.deref-in-If.ensures))
     (λ lets are.
     let e = env_in c.args.self.now lets in
-    HasRead-choice (read_test e c.in-If.test c.args.tally.now.arities.items) (read_policy e (policy_tree c.deref.result.now)) (read_choice e (choice_tree c.deref-in-If.result.now))
+    HasRead-choice (either_as_test e (either_tree c.in-If.test) c.args.tally.now.arities.items) (read_policy e (policy_tree c.deref.result.now)) (read_choice e (choice_tree c.deref-in-If.result.now))
     c.args.tally.now c.either_operand.new.tally c.policy.new.tally c.choice.new.tally c.choice-in-If.new.tally c.in_ok-test-in-If.test c.in_ok-yes-in-If.yes c.in_ok-no-in-If.no c.in_ok-joined-in-If.joined
     (c.in_ok-test-in-If.ensures lets are) (c.in_ok-yes-in-If.ensures lets are) (c.in_ok-no-in-If.ensures lets are) c.in_ok-joined-in-If.ensures.arities c.in_ok-joined-in-If.ensures.nodes c.in_ok-joined-in-If.ensures.part)
 

@@ -1,4 +1,4 @@
-use Rattle.std.proofs.Common.{rules, ◌≡◌, ◌≢◌, ◌∙◌, sym, ap, length, get_or, refl}
+use Rattle.std.proofs.Common.{rules, ◌≡◌, ◌∙◌, sym, ap, refl}
 use Rattle.snap_parse.proofs.Trees.{both_tree-out}
 use Rattle.snap_names.specs.Parts.{words_of}
 use Rattle.snap_names.specs.Senses.{Kind}

@@ -1,7 +1,5 @@
-use Rattle.std.proofs.Common.{rules, ◌≡◌, ◌∙◌, sym, ap, Ok, Some, None, slice_get}
+use Rattle.std.proofs.Common.{rules, ◌≡◌, ◌∙◌, sym, ap, Some, None, slice_get}
 use Rattle.std.proofs.lemmas.Option.{slice_get-get_or, slice_get_past}
-use Rattle.snap_names.specs.Senses.{Policy, sense_of}
-use Rattle.snap_names.specs.Parts.{words_of}
 use Rattle.snap_names.specs.Reading.{is_filter_or_fault}
 use Rattle.snap_names.proofs.Named.{named-some, named-none}
 use Rattle.snap_names.proofs.scope.Scope.name_is_predicate.Goals as goal
