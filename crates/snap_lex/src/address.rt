@@ -1,7 +1,8 @@
 // Addresses: four groups of digits, joined by dots.
 
-ghost use Rattle.std.specs.Prelude.{◌≡◌, ◌↔◌, ◌++◌, ◌∷◌, ◌≤◌, ◌<◌, ◌≢◌, slice_index, ℕ, List, IsTrue, MatchOption, true, length};
+ghost use Rattle.std.specs.Prelude.{◌≡◌, ◌↔◌, ◌≤◌, ◌<◌, IsTrue, true};
 ghost use Rattle.snap_lex.specs.Lexemes.{IsAddress, HasDots, is_group, digit_of, is_digit};
+ghost use Rattle.snap_lex.specs.Scanning.{IsBehindGroup, IsFirstDot};
 
 use crate::bytes::is_digit;
 
@@ -33,18 +34,14 @@ fn is_group(bytes: &[u8]) -> bool
 
 // Where the first dot stands.
 fn dot_at(bytes: &[u8]) -> Option<usize>
-    ensures { MatchOption result
-        ((j : ℕ) → j < length bytes.now → slice_index bytes.now j ≢ 46)
-        (λ i. (i < length bytes.now) × (slice_index bytes.now i ≡ 46) × ((j : ℕ) → j < i → slice_index bytes.now j ≢ 46)) }
+    ensures { IsFirstDot bytes.now result }
 {
     bytes.iter().position(|b| *b == b'.')
 }
 
 // What stands behind a group and a dot.
 fn behind_group(bytes: &[u8]) -> Option<&[u8]>
-    ensures { MatchOption result
-        ((group rest : List ℕ) → is_group group ≡ true → bytes.now ≡ group ++ 46 ∷ rest → ⊥)
-        (λ rest. (group : List ℕ) × (is_group group ≡ true) × (bytes.now ≡ group ++ 46 ∷ rest.now)) }
+    ensures { IsBehindGroup bytes.now result }
 {
     let dot = dot_at(bytes)?;
     if is_group(&bytes[..dot]) {

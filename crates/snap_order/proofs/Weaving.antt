@@ -16,7 +16,7 @@ use Rattle.snap_net.specs.declared.flying.Flying.{Flying}
 use Rattle.snap_net.specs.Shown.{flown}
 use Rattle.snap_net.proofs.Carried.{rests_shown}
 use Rattle.snap_order.specs.declared.hand.Stepped.{Stepped}
-use Rattle.snap_order.specs.Hands.{Agrees, Part, StepsIn, StepsTo, WeavesTo, Works, idles, works, Woven, over, next, share}
+use Rattle.snap_order.specs.Hands.{Agrees, Part, StepsBy, StepsTo, WeavesTo, Works, idles, works, Woven, over, next, share}
 use Rattle.snap_order.specs.Ordered.{Ordered}
 use Rattle.snap_order.specs.Rounds.{takes}
 use Rattle.snap_order.specs.Rounds as rounds
@@ -52,7 +52,7 @@ drop_one l i y ys e = ap (λ n. drop n l) (add-one i) ∙ drop_suc l i y ys e
 -- the first step of a worker
 pub record First (t : Tables) (workers : ℕ) (p : Part) (c : Flying) (cs : List Flying) (r : Part) (x : Stepped) (xs : List Stepped) : Type 0 where
   pub part : Part
-  pub steps : StepsIn t workers c p part x.left.items x.moved
+  pub steps : StepsBy t workers c p part x
   pub rest : Works t workers part cs r xs
 
 module _ {t : Tables} {workers : ℕ} where
@@ -68,7 +68,7 @@ module _ (t : Tables) (workers : ℕ) (some_workers : 0 < workers) (busy : ℕ �
 
   -- copy i of the state steps, which is the next of its worker
   module _ (s : Ordered) (i : ℕ) (c : Flying) (cs : List Flying) (y : Copy) (ys : List Copy) (stands : drop i s.net.flying ≡ y ∷ ys) (shown : flown y ≡ c) (low : i ≤ length s.net.flying)
-      (parts : ℕ → Part) (agrees : Agrees t workers busy parts s) (mine : busy (c.at % workers) ≡ true) (q : Part) (x : Stepped) (steps : StepsIn t workers c (parts (c.at % workers)) q x.left.items x.moved) where
+      (parts : ℕ → Part) (agrees : Agrees t workers busy parts s) (mine : busy (c.at % workers) ≡ true) (q : Part) (x : Stepped) (steps : StepsBy t workers c (parts (c.at % workers)) q x) where
     abbrev j : ℕ
     j = c.at % workers
 

@@ -69,6 +69,10 @@ pub record StepsIn (t : Tables) (workers : ℕ) (c : Flying) (old new : Part) (l
   pub here : StepsHere t c (old.stores c.at) old.counts (new.stores c.at) new.counts left told
   pub away : (w : ℕ) → w % workers ≡ c.at % workers → w ≢ c.at → new.stores w ≡ old.stores w
 
+-- the same of a step that gave this
+abbrev pub StepsBy : Tables → (workers : ℕ) → Flying → (old new : Part) → Stepped → Type 0
+StepsBy t workers c old new x = StepsIn t workers c old new x.left.items x.moved
+
 -- copies step one after another
 pub data Works (t : Tables) (workers : ℕ) : Part → List Flying → Part → List Stepped → Type 0 where
   idles : {p : Part} → Works t workers p [] p []

@@ -1,8 +1,9 @@
 -- A network whose stores and copies are with its workers.
-use Rattle.std.specs.Prelude.{◌≡◌, ℕ, ◌<◌, false, List, get_or, length}
+use Rattle.std.specs.Prelude.{◌≡◌, ℕ, ◌<◌, false, List, get_or, length, map}
 use Rattle.std.specs.List.{AllZip}
 use Rattle.snap_core.specs.Cells.{Kept}
 use Rattle.snap_rows.specs.declared.tables.Tables.{Tables}
+use Rattle.snap_net.specs.declared.flying.Flying.{Flying}
 use Rattle.snap_net.specs.Shown.{Held, IsHeld}
 use Rattle.snap_order.specs.declared.job.Job.{Job}
 use Rattle.snap_order.specs.declared.lent.Lent.{Lent}
@@ -31,6 +32,15 @@ pub record IsWorked (workers : ℕ) (v : OrderedHeld) (t : Tables) (packets : �
   pub worked : AllZip (HasWorked t numbers) before given
   pub enough : (j : ℕ) (d : Job) → j < length given → (get_or given j d).is_short ≡ false
 
+-- so it is of a network whose copies stand at these switches
+abbrev pub IsWorkedAt : (workers : ℕ) → (switches : List ℕ) → Lent → OrderedHeld → Type 0
+IsWorkedAt workers switches lent v = IsWorked workers v lent.tables lent.injected lent.counts.items lent.stores.items lent.jobs.items
+    × (map (λ (c : Flying). c.at) v.net.flying ≡ switches)
+
 -- the network that is put together again, once the stores are back and the copies are woven
 abbrev pub held_again : Lent → Web → Held
 held_again lent web = record { tables = lent.tables; stores = lent.stores.items; injected = lent.injected; flying = web.flying.items }
+
+-- it is put together so, with its numbers
+abbrev pub IsHeldAgain : Lent → Web → OrderedHeld → Type 0
+IsHeldAgain lent web v = (v.net ≡ held_again lent web) × (v.counts ≡ lent.counts.items)

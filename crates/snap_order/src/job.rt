@@ -2,7 +2,7 @@
 
 ghost use Rattle.std.specs.Prelude.{◌≡◌, ◌<◌, ◌/◌, IfOk, OnOk, length};
 ghost use Rattle.snap_rows.specs.Entries.{ranks};
-ghost use Rattle.snap_order.specs.Hands.{InPlace, IsTwo, StepsIn, part_of};
+ghost use Rattle.snap_order.specs.Hands.{InPlace, IsTwo, StepsBy, part_of};
 ghost use Rattle.snap_order.specs.Jobs.{HasWorked, IsJob, WorkedOn};
 
 use crate::gate::Gate;
@@ -94,7 +94,7 @@ fn step_in(
     requires counts { length counts.old.items ≡ ranks tables.now }
     requires place { InPlace tables.now copy }
     ensures long { OnOk result (length stores.new.items ≡ length stores.old.items) }
-    ensures steps { IfOk result (λ stepped. StepsIn tables.now workers copy (part_of workers stores.old.items counts.old.items) (part_of workers stores.new.items counts.new.items) stepped.left.items stepped.moved) }
+    ensures steps { IfOk result (StepsBy tables.now workers copy (part_of workers stores.old.items counts.old.items) (part_of workers stores.new.items counts.new.items)) }
 {
     let place = (copy.at / workers) as usize;
     step_here(alloc, tables, &mut stores[place], counts, copy)

@@ -1,12 +1,11 @@
 //! A network whose stores and copies are with its workers.
 
-ghost use Rattle.std.specs.Prelude.{◌≡◌, ◌<◌, ℕ, IfOk, false, get_or, length, map};
+ghost use Rattle.std.specs.Prelude.{◌≡◌, ◌<◌, ℕ, IfOk, false, get_or, length};
 ghost use Rattle.std.specs.List.{AllZip};
-ghost use Rattle.snap_net.specs.declared.flying.Flying.{Flying};
 ghost use Rattle.snap_net.specs.Shown.{IsHeld};
 ghost use Rattle.snap_order.specs.declared.job.Job.{Job};
 ghost use Rattle.snap_order.specs.Jobs.{AreReady, HasWorked};
-ghost use Rattle.snap_order.specs.Lending.{IsLent, IsWorked, held_again};
+ghost use Rattle.snap_order.specs.Lending.{IsLent, held_again, IsHeldAgain, IsWorkedAt};
 ghost use Rattle.snap_order.specs.Rounding.{IsRoundDone};
 ghost use Rattle.snap_order.specs.Shown.{IsOrderedHeld, OrderedHeld};
 
@@ -108,8 +107,8 @@ pub(crate) fn settle(
     switches: &[u16],
 ) -> Result<Rounded, NoMemory>
     requires workers { 0 < workers }
-    requires worked { (v : OrderedHeld) × IsWorked workers v lent.tables lent.injected lent.counts.items lent.stores.items lent.jobs.items × (map (λ (c : Flying). c.at) v.net.flying ≡ switches.now) }
-    ensures done { IfOk result (λ rounded. (v : OrderedHeld) → IsWorked workers v lent.tables lent.injected lent.counts.items lent.stores.items lent.jobs.items → map (λ (c : Flying). c.at) v.net.flying ≡ switches.now → IsRoundDone v rounded.net rounded.done.items) }
+    requires worked { (v : OrderedHeld) × IsWorkedAt workers switches.now lent v }
+    ensures done { IfOk result (λ rounded. (v : OrderedHeld) → IsWorkedAt workers switches.now lent v → IsRoundDone v rounded.net rounded.done.items) }
     ensures tables { IfOk result (λ rounded. rounded.net.net.tables ≡ lent.tables) }
     ensures injected { IfOk result (λ rounded. rounded.net.net.injected ≡ lent.injected) }
 {
@@ -127,10 +126,10 @@ pub(crate) fn settle(
 // with it the network can be put together, and the round is made.
 fn gather(alloc: Global, lent: &mut Lent, workers: u16, switches: &[u16]) -> Result<Web, NoMemory>
     requires workers { 0 < workers }
-    requires worked { (v : OrderedHeld) × IsWorked workers v lent.old.tables lent.old.injected lent.old.counts.items lent.old.stores.items lent.old.jobs.items × (map (λ (c : Flying). c.at) v.net.flying ≡ switches.now) }
+    requires worked { (v : OrderedHeld) × IsWorkedAt workers switches.now lent.old v }
     ensures held { IfOk result (λ web. IsHeld (held_again lent.new web)) }
     ensures ordered { IfOk result (λ web. IsOrderedHeld (record { net = held_again lent.new web; counts = lent.new.counts.items })) }
-    ensures done { IfOk result (λ web. (v : OrderedHeld) → IsWorked workers v lent.old.tables lent.old.injected lent.old.counts.items lent.old.stores.items lent.old.jobs.items → map (λ (c : Flying). c.at) v.net.flying ≡ switches.now → (new : OrderedHeld) → new.net ≡ held_again lent.new web → new.counts ≡ lent.new.counts.items → IsRoundDone v new web.done.items) }
+    ensures done { IfOk result (λ web. (v new : OrderedHeld) → IsWorkedAt workers switches.now lent.old v → IsHeldAgain lent.new web new → IsRoundDone v new web.done.items) }
     ensures tables { lent.new.tables ≡ lent.old.tables }
     ensures injected { lent.new.injected ≡ lent.old.injected }
 {
@@ -144,7 +143,7 @@ fn gather(alloc: Global, lent: &mut Lent, workers: u16, switches: &[u16]) -> Res
 fn rejoin(alloc: Global, lent: Lent, web: Web) -> Result<Rounded, NoMemory>
     requires held { IsHeld (held_again lent web) }
     requires ordered { IsOrderedHeld (record { net = held_again lent web; counts = lent.counts.items }) }
-    ensures { IfOk result (λ rounded. (rounded.net.net ≡ held_again lent web) × (rounded.net.counts ≡ lent.counts.items) × (rounded.done.items ≡ web.done.items)) }
+    ensures { IfOk result (λ rounded. IsHeldAgain lent web rounded.net × (rounded.done.items ≡ web.done.items)) }
 {
     let Lent {
         tables,

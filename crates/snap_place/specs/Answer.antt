@@ -1,14 +1,15 @@
 -- What is answered for the text of a placement: its first fault, or the owners.
-use Rattle.std.specs.Prelude.{◌≡◌, ◌<◌, ℕ, Bool, false, not, List, All, length, map, find, is_none, Option, Some, None, Result, Ok, Err, MatchResult}
+use Rattle.std.specs.Prelude.{◌≡◌, ◌≢◌, ◌<◌, ℕ, Bool, true, false, not, List, All, length, map, find, is_none, Option, Some, None, Result, Ok, Err, MatchOption, MatchResult, Vec}
 use Rattle.std.specs.List.{list_any, position_from}
 use Rattle.std.specs.Map.{lookup}
 use Rattle.std.specs.Str.{bytes_eq}
+use Rattle.std.specs.declared.alloc.Global.{Global}
 use Rattle.snap_core.specs.declared.program.Program.{Program}
 use Rattle.snap_dep.specs.Dependencies.{Tied}
 use Rattle.snap_topo.specs.declared.topology.Topology.{Topology}
 use Rattle.snap_topo.specs.Spells.{document, is_switch, number_of}
 use Rattle.snap_place.specs.declared.placement.PlaceFault.{PlaceFault}
-use Rattle.snap_place.specs.declared.placement.PlaceFault.TheVariants.{NoVariable, Missing, NoSwitch}
+use Rattle.snap_place.specs.declared.placement.PlaceFault.TheVariants.{NoVariable, Missing, NoSwitch, NoMemory}
 use Rattle.snap_place.specs.Shape.{entries_of}
 use Rattle.snap_place.specs.Together.{IsTogether, TellsApart}
 
@@ -26,6 +27,11 @@ is_at_switch switches None = false
 abbrev pub owner_at : List (List ℕ) → Option (List ℕ) → ℕ
 owner_at switches (Some place) = number_of switches place
 owner_at switches None = 0
+
+-- the number of the switch at which something is placed, if it is one
+abbrev pub IsOwner : List (List ℕ) → Option (List ℕ) → Option ℕ → Type 0
+IsOwner switches place owner = MatchOption owner (is_at_switch switches place ≡ false)
+    (λ n. (is_at_switch switches place ≡ true) × (n ≡ owner_at switches place))
 
 -- the first placed name that is no variable
 abbrev pub no_variable : List (List ℕ) → List (List ℕ × List ℕ) → Option (List ℕ × List ℕ)
@@ -64,6 +70,10 @@ VariableThen tied vars switches entries None r = MissingThen tied vars switches 
 -- what is answered for the entries of a document
 abbrev pub IsAnswerFor : (ℕ → ℕ → Type 0) → List (List ℕ) → List (List ℕ) → List (List ℕ × List ℕ) → Result (List ℕ) PlaceFault → Type 0
 IsAnswerFor tied vars switches entries r = VariableThen tied vars switches entries (no_variable vars entries) r
+
+-- the owners or a fault are answered so, memory aside
+abbrev pub Answers : (Result (List ℕ) PlaceFault → Type 0) → Result (Vec ℕ Global) PlaceFault → Type 0
+Answers P r = MatchResult r (λ owned. P (Ok owned.items)) (λ e. e ≢ NoMemory → P (Err e))
 
 abbrev pub ShapeThen : (ℕ → ℕ → Type 0) → List (List ℕ) → List (List ℕ)
     → Result (List (List ℕ × List ℕ)) PlaceFault → Result (List ℕ) PlaceFault → Type 0

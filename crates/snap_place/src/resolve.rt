@@ -1,9 +1,8 @@
 //! The switches of the variables, by number.
 
-ghost use Rattle.std.specs.Prelude.{◌≡◌, ◌≢◌, ◌≤◌, ◌^◌, Err, IfErr, IfOk, IsSomeAnd, MatchOption, MatchResult, None, Ok, OnOk, false, length, true};
+ghost use Rattle.std.specs.Prelude.{◌≡◌, ◌≢◌, ◌≤◌, ◌^◌, IfErr, IfOk, IsSomeAnd, None, OnOk, Some, length};
 ghost use Rattle.std.specs.Option.{option_copied};
-ghost use Rattle.snap_topo.specs.Spells.{is_switch, number_of};
-ghost use Rattle.snap_place.specs.Answer.{IsAnswerFor, is_at_switch, missing, no_switch, no_variable, owner_at, owners, place_of};
+ghost use Rattle.snap_place.specs.Answer.{Answers, IsAnswerFor, IsOwner, missing, no_switch, no_variable, owners, place_of};
 ghost use Rattle.snap_place.specs.Texts.{entry_texts};
 ghost use Rattle.snap_place.specs.Together.{TiedBy};
 
@@ -64,7 +63,7 @@ fn placed(entries: &[(String, String)], vars: &[Name]) -> Result<(), PlaceFault>
 /// The number of a switch.
 fn switch_number(switches: &[Name], name: &[u8]) -> Option<u16>
     requires { length switches.now ≤ 2 ^ 16 }
-    ensures { MatchOption result (is_switch switches.now name.now ≡ false) (λ n. (is_switch switches.now name.now ≡ true) × (n ≡ number_of switches.now name.now)) }
+    ensures { IsOwner switches.now (Some name.now) result }
 {
     for (at, switch) in switches.iter().enumerate() {
         if name == switch.items() {
@@ -77,8 +76,7 @@ fn switch_number(switches: &[Name], name: &[u8]) -> Option<u16>
 /// The number of the switch at which a variable is placed.
 fn owner(entries: &[(String, String)], switches: &[Name], name: &[u8]) -> Option<u16>
     requires { length switches.now ≤ 2 ^ 16 }
-    ensures { MatchOption result (is_at_switch switches.now (place_of (entry_texts entries.now) name.now) ≡ false)
-        (λ n. (is_at_switch switches.now (place_of (entry_texts entries.now) name.now) ≡ true) × (n ≡ owner_at switches.now (place_of (entry_texts entries.now) name.now))) }
+    ensures { IsOwner switches.now (place_of (entry_texts entries.now) name.now) result }
 {
     match place_of(entries, name) {
         Some(place) => switch_number(switches, place),
@@ -119,8 +117,7 @@ pub(crate) fn resolve(
     requires count { length groups.now.ranks ≡ length vars.now }
     requires vars { length vars.now ≤ 64 }
     requires switches { length switches.now ≤ 2 ^ 16 }
-    ensures { MatchResult result (λ owned. IsAnswerFor (TiedBy groups.now) vars.now switches.now (entry_texts entries.now) (Ok owned.items))
-        (λ e. e ≢ PlaceFault.NoMemory → IsAnswerFor (TiedBy groups.now) vars.now switches.now (entry_texts entries.now) (Err e)) }
+    ensures { Answers (IsAnswerFor (TiedBy groups.now) vars.now switches.now (entry_texts entries.now)) result }
 {
     known(alloc, entries, vars)?;
     placed(entries, vars)?;

@@ -5,6 +5,7 @@ use Rattle.hex.specs.Hex.{encode_lower}
 use Rattle.snap_rows.specs.declared.tables.Tables.{Tables}
 use Rattle.snap_rows.specs.declared.head.Head.{Head}
 use Rattle.snap_rows.specs.Network.{Happening}
+use Rattle.snap_rows.specs.Ways.{Way}
 use Rattle.snap_head.specs.Frames.{frame}
 use Rattle.snap_runs.specs.declared.frames.Frames.{Frames}
 use Rattle.snap_runs.specs.declared.tally.Tally.{Tally}
@@ -32,6 +33,10 @@ link_of from to = concat (codes "hop " ∷ from ∷ codes " " ∷ to ∷ codes "
 abbrev pub way_text : List (List ℕ) → (digits : List ℕ) → ℕ → List ℕ → List ℕ
 way_text switches digits w [] = []
 way_text switches digits w (v ∷ vs) = line_text switches digits w v ++ way_text switches digits v vs
+
+-- the lines of the links along next hops to a switch were put
+abbrev pub PutsWay : Tables → (digits : List ℕ) → (from to : ℕ) → (before after : List ℕ) → Type 0
+PutsWay t digits from to before after = (ws : List ℕ) → Way t to from ws → after ≡ before ++ way_text t.switches digits from ws
 
 -- the lines of crossings
 abbrev pub crossing_lines : Frames → List (List ℕ) → List Happening → List ℕ

@@ -1,6 +1,7 @@
 -- How far the run of a schedule has come.
-use Rattle.std.specs.Prelude.{◌≡◌, ℕ, ◌+◌, ◌<◌, Bool, true, false, List, [], ◌∷◌, ◌++◌, map, length, reverse, slice_get, slice_index, IsSome, Some, Result, Ok, Err}
+use Rattle.std.specs.Prelude.{◌≡◌, ℕ, ◌+◌, ◌<◌, Bool, true, false, List, [], ◌∷◌, ◌++◌, map, length, reverse, slice_get, slice_index, IsSome, Some, Result, Ok, Err, MatchResult, Vec}
 use Rattle.std.specs.List.{All, concat}
+use Rattle.std.specs.declared.alloc.Global.{Global}
 use Rattle.snap_core.specs.declared.program.Field.{Field}
 use Rattle.snap_io.specs.declared.read.ReadRefusal.{ReadRefusal}
 use Rattle.snap_io.specs.declared.read.ReadRefusal.TheVariants as refusal
@@ -15,6 +16,7 @@ use Rattle.snap_runs.specs.declared.frames.Frames.{Frames}
 use Rattle.snap_runs.specs.declared.frames.Frames.TheVariants.{Plain}
 use Rattle.snap_runs.specs.declared.play.Play.{Play}
 use Rattle.snap_runs.specs.declared.ready.Ready.{Ready}
+use Rattle.snap_runs.specs.declared.schedule.Orders.{Orders}
 use Rattle.snap_runs.specs.declared.schedule.ScheduleFault.{ScheduleFault}
 use Rattle.snap_runs.specs.declared.schedule.ScheduleFault.TheVariants.{Packets, Read, TooLong, Line, Write, NoMemory}
 use Rattle.snap_runs.specs.declared.tally.Tally.{Tally}
@@ -24,7 +26,7 @@ use Rattle.snap_trace.specs.declared.line.Line.{Line as Read_line}
 use Rattle.snap_trace.specs.declared.line.Line.TheVariants as read
 use Rattle.snap_trace.specs.Spelled.{ended, refused}
 use Rattle.snap_runs.specs.Plain.{spelled_for}
-use Rattle.snap_runs.specs.Schedules.{CantBeDone, IsReadWhole, Obeys, RefusesLine, RefusesPackets, RefusesScheduleLine, lines_of, order_by}
+use Rattle.snap_runs.specs.Schedules.{CantBeDone, HasScheduleReport, IsReadWhole, IsScheduleReport, Obeys, RefusesLine, RefusesPackets, RefusesScheduleLine, lines_of, order_by}
 use Rattle.snap_rows.specs.Happenings.{number_of}
 use Rattle.snap_runs.specs.Tallies.{IsBlockText, IsTally, Notes, delivered_by, lost_by, owner_by}
 
@@ -129,6 +131,15 @@ StopsBy Refuses Write = ⊥
 abbrev pub Stops : Tables → (ks lines : List (List ℕ)) → ScheduleFault → Type 0
 Stops t ks lines fault = StopsBy (RefusesLine t ks lines) fault
 
+-- the report of the run that lines tell, or why there is none
+abbrev pub Reports : Tables → (hops : Bool) → (ks lines : List (List ℕ)) → Result (Vec ℕ Global) ScheduleFault → Type 0
+Reports t hops ks lines r = MatchResult r (λ text. IsScheduleReport t hops ks lines text.items) (Stops t ks lines)
+
+-- the report of each run after which nothing is left
+abbrev pub IsReportOf : Play → (text : List ℕ) → Type 0
+IsReportOf v text = (t : Tables) (hops : Bool) (ks lines : List (List ℕ)) → Plays t hops ks lines v
+    → v.waiting.items ≡ [] → v.net.flying ≡ [] → IsScheduleReport t hops ks lines text
+
 -- all lines were done and nothing is left, or not
 abbrev pub HasRun : Tables → (hops : Bool) → (ks lines : List (List ℕ)) → (new : Play) → Result (Unit {0}) ScheduleFault → Type 0
 HasRun t hops ks lines new (Ok u) = Plays t hops ks lines new × (new.waiting.items ≡ []) × (new.net.flying ≡ [])
@@ -152,6 +163,10 @@ RefusesBy Refuses t file schedule Write = ⊥
 abbrev pub Refuses : Tables → (file schedule : List ℕ) → ScheduleFault → Type 0
 Refuses t file schedule fault = RefusesBy (RefusesScheduleLine t file schedule) t file schedule fault
 
+-- the report of a packets file and a schedule, or why there is none
+abbrev pub ReportsFiles : Tables → (hops : Bool) → (file schedule : List ℕ) → Result (Vec ℕ Global) ScheduleFault → Type 0
+ReportsFiles t hops file schedule r = MatchResult r (λ text. HasScheduleReport t hops file schedule text.items) (Refuses t file schedule)
+
 -- the blocks of packets were put, one after another, as their tallies tell them
 pub record PutsBlocks (fields : List Field) (ys : List Tally) (before after : List ℕ) : Type 0 where
   pub each : List (List ℕ)
@@ -170,6 +185,11 @@ pub record SoPut (fields : List Field) (ys left : List Tally) (number : ℕ) (be
 -- these are the packets of a file that was read to its end
 abbrev pub AreAll : Tables → (file : List ℕ) → List Ready → Type 0
 AreAll t file rs = spelled_for t file ≡ record { packets = packets_in rs; stop = ended }
+
+-- they and the schedule were read, or it is told why not
+abbrev pub ReadsFiles : Tables → (file schedule : List ℕ) → Result Orders ScheduleFault → Type 0
+ReadsFiles t file schedule r = MatchResult r
+    (λ orders. AreAll t file orders.packets.items × (orders.text.items ≡ schedule)) (Refuses t file schedule)
 
 -- these are the packets before what stops the file
 abbrev pub AreBefore : Tables → (file : List ℕ) → List Ready → TraceFault → Type 0

@@ -30,6 +30,10 @@ pub record IsTraced (f : Frames) (t : Tables) (hops : Bool) (i : ℕ) (y : Tally
   pub told : IsTold i sent lost hs
   pub lines : y.hops.items ≡ hops_text f t hops i hs
 
+-- a tracer has told this of a packet
+abbrev pub Traces : (old new : Tracer) → (sent : List (List ℕ)) → (lost : ℕ) → List Happening → Type 0
+Traces old new sent lost hs = IsTraced old.frames old.net.tables old.hops old.net.injected new.tally sent lost hs
+
 -- a packet was injected with nothing in flight, all its copies have come to rest, and its block stands behind the text
 pub record HasTaken (f : Frames) (t : Tables) (hops : Bool) (port : ℕ)
     (k : List ℕ) (s : Net) (new : Held) (before after : List ℕ) : Type 0 where

@@ -30,8 +30,7 @@ pub(crate) struct Tail {
 impl Tail {
     ghost use Rattle.std.specs.Prelude.{ℕ, List};
     ghost use Rattle.snap_rows.specs.Form.{switch_count};
-    ghost use Rattle.snap_rows.specs.Ways.{Way};
-    ghost use Rattle.snap_runs.specs.Crossings.{digits_of, way_text};
+    ghost use Rattle.snap_runs.specs.Crossings.{PutsWay, digits_of};
     ghost use Rattle.snap_runs.specs.Links.{tail_text};
     ghost use Rattle.snap_runs.specs.Tallies.{name_in};
 
@@ -107,8 +106,7 @@ impl Tail {
     ) -> Result<(), NoMemory>
         requires from { from < switch_count tables.now }
         requires to { to < switch_count tables.now }
-        ensures { OnOk result ((digits ws : List ℕ) → tail_text self.old ≡ digits ++ codes "\n" → Way tables.now to from ws
-            → out.new.items ≡ out.old.items ++ way_text tables.now.switches digits from ws) }
+        ensures { OnOk result ((digits : List ℕ) → tail_text self.old ≡ digits ++ codes "\n" → PutsWay tables.now digits from to out.old.items out.new.items) }
     {
         let switches = &tables.tables().switches;
         let mut at = from;

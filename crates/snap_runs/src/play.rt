@@ -1,12 +1,12 @@
 //! A run of the network in the order of a schedule.
 
-ghost use Rattle.std.specs.Prelude.{◌≡◌, ◌≤◌, ◌<◌, ◌+◌, ◌^◌, ◌++◌, ◌∷◌, [], ℕ, List, Bool, Some, true, false, length, reverse, slice_get, IfOk, OnOk, IfSome, MatchOption, MatchResult, if◌then◌else◌};
+ghost use Rattle.std.specs.Prelude.{◌≡◌, ◌≤◌, ◌<◌, ◌+◌, ◌^◌, ◌++◌, ◌∷◌, [], ℕ, List, Bool, Some, true, false, length, reverse, slice_get, IfOk, OnOk, IfSome, MatchOption, if◌then◌else◌};
 ghost use Rattle.std.specs.List.{All};
 ghost use Rattle.snap_core.specs.Fields.{count};
 ghost use Rattle.snap_rows.specs.declared.tables.Tables.{Tables};
-ghost use Rattle.snap_runs.specs.Playing.{HasDone, HasNoted, HasObeyed, HasRun, HasStepped, IsFresh, IsLong, IsPlaying, IsReady, Plays, PutsBlocks, Stops, packets_in};
+ghost use Rattle.snap_runs.specs.Playing.{HasDone, HasNoted, HasObeyed, HasRun, HasStepped, IsFresh, IsLong, IsPlaying, IsReady, Plays, PutsBlocks, packets_in, Reports, IsReportOf};
 ghost use Rattle.snap_net.specs.declared.flying.Flying.{Flying};
-ghost use Rattle.snap_runs.specs.Schedules.{IsScheduleReport, lines_of};
+ghost use Rattle.snap_runs.specs.Schedules.{lines_of};
 ghost use Rattle.snap_runs.specs.Tallies.{IsThere, line_after, owner_by};
 ghost use Rattle.snap_runs.specs.declared.event.Order.TheVariants.{Inject as Injects, Step as Steps};
 
@@ -90,7 +90,7 @@ impl Play {
         requires injected { self.old.net.injected ≡ 0 }
         requires few { length schedule.now ≤ 67108864 }
         ensures { (t : Tables) (hops : Bool) (ks : List (List ℕ)) → Plays t hops ks [] self.old
-            → MatchResult result (λ text. IsScheduleReport t hops ks (lines_of schedule.now) text.items) (Stops t ks (lines_of schedule.now)) }
+            → Reports t hops ks (lines_of schedule.now) result }
     {
         match self.run(schedule) {
             Ok(()) => {}
@@ -103,8 +103,7 @@ impl Play {
     fn report(&mut self) -> Result<Vec<u8>, NoMemory>
         requires playing { IsPlaying self.old }
         requires few { self.old.net.injected ≤ 67108864 }
-        ensures { IfOk result (λ text. (t : Tables) (hops : Bool) (ks lines : List (List ℕ)) → Plays t hops ks lines self.old → self.old.waiting.items ≡ [] → self.old.net.flying ≡ []
-            → IsScheduleReport t hops ks lines text.items) }
+        ensures { IfOk result (λ text. IsReportOf self.old text.items) }
     {
         let mut out = Vec::new(self.alloc);
         put_each(&mut out, fields_of(&self.net), &mut self.tallies)?;

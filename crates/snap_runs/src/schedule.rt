@@ -1,11 +1,11 @@
 //! The run of tables over a packets file, in the order of a schedule.
 
-ghost use Rattle.std.specs.Prelude.{◌≡◌, ◌≤◌, ℕ, length, IfOk, IfSome, IsErrOf, MatchResult};
+ghost use Rattle.std.specs.Prelude.{◌≡◌, ◌≤◌, ℕ, length, IfOk, IfSome, IsErrOf};
 ghost use Rattle.snap_io.specs.Causes.{NoneFell, Rose};
 ghost use Rattle.snap_io.specs.Files.{file_of};
 ghost use Rattle.std.specs.List.{All};
-ghost use Rattle.snap_runs.specs.Playing.{AreAll, IsReady, Refuses, Stops, packets_in, schedule_refusal};
-ghost use Rattle.snap_runs.specs.Schedules.{HasScheduleReport, IsScheduleReport, WritesSchedule, lines_of};
+ghost use Rattle.snap_runs.specs.Playing.{IsReady, packets_in, schedule_refusal, Reports, ReportsFiles, ReadsFiles};
+ghost use Rattle.snap_runs.specs.Schedules.{WritesSchedule, lines_of};
 ghost use Rattle.snap_runs.specs.declared.schedule.ScheduleFault.TheVariants as fault;
 
 use crate::play::Play;
@@ -118,9 +118,7 @@ fn report_of<S: Shelf>(
     tables: Valid,
     hops: bool,
 ) -> Result<Vec<u8>, ScheduleFault>
-    ensures report { IfSome (S.files shelf.old) (λ files. MatchResult result
-        (λ text. HasScheduleReport tables hops (file_of files packets.now) (file_of files schedule.now) text.items)
-        (Refuses tables (file_of files packets.now) (file_of files schedule.now))) }
+    ensures report { IfSome (S.files shelf.old) (λ files. ReportsFiles tables hops (file_of files packets.now) (file_of files schedule.now) result) }
     ensures no_write { IsErrOf result (ScheduleFault.Packets TraceFault.Write) → ⊥ }
     ensures none_written { IsErrOf result ScheduleFault.Write → ⊥ }
     ensures read_packets { IsErrOf result (ScheduleFault.Packets TraceFault.Read) → Rose (S.faults shelf.old packets.now) (S.faults shelf.new packets.now) }
@@ -144,9 +142,7 @@ fn read_both<S: Shelf>(
     schedule: &[u8],
     tables: &Valid,
 ) -> Result<Orders, ScheduleFault>
-    ensures both { IfSome (S.files shelf.old) (λ files. MatchResult result
-        (λ orders. AreAll tables.now (file_of files packets.now) orders.packets.items × (orders.text.items ≡ file_of files schedule.now))
-        (Refuses tables.now (file_of files packets.now) (file_of files schedule.now))) }
+    ensures both { IfSome (S.files shelf.old) (λ files. ReadsFiles tables.now (file_of files packets.now) (file_of files schedule.now) result) }
     ensures ready { IfOk result (λ orders. All (IsReady tables.now) orders.packets.items) }
     ensures few { IfOk result (λ orders. length orders.text.items ≤ 67108864) }
     ensures no_write { IsErrOf result (ScheduleFault.Packets TraceFault.Write) → ⊥ }
@@ -188,7 +184,7 @@ fn played(
 ) -> Result<Vec<u8>, ScheduleFault>
     requires ready { All (IsReady tables) packets.items }
     requires few { length schedule.now ≤ 67108864 }
-    ensures { MatchResult result (λ text. IsScheduleReport tables hops (packets_in packets.items) (lines_of schedule.now) text.items) (Stops tables (packets_in packets.items) (lines_of schedule.now)) }
+    ensures { Reports tables hops (packets_in packets.items) (lines_of schedule.now) result }
 {
     let mut play = Play::new(alloc, tables, hops, packets)?;
     play.run_out(schedule)

@@ -1,13 +1,12 @@
 //! What is noted of one packet while its copies are in flight.
 
-ghost use Rattle.std.specs.Prelude.{◌≡◌, ◌<◌, ◌≤◌, ◌+◌, ◌++◌, [], ◌∷◌, ℕ, List, drop, length, slice_get, IfSome, OnOk};
+ghost use Rattle.std.specs.Prelude.{◌≡◌, ◌<◌, ◌≤◌, ◌+◌, ◌++◌, [], ◌∷◌, drop, length, slice_get, IfSome, OnOk};
 ghost use Rattle.std.specs.List.{All};
 ghost use Rattle.std.specs.List.Sorted.{IsPermutation, IsSorted};
 ghost use Rattle.snap_core.specs.Fields.{count};
 ghost use Rattle.snap_core.specs.Packets.{packet_cmp};
 ghost use Rattle.snap_rows.specs.Form.{switch_count};
-ghost use Rattle.snap_rows.specs.Ways.{Way};
-ghost use Rattle.snap_runs.specs.Crossings.{digits_of, line_text, way_text};
+ghost use Rattle.snap_runs.specs.Crossings.{PutsWay, digits_of, line_text};
 ghost use Rattle.snap_runs.specs.Reports.{packet_line};
 ghost use Rattle.snap_trace.specs.Reports.{out_lines, lost_line};
 ghost use Rattle.snap_runs.specs.Tallies.{delivered_by, IsBlockText, IsThere, line_after, line_of, lost_by, packets_sent, PutsBlock};
@@ -145,7 +144,7 @@ impl Tally {
         requires from { from < switch_count tables.now }
         requires to { to < switch_count tables.now }
         ensures frames { self.new.frames ≡ self.old.frames }
-        ensures lines { OnOk result ((ws : List ℕ) → Way tables.now to from ws → self.new.hops.items ≡ self.old.hops.items ++ way_text tables.now.switches (digits_of self.old.frames number head packet.now) from ws) }
+        ensures lines { OnOk result (PutsWay tables.now (digits_of self.old.frames number head packet.now) from to self.old.hops.items self.new.hops.items) }
     {
         if from == to {
             return Ok(());

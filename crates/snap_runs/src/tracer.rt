@@ -37,7 +37,7 @@ pub struct Tracer {
 }
 
 impl Tracer {
-    ghost use Rattle.snap_runs.specs.Tracing.{IsTraced, TakesPacket, changed};
+    ghost use Rattle.snap_runs.specs.Tracing.{TakesPacket, Traces, changed};
 
     /// Before the first packet. With `hops` a line of the report tells each link that a copy crosses, by a frame of this
     /// kind. Refuses for memory alone.
@@ -137,7 +137,7 @@ impl Tracer {
         requires packet { length packet.old ≡ comps self.old.net.tables }
         requires port { slice_index packet.old 0 ≡ port }
         requires room { self.old.net.injected < 2 ^ 63 }
-        ensures passes { IfOk result (λ passed. Passes port packet.old self.old.net self.new.net (IsTraced self.old.frames self.old.net.tables self.old.hops self.old.net.injected self.new.tally (sent_in packet.new passed) (lost_in passed))) }
+        ensures passes { IfOk result (λ passed. Passes port packet.old self.old.net self.new.net (Traces self.old self.new (sent_in packet.new passed) (lost_in passed))) }
         ensures sent { IfOk result (λ passed. All (λ k. length k ≡ comps self.old.net.tables) (sent_in packet.new passed)) }
         ensures long { length packet.new ≡ length packet.old }
         ensures tables { self.new.net.tables ≡ self.old.net.tables }

@@ -18,12 +18,12 @@ use Rattle.snap_topo.specs.declared.topology.Topology.{Topology}
 use Rattle.snap_topo.specs.Spells.{document}
 use Rattle.snap_seek.specs.declared.demand.Demand.{Demand}
 use Rattle.snap_seek.specs.declared.demand.DemandFault.{DemandFault}
-use Rattle.snap_seek.specs.declared.demand.DemandFault.TheVariants.{NotToml, Shape, Limit, NoPort, NoVariable, NoSwitch, Nowhere, NoMemory}
+use Rattle.snap_seek.specs.declared.demand.DemandFault.TheVariants.{Limit, NoPort, NoVariable, NoSwitch, Nowhere, NoMemory}
 use Rattle.snap_seek.specs.declared.demand.Flow.{Flow}
 use Rattle.snap_seek.specs.declared.demand.TheConstants.{MOST_DEMANDS}
-use Rattle.snap_seek.specs.Answer.{GroupMay, IsDemandOf, Lists, PlacesThen, TellsLeast, TellsLeastOf, TellsNowhere, ends, first_fault, may, named, no_port, no_switch, no_variable, too_many}
-use Rattle.snap_seek.specs.Faults.{ArePlaces, TellsPlaces}
-use Rattle.snap_seek.specs.Marks.{GroupMarked, mark_at}
+use Rattle.snap_seek.specs.Answer.{GroupMay, IsAnswerFor, IsDemandOf, Lists, PlacesThen, TellsLeast, TellsLeastOf, TellsNowhere, ends, first_fault, named, no_port, no_switch, no_variable, too_many}
+use Rattle.snap_seek.specs.Faults.{ArePlaces, FindsPlaces, TellsPlaces}
+use Rattle.snap_seek.specs.Marks.{AreMarks, GroupMarked}
 use Rattle.snap_seek.specs.Placements.{HasPorts, IsDemand, places_of}
 use Rattle.snap_seek.specs.Shape.{Spelled, spelled}
 use Rattle.snap_seek.proofs.Documents.{least}
@@ -32,7 +32,7 @@ use Rattle.snap_seek.proofs.Marking.{Lists-by, Entries}
 -- ---- marks stand for where arrays may stand
 
 module _ (g : Grouping) (vars switches : List (List ℕ)) (entries : Entries) (marks : List (List Bool)) (count : length marks ≡ length vars)
-    (each : (v : ℕ) → v < length vars → (at : ℕ) → at < length switches → mark_at marks v at ≡ may switches entries (slice_index_or vars v []) at) where
+    (each : AreMarks (length switches) switches vars entries marks) where
   group-may : (v at : ℕ) → at < length switches → GroupMarked g marks v at ↔ GroupMay g vars switches entries v at
   group-may v at lt = ((λ h u low same. sym (each u low at lt) ∙ h u (omega arith) same), (λ h u low same. each u (omega arith) at lt ∙ h u (omega arith) same))
 
@@ -57,15 +57,15 @@ module _ (g : Grouping) (vars switches : List (List ℕ)) (entries : Entries) (m
 
 -- what all places are, or what is told, by the marks as they were seen
 pub places-then : (g : Grouping) (vars switches : List (List ℕ)) (entries : Entries) (marks seen : List (List Bool)) → seen ≡ marks → length marks ≡ length vars
-    → ((v : ℕ) → v < length vars → (at : ℕ) → at < length switches → mark_at marks v at ≡ may switches entries (slice_index_or vars v []) at) → no_switch switches vars entries ≡ None
+    → AreMarks (length switches) switches vars entries marks → no_switch switches vars entries ≡ None
     → (r : Result (Vec (List ℕ) Global) DemandFault) → IfOk r (λ all. length all.items ≡ length seen) → IfOk r (λ all. (v : ℕ) → v < length seen → Lists (GroupMarked g seen v) (length switches) (slice_index_or all.items v []))
     → IfOk r (λ all. (v : ℕ) → v < length seen → slice_index_or all.items v [] ≢ []) → IfErr r (λ e. e ≢ NoMemory → TellsNowhere (GroupMarked g seen) (length seen) (length switches) e)
-    → MatchResult r (λ all. (no_switch switches vars entries ≡ None) × ArePlaces g vars switches entries all.items) (λ e. e ≢ NoMemory → TellsPlaces g vars switches entries (no_switch switches vars entries) e)
+    → FindsPlaces g vars switches entries r
 places-then g vars switches entries marks seen same count each none (Ok all) long lists some told =
-    let each' = subst (λ (ms : List (List Bool)). (v : ℕ) → v < length vars → (at : ℕ) → at < length switches → mark_at ms v at ≡ may switches entries (slice_index_or vars v []) at) (sym same) each in
+    let each' = subst (AreMarks (length switches) switches vars entries) (sym same) each in
     (none, are-places g vars switches entries seen (ap (λ (ms : List (List Bool)). length ms) same ∙ count) each' all.items long lists some)
 places-then g vars switches entries marks seen same count each none (Err e) long lists some told = λ memory.
-    let each' = subst (λ (ms : List (List Bool)). (v : ℕ) → v < length vars → (at : ℕ) → at < length switches → mark_at ms v at ≡ may switches entries (slice_index_or vars v []) at) (sym same) each in
+    let each' = subst (AreMarks (length switches) switches vars entries) (sym same) each in
     tells-places g vars switches entries seen (ap (λ (ms : List (List Bool)). length ms) same ∙ count) each' (no_switch switches vars entries) e none (told memory)
 
 -- ---- a name that is told is the least
@@ -107,7 +107,7 @@ told-variable ports switches vars s name is =
     variable-named (find (is_unknown vars) (keys_of s.allowed)) name here
 
 told-least : (g : Grouping) (vars switches : List (List ℕ)) (ports : List PortAt) (s : Spelled) (e : DemandFault) → IsStrictlySortedBy (slice_cmp nat_cmp) (keys_of s.allowed)
-    → (e ≢ NoMemory → PlacesThen g vars switches s (first_fault ports switches vars s) (Err e)) → TellsLeastOf vars s.allowed e
+    → (e ≢ NoMemory → IsAnswerFor g ports vars switches s (Err e)) → TellsLeastOf vars s.allowed e
 told-least g vars switches ports s (NoVariable name) rise is =
     least (is_unknown vars) (keys_of s.allowed) name rise (told-variable ports switches vars s name (fault-told g vars switches s (first_fault ports switches vars s) name (is (λ e. cc))))
 told-least g vars switches ports s _ rise is = tt
@@ -119,7 +119,7 @@ same-ok : {x y : Spelled} → spelled-ok x ≡ spelled-ok y → x ≡ y
 same-ok e = cc
 
 pub least-of : (g : Grouping) (vars names switches : List (List ℕ)) (ports : List PortAt) (s : Spelled) (text : List ℕ) (P : Demand → Type 0) (r : Result Demand DemandFault) → names ≡ vars → spelled (document text) ≡ Ok s → IsStrictlySortedBy (slice_cmp nat_cmp) (keys_of s.allowed)
-    → MatchResult r P (λ e. e ≢ NoMemory → PlacesThen g names switches s (first_fault ports switches names s) (Err e)) → IfErr r (TellsLeast vars text)
+    → MatchResult r P (λ e. e ≢ NoMemory → IsAnswerFor g ports names switches s (Err e)) → IfErr r (TellsLeast vars text)
 least-of g vars names switches ports s text P (Ok d) same shape rise h = tt
 least-of g vars names switches ports s text P (Err e) same shape rise h = λ other found.
     let equal : s ≡ other = same-ok (sym shape ∙ found) in
@@ -180,11 +180,11 @@ ok-none g vars switches s (Some e) demand h = cc
 ok-none g vars switches s None demand h = (refl, h)
 
 pub demand-read : (g : Grouping) (vars names switches : List (List ℕ)) (topology : Topology) (ports : List PortAt) (s : Spelled) (Q : DemandFault → Type 0) (r : Result Demand DemandFault) → length g.ranks ≡ length vars → names ≡ vars → switches ≡ topology.switches → ports ≡ topology.ports
-    → MatchResult r (λ d. PlacesThen g names switches s (first_fault ports switches names s) (Ok d)) Q → IfOk r (IsDemand g topology)
+    → MatchResult r (λ d. IsAnswerFor g ports names switches s (Ok d)) Q → IfOk r (IsDemand g topology)
 demand-read g vars names switches topology ports s Q (Ok d) count same there at h =
-    let a = subst (λ (ns : List (List ℕ)). PlacesThen g ns switches s (first_fault ports switches ns s) (Ok d)) same h in
-    let b = subst (λ (sw : List (List ℕ)). PlacesThen g vars sw s (first_fault ports sw vars s) (Ok d)) there a in
-    let e = subst (λ (ps : List PortAt). PlacesThen g vars topology.switches s (first_fault ps topology.switches vars s) (Ok d)) at b in
+    let a = subst (λ (ns : List (List ℕ)). IsAnswerFor g ports ns switches s (Ok d)) same h in
+    let b = subst (λ (sw : List (List ℕ)). IsAnswerFor g ports vars sw s (Ok d)) there a in
+    let e = subst (λ (ps : List PortAt). IsAnswerFor g ps vars topology.switches s (Ok d)) at b in
     let parts = ok-none g vars topology.switches s (first_fault topology.ports topology.switches vars s) d e in
     demand-is g vars topology s d count parts.0 parts.1
 demand-read g vars names switches topology ports s Q (Err e) count same there at h = tt

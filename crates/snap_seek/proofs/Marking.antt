@@ -1,5 +1,5 @@
 -- Names looked up and marked, and the switches at which groups may stand.
-use Rattle.std.proofs.Common.{◌≡◌, ◌≢◌, ◌∙◌, ◌↔◌, inl, inr, ℕ, ◌+◌, ◌<◌, Bool, true, false, not, cond, ◌||◌, ◌==◌, List, [], ◌∷◌, ◌++◌, append_assoc, length, find, take, drop, set, get_or, position, string_bytes, is_some, option_map, unwrap_or, Option, Some, None, MatchOption, IfSome, refl, sym, ap, subst, arith, String, Global, Vec, slice_index_or}
+use Rattle.std.proofs.Common.{◌≡◌, ◌≢◌, ◌∙◌, ◌↔◌, inl, inr, ℕ, ◌+◌, ◌<◌, Bool, true, false, not, cond, ◌||◌, ◌==◌, List, [], ◌∷◌, ◌++◌, append_assoc, length, find, take, drop, set, get_or, position, string_bytes, is_some, option_map, Option, Some, None, IfSome, refl, sym, ap, subst, arith, String, Global, Vec, slice_index_or}
 use Rattle.std.specs.List.{AllByRecursion, Contains, IsDistinct, list_any, position_or_len}
 use Rattle.std.specs.List.Sorted.{IsStrictlySortedBy}
 use Rattle.std.specs.Cmp.{nat_cmp_is}
@@ -13,12 +13,12 @@ use Rattle.std.proofs.lemmas.List.{drop_more, get_or-map, get_or-set_other, get_
 use Rattle.std.proofs.lemmas.List.Elements.{All-contains, All-contains_itself, All-from_recursion, All-push, All-weaker, Contains-append_left, Contains-append_right, Contains-push, Contains-push_cases, recursion_from_All}
 use Rattle.std.proofs.lemmas.List.Folds.{find-append, list_any_more}
 use Rattle.std.proofs.Math.Bool.{or-false, or-true}
-use Rattle.snap_topo.specs.Answer.{is_unknown}
+use Rattle.snap_topo.specs.Answer.{AreKnown, is_unknown}
 use Rattle.snap_topo.specs.Listing.{string_texts}
 use Rattle.snap_topo.specs.Spells.{is_switch, number_of}
 use Rattle.snap_seek.specs.declared.demand.DemandFault.{DemandFault}
 use Rattle.snap_seek.specs.declared.demand.DemandFault.TheVariants.{NoSwitch}
-use Rattle.snap_seek.specs.Answer.{Lists, entry_for, named, no_switch}
+use Rattle.snap_seek.specs.Answer.{IsNumber, Lists, named, names_for, no_switch}
 use Rattle.snap_seek.specs.Listing.{key_texts}
 use Rattle.snap_route.proofs.Joined.{Contains-nil}
 use Rattle.snap_topo.proofs.NumberLemmas.{Some-cond}
@@ -38,7 +38,7 @@ number_of-keys name (k ∷ keys) = ap (λ (n : ℕ). cond (not (bytes_eq name k.
 
 -- what a look-up in a set of names says
 pub number-of : (name : List ℕ) (keys : List (Vec ℕ Global)) (r : Option ℕ) → r ≡ position (is_text name) keys → is_some r ≡ list_any (is_text name) keys → IfSome r (λ i. i < length keys)
-    → MatchOption r (is_switch (key_texts keys) name ≡ false) (λ n. (n < length (key_texts keys)) × (is_switch (key_texts keys) name ≡ true) × (n ≡ number_of (key_texts keys) name))
+    → IsNumber (key_texts keys) name r
 number-of name keys (Some i) is found within =
     let size = length-map keys (λ (k : Vec ℕ Global). k.items) in
     ((omega arith), is_switch-keys name keys ∙ sym found, Some-cond _ _ i is ∙ sym (number_of-keys name keys))
@@ -106,9 +106,6 @@ known-more switches names i x text lt is same known =
 abbrev pub Entries : Type 0
 Entries = List (List ℕ × List (List ℕ))
 
-abbrev names_for : Entries → List ℕ → List (List ℕ)
-names_for entries name = unwrap_or (entry_for entries name) []
-
 first-some : (o p : Option (List ℕ)) (e : DemandFault) → option_map (λ name. NoSwitch name) o ≡ Some e → option_map (λ name. NoSwitch name) (option_or o p) ≡ Some e
 first-some (Some x) p e is = is
 first-some None p e is = cc
@@ -122,7 +119,7 @@ no_switch-parts switches vars entries name rest more =
     ap (λ (vs : List (List ℕ)). no_switch switches vs entries) more ∙ ap (λ (o : Option (List ℕ)). option_map (λ n. NoSwitch n) o) (find-append (is_unknown switches) (names_for entries name) (named rest entries))
 
 -- one more variable, whose switches are known
-pub variable-known : (switches vars : List (List ℕ)) (entries : Entries) (i : ℕ) (x name : List ℕ) → i < length vars → x ≡ get_or vars i x → name ≡ x → find (is_unknown switches) (names_for entries name) ≡ None
+pub variable-known : (switches vars : List (List ℕ)) (entries : Entries) (i : ℕ) (x name : List ℕ) → i < length vars → x ≡ get_or vars i x → name ≡ x → AreKnown switches (names_for entries name)
     → no_switch switches (drop (i + 1) vars) entries ≡ no_switch switches (drop i vars) entries
 variable-known switches vars entries i x name lt is same known =
     sym (no_switch-parts switches (drop i vars) entries name (drop (i + 1) vars) (vars-left vars i x name lt is same)

@@ -1,5 +1,5 @@
 -- What is answered for the text of a demand: its first fault, or the demand.
-use Rattle.std.specs.Prelude.{◌≡◌, ◌≢◌, ◌<◌, ◌↔◌, ◌==◌, ℕ, Bool, true, List, [], ◌∷◌, All, Contains, length, find, Option, Some, None, is_none, option_map, unwrap_or, if◌then◌else◌, nat_lt, Result, Ok, Err, MatchResult, slice_index_or}
+use Rattle.std.specs.Prelude.{◌≡◌, ◌≢◌, ◌<◌, ◌↔◌, ◌==◌, ℕ, Bool, true, false, List, [], ◌∷◌, All, Contains, length, find, Option, Some, None, is_none, option_map, unwrap_or, if◌then◌else◌, nat_lt, Result, Ok, Err, MatchOption, MatchResult, slice_index_or}
 use Rattle.std.specs.List.{flat_map, list_any}
 use Rattle.std.specs.List.Sorted.{IsStrictlySortedBy}
 use Rattle.std.specs.Map.{keys_of, lookup}
@@ -13,12 +13,12 @@ use Rattle.snap_core.specs.declared.program.Program.{Program}
 use Rattle.snap_core.specs.declared.program.Which.TheVariants.{Demands}
 use Rattle.snap_core.specs.Ports.{port_in}
 use Rattle.snap_dep.specs.Ranks.{Grouping, rank_of}
-use Rattle.snap_topo.specs.Answer.{is_unknown}
+use Rattle.snap_topo.specs.Answer.{AreKnown, is_unknown}
 use Rattle.snap_topo.specs.declared.topology.Topology.{Topology}
-use Rattle.snap_topo.specs.Spells.{document, number_of}
+use Rattle.snap_topo.specs.Spells.{document, is_switch, number_of}
 use Rattle.snap_seek.specs.declared.demand.Demand.{Demand}
 use Rattle.snap_seek.specs.declared.demand.DemandFault.{DemandFault}
-use Rattle.snap_seek.specs.declared.demand.DemandFault.TheVariants.{Limit, NoPort, NoVariable, NoSwitch, Nowhere}
+use Rattle.snap_seek.specs.declared.demand.DemandFault.TheVariants.{Limit, NoPort, NoVariable, NoSwitch, Nowhere, NoMemory}
 use Rattle.snap_seek.specs.declared.demand.Flow.{Flow}
 use Rattle.snap_seek.specs.declared.demand.TheConstants.{MOST_DEMANDS}
 use Rattle.snap_seek.specs.Placements.{places_of}
@@ -43,6 +43,10 @@ no_variable vars entries = option_map (λ name. NoVariable name) (find (is_unkno
 abbrev pub entry_for : List (List ℕ × List (List ℕ)) → List ℕ → Option (List (List ℕ))
 entry_for entries name = lookup (bytes_eq name) entries
 
+-- the same, none without an entry
+abbrev pub names_for : List (List ℕ × List (List ℕ)) → List ℕ → List (List ℕ)
+names_for entries name = unwrap_or (entry_for entries name) []
+
 -- all switch names, by variable and then as read
 abbrev pub named : List (List ℕ) → List (List ℕ × List (List ℕ)) → List (List ℕ)
 named vars entries = flat_map (λ name. unwrap_or (entry_for entries name) []) vars
@@ -50,6 +54,20 @@ named vars entries = flat_map (λ name. unwrap_or (entry_for entries name) []) v
 -- the first of them that is no switch
 abbrev pub no_switch : List (List ℕ) → List (List ℕ) → List (List ℕ × List (List ℕ)) → Option DemandFault
 no_switch switches vars entries = option_map (λ name. NoSwitch name) (find (is_unknown switches) (named vars entries))
+
+-- the number of a name among those of switches, if it is there
+abbrev pub IsNumber : (switches : List (List ℕ)) → (name : List ℕ) → Option ℕ → Type 0
+IsNumber switches name number = MatchOption number (is_switch switches name ≡ false)
+    (λ n. (n < length switches) × (is_switch switches name ≡ true) × (n ≡ number_of switches name))
+
+-- names are all those of switches, or the first that is none is told, memory aside
+abbrev pub KnowsAll : {X : Type 0} → (switches names : List (List ℕ)) → Result X DemandFault → Type 0
+KnowsAll switches names r = MatchResult r (λ _. AreKnown switches names)
+    (λ e. e ≢ NoMemory → option_map (λ name. NoSwitch name) (find (is_unknown switches) names) ≡ Some e)
+
+-- this fault is told where it is one, memory aside
+abbrev pub Tells : {X : Type 0} → Option DemandFault → Result X DemandFault → Type 0
+Tells fault r = MatchResult r (λ _. fault ≡ None) (λ e. e ≢ NoMemory → fault ≡ Some e)
 
 -- the first of these faults
 abbrev pub first_fault : List PortAt → List (List ℕ) → List (List ℕ) → Spelled → Option DemandFault
@@ -96,6 +114,14 @@ abbrev pub PlacesThen : Grouping → List (List ℕ) → List (List ℕ) → Spe
 PlacesThen g vars switches s (Some e) r = r ≡ Err e
 PlacesThen g vars switches s None r = MatchResult r (IsDemandOf g vars switches s)
     (TellsNowhere (GroupMay g vars switches s.allowed) (length vars) (length switches))
+
+-- what is answered for what a document spells
+abbrev pub IsAnswerFor : Grouping → List PortAt → List (List ℕ) → List (List ℕ) → Spelled → Result Demand DemandFault → Type 0
+IsAnswerFor g ports vars switches s r = PlacesThen g vars switches s (first_fault ports switches vars s) r
+
+-- the demand or a fault is answered so, memory aside
+abbrev pub Answers : (Result Demand DemandFault → Type 0) → Result Demand DemandFault → Type 0
+Answers P r = MatchResult r (λ d. P (Ok d)) (λ e. e ≢ NoMemory → P (Err e))
 
 abbrev pub SpelledThen : Program → Grouping → Topology → Result Spelled DemandFault → Result Demand DemandFault → Type 0
 SpelledThen program g topology (Ok s) r = PlacesThen g program.vars topology.switches s

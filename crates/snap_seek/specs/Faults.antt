@@ -1,11 +1,14 @@
 -- The faults of a listing, part by part, and the switches of its demand.
-use Rattle.std.specs.Prelude.{◌≡◌, ◌≢◌, ◌<◌, ℕ, List, [], length, Option, Some, None, slice_index_or}
+use Rattle.std.specs.Prelude.{◌≡◌, ◌≢◌, ◌<◌, ℕ, List, [], length, Option, Some, None, Result, Ok, Err, MatchResult, Vec, slice_index_or}
 use Rattle.std.specs.Option.{option_or}
+use Rattle.std.specs.declared.alloc.Global.{Global}
 use Rattle.snap_core.specs.declared.ports.PortAt.{PortAt}
 use Rattle.snap_dep.specs.Ranks.{Grouping}
+use Rattle.snap_seek.specs.declared.demand.Demand.{Demand}
 use Rattle.snap_seek.specs.declared.demand.DemandFault.{DemandFault}
+use Rattle.snap_seek.specs.declared.demand.DemandFault.TheVariants.{NoMemory}
 use Rattle.snap_seek.specs.declared.demand.Flow.{Flow}
-use Rattle.snap_seek.specs.Answer.{GroupMay, Lists, TellsNowhere, no_port, no_variable, too_many}
+use Rattle.snap_seek.specs.Answer.{GroupMay, Lists, TellsNowhere, no_port, no_switch, no_variable, too_many}
 
 -- the first fault of flows and entries, where the last one is that of the switch names
 abbrev pub fault_before : List PortAt → List (List ℕ) → List Flow → List (List ℕ × List (List ℕ)) → Option DemandFault → Option DemandFault
@@ -17,6 +20,12 @@ pub record IsKnown (ports : List PortAt) (vars : List (List ℕ)) (flows : List 
   pub few : too_many flows ≡ None
   pub there : no_port ports flows ≡ None
   pub names : no_variable vars entries ≡ None
+
+-- they are known, or their first fault is told, memory aside
+abbrev pub KnowsParts : {X : Type 0} → List PortAt → (vars : List (List ℕ)) → List Flow
+    → List (List ℕ × List (List ℕ)) → Result X DemandFault → Type 0
+KnowsParts ports vars flows entries r = MatchResult r (λ _. IsKnown ports vars flows entries)
+    (λ e. e ≢ NoMemory → (last : Option DemandFault) → fault_before ports vars flows entries last ≡ Some e)
 
 -- for each variable the switches at which its group may stand, at least one
 pub record ArePlaces (g : Grouping) (vars switches : List (List ℕ))
@@ -30,3 +39,15 @@ abbrev pub TellsPlaces : Grouping → List (List ℕ) → List (List ℕ)
     → List (List ℕ × List (List ℕ)) → Option DemandFault → DemandFault → Type 0
 TellsPlaces g vars switches entries (Some fault) e = fault ≡ e
 TellsPlaces g vars switches entries None e = TellsNowhere (GroupMay g vars switches entries) (length vars) (length switches) e
+
+-- these switches are found, or it is told why there are none, memory aside
+abbrev pub FindsPlaces : Grouping → (vars switches : List (List ℕ))
+    → List (List ℕ × List (List ℕ)) → Result (Vec (List ℕ) Global) DemandFault → Type 0
+FindsPlaces g vars switches entries r = MatchResult r
+    (λ all. (no_switch switches vars entries ≡ None) × ArePlaces g vars switches entries all.items)
+    (λ e. e ≢ NoMemory → TellsPlaces g vars switches entries (no_switch switches vars entries) e)
+
+-- the demand of these flows and the switches that are found, or a fault, is answered so, memory aside
+abbrev pub AnswersWith : List Flow → (Result Demand DemandFault → Type 0) → Result (Vec (List ℕ) Global) DemandFault → Type 0
+AnswersWith flows P r = MatchResult r (λ all. (d : Demand) → d.flows ≡ flows → d.allowed ≡ all.items → P (Ok d))
+    (λ e. e ≢ NoMemory → P (Err e))

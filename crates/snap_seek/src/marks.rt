@@ -1,16 +1,13 @@
 //! Where arrays may stand, as marks of switches.
 
-ghost use Rattle.std.specs.Prelude.{◌≡◌, ◌≢◌, ◌==◌, ◌<◌, ◌≤◌, ◌^◌, ℕ, Err, IfErr, IfOk, MatchBool, MatchOption, MatchResult, None, Some, [], false, true, find, length, option_map, slice_index_or, unwrap_or};
+ghost use Rattle.std.specs.Prelude.{◌≡◌, ◌≢◌, ◌==◌, ◌<◌, ◌≤◌, ◌^◌, ℕ, Err, IfErr, IfOk, MatchBool, None, Some, [], false, true, length, option_map, slice_index_or};
 ghost use Rattle.std.specs.List.{IsDistinct, list_any};
-ghost use Rattle.std.specs.Option.{option_copied};
 ghost use Rattle.std.specs.Str.{bytes_eq};
-ghost use Rattle.indexmap.specs.IndexSet.{index_set_len};
-ghost use Rattle.snap_topo.specs.Answer.{is_unknown};
 ghost use Rattle.snap_topo.specs.Listing.{string_texts};
-ghost use Rattle.snap_topo.specs.Spells.{is_switch, number_of};
-ghost use Rattle.snap_seek.specs.Answer.{Lists, TellsNowhere, entry_for, may, no_switch};
+ghost use Rattle.snap_topo.specs.Spells.{number_of};
+ghost use Rattle.snap_seek.specs.Answer.{Lists, TellsNowhere, entry_for, may, no_switch, IsNumber, KnowsAll, Tells, names_for};
 ghost use Rattle.snap_seek.specs.Listing.{entry_texts, key_texts};
-ghost use Rattle.snap_seek.specs.Marks.{GroupMarked, mark_at};
+ghost use Rattle.snap_seek.specs.Marks.{GroupMarked, AreMarks};
 
 use crate::demand::{DemandFault, Switches};
 use crate::listing::Entry;
@@ -64,8 +61,7 @@ pub(crate) fn numbers_of(alloc: Global, switches: &[Name]) -> Result<IndexSet<Ve
 
 /// The number of a switch.
 fn number(numbers: &IndexSet<Vec<u8>>, name: &[u8]) -> Option<usize>
-    ensures { MatchOption result (is_switch (key_texts numbers.now.keys) name.now ≡ false)
-        (λ n. (n < length (key_texts numbers.now.keys)) × (is_switch (key_texts numbers.now.keys) name.now ≡ true) × (n ≡ number_of (key_texts numbers.now.keys) name.now)) }
+    ensures { IsNumber (key_texts numbers.now.keys) name.now result }
 {
     numbers.get_index_of(name)
 }
@@ -80,8 +76,7 @@ fn marked(
     requires { length (key_texts numbers.now.keys) ≡ count }
     ensures count { IfOk result (λ marks. length marks.items ≡ count) }
     ensures marks { IfOk result (λ marks. (at : ℕ) → at < count → slice_index_or marks.items at false ≡ list_any (λ name. number_of (key_texts numbers.now.keys) name == at) (string_texts names.now)) }
-    ensures fault { MatchResult result (λ _. find (is_unknown (key_texts numbers.now.keys)) (string_texts names.now) ≡ None)
-        (λ e. e ≢ DemandFault.NoMemory → option_map (λ name. DemandFault.NoSwitch name) (find (is_unknown (key_texts numbers.now.keys)) (string_texts names.now)) ≡ Some e) }
+    ensures fault { KnowsAll (key_texts numbers.now.keys) (string_texts names.now) result }
 {
     let mut marks = vec![in alloc; false; count]?;
     for name in names {
@@ -118,8 +113,7 @@ fn marks_for(
     requires { length (key_texts numbers.now.keys) ≡ count }
     ensures count { IfOk result (λ marks. length marks.items ≡ count) }
     ensures marks { IfOk result (λ marks. (at : ℕ) → at < count → slice_index_or marks.items at false ≡ may (key_texts numbers.now.keys) (entry_texts entries.now) name.now at) }
-    ensures fault { MatchResult result (λ _. find (is_unknown (key_texts numbers.now.keys)) (unwrap_or (entry_for (entry_texts entries.now) name.now) []) ≡ None)
-        (λ e. e ≢ DemandFault.NoMemory → option_map (λ n. DemandFault.NoSwitch n) (find (is_unknown (key_texts numbers.now.keys)) (unwrap_or (entry_for (entry_texts entries.now) name.now) [])) ≡ Some e) }
+    ensures fault { KnowsAll (key_texts numbers.now.keys) (names_for (entry_texts entries.now) name.now) result }
 {
     match entry_for(entries, name) {
         Some(names) => marked(alloc, numbers, names, count),
@@ -138,9 +132,8 @@ pub(crate) fn all_marks(
     requires { length (key_texts numbers.now.keys) ≡ count }
     ensures count { IfOk result (λ marks. length marks.items ≡ length vars.now) }
     ensures widths { IfOk result (λ marks. (v : ℕ) → v < length vars.now → length (slice_index_or marks.items v []) ≡ count) }
-    ensures marks { IfOk result (λ marks. (v : ℕ) → v < length vars.now → (at : ℕ) → at < count → mark_at marks.items v at ≡ may (key_texts numbers.now.keys) (entry_texts entries.now) (slice_index_or vars.now v []) at) }
-    ensures fault { MatchResult result (λ _. no_switch (key_texts numbers.now.keys) vars.now (entry_texts entries.now) ≡ None)
-        (λ e. e ≢ DemandFault.NoMemory → no_switch (key_texts numbers.now.keys) vars.now (entry_texts entries.now) ≡ Some e) }
+    ensures marks { IfOk result (λ marks. AreMarks count (key_texts numbers.now.keys) vars.now (entry_texts entries.now) marks.items) }
+    ensures fault { Tells (no_switch (key_texts numbers.now.keys) vars.now (entry_texts entries.now)) result }
 {
     let mut marks = Vec::new(alloc);
     for name in vars {

@@ -1,9 +1,9 @@
 //! From a text to its demand.
 
-ghost use Rattle.std.specs.Prelude.{◌≢◌, Err, IfErr, IfOk, MatchResult, Ok, length};
+ghost use Rattle.std.specs.Prelude.{IfErr, IfOk, length};
 ghost use Rattle.snap_dep.specs.Ranks.{IsGrouping};
 ghost use Rattle.snap_topo.specs.Form.{IsInForm};
-ghost use Rattle.snap_seek.specs.Answer.{IsAnswer, TellsLeast};
+ghost use Rattle.snap_seek.specs.Answer.{IsAnswer, TellsLeast, Answers};
 ghost use Rattle.snap_seek.specs.Placements.{IsDemand};
 
 use crate::demand::{Demand, DemandFault};
@@ -29,8 +29,7 @@ pub fn read_demand(
 ) -> Result<Demand, DemandFault>
     requires groups { IsGrouping program.now.body (length program.now.vars) groups.now }
     requires form { IsInForm topology.now }
-    ensures answer { MatchResult result (λ d. IsAnswer program.now groups.now topology.now text.now (Ok d))
-        (λ e. e ≢ DemandFault.NoMemory → IsAnswer program.now groups.now topology.now text.now (Err e)) }
+    ensures answer { Answers (IsAnswer program.now groups.now topology.now text.now) result }
     ensures least { IfErr result (TellsLeast program.now.vars text.now) }
     ensures demand { IfOk result (IsDemand groups.now topology.now) }
 {

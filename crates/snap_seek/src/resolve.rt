@@ -1,6 +1,6 @@
 //! The demand of a listing, or its first fault.
 
-ghost use Rattle.std.specs.Prelude.{◌≡◌, ◌≢◌, ◌<◌, ◌≤◌, ◌^◌, ℕ, Err, IfOk, MatchResult, None, Ok, Option, Some, [], length, map, slice_index_or};
+ghost use Rattle.std.specs.Prelude.{◌≡◌, ◌<◌, ◌≤◌, ◌^◌, ℕ, Err, IfOk, MatchResult, None, Ok, Some, [], length, map, slice_index_or};
 ghost use Rattle.std.specs.List.{IsDistinct};
 ghost use Rattle.std.specs.List.Sorted.{IsStrictlySortedBy};
 ghost use Rattle.std.specs.Ordering.{nat_cmp};
@@ -8,10 +8,10 @@ ghost use Rattle.std.specs.Str.{bytes_eq};
 ghost use Rattle.snap_core.specs.declared.ports.PortAt.{PortAt};
 ghost use Rattle.snap_seek.specs.declared.demand.Demand.{Demand};
 ghost use Rattle.snap_seek.specs.declared.demand.DemandFault.{DemandFault};
-ghost use Rattle.snap_seek.specs.Answer.{PlacesThen, first_fault, may, no_port, no_switch, no_variable, too_many};
-ghost use Rattle.snap_seek.specs.Faults.{ArePlaces, IsKnown, TellsPlaces, fault_before};
+ghost use Rattle.snap_seek.specs.Answer.{no_port, no_switch, no_variable, too_many, Answers, IsAnswerFor, Tells};
+ghost use Rattle.snap_seek.specs.Faults.{AnswersWith, FindsPlaces, KnowsParts};
 ghost use Rattle.snap_seek.specs.Listing.{entry_texts, spelled_by};
-ghost use Rattle.snap_seek.specs.Marks.{mark_at};
+ghost use Rattle.snap_seek.specs.Marks.{AreMarks};
 
 use crate::demand::{Allowed, Demand, DemandFault, Flow, Flows, MOST_DEMANDS, Switches};
 use crate::listing::{Entry, Listing};
@@ -56,8 +56,7 @@ fn known_ports(ports: &[PortAt], flows: &[Flow]) -> Result<(), DemandFault>
 
 /// Refuses a name that is no array.
 fn known_names(alloc: Global, vars: &[Name], entries: &[Entry]) -> Result<(), DemandFault>
-    ensures { MatchResult result (λ _. no_variable vars.now (entry_texts entries.now) ≡ None)
-        (λ e. e ≢ DemandFault.NoMemory → no_variable vars.now (entry_texts entries.now) ≡ Some e) }
+    ensures { Tells (no_variable vars.now (entry_texts entries.now)) result }
 {
     for entry in entries {
         if !is_among(vars, entry.name.as_bytes()) {
@@ -78,8 +77,7 @@ fn all_known(
     ports: &[PortAt],
 ) -> Result<(), DemandFault>
     requires { IsStrictlySortedBy nat_cmp (map (λ (p : PortAt). p.port) ports.now) }
-    ensures { MatchResult result (λ _. IsKnown ports.now vars.now flows.now (entry_texts entries.now))
-        (λ e. e ≢ DemandFault.NoMemory → (last : Option DemandFault) → fault_before ports.now vars.now flows.now (entry_texts entries.now) last ≡ Some e) }
+    ensures { KnowsParts ports.now vars.now flows.now (entry_texts entries.now) result }
 {
     within_limit(flows)?;
     known_ports(ports, flows)?;
@@ -96,9 +94,8 @@ fn marks_of(
     requires { IsDistinct bytes_eq switches.now }
     ensures count { IfOk result (λ marks. length marks.items ≡ length vars.now) }
     ensures widths { IfOk result (λ marks. (v : ℕ) → v < length vars.now → length (slice_index_or marks.items v []) ≡ length switches.now) }
-    ensures marks { IfOk result (λ marks. (v : ℕ) → v < length vars.now → (at : ℕ) → at < length switches.now → mark_at marks.items v at ≡ may switches.now (entry_texts entries.now) (slice_index_or vars.now v []) at) }
-    ensures fault { MatchResult result (λ _. no_switch switches.now vars.now (entry_texts entries.now) ≡ None)
-        (λ e. e ≢ DemandFault.NoMemory → no_switch switches.now vars.now (entry_texts entries.now) ≡ Some e) }
+    ensures marks { IfOk result (λ marks. AreMarks (length switches.now) switches.now vars.now (entry_texts entries.now) marks.items) }
+    ensures fault { Tells (no_switch switches.now vars.now (entry_texts entries.now)) result }
 {
     let numbers = numbers_of(alloc, switches)?;
     all_marks(alloc, &numbers, entries, vars, switches.len())
@@ -115,8 +112,7 @@ fn places_of(
     requires names { IsDistinct bytes_eq switches.now }
     requires switches { length switches.now ≤ 2 ^ 8 }
     requires count { length groups.now.ranks ≡ length vars.now }
-    ensures { MatchResult result (λ all. (no_switch switches.now vars.now (entry_texts entries.now) ≡ None) × ArePlaces groups.now vars.now switches.now (entry_texts entries.now) all.items)
-        (λ e. e ≢ DemandFault.NoMemory → TellsPlaces groups.now vars.now switches.now (entry_texts entries.now) (no_switch switches.now vars.now (entry_texts entries.now)) e) }
+    ensures { FindsPlaces groups.now vars.now switches.now (entry_texts entries.now) result }
 {
     let marks = marks_of(alloc, entries, vars, switches)?;
     all_places(alloc, groups, &marks, switches.len())
@@ -135,8 +131,7 @@ fn places_for(
     requires names { IsDistinct bytes_eq switches.now }
     requires switches { length switches.now ≤ 2 ^ 8 }
     requires count { length groups.now.ranks ≡ length vars.now }
-    ensures { MatchResult result (λ all. (d : Demand) → d.flows ≡ listing.now.flows.items → d.allowed ≡ all.items → PlacesThen groups.now vars.now switches.now (spelled_by listing.now) (first_fault ports.now switches.now vars.now (spelled_by listing.now)) (Ok d))
-        (λ e. e ≢ DemandFault.NoMemory → PlacesThen groups.now vars.now switches.now (spelled_by listing.now) (first_fault ports.now switches.now vars.now (spelled_by listing.now)) (Err e)) }
+    ensures { AnswersWith listing.now.flows.items (IsAnswerFor groups.now ports.now vars.now switches.now (spelled_by listing.now)) result }
 {
     let flows = listing.flows.as_slice();
     let entries = listing.allowed.as_slice();
@@ -157,8 +152,7 @@ pub(crate) fn resolve(
     requires names { IsDistinct bytes_eq switches.now }
     requires switches { length switches.now ≤ 2 ^ 8 }
     requires count { length groups.now.ranks ≡ length vars.now }
-    ensures { MatchResult result (λ d. PlacesThen groups.now vars.now switches.now (spelled_by listing) (first_fault ports.now switches.now vars.now (spelled_by listing)) (Ok d))
-        (λ e. e ≢ DemandFault.NoMemory → PlacesThen groups.now vars.now switches.now (spelled_by listing) (first_fault ports.now switches.now vars.now (spelled_by listing)) (Err e)) }
+    ensures { Answers (IsAnswerFor groups.now ports.now vars.now switches.now (spelled_by listing)) result }
 {
     let places = places_for(alloc, &listing, vars, groups, switches, ports)?;
     Ok(Demand {

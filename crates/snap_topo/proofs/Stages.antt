@@ -2,12 +2,12 @@
 use Rattle.std.proofs.Common.{◌≡◌, ◌∙◌, ℕ, List, Option, Some, None, Result, Ok, Err, find, map, sym, ap, subst, IsSomeAnd, flat_map}
 use Rattle.std.specs.Option.{option_or}
 use Rattle.std.proofs.lemmas.List.Folds.{find-append}
-use Rattle.snap_topo.specs.Answer.{Which, too_many, first_repeat, first_unknown, is_unknown, KnownThen, DifferentThen, WithinThen, IsTopologyOf}
+use Rattle.snap_topo.specs.Answer.{AreKnown, IsAnswerFor, TellsUnknown, Which, too_many, first_repeat, first_unknown, is_unknown, KnownThen, DifferentThen, WithinThen, IsTopologyOf}
 use Rattle.snap_topo.specs.Spells.{Topology, ends, port_name}
 use Rattle.snap_topo.specs.Shape.{TopoFault, Unknown, Spelled}
 
 -- once the counts are within the limits and the switches differ
-pub within-different : (s : Spelled) (r : Result Topology TopoFault) → too_many s ≡ None → first_repeat s.switches ≡ None → KnownThen s (first_unknown s) r → WithinThen s (too_many s) r
+pub within-different : (s : Spelled) (r : Result Topology TopoFault) → too_many s ≡ None → first_repeat s.switches ≡ None → KnownThen s (first_unknown s) r → IsAnswerFor s r
 within-different s r few different known =
     subst (λ (o : Option (Which × ℕ)). WithinThen s o r) (sym few) (subst (λ (o : Option (List ℕ)). DifferentThen s o r) (sym different) known)
 
@@ -27,26 +27,26 @@ first_unknown-parts s = find-append (is_unknown s.switches) (flat_map ends s.lin
 
 -- an unknown name in the links
 pub unknown-links : (s : Spelled) (names : List (List ℕ)) (e : TopoFault) → names ≡ s.switches → too_many s ≡ None → first_repeat s.switches ≡ None
-    → IsSomeAnd (find (is_unknown names) (flat_map ends s.links)) (λ name. e ≡ Unknown name) → WithinThen s (too_many s) (Err e)
+    → TellsUnknown names (flat_map ends s.links) e → IsAnswerFor s (Err e)
 unknown-links s names e same few different is =
-    let here = subst (λ (ns : List (List ℕ)). IsSomeAnd (find (is_unknown ns) (flat_map ends s.links)) (λ name. e ≡ Unknown name)) same is in
+    let here = subst (λ (ns : List (List ℕ)). TellsUnknown ns (flat_map ends s.links) e) same is in
     within-different s (Err e) few different (refused s (first_unknown s) e
     (subst (λ (o : Option (List ℕ)). IsSomeAnd o (λ name. e ≡ Unknown name)) (sym (first_unknown-parts s)) (by_links _ _ e here)))
 
 -- an unknown name in the ports, where those in the links are known
 pub unknown-ports : (s : Spelled) (names : List (List ℕ)) (e : TopoFault) → names ≡ s.switches → too_many s ≡ None → first_repeat s.switches ≡ None
-    → find (is_unknown names) (flat_map ends s.links) ≡ None → IsSomeAnd (find (is_unknown names) (map port_name s.ports)) (λ name. e ≡ Unknown name) → WithinThen s (too_many s) (Err e)
+    → AreKnown names (flat_map ends s.links) → TellsUnknown names (map port_name s.ports) e → IsAnswerFor s (Err e)
 unknown-ports s names e same few different known is =
-    let here = subst (λ (ns : List (List ℕ)). IsSomeAnd (find (is_unknown ns) (map port_name s.ports)) (λ name. e ≡ Unknown name)) same is in
-    let linked = subst (λ (ns : List (List ℕ)). find (is_unknown ns) (flat_map ends s.links) ≡ None) same known in
+    let here = subst (λ (ns : List (List ℕ)). TellsUnknown ns (map port_name s.ports) e) same is in
+    let linked = subst (λ (ns : List (List ℕ)). AreKnown ns (flat_map ends s.links)) same known in
     within-different s (Err e) few different (refused s (first_unknown s) e
     (subst (λ (o : Option (List ℕ)). IsSomeAnd o (λ name. e ≡ Unknown name)) (sym (first_unknown-parts s)) (by_ports _ _ e linked here)))
 
 -- all names are known
 pub all-known : (s : Spelled) (names : List (List ℕ)) (t : Topology) → names ≡ s.switches → too_many s ≡ None → first_repeat s.switches ≡ None
-    → find (is_unknown names) (flat_map ends s.links) ≡ None → find (is_unknown names) (map port_name s.ports) ≡ None → IsTopologyOf s t → WithinThen s (too_many s) (Ok t)
+    → AreKnown names (flat_map ends s.links) → AreKnown names (map port_name s.ports) → IsTopologyOf s t → IsAnswerFor s (Ok t)
 all-known s names t same few different known placed is =
-    let linked = subst (λ (ns : List (List ℕ)). find (is_unknown ns) (flat_map ends s.links) ≡ None) same known in
-    let ported = subst (λ (ns : List (List ℕ)). find (is_unknown ns) (map port_name s.ports) ≡ None) same placed in
+    let linked = subst (λ (ns : List (List ℕ)). AreKnown ns (flat_map ends s.links)) same known in
+    let ported = subst (λ (ns : List (List ℕ)). AreKnown ns (map port_name s.ports)) same placed in
     let none : first_unknown s ≡ None = first_unknown-parts s ∙ ap (λ o. option_or o (find (is_unknown s.switches) (map port_name s.ports))) linked ∙ ported in
     within-different s (Ok t) few different (subst (λ (o : Option (List ℕ)). KnownThen s o (Ok t)) (sym none) is)

@@ -1,5 +1,5 @@
 -- What is answered for a text: its first fault, or its topology.
-use Rattle.std.specs.Prelude.{Bool, ◌≡◌, ◌↔◌, ℕ, not, List, [], ◌∷◌, ◌++◌, length, map, find, Contains, Option, Some, None, if◌then◌else◌, nat_lt, Result, Ok, Err, IsOkAnd}
+use Rattle.std.specs.Prelude.{Bool, ◌≡◌, ◌↔◌, ℕ, not, List, [], ◌∷◌, ◌++◌, length, map, find, Contains, Option, Some, None, if◌then◌else◌, nat_lt, Result, Ok, Err, IsOkAnd, IsSomeAnd}
 use Rattle.std.specs.List.{flat_map}
 use Rattle.std.specs.List.Sorted.{IsStrictlySortedBy}
 pub use Rattle.snap_core.specs.declared.program.Which.{Which}
@@ -34,6 +34,14 @@ mentioned s = flat_map ends s.links ++ map port_name s.ports
 abbrev pub is_unknown : List (List ℕ) → List ℕ → Bool
 is_unknown switches name = not (is_switch switches name)
 
+-- each of the names is a switch
+abbrev pub AreKnown : List (List ℕ) → List (List ℕ) → Type 0
+AreKnown switches names = find (is_unknown switches) names ≡ None
+
+-- the fault names the first of them that is no switch
+abbrev pub TellsUnknown : List (List ℕ) → List (List ℕ) → TopoFault → Type 0
+TellsUnknown switches names e = IsSomeAnd (find (is_unknown switches) names) (λ name. e ≡ Unknown name)
+
 abbrev pub first_unknown : Spelled → Option (List ℕ)
 first_unknown s = find (is_unknown s.switches) (mentioned s)
 
@@ -56,6 +64,10 @@ DifferentThen s None r = KnownThen s (first_unknown s) r
 abbrev pub WithinThen : Spelled → Option (Which × ℕ) → Result Topology TopoFault → Type 0
 WithinThen s (Some many) r = r ≡ Err (Limit many.0 many.1)
 WithinThen s None r = DifferentThen s (first_repeat s.switches) r
+
+-- what is answered for what a document spells
+abbrev pub IsAnswerFor : Spelled → Result Topology TopoFault → Type 0
+IsAnswerFor s r = WithinThen s (too_many s) r
 
 abbrev pub SpelledThen : Result Spelled TopoFault → Result Topology TopoFault → Type 0
 SpelledThen (Ok s) r = WithinThen s (too_many s) r

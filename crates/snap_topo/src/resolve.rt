@@ -1,11 +1,11 @@
 //! The numbers of the names in a listing, and its topology.
 
-ghost use Rattle.std.specs.Prelude.{◌≡◌, ◌≢◌, ◌≤◌, ◌↔◌, ℕ, Err, Ok, Some, None, find, length, map, not, string_bytes, IfOk, IfErr, IsSomeAnd, MatchResult, OnOk, Contains, true, false};
+ghost use Rattle.std.specs.Prelude.{◌≡◌, ◌≢◌, ◌≤◌, ◌↔◌, ℕ, Err, Ok, Some, None, length, map, IfOk, IfErr, IsSomeAnd, MatchResult, OnOk, Contains, true, false};
 ghost use Rattle.std.specs.List.{flat_map};
 ghost use Rattle.std.specs.List.Sorted.{IsStrictlySortedBy};
 ghost use Rattle.indexmap.specs.IndexSet.{index_set_len};
-ghost use Rattle.snap_topo.specs.Answer.{first_repeat, first_unknown, is_unknown, too_many, WithinThen};
-ghost use Rattle.snap_topo.specs.Listing.{lent_texts, pair_text, pair_texts, port_texts, spelled_by, string_texts, texts};
+ghost use Rattle.snap_topo.specs.Answer.{AreKnown, IsAnswerFor, TellsUnknown, first_repeat, too_many};
+ghost use Rattle.snap_topo.specs.Listing.{key_texts, linked, pair_text, port_texts, spelled_by, string_texts, texts};
 ghost use Rattle.snap_core.specs.Ports.{link_cmp};
 ghost use Rattle.snap_topo.specs.Spells.{is_switch, number_of, numbered, port_at, ends, port_name};
 
@@ -55,7 +55,7 @@ fn within_limits(listing: &Listing<'_>) -> Result<(), TopoFault>
 
 /// The switches by their names, each of which stands once.
 fn numbers_of<'a>(alloc: Global, names: &'a [String]) -> Result<IndexSet<&'a str>, TopoFault>
-    ensures ok { IfOk result (λ numbers. (first_repeat (string_texts names.now) ≡ None) × (lent_texts numbers.keys ≡ string_texts names.now)) }
+    ensures ok { IfOk result (λ numbers. (first_repeat (string_texts names.now) ≡ None) × (key_texts numbers ≡ string_texts names.now)) }
     ensures twice { IfErr result (λ e. e ≢ TopoFault.NoMemory → IsSomeAnd (first_repeat (string_texts names.now)) (λ name. e ≡ TopoFault.Twice name)) }
 {
     let mut numbers = IndexSet::with_capacity(alloc, names.len())?;
@@ -73,8 +73,8 @@ fn numbers_of<'a>(alloc: Global, names: &'a [String]) -> Result<IndexSet<&'a str
 /// The number of a switch.
 fn number(alloc: Global, numbers: &IndexSet<&str>, name: &str) -> Result<u16, TopoFault>
     requires { index_set_len numbers.now ≤ MOST_SWITCHES }
-    ensures ok { IfOk result (λ n. (is_switch (lent_texts numbers.now.keys) name.now ≡ true) × (n ≡ number_of (lent_texts numbers.now.keys) name.now)) }
-    ensures unknown { IfErr result (λ e. e ≢ TopoFault.NoMemory → (is_switch (lent_texts numbers.now.keys) name.now ≡ false) × (e ≡ TopoFault.Unknown name.now)) }
+    ensures ok { IfOk result (λ n. (is_switch (key_texts numbers.now) name.now ≡ true) × (n ≡ number_of (key_texts numbers.now) name.now)) }
+    ensures unknown { IfErr result (λ e. e ≢ TopoFault.NoMemory → (is_switch (key_texts numbers.now) name.now ≡ false) × (e ≡ TopoFault.Unknown name.now)) }
 {
     match numbers.get_index_of(name) {
         Some(i) => Ok(i as u16),
@@ -91,8 +91,8 @@ fn link_of(
     link: &(&str, &str),
 ) -> Result<(u16, u16), TopoFault>
     requires { index_set_len numbers.now ≤ MOST_SWITCHES }
-    ensures ok { IfOk result (λ pair. (find (is_unknown (lent_texts numbers.now.keys)) (ends (pair_text link.now)) ≡ None) × (pair ≡ numbered (lent_texts numbers.now.keys) (pair_text link.now))) }
-    ensures unknown { IfErr result (λ e. e ≢ TopoFault.NoMemory → IsSomeAnd (find (is_unknown (lent_texts numbers.now.keys)) (ends (pair_text link.now))) (λ name. e ≡ TopoFault.Unknown name)) }
+    ensures ok { IfOk result (λ pair. AreKnown (key_texts numbers.now) (ends (pair_text link.now)) × (pair ≡ numbered (key_texts numbers.now) (pair_text link.now))) }
+    ensures unknown { IfErr result (λ e. e ≢ TopoFault.NoMemory → TellsUnknown (key_texts numbers.now) (ends (pair_text link.now)) e) }
 {
     let a = number(alloc, numbers, link.0)?;
     let b = number(alloc, numbers, link.1)?;
@@ -106,8 +106,8 @@ fn links_of(
     links: &[(&str, &str)],
 ) -> Result<Vec<(u16, u16)>, TopoFault>
     requires { index_set_len numbers.now ≤ MOST_SWITCHES }
-    ensures ok { IfOk result (λ pairs. (find (is_unknown (lent_texts numbers.now.keys)) (flat_map ends (map pair_text links.now)) ≡ None) × (pairs.items ≡ map (numbered (lent_texts numbers.now.keys)) (map pair_text links.now))) }
-    ensures unknown { IfErr result (λ e. e ≢ TopoFault.NoMemory → IsSomeAnd (find (is_unknown (lent_texts numbers.now.keys)) (flat_map ends (map pair_text links.now))) (λ name. e ≡ TopoFault.Unknown name)) }
+    ensures ok { IfOk result (λ pairs. AreKnown (key_texts numbers.now) (flat_map ends (map pair_text links.now)) × (pairs.items ≡ map (numbered (key_texts numbers.now)) (map pair_text links.now))) }
+    ensures unknown { IfErr result (λ e. e ≢ TopoFault.NoMemory → TellsUnknown (key_texts numbers.now) (flat_map ends (map pair_text links.now)) e) }
 {
     let mut pairs = Vec::with_capacity(alloc, links.len())?;
     for link in links {
@@ -123,8 +123,8 @@ fn ports_of(
     ports: &BTreeMap<u32, &str>,
 ) -> Result<Vec<PortAt>, TopoFault>
     requires { index_set_len numbers.now ≤ MOST_SWITCHES }
-    ensures ok { IfOk result (λ placed. (find (is_unknown (lent_texts numbers.now.keys)) (map port_name (port_texts ports.now)) ≡ None) × (placed.items ≡ map (port_at (lent_texts numbers.now.keys)) (port_texts ports.now))) }
-    ensures unknown { IfErr result (λ e. e ≢ TopoFault.NoMemory → IsSomeAnd (find (is_unknown (lent_texts numbers.now.keys)) (map port_name (port_texts ports.now))) (λ name. e ≡ TopoFault.Unknown name)) }
+    ensures ok { IfOk result (λ placed. AreKnown (key_texts numbers.now) (map port_name (port_texts ports.now)) × (placed.items ≡ map (port_at (key_texts numbers.now)) (port_texts ports.now))) }
+    ensures unknown { IfErr result (λ e. e ≢ TopoFault.NoMemory → TellsUnknown (key_texts numbers.now) (map port_name (port_texts ports.now)) e) }
 {
     let mut placed = Vec::new(alloc);
     for (port, name) in ports {
@@ -158,9 +158,9 @@ fn switches_of(alloc: Global, names: Vec<String>) -> Result<Names, AllocError>
 
 // The links and the ports of a listing by numbers, or its first fault.
 fn borders_of(alloc: Global, listing: &Listing<'_>) -> Result<(Links, Ports), TopoFault>
-    ensures few { IfOk result (λ r. length r.0 ≤ length (spelled_by listing.now).links) }
-    ensures answer { MatchResult result (λ r. WithinThen (spelled_by listing.now) (too_many (spelled_by listing.now)) (Ok (record { switches = texts listing.now.switches; links = r.0; ports = r.1 })))
-        (λ e. e ≢ TopoFault.NoMemory → WithinThen (spelled_by listing.now) (too_many (spelled_by listing.now)) (Err e)) }
+    ensures few { IfOk result (λ borders. length borders.0 ≤ length (spelled_by listing.now).links) }
+    ensures answer { MatchResult result (λ borders. IsAnswerFor (spelled_by listing.now) (Ok (linked listing.now borders)))
+        (λ e. e ≢ TopoFault.NoMemory → IsAnswerFor (spelled_by listing.now) (Err e)) }
 {
     within_limits(listing)?;
     let numbers = numbers_of(alloc, &listing.switches)?;
@@ -172,8 +172,8 @@ fn borders_of(alloc: Global, listing: &Listing<'_>) -> Result<(Links, Ports), To
 /// The topology of a listing, or its first fault.
 pub(crate) fn resolve(alloc: Global, listing: Listing<'_>) -> Result<Topology, TopoFault>
     ensures few { IfOk result (λ t. length t.links ≤ length (spelled_by listing.entry).links) }
-    ensures answer { MatchResult result (λ t. WithinThen (spelled_by listing.entry) (too_many (spelled_by listing.entry)) (Ok t))
-        (λ e. e ≢ TopoFault.NoMemory → WithinThen (spelled_by listing.entry) (too_many (spelled_by listing.entry)) (Err e)) }
+    ensures answer { MatchResult result (λ t. IsAnswerFor (spelled_by listing.entry) (Ok t))
+        (λ e. e ≢ TopoFault.NoMemory → IsAnswerFor (spelled_by listing.entry) (Err e)) }
 {
     let (links, ports) = borders_of(alloc, &listing)?;
     let switches = switches_of(alloc, listing.switches)?;

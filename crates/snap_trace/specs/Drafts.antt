@@ -1,12 +1,17 @@
 -- A draft of the program as a draft of the definitions, and what a value makes of it.
-use Rattle.std.specs.Prelude.{◌≡◌, ℕ, List, Some, None}
+use Rattle.std.specs.Prelude.{◌≡◌, ℕ, List, Option, Some, None}
+use Rattle.snap_core.specs.declared.program.Field.{Field}
 use Rattle.snap_core.specs.declared.program.Found.{Found}
 use Rattle.snap_trace.specs.declared.draft.Draft.{Draft as Kept}
 use Rattle.snap_trace.specs.Cuts.{IsUntilBlank}
-use Rattle.snap_trace.specs.PacketLines.{Draft, with_value}
+use Rattle.snap_trace.specs.PacketLines.{Draft, with_value, with_words, words_of}
 
 abbrev pub draft_of : Kept → Draft
 draft_of kept = record { numbers = kept.packet; named = kept.named }
+
+-- what the words of a text make of it
+abbrev pub with_text : List Field → (text : List ℕ) → Kept → Option Draft
+with_text fields text kept = with_words fields (words_of text) (draft_of kept)
 
 -- the value at the front of a text, up to a blank, makes the new draft of the old
 pub record IsSet (found : Found) (text behind : List ℕ) (old new : Draft) : Type 0 where

@@ -4,7 +4,8 @@ use Rattle.std.specs.declared.option.Option.{Option}
 use Rattle.snap_core.specs.declared.program.Field.{Field}
 use Rattle.snap_core.specs.declared.program.Which.TheVariants.{Bytes}
 use Rattle.snap_io.specs.declared.lines.LinesFault.{LinesFault}
-use Rattle.snap_io.specs.LineReaders.{lines_given, lines_line}
+use Rattle.snap_io.specs.Files.{Files, file_of}
+use Rattle.snap_io.specs.LineReaders.{lines_given, lines_line, lines_name}
 use Rattle.snap_io.specs.Lines.{Next, next_line, no_line, long_line, many_bytes, next_in}
 use Rattle.snap_trace.specs.declared.fault.TraceFault.{TraceFault}
 use Rattle.snap_trace.specs.declared.fault.TraceFault.TheVariants.{Read, Write, Limit, Packets, Undefined, NoMemory}
@@ -23,6 +24,10 @@ said_of packet (Inject port) = inject packet
 -- the packet of the line that a reader gave last
 abbrev pub packet_in : PacketLines → List ℕ
 packet_in reader = reader.draft.packet
+
+-- the file that it reads
+abbrev pub file_in : Files → PacketLines → List ℕ
+file_in files reader = file_of files (lines_name reader.lines)
 
 -- ---- what stands next in the file
 -- the line isn't in form, or the file is too long for it

@@ -1,17 +1,19 @@
 -- How a run over a packets file ends, and how far it has come. A run takes packets one after another with a machine; of a
 -- machine in which it began, `stands` tells where it stands behind some packets, and what their blocks are.
-use Rattle.std.specs.Prelude.{◌≡◌, ◌⊎◌, ℕ, Bool, true, false, List, [], ◌∷◌, ◌++◌, length, take, Result, Ok, Err, Some, None}
+use Rattle.std.specs.Prelude.{◌≡◌, ◌⊎◌, ℕ, Bool, true, false, List, [], ◌∷◌, ◌++◌, length, take, IfSome, Result, Ok, Err, Some, None}
 use Rattle.std.specs.declared.option.Option.{Option}
 use Rattle.std.specs.Io.KnownBytes.{Appends}
 use Rattle.snap_core.specs.declared.program.Field.{Field}
+use Rattle.snap_io.specs.Files.{Files, file_of}
 use Rattle.snap_io.specs.Sinks.{AppendsPart, AppendsSome}
+use Rattle.snap_io.specs.declared.output.Output.{Output}
 use Rattle.snap_io.specs.Outputs.{Waits}
 use Rattle.snap_trace.specs.declared.fault.TraceFault.{TraceFault}
 use Rattle.snap_trace.specs.declared.fault.TraceFault.TheVariants.{Read, Write, Limit, Packets, Undefined, NoMemory}
 use Rattle.snap_trace.specs.declared.line.Line.{Line}
 use Rattle.snap_trace.specs.declared.packets.PacketLines.{PacketLines}
 use Rattle.snap_trace.specs.OneSwitch.{RunEnding}
-use Rattle.snap_trace.specs.Reading.{left_for, packet_in, with_line}
+use Rattle.snap_trace.specs.Reading.{file_in, left_for, packet_in, spelled_where, with_line}
 use Rattle.snap_trace.specs.Spelled.{Spelled, ended, refused, stops}
 
 -- ---- how a run ends
@@ -131,3 +133,57 @@ PutsEnd Report text old now before after (Ok u) = (tail : List ℕ) × Report (t
 PutsEnd Report text old now before after (Err Write) = (tail : List ℕ) × Report (text ++ tail) × AppendsPart old now (before ++ tail)
 PutsEnd Report text old now before after (Err NoMemory) = now ≡ old
 PutsEnd Report text old now before after (Err fault) = ⊥
+
+-- ---- the same in each run, whatever machine it began with
+-- the packet was taken behind those that were, or it can't be
+abbrev pub TakesEach : {M : Type 0} → (stands : M → List (List ℕ) → List ℕ → M → Type 0)
+    → (refuses : M → List (List ℕ) → List ℕ → TraceFault → Type 0) → (accepts : M → ℕ → List ℕ → Bool) → (line : ℕ)
+    → (packet : List ℕ) → (old new : M) → (before after : List ℕ) → RunEnding → Type 0
+TakesEach {M} stands refuses accepts line packet old new before after ending = (first : M) (packets : List (List ℕ)) (blocks : List ℕ)
+    → stands first packets blocks old
+    → Takes (stands first) (refuses first) (accepts first (length packets)) line packet packets blocks new before after ending
+
+-- the end of the report was put behind the blocks of those that were taken
+abbrev pub EndsEach : {M : Type 0} → (stands : M → List (List ℕ) → List ℕ → M → Type 0)
+    → (reports : M → List (List ℕ) → List ℕ → Type 0) → M
+    → (old now : Option (List ℕ)) → (before after : List ℕ) → RunEnding → Type 0
+EndsEach {M} stands reports machine old now before after ending = (first : M) (packets : List (List ℕ)) (blocks : List ℕ)
+    → stands first packets blocks machine → PutsEnd (reports first packets) blocks old now before after ending
+
+-- the line was taken, or the run has ended
+abbrev pub ComesEach : {M : Type 0} → (stands : M → List (List ℕ) → List ℕ → M → Type 0) → (reports : M → List (List ℕ) → List ℕ → Type 0)
+    → (refuses : M → List (List ℕ) → List ℕ → TraceFault → Type 0) → (accepts : M → ℕ → List ℕ → Bool) → (number : ℕ)
+    → (packet : List ℕ) → Line → (old new : M) → (before after : Output) → RunEnding → Type 0
+ComesEach {M} stands reports refuses accepts number packet line old new before after ending =
+    (first : M) (all : Spelled) (rest : ℕ → Spelled) (start now : Option (List ℕ))
+    → Comes (stands first) all (with_line (accepts first) number packet line rest) old start now before.text.items
+    → ComesOn (stands first) (reports first) (refuses first) all rest new start now after.text.items ending
+
+-- the next line stands before the others of the reader's file, or none is left, or the run has ended
+abbrev pub FollowsEach : {M : Type 0} → (stands : M → List (List ℕ) → List ℕ → M → Type 0) → (reports : M → List (List ℕ) → List ℕ → Type 0)
+    → (refuses : M → List (List ℕ) → List ℕ → TraceFault → Type 0) → (fields : M → List Field) → (accepts : M → ℕ → List ℕ → Bool)
+    → Option Files → (old new : PacketLines) → M → (taken now : Option (List ℕ))
+    → (before after : Output) → Result (Option Line) TraceFault → Type 0
+FollowsEach {M} stands reports refuses fields accepts told old new machine taken now before after answer = IfSome told (λ files.
+    (first : M) (all : Spelled) (start : Option (List ℕ)) → fields machine ≡ fields first
+    → Comes (stands first) all (left_for (fields first) (accepts first) (file_in files old) old) machine start taken before.text.items
+    → Follows (stands first) (reports first) (refuses first) all (fields first) (accepts first)
+    (file_in files old) new machine start now after.text.items answer)
+
+-- the run over the reader's file began with this machine, and has ended, or a device failed or memory was short
+abbrev pub ClosesEach : {M : Type 0} → (stands : M → List (List ℕ) → List ℕ → M → Type 0) → (reports : M → List (List ℕ) → List ℕ → Type 0)
+    → (refuses : M → List (List ℕ) → List ℕ → TraceFault → Type 0) → (fields : M → List Field) → (accepts : M → ℕ → List ℕ → Bool)
+    → Option Files → PacketLines → M → RunEnding → (old now : Option (List ℕ)) → Output → Type 0
+ClosesEach {M} stands reports refuses fields accepts told reader machine ending old now out = IfSome told (λ files.
+    (first : M) → stands first [] [] machine → fields machine ≡ fields first
+    → Closes (stands first) (reports first) (refuses first)
+    (spelled_where (fields first) (accepts first) (file_in files reader)) ending old now out.text.items)
+
+-- the same of the file with this name, where nothing waits any more
+abbrev pub WritesEach : {M : Type 0} → (stands : M → List (List ℕ) → List ℕ → M → Type 0) → (reports : M → List (List ℕ) → List ℕ → Type 0)
+    → (refuses : M → List (List ℕ) → List ℕ → TraceFault → Type 0) → (fields : M → List Field) → (accepts : M → ℕ → List ℕ → Bool)
+    → Option Files → (name : List ℕ) → M → RunEnding → (old now : Option (List ℕ)) → Type 0
+WritesEach {M} stands reports refuses fields accepts told name machine ending old now = IfSome told (λ files.
+    (first : M) → stands first [] [] machine → fields machine ≡ fields first
+    → WritesRun (stands first) (reports first) (refuses first)
+    (spelled_where (fields first) (accepts first) (file_of files name)) ending old now)

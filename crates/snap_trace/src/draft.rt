@@ -19,9 +19,9 @@ pub struct Draft {
 impl Draft {
     ghost use Rattle.std.specs.Prelude.{◌≡◌, ◌<◌, ◌≤◌, length, IfOk, IfSome, MatchOption, Some, None};
     ghost use Rattle.snap_core.specs.Fields.{FoundFits, count};
-    ghost use Rattle.snap_trace.specs.Drafts.{IsNotSet, IsSet, draft_of};
+    ghost use Rattle.snap_trace.specs.Drafts.{IsNotSet, IsSet, draft_of, with_text};
     ghost use Rattle.snap_trace.specs.Guesses.{StandsAt};
-    ghost use Rattle.snap_trace.specs.PacketLines.{BeginsWord, draft_at_first, with_number, with_words, words_of};
+    ghost use Rattle.snap_trace.specs.PacketLines.{BeginsWord, draft_at_first, with_number};
 
     /// Room for the packets of lines, whose components these fields are. Refuses for memory alone.
     pub fn new(alloc: Global, fields: &Fields) -> Result<Draft, NoMemory>
@@ -59,8 +59,8 @@ impl Draft {
         requires few { length self.old.packet ≤ 64 }
         ensures same { length self.new.packet ≡ length self.old.packet }
         ensures set { MatchOption result
-            (with_words fields.now (words_of text.now) (draft_of self.old) ≡ None)
-            (λ _. with_words fields.now (words_of text.now) (draft_of self.old) ≡ Some (draft_of self.new)) }
+            (with_text fields.now text.now self.old ≡ None)
+            (λ _. with_text fields.now text.now self.old ≡ Some (draft_of self.new)) }
     {
         let mut rest = text;
         let mut guess = Guess::first(fields);
@@ -83,8 +83,8 @@ impl Draft {
         requires few { length self.old.packet ≤ 64 }
         ensures same { length self.new.packet ≡ length self.old.packet }
         ensures set { MatchOption result
-            (with_words fields.now (words_of text.now) (draft_of self.old) ≡ None)
-            (λ behind. with_words fields.now (words_of text.now) (draft_of self.old) ≡ with_words fields.now (words_of behind.now) (draft_of self.new)) }
+            (with_text fields.now text.now self.old ≡ None)
+            (λ behind. with_text fields.now text.now self.old ≡ with_text fields.now behind.now self.new) }
         ensures stands { StandsAt fields.now guess.new }
         ensures shorter { IfSome result (λ behind. length behind.now < length text.now) }
     {

@@ -37,9 +37,9 @@ pub struct PacketLines {
 impl PacketLines {
     ghost use Rattle.snap_core.specs.Fields.{count};
     ghost use Rattle.snap_io.specs.Causes.{NoneFell, Rose};
-    ghost use Rattle.snap_io.specs.Files.{Files, file_of};
+    ghost use Rattle.snap_io.specs.Files.{Files};
     ghost use Rattle.snap_io.specs.LineReaders.{AgreesWith, HoldsLine, lines_given, lines_name};
-    ghost use Rattle.snap_trace.specs.Reading.{GivesNext, GoesOn, HasLine, LeavesLine, ReadsNext, next_for, packet_in, refused_behind};
+    ghost use Rattle.snap_trace.specs.Reading.{GivesNext, GoesOn, HasLine, LeavesLine, ReadsNext, file_in, next_for, packet_in, refused_behind};
 
     /// A reader of the file with this name, of packets with these fields, before its first line. Refuses for memory alone.
     pub fn new(alloc: Global, name: &[u8], fields: &Fields) -> Result<PacketLines, NoMemory>
@@ -94,7 +94,7 @@ impl PacketLines {
         requires agrees { AgreesWith (S.files shelf.old) self.old.lines }
         requires long { length (packet_in self.old) ≡ count fields.now }
         ensures leaves { IfSome (S.files shelf.old) (λ files. (accepts : ℕ → List ℕ → Bool) (before : ℕ) →
-            LeavesLine fields.now accepts before (file_of files (lines_name self.old.lines)) self.old self.new result) }
+            LeavesLine fields.now accepts before (file_in files self.old) self.old self.new result) }
         ensures comps { IfOk result (HasLine (count fields.now) (packet_in self.new)) }
         ensures long { length (packet_in self.new) ≡ count fields.now }
         ensures goes_on { IfOk result (GoesOn self.old.read self.new.read) }
@@ -114,7 +114,7 @@ impl PacketLines {
         requires agrees { AgreesWith (S.files shelf.old) self.old.lines }
         requires long { length (packet_in self.old) ≡ count fields.now }
         ensures next { IfSome (S.files shelf.old) (λ files.
-            GivesNext fields.now self.old.read (next_for (file_of files (lines_name self.old.lines)) self.old) self.new result) }
+            GivesNext fields.now self.old.read (next_for (file_in files self.old) self.old) self.new result) }
         ensures few { self.old.read ≤ 1000000 }
         ensures comps { IfOk result (HasLine (count fields.now) (packet_in self.new)) }
         ensures long { length (packet_in self.new) ≡ count fields.now }
@@ -140,7 +140,7 @@ impl PacketLines {
     fn next_text<S: Shelf>(&mut self, shelf: &mut S) -> Result<bool, TraceFault>
         requires agrees { AgreesWith (S.files shelf.old) self.old.lines }
         ensures reads { IfSome (S.files shelf.old) (λ files.
-            ReadsNext self.old.read (next_for (file_of files (lines_name self.old.lines)) self.old) self.new result) }
+            ReadsNext self.old.read (next_for (file_in files self.old) self.old) self.new result) }
         ensures more { IfOk result (λ more. IsTrue more → self.new.read ≡ self.old.read + 1) }
         ensures packet { packet_in self.new ≡ packet_in self.old }
         ensures name { lines_name self.new.lines ≡ lines_name self.old.lines }

@@ -1,14 +1,11 @@
 //! The run of a machine over a packets file: one big switch, or a network.
 
-ghost use Rattle.std.specs.Prelude.{◌≡◌, ◌≤◌, ◌<◌, ◌+◌, ◌⊎◌, [], ℕ, List, Bool, length, slice_index, IfOk, IfSome, IsErrOf, OnOk};
-ghost use Rattle.std.specs.declared.option.Option.{Option as Maybe};
+ghost use Rattle.std.specs.Prelude.{◌≡◌, ◌≤◌, ◌<◌, ◌+◌, ◌⊎◌, [], ℕ, List, Bool, length, slice_index, IfOk, IsErrOf, OnOk};
 ghost use Rattle.snap_core.specs.Fields.{count as comps};
 ghost use Rattle.snap_io.specs.Causes.{NoneFell, Rose};
-ghost use Rattle.snap_io.specs.Files.{file_of};
 ghost use Rattle.snap_io.specs.LineReaders.{AgreesWith, lines_given, lines_name};
-ghost use Rattle.snap_trace.specs.Reading.{FitsLine, GoesOn, HasLine, left_for, packet_in, spelled_where, with_line};
-ghost use Rattle.snap_trace.specs.Runner.{Closes, Comes, ComesOn, Follows, PutsEnd, Takes, WritesRun, is_told};
-ghost use Rattle.snap_trace.specs.Spelled.{Spelled};
+ghost use Rattle.snap_trace.specs.Reading.{FitsLine, GoesOn, HasLine, packet_in};
+ghost use Rattle.snap_trace.specs.Runner.{ClosesEach, ComesEach, EndsEach, FollowsEach, TakesEach, WritesEach, is_told};
 
 use crate::fault::TraceFault;
 use crate::line::Line;
@@ -69,8 +66,7 @@ pub trait Machine {
         requires room { count self.old < 1000000 }
         requires comps { length packet.old ≡ comps (fields self.old) }
         requires port { slice_index packet.old 0 ≡ port }
-        ensures takes { (first : Self) (packets : List (List ℕ)) (blocks : List ℕ) → stands first packets blocks self.old →
-            Takes (stands first) (refuses first) (accepts first (length packets)) line packet.old packets blocks self.new text.old.items text.new.items result }
+        ensures takes { TakesEach stands refuses accepts line packet.old self.old self.new text.old.items text.new.items result }
         ensures long { length packet.new ≡ length packet.old }
         ensures ready { OnOk result (is_ready self.new) }
         ensures fields { OnOk result (fields self.new ≡ fields self.old) }
@@ -85,8 +81,7 @@ pub trait Machine {
     /// `NoMemory` for want of memory; `Write` only where the sink's count of faults rose.
     fn put_end<K: Sink>(&mut self, out: &mut Output, sink: &mut K) -> Result<(), TraceFault>
         requires ready { is_ready self.old }
-        ensures ends { (first : Self) (packets : List (List ℕ)) (blocks : List ℕ) → stands first packets blocks self.old →
-            PutsEnd (reports first packets) blocks (K.taken sink.old) (K.taken sink.new) out.old.text.items out.new.text.items result }
+        ensures ends { EndsEach stands reports self.old (K.taken sink.old) (K.taken sink.new) out.old.text.items out.new.text.items result }
         ensures defined { (k : ℕ) → IsErrOf result (TraceFault.Undefined k) → ⊥ }
         ensures read { IsErrOf result TraceFault.Read → ⊥ }
         ensures write { IsErrOf result TraceFault.Write → Rose (K.faults sink.old) (K.faults sink.new) }
@@ -111,8 +106,7 @@ pub fn run_over<M: Machine, S: Shelf, K: Sink>(
 ) -> Result<(), TraceFault>
     requires ready { M.is_ready machine.old }
     requires none { M.count machine.old ≡ 0 }
-    ensures report { IfSome (S.files shelf.old) (λ files. (first : M) → M.stands first [] [] machine.old → M.fields machine.old ≡ M.fields first →
-        WritesRun (M.stands first) (M.reports first) (M.refuses first) (spelled_where (M.fields first) (M.accepts first) (file_of files packets.now)) result (K.taken sink.old) (K.taken sink.new)) }
+    ensures report { WritesEach M.stands M.reports M.refuses M.fields M.accepts (S.files shelf.old) packets.now machine.old result (K.taken sink.old) (K.taken sink.new) }
     ensures defined { (k : ℕ) → IsErrOf result (TraceFault.Undefined k) → M.is_partial }
     ensures read { IsErrOf result TraceFault.Read → Rose (S.faults shelf.old packets.now) (S.faults shelf.new packets.now) }
     ensures write { IsErrOf result TraceFault.Write → Rose (K.faults sink.old) (K.faults sink.new) }
@@ -147,8 +141,7 @@ fn run_lines<M: Machine, S: Shelf, K: Sink>(
     requires read { reader.old.read ≡ 0 }
     requires agrees { AgreesWith (S.files shelf.old) reader.old.lines }
     requires long { length (packet_in reader.old) ≡ comps (M.fields machine.old) }
-    ensures closes { IfSome (S.files shelf.old) (λ files. (first : M) → M.stands first [] [] machine.old → M.fields machine.old ≡ M.fields first →
-        Closes (M.stands first) (M.reports first) (M.refuses first) (spelled_where (M.fields first) (M.accepts first) (file_of files (lines_name reader.old.lines))) result (K.taken sink.old) (K.taken sink.new) out.new.text.items) }
+    ensures closes { ClosesEach M.stands M.reports M.refuses M.fields M.accepts (S.files shelf.old) reader.old machine.old result (K.taken sink.old) (K.taken sink.new) out.new }
     ensures defined { (k : ℕ) → IsErrOf result (TraceFault.Undefined k) → M.is_partial }
     ensures read { IsErrOf result TraceFault.Read → Rose (S.faults shelf.old (lines_name reader.old.lines)) (S.faults shelf.new (lines_name reader.old.lines)) }
     ensures write { IsErrOf result TraceFault.Write → Rose (K.faults sink.old) (K.faults sink.new) }
@@ -173,9 +166,7 @@ fn next_line<M: Machine, S: Shelf, K: Sink>(
 ) -> Result<Option<Line>, TraceFault>
     requires agrees { AgreesWith (S.files shelf.old) reader.old.lines }
     requires long { length (packet_in reader.old) ≡ comps (M.fields machine.now) }
-    ensures follows { IfSome (S.files shelf.old) (λ files. (first : M) (all : Spelled) (start : Maybe (List ℕ)) → M.fields machine.now ≡ M.fields first →
-        Comes (M.stands first) all (left_for (M.fields first) (M.accepts first) (file_of files (lines_name reader.old.lines)) reader.old) machine.now start (K.taken sink.old) out.old.text.items →
-        Follows (M.stands first) (M.reports first) (M.refuses first) all (M.fields first) (M.accepts first) (file_of files (lines_name reader.old.lines)) reader.new machine.now start (K.taken sink.new) out.new.text.items result) }
+    ensures follows { FollowsEach M.stands M.reports M.refuses M.fields M.accepts (S.files shelf.old) reader.old reader.new machine.now (K.taken sink.old) (K.taken sink.new) out.old out.new result }
     ensures fits { IfOk result (HasLine (comps (M.fields machine.now)) (packet_in reader.new)) }
     ensures long { length (packet_in reader.new) ≡ comps (M.fields machine.now) }
     ensures goes_on { IfOk result (GoesOn reader.old.read reader.new.read) }
@@ -203,8 +194,7 @@ fn take_line<M: Machine>(
     requires ready { M.is_ready machine.old }
     requires room { M.count machine.old < 1000000 }
     requires fits { FitsLine (comps (M.fields machine.old)) packet.old line }
-    ensures comes { (first : M) (all : Spelled) (rest : ℕ → Spelled) (start now : Maybe (List ℕ)) → Comes (M.stands first) all (with_line (M.accepts first) number packet.old line rest) machine.old start now out.old.text.items →
-        ComesOn (M.stands first) (M.reports first) (M.refuses first) all rest machine.new start now out.new.text.items result }
+    ensures comes { ComesEach M.stands M.reports M.refuses M.accepts number packet.old line machine.old machine.new out.old out.new result }
     ensures long { length packet.new ≡ length packet.old }
     ensures ready { OnOk result (M.is_ready machine.new) }
     ensures fields { OnOk result (M.fields machine.new ≡ M.fields machine.old) }

@@ -3,7 +3,7 @@ use Rattle.std.proofs.Math.ListN.{set}
 use Rattle.std.proofs.lemmas.Result.{IfOk-weaker}
 use Rattle.snap_core.specs.Cells.{arrays_of}
 use Rattle.snap_order.specs.declared.hand.Stepped.{Stepped}
-use Rattle.snap_order.specs.Hands.{StepsHere, StepsIn, part_of}
+use Rattle.snap_order.specs.Hands.{StepsBy, StepsHere, part_of}
 use Rattle.snap_order.proofs.Handling.{steps_in}
 use Rattle.snap_order.proofs.job.step_in.Goals as goal
 
@@ -18,5 +18,5 @@ returns-clause-steps c =
     let k' = c.step_here.new.store in
     let counts' = c.step_here.new.counts.items in
     IfOk-weaker c.step_here.result (λ (s : Stepped). StepsHere t x (arrays_of k) counts (arrays_of k') counts' s.left.items s.moved)
-    (λ (s : Stepped). StepsIn t n x (part_of n old counts) (part_of n (set old (x.at / n) k') counts') s.left.items s.moved)
+    (StepsBy t n x (part_of n old counts) (part_of n (set old (x.at / n) k') counts'))
     (λ s steps. steps_in t n x old k k' counts counts' s.left.items s.moved c.requires.store c.index_mut.ensures.value steps) c.step_here.ensures

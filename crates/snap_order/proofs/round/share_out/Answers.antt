@@ -1,8 +1,7 @@
-use Rattle.std.proofs.Common.{◌≡◌, ◌<◌, map, sym, ◌∙◌, arith, rules}
+use Rattle.std.proofs.Common.{◌≡◌, ◌<◌, sym, ◌∙◌, arith, rules}
 use Rattle.std.proofs.lemmas.Result.{IfOk-weaker}
-use Rattle.snap_net.specs.declared.flying.Flying.{Flying}
 use Rattle.snap_order.specs.declared.round.Rounded.{Rounded}
-use Rattle.snap_order.specs.Lending.{IsWorked}
+use Rattle.snap_order.specs.Lending.{IsWorkedAt}
 use Rattle.snap_order.specs.Rounding.{IsRoundDone}
 use Rattle.snap_order.specs.Shown.{OrderedHeld}
 use Rattle.snap_order.proofs.Sharing.{lent_ready, works_on}
@@ -18,7 +17,7 @@ work_out-requires g c =
 pub settle-requires-clause-worked : goal.settle-requires-clause-worked
 settle-requires-clause-worked g c =
     let w = c.in_ok-worked-in-Ok.ensures in
-    (c.args.net, works_on c.args.workers c.args.net c.in_ok-lent-in-Ok.lent c.in_ok-worked-in-Ok.worked c.in_ok-lent-in-Ok.ensures w.tables w.injected w.counts w.stores w.worked w.enough, sym c.in-Ok.ensures ∙ sym c.deref.ensures.value)
+    (c.args.net, (works_on c.args.workers c.args.net c.in_ok-lent-in-Ok.lent c.in_ok-worked-in-Ok.worked c.in_ok-lent-in-Ok.ensures w.tables w.injected w.counts w.stores w.worked w.enough, sym c.in-Ok.ensures ∙ sym c.deref.ensures.value))
 
 pub returns-in_ok-worked-in-Ok-clause-done : goal.returns-in_ok-worked-in-Ok-clause-done
 returns-in_ok-worked-in-Ok-clause-done g c =
@@ -28,8 +27,8 @@ returns-in_ok-worked-in-Ok-clause-done g c =
     let is = works_on c.args.workers v c.in_ok-lent-in-Ok.lent d c.in_ok-lent-in-Ok.ensures w.tables w.injected w.counts w.stores w.worked w.enough in
     let switches = sym c.in-Ok.ensures ∙ sym c.deref.ensures.value in
     IfOk-weaker c.settle.result
-    (λ (r : Rounded). (v : OrderedHeld) → IsWorked c.args.workers v d.tables d.injected d.counts.items d.stores.items d.jobs.items → map (λ (c : Flying). c.at) v.net.flying ≡ c.deref.result.now → IsRoundDone v r.net r.done.items)
-    (λ (r : Rounded). IsRoundDone v r.net r.done.items) (λ r h. h v is switches) c.settle.ensures.done
+    (λ (r : Rounded). (v : OrderedHeld) → IsWorkedAt c.args.workers c.deref.result.now d v → IsRoundDone v r.net r.done.items)
+    (λ (r : Rounded). IsRoundDone v r.net r.done.items) (λ r h. h v (is, switches)) c.settle.ensures.done
 
 pub returns-in_ok-worked-in-Ok-clause-tables : goal.returns-in_ok-worked-in-Ok-clause-tables
 returns-in_ok-worked-in-Ok-clause-tables g c =

@@ -1,9 +1,8 @@
 use Rattle.std.proofs.Common.{subst}
-use Rattle.std.specs.Prelude.{MatchResult}
 use Rattle.snap_io.specs.Files.{file_of}
 use Rattle.snap_trace.proofs.StepLemmas.{where_told}
-use Rattle.snap_runs.specs.Playing.{Stops, packets_in}
-use Rattle.snap_runs.specs.Schedules.{IsScheduleReport, lines_of}
+use Rattle.snap_runs.specs.Playing.{Reports, packets_in}
+use Rattle.snap_runs.specs.Schedules.{lines_of}
 use Rattle.snap_runs.proofs.Scheduled.{schedule-played}
 use Rattle.snap_runs.proofs.schedule.report_of.Goals as goal
 
@@ -14,7 +13,7 @@ returns-clause-report g c =
     let rs = c.in-Ok.orders.packets.items in
     let text = c.in-Ok.orders.text.items in
     let ks = packets_in rs in
-    let ran = subst (λ x. MatchResult c.played.result (λ v. IsScheduleReport t hops ks (lines_of x) v.items) (Stops t ks (lines_of x))) c.deref.ensures.value c.played.ensures in
+    let ran = subst (λ x. Reports t hops ks (lines_of x) c.played.result) c.deref.ensures.value c.played.ensures in
     where_told (g.S.Shelf.files c.args.shelf.now) _ _
     (λ files both. schedule-played t (file_of files c.args.packets.now) (file_of files c.args.schedule.now) rs both.0 text c.in-Ok.ensures.few both.1 hops c.played.result (λ v. v.items) ran)
     c.in-Ok.ensures.both

@@ -2,7 +2,7 @@ use Rattle.std.proofs.Common.{◌≡◌, ◌∙◌, ap, refl, sym, subst, List, 
 use Rattle.std.specs.List.Sorted.{IsStrictlySortedBy}
 use Rattle.std.proofs.lemmas.Result.{err_from_is_err_and}
 use Rattle.snap_topo.specs.Answer.{first_repeat, is_unknown}
-use Rattle.snap_topo.specs.Listing.{lent_texts, pair_text, spelled_by, string_texts}
+use Rattle.snap_topo.specs.Listing.{key_texts, pair_text, spelled_by, string_texts}
 use Rattle.snap_core.specs.Ports.{link_cmp}
 use Rattle.snap_topo.specs.Spells.{numbered, port_at, ends}
 use Rattle.snap_topo.proofs.Stages.{all-known, unknown-links, unknown-ports}
@@ -12,7 +12,7 @@ pub returns-in_err-links-clause-answer : goal.returns-in_err-links-clause-answer
 returns-in_err-links-clause-answer c =
     let p = err_from_is_err_and c.from_residual-in_err-links.result c.from_residual-in_err-links.ensures.1 in
     let s = spelled_by c.args.listing.now in
-    let names = lent_texts c.in_ok-numbers.numbers.keys in
+    let names = key_texts c.in_ok-numbers.numbers in
     let texts = ap string_texts c.deref.ensures.value in
     rw (p.1, p.2) (λ memory. unknown-links s names c.in_err-links.field-0.0 (c.in_ok-numbers.ensures.ok.1 ∙ texts) c.in_ok-within_limits.ensures.ok (ap first_repeat (sym texts) ∙ c.in_ok-numbers.ensures.ok.0)
     (rw c.deref-2.ensures.value at (c.in_err-links.ensures.unknown memory)))
@@ -21,7 +21,7 @@ pub returns-in_err-ports-clause-answer : goal.returns-in_err-ports-clause-answer
 returns-in_err-ports-clause-answer c =
     let p = err_from_is_err_and c.from_residual-in_err-ports.result c.from_residual-in_err-ports.ensures.1 in
     let s = spelled_by c.args.listing.now in
-    let names = lent_texts c.in_ok-numbers.numbers.keys in
+    let names = key_texts c.in_ok-numbers.numbers in
     let texts = ap string_texts c.deref.ensures.value in
     let links = ap (λ ls. find (is_unknown names) (flat_map ends (map pair_text ls))) (sym c.deref-2.ensures.value) in
     rw (p.1, p.2) (λ memory. unknown-ports s names c.in_err-ports.field-0.0 (c.in_ok-numbers.ensures.ok.1 ∙ texts) c.in_ok-within_limits.ensures.ok (ap first_repeat (sym texts) ∙ c.in_ok-numbers.ensures.ok.0)
@@ -30,7 +30,7 @@ returns-in_err-ports-clause-answer c =
 pub returns-clause-answer : goal.returns-clause-answer
 returns-clause-answer c =
     let s = spelled_by c.args.listing.now in
-    let names = lent_texts c.in_ok-numbers.numbers.keys in
+    let names = key_texts c.in_ok-numbers.numbers in
     let texts = ap string_texts c.deref.ensures.value in
     let same : names ≡ s.switches = c.in_ok-numbers.ensures.ok.1 ∙ texts in
     let links = ap (λ ls. find (is_unknown names) (flat_map ends (map pair_text ls))) (sym c.deref-2.ensures.value) in

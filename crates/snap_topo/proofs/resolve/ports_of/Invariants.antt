@@ -1,12 +1,12 @@
 use Rattle.std.proofs.Common.{◌≡◌, ◌++◌, find, map}
 use Rattle.snap_topo.specs.Answer.{is_unknown}
-use Rattle.snap_topo.specs.Listing.{lent_texts, port_text, port_texts}
+use Rattle.snap_topo.specs.Listing.{key_texts, port_text, port_texts}
 use Rattle.snap_topo.specs.Spells.{port_at, port_name}
 use Rattle.snap_topo.proofs.resolve.ports_of.Given as goal
 
 -- the ports so far, whose names are known, before those that are left
 abbrev pub invariant-loop-port : goal.invariant-loop-port
 invariant-loop-port l = record {
-  all : l.placed.items ++ map (port_at (lent_texts l.numbers.keys)) (map port_text l.port-iterator) ≡ map (port_at (lent_texts l.numbers.keys)) (port_texts l.ports);
-  known : find (is_unknown (lent_texts l.numbers.keys)) (map port_name (map port_text l.port-iterator)) ≡ find (is_unknown (lent_texts l.numbers.keys)) (map port_name (port_texts l.ports));
+  all : l.placed.items ++ map (port_at (key_texts l.numbers)) (map port_text l.port-iterator) ≡ map (port_at (key_texts l.numbers)) (port_texts l.ports);
+  known : find (is_unknown (key_texts l.numbers)) (map port_name (map port_text l.port-iterator)) ≡ find (is_unknown (key_texts l.numbers)) (map port_name (port_texts l.ports));
 }

@@ -51,7 +51,7 @@ loop-at-smaller c =
     omega (arith, near, same)
 
 pub returns : goal.returns
-returns c = λ digits ws is way.
+returns c = λ digits is ws way.
     let t = c.args.tables.now in
     let v = c.loop-at.invariant.put digits ws is way in
     sym (append-nil c.loop-at.out.items)

@@ -19,5 +19,5 @@ returns-clause-lines c =
     let k = c.args.packet.now in
     let digits = digits_of c.make_room.new.self.frames i h k in
     on_ok_weaker c.put_way.result
-    (λ put ws way. put digits ws c.in_ok-spell.ensures way ∙ (λ j. c.make_room.ensures.hops j ++ way_text t.switches (digits_of (c.make_room.ensures.frames j) i h k) c.args.from ws))
+    (λ put ws way. put digits c.in_ok-spell.ensures ws way ∙ (λ j. c.make_room.ensures.hops j ++ way_text t.switches (digits_of (c.make_room.ensures.frames j) i h k) c.args.from ws))
     c.put_way.ensures
