@@ -35,9 +35,9 @@ use Rattle.std.proofs.lemmas.Option.{same_Some}
 use Rattle.snap_rows.proofs.Stepping.{steps_plain}
 use Rattle.snap_net.specs.declared.flying.Flying.{Flying}
 use Rattle.snap_net.specs.Moves.{copies_in_flight, flights}
-use Rattle.snap_net.specs.Passing.{Comes, Goes, GoOut, none, next_one, IsHeard, IsPlain, IsTold, LandsWith, PartsInto, Passes, StepsAt, StepsSo, crossings, entering, held as holding, reached}
+use Rattle.snap_net.specs.Passing.{Comes, Goes, GoOut, none, next_one, IsHeard, IsPlain, IsTold, PartsInto, Passes, StepsAt, StepsSo, crossings, entering, held as holding, reached, FliesTo, PassesThrough}
 use Rattle.snap_net.specs.Shown.{Held, Shows, flown, store_of}
-use Rattle.snap_net.specs.Travels.{Crosses, ends, goes, Hears, WayOf}
+use Rattle.snap_net.specs.Travels.{Crosses, ends, goes, Hears, WayOf, HearsWay, HearsOut}
 use Rattle.snap_net.proofs.Steps.{Left, done_fresh, has_stepped, with_fresh}
 use Rattle.snap_net.proofs.Told.{calm-then, crossings-append, packets_of-append}
 use Rattle.snap_rows.proofs.Happenings.{deliveries_of-append, losses_of-append}
@@ -240,7 +240,7 @@ module _ {V : Type 0} (saw : V → List Happening → V → Type 0) (i : ℕ) wh
   }
 
   -- a way that was told
-  pub heard_way : (t : Tables) (u v : V) (h : Head) (k : List ℕ) (w x : ℕ) → ((ws : List ℕ) (gs : List Happening) → WayOf t h w x ws → Crosses i h k w ws gs → Hears saw u v gs)
+  pub heard_way : (t : Tables) (u v : V) (h : Head) (k : List ℕ) (w x : ℕ) → HearsWay saw t i h k w x u v
       → (hs : List Happening) → OnWay t i h k w x hs → IsHeard saw i u v [] 0 hs
   heard_way t u v h k w x told hs way =
       let r = crossing_told i h k w way.0 hs way.2 in
@@ -303,7 +303,7 @@ go_last none = refl
 
 -- what one copy crosses on its way out was told, and of none nothing
 pub heard_one : {V : Type 0} (saw : V → List Happening → V → Type 0) (i : ℕ) (t : Tables) (w : ℕ) (x : Sent) (u v : V)
-    → ((y : ℕ) (ws : List ℕ) (gs : List Happening) → port_at t x.port ≡ Some y → Way t y w ws → Crosses i (Out x.port) x.packet w ws gs → Hears saw u v gs) → (gs : List Happening) → GoOut t i w (x ∷ []) gs → Hears saw u v gs
+    → HearsOut saw t i x.port x.packet w u v → (gs : List Happening) → GoOut t i w (x ∷ []) gs → Hears saw u v gs
 heard_one saw i t w x u v told gs out =
     let one = go_first x [] gs out in
     let all : gs ≡ one.2 = one.8 ∙ ap (λ l. one.2 ++ l) (go_last one.7) ∙ append-nil one.2 in
@@ -357,7 +357,7 @@ passes v none' p w k at first stores told comes s shows =
 module _ {V : Type 0} (saw : V → List Happening → V → Type 0) (t : Tables) (valid : IsValid t) (form : IsInForm t) where
   -- the copy is parted
   pub comes_parted : (old new : List Kept) (i v w : ℕ) (k : List ℕ) (outs : Bor (List Parts)) (a b c : V) (sent : List (List ℕ)) (lost : ℕ) → w < switch_count t
-      → LandsWith t old (entering i v k) new w (fate.Fork outs) (IsHeard saw i a b [] 0) → PartsInto t i w outs.now k saw b c sent lost → Comes t (i + 1) old (entering i v k ∷ []) new [] (IsHeard saw i a c sent lost)
+      → FliesTo saw t (entering i v k) a b old new w (fate.Fork outs) → PartsInto t i w outs.now k saw b c sent lost → PassesThrough t i v k old new (IsHeard saw i a c sent lost)
   comes_parted old new i v w k outs a b c sent lost low lands parts =
       let mid = lands.0 in
       let d : Flying = record { number = i; at = w; head = lands.1; packet = k } in
@@ -385,7 +385,7 @@ module _ {V : Type 0} (saw : V → List Happening → V → Type 0) (t : Tables)
       (λ hs gs x y. subst (λ n. IsHeard saw i a c sent n (hs ++ gs)) none-before (heard_both saw i a b c [] sent 0 lost hs gs x (record { told = y.0; heard = y.1 })))
 
   -- it is delivered
-  pub comes_delivered : (old new : List Kept) (i v w : ℕ) (k : List ℕ) (port : ℕ) (a b : V) → LandsWith t old (entering i v k) new w (fate.Deliver port) (IsHeard saw i a b [] 0) → Comes t (i + 1) old (entering i v k ∷ []) new [] (IsHeard saw i a b (k ∷ []) 0)
+  pub comes_delivered : (old new : List Kept) (i v w : ℕ) (k : List ℕ) (port : ℕ) (a b : V) → FliesTo saw t (entering i v k) a b old new w (fate.Deliver port) → PassesThrough t i v k old new (IsHeard saw i a b (k ∷ []) 0)
   comes_delivered old new i v w k port a b lands =
       let mid = lands.0 in
       let d : Flying = record { number = i; at = w; head = lands.1; packet = k } in

@@ -53,6 +53,11 @@ abbrev pub lost_in : Passed → ℕ
 lost_in Alone = 0
 lost_in (Parted copies lost) = lost
 
+-- what went out of packet i, which now is k, was told
+abbrev pub HearsSent : {V : Type 0} → (saw : V → List Happening → V → Type 0)
+    → (i : ℕ) → (old new : V) → List ℕ → Passed → List Happening → Type 0
+HearsSent saw i old new k passed hs = IsHeard saw i old new (sent_in k passed) (lost_in passed) hs
+
 -- ---- steps
 -- n packets were injected, and these copies are in flight
 abbrev pub held : Tables → ℕ → List Kept → List Flying → Held
@@ -111,6 +116,15 @@ Comes t n old from new to told = (s : Net) → Shows (held t n old from) s
 abbrev pub LandsWith : Tables → (old : List Kept) → Flying → (new : List Kept) → (w : ℕ) → Fate → (List Happening → Type 0) → Type 0
 LandsWith t old c new w f told = (mid : List Kept) × (h : Head)
     × Comes t (c.number + 1) old (c ∷ []) mid (record c { at = w; head = h } ∷ []) told × StepsSo t w c.packet h mid new f
+
+-- the same, where the links that it crosses were told
+abbrev pub FliesTo : {V : Type 0} → (saw : V → List Happening → V → Type 0)
+    → Tables → Flying → (a b : V) → (old new : List Kept) → (w : ℕ) → Fate → Type 0
+FliesTo saw t c a b old new w f = LandsWith t old c new w f (IsHeard saw c.number a b [] 0)
+
+-- packet k of number i, which came in at switch w, is parted and sent out until no copy is left, and this is told
+abbrev pub PassesThrough : Tables → (i w : ℕ) → List ℕ → (old new : List Kept) → (List Happening → Type 0) → Type 0
+PassesThrough t i w k old new told = Comes t (i + 1) old (entering i w k ∷ []) new [] told
 
 -- copies of packet i cross these links on their ways from switch w to their ports, one copy after another
 pub data GoOut (t : Tables) (i w : ℕ) : List Sent → List Happening → Type 0 where

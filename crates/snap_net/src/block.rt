@@ -2,7 +2,7 @@
 
 ghost use Rattle.std.specs.Prelude.{◌≡◌, ◌<◌, ◌+◌, [], ◌∷◌, ◌++◌, Some, IfOk, OnOk, OnErr, length, slice_get};
 ghost use Rattle.snap_net.specs.declared.flying.Flying.{Flying};
-ghost use Rattle.snap_net.specs.Flights.{spliced};
+ghost use Rattle.snap_net.specs.Flights.{spliced, SendsCopy};
 
 use crate::flying::Flying;
 use snap_core::NoMemory;
@@ -70,7 +70,7 @@ impl Block {
     /// Sends a copy to a switch, with a head.
     pub(crate) fn send(&mut self, place: usize, to: u16, head: Head)
         requires { place < length self.old }
-        ensures { (c : Flying) → slice_get self.old place ≡ Some c → self.new ≡ spliced self.old place 1 (record c { at = to; head = head } ∷ []) }
+        ensures { SendsCopy self.old place to head self.new }
     {
         let copy = &mut self.copies[place];
         copy.at = to;

@@ -2,7 +2,7 @@
 
 ghost use Rattle.std.specs.Prelude.{◌≡◌, ◌<◌, ◌≤◌, ◌+◌, [], ◌∷◌, ◌++◌, Some, IfOk, OnOk, OnErr, length, slice_get};
 ghost use Rattle.snap_net.specs.declared.flying.Flying.{Flying};
-ghost use Rattle.snap_net.specs.Flights.{joined, spliced};
+ghost use Rattle.snap_net.specs.Flights.{SendsCopy, joined, spliced};
 ghost use Rattle.snap_net.specs.Spots.{IsSpot, number_at};
 
 use crate::block::Block;
@@ -138,7 +138,7 @@ fn insert_at(blocks: &mut Vec<Block>, spot: Spot, copy: Flying) -> Result<(), No
 // Sends the copy at a spot to a switch.
 fn send_at(blocks: &mut Vec<Block>, spot: Spot, to: u16, head: Head)
     requires { IsSpot blocks.old.items (number_at blocks.old.items spot) spot }
-    ensures { (c : Flying) → slice_get (joined blocks.old.items) (number_at blocks.old.items spot) ≡ Some c → joined blocks.new.items ≡ spliced (joined blocks.old.items) (number_at blocks.old.items spot) 1 (record c { at = to; head = head } ∷ []) }
+    ensures { SendsCopy (joined blocks.old.items) (number_at blocks.old.items spot) to head (joined blocks.new.items) }
 {
     blocks[spot.block].send(spot.place, to, head);
 }
@@ -239,7 +239,7 @@ impl Flights {
     /// Sends copy k to a switch, with a head. Takes no memory.
     pub(crate) fn send(&mut self, k: usize, to: u16, head: Head)
         requires { k < length self.old }
-        ensures { (c : Flying) → slice_get self.old k ≡ Some c → self.new ≡ spliced self.old k 1 (record c { at = to; head = head } ∷ []) }
+        ensures { SendsCopy self.old k to head self.new }
     {
         let spot = spot_of(&self.blocks, self.count, k);
         send_at(&mut self.blocks, spot, to, head);

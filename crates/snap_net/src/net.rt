@@ -3,12 +3,12 @@
 ghost use Rattle.std.specs.Prelude.{◌≡◌, ◌≢◌, ◌≤◌, ◌<◌, ◌+◌, ◌^◌, None, Some, ℕ, IfOk, IfErr, OnOk, OnErr, IsSome, IsTrue, [], length, map, slice_get, slice_index, All};
 ghost use Rattle.snap_core.specs.Arrays.{zero_arrays};
 ghost use Rattle.snap_core.specs.Cells.{arrays_of};
-ghost use Rattle.snap_core.specs.Listing.{IsListing, entry_of, number_in};
+ghost use Rattle.snap_core.specs.Listing.{IsListing, entry_of};
 ghost use Rattle.snap_rows.specs.Entries.{port_at};
 ghost use Rattle.snap_rows.specs.Form.{comps, array_count, switch_count};
 ghost use Rattle.snap_rows.specs.Network.{Net as State, start, whole, Inject, Step};
 ghost use Rattle.snap_net.specs.declared.flying.Flying.{Flying};
-ghost use Rattle.snap_net.specs.Passing.{IsHeard, Passes, lost_in, sent_in};
+ghost use Rattle.snap_net.specs.Passing.{Passes, sent_in, HearsSent};
 ghost use Rattle.snap_net.specs.Shown.{HasFrame, IsHeld, Shows, IsDone, Nothing, Tells, TellsMoved, Same, store_of};
 ghost use Rattle.snap_net.specs.Parts.{held_of};
 ghost use Rattle.snap_net.specs.Moves.{StepsAt};
@@ -211,7 +211,7 @@ impl Net {
         requires packet { length packet.old ≡ comps self.old.tables }
         requires port { slice_index packet.old 0 ≡ port }
         requires room { self.old.injected + 1 < 2 ^ 64 }
-        ensures passes { IfOk result (λ passed. Passes port packet.old self.old self.new (IsHeard (W.saw self.old.tables) self.old.injected watch.old watch.new (sent_in packet.new passed) (lost_in passed))) }
+        ensures passes { IfOk result (λ passed. Passes port packet.old self.old self.new (HearsSent (W.saw self.old.tables) self.old.injected watch.old watch.new packet.new passed)) }
         ensures sent { IfOk result (λ passed. All (λ k. length k ≡ comps self.old.tables) (sent_in packet.new passed)) }
         ensures long { length packet.new ≡ length packet.old }
         ensures rests { self.new.flying ≡ [] }

@@ -1,6 +1,6 @@
 //! A packet that came in goes on in its own memory until it is delivered, or parted into copies.
 
-ghost use Rattle.std.specs.Prelude.{◌≡◌, ◌<◌, ◌+◌, ◌∷◌, ℕ, List, [], IfOk, OnOk, IsSome, length};
+ghost use Rattle.std.specs.Prelude.{◌≡◌, ◌<◌, ◌∷◌, List, [], IfOk, OnOk, IsSome, length};
 ghost use Rattle.std.specs.List.{All};
 ghost use Rattle.snap_core.specs.Tests.{OutFits};
 ghost use Rattle.snap_rows.specs.declared.head.Sent.{Sent};
@@ -10,7 +10,7 @@ ghost use Rattle.snap_rows.specs.Home.{AtHome};
 ghost use Rattle.snap_rows.specs.Network.{Happening};
 ghost use Rattle.snap_rows.specs.Stepping.{FateArrives, FateFits};
 ghost use Rattle.snap_net.specs.Travels.{Hears};
-ghost use Rattle.snap_net.specs.Passing.{Comes, EndsPassing, GoOut, IsHeard, IsPlain, LandsWith, PartsInto, StepsSo, entering, lost_in, reached, sent_in};
+ghost use Rattle.snap_net.specs.Passing.{EndsPassing, FliesTo, GoOut, HearsSent, IsPlain, PartsInto, StepsSo, entering, lost_in, reached, sent_in, PassesThrough};
 
 use crate::watch::Watch;
 use snap_core::NoMemory;
@@ -98,7 +98,7 @@ fn fly<'a, W: Watch>(
     requires from { from < switch_count tables.now }
     requires packet { length packet.now ≡ comps tables.now }
     requires home { IsSome (row_at tables.now from 0) }
-    ensures lands { IfOk result (λ end. LandsWith tables.now stores.old.items (entering number from packet.now) stores.new.items end.at end.fate (IsHeard (W.saw tables.now) number watch.old watch.new [] 0)) }
+    ensures lands { IfOk result (λ end. FliesTo (W.saw tables.now) tables.now (entering number from packet.now) watch.old watch.new stores.old.items stores.new.items end.at end.fate) }
     ensures ends { IfOk result (λ end. (end.at < switch_count tables.now) × EndsPassing end.fate × FateFits tables.now end.at end.fate) }
     ensures count { length stores.new.items ≡ length stores.old.items }
 {
@@ -230,7 +230,7 @@ pub(crate) fn carry<W: Watch>(
     requires from { from < switch_count tables.now }
     requires packet { length packet.old ≡ comps tables.now }
     requires home { IsSome (row_at tables.now from 0) }
-    ensures comes { IfOk result (λ passed. Comes tables.now (number + 1) stores.old.items (entering number from packet.old ∷ []) stores.new.items [] (IsHeard (W.saw tables.now) number watch.old watch.new (sent_in packet.new passed) (lost_in passed))) }
+    ensures comes { IfOk result (λ passed. PassesThrough tables.now number from packet.old stores.old.items stores.new.items (HearsSent (W.saw tables.now) number watch.old watch.new packet.new passed)) }
     ensures sent { IfOk result (λ passed. All (λ k. length k ≡ comps tables.now) (sent_in packet.new passed)) }
     ensures long { length packet.new ≡ length packet.old }
     ensures count { length stores.new.items ≡ length stores.old.items }

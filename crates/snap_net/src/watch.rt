@@ -1,13 +1,12 @@
 //! What is told of the links that copies cross.
 
-ghost use Rattle.std.specs.Prelude.{◌≡◌, ◌<◌, ℕ, List, IsSome, OnOk, Some, length};
+ghost use Rattle.std.specs.Prelude.{◌≡◌, ◌<◌, List, IsSome, OnOk, length};
 ghost use Rattle.snap_rows.specs.declared.tables.Tables.{Tables};
 ghost use Rattle.snap_rows.specs.Entries.{port_at};
 ghost use Rattle.snap_rows.specs.Form.{comps, switch_count};
 ghost use Rattle.snap_rows.specs.Network.{Happening};
-ghost use Rattle.snap_rows.specs.Ways.{Way};
 ghost use Rattle.snap_rows.specs.Stepping.{AimsAt};
-ghost use Rattle.snap_net.specs.Travels.{Crosses, Hears, WayOf};
+ghost use Rattle.snap_net.specs.Travels.{HearsOut, HearsWay};
 
 use snap_core::NoMemory;
 use snap_core::packet::Packet;
@@ -34,7 +33,7 @@ pub trait Watch {
         requires target { target < switch_count tables.now }
         requires aims { AimsAt tables.now from head target }
         requires packet { length packet.now ≡ comps tables.now }
-        ensures { OnOk result ((ws : List ℕ) (gs : List Happening) → WayOf tables.now head from target ws → Crosses number head packet.now from ws gs → Hears (saw tables.now) self.old self.new gs) };
+        ensures { OnOk result (HearsWay (saw tables.now) tables.now number head packet.now from target self.old self.new) };
 
     /// A copy of packet `number`, counted from 0, goes out at a port, by the links from a switch to that of the port.
     /// Refuses for memory alone.
@@ -49,7 +48,7 @@ pub trait Watch {
         requires from { from < switch_count tables.now }
         requires port { IsSome (port_at tables.now port) }
         requires packet { length packet.now ≡ comps tables.now }
-        ensures { OnOk result ((x : ℕ) (ws : List ℕ) (gs : List Happening) → port_at tables.now port ≡ Some x → Way tables.now x from ws → Crosses number (Head.Out port) packet.now from ws gs → Hears (saw tables.now) self.old self.new gs) };
+        ensures { OnOk result (HearsOut (saw tables.now) tables.now number port packet.now from self.old self.new) };
 }
 
 /// Is told nothing, so that no way is looked up for it.
