@@ -1,9 +1,13 @@
 -- What one step told, and the next behind it.
-use Rattle.std.proofs.Common.{◌≡◌, Option, Some, None, IfSome, Result, Ok, Err, sym, subst}
+use Rattle.std.proofs.Common.{◌≡◌, Option, Some, None, IfSome, Result, Ok, Err, ap, sym, subst}
 use Rattle.std.specs.Prelude.{IsErrAnd}
 use Rattle.snap_cli.proofs.Shared.{Refusal}
 
 -- a `?` answers the refusal that it met
+pub passed : {X : Type 0} {r : Result X Refusal} {e : Refusal} → IsErrAnd r (λ y. y ≡ e) → r ≡ Err e
+passed {r = Ok x} is = absurd is
+passed {r = Err y} is = ap (λ x. Err x) is
+
 pub relayed : {X : Type 0} (P : Result X Refusal → Type 0) (r : Result X Refusal) (e : Refusal) → IsErrAnd r (λ y. y ≡ e) → P (Err e) → P r
 relayed P (Ok x) e is h = absurd is
 relayed P (Err y) e is h = subst (λ z. P (Err z)) (sym is) h

@@ -1,9 +1,9 @@
 -- What the top call promises.
-use Rattle.std.specs.Prelude.{◌≡◌, ◌⊎◌, ℕ, List, [], Err, IfSome, MatchOption}
+use Rattle.std.specs.Prelude.{◌≡◌, ◌⊎◌, ℕ, List, [], Some, Err, IfSome, MatchOption}
 use Rattle.std.specs.declared.option.Option.{Option}
 use Rattle.std.specs.Io.KnownBytes.{Appends}
 use Rattle.snap_io.specs.Files.{Files}
-use Rattle.snap_words.specs.Commands.{command_of}
+use Rattle.snap_words.specs.Commands.{command_of, demo}
 use Rattle.snap_cli.specs.declared.refusal.Refusal.TheVariants.{Usage, NoMemory}
 use Rattle.snap_cli.specs.Causes.{HasCauses}
 use Rattle.snap_cli.specs.Deserved.{Meets, Tells}
@@ -14,6 +14,10 @@ abbrev pub MeetsWords : Files → List (List ℕ) → Ending → Option (List �
 MeetsWords files words ending old new =
     MatchOption (command_of words) (((ending ≡ Err Usage) ⊎ (ending ≡ Err NoMemory)) × Appends old new [])
     (λ command. Meets files command ending old new)
+
+-- where the words are those of `demo`, this holds of any files
+abbrev pub OnDemo : List (List ℕ) → (Files → Type 0) → Type 0
+OnDemo words P = (switches : ℕ) → command_of words ≡ Some (demo switches) → (files : Files) → P files
 
 -- The status, the output and the message are those of one ending. Where the shelf tells its files, it is one that the
 -- words deserve on them, or a device's or memory's. A device's has its cause: counts of faults rose.

@@ -22,6 +22,11 @@ use Rattle.snap_cli.specs.Refusals.{Ending}
 use Rattle.snap_cli.specs.Routes.{HasNoRoutes}
 use Rattle.snap_cli.specs.TopologyOf.{TopologyOf}
 
+-- the text is that of the placement of least cost for this demand
+abbrev pub IsBestText : Program → Grouping → Topology → Table → Demand → List ℕ → Type 0
+IsBestText p groups t table demand text = (best : Best)
+    × IsBestOf groups t table demand best × (text ≡ placement_text p.vars t.switches best.owners best.cost)
+
 -- The text of the placement of least cost, for a topology in form and the demand that a file of at most 1,048,576 bytes spells.
 pub record IsPlacementOf (p : Program) (t : Topology) (table : Table) (file text : List ℕ) : Type 0 where
   pub short : length file ≤ 1048576

@@ -49,17 +49,17 @@ MeetsTrace t hops packets file ending old new = (run : RunEnding)
 
 -- ---- schedules
 -- what the run of a schedule with this name did
-abbrev pub MeetsSchedule : Tables → (hops : Bool) → (packets lines : Bor (List ℕ))
-    → (file text : List ℕ) → Ending → Option (List ℕ) → Option (List ℕ) → Type 0
-MeetsSchedule t hops packets lines file text ending old new =
-    (run : Result (Unit {0}) ScheduleFault) × WritesSchedule t hops file text run old new × (ending ≡ ending_of_schedule packets lines run)
+abbrev pub MeetsSchedule : Files → Tables → (hops : Bool) → (packets lines : Bor (List ℕ))
+    → Ending → Option (List ℕ) → Option (List ℕ) → Type 0
+MeetsSchedule files t hops packets lines ending old new = (run : Result (Unit {0}) ScheduleFault)
+    × WritesSchedule t hops (file_of files packets.now) (file_of files lines.now) run old new
+    × (ending ≡ ending_of_schedule packets lines run)
 
 -- what the run of tables in this order did
 abbrev pub MeetsOrder : Files → Tables → (hops : Bool) → (packets : Bor (List ℕ))
     → Order → Ending → Option (List ℕ) → Option (List ℕ) → Type 0
 MeetsOrder files t hops packets order.Plain ending old new = MeetsTrace t hops packets (file_of files packets.now) ending old new
-MeetsOrder files t hops packets (order.Schedule lines) ending old new = MeetsSchedule t hops packets lines
-    (file_of files packets.now) (file_of files lines.now) ending old new
+MeetsOrder files t hops packets (order.Schedule lines) ending old new = MeetsSchedule files t hops packets lines ending old new
 MeetsOrder files t hops packets (order.Changes lines) ending old new = MeetsChanges files t hops packets lines.now ending old new
 MeetsOrder files t hops packets (order.InTurn lines) ending old new = MeetsInTurn files t hops packets lines ending old new
 MeetsOrder files t hops packets (order.Rounds workers) ending old new = MeetsByRounds files t hops packets ending old new

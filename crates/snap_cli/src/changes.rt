@@ -45,10 +45,8 @@ pub(crate) fn report_changed<'a, S: Shelf, O: Sink>(
         (O.faults out.old) (O.faults out.new) result }
     ensures statuses { EndsWith (statuses_of_trace (changes lines.entry.now)) result }
 {
-    match load_changes(alloc, shelf, &tables, lines) {
-        Ok(later) => report_later(alloc, tables, later, packets, hops, shelf, out),
-        Err(refusal) => Err(refusal),
-    }
+    let later = load_changes(alloc, shelf, &tables, lines)?;
+    report_later(alloc, tables, later, packets, hops, shelf, out)
 }
 
 // Writes the report of tables that were all read.
@@ -106,10 +104,8 @@ fn load_lines<'a, S: Shelf>(
     ensures devices { OnlyReads (S.files shelf.old) (S.files shelf.new) (S.faults shelf.old) (S.faults shelf.new) result }
     ensures statuses { IfErr result (RefusesWith (2 ∷ 6 ∷ 20 ∷ [])) }
 {
-    match load_text(alloc, shelf, name, MOST_CHANGES_BYTES) {
-        Ok(text) => read_lines(alloc, &text),
-        Err(refusal) => Err(refusal),
-    }
+    let text = load_text(alloc, shelf, name, MOST_CHANGES_BYTES)?;
+    read_lines(alloc, &text)
 }
 
 // The changes that a text says.
@@ -202,10 +198,8 @@ fn load_named<'a, S: Shelf>(
     ensures devices { OnlyReads (S.files shelf.old) (S.files shelf.new) (S.faults shelf.old) (S.faults shelf.new) result }
     ensures statuses { IfErr result (RefusesWith (2 ∷ 6 ∷ 11 ∷ [])) }
 {
-    match load_bytes(alloc, shelf, change) {
-        Ok(text) => read_tables(alloc, &text),
-        Err(refusal) => Err(refusal),
-    }
+    let text = load_bytes(alloc, shelf, change)?;
+    read_tables(alloc, &text)
 }
 
 // The text of the file of a change. Its name stands in the changes file alone, so a refusal has a copy of it.

@@ -29,10 +29,8 @@ pub(crate) fn report<'a, S: Shelf, O: Sink>(
         (O.faults out.old) (O.faults out.new) result }
     ensures statuses { EndsWith (statuses_of (check program.entry.now)) result }
 {
-    match load_program(alloc, shelf, program) {
-        Ok(program) => answer(alloc, &program, out),
-        Err(refusal) => Err(refusal),
-    }
+    let program = load_program(alloc, shelf, program)?;
+    answer(alloc, &program, out)
 }
 
 // Writes the answer of a program that was read.
@@ -41,12 +39,10 @@ fn answer<'a, O: Sink>(alloc: Global, program: &Program, out: &mut O) -> Result<
     ensures meets { MeetsCheck program.now result (O.taken out.old) (O.taken out.new) }
     ensures devices { OnlyWrites (O.faults out.old) (O.faults out.new) result }
 {
-    match judge(alloc, program) {
-        Ok(()) => match write_whole(out, b"ok\n") {
-            Ok(()) => Ok(()),
-            Err(_) => Err(Refusal::Write),
-        },
-        Err(refusal) => Err(refusal),
+    judge(alloc, program)?;
+    match write_whole(out, b"ok\n") {
+        Ok(()) => Ok(()),
+        Err(_) => Err(Refusal::Write),
     }
 }
 
@@ -56,8 +52,6 @@ fn judge<'a>(alloc: Global, program: &Program) -> Result<(), Refusal<'a>>
     ensures { Judges program.now result }
 {
     whole_programs_never_race();
-    match diagram(alloc, program) {
-        Ok(_) => Ok(()),
-        Err(refusal) => Err(refusal),
-    }
+    let _ = diagram(alloc, program)?;
+    Ok(())
 }

@@ -32,11 +32,11 @@ use snap_dep::calls::groups;
 use snap_dep::groups::Groups;
 use snap_io::{Shelf, Sink};
 use snap_make::on_demand::on_demand as tables_on_demand;
-use snap_make::tables::shared_tables;
+use snap_make::tables::proved_tables;
 use snap_place::placement::{PlaceFault, Placement};
+use snap_rows::proved::Proved;
 use snap_tables::fault::PrintFault;
-use snap_tables::print_shared::print_shared;
-use snap_tables::shared::SharedTables;
+use snap_tables::print::print_proved;
 use std::alloc::Global;
 use std::mem::forget;
 
@@ -56,27 +56,19 @@ pub(crate) fn report<'a, S: Shelf, O: Sink>(
         (O.faults out.old) (O.faults out.new) result }
     ensures statuses { EndsWith (statuses_of (compile program.entry.now topology.entry.now placement.entry.now on_demand)) result }
 {
-    match load_tables(alloc, program, topology, placement, on_demand, shelf) {
-        Ok(tables) => {
-            let written = write_tables(alloc, &tables, out);
-            forget(tables);
-            written
-        }
-        Err(refusal) => Err(refusal),
-    }
+    let tables = load_tables(alloc, program, topology, placement, on_demand, shelf)?;
+    let written = write_tables(alloc, &tables, out);
+    forget(tables);
+    written
 }
 
 // Writes the text of tables.
-fn write_tables<'a, O: Sink>(
-    alloc: Global,
-    tables: &SharedTables,
-    out: &mut O,
-) -> Result<(), Refusal<'a>>
+fn write_tables<'a, O: Sink>(alloc: Global, tables: &Proved, out: &mut O) -> Result<(), Refusal<'a>>
     ensures writes { WritesTables tables.now result (O.taken out.old) (O.taken out.new) }
     ensures back { IsReadBack tables.now }
     ensures devices { OnlyWrites (O.faults out.old) (O.faults out.new) result }
 {
-    match print_shared(alloc, tables, out) {
+    match print_proved(alloc, tables, out) {
         Ok(()) => Ok(()),
         Err(PrintFault::Write) => Err(Refusal::Write),
         Err(PrintFault::NoMemory) => Err(Refusal::NoMemory),
@@ -91,7 +83,7 @@ fn load_tables<'a, S: Shelf>(
     placement: &'a [u8],
     on_demand: bool,
     shelf: &mut S,
-) -> Result<SharedTables, Refusal<'a>>
+) -> Result<Proved, Refusal<'a>>
     ensures gives { IfSome (S.files shelf.old) (λ files. GivesTables files program.entry.now topology.entry.now placement.entry.now on_demand result) }
     ensures devices { OnlyReads (S.files shelf.old) (S.files shelf.new) (S.faults shelf.old) (S.faults shelf.new) result }
     ensures statuses { IfErr result (RefusesWith (2 ∷ 4 ∷ 5 ∷ 6 ∷ 7 ∷ 8 ∷ 9 ∷ 10 ∷ [])) }
@@ -115,7 +107,7 @@ fn tables_of<'a>(
     network: &Network,
     text: &[u8],
     on_demand: bool,
-) -> Result<SharedTables, Refusal<'a>>
+) -> Result<Proved, Refusal<'a>>
     requires program { IsInForm program }
     requires topology { IsTopology network.now.topology }
     requires routes { AreRoutes network.now.topology network.now.routes }
@@ -159,7 +151,7 @@ fn make<'a>(
     network: &Network,
     placement: &Placement,
     on_demand: bool,
-) -> Result<SharedTables, Refusal<'a>>
+) -> Result<Proved, Refusal<'a>>
     requires program { IsInForm program.now }
     requires groups { IsGrouping program.now.body (length program.now.vars) groups.now }
     requires topology { IsTopology network.now.topology }
@@ -185,7 +177,7 @@ fn tables_from(
     network: &Network,
     placement: &Placement,
     on_demand: bool,
-) -> Result<SharedTables, NoMemory>
+) -> Result<Proved, NoMemory>
     requires form { IsInForm program.now }
     requires small { PutsSmall program.now.body }
     requires groups { IsGrouping program.now.body (length program.now.vars) groups.now }
@@ -200,6 +192,6 @@ fn tables_from(
     if on_demand {
         tables_on_demand(alloc, program, built, groups, topology, placement, routes)
     } else {
-        shared_tables(alloc, program, built, groups, topology, placement, routes)
+        proved_tables(alloc, program, built, groups, topology, placement, routes)
     }
 }

@@ -41,10 +41,8 @@ pub(crate) fn report<'a, S: Shelf, O: Sink>(
         (O.faults out.old) (O.faults out.new) result }
     ensures statuses { EndsWith (statuses_of (deps program.entry.now)) result }
 {
-    match load_program(alloc, shelf, program) {
-        Ok(program) => write_text(alloc, &program, out),
-        Err(refusal) => Err(refusal),
-    }
+    let program = load_program(alloc, shelf, program)?;
+    write_text(alloc, &program, out)
 }
 
 // Writes the text of a program that was read.

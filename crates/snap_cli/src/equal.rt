@@ -40,13 +40,9 @@ pub(crate) fn report<'a, S: Shelf, O: Sink>(
         (O.faults out.old) (O.faults out.new) result }
     ensures statuses { EndsWith (statuses_of (equal left.entry.now right.entry.now)) result }
 {
-    match load_program(alloc, shelf, left) {
-        Ok(first) => match load_program(alloc, shelf, right) {
-            Ok(second) => answer(alloc, &first, &second, out),
-            Err(refusal) => Err(refusal),
-        },
-        Err(refusal) => Err(refusal),
-    }
+    let first = load_program(alloc, shelf, left)?;
+    let second = load_program(alloc, shelf, right)?;
+    answer(alloc, &first, &second, out)
 }
 
 // Writes the answer of two programs that were read.
@@ -61,12 +57,10 @@ fn answer<'a, O: Sink>(
     ensures meets { MeetsEqual left.now right.now result (O.taken out.old) (O.taken out.new) }
     ensures devices { OnlyWrites (O.faults out.old) (O.faults out.new) result }
 {
-    match judge(alloc, left, right) {
-        Ok(()) => match write_whole(out, b"equal\n") {
-            Ok(()) => Ok(()),
-            Err(_) => Err(Refusal::Write),
-        },
-        Err(refusal) => Err(refusal),
+    judge(alloc, left, right)?;
+    match write_whole(out, b"equal\n") {
+        Ok(()) => Ok(()),
+        Err(_) => Err(Refusal::Write),
     }
 }
 
@@ -87,10 +81,8 @@ fn judge<'a>(alloc: Global, left: &Program, right: &Program) -> Result<(), Refus
     if !are_declared_alike(left, right) {
         return Err(Refusal::Declarations);
     }
-    match diagram(alloc, left) {
-        Ok(first) => judge_second(alloc, left, right, &first),
-        Err(refusal) => Err(refusal),
-    }
+    let first = diagram(alloc, left)?;
+    judge_second(alloc, left, right, &first)
 }
 
 // The same where the first never races.
@@ -107,10 +99,8 @@ fn judge_second<'a>(
     ensures { Compares left.now right.now result }
 {
     whole_programs_never_race();
-    match diagram(alloc, right) {
-        Ok(second) => judge_both(alloc, left, right, first, &second),
-        Err(refusal) => Err(refusal),
-    }
+    let second = diagram(alloc, right)?;
+    judge_both(alloc, left, right, first, &second)
 }
 
 // The same where neither races.

@@ -32,10 +32,8 @@ pub(crate) fn report<'a, S: Shelf, O: Sink>(
         (O.faults out.old) (O.faults out.new) result }
     ensures statuses { EndsWith (statuses_of (obs program.entry.now packets.entry.now)) result }
 {
-    match load_program(alloc, shelf, program) {
-        Ok(program) => report_of(alloc, &program, packets, shelf, out),
-        Err(refusal) => Err(refusal),
-    }
+    let program = load_program(alloc, shelf, program)?;
+    report_of(alloc, &program, packets, shelf, out)
 }
 
 // Writes the report of a program that was read.

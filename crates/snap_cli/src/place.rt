@@ -5,13 +5,11 @@ ghost use Rattle.snap_core.specs.Programs.{IsInForm};
 ghost use Rattle.snap_dep.specs.Ranks.{IsGrouping};
 ghost use Rattle.snap_topo.specs.Form.{IsInForm as IsTopology};
 ghost use Rattle.snap_route.specs.Tables.{AreRoutes};
-ghost use Rattle.snap_place.specs.Printed.{placement_text};
-ghost use Rattle.snap_seek.specs.Placements.{IsBestOf, IsDemand};
-ghost use Rattle.snap_seek.specs.declared.best.Best.{Best};
+ghost use Rattle.snap_seek.specs.Placements.{IsDemand};
 ghost use Rattle.snap_words.specs.Commands.{place};
 ghost use Rattle.snap_cli.specs.Causes.{BlamesNoDevice, OnlyReads, ReadsAndWrites};
 ghost use Rattle.snap_cli.specs.Deserved.{Meets};
-ghost use Rattle.snap_cli.specs.Place.{refusal_of_demand};
+ghost use Rattle.snap_cli.specs.Place.{IsBestText, refusal_of_demand};
 ghost use Rattle.snap_cli.specs.PlaceSteps.{GivesPlacement, Places};
 ghost use Rattle.snap_cli.specs.Statuses.{EndsWith, RefusesWith, statuses_of};
 
@@ -44,12 +42,10 @@ pub(crate) fn report<'a, S: Shelf, O: Sink>(
         (O.faults out.old) (O.faults out.new) result }
     ensures statuses { EndsWith (statuses_of (place program.entry.now topology.entry.now demand.entry.now)) result }
 {
-    match load_placement(alloc, program, topology, demand, shelf) {
-        Ok(text) => match write_whole(out, &text) {
-            Ok(()) => Ok(()),
-            Err(_) => Err(Refusal::Write),
-        },
-        Err(refusal) => Err(refusal),
+    let text = load_placement(alloc, program, topology, demand, shelf)?;
+    match write_whole(out, &text) {
+        Ok(()) => Ok(()),
+        Err(_) => Err(Refusal::Write),
     }
 }
 
@@ -121,7 +117,8 @@ fn best_text(
     requires topology { IsTopology network.now.topology }
     requires routes { AreRoutes network.now.topology network.now.routes }
     requires demand { IsDemand groups.now network.now.topology demand.now }
-    ensures { IfOk result (λ text. (best : Best) × IsBestOf groups.now network.now.topology network.now.routes demand.now best × (text.items ≡ placement_text program.now.vars network.now.topology.switches best.owners best.cost)) }
+    ensures { IfOk result (λ text.
+        IsBestText program.now groups.now network.now.topology network.now.routes demand.now text.items) }
 {
     let best = seek(alloc, groups, &network.topology, &network.routes, demand)?;
     print(

@@ -33,10 +33,8 @@ pub(crate) fn load_program<'a, S: Shelf>(
     ensures devices { OnlyReads (S.files shelf.old) (S.files shelf.new) (S.faults shelf.old) (S.faults shelf.new) result }
     ensures statuses { IfErr result (RefusesWith (2 ∷ 4 ∷ 5 ∷ 6 ∷ [])) }
 {
-    match load_text(alloc, shelf, name, MOST_PROGRAM) {
-        Ok(text) => read_program(alloc, &text),
-        Err(refusal) => Err(refusal),
-    }
+    let text = load_text(alloc, shelf, name, MOST_PROGRAM)?;
+    read_program(alloc, &text)
 }
 
 /// The program that a text spells.

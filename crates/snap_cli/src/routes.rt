@@ -37,10 +37,8 @@ pub(crate) fn report<'a, S: Shelf, O: Sink>(
         (O.faults out.old) (O.faults out.new) result }
     ensures statuses { EndsWith (statuses_of (routes name.entry.now)) result }
 {
-    match load_topology(alloc, shelf, name) {
-        Ok(topology) => report_of(alloc, topology, out),
-        Err(refusal) => Err(refusal),
-    }
+    let topology = load_topology(alloc, shelf, name)?;
+    report_of(alloc, topology, out)
 }
 
 // Writes the routes of a topology that was read.

@@ -1,7 +1,6 @@
 //! `trace --schedule`: the report of the events that a schedule orders.
 
 ghost use Rattle.std.specs.Prelude.{◌≡◌, IfSome};
-ghost use Rattle.snap_io.specs.Files.{file_of};
 ghost use Rattle.snap_cli.specs.Causes.{ReadsAndWrites};
 ghost use Rattle.snap_cli.specs.RunSteps.{refusal_of_schedule};
 ghost use Rattle.snap_cli.specs.TraceSteps.{MeetsSchedule};
@@ -27,8 +26,7 @@ pub(crate) fn report_scheduled<'a, S: Shelf, O: Sink>(
     shelf: &mut S,
     out: &mut O,
 ) -> Result<(), Refusal<'a>>
-    ensures meets { IfSome (S.files shelf.old) (λ files. MeetsSchedule tables hops packets.entry lines.entry
-        (file_of files packets.entry.now) (file_of files lines.entry.now) result (O.taken out.old) (O.taken out.new)) }
+    ensures meets { IfSome (S.files shelf.old) (λ files. MeetsSchedule files tables hops packets.entry lines.entry result (O.taken out.old) (O.taken out.new)) }
     ensures devices { ReadsAndWrites (S.files shelf.old) (S.files shelf.new) (S.faults shelf.old) (S.faults shelf.new)
         (O.faults out.old) (O.faults out.new) result }
     ensures statuses { EndsWith (statuses_of_trace (schedule lines.entry.now)) result }

@@ -27,10 +27,8 @@ pub(crate) fn load_tables<'a, S: Shelf>(
     ensures devices { OnlyReads (S.files shelf.old) (S.files shelf.new) (S.faults shelf.old) (S.faults shelf.new) result }
     ensures statuses { IfErr result (RefusesWith (2 ∷ 6 ∷ 11 ∷ [])) }
 {
-    match load_text(alloc, shelf, name, MOST_TABLES) {
-        Ok(text) => read_tables(alloc, &text),
-        Err(refusal) => Err(refusal),
-    }
+    let text = load_text(alloc, shelf, name, MOST_TABLES)?;
+    read_tables(alloc, &text)
 }
 
 // The valid tables that a text spells.

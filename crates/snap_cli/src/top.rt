@@ -3,10 +3,9 @@
 ghost use Rattle.std.specs.Prelude.{◌≡◌, ◌⊎◌, ◌≤◌, ℕ, List, [], None, Some, IfSome, IsErrOf};
 ghost use Rattle.std.specs.Io.KnownBytes.{Appends};
 ghost use Rattle.snap_io.specs.Causes.{NoneFell, Rose};
-ghost use Rattle.snap_io.specs.Files.{Files};
-ghost use Rattle.snap_words.specs.Commands.{command_of, demo};
+ghost use Rattle.snap_words.specs.Commands.{command_of};
 ghost use Rattle.snap_words.specs.Said.{bytes_of};
-ghost use Rattle.snap_cli.specs.Answers.{Answers, MeetsWords};
+ghost use Rattle.snap_cli.specs.Answers.{Answers, MeetsWords, OnDemo};
 ghost use Rattle.snap_cli.specs.Causes.{ReadsAndWrites};
 ghost use Rattle.snap_cli.specs.Refusals.{status_of};
 ghost use Rattle.snap_cli.specs.Statuses.{CanAnswer};
@@ -37,10 +36,10 @@ pub fn snap<R: Threads + Sync, S: Shelf, O: Sink, E: Sink>(
         (E.faults err.old) (E.faults err.new) (E.taken err.old) (E.taken err.new) }
 
     // `demo` reads no file: what it deserves on any files is so, also where the shelf tells none.
-    ensures demo { (switches : ℕ) → command_of (bytes_of words.now) ≡ Some (demo switches) → (files : Files) →
+    ensures demo { OnDemo (bytes_of words.now) (λ files.
         Answers (bytes_of words.now) (Some files) result (S.faults shelf.old) (S.faults shelf.new)
         (O.faults out.old) (O.faults out.new) (O.taken out.old) (O.taken out.new)
-        (E.faults err.old) (E.faults err.new) (E.taken err.old) (E.taken err.new) }
+        (E.faults err.old) (E.faults err.new) (E.taken err.old) (E.taken err.new)) }
 
     // These hold for shelves and sinks that tell nothing too.
     ensures statuses { IfSome (command_of (bytes_of words.now)) (λ command. CanAnswer command result) }
@@ -81,8 +80,8 @@ fn run<'a, R: Threads + Sync, S: Shelf, O: Sink>(
     ensures devices { ReadsAndWrites (S.files shelf.old) (S.files shelf.new) (S.faults shelf.old) (S.faults shelf.new)
         (O.faults out.old) (O.faults out.new) result }
     ensures statuses { IfSome (command_of (bytes_of words.entry.now)) (λ command. CanAnswer command (status_of result)) }
-    ensures demo { (switches : ℕ) → command_of (bytes_of words.entry.now) ≡ Some (demo switches) → (files : Files) →
-        MeetsWords files (bytes_of words.entry.now) result (O.taken out.old) (O.taken out.new) }
+    ensures demo { OnDemo (bytes_of words.entry.now) (λ files.
+        MeetsWords files (bytes_of words.entry.now) result (O.taken out.old) (O.taken out.new)) }
 {
     match command(alloc, words) {
         Ok(Command::Obs { program, packets }) => obs::report(alloc, program, packets, shelf, out),

@@ -27,12 +27,10 @@ pub(crate) fn load_topology<'a, S: Shelf>(
     ensures devices { OnlyReads (S.files shelf.old) (S.files shelf.new) (S.faults shelf.old) (S.faults shelf.new) result }
     ensures statuses { IfErr result (RefusesWith (2 ∷ 6 ∷ 7 ∷ [])) }
 {
-    match load_text(alloc, shelf, name, MOST_TOPOLOGY) {
-        Ok(text) => match snap_topo::read(alloc, &text) {
-            Ok(topology) => Ok(topology),
-            Err(fault) => Err(refusal_of_topology(fault)),
-        },
-        Err(refusal) => Err(refusal),
+    let text = load_text(alloc, shelf, name, MOST_TOPOLOGY)?;
+    match snap_topo::read(alloc, &text) {
+        Ok(topology) => Ok(topology),
+        Err(fault) => Err(refusal_of_topology(fault)),
     }
 }
 

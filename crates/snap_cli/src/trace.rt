@@ -41,10 +41,8 @@ pub(crate) fn report<'a, R: Threads + Sync, S: Shelf, O: Sink>(
         (O.faults out.old) (O.faults out.new) result }
     ensures statuses { EndsWith (statuses_of_trace (shown_order order.entry)) result }
 {
-    match load_tables(alloc, shelf, tables) {
-        Ok(tables) => report_in_order(rt, alloc, tables, packets, hops, order, shelf, out),
-        Err(refusal) => Err(refusal),
-    }
+    let tables = load_tables(alloc, shelf, tables)?;
+    report_in_order(rt, alloc, tables, packets, hops, order, shelf, out)
 }
 
 // Writes the report of tables that were read, in this order.

@@ -1,9 +1,9 @@
 -- What is made on demand of a whole diagram is faithful.
 use Rattle.std.proofs.Common.{◌≡◌, ℕ, ◌<◌, Bool, true, false, cond, List, map, length, get_or, Option, Some, None, refl, sym, ap, subst, ◌∙◌}
 use Rattle.std.specs.Prelude.{nat_eq, option_map, slice_get, slice_index, if◌then◌else◌}
-use Rattle.std.specs.List.{All, range_with_len}
+use Rattle.std.specs.List.{range_with_len}
 use Rattle.std.proofs.lemmas.List.{length-map}
-use Rattle.std.proofs.lemmas.Option.{slice_get-get_or, slice_get-map}
+use Rattle.std.proofs.lemmas.Option.{slice_get-map}
 use Rattle.snap_core.specs.declared.program.Program.{Program}
 use Rattle.snap_core.specs.Laws.{PutsSmall}
 use Rattle.snap_core.specs.Programs as programs
@@ -21,9 +21,6 @@ use Rattle.snap_rows.specs.declared.tables.Row.TheVariants as row
 use Rattle.snap_rows.specs.declared.tables.RowAt.{RowAt}
 use Rattle.snap_rows.specs.declared.tables.Tables.{Tables}
 use Rattle.snap_rows.specs.Entries.{var_of}
-use Rattle.snap_tables.specs.Shared.{row_shared, shared}
-use Rattle.snap_tables.specs.declared.shared.RowShare.{RowShare}
-use Rattle.snap_tables.specs.declared.shared.Share.TheVariants as share
 use Rattle.snap_gen.specs.Generated.{numbered_nodes}
 use Rattle.snap_demand.specs.declared.switches.Switches.{Switches}
 use Rattle.snap_demand.specs.Demands.{AreDemanded, IsSetting, has_pair}
@@ -31,28 +28,27 @@ use Rattle.snap_gen.specs.Faithful.{Faithful}
 use Rattle.snap_demand.specs.OnDemand.{place_of, row_on, staged}
 use Rattle.snap_demand.proofs.Reframing.{wanted_with, closed_with}
 use Rattle.snap_demand.proofs.Turning.{ended}
-use Rattle.snap_make.specs.Demanded.{AreNumberedRows, CanBeNumbered, demanded, share_on}
+use Rattle.snap_make.specs.Demanded.{AreNumberedRows, CanBeNumbered, body_on, demanded}
 use Rattle.snap_make.specs.Framed.{IsFrame}
 use Rattle.snap_make.specs.Fronts.{IsNumbered}
 use Rattle.snap_make.specs.Pairs.{at_switches, row_entry}
-use Rattle.snap_make.specs.Shares.{as_row, body_of, share_entry}
+use Rattle.snap_make.specs.Shares.{body_of}
 use Rattle.snap_make.specs.Tidy.{IsTidy}
 use Rattle.snap_make.proofs.Demanding as demanding
 use Rattle.snap_make.proofs.Demanding.{wanted_row, made_on_demand}
-use Rattle.snap_make.proofs.Entries.{each_at, Planned, all_planned}
 use Rattle.snap_make.proofs.Given.{IsReady, ranks_below}
 use Rattle.snap_make.proofs.Making.{given}
 use Rattle.snap_make.proofs.Noded.{node_low}
-use Rattle.snap_make.proofs.Sharing.{as_many, entries_twice, numbered_is}
+use Rattle.snap_make.proofs.Sharing.{as_many, numbered_is}
 use Rattle.snap_make.proofs.Whole.{IsBuilt, built, leaves_known}
 
 -- ---- what stands in a row is the row of its switch
 module _ (place : ℕ → ℕ) (w : ℕ) where
-  share_said : (c : Row) → as_row (staged place c) (share_on place w (staged place c)) ≡ row_on place w c
+  share_said : (c : Row) → body_on place w (staged place c) ≡ row_on place w c
   share_said (row.Field test y z) = refl
   share_said (row.State test y z) = by (nat_eq (place (var_of test)) w)
     where
-      by : (b : Bool) → as_row (row.State test y z) (cond b share.Body (share.Go (place (var_of test)))) ≡ cond b (row.State test y z) (row.Go (place (var_of test)))
+      by : (b : Bool) → cond b (row.State test y z) (row.Go (place (var_of test))) ≡ cond b (row.State test y z) (row.Go (place (var_of test)))
       by true = refl
       by false = refl
   share_said (row.Go x) = refl
@@ -60,21 +56,14 @@ module _ (place : ℕ → ℕ) (w : ℕ) where
   share_said row.Stop = refl
   share_said (row.Last us os) = refl
 
-  staged_said : (o : Option Row) → option_map (λ b. as_row b (share_on place w b)) (option_map (staged place) o) ≡ option_map (row_on place w) o
+  staged_said : (o : Option Row) → option_map (body_on place w) (option_map (staged place) o) ≡ option_map (row_on place w) o
   staged_said None = refl
   staged_said (Some c) = ap Some (share_said c)
 
 demanded_is : (t : Tables) (marks : List Switches) (nodes : List Row) (w i : ℕ) → demanded t (map (staged (place_of t)) nodes) marks w i ≡ wanted_row t (slice_get nodes) (has_pair marks) w i
 demanded_is t marks nodes w i =
     ap (λ o. if has_pair marks w i then o else None)
-    (ap (option_map (λ b. as_row b (share_on (place_of t) w b))) (slice_get-map (staged (place_of t)) nodes i) ∙ staged_said (place_of t) w (slice_get nodes i))
-
--- ---- the numbers of shared rows are those of bodies
-pub numbers_low : (t : Tables) (ns : List (Node Leaf)) (root : ℕ) (bodies : List Row) (shares : List RowShare) → AreNumberedRows t ns root bodies shares → All (λ (s : RowShare). s.number < length bodies) shares
-numbers_low t ns root bodies shares numbered i d l =
-    (each_at (share_entry bodies) (Planned (demanded t bodies numbered.rows.marks) (length bodies) (length t.switches)) shares i (get_or shares i d)
-    (subst (All (Planned (demanded t bodies numbered.rows.marks) (length bodies) (length t.switches))) (sym numbered.rows.are) (all_planned (demanded t bodies numbered.rows.marks) (length bodies) (length t.switches)))
-    (slice_get-get_or shares i d l)).1
+    (ap (option_map (body_on (place_of t) w)) (slice_get-map (staged (place_of t)) nodes i) ∙ staged_said (place_of t) w (slice_get nodes i))
 
 module _ (p : Program) (t : Topology) (places : List ℕ) (routes : Table) (g : Grouping) (ns : List (Node Leaf)) (root : ℕ)
     (form : programs.IsInForm p) (small : PutsSmall p.body) (groups : IsGrouping p.body (length p.vars) g) (topology : topo.IsInForm t) (paths : AreRoutes t routes) (switches : GivesSwitches p t places)
@@ -91,7 +80,7 @@ module _ (p : Program) (t : Topology) (places : List ℕ) (routes : Table) (g : 
   pub can_be_numbered : CanBeNumbered n ns root
   can_be_numbered arena ids number num = demanding.has_nodes p t places routes g n ready frame (diagram tidy.old tidy.old_root) ns root whole arena tidy.tidies ids number num
 
-  module _ (bodies : List Row) (shares : List RowShare) (arena : IsArena ns) (numbered : AreNumberedRows n ns root bodies shares) where
+  module _ (rows : List RowAt) (arena : IsArena ns) (numbered : AreNumberedRows n ns root rows) where
     abbrev listed : List Row
     listed = map (body_of ns numbered.ids numbered.numbers) (range_with_len 0 (length numbered.ids))
 
@@ -99,10 +88,7 @@ module _ (p : Program) (t : Topology) (places : List ℕ) (routes : Table) (g : 
     nodes = numbered_nodes ns numbered.ids (slice_index numbered.numbers)
 
     abbrev marks : List Switches
-    marks = numbered.rows.marks
-
-    abbrev all_rows : List RowAt
-    all_rows = map (row_shared bodies) shares
+    marks = numbered.rows_are.marks
 
     is_numbered : IsNumbered ns numbered.ids numbered.numbers
     is_numbered = record { root = root; numbering = numbered.numbering; wide = numbered.wide }
@@ -116,21 +102,21 @@ module _ (p : Program) (t : Topology) (places : List ℕ) (routes : Table) (g : 
     marked : AreDemanded n nodes (length numbered.ids) (length numbered.ids) marks
     marked =
         subst (λ many. AreDemanded n nodes many many marks) listed_many
-        (subst (λ (f : ℕ → Option Row). AreDemanded n f (length listed) (length listed) marks) (λ j i. listed_is i j) numbered.rows.marked)
+        (subst (λ (f : ℕ → Option Row). AreDemanded n f (length listed) (length listed) marks) (λ j i. listed_is i j) numbered.rows_are.marked)
 
-    rows_are : map row_entry all_rows ≡ at_switches (wanted_row n nodes (has_pair marks)) (length n.switches) (length numbered.ids)
+    rows_are : map row_entry rows ≡ at_switches (wanted_row n nodes (has_pair marks)) (length n.switches) (length numbered.ids)
     rows_are =
-        entries_twice bodies shares ∙ numbered.rows.are
-        ∙ ap (λ bs. at_switches (demanded n bs marks) (length n.switches) (length bs)) numbered.rows.bodies_are
+        numbered.rows_are.are
+        ∙ ap (λ bs. at_switches (demanded n bs marks) (length n.switches) (length bs)) numbered.rows_are.bodies_are
         ∙ ap (at_switches (demanded n (map (staged (place_of n)) listed) marks) (length n.switches)) (length-map listed (staged (place_of n)) ∙ listed_many)
         ∙ (λ j. at_switches (λ w i. (demanded_is n marks listed w i ∙ ap (λ o. if has_pair marks w i then option_map (row_on (place_of n) w) o else None) (listed_is i)) j) (length n.switches) (length numbered.ids))
 
-    pub demanded_made : Faithful p t places (shared n bodies shares)
+    pub demanded_made : Faithful p t places (record n { rows = rows })
     demanded_made =
-        made_on_demand p t places routes g (diagram tidy.old tidy.old_root) ns root numbered.ids numbered.numbers (has_pair marks) (shared n bodies shares) ready whole arena tidy.tidies numbered.numbering numbered.wide
+        made_on_demand p t places routes g (diagram tidy.old tidy.old_root) ns root numbered.ids numbered.numbers (has_pair marks) (record n { rows = rows }) ready whole arena tidy.tidies numbered.numbering numbered.wide
         (record { version = frame.version; fields = frame.fields; arrays = frame.arrays; switches = frame.switches; links = frame.links; ports = frame.ports; hops = frame.hops })
         marked.low
-        (λ w i m. wanted_with n all_rows nodes (marked.sound w i m))
-        (closed_with n all_rows nodes (has_pair marks)
+        (λ w i m. wanted_with n rows nodes (marked.sound w i m))
+        (closed_with n rows nodes (has_pair marks)
         (ended n routes setting nodes (length numbered.ids) marks (λ i b e. node_low p g (diagram tidy.old tidy.old_root) ns root whole arena tidy.tidies numbered.ids numbered.numbers numbered.numbering i b e) marked))
         rows_are

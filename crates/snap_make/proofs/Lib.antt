@@ -1,3 +1,4 @@
+pub mod Behind
 pub mod Counts
 pub mod Demanding
 pub mod DemandMaking
@@ -13,6 +14,7 @@ pub mod Making
 pub mod Marking
 pub mod Names
 pub mod Noded
+pub mod Placing
 pub mod Pushed
 pub mod Sharing
 pub mod Standing

@@ -1,7 +1,6 @@
 -- What is made of a whole diagram is faithful.
 use Rattle.std.proofs.Common.{◌≡◌, ℕ, Bool, List, map, length, Some}
 use Rattle.std.specs.Prelude.{slice_get, slice_index}
-use Rattle.std.specs.List.{range_with_len}
 use Rattle.snap_core.specs.declared.program.Program.{Program}
 use Rattle.snap_core.specs.Laws.{PutsSmall}
 use Rattle.snap_core.specs.Programs as programs
@@ -15,11 +14,8 @@ use Rattle.snap_arena.specs.Arena.{IsArena}
 use Rattle.snap_fdd.specs.declared.leaf.Leaf.{Leaf}
 use Rattle.snap_fdd.specs.Diagrams.{diagram}
 use Rattle.snap_build.specs.Whole.{IsWhole}
-use Rattle.snap_rows.specs.declared.tables.Row.{Row}
 use Rattle.snap_rows.specs.declared.tables.RowAt.{RowAt}
 use Rattle.snap_rows.specs.declared.tables.Tables.{Tables}
-use Rattle.snap_tables.specs.Shared.{row_shared, shared}
-use Rattle.snap_tables.specs.declared.shared.RowShare.{RowShare}
 use Rattle.snap_gen.specs.Faithful.{Faithful}
 use Rattle.snap_gen.specs.Generated.{numbered_nodes}
 use Rattle.snap_gen.specs.Shown.{IsNumbering}
@@ -28,7 +24,7 @@ use Rattle.snap_make.specs.Framed.{IsFrame}
 use Rattle.snap_make.specs.Fronts.{AreMarked}
 use Rattle.snap_make.specs.Known.{IsKnown}
 use Rattle.snap_make.specs.Pairs.{at_switches, row_entry}
-use Rattle.snap_make.specs.Shares.{AreRows, body_of, share_entry, shown}
+use Rattle.snap_make.specs.Shares.{AreRows}
 use Rattle.snap_make.specs.Sites.{planned}
 use Rattle.snap_make.specs.Tidy.{IsTidy}
 use Rattle.snap_make.proofs.Given.{IsReady, ranks_below, ready}
@@ -51,20 +47,11 @@ module _ (p : Program) (t : Topology) (places : List ℕ) (routes : Table) (g : 
       (built p g old old_root whole groups.count (ranks_below p g form groups) (leaves_known old whole.arena known old_root whole.below))
       arena tidies num marked frame rows
 
-  -- so are rows that share the bodies of their numbers
-  pub shared_made : (known : (d : ℕ) (n : Node Leaf) → slice_get old d ≡ Some n → IsKnown n) (ns : List (Node Leaf)) (root : ℕ) (ids numbers : List ℕ) (marks : List Bool) (n : Tables) (bodies : List Row) (shares : List RowShare)
-      → IsArena ns → Tidies g.ranks (length g.order) (diagram old old_root) (diagram ns root) → IsNumbering ns root ids (slice_index numbers) → length numbers ≡ length ns
-      → AreMarked (numbered_nodes ns ids (slice_index numbers)) (length ids) (length ids) marks → IsFrame 2 p t places routes g.ranks n
-      → bodies ≡ map (body_of ns ids numbers) (range_with_len 0 (length ids))
-      → map (share_entry bodies) shares ≡ at_switches (shown n bodies marks) (length n.switches) (length bodies) → Faithful p t places (shared n bodies shares)
-  shared_made known ns root ids numbers marks n bodies shares arena tidies num wide marked frame are shown_are =
-      all_made known ns root ids numbers marks n (map (row_shared bodies) shares) arena tidies num marked frame
-      (planned_are ns ids numbers (record { root = root; numbering = num; wide = wide }) bodies are n marks (length n.switches) shares shown_are)
-
 -- and so are the rows of a tidied diagram
 pub rows_made : (p : Program) (t : Topology) (places : List ℕ) (routes : Table) (g : Grouping) (ns : List (Node Leaf)) (root : ℕ)
     → programs.IsInForm p → PutsSmall p.body → IsGrouping p.body (length p.vars) g → topo.IsInForm t → AreRoutes t routes → GivesSwitches p t places → IsTidy p g ns root
-    → (n : Tables) (bodies : List Row) (shares : List RowShare) → IsFrame 2 p t places routes g.ranks n → IsArena ns → AreRows n ns root bodies shares → Faithful p t places (shared n bodies shares)
-rows_made p t places routes g ns root form small groups topology paths switches tidy n bodies shares frame arena rows =
-    shared_made p t places routes g tidy.old tidy.old_root form small groups tidy.whole topology paths switches tidy.known ns root rows.ids rows.numbers rows.shares_are.marks n bodies shares
-    arena tidy.tidies rows.numbering rows.wide rows.shares_are.marked frame rows.bodies_are rows.shares_are.are
+    → (n : Tables) (rows : List RowAt) → IsFrame 2 p t places routes g.ranks n → IsArena ns → AreRows n ns root rows → Faithful p t places (record n { rows = rows })
+rows_made p t places routes g ns root form small groups topology paths switches tidy n rows frame arena are =
+    all_made p t places routes g tidy.old tidy.old_root form small groups tidy.whole topology paths switches tidy.known ns root are.ids are.numbers are.shares_are.marks n rows
+    arena tidy.tidies are.numbering are.shares_are.marked frame
+    (planned_are ns are.ids are.numbers (record { root = root; numbering = are.numbering; wide = are.wide }) are.bodies are.bodies_are n are.shares_are.marks (length n.switches) rows are.shares_are.are)

@@ -1,7 +1,7 @@
 -- Rows that share their bodies are the planned ones.
-use Rattle.std.proofs.Common.{◌≡◌, ℕ, ◌<◌, ⊎_elim, Bool, false, List, [], ◌∷◌, map, length, get_or, Option, Some, None, refl, sym, ap, subst, ◌∙◌, arith}
+use Rattle.std.proofs.Common.{◌≡◌, ℕ, ◌<◌, ⊎_elim, Bool, false, List, map, length, get_or, Option, Some, None, refl, sym, ap, subst, ◌∙◌, arith}
 use Rattle.std.specs.Prelude.{slice_get, slice_index, slice_index_or, option_map, option_and_then, unwrap_or}
-use Rattle.std.specs.List.{All, range_with_len}
+use Rattle.std.specs.List.{range_with_len}
 use Rattle.std.proofs.lemmas.Bool.{cases_lt}
 use Rattle.std.proofs.lemmas.List.FromFn.{get_or-map-range_with_len, length-map-range_with_len}
 use Rattle.std.proofs.lemmas.Option.{slice_get-get_or, slice_get_past}
@@ -9,38 +9,17 @@ use Rattle.snap_arena.specs.declared.node.Node.{Node}
 use Rattle.snap_fdd.specs.declared.leaf.Leaf.{Leaf}
 use Rattle.snap_rows.specs.declared.tables.Row.{Row}
 use Rattle.snap_rows.specs.declared.tables.Row.TheVariants as row
+use Rattle.snap_rows.specs.declared.tables.RowAt.{RowAt}
 use Rattle.snap_rows.specs.declared.tables.Tables.{Tables}
-use Rattle.snap_tables.specs.Shared.{row_said, row_shared}
-use Rattle.snap_tables.specs.declared.shared.RowShare.{RowShare}
-use Rattle.snap_tables.specs.declared.shared.Share.{Share}
-use Rattle.snap_tables.specs.declared.shared.Share.TheVariants as share
 use Rattle.snap_rows.proofs.Own.{past}
 use Rattle.snap_gen.specs.Generated.{numbered_nodes}
 use Rattle.snap_gen.specs.Planned.{row_for}
 use Rattle.snap_gen.specs.Shown.{row_of}
 use Rattle.snap_make.specs.Fronts.{IsNumbered}
 use Rattle.snap_make.specs.Pairs.{at_switches, row_entry}
-use Rattle.snap_make.specs.Shares.{AreRows, as_row, body_of, share_entry, shown}
+use Rattle.snap_make.specs.Shares.{body_of, shown}
 use Rattle.snap_make.specs.Sites.{planned}
-use Rattle.snap_make.proofs.Entries.{Planned, all_planned, each_at}
 use Rattle.snap_make.proofs.Marking.{node_is}
-
--- ---- what stands in a row
-pub as_row_said : (bodies : List Row) (n : ℕ) (b : Row) (s : Share) → b ≡ slice_index_or bodies n row.Stop → as_row b s ≡ row_said bodies n s
-as_row_said bodies n b share.Body e = e
-as_row_said bodies n b share.Stop e = refl
-as_row_said bodies n b (share.Go x) e = refl
-
-pub entries_twice : (bodies : List Row) (shares : List RowShare) → map row_entry (map (row_shared bodies) shares) ≡ map (share_entry bodies) shares
-entries_twice bodies [] = refl
-entries_twice bodies (s ∷ rest) = λ i. share_entry bodies s ∷ entries_twice bodies rest i
-
--- the rows, where equal lists are named otherwise
-pub rows_shown : (n : Tables) (b bodies : List Row) (m marks : List Bool) (shares : List RowShare) → b ≡ bodies → m ≡ marks
-    → map (share_entry b) shares ≡ at_switches (shown n b m) (length n.switches) (length b) → map (share_entry bodies) shares ≡ at_switches (shown n bodies marks) (length n.switches) (length bodies)
-rows_shown n b bodies m marks shares e f h =
-    subst (λ b. map (share_entry b) shares ≡ at_switches (shown n b marks) (length n.switches) (length b)) e
-    (subst (λ m. map (share_entry b) shares ≡ at_switches (shown n b m) (length n.switches) (length b)) f h)
 
 -- ---- the bodies of all numbers
 module _ (ns : List (Node Leaf)) (ids numbers : List ℕ) (num : IsNumbered ns ids numbers) where
@@ -73,19 +52,8 @@ module _ (ns : List (Node Leaf)) (ids numbers : List ℕ) (num : IsNumbered ns i
         (cases_lt n (length ids))
 
     -- shown rows are the planned ones
-    module _ (t : Tables) (marks : List Bool) (many : ℕ) (shares : List RowShare) (shown_are : map (share_entry bodies) shares ≡ at_switches (shown t bodies marks) many (length bodies)) where
-      pub planned_are : map row_entry (map (row_shared bodies) shares) ≡ at_switches (planned t ns ids numbers marks) many (length ids)
-      planned_are =
-          entries_twice bodies shares ∙ shown_are ∙ ap (at_switches (shown t bodies marks) many) as_many
-          ∙ (λ i. at_switches (λ w n. row_for t w (slice_index_or marks n false) (numbered_is n i)) many (length ids))
-
-      pub numbers_low : All (λ (s : RowShare). s.number < length bodies) shares
-      numbers_low i d l =
-          (each_at (share_entry bodies) (Planned (shown t bodies marks) (length bodies) many) shares i (get_or shares i d)
-          (subst (All (Planned (shown t bodies marks) (length bodies) many)) (sym shown_are) (all_planned (shown t bodies marks) (length bodies) many))
-          (slice_get-get_or shares i d l)).1
-
--- the numbers of a diagram's rows are those of its bodies
-pub rows_low : (t : Tables) (ns : List (Node Leaf)) (root : ℕ) (bodies : List Row) (shares : List RowShare) → AreRows t ns root bodies shares → All (λ (s : RowShare). s.number < length bodies) shares
-rows_low t ns root bodies shares rows =
-    numbers_low ns rows.ids rows.numbers (record { root = root; numbering = rows.numbering; wide = rows.wide }) bodies rows.bodies_are t rows.shares_are.marks (length t.switches) shares rows.shares_are.are
+    pub planned_are : (t : Tables) (marks : List Bool) (many : ℕ) (rows : List RowAt) → map row_entry rows ≡ at_switches (shown t bodies marks) many (length bodies)
+        → map row_entry rows ≡ at_switches (planned t ns ids numbers marks) many (length ids)
+    planned_are t marks many rows shown_are =
+        shown_are ∙ ap (at_switches (shown t bodies marks) many) as_many
+        ∙ (λ i. at_switches (λ w n. row_for t w (slice_index_or marks n false) (numbered_is n i)) many (length ids))

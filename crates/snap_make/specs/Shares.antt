@@ -1,15 +1,14 @@
 -- The rows of switches, as they share the bodies of their numbers.
-use Rattle.std.specs.Prelude.{◌≡◌, ℕ, Bool, false, Option, List, length, map, slice_get, slice_index, slice_index_or, unwrap_or}
+use Rattle.std.specs.Prelude.{◌≡◌, ℕ, Bool, false, Option, List, ◌++◌, length, map, slice_get, slice_index, slice_index_or, unwrap_or}
 use Rattle.std.specs.List.{range_with_len}
 use Rattle.snap_arena.specs.declared.node.Node.{Node}
 use Rattle.snap_fdd.specs.declared.leaf.Leaf.{Leaf}
+use Rattle.snap_rows.specs.Bodies.{placed}
+use Rattle.snap_rows.specs.declared.lists.Placed.{Placed}
 use Rattle.snap_rows.specs.declared.tables.Row.{Row}
 use Rattle.snap_rows.specs.declared.tables.Row.TheVariants as row
+use Rattle.snap_rows.specs.declared.tables.RowAt.{RowAt}
 use Rattle.snap_rows.specs.declared.tables.Tables.{Tables}
-use Rattle.snap_tables.specs.Shared.{row_shared}
-use Rattle.snap_tables.specs.declared.shared.RowShare.{RowShare}
-use Rattle.snap_tables.specs.declared.shared.Share.{Share}
-use Rattle.snap_tables.specs.declared.shared.Share.TheVariants as share
 use Rattle.snap_gen.specs.Generated.{numbered_nodes}
 use Rattle.snap_gen.specs.Planned.{row_for}
 use Rattle.snap_gen.specs.Shown.{IsNumbering}
@@ -20,29 +19,29 @@ use Rattle.snap_make.specs.Pairs.{Entry, at_switches, row_entry}
 abbrev pub body_of : List (Node Leaf) → List ℕ → List ℕ → ℕ → Row
 body_of ns ids numbers i = unwrap_or (numbered_nodes ns ids (slice_index numbers) i) row.Stop
 
-abbrev pub as_row : Row → Share → Row
-as_row b share.Body = b
-as_row b share.Stop = row.Stop
-as_row b (share.Go x) = row.Go x
+-- the bodies of numbers, and behind them `stop` for each
+abbrev pub with_stop : List Row → List Row
+with_stop bodies = bodies ++ map (λ b. row.Stop) bodies
 
-abbrev pub share_entry : List Row → RowShare → Entry Row
-share_entry bodies s = row_entry (row_shared bodies s)
+abbrev pub entries : List Row → List Placed → List (Entry Row)
+entries bodies rows = map (λ p. row_entry (placed bodies p)) rows
 
 -- the row of a switch and number
 abbrev pub shown : Tables → List Row → List Bool → ℕ → ℕ → Option Row
 shown t bodies marks w n = row_for t w (slice_index_or marks n false) (slice_get bodies n)
 
 -- the rows of all switches, for some marks of the numbers to which field rows lead
-pub record AreShares (t : Tables) (ns : List (Node Leaf)) (ids numbers : List ℕ) (bodies : List Row) (shares : List RowShare) : Type 0 where
+pub record AreShares (t : Tables) (ns : List (Node Leaf)) (ids numbers : List ℕ) (bodies : List Row) (rows : List RowAt) : Type 0 where
   pub marks : List Bool
   pub marked : AreMarked (numbered_nodes ns ids (slice_index numbers)) (length ids) (length ids) marks
-  pub are : map (share_entry bodies) shares ≡ at_switches (shown t bodies marks) (length t.switches) (length bodies)
+  pub are : map row_entry rows ≡ at_switches (shown t bodies marks) (length t.switches) (length bodies)
 
--- the bodies and the rows of some numbers of a root's nodes
-pub record AreRows (t : Tables) (ns : List (Node Leaf)) (root : ℕ) (bodies : List Row) (shares : List RowShare) : Type 0 where
+-- the rows of some numbers of a root's nodes
+pub record AreRows (t : Tables) (ns : List (Node Leaf)) (root : ℕ) (rows : List RowAt) : Type 0 where
   pub ids : List ℕ
   pub numbers : List ℕ
   pub numbering : IsNumbering ns root ids (slice_index numbers)
   pub wide : length numbers ≡ length ns
+  pub bodies : List Row
   pub bodies_are : bodies ≡ map (body_of ns ids numbers) (range_with_len 0 (length ids))
-  pub shares_are : AreShares t ns ids numbers bodies shares
+  pub shares_are : AreShares t ns ids numbers bodies rows

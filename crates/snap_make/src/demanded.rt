@@ -1,21 +1,22 @@
 //! The rows of switches in tables on demand.
 
-ghost use Rattle.std.specs.Prelude.{◌≡◌, ◌<◌, ◌≤◌, ◌++◌, IfOk, OnOk, length, map, slice_get};
+ghost use Rattle.std.specs.Prelude.{◌≡◌, ◌<◌, ◌≤◌, ◌+◌, ◌^◌, ◌++◌, IfOk, OnOk, length, map, slice_get};
 ghost use Rattle.std.specs.List.{All};
 ghost use Rattle.snap_gen.specs.Planned.{IsNodeKind};
+ghost use Rattle.snap_rows.specs.Bodies.{IsPlaced};
 ghost use Rattle.snap_demand.specs.Demands.{IsSetting};
 ghost use Rattle.snap_demand.specs.OnDemand.{HasNodes, place_of, staged};
-ghost use Rattle.snap_make.specs.Demanded.{AreDemandedRows, demanded, share_on};
+ghost use Rattle.snap_make.specs.Demanded.{AreDemandedRows, demanded, gone, place_on, with_gone};
 ghost use Rattle.snap_make.specs.Pairs.{at_switch, at_switches};
-ghost use Rattle.snap_make.specs.Shares.{share_entry};
+ghost use Rattle.snap_make.specs.Shares.{entries};
 
 use snap_core::NoMemory;
 use snap_demand::demands::demands;
 use snap_demand::rows::{place, staged, var_of};
 use snap_demand::switches::Switches;
 use snap_route::table::Routes;
+use snap_rows::lists::{Placed, Rows};
 use snap_rows::tables::{Row, Tables};
-use snap_tables::shared::{RowShare, Share};
 use std::alloc::Global;
 
 // The bodies of numbers with these nodes.
@@ -30,28 +31,50 @@ fn staged_all(alloc: Global, tables: &Tables, nodes: &[Row]) -> Result<Vec<Row>,
     Ok(bodies)
 }
 
-// What stands in the row of a switch for a number with this body.
-fn share_on(tables: &Tables, at: u16, body: &Row) -> Share
-    ensures { result ≡ share_on (place_of tables.now) at body.now }
+// Where the body stands of the row of a switch for a number with this one: that of its number, or behind those of all
+// numbers that by which packets go on to the switch of the tested array.
+fn place_on(tables: &Tables, at: u16, body: &Row, number: u32, elsewhere: u32) -> u32
+    ensures { result ≡ place_on (place_of tables.now) at body.now number elsewhere }
 {
     match body {
         Row::State { test, .. } => {
-            let owner = place(tables, var_of(test));
-            if owner == at {
-                Share::Body
+            if place(tables, var_of(test)) == at {
+                number
             } else {
-                Share::Go { to: owner }
+                elsewhere
             }
         }
         Row::Field { .. } | Row::Go { .. } | Row::Leaf { .. } | Row::Stop | Row::Last { .. } => {
-            Share::Body
+            number
         }
     }
 }
 
+// What stands where a number with this body isn't decided. Only a test of an array is decided at one switch alone.
+fn gone(tables: &Tables, body: &Row) -> Row
+    ensures { result ≡ gone (place_of tables.now) body.now }
+{
+    let to = match body {
+        Row::State { test, .. } => place(tables, var_of(test)),
+        Row::Field { .. } | Row::Go { .. } | Row::Leaf { .. } | Row::Stop | Row::Last { .. } => 0,
+    };
+    Row::Go { to }
+}
+
+// Puts `go` for each number behind the bodies of all: so each body stands at one number, and its words are made once.
+fn push_gone(tables: &Tables, bodies: &mut Vec<Row>) -> Result<(), NoMemory>
+    ensures { OnOk result (bodies.new.items ≡ with_gone (place_of tables.now) bodies.old.items) }
+{
+    for number in 0..bodies.len() {
+        let row = gone(tables, &bodies[number]);
+        bodies.push(row)?;
+    }
+    Ok(())
+}
+
 // Adds the rows of a switch.
-fn push_shares(
-    shares: &mut Vec<RowShare>,
+fn push_rows(
+    rows: &mut Vec<Placed>,
     tables: &Tables,
     at: u16,
     bodies: &[Row],
@@ -59,14 +82,18 @@ fn push_shares(
 ) -> Result<(), NoMemory>
     requires low { at < 256 }
     requires wide { length marks.now ≡ length bodies.now }
-    ensures { OnOk result (map (share_entry bodies.now) shares.new.items ≡ map (share_entry bodies.now) shares.old.items ++ at_switch (demanded tables.now bodies.now marks.now at) at (length bodies.now)) }
+    requires few { length bodies.now + length bodies.now < 2 ^ 32 }
+    requires placed { All (IsPlaced (with_gone (place_of tables.now) bodies.now)) rows.old.items }
+    ensures placed { OnOk result (All (IsPlaced (with_gone (place_of tables.now) bodies.now)) rows.new.items) }
+    ensures rows { OnOk result (entries (with_gone (place_of tables.now) bodies.now) rows.new.items ≡ entries (with_gone (place_of tables.now) bodies.now) rows.old.items ++ at_switch (demanded tables.now bodies.now marks.now at) at (length bodies.now)) }
 {
     for number in 0..bodies.len() {
         if marks[number].has(at) {
-            shares.push(RowShare {
-                at,
+            let elsewhere = (bodies.len() + number) as u32;
+            rows.push(Placed {
                 number: number as u64,
-                share: share_on(tables, at, &bodies[number]),
+                at,
+                body: place_on(tables, at, &bodies[number], number as u32, elsewhere),
             })?;
         }
     }
@@ -79,19 +106,23 @@ fn shares(
     tables: &Tables,
     bodies: &[Row],
     marks: &[Switches],
-) -> Result<Vec<RowShare>, NoMemory>
+) -> Result<Vec<Placed>, NoMemory>
     requires wide { length marks.now ≡ length bodies.now }
     requires few { length tables.now.switches ≤ 256 }
-    ensures { IfOk result (λ r. map (share_entry bodies.now) r.items ≡ at_switches (demanded tables.now bodies.now marks.now) (length tables.now.switches) (length bodies.now)) }
+    ensures placed { IfOk result (λ r. All (IsPlaced (with_gone (place_of tables.now) bodies.now)) r.items) }
+    ensures rows { IfOk result (λ r. entries (with_gone (place_of tables.now) bodies.now) r.items ≡ at_switches (demanded tables.now bodies.now marks.now) (length tables.now.switches) (length bodies.now)) }
 {
-    let mut shares = Vec::new(alloc);
-    for at in 0..tables.switches.items().len() {
-        push_shares(&mut shares, tables, at as u16, bodies, marks)?;
+    if u32::MAX as usize / 2 <= bodies.len() {
+        return Err(NoMemory);
     }
-    Ok(shares)
+    let mut rows = Vec::new(alloc);
+    for at in 0..tables.switches.items().len() {
+        push_rows(&mut rows, tables, at as u16, bodies, marks)?;
+    }
+    Ok(rows)
 }
 
-/// Of numbers with these nodes the bodies, and the rows of all pairs of switch and number to which packets come. Takes
+/// Of numbers with these nodes the rows of all pairs of switch and number to which packets come. Takes
 /// time in proportion to the numbers for each switch, besides what their ways and the copies take. Refuses for memory
 /// alone.
 pub(crate) fn demanded_rows(
@@ -99,14 +130,15 @@ pub(crate) fn demanded_rows(
     tables: &Tables,
     routes: &Routes,
     nodes: &[Row],
-) -> Result<(Vec<Row>, Vec<RowShare>), NoMemory>
+) -> Result<Rows, NoMemory>
     requires setting { IsSetting tables.now routes.now }
     requires nodes { HasNodes tables.now (slice_get nodes.now) }
     requires root { 0 < length nodes.now }
-    ensures { IfOk result (λ r. AreDemandedRows tables.now nodes.now r.0.items r.1.items) }
+    ensures { IfOk result (λ r. AreDemandedRows tables.now nodes.now r) }
 {
     let marks = demands(alloc, tables, routes, nodes)?;
-    let bodies = staged_all(alloc, tables, nodes)?;
-    let shares = shares(alloc, tables, &bodies, &marks)?;
-    Ok((bodies, shares))
+    let mut bodies = staged_all(alloc, tables, nodes)?;
+    let rows = shares(alloc, tables, &bodies, &marks)?;
+    push_gone(tables, &mut bodies)?;
+    Ok(Rows::new(bodies, rows))
 }

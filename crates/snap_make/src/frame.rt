@@ -174,6 +174,6 @@ pub(crate) fn frame(
         links,
         ports,
         hops,
-        rows: Rows::new(Vec::new(alloc)),
+        rows: Rows::new(Vec::new(alloc), Vec::new(alloc)),
     })
 }

@@ -28,24 +28,25 @@ use snap_gen::images::tidied;
 use snap_gen::numbering::number;
 use snap_place::placement::Placement;
 use snap_route::table::Routes;
-use snap_rows::tables::{Row, Tables};
-use snap_tables::shared::{RowShare, SharedTables};
+use snap_rows::lists::Rows;
+use snap_rows::proved::Proved;
+use snap_rows::tables::Tables;
 use snap_topo::topology::Topology;
 use std::alloc::Global;
 
-// The bodies of the numbers below a root, and the rows that share them.
+// The rows of the numbers below a root.
 fn rows(
     alloc: Global,
     frame: &Tables,
     routes: &Routes,
     nodes: &Nodes<Leaf>,
     root: u64,
-) -> Result<(Vec<Row>, Vec<RowShare>), NoMemory>
+) -> Result<Rows, NoMemory>
     requires root { root < length nodes.now }
     requires setting { IsSetting frame.now routes.now }
     requires nodes { CanBeNumbered frame.now nodes.now root }
     ensures arena { IsArena nodes.now }
-    ensures rows { IfOk result (λ r. AreNumberedRows frame.now nodes.now root r.0.items r.1.items) }
+    ensures rows { IfOk result (λ r. AreNumberedRows frame.now nodes.now root r) }
 {
     let numbering = number(alloc, nodes, root)?;
     let bodies = bodies(alloc, nodes, &numbering)?;
@@ -61,7 +62,7 @@ fn tidy_on_demand(
     topology: &Topology,
     placement: &Placement,
     routes: &Routes,
-) -> Result<SharedTables, NoMemory>
+) -> Result<Proved, NoMemory>
     requires form { IsProgramInForm program.now }
     requires small { PutsSmall program.now.body }
     requires groups { IsGrouping program.now.body (length program.now.vars) groups.now }
@@ -71,9 +72,9 @@ fn tidy_on_demand(
     requires placement { GivesSwitches program.now topology.now placement.now }
     ensures { IfOk result (λ t. Faithful program.now topology.now placement.now t × (t.version ≡ 1)) }
 {
-    let frame = frame(alloc, 1, program, groups, topology, placement, routes)?;
-    let (bodies, shares) = rows(alloc, &frame, routes, &built.nodes, built.root)?;
-    Ok(SharedTables::new(frame, bodies, shares))
+    let mut tables = frame(alloc, 1, program, groups, topology, placement, routes)?;
+    tables.rows = rows(alloc, &tables, routes, &built.nodes, built.root)?;
+    Ok(Proved::new(tables))
 }
 
 /// Tables of version 1 that are faithful to a program with this diagram, for a topology with these routes and a placement
@@ -89,7 +90,7 @@ pub fn on_demand(
     topology: &Topology,
     placement: &Placement,
     routes: &Routes,
-) -> Result<SharedTables, NoMemory>
+) -> Result<Proved, NoMemory>
     requires form { IsProgramInForm program.now }
     requires small { PutsSmall program.now.body }
     requires groups { IsGrouping program.now.body (length program.now.vars) groups.now }

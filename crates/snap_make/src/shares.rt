@@ -1,19 +1,22 @@
 //! The rows of switches.
 
-ghost use Rattle.std.specs.Prelude.{◌≡◌, ◌<◌, ◌++◌, ◌||◌, IfOk, OnOk, Some, None, is_some, length, map, not, option_map, slice_get, unwrap_or, if◌then◌else◌};
+ghost use Rattle.std.specs.Prelude.{◌≡◌, ◌⊎◌, ◌<◌, ◌^◌, ◌++◌, ◌||◌, List, IfOk, IfSome, OnOk, Some, None, is_some, length, not, option_and_then, option_map, slice_get, unwrap_or, if◌then◌else◌};
+ghost use Rattle.std.specs.List.{All};
 ghost use Rattle.snap_rows.specs.declared.tables.ArrayAt.{ArrayAt};
+ghost use Rattle.snap_rows.specs.declared.tables.Row.{Row};
+ghost use Rattle.snap_rows.specs.declared.tables.Row.TheVariants as row;
+ghost use Rattle.snap_rows.specs.Bodies.{IsPlaced};
 ghost use Rattle.snap_rows.specs.Entries.{var_of};
 ghost use Rattle.snap_gen.specs.Planned.{row_for};
-ghost use Rattle.snap_tables.specs.declared.shared.Share.TheVariants as share;
 ghost use Rattle.snap_make.specs.Pairs.{at_switch, at_switches};
-ghost use Rattle.snap_make.specs.Shares.{as_row, share_entry, shown};
+ghost use Rattle.snap_make.specs.Shares.{entries, shown, with_stop};
 ghost use Rattle.snap_make.specs.Sites.{IsSite};
 
 use crate::sites::{Site, is_within, site_at};
 use snap_core::NoMemory;
 use snap_demand::rows::var_of;
+use snap_rows::lists::Placed;
 use snap_rows::tables::{ArrayAt, Row, Tables};
-use snap_tables::shared::{RowShare, Share};
 use std::alloc::Global;
 
 fn rank_of(arrays: &[ArrayAt], var: u16) -> usize
@@ -25,31 +28,40 @@ fn rank_of(arrays: &[ArrayAt], var: u16) -> usize
     }
 }
 
-// What stands in a row: the body, where it is due.
-fn share_of(due: bool, stop: bool) -> Option<Share>
-    ensures { result ≡ (if due then Some share.Body else if stop then Some share.Stop else None) }
+// Where the body of a row stands: by its number, where it is due.
+fn place_of(due: bool, stops: bool, number: u32, stop: u32) -> Option<u32>
+    ensures { result ≡ (if due then Some number else if stops then Some stop else None) }
 {
     if due {
-        Some(Share::Body)
-    } else if stop {
-        Some(Share::Stop)
+        Some(number)
+    } else if stops {
+        Some(stop)
     } else {
         None
     }
 }
 
-// What stands in the row of a switch for a number with this body, if it has any.
-fn share_at(tables: &Tables, site: Site, body: &Row, front: bool) -> Option<Share>
+// Where the body stands of the row of a switch for a number with this one, if it has any.
+fn place_at(
+    tables: &Tables,
+    site: Site,
+    body: &Row,
+    front: bool,
+    number: u32,
+    stop: u32,
+) -> Option<u32>
     requires { IsSite tables.now site }
-    ensures { row_for tables.now site.at front (Some body.now) ≡ option_map (as_row body.now) result }
+    ensures within { IfSome result (λ i. (i ≡ number) ⊎ (i ≡ stop)) }
+    ensures row { (all : List Row) → slice_get all number ≡ Some body.now → slice_get all stop ≡ Some row.Stop → row_for tables.now site.at front (Some body.now) ≡ option_and_then (slice_get all) result }
 {
     match body {
-        Row::Field { .. } => share_of(site.port, false),
+        Row::Field { .. } => place_of(site.port, false, number, stop),
         Row::State { test, .. } => {
             let rank = rank_of(tables.arrays.items(), var_of(test));
-            share_of(is_within(site.least, rank), site.port && front)
+            let due = is_within(site.least, rank);
+            place_of(due, site.port && front, number, stop)
         }
-        Row::Last { .. } => share_of(site.leaves, site.port && front),
+        Row::Last { .. } => place_of(site.leaves, site.port && front, number, stop),
         Row::Go { .. } | Row::Leaf { .. } | Row::Stop => None,
     }
 }
@@ -61,9 +73,9 @@ fn is_unused(site: Site) -> bool
     !(site.port || site.least.is_some())
 }
 
-// Adds the rows of a switch.
-fn push_shares(
-    shares: &mut Vec<RowShare>,
+// Adds the rows of a switch. Behind the bodies of all numbers stands `stop` for each of them.
+fn push_rows(
+    rows: &mut Vec<Placed>,
     tables: &Tables,
     site: Site,
     bodies: &[Row],
@@ -71,39 +83,48 @@ fn push_shares(
 ) -> Result<(), NoMemory>
     requires site { IsSite tables.now site }
     requires wide { length fronts.now ≡ length bodies.now }
-    ensures { OnOk result (map (share_entry bodies.now) shares.new.items ≡ map (share_entry bodies.now) shares.old.items ++ at_switch (shown tables.now bodies.now fronts.now site.at) site.at (length bodies.now)) }
+    requires few { length bodies.now + length bodies.now < 2 ^ 32 }
+    requires placed { All (IsPlaced (with_stop bodies.now)) rows.old.items }
+    ensures placed { OnOk result (All (IsPlaced (with_stop bodies.now)) rows.new.items) }
+    ensures rows { OnOk result (entries (with_stop bodies.now) rows.new.items ≡ entries (with_stop bodies.now) rows.old.items ++ at_switch (shown tables.now bodies.now fronts.now site.at) site.at (length bodies.now)) }
 {
     if is_unused(site) {
         return Ok(());
     }
     for number in 0..bodies.len() {
-        if let Some(share) = share_at(tables, site, &bodies[number], fronts[number]) {
-            shares.push(RowShare {
-                at: site.at,
+        let own = number as u32;
+        let stop = (bodies.len() + number) as u32;
+        if let Some(body) = place_at(tables, site, &bodies[number], fronts[number], own, stop) {
+            rows.push(Placed {
                 number: number as u64,
-                share,
+                at: site.at,
+                body,
             })?;
         }
     }
     Ok(())
 }
 
-/// The rows of all switches, by switch and number. Takes time in proportion to the bodies for each switch with a port or
-/// an array. Refuses for memory alone.
+/// The rows of all switches, by switch and number, of these bodies of numbers and a `stop` for each number behind them.
+/// Takes time in proportion to the bodies for each switch with a port or an array. Refuses for memory alone.
 pub(crate) fn shares(
     alloc: Global,
     tables: &Tables,
     bodies: &[Row],
     fronts: &[bool],
-) -> Result<Vec<RowShare>, NoMemory>
+) -> Result<Vec<Placed>, NoMemory>
     requires wide { length fronts.now ≡ length bodies.now }
     requires few { length tables.now.switches < 65536 }
-    ensures { IfOk result (λ r. map (share_entry bodies.now) r.items ≡ at_switches (shown tables.now bodies.now fronts.now) (length tables.now.switches) (length bodies.now)) }
+    ensures placed { IfOk result (λ r. All (IsPlaced (with_stop bodies.now)) r.items) }
+    ensures rows { IfOk result (λ r. entries (with_stop bodies.now) r.items ≡ at_switches (shown tables.now bodies.now fronts.now) (length tables.now.switches) (length bodies.now)) }
 {
-    let mut shares = Vec::new(alloc);
+    if u32::MAX as usize / 2 <= bodies.len() {
+        return Err(NoMemory);
+    }
+    let mut rows = Vec::new(alloc);
     for at in 0..tables.switches.items().len() {
         let site = site_at(tables, at as u16);
-        push_shares(&mut shares, tables, site, bodies, fronts)?;
+        push_rows(&mut rows, tables, site, bodies, fronts)?;
     }
-    Ok(shares)
+    Ok(rows)
 }

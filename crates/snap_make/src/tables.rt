@@ -1,7 +1,8 @@
 //! Tables of a program's diagram.
 
-ghost use Rattle.std.specs.Prelude.{◌≡◌, ◌<◌, IfOk, length, map};
-ghost use Rattle.std.specs.List.{range_with_len};
+ghost use Rattle.std.specs.Prelude.{◌≡◌, ◌<◌, IfOk, OnOk, length, map};
+ghost use Rattle.std.specs.List.{All, range_with_len};
+ghost use Rattle.snap_rows.specs.Bodies.{IsPlaced, placed};
 ghost use Rattle.snap_core.specs.Laws.{PutsSmall};
 ghost use Rattle.snap_core.specs.Programs.{IsInForm as IsProgramInForm};
 ghost use Rattle.snap_arena.specs.Arena.{IsArena};
@@ -12,7 +13,7 @@ ghost use Rattle.snap_place.specs.Answer.{GivesSwitches};
 ghost use Rattle.snap_route.specs.Tables.{AreRoutes};
 ghost use Rattle.snap_topo.specs.Form.{IsInForm};
 ghost use Rattle.snap_make.specs.Fronts.{IsNumbered};
-ghost use Rattle.snap_make.specs.Shares.{AreRows, AreShares, body_of};
+ghost use Rattle.snap_make.specs.Shares.{AreRows, AreShares, body_of, with_stop};
 ghost use Rattle.snap_make.specs.Tidy.{IsTidy};
 
 use crate::bodies::bodies;
@@ -30,10 +31,10 @@ use snap_gen::images::tidied;
 use snap_gen::numbering::{Numbering, number};
 use snap_place::placement::Placement;
 use snap_route::table::Routes;
+use snap_rows::lists::{Placed, Rows};
+use snap_rows::proved::Proved;
 use snap_rows::tables::{Row, Tables};
 use snap_rows::valid::Valid;
-use snap_tables::shared::{RowShare, SharedTables};
-use snap_tables::shared_rows::unshared;
 use snap_topo::topology::Topology;
 use std::alloc::Global;
 
@@ -44,32 +45,39 @@ fn numbered_shares(
     nodes: &Nodes<Leaf>,
     numbering: &Numbering,
     bodies: &[Row],
-) -> Result<Vec<RowShare>, NoMemory>
+) -> Result<Vec<Placed>, NoMemory>
     requires numbered { IsNumbered nodes.now numbering.now.ids.items numbering.now.numbers.items }
     requires bodies { bodies.now ≡ map (body_of nodes.now numbering.now.ids.items numbering.now.numbers.items) (range_with_len 0 (length numbering.now.ids.items)) }
     requires few { length frame.now.switches < 65536 }
-    ensures { IfOk result (λ r. AreShares frame.now nodes.now numbering.now.ids.items numbering.now.numbers.items bodies.now r.items) }
+    ensures placed { IfOk result (λ r. All (IsPlaced (with_stop bodies.now)) r.items) }
+    ensures rows { IfOk result (λ r. AreShares frame.now nodes.now numbering.now.ids.items numbering.now.numbers.items bodies.now (map (placed (with_stop bodies.now)) r.items)) }
 {
     let fronts = fronts(alloc, nodes, numbering)?;
     shares(alloc, frame, bodies, &fronts)
 }
 
-// The bodies of the numbers below a root, and the rows that share them.
-fn rows(
-    alloc: Global,
-    frame: &Tables,
-    nodes: &Nodes<Leaf>,
-    root: u64,
-) -> Result<(Vec<Row>, Vec<RowShare>), NoMemory>
+// Puts `stop` for each number behind the bodies of all: so each body stands at one number, and its words are made once.
+fn push_stops(bodies: &mut Vec<Row>) -> Result<(), NoMemory>
+    ensures { OnOk result (bodies.new.items ≡ with_stop bodies.old.items) }
+{
+    for _ in 0..bodies.len() {
+        bodies.push(Row::Stop)?;
+    }
+    Ok(())
+}
+
+// The rows of the numbers below a root.
+fn rows(alloc: Global, frame: &Tables, nodes: &Nodes<Leaf>, root: u64) -> Result<Rows, NoMemory>
     requires root { root < length nodes.now }
     requires few { length frame.now.switches < 65536 }
     ensures arena { IsArena nodes.now }
-    ensures rows { IfOk result (λ r. AreRows frame.now nodes.now root r.0.items r.1.items) }
+    ensures rows { IfOk result (λ r. AreRows frame.now nodes.now root r) }
 {
     let numbering = number(alloc, nodes, root)?;
-    let bodies = bodies(alloc, nodes, &numbering)?;
+    let mut bodies = bodies(alloc, nodes, &numbering)?;
     let shares = numbered_shares(alloc, frame, nodes, &numbering, &bodies)?;
-    Ok((bodies, shares))
+    push_stops(&mut bodies)?;
+    Ok(Rows::new(bodies, shares))
 }
 
 // Tables faithful to a program with this tidied diagram.
@@ -81,7 +89,7 @@ fn tidy_tables(
     topology: &Topology,
     placement: &Placement,
     routes: &Routes,
-) -> Result<SharedTables, NoMemory>
+) -> Result<Proved, NoMemory>
     requires form { IsProgramInForm program.now }
     requires small { PutsSmall program.now.body }
     requires groups { IsGrouping program.now.body (length program.now.vars) groups.now }
@@ -91,9 +99,9 @@ fn tidy_tables(
     requires placement { GivesSwitches program.now topology.now placement.now }
     ensures { IfOk result (λ t. Faithful program.now topology.now placement.now t × (t.version ≡ 2)) }
 {
-    let frame = frame(alloc, 2, program, groups, topology, placement, routes)?;
-    let (bodies, shares) = rows(alloc, &frame, &built.nodes, built.root)?;
-    Ok(SharedTables::new(frame, bodies, shares))
+    let mut tables = frame(alloc, 2, program, groups, topology, placement, routes)?;
+    tables.rows = rows(alloc, &tables, &built.nodes, built.root)?;
+    Ok(Proved::new(tables))
 }
 
 /// Tables of version 2 that are faithful to a program with this diagram, for a topology with these routes and a placement
@@ -101,7 +109,7 @@ fn tidy_tables(
 ///
 /// The nodes below the root are numbered from 0 at the root, rising along each way. The diagram is changed, and no clause
 /// says how. Refuses for memory alone.
-pub fn shared_tables(
+pub fn proved_tables(
     alloc: Global,
     program: &Program,
     built: &mut Built,
@@ -109,7 +117,7 @@ pub fn shared_tables(
     topology: &Topology,
     placement: &Placement,
     routes: &Routes,
-) -> Result<SharedTables, NoMemory>
+) -> Result<Proved, NoMemory>
     requires form { IsProgramInForm program.now }
     requires small { PutsSmall program.now.body }
     requires groups { IsGrouping program.now.body (length program.now.vars) groups.now }
@@ -124,7 +132,7 @@ pub fn shared_tables(
     tidy_tables(alloc, program, built, groups, topology, placement, routes)
 }
 
-/// The same, each row with a body of its own, so that packets can be traced. Refuses for memory alone.
+/// The same, so that packets can be traced. Refuses for memory alone.
 pub fn tables(
     alloc: Global,
     program: &Program,
@@ -143,8 +151,8 @@ pub fn tables(
     requires placement { GivesSwitches program.now topology.now placement.now }
     ensures { IfOk result (λ t. Faithful program.now topology.now placement.now t × (t.version ≡ 2)) }
 {
-    let shared = shared_tables(
+    let proved = proved_tables(
         alloc, program, &mut built, groups, topology, placement, routes,
     )?;
-    unshared(alloc, shared)
+    proved.valid(alloc)
 }

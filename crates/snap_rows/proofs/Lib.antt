@@ -1,3 +1,4 @@
+pub mod Bodies
 pub mod Search
 pub mod Rows
 pub mod Places

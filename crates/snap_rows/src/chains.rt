@@ -65,7 +65,7 @@ impl Chains {
         requires nodes { AreNodesFrom tables.now 0 (place_in nodes.now) }
         ensures { IfOk result (AreChains tables.now) }
     {
-        let below = tables.rows.items().len().min(MOST);
+        let below = tables.rows.len().min(MOST);
         let ways = ways(alloc, tables, nodes, below)?;
         let mut chains = Chains {
             places: Vec::with_capacity(alloc, below)?,

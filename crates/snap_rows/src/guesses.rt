@@ -1,6 +1,6 @@
 //! Where rows probably stand, so that most are found at the first look.
 
-use crate::tables::RowAt;
+use crate::lists::{Lent, Rows};
 use snap_core::NoMemory;
 use std::alloc::Global;
 
@@ -20,13 +20,13 @@ pub(crate) struct Guesses {
 
 impl Guesses {
     /// The guesses for rows that rise by switch and number.
-    pub(crate) fn of(alloc: Global, rows: &[RowAt]) -> Result<Guesses, NoMemory> {
+    pub(crate) fn of(alloc: Global, rows: &Rows) -> Result<Guesses, NoMemory> {
         let mut guesses = Guesses {
             shifts: Vec::new(alloc),
             places: Vec::with_capacity(alloc, rows.len())?,
         };
-        for (place, row) in rows.iter().enumerate() {
-            guesses.add(row, place)?;
+        for place in 0..rows.len() {
+            guesses.add(rows.at(place), place)?;
         }
         Ok(guesses)
     }
@@ -50,7 +50,7 @@ impl Guesses {
     }
 
     // Adds a row that stands behind those that were added.
-    fn add(&mut self, row: &RowAt, place: usize) -> Result<(), NoMemory> {
+    fn add(&mut self, row: Lent<'_>, place: usize) -> Result<(), NoMemory> {
         if self.shifts.len() <= row.at as usize {
             let shift = (self.places.len() as u64).wrapping_sub(row.number);
             self.shifts.resize(row.at as usize + 1, shift)?;

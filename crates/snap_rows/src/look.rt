@@ -5,6 +5,7 @@ ghost use Rattle.std.specs.List.Sorted.{IsStrictlySortedBy, IsPartitionPoint};
 ghost use Rattle.std.specs.Ordering.{nat_cmp};
 ghost use Rattle.snap_core.specs.Switch.{goes_out};
 ghost use Rattle.snap_core.specs.declared.ports.PortAt.{PortAt};
+ghost use Rattle.snap_rows.specs.declared.lists.Placed.{Placed};
 ghost use Rattle.snap_rows.specs.declared.tables.ArrayAt.{ArrayAt};
 ghost use Rattle.snap_rows.specs.declared.tables.Row.{Row};
 ghost use Rattle.snap_rows.specs.declared.tables.RowAt.{RowAt};
@@ -17,7 +18,8 @@ ghost use Rattle.snap_core.specs.Ports.{port_in};
 ghost use Rattle.snap_rows.specs.Entries.{row_in, row_at, hop_in, next, port_at, rank_in, rank_at, rank_of, ranks_in, var_of, owner_of};
 
 use crate::head::Head;
-use crate::tables::{ArrayAt, Hop, Row, RowAt, Tables};
+use crate::lists::{Placed, Rows};
+use crate::tables::{ArrayAt, Hop, Row, Tables};
 use crate::valid::Valid;
 use snap_core::packet::Packet;
 use snap_core::policy::Test;
@@ -48,8 +50,12 @@ impl Valid {
         ensures valid { IsValid self.now }
         ensures all_form { IsInForm self.now }
     {
-        let rows = self.tables().rows.items();
-        row(rows, self.guesses().near(shift, number), at, number)
+        row(
+            &self.tables().rows,
+            self.guesses().near(shift, number),
+            at,
+            number,
+        )
     }
 
     /// The row of a switch and number that have one, by the shift of the switch.
@@ -150,22 +156,23 @@ pub(crate) fn rank_of_test(tables: &Tables, test: &Test) -> u16
 }
 
 // Whether a row stands before that of a switch and number.
-fn row_is_before(entry: &RowAt, at: u16, number: u64) -> bool
-    ensures { result ≡ is_before (λ (r : RowAt). r.at) (λ (r : RowAt). r.number) at number entry.now }
+fn row_is_before(entry: &Placed, at: u16, number: u64) -> bool
+    ensures { result ≡ is_before (λ (p : Placed). p.at) (λ (p : Placed). p.number) at number entry.now }
 {
     entry.at < at || (entry.at == at && entry.number < number)
 }
 
 // How many rows stand before that of a switch and number.
-fn rows_before(rows: &[RowAt], at: u16, number: u64) -> usize
+fn rows_before(rows: &Rows, at: u16, number: u64) -> usize
     requires { IsStrictlySortedBy row_cmp rows.now }
     ensures { StandBefore (λ (r : RowAt). r.at) (λ (r : RowAt). r.number) at number rows.now result }
 {
-    rows.partition_point(|entry| row_is_before(entry, at, number))
+    let (_, placed) = rows.parts();
+    placed.partition_point(|entry| row_is_before(entry, at, number))
 }
 
 // Whether the row of a switch and number stands at a place.
-fn stands_at(rows: &[RowAt], place: usize, at: u16, number: u64) -> bool
+fn stands_at(rows: &Rows, place: usize, at: u16, number: u64) -> bool
     ensures { IsTrue result ↔ IsRowPlace rows.now at number place }
 {
     match rows.get(place) {
@@ -175,7 +182,7 @@ fn stands_at(rows: &[RowAt], place: usize, at: u16, number: u64) -> bool
 }
 
 // The place of the row of a switch and number, by a search.
-fn searched_row(rows: &[RowAt], at: u16, number: u64) -> Option<usize>
+fn searched_row(rows: &Rows, at: u16, number: u64) -> Option<usize>
     requires { IsStrictlySortedBy row_cmp rows.now }
     ensures some { IfSome result (IsRowPlace rows.now at number) }
     ensures none { IfNone result (row_in rows.now at number ≡ None) }
@@ -189,7 +196,7 @@ fn searched_row(rows: &[RowAt], at: u16, number: u64) -> Option<usize>
 }
 
 /// The place of the row of a switch and number, which is probably this one.
-pub(crate) fn row_place(rows: &[RowAt], guess: usize, at: u16, number: u64) -> Option<usize>
+pub(crate) fn row_place(rows: &Rows, guess: usize, at: u16, number: u64) -> Option<usize>
     requires { IsStrictlySortedBy row_cmp rows.now }
     ensures some { IfSome result (IsRowPlace rows.now at number) }
     ensures none { IfNone result (row_in rows.now at number ≡ None) }
@@ -203,7 +210,7 @@ pub(crate) fn row_place(rows: &[RowAt], guess: usize, at: u16, number: u64) -> O
 
 /// The row of a switch and number, which probably stands at this place.
 #[inline(always)]
-pub(crate) fn row(rows: &[RowAt], guess: usize, at: u16, number: u64) -> Option<&Row>
+pub(crate) fn row(rows: &Rows, guess: usize, at: u16, number: u64) -> Option<&Row>
     requires { IsStrictlySortedBy row_cmp rows.now }
     ensures { option_map (λ r. r.now) result ≡ row_in rows.now at number }
 {
@@ -215,14 +222,14 @@ pub(crate) fn row(rows: &[RowAt], guess: usize, at: u16, number: u64) -> Option<
 
 // The row of a switch and number, if it stands at a place.
 #[inline(always)]
-fn row_said(rows: &[RowAt], place: usize, at: u16, number: u64) -> Option<&Row>
+fn row_said(rows: &Rows, place: usize, at: u16, number: u64) -> Option<&Row>
     requires { IsStrictlySortedBy row_cmp rows.now }
     ensures { IfSome result (λ r. row_in rows.now at number ≡ Some r.now) }
 {
     match rows.get(place) {
         Some(entry) => {
             if entry.at == at && entry.number == number {
-                Some(entry.row.row())
+                Some(entry.row)
             } else {
                 None
             }
@@ -233,12 +240,12 @@ fn row_said(rows: &[RowAt], place: usize, at: u16, number: u64) -> Option<&Row>
 
 // The row of a switch and number, by a search.
 #[inline(never)]
-fn row_by_search(rows: &[RowAt], at: u16, number: u64) -> Option<&Row>
+fn row_by_search(rows: &Rows, at: u16, number: u64) -> Option<&Row>
     requires { IsStrictlySortedBy row_cmp rows.now }
     ensures { option_map (λ r. r.now) result ≡ row_in rows.now at number }
 {
     match searched_row(rows, at, number) {
-        Some(place) => Some(rows[place].row.row()),
+        Some(place) => Some(rows.at(place).row),
         None => None,
     }
 }

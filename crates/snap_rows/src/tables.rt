@@ -1,6 +1,6 @@
 //! The lists of tables.
 
-use crate::lists::{ArraysAt, Body, Hops, Rows, Stages};
+use crate::lists::{ArraysAt, Hops, Rows, Stages};
 use snap_core::lists::{Name, Names, Outs, Updates};
 use snap_core::policy::Test;
 use snap_core::ports::{Links, Ports};
@@ -51,7 +51,7 @@ pub enum Row {
 pub struct RowAt {
     pub at: u16,
     pub number: u64,
-    pub row: Body,
+    pub row: Row,
 }
 
 /// The tables of all switches. A switch's number is its position in `switches`.

@@ -31,6 +31,7 @@ pub mod OneReading
 pub mod Spelled
 pub mod ReadBack
 pub mod Scanning
-pub mod SharedLines
+pub mod PartLines
+pub mod Remembered
 pub mod Digits
 pub mod Spans

@@ -30,7 +30,7 @@ tables_of d = record {
   links = d.links.items;
   ports = d.ports.items;
   hops = d.hops.items;
-  rows = d.rows.items;
+  rows = d.rows;
 }
 
 -- what a draft keeps besides its lists, and how long these are

@@ -12,7 +12,6 @@ pub mod Ranges
 pub mod ReadBack
 pub mod Exact
 pub mod Scan
-pub mod Shared
 pub mod RowParts
 pub mod Texts
 pub mod Known

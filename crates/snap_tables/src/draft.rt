@@ -6,10 +6,11 @@ ghost use Rattle.snap_core.specs.declared.program.Which.{Which};
 ghost use Rattle.snap_core.specs.Fields.{IsFields};
 ghost use Rattle.snap_tables.specs.Drafts.{IsKept, IsPut, may_come, no_entries, tables_of};
 ghost use Rattle.snap_tables.specs.declared.item.Item.TheVariants as item;
+ghost use Rattle.snap_tables.specs.Known.{IsBody, row_next};
 ghost use Rattle.snap_tables.specs.Entries.{are_new, declared, is_new, next_pair, pair_from, turn};
 ghost use Rattle.snap_tables.specs.Lines.{counts_of, has, has_all_hops, is_ready, last_section, over};
 
-use crate::item::Item;
+use crate::item::{Body, Item, NextRow};
 use crate::piece::Counts;
 use snap_core::NoMemory;
 use snap_core::lists::{Name, Names};
@@ -31,7 +32,7 @@ pub(crate) struct Draft {
     pub links: Vec<(u16, u16)>,
     pub ports: Vec<PortAt>,
     pub hops: Vec<Hop>,
-    pub rows: Vec<RowAt>,
+    pub rows: Rows,
 }
 
 /// Whether none of these names is that one.
@@ -151,7 +152,7 @@ impl Draft {
             links: Vec::new(alloc),
             ports: Vec::new(alloc),
             hops: Vec::new(alloc),
-            rows: Vec::new(alloc),
+            rows: Rows::new(Vec::new(alloc), Vec::new(alloc)),
         }
     }
 
@@ -179,7 +180,7 @@ impl Draft {
     fn last_section(&self) -> u8
         ensures { result ≡ last_section (tables_of self.now) }
     {
-        if !self.rows.is_empty() {
+        if self.rows.len() > 0 {
             return 7;
         }
         if !self.hops.is_empty() {
@@ -245,7 +246,7 @@ impl Draft {
         ensures { IfOk result (λ tables. tables ≡ tables_of self) }
     {
         let mut rows = self.rows;
-        rows.shrink_to_fit();
+        rows.shrink();
         Ok(Tables {
             version: self.version,
             fields: Fields::new(alloc, self.fields)?,
@@ -254,7 +255,7 @@ impl Draft {
             links: Links::new(self.links),
             ports: Ports::new(self.ports),
             hops: Hops::new(self.hops),
-            rows: Rows::new(rows),
+            rows,
         })
     }
 
@@ -282,12 +283,16 @@ impl Draft {
 
     /// Puts a row.
     #[inline(always)]
-    pub(crate) fn put_row(&mut self, row: RowAt) -> Result<(), NoMemory>
-        requires { IsKept self.old }
-        ensures { OnOk result (IsPut self.old (item.Row row) None self.new) }
+    pub(crate) fn put_row(&mut self, row: NextRow) -> Result<(), NoMemory>
+        requires kept { IsKept self.old }
+        requires placed { IsBody self.old.rows row.body }
+        ensures { OnOk result (IsPut self.old (item.Row (row_next self.old.rows row)) None self.new) }
     {
-        self.rows.push(row)?;
-        Ok(())
+        let NextRow { at, number, body } = row;
+        match body {
+            Body::Own(row) => self.rows.push(RowAt { at, number, row }),
+            Body::Same(place) => self.rows.push_as(at, number, place),
+        }
     }
 
     /// Puts an entry behind those of its section, and says the count that it passes, if it passes one.
@@ -322,7 +327,7 @@ impl Draft {
                 Ok(None)
             }
             Item::Row(row) => {
-                self.put_row(row)?;
+                self.rows.push(row)?;
                 Ok(None)
             }
         }

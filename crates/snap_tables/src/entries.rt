@@ -1,15 +1,16 @@
 //! Which entry a line says, behind those of a draft.
 
-ghost use Rattle.std.specs.Prelude.{◌≡◌, ◌≢◌, Some, None, length, IfOk, OnOk, MatchOption};
+ghost use Rattle.std.specs.Prelude.{◌≡◌, ◌≢◌, ◌++◌, ◌∷◌, [], Some, None, length, IfOk, IfSome, MatchOption};
 ghost use Rattle.snap_core.specs.Figures.{parts_by};
 ghost use Rattle.snap_tables.specs.Drafts.{IsItem, IsKept, IsNoRowLine, IsNoneBy, IsRowLine, is_above_at, may_come, tables_of};
 ghost use Rattle.snap_tables.specs.declared.item.Item.TheVariants as item;
 ghost use Rattle.snap_tables.specs.Entries.{array_fits, field_fits, hop_fits, is_above, is_field_at, is_new, is_plain_field, kept, link_fits, link_less, port_less};
-ghost use Rattle.snap_tables.specs.Known.{AreKnown, AreSaid};
+ghost use Rattle.snap_tables.specs.Known.{AreKnown, AreSaid, IsBody, row_next};
+ghost use Rattle.snap_tables.specs.Lines.{with_item};
 ghost use Rattle.snap_tables.specs.Reading.{array_said, field_said, hop_said, is_space, link_said, port_said, switch_said};
 
 use crate::draft::{Draft, are_new, declared, is_new};
-use crate::item::Item;
+use crate::item::{Item, NextRow};
 use crate::known::Known;
 use crate::named::{array_said, field_said, switch_said};
 use crate::piece::Counts;
@@ -18,7 +19,8 @@ use snap_core::NoMemory;
 use snap_core::lists::Name;
 use snap_core::ports::PortAt;
 use snap_core::program::Field;
-use snap_rows::tables::{ArrayAt, Hop, RowAt};
+use snap_rows::lists::Rows;
+use snap_rows::tables::{ArrayAt, Hop};
 use std::alloc::Global;
 
 fn is_plain_field(keyword: &[u8], name: &[u8], prefix: Option<u8>) -> bool
@@ -255,10 +257,10 @@ pub(crate) fn next_hop(draft: &Draft, line: &[u8]) -> Option<Hop>
 }
 
 // Whether a row of this switch and number stands behind these rows.
-fn is_above_rows(rows: &[RowAt], at: u16, number: u64) -> bool
+fn is_above_rows(rows: &Rows, at: u16, number: u64) -> bool
     ensures { result ≡ is_above_at rows.now at number }
 {
-    match rows.last() {
+    match rows.get(rows.len().saturating_sub(1)) {
         None => true,
         Some(last) => last.at.cmp(&at).then(last.number.cmp(&number)).is_lt(),
     }
@@ -271,10 +273,11 @@ fn row_line<'a>(
     counts: Counts,
     known: &mut Known<'a>,
     line: &'a [u8],
-) -> Result<Option<RowAt>, NoMemory>
-    requires { AreSaid draft.now.version counts draft.now.arrays.items known.old.rows.items }
-    ensures known { OnOk result (AreSaid draft.now.version counts draft.now.arrays.items known.new.rows.items) }
-    ensures line { IfOk result (λ said. MatchOption said (IsNoRowLine draft.now.version counts draft.now.arrays.items draft.now.rows.items line.now) (IsRowLine draft.now.version counts draft.now.arrays.items draft.now.rows.items line.now)) }
+) -> Result<Option<NextRow>, NoMemory>
+    requires { AreSaid draft.now.version counts draft.now.arrays.items draft.now.rows known.old.rows.items }
+    ensures known { IfOk result (λ said. IfSome said (λ row. AreSaid draft.now.version counts draft.now.arrays.items (draft.now.rows ++ row_next draft.now.rows row ∷ []) known.new.rows.items)) }
+    ensures placed { IfOk result (λ said. IfSome said (λ row. IsBody draft.now.rows row.body)) }
+    ensures line { IfOk result (λ said. MatchOption said (IsNoRowLine draft.now.version counts draft.now.arrays.items draft.now.rows line.now) (λ row. IsRowLine draft.now.version counts draft.now.arrays.items draft.now.rows line.now (row_next draft.now.rows row))) }
 {
     let Some(rest) = opened(b"row", Some(line)) else {
         return Ok(None);
@@ -288,9 +291,9 @@ fn row_line<'a>(
     if !is_above_rows(&draft.rows, at, number) {
         return Ok(None);
     }
-    match known.body_of(alloc, draft.version, counts, &draft.arrays, number, rest)? {
+    match known.body_of(alloc, draft, counts, number, rest)? {
         None => Ok(None),
-        Some(row) => Ok(Some(RowAt { at, number, row })),
+        Some(body) => Ok(Some(NextRow { at, number, body })),
     }
 }
 
@@ -300,11 +303,12 @@ pub(crate) fn next_row<'a>(
     draft: &Draft,
     known: &mut Known<'a>,
     line: &'a [u8],
-) -> Result<Option<RowAt>, NoMemory>
+) -> Result<Option<NextRow>, NoMemory>
     requires kept { IsKept draft.now }
     requires known { AreKnown (tables_of draft.now) known.old.rows.items }
-    ensures known { OnOk result (AreKnown (tables_of draft.now) known.new.rows.items) }
-    ensures line { IfOk result (λ said. MatchOption said (IsNoneBy 114 (tables_of draft.now) line.now) (λ row. IsItem (tables_of draft.now) line.now (item.Row row))) }
+    ensures known { IfOk result (λ said. IfSome said (λ row. AreKnown (with_item (tables_of draft.now) (item.Row (row_next draft.now.rows row))) known.new.rows.items)) }
+    ensures placed { IfOk result (λ said. IfSome said (λ row. IsBody draft.now.rows row.body)) }
+    ensures line { IfOk result (λ said. MatchOption said (IsNoneBy 114 (tables_of draft.now) line.now) (λ row. IsItem (tables_of draft.now) line.now (item.Row (row_next draft.now.rows row)))) }
 {
     if !draft.may_come(7) {
         return Ok(None);

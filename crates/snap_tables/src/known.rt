@@ -1,18 +1,19 @@
 //! Rows that were read, remembered by their texts: rows of one number are mostly equal, and then share their bodies.
 
-ghost use Rattle.std.specs.Prelude.{◌≡◌, ◌+◌, ◌<◌, ◌^◌, [], ℕ, List, IfOk, IfSome, MatchOption, OnOk};
+ghost use Rattle.std.specs.Prelude.{◌≡◌, ◌+◌, ◌<◌, ◌^◌, ◌++◌, ◌∷◌, [], ℕ, List, IfOk, IfSome, MatchOption, OnOk};
 ghost use Rattle.snap_rows.specs.declared.tables.ArrayAt.{ArrayAt};
-ghost use Rattle.snap_tables.specs.Known.{AreSaid};
+ghost use Rattle.snap_rows.specs.declared.tables.RowAt.{RowAt};
+ghost use Rattle.snap_tables.specs.Known.{AreSaid, IsBody, IsSaidAt, body_said};
 ghost use Rattle.snap_tables.specs.Reading.{words_left};
 ghost use Rattle.snap_tables.specs.Rows.{IsNoRow, IsRowSaid};
 ghost use Rattle.snap_tables.specs.declared.piece.Counts.{Counts};
 
+use crate::draft::Draft;
+use crate::item::Body;
 use crate::piece::Counts;
 use crate::row::row_of;
 use crate::scan::is_text;
 use snap_core::NoMemory;
-use snap_rows::lists::Body;
-use snap_rows::tables::ArrayAt;
 use std::alloc::Global;
 
 // There are at most so many places for each row that is remembered, and a few more.
@@ -24,7 +25,7 @@ const FEW: usize = 256;
 #[derive(Drop)]
 pub(crate) struct Said<'a> {
     pub text: &'a [u8],
-    pub body: Body,
+    pub place: usize,
 }
 
 /// Rows that were read, one for each low number: the last of its rows.
@@ -55,33 +56,29 @@ impl<'a> Known<'a> {
 
     // The row of a number.
     fn row(&self, number: u64) -> Option<&Said<'a>>
-        ensures { (v : ℕ) (k : Counts) (ranked : List ArrayAt) → AreSaid v k ranked self.now.rows.items → IfSome result (λ row. IsRowSaid v k ranked (words_left (Some row.now.text)) row.now.body) }
+        ensures { (v : ℕ) (k : Counts) (ranked : List ArrayAt) (rows : List RowAt) → AreSaid v k ranked rows self.now.rows.items → IfSome result (λ row. IsSaidAt v k ranked rows (words_left (Some row.now.text)) row.now.place) }
     {
         let place = self.places.get(number as usize)?;
         self.rows.get(*place)
     }
 
-    // The body that these words say, where the row of a number has the same ones.
-    fn shared(&self, number: u64, rest: Option<&[u8]>) -> Result<Option<Body>, NoMemory>
-        ensures { (v : ℕ) (k : Counts) (ranked : List ArrayAt) → AreSaid v k ranked self.now.rows.items → IfOk result (λ said. IfSome said (IsRowSaid v k ranked (words_left rest.entry))) }
+    // The place of a row that these words say, where the row of a number has the same ones.
+    fn shared(&self, number: u64, rest: Option<&[u8]>) -> Option<usize>
+        ensures { (v : ℕ) (k : Counts) (ranked : List ArrayAt) (rows : List RowAt) → AreSaid v k ranked rows self.now.rows.items → IfSome result (IsSaidAt v k ranked rows (words_left rest.entry)) }
     {
-        let Some(text) = rest else {
-            return Ok(None);
-        };
-        let Some(row) = self.row(number) else {
-            return Ok(None);
-        };
+        let text = rest?;
+        let row = self.row(number)?;
         if is_text(row.text, text) {
-            Ok(Some(row.body.share()?))
+            Some(row.place)
         } else {
-            Ok(None)
+            None
         }
     }
 
     // Puts a row, instead of the one at the place of its number, where one stands there.
     fn put(&mut self, number: usize, row: Said<'a>) -> Result<(), NoMemory>
         requires { number + 1 < 2 ^ 64 }
-        ensures { (v : ℕ) (k : Counts) (ranked : List ArrayAt) → AreSaid v k ranked self.old.rows.items → IsRowSaid v k ranked (words_left (Some row.entry.text)) row.entry.body → OnOk result (AreSaid v k ranked self.new.rows.items) }
+        ensures { (v : ℕ) (k : Counts) (ranked : List ArrayAt) (rows : List RowAt) → AreSaid v k ranked rows self.old.rows.items → IsSaidAt v k ranked rows (words_left (Some row.entry.text)) row.entry.place → OnOk result (AreSaid v k ranked rows self.new.rows.items) }
     {
         if self.places.len() <= number {
             self.places.resize(number + 1, usize::MAX)?;
@@ -96,17 +93,21 @@ impl<'a> Known<'a> {
         Ok(())
     }
 
-    // Remembers that these words say this body, where the number is low.
-    fn remember(&mut self, number: u64, rest: Option<&'a [u8]>, body: &Body) -> Result<(), NoMemory>
-        ensures { (v : ℕ) (k : Counts) (ranked : List ArrayAt) → AreSaid v k ranked self.old.rows.items → IsRowSaid v k ranked (words_left rest.entry) body.now → OnOk result (AreSaid v k ranked self.new.rows.items) }
+    // Remembers that these words say what stands in the row at a place, where the number is low.
+    fn remember(
+        &mut self,
+        number: u64,
+        rest: Option<&'a [u8]>,
+        place: usize,
+    ) -> Result<(), NoMemory>
+        ensures { (v : ℕ) (k : Counts) (ranked : List ArrayAt) (rows : List RowAt) → AreSaid v k ranked rows self.old.rows.items → IsSaidAt v k ranked rows (words_left rest.entry) place → OnOk result (AreSaid v k ranked rows self.new.rows.items) }
     {
         let Some(text) = rest else {
             return Ok(());
         };
         let number = number as usize;
         if number < self.rows.len().saturating_mul(SPREAD).saturating_add(FEW) {
-            let body = body.share()?;
-            self.put(number, Said { text, body })?;
+            self.put(number, Said { text, place })?;
         }
         Ok(())
     }
@@ -115,24 +116,23 @@ impl<'a> Known<'a> {
     pub(crate) fn body_of(
         &mut self,
         alloc: Global,
-        version: u8,
+        draft: &Draft,
         counts: Counts,
-        arrays: &[ArrayAt],
         number: u64,
         rest: Option<&'a [u8]>,
     ) -> Result<Option<Body>, NoMemory>
-        requires { AreSaid version counts arrays.now self.old.rows.items }
-        ensures said { IfOk result (λ said. MatchOption said (IsNoRow version counts arrays.now (words_left rest.entry)) (IsRowSaid version counts arrays.now (words_left rest.entry))) }
-        ensures known { OnOk result (AreSaid version counts arrays.now self.new.rows.items) }
+        requires { AreSaid draft.now.version counts draft.now.arrays.items draft.now.rows self.old.rows.items }
+        ensures said { IfOk result (λ said. MatchOption said (IsNoRow draft.now.version counts draft.now.arrays.items (words_left rest.entry)) (λ body. IsRowSaid draft.now.version counts draft.now.arrays.items (words_left rest.entry) (body_said draft.now.rows body))) }
+        ensures placed { IfOk result (λ said. IfSome said (IsBody draft.now.rows)) }
+        ensures known { IfOk result (λ said. IfSome said (λ body. (r : RowAt) → r.row ≡ body_said draft.now.rows body → AreSaid draft.now.version counts draft.now.arrays.items (draft.now.rows ++ r ∷ []) self.new.rows.items)) }
     {
-        if let Some(body) = self.shared(number, rest)? {
-            return Ok(Some(body));
+        if let Some(place) = self.shared(number, rest) {
+            return Ok(Some(Body::Same(place)));
         }
-        let Some(row) = row_of(alloc, version, counts, arrays, rest)? else {
+        let Some(row) = row_of(alloc, draft.version, counts, &draft.arrays, rest)? else {
             return Ok(None);
         };
-        let body = Body::new(alloc, row)?;
-        self.remember(number, rest, &body)?;
-        Ok(Some(body))
+        self.remember(number, rest, draft.rows.len())?;
+        Ok(Some(Body::Own(row)))
     }
 }

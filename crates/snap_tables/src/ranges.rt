@@ -9,7 +9,8 @@ ghost use Rattle.snap_tables.specs.Ranges.{RowAtInRange, RowInRange, TablesInRan
 use snap_core::bits::{know_outs, know_test, know_updates};
 use snap_core::policy::Test;
 use snap_core::ports::PortAt;
-use snap_rows::tables::{Row, RowAt, Stage, Tables};
+use snap_rows::lists::Rows;
+use snap_rows::tables::{Row, Stage, Tables};
 
 pub(crate) fn know_number(number: u64)
     ensures { number < 2 ^ 64 }
@@ -57,12 +58,13 @@ pub(crate) fn know_row(row: &Row)
     }
 }
 
-fn know_rows(rows: &[RowAt])
+fn know_rows(rows: &Rows)
     ensures { All RowAtInRange rows.now }
 {
-    for row in rows {
+    for place in 0..rows.len() {
+        let row = rows.at(place);
         know_number(row.number);
-        know_row(row.row.row());
+        know_row(row.row);
     }
 }
 
@@ -79,5 +81,5 @@ pub(crate) fn know_tables(tables: &Tables)
     ensures { TablesInRange tables.now }
 {
     know_ports(tables.ports.items());
-    know_rows(tables.rows.items());
+    know_rows(&tables.rows);
 }

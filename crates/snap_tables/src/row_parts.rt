@@ -1,24 +1,24 @@
-//! Parts of the lines of rows that share their bodies: each is made once.
+//! Parts of the lines of rows, each made once.
 
-ghost use Rattle.std.specs.Prelude.{◌≡◌, ◌<◌, ◌++◌, IfOk, OnOk, length, map, slice_index_or};
-ghost use Rattle.std.specs.List.{range_with_len};
-ghost use Rattle.snap_tables.specs.RowParts.{body_of, chosen, ending_text, front_text, shared_line, stop_of};
+ghost use Rattle.std.specs.Prelude.{◌≡◌, ◌<◌, ◌++◌, IfOk, OnOk, length, map};
+ghost use Rattle.std.specs.List.{All, range_with_len};
+ghost use Rattle.snap_rows.specs.Bodies.{IsPlaced};
+ghost use Rattle.snap_tables.specs.RowParts.{ending_of, ending_text, front_text, placed_line};
 
-use crate::line::Entry;
-use crate::shared::{RowShare, Share};
 use crate::texts::Texts;
 use crate::words::{put_number, put_row};
 use snap_core::NoMemory;
+use snap_rows::lists::Placed;
 use snap_rows::tables::Row;
 use std::alloc::Global;
 
-/// The fronts of lines by their switch, up to their number, and what stands behind that by the number: with its body,
-/// and where it isn't decided.
+/// The fronts of lines by their switch, up to their number, and by the place of a body what stands behind that in rows of
+/// one number. Most bodies stand at one number.
 #[derive(Drop)]
 pub(crate) struct RowParts {
     pub fronts: Texts,
-    pub bodies: Texts,
-    pub stops: Texts,
+    pub numbers: Vec<u64>,
+    pub endings: Texts,
 }
 
 // Puts a line up to its number in place of what the words held.
@@ -51,94 +51,91 @@ fn put_words(out: &mut Vec<u8>, number: u64, row: &Row) -> Result<(), NoMemory>
     Ok(())
 }
 
-// These in place of what the words held.
-fn ending(words: &mut Vec<u8>, number: usize, row: &Row) -> Result<(), NoMemory>
-    ensures { OnOk result (words.new.items ≡ ending_text number row.now) }
+// The number of a row with each of so many bodies, and 0 where there is none.
+fn numbers(alloc: Global, count: usize, rows: &[Placed]) -> Result<Vec<u64>, NoMemory>
+    requires { All (λ (p : Placed). p.body < count) rows.now }
+    ensures { IfOk result (λ r. length r.items ≡ count) }
+{
+    let mut numbers = vec![in alloc; 0; count]?;
+    for row in rows {
+        numbers[row.body as usize] = row.number;
+    }
+    Ok(numbers)
+}
+
+// What stands behind the switch in a row of this number with the body at a place, in place of what the words held.
+fn ending(
+    words: &mut Vec<u8>,
+    numbers: &[u64],
+    bodies: &[Row],
+    place: usize,
+) -> Result<(), NoMemory>
+    requires long { length numbers.now ≡ length bodies.now }
+    requires place { place < length bodies.now }
+    ensures { OnOk result (words.new.items ≡ ending_of numbers.now bodies.now place) }
 {
     words.clear();
-    put_words(words, number as u64, row)
+    put_words(words, numbers[place], &bodies[place])
 }
 
-fn body(words: &mut Vec<u8>, bodies: &[Row], number: usize) -> Result<(), NoMemory>
-    requires { number < length bodies.now }
-    ensures { OnOk result (words.new.items ≡ body_of bodies.now number) }
-{
-    ending(words, number, &bodies[number])
-}
-
-fn endings(alloc: Global, words: &mut Vec<u8>, bodies: &[Row]) -> Result<Texts, NoMemory>
-    ensures { IfOk result (λ r. r ≡ map (body_of bodies.now) (range_with_len 0 (length bodies.now))) }
+fn endings(
+    alloc: Global,
+    words: &mut Vec<u8>,
+    numbers: &[u64],
+    bodies: &[Row],
+) -> Result<Texts, NoMemory>
+    requires { length numbers.now ≡ length bodies.now }
+    ensures { IfOk result (λ r. r ≡ map (ending_of numbers.now bodies.now) (range_with_len 0 (length bodies.now))) }
 {
     let mut endings = Texts::with_capacity(alloc, bodies.len())?;
-    for number in 0..bodies.len() {
-        body(words, bodies, number)?;
+    for place in 0..bodies.len() {
+        ending(words, numbers, bodies, place)?;
         endings.push(words.as_slice())?;
     }
     Ok(endings)
 }
 
-fn stops(alloc: Global, words: &mut Vec<u8>, numbers: usize) -> Result<Texts, NoMemory>
-    ensures { IfOk result (λ r. r ≡ map stop_of (range_with_len 0 numbers)) }
-{
-    let mut stops = Texts::with_capacity(alloc, numbers)?;
-    for number in 0..numbers {
-        ending(words, number, &Row::Stop)?;
-        stops.push(words.as_slice())?;
-    }
-    Ok(stops)
-}
-
-// Puts the rest of a line.
-fn put_chosen(
-    out: &mut Vec<u8>,
-    parts: &RowParts,
-    number: u64,
-    share: Share,
-) -> Result<(), NoMemory>
-    ensures { OnOk result (out.new.items ≡ out.old.items ++ chosen parts.now number share) }
-{
-    match share {
-        Share::Body => parts.bodies.put(out, number as usize),
-        Share::Stop => parts.stops.put(out, number as usize),
-        Share::Go { to } => put_words(out, number, &Row::Go { to }),
-    }
-}
-
-impl Entry for RowShare {
-    ghost entry_line = { λ version parts s. shared_line parts s };
-
-    fn put_line(&self, out: &mut Vec<u8>, version: u8, parts: &RowParts) -> Result<(), NoMemory>
-        ensures { OnOk result (out.new.items ≡ out.old.items ++ shared_line parts.now self.now) }
-    {
-        parts.fronts.put(out, self.at as usize)?;
-        put_chosen(out, parts, self.number, self.share)
-    }
-}
-
 impl RowParts {
-    /// No parts, for rows with bodies of their own. Takes no memory.
-    pub(crate) fn none(alloc: Global) -> RowParts {
-        RowParts {
-            fronts: Texts::none(alloc),
-            bodies: Texts::none(alloc),
-            stops: Texts::none(alloc),
-        }
-    }
-
-    /// The parts of the lines of so many switches and these bodies.
-    pub(crate) fn of(alloc: Global, switches: usize, bodies: &[Row]) -> Result<RowParts, NoMemory>
+    /// The parts of the lines of these rows at so many switches.
+    pub(crate) fn of(
+        alloc: Global,
+        switches: usize,
+        bodies: &[Row],
+        rows: &[Placed],
+    ) -> Result<RowParts, NoMemory>
+        requires { All (IsPlaced bodies.now) rows.now }
         ensures fronts { IfOk result (λ r. r.fronts ≡ map front_text (range_with_len 0 switches)) }
-        ensures bodies { IfOk result (λ r. r.bodies ≡ map (body_of bodies.now) (range_with_len 0 (length bodies.now))) }
-        ensures stops { IfOk result (λ r. r.stops ≡ map stop_of (range_with_len 0 (length bodies.now))) }
+        ensures long { IfOk result (λ r. length r.numbers.items ≡ length bodies.now) }
+        ensures endings { IfOk result (λ r. r.endings ≡ map (ending_of r.numbers.items bodies.now) (range_with_len 0 (length bodies.now))) }
     {
         let mut words = Vec::new(alloc);
         let fronts = fronts(alloc, &mut words, switches)?;
-        let stops = stops(alloc, &mut words, bodies.len())?;
-        let bodies = endings(alloc, &mut words, bodies)?;
+        let numbers = numbers(alloc, bodies.len(), rows)?;
+        let endings = endings(alloc, &mut words, &numbers, bodies)?;
         Ok(RowParts {
             fronts,
-            bodies,
-            stops,
+            numbers,
+            endings,
         })
+    }
+
+    /// Puts the line of a row.
+    pub(crate) fn put_line(
+        &self,
+        out: &mut Vec<u8>,
+        bodies: &[Row],
+        row: &Placed,
+    ) -> Result<(), NoMemory>
+        requires long { length self.now.numbers.items ≡ length bodies.now }
+        requires placed { IsPlaced bodies.now row.now }
+        ensures { OnOk result (out.new.items ≡ out.old.items ++ placed_line self.now bodies.now row.now) }
+    {
+        self.fronts.put(out, row.at as usize)?;
+        let place = row.body as usize;
+        if self.numbers[place] == row.number {
+            self.endings.put(out, place)
+        } else {
+            put_words(out, row.number, &bodies[place])
+        }
     }
 }

@@ -36,16 +36,6 @@ impl Model for Texts {
 }
 
 impl Texts {
-    /// No texts. Takes no memory.
-    pub(crate) fn none(alloc: Global) -> Texts
-        ensures { result ≡ [] }
-    {
-        Texts {
-            bytes: Vec::new(alloc),
-            spans: Vec::new(alloc),
-        }
-    }
-
     /// No texts, with room for so many short ones.
     pub(crate) fn with_capacity(alloc: Global, count: usize) -> Result<Texts, NoMemory>
         ensures { IfOk result (λ texts. texts ≡ []) }

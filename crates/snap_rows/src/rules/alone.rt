@@ -9,7 +9,7 @@ ghost use Rattle.snap_rows.specs.Standing.{beside, beside_owner, both, of_stages
 
 use crate::rules::kind::is_field;
 use crate::rules::nodes::nodes;
-use crate::tables::{Row, RowAt, Stage, Tables};
+use crate::tables::{Row, Stage, Tables};
 use snap_core::NoMemory;
 use snap_core::policy::Test;
 use std::alloc::Global;
@@ -132,7 +132,7 @@ pub(crate) fn is_lone_one(alloc: Global, tables: &Tables) -> Result<bool, NoMemo
     let mut rest = nodes.into_map();
     let mut known = BTreeMap::new(alloc);
     while let Some((number, at)) = rest.pop_last() {
-        let node = tables.rows.items()[at].row.row();
+        let node = tables.rows.at(at).row;
         let standing = of_node(tables, &known, node);
         if splits(node, standing) {
             return Ok(false);

@@ -4,6 +4,7 @@ ghost use Rattle.std.specs.Prelude.{◌≡◌, ◌⊎◌, ◌<◌, ℕ, None, So
 ghost use Rattle.std.specs.List.{All};
 ghost use Rattle.snap_rows.specs.declared.tables.RowAt.{RowAt};
 ghost use Rattle.snap_rows.specs.declared.tables.Rule.{Rule};
+ghost use Rattle.snap_rows.specs.Bodies.{lent};
 ghost use Rattle.snap_rows.specs.Entries.{row_at};
 ghost use Rattle.snap_rows.specs.Following.{IsMarked, IsNextMarked, ArePortsMarked, IsFollowed, Grows, AreMarked};
 ghost use Rattle.snap_rows.specs.Form.{IsInForm};
@@ -12,10 +13,11 @@ ghost use Rattle.snap_rows.specs.Rules.{IsFirstSpot};
 ghost use Rattle.snap_rows.specs.Ways.{Reached};
 
 use crate::guesses::Guesses;
+use crate::lists::Lent;
 use crate::look::row_place;
 use crate::rules::leads::led_next;
 use crate::rules::loops::unmarked;
-use crate::tables::{Row, RowAt, Tables};
+use crate::tables::{Row, Tables};
 use snap_core::NoMemory;
 use std::alloc::Global;
 
@@ -43,7 +45,7 @@ impl Search {
         ensures marked { OnOk result (IsMarked tables.now self.new.marks.items at number) }
     {
         let guess = guesses.place(at, number);
-        match row_place(tables.rows.items(), guess, at, number) {
+        match row_place(&tables.rows, guess, at, number) {
             Some(place) => self.mark_place(tables, place),
             None => unreachable!(),
         }
@@ -134,21 +136,20 @@ impl Search {
         &mut self,
         tables: &Tables,
         guesses: &Guesses,
-        entry: &RowAt,
+        entry: Lent<'_>,
         over: &mut Vec<u16>,
     ) -> Result<(), NoMemory>
         requires form { IsInForm tables.now }
         requires loops { IsFirstSpot tables.now Rule.Loop None }
         requires missing { IsFirstSpot tables.now Rule.Missing None }
         requires long { length self.old.marks.items ≡ length tables.now.rows }
-        requires entry { Contains tables.now.rows entry.now }
-        requires reached { Reached tables.now entry.now.at entry.now.number }
+        requires entry { Contains tables.now.rows (lent entry) }
+        requires reached { Reached tables.now entry.at entry.number }
         ensures grows { OnOk result (Grows tables.now self.old.marks.items self.old.left.items self.new.marks.items self.new.left.items) }
-        ensures marked { OnOk result (IsNextMarked tables.now self.new.marks.items entry.now) }
+        ensures marked { OnOk result (IsNextMarked tables.now self.new.marks.items (lent entry.entry)) }
     {
-        let row = entry.row.row();
-        self.mark_numbers(tables, guesses, entry.at, row)?;
-        led_next(tables, entry.at, row, over)?;
+        self.mark_numbers(tables, guesses, entry.at, entry.row)?;
+        led_next(tables, entry.at, entry.row, over)?;
         self.mark_all(tables, guesses, over, entry.number)
     }
 }
@@ -162,7 +163,7 @@ fn from_ports(alloc: Global, tables: &Tables, guesses: &Guesses) -> Result<Searc
     ensures ports { IfOk result (λ search. ArePortsMarked tables.now search.marks.items) }
 {
     let mut search = Search {
-        marks: unmarked(alloc, tables.rows.items().len())?,
+        marks: unmarked(alloc, tables.rows.len())?,
         left: Vec::new(alloc),
     };
     for port in tables.ports.items() {
@@ -187,7 +188,7 @@ pub(crate) fn reached_rows(
     let mut search = from_ports(alloc, tables, guesses)?;
     let mut over = Vec::new(alloc);
     while let Some(place) = search.left.pop() {
-        search.follow(tables, guesses, &tables.rows.items()[place], &mut over)?;
+        search.follow(tables, guesses, tables.rows.at(place), &mut over)?;
     }
     Ok(search.marks)
 }

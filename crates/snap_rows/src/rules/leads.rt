@@ -23,7 +23,7 @@ pub(crate) fn has_row(tables: &Tables, guesses: &Guesses, at: u16, number: u64) 
     ensures { IsTrue result ↔ IsSome (row_at tables.now at number) }
 {
     let guess = guesses.place(at, number);
-    row(tables.rows.items(), guess, at, number).is_some()
+    row(&tables.rows, guess, at, number).is_some()
 }
 
 fn has_both(tables: &Tables, guesses: &Guesses, at: u16, yes: u64, no: u64) -> bool

@@ -11,8 +11,9 @@ ghost use Rattle.snap_rows.specs.Leads.{HaveRows, HaveNext};
 ghost use Rattle.snap_rows.specs.Rules.{Keeps, IsFirstSpot};
 
 use crate::guesses::Guesses;
+use crate::lists::Lent;
 use crate::rules::leads::{has_row, led_next, led_over, numbers_have_rows};
-use crate::tables::{RowAt, Spot, Tables};
+use crate::tables::{Spot, Tables};
 use snap_core::NoMemory;
 use std::alloc::Global;
 
@@ -30,20 +31,19 @@ fn all_have_rows(tables: &Tables, guesses: &Guesses, switches: &[u16], number: u
 fn leads_have_rows(
     tables: &Tables,
     guesses: &Guesses,
-    entry: &RowAt,
+    entry: Lent<'_>,
     over: &mut Vec<u16>,
 ) -> Result<bool, NoMemory>
     requires form { IsInForm tables.now }
     requires loops { IsFirstSpot tables.now Rule.Loop None }
-    requires at { entry.now.at < switch_count tables.now }
-    requires row { IsRowInForm tables.now entry.now.row }
-    ensures { IfOk result (λ all. IsTrue all ↔ HaveRows tables.now entry.now.at entry.now.number entry.now.row) }
+    requires at { entry.at < switch_count tables.now }
+    requires row { IsRowInForm tables.now entry.row.now }
+    ensures { IfOk result (λ all. IsTrue all ↔ HaveRows tables.now entry.entry.at entry.entry.number entry.entry.row.now) }
 {
-    let row = entry.row.row();
-    if !numbers_have_rows(tables, guesses, entry.at, row) {
+    if !numbers_have_rows(tables, guesses, entry.at, entry.row) {
         return Ok(false);
     }
-    led_over(tables, entry.at, row, over)?;
+    led_over(tables, entry.at, entry.row, over)?;
     Ok(all_have_rows(tables, guesses, over, entry.number))
 }
 
@@ -51,20 +51,19 @@ fn leads_have_rows(
 fn next_have_rows(
     tables: &Tables,
     guesses: &Guesses,
-    entry: &RowAt,
+    entry: Lent<'_>,
     over: &mut Vec<u16>,
 ) -> Result<bool, NoMemory>
     requires form { IsInForm tables.now }
     requires loops { IsFirstSpot tables.now Rule.Loop None }
-    requires at { entry.now.at < switch_count tables.now }
-    requires row { IsRowInForm tables.now entry.now.row }
-    ensures { IfOk result (λ all. IsTrue all → HaveNext tables.now entry.now.at entry.now.number entry.now.row) }
+    requires at { entry.at < switch_count tables.now }
+    requires row { IsRowInForm tables.now entry.row.now }
+    ensures { IfOk result (λ all. IsTrue all → HaveNext tables.now entry.entry.at entry.entry.number entry.entry.row.now) }
 {
-    let row = entry.row.row();
-    if !numbers_have_rows(tables, guesses, entry.at, row) {
+    if !numbers_have_rows(tables, guesses, entry.at, entry.row) {
         return Ok(false);
     }
-    led_next(tables, entry.at, row, over)?;
+    led_next(tables, entry.at, entry.row, over)?;
     Ok(all_have_rows(tables, guesses, over, entry.number))
 }
 
@@ -75,8 +74,8 @@ fn all_next_have_rows(alloc: Global, tables: &Tables, guesses: &Guesses) -> Resu
     ensures { IfOk result (λ all. IsTrue all → (w n : ℕ) (b : Row) → row_at tables.now w n ≡ Some b → HaveNext tables.now w n b) }
 {
     let mut over = Vec::new(alloc);
-    for entry in tables.rows.items() {
-        if !next_have_rows(tables, guesses, entry, &mut over)? {
+    for place in 0..tables.rows.len() {
+        if !next_have_rows(tables, guesses, tables.rows.at(place), &mut over)? {
             return Ok(false);
         }
     }
@@ -105,8 +104,8 @@ fn row_spot(alloc: Global, tables: &Tables, guesses: &Guesses) -> Result<Option<
     ensures { IfOk result (IsFirstSpot tables.now Rule.Missing) }
 {
     let mut over = Vec::new(alloc);
-    for (at, entry) in tables.rows.items().iter().enumerate() {
-        if !leads_have_rows(tables, guesses, entry, &mut over)? {
+    for at in 0..tables.rows.len() {
+        if !leads_have_rows(tables, guesses, tables.rows.at(at), &mut over)? {
             return Ok(Some(Spot::Row(at as u64)));
         }
     }

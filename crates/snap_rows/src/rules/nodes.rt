@@ -8,8 +8,9 @@ ghost use Rattle.snap_rows.specs.Entries.{is_node, node_of};
 ghost use Rattle.snap_rows.specs.Rules.{IsFieldRow};
 ghost use Rattle.snap_rows.specs.Standing.{AreNodesFrom, AreFieldsTo, place_in};
 
+use crate::lists::Lent;
 use crate::rules::kind::is_field;
-use crate::tables::{Row, RowAt, Tables};
+use crate::tables::{Row, Tables};
 use snap_core::NoMemory;
 use std::alloc::Global;
 use std::collections::BTreeMap;
@@ -89,12 +90,13 @@ pub(crate) fn nodes(alloc: Global, tables: &Tables, below: usize) -> Result<Numb
     ensures nodes { IfOk result (λ m. AreNodesFrom tables.now 0 (place_in m)) }
     ensures low { IfOk result (λ m. length m.low.items ≡ below) }
 {
-    let rows = tables.rows.items();
+    let rows = &tables.rows;
     let mut nodes = Numbered::new(alloc, below)?;
     for turn in 0..rows.len() {
         let at = rows.len() - turn - 1;
-        if is_node(rows[at].row.row()) {
-            nodes.put(rows[at].number, at)?;
+        let entry = rows.at(at);
+        if is_node(entry.row) {
+            nodes.put(entry.number, at)?;
         }
     }
     Ok(nodes)
@@ -106,16 +108,16 @@ pub(crate) fn node<'a>(tables: &'a Tables, nodes: &Numbered, number: u64) -> Opt
     ensures { option_map (λ r. r.now) result ≡ node_of tables.now number }
 {
     match nodes.place(number) {
-        Some(place) => Some(tables.rows.items()[place].row.row()),
+        Some(place) => Some(tables.rows.at(place).row),
         None => None,
     }
 }
 
 // Adds a row's number, if it is a field row.
-fn add_field(fields: &mut Numbered, entry: &RowAt, place: usize) -> Result<(), NoMemory>
-    ensures { OnOk result ((n : ℕ) → (place_in fields.new n ≡ None) ↔ ((place_in fields.old n ≡ None) × (entry.now.number ≡ n → ¬ IsFieldRow entry.now.row))) }
+fn add_field(fields: &mut Numbered, entry: Lent<'_>, place: usize) -> Result<(), NoMemory>
+    ensures { OnOk result ((n : ℕ) → (place_in fields.new n ≡ None) ↔ ((place_in fields.old n ≡ None) × (entry.entry.number ≡ n → ¬ IsFieldRow entry.entry.row.now))) }
 {
-    if is_field(entry.row.row()) {
+    if is_field(entry.row) {
         fields.put(entry.number, place)?;
     }
     Ok(())
@@ -125,10 +127,10 @@ fn add_field(fields: &mut Numbered, entry: &RowAt, place: usize) -> Result<(), N
 pub(crate) fn fields(alloc: Global, tables: &Tables) -> Result<Numbered, NoMemory>
     ensures { IfOk result (λ m. AreFieldsTo tables.now (length tables.now.rows) (place_in m)) }
 {
-    let rows = tables.rows.items();
+    let rows = &tables.rows;
     let mut fields = Numbered::new(alloc, rows.len())?;
-    for (place, entry) in rows.iter().enumerate() {
-        add_field(&mut fields, entry, place)?;
+    for place in 0..rows.len() {
+        add_field(&mut fields, rows.at(place), place)?;
     }
     Ok(fields)
 }

@@ -24,7 +24,7 @@ pub(crate) fn spare_spot(
     ensures { IfOk result (IsFirstSpot tables.now Rule.Spare) }
 {
     let marks = reached_rows(alloc, tables, guesses)?;
-    for at in 0..tables.rows.items().len() {
+    for at in 0..tables.rows.len() {
         if !marks[at] {
             return Ok(Some(Spot::Row(at as u64)));
         }

@@ -4,20 +4,21 @@ use Rattle.snap_cli.proofs.RefusedBy.{meets-refused}
 use Rattle.std.proofs.Common.{[], ◌∷◌, refl}
 use Rattle.snap_cli.proofs.StatusLemmas.{ends-refused, ends-text}
 use Rattle.std.proofs.lemmas.Option.{IfSome_then}
+use Rattle.snap_cli.proofs.Relayed.{passed}
 use Rattle.snap_cli.proofs.deps.report.Goals as goal
 
-pub returns-in-Ok-clause-meets : goal.returns-in-Ok-clause-meets
-returns-in-Ok-clause-meets g c =
-    IfSome_then (g.S.Shelf.files c.args.shelf.now) c.in-Ok.ensures.gives (λ files read.
-    meets-text files c.args.program.now c.in-Ok.program (g.O.Sink.taken c.args.out.now) (g.O.Sink.taken c.write_text.new.out) c.write_text.result read c.write_text.ensures.meets)
+pub returns-clause-meets : goal.returns-clause-meets
+returns-clause-meets g c =
+    IfSome_then (g.S.Shelf.files c.args.shelf.now) c.in_ok-program.ensures.gives (λ files read.
+    meets-text files c.args.program.now c.in_ok-program.program (g.O.Sink.taken c.args.out.now) (g.O.Sink.taken c.write_text.new.out) c.write_text.result read c.write_text.ensures.meets)
 
-pub returns-in-Err-clause-meets : goal.returns-in-Err-clause-meets
-returns-in-Err-clause-meets g c =
+pub returns-clause-statuses : goal.returns-clause-statuses
+returns-clause-statuses g c = ends-text c.in_ok-program.program c.write_text.result _ _ c.write_text.ensures.meets
+
+pub returns-in_err-program-clause-meets : goal.returns-in_err-program-clause-meets
+returns-in_err-program-clause-meets g c =
     let p = c.args.program.now in
-    IfSome_then (g.S.Shelf.files c.args.shelf.now) c.in-Err.ensures.gives (λ files no. meets-refused files (deps p) p (g.O.Sink.taken c.args.out.now) c.in-Err.refusal (deps-refuses p files) no)
+    rw (passed c.from_residual.ensures.1) (IfSome_then (g.S.Shelf.files c.args.shelf.now) c.in_err-program.ensures.gives (λ files no. meets-refused files (deps p) p (g.O.Sink.taken c.args.out.now) c.in_err-program.field-0.0 (deps-refuses p files) no))
 
-pub returns-in-Ok-clause-statuses : goal.returns-in-Ok-clause-statuses
-returns-in-Ok-clause-statuses g c = ends-text c.in-Ok.program c.write_text.result _ _ c.write_text.ensures.meets
-
-pub returns-in-Err-clause-statuses : goal.returns-in-Err-clause-statuses
-returns-in-Err-clause-statuses g c = ends-refused (2 ∷ 4 ∷ 5 ∷ 6 ∷ []) (2 ∷ 4 ∷ 5 ∷ 6 ∷ []) c.in-Err.refusal refl c.in-Err.ensures.statuses
+pub returns-in_err-program-clause-statuses : goal.returns-in_err-program-clause-statuses
+returns-in_err-program-clause-statuses g c = rw (passed c.from_residual.ensures.1) (ends-refused (2 ∷ 4 ∷ 5 ∷ 6 ∷ []) (2 ∷ 4 ∷ 5 ∷ 6 ∷ []) c.in_err-program.field-0.0 refl c.in_err-program.ensures.statuses)

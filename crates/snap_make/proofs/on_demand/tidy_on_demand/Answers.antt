@@ -1,7 +1,7 @@
 use Rattle.std.proofs.Common.{◌≡◌, sym, subst}
 use Rattle.snap_rows.specs.declared.tables.Tables.{Tables}
 use Rattle.snap_gen.specs.Faithful.{Faithful}
-use Rattle.snap_make.proofs.DemandMaking.{can_be_numbered, demanded_made, numbers_low, setting}
+use Rattle.snap_make.proofs.DemandMaking.{can_be_numbered, demanded_made, setting}
 use Rattle.snap_make.proofs.Given.{few_groups}
 use Rattle.snap_make.proofs.on_demand.tidy_on_demand.Goals as goal
 
@@ -11,30 +11,26 @@ frame-requires-clause-few c = few_groups c.args.program.now c.args.groups.now c.
 pub rows-requires-clause-setting : goal.rows-requires-clause-setting
 rows-requires-clause-setting c =
     setting c.args.program.now c.args.topology.now c.args.placement.now c.args.routes.now c.args.groups.now c.args.built.now.nodes c.args.built.now.root
-    c.requires.form c.requires.small c.requires.groups c.requires.topology c.requires.routes c.requires.placement c.requires.tidy c.in_ok-frame.frame c.in_ok-frame.ensures
+    c.requires.form c.requires.small c.requires.groups c.requires.topology c.requires.routes c.requires.placement c.requires.tidy c.in_ok-tables.tables c.in_ok-tables.ensures
 
 pub rows-requires-clause-nodes : goal.rows-requires-clause-nodes
 rows-requires-clause-nodes c =
     can_be_numbered c.args.program.now c.args.topology.now c.args.placement.now c.args.routes.now c.args.groups.now c.args.built.now.nodes c.args.built.now.root
-    c.requires.form c.requires.small c.requires.groups c.requires.topology c.requires.routes c.requires.placement c.requires.tidy c.in_ok-frame.frame c.in_ok-frame.ensures
+    c.requires.form c.requires.small c.requires.groups c.requires.topology c.requires.routes c.requires.placement c.requires.tidy c.in_ok-tables.tables c.in_ok-tables.ensures
 
 pub new-requires : goal.new-requires
 new-requires c =
     let made =
     demanded_made c.args.program.now c.args.topology.now c.args.placement.now c.args.routes.now c.args.groups.now c.args.built.now.nodes c.args.built.now.root
-    c.requires.form c.requires.small c.requires.groups c.requires.topology c.requires.routes c.requires.placement c.requires.tidy c.in_ok-frame.frame c.in_ok-frame.ensures
-    c.in_ok-bodies.bodies.items c.in_ok-bodies.shares.items c.in_ok-bodies.ensures.arena c.in_ok-bodies.ensures.rows in
-    record {
-      form = made.shape.form;
-      valid = made.shape.valid;
-      numbers = numbers_low c.in_ok-frame.frame c.args.built.now.nodes c.args.built.now.root c.in_ok-bodies.bodies.items c.in_ok-bodies.shares.items c.in_ok-bodies.ensures.rows;
-    }
+    c.requires.form c.requires.small c.requires.groups c.requires.topology c.requires.routes c.requires.placement c.requires.tidy c.in_ok-tables.tables c.in_ok-tables.ensures
+    c.in_ok-rows.rows c.in_ok-rows.ensures.arena c.in_ok-rows.ensures.rows in
+    record { form = made.shape.form; valid = made.shape.valid }
 
 pub returns : goal.returns
 returns c =
     subst (λ (t : Tables). Faithful c.args.program.now c.args.topology.now c.args.placement.now t × (t.version ≡ 1)) (sym c.new.ensures) (
       demanded_made c.args.program.now c.args.topology.now c.args.placement.now c.args.routes.now c.args.groups.now c.args.built.now.nodes c.args.built.now.root
-          c.requires.form c.requires.small c.requires.groups c.requires.topology c.requires.routes c.requires.placement c.requires.tidy c.in_ok-frame.frame c.in_ok-frame.ensures
-          c.in_ok-bodies.bodies.items c.in_ok-bodies.shares.items c.in_ok-bodies.ensures.arena c.in_ok-bodies.ensures.rows,
-      c.in_ok-frame.ensures.version,
+          c.requires.form c.requires.small c.requires.groups c.requires.topology c.requires.routes c.requires.placement c.requires.tidy c.in_ok-tables.tables c.in_ok-tables.ensures
+          c.in_ok-rows.rows c.in_ok-rows.ensures.arena c.in_ok-rows.ensures.rows,
+      c.in_ok-tables.ensures.version,
     )

@@ -3,7 +3,6 @@ use Rattle.snap_rows.specs.declared.tables.Tables.{Tables}
 use Rattle.snap_gen.specs.Faithful.{Faithful}
 use Rattle.snap_make.proofs.Given.{few_groups}
 use Rattle.snap_make.proofs.Making.{rows_made}
-use Rattle.snap_make.proofs.Sharing.{rows_low}
 use Rattle.snap_make.proofs.tables.tidy_tables.Goals as goal
 
 pub frame-requires-clause-few : goal.frame-requires-clause-few
@@ -14,18 +13,14 @@ new-requires c =
     let made =
     rows_made c.args.program.now c.args.topology.now c.args.placement.now c.args.routes.now c.args.groups.now c.args.built.now.nodes c.args.built.now.root
     c.requires.form c.requires.small c.requires.groups c.requires.topology c.requires.routes c.requires.placement c.requires.tidy
-    c.in_ok-frame.frame c.in_ok-bodies.bodies.items c.in_ok-bodies.shares.items c.in_ok-frame.ensures c.in_ok-bodies.ensures.arena c.in_ok-bodies.ensures.rows in
-    record {
-      form = made.shape.form;
-      valid = made.shape.valid;
-      numbers = rows_low c.in_ok-frame.frame c.args.built.now.nodes c.args.built.now.root c.in_ok-bodies.bodies.items c.in_ok-bodies.shares.items c.in_ok-bodies.ensures.rows;
-    }
+    c.in_ok-tables.tables c.in_ok-rows.rows c.in_ok-tables.ensures c.in_ok-rows.ensures.arena c.in_ok-rows.ensures.rows in
+    record { form = made.shape.form; valid = made.shape.valid }
 
 pub returns : goal.returns
 returns c =
     subst (λ (t : Tables). Faithful c.args.program.now c.args.topology.now c.args.placement.now t × (t.version ≡ 2)) (sym c.new.ensures) (
       rows_made c.args.program.now c.args.topology.now c.args.placement.now c.args.routes.now c.args.groups.now c.args.built.now.nodes c.args.built.now.root
           c.requires.form c.requires.small c.requires.groups c.requires.topology c.requires.routes c.requires.placement c.requires.tidy
-          c.in_ok-frame.frame c.in_ok-bodies.bodies.items c.in_ok-bodies.shares.items c.in_ok-frame.ensures c.in_ok-bodies.ensures.arena c.in_ok-bodies.ensures.rows,
-      c.in_ok-frame.ensures.version,
+          c.in_ok-tables.tables c.in_ok-rows.rows c.in_ok-tables.ensures c.in_ok-rows.ensures.arena c.in_ok-rows.ensures.rows,
+      c.in_ok-tables.ensures.version,
     )

@@ -1,13 +1,14 @@
-use Rattle.std.proofs.Common.{◌≡◌, ◌<◌, ◌≤◌, Some, None, List, length, get_or, refl, sym, ap, subst, ◌∙◌, ⊎_elim, arith}
+use Rattle.std.proofs.Common.{◌≡◌, ◌≤◌, Some, None, refl, sym, ap, subst, ◌∙◌, ⊎_elim}
 use Rattle.std.specs.Prelude.{is_some, MatchOption}
 use Rattle.std.specs.BTreeMap.{btree_map_len, get, Updates}
 use Rattle.std.specs.Ordering.{nat_cmp}
 use Rattle.std.proofs.lemmas.Bool.{false≢true, cases_lt}
-use Rattle.std.proofs.lemmas.Option.{slice_get_within, get_or_from_slice_get}
+use Rattle.std.proofs.lemmas.Option.{same_Some, slice_get_within}
 use Rattle.snap_rows.specs.declared.rules.alone.Standing.{Standing}
 use Rattle.snap_rows.specs.declared.tables.Row.{Row}
 use Rattle.snap_rows.specs.declared.tables.RowAt.{RowAt}
 use Rattle.snap_rows.specs.Standing.{of_node, standing_in, Splits, AreNodesFrom, IsNodeFrom}
+use Rattle.snap_rows.specs.Bodies.{lent}
 use Rattle.snap_rows.specs.Entries.{node_of}
 use Rattle.snap_rows.proofs.Growing.{not_two, grown_none, grown_more, split_found, lone_at_end}
 use Rattle.snap_rows.proofs.rules.alone.is_lone_one.Goals as goal
@@ -18,18 +19,10 @@ loop-number-init c =
     let nodes : AreNodesFrom t 0 (get nat_cmp c.into_map-rest.result) = λ n. subst (λ o. MatchOption o (node_of t n ≡ None) (IsNodeFrom t 0 n)) (sym (c.into_map-rest.ensures n)) (c.in_ok-nodes.ensures.nodes n) in
     grown_none t c.into_map-rest.result c.new-known.result nodes c.new-known.ensures.empty
 
-pub bounds-items-at : goal.bounds-items-at
-bounds-items-at c =
+pub at-requires : goal.at-requires
+at-requires c =
     let at = c.loop-number.invariant.nodes c.in-Some.number c.in-Some.at c.in-Some.ensures.value in
-    subst (λ (rows : List RowAt). c.in-Some.at < length rows) (sym c.items.ensures) (slice_get_within c.args.tables.now.rows c.in-Some.at at.entry at.is)
-
-pub offset_bounds-items-at : goal.offset_bounds-items-at
-offset_bounds-items-at c =
-    let i = c.in-Some.at in
-    let items = c.items.result.now in
-    let below : i < length items = bounds-items-at c in
-    let small = c.items.type_inv.1 in
-    omega arith
+    slice_get_within c.args.tables.now.rows c.in-Some.at at.entry at.is
 
 pub returns-then-splits : goal.returns-then-splits
 returns-then-splits c =
@@ -38,11 +31,10 @@ returns-then-splits c =
     let known = c.loop-number.known in
     let n = c.in-Some.number in
     let i = c.in-Some.at in
-    let r = get_or c.items.result.now i c.index-items-at.result in
     let at = c.loop-number.invariant.nodes n i c.in-Some.ensures.value in
-    let same : r ≡ at.entry = ap (λ rows. get_or rows i c.index-items-at.result) c.items.ensures ∙ get_or_from_slice_get t.rows i at.entry c.index-items-at.result at.is in
-    let node : c.row-node.result.now ≡ at.entry.row = c.row-node.ensures ∙ ap (λ (r : RowAt). r.row) same in
-    let split = subst (λ (b : Row). Splits b (of_node t (standing_in known) b)) node (subst (Splits c.row-node.result.now) c.of_node-standing.ensures (c.splits.ensures.0 c.if-splits.true)) in (
+    let same : lent c.at.result ≡ at.entry = same_Some _ _ (sym c.at.ensures ∙ at.is) in
+    let node : c.at.result.row.now ≡ at.entry.row = ap (λ (r : RowAt). r.row) same in
+    let split = subst (λ (b : Row). Splits b (of_node t (standing_in known) b)) node (subst (Splits c.at.result.row.now) c.of_node-standing.ensures (c.splits.ensures.0 c.if-splits.true)) in (
       λ h. absurd (false≢true h),
       λ lone. absurd (split_found t c.requires.valid c.requires.form c.requires.version rest known n i c.loop-number.invariant c.in-Some.ensures.greatest at split (lone.0 c.requires.version)),
     )
@@ -54,12 +46,11 @@ loop-number-preserved c =
     let known = c.loop-number.known in
     let n = c.in-Some.number in
     let i = c.in-Some.at in
-    let r = get_or c.items.result.now i c.index-items-at.result in
     let at = c.loop-number.invariant.nodes n i c.in-Some.ensures.value in
-    let same : r ≡ at.entry = ap (λ rows. get_or rows i c.index-items-at.result) c.items.ensures ∙ get_or_from_slice_get t.rows i at.entry c.index-items-at.result at.is in
-    let node : c.row-node.result.now ≡ at.entry.row = c.row-node.ensures ∙ ap (λ (r : RowAt). r.row) same in
+    let same : lent c.at.result ≡ at.entry = same_Some _ _ (sym c.at.ensures ∙ at.is) in
+    let node : c.at.result.row.now ≡ at.entry.row = ap (λ (r : RowAt). r.row) same in
     let whole = λ (split : Splits at.entry.row (of_node t (standing_in known) at.entry.row)).
-    false≢true (sym c.if-splits.false ∙ c.splits.ensures.1 (subst (Splits c.row-node.result.now) (sym c.of_node-standing.ensures) (subst (λ (b : Row). Splits b (of_node t (standing_in known) b)) (sym node) split))) in
+    false≢true (sym c.if-splits.false ∙ c.splits.ensures.1 (subst (Splits c.at.result.row.now) (sym c.of_node-standing.ensures) (subst (λ (b : Row). Splits b (of_node t (standing_in known) b)) (sym node) split))) in
     let standing : c.of_node-standing.result ≡ of_node t (standing_in known) at.entry.row = c.of_node-standing.ensures ∙ ap (of_node t (standing_in known)) node in
     grown_more t c.requires.valid c.requires.form c.requires.version rest c.pop_last.new.self known c.insert.new.self n i c.loop-number.invariant c.in-Some.ensures.greatest at whole c.in-Some.ensures.updates
     (subst (λ (s : Standing). Updates nat_cmp known c.insert.new.self n (Some s)) standing c.in_ok-insert.ensures.updates)

@@ -1,63 +1,54 @@
-use Rattle.std.proofs.Common.{◌≡◌, ℕ, ◌*◌, ◌<◌, List, [], ◌∷◌, ◌++◌, length, get_or, Some, ◌≤◌, sym, ap, subst, ◌∙◌, arith, ⊎_elim}
-use Rattle.std.specs.Prelude.{Contains, slice_get, is_some}
+use Rattle.std.proofs.Common.{◌≡◌, ℕ, List, [], ◌∷◌, ◌++◌, length, ◌≤◌, sym, ap, subst, ◌∙◌, arith, ⊎_elim}
+use Rattle.std.specs.Prelude.{Contains, is_some}
 use Rattle.std.specs.Option.{option_to_list}
 use Rattle.std.proofs.lemmas.Bool.{false≢true, cases_lt}
 use Rattle.std.proofs.lemmas.List.{nil_from_length}
 use Rattle.std.proofs.lemmas.List.Elements.{Contains-push}
-use Rattle.snap_rows.specs.declared.tables.RowAt.{RowAt}
+use Rattle.std.proofs.lemmas.Option.{get_or_from_slice_get}
 use Rattle.snap_rows.specs.Following.{IsFollowed}
 use Rattle.snap_rows.proofs.Following.{left_place, not_left, swapped, marked_more, are_marked}
-use Rattle.snap_rows.proofs.Spots.{found}
+use Rattle.snap_rows.specs.Bodies.{lent}
 use Rattle.snap_rows.proofs.rules.follow.reached_rows.Goals as goal
 
 -- the place that was taken is left before
 taken : (old new : List ℕ) (i : ℕ) → old ≡ new ++ i ∷ [] → Contains old i
 taken old new i e = subst (λ l. Contains l i) (sym e) (Contains-push new i)
 
-pub bounds-items-place : goal.bounds-items-place
-bounds-items-place c =
+pub at-requires : goal.at-requires
+at-requires c =
     let t = c.args.tables.now in
     let split : c.loop-place.search.left.items ≡ c.pop.new.self.items ++ c.in-Some.place ∷ [] = c.pop.ensures.items ∙ ap (λ o. c.pop.new.self.items ++ option_to_list o) c.in-Some.is in
-    let there = left_place t c.loop-place.search.marks.items c.loop-place.search.left.items c.in-Some.place c.loop-place.invariant.long c.loop-place.invariant.followed (taken c.loop-place.search.left.items c.pop.new.self.items c.in-Some.place split) in
-    subst (λ (l : List RowAt). c.in-Some.place < length l) (sym c.items.ensures) there.0
-
-pub offset_bounds-items-place : goal.offset_bounds-items-place
-offset_bounds-items-place c =
-    let within : c.in-Some.place < length c.items.result.now = bounds-items-place c in
-    let small : length c.items.result.now * 24 < 9223372036854775808 = c.items.type_inv.1 in
-    omega arith
+    (left_place t c.loop-place.search.marks.items c.loop-place.search.left.items c.in-Some.place c.loop-place.invariant.long c.loop-place.invariant.followed (taken c.loop-place.search.left.items c.pop.new.self.items c.in-Some.place split)).0
 
 pub follow-requires-clause-entry : goal.follow-requires-clause-entry
 follow-requires-clause-entry c =
     let t = c.args.tables.now in
     let split : c.loop-place.search.left.items ≡ c.pop.new.self.items ++ c.in-Some.place ∷ [] = c.pop.ensures.items ∙ ap (λ o. c.pop.new.self.items ++ option_to_list o) c.in-Some.is in
     let there = left_place t c.loop-place.search.marks.items c.loop-place.search.left.items c.in-Some.place c.loop-place.invariant.long c.loop-place.invariant.followed (taken c.loop-place.search.left.items c.pop.new.self.items c.in-Some.place split) in
-    (c.in-Some.place, there.0, sym (c.index-items-place.is ∙ ap (λ (l : List RowAt). get_or l c.in-Some.place c.index-items-place.result) c.items.ensures))
+    (c.in-Some.place, there.0, get_or_from_slice_get t.rows c.in-Some.place (lent c.at.result) (lent c.at.result) c.at.ensures)
 
 pub follow-requires-clause-reached : goal.follow-requires-clause-reached
 follow-requires-clause-reached c =
     let t = c.args.tables.now in
     let split : c.loop-place.search.left.items ≡ c.pop.new.self.items ++ c.in-Some.place ∷ [] = c.pop.ensures.items ∙ ap (λ o. c.pop.new.self.items ++ option_to_list o) c.in-Some.is in
     let there = left_place t c.loop-place.search.marks.items c.loop-place.search.left.items c.in-Some.place c.loop-place.invariant.long c.loop-place.invariant.followed (taken c.loop-place.search.left.items c.pop.new.self.items c.in-Some.place split) in
-    let row : slice_get t.rows c.in-Some.place ≡ Some c.index-items-place.result = found t.rows c.in-Some.place c.index-items-place.result (c.index-items-place.is ∙ ap (λ (l : List RowAt). get_or l c.in-Some.place c.index-items-place.result) c.items.ensures) there.0 in
-    c.loop-place.invariant.followed.sound c.in-Some.place c.index-items-place.result row there.1
+    c.loop-place.invariant.followed.sound c.in-Some.place (lent c.at.result) c.at.ensures there.1
 
 pub loop-place-preserved : goal.loop-place-preserved
 loop-place-preserved c =
     let t = c.args.tables.now in
     let i = c.in-Some.place in
-    let r = c.index-items-place.result in
+    let r = lent c.at.result in
     let marks = c.loop-place.search.marks.items in
     let more = c.follow.new.self.marks.items in
     let rest = c.pop.new.self.items in
     let grows = c.in_ok-follow.ensures.grows in
     let split : c.loop-place.search.left.items ≡ rest ++ i ∷ [] = c.pop.ensures.items ∙ ap (λ o. rest ++ option_to_list o) c.in-Some.is in
     let there = left_place t marks c.loop-place.search.left.items i c.loop-place.invariant.long c.loop-place.invariant.followed (taken c.loop-place.search.left.items rest i split) in
-    let row : slice_get t.rows i ≡ Some r = found t.rows i r (c.index-items-place.is ∙ ap (λ (l : List RowAt). get_or l i r) c.items.ensures) there.0 in
     let before : IsFollowed t marks (i ∷ [] ++ rest) = swapped t marks rest (i ∷ []) (subst (IsFollowed t marks) split c.loop-place.invariant.followed) in
     record {
       long = grows.long ∙ c.loop-place.invariant.long;
-      followed = not_left t more c.follow.new.self.left.items i r row c.in_ok-follow.ensures.marked (grows.followed (i ∷ []) before);
+      followed = not_left t more c.follow.new.self.left.items i r c.at.ensures c.in_ok-follow.ensures.marked (grows.followed (i ∷ []) before);
       ports = λ p is. marked_more t marks more p.at 0 grows.kept (c.loop-place.invariant.ports p is);
     }
 

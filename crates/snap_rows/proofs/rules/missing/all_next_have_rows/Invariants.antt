@@ -4,7 +4,5 @@ use Rattle.snap_rows.specs.declared.tables.RowAt.{RowAt}
 use Rattle.snap_rows.specs.Leads.{HaveNext}
 use Rattle.snap_rows.proofs.rules.missing.all_next_have_rows.Given as goal
 
-abbrev pub invariant-loop-entry : goal.invariant-loop-entry
-invariant-loop-entry l = record {
-  have : (i : ℕ) (r : RowAt) → i < l.entry-index → slice_get l.tables.rows i ≡ Some r → HaveNext l.tables r.at r.number r.row;
-}
+abbrev pub invariant-loop-place : goal.invariant-loop-place
+invariant-loop-place l = (i : ℕ) (r : RowAt) → i < l.place → slice_get l.tables.rows i ≡ Some r → HaveNext l.tables r.at r.number r.row

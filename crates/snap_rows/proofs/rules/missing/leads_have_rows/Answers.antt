@@ -1,23 +1,21 @@
 use Rattle.std.proofs.Common.{rules, ◌≡◌, ℕ, sym, subst}
-use Rattle.std.specs.Prelude.{◌↔◌, IsSome, IsTrue}
+use Rattle.std.specs.Prelude.{IsSome}
 use Rattle.std.specs.List.{All}
-use Rattle.snap_rows.specs.declared.tables.Row.{Row}
 use Rattle.snap_rows.specs.Entries.{row_at}
-use Rattle.snap_rows.specs.Leads.{HaveRows, IsNumberAfter, LeadsOver}
+use Rattle.snap_rows.specs.Leads.{IsNumberAfter, LeadsOver}
 use Rattle.snap_rows.proofs.Leading.{split_leads, join_leads, each_over}
 use Rattle.snap_rows.proofs.rules.missing.leads_have_rows.Goals as goal
 
 pub returns : goal.returns
 returns c =
     let t = c.args.tables.now in
-    let w = c.args.entry.now.at in
-    let n = c.args.entry.now.number in
-    let b = c.row-row.result.now in
+    let w = c.args.entry.at in
+    let n = c.args.entry.number in
+    let b = c.args.entry.row.now in
     let own : (k : ℕ) → IsNumberAfter b k → IsSome (row_at t w k) = search rules in
     let over = c.led_over.new.over.items in
     let each = each_over (LeadsOver t w b) (λ x. IsSome (row_at t x n)) over c.in_ok-led_over.ensures in
-    let are : c.deref.result.now ≡ over = c.deref.ensures.value in
-    subst (λ (b : Row). IsTrue c.all_have_rows.result ↔ HaveRows t w n b) c.row-row.ensures (
+    let are : c.deref.result.now ≡ over = c.deref.ensures.value in (
       λ yes. join_leads t w n b (λ x k. IsSome (row_at t x k)) own (each.0 (subst (All (λ x. IsSome (row_at t x n))) are (c.all_have_rows.ensures.0 yes))),
       λ have. c.all_have_rows.ensures.1 (subst (All (λ x. IsSome (row_at t x n))) (sym are) (each.1 (split_leads t w n b (λ x k. IsSome (row_at t x k)) have).1)),
     )

@@ -4,7 +4,6 @@ use Rattle.snap_rows.proofs.rules.nodes.nodes.Given as goal
 
 abbrev pub invariant-loop-turn : goal.invariant-loop-turn
 invariant-loop-turn l = record {
-  items : l.rows ≡ l.tables.rows;
   low : length l.nodes.low.items ≡ l.below;
-  nodes : AreNodesFrom l.tables (length l.rows - l.turn) (place_in l.nodes);
+  nodes : AreNodesFrom l.tables (length l.tables.rows - l.turn) (place_in l.nodes);
 }

@@ -1,8 +1,0 @@
--- The rows of the numbers so far.
-use Rattle.std.proofs.Common.{◌≡◌, ◌++◌, map}
-use Rattle.snap_make.specs.Pairs.{at_switch}
-use Rattle.snap_make.specs.Shares.{share_entry, shown}
-use Rattle.snap_make.proofs.shares.push_shares.Given as goal
-
-abbrev pub invariant-loop-number : goal.invariant-loop-number
-invariant-loop-number l = map (share_entry l.bodies) l.shares.items ≡ map (share_entry l.bodies) l.fn.shares.items ++ at_switch (shown l.tables l.bodies l.fronts l.site.at) l.site.at l.number
