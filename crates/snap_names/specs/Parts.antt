@@ -102,8 +102,8 @@ JoinsParts {A} form join before all parts next part = (x : Option A) (y : A) →
 
 -- The part stands for a choice, where those of its test and of its two policies do.
 abbrev pub JoinsChoice : ℕ → ℕ → Part → Part → Part → Part → Type 0
-JoinsChoice before all test left right part = (x : CoreTest) (p q : CorePolicy) → IsPart (filter x) before test → IsPart p before left → IsPart q before right
-    → IsPart (choice x p q) all part
+JoinsChoice before all test left right part = (x : CoreTest) (p q : CorePolicy)
+    → IsPart (filter x) before test → IsPart p before left → IsPart q before right → IsPart (choice x p q) all part
 
 -- What was read is the core policy that `form` says, and its nodes are counted.
 pub record HasRead {A : Type 0} (form : A → CorePolicy) (r : Result (A × Arities) NameFault) (old new : Tally) (part : Part) : Type 0 where

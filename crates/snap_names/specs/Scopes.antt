@@ -31,7 +31,8 @@ pub record HasDeclared (text : List ℕ) (r : Result Declared NameFault) (s : Sc
 
 -- A field whose names are new is declared behind all else.
 abbrev pub FieldDeclared : Scope → Scope → List ℕ → Option ℕ → Type 0
-FieldDeclared old new name prefix = is_field_known (names_in old.names.entries) name (is_some prefix) ≡ false → (lets : List CorePolicy) → IsScope old lets
+FieldDeclared old new name prefix = is_field_known (names_in old.names.entries) name (is_some prefix) ≡ false
+    → (lets : List CorePolicy) → IsScope old lets
     → (arities : Arities) → HasDeclared old.text.now (Ok (with_field (declared_in old lets arities) name prefix)) new arities
 
 -- The declaration is declared in the scope, or refused as it says, but for want of memory.
