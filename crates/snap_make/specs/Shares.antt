@@ -26,6 +26,10 @@ with_stop bodies = bodies ++ map (λ b. row.Stop) bodies
 abbrev pub entries : List Row → List Placed → List (Entry Row)
 entries bodies rows = map (λ p. row_entry (placed bodies p)) rows
 
+-- these stand behind the rows that there were
+abbrev pub Adds : (bodies : List Row) → (old : List Placed) → List (Entry Row) → (new : List Placed) → Type 0
+Adds bodies old more new = entries bodies new ≡ entries bodies old ++ more
+
 -- the row of a switch and number
 abbrev pub shown : Tables → List Row → List Bool → ℕ → ℕ → Option Row
 shown t bodies marks w n = row_for t w (slice_index_or marks n false) (slice_get bodies n)

@@ -1,6 +1,6 @@
 //! The rows of switches in tables on demand.
 
-ghost use Rattle.std.specs.Prelude.{◌≡◌, ◌<◌, ◌≤◌, ◌+◌, ◌^◌, ◌++◌, IfOk, OnOk, length, map, slice_get};
+ghost use Rattle.std.specs.Prelude.{◌≡◌, ◌<◌, ◌≤◌, ◌+◌, ◌^◌, IfOk, OnOk, length, map, slice_get};
 ghost use Rattle.std.specs.List.{All};
 ghost use Rattle.snap_gen.specs.Planned.{IsNodeKind};
 ghost use Rattle.snap_rows.specs.Bodies.{IsPlaced};
@@ -8,7 +8,7 @@ ghost use Rattle.snap_demand.specs.Demands.{IsSetting};
 ghost use Rattle.snap_demand.specs.OnDemand.{HasNodes, place_of, staged};
 ghost use Rattle.snap_make.specs.Demanded.{AreDemandedRows, demanded, gone, place_on, with_gone};
 ghost use Rattle.snap_make.specs.Pairs.{at_switch, at_switches};
-ghost use Rattle.snap_make.specs.Shares.{entries};
+ghost use Rattle.snap_make.specs.Shares.{Adds, entries};
 
 use snap_core::NoMemory;
 use snap_demand::demands::demands;
@@ -85,7 +85,8 @@ fn push_rows(
     requires few { length bodies.now + length bodies.now < 2 ^ 32 }
     requires placed { All (IsPlaced (with_gone (place_of tables.now) bodies.now)) rows.old.items }
     ensures placed { OnOk result (All (IsPlaced (with_gone (place_of tables.now) bodies.now)) rows.new.items) }
-    ensures rows { OnOk result (entries (with_gone (place_of tables.now) bodies.now) rows.new.items ≡ entries (with_gone (place_of tables.now) bodies.now) rows.old.items ++ at_switch (demanded tables.now bodies.now marks.now at) at (length bodies.now)) }
+    ensures rows { OnOk result (Adds (with_gone (place_of tables.now) bodies.now) rows.old.items
+        (at_switch (demanded tables.now bodies.now marks.now at) at (length bodies.now)) rows.new.items) }
 {
     for number in 0..bodies.len() {
         if marks[number].has(at) {

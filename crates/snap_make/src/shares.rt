@@ -1,6 +1,6 @@
 //! The rows of switches.
 
-ghost use Rattle.std.specs.Prelude.{◌≡◌, ◌⊎◌, ◌<◌, ◌^◌, ◌++◌, ◌||◌, List, IfOk, IfSome, OnOk, Some, None, is_some, length, not, option_and_then, option_map, slice_get, unwrap_or, if◌then◌else◌};
+ghost use Rattle.std.specs.Prelude.{◌≡◌, ◌⊎◌, ◌<◌, ◌+◌, ◌^◌, ◌||◌, List, IfOk, IfSome, OnOk, Some, None, is_some, length, not, option_and_then, option_map, slice_get, unwrap_or, if◌then◌else◌};
 ghost use Rattle.std.specs.List.{All};
 ghost use Rattle.snap_rows.specs.declared.tables.ArrayAt.{ArrayAt};
 ghost use Rattle.snap_rows.specs.declared.tables.Row.{Row};
@@ -9,7 +9,7 @@ ghost use Rattle.snap_rows.specs.Bodies.{IsPlaced};
 ghost use Rattle.snap_rows.specs.Entries.{var_of};
 ghost use Rattle.snap_gen.specs.Planned.{row_for};
 ghost use Rattle.snap_make.specs.Pairs.{at_switch, at_switches};
-ghost use Rattle.snap_make.specs.Shares.{entries, shown, with_stop};
+ghost use Rattle.snap_make.specs.Shares.{Adds, entries, shown, with_stop};
 ghost use Rattle.snap_make.specs.Sites.{IsSite};
 
 use crate::sites::{Site, is_within, site_at};
@@ -86,7 +86,8 @@ fn push_rows(
     requires few { length bodies.now + length bodies.now < 2 ^ 32 }
     requires placed { All (IsPlaced (with_stop bodies.now)) rows.old.items }
     ensures placed { OnOk result (All (IsPlaced (with_stop bodies.now)) rows.new.items) }
-    ensures rows { OnOk result (entries (with_stop bodies.now) rows.new.items ≡ entries (with_stop bodies.now) rows.old.items ++ at_switch (shown tables.now bodies.now fronts.now site.at) site.at (length bodies.now)) }
+    ensures rows { OnOk result (Adds (with_stop bodies.now) rows.old.items
+        (at_switch (shown tables.now bodies.now fronts.now site.at) site.at (length bodies.now)) rows.new.items) }
 {
     if is_unused(site) {
         return Ok(());

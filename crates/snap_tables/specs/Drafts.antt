@@ -12,8 +12,9 @@ use Rattle.snap_rows.specs.declared.tables.Spot.TheVariants as spot
 use Rattle.snap_rows.specs.declared.tables.Tables.{Tables}
 use Rattle.snap_tables.specs.declared.piece.Counts.{Counts}
 use Rattle.snap_tables.specs.declared.places.Places.{Places}
-use Rattle.snap_tables.specs.Entries.{IsNextRow, all_declared}
-use Rattle.snap_tables.specs.Text.{first_line, spaced, text}
+use Rattle.snap_tables.specs.Entries.{IsNextRow, all_declared, array_fits, is_new, kept}
+use Rattle.snap_tables.specs.Reading.{array_said, switch_said}
+use Rattle.snap_tables.specs.Text.{Words, first_line, spaced, text}
 use Rattle.snap_tables.specs.Lines.{Follows, IsBeginning, IsWhole, is_ready, item_body, last_section, lines_of, passed, with_item}
 use Rattle.snap_tables.specs.declared.draft.Draft.{Draft}
 use Rattle.snap_tables.specs.declared.fault.TablesFault.{TablesFault}
@@ -44,6 +45,13 @@ pub record IsKept (d : Draft) : Type 0 where
 -- an entry of this section may come
 abbrev pub may_come : Tables → ℕ → Bool
 may_come t n = nat_le (last_section t) n && is_ready t n
+
+-- the switch or the array that words say, where one may come behind those of a draft
+abbrev pub switch_next : Draft → Words → Option (List ℕ)
+switch_next d ws = kept (may_come (tables_of d) 2) (is_new d.switches.items) (switch_said ws)
+
+abbrev pub array_next : Draft → Words → Option ArrayAt
+array_next d ws = kept (may_come (tables_of d) 3) (array_fits d.arrays.items) (array_said d.version (length d.switches.items) ws)
 
 -- the first byte of an entry's line
 abbrev pub letter : Item → ℕ

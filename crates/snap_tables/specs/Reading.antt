@@ -32,6 +32,10 @@ abbrev pub words_left : Option (Bor (List ℕ)) → Words
 words_left None = []
 words_left (Some rest) = parts_by is_space rest.now
 
+-- the answer is what is said, seen so
+abbrev pub Gives : {X Y : Type 0} → Option Y → Option X → (Y → X) → Type 0
+Gives answer said seen = MatchOption answer (said ≡ None) (λ y. said ≡ Some (seen y))
+
 -- digits that begin with a zero, and more behind it
 abbrev pub is_padded : List ℕ → Bool
 is_padded [] = false

@@ -20,4 +20,6 @@ ending_of numbers bodies i = ending_text (slice_index numbers i) (slice_index_or
 -- the line of a row, of parts by its switch and the place of its body
 abbrev pub placed_line : RowParts → List Row → Placed → List ℕ
 placed_line parts bodies p = slice_index_or parts.fronts p.at []
-    ++ (if slice_index parts.numbers.items p.body == p.number then slice_index_or parts.endings p.body [] else ending_text p.number (slice_index_or bodies p.body Stop))
+    ++ (if slice_index parts.numbers.items p.body == p.number
+    then slice_index_or parts.endings p.body []
+    else ending_text p.number (slice_index_or bodies p.body Stop))

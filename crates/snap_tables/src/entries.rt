@@ -1,13 +1,13 @@
 //! Which entry a line says, behind those of a draft.
 
-ghost use Rattle.std.specs.Prelude.{◌≡◌, ◌≢◌, ◌++◌, ◌∷◌, [], Some, None, length, IfOk, IfSome, MatchOption};
+ghost use Rattle.std.specs.Prelude.{◌≡◌, ◌++◌, ◌∷◌, [], length, IfOk, IfSome, MatchOption};
 ghost use Rattle.snap_core.specs.Figures.{parts_by};
-ghost use Rattle.snap_tables.specs.Drafts.{IsItem, IsKept, IsNoRowLine, IsNoneBy, IsRowLine, is_above_at, may_come, tables_of};
+ghost use Rattle.snap_tables.specs.Drafts.{IsItem, IsKept, IsNoneBy, array_next, is_above_at, may_come, switch_next, tables_of};
 ghost use Rattle.snap_tables.specs.declared.item.Item.TheVariants as item;
-ghost use Rattle.snap_tables.specs.Entries.{array_fits, field_fits, hop_fits, is_above, is_field_at, is_new, is_plain_field, kept, link_fits, link_less, port_less};
-ghost use Rattle.snap_tables.specs.Known.{AreKnown, AreSaid, IsBody, row_next};
+ghost use Rattle.snap_tables.specs.Entries.{array_fits, field_fits, hop_fits, is_above, is_field_at, is_plain_field, kept, link_fits, link_less, port_less};
+ghost use Rattle.snap_tables.specs.Known.{AreKnown, AreSaid, IsBody, IsRowIn, row_next};
 ghost use Rattle.snap_tables.specs.Lines.{with_item};
-ghost use Rattle.snap_tables.specs.Reading.{array_said, field_said, hop_said, is_space, link_said, port_said, switch_said};
+ghost use Rattle.snap_tables.specs.Reading.{Gives, field_said, hop_said, is_space, link_said, port_said};
 
 use crate::draft::{Draft, are_new, declared, is_new};
 use crate::item::{Item, NextRow};
@@ -79,8 +79,7 @@ fn next_field(alloc: Global, draft: &Draft, line: &[u8]) -> Result<Option<Item>,
 // The switch that a line says, where it may come.
 fn switch_of<'a>(draft: &Draft, line: &'a [u8]) -> Option<&'a [u8]>
     requires { IsKept draft.now }
-    ensures { MatchOption result (kept (may_come (tables_of draft.now) 2) (is_new draft.now.switches.items) (switch_said (parts_by is_space line.now)) ≡ None)
-        (λ name. kept (may_come (tables_of draft.now) 2) (is_new draft.now.switches.items) (switch_said (parts_by is_space line.now)) ≡ Some name.now) }
+    ensures { Gives result (switch_next draft.now (parts_by is_space line.now)) (λ name. name.now) }
 {
     if !draft.may_come(2) {
         return None;
@@ -120,8 +119,7 @@ fn is_new_array(arrays: &[ArrayAt], name: &[u8], at: u16, rank: u16) -> bool
 // The array that a line says, where it may come.
 fn array_of<'a>(draft: &Draft, line: &'a [u8]) -> Option<(&'a [u8], u16, u16)>
     requires { IsKept draft.now }
-    ensures { MatchOption result (kept (may_come (tables_of draft.now) 3) (array_fits draft.now.arrays.items) (array_said draft.now.version (length draft.now.switches.items) (parts_by is_space line.now)) ≡ None)
-        (λ a. kept (may_come (tables_of draft.now) 3) (array_fits draft.now.arrays.items) (array_said draft.now.version (length draft.now.switches.items) (parts_by is_space line.now)) ≡ Some (record { name = a.0.now; at = a.1; rank = a.2 })) }
+    ensures { Gives result (array_next draft.now (parts_by is_space line.now)) (λ a. record { name = a.0.now; at = a.1; rank = a.2 }) }
 {
     if !draft.may_come(3) {
         return None;
@@ -277,7 +275,7 @@ fn row_line<'a>(
     requires { AreSaid draft.now.version counts draft.now.arrays.items draft.now.rows known.old.rows.items }
     ensures known { IfOk result (λ said. IfSome said (λ row. AreSaid draft.now.version counts draft.now.arrays.items (draft.now.rows ++ row_next draft.now.rows row ∷ []) known.new.rows.items)) }
     ensures placed { IfOk result (λ said. IfSome said (λ row. IsBody draft.now.rows row.body)) }
-    ensures line { IfOk result (λ said. MatchOption said (IsNoRowLine draft.now.version counts draft.now.arrays.items draft.now.rows line.now) (λ row. IsRowLine draft.now.version counts draft.now.arrays.items draft.now.rows line.now (row_next draft.now.rows row))) }
+    ensures line { IfOk result (IsRowIn draft.now counts line.now) }
 {
     let Some(rest) = opened(b"row", Some(line)) else {
         return Ok(None);

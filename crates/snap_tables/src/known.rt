@@ -1,12 +1,8 @@
 //! Rows that were read, remembered by their texts: rows of one number are mostly equal, and then share their bodies.
 
-ghost use Rattle.std.specs.Prelude.{◌≡◌, ◌+◌, ◌<◌, ◌^◌, ◌++◌, ◌∷◌, [], ℕ, List, IfOk, IfSome, MatchOption, OnOk};
-ghost use Rattle.snap_rows.specs.declared.tables.ArrayAt.{ArrayAt};
-ghost use Rattle.snap_rows.specs.declared.tables.RowAt.{RowAt};
-ghost use Rattle.snap_tables.specs.Known.{AreSaid, IsBody, IsSaidAt, body_said};
+ghost use Rattle.std.specs.Prelude.{◌≡◌, ◌+◌, ◌<◌, ◌^◌, [], IfOk, IfSome, OnOk};
+ghost use Rattle.snap_tables.specs.Known.{AreSaid, AreSaidBehind, IsBody, IsBodyIn, IsSaidAt, WhereSaid};
 ghost use Rattle.snap_tables.specs.Reading.{words_left};
-ghost use Rattle.snap_tables.specs.Rows.{IsNoRow, IsRowSaid};
-ghost use Rattle.snap_tables.specs.declared.piece.Counts.{Counts};
 
 use crate::draft::Draft;
 use crate::item::Body;
@@ -56,7 +52,8 @@ impl<'a> Known<'a> {
 
     // The row of a number.
     fn row(&self, number: u64) -> Option<&Said<'a>>
-        ensures { (v : ℕ) (k : Counts) (ranked : List ArrayAt) (rows : List RowAt) → AreSaid v k ranked rows self.now.rows.items → IfSome result (λ row. IsSaidAt v k ranked rows (words_left (Some row.now.text)) row.now.place) }
+        ensures { WhereSaid self.now.rows.items (λ v k ranked rows.
+            IfSome result (λ row. IsSaidAt v k ranked rows (words_left (Some row.now.text)) row.now.place)) }
     {
         let place = self.places.get(number as usize)?;
         self.rows.get(*place)
@@ -64,7 +61,7 @@ impl<'a> Known<'a> {
 
     // The place of a row that these words say, where the row of a number has the same ones.
     fn shared(&self, number: u64, rest: Option<&[u8]>) -> Option<usize>
-        ensures { (v : ℕ) (k : Counts) (ranked : List ArrayAt) (rows : List RowAt) → AreSaid v k ranked rows self.now.rows.items → IfSome result (IsSaidAt v k ranked rows (words_left rest.entry)) }
+        ensures { WhereSaid self.now.rows.items (λ v k ranked rows. IfSome result (IsSaidAt v k ranked rows (words_left rest.entry))) }
     {
         let text = rest?;
         let row = self.row(number)?;
@@ -78,7 +75,8 @@ impl<'a> Known<'a> {
     // Puts a row, instead of the one at the place of its number, where one stands there.
     fn put(&mut self, number: usize, row: Said<'a>) -> Result<(), NoMemory>
         requires { number + 1 < 2 ^ 64 }
-        ensures { (v : ℕ) (k : Counts) (ranked : List ArrayAt) (rows : List RowAt) → AreSaid v k ranked rows self.old.rows.items → IsSaidAt v k ranked rows (words_left (Some row.entry.text)) row.entry.place → OnOk result (AreSaid v k ranked rows self.new.rows.items) }
+        ensures { WhereSaid self.old.rows.items (λ v k ranked rows.
+            IsSaidAt v k ranked rows (words_left (Some row.entry.text)) row.entry.place → OnOk result (AreSaid v k ranked rows self.new.rows.items)) }
     {
         if self.places.len() <= number {
             self.places.resize(number + 1, usize::MAX)?;
@@ -100,7 +98,8 @@ impl<'a> Known<'a> {
         rest: Option<&'a [u8]>,
         place: usize,
     ) -> Result<(), NoMemory>
-        ensures { (v : ℕ) (k : Counts) (ranked : List ArrayAt) (rows : List RowAt) → AreSaid v k ranked rows self.old.rows.items → IsSaidAt v k ranked rows (words_left rest.entry) place → OnOk result (AreSaid v k ranked rows self.new.rows.items) }
+        ensures { WhereSaid self.old.rows.items (λ v k ranked rows.
+            IsSaidAt v k ranked rows (words_left rest.entry) place → OnOk result (AreSaid v k ranked rows self.new.rows.items)) }
     {
         let Some(text) = rest else {
             return Ok(());
@@ -122,9 +121,9 @@ impl<'a> Known<'a> {
         rest: Option<&'a [u8]>,
     ) -> Result<Option<Body>, NoMemory>
         requires { AreSaid draft.now.version counts draft.now.arrays.items draft.now.rows self.old.rows.items }
-        ensures said { IfOk result (λ said. MatchOption said (IsNoRow draft.now.version counts draft.now.arrays.items (words_left rest.entry)) (λ body. IsRowSaid draft.now.version counts draft.now.arrays.items (words_left rest.entry) (body_said draft.now.rows body))) }
+        ensures said { IfOk result (IsBodyIn draft.now counts (words_left rest.entry)) }
         ensures placed { IfOk result (λ said. IfSome said (IsBody draft.now.rows)) }
-        ensures known { IfOk result (λ said. IfSome said (λ body. (r : RowAt) → r.row ≡ body_said draft.now.rows body → AreSaid draft.now.version counts draft.now.arrays.items (draft.now.rows ++ r ∷ []) self.new.rows.items)) }
+        ensures known { IfOk result (λ said. IfSome said (AreSaidBehind draft.now counts self.new.rows.items)) }
     {
         if let Some(place) = self.shared(number, rest) {
             return Ok(Some(Body::Same(place)));

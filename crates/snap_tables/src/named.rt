@@ -4,7 +4,7 @@ ghost use Rattle.std.specs.Prelude.{◌≡◌, Some, None, IfOk, MatchOption};
 ghost use Rattle.snap_core.specs.Names.{is_name};
 ghost use Rattle.snap_core.specs.Figures.{parts_by};
 ghost use Rattle.snap_core.specs.Names.{is_switch_name};
-ghost use Rattle.snap_tables.specs.Reading.{array_said, below_said, declared_said, field_said, is_slash, is_space, name_said, no_words, number_said, opened, rank_taken, switch_said, taken, words_left};
+ghost use Rattle.snap_tables.specs.Reading.{Gives, array_said, below_said, declared_said, field_said, is_slash, is_space, name_said, no_words, number_said, opened, rank_taken, switch_said, taken, words_left};
 
 use crate::reader::{next_word, number_said};
 use crate::taken::{no_words, opened, take_below};
@@ -63,8 +63,7 @@ pub(crate) fn array_said<'a>(
     switches: u16,
     line: &'a [u8],
 ) -> Option<(&'a [u8], u16, u16)>
-    ensures { MatchOption result (array_said version switches (parts_by is_space line.now) ≡ None)
-        (λ a. array_said version switches (parts_by is_space line.now) ≡ Some (record { name = a.0.now; at = a.1; rank = a.2 })) }
+    ensures { Gives result (array_said version switches (parts_by is_space line.now)) (λ a. record { name = a.0.now; at = a.1; rank = a.2 }) }
 {
     let rest = opened(b"array", Some(line))?;
     let (name, rest) = take_name(rest)?;
@@ -105,8 +104,8 @@ fn declared_said<'a>(word: &'a [u8]) -> Option<(&'a [u8], Option<u8>)>
 }
 
 fn take_declared<'a>(rest: Option<&'a [u8]>) -> Option<(&'a [u8], Option<u8>, Option<&'a [u8]>)>
-    ensures { MatchOption result (taken (λ w. declared_said (parts_by is_slash w)) (words_left rest.entry) ≡ None)
-        (λ f. taken (λ w. declared_said (parts_by is_slash w)) (words_left rest.entry) ≡ Some (record { name = f.0.now; prefix = f.1 }, words_left f.2)) }
+    ensures { Gives result (taken (λ w. declared_said (parts_by is_slash w)) (words_left rest.entry))
+        (λ f. (record { name = f.0.now; prefix = f.1 }, words_left f.2)) }
 {
     let (word, behind) = next_word(rest)?;
     match declared_said(word) {

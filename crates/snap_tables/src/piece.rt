@@ -1,7 +1,7 @@
 //! Pieces of a line: words that stand together.
 
-ghost use Rattle.std.specs.Prelude.{◌≡◌, ℕ, Bool, List, IfOk, MatchOption};
-ghost use Rattle.snap_tables.specs.Pieces.{FailsAfter, IsNoPiece, IsPiece, TakesAll};
+ghost use Rattle.std.specs.Prelude.{◌≡◌, ℕ, Bool, List, IfOk};
+ghost use Rattle.snap_tables.specs.Pieces.{TakesMany, TakesOne};
 ghost use Rattle.snap_tables.specs.Reading.{words_left};
 
 use snap_core::NoMemory;
@@ -41,9 +41,7 @@ pub(crate) trait Piece: Sized + Drop {
         counts: Counts,
         rest: Option<&'a [u8]>,
     ) -> Result<Option<(Self, Option<&'a [u8]>)>, NoMemory>
-        ensures { IfOk result (λ said. MatchOption said
-            (IsNoPiece spelled (fits counts) goes_on (words_left rest.entry))
-            (λ pair. IsPiece spelled (fits counts) goes_on (words_left rest.entry) pair.0 (words_left pair.1))) };
+        ensures { IfOk result (TakesOne spelled (fits counts) goes_on (words_left rest.entry)) };
 }
 
 /// The pieces at the front of words, as many as begin, and the words behind them.
@@ -52,9 +50,7 @@ pub(crate) fn take_all<'a, T: Piece>(
     counts: Counts,
     rest: Option<&'a [u8]>,
 ) -> Result<Option<(Vec<T>, Option<&'a [u8]>)>, NoMemory>
-    ensures { IfOk result (λ said. MatchOption said
-        (FailsAfter T.spelled (T.fits counts) T.opens T.goes_on (words_left rest.entry))
-        (λ pair. TakesAll T.spelled (T.fits counts) T.opens T.goes_on (words_left rest.entry) pair.0.items (words_left pair.1))) }
+    ensures { IfOk result (TakesMany T.spelled (T.fits counts) T.opens T.goes_on (words_left rest.entry)) }
 {
     let mut pieces = Vec::new(alloc);
     let mut left = rest;

@@ -37,21 +37,20 @@ loop-number-preserved c =
           let p : Placed = record { number = n; at = at; body = w.place_on.result } in
           let there : slice_get all p.body ≡ Some (body_on place at b) = ap (slice_get all) w.place_on.ensures ∙ placed_on place at bodies n b body in
           let stands : slice_index_or all p.body row.Stop ≡ body_on place at b = get_or_from_slice_get all p.body (body_on place at b) row.Stop there in
-          let after : w.rows.items ≡ c.loop-number.rows.items ++ p ∷ [] = ap (λ v. v.items) w.rows-is ∙ w.in_ok-push.ensures.items in
+          let after : w.push.new.self.items ≡ c.loop-number.rows.items ++ p ∷ [] = w.in_ok-push.ensures.items in
           record {
-            placed = subst (All (IsPlaced all)) (sym after) (All-push (IsPlaced all) c.loop-number.rows.items p c.loop-number.invariant.placed (slice_get_within all p.body (body_on place at b) there));
+            placed = subst (All (IsPlaced all)) (sym (ap (λ v. v.items) w.rows-is ∙ after)) (All-push (IsPlaced all) c.loop-number.rows.items p c.loop-number.invariant.placed (slice_get_within all p.body (body_on place at b) there));
             rows =
-                subst (λ l. entries all l ≡ entries all old ++ at_switch g at (n + 1)) (sym after)
+                subst (λ l. entries all l ≡ entries all old ++ at_switch g at (n + 1)) (sym (ap (λ v. v.items) w.rows-is ∙ after))
                 (with_row (λ p. row_entry (placed all p)) c.loop-number.rows.items old g at n c.loop-number.invariant.rows p (body_on place at b) (λ i. (at, n, stands i))
                 (row_there c.args.tables.now bodies marks at n (slice_index_or marks n none) mark b body is));
           }
       | else-has w ↦
           let is : has_switch (slice_index_or marks n none) at ≡ false = sym c.has.ensures ∙ w.if-has.false in
-          let after : w.rows.items ≡ c.loop-number.rows.items = ap (λ v. v.items) w.rows-is in
           record {
-            placed = subst (All (IsPlaced all)) (sym after) c.loop-number.invariant.placed;
+            placed = subst (All (IsPlaced all)) (sym (ap (λ v. v.items) w.rows-is)) c.loop-number.invariant.placed;
             rows =
-                subst (λ l. entries all l ≡ entries all old ++ at_switch g at (n + 1)) (sym after)
+                subst (λ l. entries all l ≡ entries all old ++ at_switch g at (n + 1)) (sym (ap (λ v. v.items) w.rows-is))
                 (without_row (λ p. row_entry (placed all p)) c.loop-number.rows.items old g at n c.loop-number.invariant.rows
                 (none_there c.args.tables.now bodies marks at n (slice_index_or marks n none) mark is));
           }
