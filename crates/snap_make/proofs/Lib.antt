@@ -14,7 +14,6 @@ pub mod Making
 pub mod Marking
 pub mod Names
 pub mod Noded
-pub mod Placing
 pub mod Pushed
 pub mod Sharing
 pub mod Standing
