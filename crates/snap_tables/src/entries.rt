@@ -1,6 +1,6 @@
 //! Which entry a line says, behind those of a draft.
 
-ghost use Rattle.std.specs.Prelude.{◌≡◌, ◌++◌, ◌∷◌, [], length, IfOk, IfSome, MatchOption};
+ghost use Rattle.std.specs.Prelude.{◌≡◌, ◌≢◌, ◌++◌, ◌∷◌, [], length, IfOk, IfSome, MatchOption};
 ghost use Rattle.snap_core.specs.Figures.{parts_by};
 ghost use Rattle.snap_tables.specs.Drafts.{IsItem, IsKept, IsNoneBy, array_next, is_above_at, may_come, switch_next, tables_of};
 ghost use Rattle.snap_tables.specs.declared.item.Item.TheVariants as item;
