@@ -13,7 +13,7 @@ new-requires c =
     let made =
     rows_made c.args.program.now c.args.topology.now c.args.placement.now c.args.routes.now c.args.groups.now c.args.built.now.nodes c.args.built.now.root
     c.requires.form c.requires.small c.requires.groups c.requires.topology c.requires.routes c.requires.placement c.requires.tidy
-    c.in_ok-tables.tables c.in_ok-tables-2.rows c.in_ok-tables.ensures c.in_ok-tables-2.ensures.arena c.in_ok-tables-2.ensures.rows in
+    c.in_ok-tables.tables c.in_ok-tables-2.field-0 c.in_ok-tables.ensures c.in_ok-tables-2.ensures.arena c.in_ok-tables-2.ensures.rows in
     record { form = made.shape.form; valid = made.shape.valid }
 
 pub returns : goal.returns
@@ -21,6 +21,6 @@ returns c =
     subst (λ (t : Tables). Faithful c.args.program.now c.args.topology.now c.args.placement.now t × (t.version ≡ 2)) (sym c.new.ensures) (
       rows_made c.args.program.now c.args.topology.now c.args.placement.now c.args.routes.now c.args.groups.now c.args.built.now.nodes c.args.built.now.root
           c.requires.form c.requires.small c.requires.groups c.requires.topology c.requires.routes c.requires.placement c.requires.tidy
-          c.in_ok-tables.tables c.in_ok-tables-2.rows c.in_ok-tables.ensures c.in_ok-tables-2.ensures.arena c.in_ok-tables-2.ensures.rows,
+          c.in_ok-tables.tables c.in_ok-tables-2.field-0 c.in_ok-tables.ensures c.in_ok-tables-2.ensures.arena c.in_ok-tables-2.ensures.rows,
       c.in_ok-tables.ensures.version,
     )
