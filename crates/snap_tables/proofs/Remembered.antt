@@ -11,7 +11,8 @@ use Rattle.snap_tables.specs.Rows.{IsRowSaid}
 use Rattle.snap_tables.specs.declared.known.Said.{Said}
 use Rattle.snap_tables.specs.declared.piece.Counts.{Counts}
 
-abbrev none : RowAt
+-- any row, for places that have one
+abbrev pub none : RowAt
 none = record { at = 0; number = 0; row = row.Stop }
 
 module _ (v : ℕ) (k : Counts) (ranked : List ArrayAt) (rows : List RowAt) where

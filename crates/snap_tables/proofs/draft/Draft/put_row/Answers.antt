@@ -1,14 +1,10 @@
 use Rattle.std.proofs.Common.{[], ◌∷◌, ◌++◌, get_or, refl, sym, ap, subst, ◌∙◌}
 use Rattle.std.proofs.lemmas.Option.{slice_get-get_or}
 use Rattle.std.proofs.lemmas.Result.{IfOk-weaker}
-use Rattle.snap_rows.specs.declared.tables.Row.TheVariants as row
-use Rattle.snap_rows.specs.declared.tables.RowAt.{RowAt}
 use Rattle.snap_tables.specs.Drafts.{tables_of}
 use Rattle.snap_tables.specs.Known.{IsBody, body_said}
+use Rattle.snap_tables.proofs.Remembered.{none}
 use Rattle.snap_tables.proofs.draft.Draft.put_row.Goals as goal
-
-abbrev none : RowAt
-none = record { at = 0; number = 0; row = row.Stop }
 
 pub push_as-requires : goal.push_as-requires
 push_as-requires c = subst (IsBody c.args.self.now.rows) c.in-Same.is c.requires.placed
