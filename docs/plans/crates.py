@@ -164,7 +164,7 @@ class Crates:
             path, parts = self.path(f), f.split("/", 2)
             if f in done or parts[0] == "crates" and parts[2] in ROOTS:
                 continue
-            if re.match(r"docs/plans/(crates|renames)|CHANGELOG", f):
+            if re.match(r"docs/plans/(crates|renames|land|imports)|docs/plans/.*\.patch|CHANGELOG", f):
                 done[f] = text
             elif parts[0] != "crates":
                 done[f] = self.page(f)

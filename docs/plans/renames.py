@@ -9,7 +9,8 @@ WORD = re.compile(r"[A-Za-z_][\w'\-]*")
 TEXT = re.compile(r'b?"(?:[^"\\\n]|\\.)*"')  # messages and formats stay
 COMMENT = {".antt": re.compile(r"(?:^|(?<=\s))--(?=\s|$).*", re.M)}
 SPAN = re.compile(r"^```.*?^```|`[^`\n]+`", re.M | re.S)
-KINDS = ("crate", "part", "name", "type", "alias")
+KINDS = ("crate", "part", "name", "type", "alias", "local", "prose")
+SAME = re.compile(r"(?<=[{,\s])(\w+): \1(?=,|\s*\}|$)", re.M)  # a field that is given a local of its name
 
 
 def table_rows(file):
@@ -48,6 +49,7 @@ class Renames:
         self.words = {f: set(WORD.findall(text)) for f, text in self.text.items()}
         self.crates = {old: new for kind, old, new, _ in self.rows if kind == "crate"}
         self.exact, self.spots = defaultdict(dict), defaultdict(dict)  # by file: new names of words, and of words at places
+        self.wholes, self.functions, self.named_all, self.seen, self.hits = defaultdict(dict), defaultdict(set), defaultdict(set), defaultdict(set), Counter()
         self.parts, self.prose = defaultdict(list), defaultdict(list)
         self.outcomes, self.told, self.count, self.memo = defaultdict(dict), {}, Counter(), {}
         for old, new in ((old, new) for _, old, new, _ in self.rows if new in [row[1] for row in self.rows]):
@@ -57,7 +59,11 @@ class Renames:
             if longer.startswith(name):
                 self.tell(f"prefix: {name} begins {longer}")
         for row in self.rows:
+            for f in self.text if "seen" in row[3] else []:
+                self.seen[f].add(row[2])
             getattr(self, "plan_" + row[0])(*row[1:])
+            if not self.hits[row[1], row[2]]:
+                self.tell(f"no hit: {' '.join(row[:3])}: there is no such word any more, or it is done")
 
     def tell(self, what):
         self.told[what] = None
@@ -66,7 +72,7 @@ class Renames:
         """Whether `Where` holds this file: crates by their old or new names, patterns of files, `all`, or `all but` such."""
         if not f.startswith("crates/"):
             return False
-        crate, names = f.split("/")[1], [w for w in where if "=" not in w]
+        crate, names = f.split("/")[1], [w for w in where if "=" not in w and w != "seen"]
         listed = any(crate in (name, self.crates.get(name)) or "/" in name and fnmatch(f[7:], name) for name in names)
         return not listed if names[:2] == ["all", "but"] else names[0] == "all" or listed
 
@@ -78,6 +84,7 @@ class Renames:
         for f in self.text:
             if self.holds(f, where):
                 self.parts[f].append((old, new))
+                self.hits[old, new] += any(old in word or camel(old) in word for word in self.words[f])
             for word in where:
                 if word.startswith("prose=") and (self.holds(f, where) or f.endswith(".md")):
                     self.prose[f].append((old.replace("_", " "), word[6:].replace("_", " ")))
@@ -85,12 +92,29 @@ class Renames:
     def plan_name(self, old, new, where):
         for f in self.text:
             if self.holds(f, where):
-                self.exact[f][old] = new
+                self.exact[f].update({old: new, f"{old}'": f"{new}'"})
+                self.named_all[f].add(old)
+                self.hits[old, new] += any(old in re.split("[-']", word) for word in self.words[f])
+
+    def plan_local(self, old, new, where):
+        """A local: where it stands alone, neither behind a dot nor in a longer name."""
+        for f in self.text:
+            for m in re.finditer(rf"(?<![\w'.-]){old}(?![\w'-])", self.text[f]) if self.holds(f, where) else []:
+                self.spots[f][m.start()] = new
+                self.hits[old, new] += 1
+
+    def plan_prose(self, old, new, where):
+        """Words of comments in these files, and of these pages."""
+        for f in self.text:
+            if self.holds(f, where) or f in where:
+                self.prose[f].append((old, new))
+                self.hits[old, new] += 1
 
     def plan_alias(self, old, new, where):
         for f in self.text:
             if re.search(rf"\b{where[0]} as {old}\b", self.text[f]):
                 self.exact[f][old] = new
+                self.hits[old, new] += 1
 
     def plan_type(self, old, new, where):
         """A name of one module, in the files that define or import it; other things of the name stay."""
@@ -99,17 +123,19 @@ class Renames:
         homes = {f"Rattle.{crate}.specs.declared.{dots}.{old}", f"{crate}.{dots}"} if kind == "src" else {f"Rattle.{crate}.{kind}.{dots}"}
         if re.search(rf"pub use (?:crate::)?{dots}::(?:{old}\b|\{{[^}}]*\b{old}\b)", self.text.get(f"crates/{crate}/src/lib.rt", "")):
             homes.add(crate)
-        paths = [rf"Rattle\.{crate}\.(?:specs\.declared|proofs)\.{dots}\.({old})\b", rf"\b{crate}::{dots}::({old})\b"] if kind == "src" else []
+        paths = [rf"Rattle\.{crate}\.(?:specs\.declared|proofs)\.{dots}\.({old})\b", rf"\b{crate}::{dots}::({old})\b"] if kind == "src" else [rf"\bRattle\.{crate}\.{kind}\.{dots}\.({old})\b"]
         for f, text in self.text.items():
             if not any(old in word for word in self.words[f]):
                 continue
             mine, other, near = f == f"crates/{where[0]}{'.rt' if kind == 'src' else '.antt'}", False, f.startswith(f"crates/{crate}/")
-            local = [rf"\bcrate::{dots}::({old})\b", rf"\b{dots}::({old})\b"] if near and paths else []
+            stay = []  # where another thing of the name stands
+            local = [rf"\bcrate::{dots}::({old})\b", rf"\b{dots}::({old})\b"] if near and kind == "src" else []
             for pattern in paths:
+                self.hits[old, new] += len(re.findall(pattern, text))
                 self.spots[f].update((m.start(1), new) for m in re.finditer(pattern, text))
             for path, (start, end), items in imports(text):
                 for m in re.finditer(rf"\b{old}\b", text[start:end]):  # a module of the name
-                    self.spots[f].setdefault(start + m.start(), old)
+                    stay.append(start + m.start())
                 full = path.replace("crate.", f"{crate}.", 1) if near else path
                 full = f"{crate}.{path}" if near and path == dots else full
                 for name, alias, at in items:
@@ -118,16 +144,22 @@ class Renames:
                         self.spots[f][at] = name.replace(old, new)
                     elif name == old:
                         other = other or not alias
-                        self.spots[f].setdefault(at, old)
+                        stay.append(at)
                     if alias and f"{path}.{name}" in homes:
                         local.append(rf"\b{alias}\.({old})\b")
             for pattern in local:
                 for m in re.finditer(pattern, text):
                     self.spots[f].setdefault(m.start(1), new)
-            if mine and other:
+            for at in stay if mine else []:
+                self.spots[f].setdefault(at, old)
+            if mine and other and new not in (self.exact[f].get(old), self.wholes[f].get(old)):
                 self.tell(f"by hand: {f} has {old} of {where[0]} and another one")
             elif mine:
-                self.exact[f].update({old: new, f"{old}'": f"{new}'", f"out-{old}": f"out-{new}", f"size-{old}": f"size-{new}"})
+                self.hits[old, new] += 1
+                self.functions[f].update({old} if old[0].islower() else ())
+                names = {old: new, f"out-{old}": f"out-{new}", f"size-{old}": f"size-{new}"}
+                names.update({} if old[0].islower() else {f"{old}'": f"{new}'"})
+                (self.exact if kind == "src" else self.wholes)[f].update(names)  # goals are named by code, not by specs
 
     def word(self, f, word):
         if (f, word) not in self.memo:
@@ -135,12 +167,17 @@ class Renames:
         return self.memo[f, word]
 
     def new_word(self, f, word):
-        new = self.exact[f].get(word) or "-".join(self.exact[f].get(piece, piece) for piece in word.split("-"))
+        new = self.exact[f].get(word) or self.wholes[f].get(word) or "-".join(self.exact[f].get(piece, piece) for piece in word.split("-"))
         for old, part in self.parts[f] if new == word else []:
             new = with_part(new, old, part)
-        if new != word and new in self.words[f] and self.word(f, new) == new:
+        if new != word and new in self.words[f] and self.word(f, new) == new and new not in self.seen[f]:
             self.tell(f"collision: {f} has {new}, the new name of {word}, already")
         return new
+
+    def at(self, f, word, place):
+        """A word of code. Behind a dot is a field, which a function of one module that is imported isn't."""
+        field = word in self.functions[f] - self.named_all[f] and self.text[f][place - 1] == "."
+        return self.counted(f, word, self.spots[f].get(place) or (word if field else self.word(f, word)))
 
     def counted(self, f, word, new):
         self.outcomes[word].setdefault(new, set()).add(f)
@@ -167,12 +204,13 @@ class Renames:
         for start, end, is_comment in marks + [(len(text), len(text), 0)]:
             if start < at:
                 continue
-            out.append(WORD.sub(lambda m: self.counted(f, m[0], self.spots[f].get(m.start() + at) or self.word(f, m[0])), text[at:start]))
+            out.append(WORD.sub(lambda m: self.at(f, m[0], m.start() + at), text[at:start]))
             out.append(self.prose_in(f, text[start:end]) if is_comment else text[start:end])
             if not is_comment and any(self.word(f, word) != word for word in WORD.findall(text[start:end])):
                 self.tell(f"text stays: {f}: {text[start:end][:70]}")
             at = end
-        return "".join(out)
+        done = "".join(out)
+        return SAME.sub(r"\1", done) if f.endswith(".rt") and not SAME.search(text) else done
 
     def page(self, f):
         """A page: in spans and blocks the names that mean one thing in all code; in prose the words of prose."""
